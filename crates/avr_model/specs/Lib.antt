@@ -1,0 +1,9 @@
+pub mod Pattern
+pub mod Table
+pub mod Written
+pub mod Text
+pub mod Sreg
+pub mod Sums
+pub mod Bitwise
+pub mod Product
+pub mod Wide
