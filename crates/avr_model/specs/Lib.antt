@@ -1,9 +1,14 @@
+pub mod Bits
 pub mod Pattern
 pub mod Table
 pub mod Written
 pub mod Text
+pub mod Image
+pub mod Sites
 pub mod Sreg
 pub mod Sums
 pub mod Bitwise
 pub mod Product
 pub mod Wide
+pub mod Vectors
+pub mod Assumptions
