@@ -12,3 +12,4 @@ pub mod Product
 pub mod Wide
 pub mod Vectors
 pub mod Assumptions
+pub mod Examples
