@@ -1,15 +1,13 @@
 -- Worked examples, computed from the definitions.
-use Rattle.std.specs.Prelude.{ℕ, ◌≡◌, ◌+◌, refl, Bool, true, false, List, [], ◌∷◌, ◌++◌, replicate, length, Option, Some, None, map, codes}
+use Rattle.std.specs.Prelude.{ℕ, ◌≡◌, refl, true, false, List, [], ◌∷◌, ◌++◌, replicate, Some, None, map, codes}
 use Rattle.std.specs.Fmt.{digits}
 use Rattle.avr_model.specs.declared.instruction.Instr.TheVariants as i
 use Rattle.avr_model.specs.declared.instruction.Base.TheVariants as base
-use Rattle.avr_model.specs.declared.instruction.ImmediateOp.TheVariants as immediate
-use Rattle.avr_model.specs.Image.{word_at}
 use Rattle.avr_model.specs.Table.{decoded, length_of}
 use Rattle.avr_model.specs.Text.{text_of}
-use Rattle.avr_model.specs.Sites.{instruction_at, is_scratch, is_fixed, path, path_behind, is_loaded_behind}
+use Rattle.avr_model.specs.Sites.{is_scratch, is_fixed, path_behind, is_loaded_behind}
 use Rattle.avr_model.specs.Bits.{any_below, all_below, number_of}
-use Rattle.avr_model.specs.Vectors.{row_of, enable_of, held_bits, has_enables, written_enables, vector_word}
+use Rattle.avr_model.specs.Vectors.{row_of, enable_of, held_bits, written_enables}
 
 -- flash that begins with these words, and is erased behind them
 abbrev pub firmware : List ℕ → List ℕ

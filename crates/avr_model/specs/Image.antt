@@ -1,5 +1,5 @@
 -- Flash, and the raw image that it is loaded from.
-use Rattle.std.specs.Prelude.{ℕ, ◌+◌, ◌*◌, ◌/◌, ◌%◌, ◌==◌, ◌≡◌, ◌<◌, ◌≤◌, List, length, slice_index, slice_index_or, if◌then◌else◌, nat_lt}
+use Rattle.std.specs.Prelude.{ℕ, ◌+◌, ◌*◌, ◌/◌, ◌%◌, ◌==◌, ◌≡◌, ◌<◌, ◌≤◌, List, length, slice_index, slice_index_or, if◌then◌else◌}
 
 -- how many words flash has; word addresses count modulo this number (data sheet: 32 KiB)
 abbrev pub WORDS : ℕ

@@ -13,3 +13,8 @@ pub mod Wide
 pub mod Vectors
 pub mod Assumptions
 pub mod Examples
+pub mod State
+pub mod Effects
+pub mod Step
+pub mod Run
+pub mod Rows
