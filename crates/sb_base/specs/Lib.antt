@@ -1,0 +1,5 @@
+pub mod Answers
+pub mod Outside
+pub mod Memory
+pub mod Digits
+pub mod Lines

@@ -1,0 +1,138 @@
+//! Numbers in upper-case hexadecimal and in decimal digits.
+
+ghost use Rattle.std.specs.Prelude.{◌≡◌, ◌≤◌, ◌<◌, ◌+◌, ◌*◌, ◌-◌, ◌==◌, ◌^◌, IfSome, IfNone, IfOk, not, nat_le, length, true};
+ghost use Rattle.std.specs.List.{position, AllByRecursion};
+ghost use Rattle.sb_base.specs.Digits.{is_dec, is_hex, digit_of, number_from, hex_answer, dec_answer, capped};
+
+/// Why digits are no number of the wanted form.
+#[derive(Clone, Copy, Debug, PartialEq, Eq)]
+pub enum DigitFault {
+    /// There are so many bytes, which is not the wanted number of them, or none where some are wanted.
+    WrongLength(usize),
+    /// The first byte that is no digit, or 0 where a decimal of several digits begins with the digit 0.
+    BadDigit(usize),
+    /// The number passes the greatest one that is wanted.
+    TooGreat,
+}
+
+fn is_decimal(byte: u8) -> bool
+    ensures { result ≡ is_dec byte }
+{
+    byte >= b'0' && byte <= b'9'
+}
+
+fn is_hexadecimal(byte: u8) -> bool
+    ensures { result ≡ is_hex byte }
+{
+    is_decimal(byte) || (byte >= b'A' && byte <= b'F')
+}
+
+/// The number that a hexadecimal digit stands for.
+fn value_of(digit: u8) -> u8
+    requires { is_hex digit ≡ true }
+    ensures value { result ≡ digit_of digit }
+    ensures small { result < 16 }
+{
+    if digit >= b'A' {
+        digit - b'A' + 10
+    } else {
+        digit - b'0'
+    }
+}
+
+/// The number that at most eight hexadecimal digits stand for.
+fn hex_number(digits: &[u8]) -> u32
+    requires short { length digits.now ≤ 8 }
+    requires digits { AllByRecursion (λ b. is_hex b ≡ true) digits.now }
+    ensures number { result ≡ number_from 16 0 digits.now }
+    ensures small { result < 16 ^ length digits.now }
+{
+    let mut number = 0u32;
+    for digit in digits {
+        number = 16 * number + u32::from(value_of(*digit));
+    }
+    number
+}
+
+/// Where the first byte stands that is no hexadecimal digit.
+fn bad_hex(text: &[u8]) -> Option<usize>
+    ensures at { result ≡ position (λ b. not (is_hex b)) text.now }
+    ensures all { IfNone result (AllByRecursion (λ b. is_hex b ≡ true) text.now) }
+{
+    text.iter().position(|byte| !is_hexadecimal(*byte))
+}
+
+/// Where the first byte stands that is no decimal digit.
+fn bad_dec(text: &[u8]) -> Option<usize>
+    ensures at { result ≡ position (λ b. not (is_dec b)) text.now }
+    ensures all { IfNone result (AllByRecursion (λ b. is_dec b ≡ true) text.now) }
+{
+    text.iter().position(|byte| !is_decimal(*byte))
+}
+
+/// The number that exactly `digits` upper-case hexadecimal digits stand for.
+///
+/// `WrongLength` comes exactly where the text hasn't so many bytes; else `BadDigit` exactly where a byte is no such digit.
+pub fn read_hex(text: &[u8], digits: usize) -> Result<u32, DigitFault>
+    requires some { 1 ≤ digits }
+    requires few { digits ≤ 8 }
+    ensures exact { result ≡ hex_answer text.now digits }
+    ensures small { IfOk result (λ n. n < 16 ^ digits) }
+{
+    if text.len() != digits {
+        return Err(DigitFault::WrongLength(text.len()));
+    }
+    match bad_hex(text) {
+        Some(at) => Err(DigitFault::BadDigit(at)),
+        None => Ok(hex_number(text)),
+    }
+}
+
+/// A number with one more decimal digit, if it is at most `most`.
+fn with_digit(number: u64, digit: u64, most: u64) -> Option<u64>
+    ensures some { IfSome result (λ n. (n ≡ 10 * number + digit) × (n ≤ most)) }
+    ensures none { IfNone result (most < 10 * number + digit) }
+{
+    let tens = number.checked_mul(10)?;
+    if tens <= most && digit <= most - tens {
+        Some(tens + digit)
+    } else {
+        None
+    }
+}
+
+/// The number that decimal digits stand for, if it is at most `most`.
+fn dec_number(digits: &[u8], most: u64) -> Result<u64, DigitFault>
+    requires { AllByRecursion (λ b. is_dec b ≡ true) digits.now }
+    ensures { result ≡ capped (number_from 10 0 digits.now) most }
+{
+    let mut number = 0u64;
+    for digit in digits {
+        let value = value_of(*digit);
+        match with_digit(number, u64::from(value), most) {
+            Some(next) => number = next,
+            None => return Err(DigitFault::TooGreat),
+        }
+    }
+    Ok(number)
+}
+
+/// The number, at most `most`, that a decimal without sign or leading zero stands for.
+///
+/// `WrongLength` comes exactly where the text is empty; else `BadDigit` exactly where a byte is no decimal digit or several
+/// bytes begin with the digit 0; else `TooGreat` exactly where the number passes `most`.
+pub fn read_dec(text: &[u8], most: u64) -> Result<u64, DigitFault>
+    ensures exact { result ≡ dec_answer text.now most }
+    ensures small { IfOk result (λ n. n ≤ most) }
+{
+    if text.is_empty() {
+        return Err(DigitFault::WrongLength(0));
+    }
+    if text.len() > 1 && text[0] == b'0' {
+        return Err(DigitFault::BadDigit(0));
+    }
+    match bad_dec(text) {
+        Some(at) => Err(DigitFault::BadDigit(at)),
+        None => dec_number(text, most),
+    }
+}
