@@ -1,0 +1,62 @@
+-- Reading the words of a line, and lines. A reading gives a value and what is left, or nothing.
+use Rattle.std.specs.Prelude.{◌≡◌, ℕ, ◌+◌, List, [], ◌∷◌, Bool, true, false, Option, Some, None, Result, Ok, Err, if◌then◌else◌}
+use Rattle.std.specs.Str.{bytes_eq}
+use Rattle.sb_base.specs.Lines.{TextLine, Place, size_of}
+use Rattle.sb_base.specs.Digits.{hex_answer, dec_answer}
+use Rattle.sb_base.specs.declared.digits.DigitFault.{DigitFault}
+use Rattle.line_reading.specs.declared.Malformed.{Malformed}
+
+-- ---- words
+
+infixl 10 ◌>>=◌
+abbrev pub ◌>>=◌ : {A B : Type 0} → Option A → (A → Option B) → Option B
+None >>= f = None
+(Some x) >>= f = f x
+
+abbrev pub number_and : Result ℕ DigitFault → List (List ℕ) → Option (ℕ × List (List ℕ))
+number_and (Ok n) ws = Some (n, ws)
+number_and (Err e) ws = None
+
+-- a number in so many hexadecimal digits
+abbrev pub hex_at : ℕ → List (List ℕ) → Option (ℕ × List (List ℕ))
+hex_at digits [] = None
+hex_at digits (w ∷ ws) = number_and (hex_answer w digits) ws
+
+-- a decimal of at most `most`
+abbrev pub dec_at : ℕ → List (List ℕ) → Option (ℕ × List (List ℕ))
+dec_at most [] = None
+dec_at most (w ∷ ws) = number_and (dec_answer w most) ws
+
+-- this word
+abbrev pub word_at : List ℕ → List (List ℕ) → Option (Unit {0} × List (List ℕ))
+word_at text [] = None
+word_at text (w ∷ ws) = if bytes_eq w text then Some (tt, ws) else None
+
+-- no word is left
+abbrev pub is_over : List (List ℕ) → Bool
+is_over [] = true
+is_over (w ∷ ws) = false
+
+-- ---- lines: a refusal tells the offset of the refused line
+
+abbrev pub then_at : {A B : Type 0} → Result A ℕ → (A → Result B ℕ) → Result B ℕ
+then_at (Ok x) f = f x
+then_at (Err at) f = Err at
+
+-- what a call gave, and left of the reader, is what the reading gives
+abbrev pub Reads : {X Y : Type 0} → (X → Y) → Place → Result X Malformed → Result (Y × Place) ℕ → Type 0
+Reads view after (Ok x) due = due ≡ Ok (view x, after)
+Reads view after (Err fault) due = due ≡ Err fault.0
+
+abbrev pub some_at : {A : Type 0} → Option A → ℕ → Result A ℕ
+some_at (Some x) at = Ok x
+some_at None at = Err at
+
+-- the next line, which has to be whole
+abbrev pub line_in : ℕ → List TextLine → Result (List ℕ × Place) ℕ
+line_in at [] = Err at
+line_in at (l ∷ ls) = if l.whole then Ok (l.text, record { at = at + size_of l; rest = ls }) else Err at
+
+-- the next line, which has to be this text
+unfoldable pub exactly : List ℕ → Place → Result (Unit {0} × Place) ℕ
+exactly text p = then_at (line_in p.at p.rest) (λ l. if bytes_eq l.0 text then Ok (tt, l.1) else Err p.at)
