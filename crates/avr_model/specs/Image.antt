@@ -1,5 +1,5 @@
 -- Flash, and the raw image that it is loaded from.
-use Rattle.std.specs.Prelude.{ℕ, ◌+◌, ◌*◌, ◌/◌, ◌%◌, ◌==◌, ◌≡◌, ◌<◌, ◌≤◌, List, length, slice_index, slice_index_or, if◌then◌else◌}
+use Rattle.std.specs.Prelude.{ℕ, ◌+◌, ◌*◌, ◌/◌, ◌%◌, ◌==◌, ◌≡◌, ◌<◌, ◌≤◌, List, length, slice_index, slice_index_or, ◌-◌, [], ◌∷◌, ◌++◌, replicate, if◌then◌else◌}
 
 -- how many words flash has; word addresses count modulo this number (data sheet: 32 KiB)
 abbrev pub WORDS : ℕ
@@ -22,3 +22,13 @@ pub record IsRawImage (bytes words : List ℕ) : Type 0 where
   pub fits : length bytes ≤ 2 * WORDS
   pub size : length words ≡ WORDS
   pub each : (a : ℕ) → a < WORDS → slice_index words a ≡ flash_byte bytes (2 * a) + 256 * flash_byte bytes (2 * a + 1)
+
+-- the words of a row of bytes, two bytes each
+unfoldable pub paired : List ℕ → List ℕ
+paired [] = []
+paired (low ∷ []) = []
+paired (low ∷ high ∷ bytes) = (low + 256 * high) ∷ paired bytes
+
+-- the same words, one after the other: those of the file, and erased words up to the end of flash
+abbrev pub raw_words : List ℕ → List ℕ
+raw_words bytes = paired bytes ++ replicate (WORDS - length bytes / 2) 0xFFFF

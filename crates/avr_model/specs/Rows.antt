@@ -1,5 +1,5 @@
 -- Small firmwares, run by the definitions.
-use Rattle.std.specs.Prelude.{ℕ, ◌≡◌, ◌++◌, refl, false, List, [], ◌∷◌, replicate}
+use Rattle.std.specs.Prelude.{ℕ, ◌≡◌, ◌++◌, refl, false, List, [], ◌∷◌}
 use Rattle.avr_model.specs.declared.choice.Choice.{Choice}
 use Rattle.avr_model.specs.declared.choice.Choice.TheVariants.{Go, Take}
 use Rattle.avr_model.specs.declared.choice.Flag.TheVariants.{Live, Transfer}
@@ -10,24 +10,14 @@ use Rattle.avr_model.specs.Table.{decoded, length_of}
 use Rattle.avr_model.specs.Sites.{is_scratch, is_fixed, path_behind, is_loaded_behind}
 use Rattle.avr_model.specs.Vectors.{row_of, enable_of, has_enables, written_enables}
 use Rattle.avr_model.specs.Assumptions.{jump_line, store_line, is_proved}
-use Rattle.avr_model.specs.State.{State, RAMEND, SIZE, byte_in, live_in, set_at, io_byte, read}
+use Rattle.avr_model.specs.State.{State, filled, byte_in, live_in, set_at, io_byte, read}
 use Rattle.avr_model.specs.Step.{Illegal, memory_after, live_write, protected_write, unlisted_transfer, step}
 use Rattle.avr_model.specs.Run.{depth_of, stop_of, deepest}
 use Rattle.avr_model.specs.Examples.{firmware, small_frame}
 
 -- the reset state whose bytes are all 0
 abbrev pub blank : State
-blank =
-    record {
-      pc = 0;
-      registers = replicate 32 0;
-      sreg = 0;
-      sp = RAMEND;
-      is_open = false;
-      enables = 0;
-      memory = record { bytes = replicate SIZE 0; live = replicate SIZE false };
-      delay = false;
-    }
+blank = filled 0
 
 abbrev pub go : List Choice
 go = Go 0 0 ∷ []

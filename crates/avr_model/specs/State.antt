@@ -54,6 +54,24 @@ pub record IsReset (m : State) : Type 0 where
   pub count_bytes : length m.memory.bytes ≡ SIZE
   pub sram_bytes : All (λ b. b < 256) m.memory.bytes
 
+-- the reset state with these registers and bytes of SRAM
+abbrev pub reset_state : List ℕ → List ℕ → State
+reset_state registers bytes =
+    record {
+      pc = 0;
+      registers = registers;
+      sreg = 0;
+      sp = RAMEND;
+      is_open = false;
+      enables = 0;
+      memory = record { bytes = bytes; live = replicate SIZE false };
+      delay = false;
+    }
+
+-- the reset state with one byte everywhere
+abbrev pub filled : ℕ → State
+filled byte = reset_state (replicate 32 byte) (replicate SIZE byte)
+
 -- ---- SRAM by address
 
 unfoldable pub byte_in : List ℕ → ℕ → ℕ
