@@ -1,0 +1,6 @@
+//! Schedules: lists of choices as counted runs, their one text, and the run of the machine that they choose.
+#![tactic(auto)]
+
+pub mod schedule;
+
+pub use schedule::{Run, Schedule};

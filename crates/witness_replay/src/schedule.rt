@@ -1,0 +1,49 @@
+//! What a schedule is.
+
+ghost use Rattle.std.specs.Prelude.{◌≡◌};
+
+use std::marker::Model;
+
+/// Equal choices in a row, which are one line of a schedule.
+#[derive(Clone, Copy, Debug, PartialEq, Eq)]
+pub enum Run {
+    /// So many `Go`, from 1, with these two input bytes.
+    Go(u32, u8, u8),
+    /// One `Take` of this vector, 2 to 26; the flag clears the watchdog's enable bit.
+    Take(u8, bool),
+}
+
+/// A fill byte for registers and SRAM, and at most 16,777,216 choices as counted runs: neighbouring `Go` runs differ in
+/// their bytes, so a list of choices is kept in one way. Seen as the byte and the list of runs. Source: own.
+#[derive(Debug, Drop)]
+pub struct Schedule {
+    fill: u8,
+    runs: Vec<Run>,
+}
+
+impl Model for Schedule {
+    ghost use Rattle.std.specs.Prelude.{◌<◌, None};
+    ghost use Rattle.witness_replay.specs.Spelling.{Plan, AreRuns, most_choices};
+
+    ghost Value = { Plan };
+
+    ghost view = { λ s. record { fill = s.fill; runs = s.runs.items } };
+
+    ghost invariant = { λ s. AreRuns None most_choices s.runs.items };
+}
+
+impl Schedule {
+    /// The byte that registers and SRAM hold at first.
+    pub fn fill(&self) -> u8
+        ensures { result ≡ self.now.fill }
+    {
+        self.fill
+    }
+
+    /// The runs in order.
+    pub fn runs(&self) -> &[Run]
+        ensures { result.now ≡ self.now.runs }
+    {
+        &self.runs
+    }
+}
