@@ -15,3 +15,6 @@ pub use avr_model::operand::Operand;
 pub use decoding::{decode, length};
 pub use printing::text;
 pub use register_set::{RegSet, writes};
+
+#[cfg(test)]
+mod tests;
