@@ -4,8 +4,11 @@
 
 mod bits;
 mod decoding;
+mod fixed;
 mod printing;
+mod program;
 mod register_set;
+mod scratch;
 
 pub use avr_model::instruction::{
     Base, BinaryOp, Bit, FarDistance, HighPair, HighRegister, ImmediateOp, Instr, LowPort,
@@ -13,8 +16,10 @@ pub use avr_model::instruction::{
 };
 pub use avr_model::operand::Operand;
 pub use decoding::{decode, length};
+pub use fixed::is_fixed;
 pub use printing::text;
 pub use register_set::{RegSet, writes};
+pub use scratch::is_scratch;
 
 #[cfg(test)]
 mod tests;
