@@ -1,6 +1,6 @@
 //! Words whose instructions another disassembler has named, and one call of each function that allocates.
 
-use crate::{Instr, Operand, decode, length, text, writes};
+use crate::{Instr, Operand, decode, is_fixed, is_scratch, length, text, writes};
 use std::test::Fail;
 
 #[test]
@@ -36,5 +36,23 @@ fn loads_that_overwrite_their_pointer_are_undefined(rt: HostRuntime) -> Result<(
     assert_eq!(rt; length(0x940C), 2);
     assert_eq!(rt; length(0x920F), 1);
     assert_eq!(rt; writes(&Instr::Lpm).bits, 1);
+    Ok(())
+}
+
+#[test]
+fn scratch_pushes_and_fixed_sites_of_two_programs(rt: HostRuntime) -> Result<(), Fail> {
+    let mut frame = vec![in rt.alloc(); 0xFFFFu16; 16384]?;
+    let small_frame = [
+        0xD000, 0x921F, 0xB7CD, 0xB7DE, 0x8389, 0x900F, 0x900F, 0x900F, 0xCFFF,
+    ];
+    frame[..9].copy_from_slice(&small_frame);
+    let mut store = vec![in rt.alloc(); 0xFFFFu16; 16384]?;
+    store[..5].copy_from_slice(&[0xC001, 0xE0E0, 0xE0F1, 0x8300, 0xCFFF]);
+    for a in 0..16384u16 {
+        assert_eq!(rt; is_scratch(frame.as_slice(), a), a < 2);
+        assert_eq!(rt; is_fixed(frame.as_slice(), a), false);
+        assert_eq!(rt; is_scratch(store.as_slice(), a), false);
+        assert_eq!(rt; is_fixed(store.as_slice(), a), a == 3);
+    }
     Ok(())
 }
