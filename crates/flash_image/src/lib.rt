@@ -1,0 +1,6 @@
+//! Flash, which a raw image or placed segments fill, and the names of words.
+#![tactic(auto)]
+
+mod image;
+
+pub use image::{Flash, RawFault};
