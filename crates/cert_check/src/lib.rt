@@ -1,0 +1,6 @@
+//! The checker: it judges a certificate for a firmware and trusts nobody who made it.
+#![tactic(auto)]
+
+pub mod verdict;
+
+pub use verdict::{Reason, Verdict};
