@@ -2,18 +2,23 @@
 
 mod rows;
 
+use crate::{Logic, Mul, Shift, Sreg, add, com, logic, mul, shift, step_one, sub, wide};
 use std::process::Abort;
 
-use crate::{Logic, Mul, Shift, Sreg, add, com, logic, mul, shift, step_one, sub, wide};
-
 const NONE: Sreg = Sreg(0x00);
+
 const ALL: Sreg = Sreg(0xFF);
 
 type ByteRow = (u8, u8, u8, u8);
+
 type PairRow = (u8, u8, u8, u8, u8);
+
 type CarryRow = (u8, u8, bool, u8, u8, u8);
+
 type ProductRow = (u8, u8, u16, u8, u8);
+
 type WordRow = (u16, u8, u16, u8, u8);
+
 type ShiftRow = (u8, u8, u8, u8, u8, u8, u8, u8);
 
 fn check_add(rt: &impl Abort, rows: &[CarryRow]) {
@@ -25,8 +30,16 @@ fn check_add(rt: &impl Abort, rows: &[CarryRow]) {
 
 fn check_sub(rt: &impl Abort, keep_zero: bool, rows: &[CarryRow]) {
     for &(a, b, borrow, r, clear, full) in rows {
-        assert_eq!(rt; sub(a, b, borrow, keep_zero, NONE), (r, Sreg(clear)), "{a} {b} {borrow}");
-        assert_eq!(rt; sub(a, b, borrow, keep_zero, ALL), (r, Sreg(full)), "{a} {b} {borrow}");
+        assert_eq!(rt;
+            sub(a, b, borrow, keep_zero, NONE),
+            (r, Sreg(clear)),
+            "{a} {b} {borrow}"
+        );
+        assert_eq!(rt;
+            sub(a, b, borrow, keep_zero, ALL),
+            (r, Sreg(full)),
+            "{a} {b} {borrow}"
+        );
     }
 }
 
@@ -53,9 +66,21 @@ fn check_step(rt: &impl Abort, up: bool, rows: &[ByteRow]) {
 
 fn check_shift(rt: &impl Abort, rows: &[ShiftRow]) {
     for &(a, s, right, after_right, rotated, after_rotated, halved, after_halved) in rows {
-        assert_eq!(rt; shift(Shift::Lsr, a, Sreg(s)), (right, Sreg(after_right)), "{a}");
-        assert_eq!(rt; shift(Shift::Ror, a, Sreg(s)), (rotated, Sreg(after_rotated)), "{a}");
-        assert_eq!(rt; shift(Shift::Asr, a, Sreg(s)), (halved, Sreg(after_halved)), "{a}");
+        assert_eq!(rt;
+            shift(Shift::Lsr, a, Sreg(s)),
+            (right, Sreg(after_right)),
+            "{a}"
+        );
+        assert_eq!(rt;
+            shift(Shift::Ror, a, Sreg(s)),
+            (rotated, Sreg(after_rotated)),
+            "{a}"
+        );
+        assert_eq!(rt;
+            shift(Shift::Asr, a, Sreg(s)),
+            (halved, Sreg(after_halved)),
+            "{a}"
+        );
     }
 }
 
