@@ -18,3 +18,4 @@ pub mod Effects
 pub mod Step
 pub mod Run
 pub mod Rows
+pub mod Firmware
