@@ -2,5 +2,7 @@
 #![tactic(auto)]
 
 mod image;
+mod labels;
 
 pub use image::{Flash, RawFault};
+pub use labels::Names;

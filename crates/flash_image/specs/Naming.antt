@@ -1,0 +1,24 @@
+-- The least name of a word among those that were added.
+use Rattle.std.specs.Prelude.{ℕ, ◌≡◌, ◌==◌, false, List, [], ◌∷◌, Option, Some, None, if◌then◌else◌}
+use Rattle.std.specs.Cmp.Lexicographic.{slice_cmp}
+use Rattle.std.specs.List.{Contains}
+use Rattle.std.specs.Ordering.{nat_cmp, is_lt}
+
+-- the lesser by bytes of a name and what may be another
+abbrev pub lesser : List ℕ → Option (List ℕ) → List ℕ
+lesser name None = name
+lesser name (Some other) = if is_lt (slice_cmp nat_cmp other name) then other else name
+
+-- the least name by bytes of those that were added for a word
+abbrev pub least_name : List (ℕ × List ℕ) → ℕ → Option (List ℕ)
+least_name [] word = None
+least_name (l ∷ ls) word = if l.0 == word then Some (lesser l.1 (least_name ls word)) else least_name ls word
+
+-- no name was added for the word
+abbrev pub IsUnnamed : List (ℕ × List ℕ) → ℕ → Type 0
+IsUnnamed names word = (name : List ℕ) → Contains names (word, name) → ⊥
+
+-- the name was added for the word, and none that was added for it is less
+abbrev pub IsLeastName : List (ℕ × List ℕ) → ℕ → List ℕ → Type 0
+IsLeastName names word name =
+    Contains names (word, name) × ((other : List ℕ) → Contains names (word, other) → is_lt (slice_cmp nat_cmp other name) ≡ false)
