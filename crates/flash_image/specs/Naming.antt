@@ -1,5 +1,5 @@
 -- The least name of a word among those that were added.
-use Rattle.std.specs.Prelude.{ℕ, ◌≡◌, ◌==◌, false, List, [], ◌∷◌, Option, Some, None, if◌then◌else◌}
+use Rattle.std.specs.Prelude.{ℕ, ◌≡◌, ◌==◌, false, List, [], ◌∷◌, Option, Some, None, if◌then◌else◌, codes, refl}
 use Rattle.std.specs.Cmp.Lexicographic.{slice_cmp}
 use Rattle.std.specs.List.{Contains}
 use Rattle.std.specs.Ordering.{nat_cmp, is_lt}
@@ -22,3 +22,10 @@ IsUnnamed names word = (name : List ℕ) → Contains names (word, name) → ⊥
 abbrev pub IsLeastName : List (ℕ × List ℕ) → ℕ → List ℕ → Type 0
 IsLeastName names word name =
     Contains names (word, name) × ((other : List ℕ) → Contains names (word, other) → is_lt (slice_cmp nat_cmp other name) ≡ false)
+
+-- two names of one word, and none of the next
+least_of_two : least_name ((0x34, codes "main") ∷ (0x34, codes "init") ∷ []) 0x34 ≡ Some (codes "init")
+least_of_two = refl
+
+not_named : least_name ((0x34, codes "main") ∷ (0x34, codes "init") ∷ []) 0x35 ≡ None
+not_named = refl

@@ -6,3 +6,6 @@ mod labels;
 
 pub use image::{Flash, RawFault};
 pub use labels::Names;
+
+#[cfg(test)]
+mod tests;
