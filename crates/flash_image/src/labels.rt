@@ -1,7 +1,8 @@
 //! Names of words.
 
 ghost use Rattle.std.specs.Prelude.{◌≡◌, ℕ, ◌∷◌, [], ◌++◌, List, MatchOption, is_ok, if◌then◌else◌, map};
-ghost use Rattle.flash_image.specs.Naming.{lesser, least_name, IsLeastName, IsUnnamed};
+ghost use Rattle.avr_model.specs.Elf.{Named};
+ghost use Rattle.flash_image.specs.Naming.{named, lesser, least_name, IsLeastName, IsUnnamed};
 
 use std::alloc::{AllocError, Global};
 use std::marker::Model;
@@ -20,9 +21,9 @@ pub struct Names {
 }
 
 impl Model for Names {
-    ghost Value = { List (ℕ × List ℕ) };
+    ghost Value = { List Named };
 
-    ghost view = { λ n. map (λ l. (l.word, l.name.items)) n.labels.items };
+    ghost view = { λ n. map (λ l. named l.word l.name.items) n.labels.items };
 }
 
 impl Names {
@@ -38,7 +39,7 @@ impl Names {
 
     /// Adds a name for a word address. After an error the names are as before.
     pub fn add(&mut self, word: u16, name: &[u8]) -> Result<(), AllocError>
-        ensures { self.new ≡ (if is_ok result then self.old ++ (word, name.now) ∷ [] else self.old) }
+        ensures { self.new ≡ (if is_ok result then self.old ++ named word name.now ∷ [] else self.old) }
     {
         let name = Vec::from_slice(self.alloc, name)?;
         self.labels.push(Label { word, name })?;
