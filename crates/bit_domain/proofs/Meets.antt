@@ -1,5 +1,5 @@
 -- Order, join, meet and test of bytes of three-valued bits, as sets and by their words.
-use Rattle.std.proofs.Common.{◌≡◌, ◌∙◌, refl, sym, ap, subst, ℕ, zero, suc, ◌+◌, ◌-◌, ◌*◌, ◌%◌, ◌^◌, ◌<◌, ◌≤◌, min, max, arith, Option, Some, None, Bool, true, cond, eqb, inl, inr, ◌⊎◌}
+use Rattle.std.proofs.Common.{◌≡◌, ◌∙◌, refl, sym, ap, subst, ℕ, zero, suc, ◌+◌, ◌-◌, ◌*◌, ◌%◌, ◌^◌, ◌<◌, ◌≤◌, min, max, arith, Option, Some, None, eqb}
 use Rattle.std.proofs.lemmas.Bool.{eq-eqb}
 use Rattle.std.proofs.lemmas.Nat.Bits.{bit_at-lt, bit_at_or, bit_at_and, bit_at_xor, bit_at_not, bit_at-zero, same_from_bits_below}
 use Rattle.std.proofs.lemmas.Nat.{and_le_l, and_le_r, or_lt, le_or_r}
@@ -8,18 +8,19 @@ use Rattle.std.specs.Int.RustNames.{bit_or, bit_and, bit_xor}
 use Rattle.bit_domain.specs.declared.bits.Tri.{Tri}
 use Rattle.bit_domain.specs.declared.bits.Tri.TheVariants.{Zero, One, Any}
 use Rattle.bit_domain.specs.declared.bytes.TriByte.{TriByte}
-use Rattle.bit_domain.specs.Tri.{Permits, IsTriWithin, tri_xor, tri_same, tri_join, tri_meet, tri_bit, tri_between}
-use Rattle.bit_domain.specs.Packing.{known_of, value_of}
+use Rattle.bit_domain.specs.Tri.{Permits, tri_xor, tri_same, tri_join, tri_meet, tri_bit}
+use Rattle.bit_domain.specs.Packed.{known_of, value_of}
 use Rattle.bit_domain.specs.TriByte.{tri_of, tri_at, byte_of, byte_known, Has, IsWithin}
 use Rattle.bit_domain.specs.Logic.{byte_equal}
 use Rattle.bit_domain.specs.Lattice.{byte_join, IsLeastAbove, byte_meet, meet_unless, Differ}
+use Rattle.bit_domain.specs.Laws.{LatticeIsMonotone}
 use Rattle.bit_domain.proofs.Tables.{code, from_code, numbers2}
-use Rattle.bit_domain.proofs.Bounds.{low, high, low_le_high, high_le_one, within_from_permits, permits_from_within, bounds_from_within, within_from_bounds, low-tri_join, high-tri_join, low-tri_not, high-tri_not, between_is}
+use Rattle.bit_domain.proofs.Bounds.{low, high, low_le_high, high_le_one, within_from_permits, permits_from_within, bounds_from_within, within_from_bounds, low-tri_join, high-tri_join, high-tri_not, between_is}
 use Rattle.bit_domain.proofs.Built.{made, known_bit, value_bit, known_small, value_small, known_of-is, value_of-is, at_byte_of}
 use Rattle.bit_domain.proofs.Members.{has_built, within_bits, bits_within}
 use Rattle.bit_domain.proofs.Words.{of_words}
 use Rattle.bit_domain.proofs.AllBits.{zero_at, zero_is, zero_not, low_all, high_all, high_all_le, find_zero}
-use Rattle.bit_domain.proofs.LogicCover.{logic_covers}
+use Rattle.bit_domain.proofs.LogicCover.{logic_covers, logic_is_monotone}
 
 -- a byte is a member just where its known bits are the value
 bit_has : (t : Tri) (x : ℕ) → x < 2 → min x (known_of t) ≡ value_of t → Permits t x
@@ -65,20 +66,20 @@ known_has n x hn hx = (
 pub within_words : (t u : TriByte) → bit_and u.known (255 - t.known) ≡ 0 → bit_and t.value u.known ≡ u.value → IsWithin t u
 within_words t u none same =
     within_bits t u (λ i h.
-        let p = tri_at t i in
-        let q = tri_at u i in
-        let a : min (known_of q) (1 - known_of p) ≡ 0 =
-        omega (arith, bit_at_and u.known (255 - t.known) i, bit_at_not w8 t.known i (known_small t) h, ap (λ (n : ℕ). bit_at n i) none, bit_at-zero i, known_bit t i, known_bit u i) in
-        let b : min (value_of p) (known_of q) ≡ value_of q = omega (arith, bit_at_and t.value u.known i, ap (λ (n : ℕ). bit_at n i) same, value_bit t i, known_bit u i, value_bit u i) in
-        let kp = known_of-is p in
-        let kq = known_of-is q in
-        let vp = value_of-is p in
-        let vq = value_of-is q in
-        let p0 = low_le_high p in
-        let q0 = low_le_high q in
-        let p1 = high_le_one p in
-        let q1 = high_le_one q in
-        within_from_bounds p q (omega arith) (omega arith))
+    let p = tri_at t i in
+    let q = tri_at u i in
+    let a : min (known_of q) (1 - known_of p) ≡ 0 =
+    omega (arith, bit_at_and u.known (255 - t.known) i, bit_at_not w8 t.known i (known_small t) h, ap (λ (n : ℕ). bit_at n i) none, bit_at-zero i, known_bit t i, known_bit u i) in
+    let b : min (value_of p) (known_of q) ≡ value_of q = omega (arith, bit_at_and t.value u.known i, ap (λ (n : ℕ). bit_at n i) same, value_bit t i, known_bit u i, value_bit u i) in
+    let kp = known_of-is p in
+    let kq = known_of-is q in
+    let vp = value_of-is p in
+    let vq = value_of-is q in
+    let p0 = low_le_high p in
+    let q0 = low_le_high q in
+    let p1 = high_le_one p in
+    let q1 = high_le_one q in
+    within_from_bounds p q (omega arith) (omega arith))
 
 pub words_within : (t u : TriByte) → IsWithin t u → (bit_and u.known (255 - t.known) ≡ 0) × (bit_and t.value u.known ≡ u.value)
 words_within t u w =
@@ -259,3 +260,47 @@ equal_any a b e h =
     let small : word < 2 ^ 8 = or_lt 8 (differ_word a b) (open_word a b) (differ_small a b) (omega arith) in
     sym (between_is (byte_equal a b) 0 1
     (low_equal a b ∙ word_not word small (omega (arith, le_or_r (differ_word a b) (open_word a b)))) (high_equal a b ∙ word_zero (differ_word a b) e))
+
+-- a meet and the test of its operands
+pub some_is : (t : Tri) (m : TriByte) → high t ≡ 1 → Some m ≡ meet_unless t m
+some_is Zero m h = absurd (omega arith)
+some_is One m h = refl
+some_is Any m h = refl
+
+abbrev pub count : Option TriByte → ℕ
+count (Some m) = 1
+count None = 0
+
+abbrev inner : TriByte → Option TriByte → TriByte
+inner t (Some m) = m
+inner t None = t
+
+is_some : (t : Tri) (n m : TriByte) → meet_unless t n ≡ Some m → (high t ≡ 1) × (m ≡ n)
+is_some Zero n m e = let p : count None ≡ count (Some m) = ap count e in absurd (omega arith)
+is_some One n m e = (refl, sym (ap (inner n) e))
+is_some Any n m e = (refl, sym (ap (inner n) e))
+
+meets_within : (a b a' b' m : TriByte) → IsWithin a a' → IsWithin b b' → byte_meet a b ≡ Some m
+    → (m' : TriByte) × ((byte_meet a' b' ≡ Some m') × IsWithin m m')
+meets_within a b a' b' m wa wb e =
+    let n = byte_of (λ i. tri_meet (tri_at a i) (tri_at b i)) in
+    let n' = byte_of (λ i. tri_meet (tri_at a' i) (tri_at b' i)) in
+    let some = is_some (byte_equal a b) n m e in
+    let more = bounds_from_within (byte_equal a b) (byte_equal a' b') (logic_is_monotone.tests a b a' b' wa wb) in
+    let one : high (byte_equal a' b') ≡ 1 = omega (arith, high_le_one (byte_equal a' b')) in (
+      n',
+      (
+        sym (some_is (byte_equal a' b') n' one),
+        λ x small has.
+            let both = (meet_has a b some.0 x).0 (subst (λ (t : TriByte). Has t x) some.1 has) in
+            (meet_has a' b' one x).1 (wa x small both.0, wb x small both.1),
+      ),
+    )
+
+pub lattice_is_monotone : LatticeIsMonotone
+lattice_is_monotone = record {
+  joins = λ a b a' b' wa wb.
+      let j = join_least a' b' in
+      (join_least a b).least (byte_join a' b') (λ x small has. j.first x small (wa x small has)) (λ x small has. j.second x small (wb x small has));
+  meets = meets_within;
+}

@@ -6,3 +6,4 @@ pub mod Logic
 pub mod Lattice
 pub mod Sums
 pub mod Laws
+pub mod Examples

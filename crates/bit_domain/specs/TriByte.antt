@@ -1,13 +1,13 @@
 -- Bytes of three-valued bits: their bits, the bytes that they stand for, and the byte with given bits.
-use Rattle.std.specs.Prelude.{ℕ, ◌≡◌, ◌<◌, ◌==◌, if◌then◌else◌}
+use Rattle.std.specs.Prelude.{ℕ, ◌<◌, ◌==◌, if◌then◌else◌}
 use Rattle.std.specs.Prelude.{Option, Some, None}
 use Rattle.std.specs.Int.{bit_at}
 use Rattle.bit_domain.specs.declared.bits.Tri.{Tri}
 use Rattle.bit_domain.specs.declared.bits.Tri.TheVariants.{Zero, One, Any}
 use Rattle.bit_domain.specs.declared.bytes.TriByte.{TriByte}
 use Rattle.bit_domain.specs.Tri.{Permits, tri_bit}
-use Rattle.bit_domain.specs.Packed.{packed}
-use Rattle.bit_domain.specs.Packing.{known_of, value_of, packed_inside, packed_small}
+use Rattle.bit_domain.specs.Packed.{packed, known_of, value_of}
+use Rattle.bit_domain.specs.Packing.{packed_inside, packed_small}
 
 -- the three-valued bit that is known or not, with its value
 abbrev pub tri_of : ℕ → ℕ → Tri

@@ -12,4 +12,7 @@ pub mod sums;
 pub use bits::Tri;
 pub use bytes::TriByte;
 pub use logic::{and, eor, equal, not, or};
-pub use sums::{add, sub, Sum};
+pub use sums::{Sum, add, sub};
+
+#[cfg(test)]
+mod tests;
