@@ -1,7 +1,8 @@
 //! What a certificate is.
 
 ghost use Rattle.std.specs.Prelude.{◌≡◌, None, Some};
-ghost use Rattle.std.specs.Option.{option_map};
+ghost use Rattle.std.specs.Option.{option_copied};
+ghost use Rattle.cert_format.specs.Certificate.{IsClaim};
 
 use abs_step::NodeKey;
 use std::marker::Model;
@@ -30,6 +31,20 @@ impl Model for Certificate {
 }
 
 impl Certificate {
+    /// The certificate of these parts, which keep to the ranges, the order and the limits.
+    pub fn build(bound: u16, rank: u16, need: u16, nodes: Vec<NodeKey>, witness: Option<Schedule>) -> Certificate
+        requires { IsClaim (record { bound = bound; rank = rank; need = need; nodes = nodes.items; witness = witness }) }
+        ensures { result ≡ record { bound = bound; rank = rank; need = need; nodes = nodes.items; witness = witness } }
+    {
+        Certificate {
+            bound,
+            rank,
+            need,
+            nodes,
+            witness,
+        }
+    }
+
     /// The bound, at most 2,048 bytes.
     pub fn bound(&self) -> u16
         ensures { result ≡ self.now.bound }
@@ -44,10 +59,18 @@ impl Certificate {
         self.need
     }
 
-    /// The nodes, strictly ascending.
+    /// The nodes, strictly ascending; with the other numbers they keep what every certificate keeps.
     pub fn nodes(&self) -> &[NodeKey]
-        ensures { result.now ≡ self.now.nodes }
+        ensures value { result.now ≡ self.now.nodes }
+        ensures kept { IsClaim self.now }
     {
         &self.nodes
+    }
+
+    /// The schedule, if there is one.
+    pub fn witness(&self) -> Option<&Schedule>
+        ensures { option_copied result ≡ self.now.witness }
+    {
+        self.witness.as_ref()
     }
 }
