@@ -1,6 +1,6 @@
 //! Lists of assumptions.
 
-ghost use Rattle.std.specs.Prelude.{◌≡◌, ◌≤◌, ◌<◌, ◌↔◌, ◌++◌, [], ◌∷◌, true, false, not, length, find, None, Err, IfOk, OnOk, OnErr, IsTrue, IsErrOf};
+ghost use Rattle.std.specs.Prelude.{◌≡◌, ◌≤◌, ◌<◌, ◌↔◌, ◌++◌, [], ◌∷◌, true, false, not, length, find, slice_get, None, Err, IfOk, OnOk, OnErr, IsTrue, IsErrOf};
 ghost use Rattle.std.specs.Option.{option_copied};
 ghost use Rattle.avr_model.specs.Assumptions as assumptions;
 ghost use Rattle.avr_model.specs.Assumptions.{site_of, kind_of, jump_line, store_line, is_proved, jump_in, store_in, proves};
@@ -72,14 +72,14 @@ impl Assumptions {
     pub fn jumps(&self, site: u16) -> Option<&[u16]>
         ensures { option_copied result ≡ jump_line self.now site }
     {
-        jump_words(self.first_from(site, 0)?, site)
+        jump_words(first_from(&self.entries, site, 0)?, site)
     }
 
     /// The protected addresses that the `store` entry of this site lists: none where there is no such entry.
     pub fn stores(&self, site: u16) -> &[u16]
         ensures { result.now ≡ store_line self.now site }
     {
-        match self.first_from(site, 1) {
+        match first_from(&self.entries, site, 1) {
             Some(entry) => store_addresses(entry, site),
             None => &[],
         }
@@ -89,7 +89,7 @@ impl Assumptions {
     pub fn proved(&self, site: u16) -> bool
         ensures { result ≡ is_proved self.now site }
     {
-        match self.first_from(site, 2) {
+        match first_from(&self.entries, site, 2) {
             Some(entry) => is_prove(entry, site),
             None => false,
         }
@@ -99,15 +99,7 @@ impl Assumptions {
     pub fn same(&self, other: &Assumptions) -> bool
         ensures { IsTrue result ↔ (self.now ≡ other.now) }
     {
-        if self.entries.len() != other.entries.len() {
-            return false;
-        }
-        for (k, entry) in self.entries.iter().enumerate() {
-            if !is_same(entry, &other.entries[k]) {
-                return false;
-            }
-        }
-        true
+        are_same(&self.entries, &other.entries)
     }
 
     /// The entries in their order.
@@ -122,24 +114,25 @@ impl Assumptions {
     pub fn copy(&self) -> Result<Assumptions, AllocError>
         ensures { IfOk result (λ copy. copy ≡ self.now) }
     {
-        let alloc = *self.entries.allocator();
-        let mut entries = Vec::new(alloc);
-        for entry in &self.entries {
-            entries.push(copy_entry(alloc, entry)?)?;
-        }
+        let entries = copy_entries(*self.entries.allocator(), &self.entries)?;
         Ok(Assumptions { entries })
     }
+}
 
-    // The first entry that isn't before all of this kind (0 jump, 1 store, 2 prove) at this site.
-    fn first_from(&self, site: u16, kind: u8) -> Option<&Entry>
-        requires { kind < 3 }
-        ensures { option_copied result ≡ find (λ e. not (is_under site kind e)) self.now }
-    {
-        let place = self
-            .entries
-            .partition_point(|entry| is_under(entry, site, kind));
-        self.entries.get(place)
-    }
+fn entry_at(entries: &[Entry], place: usize) -> Option<&Entry>
+    ensures { option_copied result ≡ slice_get entries.now place }
+{
+    entries.get(place)
+}
+
+// The first entry that isn't before all of this kind (0 jump, 1 store, 2 prove) at this site.
+fn first_from(entries: &[Entry], site: u16, kind: u8) -> Option<&Entry>
+    requires in_order { are_in_order entries.now ≡ true }
+    requires kind { kind < 3 }
+    ensures { option_copied result ≡ find (λ e. not (is_under site kind e)) entries.now }
+{
+    let place = entries.partition_point(|entry| is_under(entry, site, kind));
+    entry_at(entries, place)
 }
 
 // The place of an entry's kind: jump, store, prove.
@@ -236,4 +229,28 @@ fn copy_entry(alloc: Global, entry: &Entry) -> Result<Entry, AllocError>
         Entry::Store(site, addresses) => Ok(Entry::Store(*site, copy_items(alloc, addresses)?)),
         Entry::Prove(site) => Ok(Entry::Prove(*site)),
     }
+}
+
+fn are_same(entries: &[Entry], others: &[Entry]) -> bool
+    ensures { IsTrue result ↔ (entries.now ≡ others.now) }
+{
+    if entries.len() != others.len() {
+        return false;
+    }
+    for (entry, other) in entries.iter().zip(others) {
+        if !is_same(entry, other) {
+            return false;
+        }
+    }
+    true
+}
+
+fn copy_entries(alloc: Global, entries: &[Entry]) -> Result<Vec<Entry>, AllocError>
+    ensures { IfOk result (λ copy. copy.items ≡ entries.now) }
+{
+    let mut copy = Vec::new(alloc);
+    for entry in entries {
+        copy.push(copy_entry(alloc, entry)?)?;
+    }
+    Ok(copy)
 }

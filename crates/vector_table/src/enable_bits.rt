@@ -1,6 +1,7 @@
 //! The enable bits of all vectors.
 
-ghost use Rattle.std.specs.Prelude.{◌≡◌, ◌+◌, ◌≤◌, ◌<◌, ◌^◌, ℕ, nat_lt, Some, None, if◌then◌else◌};
+ghost use Rattle.std.specs.Prelude.{◌≡◌, ◌+◌, ◌≤◌, ◌<◌, ◌^◌, ◌==◌, ℕ, nat_lt, Some, None, if◌then◌else◌};
+ghost use Rattle.std.specs.Int.{bit_at, from_bool};
 ghost use Rattle.avr_model.specs.Vectors.{is_enabled, with_enable, written_enables};
 
 use std::marker::Model;
@@ -73,7 +74,8 @@ impl Masks {
 fn with_bit(bits: u32, k: u8, on: bool) -> u32
     requires width { bits < 2 ^ 25 }
     requires place { k < 25 }
-    ensures { result ≡ with_enable bits (k + 2) on }
+    ensures small { result < 2 ^ 25 }
+    ensures bits { (j : ℕ) → j < 25 → bit_at result j ≡ (if j == k then from_bool on else bit_at bits j) }
 {
     if on {
         bits | 1 << k

@@ -1,9 +1,10 @@
 //! The table of vectors. Source: the data sheet's interrupt vectors and register summary.
 
-ghost use Rattle.std.specs.Prelude.{◌≡◌};
+ghost use Rattle.std.specs.Prelude.{◌≡◌, ◌==◌, ◌&&◌, ◌<◌, not, IfSome};
+ghost use Rattle.std.specs.List.{position_from};
 ghost use Rattle.avr_model.specs.Vectors as vectors;
 ghost use Rattle.avr_model.specs.Vectors.{held_bits};
-ghost use Rattle.vector_table.specs.Rows.{row_at};
+ghost use Rattle.vector_table.specs.Rows.{places, row_at};
 
 use crate::rows::{ENABLES, Row};
 
@@ -22,19 +23,30 @@ pub fn row(v: u8) -> Option<Row>
     })
 }
 
+// Where this enable bit stands in the table.
+fn place_of(address: u16, bit: u8) -> Option<usize>
+    ensures place { result ≡ position_from (λ p. (p.0 == address) && (p.1 == bit)) 0 places }
+    ensures bound { IfSome result (λ k. k < 25) }
+{
+    ENABLES
+        .iter()
+        .position(|&(at, place)| at == address && place == bit)
+}
+
 /// The vector whose enable bit is bit `bit` of data address `address`: None where that bit is none.
 pub fn enable_of(address: u16, bit: u8) -> Option<u8>
     ensures { result ≡ vectors.enable_of address bit }
 {
-    let place = ENABLES
-        .iter()
-        .position(|&(at, place)| at == address && place == bit)?;
-    Some(place as u8 + 2)
+    match place_of(address, bit) {
+        Some(place) => Some(place as u8 + 2),
+        None => None,
+    }
 }
 
 /// The enable bits of data address `address`, as a mask: 0 at every other address.
 pub fn held(address: u16) -> u8
-    ensures { result ≡ held_bits address }
+    ensures bits { result ≡ held_bits address }
+    ensures some { (result == 0) ≡ not (vectors.has_enables address) }
 {
     match address {
         0x3D => 0x03, // EIMSK
