@@ -39,7 +39,7 @@ is_over (w ∷ ws) = false
 
 -- ---- lines: a refusal tells the offset of the refused line
 
-abbrev pub then_at : {A B : Type 0} → Result A ℕ → (A → Result B ℕ) → Result B ℕ
+abbrev pub then_at : {A B E : Type 0} → Result A E → (A → Result B E) → Result B E
 then_at (Ok x) f = f x
 then_at (Err at) f = Err at
 
@@ -60,3 +60,31 @@ line_in at (l ∷ ls) = if l.whole then Ok (l.text, record { at = at + size_of l
 -- the next line, which has to be this text
 unfoldable pub exactly : List ℕ → Place → Result (Unit {0} × Place) ℕ
 exactly text p = then_at (line_in p.at p.rest) (λ l. if bytes_eq l.0 text then Ok (tt, l.1) else Err p.at)
+
+-- ---- lines whose refusal leaves the reader at the refused line: a refusal tells that place
+
+-- the text of the first line, which has to be whole
+abbrev pub text_in : List TextLine → Option (List ℕ)
+text_in [] = None
+text_in (l ∷ ls) = if l.whole then Some l.text else None
+
+abbrev pub passed_from : ℕ → List TextLine → Place
+passed_from at [] = record { at = at; rest = [] }
+passed_from at (l ∷ ls) = record { at = at + size_of l; rest = ls }
+
+-- the place behind the next line
+abbrev pub passed : Place → Place
+passed p = passed_from p.at p.rest
+
+abbrev pub taken : {A : Type 0} → Option A → Place → Place → Result (A × Place) Place
+taken None here next = Err here
+taken (Some x) here next = Ok (x, next)
+
+-- the next line, which has to be whole, read by its text
+unfoldable pub line_by : {A : Type 0} → (List ℕ → Option A) → Place → Result (A × Place) Place
+line_by f p = taken (text_in p.rest >>= f) p (passed p)
+
+-- what a call gave, and where it left the reader, is what the reading gives
+abbrev pub ReadsAt : {X Y : Type 0} → (X → Y) → Place → Result X Malformed → Result (Y × Place) Place → Type 0
+ReadsAt view after (Ok x) due = due ≡ Ok (view x, after)
+ReadsAt view after (Err fault) due = (due ≡ Err after) × (fault.0 ≡ after.at)

@@ -4,7 +4,7 @@
 
 ghost use Rattle.std.specs.Prelude.{◌≡◌, ◌≤◌, ◌<◌, ◌^◌, IfSome, IfOk, None, length};
 ghost use Rattle.std.specs.Option.{option_map};
-ghost use Rattle.line_reading.specs.Reading.{hex_at, dec_at, word_at, is_over, Reads, line_in, exactly};
+ghost use Rattle.line_reading.specs.Reading.{hex_at, dec_at, word_at, is_over, Reads, line_in, exactly, text_in, passed};
 
 use sb_base::{LineReader, Words, read_dec, read_hex};
 
@@ -82,4 +82,19 @@ pub fn expect_line(reader: &mut LineReader<'_>, text: &[u8]) -> Result<(), Malfo
     } else {
         Err(Malformed(at))
     }
+}
+
+/// The text of the next line, which stays the next one. None exactly where no line is left or the next isn't whole.
+pub fn peek_text<'a>(reader: &LineReader<'a>) -> Option<&'a [u8]>
+    ensures { option_map (λ t. t.now) result ≡ text_in reader.now.rest }
+{
+    let line = reader.peek()?;
+    if line.whole { Some(line.text) } else { None }
+}
+
+/// Passes over the next line, if one is left.
+pub fn pass_line(reader: &mut LineReader<'_>)
+    ensures { reader.new ≡ passed reader.old }
+{
+    let _ = reader.next();
 }
