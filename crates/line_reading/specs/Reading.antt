@@ -68,6 +68,10 @@ abbrev pub text_in : List TextLine → Option (List ℕ)
 text_in [] = None
 text_in (l ∷ ls) = if l.whole then Some l.text else None
 
+-- the first line, which has to be whole, read by its text
+abbrev pub first_by : {A : Type 0} → (List ℕ → Option A) → List TextLine → Option A
+first_by f ls = text_in ls >>= f
+
 abbrev pub passed_from : ℕ → List TextLine → Place
 passed_from at [] = record { at = at; rest = [] }
 passed_from at (l ∷ ls) = record { at = at + size_of l; rest = ls }
@@ -80,9 +84,9 @@ abbrev pub taken : {A : Type 0} → Option A → Place → Place → Result (A �
 taken None here next = Err here
 taken (Some x) here next = Ok (x, next)
 
--- the next line, which has to be whole, read by its text
+-- the next line, read by its text, and the place behind it
 unfoldable pub line_by : {A : Type 0} → (List ℕ → Option A) → Place → Result (A × Place) Place
-line_by f p = taken (text_in p.rest >>= f) p (passed p)
+line_by f p = taken (first_by f p.rest) p (passed p)
 
 -- what a call gave, and where it left the reader, is what the reading gives
 abbrev pub ReadsAt : {X Y : Type 0} → (X → Y) → Place → Result X Malformed → Result (Y × Place) Place → Type 0

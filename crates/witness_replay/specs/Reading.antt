@@ -4,9 +4,11 @@ use Rattle.std.specs.Prelude.{◌≡◌, ℕ, ◌+◌, ◌-◌, ◌==◌, ◌&&�
 use Rattle.std.specs.Option.{option_map}
 use Rattle.std.specs.Str.{bytes_eq}
 use Rattle.sb_base.specs.Lines.{TextLine, Place, size_of, words_of}
-use Rattle.line_reading.specs.Reading.{◌>>=◌, hex_at, dec_at, is_over, then_at, text_in, line_by}
+use Rattle.line_reading.specs.Reading.{◌>>=◌, hex_at, dec_at, is_over, then_at, first_by, line_by}
 use Rattle.witness_replay.specs.declared.schedule.Run.{Run}
 use Rattle.witness_replay.specs.declared.schedule.Run.TheVariants.{Go, Take}
+use Rattle.witness_replay.specs.declared.schedule.ScheduleFault.{ScheduleFault}
+use Rattle.witness_replay.specs.declared.schedule.ScheduleFault.TheVariants.{Malformed, Memory}
 use Rattle.witness_replay.specs.Spelling.{Plan, weight, follows, most_choices}
 
 -- ---- the words of a line
@@ -66,7 +68,7 @@ with_part (Some (Some r)) here next following = with_front (r ∷ []) (following
 unfoldable pub runs_from : Option Run → ℕ → ℕ → List TextLine → Result (List Run × Place) Place
 runs_from before left at [] = Err (record { at = at; rest = [] })
 runs_from before left at (l ∷ ls) =
-    with_part (text_in (l ∷ ls) >>= part_by before left)
+    with_part (first_by (part_by before left) (l ∷ ls))
     (record { at = at; rest = l ∷ ls })
     (record { at = at + size_of l; rest = ls })
     (λ r. runs_from (Some r) (left - weight r) (at + size_of l) ls)
@@ -83,3 +85,12 @@ refused_at (Err q) = Err q.at
 -- a schedule, and the place behind it; or the offset of the refused line
 abbrev pub schedule_in : Place → Result (Plan × Place) ℕ
 schedule_in p = refused_at (schedule_at p)
+
+-- what a call gave, and where it left the reader, is what the reading gives, unless memory was wanting
+abbrev pub Refuses : {Y : Type 0} → ScheduleFault → Place → Result (Y × Place) Place → Type 0
+Refuses Memory after due = ⊤
+Refuses (Malformed at) after due = (due ≡ Err after) × (at ≡ after.at)
+
+abbrev pub ReadsUnlessMemory : {X Y : Type 0} → (X → Y) → Place → Result X ScheduleFault → Result (Y × Place) Place → Type 0
+ReadsUnlessMemory view after (Ok x) due = due ≡ Ok (view x, after)
+ReadsUnlessMemory view after (Err fault) due = Refuses fault after due
