@@ -2,6 +2,8 @@
 //! reading is a function in `specs/Reading.antt`, which the calls here compute.
 #![tactic(auto)]
 
+pub mod laws;
+
 ghost use Rattle.std.specs.Prelude.{◌≡◌, ◌≤◌, ◌<◌, ◌^◌, IfSome, IfOk, None, length};
 ghost use Rattle.std.specs.Option.{option_map};
 ghost use Rattle.line_reading.specs.Reading.{hex_at, dec_at, word_at, is_over, Reads, line_in, exactly, text_in, passed};

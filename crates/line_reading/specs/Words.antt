@@ -1,0 +1,58 @@
+-- Words and lines that are written, and the pieces that read them.
+use Rattle.std.specs.Prelude.{◌≡◌, ◌≤◌, ◌<◌, ◌^◌, ◌+◌, ◌++◌, ℕ, List, [], ◌∷◌, Some, true, decimal, map}
+use Rattle.std.specs.List.{AllByRecursion}
+use Rattle.sb_base.specs.Digits.{hex_digits}
+use Rattle.sb_base.specs.Lines.{TextLine, Place, size_of, AreLines, words_of, spaced, Lacks}
+use Rattle.line_reading.specs.Reading.{hex_at, dec_at}
+
+-- what can stand as a word in a line: no space and no line feed is in it
+abbrev pub IsWord : List ℕ → Type 0
+IsWord w = Lacks 32 w × Lacks 10 w
+
+-- the line of these words, with its line feed
+abbrev pub whole : List (List ℕ) → TextLine
+whole ws = record { text = spaced ws; whole = true }
+
+-- how many bytes lines take
+abbrev pub sizes : List TextLine → ℕ
+sizes [] = 0
+sizes (l ∷ ls) = size_of l + sizes ls
+
+-- These lines stand at the first place, and the second place is behind them.
+pub record Passes (p : Place) (ls : List TextLine) (q : Place) : Type 0 where
+  pub lines : p.rest ≡ ls ++ q.rest
+  pub offset : q.at ≡ p.at + sizes ls
+
+-- ---- laws
+
+-- digits that are read are the ones that are written of their number, which has no more digits
+abbrev pub HexTakes : Type 0
+HexTakes = (digits n : ℕ) (ws rest : List (List ℕ)) → hex_at digits ws ≡ Some (n, rest) → (ws ≡ hex_digits n digits ∷ rest) × (n < 16 ^ digits)
+
+-- digits that are written of a number are read as it
+abbrev pub HexIsTaken : Type 0
+HexIsTaken = (digits n : ℕ) (rest : List (List ℕ)) → n < 16 ^ digits → hex_at digits (hex_digits n digits ∷ rest) ≡ Some (n, rest)
+
+abbrev pub DecTakes : Type 0
+DecTakes = (most n : ℕ) (ws rest : List (List ℕ)) → most < 2 ^ 64 → dec_at most ws ≡ Some (n, rest) → (ws ≡ decimal n ∷ rest) × (n ≤ most)
+
+abbrev pub DecIsTaken : Type 0
+DecIsTaken = (most n : ℕ) (rest : List (List ℕ)) → most < 2 ^ 64 → n ≤ most → dec_at most (decimal n ∷ rest) ≡ Some (n, rest)
+
+abbrev pub HexIsWord : Type 0
+HexIsWord = (n digits : ℕ) → n < 16 ^ digits → IsWord (hex_digits n digits)
+
+abbrev pub DecIsWord : Type 0
+DecIsWord = (n : ℕ) → n < 2 ^ 64 → IsWord (decimal n)
+
+-- a line is read as the words that it was made of
+abbrev pub WordsStand : Type 0
+WordsStand = (w : List ℕ) (ws : List (List ℕ)) → AllByRecursion IsWord (w ∷ ws) → words_of (spaced (w ∷ ws)) ≡ w ∷ ws
+
+-- a line is its words
+abbrev pub LineIsWords : Type 0
+LineIsWords = (text : List ℕ) → spaced (words_of text) ≡ text
+
+-- lines of words are the lines of a text
+abbrev pub LinesStand : Type 0
+LinesStand = (wss : List (List (List ℕ))) → AllByRecursion (AllByRecursion IsWord) wss → AreLines (map whole wss)
