@@ -1,19 +1,19 @@
 -- What is written is read, and what is read was written.
-use Rattle.std.proofs.Common.{ℕ, ◌+◌, ◌*◌, ◌^◌, ◌<◌, ◌≤◌, ◌≡◌, ◌==◌, List, [], ◌∷◌, ◌++◌, length, map, Bool, true, false, not, refl, ap, sym, ◌∙◌, arith, suc, get_or, Err, Ok, Result, Option, Some, None, cond, ◌⊎◌, inl, inr, nat_lt, add-one}
+use Rattle.std.proofs.Common.{ℕ, ◌+◌, ◌*◌, ◌^◌, ◌<◌, ◌≤◌, ◌≡◌, ◌==◌, List, [], ◌∷◌, ◌++◌, length, length-append, append_assoc, map, Bool, true, false, not, refl, ap, sym, ◌∙◌, arith, get_or, Err, Ok, Result, Option, Some, None, cond, ◌⊎◌, inl, inr, nat_lt, add-one}
 use Rattle.std.proofs.Math.Nat.{pow-suc}
 use Rattle.std.proofs.lemmas.Bool.Decides.{nat_tests}
 use Rattle.std.proofs.lemmas.List.Elements.{recursion_from_All}
 use Rattle.std.proofs.lemmas.List.Sums.{fails_before_first}
 use Rattle.std.proofs.lemmas.List.Splits.{join_with_byte-slice_split}
-use Rattle.std.specs.List.{position, position_or_len, AllByRecursion, All}
+use Rattle.std.specs.List.{position, position_or_len, AllByRecursion, All, flat_map}
 use Rattle.std.specs.Fmt.{decimal}
 use Rattle.sb_base.specs.declared.digits.DigitFault.{DigitFault}
 use Rattle.sb_base.specs.declared.digits.DigitFault.TheVariants.{WrongLength, BadDigit, TooGreat}
 use Rattle.sb_base.specs.Digits.{is_dec, is_hex, digit_of, number_from, hex_answer, dec_answer, unless_bad, capped, has_extra_zero, hex_digits}
-use Rattle.sb_base.specs.Lines.{TextLine, words_of, spaced, Lacks, AreLines, IsEnded}
-use Rattle.sb_base.specs.Spelling.{HexIsRead, HexIsSpelled, DecimalIsRead, DecimalIsSpelled, WordsAreRead}
-use Rattle.line_reading.specs.Reading.{number_and, hex_at, dec_at}
-use Rattle.line_reading.specs.Words.{IsWord, whole, HexTakes, HexIsTaken, HexIsWord, DecTakes, DecIsTaken, DecIsWord, WordsStand, LineIsWords, LinesStand}
+use Rattle.sb_base.specs.Lines.{TextLine, lines_of, joined, line, spaced, Lacks, IsEnded}
+use Rattle.sb_base.specs.Spelling.{HexIsRead, HexIsSpelled, DecimalIsRead, DecimalIsSpelled, WordsAreRead, LinesAreRead}
+use Rattle.line_reading.specs.Reading.{number_and}
+use Rattle.line_reading.specs.Words.{IsWord, whole, HexTakes, HexIsTaken, HexIsWord, DecTakes, DecIsTaken, DecIsWord, WordsStand, LineIsWords, LinesStand, sizes, LinesAreText, TextIsLines}
 
 -- which way a test went
 chosen : {X : Type 0} (b : Bool) (x y z : X) → cond b x y ≡ z → ((b ≡ true) × (x ≡ z)) ⊎ ((b ≡ false) × (y ≡ z))
@@ -169,5 +169,22 @@ ended ws [] = λ e. absurd (let bad : true ≡ false = e in cc)
 ended ws (l ∷ ls) = refl
 
 pub lines_stand : LinesStand
-lines_stand [] h = tt
-lines_stand (ws ∷ wss) h = (spaced_lacks ws h.0, ended ws (map whole wss), lines_stand wss h.1)
+lines_stand [] ls h t = t
+lines_stand (ws ∷ wss) ls h t = (spaced_lacks ws h.0, ended ws (map whole wss ++ ls), lines_stand wss ls h.1 t)
+
+joined_lines : (wss : List (List (List ℕ))) (ls : List TextLine) → joined (map whole wss ++ ls) ≡ flat_map line wss ++ joined ls
+joined_lines [] ls = refl
+joined_lines (ws ∷ wss) ls = ap (λ (xs : List ℕ). line ws ++ xs) (joined_lines wss ls) ∙ sym (append_assoc (line ws) (flat_map line wss) (joined ls))
+
+size_lines : (wss : List (List (List ℕ))) → sizes (map whole wss) ≡ length (flat_map line wss)
+size_lines [] = refl
+size_lines (ws ∷ wss) = simp length-append (omega (arith, size_lines wss))
+
+pub lines_are_text : LinesAreText
+lines_are_text p wss q h = record { bytes = ap joined h.lines ∙ joined_lines wss q.rest; offset = omega (arith, h.offset, size_lines wss) }
+
+pub text_is_lines : LinesAreRead → TextIsLines
+text_is_lines read p wss q words here there h = record {
+  lines = sym (read p.rest here) ∙ ap lines_of (h.bytes ∙ sym (joined_lines wss q.rest)) ∙ read (map whole wss ++ q.rest) (lines_stand wss q.rest words there);
+  offset = omega (arith, h.offset, size_lines wss);
+}

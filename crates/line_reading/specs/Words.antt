@@ -1,8 +1,8 @@
 -- Words and lines that are written, and the pieces that read them.
-use Rattle.std.specs.Prelude.{◌≡◌, ◌≤◌, ◌<◌, ◌^◌, ◌+◌, ◌++◌, ℕ, List, [], ◌∷◌, Some, true, decimal, map}
-use Rattle.std.specs.List.{AllByRecursion}
+use Rattle.std.specs.Prelude.{◌≡◌, ◌≤◌, ◌<◌, ◌^◌, ◌+◌, ◌++◌, ℕ, List, [], ◌∷◌, length, Some, true, decimal, map}
+use Rattle.std.specs.List.{AllByRecursion, flat_map}
 use Rattle.sb_base.specs.Digits.{hex_digits}
-use Rattle.sb_base.specs.Lines.{TextLine, Place, size_of, AreLines, words_of, spaced, Lacks}
+use Rattle.sb_base.specs.Lines.{TextLine, Place, size_of, AreLines, joined, words_of, spaced, line, Lacks}
 use Rattle.line_reading.specs.Reading.{hex_at, dec_at}
 
 -- what can stand as a word in a line: no space and no line feed is in it
@@ -53,6 +53,18 @@ WordsStand = (w : List ℕ) (ws : List (List ℕ)) → AllByRecursion IsWord (w 
 abbrev pub LineIsWords : Type 0
 LineIsWords = (text : List ℕ) → spaced (words_of text) ≡ text
 
--- lines of words are the lines of a text
+-- lines of words and what follows them are the lines of a text
 abbrev pub LinesStand : Type 0
-LinesStand = (wss : List (List (List ℕ))) → AllByRecursion (AllByRecursion IsWord) wss → AreLines (map whole wss)
+LinesStand = (wss : List (List (List ℕ))) (ls : List TextLine) → AllByRecursion (AllByRecursion IsWord) wss → AreLines ls → AreLines (map whole wss ++ ls)
+
+-- the text that lines of words make up begins the text from the place on
+pub record PassesText (p : Place) (wss : List (List (List ℕ))) (q : Place) : Type 0 where
+  pub bytes : joined p.rest ≡ flat_map line wss ++ joined q.rest
+  pub offset : q.at ≡ p.at + length (flat_map line wss)
+
+-- lines stand at a place exactly where their text does
+abbrev pub LinesAreText : Type 0
+LinesAreText = (p : Place) (wss : List (List (List ℕ))) (q : Place) → Passes p (map whole wss) q → PassesText p wss q
+
+abbrev pub TextIsLines : Type 0
+TextIsLines = (p : Place) (wss : List (List (List ℕ))) (q : Place) → AllByRecursion (AllByRecursion IsWord) wss → AreLines p.rest → AreLines q.rest → PassesText p wss q → Passes p (map whole wss) q
