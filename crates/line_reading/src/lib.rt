@@ -2,6 +2,8 @@
 //! reading is a function in `specs/Reading.antt`, which the calls here compute.
 #![tactic(auto)]
 
+pub mod laws;
+
 ghost use Rattle.std.specs.Prelude.{◌≡◌, ◌≤◌, ◌<◌, ◌^◌, IfSome, IfOk, None, length, replicate};
 ghost use Rattle.std.specs.Option.{option_map};
 ghost use Rattle.line_reading.specs.Reading.{hex_at, dec_at, word_at, these_at, marked_at, is_over, Reads, line_in, exactly, text_in, first_by, this_by, taken, passed, line_by, ReadsAt};
@@ -48,7 +50,7 @@ pub fn expect_word(words: &mut Words<'_>, text: &[u8]) -> Option<()>
 }
 
 /// The next words, each of which has to be this one, so many times.
-#[tactic(auto, using(crate::proofs::Words::one_more, crate::proofs::Words::one_else, crate::proofs::Words::all_were))]
+#[tactic(auto, using(crate::proofs::Repeated::one_more, crate::proofs::Repeated::one_else, crate::proofs::Repeated::all_were))]
 pub fn expect_words(words: &mut Words<'_>, text: &[u8], count: usize) -> Option<()>
     ensures { option_map (λ u. (u, words.new)) result ≡ these_at (replicate count text.now) words.old }
 {

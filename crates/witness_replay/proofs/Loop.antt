@@ -1,11 +1,16 @@
 -- One line more of a schedule.
-use Rattle.std.proofs.Common.{ℕ, ◌+◌, ◌-◌, ◌≡◌, List, [], ◌∷◌, ◌++◌, refl, ap, sym, ◌∙◌, Option, Some, None, Result, Ok, Err, append_assoc}
+use Rattle.std.proofs.Common.{ℕ, ◌+◌, ◌-◌, ◌≡◌, List, [], ◌∷◌, ◌++◌, refl, ap, sym, subst, ◌∙◌, Option, Some, None, Result, Ok, Err, append_assoc}
 use Rattle.std.proofs.lemmas.List.{append-nil}
+use Rattle.std.proofs.lemmas.Bool.{false≢true}
 use Rattle.sb_base.specs.Lines.{TextLine, Place, size_of}
+use Rattle.std.specs.Result.{IsErr, IsErrAnd}
+use Rattle.line_reading.specs.declared.Malformed.{Malformed}
 use Rattle.line_reading.specs.Reading.{first_by, line_by, taken, passed}
 use Rattle.witness_replay.specs.declared.schedule.Run.{Run}
+use Rattle.witness_replay.specs.declared.schedule.ScheduleFault.{ScheduleFault}
+use Rattle.witness_replay.specs.declared.schedule.ScheduleFault.TheVariants.{Malformed as MalformedAt}
 use Rattle.witness_replay.specs.Spelling.{weight}
-use Rattle.witness_replay.specs.Reading.{part_by, runs_from, with_front, with_part}
+use Rattle.witness_replay.specs.Reading.{part_by, runs_from, with_front, with_part, Refuses, ReadsUnlessMemory}
 
 pub with_front-twice : (xs ys : List Run) (d : Result (List Run × Place) Place) → with_front xs (with_front ys d) ≡ with_front (xs ++ ys) d
 with_front-twice xs ys (Ok x) = ap (λ zs. Ok (zs, x.1)) (sym (append_assoc xs ys x.0))
@@ -72,3 +77,9 @@ front_end before left p q front all e is = sym e ∙ ap (with_front front) (no_m
 pub front_fault : (before : Option Run) (left : ℕ) (p q : Place) (front : List Run) (all : Result (List Run × Place) Place)
     → with_front front (runs_from before left p.at p.rest) ≡ all → line_by (part_by before left) p ≡ Err q → all ≡ Err q
 front_fault before left p q front all e is = sym e ∙ ap (with_front front) (no_line before left p.at p.rest q is)
+
+-- a refused line is what the call answers
+pub refused : {X : Type 0} (view : X → List Run) (r : Result X ScheduleFault) (fault : Malformed) (q : Place) (due : Result (List Run × Place) Place)
+    → IsErrAnd r (λ e. e ≡ MalformedAt fault.0) → IsErr r → due ≡ Err q → fault.0 ≡ q.at → ReadsUnlessMemory view q r due
+refused view (Ok x) fault q due gives err e at = absurd (false≢true err)
+refused view (Err f) fault q due gives err e at = let P : ScheduleFault → Type 0 = λ g. Refuses g q due in subst P (sym gives) (e, at)
