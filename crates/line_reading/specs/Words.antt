@@ -68,3 +68,17 @@ LinesAreText = (p : Place) (wss : List (List (List ℕ))) (q : Place) → Passes
 
 abbrev pub TextIsLines : Type 0
 TextIsLines = (p : Place) (wss : List (List (List ℕ))) (q : Place) → AllByRecursion (AllByRecursion IsWord) wss → AreLines p.rest → AreLines q.rest → PassesText p wss q → Passes p (map whole wss) q
+
+-- all of them
+pub record WordLaws : Type 0 where
+  pub hex_takes : HexTakes
+  pub hex_taken : HexIsTaken
+  pub hex_word : HexIsWord
+  pub dec_takes : DecTakes
+  pub dec_taken : DecIsTaken
+  pub dec_word : DecIsWord
+  pub words_stand : WordsStand
+  pub line_words : LineIsWords
+  pub lines_stand : LinesStand
+  pub lines_text : LinesAreText
+  pub text_lines : TextIsLines

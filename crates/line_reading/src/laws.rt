@@ -1,38 +1,15 @@
-//! Laws of the definitions that the readers of texts share. Each function does nothing; its contract is the law.
+//! Laws of the definitions that the readers of texts share.
 
-ghost use Rattle.line_reading.specs.Words.{HexTakes, HexIsTaken, HexIsWord, DecTakes, DecIsTaken, DecIsWord, WordsStand, LineIsWords, LinesStand, LinesAreText, TextIsLines};
+ghost use Rattle.line_reading.specs.Words.{WordLaws};
 
-/// Numbers in hexadecimal digits, as words.
-pub fn hex_words()
-    ensures takes { HexTakes }
-    ensures taken { HexIsTaken }
-    ensures words { HexIsWord }
+use sb_base::laws::{decimal_spelling, hex_spelling, line_spelling};
+
+/// Numbers, words and lines that are written are read, and what is read was written so. The function does nothing; its
+/// contract is these laws.
+pub fn word_laws()
+    ensures { WordLaws }
 {
-    sb_base::laws::hex_spelling();
-}
-
-/// Decimals, as words.
-pub fn dec_words()
-    ensures takes { DecTakes }
-    ensures taken { DecIsTaken }
-    ensures words { DecIsWord }
-{
-    sb_base::laws::decimal_spelling();
-}
-
-/// Lines of words.
-pub fn lines_of_words()
-    ensures stand { WordsStand }
-    ensures words { LineIsWords }
-    ensures lines { LinesStand }
-{
-    sb_base::laws::line_spelling();
-}
-
-/// Lines of words, and the text that they make up.
-pub fn text_of_words()
-    ensures text { LinesAreText }
-    ensures lines { TextIsLines }
-{
-    sb_base::laws::line_spelling();
+    hex_spelling();
+    decimal_spelling();
+    line_spelling();
 }

@@ -94,3 +94,12 @@ Refuses (Malformed at) after due = (due ≡ Err after) × (at ≡ after.at)
 abbrev pub ReadsUnlessMemory : {X Y : Type 0} → (X → Y) → Place → Result X ScheduleFault → Result (Y × Place) Place → Type 0
 ReadsUnlessMemory view after (Ok x) due = due ≡ Ok (view x, after)
 ReadsUnlessMemory view after (Err fault) due = Refuses fault after due
+
+-- the same with the offset of the refused line alone
+abbrev pub Tells : {Y : Type 0} → ScheduleFault → Result (Y × Place) ℕ → Type 0
+Tells Memory due = ⊤
+Tells (Malformed at) due = due ≡ Err at
+
+abbrev pub TellsUnlessMemory : {X Y : Type 0} → (X → Y) → Place → Result X ScheduleFault → Result (Y × Place) ℕ → Type 0
+TellsUnlessMemory view after (Ok x) due = due ≡ Ok (view x, after)
+TellsUnlessMemory view after (Err fault) due = Tells fault due

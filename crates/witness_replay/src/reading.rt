@@ -1,11 +1,15 @@
 //! The reader of schedules.
 
-ghost use Rattle.std.specs.Prelude.{◌≡◌, ◌≤◌, ◌<◌, None, Ok, IfSome, IfOk, length};
-ghost use Rattle.sb_base.specs.Lines.{words_of};
+ghost use Rattle.std.specs.Prelude.{◌≡◌, ◌≤◌, ◌<◌, ℕ, None, Ok, Err, IfSome, IfOk, length};
+ghost use Rattle.sb_base.specs.Answers.{Answers};
+ghost use Rattle.sb_base.specs.Lines.{Place, words_of};
 ghost use Rattle.line_reading.specs.Reading.{first_by, line_by, ReadsAt};
-ghost use Rattle.witness_replay.specs.Spelling.{weight, follows, most_choices};
-ghost use Rattle.witness_replay.specs.Reading.{go_in, take_in, run_in, admitted_in, fill_in, fill_by, header_by, part_by, runs_from, schedule_at, ReadsUnlessMemory};
+ghost use Rattle.witness_replay.specs.declared.schedule.ScheduleFault.TheVariants as fault;
+ghost use Rattle.witness_replay.specs.Spelling.{Plan, weight, follows, most_choices};
+ghost use Rattle.witness_replay.specs.Exact.{IsReading, IsStuck};
+ghost use Rattle.witness_replay.specs.Reading.{go_in, take_in, run_in, admitted_in, fill_in, fill_by, header_by, part_by, runs_from, schedule_at, schedule_in, ReadsUnlessMemory, TellsUnlessMemory};
 
+use crate::laws::reading_is_exact;
 use crate::schedule::{Run, Schedule, ScheduleFault};
 use line_reading::{Malformed, dec_word, hex_word, is_over, pass_line, peek_text};
 use sb_base::{LineReader, Words};
@@ -208,15 +212,31 @@ fn read_runs(alloc: Global, reader: &mut LineReader<'_>) -> Result<Vec<Run>, Sch
     Ok(runs)
 }
 
+/// Reads the lines of a schedule.
+#[tactic(auto, unfolding(crate::specs::Reading::schedule_at))]
+fn read_schedule(alloc: Global, reader: &mut LineReader<'_>) -> Result<Schedule, ScheduleFault>
+    ensures { ReadsUnlessMemory (λ s. s) reader.new result (schedule_at reader.old) }
+{
+    reading_is_exact();
+    read_header(reader)?;
+    let fill = read_fill(reader)?;
+    let runs = read_runs(alloc, reader)?;
+    Ok(Schedule::new(fill, runs))
+}
+
 impl Schedule {
-    /// Reads a schedule from the reader's place on, behind which the reader then stands.
-    #[tactic(auto, unfolding(crate::specs::Reading::schedule_at))]
+    /// Reads a schedule from the reader's place on, behind whose line `end` the reader then stands.
+    ///
+    /// `Malformed` comes exactly where no schedule's lines stand there, with the offset of the first line at which none can
+    /// go on, or with the text's length where a line is missing. The reader then stands at that line, or at the end.
     pub fn read(alloc: Global, reader: &mut LineReader<'_>) -> Result<Schedule, ScheduleFault>
         ensures exact { ReadsUnlessMemory (λ s. s) reader.new result (schedule_at reader.old) }
+        ensures told { TellsUnlessMemory (λ s. s) reader.new result (schedule_in reader.old) }
+        ensures found { IfOk result (λ s. IsReading reader.old s reader.new) }
+        ensures spelled { (plan : Plan) (q : Place) → IsReading reader.old plan q → Answers (λ s. (s, reader.new)) fault.Memory result (Ok (plan, q)) }
+        ensures stuck { (at : ℕ) → result ≡ Err (fault.Malformed at) → IsStuck reader.old reader.new }
     {
-        read_header(reader)?;
-        let fill = read_fill(reader)?;
-        let runs = read_runs(alloc, reader)?;
-        Ok(Schedule::new(fill, runs))
+        reading_is_exact();
+        read_schedule(alloc, reader)
     }
 }
