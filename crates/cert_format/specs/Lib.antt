@@ -2,4 +2,3 @@ pub mod Certificate
 pub mod Spelling
 pub mod Valid
 pub mod Reading
-pub mod Faults

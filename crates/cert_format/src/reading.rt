@@ -7,6 +7,7 @@ ghost use Rattle.avr_model.specs.State.{SIZE};
 ghost use Rattle.sb_base.specs.Lines.{words_of};
 ghost use Rattle.sb_base.specs.Answers.{Answers};
 ghost use Rattle.line_reading.specs.Reading.{these_at, first_by, line_by, ReadsAt};
+ghost use Rattle.witness_replay.specs.Reading.{schedule_at};
 ghost use Rattle.cert_format.specs.Certificate.{most_nodes, most_cells};
 ghost use Rattle.cert_format.specs.Reading.{numbered_in, root_in, state_words, node_in, bound_by, root_by, count_by, admits, is_above, node_by, ending_by, heading_at, nodes_from, nodes_at, witness_at, end_at, claim_at, certificate_in, Gives, without_place};
 
@@ -18,7 +19,7 @@ use line_reading::{
 };
 use sb_base::{LineReader, Words};
 use std::alloc::Global;
-use witness_replay::Schedule;
+use witness_replay::{Schedule, ScheduleFault};
 
 /// How many words flash has.
 const WORDS: u32 = 16_384;
@@ -53,8 +54,7 @@ fn numbered(text: &[u8], name: &[u8], most: u64) -> Option<u64>
 
 /// The bound of the next line.
 fn next_bound(reader: &LineReader<'_>) -> Option<u16>
-    ensures exact { result ≡ first_by bound_by reader.now.rest }
-    ensures small { IfSome result (λ n. n ≤ 2048) }
+    ensures { result ≡ first_by bound_by reader.now.rest }
 {
     let bound = numbered(peek_text(reader)?, b"bound", SIZE)?;
     Some(bound as u16)
@@ -62,8 +62,7 @@ fn next_bound(reader: &LineReader<'_>) -> Option<u16>
 
 /// The number of nodes of the next line.
 fn next_count(reader: &LineReader<'_>) -> Option<u32>
-    ensures exact { result ≡ first_by count_by reader.now.rest }
-    ensures small { IfSome result (λ n. n ≤ 65536) }
+    ensures { result ≡ first_by count_by reader.now.rest }
 {
     let count = numbered(peek_text(reader)?, b"nodes", MOST_NODES)?;
     Some(count as u32)
@@ -84,8 +83,7 @@ fn expect_root(words: &mut Words<'_>) -> Option<()>
 /// The rank and the need of the root's line.
 #[tactic(auto, unfolding(crate::specs::Reading::root_in))]
 fn root_of(text: &[u8]) -> Option<(u16, u16)>
-    ensures exact { result ≡ root_by text.now }
-    ensures small { IfSome result (λ r. r.1 ≤ 2048) }
+    ensures { result ≡ root_by text.now }
 {
     let mut words = Words::new(text);
     expect_root(&mut words)?;
@@ -101,8 +99,7 @@ fn root_of(text: &[u8]) -> Option<(u16, u16)>
 
 /// The rank and the need of the next line.
 fn next_root(reader: &LineReader<'_>) -> Option<(u16, u16)>
-    ensures exact { result ≡ first_by root_by reader.now.rest }
-    ensures small { IfSome result (λ r. r.1 ≤ 2048) }
+    ensures { result ≡ first_by root_by reader.now.rest }
 {
     root_of(peek_text(reader)?)
 }
@@ -130,8 +127,7 @@ fn expect_enables(words: &mut Words<'_>) -> Option<()>
 /// The node of a line.
 #[tactic(auto, unfolding(crate::specs::Reading::node_in))]
 fn node_of(text: &[u8]) -> Option<NodeKey>
-    ensures exact { result ≡ node_in (words_of text.now) }
-    ensures small { IfSome result (λ n. n.offset ≤ 2048) }
+    ensures { result ≡ node_in (words_of text.now) }
 {
     let mut words = Words::new(text);
     expect_word(&mut words, b"node")?;
@@ -199,8 +195,7 @@ fn next_ending(reader: &LineReader<'_>) -> Option<bool>
 /// Reads the line of the bound.
 #[tactic(auto, unfolding(line_reading::specs::Reading::line_by))]
 fn read_bound(reader: &mut LineReader<'_>) -> Result<u16, Malformed>
-    ensures exact { ReadsAt (λ n. n) reader.new result (line_by bound_by reader.old) }
-    ensures small { IfOk result (λ n. n ≤ 2048) }
+    ensures { ReadsAt (λ n. n) reader.new result (line_by bound_by reader.old) }
 {
     let found = next_bound(reader);
     take_line(reader, found)
@@ -209,8 +204,7 @@ fn read_bound(reader: &mut LineReader<'_>) -> Result<u16, Malformed>
 /// Reads the root's line.
 #[tactic(auto, unfolding(line_reading::specs::Reading::line_by))]
 fn read_root(reader: &mut LineReader<'_>) -> Result<(u16, u16), Malformed>
-    ensures exact { ReadsAt (λ r. r) reader.new result (line_by root_by reader.old) }
-    ensures small { IfOk result (λ r. r.1 ≤ 2048) }
+    ensures { ReadsAt (λ r. r) reader.new result (line_by root_by reader.old) }
 {
     let found = next_root(reader);
     take_line(reader, found)
@@ -219,8 +213,7 @@ fn read_root(reader: &mut LineReader<'_>) -> Result<(u16, u16), Malformed>
 /// Reads the line with the number of nodes.
 #[tactic(auto, unfolding(line_reading::specs::Reading::line_by))]
 fn read_count(reader: &mut LineReader<'_>) -> Result<u32, Malformed>
-    ensures exact { ReadsAt (λ n. n) reader.new result (line_by count_by reader.old) }
-    ensures small { IfOk result (λ n. n ≤ 65536) }
+    ensures { ReadsAt (λ n. n) reader.new result (line_by count_by reader.old) }
 {
     let found = next_count(reader);
     take_line(reader, found)
@@ -252,8 +245,7 @@ fn read_ending(reader: &mut LineReader<'_>) -> Result<bool, Malformed>
 /// Reads the lines up to the number of instances, and gives the bound.
 #[tactic(auto, unfolding(crate::specs::Reading::heading_at))]
 fn read_heading(reader: &mut LineReader<'_>) -> Result<u16, Malformed>
-    ensures exact { ReadsAt (λ n. n) reader.new result (heading_at reader.old) }
-    ensures small { IfOk result (λ n. n ≤ 2048) }
+    ensures { ReadsAt (λ n. n) reader.new result (heading_at reader.old) }
 {
     take_text(reader, b"stackcert 1")?;
     let bound = read_bound(reader)?;
@@ -263,7 +255,6 @@ fn read_heading(reader: &mut LineReader<'_>) -> Result<u16, Malformed>
 }
 
 /// Reads the lines of so many nodes.
-#[tactic(auto, using(crate::proofs::Loop::front_step, crate::proofs::Loop::front_end, crate::proofs::Loop::front_fault))]
 fn read_each(
     alloc: Global,
     reader: &mut LineReader<'_>,
@@ -294,13 +285,24 @@ fn read_nodes(alloc: Global, reader: &mut LineReader<'_>) -> Result<Vec<NodeKey>
     read_each(alloc, reader, count)
 }
 
+/// Reads a schedule.
+fn read_schedule(alloc: Global, reader: &mut LineReader<'_>) -> Result<Schedule, CertFault>
+    ensures { Gives (λ s. s) reader.new result (schedule_at reader.old) }
+{
+    match Schedule::read(alloc, reader) {
+        Ok(schedule) => Ok(schedule),
+        Err(ScheduleFault::Malformed(_)) => Err(CertFault::Malformed),
+        Err(ScheduleFault::Memory) => Err(CertFault::Memory),
+    }
+}
+
 /// Reads whether there is a schedule, and the schedule.
 #[tactic(auto, unfolding(crate::specs::Reading::witness_at))]
 fn read_witness(alloc: Global, reader: &mut LineReader<'_>) -> Result<Option<Schedule>, CertFault>
     ensures { Gives (λ w. w) reader.new result (witness_at reader.old) }
 {
     if read_ending(reader)? {
-        Ok(Some(Schedule::read(alloc, reader)?))
+        Ok(Some(read_schedule(alloc, reader)?))
     } else {
         Ok(None)
     }
@@ -319,7 +321,7 @@ fn read_end(reader: &mut LineReader<'_>) -> Result<(), Malformed>
 }
 
 /// Reads all parts.
-#[tactic(auto, unfolding(crate::specs::Reading::claim_at), using(crate::proofs::Kept::claim_kept))]
+#[tactic(auto, unfolding(crate::specs::Reading::claim_at))]
 fn read_claim(alloc: Global, reader: &mut LineReader<'_>) -> Result<Certificate, CertFault>
     ensures { Gives (λ c. c) reader.new result (claim_at reader.old) }
 {

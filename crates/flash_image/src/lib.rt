@@ -2,5 +2,10 @@
 #![tactic(auto)]
 
 mod image;
+mod labels;
 
 pub use image::{Flash, RawFault};
+pub use labels::Names;
+
+#[cfg(test)]
+mod tests;
