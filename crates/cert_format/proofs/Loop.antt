@@ -1,10 +1,13 @@
 -- One node more.
-use Rattle.std.proofs.Common.{ℕ, ◌+◌, ◌-◌, ◌<◌, ◌≡◌, List, [], ◌∷◌, ◌++◌, refl, ap, sym, ◌∙◌, arith, suc, Option, Some, None, Result, Ok, Err, append_assoc}
+use Rattle.std.proofs.Common.{ℕ, ◌+◌, ◌-◌, ◌<◌, ◌≡◌, List, [], ◌∷◌, ◌++◌, refl, ap, sym, ◌∙◌, arith, suc, Option, Some, None, Result, Ok, Err, append_assoc, subst}
+use Rattle.std.specs.Prelude.{IsErr, IsErrAnd, false≢true}
 use Rattle.std.proofs.lemmas.List.{append-nil}
 use Rattle.abs_step.specs.declared.key.NodeKey.{NodeKey}
 use Rattle.sb_base.specs.Lines.{Place}
 use Rattle.line_reading.specs.Reading.{line_by, then_at}
-use Rattle.cert_format.specs.Reading.{node_by, nodes_from, with_node}
+use Rattle.cert_format.specs.declared.certificate.CertFault.{CertFault}
+use Rattle.cert_format.specs.declared.certificate.CertFault.TheVariants.{Malformed}
+use Rattle.cert_format.specs.Reading.{node_by, nodes_from, with_node, Gives, Refuses}
 
 -- nodes that were read before
 abbrev pub with_front : List NodeKey → Result (List NodeKey × Place) Place → Result (List NodeKey × Place) Place
@@ -48,3 +51,8 @@ pub front_end : (before : Option NodeKey) (left count i : ℕ) (p : Place) (fron
 front_end before left count i p front all h e =
     let none : count - i ≡ 0 = omega arith in
     sym e ∙ ap (λ (k : ℕ). with_front front (nodes_from before left k p)) none ∙ ap (with_front front) (none_left before left p) ∙ ap (λ (ns : List NodeKey). Ok (ns, p)) (append-nil front)
+
+-- a refused line is what the call answers
+pub refused : {X Y : Type 0} (view : X → Y) (r : Result X CertFault) (q : Place) (due : Result (Y × Place) Place) → IsErrAnd r (λ e. e ≡ Malformed) → IsErr r → due ≡ Err q → Gives view q r due
+refused view (Ok x) q due gives err e = absurd (false≢true err)
+refused view (Err f) q due gives err e = let P : CertFault → Type 0 = λ g. Refuses g due in subst P (sym gives) (rw e refl)
