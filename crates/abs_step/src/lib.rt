@@ -4,5 +4,7 @@
 
 pub mod key;
 pub mod laws;
+mod step;
 
 pub use key::{NodeFault, NodeKey};
+pub use step::local;

@@ -1,5 +1,5 @@
 -- One text for each number.
-use Rattle.std.proofs.Common.{ℕ, ◌+◌, ◌-◌, ◌*◌, ◌/◌, ◌%◌, ◌^◌, ◌<◌, ◌≤◌, ◌≡◌, ◌==◌, List, [], ◌∷◌, ◌++◌, length, length-append, append_assoc, append-nil, Bool, true, false, not, refl, ap, sym, ◌∙◌, arith, suc, zero, get_or, Err, Ok, Result, Option, Some, None, cond, ◌⊎◌, inl, inr, nat_lt, nat_le, lit<, add-one, subst}
+use Rattle.std.proofs.Common.{ℕ, ◌+◌, ◌*◌, ◌/◌, ◌%◌, ◌^◌, ◌<◌, ◌≤◌, ◌≡◌, ◌==◌, List, [], ◌∷◌, ◌++◌, length, length-append, append_assoc, append-nil, Bool, true, false, not, refl, ap, sym, ◌∙◌, arith, suc, zero, get_or, Err, Ok, Result, Option, Some, None, cond, ◌⊎◌, inl, inr, nat_lt, lit<, add-one, subst}
 use Rattle.std.proofs.Math.Nat.{pow-suc}
 use Rattle.std.proofs.lemmas.Bool.Decides.{nat_tests}
 use Rattle.std.proofs.lemmas.Str.Parse.{IsNumeralModel, numerals_by_fold}
@@ -169,8 +169,8 @@ dec_is_spelled w n most room e = elim (chosen (length w == 0) _ _ (Ok n) e) [
   | inr h ↦ elim (chosen (has_extra_zero w) _ _ (Ok n) h.1) [
     | inl g ↦ absurd (not_ok (BadDigit 0) n g.1)
     | inr g ↦
-      let r = unless_bad_ok (position (λ b. not (is_dec b)) w) (capped (number_from 10 0 w) most) n g.1 in
-      let c = capped_ok (number_from 10 0 w) n most r.1 in
-      canonical w n most room h.0 g.0 (none_fails is_dec w r.0) c.0 c.1
+        let r = unless_bad_ok (position (λ b. not (is_dec b)) w) (capped (number_from 10 0 w) most) n g.1 in
+        let c = capped_ok (number_from 10 0 w) n most r.1 in
+        canonical w n most room h.0 g.0 (none_fails is_dec w r.0) c.0 c.1
   ]
 ]

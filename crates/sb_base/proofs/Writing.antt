@@ -1,11 +1,11 @@
 -- Words and lines, written one after the other.
-use Rattle.std.proofs.Common.{ℕ, ◌+◌, ◌-◌, ◌/◌, ◌%◌, ◌<◌, ◌≤◌, ◌≡◌, List, [], ◌∷◌, ◌++◌, length, take, drop, set, append_assoc, Bool, true, false, refl, ap, sym, ◌∙◌, arith, suc, append-nil}
+use Rattle.std.proofs.Common.{ℕ, ◌+◌, ◌-◌, ◌/◌, ◌%◌, ◌<◌, ◌≤◌, ◌≡◌, List, [], ◌∷◌, ◌++◌, length, take, drop, set, append_assoc, length-append, Bool, true, false, refl, ap, sym, ◌∙◌, arith, suc, append-nil}
 use Rattle.std.proofs.lemmas.Bool.{false≢true}
 use Rattle.std.proofs.lemmas.List.{drop-set}
 use Rattle.std.specs.List.{AllByRecursion}
 use Rattle.sb_base.specs.Digits.{hex_digit, hex_digits}
-use Rattle.sb_base.specs.Lines.{TextLine, lines_of, joined, AreLines, IsEnded, words_of, spaced, line, Lacks}
-use Rattle.sb_base.specs.Writing.{Written, with_word, with_words, with_end}
+use Rattle.sb_base.specs.Lines.{TextLine, lines_of, joined, AreLines, IsEnded, size_of, bytes_of, words_of, spaced, line, Lacks}
+use Rattle.sb_base.specs.Writing.{Written, with_words, with_end}
 use Rattle.sb_base.proofs.Spelling.{hex_digits_none, hex_digits_more}
 use Rattle.sb_base.proofs.Splitting.{lines_at, lines_none_of, words_at, words_none}
 
@@ -44,6 +44,13 @@ lines_read (l ∷ ls) h = lines_first l.text l.whole ls h.0 (ended l ls h.1) (li
 
 regroup : (a b c : List ℕ) → ((a ++ b) ++ 32 ∷ []) ++ (c ++ 10 ∷ []) ≡ a ++ ((b ++ 32 ∷ c) ++ 10 ∷ [])
 regroup a b c = simp append_assoc
+
+size_by : (text : List ℕ) (whole : Bool) → size_of (record { text = text; whole = whole }) ≡ length (bytes_of (record { text = text; whole = whole }))
+size_by text true = sym (length-append text (10 ∷ []))
+size_by text false = refl
+
+pub sizes_are_lengths : (l : TextLine) → size_of l ≡ length (bytes_of l)
+sizes_are_lengths l = size_by l.text l.whole
 
 begun_words : (bytes w : List ℕ) (ws : List (List ℕ)) → with_end (with_words (record { bytes = bytes ++ w; begun = true }) ws) ≡ record { bytes = bytes ++ (spaced (w ∷ ws) ++ 10 ∷ []); begun = false }
 begun_words bytes w [] = rw (append_assoc bytes w (10 ∷ [])) refl

@@ -5,3 +5,4 @@ pub mod Digits
 pub mod Lines
 pub mod Writing
 pub mod Spelling
+pub mod Examples

@@ -1,8 +1,8 @@
 -- One text for each number, and one list of lines and of words for each text.
-use Rattle.std.specs.Prelude.{◌≡◌, ◌≤◌, ◌<◌, ◌^◌, ℕ, List, [], ◌∷◌, length, decimal, Ok}
+use Rattle.std.specs.Prelude.{◌≡◌, ◌≤◌, ◌<◌, ◌^◌, ℕ, List, ◌∷◌, length, decimal, Ok}
 use Rattle.std.specs.List.{AllByRecursion}
 use Rattle.sb_base.specs.Digits.{hex_answer, dec_answer, hex_digits}
-use Rattle.sb_base.specs.Lines.{TextLine, lines_of, joined, AreLines, words_of, spaced, Lacks}
+use Rattle.sb_base.specs.Lines.{TextLine, lines_of, joined, AreLines, size_of, bytes_of, words_of, spaced, Lacks}
 
 -- the digits that are written of a number are read as that number
 abbrev pub HexIsRead : Type 0
@@ -21,6 +21,10 @@ DecimalIsSpelled = (text : List ℕ) (n most : ℕ) → most < 2 ^ 64 → dec_an
 -- lines that make up a text are read from it
 abbrev pub LinesAreRead : Type 0
 LinesAreRead = (ls : List TextLine) → AreLines ls → lines_of (joined ls) ≡ ls
+
+-- the size by which a reader's offset moves is the number of the line's bytes
+abbrev pub SizesAreLengths : Type 0
+SizesAreLengths = (l : TextLine) → size_of l ≡ length (bytes_of l)
 
 -- words without a space in them, at least one, are read from the line that they make up
 abbrev pub WordsAreRead : Type 0

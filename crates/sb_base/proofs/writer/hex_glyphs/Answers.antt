@@ -1,4 +1,4 @@
-use Rattle.std.proofs.Common.{arith, ◌-◌, length, length-set, ◌∙◌}
+use Rattle.std.proofs.Common.{arith, ◌-◌, length-set}
 use Rattle.sb_base.proofs.Writing.{digit_next, digits_all}
 use Rattle.sb_base.proofs.writer.hex_glyphs.Goals as goal
 

@@ -1,0 +1,6 @@
+use Rattle.std.proofs.Common.{◌∙◌}
+use Rattle.avr_alu.proofs.BitTests.{whole_bit}
+use Rattle.avr_alu.proofs.sreg.Sreg.half_carry.Goals as goal
+
+pub returns : goal.returns
+returns c = c.contains.ensures tt ∙ whole_bit c.args.self.0 5

@@ -1,0 +1,28 @@
+//! The words of a program, whose addresses count modulo their number.
+
+ghost use Rattle.std.specs.Prelude.{◌≡◌, ◌<◌, ◌+◌, length};
+ghost use Rattle.avr_model.specs.Image.{word_at};
+ghost use Rattle.avr_model.specs.Sites.{instruction_at};
+
+use crate::decoding::decode;
+use avr_model::instruction::Instr;
+
+/// How many words flash has.
+pub const WORDS: usize = 16384;
+
+/// The word at a word address.
+pub fn word(words: &[u16], at: usize) -> u16
+    requires { length words.now ≡ 16384 }
+    ensures { result ≡ word_at words.now at }
+{
+    words[at % WORDS]
+}
+
+/// The instruction at a word address; none where the word is undefined.
+pub fn instruction(words: &[u16], at: usize) -> Option<Instr>
+    requires length { length words.now ≡ 16384 }
+    requires room { at < 131072 }
+    ensures { result ≡ instruction_at words.now at }
+{
+    decode(word(words, at), word(words, at + 1))
+}

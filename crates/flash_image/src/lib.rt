@@ -1,0 +1,11 @@
+//! Flash, which a raw image or placed segments fill, and the names of words.
+#![tactic(auto)]
+
+mod image;
+mod labels;
+
+pub use image::{Flash, RawFault};
+pub use labels::Names;
+
+#[cfg(test)]
+mod tests;

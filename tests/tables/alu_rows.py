@@ -1,0 +1,169 @@
+#!/usr/bin/env python3
+"""The rows of crates/avr_alu/src/tests/rows.rt: results and flags at the edges of each operand.
+
+Each flag is the Boolean formula that the Instruction Set Manual (DS40002198) prints at the instruction, over the bits
+of the operands and the result. Nothing here is taken from the crate. Run: python3 alu_rows.py > rows.rt
+"""
+
+EDGES = [0x00, 0x01, 0x7F, 0x80, 0x81, 0xFE, 0xFF]
+WORD_EDGES = [0x0000, 0x0001, 0x00FF, 0x0100, 0x7FC1, 0x7FFF, 0x8000, 0x803E, 0xFFC0, 0xFFC1, 0xFFFF]
+C, Z, N, V, S, H = 0, 1, 2, 3, 4, 5
+
+
+def bit(x, i):
+    return x >> i & 1
+
+
+def inv(x):
+    return 1 - x
+
+
+def put(s, **flags):
+    """The register s with the named flags, and with S = N xor V where N and V are named."""
+    if "N" in flags:
+        flags["S"] = flags["N"] ^ flags["V"]
+    for name, value in flags.items():
+        i = {"C": C, "Z": Z, "N": N, "V": V, "S": S, "H": H}[name]
+        s = s & ~(1 << i) | value << i
+    return s
+
+
+def is_zero(r, width=8):
+    z = 1
+    for i in range(width):
+        z &= inv(bit(r, i))
+    return z
+
+
+def add(d, r, c, s):  # ADC
+    x = (d + r + c) & 0xFF
+
+    def carry(i):
+        return bit(d, i) & bit(r, i) | bit(r, i) & inv(bit(x, i)) | inv(bit(x, i)) & bit(d, i)
+
+    v = bit(d, 7) & bit(r, 7) & inv(bit(x, 7)) | inv(bit(d, 7)) & inv(bit(r, 7)) & bit(x, 7)
+    return x, put(s, H=carry(3), V=v, N=bit(x, 7), Z=is_zero(x), C=carry(7))
+
+
+def sub(d, r, c, keep, s):  # SUB, and SBC where keep
+    x = (d - r - c) & 0xFF
+
+    def borrow(i):
+        return inv(bit(d, i)) & bit(r, i) | bit(r, i) & bit(x, i) | bit(x, i) & inv(bit(d, i))
+
+    v = bit(d, 7) & inv(bit(r, 7)) & inv(bit(x, 7)) | inv(bit(d, 7)) & bit(r, 7) & bit(x, 7)
+    z = is_zero(x) & bit(s, Z) if keep else is_zero(x)
+    return x, put(s, H=borrow(3), V=v, N=bit(x, 7), Z=z, C=borrow(7))
+
+
+def logic(name, d, r, s):
+    x = {"And": d & r, "Or": d | r, "Eor": d ^ r}[name]
+    return x, put(s, V=0, N=bit(x, 7), Z=is_zero(x))
+
+
+def com(d, s):
+    x = 0xFF - d
+    return x, put(s, V=0, N=bit(x, 7), Z=is_zero(x), C=1)
+
+
+def inc(d, s):
+    x = (d + 1) & 0xFF
+    v = bit(x, 7)
+    for i in range(7):
+        v &= inv(bit(x, i))
+    return x, put(s, V=v, N=bit(x, 7), Z=is_zero(x))
+
+
+def dec(d, s):
+    x = (d - 1) & 0xFF
+    v = inv(bit(x, 7))
+    for i in range(7):
+        v &= bit(x, i)
+    return x, put(s, V=v, N=bit(x, 7), Z=is_zero(x))
+
+
+def shift(name, d, s):
+    top = {"Lsr": 0, "Ror": bit(s, C), "Asr": bit(d, 7)}[name]
+    x = d >> 1 | top << 7
+    c = bit(d, 0)
+    n = bit(x, 7)
+    return x, put(s, C=c, N=n, V=n ^ c, Z=is_zero(x))
+
+
+def signed(x):
+    return x - 256 if bit(x, 7) else x
+
+
+def mul(name, d, r, s):
+    left = d if name in ("Mul", "Fmul") else signed(d)
+    right = signed(r) if name in ("Muls", "Fmuls") else r
+    x = left * right & 0xFFFF
+    c = bit(x, 15)
+    if name.startswith("F"):
+        x = x << 1 & 0xFFFF
+    return x, put(s, C=c, Z=is_zero(x, 16))
+
+
+def wide(up, d, k, s):
+    if up:  # ADIW
+        x = (d + k) & 0xFFFF
+        v = inv(bit(d, 15)) & bit(x, 15)
+        c = inv(bit(x, 15)) & bit(d, 15)
+    else:  # SBIW
+        x = (d - k) & 0xFFFF
+        v = bit(d, 15) & inv(bit(x, 15))
+        c = bit(x, 15) & inv(bit(d, 15))
+    return x, put(s, V=v, N=bit(x, 15), Z=is_zero(x, 16), C=c)
+
+
+def show(v):
+    if isinstance(v, bool):
+        return "true" if v else "false"
+    if isinstance(v, str):
+        return v
+    return "0x%04X" % v if v > 0xFF else "0x%02X" % v
+
+
+def table(name, doc, kind, rows):
+    print("\n/// %s" % doc)
+    print("pub static %s: [%s; %d] = [" % (name, kind, len(rows)))
+    for row in rows:
+        print("    (%s)," % ", ".join(show(v) for v in row))
+    print("];")
+
+
+def both(f, *args):
+    """The result, and the register after it from no flag and from every flag."""
+    (x, clear), (y, full) = f(*args, 0x00), f(*args, 0xFF)
+    assert x == y
+    return x, clear, full
+
+
+PAIRS = [(d, r) for d in EDGES for r in EDGES]
+
+print("""//! Results and flags at the edges of each operand. These rows were computed by `tests/tables/alu_rows.py` from the
+//! Boolean formulas that the Instruction Set Manual (DS40002198) prints at each instruction, and not by this crate.
+//! Operands come first, then the result, SREG after the operation from 0x00, and SREG after it from 0xFF.""")
+
+table("SUMS", "ADC: operands and carry.", "(u8, u8, bool, u8, u8, u8)",
+      [(d, r, bool(c), *both(add, d, r, c)) for d, r in PAIRS for c in (0, 1)])
+table("DIFFERENCES", "SUB with a borrow: operands and borrow.", "(u8, u8, bool, u8, u8, u8)",
+      [(d, r, bool(c), *both(sub, d, r, c, False)) for d, r in PAIRS for c in (0, 1)])
+table("DIFFERENCES_THAT_KEEP_ZERO", "SBC: operands and borrow.", "(u8, u8, bool, u8, u8, u8)",
+      [(d, r, bool(c), *both(sub, d, r, c, True)) for d, r in PAIRS for c in (0, 1)])
+for n, doc in (("And", "AND"), ("Or", "OR"), ("Eor", "EOR")):
+    table(doc + "S", doc + ": operands.", "(u8, u8, u8, u8, u8)",
+          [(d, r, *both(logic, n, d, r)) for d, r in PAIRS if r >= d])
+table("COMPLEMENTS", "COM: operand.", "(u8, u8, u8, u8)", [(d, *both(com, d)) for d in EDGES])
+table("INCREMENTS", "INC: operand.", "(u8, u8, u8, u8)", [(d, *both(inc, d)) for d in EDGES])
+table("DECREMENTS", "DEC: operand.", "(u8, u8, u8, u8)", [(d, *both(dec, d)) for d in EDGES])
+table("SHIFTS", "The operand and SREG before; then for LSR, ROR and ASR the result and SREG after.",
+      "(u8, u8, u8, u8, u8, u8, u8, u8)",
+      [(d, s, *shift("Lsr", d, s), *shift("Ror", d, s), *shift("Asr", d, s)) for d in EDGES for s in (0x00, 0xFF)])
+for n in ("Mul", "Muls", "Mulsu", "Fmul", "Fmuls", "Fmulsu"):
+    table(n.upper() + "_ROWS", n.upper() + ": operands.", "(u8, u8, u16, u8, u8)",
+          [(d, r, *both(mul, n, d, r)) for d, r in PAIRS if r >= d or "su" in n])
+table("RAISED_WORDS", "ADIW: word and what is added.", "(u16, u8, u16, u8, u8)",
+      [(d, k, *both(wide, True, d, k)) for d in WORD_EDGES for k in (0, 1, 63)])
+table("LOWERED_WORDS", "SBIW: word and what is taken.", "(u16, u8, u16, u8, u8)",
+      [(d, k, *both(wide, False, d, k)) for d in WORD_EDGES for k in (0, 1, 63)])
