@@ -1,6 +1,7 @@
 -- One node more.
 use Rattle.std.proofs.Common.{ℕ, ◌+◌, ◌-◌, ◌<◌, ◌≡◌, List, [], ◌∷◌, ◌++◌, refl, ap, sym, ◌∙◌, arith, suc, Option, Some, None, Result, Ok, Err, append_assoc, subst}
-use Rattle.std.specs.Prelude.{IsErr, IsErrAnd, false≢true}
+use Rattle.std.specs.Result.{IsErr, IsErrAnd}
+use Rattle.std.proofs.lemmas.Bool.{false≢true}
 use Rattle.std.proofs.lemmas.List.{append-nil}
 use Rattle.abs_step.specs.declared.key.NodeKey.{NodeKey}
 use Rattle.sb_base.specs.Lines.{Place}

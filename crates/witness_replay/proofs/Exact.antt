@@ -9,9 +9,11 @@ use Rattle.line_reading.specs.Reading.{hex_at, is_over, then_at, first_by, line_
 use Rattle.line_reading.specs.Words.{IsWord, whole, sizes, Passes, WordLaws}
 use Rattle.witness_replay.specs.declared.schedule.Run.{Run}
 use Rattle.witness_replay.specs.declared.schedule.Run.TheVariants.{Go, Take}
+use Rattle.witness_replay.specs.declared.schedule.ScheduleFault.{ScheduleFault}
+use Rattle.witness_replay.specs.declared.schedule.ScheduleFault.TheVariants.{Malformed, Memory}
 use Rattle.witness_replay.specs.Spelling.{Plan, weight, most_choices, IsCounted, follows, AreRuns, IsSchedule, run_words, schedule_lines, text_of}
-use Rattle.witness_replay.specs.Reading.{fill_in, fill_by, header_by, runs_from, schedule_at}
-use Rattle.witness_replay.specs.Exact.{IsReading, BeginSchedule, NoneGoesOn, IsStuck, ReadIsSpelled, SpelledIsRead, RefusedIsStuck, IsTextReading, ReadingIsText, TextIsReading, OneText}
+use Rattle.witness_replay.specs.Reading.{fill_in, fill_by, header_by, runs_from, schedule_at, refused_at, schedule_in, ReadsUnlessMemory, TellsUnlessMemory}
+use Rattle.witness_replay.specs.Exact.{IsReading, BeginSchedule, NoneGoesOn, IsStuck, ReadIsSpelled, SpelledIsRead, RefusedIsStuck, IsTextReading, ReadingIsText, TextIsReading, OneText, Finds}
 use Rattle.witness_replay.proofs.Tests.{chosen, some_is, none_some, ok_is, err_ok, err_is, bind_some, no_words, TakesLine, line_takes, line_refuses, line_again, passes_none, passes_more, passes_split, nil_cons, cons_is, then_ok, then_err, then_again}
 use Rattle.witness_replay.proofs.Runs.{run_lines, RunsRead, runs_take, RunsStuck, NoRun, last_of, left_after, runs_stuck, runs_again, are_words, same_run}
 
@@ -238,3 +240,21 @@ one_text k a b fa fb e =
     let rb = text_is_reading k p b q here tt (record { fits = fb; bytes = t.bytes ∙ ap (λ (xs : List ℕ). xs ++ []) e; offset = t.offset ∙ ap (λ (xs : List ℕ). 0 + length xs) e }) in
     let pair = ok_is {A = Plan × Place} (a, q) (b, q) (sym (spelled_is_read k p a q ra) ∙ spelled_is_read k p b q rb) in
     ap (λ (z : Plan × Place). z.0) pair
+
+-- ---- the call that reads
+
+pub runs_are_fit : ReadIsSpelled → (p h f q : Place) (u : Unit {0}) (b : ℕ) (rs : List Run) → line_by header_by p ≡ Ok (u, h) → line_by fill_by h ≡ Ok (b, f) → runs_from None most_choices f.at f.rest ≡ Ok (rs, q) → AreRuns None most_choices rs
+unfolding schedule_at
+runs_are_fit law p h f q u b rs top fill runs = (law p (record { fill = b; runs = rs }) q (rw (top, fill, runs) refl)).fits.runs_fit
+
+pub tells : (r : Result Plan ScheduleFault) (p after : Place) → ReadsUnlessMemory (λ s. s) after r (schedule_at p) → TellsUnlessMemory (λ s. s) after r (schedule_in p)
+tells (Ok s) p after e = ap refused_at e
+tells (Err Memory) p after e = tt
+tells (Err (Malformed at)) p after e = ap refused_at e.0 ∙ ap (λ (x : ℕ). Err x) (sym e.1)
+
+pub finds : SpelledIsRead → (r : Result Plan ScheduleFault) (p after : Place) (plan : Plan) (q : Place) → ReadsUnlessMemory (λ s. s) after r (schedule_at p) → IsReading p plan q → Finds r after plan q
+finds law (Ok s) p after plan q e h =
+    let pair = ok_is {A = Plan × Place} (s, after) (plan, q) (sym e ∙ law p plan q h) in
+    (ap (λ (z : Plan × Place). z.0) pair, ap (λ (z : Plan × Place). z.1) pair)
+finds law (Err Memory) p after plan q e h = tt
+finds law (Err (Malformed at)) p after plan q e h = err_ok {A = Plan × Place} after (plan, q) (sym e.0 ∙ law p plan q h)

@@ -2,6 +2,8 @@
 use Rattle.std.specs.Prelude.{◌≡◌, ◌<◌, ◌+◌, ◌++◌, ℕ, List, [], ◌∷◌, map, length, Result, Ok, Err, ⊤}
 use Rattle.sb_base.specs.Lines.{TextLine, Place, AreLines, joined}
 use Rattle.line_reading.specs.Words.{whole, Passes}
+use Rattle.witness_replay.specs.declared.schedule.ScheduleFault.{ScheduleFault}
+use Rattle.witness_replay.specs.declared.schedule.ScheduleFault.TheVariants.{Malformed, Memory}
 use Rattle.witness_replay.specs.Spelling.{Plan, IsSchedule, schedule_lines, text_of}
 use Rattle.witness_replay.specs.Reading.{schedule_at}
 
@@ -30,6 +32,12 @@ pub record IsStuck (p q : Place) : Type 0 where
   pub next : List (List ℕ)
   pub unfinished : BeginSchedule (before ++ next ∷ [])
   pub stop : NoneGoesOn before q.rest
+
+-- what was answered, and where the reader was left, is this reading, unless memory was wanting
+abbrev pub Finds : Result Plan ScheduleFault → Place → Plan → Place → Type 0
+Finds (Ok s) after plan q = (s ≡ plan) × (after ≡ q)
+Finds (Err Memory) after plan q = ⊤
+Finds (Err (Malformed at)) after plan q = ⊥
 
 -- ---- laws
 

@@ -1,12 +1,11 @@
 //! The reader of schedules.
 
-ghost use Rattle.std.specs.Prelude.{◌≡◌, ◌≤◌, ◌<◌, ℕ, None, Ok, Err, IfSome, IfOk, length};
-ghost use Rattle.sb_base.specs.Answers.{Answers};
+ghost use Rattle.std.specs.Prelude.{◌≡◌, ◌≤◌, ◌<◌, ℕ, None, Err, IfSome, IfOk, length};
 ghost use Rattle.sb_base.specs.Lines.{Place, words_of};
 ghost use Rattle.line_reading.specs.Reading.{first_by, line_by, ReadsAt};
 ghost use Rattle.witness_replay.specs.declared.schedule.ScheduleFault.TheVariants as fault;
 ghost use Rattle.witness_replay.specs.Spelling.{Plan, weight, follows, most_choices};
-ghost use Rattle.witness_replay.specs.Exact.{IsReading, IsStuck};
+ghost use Rattle.witness_replay.specs.Exact.{IsReading, IsStuck, Finds};
 ghost use Rattle.witness_replay.specs.Reading.{go_in, take_in, run_in, admitted_in, fill_in, fill_by, header_by, part_by, runs_from, schedule_at, schedule_in, ReadsUnlessMemory, TellsUnlessMemory};
 
 use crate::laws::reading_is_exact;
@@ -233,7 +232,7 @@ impl Schedule {
         ensures exact { ReadsUnlessMemory (λ s. s) reader.new result (schedule_at reader.old) }
         ensures told { TellsUnlessMemory (λ s. s) reader.new result (schedule_in reader.old) }
         ensures found { IfOk result (λ s. IsReading reader.old s reader.new) }
-        ensures spelled { (plan : Plan) (q : Place) → IsReading reader.old plan q → Answers (λ s. (s, reader.new)) fault.Memory result (Ok (plan, q)) }
+        ensures spelled { (plan : Plan) (q : Place) → IsReading reader.old plan q → Finds result reader.new plan q }
         ensures stuck { (at : ℕ) → result ≡ Err (fault.Malformed at) → IsStuck reader.old reader.new }
     {
         reading_is_exact();
