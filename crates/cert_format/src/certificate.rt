@@ -44,16 +44,25 @@ pub enum CertFault {
 }
 
 impl From<Malformed> for CertFault {
-    fn from(_fault: Malformed) -> CertFault
-        ensures { result ≡ CertFault.Malformed }
-    {
+    ghost use Rattle.std.specs.Prelude.{◌≡◌};
+    ghost use Rattle.cert_format.specs.declared.certificate.CertFault.TheVariants.{Malformed as MalformedText};
+
+    ghost from_gives = { λ fault e. e ≡ MalformedText };
+
+    fn from(_fault: Malformed) -> CertFault {
         CertFault::Malformed
     }
 }
 
 impl Certificate {
     /// The certificate of these parts, which keep to the ranges, the order and the limits.
-    pub fn build(bound: u16, rank: u16, need: u16, nodes: Vec<NodeKey>, witness: Option<Schedule>) -> Certificate
+    pub fn build(
+        bound: u16,
+        rank: u16,
+        need: u16,
+        nodes: Vec<NodeKey>,
+        witness: Option<Schedule>,
+    ) -> Certificate
         requires { IsClaim (record { bound = bound; rank = rank; need = need; nodes = nodes.items; witness = witness }) }
         ensures { result ≡ record { bound = bound; rank = rank; need = need; nodes = nodes.items; witness = witness } }
     {
@@ -71,6 +80,13 @@ impl Certificate {
         ensures { result ≡ self.now.bound }
     {
         self.bound
+    }
+
+    /// The root's rank.
+    pub fn rank(&self) -> u16
+        ensures { result ≡ self.now.rank }
+    {
+        self.rank
     }
 
     /// How many bytes the root needs, at most 2,048.
