@@ -16,7 +16,7 @@ use Rattle.cert_format.specs.Certificate.{IsKey, most_nodes}
 use Rattle.cert_format.specs.Spelling.{unknown, node_words, root_words}
 use Rattle.cert_format.specs.Reading.{numbered_in, root_in, state_words, node_in, is_above, admits}
 
-same_text : (t : List ℕ) → bytes_eq t t ≡ true
+pub same_text : (t : List ℕ) → bytes_eq t t ≡ true
 same_text t = (bytes_eq-Decides t t).1 refl
 
 -- ---- words that have to stand there
