@@ -2,7 +2,12 @@
 #![tactic(auto)]
 
 mod conditions;
-mod judge;
+mod judging;
+pub mod laws;
 pub mod verdict;
 
+pub use judging::judge;
 pub use verdict::{Reason, Verdict};
+
+#[cfg(test)]
+mod tests;

@@ -14,6 +14,9 @@ pub record Claim : Type 0 where
   pub nodes : List NodeKey
   pub witness : Option Plan
 
+abbrev pub claim_of : ℕ → ℕ → ℕ → List NodeKey → Option Plan → Claim
+claim_of bound rank need nodes witness = record { bound = bound; rank = rank; need = need; nodes = nodes; witness = witness }
+
 -- the limits: how many nodes, and how many cells, where a node takes one and one more for each byte of its offset
 abbrev pub most_nodes : ℕ
 most_nodes = 65536

@@ -2,7 +2,7 @@
 
 ghost use Rattle.std.specs.Prelude.{◌≡◌, None, Some};
 ghost use Rattle.std.specs.Option.{option_copied};
-ghost use Rattle.cert_format.specs.Certificate.{IsClaim};
+ghost use Rattle.cert_format.specs.Certificate.{IsClaim, claim_of};
 
 use abs_step::NodeKey;
 use std::marker::Model;
@@ -21,20 +21,27 @@ pub struct Certificate {
 }
 
 impl Model for Certificate {
-    ghost use Rattle.cert_format.specs.Certificate.{Claim, IsClaim};
+    ghost use Rattle.cert_format.specs.Certificate.{Claim, IsClaim, claim_of};
 
     ghost Value = { Claim };
 
-    ghost view = { λ c. record { bound = c.bound; rank = c.rank; need = c.need; nodes = c.nodes.items; witness = c.witness } };
+    ghost view = { λ c. claim_of c.bound c.rank c.need c.nodes.items c.witness };
 
-    ghost invariant = { λ c. IsClaim (record { bound = c.bound; rank = c.rank; need = c.need; nodes = c.nodes.items; witness = c.witness }) };
+    ghost invariant = { λ c. IsClaim (claim_of c.bound c.rank c.need c.nodes.items c.witness) };
 }
 
 impl Certificate {
-    /// The certificate of these parts, which keep to the ranges, the order and the limits.
-    pub fn build(bound: u16, rank: u16, need: u16, nodes: Vec<NodeKey>, witness: Option<Schedule>) -> Certificate
-        requires { IsClaim (record { bound = bound; rank = rank; need = need; nodes = nodes.items; witness = witness }) }
-        ensures { result ≡ record { bound = bound; rank = rank; need = need; nodes = nodes.items; witness = witness } }
+    /// The certificate of these parts: a bound and a need of at most 2,048 bytes each, a rank of at most 65,535, and nodes
+    /// that ascend strictly and keep the limits.
+    pub fn build(
+        bound: u16,
+        rank: u16,
+        need: u16,
+        nodes: Vec<NodeKey>,
+        witness: Option<Schedule>,
+    ) -> Certificate
+        requires { IsClaim (claim_of bound rank need nodes.items witness) }
+        ensures { result ≡ claim_of bound rank need nodes.items witness }
     {
         Certificate {
             bound,
@@ -52,6 +59,13 @@ impl Certificate {
         self.bound
     }
 
+    /// The root's rank, at most 65,535.
+    pub fn rank(&self) -> u16
+        ensures { result ≡ self.now.rank }
+    {
+        self.rank
+    }
+
     /// How many bytes the root needs, at most 2,048.
     pub fn need(&self) -> u16
         ensures { result ≡ self.now.need }
@@ -59,7 +73,7 @@ impl Certificate {
         self.need
     }
 
-    /// The nodes, strictly ascending; with the other numbers they keep what every certificate keeps.
+    /// The nodes, strictly ascending.
     pub fn nodes(&self) -> &[NodeKey]
         ensures value { result.now ≡ self.now.nodes }
         ensures kept { IsClaim self.now }
@@ -67,7 +81,7 @@ impl Certificate {
         &self.nodes
     }
 
-    /// The schedule, if there is one.
+    /// The schedule whose run attains the bound, if there is one.
     pub fn witness(&self) -> Option<&Schedule>
         ensures { option_copied result ≡ self.now.witness }
     {

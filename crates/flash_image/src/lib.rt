@@ -3,6 +3,7 @@
 
 mod image;
 mod labels;
+pub mod laws;
 
 pub use image::{Flash, RawFault};
 pub use labels::Names;

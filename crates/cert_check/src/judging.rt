@@ -51,7 +51,7 @@ fn verdict(flash: &Flash, certificate: &Certificate) -> Verdict
 }
 
 /// The verdict on a certificate.
-fn judged(flash: &Flash, certificate: &Certificate) -> Result<Verdict, AllocError>
+pub fn judge(flash: &Flash, certificate: &Certificate) -> Result<Verdict, AllocError>
     ensures exact { result ≡ Ok (verdict_of flash.now certificate.now) }
     ensures accepted { (b : ℕ) → (result ≡ Ok (Verdict.Accepted b)) ↔ (IsSound flash.now certificate.now × (b ≡ certificate.now.bound)) }
     ensures bounded { (A : List Entry) (b : ℕ) → result ≡ Ok (Verdict.Accepted b) → Bounded flash.now A b }

@@ -1,0 +1,4 @@
+pub mod Numbers
+pub mod Vectors
+pub mod Enables
+pub mod Order
