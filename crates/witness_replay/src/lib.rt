@@ -3,7 +3,9 @@
 
 pub mod laws;
 mod reading;
+pub mod replaying;
 pub mod schedule;
 mod writing;
 
+pub use replaying::{IllegalChoice, ReplayReport, replay};
 pub use schedule::{Run, Schedule, ScheduleFault};

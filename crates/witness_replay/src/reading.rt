@@ -62,16 +62,6 @@ fn run_of(text: &[u8]) -> Option<Run>
     }
 }
 
-/// How many choices a run stands for.
-fn weight_of(run: Run) -> u32
-    ensures { result ≡ weight run }
-{
-    match run {
-        Run::Go(count, _, _) => count,
-        Run::Take(_, _) => 1,
-    }
-}
-
 /// Whether a run may come behind another.
 fn may_follow(before: Option<Run>, run: Run) -> bool
     ensures { result ≡ follows before run }
@@ -88,7 +78,7 @@ fn admitted(text: &[u8], before: Option<Run>, left: u32) -> Option<Run>
     ensures exact { result ≡ admitted_in before left (words_of text.now) }
 {
     let run = run_of(text)?;
-    if may_follow(before, run) && weight_of(run) <= left {
+    if may_follow(before, run) && run.weight() <= left {
         Some(run)
     } else {
         None
@@ -205,7 +195,7 @@ fn read_runs(alloc: Global, reader: &mut LineReader<'_>) -> Result<Vec<Run>, Sch
         if runs.push(run).is_err() {
             return Err(ScheduleFault::Memory);
         }
-        left -= weight_of(run);
+        left -= run.weight();
         before = Some(run);
     }
     Ok(runs)
