@@ -180,3 +180,9 @@ pub all_is_replay : (words : List ℕ) (A : List Entry) (cs : List Choice) (m : 
 all_is_replay words A cs m =
     rest_is_replay words A cs (starting m) 0 (omega arith)
     ∙ unshifted (replay_from words A cs m) (depth_of_state m) (λ report e. rw (← unless_ok (first_illegal words A cs m) _ report e) (first_state words A cs m).1)
+
+pub from_reset : (words : List ℕ) (A : List Entry) (plan : Plan) (runs : List Run) (machine : Machine) (fill : ℕ) → runs ≡ plan.runs → fill ≡ plan.fill → machine ≡ starting (filled fill) → replayed words A (choices_of runs) machine 0 ≡ replay_of words A plan
+from_reset words A plan runs machine fill e f g =
+    ap (λ (rs : List Run). replayed words A (choices_of rs) machine 0) e
+    ∙ ap (λ (x : Machine). replayed words A (choices_of plan.runs) x 0) (g ∙ ap (λ (b : ℕ). starting (filled b)) f)
+    ∙ all_is_replay words A (choices_of plan.runs) (filled plan.fill)

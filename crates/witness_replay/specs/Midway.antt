@@ -1,5 +1,5 @@
 -- A replay that is under way.
-use Rattle.std.specs.Prelude.{ℕ, ◌+◌, max, List, [], ◌∷◌, Option, Some, None, Result, Ok, Err, sum, map}
+use Rattle.std.specs.Prelude.{ℕ, ◌+◌, max, List, [], ◌∷◌, Option, Some, None, Result, Ok, Err}
 use Rattle.avr_model.specs.declared.choice.Choice.{Choice}
 use Rattle.avr_model.specs.declared.choice.Choice.TheVariants as choice
 use Rattle.avr_model.specs.declared.choice.StepResult.{StepResult}
@@ -51,4 +51,5 @@ choice_of (Take v clears) = choice.Take v clears
 
 -- how many choices runs stand for
 abbrev pub total : List Run → ℕ
-total runs = sum (map weight runs)
+total [] = 0
+total (r ∷ rs) = weight r + total rs

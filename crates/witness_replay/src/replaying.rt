@@ -98,7 +98,8 @@ pub fn replay(
 {
     let mut machine = Machine::new(schedule.fill());
     let mut steps = 0u32;
-    for run in schedule.runs() {
+    let runs = schedule.runs();
+    for run in runs {
         let count = run.weight();
         if let Some(end) = repeat(&mut machine, flash, assumptions, choice_in(*run), count, steps) {
             return end;
