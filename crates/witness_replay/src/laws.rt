@@ -1,6 +1,7 @@
-//! Laws of schedules' texts. Each function does nothing; its contract is the law.
+//! Laws of schedules' texts and of replays. Each function does nothing; its contract is the law.
 
 ghost use Rattle.witness_replay.specs.Exact.{ReadIsSpelled, SpelledIsRead, RefusedIsStuck, ReadingIsText, TextIsReading, OneText};
+ghost use Rattle.witness_replay.specs.Runs.{ReplaysAreRuns};
 
 use line_reading::laws::word_laws;
 
@@ -20,4 +21,11 @@ pub fn reading_is_text()
     ensures one { OneText }
 {
     word_laws();
+}
+
+/// Where a replay meets no illegal choice, the choices up to its stop are a run of the machine from reset, with the steps,
+/// the depth and the stop that it tells.
+pub fn replays_are_runs()
+    ensures { ReplaysAreRuns }
+{
 }
