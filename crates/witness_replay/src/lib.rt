@@ -5,6 +5,8 @@ pub mod laws;
 mod reading;
 pub mod replaying;
 pub mod schedule;
+#[cfg(test)]
+mod tests;
 mod writing;
 
 pub use replaying::{IllegalChoice, ReplayReport, replay};
