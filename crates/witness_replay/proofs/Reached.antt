@@ -1,11 +1,12 @@
 -- The choices that a replay reaches are a run.
-use Rattle.std.proofs.Common.{ℕ, ◌+◌, ◌-◌, ◌<◌, ◌≤◌, ◌≡◌, List, [], ◌∷◌, ◌++◌, length, replicate, suc, zero, refl, ap, sym, ◌∙◌, subst, Option, Some, None, Result, Ok, Err}
+use Rattle.std.proofs.Common.{ℕ, ◌+◌, ◌-◌, ◌<◌, ◌≤◌, ◌≡◌, List, [], ◌∷◌, ◌++◌, length, replicate, suc, zero, arith, refl, ap, sym, ◌∙◌, subst, Option, Some, None, Result, Ok, Err}
 use Rattle.std.proofs.lemmas.List.Elements.{All-replicate}
 use Rattle.std.specs.List.{AllByRecursion}
 use Rattle.std.specs.Option.{option_map}
 use Rattle.avr_model.specs.declared.choice.Choice.{Choice}
 use Rattle.avr_model.specs.declared.choice.Choice.TheVariants as choice
 use Rattle.avr_model.specs.declared.choice.Stop.{Stop}
+use Rattle.avr_model.specs.declared.choice.Stop.TheVariants as stop
 use Rattle.avr_model.specs.declared.assumption.Entry.{Entry}
 use Rattle.avr_model.specs.State.{State, IsReset, filled}
 use Rattle.avr_model.specs.Step.{Answer, Illegal, Undefined, Overflow, Flagged, Done, step}
@@ -14,7 +15,8 @@ use Rattle.witness_replay.specs.declared.schedule.Run.{Run}
 use Rattle.witness_replay.specs.declared.schedule.Run.TheVariants.{Go, Take}
 use Rattle.witness_replay.specs.Spelling.{Plan, IsSchedule, IsCounted, AreRuns, weight, choices_of_run, choices_of}
 use Rattle.witness_replay.specs.Replay.{illegal_on, first_illegal, steps_of, Report, report_unless, replay_from, replay_of}
-use Rattle.witness_replay.specs.Runs.{RunsAs, ReplaysAreRuns}
+use Rattle.witness_replay.specs.Runs.{RunsAs, ReplaysAreRuns, IsIllegalAt, IllegalChoicesEndRuns}
+use Rattle.witness_replay.proofs.Steps.{some_is, none_some}
 
 -- ---- the bytes of a schedule's choices
 
@@ -73,7 +75,7 @@ none_later (Some n) e = cc
 
 reach_on : (words : List ℕ) (A : List Entry) (c : Choice) (cs : List Choice) (m : State) (a : Answer) → HasBytes c → step words A m c ≡ a → illegal_on a (first_illegal words A cs) ≡ None
     → ((next : State) → first_illegal words A cs next ≡ None → Reaches words A cs next) → Reaches words A (c ∷ cs) m
-reach_on words A c cs m Illegal bytes is e f = let bad : Some 0 ≡ None = e in cc
+reach_on words A c cs m Illegal bytes is e f = let bad : ◌≡◌ {A = Option ℕ} (Some 0) None = e in cc
 reach_on words A c cs m (Undefined pc) bytes is e f = stops words A c cs m (Undefined pc) bytes is refl refl refl
 reach_on words A c cs m (Overflow pc) bytes is e f = stops words A c cs m (Overflow pc) bytes is refl refl refl
 reach_on words A c cs m (Flagged flag) bytes is e f = stops words A c cs m (Flagged flag) bytes is refl refl refl
@@ -109,3 +111,64 @@ replays_are_runs words A plan report fits e =
       depth = ap (λ (x : Report). x.depth) (sym u.1) ∙ ap deepest r.states;
       stop = ap (λ (x : Report). x.stop) (sym u.1) ∙ r.stop;
     }
+
+-- ---- an illegal choice
+
+record Meets (words : List ℕ) (A : List Entry) (cs : List Choice) (m : State) (number : ℕ) : Type 0 where
+  pub choices : List Choice
+  pub illegal : Choice
+  pub ignored : List Choice
+  pub all : cs ≡ choices ++ illegal ∷ ignored
+  pub count : length choices ≡ number
+  pub run : IsRun words A choices m
+  pub ended : stop_of words A choices m ≡ stop.End
+  pub none : IsRun words A (choices ++ illegal ∷ []) m → ⊥
+
+some_later : (o : Option ℕ) (number : ℕ) → option_map (λ n. n + 1) o ≡ Some number → (n : ℕ) × (o ≡ Some n) × (suc n ≡ number)
+some_later None number e = absurd (none_some number e)
+some_later (Some n) number e = let same : n + 1 ≡ number = some_is (n + 1) number e in (n, refl, omega (arith, same))
+
+meets_here : (words : List ℕ) (A : List Entry) (c : Choice) (cs : List Choice) (m : State) (number : ℕ) → step words A m c ≡ Illegal → 0 ≡ number → Meets words A (c ∷ cs) m number
+meets_here words A c cs m number is e =
+    let R : Answer → Type 0 = λ x. RunsOn x [] (IsRun words A []) in
+    record { choices = []; illegal = c; ignored = cs; all = refl; count = e; run = tt; ended = refl; none = λ h. subst R is h.1 }
+
+meets_later : (words : List ℕ) (A : List Entry) (c : Choice) (cs : List Choice) (m next : State) (n number : ℕ) → HasBytes c → step words A m c ≡ Done next → suc n ≡ number → Meets words A cs next n → Meets words A (c ∷ cs) m number
+meets_later words A c cs m next n number bytes is e more =
+    let R : Answer → Type 0 = λ x. RunsOn x more.choices (IsRun words A more.choices) in
+    let T : Answer → Type 0 = λ x. stop_on x (stop_of words A more.choices) ≡ stop.End in
+    let N : Answer → Type 0 = λ x. RunsOn x (more.choices ++ more.illegal ∷ []) (IsRun words A (more.choices ++ more.illegal ∷ [])) in
+    record {
+      choices = c ∷ more.choices;
+      illegal = more.illegal;
+      ignored = more.ignored;
+      all = ap (λ (xs : List Choice). c ∷ xs) more.all;
+      count = ap suc more.count ∙ e;
+      run = (bytes, subst R (sym is) more.run);
+      ended = subst T (sym is) more.ended;
+      none = λ h. more.none (subst N is h.1);
+    }
+
+meet_on : (words : List ℕ) (A : List Entry) (c : Choice) (cs : List Choice) (m : State) (number : ℕ) (a : Answer) → HasBytes c → step words A m c ≡ a → illegal_on a (first_illegal words A cs) ≡ Some number
+    → ((next : State) (n : ℕ) → first_illegal words A cs next ≡ Some n → Meets words A cs next n) → Meets words A (c ∷ cs) m number
+meet_on words A c cs m number Illegal bytes is e f = meets_here words A c cs m number is (some_is 0 number e)
+meet_on words A c cs m number (Undefined pc) bytes is e f = absurd (none_some number e)
+meet_on words A c cs m number (Overflow pc) bytes is e f = absurd (none_some number e)
+meet_on words A c cs m number (Flagged flag) bytes is e f = absurd (none_some number e)
+meet_on words A c cs m number (Done next) bytes is e f =
+    let later = some_later (first_illegal words A cs next) number e in
+    meets_later words A c cs m next later.0 number bytes is later.2 (f next later.0 later.1)
+
+meets : (words : List ℕ) (A : List Entry) (cs : List Choice) (m : State) (number : ℕ) → AllByRecursion HasBytes cs → first_illegal words A cs m ≡ Some number → Meets words A cs m number
+meets words A [] m number bytes e = absurd (none_some number e)
+meets words A (c ∷ cs) m number bytes e = meet_on words A c cs m number (step words A m c) bytes.0 refl e (λ next n h. meets words A cs next n bytes.1 h)
+
+unless_some : (f : Option ℕ) (r : Report) (number : ℕ) → report_unless f r ≡ Err number → f ≡ Some number
+unless_some (Some n) r number e = let same : ◌≡◌ {A = Result Report ℕ} (Err n) (Err number) = e in cc
+unless_some None r number e = let bad : ◌≡◌ {A = Result Report ℕ} (Ok r) (Err number) = e in cc
+
+pub illegal_choices_end_runs : IllegalChoicesEndRuns
+illegal_choices_end_runs words A plan number fits e =
+    let u = unless_some (first_illegal words A (choices_of plan.runs) (filled plan.fill)) _ number e in
+    let m = meets words A (choices_of plan.runs) (filled plan.fill) number (all_bytes None _ plan.runs fits.runs_fit) u in
+    record { reset = is_reset plan.fill fits.fill_is_byte; choices = m.choices; illegal = m.illegal; ignored = m.ignored; all = m.all; count = m.count; run = m.run; ended = m.ended; none = m.none }
