@@ -33,6 +33,11 @@ pub record IsStuck (p q : Place) : Type 0 where
   pub unfinished : BeginSchedule (before ++ next ∷ [])
   pub stop : NoneGoesOn before q.rest
 
+-- The second place is the first one, or behind it at another line or at the end.
+pub record IsBehind (p q : Place) : Type 0 where
+  pub between : List TextLine
+  pub passes : Passes p between q
+
 -- what was answered, and where the reader was left, is this reading, unless memory was wanting
 abbrev pub Finds : Result Plan ScheduleFault → Place → Plan → Place → Type 0
 Finds (Ok s) after plan q = (s ≡ plan) × (after ≡ q)

@@ -1,6 +1,7 @@
-//! Laws of schedules' texts. Each function does nothing; its contract is the law.
+//! Laws of schedules' texts and of replays. Each function does nothing; its contract is the law.
 
 ghost use Rattle.witness_replay.specs.Exact.{ReadIsSpelled, SpelledIsRead, RefusedIsStuck, ReadingIsText, TextIsReading, OneText};
+ghost use Rattle.witness_replay.specs.Runs.{ReplaysAreRuns, IllegalChoicesEndRuns};
 
 use line_reading::laws::word_laws;
 
@@ -20,4 +21,12 @@ pub fn reading_is_text()
     ensures one { OneText }
 {
     word_laws();
+}
+
+/// Where a replay meets no illegal choice, the choices up to its stop are a run of the machine from reset, with the steps,
+/// the depth and the stop that it tells; else the choices before the illegal one are a run, and with it they are none.
+pub fn replays_are_runs()
+    ensures runs { ReplaysAreRuns }
+    ensures illegal { IllegalChoicesEndRuns }
+{
 }

@@ -13,14 +13,14 @@ returns-in_err-write_fill-clause-refused c =
 pub returns-in_err-write_runs-clause-refused : goal.returns-in_err-write_runs-clause-refused
 returns-in_err-write_runs-clause-refused c =
     on_err c.from_residual-in_err-write_runs.result _ (part_of_third c.appending_laws.ensures c.args.out.now c.write_header.new.out c.write_fill.new.out c.write_runs.new.out c.args.self.now c.requires
-      c.in_ok-write_header.ensures.written (rw c.fill.ensures at c.in_ok-write_fill.ensures.written) (rw c.runs.ensures at c.in_err-write_runs.ensures.refused))
+      c.in_ok-write_header.ensures.written (rw c.fill.ensures at c.in_ok-write_fill.ensures.written) (rw c.runs.ensures.runs at c.in_err-write_runs.ensures.refused))
 
 pub returns-in_err-write_end-clause-refused : goal.returns-in_err-write_end-clause-refused
 returns-in_err-write_end-clause-refused c =
     on_err c.from_residual-in_err-write_end.result _ (part_of_last c.appending_laws.ensures c.args.out.now c.write_header.new.out c.write_fill.new.out c.write_runs.new.out c.write_end.new.out c.args.self.now c.requires
-      c.in_ok-write_header.ensures.written (rw c.fill.ensures at c.in_ok-write_fill.ensures.written) (rw c.runs.ensures at c.in_ok-write_runs.ensures.written) c.in_err-write_end.ensures.refused)
+      c.in_ok-write_header.ensures.written (rw c.fill.ensures at c.in_ok-write_fill.ensures.written) (rw c.runs.ensures.runs at c.in_ok-write_runs.ensures.written) c.in_err-write_end.ensures.refused)
 
 pub returns-clause-written : goal.returns-clause-written
 returns-clause-written c =
     all_written c.appending_laws.ensures c.args.out.now c.write_header.new.out c.write_fill.new.out c.write_runs.new.out c.write_end.new.out c.args.self.now c.requires
-    c.in_ok-write_header.ensures.written (rw c.fill.ensures at c.in_ok-write_fill.ensures.written) (rw c.runs.ensures at c.in_ok-write_runs.ensures.written) c.in_ok-write_end.ensures.written
+    c.in_ok-write_header.ensures.written (rw c.fill.ensures at c.in_ok-write_fill.ensures.written) (rw c.runs.ensures.runs at c.in_ok-write_runs.ensures.written) c.in_ok-write_end.ensures.written
