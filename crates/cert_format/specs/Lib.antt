@@ -1,3 +1,5 @@
 pub mod Certificate
 pub mod Spelling
 pub mod Valid
+pub mod Reading
+pub mod Exact

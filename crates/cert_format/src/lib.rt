@@ -2,5 +2,7 @@
 #![tactic(auto)]
 
 pub mod certificate;
+pub mod laws;
+mod reading;
 
-pub use certificate::Certificate;
+pub use certificate::{CertFault, Certificate};

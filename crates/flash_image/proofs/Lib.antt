@@ -1,2 +1,4 @@
 pub mod Bytes
 pub mod Raw
+pub mod Least
+mod RawWords

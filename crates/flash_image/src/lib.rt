@@ -2,5 +2,11 @@
 #![tactic(auto)]
 
 mod image;
+mod labels;
+pub mod laws;
 
 pub use image::{Flash, RawFault};
+pub use labels::Names;
+
+#[cfg(test)]
+mod tests;

@@ -2,11 +2,17 @@
 #![tactic(auto)]
 
 pub mod digits;
+pub mod laws;
 pub mod lines;
 pub mod memory;
 pub mod outside;
+pub mod writer;
 
 pub use digits::{DigitFault, read_dec, read_hex};
 pub use lines::{Line, LineReader, Words};
 pub use memory::{MemFiles, MemSink};
 pub use outside::{FileFault, Files, Sink, SinkFault, put_all};
+pub use writer::LineWriter;
+
+#[cfg(test)]
+mod tests;

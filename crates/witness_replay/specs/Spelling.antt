@@ -69,5 +69,9 @@ abbrev pub schedule_lines : Plan → List (List (List ℕ))
 schedule_lines plan =
     ((codes "schedule" ∷ codes "1" ∷ []) ∷ (codes "fill" ∷ hex_digits plan.fill 2 ∷ []) ∷ map run_words plan.runs) ++ (codes "end" ∷ []) ∷ []
 
+-- the text of runs alone
+abbrev pub runs_text : List Run → List ℕ
+runs_text runs = flat_map line (map run_words runs)
+
 abbrev pub text_of : Plan → List ℕ
 text_of plan = flat_map line (schedule_lines plan)

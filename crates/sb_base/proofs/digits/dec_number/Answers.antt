@@ -1,5 +1,4 @@
-use Rattle.std.proofs.Common.{arith, ◌<◌, ◌+◌, ◌*◌, length, get_or}
-use Rattle.sb_base.specs.Digits.{digit_of}
+use Rattle.std.proofs.Common.{arith}
 use Rattle.sb_base.proofs.Numbers.{gone_past}
 use Rattle.sb_base.proofs.digits.dec_number.Goals as goal
 

@@ -1,0 +1,14 @@
+pub mod Tables
+pub mod Bounds
+pub mod Built
+pub mod Members
+pub mod Adder
+pub mod Whole
+pub mod SumCover
+pub mod Differences
+pub mod AllBits
+pub mod LogicCover
+pub mod Meets
+pub mod Words
+pub mod Writes
+pub mod AllLaws

@@ -1,0 +1,48 @@
+//! Laws of bytes of three-valued bits, each as the contract of a function that does nothing.
+
+ghost use Rattle.bit_domain.specs.Laws.{BitsCover, BytesAreTheirBits, BytesAreSets, WritesCover, LatticeIsMonotone, SumsCover, SumsAreMonotone, LogicCovers, LogicIsMonotone};
+
+/// An operation on bits stands for that of each choice of permitted bits, and bits that stand for more give more.
+pub fn bits_cover()
+    ensures { BitsCover }
+{}
+
+/// A byte of given bits has them, each byte is the one of its bits, and what stands for the same is the same.
+pub fn bytes_are_their_bits()
+    ensures { BytesAreTheirBits }
+{}
+
+/// Each stands for some byte, and one stands for all that another does just where each of its bits does.
+pub fn bytes_are_sets()
+    ensures { BytesAreSets }
+{}
+
+/// A byte with another bit stands for each member with a permitted bit there, and for more where both stand for more.
+pub fn writes_cover()
+    ensures { WritesCover }
+{}
+
+/// What stands for more has a join and a meet that stand for more.
+pub fn lattice_is_monotone()
+    ensures { LatticeIsMonotone }
+{}
+
+/// A sum or difference stands for that of each choice of members.
+pub fn sums_cover()
+    ensures { SumsCover }
+{}
+
+/// Operands that stand for more have a sum and a difference that stand for more.
+pub fn sums_are_monotone()
+    ensures { SumsAreMonotone }
+{}
+
+/// A bit operation or test stands for that of each choice of members.
+pub fn logic_covers()
+    ensures { LogicCovers }
+{}
+
+/// Operands that stand for more have a bit operation or test that stands for more.
+pub fn logic_is_monotone()
+    ensures { LogicIsMonotone }
+{}

@@ -1,0 +1,132 @@
+//! Lines of words, written one after the other.
+
+ghost use Rattle.std.specs.Prelude.{◌≡◌, ◌≤◌, ◌<◌, ◌^◌, [], ◌∷◌, ◌++◌, take, OnOk, OnErr, false, decimal};
+ghost use Rattle.sb_base.specs.Digits.{hex_digit, hex_digits};
+ghost use Rattle.sb_base.specs.Writing.{with_word, with_end};
+
+use std::alloc::{AllocError, Global};
+use std::marker::Model;
+
+/// Writes lines of words that single spaces divide. It is seen as the bytes so far and whether a line is begun. A call
+/// that is refused changes nothing.
+#[derive(Drop)]
+pub struct LineWriter {
+    alloc: Global,
+    bytes: Vec<u8>,
+    begun: bool,
+}
+
+impl Model for LineWriter {
+    ghost use Rattle.sb_base.specs.Writing.{Written};
+
+    ghost Value = { Written };
+
+    ghost view = { λ w. record { bytes = w.bytes.items; begun = w.begun } };
+}
+
+/// Appends a space and a text, or nothing.
+fn append_divided(bytes: &mut Vec<u8>, text: &[u8]) -> Result<(), AllocError>
+    ensures appended { OnOk result (bytes.new.items ≡ bytes.old.items ++ 32 ∷ text.now) }
+    ensures refused { OnErr result (bytes.new.items ≡ bytes.old.items) }
+{
+    let before = bytes.len();
+    bytes.push(b' ')?;
+    match bytes.extend_from_slice(text) {
+        Ok(()) => Ok(()),
+        Err(fault) => {
+            bytes.truncate(before);
+            Err(fault)
+        }
+    }
+}
+
+/// An upper-case hexadecimal digit.
+fn hex_glyph(value: u8) -> u8
+    requires { value < 16 }
+    ensures { result ≡ hex_digit value }
+{
+    if value < 10 {
+        b'0' + value
+    } else {
+        b'A' + (value - 10)
+    }
+}
+
+/// So many hexadecimal digits of a number, at the front of what is given.
+fn hex_glyphs(number: u32, digits: usize) -> [u8; 8]
+    requires { digits ≤ 8 }
+    ensures { take digits result ≡ hex_digits number digits }
+{
+    let mut glyphs = [b'0'; 8];
+    let mut rest = number;
+    for at in (0..digits).rev() {
+        glyphs[at] = hex_glyph((rest % 16) as u8);
+        rest /= 16;
+    }
+    glyphs
+}
+
+impl LineWriter {
+    /// A writer that has written nothing.
+    pub fn new(alloc: Global) -> LineWriter
+        ensures { result ≡ record { bytes = []; begun = false } }
+    {
+        LineWriter {
+            alloc,
+            bytes: Vec::new(alloc),
+            begun: false,
+        }
+    }
+
+    /// Writes a word.
+    pub fn word(&mut self, text: &[u8]) -> Result<(), AllocError>
+        ensures written { OnOk result (self.new ≡ with_word self.old text.now) }
+        ensures refused { OnErr result (self.new ≡ self.old) }
+    {
+        if self.begun {
+            append_divided(&mut self.bytes, text)?;
+        } else {
+            self.bytes.extend_from_slice(text)?;
+        }
+        self.begun = true;
+        Ok(())
+    }
+
+    /// Writes a number as a word of exactly `digits` upper-case hexadecimal digits.
+    pub fn hex(&mut self, number: u32, digits: usize) -> Result<(), AllocError>
+        requires some { 1 ≤ digits }
+        requires few { digits ≤ 8 }
+        requires fits { number < 16 ^ digits }
+        ensures written { OnOk result (self.new ≡ with_word self.old (hex_digits number digits)) }
+        ensures refused { OnErr result (self.new ≡ self.old) }
+    {
+        let glyphs = hex_glyphs(number, digits);
+        self.word(&glyphs[..digits])
+    }
+
+    /// Writes a number as a word in decimal, without leading zeros.
+    pub fn dec(&mut self, number: u64) -> Result<(), AllocError>
+        ensures written { OnOk result (self.new ≡ with_word self.old (decimal number)) }
+        ensures refused { OnErr result (self.new ≡ self.old) }
+    {
+        let text = number.to_string(self.alloc)?;
+        self.word(text.as_bytes())
+    }
+
+    /// Ends the line by a line feed.
+    pub fn end_line(&mut self) -> Result<(), AllocError>
+        ensures written { OnOk result (self.new ≡ with_end self.old) }
+        ensures refused { OnErr result (self.new ≡ self.old) }
+    {
+        self.bytes.push(b'\n')?;
+        self.begun = false;
+        Ok(())
+    }
+
+    /// The bytes that were written. It takes no memory.
+    pub fn finish(self) -> Vec<u8>
+        ensures { result.items ≡ self.bytes }
+    {
+        self.bytes
+    }
+}
