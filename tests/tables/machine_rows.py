@@ -469,11 +469,11 @@ def changes(before, m, most):
     registers = [(i, b) for i, (a, b) in enumerate(zip(before, m.r)) if a != b]
     memory = [(a, m.ram[a]) for a in sorted(m.ram) if m.ram[a] != initial_byte(a)]
     assert len(registers) <= most, registers
-    return "[" + ", ".join(["(%d, 0x%02X)" % x for x in registers] + ["N"] * (most - len(registers))) + "]", memory
+    return ", ".join(["(%d, 0x%02X)" % x for x in registers] + ["N"] * (most - len(registers))), memory
 
 
 def hexes(xs):
-    return "[" + ", ".join(word(x) for x in xs) + "]"
+    return ", ".join(word(x) for x in xs)
 
 
 def word(x):

@@ -14,7 +14,8 @@ impl Processor {
     /// guarded. Where the stack pointer is whole then, addresses at most it are live no more.
     #[tactic(auto, using(crate::proofs::Writing::written_append), unfolding(avr_model::specs::Step::memory_after))]
     pub fn apply(&mut self, effect: &Effect, enables: Masks, guarded: bool)
-        requires { effect.now.enables ≡ enables }
+        requires enables { effect.now.enables ≡ enables }
+        requires pc { effect.now.pc < 16384 }
         ensures { self.new ≡ after self.old guarded effect.now }
     {
         self.pc = effect.pc;

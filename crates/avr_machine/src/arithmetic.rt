@@ -98,6 +98,7 @@ impl Processor {
         requires r { r < 32 }
         ensures row { result ≡ binary_effect flash.now self.now op d r }
         ensures enables { result.enables ≡ self.now.enables }
+        ensures pc { result.pc < 16384 }
     {
         let a = self.register(d);
         let b = self.register(r);
@@ -123,6 +124,7 @@ impl Processor {
         requires { d < 32 }
         ensures row { result ≡ immediate_effect self.now op d k }
         ensures enables { result.enables ≡ self.now.enables }
+        ensures pc { result.pc < 16384 }
     {
         let a = self.register(d);
         match op {
@@ -148,6 +150,7 @@ impl Processor {
         requires { d < 32 }
         ensures row { result ≡ unary_effect self.now op d }
         ensures enables { result.enables ≡ self.now.enables }
+        ensures pc { result.pc < 16384 }
     {
         let a = self.register(d);
         match op {

@@ -1,7 +1,7 @@
 //! What each instruction does, row by row.
 
-ghost use Rattle.std.specs.Prelude.{◌≡◌};
-ghost use Rattle.avr_model.specs.Effects.{effect_of};
+ghost use Rattle.std.specs.Prelude.{◌≡◌, ◌<◌};
+ghost use Rattle.avr_model.specs.Effects.{effect_of, memory_effect, flow_effect};
 
 use crate::processor::Processor;
 use avr_model::effect::Effect;
@@ -14,9 +14,9 @@ impl Processor {
     pub fn effect(&self, flash: &Flash, instr: &Instr, first: u8, second: u8) -> Effect
         ensures row { result ≡ effect_of flash.now self.now instr.now first second }
         ensures enables { result.enables ≡ self.now.enables }
+        ensures pc { result.pc < 16384 }
     {
         match instr {
-            Instr::Nop | Instr::Sleep | Instr::Break | Instr::Wdr => self.going_on(),
             Instr::Movw(d, r) => self.copy_pair(2 * d.get(), 2 * r.get()),
             Instr::Muls(d, r) => self.product_of(Mul::Muls, d.get(), r.get()),
             Instr::Mulsu(d, r) => self.product_of(Mul::Mulsu, d.get(), r.get()),
@@ -32,6 +32,17 @@ impl Processor {
             Instr::Bclr(s) => self.set_flag(s.get(), false),
             Instr::Bld(d, b) => self.load_bit(d.get(), b.get()),
             Instr::Bst(d, b) => self.store_bit(d.get(), b.get()),
+            _ => self.transfer_effect(flash, instr, first, second),
+        }
+    }
+
+    /// The rows that load and store, and all that follow.
+    fn transfer_effect(&self, flash: &Flash, instr: &Instr, first: u8, second: u8) -> Effect
+        ensures row { result ≡ memory_effect flash.now self.now instr.now first second }
+        ensures enables { result.enables ≡ self.now.enables }
+        ensures pc { result.pc < 16384 }
+    {
+        match instr {
             Instr::Ldd(d, base, q) => self.load_displaced(d.get(), *base, q.get(), first),
             Instr::Std(base, q, r) => self.store_displaced(*base, q.get(), r.get()),
             Instr::Lds(d, k) => self.load_direct(d.get(), *k, first),
@@ -47,6 +58,17 @@ impl Processor {
             Instr::Out(a, r) => self.output(a.get(), r.get()),
             Instr::Cbi(a, b) => self.change_bit(a.get(), b.get(), false),
             Instr::Sbi(a, b) => self.change_bit(a.get(), b.get(), true),
+            _ => self.flow_effect(flash, instr, first, second),
+        }
+    }
+
+    /// The rows that jump, call, return, branch and skip, and those that do nothing.
+    fn flow_effect(&self, flash: &Flash, instr: &Instr, first: u8, second: u8) -> Effect
+        ensures row { result ≡ flow_effect flash.now self.now instr.now first second }
+        ensures enables { result.enables ≡ self.now.enables }
+        ensures pc { result.pc < 16384 }
+    {
+        match instr {
             Instr::Ijmp => self.going_to(self.indirect_target()),
             Instr::Icall => self.calling(self.indirect_target(), self.further(1)),
             Instr::Ret => self.returning(first, second),
@@ -61,6 +83,7 @@ impl Processor {
             Instr::Sbis(a, b) => self.skipping(flash, self.port_bit(a.get(), b.get(), first)),
             Instr::Sbrc(r, b) => self.skipping(flash, !self.register_bit(r.get(), b.get())),
             Instr::Sbrs(r, b) => self.skipping(flash, self.register_bit(r.get(), b.get())),
+            _ => self.going_on(),
         }
     }
 }

@@ -73,7 +73,8 @@ impl Machine {
 
     /// The program counter, a word address.
     pub fn pc(&self) -> u16
-        ensures { result ≡ self.now.state.pc }
+        ensures value { result ≡ self.now.state.pc }
+        ensures word { result < 16384 }
     {
         self.processor.pc
     }

@@ -39,6 +39,7 @@ pub struct Processor {
 }
 
 impl Model for Processor {
+    ghost use Rattle.std.specs.Prelude.{◌<◌};
     ghost use Rattle.avr_model.specs.State.{State};
 
     ghost Value = { State };
@@ -53,6 +54,8 @@ impl Model for Processor {
       memory = p.memory;
       delay = p.delay;
     } };
+
+    ghost invariant = { λ p. p.pc < 16384 };
 }
 
 impl Processor {

@@ -1,6 +1,6 @@
 //! One step of the processor: the answer, and the state after it.
 
-ghost use Rattle.std.specs.Prelude.{◌≡◌, ◌&&◌, ◌||◌, not, ◌-◌};
+ghost use Rattle.std.specs.Prelude.{◌≡◌, ◌<◌, ◌&&◌, ◌||◌, not, ◌-◌};
 ghost use Rattle.avr_model.specs.Sites.{instruction_at, is_scratch};
 ghost use Rattle.avr_model.specs.State.{depth_of_state};
 ghost use Rattle.avr_model.specs.Step.{all_inside, flagged_or, is_unlisted, after, answer_to, go, may_take, enables_taken, entering, take, step, result_of, state_after};
@@ -59,7 +59,8 @@ impl Processor {
         enables: Masks,
         guarded: bool,
     ) -> StepResult
-        requires { effect.now.enables ≡ enables }
+        requires enables { effect.now.enables ≡ enables }
+        requires pc { effect.now.pc < 16384 }
         ensures answer { result ≡ result_of (flagged_or flag (after self.old guarded effect.now)) }
         ensures state { self.new ≡ state_after self.old (flagged_or flag (after self.old guarded effect.now)) }
     {
@@ -81,7 +82,8 @@ impl Processor {
         instr: &Instr,
         effect: &Effect,
     ) -> StepResult
-        requires { effect.now.enables ≡ self.old.enables }
+        requires enables { effect.now.enables ≡ self.old.enables }
+        requires pc { effect.now.pc < 16384 }
         ensures answer { result ≡ result_of (answer_to flash.now assumptions.now self.old instr.now effect.now) }
         ensures state { self.new ≡ state_after self.old (answer_to flash.now assumptions.now self.old instr.now effect.now) }
     {
@@ -139,7 +141,8 @@ impl Processor {
 
     /// The entry of an interrupt: the way back is pushed, and I is cleared.
     fn entering(&self, vector: u8, clears: bool) -> Effect
-        ensures { result ≡ entering self.now vector clears }
+        ensures entry { result ≡ entering self.now vector clears }
+        ensures pc { result.pc < 16384 }
     {
         Effect {
             sreg: self.sreg.bits() % 128,

@@ -11,11 +11,11 @@ use std::test::Fail;
 
 pub type Changed = (u8, u8);
 
-pub type RegisterRow = (u16, u8, u8, u8, u8, [Changed; 2]);
+pub type RegisterRow = (u16, u8, u8, u8, u8, Changed, Changed);
 
-pub type MemoryRow = (u16, [u16; 2], [Changed; 3], (u16, u8));
+pub type MemoryRow = (u16, u16, u16, Changed, Changed, Changed, (u16, u8));
 
-pub type FlowRow = (u16, [u16; 3], u16, usize, u16, u16, u16);
+pub type FlowRow = (u16, u16, u16, u16, u16, usize, u16, u16, u16);
 
 const POINTER: u16 = 0x0412;
 
@@ -86,7 +86,7 @@ fn check_sram(rt: &impl Abort, machine: &Machine, changed: (u16, u8)) {
 #[test]
 fn rows_that_set_registers_and_flags(rt: HostRuntime) -> Result<(), Fail> {
     let none = Assumptions::empty(rt.alloc());
-    for &(word, a, b, before, after, changed) in &REGISTER_ROWS {
+    for &(word, a, b, before, after, first, second) in &REGISTER_ROWS {
         let flash = flash_of(rt.alloc(), &[OUT_SREG_R18, word])?;
         let mut registers = registers_of(POINTER);
         registers[16] = a;
@@ -100,7 +100,7 @@ fn rows_that_set_registers_and_flags(rt: HostRuntime) -> Result<(), Fail> {
         assert_eq!(rt; machine.sreg().bits(), after, "{word} {a} {b} {before}");
         assert_eq!(rt; machine.pc(), 2);
         assert_eq!(rt; machine.sp(), 0x08FF);
-        check_registers(&rt, &machine, registers, &changed);
+        check_registers(&rt, &machine, registers, &[first, second]);
         check_sram(&rt, &machine, (0, 0));
     }
     Ok(())
@@ -110,19 +110,15 @@ fn rows_that_set_registers_and_flags(rt: HostRuntime) -> Result<(), Fail> {
 fn rows_that_load_and_store(rt: HostRuntime) -> Result<(), Fail> {
     let mut proved = Assumptions::empty(rt.alloc());
     assert!(rt; proved.push(Entry::Prove(0)).is_ok());
-    for &(pointer, words, changed, byte) in &MEMORY_ROWS {
-        let flash = flash_of(rt.alloc(), &words)?;
+    for &(pointer, word, next, first, second, third, byte) in &MEMORY_ROWS {
+        let flash = flash_of(rt.alloc(), &[word, next])?;
         let registers = registers_of(pointer);
         let mut machine = Machine::from_memory(&registers, &sram_before());
         assert_eq!(rt; machine.step(&flash, &proved, GO), StepResult::Done);
-        assert_eq!(rt;
-            machine.pc(),
-            if words[1] == 0xFFFF { 1 } else { 2 },
-            "{words:?}"
-        );
+        assert_eq!(rt; machine.pc(), if next == 0xFFFF { 1 } else { 2 }, "{word}");
         assert_eq!(rt; machine.sp(), 0x08FF);
         assert_eq!(rt; machine.sreg().bits(), 0);
-        check_registers(&rt, &machine, registers, &changed);
+        check_registers(&rt, &machine, registers, &[first, second, third]);
         check_sram(&rt, &machine, byte);
     }
     Ok(())
@@ -131,14 +127,14 @@ fn rows_that_load_and_store(rt: HostRuntime) -> Result<(), Fail> {
 #[test]
 fn rows_that_jump_call_return_branch_and_skip(rt: HostRuntime) -> Result<(), Fail> {
     let none = Assumptions::empty(rt.alloc());
-    for &(pointer, words, last, steps, pc, sp, back) in &FLOW_ROWS {
-        let mut flash = flash_of(rt.alloc(), &words)?;
+    for &(pointer, word, next, third, last, steps, pc, sp, back) in &FLOW_ROWS {
+        let mut flash = flash_of(rt.alloc(), &[word, next, third])?;
         flash.place(0x7FFE, &last.to_le_bytes());
         let mut machine = Machine::from_memory(&registers_of(pointer), &sram_before());
         for _ in 0..steps {
             assert_eq!(rt; machine.step(&flash, &none, GO), StepResult::Done);
         }
-        assert_eq!(rt; machine.pc(), pc, "{words:?}");
+        assert_eq!(rt; machine.pc(), pc, "{word}");
         assert_eq!(rt; machine.sp(), sp);
         if sp < 0x08FE && sp >= 0x0100 {
             assert_eq!(rt; u16::from(machine.sram(sp + 1)), back / 256);
@@ -207,17 +203,15 @@ fn check_scripts(
     Ok(())
 }
 
-/// Site 2 and site 7 jump to word 5 alone, and site 1 may store to address 0.
+/// Site 1 may store to address 0, and sites 2 and 7 jump to word 5 alone.
 fn assumptions(rt: &impl Abort, alloc: Global) -> Result<Assumptions, AllocError> {
     let mut list = Assumptions::empty(alloc);
-    for (site, word) in [(2, 5), (7, 5)] {
-        if site == 2 {
-            let entry = Entry::Store(1, Items::new(vec![in alloc; 0u16; 1]?));
-            assert!(rt; list.push(entry).is_ok());
-        }
-        let entry = Entry::Jump(site, Items::new(vec![in alloc; word; 1]?));
-        assert!(rt; list.push(entry).is_ok());
-    }
+    let addresses = Items::new(vec![in alloc; 0u16; 1]?);
+    assert!(rt; list.push(Entry::Store(1, addresses)).is_ok());
+    let words = Items::new(vec![in alloc; 5u16; 1]?);
+    assert!(rt; list.push(Entry::Jump(2, words)).is_ok());
+    let words = Items::new(vec![in alloc; 5u16; 1]?);
+    assert!(rt; list.push(Entry::Jump(7, words)).is_ok());
     Ok(list)
 }
 
