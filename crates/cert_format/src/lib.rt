@@ -2,5 +2,10 @@
 #![tactic(auto)]
 
 pub mod certificate;
+pub mod laws;
+mod reading;
 
-pub use certificate::Certificate;
+pub use certificate::{CertFault, Certificate};
+
+#[cfg(test)]
+mod tests;

@@ -1,5 +1,5 @@
 -- Reading the words of a line, and lines. A reading gives a value and what is left, or nothing.
-use Rattle.std.specs.Prelude.{◌≡◌, ℕ, ◌+◌, List, [], ◌∷◌, Bool, true, false, Option, Some, None, Result, Ok, Err, if◌then◌else◌}
+use Rattle.std.specs.Prelude.{◌≡◌, ℕ, ◌+◌, List, [], ◌∷◌, Bool, true, false, Option, Some, None, Result, Ok, Err, take, drop, if◌then◌else◌}
 use Rattle.std.specs.Str.{bytes_eq}
 use Rattle.sb_base.specs.Lines.{TextLine, Place, size_of}
 use Rattle.sb_base.specs.Digits.{hex_answer, dec_answer}
@@ -31,6 +31,16 @@ dec_at most (w ∷ ws) = number_and (dec_answer w most) ws
 abbrev pub word_at : List ℕ → List (List ℕ) → Option (Unit {0} × List (List ℕ))
 word_at text [] = None
 word_at text (w ∷ ws) = if bytes_eq w text then Some (tt, ws) else None
+
+-- these words, one after the other
+abbrev pub these_at : List (List ℕ) → List (List ℕ) → Option (Unit {0} × List (List ℕ))
+these_at [] ws = Some (tt, ws)
+these_at (t ∷ ts) ws = word_at t ws >>= λ r. these_at ts r.1
+
+-- this byte, and behind it in the same word a decimal of at most `most`
+abbrev pub marked_at : ℕ → ℕ → List (List ℕ) → Option (ℕ × List (List ℕ))
+marked_at mark most [] = None
+marked_at mark most (w ∷ ws) = if bytes_eq (take 1 w) (mark ∷ []) then dec_at most (drop 1 w ∷ ws) else None
 
 -- no word is left
 abbrev pub is_over : List (List ℕ) → Bool
@@ -71,6 +81,10 @@ text_in (l ∷ ls) = if l.whole then Some l.text else None
 -- the first line, which has to be whole, read by its text
 abbrev pub first_by : {A : Type 0} → (List ℕ → Option A) → List TextLine → Option A
 first_by f ls = text_in ls >>= f
+
+-- this text
+abbrev pub this_by : List ℕ → List ℕ → Option (Unit {0})
+this_by text t = if bytes_eq t text then Some tt else None
 
 abbrev pub passed_from : ℕ → List TextLine → Place
 passed_from at [] = record { at = at; rest = [] }
