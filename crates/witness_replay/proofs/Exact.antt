@@ -47,11 +47,11 @@ unfolding fill_in
 fill_words k [] b e = absurd (none_some b e)
 fill_words k (w ∷ ws) b e = elim (chosen (bytes_eq w (codes "fill")) _ _ (Some b) e) [
   | inl h ↦
-    let x = bind_some (hex_at 2 ws) _ b h.1 in
-    let t = k.hex_takes 2 x.0.0 ws x.0.1 x.1 in
-    let last = fill_end x.0.0 b x.0.1 x.2 in
-    let P : ℕ → Type 0 = λ y. (w ∷ ws ≡ filling y) × (y < 256) in
-    subst P last.1 (ap (λ y. y ∷ ws) ((bytes_eq-Decides w (codes "fill")).0 h.0) ∙ ap (λ y. codes "fill" ∷ y) (t.0 ∙ ap (λ y. hex_digits x.0.0 2 ∷ y) last.0), omega (arith, t.1))
+      let x = bind_some (hex_at 2 ws) _ b h.1 in
+      let t = k.hex_takes 2 x.0.0 ws x.0.1 x.1 in
+      let last = fill_end x.0.0 b x.0.1 x.2 in
+      let P : ℕ → Type 0 = λ y. (w ∷ ws ≡ filling y) × (y < 256) in
+      subst P last.1 (ap (λ y. y ∷ ws) ((bytes_eq-Decides w (codes "fill")).0 h.0) ∙ ap (λ y. codes "fill" ∷ y) (t.0 ∙ ap (λ y. hex_digits x.0.0 2 ∷ y) last.0), omega (arith, t.1))
   | inr h ↦ absurd (none_some b h.1)
 ]
 
@@ -90,7 +90,7 @@ read_is_spelled k p plan q e =
     subst P pair (record {
       fits = record { fill_is_byte = byte.1; runs_fit = runs.fit };
       lines = passes_more p h.0.1 r.0.1 (whole header ∷ []) (whole (filling f.0.0) ∷ map whole (run_lines r.0.0)) top
-        (passes_more h.0.1 f.0.1 r.0.1 (whole (filling f.0.0) ∷ []) (map whole (run_lines r.0.0)) fill runs.passes);
+          (passes_more h.0.1 f.0.1 r.0.1 (whole (filling f.0.0) ∷ []) (map whole (run_lines r.0.0)) fill runs.passes);
     })
 
 -- ---- what is spelled is read
@@ -185,7 +185,7 @@ runs_are_stuck k p h f q b top fill small e =
     record {
       before = header ∷ filling b ∷ map run_words stuck.runs;
       passed = passes_more p h q (whole header ∷ []) (whole (filling b) ∷ map whole (map run_words stuck.runs)) top
-        (passes_more h f q (whole (filling b) ∷ []) (map whole (map run_words stuck.runs)) fill stuck.passes);
+          (passes_more h f q (whole (filling b) ∷ []) (map whole (map run_words stuck.runs)) fill stuck.passes);
       next = codes "end" ∷ [];
       unfinished = record { plan = record { fill = b; runs = stuck.runs }; fits = record { fill_is_byte = small; runs_fit = stuck.fit }; more = []; all = sym (append-nil (header ∷ filling b ∷ run_lines stuck.runs)) };
       stop = stop_runs k b stuck.runs q.rest stuck.fit stuck.stop;
@@ -196,19 +196,19 @@ unfolding schedule_at
 refused_is_stuck k p q e = elim (then_err (line_by header_by p) _ q e) [
   | inl h ↦ header_stuck p q h
   | inr h ↦
-    let first = line_takes header_by p h.0.0 h.0.1 h.1 in
-    let top = as_words header_by p h.0.0 h.0.1 first header (header_is first.text h.0.0 first.read) in
-    elim (then_err (line_by fill_by h.0.1) _ q h.2) [
-      | inl f ↦ fill_stuck k p h.0.1 q top f
-      | inr f ↦
-        let second = line_takes fill_by h.0.1 f.0.0 f.0.1 f.1 in
-        let byte = fill_takes k second.text f.0.0 second.read in
-        let fill = as_words fill_by h.0.1 f.0.0 f.0.1 second (filling f.0.0) byte.0 in
-        elim (then_err (runs_from None most_choices f.0.1.at f.0.1.rest) _ q f.2) [
-          | inl r ↦ runs_are_stuck k p h.0.1 f.0.1 q f.0.0 top fill byte.1 r
-          | inr r ↦ absurd (err_ok {A = Plan × Place} q (record { fill = f.0.0; runs = r.0.0 }, r.0.1) (sym r.2))
-        ]
-    ]
+      let first = line_takes header_by p h.0.0 h.0.1 h.1 in
+      let top = as_words header_by p h.0.0 h.0.1 first header (header_is first.text h.0.0 first.read) in
+      elim (then_err (line_by fill_by h.0.1) _ q h.2) [
+        | inl f ↦ fill_stuck k p h.0.1 q top f
+        | inr f ↦
+            let second = line_takes fill_by h.0.1 f.0.0 f.0.1 f.1 in
+            let byte = fill_takes k second.text f.0.0 second.read in
+            let fill = as_words fill_by h.0.1 f.0.0 f.0.1 second (filling f.0.0) byte.0 in
+            elim (then_err (runs_from None most_choices f.0.1.at f.0.1.rest) _ q f.2) [
+              | inl r ↦ runs_are_stuck k p h.0.1 f.0.1 q f.0.0 top fill byte.1 r
+              | inr r ↦ absurd (err_ok {A = Plan × Place} q (record { fill = f.0.0; runs = r.0.0 }, r.0.1) (sym r.2))
+            ]
+      ]
 ]
 
 -- ---- texts

@@ -90,7 +90,14 @@ unless_none None r report e = (refl, cc)
 
 is_reset : (byte : ℕ) → byte < 256 → IsReset (filled byte)
 is_reset byte h = record {
-  pc = refl; sp = refl; sreg = refl; enables = refl; closed = refl; no_delay = refl; none_live = refl; count_registers = refl;
+  pc = refl;
+  sp = refl;
+  sreg = refl;
+  enables = refl;
+  closed = refl;
+  no_delay = refl;
+  none_live = refl;
+  count_registers = refl;
   register_bytes = All-replicate (λ b. b < 256) 32 byte h;
   count_bytes = refl;
   sram_bytes = All-replicate (λ b. b < 256) 2048 byte h;

@@ -148,7 +148,7 @@ on_answer : (words : List ℕ) (A : List Entry) (cs : List Choice) (machine : Ma
     → ((m : State) → replayed words A cs (record { state = m; depth = max machine.depth (depth_of_state m) }) (steps + 1) ≡ shift (steps + 1) (max machine.depth (depth_of_state m)) (replay_from words A cs m))
     → ended_on a machine.depth steps (λ m. replayed words A cs (record { state = m; depth = max machine.depth (depth_of_state m) }) (steps + 1))
     ≡ shift steps machine.depth (report_unless (illegal_on a (first_illegal words A cs))
-      (record { steps = length (machine.state ∷ states_on a (states_of words A cs)) - 1; depth = deepest (machine.state ∷ states_on a (states_of words A cs)); stop = stop_on a (stop_of words A cs) }))
+    (record { steps = length (machine.state ∷ states_on a (states_of words A cs)) - 1; depth = deepest (machine.state ∷ states_on a (states_of words A cs)); stop = stop_on a (stop_of words A cs) }))
 unfolding deepest shift
 on_answer words A cs machine steps Illegal low f = let e : steps ≡ steps + 0 = omega arith in ap (λ (n : ℕ). Err n) e
 on_answer words A cs machine steps (Undefined pc) low f = stopped steps machine.depth (depth_of_state machine.state) (stop.Undefined pc) low

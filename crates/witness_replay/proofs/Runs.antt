@@ -39,7 +39,7 @@ go_takes k ws r e =
     let ha = k.hex_takes 2 a.0.0 n.0.1 a.0.1 a.1 in
     let hb = k.hex_takes 2 b.0.0 a.0.1 b.0.1 b.1 in
     let words : codes "go" ∷ ws ≡ run_words (Go n.0.0 a.0.0 b.0.0) =
-        ap (λ v. codes "go" ∷ v) (dn.0 ∙ ap (λ v. decimal n.0.0 ∷ v) (ha.0 ∙ ap (λ v. hex_digits a.0.0 2 ∷ v) (hb.0 ∙ ap (λ v. hex_digits b.0.0 2 ∷ v) last.0))) in
+    ap (λ v. codes "go" ∷ v) (dn.0 ∙ ap (λ v. decimal n.0.0 ∷ v) (ha.0 ∙ ap (λ v. hex_digits a.0.0 2 ∷ v) (hb.0 ∙ ap (λ v. hex_digits b.0.0 2 ∷ v) last.0))) in
     let counted : IsCounted (Go n.0.0 a.0.0 b.0.0) = (last.1, omega (arith, ha.1), omega (arith, hb.1)) in
     let P : Run → Type 0 = λ x. (codes "go" ∷ ws ≡ run_words x) × IsCounted x in
     subst P last.2 (words, counted)
@@ -64,7 +64,7 @@ take_takes k ws r e =
     let dv = k.dec_takes 26 v.0.0 ws v.0.1 (lit< tt) v.1 in
     let dc = k.dec_takes 1 c.0.0 v.0.1 c.0.1 (lit< tt) c.1 in
     let words : codes "take" ∷ ws ≡ run_words (Take v.0.0 (c.0.0 == 1)) =
-        ap (λ x. codes "take" ∷ x) (dv.0 ∙ ap (λ x. decimal v.0.0 ∷ x) (dc.0 ∙ ap (λ x. decimal c.0.0 ∷ x) last.0 ∙ ap (λ x. x ∷ []) (bit_of c.0.0 dc.1))) in
+    ap (λ x. codes "take" ∷ x) (dv.0 ∙ ap (λ x. decimal v.0.0 ∷ x) (dc.0 ∙ ap (λ x. decimal c.0.0 ∷ x) last.0 ∙ ap (λ x. x ∷ []) (bit_of c.0.0 dc.1))) in
     let counted : IsCounted (Take v.0.0 (c.0.0 == 1)) = (last.1, dv.1) in
     let P : Run → Type 0 = λ x. (codes "take" ∷ ws ≡ run_words x) × IsCounted x in
     subst P last.2 (words, counted)
@@ -147,12 +147,12 @@ unfolding part_by
 part_run k before left text r e = elim (chosen (bytes_eq text (codes "end")) _ _ (Some (Some r)) e) [
   | inl g ↦ absurd (none_some r (some_is None (Some r) g.1))
   | inr g ↦
-    let o = map_some (admitted_in before left (words_of text)) r g.1 in
-    let b = bind_some (run_in (words_of text)) (admits before left) r o in
-    let a = admits_run before left b.0 r b.2 in
-    let t = run_takes k (words_of text) b.0 b.1 in
-    let P : Run → Type 0 = λ x. IsRunLine before left text x in
-    subst P a.0 (record { line = sym (k.line_words text) ∙ ap spaced t.0; counted = t.1; order = a.1; room = a.2 })
+      let o = map_some (admitted_in before left (words_of text)) r g.1 in
+      let b = bind_some (run_in (words_of text)) (admits before left) r o in
+      let a = admits_run before left b.0 r b.2 in
+      let t = run_takes k (words_of text) b.0 b.1 in
+      let P : Run → Type 0 = λ x. IsRunLine before left text x in
+      subst P a.0 (record { line = sym (k.line_words text) ∙ ap spaced t.0; counted = t.1; order = a.1; room = a.2 })
 ]
 
 pub part_end : (before : Option Run) (left : ℕ) (text : List ℕ) → part_by before left text ≡ Some None → text ≡ codes "end"
@@ -253,7 +253,7 @@ pub record RunsStuck (before : Option Run) (left at : ℕ) (ls : List TextLine) 
 none_come : WordLaws → (before : Option Run) (left : ℕ) (l : TextLine) (ls : List TextLine) → left ≤ most_choices → first_by (part_by before left) (l ∷ ls) ≡ None → NoRun before left (l ∷ ls)
 none_come k before left l ls most e = (
   λ r counted order room is. none_some (Some r) (sym e ∙ ap (λ (x : TextLine). first_by (part_by before left) (x ∷ ls)) is ∙ part_again k before left r most counted order room),
-  λ is. none_some None (sym e ∙ ap (λ (x : TextLine). first_by (part_by before left) (x ∷ ls)) is ∙ end_again before left)
+  λ is. none_some None (sym e ∙ ap (λ (x : TextLine). first_by (part_by before left) (x ∷ ls)) is ∙ end_again before left),
 )
 
 front_err : (r : Run) (d : Result (List Run × Place) Place) (q : Place) → with_front (r ∷ []) d ≡ Err q → d ≡ Err q

@@ -101,7 +101,14 @@ pub fn replay(
     let runs = schedule.runs();
     for run in runs {
         let count = run.weight();
-        if let Some(end) = repeat(&mut machine, flash, assumptions, choice_in(*run), count, steps) {
+        if let Some(end) = repeat(
+            &mut machine,
+            flash,
+            assumptions,
+            choice_in(*run),
+            count,
+            steps,
+        ) {
             return end;
         }
         steps += count;

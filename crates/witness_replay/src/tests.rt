@@ -13,9 +13,18 @@ use vector_table::Assumptions;
 const TEXTS: [(&[u8], Result<usize, usize>); 30] = [
     (b"schedule 1\nfill 00\ngo 4 00 00\ntake 2 0\nend\n", Ok(43)),
     (b"schedule 1\nfill FF\nend\n", Ok(23)),
-    (b"schedule 1\nfill 00\ngo 1 00 00\ngo 1 00 01\nend\n", Ok(45)),
-    (b"schedule 1\nfill 00\ngo 1 00 00\ntake 26 1\ngo 1 00 00\nend\n", Ok(55)),
-    (b"schedule 1\nfill 00\ngo 16777215 0A 00\ntake 7 1\nend\n", Ok(50)),
+    (
+        b"schedule 1\nfill 00\ngo 1 00 00\ngo 1 00 01\nend\n",
+        Ok(45),
+    ),
+    (
+        b"schedule 1\nfill 00\ngo 1 00 00\ntake 26 1\ngo 1 00 00\nend\n",
+        Ok(55),
+    ),
+    (
+        b"schedule 1\nfill 00\ngo 16777215 0A 00\ntake 7 1\nend\n",
+        Ok(50),
+    ),
     (b"schedule 1\nfill 00\nend\nend\n", Ok(23)),
     (b"schedule 1\nfill 00\nend\ngo 04 00 00", Ok(23)),
     (b"", Err(0)),
@@ -38,14 +47,23 @@ const TEXTS: [(&[u8], Result<usize, usize>); 30] = [
     (b"schedule 1\nfill 00\ntake 1 0\nend\n", Err(19)),
     (b"schedule 1\nfill 00\ntake 27 0\nend\n", Err(19)),
     (b"schedule 1\nfill 00\ntake 2 2\nend\n", Err(19)),
-    (b"schedule 1\nfill 00\ngo 1 00 00\ngo 2 00 00\nend\n", Err(30)),
+    (
+        b"schedule 1\nfill 00\ngo 1 00 00\ngo 2 00 00\nend\n",
+        Err(30),
+    ),
     (b"schedule 1\nfill 00\ngo 1 00 00\n", Err(30)),
-    (b"schedule 1\nfill 00\ngo 16777216 00 00\ntake 2 0\nend\n", Err(37)),
+    (
+        b"schedule 1\nfill 00\ngo 16777216 00 00\ntake 2 0\nend\n",
+        Err(37),
+    ),
 ];
 
 /// Where the reader stands behind the schedule that the text begins with, or at the refused line; the answer as an offset;
 /// and whether the schedule is written as it was read.
-fn read_and_write(alloc: Global, text: &[u8]) -> Result<(Result<usize, usize>, usize, bool), ScheduleFault> {
+fn read_and_write(
+    alloc: Global,
+    text: &[u8],
+) -> Result<(Result<usize, usize>, usize, bool), ScheduleFault> {
     let mut reader = LineReader::new(text);
     match Schedule::read(alloc, &mut reader) {
         Ok(schedule) => {
@@ -101,16 +119,32 @@ fn small_firmwares_are_replayed(rt: HostRuntime) -> Result<(), Fail> {
     let rows: [(&[u8], &[u8], Result<ReplayReport, IllegalChoice>); 8] = [
         (&push_and_pop, b"go 4 00 00\nend\n", report(4, 1, Stop::End)),
         (&push_and_pop, b"end\n", report(0, 0, Stop::End)),
-        (&interrupted, b"go 4 00 00\ntake 2 0\nend\n", report(5, 2, Stop::End)),
+        (
+            &interrupted,
+            b"go 4 00 00\ntake 2 0\nend\n",
+            report(5, 2, Stop::End),
+        ),
         (&interrupted, b"take 2 0\nend\n", Err(IllegalChoice(0))),
-        (&interrupted, b"go 3 00 00\ntake 2 0\nend\n", Err(IllegalChoice(3))),
+        (
+            &interrupted,
+            b"go 3 00 00\ntake 2 0\nend\n",
+            Err(IllegalChoice(3)),
+        ),
         (
             &overwriting,
             b"go 3 00 00\nend\n",
             report(1, 2, Stop::Flag(Flag::Live(0x0002, 0x08FE))),
         ),
-        (&[0x00, 0x00], b"go 9 00 00\nend\n", report(1, 0, Stop::Undefined(0x0001))),
-        (&[], b"go 1 00 00\ntake 2 0\nend\n", report(0, 0, Stop::Undefined(0x0000))),
+        (
+            &[0x00, 0x00],
+            b"go 9 00 00\nend\n",
+            report(1, 0, Stop::Undefined(0x0001)),
+        ),
+        (
+            &[],
+            b"go 1 00 00\ntake 2 0\nend\n",
+            report(0, 0, Stop::Undefined(0x0000)),
+        ),
     ];
     let assumptions = Assumptions::empty(rt.alloc());
     for (firmware, lines, due) in rows {

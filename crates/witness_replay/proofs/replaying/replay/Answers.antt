@@ -11,7 +11,7 @@ pub returns-in-Some : goal.returns-in-Some
 returns-in-Some c =
     let start = from_reset c.args.flash.now c.args.assumptions.now c.args.schedule.now c.runs-runs.result.now c.new-machine.result c.fill.result c.runs-runs.ensures.runs c.fill.ensures c.new-machine.ensures.start in
     let ends = runs_on c.args.flash.now c.args.assumptions.now c.loop-run.machine c.repeat.new.machine c.loop-run.steps c.weight-count.result c.runs-runs.result.now c.loop-run.run-index (Go 0 0 0) c.choice_in.result (Some c.in-Some.end) _
-      c.loop-run-test.true c.loop-run.invariant.same c.weight-count.ensures c.choice_in.ensures c.in-Some.ensures in
+    c.loop-run-test.true c.loop-run.invariant.same c.weight-count.ensures c.choice_in.ensures c.in-Some.ensures in
     sym ends ∙ start
 
 pub returns : goal.returns
@@ -24,7 +24,7 @@ returns c =
 pub loop-run-preserved : goal.loop-run-preserved
 loop-run-preserved c = record {
   same = runs_on c.args.flash.now c.args.assumptions.now c.loop-run.machine c.repeat.new.machine c.loop-run.steps c.weight-count.result c.runs-runs.result.now c.loop-run.run-index (Go 0 0 0) c.choice_in.result None _
-    c.loop-run-test.true c.loop-run.invariant.same c.weight-count.ensures c.choice_in.ensures c.in_default.ensures;
+      c.loop-run-test.true c.loop-run.invariant.same c.weight-count.ensures c.choice_in.ensures c.in_default.ensures;
   room = omega (arith, c.loop-run.invariant.room, total_next c.runs-runs.result.now c.loop-run.run-index (Go 0 0 0) c.loop-run-test.true, c.weight-count.ensures);
 }
 
