@@ -1,15 +1,17 @@
 //! Verdicts on small firmwares, worked by hand.
 
-ghost use Rattle.std.specs.Prelude.{None};
+ghost use Rattle.std.specs.Prelude.{◌≤◌, None};
 ghost use Rattle.cert_format.specs.Certificate.{IsClaim, claim_of};
 
-use crate::{Reason, Verdict, judge};
+use crate::{Reason, Verdict, is_attained, judge};
 use abs_step::NodeKey;
 use cert_format::Certificate;
 use flash_image::Flash;
+use sb_base::LineReader;
 use std::alloc::Global;
 use std::test::Fail;
 use vector_table::Assumptions;
+use witness_replay::Schedule;
 
 /// A push, a pop and a jump back to the push.
 const PUSH_POP: [u8; 6] = [0x0F, 0x92, 0x0F, 0x90, 0xFD, 0xCF];
@@ -70,5 +72,62 @@ fn missing_nodes_and_faults_are_told_by_the_least_place(rt: HostRuntime) -> Resu
     };
     let too_deep = verdict_on(alloc, &PUSH_POP, 2048, 2048, &[START, deepest])?;
     assert_eq!(rt; too_deep, Verdict::Rejected(Reason::Node(1, 6)));
+    Ok(())
+}
+
+/// A certificate of the root's node alone, with the schedule that this text is.
+#[tactic(auto, unfolding(cert_format::specs::Certificate::Ascends, cert_format::specs::Certificate::cells_of))]
+fn claim(alloc: Global, bound: u16, schedule: &[u8]) -> Result<Certificate, Fail>
+    requires { bound ≤ 2048 }
+{
+    let schedule = Schedule::read(alloc, &mut LineReader::new(schedule)).map_err(
+        |_| "no schedule",
+    )?;
+    Ok(Certificate::build(bound, 0, 0, [START].to_vec(alloc)?, Some(schedule)))
+}
+
+#[test]
+fn a_schedule_attains_the_bound_that_its_run_reaches(rt: HostRuntime) -> Result<(), Fail> {
+    let alloc = rt.alloc();
+    let rows = [
+        (b"schedule 1\nfill 00\nend\n".as_slice(), 0u16, true),
+        (
+            b"schedule 1\nfill 00\ngo 1 00 00\nend\n".as_slice(),
+            1,
+            true,
+        ),
+        (
+            b"schedule 1\nfill 00\ngo 3 00 00\nend\n".as_slice(),
+            1,
+            true,
+        ),
+        // the depth is another
+        (
+            b"schedule 1\nfill 00\ngo 1 00 00\nend\n".as_slice(),
+            0,
+            false,
+        ),
+        (
+            b"schedule 1\nfill 00\ngo 1 00 00\nend\n".as_slice(),
+            2,
+            false,
+        ),
+        // no interrupt is enabled, so none may be taken
+        (
+            b"schedule 1\nfill 00\ngo 1 00 00\ntake 2 0\nend\n".as_slice(),
+            1,
+            false,
+        ),
+    ];
+    let flash = Flash::from_raw(alloc, &PUSH_POP).map_err(|_| "no image")?;
+    let assumptions = Assumptions::empty(alloc);
+    for (schedule, bound, attained) in rows {
+        let certificate = claim(alloc, bound, schedule)?;
+        assert_eq!(rt; is_attained(&flash, &assumptions, &certificate), attained);
+    }
+    // a push and then an undefined word, at which the run stops
+    let stopping = Flash::from_raw(alloc, &[0x0F, 0x92]).map_err(|_| "no image")?;
+    let certificate = claim(alloc, 1, b"schedule 1\nfill 00\ngo 2 00 00\nend\n")?;
+    assert_eq!(rt; is_attained(&stopping, &assumptions, &certificate), false);
     Ok(())
 }
