@@ -11,7 +11,7 @@ use Rattle.abs_step.specs.declared.key.NodeKey.{NodeKey}
 use Rattle.sb_base.specs.Digits.{hex_digits}
 use Rattle.line_reading.specs.Reading.{◌>>=◌, hex_at, dec_at, word_at, these_at, marked_at, is_over, this_by}
 use Rattle.line_reading.specs.Words.{IsWord, WordLaws}
-use Rattle.witness_replay.proofs.Steps.{chosen, some_is, none_some, bind_some, both, no_words, cons_is}
+use Rattle.cert_format.proofs.Steps.{chosen, some_is, none_some, bind_some, both, no_words, cons_is}
 use Rattle.cert_format.specs.Certificate.{IsKey, most_nodes}
 use Rattle.cert_format.specs.Spelling.{unknown, node_words, root_words}
 use Rattle.cert_format.specs.Reading.{numbered_in, root_in, state_words, node_in, is_above, admits}
@@ -51,10 +51,10 @@ marked_take k mark most n [] rest room e = absurd (none_some {A = ℕ × List (L
 marked_take k mark most n ([] ∷ ws) rest room e = absurd (none_some {A = ℕ × List (List ℕ)} (n, rest) e)
 marked_take k mark most n ((b ∷ bs) ∷ ws) rest room e = elim (chosen (bytes_eq (b ∷ []) (mark ∷ [])) _ _ (Some (n, rest)) e) [
   | inl h ↦
-    let t = k.dec_takes most n (bs ∷ ws) rest room h.1 in
-    let c = cons_is bs (decimal n) ws rest t.0 in
-    let head = same_head mark b ((bytes_eq-Decides (b ∷ []) (mark ∷ [])).0 h.0) in
-    (ap₂ (λ (x : List ℕ) (xs : List (List ℕ)). x ∷ xs) (ap₂ (λ (x : ℕ) (xs : List ℕ). x ∷ xs) head c.0) c.1, t.1)
+      let t = k.dec_takes most n (bs ∷ ws) rest room h.1 in
+      let c = cons_is bs (decimal n) ws rest t.0 in
+      let head = same_head mark b ((bytes_eq-Decides (b ∷ []) (mark ∷ [])).0 h.0) in
+      (ap₂ (λ (x : List ℕ) (xs : List (List ℕ)). x ∷ xs) (ap₂ (λ (x : ℕ) (xs : List ℕ). x ∷ xs) head c.0) c.1, t.1)
   | inr h ↦ absurd (none_some {A = ℕ × List (List ℕ)} (n, rest) h.1)
 ]
 
@@ -151,10 +151,10 @@ node_take k ws n e =
     let P : NodeKey → Type 0 = λ z. (ws ≡ node_words z) × IsKey z in
     subst P last.2 (
       these_take (codes "node" ∷ codes "0" ∷ []) ws a.0.1 a.0.0 a.1
-      ∙ ap (λ (xs : List (List ℕ)). codes "node" ∷ codes "0" ∷ xs) (h.0 ∙ ap (λ (xs : List (List ℕ)). hex_digits pc.0.0 4 ∷ xs)
-        (these_take enables pc.0.1 b.0.1 b.0.0 b.1 ∙ ap (λ (xs : List (List ℕ)). enables ++ xs) (m.0 ∙ ap (λ (xs : List (List ℕ)). (99 ∷ decimal offset.0.0) ∷ xs) state)))
-      ∙ node_state pc.0.0 offset.0.0,
-      (last.0, m.1)
+          ∙ ap (λ (xs : List (List ℕ)). codes "node" ∷ codes "0" ∷ xs) (h.0 ∙ ap (λ (xs : List (List ℕ)). hex_digits pc.0.0 4 ∷ xs)
+          (these_take enables pc.0.1 b.0.1 b.0.0 b.1 ∙ ap (λ (xs : List (List ℕ)). enables ++ xs) (m.0 ∙ ap (λ (xs : List (List ℕ)). (99 ∷ decimal offset.0.0) ∷ xs) state)))
+          ∙ node_state pc.0.0 offset.0.0,
+      (last.0, m.1),
     )
 
 state_again : (offset : ℕ) → these_at (state_words offset) (state_words offset) ≡ Some (tt, [])

@@ -1,3 +1,4 @@
+pub mod Steps
 pub mod State
 pub mod Loop
 pub mod Fields

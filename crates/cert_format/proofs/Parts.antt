@@ -14,7 +14,7 @@ use Rattle.line_reading.specs.Words.{IsWord, whole, sizes, Passes, PassesText, W
 use Rattle.witness_replay.specs.Spelling.{Plan, IsSchedule, schedule_lines, text_of as schedule_text}
 use Rattle.witness_replay.specs.Reading.{schedule_at}
 use Rattle.witness_replay.specs.Exact.{IsReading, IsTextReading, TextIsReading, ReadIsSpelled as ScheduleIsSpelled, SpelledIsRead as ScheduleIsRead}
-use Rattle.witness_replay.proofs.Steps.{chosen, some_is, none_some, ok_is, err_ok, line_takes, line_again, passes_none, passes_more, passes_split, sizes_append, then_ok}
+use Rattle.cert_format.proofs.Steps.{chosen, some_is, none_some, ok_is, err_ok, line_takes, line_again, passes_none, passes_more, passes_split, sizes_append, then_ok}
 use Rattle.cert_format.specs.Certificate.{most_nodes, most_cells}
 use Rattle.cert_format.specs.Spelling.{node_words, witness_lines}
 use Rattle.cert_format.specs.Reading.{numbered_in, bound_by, count_by, ending_by, heading_at, nodes_from, nodes_at, plan_if, witness_at, if_last, end_at}
@@ -28,7 +28,7 @@ pub passes_cut : (p q : Place) (xs ys : List TextLine) → Passes p (xs ++ ys) q
 passes_cut p q xs ys h = (
   record { at = p.at + sizes xs; rest = ys ++ q.rest },
   record { lines = h.lines ∙ append_assoc xs ys q.rest; offset = refl },
-  record { lines = refl; offset = omega (arith, h.offset, sizes_append xs ys) }
+  record { lines = refl; offset = omega (arith, h.offset, sizes_append xs ys) },
 )
 
 -- where a reader stands before a text
@@ -103,8 +103,8 @@ heading_take k p n q e =
     let P : ℕ × Place → Type 0 = λ z. Passes p (map whole (heading z.0)) z.1 × (z.0 ≤ SIZE) in
     subst P pair (
       passes_more p v.0.1 i.0.1 (whole version ∷ []) (whole (bound_words b.0.0) ∷ whole assumptions ∷ whole instances ∷ []) (this_take version p v.0.1 v.0.0 v.1)
-      (passes_more v.0.1 b.0.1 i.0.1 (whole (bound_words b.0.0) ∷ []) (whole assumptions ∷ whole instances ∷ []) bound.0 last),
-      bound.1
+          (passes_more v.0.1 b.0.1 i.0.1 (whole (bound_words b.0.0) ∷ []) (whole assumptions ∷ whole instances ∷ []) bound.0 last),
+      bound.1,
     )
 
 pub heading_again : WordLaws → (p : Place) (n : ℕ) (q : Place) → n ≤ SIZE → Passes p (map whole (heading n)) q → heading_at p ≡ Ok (n, q)

@@ -55,14 +55,24 @@ fn the_certificate_of_a_jump_to_itself(rt: HostRuntime) -> Result<(), Fail> {
 fn a_push_and_a_pop_and_small_damages(rt: HostRuntime) -> Result<(), Fail> {
     let alloc = rt.alloc();
     let first = node(alloc, b"node 0 0000 0000000 0 0 c0", 32, b" -7F00 -\n")?;
-    let second = node(alloc, b"node 0 0001 0000000 0 0 c1", 32, b" -7F00 - -0000\n")?;
+    let second = node(
+        alloc,
+        b"node 0 0001 0000000 0 0 c1",
+        32,
+        b" -7F00 - -0000\n",
+    )?;
     let third = node(alloc, b"node 0 0002 0000000 0 0 c0", 32, b" -7F00 -\n")?;
     let lower = node(alloc, b"node 0 000a 0000000 0 0 c0", 32, b" -7F00 -\n")?;
     let high = node(alloc, b"node 0 4000 0000000 0 0 c0", 32, b" -7F00 -\n")?;
     let short = node(alloc, b"node 0 0002 0000000 0 0 c0", 31, b" -7F00 -\n")?;
     let spaced = node(alloc, b"node 0 0002  0000000 0 0 c0", 32, b" -7F00 -\n")?;
     let no_slot = node(alloc, b"node 0 0001 0000000 0 0 c1", 32, b" -7F00 -\n")?;
-    let two_slots = node(alloc, b"node 0 0001 0000000 0 0 c1", 32, b" -7F00 - -0000 -0000\n")?;
+    let two_slots = node(
+        alloc,
+        b"node 0 0001 0000000 0 0 c1",
+        32,
+        b" -7F00 - -0000 -0000\n",
+    )?;
     let pieces = [
         b"stackcert 1\n".as_slice(),
         b"bound 1\n".as_slice(),
@@ -92,7 +102,10 @@ fn a_push_and_a_pop_and_small_damages(rt: HostRuntime) -> Result<(), Fail> {
         (1, b"bound 1 \n".as_slice()),
         (2, b"assume 1\n".as_slice()),
         (3, b"instances 2\n".as_slice()),
-        (4, b"inst root 0000 0000000 0 rank 65536 need 1\n".as_slice()),
+        (
+            4,
+            b"inst root 0000 0000000 0 rank 65536 need 1\n".as_slice(),
+        ),
         (4, b"inst root 0000 0000000 0 rank 0 need 2049\n".as_slice()),
         (5, b"nodes 2\n".as_slice()),
         (5, b"nodes 4\n".as_slice()),
