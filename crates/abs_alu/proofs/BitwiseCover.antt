@@ -1,16 +1,15 @@
 -- Bit operations, steps and shifts with their flags stand for the machine's.
-use Rattle.std.proofs.Common.{◌≡◌, ◌∙◌, subst, sym, ap, refl, ℕ, ◌+◌, ◌-◌, ◌*◌, ◌/◌, ◌%◌, ◌<◌, ◌≤◌, arith, Bool, true, false, eqb, leb, cond}
+use Rattle.std.proofs.Common.{◌≡◌, ◌∙◌, subst, refl, ℕ, ◌+◌, ◌-◌, ◌*◌, ◌/◌, ◌%◌, ◌<◌, arith, Bool, true, false, eqb, leb, cond}
 use Rattle.std.proofs.lemmas.Nat.{and_le_l, or_lt, xor_lt}
 use Rattle.std.specs.Int.{bit_at, from_bool}
-use Rattle.std.specs.Int.RustNames.{bit_and, bit_or, bit_xor}
 use Rattle.avr_model.specs.declared.operation.Logic.{Logic}
 use Rattle.avr_model.specs.declared.operation.Logic.TheVariants.{And, Or, Eor}
 use Rattle.avr_model.specs.declared.operation.Shift.{Shift}
 use Rattle.avr_model.specs.declared.operation.Shift.TheVariants.{Lsr, Ror, Asr}
 use Rattle.avr_model.specs.Sreg.{flag, xor}
-use Rattle.avr_model.specs.Bitwise.{logic_of, flags_of_result, step_of, step_overflows, top_of, shift_of, flags_of_shift}
+use Rattle.avr_model.specs.Bitwise.{logic_of, step_of, step_overflows, top_of, shift_of}
 use Rattle.bit_domain.specs.declared.bits.Tri.{Tri}
-use Rattle.bit_domain.specs.declared.bits.Tri.TheVariants.{Zero, One, Any}
+use Rattle.bit_domain.specs.declared.bits.Tri.TheVariants.{Zero, One}
 use Rattle.bit_domain.specs.declared.bytes.TriByte.{TriByte}
 use Rattle.bit_domain.specs.Tri.{Permits, tri_xor}
 use Rattle.bit_domain.specs.TriByte.{tri_at, Has, byte_known}
@@ -18,7 +17,7 @@ use Rattle.bit_domain.specs.Logic.{byte_not, byte_equal}
 use Rattle.bit_domain.proofs.AllLaws.{bits_cover, bytes_are_sets, logic_covers, sums_cover}
 use Rattle.abs_alu.specs.Bitwise.{logic_bits, step_bits, step_limit, top_bit, shift_bits}
 use Rattle.abs_alu.specs.Laws.{BitwiseCovers}
-use Rattle.abs_alu.proofs.FlagCover.{below_eight, below_two, xor_is, bit_is, flag_is, has_known, kept_covers, top_covers, result_covers}
+use Rattle.abs_alu.proofs.FlagCover.{below_eight, below_two, xor_is, bit_is, has_known, kept_covers, top_covers, result_covers}
 
 logic_small : (op : Logic) (x y : ℕ) → x < 256 → y < 256 → logic_of op x y < 256
 logic_small And x y hx hy = omega (arith, and_le_l x y)
@@ -83,17 +82,21 @@ shift_has a top x t small ht has p =
 pub all_bitwise_cover : BitwiseCovers
 all_bitwise_cover = record {
   logics = λ op a b s x y w hx hy ha hb hs.
-      let r = logic_has op a b x y ha hb in
-      (r, result_covers (tri_at s 0) Zero (logic_bits op a b) s (flag w 0) false (logic_of op x y) w (logic_small op x y hx hy)
-      (kept_covers s w 0 (omega arith) hs) refl r hs);
+      let r = logic_has op a b x y ha hb in (
+        r,
+        result_covers (tri_at s 0) Zero (logic_bits op a b) s (flag w 0) false (logic_of op x y) w (logic_small op x y hx hy)
+            (kept_covers s w 0 (omega arith) hs) refl r hs,
+      );
   coms = λ a s x w hx ha hs.
       let r = logic_covers.nots a x hx ha in
       (r, result_covers One Zero (byte_not a) s true false (255 - x) w (omega arith) refl refl r hs);
   steps = λ up a s x w hx ha hs.
       let r = step_has up a x hx ha in
-      let small = step_small up x in
-      (r, result_covers (tri_at s 0) (byte_equal (step_bits up a) (byte_known (step_limit up))) (step_bits up a) s (flag w 0) (step_overflows up (step_of up x)) (step_of up x) w small
-      (kept_covers s w 0 (omega arith) hs) (limit_covers up (step_bits up a) (step_of up x) small r) r hs);
+      let small = step_small up x in (
+        r,
+        result_covers (tri_at s 0) (byte_equal (step_bits up a) (byte_known (step_limit up))) (step_bits up a) s (flag w 0) (step_overflows up (step_of up x)) (step_of up x) w small
+            (kept_covers s w 0 (omega arith) hs) (limit_covers up (step_bits up a) (step_of up x) small r) r hs,
+      );
   shifts = λ op a s x w hx ha hs.
       let ht = top_small op x w hx in
       let r = shift_has a (top_bit op a s) x (top_of op x w) hx ht ha (top_has op a s x w hx ha hs) in

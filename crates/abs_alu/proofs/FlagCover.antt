@@ -1,15 +1,15 @@
 -- The flags of a result stand for the machine's.
-use Rattle.std.proofs.Common.{◌≡◌, ◌∙◌, refl, ap, subst, ℕ, zero, suc, ◌+◌, ◌%◌, ◌<◌, arith, min, Bool, true, false, eqb, leb, cond, ◌&&◌}
+use Rattle.std.proofs.Common.{◌≡◌, refl, subst, ℕ, zero, suc, ◌+◌, ◌%◌, ◌<◌, arith, min, Bool, true, false, eqb, leb, ◌&&◌}
 use Rattle.std.proofs.lemmas.Nat.Bits.{bit_at-lt}
 use Rattle.std.specs.Int.{bit_at, from_bool}
-use Rattle.avr_model.specs.Sreg.{with_flags, with_carry_and_zero, flag, xor}
+use Rattle.avr_model.specs.Sreg.{with_flags, flag, xor}
 use Rattle.avr_model.specs.Bitwise.{flags_of_result}
 use Rattle.bit_domain.specs.declared.bits.Tri.{Tri}
 use Rattle.bit_domain.specs.declared.bytes.TriByte.{TriByte}
 use Rattle.bit_domain.specs.Tri.{Permits, IsTriWithin, tri_xor}
-use Rattle.bit_domain.specs.TriByte.{tri_at, Has, IsWithin, byte_known, byte_with}
-use Rattle.bit_domain.proofs.AllLaws.{bits_cover, bytes_are_their_bits, bytes_are_sets, writes_cover, logic_covers, logic_is_monotone}
-use Rattle.abs_alu.specs.Flags.{flag_bit, tri_flags, tri_zero, result_flags, carry_and_zero}
+use Rattle.bit_domain.specs.TriByte.{tri_at, Has, IsWithin, byte_known}
+use Rattle.bit_domain.proofs.AllLaws.{bits_cover, bytes_are_sets, logic_covers, logic_is_monotone}
+use Rattle.abs_alu.specs.Flags.{flag_bit, tri_flags, tri_zero, result_flags}
 
 pub below_two : (b : Bool) → from_bool b < 2
 below_two true = omega arith

@@ -1,11 +1,11 @@
 -- Operands that stand for more have answers that stand for more.
-use Rattle.std.proofs.Common.{◌≡◌, ℕ, ◌+◌, ◌<◌, ◌≤◌, arith, Bool, true, false, eqb, cond}
+use Rattle.std.proofs.Common.{ℕ, ◌+◌, arith, Bool, true, false, eqb, cond}
 use Rattle.avr_model.specs.declared.operation.Logic.{Logic}
 use Rattle.avr_model.specs.declared.operation.Logic.TheVariants.{And, Or, Eor}
 use Rattle.avr_model.specs.declared.operation.Shift.{Shift}
 use Rattle.avr_model.specs.declared.operation.Shift.TheVariants.{Lsr, Ror, Asr}
 use Rattle.bit_domain.specs.declared.bits.Tri.{Tri}
-use Rattle.bit_domain.specs.declared.bits.Tri.TheVariants.{Zero, One, Any}
+use Rattle.bit_domain.specs.declared.bits.Tri.TheVariants.{Zero, One}
 use Rattle.bit_domain.specs.declared.bytes.TriByte.{TriByte}
 use Rattle.bit_domain.specs.declared.sums.Sum.{Sum}
 use Rattle.bit_domain.specs.Tri.{IsTriWithin, tri_and, tri_xor}
@@ -62,12 +62,12 @@ word_within : (low high low' high' : Sum) (s s' : TriByte) → IsSumWithin low l
 word_within low high low' high' s s' wl wh ws = (
   (wl.bits, wh.bits),
   flags_within high.out (tri_and (tri_zero low.bits) (tri_zero high.bits)) (tri_at high.bits 7) (tri_xor high.into_top high.out) (tri_at s 5)
-  high'.out (tri_and (tri_zero low'.bits) (tri_zero high'.bits)) (tri_at high'.bits 7) (tri_xor high'.into_top high'.out) (tri_at s' 5) s s'
-  wh.out
-  (bits_cover.ands_within (tri_zero low.bits) (tri_zero high.bits) (tri_zero low'.bits) (tri_zero high'.bits) (zero_within low.bits low'.bits wl.bits) (zero_within high.bits high'.bits wh.bits))
-  (at_bits high.bits high'.bits wh.bits 7 (omega arith))
-  (bits_cover.xors_within high.into_top high.out high'.into_top high'.out wh.into_top wh.out)
-  (at_bits s s' ws 5 (omega arith)) ws,
+      high'.out (tri_and (tri_zero low'.bits) (tri_zero high'.bits)) (tri_at high'.bits 7) (tri_xor high'.into_top high'.out) (tri_at s' 5) s s'
+      wh.out
+      (bits_cover.ands_within (tri_zero low.bits) (tri_zero high.bits) (tri_zero low'.bits) (tri_zero high'.bits) (zero_within low.bits low'.bits wl.bits) (zero_within high.bits high'.bits wh.bits))
+      (at_bits high.bits high'.bits wh.bits 7 (omega arith))
+      (bits_cover.xors_within high.into_top high.out high'.into_top high'.out wh.into_top wh.out)
+      (at_bits s s' ws 5 (omega arith)) ws,
 )
 
 wide_within : (up : Bool) (a a' : TriByte × TriByte) (k : ℕ) (s s' : TriByte) → IsPairWithin a a' → IsWithin s s'
@@ -105,16 +105,20 @@ all_are_monotone = record {
       (r, result_within One Zero One Zero (byte_not a) s (byte_not a') s' (λ n p. p) (λ n p. p) r ws);
   steps = λ up a s a' s' wa ws.
       let r = step_within up a a' wa in
-      let limit = byte_known (step_limit up) in
-      (r, result_within (tri_at s 0) (byte_equal (step_bits up a) limit) (tri_at s' 0) (byte_equal (step_bits up a') limit) (step_bits up a) s (step_bits up a') s'
-      (at_bits s s' ws 0 (omega arith)) (logic_is_monotone.tests (step_bits up a) limit (step_bits up a') limit r (same_within limit)) r ws);
+      let limit = byte_known (step_limit up) in (
+        r,
+        result_within (tri_at s 0) (byte_equal (step_bits up a) limit) (tri_at s' 0) (byte_equal (step_bits up a') limit) (step_bits up a) s (step_bits up a') s'
+            (at_bits s s' ws 0 (omega arith)) (logic_is_monotone.tests (step_bits up a) limit (step_bits up a') limit r (same_within limit)) r ws,
+      );
   shifts = λ op a s a' s' wa ws.
       let bits = shift_bits a (top_bit op a s) in
       let bits' = shift_bits a' (top_bit op a' s') in
       let r = shift_within a a' (top_bit op a s) (top_bit op a' s') wa (top_within op a s a' s' wa ws) in
-      let carry = at_bits a a' wa 0 (omega arith) in
-      (r, result_within (tri_at a 0) (tri_xor (tri_at bits 7) (tri_at a 0)) (tri_at a' 0) (tri_xor (tri_at bits' 7) (tri_at a' 0)) bits s bits' s'
-      carry (bits_cover.xors_within (tri_at bits 7) (tri_at a 0) (tri_at bits' 7) (tri_at a' 0) (at_bits bits bits' r 7 (omega arith)) carry) r ws);
+      let carry = at_bits a a' wa 0 (omega arith) in (
+        r,
+        result_within (tri_at a 0) (tri_xor (tri_at bits 7) (tri_at a 0)) (tri_at a' 0) (tri_xor (tri_at bits' 7) (tri_at a' 0)) bits s bits' s'
+            carry (bits_cover.xors_within (tri_at bits 7) (tri_at a 0) (tri_at bits' 7) (tri_at a' 0) (at_bits bits bits' r 7 (omega arith)) carry) r ws,
+      );
   products = products_within;
   words = wide_within;
 }

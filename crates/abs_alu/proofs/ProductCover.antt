@@ -1,5 +1,5 @@
 -- Products with their flags stand for the machine's.
-use Rattle.std.proofs.Common.{◌≡◌, ◌∙◌, subst, sym, ap, refl, ℕ, zero, suc, ◌+◌, ◌-◌, ◌*◌, ◌/◌, ◌%◌, ◌<◌, ◌≤◌, ◌≢◌, arith, Bool, true, false, eqb, leb, cond, Option, Some, None, inl, inr}
+use Rattle.std.proofs.Common.{◌≡◌, ◌∙◌, subst, sym, ap, refl, ℕ, zero, suc, ◌+◌, ◌*◌, ◌/◌, ◌%◌, ◌<◌, ◌≤◌, ◌≢◌, arith, Bool, true, false, eqb, leb, cond, Option, Some, None, inl, inr}
 use Rattle.std.proofs.lemmas.Bool.{cases_eq, eq-eqb, ne_eqb, cond-true, cond-false}
 use Rattle.std.proofs.lemmas.Nat.Bits.{bit_at-suc, bit_at_lowest}
 use Rattle.std.specs.Int.{bit_at, from_bool, cast_unsigned, cast_signed, w8, w16}
@@ -9,17 +9,17 @@ use Rattle.std.proofs.Math.Nat.{mul-le-mul}
 use Rattle.avr_model.specs.declared.operation.Mul.{Mul}
 use Rattle.avr_model.specs.declared.operation.Mul.TheVariants.{Mul as Mul', Muls, Mulsu, Fmul, Fmuls, Fmulsu}
 use Rattle.avr_model.specs.Sreg.{with_carry_and_zero}
-use Rattle.avr_model.specs.Product.{product_of, word_of, result_of, is_fractional, flags_of_product}
+use Rattle.avr_model.specs.Product.{word_of, result_of, is_fractional, flags_of_product}
 use Rattle.bit_domain.specs.declared.bits.Tri.{Tri}
-use Rattle.bit_domain.specs.declared.bits.Tri.TheVariants.{Zero, One, Any}
+use Rattle.bit_domain.specs.declared.bits.Tri.TheVariants.{Any}
 use Rattle.bit_domain.specs.declared.bytes.TriByte.{TriByte}
 use Rattle.bit_domain.specs.Tri.{Permits, IsTriWithin, tri_bit}
-use Rattle.bit_domain.specs.TriByte.{tri_at, Has, IsWithin, byte_known, byte_any, byte_constant, byte_with}
+use Rattle.bit_domain.specs.TriByte.{Has, IsWithin, byte_any, byte_constant, byte_with}
 use Rattle.bit_domain.proofs.AllLaws.{bytes_are_sets, writes_cover, bytes_are_their_bits}
 use Rattle.abs_alu.specs.Flags.{carry_and_zero}
 use Rattle.abs_alu.specs.Product.{product_of_constants, abs_mul}
 use Rattle.abs_alu.specs.Laws.{CoversWord, ProductsCover, IsAnswerWithin}
-use Rattle.abs_alu.proofs.FlagCover.{below_two, has_known, same_within}
+use Rattle.abs_alu.proofs.FlagCover.{below_two, has_known}
 
 -- the two flags that a product changes
 pub carry_bit_is : (c z : Bool) (w : ℕ) → bit_at (with_carry_and_zero c z w) 0 ≡ from_bool c
@@ -140,9 +140,11 @@ constants_cover op s x y w hx hy hs =
     let r = result_of op x y in
     let small = result_small op x y hx hy in
     let carry = leb 32768 (word_of op x y) in
-    let none = eqb r 0 in
-    (has_known (r % 256) (omega arith), has_known (r / 256) (omega arith),
-     written_has s (tri_bit (from_bool carry)) (tri_bit (from_bool none)) carry none w (bit_permits carry) (bit_permits none) hs)
+    let none = eqb r 0 in (
+      has_known (r % 256) (omega arith),
+      has_known (r / 256) (omega arith),
+      written_has s (tri_bit (from_bool carry)) (tri_bit (from_bool none)) carry none w (bit_permits carry) (bit_permits none) hs,
+    )
 
 unknown_covers : (op : Mul) (s : TriByte) (x y w : ℕ) → Has s w
     → CoversWord ((byte_any, byte_any), carry_and_zero Any Any s) (result_of op x y) (flags_of_product op x y w)
@@ -168,9 +170,10 @@ all_products_cover = record {
 -- where the wider operands are constant, the others are the same; else all is unknown
 unknown_within : (op : Mul) (a b : Option ℕ) (s s' : TriByte) → IsWithin s s'
     → IsAnswerWithin (product_of_constants op a b s) ((byte_any, byte_any), carry_and_zero Any Any s')
-unknown_within op (Some x) (Some y) s s' ws =
-    (((λ k h p. any_has k), (λ k h p. any_has k)),
-     carry_and_zero_within (tri_bit (from_bool (leb 32768 (word_of op x y)))) (tri_bit (from_bool (eqb (result_of op x y) 0))) Any Any s s' (λ n p. tt) (λ n p. tt) ws)
+unknown_within op (Some x) (Some y) s s' ws = (
+  ((λ k h p. any_has k), (λ k h p. any_has k)),
+  carry_and_zero_within (tri_bit (from_bool (leb 32768 (word_of op x y)))) (tri_bit (from_bool (eqb (result_of op x y) 0))) Any Any s s' (λ n p. tt) (λ n p. tt) ws,
+)
 unknown_within op (Some x) None s s' ws = (((λ k h p. p), (λ k h p. p)), carry_and_zero_within Any Any Any Any s s' (λ n p. tt) (λ n p. tt) ws)
 unknown_within op None b s s' ws = (((λ k h p. p), (λ k h p. p)), carry_and_zero_within Any Any Any Any s s' (λ n p. tt) (λ n p. tt) ws)
 

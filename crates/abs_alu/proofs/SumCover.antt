@@ -1,11 +1,10 @@
 -- Sums and differences with their flags stand for the machine's.
-use Rattle.std.proofs.Common.{◌≡◌, subst, sym, ap, ℕ, ◌+◌, ◌-◌, ◌/◌, ◌%◌, ◌<◌, arith, min, Bool, true, false, eqb, leb, ltb, ◌&&◌, ◌||◌, not}
+use Rattle.std.proofs.Common.{◌≡◌, subst, sym, ℕ, ◌+◌, ◌/◌, ◌%◌, ◌<◌, arith, Bool, true, false, eqb, leb, ltb, ◌&&◌, ◌||◌, not}
 use Rattle.std.proofs.Math.Bool.{and-true}
 use Rattle.std.proofs.lemmas.Int.{ints}
-use Rattle.std.specs.Int.{bit_at, from_bool}
+use Rattle.std.specs.Int.{from_bool}
 use Rattle.avr_model.specs.Sreg.{flag}
 use Rattle.avr_model.specs.Sums.{sum_of, signed_sum_of, overflows, flags_of_sum, difference_of, signed_difference_of, flags_of_difference}
-use Rattle.bit_domain.specs.declared.bits.Tri.{Tri}
 use Rattle.bit_domain.specs.declared.bytes.TriByte.{TriByte}
 use Rattle.bit_domain.specs.declared.sums.Sum.{Sum}
 use Rattle.bit_domain.specs.Tri.{Permits, tri_xor, tri_and}

@@ -1,12 +1,11 @@
 -- Sums and differences of a word with their flags stand for the machine's.
-use Rattle.std.proofs.Common.{◌≡◌, ◌∙◌, subst, sym, ap, refl, ℕ, ◌+◌, ◌-◌, ◌*◌, ◌/◌, ◌%◌, ◌<◌, ◌≤◌, min, arith, Bool, true, false, eqb, leb, ltb}
+use Rattle.std.proofs.Common.{◌≡◌, subst, refl, ℕ, ◌+◌, ◌-◌, ◌*◌, ◌/◌, ◌%◌, ◌<◌, min, arith, Bool, true, false, eqb, leb, ltb}
 use Rattle.std.proofs.lemmas.Int.{ints}
 use Rattle.std.specs.Prelude.{pos, ◌+ℤ◌, ◌-ℤ◌}
 use Rattle.std.specs.Int.{bit_at, from_bool, cast_signed, w16}
 use Rattle.avr_model.specs.Sreg.{with_flags, flag}
 use Rattle.avr_model.specs.Wide.{overflows_word, flags_of_word_sum, flags_of_word_difference, word_difference_of, wide_of, flags_of_wide}
-use Rattle.bit_domain.specs.declared.bits.Tri.{Tri}
-use Rattle.bit_domain.specs.declared.bits.Tri.TheVariants.{Zero, One, Any}
+use Rattle.bit_domain.specs.declared.bits.Tri.TheVariants.{Zero}
 use Rattle.bit_domain.specs.declared.bytes.TriByte.{TriByte}
 use Rattle.bit_domain.specs.declared.sums.Sum.{Sum}
 use Rattle.bit_domain.specs.Tri.{Permits, tri_and, tri_xor}
@@ -16,7 +15,7 @@ use Rattle.bit_domain.proofs.AllLaws.{bits_cover, sums_cover}
 use Rattle.abs_alu.specs.Flags.{tri_zero}
 use Rattle.abs_alu.specs.Words.{word_answer, word_sum, word_difference, abs_wide}
 use Rattle.abs_alu.specs.Laws.{CoversWord, WordsCover}
-use Rattle.abs_alu.proofs.FlagCover.{flags_cover, below_two, has_known, zero_covers, top_is, kept_covers}
+use Rattle.abs_alu.proofs.FlagCover.{flags_cover, below_two, has_known, zero_covers, kept_covers}
 
 -- a word of two bytes, with what the machine's flags are of its halves
 word_covers : (low high : Sum) (s : TriByte) (r w h o : ℕ) (out over : Bool) → r < 65536 → h < 2 → o < 2
@@ -31,15 +30,15 @@ word_covers low high s r w h o out over small hh ho pl ph pt po hs is_out is_ove
       pl,
       ph,
       flags_cover high.out (tri_and (tri_zero low.bits) (tri_zero high.bits)) (tri_at high.bits 7) (tri_xor high.into_top high.out) (tri_at s 5) s
-      out (eqb r 0) (leb 32768 r) over (flag w 5) w
-      (subst (Permits high.out) is_out po)
-      (subst (Permits (tri_and (tri_zero low.bits) (tri_zero high.bits))) zero_is
-      (bits_cover.ands (tri_zero low.bits) (tri_zero high.bits) (from_bool (eqb (r % 256) 0)) (from_bool (eqb (r / 256) 0))
-      (below_two (eqb (r % 256) 0)) (below_two (eqb (r / 256) 0)) (zero_covers low.bits (r % 256) low_small pl) (zero_covers high.bits (r / 256) high_small ph)))
-      (subst (Permits (tri_at high.bits 7)) top (ph 7 (omega arith)))
-      (subst (Permits (tri_xor high.into_top high.out)) is_over (bits_cover.xors high.into_top high.out h o hh ho pt po))
-      (kept_covers s w 5 (omega arith) hs)
-      hs,
+          out (eqb r 0) (leb 32768 r) over (flag w 5) w
+          (subst (Permits high.out) is_out po)
+          (subst (Permits (tri_and (tri_zero low.bits) (tri_zero high.bits))) zero_is
+          (bits_cover.ands (tri_zero low.bits) (tri_zero high.bits) (from_bool (eqb (r % 256) 0)) (from_bool (eqb (r / 256) 0))
+          (below_two (eqb (r % 256) 0)) (below_two (eqb (r / 256) 0)) (zero_covers low.bits (r % 256) low_small pl) (zero_covers high.bits (r / 256) high_small ph)))
+          (subst (Permits (tri_at high.bits 7)) top (ph 7 (omega arith)))
+          (subst (Permits (tri_xor high.into_top high.out)) is_over (bits_cover.xors high.into_top high.out h o hh ho pt po))
+          (kept_covers s w 5 (omega arith) hs)
+          hs,
     )
 
 -- V of a word is that of its high byte, which the low byte gives a carry or borrow c

@@ -5,7 +5,7 @@ use Rattle.avr_model.specs.declared.operation.Logic.TheVariants.{And, Or, Eor}
 use Rattle.avr_model.specs.declared.operation.Shift.{Shift}
 use Rattle.avr_model.specs.declared.operation.Shift.TheVariants.{Lsr, Ror, Asr}
 use Rattle.bit_domain.specs.declared.bits.Tri.{Tri}
-use Rattle.bit_domain.specs.declared.bits.Tri.TheVariants.{Zero, One, Any}
+use Rattle.bit_domain.specs.declared.bits.Tri.TheVariants.{Zero, One}
 use Rattle.bit_domain.specs.declared.bytes.TriByte.{TriByte}
 use Rattle.bit_domain.specs.Tri.{tri_xor}
 use Rattle.bit_domain.specs.TriByte.{tri_at, byte_of, byte_known}

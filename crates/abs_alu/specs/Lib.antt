@@ -4,3 +4,4 @@ pub mod Bitwise
 pub mod Product
 pub mod Words
 pub mod Laws
+pub mod Examples

@@ -4,8 +4,7 @@ use Rattle.std.specs.Prelude.{Option, Some, None}
 use Rattle.std.specs.Int.{from_bool}
 use Rattle.avr_model.specs.declared.operation.Mul.{Mul}
 use Rattle.avr_model.specs.Product.{word_of, result_of}
-use Rattle.bit_domain.specs.declared.bits.Tri.{Tri}
-use Rattle.bit_domain.specs.declared.bits.Tri.TheVariants.{Zero, One, Any}
+use Rattle.bit_domain.specs.declared.bits.Tri.TheVariants.{Any}
 use Rattle.bit_domain.specs.declared.bytes.TriByte.{TriByte}
 use Rattle.bit_domain.specs.Tri.{tri_bit}
 use Rattle.bit_domain.specs.TriByte.{byte_known, byte_any, byte_constant}

@@ -1,7 +1,6 @@
 -- Sums and differences of a word and a small number, as two sums of bytes. A word is the pair of its low and high byte.
 use Rattle.std.specs.Prelude.{ℕ, Bool, if◌then◌else◌}
-use Rattle.bit_domain.specs.declared.bits.Tri.{Tri}
-use Rattle.bit_domain.specs.declared.bits.Tri.TheVariants.{Zero, One, Any}
+use Rattle.bit_domain.specs.declared.bits.Tri.TheVariants.{Zero}
 use Rattle.bit_domain.specs.declared.bytes.TriByte.{TriByte}
 use Rattle.bit_domain.specs.declared.sums.Sum.{Sum}
 use Rattle.bit_domain.specs.Tri.{tri_and, tri_xor}

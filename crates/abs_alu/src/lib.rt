@@ -14,3 +14,6 @@ pub use bitwise::{com, logic, shift, step_one};
 pub use product::mul;
 pub use sums::{add, sub};
 pub use words::wide;
+
+#[cfg(test)]
+mod tests;

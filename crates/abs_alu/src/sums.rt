@@ -26,13 +26,7 @@ pub fn add(a: TriByte, b: TriByte, carry: Tri, s: TriByte) -> (TriByte, TriByte)
 
 /// SUB, SUBI, CP, CPI and NEG, and with `keep_zero` SBC, SBCI and CPC: `a` less `b` and a borrow, with the register after
 /// it, where it was `s`. With `keep_zero` Z is set only where it was.
-pub fn sub(
-    a: TriByte,
-    b: TriByte,
-    borrow: Tri,
-    keep_zero: bool,
-    s: TriByte,
-) -> (TriByte, TriByte)
+pub fn sub(a: TriByte, b: TriByte, borrow: Tri, keep_zero: bool, s: TriByte) -> (TriByte, TriByte)
     ensures { result ≡ abs_sub a b borrow keep_zero s }
 {
     let difference = bit_domain::sums::sub(a, b, borrow);

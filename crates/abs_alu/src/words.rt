@@ -20,12 +20,7 @@ fn answer(low: Sum, high: Sum, s: TriByte) -> ((TriByte, TriByte), TriByte)
 
 /// ADIW where `up`, else SBIW: the word of low and high byte `a` plus or less `k`, with the register after it, where it was
 /// `s`. Z says that the whole word is 0, and H is kept.
-pub fn wide(
-    up: bool,
-    a: (TriByte, TriByte),
-    k: u8,
-    s: TriByte,
-) -> ((TriByte, TriByte), TriByte)
+pub fn wide(up: bool, a: (TriByte, TriByte), k: u8, s: TriByte) -> ((TriByte, TriByte), TriByte)
     ensures { result ≡ abs_wide up a k s }
 {
     let (number, nothing) = (TriByte::of(k), TriByte::of(0));

@@ -6,7 +6,7 @@ use Rattle.bit_domain.specs.Tri.{tri_bit}
 use Rattle.bit_domain.specs.TriByte.{tri_of, tri_at}
 use Rattle.bit_domain.specs.Laws.{BitsCover, BytesAreTheirBits, BytesAreSets, SumsCover, SumsAreMonotone}
 use Rattle.bit_domain.proofs.Bounds.{tri_not-permits, tri_and-permits, tri_xor-permits, tri_not-within, tri_and-within, tri_xor-within}
-use Rattle.bit_domain.proofs.Built.{at_byte_of, is_byte_of, byte_of-same, from_bits, value_small}
+use Rattle.bit_domain.proofs.Built.{at_byte_of, is_byte_of, same_fields, byte_of-same, from_bits, value_small}
 use Rattle.bit_domain.proofs.Members.{from_sets, has_least, bits_within, within_bits, has_built, within_built}
 use Rattle.bit_domain.proofs.Meets.{known_has}
 use Rattle.bit_domain.proofs.Differences.{all_sums_cover, all_sums_are_monotone}
@@ -30,6 +30,7 @@ bytes_are_their_bits = record {
   is_built = λ t. sym (is_byte_of t (tri_at t) (λ i h. refl));
   built = is_byte_of;
   same = byte_of-same;
+  from_fields = same_fields;
   from_bits = from_bits;
   from_sets = from_sets;
 }

@@ -18,10 +18,11 @@ half_of_known : (byte_sum (byte_known 0x0F) (byte_known 1) Zero).half ≡ One
 unfolding packed carry_into
 half_of_known = refl
 
--- an even byte, and one more: bits 0 of the sum is known, all others may be changed by no carry
+-- a byte that is even, with all other bits unknown
 abbrev even : TriByte
 even = byte_of (λ i. if i == 0 then Zero else Any)
 
+-- one more than an even byte is odd, and no more is known
 sum_of_even : (byte_sum even (byte_known 1) Zero).bits.known ≡ 1
 unfolding packed carry_into
 sum_of_even = refl

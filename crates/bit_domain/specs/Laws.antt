@@ -18,12 +18,13 @@ pub record BitsCover : Type 0 where
   pub ands_within : (t u t' u' : Tri) → IsTriWithin t t' → IsTriWithin u u' → IsTriWithin (tri_and t u) (tri_and t' u')
   pub xors_within : (t u t' u' : Tri) → IsTriWithin t t' → IsTriWithin u u' → IsTriWithin (tri_xor t u) (tri_xor t' u')
 
--- a byte of given bits has them, each byte is the one of its bits, and what stands for the same is the same
+-- a byte of given bits has them, each byte is the one of its bits, and fields, bits or members determine it
 pub record BytesAreTheirBits : Type 0 where
   pub has_bits : (f : ℕ → Tri) (i : ℕ) → i < 8 → tri_at (byte_of f) i ≡ f i
   pub is_built : (t : TriByte) → byte_of (tri_at t) ≡ t
   pub built : (t : TriByte) (f : ℕ → Tri) → ((i : ℕ) → i < 8 → tri_at t i ≡ f i) → t ≡ byte_of f
   pub same : (f g : ℕ → Tri) → ((i : ℕ) → i < 8 → f i ≡ g i) → byte_of f ≡ byte_of g
+  pub from_fields : (t u : TriByte) → t.known ≡ u.known → t.value ≡ u.value → t ≡ u
   pub from_bits : (t u : TriByte) → ((i : ℕ) → i < 8 → tri_at t i ≡ tri_at u i) → t ≡ u
   pub from_sets : (t u : TriByte) → IsWithin t u → IsWithin u t → t ≡ u
 

@@ -3,8 +3,11 @@
 /// A bit that is 0, 1, or either.
 #[derive(Clone, Copy, PartialEq, Eq, Debug)]
 pub enum Tri {
+    /// It is 0.
     Zero,
+    /// It is 1.
     One,
+    /// It may be either.
     Any,
 }
 

@@ -7,7 +7,7 @@ pub fn bits_cover()
     ensures { BitsCover }
 {}
 
-/// A byte of given bits has them, each byte is the one of its bits, and what stands for the same is the same.
+/// A byte of given bits has them, each byte is the one of its bits, and fields, bits or members determine it.
 pub fn bytes_are_their_bits()
     ensures { BytesAreTheirBits }
 {}

@@ -2,7 +2,6 @@ use Rattle.std.proofs.Common.{◌≡◌, ◌∙◌, ◌<◌, ◌+◌, ◌/◌, �
 use Rattle.std.proofs.Math.Numerals.{add-one}
 use Rattle.std.proofs.lemmas.Nat.Bits.{bit_at-suc}
 use Rattle.std.specs.Int.{bit_at}
-use Rattle.bit_domain.specs.declared.bits.Tri.{Tri}
 use Rattle.bit_domain.specs.declared.bytes.TriByte.{TriByte}
 use Rattle.bit_domain.specs.TriByte.{tri_of, tri_at}
 use Rattle.bit_domain.proofs.AllLaws.{bytes_are_their_bits}
@@ -21,4 +20,4 @@ returns c =
     ∙ (λ p. tri_of (next_bit a.known i p) (next_bit a.value i p)) in
     c.with.ensures
     ∙ bytes_are_their_bits.same (λ i. cond (eqb i 7) c.args.top (tri_at n i)) (λ i. cond (eqb i 7) c.args.top (tri_at a (i + 1))) (λ i h.
-        ap (cond (eqb i 7) c.args.top) (moved i h))
+    ap (cond (eqb i 7) c.args.top) (moved i h))

@@ -1,4 +1,4 @@
-use Rattle.std.proofs.Common.{◌≡◌, ◌∙◌, ap}
+use Rattle.std.proofs.Common.{◌∙◌, ap}
 use Rattle.bit_domain.specs.TriByte.{byte_known}
 use Rattle.bit_domain.specs.Logic.{byte_equal}
 use Rattle.abs_alu.specs.Flags.{result_flags}

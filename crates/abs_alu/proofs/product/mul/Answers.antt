@@ -1,8 +1,7 @@
-use Rattle.std.proofs.Common.{◌≡◌, ◌∙◌, ◌<◌, ◌/◌, ◌%◌, ap, arith, Some}
-use Rattle.std.specs.Int.{bit_at, from_bool}
+use Rattle.std.proofs.Common.{◌≡◌, ◌∙◌, ◌/◌, ◌%◌, ap, arith}
+use Rattle.std.specs.Int.{bit_at}
 use Rattle.std.specs.Prelude.{nat_le, ◌==◌, slice_index}
 use Rattle.avr_model.specs.Product.{word_of, result_of}
-use Rattle.bit_domain.specs.declared.bits.Tri.{Tri}
 use Rattle.bit_domain.specs.declared.bytes.TriByte.{TriByte}
 use Rattle.bit_domain.specs.Tri.{tri_bit}
 use Rattle.bit_domain.specs.TriByte.{byte_known, tri_at}
