@@ -5,7 +5,9 @@ ghost use Rattle.std.specs.Option.{option_copied};
 ghost use Rattle.cert_format.specs.Certificate.{IsClaim, claim_of};
 
 use abs_step::NodeKey;
+use line_reading::Malformed;
 use std::marker::Model;
+use thiserror::Error;
 use witness_replay::Schedule;
 
 /// A claim about a firmware: at most `bound` bytes lie on the stack. Beside the bound it has the root's rank and need, the
@@ -28,6 +30,25 @@ impl Model for Certificate {
     ghost view = { λ c. claim_of c.bound c.rank c.need c.nodes.items c.witness };
 
     ghost invariant = { λ c. IsClaim (claim_of c.bound c.rank c.need c.nodes.items c.witness) };
+}
+
+/// Why a text is no certificate, or isn't read.
+#[derive(Clone, Copy, Debug, PartialEq, Eq, Drop, Error)]
+pub enum CertFault {
+    /// The text is that of no certificate.
+    #[error("certificate malformed")]
+    Malformed,
+    /// Want of memory.
+    #[error("out of memory")]
+    Memory,
+}
+
+impl From<Malformed> for CertFault {
+    fn from(_fault: Malformed) -> CertFault
+        ensures { result ≡ CertFault.Malformed }
+    {
+        CertFault::Malformed
+    }
 }
 
 impl Certificate {

@@ -2,5 +2,6 @@
 #![tactic(auto)]
 
 pub mod certificate;
+mod reading;
 
-pub use certificate::Certificate;
+pub use certificate::{CertFault, Certificate};

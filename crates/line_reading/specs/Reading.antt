@@ -1,5 +1,5 @@
 -- Reading the words of a line, and lines. A reading gives a value and what is left, or nothing.
-use Rattle.std.specs.Prelude.{◌≡◌, ℕ, ◌+◌, List, [], ◌∷◌, Bool, true, false, Option, Some, None, Result, Ok, Err, if◌then◌else◌}
+use Rattle.std.specs.Prelude.{◌≡◌, ℕ, ◌+◌, List, [], ◌∷◌, Bool, true, false, Option, Some, None, Result, Ok, Err, take, drop, if◌then◌else◌}
 use Rattle.std.specs.Str.{bytes_eq}
 use Rattle.sb_base.specs.Lines.{TextLine, Place, size_of}
 use Rattle.sb_base.specs.Digits.{hex_answer, dec_answer}
@@ -32,6 +32,16 @@ abbrev pub word_at : List ℕ → List (List ℕ) → Option (Unit {0} × List (
 word_at text [] = None
 word_at text (w ∷ ws) = if bytes_eq w text then Some (tt, ws) else None
 
+-- these words, one after the other
+abbrev pub these_at : List (List ℕ) → List (List ℕ) → Option (Unit {0} × List (List ℕ))
+these_at [] ws = Some (tt, ws)
+these_at (t ∷ ts) ws = word_at t ws >>= λ r. these_at ts r.1
+
+-- this byte, and behind it in the same word a decimal of at most `most`
+abbrev pub marked_at : ℕ → ℕ → List (List ℕ) → Option (ℕ × List (List ℕ))
+marked_at mark most [] = None
+marked_at mark most (w ∷ ws) = if bytes_eq (take 1 w) (mark ∷ []) then dec_at most (drop 1 w ∷ ws) else None
+
 -- no word is left
 abbrev pub is_over : List (List ℕ) → Bool
 is_over [] = true
@@ -39,7 +49,7 @@ is_over (w ∷ ws) = false
 
 -- ---- lines: a refusal tells the offset of the refused line
 
-abbrev pub then_at : {A B : Type 0} → Result A ℕ → (A → Result B ℕ) → Result B ℕ
+abbrev pub then_at : {A B E : Type 0} → Result A E → (A → Result B E) → Result B E
 then_at (Ok x) f = f x
 then_at (Err at) f = Err at
 
@@ -60,3 +70,39 @@ line_in at (l ∷ ls) = if l.whole then Ok (l.text, record { at = at + size_of l
 -- the next line, which has to be this text
 unfoldable pub exactly : List ℕ → Place → Result (Unit {0} × Place) ℕ
 exactly text p = then_at (line_in p.at p.rest) (λ l. if bytes_eq l.0 text then Ok (tt, l.1) else Err p.at)
+
+-- ---- lines whose refusal leaves the reader at the refused line: a refusal tells that place
+
+-- the text of the first line, which has to be whole
+abbrev pub text_in : List TextLine → Option (List ℕ)
+text_in [] = None
+text_in (l ∷ ls) = if l.whole then Some l.text else None
+
+-- the first line, which has to be whole, read by its text
+abbrev pub first_by : {A : Type 0} → (List ℕ → Option A) → List TextLine → Option A
+first_by f ls = text_in ls >>= f
+
+-- this text
+abbrev pub this_by : List ℕ → List ℕ → Option (Unit {0})
+this_by text t = if bytes_eq t text then Some tt else None
+
+abbrev pub passed_from : ℕ → List TextLine → Place
+passed_from at [] = record { at = at; rest = [] }
+passed_from at (l ∷ ls) = record { at = at + size_of l; rest = ls }
+
+-- the place behind the next line
+abbrev pub passed : Place → Place
+passed p = passed_from p.at p.rest
+
+abbrev pub taken : {A : Type 0} → Option A → Place → Place → Result (A × Place) Place
+taken None here next = Err here
+taken (Some x) here next = Ok (x, next)
+
+-- the next line, read by its text, and the place behind it
+unfoldable pub line_by : {A : Type 0} → (List ℕ → Option A) → Place → Result (A × Place) Place
+line_by f p = taken (first_by f p.rest) p (passed p)
+
+-- what a call gave, and where it left the reader, is what the reading gives
+abbrev pub ReadsAt : {X Y : Type 0} → (X → Y) → Place → Result X Malformed → Result (Y × Place) Place → Type 0
+ReadsAt view after (Ok x) due = due ≡ Ok (view x, after)
+ReadsAt view after (Err fault) due = (due ≡ Err after) × (fault.0 ≡ after.at)

@@ -2,9 +2,11 @@
 //! reading is a function in `specs/Reading.antt`, which the calls here compute.
 #![tactic(auto)]
 
-ghost use Rattle.std.specs.Prelude.{◌≡◌, ◌≤◌, ◌<◌, ◌^◌, IfSome, IfOk, None, length};
+pub mod laws;
+
+ghost use Rattle.std.specs.Prelude.{◌≡◌, ◌≤◌, ◌<◌, ◌^◌, IfSome, IfOk, None, length, replicate};
 ghost use Rattle.std.specs.Option.{option_map};
-ghost use Rattle.line_reading.specs.Reading.{hex_at, dec_at, word_at, is_over, Reads, line_in, exactly};
+ghost use Rattle.line_reading.specs.Reading.{hex_at, dec_at, word_at, these_at, marked_at, is_over, Reads, line_in, exactly, text_in, first_by, this_by, taken, passed, line_by, ReadsAt};
 
 use sb_base::{LineReader, Words, read_dec, read_hex};
 
@@ -47,6 +49,32 @@ pub fn expect_word(words: &mut Words<'_>, text: &[u8]) -> Option<()>
     }
 }
 
+/// The next words, each of which has to be this one, so many times.
+#[tactic(auto, using(crate::proofs::Repeated::one_more, crate::proofs::Repeated::one_else, crate::proofs::Repeated::all_were))]
+pub fn expect_words(words: &mut Words<'_>, text: &[u8], count: usize) -> Option<()>
+    ensures { option_map (λ u. (u, words.new)) result ≡ these_at (replicate count text.now) words.old }
+{
+    for _ in 0..count {
+        expect_word(words, text)?;
+    }
+    Some(())
+}
+
+/// The next word, as this byte and behind it a canonical decimal of at most `most`.
+pub fn marked_word(words: &mut Words<'_>, mark: u8, most: u64) -> Option<u64>
+    ensures exact { option_map (λ n. (n, words.new)) result ≡ marked_at mark most words.old }
+    ensures small { IfSome result (λ n. n ≤ most) }
+{
+    let word = words.next()?;
+    if !word.starts_with(&[mark]) {
+        return None;
+    }
+    match read_dec(&word[1..], most) {
+        Ok(number) => Some(number),
+        Err(_) => None,
+    }
+}
+
 /// Whether no word is left.
 pub fn is_over(words: &mut Words<'_>) -> bool
     ensures { result ≡ is_over words.old }
@@ -82,4 +110,53 @@ pub fn expect_line(reader: &mut LineReader<'_>, text: &[u8]) -> Result<(), Malfo
     } else {
         Err(Malformed(at))
     }
+}
+
+/// The text of the next line, which stays the next one. None exactly where no line is left or the next isn't whole.
+pub fn peek_text<'a>(reader: &LineReader<'a>) -> Option<&'a [u8]>
+    ensures { option_map (λ t. t.now) result ≡ text_in reader.now.rest }
+{
+    let line = reader.peek()?;
+    if line.whole { Some(line.text) } else { None }
+}
+
+/// Passes over the next line, if one is left.
+pub fn pass_line(reader: &mut LineReader<'_>)
+    ensures { reader.new ≡ passed reader.old }
+{
+    let _ = reader.next();
+}
+
+/// Whether the next line is whole and this text.
+pub fn next_is(reader: &LineReader<'_>, text: &[u8]) -> Option<()>
+    ensures { result ≡ first_by (this_by text.now) reader.now.rest }
+{
+    if peek_text(reader)? == text {
+        Some(())
+    } else {
+        None
+    }
+}
+
+/// What was found in the next line, which is then passed over. Where nothing was found the line is refused, and the reader
+/// stays before it.
+pub fn take_line<T>(reader: &mut LineReader<'_>, found: Option<T>) -> Result<T, Malformed>
+    ensures exact { ReadsAt (λ x. x) reader.new result (taken found reader.old (passed reader.old)) }
+{
+    match found {
+        Some(value) => {
+            pass_line(reader);
+            Ok(value)
+        }
+        None => Err(Malformed(reader.offset())),
+    }
+}
+
+/// The next line, which has to be whole and this text. A refusal leaves the reader before it.
+#[tactic(auto, unfolding(crate::specs::Reading::line_by))]
+pub fn take_text(reader: &mut LineReader<'_>, text: &[u8]) -> Result<(), Malformed>
+    ensures exact { ReadsAt (λ u. u) reader.new result (line_by (this_by text.now) reader.old) }
+{
+    let found = next_is(reader, text);
+    take_line(reader, found)
 }

@@ -1,2 +1,4 @@
 pub mod Spelling
+pub mod Reading
+pub mod Exact
 pub mod Replay

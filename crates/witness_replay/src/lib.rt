@@ -1,6 +1,8 @@
 //! Schedules: lists of choices as counted runs, their one text, and the run of the machine that they choose.
 #![tactic(auto)]
 
+pub mod laws;
+mod reading;
 pub mod schedule;
 
-pub use schedule::{Run, Schedule};
+pub use schedule::{Run, Schedule, ScheduleFault};

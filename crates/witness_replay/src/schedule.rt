@@ -1,8 +1,11 @@
 //! What a schedule is.
 
-ghost use Rattle.std.specs.Prelude.{◌≡◌};
+ghost use Rattle.std.specs.Prelude.{◌≡◌, None};
+ghost use Rattle.witness_replay.specs.Spelling.{AreRuns, most_choices};
 
+use line_reading::Malformed;
 use std::marker::Model;
+use thiserror::Error;
 
 /// Equal choices in a row, which are one line of a schedule.
 #[derive(Clone, Copy, Debug, PartialEq, Eq)]
@@ -32,7 +35,38 @@ impl Model for Schedule {
     ghost invariant = { λ s. AreRuns None most_choices s.runs.items };
 }
 
+/// Why a text is no schedule, or isn't read.
+#[derive(Clone, Copy, Debug, PartialEq, Eq, Drop, Error)]
+pub enum ScheduleFault {
+    /// No schedule goes on with the line at this offset; or a line is missing, and this is the text's length.
+    #[error("schedule malformed at {0}")]
+    Malformed(usize),
+    /// Want of memory.
+    #[error("out of memory")]
+    Memory,
+}
+
+impl From<Malformed> for ScheduleFault {
+    ghost use Rattle.std.specs.Prelude.{◌≡◌};
+    ghost use Rattle.witness_replay.specs.declared.schedule.ScheduleFault.{ScheduleFault};
+    ghost use Rattle.witness_replay.specs.declared.schedule.ScheduleFault.TheVariants.{Malformed as MalformedAt};
+
+    ghost from_gives = { λ fault e. e ≡ MalformedAt fault.0 };
+
+    fn from(fault: Malformed) -> ScheduleFault {
+        ScheduleFault::Malformed(fault.0)
+    }
+}
+
 impl Schedule {
+    /// The schedule with this fill byte and these runs.
+    pub(crate) fn new(fill: u8, runs: Vec<Run>) -> Schedule
+        requires { AreRuns None most_choices runs.items }
+        ensures { result ≡ record { fill = fill; runs = runs.items } }
+    {
+        Schedule { fill, runs }
+    }
+
     /// The byte that registers and SRAM hold at first.
     pub fn fill(&self) -> u8
         ensures { result ≡ self.now.fill }

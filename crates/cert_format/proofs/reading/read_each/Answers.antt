@@ -1,0 +1,15 @@
+use Rattle.std.proofs.Common.{refl}
+use Rattle.cert_format.proofs.Loop.{front_step, front_end, front_fault, refused}
+use Rattle.cert_format.proofs.reading.read_each.Goals as goal
+
+pub returns-in_err-node : goal.returns-in_err-node
+returns-in_err-node c =
+    let line = c.in_err-node.ensures.exact in
+    let due = front_fault c.loop.before c.loop.left c.args.count c.loop.counter c.loop.reader c.read_node.new.reader c.loop.nodes.items _ c.loop-test.true c.loop.invariant line.0 in
+    refused _ c.from_residual.result c.read_node.new.reader _ c.from_residual.ensures.1 c.from_residual.ensures.0 due
+
+pub loop-preserved : goal.loop-preserved
+loop-preserved c = ?
+
+pub returns : goal.returns
+returns c = front_end c.loop.before c.loop.left c.args.count c.loop.counter c.loop.reader c.loop.nodes.items _ ? c.loop.invariant
