@@ -1,5 +1,5 @@
 -- The commands, and which words are one. Source: own.
-use Rattle.std.specs.Prelude.{ℕ, ◌==◌, ◌&&◌, not, Bool, false, List, [], ◌∷◌, Option, Some, None, codes, ⊥, ◌≡◌, ◌⊎◌, if◌then◌else◌}
+use Rattle.std.specs.Prelude.{ℕ, ◌==◌, ◌&&◌, not, Bool, false, List, [], ◌∷◌, Option, Some, None, codes, ◌≡◌, ◌⊎◌, if◌then◌else◌}
 use Rattle.std.specs.Str.{bytes_eq}
 use Rattle.stack_core.specs.declared.command.Kind.{Kind}
 use Rattle.stack_core.specs.declared.command.Kind.TheVariants.{Check, Run}
