@@ -1,14 +1,38 @@
 //! The text of an instruction.
 
-ghost use Rattle.std.specs.Prelude.{◌≡◌, ◌++◌, ◌<◌, ◌/◌, ◌∷◌, [], IfOk, OnOk, codes};
-ghost use Rattle.avr_model.specs.Text.{digit, hex2, hex4, reg, comma, far, near, binary_name, immediate_name, unary_name, pointer_text, base_text, text_of, text_of_memory, text_of_flow};
-ghost use Rattle.avr_decode.specs.Piece.{piece, IsPrintable};
+ghost use Rattle.std.specs.Prelude.{◌≡◌, ◌++◌, ◌<◌, IfOk, OnOk};
+ghost use Rattle.avr_model.specs.Text.{digit, hex2, hex4, reg, far, near, binary_name, immediate_name, unary_name, pointer_text, base_text, text_of, text_of_memory, text_of_flow};
+ghost use Rattle.avr_decode.specs.Shape.{piece_text, shape_text};
 
 use avr_model::instruction::{Base, BinaryOp, ImmediateOp, Instr, Pointer, UnaryOp};
 use std::alloc::{AllocError, Global};
 
 /// How many words flash has, modulo which word addresses count.
 const WORDS: u16 = 16384;
+
+/// An operand as it is printed.
+#[derive(Clone, Copy)]
+enum Piece {
+    Register(u16),
+    /// `0x` and two digits.
+    Byte(u8),
+    /// `0x` and four digits.
+    Word(u16),
+    /// A decimal.
+    Number(u16),
+    /// A pointer, and how it changes.
+    Pointer(&'static str),
+    /// A pointer, and what is added to it: `0x` and two digits.
+    Displaced(&'static str, u8),
+}
+
+/// A mnemonic, with a space behind it where operands follow, and its operands.
+#[derive(Clone, Copy)]
+enum Shape {
+    Plain(&'static str),
+    Unary(&'static str, Piece),
+    Binary(&'static str, Piece, Piece),
+}
 
 /// An upper-case hexadecimal digit.
 fn hex_digit(n: u16) -> u8
@@ -24,10 +48,10 @@ fn put(out: &mut Vec<u8>, text: &str) -> Result<(), AllocError>
     out.extend_from_slice(text.as_bytes())
 }
 
-fn put_hex2(out: &mut Vec<u8>, n: u16) -> Result<(), AllocError>
-    requires { n < 256 }
-    ensures { OnOk result (out.new.items ≡ out.old.items ++ hex2 n) }
+fn put_hex2(out: &mut Vec<u8>, byte: u8) -> Result<(), AllocError>
+    ensures { OnOk result (out.new.items ≡ out.old.items ++ hex2 byte) }
 {
+    let n = byte as u16;
     out.extend_from_slice(&[b'0', b'x', hex_digit(n / 16), hex_digit(n % 16)])
 }
 
@@ -44,65 +68,48 @@ fn put_hex4(out: &mut Vec<u8>, n: u16) -> Result<(), AllocError>
     ])
 }
 
-fn put_reg(alloc: Global, out: &mut Vec<u8>, n: u16) -> Result<(), AllocError>
+fn put_register(alloc: Global, out: &mut Vec<u8>, n: u16) -> Result<(), AllocError>
     ensures { OnOk result (out.new.items ≡ out.old.items ++ reg n) }
 {
     let text = format!(in alloc; "r{n}")?;
     put(out, text.as_str())
 }
 
-/// An operand as it is printed.
-#[derive(Clone, Copy)]
-enum Piece {
-    Register(u16),
-    /// `0x` and two digits.
-    Byte(u16),
-    /// `0x` and four digits.
-    Word(u16),
-    /// A decimal.
-    Number(u16),
-    Name(&'static str),
-}
-
-fn put_piece(alloc: Global, out: &mut Vec<u8>, shown: Piece) -> Result<(), AllocError>
-    requires { IsPrintable shown }
-    ensures { OnOk result (out.new.items ≡ out.old.items ++ piece shown) }
+fn put_piece(alloc: Global, out: &mut Vec<u8>, piece: Piece) -> Result<(), AllocError>
+    ensures { OnOk result (out.new.items ≡ out.old.items ++ piece_text piece) }
 {
-    match shown {
-        Piece::Register(n) => put_reg(alloc, out, n),
+    match piece {
+        Piece::Register(n) => put_register(alloc, out, n),
         Piece::Byte(n) => put_hex2(out, n),
         Piece::Word(n) => put_hex4(out, n),
         Piece::Number(n) => {
             let text = format!(in alloc; "{n}")?;
             put(out, text.as_str())
         }
-        Piece::Name(t) => put(out, t),
+        Piece::Pointer(name) => put(out, name),
+        Piece::Displaced(name, n) => {
+            put(out, name)?;
+            put_hex2(out, n)
+        }
     }
 }
 
-fn put_unary(alloc: Global, out: &mut Vec<u8>, name: &str, first: Piece) -> Result<(), AllocError>
-    requires { IsPrintable first }
-    ensures { OnOk result (out.new.items ≡ out.old.items ++ (name.now ++ piece first)) }
+fn put_shape(alloc: Global, out: &mut Vec<u8>, shape: Shape) -> Result<(), AllocError>
+    ensures { OnOk result (out.new.items ≡ out.old.items ++ shape_text shape) }
 {
-    put(out, name)?;
-    put_piece(alloc, out, first)
-}
-
-fn put_binary(
-    alloc: Global,
-    out: &mut Vec<u8>,
-    name: &str,
-    first: Piece,
-    second: Piece,
-) -> Result<(), AllocError>
-    requires first { IsPrintable first }
-    requires second { IsPrintable second }
-    ensures { OnOk result (out.new.items ≡ out.old.items ++ (name.now ++ (piece first ++ (comma ++ piece second)))) }
-{
-    put(out, name)?;
-    put_piece(alloc, out, first)?;
-    put(out, ", ")?;
-    put_piece(alloc, out, second)
+    match shape {
+        Shape::Plain(name) => put(out, name),
+        Shape::Unary(name, only) => {
+            put(out, name)?;
+            put_piece(alloc, out, only)
+        }
+        Shape::Binary(name, first, second) => {
+            put(out, name)?;
+            put_piece(alloc, out, first)?;
+            put(out, ", ")?;
+            put_piece(alloc, out, second)
+        }
+    }
 }
 
 fn binary_name(op: BinaryOp) -> &'static str
@@ -175,6 +182,7 @@ fn base_text(base: Base) -> &'static str
     }
 }
 
+/// The word at a distance of 12 bits, in two's complement, from the next one.
 fn far_target(at: u16, k: u16) -> u16
     requires k { k < 4096 }
     ensures { result ≡ far at k }
@@ -186,6 +194,7 @@ fn far_target(at: u16, k: u16) -> u16
     }
 }
 
+/// The word at a distance of 7 bits, in two's complement, from the next one.
 fn near_target(at: u16, k: u16) -> u16
     requires k { k < 128 }
     ensures { result ≡ near at k }
@@ -197,267 +206,100 @@ fn near_target(at: u16, k: u16) -> u16
     }
 }
 
-fn put_ldd(alloc: Global, out: &mut Vec<u8>, d: u16, base: Base, q: u16) -> Result<(), AllocError>
+fn displaced(base: Base, q: u16) -> Piece
     requires { q < 256 }
-    ensures { OnOk result (out.new.items ≡ out.old.items ++ (codes "ldd " ++ (reg d ++ (comma ++ (base_text base ++ hex2 q))))) }
+    ensures { piece_text result ≡ base_text base ++ hex2 q }
 {
-    put_binary(
-        alloc,
-        out,
-        "ldd ",
-        Piece::Register(d),
-        Piece::Name(base_text(base)),
-    )?;
-    put_hex2(out, q)
+    Piece::Displaced(base_text(base), q as u8)
 }
 
-fn put_std(alloc: Global, out: &mut Vec<u8>, base: Base, q: u16, r: u16) -> Result<(), AllocError>
-    requires { q < 256 }
-    ensures { OnOk result (out.new.items ≡ out.old.items ++ (codes "std " ++ (base_text base ++ (hex2 q ++ (comma ++ reg r))))) }
+/// Arithmetic, and bits of registers and of SREG.
+fn shape_of(instr: &Instr, at: u16) -> Shape
+    ensures { shape_text result ≡ text_of instr.now at }
 {
-    put_unary(alloc, out, "std ", Piece::Name(base_text(base)))?;
-    put_hex2(out, q)?;
-    put(out, ", ")?;
-    put_reg(alloc, out, r)
-}
-
-fn put_flow(alloc: Global, out: &mut Vec<u8>, instr: &Instr, at: u16) -> Result<(), AllocError>
-    ensures { OnOk result (out.new.items ≡ out.old.items ++ text_of_flow instr.now at) }
-{
+    use Piece::{Byte, Number, Register};
     match *instr {
-        Instr::Jmp(k) => put_unary(alloc, out, "jmp ", Piece::Word(k.get())),
-        Instr::Call(k) => put_unary(alloc, out, "call ", Piece::Word(k.get())),
-        Instr::Rjmp(k) => put_unary(alloc, out, "rjmp ", Piece::Word(far_target(at, k.get()))),
-        Instr::Rcall(k) => put_unary(alloc, out, "rcall ", Piece::Word(far_target(at, k.get()))),
-        Instr::Brbs(s, k) => put_binary(
-            alloc,
-            out,
-            "brbs ",
-            Piece::Number(s.get()),
-            Piece::Word(near_target(at, k.get())),
-        ),
-        Instr::Brbc(s, k) => put_binary(
-            alloc,
-            out,
-            "brbc ",
-            Piece::Number(s.get()),
-            Piece::Word(near_target(at, k.get())),
-        ),
-        Instr::Nop => put(out, "nop"),
-        Instr::Ijmp => put(out, "ijmp"),
-        Instr::Icall => put(out, "icall"),
-        Instr::Ret => put(out, "ret"),
-        Instr::Reti => put(out, "reti"),
-        Instr::Sleep => put(out, "sleep"),
-        Instr::Break => put(out, "break"),
-        Instr::Wdr => put(out, "wdr"),
-        Instr::Lpm => put(out, "lpm"),
-        _ => Ok(()),
-    }
-}
-
-fn put_memory(alloc: Global, out: &mut Vec<u8>, instr: &Instr, at: u16) -> Result<(), AllocError>
-    ensures { OnOk result (out.new.items ≡ out.old.items ++ text_of_memory instr.now at) }
-{
-    match *instr {
-        Instr::Ldd(d, b, q) => put_ldd(alloc, out, d.get(), b, q.get()),
-        Instr::Std(b, q, r) => put_std(alloc, out, b, q.get(), r.get()),
-        Instr::Lds(d, k) => put_binary(
-            alloc,
-            out,
-            "lds ",
-            Piece::Register(d.get()),
-            Piece::Word(k),
-        ),
-        Instr::Sts(k, r) => put_binary(
-            alloc,
-            out,
-            "sts ",
-            Piece::Word(k),
-            Piece::Register(r.get()),
-        ),
-        Instr::Ld(d, p) => put_binary(
-            alloc,
-            out,
-            "ld ",
-            Piece::Register(d.get()),
-            Piece::Name(pointer_text(p)),
-        ),
-        Instr::St(p, r) => put_binary(
-            alloc,
-            out,
-            "st ",
-            Piece::Name(pointer_text(p)),
-            Piece::Register(r.get()),
-        ),
-        Instr::LpmZ(d) => put_binary(
-            alloc,
-            out,
-            "lpm ",
-            Piece::Register(d.get()),
-            Piece::Name("Z"),
-        ),
-        Instr::LpmZPlus(d) => put_binary(
-            alloc,
-            out,
-            "lpm ",
-            Piece::Register(d.get()),
-            Piece::Name("Z+"),
-        ),
-        Instr::Pop(d) => put_unary(alloc, out, "pop ", Piece::Register(d.get())),
-        Instr::Push(d) => put_unary(alloc, out, "push ", Piece::Register(d.get())),
-        Instr::In(d, a) => put_binary(
-            alloc,
-            out,
-            "in ",
-            Piece::Register(d.get()),
-            Piece::Byte(a.get()),
-        ),
-        Instr::Out(a, r) => put_binary(
-            alloc,
-            out,
-            "out ",
-            Piece::Byte(a.get()),
-            Piece::Register(r.get()),
-        ),
-        Instr::Cbi(a, b) => put_binary(
-            alloc,
-            out,
-            "cbi ",
-            Piece::Byte(a.get()),
-            Piece::Number(b.get()),
-        ),
-        Instr::Sbi(a, b) => put_binary(
-            alloc,
-            out,
-            "sbi ",
-            Piece::Byte(a.get()),
-            Piece::Number(b.get()),
-        ),
-        Instr::Sbic(a, b) => put_binary(
-            alloc,
-            out,
-            "sbic ",
-            Piece::Byte(a.get()),
-            Piece::Number(b.get()),
-        ),
-        Instr::Sbis(a, b) => put_binary(
-            alloc,
-            out,
-            "sbis ",
-            Piece::Byte(a.get()),
-            Piece::Number(b.get()),
-        ),
-        _ => put_flow(alloc, out, instr, at),
-    }
-}
-
-fn put_text(alloc: Global, out: &mut Vec<u8>, instr: &Instr, at: u16) -> Result<(), AllocError>
-    ensures { OnOk result (out.new.items ≡ out.old.items ++ text_of instr.now at) }
-{
-    match *instr {
-        Instr::Movw(d, r) => put_binary(
-            alloc,
-            out,
-            "movw ",
-            Piece::Register(2 * d.get()),
-            Piece::Register(2 * r.get()),
-        ),
-        Instr::Muls(d, r) => put_binary(
-            alloc,
-            out,
-            "muls ",
-            Piece::Register(d.get()),
-            Piece::Register(r.get()),
-        ),
-        Instr::Mulsu(d, r) => put_binary(
-            alloc,
-            out,
-            "mulsu ",
-            Piece::Register(d.get()),
-            Piece::Register(r.get()),
-        ),
-        Instr::Fmul(d, r) => put_binary(
-            alloc,
-            out,
-            "fmul ",
-            Piece::Register(d.get()),
-            Piece::Register(r.get()),
-        ),
-        Instr::Fmuls(d, r) => put_binary(
-            alloc,
-            out,
-            "fmuls ",
-            Piece::Register(d.get()),
-            Piece::Register(r.get()),
-        ),
-        Instr::Fmulsu(d, r) => put_binary(
-            alloc,
-            out,
-            "fmulsu ",
-            Piece::Register(d.get()),
-            Piece::Register(r.get()),
-        ),
-        Instr::Binary(op, d, r) => put_binary(
-            alloc,
-            out,
+        Instr::Movw(d, r) => Shape::Binary("movw ", Register(2 * d.get()), Register(2 * r.get())),
+        Instr::Muls(d, r) => Shape::Binary("muls ", Register(d.get()), Register(r.get())),
+        Instr::Mulsu(d, r) => Shape::Binary("mulsu ", Register(d.get()), Register(r.get())),
+        Instr::Fmul(d, r) => Shape::Binary("fmul ", Register(d.get()), Register(r.get())),
+        Instr::Fmuls(d, r) => Shape::Binary("fmuls ", Register(d.get()), Register(r.get())),
+        Instr::Fmulsu(d, r) => Shape::Binary("fmulsu ", Register(d.get()), Register(r.get())),
+        Instr::Binary(op, d, r) => Shape::Binary(
             binary_name(op),
-            Piece::Register(d.get()),
-            Piece::Register(r.get()),
+            Register(d.get()),
+            Register(r.get()),
         ),
-        Instr::Immediate(op, d, k) => put_binary(
-            alloc,
-            out,
-            immediate_name(op),
-            Piece::Register(d.get()),
-            Piece::Byte(k as u16),
+        Instr::Immediate(op, d, k) => Shape::Binary(immediate_name(op), Register(d.get()), Byte(k)),
+        Instr::Unary(op, d) => Shape::Unary(unary_name(op), Register(d.get())),
+        Instr::Adiw(d, k) => Shape::Binary("adiw ", Register(2 * d.get()), Byte(k.get() as u8)),
+        Instr::Sbiw(d, k) => Shape::Binary("sbiw ", Register(2 * d.get()), Byte(k.get() as u8)),
+        Instr::Bset(s) => Shape::Unary("bset ", Number(s.get())),
+        Instr::Bclr(s) => Shape::Unary("bclr ", Number(s.get())),
+        Instr::Bld(d, b) => Shape::Binary("bld ", Register(d.get()), Number(b.get())),
+        Instr::Bst(d, b) => Shape::Binary("bst ", Register(d.get()), Number(b.get())),
+        Instr::Sbrc(d, b) => Shape::Binary("sbrc ", Register(d.get()), Number(b.get())),
+        Instr::Sbrs(d, b) => Shape::Binary("sbrs ", Register(d.get()), Number(b.get())),
+        _ => shape_of_memory(instr, at),
+    }
+}
+
+/// Loads, stores and ports.
+fn shape_of_memory(instr: &Instr, at: u16) -> Shape
+    ensures { shape_text result ≡ text_of_memory instr.now at }
+{
+    use Piece::{Byte, Number, Pointer, Register, Word};
+    match *instr {
+        Instr::Ldd(d, b, q) => Shape::Binary("ldd ", Register(d.get()), displaced(b, q.get())),
+        Instr::Std(b, q, r) => Shape::Binary("std ", displaced(b, q.get()), Register(r.get())),
+        Instr::Lds(d, k) => Shape::Binary("lds ", Register(d.get()), Word(k)),
+        Instr::Sts(k, r) => Shape::Binary("sts ", Word(k), Register(r.get())),
+        Instr::Ld(d, p) => Shape::Binary("ld ", Register(d.get()), Pointer(pointer_text(p))),
+        Instr::St(p, r) => Shape::Binary("st ", Pointer(pointer_text(p)), Register(r.get())),
+        Instr::LpmZ(d) => Shape::Binary("lpm ", Register(d.get()), Pointer("Z")),
+        Instr::LpmZPlus(d) => Shape::Binary("lpm ", Register(d.get()), Pointer("Z+")),
+        Instr::Pop(d) => Shape::Unary("pop ", Register(d.get())),
+        Instr::Push(d) => Shape::Unary("push ", Register(d.get())),
+        Instr::In(d, a) => Shape::Binary("in ", Register(d.get()), Byte(a.get() as u8)),
+        Instr::Out(a, r) => Shape::Binary("out ", Byte(a.get() as u8), Register(r.get())),
+        Instr::Cbi(a, b) => Shape::Binary("cbi ", Byte(a.get() as u8), Number(b.get())),
+        Instr::Sbi(a, b) => Shape::Binary("sbi ", Byte(a.get() as u8), Number(b.get())),
+        Instr::Sbic(a, b) => Shape::Binary("sbic ", Byte(a.get() as u8), Number(b.get())),
+        Instr::Sbis(a, b) => Shape::Binary("sbis ", Byte(a.get() as u8), Number(b.get())),
+        _ => shape_of_flow(instr, at),
+    }
+}
+
+/// Jumps, calls, branches, and what has no operand. Every other instruction is in one of the two functions above.
+fn shape_of_flow(instr: &Instr, at: u16) -> Shape
+    ensures { shape_text result ≡ text_of_flow instr.now at }
+{
+    use Piece::{Number, Word};
+    match *instr {
+        Instr::Jmp(k) => Shape::Unary("jmp ", Word(k.get())),
+        Instr::Call(k) => Shape::Unary("call ", Word(k.get())),
+        Instr::Rjmp(k) => Shape::Unary("rjmp ", Word(far_target(at, k.get()))),
+        Instr::Rcall(k) => Shape::Unary("rcall ", Word(far_target(at, k.get()))),
+        Instr::Brbs(s, k) => Shape::Binary(
+            "brbs ",
+            Number(s.get()),
+            Word(near_target(at, k.get())),
         ),
-        Instr::Unary(op, d) => put_unary(alloc, out, unary_name(op), Piece::Register(d.get())),
-        Instr::Adiw(d, k) => put_binary(
-            alloc,
-            out,
-            "adiw ",
-            Piece::Register(2 * d.get()),
-            Piece::Byte(k.get()),
+        Instr::Brbc(s, k) => Shape::Binary(
+            "brbc ",
+            Number(s.get()),
+            Word(near_target(at, k.get())),
         ),
-        Instr::Sbiw(d, k) => put_binary(
-            alloc,
-            out,
-            "sbiw ",
-            Piece::Register(2 * d.get()),
-            Piece::Byte(k.get()),
-        ),
-        Instr::Bset(s) => put_unary(alloc, out, "bset ", Piece::Number(s.get())),
-        Instr::Bclr(s) => put_unary(alloc, out, "bclr ", Piece::Number(s.get())),
-        Instr::Bld(d, b) => put_binary(
-            alloc,
-            out,
-            "bld ",
-            Piece::Register(d.get()),
-            Piece::Number(b.get()),
-        ),
-        Instr::Bst(d, b) => put_binary(
-            alloc,
-            out,
-            "bst ",
-            Piece::Register(d.get()),
-            Piece::Number(b.get()),
-        ),
-        Instr::Sbrc(d, b) => put_binary(
-            alloc,
-            out,
-            "sbrc ",
-            Piece::Register(d.get()),
-            Piece::Number(b.get()),
-        ),
-        Instr::Sbrs(d, b) => put_binary(
-            alloc,
-            out,
-            "sbrs ",
-            Piece::Register(d.get()),
-            Piece::Number(b.get()),
-        ),
-        _ => put_memory(alloc, out, instr, at),
+        Instr::Nop => Shape::Plain("nop"),
+        Instr::Ijmp => Shape::Plain("ijmp"),
+        Instr::Icall => Shape::Plain("icall"),
+        Instr::Ret => Shape::Plain("ret"),
+        Instr::Reti => Shape::Plain("reti"),
+        Instr::Sleep => Shape::Plain("sleep"),
+        Instr::Break => Shape::Plain("break"),
+        Instr::Wdr => Shape::Plain("wdr"),
+        Instr::Lpm => Shape::Plain("lpm"),
+        _ => Shape::Plain(""),
     }
 }
 
@@ -468,6 +310,6 @@ pub fn text(alloc: Global, instr: &Instr, at: u16) -> Result<Vec<u8>, AllocError
     ensures { IfOk result (λ v. v.items ≡ text_of instr.now at) }
 {
     let mut out = Vec::new(alloc);
-    put_text(alloc, &mut out, instr, at)?;
+    put_shape(alloc, &mut out, shape_of(instr, at))?;
     Ok(out)
 }

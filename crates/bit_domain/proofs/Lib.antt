@@ -11,3 +11,4 @@ pub mod LogicCover
 pub mod Meets
 pub mod Words
 pub mod Writes
+pub mod AllLaws

@@ -1,18 +1,29 @@
 -- Laws of bytes of three-valued bits: what a value is, what an operation stands for, and that more gives more.
-use Rattle.std.specs.Prelude.{ℕ, Some, ◌≡◌, ◌≢◌, ◌<◌, ◌-◌, ◌==◌, ◌↔◌, bit_and, bit_or, bit_xor}
+use Rattle.std.specs.Prelude.{ℕ, Some, ◌≡◌, ◌≢◌, ◌<◌, ◌+◌, ◌-◌, ◌%◌, ◌==◌, ◌↔◌, min, bit_and, bit_or, bit_xor}
 use Rattle.std.specs.Int.{bit_at, from_bool}
 use Rattle.bit_domain.specs.declared.bits.Tri.{Tri}
 use Rattle.bit_domain.specs.declared.bytes.TriByte.{TriByte}
-use Rattle.bit_domain.specs.Tri.{Permits, IsTriWithin}
+use Rattle.bit_domain.specs.Tri.{Permits, IsTriWithin, tri_not, tri_and, tri_xor}
 use Rattle.bit_domain.specs.TriByte.{tri_at, Has, IsWithin, byte_of, byte_known, byte_with}
 use Rattle.bit_domain.specs.Logic.{byte_and, byte_or, byte_eor, byte_not, byte_equal}
 use Rattle.bit_domain.specs.Lattice.{byte_join, byte_meet}
 use Rattle.bit_domain.specs.Sums.{byte_sum, byte_difference, CoversSum, CoversDifference, IsSumWithin}
 
+-- an operation on bits permits that of each choice of permitted bits, and bits that stand for more give more
+pub record BitsCover : Type 0 where
+  pub nots : (t : Tri) (m : ℕ) → m < 2 → Permits t m → Permits (tri_not t) (1 - m)
+  pub ands : (t u : Tri) (m n : ℕ) → m < 2 → n < 2 → Permits t m → Permits u n → Permits (tri_and t u) (min m n)
+  pub xors : (t u : Tri) (m n : ℕ) → m < 2 → n < 2 → Permits t m → Permits u n → Permits (tri_xor t u) ((m + n) % 2)
+  pub nots_within : (t t' : Tri) → IsTriWithin t t' → IsTriWithin (tri_not t) (tri_not t')
+  pub ands_within : (t u t' u' : Tri) → IsTriWithin t t' → IsTriWithin u u' → IsTriWithin (tri_and t u) (tri_and t' u')
+  pub xors_within : (t u t' u' : Tri) → IsTriWithin t t' → IsTriWithin u u' → IsTriWithin (tri_xor t u) (tri_xor t' u')
+
 -- a byte of given bits has them, each byte is the one of its bits, and what stands for the same is the same
 pub record BytesAreTheirBits : Type 0 where
   pub has_bits : (f : ℕ → Tri) (i : ℕ) → i < 8 → tri_at (byte_of f) i ≡ f i
   pub is_built : (t : TriByte) → byte_of (tri_at t) ≡ t
+  pub built : (t : TriByte) (f : ℕ → Tri) → ((i : ℕ) → i < 8 → tri_at t i ≡ f i) → t ≡ byte_of f
+  pub same : (f g : ℕ → Tri) → ((i : ℕ) → i < 8 → f i ≡ g i) → byte_of f ≡ byte_of g
   pub from_bits : (t u : TriByte) → ((i : ℕ) → i < 8 → tri_at t i ≡ tri_at u i) → t ≡ u
   pub from_sets : (t u : TriByte) → IsWithin t u → IsWithin u t → t ≡ u
 
@@ -20,6 +31,8 @@ pub record BytesAreTheirBits : Type 0 where
 pub record BytesAreSets : Type 0 where
   pub member : (t : TriByte) → (t.value < 256) × Has t t.value
   pub within : (t u : TriByte) → IsWithin t u ↔ ((i : ℕ) → i < 8 → IsTriWithin (tri_at t i) (tri_at u i))
+  pub built : (f : ℕ → Tri) (x : ℕ) → ((i : ℕ) → i < 8 → Permits (f i) (bit_at x i)) → Has (byte_of f) x
+  pub built_within : (f g : ℕ → Tri) → ((i : ℕ) → i < 8 → IsTriWithin (f i) (g i)) → IsWithin (byte_of f) (byte_of g)
   pub known : (n x : ℕ) → n < 256 → x < 256 → Has (byte_known n) x ↔ (x ≡ n)
   pub constant : (t : TriByte) → t.known ≡ 255 → t ≡ byte_known t.value
 

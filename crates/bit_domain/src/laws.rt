@@ -1,6 +1,11 @@
 //! Laws of bytes of three-valued bits, each as the contract of a function that does nothing.
 
-ghost use Rattle.bit_domain.specs.Laws.{BytesAreTheirBits, BytesAreSets, WritesCover, LatticeIsMonotone, SumsCover, SumsAreMonotone, LogicCovers, LogicIsMonotone};
+ghost use Rattle.bit_domain.specs.Laws.{BitsCover, BytesAreTheirBits, BytesAreSets, WritesCover, LatticeIsMonotone, SumsCover, SumsAreMonotone, LogicCovers, LogicIsMonotone};
+
+/// An operation on bits stands for that of each choice of permitted bits, and bits that stand for more give more.
+pub fn bits_cover()
+    ensures { BitsCover }
+{}
 
 /// A byte of given bits has them, each byte is the one of its bits, and what stands for the same is the same.
 pub fn bytes_are_their_bits()

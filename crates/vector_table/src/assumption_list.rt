@@ -6,10 +6,17 @@ ghost use Rattle.avr_model.specs.Assumptions as assumptions;
 ghost use Rattle.avr_model.specs.Assumptions.{site_of, kind_of, jump_line, store_line, is_proved, jump_in, store_in, proves};
 ghost use Rattle.vector_table.specs.Entries.{AreEntries, are_in_order, is_entry, is_above_last, is_under, most_entries};
 
+use avr_model::assumption::{Entry, Items};
+
+// The order of the kinds at one site.
+const JUMP: u8 = 0;
+
+const STORE: u8 = 1;
+
+const PROVE: u8 = 2;
+
 use std::alloc::{AllocError, Global};
 use std::marker::Model;
-
-use avr_model::assumption::{Entry, Items};
 
 /// Why an entry is not appended.
 #[derive(Clone, Copy, PartialEq, Eq, Debug)]
@@ -72,14 +79,14 @@ impl Assumptions {
     pub fn jumps(&self, site: u16) -> Option<&[u16]>
         ensures { option_copied result ≡ jump_line self.now site }
     {
-        jump_words(first_from(&self.entries, site, 0)?, site)
+        jump_words(first_from(&self.entries, site, JUMP)?, site)
     }
 
     /// The protected addresses that the `store` entry of this site lists: none where there is no such entry.
     pub fn stores(&self, site: u16) -> &[u16]
         ensures { result.now ≡ store_line self.now site }
     {
-        match first_from(&self.entries, site, 1) {
+        match first_from(&self.entries, site, STORE) {
             Some(entry) => store_addresses(entry, site),
             None => &[],
         }
@@ -89,7 +96,7 @@ impl Assumptions {
     pub fn proved(&self, site: u16) -> bool
         ensures { result ≡ is_proved self.now site }
     {
-        match first_from(&self.entries, site, 2) {
+        match first_from(&self.entries, site, PROVE) {
             Some(entry) => is_prove(entry, site),
             None => false,
         }
@@ -125,7 +132,7 @@ fn entry_at(entries: &[Entry], place: usize) -> Option<&Entry>
     entries.get(place)
 }
 
-// The first entry that isn't before all of this kind (0 jump, 1 store, 2 prove) at this site.
+// The first entry that isn't before all of this kind at this site.
 fn first_from(entries: &[Entry], site: u16, kind: u8) -> Option<&Entry>
     requires in_order { are_in_order entries.now ≡ true }
     requires kind { kind < 3 }
@@ -135,14 +142,14 @@ fn first_from(entries: &[Entry], site: u16, kind: u8) -> Option<&Entry>
     entry_at(entries, place)
 }
 
-// The place of an entry's kind: jump, store, prove.
+// The place of an entry's kind in the order of kinds.
 fn kind(entry: &Entry) -> u8
     ensures { result ≡ kind_of entry.now }
 {
     match entry {
-        Entry::Jump(_, _) => 0,
-        Entry::Store(_, _) => 1,
-        Entry::Prove(_) => 2,
+        Entry::Jump(_, _) => JUMP,
+        Entry::Store(_, _) => STORE,
+        Entry::Prove(_) => PROVE,
     }
 }
 

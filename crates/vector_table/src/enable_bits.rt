@@ -4,9 +4,8 @@ ghost use Rattle.std.specs.Prelude.{◌≡◌, ◌+◌, ◌≤◌, ◌<◌, ◌^
 ghost use Rattle.std.specs.Int.{bit_at, from_bool};
 ghost use Rattle.avr_model.specs.Vectors.{is_enabled, with_enable, written_enables};
 
-use std::marker::Model;
-
 use crate::rows::ENABLES;
+use std::marker::Model;
 
 /// The enable bits of the 25 vectors, as a number: bit `v - 2` is that of vector `v`.
 #[derive(Clone, Copy, PartialEq, Eq, PartialOrd, Ord, Debug)]
@@ -77,11 +76,7 @@ fn with_bit(bits: u32, k: u8, on: bool) -> u32
     ensures small { result < 2 ^ 25 }
     ensures bits { (j : ℕ) → j < 25 → bit_at result j ≡ (if j == k then from_bool on else bit_at bits j) }
 {
-    if on {
-        bits | 1 << k
-    } else {
-        bits & !(1 << k)
-    }
+    if on { bits | 1 << k } else { bits & !(1 << k) }
 }
 
 /// The enable bits after `value` is written to data address `address`: those that stand there are the bits of `value`, and

@@ -6,9 +6,11 @@ pub mod enable_bits;
 pub mod rows;
 pub mod table;
 
-pub use avr_model::assumption::{Entry, Items};
-
 pub use crate::assumption_list::{AssumeFault, Assumptions};
 pub use crate::enable_bits::{Masks, write};
 pub use crate::rows::Row;
 pub use crate::table::{enable_of, held, is_protected, row};
+pub use avr_model::assumption::{Entry, Items};
+
+#[cfg(test)]
+mod tests;

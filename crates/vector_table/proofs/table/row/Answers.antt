@@ -1,5 +1,4 @@
-use Rattle.std.proofs.Common.{◌≡◌, ◌∙◌, sym, ap, inl, inr, ◌+◌, ◌-◌, ◌<◌, ◌≤◌, ◌⊎◌, arith, option_map, Some}
-use Rattle.vector_table.specs.Rows.{row_by}
+use Rattle.std.proofs.Common.{inl, inr, ◌<◌, ◌≤◌, ◌⊎◌, arith}
 use Rattle.vector_table.proofs.Vectors.{row_missed, row_coded}
 use Rattle.vector_table.proofs.table.row.Goals as goal
 
