@@ -57,8 +57,8 @@ pub record IsHexText (w : List ℕ) (n k : ℕ) : Type 0 where
 hex_text : (w : List ℕ) (n k : ℕ) → hex_answer w k ≡ Ok n → IsHexText w n k
 hex_text w n k e = elim (chosen (length w == k) _ _ (Ok n) e) [
   | inl h ↦
-    let r = unless_bad_ok (position (λ b. not (is_hex b)) w) (Ok (number_from 16 0 w)) n h.1 in
-    record { size = grind (arith, nat_tests, h.0); digits = none_fails is_hex w r.0; value = same_number (number_from 16 0 w) n r.1 }
+      let r = unless_bad_ok (position (λ b. not (is_hex b)) w) (Ok (number_from 16 0 w)) n h.1 in
+      record { size = grind (arith, nat_tests, h.0); digits = none_fails is_hex w r.0; value = same_number (number_from 16 0 w) n r.1 }
   | inr h ↦ absurd (not_ok (WrongLength (length w)) n h.1)
 ]
 
@@ -89,8 +89,8 @@ dec_text w n most e = elim (chosen (length w == 0) _ _ (Ok n) e) [
   | inr h ↦ elim (chosen (has_extra_zero w) _ _ (Ok n) h.1) [
     | inl g ↦ absurd (not_ok (BadDigit 0) n g.1)
     | inr g ↦
-      let r = unless_bad_ok (position (λ b. not (is_dec b)) w) (capped (number_from 10 0 w) most) n g.1 in
-      (none_fails is_dec w r.0, capped_ok (number_from 10 0 w) n most r.1)
+        let r = unless_bad_ok (position (λ b. not (is_dec b)) w) (capped (number_from 10 0 w) most) n g.1 in
+        (none_fails is_dec w r.0, capped_ok (number_from 10 0 w) n most r.1)
   ]
 ]
 

@@ -1,8 +1,9 @@
 //! Laws of the definitions that the readers of texts share.
 
 ghost use Rattle.line_reading.specs.Words.{WordLaws};
+ghost use Rattle.line_reading.specs.Appending.{AppendingLaws};
 
-use sb_base::laws::{decimal_spelling, hex_spelling, line_spelling};
+use sb_base::laws::{decimal_spelling, hex_spelling, line_spelling, line_writing};
 
 /// Numbers, words and lines that are written are read, and what is read was written so. The function does nothing; its
 /// contract is these laws.
@@ -12,4 +13,12 @@ pub fn word_laws()
     hex_spelling();
     decimal_spelling();
     line_spelling();
+}
+
+/// Lines that are written are appended, and what is cut short is a part. The function does nothing; its contract is these
+/// laws.
+pub fn appending_laws()
+    ensures { AppendingLaws }
+{
+    line_writing();
 }

@@ -4,5 +4,6 @@
 pub mod laws;
 mod reading;
 pub mod schedule;
+mod writing;
 
 pub use schedule::{Run, Schedule, ScheduleFault};
