@@ -10,6 +10,7 @@ use abs_step::{NodeKey, local};
 use flash_image::Flash;
 
 /// Whether the node is among these, which ascend.
+#[tactic(auto, using(crate::proofs::Search::searched))]
 pub fn has_node(nodes: &[NodeKey], wanted: &NodeKey) -> bool
     requires { Ascends nodes.now }
     ensures { result ≡ has_node_of nodes.now wanted.now }

@@ -1,7 +1,6 @@
 //! The verdict on a certificate.
 
-ghost use Rattle.std.specs.Prelude.{◌≡◌, ℕ, ◌↔◌, List};
-ghost use Rattle.avr_model.specs.declared.assumption.Entry.{Entry};
+ghost use Rattle.std.specs.Prelude.{◌≡◌, ℕ, ◌↔◌};
 ghost use Rattle.avr_model.specs.Run.{Bounded};
 ghost use Rattle.cert_format.specs.Valid.{IsSound};
 ghost use Rattle.cert_check.specs.Verdict.{verdict_of, need_verdict};
@@ -14,6 +13,7 @@ use abs_step::laws::closed_families_bound_every_run;
 use cert_format::Certificate;
 use flash_image::Flash;
 use std::alloc::AllocError;
+use vector_table::Assumptions;
 
 /// The node at which every run begins.
 const ROOT: NodeKey = NodeKey { pc: 0, offset: 0 };
@@ -50,11 +50,17 @@ fn verdict(flash: &Flash, certificate: &Certificate) -> Verdict
     judge_need(certificate)
 }
 
-/// The verdict on a certificate.
-pub fn judge(flash: &Flash, certificate: &Certificate) -> Result<Verdict, AllocError>
+/// The verdict on a certificate for a firmware under assumptions. It accepts exactly where each condition on all but the
+/// schedule holds, and then every run from reset keeps the certificate's bound and meets neither an undefined word nor a
+/// push outside SRAM. Else it gives the least reason with its least numbers. It takes no memory so far, so it answers Ok.
+pub fn judge(
+    flash: &Flash,
+    assumptions: &Assumptions,
+    certificate: &Certificate,
+) -> Result<Verdict, AllocError>
     ensures exact { result ≡ Ok (verdict_of flash.now certificate.now) }
     ensures accepted { (b : ℕ) → (result ≡ Ok (Verdict.Accepted b)) ↔ (IsSound flash.now certificate.now × (b ≡ certificate.now.bound)) }
-    ensures bounded { (A : List Entry) (b : ℕ) → result ≡ Ok (Verdict.Accepted b) → Bounded flash.now A b }
+    ensures bounded { (b : ℕ) → result ≡ Ok (Verdict.Accepted b) → Bounded flash.now assumptions.now b }
     ensures rejected { (r : Reason) → (result ≡ Ok (Verdict.Rejected r)) ↔ IsLeastReason flash.now certificate.now r }
 {
     closed_families_bound_every_run();

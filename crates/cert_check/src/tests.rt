@@ -9,6 +9,7 @@ use cert_format::Certificate;
 use flash_image::Flash;
 use std::alloc::Global;
 use std::test::Fail;
+use vector_table::Assumptions;
 
 /// A push, a pop and a jump back to the push.
 const PUSH_POP: [u8; 6] = [0x0F, 0x92, 0x0F, 0x90, 0xFD, 0xCF];
@@ -28,7 +29,7 @@ fn verdict_on(
 {
     let flash = Flash::from_raw(alloc, image).map_err(|_| "no image")?;
     let certificate = Certificate::build(bound, 0, need, nodes.to_vec(alloc)?, None);
-    Ok(judge(&flash, &certificate)?)
+    Ok(judge(&flash, &Assumptions::empty(alloc), &certificate)?)
 }
 
 #[test]

@@ -2,3 +2,4 @@ pub mod Certificate
 pub mod Spelling
 pub mod Valid
 pub mod Reading
+pub mod Exact

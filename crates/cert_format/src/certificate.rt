@@ -2,7 +2,7 @@
 
 ghost use Rattle.std.specs.Prelude.{◌≡◌, None, Some};
 ghost use Rattle.std.specs.Option.{option_copied};
-ghost use Rattle.cert_format.specs.Certificate.{IsClaim, claim_of};
+ghost use Rattle.cert_format.specs.Certificate.{IsClaim};
 
 use abs_step::NodeKey;
 use line_reading::Malformed;
@@ -23,13 +23,13 @@ pub struct Certificate {
 }
 
 impl Model for Certificate {
-    ghost use Rattle.cert_format.specs.Certificate.{Claim, IsClaim, claim_of};
+    ghost use Rattle.cert_format.specs.Certificate.{Claim, IsClaim};
 
     ghost Value = { Claim };
 
-    ghost view = { λ c. claim_of c.bound c.rank c.need c.nodes.items c.witness };
+    ghost view = { λ c. record { bound = c.bound; rank = c.rank; need = c.need; nodes = c.nodes.items; witness = c.witness } };
 
-    ghost invariant = { λ c. IsClaim (claim_of c.bound c.rank c.need c.nodes.items c.witness) };
+    ghost invariant = { λ c. IsClaim (record { bound = c.bound; rank = c.rank; need = c.need; nodes = c.nodes.items; witness = c.witness }) };
 }
 
 /// Why a text is no certificate, or isn't read.
@@ -44,16 +44,18 @@ pub enum CertFault {
 }
 
 impl From<Malformed> for CertFault {
-    fn from(_fault: Malformed) -> CertFault
-        ensures { result ≡ CertFault.Malformed }
-    {
+    ghost use Rattle.std.specs.Prelude.{◌≡◌};
+    ghost use Rattle.cert_format.specs.declared.certificate.CertFault.TheVariants.{Malformed as MalformedText};
+
+    ghost from_gives = { λ fault e. e ≡ MalformedText };
+
+    fn from(_fault: Malformed) -> CertFault {
         CertFault::Malformed
     }
 }
 
 impl Certificate {
-    /// The certificate of these parts: a bound and a need of at most 2,048 bytes each, a rank of at most 65,535, and nodes
-    /// that ascend strictly and keep the limits.
+    /// The certificate of these parts, which keep to the ranges, the order and the limits.
     pub fn build(
         bound: u16,
         rank: u16,
@@ -61,8 +63,8 @@ impl Certificate {
         nodes: Vec<NodeKey>,
         witness: Option<Schedule>,
     ) -> Certificate
-        requires { IsClaim (claim_of bound rank need nodes.items witness) }
-        ensures { result ≡ claim_of bound rank need nodes.items witness }
+        requires { IsClaim (record { bound = bound; rank = rank; need = need; nodes = nodes.items; witness = witness }) }
+        ensures { result ≡ record { bound = bound; rank = rank; need = need; nodes = nodes.items; witness = witness } }
     {
         Certificate {
             bound,
@@ -80,7 +82,7 @@ impl Certificate {
         self.bound
     }
 
-    /// The root's rank, at most 65,535.
+    /// The root's rank.
     pub fn rank(&self) -> u16
         ensures { result ≡ self.now.rank }
     {
@@ -94,7 +96,7 @@ impl Certificate {
         self.need
     }
 
-    /// The nodes, strictly ascending.
+    /// The nodes, strictly ascending; with the other numbers they keep what every certificate keeps.
     pub fn nodes(&self) -> &[NodeKey]
         ensures value { result.now ≡ self.now.nodes }
         ensures kept { IsClaim self.now }
@@ -102,7 +104,7 @@ impl Certificate {
         &self.nodes
     }
 
-    /// The schedule whose run attains the bound, if there is one.
+    /// The schedule, if there is one.
     pub fn witness(&self) -> Option<&Schedule>
         ensures { option_copied result ≡ self.now.witness }
     {

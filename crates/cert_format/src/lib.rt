@@ -2,6 +2,7 @@
 #![tactic(auto)]
 
 pub mod certificate;
+pub mod laws;
 mod reading;
 
 pub use certificate::{CertFault, Certificate};

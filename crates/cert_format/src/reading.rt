@@ -1,6 +1,6 @@
 //! The reader of certificates.
 
-ghost use Rattle.std.specs.Prelude.{◌≡◌, ◌≤◌, ◌<◌, [], ◌∷◌, codes, None, IfSome, IfOk};
+ghost use Rattle.std.specs.Prelude.{◌≡◌, ◌≢◌, ◌≤◌, ◌<◌, [], ◌∷◌, codes, None, IfSome, IfOk};
 ghost use Rattle.std.specs.Option.{option_map};
 ghost use Rattle.avr_model.specs.Image.{WORDS};
 ghost use Rattle.avr_model.specs.State.{SIZE};
@@ -8,11 +8,15 @@ ghost use Rattle.sb_base.specs.Lines.{words_of};
 ghost use Rattle.sb_base.specs.Answers.{Answers};
 ghost use Rattle.line_reading.specs.Reading.{these_at, first_by, line_by, ReadsAt};
 ghost use Rattle.witness_replay.specs.Reading.{schedule_at};
-ghost use Rattle.cert_format.specs.Certificate.{most_nodes, most_cells};
+ghost use Rattle.cert_format.specs.Certificate.{Claim, most_nodes, most_cells};
+ghost use Rattle.cert_format.specs.Spelling.{text_of};
+ghost use Rattle.cert_format.specs.Exact.{IsCertificate};
 ghost use Rattle.cert_format.specs.Reading.{numbered_in, root_in, state_words, node_in, bound_by, root_by, count_by, admits, is_above, node_by, ending_by, heading_at, nodes_from, nodes_at, witness_at, end_at, claim_at, certificate_in, Gives, without_place};
 
 use crate::certificate::{CertFault, Certificate};
+use crate::laws::certificate_texts;
 use abs_step::NodeKey;
+use line_reading::laws::word_laws;
 use line_reading::{
     Malformed, dec_word, expect_word, expect_words, hex_word, is_over, marked_word, peek_text,
     take_line, take_text,
@@ -325,6 +329,7 @@ fn read_end(reader: &mut LineReader<'_>) -> Result<(), Malformed>
 fn read_claim(alloc: Global, reader: &mut LineReader<'_>) -> Result<Certificate, CertFault>
     ensures { Gives (λ c. c) reader.new result (claim_at reader.old) }
 {
+    word_laws();
     let bound = read_heading(reader)?;
     let (rank, need) = read_root(reader)?;
     let nodes = read_nodes(alloc, reader)?;
@@ -333,13 +338,24 @@ fn read_claim(alloc: Global, reader: &mut LineReader<'_>) -> Result<Certificate,
     Ok(Certificate::build(bound, rank, need, nodes, witness))
 }
 
+/// Reads a text, all of it.
+#[tactic(auto, unfolding(crate::specs::Reading::certificate_in))]
+fn read_text(alloc: Global, text: &[u8]) -> Result<Certificate, CertFault>
+    ensures { Answers (λ c. c) CertFault.Memory result (without_place (certificate_in text.now)) }
+{
+    let mut reader = LineReader::new(text);
+    read_claim(alloc, &mut reader)
+}
+
 impl Certificate {
-    /// Reads the certificate of a text. `Malformed` exactly where the text is that of no certificate.
-    #[tactic(auto, unfolding(crate::specs::Reading::certificate_in))]
+    /// Reads the certificate whose text this is. `Malformed` exactly where it is that of none.
     pub fn read(alloc: Global, text: &[u8]) -> Result<Certificate, CertFault>
         ensures exact { Answers (λ c. c) CertFault.Memory result (without_place (certificate_in text.now)) }
+        ensures found { IfOk result (λ c. text.now ≡ text_of c) }
+        ensures kept { IfOk result IsCertificate }
+        ensures malformed { result ≡ Err CertFault.Malformed → (c : Claim) → IsCertificate c → text.now ≢ text_of c }
     {
-        let mut reader = LineReader::new(text);
-        read_claim(alloc, &mut reader)
+        certificate_texts();
+        read_text(alloc, text)
     }
 }

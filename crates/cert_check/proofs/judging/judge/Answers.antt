@@ -13,6 +13,6 @@ returns c =
     record {
       exact = ap Ok exact;
       accepted = λ b. (λ e. sound_when_accepted words claim b (cc), λ h. let accepted = accepted_when_sound words claim h.0 in let bound = h.1 in cc);
-      bounded = λ A b e. law words A claim.nodes b (closed_when_sound words claim b (sound_when_accepted words claim b (cc)));
+      bounded = λ b e. law words c.args.assumptions.now claim.nodes b (closed_when_sound words claim b (sound_when_accepted words claim b (cc)));
       rejected = λ r. (λ e. reason_when_rejected words claim r (cc), λ h. let rejected = rejected_by_reason words claim r h in cc);
     }

@@ -1,0 +1,66 @@
+//! What each instruction does, row by row.
+
+ghost use Rattle.std.specs.Prelude.{◌≡◌};
+ghost use Rattle.avr_model.specs.Effects.{effect_of};
+
+use crate::processor::Processor;
+use avr_model::effect::Effect;
+use avr_model::instruction::Instr;
+use avr_model::operation::Mul;
+use flash_image::Flash;
+
+impl Processor {
+    /// What an instruction does here; `first` and `second` are the free input bytes.
+    pub fn effect(&self, flash: &Flash, instr: &Instr, first: u8, second: u8) -> Effect
+        ensures row { result ≡ effect_of flash.now self.now instr.now first second }
+        ensures enables { result.enables ≡ self.now.enables }
+    {
+        match instr {
+            Instr::Nop | Instr::Sleep | Instr::Break | Instr::Wdr => self.going_on(),
+            Instr::Movw(d, r) => self.copy_pair(2 * d.get(), 2 * r.get()),
+            Instr::Muls(d, r) => self.product_of(Mul::Muls, d.get(), r.get()),
+            Instr::Mulsu(d, r) => self.product_of(Mul::Mulsu, d.get(), r.get()),
+            Instr::Fmul(d, r) => self.product_of(Mul::Fmul, d.get(), r.get()),
+            Instr::Fmuls(d, r) => self.product_of(Mul::Fmuls, d.get(), r.get()),
+            Instr::Fmulsu(d, r) => self.product_of(Mul::Fmulsu, d.get(), r.get()),
+            Instr::Binary(op, d, r) => self.binary(flash, *op, d.get(), r.get()),
+            Instr::Immediate(op, d, k) => self.immediate(*op, d.get(), *k),
+            Instr::Unary(op, d) => self.unary(*op, d.get()),
+            Instr::Adiw(d, k) => self.wide(true, 2 * d.get(), k.get() as u8),
+            Instr::Sbiw(d, k) => self.wide(false, 2 * d.get(), k.get() as u8),
+            Instr::Bset(s) => self.set_flag(s.get(), true),
+            Instr::Bclr(s) => self.set_flag(s.get(), false),
+            Instr::Bld(d, b) => self.load_bit(d.get(), b.get()),
+            Instr::Bst(d, b) => self.store_bit(d.get(), b.get()),
+            Instr::Ldd(d, base, q) => self.load_displaced(d.get(), *base, q.get(), first),
+            Instr::Std(base, q, r) => self.store_displaced(*base, q.get(), r.get()),
+            Instr::Lds(d, k) => self.load_direct(d.get(), *k, first),
+            Instr::Sts(k, r) => self.store_direct(*k, r.get()),
+            Instr::Ld(d, pointer) => self.load(d.get(), *pointer, first),
+            Instr::St(pointer, r) => self.store_through(*pointer, r.get()),
+            Instr::LpmZ(d) => self.load_program(flash, d.get(), first),
+            Instr::LpmZPlus(d) => self.load_program_and_move(flash, d.get(), first),
+            Instr::Lpm => self.load_program(flash, 0, first),
+            Instr::Pop(d) => self.pop(d.get(), first),
+            Instr::Push(r) => self.push(r.get()),
+            Instr::In(d, a) => self.input(d.get(), a.get(), first),
+            Instr::Out(a, r) => self.output(a.get(), r.get()),
+            Instr::Cbi(a, b) => self.change_bit(a.get(), b.get(), false),
+            Instr::Sbi(a, b) => self.change_bit(a.get(), b.get(), true),
+            Instr::Ijmp => self.going_to(self.indirect_target()),
+            Instr::Icall => self.calling(self.indirect_target(), self.further(1)),
+            Instr::Ret => self.returning(first, second),
+            Instr::Reti => self.returning_from_interrupt(first, second),
+            Instr::Jmp(k) => self.going_to(k.get()),
+            Instr::Call(k) => self.calling(k.get(), self.further(2)),
+            Instr::Rjmp(k) => self.going_to(self.far(k.get())),
+            Instr::Rcall(k) => self.calling(self.far(k.get()), self.further(1)),
+            Instr::Brbs(s, k) => self.branching(self.flag(s.get()), k.get()),
+            Instr::Brbc(s, k) => self.branching(!self.flag(s.get()), k.get()),
+            Instr::Sbic(a, b) => self.skipping(flash, !self.port_bit(a.get(), b.get(), first)),
+            Instr::Sbis(a, b) => self.skipping(flash, self.port_bit(a.get(), b.get(), first)),
+            Instr::Sbrc(r, b) => self.skipping(flash, !self.register_bit(r.get(), b.get())),
+            Instr::Sbrs(r, b) => self.skipping(flash, self.register_bit(r.get(), b.get())),
+        }
+    }
+}

@@ -1,0 +1,23 @@
+//! The machine as code: one step at a time, with the answer and the state that `avr_model` defines.
+#![tactic(auto)]
+
+mod applying;
+mod arithmetic;
+mod bits;
+mod effects;
+mod flags;
+mod flow;
+mod machine;
+mod memory;
+mod menu;
+mod pieces;
+mod processor;
+mod stepping;
+mod transfers;
+
+pub use avr_alu::Sreg;
+pub use avr_model::choice::{Choice, Flag, StepResult, Stop};
+pub use flash_image::Flash;
+pub use machine::Machine;
+pub use menu::Menu;
+pub use vector_table::{Assumptions, Entry, Items, Masks};
