@@ -1,6 +1,6 @@
 -- A certificate: what is read is spelled so, and what is spelled is read.
 use Rattle.std.proofs.Common.{ℕ, zero, suc, ◌+◌, ◌<◌, ◌≤◌, ◌^◌, ◌≡◌, ◌≢◌, List, [], ◌∷◌, ◌++◌, length, map, refl, ap, sym, ◌∙◌, arith, Option, Some, None, Result, Ok, Err, subst, codes, append-nil}
-use Rattle.std.specs.Prelude.{IfSome, IsErr}
+use Rattle.std.specs.Prelude.{IfSome, IfOk}
 use Rattle.std.specs.List.{AllByRecursion, flat_map}
 use Rattle.std.proofs.lemmas.List.{map-append}
 use Rattle.std.proofs.lemmas.Grind.{flat_map-append}
@@ -8,6 +8,7 @@ use Rattle.std.proofs.lemmas.List.Elements.{All-from_recursion}
 use Rattle.avr_model.specs.State.{SIZE}
 use Rattle.abs_step.specs.declared.key.NodeKey.{NodeKey}
 use Rattle.sb_base.specs.Lines.{TextLine, Place, words_of, spaced, line, lines_of, joined}
+use Rattle.sb_base.specs.Answers.{Answers}
 use Rattle.sb_base.proofs.Splitting.{joined_lines}
 use Rattle.line_reading.specs.Reading.{then_at, line_by}
 use Rattle.line_reading.specs.Words.{IsWord, whole, Passes, WordLaws}
@@ -15,9 +16,11 @@ use Rattle.witness_replay.specs.Spelling.{Plan, IsSchedule}
 use Rattle.witness_replay.specs.Reading.{refused_at}
 use Rattle.witness_replay.specs.Exact.{TextIsReading, ReadIsSpelled as ScheduleIsSpelled, SpelledIsRead as ScheduleIsRead}
 use Rattle.witness_replay.proofs.Tests.{ok_is, err_ok, line_takes, line_again, passes_more, passes_split, then_ok}
+use Rattle.cert_format.specs.declared.certificate.CertFault.{CertFault}
+use Rattle.cert_format.specs.declared.certificate.CertFault.TheVariants.{Malformed, Memory}
 use Rattle.cert_format.specs.Certificate.{Claim, IsClaim, claim_of, IsKey, most_nodes, most_cells}
 use Rattle.cert_format.specs.Spelling.{node_words, root_words, witness_lines, certificate_lines, text_of}
-use Rattle.cert_format.specs.Reading.{root_in, root_by, heading_at, nodes_at, witness_at, end_at, claim_at, claim_alone, certificate_in}
+use Rattle.cert_format.specs.Reading.{root_in, root_by, heading_at, nodes_at, witness_at, end_at, claim_at, claim_alone, certificate_in, without_place}
 use Rattle.cert_format.specs.Exact.{IsCertificate, ReadIsSpelled, SpelledIsRead, OneText}
 use Rattle.cert_format.proofs.Fields.{IsRootLine, root_take, root_again}
 use Rattle.cert_format.proofs.Plain.{plain, numbered_words, root_plain, node_plain}
@@ -161,3 +164,27 @@ ok_claim a b e = cc
 
 pub one_text : WordLaws → TextIsReading → ScheduleIsRead → OneText
 one_text k reads read a b h g e = ok_claim a b (sym (spelled_is_read k reads read a h) ∙ ap certificate_in e ∙ spelled_is_read k reads read b g)
+
+-- ---- what is answered
+
+ok_of : (d : Result Claim ℕ) (c : Claim) → without_place d ≡ Ok c → d ≡ Ok c
+ok_of (Ok x) c e = let same : x ≡ c = cc in ap (λ (z : Claim). Ok z) same
+ok_of (Err at) c e = cc
+
+pub found : ReadIsSpelled → (text : List ℕ) (r : Result Claim CertFault) → Answers (λ c. c) Memory r (without_place (certificate_in text)) → IfOk r (λ c. text ≡ text_of c)
+found read text (Ok c) h = (read text c (ok_of (certificate_in text) c h)).0
+found read text (Err f) h = tt
+
+pub kept : ReadIsSpelled → (text : List ℕ) (r : Result Claim CertFault) → Answers (λ c. c) Memory r (without_place (certificate_in text)) → IfOk r IsCertificate
+kept read text (Ok c) h = (read text c (ok_of (certificate_in text) c h)).1
+kept read text (Err f) h = tt
+
+is_not_memory : (f : CertFault) → ◌≡◌ {A = Result Claim CertFault} (Err f) (Err Malformed) → f ≢ Memory
+is_not_memory f e m = let same : f ≡ Malformed = cc in let bad : Memory ≡ Malformed = sym m ∙ same in cc
+
+err_not_ok : (f : CertFault) (c : Claim) → ◌≡◌ {A = Result Claim CertFault} (Ok c) (Err f) → ⊥
+err_not_ok f c e = cc
+
+pub malformed : SpelledIsRead → (text : List ℕ) (r : Result Claim CertFault) → Answers (λ c. c) Memory r (without_place (certificate_in text)) → r ≡ Err Malformed → (c : Claim) → IsCertificate c → text ≢ text_of c
+malformed spelled text (Ok x) h e c k t = err_not_ok Malformed x e
+malformed spelled text (Err f) h e c k t = err_not_ok f c (sym (ap without_place (ap certificate_in t ∙ spelled c k)) ∙ h (is_not_memory f e))
