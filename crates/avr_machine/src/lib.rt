@@ -21,3 +21,6 @@ pub use flash_image::Flash;
 pub use machine::Machine;
 pub use menu::Menu;
 pub use vector_table::{Assumptions, Entry, Items, Masks};
+
+#[cfg(test)]
+mod tests;

@@ -1,5 +1,5 @@
 -- What the verdict says of a certificate.
-use Rattle.std.proofs.Common.{ℕ, suc, zero, ◌+◌, ◌<◌, ◌≤◌, ◌≡◌, Bool, true, false, if◌then◌else◌, nat_lt, max, List, [], ◌∷◌, take, Option, Some, None, Result, Ok, Err, IsOk, IsOkAnd, refl, sym, ap, ◌∙◌, subst, arith, inl, inr}
+use Rattle.std.proofs.Common.{ℕ, suc, zero, ◌+◌, ◌<◌, ◌≤◌, ◌≡◌, Bool, true, false, nat_lt, max, List, [], ◌∷◌, take, Option, Some, None, Result, Ok, Err, IsOk, IsOkAnd, refl, sym, ◌∙◌, subst, arith, inl, inr}
 use Rattle.std.specs.Prelude.{◌⊎◌}
 use Rattle.std.specs.List.{All, Contains}
 use Rattle.std.specs.Result.{IsErrAnd}
@@ -12,12 +12,11 @@ use Rattle.abs_step.specs.Local.{root_key, local, cause_of}
 use Rattle.abs_step.specs.Family.{IsLanding, IsClosed}
 use Rattle.cert_format.specs.Certificate.{Claim}
 use Rattle.cert_format.specs.Valid.{IsSound}
-use Rattle.cert_check.specs.declared.verdict.Verdict.{Verdict}
 use Rattle.cert_check.specs.declared.verdict.Verdict.TheVariants.{Accepted, Rejected}
 use Rattle.cert_check.specs.declared.verdict.Reason.{Reason}
 use Rattle.cert_check.specs.declared.verdict.Reason.TheVariants.{Root, Node, Edge, Need, Bound}
-use Rattle.cert_check.specs.Verdict.{has_node, fault_or, first_fault, gap_or, first_gap, greatest_offset, rejected_or, need_verdict, verdict_of}
-use Rattle.cert_check.specs.Reasons.{IsFaultless, IsFirstFault, IsFirstGap, IsLeastNeed, IsLeastReason}
+use Rattle.cert_check.specs.Verdict.{has_node, fault_or, first_fault, gap_or, first_gap, greatest_offset, need_verdict, verdict_of}
+use Rattle.cert_check.specs.Reasons.{IsFaultless, IsFirstFault, IsFirstGap, IsLeastReason}
 use Rattle.cert_check.proofs.Search.{Contains-from_has_node, has_node-from_Contains}
 
 -- the place of the next node
@@ -54,16 +53,24 @@ HasFirstFault words nodes = (j : ℕ) × (cause : ℕ) × IsFirstFault words nod
 
 fault_before : (words : List ℕ) (n : NodeKey) (ns : List NodeKey) (r : Result NodeKey NodeFault) → local words n ≡ r → IsFaultless words ns ⊎ HasFirstFault words ns → IsFaultless words (n ∷ ns) ⊎ HasFirstFault words (n ∷ ns)
 fault_before words n ns (Err fault) e rest =
-    inr (0, cause_of fault, record {
-      at = subst (λ r. IsErrAnd r (λ f. cause_of f ≡ cause_of fault)) (sym e) refl;
-      earlier = All-nil (λ n. IsOk (local words n));
-    })
+    inr (
+      0,
+      cause_of fault,
+      record {
+        at = subst (λ r. IsErrAnd r (λ f. cause_of f ≡ cause_of fault)) (sym e) refl;
+        earlier = All-nil (λ n. IsOk (local words n));
+      },
+    )
 fault_before words n ns (Ok to) e (inl all) = inl (All-cons (λ n. IsOk (local words n)) n ns (subst (λ r. IsOk r) (sym e) refl) all)
 fault_before words n ns (Ok to) e (inr found) =
-    inr (suc found.0, found.1, record {
-      at = found.2.at;
-      earlier = All-cons (λ n. IsOk (local words n)) n (take found.0 ns) (subst (λ r. IsOk r) (sym e) refl) found.2.earlier;
-    })
+    inr (
+      suc found.0,
+      found.1,
+      record {
+        at = found.2.at;
+        earlier = All-cons (λ n. IsOk (local words n)) n (take found.0 ns) (subst (λ r. IsOk r) (sym e) refl) found.2.earlier;
+      },
+    )
 
 fault_cases : (words : List ℕ) (nodes : List NodeKey) → IsFaultless words nodes ⊎ HasFirstFault words nodes
 fault_cases words [] = inl (All-nil (λ n. IsOk (local words n)))
@@ -107,11 +114,15 @@ gap_before words there n ns to false e f rest =
 gap_before words there n ns to true e f (inl all) =
     inl (All-cons (IsLanding words there) n ns (subst (λ r. IsOkAnd r (Contains there)) (sym e) (Contains-from_has_node there to f)) all)
 gap_before words there n ns to true e f (inr found) =
-    inr (suc found.0, found.1, record {
-      at = found.2.at;
-      missing = found.2.missing;
-      earlier = All-cons (IsLanding words there) n (take found.0 ns) (subst (λ r. IsOkAnd r (Contains there)) (sym e) (Contains-from_has_node there to f)) found.2.earlier;
-    })
+    inr (
+      suc found.0,
+      found.1,
+      record {
+        at = found.2.at;
+        missing = found.2.missing;
+        earlier = All-cons (IsLanding words there) n (take found.0 ns) (subst (λ r. IsOkAnd r (Contains there)) (sym e) (Contains-from_has_node there to f)) found.2.earlier;
+      },
+    )
 
 gap_after : (words : List ℕ) (there : List NodeKey) (n : NodeKey) (ns : List NodeKey) (r : Result NodeKey NodeFault) → local words n ≡ r → IsOk r → All (IsLanding words there) ns ⊎ HasFirstGap words there ns → All (IsLanding words there) (n ∷ ns) ⊎ HasFirstGap words there (n ∷ ns)
 gap_after words there n ns (Ok to) e h rest = gap_before words there n ns to (has_node there to) e refl rest
@@ -193,7 +204,7 @@ module _ (words : List ℕ) (c : Claim) where
       inr (Need 0 (greatest_offset c.nodes), (root, landing, refl, low, record { enough = greatest_enough c.nodes; least = greatest_least c.nodes }))
   judged_need root landing (inr enough) high =
       let all : All (λ n. n.offset ≤ c.need) c.nodes =
-        All-weaker (λ n. n.offset ≤ greatest_offset c.nodes) (λ n. n.offset ≤ c.need) (λ n h. omega arith) c.nodes (greatest_enough c.nodes)
+      All-weaker (λ n. n.offset ≤ greatest_offset c.nodes) (λ n. n.offset ≤ c.need) (λ n h. omega arith) c.nodes (greatest_enough c.nodes)
       in
       elim high [ inl low ↦ inr (Bound c.need, (root, landing, all, refl, low)) | inr within ↦ inl (record { root = root; landing = landing; need = all; bound = within }) ]
 
@@ -201,8 +212,8 @@ module _ (words : List ℕ) (c : Claim) where
   judged_root root (inr found) = inr (Node found.0 found.1, (root, found.2))
   judged_root root (inl all) =
       elim (gap_cases words c.nodes c.nodes all) [
-        inl landing ↦ judged_need root landing (cases_lt c.need (greatest_offset c.nodes)) (cases_lt c.bound c.need)
-      | inr found ↦ inr (Edge found.0 found.1, (root, all, found.2))
+        | inl landing ↦ judged_need root landing (cases_lt c.need (greatest_offset c.nodes)) (cases_lt c.bound c.need)
+        | inr found ↦ inr (Edge found.0 found.1, (root, all, found.2))
       ]
 
   judged_on : (b : Bool) → has_node c.nodes root_key ≡ b → IsSound words c ⊎ HasReason

@@ -1,8 +1,7 @@
 -- A binary search among nodes that ascend finds each node that is there.
-use Rattle.std.proofs.Common.{ℕ, suc, zero, ◌+◌, ◌<◌, ◌≤◌, ◌≡◌, ◌==◌, ◌&&◌, ◌||◌, Bool, true, false, List, [], ◌∷◌, length, get_or, Result, Ok, Err, Ordering, add-one, refl, sym, ap, ◌∙◌, subst, arith, inl, inr}
-use Rattle.std.specs.Prelude.{◌⊎◌}
+use Rattle.std.proofs.Common.{ℕ, suc, zero, ◌<◌, ◌≡◌, ◌==◌, ◌&&◌, Bool, true, false, List, [], ◌∷◌, length, get_or, Result, Ok, Err, Ordering, add-one, refl, sym, ap, ◌∙◌, subst, arith, inl, inr}
 use Rattle.std.specs.Result.{is_ok}
-use Rattle.std.specs.List.{Contains, list_any}
+use Rattle.std.specs.List.{Contains}
 use Rattle.std.specs.Cmp.{IsTotalOrder, IsEquivalence}
 use Rattle.std.proofs.lemmas.Map.Views.{Contains-from_any, list_any-from_Contains}
 use Rattle.std.proofs.lemmas.Bool.{cases_lt}
@@ -67,8 +66,8 @@ neighbours (n ∷ m ∷ ns) (suc k) d h lt = neighbours (m ∷ ns) k d h.1 (let 
 searchable : (nodes : List NodeKey) (to : NodeKey) → Ascends nodes → IsNonDecreasingBy (λ y. ordering_index (node_cmp y to)) nodes
 searchable nodes to ascends =
     searchable_from_sorted total (λ y. y) nodes to (λ k d _ lt.
-      let less : suc k < length nodes = omega arith in
-      subst (λ j. is_lt (node_cmp (get_or nodes j d) (get_or nodes k d)) ≡ false) (sym (add-one k)) (above _ _ (neighbours nodes k d ascends less)))
+    let less : suc k < length nodes = omega arith in
+    subst (λ j. is_lt (node_cmp (get_or nodes j d) (get_or nodes k d)) ≡ false) (sym (add-one k)) (above _ _ (neighbours nodes k d ascends less)))
 
 false_unless : (b : Bool) → ¬ (b ≡ true) → false ≡ b
 false_unless false h = refl
@@ -81,9 +80,9 @@ pub searched : (nodes : List NodeKey) (to : NodeKey) (r : Result ℕ ℕ) → As
 searched nodes to (Ok at) ascends lt found = sym (has_node-from_Contains nodes to (at, lt, equal _ _ (found to)))
 searched nodes to (Err at) ascends le parted =
     false_unless (has_node nodes to) (λ e.
-      let there = Contains-from_has_node nodes to e in
-      let parts = parted (searchable nodes to ascends) in
-      elim (cases_lt there.0 at) [
-        inl below ↦ unequal _ to Less (λ wrong. cc) (parts.0 there.0 to (omega arith) below) there.2
+    let there = Contains-from_has_node nodes to e in
+    let parts = parted (searchable nodes to ascends) in
+    elim (cases_lt there.0 at) [
+      | inl below ↦ unequal _ to Less (λ wrong. cc) (parts.0 there.0 to (omega arith) below) there.2
       | inr beyond ↦ unequal _ to Greater (λ wrong. cc) (parts.1 there.0 to beyond there.1) there.2
-      ])
+    ])

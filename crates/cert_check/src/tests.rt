@@ -15,7 +15,9 @@ use vector_table::Assumptions;
 const PUSH_POP: [u8; 6] = [0x0F, 0x92, 0x0F, 0x90, 0xFD, 0xCF];
 
 const START: NodeKey = NodeKey { pc: 0, offset: 0 };
+
 const PUSHED: NodeKey = NodeKey { pc: 1, offset: 1 };
+
 const POPPED: NodeKey = NodeKey { pc: 2, offset: 0 };
 
 fn verdict_on(
@@ -62,7 +64,10 @@ fn missing_nodes_and_faults_are_told_by_the_least_place(rt: HostRuntime) -> Resu
     assert_eq!(rt; erased, Verdict::Rejected(Reason::Node(1, 5)));
     let pop = verdict_on(alloc, &[0x0F, 0x90], 0, 0, &[START])?;
     assert_eq!(rt; pop, Verdict::Rejected(Reason::Node(0, 4)));
-    let deepest = NodeKey { pc: 0, offset: 2048 };
+    let deepest = NodeKey {
+        pc: 0,
+        offset: 2048,
+    };
     let too_deep = verdict_on(alloc, &PUSH_POP, 2048, 2048, &[START, deepest])?;
     assert_eq!(rt; too_deep, Verdict::Rejected(Reason::Node(1, 6)));
     Ok(())

@@ -3,3 +3,4 @@ pub mod Spelling
 pub mod Valid
 pub mod Reading
 pub mod Exact
+pub mod Examples

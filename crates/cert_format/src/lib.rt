@@ -6,3 +6,6 @@ pub mod laws;
 mod reading;
 
 pub use certificate::{CertFault, Certificate};
+
+#[cfg(test)]
+mod tests;

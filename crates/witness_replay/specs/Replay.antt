@@ -7,6 +7,8 @@ use Rattle.avr_model.specs.declared.choice.Stop.{Stop}
 use Rattle.avr_model.specs.State.{State, filled}
 use Rattle.avr_model.specs.Step.{Answer, Illegal, Done, step}
 use Rattle.avr_model.specs.Run.{states_of, stop_of, depth_of}
+use Rattle.witness_replay.specs.declared.replaying.ReplayReport.{ReplayReport}
+use Rattle.witness_replay.specs.declared.replaying.IllegalChoice.{IllegalChoice}
 use Rattle.witness_replay.specs.Spelling.{Plan, choices_of}
 
 abbrev pub illegal_on : Answer → (State → Option ℕ) → Option ℕ
@@ -41,3 +43,8 @@ replay_from words A choices m =
 -- the replay of a schedule: from the reset state with its fill byte everywhere
 abbrev pub replay_of : List ℕ → List Entry → Plan → Result Report ℕ
 replay_of words A plan = replay_from words A (choices_of plan.runs) (filled plan.fill)
+
+-- what a replay tells, as numbers
+abbrev pub told : Result ReplayReport IllegalChoice → Result Report ℕ
+told (Ok r) = Ok (record { steps = r.steps; depth = r.depth; stop = r.stop })
+told (Err illegal) = Err illegal.0

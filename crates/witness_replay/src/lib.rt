@@ -3,7 +3,11 @@
 
 pub mod laws;
 mod reading;
+pub mod replaying;
 pub mod schedule;
+#[cfg(test)]
+mod tests;
 mod writing;
 
+pub use replaying::{IllegalChoice, ReplayReport, replay};
 pub use schedule::{Run, Schedule, ScheduleFault};

@@ -5,7 +5,7 @@ ghost use Rattle.sb_base.specs.Lines.{Place, words_of};
 ghost use Rattle.line_reading.specs.Reading.{first_by, line_by, ReadsAt};
 ghost use Rattle.witness_replay.specs.declared.schedule.ScheduleFault.TheVariants as fault;
 ghost use Rattle.witness_replay.specs.Spelling.{Plan, weight, follows, most_choices};
-ghost use Rattle.witness_replay.specs.Exact.{IsReading, IsStuck, Finds};
+ghost use Rattle.witness_replay.specs.Exact.{IsReading, IsStuck, IsBehind, Finds};
 ghost use Rattle.witness_replay.specs.Reading.{go_in, take_in, run_in, admitted_in, fill_in, fill_by, header_by, part_by, runs_from, schedule_at, schedule_in, ReadsUnlessMemory, TellsUnlessMemory};
 
 use crate::laws::reading_is_exact;
@@ -62,16 +62,6 @@ fn run_of(text: &[u8]) -> Option<Run>
     }
 }
 
-/// How many choices a run stands for.
-fn weight_of(run: Run) -> u32
-    ensures { result ≡ weight run }
-{
-    match run {
-        Run::Go(count, _, _) => count,
-        Run::Take(_, _) => 1,
-    }
-}
-
 /// Whether a run may come behind another.
 fn may_follow(before: Option<Run>, run: Run) -> bool
     ensures { result ≡ follows before run }
@@ -88,7 +78,7 @@ fn admitted(text: &[u8], before: Option<Run>, left: u32) -> Option<Run>
     ensures exact { result ≡ admitted_in before left (words_of text.now) }
 {
     let run = run_of(text)?;
-    if may_follow(before, run) && weight_of(run) <= left {
+    if may_follow(before, run) && run.weight() <= left {
         Some(run)
     } else {
         None
@@ -146,9 +136,10 @@ fn next_part(reader: &LineReader<'_>, before: Option<Run>, left: u32) -> Option<
 }
 
 /// Reads the first line.
-#[tactic(auto, unfolding(line_reading::specs::Reading::line_by))]
+#[tactic(auto, using(crate::proofs::Behind::behind_self, crate::proofs::Behind::behind_passed), unfolding(line_reading::specs::Reading::line_by))]
 fn read_header(reader: &mut LineReader<'_>) -> Result<(), Malformed>
-    ensures { ReadsAt (λ u. u) reader.new result (line_by header_by reader.old) }
+    ensures exact { ReadsAt (λ u. u) reader.new result (line_by header_by reader.old) }
+    ensures forward { IsBehind reader.old reader.new }
 {
     match next_header(reader) {
         Some(()) => {
@@ -160,9 +151,10 @@ fn read_header(reader: &mut LineReader<'_>) -> Result<(), Malformed>
 }
 
 /// Reads the line of the fill byte.
-#[tactic(auto, unfolding(line_reading::specs::Reading::line_by))]
+#[tactic(auto, using(crate::proofs::Behind::behind_self, crate::proofs::Behind::behind_passed), unfolding(line_reading::specs::Reading::line_by))]
 fn read_fill(reader: &mut LineReader<'_>) -> Result<u8, Malformed>
-    ensures { ReadsAt (λ b. b) reader.new result (line_by fill_by reader.old) }
+    ensures exact { ReadsAt (λ b. b) reader.new result (line_by fill_by reader.old) }
+    ensures forward { IsBehind reader.old reader.new }
 {
     match next_fill(reader) {
         Some(fill) => {
@@ -174,13 +166,14 @@ fn read_fill(reader: &mut LineReader<'_>) -> Result<u8, Malformed>
 }
 
 /// Reads a run, or none where the line is `end`.
-#[tactic(auto, unfolding(line_reading::specs::Reading::line_by))]
+#[tactic(auto, using(crate::proofs::Behind::behind_self, crate::proofs::Behind::behind_passed), unfolding(line_reading::specs::Reading::line_by))]
 fn read_part(
     reader: &mut LineReader<'_>,
     before: Option<Run>,
     left: u32,
 ) -> Result<Option<Run>, Malformed>
     ensures exact { ReadsAt (λ o. o) reader.new result (line_by (part_by before left) reader.old) }
+    ensures forward { IsBehind reader.old reader.new }
     ensures fits { IfOk result (λ o. IfSome o (λ r. weight r ≤ left)) }
     ensures shorter { IfOk result (λ _. length reader.new.rest < length reader.old.rest) }
 {
@@ -194,9 +187,10 @@ fn read_part(
 }
 
 /// Reads the lines up to `end`.
-#[tactic(auto, using(crate::proofs::Loop::front_step, crate::proofs::Loop::front_end, crate::proofs::Loop::front_fault))]
+#[tactic(auto, using(crate::proofs::Loop::front_step, crate::proofs::Loop::front_end, crate::proofs::Loop::front_fault, crate::proofs::Behind::behind_self, crate::proofs::Behind::behind_more))]
 fn read_runs(alloc: Global, reader: &mut LineReader<'_>) -> Result<Vec<Run>, ScheduleFault>
-    ensures { ReadsUnlessMemory (λ v. v.items) reader.new result (runs_from None most_choices reader.old.at reader.old.rest) }
+    ensures exact { ReadsUnlessMemory (λ v. v.items) reader.new result (runs_from None most_choices reader.old.at reader.old.rest) }
+    ensures forward { IsBehind reader.old reader.new }
 {
     let mut runs = Vec::new(alloc);
     let mut before = None;
@@ -205,16 +199,17 @@ fn read_runs(alloc: Global, reader: &mut LineReader<'_>) -> Result<Vec<Run>, Sch
         if runs.push(run).is_err() {
             return Err(ScheduleFault::Memory);
         }
-        left -= weight_of(run);
+        left -= run.weight();
         before = Some(run);
     }
     Ok(runs)
 }
 
 /// Reads the lines of a schedule.
-#[tactic(auto, unfolding(crate::specs::Reading::schedule_at))]
+#[tactic(auto, using(crate::proofs::Behind::behind_more), unfolding(crate::specs::Reading::schedule_at))]
 fn read_schedule(alloc: Global, reader: &mut LineReader<'_>) -> Result<Schedule, ScheduleFault>
-    ensures { ReadsUnlessMemory (λ s. s) reader.new result (schedule_at reader.old) }
+    ensures exact { ReadsUnlessMemory (λ s. s) reader.new result (schedule_at reader.old) }
+    ensures forward { IsBehind reader.old reader.new }
 {
     reading_is_exact();
     read_header(reader)?;
@@ -227,13 +222,15 @@ impl Schedule {
     /// Reads a schedule from the reader's place on, behind whose line `end` the reader then stands.
     ///
     /// `Malformed` comes exactly where no schedule's lines stand there, with the offset of the first line at which none can
-    /// go on, or with the text's length where a line is missing. The reader then stands at that line, or at the end.
+    /// go on, or with the text's length where a line is missing. The reader then stands at that line, or at the end. After
+    /// want of memory it stands at some line from its old place on, or at the end.
     pub fn read(alloc: Global, reader: &mut LineReader<'_>) -> Result<Schedule, ScheduleFault>
         ensures exact { ReadsUnlessMemory (λ s. s) reader.new result (schedule_at reader.old) }
         ensures told { TellsUnlessMemory (λ s. s) reader.new result (schedule_in reader.old) }
         ensures found { IfOk result (λ s. IsReading reader.old s reader.new) }
         ensures spelled { (plan : Plan) (q : Place) → IsReading reader.old plan q → Finds result reader.new plan q }
         ensures stuck { (at : ℕ) → result ≡ Err (fault.Malformed at) → IsStuck reader.old reader.new }
+        ensures forward { IsBehind reader.old reader.new }
     {
         reading_is_exact();
         read_schedule(alloc, reader)

@@ -1,7 +1,7 @@
 //! What a schedule is.
 
 ghost use Rattle.std.specs.Prelude.{◌≡◌, None};
-ghost use Rattle.witness_replay.specs.Spelling.{AreRuns, most_choices};
+ghost use Rattle.witness_replay.specs.Spelling.{AreRuns, most_choices, weight};
 
 use line_reading::Malformed;
 use std::marker::Model;
@@ -14,6 +14,18 @@ pub enum Run {
     Go(u32, u8, u8),
     /// One `Take` of this vector, 2 to 26; the flag clears the watchdog's enable bit.
     Take(u8, bool),
+}
+
+impl Run {
+    /// How many choices the run stands for.
+    pub fn weight(self) -> u32
+        ensures { result ≡ weight self }
+    {
+        match self {
+            Run::Go(count, _, _) => count,
+            Run::Take(_, _) => 1,
+        }
+    }
 }
 
 /// A fill byte for registers and SRAM, and at most 16,777,216 choices as counted runs: neighbouring `Go` runs differ in
@@ -76,7 +88,8 @@ impl Schedule {
 
     /// The runs in order.
     pub fn runs(&self) -> &[Run]
-        ensures { result.now ≡ self.now.runs }
+        ensures runs { result.now ≡ self.now.runs }
+        ensures fit { AreRuns None most_choices result.now }
     {
         &self.runs
     }

@@ -1,6 +1,4 @@
-use Rattle.std.proofs.Common.{◌≡◌, ap, sym, ◌∙◌, Ok}
-use Rattle.cert_check.specs.Verdict.{verdict_of}
-use Rattle.cert_check.specs.declared.verdict.Verdict.TheVariants.{Accepted, Rejected}
+use Rattle.std.proofs.Common.{ap, Ok}
 use Rattle.cert_check.proofs.Reasons.{accepted_when_sound, sound_when_accepted, rejected_by_reason, reason_when_rejected, closed_when_sound}
 use Rattle.cert_check.proofs.judging.judge.Goals as goal
 

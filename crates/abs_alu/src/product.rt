@@ -1,0 +1,32 @@
+//! Products of bytes.
+
+ghost use Rattle.std.specs.Prelude.{◌≡◌};
+ghost use Rattle.abs_alu.specs.Product.{abs_mul};
+
+use crate::flags::with_carry_and_zero;
+use avr_alu::sreg::Sreg;
+use avr_model::operation::Mul;
+use bit_domain::bits::Tri;
+use bit_domain::bytes::TriByte;
+
+/// MUL, MULS, MULSU, FMUL, FMULS and FMULSU: low and high byte of the product, with the register after it, where it was
+/// `s`. It is exact where both operands are known; else the product, C and Z are unknown. The other flags are kept.
+pub fn mul(op: Mul, a: TriByte, b: TriByte, s: TriByte) -> ((TriByte, TriByte), TriByte)
+    ensures { result ≡ abs_mul op a b s }
+{
+    match (a.constant(), b.constant()) {
+        (Some(x), Some(y)) => {
+            let (product, flags) = avr_alu::product::mul(op, x, y, Sreg(0));
+            let flags = TriByte::of(flags.0);
+            let [low, high] = product.to_le_bytes();
+            (
+                (TriByte::of(low), TriByte::of(high)),
+                with_carry_and_zero(s, flags.bit(0), flags.bit(1)),
+            )
+        }
+        _ => (
+            (TriByte::any(), TriByte::any()),
+            with_carry_and_zero(s, Tri::Any, Tri::Any),
+        ),
+    }
+}

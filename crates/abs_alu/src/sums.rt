@@ -1,0 +1,60 @@
+//! Sums and differences of bytes.
+
+ghost use Rattle.std.specs.Prelude.{◌≡◌};
+ghost use Rattle.abs_alu.specs.Sums.{abs_add, abs_sub, zero_after};
+
+use crate::flags::{is_zero, with_flags};
+use bit_domain::bits::Tri;
+use bit_domain::bytes::TriByte;
+
+/// ADD and ADC: `a` plus `b` and a carry, with the register after it, where it was `s`.
+pub fn add(a: TriByte, b: TriByte, carry: Tri, s: TriByte) -> (TriByte, TriByte)
+    ensures { result ≡ abs_add a b carry s }
+{
+    let sum = bit_domain::sums::add(a, b, carry);
+    let overflow = sum.into_top.xor(sum.out);
+    let flags = with_flags(
+        s,
+        sum.out,
+        is_zero(sum.bits),
+        sum.bits.bit(7),
+        overflow,
+        sum.half,
+    );
+    (sum.bits, flags)
+}
+
+/// SUB, SUBI, CP, CPI and NEG, and with `keep_zero` SBC, SBCI and CPC: `a` less `b` and a borrow, with the register after
+/// it, where it was `s`. With `keep_zero` Z is set only where it was.
+pub fn sub(
+    a: TriByte,
+    b: TriByte,
+    borrow: Tri,
+    keep_zero: bool,
+    s: TriByte,
+) -> (TriByte, TriByte)
+    ensures { result ≡ abs_sub a b borrow keep_zero s }
+{
+    let difference = bit_domain::sums::sub(a, b, borrow);
+    let overflow = difference.into_top.xor(difference.out);
+    let flags = with_flags(
+        s,
+        difference.out,
+        zero_of(keep_zero, difference.bits, s),
+        difference.bits.bit(7),
+        overflow,
+        difference.half,
+    );
+    (difference.bits, flags)
+}
+
+// Z after a difference.
+fn zero_of(keep_zero: bool, r: TriByte, s: TriByte) -> Tri
+    ensures { result ≡ zero_after keep_zero r s }
+{
+    if keep_zero {
+        is_zero(r).and(s.bit(1))
+    } else {
+        is_zero(r)
+    }
+}
