@@ -3,13 +3,14 @@
 ghost use Rattle.std.specs.Prelude.{◌≡◌, ◌++◌, ◌<◌, [], ◌∷◌, IfOk, OnOk, codes, decimal};
 ghost use Rattle.sb_base.specs.Digits.{hex_digits};
 ghost use Rattle.sb_base.specs.Writing.{with_words, with_end};
-ghost use Rattle.stack_core.specs.Texts.{told, usage, read_fault, too_long, raw_fault, elf_not_built, certificate_malformed, schedule_malformed, schedule_illegal, witness_word, accepted, key_words, reason_words, rejected, witness_rejected, stop_words};
+ghost use Rattle.stack_core.specs.Texts.{told, usage, read_fault, too_long, raw_fault, elf_not_built, certificate_malformed, schedule_malformed, schedule_illegal, witness_word, accepted, key_words, reason_words, rejected, witness_rejected, stop_words, run_text};
 
 use abs_step::NodeKey;
 use avr_model::choice::{Flag, Stop};
 use cert_check::Reason;
 use sb_base::LineWriter;
 use std::alloc::{AllocError, Global};
+use witness_replay::ReplayReport;
 
 /// A line of two words and a third.
 fn three_words(alloc: Global, first: &[u8], second: &[u8], third: &[u8]) -> Result<Vec<u8>, AllocError>
@@ -223,3 +224,16 @@ fn put_stop(line: &mut LineWriter, stop: Stop) -> Result<(), AllocError>
     }
 }
 
+pub fn run_text(alloc: Global, report: &ReplayReport) -> Result<Vec<u8>, AllocError>
+    ensures { IfOk result (λ v. v.items ≡ run_text (record { steps = report.now.steps; depth = report.now.depth; stop = report.now.stop })) }
+{
+    let mut line = LineWriter::new(alloc);
+    line.word(b"steps")?;
+    line.dec(u64::from(report.steps))?;
+    line.word(b"depth")?;
+    line.dec(u64::from(report.depth))?;
+    line.word(b"stop")?;
+    put_stop(&mut line, report.stop)?;
+    line.end_line()?;
+    Ok(line.finish())
+}
