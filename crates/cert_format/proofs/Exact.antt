@@ -15,7 +15,7 @@ use Rattle.line_reading.specs.Words.{IsWord, whole, Passes, WordLaws}
 use Rattle.witness_replay.specs.Spelling.{Plan, IsSchedule}
 use Rattle.witness_replay.specs.Reading.{refused_at}
 use Rattle.witness_replay.specs.Exact.{TextIsReading, ReadIsSpelled as ScheduleIsSpelled, SpelledIsRead as ScheduleIsRead}
-use Rattle.witness_replay.proofs.Tests.{ok_is, err_ok, line_takes, line_again, passes_more, passes_split, then_ok}
+use Rattle.witness_replay.proofs.Steps.{ok_is, err_ok, line_takes, line_again, passes_more, passes_split, then_ok}
 use Rattle.cert_format.specs.declared.certificate.CertFault.{CertFault}
 use Rattle.cert_format.specs.declared.certificate.CertFault.TheVariants.{Malformed, Memory}
 use Rattle.cert_format.specs.Certificate.{Claim, IsClaim, claim_of, IsKey, most_nodes, most_cells}

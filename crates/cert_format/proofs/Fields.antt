@@ -11,7 +11,7 @@ use Rattle.abs_step.specs.declared.key.NodeKey.{NodeKey}
 use Rattle.sb_base.specs.Digits.{hex_digits}
 use Rattle.line_reading.specs.Reading.{◌>>=◌, hex_at, dec_at, word_at, these_at, marked_at, is_over, this_by}
 use Rattle.line_reading.specs.Words.{IsWord, WordLaws}
-use Rattle.witness_replay.proofs.Tests.{chosen, some_is, none_some, bind_some, both, no_words, cons_is}
+use Rattle.witness_replay.proofs.Steps.{chosen, some_is, none_some, bind_some, both, no_words, cons_is}
 use Rattle.cert_format.specs.Certificate.{IsKey, most_nodes}
 use Rattle.cert_format.specs.Spelling.{unknown, node_words, root_words}
 use Rattle.cert_format.specs.Reading.{numbered_in, root_in, state_words, node_in, is_above, admits}

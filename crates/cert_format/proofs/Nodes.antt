@@ -8,7 +8,7 @@ use Rattle.abs_step.specs.declared.key.NodeKey.{NodeKey}
 use Rattle.sb_base.specs.Lines.{TextLine, Place, words_of, spaced}
 use Rattle.line_reading.specs.Reading.{then_at, line_by}
 use Rattle.line_reading.specs.Words.{IsWord, whole, Passes, WordLaws}
-use Rattle.witness_replay.proofs.Tests.{chosen, some_is, none_some, ok_is, err_ok, bind_some, both, TakesLine, line_takes, line_again, passes_none, passes_more, passes_split, passes_end, then_ok, then_again}
+use Rattle.witness_replay.proofs.Steps.{chosen, some_is, none_some, ok_is, err_ok, bind_some, both, TakesLine, line_takes, line_again, passes_none, passes_more, passes_split, passes_end, then_ok, then_again}
 use Rattle.cert_format.specs.Certificate.{Claim, IsClaim, IsKey, IsBefore, IsBeforeFirst, Ascends, cells_of, most_nodes, most_cells}
 use Rattle.cert_format.specs.Spelling.{unknown, node_words}
 use Rattle.cert_format.specs.Reading.{node_in, is_above, admits, node_by, with_node, nodes_from}

@@ -14,7 +14,7 @@ use Rattle.line_reading.specs.Words.{IsWord, whole, sizes, Passes, PassesText, W
 use Rattle.witness_replay.specs.Spelling.{Plan, IsSchedule, schedule_lines, text_of as schedule_text}
 use Rattle.witness_replay.specs.Reading.{schedule_at}
 use Rattle.witness_replay.specs.Exact.{IsReading, IsTextReading, TextIsReading, ReadIsSpelled as ScheduleIsSpelled, SpelledIsRead as ScheduleIsRead}
-use Rattle.witness_replay.proofs.Tests.{chosen, some_is, none_some, ok_is, err_ok, line_takes, line_again, passes_none, passes_more, passes_split, sizes_append, then_ok}
+use Rattle.witness_replay.proofs.Steps.{chosen, some_is, none_some, ok_is, err_ok, line_takes, line_again, passes_none, passes_more, passes_split, sizes_append, then_ok}
 use Rattle.cert_format.specs.Certificate.{most_nodes, most_cells}
 use Rattle.cert_format.specs.Spelling.{node_words, witness_lines}
 use Rattle.cert_format.specs.Reading.{numbered_in, bound_by, count_by, ending_by, heading_at, nodes_from, nodes_at, plan_if, witness_at, if_last, end_at}

@@ -7,7 +7,7 @@ use Rattle.abs_step.specs.declared.key.NodeKey.{NodeKey}
 use Rattle.sb_base.specs.Digits.{hex_digits}
 use Rattle.sb_base.specs.Lines.{Lacks}
 use Rattle.line_reading.specs.Words.{IsWord, WordLaws}
-use Rattle.witness_replay.proofs.Tests.{both}
+use Rattle.witness_replay.proofs.Steps.{both}
 use Rattle.cert_format.specs.Certificate.{IsKey}
 use Rattle.cert_format.specs.Spelling.{unknown, node_words, root_words}
 

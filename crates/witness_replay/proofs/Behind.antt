@@ -1,8 +1,7 @@
 -- Places behind a place.
 use Rattle.std.proofs.Common.{◌≡◌, ◌++◌, [], ◌∷◌, List, refl, sym, subst}
-use Rattle.sb_base.specs.Lines.{TextLine, Place, size_of}
+use Rattle.sb_base.specs.Lines.{TextLine, Place}
 use Rattle.line_reading.specs.Reading.{passed, passed_from}
-use Rattle.line_reading.specs.Words.{Passes}
 use Rattle.witness_replay.specs.Exact.{IsBehind}
 use Rattle.witness_replay.proofs.Steps.{passes_none, passes_one, passes_more}
 

@@ -1,21 +1,21 @@
 -- A schedule: what is read is spelled so, what is spelled is read, and where nothing is read no schedule can go on.
-use Rattle.std.proofs.Common.{ℕ, ◌+◌, ◌-◌, ◌<◌, ◌≤◌, ◌^◌, ◌≡◌, List, [], ◌∷◌, ◌++◌, Bool, true, false, refl, ap, sym, ◌∙◌, arith, Option, Some, None, Result, Ok, Err, cond, length, ◌⊎◌, inl, inr, codes, map, lit<, lit≤, subst, append-nil, append_assoc}
+use Rattle.std.proofs.Common.{ℕ, ◌+◌, ◌-◌, ◌<◌, ◌≤◌, ◌≡◌, List, [], ◌∷◌, ◌++◌, true, refl, ap, sym, ◌∙◌, arith, Option, Some, None, Result, Ok, Err, cond, length, ◌⊎◌, inl, inr, codes, map, lit<, subst, append-nil}
 use Rattle.std.proofs.lemmas.Slice.Eq.{bytes_eq-Decides}
-use Rattle.std.specs.List.{AllByRecursion, flat_map}
+use Rattle.std.specs.List.{AllByRecursion}
 use Rattle.std.specs.Str.{bytes_eq}
 use Rattle.sb_base.specs.Digits.{hex_digits}
-use Rattle.sb_base.specs.Lines.{TextLine, Place, AreLines, joined, words_of, spaced}
-use Rattle.line_reading.specs.Reading.{hex_at, is_over, then_at, first_by, line_by}
+use Rattle.sb_base.specs.Lines.{TextLine, Place, AreLines, words_of, spaced}
+use Rattle.line_reading.specs.Reading.{hex_at, is_over, first_by, line_by}
 use Rattle.line_reading.specs.Words.{IsWord, whole, sizes, Passes, WordLaws}
 use Rattle.witness_replay.specs.declared.schedule.Run.{Run}
 use Rattle.witness_replay.specs.declared.schedule.Run.TheVariants.{Go, Take}
 use Rattle.witness_replay.specs.declared.schedule.ScheduleFault.{ScheduleFault}
 use Rattle.witness_replay.specs.declared.schedule.ScheduleFault.TheVariants.{Malformed, Memory}
-use Rattle.witness_replay.specs.Spelling.{Plan, weight, most_choices, IsCounted, follows, AreRuns, IsSchedule, run_words, schedule_lines, text_of}
+use Rattle.witness_replay.specs.Spelling.{Plan, weight, most_choices, IsCounted, follows, AreRuns, IsSchedule, run_words, schedule_lines}
 use Rattle.witness_replay.specs.Reading.{fill_in, fill_by, header_by, runs_from, schedule_at, refused_at, schedule_in, ReadsUnlessMemory, TellsUnlessMemory}
-use Rattle.witness_replay.specs.Exact.{IsReading, BeginSchedule, NoneGoesOn, IsStuck, ReadIsSpelled, SpelledIsRead, RefusedIsStuck, IsTextReading, ReadingIsText, TextIsReading, OneText, Finds}
-use Rattle.witness_replay.proofs.Steps.{chosen, some_is, none_some, ok_is, err_ok, err_is, bind_some, no_words, TakesLine, line_takes, line_refuses, line_again, passes_none, passes_more, passes_split, nil_cons, cons_is, then_ok, then_err, then_again}
-use Rattle.witness_replay.proofs.Runs.{run_lines, RunsRead, runs_take, RunsStuck, NoRun, last_of, left_after, runs_stuck, runs_again, are_words, same_run}
+use Rattle.witness_replay.specs.Exact.{IsReading, NoneGoesOn, IsStuck, ReadIsSpelled, SpelledIsRead, RefusedIsStuck, ReadingIsText, TextIsReading, OneText, Finds}
+use Rattle.witness_replay.proofs.Steps.{chosen, some_is, none_some, ok_is, err_ok, bind_some, no_words, TakesLine, line_takes, line_refuses, line_again, passes_none, passes_more, passes_split, nil_cons, cons_is, then_ok, then_err}
+use Rattle.witness_replay.proofs.Runs.{run_lines, runs_take, NoRun, last_of, left_after, runs_stuck, runs_again, are_words, same_run}
 
 abbrev pub header : List (List ℕ)
 header = codes "schedule" ∷ codes "1" ∷ []

@@ -1,21 +1,20 @@
 -- The choices that a replay reaches are a run.
-use Rattle.std.proofs.Common.{ℕ, ◌+◌, ◌-◌, ◌<◌, ◌≤◌, ◌≡◌, List, [], ◌∷◌, ◌++◌, length, replicate, suc, zero, arith, refl, ap, sym, ◌∙◌, subst, Option, Some, None, Result, Ok, Err}
+use Rattle.std.proofs.Common.{ℕ, ◌+◌, ◌-◌, ◌<◌, ◌≡◌, List, [], ◌∷◌, ◌++◌, length, replicate, suc, zero, arith, refl, ap, sym, ◌∙◌, subst, Option, Some, None, Result, Ok, Err}
 use Rattle.std.proofs.lemmas.List.Elements.{All-replicate}
 use Rattle.std.specs.List.{AllByRecursion}
 use Rattle.std.specs.Option.{option_map}
 use Rattle.avr_model.specs.declared.choice.Choice.{Choice}
 use Rattle.avr_model.specs.declared.choice.Choice.TheVariants as choice
-use Rattle.avr_model.specs.declared.choice.Stop.{Stop}
 use Rattle.avr_model.specs.declared.choice.Stop.TheVariants as stop
 use Rattle.avr_model.specs.declared.assumption.Entry.{Entry}
 use Rattle.avr_model.specs.State.{State, IsReset, filled}
 use Rattle.avr_model.specs.Step.{Answer, Illegal, Undefined, Overflow, Flagged, Done, step}
-use Rattle.avr_model.specs.Run.{RunsOn, HasBytes, IsRun, states_on, states_of, stop_on, stop_of, depth_of, deepest}
+use Rattle.avr_model.specs.Run.{RunsOn, HasBytes, IsRun, states_on, states_of, stop_on, stop_of, deepest}
 use Rattle.witness_replay.specs.declared.schedule.Run.{Run}
 use Rattle.witness_replay.specs.declared.schedule.Run.TheVariants.{Go, Take}
-use Rattle.witness_replay.specs.Spelling.{Plan, IsSchedule, IsCounted, AreRuns, weight, choices_of_run, choices_of}
-use Rattle.witness_replay.specs.Replay.{illegal_on, first_illegal, steps_of, Report, report_unless, replay_from, replay_of}
-use Rattle.witness_replay.specs.Runs.{RunsAs, ReplaysAreRuns, IsIllegalAt, IllegalChoicesEndRuns}
+use Rattle.witness_replay.specs.Spelling.{IsCounted, AreRuns, weight, choices_of_run, choices_of}
+use Rattle.witness_replay.specs.Replay.{illegal_on, first_illegal, Report, report_unless}
+use Rattle.witness_replay.specs.Runs.{ReplaysAreRuns, IllegalChoicesEndRuns}
 use Rattle.witness_replay.proofs.Steps.{some_is, none_some}
 
 -- ---- the bytes of a schedule's choices

@@ -1,23 +1,21 @@
 -- A replay under way, and the run that it is.
-use Rattle.std.proofs.Common.{ℕ, ◌+◌, ◌-◌, ◌<◌, ◌≤◌, ◌≡◌, max, List, [], ◌∷◌, ◌++◌, length, map, drop, replicate, get_or, suc, zero, refl, ap, sym, ◌∙◌, subst, arith, append_assoc, append-nil, add-one, drop-cons, Option, Some, None, Result, Ok, Err, add_assoc}
+use Rattle.std.proofs.Common.{ℕ, ◌+◌, ◌-◌, ◌<◌, ◌≤◌, ◌≡◌, max, List, [], ◌∷◌, ◌++◌, length, drop, replicate, get_or, suc, refl, ap, sym, ◌∙◌, arith, add-one, drop-cons, Option, Some, None, Result, Ok, Err}
 use Rattle.std.proofs.lemmas.List.{drop_all}
-use Rattle.std.specs.List.{flat_map}
 use Rattle.std.specs.Option.{option_map}
 use Rattle.avr_model.specs.declared.choice.Choice.{Choice}
-use Rattle.avr_model.specs.declared.choice.Choice.TheVariants as choice
 use Rattle.avr_model.specs.declared.choice.StepResult.{StepResult}
 use Rattle.avr_model.specs.declared.choice.Stop.{Stop}
 use Rattle.avr_model.specs.declared.choice.Stop.TheVariants as stop
 use Rattle.avr_model.specs.declared.assumption.Entry.{Entry}
 use Rattle.avr_model.specs.State.{State, filled, depth_of_state}
 use Rattle.avr_model.specs.Step.{Answer, Illegal, Undefined, Overflow, Flagged, Done, step, result_of}
-use Rattle.avr_model.specs.Run.{Machine, starting, moved_on, states_on, states_of, deepest, stop_on, stop_of, depth_of}
+use Rattle.avr_model.specs.Run.{Machine, starting, moved_on, states_on, states_of, deepest, stop_on, stop_of}
 use Rattle.witness_replay.specs.declared.schedule.Run.{Run}
 use Rattle.witness_replay.specs.declared.schedule.Run.TheVariants.{Go, Take}
 use Rattle.witness_replay.specs.declared.replaying.ReplayReport.{ReplayReport}
 use Rattle.witness_replay.specs.declared.replaying.IllegalChoice.{IllegalChoice}
-use Rattle.witness_replay.specs.Spelling.{Plan, weight, choices_of_run, choices_of, most_choices, AreRuns, IsCounted, follows}
-use Rattle.witness_replay.specs.Replay.{illegal_on, first_illegal, steps_of, Report, report_unless, replay_from, replay_of, told}
+use Rattle.witness_replay.specs.Spelling.{Plan, weight, choices_of_run, choices_of, AreRuns}
+use Rattle.witness_replay.specs.Replay.{illegal_on, first_illegal, Report, report_unless, replay_from, replay_of, told}
 use Rattle.witness_replay.specs.Midway.{ended_on, replayed, ending_of, or_on, choice_of, total}
 
 -- ---- one choice

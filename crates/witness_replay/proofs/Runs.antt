@@ -1,5 +1,5 @@
 -- Runs: what is read as one is spelled so, and what is spelled is read.
-use Rattle.std.proofs.Common.{ℕ, ◌+◌, ◌-◌, ◌<◌, ◌≤◌, ◌^◌, ◌≡◌, ◌==◌, ◌&&◌, List, [], ◌∷◌, ◌++◌, Bool, true, false, refl, ap, sym, ◌∙◌, arith, Option, Some, None, Result, Ok, Err, ◌⊎◌, inl, inr, cond, codes, nat_le, map, lit<, subst, suc, zero}
+use Rattle.std.proofs.Common.{ℕ, ◌+◌, ◌-◌, ◌≤◌, ◌≡◌, ◌==◌, ◌&&◌, List, [], ◌∷◌, ◌++◌, Bool, true, false, refl, ap, sym, ◌∙◌, arith, Option, Some, None, Result, Ok, Err, inl, inr, cond, codes, nat_le, map, lit<, subst, suc, zero}
 use Rattle.std.proofs.lemmas.Bool.Decides.{nat_tests}
 use Rattle.std.proofs.lemmas.Fmt.{decimal_digit}
 use Rattle.std.proofs.lemmas.Slice.Eq.{bytes_eq-Decides}
@@ -9,13 +9,13 @@ use Rattle.std.specs.Fmt.{decimal}
 use Rattle.std.specs.Str.{bytes_eq}
 use Rattle.sb_base.specs.Digits.{hex_digits}
 use Rattle.sb_base.specs.Lines.{TextLine, Place, size_of, words_of, spaced}
-use Rattle.line_reading.specs.Reading.{◌>>=◌, hex_at, dec_at, is_over, first_by}
+use Rattle.line_reading.specs.Reading.{hex_at, dec_at, is_over, first_by}
 use Rattle.line_reading.specs.Words.{IsWord, whole, Passes, WordLaws}
 use Rattle.witness_replay.specs.declared.schedule.Run.{Run}
 use Rattle.witness_replay.specs.declared.schedule.Run.TheVariants.{Go, Take}
 use Rattle.witness_replay.specs.Spelling.{weight, most_choices, IsCounted, follows, AreRuns, bit, run_words}
 use Rattle.witness_replay.specs.Reading.{go_in, take_in, run_in, admits, admitted_in, part_by, with_front, with_part, runs_from}
-use Rattle.witness_replay.proofs.Steps.{chosen, some_is, none_some, ok_is, err_ok, err_is, bind_some, both, no_words, first_some, passes_none, passes_one, passes_more, passes_tail, passes_end, nil_cons, cons_is}
+use Rattle.witness_replay.proofs.Steps.{chosen, some_is, none_some, ok_is, err_ok, err_is, bind_some, both, no_words, first_some, passes_none, passes_one, passes_more, passes_tail, passes_end, nil_cons}
 
 -- ---- the words of a run
 

@@ -3,7 +3,7 @@ use Rattle.std.specs.Prelude.{◌≡◌, ℕ, List, [], ◌∷◌, ◌++◌, len
 use Rattle.avr_model.specs.declared.choice.Choice.{Choice}
 use Rattle.avr_model.specs.declared.choice.Stop.TheVariants.{End}
 use Rattle.avr_model.specs.declared.assumption.Entry.{Entry}
-use Rattle.avr_model.specs.State.{State, IsReset, filled}
+use Rattle.avr_model.specs.State.{IsReset, filled}
 use Rattle.avr_model.specs.Run.{IsRun, depth_of, stop_of}
 use Rattle.witness_replay.specs.Spelling.{Plan, IsSchedule, choices_of}
 use Rattle.witness_replay.specs.Replay.{Report, steps_of, replay_of}

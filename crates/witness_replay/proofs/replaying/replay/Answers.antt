@@ -1,5 +1,4 @@
-use Rattle.std.proofs.Common.{arith, ◌≡◌, ◌∙◌, sym, ap, refl, None, Some, Ok, length}
-use Rattle.avr_model.specs.declared.choice.Stop.TheVariants as stop
+use Rattle.std.proofs.Common.{arith, ◌≡◌, ◌∙◌, sym, refl, None, Some, length}
 use Rattle.witness_replay.specs.declared.schedule.Run.TheVariants.{Go}
 use Rattle.witness_replay.specs.Spelling.{most_choices}
 use Rattle.witness_replay.proofs.Replays.{total_next, total_fits, runs_on, runs_end, from_reset}
