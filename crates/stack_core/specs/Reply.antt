@@ -1,5 +1,5 @@
 -- What the program answers: a function of the words and of the bytes that are held under the names in them.
-use Rattle.std.specs.Prelude.{◌≡◌, ◌≢◌, ◌⊎◌, ◌×◌, ℕ, ◌+◌, ◌%◌, ◌==◌, ◌&&◌, not, nat_lt, ◌≤◌, List, [], ◌∷◌, ◌++◌, length, take, ⊤, Bool, true, false, Option, Some, None, Result, Ok, Err, if◌then◌else◌}
+use Rattle.std.specs.Prelude.{◌≡◌, ◌≢◌, ◌⊎◌, ℕ, ◌+◌, ◌%◌, ◌==◌, ◌&&◌, not, nat_lt, ◌≤◌, List, [], ◌∷◌, ◌++◌, length, take, ⊤, Bool, true, false, Option, Some, None, Result, Ok, Err, if◌then◌else◌}
 use Rattle.avr_model.specs.declared.choice.Stop.{Stop}
 use Rattle.avr_model.specs.declared.choice.Stop.TheVariants as stop
 use Rattle.avr_model.specs.Image.{raw_words}
@@ -79,26 +79,20 @@ abbrev pub certificate_reply : List ℕ → Result Claim ℕ → Reply
 certificate_reply words (Err at) = Says 8 certificate_malformed
 certificate_reply words (Ok c) = verdict_reply words c (verdict_of words c)
 
-abbrev pub check_reply : List ℕ → List ℕ → Reply
-check_reply firmware certificate = image_in firmware (λ words. certificate_reply words (certificate_in certificate))
-
 -- ---- run
 
 abbrev pub report_reply : Result Report ℕ → Reply
 report_reply (Err step) = Says 9 (schedule_illegal step)
 report_reply (Ok r) = Says 0 (run_text r)
 
--- a schedule file ends with its schedule
-abbrev pub plan_reply : List ℕ → Plan → Place → Reply
-plan_reply words plan (record { at = at; rest = [] }) = report_reply (replay_of words [] plan)
-plan_reply words plan (record { at = at; rest = l ∷ ls }) = Says 9 (schedule_malformed at)
+-- nothing follows a schedule in its file
+abbrev pub ends_before : List TextLine → ℕ → Reply → Reply
+ends_before [] at reply = reply
+ends_before (l ∷ ls) at reply = Says 9 (schedule_malformed at)
 
 abbrev pub schedule_reply : List ℕ → Result (Plan × Place) ℕ → Reply
 schedule_reply words (Err at) = Says 9 (schedule_malformed at)
-schedule_reply words (Ok read) = plan_reply words read.0 read.1
-
-abbrev pub run_reply : List ℕ → List ℕ → Reply
-run_reply firmware schedule = image_in firmware (λ words. schedule_reply words (schedule_in (record { at = 0; rest = lines_of schedule })))
+schedule_reply words (Ok read) = ends_before read.1.rest read.1.at (report_reply (replay_of words [] read.0))
 
 -- ---- all
 
@@ -106,9 +100,13 @@ abbrev pub second_cap : Kind → ℕ
 second_cap Check = certificate_cap
 second_cap Run = schedule_cap
 
+-- what is made of a certificate or schedule for these words of flash
+abbrev pub second_reply : Kind → List ℕ → List ℕ → Reply
+second_reply Check words certificate = certificate_reply words (certificate_in certificate)
+second_reply Run words schedule = schedule_reply words (schedule_in (record { at = 0; rest = lines_of schedule }))
+
 abbrev pub work_reply : Kind → List ℕ → List ℕ → Reply
-work_reply Check firmware certificate = check_reply firmware certificate
-work_reply Run firmware schedule = run_reply firmware schedule
+work_reply kind firmware second = image_in firmware (λ words. second_reply kind words second)
 
 -- The files are read in this order, and only then is anything made of them.
 abbrev pub command_reply : Option Command → (List ℕ → Held) → Reply

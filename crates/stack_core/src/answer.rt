@@ -82,7 +82,10 @@ pub fn answer<F: Files>(alloc: Global, words: &[&str], files: &mut F) -> Result<
             match fetch(alloc, files, command.second, second_cap(command.kind))? {
                 Fetched::Long => too_long(alloc, command.second),
                 Fetched::Failed => read_fault(alloc, command.second),
-                Fetched::Whole(second) => work(alloc, command.kind, &firmware, &second),
+                Fetched::Whole(second) => {
+                    let reply = work(alloc, command.kind, &firmware, &second)?;
+                    Ok(reply)
+                }
             }
         }
     }

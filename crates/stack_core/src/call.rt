@@ -7,6 +7,7 @@ ghost use Rattle.stack_core.specs.Reply.{reply_of, IsReadFault, Writes, Cuts};
 ghost use Rattle.stack_core.specs.Headline.{Headline, IsExact};
 
 use crate::answer::answer;
+use crate::laws::replies_are_claims;
 use sb_base::{Files, Sink, SinkFault, put_all};
 use std::alloc::Global;
 
@@ -29,6 +30,7 @@ pub fn stackbound<F: Files, K: Sink>(alloc: Global, words: &[&str], files: &mut 
     // A write fault and want of memory leave some first bytes of what else is answered.
     ensures cut { (result ≡ 4) ⊎ (result ≡ 12) → Cuts (map (λ w. w.now) words.now) (F.holds files.old) (F.blamed files.new) (K.written out.old) (K.written out.new) }
 {
+    replies_are_claims();
     match answer(alloc, words, files) {
         Ok(reply) => match put_all(out, &reply.text) {
             Ok(()) => reply.status,

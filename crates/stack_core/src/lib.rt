@@ -4,6 +4,7 @@
 pub mod answer;
 pub mod call;
 pub mod command;
+pub mod laws;
 pub mod reply;
 pub mod texts;
 

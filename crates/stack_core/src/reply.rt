@@ -1,15 +1,14 @@
 //! The work on files that were read: what they are, and what is answered of them.
 
 ghost use Rattle.std.specs.Prelude.{◌≡◌, ◌≢◌, [], IfOk};
-ghost use Rattle.std.specs.Option.{option_copied};
 ghost use Rattle.avr_model.specs.Firmware.{is_elf};
 ghost use Rattle.sb_base.specs.Lines.{lines_of};
 ghost use Rattle.witness_replay.specs.Reading.{schedule_in};
-ghost use Rattle.witness_replay.specs.Replay.{replay_of};
+ghost use Rattle.witness_replay.specs.Replay.{replay_of, told};
 ghost use Rattle.cert_format.specs.Reading.{certificate_in};
 ghost use Rattle.cert_check.specs.Verdict.{verdict_of};
 ghost use Rattle.stack_core.specs.Texts.{schedule_malformed};
-ghost use Rattle.stack_core.specs.Reply.{Meets, LoadsAs, IsRefusal, attains, witness_reply, verdict_reply, certificate_reply, report_reply, schedule_reply, work_reply};
+ghost use Rattle.stack_core.specs.Reply.{Meets, LoadsAs, IsRefusal, attains, witness_reply, verdict_reply, certificate_reply, report_reply, schedule_reply, second_reply, work_reply};
 
 use crate::command::Kind;
 use crate::texts;
@@ -21,7 +20,7 @@ use flash_image::{Flash, RawFault};
 use sb_base::LineReader;
 use std::alloc::{AllocError, Global};
 use vector_table::Assumptions;
-use witness_replay::{IllegalChoice, Schedule, ScheduleFault, replay};
+use witness_replay::{IllegalChoice, ReplayReport, Schedule, ScheduleFault, replay};
 
 /// A status, and the text that goes with it.
 #[derive(Drop)]
@@ -48,7 +47,7 @@ fn is_elf(bytes: &[u8]) -> bool
 }
 
 /// The flash of a firmware file.
-fn image(alloc: Global, bytes: &[u8]) -> Result<Image, AllocError>
+fn loaded(alloc: Global, bytes: &[u8]) -> Result<Image, AllocError>
     ensures image { IfOk result (λ i. LoadsAs bytes.now i) }
     ensures status { IfOk result (λ i. IsRefusal i) }
 {
@@ -64,11 +63,22 @@ fn image(alloc: Global, bytes: &[u8]) -> Result<Image, AllocError>
     }
 }
 
-/// Whether the replay of a schedule ends without a stop, at this depth.
-fn attains(flash: &Flash, assumptions: &Assumptions, schedule: &Schedule, bound: u16) -> bool
-    ensures { result ≡ attains bound (replay_of flash.now assumptions.now schedule.now) }
+/// The replay of a schedule without assumptions.
+fn replay_alone(
+    alloc: Global,
+    flash: &Flash,
+    schedule: &Schedule,
+) -> Result<ReplayReport, IllegalChoice>
+    ensures { told result ≡ replay_of flash.now [] schedule.now }
 {
-    match replay(flash, assumptions, schedule) {
+    replay(flash, &Assumptions::empty(alloc), schedule)
+}
+
+/// Whether the replay of a schedule ends without a stop, at this depth.
+fn attains(alloc: Global, flash: &Flash, schedule: &Schedule, bound: u16) -> bool
+    ensures { result ≡ attains bound (replay_of flash.now [] schedule.now) }
+{
+    match replay_alone(alloc, flash, schedule) {
         Ok(report) => report.stop == Stop::End && report.depth == bound,
         Err(_) => false,
     }
@@ -78,21 +88,19 @@ fn attains(flash: &Flash, assumptions: &Assumptions, schedule: &Schedule, bound:
 fn witnessed(
     alloc: Global,
     flash: &Flash,
-    assumptions: &Assumptions,
     bound: u16,
-    witness: Option<&Schedule>,
+    certificate: &Certificate,
 ) -> Result<Reply, AllocError>
-    requires { assumptions.now ≡ [] }
-    ensures reply { IfOk result (λ r. Meets (witness_reply flash.now bound (option_copied witness)) r.status r.text.items) }
+    ensures reply { IfOk result (λ r. Meets (witness_reply flash.now bound certificate.now.witness) r.status r.text.items) }
     ensures status { IfOk result (λ r. (r.status ≢ 3) × (r.status ≢ 4) × (r.status ≢ 12)) }
 {
-    match witness {
+    match certificate.witness() {
         None => Ok(Reply {
             status: 0,
             text: texts::accepted(alloc, bound, false)?,
         }),
         Some(schedule) => {
-            if attains(flash, assumptions, schedule, bound) {
+            if attains(alloc, flash, schedule, bound) {
                 Ok(Reply {
                     status: 0,
                     text: texts::accepted(alloc, bound, true)?,
@@ -112,11 +120,8 @@ fn judged(alloc: Global, flash: &Flash, certificate: &Certificate) -> Result<Rep
     ensures reply { IfOk result (λ r. Meets (verdict_reply flash.now certificate.now (verdict_of flash.now certificate.now)) r.status r.text.items) }
     ensures status { IfOk result (λ r. (r.status ≢ 3) × (r.status ≢ 4) × (r.status ≢ 12)) }
 {
-    let assumptions = Assumptions::empty(alloc);
-    match judge(flash, &assumptions, certificate)? {
-        Verdict::Accepted(bound) => {
-            witnessed(alloc, flash, &assumptions, bound, certificate.witness())
-        }
+    match judge(flash, &Assumptions::empty(alloc), certificate)? {
+        Verdict::Accepted(bound) => witnessed(alloc, flash, bound, certificate),
         Verdict::Rejected(reason) => Ok(Reply {
             status: 1,
             text: texts::rejected(alloc, &reason)?,
@@ -144,7 +149,7 @@ fn replayed(alloc: Global, flash: &Flash, schedule: &Schedule) -> Result<Reply, 
     ensures reply { IfOk result (λ r. Meets (report_reply (replay_of flash.now [] schedule.now)) r.status r.text.items) }
     ensures status { IfOk result (λ r. (r.status ≢ 3) × (r.status ≢ 4) × (r.status ≢ 12)) }
 {
-    match replay(flash, &Assumptions::empty(alloc), schedule) {
+    match replay_alone(alloc, flash, schedule) {
         Ok(report) => Ok(Reply {
             status: 0,
             text: texts::run_text(alloc, &report)?,
@@ -184,16 +189,27 @@ fn run(alloc: Global, flash: &Flash, text: &[u8]) -> Result<Reply, AllocError>
     }
 }
 
+/// What is answered of a certificate or schedule for a firmware that was loaded.
+fn on_flash(alloc: Global, kind: Kind, flash: &Flash, second: &[u8]) -> Result<Reply, AllocError>
+    ensures reply { IfOk result (λ r. Meets (second_reply kind flash.now second.now) r.status r.text.items) }
+    ensures status { IfOk result (λ r. (r.status ≢ 3) × (r.status ≢ 4) × (r.status ≢ 12)) }
+{
+    match kind {
+        Kind::Check => check(alloc, flash, second),
+        Kind::Run => run(alloc, flash, second),
+    }
+}
+
 /// What is answered of two files that were read.
 pub fn work(alloc: Global, kind: Kind, firmware: &[u8], second: &[u8]) -> Result<Reply, AllocError>
     ensures reply { IfOk result (λ r. Meets (work_reply kind firmware.now second.now) r.status r.text.items) }
     ensures status { IfOk result (λ r. (r.status ≢ 3) × (r.status ≢ 4) × (r.status ≢ 12)) }
 {
-    match image(alloc, firmware)? {
-        Image::Loaded(flash) => match kind {
-            Kind::Check => check(alloc, &flash, second),
-            Kind::Run => run(alloc, &flash, second),
-        },
+    match loaded(alloc, firmware)? {
+        Image::Loaded(flash) => {
+            let reply = on_flash(alloc, kind, &flash, second)?;
+            Ok(reply)
+        }
         Image::Refused(reply) => Ok(reply),
     }
 }
