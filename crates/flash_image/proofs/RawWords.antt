@@ -55,3 +55,13 @@ image_words bytes words image =
     (λ a lt.
     let less : a < WORDS = (let e = image.size in omega (arith, e)) in
     image.each a less ∙ sym (word_at bytes a image.even less (inside_or_past (length bytes) a image.even)))
+
+pub words_image : (bytes : List ℕ) → length bytes % 2 ≡ 0 → length bytes ≤ 2 * WORDS → IsRawImage bytes (raw_words bytes)
+unfolding pair_at
+words_image bytes even fits =
+    record {
+      even = even;
+      fits = fits;
+      size = raw_length bytes fits;
+      each = λ a lt. word_at bytes a even lt (inside_or_past (length bytes) a even);
+    }

@@ -1,0 +1,4 @@
+pub mod Replies
+pub mod Answering
+pub mod Cutting
+pub mod Accepting

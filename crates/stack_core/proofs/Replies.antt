@@ -1,0 +1,49 @@
+-- Replies by what is known of their parts.
+use Rattle.std.proofs.Common.{◌≡◌, ◌≤◌, ℕ, Bool, true, false, List, [], length, nat_lt, Option, Some, None, Result, Ok, Err, if◌then◌else◌, refl, sym, ap, ◌∙◌, subst, arith}
+use Rattle.std.proofs.lemmas.Bool.Decides.{nat_tests}
+use Rattle.sb_base.specs.Outside.{Held, Untold, Missing, Bytes, Gives}
+use Rattle.witness_replay.specs.Spelling.{Plan}
+use Rattle.witness_replay.specs.Replay.{Report, replay_of}
+use Rattle.stack_core.specs.Texts.{accepted, witness_rejected, schedule_illegal, run_text, too_long}
+use Rattle.stack_core.specs.Reply.{Reply, Open, Says, Meets, file_in, attains, witness_reply, report_reply, image_in}
+
+pub replayed_ok : (x : Result Report ℕ) (r : Report) (text : List ℕ) → Ok r ≡ x → text ≡ run_text r → Meets (report_reply x) 0 text
+replayed_ok x r text e t = subst (λ y. Meets (report_reply y) 0 text) e (refl, t)
+
+pub replayed_err : (x : Result Report ℕ) (step : ℕ) (text : List ℕ) → Err step ≡ x → text ≡ schedule_illegal step → Meets (report_reply x) 9 text
+replayed_err x step text e t = subst (λ y. Meets (report_reply y) 9 text) e (refl, t)
+
+by_attains : (bound : ℕ) (attained : Bool) (text : List ℕ) → attained ≡ true → text ≡ accepted bound true → Meets (if attained then Says 0 (accepted bound true) else Says 1 witness_rejected) 0 text
+by_attains bound true text e t = (refl, t)
+by_attains bound false text e t = absurd (let wrong = e in cc)
+
+by_missing : (bound : ℕ) (attained : Bool) (text : List ℕ) → attained ≡ false → text ≡ witness_rejected → Meets (if attained then Says 0 (accepted bound true) else Says 1 witness_rejected) 1 text
+by_missing bound true text e t = absurd (let wrong = e in cc)
+by_missing bound false text e t = (refl, t)
+
+pub attained_reply : (words : List ℕ) (bound : ℕ) (witness : Option Plan) (plan : Plan) (text : List ℕ) → witness ≡ Some plan → attains bound (replay_of words [] plan) ≡ true → text ≡ accepted bound true
+    → Meets (witness_reply words bound witness) 0 text
+attained_reply words bound witness plan text w a t =
+    subst (λ x. Meets (witness_reply words bound x) 0 text) (sym w) (by_attains bound (attains bound (replay_of words [] plan)) text a t)
+
+pub missed_reply : (words : List ℕ) (bound : ℕ) (witness : Option Plan) (plan : Plan) (text : List ℕ) → witness ≡ Some plan → attains bound (replay_of words [] plan) ≡ false → text ≡ witness_rejected
+    → Meets (witness_reply words bound witness) 1 text
+missed_reply words bound witness plan text w a t =
+    subst (λ x. Meets (witness_reply words bound x) 1 text) (sym w) (by_missing bound (attains bound (replay_of words [] plan)) text a t)
+
+-- a reply that is another one
+pub meets_same : (due reply : Reply) (status : ℕ) (text : List ℕ) → due ≡ reply → Meets reply status text → Meets due status text
+meets_same due reply status text e m = subst (λ r. Meets r status text) (sym e) m
+
+by_length : (cap : ℕ) (bytes name : List ℕ) (next : List ℕ → Reply) (status : ℕ) (text : List ℕ) (long : Bool) → nat_lt cap (length bytes) ≡ long → length bytes ≤ cap → Meets (next bytes) status text
+    → Meets (if long then Says 5 (too_long name) else next bytes) status text
+by_length cap bytes name next status text true e le m = absurd (grind (arith, nat_tests))
+by_length cap bytes name next status text false e le m = m
+
+-- a file that was read whole: the reply is the one that follows
+pub file_meets : (h : Held) (cap : ℕ) (name bytes : List ℕ) (next : List ℕ → Reply) (status : ℕ) (text : List ℕ) → Gives h bytes → length bytes ≤ cap → Meets (next bytes) status text
+    → Meets (file_in h cap name next) status text
+file_meets Untold cap name bytes next status text g le m = tt
+file_meets Missing cap name bytes next status text g le m = absurd g
+file_meets (Bytes held) cap name bytes next status text g le m =
+    by_length cap held name next status text (nat_lt cap (length held)) refl (subst (λ b. length b ≤ cap) g le) (subst (λ b. Meets (next b) status text) g m)

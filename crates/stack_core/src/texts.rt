@@ -1,0 +1,239 @@
+//! The lines that are printed.
+
+ghost use Rattle.std.specs.Prelude.{◌≡◌, ◌++◌, ◌<◌, [], ◌∷◌, IfOk, OnOk, codes, decimal};
+ghost use Rattle.sb_base.specs.Digits.{hex_digits};
+ghost use Rattle.sb_base.specs.Writing.{with_words, with_end};
+ghost use Rattle.stack_core.specs.Texts.{told, usage, read_fault, too_long, raw_fault, elf_not_built, certificate_malformed, schedule_malformed, schedule_illegal, witness_word, accepted, key_words, reason_words, rejected, witness_rejected, stop_words, run_text};
+
+use abs_step::NodeKey;
+use avr_model::choice::{Flag, Stop};
+use cert_check::Reason;
+use sb_base::LineWriter;
+use std::alloc::{AllocError, Global};
+use witness_replay::ReplayReport;
+
+/// A line of two words and a third.
+fn three_words(alloc: Global, first: &[u8], second: &[u8], third: &[u8]) -> Result<Vec<u8>, AllocError>
+    ensures { IfOk result (λ v. v.items ≡ told (first.now ∷ second.now ∷ third.now ∷ [])) }
+{
+    let mut line = LineWriter::new(alloc);
+    line.word(first)?;
+    line.word(second)?;
+    line.word(third)?;
+    line.end_line()?;
+    Ok(line.finish())
+}
+
+pub fn usage(alloc: Global) -> Result<Vec<u8>, AllocError>
+    ensures { IfOk result (λ v. v.items ≡ usage) }
+{
+    let mut line = LineWriter::new(alloc);
+    line.word(b"usage")?;
+    line.end_line()?;
+    Ok(line.finish())
+}
+
+pub fn read_fault(alloc: Global, name: &str) -> Result<Vec<u8>, AllocError>
+    ensures { IfOk result (λ v. v.items ≡ read_fault name.now) }
+{
+    three_words(alloc, b"read", b"fault", name.as_bytes())
+}
+
+pub fn too_long(alloc: Global, name: &str) -> Result<Vec<u8>, AllocError>
+    ensures { IfOk result (λ v. v.items ≡ too_long name.now) }
+{
+    three_words(alloc, b"too", b"long", name.as_bytes())
+}
+
+pub fn raw_fault(alloc: Global, number: u64) -> Result<Vec<u8>, AllocError>
+    ensures { IfOk result (λ v. v.items ≡ raw_fault number) }
+{
+    let mut line = LineWriter::new(alloc);
+    line.word(b"firmware")?;
+    line.word(b"raw")?;
+    line.dec(number)?;
+    line.end_line()?;
+    Ok(line.finish())
+}
+
+pub fn elf_not_built(alloc: Global) -> Result<Vec<u8>, AllocError>
+    ensures { IfOk result (λ v. v.items ≡ elf_not_built) }
+{
+    three_words(alloc, b"firmware", b"elf", b"not-built")
+}
+
+pub fn certificate_malformed(alloc: Global) -> Result<Vec<u8>, AllocError>
+    ensures { IfOk result (λ v. v.items ≡ certificate_malformed) }
+{
+    let mut line = LineWriter::new(alloc);
+    line.word(b"certificate")?;
+    line.word(b"malformed")?;
+    line.end_line()?;
+    Ok(line.finish())
+}
+
+/// A line of three words and a number.
+fn three_words_and_number(alloc: Global, first: &[u8], second: &[u8], third: &[u8], number: u64) -> Result<Vec<u8>, AllocError>
+    ensures { IfOk result (λ v. v.items ≡ told (first.now ∷ second.now ∷ third.now ∷ decimal number ∷ [])) }
+{
+    let mut line = LineWriter::new(alloc);
+    line.word(first)?;
+    line.word(second)?;
+    line.word(third)?;
+    line.dec(number)?;
+    line.end_line()?;
+    Ok(line.finish())
+}
+
+pub fn schedule_malformed(alloc: Global, at: usize) -> Result<Vec<u8>, AllocError>
+    ensures { IfOk result (λ v. v.items ≡ schedule_malformed at) }
+{
+    three_words_and_number(alloc, b"schedule", b"malformed", b"at", at as u64)
+}
+
+pub fn schedule_illegal(alloc: Global, step: u32) -> Result<Vec<u8>, AllocError>
+    ensures { IfOk result (λ v. v.items ≡ schedule_illegal step) }
+{
+    three_words_and_number(alloc, b"schedule", b"illegal", b"step", u64::from(step))
+}
+
+fn witness_word(attained: bool) -> &'static [u8]
+    ensures { result.now ≡ witness_word attained }
+{
+    if attained { b"attained" } else { b"open" }
+}
+
+pub fn accepted(alloc: Global, bound: u16, attained: bool) -> Result<Vec<u8>, AllocError>
+    ensures { IfOk result (λ v. v.items ≡ accepted bound attained) }
+{
+    let mut line = LineWriter::new(alloc);
+    line.word(b"accepted")?;
+    line.word(b"bound")?;
+    line.dec(u64::from(bound))?;
+    line.word(witness_word(attained))?;
+    line.end_line()?;
+    Ok(line.finish())
+}
+
+/// The letter c and a number.
+fn put_offset(alloc: Global, line: &mut LineWriter, offset: u16) -> Result<(), AllocError>
+    ensures { OnOk result (line.new ≡ with_words line.old ((codes "c" ++ decimal offset) ∷ [])) }
+{
+    let word = format!(in alloc; "c{offset}")?;
+    line.word(word.as_bytes())?;
+    Ok(())
+}
+
+fn put_key(alloc: Global, line: &mut LineWriter, key: &NodeKey) -> Result<(), AllocError>
+    ensures { OnOk result (line.new ≡ with_words line.old (key_words key.now)) }
+{
+    line.word(b"root")?;
+    line.word(b"0000")?;
+    line.word(b"0000000")?;
+    line.word(b"0")?;
+    line.hex(u32::from(key.pc), 4)?;
+    line.word(b"0000000")?;
+    line.word(b"0")?;
+    line.word(b"0")?;
+    put_offset(alloc, line, key.offset)?;
+    Ok(())
+}
+
+/// A word, a word and a number.
+fn put_two_and_number(line: &mut LineWriter, first: &[u8], second: &[u8], number: u64) -> Result<(), AllocError>
+    ensures { OnOk result (line.new ≡ with_words line.old (first.now ∷ second.now ∷ decimal number ∷ [])) }
+{
+    line.word(first)?;
+    line.word(second)?;
+    line.dec(number)?;
+    Ok(())
+}
+
+fn put_reason(alloc: Global, line: &mut LineWriter, reason: &Reason) -> Result<(), AllocError>
+    ensures { OnOk result (line.new ≡ with_words line.old (reason_words reason.now)) }
+{
+    match *reason {
+        Reason::Root => {
+            line.word(b"1")?;
+            line.word(b"root")?;
+        }
+        Reason::Node(at, cause) => {
+            put_two_and_number(line, b"2", b"node", u64::from(at))?;
+            line.word(b"cause")?;
+            line.dec(u64::from(cause))?;
+        }
+        Reason::Edge(at, key) => {
+            put_two_and_number(line, b"3", b"node", u64::from(at))?;
+            line.word(b"to")?;
+            put_key(alloc, line, &key)?;
+        }
+        Reason::Need(at, least) => {
+            put_two_and_number(line, b"5", b"inst", u64::from(at))?;
+            line.word(b"least")?;
+            line.dec(u64::from(least))?;
+        }
+        Reason::Bound(least) => put_two_and_number(line, b"6", b"least", u64::from(least))?,
+    }
+    Ok(())
+}
+
+pub fn rejected(alloc: Global, reason: &Reason) -> Result<Vec<u8>, AllocError>
+    ensures { IfOk result (λ v. v.items ≡ rejected reason.now) }
+{
+    let mut line = LineWriter::new(alloc);
+    line.word(b"rejected")?;
+    put_reason(alloc, &mut line, reason)?;
+    line.end_line()?;
+    Ok(line.finish())
+}
+
+pub fn witness_rejected(alloc: Global) -> Result<Vec<u8>, AllocError>
+    ensures { IfOk result (λ v. v.items ≡ witness_rejected) }
+{
+    three_words(alloc, b"rejected", b"8", b"witness")
+}
+
+/// A word, a word address, and an address or word.
+fn put_flag(line: &mut LineWriter, name: &[u8], pc: u16, other: u16) -> Result<(), AllocError>
+    ensures { OnOk result (line.new ≡ with_words line.old (name.now ∷ hex_digits pc 4 ∷ hex_digits other 4 ∷ [])) }
+{
+    line.word(name)?;
+    line.hex(u32::from(pc), 4)?;
+    line.hex(u32::from(other), 4)?;
+    Ok(())
+}
+
+fn put_place(line: &mut LineWriter, name: &[u8], pc: u16) -> Result<(), AllocError>
+    ensures { OnOk result (line.new ≡ with_words line.old (name.now ∷ hex_digits pc 4 ∷ [])) }
+{
+    line.word(name)?;
+    line.hex(u32::from(pc), 4)?;
+    Ok(())
+}
+
+fn put_stop(line: &mut LineWriter, stop: Stop) -> Result<(), AllocError>
+    ensures { OnOk result (line.new ≡ with_words line.old (stop_words stop)) }
+{
+    match stop {
+        Stop::End => line.word(b"end"),
+        Stop::Flag(Flag::Live(pc, address)) => put_flag(line, b"live", pc, address),
+        Stop::Flag(Flag::Protected(pc, address)) => put_flag(line, b"protected", pc, address),
+        Stop::Flag(Flag::Transfer(pc, target)) => put_flag(line, b"transfer", pc, target),
+        Stop::Undefined(pc) => put_place(line, b"undefined", pc),
+        Stop::Overflow(pc) => put_place(line, b"overflow", pc),
+    }
+}
+
+pub fn run_text(alloc: Global, report: &ReplayReport) -> Result<Vec<u8>, AllocError>
+    ensures { IfOk result (λ v. v.items ≡ run_text (record { steps = report.now.steps; depth = report.now.depth; stop = report.now.stop })) }
+{
+    let mut line = LineWriter::new(alloc);
+    line.word(b"steps")?;
+    line.dec(u64::from(report.steps))?;
+    line.word(b"depth")?;
+    line.dec(u64::from(report.depth))?;
+    line.word(b"stop")?;
+    put_stop(&mut line, report.stop)?;
+    line.end_line()?;
+    Ok(line.finish())
+}
