@@ -218,14 +218,13 @@ module _ (words : List (List ℕ)) (holds : List ℕ → Held) (firmware certifi
   status_zero = zero_of (check_reply words holds firmware certificate check) status (subst (λ r. HasStatus r status) (is_check_reply words holds firmware certificate check) has_status)
 
 module _
-  (one : (bytes words : List ℕ) → IsRawImage bytes words → words ≡ raw_words bytes)
-  (images : (bytes : List ℕ) → length bytes % 2 ≡ 0 → length bytes ≤ 2 * WORDS → IsRawImage bytes (raw_words bytes))
-  (read : ReadIsSpelled)
-  (spelled : SpelledIsRead)
-  (sound : (words : List ℕ) (c : Claim) (b : ℕ) → (verdict_of words c ≡ Accepted b) ↔ (IsSound words c × (b ≡ c.bound)))
-  (bounds : (words : List ℕ) (A : List Entry) (c : Claim) → IsSound words c → Bounded words A c.bound)
-  (valid : (words : List ℕ) (A : List Entry) (c : Claim) → IsValid words A c ↔ ((verdict_of words c ≡ Accepted c.bound) × IsAttained words A c.bound c.witness)) where
-
+    (one : (bytes words : List ℕ) → IsRawImage bytes words → words ≡ raw_words bytes)
+    (images : (bytes : List ℕ) → length bytes % 2 ≡ 0 → length bytes ≤ 2 * WORDS → IsRawImage bytes (raw_words bytes))
+    (read : ReadIsSpelled)
+    (spelled : SpelledIsRead)
+    (sound : (words : List ℕ) (c : Claim) (b : ℕ) → (verdict_of words c ≡ Accepted b) ↔ (IsSound words c × (b ≡ c.bound)))
+    (bounds : (words : List ℕ) (A : List Entry) (c : Claim) → IsSound words c → Bounded words A c.bound)
+    (valid : (words : List ℕ) (A : List Entry) (c : Claim) → IsValid words A c ↔ ((verdict_of words c ≡ Accepted c.bound) × IsAttained words A c.bound c.witness)) where
   pub headline : (words : List (List ℕ)) (holds : List ℕ → Held) (status : ℕ) (text : List ℕ) → Meets (reply_of words holds) status text → Headline words holds status
   headline words holds status text meets firmware certificate check zero =
       let work : IsZero (work_reply Check firmware certificate) = zero_check words holds firmware certificate check ((status_zero words holds firmware certificate check status text meets).0 zero) in

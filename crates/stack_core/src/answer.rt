@@ -12,6 +12,7 @@ use std::alloc::{AllocError, Global};
 
 /// The most bytes of a firmware or a schedule: 16 MiB.
 const FIRMWARE_CAP: usize = 16_777_216;
+
 const SCHEDULE_CAP: usize = 16_777_216;
 
 /// The most bytes of a certificate: 192 MiB.
@@ -25,7 +26,12 @@ pub enum Fetched {
     Failed,
 }
 
-fn fetch<F: Files>(alloc: Global, files: &mut F, name: &str, cap: usize) -> Result<Fetched, AllocError>
+fn fetch<F: Files>(
+    alloc: Global,
+    files: &mut F,
+    name: &str,
+    cap: usize,
+) -> Result<Fetched, AllocError>
     ensures fetched { IfOk result (λ r. Fetches (F.holds files.old name.now) cap name.now (F.faults files.old) (F.faults files.new) (F.blamed files.new) r) }
     ensures holds { (n : List ℕ) → F.holds files.new n ≡ F.holds files.old n }
 {

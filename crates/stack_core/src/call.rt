@@ -13,7 +13,12 @@ use std::alloc::Global;
 
 /// Does all that the program does: answers the words, over files and a sink that are handed in. The statuses and texts are
 /// those of docs/FORMATS.md.
-pub fn stackbound<F: Files, K: Sink>(alloc: Global, words: &[&str], files: &mut F, out: &mut K) -> u8
+pub fn stackbound<F: Files, K: Sink>(
+    alloc: Global,
+    words: &[&str],
+    files: &mut F,
+    out: &mut K,
+) -> u8
     // A settled answer is the one that the words and the held bytes give, and it is written.
     ensures settled { result ≢ 3 → result ≢ 4 → result ≢ 12 → Writes (reply_of (map (λ w. w.now) words.now) (F.holds files.old)) result (K.written out.old) (K.written out.new) }
     // Where `check` accepts, the bound holds of every run.

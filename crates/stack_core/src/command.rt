@@ -48,7 +48,11 @@ fn command_with<'a>(kind: Option<Kind>, firmware: &'a str, second: &'a str) -> O
     match kind {
         Some(kind) => {
             if is_name(firmware) && is_name(second) {
-                Some(Words { kind, firmware, second })
+                Some(Words {
+                    kind,
+                    firmware,
+                    second,
+                })
             } else {
                 None
             }

@@ -9,3 +9,6 @@ pub mod reply;
 pub mod texts;
 
 pub use call::stackbound;
+
+#[cfg(test)]
+mod tests;

@@ -53,12 +53,21 @@ fn loaded(alloc: Global, bytes: &[u8]) -> Result<Image, AllocError>
 {
     raw_images_are_their_words();
     if is_elf(bytes) {
-        return Ok(Image::Refused(Reply { status: 6, text: texts::elf_not_built(alloc)? }));
+        return Ok(Image::Refused(Reply {
+            status: 6,
+            text: texts::elf_not_built(alloc)?,
+        }));
     }
     match Flash::from_raw(alloc, bytes) {
         Ok(flash) => Ok(Image::Loaded(flash)),
-        Err(RawFault::OddLength) => Ok(Image::Refused(Reply { status: 6, text: texts::raw_fault(alloc, 1)? })),
-        Err(RawFault::TooLong) => Ok(Image::Refused(Reply { status: 6, text: texts::raw_fault(alloc, 2)? })),
+        Err(RawFault::OddLength) => Ok(Image::Refused(Reply {
+            status: 6,
+            text: texts::raw_fault(alloc, 1)?,
+        })),
+        Err(RawFault::TooLong) => Ok(Image::Refused(Reply {
+            status: 6,
+            text: texts::raw_fault(alloc, 2)?,
+        })),
         Err(RawFault::Memory) => Err(AllocError),
     }
 }

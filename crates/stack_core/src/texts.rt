@@ -13,7 +13,12 @@ use std::alloc::{AllocError, Global};
 use witness_replay::ReplayReport;
 
 /// A line of two words and a third.
-fn three_words(alloc: Global, first: &[u8], second: &[u8], third: &[u8]) -> Result<Vec<u8>, AllocError>
+fn three_words(
+    alloc: Global,
+    first: &[u8],
+    second: &[u8],
+    third: &[u8],
+) -> Result<Vec<u8>, AllocError>
     ensures { IfOk result (λ v. v.items ≡ told (first.now ∷ second.now ∷ third.now ∷ [])) }
 {
     let mut line = LineWriter::new(alloc);
@@ -73,7 +78,13 @@ pub fn certificate_malformed(alloc: Global) -> Result<Vec<u8>, AllocError>
 }
 
 /// A line of three words and a number.
-fn three_words_and_number(alloc: Global, first: &[u8], second: &[u8], third: &[u8], number: u64) -> Result<Vec<u8>, AllocError>
+fn three_words_and_number(
+    alloc: Global,
+    first: &[u8],
+    second: &[u8],
+    third: &[u8],
+    number: u64,
+) -> Result<Vec<u8>, AllocError>
     ensures { IfOk result (λ v. v.items ≡ told (first.now ∷ second.now ∷ third.now ∷ decimal number ∷ [])) }
 {
     let mut line = LineWriter::new(alloc);
@@ -140,7 +151,12 @@ fn put_key(alloc: Global, line: &mut LineWriter, key: &NodeKey) -> Result<(), Al
 }
 
 /// A word, a word and a number.
-fn put_two_and_number(line: &mut LineWriter, first: &[u8], second: &[u8], number: u64) -> Result<(), AllocError>
+fn put_two_and_number(
+    line: &mut LineWriter,
+    first: &[u8],
+    second: &[u8],
+    number: u64,
+) -> Result<(), AllocError>
     ensures { OnOk result (line.new ≡ with_words line.old (first.now ∷ second.now ∷ decimal number ∷ [])) }
 {
     line.word(first)?;

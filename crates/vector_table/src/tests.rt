@@ -5,8 +5,8 @@ use crate::{
 };
 use std::test::Fail;
 
-// Vector, word, data address and bit, copied by hand from the data sheet of the ATmega328P: "Reset and Interrupt Vectors"
-// and the register descriptions.
+// Vector, word, data address and bit, written down apart from the crate; the numbers are those of avr-libc's header of the
+// ATmega328P (iom328p.h: the vector numbers, which count from 0 there, the register addresses and the enable bits).
 static DATA_SHEET: [(u8, u16, u16, u8); 25] = [
     (2, 0x0002, 0x3D, 0),
     (3, 0x0004, 0x3D, 1),
