@@ -1,0 +1,66 @@
+//! Prints what three ELF files of a real toolchain hold: a digest of the words of flash, the end of static data, and the names.
+//! So the gate compares them with what that toolchain says: `tests/elf/README.md` tells how the expected text is made.
+#![tactic(auto)]
+
+use elf_load::{Loaded, is_elf, load};
+use flash_image::Flash;
+use std::{fs, io, str};
+
+const FILES: [&str; 3] = ["blink.elf", "ticks.elf", "sorted.elf"];
+
+/// FNV-1a of 32 bits: the digest of no bytes, and the factor.
+const EMPTY: u32 = 0x811C_9DC5;
+
+const FACTOR: u32 = 0x0100_0193;
+
+/// The digest with a byte behind those before.
+fn digest(before: u32, byte: u16) -> u32 {
+    (before ^ byte as u32).wrapping_mul(FACTOR)
+}
+
+/// The digest of the bytes of flash, the low byte of each word first.
+fn digest_of(flash: &Flash) -> u32 {
+    let mut value = EMPTY;
+    for word in flash.words() {
+        value = digest(digest(value, word % 256), word / 256);
+    }
+    value
+}
+
+/// Prints a line for each word that has a name.
+fn show_names(rt: &HostRuntime, loaded: &Loaded) -> io::Result<()> {
+    for word in 0..0x4000u16 {
+        if let Some(name) = loaded.names.at(word) {
+            if let Ok(text) = str::from_utf8(name) {
+                println!(rt; "{word:04X} {text}")?;
+            }
+        }
+    }
+    Ok(())
+}
+
+/// Prints what a file holds.
+fn show(rt: &HostRuntime, name: &str) -> io::Result<()> {
+    let bytes = fs::read(rt, name)?;
+    if !is_elf(&bytes) {
+        return println!(rt; "{name} isn't ELF");
+    }
+    match load(rt.alloc(), &bytes) {
+        Ok(loaded) => {
+            println!(rt; "{name} words {:08X}", digest_of(&loaded.flash))?;
+            match loaded.static_end {
+                Some(end) => println!(rt; "static {end:04X}")?,
+                None => println!(rt; "static -")?,
+            }
+            show_names(rt, &loaded)
+        }
+        Err(fault) => println!(rt; "{name} {fault}"),
+    }
+}
+
+fn main(rt: HostRuntime) -> io::Result<()> {
+    for name in FILES {
+        show(&rt, name)?;
+    }
+    Ok(())
+}
