@@ -1,6 +1,7 @@
 -- What status 0 of a check says, and when it comes.
 use Rattle.std.proofs.Common.{◌≡◌, ◌≤◌, ◌<◌, ◌*◌, ◌%◌, ◌==◌, ◌&&◌, nat_lt, ℕ, Bool, true, false, List, [], length, Option, Some, None, Result, Ok, Err, IsOkAnd, if◌then◌else◌, refl, sym, ap, ◌∙◌, subst, arith}
 use Rattle.std.specs.Prelude.{⊤, ◌↔◌}
+use Rattle.std.specs.Option.{option_map}
 use Rattle.std.proofs.lemmas.Bool.Decides.{nat_tests}
 use Rattle.avr_model.specs.declared.assumption.Entry.{Entry}
 use Rattle.avr_model.specs.declared.choice.Stop.{Stop}
@@ -22,9 +23,12 @@ use Rattle.cert_check.specs.declared.verdict.Verdict.TheVariants.{Accepted, Reje
 use Rattle.stack_core.specs.declared.command.Kind.{Kind}
 use Rattle.stack_core.specs.declared.command.Kind.TheVariants.{Check}
 use Rattle.stack_core.specs.Commands.{Command, command_of}
-use Rattle.stack_core.specs.Texts.{accepted, too_long, elf_not_built, raw_fault, witness_rejected}
-use Rattle.stack_core.specs.Reply.{Reply, Open, Says, Meets, file_in, firmware_cap, certificate_cap, second_cap, image_in, is_end, attains, witness_reply, verdict_reply, certificate_reply, second_reply, work_reply, command_reply, reply_of}
-use Rattle.stack_core.specs.Headline.{IsFirmware, IsCheck, Holds, Headline, AreRead, IsExact}
+use Rattle.stack_core.specs.Texts.{accepted, too_long, elf_refused, raw_fault, witness_rejected}
+use Rattle.stack_core.specs.Reply.{Reply, Open, Says, Meets, file_in, firmware_cap, certificate_cap, second_cap, image_by, image_in, is_end, attains, witness_reply, verdict_reply, certificate_reply, second_reply, work_reply, command_reply, reply_of}
+use Rattle.elf_load.specs.Elf.{elf_fault}
+use Rattle.stack_core.specs.Firmware.{IsFirmwareBy, IsFirmware, words_by, firmware_words, fault_by, firmware_fault}
+use Rattle.stack_core.proofs.ElfWords.{one_elf, some_elf, no_refusal}
+use Rattle.stack_core.specs.Headline.{IsCheck, Holds, Headline, AreRead, IsExact}
 
 -- the reply's status is 0
 abbrev IsZero : Reply → Type 0
@@ -63,28 +67,48 @@ file_zero bytes cap name next le h = let short : nat_lt cap (length bytes) ≡ f
 
 -- ---- the image
 
-module _ (images : (bytes : List ℕ) → length bytes % 2 ≡ 0 → length bytes ≤ 2 * WORDS → IsRawImage bytes (raw_words bytes)) where
-  zero_image_by : (bytes : List ℕ) (next : List ℕ → Reply) (elf odd long : Bool) → is_elf bytes ≡ elf → (length bytes % 2 == 1) ≡ odd → nat_lt 32768 (length bytes) ≡ long
-      → IsZero (if elf then Says 6 elf_not_built else (if odd then Says 6 (raw_fault 1) else (if long then Says 6 (raw_fault 2) else next (raw_words bytes))))
-      → IsFirmware bytes (raw_words bytes) × IsZero (next (raw_words bytes))
-  zero_image_by bytes next true odd long e f g h = absurd (no_six h)
-  zero_image_by bytes next false true long e f g h = absurd (no_six h)
-  zero_image_by bytes next false false true e f g h = absurd (no_six h)
-  zero_image_by bytes next false false false e f g h =
-      let even : length bytes % 2 ≡ 0 = grind (arith, nat_tests) in
-      let fits : length bytes ≤ 2 * 16384 = grind (arith, nat_tests) in
-      (record { not_elf = e; raw = images bytes even fits }, h)
+zero_by : (o : Option (List ℕ)) (reply : Reply) → IsZero (image_by o reply) → (o ≡ None) × IsZero reply
+zero_by None reply h = (refl, h)
+zero_by (Some refusal) reply h = absurd (no_six h)
 
-  zero_image : (bytes : List ℕ) (next : List ℕ → Reply) → IsZero (image_in bytes next) → IsFirmware bytes (raw_words bytes) × IsZero (next (raw_words bytes))
-  zero_image bytes next h = zero_image_by bytes next (is_elf bytes) (length bytes % 2 == 1) (nat_lt 32768 (length bytes)) refl refl refl h
+by_zero : (o : Option (List ℕ)) (reply : Reply) → o ≡ None → IsZero reply → IsZero (image_by o reply)
+by_zero None reply e h = h
+by_zero (Some refusal) reply e h = absurd (let wrong = e in cc)
 
-image_zero : (bytes : List ℕ) (next : List ℕ → Reply) → IsFirmware bytes (raw_words bytes) → IsZero (next (raw_words bytes)) → IsZero (image_in bytes next)
-image_zero bytes next firmware h =
-    let e = firmware.raw.even in
-    let f = firmware.raw.fits in
-    let even : (length bytes % 2 == 1) ≡ false = grind (arith, nat_tests) in
-    let short : nat_lt 32768 (length bytes) ≡ false = grind (arith, nat_tests) in
-    rw (firmware.not_elf, even, short) h
+no_raw_fault : (n : ℕ) (odd long : Bool) → (n % 2 == 1) ≡ odd → nat_lt 32768 n ≡ long → (if odd then Some (raw_fault 1) else (if long then Some (raw_fault 2) else None)) ≡ None → (n % 2 ≡ 0) × (n ≤ 32768)
+no_raw_fault n true long e f h = absurd (let wrong = h in cc)
+no_raw_fault n false true e f h = absurd (let wrong = h in cc)
+no_raw_fault n false false e f h = (grind (arith, nat_tests), grind (arith, nat_tests))
+
+raw_fault_none : (n : ℕ) → n % 2 ≡ 0 → n ≤ 32768 → (if n % 2 == 1 then Some (raw_fault 1) else (if nat_lt 32768 n then Some (raw_fault 2) else None)) ≡ None
+raw_fault_none n even fits =
+    let e : (n % 2 == 1) ≡ false = grind (arith, nat_tests) in
+    let f : nat_lt 32768 n ≡ false = grind (arith, nat_tests) in
+    rw (e, f) refl
+
+module _
+  (one : (bytes words : List ℕ) → IsRawImage bytes words → words ≡ raw_words bytes)
+  (images : (bytes : List ℕ) → length bytes % 2 ≡ 0 → length bytes ≤ 2 * WORDS → IsRawImage bytes (raw_words bytes)) where
+  firmware_by : (elf : Bool) (bytes : List ℕ) → fault_by elf bytes ≡ None → IsFirmwareBy elf bytes (words_by elf bytes)
+  firmware_by true bytes e = some_elf bytes (no_refusal bytes e)
+  firmware_by false bytes e = let h = no_raw_fault (length bytes) (length bytes % 2 == 1) (nat_lt 32768 (length bytes)) refl refl e in images bytes h.0 h.1
+
+  words_of : (elf : Bool) (bytes words : List ℕ) → IsFirmwareBy elf bytes words → words ≡ words_by elf bytes
+  words_of true bytes words h = one_elf bytes words h
+  words_of false bytes words h = one bytes words h
+
+  fault_of : (elf : Bool) (bytes words : List ℕ) → IsFirmwareBy elf bytes words → fault_by elf bytes ≡ None
+  fault_of true bytes words h = ap (option_map elf_refused) h.loads
+  fault_of false bytes words h = raw_fault_none (length bytes) h.even h.fits
+
+  zero_image : (bytes : List ℕ) (next : List ℕ → Reply) → IsZero (image_in bytes next) → IsFirmware bytes (firmware_words bytes) × IsZero (next (firmware_words bytes))
+  zero_image bytes next h =
+      let by = zero_by (firmware_fault bytes) (next (firmware_words bytes)) h in
+      (firmware_by (is_elf bytes) bytes by.0, by.1)
+
+  image_zero : (bytes words : List ℕ) (next : List ℕ → Reply) → IsFirmware bytes words → IsZero (next words) → IsZero (image_in bytes next)
+  image_zero bytes words next firmware h =
+      by_zero (firmware_fault bytes) (next (firmware_words bytes)) (fault_of (is_elf bytes) bytes words firmware) (subst (λ ws. IsZero (next ws)) (words_of (is_elf bytes) bytes words firmware) h)
 
 -- ---- the schedule
 
@@ -165,10 +189,10 @@ module _ (words : List (List ℕ)) (holds : List ℕ → Held) (firmware certifi
       zero_file certificate check.command.second (λ second. work_reply Check firmware second) (nat_lt certificate_cap (length certificate))
       (zero_file firmware check.command.firmware (λ fw. file_in (Bytes certificate) certificate_cap check.command.second (λ second. work_reply Check fw second)) (nat_lt firmware_cap (length firmware)) h)
 
-  check_zero : length firmware ≤ 2 * WORDS → length certificate ≤ certificate_cap → IsZero (work_reply Check firmware certificate) → IsZero check_reply
+  check_zero : length firmware ≤ firmware_cap → length certificate ≤ certificate_cap → IsZero (work_reply Check firmware certificate) → IsZero check_reply
   unfolding check_reply
   check_zero le short h =
-      file_zero firmware firmware_cap check.command.firmware (λ fw. file_in (Bytes certificate) certificate_cap check.command.second (λ second. work_reply Check fw second)) (omega (arith, le))
+      file_zero firmware firmware_cap check.command.firmware (λ fw. file_in (Bytes certificate) certificate_cap check.command.second (λ second. work_reply Check fw second)) le
       (file_zero certificate certificate_cap check.command.second (λ second. work_reply Check firmware second) short h)
 
   -- the reply isn't open
@@ -178,13 +202,9 @@ module _ (words : List (List ℕ)) (holds : List ℕ → Held) (firmware certifi
   has_status_file bytes name next status text true on m = m.0
   has_status_file bytes name next status text false on m = on m
 
-has_status_image : (elf odd long : Bool) (next : Reply) (status : ℕ) (text : List ℕ) → (Meets next status text → HasStatus next status)
-    → Meets (if elf then Says 6 elf_not_built else (if odd then Says 6 (raw_fault 1) else (if long then Says 6 (raw_fault 2) else next))) status text
-    → HasStatus (if elf then Says 6 elf_not_built else (if odd then Says 6 (raw_fault 1) else (if long then Says 6 (raw_fault 2) else next))) status
-has_status_image true odd long next status text on m = m.0
-has_status_image false true long next status text on m = m.0
-has_status_image false false true next status text on m = m.0
-has_status_image false false false next status text on m = on m
+has_status_image : (o : Option (List ℕ)) (next : Reply) (status : ℕ) (text : List ℕ) → (Meets next status text → HasStatus next status) → Meets (image_by o next) status text → HasStatus (image_by o next) status
+has_status_image None next status text on m = on m
+has_status_image (Some refusal) next status text on m = m.0
 
 has_status_attains : (bound : ℕ) (attained : Bool) (status : ℕ) (text : List ℕ) → Meets (if attained then Says 0 (accepted bound true) else Says 1 witness_rejected) status text
     → HasStatus (if attained then Says 0 (accepted bound true) else Says 1 witness_rejected) status
@@ -210,8 +230,8 @@ module _ (words : List (List ℕ)) (holds : List ℕ → Held) (firmware certifi
       subst (λ r. HasStatus r status) (sym (is_check_reply words holds firmware certificate check))
       (has_status_file words holds firmware certificate check firmware check.command.firmware (λ fw. file_in (Bytes certificate) certificate_cap check.command.second (λ second. work_reply Check fw second)) status text (nat_lt firmware_cap (length firmware))
       (has_status_file words holds firmware certificate check certificate check.command.second (λ second. work_reply Check firmware second) status text (nat_lt certificate_cap (length certificate))
-      (has_status_image (is_elf firmware) (length firmware % 2 == 1) (nat_lt 32768 (length firmware)) (second_reply Check (raw_words firmware) certificate) status text
-      (has_status_certificate (raw_words firmware) (certificate_in certificate) status text)))
+      (has_status_image (firmware_fault firmware) (second_reply Check (firmware_words firmware) certificate) status text
+      (has_status_certificate (firmware_words firmware) (certificate_in certificate) status text)))
       (subst (λ r. Meets r status text) (is_check_reply words holds firmware certificate check) meets))
 
   status_zero : (status ≡ 0) ↔ IsZero (check_reply words holds firmware certificate check)
@@ -228,25 +248,22 @@ module _
   pub headline : (words : List (List ℕ)) (holds : List ℕ → Held) (status : ℕ) (text : List ℕ) → Meets (reply_of words holds) status text → Headline words holds status
   headline words holds status text meets firmware certificate check zero =
       let work : IsZero (work_reply Check firmware certificate) = zero_check words holds firmware certificate check ((status_zero words holds firmware certificate check status text meets).0 zero) in
-      let loaded = zero_image images firmware (λ ws. second_reply Check ws certificate) work in
-      let judged = zero_certificate (raw_words firmware) (certificate_in certificate) loaded.1 in
+      let loaded = zero_image one images firmware (λ ws. second_reply Check ws certificate) work in
+      let judged = zero_certificate (firmware_words firmware) (certificate_in certificate) loaded.1 in
       record {
-        words = raw_words firmware;
+        words = firmware_words firmware;
         claim = judged.claim;
         image = loaded.0;
         text = (read certificate judged.claim judged.read).0;
-        bounded = bounds (raw_words firmware) [] judged.claim ((sound (raw_words firmware) judged.claim judged.accepted.bound).0 judged.accepted.accepted).0;
+        bounded = bounds (firmware_words firmware) [] judged.claim ((sound (firmware_words firmware) judged.claim judged.accepted.bound).0 judged.accepted.accepted).0;
       }
 
   module _ (words : List (List ℕ)) (holds : List ℕ → Held) (status : ℕ) (text : List ℕ) (meets : Meets (reply_of words holds) status text) (firmware certificate image : List ℕ) (claim : Claim) (check : IsCheck words holds firmware certificate) (are : AreRead firmware certificate image claim) where
-    same_words : image ≡ raw_words firmware
-    same_words = one firmware image are.image.raw
+    same_words : image ≡ firmware_words firmware
+    same_words = words_of one images (is_elf firmware) firmware image are.image
 
     is_read : certificate_in certificate ≡ Ok claim
     is_read = subst (λ t. certificate_in t ≡ Ok claim) (sym are.text) (spelled claim are.fits)
-
-    firmware_is : IsFirmware firmware (raw_words firmware)
-    firmware_is = subst (IsFirmware firmware) same_words are.image
 
     same_claim : (c : Claim) → certificate_in certificate ≡ Ok c → c ≡ claim
     same_claim c e = let f : Ok c ≡ Ok claim = sym e ∙ is_read in cc
@@ -254,24 +271,24 @@ module _
     valid_if_zero : status ≡ 0 → IsValid image [] claim
     valid_if_zero zero =
         let work : IsZero (work_reply Check firmware certificate) = zero_check words holds firmware certificate check ((status_zero words holds firmware certificate check status text meets).0 zero) in
-        let loaded = zero_image images firmware (λ ws. second_reply Check ws certificate) work in
-        let judged = zero_certificate (raw_words firmware) (certificate_in certificate) loaded.1 in
+        let loaded = zero_image one images firmware (λ ws. second_reply Check ws certificate) work in
+        let judged = zero_certificate (firmware_words firmware) (certificate_in certificate) loaded.1 in
         let same : judged.claim ≡ claim = same_claim judged.claim judged.read in
-        let is = sound (raw_words firmware) judged.claim judged.accepted.bound in
+        let is = sound (firmware_words firmware) judged.claim judged.accepted.bound in
         let bound : judged.accepted.bound ≡ judged.claim.bound = (is.0 judged.accepted.accepted).1 in
-        let accepted : verdict_of (raw_words firmware) judged.claim ≡ Accepted judged.claim.bound = judged.accepted.accepted ∙ ap Accepted bound in
-        let attained : IsAttained (raw_words firmware) [] judged.claim.bound judged.claim.witness = subst (λ b. IsAttained (raw_words firmware) [] b judged.claim.witness) bound judged.accepted.attained in
-        subst (λ ws. IsValid ws [] claim) (sym same_words) (subst (λ c. IsValid (raw_words firmware) [] c) same ((valid (raw_words firmware) [] judged.claim).1 (accepted, attained)))
+        let accepted : verdict_of (firmware_words firmware) judged.claim ≡ Accepted judged.claim.bound = judged.accepted.accepted ∙ ap Accepted bound in
+        let attained : IsAttained (firmware_words firmware) [] judged.claim.bound judged.claim.witness = subst (λ b. IsAttained (firmware_words firmware) [] b judged.claim.witness) bound judged.accepted.attained in
+        subst (λ ws. IsValid ws [] claim) (sym same_words) (subst (λ c. IsValid (firmware_words firmware) [] c) same ((valid (firmware_words firmware) [] judged.claim).1 (accepted, attained)))
 
     zero_if_valid : IsValid image [] claim → status ≡ 0
     zero_if_valid v =
-        let w : IsValid (raw_words firmware) [] claim = subst (λ ws. IsValid ws [] claim) same_words v in
-        let both = (valid (raw_words firmware) [] claim).0 w in
-        let verdict : IsZero (verdict_reply (raw_words firmware) claim (verdict_of (raw_words firmware) claim)) = verdict_zero (raw_words firmware) claim (verdict_of (raw_words firmware) claim) claim.bound both.0 both.1 in
-        let judged : IsZero (certificate_reply (raw_words firmware) (certificate_in certificate)) = subst (λ x. IsZero (certificate_reply (raw_words firmware) x)) (sym is_read) verdict in
+        let w : IsValid (firmware_words firmware) [] claim = subst (λ ws. IsValid ws [] claim) same_words v in
+        let both = (valid (firmware_words firmware) [] claim).0 w in
+        let verdict : IsZero (verdict_reply (firmware_words firmware) claim (verdict_of (firmware_words firmware) claim)) = verdict_zero (firmware_words firmware) claim (verdict_of (firmware_words firmware) claim) claim.bound both.0 both.1 in
+        let judged : IsZero (certificate_reply (firmware_words firmware) (certificate_in certificate)) = subst (λ x. IsZero (certificate_reply (firmware_words firmware) x)) (sym is_read) verdict in
         (status_zero words holds firmware certificate check status text meets).1
-        (check_zero words holds firmware certificate check are.image.raw.fits are.within
-        (image_zero firmware (λ ws. second_reply Check ws certificate) firmware_is judged))
+        (check_zero words holds firmware certificate check are.small are.within
+        (image_zero one images firmware image (λ ws. second_reply Check ws certificate) are.image (subst (λ ws. IsZero (certificate_reply ws (certificate_in certificate))) (sym same_words) judged)))
 
   pub exact : (words : List (List ℕ)) (holds : List ℕ → Held) (status : ℕ) (text : List ℕ) → Meets (reply_of words holds) status text → IsExact words holds status
   exact words holds status text meets firmware certificate image claim check are =

@@ -5,7 +5,9 @@ use Rattle.sb_base.specs.Outside.{Held, Untold, Missing, Bytes, Gives}
 use Rattle.witness_replay.specs.Spelling.{Plan}
 use Rattle.witness_replay.specs.Replay.{Report, replay_of}
 use Rattle.stack_core.specs.Texts.{accepted, witness_rejected, schedule_illegal, run_text, too_long}
-use Rattle.stack_core.specs.Reply.{Reply, Open, Says, Meets, file_in, attains, witness_reply, report_reply, image_in}
+use Rattle.stack_core.specs.Reply.{Reply, Open, Says, Meets, file_in, attains, witness_reply, report_reply, image_by, image_in}
+use Rattle.stack_core.specs.Firmware.{firmware_fault, firmware_words}
+use Rattle.stack_core.specs.declared.reply.Reply.{Reply as Answered}
 
 pub replayed_ok : (x : Result Report ℕ) (r : Report) (text : List ℕ) → Ok r ≡ x → text ≡ run_text r → Meets (report_reply x) 0 text
 replayed_ok x r text e t = subst (λ y. Meets (report_reply y) 0 text) e (refl, t)
@@ -31,9 +33,20 @@ pub missed_reply : (words : List ℕ) (bound : ℕ) (witness : Option Plan) (pla
 missed_reply words bound witness plan text w a t =
     subst (λ x. Meets (witness_reply words bound x) 1 text) (sym w) (by_missing bound (attains bound (replay_of words [] plan)) text a t)
 
--- a reply that is another one
-pub meets_same : (due reply : Reply) (status : ℕ) (text : List ℕ) → due ≡ reply → Meets reply status text → Meets due status text
-meets_same due reply status text e m = subst (λ r. Meets r status text) (sym e) m
+-- a firmware that was loaded: the reply is the one that follows
+by_fault : (o : Option (List ℕ)) (reply : Reply) (status : ℕ) (text : List ℕ) → o ≡ None → Meets reply status text → Meets (image_by o reply) status text
+by_fault None reply status text e m = m
+by_fault (Some refusal) reply status text e m = absurd (let wrong = e in cc)
+
+pub loaded_meets : (bytes words : List ℕ) (next : List ℕ → Reply) (status : ℕ) (text : List ℕ) → (firmware_fault bytes ≡ None) × (words ≡ firmware_words bytes) → Meets (next words) status text
+    → Meets (image_in bytes next) status text
+loaded_meets bytes words next status text h m =
+    by_fault (firmware_fault bytes) (next (firmware_words bytes)) status text h.0 (subst (λ ws. Meets (next ws) status text) h.1 m)
+
+-- a firmware that is refused
+pub refused_meets : (bytes : List ℕ) (r : Answered) (next : List ℕ → Reply) → (r.status ≡ 6) × (firmware_fault bytes ≡ Some r.text.items)
+    → Meets (image_in bytes next) r.status r.text.items
+refused_meets bytes r next h = subst (λ o. Meets (image_by o (next (firmware_words bytes))) r.status r.text.items) (sym h.1) (h.0, refl)
 
 by_length : (cap : ℕ) (bytes name : List ℕ) (next : List ℕ → Reply) (status : ℕ) (text : List ℕ) (long : Bool) → nat_lt cap (length bytes) ≡ long → length bytes ≤ cap → Meets (next bytes) status text
     → Meets (if long then Says 5 (too_long name) else next bytes) status text

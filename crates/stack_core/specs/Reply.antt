@@ -2,7 +2,6 @@
 use Rattle.std.specs.Prelude.{◌≡◌, ◌≢◌, ◌⊎◌, ℕ, ◌+◌, ◌%◌, ◌==◌, ◌&&◌, not, nat_lt, ◌≤◌, List, [], ◌∷◌, ◌++◌, length, take, ⊤, Bool, true, false, Option, Some, None, Result, Ok, Err, if◌then◌else◌}
 use Rattle.avr_model.specs.declared.choice.Stop.{Stop}
 use Rattle.avr_model.specs.declared.choice.Stop.TheVariants as stop
-use Rattle.avr_model.specs.Image.{raw_words}
 use Rattle.avr_model.specs.Firmware.{is_elf}
 use Rattle.sb_base.specs.Outside.{Held, Untold, Missing, Bytes, Blamed, Rose, Gives, MayExceed, Blames, grown, GrewByPrefix}
 use Rattle.sb_base.specs.Lines.{Place, TextLine, lines_of}
@@ -21,7 +20,8 @@ use Rattle.stack_core.specs.declared.reply.Image.TheVariants.{Loaded, Refused}
 use Rattle.stack_core.specs.declared.answer.Fetched.{Fetched}
 use Rattle.stack_core.specs.declared.answer.Fetched.TheVariants.{Whole, Long, Failed}
 use Rattle.stack_core.specs.Commands.{Command, command_of, IsFile}
-use Rattle.stack_core.specs.Texts.{usage, read_fault, too_long, raw_fault, elf_not_built, certificate_malformed, schedule_malformed, schedule_illegal, accepted, rejected, witness_rejected, run_text}
+use Rattle.stack_core.specs.Firmware.{words_by, firmware_words, fault_by, firmware_fault}
+use Rattle.stack_core.specs.Texts.{usage, read_fault, too_long, certificate_malformed, schedule_malformed, schedule_illegal, accepted, rejected, witness_rejected, run_text}
 
 -- Says: this status and this text. Open: the files don't tell what they hold.
 pub data Reply : Type 0 where
@@ -48,13 +48,13 @@ file_in (Bytes bytes) cap name next = if nat_lt cap (length bytes) then Says 5 (
 
 -- ---- firmware
 
+abbrev pub image_by : Option (List ℕ) → Reply → Reply
+image_by (Some refusal) reply = Says 6 refusal
+image_by None reply = reply
+
 -- the words of a firmware, and what follows with them
 abbrev pub image_in : List ℕ → (List ℕ → Reply) → Reply
-image_in bytes next =
-    if is_elf bytes then Says 6 elf_not_built
-    else (if length bytes % 2 == 1 then Says 6 (raw_fault 1)
-    else (if nat_lt 32768 (length bytes) then Says 6 (raw_fault 2)
-    else next (raw_words bytes)))
+image_in bytes next = image_by (firmware_fault bytes) (next (firmware_words bytes))
 
 -- ---- check
 
@@ -120,15 +120,13 @@ reply_of words holds = command_reply (command_of words) holds
 
 -- ---- what was done so far
 
--- a firmware that was loaded, or refused: what follows is done with its words, or its refusal is the reply
-abbrev pub LoadsAs : List ℕ → Image → Type 0
-LoadsAs bytes (Loaded flash) = (next : List ℕ → Reply) → image_in bytes next ≡ next flash
-LoadsAs bytes (Refused r) = (next : List ℕ → Reply) → image_in bytes next ≡ Says r.status r.text.items
+-- a firmware that was loaded, or refused
+abbrev pub LoadsBy : Bool → List ℕ → Image → Type 0
+LoadsBy elf bytes (Loaded flash) = (fault_by elf bytes ≡ None) × (flash ≡ words_by elf bytes)
+LoadsBy elf bytes (Refused r) = (r.status ≡ 6) × (fault_by elf bytes ≡ Some r.text.items)
 
--- a refusal's status is none of those that have causes of their own
-abbrev pub IsRefusal : Image → Type 0
-IsRefusal (Loaded flash) = ⊤
-IsRefusal (Refused r) = (r.status ≢ 3) × (r.status ≢ 4) × (r.status ≢ 12)
+abbrev pub LoadsAs : List ℕ → Image → Type 0
+LoadsAs bytes image = LoadsBy (is_elf bytes) bytes image
 
 -- how the reading of one file went
 abbrev pub Fetches : Held → ℕ → List ℕ → ℕ → ℕ → Blamed → Fetched → Type 0

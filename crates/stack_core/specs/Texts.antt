@@ -1,8 +1,8 @@
 -- What is printed: one line of words. `line_writing` of sb_base says that a writer's line of words is their text with one
 -- space between each two and a line feed behind them.
-use Rattle.std.specs.Prelude.{ℕ, List, [], ◌∷◌, ◌++◌, codes, decimal, Bool, true, false}
+use Rattle.std.specs.Prelude.{ℕ, List, [], ◌∷◌, ◌++◌, codes, decimal, Bool, true, false, ◌≡◌, Option, Some, None}
 use Rattle.sb_base.specs.Digits.{hex_digits}
-use Rattle.sb_base.specs.Writing.{with_words, with_end}
+use Rattle.sb_base.specs.Writing.{Written, with_words, with_end}
 use Rattle.avr_model.specs.declared.choice.Flag.{Flag}
 use Rattle.avr_model.specs.declared.choice.Flag.TheVariants.{Live, Protected, Transfer}
 use Rattle.avr_model.specs.declared.choice.Stop.{Stop}
@@ -10,6 +10,7 @@ use Rattle.avr_model.specs.declared.choice.Stop.TheVariants as stop
 use Rattle.abs_step.specs.declared.key.NodeKey.{NodeKey}
 use Rattle.cert_check.specs.declared.verdict.Reason.{Reason}
 use Rattle.cert_check.specs.declared.verdict.Reason.TheVariants.{Root, Node, Edge, Need, Bound}
+use Rattle.elf_load.specs.Elf.{ElfRefusal, Short, NotElf32Little, NotExecutable, NotAvr, EntrySize, SegmentOutside, Overlap}
 use Rattle.witness_replay.specs.Replay.{Report}
 
 -- the line of these words
@@ -29,8 +30,23 @@ too_long name = told (codes "too" ∷ codes "long" ∷ name ∷ [])
 abbrev pub raw_fault : ℕ → List ℕ
 raw_fault number = told (codes "firmware" ∷ codes "raw" ∷ decimal number ∷ [])
 
-abbrev pub elf_not_built : List ℕ
-elf_not_built = told (codes "firmware" ∷ codes "elf" ∷ codes "not-built" ∷ [])
+-- the number of the test that fails, and what it names
+abbrev pub refusal_words : ElfRefusal → List (List ℕ)
+refusal_words (Short at) = codes "1" ∷ codes "at" ∷ decimal at ∷ []
+refusal_words NotElf32Little = codes "2" ∷ []
+refusal_words NotExecutable = codes "3" ∷ []
+refusal_words (NotAvr machine) = codes "4" ∷ codes "machine" ∷ decimal machine ∷ []
+refusal_words EntrySize = codes "5" ∷ []
+refusal_words (SegmentOutside i) = codes "6" ∷ codes "segment" ∷ decimal i ∷ []
+refusal_words (Overlap j i) = codes "7" ∷ codes "segments" ∷ decimal j ∷ decimal i ∷ []
+
+-- the words of a refusal were written; where there is none, nothing is said
+abbrev pub IsRefused : Written → Written → Option ElfRefusal → Type 0
+IsRefused before after None = ⊥
+IsRefused before after (Some refusal) = after ≡ with_words before (refusal_words refusal)
+
+abbrev pub elf_refused : ElfRefusal → List ℕ
+elf_refused refusal = told (codes "firmware" ∷ codes "elf" ∷ refusal_words refusal)
 
 abbrev pub certificate_malformed : List ℕ
 certificate_malformed = told (codes "certificate" ∷ codes "malformed" ∷ [])

@@ -1,6 +1,6 @@
 //! The work on files that were read: what they are, and what is answered of them.
 
-ghost use Rattle.std.specs.Prelude.{◌≡◌, ◌≢◌, [], IfOk};
+ghost use Rattle.std.specs.Prelude.{◌≡◌, ◌≢◌, [], IfOk, true, false};
 ghost use Rattle.avr_model.specs.Firmware.{is_elf};
 ghost use Rattle.sb_base.specs.Lines.{lines_of};
 ghost use Rattle.witness_replay.specs.Reading.{schedule_in};
@@ -8,13 +8,14 @@ ghost use Rattle.witness_replay.specs.Replay.{replay_of, told};
 ghost use Rattle.cert_format.specs.Reading.{certificate_in};
 ghost use Rattle.cert_check.specs.Verdict.{verdict_of};
 ghost use Rattle.stack_core.specs.Texts.{schedule_malformed};
-ghost use Rattle.stack_core.specs.Reply.{Meets, LoadsAs, IsRefusal, attains, witness_reply, verdict_reply, certificate_reply, report_reply, schedule_reply, second_reply, work_reply};
+ghost use Rattle.stack_core.specs.Reply.{Meets, LoadsBy, LoadsAs, attains, witness_reply, verdict_reply, certificate_reply, report_reply, schedule_reply, second_reply, work_reply};
 
 use crate::command::Kind;
 use crate::texts;
 use avr_model::choice::Stop;
 use cert_check::{Verdict, judge};
 use cert_format::{CertFault, Certificate};
+use elf_load::{Loaded, is_elf, load};
 use flash_image::laws::raw_images_are_their_words;
 use flash_image::{Flash, RawFault};
 use sb_base::LineReader;
@@ -36,28 +37,11 @@ pub enum Image {
     Refused(Reply),
 }
 
-/// Whether a file begins as an ELF file.
-fn is_elf(bytes: &[u8]) -> bool
-    ensures { result ≡ is_elf bytes.now }
-{
-    match bytes {
-        [a, b, c, d, ..] => *a == 0x7F && *b == 0x45 && *c == 0x4C && *d == 0x46,
-        _ => false,
-    }
-}
-
-/// The flash of a firmware file.
-fn loaded(alloc: Global, bytes: &[u8]) -> Result<Image, AllocError>
-    ensures image { IfOk result (λ i. LoadsAs bytes.now i) }
-    ensures status { IfOk result (λ i. IsRefusal i) }
+/// The flash of a raw file.
+fn raw_image(alloc: Global, bytes: &[u8]) -> Result<Image, AllocError>
+    ensures { IfOk result (λ i. LoadsBy false bytes.now i) }
 {
     raw_images_are_their_words();
-    if is_elf(bytes) {
-        return Ok(Image::Refused(Reply {
-            status: 6,
-            text: texts::elf_not_built(alloc)?,
-        }));
-    }
     match Flash::from_raw(alloc, bytes) {
         Ok(flash) => Ok(Image::Loaded(flash)),
         Err(RawFault::OddLength) => Ok(Image::Refused(Reply {
@@ -69,6 +53,40 @@ fn loaded(alloc: Global, bytes: &[u8]) -> Result<Image, AllocError>
             text: texts::raw_fault(alloc, 2)?,
         })),
         Err(RawFault::Memory) => Err(AllocError),
+    }
+}
+
+/// The flash of a loaded file.
+fn flash_of(loaded: Loaded) -> Flash
+    ensures { result ≡ loaded.flash }
+{
+    loaded.flash
+}
+
+/// The flash of an ELF file.
+fn elf_image(alloc: Global, bytes: &[u8]) -> Result<Image, AllocError>
+    requires { is_elf bytes.now ≡ true }
+    ensures { IfOk result (λ i. LoadsBy true bytes.now i) }
+{
+    match load(alloc, bytes) {
+        Ok(loaded) => Ok(Image::Loaded(flash_of(loaded))),
+        Err(fault) => Ok(Image::Refused(Reply {
+            status: 6,
+            text: texts::elf_refused(alloc, &fault)?,
+        })),
+    }
+}
+
+/// The flash of a firmware file.
+fn loaded(alloc: Global, bytes: &[u8]) -> Result<Image, AllocError>
+    ensures { IfOk result (λ i. LoadsAs bytes.now i) }
+{
+    if is_elf(bytes) {
+        let image = elf_image(alloc, bytes)?;
+        Ok(image)
+    } else {
+        let image = raw_image(alloc, bytes)?;
+        Ok(image)
     }
 }
 

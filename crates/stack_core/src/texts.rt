@@ -1,13 +1,16 @@
 //! The lines that are printed.
 
-ghost use Rattle.std.specs.Prelude.{◌≡◌, ◌++◌, ◌<◌, [], ◌∷◌, IfOk, OnOk, codes, decimal};
+ghost use Rattle.std.specs.Prelude.{◌≡◌, ◌++◌, ◌<◌, [], ◌∷◌, IfOk, OnOk, Some, codes, decimal};
+ghost use Rattle.std.specs.Option.{option_map};
+ghost use Rattle.elf_load.specs.Refusing.{refusal_of};
 ghost use Rattle.sb_base.specs.Digits.{hex_digits};
 ghost use Rattle.sb_base.specs.Writing.{with_words, with_end};
-ghost use Rattle.stack_core.specs.Texts.{told, usage, read_fault, too_long, raw_fault, elf_not_built, certificate_malformed, schedule_malformed, schedule_illegal, witness_word, accepted, key_words, reason_words, rejected, witness_rejected, stop_words, run_text};
+ghost use Rattle.stack_core.specs.Texts.{told, usage, read_fault, too_long, raw_fault, elf_refused, IsRefused, certificate_malformed, schedule_malformed, schedule_illegal, witness_word, accepted, key_words, reason_words, rejected, witness_rejected, stop_words, run_text};
 
 use abs_step::NodeKey;
 use avr_model::choice::{Flag, Stop};
 use cert_check::Reason;
+use elf_load::ElfFault;
 use sb_base::LineWriter;
 use std::alloc::{AllocError, Global};
 use witness_replay::ReplayReport;
@@ -61,10 +64,35 @@ pub fn raw_fault(alloc: Global, number: u64) -> Result<Vec<u8>, AllocError>
     Ok(line.finish())
 }
 
-pub fn elf_not_built(alloc: Global) -> Result<Vec<u8>, AllocError>
-    ensures { IfOk result (λ v. v.items ≡ elf_not_built) }
+/// The words that name what a test of an ELF file refuses; none for want of memory.
+fn put_refusal(line: &mut LineWriter, fault: &ElfFault) -> Result<(), AllocError>
+    ensures { OnOk result (IsRefused line.old line.new (refusal_of fault.now)) }
 {
-    three_words(alloc, b"firmware", b"elf", b"not-built")
+    match *fault {
+        ElfFault::Short(at) => put_two_and_number(line, b"1", b"at", at),
+        ElfFault::NotElf32Little => line.word(b"2"),
+        ElfFault::NotExecutable => line.word(b"3"),
+        ElfFault::NotAvr(machine) => put_two_and_number(line, b"4", b"machine", u64::from(machine)),
+        ElfFault::EntrySize => line.word(b"5"),
+        ElfFault::SegmentOutside(i) => put_two_and_number(line, b"6", b"segment", u64::from(i)),
+        ElfFault::Overlap(j, i) => {
+            put_two_and_number(line, b"7", b"segments", u64::from(j))?;
+            line.dec(u64::from(i))
+        }
+        ElfFault::Memory => Err(AllocError),
+    }
+}
+
+/// The refusal of an ELF file; none for want of memory.
+pub fn elf_refused(alloc: Global, fault: &ElfFault) -> Result<Vec<u8>, AllocError>
+    ensures { IfOk result (λ v. option_map elf_refused (refusal_of fault.now) ≡ Some v.items) }
+{
+    let mut line = LineWriter::new(alloc);
+    line.word(b"firmware")?;
+    line.word(b"elf")?;
+    put_refusal(&mut line, fault)?;
+    line.end_line()?;
+    Ok(line.finish())
 }
 
 pub fn certificate_malformed(alloc: Global) -> Result<Vec<u8>, AllocError>
