@@ -181,7 +181,18 @@ fn named(alloc: Global, strings: &[u8]) -> Result<Vec<u8>, AllocError> {
     add_numbers(&mut file, &[0, 2, 0, 0, 172, 32, 2, 0, 0, 16])?;
     add_numbers(
         &mut file,
-        &[0, 3, 0, 0, 204, (strings.len() % 0x1_0000) as u32, 0, 0, 0, 0],
+        &[
+            0,
+            3,
+            0,
+            0,
+            204,
+            (strings.len() % 0x1_0000) as u32,
+            0,
+            0,
+            0,
+            0,
+        ],
     )?;
     add_numbers(&mut file, &[1, 0x80, 0, 0x12])?;
     add_numbers(&mut file, &[6, 0x80, 0, 0x12])?;

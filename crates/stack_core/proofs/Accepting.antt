@@ -87,8 +87,8 @@ raw_fault_none n even fits =
     rw (e, f) refl
 
 module _
-  (one : (bytes words : List ℕ) → IsRawImage bytes words → words ≡ raw_words bytes)
-  (images : (bytes : List ℕ) → length bytes % 2 ≡ 0 → length bytes ≤ 2 * WORDS → IsRawImage bytes (raw_words bytes)) where
+    (one : (bytes words : List ℕ) → IsRawImage bytes words → words ≡ raw_words bytes)
+    (images : (bytes : List ℕ) → length bytes % 2 ≡ 0 → length bytes ≤ 2 * WORDS → IsRawImage bytes (raw_words bytes)) where
   firmware_by : (elf : Bool) (bytes : List ℕ) → fault_by elf bytes ≡ None → IsFirmwareBy elf bytes (words_by elf bytes)
   firmware_by true bytes e = some_elf bytes (no_refusal bytes e)
   firmware_by false bytes e = let h = no_raw_fault (length bytes) (length bytes % 2 == 1) (nat_lt 32768 (length bytes)) refl refl e in images bytes h.0 h.1
