@@ -222,7 +222,7 @@ fn faults_of_the_outside_are_told(rt: HostRuntime) -> Result<(), Fail> {
             &[0x7F, 0x45, 0x4C, 0x46],
             (None, None),
             6,
-            "firmware elf not-built\n",
+            "firmware elf 1 at 0\n",
         ),
         (
             &["check", "FW", "OTHER"],
