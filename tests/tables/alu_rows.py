@@ -1,8 +1,9 @@
 #!/usr/bin/env python3
 """The rows of crates/avr_alu/src/tests/rows.rt: results and flags at the edges of each operand.
 
-Each flag is the Boolean formula that the Instruction Set Manual (DS40002198) prints at the instruction, over the bits
-of the operands and the result. Nothing here is taken from the crate. Run: python3 alu_rows.py > rows.rt
+Each flag is the Boolean formula of the instruction, over the bits of the operands and the result, as the Instruction Set
+Manual (DS40002198) has it. The formulas were written from memory, with no copy of the manual at hand, and are still to be
+compared with it. Nothing here is taken from the crate. Run: python3 alu_rows.py > rows.rt
 """
 
 EDGES = [0x00, 0x01, 0x7F, 0x80, 0x81, 0xFE, 0xFF]

@@ -1,9 +1,9 @@
 #!/usr/bin/env python3
 """The rows of crates/avr_machine/src/tests/rows.rt: small programs, and the machine after them.
 
-A model of its own, written from the Instruction Set Manual (DS40002198) and the data sheet: opcodes by the manual's
-patterns, and flags by its Boolean formulas. It shares nothing with the
-crates. Run: python3 machine_rows.py > rows.rt
+A model of its own, after the Instruction Set Manual (DS40002198) and the data sheet: opcodes by the manual's patterns, and
+flags by its Boolean formulas. It was written with no copy of the manual at hand, and is still to be compared with it. It
+shares nothing with the crates. Run: python3 machine_rows.py > rows.rt
 """
 
 RAMEND = 0x08FF
