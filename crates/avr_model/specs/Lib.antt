@@ -18,6 +18,3 @@ pub mod Effects
 pub mod Step
 pub mod Run
 pub mod Rows
-pub mod Elf
-pub mod Firmware
-pub mod ElfExamples

@@ -3,9 +3,7 @@
 #![tactic(auto)]
 
 ghost use Rattle.std.specs.Prelude.{◌≡◌, true, IfOk};
-ghost use Rattle.elf_load.specs.Elf.{elf_fault, elf_names, static_end};
-ghost use Rattle.avr_model.specs.Firmware.{is_elf};
-ghost use Rattle.elf_load.specs.Elf.{IsElfImage};
+ghost use Rattle.elf_load.specs.Elf.{is_elf, elf_fault, elf_names, static_end, IsElfImage};
 ghost use Rattle.elf_load.specs.Refusing.{Refuses};
 
 use flash_image::{Flash, Names};

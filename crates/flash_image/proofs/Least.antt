@@ -8,8 +8,7 @@ use Rattle.std.specs.Cmp.Lexicographic.{slice_cmp, slice_partial_cmp}
 use Rattle.std.proofs.lemmas.Bool.{eqb-true}
 use Rattle.std.proofs.lemmas.Cmp.{nat_list_cmp_total, upto, tied_itself, same_from_slice_cmp_tested}
 use Rattle.std.proofs.lemmas.List.{drop_more, get_or-map, length-map}
-use Rattle.avr_model.specs.Elf.{Named}
-use Rattle.flash_image.specs.Naming.{named, lesser, least_name, IsUnnamed, IsLeastName}
+use Rattle.flash_image.specs.Naming.{Named, named, lesser, least_name, IsUnnamed, IsLeastName}
 
 abbrev order : List ℕ → List ℕ → Ordering
 order xs ys = slice_cmp nat_cmp xs ys

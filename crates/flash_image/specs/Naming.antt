@@ -3,7 +3,11 @@ use Rattle.std.specs.Prelude.{ℕ, ◌≡◌, ◌==◌, false, List, [], ◌∷�
 use Rattle.std.specs.Cmp.Lexicographic.{slice_cmp}
 use Rattle.std.specs.List.{Contains}
 use Rattle.std.specs.Ordering.{nat_cmp, is_lt}
-use Rattle.avr_model.specs.Elf.{Named}
+
+-- a word address, and a name of it
+pub record Named : Type 0 where
+  pub word : ℕ
+  pub name : List ℕ
 
 abbrev pub named : ℕ → List ℕ → Named
 named word name = record { word = word; name = name }

@@ -1,8 +1,7 @@
 //! Names of words.
 
 ghost use Rattle.std.specs.Prelude.{◌≡◌, ℕ, ◌∷◌, [], ◌++◌, List, MatchOption, is_ok, if◌then◌else◌, map};
-ghost use Rattle.avr_model.specs.Elf.{Named};
-ghost use Rattle.flash_image.specs.Naming.{named, lesser, least_name, IsLeastName, IsUnnamed};
+ghost use Rattle.flash_image.specs.Naming.{Named, named, lesser, least_name, IsLeastName, IsUnnamed};
 
 use std::alloc::{AllocError, Global};
 use std::marker::Model;

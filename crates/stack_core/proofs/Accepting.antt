@@ -7,7 +7,6 @@ use Rattle.avr_model.specs.declared.assumption.Entry.{Entry}
 use Rattle.avr_model.specs.declared.choice.Stop.{Stop}
 use Rattle.avr_model.specs.declared.choice.Stop.TheVariants as stop
 use Rattle.avr_model.specs.Image.{WORDS, IsRawImage, raw_words}
-use Rattle.avr_model.specs.Firmware.{is_elf}
 use Rattle.avr_model.specs.Run.{Bounded}
 use Rattle.sb_base.specs.Outside.{Held, Bytes}
 use Rattle.witness_replay.specs.Spelling.{Plan}
@@ -25,7 +24,7 @@ use Rattle.stack_core.specs.declared.command.Kind.TheVariants.{Check}
 use Rattle.stack_core.specs.Commands.{Command, command_of}
 use Rattle.stack_core.specs.Texts.{accepted, too_long, elf_refused, raw_fault, witness_rejected}
 use Rattle.stack_core.specs.Reply.{Reply, Open, Says, Meets, file_in, firmware_cap, certificate_cap, second_cap, image_by, image_in, is_end, attains, witness_reply, verdict_reply, certificate_reply, second_reply, work_reply, command_reply, reply_of}
-use Rattle.elf_load.specs.Elf.{elf_fault}
+use Rattle.elf_load.specs.Elf.{elf_fault, is_elf}
 use Rattle.stack_core.specs.Firmware.{IsFirmwareBy, IsFirmware, words_by, firmware_words, fault_by, firmware_fault}
 use Rattle.stack_core.proofs.ElfWords.{one_elf, some_elf, no_refusal}
 use Rattle.stack_core.specs.Headline.{IsCheck, Holds, Headline, AreRead, IsExact}

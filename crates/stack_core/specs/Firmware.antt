@@ -2,8 +2,7 @@
 use Rattle.std.specs.Prelude.{ℕ, zero, suc, ◌+◌, ◌*◌, ◌%◌, ◌==◌, nat_lt, Bool, true, false, List, [], ◌∷◌, length, Option, Some, None, if◌then◌else◌}
 use Rattle.std.specs.Option.{option_map}
 use Rattle.avr_model.specs.Image.{WORDS, IsRawImage, raw_words}
-use Rattle.avr_model.specs.Firmware.{is_elf}
-use Rattle.elf_load.specs.Elf.{elf_fault, elf_byte, IsElfImage}
+use Rattle.elf_load.specs.Elf.{is_elf, elf_fault, elf_byte, IsElfImage}
 use Rattle.stack_core.specs.Texts.{elf_refused, raw_fault}
 
 -- a file that begins 7F 45 4C 46 is an ELF file, and any other is a raw one

@@ -2,7 +2,7 @@
 use Rattle.std.specs.Prelude.{◌≡◌, ◌≢◌, ◌⊎◌, ℕ, ◌+◌, ◌%◌, ◌==◌, ◌&&◌, not, nat_lt, ◌≤◌, List, [], ◌∷◌, ◌++◌, length, take, ⊤, Bool, true, false, Option, Some, None, Result, Ok, Err, if◌then◌else◌}
 use Rattle.avr_model.specs.declared.choice.Stop.{Stop}
 use Rattle.avr_model.specs.declared.choice.Stop.TheVariants as stop
-use Rattle.avr_model.specs.Firmware.{is_elf}
+use Rattle.elf_load.specs.Elf.{is_elf}
 use Rattle.sb_base.specs.Outside.{Held, Untold, Missing, Bytes, Blamed, Rose, Gives, MayExceed, Blames, grown, GrewByPrefix}
 use Rattle.sb_base.specs.Lines.{Place, TextLine, lines_of}
 use Rattle.cert_format.specs.Certificate.{Claim}

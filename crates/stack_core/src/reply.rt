@@ -1,7 +1,7 @@
 //! The work on files that were read: what they are, and what is answered of them.
 
 ghost use Rattle.std.specs.Prelude.{◌≡◌, ◌≢◌, [], IfOk, true, false};
-ghost use Rattle.avr_model.specs.Firmware.{is_elf};
+ghost use Rattle.elf_load.specs.Elf.{is_elf};
 ghost use Rattle.sb_base.specs.Lines.{lines_of};
 ghost use Rattle.witness_replay.specs.Reading.{schedule_in};
 ghost use Rattle.witness_replay.specs.Replay.{replay_of, told};
