@@ -490,8 +490,8 @@ def table(name, kind, about, lines):
     print("];")
 
 
-HEAD = """//! Programs at word 0, and the machine after them. `tests/tables/machine_rows.py` computed these rows by a model of
-//! its own, after the Instruction Set Manual (DS40002198), and not by this crate.
+HEAD = """//! Programs at word 0, and the machine after them. `tests/tables/machine_rows.py` computed these rows, and not
+//! this crate, by a model of its own, written from the manual's formulas (DS40002198) as remembered and not copied from it.
 
 use super::{FlowRow, MemoryRow, RegisterRow};
 

@@ -1,5 +1,5 @@
-//! Rows of the instruction table, as a model of the manual computed them, and by hand the order inside an instruction, the
-//! flags, the interrupts and the delay.
+//! Rows of the instruction table, as a model that was written apart from the crates computed them, and by hand the order
+//! inside an instruction, the flags, the interrupts and the delay.
 
 mod rows;
 

@@ -1,5 +1,5 @@
-//! Results and flags at the edges of each operand. These rows were computed by `tests/tables/alu_rows.py` from the
-//! Boolean formulas that the Instruction Set Manual (DS40002198) prints at each instruction, and not by this crate.
+//! Results and flags at the edges of each operand. These rows were computed by `tests/tables/alu_rows.py`, and not by
+//! this crate, from the manual's Boolean formulas (DS40002198) as remembered; they were not copied from it.
 //! Operands come first, then the result, SREG after the operation from 0x00, and SREG after it from 0xFF.
 
 /// ADC: operands and carry.
