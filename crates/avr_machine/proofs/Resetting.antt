@@ -2,7 +2,7 @@
 use Rattle.std.proofs.Common.{◌≡◌, ℕ, ◌<◌, false, List, length, replicate, get_or, refl}
 use Rattle.std.proofs.lemmas.List.Elements.{All-from_get_or}
 use Rattle.std.specs.List.{All}
-use Rattle.avr_model.specs.State.{State, Memory, IsReset, reset_state}
+use Rattle.avr_model.specs.State.{Memory, IsReset, reset_state}
 
 pub reset_parts : (registers bytes : List ℕ) (memory : Memory) (sreg enables : ℕ) → sreg ≡ 0 → enables ≡ 0 → memory ≡ record { bytes = bytes; live = replicate 2048 false } → record { pc = 0; registers = registers; sreg = sreg; sp = 2303; is_open = false; enables = enables; memory = memory; delay = false } ≡ reset_state registers bytes
 reset_parts registers bytes memory sreg enables e f g = cc

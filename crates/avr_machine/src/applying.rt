@@ -1,7 +1,7 @@
 //! What an effect makes of the processor and its memory.
 
-ghost use Rattle.std.specs.Prelude.{◌≡◌, ◌<◌, ◌≤◌, ◌*◌, ◌/◌, ◌%◌, ◌+◌, [], ◌∷◌, slice_set, length};
-ghost use Rattle.avr_model.specs.Step.{with_registers, registers_after, sreg_after, sp_after, open_after, enables_after, written, memory_after, after};
+ghost use Rattle.std.specs.Prelude.{◌≡◌, ◌<◌, ◌*◌, ◌/◌, ◌%◌, ◌+◌, [], ◌∷◌, slice_set};
+ghost use Rattle.avr_model.specs.Step.{with_registers, memory_after, after};
 ghost use Rattle.avr_machine.specs.Applying.{stored};
 
 use crate::processor::{Processor, REGISTERS_END, SPH, SPL, SREG};

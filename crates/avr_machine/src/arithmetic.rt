@@ -1,6 +1,6 @@
 //! The rows that set registers and flags alone. Results and flags are those of `avr_alu`.
 
-ghost use Rattle.std.specs.Prelude.{◌≡◌, ◌<◌, ◌≤◌, []};
+ghost use Rattle.std.specs.Prelude.{◌≡◌, ◌<◌, []};
 ghost use Rattle.avr_model.specs.Effects.{sum_effect, difference_effect, compare_effect, logic_effect, product_effect, step_effect, shift_effect, wide_effect, binary_effect, immediate_effect, unary_effect, flag_effect, setting, set, set_pair};
 ghost use Rattle.avr_model.specs.State.{pair, register, t_flag};
 ghost use Rattle.avr_model.specs.Bits.{with_bit};

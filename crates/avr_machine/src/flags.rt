@@ -1,11 +1,10 @@
 //! Which steps are flagged.
 
 ghost use Rattle.std.specs.Prelude.{◌≡◌, ◌++◌, ◌&&◌, ◌||◌, not};
-ghost use Rattle.std.specs.Option.{option_copied};
 ghost use Rattle.avr_model.specs.Assumptions.{lists, is_proved};
 ghost use Rattle.avr_model.specs.Sites.{is_fixed};
 ghost use Rattle.avr_model.specs.Vectors.{is_protected};
-ghost use Rattle.avr_model.specs.Step.{live_write, is_pointer_store, is_indirect, unlisted, protected_write, unless_listed, unlisted_transfer, flag_by};
+ghost use Rattle.avr_model.specs.Step.{live_write, is_pointer_store, is_indirect, unlisted, protected_write, unlisted_transfer, flag_by};
 
 use crate::memory::Memory;
 use avr_decode::is_fixed;

@@ -1,6 +1,6 @@
 //! The rows that jump, call, return, branch and skip.
 
-ghost use Rattle.std.specs.Prelude.{◌≡◌, ◌<◌, ◌≤◌, ◌%◌};
+ghost use Rattle.std.specs.Prelude.{◌≡◌, ◌<◌, ◌%◌};
 ghost use Rattle.avr_model.specs.State.{pair, read, register};
 ghost use Rattle.avr_model.specs.Sreg.{flag};
 ghost use Rattle.avr_model.specs.Text.{far, near};

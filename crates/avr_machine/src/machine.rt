@@ -1,6 +1,6 @@
 //! The machine that keeps its depth.
 
-ghost use Rattle.std.specs.Prelude.{◌≡◌, ◌<◌, ◌≤◌, IsTrue};
+ghost use Rattle.std.specs.Prelude.{◌≡◌, ◌<◌, IsTrue};
 ghost use Rattle.avr_model.specs.State.{IsReset, reset_state, filled, is_sram, sram_at, register, is_live};
 ghost use Rattle.avr_model.specs.Step.{step, result_of};
 ghost use Rattle.avr_model.specs.Run.{Machine, starting, moved_on};

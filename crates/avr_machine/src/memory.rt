@@ -1,6 +1,6 @@
 //! SRAM: its bytes, and which of them are live.
 
-ghost use Rattle.std.specs.Prelude.{◌≡◌, ◌≤◌, IsTrue, false, true, replicate, length};
+ghost use Rattle.std.specs.Prelude.{◌≡◌, IsTrue, false, true, replicate};
 ghost use Rattle.avr_model.specs.State.{is_sram, set_at, byte_in, is_live};
 ghost use Rattle.avr_model.specs.Step.{with_live, written, pruned, live_write};
 

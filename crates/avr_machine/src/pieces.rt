@@ -1,7 +1,6 @@
 //! What many effects have in common.
 
 ghost use Rattle.std.specs.Prelude.{◌≡◌, ◌<◌, ◌≤◌};
-ghost use Rattle.avr_model.specs.State.{plus16, minus16};
 ghost use Rattle.avr_model.specs.Effects.{set, set_pair, further, going_to, going_on, setting, storing, skipping, way_back, calling, popped_word, returning, flash_read};
 
 use crate::processor::Processor;

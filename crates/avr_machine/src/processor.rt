@@ -1,8 +1,8 @@
 //! The processor: its registers, its memory, and how data space reads.
 
-ghost use Rattle.std.specs.Prelude.{◌≡◌, ◌<◌, ◌≤◌, ℕ, IsTrue, false, replicate, length};
-ghost use Rattle.std.specs.Int.{bit_at, from_bool};
-ghost use Rattle.avr_model.specs.State.{State, register, pair, t_flag, i_flag, io_bit, io_byte, read, reset_state};
+ghost use Rattle.std.specs.Prelude.{◌≡◌, ◌<◌, false};
+ghost use Rattle.std.specs.Int.{from_bool};
+ghost use Rattle.avr_model.specs.State.{State, register, pair, io_bit, io_byte, read, reset_state};
 ghost use Rattle.avr_model.specs.Sreg.{flag};
 ghost use Rattle.avr_model.specs.Vectors.{enable_of};
 

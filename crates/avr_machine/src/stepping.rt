@@ -1,6 +1,6 @@
 //! One step of the processor: the answer, and the state after it.
 
-ghost use Rattle.std.specs.Prelude.{◌≡◌, ◌<◌, ◌&&◌, ◌||◌, not, ◌-◌};
+ghost use Rattle.std.specs.Prelude.{◌≡◌, ◌<◌, ◌&&◌, ◌||◌, ◌-◌};
 ghost use Rattle.avr_model.specs.Sites.{instruction_at, is_scratch};
 ghost use Rattle.avr_model.specs.State.{depth_of_state};
 ghost use Rattle.avr_model.specs.Step.{all_inside, flagged_or, is_unlisted, after, answer_to, go, may_take, enables_taken, entering, take, step, result_of, state_after};

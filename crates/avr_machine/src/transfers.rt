@@ -3,7 +3,7 @@
 ghost use Rattle.std.specs.Prelude.{◌≡◌, ◌<◌, ◌≤◌, ◌++◌, length};
 ghost use Rattle.avr_model.specs.State.{pair, read, register, plus16};
 ghost use Rattle.avr_model.specs.Sites.{base_register, pointer_register};
-ghost use Rattle.avr_model.specs.Effects.{set, set_pair, further, setting, storing, pointed, moved, load_effect, store_effect, port, delay_of_out, out_effect, bit_effect, push_effect, pop_effect, flash_read};
+ghost use Rattle.avr_model.specs.Effects.{set, set_pair, further, setting, storing, pointed, moved, load_effect, store_effect, port, out_effect, bit_effect, push_effect, pop_effect, flash_read};
 
 use crate::arithmetic::I;
 use crate::bits::{has_bit, with_bit};

@@ -1,6 +1,5 @@
 -- Words in two parts.
 use Rattle.std.proofs.Common.{ℕ, ◌≡◌, List, [], ◌∷◌, ◌++◌, refl, replicate, codes, Option, Some, None}
-use Rattle.std.specs.Str.{bytes_eq}
 use Rattle.line_reading.specs.Reading.{◌>>=◌, word_at, these_at}
 use Rattle.cert_format.specs.Spelling.{unknown}
 use Rattle.cert_format.specs.Reading.{state_words}

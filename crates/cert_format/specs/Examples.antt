@@ -1,5 +1,5 @@
 -- Worked texts: the certificate of a jump to itself, and damaged ones with the first line that isn't of its form.
-use Rattle.std.specs.Prelude.{◌≡◌, ℕ, ◌<◌, List, [], ◌∷◌, ◌++◌, length, codes, Option, Some, None, Ok, Err, refl}
+use Rattle.std.specs.Prelude.{◌≡◌, ℕ, List, [], ◌∷◌, ◌++◌, length, codes, Some, Ok, Err, refl}
 use Rattle.std.specs.List.{flat_map}
 use Rattle.line_reading.specs.Reading.{line_by}
 use Rattle.witness_replay.specs.Reading.{fill_in, header_by, part_by, runs_from, schedule_at}

@@ -1,9 +1,8 @@
 -- When a certificate is valid for a firmware. Source: own.
-use Rattle.std.specs.Prelude.{ℕ, ◌≡◌, ◌≤◌, List, Contains, Option, Some, None, Result, Ok, Err, IsOkAnd, ⊤}
+use Rattle.std.specs.Prelude.{ℕ, ◌≡◌, ◌≤◌, List, Contains, Option, Some, None, IsOkAnd, ⊤}
 use Rattle.std.specs.List.{All}
 use Rattle.avr_model.specs.declared.assumption.Entry.{Entry}
 use Rattle.avr_model.specs.declared.choice.Stop.TheVariants as stop
-use Rattle.abs_step.specs.declared.key.NodeKey.{NodeKey}
 use Rattle.abs_step.specs.Local.{root_key}
 use Rattle.abs_step.specs.Family.{IsLanding}
 use Rattle.witness_replay.specs.Spelling.{Plan}

@@ -1,6 +1,6 @@
 //! What a certificate is.
 
-ghost use Rattle.std.specs.Prelude.{◌≡◌, None, Some};
+ghost use Rattle.std.specs.Prelude.{◌≡◌};
 ghost use Rattle.std.specs.Option.{option_copied};
 ghost use Rattle.cert_format.specs.Certificate.{IsClaim};
 

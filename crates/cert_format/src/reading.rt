@@ -8,10 +8,10 @@ ghost use Rattle.sb_base.specs.Lines.{words_of};
 ghost use Rattle.sb_base.specs.Answers.{Answers};
 ghost use Rattle.line_reading.specs.Reading.{these_at, first_by, line_by, ReadsAt};
 ghost use Rattle.witness_replay.specs.Reading.{schedule_at};
-ghost use Rattle.cert_format.specs.Certificate.{Claim, most_nodes, most_cells};
+ghost use Rattle.cert_format.specs.Certificate.{Claim, most_cells};
 ghost use Rattle.cert_format.specs.Spelling.{text_of};
 ghost use Rattle.cert_format.specs.Exact.{IsCertificate};
-ghost use Rattle.cert_format.specs.Reading.{numbered_in, root_in, state_words, node_in, bound_by, root_by, count_by, admits, is_above, node_by, ending_by, heading_at, nodes_from, nodes_at, witness_at, end_at, claim_at, certificate_in, Gives, without_place};
+ghost use Rattle.cert_format.specs.Reading.{numbered_in, root_in, state_words, node_in, bound_by, root_by, count_by, is_above, node_by, ending_by, heading_at, nodes_from, nodes_at, witness_at, end_at, claim_at, certificate_in, Gives, without_place};
 
 use crate::certificate::{CertFault, Certificate};
 use crate::laws::certificate_texts;

@@ -1,4 +1,4 @@
-use Rattle.std.proofs.Common.{◌≡◌, sym, subst}
+use Rattle.std.proofs.Common.{sym, subst}
 use Rattle.avr_model.specs.State.{IsReset}
 use Rattle.avr_machine.proofs.Resetting.{reset_is_reset}
 use Rattle.avr_machine.proofs.machine.Machine.from_memory.Goals as goal
