@@ -1,31 +1,30 @@
 -- A certificate: what is read is spelled so, and what is spelled is read.
-use Rattle.std.proofs.Common.{ℕ, zero, suc, ◌+◌, ◌<◌, ◌≤◌, ◌^◌, ◌≡◌, ◌≢◌, List, [], ◌∷◌, ◌++◌, length, map, refl, ap, sym, ◌∙◌, arith, Option, Some, None, Result, Ok, Err, subst, codes, append-nil}
-use Rattle.std.specs.Prelude.{IfSome, IfOk}
+use Rattle.std.proofs.Common.{ℕ, ◌+◌, ◌≤◌, ◌≡◌, ◌≢◌, List, [], ◌∷◌, ◌++◌, length, map, refl, ap, sym, ◌∙◌, arith, Option, None, Result, Ok, Err, subst, codes, append-nil}
+use Rattle.std.specs.Prelude.{IfOk}
 use Rattle.std.specs.List.{AllByRecursion, flat_map}
 use Rattle.std.proofs.lemmas.List.{map-append}
 use Rattle.std.proofs.lemmas.Grind.{flat_map-append}
 use Rattle.std.proofs.lemmas.List.Elements.{All-from_recursion}
 use Rattle.avr_model.specs.State.{SIZE}
 use Rattle.abs_step.specs.declared.key.NodeKey.{NodeKey}
-use Rattle.sb_base.specs.Lines.{TextLine, Place, words_of, spaced, line, lines_of, joined}
+use Rattle.sb_base.specs.Lines.{TextLine, Place, words_of, spaced, line, joined}
 use Rattle.sb_base.specs.Answers.{Answers}
-use Rattle.sb_base.proofs.Splitting.{joined_lines}
-use Rattle.line_reading.specs.Reading.{then_at, line_by}
+use Rattle.line_reading.specs.Reading.{line_by}
 use Rattle.line_reading.specs.Words.{IsWord, whole, Passes, WordLaws}
-use Rattle.witness_replay.specs.Spelling.{Plan, IsSchedule}
+use Rattle.witness_replay.specs.Spelling.{Plan}
 use Rattle.witness_replay.specs.Reading.{refused_at}
 use Rattle.witness_replay.specs.Exact.{TextIsReading, ReadIsSpelled as ScheduleIsSpelled, SpelledIsRead as ScheduleIsRead}
-use Rattle.cert_format.proofs.Steps.{ok_is, err_ok, line_takes, line_again, passes_more, passes_split, then_ok}
+use Rattle.line_reading.proofs.Steps.{ok_is, line_takes, line_again, passes_more, passes_split, then_ok}
 use Rattle.cert_format.specs.declared.certificate.CertFault.{CertFault}
 use Rattle.cert_format.specs.declared.certificate.CertFault.TheVariants.{Malformed, Memory}
-use Rattle.cert_format.specs.Certificate.{Claim, IsClaim, claim_of, IsKey, most_nodes, most_cells}
+use Rattle.cert_format.specs.Certificate.{Claim, IsClaim, claim_of, IsKey, most_cells}
 use Rattle.cert_format.specs.Spelling.{node_words, root_words, witness_lines, certificate_lines, text_of}
 use Rattle.cert_format.specs.Reading.{root_in, root_by, heading_at, nodes_at, witness_at, end_at, claim_at, claim_alone, certificate_in, without_place}
 use Rattle.cert_format.specs.Exact.{IsCertificate, ReadIsSpelled, SpelledIsRead, OneText}
-use Rattle.cert_format.proofs.Fields.{IsRootLine, root_take, root_again}
+use Rattle.cert_format.proofs.Fields.{root_take, root_again}
 use Rattle.cert_format.proofs.Plain.{plain, numbered_words, root_plain, node_plain}
-use Rattle.cert_format.proofs.Nodes.{AreNodes, node_lines, as_words, keys_kept, order_kept, cells_kept, claimed_nodes}
-use Rattle.cert_format.proofs.Parts.{passes_cut, before, stand, version, bound_words, assumptions, instances, heading, heading_take, heading_again, count_words, NodesPart, nodes_part, nodes_part_again, WitnessPart, witness_part, witness_again, end_line, EndPart, end_part, end_again}
+use Rattle.cert_format.proofs.Nodes.{node_lines, as_words, keys_kept, order_kept, cells_kept, claimed_nodes}
+use Rattle.cert_format.proofs.Parts.{passes_cut, before, stand, version, bound_words, assumptions, instances, heading, heading_take, heading_again, count_words, nodes_part, nodes_part_again, witness_part, witness_again, end_line, end_part, end_again}
 
 -- ---- the root's line
 
@@ -107,7 +106,7 @@ spelled_text : WordLaws → (text : List ℕ) (c : Claim) (q : Place) → ClaimR
 spelled_text k text c q h =
     let t = k.lines_text (before 0 text) (certificate_lines c) q h.passes in
     let none : joined q.rest ≡ [] = ap joined h.over in
-    sym (joined_lines text) ∙ t.bytes ∙ ap (λ (xs : List ℕ). text_of c ++ xs) none ∙ append-nil (text_of c)
+    sym (k.text_joined text) ∙ t.bytes ∙ ap (λ (xs : List ℕ). text_of c ++ xs) none ∙ append-nil (text_of c)
 
 pub read_is_spelled : WordLaws → ScheduleIsSpelled → ReadIsSpelled
 unfolding certificate_in

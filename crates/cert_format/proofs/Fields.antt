@@ -1,20 +1,19 @@
 -- The words of one line: what is read is spelled so, and what is spelled is read.
-use Rattle.std.proofs.Common.{ℕ, ◌+◌, ◌-◌, ◌<◌, ◌≤◌, ◌^◌, ◌≡◌, ◌==◌, ◌&&◌, ◌⊎◌, inl, inr, List, [], ◌∷◌, ◌++◌, Bool, true, false, refl, ap, ap₂, sym, ◌∙◌, arith, Option, Some, None, cond, codes, nat_lt, take, drop, replicate, subst, lit<, append-nil}
+use Rattle.std.proofs.Common.{ℕ, ◌+◌, ◌-◌, ◌<◌, ◌≤◌, ◌^◌, ◌≡◌, ◌&&◌, inl, inr, List, [], ◌∷◌, ◌++◌, true, refl, ap, ap₂, sym, ◌∙◌, arith, Some, None, cond, codes, nat_lt, subst, lit<, append-nil}
 use Rattle.std.proofs.lemmas.Bool.Decides.{nat_tests}
 use Rattle.std.proofs.lemmas.Slice.Eq.{bytes_eq-Decides}
 use Rattle.std.specs.Fmt.{decimal}
 use Rattle.std.specs.Str.{bytes_eq}
-use Rattle.std.specs.List.{AllByRecursion}
 use Rattle.avr_model.specs.Image.{WORDS}
 use Rattle.avr_model.specs.State.{SIZE}
 use Rattle.abs_step.specs.declared.key.NodeKey.{NodeKey}
 use Rattle.sb_base.specs.Digits.{hex_digits}
-use Rattle.line_reading.specs.Reading.{◌>>=◌, hex_at, dec_at, word_at, these_at, marked_at, is_over, this_by}
-use Rattle.line_reading.specs.Words.{IsWord, WordLaws}
-use Rattle.cert_format.proofs.Steps.{chosen, some_is, none_some, bind_some, both, no_words, cons_is}
-use Rattle.cert_format.specs.Certificate.{IsKey, most_nodes}
-use Rattle.cert_format.specs.Spelling.{unknown, node_words, root_words}
-use Rattle.cert_format.specs.Reading.{numbered_in, root_in, state_words, node_in, is_above, admits}
+use Rattle.line_reading.specs.Reading.{hex_at, dec_at, word_at, these_at, marked_at, is_over}
+use Rattle.line_reading.specs.Words.{WordLaws}
+use Rattle.line_reading.proofs.Steps.{chosen, some_is, none_some, bind_some, both, no_words, cons_is}
+use Rattle.cert_format.specs.Certificate.{IsKey}
+use Rattle.cert_format.specs.Spelling.{node_words, root_words}
+use Rattle.cert_format.specs.Reading.{numbered_in, root_in, state_words, node_in}
 
 pub same_text : (t : List ℕ) → bytes_eq t t ≡ true
 same_text t = (bytes_eq-Decides t t).1 refl

@@ -1,16 +1,16 @@
 -- The lines of nodes: what is read is spelled so, and what is spelled is read.
-use Rattle.std.proofs.Common.{ℕ, zero, suc, ◌+◌, ◌-◌, ◌<◌, ◌≤◌, ◌≡◌, ◌==◌, ◌&&◌, ◌||◌, ◌⊎◌, inl, inr, List, [], ◌∷◌, ◌++◌, length, map, Bool, true, false, refl, ap, sym, ◌∙◌, arith, Option, Some, None, Result, Ok, Err, cond, nat_lt, subst, codes}
+use Rattle.std.proofs.Common.{ℕ, zero, suc, ◌+◌, ◌-◌, ◌<◌, ◌≤◌, ◌≡◌, ◌&&◌, inl, inr, List, [], ◌∷◌, length, map, true, refl, ap, sym, ◌∙◌, arith, Option, Some, None, Result, Ok, Err, nat_lt, subst, codes}
 use Rattle.std.specs.Prelude.{⊤}
 use Rattle.std.proofs.lemmas.Bool.Decides.{nat_tests}
-use Rattle.std.proofs.lemmas.List.Elements.{All-from_recursion, recursion_from_All}
-use Rattle.std.specs.List.{AllByRecursion, All}
+use Rattle.std.proofs.lemmas.List.Elements.{recursion_from_All}
+use Rattle.std.specs.List.{AllByRecursion}
 use Rattle.abs_step.specs.declared.key.NodeKey.{NodeKey}
 use Rattle.sb_base.specs.Lines.{TextLine, Place, words_of, spaced}
-use Rattle.line_reading.specs.Reading.{then_at, line_by}
-use Rattle.line_reading.specs.Words.{IsWord, whole, Passes, WordLaws}
-use Rattle.cert_format.proofs.Steps.{chosen, some_is, none_some, ok_is, err_ok, bind_some, both, TakesLine, line_takes, line_again, passes_none, passes_more, passes_split, passes_end, then_ok}
-use Rattle.cert_format.specs.Certificate.{Claim, IsClaim, IsKey, IsBefore, IsBeforeFirst, Ascends, cells_of, most_nodes, most_cells}
-use Rattle.cert_format.specs.Spelling.{unknown, node_words}
+use Rattle.line_reading.specs.Reading.{line_by}
+use Rattle.line_reading.specs.Words.{whole, Passes, WordLaws}
+use Rattle.line_reading.proofs.Steps.{chosen, some_is, none_some, ok_is, err_ok, bind_some, both, TakesLine, line_takes, line_again, passes_none, passes_more, passes_split, passes_end, then_ok}
+use Rattle.cert_format.specs.Certificate.{Claim, IsClaim, IsKey, IsBefore, IsBeforeFirst, Ascends, cells_of, most_cells}
+use Rattle.cert_format.specs.Spelling.{node_words}
 use Rattle.cert_format.specs.Reading.{node_in, is_above, admits, node_by, with_node, nodes_from}
 use Rattle.cert_format.proofs.Fields.{node_take, node_again}
 use Rattle.cert_format.proofs.Plain.{node_plain}

@@ -1,26 +1,25 @@
 -- The parts of a certificate: what is read is spelled so, and what is spelled is read.
-use Rattle.std.proofs.Common.{ℕ, zero, suc, ◌+◌, ◌-◌, ◌<◌, ◌≤◌, ◌^◌, ◌≡◌, ◌⊎◌, inl, inr, List, [], ◌∷◌, ◌++◌, length, map, Bool, true, false, refl, ap, sym, ◌∙◌, arith, Option, Some, None, Result, Ok, Err, cond, subst, codes, lit<, append_assoc}
-use Rattle.std.specs.Prelude.{IfSome, ⊤}
+use Rattle.std.proofs.Common.{ℕ, ◌+◌, ◌-◌, ◌<◌, ◌≤◌, ◌^◌, ◌≡◌, inl, inr, List, [], ◌∷◌, ◌++◌, length, map, Bool, true, false, refl, ap, sym, ◌∙◌, arith, Option, Some, None, Ok, subst, codes, lit<, append_assoc}
+use Rattle.std.specs.Prelude.{IfSome}
 use Rattle.std.specs.Fmt.{decimal}
 use Rattle.std.specs.Str.{bytes_eq}
 use Rattle.std.specs.List.{AllByRecursion, flat_map}
 use Rattle.std.proofs.lemmas.Slice.Eq.{bytes_eq-Decides}
 use Rattle.avr_model.specs.State.{SIZE}
 use Rattle.abs_step.specs.declared.key.NodeKey.{NodeKey}
-use Rattle.sb_base.specs.Lines.{TextLine, Place, words_of, spaced, line, lines_of, joined}
-use Rattle.sb_base.proofs.Splitting.{are_lines, joined_lines}
-use Rattle.line_reading.specs.Reading.{then_at, line_by, this_by}
-use Rattle.line_reading.specs.Words.{IsWord, whole, sizes, Passes, PassesText, WordLaws}
+use Rattle.sb_base.specs.Lines.{TextLine, Place, words_of, spaced, line, lines_of}
+use Rattle.line_reading.specs.Reading.{line_by, this_by}
+use Rattle.line_reading.specs.Words.{IsWord, whole, sizes, Passes, WordLaws}
 use Rattle.witness_replay.specs.Spelling.{Plan, IsSchedule, schedule_lines, text_of as schedule_text}
 use Rattle.witness_replay.specs.Reading.{schedule_at}
-use Rattle.witness_replay.specs.Exact.{IsReading, IsTextReading, TextIsReading, ReadIsSpelled as ScheduleIsSpelled, SpelledIsRead as ScheduleIsRead}
-use Rattle.cert_format.proofs.Steps.{chosen, some_is, none_some, ok_is, err_ok, line_takes, line_again, passes_none, passes_more, passes_split, sizes_append, then_ok}
+use Rattle.witness_replay.specs.Exact.{TextIsReading, ReadIsSpelled as ScheduleIsSpelled, SpelledIsRead as ScheduleIsRead}
+use Rattle.line_reading.proofs.Steps.{chosen, some_is, none_some, ok_is, err_ok, line_takes, line_again, passes_more, passes_split, sizes_append, then_ok}
 use Rattle.cert_format.specs.Certificate.{most_nodes, most_cells}
-use Rattle.cert_format.specs.Spelling.{node_words, witness_lines}
-use Rattle.cert_format.specs.Reading.{numbered_in, bound_by, count_by, ending_by, heading_at, nodes_from, nodes_at, plan_if, witness_at, if_last, end_at}
+use Rattle.cert_format.specs.Spelling.{witness_lines}
+use Rattle.cert_format.specs.Reading.{numbered_in, bound_by, count_by, ending_by, heading_at, nodes_at, plan_if, witness_at, if_last, end_at}
 use Rattle.cert_format.proofs.Fields.{same_text, numbered_take, numbered_again}
 use Rattle.cert_format.proofs.Plain.{plain, numbered_words}
-use Rattle.cert_format.proofs.Nodes.{AreNodes, node_lines, as_words, NodesRead, nodes_take, nodes_again}
+use Rattle.cert_format.proofs.Nodes.{AreNodes, node_lines, as_words, nodes_take, nodes_again}
 
 -- ---- places
 
@@ -39,8 +38,8 @@ before at text = record { at = at; rest = lines_of text }
 pub stand : WordLaws → (wss : List (List (List ℕ))) (at : ℕ) (text : List ℕ) → AllByRecursion (AllByRecursion IsWord) wss
     → Passes (before at (flat_map line wss ++ text)) (map whole wss) (before (at + length (flat_map line wss)) text)
 stand k wss at text h =
-    k.text_lines (before at (flat_map line wss ++ text)) wss (before (at + length (flat_map line wss)) text) h (are_lines (flat_map line wss ++ text)) (are_lines text)
-    (record { bytes = joined_lines (flat_map line wss ++ text) ∙ ap (λ (xs : List ℕ). flat_map line wss ++ xs) (sym (joined_lines text)); offset = refl })
+    k.text_lines (before at (flat_map line wss ++ text)) wss (before (at + length (flat_map line wss)) text) h (k.are_lines (flat_map line wss ++ text)) (k.are_lines text)
+    (record { bytes = k.text_joined (flat_map line wss ++ text) ∙ ap (λ (xs : List ℕ). flat_map line wss ++ xs) (sym (k.text_joined text)); offset = refl })
 
 -- ---- one line
 
@@ -215,7 +214,7 @@ witness_again k reads read (Some plan) at text h =
     let m = before (at + length (flat_map line (attained_line ∷ []))) all in
     let q = before (m.at + length (schedule_text plan)) text in
     let e = line_again ending_by p m (spaced attained_line) true (ending_again true) (stand k (attained_line ∷ []) at all (plain attained_line refl, tt)) in
-    let r = reads m plan q (are_lines all) (are_lines text) (record { fits = h; bytes = joined_lines all ∙ ap (λ (xs : List ℕ). schedule_text plan ++ xs) (sym (joined_lines text)); offset = refl }) in
+    let r = reads m plan q (k.are_lines all) (k.are_lines text) (record { fits = h; bytes = k.text_joined all ∙ ap (λ (xs : List ℕ). schedule_text plan ++ xs) (sym (k.text_joined text)); offset = refl }) in
     let s = read m plan q r in
     (q.at, rw (e, s) refl)
 

@@ -1,13 +1,12 @@
 -- The words of a certificate's lines have no space and no line feed.
-use Rattle.std.proofs.Common.{ℕ, zero, suc, ◌+◌, ◌<◌, ◌≤◌, ◌^◌, ◌≡◌, ◌==◌, ◌&&◌, List, [], ◌∷◌, ◌++◌, Bool, true, false, not, refl, arith, codes, replicate}
+use Rattle.std.proofs.Common.{ℕ, zero, suc, ◌+◌, ◌<◌, ◌^◌, ◌≡◌, ◌==◌, ◌&&◌, List, [], ◌∷◌, ◌++◌, Bool, true, false, not, refl, arith, codes, replicate}
 use Rattle.std.specs.Fmt.{decimal}
 use Rattle.std.specs.List.{AllByRecursion}
-use Rattle.avr_model.specs.State.{SIZE}
 use Rattle.abs_step.specs.declared.key.NodeKey.{NodeKey}
 use Rattle.sb_base.specs.Digits.{hex_digits}
 use Rattle.sb_base.specs.Lines.{Lacks}
 use Rattle.line_reading.specs.Words.{IsWord, WordLaws}
-use Rattle.cert_format.proofs.Steps.{both}
+use Rattle.line_reading.proofs.Steps.{both}
 use Rattle.cert_format.specs.Certificate.{IsKey}
 use Rattle.cert_format.specs.Spelling.{unknown, node_words, root_words}
 

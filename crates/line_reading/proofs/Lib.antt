@@ -1,3 +1,4 @@
+pub mod Steps
 pub mod Words
 pub mod Repeated
 pub mod Appending

@@ -1,5 +1,5 @@
 -- What is written is read, and what is read was written.
-use Rattle.std.proofs.Common.{ℕ, ◌+◌, ◌*◌, ◌^◌, ◌<◌, ◌≤◌, ◌≡◌, ◌==◌, List, [], ◌∷◌, ◌++◌, length, length-append, append_assoc, map, Bool, true, false, not, refl, ap, sym, ◌∙◌, arith, get_or, Err, Ok, Result, Option, Some, None, cond, ◌⊎◌, inl, inr, nat_lt, add-one}
+use Rattle.std.proofs.Common.{ℕ, ◌+◌, ◌*◌, ◌^◌, ◌<◌, ◌≤◌, ◌≡◌, ◌==◌, List, [], ◌∷◌, ◌++◌, length, length-append, append_assoc, map, Bool, true, false, not, refl, ap, sym, ◌∙◌, arith, get_or, Err, Ok, Result, Option, Some, None, inl, inr, nat_lt, add-one}
 use Rattle.std.proofs.Math.Nat.{pow-suc}
 use Rattle.std.proofs.lemmas.Bool.Decides.{nat_tests}
 use Rattle.std.proofs.lemmas.List.Elements.{recursion_from_All}
@@ -13,19 +13,12 @@ use Rattle.sb_base.specs.Digits.{is_dec, is_hex, digit_of, number_from, hex_answ
 use Rattle.sb_base.specs.Lines.{TextLine, lines_of, joined, line, spaced, Lacks, IsEnded}
 use Rattle.sb_base.specs.Spelling.{HexIsRead, HexIsSpelled, DecimalIsRead, DecimalIsSpelled, WordsAreRead, LinesAreRead}
 use Rattle.line_reading.specs.Reading.{number_and}
+use Rattle.line_reading.proofs.Steps.{chosen, none_some}
 use Rattle.line_reading.specs.Words.{IsWord, whole, HexTakes, HexIsTaken, HexIsWord, DecTakes, DecIsTaken, DecIsWord, WordsStand, LineIsWords, LinesStand, sizes, LinesAreText, TextIsLines}
-
--- which way a test went
-chosen : {X : Type 0} (b : Bool) (x y z : X) → cond b x y ≡ z → ((b ≡ true) × (x ≡ z)) ⊎ ((b ≡ false) × (y ≡ z))
-chosen true x y z e = inl (refl, e)
-chosen false x y z e = inr (refl, e)
 
 not_false : (b : Bool) → not b ≡ false → b ≡ true
 not_false true e = refl
 not_false false e = cc
-
-some_none : (n : ℕ) → Some n ≡ None → ⊥
-some_none n e = cc
 
 not_ok : (f : DigitFault) (n : ℕ) → ◌≡◌ {A = Result ℕ DigitFault} (Err f) (Ok n) → ⊥
 not_ok f n e = cc
@@ -43,7 +36,7 @@ fails_none p xs h = λ k d l. not_false (p (get_or xs k d)) (fails_before_first 
 none_fails : (p : ℕ → Bool) (xs : List ℕ) → position (λ b. not (p b)) xs ≡ None → AllByRecursion (λ b. p b ≡ true) xs
 none_fails p xs e =
     recursion_from_All (λ b. p b ≡ true) xs (elim (chosen (nat_lt (position_or_len (λ b. not (p b)) xs) (length xs)) _ _ None e) [
-      | inl h ↦ absurd (some_none _ h.1)
+      | inl h ↦ absurd (none_some _ (sym h.1))
       | inr h ↦ fails_none p xs (grind (arith, nat_tests, h.0))
     ])
 

@@ -47,29 +47,11 @@ abbrev pub is_over : List (List ℕ) → Bool
 is_over [] = true
 is_over (w ∷ ws) = false
 
--- ---- lines: a refusal tells the offset of the refused line
+-- ---- one reading after another
 
 abbrev pub then_at : {A B E : Type 0} → Result A E → (A → Result B E) → Result B E
 then_at (Ok x) f = f x
 then_at (Err at) f = Err at
-
--- what a call gave, and left of the reader, is what the reading gives
-abbrev pub Reads : {X Y : Type 0} → (X → Y) → Place → Result X Malformed → Result (Y × Place) ℕ → Type 0
-Reads view after (Ok x) due = due ≡ Ok (view x, after)
-Reads view after (Err fault) due = due ≡ Err fault.0
-
-abbrev pub some_at : {A : Type 0} → Option A → ℕ → Result A ℕ
-some_at (Some x) at = Ok x
-some_at None at = Err at
-
--- the next line, which has to be whole
-abbrev pub line_in : ℕ → List TextLine → Result (List ℕ × Place) ℕ
-line_in at [] = Err at
-line_in at (l ∷ ls) = if l.whole then Ok (l.text, record { at = at + size_of l; rest = ls }) else Err at
-
--- the next line, which has to be this text
-unfoldable pub exactly : List ℕ → Place → Result (Unit {0} × Place) ℕ
-exactly text p = then_at (line_in p.at p.rest) (λ l. if bytes_eq l.0 text then Ok (tt, l.1) else Err p.at)
 
 -- ---- lines whose refusal leaves the reader at the refused line: a refusal tells that place
 

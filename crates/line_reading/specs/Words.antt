@@ -3,6 +3,7 @@ use Rattle.std.specs.Prelude.{◌≡◌, ◌≤◌, ◌<◌, ◌^◌, ◌+◌, �
 use Rattle.std.specs.List.{AllByRecursion, flat_map}
 use Rattle.sb_base.specs.Digits.{hex_digits}
 use Rattle.sb_base.specs.Lines.{TextLine, Place, size_of, AreLines, joined, words_of, spaced, line, Lacks}
+use Rattle.sb_base.specs.Spelling.{LinesMakeText, LinesOfTextAreLines}
 use Rattle.line_reading.specs.Reading.{hex_at, dec_at}
 
 -- what can stand as a word in a line: no space and no line feed is in it
@@ -82,3 +83,5 @@ pub record WordLaws : Type 0 where
   pub lines_stand : LinesStand
   pub lines_text : LinesAreText
   pub text_lines : TextIsLines
+  pub text_joined : LinesMakeText
+  pub are_lines : LinesOfTextAreLines

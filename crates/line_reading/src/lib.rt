@@ -4,9 +4,9 @@
 
 pub mod laws;
 
-ghost use Rattle.std.specs.Prelude.{◌≡◌, ◌≤◌, ◌<◌, ◌^◌, IfSome, IfOk, None, length, replicate};
+ghost use Rattle.std.specs.Prelude.{◌≡◌, ◌≤◌, ◌<◌, ◌^◌, IfSome, None, replicate};
 ghost use Rattle.std.specs.Option.{option_map};
-ghost use Rattle.line_reading.specs.Reading.{hex_at, dec_at, word_at, these_at, marked_at, is_over, Reads, line_in, exactly, text_in, first_by, this_by, taken, passed, line_by, ReadsAt};
+ghost use Rattle.line_reading.specs.Reading.{hex_at, dec_at, word_at, these_at, marked_at, is_over, text_in, first_by, this_by, taken, passed, line_by, ReadsAt};
 
 use sb_base::{LineReader, Words, read_dec, read_hex};
 
@@ -80,36 +80,6 @@ pub fn is_over(words: &mut Words<'_>) -> bool
     ensures { result ≡ is_over words.old }
 {
     words.next().is_none()
-}
-
-/// The next line, which has to be whole.
-pub fn whole_line<'a>(reader: &mut LineReader<'a>) -> Result<&'a [u8], Malformed>
-    ensures exact { Reads (λ t. t.now) reader.new result (line_in reader.old.at reader.old.rest) }
-    ensures shorter { IfOk result (λ _. length reader.new.rest < length reader.old.rest) }
-{
-    match reader.next() {
-        Some(line) => {
-            if line.whole {
-                Ok(line.text)
-            } else {
-                Err(Malformed(line.at))
-            }
-        }
-        None => Err(Malformed(reader.offset())),
-    }
-}
-
-/// The next line, which has to be whole and this text.
-#[tactic(auto, unfolding(crate::specs::Reading::exactly))]
-pub fn expect_line(reader: &mut LineReader<'_>, text: &[u8]) -> Result<(), Malformed>
-    ensures { Reads (λ u. u) reader.new result (exactly text.now reader.old) }
-{
-    let at = reader.offset();
-    if whole_line(reader)? == text {
-        Ok(())
-    } else {
-        Err(Malformed(at))
-    }
 }
 
 /// The text of the next line, which stays the next one. None exactly where no line is left or the next isn't whole.

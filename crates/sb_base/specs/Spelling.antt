@@ -22,6 +22,14 @@ DecimalIsSpelled = (text : List ℕ) (n most : ℕ) → most < 2 ^ 64 → dec_an
 abbrev pub LinesAreRead : Type 0
 LinesAreRead = (ls : List TextLine) → AreLines ls → lines_of (joined ls) ≡ ls
 
+-- the lines of any text make it up
+abbrev pub LinesMakeText : Type 0
+LinesMakeText = (text : List ℕ) → joined (lines_of text) ≡ text
+
+-- they are lines: no line feed stands in them, and only the last one can lack the one behind it
+abbrev pub LinesOfTextAreLines : Type 0
+LinesOfTextAreLines = (text : List ℕ) → AreLines (lines_of text)
+
 -- the size by which a reader's offset moves is the number of the line's bytes
 abbrev pub SizesAreLengths : Type 0
 SizesAreLengths = (l : TextLine) → size_of l ≡ length (bytes_of l)

@@ -1,6 +1,6 @@
 //! Laws of the definitions that readers and writers share. Each function does nothing; its contract is the law.
 
-ghost use Rattle.sb_base.specs.Spelling.{HexIsRead, HexIsSpelled, DecimalIsRead, DecimalIsSpelled, LinesAreRead, SizesAreLengths, WordsAreRead};
+ghost use Rattle.sb_base.specs.Spelling.{HexIsRead, HexIsSpelled, DecimalIsRead, DecimalIsSpelled, LinesAreRead, LinesMakeText, LinesOfTextAreLines, SizesAreLengths, WordsAreRead};
 ghost use Rattle.sb_base.specs.Writing.{WritesLines};
 
 /// Hexadecimal digits: each number has one text of a length, and it is read as that number.
@@ -15,9 +15,11 @@ pub fn decimal_spelling()
     ensures spelled { DecimalIsSpelled }
 {}
 
-/// Lines and words are read from the text that they make up.
+/// Lines and words are read from the text that they make up, and each text is made up of its lines.
 pub fn line_spelling()
     ensures lines { LinesAreRead }
+    ensures text { LinesMakeText }
+    ensures are_lines { LinesOfTextAreLines }
     ensures sizes { SizesAreLengths }
     ensures words { WordsAreRead }
 {}

@@ -14,7 +14,7 @@ use Rattle.witness_replay.specs.declared.schedule.ScheduleFault.TheVariants.{Mal
 use Rattle.witness_replay.specs.Spelling.{Plan, weight, most_choices, IsCounted, follows, AreRuns, IsSchedule, run_words, schedule_lines}
 use Rattle.witness_replay.specs.Reading.{fill_in, fill_by, header_by, runs_from, schedule_at, refused_at, schedule_in, ReadsUnlessMemory, TellsUnlessMemory}
 use Rattle.witness_replay.specs.Exact.{IsReading, NoneGoesOn, IsStuck, ReadIsSpelled, SpelledIsRead, RefusedIsStuck, ReadingIsText, TextIsReading, OneText, Finds}
-use Rattle.witness_replay.proofs.Steps.{chosen, some_is, none_some, ok_is, err_ok, bind_some, no_words, TakesLine, line_takes, line_refuses, line_again, passes_none, passes_more, passes_split, nil_cons, cons_is, then_ok, then_err}
+use Rattle.line_reading.proofs.Steps.{chosen, some_is, none_some, ok_is, err_ok, bind_some, no_words, TakesLine, line_takes, line_refuses, line_again, passes_none, passes_more, passes_split, nil_cons, cons_is, then_ok, then_err}
 use Rattle.witness_replay.proofs.Runs.{run_lines, runs_take, NoRun, last_of, left_after, runs_stuck, runs_again, are_words, same_run}
 
 abbrev pub header : List (List ℕ)

@@ -15,7 +15,7 @@ use Rattle.witness_replay.specs.declared.schedule.Run.{Run}
 use Rattle.witness_replay.specs.declared.schedule.Run.TheVariants.{Go, Take}
 use Rattle.witness_replay.specs.Spelling.{weight, most_choices, IsCounted, follows, AreRuns, bit, run_words}
 use Rattle.witness_replay.specs.Reading.{go_in, take_in, run_in, admits, admitted_in, part_by, with_front, with_part, runs_from}
-use Rattle.witness_replay.proofs.Steps.{chosen, some_is, none_some, ok_is, err_ok, err_is, bind_some, both, no_words, first_some, passes_none, passes_one, passes_more, passes_tail, passes_end, nil_cons}
+use Rattle.line_reading.proofs.Steps.{chosen, some_is, none_some, ok_is, err_ok, err_is, bind_some, both, no_words, first_some, passes_none, passes_one, passes_more, passes_tail, passes_end, nil_cons}
 
 -- ---- the words of a run
 

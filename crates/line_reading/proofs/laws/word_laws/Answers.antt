@@ -14,4 +14,6 @@ returns c = record {
   lines_stand = lines_stand;
   lines_text = lines_are_text;
   text_lines = text_is_lines c.line_spelling.ensures.lines;
+  text_joined = c.line_spelling.ensures.text;
+  are_lines = c.line_spelling.ensures.are_lines;
 }

@@ -20,6 +20,9 @@ ok_is x y e = cc
 pub err_ok : {A : Type 0} (q : Place) (y : A) → ◌≡◌ {A = Result A Place} (Err q) (Ok y) → ⊥
 err_ok q y e = cc
 
+pub err_is : {A : Type 0} (q r : Place) → ◌≡◌ {A = Result A Place} (Err q) (Err r) → q ≡ r
+err_is q r e = cc
+
 pub bind_some : {A B : Type 0} (o : Option A) (f : A → Option B) (y : B) → (o >>= f) ≡ Some y → (x : A) × (o ≡ Some x) × (f x ≡ Some y)
 bind_some None f y e = absurd (none_some y e)
 bind_some (Some x) f y e = (x, refl, e)
@@ -69,6 +72,10 @@ taken_ok : {A : Type 0} (d : Option A) (here next : Place) (x : A) (q : Place) �
 taken_ok {A} None here next x q e = absurd (err_ok {A = A × Place} here (x, q) e)
 taken_ok {A} (Some y) here next x q e = let p = ok_is {A = A × Place} (y, next) (x, q) e in (ap (λ (z : A × Place). Some z.0) p, ap (λ (z : A × Place). z.1) p)
 
+taken_err : {A : Type 0} (d : Option A) (here next q : Place) → taken d here next ≡ Err q → (d ≡ None) × (here ≡ q)
+taken_err {A} None here next q e = (refl, err_is {A = A × Place} here q e)
+taken_err {A} (Some y) here next q e = absurd (err_ok {A = A × Place} q (y, next) (sym e))
+
 line_takes_at : {A : Type 0} (f : List ℕ → Option A) (at : ℕ) (ls : List TextLine) (x : A) (q : Place) → line_by f (record { at = at; rest = ls }) ≡ Ok (x, q) → TakesLine f (record { at = at; rest = ls }) x q
 unfolding line_by
 line_takes_at f at [] x q e = let bad = taken_ok None (record { at = at; rest = [] }) (record { at = at; rest = [] }) x q e in absurd (none_some x bad.0)
@@ -79,6 +86,10 @@ line_takes_at f at (l ∷ ls) x q e =
 
 pub line_takes : {A : Type 0} (f : List ℕ → Option A) (p : Place) (x : A) (q : Place) → line_by f p ≡ Ok (x, q) → TakesLine f p x q
 line_takes f p x q e = line_takes_at f p.at p.rest x q e
+
+pub line_refuses : {A : Type 0} (f : List ℕ → Option A) (p q : Place) → line_by f p ≡ Err q → (first_by f p.rest ≡ None) × (p ≡ q)
+unfolding line_by
+line_refuses f p q e = taken_err (first_by f p.rest) p (passed p) q e
 
 -- a line that is spelled is read
 pub nil_cons : {A : Type 0} (x : A) (xs : List A) → [] ≡ x ∷ xs → ⊥
@@ -119,3 +130,7 @@ passes_split p q l ls h = (record { at = p.at + size_of l; rest = ls ++ q.rest }
 pub then_ok : {A B : Type 0} (d : Result A Place) (f : A → Result B Place) (y : B) → then_at d f ≡ Ok y → (x : A) × (d ≡ Ok x) × (f x ≡ Ok y)
 then_ok (Ok x) f y e = (x, refl, e)
 then_ok (Err q) f y e = absurd (err_ok q y e)
+
+pub then_err : {A B : Type 0} (d : Result A Place) (f : A → Result B Place) (q : Place) → then_at d f ≡ Err q → (d ≡ Err q) ⊎ ((x : A) × (d ≡ Ok x) × (f x ≡ Err q))
+then_err {A} {B} (Ok x) f q e = inr (x, refl, e)
+then_err {A} {B} (Err r) f q e = inl (let same = err_is {A = B} r q e in rw same refl)
