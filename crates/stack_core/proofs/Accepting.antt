@@ -1,33 +1,29 @@
 -- What status 0 of a check says, and when it comes.
-use Rattle.std.proofs.Common.{◌≡◌, ◌≤◌, ◌<◌, ◌*◌, ◌%◌, ◌==◌, ◌&&◌, nat_lt, ℕ, Bool, true, false, List, [], length, Option, Some, None, Result, Ok, Err, IsOkAnd, if◌then◌else◌, refl, sym, ap, ◌∙◌, subst, arith}
-use Rattle.std.specs.Prelude.{⊤, ◌↔◌}
+use Rattle.std.proofs.Common.{◌≡◌, ◌≤◌, ◌*◌, ◌%◌, ◌==◌, nat_lt, ℕ, Bool, true, false, List, [], length, Option, Some, None, Result, Ok, Err, if◌then◌else◌, refl, sym, ap, ◌∙◌, subst, arith}
+use Rattle.std.specs.Prelude.{◌↔◌}
 use Rattle.std.specs.Option.{option_map}
 use Rattle.std.proofs.lemmas.Bool.Decides.{nat_tests}
 use Rattle.avr_model.specs.declared.assumption.Entry.{Entry}
-use Rattle.avr_model.specs.declared.choice.Stop.{Stop}
-use Rattle.avr_model.specs.declared.choice.Stop.TheVariants as stop
 use Rattle.avr_model.specs.Image.{WORDS, IsRawImage, raw_words}
 use Rattle.avr_model.specs.Run.{Bounded}
 use Rattle.sb_base.specs.Outside.{Held, Bytes}
 use Rattle.witness_replay.specs.Spelling.{Plan}
-use Rattle.witness_replay.specs.Replay.{Report, replay_of}
+use Rattle.witness_replay.specs.Replay.{replay_of}
 use Rattle.cert_format.specs.Certificate.{Claim}
-use Rattle.cert_format.specs.Spelling.{text_of}
 use Rattle.cert_format.specs.Reading.{certificate_in}
-use Rattle.cert_format.specs.Exact.{IsCertificate, ReadIsSpelled, SpelledIsRead}
+use Rattle.cert_format.specs.Exact.{ReadIsSpelled, SpelledIsRead}
 use Rattle.cert_format.specs.Valid.{IsSound, IsAttained, IsValid}
 use Rattle.cert_check.specs.Verdict.{verdict_of}
 use Rattle.cert_check.specs.declared.verdict.Verdict.{Verdict}
 use Rattle.cert_check.specs.declared.verdict.Verdict.TheVariants.{Accepted, Rejected}
-use Rattle.stack_core.specs.declared.command.Kind.{Kind}
 use Rattle.stack_core.specs.declared.command.Kind.TheVariants.{Check}
-use Rattle.stack_core.specs.Commands.{Command, command_of}
 use Rattle.stack_core.specs.Texts.{accepted, too_long, elf_refused, raw_fault, witness_rejected}
-use Rattle.stack_core.specs.Reply.{Reply, Open, Says, Meets, file_in, firmware_cap, certificate_cap, second_cap, image_by, image_in, is_end, attains, witness_reply, verdict_reply, certificate_reply, second_reply, work_reply, command_reply, reply_of}
-use Rattle.elf_load.specs.Elf.{elf_fault, is_elf}
+use Rattle.stack_core.specs.Reply.{Reply, Open, Says, Meets, file_in, firmware_cap, certificate_cap, image_by, image_in, attains, witness_reply, verdict_reply, certificate_reply, second_reply, work_reply, reply_of}
+use Rattle.elf_load.specs.Elf.{is_elf}
 use Rattle.stack_core.specs.Firmware.{IsFirmwareBy, IsFirmware, words_by, firmware_words, fault_by, firmware_fault}
+use Rattle.stack_core.proofs.Replies.{attained_by, attains_by}
 use Rattle.stack_core.proofs.ElfWords.{one_elf, some_elf, no_refusal}
-use Rattle.stack_core.specs.Headline.{IsCheck, Holds, Headline, AreRead, IsExact}
+use Rattle.stack_core.specs.Headline.{IsCheck, Headline, AreRead, IsExact}
 
 -- the reply's status is 0
 abbrev IsZero : Reply → Type 0
@@ -110,30 +106,6 @@ module _
       by_zero (firmware_fault bytes) (next (firmware_words bytes)) (fault_of (is_elf bytes) bytes words firmware) (subst (λ ws. IsZero (next ws)) (words_of (is_elf bytes) bytes words firmware) h)
 
 -- ---- the schedule
-
-and_left : (a b : Bool) → (a && b) ≡ true → a ≡ true
-and_left true b h = refl
-and_left false b h = absurd (let wrong = h in cc)
-
-and_right : (a b : Bool) → (a && b) ≡ true → b ≡ true
-and_right true b h = h
-and_right false b h = absurd (let wrong = h in cc)
-
-is_end_end : (s : Stop) → is_end s ≡ true → s ≡ stop.End
-is_end_end stop.End h = refl
-is_end_end (stop.Flag f) h = absurd (let wrong = h in cc)
-is_end_end (stop.Undefined pc) h = absurd (let wrong = h in cc)
-is_end_end (stop.Overflow pc) h = absurd (let wrong = h in cc)
-
-attained_by : (bound : ℕ) (x : Result Report ℕ) → attains bound x ≡ true → IsOkAnd x (λ r. (r.stop ≡ stop.End) × (r.depth ≡ bound))
-attained_by bound (Err step) h = absurd (let wrong = h in cc)
-attained_by bound (Ok r) h =
-    let d : (r.depth == bound) ≡ true = and_right (is_end r.stop) (r.depth == bound) h in
-    (is_end_end r.stop (and_left (is_end r.stop) (r.depth == bound) h), grind (arith, nat_tests))
-
-attains_by : (bound : ℕ) (x : Result Report ℕ) → IsOkAnd x (λ r. (r.stop ≡ stop.End) × (r.depth ≡ bound)) → attains bound x ≡ true
-attains_by bound (Err step) h = absurd h
-attains_by bound (Ok r) h = let d : (r.depth == bound) ≡ true = (let e = h.1 in grind (arith, nat_tests)) in rw (h.0, d) refl
 
 zero_attains : (bound : ℕ) (attained : Bool) → IsZero (if attained then Says 0 (accepted bound true) else Says 1 witness_rejected) → attained ≡ true
 zero_attains bound true h = refl

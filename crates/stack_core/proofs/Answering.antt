@@ -1,8 +1,8 @@
 -- The answer where both files were read whole.
-use Rattle.std.proofs.Common.{◌≡◌, ◌≢◌, ◌≤◌, ℕ, List, length, Option, Some, refl, sym, ap, ◌∙◌, subst}
+use Rattle.std.proofs.Common.{◌≡◌, ◌≢◌, ◌≤◌, ℕ, List, length, Some, ◌∙◌, subst}
 use Rattle.sb_base.specs.Outside.{Held, Blamed, Gives}
 use Rattle.stack_core.specs.Commands.{Command, command_of}
-use Rattle.stack_core.specs.Reply.{Meets, file_in, firmware_cap, second_cap, work_reply, command_reply, reply_of, IsAnswer}
+use Rattle.stack_core.specs.Reply.{Meets, file_in, firmware_cap, second_cap, work_reply, command_reply, IsAnswer}
 use Rattle.stack_core.proofs.Replies.{file_meets}
 
 pub whole_answer : (words : List (List ℕ)) (holds : List ℕ → Held) (c : Command) (before middle after : ℕ) (blamed : Blamed) (there : Held) (cap : ℕ) (firmware second : List ℕ) (status : ℕ) (text : List ℕ)

@@ -1,7 +1,7 @@
 -- Where nothing was written.
-use Rattle.std.proofs.Common.{ℕ, ◌≡◌, List, [], ◌++◌, take, Option, Some, None, refl, ap, sym, inl}
+use Rattle.std.proofs.Common.{ℕ, ◌≡◌, List, [], Option, Some, None, refl, ap, sym, inl}
 use Rattle.std.proofs.lemmas.List.{append-nil}
-use Rattle.sb_base.specs.Outside.{Held, Blamed, grown, GrewByPrefix}
+use Rattle.sb_base.specs.Outside.{Held, Blamed, grown}
 use Rattle.stack_core.specs.Reply.{Reply, Open, Says, Meets, reply_of, Cuts}
 
 grown-none : (o : Option (List ℕ)) → o ≡ grown o []

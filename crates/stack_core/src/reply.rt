@@ -1,19 +1,19 @@
 //! The work on files that were read: what they are, and what is answered of them.
 
-ghost use Rattle.std.specs.Prelude.{◌≡◌, ◌≢◌, [], IfOk, true, false};
+ghost use Rattle.std.specs.Prelude.{◌≡◌, ◌≢◌, ◌↔◌, [], IfOk, IsTrue, true, false};
 ghost use Rattle.elf_load.specs.Elf.{is_elf};
 ghost use Rattle.sb_base.specs.Lines.{lines_of};
 ghost use Rattle.witness_replay.specs.Reading.{schedule_in};
 ghost use Rattle.witness_replay.specs.Replay.{replay_of, told};
 ghost use Rattle.cert_format.specs.Reading.{certificate_in};
+ghost use Rattle.cert_format.specs.Valid.{IsAttained};
 ghost use Rattle.cert_check.specs.Verdict.{verdict_of};
 ghost use Rattle.stack_core.specs.Texts.{schedule_malformed};
-ghost use Rattle.stack_core.specs.Reply.{Meets, LoadsBy, LoadsAs, attains, witness_reply, verdict_reply, certificate_reply, report_reply, schedule_reply, second_reply, work_reply};
+ghost use Rattle.stack_core.specs.Reply.{Meets, LoadsBy, LoadsAs, witness_reply, verdict_reply, certificate_reply, report_reply, schedule_reply, second_reply, work_reply};
 
 use crate::command::Kind;
 use crate::texts;
-use avr_model::choice::Stop;
-use cert_check::{Verdict, judge};
+use cert_check::{Verdict, is_attained, judge};
 use cert_format::{CertFault, Certificate};
 use elf_load::{Loaded, is_elf, load};
 use flash_image::laws::raw_images_are_their_words;
@@ -101,44 +101,29 @@ fn replay_alone(
     replay(flash, &Assumptions::empty(alloc), schedule)
 }
 
-/// Whether the replay of a schedule ends without a stop, at this depth.
-fn attains(alloc: Global, flash: &Flash, schedule: &Schedule, bound: u16) -> bool
-    ensures { result ≡ attains bound (replay_of flash.now [] schedule.now) }
+/// Whether a certificate's schedule attains its bound, without assumptions. One without a schedule passes.
+fn attains_alone(alloc: Global, flash: &Flash, certificate: &Certificate) -> bool
+    ensures { IsTrue result ↔ IsAttained flash.now [] certificate.now.bound certificate.now.witness }
 {
-    match replay_alone(alloc, flash, schedule) {
-        Ok(report) => report.stop == Stop::End && report.depth == bound,
-        Err(_) => false,
-    }
+    is_attained(flash, &Assumptions::empty(alloc), certificate)
 }
 
 /// What is answered of a certificate that is accepted but for its schedule.
-fn witnessed(
-    alloc: Global,
-    flash: &Flash,
-    bound: u16,
-    certificate: &Certificate,
-) -> Result<Reply, AllocError>
-    ensures reply { IfOk result (λ r. Meets (witness_reply flash.now bound certificate.now.witness) r.status r.text.items) }
+fn witnessed(alloc: Global, flash: &Flash, certificate: &Certificate) -> Result<Reply, AllocError>
+    ensures reply { IfOk result (λ r. Meets (witness_reply flash.now certificate.now.bound certificate.now.witness) r.status r.text.items) }
     ensures status { IfOk result (λ r. (r.status ≢ 3) × (r.status ≢ 4) × (r.status ≢ 12)) }
 {
-    match certificate.witness() {
-        None => Ok(Reply {
+    if attains_alone(alloc, flash, certificate) {
+        let attained = certificate.witness().is_some();
+        Ok(Reply {
             status: 0,
-            text: texts::accepted(alloc, bound, false)?,
-        }),
-        Some(schedule) => {
-            if attains(alloc, flash, schedule, bound) {
-                Ok(Reply {
-                    status: 0,
-                    text: texts::accepted(alloc, bound, true)?,
-                })
-            } else {
-                Ok(Reply {
-                    status: 1,
-                    text: texts::witness_rejected(alloc)?,
-                })
-            }
-        }
+            text: texts::accepted(alloc, certificate.bound(), attained)?,
+        })
+    } else {
+        Ok(Reply {
+            status: 1,
+            text: texts::witness_rejected(alloc)?,
+        })
     }
 }
 
@@ -148,7 +133,7 @@ fn judged(alloc: Global, flash: &Flash, certificate: &Certificate) -> Result<Rep
     ensures status { IfOk result (λ r. (r.status ≢ 3) × (r.status ≢ 4) × (r.status ≢ 12)) }
 {
     match judge(flash, &Assumptions::empty(alloc), certificate)? {
-        Verdict::Accepted(bound) => witnessed(alloc, flash, bound, certificate),
+        Verdict::Accepted(_) => witnessed(alloc, flash, certificate),
         Verdict::Rejected(reason) => Ok(Reply {
             status: 1,
             text: texts::rejected(alloc, &reason)?,

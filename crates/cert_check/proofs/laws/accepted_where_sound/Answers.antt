@@ -1,5 +1,5 @@
 use Rattle.cert_check.proofs.Reasons.{accepted_when_sound, sound_when_accepted}
-use Rattle.std.proofs.Common.{◌≡◌, ap, sym, ◌∙◌}
+use Rattle.std.proofs.Common.{ap, sym, ◌∙◌}
 use Rattle.cert_check.specs.declared.verdict.Verdict.TheVariants.{Accepted}
 use Rattle.cert_check.proofs.laws.accepted_where_sound.Goals as goal
 

@@ -1,4 +1,4 @@
-use Rattle.std.proofs.Common.{List, ℕ, map, sym, ◌∙◌, subst, length, ◌≤◌, ◌≡◌}
+use Rattle.std.proofs.Common.{List, ℕ, map, subst}
 use Rattle.std.specs.Borrow.{Bor}
 use Rattle.stack_core.proofs.Answering.{whole_answer}
 use Rattle.stack_core.specs.Reply.{Fetches, Meets, work_reply}

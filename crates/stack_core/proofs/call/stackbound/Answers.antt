@@ -1,4 +1,4 @@
-use Rattle.std.proofs.Common.{List, ℕ, map, ◌≡◌, ◌≢◌, sym, ◌∙◌}
+use Rattle.std.proofs.Common.{List, ℕ, map}
 use Rattle.std.specs.Borrow.{Bor}
 use Rattle.stack_core.proofs.Cutting.{nothing_cut}
 use Rattle.stack_core.proofs.Accepting.{zero_is_not_three}

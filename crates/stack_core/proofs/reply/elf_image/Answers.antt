@@ -1,4 +1,4 @@
-use Rattle.std.proofs.Common.{refl, ap, ◌∙◌}
+use Rattle.std.proofs.Common.{ap, ◌∙◌}
 use Rattle.std.specs.Option.{option_map}
 use Rattle.stack_core.specs.Texts.{elf_refused}
 use Rattle.stack_core.proofs.ElfWords.{one_elf}

@@ -1,11 +1,13 @@
-use Rattle.std.proofs.Common.{sym, ◌∙◌}
+use Rattle.std.proofs.Common.{refl, ap, ◌∙◌}
+use Rattle.stack_core.specs.Texts.{accepted}
 use Rattle.stack_core.proofs.Replies.{attained_reply, missed_reply}
 use Rattle.stack_core.proofs.reply.witnessed.Goals as goal
 
-pub returns-in_ok-accepted-in-Some-clause-reply : goal.returns-in_ok-accepted-in-Some-clause-reply
-returns-in_ok-accepted-in-Some-clause-reply c =
-    attained_reply c.args.flash.now c.args.bound c.args.certificate.now.witness c.in-Some.schedule.now _ (sym c.in-Some.ensures) (sym c.if-attains.ensures) c.in_ok-accepted-in-Some.ensures
+pub returns-in_ok-accepted-clause-reply : goal.returns-in_ok-accepted-clause-reply
+returns-in_ok-accepted-clause-reply c =
+    attained_reply c.args.flash.now c.args.certificate.now.bound c.witness.result c.args.certificate.now.witness _ (c.if-attains_alone.ensures.0 refl) c.witness.ensures
+    (c.in_ok-accepted.ensures ∙ ap (λ n. accepted n c.is_some-attained.result) c.bound.ensures ∙ ap (accepted c.args.certificate.now.bound) c.is_some-attained.ensures)
 
-pub returns-in_ok-witness_rejected-in-Some-clause-reply : goal.returns-in_ok-witness_rejected-in-Some-clause-reply
-returns-in_ok-witness_rejected-in-Some-clause-reply c =
-    missed_reply c.args.flash.now c.args.bound c.args.certificate.now.witness c.in-Some.schedule.now _ (sym c.in-Some.ensures) (sym c.if-attains.ensures) c.in_ok-witness_rejected-in-Some.ensures
+pub returns-in_ok-witness_rejected-clause-reply : goal.returns-in_ok-witness_rejected-clause-reply
+returns-in_ok-witness_rejected-clause-reply c =
+    missed_reply c.args.flash.now c.args.certificate.now.bound c.args.certificate.now.witness _ (λ a. let wrong = c.if-attains_alone.ensures.1 a in cc) c.in_ok-witness_rejected.ensures
