@@ -6,10 +6,10 @@ use Rattle.std.specs.Result.{IsErrAnd}
 use Rattle.std.proofs.lemmas.List.Elements.{All-nil, All-cons, All-head, All-tail, All-weaker}
 use Rattle.std.proofs.lemmas.Bool.{cases_lt, false≢true}
 use Rattle.std.proofs.lemmas.Bool.Decides.{nat_tests}
-use Rattle.abs_step.specs.declared.key.NodeKey.{NodeKey}
-use Rattle.abs_step.specs.declared.key.NodeFault.{NodeFault}
-use Rattle.abs_step.specs.Local.{root_key, local, cause_of}
-use Rattle.abs_step.specs.Family.{IsLanding, IsClosed}
+use Rattle.root_step.specs.declared.key.NodeKey.{NodeKey}
+use Rattle.root_step.specs.declared.key.NodeFault.{NodeFault}
+use Rattle.root_step.specs.Local.{root_key, local, cause_of}
+use Rattle.root_step.specs.Family.{IsLanding, IsClosed}
 use Rattle.cert_format.specs.Certificate.{Claim}
 use Rattle.cert_format.specs.Valid.{IsSound}
 use Rattle.cert_check.specs.declared.verdict.Verdict.TheVariants.{Accepted, Rejected}

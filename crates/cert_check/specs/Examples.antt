@@ -1,7 +1,7 @@
 -- Verdicts on small firmwares, worked by hand; each line computes.
 use Rattle.std.specs.Prelude.{ℕ, ◌≡◌, List, [], ◌∷◌, None, refl, replicate}
-use Rattle.abs_step.specs.declared.key.NodeKey.{NodeKey}
-use Rattle.abs_step.specs.Local.{local}
+use Rattle.root_step.specs.declared.key.NodeKey.{NodeKey}
+use Rattle.root_step.specs.Local.{local}
 use Rattle.avr_model.specs.Bits.{any_below, all_below}
 use Rattle.avr_model.specs.Sites.{is_scratch}
 use Rattle.avr_model.specs.Table.{decoded}

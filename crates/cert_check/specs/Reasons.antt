@@ -3,9 +3,9 @@ use Rattle.std.specs.Prelude.{ℕ, ◌≡◌, ◌≤◌, ◌<◌, List, take, Ok
 use Rattle.std.specs.List.{All, Contains, slice_get}
 use Rattle.std.specs.Option.{IsSomeAnd}
 use Rattle.std.specs.Result.{IsErrAnd}
-use Rattle.abs_step.specs.declared.key.NodeKey.{NodeKey}
-use Rattle.abs_step.specs.Local.{root_key, local, cause_of}
-use Rattle.abs_step.specs.Family.{IsLanding}
+use Rattle.root_step.specs.declared.key.NodeKey.{NodeKey}
+use Rattle.root_step.specs.Local.{root_key, local, cause_of}
+use Rattle.root_step.specs.Family.{IsLanding}
 use Rattle.cert_format.specs.Certificate.{Claim}
 use Rattle.cert_check.specs.declared.verdict.Reason.{Reason}
 use Rattle.cert_check.specs.declared.verdict.Reason.TheVariants.{Root, Node, Edge, Need, Bound}

@@ -1,9 +1,9 @@
 -- What is said of a certificate, but for its schedule. Source: own.
 use Rattle.std.specs.Prelude.{ℕ, ◌+◌, ◌==◌, ◌&&◌, max, nat_lt, Bool, List, [], ◌∷◌, Option, Some, None, Result, Ok, Err, if◌then◌else◌}
 use Rattle.std.specs.List.{list_any}
-use Rattle.abs_step.specs.declared.key.NodeKey.{NodeKey}
-use Rattle.abs_step.specs.declared.key.NodeFault.{NodeFault}
-use Rattle.abs_step.specs.Local.{root_key, local, cause_of}
+use Rattle.root_step.specs.declared.key.NodeKey.{NodeKey}
+use Rattle.root_step.specs.declared.key.NodeFault.{NodeFault}
+use Rattle.root_step.specs.Local.{root_key, local, cause_of}
 use Rattle.cert_format.specs.Certificate.{Claim}
 use Rattle.cert_check.specs.declared.verdict.Verdict.{Verdict}
 use Rattle.cert_check.specs.declared.verdict.Verdict.TheVariants.{Accepted, Rejected}

@@ -6,7 +6,7 @@ ghost use Rattle.cert_format.specs.Certificate.{Ascends, IsKey};
 ghost use Rattle.cert_check.specs.Verdict.{has_node as has_node_of, first_fault as first_fault_of, first_gap as first_gap_of, greatest_offset as greatest_offset_of};
 
 use crate::verdict::Reason;
-use abs_step::{NodeKey, local};
+use root_step::{NodeKey, local};
 use flash_image::Flash;
 
 /// Whether the node is among these, which ascend.

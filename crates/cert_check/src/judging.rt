@@ -8,8 +8,8 @@ ghost use Rattle.cert_check.specs.Reasons.{IsLeastReason};
 
 use crate::conditions::{first_fault, first_gap, greatest_offset, has_node};
 use crate::verdict::{Reason, Verdict};
-use abs_step::NodeKey;
-use abs_step::laws::closed_families_bound_every_run;
+use root_step::NodeKey;
+use root_step::laws::closed_families_bound_every_run;
 use cert_format::Certificate;
 use flash_image::Flash;
 use std::alloc::AllocError;

@@ -8,7 +8,7 @@ ghost use Rattle.cert_format.specs.Valid.{IsSound, IsAttained, IsValid};
 ghost use Rattle.cert_check.specs.declared.verdict.Verdict.TheVariants.{Accepted};
 ghost use Rattle.cert_check.specs.Verdict.{verdict_of};
 
-use abs_step::laws::closed_families_bound_every_run;
+use root_step::laws::closed_families_bound_every_run;
 
 /// The verdict accepts exactly the certificates whose conditions on all but the schedule hold, with their own bound.
 pub fn accepted_where_sound()

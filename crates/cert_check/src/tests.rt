@@ -4,7 +4,7 @@ ghost use Rattle.std.specs.Prelude.{◌≤◌, None};
 ghost use Rattle.cert_format.specs.Certificate.{IsClaim, claim_of};
 
 use crate::{Reason, Verdict, is_attained, judge};
-use abs_step::NodeKey;
+use root_step::NodeKey;
 use cert_format::Certificate;
 use flash_image::Flash;
 use sb_base::LineReader;

@@ -1,6 +1,6 @@
 //! What is said of a certificate.
 
-use abs_step::NodeKey;
+use root_step::NodeKey;
 
 /// Why a certificate is refused. Nodes are numbered from 0 in their order; the root's frame has the number 0.
 #[derive(Clone, Copy, Debug, PartialEq, Eq)]

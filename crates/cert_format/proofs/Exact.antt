@@ -6,7 +6,7 @@ use Rattle.std.proofs.lemmas.List.{map-append}
 use Rattle.std.proofs.lemmas.Grind.{flat_map-append}
 use Rattle.std.proofs.lemmas.List.Elements.{All-from_recursion}
 use Rattle.avr_model.specs.State.{SIZE}
-use Rattle.abs_step.specs.declared.key.NodeKey.{NodeKey}
+use Rattle.root_step.specs.declared.key.NodeKey.{NodeKey}
 use Rattle.sb_base.specs.Lines.{TextLine, Place, words_of, spaced, line, joined}
 use Rattle.sb_base.specs.Answers.{Answers}
 use Rattle.line_reading.specs.Reading.{line_by}

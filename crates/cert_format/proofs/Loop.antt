@@ -4,7 +4,7 @@ use Rattle.std.specs.Result.{IsErr, IsErrAnd, is_err, is_ok}
 use Rattle.std.specs.Bool.{if◌then◌else◌}
 use Rattle.std.proofs.lemmas.Bool.{false≢true}
 use Rattle.std.proofs.lemmas.List.{append-nil}
-use Rattle.abs_step.specs.declared.key.NodeKey.{NodeKey}
+use Rattle.root_step.specs.declared.key.NodeKey.{NodeKey}
 use Rattle.sb_base.specs.Lines.{Place}
 use Rattle.line_reading.specs.Reading.{line_by, then_at}
 use Rattle.cert_format.specs.declared.certificate.CertFault.{CertFault}

@@ -4,7 +4,7 @@ use Rattle.std.specs.Prelude.{⊤}
 use Rattle.std.proofs.lemmas.Bool.Decides.{nat_tests}
 use Rattle.std.proofs.lemmas.List.Elements.{recursion_from_All}
 use Rattle.std.specs.List.{AllByRecursion}
-use Rattle.abs_step.specs.declared.key.NodeKey.{NodeKey}
+use Rattle.root_step.specs.declared.key.NodeKey.{NodeKey}
 use Rattle.sb_base.specs.Lines.{TextLine, Place, words_of, spaced}
 use Rattle.line_reading.specs.Reading.{line_by}
 use Rattle.line_reading.specs.Words.{whole, Passes, WordLaws}

@@ -4,7 +4,7 @@ use Rattle.std.specs.Prelude.{ℕ, zero, suc, ◌≡◌, ◌+◌, ◌-◌, ◌==
 use Rattle.std.specs.Str.{bytes_eq}
 use Rattle.avr_model.specs.Image.{WORDS}
 use Rattle.avr_model.specs.State.{SIZE}
-use Rattle.abs_step.specs.declared.key.NodeKey.{NodeKey}
+use Rattle.root_step.specs.declared.key.NodeKey.{NodeKey}
 use Rattle.sb_base.specs.Lines.{TextLine, Place, lines_of, words_of}
 use Rattle.line_reading.specs.Reading.{◌>>=◌, hex_at, dec_at, word_at, these_at, marked_at, is_over, then_at, this_by, line_by}
 use Rattle.witness_replay.specs.Spelling.{Plan}

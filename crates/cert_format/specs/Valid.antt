@@ -3,8 +3,8 @@ use Rattle.std.specs.Prelude.{ℕ, ◌≡◌, ◌≤◌, List, Contains, Option,
 use Rattle.std.specs.List.{All}
 use Rattle.avr_model.specs.declared.assumption.Entry.{Entry}
 use Rattle.avr_model.specs.declared.choice.Stop.TheVariants as stop
-use Rattle.abs_step.specs.Local.{root_key}
-use Rattle.abs_step.specs.Family.{IsLanding}
+use Rattle.root_step.specs.Local.{root_key}
+use Rattle.root_step.specs.Family.{IsLanding}
 use Rattle.witness_replay.specs.Spelling.{Plan}
 use Rattle.witness_replay.specs.Replay.{replay_of}
 use Rattle.cert_format.specs.Certificate.{Claim}

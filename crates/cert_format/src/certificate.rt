@@ -4,7 +4,7 @@ ghost use Rattle.std.specs.Prelude.{◌≡◌};
 ghost use Rattle.std.specs.Option.{option_copied};
 ghost use Rattle.cert_format.specs.Certificate.{IsClaim};
 
-use abs_step::NodeKey;
+use root_step::NodeKey;
 use line_reading::Malformed;
 use std::marker::Model;
 use thiserror::Error;

@@ -19,10 +19,10 @@ use Rattle.avr_model.specs.State.{State, IsReset, RAMEND, is_sram, i_flag, depth
 use Rattle.avr_model.specs.Step.{Answer, Illegal, Undefined, Overflow, Flagged, Done, step, go, flagged_or}
 use Rattle.avr_model.specs.Vectors.{is_enabled, WATCHDOG}
 use Rattle.avr_model.specs.Run.{states_of, states_on, stop_of, stop_on, deepest, Bounded}
-use Rattle.abs_step.specs.declared.key.NodeKey.{NodeKey}
-use Rattle.abs_step.specs.declared.key.NodeFault.TheVariants.{UntrackedSp, TooDeep}
-use Rattle.abs_step.specs.Local.{root_key, going_on, local, local_of, immediate_local, push_unless}
-use Rattle.abs_step.specs.Family.{IsLanding, IsClosed}
+use Rattle.root_step.specs.declared.key.NodeKey.{NodeKey}
+use Rattle.root_step.specs.declared.key.NodeFault.TheVariants.{UntrackedSp, TooDeep}
+use Rattle.root_step.specs.Local.{root_key, going_on, local, local_of, immediate_local, push_unless}
+use Rattle.root_step.specs.Family.{IsLanding, IsClosed}
 
 -- the machine is at this node
 pub record IsAt (n : NodeKey) (m : State) : Type 0 where

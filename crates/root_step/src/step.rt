@@ -2,7 +2,7 @@
 
 ghost use Rattle.std.specs.Prelude.{◌≡◌, ◌≤◌, ◌<◌, ◌+◌, ◌%◌, Some};
 ghost use Rattle.avr_model.specs.Text.{far};
-ghost use Rattle.abs_step.specs.Local.{going_on, pushing, push_unless, popping, immediate_local, local_of, local};
+ghost use Rattle.root_step.specs.Local.{going_on, pushing, push_unless, popping, immediate_local, local_of, local};
 
 use crate::key::{NodeFault, NodeKey};
 use avr_decode::{ImmediateOp, Instr, decode, is_scratch};

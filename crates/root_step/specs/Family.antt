@@ -1,8 +1,8 @@
 -- Families of nodes that every run stays in.
 use Rattle.std.specs.Prelude.{ℕ, ◌≤◌, List, Contains, IsOkAnd}
 use Rattle.std.specs.List.{All}
-use Rattle.abs_step.specs.declared.key.NodeKey.{NodeKey}
-use Rattle.abs_step.specs.Local.{root_key, local}
+use Rattle.root_step.specs.declared.key.NodeKey.{NodeKey}
+use Rattle.root_step.specs.Local.{root_key, local}
 
 -- a node leads to a node of the family
 abbrev pub IsLanding : List ℕ → List NodeKey → NodeKey → Type 0

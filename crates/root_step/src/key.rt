@@ -1,7 +1,7 @@
 //! Places of a program, and why a place leads nowhere.
 
 ghost use Rattle.std.specs.Prelude.{◌≡◌};
-ghost use Rattle.abs_step.specs.Local.{cause_of};
+ghost use Rattle.root_step.specs.Local.{cause_of};
 
 /// A place of the root's frame: no interrupt is enabled, I is 0, no delay is due and the stack pointer is whole.
 #[derive(Clone, Copy, Debug, PartialEq, Eq, PartialOrd, Ord)]

@@ -8,9 +8,9 @@ use Rattle.avr_model.specs.Image.{WORDS}
 use Rattle.avr_model.specs.Text.{far}
 use Rattle.avr_model.specs.Sites.{instruction_at, is_scratch}
 use Rattle.avr_model.specs.State.{SIZE}
-use Rattle.abs_step.specs.declared.key.NodeKey.{NodeKey}
-use Rattle.abs_step.specs.declared.key.NodeFault.{NodeFault}
-use Rattle.abs_step.specs.declared.key.NodeFault.TheVariants.{UntrackedSp, Unsupported, TooDeep}
+use Rattle.root_step.specs.declared.key.NodeKey.{NodeKey}
+use Rattle.root_step.specs.declared.key.NodeFault.{NodeFault}
+use Rattle.root_step.specs.declared.key.NodeFault.TheVariants.{UntrackedSp, Unsupported, TooDeep}
 
 -- the place where every run begins
 abbrev pub root_key : NodeKey
