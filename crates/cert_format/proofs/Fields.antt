@@ -1,5 +1,5 @@
 -- The words of one line: what is read is spelled so, and what is spelled is read.
-use Rattle.std.proofs.Common.{ℕ, ◌+◌, ◌-◌, ◌<◌, ◌≤◌, ◌^◌, ◌≡◌, ◌&&◌, inl, inr, List, [], ◌∷◌, ◌++◌, true, refl, ap, ap₂, sym, ◌∙◌, arith, Some, None, cond, codes, nat_lt, subst, lit<, append-nil}
+use Rattle.std.proofs.Common.{ℕ, ◌<◌, ◌≤◌, ◌^◌, ◌≡◌, ◌&&◌, inl, inr, List, [], ◌∷◌, ◌++◌, true, refl, ap, ap₂, sym, ◌∙◌, arith, Some, None, cond, codes, nat_lt, subst, lit<, append-nil}
 use Rattle.std.proofs.lemmas.Bool.Decides.{nat_tests}
 use Rattle.std.proofs.lemmas.Slice.Eq.{bytes_eq-Decides}
 use Rattle.std.specs.Fmt.{decimal}

@@ -1,5 +1,5 @@
 -- The headline over bytes.
-use Rattle.std.specs.Prelude.{◌≡◌, ◌≤◌, ◌↔◌, ℕ, List, [], Option, Some, length, false}
+use Rattle.std.specs.Prelude.{◌≡◌, ◌≤◌, ◌↔◌, ℕ, List, [], Some, length}
 use Rattle.avr_model.specs.Run.{Bounded}
 use Rattle.sb_base.specs.Outside.{Held, Bytes}
 use Rattle.cert_format.specs.Certificate.{Claim}

@@ -1,5 +1,5 @@
 -- What the program answers: a function of the words and of the bytes that are held under the names in them.
-use Rattle.std.specs.Prelude.{◌≡◌, ◌≢◌, ◌⊎◌, ℕ, ◌+◌, ◌%◌, ◌==◌, ◌&&◌, not, nat_lt, ◌≤◌, List, [], ◌∷◌, ◌++◌, length, take, ⊤, Bool, true, false, Option, Some, None, Result, Ok, Err, if◌then◌else◌}
+use Rattle.std.specs.Prelude.{◌≡◌, ◌≢◌, ◌⊎◌, ℕ, ◌==◌, ◌&&◌, nat_lt, ◌≤◌, List, [], ◌∷◌, length, ⊤, Bool, true, false, Option, Some, None, Result, Ok, Err, if◌then◌else◌}
 use Rattle.avr_model.specs.declared.choice.Stop.{Stop}
 use Rattle.avr_model.specs.declared.choice.Stop.TheVariants as stop
 use Rattle.elf_load.specs.Elf.{is_elf}

@@ -3,7 +3,6 @@
 use Rattle.std.specs.Prelude.{ℕ, List, [], ◌∷◌, ◌++◌, codes, decimal, Bool, true, false, ◌≡◌, Option, Some, None}
 use Rattle.sb_base.specs.Digits.{hex_digits}
 use Rattle.sb_base.specs.Writing.{Written, with_words, with_end}
-use Rattle.avr_model.specs.declared.choice.Flag.{Flag}
 use Rattle.avr_model.specs.declared.choice.Flag.TheVariants.{Live, Protected, Transfer}
 use Rattle.avr_model.specs.declared.choice.Stop.{Stop}
 use Rattle.avr_model.specs.declared.choice.Stop.TheVariants as stop
