@@ -43,10 +43,12 @@ IsTagWithin t tag.EntryFlags = t ≡ tag.EntryFlags
 IsTagWithin t (tag.SpLo j) = t ≡ tag.SpLo j
 IsTagWithin t (tag.SpHi k) = t ≡ tag.SpHi k
 
+-- the same of carry tags
 abbrev pub IsCarryWithin : CarryTag → CarryTag → Type 0
 IsCarryWithin c carry.None = ⊤
 IsCarryWithin c (carry.Borrow j l) = c ≡ carry.Borrow j l
 
+-- the same tag, with the same number
 abbrev pub is_same_tag : Tag → Tag → Bool
 is_same_tag tag.None tag.None = true
 is_same_tag (tag.Entry r) (tag.Entry s) = r == s
@@ -55,24 +57,27 @@ is_same_tag (tag.SpLo j) (tag.SpLo k) = j == k
 is_same_tag (tag.SpHi j) (tag.SpHi k) = j == k
 is_same_tag t u = false
 
+-- the same carry tag, with the same numbers
 abbrev pub is_same_carry : CarryTag → CarryTag → Bool
 is_same_carry carry.None carry.None = true
 is_same_carry (carry.Borrow j l) (carry.Borrow k m) = (j == k) && (l == m)
 is_same_carry c d = false
 
--- equal tags are kept
+-- the tag where both are the same, else none
 abbrev pub tag_join : Tag → Tag → Tag
 tag_join t u = if is_same_tag t u then t else tag.None
 
+-- the same of carry tags
 abbrev pub carry_join : CarryTag → CarryTag → CarryTag
 carry_join c d = if is_same_carry c d then c else carry.None
 
 -- ---- base - k
 
--- the low and the high byte of base - k, modulo 65,536
+-- the tag of the low byte of base - k, modulo 65,536
 abbrev pub low_of : ℕ → Tag
 low_of k = tag.SpLo (k % 256)
 
+-- the tag of its high byte
 abbrev pub high_of : ℕ → Tag
 high_of k = tag.SpHi (k % 65536)
 
@@ -81,6 +86,7 @@ abbrev pub frame_of : Tag → Tag → Option ℕ
 frame_of (tag.SpLo j) (tag.SpHi k) = if j == k % 256 then Some k else None
 frame_of lo hi = None
 
+-- the tags of the low and of the high byte of base - k less a number, if there is such a k
 abbrev pub low_below : Option ℕ → ℕ → Tag
 low_below None down = tag.None
 low_below (Some k) down = low_of (k + down)
@@ -89,20 +95,21 @@ abbrev pub high_below : Option ℕ → ℕ → Tag
 high_below None down = tag.None
 high_below (Some k) down = high_of (k + down)
 
--- the pair less a number
+-- the tags of a pair less a number, the low byte's first
 abbrev pub pair_below : Tag → Tag → ℕ → Tag × Tag
 pair_below lo hi down = (low_below (frame_of lo hi) down, high_below (frame_of lo hi) down)
 
--- the low byte less a number l, and the borrow
+-- the tag of a low byte less a number
 abbrev pub low_less : Tag → ℕ → Tag
 low_less (tag.SpLo j) l = low_of (j + l)
 low_less t l = tag.None
 
+-- the carry tag of the borrow where a number is subtracted from a low byte
 abbrev pub borrow_of : Tag → ℕ → CarryTag
 borrow_of (tag.SpLo j) l = carry.Borrow j l
 borrow_of t l = carry.None
 
--- The high byte less a number and a borrow, where the borrow is that of the low byte.
+-- the tag of a high byte less a number and a borrow, where the borrow is that of its low byte
 abbrev pub high_less : Tag → ℕ → CarryTag → Tag
 high_less (tag.SpHi k) m (carry.Borrow j l) = if j == k % 256 then high_of (k + l + 256 * m) else tag.None
 high_less t m c = tag.None

@@ -1,9 +1,9 @@
 //! The bytes of a frame.
 
-ghost use Rattle.std.specs.Prelude.{◌≡◌, ◌<◌, ◌≤◌, ◌∷◌, ◌++◌, [], List, length, take, ◌-◌, slice_set, IfOk, OnOk, OnErr};
+ghost use Rattle.std.specs.Prelude.{◌≡◌, ◌<◌, ◌≤◌, ◌∷◌, ◌++◌, [], List, length, slice_set, IfOk, OnOk, OnErr};
 ghost use Rattle.std.specs.List.{slice_get};
 ghost use Rattle.sp_domain.specs.declared.slots.Slot.{Slot};
-ghost use Rattle.sp_domain.specs.Slots.{resized};
+ghost use Rattle.sp_domain.specs.Slots.{resized, IsPopped};
 
 use std::alloc::{AllocError, Global};
 use std::marker::Model;
@@ -74,8 +74,7 @@ impl<V: Copy> Slots<V> {
 
     /// Takes the last slot away and gives it: None where there is none.
     pub fn pop(&mut self) -> Option<Slot<V>>
-        ensures taken { result ≡ slice_get self.old (length self.old - 1) }
-        ensures left { self.new ≡ take (length self.old - 1) self.old }
+        ensures { IsPopped self.old result self.new }
     {
         self.items.pop()
     }
