@@ -113,9 +113,18 @@ fn nothing_is_known_without_the_borrow_of_the_low_byte(rt: HostRuntime) {
     assert_eq!(rt; lo, Tag::None);
     assert_eq!(rt; carry, CarryTag::None);
     assert_eq!(rt; sub_high(Tag::SpHi(2), 1, carry), Tag::None);
-    assert_eq!(rt; sub_high(Tag::SpHi(2), 1, CarryTag::Borrow(3, 0)), Tag::None);
-    assert_eq!(rt; sub_high(Tag::SpLo(2), 1, CarryTag::Borrow(2, 0)), Tag::None);
-    assert_eq!(rt; sub_high(Tag::SpHi(258), 1, CarryTag::Borrow(2, 7)), Tag::SpHi(521));
+    assert_eq!(rt;
+        sub_high(Tag::SpHi(2), 1, CarryTag::Borrow(3, 0)),
+        Tag::None
+    );
+    assert_eq!(rt;
+        sub_high(Tag::SpLo(2), 1, CarryTag::Borrow(2, 0)),
+        Tag::None
+    );
+    assert_eq!(rt;
+        sub_high(Tag::SpHi(258), 1, CarryTag::Borrow(2, 7)),
+        Tag::SpHi(521)
+    );
 }
 
 // Bases, places and amounts whose differences borrow, carry and wrap.
@@ -152,7 +161,10 @@ fn slots_are_pushed_and_popped_at_the_end(rt: HostRuntime) -> Result<(), Fail> {
     slots.push(Slot::Free)?;
     slots.push(Slot::Guarded(9))?;
     assert_eq!(rt; slots.len(), 3);
-    assert_eq!(rt; slots.as_slice(), [Slot::Guarded(7), Slot::Free, Slot::Guarded(9)].as_slice());
+    assert_eq!(rt;
+        slots.as_slice(),
+        [Slot::Guarded(7), Slot::Free, Slot::Guarded(9)].as_slice()
+    );
     assert_eq!(rt; slots.at(2), Some(Slot::Guarded(9)));
     assert_eq!(rt; slots.at(3), None);
     assert_eq!(rt; slots.pop(), Some(Slot::Guarded(9)));
@@ -171,8 +183,14 @@ fn slots_are_cut_and_grow_with_free_ones(rt: HostRuntime) -> Result<(), Fail> {
     slots.resize(1)?;
     assert_eq!(rt; slots.as_slice(), [Slot::Guarded(5)].as_slice());
     slots.resize(3)?;
-    assert_eq!(rt; slots.as_slice(), [Slot::Guarded(5), Slot::Free, Slot::Free].as_slice());
-    assert_eq!(rt; copy.as_slice(), [Slot::Guarded(5), Slot::Free, Slot::Guarded(6)].as_slice());
+    assert_eq!(rt;
+        slots.as_slice(),
+        [Slot::Guarded(5), Slot::Free, Slot::Free].as_slice()
+    );
+    assert_eq!(rt;
+        copy.as_slice(),
+        [Slot::Guarded(5), Slot::Free, Slot::Guarded(6)].as_slice()
+    );
     slots.resize(0)?;
     assert_eq!(rt; slots.len(), 0);
     slots.resize(65535)?;
