@@ -1,6 +1,6 @@
 -- Worked examples, computed from the definitions: how a compiler sets up a frame, seen in tags, and lists of slots.
-use Rattle.std.specs.Prelude.{ℕ, ◌≡◌, ◌-◌, refl, true, false, nat_lt, List, [], ◌∷◌, Some, None, replicate}
-use Rattle.avr_model.specs.State.{minus16, low, high}
+use Rattle.std.specs.Prelude.{ℕ, ◌≡◌, ◌-◌, refl, true, false, nat_lt, List, [], ◌∷◌, Some, None}
+use Rattle.avr_model.specs.State.{minus16}
 use Rattle.avr_model.specs.Sums.{difference_of}
 use Rattle.sp_domain.specs.declared.tags.Tag.TheVariants as tag
 use Rattle.sp_domain.specs.declared.tags.CarryTag.TheVariants as carry

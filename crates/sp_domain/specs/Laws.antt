@@ -1,13 +1,11 @@
 -- Laws of tags: they are ordered, they say less where they are greater, and the arithmetic on them is true of base - k modulo
 -- 65,536 for every base. Laws of slots: where each slot of a changed list comes from.
-use Rattle.std.specs.Prelude.{ℕ, ◌≡◌, ◌≢◌, ◌<◌, ◌≤◌, ◌%◌, ◌-◌, Bool, false, nat_lt, Option, Some, None, List, [], ◌∷◌, ◌++◌, length, take, slice_set}
+use Rattle.std.specs.Prelude.{ℕ, ◌≡◌, ◌≢◌, ◌<◌, ◌≤◌, ◌%◌, ◌-◌, Bool, false, nat_lt, Some, None, List, [], ◌∷◌, ◌++◌, length, take, slice_set}
 use Rattle.std.specs.List.{slice_get}
 use Rattle.avr_model.specs.State.{minus16, plus16, low, high}
 use Rattle.avr_model.specs.Sums.{difference_of}
 use Rattle.sp_domain.specs.declared.tags.Tag.{Tag}
-use Rattle.sp_domain.specs.declared.tags.Tag.TheVariants as tag
 use Rattle.sp_domain.specs.declared.tags.CarryTag.{CarryTag}
-use Rattle.sp_domain.specs.declared.tags.CarryTag.TheVariants as carry
 use Rattle.sp_domain.specs.declared.slots.Slot.{Slot}
 use Rattle.sp_domain.specs.declared.slots.Slot.TheVariants.{Free}
 use Rattle.sp_domain.specs.Slots.{slot_at, resized}
