@@ -1,0 +1,101 @@
+-- Laws of values and states: their order and join, that what stands still stands where less is said, and that entries and returns
+-- stand for what the machine does.
+use Rattle.std.specs.Prelude.{ℕ, ◌+◌, ◌-◌, ◌%◌, ◌≡◌, ◌<◌, ◌≤◌, ◌↔◌, true, List, [], ◌∷◌, ◌++◌, length, take, Option, Some, None}
+use Rattle.avr_model.specs.State.{State, Memory, IsReset, RAMEND, byte_in, is_live}
+use Rattle.sp_domain.specs.declared.slots.Slot.{Slot}
+use Rattle.sp_domain.specs.Tags.{Origin}
+use Rattle.sp_domain.specs.Slots.{slot_at, resized}
+use Rattle.abs_state.specs.declared.state.AbsByte.{AbsByte}
+use Rattle.abs_state.specs.declared.state.AbsFlags.{AbsFlags}
+use Rattle.abs_state.specs.declared.state.AbsState.{AbsState}
+use Rattle.abs_state.specs.Values.{value_at, root}
+use Rattle.abs_state.specs.Stands.{ByteStands, FlagsStand, RegistersStand, SlotStands, SlotsStand, Stands}
+use Rattle.abs_state.specs.Order.{IsByteWithin, IsFlagsWithin, IsSlotWithin, IsStateWithin, value_join, flags_join, slot_join, state_join, IsLeastAbove}
+use Rattle.abs_state.specs.Frames.{entered, returned, Conflict}
+use Rattle.abs_state.specs.Formed.{IsFormed, IsUntagged}
+
+-- `within` is a partial order on values, and a join is the least above both
+pub record ValuesAreOrdered : Type 0 where
+  pub same : (v : AbsByte) → IsByteWithin v v
+  pub through : (u v w : AbsByte) → IsByteWithin u v → IsByteWithin v w → IsByteWithin u w
+  pub both : (v w : AbsByte) → IsByteWithin v w → IsByteWithin w v → v ≡ w
+  pub first : (v w : AbsByte) → IsByteWithin v (value_join v w)
+  pub second : (v w : AbsByte) → IsByteWithin w (value_join v w)
+  pub least : (u v w : AbsByte) → IsByteWithin u w → IsByteWithin v w → IsByteWithin (value_join u v) w
+
+-- the same of the flags
+pub record FlagsAreOrdered : Type 0 where
+  pub same : (f : AbsFlags) → IsFlagsWithin f f
+  pub through : (f g h : AbsFlags) → IsFlagsWithin f g → IsFlagsWithin g h → IsFlagsWithin f h
+  pub both : (f g : AbsFlags) → IsFlagsWithin f g → IsFlagsWithin g f → f ≡ g
+  pub first : (f g : AbsFlags) → IsFlagsWithin f (flags_join f g)
+  pub second : (f g : AbsFlags) → IsFlagsWithin g (flags_join f g)
+  pub least : (f g h : AbsFlags) → IsFlagsWithin f h → IsFlagsWithin g h → IsFlagsWithin (flags_join f g) h
+
+-- The same of states; two of them have a join where they have as many slots. The states that are compared have 32 registers.
+pub record StatesAreOrdered : Type 0 where
+  pub same : (s : AbsState) → IsStateWithin s s
+  pub through : (s t u : AbsState) → IsStateWithin s t → IsStateWithin t u → IsStateWithin s u
+  pub both : (s t : AbsState) → length s.registers ≡ 32 → length t.registers ≡ 32 → IsStateWithin s t → IsStateWithin t s → s ≡ t
+  pub join : (s t : AbsState) → length s.registers ≡ 32 → length t.registers ≡ 32 → length s.slots ≡ length t.slots → IsLeastAbove s t (state_join s t)
+  pub within : (s t : AbsState) → length s.registers ≡ 32 → length t.registers ≡ 32 → IsStateWithin t s → state_join s t ≡ s
+
+-- what stands still stands where less is said
+pub record ValuesSayLess : Type 0 where
+  pub byte : (o : Origin) (v w : AbsByte) (x : ℕ) → IsByteWithin v w → ByteStands o v x → ByteStands o w x
+  pub flags : (o : Origin) (f g : AbsFlags) (sreg : ℕ) → IsFlagsWithin f g → FlagsStand o f sreg → FlagsStand o g sreg
+  pub slot : (o : Origin) (s t : Slot AbsByte) (memory : Memory) (a : ℕ) → IsSlotWithin s t → SlotStands o memory a s → SlotStands o memory a t
+  pub registers : (o : Origin) (s t : AbsState) (registers : List ℕ) → IsStateWithin s t → RegistersStand o s.registers registers → RegistersStand o t.registers registers
+  pub slots : (o : Origin) (s t : AbsState) (memory : Memory) → IsStateWithin s t → SlotsStand o memory s.slots → SlotsStand o memory t.slots
+  pub state : (o : Origin) (s t : AbsState) (m : State) → IsStateWithin s t → Stands o s m → Stands o t m
+
+-- the memory keeps what is live above a floor
+pub record Keeps (old new : Memory) (floor : ℕ) : Type 0 where
+  pub live : (a : ℕ) → floor < a → is_live old a ≡ true → is_live new a ≡ true
+  pub bytes : (a : ℕ) → floor < a → is_live old a ≡ true → byte_in new.bytes a ≡ byte_in old.bytes a
+
+-- Slots stand while the memory keeps what is live above a floor below them, and when one is added, or some are cut or added.
+pub record SlotsFollow : Type 0 where
+  pub kept : (o : Origin) (old new : Memory) (floor : ℕ) (slots : List (Slot AbsByte)) → Keeps old new floor → floor + length slots ≤ o.base
+      → SlotsStand o old slots → SlotsStand o new slots
+  pub pushed : (o : Origin) (memory : Memory) (slots : List (Slot AbsByte)) (s : Slot AbsByte) → SlotsStand o memory slots
+      → SlotStands o memory (o.base - length slots) s → SlotsStand o memory (slots ++ s ∷ [])
+  pub taken : (o : Origin) (memory : Memory) (slots : List (Slot AbsByte)) (n : ℕ) → SlotsStand o memory slots → SlotsStand o memory (take n slots)
+  pub resized : (o : Origin) (memory : Memory) (slots : List (Slot AbsByte)) (n : ℕ)
+      → ((d : ℕ) → d < n → d < length slots → SlotStands o memory (o.base - d) (slot_at slots d)) → SlotsStand o memory (resized n slots)
+
+-- After reset the root's state stands, in a frame with the reset state's registers whose base is the top of SRAM.
+pub record ResetStands : Type 0 where
+  pub stands : (m : State) → IsReset m → Stands (record { registers = m.registers; sreg = m.sreg; base = RAMEND }) root m
+  pub formed : IsFormed root 0
+  pub untagged : IsUntagged root
+
+-- An entry keeps the registers and flags 0 to 6: what stood for the caller stands for the new frame, whose origin has what they were.
+pub record EntriesAreTrue : Type 0 where
+  pub registers : (o : Origin) (s : AbsState) (registers : List ℕ) (sreg base : ℕ) → length s.registers ≡ 32 → RegistersStand o s.registers registers
+      → RegistersStand (record { registers = registers; sreg = sreg; base = base }) (entered s).registers registers
+  pub flags : (o : Origin) (s : AbsState) (offset : ℕ) (registers : List ℕ) (sreg new base : ℕ) → IsFormed s offset → new % 128 ≡ sreg % 128
+      → FlagsStand o s.flags sreg → FlagsStand (record { registers = registers; sreg = sreg; base = base }) (entered s).flags new
+  pub formed : (s : AbsState) (offset : ℕ) → IsFormed s offset → IsFormed (entered s) 0
+  pub more : (s t : AbsState) → length s.registers ≡ 32 → length t.registers ≡ 32 → IsStateWithin s t → IsStateWithin (entered s) (entered t)
+
+-- the callee's frame began with what the caller was left with: its registers, and its flags 0 to 6
+pub record IsEnteredFrom (registers : List ℕ) (sreg : ℕ) (o : Origin) : Type 0 where
+  pub registers_kept : o.registers ≡ registers
+  pub flags_kept : o.sreg % 128 ≡ sreg % 128
+
+-- A caller's state that stood when it was left, and a callee's that stands at its exit, give one that stands after the return, in the
+-- caller's frame. A return may set I.
+pub record ReturnsAreTrue : Type 0 where
+  pub stands : (o callee : Origin) (caller exit : AbsState) (offset : ℕ) (left registers : List ℕ) (left_sreg sreg new : ℕ) (memory : Memory)
+      → IsFormed caller offset → IsFormed exit 0
+      → RegistersStand o caller.registers left → FlagsStand o caller.flags left_sreg → SlotsStand o memory caller.slots
+      → IsEnteredFrom left left_sreg callee
+      → RegistersStand callee exit.registers registers → FlagsStand callee exit.flags sreg → new % 128 ≡ sreg % 128
+      → (t : AbsState) × (returned caller exit ≡ Some t) × RegistersStand o t.registers registers × FlagsStand o t.flags new × SlotsStand o memory t.slots
+  pub formed : (caller exit t : AbsState) (offset : ℕ) → IsFormed caller offset → IsFormed exit 0 → returned caller exit ≡ Some t → IsFormed t offset
+  pub untagged : (caller exit t : AbsState) (offset : ℕ) → IsFormed caller offset → IsFormed exit 0 → IsUntagged caller → returned caller exit ≡ Some t → IsUntagged t
+  pub more : (caller caller' exit exit' t : AbsState) (offset : ℕ) → IsFormed caller offset → IsFormed caller' offset → IsFormed exit 0 → IsFormed exit' 0
+      → IsStateWithin caller caller' → IsStateWithin exit exit' → returned caller exit ≡ Some t
+      → (t' : AbsState) × (returned caller' exit' ≡ Some t') × IsStateWithin t t'
+  pub none : (caller exit : AbsState) → length exit.registers ≡ 32 → returned caller exit ≡ None ↔ Conflict caller exit

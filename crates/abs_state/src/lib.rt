@@ -1,0 +1,8 @@
+//! What the analysis knows of the machine in one frame: of each register, of the flags and of the frame's bytes. A state stands
+//! for the machines that agree with it; the order, the join, and the states at an entry and after a return are here. Source: own.
+#![tactic(auto)]
+
+pub mod laws;
+pub mod state;
+
+pub use state::{AbsByte, AbsFlags, AbsState};
