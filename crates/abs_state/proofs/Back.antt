@@ -1,16 +1,15 @@
 -- One value and the flags after a return.
-use Rattle.std.proofs.Common.{◌≡◌, refl, sym, ◌∙◌, ap, subst, ℕ, ◌%◌, ◌<◌, Bool, true, false, List, length, Option, Some, None, slice_index, inl, inr, arith, eqb}
+use Rattle.std.proofs.Common.{◌≡◌, refl, sym, ◌∙◌, ap, subst, ℕ, ◌%◌, ◌<◌, Bool, true, false, List, Option, Some, None, arith, eqb}
 use Rattle.avr_model.specs.Sreg.{flag}
 use Rattle.std.specs.Int.{bit_at}
 use Rattle.bit_domain.specs.declared.bits.Tri.TheVariants.{Any}
 use Rattle.bit_domain.specs.declared.bytes.TriByte.{TriByte}
 use Rattle.bit_domain.specs.Tri.{Permits, tri_meet}
 use Rattle.bit_domain.specs.TriByte.{tri_at, Has, IsWithin}
-use Rattle.bit_domain.specs.Lattice.{byte_meet, IsIntersection, Differ}
+use Rattle.bit_domain.specs.Lattice.{byte_meet, IsIntersection}
 use Rattle.bit_domain.proofs.AllLaws.{lattice_is_of_sets, lattice_is_monotone}
 use Rattle.sp_domain.specs.declared.tags.Tag.{Tag}
 use Rattle.sp_domain.specs.declared.tags.Tag.TheVariants as tag
-use Rattle.sp_domain.specs.declared.tags.CarryTag.{CarryTag}
 use Rattle.sp_domain.specs.declared.tags.CarryTag.TheVariants as carry
 use Rattle.sp_domain.specs.Tags.{Origin, TagHolds, CarryHolds, IsTagWithin}
 use Rattle.abs_state.specs.declared.values.AbsByte.{AbsByte}

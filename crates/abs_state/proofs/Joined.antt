@@ -1,6 +1,5 @@
 -- A join of states that the analysis works with is one.
-use Rattle.std.proofs.Common.{◌≡◌, refl, sym, ◌∙◌, ap, subst, ℕ, ◌<◌, Bool, true, false, ◌&&◌, if◌then◌else◌, length, arith}
-use Rattle.bit_domain.specs.declared.bits.Tri.TheVariants.{Any}
+use Rattle.std.proofs.Common.{◌≡◌, sym, ◌∙◌, ap, subst, ℕ, ◌<◌, Bool, true, false, ◌&&◌, if◌then◌else◌, length, arith}
 use Rattle.bit_domain.specs.Tri.{tri_join}
 use Rattle.bit_domain.specs.TriByte.{tri_at}
 use Rattle.bit_domain.proofs.AllLaws.{bytes_are_their_bits}

@@ -7,4 +7,6 @@ pub mod Follow
 pub mod Start
 pub mod Back
 pub mod Returned
+pub mod Loops
+pub mod Named
 pub mod AllLaws

@@ -1,11 +1,7 @@
 -- The registers after a return by their numbers, and the state.
-use Rattle.std.proofs.Common.{◌≡◌, refl, sym, ◌∙◌, ap, subst, ℕ, zero, suc, ◌%◌, ◌<◌, List, [], ◌∷◌, length, Option, Some, None, slice_index, inl, inr, arith}
-use Rattle.bit_domain.specs.declared.bits.Tri.TheVariants.{Any}
-use Rattle.bit_domain.specs.TriByte.{tri_at}
+use Rattle.std.proofs.Common.{◌≡◌, refl, sym, ◌∙◌, ap, subst, ℕ, zero, suc, ◌%◌, ◌<◌, List, [], ◌∷◌, length, Option, Some, None, slice_index, arith}
 use Rattle.avr_model.specs.State.{Memory}
 use Rattle.sp_domain.specs.declared.slots.Slot.{Slot}
-use Rattle.sp_domain.specs.declared.tags.Tag.TheVariants as tag
-use Rattle.sp_domain.specs.Slots.{slot_at}
 use Rattle.sp_domain.specs.Tags.{Origin}
 use Rattle.abs_state.specs.declared.values.AbsByte.{AbsByte}
 use Rattle.abs_state.specs.declared.values.AbsFlags.{AbsFlags}
@@ -13,8 +9,8 @@ use Rattle.abs_state.specs.declared.state.AbsState.{AbsState}
 use Rattle.abs_state.specs.Values.{value_at}
 use Rattle.abs_state.specs.Stands.{ByteStands, RegistersStand, FlagsStand, SlotsStand}
 use Rattle.abs_state.specs.Order.{IsByteWithin, IsStateWithin}
-use Rattle.abs_state.specs.Frames.{value_returned, with_value, values_returned, flags_returned, state_of, returned, ValuesDiffer, FlagsDiffer, Conflict, in_register, in_flags}
-use Rattle.abs_state.specs.Formed.{NamesRegister, IsFormed, IsUntagged}
+use Rattle.abs_state.specs.Frames.{value_returned, with_value, values_returned, flags_returned, state_of, returned, Conflict, in_register, in_flags}
+use Rattle.abs_state.specs.Formed.{IsFormed, IsUntagged}
 use Rattle.abs_state.specs.Laws.{IsEnteredFrom, ReturnsAreTrue}
 use Rattle.abs_state.proofs.Start.{has_flags}
 use Rattle.abs_state.proofs.Back.{back_stands, back_more, none_back, differ_back, back_names, back_untagged, entry_same, flags_back_stand, flags_more, none_flags_back, differ_flags_back, flags_back_bit_7, flags_back_entry, flags_back_carry}
@@ -39,11 +35,11 @@ values_some caller (v ∷ vs) ws e =
     (sym parts.1.1.2)
     (ap suc rest.0, here parts.0 parts.1.0 parts.1.1.0 rest.1)
   where
-  here : (x : AbsByte) (xs : List AbsByte) → value_returned caller v ≡ Some x
-      → ((r : ℕ) → r < length vs → value_returned caller (value_at vs r) ≡ Some (value_at xs r))
-      → (r : ℕ) → r < length (v ∷ vs) → value_returned caller (value_at (v ∷ vs) r) ≡ Some (value_at (x ∷ xs) r)
-  here x xs first rest zero h = first
-  here x xs first rest (suc r) h = rest r (omega arith)
+    here : (x : AbsByte) (xs : List AbsByte) → value_returned caller v ≡ Some x
+        → ((r : ℕ) → r < length vs → value_returned caller (value_at vs r) ≡ Some (value_at xs r))
+        → (r : ℕ) → r < length (v ∷ vs) → value_returned caller (value_at (v ∷ vs) r) ≡ Some (value_at (x ∷ xs) r)
+    here x xs first rest zero h = first
+    here x xs first rest (suc r) h = rest r (omega arith)
 
 pub some_values : (caller exit ws : List AbsByte) → length ws ≡ length exit
     → ((r : ℕ) → r < length exit → value_returned caller (value_at exit r) ≡ Some (value_at ws r)) → values_returned caller exit ≡ Some ws
@@ -143,6 +139,11 @@ module _ (caller exit : AbsState) (n : length exit.registers ≡ 32) where
   pub none_returned : (returned caller exit ≡ None → Conflict caller exit) × (Conflict caller exit → returned caller exit ≡ None)
   none_returned = (conflict_at (values_returned caller.registers exit.registers) (flags_returned caller.flags exit.flags) refl refl, none_at)
 
+-- what is known of a state after a return that is answered
+pub answer_none : (caller exit : AbsState) → length exit.registers ≡ 32 → (t : Option AbsState) → t ≡ returned caller exit
+    → (t ≡ None → Conflict caller exit) × (Conflict caller exit → t ≡ None)
+answer_none caller exit n t e = ((λ none. (none_returned caller exit n).0 (sym e ∙ none)), (λ conflict. e ∙ (none_returned caller exit n).1 conflict))
+
 module _ (caller exit t : AbsState) (offset : ℕ) (a : IsFormed caller offset) (b : IsFormed exit 0) (e : returned caller exit ≡ Some t) where
   parts : (ws : List AbsByte) × ((g : AbsFlags) × ((values_returned caller.registers exit.registers ≡ Some ws) × (flags_returned caller.flags exit.flags ≡ Some g) × (t ≡ state_with caller.slots ws g)))
   parts = state_some caller.slots (values_returned caller.registers exit.registers) (flags_returned caller.flags exit.flags) t e
@@ -175,7 +176,7 @@ module _ (caller exit t : AbsState) (offset : ℕ) (a : IsFormed caller offset) 
       → (t' : AbsState) × ((returned caller' exit' ≡ Some t') × IsStateWithin t t')
   returned_more caller' exit' a' b' le over =
       let value : (r : ℕ) → r < length exit'.registers
-          → (w : AbsByte) × ((value_returned caller'.registers (value_at exit'.registers r) ≡ Some w) × IsByteWithin (value_at parts.0 r) w) = λ r h.
+      → (w : AbsByte) × ((value_returned caller'.registers (value_at exit'.registers r) ≡ Some w) × IsByteWithin (value_at parts.0 r) w) = λ r h.
       back_more caller.registers caller'.registers le.registers (value_at exit.registers r) (value_at exit'.registers r) (value_at parts.0 r)
       (b'.registers r (omega (arith, b'.count_registers))) (over.registers r (omega (arith, b'.count_registers))) (values.1 r (omega (arith, b.count_registers, b'.count_registers))) in
       let all = all_there caller'.registers exit'.registers (λ r h. let w = value r h in (w.0, w.1.0)) in
@@ -199,7 +200,7 @@ module _ (caller exit t : AbsState) (offset : ℕ) (a : IsFormed caller offset) 
       )
 
 module _ (o callee : Origin) (caller exit : AbsState) (offset : ℕ) (left registers : List ℕ) (left_sreg sreg new : ℕ) (memory : Memory)
-  (a : IsFormed caller offset) (b : IsFormed exit 0) (kept : IsEnteredFrom left left_sreg callee) where
+    (a : IsFormed caller offset) (b : IsFormed exit 0) (kept : IsEnteredFrom left left_sreg callee) where
   abbrev pub HasReturned : Type 0
   HasReturned = (t : AbsState) × (returned caller exit ≡ Some t) × RegistersStand o t.registers registers × FlagsStand o t.flags new × SlotsStand o memory t.slots
 
@@ -208,13 +209,13 @@ module _ (o callee : Origin) (caller exit : AbsState) (offset : ℕ) (left regis
   returned_stands values flags slots values_out flags_out same =
       let values_in : RegistersStand o caller.registers callee.registers = subst (RegistersStand o caller.registers) (sym kept.registers_kept) values in
       let value : (r : ℕ) → r < 32
-          → (w : AbsByte) × ((value_returned caller.registers (value_at exit.registers r) ≡ Some w) × ByteStands o w (slice_index registers r)) = λ r h.
+      → (w : AbsByte) × ((value_returned caller.registers (value_at exit.registers r) ≡ Some w) × ByteStands o w (slice_index registers r)) = λ r h.
       let v = value_at exit.registers r in
       back_stands o callee caller.registers values_in v.tag v.bits (slice_index registers r) (b.registers r h) (values_out r h).tag (values_out r h).bits in
       let all = all_there caller.registers exit.registers (λ r h. let w = value r (omega (arith, b.count_registers)) in (w.0, w.1.0)) in
       let at = values_some caller.registers exit.registers all.0 all.1 in
       let f = flags_back_stand o callee caller.flags left_sreg new kept.flags_kept flags a.bit_7 exit.flags.entry exit.flags.bits
-          (entry_same callee exit.flags.entry sreg new same flags_out.entry) (has_flags exit.flags.bits sreg new b.bit_7 (sym same) flags_out.bits) in (
+      (entry_same callee exit.flags.entry sreg new same flags_out.entry) (has_flags exit.flags.bits sreg new b.bit_7 (sym same) flags_out.bits) in (
         state_with caller.slots all.0 f.0,
         some_state caller.slots (values_returned caller.registers exit.registers) (flags_returned caller.flags exit.flags) all.0 f.0 all.1 f.1.0,
         (λ r h.

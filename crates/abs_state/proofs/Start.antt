@@ -1,5 +1,5 @@
 -- The root's state at reset, and the states at entries.
-use Rattle.std.proofs.Common.{◌≡◌, refl, sym, ◌∙◌, ap, subst, ℕ, zero, suc, ◌+◌, ◌*◌, ◌/◌, ◌%◌, ◌-◌, ◌^◌, ◌<◌, ◌≤◌, ◌==◌, Bool, true, false, if◌then◌else◌, List, [], ◌∷◌, length, replicate, slice_index, inl, inr, arith}
+use Rattle.std.proofs.Common.{◌≡◌, refl, sym, ◌∙◌, ap, subst, ℕ, zero, suc, ◌+◌, ◌*◌, ◌/◌, ◌%◌, ◌^◌, ◌<◌, ◌==◌, Bool, true, false, if◌then◌else◌, List, [], ◌∷◌, length, slice_index, inl, inr, arith}
 use Rattle.std.proofs.lemmas.List.{get_or-replicate}
 use Rattle.std.proofs.Math.ListN.{length-replicate}
 use Rattle.std.proofs.lemmas.Bool.{cases_eq}
@@ -9,18 +9,18 @@ use Rattle.bit_domain.specs.declared.bits.Tri.{Tri}
 use Rattle.bit_domain.specs.declared.bits.Tri.TheVariants.{Zero, Any}
 use Rattle.bit_domain.specs.declared.bytes.TriByte.{TriByte}
 use Rattle.bit_domain.specs.Tri.{Permits}
-use Rattle.bit_domain.specs.TriByte.{tri_at, Has}
+use Rattle.bit_domain.specs.TriByte.{tri_of, tri_at, byte_of, Has}
+use Rattle.bit_domain.specs.Packed.{packed}
 use Rattle.bit_domain.proofs.AllLaws.{bytes_are_their_bits, bytes_are_sets}
-use Rattle.avr_model.specs.State.{State, IsReset, RAMEND}
+use Rattle.avr_model.specs.State.{RAMEND}
 use Rattle.sp_domain.specs.declared.tags.Tag.TheVariants as tag
-use Rattle.sp_domain.specs.Tags.{Origin}
 use Rattle.abs_state.specs.declared.values.AbsByte.{AbsByte}
 use Rattle.abs_state.specs.declared.state.AbsState.{AbsState}
 use Rattle.abs_state.specs.Values.{unknown, value_at, clear_flags, root}
-use Rattle.abs_state.specs.Stands.{ByteStands, RegistersStand, FlagsStand, Stands}
-use Rattle.abs_state.specs.Order.{IsByteWithin, IsStateWithin}
+use Rattle.abs_state.specs.Stands.{ByteStands}
+use Rattle.abs_state.specs.Order.{IsByteWithin}
 use Rattle.abs_state.specs.Frames.{tagged_from, entered}
-use Rattle.abs_state.specs.Formed.{NamesRegister, IsFormed, IsUntagged}
+use Rattle.abs_state.specs.Formed.{NamesRegister}
 use Rattle.abs_state.specs.Laws.{ResetStands, EntriesAreTrue}
 
 -- ---- reset
@@ -35,6 +35,11 @@ clear_permits false = refl
 clear_has : Has clear_flags 0
 clear_has = bytes_are_sets.built (λ i. if i == 7 then Any else Zero) 0 (λ i h.
     subst (λ (n : ℕ). Permits (if i == 7 then Any else Zero) n) (sym (bit_at-zero i)) (clear_permits (i == 7)))
+
+-- the flags after reset as code writes them
+pub cleared : byte_of (λ i. tri_of (bit_at 0x7F i) (bit_at 0 i)) ≡ clear_flags
+unfolding packed
+cleared = bytes_are_their_bits.from_fields (byte_of (λ i. tri_of (bit_at 0x7F i) (bit_at 0 i))) clear_flags refl refl
 
 pub reset_stands : ResetStands
 reset_stands = record {
@@ -62,14 +67,14 @@ reset_stands = record {
 
 -- ---- entries
 
-abbrev tagged : AbsByte → ℕ → AbsByte
+abbrev pub tagged : AbsByte → ℕ → AbsByte
 tagged v r = record { tag = tag.Entry r; bits = v.bits }
 
 pub length-tagged_from : (n : ℕ) (vs : List AbsByte) → length (tagged_from n vs) ≡ length vs
 length-tagged_from n [] = refl
 length-tagged_from n (v ∷ vs) = ap suc (length-tagged_from (suc n) vs)
 
-pub value_at-tagged : (vs : List AbsByte) (n r : ℕ) → r < length vs → value_at (tagged_from n vs) r ≡ record { tag = tag.Entry (n + r); bits = (value_at vs r).bits }
+value_at-tagged : (vs : List AbsByte) (n r : ℕ) → r < length vs → value_at (tagged_from n vs) r ≡ record { tag = tag.Entry (n + r); bits = (value_at vs r).bits }
 value_at-tagged [] n r h = absurd (omega arith)
 value_at-tagged (v ∷ vs) n zero h =
     let e : n ≡ n + 0 = omega arith in
@@ -78,10 +83,13 @@ value_at-tagged (v ∷ vs) n (suc r) h =
     let e : suc n + r ≡ n + suc r = omega arith in
     value_at-tagged vs (suc n) r (omega arith) ∙ ap (λ (k : ℕ). tagged (value_at vs r) k) e
 
-entered_value : (s : AbsState) (r : ℕ) → length s.registers ≡ 32 → r < 32 → value_at (entered s).registers r ≡ tagged (value_at s.registers r) r
-entered_value s r n h =
+pub tagged_value : (vs : List AbsByte) (r : ℕ) → r < length vs → value_at (tagged_from 0 vs) r ≡ tagged (value_at vs r) r
+tagged_value vs r h =
     let e : 0 + r ≡ r = omega arith in
-    value_at-tagged s.registers 0 r (omega arith) ∙ ap (λ (k : ℕ). tagged (value_at s.registers r) k) e
+    value_at-tagged vs 0 r h ∙ ap (λ (k : ℕ). tagged (value_at vs r) k) e
+
+entered_value : (s : AbsState) (r : ℕ) → length s.registers ≡ 32 → r < 32 → value_at (entered s).registers r ≡ tagged (value_at s.registers r) r
+entered_value s r n h = tagged_value s.registers r (omega arith)
 
 -- the low k bits of a number are those of its remainder
 pub low_bits : (x k i : ℕ) → i < k → bit_at x i ≡ bit_at (x % 2 ^ k) i

@@ -1,6 +1,6 @@
 -- The order and the join of states, and what stands where less is said.
 use Rattle.std.proofs.Common.{◌≡◌, refl, sym, ◌∙◌, ap, subst, ℕ, ◌-◌, ◌<◌, List, length, arith}
-use Rattle.avr_model.specs.State.{State, Memory, byte_in}
+use Rattle.avr_model.specs.State.{Memory, byte_in}
 use Rattle.sp_domain.specs.declared.slots.Slot.{Slot}
 use Rattle.sp_domain.specs.declared.slots.Slot.TheVariants.{Free, Guarded}
 use Rattle.sp_domain.specs.Tags.{Origin}
@@ -74,10 +74,10 @@ state_through s t u a b = record {
 pub state_both : (s t : AbsState) → length s.registers ≡ 32 → length t.registers ≡ 32 → IsStateWithin s t → IsStateWithin t s → s ≡ t
 state_both s t m n a b =
     let p : s.registers ≡ t.registers = same_items unknown s.registers t.registers (m ∙ sym n) (λ r h.
-        byte_both (value_at s.registers r) (value_at t.registers r) (a.registers r (omega arith)) (b.registers r (omega arith))) in
+    byte_both (value_at s.registers r) (value_at t.registers r) (a.registers r (omega arith)) (b.registers r (omega arith))) in
     let q = flags_are_ordered.both s.flags t.flags a.flags b.flags in
     let r : s.slots ≡ t.slots = same_items Free s.slots t.slots a.count (λ d h.
-        slot_both (slot_at s.slots d) (slot_at t.slots d) (a.slots d (omega (arith, a.count))) (b.slots d h)) in
+    slot_both (slot_at s.slots d) (slot_at t.slots d) (a.slots d (omega (arith, a.count))) (b.slots d h)) in
     λ i. record { registers = p i; flags = q i; slots = r i }
 
 pub state_least : (s t : AbsState) → length s.registers ≡ 32 → length t.registers ≡ 32 → length s.slots ≡ length t.slots → IsLeastAbove s t (state_join s t)
@@ -116,6 +116,10 @@ pub state_within : (s t : AbsState) → length s.registers ≡ 32 → length t.r
 state_within s t m n le =
     let join = state_least s t m n (sym le.count) in
     state_both (state_join s t) s (length-values_join s.registers t.registers (m ∙ sym n) ∙ m) m (join.least s (state_same s) le) join.first
+
+-- a state that is joined with one which isn't within it grows
+pub state_grows : (s t : AbsState) → length s.registers ≡ 32 → length t.registers ≡ 32 → length s.slots ≡ length t.slots → (IsStateWithin t s → ⊥) → state_join s t ≡ s → ⊥
+state_grows s t m n e not_within same = not_within (subst (IsStateWithin t) same (state_least s t m n e).second)
 
 pub states_are_ordered : StatesAreOrdered
 states_are_ordered = record {

@@ -55,7 +55,11 @@ fn tagged(registers: &[AbsByte; 32]) -> [AbsByte; 32]
 {
     let mut tagged = *registers;
     for r in 0..32u8 {
-        tagged[usize::from(r)].tag = Tag::Entry(r);
+        let at = usize::from(r);
+        tagged[at] = AbsByte {
+            tag: Tag::Entry(r),
+            bits: registers[at].bits,
+        };
     }
     tagged
 }
