@@ -1,0 +1,12 @@
+pub mod Tags
+pub mod Ordered
+pub mod Listed
+pub mod Whole
+pub mod Joined
+pub mod Follow
+pub mod Start
+pub mod Back
+pub mod Returned
+pub mod Loops
+pub mod Named
+pub mod AllLaws

@@ -1,15 +1,14 @@
 -- What holds of every state that the analysis works with. Source: own.
-use Rattle.std.specs.Prelude.{ℕ, ◌≡◌, ◌<◌, ⊤, false, List, length}
+use Rattle.std.specs.Prelude.{ℕ, ◌≡◌, ◌<◌, ⊤, false, length}
 use Rattle.bit_domain.specs.declared.bits.Tri.TheVariants.{Any}
 use Rattle.bit_domain.specs.TriByte.{tri_at}
 use Rattle.sp_domain.specs.declared.tags.Tag.{Tag}
 use Rattle.sp_domain.specs.declared.tags.Tag.TheVariants as tag
-use Rattle.sp_domain.specs.declared.tags.CarryTag.{CarryTag}
 use Rattle.sp_domain.specs.declared.tags.CarryTag.TheVariants as carry
 use Rattle.sp_domain.specs.declared.slots.Slot.{Slot}
 use Rattle.sp_domain.specs.declared.slots.Slot.TheVariants.{Free, Guarded}
 use Rattle.sp_domain.specs.Slots.{slot_at}
-use Rattle.abs_state.specs.declared.state.AbsByte.{AbsByte}
+use Rattle.abs_state.specs.declared.values.AbsByte.{AbsByte}
 use Rattle.abs_state.specs.declared.state.AbsState.{AbsState}
 use Rattle.abs_state.specs.Values.{value_at}
 

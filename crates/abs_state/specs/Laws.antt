@@ -1,16 +1,16 @@
 -- Laws of values and states: their order and join, that what stands still stands where less is said, and that entries and returns
 -- stand for what the machine does.
-use Rattle.std.specs.Prelude.{ℕ, ◌+◌, ◌-◌, ◌%◌, ◌≡◌, ◌<◌, ◌≤◌, ◌↔◌, true, List, [], ◌∷◌, ◌++◌, length, take, Option, Some, None}
+use Rattle.std.specs.Prelude.{ℕ, ◌+◌, ◌-◌, ◌%◌, ◌≡◌, ◌<◌, ◌≤◌, ◌↔◌, true, List, [], ◌∷◌, ◌++◌, length, take, Some, None}
 use Rattle.avr_model.specs.State.{State, Memory, IsReset, RAMEND, byte_in, is_live}
 use Rattle.sp_domain.specs.declared.slots.Slot.{Slot}
 use Rattle.sp_domain.specs.Tags.{Origin}
 use Rattle.sp_domain.specs.Slots.{slot_at, resized}
-use Rattle.abs_state.specs.declared.state.AbsByte.{AbsByte}
-use Rattle.abs_state.specs.declared.state.AbsFlags.{AbsFlags}
+use Rattle.abs_state.specs.declared.values.AbsByte.{AbsByte}
+use Rattle.abs_state.specs.declared.values.AbsFlags.{AbsFlags}
 use Rattle.abs_state.specs.declared.state.AbsState.{AbsState}
-use Rattle.abs_state.specs.Values.{value_at, root}
+use Rattle.abs_state.specs.Values.{root}
 use Rattle.abs_state.specs.Stands.{ByteStands, FlagsStand, RegistersStand, SlotStands, SlotsStand, Stands}
-use Rattle.abs_state.specs.Order.{IsByteWithin, IsFlagsWithin, IsSlotWithin, IsStateWithin, value_join, flags_join, slot_join, state_join, IsLeastAbove}
+use Rattle.abs_state.specs.Order.{IsByteWithin, IsFlagsWithin, IsSlotWithin, IsStateWithin, value_join, flags_join, state_join, IsLeastAbove}
 use Rattle.abs_state.specs.Frames.{entered, returned, Conflict}
 use Rattle.abs_state.specs.Formed.{IsFormed, IsUntagged}
 
@@ -39,6 +39,11 @@ pub record StatesAreOrdered : Type 0 where
   pub both : (s t : AbsState) → length s.registers ≡ 32 → length t.registers ≡ 32 → IsStateWithin s t → IsStateWithin t s → s ≡ t
   pub join : (s t : AbsState) → length s.registers ≡ 32 → length t.registers ≡ 32 → length s.slots ≡ length t.slots → IsLeastAbove s t (state_join s t)
   pub within : (s t : AbsState) → length s.registers ≡ 32 → length t.registers ≡ 32 → IsStateWithin t s → state_join s t ≡ s
+
+-- A join of states that the analysis works with is one, and a join of untagged states is untagged.
+pub record JoinsAreFormed : Type 0 where
+  pub formed : (s t : AbsState) (offset : ℕ) → IsFormed s offset → IsFormed t offset → IsFormed (state_join s t) offset
+  pub untagged : (s t : AbsState) (offset : ℕ) → IsFormed s offset → IsFormed t offset → IsUntagged s → IsUntagged t → IsUntagged (state_join s t)
 
 -- what stands still stands where less is said
 pub record ValuesSayLess : Type 0 where

@@ -4,3 +4,4 @@ pub mod Order
 pub mod Frames
 pub mod Formed
 pub mod Laws
+pub mod Examples

@@ -1,13 +1,13 @@
 -- Order and join of values and states: a greater one says less. Source: own.
-use Rattle.std.specs.Prelude.{ℕ, zero, suc, ◌≡◌, ◌<◌, ⊤, Bool, true, ◌&&◌, List, [], ◌∷◌, length}
+use Rattle.std.specs.Prelude.{ℕ, ◌≡◌, ◌<◌, ⊤, true, ◌&&◌, List, [], ◌∷◌, length}
 use Rattle.bit_domain.specs.TriByte.{IsWithin}
 use Rattle.bit_domain.specs.Lattice.{byte_join}
 use Rattle.sp_domain.specs.declared.slots.Slot.{Slot}
 use Rattle.sp_domain.specs.declared.slots.Slot.TheVariants.{Free, Guarded}
 use Rattle.sp_domain.specs.Tags.{IsTagWithin, IsCarryWithin, tag_join, carry_join}
 use Rattle.sp_domain.specs.Slots.{slot_at}
-use Rattle.abs_state.specs.declared.state.AbsByte.{AbsByte}
-use Rattle.abs_state.specs.declared.state.AbsFlags.{AbsFlags}
+use Rattle.abs_state.specs.declared.values.AbsByte.{AbsByte}
+use Rattle.abs_state.specs.declared.values.AbsFlags.{AbsFlags}
 use Rattle.abs_state.specs.declared.state.AbsState.{AbsState}
 use Rattle.abs_state.specs.Values.{value_at}
 

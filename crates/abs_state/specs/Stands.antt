@@ -8,8 +8,8 @@ use Rattle.sp_domain.specs.declared.slots.Slot.{Slot}
 use Rattle.sp_domain.specs.declared.slots.Slot.TheVariants.{Free, Guarded}
 use Rattle.sp_domain.specs.Tags.{Origin, TagHolds, CarryHolds}
 use Rattle.sp_domain.specs.Slots.{slot_at}
-use Rattle.abs_state.specs.declared.state.AbsByte.{AbsByte}
-use Rattle.abs_state.specs.declared.state.AbsFlags.{AbsFlags}
+use Rattle.abs_state.specs.declared.values.AbsByte.{AbsByte}
+use Rattle.abs_state.specs.declared.values.AbsFlags.{AbsFlags}
 use Rattle.abs_state.specs.declared.state.AbsState.{AbsState}
 use Rattle.abs_state.specs.Values.{value_at}
 

@@ -1,14 +1,11 @@
 -- What the analysis knows of a byte, of the status register and of a frame. Source: own; the bits by Regehr, Reid and Webb.
-use Rattle.std.specs.Prelude.{ℕ, ◌==◌, Bool, true, false, List, [], replicate, if◌then◌else◌, slice_index_or}
-use Rattle.bit_domain.specs.declared.bits.Tri.{Tri}
+use Rattle.std.specs.Prelude.{ℕ, ◌==◌, false, List, [], replicate, if◌then◌else◌, slice_index_or}
 use Rattle.bit_domain.specs.declared.bits.Tri.TheVariants.{Zero, Any}
 use Rattle.bit_domain.specs.declared.bytes.TriByte.{TriByte}
 use Rattle.bit_domain.specs.TriByte.{byte_of, byte_any, byte_known}
-use Rattle.sp_domain.specs.declared.tags.Tag.{Tag}
 use Rattle.sp_domain.specs.declared.tags.Tag.TheVariants as tag
 use Rattle.sp_domain.specs.declared.tags.CarryTag.TheVariants as carry
-use Rattle.abs_state.specs.declared.state.AbsByte.{AbsByte}
-use Rattle.abs_state.specs.declared.state.AbsFlags.{AbsFlags}
+use Rattle.abs_state.specs.declared.values.AbsByte.{AbsByte}
 use Rattle.abs_state.specs.declared.state.AbsState.{AbsState}
 
 -- bits without a tag

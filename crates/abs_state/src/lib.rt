@@ -2,7 +2,13 @@
 //! for the machines that agree with it; the order, the join, and the states at an entry and after a return are here. Source: own.
 #![tactic(auto)]
 
+pub mod frames;
 pub mod laws;
 pub mod state;
+pub mod values;
 
-pub use state::{AbsByte, AbsFlags, AbsState};
+pub use state::AbsState;
+pub use values::{AbsByte, AbsFlags};
+
+#[cfg(test)]
+mod tests;

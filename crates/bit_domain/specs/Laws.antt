@@ -1,12 +1,12 @@
 -- Laws of bytes of three-valued bits: what a value is, what an operation stands for, and that more gives more.
-use Rattle.std.specs.Prelude.{ℕ, Some, ◌≡◌, ◌≢◌, ◌<◌, ◌+◌, ◌-◌, ◌%◌, ◌==◌, ◌↔◌, min, bit_and, bit_or, bit_xor}
+use Rattle.std.specs.Prelude.{ℕ, Some, None, ◌≡◌, ◌≢◌, ◌<◌, ◌+◌, ◌-◌, ◌%◌, ◌==◌, ◌↔◌, min, bit_and, bit_or, bit_xor}
 use Rattle.std.specs.Int.{bit_at, from_bool}
 use Rattle.bit_domain.specs.declared.bits.Tri.{Tri}
 use Rattle.bit_domain.specs.declared.bytes.TriByte.{TriByte}
-use Rattle.bit_domain.specs.Tri.{Permits, IsTriWithin, tri_not, tri_and, tri_xor}
+use Rattle.bit_domain.specs.Tri.{Permits, IsTriWithin, tri_not, tri_and, tri_xor, tri_meet}
 use Rattle.bit_domain.specs.TriByte.{tri_at, Has, IsWithin, byte_of, byte_known, byte_with}
 use Rattle.bit_domain.specs.Logic.{byte_and, byte_or, byte_eor, byte_not, byte_equal}
-use Rattle.bit_domain.specs.Lattice.{byte_join, byte_meet}
+use Rattle.bit_domain.specs.Lattice.{byte_join, IsLeastAbove, byte_meet, IsIntersection, Differ}
 use Rattle.bit_domain.specs.Sums.{byte_sum, byte_difference, CoversSum, CoversDifference, IsSumWithin}
 
 -- an operation on bits permits that of each choice of permitted bits, and bits that stand for more give more
@@ -42,6 +42,14 @@ pub record WritesCover : Type 0 where
   pub members : (t : TriByte) (i : ℕ) (bit : Tri) (x y : ℕ) → Has t x → Permits bit (bit_at y i)
       → ((j : ℕ) → j < 8 → j ≢ i → bit_at y j ≡ bit_at x j) → Has (byte_with t i bit) y
   pub more : (t u : TriByte) (i : ℕ) (bit bit' : Tri) → IsWithin t u → IsTriWithin bit bit' → IsWithin (byte_with t i bit) (byte_with u i bit')
+
+-- A join is the least that stands for all that the two stand for. A meet stands for the bytes that both stand for, bit by bit, and
+-- there is none just where a bit that both know differs.
+pub record LatticeIsOfSets : Type 0 where
+  pub joins : (a b : TriByte) → IsLeastAbove a b (byte_join a b)
+  pub meets : (a b : TriByte) → IsIntersection a b (byte_meet a b)
+  pub meet_bits : (a b m : TriByte) (i : ℕ) → i < 8 → byte_meet a b ≡ Some m → tri_at m i ≡ tri_meet (tri_at a i) (tri_at b i)
+  pub none : (a b : TriByte) → byte_meet a b ≡ None ↔ Differ a b
 
 -- what stands for more has a join and a meet that stand for more, and there is such a meet
 pub record LatticeIsMonotone : Type 0 where

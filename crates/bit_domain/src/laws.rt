@@ -1,6 +1,6 @@
 //! Laws of bytes of three-valued bits, each as the contract of a function that does nothing.
 
-ghost use Rattle.bit_domain.specs.Laws.{BitsCover, BytesAreTheirBits, BytesAreSets, WritesCover, LatticeIsMonotone, SumsCover, SumsAreMonotone, LogicCovers, LogicIsMonotone};
+ghost use Rattle.bit_domain.specs.Laws.{BitsCover, BytesAreTheirBits, BytesAreSets, WritesCover, LatticeIsOfSets, LatticeIsMonotone, SumsCover, SumsAreMonotone, LogicCovers, LogicIsMonotone};
 
 /// An operation on bits stands for that of each choice of permitted bits, and bits that stand for more give more.
 pub fn bits_cover()
@@ -20,6 +20,11 @@ pub fn bytes_are_sets()
 /// A byte with another bit stands for each member with a permitted bit there, and for more where both stand for more.
 pub fn writes_cover()
     ensures { WritesCover }
+{}
+
+/// A join is the least above both, and a meet stands for what both stand for; there is none just where known bits differ.
+pub fn lattice_is_of_sets()
+    ensures { LatticeIsOfSets }
 {}
 
 /// What stands for more has a join and a meet that stand for more.

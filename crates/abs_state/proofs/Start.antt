@@ -1,0 +1,136 @@
+-- The root's state at reset, and the states at entries.
+use Rattle.std.proofs.Common.{◌≡◌, refl, sym, ◌∙◌, ap, subst, ℕ, zero, suc, ◌+◌, ◌*◌, ◌/◌, ◌%◌, ◌^◌, ◌<◌, ◌==◌, Bool, true, false, if◌then◌else◌, List, [], ◌∷◌, length, slice_index, inl, inr, arith}
+use Rattle.std.proofs.lemmas.List.{get_or-replicate}
+use Rattle.std.proofs.Math.ListN.{length-replicate}
+use Rattle.std.proofs.lemmas.Bool.{cases_eq}
+use Rattle.std.proofs.lemmas.Nat.Bits.{bit_at-zero, bit_at_cat_low}
+use Rattle.std.specs.Int.{bit_at}
+use Rattle.bit_domain.specs.declared.bits.Tri.{Tri}
+use Rattle.bit_domain.specs.declared.bits.Tri.TheVariants.{Zero, Any}
+use Rattle.bit_domain.specs.declared.bytes.TriByte.{TriByte}
+use Rattle.bit_domain.specs.Tri.{Permits}
+use Rattle.bit_domain.specs.TriByte.{tri_of, tri_at, byte_of, Has}
+use Rattle.bit_domain.specs.Packed.{packed}
+use Rattle.bit_domain.proofs.AllLaws.{bytes_are_their_bits, bytes_are_sets}
+use Rattle.avr_model.specs.State.{RAMEND}
+use Rattle.sp_domain.specs.declared.tags.Tag.TheVariants as tag
+use Rattle.abs_state.specs.declared.values.AbsByte.{AbsByte}
+use Rattle.abs_state.specs.declared.state.AbsState.{AbsState}
+use Rattle.abs_state.specs.Values.{unknown, value_at, clear_flags, root}
+use Rattle.abs_state.specs.Stands.{ByteStands}
+use Rattle.abs_state.specs.Order.{IsByteWithin}
+use Rattle.abs_state.specs.Frames.{tagged_from, entered}
+use Rattle.abs_state.specs.Formed.{NamesRegister}
+use Rattle.abs_state.specs.Laws.{ResetStands, EntriesAreTrue}
+
+-- ---- reset
+
+root_value : (r : ℕ) → r < 32 → value_at root.registers r ≡ unknown
+root_value r h = get_or-replicate 32 r unknown unknown h
+
+clear_permits : (b : Bool) → Permits (if b then Any else Zero) 0
+clear_permits true = tt
+clear_permits false = refl
+
+clear_has : Has clear_flags 0
+clear_has = bytes_are_sets.built (λ i. if i == 7 then Any else Zero) 0 (λ i h.
+    subst (λ (n : ℕ). Permits (if i == 7 then Any else Zero) n) (sym (bit_at-zero i)) (clear_permits (i == 7)))
+
+-- the flags after reset as code writes them
+pub cleared : byte_of (λ i. tri_of (bit_at 0x7F i) (bit_at 0 i)) ≡ clear_flags
+unfolding packed
+cleared = bytes_are_their_bits.from_fields (byte_of (λ i. tri_of (bit_at 0x7F i) (bit_at 0 i))) clear_flags refl refl
+
+pub reset_stands : ResetStands
+reset_stands = record {
+  stands = λ m reset. record {
+    registers = λ r h.
+        subst (λ (v : AbsByte). ByteStands (record { registers = m.registers; sreg = m.sreg; base = RAMEND }) v (slice_index m.registers r)) (sym (root_value r h))
+        record { tag = tt; bits = bytes_are_sets.built (λ _. Any) (slice_index m.registers r) (λ i k. tt) };
+    flags = record { entry = tt; bits = subst (Has clear_flags) (sym reset.sreg) clear_has; carry = tt };
+    slots = λ d h. absurd (omega arith);
+  };
+  formed = record {
+    count_registers = length-replicate 32 unknown;
+    registers = λ r h. subst (λ (v : AbsByte). NamesRegister v.tag) (sym (root_value r h)) tt;
+    bit_7 = bytes_are_their_bits.has_bits (λ i. if i == 7 then Any else Zero) 7 (omega arith);
+    count_slots = refl;
+    slots = λ d h. absurd (omega arith);
+  };
+  untagged = record {
+    registers = λ r h. ap (λ (v : AbsByte). v.tag) (root_value r h);
+    entry = refl;
+    carry = refl;
+    slots = λ d h. absurd (omega arith);
+  };
+}
+
+-- ---- entries
+
+abbrev pub tagged : AbsByte → ℕ → AbsByte
+tagged v r = record { tag = tag.Entry r; bits = v.bits }
+
+pub length-tagged_from : (n : ℕ) (vs : List AbsByte) → length (tagged_from n vs) ≡ length vs
+length-tagged_from n [] = refl
+length-tagged_from n (v ∷ vs) = ap suc (length-tagged_from (suc n) vs)
+
+value_at-tagged : (vs : List AbsByte) (n r : ℕ) → r < length vs → value_at (tagged_from n vs) r ≡ record { tag = tag.Entry (n + r); bits = (value_at vs r).bits }
+value_at-tagged [] n r h = absurd (omega arith)
+value_at-tagged (v ∷ vs) n zero h =
+    let e : n ≡ n + 0 = omega arith in
+    ap (λ (k : ℕ). tagged v k) e
+value_at-tagged (v ∷ vs) n (suc r) h =
+    let e : suc n + r ≡ n + suc r = omega arith in
+    value_at-tagged vs (suc n) r (omega arith) ∙ ap (λ (k : ℕ). tagged (value_at vs r) k) e
+
+pub tagged_value : (vs : List AbsByte) (r : ℕ) → r < length vs → value_at (tagged_from 0 vs) r ≡ tagged (value_at vs r) r
+tagged_value vs r h =
+    let e : 0 + r ≡ r = omega arith in
+    value_at-tagged vs 0 r h ∙ ap (λ (k : ℕ). tagged (value_at vs r) k) e
+
+entered_value : (s : AbsState) (r : ℕ) → length s.registers ≡ 32 → r < 32 → value_at (entered s).registers r ≡ tagged (value_at s.registers r) r
+entered_value s r n h = tagged_value s.registers r (omega arith)
+
+-- the low k bits of a number are those of its remainder
+pub low_bits : (x k i : ℕ) → i < k → bit_at x i ≡ bit_at (x % 2 ^ k) i
+low_bits x k i h =
+    let e : x ≡ x / 2 ^ k * 2 ^ k + x % 2 ^ k = omega arith in
+    ap (λ (n : ℕ). bit_at n i) e ∙ bit_at_cat_low (x / 2 ^ k) k (x % 2 ^ k) i h
+
+-- bits 0 to 6 of two registers that agree modulo 128
+same_low_bit : (x y i : ℕ) → i < 7 → x % 128 ≡ y % 128 → bit_at x i ≡ bit_at y i
+same_low_bit x y i h e = low_bits x 7 i h ∙ ap (λ (n : ℕ). bit_at n i) e ∙ sym (low_bits y 7 i h)
+
+-- bits of which bit 7 is unknown stand for each register with these bits 0 to 6
+pub has_flags : (t : TriByte) (x y : ℕ) → tri_at t 7 ≡ Any → x % 128 ≡ y % 128 → Has t x → Has t y
+has_flags t x y any e has i h = elim (cases_eq i 7) [
+  | inl same ↦ subst (λ (u : Tri). Permits u (bit_at y i)) (sym (ap (tri_at t) same ∙ any)) tt
+  | inr other ↦ subst (λ (n : ℕ). Permits (tri_at t i) n) (same_low_bit x y i (omega arith) e) (has i h)
+]
+
+pub entries_are_true : EntriesAreTrue
+entries_are_true = record {
+  registers = λ o s registers sreg base n h r lt.
+      subst (λ (v : AbsByte). ByteStands (record { registers = registers; sreg = sreg; base = base }) v (slice_index registers r)) (sym (entered_value s r n lt))
+      record { tag = refl; bits = (h r lt).bits };
+  flags = λ o s offset registers sreg new base formed same h. record {
+    entry = same;
+    bits = has_flags s.flags.bits sreg new formed.bit_7 (sym same) h.bits;
+    carry = tt;
+  };
+  formed = λ s offset formed. record {
+    count_registers = length-tagged_from 0 s.registers ∙ formed.count_registers;
+    registers = λ r h. subst (λ (v : AbsByte). NamesRegister v.tag) (sym (entered_value s r formed.count_registers h)) h;
+    bit_7 = formed.bit_7;
+    count_slots = refl;
+    slots = λ d h. absurd (omega arith);
+  };
+  more = λ s t m n le. record {
+    registers = λ r h.
+        subst (λ (v : AbsByte). IsByteWithin v (value_at (entered t).registers r)) (sym (entered_value s r m h))
+        (subst (IsByteWithin (tagged (value_at s.registers r) r)) (sym (entered_value t r n h)) record { tag = refl; bits = (le.registers r h).bits });
+    flags = record { entry = λ e. refl; bits = le.flags.bits; carry = tt };
+    count = refl;
+    slots = λ d h. absurd (omega arith);
+  };
+}
