@@ -2,7 +2,7 @@
 use Rattle.std.specs.Prelude.{ℕ, Some, ◌^◌, length, Contains, ◌≡◌, ◌≢◌, ◌<◌, ◌+◌, ◌-◌, ◌%◌, ◌==◌, ◌↔◌, min, bit_and, bit_or, bit_xor}
 use Rattle.std.specs.Int.{bit_at, from_bool}
 use Rattle.std.specs.List.Sorted.{IsStrictlySortedBy}
-use Rattle.std.specs.Order.{nat_cmp}
+use Rattle.std.specs.Ordering.{nat_cmp}
 use Rattle.bit_domain.specs.declared.bits.Tri.{Tri}
 use Rattle.bit_domain.specs.declared.bytes.TriByte.{TriByte}
 use Rattle.bit_domain.specs.Tri.{Permits, IsTriWithin, tri_not, tri_and, tri_xor}
