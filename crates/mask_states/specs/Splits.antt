@@ -1,8 +1,9 @@
 -- The enable bits that a write of a byte of which a part is known may leave.
-use Rattle.std.specs.Prelude.{ℕ, ◌+◌, ◌<◌, ◌^◌, ◌≡◌, ◌==◌, if◌then◌else◌, List, Option, Some, None}
+use Rattle.std.specs.Prelude.{ℕ, ◌+◌, ◌<◌, ◌^◌, ◌≡◌, ◌==◌, ◌&&◌, if◌then◌else◌, Bool, true, false, List, Option, Some, None}
 use Rattle.std.specs.Int.{bit_at}
 use Rattle.avr_model.specs.Vectors.{Vector, row_of, written_enables}
 use Rattle.bit_domain.specs.declared.bits.Tri.{Tri}
+use Rattle.bit_domain.specs.declared.bits.Tri.TheVariants.{Zero, One, Any}
 use Rattle.bit_domain.specs.declared.bytes.TriByte.{TriByte}
 use Rattle.bit_domain.specs.Tri.{tri_bit}
 use Rattle.bit_domain.specs.TriByte.{tri_at, Has}
@@ -26,3 +27,13 @@ pub record IsWritten (m address : ℕ) (value : TriByte) (n : ℕ) : Type 0 wher
   pub small : byte < 256
   pub member : Has value byte
   pub left : n ≡ written_enables m address byte
+
+-- whether a vector's enable bit stands at this address and is unknown in the byte
+abbrev pub is_any : Tri → Bool
+is_any Zero = false
+is_any One = false
+is_any Any = true
+
+abbrev pub is_unknown : Option Vector → ℕ → TriByte → Bool
+is_unknown None address value = false
+is_unknown (Some r) address value = (r.address == address) && is_any (tri_at value r.bit)

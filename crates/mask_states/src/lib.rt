@@ -2,5 +2,8 @@
 #![tactic(auto)]
 
 pub mod keys;
+pub mod laws;
+pub mod splits;
 
 pub use keys::{EdgeKind, High, InstKey, Kind, NodeKey, SpForm};
+pub use splits::{Splits, split};

@@ -1,4 +1,3 @@
-use Rattle.std.proofs.Common.{◌∙◌}
 use Rattle.mask_states.proofs.Chains.{inst_chained}
 use Rattle.mask_states.proofs.keys.InstKeyOrd.cmp.Goals as goal
 

@@ -1,4 +1,4 @@
-use Rattle.std.proofs.Common.{◌∙◌, subst, Bool, IsTrue}
+use Rattle.std.proofs.Common.{subst, Bool, IsTrue}
 use Rattle.std.specs.Prelude.{◌≡◌, ◌↔◌}
 use Rattle.mask_states.specs.Order.{same_inst}
 use Rattle.mask_states.proofs.Same.{inst_same_is}

@@ -1,4 +1,3 @@
-use Rattle.std.proofs.Common.{◌∙◌}
 use Rattle.mask_states.proofs.Chains.{node_chained}
 use Rattle.mask_states.proofs.keys.NodeKeyOrd.cmp.Goals as goal
 
