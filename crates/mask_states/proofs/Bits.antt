@@ -1,5 +1,5 @@
 -- Numbers by their bits.
-use Rattle.std.proofs.Common.{◌≡◌, ◌∙◌, sym, ap, subst, inl, inr, ℕ, zero, suc, ◌+◌, ◌-◌, ◌*◌, ◌^◌, ◌%◌, ◌/◌, ◌<◌, ◌≤◌, max, arith, true, cond, eqb, eq-eqb, ne_eqb, bit_or}
+use Rattle.std.proofs.Common.{◌≡◌, ◌∙◌, sym, ap, subst, inl, inr, ℕ, zero, suc, ◌+◌, ◌-◌, ◌*◌, ◌^◌, ◌%◌, ◌/◌, ◌<◌, ◌≤◌, arith, true, cond, eqb, eq-eqb, ne_eqb, bit_or}
 use Rattle.std.specs.Int.{bit_at}
 use Rattle.std.proofs.lemmas.Bool.{cases_lt, cases_eq}
 use Rattle.std.proofs.lemmas.Nat.{or_lt, pow_below, or_disjoint, mod-pow-add, div-add-mod'}
@@ -47,15 +47,15 @@ pub enabled_is_sum : (x k : ℕ) → x < 2 ^ 25 → k < 25 → bit_at x k ≡ 0 
 enabled_is_sum x k small lt none =
     let sum : bit_or x (2 ^ k) ≡ 2 ^ k + x = or_disjoint x (2 ^ k) (and_pow x k ∙ ap (λ (b : ℕ). b * 2 ^ k) none ∙ omega arith) ∙ omega arith in
     let bit : (j : ℕ) → j < 25 → bit_at (bit_or x (2 ^ k)) j ≡ cond (eqb (j + 2) (k + 2)) 1 (bit_at x j) = λ j below.
-        bit_at_or x (2 ^ k) j ∙ elim (cases_eq j k) [
-          | inl same ↦
-              let two : j + 2 ≡ k + 2 = omega arith in
-              let one : bit_at (2 ^ k) j ≡ 1 = ap (bit_at (2 ^ k)) same ∙ bit_at-pow_same k in
-              rw (eq-eqb (j + 2) (k + 2) two) (omega (arith, bit_at-lt x j))
-          | inr other ↦
-              let two : j + 2 ≡ k + 2 → ⊥ = λ e. other (omega arith) in
-              rw (ne_eqb (j + 2) (k + 2) two) (omega (arith, bit_at-pow_other k j other))
-        ] in
+    bit_at_or x (2 ^ k) j ∙ elim (cases_eq j k) [
+      | inl same ↦
+          let two : j + 2 ≡ k + 2 = omega arith in
+          let one : bit_at (2 ^ k) j ≡ 1 = ap (bit_at (2 ^ k)) same ∙ bit_at-pow_same k in
+          rw (eq-eqb (j + 2) (k + 2) two) (omega (arith, bit_at-lt x j))
+      | inr other ↦
+          let two : j + 2 ≡ k + 2 → ⊥ = λ e. other (omega arith) in
+          rw (ne_eqb (j + 2) (k + 2) two) (omega (arith, bit_at-pow_other k j other))
+    ] in
     sym (by_bits 25 (bit_or x (2 ^ k)) (λ j. cond (eqb (j + 2) (k + 2)) 1 (bit_at x j)) (or_lt 25 x (2 ^ k) small (pow_below k 25 lt)) bit) ∙ sum
 
 -- ---- the bits from k on

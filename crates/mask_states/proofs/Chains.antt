@@ -85,8 +85,8 @@ inst_chained a b k e m i ek ee em ei =
     let kinds_are = ek ∙ kind_order a.kind b.kind in
     let i_is = ei ∙ bool_order a.i b.i in
     let whole =
-        cmp_append (kind_numbers a.kind) (kind_numbers b.kind) (a.entry ∷ a.masks ∷ from_bool a.i ∷ []) (b.entry ∷ b.masks ∷ from_bool b.i ∷ [])
-        (kind_length a.kind ∙ sym (kind_length b.kind)) in
+    cmp_append (kind_numbers a.kind) (kind_numbers b.kind) (a.entry ∷ a.masks ∷ from_bool a.i ∷ []) (b.entry ∷ b.masks ∷ from_bool b.i ∷ [])
+    (kind_length a.kind ∙ sym (kind_length b.kind)) in
     sym (then_assoc (ordering_then k e) m i) ∙ sym (then_assoc k e (ordering_then m i))
     ∙ (λ j. ordering_then (kinds_are j) (ordering_then (ee j) (ordering_then (em j) ((i_is ∙ sym (then_equal (nat_cmp (from_bool a.i) (from_bool b.i)))) j))))
     ∙ sym whole

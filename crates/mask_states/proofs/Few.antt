@@ -1,17 +1,16 @@
 -- At most four enable bits stand at one address.
-use Rattle.std.proofs.Common.{◌≡◌, ◌∙◌, sym, ap, refl, inl, inr, ◌⊎◌, ℕ, zero, suc, ◌+◌, ◌^◌, ◌<◌, ◌≤◌, arith, Bool, true, false, cond, eqb, List, [], ◌∷◌, map, length, reverse, Option, Some, None, nat_le, ne_eqb}
+use Rattle.std.proofs.Common.{◌≡◌, ap, refl, inl, inr, ◌⊎◌, ℕ, zero, suc, ◌+◌, ◌^◌, ◌≤◌, arith, Bool, true, false, cond, eqb, List, [], ◌∷◌, map, length, reverse, Option, Some, None, nat_le, ne_eqb}
 use Rattle.std.specs.Int.{from_bool, bit_at}
 use Rattle.std.specs.List.{list_all}
-use Rattle.std.proofs.lemmas.Bool.{cases_Bool, cases_eq, cases_lt, and_parts}
+use Rattle.std.proofs.lemmas.Bool.{cases_Bool, cases_eq, and_parts}
 use Rattle.std.proofs.lemmas.Bool.Decides.{nat_tests}
 use Rattle.std.proofs.lemmas.Nat.{pow_below}
 use Rattle.avr_model.specs.Vectors.{Vector, vectors, row_of}
 use Rattle.bit_domain.specs.declared.bits.Tri.{Tri}
 use Rattle.bit_domain.specs.declared.bits.Tri.TheVariants.{Zero, One, Any}
 use Rattle.bit_domain.specs.declared.bytes.TriByte.{TriByte}
-use Rattle.bit_domain.specs.Tri.{tri_bit}
 use Rattle.bit_domain.specs.TriByte.{tri_at}
-use Rattle.bit_domain.specs.Numbers.{numbers_of, one_if_any, count_unknown}
+use Rattle.bit_domain.specs.Numbers.{one_if_any, count_unknown}
 use Rattle.bit_domain.proofs.AllLaws.{numbers_are_permitted}
 use Rattle.mask_states.specs.Splits.{enable_in, enable_tri, splits}
 

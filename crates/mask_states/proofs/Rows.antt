@@ -1,9 +1,9 @@
 -- Facts of the table of vectors.
-use Rattle.std.proofs.Common.{◌≡◌, ◌∙◌, sym, ap, refl, inl, inr, ℕ, ◌+◌, ◌-◌, ◌<◌, ◌≤◌, arith, Bool, true, false, cond, eqb, ◌&&◌, List, [], ◌∷◌, Option, Some, None, option_map, find, nat_lt, nat_le, eqb-true, ltb-true}
+use Rattle.std.proofs.Common.{◌≡◌, ◌∙◌, sym, ap, refl, inl, inr, ℕ, ◌<◌, ◌≤◌, arith, Bool, true, false, cond, eqb, ◌&&◌, List, [], ◌∷◌, Option, Some, None, option_map, find, nat_lt, nat_le, eqb-true}
 use Rattle.std.specs.List.{list_all, list_any}
 use Rattle.std.proofs.lemmas.Bool.{cases_Bool, and_parts, or_parts}
 use Rattle.std.proofs.lemmas.Bool.Decides.{nat_tests}
-use Rattle.avr_model.specs.Vectors.{Vector, vectors, row_of, has_enables}
+use Rattle.avr_model.specs.Vectors.{Vector, vectors, row_of}
 use Rattle.vector_table.specs.declared.rows.Row.{Row}
 use Rattle.vector_table.specs.Rows.{row_by, row_at}
 

@@ -2,9 +2,8 @@
 use Rattle.std.proofs.Common.{◌≡◌, ◌∙◌, sym, ap, refl, ℕ, Bool, true, false, List, [], ◌∷◌, ◌++◌, length, get_or, arith, IsTrue, Less, Equal, Greater}
 use Rattle.std.specs.Prelude.{◌↔◌, ◌⊎◌}
 use Rattle.std.specs.Int.{from_bool}
-use Rattle.std.specs.Bool.{Decides}
 use Rattle.std.specs.Cmp.{Equal-is}
-use Rattle.std.specs.Ordering.{nat_cmp, ordering_then, is_eq}
+use Rattle.std.specs.Ordering.{nat_cmp, ordering_then}
 use Rattle.std.specs.declared.cmp.Ordering.{Ordering}
 use Rattle.std.proofs.Common.{inl, inr}
 use Rattle.std.proofs.lemmas.Cmp.{ranked, tied_itself}
@@ -76,8 +75,8 @@ pub inst_from_numbers : (a b : InstKey) → inst_numbers a ≡ inst_numbers b �
 unfolding inst_numbers
 inst_from_numbers a b e =
     let both =
-        parts (kind_numbers a.kind) (kind_numbers b.kind) (a.entry ∷ a.masks ∷ from_bool a.i ∷ []) (b.entry ∷ b.masks ∷ from_bool b.i ∷ [])
-        (kind_length a.kind ∙ sym (kind_length b.kind)) e in
+    parts (kind_numbers a.kind) (kind_numbers b.kind) (a.entry ∷ a.masks ∷ from_bool a.i ∷ []) (b.entry ∷ b.masks ∷ from_bool b.i ∷ [])
+    (kind_length a.kind ∙ sym (kind_length b.kind)) e in
     let kinds = kind_same a.kind b.kind both.0 in
     let entries = at 0 both.1 in
     let masks = at 1 both.1 in
@@ -121,15 +120,17 @@ numbers_equal (x ∷ xs) (y ∷ ys) e =
 
 inst_equal_is : (a b : InstKey) → (inst_cmp a b ≡ Equal) ↔ (a ≡ b)
 unfolding inst_cmp
-inst_equal_is a b =
-    (λ e. inst_from_numbers a b (numbers_equal (inst_numbers a) (inst_numbers b) e),
-    λ same. ap (λ (c : InstKey). inst_cmp a c) (sym same) ∙ tied_itself inst_total a)
+inst_equal_is a b = (
+  λ e. inst_from_numbers a b (numbers_equal (inst_numbers a) (inst_numbers b) e),
+  λ same. ap (λ (c : InstKey). inst_cmp a c) (sym same) ∙ tied_itself inst_total a,
+)
 
 node_equal_is : (a b : NodeKey) → (node_cmp a b ≡ Equal) ↔ (a ≡ b)
 unfolding node_cmp
-node_equal_is a b =
-    (λ e. node_from_numbers a b (numbers_equal (node_numbers a) (node_numbers b) e),
-    λ same. ap (λ (c : NodeKey). node_cmp a c) (sym same) ∙ tied_itself node_total a)
+node_equal_is a b = (
+  λ e. node_from_numbers a b (numbers_equal (node_numbers a) (node_numbers b) e),
+  λ same. ap (λ (c : NodeKey). node_cmp a c) (sym same) ∙ tied_itself node_total a,
+)
 
 pub keys_are_ordered : KeysAreOrdered
 keys_are_ordered = record { insts = inst_total; nodes = node_total; equal_insts = inst_equal_is; equal_nodes = node_equal_is }

@@ -1,7 +1,7 @@
 -- The splits vector by vector, from what is left where each unknown bit is 0.
-use Rattle.std.proofs.Common.{◌≡◌, ◌∙◌, sym, ap, subst, refl, inl, inr, ℕ, zero, suc, ◌+◌, ◌-◌, ◌*◌, ◌/◌, ◌^◌, ◌%◌, ◌<◌, ◌≤◌, min, arith, Bool, true, false, cond, eqb, eqb-true, ◌&&◌, List, [], ◌∷◌, ◌++◌, map, length, Option, Some, None}
+use Rattle.std.proofs.Common.{◌≡◌, ◌∙◌, sym, ap, refl, inl, inr, ℕ, suc, ◌+◌, ◌-◌, ◌*◌, ◌/◌, ◌^◌, ◌%◌, ◌<◌, ◌≤◌, arith, Bool, true, false, cond, eqb, eqb-true, ◌&&◌, List, [], ◌∷◌, ◌++◌, map, length, Option, Some, None}
 use Rattle.std.specs.Int.{bit_at}
-use Rattle.std.specs.List.{All, AllByRecursion, Contains}
+use Rattle.std.specs.List.{AllByRecursion, Contains}
 use Rattle.std.proofs.lemmas.Bool.{cases_Bool, cases_eq, and_parts}
 use Rattle.std.proofs.lemmas.List.{map-append, length-map}
 use Rattle.std.proofs.lemmas.List.Elements.{All-weaker, All-contains_itself, recursion_from_All}
@@ -14,7 +14,7 @@ use Rattle.bit_domain.specs.declared.bits.Tri.TheVariants.{Zero, One, Any}
 use Rattle.bit_domain.specs.declared.bytes.TriByte.{TriByte}
 use Rattle.bit_domain.specs.Tri.{tri_bit}
 use Rattle.bit_domain.specs.TriByte.{tri_of, tri_at}
-use Rattle.bit_domain.specs.Numbers.{with_top, numbers_of, one_if_any, count_unknown, IsPermitted}
+use Rattle.bit_domain.specs.Numbers.{with_top, numbers_of, one_if_any, count_unknown}
 use Rattle.bit_domain.proofs.AllLaws.{numbers_are_permitted}
 use Rattle.mask_states.specs.Splits.{enable_in, enable_tri, splits, is_any, is_unknown}
 use Rattle.mask_states.proofs.Bits.{number_below, number_bit, enabled_is_sum, from_bit, from_bit_is, from_next, bit_of_sum}
@@ -160,12 +160,12 @@ left_unknown b f k h lt e none =
     let ns = numbers_of f k in
     let same : from_bit b (suc k) ≡ from_bit b k = omega (arith, from_next b k, ap (λ (x : ℕ). x * 2 ^ k) none) in
     let enabled : (n : ℕ) → n < 2 ^ k → from_bit b (suc k) + (2 ^ k + n) ≡ with_enable (from_bit b k + n) (k + 2) true = λ n small.
-        omega arith ∙ sym (enabled_is_sum (from_bit b k + n) k (cat_small b k n h lt small) lt (bit_of_sum b k n small ∙ none)) in
+    omega arith ∙ sym (enabled_is_sum (from_bit b k + n) k (cat_small b k n h lt small) lt (bit_of_sum b k n small ∙ none)) in
     let low = map_same (λ n. from_bit b (suc k) + n) (λ n. from_bit b k + n) (λ n. ap (λ (x : ℕ). x + n) same) ns in
     let high =
-        map_map (λ n. from_bit b (suc k) + n) (λ n. 2 ^ k + n) (λ n. from_bit b (suc k) + (2 ^ k + n)) (λ n. refl) ns
-        ∙ map_where (λ n. n < 2 ^ k) (λ n. from_bit b (suc k) + (2 ^ k + n)) (λ n. with_enable (from_bit b k + n) (k + 2) true) enabled ns (numbers_small f k)
-        ∙ sym (map_map (λ n. with_enable n (k + 2) true) (λ n. from_bit b k + n) (λ n. with_enable (from_bit b k + n) (k + 2) true) (λ n. refl) ns) in
+    map_map (λ n. from_bit b (suc k) + n) (λ n. 2 ^ k + n) (λ n. from_bit b (suc k) + (2 ^ k + n)) (λ n. refl) ns
+    ∙ map_where (λ n. n < 2 ^ k) (λ n. from_bit b (suc k) + (2 ^ k + n)) (λ n. with_enable (from_bit b k + n) (k + 2) true) enabled ns (numbers_small f k)
+    ∙ sym (map_map (λ n. with_enable n (k + 2) true) (λ n. from_bit b k + n) (λ n. with_enable (from_bit b k + n) (k + 2) true) (λ n. refl) ns) in
     ap (λ (t : Tri). map (λ n. from_bit b (suc k) + n) (with_top t (2 ^ k) ns)) e
     ∙ map-append (λ n. from_bit b (suc k) + n) ns (map (λ n. 2 ^ k + n) ns)
     ∙ (λ i. low i ++ high i)
@@ -202,7 +202,7 @@ step_room m address value k lt h =
     let few : count_unknown f k ≤ 3 = omega (arith, few_unknown m address value) in
     let room : 2 ^ count_unknown f k ≤ 2 ^ 3 = power_le (count_unknown f k) 3 few in
     let long =
-        length-map (numbers_of f k) (λ n. from_bit (written_enables m address value.value) k + n) ∙ numbers_are_permitted.count f k in
+    length-map (numbers_of f k) (λ n. from_bit (written_enables m address value.value) k + n) ∙ numbers_are_permitted.count f k in
     omega arith
 
 -- ---- the same by vectors: the unknown bits of the vectors below v are split

@@ -1,21 +1,20 @@
 -- The splits are what the members of the byte leave.
-use Rattle.std.proofs.Common.{◌≡◌, ◌∙◌, sym, ap, subst, refl, inl, inr, ℕ, zero, suc, ◌+◌, ◌-◌, ◌^◌, ◌<◌, ◌≤◌, arith, Bool, true, false, cond, eqb, List, [], ◌∷◌, Option, Some, None, find, eqb-true, eq-eqb}
+use Rattle.std.proofs.Common.{◌≡◌, ◌∙◌, sym, ap, subst, refl, inl, inr, ℕ, zero, suc, ◌+◌, ◌-◌, ◌^◌, ◌<◌, arith, Bool, false, cond, eqb, Option, Some, None, find, eqb-true, eq-eqb}
 use Rattle.std.specs.Prelude.{Contains}
 use Rattle.std.specs.Int.{bit_at}
-use Rattle.std.proofs.lemmas.Bool.{cases_Bool, cases_eq}
+use Rattle.std.proofs.lemmas.Bool.{cases_Bool}
 use Rattle.std.proofs.lemmas.Nat.Bits.{bit_at-lt}
 use Rattle.avr_model.specs.Vectors.{Vector, vectors, row_of, has_enables, written_enable, written_enables}
 use Rattle.avr_model.specs.Bits.{number_of}
-use Rattle.bit_domain.specs.declared.bits.Tri.{Tri}
 use Rattle.bit_domain.specs.declared.bytes.TriByte.{TriByte}
 use Rattle.bit_domain.specs.Tri.{Permits, tri_bit}
 use Rattle.bit_domain.specs.TriByte.{tri_at, Has, IsWithin}
-use Rattle.bit_domain.specs.Numbers.{numbers_of, IsPermitted}
+use Rattle.bit_domain.specs.Numbers.{IsPermitted}
 use Rattle.bit_domain.proofs.AllLaws.{numbers_are_permitted, bytes_are_sets}
 use Rattle.mask_states.specs.Splits.{enable_in, enable_tri, splits, IsWritten}
 use Rattle.mask_states.specs.Laws.{SplitsAreWrites}
 use Rattle.mask_states.proofs.Bits.{number_below, number_bit, by_bits}
-use Rattle.mask_states.proofs.Rows.{at_place, Good, row_good, place_good, none_at}
+use Rattle.mask_states.proofs.Rows.{at_place, row_good, place_good, none_at}
 use Rattle.mask_states.proofs.Few.{few_splits}
 use Rattle.mask_states.proofs.Steps.{written_small, written_at, left, left_first, left_all, left_known}
 

@@ -4,4 +4,4 @@ pub mod Total
 pub mod Place
 pub mod Splits
 pub mod Laws
-
+pub mod Examples

@@ -1,5 +1,5 @@
 -- The enable bits that a write of a byte of which a part is known may leave.
-use Rattle.std.specs.Prelude.{ℕ, ◌+◌, ◌<◌, ◌^◌, ◌≡◌, ◌==◌, ◌&&◌, if◌then◌else◌, Bool, true, false, List, Option, Some, None}
+use Rattle.std.specs.Prelude.{ℕ, ◌+◌, ◌<◌, ◌≡◌, ◌==◌, ◌&&◌, if◌then◌else◌, Bool, true, false, List, Option, Some, None}
 use Rattle.std.specs.Int.{bit_at}
 use Rattle.avr_model.specs.Vectors.{Vector, row_of, written_enables}
 use Rattle.bit_domain.specs.declared.bits.Tri.{Tri}

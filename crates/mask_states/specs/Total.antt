@@ -1,6 +1,6 @@
 -- The laws of the order of keys.
-use Rattle.std.proofs.Common.{◌≡◌, refl, Bool}
-use Rattle.std.specs.Cmp.{IsTotalOrder, IsPartialOrder, IsEquivalence, IsPartialEquivalence, partial_equiv_from_equiv, partial_order_from_total, partial_order_from_own_ties}
+use Rattle.std.proofs.Common.{◌≡◌, refl}
+use Rattle.std.specs.Cmp.{IsTotalOrder, IsPartialOrder, IsEquivalence, IsPartialEquivalence, partial_equiv_from_equiv, partial_order_from_total}
 use Rattle.std.specs.Ordering.{as_partial_cmp, eq_by_cmp}
 use Rattle.std.proofs.lemmas.Cmp.{on_total, nat_list_cmp_total, eq_by_cmp_equiv}
 use Rattle.mask_states.specs.declared.keys.InstKey.{InstKey}

@@ -147,7 +147,8 @@ impl Ord for InstKey {
 
     /// The first field that differs decides, in the order in which they are declared.
     fn cmp(&self, other: &InstKey) -> Ordering {
-        self.kind.cmp(&other.kind)
+        self.kind
+            .cmp(&other.kind)
             .then(self.entry.cmp(&other.entry))
             .then(self.masks.cmp(&other.masks))
             .then(self.i.cmp(&other.i))
@@ -193,7 +194,8 @@ impl Ord for NodeKey {
 
     /// The first field that differs decides, in the order in which they are declared.
     fn cmp(&self, other: &NodeKey) -> Ordering {
-        self.inst.cmp(&other.inst)
+        self.inst
+            .cmp(&other.inst)
             .then(self.pc.cmp(&other.pc))
             .then(self.masks.cmp(&other.masks))
             .then(self.i.cmp(&other.i))

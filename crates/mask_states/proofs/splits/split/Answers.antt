@@ -1,4 +1,4 @@
-use Rattle.std.proofs.Common.{◌≡◌, ◌∙◌, sym, ap, subst, ℕ, ◌≤◌, arith, true, false, List, [], ◌∷◌, length, map, ◌++◌}
+use Rattle.std.proofs.Common.{◌≡◌, ◌∙◌, sym, ap, subst, ℕ, ◌≤◌, arith, true, List, [], ◌∷◌, length, map, ◌++◌}
 use Rattle.avr_model.specs.Vectors.{written_enables, with_enable}
 use Rattle.mask_states.specs.Splits.{enable_tri}
 use Rattle.mask_states.proofs.Steps.{left_first, below_known, below_unknown, below_room, below_all}
@@ -17,7 +17,7 @@ loop-v-init c =
 pub double-requires-clause-room : goal.double-requires-clause-room
 double-requires-clause-room c =
     let room = below_room c.args.m c.args.address c.args.value.now c.loop-v.v c.loop-v.invariant.low c.loop-v-test.true
-        (sym c.is_unknown.ensures ∙ c.if-is_unknown.true) in
+    (sym c.is_unknown.ensures ∙ c.if-is_unknown.true) in
     subst (λ (ns : List ℕ). length ns ≤ 8) (sym c.loop-v.invariant.so_far) room
 
 pub loop-v-preserved : goal.loop-v-preserved
@@ -25,7 +25,7 @@ loop-v-preserved c =
     elim c.if-is_unknown.branch [
       | then-is_unknown w ↦
           let next = below_unknown c.args.m c.args.address c.args.value.now c.loop-v.v c.loop-v.invariant.low c.loop-v-test.true
-              (sym c.is_unknown.ensures ∙ w.if-is_unknown.true) in
+          (sym c.is_unknown.ensures ∙ w.if-is_unknown.true) in
           record {
             low = omega arith;
             so_far =
@@ -34,7 +34,7 @@ loop-v-preserved c =
           }
       | else-is_unknown w ↦
           let next = below_known c.args.m c.args.address c.args.value.now c.loop-v.v c.loop-v.invariant.low c.loop-v-test.true
-              (sym c.is_unknown.ensures ∙ w.if-is_unknown.false) in
+          (sym c.is_unknown.ensures ∙ w.if-is_unknown.false) in
           record { low = omega arith; so_far = w.splits-is ∙ c.loop-v.invariant.so_far ∙ sym next }
     ]
 
