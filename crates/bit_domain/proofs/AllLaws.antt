@@ -13,6 +13,7 @@ use Rattle.bit_domain.proofs.Differences.{all_sums_cover, all_sums_are_monotone}
 pub use Rattle.bit_domain.proofs.Writes.{writes_cover}
 pub use Rattle.bit_domain.proofs.Meets.{lattice_is_of_sets, lattice_is_monotone}
 pub use Rattle.bit_domain.proofs.LogicCover.{logic_covers, logic_is_monotone}
+pub use Rattle.bit_domain.proofs.Numbers.{numbers_are_permitted}
 
 pub bits_cover : BitsCover
 bits_cover = record {

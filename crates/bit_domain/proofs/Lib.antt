@@ -11,4 +11,5 @@ pub mod LogicCover
 pub mod Meets
 pub mod Words
 pub mod Writes
+pub mod Numbers
 pub mod AllLaws

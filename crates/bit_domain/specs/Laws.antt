@@ -1,12 +1,15 @@
 -- Laws of bytes of three-valued bits: what a value is, what an operation stands for, and that more gives more.
-use Rattle.std.specs.Prelude.{ℕ, Some, None, ◌≡◌, ◌≢◌, ◌<◌, ◌+◌, ◌-◌, ◌%◌, ◌==◌, ◌↔◌, min, bit_and, bit_or, bit_xor}
+use Rattle.std.specs.Prelude.{ℕ, Some, None, ◌^◌, length, Contains, ◌≡◌, ◌≢◌, ◌<◌, ◌+◌, ◌-◌, ◌%◌, ◌==◌, ◌↔◌, min, bit_and, bit_or, bit_xor}
 use Rattle.std.specs.Int.{bit_at, from_bool}
+use Rattle.std.specs.List.Sorted.{IsStrictlySortedBy}
+use Rattle.std.specs.Ordering.{nat_cmp}
 use Rattle.bit_domain.specs.declared.bits.Tri.{Tri}
 use Rattle.bit_domain.specs.declared.bytes.TriByte.{TriByte}
 use Rattle.bit_domain.specs.Tri.{Permits, IsTriWithin, tri_not, tri_and, tri_xor, tri_meet}
 use Rattle.bit_domain.specs.TriByte.{tri_at, Has, IsWithin, byte_of, byte_known, byte_with}
 use Rattle.bit_domain.specs.Logic.{byte_and, byte_or, byte_eor, byte_not, byte_equal}
 use Rattle.bit_domain.specs.Lattice.{byte_join, IsLeastAbove, byte_meet, IsIntersection, Differ}
+use Rattle.bit_domain.specs.Numbers.{numbers_of, count_unknown, IsPermitted}
 use Rattle.bit_domain.specs.Sums.{byte_sum, byte_difference, CoversSum, CoversDifference, IsSumWithin}
 
 -- an operation on bits permits that of each choice of permitted bits, and bits that stand for more give more
@@ -86,3 +89,10 @@ pub record LogicIsMonotone : Type 0 where
   pub eors : (a b a' b' : TriByte) → IsWithin a a' → IsWithin b b' → IsWithin (byte_eor a b) (byte_eor a' b')
   pub nots : (a a' : TriByte) → IsWithin a a' → IsWithin (byte_not a) (byte_not a')
   pub tests : (a b a' b' : TriByte) → IsWithin a a' → IsWithin b b' → IsTriWithin (byte_equal a b) (byte_equal a' b')
+
+-- The numbers of n bits that are permitted: they ascend, the members are just those, and each unknown bit doubles their number.
+pub record NumbersArePermitted : Type 0 where
+  pub members : (f : ℕ → Tri) (n x : ℕ) → Contains (numbers_of f n) x ↔ IsPermitted f n x
+  pub ascending : (f : ℕ → Tri) (n : ℕ) → IsStrictlySortedBy nat_cmp (numbers_of f n)
+  pub count : (f : ℕ → Tri) (n : ℕ) → length (numbers_of f n) ≡ 2 ^ count_unknown f n
+  pub same : (f g : ℕ → Tri) (n : ℕ) → ((i : ℕ) → i < n → f i ≡ g i) → numbers_of f n ≡ numbers_of g n

@@ -2,6 +2,7 @@ pub mod Tri
 pub mod Packed
 pub mod Packing
 pub mod TriByte
+pub mod Numbers
 pub mod Logic
 pub mod Lattice
 pub mod Sums

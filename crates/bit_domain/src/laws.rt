@@ -1,6 +1,6 @@
 //! Laws of bytes of three-valued bits, each as the contract of a function that does nothing.
 
-ghost use Rattle.bit_domain.specs.Laws.{BitsCover, BytesAreTheirBits, BytesAreSets, WritesCover, LatticeIsOfSets, LatticeIsMonotone, SumsCover, SumsAreMonotone, LogicCovers, LogicIsMonotone};
+ghost use Rattle.bit_domain.specs.Laws.{BitsCover, BytesAreTheirBits, BytesAreSets, WritesCover, LatticeIsOfSets, LatticeIsMonotone, SumsCover, SumsAreMonotone, LogicCovers, LogicIsMonotone, NumbersArePermitted};
 
 /// An operation on bits stands for that of each choice of permitted bits, and bits that stand for more give more.
 pub fn bits_cover()
@@ -50,4 +50,9 @@ pub fn logic_covers()
 /// Operands that stand for more have a bit operation or test that stands for more.
 pub fn logic_is_monotone()
     ensures { LogicIsMonotone }
+{}
+
+/// The numbers whose bits are permitted ascend, and are just those.
+pub fn numbers_are_permitted()
+    ensures { NumbersArePermitted }
 {}

@@ -1,0 +1,8 @@
+pub mod Chains
+pub mod Same
+pub mod Bits
+pub mod Rows
+pub mod Few
+pub mod Steps
+pub mod Written
+pub mod AllLaws

@@ -1,0 +1,7 @@
+use Rattle.std.proofs.Common.{◌≡◌, ◌≤◌}
+use Rattle.mask_states.proofs.Steps.{below}
+use Rattle.mask_states.proofs.splits.split.Given as goal
+
+-- the unknown bits of the vectors below v are split
+abbrev pub invariant-loop-v : goal.invariant-loop-v
+invariant-loop-v l = record { low : 2 ≤ l.v; so_far : l.splits ≡ below l.fn.m l.address l.value l.v }

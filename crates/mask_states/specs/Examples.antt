@@ -1,0 +1,97 @@
+-- Worked rows of the definitions, as a reader would do them by hand.
+use Rattle.std.specs.Prelude.{ℕ, ◌≡◌, ◌==◌, refl, true, false, [], ◌∷◌, if◌then◌else◌}
+use Rattle.std.specs.declared.cmp.Ordering.TheVariants.{Less, Greater}
+use Rattle.avr_model.specs.State.{RAMEND, filled}
+use Rattle.avr_model.specs.Vectors.{row_of}
+use Rattle.bit_domain.specs.declared.bits.Tri.TheVariants.{Zero, Any}
+use Rattle.bit_domain.specs.Packed.{packed}
+use Rattle.bit_domain.specs.TriByte.{byte_of, byte_known, byte_any}
+use Rattle.bit_domain.specs.Numbers.{numbers_of}
+use Rattle.mask_states.specs.declared.keys.Kind.TheVariants.{Call, Vector}
+use Rattle.mask_states.specs.declared.keys.InstKey.{InstKey}
+use Rattle.mask_states.specs.declared.keys.High.TheVariants.{Known, Tag}
+use Rattle.mask_states.specs.declared.keys.SpForm.{SpForm}
+use Rattle.mask_states.specs.declared.keys.SpForm.TheVariants.{Closed, Open}
+use Rattle.mask_states.specs.declared.keys.NodeKey.{NodeKey}
+use Rattle.mask_states.specs.Keys.{offset_of, root_inst, entry_key, inst_numbers, node_numbers}
+use Rattle.mask_states.specs.Order.{inst_cmp, node_cmp, same_node}
+use Rattle.mask_states.specs.Place.{SpIs, AtNode}
+use Rattle.mask_states.specs.Splits.{enable_tri, splits}
+
+-- ---- keys
+
+offset_of_open : offset_of (Open 5 (Tag 7)) ≡ 5
+offset_of_open = refl
+
+-- TIMER0_OVF, with INT0 and INT1 enabled
+abbrev timer : InstKey
+timer = record { kind = Vector 17; entry = 32; masks = 3; i = false }
+
+numbers_of_timer : node_numbers (entry_key timer) ≡ 2 ∷ 17 ∷ 32 ∷ 3 ∷ 0 ∷ 32 ∷ 3 ∷ 0 ∷ 0 ∷ 0 ∷ 0 ∷ 0 ∷ 0 ∷ []
+unfolding node_numbers inst_numbers
+numbers_of_timer = refl
+
+-- ---- order
+
+root_before_call : inst_cmp root_inst (record { kind = Call; entry = 0; masks = 0; i = false }) ≡ Less
+unfolding inst_cmp inst_numbers
+root_before_call = refl
+
+-- a call is before an interrupt, whatever their entries
+call_before_vector : inst_cmp (record { kind = Call; entry = 99; masks = 0; i = true }) timer ≡ Less
+unfolding inst_cmp inst_numbers
+call_before_vector = refl
+
+abbrev root_at : ℕ → SpForm → NodeKey
+root_at pc sp = record { inst = root_inst; pc = pc; masks = 0; i = false; delay = false; sp = sp }
+
+-- the instance decides before the program counter
+instance_before_pc : node_cmp (root_at 99 (Closed 0)) (entry_key timer) ≡ Less
+unfolding node_cmp node_numbers inst_numbers
+instance_before_pc = refl
+
+closed_before_open : node_cmp (root_at 9 (Closed 300)) (root_at 9 (Open 0 (Known 8))) ≡ Less
+unfolding node_cmp node_numbers inst_numbers
+closed_before_open = refl
+
+tag_after_known : node_cmp (root_at 9 (Open 4 (Tag 0))) (root_at 9 (Open 4 (Known 8))) ≡ Greater
+unfolding node_cmp node_numbers inst_numbers
+tag_after_known = refl
+
+one_node : same_node (root_at 9 (Closed 3)) (root_at 9 (Closed 3)) ≡ true
+unfolding same_node node_cmp node_numbers inst_numbers
+one_node = refl
+
+-- ---- places
+
+-- a machine after reset is at the node at which the root begins
+at_reset : AtNode RAMEND (filled 0x55) (entry_key root_inst)
+at_reset = record { pc = refl; enables = refl; i = refl; delay = refl; sp = (refl, refl) }
+
+-- SPH is written with the high byte of 0x08FF - 0x100, and SPL is still that of 0x08FF - 2
+half_written : SpIs RAMEND true 0x07FD (Open 2 (Tag 0x100))
+half_written = (refl, refl, refl)
+
+-- ---- splits: INT0 and INT1 have their enable bits 0 and 1 at address 0x3D, PCINT0 has its at 0x68
+
+any_byte : splits 4 0x3D byte_any ≡ 4 ∷ 5 ∷ 6 ∷ 7 ∷ []
+unfolding numbers_of enable_tri packed row_of
+any_byte = refl
+
+known_byte : splits 5 0x3D (byte_known 2) ≡ 6 ∷ []
+unfolding numbers_of enable_tri packed row_of
+known_byte = refl
+
+-- an even byte turns INT0 off, and leaves INT1 open
+even_byte : splits 1 0x3D (byte_of (λ i. if i == 0 then Zero else Any)) ≡ 0 ∷ 2 ∷ []
+unfolding numbers_of enable_tri packed row_of
+even_byte = refl
+
+-- TIMER1's four enable bits: vectors 11 to 14, of which the capture has bit 5
+four_bits : splits 0 0x6F (byte_of (λ i. if i == 5 then Zero else Any)) ≡ 0 ∷ 1024 ∷ 2048 ∷ 3072 ∷ 4096 ∷ 5120 ∷ 6144 ∷ 7168 ∷ []
+unfolding numbers_of enable_tri packed row_of
+four_bits = refl
+
+no_enable_bits : splits 5 0x0100 byte_any ≡ 5 ∷ []
+unfolding numbers_of enable_tri packed row_of
+no_enable_bits = refl

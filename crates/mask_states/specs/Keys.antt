@@ -1,0 +1,47 @@
+-- Keys of instances and nodes: where they begin, and the numbers that tell them.
+use Rattle.std.specs.Prelude.{ℕ, false, List, [], ◌∷◌, ◌++◌}
+use Rattle.std.specs.Int.{from_bool}
+use Rattle.mask_states.specs.declared.keys.Kind.{Kind}
+use Rattle.mask_states.specs.declared.keys.Kind.TheVariants.{Root, Call, Vector}
+use Rattle.mask_states.specs.declared.keys.InstKey.{InstKey}
+use Rattle.mask_states.specs.declared.keys.High.{High}
+use Rattle.mask_states.specs.declared.keys.High.TheVariants.{Known, Tag}
+use Rattle.mask_states.specs.declared.keys.SpForm.{SpForm}
+use Rattle.mask_states.specs.declared.keys.SpForm.TheVariants.{Closed, Open}
+use Rattle.mask_states.specs.declared.keys.NodeKey.{NodeKey}
+
+-- how far the stack pointer is below the base, or will be
+abbrev pub offset_of : SpForm → ℕ
+offset_of (Closed offset) = offset
+offset_of (Open offset high) = offset
+
+-- the instance that begins at reset
+abbrev pub root_inst : InstKey
+root_inst = record { kind = Root; entry = 0; masks = 0; i = false }
+
+-- the node at which an instance begins
+abbrev pub entry_key : InstKey → NodeKey
+entry_key inst = record { inst = inst; pc = inst.entry; masks = inst.masks; i = inst.i; delay = false; sp = Closed 0 }
+
+-- ---- the numbers that tell a key
+
+abbrev pub kind_numbers : Kind → List ℕ
+kind_numbers Root = 0 ∷ 0 ∷ []
+kind_numbers Call = 1 ∷ 0 ∷ []
+kind_numbers (Vector v) = 2 ∷ v ∷ []
+
+abbrev pub high_numbers : High → List ℕ
+high_numbers (Known byte) = 0 ∷ byte ∷ []
+high_numbers (Tag k) = 1 ∷ k ∷ []
+
+abbrev pub form_numbers : SpForm → List ℕ
+form_numbers (Closed offset) = 0 ∷ offset ∷ 0 ∷ 0 ∷ []
+form_numbers (Open offset high) = 1 ∷ offset ∷ high_numbers high
+
+-- an instance: its kind, entry, enable bits and I
+unfoldable pub inst_numbers : InstKey → List ℕ
+inst_numbers key = kind_numbers key.kind ++ key.entry ∷ key.masks ∷ from_bool key.i ∷ []
+
+-- a node: its instance, place, enable bits, I, delay and form of the stack pointer
+unfoldable pub node_numbers : NodeKey → List ℕ
+node_numbers key = inst_numbers key.inst ++ key.pc ∷ key.masks ∷ from_bool key.i ∷ from_bool key.delay ∷ form_numbers key.sp

@@ -1,0 +1,27 @@
+-- What a node's key says of a machine, in a frame with this base: the stack pointer after the frame's entry.
+use Rattle.std.specs.Prelude.{ℕ, ◌+◌, ◌≡◌, Bool, true, false}
+use Rattle.avr_model.specs.State.{State, minus16, low, high, i_flag}
+use Rattle.mask_states.specs.declared.keys.High.{High}
+use Rattle.mask_states.specs.declared.keys.High.TheVariants.{Known, Tag}
+use Rattle.mask_states.specs.declared.keys.SpForm.{SpForm}
+use Rattle.mask_states.specs.declared.keys.SpForm.TheVariants.{Closed, Open}
+use Rattle.mask_states.specs.declared.keys.NodeKey.{NodeKey}
+
+-- the high byte of a half-written stack pointer
+abbrev pub HighIs : ℕ → High → ℕ → Type 0
+HighIs base (Known h) byte = byte ≡ h
+HighIs base (Tag k) byte = byte ≡ high (minus16 base k)
+
+-- Closed, the stack pointer is this far below the base. Open, its low byte is still that of the base less the offset, and its
+-- high byte is as the form says.
+abbrev pub SpIs : ℕ → Bool → ℕ → SpForm → Type 0
+SpIs base is_open sp (Closed offset) = (is_open ≡ false) × (sp + offset ≡ base)
+SpIs base is_open sp (Open offset h) = (is_open ≡ true) × (low sp ≡ low (minus16 base offset)) × HighIs base h (high sp)
+
+-- the machine is at this node
+pub record AtNode (base : ℕ) (m : State) (key : NodeKey) : Type 0 where
+  pub pc : m.pc ≡ key.pc
+  pub enables : m.enables ≡ key.masks
+  pub i : i_flag m ≡ key.i
+  pub delay : m.delay ≡ key.delay
+  pub sp : SpIs base m.is_open m.sp key.sp

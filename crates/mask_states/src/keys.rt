@@ -1,0 +1,233 @@
+//! Keys of instances and nodes.
+
+ghost use Rattle.std.specs.Prelude.{◌≡◌, ◌↔◌, IsTrue, refl};
+ghost use Rattle.std.specs.Ordering.{as_partial_cmp};
+ghost use Rattle.mask_states.specs.Order.{inst_cmp, node_cmp, same_inst, same_node};
+ghost use Rattle.mask_states.specs.Total.{inst_total, inst_equivalence, inst_partial, inst_equal, node_total, node_equivalence, node_partial, node_equal};
+
+use std::cmp::Ordering;
+use vector_table::Masks;
+
+/// How an instance is entered.
+#[derive(Clone, Copy, PartialEq, Eq, PartialOrd, Ord, Debug)]
+pub enum Kind {
+    /// It begins at reset.
+    Root,
+    /// By a call.
+    Call,
+    /// By an interrupt of this vector, 2 to 26.
+    Vector(u8),
+}
+
+/// An instance: the root, one call or one interrupt entry, with what the machine's state is there. Ordered by its fields.
+#[derive(Clone, Copy, Debug)]
+pub struct InstKey {
+    /// How it is entered.
+    pub kind: Kind,
+    /// The word address at which it begins.
+    pub entry: u16,
+    /// The enable bits at its entry.
+    pub masks: Masks,
+    /// The flag I at its entry.
+    pub i: bool,
+}
+
+/// The high byte of a stack pointer of which only the high byte is written.
+#[derive(Clone, Copy, PartialEq, Eq, PartialOrd, Ord, Debug)]
+pub enum High {
+    /// This byte.
+    Known(u8),
+    /// That of the base less this number, modulo 65,536.
+    Tag(u16),
+}
+
+/// Where the stack pointer is, by its offset: how many bytes it is below the base, which is the stack pointer after the frame's
+/// entry.
+#[derive(Clone, Copy, PartialEq, Eq, PartialOrd, Ord, Debug)]
+pub enum SpForm {
+    /// It is whole, at this offset.
+    Closed(u16),
+    /// Its low byte is that of this offset, and its high byte is written anew.
+    Open(u16, High),
+}
+
+/// A node: an instance and where the machine is in it. Ordered by its fields.
+#[derive(Clone, Copy, Debug)]
+pub struct NodeKey {
+    /// The instance.
+    pub inst: InstKey,
+    /// The program counter, a word address.
+    pub pc: u16,
+    /// The enable bits.
+    pub masks: Masks,
+    /// The flag I.
+    pub i: bool,
+    /// One more instruction executes before any interrupt.
+    pub delay: bool,
+    /// Where the stack pointer is.
+    pub sp: SpForm,
+}
+
+/// How an edge leads from a node to another.
+#[derive(Clone, Copy, PartialEq, Eq, PartialOrd, Ord, Debug)]
+pub enum EdgeKind {
+    /// By an instruction, in the same instance.
+    Local,
+    /// Into the instance of a call.
+    Call,
+    /// Into that of an interrupt of this vector, 2 to 26, and whether its own enable bit is cleared then.
+    Interrupt(u8, bool),
+    /// Out of an instance.
+    Return,
+}
+
+impl InstKey {
+    ghost use Rattle.mask_states.specs.Keys.{root_inst};
+
+    /// The instance that begins at reset.
+    pub fn root() -> InstKey
+        ensures { result ≡ root_inst }
+    {
+        InstKey {
+            kind: Kind::Root,
+            entry: 0,
+            masks: Masks::none(),
+            i: false,
+        }
+    }
+}
+
+impl SpForm {
+    ghost use Rattle.mask_states.specs.Keys.{offset_of};
+
+    /// How many bytes the stack pointer is below the base; of an open form, those of the low byte.
+    pub fn offset(&self) -> u16
+        ensures { result ≡ offset_of self.now }
+    {
+        match *self {
+            SpForm::Closed(offset) => offset,
+            SpForm::Open(offset, _) => offset,
+        }
+    }
+}
+
+impl NodeKey {
+    ghost use Rattle.mask_states.specs.Keys.{offset_of, entry_key};
+
+    /// The node at which an instance begins.
+    pub fn entry(inst: &InstKey) -> NodeKey
+        ensures { result ≡ entry_key inst.now }
+    {
+        NodeKey {
+            inst: *inst,
+            pc: inst.entry,
+            masks: inst.masks,
+            i: inst.i,
+            delay: false,
+            sp: SpForm::Closed(0),
+        }
+    }
+
+    /// The offset of its stack pointer.
+    pub fn offset(&self) -> u16
+        ensures { result ≡ offset_of self.now.sp }
+    {
+        self.sp.offset()
+    }
+}
+
+impl Ord for InstKey {
+    ghost cmp = { inst_cmp };
+
+    ghost total = { inst_total };
+
+    ghost matches_partial_cmp = { λ a b. refl };
+
+    ghost matches_eq = { inst_equal };
+
+    /// The first field that differs decides, in the order in which they are declared.
+    fn cmp(&self, other: &InstKey) -> Ordering {
+        self.kind
+            .cmp(&other.kind)
+            .then(self.entry.cmp(&other.entry))
+            .then(self.masks.cmp(&other.masks))
+            .then(self.i.cmp(&other.i))
+    }
+}
+
+impl PartialOrd for InstKey {
+    ghost partial_cmp = { as_partial_cmp inst_cmp };
+
+    ghost laws = { inst_partial };
+
+    fn partial_cmp(&self, other: &InstKey) -> Option<Ordering> {
+        Some(self.cmp(other))
+    }
+}
+
+impl PartialEq for InstKey {
+    ghost eq = { same_inst };
+
+    ghost laws = { inst_equivalence.0 };
+
+    /// Whether all fields are the same.
+    fn eq(&self, other: &InstKey) -> bool
+        ensures test { result ≡ same_inst self.now other.now }
+        ensures same { IsTrue result ↔ (self.now ≡ other.now) }
+    {
+        self.cmp(other).is_eq()
+    }
+}
+
+impl Eq for InstKey {
+    ghost laws = { inst_equivalence.1 };
+}
+
+impl Ord for NodeKey {
+    ghost cmp = { node_cmp };
+
+    ghost total = { node_total };
+
+    ghost matches_partial_cmp = { λ a b. refl };
+
+    ghost matches_eq = { node_equal };
+
+    /// The first field that differs decides, in the order in which they are declared.
+    fn cmp(&self, other: &NodeKey) -> Ordering {
+        self.inst
+            .cmp(&other.inst)
+            .then(self.pc.cmp(&other.pc))
+            .then(self.masks.cmp(&other.masks))
+            .then(self.i.cmp(&other.i))
+            .then(self.delay.cmp(&other.delay))
+            .then(self.sp.cmp(&other.sp))
+    }
+}
+
+impl PartialOrd for NodeKey {
+    ghost partial_cmp = { as_partial_cmp node_cmp };
+
+    ghost laws = { node_partial };
+
+    fn partial_cmp(&self, other: &NodeKey) -> Option<Ordering> {
+        Some(self.cmp(other))
+    }
+}
+
+impl PartialEq for NodeKey {
+    ghost eq = { same_node };
+
+    ghost laws = { node_equivalence.0 };
+
+    /// Whether all fields are the same.
+    fn eq(&self, other: &NodeKey) -> bool
+        ensures test { result ≡ same_node self.now other.now }
+        ensures same { IsTrue result ↔ (self.now ≡ other.now) }
+    {
+        self.cmp(other).is_eq()
+    }
+}
+
+impl Eq for NodeKey {
+    ghost laws = { node_equivalence.1 };
+}

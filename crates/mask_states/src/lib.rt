@@ -1,0 +1,12 @@
+//! Keys of instances and nodes, and the enable bits that a write may leave.
+#![tactic(auto)]
+
+pub mod keys;
+pub mod laws;
+pub mod splits;
+
+pub use keys::{EdgeKind, High, InstKey, Kind, NodeKey, SpForm};
+pub use splits::{Splits, split};
+
+#[cfg(test)]
+mod tests;
