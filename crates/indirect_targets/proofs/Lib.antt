@@ -1,0 +1,6 @@
+pub mod Numbers
+pub mod Parts
+pub mod Loop
+pub mod Entries
+pub mod Lists
+pub mod Exact
