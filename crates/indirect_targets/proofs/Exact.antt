@@ -1,5 +1,5 @@
 -- Assumption lists: what is read is due, and what is due is read.
-use Rattle.std.proofs.Common.{◌≡◌, ◌≢◌, ◌+◌, ◌<◌, ◌≤◌, ℕ, List, [], ◌∷◌, ◌++◌, Bool, true, false, length, append_assoc, append-nil, refl, ap, sym, ◌∙◌, subst, arith, Option, Some, None, Result, Ok, Err, cond, ◌⊎◌, inl, inr, ltb, ltb-true, ltb-false}
+use Rattle.std.proofs.Common.{◌≡◌, ◌≢◌, ◌+◌, ◌<◌, ◌≤◌, ℕ, List, [], ◌∷◌, ◌++◌, Bool, true, false, length, length-append, append_assoc, append-nil, refl, ap, sym, ◌∙◌, subst, arith, Option, Some, None, Result, Ok, Err, cond, ◌⊎◌, inl, inr, ltb, ltb-true, ltb-false}
 use Rattle.std.specs.List.{AllByRecursion, flat_map}
 use Rattle.std.proofs.lemmas.Bool.{cases_Bool}
 use Rattle.std.proofs.lemmas.Bool.Decides.{nat_tests}
@@ -13,7 +13,7 @@ use Rattle.line_reading.specs.Words.{WordLaws, IsWord, whole}
 use Rattle.vector_table.specs.Entries.{AreEntries, is_entry, is_above_last, most_entries}
 use Rattle.indirect_targets.specs.declared.fault.AssumeText.{AssumeText}
 use Rattle.indirect_targets.specs.declared.fault.AssumeText.TheVariants.{Malformed, Order, Memory}
-use Rattle.indirect_targets.specs.Exact.{IsReading, StandsAt, BeginsWithNone, IsMalformed, IsOutOfOrder, IsDue, IsDueUnlessMemory, ReadIsDue, DueIsRead, OneText}
+use Rattle.indirect_targets.specs.Exact.{StandsAt, BeginsWithNone, IsMalformed, IsOutOfOrder, IsDue, IsDueUnlessMemory, IsStuck, ReadIsDue, DueIsRead, RefusedIsStuck, OneText}
 use Rattle.indirect_targets.specs.Reading.{entry_in, entry_by, next_by, placed, with_line, entries_from, entries_in}
 use Rattle.indirect_targets.specs.Spelling.{entry_words, line_of, text_of}
 use Rattle.indirect_targets.proofs.Entries.{chosen, some_is, none_some, entry_laws, entry_is_words}
@@ -208,6 +208,39 @@ due_is_read k text (Err (Order number)) h =
     from_start k text number h.before (line_of h.entry ++ h.rest) h.at ∙ disordered_by k h.before h.entry h.rest h.formed h.room h.low
     ∙ ap (λ (n : ℕ). Err (Order n)) (sym h.at.number)
 due_is_read k text (Err Memory) h = absurd h
+
+-- ---- a refusal
+
+full_or_none : (before : List Entry) (here : List ℕ) → (length before ≡ most_entries) ⊎ BeginsWithNone here → (e : Entry) (more : List Entry) (rest : List ℕ) → AreEntries (before ++ e ∷ more)
+    → here ≢ line_of e ++ rest
+full_or_none before here (inl full) e more rest fits = λ same. let room = (follows before e more fits).room in omega arith
+full_or_none before here (inr none) e more rest fits = none e rest (follows before e more fits).formed
+
+-- a text begins with the line of one entry at most
+one_entry : WordLaws → (a b : Entry) (xs ys : List ℕ) → is_entry a ≡ true → is_entry b ≡ true → line_of a ++ xs ≡ line_of b ++ ys → a ≡ b
+one_entry k a b xs ys fa fb e =
+    let lines = head_is (whole (entry_words a)) (whole (entry_words b)) (lines_of xs) (lines_of ys) (sym (first_line k a xs fa) ∙ ap lines_of e ∙ first_line k b ys fb) in
+    some_is a b (sym (line_taken k a fa) ∙ ap entry_by lines.0 ∙ line_taken k b fb)
+
+low_and_above : (before : List Entry) (a b : Entry) → is_above_last before a ≡ false → is_above_last before b ≡ true → a ≡ b → ⊥
+low_and_above before a b low up e = let bad : true ≡ false = sym up ∙ ap (is_above_last before) (sym e) ∙ low in cc
+
+begins_some : (e : Entry) (rest : List ℕ) → line_of e ++ rest ≢ []
+begins_some e rest = λ none. let n = ap length none in let a = length-append (line_of e) rest in let b = length-append (spaced (entry_words e)) (10 ∷ []) in omega arith
+
+pub refused_is_stuck : WordLaws → RefusedIsStuck
+refused_is_stuck k = record {
+  malformed = λ text number h. record { before = h.before; here = h.here; at = h.at; some = h.some; stop = full_or_none h.before h.here h.stop };
+  out_of_order = λ text number h. record {
+    before = h.before;
+    here = line_of h.entry ++ h.rest;
+    at = h.at;
+    some = begins_some h.entry h.rest;
+    stop = λ e more rest fits same.
+        let f = follows h.before e more fits in
+        low_and_above h.before h.entry e h.low f.above (one_entry k h.entry e h.rest rest h.formed f.formed same);
+  };
+}
 
 ok_is : (a b : List Entry) → ◌≡◌ {A = Result (List Entry) AssumeText} (Ok a) (Ok b) → a ≡ b
 ok_is a b e = cc

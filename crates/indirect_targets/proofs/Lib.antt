@@ -4,3 +4,5 @@ pub mod Loop
 pub mod Entries
 pub mod Lists
 pub mod Exact
+pub mod Members
+pub mod AllLaws

@@ -52,6 +52,14 @@ abbrev pub IsDueUnlessMemory : List ℕ → Result (List Entry) AssumeText → T
 IsDueUnlessMemory text (Err Memory) = ⊤
 IsDueUnlessMemory text answer = IsDue text answer
 
+-- The lines before this one are those of a list, another line stands behind them, and no list has it behind theirs.
+pub record IsStuck (text : List ℕ) (line : ℕ) : Type 0 where
+  pub before : List Entry
+  pub here : List ℕ
+  pub at : StandsAt text line before here
+  pub some : here ≢ []
+  pub stop : (e : Entry) (more : List Entry) (rest : List ℕ) → AreEntries (before ++ e ∷ more) → here ≢ line_of e ++ rest
+
 -- ---- laws
 
 -- what is read of a text is due
@@ -61,6 +69,15 @@ ReadIsDue = (text : List ℕ) → IsDue text (entries_in text)
 -- what is due is read, so one answer alone is due
 abbrev pub DueIsRead : Type 0
 DueIsRead = (text : List ℕ) (due : Result (List Entry) AssumeText) → IsDue text due → entries_in text ≡ due
+
+pub record ReadingIsExact : Type 0 where
+  pub read : ReadIsDue
+  pub due : DueIsRead
+
+-- a line that is told is the first one at which no list can go on
+pub record RefusedIsStuck : Type 0 where
+  pub malformed : (text : List ℕ) (line : ℕ) → IsMalformed text line → IsStuck text line
+  pub out_of_order : (text : List ℕ) (line : ℕ) → IsOutOfOrder text line → IsStuck text line
 
 -- no text is that of two lists
 abbrev pub OneText : Type 0

@@ -1,10 +1,11 @@
-//! Laws of the texts of assumption lists. Each function does nothing; its contract is the law.
+//! Laws of the texts of assumption lists, and of targets. Each function does nothing; its contract is the law.
 
-ghost use Rattle.indirect_targets.specs.Exact.{ReadIsDue, DueIsRead, OneText, EntryWords};
+ghost use Rattle.indirect_targets.specs.Exact.{ReadingIsExact, RefusedIsStuck, OneText, EntryWords};
+ghost use Rattle.indirect_targets.specs.Targets.{TargetsAreThoseOfMembers};
 
 use line_reading::laws::word_laws;
 
-/// The line of an entry is read as it, and a line that is read is that of the entry.
+/// The words of an entry are read as it, and words that are read are those of the entry.
 pub fn entry_words()
     ensures { EntryWords }
 {
@@ -13,8 +14,14 @@ pub fn entry_words()
 
 /// What is read of a text is what is due by the spelling of lists, and nothing else is due.
 pub fn reading_is_exact()
-    ensures read { ReadIsDue }
-    ensures due { DueIsRead }
+    ensures { ReadingIsExact }
+{
+    word_laws();
+}
+
+/// A line that is told is the first one at which no list can go on.
+pub fn refused_is_stuck()
+    ensures { RefusedIsStuck }
 {
     word_laws();
 }
@@ -25,3 +32,8 @@ pub fn one_text()
 {
     word_laws();
 }
+
+/// The targets are just the words of members modulo 16,384, they ascend, and more permitted bits give at least these.
+pub fn targets_are_those_of_members()
+    ensures { TargetsAreThoseOfMembers }
+{}

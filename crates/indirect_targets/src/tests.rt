@@ -1,6 +1,7 @@
-//! Texts with the answers that the rules give, worked out by hand, and written lists.
+//! Texts with the answers that the rules give, worked out by hand, written lists, and targets.
 
-use crate::{AssumeText, read, write};
+use crate::{AssumeText, entry_of, read, targets, write};
+use bit_domain::TriByte;
 use sb_base::LineWriter;
 use std::alloc::Global;
 use std::test::Fail;
@@ -130,5 +131,66 @@ fn line_4097_is_malformed_whatever_it_is(rt: HostRuntime) -> Result<(), Fail> {
             Err(AssumeText::Malformed(4_097))
         );
     }
+    Ok(())
+}
+
+#[test]
+fn a_line_alone_is_read_without_its_line_feed(rt: HostRuntime) -> Result<(), Fail> {
+    assert!(rt; entry_of(rt.alloc(), b"jump 0004 0005")?.is_some());
+    assert!(rt; entry_of(rt.alloc(), b"jump 0004 0005\n")?.is_none());
+    Ok(())
+}
+
+/// Known bits and values of the low and the high byte, and the words; none where they are too many.
+const TARGETS: [(u8, u8, u8, u8, Option<&[u16]>); 8] = [
+    (0xFF, 0x34, 0xFF, 0x12, Some(&[0x1234])),
+    (0xFF, 0x34, 0xFF, 0xD2, Some(&[0x1234])),
+    (0xFF, 0x34, 0x3F, 0x12, Some(&[0x1234])),
+    (
+        0xFC,
+        0x00,
+        0xFF,
+        0x12,
+        Some(&[0x1200, 0x1201, 0x1202, 0x1203]),
+    ),
+    (
+        0xFE,
+        0x04,
+        0xDF,
+        0x01,
+        Some(&[0x0104, 0x0105, 0x2104, 0x2105]),
+    ),
+    (
+        0x7F,
+        0x04,
+        0xFE,
+        0x00,
+        Some(&[0x0004, 0x0084, 0x0104, 0x0184]),
+    ),
+    (0x80, 0x00, 0xFF, 0x00, None),
+    (0x00, 0x00, 0x00, 0x00, None),
+];
+
+#[test]
+fn targets_are_the_words_of_all_members(rt: HostRuntime) {
+    for (low_known, low, high_known, high, due) in TARGETS {
+        let found = targets(
+            &TriByte::new(low_known, low),
+            &TriByte::new(high_known, high),
+        );
+        match (found, due) {
+            (Ok(words), Some(due)) => assert_eq!(rt; words.as_slice(), due),
+            (Ok(_), None) => assert!(rt; false, "{low_known} {high_known}"),
+            (Err(_), due) => assert!(rt; due.is_none(), "{low_known} {high_known}"),
+        }
+    }
+}
+
+#[test]
+fn six_unknown_bits_give_64_targets(rt: HostRuntime) -> Result<(), Fail> {
+    let words = targets(&TriByte::new(0xC0, 0x40), &TriByte::of(0x01))?;
+    assert_eq!(rt; words.as_slice().len(), 64);
+    assert_eq!(rt; words.as_slice()[0], 0x0140);
+    assert_eq!(rt; words.as_slice()[63], 0x017F);
     Ok(())
 }
