@@ -1,0 +1,19 @@
+-- The laws, each under the name of the public function that carries it. Crates above cite them from here; those of texts rest
+-- on what the readers of all texts share.
+use Rattle.line_reading.specs.Words.{WordLaws}
+use Rattle.bit_domain.proofs.AllLaws.{numbers_are_permitted, bytes_are_sets}
+use Rattle.indirect_targets.specs.Exact.{ReadingIsExact, EntryWords}
+use Rattle.indirect_targets.specs.Targets.{TargetsAreThoseOfMembers}
+use Rattle.indirect_targets.proofs.Entries.{entry_laws}
+use Rattle.indirect_targets.proofs.Exact.{read_is_due, due_is_read}
+use Rattle.indirect_targets.proofs.Members.{members_give_targets}
+pub use Rattle.indirect_targets.proofs.Exact.{refused_is_stuck, one_text}
+
+pub entry_words : WordLaws → EntryWords
+entry_words k = entry_laws k
+
+pub reading_is_exact : WordLaws → ReadingIsExact
+reading_is_exact k = record { read = read_is_due k; due = due_is_read k }
+
+pub targets_are_those_of_members : TargetsAreThoseOfMembers
+targets_are_those_of_members = members_give_targets numbers_are_permitted bytes_are_sets

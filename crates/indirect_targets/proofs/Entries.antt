@@ -1,0 +1,194 @@
+-- Entries and their words: what is written is read, and what is read was written.
+use Rattle.std.proofs.Common.{◌≡◌, ◌+◌, ◌<◌, ◌^◌, ℕ, List, [], ◌∷◌, ◌++◌, Bool, true, false, refl, ap, sym, ◌∙◌, subst, arith, Option, Some, None, cond, ◌⊎◌, inl, inr, codes, option_map, ltb-true, eqb, ◌&&◌, ◌||◌}
+use Rattle.std.specs.List.{AllByRecursion, list_all, list_any}
+use Rattle.std.proofs.lemmas.Bool.{and_parts, cases_Bool}
+use Rattle.std.proofs.lemmas.Bool.Decides.{nat_tests}
+use Rattle.std.proofs.lemmas.Slice.Eq.{bytes_eq-Decides}
+use Rattle.std.specs.Str.{bytes_eq}
+use Rattle.std.specs.Prelude.{nat_lt, nat_le, length}
+use Rattle.avr_model.specs.Vectors.{Vector, vectors, has_enables, is_protected}
+use Rattle.avr_model.specs.declared.assumption.Entry.{Entry}
+use Rattle.avr_model.specs.declared.assumption.Entry.TheVariants.{Jump, Store, Prove}
+use Rattle.sb_base.specs.Digits.{hex_digits}
+use Rattle.line_reading.specs.Reading.{◌>>=◌, hex_at, is_over}
+use Rattle.line_reading.specs.Words.{IsWord, WordLaws}
+use Rattle.vector_table.specs.Entries.{is_entry, is_word, ascends}
+use Rattle.indirect_targets.specs.Exact.{EntryWords}
+use Rattle.indirect_targets.specs.Reading.{numbers_in, listed_in, alone_in, numbered_in, admitted, entry_in}
+use Rattle.indirect_targets.specs.Spelling.{number_words, entry_words}
+
+-- ---- which way tests went
+
+pub chosen : {X : Type 0} (b : Bool) (x y z : X) → cond b x y ≡ z → ((b ≡ true) × (x ≡ z)) ⊎ ((b ≡ false) × (y ≡ z))
+chosen true x y z e = inl (refl, e)
+chosen false x y z e = inr (refl, e)
+
+pub some_is : {A : Type 0} (x y : A) → Some x ≡ Some y → x ≡ y
+some_is x y e = cc
+
+pub none_some : {A : Type 0} (x : A) → ◌≡◌ {A = Option A} None (Some x) → ⊥
+none_some x e = cc
+
+bind_some : {A B : Type 0} (o : Option A) (f : A → Option B) (y : B) → (o >>= f) ≡ Some y → (x : A) × (o ≡ Some x) × (f x ≡ Some y)
+bind_some None f y e = absurd (none_some y e)
+bind_some (Some x) f y e = (x, refl, e)
+
+map_some : {A B : Type 0} (o : Option A) (f : A → B) (y : B) → option_map f o ≡ Some y → (x : A) × (o ≡ Some x) × (f x ≡ y)
+map_some None f y e = absurd (none_some y e)
+map_some (Some x) f y e = (x, refl, some_is (f x) y e)
+
+no_words : (ws : List (List ℕ)) → is_over ws ≡ true → ws ≡ []
+no_words [] e = refl
+no_words (w ∷ ws) e = cc
+
+tail_is : {A : Type 0} (x y : A) (xs ys : List A) → x ∷ xs ≡ y ∷ ys → xs ≡ ys
+tail_is x y xs ys e = cc
+
+-- ---- the numbers of an entry fit four digits
+
+some_row_small : (rows : List Vector) (a : ℕ) → list_all (λ r. nat_lt r.address 256) rows ≡ true → list_any (λ r. eqb r.address a) rows ≡ true → a < 256
+some_row_small [] a h e = cc
+some_row_small (r ∷ rs) a h e =
+    let b = and_parts (nat_lt r.address 256) (list_all (λ r. nat_lt r.address 256) rs) h in
+    elim (cases_Bool (eqb r.address a)) [
+      | inl same ↦ let low = ltb-true r.address 256 b.0 in grind (arith, nat_tests)
+      | inr other ↦ some_row_small rs a b.1 (rw other at e)
+    ]
+
+protected_small : (a : ℕ) → is_protected a ≡ true → a < 16 ^ 4
+unfolding has_enables
+protected_small a h = elim (cases_Bool (has_enables a)) [
+  | inl held ↦ let small = some_row_small vectors a refl held in omega (arith, small)
+  | inr none ↦ let rest : (nat_lt a 32 || (nat_le 93 a && nat_le a 95) || false) ≡ true = rw none at h in grind (arith, nat_tests)
+]
+
+word_small : (a : ℕ) → is_word a ≡ true → a < 16 ^ 4
+word_small a h = let small = ltb-true a 16384 h in omega (arith, small)
+
+-- numbers that four digits hold
+abbrev AreShort : List ℕ → Type 0
+AreShort ns = AllByRecursion (λ n. n < 16 ^ 4) ns
+
+all_short : (p : ℕ → Bool) → ((n : ℕ) → p n ≡ true → n < 16 ^ 4) → (ns : List ℕ) → list_all p ns ≡ true → AreShort ns
+all_short p small [] h = tt
+all_short p small (n ∷ ns) h = let b = and_parts (p n) (list_all p ns) h in (small n b.0, all_short p small ns b.1)
+
+-- the site and the items
+abbrev numbers : Entry → List ℕ
+numbers (Jump site words) = site ∷ words
+numbers (Store site addresses) = site ∷ addresses
+numbers (Prove site) = site ∷ []
+
+items_short : (p : ℕ → Bool) → ((n : ℕ) → p n ≡ true → n < 16 ^ 4) → (site : ℕ) (ns : List ℕ)
+    → (is_word site && (nat_le 1 (length ns) && nat_le (length ns) 64 && ascends ns && list_all p ns)) ≡ true → AreShort (site ∷ ns)
+items_short p small site ns h =
+    let site_and = and_parts (is_word site) (nat_le 1 (length ns) && nat_le (length ns) 64 && ascends ns && list_all p ns) h in
+    let each = and_parts (nat_le 1 (length ns) && nat_le (length ns) 64 && ascends ns) (list_all p ns) site_and.1 in
+    (word_small site site_and.0, all_short p small ns each.1)
+
+entry_short : (e : Entry) → is_entry e ≡ true → AreShort (numbers e)
+entry_short (Jump site words) h = items_short is_word word_small site words h
+entry_short (Store site addresses) h = items_short is_protected protected_small site addresses h
+entry_short (Prove site) h = (word_small site h, tt)
+
+-- ---- numbers
+
+numbers_taken : WordLaws → (ns : List ℕ) → AreShort ns → numbers_in (number_words ns) ≡ Some ns
+numbers_taken k [] h = refl
+numbers_taken k (n ∷ ns) h = rw (k.hex_taken 4 n (number_words ns) h.0, numbers_taken k ns h.1) refl
+
+numbers_takes : WordLaws → (ws : List (List ℕ)) (ns : List ℕ) → numbers_in ws ≡ Some ns → ws ≡ number_words ns
+numbers_takes k [] ns e = ap number_words (some_is [] ns e)
+numbers_takes k (w ∷ ws) ns e =
+    let n = bind_some (hex_at 4 (w ∷ ws)) _ ns e in
+    let rest = map_some (numbers_in ws) _ ns n.2 in
+    let t = k.hex_takes 4 n.0.0 (w ∷ ws) n.0.1 n.1 in
+    let same = tail_is w (hex_digits n.0.0 4) ws n.0.1 t.0 in
+    t.0 ∙ ap (λ (v : List (List ℕ)). hex_digits n.0.0 4 ∷ v) (sym same ∙ numbers_takes k ws rest.0 rest.1) ∙ ap number_words rest.2
+
+listed_taken : WordLaws → (site : ℕ) (ns : List ℕ) → AreShort (site ∷ ns) → listed_in (number_words (site ∷ ns)) ≡ Some (site, ns)
+listed_taken k site ns h = rw (k.hex_taken 4 site (number_words ns) h.0, numbers_taken k ns h.1) refl
+
+listed_takes : WordLaws → (ws : List (List ℕ)) (l : ℕ × List ℕ) → listed_in ws ≡ Some l → ws ≡ number_words (l.0 ∷ l.1)
+listed_takes k ws l e =
+    let s = bind_some (hex_at 4 ws) _ l e in
+    let rest = map_some (numbers_in s.0.1) _ l s.2 in
+    let t = k.hex_takes 4 s.0.0 ws s.0.1 s.1 in
+    t.0 ∙ ap (λ (v : List (List ℕ)). hex_digits s.0.0 4 ∷ v) (numbers_takes k s.0.1 rest.0 rest.1)
+    ∙ ap (λ (x : ℕ × List ℕ). number_words (x.0 ∷ x.1)) rest.2
+
+alone_taken : WordLaws → (site : ℕ) → site < 16 ^ 4 → alone_in (number_words (site ∷ [])) ≡ Some site
+alone_taken k site h = rw (k.hex_taken 4 site [] h) refl
+
+alone_takes : WordLaws → (ws : List (List ℕ)) (site : ℕ) → alone_in ws ≡ Some site → ws ≡ number_words (site ∷ [])
+alone_takes k ws site e =
+    let s = bind_some (hex_at 4 ws) _ site e in
+    let t = k.hex_takes 4 s.0.0 ws s.0.1 s.1 in
+    elim (chosen (is_over s.0.1) _ _ (Some site) s.2) [
+      | inl h ↦
+          t.0 ∙ ap (λ (v : List (List ℕ)). hex_digits s.0.0 4 ∷ v) (no_words s.0.1 h.0)
+          ∙ ap (λ (n : ℕ). number_words (n ∷ [])) (some_is s.0.0 site h.1)
+      | inr h ↦ absurd (none_some site h.1)
+    ]
+
+-- ---- entries
+
+kind_is : (w : List ℕ) (ws vs : List (List ℕ)) (kind : List ℕ) → bytes_eq w kind ≡ true → ws ≡ vs → w ∷ ws ≡ kind ∷ vs
+kind_is w ws vs kind e f = rw ((bytes_eq-Decides w kind).0 e, f) refl
+
+numbered_takes : WordLaws → (ws : List (List ℕ)) (e : Entry) → numbered_in ws ≡ Some e → ws ≡ entry_words e
+unfolding numbered_in
+numbered_takes k [] e is = absurd (none_some e is)
+numbered_takes k (w ∷ ws) e is = elim (chosen (bytes_eq w (codes "jump")) _ _ (Some e) is) [
+  | inl jump ↦
+      let l = map_some (listed_in ws) _ e jump.1 in
+      kind_is w ws (number_words (l.0.0 ∷ l.0.1)) (codes "jump") jump.0 (listed_takes k ws l.0 l.1) ∙ ap entry_words l.2
+  | inr other ↦ elim (chosen (bytes_eq w (codes "store")) _ _ (Some e) other.1) [
+    | inl store ↦
+        let l = map_some (listed_in ws) _ e store.1 in
+        kind_is w ws (number_words (l.0.0 ∷ l.0.1)) (codes "store") store.0 (listed_takes k ws l.0 l.1) ∙ ap entry_words l.2
+    | inr neither ↦ elim (chosen (bytes_eq w (codes "prove")) _ _ (Some e) neither.1) [
+      | inl proof ↦
+          let s = map_some (alone_in ws) _ e proof.1 in
+          kind_is w ws (number_words (s.0 ∷ [])) (codes "prove") proof.0 (alone_takes k ws s.0 s.1) ∙ ap entry_words s.2
+      | inr none ↦ absurd (none_some e none.1)
+    ]
+  ]
+]
+
+numbered_taken : WordLaws → (e : Entry) → is_entry e ≡ true → numbered_in (entry_words e) ≡ Some e
+unfolding numbered_in
+numbered_taken k (Jump site words) h = ap (option_map (λ l. Jump l.0 l.1)) (listed_taken k site words (entry_short (Jump site words) h))
+numbered_taken k (Store site addresses) h = ap (option_map (λ l. Store l.0 l.1)) (listed_taken k site addresses (entry_short (Store site addresses) h))
+numbered_taken k (Prove site) h = ap (option_map (λ s. Prove s)) (alone_taken k site (word_small site h))
+
+entry_taken : WordLaws → (e : Entry) → is_entry e ≡ true → entry_in (entry_words e) ≡ Some e
+unfolding entry_in
+entry_taken k e h = ap (λ (o : Option Entry). o >>= admitted) (numbered_taken k e h) ∙ ap (λ (b : Bool). cond b (Some e) None) h
+
+entry_takes : WordLaws → (ws : List (List ℕ)) (e : Entry) → entry_in ws ≡ Some e → (ws ≡ entry_words e) × (is_entry e ≡ true)
+unfolding entry_in
+entry_takes k ws e is =
+    let n = bind_some (numbered_in ws) admitted e is in
+    elim (chosen (is_entry n.0) _ _ (Some e) n.2) [
+      | inl h ↦
+          let same = some_is n.0 e h.1 in
+          (numbered_takes k ws n.0 n.1 ∙ ap entry_words same, ap is_entry (sym same) ∙ h.0)
+      | inr h ↦ absurd (none_some e h.1)
+    ]
+
+pub entry_laws : WordLaws → EntryWords
+entry_laws k = record { read = entry_taken k; spelled = entry_takes k }
+
+-- ---- words without spaces and line feeds
+
+are_words : WordLaws → (ns : List ℕ) → AreShort ns → AllByRecursion IsWord (number_words ns)
+are_words k [] h = tt
+are_words k (n ∷ ns) h = (k.hex_word n 4 h.0, are_words k ns h.1)
+
+pub entry_is_words : WordLaws → (e : Entry) → is_entry e ≡ true → AllByRecursion IsWord (entry_words e)
+entry_is_words k (Jump site words) h = (((refl, (refl, (refl, (refl, tt)))), (refl, (refl, (refl, (refl, tt))))), are_words k (site ∷ words) (entry_short (Jump site words) h))
+entry_is_words k (Store site addresses) h =
+    (((refl, (refl, (refl, (refl, (refl, tt))))), (refl, (refl, (refl, (refl, (refl, tt)))))), are_words k (site ∷ addresses) (entry_short (Store site addresses) h))
+entry_is_words k (Prove site) h =
+    (((refl, (refl, (refl, (refl, (refl, tt))))), (refl, (refl, (refl, (refl, (refl, tt)))))), are_words k (site ∷ []) (entry_short (Prove site) h))

@@ -1,0 +1,173 @@
+-- The words to which an indirect transfer may lead.
+use Rattle.std.proofs.Common.{◌≡◌, ◌∙◌, sym, ap, subst, refl, ℕ, zero, suc, ◌+◌, ◌-◌, ◌*◌, ◌/◌, ◌%◌, ◌^◌, ◌<◌, ◌≤◌, arith, inl, inr, true, false, cond, ltb, List, [], ◌∷◌, ◌++◌, map, length, length-append, get_or, add-one, Result, Ok, Err}
+use Rattle.std.specs.Int.{bit_at}
+use Rattle.std.specs.List.{All, Contains}
+use Rattle.std.specs.Result.{IsErr}
+use Rattle.std.proofs.Math.Pow.{pow_mono}
+use Rattle.std.proofs.lemmas.Bool.{cases_lt, cases_eq, false≢true}
+use Rattle.std.proofs.lemmas.Bool.Decides.{nat_tests}
+use Rattle.std.proofs.lemmas.List.{length-map, get_or_default}
+use Rattle.std.proofs.lemmas.Nat.Bits.{bit_at_cat_low, bit_at_cat_high}
+use Rattle.bit_domain.specs.declared.bits.Tri.{Tri}
+use Rattle.bit_domain.specs.declared.bits.Tri.TheVariants.{Zero, One, Any}
+use Rattle.bit_domain.specs.declared.bytes.TriByte.{TriByte}
+use Rattle.bit_domain.specs.Tri.{Permits}
+use Rattle.bit_domain.specs.TriByte.{tri_at, Has, IsWithin}
+use Rattle.bit_domain.specs.Numbers.{with_top, numbers_of, IsPermitted}
+use Rattle.bit_domain.specs.Laws.{BytesAreSets, NumbersArePermitted}
+use Rattle.indirect_targets.specs.Targets.{pointer_bit, targets_of, most_targets, Keeps, IsGiven, TargetsAreThoseOfMembers}
+
+-- ---- bits of a pointer
+
+pointer_low : (lo hi : TriByte) (i : ℕ) → i < 8 → pointer_bit lo hi i ≡ tri_at lo i
+pointer_low lo hi i lt = let low : ltb i 8 ≡ true = grind (arith, nat_tests) in ap (λ b. cond b (tri_at lo i) (tri_at hi (i - 8))) low
+
+pointer_high : (lo hi : TriByte) (i : ℕ) → pointer_bit lo hi (8 + i) ≡ tri_at hi i
+pointer_high lo hi i =
+    let high : ltb (8 + i) 8 ≡ false = grind (arith, nat_tests) in
+    let back : (8 + i) - 8 ≡ i = omega arith in
+    ap (λ b. cond b (tri_at lo (8 + i)) (tri_at hi ((8 + i) - 8))) high ∙ ap (tri_at hi) back
+
+low_bits : (n i : ℕ) → i < 8 → bit_at n i ≡ bit_at (n % 256) i
+low_bits n i lt =
+    let parts : n ≡ n / 256 * 2 ^ 8 + n % 256 = omega arith in
+    ap (λ (m : ℕ). bit_at m i) parts ∙ bit_at_cat_low (n / 256) 8 (n % 256) i lt
+
+high_bits : (n i : ℕ) → bit_at n (8 + i) ≡ bit_at (n / 256) i
+high_bits n i =
+    let parts : n ≡ n / 256 * 2 ^ 8 + n % 256 = omega arith in
+    let back : (8 + i) - 8 ≡ i = omega arith in
+    ap (λ (m : ℕ). bit_at m (8 + i)) parts ∙ bit_at_cat_high (n / 256) 8 (n % 256) (8 + i) (omega arith) (omega arith) ∙ ap (bit_at (n / 256)) back
+
+-- the bits below 14 of a number are those of its remainder
+word_bits : (n i : ℕ) → i < 14 → bit_at n i ≡ bit_at (n % 16384) i
+word_bits n i lt =
+    let parts : n ≡ n / 16384 * 2 ^ 14 + n % 16384 = omega arith in
+    ap (λ (m : ℕ). bit_at m i) parts ∙ bit_at_cat_low (n / 16384) 14 (n % 16384) i lt
+
+-- ---- a permitted word is that of members, and the other way round
+
+-- a byte with the low 6 bits of the word's high part, and the others of another byte
+high_with : (t v i : ℕ) → t < 2 ^ 14 → i < 6 → bit_at (v / 64 * 2 ^ 6 + t / 256) i ≡ bit_at t (8 + i)
+high_with t v i small lt = bit_at_cat_low (v / 64) 6 (t / 256) i lt ∙ sym (high_bits t i)
+
+top_with : (t v i : ℕ) → t < 2 ^ 14 → 6 ≤ i → bit_at (v / 64 * 2 ^ 6 + t / 256) i ≡ bit_at v i
+top_with t v i small le =
+    let parts : v ≡ v / 64 * 2 ^ 6 + v % 64 = omega arith in
+    bit_at_cat_high (v / 64) 6 (t / 256) i (omega arith) le
+    ∙ sym (bit_at_cat_high (v / 64) 6 (v % 64) i (omega arith) le)
+    ∙ ap (λ (m : ℕ). bit_at m i) (sym parts)
+
+given_from : BytesAreSets → (lo hi : TriByte) (t : ℕ) → IsPermitted (pointer_bit lo hi) 14 t → IsGiven lo hi t
+given_from k lo hi t h =
+    let small = h.small in
+    let v = hi.value in
+    let member = k.member hi in
+    let byte = member.0 in
+    record {
+      x = t % 256;
+      y = v / 64 * 2 ^ 6 + t / 256;
+      x_small = omega arith;
+      y_small = omega arith;
+      x_in = λ i lt.
+          subst (λ (n : ℕ). Permits (tri_at lo i) n) (low_bits t i lt) (subst (λ b. Permits b (bit_at t i)) (pointer_low lo hi i lt) (h.bits i (omega arith)));
+      y_in = λ i lt. elim (cases_lt i 6) [
+        | inl below ↦
+            subst (λ (n : ℕ). Permits (tri_at hi i) n) (sym (high_with t v i small below))
+            (subst (λ b. Permits b (bit_at t (8 + i))) (pointer_high lo hi i) (h.bits (8 + i) (omega arith)))
+        | inr above ↦ subst (λ (n : ℕ). Permits (tri_at hi i) n) (sym (top_with t v i small above)) (member.1 i lt)
+      ];
+      is = omega arith;
+    }
+
+permitted_from : (lo hi : TriByte) (t : ℕ) → IsGiven lo hi t → IsPermitted (pointer_bit lo hi) 14 t
+permitted_from lo hi t h =
+    let x = h.x in
+    let y = h.y in
+    let x_small = h.x_small in
+    let whole : ℕ = x + 256 * y in
+    let is = h.is in
+    record {
+      small = omega arith;
+      bits = λ i lt.
+          let same : bit_at whole i ≡ bit_at t i = word_bits whole i lt ∙ ap (λ (m : ℕ). bit_at m i) is in
+          elim (cases_lt i 8) [
+            | inl below ↦
+                let low : whole % 256 ≡ x = omega arith in
+                let here : bit_at x i ≡ bit_at t i = ap (λ (m : ℕ). bit_at m i) (sym low) ∙ sym (low_bits whole i below) ∙ same in
+                subst (λ b. Permits b (bit_at t i)) (sym (pointer_low lo hi i below)) (subst (λ (n : ℕ). Permits (tri_at lo i) n) here (h.x_in i below))
+            | inr above ↦
+                let high : whole / 256 ≡ y = omega arith in
+                let place : 8 + (i - 8) ≡ i = omega arith in
+                let here : bit_at y (i - 8) ≡ bit_at t i =
+                ap (λ (m : ℕ). bit_at m (i - 8)) (sym high) ∙ sym (high_bits whole (i - 8)) ∙ ap (bit_at whole) place ∙ same in
+                subst (λ b. Permits b (bit_at t i)) (sym (pointer_high lo hi (i - 8)) ∙ ap (pointer_bit lo hi) place)
+                (subst (λ (n : ℕ). Permits (tri_at hi (i - 8)) n) here (h.y_in (i - 8) (omega arith)))
+          ];
+    }
+
+given_more : (lo hi lo' hi' : TriByte) (t : ℕ) → IsWithin lo lo' → IsWithin hi hi' → IsGiven lo hi t → IsGiven lo' hi' t
+given_more lo hi lo' hi' t low high h = record {
+  x = h.x;
+  y = h.y;
+  x_small = h.x_small;
+  y_small = h.y_small;
+  x_in = low h.x h.x_small h.x_in;
+  y_in = high h.y h.y_small h.y_in;
+  is = h.is;
+}
+
+pub members_give_targets : NumbersArePermitted → BytesAreSets → TargetsAreThoseOfMembers
+members_give_targets n k = record {
+  members = λ lo hi t. (
+    (λ c. given_from k lo hi t ((n.members (pointer_bit lo hi) 14 t).0 c)),
+    (λ g. (n.members (pointer_bit lo hi) 14 t).1 (permitted_from lo hi t g)),
+  );
+  ascending = λ lo hi. n.ascending (pointer_bit lo hi) 14;
+  count = λ lo hi. n.count (pointer_bit lo hi) 14;
+  more = λ lo hi lo' hi' t low high c.
+      (n.members (pointer_bit lo' hi') 14 t).1 (permitted_from lo' hi' t (given_more lo hi lo' hi' t low high (given_from k lo hi t ((n.members (pointer_bit lo hi) 14 t).0 c))));
+}
+
+-- ---- bit by bit
+
+pub no_bit : (f : ℕ → Tri) → numbers_of f 0 ≡ 0 ∷ []
+unfolding numbers_of
+no_bit f = refl
+
+pub one_bit_more : (f : ℕ → Tri) (i weight : ℕ) (bit : Tri) (ns : List ℕ) → ns ≡ numbers_of f i → bit ≡ f i → weight ≡ 2 ^ i → with_top bit weight ns ≡ numbers_of f (i + 1)
+unfolding numbers_of
+one_bit_more f i weight bit ns e b w = rw (e, b, w, add-one) refl
+
+longer : (t : Tri) (weight : ℕ) (ns : List ℕ) → length ns ≤ length (with_top t weight ns)
+longer Zero weight ns = omega arith
+longer One weight ns = let e = length-map ns (λ (n : ℕ). weight + n) in omega arith
+longer Any weight ns = let e = length-append ns (map (λ (n : ℕ). weight + n) ns) in omega arith
+
+grows : (f : ℕ → Tri) (n m : ℕ) → n ≤ m → length (numbers_of f n) ≤ length (numbers_of f m)
+unfolding numbers_of
+grows f n zero h = let same : n ≡ 0 = omega arith in rw same (omega arith)
+grows f n (suc m) h = elim (cases_eq n (suc m)) [
+  | inl same ↦ rw same (omega arith)
+  | inr other ↦ omega (arith, grows f n m (omega arith), longer (f m) (2 ^ m) (numbers_of f m))
+]
+
+-- too many by then are too many in the end
+pub stays_many : (f : ℕ → Tri) (i : ℕ) (ns : List ℕ) → i < 14 → ns ≡ numbers_of f (i + 1) → most_targets < length ns → most_targets < length (numbers_of f 14)
+stays_many f i ns lt e many = let more = grows f (i + 1) 14 (omega arith) in omega (arith, ap length e)
+
+pub keeps_err : {E : Type 0} (r : Result (List ℕ) E) (due : List ℕ) → IsErr r → most_targets < length due → Keeps r due
+keeps_err (Ok t) due err many = absurd (false≢true err)
+keeps_err (Err e) due err many = many
+
+pub weight_is : (i : ℕ) → i < 14 → 1 * 2 ^ i % 65536 ≡ 2 ^ i
+weight_is i lt = let small : 2 ^ i ≤ 2 ^ 13 = pow_mono (let le : i ≤ 13 = omega arith in le) in omega arith
+
+pub weight_fits : NumbersArePermitted → (f : ℕ → Tri) (i : ℕ) (ns : List ℕ) → i < 14 → ns ≡ numbers_of f i → All (λ n. 1 * 2 ^ i % 65536 + n < 65536) ns
+weight_fits law f i ns lt e = λ k d l.
+    let small : 2 ^ i ≤ 2 ^ 13 = pow_mono (let le : i ≤ 13 = omega arith in le) in
+    let same = weight_is i lt in
+    let there : Contains ns (get_or ns k d) = (k, l, get_or_default ns k (get_or ns k d) d l) in
+    let permitted = (law.members f i (get_or ns k d)).0 (subst (λ (xs : List ℕ). Contains xs (get_or ns k d)) e there) in
+    let below = permitted.small in
+    omega arith

@@ -1,0 +1,89 @@
+-- Where a text reads as an assumption list, and where it doesn't, by the spelling alone.
+use Rattle.std.specs.Prelude.{◌≡◌, ◌≢◌, ◌<◌, ◌+◌, ◌++◌, ◌⊎◌, ℕ, List, [], ◌∷◌, length, true, false, Some, Result, Ok, Err, ⊤}
+use Rattle.avr_model.specs.declared.assumption.Entry.{Entry}
+use Rattle.vector_table.specs.Entries.{AreEntries, is_entry, is_above_last, most_entries}
+use Rattle.indirect_targets.specs.declared.fault.AssumeText.{AssumeText}
+use Rattle.indirect_targets.specs.declared.fault.AssumeText.TheVariants.{Malformed, Order, Memory}
+use Rattle.indirect_targets.specs.Spelling.{entry_words, line_of, text_of}
+use Rattle.indirect_targets.specs.Reading.{entry_in, entries_in}
+
+-- The text is that of this list.
+pub record IsReading (text : List ℕ) (entries : List Entry) : Type 0 where
+  pub fits : AreEntries entries
+  pub bytes : text ≡ text_of entries
+
+-- The lines before this one, which counts from 1, are those of a list, and this is the text from it on.
+pub record StandsAt (text : List ℕ) (line : ℕ) (before : List Entry) (here : List ℕ) : Type 0 where
+  pub fits : AreEntries before
+  pub bytes : text ≡ text_of before ++ here
+  pub number : line ≡ length before + 1
+
+-- the text begins with the line of no entry
+abbrev pub BeginsWithNone : List ℕ → Type 0
+BeginsWithNone here = (e : Entry) (rest : List ℕ) → is_entry e ≡ true → here ≢ line_of e ++ rest
+
+-- Something stands behind the lines of a list, and it begins with the line of no entry, or the list has room for none.
+pub record IsMalformed (text : List ℕ) (line : ℕ) : Type 0 where
+  pub before : List Entry
+  pub here : List ℕ
+  pub at : StandsAt text line before here
+  pub some : here ≢ []
+  pub stop : (length before ≡ most_entries) ⊎ BeginsWithNone here
+
+-- Behind the lines of a list with room for another entry stands the line of one that isn't above the last.
+pub record IsOutOfOrder (text : List ℕ) (line : ℕ) : Type 0 where
+  pub before : List Entry
+  pub entry : Entry
+  pub rest : List ℕ
+  pub at : StandsAt text line before (line_of entry ++ rest)
+  pub formed : is_entry entry ≡ true
+  pub room : length before < most_entries
+  pub low : is_above_last before entry ≡ false
+
+-- the answer that is due for a text
+abbrev pub IsDue : List ℕ → Result (List Entry) AssumeText → Type 0
+IsDue text (Ok entries) = IsReading text entries
+IsDue text (Err (Malformed line)) = IsMalformed text line
+IsDue text (Err (Order line)) = IsOutOfOrder text line
+IsDue text (Err Memory) = ⊥
+
+-- what was answered is due, unless memory was wanting
+abbrev pub IsDueUnlessMemory : List ℕ → Result (List Entry) AssumeText → Type 0
+IsDueUnlessMemory text (Err Memory) = ⊤
+IsDueUnlessMemory text answer = IsDue text answer
+
+-- The lines before this one are those of a list, another line stands behind them, and no list has it behind theirs.
+pub record IsStuck (text : List ℕ) (line : ℕ) : Type 0 where
+  pub before : List Entry
+  pub here : List ℕ
+  pub at : StandsAt text line before here
+  pub some : here ≢ []
+  pub stop : (e : Entry) (more : List Entry) (rest : List ℕ) → AreEntries (before ++ e ∷ more) → here ≢ line_of e ++ rest
+
+-- ---- laws
+
+-- what is read of a text is due
+abbrev pub ReadIsDue : Type 0
+ReadIsDue = (text : List ℕ) → IsDue text (entries_in text)
+
+-- what is due is read, so one answer alone is due
+abbrev pub DueIsRead : Type 0
+DueIsRead = (text : List ℕ) (due : Result (List Entry) AssumeText) → IsDue text due → entries_in text ≡ due
+
+pub record ReadingIsExact : Type 0 where
+  pub read : ReadIsDue
+  pub due : DueIsRead
+
+-- a line that is told is the first one at which no list can go on
+pub record RefusedIsStuck : Type 0 where
+  pub malformed : (text : List ℕ) (line : ℕ) → IsMalformed text line → IsStuck text line
+  pub out_of_order : (text : List ℕ) (line : ℕ) → IsOutOfOrder text line → IsStuck text line
+
+-- no text is that of two lists
+abbrev pub OneText : Type 0
+OneText = (a b : List Entry) → AreEntries a → AreEntries b → text_of a ≡ text_of b → a ≡ b
+
+-- the words of an entry are read as it, and words that are read are those of the entry
+pub record EntryWords : Type 0 where
+  pub read : (e : Entry) → is_entry e ≡ true → entry_in (entry_words e) ≡ Some e
+  pub spelled : (ws : List (List ℕ)) (e : Entry) → entry_in ws ≡ Some e → (ws ≡ entry_words e) × (is_entry e ≡ true)

@@ -1,0 +1,78 @@
+-- Worked texts, and worked targets.
+use Rattle.std.specs.Prelude.{◌≡◌, ℕ, ◌==◌, List, [], ◌∷◌, ◌++◌, length, codes, Ok, Err, refl, if◌then◌else◌}
+use Rattle.std.specs.List.{flat_map}
+use Rattle.avr_model.specs.Vectors.{has_enables}
+use Rattle.avr_model.specs.declared.assumption.Entry.{Entry}
+use Rattle.avr_model.specs.declared.assumption.Entry.TheVariants.{Jump, Store, Prove}
+use Rattle.bit_domain.specs.declared.bits.Tri.TheVariants.{Zero, Any}
+use Rattle.bit_domain.specs.Numbers.{numbers_of}
+use Rattle.bit_domain.specs.Packed.{packed}
+use Rattle.bit_domain.specs.TriByte.{byte_of, byte_known, byte_any}
+use Rattle.sb_base.specs.Digits.{hex_digits}
+use Rattle.indirect_targets.specs.declared.fault.AssumeText.TheVariants.{Malformed, Order}
+use Rattle.indirect_targets.specs.Spelling.{text_of}
+use Rattle.indirect_targets.specs.Reading.{numbered_in, entry_in, next_by, with_line, entries_from, entries_in}
+use Rattle.indirect_targets.specs.Targets.{targets_of}
+
+-- lines with their line feeds
+abbrev text : List (List ℕ) → List ℕ
+text ls = flat_map (λ l. l ++ 10 ∷ []) ls
+
+abbrev each_kind : List Entry
+each_kind = Jump 4 (5 ∷ 16383 ∷ []) ∷ Store 4 (0 ∷ 93 ∷ []) ∷ Prove 4 ∷ Prove 16383 ∷ []
+
+abbrev each_text : List ℕ
+each_text = text (codes "jump 0004 0005 3FFF" ∷ codes "store 0004 0000 005D" ∷ codes "prove 0004" ∷ codes "prove 3FFF" ∷ [])
+
+spelled : text_of each_kind ≡ each_text
+unfolding hex_digits
+spelled = refl
+
+read : entries_in each_text ≡ Ok each_kind
+unfolding entries_from with_line next_by entry_in numbered_in has_enables
+read = refl
+
+empty : entries_in [] ≡ Ok []
+unfolding entries_from
+empty = refl
+
+twice : entries_in (text (codes "jump 0004 0005" ∷ codes "jump 0004 0005" ∷ [])) ≡ Err (Order 2)
+unfolding entries_from with_line next_by entry_in numbered_in
+twice = refl
+
+-- the kinds at a site stand in their order
+kinds_turned : entries_in (text (codes "prove 0003" ∷ codes "store 0004 005D" ∷ codes "jump 0004 0005" ∷ [])) ≡ Err (Order 3)
+unfolding entries_from with_line next_by entry_in numbered_in has_enables
+kinds_turned = refl
+
+-- of a line that isn't above the last and not of its form either, the form is told
+form_first : entries_in (text (codes "prove 0004" ∷ codes "prove 003" ∷ [])) ≡ Err (Malformed 2)
+unfolding entries_from with_line next_by entry_in numbered_in
+form_first = refl
+
+unfinished : entries_in (codes "jump 0004 0005") ≡ Err (Malformed 1)
+unfolding entries_from with_line next_by
+unfinished = refl
+
+no_item : entries_in (text (codes "jump 0004" ∷ [])) ≡ Err (Malformed 1)
+unfolding entries_from with_line next_by entry_in numbered_in
+no_item = refl
+
+-- address 0020 isn't protected
+unprotected : entries_in (text (codes "store 0004 0020" ∷ [])) ≡ Err (Malformed 1)
+unfolding entries_from with_line next_by entry_in numbered_in has_enables
+unprotected = refl
+
+-- the program counter has 14 bits: the two upper ones of the high byte don't count
+one_word : targets_of (byte_known 52) (byte_known 210) ≡ 4660 ∷ []
+unfolding numbers_of packed
+one_word = refl
+
+-- bit 0 of the low byte and bit 1 of the high byte are unknown
+four_words : targets_of (byte_of (λ i. if i == 0 then Any else Zero)) (byte_of (λ i. if i == 1 then Any else Zero)) ≡ 0 ∷ 1 ∷ 512 ∷ 513 ∷ []
+unfolding numbers_of packed
+four_words = refl
+
+any_low_byte : length (targets_of byte_any (byte_known 0)) ≡ 256
+unfolding numbers_of packed
+any_low_byte = refl

@@ -1,0 +1,70 @@
+-- Reading an assumption list forward, line by line. A refusal tells the number of the first line at which no list can go on.
+use Rattle.std.specs.Prelude.{ℕ, ◌+◌, nat_lt, List, [], ◌∷◌, ◌++◌, length, codes, Option, Some, None, Result, Ok, Err, if◌then◌else◌}
+use Rattle.std.specs.Option.{option_map}
+use Rattle.std.specs.Str.{bytes_eq}
+use Rattle.avr_model.specs.declared.assumption.Entry.{Entry}
+use Rattle.avr_model.specs.declared.assumption.Entry.TheVariants.{Jump, Store, Prove}
+use Rattle.sb_base.specs.Lines.{TextLine, lines_of, words_of}
+use Rattle.line_reading.specs.Reading.{◌>>=◌, hex_at, is_over, then_at}
+use Rattle.vector_table.specs.Entries.{is_entry, is_above_last, most_entries}
+use Rattle.indirect_targets.specs.declared.fault.AssumeText.{AssumeText}
+use Rattle.indirect_targets.specs.declared.fault.AssumeText.TheVariants.{Malformed, Order}
+
+-- ---- the words of a line
+
+-- all words, each a number in four digits
+abbrev pub numbers_in : List (List ℕ) → Option (List ℕ)
+numbers_in [] = Some []
+numbers_in (w ∷ ws) = hex_at 4 (w ∷ ws) >>= λ n. option_map (λ ns. n.0 ∷ ns) (numbers_in ws)
+
+-- a site, and the numbers behind it
+abbrev pub listed_in : List (List ℕ) → Option (ℕ × List ℕ)
+listed_in ws = hex_at 4 ws >>= λ site. option_map (λ ns. (site.0, ns)) (numbers_in site.1)
+
+-- a site alone
+abbrev pub alone_in : List (List ℕ) → Option ℕ
+alone_in ws = hex_at 4 ws >>= λ site. if is_over site.1 then Some site.0 else None
+
+-- the entry of these words, whatever its numbers are
+unfoldable pub numbered_in : List (List ℕ) → Option Entry
+numbered_in [] = None
+numbered_in (w ∷ ws) =
+    if bytes_eq w (codes "jump") then option_map (λ l. Jump l.0 l.1) (listed_in ws)
+    else (if bytes_eq w (codes "store") then option_map (λ l. Store l.0 l.1) (listed_in ws)
+    else (if bytes_eq w (codes "prove") then option_map (λ site. Prove site) (alone_in ws) else None))
+
+-- an entry that a list can hold
+abbrev pub admitted : Entry → Option Entry
+admitted e = if is_entry e then Some e else None
+
+-- the entry of these words
+unfoldable pub entry_in : List (List ℕ) → Option Entry
+entry_in ws = numbered_in ws >>= admitted
+
+-- ---- lines
+
+-- the entry of a line, which has to be whole
+abbrev pub entry_by : TextLine → Option Entry
+entry_by l = if l.whole then entry_in (words_of l.text) else None
+
+-- the same behind so many lines: a list has no line 4,097
+unfoldable pub next_by : ℕ → TextLine → Option Entry
+next_by count l = if nat_lt count most_entries then entry_by l else None
+
+-- what was found in the line behind these entries: it is refused where it isn't of its form, or where it isn't above the last
+abbrev pub placed : List Entry → Option Entry → Result (List Entry) AssumeText
+placed es None = Err (Malformed (length es + 1))
+placed es (Some e) = if is_above_last es e then Ok (es ++ e ∷ []) else Err (Order (length es + 1))
+
+-- these entries and that of the next line
+unfoldable pub with_line : List Entry → TextLine → Result (List Entry) AssumeText
+with_line es l = placed es (next_by (length es) l)
+
+-- these entries and those of all lines
+unfoldable pub entries_from : List Entry → List TextLine → Result (List Entry) AssumeText
+entries_from es [] = Ok es
+entries_from es (l ∷ ls) = then_at (with_line es l) (λ more. entries_from more ls)
+
+-- the entries of a text
+abbrev pub entries_in : List ℕ → Result (List Entry) AssumeText
+entries_in text = entries_from [] (lines_of text)

@@ -1,0 +1,25 @@
+-- The one text of an assumption list. Source: own.
+use Rattle.std.specs.Prelude.{ℕ, List, [], ◌∷◌, map, codes}
+use Rattle.std.specs.List.{flat_map}
+use Rattle.avr_model.specs.declared.assumption.Entry.{Entry}
+use Rattle.avr_model.specs.declared.assumption.Entry.TheVariants.{Jump, Store, Prove}
+use Rattle.sb_base.specs.Digits.{hex_digits}
+use Rattle.sb_base.specs.Lines.{line}
+
+-- each number as a word of four digits
+abbrev pub number_words : List ℕ → List (List ℕ)
+number_words numbers = map (λ n. hex_digits n 4) numbers
+
+-- the words of an entry's line: its kind, its site, and its items
+abbrev pub entry_words : Entry → List (List ℕ)
+entry_words (Jump site words) = codes "jump" ∷ number_words (site ∷ words)
+entry_words (Store site addresses) = codes "store" ∷ number_words (site ∷ addresses)
+entry_words (Prove site) = codes "prove" ∷ number_words (site ∷ [])
+
+-- the line of an entry, with its line feed
+abbrev pub line_of : Entry → List ℕ
+line_of entry = line (entry_words entry)
+
+-- the text of a list: a line for each entry
+abbrev pub text_of : List Entry → List ℕ
+text_of entries = flat_map line_of entries

@@ -1,0 +1,45 @@
+-- The words to which an indirect transfer may lead: those of all members of its pointer, of which the program counter takes
+-- the low 14 bits. Source: own; the pointer and the program counter are those of the Instruction Set Manual.
+use Rattle.std.specs.Prelude.{ℕ, ◌≡◌, ◌≤◌, ◌<◌, ◌+◌, ◌-◌, ◌*◌, ◌%◌, ◌^◌, ◌↔◌, nat_lt, List, length, Contains, Result, Ok, Err, if◌then◌else◌}
+use Rattle.std.specs.List.Sorted.{IsStrictlySortedBy}
+use Rattle.std.specs.Ordering.{nat_cmp}
+use Rattle.bit_domain.specs.declared.bits.Tri.{Tri}
+use Rattle.bit_domain.specs.declared.bytes.TriByte.{TriByte}
+use Rattle.bit_domain.specs.TriByte.{tri_at, Has, IsWithin}
+use Rattle.bit_domain.specs.Numbers.{numbers_of, count_unknown}
+
+-- bit i of a pointer
+abbrev pub pointer_bit : TriByte → TriByte → ℕ → Tri
+pointer_bit lo hi i = if nat_lt i 8 then tri_at lo i else tri_at hi (i - 8)
+
+-- the words that the low 14 bits permit, in ascending order
+abbrev pub targets_of : TriByte → TriByte → List ℕ
+targets_of lo hi = numbers_of (pointer_bit lo hi) 14
+
+abbrev pub most_targets : ℕ
+most_targets = 64
+
+-- what was answered is this list, or that it has more than 64 words
+abbrev pub Keeps : {E : Type 0} → Result (List ℕ) E → List ℕ → Type 0
+Keeps (Ok words) due = (words ≡ due) × (length due ≤ most_targets)
+Keeps (Err e) due = most_targets < length due
+
+-- ---- laws
+
+-- Some member of the low byte and some member of the high byte make up this word.
+pub record IsGiven (lo hi : TriByte) (word : ℕ) : Type 0 where
+  pub x : ℕ
+  pub y : ℕ
+  pub x_small : x < 256
+  pub y_small : y < 256
+  pub x_in : Has lo x
+  pub y_in : Has hi y
+  pub is : (x + 256 * y) % 16384 ≡ word
+
+-- the targets are just the words of members, they ascend, each unknown bit doubles their number, and more permitted bits give
+-- at least these
+pub record TargetsAreThoseOfMembers : Type 0 where
+  pub members : (lo hi : TriByte) (word : ℕ) → Contains (targets_of lo hi) word ↔ IsGiven lo hi word
+  pub ascending : (lo hi : TriByte) → IsStrictlySortedBy nat_cmp (targets_of lo hi)
+  pub count : (lo hi : TriByte) → length (targets_of lo hi) ≡ 2 ^ count_unknown (pointer_bit lo hi) 14
+  pub more : (lo hi lo' hi' : TriByte) (word : ℕ) → IsWithin lo lo' → IsWithin hi hi' → Contains (targets_of lo hi) word → Contains (targets_of lo' hi') word

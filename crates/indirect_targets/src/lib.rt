@@ -1,0 +1,17 @@
+//! The texts of assumption lists, and the words to which an indirect transfer may lead.
+#![tactic(auto)]
+
+pub mod fault;
+pub mod laws;
+pub mod reading;
+pub mod target_list;
+#[cfg(test)]
+mod tests;
+pub mod transfer;
+pub mod writing;
+
+pub use fault::AssumeText;
+pub use reading::{entry_of, read};
+pub use target_list::{Targets, TooMany};
+pub use transfer::targets;
+pub use writing::write;

@@ -1,0 +1,248 @@
+//! The reader of assumption lists.
+
+ghost use Rattle.std.specs.Prelude.{◌≡◌, ◌<◌, ℕ, List, Result, true, Some, None, IfSome, IfOk, length, ◌+◌, ◌&&◌, nat_le};
+ghost use Rattle.std.specs.List.{list_all};
+ghost use Rattle.std.specs.Option.{option_map};
+ghost use Rattle.avr_model.specs.declared.assumption.Entry.{Entry};
+ghost use Rattle.avr_model.specs.declared.assumption.Entry.TheVariants as entry;
+ghost use Rattle.avr_model.specs.Vectors as vectors;
+ghost use Rattle.sb_base.specs.Answers.{Answers};
+ghost use Rattle.sb_base.specs.Lines.{words_of};
+ghost use Rattle.vector_table.specs.Entries as entries;
+ghost use Rattle.vector_table.specs.Entries.{ascends, is_word, most_entries};
+ghost use Rattle.indirect_targets.specs.declared.fault.AssumeText.{AssumeText};
+ghost use Rattle.indirect_targets.specs.declared.fault.AssumeText.TheVariants as fault;
+ghost use Rattle.indirect_targets.specs.Exact.{IsDue, IsDueUnlessMemory};
+ghost use Rattle.indirect_targets.specs.Reading.{numbers_in, listed_in, alone_in, numbered_in, entry_in, next_by, placed, with_line, entries_in};
+
+use crate::fault::AssumeText;
+use crate::laws::reading_is_exact;
+use avr_model::assumption::{Entry, Items};
+use line_reading::{hex_word, is_over};
+use sb_base::{LineReader, Words, read_hex};
+use std::alloc::{AllocError, Global};
+use vector_table::{AssumeFault, Assumptions, is_protected};
+
+/// The most entries of a list.
+const MOST_ENTRIES: usize = 4_096;
+
+/// The most items of an entry.
+const MOST_ITEMS: usize = 64;
+
+/// Flash has so many words.
+const WORDS: u16 = 0x4000;
+
+/// The numbers of all words that are left, in four digits each. None where a word is no such number.
+#[tactic(auto, using(crate::proofs::Numbers::numbers_more, crate::proofs::Numbers::no_number, crate::proofs::Numbers::numbers_end))]
+fn numbers_of(alloc: Global, words: &mut Words<'_>) -> Result<Option<Vec<u16>>, AllocError>
+    ensures { IfOk result (λ o. option_map (λ v. v.items) o ≡ numbers_in words.old) }
+{
+    let mut numbers = Vec::new(alloc);
+    while let Some(word) = words.next() {
+        match read_hex(word, 4) {
+            Ok(number) => numbers.push(number as u16)?,
+            Err(_) => return Ok(None),
+        }
+    }
+    Ok(Some(numbers))
+}
+
+/// The words behind `jump`.
+fn jump_of(alloc: Global, words: &mut Words<'_>) -> Result<Option<Entry>, AllocError>
+    ensures { IfOk result (λ o. o ≡ option_map (λ l. entry.Jump l.0 l.1) (listed_in words.old)) }
+{
+    let Some(site) = hex_word(words, 4) else {
+        return Ok(None);
+    };
+    match numbers_of(alloc, words)? {
+        Some(numbers) => Ok(Some(Entry::Jump(site as u16, Items::new(numbers)))),
+        None => Ok(None),
+    }
+}
+
+/// The words behind `store`.
+fn store_of(alloc: Global, words: &mut Words<'_>) -> Result<Option<Entry>, AllocError>
+    ensures { IfOk result (λ o. o ≡ option_map (λ l. entry.Store l.0 l.1) (listed_in words.old)) }
+{
+    let Some(site) = hex_word(words, 4) else {
+        return Ok(None);
+    };
+    match numbers_of(alloc, words)? {
+        Some(numbers) => Ok(Some(Entry::Store(site as u16, Items::new(numbers)))),
+        None => Ok(None),
+    }
+}
+
+/// The words behind `prove`.
+fn prove_of(words: &mut Words<'_>) -> Option<Entry>
+    ensures { result ≡ option_map (λ site. entry.Prove site) (alone_in words.old) }
+{
+    let site = hex_word(words, 4)?;
+    if is_over(words) {
+        Some(Entry::Prove(site as u16))
+    } else {
+        None
+    }
+}
+
+/// The entry of a line's text, whatever its numbers are.
+#[tactic(auto, unfolding(crate::specs::Reading::numbered_in))]
+fn numbered_of(alloc: Global, text: &[u8]) -> Result<Option<Entry>, AllocError>
+    ensures { IfOk result (λ o. o ≡ numbered_in (words_of text.now)) }
+{
+    let mut words = Words::new(text);
+    let Some(kind) = words.next() else {
+        return Ok(None);
+    };
+    if kind == b"jump".as_slice() {
+        jump_of(alloc, &mut words)
+    } else if kind == b"store".as_slice() {
+        store_of(alloc, &mut words)
+    } else if kind == b"prove".as_slice() {
+        Ok(prove_of(&mut words))
+    } else {
+        Ok(None)
+    }
+}
+
+/// Whether each number is below the next.
+fn ascends(items: &[u16]) -> bool
+    ensures { result ≡ ascends items.now }
+{
+    items.is_sorted_by(|item, next| item < next)
+}
+
+/// Whether these are 1 to 64 strictly ascending numbers.
+fn is_listable(items: &[u16]) -> bool
+    ensures { result ≡ (nat_le 1 (length items.now) && nat_le (length items.now) 64 && ascends items.now) }
+{
+    !items.is_empty() && items.len() <= MOST_ITEMS && ascends(items)
+}
+
+fn are_all_words(items: &[u16]) -> bool
+    ensures { result ≡ list_all is_word items.now }
+{
+    items.iter().all(|item| *item < WORDS)
+}
+
+fn are_all_protected(items: &[u16]) -> bool
+    ensures { result ≡ list_all vectors.is_protected items.now }
+{
+    items.iter().all(|item| is_protected(*item))
+}
+
+/// Whether an assumption list can hold the entry.
+fn is_entry(entry: &Entry) -> bool
+    ensures { result ≡ entries.is_entry entry.now }
+{
+    match entry {
+        Entry::Jump(site, words) => {
+            let words = words.as_slice();
+            *site < WORDS && is_listable(words) && are_all_words(words)
+        }
+        Entry::Store(site, addresses) => {
+            let addresses = addresses.as_slice();
+            *site < WORDS && is_listable(addresses) && are_all_protected(addresses)
+        }
+        Entry::Prove(site) => *site < WORDS,
+    }
+}
+
+/// The entry whose line, without the line feed, this text is. None exactly where it is that of none.
+#[tactic(auto, unfolding(crate::specs::Reading::entry_in))]
+pub fn entry_of(alloc: Global, text: &[u8]) -> Result<Option<Entry>, AllocError>
+    ensures exact { IfOk result (λ o. o ≡ entry_in (words_of text.now)) }
+    ensures formed { IfOk result (λ o. IfSome o (λ e. entries.is_entry e ≡ true)) }
+{
+    let Some(entry) = numbered_of(alloc, text)? else {
+        return Ok(None);
+    };
+    if is_entry(&entry) {
+        Ok(Some(entry))
+    } else {
+        Ok(None)
+    }
+}
+
+/// The entry of a line behind so many others.
+#[tactic(auto, unfolding(crate::specs::Reading::next_by))]
+fn next_of(
+    alloc: Global,
+    count: usize,
+    text: &[u8],
+    whole: bool,
+) -> Result<Option<Entry>, AllocError>
+    ensures exact { IfOk result (λ o. o ≡ next_by count (record { text = text.now; whole = whole })) }
+    ensures formed { IfOk result (λ o. IfSome o (λ e. entries.is_entry e ≡ true)) }
+    ensures room { IfOk result (λ o. IfSome o (λ e. count < most_entries)) }
+{
+    if count < MOST_ENTRIES && whole {
+        entry_of(alloc, text)
+    } else {
+        Ok(None)
+    }
+}
+
+/// The number of the line behind those of this list.
+fn next_number(list: &Assumptions) -> u32
+    ensures { result ≡ length list.now + 1 }
+{
+    list.entries().len() as u32 + 1
+}
+
+/// Appends the entry of the next line.
+fn append(list: &mut Assumptions, entry: Entry) -> Result<(), AssumeText>
+    requires room { length list.old < most_entries }
+    requires formed { entries.is_entry entry ≡ true }
+    ensures { Answers (λ u. list.new) fault.Memory result (placed list.old (Some entry)) }
+{
+    let number = next_number(list);
+    match list.push(entry) {
+        Ok(()) => Ok(()),
+        Err(AssumeFault::Order) => Err(AssumeText::Order(number)),
+        Err(AssumeFault::Memory) => Err(AssumeText::Memory),
+    }
+}
+
+/// Reads the next line.
+#[tactic(auto, unfolding(crate::specs::Reading::with_line))]
+fn read_line(
+    alloc: Global,
+    list: &mut Assumptions,
+    text: &[u8],
+    whole: bool,
+) -> Result<(), AssumeText>
+    ensures { Answers (λ u. list.new) fault.Memory result (with_line list.old (record { text = text.now; whole = whole })) }
+{
+    match next_of(alloc, list.entries().len(), text, whole)? {
+        Some(entry) => append(list, entry),
+        None => Err(AssumeText::Malformed(next_number(list))),
+    }
+}
+
+/// Reads all lines.
+fn read_lines(alloc: Global, text: &[u8]) -> Result<Assumptions, AssumeText>
+    ensures { Answers (λ a. a) fault.Memory result (entries_in text.now) }
+{
+    let mut list = Assumptions::empty(alloc);
+    let mut reader = LineReader::new(text);
+    while let Some(line) = reader.next() {
+        read_line(alloc, &mut list, line.text, line.whole)?;
+    }
+    Ok(list)
+}
+
+/// Reads the assumption list whose text this is.
+///
+/// The text has a line for each entry: `jump SITE W1 W2 ...`, `store SITE A1 A2 ...` or `prove SITE`, with word addresses and
+/// protected addresses in four upper-case hexadecimal digits, single spaces, and a line feed behind each line. Where it is
+/// the text of no list, the first line at which none can go on is told: `Malformed` where that line isn't of its form or is
+/// line 4,097, else `Order`. Source: own.
+pub fn read(alloc: Global, text: &[u8]) -> Result<Assumptions, AssumeText>
+    ensures exact { Answers (λ a. a) fault.Memory result (entries_in text.now) }
+    ensures told { IsDueUnlessMemory text.now result }
+    ensures due { (due : Result (List Entry) AssumeText) → IsDue text.now due → Answers (λ a. a) fault.Memory result due }
+{
+    reading_is_exact();
+    read_lines(alloc, text)
+}

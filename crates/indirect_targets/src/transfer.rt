@@ -1,0 +1,39 @@
+//! The words to which an indirect transfer may lead.
+
+ghost use Rattle.std.specs.Prelude.{◌≡◌, ◌≤◌, ◌<◌, ◌↔◌, length, IfOk, IsOk, IsErr};
+ghost use Rattle.indirect_targets.specs.Targets as specs;
+ghost use Rattle.indirect_targets.specs.Targets.{targets_of, most_targets, Keeps};
+
+use crate::target_list::{Targets, TooMany};
+use bit_domain::laws::numbers_are_permitted;
+use bit_domain::{Tri, TriByte};
+
+/// Bit `i`, from 0 to 13, of the pointer with these bytes.
+fn pointer_bit(lo: &TriByte, hi: &TriByte, i: u8) -> Tri
+    requires { i < 14 }
+    ensures { result ≡ specs.pointer_bit lo.now hi.now i }
+{
+    if i < 8 { lo.bit(i) } else { hi.bit(i - 8) }
+}
+
+/// The words, or that they are too many.
+fn words_of(lo: &TriByte, hi: &TriByte) -> Result<Targets, TooMany>
+    ensures { Keeps result (targets_of lo.now hi.now) }
+{
+    numbers_are_permitted();
+    let mut words = Targets::zero();
+    for i in 0..14 {
+        words = words.with_bit(pointer_bit(lo, hi, i), 1 << i)?;
+    }
+    Ok(words)
+}
+
+/// The words to which an indirect transfer may lead by a pointer with these bytes: those of all members, modulo the 16,384
+/// words of flash. `TooMany` exactly where there are more than 64.
+pub fn targets(lo: &TriByte, hi: &TriByte) -> Result<Targets, TooMany>
+    ensures words { IfOk result (λ t. t ≡ targets_of lo.now hi.now) }
+    ensures few { IsOk result ↔ (length (targets_of lo.now hi.now) ≤ most_targets) }
+    ensures many { IsErr result ↔ (most_targets < length (targets_of lo.now hi.now)) }
+{
+    words_of(lo, hi)
+}

@@ -1,0 +1,83 @@
+//! The writer of assumption lists.
+
+ghost use Rattle.std.specs.Prelude.{◌≡◌, ◌∷◌, OnOk, OnErr, false};
+ghost use Rattle.sb_base.specs.Digits.{hex_digits};
+ghost use Rattle.sb_base.specs.Writing.{with_words, with_end};
+ghost use Rattle.line_reading.specs.Appending.{with_text, AppendedPart, WroteWords};
+ghost use Rattle.indirect_targets.specs.Spelling.{number_words, entry_words, text_of};
+
+use avr_model::assumption::{Entry, Items};
+use line_reading::laws::appending_laws;
+use sb_base::LineWriter;
+use std::alloc::AllocError;
+use vector_table::Assumptions;
+
+/// Writes numbers as words.
+fn write_numbers(out: &mut LineWriter, numbers: &[u16]) -> Result<(), AllocError>
+    ensures written { OnOk result (out.new ≡ with_words out.old (number_words numbers.now)) }
+    ensures refused { OnErr result (WroteWords out.old (number_words numbers.now) out.new) }
+{
+    for number in numbers {
+        out.hex(u32::from(*number), 4)?;
+    }
+    Ok(())
+}
+
+/// Writes the words of an entry: its kind, its site and its items.
+fn write_words(
+    out: &mut LineWriter,
+    kind: &[u8],
+    site: u16,
+    items: &[u16],
+) -> Result<(), AllocError>
+    ensures written { OnOk result (out.new ≡ with_words out.old (kind.now ∷ number_words (site ∷ items.now))) }
+    ensures refused { OnErr result (WroteWords out.old (kind.now ∷ number_words (site ∷ items.now)) out.new) }
+{
+    out.word(kind)?;
+    out.hex(u32::from(site), 4)?;
+    write_numbers(out, items)
+}
+
+/// Writes the words of an entry.
+fn write_entry_words(out: &mut LineWriter, entry: &Entry) -> Result<(), AllocError>
+    ensures written { OnOk result (out.new ≡ with_words out.old (entry_words entry.now)) }
+    ensures refused { OnErr result (WroteWords out.old (entry_words entry.now) out.new) }
+{
+    match entry {
+        Entry::Jump(site, words) => write_words(out, b"jump", *site, words.as_slice()),
+        Entry::Store(site, addresses) => write_words(out, b"store", *site, addresses.as_slice()),
+        Entry::Prove(site) => write_words(out, b"prove", *site, &[]),
+    }
+}
+
+/// Writes the line of an entry.
+fn write_entry(out: &mut LineWriter, entry: &Entry) -> Result<(), AllocError>
+    ensures written { OnOk result (out.new ≡ with_end (with_words out.old (entry_words entry.now))) }
+    ensures refused { OnErr result (WroteWords out.old (entry_words entry.now) out.new) }
+{
+    write_entry_words(out, entry)?;
+    out.end_line()
+}
+
+/// Writes the lines of entries.
+fn write_entries(out: &mut LineWriter, entries: &[Entry]) -> Result<(), AllocError>
+    requires { out.old.begun ≡ false }
+    ensures written { OnOk result (out.new ≡ with_text out.old (text_of entries.now)) }
+    ensures refused { OnErr result (AppendedPart out.old.bytes (text_of entries.now) out.new.bytes) }
+{
+    appending_laws();
+    for entry in entries {
+        write_entry(out, entry)?;
+    }
+    Ok(())
+}
+
+/// Writes the lines of the list behind what was written, where no line is begun. After want of memory the writer holds a
+/// first part of them.
+pub fn write(list: &Assumptions, out: &mut LineWriter) -> Result<(), AllocError>
+    requires { out.old.begun ≡ false }
+    ensures written { OnOk result (out.new ≡ with_text out.old (text_of list.now)) }
+    ensures refused { OnErr result (AppendedPart out.old.bytes (text_of list.now) out.new.bytes) }
+{
+    write_entries(out, list.entries())
+}
