@@ -1,0 +1,73 @@
+-- The numbers in decoded instructions: targets of jumps are words, and immediate numbers are bytes.
+use Rattle.std.proofs.Common.{◌≡◌, refl, subst, ℕ, ◌+◌, ◌*◌, ◌%◌, ◌^◌, ◌<◌, ◌==◌, Bool, true, false, List, [], ◌∷◌, Some, length, if◌then◌else◌, arith}
+use Rattle.std.specs.Prelude.{⊤}
+use Rattle.std.specs.Int.{bit_at}
+use Rattle.std.proofs.lemmas.Nat.Bits.{bit_at-lt}
+use Rattle.avr_model.specs.declared.instruction.Instr.{Instr}
+use Rattle.avr_model.specs.declared.instruction.Instr.TheVariants as i
+use Rattle.avr_model.specs.Image.{WORDS, word_at}
+use Rattle.avr_model.specs.Pattern.{places, letter}
+use Rattle.avr_model.specs.Table.{Row, fields, table, matches, decoded_by, decoded}
+use Rattle.avr_model.specs.Sites.{instruction_at}
+
+abbrev pub InstrFits : Instr → Type 0
+InstrFits (i.Jmp t) = t < WORDS
+InstrFits (i.Immediate op d n) = n < 256
+InstrFits instr = ⊤
+
+-- ---- what is in the places of a letter
+
+-- what the number is below: twice as much for each place
+abbrev bound_of : ℕ → ℕ → List ℕ → ℕ
+bound_of c below [] = below
+bound_of c below (x ∷ p) = bound_of c (if x == c then below * 2 else below) p
+
+place_below : (b : Bool) (sofar bit below : ℕ) → bit < 2 → sofar < below → (if b then sofar * 2 + bit else sofar) < (if b then below * 2 else below)
+place_below true sofar bit below small lt = omega arith
+place_below false sofar bit below small lt = lt
+
+letter_below : (c : ℕ) (p : List ℕ) (w sofar below : ℕ) → sofar < below → letter c sofar p w < bound_of c below p
+letter_below c [] w sofar below lt = lt
+letter_below c (x ∷ p) w sofar below lt =
+    letter_below c p w (if x == c then sofar * 2 + bit_at w (length p) else sofar) (if x == c then below * 2 else below)
+    (place_below (x == c) sofar (bit_at w (length p)) below (bit_at-lt w (length p)) lt)
+
+-- a number in eight places
+eight : (p : List ℕ) (w : ℕ) → bound_of 75 1 p ≡ 256 → letter 75 0 p w < 256
+eight p w e = subst (λ (n : ℕ). letter 75 0 p w < n) e (letter_below 75 p w 0 1 (omega arith))
+
+word_small : (n : ℕ) → n % 2 ^ 14 < WORDS
+word_small n = omega arith
+
+-- ---- the table
+
+abbrev RowsFit : List Row → ℕ → ℕ → Type 0
+RowsFit [] w next = ⊤
+RowsFit (row ∷ rows) w next = InstrFits (row.instr (fields row.pattern w next)) × RowsFit rows w next
+
+table_fits : (w next : ℕ) → RowsFit table w next
+table_fits w next =
+    let cpi = eight (places "0011 KKKK dddd KKKK") w refl in
+    let sbci = eight (places "0100 KKKK dddd KKKK") w refl in
+    let subi = eight (places "0101 KKKK dddd KKKK") w refl in
+    let ori = eight (places "0110 KKKK dddd KKKK") w refl in
+    let andi = eight (places "0111 KKKK dddd KKKK") w refl in
+    let ldi = eight (places "1110 KKKK dddd KKKK") w refl in
+    let jmp = word_small next in
+    assumption (cpi, sbci, subi, ori, andi, ldi, jmp)
+
+rows_fit : (rows : List Row) (w next : ℕ) (instr : Instr) → RowsFit rows w next → decoded_by rows w next ≡ Some instr → InstrFits instr
+rows_fit [] w next instr h e = cc
+rows_fit (row ∷ rows) w next instr h e = by (matches row w) (rows_fit rows w next instr h.1) e
+  where
+    by : (b : Bool) → (decoded_by rows w next ≡ Some instr → InstrFits instr)
+        → (if b then Some (row.instr (fields row.pattern w next)) else decoded_by rows w next) ≡ Some instr → InstrFits instr
+    by true rest e = let is : row.instr (fields row.pattern w next) ≡ instr = cc in subst InstrFits is h.0
+    by false rest e = rest e
+
+decoded_fits : (w next : ℕ) (instr : Instr) → decoded w next ≡ Some instr → InstrFits instr
+unfolding decoded
+decoded_fits w next instr e = rows_fit table w next instr (table_fits w next) e
+
+pub instruction_fits : (words : List ℕ) (pc : ℕ) (instr : Instr) → instruction_at words pc ≡ Some instr → InstrFits instr
+instruction_fits words pc instr e = decoded_fits (word_at words pc) (word_at words (pc + 1)) instr e

@@ -1,0 +1,10 @@
+pub mod Memory
+pub mod Way
+pub mod Left
+pub mod Answers
+pub mod Steps
+pub mod Choices
+pub mod Live
+pub mod Separate
+pub mod Bound
+pub mod AllLaws

@@ -1,0 +1,4 @@
+pub mod Edges
+pub mod Valid
+pub mod Frames
+pub mod Laws
