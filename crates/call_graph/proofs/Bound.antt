@@ -18,6 +18,7 @@ use Rattle.abs_step.specs.Laws.{LocalPartsCover, MachinesStay, LiveBytesStay}
 use Rattle.call_graph.specs.Valid.{Family, IsSound}
 use Rattle.call_graph.specs.Frames.{Frame, HasFrames, IsFine}
 use Rattle.call_graph.specs.Laws.{FramesStart, SoundFamiliesBoundEveryRun}
+use Rattle.abs_step.specs.Machine.{AreWords}
 use Rattle.call_graph.proofs.Left.{within}
 use Rattle.call_graph.proofs.Choices.{fine}
 
@@ -62,7 +63,7 @@ max_within a b bound h k = omega arith
 
 -- ---- runs
 
-module _ (cover : LocalPartsCover) (machines : MachinesStay) (live : LiveBytesStay) (words : List ℕ) (A : List Entry) (f : Family) (sound : IsSound words A f) where
+module _ (cover : LocalPartsCover) (machines : MachinesStay) (live : LiveBytesStay) (words : List ℕ) (A : List Entry) (f : Family) (sized : AreWords words) (sound : IsSound words A f) where
   -- what a run owes from a state on
   record IsGood (choices : List Choice) (m : State) : Type 0 where
     depth : deepest (states_of words A choices m) ≤ f.bound
@@ -103,7 +104,7 @@ module _ (cover : LocalPartsCover) (machines : MachinesStay) (live : LiveBytesSt
   unfolding deepest
   good_from [] m h run = record { depth = max_within (depth_of_state m) 0 f.bound (state_within m h) (omega arith); defined = λ pc e. cc; inside = λ pc e. cc }
   good_from (c ∷ cs) m h run =
-      let is_fine = fine cover machines live words A f sound m h.0 h.1 h.2 c run.0 in
+      let is_fine = fine cover machines live words A f sized sound m h.0 h.1 h.2 c run.0 in
       let a = step words A m c in
       record {
         depth = max_within _ _ f.bound (state_within m h) (deep_on c h.0 h.1 cs (good_from cs) a is_fine run.1);
@@ -120,4 +121,4 @@ module _ (cover : LocalPartsCover) (machines : MachinesStay) (live : LiveBytesSt
       }
 
 pub sound_families_bound_every_run : LocalPartsCover → MachinesStay → LiveBytesStay → SoundFamiliesBoundEveryRun
-sound_families_bound_every_run cover machines live words A f sound = bounded cover machines live words A f sound
+sound_families_bound_every_run cover machines live words A f sized sound = bounded cover machines live words A f sized sound

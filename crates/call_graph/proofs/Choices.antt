@@ -22,7 +22,7 @@ use Rattle.abs_state.specs.declared.state.AbsState.{AbsState}
 use Rattle.abs_step.specs.Raw.{Raw, untracked_if}
 use Rattle.abs_step.specs.Local.{raw, is_hung}
 use Rattle.abs_step.specs.Cover.{Follows, stays, calls, leaves, IsCovered}
-use Rattle.abs_step.specs.Machine.{IsMachine}
+use Rattle.abs_step.specs.Machine.{IsMachine, AreWords}
 use Rattle.abs_step.specs.Laws.{LocalPartsCover, MachinesStay, LiveBytesStay}
 use Rattle.call_graph.specs.Edges.{raw_of, IsFaultless, Enters, by_call, by_interrupt, called_inst, vector_inst}
 use Rattle.call_graph.specs.Valid.{Family, IsSound}
@@ -79,7 +79,7 @@ fine_if words A f c g gs (Overflow pc) machine h = h
 fine_if words A f c g gs (Flagged flag) machine h = tt
 fine_if words A f c g gs (Done n) machine h = h (machine n refl)
 
-module _ (cover : LocalPartsCover) (machines : MachinesStay) (live : LiveBytesStay) (words : List ℕ) (A : List Entry) (f : Family) (sound : IsSound words A f) where
+module _ (cover : LocalPartsCover) (machines : MachinesStay) (live : LiveBytesStay) (words : List ℕ) (A : List Entry) (f : Family) (sized : AreWords words) (sound : IsSound words A f) where
   module _ (m : State) (g : Frame) (gs : List Frame) (runs : Runs words A f m g gs) where
     faultless : IsFaultless words A g.node
     faultless = sound.faultless g.node runs.present
@@ -140,4 +140,4 @@ module _ (cover : LocalPartsCover) (machines : MachinesStay) (live : LiveBytesSt
     owed (Take v clears) bytes = taken v clears (may_take m v clears) refl
 
     pub fine : (c : Choice) → HasBytes c → IsFine words A f c g gs (step words A m c)
-    fine c bytes = fine_if words A f c g gs (step words A m c) (λ n done. machines.step words A m n c runs.running.machine bytes done) (owed c bytes)
+    fine c bytes = fine_if words A f c g gs (step words A m c) (λ n done. machines.step words A m n c sized runs.running.machine bytes done) (owed c bytes)

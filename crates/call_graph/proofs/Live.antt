@@ -23,6 +23,7 @@ use Rattle.mask_states.specs.declared.keys.SpForm.TheVariants.{Closed}
 use Rattle.mask_states.specs.Keys.{offset_of}
 use Rattle.mask_states.specs.Place.{SpIs}
 use Rattle.abs_step.specs.Machine.{floor_of}
+use Rattle.abs_step.specs.Machine.{AreWords}
 use Rattle.abs_step.specs.Laws.{LocalPartsCover, MachinesStay, LiveBytesStay}
 use Rattle.call_graph.specs.Valid.{Family, IsSound}
 use Rattle.call_graph.specs.Frames.{Frame, AreLeft, Runs, Change, moved, called, returned_to, interrupted, HasNext, IsFine, IsGuarded, Holds, slot, way_low, way_high, deeper}
@@ -122,14 +123,14 @@ whole_sp true sp base a e le lt = absurd (cc)
 whole_sp false sp base a e le lt = omega arith
 
 module _ (cover : LocalPartsCover) (machines : MachinesStay) (live : LiveBytesStay) where
-  stays_live : (words : List ℕ) (A : List Entry) (f : Family) (m n : State) (g : Frame) (gs : List Frame) (c : Choice) (a : ℕ) → IsSound words A f → Runs words A f m g gs → HasBytes c
+  stays_live : (words : List ℕ) (A : List Entry) (f : Family) (m n : State) (g : Frame) (gs : List Frame) (c : Choice) (a : ℕ) → AreWords words → IsSound words A f → Runs words A f m g gs → HasBytes c
       → step words A m c ≡ Done n → Holds gs g.origin a → (is_live n.memory a ≡ true) ⊎ IsPopped n g a
-  stays_live words A f m n g gs c a sound runs bytes e holds =
+  stays_live words A f m n g gs c a sized sound runs bytes e holds =
       let held = is_held words A f sound m.memory gs g.node.key.inst g.origin a runs.left holds in
       let h = effect_done words A m n c e in
       let kept : Keeps m.memory n.memory (floor_of n.is_open n.sp) =
       subst (λ (x : State). Keeps m.memory x.memory (floor_of x.is_open x.sp)) h.is (live.kept m h.guarded h.effect runs.running.machine h.missed) in
-      let next : HasNext words A f c g gs n = subst (IsFine words A f c g gs) e (fine cover machines live words A f sound m g gs runs c bytes) in
+      let next : HasNext words A f c g gs n = subst (IsFine words A f c g gs) e (fine cover machines live words A f sized sound m g gs runs c bytes) in
       ⊎_elim
       (λ low. inl (kept.live a (omega (arith, low, held.1)) held.0))
       (λ up.

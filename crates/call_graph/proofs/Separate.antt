@@ -6,6 +6,7 @@ use Rattle.avr_model.specs.declared.choice.Choice.TheVariants.{Go, Take}
 use Rattle.avr_model.specs.State.{State}
 use Rattle.avr_model.specs.Step.{Done, step}
 use Rattle.avr_model.specs.Run.{HasBytes}
+use Rattle.abs_step.specs.Machine.{AreWords}
 use Rattle.abs_step.specs.Laws.{LocalPartsCover, MachinesStay, LiveBytesStay}
 use Rattle.call_graph.specs.Edges.{raw_of}
 use Rattle.call_graph.specs.Valid.{Family, IsSound}
@@ -44,32 +45,32 @@ module _ (words : List ℕ) (A : List Entry) (f : Family) (g : Frame) (gs : List
 
 module _ (cover : LocalPartsCover) (machines : MachinesStay) (live : LiveBytesStay) where
   pub frames_step : FramesStep
-  frames_step = record { fine = λ words A f m g gs c sound runs bytes. fine cover machines live words A f sound m g gs runs c bytes }
+  frames_step = record { fine = λ words A f m g gs c sized sound runs bytes. fine cover machines live words A f sized sound m g gs runs c bytes }
 
-  next_of : (words : List ℕ) (A : List Entry) (f : Family) (m n : State) (g : Frame) (gs : List Frame) (c : Choice) → IsSound words A f → Runs words A f m g gs → HasBytes c
+  next_of : (words : List ℕ) (A : List Entry) (f : Family) (m n : State) (g : Frame) (gs : List Frame) (c : Choice) → AreWords words → IsSound words A f → Runs words A f m g gs → HasBytes c
       → step words A m c ≡ Done n → HasNext words A f c g gs n
-  next_of words A f m n g gs c sound runs bytes e = subst (IsFine words A f c g gs) e (frames_step.fine words A f m g gs c sound runs bytes)
+  next_of words A f m n g gs c sized sound runs bytes e = subst (IsFine words A f c g gs) e (frames_step.fine words A f m g gs c sized sound runs bytes)
 
   pub frames_local : FramesLocal
   frames_local = record {
-    moves = λ words A f m n g gs b1 b2 sound runs lt lt' e calls exit.
-        let h = next_of words A f m n g gs (Go b1 b2) sound runs (lt, lt') e in local_kind words A f g gs n b1 b2 h.0 h.1 h.2 h.3 calls exit;
+    moves = λ words A f m n g gs b1 b2 sized sound runs lt lt' e calls exit.
+        let h = next_of words A f m n g gs (Go b1 b2) sized sound runs (lt, lt') e in local_kind words A f g gs n b1 b2 h.0 h.1 h.2 h.3 calls exit;
   }
 
   pub frames_call : FramesCall
   frames_call = record {
-    adds = λ words A f m n g gs b1 b2 sound runs lt lt' e moves exit.
-        let h = next_of words A f m n g gs (Go b1 b2) sound runs (lt, lt') e in call_kind words A f g gs n b1 b2 h.0 h.1 h.2 h.3 moves exit;
+    adds = λ words A f m n g gs b1 b2 sized sound runs lt lt' e moves exit.
+        let h = next_of words A f m n g gs (Go b1 b2) sized sound runs (lt, lt') e in call_kind words A f g gs n b1 b2 h.0 h.1 h.2 h.3 moves exit;
   }
 
   pub frames_return : FramesReturn
   frames_return = record {
-    takes_away = λ words A f m n g gs b1 b2 sound runs lt lt' e moves calls.
-        let h = next_of words A f m n g gs (Go b1 b2) sound runs (lt, lt') e in return_kind words A f g gs n b1 b2 h.0 h.1 h.2 h.3 moves calls;
+    takes_away = λ words A f m n g gs b1 b2 sized sound runs lt lt' e moves calls.
+        let h = next_of words A f m n g gs (Go b1 b2) sized sound runs (lt, lt') e in return_kind words A f g gs n b1 b2 h.0 h.1 h.2 h.3 moves calls;
   }
 
   pub frames_interrupt : FramesInterrupt
   frames_interrupt = record {
-    adds = λ words A f m n g gs v clears sound runs e.
-        let h = next_of words A f m n g gs (Take v clears) sound runs tt e in interrupt_kind words A f g gs n v clears h.0 h.1 h.2 h.3;
+    adds = λ words A f m n g gs v clears sized sound runs e.
+        let h = next_of words A f m n g gs (Take v clears) sized sound runs tt e in interrupt_kind words A f g gs n v clears h.0 h.1 h.2 h.3;
   }

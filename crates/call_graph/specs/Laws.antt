@@ -7,6 +7,7 @@ use Rattle.avr_model.specs.State.{State, IsReset, byte_in, is_live}
 use Rattle.avr_model.specs.Run.{HasBytes, Bounded}
 use Rattle.avr_model.specs.Step.{step, Done}
 use Rattle.call_graph.specs.Edges.{raw_of}
+use Rattle.abs_step.specs.Machine.{AreWords}
 use Rattle.call_graph.specs.Valid.{Family, IsSound}
 use Rattle.call_graph.specs.Frames.{Frame, Runs, HasFrames, IsFine, HasMoved, HasCalled, HasReturned, HasInterrupted, Holds}
 
@@ -31,41 +32,41 @@ pub record FramesLive : Type 0 where
       → IsSound words A f → Runs words A f m g gs → HasBytes c → step words A m c ≡ Done n → Holds gs g.origin a
       → byte_in n.memory.bytes a ≡ byte_in m.memory.bytes a
   pub live : (words : List ℕ) (A : List Entry) (f : Family) (m n : State) (g : Frame) (gs : List Frame) (c : Choice) (a : ℕ)
-      → IsSound words A f → Runs words A f m g gs → HasBytes c → step words A m c ≡ Done n → Holds gs g.origin a
+      → AreWords words → IsSound words A f → Runs words A f m g gs → HasBytes c → step words A m c ≡ Done n → Holds gs g.origin a
       → (is_live n.memory a ≡ true) ⊎ IsPopped n g a
 
 -- Each choice is fine for a machine with frames.
 pub record FramesStep : Type 0 where
   pub fine : (words : List ℕ) (A : List Entry) (f : Family) (m : State) (g : Frame) (gs : List Frame) (c : Choice)
-      → IsSound words A f → Runs words A f m g gs → HasBytes c → IsFine words A f c g gs (step words A m c)
+      → AreWords words → IsSound words A f → Runs words A f m g gs → HasBytes c → IsFine words A f c g gs (step words A m c)
 
 -- ---- one law for each kind of step
 
 -- An instruction of a node that leads to others of its instance: the running frame moves to one of them, and the others stay.
 pub record FramesLocal : Type 0 where
   pub moves : (words : List ℕ) (A : List Entry) (f : Family) (m n : State) (g : Frame) (gs : List Frame) (b1 b2 : ℕ)
-      → IsSound words A f → Runs words A f m g gs → b1 < 256 → b2 < 256 → step words A m (Go b1 b2) ≡ Done n
+      → AreWords words → IsSound words A f → Runs words A f m g gs → b1 < 256 → b2 < 256 → step words A m (Go b1 b2) ≡ Done n
       → (raw_of words A g.node).calls ≡ [] → (raw_of words A g.node).exit ≡ None → HasMoved words A f g gs n
 
 -- An instruction of a node that calls: the frame of one of the calls is added.
 pub record FramesCall : Type 0 where
   pub adds : (words : List ℕ) (A : List Entry) (f : Family) (m n : State) (g : Frame) (gs : List Frame) (b1 b2 : ℕ)
-      → IsSound words A f → Runs words A f m g gs → b1 < 256 → b2 < 256 → step words A m (Go b1 b2) ≡ Done n
+      → AreWords words → IsSound words A f → Runs words A f m g gs → b1 < 256 → b2 < 256 → step words A m (Go b1 b2) ≡ Done n
       → (raw_of words A g.node).moves ≡ [] → (raw_of words A g.node).exit ≡ None → HasCalled words A f g gs n
 
 -- An instruction of a node that returns: the running frame is taken away, and the one before goes on behind its call or interrupt.
 pub record FramesReturn : Type 0 where
   pub takes_away : (words : List ℕ) (A : List Entry) (f : Family) (m n : State) (g : Frame) (gs : List Frame) (b1 b2 : ℕ)
-      → IsSound words A f → Runs words A f m g gs → b1 < 256 → b2 < 256 → step words A m (Go b1 b2) ≡ Done n
+      → AreWords words → IsSound words A f → Runs words A f m g gs → b1 < 256 → b2 < 256 → step words A m (Go b1 b2) ≡ Done n
       → (raw_of words A g.node).moves ≡ [] → (raw_of words A g.node).calls ≡ [] → HasReturned words A f g gs n
 
 -- An interrupt: its frame is added.
 pub record FramesInterrupt : Type 0 where
   pub adds : (words : List ℕ) (A : List Entry) (f : Family) (m n : State) (g : Frame) (gs : List Frame) (v : ℕ) (clears : Bool)
-      → IsSound words A f → Runs words A f m g gs → step words A m (Take v clears) ≡ Done n → HasInterrupted words A f g gs v clears n
+      → AreWords words → IsSound words A f → Runs words A f m g gs → step words A m (Take v clears) ≡ Done n → HasInterrupted words A f g gs v clears n
 
 -- ---- the whole
 
 -- A sound family bounds every run: whatever memory holds, whatever interrupts are taken and whatever bytes are read.
 abbrev pub SoundFamiliesBoundEveryRun : Type 0
-SoundFamiliesBoundEveryRun = (words : List ℕ) (A : List Entry) (f : Family) → IsSound words A f → Bounded words A f.bound
+SoundFamiliesBoundEveryRun = (words : List ℕ) (A : List Entry) (f : Family) → AreWords words → IsSound words A f → Bounded words A f.bound
