@@ -74,7 +74,7 @@ module _ (words : List ℕ) (A : List Entry) (m : State) (o : Origin) (k : NodeK
   is_defined r (Some instr) pc covered none e = some_defined _ _ _ m.pc pc e
 
   module _ (joins : JoinsAreLeast) (nodes : LocalPartsAreNodes) (none : (raw words A k s).faults ≡ [])
-    (within : (to : Node) → Contains (joined (raw words A k s)).same to → IsWithinBase o.base to.key.sp) where
+      (within : (to : Node) → Contains (joined (raw words A k s)).same to → IsWithinBase o.base to.key.sp) where
     are_nodes : AreNodes (raw words A k s).moves
     are_nodes to member = (nodes.nodes words A k s to at.node none member).1
 
@@ -101,7 +101,7 @@ module _ (words : List ℕ) (A : List Entry) (m : State) (o : Origin) (k : NodeK
         let effect = effect_of words m instr b1 b2 in
         let passed = passes (all_inside effect.pushes || is_unlisted (unlisted_transfer A m.pc instr effect)) _ m.pc n e in
         let unflagged = flags_none m.pc (live_write m.memory (effect.stores ++ effect.pushes)) (protected_write words A m.pc instr effect) (unlisted_transfer A m.pc instr effect)
-            (after m (not (is_scratch words m.pc)) effect) n passed.1 in
+        (after m (not (is_scratch words m.pc)) effect) n passed.1 in
         let inside = inside_if_listed (all_inside effect.pushes) (unlisted_transfer A m.pc instr effect) passed.0 unflagged.1.1.0 in
         subst (IsStep m o k b1 b2 (joined (raw words A k s))) unflagged.1.1.1
         (follows_steps (not (is_scratch words m.pc)) effect unflagged.0 inside

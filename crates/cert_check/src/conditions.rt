@@ -6,8 +6,8 @@ ghost use Rattle.cert_format.specs.Certificate.{Ascends, IsKey};
 ghost use Rattle.cert_check.specs.Verdict.{has_node as has_node_of, first_fault as first_fault_of, first_gap as first_gap_of, greatest_offset as greatest_offset_of};
 
 use crate::verdict::Reason;
-use root_step::{NodeKey, local};
 use flash_image::Flash;
+use root_step::{NodeKey, local};
 
 /// Whether the node is among these, which ascend.
 #[tactic(auto, using(crate::proofs::Search::searched))]

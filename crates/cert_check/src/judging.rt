@@ -8,10 +8,10 @@ ghost use Rattle.cert_check.specs.Reasons.{IsLeastReason};
 
 use crate::conditions::{first_fault, first_gap, greatest_offset, has_node};
 use crate::verdict::{Reason, Verdict};
-use root_step::NodeKey;
-use root_step::laws::closed_families_bound_every_run;
 use cert_format::Certificate;
 use flash_image::Flash;
+use root_step::NodeKey;
+use root_step::laws::closed_families_bound_every_run;
 use std::alloc::AllocError;
 use vector_table::Assumptions;
 

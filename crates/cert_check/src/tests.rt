@@ -4,9 +4,9 @@ ghost use Rattle.std.specs.Prelude.{◌≤◌, None};
 ghost use Rattle.cert_format.specs.Certificate.{IsClaim, claim_of};
 
 use crate::{Reason, Verdict, is_attained, judge};
-use root_step::NodeKey;
 use cert_format::Certificate;
 use flash_image::Flash;
+use root_step::NodeKey;
 use sb_base::LineReader;
 use std::alloc::Global;
 use std::test::Fail;

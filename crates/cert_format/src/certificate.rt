@@ -4,8 +4,8 @@ ghost use Rattle.std.specs.Prelude.{◌≡◌};
 ghost use Rattle.std.specs.Option.{option_copied};
 ghost use Rattle.cert_format.specs.Certificate.{IsClaim};
 
-use root_step::NodeKey;
 use line_reading::Malformed;
+use root_step::NodeKey;
 use std::marker::Model;
 use thiserror::Error;
 use witness_replay::Schedule;

@@ -15,12 +15,12 @@ ghost use Rattle.cert_format.specs.Reading.{numbered_in, root_in, state_words, n
 
 use crate::certificate::{CertFault, Certificate};
 use crate::laws::certificate_texts;
-use root_step::NodeKey;
 use line_reading::laws::word_laws;
 use line_reading::{
     Malformed, dec_word, expect_word, expect_words, hex_word, is_over, marked_word, peek_text,
     take_line, take_text,
 };
+use root_step::NodeKey;
 use sb_base::{LineReader, Words};
 use std::alloc::Global;
 use witness_replay::{Schedule, ScheduleFault};
