@@ -1,5 +1,5 @@
 -- Rows that work on registers and flags alone.
-use Rattle.std.proofs.Common.{◌≡◌, refl, sym, ◌∙◌, ap, ap₂, subst, subst₂, ℕ, zero, suc, ◌+◌, ◌-◌, ◌*◌, ◌/◌, ◌%◌, ◌<◌, ◌≤◌, ◌≢◌, ◌==◌, nat_lt, nat_le, Bool, true, false, not, ◌&&◌, ◌||◌, if◌then◌else◌, ◌⊎◌, ⊎_elim, List, [], ◌∷◌, ◌++◌, length, Option, Some, None, slice_index, slice_set, arith, bit_xor}
+use Rattle.std.proofs.Common.{◌≡◌, refl, sym, ◌∙◌, ap, subst, subst₂, ℕ, zero, suc, ◌+◌, ◌-◌, ◌*◌, ◌/◌, ◌%◌, ◌<◌, ◌==◌, nat_lt, nat_le, Bool, true, false, not, ◌&&◌, ◌||◌, if◌then◌else◌, ⊎_elim, List, [], length, Option, Some, None, slice_index, arith, bit_xor}
 use Rattle.std.specs.Int.{bit_at, from_bool}
 use Rattle.std.specs.List.{All}
 use Rattle.std.proofs.lemmas.Int.{ints}
@@ -8,7 +8,6 @@ use Rattle.std.proofs.lemmas.Bool.{cases_lt}
 use Rattle.std.proofs.lemmas.Bool.Decides.{nat_tests}
 use Rattle.std.proofs.lemmas.List.{get_or_past}
 use Rattle.std.proofs.lemmas.List.Elements.{All-get_or}
-use Rattle.avr_model.specs.declared.effect.Write.{Write}
 use Rattle.avr_model.specs.declared.operation.Logic.{Logic}
 use Rattle.avr_model.specs.declared.operation.Logic.TheVariants as logic
 use Rattle.avr_model.specs.declared.operation.Shift.{Shift}
@@ -18,7 +17,7 @@ use Rattle.avr_model.specs.Sums.{sum_of, flags_of_sum, difference_of, flags_of_d
 use Rattle.avr_model.specs.Bitwise.{logic_of, flags_of_result, step_of, step_overflows, shift_of, flags_of_shift}
 use Rattle.avr_model.specs.Product.{result_of, flags_of_product}
 use Rattle.avr_model.specs.Wide.{wide_of, flags_of_wide}
-use Rattle.avr_model.specs.State.{State, register, pair, low, high, plus16, minus16}
+use Rattle.avr_model.specs.State.{State, register, pair, low, high, minus16}
 use Rattle.avr_model.specs.Effects.{setting, set, set_pair, carry, sum_effect, difference_effect, compare_effect, logic_effect, product_effect, step_effect, shift_effect, wide_effect}
 use Rattle.avr_model.specs.Step.{with_registers}
 use Rattle.bit_domain.specs.declared.bits.Tri.{Tri}
@@ -44,13 +43,12 @@ use Rattle.sp_domain.specs.Tags.{Origin, TagHolds, CarryHolds}
 use Rattle.sp_domain.specs.Laws.{PairHolds}
 use Rattle.sp_domain.proofs.AllLaws.{differences_are_true, pairs_are_true}
 use Rattle.abs_state.specs.declared.values.AbsByte.{AbsByte}
-use Rattle.abs_state.specs.declared.values.AbsFlags.{AbsFlags}
 use Rattle.abs_state.specs.declared.state.AbsState.{AbsState}
-use Rattle.abs_state.specs.Values.{untagged, known}
-use Rattle.abs_state.specs.Stands.{ByteStands, FlagsStand, RegistersStand}
+use Rattle.abs_state.specs.Values.{untagged}
+use Rattle.abs_state.specs.Stands.{ByteStands, RegistersStand}
 use Rattle.mask_states.specs.declared.keys.NodeKey.{NodeKey}
-use Rattle.abs_step.specs.Raw.{Raw, setting as node_setting}
-use Rattle.abs_step.specs.Registers.{value, bits, carry_bit, with_bits, set as node_set, set_pair as node_pair, with_carry, but_carry, sum_row, compare_row, difference_row, low_tag, borrow_tag, high_tag, or_nothing, sub_row, sbc_row, logic_row, kept_tag, step_row, shift_row, com_row, swapped, product_row, down_by, pair_tags, pair_moved, wide_row}
+use Rattle.abs_step.specs.Raw.{setting as node_setting}
+use Rattle.abs_step.specs.Registers.{value, bits, carry_bit, with_bits, set as node_set, set_pair as node_pair, with_carry, but_carry, sum_row, compare_row, difference_row, low_tag, borrow_tag, high_tag, sub_row, sbc_row, logic_row, kept_tag, step_row, shift_row, com_row, swapped, product_row, down_by, pair_tags, pair_moved, wide_row}
 use Rattle.abs_step.specs.Cover.{InFrame, Follows}
 use Rattle.abs_step.proofs.Bits.{with_flags_i, with_flags_carry, with_carry_and_zero_i, permits_flag, constant_is, has_known}
 use Rattle.abs_step.proofs.Frame.{register_stands, set_one, set_two, sets}

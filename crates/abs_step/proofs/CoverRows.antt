@@ -1,5 +1,5 @@
 -- Each row that does not read or write data space is covered.
-use Rattle.std.proofs.Common.{◌≡◌, refl, sym, ap, ◌∙◌, subst, ℕ, suc, ◌+◌, ◌*◌, ◌<◌, ◌==◌, Bool, true, false, not, if◌then◌else◌, List, [], ◌∷◌, Option, Some, None, arith}
+use Rattle.std.proofs.Common.{◌≡◌, refl, ap, ℕ, ◌*◌, ◌<◌, ◌==◌, Bool, true, false, not, List, [], ◌∷◌, Some, None, arith}
 use Rattle.std.specs.Prelude.{⊤}
 use Rattle.std.specs.Int.{from_bool}
 use Rattle.std.specs.Int.Bits.{or_self, and_self}
@@ -17,15 +17,14 @@ use Rattle.avr_model.specs.declared.operation.Logic.TheVariants as logic
 use Rattle.avr_model.specs.declared.operation.Shift.TheVariants as shift
 use Rattle.avr_model.specs.declared.operation.Mul.TheVariants as product
 use Rattle.avr_model.specs.Assumptions.{jump_line}
-use Rattle.avr_model.specs.Image.{WORDS}
 use Rattle.avr_model.specs.Sreg.{flag}
 use Rattle.avr_model.specs.Text.{far}
-use Rattle.avr_model.specs.State.{State, register, pair, read}
-use Rattle.avr_model.specs.Effects.{effect_of, binary_effect, immediate_effect, unary_effect, carry, port}
+use Rattle.avr_model.specs.State.{State, register}
+use Rattle.avr_model.specs.Effects.{effect_of, binary_effect, immediate_effect, unary_effect, carry}
 use Rattle.avr_model.specs.Step.{unless_listed, unlisted_transfer}
 use Rattle.bit_domain.specs.declared.bits.Tri.TheVariants.{Zero}
 use Rattle.bit_domain.specs.Tri.{Permits, tri_not}
-use Rattle.bit_domain.specs.TriByte.{Has, tri_at, byte_known, byte_constant}
+use Rattle.bit_domain.specs.TriByte.{tri_at, byte_known, byte_constant}
 use Rattle.bit_domain.specs.Logic.{byte_equal}
 use Rattle.bit_domain.proofs.AllLaws.{logic_covers}
 use Rattle.sp_domain.specs.declared.tags.Tag.TheVariants as tag
@@ -33,11 +32,9 @@ use Rattle.sp_domain.specs.declared.tags.CarryTag.TheVariants as carry_tag
 use Rattle.sp_domain.specs.Tags.{Origin}
 use Rattle.abs_state.specs.declared.state.AbsState.{AbsState}
 use Rattle.abs_state.specs.Values.{known}
-use Rattle.abs_state.specs.Stands.{ByteStands}
 use Rattle.mask_states.specs.declared.keys.NodeKey.{NodeKey}
-use Rattle.abs_step.specs.Raw.{Raw, further}
+use Rattle.abs_step.specs.Raw.{further}
 use Rattle.abs_step.specs.Registers.{value, bits, carry_bit, immediate_row, unary_row}
-use Rattle.abs_step.specs.Reads.{read_at}
 use Rattle.abs_step.specs.Local.{binary_row, row_of}
 use Rattle.abs_step.specs.Cover.{InFrame, IsUnflagged, Follows}
 use Rattle.abs_step.proofs.Bits.{has_known, constant_is, permits_flag}

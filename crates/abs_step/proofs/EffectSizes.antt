@@ -1,21 +1,11 @@
 -- The numbers of every row's effect fit: bytes are bytes, and words are words.
-use Rattle.std.proofs.Common.{◌≡◌, refl, sym, ap, ◌∙◌, subst, ℕ, zero, suc, ◌+◌, ◌-◌, ◌*◌, ◌/◌, ◌%◌, ◌^◌, ◌<◌, ◌≤◌, ◌==◌, ◌&&◌, ◌||◌, Bool, true, false, not, nat_lt, nat_le, if◌then◌else◌, List, [], ◌∷◌, ◌++◌, length, Option, Some, None, slice_index, slice_set, arith, length-set}
+use Rattle.std.proofs.Common.{ℕ, ◌+◌, ◌-◌, ◌*◌, ◌/◌, ◌%◌, ◌<◌, ◌≤◌, ◌==◌, Bool, true, false, not, nat_lt, nat_le, if◌then◌else◌, List, [], ◌++◌, slice_index, arith}
 use Rattle.std.specs.Prelude.{ℤ, pos, ◌*ℤ◌, FitsSigned, unsigned_abs}
-use Rattle.std.specs.Int.{bit_at, from_bool, cast_unsigned, cast_signed, w8, w16}
-use Rattle.std.specs.List.{All}
-use Rattle.std.proofs.Math.ListN.{length-replicate}
-use Rattle.std.proofs.lemmas.Bool.Decides.{nat_tests}
+use Rattle.std.specs.Int.{from_bool, cast_unsigned, cast_signed, w8, w16}
 use Rattle.std.proofs.lemmas.Int.{ints, fits_signed_mul}
 use Rattle.std.proofs.Math.Nat.{mul-le-mul}
 use Rattle.std.proofs.lemmas.Nat.{and_le_l, or_lt, xor_lt}
-use Rattle.std.proofs.lemmas.Nat.Bits.{bit_at-lt}
-use Rattle.std.proofs.lemmas.List.Elements.{All-set}
-use Rattle.avr_model.specs.declared.assumption.Entry.{Entry}
-use Rattle.avr_model.specs.declared.choice.Choice.{Choice}
-use Rattle.avr_model.specs.declared.choice.Choice.TheVariants.{Go, Take}
-use Rattle.avr_model.specs.declared.choice.Flag.{Flag}
 use Rattle.avr_model.specs.declared.effect.Write.{Write}
-use Rattle.avr_model.specs.declared.effect.Effect.{Effect}
 use Rattle.avr_model.specs.declared.instruction.Instr.{Instr}
 use Rattle.avr_model.specs.declared.instruction.Instr.TheVariants as i
 use Rattle.avr_model.specs.declared.instruction.BinaryOp.{BinaryOp}
@@ -32,24 +22,17 @@ use Rattle.avr_model.specs.declared.operation.Shift.{Shift}
 use Rattle.avr_model.specs.declared.operation.Shift.TheVariants as shift
 use Rattle.avr_model.specs.declared.operation.Mul.{Mul}
 use Rattle.avr_model.specs.declared.operation.Mul.TheVariants as product
-use Rattle.avr_model.specs.Bits.{with_bit, number_of}
-use Rattle.avr_model.specs.Bitwise.{logic_of, shift_of, top_of, flags_of_shift, step_of, flags_of_result}
+use Rattle.avr_model.specs.Bitwise.{logic_of, shift_of, top_of, flags_of_result}
 use Rattle.avr_model.specs.Image.{WORDS, byte_at}
 use Rattle.avr_model.specs.Product.{word_of, result_of, is_fractional, flags_of_product}
 use Rattle.avr_model.specs.Sreg.{flag}
-use Rattle.avr_model.specs.Sums.{sum_of, flags_of_sum, difference_of, flags_of_difference}
 use Rattle.avr_model.specs.Wide.{wide_of, flags_of_wide}
-use Rattle.avr_model.specs.Run.{HasBytes}
-use Rattle.avr_model.specs.Sites.{instruction_at, is_scratch, pointer_register}
-use Rattle.avr_model.specs.Vectors.{Vector, row_of, written_enable, written_enables, with_enable, is_enabled, vector_word, WATCHDOG}
-use Rattle.avr_model.specs.State.{State, Memory, IsReset, SIZE, BELOW, SPL, SPH, SREG, register, pair, sram_at, is_sram, byte_in, io_bit, io_byte, read, plus16, minus16, low, high}
-use Rattle.avr_model.specs.Effects.{set, set_pair, going_to, setting, storing, calling, way_back, flash_read, pointed, moved, port, binary_effect, immediate_effect, unary_effect, flow_effect, memory_effect, effect_of, branch_effect, logic_effect, carry}
-use Rattle.avr_model.specs.Step.{with_registers, registers_after, sreg_after, sp_after, open_after, enables_after, after, Answer, Done, flagged_or, step, go, answer_to, take, entering, may_take, enables_taken}
+use Rattle.avr_model.specs.State.{State, register, pair, plus16, minus16}
+use Rattle.avr_model.specs.Effects.{set, set_pair, going_to, setting, storing, calling, flash_read, moved, binary_effect, immediate_effect, unary_effect, effect_of, branch_effect, logic_effect, carry}
 use Rattle.abs_step.specs.Machine.{IsMachine, AreWords}
-use Rattle.abs_step.specs.Laws.{MachinesStay}
 use Rattle.abs_step.proofs.Alu.{below_in_list, byte_in_list}
-use Rattle.abs_step.proofs.Bits.{AreBits, number_below, with_bit_small, with_flags_small, with_carry_and_zero_small}
-use Rattle.abs_step.proofs.Memory.{AreByteWrites, IsMemory, memory_stays}
+use Rattle.abs_step.proofs.Bits.{with_bit_small, with_flags_small, with_carry_and_zero_small}
+use Rattle.abs_step.proofs.Memory.{AreByteWrites}
 use Rattle.abs_step.proofs.Sized.{IsSized, sized}
 use Rattle.abs_step.proofs.Machine.{IsEffect, read_small}
 

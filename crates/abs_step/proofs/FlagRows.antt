@@ -1,22 +1,20 @@
 -- Rows that set one flag or one bit.
-use Rattle.std.proofs.Common.{◌≡◌, refl, sym, ◌∙◌, ap, subst, ℕ, ◌%◌, ◌<◌, ◌≢◌, ◌==◌, Bool, true, false, not, ◌&&◌, if◌then◌else◌, List, [], ◌∷◌, arith}
+use Rattle.std.proofs.Common.{◌≡◌, refl, sym, ◌∙◌, ap, subst, ℕ, ◌%◌, ◌≢◌, ◌==◌, Bool, true, false, not, ◌&&◌, if◌then◌else◌, [], arith}
 use Rattle.std.specs.Int.{from_bool}
 use Rattle.std.proofs.lemmas.Bool.Decides.{nat_tests}
-use Rattle.avr_model.specs.declared.effect.Effect.{Effect}
 use Rattle.avr_model.specs.Bits.{with_bit}
 use Rattle.avr_model.specs.Sreg.{flag}
 use Rattle.avr_model.specs.State.{State, register, t_flag, i_flag}
 use Rattle.avr_model.specs.Effects.{setting, set, flag_effect}
 use Rattle.bit_domain.specs.Tri.{Permits}
-use Rattle.bit_domain.specs.TriByte.{Has, tri_at, byte_with}
+use Rattle.bit_domain.specs.TriByte.{tri_at, byte_with}
 use Rattle.sp_domain.specs.declared.tags.CarryTag.TheVariants as carry_tag
 use Rattle.sp_domain.specs.Tags.{Origin, CarryHolds}
 use Rattle.abs_state.specs.declared.state.AbsState.{AbsState}
-use Rattle.abs_state.specs.declared.values.AbsFlags.{AbsFlags}
 use Rattle.abs_state.specs.Values.{untagged}
 use Rattle.abs_state.specs.Stands.{FlagsStand, EntryHolds}
 use Rattle.mask_states.specs.declared.keys.NodeKey.{NodeKey}
-use Rattle.abs_step.specs.Raw.{Raw, next, one, setting as node_setting}
+use Rattle.abs_step.specs.Raw.{next, setting as node_setting}
 use Rattle.abs_step.specs.Registers.{bits, set as node_set, with_carry, interrupts_row, tri_of_bool, carry_tag_at, flag_row}
 use Rattle.abs_step.specs.Cover.{InFrame, Follows}
 use Rattle.abs_step.proofs.Bits.{with_bit_7_low, with_bit_other, with_bit_same, has_with, has_flags, permits_flag}

@@ -1,24 +1,21 @@
 -- Branches, skips, jumps, calls and returns.
-use Rattle.std.proofs.Common.{◌≡◌, ◌≢◌, refl, sym, ap, ap₂, ◌∙◌, subst, ℕ, zero, suc, ◌+◌, ◌*◌, ◌%◌, ◌<◌, ◌==◌, Bool, true, false, not, if◌then◌else◌, List, [], ◌∷◌, map, Option, Some, None, arith, Contains}
-use Rattle.std.specs.Int.{bit_at, from_bool}
+use Rattle.std.proofs.Common.{◌≡◌, refl, ap, ap₂, subst, ℕ, zero, suc, ◌+◌, ◌%◌, ◌==◌, Bool, true, false, not, if◌then◌else◌, List, [], ◌∷◌, Option, Some, None, arith, Contains}
+use Rattle.std.specs.Int.{from_bool}
 use Rattle.std.proofs.lemmas.Bool.Decides.{nat_tests}
 use Rattle.avr_model.specs.declared.assumption.Entry.{Entry}
-use Rattle.avr_model.specs.declared.instruction.Instr.{Instr}
-use Rattle.avr_model.specs.declared.instruction.Instr.TheVariants as i
 use Rattle.avr_model.specs.declared.effect.Effect.{Effect}
 use Rattle.avr_model.specs.Assumptions.{jump_line}
-use Rattle.avr_model.specs.Bits.{with_bit}
 use Rattle.avr_model.specs.Image.{WORDS, word_at}
 use Rattle.avr_model.specs.Sreg.{flag}
 use Rattle.avr_model.specs.Table.{length_of}
-use Rattle.avr_model.specs.Text.{far, near}
-use Rattle.avr_model.specs.State.{State, register, pair, i_flag}
-use Rattle.avr_model.specs.Effects.{going_to, further, skipping, calling, returning, branch_effect, reti_effect, flow_effect}
-use Rattle.avr_model.specs.Step.{unless_listed, unlisted_transfer}
+use Rattle.avr_model.specs.Text.{near}
+use Rattle.avr_model.specs.State.{State, register, pair}
+use Rattle.avr_model.specs.Effects.{going_to, further, skipping, calling, returning, branch_effect, reti_effect}
+use Rattle.avr_model.specs.Step.{unless_listed}
 use Rattle.bit_domain.specs.declared.bits.Tri.{Tri}
 use Rattle.bit_domain.specs.declared.bits.Tri.TheVariants.{Zero, One, Any}
 use Rattle.bit_domain.specs.Tri.{Permits, tri_not}
-use Rattle.bit_domain.specs.TriByte.{Has, tri_at}
+use Rattle.bit_domain.specs.TriByte.{tri_at}
 use Rattle.sp_domain.specs.Tags.{Origin}
 use Rattle.abs_state.specs.declared.state.AbsState.{AbsState}
 use Rattle.mask_states.specs.declared.keys.NodeKey.{NodeKey}
@@ -26,14 +23,13 @@ use Rattle.mask_states.specs.declared.keys.Kind.{Kind}
 use Rattle.mask_states.specs.declared.keys.Kind.TheVariants.{Root, Call, Vector}
 use Rattle.mask_states.specs.declared.keys.SpForm.{SpForm}
 use Rattle.mask_states.specs.declared.keys.SpForm.TheVariants.{Closed, Open}
-use Rattle.abs_step.specs.declared.local.Node.{Node}
 use Rattle.abs_step.specs.declared.local.Exit.{Exit}
-use Rattle.abs_step.specs.Raw.{Raw, untracked_if, enters, fails, moves_to, at_word, going_to as node_going_to, further as node_further}
+use Rattle.abs_step.specs.Raw.{Raw, untracked_if, at_word, going_to as node_going_to, further as node_further}
 use Rattle.abs_step.specs.Registers.{bits}
 use Rattle.abs_step.specs.Flow.{branch, skipping as node_skipping, flag_at, words_of, targets_by, jumping, is_half_written, at_closed, calling as node_calling, indirect_call, site, returning as node_returning, ret_exit, reti_exit}
-use Rattle.abs_step.specs.Cover.{InFrame, Lands, Follows, stays, calls, leaves, IsReturn}
+use Rattle.abs_step.specs.Cover.{InFrame, Follows, stays, calls, leaves, IsReturn}
 use Rattle.abs_step.proofs.Bits.{permits_flag, with_bit_same, with_bit_7_low}
-use Rattle.abs_step.proofs.Frame.{first, second, only, goes_to, next_is}
+use Rattle.abs_step.proofs.Frame.{first, second, only, goes_to}
 use Rattle.abs_step.proofs.Alu.{register_byte, register_bits}
 use Rattle.abs_step.proofs.Targets.{in_map, word_permitted, targets_have}
 

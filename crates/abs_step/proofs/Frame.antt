@@ -1,5 +1,5 @@
 -- What the rows share: successors that keep the stack pointer, registers that are read and set, and flags that are kept.
-use Rattle.std.proofs.Common.{◌≡◌, refl, sym, ◌∙◌, ap, ap₂, subst, subst₂, ℕ, ◌+◌, ◌-◌, ◌%◌, ◌<◌, ◌≤◌, ◌⊎◌, ⊎_elim, Bool, true, false, List, [], ◌∷◌, ◌++◌, length, Option, None, slice_index, slice_set, arith, Contains, length-set}
+use Rattle.std.proofs.Common.{◌≡◌, refl, sym, ◌∙◌, ap, ap₂, subst, subst₂, ℕ, ◌+◌, ◌-◌, ◌%◌, ◌<◌, ⊎_elim, Bool, true, false, List, [], ◌∷◌, length, slice_index, slice_set, arith, Contains, length-set}
 use Rattle.std.proofs.lemmas.Grind.{elements}
 use Rattle.std.proofs.lemmas.Bool.{cases_lt, cases_eq}
 use Rattle.std.proofs.lemmas.Bool.Decides.{nat_tests}
@@ -8,8 +8,8 @@ use Rattle.avr_model.specs.declared.effect.Write.{Write}
 use Rattle.avr_model.specs.declared.effect.Effect.{Effect}
 use Rattle.avr_model.specs.Image.{WORDS}
 use Rattle.avr_model.specs.Sreg.{flag}
-use Rattle.avr_model.specs.State.{State, Memory, register, is_live, is_sram, live_in}
-use Rattle.avr_model.specs.Effects.{going_to, going_on, setting, further}
+use Rattle.avr_model.specs.State.{State, Memory, register, is_live, live_in}
+use Rattle.avr_model.specs.Effects.{going_to, setting, further}
 use Rattle.avr_model.specs.Step.{after, with_registers, registers_after, sreg_after, sp_after, open_after, enables_after, all_inside}
 use Rattle.bit_domain.specs.TriByte.{Has, byte_any}
 use Rattle.bit_domain.specs.declared.bits.Tri.TheVariants.{Any}
@@ -28,10 +28,10 @@ use Rattle.mask_states.specs.declared.keys.NodeKey.{NodeKey}
 use Rattle.mask_states.specs.declared.keys.SpForm.{SpForm}
 use Rattle.mask_states.specs.declared.keys.SpForm.TheVariants.{Closed, Open}
 use Rattle.mask_states.specs.Keys.{offset_of}
-use Rattle.mask_states.specs.Place.{AtNode, SpIs}
+use Rattle.mask_states.specs.Place.{SpIs}
 use Rattle.abs_step.specs.declared.local.Node.{Node}
-use Rattle.abs_step.specs.Raw.{Raw, moves_to, one, next, at_word, going_to as node_going_to, setting as node_setting, further as node_further}
-use Rattle.abs_step.specs.Registers.{value, bits}
+use Rattle.abs_step.specs.Raw.{moves_to, next, at_word, setting as node_setting, further as node_further}
+use Rattle.abs_step.specs.Registers.{value}
 use Rattle.abs_step.specs.Machine.{floor_of}
 use Rattle.abs_step.specs.Cover.{InFrame, Lands, Follows, stays}
 

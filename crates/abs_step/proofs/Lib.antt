@@ -19,7 +19,6 @@ pub mod WriteValues
 pub mod PointerWrites
 pub mod CoverMemory
 pub mod Covered
-pub mod Steps
 pub mod Members
 pub mod Joined
 pub mod MonotoneValues
@@ -32,4 +31,5 @@ pub mod MonotoneFields
 pub mod MonotoneRows
 pub mod Monotone
 pub mod MonotoneNodes
+pub mod Steps
 pub mod AllLaws

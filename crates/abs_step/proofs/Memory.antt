@@ -1,5 +1,5 @@
 -- SRAM after a step: what is written, what is live, and how many bytes there are.
-use Rattle.std.proofs.Common.{◌≡◌, ◌≢◌, refl, sym, ap, ◌∙◌, subst, ℕ, zero, suc, ◌+◌, ◌-◌, ◌<◌, ◌≤◌, ◌==◌, Bool, true, false, ◌&&◌, nat_lt, nat_le, if◌then◌else◌, List, [], ◌∷◌, ◌++◌, length, drop, replicate, Option, Some, None, slice_index, slice_index_or, slice_set, arith, length-set, length-append, length-drop}
+use Rattle.std.proofs.Common.{◌≡◌, ◌≢◌, refl, ◌∙◌, ℕ, zero, suc, ◌+◌, ◌-◌, ◌<◌, Bool, true, false, if◌then◌else◌, List, [], ◌∷◌, ◌++◌, length, Option, Some, None, slice_index_or, slice_set, arith, length-set, length-append, length-drop}
 use Rattle.std.specs.Prelude.{⊤}
 use Rattle.std.specs.List.{All}
 use Rattle.std.proofs.Math.ListN.{length-replicate}
@@ -7,11 +7,10 @@ use Rattle.std.proofs.lemmas.Bool.Decides.{nat_tests}
 use Rattle.std.proofs.lemmas.Grind.{common_steps, elements}
 use Rattle.std.proofs.lemmas.List.Elements.{All-set}
 use Rattle.avr_model.specs.declared.effect.Write.{Write}
-use Rattle.avr_model.specs.declared.effect.Effect.{Effect}
-use Rattle.avr_model.specs.State.{State, Memory, SIZE, BELOW, is_sram, is_live, byte_in, live_in, set_at}
-use Rattle.avr_model.specs.Step.{after, memory_after, written, with_live, pruned, live_write, sp_after, open_after}
+use Rattle.avr_model.specs.State.{Memory, SIZE, BELOW, is_sram, is_live, byte_in, live_in, set_at}
+use Rattle.avr_model.specs.Step.{memory_after, written, with_live, pruned, live_write, sp_after, open_after}
 use Rattle.abs_state.specs.Laws.{Keeps}
-use Rattle.abs_step.specs.Machine.{IsMachine, floor_of}
+use Rattle.abs_step.specs.Machine.{floor_of}
 use Rattle.abs_step.specs.Laws.{LiveBytesStay}
 
 -- ---- one value that is set

@@ -1,5 +1,5 @@
 -- A reset state is a machine's state, and each step that is done leads to one.
-use Rattle.std.proofs.Common.{◌≡◌, refl, sym, ap, ◌∙◌, subst, ℕ, ◌+◌, ◌-◌, ◌*◌, ◌%◌, ◌^◌, ◌<◌, ◌≤◌, ◌==◌, ◌&&◌, ◌||◌, Bool, true, false, not, nat_le, if◌then◌else◌, List, [], ◌∷◌, ◌++◌, length, Option, Some, None, arith}
+use Rattle.std.proofs.Common.{◌≡◌, refl, ap, ◌∙◌, subst, ℕ, ◌+◌, ◌^◌, ◌<◌, ◌≤◌, ◌==◌, ◌&&◌, Bool, true, false, not, if◌then◌else◌, List, length, Option, Some, None, arith}
 use Rattle.std.specs.Int.{bit_at, from_bool}
 use Rattle.std.proofs.Math.ListN.{length-replicate}
 use Rattle.std.proofs.lemmas.Bool.Decides.{nat_tests}
@@ -8,15 +8,14 @@ use Rattle.avr_model.specs.declared.assumption.Entry.{Entry}
 use Rattle.avr_model.specs.declared.choice.Choice.{Choice}
 use Rattle.avr_model.specs.declared.choice.Choice.TheVariants.{Go, Take}
 use Rattle.avr_model.specs.declared.choice.Flag.{Flag}
-use Rattle.avr_model.specs.declared.effect.Effect.{Effect}
 use Rattle.avr_model.specs.declared.instruction.Instr.{Instr}
 use Rattle.avr_model.specs.Image.{WORDS, word_at}
 use Rattle.avr_model.specs.Run.{HasBytes}
 use Rattle.avr_model.specs.Sites.{instruction_at, is_scratch}
 use Rattle.avr_model.specs.State.{State, IsReset, SIZE}
 use Rattle.avr_model.specs.Effects.{effect_of}
-use Rattle.avr_model.specs.Step.{Answer, Illegal, Undefined, Overflow, Flagged, Done, after, flagged_or, step, go, answer_to, take, entering, may_take, enables_taken, all_inside}
-use Rattle.avr_model.specs.Vectors.{is_enabled, with_enable, vector_word, WATCHDOG}
+use Rattle.avr_model.specs.Step.{Answer, Illegal, Overflow, Done, flagged_or, step, go, take, entering, may_take, enables_taken, all_inside}
+use Rattle.avr_model.specs.Vectors.{is_enabled, vector_word, WATCHDOG}
 use Rattle.abs_step.specs.Machine.{IsMachine, AreWords}
 use Rattle.abs_step.specs.Laws.{MachinesStay}
 use Rattle.abs_step.proofs.Bits.{AreBits, number_below}

@@ -4,6 +4,7 @@ use Rattle.call_graph.specs.Laws.{FramesStart, FramesLive, FramesStep, FramesLoc
 use Rattle.call_graph.proofs.Bound as bound
 use Rattle.call_graph.proofs.Live as live
 use Rattle.call_graph.proofs.Separate as separate
+pub use Rattle.call_graph.proofs.Sample.{the_sample_is_sound}
 
 pub frames_start : FramesStart
 frames_start = bound.frames_start machines_stay

@@ -1,5 +1,8 @@
 //! Laws of edges and frames, each as the contract of a function that does nothing.
 
+ghost use Rattle.std.specs.Prelude.{[]};
+ghost use Rattle.call_graph.specs.Valid.{IsSound};
+ghost use Rattle.call_graph.specs.Examples.{sample, family};
 ghost use Rattle.call_graph.specs.Laws.{FramesStart, FramesLive, FramesStep, FramesLocal, FramesCall, FramesReturn, FramesInterrupt, SoundFamiliesBoundEveryRun};
 
 /// A machine after reset has the root's frame.
@@ -40,4 +43,9 @@ pub fn frames_interrupt()
 /// A sound family bounds every run of the whole machine.
 pub fn sound_families_bound_every_run()
     ensures { SoundFamiliesBoundEveryRun }
+{}
+
+/// The definitions are met: the worked firmware, which has a call and a return, has a sound family, with bound 2.
+pub fn the_sample_is_sound()
+    ensures { IsSound sample [] family }
 {}
