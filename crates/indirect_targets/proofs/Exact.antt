@@ -1,19 +1,18 @@
 -- Assumption lists: what is read is due, and what is due is read.
 use Rattle.std.proofs.Common.{◌≡◌, ◌≢◌, ◌+◌, ◌<◌, ◌≤◌, ℕ, List, [], ◌∷◌, ◌++◌, Bool, true, false, length, length-append, append_assoc, append-nil, refl, ap, sym, ◌∙◌, subst, arith, Option, Some, None, Result, Ok, Err, cond, ◌⊎◌, inl, inr, ltb, ltb-true, ltb-false}
-use Rattle.std.specs.List.{AllByRecursion, flat_map}
 use Rattle.std.proofs.lemmas.Bool.{cases_Bool}
 use Rattle.std.proofs.lemmas.Bool.Decides.{nat_tests}
 use Rattle.std.proofs.lemmas.Grind.{flat_map-append}
 use Rattle.avr_model.specs.declared.assumption.Entry.{Entry}
 use Rattle.avr_model.specs.declared.assumption.Entry.TheVariants.{Jump, Store, Prove}
 use Rattle.sb_base.specs.Answers.{Answers}
-use Rattle.sb_base.specs.Lines.{TextLine, lines_of, words_of, joined, bytes_of, spaced, line, Lacks}
+use Rattle.sb_base.specs.Lines.{TextLine, lines_of, words_of, joined, bytes_of, spaced, Lacks}
 use Rattle.line_reading.specs.Reading.{then_at}
-use Rattle.line_reading.specs.Words.{WordLaws, IsWord, whole}
+use Rattle.line_reading.specs.Words.{WordLaws, whole}
 use Rattle.vector_table.specs.Entries.{AreEntries, is_entry, is_above_last, most_entries}
 use Rattle.indirect_targets.specs.declared.fault.AssumeText.{AssumeText}
 use Rattle.indirect_targets.specs.declared.fault.AssumeText.TheVariants.{Malformed, Order, Memory}
-use Rattle.indirect_targets.specs.Exact.{StandsAt, BeginsWithNone, IsMalformed, IsOutOfOrder, IsDue, IsDueUnlessMemory, IsStuck, ReadIsDue, DueIsRead, RefusedIsStuck, OneText}
+use Rattle.indirect_targets.specs.Exact.{StandsAt, BeginsWithNone, IsDue, IsDueUnlessMemory, ReadIsDue, DueIsRead, RefusedIsStuck, OneText}
 use Rattle.indirect_targets.specs.Reading.{entry_in, entry_by, next_by, placed, with_line, entries_from, entries_in}
 use Rattle.indirect_targets.specs.Spelling.{entry_words, line_of, text_of}
 use Rattle.indirect_targets.proofs.Entries.{chosen, some_is, none_some, entry_laws, entry_is_words}

@@ -1,5 +1,5 @@
 -- Lists of entries that one more entry stands behind, and lines of a text.
-use Rattle.std.proofs.Common.{◌≡◌, ◌+◌, ◌<◌, ℕ, List, [], ◌∷◌, ◌++◌, Bool, true, false, length, get_or, length-append, append_assoc, refl, ap, sym, ◌∙◌, subst, arith, cond, eqb, ◌&&◌}
+use Rattle.std.proofs.Common.{◌≡◌, ◌<◌, ℕ, List, [], ◌∷◌, ◌++◌, Bool, true, false, length, length-append, refl, ap, sym, ◌∙◌, arith, cond, eqb}
 use Rattle.std.proofs.lemmas.Bool.{and_parts, and_from}
 use Rattle.std.proofs.lemmas.Bool.Decides.{nat_tests}
 use Rattle.std.proofs.lemmas.List.{get_or_at}
@@ -7,7 +7,7 @@ use Rattle.std.proofs.lemmas.List.Elements.{All-push}
 use Rattle.avr_model.specs.declared.assumption.Entry.{Entry}
 use Rattle.avr_model.specs.Assumptions.{is_before}
 use Rattle.sb_base.specs.Lines.{TextLine, lines_of, onto_line, joined, Lacks}
-use Rattle.vector_table.specs.Entries.{AreEntries, is_entry, are_in_order, is_before_first, is_above_last, most_entries}
+use Rattle.vector_table.specs.Entries.{AreEntries, is_entry, are_in_order, is_above_last, most_entries}
 
 -- ---- entries
 

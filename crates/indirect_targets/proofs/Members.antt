@@ -1,5 +1,5 @@
 -- The words to which an indirect transfer may lead.
-use Rattle.std.proofs.Common.{◌≡◌, ◌∙◌, sym, ap, subst, refl, ℕ, zero, suc, ◌+◌, ◌-◌, ◌*◌, ◌/◌, ◌%◌, ◌^◌, ◌<◌, ◌≤◌, arith, inl, inr, true, false, cond, ltb, List, [], ◌∷◌, ◌++◌, map, length, length-append, get_or, add-one, Result, Ok, Err}
+use Rattle.std.proofs.Common.{◌≡◌, ◌∙◌, sym, ap, subst, refl, ℕ, zero, suc, ◌+◌, ◌-◌, ◌*◌, ◌/◌, ◌%◌, ◌^◌, ◌<◌, ◌≤◌, arith, inl, inr, true, false, cond, ltb, List, [], ◌∷◌, map, length, length-append, get_or, add-one, Result, Ok, Err}
 use Rattle.std.specs.Int.{bit_at}
 use Rattle.std.specs.List.{All, Contains}
 use Rattle.std.specs.Result.{IsErr}
@@ -12,10 +12,10 @@ use Rattle.bit_domain.specs.declared.bits.Tri.{Tri}
 use Rattle.bit_domain.specs.declared.bits.Tri.TheVariants.{Zero, One, Any}
 use Rattle.bit_domain.specs.declared.bytes.TriByte.{TriByte}
 use Rattle.bit_domain.specs.Tri.{Permits}
-use Rattle.bit_domain.specs.TriByte.{tri_at, Has, IsWithin}
+use Rattle.bit_domain.specs.TriByte.{tri_at, IsWithin}
 use Rattle.bit_domain.specs.Numbers.{with_top, numbers_of, IsPermitted}
 use Rattle.bit_domain.specs.Laws.{BytesAreSets, NumbersArePermitted}
-use Rattle.indirect_targets.specs.Targets.{pointer_bit, targets_of, most_targets, Keeps, IsGiven, TargetsAreThoseOfMembers}
+use Rattle.indirect_targets.specs.Targets.{pointer_bit, most_targets, Keeps, IsGiven, TargetsAreThoseOfMembers}
 
 -- ---- bits of a pointer
 

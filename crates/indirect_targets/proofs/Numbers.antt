@@ -1,12 +1,12 @@
 -- Lists of numbers: that they ascend, and how they are read.
-use Rattle.std.proofs.Common.{◌≡◌, ℕ, zero, suc, ◌+◌, ◌<◌, arith, Bool, true, false, ◌&&◌, List, [], ◌∷◌, ◌++◌, length, get_or, add-one, refl, ap, sym, subst, ◌∙◌, append_assoc, Option, Some, None, Result, Ok, Err, option_map}
+use Rattle.std.proofs.Common.{◌≡◌, ℕ, zero, suc, ◌<◌, arith, Bool, true, false, ◌&&◌, List, [], ◌∷◌, ◌++◌, length, get_or, add-one, refl, ap, sym, subst, ◌∙◌, append_assoc, Option, Some, None, Ok, Err, option_map}
 use Rattle.std.specs.List.{IsAllAdjacentAnswer}
 use Rattle.std.specs.Prelude.{nat_lt}
 use Rattle.std.proofs.lemmas.Bool.{and_from}
 use Rattle.std.proofs.lemmas.List.{append-nil}
 use Rattle.sb_base.specs.declared.digits.DigitFault.{DigitFault}
 use Rattle.sb_base.specs.Digits.{hex_answer}
-use Rattle.vector_table.specs.Entries.{ascends, is_below_first}
+use Rattle.vector_table.specs.Entries.{ascends}
 use Rattle.indirect_targets.specs.Reading.{numbers_in}
 
 -- ---- ascending

@@ -1,6 +1,6 @@
 -- What is written, word by word and line by line.
-use Rattle.std.proofs.Common.{ℕ, ◌+◌, ◌<◌, ◌≡◌, List, [], ◌∷◌, ◌++◌, length, map, take, drop, get_or, Bool, false, Result, Ok, Err, refl, inl, inr, ap, sym, ◌∙◌, subst, append_assoc, append-nil, arith}
-use Rattle.std.proofs.lemmas.List.{take-append-drop, map-append, take_all, take_more}
+use Rattle.std.proofs.Common.{ℕ, ◌+◌, ◌<◌, ◌≡◌, List, [], ◌∷◌, ◌++◌, length, take, drop, get_or, Bool, false, Result, Ok, Err, refl, inl, inr, ap, sym, ◌∙◌, subst, append_assoc, append-nil}
+use Rattle.std.proofs.lemmas.List.{take-append-drop, map-append, take_more}
 use Rattle.std.proofs.lemmas.Grind.{flat_map-append}
 use Rattle.std.specs.Result.{OnErr}
 use Rattle.avr_model.specs.declared.assumption.Entry.{Entry}
