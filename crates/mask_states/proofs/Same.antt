@@ -132,9 +132,6 @@ node_equal_is a b = (
   λ same. ap (λ (c : NodeKey). node_cmp a c) (sym same) ∙ tied_itself node_total a,
 )
 
-pub keys_are_ordered : KeysAreOrdered
-keys_are_ordered = record { insts = inst_total; nodes = node_total; equal_insts = inst_equal_is; equal_nodes = node_equal_is }
-
 -- what `==` gives
 pub inst_same_is : (a b : InstKey) → IsTrue (same_inst a b) ↔ (a ≡ b)
 unfolding same_inst
@@ -147,6 +144,16 @@ unfolding same_node
 node_same_is a b =
     let decides = Equal-is (node_cmp a b) in
     (λ e. (node_equal_is a b).0 (decides.0 e), λ same. decides.1 ((node_equal_is a b).1 same))
+
+pub keys_are_ordered : KeysAreOrdered
+keys_are_ordered = record {
+  insts = inst_total;
+  nodes = node_total;
+  equal_insts = inst_equal_is;
+  equal_nodes = node_equal_is;
+  same_insts = inst_same_is;
+  same_nodes = node_same_is;
+}
 
 -- ---- by instance
 

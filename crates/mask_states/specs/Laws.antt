@@ -1,5 +1,5 @@
 -- Laws of keys and of splits.
-use Rattle.std.specs.Prelude.{ℕ, ◌≡◌, ◌<◌, ◌≤◌, ◌^◌, ◌↔◌, ◌⊎◌, false, [], ◌∷◌, length, Contains}
+use Rattle.std.specs.Prelude.{ℕ, ◌≡◌, ◌<◌, ◌≤◌, ◌^◌, ◌↔◌, ◌⊎◌, false, [], ◌∷◌, length, Contains, IsTrue}
 use Rattle.std.specs.Cmp.{IsTotalOrder}
 use Rattle.std.specs.List.Sorted.{IsStrictlySortedBy}
 use Rattle.std.specs.Ordering.{nat_cmp}
@@ -10,7 +10,7 @@ use Rattle.bit_domain.specs.TriByte.{IsWithin}
 use Rattle.mask_states.specs.declared.keys.InstKey.{InstKey}
 use Rattle.mask_states.specs.declared.keys.NodeKey.{NodeKey}
 use Rattle.mask_states.specs.Keys.{inst_numbers, node_numbers}
-use Rattle.mask_states.specs.Order.{inst_cmp, node_cmp}
+use Rattle.mask_states.specs.Order.{inst_cmp, node_cmp, same_inst, same_node}
 use Rattle.mask_states.specs.Splits.{splits, IsWritten}
 
 -- keys with the same numbers are the same
@@ -18,12 +18,14 @@ pub record KeysAreTheirNumbers : Type 0 where
   pub insts : (a b : InstKey) → inst_numbers a ≡ inst_numbers b → a ≡ b
   pub nodes : (a b : NodeKey) → node_numbers a ≡ node_numbers b → a ≡ b
 
--- the order is total, and a key is equal to itself alone
+-- the order is total, and a key is equal to itself alone: by the order, and by the test
 pub record KeysAreOrdered : Type 0 where
   pub insts : IsTotalOrder inst_cmp
   pub nodes : IsTotalOrder node_cmp
   pub equal_insts : (a b : InstKey) → (inst_cmp a b ≡ Equal) ↔ (a ≡ b)
   pub equal_nodes : (a b : NodeKey) → (node_cmp a b ≡ Equal) ↔ (a ≡ b)
+  pub same_insts : (a b : InstKey) → IsTrue (same_inst a b) ↔ (a ≡ b)
+  pub same_nodes : (a b : NodeKey) → IsTrue (same_node a b) ↔ (a ≡ b)
 
 -- Nodes go by their instances first, so those of one instance are neighbours in an ascending list.
 pub record NodesGoByInstance : Type 0 where

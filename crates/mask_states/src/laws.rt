@@ -7,7 +7,7 @@ pub fn keys_are_their_numbers()
     ensures { KeysAreTheirNumbers }
 {}
 
-/// The order of keys is total, and a key is equal to itself alone.
+/// The order of keys is total, and a key is equal to itself alone, by the order and by `==`.
 pub fn keys_are_ordered()
     ensures { KeysAreOrdered }
 {}
