@@ -33,3 +33,4 @@ pub mod Monotone
 pub mod MonotoneNodes
 pub mod Steps
 pub mod AllLaws
+pub mod Halves

@@ -2,6 +2,11 @@
 #![tactic(auto)]
 
 pub mod laws;
+mod arithmetic;
+mod computed;
+mod flags;
 pub mod local;
+mod rows;
+mod words;
 
 pub use local::{CallSite, CallSites, Exit, Local, Node, NodeFault, Nodes};
