@@ -34,3 +34,6 @@ pub mod MonotoneNodes
 pub mod Steps
 pub mod AllLaws
 pub mod Halves
+pub mod Enabled
+pub mod NoSlot
+pub mod Permitted

@@ -6,7 +6,10 @@ mod arithmetic;
 mod computed;
 mod flags;
 pub mod local;
+mod pointers;
+mod reads;
 mod rows;
+mod stack_pointer;
 mod words;
 
 pub use local::{CallSite, CallSites, Exit, Local, Node, NodeFault, Nodes};
