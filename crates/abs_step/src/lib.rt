@@ -4,7 +4,9 @@
 pub mod laws;
 mod arithmetic;
 mod computed;
+mod faults;
 mod flags;
+mod flow;
 pub mod local;
 mod pointers;
 mod reads;
