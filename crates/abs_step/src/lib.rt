@@ -15,3 +15,6 @@ mod stack_pointer;
 mod words;
 
 pub use local::{CallSite, CallSites, Exit, Local, Node, NodeFault, Nodes};
+
+#[cfg(test)]
+mod tests;
