@@ -1,17 +1,17 @@
 //! Where a node leads in its own frame: what one instruction does to what is known of the machine. Source: own.
 #![tactic(auto)]
 
-pub mod laws;
 mod arithmetic;
 mod computed;
 mod faults;
 mod flags;
-mod flow;
+pub mod laws;
 pub mod local;
-mod pointers;
+mod pointed;
 mod reads;
 mod rows;
 mod stack_pointer;
+mod transfers;
 mod words;
 
 pub use local::{CallSite, CallSites, Exit, Local, Node, NodeFault, Nodes};

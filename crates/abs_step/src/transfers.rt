@@ -1,6 +1,6 @@
 //! Words that jumps, branches and skips go to, and the conditions that decide.
 
-ghost use Rattle.std.specs.Prelude.{◌≡◌, ◌+◌, ◌<◌, ◌≤◌};
+ghost use Rattle.std.specs.Prelude.{◌≡◌, ◌+◌, ◌<◌, ◌≤◌, None};
 ghost use Rattle.avr_model.specs.Text as text;
 ghost use Rattle.avr_model.specs.Effects as effects;
 ghost use Rattle.avr_model.specs.Assumptions.{lists};
@@ -9,13 +9,14 @@ ghost use Rattle.bit_domain.specs.Logic.{byte_equal};
 ghost use Rattle.abs_step.specs.Registers as registers;
 ghost use Rattle.abs_step.specs.Raw as raw;
 ghost use Rattle.abs_step.specs.Reads as reads;
-ghost use Rattle.abs_step.specs.Flow.{words_of};
+ghost use Rattle.abs_step.specs.Flow.{words_of, targets_by};
 
 use crate::computed::bits;
 use crate::reads::read_at;
 use crate::words::Z;
 use abs_state::AbsState;
 use bit_domain::{Tri, TriByte};
+use indirect_targets::{Targets, targets};
 use mask_states::NodeKey;
 
 /// How many words flash has; word addresses count modulo this number (data sheet: 32 KiB).
@@ -109,4 +110,14 @@ pub(crate) fn is_target(state: &AbsState, word: u16) -> bool
     ensures { result ≡ lists (words_of (registers.bits state.now 30) (registers.bits state.now 31)) word }
 {
     is_permitted(bits(state, Z), bits(state, Z + 1), word)
+}
+
+/// The words to which an indirect transfer may lead that no line lists: None where there are more than 64.
+pub(crate) fn all_targets(state: &AbsState) -> Option<Targets>
+    ensures { result ≡ targets_by None (words_of (registers.bits state.now 30) (registers.bits state.now 31)) }
+{
+    match targets(&bits(state, Z), &bits(state, Z + 1)) {
+        Ok(targets) => Some(targets),
+        Err(_) => None,
+    }
 }
