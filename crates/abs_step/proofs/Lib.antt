@@ -33,3 +33,7 @@ pub mod Monotone
 pub mod MonotoneNodes
 pub mod Steps
 pub mod AllLaws
+pub mod Halves
+pub mod Enabled
+pub mod NoSlot
+pub mod Permitted

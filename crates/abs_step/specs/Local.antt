@@ -1,24 +1,21 @@
 -- Where a node leads in its own frame. Source: own.
-use Rattle.std.specs.Prelude.{ℕ, ◌+◌, ◌*◌, ◌==◌, ◌&&◌, Bool, true, false, not, if◌then◌else◌, List, [], ◌∷◌, Option, Some, None, Result, Ok, Err, slice_set}
+use Rattle.std.specs.Prelude.{ℕ, ◌*◌, ◌==◌, ◌&&◌, Bool, true, false, not, if◌then◌else◌, List, [], ◌∷◌, Option, Some, None, Result, Ok, Err, slice_set}
 use Rattle.std.specs.declared.cmp.Ordering.{Ordering}
 use Rattle.std.specs.declared.cmp.Ordering.TheVariants.{Less, Equal, Greater}
 use Rattle.avr_model.specs.declared.assumption.Entry.{Entry}
 use Rattle.avr_model.specs.declared.instruction.Instr.{Instr}
 use Rattle.avr_model.specs.declared.instruction.Instr.TheVariants as i
 use Rattle.avr_model.specs.declared.instruction.BinaryOp.{BinaryOp}
-use Rattle.avr_model.specs.declared.instruction.BinaryOp.TheVariants as binary
 use Rattle.avr_model.specs.declared.instruction.Pointer.{Pointer}
 use Rattle.avr_model.specs.declared.instruction.Pointer.TheVariants as pointer
-use Rattle.avr_model.specs.declared.operation.Logic.TheVariants as logic
 use Rattle.avr_model.specs.declared.operation.Mul.TheVariants as product
 use Rattle.avr_model.specs.Text.{far, near}
 use Rattle.avr_model.specs.Sites.{instruction_at, is_scratch, base_register, pointer_register}
 use Rattle.avr_model.specs.Effects.{port}
 use Rattle.bit_domain.specs.declared.bits.Tri.TheVariants.{Zero, One}
 use Rattle.bit_domain.specs.Tri.{tri_not}
-use Rattle.bit_domain.specs.TriByte.{tri_at, byte_with, byte_constant}
+use Rattle.bit_domain.specs.TriByte.{tri_at, byte_with}
 use Rattle.bit_domain.specs.Logic.{byte_equal}
-use Rattle.sp_domain.specs.declared.tags.Tag.TheVariants as tag
 use Rattle.abs_state.specs.declared.values.AbsByte.{AbsByte}
 use Rattle.abs_state.specs.declared.state.AbsState.{AbsState}
 use Rattle.abs_state.specs.Values.{untagged}
@@ -33,26 +30,16 @@ use Rattle.abs_step.specs.declared.local.NodeFault.{NodeFault}
 use Rattle.abs_step.specs.declared.local.NodeFault.TheVariants.{Unsupported}
 use Rattle.abs_step.specs.Faults.{least}
 use Rattle.abs_step.specs.Raw.{Raw, nowhere, fails, untracked_if, at_word, next, further, going_to, going_on, setting}
-use Rattle.abs_step.specs.Registers.{value, bits, carry_bit, set, set_pair, with_carry, sum_row, compare_row, sub_row, sbc_row, or_nothing, logic_row, kept_tag, product_row, wide_row, pair_moved, flag_row, immediate_row, unary_row}
+use Rattle.abs_step.specs.Registers.{value, bits, set, going_with, going_by, binary_after, pair_copied, bit_loaded, bit_stored, product_row, wide_row, pair_moved, interrupts_row, flag_row, immediate_row, unary_row}
 use Rattle.abs_step.specs.Reads.{read_at, pointed, pair_constant, read_pointed, flash_value}
 use Rattle.abs_step.specs.Writes.{written_at, pointer_write}
 use Rattle.abs_step.specs.Flow.{branch, skipping, flag_at, targets_at, jumping, at_closed, pushing, popping, relative_call, calling, indirect_call, returning, ret_exit, reti_exit}
 
 -- ---- registers
 
+-- `cpse` skips where the registers are equal
 abbrev pub binary_row : List ℕ → NodeKey → AbsState → BinaryOp → ℕ → ℕ → Raw
-binary_row words k s binary.Cpc d r = compare_row k s (bits s d) (bits s r) (carry_bit s) true
-binary_row words k s binary.Sbc d r = sbc_row k s d (bits s r) (byte_constant (bits s r))
-binary_row words k s binary.Add d r = sum_row k s d (bits s r) Zero
-binary_row words k s binary.Cpse d r = skipping words k s (byte_equal (bits s d) (bits s r))
-binary_row words k s binary.Cp d r = compare_row k s (bits s d) (bits s r) Zero false
-binary_row words k s binary.Sub d r = sub_row k s d (or_nothing d r (bits s d)) (or_nothing d r (bits s r)) (byte_constant (bits s r))
-binary_row words k s binary.Adc d r = sum_row k s d (bits s r) (carry_bit s)
-binary_row words k s binary.And d r = logic_row k s logic.And d (bits s d) (bits s r) (kept_tag s d r)
-binary_row words k s binary.Eor d r = logic_row k s logic.Eor d (or_nothing d r (bits s d)) (or_nothing d r (bits s r)) tag.None
-binary_row words k s binary.Or d r = logic_row k s logic.Or d (bits s d) (bits s r) (kept_tag s d r)
-binary_row words k s binary.Mov d r = setting k s (set s d (value s r)) s.flags
-binary_row words k s binary.Mul d r = product_row k s product.Mul d r
+binary_row words k s op d r = going_by k s (binary_after s op d r) (skipping words k s (byte_equal (bits s d) (bits s r)))
 
 -- ---- loads and stores
 
@@ -138,7 +125,7 @@ memory_row words A scratch k s instr = flow_row words A scratch k s instr
 
 -- What an instruction leads to, where `scratch` says that its pushes make a compiler's small frame.
 abbrev pub row_of : List ℕ → List Entry → Bool → NodeKey → AbsState → Instr → Raw
-row_of words A scratch k s (i.Movw d r) = setting k s (set_pair s.registers (2 * d) (value s (2 * r)) (value s (2 * r + 1))) s.flags
+row_of words A scratch k s (i.Movw d r) = going_with k s (pair_copied s (2 * d) (2 * r))
 row_of words A scratch k s (i.Muls d r) = product_row k s product.Muls d r
 row_of words A scratch k s (i.Mulsu d r) = product_row k s product.Mulsu d r
 row_of words A scratch k s (i.Fmul d r) = product_row k s product.Fmul d r
@@ -151,9 +138,16 @@ row_of words A scratch k s (i.Adiw d n) = wide_row k s true (2 * d) n
 row_of words A scratch k s (i.Sbiw d n) = wide_row k s false (2 * d) n
 row_of words A scratch k s (i.Bset n) = flag_row k s n true
 row_of words A scratch k s (i.Bclr n) = flag_row k s n false
-row_of words A scratch k s (i.Bld d b) = setting k s (set s d (untagged (byte_with (bits s d) b (tri_at s.flags.bits 6)))) s.flags
-row_of words A scratch k s (i.Bst d b) = setting k s s.registers (with_carry (byte_with s.flags.bits 6 (tri_at (bits s d) b)) s.flags.carry)
+row_of words A scratch k s (i.Bld d b) = going_with k s (bit_loaded s d b)
+row_of words A scratch k s (i.Bst d b) = going_with k s (bit_stored s d b)
 row_of words A scratch k s instr = memory_row words A scratch k s instr
+
+-- The rows that set more than registers and flags; what is computed goes before it.
+abbrev pub other_row : List ℕ → List Entry → Bool → NodeKey → AbsState → Instr → Raw
+other_row words A scratch k s (i.Binary op d r) = skipping words k s (byte_equal (bits s d) (bits s r))
+other_row words A scratch k s (i.Bset n) = interrupts_row k s true
+other_row words A scratch k s (i.Bclr n) = interrupts_row k s false
+other_row words A scratch k s instr = memory_row words A scratch k s instr
 
 abbrev pub row_at : List ℕ → List Entry → Bool → NodeKey → AbsState → Option Instr → Raw
 row_at words A scratch k s None = fails (Unsupported k.pc)

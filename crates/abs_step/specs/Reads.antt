@@ -25,6 +25,8 @@ use Rattle.mask_states.specs.declared.keys.Kind.{Kind}
 use Rattle.mask_states.specs.declared.keys.Kind.TheVariants.{Root, Call, Vector}
 use Rattle.mask_states.specs.declared.keys.SpForm.{SpForm}
 use Rattle.mask_states.specs.declared.keys.SpForm.TheVariants.{Closed, Open}
+-- the address that a pointer gives: a number, base - k, or both
+pub use Rattle.abs_step.specs.declared.pointed.Pointed.{Pointed}
 use Rattle.abs_step.specs.Registers.{value, bits, with_bits}
 
 -- ---- at an address
@@ -86,11 +88,6 @@ read_at k s a =
     else slot_read k.inst.kind s a))))
 
 -- ---- through a pointer
-
--- the address that a pointer gives: a number, base - k, or both
-pub record Pointed : Type 0 where
-  pub constant : Option ℕ
-  pub frame : Option ℕ
 
 abbrev pub word_of : Option ℕ → Option ℕ → Option ℕ
 word_of None hi = None
