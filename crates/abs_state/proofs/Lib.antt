@@ -9,4 +9,5 @@ pub mod Back
 pub mod Returned
 pub mod Loops
 pub mod Named
+pub mod MoreJoins
 pub mod AllLaws

@@ -40,6 +40,13 @@ pub record StatesAreOrdered : Type 0 where
   pub join : (s t : AbsState) → length s.registers ≡ 32 → length t.registers ≡ 32 → length s.slots ≡ length t.slots → IsLeastAbove s t (state_join s t)
   pub within : (s t : AbsState) → length s.registers ≡ 32 → length t.registers ≡ 32 → IsStateWithin t s → state_join s t ≡ s
 
+-- what says less has a join that says less
+pub record JoinsAreMonotone : Type 0 where
+  pub values : (v w v' w' : AbsByte) → IsByteWithin v v' → IsByteWithin w w' → IsByteWithin (value_join v w) (value_join v' w')
+  pub flags : (f g f' g' : AbsFlags) → IsFlagsWithin f f' → IsFlagsWithin g g' → IsFlagsWithin (flags_join f g) (flags_join f' g')
+  pub states : (s t s' t' : AbsState) → length s.registers ≡ 32 → length t.registers ≡ 32 → length s'.registers ≡ 32 → length t'.registers ≡ 32
+      → length s.slots ≡ length t.slots → IsStateWithin s s' → IsStateWithin t t' → IsStateWithin (state_join s t) (state_join s' t')
+
 -- A join of states that the analysis works with is one, and a join of untagged states is untagged.
 pub record JoinsAreFormed : Type 0 where
   pub formed : (s t : AbsState) (offset : ℕ) → IsFormed s offset → IsFormed t offset → IsFormed (state_join s t) offset

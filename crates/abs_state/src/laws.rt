@@ -1,6 +1,6 @@
 //! Laws of values and states, each as the contract of a function that does nothing.
 
-ghost use Rattle.abs_state.specs.Laws.{ValuesAreOrdered, FlagsAreOrdered, StatesAreOrdered, JoinsAreFormed, ValuesSayLess, SlotsFollow, ResetStands, EntriesAreTrue, ReturnsAreTrue};
+ghost use Rattle.abs_state.specs.Laws.{ValuesAreOrdered, FlagsAreOrdered, StatesAreOrdered, JoinsAreFormed, JoinsAreMonotone, ValuesSayLess, SlotsFollow, ResetStands, EntriesAreTrue, ReturnsAreTrue};
 
 /// To say less is a partial order on values, and a join is the least above both.
 pub fn values_are_ordered()
@@ -15,6 +15,11 @@ pub fn flags_are_ordered()
 /// The same of states.
 pub fn states_are_ordered()
     ensures { StatesAreOrdered }
+{}
+
+/// What says less has a join that says less.
+pub fn joins_are_monotone()
+    ensures { JoinsAreMonotone }
 {}
 
 /// A join of states that the analysis works with is one, without tags where both have none.
