@@ -1,4 +1,3 @@
-pub mod Tags
 pub mod Ordered
 pub mod Listed
 pub mod Whole

@@ -11,7 +11,7 @@ use Rattle.abs_state.specs.declared.values.AbsFlags.{AbsFlags}
 use Rattle.abs_state.specs.Stands.{ByteStands, EntryHolds, FlagsStand}
 use Rattle.abs_state.specs.Order.{IsByteWithin, IsFlagsWithin}
 use Rattle.abs_state.specs.Laws.{ValuesAreOrdered, FlagsAreOrdered}
-use Rattle.abs_state.proofs.Tags.{tags, carries, less}
+use Rattle.sp_domain.proofs.AllLaws.{tags_are_ordered, carries_are_ordered, tags_say_less}
 
 -- ---- bytes
 
@@ -20,18 +20,18 @@ pub has_more : (t u : TriByte) (x : ℕ) → IsWithin t u → Has t x → Has u 
 has_more t u x w has i h = (bytes_are_sets.within t u).0 w i h (bit_at x i) (has i h)
 
 pub byte_same : (v : AbsByte) → IsByteWithin v v
-byte_same v = record { tag = tags.same v.tag; bits = λ x small has. has }
+byte_same v = record { tag = tags_are_ordered.same v.tag; bits = λ x small has. has }
 
 pub byte_through : (u v w : AbsByte) → IsByteWithin u v → IsByteWithin v w → IsByteWithin u w
 byte_through u v w a b =
     record {
-      tag = tags.through u.tag v.tag w.tag a.tag b.tag;
+      tag = tags_are_ordered.through u.tag v.tag w.tag a.tag b.tag;
       bits = λ x small has. b.bits x small (a.bits x small has);
     }
 
 pub byte_both : (v w : AbsByte) → IsByteWithin v w → IsByteWithin w v → v ≡ w
 byte_both v w a b =
-    let t = tags.both v.tag w.tag a.tag b.tag in
+    let t = tags_are_ordered.both v.tag w.tag a.tag b.tag in
     let u = bytes_are_their_bits.from_sets v.bits w.bits a.bits b.bits in
     λ i. record { tag = t i; bits = u i }
 
@@ -40,17 +40,17 @@ values_are_ordered = record {
   same = byte_same;
   through = byte_through;
   both = byte_both;
-  first = λ v w. record { tag = tags.first v.tag w.tag; bits = (lattice_is_of_sets.joins v.bits w.bits).first };
-  second = λ v w. record { tag = tags.second v.tag w.tag; bits = (lattice_is_of_sets.joins v.bits w.bits).second };
+  first = λ v w. record { tag = tags_are_ordered.first v.tag w.tag; bits = (lattice_is_of_sets.joins v.bits w.bits).first };
+  second = λ v w. record { tag = tags_are_ordered.second v.tag w.tag; bits = (lattice_is_of_sets.joins v.bits w.bits).second };
   least = λ u v w a b. record {
-    tag = tags.least u.tag v.tag w.tag a.tag b.tag;
+    tag = tags_are_ordered.least u.tag v.tag w.tag a.tag b.tag;
     bits = (lattice_is_of_sets.joins u.bits v.bits).least w.bits a.bits b.bits;
   };
 }
 
 pub byte_less : (o : Origin) (v w : AbsByte) (x : ℕ) → IsByteWithin v w → ByteStands o v x → ByteStands o w x
 byte_less o v w x le h =
-    record { tag = less.tags o v.tag w.tag x le.tag h.tag; bits = has_more v.bits w.bits x le.bits h.bits }
+    record { tag = tags_say_less.tags o v.tag w.tag x le.tag h.tag; bits = has_more v.bits w.bits x le.bits h.bits }
 
 -- ---- flags
 
@@ -78,31 +78,31 @@ entry_less o false true sreg p h = let e : false ≡ true = p refl in absurd (cc
 
 pub flags_are_ordered : FlagsAreOrdered
 flags_are_ordered = record {
-  same = λ f. record { entry = λ e. e; bits = λ x small has. has; carry = carries.same f.carry };
+  same = λ f. record { entry = λ e. e; bits = λ x small has. has; carry = carries_are_ordered.same f.carry };
   through = λ f g h a b. record {
     entry = λ e. a.entry (b.entry e);
     bits = λ x small has. b.bits x small (a.bits x small has);
-    carry = carries.through f.carry g.carry h.carry a.carry b.carry;
+    carry = carries_are_ordered.through f.carry g.carry h.carry a.carry b.carry;
   };
   both = λ f g a b.
       let e = entry_both f.entry g.entry a.entry b.entry in
       let u = bytes_are_their_bits.from_sets f.bits g.bits a.bits b.bits in
-      let c = carries.both f.carry g.carry a.carry b.carry in
+      let c = carries_are_ordered.both f.carry g.carry a.carry b.carry in
       λ i. record { entry = e i; bits = u i; carry = c i };
   first = λ f g. record {
     entry = and_first f.entry g.entry;
     bits = (lattice_is_of_sets.joins f.bits g.bits).first;
-    carry = carries.first f.carry g.carry;
+    carry = carries_are_ordered.first f.carry g.carry;
   };
   second = λ f g. record {
     entry = and_second f.entry g.entry;
     bits = (lattice_is_of_sets.joins f.bits g.bits).second;
-    carry = carries.second f.carry g.carry;
+    carry = carries_are_ordered.second f.carry g.carry;
   };
   least = λ f g h a b. record {
     entry = λ e. both_true f.entry g.entry (a.entry e) (b.entry e);
     bits = (lattice_is_of_sets.joins f.bits g.bits).least h.bits a.bits b.bits;
-    carry = carries.least f.carry g.carry h.carry a.carry b.carry;
+    carry = carries_are_ordered.least f.carry g.carry h.carry a.carry b.carry;
   };
 }
 
@@ -111,5 +111,5 @@ flags_less o f g sreg le h =
     record {
       entry = entry_less o f.entry g.entry sreg le.entry h.entry;
       bits = has_more f.bits g.bits sreg le.bits h.bits;
-      carry = less.carries o f.carry g.carry (flag sreg 0) le.carry h.carry;
+      carry = tags_say_less.carries o f.carry g.carry (flag sreg 0) le.carry h.carry;
     }
