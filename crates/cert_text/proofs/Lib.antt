@@ -4,3 +4,10 @@ pub mod Loops
 pub mod Fields
 pub mod InstLine
 pub mod NodeLine
+pub mod Items
+pub mod Claims
+pub mod Lists
+pub mod Places
+pub mod Kept
+pub mod Parts
+pub mod Whole

@@ -198,7 +198,8 @@ pub(crate) fn node_of(
     text: &[u8],
     instances: &[Inst],
 ) -> Result<Option<Node>, AllocError>
-    ensures { IfOk result (λ o. o ≡ node_in instances.now (words_of text.now)) }
+    ensures exact { IfOk result (λ o. o ≡ node_in instances.now (words_of text.now)) }
+    ensures small { IfOk result (λ o. IfSome o (λ n. offset_of n.key.sp ≤ model.SIZE)) }
 {
     let mut words = Words::new(text);
     let Some(key) = whole_key_of(&mut words, instances) else {
