@@ -202,8 +202,7 @@ node_spells k l o insts ascend text n e =
     let t = l.spelled insts (words_of text) n e in
     let own = place_unique o insts t.place t.inst.inst ascend t.inst.there in
     let place : place_of n.key.inst insts ≡ t.place = ap (λ (key : InstKey). place_of key insts) (sym t.inst.same) ∙ own in
-    let P : InstKey → Type 0 = λ key. Contains (inst_keys insts) key in
-    (
+    let P : InstKey → Type 0 = λ key. Contains (inst_keys insts) key in (
       sym (k.line_words text) ∙ ap spaced (t.words ∙ ap (λ (i : ℕ). node_words_at i n) (sym place)),
       (t.node, subst P t.inst.same (contains_at insts t.place t.inst.inst t.inst.there)),
     )

@@ -36,8 +36,7 @@ stand_more p m q xs bs h g = let P : List TextLine → Type 0 = λ ls. Passes p 
 pub stand_cut : (p q : Place) (xs bs : List (List (List ℕ))) → Stand p (xs ++ bs) q → (m : Place) × Stand p xs m × Stand m bs q
 stand_cut p q xs bs h =
     let P : List TextLine → Type 0 = λ ls. Passes p ls q in
-    let g = subst P (map-append whole xs bs) h in
-    (
+    let g = subst P (map-append whole xs bs) h in (
       record { at = p.at + sizes (map whole xs); rest = map whole bs ++ q.rest },
       record { lines = g.lines ∙ append_assoc (map whole xs) (map whole bs) q.rest; offset = refl },
       record { lines = refl; offset = omega (arith, g.offset, sizes_append (map whole xs) (map whole bs)) },

@@ -191,11 +191,15 @@ front_plain : Below → (c : Claim) → IsClaim c → AllByRecursion (AllByRecur
 front_plain b c h =
     let k = b.words in
     let bound = numbered_plain k (codes "bound") c.bound (plain (codes "bound" ∷ []) refl).0 (omega (arith, h.bound_fits)) in
-    let entries : AllByRecursion (AllByRecursion IsWord) (entry_lines c.assumptions) = (numbered_plain k (codes "assume") (length c.assumptions) (plain (codes "assume" ∷ []) refl).0 (omega (arith, h.entries_fit.few)),
-        all_plain entry_words FitsEntry (entry_is_words k) c.assumptions (recursion_from_All FitsEntry c.assumptions h.entries_fit.each)) in
+    let entries : AllByRecursion (AllByRecursion IsWord) (entry_lines c.assumptions) = (
+      numbered_plain k (codes "assume") (length c.assumptions) (plain (codes "assume" ∷ []) refl).0 (omega (arith, h.entries_fit.few)),
+      all_plain entry_words FitsEntry (entry_is_words k) c.assumptions (recursion_from_All FitsEntry c.assumptions h.entries_fit.each),
+    ) in
     let insts : AllByRecursion (AllByRecursion IsWord) (inst_lines c.instances) = (numbered_plain k (codes "instances") (length c.instances) (plain (codes "instances" ∷ []) refl).0 (omega (arith, h.few_insts)), all_plain inst_words IsInst b.insts.words c.instances h.insts_fit) in
-    let nodes : AllByRecursion (AllByRecursion IsWord) (node_lines c.instances c.nodes) = (numbered_plain k (codes "nodes") (length c.nodes) (plain (codes "nodes" ∷ []) refl).0 (omega (arith, h.few_nodes)),
-        all_plain (node_words c.instances) (FitsNode c.instances) (node_is_plain b.nodes b.keys c.instances h.few_insts) c.nodes (fitting_nodes c h)) in
+    let nodes : AllByRecursion (AllByRecursion IsWord) (node_lines c.instances c.nodes) = (
+      numbered_plain k (codes "nodes") (length c.nodes) (plain (codes "nodes" ∷ []) refl).0 (omega (arith, h.few_nodes)),
+      all_plain (node_words c.instances) (FitsNode c.instances) (node_is_plain b.nodes b.keys c.instances h.few_insts) c.nodes (fitting_nodes c h),
+    ) in
     (plain version refl, (bound, joined_plain (entry_lines c.assumptions) (inst_lines c.instances ++ node_lines c.instances c.nodes) entries (joined_plain (inst_lines c.instances) (node_lines c.instances c.nodes) insts nodes)))
 
 behind : Claim → List (List (List ℕ))
@@ -206,9 +210,10 @@ again_at : Below → (c : Claim) → IsClaim c → (p q : Place) → Stand p (fr
 again_at b c h p q s =
     let x = stand_cut p q (heading c.bound) (entry_lines c.assumptions ++ (inst_lines c.instances ++ node_lines c.instances c.nodes)) s in
     let y = stand_cut x.0 q (entry_lines c.assumptions) (inst_lines c.instances ++ node_lines c.instances c.nodes) x.2 in
-    let z = stand_cut y.0 q (inst_lines c.instances) (node_lines c.instances c.nodes) y.2 in
-    (
-      x.0, y.0, z.0,
+    let z = stand_cut y.0 q (inst_lines c.instances) (node_lines c.instances c.nodes) y.2 in (
+      x.0,
+      y.0,
+      z.0,
       heading_again b.words p c.bound x.0 h.bound_fits x.1,
       entries_again b x.0 c.assumptions y.0 h.entries_fit y.1,
       insts_again b y.0 c.instances z.0 h.insts_ascend h.insts_fit h.few_insts z.1,

@@ -13,3 +13,6 @@ mod values;
 pub use certificate::Certificate;
 pub use fault::{CertFault, Limit};
 pub use instance::Inst;
+
+#[cfg(test)]
+mod tests;

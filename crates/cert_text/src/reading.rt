@@ -326,12 +326,7 @@ fn read_node_line(
 
 /// Appends a node of a line at this offset to those with so many cells. Gives how many they then have.
 #[tactic(auto, using(crate::proofs::Items::cells_more))]
-fn append_node(
-    list: &mut Vec<Node>,
-    cells: u32,
-    node: Node,
-    at: usize,
-) -> Result<u32, CertFault>
+fn append_node(list: &mut Vec<Node>, cells: u32, node: Node, at: usize) -> Result<u32, CertFault>
     requires cells { cells ≡ cells_of list.old.items }
     requires few { cells ≤ most_cells }
     requires small { offset_of node.key.sp ≤ model.SIZE }
