@@ -1,0 +1,26 @@
+-- Where a text reads as a certificate, by the spelling alone.
+use Rattle.std.specs.Prelude.{◌≡◌, ◌≤◌, ℕ, List, None, Ok}
+use Rattle.avr_model.specs.declared.assumption.Entry.{Entry}
+use Rattle.avr_model.specs.State.{SIZE}
+use Rattle.sb_base.specs.Lines.{Place}
+use Rattle.abs_step.specs.declared.local.Node.{Node}
+use Rattle.cert_text.specs.declared.instance.Inst.{Inst}
+use Rattle.cert_text.specs.Certificate.{Claim, IsClaim, IsCertificate, text_of}
+use Rattle.cert_text.specs.CertificateReading.{entries_at, insts_at, nodes_at, certificate_in}
+
+-- what is read is a certificate, and the text is its text
+abbrev pub ReadIsSpelled : Type 0
+ReadIsSpelled = (text : List ℕ) (c : Claim) → certificate_in text ≡ Ok c → (text ≡ text_of c) × IsCertificate c
+
+-- each certificate's text is read as it
+abbrev pub SpelledIsRead : Type 0
+SpelledIsRead = (c : Claim) → IsCertificate c → certificate_in (text_of c) ≡ Ok c
+
+abbrev pub OneText : Type 0
+OneText = (a b : Claim) → IsCertificate a → IsCertificate b → text_of a ≡ text_of b → a ≡ b
+
+-- the parts that are read make up a claim
+abbrev pub PartsMakeClaims : Type 0
+PartsMakeClaims =
+    (a b c d : Place) (n : ℕ) (es : List Entry) (xs : List Inst) (ns : List Node) → n ≤ SIZE → entries_at a ≡ Ok (es, b) → insts_at b ≡ Ok (xs, c) → nodes_at xs c ≡ Ok (ns, d)
+    → IsClaim (record { bound = n; assumptions = es; instances = xs; nodes = ns; witness = None })
