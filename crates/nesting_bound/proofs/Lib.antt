@@ -1,0 +1,5 @@
+pub mod Walk
+pub mod Least
+pub mod Marks
+pub mod Table
+pub mod Naming

@@ -1,0 +1,6 @@
+pub mod Graph
+pub mod Least
+pub mod Cycle
+pub mod Table
+pub mod Reach
+pub mod Search

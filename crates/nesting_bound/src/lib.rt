@@ -1,0 +1,17 @@
+//! How deep calls and interrupts nest: the rank and the need of each instance, or that one reaches itself.
+#![tactic(auto)]
+
+pub mod composing;
+mod cycle;
+pub mod fault;
+mod found;
+pub mod graph;
+pub mod lists;
+mod peel;
+mod reach;
+
+pub use composing::{Composed, compose};
+pub use fault::ComposeFault;
+pub use graph::{Entered, Graph, GraphInst, Place};
+pub use lists::{Entries, Instances, Numbers, Places};
+pub use mask_states::{EdgeKind, InstKey};
