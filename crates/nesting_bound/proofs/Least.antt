@@ -20,7 +20,7 @@ found_there : (o : Option Found) → o ≢ None → (x : Found) × (o ≡ Some x
 found_there None ne = absurd (ne refl)
 found_there (Some x) ne = (x, refl)
 
-get_inside : {X : Type 0} (xs : List X) (i : ℕ) (x : X) → slice_get xs i ≡ Some x → i < length xs
+pub get_inside : {X : Type 0} (xs : List X) (i : ℕ) (x : X) → slice_get xs i ≡ Some x → i < length xs
 get_inside [] i x e = absurd (let e' = e in cc)
 get_inside (y ∷ xs) zero x e = omega arith
 get_inside (y ∷ xs) (suc i) x e = omega (arith, get_inside xs i x e)

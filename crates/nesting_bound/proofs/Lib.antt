@@ -3,3 +3,8 @@ pub mod Least
 pub mod Marks
 pub mod Table
 pub mod Naming
+pub mod Best
+pub mod Order
+pub mod Deep
+pub mod Onward
+pub mod Shape

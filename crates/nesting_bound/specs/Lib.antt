@@ -4,3 +4,5 @@ pub mod Cycle
 pub mod Table
 pub mod Reach
 pub mod Search
+pub mod Chain
+pub mod Turn

@@ -42,3 +42,16 @@ pub struct Graph {
     /// The instances, each named by its place.
     pub instances: Instances,
 }
+
+/// One place of a chain of entries.
+#[derive(Clone, Copy, PartialEq, Eq, Debug)]
+pub struct Link {
+    /// The number of the instance.
+    pub inst: u32,
+    /// The number of the node.
+    pub node: u32,
+    /// How many bytes the stack pointer is below the root's base there.
+    pub depth: u16,
+    /// How the next instance is entered from there. None at the end.
+    pub kind: Option<EdgeKind>,
+}

@@ -1,6 +1,7 @@
 //! How deep calls and interrupts nest: the rank and the need of each instance, or that one reaches itself.
 #![tactic(auto)]
 
+pub mod chaining;
 pub mod composing;
 mod cycle;
 pub mod fault;
@@ -10,8 +11,9 @@ pub mod lists;
 mod peel;
 mod reach;
 
+pub use chaining::chain;
 pub use composing::{Composed, compose};
 pub use fault::ComposeFault;
-pub use graph::{Entered, Graph, GraphInst, Place};
+pub use graph::{Entered, Graph, GraphInst, Link, Place};
 pub use lists::{Entries, Instances, Numbers, Places};
 pub use mask_states::{EdgeKind, InstKey};
