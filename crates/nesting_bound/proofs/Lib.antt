@@ -7,4 +7,4 @@ pub mod Best
 pub mod Order
 pub mod Deep
 pub mod Onward
-pub mod Shape
+pub mod Tested

@@ -23,6 +23,21 @@ pub struct Composed {
     pub needs: Numbers,
 }
 
+impl Composed {
+    ghost use Rattle.std.specs.Prelude.{◌≡◌, slice_index};
+
+    /// The need of an instance, 0 where there is none of this number.
+    pub fn need(&self, inst: u32) -> u32
+        ensures { result ≡ slice_index self.now.needs inst }
+    {
+        self.needs
+            .as_slice()
+            .get(inst as usize)
+            .copied()
+            .unwrap_or(0)
+    }
+}
+
 fn rank(found: Option<Found>) -> u32
     ensures { result ≡ rank_of found }
 {

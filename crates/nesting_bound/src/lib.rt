@@ -10,6 +10,7 @@ pub mod graph;
 pub mod lists;
 mod peel;
 mod reach;
+mod shape;
 
 pub use chaining::chain;
 pub use composing::{Composed, compose};
@@ -17,3 +18,6 @@ pub use fault::ComposeFault;
 pub use graph::{Entered, Graph, GraphInst, Link, Place};
 pub use lists::{Entries, Instances, Numbers, Places};
 pub use mask_states::{EdgeKind, InstKey};
+
+#[cfg(test)]
+mod tests;

@@ -18,6 +18,7 @@ returns-in-Some c =
 
 pub returns-in-Some-best_edge : goal.returns-in-Some-best_edge
 returns-in-Some-best_edge c =
-    let is = slice_get_read c.args.instances.now (length c.args.instances.now) c.args.inst c.index-instances-inst.result refl c.requires.within c.index-instances-inst.is in
-    (no_deep_place c.args.instances.now c.args.needs.now c.args.inst c.index-instances-inst.result is c.as_slice.result.now c.best_place.result c.as_slice.ensures c.in-None.is c.best_place.ensures,
-    first_edge c.args.instances.now c.args.needs.now c.args.inst c.index-instances-inst.result is c.as_slice-in-None.result.now c.best_edge.result c.in-Some-best_edge.entered c.as_slice-in-None.ensures c.in-Some-best_edge.is c.best_edge.ensures)
+    let is = slice_get_read c.args.instances.now (length c.args.instances.now) c.args.inst c.index-instances-inst.result refl c.requires.within c.index-instances-inst.is in (
+      no_deep_place c.args.instances.now c.args.needs.now c.args.inst c.index-instances-inst.result is c.as_slice.result.now c.best_place.result c.as_slice.ensures c.in-None.is c.best_place.ensures,
+      first_edge c.args.instances.now c.args.needs.now c.args.inst c.index-instances-inst.result is c.as_slice-in-None.result.now c.best_edge.result c.in-Some-best_edge.entered c.as_slice-in-None.ensures c.in-Some-best_edge.is c.best_edge.ensures,
+    )
