@@ -56,7 +56,7 @@ kind_order Return Call = refl
 kind_order Return (Interrupt w d) = refl
 kind_order Return Return = refl
 
-kind_length : (a : EdgeKind) → length (kind_numbers a) ≡ 3
+pub kind_length : (a : EdgeKind) → length (kind_numbers a) ≡ 3
 kind_length Local = refl
 kind_length Call = refl
 kind_length (Interrupt v c) = refl

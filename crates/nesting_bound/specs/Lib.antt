@@ -6,3 +6,5 @@ pub mod Reach
 pub mod Search
 pub mod Chain
 pub mod Turn
+pub mod Laws
+pub mod Examples

@@ -7,6 +7,7 @@ mod cycle;
 pub mod fault;
 mod found;
 pub mod graph;
+pub mod laws;
 pub mod lists;
 mod peel;
 mod reach;
