@@ -1,7 +1,7 @@
 //! The least ranks and needs, or the instance that is named where some reach themselves.
 
 ghost use Rattle.std.specs.Prelude.{◌≡◌, ◌≢◌, ℕ, ◌+◌, ◌<◌, ◌≤◌, None, Some, IfOk, IfErr, MatchOption, map, length};
-ghost use Rattle.nesting_bound.specs.Graph.{IsGraph};
+ghost use Rattle.nesting_bound.specs.Graph.{IsGraph, Reaches};
 ghost use Rattle.nesting_bound.specs.Table.{at, rank_of, need_of};
 ghost use Rattle.nesting_bound.specs.Least.{IsLeast};
 ghost use Rattle.nesting_bound.specs.Cycle.{IsFaultOf};
@@ -89,6 +89,7 @@ fn missing(table: &[Option<Found>]) -> Option<usize>
 pub fn compose(alloc: Global, graph: &Graph) -> Result<Composed, ComposeFault>
     requires { IsGraph graph.now.instances }
     ensures ok { IfOk result (λ c. IsLeast graph.now.instances c.ranks c.needs) }
+    ensures acyclic { IfOk result (λ _. (i : ℕ) → Reaches graph.now.instances i i → ⊥) }
     ensures err { IfErr result (IsFaultOf graph.now.instances) }
 {
     let instances = graph.instances.as_slice();
