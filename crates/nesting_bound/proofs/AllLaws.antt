@@ -1,15 +1,14 @@
 -- The laws, each under the name of the public function that carries it. Crates above cite them from here.
-use Rattle.std.proofs.Common.{◌≡◌, ℕ, ◌+◌, ◌≤◌, ◌<◌, Some, None, List, [], ◌∷◌, ◌++◌, length, slice_index, slice_get, refl, sym, ap, ◌∙◌, subst, arith, ⊎_elim, inl, inr, ◌⊎◌}
+use Rattle.std.proofs.Common.{◌≡◌, ℕ, ◌+◌, ◌≤◌, ◌<◌, Some, None, List, [], ◌∷◌, slice_index, slice_get, refl, sym, ap, ◌∙◌, subst, arith, ◌⊎◌}
 use Rattle.std.proofs.lemmas.Grind.{same_number_lists}
 use Rattle.nesting_bound.specs.declared.graph.Entered.{Entered}
 use Rattle.nesting_bound.specs.declared.graph.GraphInst.{GraphInst}
 use Rattle.nesting_bound.specs.declared.graph.Link.{Link}
 use Rattle.nesting_bound.specs.declared.graph.Place.{Place}
-use Rattle.nesting_bound.specs.Chain.{IsChain, IsChainFrom, ends, goes, IsFirst, IsDeepPlace, IsDeepEdge, IsPlaceUpTo, IsEdgeUpTo}
-use Rattle.nesting_bound.specs.Cycle.{IsNamed, IsNoLater, group_of, number_of}
-use Rattle.nesting_bound.specs.Graph.{Enters, HasPlace, Reaches, once, more, AreRanks, AreNeeds}
+use Rattle.nesting_bound.specs.Chain.{IsChainFrom, ends, goes, IsFirst, IsDeepPlace, IsDeepEdge, IsPlaceUpTo, IsEdgeUpTo}
+use Rattle.nesting_bound.specs.Cycle.{IsNamed, group_of, number_of}
+use Rattle.nesting_bound.specs.Graph.{Reaches, once, more, AreNeeds}
 use Rattle.nesting_bound.specs.Laws.{Nests, here, deeper, RanksRuleOutCycles, NeedsBoundNesting, AnswersAreOne, EndsAt, ChainsReachTheNeed, ChainsAreOne}
-use Rattle.nesting_bound.specs.Least.{IsLeast}
 use Rattle.nesting_bound.proofs.Same.{edges_same}
 use Rattle.nesting_bound.proofs.Walk.{no_cycle}
 

@@ -1,5 +1,5 @@
 -- A chain goes on by one link.
-use Rattle.std.proofs.Common.{◌≡◌, ◌≢◌, ℕ, ◌+◌, ◌<◌, ◌≤◌, Some, None, List, [], ◌∷◌, ◌++◌, length, slice_index, refl, sym, ap, ◌∙◌, subst, arith, append_assoc}
+use Rattle.std.proofs.Common.{◌≡◌, ℕ, ◌+◌, Some, None, List, [], ◌∷◌, ◌++◌, sym, subst, arith, append_assoc}
 use Rattle.nesting_bound.specs.declared.chaining.Turn.{Turn}
 use Rattle.nesting_bound.specs.declared.chaining.Turn.TheVariants.{Ends, Enters}
 use Rattle.nesting_bound.specs.declared.graph.Entered.{Entered}
@@ -8,7 +8,7 @@ use Rattle.nesting_bound.specs.declared.graph.Link.{Link}
 use Rattle.nesting_bound.specs.declared.graph.Place.{Place}
 use Rattle.nesting_bound.specs.Graph.{IsGraph}
 use Rattle.nesting_bound.specs.Least.{IsLeast}
-use Rattle.nesting_bound.specs.Chain.{IsFirst, IsPlaceUpTo, IsEdgeUpTo, IsDeepPlace, IsDeepEdge, IsChainFrom, IsChain, ends, goes, HasSome, HavePlaces}
+use Rattle.nesting_bound.specs.Chain.{IsFirst, IsPlaceUpTo, IsEdgeUpTo, IsDeepPlace, IsDeepEdge, IsChainFrom, IsChain, ends, goes, HavePlaces}
 use Rattle.nesting_bound.specs.Turn.{IsOnWay, IsTurn, AreLeastNeeds}
 
 pub least_needs : (gs : List GraphInst) (ranks needs : List ℕ) → IsLeast gs ranks needs → AreLeastNeeds gs needs

@@ -1,5 +1,5 @@
 -- Worked rows of the definitions, as a reader would do them by hand.
-use Rattle.std.specs.Prelude.{◌≡◌, ℕ, refl, true, false, List, [], ◌∷◌, Some, None, slice_get}
+use Rattle.std.specs.Prelude.{◌≡◌, ℕ, refl, true, false, List, [], ◌∷◌, slice_get}
 use Rattle.std.specs.declared.cmp.Ordering.TheVariants.{Less, Greater, Equal}
 use Rattle.mask_states.specs.declared.keys.EdgeKind.TheVariants.{Call, Interrupt}
 use Rattle.mask_states.specs.declared.keys.Kind.TheVariants.{Vector}
@@ -7,7 +7,7 @@ use Rattle.mask_states.specs.declared.keys.Kind.TheVariants as kinds
 use Rattle.mask_states.specs.Keys.{root_inst}
 use Rattle.nesting_bound.specs.declared.graph.Entered.{Entered}
 use Rattle.nesting_bound.specs.declared.graph.GraphInst.{GraphInst}
-use Rattle.nesting_bound.specs.Chain.{kind_numbers, entry_of, turn_of, edge_cmp}
+use Rattle.nesting_bound.specs.Chain.{entry_of, turn_of, edge_cmp}
 use Rattle.nesting_bound.specs.Cycle.{group_of, number_of}
 
 -- the root, a handler of vector 2 and two functions, each with one node

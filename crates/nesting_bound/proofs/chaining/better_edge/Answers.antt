@@ -1,6 +1,6 @@
-use Rattle.std.proofs.Common.{◌≡◌, ◌+◌, ◌∙◌, sym, arith, slice_index}
+use Rattle.std.proofs.Common.{◌≡◌, ◌+◌, slice_index}
 use Rattle.nesting_bound.specs.Chain.{IsEdgeUpTo, edge_cmp}
-use Rattle.nesting_bound.proofs.Best.{best_skip, best_first, best_less, best_keep}
+use Rattle.nesting_bound.proofs.Best.{best_first, best_less, best_keep}
 use Rattle.nesting_bound.proofs.Order.{edge_same, edge_over, less_of, not_less_of}
 use Rattle.nesting_bound.proofs.chaining.better_edge.Goals as goal
 

@@ -1,6 +1,6 @@
-use Rattle.std.proofs.Common.{◌≡◌, ◌+◌, ◌++◌, ◌∷◌, [], sym, subst, None, Some}
+use Rattle.std.proofs.Common.{◌+◌, sym, subst}
 use Rattle.nesting_bound.specs.Chain.{IsChain}
-use Rattle.nesting_bound.specs.Turn.{IsTurn, IsOnWay}
+use Rattle.nesting_bound.specs.Turn.{IsOnWay}
 use Rattle.nesting_bound.proofs.Onward.{ends_here, goes_here, turned_end, turned_way}
 use Rattle.nesting_bound.proofs.chaining.chain.Goals as goal
 

@@ -1,4 +1,4 @@
-use Rattle.std.proofs.Common.{◌≡◌, refl, length, slice_get, Some}
+use Rattle.std.proofs.Common.{refl, length}
 use Rattle.std.proofs.lemmas.Option.{slice_get_read}
 use Rattle.nesting_bound.proofs.Deep.{some_is_deep, no_deep_place, no_deep_edge, first_place, first_edge}
 use Rattle.nesting_bound.proofs.chaining.goes_on.Goals as goal

@@ -1,5 +1,5 @@
-use Rattle.std.proofs.Common.{◌∙◌, ap, sym}
-use Rattle.std.specs.Ordering.{is_lt, nat_cmp}
+use Rattle.std.proofs.Common.{◌∙◌}
+use Rattle.std.specs.Ordering.{nat_cmp}
 use Rattle.nesting_bound.proofs.Order.{edge_chained}
 use Rattle.nesting_bound.proofs.chaining.is_before.Goals as goal
 

@@ -1,4 +1,4 @@
-use Rattle.std.proofs.Common.{refl, length, slice_get}
+use Rattle.std.proofs.Common.{refl, length}
 use Rattle.std.proofs.lemmas.Option.{slice_get_read}
 use Rattle.nesting_bound.proofs.Tested.{some_place, no_some_place, not_empty, is_empty}
 use Rattle.nesting_bound.proofs.shape.has_place.Goals as goal

@@ -1,4 +1,4 @@
-use Rattle.std.proofs.Common.{refl, sym, subst, length, slice_get}
+use Rattle.std.proofs.Common.{refl, sym, subst, length}
 use Rattle.std.proofs.lemmas.Option.{slice_get_read}
 use Rattle.nesting_bound.specs.Chain.{HavePlaces}
 use Rattle.nesting_bound.proofs.Tested.{places_more, places_upto, not_to_places}

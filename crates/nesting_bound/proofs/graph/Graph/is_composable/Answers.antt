@@ -1,7 +1,7 @@
-use Rattle.std.proofs.Common.{◌<◌, ◌≤◌, refl, sym, subst, length, slice_get, arith}
+use Rattle.std.proofs.Common.{refl, sym, subst, length, arith}
 use Rattle.std.proofs.lemmas.Option.{slice_get_read}
 use Rattle.nesting_bound.specs.Graph.{IsGraph}
-use Rattle.nesting_bound.proofs.Tested.{AreComposable, composable_more, composable_upto, not_low, not_inside}
+use Rattle.nesting_bound.proofs.Tested.{composable_more, composable_upto, not_low, not_inside}
 use Rattle.nesting_bound.proofs.graph.Graph.is_composable.Goals as goal
 
 pub returns-then-not-are_low-clause-no : goal.returns-then-not-are_low-clause-no
