@@ -1,0 +1,110 @@
+-- The laws, each under the name of the public function that carries it. Crates above cite them from here.
+use Rattle.std.proofs.Common.{◌≡◌, ℕ, ◌+◌, ◌≤◌, ◌<◌, Some, None, List, [], ◌∷◌, slice_index, slice_get, refl, sym, ap, ◌∙◌, subst, arith, ◌⊎◌}
+use Rattle.std.proofs.lemmas.Grind.{same_number_lists}
+use Rattle.nesting_bound.specs.declared.graph.Entered.{Entered}
+use Rattle.nesting_bound.specs.declared.graph.GraphInst.{GraphInst}
+use Rattle.nesting_bound.specs.declared.graph.Link.{Link}
+use Rattle.nesting_bound.specs.declared.graph.Place.{Place}
+use Rattle.nesting_bound.specs.Chain.{IsChainFrom, ends, goes, IsFirst, IsDeepPlace, IsDeepEdge, IsPlaceUpTo, IsEdgeUpTo}
+use Rattle.nesting_bound.specs.Cycle.{IsNamed, group_of, number_of}
+use Rattle.nesting_bound.specs.Graph.{Reaches, once, more, AreNeeds}
+use Rattle.nesting_bound.specs.Laws.{Nests, here, deeper, RanksRuleOutCycles, NeedsBoundNesting, AnswersAreOne, EndsAt, ChainsReachTheNeed, ChainsAreOne}
+use Rattle.nesting_bound.proofs.Same.{edges_same}
+use Rattle.nesting_bound.proofs.Walk.{no_cycle}
+
+pub ranks_rule_out_cycles : RanksRuleOutCycles
+ranks_rule_out_cycles = no_cycle
+
+bounded : (gs : List GraphInst) (need : ℕ → ℕ) → AreNeeds gs need → (i depth : ℕ) → Nests gs i depth → depth ≤ need i
+bounded gs need needs i depth (here _ p h) = needs.offsets i p h
+bounded gs need needs i depth (deeper _ below e h rest) =
+    let a = needs.entered i e h in
+    let b = bounded gs need needs e.into below rest in
+    omega arith
+
+pub needs_bound_nesting : NeedsBoundNesting
+needs_bound_nesting = bounded
+
+-- ---- one answer
+reaching : (gs : List GraphInst) (i j : ℕ) → Reaches gs i j → (inst : GraphInst) × (slice_get gs i ≡ Some inst)
+reaching gs i j (once _ e enters) = (enters.inst, enters.is)
+reaching gs i j (more _ _ e enters rest) = (enters.inst, enters.is)
+
+both_first : (g g' n n' i j : ℕ) → (g < g') ⊎ ((g ≡ g') × ((n < n') ⊎ ((n ≡ n') × (i ≤ j)))) → (g' < g) ⊎ ((g' ≡ g) × ((n' < n) ⊎ ((n' ≡ n) × (j ≤ i)))) → i ≡ j
+both_first g g' n n' i j a b = grind arith
+
+named_one : (gs : List GraphInst) (a b : ℕ) → IsNamed gs a → IsNamed gs b → a ≡ b
+named_one gs a b na nb =
+    let ia = reaching gs a a na.reaches in
+    let ib = reaching gs b b nb.reaches in
+    both_first (group_of ia.0.key.kind) (group_of ib.0.key.kind) (number_of ia.0.key.kind ia.0.key.entry) (number_of ib.0.key.kind ib.0.key.entry) a b
+    (na.first b ia.0 ib.0 nb.reaches ia.1 ib.1) (nb.first a ib.0 ia.0 na.reaches ib.1 ia.1)
+
+pub answers_are_one : AnswersAreOne
+answers_are_one = record {
+  ranks = λ gs ranks needs ranks' needs' l l'. same_number_lists ranks ranks' (l.ranks_length ∙ sym l'.ranks_length) (λ k lt.
+      let a = l.least_ranks (slice_index ranks') l'.are_ranks k (omega (arith, l.ranks_length)) in
+      let b = l'.least_ranks (slice_index ranks) l.are_ranks k (omega (arith, l.ranks_length)) in
+      omega (arith, a, b));
+  needs = λ gs ranks needs ranks' needs' l l'. same_number_lists needs needs' (l.needs_length ∙ sym l'.needs_length) (λ k lt.
+      let a = l.least_needs (slice_index needs') l'.are_needs k (omega (arith, l.needs_length)) in
+      let b = l'.least_needs (slice_index needs) l.are_needs k (omega (arith, l.needs_length)) in
+      omega (arith, a, b));
+  named = named_one;
+}
+
+-- ---- chains
+ending : (gs : List GraphInst) (needs : List ℕ) (i above : ℕ) (links : List Link) → IsChainFrom gs needs i above links → EndsAt links (above + slice_index needs i)
+ending gs needs i above links (ends _ _ p first) = record {
+  front = [];
+  end = record { inst = i; node = p.node; depth = above + p.offset; kind = None };
+  is = refl;
+  last = refl;
+  deep = omega (arith, first.is.1);
+}
+ending gs needs i above links (goes _ _ e rest no_end first chain) =
+    let below = ending gs needs e.into (above + e.offset + 2) rest chain in
+    record {
+      front = record { inst = i; node = e.node; depth = above + e.offset; kind = Some e.kind } ∷ below.front;
+      end = below.end;
+      is = ap (λ xs. record { inst = i; node = e.node; depth = above + e.offset; kind = Some e.kind } ∷ xs) below.is;
+      last = below.last;
+      deep = omega (arith, below.deep, first.is.1);
+    }
+
+nesting : (gs : List GraphInst) (needs : List ℕ) (i above : ℕ) (links : List Link) → IsChainFrom gs needs i above links → Nests gs i (slice_index needs i)
+nesting gs needs i above links (ends _ _ p first) = subst (Nests gs i) first.is.1 (here i p first.is.0)
+nesting gs needs i above links (goes _ _ e rest no_end first chain) =
+    subst (Nests gs i) first.is.1 (deeper i (slice_index needs e.into) e first.is.0 (nesting gs needs e.into (above + e.offset + 2) rest chain))
+
+pub chains_reach_the_need : ChainsReachTheNeed
+chains_reach_the_need = record {
+  ends = λ gs needs links chain. subst (EndsAt links) (omega arith) (ending gs needs 0 0 links chain);
+  nests = λ gs needs links chain. nesting gs needs 0 0 links chain;
+}
+
+module _ (gs : List GraphInst) (needs : List ℕ) where
+  places_same : (i : ℕ) (p q : Place) → IsFirst (IsDeepPlace gs needs i) IsPlaceUpTo p → IsFirst (IsDeepPlace gs needs i) IsPlaceUpTo q → p ≡ q
+  places_same i p q f g =
+      let nodes : p.node ≡ q.node = omega (arith, f.first q g.is, g.first p f.is) in
+      let offsets : p.offset ≡ q.offset = f.is.1 ∙ sym g.is.1 in
+      λ j. record { node = nodes j; offset = offsets j }
+
+  ways_same : (i : ℕ) (e d : Entered) → IsFirst (IsDeepEdge gs needs i) (IsEdgeUpTo gs) e → IsFirst (IsDeepEdge gs needs i) (IsEdgeUpTo gs) d → e ≡ d
+  ways_same i e d f g = edges_same gs needs e d (slice_index needs i) (f.first d g.is) (g.first e f.is) f.is.1 g.is.1
+
+  one : (i i' above above' : ℕ) → i ≡ i' → above ≡ above' → (links links' : List Link) → IsChainFrom gs needs i above links → IsChainFrom gs needs i' above' links' → links ≡ links'
+  one i i' above above' ei ea links links' (ends _ _ p f) (ends _ _ q g) =
+      let same = places_same i p q f (subst (λ k. IsFirst (IsDeepPlace gs needs k) IsPlaceUpTo q) (sym ei) g) in
+      λ j. record { inst = ei j; node = (same j).node; depth = ea j + (same j).offset; kind = None } ∷ []
+  one i i' above above' ei ea links links' (ends _ _ p f) (goes _ _ d rest' no_end g chain') =
+      absurd (no_end p (subst (λ k. IsDeepPlace gs needs k p) ei f.is))
+  one i i' above above' ei ea links links' (goes _ _ e rest no_end f chain) (ends _ _ q g) =
+      absurd (no_end q (subst (λ k. IsDeepPlace gs needs k q) (sym ei) g.is))
+  one i i' above above' ei ea links links' (goes _ _ e rest no_end f chain) (goes _ _ d rest' no_end' g chain') =
+      let same = ways_same i e d f (subst (λ k. IsFirst (IsDeepEdge gs needs k) (IsEdgeUpTo gs) d) (sym ei) g) in
+      let tail = one e.into d.into (above + e.offset + 2) (above' + d.offset + 2) (ap (λ x. x.into) same) (λ j. ea j + (same j).offset + 2) rest rest' chain chain' in
+      λ j. record { inst = ei j; node = (same j).node; depth = ea j + (same j).offset; kind = Some (same j).kind } ∷ tail j
+
+pub chains_are_one : ChainsAreOne
+chains_are_one = λ gs needs links links' a b. one gs needs 0 0 0 0 refl refl links links' a b

@@ -1,0 +1,90 @@
+-- A table with all found has the least ranks and needs; a table that is stuck has a cycle.
+use Rattle.std.proofs.Common.{◌≡◌, ◌≢◌, ℕ, zero, suc, ◌<◌, Option, Some, None, List, [], ◌∷◌, map, length, get_or, slice_get, slice_index, refl, sym, ap, ◌∙◌, subst, arith}
+use Rattle.nesting_bound.specs.declared.graph.GraphInst.{GraphInst}
+use Rattle.nesting_bound.specs.declared.found.Found.{Found}
+use Rattle.nesting_bound.specs.Graph.{IsGraph, Reaches, once, more}
+use Rattle.nesting_bound.specs.Table.{at, IsSound, IsStuck, rank_of, need_of}
+use Rattle.nesting_bound.specs.Least.{IsLeast}
+use Rattle.nesting_bound.proofs.Walk.{some_cycle}
+
+at_map : (f : Option Found → ℕ) → f None ≡ 0 → (table : List (Option Found)) (i : ℕ) → get_or (map f table) i 0 ≡ f (at table i)
+at_map f e [] i = sym e
+at_map f e (x ∷ table) zero = refl
+at_map f e (x ∷ table) (suc i) = at_map f e table i
+
+map_length : (f : Option Found → ℕ) (table : List (Option Found)) → length (map f table) ≡ length table
+map_length f [] = refl
+map_length f (x ∷ table) = omega (arith, map_length f table)
+
+found_there : (o : Option Found) → o ≢ None → (x : Found) × (o ≡ Some x)
+found_there None ne = absurd (ne refl)
+found_there (Some x) ne = (x, refl)
+
+pub get_inside : {X : Type 0} (xs : List X) (i : ℕ) (x : X) → slice_get xs i ≡ Some x → i < length xs
+get_inside [] i x e = absurd (let e' = e in cc)
+get_inside (y ∷ xs) zero x e = omega arith
+get_inside (y ∷ xs) (suc i) x e = omega (arith, get_inside xs i x e)
+
+reaches_inside : (gs : List GraphInst) (i j : ℕ) → Reaches gs i j → i < length gs
+reaches_inside gs i j (once _ e enters) = get_inside gs i enters.inst enters.is
+reaches_inside gs i j (more _ _ e enters rest) = get_inside gs i enters.inst enters.is
+
+module _ (gs : List GraphInst) (table : List (Option Found)) (sound : IsSound gs table) where
+  module _ (all : (i : ℕ) → i < length table → at table i ≢ None) where
+    found : (i : ℕ) → i < length gs → (x : Found) × (at table i ≡ Some x)
+    found i lt = found_there (at table i) (all i (subst (λ n. i < n) (sym sound.same) lt))
+
+    rank_at : (i : ℕ) (x : Found) → at table i ≡ Some x → slice_index (map rank_of table) i ≡ x.rank
+    rank_at i x is = at_map rank_of refl table i ∙ ap rank_of is
+
+    need_at : (i : ℕ) (x : Found) → at table i ≡ Some x → slice_index (map need_of table) i ≡ x.need
+    need_at i x is = at_map need_of refl table i ∙ ap need_of is
+
+    pub least_of : (ranks needs : List ℕ) → ranks ≡ map rank_of table → needs ≡ map need_of table → IsLeast gs ranks needs
+    least_of ranks needs er en = subst (λ rs. IsLeast gs rs needs) (sym er) (subst (λ ns. IsLeast gs (map rank_of table) ns) (sym en) least)
+      where
+        least : IsLeast gs (map rank_of table) (map need_of table)
+        least =
+            record {
+              ranks_length = map_length rank_of table ∙ sound.same;
+              needs_length = map_length need_of table ∙ sound.same;
+              are_ranks = λ i e enters.
+                  let x = found i (get_inside gs i enters.inst enters.is) in
+                  let y = (sound.settled i x.0 x.1).entered e enters in
+                  omega (arith, rank_at i x.0 x.1, rank_at e.into y.0 y.1, y.2);
+              are_needs = record {
+                offsets = λ i o h.
+                    let x = found i (get_inside gs i h.inst h.is) in
+                    omega (arith, need_at i x.0 x.1, (sound.settled i x.0 x.1).offsets o h);
+                entered = λ i e enters.
+                    let x = found i (get_inside gs i enters.inst enters.is) in
+                    let y = (sound.settled i x.0 x.1).entered e enters in
+                    omega (arith, need_at i x.0 x.1, need_at e.into y.0 y.1, y.3);
+              };
+              least_ranks = λ rank ranks i lt.
+                  let x = found i lt in
+                  omega (arith, rank_at i x.0 x.1, (sound.settled i x.0 x.1).rank_least rank ranks);
+              least_needs = λ need needs i lt.
+                  let x = found i lt in
+                  omega (arith, need_at i x.0 x.1, (sound.settled i x.0 x.1).need_least need needs);
+            }
+
+  -- a table that is stuck with something missing has an instance that reaches itself
+  pub stuck_cycle : IsGraph gs → ((i : ℕ) → i < length gs → at table i ≡ None → IsStuck gs table i) → (i : ℕ) → i < length table → at table i ≡ None → ((j : ℕ) → j < length gs → Reaches gs j j → ⊥) → ⊥
+  stuck_cycle graph stuck i lt none acyclic =
+      let c = some_cycle gs (length gs) (λ j. (j < length gs) × (at table j ≡ None)) (λ j h. h.0) (λ j h. let s = stuck j h.0 h.1 in (s.0, s.1, (graph.within j s.0 s.1, s.2))) i (subst (λ n. i < n) sound.same lt, none) in
+      acyclic c.0 (reaches_inside gs c.0 c.0 c.1) c.1
+
+  -- the same, by the lists that the code has on the way
+  pub stuck_at : (gs0 : List GraphInst) (table0 : List (Option Found)) → gs0 ≡ gs → table0 ≡ table → IsGraph gs → ((i : ℕ) → i < length gs0 → at table i ≡ None → IsStuck gs0 table i) → (i : ℕ) → i < length table0 → at table0 i ≡ None → ((j : ℕ) → j < length gs0 → Reaches gs0 j j → ⊥) → ⊥
+  stuck_at gs0 table0 eg et graph stuck i lt none acyclic =
+      stuck_cycle graph
+      (subst (λ g. (i : ℕ) → i < length g → at table i ≡ None → IsStuck g table i) eg stuck)
+      i
+      (subst (λ t. i < length t) et lt)
+      (subst (λ t. at t i ≡ None) et none)
+      (subst (λ g. (j : ℕ) → j < length g → Reaches g j j → ⊥) eg acyclic)
+
+  pub least_at : (table0 : List (Option Found)) (ranks needs : List ℕ) → table0 ≡ table → ((i : ℕ) → i < length table0 → at table0 i ≢ None) → ranks ≡ map rank_of table0 → needs ≡ map need_of table0 → IsLeast gs ranks needs
+  least_at table0 ranks needs et all er en =
+      least_of (subst (λ t. (i : ℕ) → i < length t → at t i ≢ None) et all) ranks needs (er ∙ ap (map rank_of) et) (en ∙ ap (map need_of) et)

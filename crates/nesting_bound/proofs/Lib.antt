@@ -1,0 +1,12 @@
+pub mod Walk
+pub mod Least
+pub mod Marks
+pub mod Table
+pub mod Naming
+pub mod Best
+pub mod Order
+pub mod Deep
+pub mod Onward
+pub mod Tested
+pub mod Same
+pub mod AllLaws

@@ -1,0 +1,18 @@
+use Rattle.std.proofs.Common.{subst, get_or}
+use Rattle.std.specs.List.{Contains}
+use Rattle.std.proofs.lemmas.List.Elements.{Contains-get_or}
+use Rattle.nesting_bound.specs.declared.graph.Entered.{Entered}
+use Rattle.nesting_bound.proofs.Table.{no_entry, over_none_at, over_more_at}
+use Rattle.nesting_bound.proofs.peel.settle.Goals as goal
+
+pub loop-entered-init : goal.loop-entered-init
+loop-entered-init c = over_none_at c.args.inst.now.offsets c.as_slice.result.now c.args.table.now c.greatest.result c.as_slice.ensures c.greatest.ensures.above c.greatest.ensures.least
+
+pub bounds : goal.bounds
+bounds c =
+    let e : Entered = get_or c.as_slice-entered-items.result.now c.loop-entered.entered-index no_entry in
+    c.requires.within e (subst (λ xs. Contains xs e) c.as_slice-entered-items.ensures (Contains-get_or c.as_slice-entered-items.result.now c.loop-entered.entered-index no_entry c.loop-entered-test.true))
+
+pub loop-entered-preserved : goal.loop-entered-preserved
+loop-entered-preserved c =
+    over_more_at c.args.inst.now.entered c.as_slice-entered-items.result.now c.args.inst.now.offsets c.args.table.now c.loop-entered.entered-index no_entry c.loop-entered.found c.in-Some.x c.above-found.result c.as_slice-entered-items.ensures c.loop-entered-test.true c.in-Some.is c.above-found.ensures c.loop-entered.invariant

@@ -1,0 +1,9 @@
+use Rattle.std.proofs.Common.{◌+◌, ◌*◌, length}
+use Rattle.nesting_bound.specs.Reach.{IsMarked, count_new}
+use Rattle.nesting_bound.proofs.reach.mark_all.Given as goal
+
+abbrev pub invariant-marks : goal.invariant-marks
+invariant-marks l = IsMarked l.graph l.from l.seen l.stack.items
+
+abbrev pub decreases-marks : goal.decreases-marks
+decreases-marks l = 2 * count_new l.seen + length l.stack.items

@@ -1,0 +1,10 @@
+pub mod Graph
+pub mod Least
+pub mod Cycle
+pub mod Table
+pub mod Reach
+pub mod Search
+pub mod Chain
+pub mod Turn
+pub mod Laws
+pub mod Examples

@@ -1,0 +1,34 @@
+-- The instances that are reached from one, marked in a list.
+use Rattle.std.specs.Prelude.{◌≡◌, ℕ, ◌+◌, ◌*◌, ◌≤◌, Bool, true, false, List, length, Contains, slice_index_or, ◌⊎◌}
+use Rattle.std.specs.List.{sum_by}
+use Rattle.nesting_bound.specs.declared.graph.GraphInst.{GraphInst}
+use Rattle.nesting_bound.specs.declared.graph.Entered.{Entered}
+use Rattle.nesting_bound.specs.Graph.{Enters, Reaches}
+
+abbrev pub marked : List Bool → ℕ → Bool
+marked seen i = slice_index_or seen i false
+
+abbrev pub one_if_new : Bool → ℕ
+one_if_new true = 0
+one_if_new false = 1
+
+abbrev pub count_new : List Bool → ℕ
+count_new seen = sum_by one_if_new seen
+
+-- while marking: what is marked is reached, and each marked one that is not on the stack has all that it enters marked
+pub record IsMarked (gs : List GraphInst) (from : ℕ) (seen : List Bool) (stack : List ℕ) : Type 0 where
+  pub same : length seen ≡ length gs
+  pub reached : (j : ℕ) → marked seen j ≡ true → Reaches gs from j
+  pub stacked : (j : ℕ) → Contains stack j → marked seen j ≡ true
+  pub first : (e : Entered) → Enters gs from e → marked seen e.into ≡ true
+  pub rest : (j : ℕ) (e : Entered) → marked seen j ≡ true → Enters gs j e → Contains stack j ⊎ (marked seen e.into ≡ true)
+
+-- what it does to mark these
+pub record IsSpread (es : List Entered) (old : List Bool) (old_stack : List ℕ) (new : List Bool) (new_stack : List ℕ) : Type 0 where
+  pub same : length new ≡ length old
+  pub kept : (j : ℕ) → marked old j ≡ true → marked new j ≡ true
+  pub stack_kept : (j : ℕ) → Contains old_stack j → Contains new_stack j
+  pub all : (e : Entered) → Contains es e → marked new e.into ≡ true
+  pub only : (j : ℕ) → marked new j ≡ true → (marked old j ≡ true) ⊎ ((e : Entered) × Contains es e × (e.into ≡ j) × Contains new_stack j)
+  pub stack_only : (j : ℕ) → Contains new_stack j → Contains old_stack j ⊎ (marked new j ≡ true)
+  pub less : 2 * count_new new + length new_stack ≤ 2 * count_new old + length old_stack

@@ -1,0 +1,77 @@
+-- A table of what was found of the instances so far.
+use Rattle.std.specs.Prelude.{◌≡◌, ℕ, ◌+◌, ◌*◌, ◌<◌, ◌≤◌, List, length, Option, Some, None, Contains, slice_index_or, max, Bool, true, false}
+use Rattle.std.specs.List.{sum_by}
+use Rattle.nesting_bound.specs.declared.found.Found.{Found}
+use Rattle.nesting_bound.specs.declared.graph.Entered.{Entered}
+use Rattle.nesting_bound.specs.declared.graph.GraphInst.{GraphInst}
+use Rattle.nesting_bound.specs.declared.graph.Place.{Place}
+use Rattle.nesting_bound.specs.Graph.{Enters, HasPlace, AreRanks, AreNeeds}
+
+-- what was found of instance i
+abbrev pub at : List (Option Found) → ℕ → Option Found
+at table i = slice_index_or table i None
+
+-- f is the least above these offsets, and above what is found of those that are entered
+pub record IsOver (es : List Entered) (offsets : List Place) (table : List (Option Found)) (f : Found) : Type 0 where
+  pub entered : (e : Entered) → Contains es e → (x : Found) × (at table e.into ≡ Some x) × (x.rank < f.rank) × (e.offset + 2 + x.need ≤ f.need)
+  pub above : (p : Place) → Contains offsets p → p.offset ≤ f.need
+  pub rank_least : (m : ℕ) → ((e : Entered) (x : Found) → Contains es e → at table e.into ≡ Some x → x.rank < m) → f.rank ≤ m
+  pub need_least : (m : ℕ) → ((p : Place) → Contains offsets p → p.offset ≤ m) → ((e : Entered) (x : Found) → Contains es e → at table e.into ≡ Some x → e.offset + 2 + x.need ≤ m) → f.need ≤ m
+
+abbrev pub raised : Found → Entered → Found → Found
+raised f e x = record { rank = max f.rank (x.rank + 1); need = max f.need (e.offset + 2 + x.need) }
+
+abbrev pub one_if_found : Option Found → ℕ
+one_if_found None = 0
+one_if_found (Some x) = 1
+
+abbrev pub one_if_missing : Option Found → ℕ
+one_if_missing None = 1
+one_if_missing (Some x) = 0
+
+abbrev pub count_found : List (Option Found) → ℕ
+count_found table = sum_by one_if_found table
+
+abbrev pub count_missing : List (Option Found) → ℕ
+count_missing table = sum_by one_if_missing table
+
+-- numbers small enough to go on with
+abbrev pub IsSmall : Found → ℕ → Type 0
+IsSmall x count = (x.rank < count) × (x.need ≤ 2050 * (x.rank + 1))
+
+pub record IsSettled (gs : List GraphInst) (table : List (Option Found)) (i : ℕ) (x : Found) : Type 0 where
+  pub entered : (e : Entered) → Enters gs i e → (y : Found) × (at table e.into ≡ Some y) × (y.rank < x.rank) × (e.offset + 2 + y.need ≤ x.need)
+  pub offsets : (p : Place) → HasPlace gs i p → p.offset ≤ x.need
+  pub rank_least : (rank : ℕ → ℕ) → AreRanks gs rank → x.rank ≤ rank i
+  pub need_least : (need : ℕ → ℕ) → AreNeeds gs need → x.need ≤ need i
+
+pub record IsSound (gs : List GraphInst) (table : List (Option Found)) : Type 0 where
+  pub same : length table ≡ length gs
+  pub settled : (i : ℕ) (x : Found) → at table i ≡ Some x → IsSettled gs table i x
+  pub small : (i : ℕ) (x : Found) → at table i ≡ Some x → IsSmall x (count_found table)
+
+-- an instance that is missing enters one that is
+abbrev pub IsStuck : List GraphInst → List (Option Found) → ℕ → Type 0
+IsStuck gs table i = (e : Entered) × Enters gs i e × (at table e.into ≡ None)
+
+-- what a look at instance i does, where `grew` tells whether it was settled
+pub record IsVisit (gs : List GraphInst) (old : List (Option Found)) (i : ℕ) (grew : Bool) (new : List (Option Found)) : Type 0 where
+  pub sound : IsSound gs new
+  pub fewer : grew ≡ true → count_missing new < count_missing old
+  pub kept : grew ≡ false → new ≡ old
+  pub stuck : grew ≡ false → at new i ≡ None → IsStuck gs new i
+
+-- the same of the instances below i
+pub record ArePassed (gs : List GraphInst) (old : List (Option Found)) (i : ℕ) (grew : Bool) (new : List (Option Found)) : Type 0 where
+  pub sound : IsSound gs new
+  pub fewer : grew ≡ true → count_missing new < count_missing old
+  pub kept : grew ≡ false → new ≡ old
+  pub stuck : grew ≡ false → (j : ℕ) → j < i → at new j ≡ None → IsStuck gs new j
+
+abbrev pub rank_of : Option Found → ℕ
+rank_of None = 0
+rank_of (Some x) = x.rank
+
+abbrev pub need_of : Option Found → ℕ
+need_of None = 0
+need_of (Some x) = x.need

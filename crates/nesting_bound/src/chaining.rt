@@ -1,0 +1,184 @@
+//! The deepest chain of calls and interrupts.
+
+ghost use Rattle.std.specs.Prelude.{◌≡◌, ◌↔◌, ℕ, ◌+◌, ◌<◌, ◌≤◌, ◌∷◌, ◌++◌, [], List, IfOk, length, slice_get, slice_index, IsTrue, true};
+ghost use Rattle.std.specs.Ordering.{is_lt};
+ghost use Rattle.nesting_bound.specs.declared.graph.Entered.{Entered};
+ghost use Rattle.nesting_bound.specs.declared.graph.Place.{Place};
+ghost use Rattle.nesting_bound.specs.Chain.{edge_cmp, entry_of, IsChain, HasSome, HavePlaces};
+ghost use Rattle.nesting_bound.specs.Graph.{IsGraph};
+ghost use Rattle.nesting_bound.specs.Least.{IsLeast};
+ghost use Rattle.nesting_bound.specs.Turn.{IsBestPlace, IsBestEdge, IsTurn, AreLeastNeeds};
+
+use crate::composing::Composed;
+use crate::graph::{Entered, Graph, GraphInst, Link, Place};
+use std::alloc::{AllocError, Global};
+
+/// How a chain goes on from an instance.
+#[derive(Clone, Copy)]
+pub enum Turn {
+    /// It ends at this place.
+    Ends(Place),
+    /// It goes by this edge.
+    Enters(Entered),
+}
+
+// The first place of this offset, of the best so far and one more.
+fn better_place(best: Option<Place>, place: Place, need: u32) -> Option<Place>
+    ensures { (ps : List Place) → IsBestPlace need ps best → IsBestPlace need (ps ++ place ∷ []) result }
+{
+    if u32::from(place.offset) != need {
+        return best;
+    }
+    match best {
+        None => Some(place),
+        Some(old) => {
+            if place.node < old.node {
+                Some(place)
+            } else {
+                best
+            }
+        }
+    }
+}
+
+// The place of this offset with the least node.
+fn best_place(places: &[Place], need: u32) -> Option<Place>
+    ensures { IsBestPlace need places.now result }
+{
+    let mut best = None;
+    for place in places {
+        best = better_place(best, *place, need);
+    }
+    best
+}
+
+// The word at which the instance begins.
+fn entry(instances: &[GraphInst], inst: u32) -> u16
+    ensures { result ≡ entry_of (slice_get instances.now inst) }
+{
+    match instances.get(inst as usize) {
+        None => 0,
+        Some(inst) => inst.key.entry,
+    }
+}
+
+// Whether the first edge comes before the second: by node, kind, target and instance.
+fn is_before(instances: &[GraphInst], a: &Entered, b: &Entered) -> bool
+    ensures { result ≡ is_lt (edge_cmp instances.now a.now b.now) }
+{
+    let entry_a = entry(instances, a.into);
+    let entry_b = entry(instances, b.into);
+    a.node
+        .cmp(&b.node)
+        .then(a.kind.cmp(&b.kind))
+        .then(entry_a.cmp(&entry_b))
+        .then(a.into.cmp(&b.into))
+        .is_lt()
+}
+
+// Whether the stack becomes so deep below this edge. In 64 bits no sum is too great.
+fn is_deep(needs: &[u32], entered: &Entered, need: u32) -> bool
+    ensures { IsTrue result ↔ (entered.now.offset + 2 + slice_index needs.now entered.now.into ≡ need) }
+{
+    let below = needs.get(entered.into as usize).copied().unwrap_or(0);
+    u64::from(entered.offset) + 2 + u64::from(below) == u64::from(need)
+}
+
+// The first edge below which the stack becomes so deep, of the best so far and one more.
+fn better_edge(
+    instances: &[GraphInst],
+    needs: &[u32],
+    best: Option<Entered>,
+    entered: Entered,
+    need: u32,
+) -> Option<Entered>
+    ensures { (es : List Entered) → IsBestEdge instances.now needs.now need es best → IsBestEdge instances.now needs.now need (es ++ entered ∷ []) result }
+{
+    if !is_deep(needs, &entered, need) {
+        return best;
+    }
+    match best {
+        None => Some(entered),
+        Some(old) => {
+            if is_before(instances, &entered, &old) {
+                Some(entered)
+            } else {
+                best
+            }
+        }
+    }
+}
+
+// The first of the edges below which the stack becomes so deep.
+fn best_edge(
+    instances: &[GraphInst],
+    needs: &[u32],
+    edges: &[Entered],
+    need: u32,
+) -> Option<Entered>
+    ensures { IsBestEdge instances.now needs.now need edges.now result }
+{
+    let mut best = None;
+    for entered in edges {
+        best = better_edge(instances, needs, best, *entered, need);
+    }
+    best
+}
+
+// How the chain goes on from the instance.
+fn goes_on(instances: &[GraphInst], needs: &[u32], inst: u32) -> Turn
+    requires least { AreLeastNeeds instances.now needs.now }
+    requires within { inst < length instances.now }
+    requires place { HasSome instances.now inst }
+    ensures { IsTurn instances.now needs.now inst result }
+{
+    let here = &instances[inst as usize];
+    let need = needs[inst as usize];
+    match best_place(here.offsets.as_slice(), need) {
+        Some(place) => Turn::Ends(place),
+        None => match best_edge(instances, needs, here.entered.as_slice(), need) {
+            Some(entered) => Turn::Enters(entered),
+            None => unreachable!(),
+        },
+    }
+}
+
+/// The deepest chain. It starts at the root, and in each instance ends at the least node whose offset is the instance's need, if
+/// there is one. Else it goes by the least edge whose offset + 2 + need is: by node, calls before interrupts, calls by target and
+/// interrupts by vector, the one that keeps its own enable bit before the one that clears it. Source: own.
+pub fn chain(alloc: Global, graph: &Graph, composed: &Composed) -> Result<Vec<Link>, AllocError>
+    requires graph { IsGraph graph.now.instances }
+    requires least { IsLeast graph.now.instances composed.now.ranks composed.now.needs }
+    requires bound { slice_index composed.now.needs 0 ≤ 2048 }
+    requires places { HavePlaces graph.now.instances }
+    ensures { IfOk result (λ links. IsChain graph.now.instances composed.now.needs links.items) }
+{
+    let instances = graph.instances.as_slice();
+    let needs = composed.needs.as_slice();
+    let mut links = Vec::new(alloc);
+    let mut inst = 0;
+    let mut above = 0;
+    'links: loop {
+        match goes_on(instances, needs, inst) {
+            Turn::Ends(place) => {
+                links.push(Link {
+                    inst,
+                    node: place.node,
+                    depth: above + place.offset,
+                    kind: None,
+                })?;
+                return Ok(links);
+            }
+            Turn::Enters(entered) => {
+                links.push(Link {
+                    inst,
+                    node: entered.node,
+                    depth: above + entered.offset,
+                    kind: Some(entered.kind),
+                })?;
+                above += entered.offset + 2;
+                inst = entered.into;
+            }
+        }
+    }
+}

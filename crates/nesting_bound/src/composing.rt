@@ -1,0 +1,109 @@
+//! The least ranks and needs, or the instance that is named where some reach themselves.
+
+ghost use Rattle.std.specs.Prelude.{◌≡◌, ◌≢◌, ℕ, ◌+◌, ◌<◌, ◌≤◌, None, Some, IfOk, IfErr, MatchOption, map, length};
+ghost use Rattle.nesting_bound.specs.Graph.{IsGraph, Reaches};
+ghost use Rattle.nesting_bound.specs.Table.{at, rank_of, need_of};
+ghost use Rattle.nesting_bound.specs.Least.{IsLeast};
+ghost use Rattle.nesting_bound.specs.Cycle.{IsFaultOf};
+
+use crate::cycle::first_named;
+use crate::fault::ComposeFault;
+use crate::found::Found;
+use crate::graph::Graph;
+use crate::lists::Numbers;
+use crate::peel::peel;
+use std::alloc::{AllocError, Global};
+
+/// The least rank and the least need of each instance.
+#[derive(Drop)]
+pub struct Composed {
+    /// By instance, how many entries lie between it and one that enters none: its rank is above that of each that it enters.
+    pub ranks: Numbers,
+    /// By instance, how many bytes the stack pointer may fall below its base, with all that it enters.
+    pub needs: Numbers,
+}
+
+impl Composed {
+    ghost use Rattle.std.specs.Prelude.{◌≡◌, slice_index};
+
+    /// The need of an instance, 0 where there is none of this number.
+    pub fn need(&self, inst: u32) -> u32
+        ensures { result ≡ slice_index self.now.needs inst }
+    {
+        self.needs
+            .as_slice()
+            .get(inst as usize)
+            .copied()
+            .unwrap_or(0)
+    }
+}
+
+fn rank(found: Option<Found>) -> u32
+    ensures { result ≡ rank_of found }
+{
+    match found {
+        None => 0,
+        Some(x) => x.rank,
+    }
+}
+
+fn need(found: Option<Found>) -> u32
+    ensures { result ≡ need_of found }
+{
+    match found {
+        None => 0,
+        Some(x) => x.need,
+    }
+}
+
+fn ranks(alloc: Global, table: &[Option<Found>]) -> Result<Numbers, AllocError>
+    ensures { IfOk result (λ numbers. numbers ≡ map rank_of table.now) }
+{
+    let numbers = table.iter().map(|x| rank(*x)).collect(alloc)?;
+    Ok(Numbers::new(numbers))
+}
+
+fn needs(alloc: Global, table: &[Option<Found>]) -> Result<Numbers, AllocError>
+    ensures { IfOk result (λ numbers. numbers ≡ map need_of table.now) }
+{
+    let numbers = table.iter().map(|x| need(*x)).collect(alloc)?;
+    Ok(Numbers::new(numbers))
+}
+
+// The first instance that was not settled.
+fn missing(table: &[Option<Found>]) -> Option<usize>
+    ensures { MatchOption result ((i : ℕ) → i < length table.now → at table.now i ≢ None) (λ i. (i < length table.now) × (at table.now i ≡ None)) }
+{
+    for i in 0..table.len() {
+        if table[i].is_none() {
+            return Some(i);
+        }
+    }
+    None
+}
+
+/// The least ranks and needs: the rank of an instance is above that of each that it enters, and its need is at least the offset of
+/// each of its nodes, and offset + 2 + need of each instance that it enters. `Cycle` comes exactly where an instance reaches itself
+/// by one or more entries. It names one of the least vector of which an instance does, else one of the least entry, and of those
+/// the one with the least number. Source: own.
+pub fn compose(alloc: Global, graph: &Graph) -> Result<Composed, ComposeFault>
+    requires { IsGraph graph.now.instances }
+    ensures ok { IfOk result (λ c. IsLeast graph.now.instances c.ranks c.needs) }
+    ensures acyclic { IfOk result (λ _. (i : ℕ) → Reaches graph.now.instances i i → ⊥) }
+    ensures err { IfErr result (IsFaultOf graph.now.instances) }
+{
+    let instances = graph.instances.as_slice();
+    let table = peel(alloc, instances)?;
+    let table = table.as_slice();
+    match missing(table) {
+        None => {
+            let ranks = ranks(alloc, table)?;
+            let needs = needs(alloc, table)?;
+            Ok(Composed { ranks, needs })
+        }
+        Some(_) => match first_named(alloc, instances, table)? {
+            Some(at) => Err(ComposeFault::Cycle(at)),
+            None => unreachable!(),
+        },
+    }
+}

@@ -1,0 +1,23 @@
+//! Why there are no ranks.
+
+use std::alloc::AllocError;
+
+/// Why `compose` gives no ranks.
+#[derive(PartialEq, Eq, Debug, Drop)]
+pub enum ComposeFault {
+    /// The instance with this number reaches itself.
+    Cycle(u32),
+    /// There was no memory.
+    Memory,
+}
+
+impl From<AllocError> for ComposeFault {
+    ghost use Rattle.std.specs.Prelude.{◌≡◌};
+    ghost use Rattle.nesting_bound.specs.declared.fault.ComposeFault.TheVariants.{Memory};
+
+    ghost from_gives = { λ _ e. e ≡ Memory };
+
+    fn from(_: AllocError) -> ComposeFault {
+        ComposeFault::Memory
+    }
+}

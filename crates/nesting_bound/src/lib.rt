@@ -1,0 +1,24 @@
+//! How deep calls and interrupts nest: the rank and the need of each instance, or that one reaches itself.
+#![tactic(auto)]
+
+pub mod chaining;
+pub mod composing;
+mod cycle;
+pub mod fault;
+mod found;
+pub mod graph;
+pub mod laws;
+pub mod lists;
+mod peel;
+mod reach;
+mod shape;
+
+pub use chaining::chain;
+pub use composing::{Composed, compose};
+pub use fault::ComposeFault;
+pub use graph::{Entered, Graph, GraphInst, Link, Place};
+pub use lists::{Entries, Instances, Numbers, Places};
+pub use mask_states::{EdgeKind, InstKey};
+
+#[cfg(test)]
+mod tests;

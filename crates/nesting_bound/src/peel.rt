@@ -1,0 +1,118 @@
+//! Ranks and needs, from the instances that enter none up.
+
+ghost use Rattle.std.specs.Prelude.{◌≡◌, ◌||◌, ◌≢◌, ℕ, ◌+◌, ◌*◌, ◌<◌, ◌≤◌, Contains, None, Some, IfSome, IfNone, IfOk, max, length, slice_get, true, false};
+ghost use Rattle.nesting_bound.specs.declared.graph.Entered.{Entered};
+ghost use Rattle.nesting_bound.specs.declared.graph.Place.{Place};
+ghost use Rattle.nesting_bound.specs.declared.found.Found.{Found};
+ghost use Rattle.nesting_bound.specs.Graph.{IsGraph};
+ghost use Rattle.nesting_bound.specs.Table.{at, raised, IsVisit, ArePassed, IsOver, IsSmall, IsSound, IsStuck, count_missing};
+
+use crate::found::Found;
+use crate::graph::{Entered, GraphInst, Place};
+use std::alloc::{AllocError, Global};
+
+// The greatest offset, 0 where there is none.
+fn greatest(places: &[Place]) -> u32
+    ensures above { (p : Place) → Contains places.now p → p.offset ≤ result }
+    ensures least { (m : ℕ) → ((p : Place) → Contains places.now p → p.offset ≤ m) → result ≤ m }
+{
+    let mut most = 0;
+    for place in places {
+        let offset = u32::from(place.offset);
+        most = larger(most, offset);
+    }
+    most
+}
+
+fn larger(a: u32, b: u32) -> u32
+    ensures { result ≡ max a b }
+{
+    if a < b { b } else { a }
+}
+
+// `found`, raised above what an instance needs to enter x.
+fn above(found: Found, entered: Entered, x: Found) -> Found
+    requires rank { x.rank < 65537 }
+    requires need { x.need ≤ 2050 * (x.rank + 1) }
+    ensures { result ≡ raised found entered x }
+{
+    let rank = larger(found.rank, x.rank + 1);
+    let need = larger(found.need, u32::from(entered.offset) + 2 + x.need);
+    Found { rank, need }
+}
+
+// The least above what the instance has and enters, if all that it enters is found.
+fn settle(inst: &GraphInst, table: &[Option<Found>]) -> Option<Found>
+    requires small { (j : ℕ) (x : Found) → at table.now j ≡ Some x → IsSmall x 65537 }
+    requires within { (e : Entered) → Contains inst.now.entered e → e.into < length table.now }
+    ensures some { IfSome result (λ f. IsOver inst.now.entered inst.now.offsets table.now f) }
+    ensures none { IfNone result ((e : Entered) × Contains inst.now.entered e × (at table.now e.into ≡ None)) }
+{
+    let mut found = Found {
+        rank: 0,
+        need: greatest(inst.offsets.as_slice()),
+    };
+    for entered in inst.entered.as_slice() {
+        let into = entered.into as usize;
+        match table[into] {
+            None => return None,
+            Some(x) => found = above(found, *entered, x),
+        }
+    }
+    Some(found)
+}
+
+// Settles one instance, if that can be done; whether it was.
+fn visit(graph: &[GraphInst], table: &mut [Option<Found>], i: usize) -> bool
+    requires graph { IsGraph graph.now }
+    requires sound { IsSound graph.now table.old }
+    requires within { i < length graph.now }
+    ensures { IsVisit graph.now table.old i result table.new }
+{
+    if table[i].is_some() {
+        return false;
+    }
+    match settle(&graph[i], table) {
+        None => false,
+        Some(found) => {
+            table[i] = Some(found);
+            true
+        }
+    }
+}
+
+fn either(a: bool, b: bool) -> bool
+    ensures { result ≡ (a || b) }
+{
+    a || b
+}
+
+// Looks at each instance once; whether one was settled.
+fn pass(graph: &[GraphInst], table: &mut [Option<Found>]) -> bool
+    requires graph { IsGraph graph.now }
+    requires sound { IsSound graph.now table.old }
+    ensures { ArePassed graph.now table.old (length graph.now) result table.new }
+{
+    let mut grew = false;
+    for i in 0..graph.len() {
+        let grown = visit(graph, table, i);
+        grew = either(grew, grown);
+    }
+    grew
+}
+
+/// Settles instances until none is left that enters settled ones alone.
+pub fn peel(alloc: Global, graph: &[GraphInst]) -> Result<Vec<Option<Found>>, AllocError>
+    requires graph { IsGraph graph.now }
+    ensures sound { IfOk result (λ table. IsSound graph.now table.items) }
+    ensures stuck { IfOk result (λ table. (i : ℕ) → i < length graph.now → at table.items i ≡ None → IsStuck graph.now table.items i) }
+{
+    let mut table = vec![in alloc; None; graph.len()]?;
+    loop {
+        let grew = pass(graph, table.as_mut_slice());
+        if !grew {
+            break;
+        }
+    }
+    Ok(table)
+}

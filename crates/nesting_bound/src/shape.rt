@@ -1,0 +1,113 @@
+//! Tests of what `compose` and `chain` ask of a graph.
+
+ghost use Rattle.std.specs.Prelude.{◌≡◌, ℕ, ◌<◌, ◌≤◌, Contains, length, true, false};
+ghost use Rattle.nesting_bound.specs.declared.graph.Entered.{Entered};
+ghost use Rattle.nesting_bound.specs.declared.graph.Place.{Place};
+ghost use Rattle.nesting_bound.specs.Chain.{HasSome, HavePlaces};
+ghost use Rattle.nesting_bound.specs.Graph.{IsGraph};
+
+use crate::graph::{Entered, Graph, GraphInst, Place};
+
+const MOST_INSTANCES: usize = 65_537;
+
+const GREATEST_OFFSET: u16 = 2_048;
+
+// Whether each offset is small enough.
+fn are_low(places: &[Place]) -> bool
+    ensures yes { result ≡ true → (p : Place) → Contains places.now p → p.offset ≤ 2048 }
+    ensures no { result ≡ false → (p : Place) × Contains places.now p × (2048 < p.offset) }
+{
+    for place in places {
+        if place.offset > GREATEST_OFFSET {
+            return false;
+        }
+    }
+    true
+}
+
+// Whether each offset is small enough, and each edge leads into one of so many instances.
+fn lead_inside(edges: &[Entered], count: usize) -> bool
+    ensures yes { result ≡ true → (e : Entered) → Contains edges.now e → (e.offset ≤ 2048) × (e.into < count) }
+    ensures no { result ≡ false → (e : Entered) × Contains edges.now e × ((e.offset ≤ 2048) × (e.into < count) → ⊥) }
+{
+    for entered in edges {
+        if entered.offset > GREATEST_OFFSET {
+            return false;
+        }
+        if entered.into as usize >= count {
+            return false;
+        }
+    }
+    true
+}
+
+// Whether there is such an instance, with a place.
+fn has_place(instances: &[GraphInst], inst: u32) -> bool
+    ensures yes { result ≡ true → HasSome instances.now inst }
+    ensures no { result ≡ false → HasSome instances.now inst → ⊥ }
+{
+    let inst = inst as usize;
+    if inst >= instances.len() {
+        return false;
+    }
+    let here = &instances[inst];
+    !here.offsets.as_slice().is_empty()
+}
+
+// Whether each edge leads into an instance with a place.
+fn lead_to_places(instances: &[GraphInst], edges: &[Entered]) -> bool
+    ensures yes { result ≡ true → (e : Entered) → Contains edges.now e → HasSome instances.now e.into }
+    ensures no { result ≡ false → (e : Entered) × Contains edges.now e × (HasSome instances.now e.into → ⊥) }
+{
+    for entered in edges {
+        if !has_place(instances, entered.into) {
+            return false;
+        }
+    }
+    true
+}
+
+impl Graph {
+    /// Whether `compose` takes it: 1 to 65,537 instances, each that is entered among them, and each offset at most 2,048.
+    pub fn is_composable(&self) -> bool
+        ensures yes { result ≡ true → IsGraph self.now.instances }
+        ensures no { result ≡ false → IsGraph self.now.instances → ⊥ }
+    {
+        let instances = self.instances.as_slice();
+        let count = instances.len();
+        if count == 0 {
+            return false;
+        }
+        if count > MOST_INSTANCES {
+            return false;
+        }
+        for i in 0..count {
+            let here = &instances[i];
+            if !are_low(here.offsets.as_slice()) {
+                return false;
+            }
+            if !lead_inside(here.entered.as_slice(), count) {
+                return false;
+            }
+        }
+        true
+    }
+
+    /// Whether the root and each instance that is entered have a place, as `chain` asks.
+    pub fn has_places(&self) -> bool
+        ensures yes { result ≡ true → HavePlaces self.now.instances }
+        ensures no { result ≡ false → HavePlaces self.now.instances → ⊥ }
+    {
+        let instances = self.instances.as_slice();
+        if !has_place(instances, 0) {
+            return false;
+        }
+        for i in 0..instances.len() {
+            let here = &instances[i];
+            if !lead_to_places(instances, here.entered.as_slice()) {
+                return false;
+            }
+        }
+        true
+    }
+}
