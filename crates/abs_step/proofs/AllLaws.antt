@@ -1,12 +1,12 @@
 -- The laws, each under the name of the public function that carries it. Crates above cite them from here.
-use Rattle.abs_step.specs.Laws.{JoinsAreLeast, LocalPartsAreMonotone, LocalPartsAreNodes}
+use Rattle.abs_step.specs.Laws.{JoinsAreLeast, LocalPartsAreMonotone, LocalPartsAreNodes, StepsAreCovered}
 use Rattle.abs_step.proofs.Joined.{all_joins_are_least}
 use Rattle.abs_step.proofs.Monotone.{all_local_parts_are_monotone}
 use Rattle.abs_step.proofs.MonotoneNodes.{all_local_parts_are_nodes}
+use Rattle.abs_step.proofs.Steps as steps
 pub use Rattle.abs_step.proofs.Covered.{local_parts_cover}
 pub use Rattle.abs_step.proofs.Stays.{machines_stay}
 pub use Rattle.abs_step.proofs.Memory.{live_bytes_stay}
-pub use Rattle.abs_step.proofs.Steps.{steps_are_covered}
 
 pub joins_are_least : JoinsAreLeast
 joins_are_least = all_joins_are_least
@@ -16,3 +16,6 @@ local_parts_are_monotone = all_local_parts_are_monotone
 
 pub local_parts_are_nodes : LocalPartsAreNodes
 local_parts_are_nodes = all_local_parts_are_nodes
+
+pub steps_are_covered : StepsAreCovered
+steps_are_covered = steps.steps_are_covered all_joins_are_least all_local_parts_are_nodes

@@ -35,10 +35,10 @@ use Rattle.abs_step.specs.Cover.{InFrame, Follows, stays}
 use Rattle.abs_step.proofs.Alu.{register_byte}
 use Rattle.abs_step.proofs.Bits.{with_bit_small, has_with, permits_flag}
 use Rattle.abs_step.proofs.Frame.{nothing_stands, set_stands, register_stands, set_one, same_frame, only, sets}
-use Rattle.abs_step.proofs.Flow.{not_may, further_is, skip_covered}
+use Rattle.abs_step.proofs.FlowRows.{not_may, further_is, skip_covered}
 use Rattle.abs_step.proofs.CoverRows.{NamesAddress, RowIsCovered}
 use Rattle.abs_step.proofs.ReadValues.{known_stands, read_stands}
-use Rattle.abs_step.proofs.Pointers.{IsRead, pair_small, pair_constant_is, pointed_stands, pointer_stands, z_moved}
+use Rattle.abs_step.proofs.PointerReads.{IsRead, pair_small, pair_constant_is, pointed_stands, pointer_stands, z_moved}
 use Rattle.abs_step.proofs.SplitMembers.{AreWritten}
 use Rattle.abs_step.proofs.WriteValues.{stored, Reaches, written}
 use Rattle.abs_step.proofs.PointerWrites.{pointer_written}

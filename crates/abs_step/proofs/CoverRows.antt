@@ -41,7 +41,7 @@ use Rattle.abs_step.proofs.Bits.{has_known, constant_is, permits_flag}
 use Rattle.abs_step.proofs.Frame.{first, register_stands}
 use Rattle.abs_step.proofs.Alu.{register_byte, register_bits, moves, carry_may, sum_covered, compare_covered, difference_covered, sub_covered, sbc_covered, sub_by, logic_covered, kept_covered, eor_by, step_covered, shift_covered, com_covered, swap_covered, product_covered, movw_covered, wide_covered}
 use Rattle.abs_step.proofs.FlagRows.{flag_covered, bld_covered, bst_covered}
-use Rattle.abs_step.proofs.Flow.{not_may, going_covered, further_is, brbs_covered, brbc_covered, skip_covered, ijmp_covered, icall_covered, call_covered, ret_covered, reti_covered}
+use Rattle.abs_step.proofs.FlowRows.{not_may, going_covered, further_is, brbs_covered, brbc_covered, skip_covered, ijmp_covered, icall_covered, call_covered, ret_covered, reti_covered}
 use Rattle.abs_step.proofs.Sized.{IsSized}
 use Rattle.abs_step.proofs.Stack.{pop_covered, push_covered, rcall_covered}
 use Rattle.abs_step.proofs.Targets.{MakesRoom}

@@ -36,7 +36,7 @@ use Rattle.mask_states.specs.declared.keys.Kind.TheVariants.{Root}
 use Rattle.mask_states.specs.Keys.{offset_of}
 use Rattle.abs_step.specs.Raw.{setting, next}
 use Rattle.abs_step.specs.Registers.{value, bits, carry_bit, set, set_pair, with_carry, but_carry, sum_row, compare_row, difference_row, low_tag, borrow_tag, high_tag, or_nothing, sub_row, sbc_row, logic_row, kept_tag, step_row, shift_row, com_row, swapped, product_row, down_by, pair_moved, wide_row, interrupts_row, tri_of_bool, carry_tag_at, flag_row, immediate_row, unary_row}
-use Rattle.abs_step.proofs.MonotoneValues.{IsTagOf, IsLess, AreFlagsLess, AreRegistersLess, IsStateLess, Tells, none_of, if_one, if_both, same_bits, bit_within, untagged_less, known_same, registers_set}
+use Rattle.abs_step.proofs.MonotoneValues.{IsTagOf, IsLess, AreFlagsLess, AreRegistersLess, IsStateLess, Tells, none_of, if_tag_of, same_bits, bit_within, untagged_less, known_same, registers_set}
 use Rattle.abs_step.proofs.MonotoneRaw.{IsKey, LeadsLess, one_less, setting_less, further_small}
 
 -- ---- tags
@@ -81,7 +81,7 @@ high_less_of kind tag.EntryFlags m c h = none_of kind
 high_less_of kind (tag.SpLo j) m c h = none_of kind
 high_less_of kind (tag.SpHi k) m carry.None h = none_of kind
 high_less_of kind (tag.SpHi k) m (carry.Borrow j l) h =
-    if_one (IsTagOf kind) (j == k % 256) (high_of (k + l + 256 * m)) tag.None
+    if_tag_of kind (j == k % 256) (high_of (k + l + 256 * m)) tag.None
     (record { names = tt; fits = omega arith; none = λ root. let e = h.none root in absurd (cc) }) (none_of kind)
 
 high_tag_of : (kind : Kind) (t : Tag) (f : Option ℕ) (c : CarryTag) → IsTagOf kind t → IsTagOf kind (high_tag t f c)
@@ -100,6 +100,14 @@ low_below_of kind (Some k) down h = record { names = tt; fits = omega arith; non
 high_below_of : (kind : Kind) (f : Option ℕ) (down : ℕ) → (kind ≡ Root → f ≡ None) → IsTagOf kind (high_below f down)
 high_below_of kind None down h = none_of kind
 high_below_of kind (Some k) down h = record { names = tt; fits = omega arith; none = λ root. let e = h root in absurd (cc) }
+
+if_tag_within : (b : Bool) (t u t' u' : Tag) → IsTagWithin t u → IsTagWithin t' u' → IsTagWithin (if b then t else t') (if b then u else u')
+if_tag_within true t u t' u' h k = h
+if_tag_within false t u t' u' h k = k
+
+if_within : (b : Bool) (t u t' u' : TriByte) → IsWithin t u → IsWithin t' u' → IsWithin (if b then t else t') (if b then u else u')
+if_within true t u t' u' h k = h
+if_within false t u t' u' h k = k
 
 -- ---- flags
 
@@ -131,7 +139,7 @@ pair_set kind vs ws r v v' w w' le first second =
 
 pub swapped_within : (b c : TriByte) → IsWithin b c → IsWithin (swapped b) (swapped c)
 swapped_within b c le =
-    bytes_are_sets.built_within (λ i. tri_at b ((i + 4) % 8)) (λ i. tri_at c ((i + 4) % 8)) (λ i lt. bit_within b c ((i + 4) % 8) le)
+    bytes_are_sets.built_within (λ i. tri_at b ((i + 4) % 8)) (λ i. tri_at c ((i + 4) % 8)) (λ i lt. bit_within b c ((i + 4) % 8) (omega arith) le)
 
 module _ (k : NodeKey) (at : IsKey k) (s t : AbsState) (le : IsStateLess k.inst.kind (offset_of k.sp) s t) where
   abbrev kind : Kind
@@ -146,8 +154,8 @@ module _ (k : NodeKey) (at : IsKey k) (s t : AbsState) (le : IsStateLess k.inst.
   pub flag_bits : IsWithin s.flags.bits t.flags.bits
   flag_bits = le.flags.within.bits
 
-  pub carry_in : IsTriWithin (carry_bit s) (carry_bit t)
-  carry_in = bit_within s.flags.bits t.flags.bits 0 flag_bits
+  carry_in : IsTriWithin (carry_bit s) (carry_bit t)
+  carry_in = bit_within s.flags.bits t.flags.bits 0 (omega arith) flag_bits
 
   -- ---- what is written
 
@@ -219,7 +227,7 @@ module _ (k : NodeKey) (at : IsKey k) (s t : AbsState) (le : IsStateLess k.inst.
       tt (λ root. refl) tt
 
   pub or_nothing_within : (d r : ℕ) (b c : TriByte) → IsWithin b c → IsWithin (or_nothing d r b) (or_nothing d r c)
-  or_nothing_within d r b c h = if_both IsWithin (d == r) (byte_known 0) b (byte_known 0) c (same_bits (byte_known 0)) h
+  or_nothing_within d r b c h = if_within (d == r) (byte_known 0) (byte_known 0) b c (same_bits (byte_known 0)) h
 
   -- ---- bit by bit
 
@@ -230,10 +238,10 @@ module _ (k : NodeKey) (at : IsKey k) (s t : AbsState) (le : IsStateLess k.inst.
       setting_one d _ _ _ _ (record { within = record { tag = tags; bits = r.0 }; good = good }) (kept_flags _ _ r.1 (flags_7 _ _ _ _ _ s.flags.bits le.flags.bit_7))
 
   pub kept_tag_of : (d r : ℕ) → IsTagOf kind (kept_tag s d r)
-  kept_tag_of d r = if_one (IsTagOf kind) (d == r) (value s d).tag tag.None (reg d).good (none_of kind)
+  kept_tag_of d r = if_tag_of kind (d == r) (value s d).tag tag.None (reg d).good (none_of kind)
 
   pub kept_tag_within : (d r : ℕ) → IsTagWithin (kept_tag s d r) (kept_tag t d r)
-  kept_tag_within d r = if_both IsTagWithin (d == r) (value s d).tag tag.None (value t d).tag tag.None (reg d).within.tag tt
+  kept_tag_within d r = if_tag_within (d == r) (value s d).tag (value t d).tag tag.None tag.None (reg d).within.tag tt
 
   step_less : (up : Bool) (d : ℕ) → LeadsLess k.inst (step_row k s up d) (step_row k t up d)
   step_less up d =
@@ -290,6 +298,18 @@ module _ (k : NodeKey) (at : IsKey k) (s t : AbsState) (le : IsStateLess k.inst.
       one_less (record (next k) { i = true; delay = not k.i }) s t (record { word = further_small k 1; small = at.small; masks = at.masks; fits = at.fits }) le
   interrupts_less false = one_less (record (next k) { i = false }) s t (record { word = further_small k 1; small = at.small; masks = at.masks; fits = at.fits }) le
 
+  flag_carry_bytes : (b : Bool) (c : CarryTag) → HasBytes c → HasBytes (if b then carry.None else c)
+  flag_carry_bytes true c h = tt
+  flag_carry_bytes false c h = h
+
+  flag_carry_none : (b : Bool) (c : CarryTag) → c ≡ carry.None → (if b then carry.None else c) ≡ carry.None
+  flag_carry_none true c h = refl
+  flag_carry_none false c h = h
+
+  flag_carry_within : (b : Bool) (c d : CarryTag) → IsCarryWithin c d → IsCarryWithin (if b then carry.None else c) (if b then carry.None else d)
+  flag_carry_within true c d h = tt
+  flag_carry_within false c d h = h
+
   flag_less_by : (b : Bool) (n : ℕ) (on : Bool) → (b ≡ false → n ≢ 7)
       → LeadsLess k.inst (if b then interrupts_row k s on else setting k s s.registers (with_carry (byte_with s.flags.bits n (tri_of_bool on)) (carry_tag_at s n)))
       (if b then interrupts_row k t on else setting k t t.registers (with_carry (byte_with t.flags.bits n (tri_of_bool on)) (carry_tag_at t n)))
@@ -298,9 +318,8 @@ module _ (k : NodeKey) (at : IsKey k) (s t : AbsState) (le : IsStateLess k.inst.
       setting_flags _ _ (written_flags _ _ (carry_tag_at s n) (carry_tag_at t n)
       (writes_cover.more s.flags.bits t.flags.bits n (tri_of_bool on) (tri_of_bool on) flag_bits (λ m p. p))
       (with_7 s.flags.bits n (tri_of_bool on) (ne refl) le.flags.bit_7)
-      (if_one HasBytes (n == 0) carry.None s.flags.carry tt le.flags.bytes)
-      (λ root. if_one (λ (c : CarryTag). c ≡ carry.None) (n == 0) carry.None s.flags.carry refl (le.flags.no_carry root))
-      (if_both IsCarryWithin (n == 0) carry.None s.flags.carry carry.None t.flags.carry tt le.flags.within.carry))
+      (flag_carry_bytes (n == 0) s.flags.carry le.flags.bytes) (λ root. flag_carry_none (n == 0) s.flags.carry (le.flags.no_carry root))
+      (flag_carry_within (n == 0) s.flags.carry t.flags.carry le.flags.within.carry))
 
   pub flag_less : (n : ℕ) (on : Bool) → LeadsLess k.inst (flag_row k s n on) (flag_row k t n on)
   flag_less n on = flag_less_by (n == 7) n on (λ e. grind (arith, nat_tests))

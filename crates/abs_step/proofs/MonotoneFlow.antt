@@ -37,12 +37,16 @@ use Rattle.abs_step.specs.Registers.{value, bits, set}
 use Rattle.abs_step.specs.Reads.{value_of}
 use Rattle.abs_step.specs.Flow.{branch, skipping, flag_at, words_of, targets_by, targets_at, jumping, is_half_written, at_closed, pushed_slot, pushing, popping, making_room, site, calling, indirect_call, relative_call, returning}
 use Rattle.abs_step.proofs.Members.{in_map, each_in_map, filter_more, filter_passes, not_empty, any_more}
-use Rattle.abs_step.proofs.MonotoneValues.{IsLess, IsSlotLess, AreSlotsLess, IsStateLess, if_both, free_less, bit_within, registers_set}
+use Rattle.abs_step.proofs.MonotoneValues.{IsLess, IsSlotLess, AreSlotsLess, IsStateLess, free_less, any_bit_within, registers_set}
 use Rattle.abs_step.proofs.MonotoneRaw.{IsKey, LeadsLess, fails_less, untracked_less, several_less, one_less, choose, choose_more, choose_each, enters_less, leaves_less, further_small, word_key}
 use Rattle.abs_step.proofs.MonotoneAlu.{reg, reg_bits, flag_bits}
 use Rattle.abs_step.proofs.MonotoneReads.{slot_value}
 
 -- ---- where an indirect transfer leads
+
+if_tri_within : (b : Bool) (t u t' u' : Tri) → (b ≡ true → IsTriWithin t u) → (b ≡ false → IsTriWithin t' u') → IsTriWithin (if b then t else t') (if b then u else u')
+if_tri_within true t u t' u' h k = h refl
+if_tri_within false t u t' u' h k = k refl
 
 one_more : (t u : Tri) → IsTriWithin t u → one_if_any t ≤ one_if_any u
 one_more Zero u le = omega arith
@@ -106,7 +110,8 @@ module _ (xs ys : List ℕ) (more : (z : ℕ) → Contains xs z → Contains ys 
 module _ (a b a' b' : TriByte) (lo : IsWithin a a') (hi : IsWithin b b') where
   word_bits : (i : ℕ) → i < 14 → IsTriWithin (if nat_lt i 8 then tri_at a i else tri_at b (i - 8)) (if nat_lt i 8 then tri_at a' i else tri_at b' (i - 8))
   word_bits i lt =
-      if_both IsTriWithin (nat_lt i 8) (tri_at a i) (tri_at b (i - 8)) (tri_at a' i) (tri_at b' (i - 8)) (bit_within a a' i lo) (bit_within b b' (i - 8) hi)
+      if_tri_within (nat_lt i 8) (tri_at a i) (tri_at a' i) (tri_at b (i - 8)) (tri_at b' (i - 8))
+      (λ e. any_bit_within a a' i lo) (λ e. any_bit_within b b' (i - 8) hi)
 
   pub words_targets : (line : Option (List ℕ)) → AreTargetsLess (targets_by line (words_of a b)) (targets_by line (words_of a' b'))
   words_targets line =
@@ -218,8 +223,8 @@ module _ (k : NodeKey) (at : IsKey k) (s t : AbsState) (le : IsStateLess k.inst.
 
   pub flag_within : (n : ℕ) → IsTriWithin (flag_at k s n) (flag_at k t n)
   flag_within n =
-      if_both IsTriWithin (n == 7) (if k.i then One else Zero) (tri_at s.flags.bits n) (if k.i then One else Zero) (tri_at t.flags.bits n) (λ m p. p)
-      (bit_within s.flags.bits t.flags.bits n (flag_bits k at s t le))
+      if_tri_within (n == 7) (if k.i then One else Zero) (if k.i then One else Zero) (tri_at s.flags.bits n) (tri_at t.flags.bits n)
+      (λ e m p. p) (λ e. any_bit_within s.flags.bits t.flags.bits n (flag_bits k at s t le))
 
   jumping_by : (x y : Option (List ℕ)) → AreTargetsLess x y → LeadsLess k.inst (jumping x k s) (jumping y k t)
   jumping_by x None h = fails_less k.inst (jumping x k s) (UnresolvedJump k.pc)
@@ -253,8 +258,7 @@ module _ (k : NodeKey) (at : IsKey k) (s t : AbsState) (le : IsStateLess k.inst.
   push_less scratch r =
       closed_less k.inst k.sp k.pc (pushing scratch k s r) (pushing scratch k t r)
       (λ offset e. room_by k.inst (nat_le (offset + 1) SIZE) (offset + 1) k.pc _ _ (λ small.
-      one_less (record (next k) { sp = Closed (offset + 1) }) (record s { slots = s.slots ++ pushed_slot scratch (value s r) ∷ [] })
-      (record t { slots = t.slots ++ pushed_slot scratch (value t r) ∷ [] })
+      one_less (record (next k) { sp = Closed (offset + 1) }) (record s { slots = s.slots ++ pushed_slot scratch (value s r) ∷ [] }) (record t { slots = t.slots ++ pushed_slot scratch (value t r) ∷ [] })
       (record { word = further_small k 1; small = grind (arith, nat_tests); masks = at.masks; fits = tt })
       (record {
         registers = le.registers;

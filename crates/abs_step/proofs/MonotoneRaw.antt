@@ -1,5 +1,5 @@
 -- A lesser and a greater node: what the lesser leads to is a node, and below what the greater leads to.
-use Rattle.std.proofs.Common.{◌≡◌, refl, sym, subst, ℕ, ◌^◌, ◌<◌, ◌≤◌, ⊎_elim, Bool, true, false, cond, List, [], ◌∷◌, ◌++◌, map, filter, None, Contains, arith}
+use Rattle.std.proofs.Common.{◌≡◌, refl, sym, subst, ℕ, ◌^◌, ◌<◌, ◌≤◌, ⊎_elim, Bool, true, false, cond, List, [], ◌∷◌, ◌++◌, map, filter, None, if◌then◌else◌, Contains, arith}
 use Rattle.std.proofs.lemmas.List.Elements.{Contains-append_left, Contains-append_right, Contains-append_cases}
 use Rattle.avr_model.specs.Image.{WORDS}
 use Rattle.avr_model.specs.State.{SIZE}
@@ -56,6 +56,10 @@ fails_less inst a f e = absurd (not_empty f [] e)
 pub untracked_less : (inst : InstKey) (b : Bool) (pc : ℕ) (p q : Raw) → LeadsLess inst p q → LeadsLess inst (untracked_if b pc p) (untracked_if b pc q)
 untracked_less inst true pc p q h e = absurd (not_empty (UntrackedSp pc) q.faults e)
 untracked_less inst false pc p q h e = h e
+
+pub if_leads : (inst : InstKey) (b : Bool) (p p' q q' : Raw) → LeadsLess inst p q → LeadsLess inst p' q' → LeadsLess inst (if b then p else p') (if b then q else q')
+if_leads inst true p p' q q' h k = h
+if_leads inst false p p' q q' h k = k
 
 -- ---- moves
 

@@ -28,7 +28,7 @@ use Rattle.mask_states.specs.Keys.{offset_of}
 use Rattle.abs_step.specs.Registers.{value, bits, with_bits}
 use Rattle.abs_step.specs.Reads.{closed_low, closed_high, sp_low, sp_high, flags_tag, sreg_value, io_bits, value_of, slot_read, read_at, word_of, pair_constant, raised, lowered, pointed, read_constant, read_both, read_frame, read_pointed, flash_value}
 use Rattle.abs_step.specs.Local.{loading}
-use Rattle.abs_step.proofs.MonotoneValues.{IsTagOf, IsLess, AreFlagsLess, AreRegistersLess, IsSlotLess, IsStateLess, Tells, tells_by, none_of, same_bits, below_any, constant_tells, value_same, untagged_less, known_same, below_unknown, if_one, if_both, registers_set}
+use Rattle.abs_step.proofs.MonotoneValues.{IsTagOf, IsLess, AreFlagsLess, AreRegistersLess, IsSlotLess, IsStateLess, Tells, tells_by, none_of, same_bits, below_any, constant_tells, value_same, untagged_less, known_same, below_unknown, if_less, registers_set}
 use Rattle.abs_step.proofs.MonotoneRaw.{IsKey, LeadsLess, nowhere_less, setting_less}
 use Rattle.abs_step.proofs.MonotoneAlu.{reg, reg_bits}
 
@@ -79,9 +79,7 @@ slot_value kind Free (Guarded w) h = absurd h.within
 slot_value kind (Guarded v) (Guarded w) h = record { within = h.within; good = h.good }
 
 slot_less : (kind : Kind) (s t : AbsState) (a : ℕ) → ((d : ℕ) → IsLess kind (value_of (slot_at s.slots d)) (value_of (slot_at t.slots d))) → IsLess kind (slot_read kind s a) (slot_read kind t a)
-slot_less Root s t a h =
-    if_both (IsLess Root) (nat_le a RAMEND) (value_of (slot_at s.slots (RAMEND - a))) unknown (value_of (slot_at t.slots (RAMEND - a))) unknown
-    (h (RAMEND - a)) (value_same Root unknown (none_of Root))
+slot_less Root s t a h = if_less Root (nat_le a RAMEND) (value_of (slot_at s.slots (RAMEND - a))) unknown (value_of (slot_at t.slots (RAMEND - a))) unknown (h (RAMEND - a)) (value_same Root unknown (none_of Root))
 slot_less Call s t a h = value_same Call unknown (none_of Call)
 slot_less (Vector v) s t a h = value_same (Vector v) unknown (none_of (Vector v))
 
@@ -163,11 +161,11 @@ module _ (k : NodeKey) (at : IsKey k) (s t : AbsState) (le : IsStateLess k.inst.
   pub read_less : (a : ℕ) → IsLess kind (read_at k s a) (read_at k t a)
   unfolding read_at
   read_less a =
-      if_both (IsLess kind) (nat_lt a 0x20) _ _ _ _ (reg k at s t le a)
-      (if_both (IsLess kind) (a == SPL) _ _ _ _ (sp_low_less kind k.sp)
-      (if_both (IsLess kind) (a == SPH) _ _ _ _ (sp_high_less kind k.sp)
-      (if_both (IsLess kind) (a == SREG) _ _ _ _ (sreg_less k s t le.flags)
-      (if_both (IsLess kind) (nat_le a BELOW) _ _ _ _ (untagged_less kind (io_bits k.masks a) (io_bits k.masks a) (same_bits (io_bits k.masks a)))
+      if_less kind (nat_lt a 0x20) _ _ _ _ (reg k at s t le a)
+      (if_less kind (a == SPL) _ _ _ _ (sp_low_less kind k.sp)
+      (if_less kind (a == SPH) _ _ _ _ (sp_high_less kind k.sp)
+      (if_less kind (a == SREG) _ _ _ _ (sreg_less k s t le.flags)
+      (if_less kind (nat_le a BELOW) _ _ _ _ (untagged_less kind (io_bits k.masks a) (io_bits k.masks a) (same_bits (io_bits k.masks a)))
       (slot_less kind s t a slot)))))
 
   pub constants : (r : ℕ) → Tells (pair_constant s r) (pair_constant t r)
@@ -212,17 +210,24 @@ module _ (k : NodeKey) (at : IsKey k) (s t : AbsState) (le : IsStateLess k.inst.
       (meet_under kind v (untagged (read_at k t a).bits) (read_at k s a).bits good tt
       (λ m e. meet_first_bits (read_at k s a).bits v.bits (read_at k t a).bits m (read_less a).within.bits e))
 
+  if_read : (b : Bool) (x y x' y' : Option AbsByte) → IsReadLess kind x y → IsReadLess kind x' y' → IsReadLess kind (if b then x else x') (if b then y else y')
+  if_read true x y x' y' h k = h
+  if_read false x y x' y' h k = k
+
+  if_under : (b : Bool) (x x' y : Option AbsByte) → IsReadLess kind x y → IsReadLess kind x' y → IsReadLess kind (if b then x else x') y
+  if_under true x x' y h k = h
+  if_under false x x' y h k = k
+
   frame_less : (f g : Option ℕ) (p q : Option ℕ) → Tells f g → Tells p q → IsReadLess kind (read_frame k s f p) (read_frame k t g q)
   frame_less f g None None h l = read_some kind _ _ (constant_less f g h)
   frame_less f g (Some d) None h l =
-      if_one (λ (x : Option AbsByte). IsReadLess kind x (Some (read_constant k t g))) (nat_lt d (length s.slots)) (read_both k s f (value_of (slot_at s.slots d))) (Some (read_constant k s f))
+      if_under (nat_lt d (length s.slots)) (read_both k s f (value_of (slot_at s.slots d))) (Some (read_constant k s f)) (Some (read_constant k t g))
       (slot_under f g (value_of (slot_at s.slots d)) h (slot d).good) (read_some kind _ _ (constant_less f g h))
   frame_less f g p (Some d) h l =
       subst (λ (x : Option ℕ). IsReadLess kind (read_frame k s f x) (read_frame k t g (Some d))) (sym (l d refl))
       (subst (λ (n : ℕ). IsReadLess kind (read_frame k s f (Some d)) (if nat_lt d n then read_both k t g (value_of (slot_at t.slots d)) else Some (read_constant k t g)))
       (le.slots.count ∙ sym le.slots.others)
-      (if_both (IsReadLess kind) (nat_lt d (length s.slots)) (read_both k s f (value_of (slot_at s.slots d))) (Some (read_constant k s f))
-      (read_both k t g (value_of (slot_at t.slots d))) (Some (read_constant k t g))
+      (if_read (nat_lt d (length s.slots)) (read_both k s f (value_of (slot_at s.slots d))) (read_both k t g (value_of (slot_at t.slots d))) (Some (read_constant k s f)) (Some (read_constant k t g))
       (both_less f g (value_of (slot_at s.slots d)) (value_of (slot_at t.slots d)) h (slot d)) (read_some kind _ _ (constant_less f g h))))
 
   pub pointer_read : (r up : ℕ) → IsReadLess kind (read_pointed k s (pointed s r up)) (read_pointed k t (pointed t r up))

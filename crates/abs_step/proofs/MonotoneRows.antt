@@ -29,9 +29,9 @@ use Rattle.abs_step.specs.Registers.{value, bits, carry_bit, set, or_nothing, ke
 use Rattle.abs_step.specs.Reads.{read_at, pointed, pair_constant}
 use Rattle.abs_step.specs.Flow.{flag_at, ret_exit, reti_exit}
 use Rattle.abs_step.specs.Local.{binary_row, step_before, pointer_moved, bit_row, row_of, row_at, is_hung, raw}
-use Rattle.abs_step.proofs.MonotoneValues.{AreRegistersLess, IsStateLess, bit_within, constant_is, constant_tells, none_of, untagged_less, registers_set}
+use Rattle.abs_step.proofs.MonotoneValues.{AreRegistersLess, IsStateLess, any_bit_within, constant_is, constant_tells, none_of, untagged_less, registers_set}
 use Rattle.abs_step.proofs.MonotoneRaw.{IsKey, LeadsLess, fails_less, untracked_less, further_small, word_key, next_key, going_less, on_less, setting_less}
-use Rattle.abs_step.proofs.MonotoneAlu.{with_7, pair_set, reg, reg_bits, flag_bits, carry_in, kept_flags, setting_flags, setting_register, sum_less, compare_less, sub_less, sbc_less, or_nothing_within, logic_less, kept_tag_of, kept_tag_within, product_less, pair_less, wide_less, flag_less, immediate_less, unary_less}
+use Rattle.abs_step.proofs.MonotoneAlu.{with_7, pair_set, reg, reg_bits, flag_bits, kept_flags, setting_flags, setting_register, sum_less, compare_less, sub_less, sbc_less, or_nothing_within, logic_less, kept_tag_of, kept_tag_within, product_less, pair_less, wide_less, flag_less, immediate_less, unary_less}
 use Rattle.abs_step.proofs.MonotoneReads.{flash_less, read_less, constants, pointed_constants, pointer_read, loading_less}
 use Rattle.abs_step.proofs.MonotoneWrites.{write_less, pointer_less}
 use Rattle.abs_step.proofs.MonotoneFlow.{calling_less, branch_less, skipping_less, flag_within, jump_less, indirect_less, push_less, relative_less, pop_less, return_less}
@@ -47,12 +47,15 @@ module _ (words : List ℕ) (A : List Entry) (k : NodeKey) (at : IsKey k) (s t :
   abbrev kind : Kind
   kind = k.inst.kind
 
+  carry_in : IsTriWithin (carry_bit s) (carry_bit t)
+  carry_in = any_bit_within s.flags.bits t.flags.bits 0 (flag_bits k at s t le)
+
   register_bit : (r b : ℕ) → IsTriWithin (tri_at (bits s r) b) (tri_at (bits t r) b)
-  register_bit r b = bit_within (bits s r) (bits t r) b (reg_bits k at s t le r)
+  register_bit r b = any_bit_within (bits s r) (bits t r) b (reg_bits k at s t le r)
 
   binary_less : (op : BinaryOp) (d r : ℕ) → LeadsLess k.inst (binary_row words k s op d r) (binary_row words k t op d r)
   binary_less binary.Cpc d r =
-      compare_less k at s t le (bits s d) (bits t d) (bits s r) (bits t r) (carry_bit s) (carry_bit t) true (reg_bits k at s t le d) (reg_bits k at s t le r) (carry_in k at s t le)
+      compare_less k at s t le (bits s d) (bits t d) (bits s r) (bits t r) (carry_bit s) (carry_bit t) true (reg_bits k at s t le d) (reg_bits k at s t le r) carry_in
   binary_less binary.Sbc d r =
       sbc_less k at s t le d (bits s r) (bits t r) (byte_constant (bits s r)) (byte_constant (bits t r)) (reg_bits k at s t le r)
       (constant_tells (bits s r) (bits t r) (reg_bits k at s t le r))
@@ -67,7 +70,7 @@ module _ (words : List ℕ) (A : List Entry) (k : NodeKey) (at : IsKey k) (s t :
       (byte_constant (bits s r)) (byte_constant (bits t r))
       (or_nothing_within k at s t le d r (bits s d) (bits t d) (reg_bits k at s t le d)) (or_nothing_within k at s t le d r (bits s r) (bits t r) (reg_bits k at s t le r))
       (constant_tells (bits s r) (bits t r) (reg_bits k at s t le r)) (λ n e. (constant_is (bits s r) n e).1)
-  binary_less binary.Adc d r = sum_less k at s t le d (bits s r) (bits t r) (carry_bit s) (carry_bit t) (reg_bits k at s t le r) (carry_in k at s t le)
+  binary_less binary.Adc d r = sum_less k at s t le d (bits s r) (bits t r) (carry_bit s) (carry_bit t) (reg_bits k at s t le r) carry_in
   binary_less binary.And d r =
       logic_less k at s t le logic.And d (bits s d) (bits t d) (bits s r) (bits t r) (kept_tag s d r) (kept_tag t d r) (reg_bits k at s t le d) (reg_bits k at s t le r)
       (kept_tag_of k at s t le d r) (kept_tag_within k at s t le d r)
@@ -99,7 +102,7 @@ module _ (words : List ℕ) (A : List Entry) (k : NodeKey) (at : IsKey k) (s t :
       (read_less k at s t le a).within.bits (λ n p. p)))
 
   port_bit : (a b : ℕ) → IsTriWithin (tri_at (read_at k s a).bits b) (tri_at (read_at k t a).bits b)
-  port_bit a b = bit_within (read_at k s a).bits (read_at k t a).bits b (read_less k at s t le a).within.bits
+  port_bit a b = any_bit_within (read_at k s a).bits (read_at k t a).bits b (read_less k at s t le a).within.bits
 
   -- ---- the whole table
 
@@ -122,7 +125,7 @@ module _ (words : List ℕ) (A : List Entry) (k : NodeKey) (at : IsKey k) (s t :
   row_less scratch (i.Bld d b) fits =
       setting_register k at s t le d _ _
       (untagged_less kind _ _ (writes_cover.more (bits s d) (bits t d) b (tri_at s.flags.bits 6) (tri_at t.flags.bits 6) (reg_bits k at s t le d)
-      (bit_within s.flags.bits t.flags.bits 6 (flag_bits k at s t le))))
+      (any_bit_within s.flags.bits t.flags.bits 6 (flag_bits k at s t le))))
   row_less scratch (i.Bst d b) fits =
       setting_flags k at s t le _ _
       (kept_flags k at s t le _ _

@@ -81,16 +81,6 @@ pub record IsStateLess (kind : Kind) (offset : ℕ) (s t : AbsState) : Type 0 wh
 abbrev pub Tells : {A : Type 0} → Option A → Option A → Type 0
 Tells f g = (x : _) → g ≡ Some x → f ≡ Some x
 
--- what holds of both branches holds of a choice
-pub if_one : {A : Type 0} (P : A → Type 0) (b : Bool) (x y : A) → P x → P y → P (if b then x else y)
-if_one P true x y h k = h
-if_one P false x y h k = k
-
--- and of two choices by one test
-pub if_both : {A : Type 0} (R : A → A → Type 0) (b : Bool) (x x' y y' : A) → R x y → R x' y' → R (if b then x else x') (if b then y else y')
-if_both R true x x' y y' h k = h
-if_both R false x x' y y' h k = k
-
 -- a function of what is there tells as much
 pub tells_by : {A B : Type 0} (f : Option A → Option B) → f None ≡ None → (x y : Option A) → Tells x y → Tells (f x) (f y)
 tells_by f none x None h b e = cc
@@ -109,6 +99,10 @@ tag_tells f none t (tag.SpHi k) le b e = ap f le ∙ e
 pub none_of : (kind : Kind) → IsTagOf kind tag.None
 none_of kind = record { names = tt; fits = tt; none = λ root. refl }
 
+pub if_tag_of : (kind : Kind) (b : Bool) (t u : Tag) → IsTagOf kind t → IsTagOf kind u → IsTagOf kind (if b then t else u)
+if_tag_of kind true t u h k = h
+if_tag_of kind false t u h k = k
+
 -- ---- bits
 
 pub same_bits : (b : TriByte) → IsWithin b b
@@ -117,8 +111,8 @@ same_bits b = λ x small has. has
 pub below_any : (b : TriByte) → IsWithin b byte_any
 below_any b = λ x small has. bytes_are_sets.built (λ _. Any) x (λ i lt. tt)
 
-low_bit_within : (b c : TriByte) (i : ℕ) → i < 8 → IsWithin b c → IsTriWithin (tri_at b i) (tri_at c i)
-low_bit_within b c i lt le = (bytes_are_sets.within b c).0 le i lt
+pub bit_within : (b c : TriByte) (i : ℕ) → i < 8 → IsWithin b c → IsTriWithin (tri_at b i) (tri_at c i)
+bit_within b c i lt le = (bytes_are_sets.within b c).0 le i lt
 
 -- there is no bit from 8 on
 bit_past : (b : TriByte) (i : ℕ) → 8 ≤ i → tri_at b i ≡ Any
@@ -126,8 +120,8 @@ bit_past b i over =
     let small : b.known < 2 ^ 8 = omega (arith, b.small) in
     ap (λ (n : ℕ). tri_of n (bit_at b.value i)) (bit_at_above b.known 8 i small over)
 
-pub bit_within : (b c : TriByte) (i : ℕ) → IsWithin b c → IsTriWithin (tri_at b i) (tri_at c i)
-bit_within b c i le = ⊎_elim (λ lt. low_bit_within b c i lt le) (λ over. subst (IsTriWithin (tri_at b i)) (sym (bit_past c i over)) (λ n p. tt)) (cases_lt i 8)
+pub any_bit_within : (b c : TriByte) (i : ℕ) → IsWithin b c → IsTriWithin (tri_at b i) (tri_at c i)
+any_bit_within b c i le = ⊎_elim (λ lt. bit_within b c i lt le) (λ over. subst (IsTriWithin (tri_at b i)) (sym (bit_past c i over)) (λ n p. tt)) (cases_lt i 8)
 
 -- a byte that is known is the one that the lesser stands for too
 known_is : (b c : TriByte) (n : ℕ) → n < 256 → c ≡ byte_known n → IsWithin b c → b ≡ byte_known n
@@ -166,6 +160,10 @@ known_same kind n = untagged_less kind (byte_known n) (byte_known n) (same_bits 
 pub below_unknown : (kind : Kind) (v : AbsByte) → IsTagOf kind v.tag → IsLess kind v unknown
 below_unknown kind v h = record { within = record { tag = tt; bits = below_any v.bits }; good = h }
 
+pub if_less : (kind : Kind) (b : Bool) (v v' w w' : AbsByte) → IsLess kind v w → IsLess kind v' w' → IsLess kind (if b then v else v') (if b then w else w')
+if_less kind true v v' w w' h k = h
+if_less kind false v v' w w' h k = k
+
 -- ---- registers
 
 set_same : (vs : List AbsByte) (d r : ℕ) (v : AbsByte) → r ≡ d → d < length vs → value_at (slice_set vs d v) r ≡ v
@@ -183,8 +181,7 @@ module _ (kind : Kind) (vs ws : List AbsByte) (le : AreRegistersLess kind vs ws)
       record {
         count = length-set vs d v ∙ le.count;
         others = length-set ws d w ∙ le.others;
-        each = λ r. ⊎_elim (inside r)
-            (λ over. subst₂ (IsLess kind) (sym (set_past vs d r v (omega (arith, le.count)))) (sym (set_past ws d r w (omega (arith, le.others)))) (value_same kind unknown (none_of kind)))
+        each = λ r. ⊎_elim (inside r) (λ over. subst₂ (IsLess kind) (sym (set_past vs d r v (omega (arith, le.count)))) (sym (set_past ws d r w (omega (arith, le.others)))) (value_same kind unknown (none_of kind)))
             (cases_lt r 32);
       }
     where
@@ -230,8 +227,7 @@ node_less k s t a b le =
         others = b.formed.count_registers;
         each = λ r. ⊎_elim
             (λ lt. record { within = le.registers r lt; good = register_tags k.inst.kind s (offset_of k.sp) a.formed a.tags a.untagged r lt })
-            (λ over. subst₂ (IsLess k.inst.kind)
-            (sym (get_or_past s.registers r unknown (omega (arith, a.formed.count_registers)))) (sym (get_or_past t.registers r unknown (omega (arith, b.formed.count_registers))))
+            (λ over. subst₂ (IsLess k.inst.kind) (sym (get_or_past s.registers r unknown (omega (arith, a.formed.count_registers)))) (sym (get_or_past t.registers r unknown (omega (arith, b.formed.count_registers))))
             (value_same k.inst.kind unknown (none_of k.inst.kind)))
             (cases_lt r 32);
       };

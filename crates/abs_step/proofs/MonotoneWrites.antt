@@ -40,8 +40,8 @@ use Rattle.abs_step.specs.Registers.{bits}
 use Rattle.abs_step.specs.Reads.{Pointed}
 use Rattle.abs_step.specs.Writes.{known_high, tagged_high, high_part, opening, root_closing, frame_closing, closing_offset, closing, is_entry_flags, flags_written, with_i, sreg_written, masks_written, written_at, permits, has, reaches, fixed_write, listed_writes, pointer_write}
 use Rattle.abs_step.specs.Cover.{HighFitsKind, TagFits}
-use Rattle.abs_step.proofs.MonotoneValues.{IsTagOf, IsLess, AreFlagsLess, AreSlotsLess, IsSlotLess, IsStateLess, Tells, tells_by, tag_tells, if_both, free_less, constant_is, constant_tells, bit_within, registers_set}
-use Rattle.abs_step.proofs.MonotoneRaw.{IsKey, IsPlace, LeadsLess, nodes_at, fails_less, several_less, one_less, choose, choose_more, both_less, filtered_less}
+use Rattle.abs_step.proofs.MonotoneValues.{IsTagOf, IsLess, AreFlagsLess, AreSlotsLess, IsSlotLess, IsStateLess, Tells, tells_by, tag_tells, free_less, constant_is, constant_tells, bit_within, registers_set}
+use Rattle.abs_step.proofs.MonotoneRaw.{IsKey, IsPlace, LeadsLess, nodes_at, fails_less, if_leads, several_less, one_less, choose, choose_more, both_less, filtered_less}
 
 -- ---- the high byte of the stack pointer
 
@@ -175,15 +175,15 @@ module _ (k : NodeKey) (at : IsKey k) (s t : AbsState) (le : IsStateLess k.inst.
   pub write_less : (pc : ℕ) (is_out : Bool) (a : ℕ) (v w : AbsByte) → IsLess k.inst.kind v w → LeadsLess k.inst (written_at pc k s is_out a v) (written_at pc k t is_out a w)
   unfolding written_at
   write_less pc is_out a v w h =
-      if_both (LeadsLess k.inst) (nat_lt a 0x20) _ _ _ _
+      if_leads k.inst (nat_lt a 0x20) _ _ _ _
       (one_less k (record s { registers = slice_set s.registers a v }) (record t { registers = slice_set t.registers a w }) at
       (record { registers = registers_set k.inst.kind s.registers t.registers le.registers a v w h; flags = le.flags; slots = le.slots }))
-      (if_both (LeadsLess k.inst) (a == SPL) _ _ _ _ (closing_less k at s t le pc _ _ (closing_tells k.inst.kind k.sp v w h))
-      (if_both (LeadsLess k.inst) (a == SPH) _ _ _ _ (opening_less k at s t le pc _ _ (high_tells k.inst.kind v w h) (λ x. high_fits k.inst.kind v x h.good))
-      (if_both (LeadsLess k.inst) (a == SREG) _ _ _ _
+      (if_leads k.inst (a == SPL) _ _ _ _ (closing_less k at s t le pc _ _ (closing_tells k.inst.kind k.sp v w h))
+      (if_leads k.inst (a == SPH) _ _ _ _ (opening_less k at s t le pc _ _ (high_tells k.inst.kind v w h) (λ x. high_fits k.inst.kind v x h.good))
+      (if_leads k.inst (a == SREG) _ _ _ _
       (sreg_less k at (record s { flags = flags_written v }) (record t { flags = flags_written w })
       (record { registers = le.registers; flags = written_flags k.inst.kind v w h; slots = le.slots }) is_out (tri_at v.bits 7) (tri_at w.bits 7)
-      (bit_within v.bits w.bits 7 h.within.bits))
+      (bit_within v.bits w.bits 7 (omega arith) h.within.bits))
       (masks_less a v w h))))
 
 -- ---- through a pointer
@@ -211,7 +211,7 @@ all_more (suc n) p q h e = and_more (all_below n p) (p n) (all_below n q) (q n) 
 has_more : (b c : TriByte) (x : ℕ) → IsWithin b c → has b x ≡ true → has c x ≡ true
 has_more b c x le =
     all_more 8 (λ i. permits (tri_at b i) (bit_at x i)) (λ i. permits (tri_at c i) (bit_at x i))
-    (λ i lt e. permits_from (tri_at c i) (bit_at x i) (bit_within b c i le (bit_at x i) (permits_to (tri_at b i) (bit_at x i) e)))
+    (λ i lt e. permits_from (tri_at c i) (bit_at x i) (bit_within b c i lt le (bit_at x i) (permits_to (tri_at b i) (bit_at x i) e)))
 
 pub reaches_more : (s t : AbsState) (r up a : ℕ) → IsWithin (bits s r) (bits t r) → IsWithin (bits s (r + 1)) (bits t (r + 1)) → reaches s r up a ≡ true → reaches t r up a ≡ true
 reaches_more s t r up a lo hi =
@@ -236,5 +236,5 @@ module _ (k : NodeKey) (at : IsKey k) (s t : AbsState) (le : IsStateLess k.inst.
       → IsWithin (bits was_s r) (bits was_t r) → IsWithin (bits was_s (r + 1)) (bits was_t (r + 1))
       → LeadsLess k.inst (pointer_write words A was_s r up p pc k s v) (pointer_write words A was_t r up q pc k t w)
   pointer_less words A was_s was_t r up p q tells lo hi =
-      if_both (LeadsLess k.inst) (is_fixed words pc || is_proved A pc) _ _ _ _ (fixed_less p.constant q.constant tells)
+      if_leads k.inst (is_fixed words pc || is_proved A pc) _ _ _ _ (fixed_less p.constant q.constant tells)
       (listed_less (λ a. reaches was_s r up a) (λ a. reaches was_t r up a) (store_line A pc) (λ a. reaches_more was_s was_t r up a lo hi))

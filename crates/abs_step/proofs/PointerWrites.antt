@@ -31,7 +31,7 @@ use Rattle.abs_step.specs.Reads.{pointed}
 use Rattle.abs_step.specs.Writes.{written_at, permits, has, reaches, fixed_write, listed_writes, pointer_write}
 use Rattle.abs_step.specs.Cover.{InFrame}
 use Rattle.abs_step.proofs.Frame.{register_stands}
-use Rattle.abs_step.proofs.Pointers.{pair_small, low_is, high_is, number_is}
+use Rattle.abs_step.proofs.PointerReads.{pair_small, low_is, high_is, number_is}
 use Rattle.abs_step.proofs.SplitMembers.{AreWritten}
 use Rattle.abs_step.proofs.WriteValues.{stored, Reaches, enables_kept, chosen, only, elsewhere, changes_none, written}
 

@@ -1,14 +1,16 @@
 -- Bytes that are pushed and popped, and calls of a compiler's small frame.
-use Rattle.std.proofs.Common.{◌≡◌, refl, sym, ap, ◌∙◌, subst, ℕ, zero, suc, ◌+◌, ◌-◌, ◌<◌, ◌≤◌, ◌&&◌, Bool, true, false, not, nat_le, if◌then◌else◌, [], ◌∷◌, ◌++◌, take, length, arith, length-take}
+use Rattle.std.proofs.Common.{◌≡◌, refl, sym, ap, ◌∙◌, subst, ℕ, zero, suc, ◌+◌, ◌-◌, ◌<◌, ◌≤◌, ◌==◌, ◌&&◌, Bool, true, false, not, nat_lt, nat_le, if◌then◌else◌, [], ◌∷◌, ◌++◌, take, length, arith, length-take}
 use Rattle.std.proofs.lemmas.Bool.Decides.{nat_tests}
 use Rattle.std.proofs.lemmas.List.{append_assoc}
 use Rattle.avr_model.specs.declared.effect.Effect.{Effect}
-use Rattle.avr_model.specs.State.{State, Memory, RAMEND, SIZE, register, sram_at, is_sram, is_live, plus16, minus16, low, read}
+use Rattle.avr_model.specs.State.{State, Memory, RAMEND, SIZE, BELOW, register, sram_at, is_sram, is_live, plus16, minus16, low, read, SPL, SPH, SREG}
 use Rattle.avr_model.specs.Effects.{further, calling, way_back, push_effect, pop_effect}
 use Rattle.avr_model.specs.Step.{after, memory_after, all_inside}
-use Rattle.sp_domain.specs.declared.slots.Slot.TheVariants.{Free}
+use Rattle.sp_domain.specs.declared.slots.Slot.{Slot}
+use Rattle.sp_domain.specs.declared.slots.Slot.TheVariants.{Free, Guarded}
 use Rattle.sp_domain.specs.Tags.{Origin}
 use Rattle.sp_domain.specs.Slots.{slot_at}
+use Rattle.abs_state.specs.declared.values.AbsByte.{AbsByte}
 use Rattle.abs_state.specs.declared.state.AbsState.{AbsState}
 use Rattle.abs_state.specs.Stands.{ByteStands, SlotStands, SlotsStand}
 use Rattle.abs_state.specs.Laws.{Keeps}
@@ -23,10 +25,9 @@ use Rattle.abs_step.specs.Registers.{value, set as node_set}
 use Rattle.abs_step.specs.Reads.{value_of}
 use Rattle.abs_step.specs.Flow.{if_room, pushed_slot, pushing, popping, making_room, at_closed, relative_call}
 use Rattle.abs_step.specs.Cover.{InFrame, Follows}
-use Rattle.abs_step.proofs.Frame.{first, only, register_stands, set_one, next_is}
-use Rattle.abs_step.proofs.ReadValues.{live_read, slot_at_stands}
-use Rattle.abs_step.proofs.Memory.{pushed_byte, pushed_live}
-use Rattle.abs_step.proofs.Flow.{closed, call_covered, further_is}
+use Rattle.abs_step.proofs.Frame.{first, only, register_stands, set_one, next_is, nothing_stands}
+use Rattle.abs_step.proofs.Memory.{inside_if_live, pushed_byte, pushed_live}
+use Rattle.abs_step.proofs.FlowRows.{closed, call_covered, further_is}
 
 inside_one : (sp offset base : ℕ) → sp + offset ≡ base → base ≤ RAMEND → RAMEND + (offset + 1) ≤ base + SIZE → is_sram sp ≡ true
 inside_one sp offset base e low room = grind (arith, nat_tests)
@@ -43,6 +44,20 @@ inside_two sp offset base word e low room =
     let here : is_sram sp ≡ true = inside_one sp offset base e low (omega arith) in
     let there : is_sram (minus16 sp 1) ≡ true = inside_one (minus16 sp 1) (offset + 1) base (omega arith) low (omega arith) in
     grind arith
+
+-- the byte of an address in SRAM
+in_sram : (a r l h f i b x : ℕ) → is_sram a ≡ true
+    → (if nat_lt a 0x20 then r else (if a == SPL then l else (if a == SPH then h else (if a == SREG then f else (if nat_le a BELOW then i else (if is_sram a then b else x)))))) ≡ b
+in_sram a r l h f i b x inside = grind (arith, nat_tests)
+
+live_read : (m : State) (a input : ℕ) → is_live m.memory a ≡ true → read m a input ≡ sram_at m a
+unfolding read
+live_read m a input live = in_sram a _ _ _ _ _ (sram_at m a) input (inside_if_live m.memory.live a live)
+
+-- what is known of a slot's byte
+slot_read : (m : State) (o : Origin) (a input : ℕ) (slot : Slot AbsByte) → SlotStands o m.memory a slot → ByteStands o (value_of slot) (read m a input)
+slot_read m o a input Free h = nothing_stands o (read m a input)
+slot_read m o a input (Guarded v) h = subst (ByteStands o v) (sym (live_read m a input h.0)) h.1
 
 module _ (m : State) (o : Origin) (k : NodeKey) (s : AbsState) (at : InFrame m o k s) where
   sp_is : (offset : ℕ) → k.sp ≡ Closed offset → m.sp + offset ≡ o.base
@@ -78,8 +93,8 @@ module _ (m : State) (o : Origin) (k : NodeKey) (s : AbsState) (at : InFrame m o
           inside = λ room. refl;
           place = λ within. record { pc = next_is m o k s at; enables = at.place.enables; i = at.place.i; delay = refl; sp = (refl, omega (arith, at.base_word)) };
           registers = set_one m o k s at d (value_of (slot_at s.slots n)) (read m (plus16 m.sp 1) b1)
-              (slot_at_stands m o k s at n (read m (plus16 m.sp 1) b1)
-              (subst (λ a. is_live m.memory a ≡ true → read m (plus16 m.sp 1) b1 ≡ sram_at m a) (sym address) (live_read m o k s at (plus16 m.sp 1) b1)));
+              (slot_read m o (plus16 m.sp 1) b1 (slot_at s.slots n)
+              (subst (λ a. SlotStands o m.memory a (slot_at s.slots n)) address (at.stands.slots n (omega arith))));
           flags = at.stands.flags;
           slots = λ within inside kept.
               slots_follow.kept o m.memory (after m guarded (pop_effect m d b1)).memory (plus16 m.sp 1) (take n s.slots) kept (omega (arith, at.base_word, length-take n s.slots))

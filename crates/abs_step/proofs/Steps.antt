@@ -18,10 +18,8 @@ use Rattle.abs_step.specs.declared.local.Local.{Local}
 use Rattle.abs_step.specs.Raw.{Raw}
 use Rattle.abs_step.specs.Local.{raw, joined_onto, settled, local}
 use Rattle.abs_step.specs.Cover.{InFrame, IsWithinBase, IsCovered, Lands, Follows, stays, calls, leaves, IsStep}
-use Rattle.abs_step.specs.Laws.{AreNodes, StepsAreCovered}
+use Rattle.abs_step.specs.Laws.{JoinsAreLeast, LocalPartsAreNodes, AreNodes, StepsAreCovered}
 use Rattle.abs_step.proofs.Covered.{local_parts_cover}
-use Rattle.abs_step.proofs.Joined.{all_joins_are_least}
-use Rattle.abs_step.proofs.MonotoneNodes.{all_local_parts_are_nodes}
 use Rattle.abs_step.proofs.Memory.{live_bytes_stay}
 
 -- ---- a local part that is there
@@ -74,16 +72,16 @@ module _ (words : List ℕ) (A : List Entry) (m : State) (o : Origin) (k : NodeK
   is_defined r None pc covered none e = covered none
   is_defined r (Some instr) pc covered none e = some_defined _ _ _ m.pc pc e
 
-  module _ (none : (raw words A k s).faults ≡ [])
+  module _ (joins : JoinsAreLeast) (nodes : LocalPartsAreNodes) (none : (raw words A k s).faults ≡ [])
       (within : (to : Node) → Contains (joined (raw words A k s)).same to → IsWithinBase o.base to.key.sp) where
     are_nodes : AreNodes (raw words A k s).moves
-    are_nodes to member = (all_local_parts_are_nodes.nodes words A k s to at.node none member).1
+    are_nodes to member = (nodes.nodes words A k s to at.node none member).1
 
     -- a raw successor lies below a joined one, which the machine is at too
     lands_joined : (guarded : Bool) (e : Effect) (to : Node) → Contains (raw words A k s).moves to → to.key.inst ≡ k.inst → Lands m o guarded e to
         → live_write m.memory (e.stores ++ e.pushes) ≡ None → all_inside e.pushes ≡ true → IsStep m o k b1 b2 (joined (raw words A k s)) (after m guarded e)
     lands_joined guarded e to member inst lands unhit inside =
-        let above = all_joins_are_least.above (raw words A k s).moves to are_nodes member in
+        let above = joins.above (raw words A k s).moves to are_nodes member in
         let whole : IsWithinBase o.base to.key.sp = within (record { key = to.key; state = above.state }) above.present in
         let kept = live_bytes_stay.kept m guarded e at.machine unhit in
         stays (record { key = to.key; state = above.state }) above.present inst (lands.place whole)
@@ -108,14 +106,14 @@ module _ (words : List ℕ) (A : List Entry) (m : State) (o : Origin) (k : NodeK
         (follows_steps (not (is_scratch words m.pc)) effect unflagged.0 inside
         (covered none (record { protected = unflagged.1.0; listed = unflagged.1.1.0 })))
 
-pub steps_are_covered : StepsAreCovered
-steps_are_covered = record {
+pub steps_are_covered : JoinsAreLeast → LocalPartsAreNodes → StepsAreCovered
+steps_are_covered joins nodes = record {
   defined = λ words A m o k s l b1 b2 pc at small1 small2 there.
       let here = local_is words A k s l there in
       is_defined words A m o k s b1 b2 at small1 small2 (raw words A k s) (instruction_at words m.pc) pc (local_parts_cover.covered words A m o k s b1 b2 at small1 small2) here.0;
   done = λ words A m n o k s l b1 b2 at small1 small2 there within e.
       let here = local_is words A k s l there in
       subst (λ x. IsStep m o k b1 b2 x n) here.1
-      (go_steps words A m o k s b1 b2 at small1 small2 here.0 (subst (λ x. (to : Node) → Contains x.same to → IsWithinBase o.base to.key.sp) (sym here.1) within)
+      (go_steps words A m o k s b1 b2 at small1 small2 joins nodes here.0 (subst (λ x. (to : Node) → Contains x.same to → IsWithinBase o.base to.key.sp) (sym here.1) within)
       n (instruction_at words m.pc) (local_parts_cover.covered words A m o k s b1 b2 at small1 small2) e);
 }

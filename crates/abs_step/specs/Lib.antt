@@ -5,6 +5,8 @@ pub mod Reads
 pub mod Writes
 pub mod Flow
 pub mod Local
+pub mod Placing
+pub mod Adding
 pub mod Machine
 pub mod Cover
 pub mod Order

@@ -26,7 +26,7 @@ use Rattle.mask_states.specs.declared.keys.Kind.TheVariants.{Root, Call, Vector}
 use Rattle.mask_states.specs.declared.keys.SpForm.{SpForm}
 use Rattle.mask_states.specs.declared.keys.SpForm.TheVariants.{Closed, Open}
 -- the address that a pointer gives: a number, base - k, or both
-pub use Rattle.abs_step.specs.declared.pointed.Pointed.{Pointed}
+pub use Rattle.abs_step.specs.declared.pointers.Pointed.{Pointed}
 use Rattle.abs_step.specs.Registers.{value, bits, with_bits}
 
 -- ---- at an address

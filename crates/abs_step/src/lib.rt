@@ -5,16 +5,26 @@ mod arithmetic;
 mod computed;
 mod faults;
 mod flags;
+mod flow;
+mod jumps;
 pub mod laws;
+mod leading;
 pub mod local;
-mod pointed;
+mod moves;
+pub mod part;
+mod pointer_stores;
+mod pointers;
+mod pushes;
 mod reads;
 mod rows;
 mod stack_pointer;
+mod stores;
+mod table;
 mod transfers;
 mod words;
 
 pub use local::{CallSite, CallSites, Exit, Local, Node, NodeFault, Nodes};
+pub use part::local_part;
 
 #[cfg(test)]
 mod tests;

@@ -1,10 +1,16 @@
 //! What a node leads to.
 
-ghost use Rattle.std.specs.Prelude.{◌≡◌};
+ghost use Rattle.std.specs.Prelude.{◌≡◌, ◌≤◌, ◌++◌, ◌∷◌, [], length, OnOk, OnErr};
+ghost use Rattle.std.specs.Ordering.{is_gt};
+ghost use Rattle.mask_states.specs.Keys.{offset_of};
+ghost use Rattle.mask_states.specs.Order.{node_cmp};
 ghost use Rattle.abs_step.specs.Faults.{cause_of};
+ghost use Rattle.abs_step.specs.Local.{placed};
+ghost use Rattle.abs_step.specs.Placing.{place_in};
 
 use abs_state::AbsState;
 use mask_states::NodeKey;
+use std::alloc::{AllocError, Global};
 use std::marker::Model;
 use vector_table::Masks;
 
@@ -17,7 +23,7 @@ pub struct Node {
     pub state: AbsState,
 }
 
-/// Nodes, seen as their list.
+/// Nodes, each of whose states has as many slots as its stack pointer's offset says. Seen as their list.
 #[derive(Debug, Drop)]
 pub struct Nodes {
     items: Vec<Node>,
@@ -26,10 +32,66 @@ pub struct Nodes {
 impl Model for Nodes {
     ghost use Rattle.std.specs.Prelude.{List};
     ghost use Rattle.abs_step.specs.declared.local.Node.{Node};
+    ghost use Rattle.abs_step.specs.Placing.{AreSized};
 
     ghost Value = { List Node };
 
     ghost view = { λ s. s.items.items };
+
+    ghost invariant = { λ s. AreSized s.items.items };
+}
+
+impl Nodes {
+    /// No nodes.
+    pub fn new(alloc: Global) -> Nodes
+        ensures { result ≡ [] }
+    {
+        Nodes {
+            items: Vec::new(alloc),
+        }
+    }
+
+    /// The nodes in their order.
+    pub fn as_slice(&self) -> &[Node]
+        ensures { result.now ≡ self.now }
+    {
+        &self.items
+    }
+
+    /// Puts a node into an ascending list; where there is one of its key, their states are joined.
+    pub fn place(&mut self, node: Node) -> Result<(), AllocError>
+        requires { length node.state.slots ≡ offset_of node.key.sp }
+        ensures ok { OnOk result (self.new ≡ placed node self.old) }
+        ensures err { OnErr result (self.new ≡ self.old) }
+    {
+        let at = place_of(&self.items, &node.key);
+        if at < self.items.len() && self.items[at].key == node.key {
+            self.items[at].state.join_into(&node.state);
+            return Ok(());
+        }
+        self.items.insert(at, node)?;
+        Ok(())
+    }
+}
+
+// Whether the key is above that of the node.
+fn is_above(key: &NodeKey, node: &Node) -> bool
+    ensures { result ≡ is_gt (node_cmp key.now node.now.key) }
+{
+    key.cmp(&node.key).is_gt()
+}
+
+// How many nodes come before the key, in an ascending list.
+fn place_of(nodes: &[Node], key: &NodeKey) -> usize
+    ensures place { result ≡ place_in key.now nodes.now }
+    ensures inside { result ≤ length nodes.now }
+{
+    for at in 0..nodes.len() {
+        if !is_above(key, &nodes[at]) {
+            return at;
+        }
+    }
+    nodes.len()
 }
 
 /// A call: the word address that is called, and that at which the caller goes on.
@@ -54,6 +116,33 @@ impl Model for CallSites {
     ghost Value = { List CallSite };
 
     ghost view = { λ s. s.items.items };
+}
+
+impl CallSites {
+    /// No calls.
+    pub fn new(alloc: Global) -> CallSites
+        ensures { result ≡ [] }
+    {
+        CallSites {
+            items: Vec::new(alloc),
+        }
+    }
+
+    /// The calls in their order.
+    pub fn as_slice(&self) -> &[CallSite]
+        ensures { result.now ≡ self.now }
+    {
+        &self.items
+    }
+
+    /// Another call behind the last.
+    pub fn push(&mut self, site: CallSite) -> Result<(), AllocError>
+        ensures ok { OnOk result (self.new ≡ self.old ++ site ∷ []) }
+        ensures err { OnErr result (self.new ≡ self.old) }
+    {
+        self.items.push(site)?;
+        Ok(())
+    }
 }
 
 /// A return: what it leaves of the machine's key.

@@ -1,6 +1,7 @@
 //! Rows, reads and writes worked by hand from the instruction set manual and the rules on tags, each answer compared as a whole.
 
 mod addresses;
+mod nodes;
 mod registers;
 mod stack;
 

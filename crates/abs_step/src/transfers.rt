@@ -1,123 +1,143 @@
-//! Words that jumps, branches and skips go to, and the conditions that decide.
+//! Calls and returns.
 
-ghost use Rattle.std.specs.Prelude.{◌≡◌, ◌+◌, ◌<◌, ◌≤◌, None};
-ghost use Rattle.avr_model.specs.Text as text;
-ghost use Rattle.avr_model.specs.Effects as effects;
-ghost use Rattle.avr_model.specs.Assumptions.{lists};
-ghost use Rattle.bit_domain.specs.TriByte.{tri_at};
-ghost use Rattle.bit_domain.specs.Logic.{byte_equal};
-ghost use Rattle.abs_step.specs.Registers as registers;
-ghost use Rattle.abs_step.specs.Raw as raw;
-ghost use Rattle.abs_step.specs.Reads as reads;
-ghost use Rattle.abs_step.specs.Flow.{words_of, targets_by};
+ghost use Rattle.std.specs.Prelude.{◌≡◌, List, map, IfOk, IfErr};
+ghost use Rattle.abs_step.specs.declared.local.Node.{Node};
+ghost use Rattle.abs_step.specs.declared.local.NodeFault.TheVariants.{Memory};
+ghost use Rattle.abs_step.specs.Raw.{Raw};
+ghost use Rattle.abs_step.specs.Flow as flow;
+ghost use Rattle.abs_step.specs.Adding.{Adds, Leads};
 
-use crate::computed::bits;
-use crate::reads::read_at;
-use crate::words::Z;
+use crate::flow::further;
+use crate::jumps::targets_at;
+use crate::local::{CallSite, CallSites, Exit, NodeFault, Nodes};
 use abs_state::AbsState;
-use bit_domain::{Tri, TriByte};
-use indirect_targets::{Targets, targets};
-use mask_states::NodeKey;
+use mask_states::{Kind, NodeKey, SpForm};
+use std::alloc::Global;
+use vector_table::Assumptions;
 
-/// How many words flash has; word addresses count modulo this number (data sheet: 32 KiB).
-pub(crate) const WORDS: u16 = 16384;
-
-/// The data address of I/O address 0.
-const IO_START: u16 = 0x20;
-
-/// The word so many words further.
-pub(crate) fn further(key: &NodeKey, words: u16) -> u16
-    requires { words ≤ 3 }
-    ensures { result ≡ raw.further key.now words }
-{
-    key.pc.wrapping_add(words) % WORDS
+/// What leaves the instance.
+#[derive(Debug, Drop)]
+pub struct Outside {
+    /// Calls.
+    pub calls: CallSites,
+    /// A return.
+    pub exit: Option<Exit>,
 }
 
-/// The word at a distance of 12 bits, in two's complement, from the one behind `pc`.
-pub(crate) fn far(pc: u16, distance: u16) -> u16
-    requires { distance < 4096 }
-    ensures { result ≡ text.far pc distance }
+/// Nothing leaves it where nodes were added.
+pub(crate) fn staying(alloc: Global, added: Result<(), NodeFault>) -> Result<Outside, NodeFault>
+    ensures { (old new : List Node) (r : Raw) → Adds old new added r → Leads old new result r }
 {
-    let words = if distance < 2048 {
-        distance
-    } else {
-        distance + 12288
-    };
-    pc.wrapping_add(1).wrapping_add(words) % WORDS
-}
-
-/// The word at a distance of 7 bits, in two's complement, from the one behind `pc`.
-pub(crate) fn near(pc: u16, distance: u16) -> u16
-    requires { distance < 128 }
-    ensures { result ≡ text.near pc distance }
-{
-    let words = if distance < 64 {
-        distance
-    } else {
-        distance + 16256
-    };
-    pc.wrapping_add(1).wrapping_add(words) % WORDS
-}
-
-/// The data address of an I/O address.
-pub(crate) fn port(address: u16) -> u16
-    requires { address < 64 }
-    ensures { result ≡ effects.port address }
-{
-    address + IO_START
-}
-
-/// A bit of an I/O address, which `sbic` and `sbis` test.
-pub(crate) fn port_bit(key: &NodeKey, state: &AbsState, address: u16, bit: u8) -> Tri
-    requires address { address < 64 }
-    requires bit { bit < 8 }
-    ensures { result ≡ tri_at (reads.read_at key.now state.now (effects.port address)).bits bit }
-{
-    read_at(key, state, port(address)).bits.bit(bit)
-}
-
-/// A bit of a register, which `sbrc` and `sbrs` test.
-pub(crate) fn register_bit(state: &AbsState, r: u16, bit: u8) -> Tri
-    requires r { r < 32 }
-    requires bit { bit < 8 }
-    ensures { result ≡ tri_at (registers.bits state.now r) bit }
-{
-    bits(state, r).bit(bit)
-}
-
-/// Whether registers `d` and `r` are equal, which `cpse` tests.
-pub(crate) fn are_equal(state: &AbsState, d: u16, r: u16) -> Tri
-    requires d { d < 32 }
-    requires r { r < 32 }
-    ensures { result ≡ byte_equal (registers.bits state.now d) (registers.bits state.now r) }
-{
-    bit_domain::equal(bits(state, d), bits(state, r))
-}
-
-// Whether the word is one of these bytes, modulo the words of flash, which leaves two bits open.
-fn is_permitted(lo: TriByte, hi: TriByte, word: u16) -> bool
-    ensures { result ≡ lists (words_of lo hi) word }
-{
-    if word >= WORDS {
-        return false;
+    match added {
+        Ok(()) => Ok(Outside {
+            calls: CallSites::new(alloc),
+            exit: None,
+        }),
+        Err(fault) => Err(fault),
     }
-    let high = hi.with(6, Tri::Any).with(7, Tri::Any);
-    lo.has((word % 256) as u8) && high.has((word / 256) as u8)
 }
 
-/// Whether an indirect transfer may lead to this word.
-pub(crate) fn is_target(state: &AbsState, word: u16) -> bool
-    ensures { result ≡ lists (words_of (registers.bits state.now 30) (registers.bits state.now 31)) word }
+fn is_half_written(sp: SpForm) -> bool
+    ensures { result ≡ flow.is_half_written sp }
 {
-    is_permitted(bits(state, Z), bits(state, Z + 1), word)
+    match sp {
+        SpForm::Closed(_) => false,
+        SpForm::Open(_, _) => true,
+    }
 }
 
-/// The words to which an indirect transfer may lead that no line lists: None where there are more than 64.
-pub(crate) fn all_targets(state: &AbsState) -> Option<Targets>
-    ensures { result ≡ targets_by None (words_of (registers.bits state.now 30) (registers.bits state.now 31)) }
+// Calls of these words that go on at the word `back`.
+fn sites(alloc: Global, entries: &[u16], back: u16) -> Result<CallSites, NodeFault>
+    ensures ok { IfOk result (λ sites. sites ≡ map (λ t. flow.site t back) entries.now) }
+    ensures err { IfErr result (λ e. e ≡ Memory) }
 {
-    match targets(&bits(state, Z), &bits(state, Z + 1)) {
-        Ok(targets) => Some(targets),
-        Err(_) => None,
+    let mut sites = CallSites::new(alloc);
+    for at in 0..entries.len() {
+        let entry = entries[at];
+        if sites.push(CallSite { entry, back }).is_err() {
+            return Err(NodeFault::Memory);
+        }
+    }
+    Ok(sites)
+}
+
+/// A call of these words, which goes on at the word `back`.
+pub(crate) fn calling(
+    alloc: Global,
+    key: &NodeKey,
+    back: u16,
+    entries: &[u16],
+) -> Result<Outside, NodeFault>
+    ensures { (nodes : List Node) → Leads nodes nodes result (flow.calling key.now back entries.now) }
+{
+    if is_half_written(key.sp) {
+        return Err(NodeFault::UntrackedSp(key.pc));
+    }
+    let calls = sites(alloc, entries, back)?;
+    Ok(Outside { calls, exit: None })
+}
+
+/// An indirect call.
+pub(crate) fn indirect_call(
+    alloc: Global,
+    assumptions: &Assumptions,
+    key: &NodeKey,
+    state: &AbsState,
+) -> Result<Outside, NodeFault>
+    ensures { (nodes : List Node) → Leads nodes nodes result (flow.indirect_call (flow.targets_at assumptions.now key.now state.now) key.now) }
+{
+    let entries = targets_at(alloc, assumptions, key, state)?;
+    let outside = calling(alloc, key, further(key, 1), &entries)?;
+    Ok(outside)
+}
+
+// A return at this offset.
+fn returning_at(
+    alloc: Global,
+    exit: Exit,
+    pc: u16,
+    kind: Kind,
+    offset: u16,
+) -> Result<Outside, NodeFault>
+    ensures { (nodes : List Node) → Leads nodes nodes result (flow.returning exit pc kind offset) }
+{
+    match kind {
+        Kind::Call | Kind::Vector(_) if offset == 0 => Ok(Outside {
+            calls: CallSites::new(alloc),
+            exit: Some(exit),
+        }),
+        _ => Err(NodeFault::UntrackedSp(pc)),
+    }
+}
+
+/// A return, where the stack pointer isn't half written.
+pub(crate) fn returning(alloc: Global, key: &NodeKey, exit: Exit) -> Result<Outside, NodeFault>
+    ensures { (nodes : List Node) → Leads nodes nodes result (flow.at_closed key.now.sp key.now.pc (flow.returning exit key.now.pc key.now.inst.kind)) }
+{
+    match key.sp {
+        SpForm::Closed(offset) => returning_at(alloc, exit, key.pc, key.inst.kind, offset),
+        SpForm::Open(_, _) => Err(NodeFault::UntrackedSp(key.pc)),
+    }
+}
+
+/// What `ret` leaves of the key.
+pub(crate) fn ret_exit(key: &NodeKey) -> Exit
+    ensures { result ≡ flow.ret_exit key.now }
+{
+    Exit {
+        masks: key.masks,
+        i: key.i,
+        delay: false,
+    }
+}
+
+/// What `reti` leaves of it: it turns I on.
+pub(crate) fn reti_exit(key: &NodeKey) -> Exit
+    ensures { result ≡ flow.reti_exit key.now }
+{
+    Exit {
+        masks: key.masks,
+        i: true,
+        delay: true,
     }
 }

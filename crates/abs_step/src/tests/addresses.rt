@@ -1,14 +1,12 @@
 use super::{key, tagged, unknown_state};
 use crate::computed::value;
 use crate::flags::{flag_at, flags_written};
-use crate::pointed::{
+use crate::flow::{are_equal, far, further, is_target, near, port_bit, register_bit};
+use crate::pointers::{
     Pointed, base_register, flash_value, pair_constant, point, pointer_register, reaches,
     read_pointed, step_before,
 };
 use crate::reads::{io_bits, read_at};
-use crate::transfers::{
-    all_targets, are_equal, far, further, is_target, near, port_bit, register_bit,
-};
 use abs_state::AbsByte;
 use avr_model::instruction::{Base, Pointer};
 use bit_domain::{Tri, TriByte};
@@ -215,29 +213,6 @@ fn words_count_modulo_flash(rt: HostRuntime) {
     state.registers[31] = AbsByte::untagged(TriByte::new(0x3E, 0x12));
     assert!(rt; is_target(&state, 0x1334));
     assert!(rt; !is_target(&state, 0x1434));
-}
-
-#[test]
-fn targets_that_no_line_lists_are_at_most_64(rt: HostRuntime) {
-    let mut state = unknown_state(rt.alloc());
-    // Bits 14 and 15 of Z don't count.
-    state.registers[30] = AbsByte::known(0x34);
-    state.registers[31] = AbsByte::untagged(TriByte::new(0x3E, 0x12));
-    match all_targets(&state) {
-        Some(targets) => assert_eq!(rt; targets.as_slice(), [0x1234, 0x1334].as_slice()),
-        None => assert!(rt; false),
-    }
-    state.registers[30] = AbsByte::untagged(TriByte::new(0xE0, 0x40));
-    match all_targets(&state) {
-        Some(targets) => {
-            let words = targets.as_slice();
-            assert_eq!(rt; words.len(), 64);
-            assert!(rt; words.first() == Some(&0x1240) && words.last() == Some(&0x135F));
-        }
-        None => assert!(rt; false),
-    }
-    state.registers[30] = AbsByte::untagged(TriByte::new(0xC0, 0x40));
-    assert!(rt; all_targets(&state).is_none());
 }
 
 #[test]

@@ -1,7 +1,7 @@
 use super::{goes_on, key, tagged, unknown_state};
 use crate::computed::value;
 use crate::local::NodeFault;
-use crate::pointed::point;
+use crate::pointers::point;
 use crate::reads::read_at;
 use crate::stack_pointer::{closing_offset, high_part, is_hung};
 use abs_state::AbsByte;

@@ -3,7 +3,7 @@ use Rattle.bit_domain.specs.declared.bits.Tri.TheVariants.{Any}
 use Rattle.bit_domain.specs.declared.bytes.TriByte.{TriByte}
 use Rattle.bit_domain.specs.TriByte.{byte_with}
 use Rattle.abs_step.proofs.Permitted.{none_above, low_decides, high_decides}
-use Rattle.abs_step.proofs.transfers.is_permitted.Goals as goal
+use Rattle.abs_step.proofs.flow.is_permitted.Goals as goal
 
 pub returns-then-word-ge-WORDS : goal.returns-then-word-ge-WORDS
 returns-then-word-ge-WORDS c = none_above c.args.lo c.args.hi c.args.word (omega arith)

@@ -1,0 +1,72 @@
+-- Nodes that are added to a list.
+use Rattle.std.proofs.Common.{◌≡◌, refl, sym, ap, ◌∙◌, ℕ, zero, suc, ◌+◌, ◌<◌, List, [], ◌∷◌, ◌++◌, length, map, take, slice_index_or, Option, None, arith}
+use Rattle.abs_state.specs.declared.state.AbsState.{AbsState}
+use Rattle.mask_states.specs.declared.keys.NodeKey.{NodeKey}
+use Rattle.abs_step.specs.declared.local.Node.{Node}
+use Rattle.abs_step.specs.declared.local.CallSite.{CallSite}
+use Rattle.abs_step.specs.declared.local.Exit.{Exit}
+use Rattle.abs_step.specs.Raw.{Raw, one, moves_to}
+use Rattle.abs_step.specs.Local.{placed, joined_onto}
+use Rattle.abs_step.specs.Adding.{IsAdded, IsLed}
+
+pub one_added : (old new : List Node) (k : NodeKey) (s : AbsState) → new ≡ placed (record { key = k; state = s }) old → IsAdded old new (one k s)
+unfolding joined_onto
+one_added old new k s e = record { moves = refl; nodes = e }
+
+pub two_added : (old mid new : List Node) (j k : NodeKey) (s t : AbsState) → IsAdded old mid (one j s) → IsAdded mid new (one k t)
+    → IsAdded old new (moves_to (record { key = j; state = s } ∷ record { key = k; state = t } ∷ []))
+unfolding joined_onto
+two_added old mid new j k s t p q = record { moves = refl; nodes = q.nodes ∙ ap (placed (record { key = k; state = t })) p.nodes }
+
+-- ---- one for each of a list
+
+joined_more : (old ns : List Node) (n : Node) → joined_onto old (ns ++ n ∷ []) ≡ placed n (joined_onto old ns)
+unfolding joined_onto
+joined_more old [] n = refl
+joined_more old (m ∷ ns) n = joined_more (placed m old) ns n
+
+map_more : (f : ℕ → Node) (xs : List ℕ) (at next d : ℕ) → at < length xs → next ≡ at + 1
+    → map f (take next xs) ≡ map f (take at xs) ++ f (slice_index_or xs at d) ∷ []
+map_more f [] at next d lt e = absurd (omega (arith, lt))
+map_more f (x ∷ xs) zero zero d lt e = absurd (omega (arith, e))
+map_more f (x ∷ xs) zero (suc zero) d lt e = refl
+map_more f (x ∷ xs) zero (suc (suc next)) d lt e = absurd (omega (arith, e))
+map_more f (x ∷ xs) (suc at) zero d lt e = absurd (omega (arith, e))
+map_more f (x ∷ xs) (suc at) (suc next) d lt e = ap (λ ns. f x ∷ ns) (map_more f xs at next d (omega (arith, lt)) (omega (arith, e)))
+
+pub none_added : (old : List Node) → IsAdded old old (moves_to [])
+unfolding joined_onto
+none_added old = record { moves = refl; nodes = refl }
+
+pub more_added : (f : ℕ → Node) (xs : List ℕ) (at d : ℕ) (old mid new : List Node) (k : NodeKey) (s : AbsState) → at < length xs
+    → record { key = k; state = s } ≡ f (slice_index_or xs at d) → IsAdded old mid (moves_to (map f (take at xs))) → IsAdded mid new (one k s)
+    → IsAdded old new (moves_to (map f (take (at + 1) xs)))
+unfolding joined_onto
+more_added f xs at d old mid new k s lt e p q =
+    record {
+      moves = refl;
+      nodes = q.nodes ∙ (λ i. placed (e i) (p.nodes i)) ∙ sym (joined_more old (map f (take at xs)) (f (slice_index_or xs at d)))
+          ∙ ap (joined_onto old) (sym (map_more f xs at (at + 1) d lt refl));
+    }
+
+-- ---- what leaves the instance
+
+pub led : (nodes : List Node) (calls : List CallSite) (exit : Option Exit) (r : Raw)
+    → r ≡ record { moves = []; calls = calls; exit = exit; faults = [] } → IsLed nodes nodes (record { calls = calls; exit = exit }) r
+unfolding joined_onto
+led nodes calls exit r e = record {
+  faults = ap (λ (r : Raw). r.faults) e;
+  nodes = sym (ap (λ (r : Raw). joined_onto nodes r.moves) e);
+  calls = sym (ap (λ (r : Raw). r.calls) e);
+  exit = sym (ap (λ (r : Raw). r.exit) e);
+}
+
+pub added_led : (old new : List Node) (r : Raw) → IsAdded old new r → IsLed old new (record { calls = []; exit = None }) r
+added_led old new r h = record {
+  faults = ap (λ (r : Raw). r.faults) h.moves;
+  nodes = h.nodes;
+  calls = sym (ap (λ (r : Raw). r.calls) h.moves);
+  exit = sym (ap (λ (r : Raw). r.exit) h.moves);
+}
+
+pub ruleset adding = (one_added, two_added, none_added, added_led)

@@ -1,0 +1,39 @@
+-- The one answer for a node.
+use Rattle.std.proofs.Common.{◌≡◌, refl, sym, ap, ◌∙◌, List, [], ◌∷◌, Some, Ok, Err}
+use Rattle.abs_step.specs.declared.local.Local.{Local}
+use Rattle.abs_step.specs.declared.local.Node.{Node}
+use Rattle.abs_step.specs.declared.local.NodeFault.{NodeFault}
+use Rattle.abs_step.specs.declared.transfers.Outside.{Outside}
+use Rattle.abs_step.specs.Raw.{Raw}
+use Rattle.abs_step.specs.Local.{settled}
+use Rattle.abs_step.specs.Adding.{first_fault, first_of, IsLed}
+use Rattle.abs_step.proofs.Gathered.{first_more}
+
+pub led_settled : (new : List Node) (o : Outside) (r : Raw) → IsLed [] new o r
+    → settled r r.faults ≡ Ok (record { same = new; calls = o.calls; exit = o.exit })
+led_settled new o r h =
+    ap (settled r) h.faults ∙ sym (λ i. Ok (record { same = h.nodes i; calls = h.calls i; exit = h.exit i }))
+
+fault_settled : (r : Raw) (fs : List NodeFault) (f : NodeFault) → first_fault fs ≡ Some f → settled r fs ≡ Err f
+fault_settled r [] f e = cc
+fault_settled r (g ∷ gs) f e = cc
+
+pub first_settled : (r : Raw) (f : NodeFault) → first_fault r.faults ≡ Some f → settled r r.faults ≡ Err f
+first_settled r f e = fault_settled r r.faults f e
+
+none_settled : (r : Raw) (fs : List NodeFault) (l : Local) → settled r fs ≡ Ok l → fs ≡ []
+none_settled r [] l e = refl
+none_settled r (f ∷ fs) l e = cc
+
+settled_first : (r : Raw) (fs : List NodeFault) (f : NodeFault) → settled r fs ≡ Err f → first_fault fs ≡ Some f
+settled_first r [] f e = cc
+settled_first r (g ∷ gs) f e = cc
+
+pub stopped_alone : (r : Raw) (l : Local) (f : NodeFault) → settled r r.faults ≡ Ok l → settled (record r { faults = f ∷ r.faults }) (f ∷ r.faults) ≡ Err f
+stopped_alone r l f e = ap (λ fs. settled (record r { faults = f ∷ fs }) (f ∷ fs)) (none_settled r r.faults l e)
+
+pub stopped_too : (r : Raw) (f g : NodeFault) → settled r r.faults ≡ Err g
+    → settled (record r { faults = f ∷ r.faults }) (f ∷ r.faults) ≡ Err (first_of (Some f) g)
+stopped_too r f g e =
+    fault_settled (record r { faults = f ∷ r.faults }) (f ∷ r.faults) (first_of (Some f) g)
+    (first_more (f ∷ []) r.faults g (settled_first r r.faults g e))

@@ -1,0 +1,8 @@
+use Rattle.std.proofs.Common.{◌≡◌, filter, take}
+use Rattle.avr_model.specs.Assumptions.{lists}
+use Rattle.abs_step.specs.Registers.{bits}
+use Rattle.abs_step.specs.Flow.{words_of}
+use Rattle.abs_step.proofs.jumps.listed_targets.Given as goal
+
+abbrev pub invariant-loop-at : goal.invariant-loop-at
+invariant-loop-at l = l.words.items ≡ filter (lists (words_of (bits l.state 30) (bits l.state 31))) (take l.at l.listed)

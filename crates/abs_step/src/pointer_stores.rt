@@ -1,0 +1,134 @@
+//! Stores through a pointer.
+
+ghost use Rattle.std.specs.Prelude.{◌≡◌, ◌<◌, ◌||◌, List, Some, false, filter, length, IfOk, IfErr};
+ghost use Rattle.avr_model.specs.Assumptions.{is_proved};
+ghost use Rattle.avr_model.specs.Sites.{is_fixed};
+ghost use Rattle.mask_states.specs.Keys.{offset_of};
+ghost use Rattle.abs_step.specs.declared.local.Node.{Node};
+ghost use Rattle.abs_step.specs.declared.local.NodeFault.TheVariants.{Memory};
+ghost use Rattle.abs_step.specs.Raw.{Raw};
+ghost use Rattle.abs_step.specs.Reads.{pointed};
+ghost use Rattle.abs_step.specs.Writes as writes;
+ghost use Rattle.abs_step.specs.Adding.{Adds, IsGathered, with_another, first_of};
+
+use crate::local::{NodeFault, Nodes};
+use crate::moves::add_copy;
+use crate::pointers::{point, reaches};
+use crate::stores::{Write, written_at};
+use abs_state::AbsState;
+use flash_image::Flash;
+use mask_states::NodeKey;
+use std::alloc::Global;
+use vector_table::Assumptions;
+
+// The one that counts of a fault so far and another.
+fn first(fault: Option<NodeFault>, found: NodeFault) -> NodeFault
+    ensures { result ≡ first_of fault found }
+{
+    match fault {
+        Some(fault) => fault.lesser(found),
+        None => found,
+    }
+}
+
+// The byte is stored at an address, too, where a fault was found so far or not.
+fn stored_too(
+    nodes: &mut Nodes,
+    alloc: Global,
+    write: &Write,
+    state: &AbsState,
+    address: u16,
+    fault: Option<NodeFault>,
+) -> Result<Option<NodeFault>, NodeFault>
+    requires { length state.now.slots ≡ offset_of write.now.key.sp }
+    ensures ok { IfOk result (λ next. (old : List Node) (r : Raw) → IsGathered old nodes.old fault r → IsGathered old nodes.new next (with_another r (writes.written_at write.now.pc write.now.key state.now false address write.now.value))) }
+    ensures err { IfErr result (λ e. e ≡ Memory) }
+{
+    match written_at(nodes, alloc, write, false, state, address) {
+        Ok(()) => Ok(fault),
+        Err(found) => {
+            let cause = found.cause();
+            if cause == 0 {
+                return Err(NodeFault::Memory);
+            }
+            Ok(Some(first(fault, found)))
+        }
+    }
+}
+
+// At an unfixed site: one successor in which the byte changes nothing that is known, and those of each listed address that can be met.
+fn listed_writes(
+    nodes: &mut Nodes,
+    alloc: Global,
+    write: &Write,
+    was: &AbsState,
+    r: u16,
+    up: u16,
+    state: &AbsState,
+    addresses: &[u16],
+) -> Result<(), NodeFault>
+    requires register { r < 31 }
+    requires sized { length state.now.slots ≡ offset_of write.now.key.sp }
+    ensures { Adds nodes.old nodes.new result (writes.listed_writes write.now.pc write.now.key state.now (filter (λ a. writes.reaches was.now r up a) addresses.now) write.now.value) }
+{
+    add_copy(nodes, alloc, write.key, state)?;
+    let mut fault: Option<NodeFault> = None;
+    for at in 0..addresses.len() {
+        if reaches(was, r, up, addresses[at]) {
+            fault = stored_too(nodes, alloc, write, state, addresses[at], fault)?;
+        }
+    }
+    match fault {
+        Some(fault) => Err(fault),
+        None => Ok(()),
+    }
+}
+
+// At a fixed site the address has to be known.
+fn fixed_write(
+    nodes: &mut Nodes,
+    alloc: Global,
+    address: Option<u16>,
+    write: &Write,
+    state: &AbsState,
+) -> Result<(), NodeFault>
+    requires { length state.now.slots ≡ offset_of write.now.key.sp }
+    ensures { Adds nodes.old nodes.new result (writes.fixed_write address write.now.pc write.now.key state.now write.now.value) }
+{
+    match address {
+        Some(address) => written_at(nodes, alloc, write, false, state, address),
+        None => Err(NodeFault::UnknownPointer(write.pc)),
+    }
+}
+
+// Whether the address of the store at this word has to be known.
+fn is_settled(flash: &Flash, assumptions: &Assumptions, pc: u16) -> bool
+    ensures { result ≡ (is_fixed flash.now pc || is_proved assumptions.now pc) }
+{
+    avr_decode::is_fixed(flash.words(), pc) || assumptions.proved(pc)
+}
+
+/// A byte is stored through registers `r` and `r + 1` plus a number, as they were in the state `was`.
+pub(crate) fn pointer_write(
+    nodes: &mut Nodes,
+    alloc: Global,
+    flash: &Flash,
+    assumptions: &Assumptions,
+    write: &Write,
+    was: &AbsState,
+    r: u16,
+    up: u16,
+    state: &AbsState,
+) -> Result<(), NodeFault>
+    requires register { r < 31 }
+    requires sized { length state.now.slots ≡ offset_of write.now.key.sp }
+    ensures { Adds nodes.old nodes.new result (writes.pointer_write flash.now assumptions.now was.now r up (pointed was.now r up) write.now.pc write.now.key state.now write.now.value) }
+{
+    if is_settled(flash, assumptions, write.pc) {
+        let address = point(was, r, up).constant;
+        fixed_write(nodes, alloc, address, write, state)
+    } else {
+        let addresses = assumptions.stores(write.pc);
+        listed_writes(nodes, alloc, write, was, r, up, state, addresses)
+    }
+}

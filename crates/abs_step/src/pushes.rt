@@ -1,0 +1,134 @@
+//! Bytes that are pushed and popped, and calls that make room.
+
+ghost use Rattle.std.specs.Prelude.{◌≡◌, ◌<◌, ◌≤◌, ◌+◌, ◌++◌, ◌∷◌, [], suc, length, IfOk, IfErr};
+ghost use Rattle.mask_states.specs.declared.keys.SpForm.TheVariants.{Closed};
+ghost use Rattle.mask_states.specs.Keys.{offset_of};
+ghost use Rattle.abs_step.specs.declared.local.NodeFault.TheVariants.{Memory};
+ghost use Rattle.abs_step.specs.Flow as flow;
+ghost use Rattle.abs_step.specs.Adding.{Adds};
+
+use crate::computed::{set, value};
+use crate::local::{NodeFault, Nodes};
+use crate::moves::{add, at_word, copied, next};
+use crate::reads::slot_value;
+use crate::stores::{SIZE, with_slots};
+use abs_state::{AbsByte, AbsState};
+use mask_states::{NodeKey, SpForm};
+use sp_domain::Slot;
+use std::alloc::Global;
+
+// A scratch push makes a free slot, and any other a guarded one.
+fn pushed_slot(scratch: bool, value: AbsByte) -> Slot<AbsByte>
+    ensures { result ≡ flow.pushed_slot scratch value }
+{
+    if scratch {
+        Slot::Free
+    } else {
+        Slot::Guarded(value)
+    }
+}
+
+// The state with another slot.
+fn with_slot(alloc: Global, state: &AbsState, slot: Slot<AbsByte>) -> Result<AbsState, NodeFault>
+    requires { length state.now.slots < 65535 }
+    ensures ok { IfOk result (λ s. s ≡ record state.now { slots = state.now.slots ++ slot ∷ [] }) }
+    ensures err { IfErr result (λ e. e ≡ Memory) }
+{
+    let mut after = copied(alloc, state)?;
+    match after.slots.push(slot) {
+        Ok(()) => Ok(after),
+        Err(_) => Err(NodeFault::Memory),
+    }
+}
+
+// The key with a closed stack pointer at this offset.
+fn closed_at(key: NodeKey, offset: u16) -> NodeKey
+    ensures { result ≡ record key { sp = Closed offset } }
+{
+    NodeKey {
+        sp: SpForm::Closed(offset),
+        ..key
+    }
+}
+
+/// Register `r` is pushed at this offset.
+pub(crate) fn pushing(
+    nodes: &mut Nodes,
+    alloc: Global,
+    scratch: bool,
+    key: &NodeKey,
+    state: &AbsState,
+    r: u16,
+    offset: u16,
+) -> Result<(), NodeFault>
+    requires register { r < 32 }
+    requires slots { length state.now.slots ≡ offset }
+    ensures { Adds nodes.old nodes.new result (flow.pushing scratch key.now state.now r offset) }
+{
+    if offset >= SIZE {
+        return Err(NodeFault::TooDeep(key.pc, u32::from(offset) + 1));
+    }
+    let after = with_slot(alloc, state, pushed_slot(scratch, value(state, r)))?;
+    let added = add(nodes, closed_at(next(key), offset + 1), after)?;
+    Ok(added)
+}
+
+// The byte in slot n, which is the last, is popped into register `d`.
+fn pop_from(
+    nodes: &mut Nodes,
+    alloc: Global,
+    key: &NodeKey,
+    state: &AbsState,
+    d: u16,
+    n: u16,
+) -> Result<(), NodeFault>
+    requires register { d < 32 }
+    requires slots { length state.now.slots ≡ suc n }
+    ensures { Adds nodes.old nodes.new result (flow.popping key.now state.now d (suc n)) }
+{
+    let mut after = with_slots(alloc, state, n)?;
+    after.registers = set(&state.registers, d, slot_value(state, n));
+    let added = add(nodes, closed_at(next(key), n), after)?;
+    Ok(added)
+}
+
+/// A byte is popped at this offset into register `d`.
+pub(crate) fn popping(
+    nodes: &mut Nodes,
+    alloc: Global,
+    key: &NodeKey,
+    state: &AbsState,
+    d: u16,
+    offset: u16,
+) -> Result<(), NodeFault>
+    requires register { d < 32 }
+    requires slots { length state.now.slots ≡ offset }
+    ensures { Adds nodes.old nodes.new result (flow.popping key.now state.now d offset) }
+{
+    if offset == 0 {
+        return Err(NodeFault::UntrackedSp(key.pc));
+    }
+    let added = pop_from(nodes, alloc, key, state, d, offset - 1)?;
+    Ok(added)
+}
+
+/// A call of the next word makes room for two bytes, and stays in its frame.
+pub(crate) fn making_room(
+    nodes: &mut Nodes,
+    alloc: Global,
+    key: &NodeKey,
+    state: &AbsState,
+    target: u16,
+    offset: u16,
+) -> Result<(), NodeFault>
+    requires { length state.now.slots ≡ offset }
+    ensures { Adds nodes.old nodes.new result (flow.making_room key.now state.now target offset) }
+{
+    if offset >= SIZE - 1 {
+        return Err(NodeFault::TooDeep(key.pc, u32::from(offset) + 2));
+    }
+    let one = with_slot(alloc, state, Slot::Free)?;
+    let two = with_slot(alloc, &one, Slot::Free)?;
+    let added = add(nodes, closed_at(at_word(key, target), offset + 2), two)?;
+    Ok(added)
+}
