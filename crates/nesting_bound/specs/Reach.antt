@@ -5,8 +5,11 @@ use Rattle.nesting_bound.specs.declared.graph.GraphInst.{GraphInst}
 use Rattle.nesting_bound.specs.declared.graph.Entered.{Entered}
 use Rattle.nesting_bound.specs.Graph.{Enters, Reaches}
 
+-- whether instance i is marked
 abbrev pub marked : List Bool → ℕ → Bool
 marked seen i = slice_index_or seen i false
+
+-- ---- how many are not marked yet
 
 abbrev pub one_if_new : Bool → ℕ
 one_if_new true = 0

@@ -18,8 +18,11 @@ pub record IsOver (es : List Entered) (offsets : List Place) (table : List (Opti
   pub rank_least : (m : ℕ) → ((e : Entered) (x : Found) → Contains es e → at table e.into ≡ Some x → x.rank < m) → f.rank ≤ m
   pub need_least : (m : ℕ) → ((p : Place) → Contains offsets p → p.offset ≤ m) → ((e : Entered) (x : Found) → Contains es e → at table e.into ≡ Some x → e.offset + 2 + x.need ≤ m) → f.need ≤ m
 
+-- f, raised above what it takes to enter an instance of which x is found
 abbrev pub raised : Found → Entered → Found → Found
 raised f e x = record { rank = max f.rank (x.rank + 1); need = max f.need (e.offset + 2 + x.need) }
+
+-- ---- how many are found, and how many are missing
 
 abbrev pub one_if_found : Option Found → ℕ
 one_if_found None = 0
@@ -39,12 +42,14 @@ count_missing table = sum_by one_if_missing table
 abbrev pub IsSmall : Found → ℕ → Type 0
 IsSmall x count = (x.rank < count) × (x.need ≤ 2050 * (x.rank + 1))
 
+-- x is the rank and the need of instance i, the least there can be, and all that it enters is found
 pub record IsSettled (gs : List GraphInst) (table : List (Option Found)) (i : ℕ) (x : Found) : Type 0 where
   pub entered : (e : Entered) → Enters gs i e → (y : Found) × (at table e.into ≡ Some y) × (y.rank < x.rank) × (e.offset + 2 + y.need ≤ x.need)
   pub offsets : (p : Place) → HasPlace gs i p → p.offset ≤ x.need
   pub rank_least : (rank : ℕ → ℕ) → AreRanks gs rank → x.rank ≤ rank i
   pub need_least : (need : ℕ → ℕ) → AreNeeds gs need → x.need ≤ need i
 
+-- all that is found is settled and small
 pub record IsSound (gs : List GraphInst) (table : List (Option Found)) : Type 0 where
   pub same : length table ≡ length gs
   pub settled : (i : ℕ) (x : Found) → at table i ≡ Some x → IsSettled gs table i x
@@ -68,6 +73,7 @@ pub record ArePassed (gs : List GraphInst) (old : List (Option Found)) (i : ℕ)
   pub kept : grew ≡ false → new ≡ old
   pub stuck : grew ≡ false → (j : ℕ) → j < i → at new j ≡ None → IsStuck gs new j
 
+-- the rank and the need that are found, 0 where none is
 abbrev pub rank_of : Option Found → ℕ
 rank_of None = 0
 rank_of (Some x) = x.rank
