@@ -1,16 +1,15 @@
 -- The fields of a line: what is read is spelled so, and what is spelled is read.
-use Rattle.std.proofs.Common.{ℕ, zero, suc, ◌+◌, ◌<◌, ◌≤◌, ◌^◌, ◌≡◌, ◌==◌, ◌&&◌, inl, inr, List, [], ◌∷◌, ◌++◌, length, map, codes, Bool, true, false, refl, ap, ap₂, sym, ◌∙◌, arith, Option, Some, None, cond, nat_lt, subst, lit<, append_assoc, option_map}
+use Rattle.std.proofs.Common.{ℕ, zero, suc, ◌<◌, ◌≤◌, ◌^◌, ◌≡◌, ◌==◌, List, [], ◌∷◌, ◌++◌, length, map, codes, Bool, true, false, refl, ap, ap₂, sym, ◌∙◌, arith, Option, Some, nat_lt, subst, lit<, append_assoc}
 use Rattle.std.specs.List.{AllByRecursion}
 use Rattle.std.specs.Str.{bytes_eq}
 use Rattle.std.specs.Fmt.{decimal}
-use Rattle.std.proofs.lemmas.Bool.{eqb-true}
 use Rattle.std.proofs.lemmas.Bool.Decides.{nat_tests}
 use Rattle.std.proofs.lemmas.List.{append-nil}
 use Rattle.std.proofs.lemmas.Slice.Eq.{bytes_eq-Decides}
 use Rattle.sb_base.specs.Digits.{hex_digits}
 use Rattle.line_reading.specs.Reading.{hex_at, dec_at, word_at}
 use Rattle.line_reading.specs.Words.{IsWord, WordLaws}
-use Rattle.line_reading.proofs.Steps.{chosen, some_is, none_some, bind_some, cons_is}
+use Rattle.line_reading.proofs.Steps.{some_is, none_some, bind_some, cons_is}
 use Rattle.witness_replay.specs.Spelling.{bit}
 use Rattle.cert_text.specs.LineReading.{word_by, words_from, masks_at, flag_at}
 use Rattle.cert_text.proofs.Pieces.{map_some, tested}

@@ -1,12 +1,11 @@
 -- An instance's line: what is read is spelled so, and what is spelled is read.
-use Rattle.std.proofs.Common.{ℕ, ◌+◌, ◌<◌, ◌≤◌, ◌^◌, ◌≡◌, ◌==◌, ◌&&◌, inl, inr, List, [], ◌∷◌, ◌++◌, codes, Bool, true, false, not, refl, ap, ap₂, sym, ◌∙◌, arith, Option, Some, None, cond, nat_lt, nat_le, subst, lit<, option_map}
+use Rattle.std.proofs.Common.{ℕ, ◌<◌, ◌≤◌, ◌^◌, ◌≡◌, ◌==◌, ◌&&◌, inl, inr, List, [], ◌∷◌, ◌++◌, codes, Bool, true, not, refl, ap, ap₂, ◌∙◌, arith, Some, None, cond, nat_le, subst, lit<}
 use Rattle.std.specs.List.{AllByRecursion}
 use Rattle.std.specs.Str.{bytes_eq}
 use Rattle.std.specs.Fmt.{decimal}
 use Rattle.std.proofs.lemmas.Bool.{eqb-true}
 use Rattle.std.proofs.lemmas.Bool.Decides.{nat_tests}
 use Rattle.std.proofs.lemmas.Slice.Eq.{bytes_eq-Decides}
-use Rattle.avr_model.specs.Image.{WORDS}
 use Rattle.avr_model.specs.State.{SIZE}
 use Rattle.avr_model.specs.Vectors.{vector_word}
 use Rattle.sb_base.specs.Digits.{hex_digits}
@@ -24,7 +23,7 @@ use Rattle.cert_text.specs.LineReading.{word_by, masks_at, flag_at, vector_in, k
 use Rattle.cert_text.specs.LineLaws.{InstLines}
 use Rattle.cert_text.proofs.Pieces.{map_some, tested, letter_take}
 use Rattle.cert_text.proofs.Words.{joined_word}
-use Rattle.cert_text.proofs.Fields.{word_take, word_again, hex_take, dec_take, masks_take, masks_again, flag_take, flag_again, bit_word, word_by_take}
+use Rattle.cert_text.proofs.Fields.{word_take, hex_take, dec_take, masks_take, masks_again, flag_take, flag_again, bit_word, word_by_take}
 
 abbrev pub cons : List ℕ → List (List ℕ) → List (List ℕ)
 cons w ws = w ∷ ws

@@ -1,5 +1,5 @@
 -- One line more of a list.
-use Rattle.std.proofs.Common.{ℕ, zero, suc, ◌+◌, ◌-◌, ◌<◌, ◌≤◌, ◌≡◌, List, [], ◌∷◌, ◌++◌, refl, ap, sym, ◌∙◌, arith, Option, Result, Ok, Err}
+use Rattle.std.proofs.Common.{ℕ, suc, ◌+◌, ◌-◌, ◌<◌, ◌≤◌, ◌≡◌, List, [], ◌∷◌, ◌++◌, refl, ap, sym, ◌∙◌, arith, Option, Result, Ok, Err}
 use Rattle.sb_base.specs.Lines.{Place}
 use Rattle.line_reading.specs.Reading.{then_at}
 use Rattle.mask_states.specs.Keys.{offset_of}

@@ -1,9 +1,7 @@
 -- What the three lists of a certificate keep, and that their items are then admitted.
-use Rattle.std.proofs.Common.{ℕ, zero, suc, ◌+◌, ◌-◌, ◌<◌, ◌≤◌, ◌≡◌, inl, inr, List, [], ◌∷◌, ◌++◌, length, length-append, map, Bool, true, false, refl, ap, sym, ◌∙◌, arith, Option, Some, None, cond, subst, slice_get, nat_le}
+use Rattle.std.proofs.Common.{ℕ, suc, ◌+◌, ◌-◌, ◌<◌, ◌≤◌, ◌≡◌, List, [], ◌∷◌, ◌++◌, length, length-append, Bool, true, false, refl, ap, sym, ◌∙◌, arith, Some, None, cond, subst, slice_get, nat_le}
 use Rattle.std.specs.List.{AllByRecursion}
 use Rattle.std.specs.List.Sorted.{IsStrictlySortedBy}
-use Rattle.std.specs.Cmp.{IsTotalOrder}
-use Rattle.std.proofs.lemmas.Bool.{false≢true}
 use Rattle.std.proofs.lemmas.Bool.Decides.{nat_tests}
 use Rattle.std.proofs.lemmas.List.{map-append}
 use Rattle.std.specs.Prelude.{Contains, ◌≢◌, codes}
@@ -13,7 +11,6 @@ use Rattle.indirect_targets.specs.Reading.{entry_in}
 use Rattle.cert_text.specs.LineReading.{inst_in, node_in}
 use Rattle.sb_base.specs.Lines.{words_of, spaced}
 use Rattle.line_reading.specs.Words.{IsWord, WordLaws}
-use Rattle.line_reading.proofs.Steps.{chosen}
 use Rattle.vector_table.specs.Entries.{AreEntries, is_entry, is_above_last, most_entries}
 use Rattle.indirect_targets.specs.Spelling.{entry_words}
 use Rattle.indirect_targets.specs.Exact.{EntryWords}
@@ -35,7 +32,7 @@ use Rattle.cert_text.specs.LineLaws.{InstLines, NodeLines, IsInstanceOf}
 use Rattle.cert_text.specs.Certificate.{cells_of, most_cells, most_instances, inst_keys, node_keys, Belongs}
 use Rattle.cert_text.specs.CertificateReading.{entry_by, inst_by, node_by, last_in, is_inst_above, is_node_above, refused_entry, refused_inst, refused_node}
 use Rattle.cert_text.proofs.Items.{cells_more}
-use Rattle.cert_text.proofs.Lists.{Admitted, Steady, Spells, Reads, admitted_all, kept_by, admitted_by, is_after, sorted_push, sorted_at}
+use Rattle.cert_text.proofs.Lists.{Admitted, Steady, Spells, Reads, kept_by, admitted_by, is_after, sorted_push, sorted_at}
 use Rattle.cert_text.proofs.Places.{place_unique, contains_at, has_place}
 use Rattle.std.proofs.lemmas.Option.{slice_get_within}
 

@@ -1,5 +1,5 @@
 -- Lists of items: what is read is spelled so, and what is spelled is read.
-use Rattle.std.proofs.Common.{ℕ, zero, suc, ◌+◌, ◌-◌, ◌<◌, ◌≤◌, ◌≡◌, inl, inr, List, [], ◌∷◌, ◌++◌, length, map, Bool, true, false, refl, ap, ap₂, sym, ◌∙◌, arith, Option, Some, None, Result, Ok, Err, cond, subst, append_assoc, slice_get}
+use Rattle.std.proofs.Common.{ℕ, zero, suc, ◌≡◌, List, [], ◌∷◌, ◌++◌, length, map, Bool, true, refl, ap, ap₂, sym, ◌∙◌, arith, Option, Some, None, Result, Ok, Err, subst, append_assoc}
 use Rattle.std.specs.Prelude.{⊤}
 use Rattle.std.specs.List.{AllByRecursion}
 use Rattle.std.specs.List.Sorted.{IsStrictlySortedBy}
@@ -7,12 +7,11 @@ use Rattle.std.specs.Cmp.{IsTotalOrder}
 use Rattle.std.specs.Ordering.{is_lt}
 use Rattle.std.specs.declared.cmp.Ordering.{Ordering}
 use Rattle.std.specs.declared.cmp.Ordering.TheVariants.{Less, Equal, Greater}
-use Rattle.std.proofs.lemmas.Bool.{false≢true}
 use Rattle.std.proofs.lemmas.List.{append-nil}
 use Rattle.sb_base.specs.Lines.{TextLine, Place, spaced}
 use Rattle.line_reading.specs.Reading.{then_at, line_by}
 use Rattle.line_reading.specs.Words.{whole, Passes}
-use Rattle.line_reading.proofs.Steps.{chosen, TakesLine, line_takes, line_again, passes_none, passes_more, passes_split, passes_end}
+use Rattle.line_reading.proofs.Steps.{TakesLine, line_takes, line_again, passes_none, passes_more, passes_split, passes_end}
 use Rattle.cert_text.specs.declared.fault.CertFault.{CertFault}
 use Rattle.cert_text.specs.CertificateReading.{formed, unless, with_item, longer_at, items_from}
 

@@ -1,29 +1,25 @@
 -- A node's line: what is read is spelled so, and what is spelled is read.
-use Rattle.std.proofs.Common.{ℕ, zero, suc, ◌+◌, ◌<◌, ◌≤◌, ◌^◌, ◌≡◌, ◌==◌, ◌&&◌, inl, inr, List, [], ◌∷◌, ◌++◌, length, map, codes, get_or, Bool, true, false, refl, ap, ap₂, sym, ◌∙◌, arith, Option, Some, None, cond, nat_lt, subst, lit<, append_assoc, option_map}
+use Rattle.std.proofs.Common.{ℕ, zero, suc, ◌<◌, ◌≤◌, ◌^◌, ◌≡◌, List, [], ◌∷◌, ◌++◌, length, map, codes, get_or, Bool, true, refl, ap, ap₂, sym, ◌∙◌, arith, Some, nat_lt, subst, lit<, append_assoc}
 use Rattle.std.specs.List.{AllByRecursion, slice_get}
 use Rattle.std.specs.Fmt.{decimal}
-use Rattle.std.proofs.lemmas.Bool.{false≢true}
 use Rattle.std.proofs.lemmas.Bool.Decides.{nat_tests}
 use Rattle.std.proofs.lemmas.List.{append-nil}
 use Rattle.std.proofs.lemmas.List.Elements.{All-from_recursion, recursion_from_All}
 use Rattle.avr_model.specs.Image.{WORDS}
 use Rattle.avr_model.specs.State.{SIZE}
 use Rattle.sb_base.specs.Digits.{hex_digits}
-use Rattle.line_reading.specs.Reading.{hex_at, dec_at, word_at, is_over}
+use Rattle.line_reading.specs.Reading.{hex_at, dec_at, word_at}
 use Rattle.line_reading.specs.Words.{IsWord, WordLaws}
-use Rattle.line_reading.proofs.Steps.{some_is, none_some, bind_some, no_words}
+use Rattle.line_reading.proofs.Steps.{some_is, bind_some}
 use Rattle.witness_replay.specs.Spelling.{bit}
-use Rattle.bit_domain.specs.declared.bytes.TriByte.{TriByte}
-use Rattle.sp_domain.specs.declared.tags.Tag.{Tag}
-use Rattle.sp_domain.specs.declared.tags.Tag.TheVariants as tag
 use Rattle.sp_domain.specs.declared.slots.Slot.{Slot}
 use Rattle.sp_domain.specs.declared.slots.Slot.TheVariants.{Free, Guarded}
 use Rattle.sp_domain.specs.Slots.{slot_at}
 use Rattle.abs_state.specs.declared.values.AbsByte.{AbsByte}
 use Rattle.abs_state.specs.declared.values.AbsFlags.{AbsFlags}
 use Rattle.abs_state.specs.declared.state.AbsState.{AbsState}
-use Rattle.abs_state.specs.Values.{value_at, unknown}
-use Rattle.abs_state.specs.Formed.{NamesRegister, SlotNamesRegister, SlotIsUntagged, IsFormed, IsUntagged}
+use Rattle.abs_state.specs.Values.{unknown}
+use Rattle.abs_state.specs.Formed.{SlotNamesRegister, SlotIsUntagged, IsFormed, IsUntagged}
 use Rattle.mask_states.specs.declared.keys.Kind.{Kind}
 use Rattle.mask_states.specs.declared.keys.Kind.TheVariants.{Root, Call, Vector}
 use Rattle.mask_states.specs.declared.keys.InstKey.{InstKey}
@@ -34,7 +30,7 @@ use Rattle.mask_states.specs.declared.keys.SpForm.{SpForm}
 use Rattle.mask_states.specs.declared.keys.SpForm.TheVariants.{Closed, Open}
 use Rattle.mask_states.specs.Keys.{offset_of}
 use Rattle.abs_step.specs.declared.local.Node.{Node}
-use Rattle.abs_step.specs.Cover.{FormFitsKind, TagFits, SlotFits, TagsFit, IsNode}
+use Rattle.abs_step.specs.Cover.{FormFitsKind, SlotFits, TagsFit, IsNode}
 use Rattle.cert_text.specs.declared.instance.Inst.{Inst}
 use Rattle.cert_text.specs.Spelling.{value_word, flags_word, carry_word, slot_word, form_word}
 use Rattle.cert_text.specs.Reading.{value_in, slot_in, flags_in, carry_in, form_in}
@@ -44,7 +40,7 @@ use Rattle.cert_text.specs.Lines.{state_words, node_words_at}
 use Rattle.cert_text.specs.LineReading.{word_by, words_from, masks_at, flag_at, is_root, place_at, node_key_at, flags_at, state_at, whole_key_at, node_in}
 use Rattle.cert_text.specs.LineLaws.{IsInstanceOf, IsNodeLine, NodeLines}
 use Rattle.cert_text.proofs.Pieces.{map_some, tested}
-use Rattle.cert_text.proofs.Fields.{word_take, word_again, hex_take, dec_take, masks_take, masks_again, flag_take, flag_again, bit_word, word_by_take, ReadWords, words_take, words_again, words_plain, joined_words}
+use Rattle.cert_text.proofs.Fields.{word_take, hex_take, dec_take, masks_take, masks_again, flag_take, flag_again, bit_word, word_by_take, words_take, words_again, words_plain, joined_words}
 use Rattle.cert_text.proofs.InstLine.{cons, over_end}
 
 -- ---- what a state has, by its lists

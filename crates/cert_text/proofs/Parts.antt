@@ -1,5 +1,5 @@
 -- The parts of a certificate: what is read is spelled so, and what is spelled is read.
-use Rattle.std.proofs.Common.{ℕ, ◌+◌, ◌<◌, ◌≤◌, ◌^◌, ◌≡◌, ◌==◌, ◌&&◌, inl, inr, List, [], ◌∷◌, ◌++◌, length, map, codes, Bool, true, false, not, refl, ap, ap₂, sym, ◌∙◌, arith, Option, Some, None, Result, Ok, Err, cond, subst, lit<, append_assoc}
+use Rattle.std.proofs.Common.{ℕ, ◌+◌, ◌<◌, ◌≤◌, ◌^◌, ◌≡◌, ◌==◌, ◌&&◌, inl, inr, List, [], ◌∷◌, ◌++◌, length, map, codes, Bool, true, false, not, refl, ap, sym, ◌∙◌, arith, Option, Some, None, Result, Ok, Err, subst, lit<, append_assoc}
 use Rattle.std.specs.Prelude.{IfSome}
 use Rattle.std.specs.List.{AllByRecursion, flat_map}
 use Rattle.std.specs.Fmt.{decimal}
@@ -11,9 +11,9 @@ use Rattle.sb_base.specs.Digits.{dec_answer}
 use Rattle.sb_base.specs.declared.digits.DigitFault.{DigitFault}
 use Rattle.sb_base.specs.declared.digits.DigitFault.TheVariants.{WrongLength, BadDigit, TooGreat}
 use Rattle.sb_base.specs.Lines.{TextLine, Place, Lacks, lines_of, words_of, spaced, line}
-use Rattle.line_reading.specs.Reading.{dec_at, word_at, is_over, number_and, then_at, this_by, line_by}
+use Rattle.line_reading.specs.Reading.{dec_at, word_at, is_over, number_and, this_by, line_by}
 use Rattle.line_reading.specs.Words.{IsWord, whole, sizes, Passes, WordLaws}
-use Rattle.line_reading.proofs.Steps.{chosen, some_is, none_some, bind_some, both, no_words, line_takes, line_again, passes_none, passes_more, passes_split, sizes_append}
+use Rattle.line_reading.proofs.Steps.{chosen, some_is, none_some, bind_some, both, no_words, line_takes, line_again, passes_more, passes_split, sizes_append}
 use Rattle.witness_replay.specs.Spelling.{Plan, IsSchedule, schedule_lines, text_of as schedule_text}
 use Rattle.witness_replay.specs.Reading.{schedule_at}
 use Rattle.witness_replay.specs.Exact.{TextIsReading, ReadIsSpelled as ScheduleIsSpelled, SpelledIsRead as ScheduleIsRead}

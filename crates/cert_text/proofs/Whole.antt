@@ -1,6 +1,6 @@
 -- A certificate: what is read is spelled so, and what is spelled is read.
-use Rattle.std.proofs.Common.{ℕ, ◌+◌, ◌<◌, ◌≤◌, ◌≡◌, ◌≢◌, List, [], ◌∷◌, ◌++◌, length, map, codes, refl, ap, sym, ◌∙◌, arith, Option, None, Result, Ok, Err, subst, append-nil, append_assoc, lit<}
-use Rattle.std.specs.Prelude.{IfOk, IfSome}
+use Rattle.std.proofs.Common.{ℕ, ◌+◌, ◌≤◌, ◌≡◌, List, [], ◌∷◌, ◌++◌, length, map, codes, refl, ap, sym, ◌∙◌, arith, Option, None, Result, Ok, Err, subst, append-nil, append_assoc, lit<}
+use Rattle.std.specs.Prelude.{IfOk}
 use Rattle.std.specs.List.{AllByRecursion, flat_map}
 use Rattle.std.specs.List.Sorted.{IsStrictlySortedBy}
 use Rattle.std.proofs.lemmas.Grind.{flat_map-append}
@@ -9,7 +9,7 @@ use Rattle.avr_model.specs.declared.assumption.Entry.{Entry}
 use Rattle.avr_model.specs.State.{SIZE}
 use Rattle.sb_base.specs.Answers.{Answers}
 use Rattle.sb_base.specs.Lines.{Place, line, joined}
-use Rattle.line_reading.specs.Words.{IsWord, whole, WordLaws}
+use Rattle.line_reading.specs.Words.{IsWord, WordLaws}
 use Rattle.vector_table.specs.Entries.{AreEntries, most_entries}
 use Rattle.indirect_targets.specs.Spelling.{entry_words}
 use Rattle.indirect_targets.specs.Exact.{EntryWords}
@@ -18,7 +18,7 @@ use Rattle.mask_states.specs.Order.{inst_cmp}
 use Rattle.mask_states.specs.Laws.{KeysAreOrdered}
 use Rattle.abs_step.specs.declared.local.Node.{Node}
 use Rattle.abs_step.specs.Cover.{IsNode}
-use Rattle.witness_replay.specs.Spelling.{Plan, IsSchedule}
+use Rattle.witness_replay.specs.Spelling.{Plan}
 use Rattle.witness_replay.specs.Exact.{TextIsReading, ReadIsSpelled as ScheduleIsSpelled, SpelledIsRead as ScheduleIsRead}
 use Rattle.cert_text.specs.declared.instance.Inst.{Inst}
 use Rattle.cert_text.specs.declared.fault.CertFault.{CertFault}

@@ -1,6 +1,6 @@
 -- The words of values, slots, flags, carry tags and forms: what is read is spelled so, and what is spelled is read.
-use Rattle.std.proofs.Common.{ℕ, zero, suc, ◌+◌, ◌-◌, ◌%◌, ◌<◌, ◌≤◌, ◌^◌, ◌≡◌, ◌==◌, ◌&&◌, inl, inr, List, [], ◌∷◌, ◌++◌, length, take, drop, codes, Bool, true, false, refl, ap, ap₂, sym, ◌∙◌, arith, Option, Some, None, cond, nat_lt, subst, append_assoc, length-append, option_map}
-use Rattle.std.proofs.lemmas.Bool.{eqb-true, eq-eqb, false≢true}
+use Rattle.std.proofs.Common.{ℕ, ◌-◌, ◌%◌, ◌<◌, ◌≤◌, ◌≡◌, ◌==◌, ◌&&◌, inl, inr, List, [], ◌∷◌, ◌++◌, length, take, drop, codes, Bool, true, false, refl, ap, ap₂, sym, ◌∙◌, arith, Some, cond, nat_lt, subst, length-append}
+use Rattle.std.proofs.lemmas.Bool.{eqb-true, false≢true}
 use Rattle.std.proofs.lemmas.Bool.Decides.{nat_tests}
 use Rattle.std.proofs.lemmas.List.{take-append-drop, append-nil}
 use Rattle.std.proofs.lemmas.Slice.Eq.{bytes_eq-Decides}
@@ -13,7 +13,6 @@ use Rattle.sb_base.specs.Digits.{hex_digits}
 use Rattle.sb_base.specs.Lines.{Lacks}
 use Rattle.line_reading.specs.Words.{WordLaws, IsWord}
 use Rattle.line_reading.proofs.Steps.{chosen, some_is, none_some, bind_some, both}
-use Rattle.bit_domain.specs.declared.bits.Tri.{Tri}
 use Rattle.bit_domain.specs.declared.bits.Tri.TheVariants.{Zero, One, Any}
 use Rattle.bit_domain.specs.declared.bytes.TriByte.{TriByte}
 use Rattle.bit_domain.specs.TriByte.{tri_of, tri_at}
@@ -34,8 +33,8 @@ use Rattle.abs_step.specs.Cover.{TagFits}
 use Rattle.cert_text.specs.Spelling.{bits_text, tag_text, value_word, entry_text, flags_word, carry_word, slot_word, high_text, form_word}
 use Rattle.cert_text.specs.Reading.{letter_at, digits_at, is_end, bits_at, register_at, tag_by, tag_at, value_in, slot_in, entry_by, flags_in, borrow_in, carry_in, offset_in, marked_in, high_in, high_size, open_in, form_in}
 use Rattle.cert_text.specs.Fits.{IsTag, AreFlags, IsCarry, IsSlot, IsHigh, IsForm}
-use Rattle.cert_text.specs.Laws.{WordsAreSpelled, WordsAreRead, WordsAreWords, ValueWords}
-use Rattle.cert_text.proofs.Pieces.{map_some, same_number, end_is, letter_take, tested, length_hex, digits_take, digits_again, bits_take, bits_again, register_take, register_again, offset_take, offset_again, marked_take, marked_again}
+use Rattle.cert_text.specs.Laws.{ValueWords}
+use Rattle.cert_text.proofs.Pieces.{map_some, end_is, letter_take, tested, length_hex, digits_take, digits_again, bits_take, bits_again, register_take, register_again, offset_take, offset_again, marked_take, marked_again}
 
 abbrev front : ℕ → List ℕ → List ℕ
 front x xs = x ∷ xs

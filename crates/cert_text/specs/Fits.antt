@@ -1,5 +1,5 @@
 -- Which values, flags, slots and forms a node may have, in the root's frame or in another.
-use Rattle.std.specs.Prelude.{ℕ, ◌≡◌, ◌<◌, ◌≤◌, ⊤, Bool, true, false}
+use Rattle.std.specs.Prelude.{◌≡◌, ◌<◌, ◌≤◌, ⊤, Bool, true, false}
 use Rattle.avr_model.specs.State.{SIZE}
 use Rattle.bit_domain.specs.declared.bits.Tri.TheVariants.{Any}
 use Rattle.bit_domain.specs.declared.bytes.TriByte.{TriByte}

@@ -1,4 +1,4 @@
-use Rattle.std.proofs.Common.{arith, sym, take, length, ap, ◌≡◌, ◌∙◌}
+use Rattle.std.proofs.Common.{arith, sym, take, ◌≡◌, ◌∙◌}
 use Rattle.std.proofs.lemmas.List.{take_more_set, length-set}
 use Rattle.cert_text.specs.Reading.{value_in}
 use Rattle.cert_text.proofs.Loops.{word_more, no_word, words_end, all_taken}

@@ -1,4 +1,4 @@
-use Rattle.std.proofs.Common.{arith, ◌∙◌}
+use Rattle.std.proofs.Common.{arith}
 use Rattle.cert_text.specs.CertificateReading.{entry_by, refused_entry}
 use Rattle.cert_text.proofs.Items.{item_more, item_fault, items_end}
 use Rattle.cert_text.proofs.reading.read_each_entry.Goals as goal

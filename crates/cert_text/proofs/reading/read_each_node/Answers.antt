@@ -1,6 +1,6 @@
-use Rattle.std.proofs.Common.{arith, ◌≡◌, ◌-◌, ℕ, ap, sym, ◌∙◌}
+use Rattle.std.proofs.Common.{arith, ap, sym, ◌∙◌}
 use Rattle.cert_text.specs.Certificate.{cells_of}
-use Rattle.cert_text.specs.CertificateReading.{node_by, refused_node, items_from}
+use Rattle.cert_text.specs.CertificateReading.{node_by, refused_node}
 use Rattle.cert_text.proofs.Items.{item_more, item_fault, items_end, items_begin, no_cells}
 use Rattle.cert_text.proofs.reading.read_each_node.Goals as goal
 
