@@ -2,11 +2,11 @@
 use Rattle.std.proofs.Common.{◌≡◌, refl, sym, ap, ◌∙◌, ℕ, zero, suc, ◌+◌, ◌<◌, List, [], ◌∷◌, ◌++◌, length, map, take, slice_index_or, Option, None, arith}
 use Rattle.abs_state.specs.declared.state.AbsState.{AbsState}
 use Rattle.mask_states.specs.declared.keys.NodeKey.{NodeKey}
-use Rattle.abs_step.specs.declared.local.Node.{Node}
-use Rattle.abs_step.specs.declared.local.CallSite.{CallSite}
-use Rattle.abs_step.specs.declared.local.Exit.{Exit}
-use Rattle.abs_step.specs.Raw.{Raw, one, moves_to}
-use Rattle.abs_step.specs.Local.{placed, joined_onto}
+use Rattle.local_rules.specs.declared.local.Node.{Node}
+use Rattle.local_rules.specs.declared.local.CallSite.{CallSite}
+use Rattle.local_rules.specs.declared.local.Exit.{Exit}
+use Rattle.local_rules.specs.Raw.{Raw, one, moves_to}
+use Rattle.local_rules.specs.Local.{placed, joined_onto}
 use Rattle.abs_step.specs.Adding.{IsAdded, IsLed}
 
 pub one_added : (old new : List Node) (k : NodeKey) (s : AbsState) → new ≡ placed (record { key = k; state = s }) old → IsAdded old new (one k s)

@@ -4,12 +4,12 @@ use Rattle.std.proofs.lemmas.Bool.Decides.{nat_tests}
 use Rattle.std.proofs.lemmas.List.{append-nil, append_assoc}
 use Rattle.abs_state.specs.declared.state.AbsState.{AbsState}
 use Rattle.mask_states.specs.declared.keys.NodeKey.{NodeKey}
-use Rattle.abs_step.specs.declared.local.Node.{Node}
-use Rattle.abs_step.specs.declared.local.NodeFault.{NodeFault}
-use Rattle.abs_step.specs.declared.local.NodeFault.TheVariants.{Memory}
-use Rattle.abs_step.specs.Faults.{cause_of, is_less, least}
-use Rattle.abs_step.specs.Raw.{Raw, one, all_of}
-use Rattle.abs_step.specs.Local.{placed, joined_onto}
+use Rattle.local_rules.specs.declared.local.Node.{Node}
+use Rattle.local_rules.specs.declared.local.NodeFault.{NodeFault}
+use Rattle.local_rules.specs.declared.local.NodeFault.TheVariants.{Memory}
+use Rattle.local_rules.specs.Faults.{cause_of, is_less, least}
+use Rattle.local_rules.specs.Raw.{Raw, one, all_of}
+use Rattle.local_rules.specs.Local.{placed, joined_onto}
 use Rattle.abs_step.specs.Adding.{first_fault, first_of, with_another, IsAdded, IsGathered}
 
 abbrev lesser : NodeFault → NodeFault → NodeFault

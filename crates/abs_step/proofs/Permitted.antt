@@ -17,8 +17,8 @@ use Rattle.bit_domain.specs.Tri.{Permits}
 use Rattle.bit_domain.specs.TriByte.{tri_at, Has, byte_with}
 use Rattle.bit_domain.specs.Numbers.{IsPermitted}
 use Rattle.bit_domain.proofs.AllLaws.{bytes_are_their_bits, numbers_are_permitted}
-use Rattle.abs_step.specs.Writes.{permits, has}
-use Rattle.abs_step.specs.Flow.{words_of}
+use Rattle.local_rules.specs.Writes.{permits, has}
+use Rattle.local_rules.specs.Flow.{words_of}
 
 -- tests that are met by the same facts are the same
 same_test : (a b : Bool) → (a ≡ true → b ≡ true) → (b ≡ true → a ≡ true) → a ≡ b

@@ -1,11 +1,11 @@
 -- The one answer for a node.
 use Rattle.std.proofs.Common.{◌≡◌, refl, sym, ap, ◌∙◌, List, [], ◌∷◌, Some, Ok, Err}
-use Rattle.abs_step.specs.declared.local.Local.{Local}
-use Rattle.abs_step.specs.declared.local.Node.{Node}
-use Rattle.abs_step.specs.declared.local.NodeFault.{NodeFault}
+use Rattle.local_rules.specs.declared.local.Local.{Local}
+use Rattle.local_rules.specs.declared.local.Node.{Node}
+use Rattle.local_rules.specs.declared.local.NodeFault.{NodeFault}
 use Rattle.abs_step.specs.declared.transfers.Outside.{Outside}
-use Rattle.abs_step.specs.Raw.{Raw}
-use Rattle.abs_step.specs.Local.{settled}
+use Rattle.local_rules.specs.Raw.{Raw}
+use Rattle.local_rules.specs.Local.{settled}
 use Rattle.abs_step.specs.Adding.{first_fault, first_of, IsLed}
 use Rattle.abs_step.proofs.Gathered.{first_more}
 

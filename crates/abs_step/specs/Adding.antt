@@ -2,14 +2,14 @@
 use Rattle.std.specs.Prelude.{ℕ, ◌≡◌, ◌≢◌, List, [], ◌∷◌, ◌++◌, if◌then◌else◌, Option, Some, None, Result, Ok, Err}
 use Rattle.std.specs.Global.{Vec}
 use Rattle.sb_base.specs.Answers.{Answers}
-use Rattle.abs_step.specs.declared.local.Local.{Local}
-use Rattle.abs_step.specs.declared.local.Node.{Node}
-use Rattle.abs_step.specs.declared.local.NodeFault.{NodeFault}
-use Rattle.abs_step.specs.declared.local.NodeFault.TheVariants.{UnresolvedJump, Memory}
+use Rattle.local_rules.specs.declared.local.Local.{Local}
+use Rattle.local_rules.specs.declared.local.Node.{Node}
+use Rattle.local_rules.specs.declared.local.NodeFault.{NodeFault}
+use Rattle.local_rules.specs.declared.local.NodeFault.TheVariants.{UnresolvedJump, Memory}
 use Rattle.abs_step.specs.declared.transfers.Outside.{Outside}
-use Rattle.abs_step.specs.Faults.{is_less, least}
-use Rattle.abs_step.specs.Raw.{Raw, moves_to}
-use Rattle.abs_step.specs.Local.{joined_onto, settled}
+use Rattle.local_rules.specs.Faults.{is_less, least}
+use Rattle.local_rules.specs.Raw.{Raw, moves_to}
+use Rattle.local_rules.specs.Local.{joined_onto, settled}
 
 -- the fault that counts, if there is one
 abbrev pub first_fault : List NodeFault → Option NodeFault

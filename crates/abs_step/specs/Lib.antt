@@ -1,14 +1,1 @@
-pub mod Faults
-pub mod Raw
-pub mod Registers
-pub mod Reads
-pub mod Writes
-pub mod Flow
-pub mod Local
-pub mod Placing
 pub mod Adding
-pub mod Machine
-pub mod Cover
-pub mod Order
-pub mod Laws
-pub mod Examples

@@ -3,14 +3,15 @@
 
 ghost use Rattle.std.specs.Prelude.{◌≡◌, ◌+◌, ◌%◌, ◌<◌, ℕ};
 ghost use Rattle.std.specs.Int.{bit_at};
-ghost use Rattle.abs_step.specs.Registers.{sum_after, compare_after, difference_after, sub_after, sbc_after, logic_after, step_after, shift_after, com_after, low_tag, borrow_tag, high_tag, or_nothing, kept_tag, carry_bit, swapped, unary_after};
+ghost use Rattle.local_rules.specs.Registers.{sum_after, compare_after, difference_after, sub_after, sbc_after, logic_after, step_after, shift_after, com_after, low_tag, borrow_tag, high_tag, or_nothing, kept_tag, carry_bit, swapped, unary_after};
 
-use crate::computed::{Computed, bits, but_carry, set, value, with_bits, with_carry};
+use crate::computed::{bits, but_carry, set, value, with_bits, with_carry};
 use crate::flags::CARRY;
 use abs_state::{AbsByte, AbsState};
 use avr_model::instruction::UnaryOp;
 use avr_model::operation::{Logic, Shift};
 use bit_domain::{Tri, TriByte};
+use local_rules::Computed;
 use sp_domain::{CarryTag, Tag, sub_high, sub_low};
 
 /// What is known of the carry flag.

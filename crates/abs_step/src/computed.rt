@@ -2,21 +2,12 @@
 
 ghost use Rattle.std.specs.Prelude.{◌≡◌, ◌+◌, ◌<◌, slice_set};
 ghost use Rattle.abs_state.specs.Values.{value_at};
-ghost use Rattle.abs_step.specs.Registers as registers;
-ghost use Rattle.abs_step.specs.Registers.{set_pair, register_set, with_bits, with_carry, but_carry};
+ghost use Rattle.local_rules.specs.Registers as registers;
+ghost use Rattle.local_rules.specs.Registers.{set_pair, register_set, with_bits, with_carry, but_carry};
 
 use abs_state::{AbsByte, AbsFlags, AbsState};
 use bit_domain::TriByte;
 use sp_domain::{CarryTag, Tag};
-
-/// What an instruction leaves that sets registers and flags alone.
-#[derive(Clone, Copy, PartialEq, Eq, Debug)]
-pub struct Computed {
-    /// Registers 0 to 31.
-    pub registers: [AbsByte; 32],
-    /// The status register.
-    pub flags: AbsFlags,
-}
 
 // The value of register r.
 fn value_at(registers: &[AbsByte; 32], r: u16) -> AbsByte

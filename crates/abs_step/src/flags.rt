@@ -1,15 +1,16 @@
 //! The flags one by one, and the status register as a byte.
 
 ghost use Rattle.std.specs.Prelude.{◌≡◌, ◌<◌};
-ghost use Rattle.abs_step.specs.Registers as registers;
-ghost use Rattle.abs_step.specs.Registers.{tri_of_bool, carry_tag_at, flag_after, flag_unless_i, bit_loaded, bit_stored};
-ghost use Rattle.abs_step.specs.Reads.{flags_tag, sreg_value};
-ghost use Rattle.abs_step.specs.Writes.{flags_written, is_entry_flags};
-ghost use Rattle.abs_step.specs.Flow.{flag_at};
+ghost use Rattle.local_rules.specs.Registers as registers;
+ghost use Rattle.local_rules.specs.Registers.{tri_of_bool, carry_tag_at, flag_after, flag_unless_i, bit_loaded, bit_stored};
+ghost use Rattle.local_rules.specs.Reads.{flags_tag, sreg_value};
+ghost use Rattle.local_rules.specs.Writes.{flags_written, is_entry_flags};
+ghost use Rattle.local_rules.specs.Flow.{flag_at};
 
-use crate::computed::{Computed, bits, but_carry, register_set, with_bits, with_carry};
+use crate::computed::{bits, but_carry, register_set, with_bits, with_carry};
 use abs_state::{AbsByte, AbsFlags, AbsState};
 use bit_domain::Tri;
+use local_rules::Computed;
 use mask_states::NodeKey;
 use sp_domain::{CarryTag, Tag};
 

@@ -6,10 +6,10 @@ ghost use Rattle.avr_model.specs.Effects as effects;
 ghost use Rattle.avr_model.specs.Assumptions.{lists};
 ghost use Rattle.bit_domain.specs.TriByte.{tri_at};
 ghost use Rattle.bit_domain.specs.Logic.{byte_equal};
-ghost use Rattle.abs_step.specs.Registers as registers;
-ghost use Rattle.abs_step.specs.Raw as raw;
-ghost use Rattle.abs_step.specs.Reads as reads;
-ghost use Rattle.abs_step.specs.Flow.{words_of};
+ghost use Rattle.local_rules.specs.Registers as registers;
+ghost use Rattle.local_rules.specs.Raw as raw;
+ghost use Rattle.local_rules.specs.Reads as reads;
+ghost use Rattle.local_rules.specs.Flow.{words_of};
 
 use crate::computed::bits;
 use crate::reads::read_at;

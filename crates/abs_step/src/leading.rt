@@ -2,17 +2,16 @@
 
 ghost use Rattle.std.specs.Prelude.{◌≡◌, ◌<◌, length, slice_set, true};
 ghost use Rattle.mask_states.specs.Keys.{offset_of};
-ghost use Rattle.abs_step.specs.Registers as registers;
-ghost use Rattle.abs_step.specs.Raw as raw;
-ghost use Rattle.abs_step.specs.Reads as reads;
-ghost use Rattle.abs_step.specs.Local as rows;
+ghost use Rattle.local_rules.specs.Registers as registers;
+ghost use Rattle.local_rules.specs.Raw as raw;
+ghost use Rattle.local_rules.specs.Reads as reads;
+ghost use Rattle.local_rules.specs.Local as rows;
 ghost use Rattle.abs_step.specs.Adding.{Adds, Leads};
 
 use crate::computed::set;
 use crate::flags::flag_at;
 use crate::flow::{are_equal, far, further, near, port, port_bit, register_bit};
 use crate::jumps::{jumping, skipping};
-use crate::local::{NodeFault, Nodes};
 use crate::moves::{at_word, branch, going_on, going_to, next, setting};
 use crate::pointers::{base_register, flash_value, pair_constant, point, read_pointed};
 use crate::reads::read_at;
@@ -26,6 +25,7 @@ use crate::words::{Z, pair_moved};
 use abs_state::AbsState;
 use avr_model::instruction::Instr;
 use flash_image::Flash;
+use local_rules::local::{NodeFault, Nodes};
 use mask_states::NodeKey;
 use std::alloc::Global;
 use vector_table::Assumptions;

@@ -3,13 +3,10 @@
 
 mod arithmetic;
 mod computed;
-mod faults;
 mod flags;
 mod flow;
 mod jumps;
-pub mod laws;
 mod leading;
-pub mod local;
 mod moves;
 pub mod part;
 mod pointer_stores;
@@ -23,8 +20,8 @@ mod table;
 mod transfers;
 mod words;
 
-pub use local::{CallSite, CallSites, Exit, Local, Node, NodeFault, Nodes};
-pub use part::local_part;
+pub use local_rules::{CallSite, CallSites, Exit, Local, Node, NodeFault, Nodes};
+pub use part::local;
 
 #[cfg(test)]
 mod tests;

@@ -4,16 +4,16 @@ ghost use Rattle.std.specs.Prelude.{◌≡◌, ◌<◌, ◌+◌, ◌∷◌, [], 
 ghost use Rattle.std.specs.List.{All};
 ghost use Rattle.abs_state.specs.declared.values.AbsByte.{AbsByte as Byte};
 ghost use Rattle.mask_states.specs.Keys.{offset_of};
-ghost use Rattle.abs_step.specs.declared.local.NodeFault.TheVariants.{Memory};
-ghost use Rattle.abs_step.specs.Raw as raw;
-ghost use Rattle.abs_step.specs.Raw.{one, moves_to};
-ghost use Rattle.abs_step.specs.Flow as flow;
+ghost use Rattle.local_rules.specs.declared.local.NodeFault.TheVariants.{Memory};
+ghost use Rattle.local_rules.specs.Raw as raw;
+ghost use Rattle.local_rules.specs.Raw.{one, moves_to};
+ghost use Rattle.local_rules.specs.Flow as flow;
 ghost use Rattle.abs_step.specs.Adding.{Adds};
 
 use crate::flow::further;
-use crate::local::{Node, NodeFault, Nodes};
 use abs_state::{AbsByte, AbsFlags, AbsState};
 use bit_domain::Tri;
+use local_rules::local::{Node, NodeFault, Nodes};
 use mask_states::NodeKey;
 use std::alloc::Global;
 

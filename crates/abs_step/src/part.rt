@@ -4,17 +4,17 @@ ghost use Rattle.std.specs.Prelude.{◌≡◌, ◌<◌, length, Err, true};
 ghost use Rattle.avr_model.specs.Sites.{instruction_at, is_scratch};
 ghost use Rattle.sb_base.specs.Answers.{Answers};
 ghost use Rattle.mask_states.specs.Keys.{offset_of};
-ghost use Rattle.abs_step.specs.declared.local.NodeFault.TheVariants.{Memory};
-ghost use Rattle.abs_step.specs.Raw.{Raw, untracked_if};
-ghost use Rattle.abs_step.specs.Local as rows;
+ghost use Rattle.local_rules.specs.declared.local.NodeFault.TheVariants.{Memory};
+ghost use Rattle.local_rules.specs.Raw.{Raw, untracked_if};
+ghost use Rattle.local_rules.specs.Local as rows;
 ghost use Rattle.abs_step.specs.Adding.{Settles};
 
 use crate::leading::row;
-use crate::local::{Local, NodeFault, Nodes};
 use crate::stack_pointer::is_hung;
 use abs_state::AbsState;
 use avr_model::instruction::Instr;
 use flash_image::Flash;
+use local_rules::local::{Local, NodeFault, Nodes};
 use mask_states::NodeKey;
 use std::alloc::Global;
 use vector_table::Assumptions;
@@ -89,8 +89,8 @@ fn stopped(found: &Result<Local, NodeFault>, pc: u16) -> NodeFault
 
 /// Where a node leads in its own frame: the successors in its instance, joined where they have one key, its calls and its
 /// return, or the one of its faults that counts. `Memory` is no fault of the node.
-#[tactic(auto, unfolding(crate::specs::Local::local, crate::specs::Local::raw))]
-pub fn local_part(
+#[tactic(auto, unfolding(local_rules::specs::Local::local, local_rules::specs::Local::raw))]
+pub fn local(
     alloc: Global,
     flash: &Flash,
     assumptions: &Assumptions,

@@ -4,19 +4,19 @@ ghost use Rattle.std.specs.Prelude.{◌≡◌, ◌<◌, ◌||◌, List, Some, fa
 ghost use Rattle.avr_model.specs.Assumptions.{is_proved};
 ghost use Rattle.avr_model.specs.Sites.{is_fixed};
 ghost use Rattle.mask_states.specs.Keys.{offset_of};
-ghost use Rattle.abs_step.specs.declared.local.Node.{Node};
-ghost use Rattle.abs_step.specs.declared.local.NodeFault.TheVariants.{Memory};
-ghost use Rattle.abs_step.specs.Raw.{Raw};
-ghost use Rattle.abs_step.specs.Reads.{pointed};
-ghost use Rattle.abs_step.specs.Writes as writes;
+ghost use Rattle.local_rules.specs.declared.local.Node.{Node};
+ghost use Rattle.local_rules.specs.declared.local.NodeFault.TheVariants.{Memory};
+ghost use Rattle.local_rules.specs.Raw.{Raw};
+ghost use Rattle.local_rules.specs.Reads.{pointed};
+ghost use Rattle.local_rules.specs.Writes as writes;
 ghost use Rattle.abs_step.specs.Adding.{Adds, IsGathered, with_another, first_of};
 
-use crate::local::{NodeFault, Nodes};
 use crate::moves::add_copy;
 use crate::pointers::{point, reaches};
 use crate::stores::{Write, written_at};
 use abs_state::AbsState;
 use flash_image::Flash;
+use local_rules::local::{NodeFault, Nodes};
 use mask_states::NodeKey;
 use std::alloc::Global;
 use vector_table::Assumptions;

@@ -2,10 +2,10 @@
 
 ghost use Rattle.std.specs.Prelude.{◌≡◌, ◌+◌, ◌<◌};
 ghost use Rattle.avr_model.specs.Sites as sites;
-ghost use Rattle.abs_step.specs.Reads as reads;
-ghost use Rattle.abs_step.specs.Reads.{word_of, raised, lowered, read_constant, read_both, read_frame, flash_value};
-ghost use Rattle.abs_step.specs.Writes as writes;
-ghost use Rattle.abs_step.specs.Local as rows;
+ghost use Rattle.local_rules.specs.Reads as reads;
+ghost use Rattle.local_rules.specs.Reads.{word_of, raised, lowered, read_constant, read_both, read_frame, flash_value};
+ghost use Rattle.local_rules.specs.Writes as writes;
+ghost use Rattle.local_rules.specs.Local as rows;
 
 use crate::computed::{bits, value, with_bits};
 use crate::reads::{read_at, slot_value};
@@ -14,20 +14,12 @@ use abs_state::{AbsByte, AbsState};
 use avr_model::instruction::{Base, Pointer};
 use bit_domain::TriByte;
 use flash_image::Flash;
+use local_rules::Pointed;
 use mask_states::NodeKey;
 use sp_domain::frame;
 
 /// Flash has so many bytes (data sheet).
 const FLASH_BYTES: u16 = 0x8000;
-
-/// The address that a pointer gives: a number, the frame's base less a number, or both.
-#[derive(Clone, Copy, PartialEq, Eq, Debug)]
-pub struct Pointed {
-    /// The address, where it is known.
-    pub constant: Option<u16>,
-    /// How far below the base it is, modulo 65,536, where that is known.
-    pub frame: Option<u16>,
-}
 
 /// The low register of the pair that a base is.
 pub(crate) fn base_register(base: Base) -> u16

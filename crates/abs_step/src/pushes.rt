@@ -3,16 +3,16 @@
 ghost use Rattle.std.specs.Prelude.{◌≡◌, ◌<◌, ◌≤◌, ◌+◌, ◌++◌, ◌∷◌, [], suc, length, IfOk, IfErr};
 ghost use Rattle.mask_states.specs.declared.keys.SpForm.TheVariants.{Closed};
 ghost use Rattle.mask_states.specs.Keys.{offset_of};
-ghost use Rattle.abs_step.specs.declared.local.NodeFault.TheVariants.{Memory};
-ghost use Rattle.abs_step.specs.Flow as flow;
+ghost use Rattle.local_rules.specs.declared.local.NodeFault.TheVariants.{Memory};
+ghost use Rattle.local_rules.specs.Flow as flow;
 ghost use Rattle.abs_step.specs.Adding.{Adds};
 
 use crate::computed::{set, value};
-use crate::local::{NodeFault, Nodes};
 use crate::moves::{add, at_word, copied, next};
 use crate::reads::slot_value;
 use crate::stores::{SIZE, with_slots};
 use abs_state::{AbsByte, AbsState};
+use local_rules::local::{NodeFault, Nodes};
 use mask_states::{NodeKey, SpForm};
 use sp_domain::Slot;
 use std::alloc::Global;

@@ -3,7 +3,7 @@
 ghost use Rattle.std.specs.Prelude.{◌≡◌, ◌<◌};
 ghost use Rattle.avr_model.specs.Vectors.{enable_of};
 ghost use Rattle.sp_domain.specs.Slots.{slot_at};
-ghost use Rattle.abs_step.specs.Reads.{io_tri, io_bits, value_of, slot_read, read_at};
+ghost use Rattle.local_rules.specs.Reads.{io_tri, io_bits, value_of, slot_read, read_at};
 
 use crate::computed::value;
 use crate::flags::{sreg_value, tri_of};
@@ -79,7 +79,7 @@ fn slot_read(kind: Kind, state: &AbsState, address: u16) -> AbsByte
 }
 
 /// What a read of a data address gives.
-#[tactic(auto, unfolding(crate::specs::Reads::read_at))]
+#[tactic(auto, unfolding(local_rules::specs::Reads::read_at))]
 pub(crate) fn read_at(key: &NodeKey, state: &AbsState, address: u16) -> AbsByte
     ensures { result ≡ read_at key.now state.now address }
 {

@@ -3,21 +3,22 @@
 ghost use Rattle.std.specs.Prelude.{◌≡◌, ◌<◌, ◌*◌, ℕ, List, Bool};
 ghost use Rattle.avr_model.specs.declared.assumption.Entry.{Entry};
 ghost use Rattle.mask_states.specs.declared.keys.NodeKey.{NodeKey};
-ghost use Rattle.abs_step.specs.Registers as registers;
-ghost use Rattle.abs_step.specs.Registers.{immediate_after, unary_after, binary_after, wide_after, going_by};
-ghost use Rattle.abs_step.specs.Local.{row_of, other_row};
+ghost use Rattle.local_rules.specs.Registers as registers;
+ghost use Rattle.local_rules.specs.Registers.{immediate_after, unary_after, binary_after, wide_after, going_by};
+ghost use Rattle.local_rules.specs.Local.{row_of, other_row};
 
 use crate::arithmetic::{
     carry_bit, com, compare, kept_tag, logic, neg, or_nothing, sbc, shift, step_one, sub, sum,
     swapped,
 };
-use crate::computed::{Computed, bits, register_set, value};
+use crate::computed::{bits, register_set, value};
 use crate::flags::{bit_loaded, bit_stored, flag};
 use crate::words::{pair_copied, product, wide};
 use abs_state::{AbsByte, AbsState};
 use avr_model::instruction::{BinaryOp, HighPair, ImmediateOp, Instr, Six, UnaryOp};
 use avr_model::operation::{Logic, Mul, Shift};
 use bit_domain::{Tri, TriByte};
+use local_rules::Computed;
 use sp_domain::Tag;
 
 /// What is done to a register and a byte.

@@ -1,9 +1,9 @@
 //! The stack pointer, as a node's key has it: its bytes when it is read, and what a byte does that is written to it.
 
 ghost use Rattle.std.specs.Prelude.{◌≡◌, ◌-◌};
-ghost use Rattle.abs_step.specs.Reads.{closed_low, closed_high, sp_low, sp_high};
-ghost use Rattle.abs_step.specs.Writes.{known_high, tagged_high, high_part, root_offset, tagged_offset, root_closing, frame_closing, closing_offset};
-ghost use Rattle.abs_step.specs.Local.{is_hung};
+ghost use Rattle.local_rules.specs.Reads.{closed_low, closed_high, sp_low, sp_high};
+ghost use Rattle.local_rules.specs.Writes.{known_high, tagged_high, high_part, root_offset, tagged_offset, root_closing, frame_closing, closing_offset};
+ghost use Rattle.local_rules.specs.Local.{is_hung};
 
 use crate::computed::with_bits;
 use abs_state::AbsByte;

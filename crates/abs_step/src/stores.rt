@@ -4,19 +4,19 @@ ghost use Rattle.std.specs.Prelude.{◌≡◌, ◌<◌, length, map, slice_set, 
 ghost use Rattle.bit_domain.specs.TriByte.{tri_at};
 ghost use Rattle.sp_domain.specs.Slots.{resized};
 ghost use Rattle.mask_states.specs.Keys.{offset_of};
-ghost use Rattle.abs_step.specs.declared.local.NodeFault.TheVariants.{Memory};
-ghost use Rattle.abs_step.specs.Raw.{one, moves_to};
-ghost use Rattle.abs_step.specs.Writes as writes;
+ghost use Rattle.local_rules.specs.declared.local.NodeFault.TheVariants.{Memory};
+ghost use Rattle.local_rules.specs.Raw.{one, moves_to};
+ghost use Rattle.local_rules.specs.Writes as writes;
 ghost use Rattle.abs_step.specs.Adding.{Adds};
 
 use crate::computed::set;
 use crate::flags::{I, flags_written};
-use crate::local::{NodeFault, Nodes};
 use crate::moves::{add, add_copy, add_two, changed, copied};
 use crate::reads::{REGISTERS_END, SPH, SPL, SREG};
 use crate::stack_pointer::{closing_offset, high_part};
 use abs_state::{AbsByte, AbsState};
 use bit_domain::Tri;
+use local_rules::local::{NodeFault, Nodes};
 use mask_states::{High, NodeKey, SpForm, split};
 use std::alloc::Global;
 use vector_table::Masks;
@@ -213,7 +213,7 @@ fn flags_set(
 }
 
 /// A byte is written to a known address, by `out` or otherwise.
-#[tactic(auto, unfolding(crate::specs::Writes::written_at))]
+#[tactic(auto, unfolding(local_rules::specs::Writes::written_at))]
 pub(crate) fn written_at(
     nodes: &mut Nodes,
     alloc: Global,

@@ -1,16 +1,16 @@
 //! Calls and returns.
 
 ghost use Rattle.std.specs.Prelude.{◌≡◌, List, map, IfOk, IfErr};
-ghost use Rattle.abs_step.specs.declared.local.Node.{Node};
-ghost use Rattle.abs_step.specs.declared.local.NodeFault.TheVariants.{Memory};
-ghost use Rattle.abs_step.specs.Raw.{Raw};
-ghost use Rattle.abs_step.specs.Flow as flow;
+ghost use Rattle.local_rules.specs.declared.local.Node.{Node};
+ghost use Rattle.local_rules.specs.declared.local.NodeFault.TheVariants.{Memory};
+ghost use Rattle.local_rules.specs.Raw.{Raw};
+ghost use Rattle.local_rules.specs.Flow as flow;
 ghost use Rattle.abs_step.specs.Adding.{Adds, Leads};
 
 use crate::flow::further;
 use crate::jumps::targets_at;
-use crate::local::{CallSite, CallSites, Exit, NodeFault, Nodes};
 use abs_state::AbsState;
+use local_rules::local::{CallSite, CallSites, Exit, NodeFault, Nodes};
 use mask_states::{Kind, NodeKey, SpForm};
 use std::alloc::Global;
 use vector_table::Assumptions;

@@ -1,13 +1,14 @@
 //! Products, and pairs of registers.
 
 ghost use Rattle.std.specs.Prelude.{◌≡◌, ◌+◌, ◌<◌};
-ghost use Rattle.abs_step.specs.Registers.{product_after, pair_copied, pair_moved, wide_after, down_by, pair_tags};
-ghost use Rattle.abs_step.specs.Local.{pointer_moved};
+ghost use Rattle.local_rules.specs.Registers.{product_after, pair_copied, pair_moved, wide_after, down_by, pair_tags};
+ghost use Rattle.local_rules.specs.Local.{pointer_moved};
 
-use crate::computed::{Computed, bits, set_pair, value, with_bits, with_carry};
+use crate::computed::{bits, set_pair, value, with_bits, with_carry};
 use abs_state::{AbsByte, AbsState};
 use avr_model::instruction::Pointer;
 use avr_model::operation::Mul;
+use local_rules::Computed;
 use sp_domain::{CarryTag, Tag, move_pair};
 
 /// The low register of the pair X.

@@ -1,153 +1,217 @@
 -- The parts of a certificate: what is read is spelled so, and what is spelled is read.
-use Rattle.std.proofs.Common.{ℕ, ◌+◌, ◌<◌, ◌≤◌, ◌^◌, ◌≡◌, inl, inr, List, [], ◌∷◌, ◌++◌, length, map, Bool, true, false, refl, ap, sym, ◌∙◌, arith, Option, Some, None, Ok, subst, codes, lit<, append_assoc}
+use Rattle.std.proofs.Common.{ℕ, ◌+◌, ◌<◌, ◌≤◌, ◌^◌, ◌≡◌, ◌==◌, ◌&&◌, inl, inr, List, [], ◌∷◌, ◌++◌, length, map, codes, Bool, true, false, not, refl, ap, sym, ◌∙◌, arith, Option, Some, None, Result, Ok, Err, subst, lit<, append_assoc}
 use Rattle.std.specs.Prelude.{IfSome}
+use Rattle.std.specs.List.{AllByRecursion, flat_map}
 use Rattle.std.specs.Fmt.{decimal}
 use Rattle.std.specs.Str.{bytes_eq}
-use Rattle.std.specs.List.{AllByRecursion, flat_map}
+use Rattle.std.proofs.lemmas.List.{map-append}
 use Rattle.std.proofs.lemmas.Slice.Eq.{bytes_eq-Decides}
 use Rattle.avr_model.specs.State.{SIZE}
-use Rattle.root_step.specs.declared.key.NodeKey.{NodeKey}
-use Rattle.sb_base.specs.Lines.{TextLine, Place, words_of, spaced, line, lines_of}
-use Rattle.line_reading.specs.Reading.{line_by, this_by}
+use Rattle.sb_base.specs.Digits.{dec_answer}
+use Rattle.sb_base.specs.declared.digits.DigitFault.{DigitFault}
+use Rattle.sb_base.specs.declared.digits.DigitFault.TheVariants.{WrongLength, BadDigit, TooGreat}
+use Rattle.sb_base.specs.Lines.{TextLine, Place, Lacks, lines_of, words_of, spaced, line}
+use Rattle.line_reading.specs.Reading.{dec_at, word_at, is_over, number_and, this_by, line_by}
 use Rattle.line_reading.specs.Words.{IsWord, whole, sizes, Passes, WordLaws}
+use Rattle.line_reading.proofs.Steps.{chosen, some_is, none_some, bind_some, both, no_words, line_takes, line_again, passes_more, passes_split, sizes_append}
 use Rattle.witness_replay.specs.Spelling.{Plan, IsSchedule, schedule_lines, text_of as schedule_text}
 use Rattle.witness_replay.specs.Reading.{schedule_at}
 use Rattle.witness_replay.specs.Exact.{TextIsReading, ReadIsSpelled as ScheduleIsSpelled, SpelledIsRead as ScheduleIsRead}
-use Rattle.line_reading.proofs.Steps.{chosen, some_is, none_some, ok_is, err_ok, line_takes, line_again, passes_more, passes_split, sizes_append, then_ok}
-use Rattle.cert_format.specs.Certificate.{most_nodes, most_cells}
-use Rattle.cert_format.specs.Spelling.{witness_lines}
-use Rattle.cert_format.specs.Reading.{numbered_in, bound_by, count_by, ending_by, heading_at, nodes_at, plan_if, witness_at, if_last, end_at}
-use Rattle.cert_format.proofs.Fields.{same_text, numbered_take, numbered_again}
-use Rattle.cert_format.proofs.Plain.{plain, numbered_words}
-use Rattle.cert_format.proofs.Nodes.{AreNodes, node_lines, as_words, nodes_take, nodes_again}
+use Rattle.cert_format.specs.declared.fault.CertFault.{CertFault}
+use Rattle.cert_format.specs.declared.fault.CertFault.TheVariants as fault
+use Rattle.cert_format.specs.Certificate.{numbered, witness_lines, most_nodes}
+use Rattle.cert_format.specs.CertificateReading.{formed, numbered_in, numbered_by, counted, count_at, count_in, count_by, limited, ending_by, items_from, heading_at, plan_if, witness_at, if_last, end_at}
+use Rattle.cert_format.proofs.Pieces.{tested}
+use Rattle.cert_format.proofs.Fields.{same_text, word_take, dec_take}
+use Rattle.cert_format.proofs.Lists.{ok_is, err_ok, then_ok, formed_ok, Admitted, Steady, Spells, Reads, as_words, items_take, items_again}
 
 -- ---- places
 
-pub passes_cut : (p q : Place) (xs ys : List TextLine) → Passes p (xs ++ ys) q → (m : Place) × Passes p xs m × Passes m ys q
-passes_cut p q xs ys h = (
-  record { at = p.at + sizes xs; rest = ys ++ q.rest },
-  record { lines = h.lines ∙ append_assoc xs ys q.rest; offset = refl },
-  record { lines = refl; offset = omega (arith, h.offset, sizes_append xs ys) },
-)
+abbrev pub Stand : Place → List (List (List ℕ)) → Place → Type 0
+Stand p wss q = Passes p (map whole wss) q
+
+pub stand_more : (p m q : Place) (xs bs : List (List (List ℕ))) → Stand p xs m → Stand m bs q → Stand p (xs ++ bs) q
+stand_more p m q xs bs h g = let P : List TextLine → Type 0 = λ ls. Passes p ls q in subst P (sym (map-append whole xs bs)) (passes_more p m q (map whole xs) (map whole bs) h g)
+
+pub stand_cut : (p q : Place) (xs bs : List (List (List ℕ))) → Stand p (xs ++ bs) q → (m : Place) × Stand p xs m × Stand m bs q
+stand_cut p q xs bs h =
+    let P : List TextLine → Type 0 = λ ls. Passes p ls q in
+    let g = subst P (map-append whole xs bs) h in (
+      record { at = p.at + sizes (map whole xs); rest = map whole bs ++ q.rest },
+      record { lines = g.lines ∙ append_assoc (map whole xs) (map whole bs) q.rest; offset = refl },
+      record { lines = refl; offset = omega (arith, g.offset, sizes_append (map whole xs) (map whole bs)) },
+    )
 
 -- where a reader stands before a text
 abbrev pub before : ℕ → List ℕ → Place
 before at text = record { at = at; rest = lines_of text }
 
 -- lines of words stand where their text does
-pub stand : WordLaws → (wss : List (List (List ℕ))) (at : ℕ) (text : List ℕ) → AllByRecursion (AllByRecursion IsWord) wss
-    → Passes (before at (flat_map line wss ++ text)) (map whole wss) (before (at + length (flat_map line wss)) text)
+pub stand : WordLaws → (wss : List (List (List ℕ))) (at : ℕ) (text : List ℕ) → AllByRecursion (AllByRecursion IsWord) wss → Stand (before at (flat_map line wss ++ text)) wss (before (at + length (flat_map line wss)) text)
 stand k wss at text h =
     k.text_lines (before at (flat_map line wss ++ text)) wss (before (at + length (flat_map line wss)) text) h (k.are_lines (flat_map line wss ++ text)) (k.are_lines text)
     (record { bytes = k.text_joined (flat_map line wss ++ text) ∙ ap (λ (xs : List ℕ). flat_map line wss ++ xs) (sym (k.text_joined text)); offset = refl })
 
+-- ---- words that are written out
+
+abbrev pub lacks : ℕ → List ℕ → Bool
+lacks c [] = true
+lacks c (b ∷ bs) = not (b == c) && lacks c bs
+
+abbrev pub are_plain : List (List ℕ) → Bool
+are_plain [] = true
+are_plain (w ∷ ws) = (lacks 32 w && lacks 10 w) && are_plain ws
+
+not_true : (b : Bool) → not b ≡ true → b ≡ false
+not_true true e = cc
+not_true false e = refl
+
+lacks_by : (c : ℕ) (w : List ℕ) → lacks c w ≡ true → Lacks c w
+lacks_by c [] e = tt
+lacks_by c (b ∷ bs) e = let t = both (not (b == c)) (lacks c bs) e in (not_true (b == c) t.0, lacks_by c bs t.1)
+
+pub plain : (ws : List (List ℕ)) → are_plain ws ≡ true → AllByRecursion IsWord ws
+plain [] e = tt
+plain (w ∷ ws) e =
+    let t = both (lacks 32 w && lacks 10 w) (are_plain ws) e in
+    let h = both (lacks 32 w) (lacks 10 w) t.0 in
+    ((lacks_by 32 w h.0, lacks_by 10 w h.1), plain ws t.1)
+
+pub numbered_plain : WordLaws → (name : List ℕ) (n : ℕ) → IsWord name → n < 2 ^ 64 → AllByRecursion IsWord (numbered name n)
+numbered_plain k name n h room = (h, (k.dec_word n room, tt))
+
 -- ---- one line
 
 this_is : (text t : List ℕ) (u : Unit {0}) → this_by text t ≡ Some u → t ≡ text
-this_is text t u e = elim (chosen (bytes_eq t text) _ _ (Some u) e) [
-  | inl h ↦ (bytes_eq-Decides t text).0 h.0
-  | inr h ↦ absurd (none_some u h.1)
-]
+this_is text t u e = (bytes_eq-Decides t text).0 (tested (bytes_eq t text) tt u e).0
 
 this_again : (text : List ℕ) → this_by text text ≡ Some tt
 this_again text = rw (same_text text) refl
 
-this_take : (ws : List (List ℕ)) (p q : Place) (u : Unit {0}) → line_by (this_by (spaced ws)) p ≡ Ok (u, q) → Passes p (whole ws ∷ []) q
-this_take ws p q u e = let l = line_takes (this_by (spaced ws)) p u q e in as_words (this_by (spaced ws)) p u q l ws (this_is (spaced ws) l.text u l.read)
+pub this_take : (ws : List (List ℕ)) (p : Place) (z : Unit {0} × Place) → formed (line_by (this_by (spaced ws)) p) ≡ Ok z → Stand p (ws ∷ []) z.1
+this_take ws p z e =
+    let l = line_takes (this_by (spaced ws)) p z.0 z.1 (formed_ok (line_by (this_by (spaced ws)) p) z e) in
+    as_words (this_by (spaced ws)) p z.0 z.1 l ws (this_is (spaced ws) l.text z.0 l.read)
 
-this_line : (ws : List (List ℕ)) (p q : Place) → Passes p (whole ws ∷ []) q → line_by (this_by (spaced ws)) p ≡ Ok (tt, q)
-this_line ws p q h = line_again (this_by (spaced ws)) p q (spaced ws) tt (this_again (spaced ws)) h
+pub this_line : (ws : List (List ℕ)) (p q : Place) → Stand p (ws ∷ []) q → formed (line_by (this_by (spaced ws)) p) ≡ Ok (tt, q)
+this_line ws p q h = ap formed (line_again (this_by (spaced ws)) p q (spaced ws) tt (this_again (spaced ws)) h)
 
-abbrev number_by : List ℕ → ℕ → List ℕ → Option ℕ
-number_by name most text = numbered_in name most (words_of text)
+numbered_take : WordLaws → (name : List ℕ) (most n : ℕ) (ws : List (List ℕ)) → most < 2 ^ 64 → numbered_in name most ws ≡ Some n → (ws ≡ numbered name n) × (n ≤ most)
+unfolding numbered_in
+numbered_take k name most n ws room e =
+    let w = bind_some (word_at name ws) _ n e in
+    let d = bind_some (dec_at most w.0.1) _ n w.2 in
+    let last = tested (is_over d.0.1) d.0.0 n d.2 in
+    let t = dec_take k most w.0.1 d.0 room d.1 in
+    let P : ℕ → Type 0 = λ y. (ws ≡ numbered name y) × (y ≤ most) in
+    subst P last.1 (word_take name ws w.0 w.1 ∙ ap (λ (xs : List (List ℕ)). name ∷ xs) (t.0 ∙ ap (λ (xs : List (List ℕ)). decimal d.0.0 ∷ xs) (no_words d.0.1 last.0)), t.1)
 
-number_take : WordLaws → (name : List ℕ) (most n : ℕ) (p q : Place) → most < 2 ^ 64 → line_by (number_by name most) p ≡ Ok (n, q) → Passes p (whole (name ∷ decimal n ∷ []) ∷ []) q × (n ≤ most)
-number_take k name most n p q room e =
-    let l = line_takes (number_by name most) p n q e in
-    let t = numbered_take k name most n (words_of l.text) room l.read in
-    (as_words (number_by name most) p n q l (name ∷ decimal n ∷ []) (sym (k.line_words l.text) ∙ ap spaced t.0), t.1)
+numbered_again : WordLaws → (name : List ℕ) (most n : ℕ) → most < 2 ^ 64 → n ≤ most → numbered_in name most (numbered name n) ≡ Some n
+unfolding numbered_in
+numbered_again k name most n room h = let t = k.dec_taken most n [] room h in rw (same_text name, t) refl
 
-number_line : WordLaws → (name : List ℕ) (most n : ℕ) (p q : Place) → IsWord name → most < 2 ^ 64 → n ≤ most → Passes p (whole (name ∷ decimal n ∷ []) ∷ []) q → line_by (number_by name most) p ≡ Ok (n, q)
+pub number_take : WordLaws → (name : List ℕ) (most : ℕ) (p : Place) (z : ℕ × Place) → most < 2 ^ 64 → formed (line_by (numbered_by name most) p) ≡ Ok z → Stand p (numbered name z.0 ∷ []) z.1 × (z.0 ≤ most)
+number_take k name most p z room e =
+    let l = line_takes (numbered_by name most) p z.0 z.1 (formed_ok (line_by (numbered_by name most) p) z e) in
+    let t = numbered_take k name most z.0 (words_of l.text) room l.read in
+    (as_words (numbered_by name most) p z.0 z.1 l (numbered name z.0) (sym (k.line_words l.text) ∙ ap spaced t.0), t.1)
+
+pub number_line : WordLaws → (name : List ℕ) (most n : ℕ) (p q : Place) → IsWord name → most < 2 ^ 64 → n ≤ most → Stand p (numbered name n ∷ []) q → formed (line_by (numbered_by name most) p) ≡ Ok (n, q)
 number_line k name most n p q word room small h =
-    line_again (number_by name most) p q (spaced (name ∷ decimal n ∷ [])) n
-    (ap (numbered_in name most) (k.words_stand name (decimal n ∷ []) (numbered_words k name n word (omega (arith, room, small)))) ∙ numbered_again k name most n room small) h
+    ap formed (line_again (numbered_by name most) p q (spaced (numbered name n)) n
+    (ap (numbered_in name most) (k.words_stand name (decimal n ∷ []) (numbered_plain k name n word (omega (arith, small, room)))) ∙ numbered_again k name most n room small) h)
+
+-- ---- how many nodes there are
+
+counted_is : (r : Result ℕ DigitFault) (n : ℕ) → counted r ≡ Some (Some n) → r ≡ Ok n
+counted_is (Ok m) n e = let same : m ≡ n = cc in ap (λ (x : ℕ). Ok x) same
+counted_is (Err TooGreat) n e = cc
+counted_is (Err (WrongLength m)) n e = cc
+counted_is (Err (BadDigit m)) n e = cc
+
+answer_is : (r : Result ℕ DigitFault) (n : ℕ) → number_and r [] ≡ Some (n, []) → r ≡ Ok n
+answer_is (Ok m) n e = let same = some_is {A = ℕ × List (List ℕ)} (m, []) (n, []) e in ap (λ (y : ℕ × List (List ℕ)). Ok y.0) same
+answer_is (Err f) n e = absurd (none_some {A = ℕ × List (List ℕ)} (n, []) e)
+
+count_at_take : WordLaws → (ws : List (List ℕ)) (n : ℕ) → count_at ws ≡ Some (Some n) → (ws ≡ decimal n ∷ []) × (n ≤ most_nodes)
+count_at_take k [] n e = absurd (none_some (Some n) e)
+count_at_take k (w ∷ ws) n e = elim (chosen (is_over ws) _ _ (Some (Some n)) e) [
+  | inl h ↦
+      let t = k.dec_takes most_nodes n (w ∷ []) [] (lit< tt) (ap (λ (r : Result ℕ DigitFault). number_and r []) (counted_is (dec_answer w most_nodes) n h.1)) in
+      (ap (λ (xs : List (List ℕ)). w ∷ xs) (no_words ws h.0) ∙ t.0, t.1)
+  | inr h ↦ absurd (none_some (Some n) h.1)
+]
+
+count_take : WordLaws → (ws : List (List ℕ)) (n : ℕ) → count_in ws ≡ Some (Some n) → (ws ≡ numbered (codes "nodes") n) × (n ≤ most_nodes)
+unfolding count_in
+count_take k ws n e =
+    let w = bind_some (word_at (codes "nodes") ws) _ (Some n) e in
+    let t = count_at_take k w.0.1 n w.2 in
+    (word_take (codes "nodes") ws w.0 w.1 ∙ ap (λ (xs : List (List ℕ)). codes "nodes" ∷ xs) t.0, t.1)
+
+count_again : WordLaws → (n : ℕ) → n ≤ most_nodes → count_in (numbered (codes "nodes") n) ≡ Some (Some n)
+unfolding count_in
+count_again k n h = let t = answer_is (dec_answer (decimal n) most_nodes) n (k.dec_taken most_nodes n [] (lit< tt) h) in rw t refl
+
+limited_ok : (d : Result (Option ℕ × Place) CertFault) (z : ℕ × Place) → limited d ≡ Ok z → d ≡ Ok (Some z.0, z.1)
+limited_ok (Ok (Some n, q)) z e = ap (λ (y : ℕ × Place). Ok (Some y.0, y.1)) (ok_is {A = ℕ × Place} (n, q) z e)
+limited_ok (Ok (None, q)) z e = absurd (err_ok _ z e)
+limited_ok (Err f) z e = absurd (err_ok f z e)
+
+pub nodes_take : WordLaws → (p : Place) (z : ℕ × Place) → limited (formed (line_by count_by p)) ≡ Ok z → Stand p (numbered (codes "nodes") z.0 ∷ []) z.1 × (z.0 ≤ most_nodes)
+nodes_take k p z e =
+    let l = line_takes count_by p (Some z.0) z.1 (formed_ok (line_by count_by p) (Some z.0, z.1) (limited_ok (formed (line_by count_by p)) z e)) in
+    let t = count_take k (words_of l.text) z.0 l.read in
+    (as_words count_by p (Some z.0) z.1 l (numbered (codes "nodes") z.0) (sym (k.line_words l.text) ∙ ap spaced t.0), t.1)
+
+pub nodes_line : WordLaws → (n : ℕ) (p q : Place) → n ≤ most_nodes → Stand p (numbered (codes "nodes") n ∷ []) q → limited (formed (line_by count_by p)) ≡ Ok (n, q)
+nodes_line k n p q small h =
+    ap (λ (d : Result (Option ℕ × Place) Place). limited (formed d)) (line_again count_by p q (spaced (numbered (codes "nodes") n)) (Some n)
+    (ap count_in (k.words_stand (codes "nodes") (decimal n ∷ []) (numbered_plain k (codes "nodes") n (plain (codes "nodes" ∷ []) refl).0 (omega (arith, small)))) ∙ count_again k n small) h)
+
+-- ---- a list
+
+pub record ListPart {A : Type 0} (name : List ℕ) (most : ℕ) (words : A → List (List ℕ)) (P : A → Type 0) (refused : List A → A → ℕ → Option CertFault) (p : Place) (z : List A × Place) : Type 0 where
+  pub fit : Admitted P refused [] z.0
+  pub few : length z.0 ≤ most
+  pub lines : Stand p (numbered name (length z.0) ∷ map words z.0) z.1
+
+pub list_take : {A : Type 0} (by : List ℕ → Option A) (words : A → List (List ℕ)) (P : A → Type 0) (refused : List A → A → ℕ → Option CertFault) → Spells by words P → Steady refused
+    → (name : List ℕ) (most n : ℕ) (p m : Place) (z : List A × Place) → Stand p (numbered name n ∷ []) m → n ≤ most → items_from by refused [] n m ≡ Ok z → ListPart name most words P refused p z
+list_take {A} by words P refused spells steady name most n p m z count small e =
+    let r = items_take by words P refused spells steady [] n m z e in
+    let Q : ℕ → Type 0 = λ i. Stand p (numbered name i ∷ []) m in
+    let R : List A → Type 0 = λ xs. Admitted P refused [] xs × (length xs ≤ most) × Stand p (numbered name (length xs) ∷ map words xs) z.1 in
+    let t = subst R r.all (r.fit, omega (arith, r.number, small), passes_more p m z.1 (whole (numbered name (length r.items)) ∷ []) (map whole (map words r.items)) (subst Q (sym r.number) count) r.passes) in
+    record { fit = t.0; few = t.1; lines = t.2 }
+
+pub list_again : {A : Type 0} (by : List ℕ → Option A) (words : A → List (List ℕ)) (P : A → Type 0) (refused : List A → A → ℕ → Option CertFault) → Reads by words P
+    → (name : List ℕ) (xs : List A) (p q : Place) → Admitted P refused [] xs → Stand p (numbered name (length xs) ∷ map words xs) q → (m : Place) × Stand p (numbered name (length xs) ∷ []) m × (items_from by refused [] (length xs) m ≡ Ok (xs, q))
+list_again by words P refused reads name xs p q fit h =
+    let s = passes_split p q (whole (numbered name (length xs))) (map whole (map words xs)) h in
+    (s.0, s.1, items_again by words P refused reads [] xs (length xs) s.0 q fit refl s.2)
 
 -- ---- the heading
 
 abbrev pub version : List (List ℕ)
 version = codes "stackcert" ∷ codes "1" ∷ []
 
-abbrev pub bound_words : ℕ → List (List ℕ)
-bound_words n = codes "bound" ∷ decimal n ∷ []
-
-abbrev pub assumptions : List (List ℕ)
-assumptions = codes "assume" ∷ codes "0" ∷ []
-
-abbrev pub instances : List (List ℕ)
-instances = codes "instances" ∷ codes "1" ∷ []
-
 abbrev pub heading : ℕ → List (List (List ℕ))
-heading n = version ∷ bound_words n ∷ assumptions ∷ instances ∷ []
+heading n = version ∷ numbered (codes "bound") n ∷ []
 
-pub heading_take : WordLaws → (p : Place) (n : ℕ) (q : Place) → heading_at p ≡ Ok (n, q) → Passes p (map whole (heading n)) q × (n ≤ SIZE)
+pub heading_take : WordLaws → (p : Place) (z : ℕ × Place) → heading_at p ≡ Ok z → Stand p (heading z.0) z.1 × (z.0 ≤ SIZE)
 unfolding heading_at
-heading_take k p n q e =
-    let v = then_ok (line_by (this_by (spaced version)) p) _ (n, q) e in
-    let b = then_ok (line_by bound_by v.0.1) _ (n, q) v.2 in
-    let a = then_ok (line_by (this_by (spaced assumptions)) b.0.1) _ (n, q) b.2 in
-    let i = then_ok (line_by (this_by (spaced instances)) a.0.1) _ (n, q) a.2 in
-    let pair = ok_is {A = ℕ × Place} (b.0.0, i.0.1) (n, q) i.2 in
-    let bound = number_take k (codes "bound") SIZE b.0.0 v.0.1 b.0.1 (lit< tt) b.1 in
-    let last = passes_more b.0.1 a.0.1 i.0.1 (whole assumptions ∷ []) (whole instances ∷ []) (this_take assumptions b.0.1 a.0.1 a.0.0 a.1) (this_take instances a.0.1 i.0.1 i.0.0 i.1) in
-    let P : ℕ × Place → Type 0 = λ z. Passes p (map whole (heading z.0)) z.1 × (z.0 ≤ SIZE) in
-    subst P pair (
-      passes_more p v.0.1 i.0.1 (whole version ∷ []) (whole (bound_words b.0.0) ∷ whole assumptions ∷ whole instances ∷ []) (this_take version p v.0.1 v.0.0 v.1)
-          (passes_more v.0.1 b.0.1 i.0.1 (whole (bound_words b.0.0) ∷ []) (whole assumptions ∷ whole instances ∷ []) bound.0 last),
-      bound.1,
-    )
+heading_take k p z e =
+    let v = then_ok (formed (line_by (this_by (spaced version)) p)) _ z e in
+    let b = number_take k (codes "bound") SIZE v.0.1 z (lit< tt) v.2 in
+    (passes_more p v.0.1 z.1 (whole version ∷ []) (whole (numbered (codes "bound") z.0) ∷ []) (this_take version p v.0 v.1) b.0, b.1)
 
-pub heading_again : WordLaws → (p : Place) (n : ℕ) (q : Place) → n ≤ SIZE → Passes p (map whole (heading n)) q → heading_at p ≡ Ok (n, q)
+pub heading_again : WordLaws → (p : Place) (n : ℕ) (q : Place) → n ≤ SIZE → Stand p (heading n) q → heading_at p ≡ Ok (n, q)
 unfolding heading_at
 heading_again k p n q small h =
-    let a = passes_split p q (whole version) (whole (bound_words n) ∷ whole assumptions ∷ whole instances ∷ []) h in
-    let b = passes_split a.0 q (whole (bound_words n)) (whole assumptions ∷ whole instances ∷ []) a.2 in
-    let c = passes_split b.0 q (whole assumptions) (whole instances ∷ []) b.2 in
-    let first = this_line version p a.0 a.1 in
-    let bound = number_line k (codes "bound") SIZE n a.0 b.0 (plain (codes "bound" ∷ []) refl).0 (lit< tt) small b.1 in
-    let third = this_line assumptions b.0 c.0 c.1 in
-    let last = this_line instances c.0 q c.2 in
-    rw (first, bound, third, last) refl
-
--- ---- the nodes
-
-abbrev pub count_words : ℕ → List (List ℕ)
-count_words n = codes "nodes" ∷ decimal n ∷ []
-
-pub record NodesPart (p : Place) (ns : List NodeKey) (q : Place) : Type 0 where
-  pub kept : AreNodes None most_cells ns
-  pub few : length ns ≤ most_nodes
-  pub passes : Passes p (whole (count_words (length ns)) ∷ node_lines ns) q
-
-pub nodes_part : WordLaws → (p : Place) (ns : List NodeKey) (q : Place) → nodes_at p ≡ Ok (ns, q) → NodesPart p ns q
-unfolding nodes_at
-nodes_part k p ns q e =
-    let n = then_ok (line_by count_by p) _ (ns, q) e in
-    let count = number_take k (codes "nodes") most_nodes n.0.0 p n.0.1 (lit< tt) n.1 in
-    let each = nodes_take k None most_cells n.0.0 n.0.1 ns q n.2 in
-    let P : ℕ → Type 0 = λ z. Passes p (whole (count_words z) ∷ []) n.0.1 in
-    record {
-      kept = each.kept;
-      few = omega (arith, each.number, count.1);
-      passes = passes_more p n.0.1 q (whole (count_words (length ns)) ∷ []) (node_lines ns) (subst P (sym each.number) count.0) each.passes;
-    }
-
-pub nodes_part_again : WordLaws → (p : Place) (ns : List NodeKey) (q : Place) → NodesPart p ns q → nodes_at p ≡ Ok (ns, q)
-unfolding nodes_at
-nodes_part_again k p ns q h =
-    let a = passes_split p q (whole (count_words (length ns))) (node_lines ns) h.passes in
-    let count = number_line k (codes "nodes") most_nodes (length ns) p a.0 (plain (codes "nodes" ∷ []) refl).0 (lit< tt) h.few a.1 in
-    let each = nodes_again k None most_cells (length ns) a.0 ns q h.kept refl a.2 in
-    rw (count, each) refl
+    let s = passes_split p q (whole version) (whole (numbered (codes "bound") n) ∷ []) h in
+    let first = this_line version p s.0 s.1 in
+    rw first (number_line k (codes "bound") SIZE n s.0 q (plain (codes "bound" ∷ []) refl).0 (lit< tt) small s.2)
 
 -- ---- the schedule
 
@@ -163,41 +227,38 @@ ending_words true = attained_line
 
 ending_is : (t : List ℕ) (b : Bool) → ending_by t ≡ Some b → t ≡ spaced (ending_words b)
 unfolding ending_by
-ending_is t b e = elim (chosen (bytes_eq t (spaced open_line)) _ _ (Some b) e) [
-  | inl h ↦ let P : Bool → Type 0 = λ x. t ≡ spaced (ending_words x) in subst P (some_is false b h.1) ((bytes_eq-Decides t (spaced open_line)).0 h.0)
-  | inr h ↦ elim (chosen (bytes_eq t (spaced attained_line)) _ _ (Some b) h.1) [
-    | inl g ↦ let P : Bool → Type 0 = λ x. t ≡ spaced (ending_words x) in subst P (some_is true b g.1) ((bytes_eq-Decides t (spaced attained_line)).0 g.0)
-    | inr g ↦ absurd (none_some b g.1)
-  ]
-]
+ending_is t b e =
+    let P : Bool → Type 0 = λ x. t ≡ spaced (ending_words x) in
+    elim (chosen (bytes_eq t (spaced open_line)) _ _ (Some b) e) [
+      | inl h ↦ subst P (some_is false b h.1) ((bytes_eq-Decides t (spaced open_line)).0 h.0)
+      | inr h ↦ let g = tested (bytes_eq t (spaced attained_line)) true b h.1 in subst P g.1 ((bytes_eq-Decides t (spaced attained_line)).0 g.0)
+    ]
 
 ending_again : (b : Bool) → ending_by (spaced (ending_words b)) ≡ Some b
 unfolding ending_by
 ending_again false = refl
 ending_again true = refl
 
-pub record WitnessPart (p : Place) (w : Option Plan) (q : Place) : Type 0 where
-  pub schedule : IfSome w IsSchedule
-  pub passes : Passes p (map whole (witness_lines w)) q
+pub record WitnessPart (p : Place) (z : Option Plan × Place) : Type 0 where
+  pub schedule : IfSome z.0 IsSchedule
+  pub lines : Stand p (witness_lines z.0) z.1
 
-plan_take : ScheduleIsSpelled → (b : Bool) (p m : Place) (w : Option Plan) (q : Place) → Passes p (whole (ending_words b) ∷ []) m → plan_if b m ≡ Ok (w, q) → WitnessPart p w q
-plan_take read false p m w q h e =
-    let pair = ok_is {A = Option Plan × Place} (None, m) (w, q) e in
-    let P : Option Plan × Place → Type 0 = λ z. WitnessPart p z.0 z.1 in
-    subst P pair (record { schedule = tt; passes = h })
-plan_take read true p m w q h e =
-    let s = then_ok (schedule_at m) _ (w, q) e in
-    let pair = ok_is {A = Option Plan × Place} (Some s.0.0, s.0.1) (w, q) s.2 in
-    let r = read m s.0.0 s.0.1 s.1 in
-    let P : Option Plan × Place → Type 0 = λ z. WitnessPart p z.0 z.1 in
-    subst P pair (record { schedule = r.fits; passes = passes_more p m s.0.1 (whole attained_line ∷ []) (map whole (schedule_lines s.0.0)) h r.lines })
+plan_take : ScheduleIsSpelled → (b : Bool) (p m : Place) (z : Option Plan × Place) → Stand p (ending_words b ∷ []) m → plan_if b m ≡ Ok z → WitnessPart p z
+plan_take read false p m z h e =
+    let P : Option Plan × Place → Type 0 = λ y. WitnessPart p y in
+    subst P (ok_is {A = Option Plan × Place} (None, m) z e) (record { schedule = tt; lines = h })
+plan_take read true p m z h e =
+    let s = then_ok (formed (schedule_at m)) _ z e in
+    let r = read m s.0.0 s.0.1 (formed_ok (schedule_at m) s.0 s.1) in
+    let P : Option Plan × Place → Type 0 = λ y. WitnessPart p y in
+    subst P (ok_is {A = Option Plan × Place} (Some s.0.0, s.0.1) z s.2) (record { schedule = r.fits; lines = passes_more p m s.0.1 (whole attained_line ∷ []) (map whole (schedule_lines s.0.0)) h r.lines })
 
-pub witness_part : ScheduleIsSpelled → (p : Place) (w : Option Plan) (q : Place) → witness_at p ≡ Ok (w, q) → WitnessPart p w q
+pub witness_part : ScheduleIsSpelled → (p : Place) (z : Option Plan × Place) → witness_at p ≡ Ok z → WitnessPart p z
 unfolding witness_at
-witness_part read p w q e =
-    let b = then_ok (line_by ending_by p) _ (w, q) e in
-    let l = line_takes ending_by p b.0.0 b.0.1 b.1 in
-    plan_take read b.0.0 p b.0.1 w q (as_words ending_by p b.0.0 b.0.1 l (ending_words b.0.0) (ending_is l.text b.0.0 l.read)) b.2
+witness_part read p z e =
+    let b = then_ok (formed (line_by ending_by p)) _ z e in
+    let l = line_takes ending_by p b.0.0 b.0.1 (formed_ok (line_by ending_by p) b.0 b.1) in
+    plan_take read b.0.0 p b.0.1 z (as_words ending_by p b.0.0 b.0.1 l (ending_words b.0.0) (ending_is l.text b.0.0 l.read)) b.2
 
 -- a witness that is read from a text, and behind it the rest of the text
 pub witness_again : WordLaws → TextIsReading → ScheduleIsRead → (w : Option Plan) (at : ℕ) (text : List ℕ) → IfSome w IsSchedule
@@ -223,21 +284,21 @@ witness_again k reads read (Some plan) at text h =
 abbrev pub end_line : List (List ℕ)
 end_line = codes "end" ∷ []
 
-last_is : (ls : List TextLine) (p : Place) (u : Unit {0}) (q : Place) → if_last ls p ≡ Ok (u, q) → (ls ≡ []) × (p ≡ q)
-last_is [] p u q e = (refl, ap (λ (z : Unit {0} × Place). z.1) (ok_is {A = Unit {0} × Place} (tt, p) (u, q) e))
-last_is (l ∷ ls) p u q e = absurd (err_ok {A = Unit {0} × Place} p (u, q) e)
+last_is : (ls : List TextLine) (p : Place) (z : Unit {0} × Place) → if_last ls p ≡ Ok z → (ls ≡ []) × (p ≡ z.1)
+last_is [] p z e = (refl, ap (λ (y : Unit {0} × Place). y.1) (ok_is {A = Unit {0} × Place} (tt, p) z e))
+last_is (l ∷ ls) p z e = absurd (err_ok {A = Unit {0} × Place} (fault.Malformed p.at) z e)
 
 pub record EndPart (p q : Place) : Type 0 where
-  pub passes : Passes p (whole end_line ∷ []) q
+  pub lines : Stand p (end_line ∷ []) q
   pub over : q.rest ≡ []
 
-pub end_part : (p : Place) (u : Unit {0}) (q : Place) → end_at p ≡ Ok (u, q) → EndPart p q
+pub end_part : (p : Place) (z : Unit {0} × Place) → end_at p ≡ Ok z → EndPart p z.1
 unfolding end_at
-end_part p u q e =
-    let a = then_ok (line_by (this_by (spaced end_line)) p) _ (u, q) e in
-    let last = last_is a.0.1.rest a.0.1 u q a.2 in
-    let P : Place → Type 0 = λ z. EndPart p z in
-    subst P last.1 (record { passes = this_take end_line p a.0.1 a.0.0 a.1; over = last.0 })
+end_part p z e =
+    let a = then_ok (formed (line_by (this_by (spaced end_line)) p)) _ z e in
+    let last = last_is a.0.1.rest a.0.1 z a.2 in
+    let P : Place → Type 0 = λ y. EndPart p y in
+    subst P last.1 (record { lines = this_take end_line p a.0 a.1; over = last.0 })
 
 pub end_again : WordLaws → (at : ℕ) → (behind : ℕ) × (end_at (before at (flat_map line (end_line ∷ []))) ≡ Ok (tt, before behind []))
 unfolding end_at

@@ -1,16 +1,12 @@
 -- Where a text reads as a certificate, by the spelling alone.
-use Rattle.std.specs.Prelude.{◌≡◌, ℕ, List, IfSome, Ok}
-use Rattle.witness_replay.specs.Spelling.{IsSchedule}
-use Rattle.cert_format.specs.Certificate.{Claim, IsClaim}
-use Rattle.cert_format.specs.Spelling.{text_of}
-use Rattle.cert_format.specs.Reading.{certificate_in}
-
--- a claim whose schedule is one
-pub record IsCertificate (c : Claim) : Type 0 where
-  pub claim : IsClaim c
-  pub schedule : IfSome c.witness IsSchedule
-
--- ---- laws
+use Rattle.std.specs.Prelude.{◌≡◌, ◌≤◌, ℕ, List, None, Ok}
+use Rattle.avr_model.specs.declared.assumption.Entry.{Entry}
+use Rattle.avr_model.specs.State.{SIZE}
+use Rattle.sb_base.specs.Lines.{Place}
+use Rattle.local_rules.specs.declared.local.Node.{Node}
+use Rattle.cert_format.specs.declared.instance.Inst.{Inst}
+use Rattle.cert_format.specs.Certificate.{Claim, IsClaim, IsCertificate, text_of}
+use Rattle.cert_format.specs.CertificateReading.{entries_at, insts_at, nodes_at, certificate_in}
 
 -- what is read is a certificate, and the text is its text
 abbrev pub ReadIsSpelled : Type 0
@@ -22,3 +18,9 @@ SpelledIsRead = (c : Claim) → IsCertificate c → certificate_in (text_of c) �
 
 abbrev pub OneText : Type 0
 OneText = (a b : Claim) → IsCertificate a → IsCertificate b → text_of a ≡ text_of b → a ≡ b
+
+-- the parts that are read make up a claim
+abbrev pub PartsMakeClaims : Type 0
+PartsMakeClaims =
+    (a b c d : Place) (n : ℕ) (es : List Entry) (xs : List Inst) (ns : List Node) → n ≤ SIZE → entries_at a ≡ Ok (es, b) → insts_at b ≡ Ok (xs, c) → nodes_at xs c ≡ Ok (ns, d)
+    → IsClaim (record { bound = n; assumptions = es; instances = xs; nodes = ns; witness = None })

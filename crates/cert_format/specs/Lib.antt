@@ -1,6 +1,10 @@
-pub mod Certificate
 pub mod Spelling
-pub mod Valid
 pub mod Reading
+pub mod Fits
+pub mod Laws
+pub mod Lines
+pub mod LineReading
+pub mod LineLaws
+pub mod Certificate
+pub mod CertificateReading
 pub mod Exact
-pub mod Examples

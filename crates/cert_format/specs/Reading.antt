@@ -1,142 +1,140 @@
--- Reading a certificate forward, line by line. A refusal tells the place of the first line that isn't of its form, which is
--- the end of the text where a line is missing. Source: own.
-use Rattle.std.specs.Prelude.{ℕ, zero, suc, ◌≡◌, ◌+◌, ◌-◌, ◌==◌, ◌&&◌, ◌||◌, nat_lt, Bool, true, false, List, [], ◌∷◌, ◌++◌, replicate, codes, Option, Some, None, Result, Ok, Err, if◌then◌else◌, ⊤, IsErr}
+-- Reading a word from its front: each reading gives a value and what stands behind it, or nothing. In the root's frame nothing is
+-- tagged.
+use Rattle.std.specs.Prelude.{ℕ, ◌-◌, ◌==◌, ◌&&◌, nat_lt, Bool, true, false, List, [], ◌∷◌, length, take, drop, codes, Option, Some, None, Result, Ok, Err, if◌then◌else◌}
+use Rattle.std.specs.Option.{option_map}
+use Rattle.std.specs.Int.{bit_at}
+use Rattle.std.specs.Int.RustNames.{bit_and}
 use Rattle.std.specs.Str.{bytes_eq}
-use Rattle.avr_model.specs.Image.{WORDS}
 use Rattle.avr_model.specs.State.{SIZE}
-use Rattle.root_step.specs.declared.key.NodeKey.{NodeKey}
-use Rattle.sb_base.specs.Lines.{TextLine, Place, lines_of, words_of}
-use Rattle.line_reading.specs.Reading.{◌>>=◌, hex_at, dec_at, word_at, these_at, marked_at, is_over, then_at, this_by, line_by}
-use Rattle.witness_replay.specs.Spelling.{Plan}
-use Rattle.witness_replay.specs.Reading.{schedule_at, refused_at}
-use Rattle.cert_format.specs.Certificate.{Claim, claim_of, most_nodes, most_cells}
-use Rattle.cert_format.specs.Spelling.{unknown}
-use Rattle.cert_format.specs.declared.certificate.CertFault.{CertFault}
-use Rattle.cert_format.specs.declared.certificate.CertFault.TheVariants.{Malformed, Memory}
+use Rattle.sb_base.specs.Digits.{hex_answer}
+use Rattle.sb_base.specs.declared.digits.DigitFault.{DigitFault}
+use Rattle.line_reading.specs.Reading.{◌>>=◌, dec_at}
+use Rattle.bit_domain.specs.declared.bytes.TriByte.{TriByte}
+use Rattle.bit_domain.specs.TriByte.{byte_of, tri_of}
+use Rattle.sp_domain.specs.declared.tags.Tag.{Tag}
+use Rattle.sp_domain.specs.declared.tags.Tag.TheVariants as tag
+use Rattle.sp_domain.specs.declared.tags.CarryTag.{CarryTag}
+use Rattle.sp_domain.specs.declared.tags.CarryTag.TheVariants as carry
+use Rattle.sp_domain.specs.declared.slots.Slot.{Slot}
+use Rattle.sp_domain.specs.declared.slots.Slot.TheVariants.{Free, Guarded}
+use Rattle.abs_state.specs.declared.values.AbsByte.{AbsByte}
+use Rattle.mask_states.specs.declared.keys.High.{High}
+use Rattle.mask_states.specs.declared.keys.High.TheVariants as high
+use Rattle.mask_states.specs.declared.keys.SpForm.{SpForm}
+use Rattle.mask_states.specs.declared.keys.SpForm.TheVariants.{Closed, Open}
 
--- ---- the words of a line
+-- ---- pieces
 
--- a name and a number
-unfoldable pub numbered_in : List ℕ → ℕ → List (List ℕ) → Option ℕ
-numbered_in name most ws = do
-  w ← word_at name ws
-  n ← dec_at most w.1
-  if is_over n.1 then Some n.0 else None
+-- the first byte
+abbrev pub letter_at : List ℕ → Option (ℕ × List ℕ)
+letter_at [] = None
+letter_at (b ∷ bs) = Some (b, bs)
 
--- the rank and the need of the root's line
-unfoldable pub root_in : List (List ℕ) → Option (ℕ × ℕ)
-root_in ws = do
-  r ← these_at (codes "inst" ∷ codes "root" ∷ codes "0000" ∷ codes "0000000" ∷ codes "0" ∷ codes "rank" ∷ []) ws
-  rank ← dec_at 65535 r.1
-  n ← word_at (codes "need") rank.1
-  need ← dec_at SIZE n.1
-  if is_over need.1 then Some (rank.0, need.0) else None
+abbrev pub number_before : Result ℕ DigitFault → List ℕ → Option (ℕ × List ℕ)
+number_before (Ok n) bs = Some (n, bs)
+number_before (Err e) bs = None
 
--- what follows a node's offset: 32 registers, the flags, the carry tag and the slots
-unfoldable pub state_words : ℕ → List (List ℕ)
-state_words offset = replicate 32 unknown ++ codes "-7F00" ∷ codes "-" ∷ replicate offset unknown
+-- a number in so many hexadecimal digits
+unfoldable pub digits_at : ℕ → List ℕ → Option (ℕ × List ℕ)
+digits_at count bs = if nat_lt (length bs) count then None else number_before (hex_answer (take count bs) count) (drop count bs)
 
--- the node of a line
-unfoldable pub node_in : List (List ℕ) → Option NodeKey
-node_in ws = do
-  n ← these_at (codes "node" ∷ codes "0" ∷ []) ws
-  pc ← hex_at 4 n.1
-  m ← these_at (codes "0000000" ∷ codes "0" ∷ codes "0" ∷ []) pc.1
-  offset ← marked_at 99 SIZE m.1
-  s ← these_at (state_words offset.0) offset.1
-  if nat_lt pc.0 WORDS && is_over s.1 then Some (record { pc = pc.0; offset = offset.0 }) else None
+-- nothing is left
+abbrev pub is_end : List ℕ → Bool
+is_end [] = true
+is_end (b ∷ bs) = false
 
--- ---- one line
+-- ---- values
 
-abbrev pub bound_by : List ℕ → Option ℕ
-bound_by text = numbered_in (codes "bound") SIZE (words_of text)
+-- the byte with these known bits, and their values
+abbrev pub tri_byte : ℕ → ℕ → TriByte
+tri_byte known value = byte_of (λ i. tri_of (bit_at known i) (bit_at value i))
 
-abbrev pub root_by : List ℕ → Option (ℕ × ℕ)
-root_by text = root_in (words_of text)
+-- known bits and their values: no value is outside the known bits
+unfoldable pub bits_at : List ℕ → Option (TriByte × List ℕ)
+bits_at bs = do
+  k ← digits_at 2 bs
+  v ← digits_at 2 k.1
+  if bit_and v.0 k.0 == v.0 then Some (tri_byte k.0 v.0, v.1) else None
 
-abbrev pub count_by : List ℕ → Option ℕ
-count_by text = numbered_in (codes "nodes") most_nodes (words_of text)
+-- the number of a register
+unfoldable pub register_at : List ℕ → Option (ℕ × List ℕ)
+register_at bs = digits_at 2 bs >>= λ r. if nat_lt r.0 32 then Some r else None
 
--- a node is above the one before it
-abbrev pub is_above : Option NodeKey → NodeKey → Bool
-is_above None n = true
-is_above (Some m) n = nat_lt m.pc n.pc || (m.pc == n.pc && nat_lt m.offset n.offset)
+-- what a letter and what follows it say
+unfoldable pub tag_by : ℕ → List ℕ → Option (Tag × List ℕ)
+tag_by letter bs =
+    if letter == 101 then option_map (λ r. (tag.Entry r.0, r.1)) (register_at bs)
+    else (if letter == 102 then Some (tag.EntryFlags, bs)
+    else (if letter == 108 then option_map (λ j. (tag.SpLo j.0, j.1)) (digits_at 2 bs)
+    else (if letter == 104 then option_map (λ k. (tag.SpHi k.0, k.1)) (digits_at 4 bs) else None)))
 
--- a node that may come behind the one before it, with so many cells left
-abbrev pub admits : Option NodeKey → ℕ → NodeKey → Option NodeKey
-admits before left n = if is_above before n && nat_lt n.offset left then Some n else None
+unfoldable pub tag_at : Bool → List ℕ → Option (Tag × List ℕ)
+tag_at root bs = letter_at bs >>= λ l. if l.0 == 45 then Some (tag.None, l.1) else (if root then None else tag_by l.0 l.1)
 
-abbrev pub node_by : Option NodeKey → ℕ → List ℕ → Option NodeKey
-node_by before left text = node_in (words_of text) >>= admits before left
+unfoldable pub value_in : Bool → List ℕ → Option AbsByte
+value_in root w = do
+  t ← tag_at root w
+  b ← bits_at t.1
+  if is_end b.1 then Some (record { tag = t.0; bits = b.0 }) else None
 
--- whether a schedule follows
-unfoldable pub ending_by : List ℕ → Option Bool
-ending_by text = if bytes_eq text (codes "witness open") then Some false else (if bytes_eq text (codes "witness attained") then Some true else None)
+unfoldable pub slot_in : Bool → List ℕ → Option (Slot AbsByte)
+slot_in root w = if bytes_eq w (codes ".") then Some Free else option_map (λ v. Guarded v) (value_in root w)
 
--- ---- parts of several lines
+-- ---- flags
 
--- the version, the bound, no assumptions and one instance
-unfoldable pub heading_at : Place → Result (ℕ × Place) Place
-heading_at p =
-    then_at (line_by (this_by (codes "stackcert 1")) p) (λ v.
-    then_at (line_by bound_by v.1) (λ b.
-    then_at (line_by (this_by (codes "assume 0")) b.1) (λ a.
-    then_at (line_by (this_by (codes "instances 1")) a.1) (λ i. Ok (b.0, i.1)))))
+-- whether they are those at the frame's entry
+abbrev pub entry_by : Bool → ℕ → Option Bool
+entry_by root letter = if letter == 45 then Some false else (if root then None else (if letter == 102 then Some true else None))
 
-abbrev pub with_node : NodeKey → Result (List NodeKey × Place) Place → Result (List NodeKey × Place) Place
-with_node n due = then_at due (λ x. Ok (n ∷ x.0, x.1))
+-- bit 7 is unknown
+unfoldable pub flags_in : Bool → List ℕ → Option (Bool × TriByte)
+flags_in root w = do
+  l ← letter_at w
+  e ← entry_by root l.0
+  b ← bits_at l.1
+  if nat_lt b.0.known 128 && is_end b.1 then Some (e, b.0) else None
 
--- so many nodes, behind the one before them, with so many cells left
-unfoldable pub nodes_from : Option NodeKey → ℕ → ℕ → Place → Result (List NodeKey × Place) Place
-nodes_from before left zero p = Ok ([], p)
-nodes_from before left (suc k) p = then_at (line_by (node_by before left) p) (λ n. with_node n.0 (nodes_from (Some n.0) (left - (1 + n.0.offset)) k n.1))
+unfoldable pub borrow_in : List ℕ → Option CarryTag
+borrow_in bs = do
+  j ← digits_at 2 bs
+  l ← digits_at 2 j.1
+  if is_end l.1 then Some (carry.Borrow j.0 l.0) else None
 
-unfoldable pub nodes_at : Place → Result (List NodeKey × Place) Place
-nodes_at p = then_at (line_by count_by p) (λ n. nodes_from None most_cells n.0 n.1)
+unfoldable pub carry_in : Bool → List ℕ → Option CarryTag
+carry_in root w =
+    if bytes_eq w (codes "-") then Some carry.None
+    else (if root then None else (letter_at w >>= λ l. if l.0 == 98 then borrow_in l.1 else None))
 
-abbrev pub plan_if : Bool → Place → Result (Option Plan × Place) Place
-plan_if false p = Ok (None, p)
-plan_if true p = then_at (schedule_at p) (λ s. Ok (Some s.0, s.1))
+-- ---- forms of the stack pointer
 
-unfoldable pub witness_at : Place → Result (Option Plan × Place) Place
-witness_at p = then_at (line_by ending_by p) (λ e. plan_if e.0 e.1)
+abbrev pub offset_in : List ℕ → Option ℕ
+offset_in bs = option_map (λ n. n.0) (dec_at SIZE (bs ∷ []))
 
-abbrev pub if_last : List TextLine → Place → Result (Unit {0} × Place) Place
-if_last [] p = Ok (tt, p)
-if_last (l ∷ ls) p = Err p
+-- a comma, a mark, and a number in so many digits
+unfoldable pub marked_in : ℕ → ℕ → List ℕ → Option ℕ
+marked_in mark digits bs = do
+  c ← letter_at bs
+  m ← letter_at c.1
+  n ← digits_at digits m.1
+  if c.0 == 44 && m.0 == mark && is_end n.1 then Some n.0 else None
 
--- the last line, behind which there is nothing
-unfoldable pub end_at : Place → Result (Unit {0} × Place) Place
-end_at p = then_at (line_by (this_by (codes "end")) p) (λ e. if_last e.1.rest e.1)
+-- the root's high byte is known, and another's has a tag
+abbrev pub high_in : Bool → List ℕ → Option High
+high_in true bs = option_map (λ byte. high.Known byte) (marked_in 107 2 bs)
+high_in false bs = option_map (λ k. high.Tag k) (marked_in 116 4 bs)
 
--- ---- the whole
+-- how many bytes it takes
+abbrev pub high_size : Bool → ℕ
+high_size true = 4
+high_size false = 6
 
-unfoldable pub claim_at : Place → Result (Claim × Place) Place
-claim_at p =
-    then_at (heading_at p) (λ b.
-    then_at (line_by root_by b.1) (λ r.
-    then_at (nodes_at r.1) (λ n.
-    then_at (witness_at n.1) (λ w.
-    then_at (end_at w.1) (λ e. Ok (claim_of b.0 r.0.0 r.0.1 n.0 w.0, e.1))))))
+unfoldable pub open_in : Bool → List ℕ → Option SpForm
+open_in root bs =
+    if nat_lt (length bs) (high_size root) then None
+    else (do
+      n ← offset_in (take (length bs - high_size root) bs)
+      h ← high_in root (drop (length bs - high_size root) bs)
+      Some (Open n h))
 
-abbrev pub claim_alone : Result (Claim × Place) ℕ → Result Claim ℕ
-claim_alone (Ok x) = Ok x.0
-claim_alone (Err at) = Err at
-
--- the claim of a text; or the offset of the first line that isn't of its form, which is the text's length where one is missing
-unfoldable pub certificate_in : List ℕ → Result Claim ℕ
-certificate_in text = claim_alone (refused_at (claim_at (record { at = 0; rest = lines_of text })))
-
--- what a call gave, and where it left the reader, is what the reading gives, unless memory was wanting; a refusal tells no place
-abbrev pub Refuses : {Y : Type 0} → CertFault → Result (Y × Place) Place → Type 0
-Refuses Memory due = ⊤
-Refuses Malformed due = IsErr due
-
-abbrev pub Gives : {X Y : Type 0} → (X → Y) → Place → Result X CertFault → Result (Y × Place) Place → Type 0
-Gives view after (Ok x) due = due ≡ Ok (view x, after)
-Gives view after (Err fault) due = Refuses fault due
-
--- what is answered of a text
-abbrev pub without_place : Result Claim ℕ → Result Claim CertFault
-without_place (Ok c) = Ok c
-without_place (Err at) = Err Malformed
+unfoldable pub form_in : Bool → List ℕ → Option SpForm
+form_in root w = letter_at w >>= λ l. if l.0 == 99 then option_map (λ n. Closed n) (offset_in l.1) else (if l.0 == 111 then open_in root l.1 else None)

@@ -1,44 +1,55 @@
--- The one text of a certificate. Source: own.
-use Rattle.std.specs.Prelude.{ℕ, List, [], ◌∷◌, ◌++◌, map, length, replicate, codes, Option, Some, None}
-use Rattle.std.specs.List.{flat_map}
+-- The one spelling of a value, of flags, of a carry tag, of a slot and of a form of the stack pointer, each as a word. Source: own.
+use Rattle.std.specs.Prelude.{ℕ, Bool, true, false, List, ◌++◌, codes}
 use Rattle.std.specs.Fmt.{decimal}
-use Rattle.root_step.specs.declared.key.NodeKey.{NodeKey}
 use Rattle.sb_base.specs.Digits.{hex_digits}
-use Rattle.sb_base.specs.Lines.{line}
-use Rattle.witness_replay.specs.Spelling.{Plan, schedule_lines}
-use Rattle.cert_format.specs.Certificate.{Claim}
+use Rattle.bit_domain.specs.declared.bytes.TriByte.{TriByte}
+use Rattle.sp_domain.specs.declared.tags.Tag.{Tag}
+use Rattle.sp_domain.specs.declared.tags.Tag.TheVariants as tag
+use Rattle.sp_domain.specs.declared.tags.CarryTag.{CarryTag}
+use Rattle.sp_domain.specs.declared.tags.CarryTag.TheVariants as carry
+use Rattle.sp_domain.specs.declared.slots.Slot.{Slot}
+use Rattle.sp_domain.specs.declared.slots.Slot.TheVariants.{Free, Guarded}
+use Rattle.abs_state.specs.declared.values.AbsByte.{AbsByte}
+use Rattle.mask_states.specs.declared.keys.High.{High}
+use Rattle.mask_states.specs.declared.keys.High.TheVariants as high
+use Rattle.mask_states.specs.declared.keys.SpForm.{SpForm}
+use Rattle.mask_states.specs.declared.keys.SpForm.TheVariants.{Closed, Open}
 
--- a value of which nothing is known: no tag, no known bits
-abbrev pub unknown : List ℕ
-unknown = codes "-0000"
+-- which bits are known, and their values
+abbrev pub bits_text : TriByte → List ℕ
+bits_text t = hex_digits t.known 2 ++ hex_digits t.value 2
 
--- the words of a node's line: the root's frame (0), the word, no enables, I 0, no delay, a closed stack pointer with its
--- offset; then 32 registers, the flags (all known to be 0 but I, which the key has), the carry tag, and a slot for each byte
-abbrev pub node_words : NodeKey → List (List ℕ)
-node_words n =
-    codes "node" ∷ codes "0" ∷ hex_digits n.pc 4 ∷ codes "0000000" ∷ codes "0" ∷ codes "0" ∷ (codes "c" ++ decimal n.offset)
-    ∷ (replicate 32 unknown ++ codes "-7F00" ∷ codes "-" ∷ replicate n.offset unknown)
+abbrev pub tag_text : Tag → List ℕ
+tag_text tag.None = codes "-"
+tag_text (tag.Entry r) = codes "e" ++ hex_digits r 2
+tag_text tag.EntryFlags = codes "f"
+tag_text (tag.SpLo j) = codes "l" ++ hex_digits j 2
+tag_text (tag.SpHi k) = codes "h" ++ hex_digits k 4
 
--- the words of the root's line
-abbrev pub root_words : ℕ → ℕ → List (List ℕ)
-root_words rank need =
-    codes "inst" ∷ codes "root" ∷ codes "0000" ∷ codes "0000000" ∷ codes "0" ∷ codes "rank" ∷ decimal rank ∷ codes "need" ∷ decimal need ∷ []
+abbrev pub value_word : AbsByte → List ℕ
+value_word v = tag_text v.tag ++ bits_text v.bits
 
--- the lines of a schedule, or of none
-abbrev pub witness_lines : Option Plan → List (List (List ℕ))
-witness_lines None = (codes "witness" ∷ codes "open" ∷ []) ∷ []
-witness_lines (Some plan) = (codes "witness" ∷ codes "attained" ∷ []) ∷ schedule_lines plan
+-- whether the flags are those at the frame's entry
+abbrev pub entry_text : Bool → List ℕ
+entry_text true = codes "f"
+entry_text false = codes "-"
 
--- the lines of a certificate, each by its words
-abbrev pub certificate_lines : Claim → List (List (List ℕ))
-certificate_lines c =
-    (codes "stackcert" ∷ codes "1" ∷ [])
-    ∷ (codes "bound" ∷ decimal c.bound ∷ [])
-    ∷ (codes "assume" ∷ codes "0" ∷ [])
-    ∷ (codes "instances" ∷ codes "1" ∷ [])
-    ∷ root_words c.rank c.need
-    ∷ (codes "nodes" ∷ decimal (length c.nodes) ∷ [])
-    ∷ (map node_words c.nodes ++ (witness_lines c.witness ++ (codes "end" ∷ []) ∷ []))
+abbrev pub flags_word : Bool → TriByte → List ℕ
+flags_word entry bits = entry_text entry ++ bits_text bits
 
-abbrev pub text_of : Claim → List ℕ
-text_of c = flat_map line (certificate_lines c)
+abbrev pub carry_word : CarryTag → List ℕ
+carry_word carry.None = codes "-"
+carry_word (carry.Borrow j l) = codes "b" ++ hex_digits j 2 ++ hex_digits l 2
+
+abbrev pub slot_word : Slot AbsByte → List ℕ
+slot_word Free = codes "."
+slot_word (Guarded v) = value_word v
+
+-- the high byte of a half-written stack pointer
+abbrev pub high_text : High → List ℕ
+high_text (high.Known byte) = codes ",k" ++ hex_digits byte 2
+high_text (high.Tag k) = codes ",t" ++ hex_digits k 4
+
+abbrev pub form_word : SpForm → List ℕ
+form_word (Closed offset) = codes "c" ++ decimal offset
+form_word (Open offset high_byte) = codes "o" ++ decimal offset ++ high_text high_byte

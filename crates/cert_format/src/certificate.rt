@@ -1,24 +1,24 @@
 //! What a certificate is.
 
-ghost use Rattle.std.specs.Prelude.{◌≡◌};
+ghost use Rattle.std.specs.Prelude.{◌≡◌, ◌<◌, length, slice_get, Some, None};
 ghost use Rattle.std.specs.Option.{option_copied};
 ghost use Rattle.cert_format.specs.Certificate.{IsClaim};
 
-use line_reading::Malformed;
-use root_step::NodeKey;
+use crate::instance::Inst;
+use local_rules::Node;
 use std::marker::Model;
-use thiserror::Error;
+use vector_table::Assumptions;
 use witness_replay::Schedule;
 
-/// A claim about a firmware: at most `bound` bytes lie on the stack. Beside the bound it has the root's rank and need, the
-/// nodes that every run stays in, and maybe a schedule whose run attains the bound. Its numbers are in range, its nodes
-/// ascend strictly, and it keeps the limits. Source: own.
+/// A claim about a firmware: at most `bound` bytes lie on the stack. Beside the bound it has the assumptions that it rests on,
+/// the instances and the nodes that every run stays in, and maybe a schedule whose run attains the bound. Its numbers are in
+/// range, its lists ascend strictly, the instance of each node is there, and it keeps the limits. Source: own.
 #[derive(Debug, Drop)]
 pub struct Certificate {
     bound: u16,
-    rank: u16,
-    need: u16,
-    nodes: Vec<NodeKey>,
+    assumptions: Assumptions,
+    instances: Vec<Inst>,
+    nodes: Vec<Node>,
     witness: Option<Schedule>,
 }
 
@@ -27,51 +27,42 @@ impl Model for Certificate {
 
     ghost Value = { Claim };
 
-    ghost view = { λ c. record { bound = c.bound; rank = c.rank; need = c.need; nodes = c.nodes.items; witness = c.witness } };
+    ghost view = { λ c. record { bound = c.bound; assumptions = c.assumptions; instances = c.instances.items; nodes = c.nodes.items; witness = c.witness } };
 
-    ghost invariant = { λ c. IsClaim (record { bound = c.bound; rank = c.rank; need = c.need; nodes = c.nodes.items; witness = c.witness }) };
-}
-
-/// Why a text is no certificate, or isn't read.
-#[derive(Clone, Copy, Debug, PartialEq, Eq, Drop, Error)]
-pub enum CertFault {
-    /// The text is that of no certificate.
-    #[error("certificate malformed")]
-    Malformed,
-    /// Want of memory.
-    #[error("out of memory")]
-    Memory,
-}
-
-impl From<Malformed> for CertFault {
-    ghost use Rattle.std.specs.Prelude.{◌≡◌};
-    ghost use Rattle.cert_format.specs.declared.certificate.CertFault.TheVariants.{Malformed as MalformedText};
-
-    ghost from_gives = { λ fault e. e ≡ MalformedText };
-
-    fn from(_fault: Malformed) -> CertFault {
-        CertFault::Malformed
-    }
+    ghost invariant = { λ c. IsClaim (record { bound = c.bound; assumptions = c.assumptions; instances = c.instances.items; nodes = c.nodes.items; witness = c.witness }) };
 }
 
 impl Certificate {
-    /// The certificate of these parts, which keep to the ranges, the order and the limits.
+    /// The certificate of these parts, which keep to the ranges, the order and the limits. It has no schedule.
     pub fn build(
         bound: u16,
-        rank: u16,
-        need: u16,
-        nodes: Vec<NodeKey>,
-        witness: Option<Schedule>,
+        assumptions: Assumptions,
+        instances: Vec<Inst>,
+        nodes: Vec<Node>,
     ) -> Certificate
-        requires { IsClaim (record { bound = bound; rank = rank; need = need; nodes = nodes.items; witness = witness }) }
-        ensures { result ≡ record { bound = bound; rank = rank; need = need; nodes = nodes.items; witness = witness } }
+        requires { IsClaim (record { bound = bound; assumptions = assumptions; instances = instances.items; nodes = nodes.items; witness = None }) }
+        ensures { result ≡ record { bound = bound; assumptions = assumptions; instances = instances.items; nodes = nodes.items; witness = None } }
     {
         Certificate {
             bound,
-            rank,
-            need,
+            assumptions,
+            instances,
             nodes,
-            witness,
+            witness: None,
+        }
+    }
+
+    /// The same with another schedule, or with none.
+    #[tactic(auto, using(crate::proofs::Claims::with_witness))]
+    pub fn with_witness(self, schedule: Option<Schedule>) -> Certificate
+        ensures { result ≡ record { bound = self.bound; assumptions = self.assumptions; instances = self.instances; nodes = self.nodes; witness = schedule } }
+    {
+        Certificate {
+            bound: self.bound,
+            assumptions: self.assumptions,
+            instances: self.instances,
+            nodes: self.nodes,
+            witness: schedule,
         }
     }
 
@@ -82,26 +73,48 @@ impl Certificate {
         self.bound
     }
 
-    /// The root's rank.
-    pub fn rank(&self) -> u16
-        ensures { result ≡ self.now.rank }
+    /// The assumptions that it rests on.
+    pub fn assumptions(&self) -> &Assumptions
+        ensures { result.now ≡ self.now.assumptions }
     {
-        self.rank
+        &self.assumptions
     }
 
-    /// How many bytes the root needs, at most 2,048.
-    pub fn need(&self) -> u16
-        ensures { result ≡ self.now.need }
+    /// The instances, strictly ascending, at most 65,536.
+    pub fn instances(&self) -> &[Inst]
+        ensures { result.now ≡ self.now.instances }
     {
-        self.need
+        &self.instances
     }
 
-    /// The nodes, strictly ascending; with the other numbers they keep what every certificate keeps.
-    pub fn nodes(&self) -> &[NodeKey]
+    /// How many instances there are.
+    pub fn count_instances(&self) -> usize
+        ensures { result ≡ length self.now.instances }
+    {
+        self.instances.len()
+    }
+
+    /// Instance `j`, which is there.
+    pub fn instance(&self, j: usize) -> Inst
+        requires { j < length self.now.instances }
+        ensures { Some result ≡ slice_get self.now.instances j }
+    {
+        self.instances[j]
+    }
+
+    /// The nodes, strictly ascending, at most 65,536. With the other parts they keep what every certificate keeps.
+    pub fn nodes(&self) -> &[Node]
         ensures value { result.now ≡ self.now.nodes }
         ensures kept { IsClaim self.now }
     {
         &self.nodes
+    }
+
+    /// How many nodes there are.
+    pub fn count_nodes(&self) -> usize
+        ensures { result ≡ length self.now.nodes }
+    {
+        self.nodes.len()
     }
 
     /// The schedule, if there is one.

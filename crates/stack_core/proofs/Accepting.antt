@@ -9,13 +9,13 @@ use Rattle.avr_model.specs.Run.{Bounded}
 use Rattle.sb_base.specs.Outside.{Held, Bytes}
 use Rattle.witness_replay.specs.Spelling.{Plan}
 use Rattle.witness_replay.specs.Replay.{replay_of}
-use Rattle.cert_format.specs.Certificate.{Claim}
-use Rattle.cert_format.specs.Reading.{certificate_in}
-use Rattle.cert_format.specs.Exact.{ReadIsSpelled, SpelledIsRead}
-use Rattle.cert_format.specs.Valid.{IsSound, IsAttained, IsValid}
-use Rattle.cert_check.specs.Verdict.{verdict_of}
-use Rattle.cert_check.specs.declared.verdict.Verdict.{Verdict}
-use Rattle.cert_check.specs.declared.verdict.Verdict.TheVariants.{Accepted, Rejected}
+use Rattle.root_format.specs.Certificate.{Claim}
+use Rattle.root_format.specs.Reading.{certificate_in}
+use Rattle.root_format.specs.Exact.{ReadIsSpelled, SpelledIsRead}
+use Rattle.root_format.specs.Valid.{IsSound, IsAttained, IsValid}
+use Rattle.root_check.specs.Verdict.{verdict_of}
+use Rattle.root_check.specs.declared.verdict.Verdict.{Verdict}
+use Rattle.root_check.specs.declared.verdict.Verdict.TheVariants.{Accepted, Rejected}
 use Rattle.stack_core.specs.declared.command.Kind.TheVariants.{Check}
 use Rattle.stack_core.specs.Texts.{accepted, too_long, elf_refused, raw_fault, witness_rejected}
 use Rattle.stack_core.specs.Reply.{Reply, Open, Says, Meets, file_in, firmware_cap, certificate_cap, image_by, image_in, attains, witness_reply, verdict_reply, certificate_reply, second_reply, work_reply, reply_of}

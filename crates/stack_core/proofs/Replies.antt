@@ -8,7 +8,7 @@ use Rattle.avr_model.specs.declared.choice.Stop.TheVariants as stop
 use Rattle.sb_base.specs.Outside.{Held, Untold, Missing, Bytes, Gives}
 use Rattle.witness_replay.specs.Spelling.{Plan}
 use Rattle.witness_replay.specs.Replay.{Report, replay_of}
-use Rattle.cert_format.specs.Valid.{IsAttained}
+use Rattle.root_format.specs.Valid.{IsAttained}
 use Rattle.stack_core.specs.Texts.{accepted, witness_rejected, schedule_illegal, run_text, too_long}
 use Rattle.stack_core.specs.Reply.{Reply, Says, Meets, file_in, is_end, attains, witness_reply, report_reply, image_by, image_in}
 use Rattle.stack_core.specs.Firmware.{firmware_fault, firmware_words}

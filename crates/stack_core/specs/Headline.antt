@@ -2,10 +2,10 @@
 use Rattle.std.specs.Prelude.{◌≡◌, ◌≤◌, ◌↔◌, ℕ, List, [], Some, length}
 use Rattle.avr_model.specs.Run.{Bounded}
 use Rattle.sb_base.specs.Outside.{Held, Bytes}
-use Rattle.cert_format.specs.Certificate.{Claim}
-use Rattle.cert_format.specs.Exact.{IsCertificate}
-use Rattle.cert_format.specs.Spelling.{text_of}
-use Rattle.cert_format.specs.Valid.{IsValid}
+use Rattle.root_format.specs.Certificate.{Claim}
+use Rattle.root_format.specs.Exact.{IsCertificate}
+use Rattle.root_format.specs.Spelling.{text_of}
+use Rattle.root_format.specs.Valid.{IsValid}
 use Rattle.stack_core.specs.declared.command.Kind.TheVariants.{Check}
 use Rattle.stack_core.specs.Commands.{Command, command_of}
 use Rattle.stack_core.specs.Firmware.{IsFirmware}

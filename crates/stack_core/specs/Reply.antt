@@ -5,11 +5,11 @@ use Rattle.avr_model.specs.declared.choice.Stop.TheVariants as stop
 use Rattle.elf_load.specs.Elf.{is_elf}
 use Rattle.sb_base.specs.Outside.{Held, Untold, Missing, Bytes, Blamed, Rose, Gives, MayExceed, Blames, grown, GrewByPrefix}
 use Rattle.sb_base.specs.Lines.{Place, TextLine, lines_of}
-use Rattle.cert_format.specs.Certificate.{Claim}
-use Rattle.cert_format.specs.Reading.{certificate_in}
-use Rattle.cert_check.specs.Verdict.{verdict_of}
-use Rattle.cert_check.specs.declared.verdict.Verdict.{Verdict}
-use Rattle.cert_check.specs.declared.verdict.Verdict.TheVariants.{Accepted, Rejected}
+use Rattle.root_format.specs.Certificate.{Claim}
+use Rattle.root_format.specs.Reading.{certificate_in}
+use Rattle.root_check.specs.Verdict.{verdict_of}
+use Rattle.root_check.specs.declared.verdict.Verdict.{Verdict}
+use Rattle.root_check.specs.declared.verdict.Verdict.TheVariants.{Accepted, Rejected}
 use Rattle.witness_replay.specs.Spelling.{Plan}
 use Rattle.witness_replay.specs.Reading.{schedule_in}
 use Rattle.witness_replay.specs.Replay.{Report, replay_of}

@@ -7,8 +7,8 @@ use Rattle.avr_model.specs.declared.choice.Flag.TheVariants.{Live, Protected, Tr
 use Rattle.avr_model.specs.declared.choice.Stop.{Stop}
 use Rattle.avr_model.specs.declared.choice.Stop.TheVariants as stop
 use Rattle.root_step.specs.declared.key.NodeKey.{NodeKey}
-use Rattle.cert_check.specs.declared.verdict.Reason.{Reason}
-use Rattle.cert_check.specs.declared.verdict.Reason.TheVariants.{Root, Node, Edge, Need, Bound}
+use Rattle.root_check.specs.declared.verdict.Reason.{Reason}
+use Rattle.root_check.specs.declared.verdict.Reason.TheVariants.{Root, Node, Edge, Need, Bound}
 use Rattle.elf_load.specs.Elf.{ElfRefusal, Short, NotElf32Little, NotExecutable, NotAvr, EntrySize, SegmentOutside, Overlap}
 use Rattle.witness_replay.specs.Replay.{Report}
 

@@ -5,10 +5,10 @@ ghost use Rattle.sb_base.specs.Outside.{Held};
 ghost use Rattle.stack_core.specs.Reply.{Meets, reply_of};
 ghost use Rattle.stack_core.specs.Headline.{Headline, IsExact};
 
-use cert_check::laws::{
+use root_check::laws::{
     accepted_where_sound, sound_certificates_bound_every_run, valid_where_accepted_and_attained,
 };
-use cert_format::laws::certificate_texts;
+use root_format::laws::certificate_texts;
 use flash_image::laws::raw_images_are_their_words;
 
 /// Where a status is the reply's, it is 0 for a `check` only where the bound holds, and, where the files read, exactly where

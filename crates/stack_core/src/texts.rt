@@ -8,7 +8,7 @@ ghost use Rattle.sb_base.specs.Writing.{with_words, with_end};
 ghost use Rattle.stack_core.specs.Texts.{told, usage, read_fault, too_long, raw_fault, elf_refused, IsRefused, certificate_malformed, schedule_malformed, schedule_illegal, witness_word, accepted, key_words, reason_words, rejected, witness_rejected, stop_words, run_text};
 
 use avr_model::choice::{Flag, Stop};
-use cert_check::Reason;
+use root_check::Reason;
 use elf_load::ElfFault;
 use root_step::NodeKey;
 use sb_base::LineWriter;

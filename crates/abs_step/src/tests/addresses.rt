@@ -3,14 +3,15 @@ use crate::computed::value;
 use crate::flags::{flag_at, flags_written};
 use crate::flow::{are_equal, far, further, is_target, near, port_bit, register_bit};
 use crate::pointers::{
-    Pointed, base_register, flash_value, pair_constant, point, pointer_register, reaches,
-    read_pointed, step_before,
+    base_register, flash_value, pair_constant, point, pointer_register, reaches, read_pointed,
+    step_before,
 };
 use crate::reads::{io_bits, read_at};
 use abs_state::AbsByte;
 use avr_model::instruction::{Base, Pointer};
 use bit_domain::{Tri, TriByte};
 use flash_image::Flash;
+use local_rules::Pointed;
 use mask_states::{Kind, SpForm};
 use sp_domain::{CarryTag, Slot, Tag};
 use std::test::Fail;

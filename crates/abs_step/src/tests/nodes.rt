@@ -1,12 +1,12 @@
 //! Whole nodes worked by hand: their successors, calls, return and fault.
 
 use crate::computed::value;
-use crate::local::{CallSite, Exit, Local, NodeFault};
-use crate::part::local_part;
+use crate::part::local;
 use crate::tests::{key, unknown_state};
 use abs_state::AbsState;
 use avr_model::assumption::{Entry, Items};
 use flash_image::Flash;
+use local_rules::local::{CallSite, Exit, Local, NodeFault};
 use mask_states::{High, Kind, NodeKey, SpForm};
 use sp_domain::Slot;
 use std::alloc::Global;
@@ -45,7 +45,7 @@ fn part_of(
     if key.pc >= 16384 || state.slots.len() != key.offset() {
         return Err(NodeFault::Memory);
     }
-    let part = local_part(alloc, &flash, assumptions, key, state)?;
+    let part = local(alloc, &flash, assumptions, key, state)?;
     Ok(part)
 }
 

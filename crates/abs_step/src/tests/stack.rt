@@ -1,11 +1,11 @@
 use super::{goes_on, key, tagged, unknown_state};
 use crate::computed::value;
-use crate::local::NodeFault;
 use crate::pointers::point;
 use crate::reads::read_at;
 use crate::stack_pointer::{closing_offset, high_part, is_hung};
 use abs_state::AbsByte;
 use avr_model::instruction::{HighPair, Instr, Six};
+use local_rules::local::NodeFault;
 use mask_states::{High, Kind, SpForm};
 use sp_domain::Tag;
 use std::test::Fail;

@@ -1,5 +1,5 @@
 use Rattle.std.proofs.Common.{ap, arith}
-use Rattle.abs_step.specs.Raw.{at_word}
+use Rattle.local_rules.specs.Raw.{at_word}
 use Rattle.abs_step.proofs.Added.{none_added, more_added}
 use Rattle.abs_step.proofs.jumps.add_words.Goals as goal
 

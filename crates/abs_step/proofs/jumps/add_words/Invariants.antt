@@ -1,5 +1,5 @@
 use Rattle.std.proofs.Common.{map, take}
-use Rattle.abs_step.specs.Raw.{moves_to, at_word}
+use Rattle.local_rules.specs.Raw.{moves_to, at_word}
 use Rattle.abs_step.specs.Adding.{IsAdded}
 use Rattle.abs_step.proofs.jumps.add_words.Given as goal
 

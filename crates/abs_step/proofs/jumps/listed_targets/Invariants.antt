@@ -1,7 +1,7 @@
 use Rattle.std.proofs.Common.{◌≡◌, filter, take}
 use Rattle.avr_model.specs.Assumptions.{lists}
-use Rattle.abs_step.specs.Registers.{bits}
-use Rattle.abs_step.specs.Flow.{words_of}
+use Rattle.local_rules.specs.Registers.{bits}
+use Rattle.local_rules.specs.Flow.{words_of}
 use Rattle.abs_step.proofs.jumps.listed_targets.Given as goal
 
 abbrev pub invariant-loop-at : goal.invariant-loop-at

@@ -1,7 +1,7 @@
 use Rattle.std.proofs.Common.{sym, ap, ◌∙◌, subst, Result, Err}
-use Rattle.abs_step.specs.declared.local.Local.{Local}
-use Rattle.abs_step.specs.declared.local.NodeFault.{NodeFault}
-use Rattle.abs_step.specs.declared.local.NodeFault.TheVariants.{UntrackedSp}
+use Rattle.local_rules.specs.declared.local.Local.{Local}
+use Rattle.local_rules.specs.declared.local.NodeFault.{NodeFault}
+use Rattle.local_rules.specs.declared.local.NodeFault.TheVariants.{UntrackedSp}
 use Rattle.abs_step.specs.Adding.{Settles}
 use Rattle.abs_step.proofs.Gathered.{not_memory}
 use Rattle.abs_step.proofs.Settled.{stopped_too}

@@ -1,6 +1,6 @@
 use Rattle.std.proofs.Common.{sym, ◌∙◌, ℕ, Bool, false, arith}
-use Rattle.abs_step.specs.Raw.{Raw, one}
-use Rattle.abs_step.specs.Writes.{reaches, written_at}
+use Rattle.local_rules.specs.Raw.{Raw, one}
+use Rattle.local_rules.specs.Writes.{reaches, written_at}
 use Rattle.abs_step.proofs.Gathered.{gathered_skip, gathered_next, as_gathered}
 use Rattle.abs_step.proofs.pointer_stores.listed_writes.Goals as goal
 use Rattle.abs_step.proofs.pointer_stores.listed_writes.Goals.{then-reaches+in_ok-fault, else-reaches}

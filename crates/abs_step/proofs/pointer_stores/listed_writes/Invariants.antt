@@ -1,6 +1,6 @@
 use Rattle.std.proofs.Common.{◌∷◌, map, filter, take, false}
-use Rattle.abs_step.specs.Raw.{one, all_of}
-use Rattle.abs_step.specs.Writes.{reaches, written_at}
+use Rattle.local_rules.specs.Raw.{one, all_of}
+use Rattle.local_rules.specs.Writes.{reaches, written_at}
 use Rattle.abs_step.specs.Adding.{IsGathered}
 use Rattle.abs_step.proofs.pointer_stores.listed_writes.Given as goal
 

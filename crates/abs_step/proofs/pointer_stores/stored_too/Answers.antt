@@ -1,5 +1,5 @@
 use Rattle.std.proofs.Common.{sym, subst, false, Some}
-use Rattle.abs_step.specs.Writes.{written_at}
+use Rattle.local_rules.specs.Writes.{written_at}
 use Rattle.abs_step.specs.Adding.{IsGathered, with_another}
 use Rattle.abs_step.proofs.Gathered.{gathered_more, gathered_fault, not_memory}
 use Rattle.abs_step.proofs.pointer_stores.stored_too.Goals as goal

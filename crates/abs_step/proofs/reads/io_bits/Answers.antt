@@ -1,7 +1,7 @@
 use Rattle.std.proofs.Common.{arith}
 use Rattle.avr_model.specs.Vectors.{enable_of}
 use Rattle.bit_domain.proofs.AllLaws.{bytes_are_their_bits}
-use Rattle.abs_step.specs.Reads.{io_tri}
+use Rattle.local_rules.specs.Reads.{io_tri}
 use Rattle.abs_step.proofs.Enabled.{one_more}
 use Rattle.abs_step.proofs.reads.io_bits.Goals as goal
 

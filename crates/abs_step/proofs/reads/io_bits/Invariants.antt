@@ -1,7 +1,7 @@
 use Rattle.std.proofs.Common.{◌≡◌, ◌<◌, ℕ}
 use Rattle.avr_model.specs.Vectors.{enable_of}
 use Rattle.bit_domain.specs.TriByte.{tri_at}
-use Rattle.abs_step.specs.Reads.{io_tri}
+use Rattle.local_rules.specs.Reads.{io_tri}
 use Rattle.abs_step.proofs.reads.io_bits.Given as goal
 
 -- the bits so far are those of the address

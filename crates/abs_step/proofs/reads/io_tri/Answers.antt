@@ -1,5 +1,5 @@
 use Rattle.std.proofs.Common.{◌∙◌, sym, ap}
-use Rattle.abs_step.specs.Registers.{tri_of_bool}
+use Rattle.local_rules.specs.Registers.{tri_of_bool}
 use Rattle.abs_step.proofs.Enabled.{enabled_bit}
 use Rattle.abs_step.proofs.reads.io_tri.Goals as goal
 

@@ -1,5 +1,5 @@
 use Rattle.std.proofs.Common.{◌∙◌, sym, ap}
-use Rattle.abs_step.specs.Reads.{value_of}
+use Rattle.local_rules.specs.Reads.{value_of}
 use Rattle.abs_step.proofs.NoSlot.{no_slot}
 use Rattle.abs_step.proofs.reads.slot_value.Goals as goal
 

@@ -1,7 +1,7 @@
 use Rattle.std.proofs.Common.{◌∙◌, sym, ap, true, false, Some}
 use Rattle.avr_model.specs.declared.instruction.BinaryOp.{BinaryOp}
 use Rattle.bit_domain.specs.declared.bits.Tri.TheVariants.{Zero}
-use Rattle.abs_step.specs.Registers.{compare_after, binary_after}
+use Rattle.local_rules.specs.Registers.{compare_after, binary_after}
 use Rattle.abs_step.proofs.rows.binary.Goals as goal
 
 pub returns-in-Cpc : goal.returns-in-Cpc

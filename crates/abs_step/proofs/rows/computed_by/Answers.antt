@@ -1,6 +1,6 @@
 use Rattle.std.proofs.Common.{◌∙◌, sym, ap, Some}
-use Rattle.abs_step.specs.Registers.{computed_by, going_with}
-use Rattle.abs_step.specs.Local.{row_of}
+use Rattle.local_rules.specs.Registers.{computed_by, going_with}
+use Rattle.local_rules.specs.Local.{row_of}
 use Rattle.abs_step.proofs.rows.computed_by.Goals as goal
 
 pub returns-in-Adiw-clause-value : goal.returns-in-Adiw-clause-value

@@ -1,7 +1,7 @@
 use Rattle.std.proofs.Common.{◌∙◌, sym, ap, false, Some}
 use Rattle.avr_model.specs.declared.instruction.ImmediateOp.{ImmediateOp}
 use Rattle.bit_domain.specs.declared.bits.Tri.TheVariants.{Zero}
-use Rattle.abs_step.specs.Registers.{compare_after, sub_after, sbc_after, immediate_after}
+use Rattle.local_rules.specs.Registers.{compare_after, sub_after, sbc_after, immediate_after}
 use Rattle.abs_step.proofs.rows.immediate.Goals as goal
 
 pub returns-in-Cpi : goal.returns-in-Cpi

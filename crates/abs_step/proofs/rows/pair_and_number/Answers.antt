@@ -1,5 +1,5 @@
 use Rattle.std.proofs.Common.{◌∙◌, ◌*◌}
-use Rattle.abs_step.specs.Registers.{wide_after}
+use Rattle.local_rules.specs.Registers.{wide_after}
 use Rattle.abs_step.proofs.rows.pair_and_number.Goals as goal
 
 pub returns : goal.returns

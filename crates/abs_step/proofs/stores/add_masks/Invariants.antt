@@ -1,5 +1,5 @@
 use Rattle.std.proofs.Common.{map, take}
-use Rattle.abs_step.specs.Raw.{moves_to}
+use Rattle.local_rules.specs.Raw.{moves_to}
 use Rattle.abs_step.specs.Adding.{IsAdded}
 use Rattle.abs_step.proofs.stores.add_masks.Given as goal
 

@@ -1,6 +1,6 @@
 use Rattle.std.proofs.Common.{sym, ap, ◌∙◌, map, None}
-use Rattle.abs_step.specs.Raw.{untracked_if, enters}
-use Rattle.abs_step.specs.Flow.{site, calling}
+use Rattle.local_rules.specs.Raw.{untracked_if, enters}
+use Rattle.local_rules.specs.Flow.{site, calling}
 use Rattle.abs_step.proofs.Added.{led}
 use Rattle.abs_step.proofs.transfers.calling.Goals as goal
 

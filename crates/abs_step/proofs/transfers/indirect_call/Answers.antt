@@ -1,5 +1,5 @@
 use Rattle.std.proofs.Common.{sym, ap, ◌∙◌, subst}
-use Rattle.abs_step.specs.Flow.{calling, indirect_call}
+use Rattle.local_rules.specs.Flow.{calling, indirect_call}
 use Rattle.abs_step.specs.Adding.{IsLed}
 use Rattle.abs_step.proofs.transfers.indirect_call.Goals as goal
 

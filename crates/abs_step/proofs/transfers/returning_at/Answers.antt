@@ -1,6 +1,6 @@
 use Rattle.std.proofs.Common.{◌≡◌, ◌∙◌, sym, inl, inr, [], Some}
-use Rattle.abs_step.specs.Raw.{leaves_by}
-use Rattle.abs_step.specs.Flow.{returning}
+use Rattle.local_rules.specs.Raw.{leaves_by}
+use Rattle.local_rules.specs.Flow.{returning}
 use Rattle.abs_step.proofs.Added.{led}
 use Rattle.abs_step.proofs.transfers.returning_at.Goals as goal
 

@@ -1,5 +1,5 @@
 use Rattle.std.proofs.Common.{◌≡◌, map, take}
-use Rattle.abs_step.specs.Flow.{site}
+use Rattle.local_rules.specs.Flow.{site}
 use Rattle.abs_step.proofs.transfers.sites.Given as goal
 
 abbrev pub invariant-loop-at : goal.invariant-loop-at

@@ -1,5 +1,4 @@
-use Rattle.cert_format.proofs.Exact.{claim_kept}
 use Rattle.cert_format.proofs.reading.read_claim.Goals as goal
 
-pub build-requires : goal.build-requires
-build-requires c = claim_kept c.word_laws.ensures _ _ _ _ _ _ _ _ _ c.in_ok-bound.ensures c.in_ok-rank.ensures c.in_ok-nodes.ensures
+pub build-claim-requires : goal.build-claim-requires
+build-claim-requires c = c.claims_keep.ensures _ _ _ _ _ _ _ _ c.in_ok-bound.ensures.small c.in_ok-assumptions.ensures c.in_ok-instances.ensures (rw c.deref.ensures.value at c.in_ok-nodes.ensures)

@@ -1,6 +1,6 @@
 use Rattle.std.proofs.Common.{subst}
 use Rattle.std.specs.Prelude.{◌↔◌, IsTrue}
-use Rattle.cert_format.specs.Valid.{IsAttained}
+use Rattle.root_format.specs.Valid.{IsAttained}
 use Rattle.stack_core.proofs.reply.attains_alone.Goals as goal
 
 pub returns : goal.returns

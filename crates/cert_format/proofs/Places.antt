@@ -1,0 +1,75 @@
+-- The number of an instance's line.
+use Rattle.std.proofs.Common.{ℕ, zero, suc, ◌+◌, ◌≡◌, List, [], ◌∷◌, Bool, true, false, refl, ap, sym, ◌∙◌, arith, Some, subst, slice_get}
+use Rattle.std.specs.Prelude.{Contains}
+use Rattle.std.specs.List.{AllByRecursion}
+use Rattle.std.specs.List.Sorted.{IsStrictlySortedBy}
+use Rattle.std.specs.Ordering.{is_eq}
+use Rattle.std.specs.declared.cmp.Ordering.{Ordering}
+use Rattle.std.specs.declared.cmp.Ordering.TheVariants.{Less, Equal, Greater}
+use Rattle.std.proofs.lemmas.Bool.{false≢true}
+use Rattle.line_reading.proofs.Steps.{some_is, none_some}
+use Rattle.mask_states.specs.declared.keys.InstKey.{InstKey}
+use Rattle.mask_states.specs.Order.{inst_cmp, same_inst}
+use Rattle.mask_states.specs.Laws.{KeysAreOrdered}
+use Rattle.cert_format.specs.declared.instance.Inst.{Inst}
+use Rattle.cert_format.specs.Lines.{place_of}
+use Rattle.cert_format.specs.Certificate.{inst_keys}
+
+equal_is : (o : Ordering) → is_eq o ≡ true → o ≡ Equal
+equal_is Less e = cc
+equal_is Equal e = refl
+equal_is Greater e = cc
+
+same_is : KeysAreOrdered → (a b : InstKey) → same_inst a b ≡ true → a ≡ b
+unfolding same_inst
+same_is o a b e = (o.equal_insts a b).0 (equal_is (inst_cmp a b) e)
+
+same_if : KeysAreOrdered → (a b : InstKey) → a ≡ b → same_inst a b ≡ true
+unfolding same_inst
+same_if o a b e = ap is_eq ((o.equal_insts a b).1 e)
+
+less_differs : (a b : InstKey) → inst_cmp a b ≡ Less → same_inst a b ≡ false
+unfolding same_inst
+less_differs a b e = ap is_eq e
+
+all_get : (P : InstKey → Type 0) (xs : List Inst) (i : ℕ) (x : Inst) → AllByRecursion P (inst_keys xs) → slice_get xs i ≡ Some x → P x.key
+all_get P [] i x h e = absurd (none_some x e)
+all_get P (y ∷ ys) zero x h e = let Q : Inst → Type 0 = λ z. P z.key in subst Q (some_is y x e) h.0
+all_get P (y ∷ ys) (suc i) x h e = all_get P ys i x h.1 e
+
+-- an instance's number is where it stands
+pub place_unique : KeysAreOrdered → (xs : List Inst) (i : ℕ) (x : Inst) → IsStrictlySortedBy inst_cmp (inst_keys xs) → slice_get xs i ≡ Some x → place_of x.key xs ≡ i
+unfolding IsStrictlySortedBy
+place_unique o [] i x h e = absurd (none_some x e)
+place_unique o (y ∷ ys) zero x h e = rw (same_if o y.key x.key (ap (λ (z : Inst). z.key) (some_is y x e))) refl
+place_unique o (y ∷ ys) (suc i) x h e =
+    let other = less_differs y.key x.key (all_get (λ z. inst_cmp y.key z ≡ Less) ys i x h.0 e) in
+    let more = place_unique o ys i x h.1 e in
+    rw (other, more) (omega arith)
+
+pub contains_at : (xs : List Inst) (i : ℕ) (x : Inst) → slice_get xs i ≡ Some x → Contains (inst_keys xs) x.key
+contains_at [] i x e = absurd (none_some x e)
+contains_at (y ∷ ys) zero x e = (0, omega arith, ap (λ (z : Inst). z.key) (some_is y x e))
+contains_at (y ∷ ys) (suc i) x e = let t = contains_at ys i x e in (suc t.0, omega (arith, t.1), t.2)
+
+-- an instance that is there has a number
+pub record HasPlace (xs : List Inst) (key : InstKey) : Type 0 where
+  pub inst : Inst
+  pub there : slice_get xs (place_of key xs) ≡ Some inst
+  pub same : inst.key ≡ key
+
+place_by : (t : Bool) (x : Inst) (xs : List Inst) (key : InstKey) → same_inst x.key key ≡ t → (t ≡ true → x.key ≡ key) → (t ≡ false → HasPlace xs key) → HasPlace (x ∷ xs) key
+place_by true x xs key e here there = record { inst = x; there = rw e refl; same = here refl }
+place_by false x xs key e here there =
+    let h = there refl in
+    let next : place_of key xs + 1 ≡ suc (place_of key xs) = omega arith in
+    record { inst = h.inst; there = rw (e, next) h.there; same = h.same }
+
+contained : KeysAreOrdered → (x : Inst) (xs : List Inst) (key : InstKey) → Contains (inst_keys (x ∷ xs)) key → same_inst x.key key ≡ false → Contains (inst_keys xs) key
+contained o x xs key (zero, l, e) other = absurd (false≢true (sym other ∙ same_if o x.key key e))
+contained o x xs key (suc i, l, e) other = (i, omega (arith, l), e)
+
+pub has_place : KeysAreOrdered → (xs : List Inst) (key : InstKey) → Contains (inst_keys xs) key → HasPlace xs key
+has_place o [] key h = absurd (omega (arith, h.1))
+has_place o (x ∷ xs) key h =
+    place_by (same_inst x.key key) x xs key refl (λ t. same_is o x.key key t) (λ f. has_place o xs key (contained o x xs key h f))

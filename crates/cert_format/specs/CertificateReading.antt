@@ -1,0 +1,170 @@
+-- Reading a certificate forward, line by line. A refusal tells why the first line that can't go on is refused, and where it stands:
+-- of one line, form comes before order and order before limit.
+use Rattle.std.specs.Prelude.{ℕ, zero, suc, ◌+◌, ◌-◌, nat_le, Bool, true, false, List, [], ◌∷◌, ◌++◌, length, codes, slice_get, Option, Some, None, Result, Ok, Err, if◌then◌else◌}
+use Rattle.std.specs.Ordering.{is_lt}
+use Rattle.std.specs.Str.{bytes_eq}
+use Rattle.avr_model.specs.declared.assumption.Entry.{Entry}
+use Rattle.avr_model.specs.State.{SIZE}
+use Rattle.sb_base.specs.Digits.{dec_answer}
+use Rattle.sb_base.specs.declared.digits.DigitFault.{DigitFault}
+use Rattle.sb_base.specs.declared.digits.DigitFault.TheVariants.{WrongLength, BadDigit, TooGreat}
+use Rattle.sb_base.specs.Lines.{TextLine, Place, lines_of, words_of}
+use Rattle.line_reading.specs.Reading.{◌>>=◌, dec_at, word_at, is_over, then_at, this_by, line_by}
+use Rattle.vector_table.specs.Entries.{is_above_last, most_entries}
+use Rattle.mask_states.specs.Keys.{offset_of}
+use Rattle.mask_states.specs.Order.{inst_cmp, node_cmp}
+use Rattle.local_rules.specs.declared.local.Node.{Node}
+use Rattle.indirect_targets.specs.Reading.{entry_in}
+use Rattle.witness_replay.specs.Spelling.{Plan}
+use Rattle.witness_replay.specs.Reading.{schedule_at}
+use Rattle.cert_format.specs.declared.instance.Inst.{Inst}
+use Rattle.cert_format.specs.declared.fault.Limit.TheVariants as limit
+use Rattle.cert_format.specs.declared.fault.CertFault.{CertFault}
+use Rattle.cert_format.specs.declared.fault.CertFault.TheVariants as fault
+use Rattle.cert_format.specs.LineReading.{inst_in, node_in}
+use Rattle.cert_format.specs.Certificate.{Claim, most_instances, most_nodes, most_cells, cells_of}
+
+-- ---- one line
+
+-- a line that isn't of its form is malformed
+abbrev pub formed : {A : Type 0} → Result (A × Place) Place → Result (A × Place) CertFault
+formed (Ok x) = Ok x
+formed (Err q) = Err (fault.Malformed q.at)
+
+-- a name and a number
+unfoldable pub numbered_in : List ℕ → ℕ → List (List ℕ) → Option ℕ
+numbered_in name most ws = do
+  w ← word_at name ws
+  n ← dec_at most w.1
+  if is_over n.1 then Some n.0 else None
+
+abbrev pub numbered_by : List ℕ → ℕ → List ℕ → Option ℕ
+numbered_by name most text = numbered_in name most (words_of text)
+
+-- a decimal, whose number is left out where it is too great
+abbrev pub counted : Result ℕ DigitFault → Option (Option ℕ)
+counted (Ok n) = Some (Some n)
+counted (Err TooGreat) = Some None
+counted (Err (WrongLength n)) = None
+counted (Err (BadDigit at)) = None
+
+abbrev pub count_at : List (List ℕ) → Option (Option ℕ)
+count_at [] = None
+count_at (w ∷ ws) = if is_over ws then counted (dec_answer w most_nodes) else None
+
+-- how many nodes there are, if not too many
+unfoldable pub count_in : List (List ℕ) → Option (Option ℕ)
+count_in ws = word_at (codes "nodes") ws >>= λ w. count_at w.1
+
+abbrev pub count_by : List ℕ → Option (Option ℕ)
+count_by text = count_in (words_of text)
+
+abbrev pub entry_by : List ℕ → Option Entry
+entry_by text = entry_in (words_of text)
+
+abbrev pub inst_by : List ℕ → Option Inst
+inst_by text = inst_in (words_of text)
+
+abbrev pub node_by : List Inst → List ℕ → Option Node
+node_by insts text = node_in insts (words_of text)
+
+-- whether a schedule follows
+unfoldable pub ending_by : List ℕ → Option Bool
+ending_by text = if bytes_eq text (codes "witness open") then Some false else (if bytes_eq text (codes "witness attained") then Some true else None)
+
+-- ---- the lines of a list
+
+-- the last one, if there is one
+abbrev pub last_in : {A : Type 0} → List A → Option A
+last_in xs = slice_get xs (length xs - 1)
+
+abbrev pub is_inst_above : Option Inst → Inst → Bool
+is_inst_above None x = true
+is_inst_above (Some last) x = is_lt (inst_cmp last.key x.key)
+
+abbrev pub is_node_above : Option Node → Node → Bool
+is_node_above None n = true
+is_node_above (Some last) n = is_lt (node_cmp last.key n.key)
+
+-- why an item of a line at this offset is refused behind those before it, if it is
+abbrev pub refused_entry : List Entry → Entry → ℕ → Option CertFault
+refused_entry es e at = if is_above_last es e then None else Some (fault.Order at)
+
+abbrev pub refused_inst : List Inst → Inst → ℕ → Option CertFault
+refused_inst xs x at = if is_inst_above (last_in xs) x then None else Some (fault.Order at)
+
+abbrev pub refused_node : List Node → Node → ℕ → Option CertFault
+refused_node ns n at =
+    if is_node_above (last_in ns) n then (if nat_le (cells_of ns + (1 + offset_of n.key.sp)) most_cells then None else Some (fault.Limit limit.Cells))
+    else Some (fault.Order at)
+
+abbrev pub unless : {X : Type 0} → Option CertFault → X → Result X CertFault
+unless None x = Ok x
+unless (Some f) x = Err f
+
+-- the items before and this one, from a line at this offset, or why it is refused
+abbrev pub with_item : {A : Type 0} → (List A → A → ℕ → Option CertFault) → List A → A → ℕ → Result (List A) CertFault
+with_item refused xs x at = unless (refused xs x at) (xs ++ x ∷ [])
+
+-- the items before and that of the next line
+unfoldable pub longer_at : {A : Type 0} → (List ℕ → Option A) → (List A → A → ℕ → Option CertFault) → List A → Place → Result (List A × Place) CertFault
+longer_at by refused xs p = then_at (formed (line_by by p)) (λ x. then_at (with_item refused xs x.0 p.at) (λ ys. Ok (ys, x.1)))
+
+-- the items before and those of so many lines
+unfoldable pub items_from : {A : Type 0} → (List ℕ → Option A) → (List A → A → ℕ → Option CertFault) → List A → ℕ → Place → Result (List A × Place) CertFault
+items_from by refused xs zero p = Ok (xs, p)
+items_from by refused xs (suc n) p = then_at (longer_at by refused xs p) (λ x. items_from by refused x.0 n x.1)
+
+-- ---- parts of several lines
+
+-- the version and the bound
+unfoldable pub heading_at : Place → Result (ℕ × Place) CertFault
+heading_at p = then_at (formed (line_by (this_by (codes "stackcert 1")) p)) (λ v. formed (line_by (numbered_by (codes "bound") SIZE) v.1))
+
+unfoldable pub entries_at : Place → Result (List Entry × Place) CertFault
+entries_at p = then_at (formed (line_by (numbered_by (codes "assume") most_entries) p)) (λ n. items_from entry_by refused_entry [] n.0 n.1)
+
+unfoldable pub insts_at : Place → Result (List Inst × Place) CertFault
+insts_at p = then_at (formed (line_by (numbered_by (codes "instances") most_instances) p)) (λ n. items_from inst_by refused_inst [] n.0 n.1)
+
+abbrev pub limited : Result (Option ℕ × Place) CertFault → Result (ℕ × Place) CertFault
+limited (Ok (Some n, q)) = Ok (n, q)
+limited (Ok (None, q)) = Err (fault.Limit limit.Nodes)
+limited (Err f) = Err f
+
+unfoldable pub nodes_at : List Inst → Place → Result (List Node × Place) CertFault
+nodes_at insts p = then_at (limited (formed (line_by count_by p))) (λ n. items_from (node_by insts) refused_node [] n.0 n.1)
+
+abbrev pub plan_if : Bool → Place → Result (Option Plan × Place) CertFault
+plan_if false p = Ok (None, p)
+plan_if true p = then_at (formed (schedule_at p)) (λ s. Ok (Some s.0, s.1))
+
+unfoldable pub witness_at : Place → Result (Option Plan × Place) CertFault
+witness_at p = then_at (formed (line_by ending_by p)) (λ e. plan_if e.0 e.1)
+
+abbrev pub if_last : List TextLine → Place → Result (Unit {0} × Place) CertFault
+if_last [] p = Ok (tt, p)
+if_last (l ∷ ls) p = Err (fault.Malformed p.at)
+
+-- the last line, behind which there is nothing
+unfoldable pub end_at : Place → Result (Unit {0} × Place) CertFault
+end_at p = then_at (formed (line_by (this_by (codes "end")) p)) (λ e. if_last e.1.rest e.1)
+
+-- ---- the whole
+
+unfoldable pub claim_at : Place → Result (Claim × Place) CertFault
+claim_at p =
+    then_at (heading_at p) (λ b.
+    then_at (entries_at b.1) (λ a.
+    then_at (insts_at a.1) (λ i.
+    then_at (nodes_at i.0 i.1) (λ n.
+    then_at (witness_at n.1) (λ w.
+    then_at (end_at w.1) (λ e. Ok (record { bound = b.0; assumptions = a.0; instances = i.0; nodes = n.0; witness = w.0 }, e.1)))))))
+
+abbrev pub claim_alone : Result (Claim × Place) CertFault → Result Claim CertFault
+claim_alone (Ok x) = Ok x.0
+claim_alone (Err f) = Err f
+
+-- the claim of a text, or why it is refused
+unfoldable pub certificate_in : List ℕ → Result Claim CertFault
+certificate_in text = claim_alone (claim_at (record { at = 0; rest = lines_of text }))

@@ -1,0 +1,49 @@
+-- Which values, flags, slots and forms a node may have, in the root's frame or in another.
+use Rattle.std.specs.Prelude.{◌≡◌, ◌<◌, ◌≤◌, ⊤, Bool, true, false}
+use Rattle.avr_model.specs.State.{SIZE}
+use Rattle.bit_domain.specs.declared.bits.Tri.TheVariants.{Any}
+use Rattle.bit_domain.specs.declared.bytes.TriByte.{TriByte}
+use Rattle.bit_domain.specs.TriByte.{tri_at}
+use Rattle.sp_domain.specs.declared.tags.Tag.{Tag}
+use Rattle.sp_domain.specs.declared.tags.Tag.TheVariants as tag
+use Rattle.sp_domain.specs.declared.tags.CarryTag.{CarryTag}
+use Rattle.sp_domain.specs.declared.tags.CarryTag.TheVariants as carry
+use Rattle.sp_domain.specs.declared.slots.Slot.{Slot}
+use Rattle.sp_domain.specs.declared.slots.Slot.TheVariants.{Free, Guarded}
+use Rattle.sp_domain.specs.Tags.{HasBytes}
+use Rattle.abs_state.specs.declared.values.AbsByte.{AbsByte}
+use Rattle.abs_state.specs.Formed.{NamesRegister}
+use Rattle.mask_states.specs.declared.keys.High.{High}
+use Rattle.mask_states.specs.declared.keys.High.TheVariants as high
+use Rattle.mask_states.specs.declared.keys.SpForm.{SpForm}
+use Rattle.mask_states.specs.declared.keys.SpForm.TheVariants.{Closed, Open}
+use Rattle.local_rules.specs.Cover.{TagFits}
+
+-- its number fits, and in the root's frame it is none
+pub record IsTag (root : Bool) (t : Tag) : Type 0 where
+  pub names : NamesRegister t
+  pub fits : TagFits t
+  pub none : root ≡ true → t ≡ tag.None
+
+abbrev pub IsSlot : Bool → Slot AbsByte → Type 0
+IsSlot root Free = ⊤
+IsSlot root (Guarded v) = IsTag root v.tag
+
+-- bit 7 is unknown, and in the root's frame they aren't those at the entry
+pub record AreFlags (root entry : Bool) (bits : TriByte) : Type 0 where
+  pub bit_7 : tri_at bits 7 ≡ Any
+  pub none : root ≡ true → entry ≡ false
+
+pub record IsCarry (root : Bool) (c : CarryTag) : Type 0 where
+  pub bytes : HasBytes c
+  pub none : root ≡ true → c ≡ carry.None
+
+abbrev pub IsHigh : Bool → High → Type 0
+IsHigh true (high.Known byte) = byte < 256
+IsHigh true (high.Tag k) = ⊥
+IsHigh false (high.Known byte) = ⊥
+IsHigh false (high.Tag k) = k < 65536
+
+abbrev pub IsForm : Bool → SpForm → Type 0
+IsForm root (Closed offset) = offset ≤ SIZE
+IsForm root (Open offset h) = (offset ≤ SIZE) × IsHigh root h

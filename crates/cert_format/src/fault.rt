@@ -1,0 +1,53 @@
+//! Why a text is no certificate.
+
+use line_reading::Malformed;
+use std::alloc::AllocError;
+use thiserror::Error;
+
+/// What a certificate may have only so many of.
+#[derive(Clone, Copy, Debug, PartialEq, Eq)]
+pub enum Limit {
+    /// 65,536 nodes.
+    Nodes,
+    /// 8,388,608 cells, of which a node takes one and one more for each byte of its offset.
+    Cells,
+}
+
+/// Why a text is no certificate, or isn't read. The places are offsets of lines.
+#[derive(Clone, Copy, Debug, PartialEq, Eq, Drop, Error)]
+pub enum CertFault {
+    /// The line at this offset is the first that isn't of its form; or a line is missing, and this is the text's length.
+    #[error("certificate malformed at {0}")]
+    Malformed(usize),
+    /// The line at this offset is of its form but isn't above the last one.
+    #[error("certificate order at {0}")]
+    Order(usize),
+    /// A limit is passed.
+    #[error("certificate limit")]
+    Limit(Limit),
+    /// Want of memory.
+    #[error("out of memory")]
+    Memory,
+}
+
+impl From<Malformed> for CertFault {
+    ghost use Rattle.std.specs.Prelude.{◌≡◌};
+    ghost use Rattle.cert_format.specs.declared.fault.CertFault.TheVariants.{Malformed as MalformedAt};
+
+    ghost from_gives = { λ fault e. e ≡ MalformedAt fault.0 };
+
+    fn from(fault: Malformed) -> CertFault {
+        CertFault::Malformed(fault.0)
+    }
+}
+
+impl From<AllocError> for CertFault {
+    ghost use Rattle.std.specs.Prelude.{◌≡◌};
+    ghost use Rattle.cert_format.specs.declared.fault.CertFault.TheVariants.{Memory};
+
+    ghost from_gives = { λ fault e. e ≡ Memory };
+
+    fn from(_fault: AllocError) -> CertFault {
+        CertFault::Memory
+    }
+}

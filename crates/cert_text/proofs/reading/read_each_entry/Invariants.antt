@@ -1,9 +1,0 @@
-use Rattle.std.proofs.Common.{◌≡◌, ◌-◌, [], length}
-use Rattle.cert_text.specs.CertificateReading.{entry_by, refused_entry, items_from}
-use Rattle.cert_text.proofs.reading.read_each_entry.Given as goal
-
-abbrev pub invariant-loop : goal.invariant-loop
-invariant-loop l = record {
-  same : items_from entry_by refused_entry l.list (l.count - l.counter) l.reader ≡ items_from entry_by refused_entry [] l.count l.initial.reader;
-  number : length l.list ≡ l.counter;
-}

@@ -1,0 +1,86 @@
+-- What a certificate claims, and what its type keeps. Source: own.
+use Rattle.std.specs.Prelude.{ℕ, ◌+◌, ◌≤◌, ◌<◌, ◌^◌, ⊤, List, [], ◌∷◌, map, length, Option, Contains, IfSome}
+use Rattle.std.specs.List.{AllByRecursion}
+use Rattle.std.specs.List.Sorted.{IsStrictlySortedBy}
+use Rattle.avr_model.specs.declared.assumption.Entry.{Entry}
+use Rattle.avr_model.specs.Image.{WORDS}
+use Rattle.avr_model.specs.State.{SIZE}
+use Rattle.vector_table.specs.Entries.{AreEntries}
+use Rattle.mask_states.specs.declared.keys.NodeKey.{NodeKey}
+use Rattle.mask_states.specs.Keys.{offset_of}
+use Rattle.mask_states.specs.Order.{inst_cmp, node_cmp}
+use Rattle.local_rules.specs.Cover.{IsNode, FormFits}
+use Rattle.edge_rules.specs.declared.seeded.NodeForm.{NodeForm}
+use Rattle.edge_rules.specs.declared.seeded.NodeForm.TheVariants.{State, From}
+use Rattle.edge_rules.specs.Expansion.{Seeds}
+use Rattle.witness_replay.specs.Spelling.{Plan, IsSchedule}
+use Rattle.certificate.specs.declared.instance.Inst.{Inst}
+use Rattle.certificate.specs.Insts.{IsInst, inst_keys}
+
+-- The bound, the assumptions that it rests on, the instances and nodes that every run stays in, and the schedule. A node has its state, or
+-- the number of an earlier node from which the state is worked out.
+pub record Claim : Type 0 where
+  pub bound : ℕ
+  pub assumptions : List Entry
+  pub instances : List Inst
+  pub nodes : Seeds
+  pub witness : Option Plan
+
+-- ---- limits
+
+abbrev pub most_instances : ℕ
+most_instances = 65536
+
+abbrev pub most_nodes : ℕ
+most_nodes = 65536
+
+abbrev pub most_cells : ℕ
+most_cells = 8388608
+
+abbrev pub node_keys : Seeds → List NodeKey
+node_keys nodes = map (λ e. e.0) nodes
+
+-- a node takes one cell, and one more for each byte of its offset
+unfoldable pub cells_of : List NodeKey → ℕ
+cells_of [] = 0
+cells_of (k ∷ ks) = 1 + offset_of k.sp + cells_of ks
+
+-- ---- what the type keeps
+
+-- A key by itself: a word address, at most as many bytes as SRAM has, 25 enable bits, and a form that its instance's kind may have.
+pub record IsKey (k : NodeKey) : Type 0 where
+  pub word : k.pc < WORDS
+  pub small : offset_of k.sp ≤ SIZE
+  pub masks : k.masks < 2 ^ 25
+  pub fits : FormFits k
+
+-- the node of this number: its state is one that the analysis works with, or it comes from an earlier node
+abbrev pub FitsAt : ℕ → NodeKey → NodeForm → Type 0
+FitsAt at k (State s) = IsNode k s
+FitsAt at k (From m) = IsKey k × (m < at)
+
+-- these nodes, of which the first has the number `at`
+abbrev pub AreFrom : ℕ → Seeds → Type 0
+AreFrom at [] = ⊤
+AreFrom at (e ∷ es) = FitsAt at e.0 e.1 × AreFrom (at + 1) es
+
+-- its instance is there
+abbrev pub Belongs : List Inst → NodeKey → Type 0
+Belongs insts k = Contains (inst_keys insts) k.inst
+
+pub record IsClaim (c : Claim) : Type 0 where
+  pub bound_fits : c.bound ≤ SIZE
+  pub entries_fit : AreEntries c.assumptions
+  pub insts_fit : AllByRecursion IsInst c.instances
+  pub insts_ascend : IsStrictlySortedBy inst_cmp (inst_keys c.instances)
+  pub few_insts : length c.instances ≤ most_instances
+  pub nodes_fit : AreFrom 0 c.nodes
+  pub nodes_belong : AllByRecursion (Belongs c.instances) (node_keys c.nodes)
+  pub nodes_ascend : IsStrictlySortedBy node_cmp (node_keys c.nodes)
+  pub few_nodes : length c.nodes ≤ most_nodes
+  pub few_cells : cells_of (node_keys c.nodes) ≤ most_cells
+
+-- a claim whose schedule is one
+pub record IsCertificate (c : Claim) : Type 0 where
+  pub claim : IsClaim c
+  pub schedule : IfSome c.witness IsSchedule

@@ -1,0 +1,36 @@
+-- The instances of a certificate. Source: own.
+use Rattle.std.specs.Prelude.{ℕ, ◌==◌, ◌&&◌, ◌≡◌, ◌<◌, ◌≤◌, ◌^◌, not, nat_lt, nat_le, Bool, true, List, [], ◌∷◌, map, if◌then◌else◌}
+use Rattle.avr_model.specs.Image.{WORDS}
+use Rattle.avr_model.specs.State.{SIZE}
+use Rattle.avr_model.specs.Vectors.{vector_word}
+use Rattle.mask_states.specs.declared.keys.Kind.{Kind}
+use Rattle.mask_states.specs.declared.keys.Kind.TheVariants.{Root, Call, Vector}
+use Rattle.mask_states.specs.declared.keys.InstKey.{InstKey}
+use Rattle.mask_states.specs.Order.{same_inst}
+use Rattle.certificate.specs.declared.instance.Inst.{Inst}
+
+-- The root begins at word 0 with no vector enabled and I clear, a call at any word, and a vector at its own word with I clear.
+abbrev pub fits_kind : Kind → ℕ → ℕ → Bool → Bool
+fits_kind Root entry masks i = (entry == 0) && (masks == 0) && not i
+fits_kind Call entry masks i = nat_lt entry WORDS
+fits_kind (Vector v) entry masks i = nat_le 2 v && nat_le v 26 && (entry == vector_word v) && not i
+
+-- its numbers are in their ranges
+pub record IsInst (x : Inst) : Type 0 where
+  pub kind : fits_kind x.key.kind x.key.entry x.key.masks x.key.i ≡ true
+  pub masks : x.key.masks < 2 ^ 25
+  pub rank : x.rank < 65536
+  pub need : x.need ≤ SIZE
+
+abbrev pub inst_keys : List Inst → List InstKey
+inst_keys insts = map (λ x. x.key) insts
+
+-- the rank of an instance, and 0 where it isn't there
+abbrev pub rank_in : List Inst → InstKey → ℕ
+rank_in [] key = 0
+rank_in (x ∷ xs) key = if same_inst x.key key then x.rank else rank_in xs key
+
+-- the need of an instance, and 0 where it isn't there
+abbrev pub need_in : List Inst → InstKey → ℕ
+need_in [] key = 0
+need_in (x ∷ xs) key = if same_inst x.key key then x.need else need_in xs key

@@ -1,0 +1,17 @@
+-- Laws of certificates.
+use Rattle.std.specs.Prelude.{ℕ, List}
+use Rattle.avr_model.specs.declared.assumption.Entry.{Entry}
+use Rattle.local_rules.specs.declared.local.Node.{Node}
+use Rattle.edge_rules.specs.Expansion.{AreSeeds, IsFilled}
+use Rattle.edge_rules.specs.Families.{IsSound as IsSoundFamily}
+use Rattle.certificate.specs.Claims.{Claim, IsClaim}
+use Rattle.certificate.specs.Valid.{MeetsConditions, family_of}
+
+-- what the type keeps is what an expansion asks for
+abbrev pub ClaimsAreSeeds : Type 0
+ClaimsAreSeeds = (c : Claim) → IsClaim c → AreSeeds c.nodes
+
+-- where the conditions hold of the nodes with their states, these are a sound family with the certificate's ranks and needs
+abbrev pub ConditionsMakeFamiliesSound : Type 0
+ConditionsMakeFamiliesSound = (words : List ℕ) (A : List Entry) (c : Claim) (nodes : List Node) → IsClaim c → IsFilled words A c.nodes nodes
+    → MeetsConditions words A c nodes → IsSoundFamily words A (family_of c nodes)

@@ -1,0 +1,4 @@
+pub mod Insts
+pub mod Claims
+pub mod Valid
+pub mod Laws

@@ -1,0 +1,80 @@
+-- When a certificate is valid for a firmware and assumptions. Source: own.
+use Rattle.std.specs.Prelude.{ℕ, ◌+◌, ◌≡◌, ◌<◌, ◌≤◌, List, Contains, Option, Some, None, IsOkAnd, ⊤}
+use Rattle.avr_model.specs.declared.assumption.Entry.{Entry}
+use Rattle.avr_model.specs.declared.choice.Stop.TheVariants as stop
+use Rattle.abs_state.specs.Values.{root}
+use Rattle.mask_states.specs.declared.keys.EdgeKind.{EdgeKind}
+use Rattle.mask_states.specs.declared.keys.InstKey.{InstKey}
+use Rattle.mask_states.specs.declared.keys.SpForm.TheVariants.{Closed}
+use Rattle.mask_states.specs.Keys.{root_inst, entry_key, offset_of}
+use Rattle.local_rules.specs.declared.local.Node.{Node}
+use Rattle.edge_rules.specs.declared.edge.Edge.{Edge}
+use Rattle.edge_rules.specs.Edges.{IsFaultless, Enters, IsEdge, target}
+use Rattle.edge_rules.specs.Expansion.{IsFilled}
+use Rattle.edge_rules.specs.Families.{Family, IsCovered}
+use Rattle.witness_replay.specs.Spelling.{Plan}
+use Rattle.witness_replay.specs.Replay.{replay_of}
+use Rattle.certificate.specs.Insts.{rank_in, need_in}
+use Rattle.certificate.specs.Claims.{Claim}
+
+-- the node at reset, of which nothing is known but that the flags are clear
+abbrev pub reset_node : Node
+reset_node = record { key = entry_key root_inst; state = root }
+
+-- ---- the conditions on the nodes of a certificate with their states, by the numbers of the reasons that tell that one fails
+
+-- 2: no node has a fault
+abbrev pub AreFaultless : List ℕ → List Entry → List Node → Type 0
+AreFaultless words A nodes = (n : Node) → Contains nodes n → IsFaultless words A n
+
+-- 3: each edge lands at a node that is there, with a state at least its own
+abbrev pub AllLand : List ℕ → List Entry → List Node → Type 0
+AllLand words A nodes = (n : Node) (e : Edge) → Contains nodes n → IsEdge words A nodes n e → IsCovered nodes (target e)
+
+-- 4: an instance's rank is above that of each instance that it enters
+abbrev pub AreRanked : List ℕ → List Entry → Claim → List Node → Type 0
+AreRanked words A c nodes = (n : Node) (way : EdgeKind) (inst : InstKey) (back : ℕ) → Contains nodes n → Enters words A n way inst back
+    → rank_in c.instances inst < rank_in c.instances n.key.inst
+
+-- This number is at least the offset of each node of the instance with a closed stack pointer, and at least what each instance that it
+-- enters needs, behind the offset there and two bytes for the way back.
+pub record Suffices (words : List ℕ) (A : List Entry) (c : Claim) (nodes : List Node) (inst : InstKey) (need : ℕ) : Type 0 where
+  pub offsets : (n : Node) (offset : ℕ) → Contains nodes n → n.key.inst ≡ inst → n.key.sp ≡ Closed offset → offset ≤ need
+  pub entered : (n : Node) (way : EdgeKind) (into : InstKey) (back : ℕ) → Contains nodes n → n.key.inst ≡ inst → Enters words A n way into back
+      → offset_of n.key.sp + 2 + need_in c.instances into ≤ need
+
+-- 5: each instance's need suffices
+abbrev pub NeedsSuffice : List ℕ → List Entry → Claim → List Node → Type 0
+NeedsSuffice words A c nodes = (inst : InstKey) → Suffices words A c nodes inst (need_in c.instances inst)
+
+pub record MeetsConditions (words : List ℕ) (A : List Entry) (c : Claim) (nodes : List Node) : Type 0 where
+  -- 1: the node at reset is there, with a state at least that one
+  pub reset : IsCovered nodes reset_node
+  pub faultless : AreFaultless words A nodes
+  pub edges : AllLand words A nodes
+  pub ranks : AreRanked words A c nodes
+  pub needs : NeedsSuffice words A c nodes
+  -- 6: the bound is at least the root's need
+  pub bounded : need_in c.instances root_inst ≤ c.bound
+  -- 7: the assumptions are those handed in
+  pub assumptions : c.assumptions ≡ A
+
+-- Each node has an expansion, and the nodes so expanded meet the conditions: all but that on the schedule.
+pub record IsSound (words : List ℕ) (A : List Entry) (c : Claim) : Type 0 where
+  pub nodes : List Node
+  pub expanded : IsFilled words A c.nodes nodes
+  pub meets : MeetsConditions words A c nodes
+
+-- 8: the schedule, if there is one, meets no illegal choice, ends without a stop, and its depth is the bound
+abbrev pub IsAttained : List ℕ → List Entry → ℕ → Option Plan → Type 0
+IsAttained words A bound None = ⊤
+IsAttained words A bound (Some plan) = IsOkAnd (replay_of words A plan) (λ r. (r.stop ≡ stop.End) × (r.depth ≡ bound))
+
+-- The certificate is valid for the words of flash and the assumptions.
+pub record IsValid (words : List ℕ) (A : List Entry) (c : Claim) : Type 0 where
+  pub sound : IsSound words A c
+  pub attained : IsAttained words A c.bound c.witness
+
+-- the family of nodes, with ranks and needs, that a certificate with these nodes stands for
+abbrev pub family_of : Claim → List Node → Family
+family_of c nodes = record { nodes = nodes; rank_of = rank_in c.instances; need_of = need_in c.instances; bound = c.bound }

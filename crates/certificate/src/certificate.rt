@@ -1,0 +1,139 @@
+//! What a certificate is.
+
+ghost use Rattle.std.specs.Prelude.{◌≡◌, ◌<◌, length, slice_get, Some, None};
+ghost use Rattle.std.specs.Option.{option_copied};
+ghost use Rattle.certificate.specs.Claims.{IsClaim};
+
+use crate::instance::Inst;
+use edge_rules::{NodeForm, Seed, Seeded};
+use mask_states::NodeKey;
+use std::marker::Model;
+use vector_table::Assumptions;
+use witness_replay::Schedule;
+
+/// A claim about a firmware: at most `bound` bytes lie on the stack. Beside the bound it has the assumptions that it rests on,
+/// the instances and the nodes that every run stays in, and maybe a schedule whose run attains the bound. Its numbers are in
+/// range, its lists ascend strictly, the instance of each node is there, and it keeps the limits. Source: own.
+#[derive(Drop)]
+pub struct Certificate {
+    bound: u16,
+    assumptions: Assumptions,
+    instances: Vec<Inst>,
+    nodes: Vec<(NodeKey, NodeForm)>,
+    witness: Option<Schedule>,
+}
+
+impl Model for Certificate {
+    ghost use Rattle.certificate.specs.Claims.{Claim, IsClaim};
+
+    ghost Value = { Claim };
+
+    ghost view = { λ c. record { bound = c.bound; assumptions = c.assumptions; instances = c.instances.items; nodes = c.nodes.items; witness = c.witness } };
+
+    ghost invariant = { λ c. IsClaim (record { bound = c.bound; assumptions = c.assumptions; instances = c.instances.items; nodes = c.nodes.items; witness = c.witness }) };
+}
+
+impl Certificate {
+    /// The certificate of these parts, which keep to the ranges, the order and the limits. It has no schedule.
+    pub fn build(
+        bound: u16,
+        assumptions: Assumptions,
+        instances: Vec<Inst>,
+        nodes: Vec<(NodeKey, NodeForm)>,
+    ) -> Certificate
+        requires { IsClaim (record { bound = bound; assumptions = assumptions; instances = instances.items; nodes = nodes.items; witness = None }) }
+        ensures { result ≡ record { bound = bound; assumptions = assumptions; instances = instances.items; nodes = nodes.items; witness = None } }
+    {
+        Certificate {
+            bound,
+            assumptions,
+            instances,
+            nodes,
+            witness: None,
+        }
+    }
+
+    /// The same with another schedule, or with none.
+    #[tactic(auto, using(crate::proofs::Kept::with_witness))]
+    pub fn with_witness(self, schedule: Option<Schedule>) -> Certificate
+        ensures { result ≡ record { bound = self.bound; assumptions = self.assumptions; instances = self.instances; nodes = self.nodes; witness = schedule } }
+    {
+        Certificate {
+            bound: self.bound,
+            assumptions: self.assumptions,
+            instances: self.instances,
+            nodes: self.nodes,
+            witness: schedule,
+        }
+    }
+
+    /// The bound, at most 2,048 bytes.
+    pub fn bound(&self) -> u16
+        ensures { result ≡ self.now.bound }
+    {
+        self.bound
+    }
+
+    /// The assumptions that it rests on.
+    pub fn assumptions(&self) -> &Assumptions
+        ensures { result.now ≡ self.now.assumptions }
+    {
+        &self.assumptions
+    }
+
+    /// The instances, strictly ascending, at most 65,536.
+    pub fn instances(&self) -> &[Inst]
+        ensures { result.now ≡ self.now.instances }
+    {
+        &self.instances
+    }
+
+    /// How many instances there are.
+    pub fn count_instances(&self) -> usize
+        ensures { result ≡ length self.now.instances }
+    {
+        self.instances.len()
+    }
+
+    /// Instance `j`, which is there.
+    pub fn instance(&self, j: usize) -> Inst
+        requires { j < length self.now.instances }
+        ensures { Some result ≡ slice_get self.now.instances j }
+    {
+        self.instances[j]
+    }
+
+    /// The nodes, strictly ascending by key, at most 65,536. With the other parts they keep what every certificate keeps.
+    pub fn nodes(&self) -> &[(NodeKey, NodeForm)]
+        ensures value { result.now ≡ self.now.nodes }
+        ensures kept { IsClaim self.now }
+    {
+        &self.nodes
+    }
+
+    /// The schedule, if there is one.
+    pub fn witness(&self) -> Option<&Schedule>
+        ensures { option_copied result ≡ self.now.witness }
+    {
+        self.witness.as_ref()
+    }
+}
+
+impl Seeded for Certificate {
+    ghost nodes = { λ c. c.nodes };
+
+    fn count(&self) -> usize {
+        self.nodes.len()
+    }
+
+    fn key(&self, at: usize) -> &NodeKey {
+        &self.nodes[at].0
+    }
+
+    fn seed(&self, at: usize) -> Seed<'_> {
+        match &self.nodes[at].1 {
+            NodeForm::State(state) => Seed::State(state),
+            NodeForm::From(from) => Seed::From(*from),
+        }
+    }
+}

@@ -1,0 +1,10 @@
+//! Certificates: what they claim of a firmware, and when they are valid. Source: own.
+#![tactic(auto)]
+
+pub mod certificate;
+pub mod instance;
+pub mod laws;
+
+pub use certificate::Certificate;
+pub use edge_rules::{NodeForm, Seed, Seeded};
+pub use instance::Inst;

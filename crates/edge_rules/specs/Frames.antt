@@ -1,0 +1,149 @@
+-- The frames of a machine's state: the running one, and those that were left by a call or an interrupt, the latest first. Source: own.
+use Rattle.std.specs.Prelude.{ℕ, ◌+◌, ◌-◌, ◌≡◌, ◌<◌, ⊤, Bool, true, List, [], ◌∷◌, length, Some, Contains}
+use Rattle.avr_model.specs.declared.assumption.Entry.{Entry}
+use Rattle.avr_model.specs.declared.choice.Choice.{Choice}
+use Rattle.avr_model.specs.declared.choice.Choice.TheVariants.{Go, Take}
+use Rattle.avr_model.specs.State.{State, Memory, RAMEND, byte_in, is_live, low, high}
+use Rattle.avr_model.specs.Step.{Answer, Illegal, Undefined, Overflow, Flagged, Done}
+use Rattle.sp_domain.specs.declared.slots.Slot.{Slot}
+use Rattle.sp_domain.specs.declared.slots.Slot.TheVariants.{Guarded}
+use Rattle.sp_domain.specs.Tags.{Origin}
+use Rattle.sp_domain.specs.Slots.{slot_at}
+use Rattle.abs_state.specs.declared.state.AbsState.{AbsState}
+use Rattle.abs_state.specs.declared.values.AbsByte.{AbsByte}
+use Rattle.abs_state.specs.Frames.{returned}
+use Rattle.abs_state.specs.Stands.{RegistersStand, FlagsStand, SlotsStand}
+use Rattle.mask_states.specs.declared.keys.InstKey.{InstKey}
+use Rattle.mask_states.specs.declared.keys.EdgeKind.{EdgeKind}
+use Rattle.mask_states.specs.declared.keys.EdgeKind.TheVariants as kind
+use Rattle.mask_states.specs.declared.keys.SpForm.TheVariants.{Closed}
+use Rattle.mask_states.specs.Keys.{root_inst, entry_key}
+use Rattle.local_rules.specs.declared.local.Node.{Node}
+use Rattle.local_rules.specs.declared.local.CallSite.{CallSite}
+use Rattle.local_rules.specs.declared.local.Exit.{Exit}
+use Rattle.local_rules.specs.Cover.{InFrame}
+use Rattle.edge_rules.specs.Edges.{IsFaultless, raw_of, Enters, called_inst, vector_inst, returned_key}
+use Rattle.edge_rules.specs.Families.{Family}
+
+-- a node of the family, and the frame's origin: its registers and status register at the entry, and its base
+pub record Frame : Type 0 where
+  pub node : Node
+  pub origin : Origin
+
+-- The frame was left for one of this instance with this origin, and all that it waits for still stands: what it was left with are the
+-- entry values of the next frame; its guarded slots are live and hold a byte of their values; its stack pointer was whole, and the next
+-- frame's base is two below it; the two bytes between hold the way back, the low one at the higher address, and are live.
+pub record IsLeft (words : List ℕ) (A : List Entry) (f : Family) (memory : Memory) (g : Frame) (inst : InstKey) (o : Origin) : Type 0 where
+  pub present : Contains f.nodes g.node
+  pub registers : RegistersStand g.origin g.node.state.registers o.registers
+  pub flags : FlagsStand g.origin g.node.state.flags o.sreg
+  pub slots : SlotsStand g.origin memory g.node.state.slots
+  pub offset : ℕ
+  pub closed : g.node.key.sp ≡ Closed offset
+  pub place : o.base + 2 + offset ≡ g.origin.base
+  pub way : EdgeKind
+  pub back : ℕ
+  pub enters : Enters words A g.node way inst back
+  pub rank : f.rank_of inst < f.rank_of g.node.key.inst
+  pub low_byte : byte_in memory.bytes (o.base + 2) ≡ low back
+  pub high_byte : byte_in memory.bytes (o.base + 1) ≡ high back
+  pub low_live : is_live memory (o.base + 2) ≡ true
+  pub high_live : is_live memory (o.base + 1) ≡ true
+
+-- the frames that were left, below a frame of this instance and origin; the last of them is the root's, or this one is
+abbrev pub AreLeft : List ℕ → List Entry → Family → Memory → List Frame → InstKey → Origin → Type 0
+AreLeft words A f memory [] inst o = (inst ≡ root_inst) × (o.base ≡ RAMEND)
+AreLeft words A f memory (g ∷ gs) inst o = IsLeft words A f memory g inst o × AreLeft words A f memory gs g.node.key.inst g.origin
+
+-- the machine runs in the frame g, above the frames gs
+pub record Runs (words : List ℕ) (A : List Entry) (f : Family) (m : State) (g : Frame) (gs : List Frame) : Type 0 where
+  pub present : Contains f.nodes g.node
+  pub running : InFrame m g.origin g.node.key g.node.state
+  pub left : AreLeft words A f m.memory gs g.node.key.inst g.origin
+
+-- the machine has frames
+abbrev pub HasFrames : List ℕ → List Entry → Family → State → Type 0
+HasFrames words A f m = (g : Frame) × (gs : List Frame) × Runs words A f m g gs
+
+-- ---- one step
+
+-- The frames after a step by this choice. By an instruction the running one moves along a local edge, or a called one is added above it,
+-- or it is taken away and the one before moves along the edge of this return; by an interrupt its frame is added. A state may say less
+-- than that of the edge.
+pub data Change (words : List ℕ) (A : List Entry) (g : Frame) (gs : List Frame) : Choice → Frame → List Frame → Type 0 where
+  moved : (b1 b2 : ℕ) (to : Node) (state : AbsState) → IsFaultless words A g.node → Contains (raw_of words A g.node).moves to
+      → Change words A g gs (Go b1 b2) (record { node = record { key = to.key; state = state }; origin = g.origin }) gs
+  called : (b1 b2 : ℕ) (site : CallSite) (state : AbsState) (o : Origin) → IsFaultless words A g.node → Contains (raw_of words A g.node).calls site
+      → Change words A g gs (Go b1 b2) (record { node = record { key = entry_key (called_inst g.node.key site.entry); state = state }; origin = o })
+      (g ∷ gs)
+  returned_to : (b1 b2 : ℕ) (h : Frame) (hs : List Frame) (way : EdgeKind) (back : ℕ) (x : Exit) (after state : AbsState) → gs ≡ h ∷ hs
+      → Enters words A h.node way g.node.key.inst back → IsFaultless words A g.node → (raw_of words A g.node).exit ≡ Some x
+      → returned h.node.state g.node.state ≡ Some after
+      → Change words A g gs (Go b1 b2) (record { node = record { key = returned_key h.node.key back x; state = state }; origin = h.origin }) hs
+  interrupted : (v : ℕ) (clears : Bool) (state : AbsState) (o : Origin) → Enters words A g.node (kind.Interrupt v clears) (vector_inst g.node.key v clears) g.node.key.pc
+      → Change words A g gs (Take v clears) (record { node = record { key = entry_key (vector_inst g.node.key v clears); state = state }; origin = o })
+      (g ∷ gs)
+
+-- the machine has frames, by one change of these
+abbrev pub HasNext : List ℕ → List Entry → Family → Choice → Frame → List Frame → State → Type 0
+HasNext words A f c g gs m = (h : Frame) × (hs : List Frame) × Runs words A f m h hs × Change words A g gs c h hs
+
+-- An answer after which the machine still has frames: no undefined word was met, and nothing was pushed outside SRAM.
+abbrev pub IsFine : List ℕ → List Entry → Family → Choice → Frame → List Frame → Answer → Type 0
+IsFine words A f c g gs Illegal = ⊤
+IsFine words A f c g gs (Undefined pc) = ⊥
+IsFine words A f c g gs (Overflow pc) = ⊥
+IsFine words A f c g gs (Flagged flag) = ⊤
+IsFine words A f c g gs (Done m) = HasNext words A f c g gs m
+
+-- ---- what each kind of step does to the frames
+
+-- the running frame is at a local successor
+pub record HasMoved (words : List ℕ) (A : List Entry) (f : Family) (g : Frame) (gs : List Frame) (n : State) : Type 0 where
+  pub to : Node
+  pub member : Contains (raw_of words A g.node).moves to
+  pub state : AbsState
+  pub runs : Runs words A f n (record { node = record { key = to.key; state = state }; origin = g.origin }) gs
+
+-- a frame of a called instance is added
+pub record HasCalled (words : List ℕ) (A : List Entry) (f : Family) (g : Frame) (gs : List Frame) (n : State) : Type 0 where
+  pub site : CallSite
+  pub member : Contains (raw_of words A g.node).calls site
+  pub state : AbsState
+  pub origin : Origin
+  pub runs : Runs words A f n (record { node = record { key = entry_key (called_inst g.node.key site.entry); state = state }; origin = origin }) (g ∷ gs)
+
+-- the running frame is gone, and the one before is where this exit returns to
+pub record HasReturned (words : List ℕ) (A : List Entry) (f : Family) (g : Frame) (gs : List Frame) (n : State) : Type 0 where
+  pub caller : Frame
+  pub rest : List Frame
+  pub frames : gs ≡ caller ∷ rest
+  pub way : EdgeKind
+  pub back : ℕ
+  pub enters : Enters words A caller.node way g.node.key.inst back
+  pub exit : Exit
+  pub leaves : (raw_of words A g.node).exit ≡ Some exit
+  pub state : AbsState
+  pub runs : Runs words A f n (record { node = record { key = returned_key caller.node.key back exit; state = state }; origin = caller.origin }) rest
+
+-- the frame of this interrupt is added
+pub record HasInterrupted (words : List ℕ) (A : List Entry) (f : Family) (g : Frame) (gs : List Frame) (v : ℕ) (clears : Bool) (n : State) : Type 0 where
+  pub enters : Enters words A g.node (kind.Interrupt v clears) (vector_inst g.node.key v clears) g.node.key.pc
+  pub state : AbsState
+  pub origin : Origin
+  pub runs : Runs words A f n (record { node = record { key = entry_key (vector_inst g.node.key v clears); state = state }; origin = origin }) (g ∷ gs)
+
+-- ---- the bytes that the frames stand for
+
+-- the slot is guarded
+abbrev pub IsGuarded : Slot AbsByte → Type 0
+IsGuarded (Guarded v) = ⊤
+IsGuarded s = ⊥
+
+-- The address is that of a guarded slot of a suspended frame, or of a byte of the way back to one.
+pub data Holds : List Frame → Origin → ℕ → Type 0 where
+  slot : (g : Frame) (gs : List Frame) (o : Origin) (d : ℕ) → d < length g.node.state.slots → IsGuarded (slot_at g.node.state.slots d)
+      → Holds (g ∷ gs) o (g.origin.base - d)
+  way_low : (g : Frame) (gs : List Frame) (o : Origin) → Holds (g ∷ gs) o (o.base + 2)
+  way_high : (g : Frame) (gs : List Frame) (o : Origin) → Holds (g ∷ gs) o (o.base + 1)
+  deeper : (g : Frame) (gs : List Frame) (o : Origin) (a : ℕ) → Holds gs g.origin a → Holds (g ∷ gs) o a

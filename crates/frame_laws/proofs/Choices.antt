@@ -1,0 +1,143 @@
+-- Each choice is fine: an instruction or an interrupt.
+use Rattle.std.proofs.Common.{◌≡◌, ℕ, ◌-◌, ◌%◌, Bool, true, false, not, ◌&&◌, ◌||◌, ◌==◌, nat_le, if◌then◌else◌, List, [], ◌++◌, Option, Some, None, refl, sym, ap, ◌∙◌, subst, arith, eqb-true}
+use Rattle.std.specs.Int.{bit_at}
+use Rattle.std.proofs.lemmas.Bool.Decides.{nat_tests}
+use Rattle.std.proofs.lemmas.Nat.Bits.{bit_at-zero}
+use Rattle.avr_model.specs.declared.assumption.Entry.{Entry}
+use Rattle.avr_model.specs.declared.instruction.Instr.{Instr}
+use Rattle.avr_model.specs.declared.choice.Choice.{Choice}
+use Rattle.avr_model.specs.declared.choice.Choice.TheVariants.{Go, Take}
+use Rattle.avr_model.specs.declared.effect.Effect.{Effect}
+use Rattle.avr_model.specs.Sreg.{flag}
+use Rattle.avr_model.specs.Vectors.{is_enabled, vector_word, WATCHDOG}
+use Rattle.avr_model.specs.Sites.{instruction_at, is_scratch}
+use Rattle.avr_model.specs.State.{State, i_flag}
+use Rattle.avr_model.specs.Effects.{effect_of, way_back}
+use Rattle.avr_model.specs.Step.{Answer, Illegal, Undefined, Overflow, Flagged, Done, after, all_inside, live_write, protected_write, unlisted_transfer, may_take, enables_taken, entering, take, go, step}
+use Rattle.avr_model.specs.Run.{HasBytes}
+use Rattle.mask_states.specs.declared.keys.NodeKey.{NodeKey}
+use Rattle.mask_states.specs.declared.keys.SpForm.{SpForm}
+use Rattle.mask_states.specs.declared.keys.SpForm.TheVariants.{Closed, Open}
+use Rattle.abs_state.specs.declared.state.AbsState.{AbsState}
+use Rattle.local_rules.specs.Raw.{Raw, untracked_if}
+use Rattle.local_rules.specs.Local.{raw, is_hung}
+use Rattle.local_rules.specs.Cover.{Follows, stays, calls, leaves, IsCovered}
+use Rattle.local_rules.specs.Machine.{IsMachine, AreWords}
+use Rattle.local_laws.specs.Laws.{LocalPartsCover, MachinesStay, LiveBytesStay}
+use Rattle.edge_rules.specs.Edges.{raw_of, IsFaultless, Enters, by_call, by_interrupt, called_inst, vector_inst}
+use Rattle.edge_rules.specs.Families.{Family, IsSound}
+use Rattle.edge_rules.specs.Frames.{Frame, Runs, called, interrupted, IsFine}
+use Rattle.frame_laws.proofs.Answers.{IsFineFor, GoesOn, answer_fine, taken_fine, protected_is_store, store_pushes_nothing}
+use Rattle.frame_laws.proofs.Steps.{Follow, frames_local, frames_enter, frames_return}
+
+-- ---- where an interrupt may come
+
+not_hung : (b : Bool) (pc : ℕ) (r : Raw) → (untracked_if b pc r).faults ≡ [] → b ≡ false
+not_hung true pc r h = absurd (cc)
+not_hung false pc r h = refl
+
+-- a node with no fault isn't hung
+faultless_not_hung : (words : List ℕ) (A : List Entry) (k : NodeKey) (s : AbsState) → (raw words A k s).faults ≡ [] → is_hung k k.sp ≡ false
+unfolding raw
+faultless_not_hung words A k s h = not_hung (is_hung k k.sp) k.pc _ h
+
+all_four : (a b c d : Bool) → (a && b && not c && d) ≡ true → (a ≡ true) × (b ≡ true) × (c ≡ false) × (d ≡ true)
+all_four a b c d h = (grind arith, grind arith, grind arith, grind arith)
+
+hangs : (a b c : Bool) → a ≡ true → b ≡ false → c ≡ false → (a && not b && not c) ≡ false → ⊥
+hangs a b c p q r h = grind arith
+
+and_last : (a b c : Bool) → (a && b && c) ≡ true → c ≡ true
+and_last a b c h = grind arith
+
+not_zero : (masks v : ℕ) → is_enabled masks v ≡ true → (masks == 0) ≡ false
+not_zero masks v h = by_test (masks == 0) refl
+  where
+    by_test : (b : Bool) → (masks == 0) ≡ b → b ≡ false
+    by_test false e = refl
+    by_test true e =
+        let none : masks ≡ 0 = eqb-true masks 0 e in
+        let bit : bit_at masks (v - 2) ≡ 1 = eqb-true (bit_at masks (v - 2)) 1 (and_last (nat_le 2 v) (nat_le v 26) _ h) in
+        let zero : bit_at masks (v - 2) ≡ 0 = ap (λ x. bit_at x (v - 2)) none ∙ bit_at-zero (v - 2) in
+        absurd (omega (arith, bit, zero))
+
+-- where an interrupt may come at a node with no fault, its stack pointer is whole
+closed_where_taken : (k : NodeKey) (v : ℕ) (form : SpForm) → k.sp ≡ form → k.i ≡ true → k.delay ≡ false → is_enabled k.masks v ≡ true → is_hung k form ≡ false → (offset : ℕ) × (k.sp ≡ Closed offset)
+closed_where_taken k v (Closed offset) is i delay enabled hung = (offset, is)
+closed_where_taken k v (Open offset high) is i delay enabled hung = absurd (hangs k.i k.delay (k.masks == 0) i delay (not_zero k.masks v enabled) hung)
+
+-- I is cleared
+flag_cleared : (sreg : ℕ) → flag (sreg % 128) 7 ≡ false
+flag_cleared sreg = grind (arith, nat_tests)
+
+-- what is owed of an answer, where the state is a machine's
+fine_if : (words : List ℕ) (A : List Entry) (f : Family) (c : Choice) (g : Frame) (gs : List Frame) (a : Answer) → ((n : State) → a ≡ Done n → IsMachine n)
+    → IsFineFor (Follow words A f c g gs) a → IsFine words A f c g gs a
+fine_if words A f c g gs Illegal machine h = tt
+fine_if words A f c g gs (Undefined pc) machine h = h
+fine_if words A f c g gs (Overflow pc) machine h = h
+fine_if words A f c g gs (Flagged flag) machine h = tt
+fine_if words A f c g gs (Done n) machine h = h (machine n refl)
+
+module _ (cover : LocalPartsCover) (machines : MachinesStay) (live : LiveBytesStay) (words : List ℕ) (A : List Entry) (f : Family) (sized : AreWords words) (sound : IsSound words A f) where
+  module _ (m : State) (g : Frame) (gs : List Frame) (runs : Runs words A f m g gs) where
+    faultless : IsFaultless words A g.node
+    faultless = sound.faultless g.node runs.present
+
+    module _ (b1 b2 : ℕ) where
+      follows_on : (guarded : Bool) (e : Effect) → Follows m g.origin g.node.key guarded b1 b2 e (raw_of words A g.node) → GoesOn (Follow words A f (Go b1 b2) g gs) m guarded e
+      follows_on guarded e (stays to member inst lands) = frames_local live words A f sound m g gs runs b1 b2 guarded e to faultless member inst lands
+      follows_on guarded e (calls offset site member form on same) =
+          let k = g.node.key in
+          subst (λ b. GoesOn (Follow words A f (Go b1 b2) g gs) m b e) (sym on)
+          (subst (GoesOn (Follow words A f (Go b1 b2) g gs) m true) (sym same)
+          (frames_enter live words A f sound m g gs runs (called_inst k site.entry) site.back offset form (by_call offset site faultless form member)
+          site.entry m.sreg m.enables refl refl runs.running.place.i runs.running.place.enables
+          (Go b1 b2) (λ state. called b1 b2 site state _ faultless member)))
+      follows_on guarded e (leaves x exit kind form is) = frames_return live words A f sound m g gs runs b1 b2 guarded e x faultless exit form is kind
+
+      -- an instruction with its effect
+      answers : (instr : Instr) → IsCovered words A m g.origin g.node.key b1 b2 (Some instr) (raw_of words A g.node) → IsFineFor (Follow words A f (Go b1 b2) g gs) (go words A m (Some instr) b1 b2)
+      answers instr covered =
+          let e = effect_of words m instr b1 b2 in
+          let guarded = not (is_scratch words m.pc) in
+          let on : protected_write words A m.pc instr e ≡ None → unlisted_transfer A m.pc instr e ≡ None → GoesOn (Follow words A f (Go b1 b2) g gs) m guarded e =
+          λ protected listed. follows_on guarded e (covered faultless (record { protected = protected; listed = listed })) in
+          answer_fine (Follow words A f (Go b1 b2) g gs) m.pc (after m guarded e) (all_inside e.pushes) (live_write m.memory (e.stores ++ e.pushes)) (protected_write words A m.pc instr e) (unlisted_transfer A m.pc instr e)
+          (λ listed. inside_by (protected_write words A m.pc instr e) refl
+          (λ protected. (on protected listed).inside)
+          (λ a is. ap all_inside (store_pushes_nothing words m instr b1 b2 (protected_is_store words A m.pc instr e a is))))
+          (λ missed protected listed. (on protected listed).done missed)
+        where
+          inside_by : {P : Type 0} (p : Option ℕ) {q : Option ℕ} → q ≡ p → (q ≡ None → P) → ((a : ℕ) → q ≡ Some a → P) → P
+          inside_by None is none some = none is
+          inside_by (Some a) is none some = some a is
+
+      goes : (o : Option Instr) → IsCovered words A m g.origin g.node.key b1 b2 o (raw_of words A g.node) → IsFineFor (Follow words A f (Go b1 b2) g gs) (go words A m o b1 b2)
+      goes None covered = absurd (covered faultless)
+      goes (Some instr) covered = answers instr covered
+
+    taken : (v : ℕ) (clears t : Bool) → may_take m v clears ≡ t → IsFineFor (Follow words A f (Take v clears) g gs) (if t then take m (entering m v clears) else Illegal)
+    taken v clears false legal = tt
+    taken v clears true legal =
+        let k = g.node.key in
+        let place = runs.running.place in
+        let all = all_four (is_enabled m.enables v) (i_flag m) m.delay (not clears || (v == WATCHDOG)) legal in
+        let enabled : is_enabled k.masks v ≡ true = ap (λ masks. is_enabled masks v) (sym place.enables) ∙ all.0 in
+        let i : k.i ≡ true = sym place.i ∙ all.1 in
+        let delay : k.delay ≡ false = sym place.delay ∙ all.2 in
+        let closed = closed_where_taken k v k.sp refl i delay enabled (faultless_not_hung words A k g.node.state faultless) in
+        let enters : Enters words A g.node (vector_inst k v clears) k.pc = by_interrupt closed.0 v clears faultless closed.1 i delay enabled all.3 in
+        let on : GoesOn (Follow words A f (Take v clears) g gs) m true (entering m v clears) =
+        subst (λ pc. GoesOn (Follow words A f (Take v clears) g gs) m true (record (entering m v clears) { pushes = way_back m.sp pc })) (sym place.pc)
+        (frames_enter live words A f sound m g gs runs (vector_inst k v clears) k.pc closed.0 closed.1 enters
+        (vector_word v) (m.sreg % 128) (enables_taken m.enables clears) refl (omega arith) (flag_cleared m.sreg) (ap (λ masks. enables_taken masks clears) place.enables)
+        (Take v clears) (λ state. interrupted v clears state _ enters)) in
+        taken_fine (Follow words A f (Take v clears) g gs) m.pc (after m true (entering m v clears)) (all_inside (entering m v clears).pushes) (live_write m.memory (entering m v clears).pushes) on.inside on.done
+
+    owed : (c : Choice) → HasBytes c → IsFineFor (Follow words A f c g gs) (step words A m c)
+    owed (Go b1 b2) bytes = goes b1 b2 (instruction_at words m.pc) (cover.covered words A m g.origin g.node.key g.node.state b1 b2 runs.running bytes.0 bytes.1)
+    owed (Take v clears) bytes = taken v clears (may_take m v clears) refl
+
+    pub fine : (c : Choice) → HasBytes c → IsFine words A f c g gs (step words A m c)
+    fine c bytes = fine_if words A f c g gs (step words A m c) (λ n done. machines.step words A m n c sized runs.running.machine bytes done) (owed c bytes)

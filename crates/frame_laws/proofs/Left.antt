@@ -1,0 +1,61 @@
+-- The frames that were left: what is kept of the memory keeps them, and what the needs say of their bases.
+use Rattle.std.proofs.Common.{◌≡◌, ◌≢◌, ℕ, ◌+◌, ◌≤◌, List, [], ◌∷◌, ap, ◌∙◌, arith}
+use Rattle.avr_model.specs.declared.assumption.Entry.{Entry}
+use Rattle.avr_model.specs.State.{Memory, RAMEND}
+use Rattle.sp_domain.specs.Tags.{Origin}
+use Rattle.abs_state.specs.Laws.{Keeps}
+use Rattle.abs_state.proofs.AllLaws.{slots_follow}
+use Rattle.mask_states.specs.declared.keys.InstKey.{InstKey}
+use Rattle.mask_states.specs.declared.keys.Kind.TheVariants.{Root}
+use Rattle.mask_states.specs.Keys.{offset_of}
+use Rattle.local_rules.specs.declared.local.Node.{Node}
+use Rattle.edge_rules.specs.Edges.{Enters, by_call, by_interrupt}
+use Rattle.edge_rules.specs.Families.{Family, IsSound}
+use Rattle.edge_rules.specs.Frames.{Frame, IsLeft, AreLeft}
+
+pub not_root : {words : List ℕ} {A : List Entry} {n : Node} {inst : InstKey} {back : ℕ} → Enters words A n inst back → inst.kind ≢ Root
+not_root (by_call offset site faultless form member) = λ e. cc
+not_root (by_interrupt offset v clears faultless form i delay enabled clearable) = λ e. cc
+
+module _ (words : List ℕ) (A : List Entry) (f : Family) where
+  -- the root's frame is the last
+  pub root_base : (memory : Memory) (gs : List Frame) (inst : InstKey) (o : Origin) → AreLeft words A f memory gs inst o → inst.kind ≡ Root → o.base ≡ RAMEND
+  root_base memory [] inst o l e = l.1
+  root_base memory (g ∷ gs) inst o l e = absurd (not_root l.0.enters e)
+
+  module _ (sound : IsSound words A f) where
+    -- what the frames above a base take, and what its instance needs, is within the bound
+    pub within : (memory : Memory) (gs : List Frame) (inst : InstKey) (o : Origin) → AreLeft words A f memory gs inst o → RAMEND + f.need_of inst ≤ o.base + f.bound
+    within memory [] inst o l = omega (arith, ap f.need_of l.0, l.1, sound.bounded)
+    within memory (g ∷ gs) inst o l =
+        omega (arith, within memory gs g.node.key.inst g.origin l.1, l.0.place, ap offset_of l.0.closed, sound.needs g.node inst l.0.back l.0.present l.0.enters)
+
+    pub base_inside : (memory : Memory) (gs : List Frame) (inst : InstKey) (o : Origin) → AreLeft words A f memory gs inst o → o.base ≤ RAMEND
+    base_inside memory [] inst o l = omega (arith, l.1)
+    base_inside memory (g ∷ gs) inst o l = omega (arith, base_inside memory gs g.node.key.inst g.origin l.1, l.0.place)
+
+    module _ (old new : Memory) (floor : ℕ) (kept : Keeps old new floor) where
+      is_left_kept : (g : Frame) (inst : InstKey) (o : Origin) → floor ≤ o.base → IsLeft words A f old g inst o → IsLeft words A f new g inst o
+      is_left_kept g inst o le l =
+          record {
+            present = l.present;
+            registers = l.registers;
+            flags = l.flags;
+            slots =
+                slots_follow.kept g.origin old new floor g.node.state.slots kept (omega (arith, l.place, ap offset_of l.closed, (sound.formed g.node l.present).formed.count_slots)) l.slots;
+            offset = l.offset;
+            closed = l.closed;
+            place = l.place;
+            back = l.back;
+            enters = l.enters;
+            rank = l.rank;
+            low_byte = kept.bytes (o.base + 2) (omega arith) l.low_live ∙ l.low_byte;
+            high_byte = kept.bytes (o.base + 1) (omega arith) l.high_live ∙ l.high_byte;
+            low_live = kept.live (o.base + 2) (omega arith) l.low_live;
+            high_live = kept.live (o.base + 1) (omega arith) l.high_live;
+          }
+
+      -- frames that lie above the floor are kept
+      pub left_kept : (gs : List Frame) (inst : InstKey) (o : Origin) → floor ≤ o.base → AreLeft words A f old gs inst o → AreLeft words A f new gs inst o
+      left_kept [] inst o le l = l
+      left_kept (g ∷ gs) inst o le l = (is_left_kept g inst o le l.0, left_kept gs g.node.key.inst g.origin (omega (arith, l.0.place)) l.1)

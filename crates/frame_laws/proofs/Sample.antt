@@ -1,0 +1,174 @@
+-- The family of the worked firmware is sound: the definitions are met where there is a call.
+use Rattle.std.proofs.Common.{◌≡◌, ℕ, zero, suc, ◌+◌, ◌<◌, ◌≤◌, ◌⊎◌, inl, inr, ⊎_elim, List, [], ◌∷◌, replicate, length, Some, slice_index_or, refl, sym, ap, ◌∙◌, subst, arith, Contains}
+use Rattle.std.proofs.lemmas.List.{get_or-replicate}
+use Rattle.bit_domain.specs.declared.bits.Tri.TheVariants.{Any}
+use Rattle.bit_domain.proofs.AllLaws.{bytes_are_their_bits, bytes_are_sets}
+use Rattle.abs_state.specs.declared.state.AbsState.{AbsState}
+use Rattle.abs_state.specs.Values.{root, unknown, value_at}
+use Rattle.abs_state.specs.Order.{IsByteWithin, IsStateWithin}
+use Rattle.abs_state.specs.Formed.{IsFormed, IsUntagged}
+use Rattle.abs_state.specs.declared.values.AbsByte.{AbsByte}
+use Rattle.abs_state.specs.Frames.{tagged_from, entered, returned}
+use Rattle.abs_state.proofs.AllLaws.{states_are_ordered, reset_stands, entries_are_true, returns_are_true}
+use Rattle.mask_states.specs.declared.keys.InstKey.{InstKey}
+use Rattle.mask_states.specs.declared.keys.SpForm.TheVariants.{Closed}
+use Rattle.mask_states.specs.Keys.{entry_key, offset_of}
+use Rattle.local_rules.specs.declared.local.Node.{Node}
+use Rattle.local_rules.specs.declared.local.CallSite.{CallSite}
+use Rattle.local_rules.specs.declared.local.Exit.{Exit}
+use Rattle.local_rules.specs.Raw.{Raw}
+use Rattle.local_rules.specs.Flow.{site}
+use Rattle.local_rules.specs.Cover.{IsNode, TagFits, TagsFit}
+use Rattle.edge_rules.specs.Edges.{raw_of, IsFaultless, Enters, by_call, by_interrupt, Edge, moving, entering, returning, called_inst, returned_key}
+use Rattle.edge_rules.specs.Families.{IsCovered, IsSound}
+use Rattle.edge_rules.specs.Examples.{sample, callee, top, at_call, at_loop, at_return, family, plain_exit, call_leads, loop_leads, return_leads}
+
+-- ---- states
+
+top_formed : IsFormed top 0
+top_formed = record {
+  count_registers = reset_stands.formed.count_registers;
+  registers = reset_stands.formed.registers;
+  bit_7 = bytes_are_their_bits.has_bits (λ i. Any) 7 (omega arith);
+  count_slots = refl;
+  slots = λ d lt. absurd (omega arith);
+}
+
+top_untagged : IsUntagged top
+top_untagged = record { registers = reset_stands.untagged.registers; entry = refl; carry = refl; slots = λ d lt. absurd (omega arith) }
+
+unknown_above : (s : AbsState) (r : ℕ) → r < 32 → IsByteWithin (value_at s.registers r) (value_at top.registers r)
+unknown_above s r lt =
+    subst (IsByteWithin (value_at s.registers r)) (sym (get_or-replicate 32 r unknown unknown lt)) record { tag = tt; bits = λ x small has. bytes_are_sets.built (λ i. Any) x (λ i k. tt) }
+
+-- nothing says less, where there is no slot
+top_above : (s : AbsState) → length s.slots ≡ 0 → IsStateWithin s top
+top_above s count = record {
+  registers = unknown_above s;
+  flags = record { entry = λ e. cc; bits = λ x small has. bytes_are_sets.built (λ i. Any) x (λ i k. tt); carry = tt };
+  count = count;
+  slots = λ d lt. absurd (omega arith);
+}
+
+-- ---- the three nodes
+
+three_at : {X : Type 0} (x y z n : X) (k : ℕ) → k < 3 → slice_index_or (x ∷ y ∷ z ∷ []) k n ≡ n → (n ≡ x) ⊎ ((n ≡ y) ⊎ (n ≡ z))
+three_at x y z n zero lt e = inl (sym e)
+three_at x y z n (suc zero) lt e = inr (inl (sym e))
+three_at x y z n (suc (suc zero)) lt e = inr (inr (sym e))
+three_at x y z n (suc (suc (suc k))) lt e = absurd (omega arith)
+
+-- what holds of each of the three
+each : (P : Node → Type 0) → P at_call → P at_loop → P at_return → (n : Node) → Contains family.nodes n → P n
+each P a b c n h =
+    ⊎_elim (λ e. subst P (sym e) a) (λ r. ⊎_elim (λ e. subst P (sym e) b) (λ e. subst P (sym e) c) r) (three_at at_call at_loop at_return n h.0 h.1 h.2)
+
+none_in : {X : Type 0} (x : X) → Contains [] x → ⊥
+none_in x h = omega (arith, h.1)
+
+one_at : {X : Type 0} (x n : X) (k : ℕ) → k < 1 → slice_index_or (x ∷ []) k n ≡ n → n ≡ x
+one_at x n zero lt e = sym e
+one_at x n (suc k) lt e = absurd (omega arith)
+
+one_in : {X : Type 0} (x y : X) → Contains (x ∷ []) y → y ≡ x
+one_in x y h = one_at x y h.0 h.1 h.2
+
+some_is : {X : Type 0} (x y : X) → Some x ≡ Some y → x ≡ y
+some_is x y e = cc
+
+-- ---- entries
+
+call_enters : (P : InstKey → ℕ → Type 0) → P callee 1 → (inst : InstKey) (back : ℕ) → Enters sample [] at_call inst back → P inst back
+call_enters P p _ _ (by_call offset s faultless form member) =
+    let e : s ≡ site 2 1 = one_in (site 2 1) s (subst (λ (r : Raw). Contains r.calls s) call_leads member) in
+    subst (λ (x : CallSite). P (called_inst at_call.key x.entry) x.back) (sym e) p
+call_enters P p _ _ (by_interrupt offset v clears faultless form i delay enabled clearable) = absurd (cc)
+
+loop_enters : (inst : InstKey) (back : ℕ) → Enters sample [] at_loop inst back → ⊥
+loop_enters _ _ (by_call offset s faultless form member) = none_in s (subst (λ (r : Raw). Contains r.calls s) loop_leads member)
+loop_enters _ _ (by_interrupt offset v clears faultless form i delay enabled clearable) = cc
+
+return_enters : (inst : InstKey) (back : ℕ) → Enters sample [] at_return inst back → ⊥
+return_enters _ _ (by_call offset s faultless form member) = none_in s (subst (λ (r : Raw). Contains r.calls s) return_leads member)
+return_enters _ _ (by_interrupt offset v clears faultless form i delay enabled clearable) = cc
+
+-- ---- edges
+
+covered_by_loop : (s : AbsState) → length s.slots ≡ 0 → IsCovered family.nodes (record { key = at_loop.key; state = s })
+covered_by_loop s count = record { state = top; present = (1, omega arith, refl); above = top_above s count }
+
+-- the return leads behind the call
+return_covered : (inst : InstKey) (back : ℕ) → inst ≡ callee → back ≡ 1 → (leaver : Node) → Contains family.nodes leaver → leaver.key.inst ≡ inst → (x : Exit) (s : AbsState)
+    → (raw_of sample [] leaver).exit ≡ Some x → returned top leaver.state ≡ Some s → IsCovered family.nodes (record { key = returned_key at_call.key back x; state = s })
+return_covered inst back inst_is back_is =
+    each
+    (λ leaver. leaver.key.inst ≡ inst → (x : Exit) (s : AbsState) → (raw_of sample [] leaver).exit ≡ Some x → returned top leaver.state ≡ Some s
+    → IsCovered family.nodes (record { key = returned_key at_call.key back x; state = s }))
+    (λ same x s exit is. absurd (let k = ap (λ (i : InstKey). i.kind) (same ∙ inst_is) in cc))
+    (λ same x s exit is. absurd (let k = ap (λ (i : InstKey). i.kind) (same ∙ inst_is) in cc))
+    (λ same x s exit is.
+    let this : plain_exit ≡ x = some_is _ x (sym (ap (λ (r : Raw). r.exit) return_leads) ∙ exit) in
+    let formed = returns_are_true.formed top (entered top) s 0 top_formed (entries_are_true.formed top 0 top_formed) is in
+    subst (λ b. IsCovered family.nodes (record { key = returned_key at_call.key b x; state = s })) (sym back_is)
+    (subst (λ y. IsCovered family.nodes (record { key = returned_key at_call.key 1 y; state = s })) this (covered_by_loop s formed.count_slots)))
+
+call_edges : (to : Node) → Edge sample [] family.nodes at_call to → IsCovered family.nodes to
+call_edges _ (moving to faultless member) = absurd (none_in to (subst (λ (r : Raw). Contains r.moves to) call_leads member))
+call_edges _ (entering inst back enters) =
+    call_enters (λ i b. IsCovered family.nodes (record { key = entry_key i; state = entered top }))
+    record { state = entered top; present = (2, omega arith, refl); above = states_are_ordered.same (entered top) } inst back enters
+call_edges _ (returning inst back leaver x state enters present same faultless exit is) =
+    let both = call_enters (λ i b. (i ≡ callee) × (b ≡ 1)) (refl, refl) inst back enters in
+    return_covered inst back both.0 both.1 leaver present same x state exit is
+
+loop_edges : (to : Node) → Edge sample [] family.nodes at_loop to → IsCovered family.nodes to
+loop_edges _ (moving to faultless member) =
+    let e = one_in at_loop to (subst (λ (r : Raw). Contains r.moves to) loop_leads member) in
+    subst (IsCovered family.nodes) (sym e) (covered_by_loop top refl)
+loop_edges _ (entering inst back enters) = absurd (loop_enters inst back enters)
+loop_edges _ (returning inst back leaver x state enters present same faultless exit is) = absurd (loop_enters inst back enters)
+
+return_edges : (to : Node) → Edge sample [] family.nodes at_return to → IsCovered family.nodes to
+return_edges _ (moving to faultless member) = absurd (none_in to (subst (λ (r : Raw). Contains r.moves to) return_leads member))
+return_edges _ (entering inst back enters) = absurd (return_enters inst back enters)
+return_edges _ (returning inst back leaver x state enters present same faultless exit is) = absurd (return_enters inst back enters)
+
+offset_is : (offset : ℕ) → Closed 0 ≡ Closed offset → offset ≡ 0
+offset_is offset e = omega (arith, ap offset_of e)
+
+-- no number of a tag is too great
+entry_fits : (n : ℕ) (vs : List AbsByte) (r : ℕ) → TagFits (value_at (tagged_from n vs) r).tag
+entry_fits n [] r = tt
+entry_fits n (v ∷ vs) zero = tt
+entry_fits n (v ∷ vs) (suc r) = entry_fits (suc n) vs r
+
+unknown_fits : (n r : ℕ) → TagFits (value_at (replicate n unknown) r).tag
+unknown_fits zero r = tt
+unknown_fits (suc n) zero = tt
+unknown_fits (suc n) (suc r) = unknown_fits n r
+
+top_fits : TagsFit top
+top_fits = record { registers = λ r lt. unknown_fits 32 r; slots = λ d lt. absurd (omega arith) }
+
+entered_fits : TagsFit (entered top)
+entered_fits = record { registers = λ r lt. entry_fits 0 top.registers r; slots = λ d lt. absurd (omega arith) }
+
+pub the_sample_is_sound : IsSound sample [] family
+the_sample_is_sound = record {
+  formed = each (λ n. IsNode n.key n.state)
+      record { word = omega arith; small = omega arith; masks = omega arith; fits = tt; formed = top_formed; tags = top_fits; borrow_bytes = tt; untagged = λ k. top_untagged }
+      record { word = omega arith; small = omega arith; masks = omega arith; fits = tt; formed = top_formed; tags = top_fits; borrow_bytes = tt; untagged = λ k. top_untagged }
+      record { word = omega arith; small = omega arith; masks = omega arith; fits = tt; formed = entries_are_true.formed top 0 top_formed; tags = entered_fits; borrow_bytes = tt; untagged = λ k. absurd (cc) };
+  reset = record { state = top; present = (0, omega arith, refl); above = top_above root refl };
+  faultless = each (λ n. IsFaultless sample [] n)
+      (ap (λ (r : Raw). r.faults) call_leads) (ap (λ (r : Raw). r.faults) loop_leads) (ap (λ (r : Raw). r.faults) return_leads);
+  edges = λ n to h. each (λ x. Edge sample [] family.nodes x to → IsCovered family.nodes to) (call_edges to) (loop_edges to) (return_edges to) n h;
+  ranks = λ n inst back h. each (λ x. Enters sample [] x inst back → family.rank_of inst < family.rank_of x.key.inst)
+      (call_enters (λ i b. family.rank_of i < 1) (omega arith) inst back) (λ e. absurd (loop_enters inst back e)) (λ e. absurd (return_enters inst back e)) n h;
+  offsets = λ n offset h. each (λ x. x.key.sp ≡ Closed offset → offset ≤ family.need_of x.key.inst)
+      (λ e. omega (arith, offset_is offset e)) (λ e. omega (arith, offset_is offset e)) (λ e. omega (arith, offset_is offset e)) n h;
+  needs = λ n inst back h. each (λ x. Enters sample [] x inst back → offset_of x.key.sp + 2 + family.need_of inst ≤ family.need_of x.key.inst)
+      (call_enters (λ i b. 0 + 2 + family.need_of i ≤ 2) (omega arith) inst back) (λ e. absurd (loop_enters inst back e)) (λ e. absurd (return_enters inst back e)) n h;
+  bounded = omega arith;
+  small = omega arith;
+}

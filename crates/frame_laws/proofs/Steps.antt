@@ -1,0 +1,260 @@
+-- Each kind of step keeps the frames.
+use Rattle.std.proofs.Common.{◌≡◌, ◌≢◌, ℕ, ◌+◌, ◌%◌, ◌≤◌, Bool, true, false, List, [], ◌∷◌, ◌++◌, length, Some, None, refl, sym, ap, ap₂, ◌∙◌, subst, arith, Contains}
+use Rattle.avr_model.specs.declared.assumption.Entry.{Entry}
+use Rattle.avr_model.specs.declared.choice.Choice.{Choice}
+use Rattle.avr_model.specs.declared.choice.Choice.TheVariants.{Go}
+use Rattle.avr_model.specs.declared.effect.Effect.{Effect}
+use Rattle.avr_model.specs.Sreg.{flag}
+use Rattle.avr_model.specs.State.{State, Memory, RAMEND, SIZE, minus16, plus16}
+use Rattle.avr_model.specs.Effects.{way_back, going_to}
+use Rattle.avr_model.specs.Step.{after, all_inside, live_write, registers_after, with_registers, sreg_after, sp_after, open_after, enables_after}
+use Rattle.sp_domain.specs.Tags.{Origin}
+use Rattle.abs_state.specs.declared.state.AbsState.{AbsState}
+use Rattle.abs_state.specs.Stands.{RegistersStand, FlagsStand, Stands}
+use Rattle.abs_state.specs.Formed.{IsFormed}
+use Rattle.abs_state.specs.Frames.{entered}
+use Rattle.abs_state.specs.Laws.{Keeps}
+use Rattle.abs_state.proofs.AllLaws.{values_say_less, slots_follow, entries_are_true, returns_are_true}
+use Rattle.mask_states.specs.declared.keys.InstKey.{InstKey}
+use Rattle.mask_states.specs.declared.keys.Kind.TheVariants.{Root}
+use Rattle.mask_states.specs.declared.keys.SpForm.{SpForm}
+use Rattle.mask_states.specs.declared.keys.SpForm.TheVariants.{Closed, Open}
+use Rattle.mask_states.specs.Keys.{entry_key, offset_of}
+use Rattle.mask_states.specs.Place.{SpIs}
+use Rattle.local_rules.specs.declared.local.Node.{Node}
+use Rattle.local_rules.specs.declared.local.Exit.{Exit}
+use Rattle.local_rules.specs.Cover.{IsWithinBase, HasRoom, Lands, IsReturn}
+use Rattle.local_rules.specs.Machine.{IsMachine, floor_of}
+use Rattle.local_laws.specs.Laws.{LiveBytesStay}
+use Rattle.edge_rules.specs.Edges.{raw_of, IsFaultless, Enters, returned_key, moving, entering, returning}
+use Rattle.edge_rules.specs.Families.{Family, IsCovered, IsSound}
+use Rattle.edge_rules.specs.Frames.{Frame, AreLeft, Runs, Change, moved, returned_to, HasNext}
+use Rattle.frame_laws.proofs.Left.{not_root, root_base, within, base_inside, left_kept}
+use Rattle.frame_laws.proofs.Way.{WayBack, two_inside, way_pushed, way_read}
+use Rattle.frame_laws.proofs.Answers.{GoesOn}
+
+-- an entry: the way back is pushed, and registers stay
+abbrev pub entry_effect : State → ℕ → ℕ → ℕ → ℕ → Effect
+entry_effect m target sreg enables back =
+    record (going_to m target) { sreg = sreg; sp = minus16 m.sp 2; is_open = false; enables = enables; pushes = way_back m.sp back }
+
+pub floor_fits : (base : ℕ) (is_open : Bool) (sp : ℕ) (form : SpForm) → SpIs base is_open sp form → floor_of is_open sp ≤ base
+floor_fits base true sp (Closed offset) h = absurd (let e = h.0 in cc)
+floor_fits base false sp (Closed offset) h = omega (arith, h.1)
+floor_fits base true sp (Open offset high) h = omega arith
+floor_fits base false sp (Open offset high) h = absurd (let e = h.0 in cc)
+
+-- the machine has frames after this choice, if its state is a machine's
+abbrev pub Follow : List ℕ → List Entry → Family → Choice → Frame → List Frame → State → Type 0
+Follow words A f c g gs n = IsMachine n → HasNext words A f c g gs n
+
+module _ (live : LiveBytesStay) (words : List ℕ) (A : List Entry) (f : Family) (sound : IsSound words A f) where
+  module _ (m : State) (g : Frame) (gs : List Frame) (runs : Runs words A f m g gs) where
+    in_bound : RAMEND + f.need_of g.node.key.inst ≤ g.origin.base + f.bound
+    in_bound = within words A f sound m.memory gs g.node.key.inst g.origin runs.left
+
+    low_base : g.origin.base ≤ RAMEND
+    low_base = base_inside words A f sound m.memory gs g.node.key.inst g.origin runs.left
+
+    -- what a step keeps that writes no live byte
+    kept_by : (guarded : Bool) (e : Effect) → live_write m.memory (e.stores ++ e.pushes) ≡ None → Keeps m.memory (after m guarded e).memory (floor_of (after m guarded e).is_open (after m guarded e).sp)
+    kept_by guarded e miss = live.kept m guarded e runs.running.machine miss
+
+    count_slots : length g.node.state.slots ≡ offset_of g.node.key.sp
+    count_slots = runs.running.node.formed.count_slots
+
+    -- ---- a local step
+
+    -- a closed successor has room
+    room_at : (to : Node) → Contains f.nodes to → to.key.inst ≡ g.node.key.inst → (form : SpForm) → to.key.sp ≡ form → HasRoom g.origin.base form
+    room_at to present inst (Closed offset) is = (low_base, omega (arith, in_bound, sound.small, sound.offsets to offset present is, ap f.need_of inst))
+    room_at to present inst (Open offset high) is = tt
+
+    base_at : (base : ℕ) (form : SpForm) → HasRoom base form → IsWithinBase base form
+    base_at base (Closed offset) room = omega (arith, room.0, room.1)
+    base_at base (Open offset high) room = tt
+
+    module _ (b1 b2 : ℕ) (guarded : Bool) (e : Effect) where
+      pub frames_local : (to : Node) → IsFaultless words A g.node → Contains (raw_of words A g.node).moves to → to.key.inst ≡ g.node.key.inst → Lands m g.origin guarded e to
+          → GoesOn (Follow words A f (Go b1 b2) g gs) m guarded e
+      frames_local to faultless member inst lands =
+          let cov = sound.edges g.node to runs.present (moving to faultless member) in
+          let node : Node = record { key = to.key; state = cov.state } in
+          let room = room_at node cov.present inst to.key.sp refl in
+          let place = lands.place (base_at g.origin.base to.key.sp room) in
+          let n = after m guarded e in
+          record {
+            inside = lands.inside room;
+            done = λ miss machine.
+                let kept = kept_by guarded e miss in
+                let stands : Stands g.origin to.state n = record {
+                  registers = lands.registers;
+                  flags = lands.flags;
+                  slots = lands.slots (base_at g.origin.base to.key.sp room) (lands.inside room) kept;
+                } in
+                let left = left_kept words A f sound m.memory n.memory _ kept gs g.node.key.inst g.origin (floor_fits g.origin.base n.is_open n.sp to.key.sp place.sp) runs.left in (
+                  record { node = node; origin = g.origin },
+                  gs,
+                  record {
+                    present = cov.present;
+                    running = record {
+                      machine = machine;
+                      node = sound.formed node cov.present;
+                      place = place;
+                      stands = values_say_less.state g.origin to.state cov.state n cov.above stands;
+                      root = subst (λ (i : InstKey). i.kind ≡ Root → g.origin.base ≡ RAMEND) (sym inst) runs.running.root;
+                      base_word = runs.running.base_word;
+                    };
+                    left = subst (λ i. AreLeft words A f n.memory gs i g.origin) (sym inst) left;
+                  },
+                  moved b1 b2 to cov.state faultless member,
+                );
+          }
+
+    -- ---- an entry
+
+    closed_sp : (offset : ℕ) → g.node.key.sp ≡ Closed offset → m.sp + offset ≡ g.origin.base
+    closed_sp offset form = (subst (SpIs g.origin.base m.is_open m.sp) form runs.running.place.sp).1
+
+    -- how the entered frame begins
+    abbrev entry_origin : Origin
+    entry_origin = record { registers = m.registers; sreg = m.sreg; base = minus16 m.sp 2 }
+
+    module _ (inst : InstKey) (back offset : ℕ) (form : g.node.key.sp ≡ Closed offset) (enters : Enters words A g.node inst back) where
+      room : RAMEND + 2 ≤ m.sp + SIZE
+      room = omega (arith, in_bound, sound.small, sound.needs g.node inst back runs.present enters, ap offset_of form, closed_sp offset form)
+
+      top : m.sp ≤ RAMEND
+      top = omega (arith, low_base, closed_sp offset form)
+
+      covered : IsCovered f.nodes (record { key = entry_key inst; state = entered g.node.state })
+      covered = sound.edges g.node _ runs.present (entering inst back enters)
+
+      abbrev entry_frame : Frame
+      entry_frame = record { node = record { key = entry_key inst; state = covered.state }; origin = entry_origin }
+
+      left_by : (n : Memory) → Keeps m.memory n (minus16 m.sp 2) → WayBack n (minus16 m.sp 2) back → AreLeft words A f n (g ∷ gs) inst entry_origin
+      left_by n kept way =
+          let sp = closed_sp offset form in (
+            record {
+              present = runs.present;
+              registers = runs.running.stands.registers;
+              flags = runs.running.stands.flags;
+              slots = slots_follow.kept g.origin m.memory n (minus16 m.sp 2) g.node.state.slots kept (omega (arith, count_slots, ap offset_of form, room, sp)) runs.running.stands.slots;
+              offset = offset;
+              closed = form;
+              place = omega (arith, room, top, sp);
+              back = back;
+              enters = enters;
+              rank = sound.ranks g.node inst back runs.present enters;
+              low_byte = way.low_byte;
+              high_byte = way.high_byte;
+              low_live = way.low_live;
+              high_live = way.high_live;
+            },
+            left_kept words A f sound m.memory n (minus16 m.sp 2) kept gs g.node.key.inst g.origin (omega (arith, room, top, sp)) runs.left,
+          )
+
+      module _ (target sreg enables : ℕ) (to : target ≡ inst.entry) (flags : sreg % 128 ≡ m.sreg % 128) (i : flag sreg 7 ≡ inst.i) (masks : enables ≡ inst.masks) where
+        pub frames_enter : (c : Choice)
+            → ((state : AbsState) → Change words A g gs c (record { node = record { key = entry_key inst; state = state }; origin = entry_origin }) (g ∷ gs))
+            → GoesOn (Follow words A f c g gs) m true (entry_effect m target sreg enables back)
+        frames_enter c change =
+            let n = after m true (entry_effect m target sreg enables back) in
+            let formed = runs.running.node.formed in
+            let stands : Stands entry_origin (entered g.node.state) n = record {
+              registers = entries_are_true.registers g.origin g.node.state m.registers m.sreg (minus16 m.sp 2) formed.count_registers runs.running.stands.registers;
+              flags = entries_are_true.flags g.origin g.node.state (offset_of g.node.key.sp) m.registers m.sreg sreg (minus16 m.sp 2) formed flags runs.running.stands.flags;
+              slots = λ d lt. absurd (omega arith);
+            } in
+            record {
+              inside = two_inside m.sp back top room;
+              done = λ miss machine. (
+                entry_frame,
+                g ∷ gs,
+                record {
+                  present = covered.present;
+                  running = record {
+                    machine = machine;
+                    node = sound.formed _ covered.present;
+                    place = record { pc = to; enables = masks; i = i; delay = refl; sp = (refl, omega arith) };
+                    stands = values_say_less.state entry_origin (entered g.node.state) covered.state n covered.above stands;
+                    root = λ kind. absurd (not_root enters kind);
+                    base_word = omega arith;
+                  };
+                  left = left_by n.memory (kept_by true (entry_effect m target sreg enables back) miss) (way_pushed m.memory m.sp back runs.running.machine.count_bytes runs.running.machine.count_live top room);
+                },
+                change covered.state,
+              );
+            }
+
+    -- ---- a return
+
+    module _ (b1 b2 : ℕ) (guarded : Bool) (e : Effect) (x : Exit) (faultless : IsFaultless words A g.node) (exit : (raw_of words A g.node).exit ≡ Some x) (form : g.node.key.sp ≡ Closed 0) (is : IsReturn m b1 b2 x e) where
+      abbrev returned_state : State
+      returned_state = after m guarded e
+
+      same_registers : returned_state.registers ≡ m.registers
+      same_registers = ap₂ (λ rs ws. registers_after (with_registers m.registers rs) ws) is.registers is.stores
+
+      same_sreg : returned_state.sreg ≡ e.sreg
+      same_sreg = ap (sreg_after e.sreg) is.stores
+
+      raised_sp : returned_state.sp ≡ plus16 m.sp 2
+      raised_sp = ap₂ sp_after is.sp is.stores
+
+      still_closed : returned_state.is_open ≡ false
+      still_closed = ap₂ open_after is.closed is.stores
+
+      pops : (hs : List Frame) → gs ≡ hs → g.node.key.inst.kind ≢ Root → AreLeft words A f m.memory hs g.node.key.inst g.origin
+          → live_write m.memory (e.stores ++ e.pushes) ≡ None → Follow words A f (Go b1 b2) g gs returned_state
+      pops [] frames kind left miss machine = absurd (kind (ap (λ (i : InstKey). i.kind) left.0))
+      pops (h ∷ hs) frames kind left miss machine =
+          let n = returned_state in
+          let was = left.0 in
+          let caller = sound.formed h.node was.present in
+          let callee = subst (λ sp. IsFormed g.node.state (offset_of sp)) form runs.running.node.formed in
+          let sp : m.sp ≡ g.origin.base = omega (arith, closed_sp 0 form) in
+          let floor : floor_of n.is_open n.sp ≡ g.origin.base + 2 = ap₂ floor_of still_closed raised_sp ∙ omega (arith, low_base, sp) in
+          let kept = subst (Keeps m.memory n.memory) floor (kept_by guarded e miss) in
+          let slots = slots_follow.kept h.origin m.memory n.memory (g.origin.base + 2) h.node.state.slots kept (omega (arith, was.place, ap offset_of was.closed, caller.formed.count_slots)) was.slots in
+          let back = returns_are_true.stands h.origin g.origin h.node.state g.node.state (offset_of h.node.key.sp) g.origin.registers m.registers g.origin.sreg m.sreg e.sreg n.memory
+          caller.formed callee was.registers was.flags slots (record { registers_kept = refl; flags_kept = refl }) runs.running.stands.registers runs.running.stands.flags is.flags in
+          let edge = returning g.node.key.inst was.back g.node x back.0 was.enters runs.present refl faultless exit back.1 in
+          let cov = sound.edges h.node _ was.present edge in
+          let key = returned_key h.node.key was.back x in
+          let node = sound.formed (record { key = key; state = cov.state }) cov.present in
+          let stands : Stands h.origin back.0 n = record {
+            registers = subst (RegistersStand h.origin back.0.registers) (sym same_registers) back.2;
+            flags = subst (FlagsStand h.origin back.0.flags) (sym same_sreg) back.3;
+            slots = back.4;
+          } in (
+            record { node = record { key = key; state = cov.state }; origin = h.origin },
+            hs,
+            record {
+              present = cov.present;
+              running = record {
+                machine = machine;
+                node = node;
+                place = record {
+                  pc = is.pc ∙ way_read m g.origin.base was.back b1 b2 sp low_base node.word record { low_byte = was.low_byte; high_byte = was.high_byte; low_live = was.low_live; high_live = was.high_live };
+                  enables = ap₂ enables_after is.enables is.stores;
+                  i = ap (λ s. flag s 7) same_sreg ∙ is.i;
+                  delay = is.delay;
+                  sp = subst (SpIs h.origin.base n.is_open n.sp) (sym was.closed) (still_closed, omega (arith, raised_sp, was.place, low_base, sp));
+                };
+                stands = values_say_less.state h.origin back.0 cov.state n cov.above stands;
+                root = root_base words A f n.memory hs h.node.key.inst h.origin (left_kept words A f sound m.memory n.memory (g.origin.base + 2) kept hs h.node.key.inst h.origin (omega (arith, was.place)) left.1);
+                base_word = omega (arith, base_inside words A f sound m.memory hs h.node.key.inst h.origin left.1);
+              };
+              left = left_kept words A f sound m.memory n.memory (g.origin.base + 2) kept hs h.node.key.inst h.origin (omega (arith, was.place)) left.1;
+            },
+            returned_to b1 b2 h hs was.back x back.0 cov.state frames was.enters faultless exit back.1,
+          )
+
+      pub frames_return : g.node.key.inst.kind ≢ Root → GoesOn (Follow words A f (Go b1 b2) g gs) m guarded e
+      frames_return kind =
+          record {
+            inside = ap all_inside is.pushes;
+            done = λ miss machine. pops gs refl kind runs.left miss machine;
+          }

@@ -1,0 +1,219 @@
+-- Joined successors are the least above the raw ones, in ascending order.
+use Rattle.std.proofs.Common.{◌≡◌, refl, sym, ap, ◌∙◌, subst, ◌⊎◌, inl, inr, ⊎_elim, List, [], ◌∷◌, map, Contains, arith}
+use Rattle.std.specs.List.{AllByRecursion}
+use Rattle.std.specs.List.Sorted.{IsStrictlySortedBy}
+use Rattle.std.specs.Ordering.{ordering_reverse}
+use Rattle.std.specs.declared.cmp.Ordering.{Ordering}
+use Rattle.std.specs.declared.cmp.Ordering.TheVariants.{Less, Equal, Greater}
+use Rattle.sp_domain.specs.declared.tags.Tag.{Tag}
+use Rattle.sp_domain.specs.declared.tags.Tag.TheVariants as tag
+use Rattle.sp_domain.specs.declared.tags.CarryTag.{CarryTag}
+use Rattle.sp_domain.specs.declared.tags.CarryTag.TheVariants as carry
+use Rattle.sp_domain.specs.declared.slots.Slot.{Slot}
+use Rattle.sp_domain.specs.declared.slots.Slot.TheVariants.{Free, Guarded}
+use Rattle.sp_domain.specs.Slots.{slot_at}
+use Rattle.sp_domain.specs.Tags.{HasBytes, IsTagWithin, IsCarryWithin}
+use Rattle.abs_state.specs.declared.values.AbsByte.{AbsByte}
+use Rattle.abs_state.specs.declared.state.AbsState.{AbsState}
+use Rattle.abs_state.specs.Values.{value_at}
+use Rattle.abs_state.specs.Order.{IsSlotWithin, IsStateWithin, IsLeastAbove, state_join}
+use Rattle.abs_state.specs.Formed.{IsFormed}
+use Rattle.abs_state.proofs.AllLaws.{states_are_ordered, joins_are_formed}
+use Rattle.mask_states.specs.declared.keys.NodeKey.{NodeKey}
+use Rattle.mask_states.specs.Keys.{offset_of}
+use Rattle.mask_states.specs.Order.{node_cmp}
+use Rattle.mask_states.proofs.AllLaws.{keys_are_ordered}
+use Rattle.local_rules.specs.declared.local.Node.{Node}
+use Rattle.local_rules.specs.Local.{place_by, placed, joined_onto}
+use Rattle.local_rules.specs.Cover.{TagFits, SlotFits, TagsFit, IsNode}
+use Rattle.local_rules.specs.Order.{IsBelowOne}
+use Rattle.local_laws.specs.Laws.{HasKey, AreNodes, JoinsAreLeast}
+use Rattle.local_laws.proofs.Members.{none_in, here, there, first_or, each_of}
+
+-- ---- what says less has tags whose numbers fit too
+
+fits_less : (t u : Tag) → IsTagWithin t u → TagFits t → TagFits u
+fits_less t tag.None e h = tt
+fits_less t (tag.Entry r) e h = tt
+fits_less t tag.EntryFlags e h = tt
+fits_less t (tag.SpLo j) e h = subst TagFits e h
+fits_less t (tag.SpHi k) e h = subst TagFits e h
+
+slot_fits_less : (s t : Slot AbsByte) → IsSlotWithin s t → SlotFits s → SlotFits t
+slot_fits_less s Free le h = tt
+slot_fits_less Free (Guarded w) le h = absurd le
+slot_fits_less (Guarded v) (Guarded w) le h = fits_less v.tag w.tag le.tag h
+
+bytes_less : (c d : CarryTag) → IsCarryWithin c d → HasBytes c → HasBytes d
+bytes_less c carry.None e h = tt
+bytes_less c (carry.Borrow j l) e h = subst HasBytes e h
+
+tags_less : (s t : AbsState) → IsStateWithin s t → TagsFit s → TagsFit t
+tags_less s t le h =
+    record {
+      registers = λ r lt. fits_less (value_at s.registers r).tag (value_at t.registers r).tag (le.registers r lt).tag (h.registers r lt);
+      slots = λ d lt. slot_fits_less (slot_at s.slots d) (slot_at t.slots d) (le.slots d lt) (h.slots d (omega (arith, le.count)));
+    }
+
+-- ---- two nodes of one key
+
+-- the join of two nodes, which has the key of the first
+abbrev joined : Node → Node → Node
+joined m n = record { key = m.key; state = state_join m.state n.state }
+
+formed_at : (m n : Node) → n.key ≡ m.key → IsNode n.key n.state → IsFormed n.state (offset_of m.key.sp)
+formed_at m n e h = subst (λ (k : NodeKey). IsFormed n.state (offset_of k.sp)) e h.formed
+
+joined_least : (m n : Node) → n.key ≡ m.key → IsNode m.key m.state → IsNode n.key n.state → IsLeastAbove m.state n.state (state_join m.state n.state)
+joined_least m n e a b =
+    let f = formed_at m n e b in
+    states_are_ordered.join m.state n.state a.formed.count_registers f.count_registers (a.formed.count_slots ∙ sym f.count_slots)
+
+joined_node : (m n : Node) → n.key ≡ m.key → IsNode m.key m.state → IsNode n.key n.state → IsNode (joined m n).key (joined m n).state
+joined_node m n e a b =
+    let le = (joined_least m n e a b).first in
+    record {
+      word = a.word;
+      small = a.small;
+      masks = a.masks;
+      fits = a.fits;
+      formed = joins_are_formed.formed m.state n.state (offset_of m.key.sp) a.formed (formed_at m n e b);
+      tags = tags_less m.state (joined m n).state le a.tags;
+      borrow_bytes = bytes_less m.state.flags.carry (joined m n).state.flags.carry le.flags.carry a.borrow_bytes;
+      untagged = λ root.
+          joins_are_formed.untagged m.state n.state (offset_of m.key.sp) a.formed (formed_at m n e b) (a.untagged root)
+          (b.untagged (ap (λ (k : NodeKey). k.inst.kind) e ∙ root));
+    }
+
+-- ---- what holds of all nodes, and of joins, holds of the joined ones
+
+module _ (P : Node → Type 0) (join : (m n : Node) → n.key ≡ m.key → P m → P n → P (joined m n)) where
+  placed_each : (n : Node) (ms : List Node) → P n → ((m : Node) → Contains ms m → P m) → (x : Node) → Contains (placed n ms) x → P x
+  unfolding placed
+  placed_each n [] h hs = each_of P n [] h hs
+  placed_each n (m ∷ ms) h hs = by (placed_each n ms h (λ x i. hs x (there m x ms i))) (node_cmp n.key m.key) refl
+    where
+      by : ((x : Node) → Contains (placed n ms) x → P x) → (o : Ordering) → node_cmp n.key m.key ≡ o → (x : Node) → Contains (place_by o n m ms (placed n ms)) x → P x
+      by rest Less e = each_of P n (m ∷ ms) h hs
+      by rest Equal e = each_of P (joined m n) ms (join m n ((keys_are_ordered.equal_nodes n.key m.key).0 e) (hs m (here m ms)) h) (λ x i. hs x (there m x ms i))
+      by rest Greater e = each_of P m (placed n ms) (hs m (here m ms)) rest
+
+  joined_each : (done ns : List Node) → ((m : Node) → Contains done m → P m) → ((n : Node) → Contains ns n → P n) → (x : Node) → Contains (joined_onto done ns) x → P x
+  unfolding joined_onto
+  joined_each done [] h hs = h
+  joined_each done (n ∷ ns) h hs = joined_each (placed n done) ns (placed_each n done (hs n (here n ns)) h) (λ x i. hs x (there n x ns i))
+
+joined_nodes : (done ns : List Node) → AreNodes done → AreNodes ns → AreNodes (joined_onto done ns)
+joined_nodes = joined_each (λ (n : Node). IsNode n.key n.state) joined_node
+
+-- ---- each is below the one of its key
+
+below_itself : (x : Node) (xs : List Node) → Contains xs x → IsBelowOne xs x
+below_itself x xs i = record { state = x.state; present = i; above = states_are_ordered.same x.state }
+
+below_more : (m x : Node) (xs : List Node) → IsBelowOne xs x → IsBelowOne (m ∷ xs) x
+below_more m x xs b = record { state = b.state; present = there m (record { key = x.key; state = b.state }) xs b.present; above = b.above }
+
+placed_below : (n : Node) (ms : List Node) → IsNode n.key n.state → AreNodes ms → (x : Node) → (x ≡ n) ⊎ Contains ms x → IsBelowOne (placed n ms) x
+unfolding placed
+placed_below n [] h hs x = ⊎_elim (λ e. subst (IsBelowOne (n ∷ [])) (sym e) (below_itself n (n ∷ []) (here n []))) (λ i. absurd (none_in x i))
+placed_below n (m ∷ ms) h hs x = by (placed_below n ms h (λ x i. hs x (there m x ms i))) (node_cmp n.key m.key) refl
+  where
+    by_equal : n.key ≡ m.key → (x ≡ n) ⊎ Contains (m ∷ ms) x → IsBelowOne (joined m n ∷ ms) x
+    by_equal e =
+        let above = joined_least m n e (hs m (here m ms)) h in
+        let second : IsBelowOne (joined m n ∷ ms) n =
+        record {
+          state = state_join m.state n.state;
+          present = subst (λ (k : NodeKey). Contains (joined m n ∷ ms) (record { key = k; state = state_join m.state n.state })) (sym e) (here (joined m n) ms);
+          above = above.second;
+        } in
+        let first : IsBelowOne (joined m n ∷ ms) m = record { state = state_join m.state n.state; present = here (joined m n) ms; above = above.first } in
+        ⊎_elim (λ e. subst (IsBelowOne (joined m n ∷ ms)) (sym e) second)
+        (each_of (IsBelowOne (joined m n ∷ ms)) m ms first (λ x i. below_more (joined m n) x ms (below_itself x ms i)) x)
+
+    by : ((y : Node) → (y ≡ n) ⊎ Contains ms y → IsBelowOne (placed n ms) y) → (o : Ordering) → node_cmp n.key m.key ≡ o → (x ≡ n) ⊎ Contains (m ∷ ms) x
+        → IsBelowOne (place_by o n m ms (placed n ms)) x
+    by rest Less e =
+        ⊎_elim (λ e. subst (IsBelowOne (n ∷ m ∷ ms)) (sym e) (below_itself n (n ∷ m ∷ ms) (here n (m ∷ ms))))
+        (λ i. below_itself x (n ∷ m ∷ ms) (there n x (m ∷ ms) i))
+    by rest Equal e = by_equal ((keys_are_ordered.equal_nodes n.key m.key).0 e)
+    by rest Greater e =
+        ⊎_elim (λ e. below_more m x (placed n ms) (rest x (inl e)))
+        (each_of (IsBelowOne (m ∷ placed n ms)) m ms (below_itself m (m ∷ placed n ms) (here m (placed n ms))) (λ y i. below_more m y (placed n ms) (rest y (inr i))) x)
+
+joined_below : (done ns : List Node) → AreNodes done → AreNodes ns → (x : Node) → Contains done x ⊎ Contains ns x → IsBelowOne (joined_onto done ns) x
+unfolding joined_onto
+joined_below done [] h hs x = ⊎_elim (below_itself x done) (λ i. absurd (none_in x i))
+joined_below done (n ∷ ns) h hs x =
+    let done_nodes = placed_each (λ (n : Node). IsNode n.key n.state) joined_node n done (hs n (here n ns)) h in
+    let rest = joined_below (placed n done) ns done_nodes (λ x i. hs x (there n x ns i)) in
+    ⊎_elim (λ i. later rest (inr i)) (λ i. ⊎_elim (λ e. later rest (inl e)) (λ j. rest x (inr j)) (first_or n x ns i))
+  where
+    later : ((y : Node) → Contains (placed n done) y ⊎ Contains ns y → IsBelowOne (joined_onto (placed n done) ns) y) → (x ≡ n) ⊎ Contains done x
+        → IsBelowOne (joined_onto (placed n done) ns) x
+    later rest i =
+        let one = placed_below n done (hs n (here n ns)) h x i in
+        let above = rest (record { key = x.key; state = one.state }) (inl one.present) in
+        record { state = above.state; present = above.present; above = states_are_ordered.through x.state one.state above.state one.above above.above }
+
+-- ---- they ascend
+
+abbrev IsBefore : NodeKey → List Node → Type 0
+IsBefore k ns = AllByRecursion (λ (y : NodeKey). node_cmp k y ≡ Less) (map (λ (n : Node). n.key) ns)
+
+abbrev Ascend : List Node → Type 0
+Ascend ns = IsStrictlySortedBy node_cmp (map (λ (n : Node). n.key) ns)
+
+before_through : (j k : NodeKey) (ns : List Node) → node_cmp j k ≡ Less → IsBefore k ns → IsBefore j ns
+before_through j k [] e h = tt
+before_through j k (n ∷ ns) e h = (keys_are_ordered.nodes.trans j k n.key e h.0, before_through j k ns e h.1)
+
+before_placed : (k : NodeKey) (n : Node) (ms : List Node) → node_cmp k n.key ≡ Less → IsBefore k ms → IsBefore k (placed n ms)
+unfolding placed
+before_placed k n [] e h = (e, tt)
+before_placed k n (m ∷ ms) e h = by (before_placed k n ms e h.1) (node_cmp n.key m.key)
+  where
+    by : IsBefore k (placed n ms) → (o : Ordering) → IsBefore k (place_by o n m ms (placed n ms))
+    by rest Less = (e, h)
+    by rest Equal = h
+    by rest Greater = (h.0, rest)
+
+placed_ascend : (n : Node) (ms : List Node) → Ascend ms → Ascend (placed n ms)
+unfolding placed IsStrictlySortedBy
+placed_ascend n [] h = (tt, tt)
+placed_ascend n (m ∷ ms) h = by (placed_ascend n ms h.1) (node_cmp n.key m.key) refl
+  where
+    by : Ascend (placed n ms) → (o : Ordering) → node_cmp n.key m.key ≡ o → Ascend (place_by o n m ms (placed n ms))
+    by rest Less e = ((e, before_through n.key m.key ms e h.0), h)
+    by rest Equal e = h
+    by rest Greater e = (before_placed m.key n ms (keys_are_ordered.nodes.antisymm m.key n.key ∙ ap ordering_reverse e) h.0, rest)
+
+joined_ascend : (done ns : List Node) → Ascend done → Ascend (joined_onto done ns)
+unfolding joined_onto
+joined_ascend done [] h = h
+joined_ascend done (n ∷ ns) h = joined_ascend (placed n done) ns (placed_ascend n done h)
+
+-- ---- the law
+
+joined_keys : (nodes : List Node) (n : Node) → Contains (joined_onto [] nodes) n → HasKey nodes n.key
+joined_keys nodes =
+    joined_each (λ (n : Node). HasKey nodes n.key) (λ m n e a b. a) [] nodes (λ n i. absurd (none_in n i)) (λ n i. (n, (i, refl)))
+
+abbrev IsUnder : Node → AbsState → Node → Type 0
+IsUnder n t x = IsNode x.key x.state × (x.key ≡ n.key → IsStateWithin x.state t)
+
+joined_under : (n : Node) (t : AbsState) (x y : Node) → y.key ≡ x.key → IsUnder n t x → IsUnder n t y → IsUnder n t (joined x y)
+joined_under n t x y e a b =
+    (joined_node x y e a.0 b.0, λ is. (joined_least x y e a.0 b.0).least t (a.1 is) (b.1 (e ∙ is)))
+
+pub all_joins_are_least : JoinsAreLeast
+unfolding IsStrictlySortedBy
+all_joins_are_least = record {
+  ascending = λ nodes. joined_ascend [] nodes tt;
+  nodes = λ nodes h. joined_nodes [] nodes (λ n i. absurd (none_in n i)) h;
+  above = λ nodes n h i. joined_below [] nodes (λ n i. absurd (none_in n i)) h n (inr i);
+  keys = joined_keys;
+  least = λ nodes n t h i over.
+      (joined_each (IsUnder n t) (joined_under n t) [] nodes (λ x i. absurd (none_in x i)) (λ x j. (h x j, over x j)) n i).1 refl;
+}

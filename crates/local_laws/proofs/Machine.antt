@@ -1,0 +1,118 @@
+-- Every step leaves a state of the machine: as many registers and bytes, and each a byte.
+use Rattle.std.proofs.Common.{◌≡◌, ◌∙◌, ℕ, ◌+◌, ◌-◌, ◌*◌, ◌^◌, ◌<◌, ◌==◌, Bool, true, false, nat_lt, nat_le, if◌then◌else◌, List, [], ◌∷◌, length, Option, Some, None, slice_set, arith, length-set}
+use Rattle.std.specs.Int.{bit_at}
+use Rattle.std.specs.List.{All}
+use Rattle.std.proofs.lemmas.Nat.Bits.{bit_at-lt}
+use Rattle.std.proofs.lemmas.List.Elements.{All-set}
+use Rattle.avr_model.specs.declared.effect.Write.{Write}
+use Rattle.avr_model.specs.declared.effect.Effect.{Effect}
+use Rattle.avr_model.specs.Image.{WORDS}
+use Rattle.avr_model.specs.Vectors.{Vector, row_of, written_enable, written_enables}
+use Rattle.avr_model.specs.State.{State, BELOW, SPL, SPH, SREG, sram_at, is_sram, byte_in, io_bit, io_byte, read, low, high}
+use Rattle.avr_model.specs.Step.{with_registers, registers_after, sreg_after, sp_after, open_after, enables_after, after}
+use Rattle.local_rules.specs.Machine.{IsMachine}
+use Rattle.local_laws.proofs.Alu.{byte_in_list}
+use Rattle.local_laws.proofs.Bits.{number_below}
+use Rattle.local_laws.proofs.Memory.{AreByteWrites, memory_stays}
+
+-- the numbers of an effect fit
+pub record IsEffect (e : Effect) : Type 0 where
+  pub pc : e.pc < WORDS
+  pub registers : AreByteWrites e.registers
+  pub sreg : e.sreg < 256
+  pub sp : e.sp < 65536
+  pub enables : e.enables < 2 ^ 25
+  pub stores : AreByteWrites e.stores
+  pub pushes : AreByteWrites e.pushes
+
+-- ---- the state after such an effect
+
+-- 32 registers, each a byte
+record AreRegisters (registers : List ℕ) : Type 0 where
+  count : length registers ≡ 32
+  each : All (λ b. b < 256) registers
+
+set_register : (registers : List ℕ) (r b : ℕ) → b < 256 → AreRegisters registers → AreRegisters (slice_set registers r b)
+set_register registers r b small h = record { count = length-set registers r b ∙ h.count; each = All-set (λ x. x < 256) registers r b small h.each }
+
+with_stay : (ws : List Write) (registers : List ℕ) → AreByteWrites ws → AreRegisters registers → AreRegisters (with_registers registers ws)
+with_stay [] registers small h = h
+with_stay (w ∷ ws) registers small h = with_stay ws (slice_set registers w.address w.byte) small.1 (set_register registers w.address w.byte small.0 h)
+
+registers_stay : (ws : List Write) (registers : List ℕ) → AreByteWrites ws → AreRegisters registers → AreRegisters (registers_after registers ws)
+registers_stay [] registers small h = h
+registers_stay (w ∷ ws) registers small h = registers_stay ws _ small.1 (here (nat_lt w.address 0x20))
+  where
+    here : (inside : Bool) → AreRegisters (if inside then slice_set registers w.address w.byte else registers)
+    here true = set_register registers w.address w.byte small.0 h
+    here false = h
+
+chosen : (b : Bool) (bound x y : ℕ) → x < bound → y < bound → (if b then x else y) < bound
+chosen true bound x y h g = h
+chosen false bound x y h g = g
+
+sreg_stays : (ws : List Write) (sreg : ℕ) → AreByteWrites ws → sreg < 256 → sreg_after sreg ws < 256
+sreg_stays [] sreg small h = h
+sreg_stays (w ∷ ws) sreg small h = sreg_stays ws _ small.1 (chosen (w.address == SREG) 256 w.byte sreg small.0 h)
+
+sp_stays : (ws : List Write) (sp : ℕ) → AreByteWrites ws → sp < 65536 → sp_after sp ws < 65536
+sp_stays [] sp small h = h
+sp_stays (w ∷ ws) sp small h =
+    let byte = small.0 in
+    sp_stays ws _ small.1
+    (chosen (w.address == SPL) 65536 (256 * high sp + w.byte) _ (omega arith) (chosen (w.address == SPH) 65536 (256 * w.byte + low sp) sp (omega arith) h))
+
+written_bit : (r : Option Vector) (address byte old : ℕ) → old < 2 → written_enable r address byte old < 2
+written_bit None address byte old h = h
+written_bit (Some r) address byte old h = chosen (r.address == address) 2 (bit_at byte r.bit) old (bit_at-lt byte r.bit) h
+
+written_small : (enables address byte : ℕ) → written_enables enables address byte < 2 ^ 25
+unfolding written_enables
+written_small enables address byte =
+    number_below 25 (λ k. written_enable (row_of (k + 2)) address byte (bit_at enables k)) (λ k lt. written_bit (row_of (k + 2)) address byte (bit_at enables k) (bit_at-lt enables k))
+
+enables_stay : (ws : List Write) (enables : ℕ) → enables < 2 ^ 25 → enables_after enables ws < 2 ^ 25
+enables_stay [] enables h = h
+enables_stay (w ∷ ws) enables h = enables_stay ws _ (written_small enables w.address w.byte)
+
+pub after_stays : (m : State) (guarded : Bool) (e : Effect) → IsMachine m → IsEffect e → IsMachine (after m guarded e)
+after_stays m guarded e h fits =
+    let set_first = with_stay e.registers m.registers fits.registers (record { count = h.count_registers; each = h.register_bytes }) in
+    let registers = registers_stay e.stores (with_registers m.registers e.registers) fits.stores set_first in
+    let memory = memory_stays m.memory guarded (open_after e.is_open e.stores) (sp_after e.sp e.stores) e.stores e.pushes fits.stores fits.pushes
+    (record { count_bytes = h.count_bytes; sram_bytes = h.sram_bytes; count_live = h.count_live }) in
+    record {
+      pc_small = fits.pc;
+      count_registers = registers.count;
+      register_bytes = registers.each;
+      sreg_byte = sreg_stays e.stores e.sreg fits.stores fits.sreg;
+      sp_word = sp_stays e.stores e.sp fits.stores fits.sp;
+      enable_bits = enables_stay e.stores e.enables fits.enables;
+      count_bytes = memory.count_bytes;
+      sram_bytes = memory.sram_bytes;
+      count_live = memory.count_live;
+    }
+
+-- ---- bytes that are read
+
+io_value : (v : Option ℕ) (enables free : ℕ) → free < 2 → io_bit v enables free < 2
+io_value None enables free h = h
+io_value (Some v) enables free h = bit_at-lt enables (v - 2)
+
+io_small : (enables a input : ℕ) → io_byte enables a input < 256
+unfolding io_byte
+io_small enables a input = number_below 8 _ (λ b lt. io_value _ enables (bit_at input b) (bit_at-lt input b))
+
+byte_small : (bytes : List ℕ) (a : ℕ) → All (λ b. b < 256) bytes → byte_in bytes a < 256
+unfolding byte_in
+byte_small bytes a h = byte_in_list bytes (a - (BELOW + 1)) h
+
+pub read_small : (m : State) (a input : ℕ) → IsMachine m → input < 256 → read m a input < 256
+unfolding read
+read_small m a input h small =
+    chosen (nat_lt a 0x20) 256 _ _ (byte_in_list m.registers a h.register_bytes)
+    (chosen (a == SPL) 256 (low m.sp) _ (omega arith)
+    (chosen (a == SPH) 256 (high m.sp) _ (omega (arith, h.sp_word))
+    (chosen (a == SREG) 256 m.sreg _ h.sreg_byte
+    (chosen (nat_le a BELOW) 256 (io_byte m.enables a input) _ (io_small m.enables a input)
+    (chosen (is_sram a) 256 (sram_at m a) input (byte_small m.memory.bytes a h.sram_bytes) small)))))

@@ -1,0 +1,357 @@
+-- Instructions that work on registers and flags alone: a greater state gives more.
+use Rattle.std.proofs.Common.{◌≡◌, ◌≢◌, refl, sym, ap, ◌∙◌, subst, ℕ, ◌+◌, ◌*◌, ◌%◌, ◌<◌, ◌==◌, Bool, true, false, not, List, Option, Some, None, if◌then◌else◌, slice_set, cond, eqb, arith}
+use Rattle.std.proofs.lemmas.Bool.Decides.{nat_tests}
+use Rattle.avr_model.specs.declared.instruction.ImmediateOp.{ImmediateOp}
+use Rattle.avr_model.specs.declared.instruction.ImmediateOp.TheVariants as immediate
+use Rattle.avr_model.specs.declared.instruction.UnaryOp.{UnaryOp}
+use Rattle.avr_model.specs.declared.instruction.UnaryOp.TheVariants as unary
+use Rattle.avr_model.specs.declared.operation.Logic.{Logic}
+use Rattle.avr_model.specs.declared.operation.Logic.TheVariants as logic
+use Rattle.avr_model.specs.declared.operation.Shift.{Shift}
+use Rattle.avr_model.specs.declared.operation.Shift.TheVariants as shift
+use Rattle.avr_model.specs.declared.operation.Mul.{Mul}
+use Rattle.bit_domain.specs.declared.bits.Tri.{Tri}
+use Rattle.bit_domain.specs.declared.bits.Tri.TheVariants.{Zero, Any}
+use Rattle.bit_domain.specs.declared.bytes.TriByte.{TriByte}
+use Rattle.bit_domain.specs.Tri.{IsTriWithin}
+use Rattle.bit_domain.specs.TriByte.{tri_at, IsWithin, byte_known, byte_with, byte_constant}
+use Rattle.bit_domain.proofs.AllLaws.{bytes_are_their_bits, bytes_are_sets, writes_cover}
+use Rattle.sp_domain.specs.declared.tags.Tag.{Tag}
+use Rattle.sp_domain.specs.declared.tags.Tag.TheVariants as tag
+use Rattle.sp_domain.specs.declared.tags.CarryTag.{CarryTag}
+use Rattle.sp_domain.specs.declared.tags.CarryTag.TheVariants as carry
+use Rattle.sp_domain.specs.Tags.{HasBytes, IsTagWithin, IsCarryWithin, frame_of, high_of, low_below, high_below, low_less, borrow_of, high_less}
+use Rattle.sp_domain.proofs.AllLaws.{tag_arithmetic_is_monotone}
+use Rattle.abs_alu.specs.Flags.{tri_flags, flag_bit}
+use Rattle.abs_alu.specs.Product.{product_of_constants}
+use Rattle.abs_alu.specs.Words.{abs_wide}
+use Rattle.abs_alu.proofs.Monotone.{all_are_monotone}
+use Rattle.abs_state.specs.declared.values.AbsByte.{AbsByte}
+use Rattle.abs_state.specs.declared.values.AbsFlags.{AbsFlags}
+use Rattle.abs_state.specs.declared.state.AbsState.{AbsState}
+use Rattle.abs_state.specs.Values.{untagged, known}
+use Rattle.mask_states.specs.declared.keys.NodeKey.{NodeKey}
+use Rattle.mask_states.specs.declared.keys.Kind.{Kind}
+use Rattle.mask_states.specs.declared.keys.Kind.TheVariants.{Root}
+use Rattle.mask_states.specs.Keys.{offset_of}
+use Rattle.local_rules.specs.Raw.{setting, next}
+use Rattle.local_rules.specs.Registers.{value, bits, carry_bit, set, set_pair, with_carry, but_carry, sum_row, compare_row, difference_row, low_tag, borrow_tag, high_tag, or_nothing, sub_row, sbc_row, logic_row, kept_tag, step_row, shift_row, com_row, swapped, product_row, down_by, pair_moved, wide_row, interrupts_row, tri_of_bool, carry_tag_at, flag_row, immediate_row, unary_row}
+use Rattle.local_laws.proofs.MonotoneValues.{IsTagOf, IsLess, AreFlagsLess, AreRegistersLess, IsStateLess, Tells, none_of, if_tag_of, same_bits, bit_within, untagged_less, known_same, registers_set}
+use Rattle.local_laws.proofs.MonotoneRaw.{IsKey, LeadsLess, one_less, setting_less, further_small}
+
+-- ---- tags
+
+low_less_of : (kind : Kind) (t : Tag) (l : ℕ) → IsTagOf kind t → IsTagOf kind (low_less t l)
+low_less_of kind tag.None l h = none_of kind
+low_less_of kind (tag.Entry r) l h = none_of kind
+low_less_of kind tag.EntryFlags l h = none_of kind
+low_less_of kind (tag.SpLo j) l h = record { names = tt; fits = omega arith; none = λ root. let e = h.none root in absurd (cc) }
+low_less_of kind (tag.SpHi k) l h = none_of kind
+
+low_tag_of : (kind : Kind) (t : Tag) (f : Option ℕ) → IsTagOf kind t → IsTagOf kind (low_tag t f)
+low_tag_of kind t None h = none_of kind
+low_tag_of kind t (Some l) h = low_less_of kind t l h
+
+low_tag_within : (t u : Tag) (f g : Option ℕ) → IsTagWithin t u → Tells f g → IsTagWithin (low_tag t f) (low_tag u g)
+low_tag_within t u f None le tells = tt
+low_tag_within t u f (Some l) le tells =
+    subst (λ (x : Option ℕ). IsTagWithin (low_tag t x) (low_tag u (Some l))) (sym (tells l refl)) (tag_arithmetic_is_monotone.low_less t u l le)
+
+borrow_bytes : (kind : Kind) (t : Tag) (f : Option ℕ) → IsTagOf kind t → ((n : ℕ) → f ≡ Some n → n < 256) → HasBytes (borrow_tag t f)
+borrow_bytes kind t None h small = tt
+borrow_bytes kind tag.None (Some l) h small = tt
+borrow_bytes kind (tag.Entry r) (Some l) h small = tt
+borrow_bytes kind tag.EntryFlags (Some l) h small = tt
+borrow_bytes kind (tag.SpLo j) (Some l) h small = (h.fits, small l refl)
+borrow_bytes kind (tag.SpHi k) (Some l) h small = tt
+
+no_borrow : (t : Tag) (f : Option ℕ) → t ≡ tag.None → borrow_tag t f ≡ carry.None
+no_borrow t None e = refl
+no_borrow t (Some l) e = ap (λ (u : Tag). borrow_of u l) e
+
+borrow_within : (t u : Tag) (f g : Option ℕ) → IsTagWithin t u → Tells f g → IsCarryWithin (borrow_tag t f) (borrow_tag u g)
+borrow_within t u f None le tells = tt
+borrow_within t u f (Some l) le tells =
+    subst (λ (x : Option ℕ). IsCarryWithin (borrow_tag t x) (borrow_tag u (Some l))) (sym (tells l refl)) (tag_arithmetic_is_monotone.borrow t u l le)
+
+high_less_of : (kind : Kind) (t : Tag) (m : ℕ) (c : CarryTag) → IsTagOf kind t → IsTagOf kind (high_less t m c)
+high_less_of kind tag.None m c h = none_of kind
+high_less_of kind (tag.Entry r) m c h = none_of kind
+high_less_of kind tag.EntryFlags m c h = none_of kind
+high_less_of kind (tag.SpLo j) m c h = none_of kind
+high_less_of kind (tag.SpHi k) m carry.None h = none_of kind
+high_less_of kind (tag.SpHi k) m (carry.Borrow j l) h =
+    if_tag_of kind (j == k % 256) (high_of (k + l + 256 * m)) tag.None
+    (record { names = tt; fits = omega arith; none = λ root. let e = h.none root in absurd (cc) }) (none_of kind)
+
+high_tag_of : (kind : Kind) (t : Tag) (f : Option ℕ) (c : CarryTag) → IsTagOf kind t → IsTagOf kind (high_tag t f c)
+high_tag_of kind t None c h = none_of kind
+high_tag_of kind t (Some m) c h = high_less_of kind t m c h
+
+high_tag_within : (t u : Tag) (f g : Option ℕ) (c d : CarryTag) → IsTagWithin t u → Tells f g → IsCarryWithin c d → IsTagWithin (high_tag t f c) (high_tag u g d)
+high_tag_within t u f None c d le tells over = tt
+high_tag_within t u f (Some m) c d le tells over =
+    subst (λ (x : Option ℕ). IsTagWithin (high_tag t x c) (high_tag u (Some m) d)) (sym (tells m refl)) (tag_arithmetic_is_monotone.high_less t u m c d le over)
+
+low_below_of : (kind : Kind) (f : Option ℕ) (down : ℕ) → (kind ≡ Root → f ≡ None) → IsTagOf kind (low_below f down)
+low_below_of kind None down h = none_of kind
+low_below_of kind (Some k) down h = record { names = tt; fits = omega arith; none = λ root. let e = h root in absurd (cc) }
+
+high_below_of : (kind : Kind) (f : Option ℕ) (down : ℕ) → (kind ≡ Root → f ≡ None) → IsTagOf kind (high_below f down)
+high_below_of kind None down h = none_of kind
+high_below_of kind (Some k) down h = record { names = tt; fits = omega arith; none = λ root. let e = h root in absurd (cc) }
+
+if_tag_within : (b : Bool) (t u t' u' : Tag) → IsTagWithin t u → IsTagWithin t' u' → IsTagWithin (if b then t else t') (if b then u else u')
+if_tag_within true t u t' u' h k = h
+if_tag_within false t u t' u' h k = k
+
+if_within : (b : Bool) (t u t' u' : TriByte) → IsWithin t u → IsWithin t' u' → IsWithin (if b then t else t') (if b then u else u')
+if_within true t u t' u' h k = h
+if_within false t u t' u' h k = k
+
+-- ---- flags
+
+-- bit 7 stays
+flags_7 : (c z n v h : Tri) (s : TriByte) → tri_at s 7 ≡ Any → tri_at (tri_flags c z n v h s) 7 ≡ Any
+flags_7 c z n v h s e = bytes_are_their_bits.has_bits (flag_bit c z n v h s) 7 (omega arith) ∙ e
+
+pub with_7 : (b : TriByte) (i : ℕ) (bit : Tri) → i ≢ 7 → tri_at b 7 ≡ Any → tri_at (byte_with b i bit) 7 ≡ Any
+with_7 b i bit ne e =
+    let f : ℕ → Tri = λ j. cond (eqb j i) bit (tri_at b j) in
+    let other : eqb 7 i ≡ false = grind (arith, nat_tests) in
+    bytes_are_their_bits.has_bits f 7 (omega arith) ∙ ap (λ (x : Bool). cond x bit (tri_at b 7)) other ∙ e
+
+product_7 : (op : Mul) (f g : Option ℕ) (s : TriByte) → tri_at s 7 ≡ Any → tri_at (product_of_constants op f g s).1 7 ≡ Any
+product_7 op None g s e = with_7 (byte_with s 0 Any) 1 Any (omega arith) (with_7 s 0 Any (omega arith) e)
+product_7 op (Some x) None s e = with_7 (byte_with s 0 Any) 1 Any (omega arith) (with_7 s 0 Any (omega arith) e)
+product_7 op (Some x) (Some y) s e = with_7 (byte_with s 0 _) 1 _ (omega arith) (with_7 s 0 _ (omega arith) e)
+
+wide_7 : (up : Bool) (a : TriByte × TriByte) (n : ℕ) (s : TriByte) → tri_at s 7 ≡ Any → tri_at (abs_wide up a n s).1 7 ≡ Any
+wide_7 true a n s e = flags_7 _ _ _ _ _ s e
+wide_7 false a n s e = flags_7 _ _ _ _ _ s e
+
+-- ---- registers
+
+pub pair_set : (kind : Kind) (vs ws : List AbsByte) (r : ℕ) (v v' w w' : AbsByte) → AreRegistersLess kind vs ws → IsLess kind v w → IsLess kind v' w'
+    → AreRegistersLess kind (set_pair vs r v v') (set_pair ws r w w')
+pair_set kind vs ws r v v' w w' le first second =
+    registers_set kind (slice_set vs r v) (slice_set ws r w) (registers_set kind vs ws le r v w first) (r + 1) v' w' second
+
+pub swapped_within : (b c : TriByte) → IsWithin b c → IsWithin (swapped b) (swapped c)
+swapped_within b c le =
+    bytes_are_sets.built_within (λ i. tri_at b ((i + 4) % 8)) (λ i. tri_at c ((i + 4) % 8)) (λ i lt. bit_within b c ((i + 4) % 8) (omega arith) le)
+
+module _ (k : NodeKey) (at : IsKey k) (s t : AbsState) (le : IsStateLess k.inst.kind (offset_of k.sp) s t) where
+  abbrev kind : Kind
+  kind = k.inst.kind
+
+  pub reg : (r : ℕ) → IsLess kind (value s r) (value t r)
+  reg r = le.registers.each r
+
+  pub reg_bits : (r : ℕ) → IsWithin (bits s r) (bits t r)
+  reg_bits r = (le.registers.each r).within.bits
+
+  pub flag_bits : IsWithin s.flags.bits t.flags.bits
+  flag_bits = le.flags.within.bits
+
+  carry_in : IsTriWithin (carry_bit s) (carry_bit t)
+  carry_in = bit_within s.flags.bits t.flags.bits 0 (omega arith) flag_bits
+
+  -- ---- what is written
+
+  written_flags : (b c : TriByte) (x y : CarryTag) → IsWithin b c → tri_at b 7 ≡ Any → HasBytes x → (kind ≡ Root → x ≡ carry.None) → IsCarryWithin x y
+      → AreFlagsLess kind (with_carry b x) (with_carry c y)
+  written_flags b c x y over top bytes none under =
+      record {
+        within = record { entry = λ e. e; bits = over; carry = under };
+        bit_7 = top;
+        bytes = bytes;
+        no_entry = λ root. refl;
+        no_carry = none;
+      }
+
+  no_tag_flags : (b c : TriByte) → IsWithin b c → tri_at b 7 ≡ Any → AreFlagsLess kind (with_carry b carry.None) (with_carry c carry.None)
+  no_tag_flags b c over top = written_flags b c carry.None carry.None over top tt (λ root. refl) tt
+
+  pub kept_flags : (b c : TriByte) → IsWithin b c → tri_at b 7 ≡ Any → AreFlagsLess kind (but_carry s b) (but_carry t c)
+  kept_flags b c over top = written_flags b c s.flags.carry t.flags.carry over top le.flags.bytes le.flags.no_carry le.flags.within.carry
+
+  pub setting_one : (d : ℕ) (v w : AbsByte) (f g : AbsFlags) → IsLess kind v w → AreFlagsLess kind f g
+      → LeadsLess k.inst (setting k s (set s d v) f) (setting k t (set t d w) g)
+  setting_one d v w f g h flags =
+      setting_less k at s t le (set s d v) (set t d w) f g (registers_set kind s.registers t.registers le.registers d v w h) flags
+
+  pub setting_flags : (f g : AbsFlags) → AreFlagsLess kind f g → LeadsLess k.inst (setting k s s.registers f) (setting k t t.registers g)
+  setting_flags f g flags = setting_less k at s t le s.registers t.registers f g le.registers flags
+
+  pub setting_register : (d : ℕ) (v w : AbsByte) → IsLess kind v w → LeadsLess k.inst (setting k s (set s d v) s.flags) (setting k t (set t d w) t.flags)
+  setting_register d v w h = setting_one d v w s.flags t.flags h le.flags
+
+  -- ---- sums and differences
+
+  pub sum_less : (d : ℕ) (b b' : TriByte) (c c' : Tri) → IsWithin b b' → IsTriWithin c c' → LeadsLess k.inst (sum_row k s d b c) (sum_row k t d b' c')
+  sum_less d b b' c c' over carries =
+      let r = all_are_monotone.sums (bits s d) b s.flags.bits (bits t d) b' t.flags.bits c c' (reg_bits d) over flag_bits carries in
+      setting_one d _ _ _ _ (untagged_less kind _ _ r.0) (no_tag_flags _ _ r.1 (flags_7 _ _ _ _ _ s.flags.bits le.flags.bit_7))
+
+  pub compare_less : (a a' b b' : TriByte) (w w' : Tri) (keep_zero : Bool) → IsWithin a a' → IsWithin b b' → IsTriWithin w w'
+      → LeadsLess k.inst (compare_row k s a b w keep_zero) (compare_row k t a' b' w' keep_zero)
+  compare_less a a' b b' w w' keep_zero over under borrow =
+      let r = all_are_monotone.differences a b s.flags.bits a' b' t.flags.bits w w' keep_zero over under flag_bits borrow in
+      setting_flags _ _ (no_tag_flags _ _ r.1 (flags_7 _ _ _ _ _ s.flags.bits le.flags.bit_7))
+
+  difference_less : (d : ℕ) (a a' b b' : TriByte) (w w' : Tri) (keep_zero : Bool) (x x' : Tag) (c c' : CarryTag) → IsWithin a a' → IsWithin b b' → IsTriWithin w w'
+      → IsTagOf kind x → IsTagWithin x x' → HasBytes c → (kind ≡ Root → c ≡ carry.None) → IsCarryWithin c c'
+      → LeadsLess k.inst (difference_row k s d a b w keep_zero x c) (difference_row k t d a' b' w' keep_zero x' c')
+  difference_less d a a' b b' w w' keep_zero x x' c c' over under borrow good tags bytes none carries =
+      let r = all_are_monotone.differences a b s.flags.bits a' b' t.flags.bits w w' keep_zero over under flag_bits borrow in
+      setting_one d _ _ _ _ (record { within = record { tag = tags; bits = r.0 }; good = good })
+      (written_flags _ _ c c' r.1 (flags_7 _ _ _ _ _ s.flags.bits le.flags.bit_7) bytes none carries)
+
+  pub sub_less : (d : ℕ) (a a' b b' : TriByte) (f g : Option ℕ) → IsWithin a a' → IsWithin b b' → Tells f g → ((n : ℕ) → f ≡ Some n → n < 256)
+      → LeadsLess k.inst (sub_row k s d a b f) (sub_row k t d a' b' g)
+  sub_less d a a' b b' f g over under tells small =
+      let v = reg d in
+      difference_less d a a' b b' Zero Zero false (low_tag (value s d).tag f) (low_tag (value t d).tag g) (borrow_tag (value s d).tag f) (borrow_tag (value t d).tag g)
+      over under (λ n p. p) (low_tag_of kind (value s d).tag f v.good) (low_tag_within (value s d).tag (value t d).tag f g v.within.tag tells)
+      (borrow_bytes kind (value s d).tag f v.good small) (λ root. no_borrow (value s d).tag f (v.good.none root))
+      (borrow_within (value s d).tag (value t d).tag f g v.within.tag tells)
+
+  pub sbc_less : (d : ℕ) (b b' : TriByte) (f g : Option ℕ) → IsWithin b b' → Tells f g → LeadsLess k.inst (sbc_row k s d b f) (sbc_row k t d b' g)
+  sbc_less d b b' f g under tells =
+      let v = reg d in
+      difference_less d (bits s d) (bits t d) b b' (carry_bit s) (carry_bit t) true
+      (high_tag (value s d).tag f s.flags.carry) (high_tag (value t d).tag g t.flags.carry) carry.None carry.None
+      (reg_bits d) under carry_in (high_tag_of kind (value s d).tag f s.flags.carry v.good)
+      (high_tag_within (value s d).tag (value t d).tag f g s.flags.carry t.flags.carry v.within.tag tells le.flags.within.carry)
+      tt (λ root. refl) tt
+
+  pub or_nothing_within : (d r : ℕ) (b c : TriByte) → IsWithin b c → IsWithin (or_nothing d r b) (or_nothing d r c)
+  or_nothing_within d r b c h = if_within (d == r) (byte_known 0) (byte_known 0) b c (same_bits (byte_known 0)) h
+
+  -- ---- bit by bit
+
+  pub logic_less : (op : Logic) (d : ℕ) (a a' b b' : TriByte) (x x' : Tag) → IsWithin a a' → IsWithin b b' → IsTagOf kind x → IsTagWithin x x'
+      → LeadsLess k.inst (logic_row k s op d a b x) (logic_row k t op d a' b' x')
+  logic_less op d a a' b b' x x' over under good tags =
+      let r = all_are_monotone.logics op a b s.flags.bits a' b' t.flags.bits over under flag_bits in
+      setting_one d _ _ _ _ (record { within = record { tag = tags; bits = r.0 }; good = good }) (kept_flags _ _ r.1 (flags_7 _ _ _ _ _ s.flags.bits le.flags.bit_7))
+
+  pub kept_tag_of : (d r : ℕ) → IsTagOf kind (kept_tag s d r)
+  kept_tag_of d r = if_tag_of kind (d == r) (value s d).tag tag.None (reg d).good (none_of kind)
+
+  pub kept_tag_within : (d r : ℕ) → IsTagWithin (kept_tag s d r) (kept_tag t d r)
+  kept_tag_within d r = if_tag_within (d == r) (value s d).tag (value t d).tag tag.None tag.None (reg d).within.tag tt
+
+  step_less : (up : Bool) (d : ℕ) → LeadsLess k.inst (step_row k s up d) (step_row k t up d)
+  step_less up d =
+      let r = all_are_monotone.steps up (bits s d) s.flags.bits (bits t d) t.flags.bits (reg_bits d) flag_bits in
+      setting_one d _ _ _ _ (untagged_less kind _ _ r.0) (kept_flags _ _ r.1 (flags_7 _ _ _ _ _ s.flags.bits le.flags.bit_7))
+
+  shift_less : (op : Shift) (d : ℕ) → LeadsLess k.inst (shift_row k s op d) (shift_row k t op d)
+  shift_less op d =
+      let r = all_are_monotone.shifts op (bits s d) s.flags.bits (bits t d) t.flags.bits (reg_bits d) flag_bits in
+      setting_one d _ _ _ _ (untagged_less kind _ _ r.0) (no_tag_flags _ _ r.1 (flags_7 _ _ _ _ _ s.flags.bits le.flags.bit_7))
+
+  com_less : (d : ℕ) → LeadsLess k.inst (com_row k s d) (com_row k t d)
+  com_less d =
+      let r = all_are_monotone.coms (bits s d) s.flags.bits (bits t d) t.flags.bits (reg_bits d) flag_bits in
+      setting_one d _ _ _ _ (untagged_less kind _ _ r.0) (no_tag_flags _ _ r.1 (flags_7 _ _ _ _ _ s.flags.bits le.flags.bit_7))
+
+  -- ---- words
+
+  pub product_less : (op : Mul) (d r : ℕ) → LeadsLess k.inst (product_row k s op d r) (product_row k t op d r)
+  product_less op d r =
+      let p = all_are_monotone.products op (bits s d) (bits s r) s.flags.bits (bits t d) (bits t r) t.flags.bits (reg_bits d) (reg_bits r) flag_bits in
+      setting_less k at s t le _ _ _ _ (pair_set kind s.registers t.registers 0 _ _ _ _ le.registers (untagged_less kind _ _ p.0.0) (untagged_less kind _ _ p.0.1))
+      (no_tag_flags _ _ p.1 (product_7 op (byte_constant (bits s d)) (byte_constant (bits s r)) s.flags.bits le.flags.bit_7))
+
+  -- a pair in the root has no frame
+  no_frame : (d : ℕ) → kind ≡ Root → frame_of (value s d).tag (value s (d + 1)).tag ≡ None
+  no_frame d root = ap (λ (x : Tag). frame_of x (value s (d + 1)).tag) ((reg d).good.none root)
+
+  pub pair_less : (d : ℕ) (up : Bool) (n : ℕ) → AreRegistersLess kind (pair_moved s d up n) (pair_moved t d up n)
+  pair_less d up n =
+      let p = all_are_monotone.words up (bits s d, bits s (d + 1)) (bits t d, bits t (d + 1)) n s.flags.bits t.flags.bits (reg_bits d, reg_bits (d + 1)) flag_bits in
+      let lo = (reg d).within.tag in
+      let hi = (reg (d + 1)).within.tag in
+      let down = down_by up n in
+      pair_set kind s.registers t.registers d _ _ _ _ le.registers
+      (record {
+        within = record { tag = tag_arithmetic_is_monotone.low_below (value s d).tag (value s (d + 1)).tag (value t d).tag (value t (d + 1)).tag down lo hi; bits = p.0.0 };
+        good = low_below_of kind (frame_of (value s d).tag (value s (d + 1)).tag) down (no_frame d);
+      })
+      (record {
+        within = record { tag = tag_arithmetic_is_monotone.high_below (value s d).tag (value s (d + 1)).tag (value t d).tag (value t (d + 1)).tag down lo hi; bits = p.0.1 };
+        good = high_below_of kind (frame_of (value s d).tag (value s (d + 1)).tag) down (no_frame d);
+      })
+
+  pub wide_less : (up : Bool) (d n : ℕ) → LeadsLess k.inst (wide_row k s up d n) (wide_row k t up d n)
+  wide_less up d n =
+      let p = all_are_monotone.words up (bits s d, bits s (d + 1)) (bits t d, bits t (d + 1)) n s.flags.bits t.flags.bits (reg_bits d, reg_bits (d + 1)) flag_bits in
+      setting_less k at s t le _ _ _ _ (pair_less d up n) (no_tag_flags _ _ p.1 (wide_7 up (bits s d, bits s (d + 1)) n s.flags.bits le.flags.bit_7))
+
+  -- ---- flags
+
+  interrupts_less : (on : Bool) → LeadsLess k.inst (interrupts_row k s on) (interrupts_row k t on)
+  interrupts_less true =
+      one_less (record (next k) { i = true; delay = not k.i }) s t (record { word = further_small k 1; small = at.small; masks = at.masks; fits = at.fits }) le
+  interrupts_less false = one_less (record (next k) { i = false }) s t (record { word = further_small k 1; small = at.small; masks = at.masks; fits = at.fits }) le
+
+  flag_carry_bytes : (b : Bool) (c : CarryTag) → HasBytes c → HasBytes (if b then carry.None else c)
+  flag_carry_bytes true c h = tt
+  flag_carry_bytes false c h = h
+
+  flag_carry_none : (b : Bool) (c : CarryTag) → c ≡ carry.None → (if b then carry.None else c) ≡ carry.None
+  flag_carry_none true c h = refl
+  flag_carry_none false c h = h
+
+  flag_carry_within : (b : Bool) (c d : CarryTag) → IsCarryWithin c d → IsCarryWithin (if b then carry.None else c) (if b then carry.None else d)
+  flag_carry_within true c d h = tt
+  flag_carry_within false c d h = h
+
+  flag_less_by : (b : Bool) (n : ℕ) (on : Bool) → (b ≡ false → n ≢ 7)
+      → LeadsLess k.inst (if b then interrupts_row k s on else setting k s s.registers (with_carry (byte_with s.flags.bits n (tri_of_bool on)) (carry_tag_at s n)))
+      (if b then interrupts_row k t on else setting k t t.registers (with_carry (byte_with t.flags.bits n (tri_of_bool on)) (carry_tag_at t n)))
+  flag_less_by true n on ne = interrupts_less on
+  flag_less_by false n on ne =
+      setting_flags _ _ (written_flags _ _ (carry_tag_at s n) (carry_tag_at t n)
+      (writes_cover.more s.flags.bits t.flags.bits n (tri_of_bool on) (tri_of_bool on) flag_bits (λ m p. p))
+      (with_7 s.flags.bits n (tri_of_bool on) (ne refl) le.flags.bit_7)
+      (flag_carry_bytes (n == 0) s.flags.carry le.flags.bytes) (λ root. flag_carry_none (n == 0) s.flags.carry (le.flags.no_carry root))
+      (flag_carry_within (n == 0) s.flags.carry t.flags.carry le.flags.within.carry))
+
+  pub flag_less : (n : ℕ) (on : Bool) → LeadsLess k.inst (flag_row k s n on) (flag_row k t n on)
+  flag_less n on = flag_less_by (n == 7) n on (λ e. grind (arith, nat_tests))
+
+  -- ---- by the operation
+
+  number_tells : (n : ℕ) → Tells (Some n) (Some n)
+  number_tells n x e = e
+
+  number_small : (n : ℕ) → n < 256 → (x : ℕ) → Some n ≡ Some x → x < 256
+  number_small n lt x e = let is : n ≡ x = cc in omega (arith, is)
+
+  pub immediate_less : (op : ImmediateOp) (d n : ℕ) → n < 256 → LeadsLess k.inst (immediate_row k s op d n) (immediate_row k t op d n)
+  immediate_less immediate.Cpi d n lt = compare_less (bits s d) (bits t d) (byte_known n) (byte_known n) Zero Zero false (reg_bits d) (same_bits (byte_known n)) (λ m p. p)
+  immediate_less immediate.Sbci d n lt = sbc_less d (byte_known n) (byte_known n) (Some n) (Some n) (same_bits (byte_known n)) (number_tells n)
+  immediate_less immediate.Subi d n lt =
+      sub_less d (bits s d) (bits t d) (byte_known n) (byte_known n) (Some n) (Some n) (reg_bits d) (same_bits (byte_known n)) (number_tells n) (number_small n lt)
+  immediate_less immediate.Ori d n lt =
+      logic_less logic.Or d (bits s d) (bits t d) (byte_known n) (byte_known n) tag.None tag.None (reg_bits d) (same_bits (byte_known n)) (none_of kind) tt
+  immediate_less immediate.Andi d n lt =
+      logic_less logic.And d (bits s d) (bits t d) (byte_known n) (byte_known n) tag.None tag.None (reg_bits d) (same_bits (byte_known n)) (none_of kind) tt
+  immediate_less immediate.Ldi d n lt = setting_register d (known n) (known n) (known_same kind n)
+
+  pub unary_less : (op : UnaryOp) (d : ℕ) → LeadsLess k.inst (unary_row k s op d) (unary_row k t op d)
+  unary_less unary.Com d = com_less d
+  unary_less unary.Neg d =
+      difference_less d (byte_known 0) (byte_known 0) (bits s d) (bits t d) Zero Zero false tag.None tag.None carry.None carry.None
+      (same_bits (byte_known 0)) (reg_bits d) (λ m p. p) (none_of kind) tt tt (λ root. refl) tt
+  unary_less unary.Swap d =
+      setting_register d (untagged (swapped (bits s d))) (untagged (swapped (bits t d))) (untagged_less kind _ _ (swapped_within (bits s d) (bits t d) (reg_bits d)))
+  unary_less unary.Inc d = step_less true d
+  unary_less unary.Asr d = shift_less shift.Asr d
+  unary_less unary.Lsr d = shift_less shift.Lsr d
+  unary_less unary.Ror d = shift_less shift.Ror d
+  unary_less unary.Dec d = step_less false d

@@ -1,0 +1,298 @@
+-- Jumps, branches, skips, calls, returns, and bytes that are pushed and popped: a greater state leads to more.
+use Rattle.std.proofs.Common.{◌≡◌, refl, sym, ap, ◌∙◌, subst, subst₂, ℕ, zero, suc, ◌+◌, ◌-◌, ◌<◌, ◌≤◌, ◌==◌, nat_lt, nat_le, ⊎_elim, Bool, true, false, List, [], ◌∷◌, ◌++◌, map, filter, take, Option, Some, None, length, if◌then◌else◌, Contains, arith, append_assoc, length-append, length-take}
+use Rattle.std.proofs.Math.Nat.{pow-le-pow_right}
+use Rattle.std.proofs.lemmas.Bool.{cases_lt, cases_eq}
+use Rattle.std.proofs.lemmas.Bool.Decides.{nat_tests}
+use Rattle.std.proofs.lemmas.List.{get_or_past}
+use Rattle.std.proofs.lemmas.Map.Views.{Contains-from_any}
+use Rattle.avr_model.specs.declared.assumption.Entry.{Entry}
+use Rattle.avr_model.specs.Image.{WORDS, word_at}
+use Rattle.avr_model.specs.Table.{length_of}
+use Rattle.avr_model.specs.Assumptions.{jump_line, lists}
+use Rattle.avr_model.specs.State.{SIZE}
+use Rattle.bit_domain.specs.declared.bits.Tri.{Tri}
+use Rattle.bit_domain.specs.declared.bits.Tri.TheVariants.{Zero, One, Any}
+use Rattle.bit_domain.specs.declared.bytes.TriByte.{TriByte}
+use Rattle.bit_domain.specs.Tri.{IsTriWithin}
+use Rattle.bit_domain.specs.TriByte.{tri_at, IsWithin}
+use Rattle.bit_domain.specs.Numbers.{numbers_of, one_if_any, count_unknown}
+use Rattle.bit_domain.proofs.AllLaws.{numbers_are_permitted}
+use Rattle.sp_domain.specs.declared.slots.Slot.{Slot}
+use Rattle.sp_domain.specs.declared.slots.Slot.TheVariants.{Free}
+use Rattle.sp_domain.specs.Slots.{slot_at}
+use Rattle.sp_domain.proofs.AllLaws.{slots_are_lists}
+use Rattle.abs_state.specs.declared.values.AbsByte.{AbsByte}
+use Rattle.abs_state.specs.declared.state.AbsState.{AbsState}
+use Rattle.mask_states.specs.declared.keys.NodeKey.{NodeKey}
+use Rattle.mask_states.specs.declared.keys.InstKey.{InstKey}
+use Rattle.mask_states.specs.declared.keys.Kind.{Kind}
+use Rattle.mask_states.specs.declared.keys.Kind.TheVariants.{Root, Call, Vector}
+use Rattle.mask_states.specs.declared.keys.SpForm.{SpForm}
+use Rattle.mask_states.specs.declared.keys.SpForm.TheVariants.{Closed, Open}
+use Rattle.mask_states.specs.Keys.{offset_of}
+use Rattle.local_rules.specs.declared.local.Exit.{Exit}
+use Rattle.local_rules.specs.declared.local.NodeFault.TheVariants.{UnresolvedJump, UntrackedSp, TooDeep}
+use Rattle.local_rules.specs.Raw.{Raw, moves_to, fails, enters, untracked_if, at_word, further, next}
+use Rattle.local_rules.specs.Registers.{value, bits, set}
+use Rattle.local_rules.specs.Reads.{value_of}
+use Rattle.local_rules.specs.Flow.{branch, skipping, flag_at, words_of, targets_by, targets_at, jumping, is_half_written, at_closed, pushed_slot, pushing, popping, making_room, site, calling, indirect_call, relative_call, returning}
+use Rattle.local_laws.proofs.Members.{in_map, each_in_map, filter_more, filter_passes, not_empty, any_more}
+use Rattle.local_laws.proofs.MonotoneValues.{IsLess, IsSlotLess, AreSlotsLess, IsStateLess, free_less, any_bit_within, registers_set}
+use Rattle.local_laws.proofs.MonotoneRaw.{IsKey, LeadsLess, fails_less, untracked_less, several_less, one_less, choose, choose_more, choose_each, enters_less, leaves_less, further_small, word_key}
+use Rattle.local_laws.proofs.MonotoneAlu.{reg, reg_bits, flag_bits}
+use Rattle.local_laws.proofs.MonotoneReads.{slot_value}
+
+-- ---- where an indirect transfer leads
+
+if_tri_within : (b : Bool) (t u t' u' : Tri) → (b ≡ true → IsTriWithin t u) → (b ≡ false → IsTriWithin t' u') → IsTriWithin (if b then t else t') (if b then u else u')
+if_tri_within true t u t' u' h k = h refl
+if_tri_within false t u t' u' h k = k refl
+
+one_more : (t u : Tri) → IsTriWithin t u → one_if_any t ≤ one_if_any u
+one_more Zero u le = omega arith
+one_more One u le = omega arith
+one_more Any Zero le = absurd (omega (arith, le 1 tt))
+one_more Any One le = absurd (omega (arith, le 0 tt))
+one_more Any Any le = omega arith
+
+count_more : (f g : ℕ → Tri) (n : ℕ) → ((i : ℕ) → i < n → IsTriWithin (f i) (g i)) → count_unknown f n ≤ count_unknown g n
+unfolding count_unknown
+count_more f g zero le = omega arith
+count_more f g (suc n) le =
+    let rest = count_more f g n (λ i lt. le i (omega arith)) in
+    omega (arith, rest, one_more (f n) (g n) (le n (omega arith)))
+
+module _ (f g : ℕ → Tri) (n : ℕ) (le : (i : ℕ) → i < n → IsTriWithin (f i) (g i)) where
+  numbers_more : (x : ℕ) → Contains (numbers_of f n) x → Contains (numbers_of g n) x
+  numbers_more x i =
+      let h = (numbers_are_permitted.members f n x).0 i in
+      (numbers_are_permitted.members g n x).1 (record { small = h.small; bits = λ j lt. le j lt _ (h.bits j lt) })
+
+  numbers_count : length (numbers_of f n) ≤ length (numbers_of g n)
+  numbers_count =
+      subst₂ (λ (a b : ℕ). a ≤ b) (sym (numbers_are_permitted.count f n)) (sym (numbers_are_permitted.count g n))
+      (pow-le-pow_right {n = 2} (omega arith) (count_more f g n le))
+
+-- where the second has targets, the first has, and all of them are the second's, and words
+abbrev AreTargetsLess : Option (List ℕ) → Option (List ℕ) → Type 0
+AreTargetsLess x y =
+    (ys : List ℕ) → y ≡ Some ys
+    → (xs : List ℕ) × ((x ≡ Some xs) × (((z : ℕ) → Contains xs z → Contains ys z) × ((z : ℕ) → Contains ys z → z < WORDS)))
+
+module _ (xs ys : List ℕ) (more : (z : ℕ) → Contains xs z → Contains ys z) (count : length xs ≤ length ys) (small : (z : ℕ) → Contains ys z → z < WORDS) where
+  all_targets : (a b : Bool) → (b ≡ true → a ≡ true) → AreTargetsLess (if a then Some xs else None) (if b then Some ys else None)
+  all_targets a false h zs e = cc
+  all_targets true true h zs e =
+      let is : ys ≡ zs = cc in
+      (xs, (refl, ((λ z i. subst (λ (l : List ℕ). Contains l z) is (more z i)), (λ z i. small z (subst (λ (l : List ℕ). Contains l z) (sym is) i)))))
+  all_targets false true h zs e = let no : false ≡ true = h refl in absurd (cc)
+
+  listed_more : (x : ℕ) → lists xs x ≡ true → lists ys x ≡ true
+  listed_more x e = any_more (λ (item : ℕ). item == x) xs ys more e
+
+  listed_small : (x : ℕ) → lists ys x ≡ true → x < WORDS
+  listed_small x e = small x (Contains-from_any {eq = λ (a b : ℕ). b == a} (λ a b is. grind (arith, nat_tests)) x ys e)
+
+  pub targets_less : (line : Option (List ℕ)) → AreTargetsLess (targets_by line xs) (targets_by line ys)
+  targets_less None zs e = all_targets (nat_le (length xs) 64) (nat_le (length ys) 64) (λ is. grind (arith, nat_tests)) zs e
+  targets_less (Some listed) zs e =
+      let is : filter (lists ys) listed ≡ zs = cc in (
+        filter (lists xs) listed,
+        (
+          refl,
+          (
+            (λ z i. subst (λ (l : List ℕ). Contains l z) is (filter_more (lists xs) (lists ys) listed listed_more z i)),
+            (λ z i. listed_small z (filter_passes (lists ys) listed z (subst (λ (l : List ℕ). Contains l z) (sym is) i))),
+          ),
+        ),
+      )
+
+module _ (a b a' b' : TriByte) (lo : IsWithin a a') (hi : IsWithin b b') where
+  word_bits : (i : ℕ) → i < 14 → IsTriWithin (if nat_lt i 8 then tri_at a i else tri_at b (i - 8)) (if nat_lt i 8 then tri_at a' i else tri_at b' (i - 8))
+  word_bits i lt =
+      if_tri_within (nat_lt i 8) (tri_at a i) (tri_at a' i) (tri_at b (i - 8)) (tri_at b' (i - 8))
+      (λ e. any_bit_within a a' i lo) (λ e. any_bit_within b b' (i - 8) hi)
+
+  pub words_targets : (line : Option (List ℕ)) → AreTargetsLess (targets_by line (words_of a b)) (targets_by line (words_of a' b'))
+  words_targets line =
+      let f : ℕ → Tri = λ i. if nat_lt i 8 then tri_at a i else tri_at b (i - 8) in
+      let g : ℕ → Tri = λ i. if nat_lt i 8 then tri_at a' i else tri_at b' (i - 8) in
+      targets_less (words_of a b) (words_of a' b') (numbers_more f g 14 word_bits) (numbers_count f g 14 word_bits)
+      (λ z i. ((numbers_are_permitted.members g 14 z).0 i).small) line
+
+-- ---- slots that are pushed and popped
+
+pub pushed_slot_less : (kind : Kind) (scratch : Bool) (v w : AbsByte) → IsLess kind v w → IsSlotLess kind (pushed_slot scratch v) (pushed_slot scratch w)
+pushed_slot_less kind true v w h = free_less kind
+pushed_slot_less kind false v w h = record { within = h.within; good = h.good }
+
+module _ (kind : Kind) (offset : ℕ) (xs ys : List (Slot AbsByte)) (le : AreSlotsLess kind offset xs ys) where
+  past : (us vs : List (Slot AbsByte)) (d : ℕ) → length us ≤ d → length vs ≤ d → IsSlotLess kind (slot_at us d) (slot_at vs d)
+  past us vs d a b = subst₂ (IsSlotLess kind) (sym (get_or_past us d Free a)) (sym (get_or_past vs d Free b)) (free_less kind)
+
+  pub pushed_less : (x y : Slot AbsByte) → IsSlotLess kind x y → AreSlotsLess kind (offset + 1) (xs ++ x ∷ []) (ys ++ y ∷ [])
+  pushed_less x y h =
+      let lists = slots_are_lists {V = AbsByte} in
+      let count : length (xs ++ x ∷ []) ≡ offset + 1 = omega (arith, length-append xs (x ∷ []), le.count) in
+      let others : length (ys ++ y ∷ []) ≡ offset + 1 = omega (arith, length-append ys (y ∷ []), le.others) in
+      record {
+        count = count;
+        others = others;
+        each = λ d. ⊎_elim
+            (λ lt. subst₂ (IsSlotLess kind) (sym (lists.pushed xs x d (omega (arith, le.count)))) (sym (lists.pushed ys y d (omega (arith, le.others)))) (le.each d))
+            (λ over. ⊎_elim
+            (λ same. let ex : length xs ≡ d = omega (arith, le.count, same) in
+            let ey : length ys ≡ d = omega (arith, le.others, same) in
+            subst₂ (IsSlotLess kind) (sym (lists.last xs x) ∙ ap (slot_at (xs ++ x ∷ [])) ex) (sym (lists.last ys y) ∙ ap (slot_at (ys ++ y ∷ [])) ey) h)
+            (λ other. past (xs ++ x ∷ []) (ys ++ y ∷ []) d (omega (arith, count, over, other)) (omega (arith, others, over, other)))
+            (cases_eq d offset))
+            (cases_lt d offset);
+      }
+
+  pub cut_less : (n : ℕ) → n ≤ offset → AreSlotsLess kind n (take n xs) (take n ys)
+  cut_less n small =
+      let lists = slots_are_lists {V = AbsByte} in
+      let count : length (take n xs) ≡ n = omega (arith, length-take n xs, le.count) in
+      let others : length (take n ys) ≡ n = omega (arith, length-take n ys, le.others) in
+      record {
+        count = count;
+        others = others;
+        each = λ d. ⊎_elim
+            (λ lt. subst₂ (IsSlotLess kind) (sym (lists.cut xs n d lt)) (sym (lists.cut ys n d lt)) (le.each d))
+            (λ over. past (take n xs) (take n ys) d (omega (arith, count)) (omega (arith, others)))
+            (cases_lt d n);
+      }
+
+pub room_less : (kind : Kind) (offset : ℕ) (xs ys : List (Slot AbsByte)) → AreSlotsLess kind offset xs ys → AreSlotsLess kind (offset + 2) (xs ++ Free ∷ Free ∷ []) (ys ++ Free ∷ Free ∷ [])
+room_less kind offset xs ys le =
+    let once = pushed_less kind offset xs ys le Free Free (free_less kind) in
+    let twice = pushed_less kind (offset + 1) (xs ++ Free ∷ []) (ys ++ Free ∷ []) once Free Free (free_less kind) in
+    let is : offset + 1 + 1 ≡ offset + 2 = omega arith in
+    subst₂ (AreSlotsLess kind (offset + 2)) (append_assoc xs (Free ∷ []) (Free ∷ [])) (append_assoc ys (Free ∷ []) (Free ∷ []))
+    (subst (λ (n : ℕ). AreSlotsLess kind n ((xs ++ Free ∷ []) ++ Free ∷ []) ((ys ++ Free ∷ []) ++ Free ∷ [])) is twice)
+
+-- ---- rows
+
+closed_less : (inst : InstKey) (sp : SpForm) (pc : ℕ) (f g : ℕ → Raw) → ((offset : ℕ) → sp ≡ Closed offset → LeadsLess inst (f offset) (g offset))
+    → LeadsLess inst (at_closed sp pc f) (at_closed sp pc g)
+closed_less inst (Closed offset) pc f g h = h offset refl
+closed_less inst (Open offset high) pc f g h = fails_less inst (fails (UntrackedSp pc)) (UntrackedSp pc)
+
+room_by : (inst : InstKey) (b : Bool) (n pc : ℕ) (p q : Raw) → (b ≡ true → LeadsLess inst p q) → LeadsLess inst (if b then p else fails (TooDeep pc n)) (if b then q else fails (TooDeep pc n))
+room_by inst true n pc p q h = h refl
+room_by inst false n pc p q h = fails_less inst (fails (TooDeep pc n)) (TooDeep pc n)
+
+branch_nodes : (x : Tri) (k : NodeKey) (s : AbsState) (taken other : ℕ) → branch x k s taken other ≡ moves_to (map (λ a. record { key = at_word k a; state = s }) (choose x other taken))
+branch_nodes Zero k s taken other = refl
+branch_nodes One k s taken other = refl
+branch_nodes Any k s taken other = refl
+
+-- calls lead to the same whatever the state
+sites_less : (inst : InstKey) (k : NodeKey) (back : ℕ) (xs ys : List ℕ) → ((z : ℕ) → Contains xs z → Contains ys z) → LeadsLess inst (calling k back xs) (calling k back ys)
+sites_less inst k back xs ys more =
+    untracked_less inst (is_half_written k.sp) k.pc (enters (map (λ t. site t back) xs)) (enters (map (λ t. site t back) ys))
+    (enters_less inst (map (λ t. site t back) xs) (map (λ t. site t back) ys)
+    (each_in_map (λ (t : ℕ). site t back) (Contains (map (λ (t : ℕ). site t back) ys)) xs (λ x i. in_map (λ (t : ℕ). site t back) ys x (more x i))))
+
+pub calling_less : (inst : InstKey) (k : NodeKey) (back : ℕ) (xs : List ℕ) → LeadsLess inst (calling k back xs) (calling k back xs)
+calling_less inst k back xs = sites_less inst k back xs xs (λ z i. i)
+
+pub returning_less : (inst : InstKey) (x : Exit) (pc : ℕ) (kind : Kind) (offset : ℕ) → LeadsLess inst (returning x pc kind offset) (returning x pc kind offset)
+returning_less inst x pc kind (suc n) = fails_less inst (fails (UntrackedSp pc)) (UntrackedSp pc)
+returning_less inst x pc Root zero = fails_less inst (fails (UntrackedSp pc)) (UntrackedSp pc)
+returning_less inst x pc Call zero = leaves_less inst x
+returning_less inst x pc (Vector v) zero = leaves_less inst x
+
+module _ (k : NodeKey) (at : IsKey k) (s t : AbsState) (le : IsStateLess k.inst.kind (offset_of k.sp) s t) where
+  abbrev kind : Kind
+  kind = k.inst.kind
+
+  words_less : (xs ys : List ℕ) → ((z : ℕ) → Contains xs z → Contains ys z) → ((z : ℕ) → Contains ys z → z < WORDS)
+      → LeadsLess k.inst (moves_to (map (λ a. record { key = at_word k a; state = s }) xs)) (moves_to (map (λ a. record { key = at_word k a; state = t }) ys))
+  words_less xs ys more small =
+      several_less k.inst (offset_of k.sp) (at_word k) s t xs ys more (λ z i. record { key = word_key k z at (small z i); same = refl; at = refl }) le
+
+  pub branch_less : (x y : Tri) (taken other : ℕ) → IsTriWithin x y → taken < WORDS → other < WORDS → LeadsLess k.inst (branch x k s taken other) (branch y k t taken other)
+  branch_less x y taken other within a b =
+      subst₂ (LeadsLess k.inst) (sym (branch_nodes x k s taken other)) (sym (branch_nodes y k t taken other))
+      (words_less (choose x other taken) (choose y other taken) (λ z. choose_more x y other taken z within) (choose_each (λ (z : ℕ). z < WORDS) y other taken b a))
+
+  pub skipping_less : (words : List ℕ) (x y : Tri) → IsTriWithin x y → LeadsLess k.inst (skipping words k s x) (skipping words k t y)
+  skipping_less words x y within =
+      branch_less x y (further k (1 + length_of (word_at words (k.pc + 1)))) (further k 1) within (further_small k (1 + length_of (word_at words (k.pc + 1)))) (further_small k 1)
+
+  pub flag_within : (n : ℕ) → IsTriWithin (flag_at k s n) (flag_at k t n)
+  flag_within n =
+      if_tri_within (n == 7) (if k.i then One else Zero) (if k.i then One else Zero) (tri_at s.flags.bits n) (tri_at t.flags.bits n)
+      (λ e m p. p) (λ e. any_bit_within s.flags.bits t.flags.bits n (flag_bits k at s t le))
+
+  jumping_by : (x y : Option (List ℕ)) → AreTargetsLess x y → LeadsLess k.inst (jumping x k s) (jumping y k t)
+  jumping_by x None h = fails_less k.inst (jumping x k s) (UnresolvedJump k.pc)
+  jumping_by x (Some ys) h =
+      let xs = h ys refl in
+      subst (λ (z : Option (List ℕ)). LeadsLess k.inst (jumping z k s) (jumping (Some ys) k t)) (sym xs.1.0) (words_less xs.0 ys xs.1.1.0 xs.1.1.1)
+
+  indirect_by : (x y : Option (List ℕ)) → AreTargetsLess x y → LeadsLess k.inst (indirect_call x k) (indirect_call y k)
+  indirect_by x None h = indirect_none x (is_half_written k.sp)
+    where
+      indirect_none : (x : Option (List ℕ)) (b : Bool) → LeadsLess k.inst (indirect_call x k) (untracked_if b k.pc (fails (UnresolvedJump k.pc)))
+      indirect_none x true = λ e. absurd (not_empty (UntrackedSp k.pc) (UnresolvedJump k.pc ∷ []) e)
+      indirect_none x false = fails_less k.inst (indirect_call x k) (UnresolvedJump k.pc)
+  indirect_by x (Some ys) h =
+      let xs = h ys refl in
+      subst (λ (z : Option (List ℕ)). LeadsLess k.inst (indirect_call z k) (indirect_call (Some ys) k)) (sym xs.1.0) (sites_less k.inst k (further k 1) xs.0 ys xs.1.1.0)
+
+  targets : (A : List Entry) → AreTargetsLess (targets_at A k s) (targets_at A k t)
+  targets A = words_targets (bits s 30) (bits s 31) (bits t 30) (bits t 31) (reg_bits k at s t le 30) (reg_bits k at s t le 31) (jump_line A k.pc)
+
+  pub jump_less : (A : List Entry) → LeadsLess k.inst (jumping (targets_at A k s) k s) (jumping (targets_at A k t) k t)
+  jump_less A = jumping_by (targets_at A k s) (targets_at A k t) (targets A)
+
+  pub indirect_less : (A : List Entry) → LeadsLess k.inst (indirect_call (targets_at A k s) k) (indirect_call (targets_at A k t) k)
+  indirect_less A = indirect_by (targets_at A k s) (targets_at A k t) (targets A)
+
+  slots_at : (offset : ℕ) → k.sp ≡ Closed offset → AreSlotsLess kind offset s.slots t.slots
+  slots_at offset e = subst (λ (n : ℕ). AreSlotsLess kind n s.slots t.slots) (ap offset_of e) le.slots
+
+  pub push_less : (scratch : Bool) (r : ℕ) → LeadsLess k.inst (at_closed k.sp k.pc (pushing scratch k s r)) (at_closed k.sp k.pc (pushing scratch k t r))
+  push_less scratch r =
+      closed_less k.inst k.sp k.pc (pushing scratch k s r) (pushing scratch k t r)
+      (λ offset e. room_by k.inst (nat_le (offset + 1) SIZE) (offset + 1) k.pc _ _ (λ small.
+      one_less (record (next k) { sp = Closed (offset + 1) }) (record s { slots = s.slots ++ pushed_slot scratch (value s r) ∷ [] }) (record t { slots = t.slots ++ pushed_slot scratch (value t r) ∷ [] })
+      (record { word = further_small k 1; small = grind (arith, nat_tests); masks = at.masks; fits = tt })
+      (record {
+        registers = le.registers;
+        flags = le.flags;
+        slots = pushed_less kind offset s.slots t.slots (slots_at offset e) _ _ (pushed_slot_less kind scratch (value s r) (value t r) (reg k at s t le r));
+      })))
+
+  room_row : (target : ℕ) → target < WORDS → LeadsLess k.inst (at_closed k.sp k.pc (making_room k s target)) (at_closed k.sp k.pc (making_room k t target))
+  room_row target lt =
+      closed_less k.inst k.sp k.pc (making_room k s target) (making_room k t target)
+      (λ offset e. room_by k.inst (nat_le (offset + 2) SIZE) (offset + 2) k.pc _ _ (λ small.
+      one_less (record (at_word k target) { sp = Closed (offset + 2) }) (record s { slots = s.slots ++ Free ∷ Free ∷ [] }) (record t { slots = t.slots ++ Free ∷ Free ∷ [] })
+      (record { word = lt; small = grind (arith, nat_tests); masks = at.masks; fits = tt })
+      (record { registers = le.registers; flags = le.flags; slots = room_less kind offset s.slots t.slots (slots_at offset e) })))
+
+  pub relative_less : (scratch : Bool) (target : ℕ) → target < WORDS → LeadsLess k.inst (relative_call scratch k s target) (relative_call scratch k t target)
+  relative_less true target lt = room_row target lt
+  relative_less false target lt = calling_less k.inst k (further k 1) (target ∷ [])
+
+  pop_by : (d offset : ℕ) → k.sp ≡ Closed offset → LeadsLess k.inst (popping k s d offset) (popping k t d offset)
+  pop_by d zero e = fails_less k.inst (fails (UntrackedSp k.pc)) (UntrackedSp k.pc)
+  pop_by d (suc n) e =
+      one_less (record (next k) { sp = Closed n })
+      (record s { registers = set s d (value_of (slot_at s.slots n)); slots = take n s.slots }) (record t { registers = set t d (value_of (slot_at t.slots n)); slots = take n t.slots })
+      (record { word = further_small k 1; small = omega (arith, at.small, ap offset_of e); masks = at.masks; fits = tt })
+      (record {
+        registers = registers_set kind s.registers t.registers le.registers d _ _ (slot_value kind (slot_at s.slots n) (slot_at t.slots n) (le.slots.each n));
+        flags = le.flags;
+        slots = cut_less kind (suc n) s.slots t.slots (slots_at (suc n) e) n (omega arith);
+      })
+
+  pub pop_less : (d : ℕ) → LeadsLess k.inst (at_closed k.sp k.pc (popping k s d)) (at_closed k.sp k.pc (popping k t d))
+  pop_less d = closed_less k.inst k.sp k.pc (popping k s d) (popping k t d) (pop_by d)
+
+  pub return_less : (x : Exit) → LeadsLess k.inst (at_closed k.sp k.pc (returning x k.pc k.inst.kind)) (at_closed k.sp k.pc (returning x k.pc k.inst.kind))
+  return_less x =
+      closed_less k.inst k.sp k.pc (returning x k.pc k.inst.kind) (returning x k.pc k.inst.kind) (λ offset e. returning_less k.inst x k.pc k.inst.kind offset)

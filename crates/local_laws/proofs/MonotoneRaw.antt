@@ -1,0 +1,232 @@
+-- A lesser and a greater node: what the lesser leads to is a node, and below what the greater leads to.
+use Rattle.std.proofs.Common.{◌≡◌, refl, sym, subst, ℕ, ◌^◌, ◌<◌, ◌≤◌, ⊎_elim, Bool, true, false, cond, List, [], ◌∷◌, ◌++◌, map, filter, None, if◌then◌else◌, Contains, arith}
+use Rattle.std.proofs.lemmas.List.Elements.{Contains-append_left, Contains-append_right, Contains-append_cases}
+use Rattle.avr_model.specs.Image.{WORDS}
+use Rattle.avr_model.specs.State.{SIZE}
+use Rattle.bit_domain.specs.declared.bits.Tri.{Tri}
+use Rattle.bit_domain.specs.declared.bits.Tri.TheVariants.{Zero, One, Any}
+use Rattle.bit_domain.specs.Tri.{IsTriWithin}
+use Rattle.abs_state.specs.declared.values.AbsByte.{AbsByte}
+use Rattle.abs_state.specs.declared.values.AbsFlags.{AbsFlags}
+use Rattle.abs_state.specs.declared.state.AbsState.{AbsState}
+use Rattle.mask_states.specs.declared.keys.NodeKey.{NodeKey}
+use Rattle.mask_states.specs.declared.keys.InstKey.{InstKey}
+use Rattle.mask_states.specs.Keys.{offset_of}
+use Rattle.local_rules.specs.declared.local.Node.{Node}
+use Rattle.local_rules.specs.declared.local.CallSite.{CallSite}
+use Rattle.local_rules.specs.declared.local.Exit.{Exit}
+use Rattle.local_rules.specs.declared.local.NodeFault.{NodeFault}
+use Rattle.local_rules.specs.declared.local.NodeFault.TheVariants.{UntrackedSp}
+use Rattle.local_rules.specs.Raw.{Raw, nowhere, moves_to, one, fails, enters, leaves_by, untracked_if, all_of, at_word, next, further, going_to, going_on, setting}
+use Rattle.local_rules.specs.Cover.{FormFits, IsNode}
+use Rattle.local_rules.specs.Order.{IsBelowOne}
+use Rattle.local_laws.proofs.Members.{none_in, here, there, each_of, in_map, each_in_map, not_empty, empty_both}
+use Rattle.local_laws.proofs.MonotoneValues.{AreFlagsLess, AreRegistersLess, IsStateLess, less_within, less_node}
+
+-- ---- definitions
+
+-- a key of a node that the analysis works with
+pub record IsKey (k : NodeKey) : Type 0 where
+  pub word : k.pc < WORDS
+  pub small : offset_of k.sp ≤ SIZE
+  pub masks : k.masks < 2 ^ 25
+  pub fits : FormFits k
+
+-- the node is one that the analysis works with, in this instance, and one of these is above it
+pub record IsMet (inst : InstKey) (nodes : List Node) (to : Node) : Type 0 where
+  pub same : to.key.inst ≡ inst
+  pub node : IsNode to.key to.state
+  pub below : IsBelowOne nodes to
+
+pub record Leads (inst : InstKey) (a b : Raw) : Type 0 where
+  pub faultless : a.faults ≡ []
+  pub moves : (to : Node) → Contains a.moves to → IsMet inst b.moves to
+  pub calls : (site : CallSite) → Contains a.calls site → Contains b.calls site
+  pub exit : a.exit ≡ b.exit
+
+-- where the greater has no fault, the lesser has none, and leads to no more
+abbrev pub LeadsLess : InstKey → Raw → Raw → Type 0
+LeadsLess inst a b = b.faults ≡ [] → Leads inst a b
+
+-- ---- faults
+
+pub fails_less : (inst : InstKey) (a : Raw) (f : NodeFault) → LeadsLess inst a (fails f)
+fails_less inst a f e = absurd (not_empty f [] e)
+
+pub untracked_less : (inst : InstKey) (b : Bool) (pc : ℕ) (p q : Raw) → LeadsLess inst p q → LeadsLess inst (untracked_if b pc p) (untracked_if b pc q)
+untracked_less inst true pc p q h e = absurd (not_empty (UntrackedSp pc) q.faults e)
+untracked_less inst false pc p q h e = h e
+
+pub if_leads : (inst : InstKey) (b : Bool) (p p' q q' : Raw) → LeadsLess inst p q → LeadsLess inst p' q' → LeadsLess inst (if b then p else p') (if b then q else q')
+if_leads inst true p p' q q' h k = h
+if_leads inst false p p' q q' h k = k
+
+-- ---- moves
+
+abbrev pub nodes_at : {A : Type 0} → (A → NodeKey) → AbsState → List A → List Node
+nodes_at f s xs = map (λ x. record { key = f x; state = s }) xs
+
+-- a key of this instance, with this offset
+pub record IsPlace (inst : InstKey) (offset : ℕ) (k : NodeKey) : Type 0 where
+  pub key : IsKey k
+  pub same : k.inst ≡ inst
+  pub at : offset_of k.sp ≡ offset
+
+place_node : (inst : InstKey) (offset : ℕ) (k : NodeKey) (s t : AbsState) → IsPlace inst offset k → IsStateLess inst.kind offset s t → IsNode k s
+place_node inst offset k s t at le =
+    let same : IsStateLess k.inst.kind offset s t = subst (λ (i : InstKey). IsStateLess i.kind offset s t) (sym at.same) le in
+    less_node k s t at.key.word at.key.small at.key.masks at.key.fits (subst (λ (n : ℕ). IsStateLess k.inst.kind n s t) (sym at.at) same)
+
+pub several_less : {A : Type 0} (inst : InstKey) (offset : ℕ) (f : A → NodeKey) (s t : AbsState) (xs ys : List A)
+    → ((x : A) → Contains xs x → Contains ys x) → ((x : A) → Contains ys x → IsPlace inst offset (f x)) → IsStateLess inst.kind offset s t
+    → LeadsLess inst (moves_to (nodes_at f s xs)) (moves_to (nodes_at f t ys))
+several_less {A = A} inst offset f s t xs ys more places le e =
+    record {
+      faultless = refl;
+      moves = each_in_map (λ (x : A). record { key = f x; state = s }) (IsMet inst (nodes_at f t ys)) xs (λ x i. record {
+        same = (places x (more x i)).same;
+        node = place_node inst offset (f x) s t (places x (more x i)) le;
+        below = record {
+          state = t;
+          present = in_map (λ (x : A). record { key = f x; state = t }) ys x (more x i);
+          above = less_within inst.kind offset s t le;
+        };
+      });
+      calls = λ site i. i;
+      exit = refl;
+    }
+
+-- one node of its own instance
+pub one_less : (k : NodeKey) (s t : AbsState) → IsKey k → IsStateLess k.inst.kind (offset_of k.sp) s t → LeadsLess k.inst (one k s) (one k t)
+one_less k s t at le =
+    several_less k.inst (offset_of k.sp) (λ (x : NodeKey). x) s t (k ∷ []) (k ∷ []) (λ x i. i)
+    (each_of (IsPlace k.inst (offset_of k.sp)) k [] (record { key = at; same = refl; at = refl }) (λ x i. absurd (none_in x i))) le
+
+-- the second, the first, or both
+abbrev pub choose : {A : Type 0} → Tri → A → A → List A
+choose Zero x y = x ∷ []
+choose One x y = y ∷ []
+choose Any x y = x ∷ y ∷ []
+
+pub choose_more : {A : Type 0} (t u : Tri) (x y z : A) → IsTriWithin t u → Contains (choose t x y) z → Contains (choose u x y) z
+choose_more Zero Zero x y z le h = h
+choose_more Zero One x y z le h = absurd (omega (arith, le 0 refl))
+choose_more Zero Any x y z le h = each_of (Contains (x ∷ y ∷ [])) x [] (here x (y ∷ [])) (λ w i. absurd (none_in w i)) z h
+choose_more One Zero x y z le h = absurd (omega (arith, le 1 refl))
+choose_more One One x y z le h = h
+choose_more One Any x y z le h = there x z (y ∷ []) h
+choose_more Any Zero x y z le h = absurd (omega (arith, le 1 tt))
+choose_more Any One x y z le h = absurd (omega (arith, le 0 tt))
+choose_more Any Any x y z le h = h
+
+pub choose_each : {A : Type 0} (P : A → Type 0) (t : Tri) (x y : A) → P x → P y → (z : A) → Contains (choose t x y) z → P z
+choose_each P Zero x y p q = each_of P x [] p (λ z i. absurd (none_in z i))
+choose_each P One x y p q = each_of P y [] q (λ z i. absurd (none_in z i))
+choose_each P Any x y p q = each_of P x (y ∷ []) p (each_of P y [] q (λ z i. absurd (none_in z i)))
+
+-- nowhere is below all that goes on alone
+pub nowhere_less : (inst : InstKey) (nodes : List Node) → LeadsLess inst nowhere (moves_to nodes)
+nowhere_less inst nodes e = record { faultless = refl; moves = λ to i. absurd (none_in to i); calls = λ site i. i; exit = refl }
+
+-- ---- calls and returns
+
+pub enters_less : (inst : InstKey) (xs ys : List CallSite) → ((x : CallSite) → Contains xs x → Contains ys x) → LeadsLess inst (enters xs) (enters ys)
+enters_less inst xs ys more e = record { faultless = refl; moves = λ to i. absurd (none_in to i); calls = more; exit = refl }
+
+pub leaves_less : (inst : InstKey) (x : Exit) → LeadsLess inst (leaves_by x) (leaves_by x)
+leaves_less inst x e = record { faultless = refl; moves = λ to i. absurd (none_in to i); calls = λ site i. i; exit = refl }
+
+-- ---- the moves and faults of several
+
+met_left : (inst : InstKey) (xs ys : List Node) (to : Node) → IsMet inst xs to → IsMet inst (xs ++ ys) to
+met_left inst xs ys to h =
+    record {
+      same = h.same;
+      node = h.node;
+      below = record { state = h.below.state; present = Contains-append_left xs ys (record { key = to.key; state = h.below.state }) h.below.present; above = h.below.above };
+    }
+
+met_right : (inst : InstKey) (xs ys : List Node) (to : Node) → IsMet inst ys to → IsMet inst (xs ++ ys) to
+met_right inst xs ys to h =
+    record {
+      same = h.same;
+      node = h.node;
+      below = record { state = h.below.state; present = Contains-append_right xs ys (record { key = to.key; state = h.below.state }) h.below.present; above = h.below.above };
+    }
+
+none_less : (inst : InstKey) → LeadsLess inst (all_of []) (all_of [])
+none_less inst = nowhere_less inst []
+
+no_calls : (rs : List Raw) → (all_of rs).calls ≡ []
+no_calls [] = refl
+no_calls (r ∷ rs) = refl
+
+no_exit : (rs : List Raw) → (all_of rs).exit ≡ None
+no_exit [] = refl
+no_exit (r ∷ rs) = refl
+
+pub both_less : (inst : InstKey) (p q : Raw) (ps qs : List Raw) → LeadsLess inst p q → LeadsLess inst (all_of ps) (all_of qs) → LeadsLess inst (all_of (p ∷ ps)) (all_of (q ∷ qs))
+both_less inst p q ps qs first rest e =
+    let none = empty_both q.faults (all_of qs).faults e in
+    let a = first none.0 in
+    let b = rest none.1 in
+    record {
+      faultless = λ i. a.faultless i ++ b.faultless i;
+      moves = λ to i. ⊎_elim
+          (λ j. met_left inst q.moves (all_of qs).moves to (a.moves to j))
+          (λ j. met_right inst q.moves (all_of qs).moves to (b.moves to j))
+          (Contains-append_cases p.moves (all_of ps).moves to i);
+      calls = λ site i. i;
+      exit = refl;
+    }
+
+-- one more of the greater
+pub more_less : (inst : InstKey) (q : Raw) (ps qs : List Raw) → LeadsLess inst (all_of ps) (all_of qs) → LeadsLess inst (all_of ps) (all_of (q ∷ qs))
+more_less inst q ps qs rest e =
+    let none = empty_both q.faults (all_of qs).faults e in
+    let b = rest none.1 in
+    record {
+      faultless = b.faultless;
+      moves = λ to i. met_right inst q.moves (all_of qs).moves to (b.moves to i);
+      calls = subst (λ (xs : List CallSite). (site : CallSite) → Contains xs site → Contains [] site) (sym (no_calls ps)) (λ site i. i);
+      exit = no_exit ps;
+    }
+
+-- those of the members that pass a test, where the greater's test passes more
+pub filtered_less : {A : Type 0} (inst : InstKey) (f g : A → Raw) (p q : A → Bool) (xs : List A)
+    → ((x : A) → LeadsLess inst (f x) (g x)) → ((x : A) → p x ≡ true → q x ≡ true)
+    → LeadsLess inst (all_of (map f (filter p xs))) (all_of (map g (filter q xs)))
+filtered_less inst f g p q [] each more = none_less inst
+filtered_less {A = A} inst f g p q (x ∷ xs) each more = by (filtered_less inst f g p q xs each more) (p x) (q x) (more x)
+  where
+    by : LeadsLess inst (all_of (map f (filter p xs))) (all_of (map g (filter q xs))) → (a b : Bool) → (a ≡ true → b ≡ true)
+        → LeadsLess inst (all_of (map f (cond a (x ∷ filter p xs) (filter p xs)))) (all_of (map g (cond b (x ∷ filter q xs) (filter q xs))))
+    by rest true true k = both_less inst (f x) (g x) (map f (filter p xs)) (map g (filter q xs)) (each x) rest
+    by rest true false k = let e : false ≡ true = k refl in absurd (cc)
+    by rest false true k = more_less inst (g x) (map f (filter p xs)) (map g (filter q xs)) rest
+    by rest false false k = rest
+
+-- ---- going on
+
+pub further_small : (k : NodeKey) (n : ℕ) → further k n < WORDS
+further_small k n = omega arith
+
+-- at another word
+pub word_key : (k : NodeKey) (pc : ℕ) → IsKey k → pc < WORDS → IsKey (at_word k pc)
+word_key k pc at lt = record { word = lt; small = at.small; masks = at.masks; fits = at.fits }
+
+pub next_key : (k : NodeKey) → IsKey k → IsKey (next k)
+next_key k at = word_key k (further k 1) at (further_small k 1)
+
+module _ (k : NodeKey) (at : IsKey k) (s t : AbsState) (le : IsStateLess k.inst.kind (offset_of k.sp) s t) where
+  pub going_less : (pc : ℕ) → pc < WORDS → LeadsLess k.inst (going_to k s pc) (going_to k t pc)
+  going_less pc lt = one_less (at_word k pc) s t (word_key k pc at lt) le
+
+  pub on_less : LeadsLess k.inst (going_on k s) (going_on k t)
+  on_less = going_less (further k 1) (further_small k 1)
+
+  pub setting_less : (vs ws : List AbsByte) (f g : AbsFlags) → AreRegistersLess k.inst.kind vs ws → AreFlagsLess k.inst.kind f g
+      → LeadsLess k.inst (setting k s vs f) (setting k t ws g)
+  setting_less vs ws f g values flags =
+      one_less (next k) (record s { registers = vs; flags = f }) (record t { registers = ws; flags = g }) (next_key k at)
+      (record { registers = values; flags = flags; slots = le.slots })

@@ -1,0 +1,240 @@
+-- What a byte that is written changes: a greater state leads to more.
+use Rattle.std.proofs.Common.{◌≡◌, refl, sym, ap, subst, subst₂, ℕ, zero, suc, ◌+◌, ◌<◌, ◌≤◌, ◌==◌, ◌&&◌, ◌||◌, nat_lt, nat_le, ⊎_elim, Bool, true, false, List, map, filter, Option, Some, None, if◌then◌else◌, slice_set, arith}
+use Rattle.std.specs.Int.{bit_at}
+use Rattle.std.proofs.lemmas.Bool.{cases_lt}
+use Rattle.std.proofs.lemmas.Bool.Decides.{nat_tests}
+use Rattle.std.proofs.lemmas.List.{get_or_past}
+use Rattle.avr_model.specs.declared.assumption.Entry.{Entry}
+use Rattle.avr_model.specs.Bits.{all_below}
+use Rattle.avr_model.specs.Assumptions.{store_line, is_proved}
+use Rattle.avr_model.specs.Sites.{is_fixed}
+use Rattle.avr_model.specs.State.{SIZE, SPL, SPH, SREG, low, high, minus16}
+use Rattle.bit_domain.specs.declared.bits.Tri.{Tri}
+use Rattle.bit_domain.specs.declared.bits.Tri.TheVariants.{Zero, One, Any}
+use Rattle.bit_domain.specs.declared.bytes.TriByte.{TriByte}
+use Rattle.bit_domain.specs.Tri.{IsTriWithin, Permits}
+use Rattle.bit_domain.specs.TriByte.{tri_at, IsWithin, byte_constant}
+use Rattle.bit_domain.proofs.AllLaws.{bytes_are_their_bits, writes_cover, numbers_are_permitted}
+use Rattle.sp_domain.specs.declared.tags.Tag.{Tag}
+use Rattle.sp_domain.specs.declared.tags.Tag.TheVariants as tag
+use Rattle.sp_domain.specs.declared.slots.Slot.{Slot}
+use Rattle.sp_domain.specs.declared.slots.Slot.TheVariants.{Free}
+use Rattle.sp_domain.specs.Slots.{resized}
+use Rattle.sp_domain.specs.Tags.{IsTagWithin}
+use Rattle.sp_domain.proofs.AllLaws.{slots_are_lists}
+use Rattle.abs_state.specs.declared.values.AbsByte.{AbsByte}
+use Rattle.abs_state.specs.declared.state.AbsState.{AbsState}
+use Rattle.mask_states.specs.declared.keys.NodeKey.{NodeKey}
+use Rattle.mask_states.specs.declared.keys.Kind.{Kind}
+use Rattle.mask_states.specs.declared.keys.Kind.TheVariants.{Root, Call, Vector}
+use Rattle.mask_states.specs.declared.keys.SpForm.{SpForm}
+use Rattle.mask_states.specs.declared.keys.SpForm.TheVariants.{Closed, Open}
+use Rattle.mask_states.specs.declared.keys.High.{High}
+use Rattle.mask_states.specs.declared.keys.High.TheVariants.{Known, Tag as Tagged}
+use Rattle.mask_states.specs.Keys.{offset_of}
+use Rattle.mask_states.specs.Splits.{splits, enable_tri}
+use Rattle.mask_states.proofs.AllLaws.{splits_are_writes}
+use Rattle.local_rules.specs.declared.local.NodeFault.TheVariants.{UntrackedSp, TooDeep, UnknownPointer}
+use Rattle.local_rules.specs.Raw.{moves_to, one, fails}
+use Rattle.local_rules.specs.Registers.{bits}
+use Rattle.local_rules.specs.declared.pointers.Pointed.{Pointed}
+use Rattle.local_rules.specs.Writes.{known_high, tagged_high, high_part, opening, root_closing, frame_closing, closing_offset, closing, is_entry_flags, flags_written, with_i, sreg_written, masks_written, written_at, permits, has, reaches, fixed_write, listed_writes, pointer_write}
+use Rattle.local_rules.specs.Cover.{HighFitsKind, TagFits}
+use Rattle.local_laws.proofs.MonotoneValues.{IsTagOf, IsLess, AreFlagsLess, AreSlotsLess, IsSlotLess, IsStateLess, Tells, tells_by, tag_tells, free_less, constant_is, constant_tells, bit_within, registers_set}
+use Rattle.local_laws.proofs.MonotoneRaw.{IsKey, IsPlace, LeadsLess, nodes_at, fails_less, if_leads, several_less, one_less, choose, choose_more, both_less, filtered_less}
+
+-- ---- the high byte of the stack pointer
+
+high_tells : (kind : Kind) (v w : AbsByte) → IsLess kind v w → Tells (high_part kind v) (high_part kind w)
+high_tells Root v w le = tells_by known_high refl (byte_constant v.bits) (byte_constant w.bits) (constant_tells v.bits w.bits le.within.bits)
+high_tells Call v w le = tag_tells tagged_high refl v.tag w.tag le.within.tag
+high_tells (Vector n) v w le = tag_tells tagged_high refl v.tag w.tag le.within.tag
+
+known_fits : (f : Option ℕ) (h : High) → ((n : ℕ) → f ≡ Some n → n < 256) → known_high f ≡ Some h → HighFitsKind Root h
+known_fits None h small e = cc
+known_fits (Some n) h small e = let is : Known n ≡ h = cc in subst (HighFitsKind Root) is (small n refl)
+
+tag_fits : (kind : Kind) (t : Tag) (h : High) → ((k : ℕ) → k < 65536 → HighFitsKind kind (Tagged k)) → TagFits t → tagged_high t ≡ Some h → HighFitsKind kind h
+tag_fits kind tag.None h all fits e = cc
+tag_fits kind (tag.Entry r) h all fits e = cc
+tag_fits kind tag.EntryFlags h all fits e = cc
+tag_fits kind (tag.SpLo j) h all fits e = cc
+tag_fits kind (tag.SpHi k) h all fits e = let is : Tagged k ≡ h = cc in subst (HighFitsKind kind) is (all k fits)
+
+high_fits : (kind : Kind) (v : AbsByte) (h : High) → IsTagOf kind v.tag → high_part kind v ≡ Some h → HighFitsKind kind h
+high_fits Root v h good e = known_fits (byte_constant v.bits) h (λ n is. (constant_is v.bits n is).1) e
+high_fits Call v h good e = tag_fits Call v.tag h (λ k lt. lt) good.fits e
+high_fits (Vector n) v h good e = tag_fits (Vector n) v.tag h (λ k lt. lt) good.fits e
+
+opening_less : (k : NodeKey) (at : IsKey k) (s t : AbsState) (le : IsStateLess k.inst.kind (offset_of k.sp) s t) (pc : ℕ) (f g : Option High)
+    → Tells f g → ((h : High) → f ≡ Some h → HighFitsKind k.inst.kind h) → LeadsLess k.inst (opening f k s pc) (opening g k t pc)
+opening_less k at s t le pc f None tells fits = fails_less k.inst (opening f k s pc) (UntrackedSp pc)
+opening_less k at s t le pc f (Some h) tells fits =
+    subst (λ (x : Option High). LeadsLess k.inst (opening x k s pc) (opening (Some h) k t pc)) (sym (tells h refl))
+    (one_less (record k { sp = Open (offset_of k.sp) h }) s t (record { word = at.word; small = at.small; masks = at.masks; fits = fits h (tells h refl) }) le)
+
+-- ---- its low byte
+
+no_root : (sp : SpForm) → root_closing sp None ≡ None
+no_root (Closed offset) = refl
+no_root (Open offset (Known h)) = refl
+no_root (Open offset (Tagged k)) = refl
+
+no_frame : (sp : SpForm) → frame_closing sp tag.None ≡ None
+no_frame (Closed offset) = refl
+no_frame (Open offset (Known h)) = refl
+no_frame (Open offset (Tagged k)) = refl
+
+closing_tells : (kind : Kind) (sp : SpForm) (v w : AbsByte) → IsLess kind v w → Tells (closing_offset kind sp v) (closing_offset kind sp w)
+closing_tells Root sp v w le = tells_by (root_closing sp) (no_root sp) (byte_constant v.bits) (byte_constant w.bits) (constant_tells v.bits w.bits le.within.bits)
+closing_tells Call sp v w le = tag_tells (frame_closing sp) (no_frame sp) v.tag w.tag le.within.tag
+closing_tells (Vector n) sp v w le = tag_tells (frame_closing sp) (no_frame sp) v.tag w.tag le.within.tag
+
+module _ (kind : Kind) (offset : ℕ) (xs ys : List (Slot AbsByte)) (le : AreSlotsLess kind offset xs ys) where
+  pub resized_less : (n : ℕ) → AreSlotsLess kind n (resized n xs) (resized n ys)
+  resized_less n =
+      let lists = slots_are_lists {V = AbsByte} in
+      record {
+        count = lists.count xs n;
+        others = lists.count ys n;
+        each = λ d. ⊎_elim
+            (λ lt. subst₂ (IsSlotLess kind) (sym (lists.kept xs n d lt)) (sym (lists.kept ys n d lt)) (le.each d))
+            (λ over. subst₂ (IsSlotLess kind)
+            (sym (get_or_past (resized n xs) d Free (omega (arith, lists.count xs n)))) (sym (get_or_past (resized n ys) d Free (omega (arith, lists.count ys n)))) (free_less kind))
+            (cases_lt d n);
+      }
+
+module _ (k : NodeKey) (at : IsKey k) (s t : AbsState) (le : IsStateLess k.inst.kind (offset_of k.sp) s t) (pc : ℕ) where
+  closing_by : (b : Bool) (n : ℕ) → (b ≡ true → n ≤ SIZE)
+      → LeadsLess k.inst (if b then one (record k { sp = Closed n }) (record s { slots = resized n s.slots }) else fails (TooDeep pc n))
+      (if b then one (record k { sp = Closed n }) (record t { slots = resized n t.slots }) else fails (TooDeep pc n))
+  closing_by true n small =
+      one_less (record k { sp = Closed n }) (record s { slots = resized n s.slots }) (record t { slots = resized n t.slots })
+      (record { word = at.word; small = small refl; masks = at.masks; fits = tt })
+      (record { registers = le.registers; flags = le.flags; slots = resized_less k.inst.kind (offset_of k.sp) s.slots t.slots le.slots n })
+  closing_by false n small = fails_less k.inst (fails (TooDeep pc n)) (TooDeep pc n)
+
+  closing_less : (f g : Option ℕ) → Tells f g → LeadsLess k.inst (closing f k s pc) (closing g k t pc)
+  closing_less f None tells = fails_less k.inst (closing f k s pc) (UntrackedSp pc)
+  closing_less f (Some n) tells =
+      subst (λ (x : Option ℕ). LeadsLess k.inst (closing x k s pc) (closing (Some n) k t pc)) (sym (tells n refl))
+      (closing_by (nat_le n SIZE) n (λ e. grind (arith, nat_tests)))
+
+-- ---- the status register
+
+entry_true : (t u : Tag) → IsTagWithin t u → is_entry_flags u ≡ true → is_entry_flags t ≡ true
+entry_true t tag.None le e = cc
+entry_true t (tag.Entry r) le e = cc
+entry_true t tag.EntryFlags le e = ap is_entry_flags le
+entry_true t (tag.SpLo j) le e = cc
+entry_true t (tag.SpHi k) le e = cc
+
+written_flags : (kind : Kind) (v w : AbsByte) → IsLess kind v w → AreFlagsLess kind (flags_written v) (flags_written w)
+written_flags kind v w le =
+    record {
+      within = record {
+        entry = entry_true v.tag w.tag le.within.tag;
+        bits = writes_cover.more v.bits w.bits 7 Any Any le.within.bits (λ n p. p);
+        carry = tt;
+      };
+      bit_7 = bytes_are_their_bits.has_bits _ 7 (omega arith);
+      bytes = tt;
+      no_entry = λ root. ap is_entry_flags (le.good.none root);
+      no_carry = λ root. refl;
+    }
+
+sreg_nodes : (x : Tri) (k : NodeKey) (s : AbsState) (is_out : Bool) → sreg_written x k s is_out ≡ moves_to (nodes_at (with_i k is_out) s (choose x false true))
+sreg_nodes Zero k s is_out = refl
+sreg_nodes One k s is_out = refl
+sreg_nodes Any k s is_out = refl
+
+i_place : (k : NodeKey) (is_out on : Bool) → IsKey k → IsPlace k.inst (offset_of k.sp) (with_i k is_out on)
+i_place k is_out on at = record { key = record { word = at.word; small = at.small; masks = at.masks; fits = at.fits }; same = refl; at = refl }
+
+sreg_less : (k : NodeKey) (at : IsKey k) (s t : AbsState) (le : IsStateLess k.inst.kind (offset_of k.sp) s t) (is_out : Bool) (x y : Tri) → IsTriWithin x y
+    → LeadsLess k.inst (sreg_written x k s is_out) (sreg_written y k t is_out)
+sreg_less k at s t le is_out x y within =
+    subst₂ (LeadsLess k.inst) (sym (sreg_nodes x k s is_out)) (sym (sreg_nodes y k t is_out))
+    (several_less k.inst (offset_of k.sp) (with_i k is_out) s t (choose x false true) (choose y false true) (λ b. choose_more x y false true b within)
+    (λ b i. i_place k is_out b at) le)
+
+-- ---- at an address
+
+module _ (k : NodeKey) (at : IsKey k) (s t : AbsState) (le : IsStateLess k.inst.kind (offset_of k.sp) s t) where
+  masks_less : (a : ℕ) (v w : AbsByte) → IsLess k.inst.kind v w → LeadsLess k.inst (masks_written k s a v) (masks_written k t a w)
+  masks_less a v w h =
+      several_less k.inst (offset_of k.sp) (λ (m : ℕ). record k { masks = m }) s t (splits k.masks a v.bits) (splits k.masks a w.bits)
+      (λ n. splits_are_writes.more k.masks a v.bits w.bits n h.within.bits)
+      (λ n i. record {
+        key = record { word = at.word; small = at.small; masks = ((numbers_are_permitted.members (enable_tri k.masks a w.bits) 25 n).0 i).small; fits = at.fits };
+        same = refl;
+        at = refl;
+      })
+      le
+
+  pub write_less : (pc : ℕ) (is_out : Bool) (a : ℕ) (v w : AbsByte) → IsLess k.inst.kind v w → LeadsLess k.inst (written_at pc k s is_out a v) (written_at pc k t is_out a w)
+  unfolding written_at
+  write_less pc is_out a v w h =
+      if_leads k.inst (nat_lt a 0x20) _ _ _ _
+      (one_less k (record s { registers = slice_set s.registers a v }) (record t { registers = slice_set t.registers a w }) at
+      (record { registers = registers_set k.inst.kind s.registers t.registers le.registers a v w h; flags = le.flags; slots = le.slots }))
+      (if_leads k.inst (a == SPL) _ _ _ _ (closing_less k at s t le pc _ _ (closing_tells k.inst.kind k.sp v w h))
+      (if_leads k.inst (a == SPH) _ _ _ _ (opening_less k at s t le pc _ _ (high_tells k.inst.kind v w h) (λ x. high_fits k.inst.kind v x h.good))
+      (if_leads k.inst (a == SREG) _ _ _ _
+      (sreg_less k at (record s { flags = flags_written v }) (record t { flags = flags_written w })
+      (record { registers = le.registers; flags = written_flags k.inst.kind v w h; slots = le.slots }) is_out (tri_at v.bits 7) (tri_at w.bits 7)
+      (bit_within v.bits w.bits 7 (omega arith) h.within.bits))
+      (masks_less a v w h))))
+
+-- ---- through a pointer
+
+permits_to : (t : Tri) (n : ℕ) → permits t n ≡ true → Permits t n
+permits_to Zero n e = grind (arith, nat_tests)
+permits_to One n e = grind (arith, nat_tests)
+permits_to Any n e = tt
+
+permits_from : (t : Tri) (n : ℕ) → Permits t n → permits t n ≡ true
+permits_from Zero n e = grind (arith, nat_tests)
+permits_from One n e = grind (arith, nat_tests)
+permits_from Any n e = refl
+
+and_more : (a b c d : Bool) → (a ≡ true → c ≡ true) → (b ≡ true → d ≡ true) → a && b ≡ true → c && d ≡ true
+and_more true true c d f g e = λ i. f refl i && g refl i
+and_more true false c d f g e = cc
+and_more false b c d f g e = cc
+
+all_more : (n : ℕ) (p q : ℕ → Bool) → ((i : ℕ) → i < n → p i ≡ true → q i ≡ true) → all_below n p ≡ true → all_below n q ≡ true
+unfolding all_below
+all_more zero p q h e = refl
+all_more (suc n) p q h e = and_more (all_below n p) (p n) (all_below n q) (q n) (all_more n p q (λ i lt. h i (omega arith))) (h n (omega arith)) e
+
+has_more : (b c : TriByte) (x : ℕ) → IsWithin b c → has b x ≡ true → has c x ≡ true
+has_more b c x le =
+    all_more 8 (λ i. permits (tri_at b i) (bit_at x i)) (λ i. permits (tri_at c i) (bit_at x i))
+    (λ i lt e. permits_from (tri_at c i) (bit_at x i) (bit_within b c i lt le (bit_at x i) (permits_to (tri_at b i) (bit_at x i) e)))
+
+pub reaches_more : (s t : AbsState) (r up a : ℕ) → IsWithin (bits s r) (bits t r) → IsWithin (bits s (r + 1)) (bits t (r + 1)) → reaches s r up a ≡ true → reaches t r up a ≡ true
+reaches_more s t r up a lo hi =
+    and_more (has (bits s r) (low (minus16 a up))) (has (bits s (r + 1)) (high (minus16 a up))) (has (bits t r) (low (minus16 a up))) (has (bits t (r + 1)) (high (minus16 a up)))
+    (has_more (bits s r) (bits t r) (low (minus16 a up)) lo) (has_more (bits s (r + 1)) (bits t (r + 1)) (high (minus16 a up)) hi)
+
+module _ (k : NodeKey) (at : IsKey k) (s t : AbsState) (le : IsStateLess k.inst.kind (offset_of k.sp) s t) (pc : ℕ) (v w : AbsByte) (h : IsLess k.inst.kind v w) where
+  fixed_less : (f g : Option ℕ) → Tells f g → LeadsLess k.inst (fixed_write f pc k s v) (fixed_write g pc k t w)
+  fixed_less f None tells = fails_less k.inst (fixed_write f pc k s v) (UnknownPointer pc)
+  fixed_less f (Some a) tells =
+      subst (λ (x : Option ℕ). LeadsLess k.inst (fixed_write x pc k s v) (fixed_write (Some a) pc k t w)) (sym (tells a refl)) (write_less k at s t le pc false a v w h)
+
+  listed_less : (p q : ℕ → Bool) (addresses : List ℕ) → ((a : ℕ) → p a ≡ true → q a ≡ true)
+      → LeadsLess k.inst (listed_writes pc k s (filter p addresses) v) (listed_writes pc k t (filter q addresses) w)
+  listed_less p q addresses more =
+      both_less k.inst (one k s) (one k t) (map (λ a. written_at pc k s false a v) (filter p addresses)) (map (λ a. written_at pc k t false a w) (filter q addresses))
+      (one_less k s t at le)
+      (filtered_less k.inst (λ (a : ℕ). written_at pc k s false a v) (λ (a : ℕ). written_at pc k t false a w) p q addresses (λ a. write_less k at s t le pc false a v w h) more)
+
+  -- the pointer as it was in these states
+  pub pointer_less : (words : List ℕ) (A : List Entry) (was_s was_t : AbsState) (r up : ℕ) (p q : Pointed) → Tells p.constant q.constant
+      → IsWithin (bits was_s r) (bits was_t r) → IsWithin (bits was_s (r + 1)) (bits was_t (r + 1))
+      → LeadsLess k.inst (pointer_write words A was_s r up p pc k s v) (pointer_write words A was_t r up q pc k t w)
+  pointer_less words A was_s was_t r up p q tells lo hi =
+      if_leads k.inst (is_fixed words pc || is_proved A pc) _ _ _ _ (fixed_less p.constant q.constant tells)
+      (listed_less (λ a. reaches was_s r up a) (λ a. reaches was_t r up a) (store_line A pc) (λ a. reaches_more was_s was_t r up a lo hi))

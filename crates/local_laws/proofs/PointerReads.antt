@@ -1,0 +1,180 @@
+-- Pointers: what is read through them, and what they are after they move.
+use Rattle.std.proofs.Common.{◌≡◌, refl, ◌∙◌, ap, subst, ℕ, ◌+◌, ◌-◌, ◌*◌, ◌<◌, Bool, true, false, if◌then◌else◌, nat_lt, length, Option, Some, None, arith}
+use Rattle.avr_model.specs.declared.instruction.Pointer.{Pointer}
+use Rattle.avr_model.specs.declared.instruction.Pointer.TheVariants as pointer
+use Rattle.avr_model.specs.Sites.{pointer_register}
+use Rattle.avr_model.specs.Wide.{wide_of}
+use Rattle.avr_model.specs.State.{State, register, pair, read, low, high, plus16, minus16}
+use Rattle.avr_model.specs.Effects.{set_pair, moved}
+use Rattle.avr_model.specs.Step.{with_registers}
+use Rattle.bit_domain.specs.declared.bytes.TriByte.{TriByte}
+use Rattle.bit_domain.specs.TriByte.{Has, byte_constant}
+use Rattle.bit_domain.specs.Lattice.{byte_meet, IsIntersection}
+use Rattle.bit_domain.proofs.AllLaws.{lattice_is_of_sets}
+use Rattle.abs_alu.proofs.WordCover.{all_words_cover}
+use Rattle.sp_domain.specs.declared.tags.Tag.{Tag}
+use Rattle.sp_domain.specs.Tags.{Origin, TagHolds, frame_of}
+use Rattle.sp_domain.specs.Laws.{PairHolds}
+use Rattle.sp_domain.specs.Slots.{slot_at}
+use Rattle.sp_domain.proofs.AllLaws.{pairs_are_true}
+use Rattle.abs_state.specs.declared.values.AbsByte.{AbsByte}
+use Rattle.abs_state.specs.declared.state.AbsState.{AbsState}
+use Rattle.abs_state.specs.Frames.{with_tag}
+use Rattle.abs_state.specs.Stands.{ByteStands, RegistersStand}
+use Rattle.mask_states.specs.declared.keys.NodeKey.{NodeKey}
+use Rattle.local_rules.specs.Registers.{value, bits, down_by, pair_tags, pair_moved}
+use Rattle.local_rules.specs.Reads.{value_of, read_at, word_of, pair_constant, raised, lowered, pointed, read_constant, read_both, read_frame, read_pointed}
+use Rattle.local_rules.specs.Local.{pointer_moved}
+use Rattle.local_rules.specs.Cover.{InFrame}
+use Rattle.local_laws.proofs.Alu.{register_byte}
+use Rattle.local_laws.proofs.Bits.{constant_is}
+use Rattle.local_laws.proofs.Frame.{nothing_stands, register_stands, set_two}
+use Rattle.local_laws.proofs.ReadValues.{untagged_stands, read_small, live_inside, inside_numbers, live_read, slot_at_stands, read_stands}
+
+-- the value stands for the byte; there is one
+abbrev pub IsRead : Origin → Option AbsByte → ℕ → Type 0
+IsRead o None x = ⊥
+IsRead o (Some v) x = ByteStands o v x
+
+-- ---- what a pointer gives
+
+word_is : (lo hi : Option ℕ) (x y c : ℕ) → ((b : ℕ) → lo ≡ Some b → x ≡ b) → ((b : ℕ) → hi ≡ Some b → y ≡ b) → word_of lo hi ≡ Some c → x + 256 * y ≡ c
+word_is None hi x y c low_is high_is e = absurd (cc)
+word_is (Some b) None x y c low_is high_is e = absurd (cc)
+word_is (Some b) (Some d) x y c low_is high_is e =
+    let sum : b + 256 * d ≡ c = cc in
+    omega (arith, low_is b refl, high_is d refl)
+
+raised_is : (c : Option ℕ) (p up a : ℕ) → ((x : ℕ) → c ≡ Some x → p ≡ x) → raised up c ≡ Some a → plus16 p up ≡ a
+raised_is None p up a is e = absurd (cc)
+raised_is (Some x) p up a is e =
+    let sum : plus16 x up ≡ a = cc in
+    ap (λ y. plus16 y up) (is x refl) ∙ sum
+
+lowered_number : (base j up : ℕ) → plus16 (minus16 base j) up ≡ minus16 base (minus16 j up)
+lowered_number base j up = omega arith
+
+lowered_is : (f : Option ℕ) (base p up d : ℕ) → ((j : ℕ) → f ≡ Some j → p ≡ minus16 base j) → lowered up f ≡ Some d → plus16 p up ≡ minus16 base d
+lowered_is None base p up d is e = absurd (cc)
+lowered_is (Some j) base p up d is e =
+    let difference : minus16 j up ≡ d = cc in
+    ap (λ y. plus16 y up) (is j refl) ∙ lowered_number base j up ∙ ap (minus16 base) difference
+
+in_word : (base d : ℕ) → base < 65536 → 0 < base - d → minus16 base d ≡ base - d
+in_word base d word lt = omega arith
+
+up_one : (w : ℕ) → minus16 w (down_by true 1) ≡ wide_of true w 1
+up_one w = omega arith
+
+down_one : (w : ℕ) → minus16 w (down_by false 1) ≡ wide_of false w 1
+down_one w = omega arith
+
+module _ (m : State) (o : Origin) (k : NodeKey) (s : AbsState) (at : InFrame m o k s) where
+  pub pair_small : (r : ℕ) → pair m r < 65536
+  pair_small r = omega (arith, register_byte m o k s at r, register_byte m o k s at (r + 1))
+
+  pub low_is : (r : ℕ) → register m r ≡ low (pair m r)
+  low_is r = omega (arith, register_byte m o k s at r)
+
+  pub high_is : (r : ℕ) → register m (r + 1) ≡ high (pair m r)
+  high_is r = omega (arith, register_byte m o k s at r)
+
+  pair_holds : (r : ℕ) → PairHolds o (value s r).tag (value s (r + 1)).tag (pair m r)
+  pair_holds r =
+      record {
+        low = subst (TagHolds o (value s r).tag) (low_is r) (register_stands m o k s at r).tag;
+        high = subst (TagHolds o (value s (r + 1)).tag) (high_is r) (register_stands m o k s at (r + 1)).tag;
+      }
+
+  -- the pair's number, where all its bits are known
+  pub pair_constant_is : (r c : ℕ) → pair_constant s r ≡ Some c → pair m r ≡ c
+  pair_constant_is r c e =
+      word_is (byte_constant (bits s r)) (byte_constant (bits s (r + 1))) (register m r) (register m (r + 1)) c
+      (λ b is. constant_is (bits s r) (register m r) b is (register_byte m o k s at r) (register_stands m o k s at r).bits)
+      (λ b is. constant_is (bits s (r + 1)) (register m (r + 1)) b is (register_byte m o k s at (r + 1)) (register_stands m o k s at (r + 1)).bits) e
+
+  -- the address, where it is a number, and where it is base - d
+  pub number_is : (r up a : ℕ) → (pointed s r up).constant ≡ Some a → plus16 (pair m r) up ≡ a
+  number_is r up a e = raised_is (pair_constant s r) (pair m r) up a (pair_constant_is r) e
+
+  frame_is : (r up d : ℕ) → (pointed s r up).frame ≡ Some d → plus16 (pair m r) up ≡ minus16 o.base d
+  frame_is r up d e =
+      lowered_is (frame_of (value s r).tag (value s (r + 1)).tag) o.base (pair m r) up d
+      (λ j is. pairs_are_true.frame o (value s r).tag (value s (r + 1)).tag (pair m r) j (pair_small r) (pair_holds r) is) e
+
+  -- ---- what is read
+
+  module _ (a input : ℕ) (small : input < 256) where
+    constant_stands : (c : Option ℕ) → ((x : ℕ) → c ≡ Some x → a ≡ x) → ByteStands o (read_constant k s c) (read m a input)
+    constant_stands None is = nothing_stands o (read m a input)
+    constant_stands (Some x) is =
+        subst (λ b. ByteStands o (read_constant k s (Some b)) (read m a input)) (is x refl) (untagged_stands o (read_at k s a) (read m a input) (read_stands m o k s at a input))
+
+    slot_read_stands : (d : ℕ) → a ≡ minus16 o.base d → ByteStands o (value_of (slot_at s.slots d)) (read m a input)
+    slot_read_stands d is =
+        slot_at_stands m o k s at d (read m a input) (λ live.
+        let inside = inside_numbers (o.base - d) (live_inside m.memory.live (o.base - d) live) in
+        let here : a ≡ o.base - d = is ∙ in_word o.base d at.base_word (omega (arith, inside.0)) in
+        ap (λ b. read m b input) here ∙ live_read m o k s at (o.base - d) input live)
+
+    met : (t : Tag) (x : ℕ) (u w : TriByte) (meet : Option TriByte) → x < 256 → TagHolds o t x → Has u x → Has w x → IsIntersection u w meet → IsRead o (with_tag t meet) x
+    met t x u w None lt tag h g is = is x lt h g
+    met t x u w (Some v) lt tag h g is = record { tag = tag; bits = (is x lt).1 (h, g) }
+
+    both_stand : (c : Option ℕ) (v : AbsByte) → ((x : ℕ) → c ≡ Some x → a ≡ x) → ByteStands o v (read m a input) → IsRead o (read_both k s c v) (read m a input)
+    both_stand None v is h = h
+    both_stand (Some x) v is h =
+        subst (λ b. IsRead o (read_both k s (Some b) v) (read m a input)) (is x refl)
+        (met v.tag (read m a input) (read_at k s a).bits v.bits (byte_meet (read_at k s a).bits v.bits) (read_small m o k s at a input small) h.tag
+        (read_stands m o k s at a input).bits h.bits (lattice_is_of_sets.meets (read_at k s a).bits v.bits))
+
+    one_of : (b : Bool) (v w : Option AbsByte) → IsRead o v (read m a input) → IsRead o w (read m a input) → IsRead o (if b then v else w) (read m a input)
+    one_of true v w h g = h
+    one_of false v w h g = g
+
+    frame_stands : (c f : Option ℕ) → ((x : ℕ) → c ≡ Some x → a ≡ x) → ((d : ℕ) → f ≡ Some d → a ≡ minus16 o.base d) → IsRead o (read_frame k s c f) (read m a input)
+    frame_stands c None is here = constant_stands c is
+    frame_stands c (Some d) is here =
+        one_of (nat_lt d (length s.slots)) (read_both k s c (value_of (slot_at s.slots d))) (Some (read_constant k s c))
+        (both_stand c (value_of (slot_at s.slots d)) is (slot_read_stands d (here d refl))) (constant_stands c is)
+
+  -- what a read through a pointer gives stands for what is read there
+  pub pointed_stands : (r up input : ℕ) → input < 256 → IsRead o (read_pointed k s (pointed s r up)) (read m (plus16 (pair m r) up) input)
+  pointed_stands r up input small =
+      frame_stands (plus16 (pair m r) up) input small (pointed s r up).constant (pointed s r up).frame (number_is r up) (frame_is r up)
+
+  -- ---- how it moves
+
+  moved_by : (r : ℕ) (up : Bool) → minus16 (pair m r) (down_by up 1) ≡ wide_of up (pair m r) 1
+      → RegistersStand o (pair_moved s r up 1) (with_registers m.registers (set_pair r (wide_of up (pair m r) 1)))
+  moved_by r up is =
+      let word = all_words_cover.words up (bits s r, bits s (r + 1)) s.flags.bits (pair m r) 1 m.sreg (pair_small r) (omega arith)
+      (subst (Has (bits s r)) (low_is r) (register_stands m o k s at r).bits) (subst (Has (bits s (r + 1))) (high_is r) (register_stands m o k s at (r + 1)).bits)
+      at.stands.flags.bits in
+      let tags = pairs_are_true.below o (value s r).tag (value s (r + 1)).tag (pair m r) (down_by up 1) (pair_small r) (pair_holds r) in
+      set_two m o k s at r (r + 1) _ _ _ _
+      record { tag = subst (λ w. TagHolds o (pair_tags s r up 1).0 (low w)) is tags.low; bits = word.0 }
+      record { tag = subst (λ w. TagHolds o (pair_tags s r up 1).1 (high w)) is tags.high; bits = word.1 }
+
+  up_stands : (r : ℕ) → RegistersStand o (pair_moved s r true 1) (with_registers m.registers (set_pair r (plus16 (pair m r) 1)))
+  up_stands r = moved_by r true (up_one (pair m r))
+
+  wide_down : (w : ℕ) → wide_of false w 1 ≡ minus16 w 1
+  wide_down w = omega arith
+
+  down_stands : (r : ℕ) → RegistersStand o (pair_moved s r false 1) (with_registers m.registers (set_pair r (minus16 (pair m r) 1)))
+  down_stands r =
+      subst (λ w. RegistersStand o (pair_moved s r false 1) (with_registers m.registers (set_pair r w))) (wide_down (pair m r)) (moved_by r false (down_one (pair m r)))
+
+  -- the registers with the pointer as it is after the instruction
+  pub pointer_stands : (p : Pointer) → RegistersStand o (pointer_moved p s) (with_registers m.registers (moved p (pair m (pointer_register p))))
+  pointer_stands pointer.ZPlus = up_stands 30
+  pointer_stands pointer.MinusZ = down_stands 30
+  pointer_stands pointer.YPlus = up_stands 28
+  pointer_stands pointer.MinusY = down_stands 28
+  pointer_stands pointer.X = at.stands.registers
+  pointer_stands pointer.XPlus = up_stands 26
+  pointer_stands pointer.MinusX = down_stands 26
+
+  pub z_moved : RegistersStand o (pair_moved s 30 true 1) (with_registers m.registers (set_pair 30 (plus16 (pair m 30) 1)))
+  z_moved = up_stands 30

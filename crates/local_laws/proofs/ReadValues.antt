@@ -1,0 +1,212 @@
+-- What is known of a byte that is read stands for the byte that the machine reads.
+use Rattle.std.proofs.Common.{◌≡◌, refl, sym, ◌∙◌, ap, subst, ℕ, zero, suc, ◌+◌, ◌-◌, ◌%◌, ◌<◌, ◌≤◌, ⊎_elim, Bool, true, false, if◌then◌else◌, ◌==◌, nat_le, List, length, Option, Some, None, arith, leb-true}
+use Rattle.std.proofs.lemmas.Bool.{cases_lt}
+use Rattle.std.proofs.lemmas.Bool.Decides.{nat_tests}
+use Rattle.std.proofs.lemmas.Nat.Bits.{bit_at-lt}
+use Rattle.std.proofs.lemmas.List.{get_or_past}
+use Rattle.std.proofs.lemmas.List.Elements.{All-get_or}
+use Rattle.std.specs.Int.{bit_at, from_bool}
+use Rattle.avr_model.specs.Sreg.{flag}
+use Rattle.avr_model.specs.Vectors.{enable_of}
+use Rattle.avr_model.specs.State.{State, register, read, io_byte, io_bit, sram_at, byte_in, live_in, is_live, is_sram, RAMEND, BELOW, SPL, SPH, SREG, low, high, minus16}
+use Rattle.bit_domain.specs.Tri.{Permits, tri_bit}
+use Rattle.bit_domain.specs.TriByte.{Has, byte_any}
+use Rattle.bit_domain.proofs.AllLaws.{bytes_are_sets, writes_cover}
+use Rattle.sp_domain.specs.declared.slots.Slot.{Slot}
+use Rattle.sp_domain.specs.declared.slots.Slot.TheVariants.{Free, Guarded}
+use Rattle.sp_domain.specs.Tags.{Origin, TagHolds, low_of, high_of}
+use Rattle.sp_domain.specs.Slots.{slot_at}
+use Rattle.abs_state.specs.declared.values.AbsByte.{AbsByte}
+use Rattle.abs_state.specs.declared.state.AbsState.{AbsState}
+use Rattle.abs_state.specs.Values.{untagged, unknown, known}
+use Rattle.abs_state.specs.Stands.{ByteStands, EntryHolds, SlotStands}
+use Rattle.mask_states.specs.declared.keys.NodeKey.{NodeKey}
+use Rattle.mask_states.specs.declared.keys.Kind.{Kind}
+use Rattle.mask_states.specs.declared.keys.Kind.TheVariants.{Root, Call, Vector}
+use Rattle.mask_states.specs.declared.keys.SpForm.{SpForm}
+use Rattle.mask_states.specs.declared.keys.SpForm.TheVariants.{Closed, Open}
+use Rattle.mask_states.specs.Place.{SpIs}
+use Rattle.local_rules.specs.Registers.{with_bits}
+use Rattle.local_rules.specs.Reads.{sp_low, sp_high, flags_tag, sreg_value, io_tri, io_bits, value_of, slot_read, read_at}
+use Rattle.local_rules.specs.Cover.{InFrame}
+use Rattle.local_laws.proofs.Frame.{nothing_stands, has_any, register_stands}
+use Rattle.local_laws.proofs.Alu.{register_byte}
+use Rattle.local_laws.proofs.Bits.{bit_of_number, number_below}
+
+-- ---- bits that are known
+
+pub bit_permits : (n : ℕ) → n < 2 → Permits (tri_bit n) n
+bit_permits zero lt = refl
+bit_permits (suc zero) lt = refl
+bit_permits (suc (suc n)) lt = absurd (omega arith)
+
+pub known_stands : (o : Origin) (x : ℕ) → ByteStands o (known x) x
+known_stands o x = record { tag = tt; bits = bytes_are_sets.built (λ i. tri_bit (bit_at x i)) x (λ i lt. bit_permits (bit_at x i) (bit_at-lt x i)) }
+
+pub untagged_stands : (o : Origin) (v : AbsByte) (x : ℕ) → ByteStands o v x → ByteStands o (untagged v.bits) x
+untagged_stands o v x h = record { tag = tt; bits = h.bits }
+
+-- ---- the stack pointer's bytes
+
+in_frame : (base offset sp : ℕ) → base < 65536 → sp + offset ≡ base → sp ≡ minus16 base offset
+in_frame base offset sp word e = omega arith
+
+low_byte : (base offset : ℕ) → low (minus16 base offset) ≡ low (minus16 base (offset % 256))
+low_byte base offset = omega arith
+
+high_byte : (base offset : ℕ) → high (minus16 base offset) ≡ high (minus16 base (offset % 65536))
+high_byte base offset = omega arith
+
+module _ (o : Origin) (word : o.base < 65536) (is_open : Bool) (sp : ℕ) where
+  tagged_low : (offset : ℕ) → sp + offset ≡ o.base → ByteStands o (with_bits (low_of offset) byte_any) (low sp)
+  tagged_low offset e = record { tag = ap low (in_frame o.base offset sp word e) ∙ low_byte o.base offset; bits = has_any (low sp) }
+
+  tagged_high : (offset : ℕ) → sp + offset ≡ o.base → ByteStands o (with_bits (high_of offset) byte_any) (high sp)
+  tagged_high offset e = record { tag = ap high (in_frame o.base offset sp word e) ∙ high_byte o.base offset; bits = has_any (high sp) }
+
+  pub low_stands : (kind : Kind) (form : SpForm) → (kind ≡ Root → o.base ≡ RAMEND) → SpIs o.base is_open sp form → ByteStands o (sp_low kind form) (low sp)
+  low_stands kind (Open offset h) root is = nothing_stands o (low sp)
+  low_stands Root (Closed offset) root is =
+      let e : sp ≡ RAMEND - offset = omega (arith, root refl, is.1) in
+      subst (λ x. ByteStands o (known (low x)) (low sp)) e (known_stands o (low sp))
+  low_stands Call (Closed offset) root is = tagged_low offset is.1
+  low_stands (Vector v) (Closed offset) root is = tagged_low offset is.1
+
+  pub high_stands : (kind : Kind) (form : SpForm) → (kind ≡ Root → o.base ≡ RAMEND) → SpIs o.base is_open sp form → ByteStands o (sp_high kind form) (high sp)
+  high_stands kind (Open offset h) root is = nothing_stands o (high sp)
+  high_stands Root (Closed offset) root is =
+      let e : sp ≡ RAMEND - offset = omega (arith, root refl, is.1) in
+      subst (λ x. ByteStands o (known (high x)) (high sp)) e (known_stands o (high sp))
+  high_stands Call (Closed offset) root is = tagged_high offset is.1
+  high_stands (Vector v) (Closed offset) root is = tagged_high offset is.1
+
+-- ---- the status register
+
+entry_holds : (o : Origin) (entry : Bool) (sreg : ℕ) → EntryHolds o entry sreg → TagHolds o (flags_tag entry) sreg
+entry_holds o true sreg h = h
+entry_holds o false sreg h = tt
+
+flag_permits : (sreg n : ℕ) (on : Bool) → flag sreg n ≡ on → Permits (tri_bit (from_bool on)) (bit_at sreg n)
+flag_permits sreg n on e =
+    let bit : bit_at sreg n < 2 = bit_at-lt sreg n in
+    let is : bit_at sreg n ≡ from_bool on = grind (arith, nat_tests) in
+    subst (λ x. Permits (tri_bit x) (bit_at sreg n)) is (bit_permits (bit_at sreg n) bit)
+
+-- ---- I/O
+
+io_permits : (v : Option ℕ) (masks free : ℕ) → Permits (io_tri v masks) (io_bit v masks free)
+io_permits None masks free = tt
+io_permits (Some v) masks free = bit_permits (bit_at masks (v - 2)) (bit_at-lt masks (v - 2))
+
+io_bit_below : (v : Option ℕ) (masks free : ℕ) → free < 2 → io_bit v masks free < 2
+io_bit_below None masks free lt = lt
+io_bit_below (Some v) masks free lt = bit_at-lt masks (v - 2)
+
+io_has : (masks a input : ℕ) → Has (io_bits masks a) (io_byte masks a input)
+unfolding io_byte
+io_has masks a input =
+    bytes_are_sets.built (λ b. io_tri (enable_of a b) masks) (io_byte masks a input) (λ b lt.
+    subst (Permits (io_tri (enable_of a b) masks))
+    (sym (bit_of_number 8 (λ j. io_bit (enable_of a j) masks (bit_at input j)) (λ j h. io_bit_below (enable_of a j) masks (bit_at input j) (bit_at-lt input j)) b lt))
+    (io_permits (enable_of a b) masks (bit_at input b)))
+
+io_small : (masks a input : ℕ) → io_byte masks a input < 256
+unfolding io_byte
+io_small masks a input = number_below 8 (λ j. io_bit (enable_of a j) masks (bit_at input j)) (λ j h. io_bit_below (enable_of a j) masks (bit_at input j) (bit_at-lt input j))
+
+-- ---- SRAM
+
+pub live_inside : (live : List Bool) (a : ℕ) → live_in live a ≡ true → is_sram a ≡ true
+unfolding live_in
+live_inside live a h = grind arith
+
+pub inside_numbers : (a : ℕ) → is_sram a ≡ true → (BELOW < a) × (a ≤ RAMEND)
+inside_numbers a h = (grind (arith, nat_tests), grind (arith, nat_tests))
+
+-- what a test chooses on both sides
+by_test : (o : Origin) (b : Bool) (v w : AbsByte) (x y : ℕ) → ByteStands o v x → ByteStands o w y → ByteStands o (if b then v else w) (if b then x else y)
+by_test o true v w x y h g = h
+by_test o false v w x y h g = g
+
+small_by_test : (b : Bool) (x y : ℕ) → x < 256 → y < 256 → (if b then x else y) < 256
+small_by_test true x y h g = h
+small_by_test false x y h g = g
+
+test_only : (o : Origin) (b : Bool) (v : AbsByte) (x : ℕ) → (b ≡ true → ByteStands o v x) → ByteStands o (if b then v else unknown) x
+test_only o true v x h = h refl
+test_only o false v x h = nothing_stands o x
+
+module _ (m : State) (o : Origin) (k : NodeKey) (s : AbsState) (at : InFrame m o k s) where
+  byte_small : (a : ℕ) → byte_in m.memory.bytes a < 256
+  unfolding byte_in
+  byte_small a =
+      ⊎_elim
+      (λ lt. All-get_or (λ b. b < 256) m.memory.bytes (a - (BELOW + 1)) 0 lt at.machine.sram_bytes)
+      (λ over. let e = get_or_past m.memory.bytes (a - (BELOW + 1)) 0 over in omega arith)
+      (cases_lt (a - (BELOW + 1)) (length m.memory.bytes))
+
+  pub read_small : (a input : ℕ) → input < 256 → read m a input < 256
+  unfolding read
+  read_small a input lt =
+      small_by_test _ (register m a) _ (register_byte m o k s at a)
+      (small_by_test _ (low m.sp) _ (omega arith)
+      (small_by_test _ (high m.sp) _ (omega (arith, at.machine.sp_word))
+      (small_by_test _ m.sreg _ at.machine.sreg_byte
+      (small_by_test _ (io_byte m.enables a input) _ (io_small m.enables a input)
+      (small_by_test _ (sram_at m a) input (byte_small a) lt)))))
+
+  sreg_stands : ByteStands o (sreg_value k s) m.sreg
+  sreg_stands =
+      record {
+        tag = entry_holds o s.flags.entry m.sreg at.stands.flags.entry;
+        bits = writes_cover.members s.flags.bits 7 (tri_bit (from_bool k.i)) m.sreg m.sreg at.stands.flags.bits (flag_permits m.sreg 7 k.i at.place.i) (λ j lt other. refl);
+      }
+
+  io_stands : (a input : ℕ) → ByteStands o (untagged (io_bits k.masks a)) (io_byte m.enables a input)
+  io_stands a input = record { tag = tt; bits = subst (λ masks. Has (io_bits masks a) (io_byte m.enables a input)) at.place.enables (io_has m.enables a input) }
+
+  -- the byte of a live address is that of SRAM
+  pub live_read : (a input : ℕ) → is_live m.memory a ≡ true → read m a input ≡ sram_at m a
+  unfolding read
+  live_read a input live =
+      let inside : is_sram a ≡ true = live_inside m.memory.live a live in
+      grind (arith, nat_tests)
+
+  slot_stands : (a x : ℕ) (slot : Slot AbsByte) → (is_live m.memory a ≡ true → x ≡ sram_at m a) → SlotStands o m.memory a slot → ByteStands o (value_of slot) x
+  slot_stands a x Free is h = nothing_stands o x
+  slot_stands a x (Guarded v) is h = subst (ByteStands o v) (sym (is h.0)) h.1
+
+  -- the slot at base - d, where there is one
+  pub slot_at_stands : (d x : ℕ) → (is_live m.memory (o.base - d) ≡ true → x ≡ sram_at m (o.base - d)) → ByteStands o (value_of (slot_at s.slots d)) x
+  slot_at_stands d x is =
+      ⊎_elim
+      (λ lt. slot_stands (o.base - d) x (slot_at s.slots d) is (at.stands.slots d lt))
+      (λ over. subst (λ slot. ByteStands o (value_of slot) x) (sym (get_or_past s.slots d Free over)) (nothing_stands o x))
+      (cases_lt d (length s.slots))
+
+  sram_or_input : (a input : ℕ) → is_live m.memory a ≡ true → (if is_sram a then sram_at m a else input) ≡ sram_at m a
+  sram_or_input a input live = ap (λ b. if b then sram_at m a else input) (live_inside m.memory.live a live)
+
+  root_slot : (a input : ℕ) → o.base ≡ RAMEND
+      → ByteStands o (if nat_le a RAMEND then value_of (slot_at s.slots (RAMEND - a)) else unknown) (if is_sram a then sram_at m a else input)
+  root_slot a input root =
+      test_only o (nat_le a RAMEND) (value_of (slot_at s.slots (RAMEND - a))) _ (λ h.
+      let le : a ≤ RAMEND = leb-true a RAMEND h in
+      let here : a ≡ o.base - (RAMEND - a) = omega (arith, root) in
+      slot_at_stands (RAMEND - a) (if is_sram a then sram_at m a else input)
+      (subst (λ b. is_live m.memory b ≡ true → (if is_sram a then sram_at m a else input) ≡ sram_at m b) here (sram_or_input a input)))
+
+  kind_slot : (kind : Kind) (a input : ℕ) → (kind ≡ Root → o.base ≡ RAMEND) → ByteStands o (slot_read kind s a) (if is_sram a then sram_at m a else input)
+  kind_slot Root a input root = root_slot a input (root refl)
+  kind_slot Call a input root = nothing_stands o (if is_sram a then sram_at m a else input)
+  kind_slot (Vector v) a input root = nothing_stands o (if is_sram a then sram_at m a else input)
+
+  -- what a read of a known address gives
+  pub read_stands : (a input : ℕ) → ByteStands o (read_at k s a) (read m a input)
+  unfolding read read_at
+  read_stands a input =
+      by_test o _ _ _ _ _ (register_stands m o k s at a)
+      (by_test o (a == SPL) _ _ _ _ (low_stands o at.base_word m.is_open m.sp k.inst.kind k.sp at.root at.place.sp)
+      (by_test o (a == SPH) _ _ _ _ (high_stands o at.base_word m.is_open m.sp k.inst.kind k.sp at.root at.place.sp)
+      (by_test o (a == SREG) _ _ _ _ sreg_stands
+      (by_test o (nat_le a BELOW) _ _ _ _ (io_stands a input) (kind_slot k.inst.kind a input at.root)))))

@@ -1,0 +1,119 @@
+-- The local part in the words of a step.
+use Rattle.std.proofs.Common.{◌≡◌, ◌≢◌, refl, sym, ap₂, subst, ℕ, ◌<◌, ◌||◌, Bool, true, false, not, if◌then◌else◌, List, [], ◌∷◌, ◌++◌, Option, Some, None, Ok, Contains}
+use Rattle.avr_model.specs.declared.assumption.Entry.{Entry}
+use Rattle.avr_model.specs.declared.choice.Flag.{Flag}
+use Rattle.avr_model.specs.declared.effect.Effect.{Effect}
+use Rattle.avr_model.specs.declared.instruction.Instr.{Instr}
+use Rattle.avr_model.specs.Sites.{instruction_at, is_scratch}
+use Rattle.avr_model.specs.State.{State}
+use Rattle.avr_model.specs.Effects.{effect_of}
+use Rattle.avr_model.specs.Step.{Answer, Undefined, Overflow, Done, after, all_inside, live_write, protected_write, unlisted_transfer, flag_by, flagged_or, is_unlisted, go}
+use Rattle.sp_domain.specs.Tags.{Origin}
+use Rattle.abs_state.specs.declared.state.AbsState.{AbsState}
+use Rattle.abs_state.proofs.AllLaws.{values_say_less}
+use Rattle.mask_states.specs.declared.keys.NodeKey.{NodeKey}
+use Rattle.local_rules.specs.declared.local.Node.{Node}
+use Rattle.local_rules.specs.declared.local.NodeFault.{NodeFault}
+use Rattle.local_rules.specs.declared.local.Local.{Local}
+use Rattle.local_rules.specs.Raw.{Raw}
+use Rattle.local_rules.specs.Local.{raw, joined_onto, settled, local}
+use Rattle.local_rules.specs.Cover.{InFrame, IsWithinBase, IsCovered, Lands, Follows, stays, calls, leaves, IsStep}
+use Rattle.local_laws.specs.Laws.{JoinsAreLeast, LocalPartsAreNodes, AreNodes, StepsAreCovered}
+use Rattle.local_laws.proofs.Covered.{local_parts_cover}
+use Rattle.local_laws.proofs.Memory.{live_bytes_stay}
+
+-- ---- a local part that is there
+
+-- what a raw part without faults settles to
+abbrev pub joined : Raw → Local
+joined r = record { same = joined_onto [] r.moves; calls = r.calls; exit = r.exit }
+
+settled_is : (r : Raw) (faults : List NodeFault) (l : Local) → settled r faults ≡ Ok l → (faults ≡ []) × (joined r ≡ l)
+settled_is r [] l e = (refl, cc)
+settled_is r (f ∷ fs) l e = absurd (cc)
+
+local_is : (words : List ℕ) (A : List Entry) (k : NodeKey) (s : AbsState) (l : Local) → local words A k s ≡ Ok l → ((raw words A k s).faults ≡ []) × (joined (raw words A k s) ≡ l)
+unfolding local
+local_is words A k s l e = settled_is (raw words A k s) (raw words A k s).faults l e
+
+-- ---- a step that is done
+
+done_is : (m n : State) → Done m ≡ Done n → m ≡ n
+done_is m n e = cc
+
+-- no flag stands, and the state is the one after the effect
+flags_none : (pc : ℕ) (live protected listed : Option ℕ) (m n : State) → flagged_or (flag_by pc live protected listed) m ≡ Done n
+    → (live ≡ None) × ((protected ≡ None) × ((listed ≡ None) × (m ≡ n)))
+flags_none pc (Some a) protected listed m n e = absurd (cc)
+flags_none pc None (Some a) listed m n e = absurd (cc)
+flags_none pc None None (Some t) m n e = absurd (cc)
+flags_none pc None None None m n e = (refl, (refl, (refl, done_is m n e)))
+
+-- it isn't an overflow
+passes : (test : Bool) (a : Answer) (pc : ℕ) (n : State) → (if test then a else Overflow pc) ≡ Done n → (test ≡ true) × (a ≡ Done n)
+passes true a pc n e = (refl, e)
+passes false a pc n e = absurd (cc)
+
+inside_if_listed : (inside : Bool) (listed : Option ℕ) → (inside || is_unlisted listed) ≡ true → listed ≡ None → inside ≡ true
+inside_if_listed true listed h e = refl
+inside_if_listed false None h e = h
+inside_if_listed false (Some t) h e = absurd (cc)
+
+flagged_defined : (flags : Option Flag) (m : State) (pc : ℕ) → flagged_or flags m ≢ Undefined pc
+flagged_defined None m pc e = cc
+flagged_defined (Some f) m pc e = cc
+
+some_defined : (test : Bool) (flags : Option Flag) (m : State) (at pc : ℕ) → (if test then flagged_or flags m else Overflow at) ≢ Undefined pc
+some_defined true flags m at pc e = flagged_defined flags m pc e
+some_defined false flags m at pc e = cc
+
+module _ (words : List ℕ) (A : List Entry) (m : State) (o : Origin) (k : NodeKey) (s : AbsState) (b1 b2 : ℕ) (at : InFrame m o k s) (small1 : b1 < 256) (small2 : b2 < 256) where
+  is_defined : (r : Raw) (found : Option Instr) (pc : ℕ) → IsCovered words A m o k b1 b2 found r → r.faults ≡ [] → go words A m found b1 b2 ≢ Undefined pc
+  is_defined r None pc covered none e = covered none
+  is_defined r (Some instr) pc covered none e = some_defined _ _ _ m.pc pc e
+
+  module _ (joins : JoinsAreLeast) (nodes : LocalPartsAreNodes) (none : (raw words A k s).faults ≡ [])
+      (within : (to : Node) → Contains (joined (raw words A k s)).same to → IsWithinBase o.base to.key.sp) where
+    are_nodes : AreNodes (raw words A k s).moves
+    are_nodes to member = (nodes.nodes words A k s to at.node none member).1
+
+    -- a raw successor lies below a joined one, which the machine is at too
+    lands_joined : (guarded : Bool) (e : Effect) (to : Node) → Contains (raw words A k s).moves to → to.key.inst ≡ k.inst → Lands m o guarded e to
+        → live_write m.memory (e.stores ++ e.pushes) ≡ None → all_inside e.pushes ≡ true → IsStep m o k b1 b2 (joined (raw words A k s)) (after m guarded e)
+    lands_joined guarded e to member inst lands unhit inside =
+        let above = joins.above (raw words A k s).moves to are_nodes member in
+        let whole : IsWithinBase o.base to.key.sp = within (record { key = to.key; state = above.state }) above.present in
+        let kept = live_bytes_stay.kept m guarded e at.machine unhit in
+        stays (record { key = to.key; state = above.state }) above.present inst (lands.place whole)
+        (values_say_less.state o to.state above.state (after m guarded e) above.above (record { registers = lands.registers; flags = lands.flags; slots = lands.slots whole inside kept }))
+
+    follows_steps : (guarded : Bool) (e : Effect) → live_write m.memory (e.stores ++ e.pushes) ≡ None → all_inside e.pushes ≡ true
+        → Follows m o k guarded b1 b2 e (raw words A k s) → IsStep m o k b1 b2 (joined (raw words A k s)) (after m guarded e)
+    follows_steps guarded e unhit inside (stays to member inst lands) = lands_joined guarded e to member inst lands unhit inside
+    follows_steps guarded e unhit inside (calls offset site member form guards is) = calls offset site member form (ap₂ (after m) guards is)
+    follows_steps guarded e unhit inside (leaves x exit kind form returns) = leaves x guarded e exit kind form returns refl
+
+    go_steps : (n : State) (found : Option Instr) → IsCovered words A m o k b1 b2 found (raw words A k s) → go words A m found b1 b2 ≡ Done n
+        → IsStep m o k b1 b2 (joined (raw words A k s)) n
+    go_steps n None covered e = absurd (covered none)
+    go_steps n (Some instr) covered e =
+        let effect = effect_of words m instr b1 b2 in
+        let passed = passes (all_inside effect.pushes || is_unlisted (unlisted_transfer A m.pc instr effect)) _ m.pc n e in
+        let unflagged = flags_none m.pc (live_write m.memory (effect.stores ++ effect.pushes)) (protected_write words A m.pc instr effect) (unlisted_transfer A m.pc instr effect)
+        (after m (not (is_scratch words m.pc)) effect) n passed.1 in
+        let inside = inside_if_listed (all_inside effect.pushes) (unlisted_transfer A m.pc instr effect) passed.0 unflagged.1.1.0 in
+        subst (IsStep m o k b1 b2 (joined (raw words A k s))) unflagged.1.1.1
+        (follows_steps (not (is_scratch words m.pc)) effect unflagged.0 inside
+        (covered none (record { protected = unflagged.1.0; listed = unflagged.1.1.0 })))
+
+pub steps_are_covered : JoinsAreLeast → LocalPartsAreNodes → StepsAreCovered
+steps_are_covered joins nodes = record {
+  defined = λ words A m o k s l b1 b2 pc at small1 small2 there.
+      let here = local_is words A k s l there in
+      is_defined words A m o k s b1 b2 at small1 small2 (raw words A k s) (instruction_at words m.pc) pc (local_parts_cover.covered words A m o k s b1 b2 at small1 small2) here.0;
+  done = λ words A m n o k s l b1 b2 at small1 small2 there within e.
+      let here = local_is words A k s l there in
+      subst (λ x. IsStep m o k b1 b2 x n) here.1
+      (go_steps words A m o k s b1 b2 at small1 small2 joins nodes here.0 (subst (λ x. (to : Node) → Contains x.same to → IsWithinBase o.base to.key.sp) (sym here.1) within)
+      n (instruction_at words m.pc) (local_parts_cover.covered words A m o k s b1 b2 at small1 small2) e);
+}

@@ -1,0 +1,319 @@
+-- A byte that is written to a known address: what the rows say covers what the machine does.
+use Rattle.std.proofs.Common.{◌≡◌, refl, sym, ◌∙◌, ap, ap₂, subst, ℕ, ◌+◌, ◌-◌, ◌*◌, ◌^◌, ◌<◌, ◌≤◌, Bool, true, false, not, ◌&&◌, nat_lt, nat_le, if◌then◌else◌, ◌==◌, List, [], ◌∷◌, length, Option, Some, None, slice_set, arith, Contains, eqb-true, ltb-true, ne_eqb, find}
+use Rattle.std.proofs.lemmas.Bool.{or_parts}
+use Rattle.std.proofs.lemmas.Bool.Decides.{nat_tests}
+use Rattle.std.proofs.lemmas.Nat.Bits.{bit_at-lt, same_from_bits_below}
+use Rattle.std.specs.Int.{bit_at}
+use Rattle.std.specs.List.{list_any}
+use Rattle.avr_model.specs.declared.effect.Write.{Write}
+use Rattle.avr_model.specs.declared.effect.Effect.{Effect}
+use Rattle.avr_model.specs.Bits.{number_of}
+use Rattle.avr_model.specs.Sreg.{flag}
+use Rattle.avr_model.specs.Vectors.{Vector, vectors, row_of, has_enables, written_enable, written_enables}
+use Rattle.avr_model.specs.State.{State, SIZE, SPL, SPH, SREG, low, high, i_flag}
+use Rattle.avr_model.specs.Effects.{set, delay_of_out}
+use Rattle.avr_model.specs.Step.{after, with_registers, registers_after, sreg_after}
+use Rattle.bit_domain.specs.declared.bits.Tri.{Tri}
+use Rattle.bit_domain.specs.declared.bits.Tri.TheVariants.{Zero, One, Any}
+use Rattle.bit_domain.specs.Tri.{Permits}
+use Rattle.bit_domain.specs.TriByte.{tri_at}
+use Rattle.bit_domain.proofs.AllLaws.{writes_cover}
+use Rattle.sp_domain.specs.declared.tags.Tag.{Tag}
+use Rattle.sp_domain.specs.declared.tags.Tag.TheVariants as tag
+use Rattle.sp_domain.specs.Tags.{Origin, TagHolds}
+use Rattle.sp_domain.specs.Slots.{slot_at, resized}
+use Rattle.abs_state.specs.declared.values.AbsByte.{AbsByte}
+use Rattle.abs_state.specs.declared.state.AbsState.{AbsState}
+use Rattle.abs_state.specs.Stands.{ByteStands, EntryHolds, FlagsStand, RegistersStand}
+use Rattle.abs_state.proofs.AllLaws.{slots_follow}
+use Rattle.mask_states.specs.declared.keys.NodeKey.{NodeKey}
+use Rattle.mask_states.specs.declared.keys.High.{High}
+use Rattle.mask_states.specs.declared.keys.SpForm.TheVariants.{Closed, Open}
+use Rattle.mask_states.specs.Keys.{offset_of}
+use Rattle.mask_states.specs.Splits.{splits}
+use Rattle.local_rules.specs.declared.local.Node.{Node}
+use Rattle.local_rules.specs.declared.local.NodeFault.TheVariants.{TooDeep}
+use Rattle.local_rules.specs.Raw.{Raw, at_word, one, fails}
+use Rattle.local_rules.specs.Writes.{high_part, opening, closing_offset, closing, is_entry_flags, flags_written, with_i, sreg_written, masks_written, written_at}
+use Rattle.local_rules.specs.Cover.{InFrame, Lands}
+use Rattle.local_laws.proofs.Frame.{first, second, set_stands, slot_kept, above_floor, same_frame}
+use Rattle.local_laws.proofs.Bits.{AreBits, number_below, bit_of_number}
+use Rattle.local_laws.proofs.Targets.{in_map}
+use Rattle.local_laws.proofs.SpWrites.{opened, closes}
+use Rattle.local_laws.proofs.SplitMembers.{AreWritten}
+
+-- The instruction goes to a word, sets registers, and stores a byte; `out` may give a delay.
+abbrev pub stored : State → ℕ → List Write → Bool → ℕ → ℕ → Effect
+stored m pc writes is_out a byte =
+    record {
+      pc = pc;
+      registers = writes;
+      sreg = m.sreg;
+      sp = m.sp;
+      is_open = m.is_open;
+      enables = m.enables;
+      delay = is_out && delay_of_out m a byte;
+      stores = set a byte;
+      pushes = [];
+    }
+
+-- the effect leads to one of these nodes, in the same instance
+pub record Reaches (m : State) (o : Origin) (k : NodeKey) (guarded : Bool) (e : Effect) (r : Raw) : Type 0 where
+  pub to : Node
+  pub present : Contains r.moves to
+  pub inst : to.key.inst ≡ k.inst
+  pub lands : Lands m o guarded e to
+
+-- ---- enable bits
+
+-- a number of n bits is that of its bits
+by_bits : (n x : ℕ) (f : ℕ → ℕ) → x < 2 ^ n → ((j : ℕ) → j < n → bit_at x j ≡ f j) → number_of n f ≡ x
+by_bits n x f h same =
+    let bits : AreBits n f = λ j lt. subst (λ (b : ℕ). b < 2) (same j lt) (bit_at-lt x j) in
+    same_from_bits_below n (number_of n f) x (number_below n f bits) h (λ j lt. bit_of_number n f bits j lt ∙ sym (same j lt))
+
+found_elsewhere : (rs : List Vector) (p : Vector → Bool) (a byte old : ℕ) → list_any (λ r. r.address == a) rs ≡ false → written_enable (find p rs) a byte old ≡ old
+found_elsewhere [] p a byte old h = refl
+found_elsewhere (r ∷ rs) p a byte old h =
+    let parts = or_parts (r.address == a) (list_any (λ r. r.address == a) rs) h in
+    here (p r) parts.0 (found_elsewhere rs p a byte old parts.1)
+  where
+    here : (b : Bool) → (r.address == a) ≡ false → written_enable (find p rs) a byte old ≡ old → written_enable (if b then Some r else find p rs) a byte old ≡ old
+    here true other rest = ap (λ t. if t then bit_at byte r.bit else old) other
+    here false other rest = rest
+
+-- a write of an address without enable bits keeps them
+pub enables_kept : (enables a byte : ℕ) → enables < 2 ^ 25 → has_enables a ≡ false → written_enables enables a byte ≡ enables
+unfolding written_enables has_enables row_of
+enables_kept enables a byte small h =
+    by_bits 25 enables (λ k. written_enable (row_of (k + 2)) a byte (bit_at enables k)) small
+    (λ j lt. sym (found_elsewhere vectors (λ r. r.number == j + 2) a byte (bit_at enables j) h))
+
+above_registers : (a : ℕ) → a < 0x20 → has_enables a ≡ false
+unfolding has_enables
+above_registers a lt = grind (arith, nat_tests)
+
+spl_holds_none : has_enables SPL ≡ false
+unfolding has_enables
+spl_holds_none = refl
+
+sph_holds_none : has_enables SPH ≡ false
+unfolding has_enables
+sph_holds_none = refl
+
+sreg_holds_none : has_enables SREG ≡ false
+unfolding has_enables
+sreg_holds_none = refl
+
+-- ---- tests
+
+neither : {A : Type 0} (p q : Bool) (x y z : A) → p ≡ false → q ≡ false → (if p then x else (if q then y else z)) ≡ z
+neither true q x y z h g = absurd (cc)
+neither false true x y z h g = absurd (cc)
+neither false false x y z h g = refl
+
+not_chosen : {A : Type 0} (p : Bool) (x y : A) → p ≡ false → (if p then x else y) ≡ y
+not_chosen true x y h = absurd (cc)
+not_chosen false x y h = refl
+
+no_delay : (is_out p q r : Bool) → p ≡ false → (is_out && (p && q && r)) ≡ false
+no_delay true true q r h = absurd (cc)
+no_delay true false q r h = refl
+no_delay false p q r h = refl
+
+delay_is : (is_out p q p' q' : Bool) → p ≡ p' → q ≡ q' → (is_out && (p && not q)) ≡ (is_out && p' && not q')
+delay_is true p q p' q' e f = ap₂ (λ x y. x && not y) e f
+delay_is false p q p' q' e f = refl
+
+entry_written : (o : Origin) (t : Tag) (x : ℕ) → TagHolds o t x → EntryHolds o (is_entry_flags t) x
+entry_written o tag.None x h = tt
+entry_written o (tag.Entry r) x h = tt
+entry_written o tag.EntryFlags x h = h
+entry_written o (tag.SpLo j) x h = tt
+entry_written o (tag.SpHi k) x h = tt
+
+flags_stand : (o : Origin) (v : AbsByte) (x : ℕ) → ByteStands o v x → FlagsStand o (flags_written v) x
+flags_stand o v x h =
+    record {
+      entry = entry_written o v.tag x h.tag;
+      bits = writes_cover.members v.bits 7 Any x x h.bits tt (λ j lt other. refl);
+      carry = tt;
+    }
+
+not_same : (a b : ℕ) → nat_lt a 0x20 ≡ true → 0x1F < b → (a == b) ≡ false
+not_same a b here above = ne_eqb a b (λ same. let lt : a < 0x20 = ltb-true a 0x20 here in omega arith)
+
+module _ (m : State) (o : Origin) (k : NodeKey) (s : AbsState) (at : InFrame m o k s) (guarded : Bool) (pc pc' : ℕ) (pc_is : pc ≡ pc') (writes : List Write)
+    (registers : List AbsByte) (stand : RegistersStand o registers (with_registers m.registers writes)) (is_out : Bool) where
+  abbrev key : NodeKey
+  key = at_word k pc'
+
+  abbrev state : AbsState
+  state = record s { registers = registers }
+
+  pub only : (e : Effect) (to : Node) → to.key.inst ≡ k.inst → Lands m o guarded e to → Reaches m o k guarded e (record { moves = to ∷ []; calls = []; exit = None; faults = [] })
+  only e to inst lands = record { to = to; present = first to []; inst = inst; lands = lands }
+
+  pub chosen : (e : Effect) (b : Bool) (r q : Raw) → (b ≡ true → r.faults ≡ [] → Reaches m o k guarded e r) → (b ≡ false → q.faults ≡ [] → Reaches m o k guarded e q)
+      → (if b then r else q).faults ≡ [] → Reaches m o k guarded e (if b then r else q)
+  chosen e true r q h g clean = h refl clean
+  chosen e false r q h g clean = g refl clean
+
+  -- no byte of the stack pointer and not the status register
+  pub elsewhere : (a byte masks : ℕ) (values : List AbsByte) → (a == SPL) ≡ false → (a == SPH) ≡ false → (a == SREG) ≡ false
+      → written_enables m.enables a byte ≡ masks
+      → RegistersStand o values (registers_after (with_registers m.registers writes) (set a byte))
+      → Lands m o guarded (stored m pc writes is_out a byte) (record { key = record key { masks = masks }; state = record s { registers = values } })
+  elsewhere a byte masks values not_low not_high not_sreg enables values_stand =
+      let sreg : sreg_after m.sreg (set a byte) ≡ m.sreg = not_chosen (a == SREG) byte m.sreg not_sreg in
+      same_frame m o k s at guarded (stored m pc writes is_out a byte) (record { key = record key { masks = masks }; state = record s { registers = values } }) refl refl refl
+      (neither (a == SPL) (a == SPH) (256 * high m.sp + byte) (256 * byte + low m.sp) m.sp not_low not_high)
+      (neither (a == SPL) (a == SPH) false true m.is_open not_low not_high)
+      pc_is enables (ap (λ x. flag x 7) sreg ∙ at.place.i) (no_delay is_out (a == SREG) (flag byte 7) (not (i_flag m)) not_sreg)
+      values_stand (subst (FlagsStand o s.flags) (sym sreg) at.stands.flags)
+
+  -- no register either
+  pub changes_none : (a byte : ℕ) → nat_lt a 0x20 ≡ false → RegistersStand o registers (registers_after (with_registers m.registers writes) (set a byte))
+  changes_none a byte beyond = subst (RegistersStand o registers) (sym (not_chosen (nat_lt a 0x20) (slice_set (with_registers m.registers writes) a byte) (with_registers m.registers writes) beyond)) stand
+
+  module _ (byte : ℕ) (small : byte < 256) (v : AbsByte) (stands : ByteStands o v byte) (count_values : length registers ≡ 32)
+      (count : length (with_registers m.registers writes) ≡ 32) where
+    register_written : (a : ℕ) → nat_lt a 0x20 ≡ true → (a == SPL) ≡ false → (a == SPH) ≡ false → (a == SREG) ≡ false
+        → Lands m o guarded (stored m pc writes is_out a byte) (record { key = key; state = record s { registers = slice_set registers a v } })
+    register_written a here not_low not_high not_sreg =
+        let lt : a < 0x20 = ltb-true a 0x20 here in
+        elsewhere a byte k.masks (slice_set registers a v) not_low not_high not_sreg
+        (enables_kept m.enables a byte at.machine.enable_bits (above_registers a lt) ∙ at.place.enables)
+        (subst (λ t. RegistersStand o (slice_set registers a v) (if t then slice_set (with_registers m.registers writes) a byte else with_registers m.registers writes)) (sym here)
+        (set_stands o registers (with_registers m.registers writes) a v byte count_values count stands stand))
+
+    -- ---- SPL
+
+    closed_lands : (n : ℕ) → closing_offset k.inst.kind k.sp v ≡ Some n
+        → Lands m o guarded (stored m pc writes is_out SPL byte) (record { key = record key { sp = Closed n }; state = record state { slots = resized n s.slots } })
+    closed_lands n e =
+        let at_base : n ≤ o.base → 256 * high m.sp + byte + n ≡ o.base = closes o at.base_word m.is_open m.sp byte n small v stands k.inst.kind k.sp e at.place.sp at.root in
+        record {
+          inside = λ room. refl;
+          place = λ within.
+              record {
+                pc = pc_is;
+                enables = enables_kept m.enables SPL byte at.machine.enable_bits spl_holds_none ∙ at.place.enables;
+                i = at.place.i;
+                delay = no_delay is_out false (flag byte 7) (not (i_flag m)) refl;
+                sp = (refl, at_base within);
+              };
+          registers = stand;
+          flags = at.stands.flags;
+          slots = λ within inside kept.
+              slots_follow.resized o (after m guarded (stored m pc writes is_out SPL byte)).memory s.slots n (λ d lt below.
+              slot_kept o m.memory (after m guarded (stored m pc writes is_out SPL byte)).memory (256 * high m.sp + byte) (o.base - d) (slot_at s.slots d) kept
+              (λ live. omega (arith, at_base within)) (at.stands.slots d below));
+        }
+
+    closed_written : (n : Option ℕ) → closing_offset k.inst.kind k.sp v ≡ n → (closing n key state k.pc).faults ≡ []
+        → Reaches m o k guarded (stored m pc writes is_out SPL byte) (closing n key state k.pc)
+    closed_written None e clean = absurd (cc)
+    closed_written (Some n) e clean =
+        chosen (stored m pc writes is_out SPL byte) (nat_le n SIZE) (one (record key { sp = Closed n }) (record state { slots = resized n s.slots })) (fails (TooDeep k.pc n))
+        (λ fits rest. only (stored m pc writes is_out SPL byte) _ refl (closed_lands n e)) (λ deep rest. absurd (cc)) clean
+
+    -- ---- SPH
+
+    opened_lands : (h : High) → high_part k.inst.kind v ≡ Some h
+        → Lands m o guarded (stored m pc writes is_out SPH byte) (record { key = record key { sp = Open (offset_of k.sp) h }; state = state })
+    opened_lands h e =
+        let place = opened o k.inst.kind v byte h m.is_open m.sp k.sp at.base_word small e stands at.place.sp in
+        record {
+          inside = λ room. refl;
+          place = λ within.
+              record {
+                pc = pc_is;
+                enables = enables_kept m.enables SPH byte at.machine.enable_bits sph_holds_none ∙ at.place.enables;
+                i = at.place.i;
+                delay = no_delay is_out false (flag byte 7) (not (i_flag m)) refl;
+                sp = place;
+              };
+          registers = stand;
+          flags = at.stands.flags;
+          slots = λ within inside kept d lt.
+              slot_kept o m.memory (after m guarded (stored m pc writes is_out SPH byte)).memory 0 (o.base - d) (slot_at s.slots d) kept
+              (above_floor o.base (256 * byte + low m.sp) d m.memory true (Open (offset_of k.sp) h) place (omega (arith, at.node.formed.count_slots))) (at.stands.slots d lt);
+        }
+
+    opened_written : (h : Option High) → high_part k.inst.kind v ≡ h → (opening h key state k.pc).faults ≡ []
+        → Reaches m o k guarded (stored m pc writes is_out SPH byte) (opening h key state k.pc)
+    opened_written None e clean = absurd (cc)
+    opened_written (Some h) e clean = only (stored m pc writes is_out SPH byte) _ refl (opened_lands h e)
+
+    -- ---- SREG
+
+    abbrev flagged : AbsState
+    flagged = record state { flags = flags_written v }
+
+    sreg_lands : (on : Bool) → flag byte 7 ≡ on → Lands m o guarded (stored m pc writes is_out SREG byte) (record { key = with_i key is_out on; state = flagged })
+    sreg_lands on is =
+        same_frame m o k s at guarded (stored m pc writes is_out SREG byte) (record { key = with_i key is_out on; state = flagged }) refl refl refl refl refl pc_is
+        (enables_kept m.enables SREG byte at.machine.enable_bits sreg_holds_none ∙ at.place.enables) is
+        (delay_is is_out (flag byte 7) (i_flag m) on k.i is at.place.i) stand (flags_stand o v byte stands)
+
+    flag_zero : bit_at byte 7 ≡ 0 → flag byte 7 ≡ false
+    flag_zero e = ap (λ x. x == 1) e
+
+    flag_one : bit_at byte 7 ≡ 1 → flag byte 7 ≡ true
+    flag_one e = ap (λ x. x == 1) e
+
+    sreg_by : (t : Tri) → Permits t (bit_at byte 7) → Reaches m o k guarded (stored m pc writes is_out SREG byte) (sreg_written t key flagged is_out)
+    sreg_by Zero may = only (stored m pc writes is_out SREG byte) _ refl (sreg_lands false (flag_zero may))
+    sreg_by One may = only (stored m pc writes is_out SREG byte) _ refl (sreg_lands true (flag_one may))
+    sreg_by Any may = either (flag byte 7) refl
+      where
+        either : (on : Bool) → flag byte 7 ≡ on → Reaches m o k guarded (stored m pc writes is_out SREG byte) (sreg_written Any key flagged is_out)
+        either true is =
+            record {
+              to = record { key = with_i key is_out true; state = flagged };
+              present = second (record { key = with_i key is_out false; state = flagged }) (record { key = with_i key is_out true; state = flagged }) [];
+              inst = refl;
+              lands = sreg_lands true is;
+            }
+        either false is =
+            record {
+              to = record { key = with_i key is_out false; state = flagged };
+              present = first (record { key = with_i key is_out false; state = flagged }) (record { key = with_i key is_out true; state = flagged } ∷ []);
+              inst = refl;
+              lands = sreg_lands false is;
+            }
+
+    -- ---- enable bits, and all other addresses
+
+    masks_lands : AreWritten → (a : ℕ) → nat_lt a 0x20 ≡ false → (a == SPL) ≡ false → (a == SPH) ≡ false → (a == SREG) ≡ false
+        → Reaches m o k guarded (stored m pc writes is_out a byte) (masks_written key state a v)
+    masks_lands members a beyond not_low not_high not_sreg =
+        let left : ℕ = written_enables k.masks a byte in
+        record {
+          to = record { key = record key { masks = left }; state = state };
+          present = in_map (λ masks. record { key = record key { masks = masks }; state = state }) left (splits k.masks a v.bits)
+              (members k.masks a v.bits left record { byte = byte; small = small; member = stands.bits; left = refl });
+          inst = refl;
+          lands = elsewhere a byte left registers not_low not_high not_sreg (ap (λ x. written_enables x a byte) at.place.enables) (changes_none a byte beyond);
+        }
+
+    at_address : (a b : ℕ) (r : Raw) → (a == b) ≡ true → Reaches m o k guarded (stored m pc writes is_out b byte) r
+        → Reaches m o k guarded (stored m pc writes is_out a byte) r
+    at_address a b r e h = subst (λ x. Reaches m o k guarded (stored m pc writes is_out x byte) r) (sym (eqb-true a b e)) h
+
+    -- a byte that is written to a known address
+    pub written : AreWritten → (a : ℕ) → (written_at k.pc key state is_out a v).faults ≡ []
+        → Reaches m o k guarded (stored m pc writes is_out a byte) (written_at k.pc key state is_out a v)
+    unfolding written_at
+    written members a clean =
+        let e = stored m pc writes is_out a byte in
+        chosen e (nat_lt a 0x20) (one key (record state { registers = slice_set registers a v })) _
+        (λ here rest. only e _ refl (register_written a here (not_same a SPL here (omega arith)) (not_same a SPH here (omega arith)) (not_same a SREG here (omega arith))))
+        (λ beyond.
+        chosen e (a == SPL) (closing (closing_offset k.inst.kind k.sp v) key state k.pc) _ (λ here rest.
+        at_address a SPL _ here (closed_written (closing_offset k.inst.kind k.sp v) refl rest)) (λ not_low.
+        chosen e (a == SPH) (opening (high_part k.inst.kind v) key state k.pc) _ (λ here rest.
+        at_address a SPH _ here (opened_written (high_part k.inst.kind v) refl rest)) (λ not_high.
+        chosen e (a == SREG) (sreg_written (tri_at v.bits 7) key flagged is_out) _ (λ here rest.
+        at_address a SREG _ here (sreg_by (tri_at v.bits 7) (stands.bits 7 (omega arith)))) (λ not_sreg rest. masks_lands members a beyond not_low not_high not_sreg)))) clean

@@ -1,0 +1,77 @@
+-- Laws of the local part of a node.
+use Rattle.std.specs.Prelude.{ℕ, None, Ok, Bool, ◌≢◌, ◌≡◌, ◌<◌, List, [], ◌++◌, map, Contains}
+use Rattle.std.specs.List.Sorted.{IsStrictlySortedBy}
+use Rattle.avr_model.specs.declared.assumption.Entry.{Entry}
+use Rattle.avr_model.specs.Sites.{instruction_at}
+use Rattle.avr_model.specs.State.{State, IsReset}
+use Rattle.sp_domain.specs.Tags.{Origin}
+use Rattle.abs_state.specs.declared.state.AbsState.{AbsState}
+use Rattle.abs_state.specs.Order.{IsStateWithin}
+use Rattle.mask_states.specs.declared.keys.NodeKey.{NodeKey}
+use Rattle.mask_states.specs.Order.{node_cmp}
+use Rattle.local_rules.specs.declared.local.Node.{Node}
+use Rattle.local_rules.specs.Local.{raw, joined_onto, local}
+use Rattle.local_rules.specs.Cover.{InFrame, IsNode, IsCovered, IsWithinBase, IsStep}
+use Rattle.local_rules.specs.Machine.{IsMachine, AreWords, floor_of}
+use Rattle.local_rules.specs.declared.local.Local.{Local}
+use Rattle.abs_state.specs.Laws.{Keeps}
+use Rattle.avr_model.specs.declared.choice.Choice.{Choice}
+use Rattle.avr_model.specs.declared.choice.Choice.TheVariants.{Go}
+use Rattle.avr_model.specs.declared.effect.Effect.{Effect}
+use Rattle.avr_model.specs.Run.{HasBytes}
+use Rattle.avr_model.specs.Step.{step, Done, Undefined, after, live_write}
+use Rattle.local_rules.specs.Order.{IsBelowOne, IsBelow}
+
+-- The local part of a node covers each step of the machine there.
+pub record LocalPartsCover : Type 0 where
+  pub covered : (words : List ℕ) (A : List Entry) (m : State) (o : Origin) (k : NodeKey) (s : AbsState) (b1 b2 : ℕ) → InFrame m o k s
+      → b1 < 256 → b2 < 256 → IsCovered words A m o k b1 b2 (instruction_at words m.pc) (raw words A k s)
+
+-- A greater state leads to more.
+pub record LocalPartsAreMonotone : Type 0 where
+  pub below : (words : List ℕ) (A : List Entry) (k : NodeKey) (s t : AbsState) → IsNode k s → IsNode k t → IsStateWithin s t
+      → IsBelow (raw words A k s) (raw words A k t)
+
+-- Successors are nodes that the analysis works with, in the same instance.
+pub record LocalPartsAreNodes : Type 0 where
+  pub nodes : (words : List ℕ) (A : List Entry) (k : NodeKey) (s : AbsState) (to : Node) → IsNode k s → (raw words A k s).faults ≡ []
+      → Contains (raw words A k s).moves to → (to.key.inst ≡ k.inst) × IsNode to.key to.state
+
+-- one of these nodes has this key
+abbrev pub HasKey : List Node → NodeKey → Type 0
+HasKey nodes k = (n : Node) × (Contains nodes n × (n.key ≡ k))
+
+-- all of them are nodes that the analysis works with
+abbrev pub AreNodes : List Node → Type 0
+AreNodes nodes = (n : Node) → Contains nodes n → IsNode n.key n.state
+
+-- Joined successors ascend strictly by key. Each raw one is below the one of its key, and a state above all raw ones of a key is above
+-- the joined one.
+pub record JoinsAreLeast : Type 0 where
+  pub ascending : (nodes : List Node) → IsStrictlySortedBy node_cmp (map (λ n. n.key) (joined_onto [] nodes))
+  pub nodes : (nodes : List Node) → AreNodes nodes → AreNodes (joined_onto [] nodes)
+  pub above : (nodes : List Node) (n : Node) → AreNodes nodes → Contains nodes n → IsBelowOne (joined_onto [] nodes) n
+  pub keys : (nodes : List Node) (n : Node) → Contains (joined_onto [] nodes) n → HasKey nodes n.key
+  pub least : (nodes : List Node) (n : Node) (t : AbsState) → AreNodes nodes → Contains (joined_onto [] nodes) n
+      → ((raw : Node) → Contains nodes raw → raw.key ≡ n.key → IsStateWithin raw.state t) → IsStateWithin n.state t
+
+-- A reset state is a machine's state, and each step that is done leads to one.
+pub record MachinesStay : Type 0 where
+  pub reset : (m : State) → IsReset m → IsMachine m
+  pub step : (words : List ℕ) (A : List Entry) (m n : State) (c : Choice) → AreWords words → IsMachine m → HasBytes c → step words A m c ≡ Done n
+      → IsMachine n
+
+-- What is written onto no live byte leaves live bytes above the stack pointer as they are.
+pub record LiveBytesStay : Type 0 where
+  pub kept : (m : State) (guarded : Bool) (e : Effect) → IsMachine m → live_write m.memory (e.stores ++ e.pushes) ≡ None
+      → Keeps m.memory (after m guarded e).memory (floor_of (after m guarded e).is_open (after m guarded e).sp)
+
+-- The local part in the words of a step: where there is no fault, no step is undefined, and a step that is done is covered. No closed
+-- successor may lie deeper than the base.
+pub record StepsAreCovered : Type 0 where
+  pub defined : (words : List ℕ) (A : List Entry) (m : State) (o : Origin) (k : NodeKey) (s : AbsState) (l : Local) (b1 b2 pc : ℕ)
+      → InFrame m o k s → b1 < 256 → b2 < 256 → local words A k s ≡ Ok l → step words A m (Go b1 b2) ≢ Undefined pc
+  pub done : (words : List ℕ) (A : List Entry) (m n : State) (o : Origin) (k : NodeKey) (s : AbsState) (l : Local) (b1 b2 : ℕ)
+      → InFrame m o k s → b1 < 256 → b2 < 256 → local words A k s ≡ Ok l
+      → ((to : Node) → Contains l.same to → IsWithinBase o.base to.key.sp)
+      → step words A m (Go b1 b2) ≡ Done n → IsStep m o k b1 b2 l n

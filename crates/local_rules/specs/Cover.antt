@@ -1,0 +1,156 @@
+-- What it means that a node's local part covers a step of the machine in its frame.
+use Rattle.std.specs.Prelude.{ℕ, ◌+◌, ◌^◌, ◌%◌, ◌≡◌, ◌≢◌, ◌<◌, ◌≤◌, ⊤, Bool, true, false, not, List, [], length, Option, Some, None, Contains}
+use Rattle.avr_model.specs.declared.assumption.Entry.{Entry}
+use Rattle.avr_model.specs.declared.effect.Effect.{Effect}
+use Rattle.avr_model.specs.declared.instruction.Instr.{Instr}
+use Rattle.avr_model.specs.Image.{WORDS}
+use Rattle.avr_model.specs.Sreg.{flag}
+use Rattle.avr_model.specs.Sites.{is_scratch}
+use Rattle.avr_model.specs.State.{State, RAMEND, SIZE, plus16}
+use Rattle.avr_model.specs.Effects.{effect_of, calling, popped_word}
+use Rattle.avr_model.specs.Step.{after, all_inside, protected_write, unlisted_transfer}
+use Rattle.sp_domain.specs.declared.tags.Tag.{Tag as ByteTag}
+use Rattle.sp_domain.specs.declared.tags.Tag.TheVariants as tag
+use Rattle.sp_domain.specs.declared.slots.Slot.{Slot}
+use Rattle.sp_domain.specs.declared.slots.Slot.TheVariants.{Free, Guarded}
+use Rattle.sp_domain.specs.Tags.{Origin, HasBytes}
+use Rattle.sp_domain.specs.Slots.{slot_at}
+use Rattle.abs_state.specs.declared.values.AbsByte.{AbsByte}
+use Rattle.abs_state.specs.declared.state.AbsState.{AbsState}
+use Rattle.abs_state.specs.Values.{value_at}
+use Rattle.abs_state.specs.Stands.{RegistersStand, FlagsStand, SlotsStand, Stands}
+use Rattle.abs_state.specs.Laws.{Keeps}
+use Rattle.abs_state.specs.Formed.{IsFormed, IsUntagged}
+use Rattle.mask_states.specs.declared.keys.NodeKey.{NodeKey}
+use Rattle.mask_states.specs.declared.keys.Kind.{Kind}
+use Rattle.mask_states.specs.declared.keys.Kind.TheVariants.{Root, Call, Vector}
+use Rattle.mask_states.specs.declared.keys.High.{High}
+use Rattle.mask_states.specs.declared.keys.High.TheVariants.{Known, Tag}
+use Rattle.mask_states.specs.declared.keys.SpForm.{SpForm}
+use Rattle.mask_states.specs.declared.keys.SpForm.TheVariants.{Closed, Open}
+use Rattle.mask_states.specs.Keys.{offset_of}
+use Rattle.mask_states.specs.Place.{AtNode}
+use Rattle.local_rules.specs.declared.local.Node.{Node}
+use Rattle.local_rules.specs.declared.local.Local.{Local}
+use Rattle.local_rules.specs.declared.local.CallSite.{CallSite}
+use Rattle.local_rules.specs.declared.local.Exit.{Exit}
+use Rattle.local_rules.specs.Machine.{IsMachine, floor_of}
+use Rattle.local_rules.specs.Raw.{Raw}
+
+-- ---- nodes that the analysis works with
+
+abbrev pub HighFitsKind : Kind → High → Type 0
+HighFitsKind Root (Known h) = h < 256
+HighFitsKind Root (Tag k) = ⊥
+HighFitsKind Call (Known h) = ⊥
+HighFitsKind Call (Tag k) = k < 65536
+HighFitsKind (Vector v) (Known h) = ⊥
+HighFitsKind (Vector v) (Tag k) = k < 65536
+
+abbrev pub FormFitsKind : Kind → SpForm → Type 0
+FormFitsKind kind (Closed offset) = ⊤
+FormFitsKind kind (Open offset h) = HighFitsKind kind h
+
+-- in the root the high byte of a half-written stack pointer is known, and elsewhere it has a tag
+abbrev pub FormFits : NodeKey → Type 0
+FormFits k = FormFitsKind k.inst.kind k.sp
+
+-- the numbers of tags are as their types have them: bytes, and words of 16 bits
+abbrev pub TagFits : ByteTag → Type 0
+TagFits (tag.SpLo j) = j < 256
+TagFits (tag.SpHi k) = k < 65536
+TagFits t = ⊤
+
+abbrev pub SlotFits : Slot AbsByte → Type 0
+SlotFits Free = ⊤
+SlotFits (Guarded v) = TagFits v.tag
+
+pub record TagsFit (s : AbsState) : Type 0 where
+  pub registers : (r : ℕ) → r < 32 → TagFits (value_at s.registers r).tag
+  pub slots : (d : ℕ) → d < length s.slots → SlotFits (slot_at s.slots d)
+
+-- The key and the state of a node: a word address, at most as many bytes as SRAM has, a state that is formed for this offset, tags
+-- whose numbers fit, bytes in its carry tag, and nothing tagged in the root.
+pub record IsNode (k : NodeKey) (s : AbsState) : Type 0 where
+  pub word : k.pc < WORDS
+  pub small : offset_of k.sp ≤ SIZE
+  pub masks : k.masks < 2 ^ 25
+  pub fits : FormFits k
+  pub formed : IsFormed s (offset_of k.sp)
+  pub tags : TagsFit s
+  pub borrow_bytes : HasBytes s.flags.carry
+  pub untagged : k.inst.kind ≡ Root → IsUntagged s
+
+-- ---- where the machine is
+
+-- The machine is at the node, in a frame with this origin, and the state stands for it. The root's frame has the top of SRAM as its base.
+pub record InFrame (m : State) (o : Origin) (k : NodeKey) (s : AbsState) : Type 0 where
+  pub machine : IsMachine m
+  pub node : IsNode k s
+  pub place : AtNode o.base m k
+  pub stands : Stands o s m
+  pub root : k.inst.kind ≡ Root → o.base ≡ RAMEND
+  pub base_word : o.base < 65536
+
+-- a closed offset is at most the base, and then also leaves the stack pointer in SRAM
+abbrev pub IsWithinBase : ℕ → SpForm → Type 0
+IsWithinBase base (Closed offset) = offset ≤ base
+IsWithinBase base (Open offset h) = ⊤
+
+abbrev pub HasRoom : ℕ → SpForm → Type 0
+HasRoom base (Closed offset) = (base ≤ RAMEND) × (RAMEND + offset ≤ base + SIZE)
+HasRoom base (Open offset h) = ⊤
+
+-- ---- what a step does
+
+-- No protected address is written, and no transfer goes to a word that isn't listed: of these the local part says nothing. A live byte
+-- may be written: that a step with this flag doesn't push outside SRAM follows from its being covered.
+pub record IsUnflagged (words : List ℕ) (A : List Entry) (m : State) (instr : Instr) (e : Effect) : Type 0 where
+  pub protected : protected_write words A m.pc instr e ≡ None
+  pub listed : unlisted_transfer A m.pc instr e ≡ None
+
+-- after the effect the machine is at the node, in a frame with this origin, and the node's state stands for it
+pub record Lands (m : State) (o : Origin) (guarded : Bool) (e : Effect) (to : Node) : Type 0 where
+  pub inside : HasRoom o.base to.key.sp → all_inside e.pushes ≡ true
+  pub place : IsWithinBase o.base to.key.sp → AtNode o.base (after m guarded e) to.key
+  pub registers : RegistersStand o to.state.registers (after m guarded e).registers
+  pub flags : FlagsStand o to.state.flags (after m guarded e).sreg
+  pub slots : IsWithinBase o.base to.key.sp → all_inside e.pushes ≡ true
+      → Keeps m.memory (after m guarded e).memory (floor_of (after m guarded e).is_open (after m guarded e).sp)
+      → SlotsStand o (after m guarded e).memory to.state.slots
+
+-- the effect is a return with this exit: it goes to the popped word, and keeps registers, flags 0 to 6 and memory
+pub record IsReturn (m : State) (b1 b2 : ℕ) (x : Exit) (e : Effect) : Type 0 where
+  pub pc : e.pc ≡ popped_word m b1 b2
+  pub registers : e.registers ≡ []
+  pub flags : e.sreg % 128 ≡ m.sreg % 128
+  pub i : flag e.sreg 7 ≡ x.i
+  pub sp : e.sp ≡ plus16 m.sp 2
+  pub closed : e.is_open ≡ false
+  pub enables : e.enables ≡ x.masks
+  pub stores : e.stores ≡ []
+  pub pushes : e.pushes ≡ []
+  pub delay : e.delay ≡ x.delay
+
+-- the effect is covered: by a node of the same instance, by a call, or by the return
+pub data Follows (m : State) (o : Origin) (k : NodeKey) (guarded : Bool) (b1 b2 : ℕ) (e : Effect) (r : Raw) : Type 0 where
+  stays : (to : Node) → Contains r.moves to → to.key.inst ≡ k.inst → Lands m o guarded e to → Follows m o k guarded b1 b2 e r
+  calls : (offset : ℕ) (site : CallSite) → Contains r.calls site → k.sp ≡ Closed offset → guarded ≡ true → e ≡ calling m site.entry site.back
+      → Follows m o k guarded b1 b2 e r
+  leaves : (x : Exit) → r.exit ≡ Some x → k.inst.kind ≢ Root → k.sp ≡ Closed 0 → IsReturn m b1 b2 x e → Follows m o k guarded b1 b2 e r
+
+-- Where the local part has no fault, there is an instruction, and its effect is covered unless it is flagged for a protected address or an
+-- unlisted word.
+abbrev pub IsCovered : List ℕ → List Entry → State → Origin → NodeKey → ℕ → ℕ → Option Instr → Raw → Type 0
+IsCovered words A m o k b1 b2 None r = r.faults ≡ [] → ⊥
+IsCovered words A m o k b1 b2 (Some instr) r =
+    r.faults ≡ [] → IsUnflagged words A m instr (effect_of words m instr b1 b2)
+    → Follows m o k (not (is_scratch words m.pc)) b1 b2 (effect_of words m instr b1 b2) r
+
+-- a step of the machine is one that the local part has
+pub data IsStep (m : State) (o : Origin) (k : NodeKey) (b1 b2 : ℕ) (l : Local) (n : State) : Type 0 where
+  stays : (to : Node) → Contains l.same to → to.key.inst ≡ k.inst → AtNode o.base n to.key → Stands o to.state n → IsStep m o k b1 b2 l n
+  calls : (offset : ℕ) (site : CallSite) → Contains l.calls site → k.sp ≡ Closed offset → n ≡ after m true (calling m site.entry site.back)
+      → IsStep m o k b1 b2 l n
+  leaves : (x : Exit) (guarded : Bool) (e : Effect) → l.exit ≡ Some x → k.inst.kind ≢ Root → k.sp ≡ Closed 0 → IsReturn m b1 b2 x e
+      → n ≡ after m guarded e → IsStep m o k b1 b2 l n

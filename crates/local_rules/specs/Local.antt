@@ -1,0 +1,190 @@
+-- Where a node leads in its own frame. Source: own.
+use Rattle.std.specs.Prelude.{ℕ, ◌*◌, ◌==◌, ◌&&◌, Bool, true, false, not, if◌then◌else◌, List, [], ◌∷◌, Option, Some, None, Result, Ok, Err, slice_set}
+use Rattle.std.specs.declared.cmp.Ordering.{Ordering}
+use Rattle.std.specs.declared.cmp.Ordering.TheVariants.{Less, Equal, Greater}
+use Rattle.avr_model.specs.declared.assumption.Entry.{Entry}
+use Rattle.avr_model.specs.declared.instruction.Instr.{Instr}
+use Rattle.avr_model.specs.declared.instruction.Instr.TheVariants as i
+use Rattle.avr_model.specs.declared.instruction.BinaryOp.{BinaryOp}
+use Rattle.avr_model.specs.declared.instruction.Pointer.{Pointer}
+use Rattle.avr_model.specs.declared.instruction.Pointer.TheVariants as pointer
+use Rattle.avr_model.specs.declared.operation.Mul.TheVariants as product
+use Rattle.avr_model.specs.Text.{far, near}
+use Rattle.avr_model.specs.Sites.{instruction_at, is_scratch, base_register, pointer_register}
+use Rattle.avr_model.specs.Effects.{port}
+use Rattle.bit_domain.specs.declared.bits.Tri.TheVariants.{Zero, One}
+use Rattle.bit_domain.specs.Tri.{tri_not}
+use Rattle.bit_domain.specs.TriByte.{tri_at, byte_with}
+use Rattle.bit_domain.specs.Logic.{byte_equal}
+use Rattle.abs_state.specs.declared.values.AbsByte.{AbsByte}
+use Rattle.abs_state.specs.declared.state.AbsState.{AbsState}
+use Rattle.abs_state.specs.Values.{untagged}
+use Rattle.abs_state.specs.Order.{state_join}
+use Rattle.mask_states.specs.declared.keys.NodeKey.{NodeKey}
+use Rattle.mask_states.specs.declared.keys.SpForm.{SpForm}
+use Rattle.mask_states.specs.declared.keys.SpForm.TheVariants.{Closed, Open}
+use Rattle.mask_states.specs.Order.{node_cmp}
+use Rattle.local_rules.specs.declared.local.Local.{Local}
+use Rattle.local_rules.specs.declared.local.Node.{Node}
+use Rattle.local_rules.specs.declared.local.NodeFault.{NodeFault}
+use Rattle.local_rules.specs.declared.local.NodeFault.TheVariants.{Unsupported}
+use Rattle.local_rules.specs.Faults.{least}
+use Rattle.local_rules.specs.Raw.{Raw, nowhere, fails, untracked_if, at_word, next, further, going_to, going_on, setting}
+use Rattle.local_rules.specs.Registers.{value, bits, set, going_with, going_by, binary_after, pair_copied, bit_loaded, bit_stored, product_row, wide_row, pair_moved, interrupts_row, flag_row, immediate_row, unary_row}
+use Rattle.local_rules.specs.Reads.{read_at, pointed, pair_constant, read_pointed, flash_value}
+use Rattle.local_rules.specs.Writes.{written_at, pointer_write}
+use Rattle.local_rules.specs.Flow.{branch, skipping, flag_at, targets_at, jumping, at_closed, pushing, popping, relative_call, calling, indirect_call, returning, ret_exit, reti_exit}
+
+-- ---- registers
+
+-- `cpse` skips where the registers are equal
+abbrev pub binary_row : List ℕ → NodeKey → AbsState → BinaryOp → ℕ → ℕ → Raw
+binary_row words k s op d r = going_by k s (binary_after s op d r) (skipping words k s (byte_equal (bits s d) (bits s r)))
+
+-- ---- loads and stores
+
+-- what is added to a pointer for the address: -P takes one off
+abbrev pub step_before : Pointer → ℕ
+step_before pointer.ZPlus = 0
+step_before pointer.MinusZ = 65535
+step_before pointer.YPlus = 0
+step_before pointer.MinusY = 65535
+step_before pointer.X = 0
+step_before pointer.XPlus = 0
+step_before pointer.MinusX = 65535
+
+-- the registers with the pointer as it is after the instruction
+abbrev pub pointer_moved : Pointer → AbsState → List AbsByte
+pointer_moved pointer.ZPlus s = pair_moved s 30 true 1
+pointer_moved pointer.MinusZ s = pair_moved s 30 false 1
+pointer_moved pointer.YPlus s = pair_moved s 28 true 1
+pointer_moved pointer.MinusY s = pair_moved s 28 false 1
+pointer_moved pointer.X s = s.registers
+pointer_moved pointer.XPlus s = pair_moved s 26 true 1
+pointer_moved pointer.MinusX s = pair_moved s 26 false 1
+
+-- A register gets what was read; there is no successor where nothing can be read.
+abbrev pub loading : NodeKey → AbsState → List AbsByte → ℕ → Option AbsByte → Raw
+loading k s registers d None = nowhere
+loading k s registers d (Some v) = setting k s (slice_set registers d v) s.flags
+
+abbrev pub load_row : NodeKey → AbsState → ℕ → Pointer → Raw
+load_row k s d p = loading k s (pointer_moved p s) d (read_pointed k s (pointed s (pointer_register p) (step_before p)))
+
+abbrev pub store_row : List ℕ → List Entry → NodeKey → AbsState → Pointer → ℕ → Raw
+store_row words A k s p r =
+    pointer_write words A s (pointer_register p) (step_before p) (pointed s (pointer_register p) (step_before p)) k.pc (next k)
+    (record s { registers = pointer_moved p s }) (value s r)
+
+abbrev pub std_row : List ℕ → List Entry → NodeKey → AbsState → ℕ → ℕ → ℕ → Raw
+std_row words A k s b q r = pointer_write words A s b q (pointed s b q) k.pc (next k) s (value s r)
+
+-- one bit of an I/O address is turned on or off
+abbrev pub bit_row : NodeKey → AbsState → ℕ → ℕ → Bool → Raw
+bit_row k s a b on = written_at k.pc (next k) s false a (untagged (byte_with (read_at k s a).bits b (if on then One else Zero)))
+
+-- ---- the whole table, in three parts
+
+-- flow, and what has no operand
+abbrev pub flow_row : List ℕ → List Entry → Bool → NodeKey → AbsState → Instr → Raw
+flow_row words A scratch k s i.Ijmp = jumping (targets_at A k s) k s
+flow_row words A scratch k s i.Icall = indirect_call (targets_at A k s) k
+flow_row words A scratch k s i.Ret = at_closed k.sp k.pc (returning (ret_exit k) k.pc k.inst.kind)
+flow_row words A scratch k s i.Reti = at_closed k.sp k.pc (returning (reti_exit k) k.pc k.inst.kind)
+flow_row words A scratch k s (i.Jmp t) = going_to k s t
+flow_row words A scratch k s (i.Call t) = calling k (further k 2) (t ∷ [])
+flow_row words A scratch k s (i.Rjmp t) = going_to k s (far k.pc t)
+flow_row words A scratch k s (i.Rcall t) = relative_call scratch k s (far k.pc t)
+flow_row words A scratch k s (i.Brbs n t) = branch (flag_at k s n) k s (near k.pc t) (further k 1)
+flow_row words A scratch k s (i.Brbc n t) = branch (tri_not (flag_at k s n)) k s (near k.pc t) (further k 1)
+flow_row words A scratch k s (i.Sbic a b) = skipping words k s (tri_not (tri_at (read_at k s (port a)).bits b))
+flow_row words A scratch k s (i.Sbis a b) = skipping words k s (tri_at (read_at k s (port a)).bits b)
+flow_row words A scratch k s (i.Sbrc r b) = skipping words k s (tri_not (tri_at (bits s r) b))
+flow_row words A scratch k s (i.Sbrs r b) = skipping words k s (tri_at (bits s r) b)
+-- nop, sleep, break and wdr
+flow_row words A scratch k s _ = going_on k s
+
+-- loads, stores and I/O
+abbrev pub memory_row : List ℕ → List Entry → Bool → NodeKey → AbsState → Instr → Raw
+memory_row words A scratch k s (i.Ldd d b q) = loading k s s.registers d (read_pointed k s (pointed s (base_register b) q))
+memory_row words A scratch k s (i.Std b q r) = std_row words A k s (base_register b) q r
+memory_row words A scratch k s (i.Lds d a) = going_to k (record s { registers = set s d (read_at k s a) }) (further k 2)
+memory_row words A scratch k s (i.Sts a r) = written_at k.pc (at_word k (further k 2)) s false a (value s r)
+memory_row words A scratch k s (i.Ld d p) = load_row k s d p
+memory_row words A scratch k s (i.St p r) = store_row words A k s p r
+memory_row words A scratch k s (i.LpmZ d) = setting k s (set s d (flash_value words (pair_constant s 30))) s.flags
+memory_row words A scratch k s (i.LpmZPlus d) = setting k s (slice_set (pair_moved s 30 true 1) d (flash_value words (pair_constant s 30))) s.flags
+memory_row words A scratch k s i.Lpm = setting k s (set s 0 (flash_value words (pair_constant s 30))) s.flags
+memory_row words A scratch k s (i.Pop d) = at_closed k.sp k.pc (popping k s d)
+memory_row words A scratch k s (i.Push r) = at_closed k.sp k.pc (pushing scratch k s r)
+memory_row words A scratch k s (i.In d a) = setting k s (set s d (read_at k s (port a))) s.flags
+memory_row words A scratch k s (i.Out a r) = written_at k.pc (next k) s true (port a) (value s r)
+memory_row words A scratch k s (i.Cbi a b) = bit_row k s (port a) b false
+memory_row words A scratch k s (i.Sbi a b) = bit_row k s (port a) b true
+memory_row words A scratch k s instr = flow_row words A scratch k s instr
+
+-- What an instruction leads to, where `scratch` says that its pushes make a compiler's small frame.
+abbrev pub row_of : List ℕ → List Entry → Bool → NodeKey → AbsState → Instr → Raw
+row_of words A scratch k s (i.Movw d r) = going_with k s (pair_copied s (2 * d) (2 * r))
+row_of words A scratch k s (i.Muls d r) = product_row k s product.Muls d r
+row_of words A scratch k s (i.Mulsu d r) = product_row k s product.Mulsu d r
+row_of words A scratch k s (i.Fmul d r) = product_row k s product.Fmul d r
+row_of words A scratch k s (i.Fmuls d r) = product_row k s product.Fmuls d r
+row_of words A scratch k s (i.Fmulsu d r) = product_row k s product.Fmulsu d r
+row_of words A scratch k s (i.Binary op d r) = binary_row words k s op d r
+row_of words A scratch k s (i.Immediate op d n) = immediate_row k s op d n
+row_of words A scratch k s (i.Unary op d) = unary_row k s op d
+row_of words A scratch k s (i.Adiw d n) = wide_row k s true (2 * d) n
+row_of words A scratch k s (i.Sbiw d n) = wide_row k s false (2 * d) n
+row_of words A scratch k s (i.Bset n) = flag_row k s n true
+row_of words A scratch k s (i.Bclr n) = flag_row k s n false
+row_of words A scratch k s (i.Bld d b) = going_with k s (bit_loaded s d b)
+row_of words A scratch k s (i.Bst d b) = going_with k s (bit_stored s d b)
+row_of words A scratch k s instr = memory_row words A scratch k s instr
+
+-- The rows that set more than registers and flags; what is computed goes before it.
+abbrev pub other_row : List ℕ → List Entry → Bool → NodeKey → AbsState → Instr → Raw
+other_row words A scratch k s (i.Binary op d r) = skipping words k s (byte_equal (bits s d) (bits s r))
+other_row words A scratch k s (i.Bset n) = interrupts_row k s true
+other_row words A scratch k s (i.Bclr n) = interrupts_row k s false
+other_row words A scratch k s instr = memory_row words A scratch k s instr
+
+abbrev pub row_at : List ℕ → List Entry → Bool → NodeKey → AbsState → Option Instr → Raw
+row_at words A scratch k s None = fails (Unsupported k.pc)
+row_at words A scratch k s (Some instr) = row_of words A scratch k s instr
+
+-- ---- the node
+
+-- an interrupt may come while the stack pointer is half written
+abbrev pub is_hung : NodeKey → SpForm → Bool
+is_hung k (Closed offset) = false
+is_hung k (Open offset h) = k.i && not k.delay && not (k.masks == 0)
+
+-- all that a node leads to, with all its faults
+unfoldable pub raw : List ℕ → List Entry → NodeKey → AbsState → Raw
+raw words A k s = untracked_if (is_hung k k.sp) k.pc (row_at words A (is_scratch words k.pc) k s (instruction_at words k.pc))
+
+-- ---- successors of one key are joined
+
+abbrev pub place_by : Ordering → Node → Node → List Node → List Node → List Node
+place_by Less n m ms placed = n ∷ m ∷ ms
+place_by Equal n m ms placed = record { key = m.key; state = state_join m.state n.state } ∷ ms
+place_by Greater n m ms placed = m ∷ placed
+
+-- a node put into an ascending list: where there is one of its key, their states are joined
+unfoldable pub placed : Node → List Node → List Node
+placed n [] = n ∷ []
+placed n (m ∷ ms) = place_by (node_cmp n.key m.key) n m ms (placed n ms)
+
+-- these nodes put into an ascending list one after the other
+unfoldable pub joined_onto : List Node → List Node → List Node
+joined_onto done [] = done
+joined_onto done (n ∷ ns) = joined_onto (placed n done) ns
+
+abbrev pub settled : Raw → List NodeFault → Result Local NodeFault
+settled r [] = Ok (record { same = joined_onto [] r.moves; calls = r.calls; exit = r.exit })
+settled r (f ∷ fs) = Err (least f fs)
+
+-- The successors in the same instance, the calls and the return of a node, or its one fault.
+unfoldable pub local : List ℕ → List Entry → NodeKey → AbsState → Result Local NodeFault
+local words A k s = settled (raw words A k s) (raw words A k s).faults

@@ -1,0 +1,140 @@
+-- What is known of a byte that is read from data space. Source: own.
+use Rattle.std.specs.Prelude.{ℕ, ◌+◌, ◌*◌, ◌-◌, ◌==◌, Bool, true, false, nat_lt, nat_le, if◌then◌else◌, List, length, Option, Some, None}
+use Rattle.std.specs.Int.{bit_at, from_bool}
+use Rattle.avr_model.specs.Image.{byte_at}
+use Rattle.avr_model.specs.Vectors.{enable_of}
+use Rattle.avr_model.specs.State.{RAMEND, BELOW, SPL, SPH, SREG, low, high, plus16, minus16}
+use Rattle.bit_domain.specs.declared.bits.Tri.{Tri}
+use Rattle.bit_domain.specs.declared.bits.Tri.TheVariants.{Any}
+use Rattle.bit_domain.specs.declared.bytes.TriByte.{TriByte}
+use Rattle.bit_domain.specs.Tri.{tri_bit}
+use Rattle.bit_domain.specs.TriByte.{byte_of, byte_any, byte_with, byte_constant}
+use Rattle.bit_domain.specs.Lattice.{byte_meet}
+use Rattle.sp_domain.specs.declared.tags.Tag.{Tag}
+use Rattle.sp_domain.specs.declared.tags.Tag.TheVariants as tag
+use Rattle.sp_domain.specs.declared.slots.Slot.{Slot}
+use Rattle.sp_domain.specs.declared.slots.Slot.TheVariants.{Free, Guarded}
+use Rattle.sp_domain.specs.Tags.{low_of, high_of, frame_of}
+use Rattle.sp_domain.specs.Slots.{slot_at}
+use Rattle.abs_state.specs.declared.values.AbsByte.{AbsByte}
+use Rattle.abs_state.specs.declared.state.AbsState.{AbsState}
+use Rattle.abs_state.specs.Values.{untagged, unknown, known}
+use Rattle.abs_state.specs.Frames.{with_tag}
+use Rattle.mask_states.specs.declared.keys.NodeKey.{NodeKey}
+use Rattle.mask_states.specs.declared.keys.Kind.{Kind}
+use Rattle.mask_states.specs.declared.keys.Kind.TheVariants.{Root, Call, Vector}
+use Rattle.mask_states.specs.declared.keys.SpForm.{SpForm}
+use Rattle.mask_states.specs.declared.keys.SpForm.TheVariants.{Closed, Open}
+-- the address that a pointer gives: a number, base - k, or both
+use Rattle.local_rules.specs.declared.pointers.Pointed.{Pointed}
+use Rattle.local_rules.specs.Registers.{value, bits, with_bits}
+
+-- ---- at an address
+
+-- The bytes of a closed stack pointer: known in the root, whose base is the top of SRAM; elsewhere base - offset.
+abbrev pub closed_low : Kind → ℕ → AbsByte
+closed_low Root offset = known (low (RAMEND - offset))
+closed_low Call offset = with_bits (low_of offset) byte_any
+closed_low (Vector v) offset = with_bits (low_of offset) byte_any
+
+abbrev pub closed_high : Kind → ℕ → AbsByte
+closed_high Root offset = known (high (RAMEND - offset))
+closed_high Call offset = with_bits (high_of offset) byte_any
+closed_high (Vector v) offset = with_bits (high_of offset) byte_any
+
+-- those of an open one are unknown
+abbrev pub sp_low : Kind → SpForm → AbsByte
+sp_low kind (Closed offset) = closed_low kind offset
+sp_low kind (Open offset h) = unknown
+
+abbrev pub sp_high : Kind → SpForm → AbsByte
+sp_high kind (Closed offset) = closed_high kind offset
+sp_high kind (Open offset h) = unknown
+
+-- the status register, with I from the key
+abbrev pub flags_tag : Bool → Tag
+flags_tag true = tag.EntryFlags
+flags_tag false = tag.None
+
+abbrev pub sreg_value : NodeKey → AbsState → AbsByte
+sreg_value k s = with_bits (flags_tag s.flags.entry) (byte_with s.flags.bits 7 (tri_bit (from_bool k.i)))
+
+-- enable bits come from the key, and no other bit of I/O is known
+abbrev pub io_tri : Option ℕ → ℕ → Tri
+io_tri None masks = Any
+io_tri (Some v) masks = tri_bit (bit_at masks (v - 2))
+
+abbrev pub io_bits : ℕ → ℕ → TriByte
+io_bits masks a = byte_of (λ b. io_tri (enable_of a b) masks)
+
+abbrev pub value_of : Slot AbsByte → AbsByte
+value_of Free = unknown
+value_of (Guarded v) = v
+
+-- the slot at an address: in the root, whose base is known
+abbrev pub slot_read : Kind → AbsState → ℕ → AbsByte
+slot_read Root s a = if nat_le a RAMEND then value_of (slot_at s.slots (RAMEND - a)) else unknown
+slot_read Call s a = unknown
+slot_read (Vector v) s a = unknown
+
+-- what a read of a known address gives
+unfoldable pub read_at : NodeKey → AbsState → ℕ → AbsByte
+read_at k s a =
+    if nat_lt a 0x20 then value s a
+    else (if a == SPL then sp_low k.inst.kind k.sp
+    else (if a == SPH then sp_high k.inst.kind k.sp
+    else (if a == SREG then sreg_value k s
+    else (if nat_le a BELOW then untagged (io_bits k.masks a)
+    else slot_read k.inst.kind s a))))
+
+-- ---- through a pointer
+
+abbrev pub word_of : Option ℕ → Option ℕ → Option ℕ
+word_of None hi = None
+word_of (Some x) None = None
+word_of (Some x) (Some y) = Some (x + 256 * y)
+
+-- the number that registers r and r + 1 hold, where all their bits are known
+abbrev pub pair_constant : AbsState → ℕ → Option ℕ
+pair_constant s r = word_of (byte_constant (bits s r)) (byte_constant (bits s (r + 1)))
+
+abbrev pub raised : ℕ → Option ℕ → Option ℕ
+raised up None = None
+raised up (Some a) = Some (plus16 a up)
+
+abbrev pub lowered : ℕ → Option ℕ → Option ℕ
+lowered up None = None
+lowered up (Some k) = Some (minus16 k up)
+
+-- the pair plus a number, modulo 65,536: base - k plus the number is base - (k - number)
+abbrev pub pointed : AbsState → ℕ → ℕ → Pointed
+pointed s r up =
+    record {
+      constant = raised up (pair_constant s r);
+      frame = lowered up (frame_of (value s r).tag (value s (r + 1)).tag);
+    }
+
+-- by its number alone: the bits, without a tag
+abbrev pub read_constant : NodeKey → AbsState → Option ℕ → AbsByte
+read_constant k s None = unknown
+read_constant k s (Some a) = untagged (read_at k s a).bits
+
+-- a slot, with what is known by the number; none where these bits conflict
+abbrev pub read_both : NodeKey → AbsState → Option ℕ → AbsByte → Option AbsByte
+read_both k s None v = Some v
+read_both k s (Some a) v = with_tag v.tag (byte_meet (read_at k s a).bits v.bits)
+
+-- A slot that isn't there is read by the number alone.
+abbrev pub read_frame : NodeKey → AbsState → Option ℕ → Option ℕ → Option AbsByte
+read_frame k s constant None = Some (read_constant k s constant)
+read_frame k s constant (Some d) =
+    if nat_lt d (length s.slots) then read_both k s constant (value_of (slot_at s.slots d)) else Some (read_constant k s constant)
+
+-- what a read through a pointer gives; none where it can't be
+abbrev pub read_pointed : NodeKey → AbsState → Pointed → Option AbsByte
+read_pointed k s p = read_frame k s p.constant p.frame
+
+-- the byte of flash at a known address below 0x8000
+abbrev pub flash_value : List ℕ → Option ℕ → AbsByte
+flash_value words None = unknown
+flash_value words (Some z) = if nat_lt z 0x8000 then known (byte_at words z) else unknown

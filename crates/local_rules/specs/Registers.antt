@@ -1,0 +1,308 @@
+-- Instructions that work on registers and flags alone. Where a result has a tag, a rule here says so; all others have none. Source: own;
+-- bits and flags follow the Instruction Set Manual DS40002198.
+use Rattle.std.specs.Prelude.{ℕ, ◌+◌, ◌*◌, ◌%◌, ◌==◌, Bool, true, false, not, if◌then◌else◌, List, Option, Some, None, slice_set}
+use Rattle.avr_model.specs.declared.instruction.Instr.{Instr}
+use Rattle.avr_model.specs.declared.instruction.Instr.TheVariants as i
+use Rattle.avr_model.specs.declared.instruction.BinaryOp.{BinaryOp}
+use Rattle.avr_model.specs.declared.instruction.BinaryOp.TheVariants as binary
+use Rattle.avr_model.specs.declared.instruction.ImmediateOp.{ImmediateOp}
+use Rattle.avr_model.specs.declared.instruction.ImmediateOp.TheVariants as immediate
+use Rattle.avr_model.specs.declared.instruction.UnaryOp.{UnaryOp}
+use Rattle.avr_model.specs.declared.instruction.UnaryOp.TheVariants as unary
+use Rattle.avr_model.specs.declared.operation.Logic.{Logic}
+use Rattle.avr_model.specs.declared.operation.Logic.TheVariants as logic
+use Rattle.avr_model.specs.declared.operation.Shift.{Shift}
+use Rattle.avr_model.specs.declared.operation.Shift.TheVariants as shift
+use Rattle.avr_model.specs.declared.operation.Mul.{Mul}
+use Rattle.avr_model.specs.declared.operation.Mul.TheVariants as product
+use Rattle.avr_model.specs.State.{minus16}
+use Rattle.bit_domain.specs.declared.bits.Tri.{Tri}
+use Rattle.bit_domain.specs.declared.bits.Tri.TheVariants.{Zero, One}
+use Rattle.bit_domain.specs.declared.bytes.TriByte.{TriByte}
+use Rattle.bit_domain.specs.TriByte.{tri_at, byte_of, byte_known, byte_with, byte_constant}
+use Rattle.abs_alu.specs.Sums.{abs_add, abs_sub}
+use Rattle.abs_alu.specs.Bitwise.{abs_logic, abs_com, abs_step_one, abs_shift}
+use Rattle.abs_alu.specs.Product.{abs_mul}
+use Rattle.abs_alu.specs.Words.{abs_wide}
+use Rattle.sp_domain.specs.declared.tags.Tag.{Tag}
+use Rattle.sp_domain.specs.declared.tags.Tag.TheVariants as tag
+use Rattle.sp_domain.specs.declared.tags.CarryTag.{CarryTag}
+use Rattle.sp_domain.specs.declared.tags.CarryTag.TheVariants as carry
+use Rattle.sp_domain.specs.Tags.{pair_below, low_less, borrow_of, high_less}
+use Rattle.abs_state.specs.declared.values.AbsByte.{AbsByte}
+use Rattle.abs_state.specs.declared.values.AbsFlags.{AbsFlags}
+use Rattle.abs_state.specs.declared.state.AbsState.{AbsState}
+use Rattle.abs_state.specs.Values.{value_at, untagged, known}
+use Rattle.mask_states.specs.declared.keys.NodeKey.{NodeKey}
+use Rattle.local_rules.specs.declared.computed.Computed.{Computed}
+use Rattle.local_rules.specs.Raw.{Raw, setting, next, one}
+
+-- ---- operands and results
+
+abbrev pub value : AbsState → ℕ → AbsByte
+value s r = value_at s.registers r
+
+abbrev pub bits : AbsState → ℕ → TriByte
+bits s r = (value s r).bits
+
+-- the carry flag
+abbrev pub carry_bit : AbsState → Tri
+carry_bit s = tri_at s.flags.bits 0
+
+abbrev pub with_bits : Tag → TriByte → AbsByte
+with_bits t b = record { tag = t; bits = b }
+
+abbrev pub set : AbsState → ℕ → AbsByte → List AbsByte
+set s d v = slice_set s.registers d v
+
+-- registers r and r + 1, the low byte first
+abbrev pub set_pair : List AbsByte → ℕ → AbsByte → AbsByte → List AbsByte
+set_pair registers r lo hi = slice_set (slice_set registers r lo) (r + 1) hi
+
+-- Flags that are written, C among them. They are those of the frame's entry no more.
+abbrev pub with_carry : TriByte → CarryTag → AbsFlags
+with_carry b c = record { entry = false; bits = b; carry = c }
+
+-- flags that are written, but C isn't
+abbrev pub but_carry : AbsState → TriByte → AbsFlags
+but_carry s b = with_carry b s.flags.carry
+
+-- what an instruction leaves that sets registers and flags alone
+abbrev pub both_set : List AbsByte → AbsFlags → Computed
+both_set registers flags = record { registers = registers; flags = flags }
+
+abbrev pub going_with : NodeKey → AbsState → Computed → Raw
+going_with k s c = setting k s c.registers c.flags
+
+-- with what was computed, where something was
+abbrev pub going_by : NodeKey → AbsState → Option Computed → Raw → Raw
+going_by k s None other = other
+going_by k s (Some c) other = going_with k s c
+
+-- one register is set, and the flags stay
+abbrev pub register_set : AbsState → ℕ → AbsByte → Computed
+register_set s d v = both_set (set s d v) s.flags
+
+-- ---- sums and differences
+
+abbrev pub sum_after : AbsState → ℕ → TriByte → Tri → Computed
+sum_after s d b c =
+    let r = abs_add (bits s d) b c s.flags.bits in
+    both_set (set s d (untagged r.0)) (with_carry r.1 carry.None)
+
+abbrev pub sum_row : NodeKey → AbsState → ℕ → TriByte → Tri → Raw
+sum_row k s d b c = going_with k s (sum_after s d b c)
+
+-- a comparison sets the flags alone
+abbrev pub compare_after : AbsState → TriByte → TriByte → Tri → Bool → Computed
+compare_after s a b borrow keep_zero = both_set s.registers (with_carry (abs_sub a b borrow keep_zero s.flags.bits).1 carry.None)
+
+abbrev pub compare_row : NodeKey → AbsState → TriByte → TriByte → Tri → Bool → Raw
+compare_row k s a b borrow keep_zero = going_with k s (compare_after s a b borrow keep_zero)
+
+-- a difference, with the tag of the result and that of the borrow
+abbrev pub difference_after : AbsState → ℕ → TriByte → TriByte → Tri → Bool → Tag → CarryTag → Computed
+difference_after s d a b borrow keep_zero t c =
+    let r = abs_sub a b borrow keep_zero s.flags.bits in
+    both_set (set s d (with_bits t r.0)) (with_carry r.1 c)
+
+abbrev pub difference_row : NodeKey → AbsState → ℕ → TriByte → TriByte → Tri → Bool → Tag → CarryTag → Raw
+difference_row k s d a b borrow keep_zero t c = going_with k s (difference_after s d a b borrow keep_zero t c)
+
+-- A known number less from the low byte of base - j, and from the high byte of base - k under the borrow of the low one.
+abbrev pub low_tag : Tag → Option ℕ → Tag
+low_tag t None = tag.None
+low_tag t (Some l) = low_less t l
+
+abbrev pub borrow_tag : Tag → Option ℕ → CarryTag
+borrow_tag t None = carry.None
+borrow_tag t (Some l) = borrow_of t l
+
+abbrev pub high_tag : Tag → Option ℕ → CarryTag → Tag
+high_tag t None c = tag.None
+high_tag t (Some m) c = high_less t m c
+
+-- a register less itself is 0, whatever it holds: as 0 - 0
+abbrev pub or_nothing : ℕ → ℕ → TriByte → TriByte
+or_nothing d r b = if d == r then byte_known 0 else b
+
+abbrev pub sub_after : AbsState → ℕ → TriByte → TriByte → Option ℕ → Computed
+sub_after s d a b number = difference_after s d a b Zero false (low_tag (value s d).tag number) (borrow_tag (value s d).tag number)
+
+abbrev pub sub_row : NodeKey → AbsState → ℕ → TriByte → TriByte → Option ℕ → Raw
+sub_row k s d a b number = going_with k s (sub_after s d a b number)
+
+abbrev pub sbc_after : AbsState → ℕ → TriByte → Option ℕ → Computed
+sbc_after s d b number = difference_after s d (bits s d) b (carry_bit s) true (high_tag (value s d).tag number s.flags.carry) carry.None
+
+abbrev pub sbc_row : NodeKey → AbsState → ℕ → TriByte → Option ℕ → Raw
+sbc_row k s d b number = going_with k s (sbc_after s d b number)
+
+-- ---- bit by bit
+
+abbrev pub logic_after : AbsState → Logic → ℕ → TriByte → TriByte → Tag → Computed
+logic_after s op d a b t =
+    let r = abs_logic op a b s.flags.bits in
+    both_set (set s d (with_bits t r.0)) (but_carry s r.1)
+
+abbrev pub logic_row : NodeKey → AbsState → Logic → ℕ → TriByte → TriByte → Tag → Raw
+logic_row k s op d a b t = going_with k s (logic_after s op d a b t)
+
+-- `and` and `or` of a register with itself change no bit, and keep the tag
+abbrev pub kept_tag : AbsState → ℕ → ℕ → Tag
+kept_tag s d r = if d == r then (value s d).tag else tag.None
+
+abbrev pub step_after : AbsState → Bool → ℕ → Computed
+step_after s up d =
+    let r = abs_step_one up (bits s d) s.flags.bits in
+    both_set (set s d (untagged r.0)) (but_carry s r.1)
+
+abbrev pub step_row : NodeKey → AbsState → Bool → ℕ → Raw
+step_row k s up d = going_with k s (step_after s up d)
+
+abbrev pub shift_after : AbsState → Shift → ℕ → Computed
+shift_after s op d =
+    let r = abs_shift op (bits s d) s.flags.bits in
+    both_set (set s d (untagged r.0)) (with_carry r.1 carry.None)
+
+abbrev pub shift_row : NodeKey → AbsState → Shift → ℕ → Raw
+shift_row k s op d = going_with k s (shift_after s op d)
+
+abbrev pub com_after : AbsState → ℕ → Computed
+com_after s d =
+    let r = abs_com (bits s d) s.flags.bits in
+    both_set (set s d (untagged r.0)) (with_carry r.1 carry.None)
+
+abbrev pub com_row : NodeKey → AbsState → ℕ → Raw
+com_row k s d = going_with k s (com_after s d)
+
+-- the halves of a byte exchanged
+abbrev pub swapped : TriByte → TriByte
+swapped b = byte_of (λ i. tri_at b ((i + 4) % 8))
+
+-- ---- words
+
+abbrev pub product_after : AbsState → Mul → ℕ → ℕ → Computed
+product_after s op d r =
+    let p = abs_mul op (bits s d) (bits s r) s.flags.bits in
+    both_set (set_pair s.registers 0 (untagged p.0.0) (untagged p.0.1)) (with_carry p.1 carry.None)
+
+abbrev pub product_row : NodeKey → AbsState → Mul → ℕ → ℕ → Raw
+product_row k s op d r = going_with k s (product_after s op d r)
+
+-- registers d and d + 1 become r and r + 1
+abbrev pub pair_copied : AbsState → ℕ → ℕ → Computed
+pair_copied s d r = both_set (set_pair s.registers d (value s r) (value s (r + 1))) s.flags
+
+-- a pair plus or minus a number: its bits, and the tags of a pair that is base - k
+abbrev pub down_by : Bool → ℕ → ℕ
+down_by up n = if up then minus16 0 n else n
+
+abbrev pub pair_tags : AbsState → ℕ → Bool → ℕ → Tag × Tag
+pair_tags s d up n = pair_below (value s d).tag (value s (d + 1)).tag (down_by up n)
+
+abbrev pub pair_moved : AbsState → ℕ → Bool → ℕ → List AbsByte
+pair_moved s d up n =
+    let p = abs_wide up (bits s d, bits s (d + 1)) n s.flags.bits in
+    set_pair s.registers d (with_bits (pair_tags s d up n).0 p.0.0) (with_bits (pair_tags s d up n).1 p.0.1)
+
+abbrev pub wide_after : AbsState → Bool → ℕ → ℕ → Computed
+wide_after s up d n =
+    both_set (pair_moved s d up n) (with_carry (abs_wide up (bits s d, bits s (d + 1)) n s.flags.bits).1 carry.None)
+
+abbrev pub wide_row : NodeKey → AbsState → Bool → ℕ → ℕ → Raw
+wide_row k s up d n = going_with k s (wide_after s up d n)
+
+-- ---- flags
+
+-- I is in the key
+abbrev pub interrupts_row : NodeKey → AbsState → Bool → Raw
+interrupts_row k s true = one (record (next k) { i = true; delay = not k.i }) s
+interrupts_row k s false = one (record (next k) { i = false }) s
+
+abbrev pub tri_of_bool : Bool → Tri
+tri_of_bool true = One
+tri_of_bool false = Zero
+
+-- the carry tag ends where C is written
+abbrev pub carry_tag_at : AbsState → ℕ → CarryTag
+carry_tag_at s n = if n == 0 then carry.None else s.flags.carry
+
+abbrev pub flag_after : AbsState → ℕ → Bool → Computed
+flag_after s n on = both_set s.registers (with_carry (byte_with s.flags.bits n (tri_of_bool on)) (carry_tag_at s n))
+
+abbrev pub flag_row : NodeKey → AbsState → ℕ → Bool → Raw
+flag_row k s n on = if n == 7 then interrupts_row k s on else going_with k s (flag_after s n on)
+
+-- bit b of register d becomes T, and T that bit
+abbrev pub bit_loaded : AbsState → ℕ → ℕ → Computed
+bit_loaded s d b = register_set s d (untagged (byte_with (bits s d) b (tri_at s.flags.bits 6)))
+
+abbrev pub bit_stored : AbsState → ℕ → ℕ → Computed
+bit_stored s d b = both_set s.registers (with_carry (byte_with s.flags.bits 6 (tri_at (bits s d) b)) s.flags.carry)
+
+-- ---- by the operation
+
+abbrev pub immediate_after : AbsState → ImmediateOp → ℕ → ℕ → Computed
+immediate_after s immediate.Cpi d n = compare_after s (bits s d) (byte_known n) Zero false
+immediate_after s immediate.Sbci d n = sbc_after s d (byte_known n) (Some n)
+immediate_after s immediate.Subi d n = sub_after s d (bits s d) (byte_known n) (Some n)
+immediate_after s immediate.Ori d n = logic_after s logic.Or d (bits s d) (byte_known n) tag.None
+immediate_after s immediate.Andi d n = logic_after s logic.And d (bits s d) (byte_known n) tag.None
+immediate_after s immediate.Ldi d n = register_set s d (known n)
+
+abbrev pub immediate_row : NodeKey → AbsState → ImmediateOp → ℕ → ℕ → Raw
+immediate_row k s op d n = going_with k s (immediate_after s op d n)
+
+abbrev pub unary_after : AbsState → UnaryOp → ℕ → Computed
+unary_after s unary.Com d = com_after s d
+unary_after s unary.Neg d = difference_after s d (byte_known 0) (bits s d) Zero false tag.None carry.None
+unary_after s unary.Swap d = register_set s d (untagged (swapped (bits s d)))
+unary_after s unary.Inc d = step_after s true d
+unary_after s unary.Asr d = shift_after s shift.Asr d
+unary_after s unary.Lsr d = shift_after s shift.Lsr d
+unary_after s unary.Ror d = shift_after s shift.Ror d
+unary_after s unary.Dec d = step_after s false d
+
+abbrev pub unary_row : NodeKey → AbsState → UnaryOp → ℕ → Raw
+unary_row k s op d = going_with k s (unary_after s op d)
+
+-- all but `cpse`
+abbrev pub binary_after : AbsState → BinaryOp → ℕ → ℕ → Option Computed
+binary_after s binary.Cpc d r = Some (compare_after s (bits s d) (bits s r) (carry_bit s) true)
+binary_after s binary.Sbc d r = Some (sbc_after s d (bits s r) (byte_constant (bits s r)))
+binary_after s binary.Add d r = Some (sum_after s d (bits s r) Zero)
+binary_after s binary.Cpse d r = None
+binary_after s binary.Cp d r = Some (compare_after s (bits s d) (bits s r) Zero false)
+binary_after s binary.Sub d r = Some (sub_after s d (or_nothing d r (bits s d)) (or_nothing d r (bits s r)) (byte_constant (bits s r)))
+binary_after s binary.Adc d r = Some (sum_after s d (bits s r) (carry_bit s))
+binary_after s binary.And d r = Some (logic_after s logic.And d (bits s d) (bits s r) (kept_tag s d r))
+binary_after s binary.Eor d r = Some (logic_after s logic.Eor d (or_nothing d r (bits s d)) (or_nothing d r (bits s r)) tag.None)
+binary_after s binary.Or d r = Some (logic_after s logic.Or d (bits s d) (bits s r) (kept_tag s d r))
+binary_after s binary.Mov d r = Some (register_set s d (value s r))
+binary_after s binary.Mul d r = Some (product_after s product.Mul d r)
+
+-- ---- by the instruction
+
+-- I is in the key
+abbrev pub flag_unless_i : AbsState → ℕ → Bool → Option Computed
+flag_unless_i s n on = if n == 7 then None else Some (flag_after s n on)
+
+-- what is computed by an instruction that sets registers and flags alone; none by any other, and by loads
+abbrev pub computed_by : AbsState → Instr → Option Computed
+computed_by s (i.Movw d r) = Some (pair_copied s (2 * d) (2 * r))
+computed_by s (i.Muls d r) = Some (product_after s product.Muls d r)
+computed_by s (i.Mulsu d r) = Some (product_after s product.Mulsu d r)
+computed_by s (i.Fmul d r) = Some (product_after s product.Fmul d r)
+computed_by s (i.Fmuls d r) = Some (product_after s product.Fmuls d r)
+computed_by s (i.Fmulsu d r) = Some (product_after s product.Fmulsu d r)
+computed_by s (i.Binary op d r) = binary_after s op d r
+computed_by s (i.Immediate op d n) = Some (immediate_after s op d n)
+computed_by s (i.Unary op d) = Some (unary_after s op d)
+computed_by s (i.Adiw d n) = Some (wide_after s true (2 * d) n)
+computed_by s (i.Sbiw d n) = Some (wide_after s false (2 * d) n)
+computed_by s (i.Bset n) = flag_unless_i s n true
+computed_by s (i.Bclr n) = flag_unless_i s n false
+computed_by s (i.Bld d b) = Some (bit_loaded s d b)
+computed_by s (i.Bst d b) = Some (bit_stored s d b)
+computed_by s _ = None

@@ -1,0 +1,152 @@
+-- What a byte that is written to data space changes. Source: own.
+use Rattle.std.specs.Prelude.{ℕ, ◌+◌, ◌*◌, ◌-◌, ◌%◌, ◌==◌, ◌&&◌, ◌||◌, Bool, true, false, not, nat_lt, nat_le, if◌then◌else◌, List, [], ◌∷◌, map, filter, Option, Some, None, slice_set}
+use Rattle.std.specs.Int.{bit_at}
+use Rattle.avr_model.specs.declared.assumption.Entry.{Entry}
+use Rattle.avr_model.specs.Bits.{all_below}
+use Rattle.avr_model.specs.Assumptions.{store_line, is_proved}
+use Rattle.avr_model.specs.Sites.{is_fixed}
+use Rattle.avr_model.specs.State.{RAMEND, SIZE, SPL, SPH, SREG, low, high, minus16}
+use Rattle.bit_domain.specs.declared.bits.Tri.{Tri}
+use Rattle.bit_domain.specs.declared.bits.Tri.TheVariants.{Zero, One, Any}
+use Rattle.bit_domain.specs.declared.bytes.TriByte.{TriByte}
+use Rattle.bit_domain.specs.TriByte.{tri_at, byte_with, byte_constant}
+use Rattle.sp_domain.specs.declared.tags.Tag.{Tag}
+use Rattle.sp_domain.specs.declared.tags.Tag.TheVariants as tag
+use Rattle.sp_domain.specs.declared.tags.CarryTag.TheVariants as carry
+use Rattle.sp_domain.specs.Slots.{resized}
+use Rattle.abs_state.specs.declared.values.AbsByte.{AbsByte}
+use Rattle.abs_state.specs.declared.values.AbsFlags.{AbsFlags}
+use Rattle.abs_state.specs.declared.state.AbsState.{AbsState}
+use Rattle.mask_states.specs.declared.keys.NodeKey.{NodeKey}
+use Rattle.mask_states.specs.declared.keys.Kind.{Kind}
+use Rattle.mask_states.specs.declared.keys.Kind.TheVariants.{Root, Call, Vector}
+use Rattle.mask_states.specs.declared.keys.SpForm.{SpForm}
+use Rattle.mask_states.specs.declared.keys.SpForm.TheVariants.{Closed, Open}
+use Rattle.mask_states.specs.declared.keys.High.{High}
+use Rattle.mask_states.specs.declared.keys.High.TheVariants.{Known, Tag as Tagged}
+use Rattle.mask_states.specs.Keys.{offset_of}
+use Rattle.mask_states.specs.Splits.{splits}
+use Rattle.local_rules.specs.declared.local.NodeFault.TheVariants.{UntrackedSp, TooDeep, UnknownPointer}
+use Rattle.local_rules.specs.Raw.{Raw, moves_to, one, fails, all_of}
+use Rattle.local_rules.specs.Registers.{bits}
+use Rattle.local_rules.specs.declared.pointers.Pointed.{Pointed}
+
+-- ---- the stack pointer
+
+-- the high part that a byte gives: known in the root, by its tag elsewhere
+abbrev pub known_high : Option ℕ → Option High
+known_high None = None
+known_high (Some h) = Some (Known h)
+
+abbrev pub tagged_high : Tag → Option High
+tagged_high (tag.SpHi k) = Some (Tagged k)
+tagged_high _ = None
+
+abbrev pub high_part : Kind → AbsByte → Option High
+high_part Root v = known_high (byte_constant v.bits)
+high_part Call v = tagged_high v.tag
+high_part (Vector n) v = tagged_high v.tag
+
+-- A write of SPH opens the pair, or replaces the high part of an open one.
+abbrev pub opening : Option High → NodeKey → AbsState → ℕ → Raw
+opening None k s pc = fails (UntrackedSp pc)
+opening (Some h) k s pc = one (record k { sp = Open (offset_of k.sp) h }) s
+
+-- the offset at which the root's stack pointer is 256 times its high part plus a low byte; none above the top of SRAM
+abbrev pub root_offset : ℕ → Option ℕ → Option ℕ
+root_offset h None = None
+root_offset h (Some l) = if nat_le (256 * h + l) RAMEND then Some (RAMEND - (256 * h + l)) else None
+
+-- base - k, where the low byte says the same of it; a k from 0x8000 up would be above the base
+abbrev pub tagged_offset : ℕ → Tag → Option ℕ
+tagged_offset k (tag.SpLo j) = if (j == k % 256) && nat_lt k 0x8000 then Some k else None
+tagged_offset k _ = None
+
+-- the offset at which a low byte closes the pair
+abbrev pub root_closing : SpForm → Option ℕ → Option ℕ
+root_closing (Closed offset) l = root_offset (high (RAMEND - offset)) l
+root_closing (Open offset (Known h)) l = root_offset h l
+root_closing (Open offset (Tagged k)) l = None
+
+abbrev pub frame_closing : SpForm → Tag → Option ℕ
+frame_closing (Closed offset) t = tagged_offset offset t
+frame_closing (Open offset (Known h)) t = None
+frame_closing (Open offset (Tagged k)) t = tagged_offset k t
+
+abbrev pub closing_offset : Kind → SpForm → AbsByte → Option ℕ
+closing_offset Root sp v = root_closing sp (byte_constant v.bits)
+closing_offset Call sp v = frame_closing sp v.tag
+closing_offset (Vector n) sp v = frame_closing sp v.tag
+
+-- Slots are cut at the new offset, or free ones are added up to it.
+abbrev pub closing : Option ℕ → NodeKey → AbsState → ℕ → Raw
+closing None k s pc = fails (UntrackedSp pc)
+closing (Some n) k s pc =
+    if nat_le n SIZE then one (record k { sp = Closed n }) (record s { slots = resized n s.slots }) else fails (TooDeep pc n)
+
+-- ---- the status register
+
+abbrev pub is_entry_flags : Tag → Bool
+is_entry_flags tag.EntryFlags = true
+is_entry_flags _ = false
+
+abbrev pub flags_written : AbsByte → AbsFlags
+flags_written v = record { entry = is_entry_flags v.tag; bits = byte_with v.bits 7 Any; carry = carry.None }
+
+-- the key with this I; after `out` that turns it on, one more instruction executes before any interrupt
+abbrev pub with_i : NodeKey → Bool → Bool → NodeKey
+with_i k is_out on = record k { i = on; delay = is_out && on && not k.i }
+
+-- one successor for each value of I that is permitted
+abbrev pub sreg_written : Tri → NodeKey → AbsState → Bool → Raw
+sreg_written Zero k s is_out = one (with_i k is_out false) s
+sreg_written One k s is_out = one (with_i k is_out true) s
+sreg_written Any k s is_out =
+    moves_to (record { key = with_i k is_out false; state = s } ∷ record { key = with_i k is_out true; state = s } ∷ [])
+
+-- ---- at an address
+
+-- one successor for each value of the enable bits that is permitted; other addresses hold none, and nothing changes
+abbrev pub masks_written : NodeKey → AbsState → ℕ → AbsByte → Raw
+masks_written k s a v = moves_to (map (λ m. record { key = record k { masks = m }; state = s }) (splits k.masks a v.bits))
+
+-- What a byte does that is written to a known address, at the word pc, from a node whose key and state are what they are
+-- otherwise after the instruction.
+unfoldable pub written_at : ℕ → NodeKey → AbsState → Bool → ℕ → AbsByte → Raw
+written_at pc k s is_out a v =
+    if nat_lt a 0x20 then one k (record s { registers = slice_set s.registers a v })
+    else (if a == SPL then closing (closing_offset k.inst.kind k.sp v) k s pc
+    else (if a == SPH then opening (high_part k.inst.kind v) k s pc
+    else (if a == SREG then sreg_written (tri_at v.bits 7) k (record s { flags = flags_written v }) is_out
+    else masks_written k s a v)))
+
+-- ---- through a pointer
+
+-- the bits permit the number n
+abbrev pub permits : Tri → ℕ → Bool
+permits Zero n = n == 0
+permits One n = n == 1
+permits Any n = true
+
+abbrev pub has : TriByte → ℕ → Bool
+has t x = all_below 8 (λ i. permits (tri_at t i) (bit_at x i))
+
+-- some value of registers r and r + 1 that their bits permit, plus a number, is the address
+abbrev pub reaches : AbsState → ℕ → ℕ → ℕ → Bool
+reaches s r up a = has (bits s r) (low (minus16 a up)) && has (bits s (r + 1)) (high (minus16 a up))
+
+-- at a fixed site: the address is known
+abbrev pub fixed_write : Option ℕ → ℕ → NodeKey → AbsState → AbsByte → Raw
+fixed_write None pc k s v = fails (UnknownPointer pc)
+fixed_write (Some a) pc k s v = written_at pc k s false a v
+
+-- At an unfixed site: one successor in which the byte changes nothing that is known, and those of each listed address that can be met.
+abbrev pub listed_writes : ℕ → NodeKey → AbsState → List ℕ → AbsByte → Raw
+listed_writes pc k s addresses v = all_of (one k s ∷ map (λ a. written_at pc k s false a v) addresses)
+
+-- A byte v is stored through registers r and r + 1 plus a number, as they were in the state `was`.
+abbrev pub pointer_write : List ℕ → List Entry → AbsState → ℕ → ℕ → Pointed → ℕ → NodeKey → AbsState → AbsByte → Raw
+pointer_write words A was r up p pc k s v =
+    if is_fixed words pc || is_proved A pc
+    then fixed_write p.constant pc k s v
+    else listed_writes pc k s (filter (λ a. reaches was r up a) (store_line A pc)) v
