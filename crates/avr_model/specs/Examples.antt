@@ -3,11 +3,24 @@ use Rattle.std.specs.Prelude.{ℕ, ◌≡◌, refl, true, false, List, [], ◌�
 use Rattle.std.specs.Fmt.{digits}
 use Rattle.avr_model.specs.declared.instruction.Instr.TheVariants as i
 use Rattle.avr_model.specs.declared.instruction.Base.TheVariants as base
+use Rattle.avr_model.specs.declared.device.TheConstants as device
+use Rattle.avr_model.specs.Image.{WORDS}
+use Rattle.avr_model.specs.State.{SIZE, RAMEND}
 use Rattle.avr_model.specs.Table.{decoded, length_of}
 use Rattle.avr_model.specs.Text.{text_of}
 use Rattle.avr_model.specs.Sites.{is_scratch, is_fixed, path_behind, is_loaded_behind}
 use Rattle.avr_model.specs.Bits.{any_below, all_below, number_of}
 use Rattle.avr_model.specs.Vectors.{row_of, enable_of, held_bits, written_enables}
+
+-- the numbers of the device are those that code reads
+pub code_has_words : WORDS ≡ device.WORDS
+code_has_words = refl
+
+pub code_has_size : SIZE ≡ device.SIZE
+code_has_size = refl
+
+pub code_has_ramend : RAMEND ≡ device.RAMEND
+code_has_ramend = refl
 
 -- flash that begins with these words, and is erased behind them
 abbrev pub firmware : List ℕ → List ℕ

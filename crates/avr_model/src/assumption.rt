@@ -5,7 +5,7 @@ ghost use Rattle.std.specs.Prelude.{◌≡◌, ℕ, List};
 use std::marker::Model;
 
 /// A list of words or addresses, seen as the list of its numbers.
-#[derive(Debug, Drop)]
+#[derive(Drop)]
 pub struct Items {
     items: Vec<u16>,
 }
@@ -40,7 +40,7 @@ impl Items {
 }
 
 /// One line of an assumption list. The first number is the word address of the site. Source: own.
-#[derive(Debug, Drop)]
+#[derive(Drop)]
 pub enum Entry {
     /// The indirect transfer at the site goes to one of these words.
     Jump(u16, Items),

@@ -36,7 +36,7 @@ pub type FarDistance = Operand<0, 4095>;
 pub type NearDistance = Operand<0, 127>;
 
 /// What is done to two registers, d and r in that order.
-#[derive(Clone, Copy, PartialEq, Eq, Debug)]
+#[derive(Clone, Copy, PartialEq, Eq)]
 pub enum BinaryOp {
     /// `cpc`: the flags of d - r - C; nothing else changes.
     Cpc,
@@ -65,7 +65,7 @@ pub enum BinaryOp {
 }
 
 /// What is done to a register d and a byte K.
-#[derive(Clone, Copy, PartialEq, Eq, Debug)]
+#[derive(Clone, Copy, PartialEq, Eq)]
 pub enum ImmediateOp {
     /// `cpi`: the flags of d - K; nothing else changes.
     Cpi,
@@ -82,7 +82,7 @@ pub enum ImmediateOp {
 }
 
 /// What is done to a register d.
-#[derive(Clone, Copy, PartialEq, Eq, Debug)]
+#[derive(Clone, Copy, PartialEq, Eq)]
 pub enum UnaryOp {
     /// `com`: d becomes 255 - d.
     Com,
@@ -103,7 +103,7 @@ pub enum UnaryOp {
 }
 
 /// A pointer that takes a displacement.
-#[derive(Clone, Copy, PartialEq, Eq, Debug)]
+#[derive(Clone, Copy, PartialEq, Eq)]
 pub enum Base {
     /// Registers 28 and 29.
     Y,
@@ -112,7 +112,7 @@ pub enum Base {
 }
 
 /// A pointer, and how it changes.
-#[derive(Clone, Copy, PartialEq, Eq, Debug)]
+#[derive(Clone, Copy, PartialEq, Eq)]
 pub enum Pointer {
     /// `Z+`: the address is Z, which then grows by one.
     ZPlus,
@@ -133,7 +133,7 @@ pub enum Pointer {
 /// An instruction. Its fields stand in the order in which the manual writes the operands: d is a register or pair that is
 /// set or tested, r one that is read, K a number, k an address or a distance, A an I/O address, b the number of a bit of a
 /// byte and s that of a flag of SREG (C Z N V S H T I, from 0 on). Distances count from the next word.
-#[derive(Clone, Copy, PartialEq, Eq, Debug)]
+#[derive(Clone, Copy, PartialEq, Eq)]
 pub enum Instr {
     /// `nop`: nothing.
     Nop,

@@ -5,6 +5,7 @@
 
 pub mod assumption;
 pub mod choice;
+pub mod device;
 pub mod effect;
 pub mod instruction;
 pub mod operand;

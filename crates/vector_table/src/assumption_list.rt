@@ -30,7 +30,7 @@ pub enum AssumeFault {
 /// What a user assumes of a firmware: at most 4,096 entries, which ascend strictly by their sites, and at one site as jump,
 /// store, prove. Each site is a word address, and each list has 1 to 64 strictly ascending items: word addresses of a jump,
 /// protected addresses of a store. Seen as the list of its entries. Source: own.
-#[derive(Debug, Drop)]
+#[derive(Drop)]
 pub struct Assumptions {
     entries: Vec<Entry>,
 }

@@ -13,7 +13,7 @@ use flash_image::Flash;
 use vector_table::Assumptions;
 
 /// What is told of a replay.
-#[derive(Clone, Copy, Debug, PartialEq, Eq)]
+#[derive(Clone, Copy, PartialEq, Eq)]
 pub struct ReplayReport {
     /// How many steps were done. A choice at which the replay stops is none.
     pub steps: u32,

@@ -154,7 +154,7 @@ fn small_firmwares_are_replayed(rt: HostRuntime) -> Result<(), Fail> {
         text.extend_from_slice(lines)?;
         let mut reader = LineReader::new(&text);
         let schedule = Schedule::read(rt.alloc(), &mut reader)?;
-        assert_eq!(rt; replay(&flash, &assumptions, &schedule), due);
+        assert!(rt; replay(&flash, &assumptions, &schedule) == due);
     }
     Ok(())
 }

@@ -1,0 +1,10 @@
+//! The numbers of the device. Source: the ATmega328P's data sheet.
+
+/// How many words flash has (32 KiB). Word addresses count modulo this number.
+pub const WORDS: u16 = 16384;
+
+/// How many bytes SRAM has. They end at `RAMEND`.
+pub const SIZE: u16 = 2048;
+
+/// The last address of SRAM, where the stack begins.
+pub const RAMEND: u16 = 0x08FF;
