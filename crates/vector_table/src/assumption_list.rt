@@ -1,7 +1,10 @@
 //! Lists of assumptions.
 
-ghost use Rattle.std.specs.Prelude.{◌≡◌, ◌≤◌, ◌<◌, ◌↔◌, ◌++◌, [], ◌∷◌, true, false, not, length, find, slice_get, None, Err, IfOk, OnOk, OnErr, IsTrue, IsErrOf};
+ghost use Rattle.std.specs.Prelude.{◌≡◌, ◌≤◌, ◌<◌, ◌↔◌, ◌++◌, [], ◌∷◌, true, false, not, length, find, slice_get, None, Err, IfOk, IfSome, OnOk, OnErr, IsTrue, IsErrOf};
+ghost use Rattle.std.specs.List.{All};
 ghost use Rattle.std.specs.Option.{option_copied};
+ghost use Rattle.avr_model.specs.Image.{WORDS};
+ghost use Rattle.avr_model.specs.Vectors as vectors;
 ghost use Rattle.avr_model.specs.Assumptions as assumptions;
 ghost use Rattle.avr_model.specs.Assumptions.{site_of, kind_of, jump_line, store_line, is_proved, jump_in, store_in, proves};
 ghost use Rattle.vector_table.specs.Entries.{AreEntries, are_in_order, is_entry, is_above_last, is_under, most_entries};
@@ -19,7 +22,7 @@ use std::alloc::{AllocError, Global};
 use std::marker::Model;
 
 /// Why an entry is not appended.
-#[derive(Clone, Copy, PartialEq, Eq, Debug)]
+#[derive(Clone, Copy)]
 pub enum AssumeFault {
     /// The entry is not above the last one by its site, and at one site as jump, store, prove.
     Order,
@@ -77,14 +80,16 @@ impl Assumptions {
 
     /// The words that the `jump` entry of this site lists: None where there is none.
     pub fn jumps(&self, site: u16) -> Option<&[u16]>
-        ensures { option_copied result ≡ jump_line self.now site }
+        ensures words { option_copied result ≡ jump_line self.now site }
+        ensures fit { IfSome result (λ words. All (λ w. w < WORDS) words.now) }
     {
         jump_words(first_from(&self.entries, site, JUMP)?, site)
     }
 
     /// The protected addresses that the `store` entry of this site lists: none where there is no such entry.
     pub fn stores(&self, site: u16) -> &[u16]
-        ensures { result.now ≡ store_line self.now site }
+        ensures addresses { result.now ≡ store_line self.now site }
+        ensures fit { All (λ a. vectors.is_protected a ≡ true) result.now }
     {
         match first_from(&self.entries, site, STORE) {
             Some(entry) => store_addresses(entry, site),

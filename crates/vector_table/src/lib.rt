@@ -3,6 +3,7 @@
 
 pub mod assumption_list;
 pub mod enable_bits;
+pub mod laws;
 pub mod rows;
 pub mod table;
 

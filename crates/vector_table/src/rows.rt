@@ -1,7 +1,7 @@
 //! The rows of the table of vectors. Source: the data sheet's interrupt vectors and register summary.
 
 /// Where a vector is entered, and where its enable bit stands.
-#[derive(Clone, Copy, PartialEq, Eq, Debug)]
+#[derive(Clone, Copy)]
 pub struct Row {
     /// The word address at which the vector is entered.
     pub word: u16,

@@ -1,7 +1,7 @@
 //! The data sheet's table, and one list of assumptions.
 
 use crate::{
-    AssumeFault, Assumptions, Entry, Items, Masks, Row, enable_of, held, is_protected, row, write,
+    AssumeFault, Assumptions, Entry, Items, Masks, enable_of, held, is_protected, row, write,
 };
 use std::test::Fail;
 
@@ -35,15 +35,23 @@ static DATA_SHEET: [(u8, u16, u16, u8); 25] = [
     (26, 0x0032, 0x57, 7),
 ];
 
+// Whether the row of the data sheet is that of the table, by its vector, by its enable bit and by a write of that bit alone.
+fn is_vector(v: u8, word: u16, address: u16, bit: u8) -> bool {
+    let Some(row) = row(v) else {
+        return false;
+    };
+    bit < 8
+        && (row.word, row.address, row.bit) == (word, address, bit)
+        && enable_of(address, bit) == Some(v)
+        && is_protected(address)
+        && held(address) >> bit & 1 == 1
+        && write(Masks::none(), address, 1 << bit).has(v)
+}
+
 #[test]
 fn vectors_are_those_of_the_data_sheet(rt: HostRuntime) {
     for &(v, word, address, bit) in &DATA_SHEET {
-        assert_eq!(rt; row(v), Some(Row { word, address, bit }), "{v}");
-        assert_eq!(rt; enable_of(address, bit), Some(v), "{v}");
-        assert!(rt; is_protected(address), "{address}");
-        assert!(rt; bit < 8);
-        assert_eq!(rt; held(address) >> bit & 1, 1, "{v}");
-        assert!(rt; write(Masks::none(), address, 1 << bit).has(v), "{v}");
+        assert!(rt; is_vector(v, word, address, bit), "vector {v}");
     }
 }
 
@@ -60,25 +68,33 @@ static HELD: [(u16, u8, bool); 6] = [
 #[test]
 fn held_bits_and_protected_addresses(rt: HostRuntime) {
     for &(address, bits, protected) in &HELD {
-        assert_eq!(rt; held(address), bits, "{address}");
-        assert_eq!(rt; is_protected(address), protected, "{address}");
+        assert!(rt;
+            (held(address), is_protected(address)) == (bits, protected),
+            "{address}"
+        );
     }
+}
+
+// Whether the list has the jump and the store of site 5 and the proof of site 6 alone.
+fn answers(list: &Assumptions) -> bool {
+    list.jumps(5) == Some([7, 9].as_slice())
+        && list.jumps(6).is_none()
+        && list.stores(5) == [0x5D].as_slice()
+        && list.proved(6)
+        && !list.proved(5)
 }
 
 #[test]
 fn a_list_ascends_and_answers_by_site(rt: HostRuntime) -> Result<(), Fail> {
     let mut list = Assumptions::empty(rt.alloc());
-    list.push(Entry::Jump(5, Items::new([7, 9].to_vec(rt.alloc())?)))?;
-    list.push(Entry::Store(5, Items::new([0x5D].to_vec(rt.alloc())?)))?;
-    assert_eq!(rt; list.push(Entry::Prove(4)), Err(AssumeFault::Order));
-    list.push(Entry::Prove(6))?;
-    assert_eq!(rt; list.jumps(5), Some([7, 9].as_slice()));
-    assert_eq!(rt; list.jumps(6), None);
-    assert_eq!(rt; list.stores(5), [0x5D].as_slice());
-    assert!(rt; list.proved(6) && !list.proved(5));
+    let jump = Entry::Jump(5, Items::new([7, 9].to_vec(rt.alloc())?));
+    let store = Entry::Store(5, Items::new([0x5D].to_vec(rt.alloc())?));
+    let pushed = list.push(jump).is_ok() && list.push(store).is_ok();
+    let refused = matches!(list.push(Entry::Prove(4)), Err(AssumeFault::Order));
+    let proved = list.push(Entry::Prove(6)).is_ok();
     let copy = list.copy()?;
-    assert!(rt; list.same(&copy));
-    list.push(Entry::Prove(8))?;
-    assert!(rt; !list.same(&copy));
+    let same = list.same(&copy);
+    let differs = list.push(Entry::Prove(8)).is_ok() && !list.same(&copy);
+    assert!(rt; pushed && refused && proved && same && differs && answers(&copy));
     Ok(())
 }
