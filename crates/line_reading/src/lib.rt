@@ -11,7 +11,7 @@ ghost use Rattle.line_reading.specs.Reading.{hex_at, dec_at, word_at, these_at, 
 use sb_base::{LineReader, Words, read_dec, read_hex};
 
 /// The line at this offset isn't of its form, or is missing.
-#[derive(Clone, Copy, Debug, PartialEq, Eq)]
+#[derive(Clone, Copy)]
 pub struct Malformed(pub usize);
 
 /// The next word, as a number in so many upper-case hexadecimal digits.
