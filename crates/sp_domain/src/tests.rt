@@ -21,131 +21,166 @@ static CARRY_TAGS: [CarryTag; 4] = [
     CarryTag::Borrow(3, 0),
 ];
 
+// Whether two tags, which are the same or not, are ordered and joined as is due, and their pair is at no place.
+fn is_pair(t: Tag, u: Tag, same: bool) -> bool {
+    let both = if same { t } else { Tag::None };
+    let within = same || u == Tag::None;
+    t.le(u) == within && t.join(u) == both
+}
+
+// Whether a tag's pair with itself and with none is at no place.
+fn is_nowhere(t: Tag) -> bool {
+    frame(t, t).is_none() && frame(Tag::None, t).is_none() && frame(t, Tag::None).is_none()
+}
+
 #[test]
 fn a_tag_is_within_itself_and_none_alone(rt: HostRuntime) {
     for (i, &t) in TAGS.iter().enumerate() {
         for (j, &u) in TAGS.iter().enumerate() {
-            assert_eq!(rt; t.le(u), i == j || j == 0, "{t:?} {u:?}");
-            let both = if i == j { t } else { Tag::None };
-            assert_eq!(rt; t.join(u), both, "{t:?} {u:?}");
+            assert!(rt; is_pair(t, u, i == j) && is_nowhere(t), "{i} {j}");
         }
     }
+}
+
+fn is_carry_pair(c: CarryTag, d: CarryTag, same: bool) -> bool {
+    let both = if same { c } else { CarryTag::None };
+    let within = same || d == CarryTag::None;
+    c.le(d) == within && c.join(d) == both
 }
 
 #[test]
 fn a_carry_tag_is_within_itself_and_none_alone(rt: HostRuntime) {
     for (i, &c) in CARRY_TAGS.iter().enumerate() {
         for (j, &d) in CARRY_TAGS.iter().enumerate() {
-            assert_eq!(rt; c.le(d), i == j || j == 0, "{c:?} {d:?}");
-            let both = if i == j { c } else { CarryTag::None };
-            assert_eq!(rt; c.join(d), both, "{c:?} {d:?}");
+            assert!(rt; is_carry_pair(c, d, i == j), "{i} {j}");
         }
     }
 }
 
-// The numbers of a pair's tags, and the k of the pair.
-static PAIRS: [(u8, u16, Option<u16>); 6] = [
-    (2, 2, Some(2)),
-    (2, 258, Some(258)),
-    (255, 65535, Some(65535)),
-    (3, 2, None),
-    (2, 3, None),
-    (0, 255, None),
-];
-
-#[test]
-fn a_pair_has_its_low_number_twice(rt: HostRuntime) {
-    for &(lo, hi, k) in &PAIRS {
-        assert_eq!(rt; frame(Tag::SpLo(lo), Tag::SpHi(hi)), k, "{lo} {hi}");
-        assert_eq!(rt; frame(Tag::SpHi(hi), Tag::SpLo(lo)), None, "{lo} {hi}");
-    }
-    for &t in &TAGS {
-        assert_eq!(rt; frame(t, t), None, "{t:?}");
-        assert_eq!(rt; frame(Tag::None, t), None, "{t:?}");
-        assert_eq!(rt; frame(t, Tag::None), None, "{t:?}");
-    }
+// A call and its answer.
+enum Row {
+    // The tags of a pair's bytes, and its k.
+    Frame(Tag, Tag, Option<u16>),
+    // The tags of a pair, how far it moves down, and the tags then.
+    Move(Tag, Tag, u16, Tag, Tag),
+    // The tag of a low byte, what is subtracted, and the tags of the difference and of the borrow.
+    Low(Tag, u8, Tag, CarryTag),
+    // The tag of a high byte, what is subtracted, the tag of the borrow, and the tag of the difference.
+    High(Tag, u8, CarryTag, Tag),
 }
 
-// k, how far the pair of k moves down, and the k where it comes: `sbiw` by 32, past a multiple of 256, `adiw` by 32,
-// and above the base.
-static MOVES: [(u16, u16, u16); 6] = [
-    (2, 32, 34),
-    (250, 10, 260),
-    (34, 65504, 2),
-    (2, 65533, 65535),
-    (65535, 1, 0),
-    (7, 0, 7),
+static ROWS: [Row; 32] = [
+    Row::Frame(Tag::SpLo(2), Tag::SpHi(2), Some(2)),
+    Row::Frame(Tag::SpLo(2), Tag::SpHi(258), Some(258)),
+    Row::Frame(Tag::SpLo(255), Tag::SpHi(65535), Some(65535)),
+    Row::Frame(Tag::SpLo(3), Tag::SpHi(2), None),
+    Row::Frame(Tag::SpLo(2), Tag::SpHi(3), None),
+    Row::Frame(Tag::SpLo(0), Tag::SpHi(255), None),
+    Row::Frame(Tag::SpHi(2), Tag::SpLo(2), None),
+    Row::Frame(Tag::SpHi(258), Tag::SpLo(2), None),
+    Row::Frame(Tag::SpHi(65535), Tag::SpLo(255), None),
+    Row::Frame(Tag::SpHi(2), Tag::SpLo(3), None),
+    Row::Frame(Tag::SpHi(3), Tag::SpLo(2), None),
+    Row::Frame(Tag::SpHi(255), Tag::SpLo(0), None),
+    // `sbiw` by 32, past a multiple of 256, `adiw` by 32, above the base, around, and not at all
+    Row::Move(Tag::SpLo(2), Tag::SpHi(2), 32, Tag::SpLo(34), Tag::SpHi(34)),
+    Row::Move(
+        Tag::SpLo(250),
+        Tag::SpHi(250),
+        10,
+        Tag::SpLo(4),
+        Tag::SpHi(260),
+    ),
+    Row::Move(
+        Tag::SpLo(34),
+        Tag::SpHi(34),
+        65504,
+        Tag::SpLo(2),
+        Tag::SpHi(2),
+    ),
+    Row::Move(
+        Tag::SpLo(2),
+        Tag::SpHi(2),
+        65533,
+        Tag::SpLo(255),
+        Tag::SpHi(65535),
+    ),
+    Row::Move(
+        Tag::SpLo(255),
+        Tag::SpHi(65535),
+        1,
+        Tag::SpLo(0),
+        Tag::SpHi(0),
+    ),
+    Row::Move(Tag::SpLo(7), Tag::SpHi(7), 0, Tag::SpLo(7), Tag::SpHi(7)),
+    Row::Move(Tag::SpLo(3), Tag::SpHi(2), 1, Tag::None, Tag::None),
+    Row::Move(Tag::Entry(28), Tag::Entry(29), 1, Tag::None, Tag::None),
+    // subi r28, 0x00; sbci r29, 0x01
+    Row::Low(Tag::SpLo(2), 0, Tag::SpLo(2), CarryTag::Borrow(2, 0)),
+    Row::High(Tag::SpHi(2), 1, CarryTag::Borrow(2, 0), Tag::SpHi(258)),
+    Row::Frame(Tag::SpLo(2), Tag::SpHi(258), Some(258)),
+    // subi r28, 0xF0; sbci r29, 0xFF, which adds 16
+    Row::Low(
+        Tag::SpLo(2),
+        0xF0,
+        Tag::SpLo(242),
+        CarryTag::Borrow(2, 0xF0),
+    ),
+    Row::High(
+        Tag::SpHi(2),
+        0xFF,
+        CarryTag::Borrow(2, 0xF0),
+        Tag::SpHi(65522),
+    ),
+    Row::Frame(Tag::SpLo(242), Tag::SpHi(65522), Some(65522)),
+    // nothing is known without the borrow of the low byte
+    Row::Low(Tag::SpHi(2), 1, Tag::None, CarryTag::None),
+    Row::High(Tag::SpHi(2), 1, CarryTag::None, Tag::None),
+    Row::High(Tag::SpHi(2), 1, CarryTag::Borrow(3, 0), Tag::None),
+    Row::High(Tag::SpLo(2), 1, CarryTag::Borrow(2, 0), Tag::None),
+    Row::High(Tag::SpHi(258), 1, CarryTag::Borrow(2, 7), Tag::SpHi(521)),
+    Row::High(Tag::SpHi(258), 0, CarryTag::Borrow(2, 0), Tag::SpHi(258)),
 ];
 
-#[test]
-fn a_pair_moves_modulo_its_size(rt: HostRuntime) {
-    for &(k, down, to) in &MOVES {
-        let moved = move_pair(Tag::SpLo((k % 256) as u8), Tag::SpHi(k), down);
-        let there = (Tag::SpLo((to % 256) as u8), Tag::SpHi(to));
-        assert_eq!(rt; moved, there, "{k} {down}");
+fn is_row(row: &Row) -> bool {
+    match *row {
+        Row::Frame(lo, hi, k) => frame(lo, hi) == k,
+        Row::Move(lo, hi, down, low, high) => move_pair(lo, hi, down) == (low, high),
+        Row::Low(t, k, less, carry) => sub_low(t, k) == (less, carry),
+        Row::High(t, k, carry, less) => sub_high(t, k, carry) == less,
     }
-    let lost = (Tag::None, Tag::None);
-    assert_eq!(rt; move_pair(Tag::SpLo(3), Tag::SpHi(2), 1), lost);
-    assert_eq!(rt; move_pair(Tag::Entry(28), Tag::Entry(29), 1), lost);
 }
 
 #[test]
 fn a_large_frame_is_set_up_byte_by_byte(rt: HostRuntime) {
-    // subi r28, 0x00; sbci r29, 0x01
-    let (lo, carry) = sub_low(Tag::SpLo(2), 0);
-    assert_eq!(rt; lo, Tag::SpLo(2));
-    assert_eq!(rt; carry, CarryTag::Borrow(2, 0));
-    let hi = sub_high(Tag::SpHi(2), 1, carry);
-    assert_eq!(rt; hi, Tag::SpHi(258));
-    assert_eq!(rt; frame(lo, hi), Some(258));
-    // subi r28, 0xF0; sbci r29, 0xFF, which adds 16
-    let (lo, carry) = sub_low(Tag::SpLo(2), 0xF0);
-    assert_eq!(rt; lo, Tag::SpLo(242));
-    assert_eq!(rt; carry, CarryTag::Borrow(2, 0xF0));
-    let hi = sub_high(Tag::SpHi(2), 0xFF, carry);
-    assert_eq!(rt; hi, Tag::SpHi(65522));
-    assert_eq!(rt; frame(lo, hi), Some(65522));
-}
-
-#[test]
-fn nothing_is_known_without_the_borrow_of_the_low_byte(rt: HostRuntime) {
-    let (lo, carry) = sub_low(Tag::SpHi(2), 1);
-    assert_eq!(rt; lo, Tag::None);
-    assert_eq!(rt; carry, CarryTag::None);
-    assert_eq!(rt; sub_high(Tag::SpHi(2), 1, carry), Tag::None);
-    assert_eq!(rt;
-        sub_high(Tag::SpHi(2), 1, CarryTag::Borrow(3, 0)),
-        Tag::None
-    );
-    assert_eq!(rt;
-        sub_high(Tag::SpLo(2), 1, CarryTag::Borrow(2, 0)),
-        Tag::None
-    );
-    assert_eq!(rt;
-        sub_high(Tag::SpHi(258), 1, CarryTag::Borrow(2, 7)),
-        Tag::SpHi(521)
-    );
+    for (at, row) in ROWS.iter().enumerate() {
+        assert!(rt; is_row(row), "row {at}");
+    }
 }
 
 // Bases, places and amounts whose differences borrow, carry and wrap.
 static WORDS: [u16; 7] = [0, 1, 0x00FF, 0x0100, 0x08FF, 0x7F80, 0xFFFF];
+
+// Whether the base less k, less a number byte by byte, is where the tags say.
+fn is_difference(base: u16, k: u16, less: u16) -> bool {
+    let before = base.wrapping_sub(k).to_le_bytes();
+    let bytes = less.to_le_bytes();
+    let (low, borrow) = before[0].overflowing_sub(bytes[0]);
+    let high = before[1]
+        .wrapping_sub(bytes[1])
+        .wrapping_sub(u8::from(borrow));
+    let (lo, carry) = sub_low(Tag::SpLo(k.to_le_bytes()[0]), bytes[0]);
+    let hi = sub_high(Tag::SpHi(k), bytes[1], carry);
+    let place = frame(lo, hi).map(|j| base.wrapping_sub(j));
+    place == Some(u16::from_le_bytes([low, high]))
+}
 
 #[test]
 fn tags_say_what_the_bytes_are(rt: HostRuntime) {
     for &base in &WORDS {
         for &k in &WORDS {
             for &less in &WORDS {
-                let before = base.wrapping_sub(k).to_le_bytes();
-                let bytes = less.to_le_bytes();
-                let (low, borrow) = before[0].overflowing_sub(bytes[0]);
-                let high = before[1]
-                    .wrapping_sub(bytes[1])
-                    .wrapping_sub(u8::from(borrow));
-                let (lo, carry) = sub_low(Tag::SpLo(k.to_le_bytes()[0]), bytes[0]);
-                let hi = sub_high(Tag::SpHi(k), bytes[1], carry);
-                let place = frame(lo, hi).map(|j| base.wrapping_sub(j));
-                let there = u16::from_le_bytes([low, high]);
-                assert_eq!(rt; place, Some(there), "{base} {k} {less}");
+                assert!(rt; is_difference(base, k, less), "{base} {k} {less}");
             }
         }
     }
@@ -154,22 +189,21 @@ fn tags_say_what_the_bytes_are(rt: HostRuntime) {
 #[test]
 fn slots_are_pushed_and_popped_at_the_end(rt: HostRuntime) -> Result<(), Fail> {
     let mut slots: Slots<u16> = Slots::new(rt.alloc());
-    assert_eq!(rt; slots.len(), 0);
-    assert_eq!(rt; slots.at(0), None);
-    assert_eq!(rt; slots.pop(), None);
+    let none = (slots.len(), slots.at(0), slots.pop());
     slots.push(Slot::Guarded(7))?;
     slots.push(Slot::Free)?;
     slots.push(Slot::Guarded(9))?;
-    assert_eq!(rt; slots.len(), 3);
-    assert_eq!(rt;
-        slots.as_slice(),
-        [Slot::Guarded(7), Slot::Free, Slot::Guarded(9)].as_slice()
+    let all = [Slot::Guarded(7), Slot::Free, Slot::Guarded(9)];
+    let pushed = slots.as_slice() == all.as_slice();
+    let ends = (slots.len(), slots.at(2), slots.at(3));
+    let popped = (slots.pop(), slots.pop());
+    assert!(rt;
+        none == (0, None, None)
+            && pushed
+            && ends == (3, Some(Slot::Guarded(9)), None)
+            && popped == (Some(Slot::Guarded(9)), Some(Slot::Free))
+            && slots.as_slice() == [Slot::Guarded(7)].as_slice()
     );
-    assert_eq!(rt; slots.at(2), Some(Slot::Guarded(9)));
-    assert_eq!(rt; slots.at(3), None);
-    assert_eq!(rt; slots.pop(), Some(Slot::Guarded(9)));
-    assert_eq!(rt; slots.pop(), Some(Slot::Free));
-    assert_eq!(rt; slots.as_slice(), [Slot::Guarded(7)].as_slice());
     Ok(())
 }
 
@@ -181,20 +215,14 @@ fn slots_are_cut_and_grow_with_free_ones(rt: HostRuntime) -> Result<(), Fail> {
     slots.set(2, Slot::Guarded(6));
     let copy = slots.copy(rt.alloc())?;
     slots.resize(1)?;
-    assert_eq!(rt; slots.as_slice(), [Slot::Guarded(5)].as_slice());
+    let cut = slots.as_slice() == [Slot::Guarded(5)].as_slice();
     slots.resize(3)?;
-    assert_eq!(rt;
-        slots.as_slice(),
-        [Slot::Guarded(5), Slot::Free, Slot::Free].as_slice()
-    );
-    assert_eq!(rt;
-        copy.as_slice(),
-        [Slot::Guarded(5), Slot::Free, Slot::Guarded(6)].as_slice()
-    );
+    let grown = slots.as_slice() == [Slot::Guarded(5), Slot::Free, Slot::Free].as_slice();
+    let kept = copy.as_slice() == [Slot::Guarded(5), Slot::Free, Slot::Guarded(6)].as_slice();
     slots.resize(0)?;
-    assert_eq!(rt; slots.len(), 0);
+    let none = slots.len();
     slots.resize(65535)?;
-    assert_eq!(rt; slots.len(), 65535);
-    assert_eq!(rt; slots.at(65534), Some(Slot::Free));
+    let most = (slots.len(), slots.at(65534));
+    assert!(rt; cut && grown && kept && none == 0 && most == (65535, Some(Slot::Free)));
     Ok(())
 }
