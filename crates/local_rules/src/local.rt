@@ -6,7 +6,7 @@ ghost use Rattle.mask_states.specs.Keys.{offset_of};
 ghost use Rattle.mask_states.specs.Order.{node_cmp};
 ghost use Rattle.local_rules.specs.Faults.{cause_of};
 ghost use Rattle.local_rules.specs.Local.{placed};
-ghost use Rattle.local_rules.specs.Placing.{place_in};
+ghost use Rattle.local_rules.specs.Placing.{AreSized, place_in};
 
 use abs_state::AbsState;
 use mask_states::NodeKey;
@@ -51,11 +51,27 @@ impl Nodes {
         }
     }
 
+    /// The list of these, each of whose states has as many slots as its stack pointer's offset says.
+    pub fn from_vec(items: Vec<Node>) -> Nodes
+        requires { AreSized items.items }
+        ensures { result ≡ items.items }
+    {
+        Nodes { items }
+    }
+
     /// The nodes in their order.
     pub fn as_slice(&self) -> &[Node]
         ensures { result.now ≡ self.now }
     {
         &self.items
+    }
+
+    /// The vector of the nodes in their order.
+    pub fn into_vec(self) -> Vec<Node>
+        ensures items { result.items ≡ self }
+        ensures sized { AreSized result.items }
+    {
+        self.items
     }
 
     /// Puts a node into an ascending list; where there is one of its key, their states are joined.
@@ -128,11 +144,25 @@ impl CallSites {
         }
     }
 
+    /// The list of these.
+    pub fn from_vec(items: Vec<CallSite>) -> CallSites
+        ensures { result ≡ items.items }
+    {
+        CallSites { items }
+    }
+
     /// The calls in their order.
     pub fn as_slice(&self) -> &[CallSite]
         ensures { result.now ≡ self.now }
     {
         &self.items
+    }
+
+    /// The vector of the calls in their order.
+    pub fn into_vec(self) -> Vec<CallSite>
+        ensures { result.items ≡ self }
+    {
+        self.items
     }
 
     /// Another call behind the last.
