@@ -159,10 +159,10 @@ joined_below done (n ∷ ns) h hs x =
 
 -- ---- they ascend
 
-abbrev IsBefore : NodeKey → List Node → Type 0
+abbrev pub IsBefore : NodeKey → List Node → Type 0
 IsBefore k ns = AllByRecursion (λ (y : NodeKey). node_cmp k y ≡ Less) (map (λ (n : Node). n.key) ns)
 
-abbrev Ascend : List Node → Type 0
+abbrev pub Ascend : List Node → Type 0
 Ascend ns = IsStrictlySortedBy node_cmp (map (λ (n : Node). n.key) ns)
 
 before_through : (j k : NodeKey) (ns : List Node) → node_cmp j k ≡ Less → IsBefore k ns → IsBefore j ns

@@ -32,4 +32,8 @@ pub mod MonotoneFields
 pub mod MonotoneRows
 pub mod Monotone
 pub mod MonotoneNodes
+pub mod MonotoneLocal
+pub mod Quiet
+pub mod Ascending
+pub mod FitRows
 pub mod AllLaws

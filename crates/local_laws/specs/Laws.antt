@@ -1,15 +1,22 @@
 -- Laws of the local part of a node.
-use Rattle.std.specs.Prelude.{ℕ, None, Ok, Bool, ◌≢◌, ◌≡◌, ◌<◌, List, [], ◌++◌, map, Contains}
+use Rattle.std.specs.Prelude.{ℕ, Some, None, Ok, Bool, ◌≢◌, ◌≡◌, ◌<◌, List, [], ◌++◌, map, Contains}
 use Rattle.std.specs.List.Sorted.{IsStrictlySortedBy}
+use Rattle.std.specs.Ordering.{nat_cmp}
 use Rattle.avr_model.specs.declared.assumption.Entry.{Entry}
+use Rattle.avr_model.specs.Image.{WORDS}
 use Rattle.avr_model.specs.Sites.{instruction_at}
 use Rattle.avr_model.specs.State.{State, IsReset}
 use Rattle.sp_domain.specs.Tags.{Origin}
 use Rattle.abs_state.specs.declared.state.AbsState.{AbsState}
 use Rattle.abs_state.specs.Order.{IsStateWithin}
+use Rattle.vector_table.specs.Entries.{AreEntries}
 use Rattle.mask_states.specs.declared.keys.NodeKey.{NodeKey}
+use Rattle.mask_states.specs.declared.keys.SpForm.TheVariants.{Closed}
 use Rattle.mask_states.specs.Order.{node_cmp}
+use Rattle.local_rules.specs.declared.local.CallSite.{CallSite}
+use Rattle.local_rules.specs.declared.local.Exit.{Exit}
 use Rattle.local_rules.specs.declared.local.Node.{Node}
+use Rattle.local_rules.specs.Raw.{Raw}
 use Rattle.local_rules.specs.Local.{raw, joined_onto, local}
 use Rattle.local_rules.specs.Cover.{InFrame, IsNode, IsCovered, IsWithinBase, IsStep}
 use Rattle.local_rules.specs.Machine.{IsMachine, AreWords, floor_of}
@@ -27,10 +34,38 @@ pub record LocalPartsCover : Type 0 where
   pub covered : (words : List ℕ) (A : List Entry) (m : State) (o : Origin) (k : NodeKey) (s : AbsState) (b1 b2 : ℕ) → InFrame m o k s
       → b1 < 256 → b2 < 256 → IsCovered words A m o k b1 b2 (instruction_at words m.pc) (raw words A k s)
 
--- A greater state leads to more.
+-- each joined successor is below one of its key, the calls are among those, and the return is the same
+pub record IsLocalWithin (l m : Local) : Type 0 where
+  pub same : (to : Node) → Contains l.same to → IsBelowOne m.same to
+  pub calls : (site : CallSite) → Contains l.calls site → Contains m.calls site
+  pub exit : l.exit ≡ m.exit
+
+-- what the node leads to, which is no more than this
+pub record LeadsWithin (words : List ℕ) (A : List Entry) (k : NodeKey) (s : AbsState) (m : Local) : Type 0 where
+  pub part : Local
+  pub leads : local words A k s ≡ Ok part
+  pub within : IsLocalWithin part m
+
+-- A greater state leads to more, also after successors of one key are joined.
 pub record LocalPartsAreMonotone : Type 0 where
   pub below : (words : List ℕ) (A : List Entry) (k : NodeKey) (s t : AbsState) → IsNode k s → IsNode k t → IsStateWithin s t
       → IsBelow (raw words A k s) (raw words A k t)
+  pub joined : (words : List ℕ) (A : List Entry) (k : NodeKey) (s t : AbsState) (m : Local) → IsNode k s → IsNode k t → IsStateWithin s t
+      → local words A k t ≡ Ok m → LeadsWithin words A k s m
+
+-- Calls lead to words of flash and go on at such. A return is at the frame's base, and keeps the enable bits.
+pub record LeadsToWords (k : NodeKey) (r : Raw) : Type 0 where
+  pub calls : (site : CallSite) → Contains r.calls site → (site.entry < WORDS) × (site.back < WORDS)
+  pub exit : (x : Exit) → r.exit ≡ Some x → (k.sp ≡ Closed 0) × (x.masks ≡ k.masks)
+
+-- calls ascend strictly by the called word
+abbrev pub AscendByEntry : List CallSite → Type 0
+AscendByEntry sites = IsStrictlySortedBy nat_cmp (map (λ (site : CallSite). site.entry) sites)
+
+-- The numbers of calls and returns are what their types say, and with an assumption list that may be one, calls ascend.
+pub record LocalPartsFit : Type 0 where
+  pub fit : (words : List ℕ) (A : List Entry) (k : NodeKey) (s : AbsState) → LeadsToWords k (raw words A k s)
+  pub ascending : (words : List ℕ) (A : List Entry) (k : NodeKey) (s : AbsState) → AreEntries A → AscendByEntry (raw words A k s).calls
 
 -- Successors are nodes that the analysis works with, in the same instance.
 pub record LocalPartsAreNodes : Type 0 where
