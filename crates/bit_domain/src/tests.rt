@@ -4,7 +4,7 @@
 //! stands for, applies the operation to each choice of them as a whole number, and takes a bit or a carry of the answer as
 //! known where all answers have the same. Operands are pairs of known bits and value, bits are 0, 1, or 2 for either.
 
-use crate::{Tri, TriByte, add, and, eor, equal, not, or, sub};
+use crate::{Sum, Tri, TriByte, add, and, eor, equal, not, or, sub};
 use std::test::Fail;
 
 // Operands, carry; sum, its carries out of bit 3, into bit 7 and out of bit 7; difference, its borrows there.
@@ -271,55 +271,55 @@ fn tri(number: u8) -> Tri {
     }
 }
 
-fn pair(byte: TriByte) -> [u8; 2] {
-    [byte.known, byte.value]
+fn is(byte: TriByte, known: u8, value: u8) -> bool {
+    byte.known == known && byte.value == value
+}
+
+fn is_sum(sum: Sum, expected: &[u8]) -> bool {
+    expected.len() == 5
+        && is(sum.bits, expected[0], expected[1])
+        && sum.half == tri(expected[2])
+        && sum.into_top == tri(expected[3])
+        && sum.out == tri(expected[4])
+}
+
+fn is_sum_row(row: &[u8; 15]) -> bool {
+    let a = TriByte::new(row[0], row[1]);
+    let b = TriByte::new(row[2], row[3]);
+    let carry = tri(row[4]);
+    is_sum(add(a, b, carry), &row[5..10]) && is_sum(sub(a, b, carry), &row[10..])
+}
+
+fn is_logic_row(row: &[u8; 13]) -> bool {
+    let a = TriByte::new(row[0], row[1]);
+    let b = TriByte::new(row[2], row[3]);
+    is(and(a, b), row[4], row[5])
+        && is(or(a, b), row[6], row[7])
+        && is(eor(a, b), row[8], row[9])
+        && is(not(a), row[10], row[11])
+        && equal(a, b) == tri(row[12])
+}
+
+fn is_lattice_row(row: &[u8; 10]) -> bool {
+    let a = TriByte::new(row[0], row[1]);
+    let b = TriByte::new(row[2], row[3]);
+    let meet = match a.meet(b) {
+        Some(both) => row[6] == 1 && is(both, row[7], row[8]),
+        None => row[6] == 0,
+    };
+    meet && is(a.join(b), row[4], row[5]) && a.le(b) == (row[9] == 1)
 }
 
 #[test]
-fn sums_are_those_of_all_members(rt: HostRuntime) -> Result<(), Fail> {
-    for row in SUMS {
-        let a = TriByte::new(row[0], row[1]);
-        let b = TriByte::new(row[2], row[3]);
-        let sum = add(a, b, tri(row[4]));
-        assert_eq!(rt; pair(sum.bits), [row[5], row[6]], "{a:?} + {b:?}");
-        assert_eq!(rt; sum.half, tri(row[7]), "{a:?} + {b:?}");
-        assert_eq!(rt; sum.into_top, tri(row[8]), "{a:?} + {b:?}");
-        assert_eq!(rt; sum.out, tri(row[9]), "{a:?} + {b:?}");
-        let difference = sub(a, b, tri(row[4]));
-        assert_eq!(rt; pair(difference.bits), [row[10], row[11]], "{a:?} - {b:?}");
-        assert_eq!(rt; difference.half, tri(row[12]), "{a:?} - {b:?}");
-        assert_eq!(rt; difference.into_top, tri(row[13]), "{a:?} - {b:?}");
-        assert_eq!(rt; difference.out, tri(row[14]), "{a:?} - {b:?}");
+fn operations_are_those_of_all_members(rt: HostRuntime) -> Result<(), Fail> {
+    for (at, row) in SUMS.iter().enumerate() {
+        assert!(rt; is_sum_row(row), "sum row {at}");
     }
-    Ok(())
-}
-
-#[test]
-fn bit_operations_are_those_of_all_members(rt: HostRuntime) -> Result<(), Fail> {
-    for row in LOGIC {
-        let a = TriByte::new(row[0], row[1]);
-        let b = TriByte::new(row[2], row[3]);
-        assert_eq!(rt; pair(and(a, b)), [row[4], row[5]], "{a:?} & {b:?}");
-        assert_eq!(rt; pair(or(a, b)), [row[6], row[7]], "{a:?} | {b:?}");
-        assert_eq!(rt; pair(eor(a, b)), [row[8], row[9]], "{a:?} ^ {b:?}");
-        assert_eq!(rt; pair(not(a)), [row[10], row[11]], "!{a:?}");
-        assert_eq!(rt; equal(a, b), tri(row[12]), "{a:?} == {b:?}");
+    for (at, row) in LOGIC.iter().enumerate() {
+        assert!(rt; is_logic_row(row), "logic row {at}");
     }
-    Ok(())
-}
-
-#[test]
-fn join_meet_and_order_are_those_of_sets(rt: HostRuntime) -> Result<(), Fail> {
-    for row in LATTICE {
-        let a = TriByte::new(row[0], row[1]);
-        let b = TriByte::new(row[2], row[3]);
-        assert_eq!(rt; pair(a.join(b)), [row[4], row[5]], "{a:?} join {b:?}");
-        let meet = match a.meet(b) {
-            Some(both) => [1, both.known, both.value],
-            None => [0, 0, 0],
-        };
-        assert_eq!(rt; meet, [row[6], row[7], row[8]], "{a:?} meet {b:?}");
-        assert_eq!(rt; a.le(b), row[9] == 1, "{a:?} within {b:?}");
+    for (at, row) in LATTICE.iter().enumerate() {
+        assert!(rt; is_lattice_row(row), "lattice row {at}");
     }
     Ok(())
 }

@@ -5,7 +5,7 @@ ghost use Rattle.std.specs.List.{position, AllByRecursion};
 ghost use Rattle.sb_base.specs.Digits.{is_dec, is_hex, digit_of, number_from, hex_answer, dec_answer, capped};
 
 /// Why digits are no number of the wanted form.
-#[derive(Clone, Copy, Debug, PartialEq, Eq)]
+#[derive(Clone, Copy, PartialEq, Eq)]
 pub enum DigitFault {
     /// There are so many bytes, which is not the wanted number of them, or none where some are wanted.
     WrongLength(usize),

@@ -8,7 +8,7 @@ ghost use Rattle.sb_base.specs.Outside.{Held, Blamed, IsMissing, Rose, Gives, Ma
 use std::alloc::Global;
 
 /// Why a read gave no bytes.
-#[derive(Clone, Copy, Debug, PartialEq, Eq)]
+#[derive(Clone, Copy, PartialEq, Eq)]
 pub enum FileFault {
     /// The file can't be read; the object's count of faults rose.
     Failed,
@@ -19,7 +19,7 @@ pub enum FileFault {
 }
 
 /// Why a put took nothing.
-#[derive(Clone, Copy, Debug, PartialEq, Eq)]
+#[derive(Clone, Copy, PartialEq, Eq)]
 pub enum SinkFault {
     /// The sink can't be written to; its count of faults rose.
     Failed,

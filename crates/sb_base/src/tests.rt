@@ -4,7 +4,28 @@ use crate::{
     DigitFault, FileFault, Files, LineReader, LineWriter, MemFiles, MemSink, Sink, SinkFault,
     Words, put_all, read_dec, read_hex,
 };
+use std::alloc::{AllocError, Global};
 use std::test::Fail;
+
+/// The reads of one object in their order: the name, the most bytes that are wanted, and the answer.
+const READS: [(&str, usize, Result<&[u8], FileFault>); 5] = [
+    ("a", 3, Ok(b"new")),
+    ("a", 3, Err(FileFault::Failed)),
+    ("a", 2, Err(FileFault::TooLong)),
+    ("b", 3, Err(FileFault::Failed)),
+    ("a", 3, Ok(b"new")),
+];
+
+fn is_read(
+    files: &mut MemFiles,
+    alloc: Global,
+    row: &(&str, usize, Result<&[u8], FileFault>),
+) -> bool {
+    match files.read(alloc, row.0, row.1) {
+        Ok(bytes) => row.2 == Ok(bytes.as_slice()),
+        Err(fault) => row.2 == Err(fault),
+    }
+}
 
 #[test]
 fn files_answer_by_name_and_call(rt: HostRuntime) -> Result<(), Fail> {
@@ -13,61 +34,82 @@ fn files_answer_by_name_and_call(rt: HostRuntime) -> Result<(), Fail> {
     files.add("a", b"older")?;
     files.add("a", b"new")?;
     files.fail(1)?;
-    assert_eq!(rt; files.read(alloc, "a", 3)?.as_slice(), b"new".as_slice());
-    assert_eq!(rt; files.read(alloc, "a", 3).err(), Some(FileFault::Failed));
-    assert_eq!(rt; files.read(alloc, "a", 2).err(), Some(FileFault::TooLong));
-    assert_eq!(rt; files.read(alloc, "b", 3).err(), Some(FileFault::Failed));
-    assert_eq!(rt; files.read(alloc, "a", 3)?.as_slice(), b"new".as_slice());
+    for (at, row) in READS.iter().enumerate() {
+        assert!(rt; is_read(&mut files, alloc, row), "row {at}");
+    }
     Ok(())
 }
 
+/// The texts that one sink is given in their order, the answers, and what is written then. The sink takes 1 byte, 2 and
+/// the rest of the first text, 2 bytes and then a fault of the second, and none of the last.
+const PUTS: [(&[u8], Result<(), SinkFault>, &[u8]); 4] = [
+    (b"abcdef", Ok(()), b"abcdef"),
+    (b"ghijkl", Err(SinkFault::Failed), b"abcdefgh"),
+    (b"mn", Ok(()), b"abcdefghmn"),
+    (b"o", Err(SinkFault::Failed), b"abcdefghmn"),
+];
+
+fn is_put(sink: &mut MemSink, row: &(&[u8], Result<(), SinkFault>, &[u8])) -> bool {
+    put_all(sink, row.0) == row.1 && sink.written() == row.2
+}
+
 #[test]
-fn a_text_is_put_in_pieces(rt: HostRuntime) -> Result<(), Fail> {
+fn a_text_is_put_in_pieces_up_to_a_fault(rt: HostRuntime) -> Result<(), Fail> {
     let mut sink = MemSink::new(rt.alloc());
     sink.short(0, 1)?;
     sink.short(1, 2)?;
-    put_all(&mut sink, b"abcdef")?;
-    assert_eq!(rt; sink.written(), b"abcdef".as_slice());
-    assert_eq!(rt; sink.put(b"")?, 0);
+    sink.short(3, 2)?;
+    sink.fail(4)?;
+    sink.short(6, 0)?;
+    for (at, row) in PUTS.iter().enumerate() {
+        assert!(rt; is_put(&mut sink, row), "row {at}");
+    }
+    assert!(rt; sink.put(b"") == Ok(0));
     Ok(())
 }
 
-#[test]
-fn a_fault_in_mid_text_ends_it(rt: HostRuntime) -> Result<(), Fail> {
-    let mut refusing = MemSink::new(rt.alloc());
-    refusing.short(0, 2)?;
-    refusing.fail(1)?;
-    assert_eq!(rt; put_all(&mut refusing, b"abcdef"), Err(SinkFault::Failed));
-    assert_eq!(rt; refusing.written(), b"ab".as_slice());
-    put_all(&mut refusing, b"gh")?;
-    assert_eq!(rt; refusing.written(), b"abgh".as_slice());
-    let mut stuck = MemSink::new(rt.alloc());
-    stuck.short(0, 0)?;
-    assert_eq!(rt; put_all(&mut stuck, b"a"), Err(SinkFault::Failed));
-    Ok(())
+const HEXADECIMAL: [(&[u8], usize, Result<u32, DigitFault>); 4] = [
+    (b"940C", 4, Ok(37900)),
+    (b"FFFFFFFF", 8, Ok(4294967295)),
+    (b"940c", 4, Err(DigitFault::BadDigit(3))),
+    (b"94", 4, Err(DigitFault::WrongLength(2))),
+];
+
+const DECIMAL: [(&[u8], u64, Result<u64, DigitFault>); 6] = [
+    (b"18446744073709551615", u64::MAX, Ok(u64::MAX)),
+    (b"18446744073709551616", u64::MAX, Err(DigitFault::TooGreat)),
+    (b"2049", 2048, Err(DigitFault::TooGreat)),
+    (b"007", 2048, Err(DigitFault::BadDigit(0))),
+    (b"7 ", 2048, Err(DigitFault::BadDigit(1))),
+    (b"", 2048, Err(DigitFault::WrongLength(0))),
+];
+
+fn is_hexadecimal(row: &(&[u8], usize, Result<u32, DigitFault>)) -> bool {
+    row.1 >= 1 && row.1 <= 8 && read_hex(row.0, row.1) == row.2
 }
 
 #[test]
 fn digits_are_read(rt: HostRuntime) -> Result<(), Fail> {
-    assert_eq!(rt; read_hex(b"940C", 4), Ok(37900));
-    assert_eq!(rt; read_hex(b"FFFFFFFF", 8), Ok(4294967295));
-    assert_eq!(rt; read_hex(b"940c", 4), Err(DigitFault::BadDigit(3)));
-    assert_eq!(rt; read_hex(b"94", 4), Err(DigitFault::WrongLength(2)));
-    assert_eq!(rt; read_dec(b"18446744073709551615", u64::MAX), Ok(u64::MAX));
-    assert_eq!(rt;
-        read_dec(b"18446744073709551616", u64::MAX),
-        Err(DigitFault::TooGreat)
-    );
-    assert_eq!(rt; read_dec(b"2049", 2048), Err(DigitFault::TooGreat));
-    assert_eq!(rt; read_dec(b"007", 2048), Err(DigitFault::BadDigit(0)));
-    assert_eq!(rt; read_dec(b"7 ", 2048), Err(DigitFault::BadDigit(1)));
-    assert_eq!(rt; read_dec(b"", 2048), Err(DigitFault::WrongLength(0)));
+    for (at, row) in HEXADECIMAL.iter().enumerate() {
+        assert!(rt; is_hexadecimal(row), "hexadecimal row {at}");
+    }
+    for (at, row) in DECIMAL.iter().enumerate() {
+        assert!(rt; read_dec(row.0, row.1) == row.2, "decimal row {at}");
+    }
     Ok(())
 }
 
-#[test]
-fn lines_are_written_and_read(rt: HostRuntime) -> Result<(), Fail> {
-    let mut writer = LineWriter::new(rt.alloc());
+/// Each line: its text, where it begins, whether a line feed ends it, and the offset behind it.
+const LINES: [(&[u8], usize, bool, usize); 3] = [
+    (b"node 001F 18446744073709551615", 0, true, 31),
+    (b"00", 31, true, 34),
+    (b"end", 34, false, 37),
+];
+
+const WORDS: [&[u8]; 3] = [b"node", b"001F", b"18446744073709551615"];
+
+fn written(alloc: Global) -> Result<Vec<u8>, AllocError> {
+    let mut writer = LineWriter::new(alloc);
     writer.word(b"node")?;
     writer.hex(0x1F, 4)?;
     writer.dec(18446744073709551615)?;
@@ -75,27 +117,36 @@ fn lines_are_written_and_read(rt: HostRuntime) -> Result<(), Fail> {
     writer.hex(0, 2)?;
     writer.end_line()?;
     writer.word(b"end")?;
-    let text = writer.finish();
-    assert_eq!(rt;
-        text.as_slice(),
-        b"node 001F 18446744073709551615\n00\nend".as_slice()
-    );
+    Ok(writer.finish())
+}
+
+fn is_line(reader: &mut LineReader<'_>, row: &(&[u8], usize, bool, usize)) -> bool {
+    let before = reader.offset();
+    let peeked = match reader.peek() {
+        Some(line) => line.text == row.0 && before == reader.offset(),
+        None => false,
+    };
+    match reader.next() {
+        Some(line) => {
+            let found = (line.text, line.at, line.whole, reader.offset());
+            peeked && found == *row
+        }
+        None => false,
+    }
+}
+
+#[test]
+fn lines_are_written_and_read(rt: HostRuntime) -> Result<(), Fail> {
+    let text = written(rt.alloc())?;
     let mut reader = LineReader::new(&text);
-    let first = reader.next().ok_or("no line")?;
-    let mut words = Words::new(first.text);
-    assert!(rt; words.next() == Some(b"node".as_slice()));
-    assert!(rt; words.next() == Some(b"001F".as_slice()));
-    assert!(rt; words.next() == Some(b"18446744073709551615".as_slice()));
+    for (at, row) in LINES.iter().enumerate() {
+        assert!(rt; is_line(&mut reader, row), "line {at}");
+    }
+    let mut words = Words::new(LINES[0].0);
+    for (at, word) in WORDS.iter().enumerate() {
+        assert!(rt; words.next() == Some(*word), "word {at}");
+    }
     assert!(rt; words.next().is_none());
-    assert_eq!(rt; reader.offset(), 31);
-    let second = reader.peek().ok_or("no line")?;
-    assert_eq!(rt; second.text, b"00".as_slice());
-    assert_eq!(rt; reader.offset(), 31);
-    assert!(rt; reader.next().is_some());
-    let last = reader.next().ok_or("no line")?;
-    assert_eq!(rt; last.at, 34);
-    assert!(rt; !last.whole);
     assert!(rt; reader.next().is_none());
-    assert_eq!(rt; reader.offset(), 37);
     Ok(())
 }
