@@ -6,3 +6,5 @@ pub use Rattle.abs_state.proofs.MoreJoins.{joins_are_monotone}
 pub use Rattle.abs_state.proofs.Follow.{slots_follow}
 pub use Rattle.abs_state.proofs.Start.{reset_stands, entries_are_true}
 pub use Rattle.abs_state.proofs.Returned.{returns_are_true}
+pub use Rattle.abs_state.proofs.Rank.{states_rise}
+pub use Rattle.abs_state.proofs.Fits.{tags_stay_fit}

@@ -9,4 +9,6 @@ pub mod Returned
 pub mod Loops
 pub mod Named
 pub mod MoreJoins
+pub mod Rank
+pub mod Fits
 pub mod AllLaws

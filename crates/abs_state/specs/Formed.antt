@@ -29,6 +29,20 @@ pub record IsFormed (s : AbsState) (offset : ℕ) : Type 0 where
   pub count_slots : length s.slots ≡ offset
   pub slots : (d : ℕ) → d < length s.slots → SlotNamesRegister (slot_at s.slots d)
 
+-- the numbers of tags are as their types have them: bytes, and words of 16 bits
+abbrev pub TagFits : Tag → Type 0
+TagFits (tag.SpLo j) = j < 256
+TagFits (tag.SpHi k) = k < 65536
+TagFits t = ⊤
+
+abbrev pub SlotFits : Slot AbsByte → Type 0
+SlotFits Free = ⊤
+SlotFits (Guarded v) = TagFits v.tag
+
+pub record TagsFit (s : AbsState) : Type 0 where
+  pub registers : (r : ℕ) → r < 32 → TagFits (value_at s.registers r).tag
+  pub slots : (d : ℕ) → d < length s.slots → SlotFits (slot_at s.slots d)
+
 abbrev pub SlotIsUntagged : Slot AbsByte → Type 0
 SlotIsUntagged Free = ⊤
 SlotIsUntagged (Guarded v) = v.tag ≡ tag.None

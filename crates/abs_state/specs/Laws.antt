@@ -1,9 +1,9 @@
 -- Laws of values and states: their order and join, that what stands still stands where less is said, and that entries and returns
 -- stand for what the machine does.
-use Rattle.std.specs.Prelude.{ℕ, ◌+◌, ◌-◌, ◌%◌, ◌≡◌, ◌<◌, ◌≤◌, ◌↔◌, true, List, [], ◌∷◌, ◌++◌, length, take, Some, None}
+use Rattle.std.specs.Prelude.{ℕ, ◌+◌, ◌-◌, ◌%◌, ◌≡◌, ◌<◌, ◌≤◌, ◌↔◌, ◌⊎◌, true, List, [], ◌∷◌, ◌++◌, length, take, Some, None}
 use Rattle.avr_model.specs.State.{State, Memory, IsReset, RAMEND, byte_in, is_live}
 use Rattle.sp_domain.specs.declared.slots.Slot.{Slot}
-use Rattle.sp_domain.specs.Tags.{Origin}
+use Rattle.sp_domain.specs.Tags.{Origin, HasBytes}
 use Rattle.sp_domain.specs.Slots.{slot_at, resized}
 use Rattle.abs_state.specs.declared.values.AbsByte.{AbsByte}
 use Rattle.abs_state.specs.declared.values.AbsFlags.{AbsFlags}
@@ -12,7 +12,8 @@ use Rattle.abs_state.specs.Values.{root}
 use Rattle.abs_state.specs.Stands.{ByteStands, FlagsStand, RegistersStand, SlotStands, SlotsStand, Stands}
 use Rattle.abs_state.specs.Order.{IsByteWithin, IsFlagsWithin, IsSlotWithin, IsStateWithin, value_join, flags_join, state_join, IsLeastAbove}
 use Rattle.abs_state.specs.Frames.{entered, returned, Conflict}
-use Rattle.abs_state.specs.Formed.{IsFormed, IsUntagged}
+use Rattle.abs_state.specs.Formed.{IsFormed, IsUntagged, TagsFit}
+use Rattle.abs_state.specs.Rank.{state_rank, height_of}
 
 -- `within` is a partial order on values, and a join is the least above both
 pub record ValuesAreOrdered : Type 0 where
@@ -111,3 +112,18 @@ pub record ReturnsAreTrue : Type 0 where
       → IsStateWithin caller caller' → IsStateWithin exit exit' → returned caller exit ≡ Some t
       → (t' : AbsState) × (returned caller' exit' ≡ Some t') × IsStateWithin t t'
   pub none : (caller exit : AbsState) → length exit.registers ≡ 32 → returned caller exit ≡ None ↔ Conflict caller exit
+
+-- Of two states of which the second says no more, they are the same or the second is further up; none is above the height of its number of
+-- slots.
+pub record StatesRise : Type 0 where
+  pub rises : (s t : AbsState) (offset : ℕ) → IsFormed s offset → IsFormed t offset → IsStateWithin s t → (s ≡ t) ⊎ (state_rank s < state_rank t)
+  pub high : (s : AbsState) (offset : ℕ) → IsFormed s offset → state_rank s ≤ height_of offset
+
+-- The numbers of tags fit after reset, at an entry, and where they fit in the caller's state after a return; and where less is said.
+pub record TagsStayFit : Type 0 where
+  pub at_reset : TagsFit root
+  pub at_entry : (s : AbsState) → TagsFit (entered s) × HasBytes (entered s).flags.carry
+  pub at_return : (caller exit t : AbsState) → length caller.registers ≡ 32 → TagsFit caller → returned caller exit ≡ Some t → TagsFit t
+  pub carry_at_return : (caller exit t : AbsState) → HasBytes caller.flags.carry → returned caller exit ≡ Some t → HasBytes t.flags.carry
+  pub less : (s t : AbsState) → IsStateWithin s t → TagsFit s → TagsFit t
+  pub carry_less : (s t : AbsState) → IsStateWithin s t → HasBytes s.flags.carry → HasBytes t.flags.carry

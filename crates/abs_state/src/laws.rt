@@ -1,6 +1,6 @@
 //! Laws of values and states, each as the contract of a function that does nothing.
 
-ghost use Rattle.abs_state.specs.Laws.{ValuesAreOrdered, FlagsAreOrdered, StatesAreOrdered, JoinsAreFormed, JoinsAreMonotone, ValuesSayLess, SlotsFollow, ResetStands, EntriesAreTrue, ReturnsAreTrue};
+ghost use Rattle.abs_state.specs.Laws.{ValuesAreOrdered, FlagsAreOrdered, StatesAreOrdered, JoinsAreFormed, JoinsAreMonotone, ValuesSayLess, SlotsFollow, ResetStands, EntriesAreTrue, ReturnsAreTrue, StatesRise, TagsStayFit};
 
 /// To say less is a partial order on values, and a join is the least above both.
 pub fn values_are_ordered()
@@ -50,4 +50,14 @@ pub fn entries_are_true()
 /// A state after a return stands for the machine in the caller's frame.
 pub fn returns_are_true()
     ensures { ReturnsAreTrue }
+{}
+
+/// A state that says less is the same or further up, and none is above a height.
+pub fn states_rise()
+    ensures { StatesRise }
+{}
+
+/// The numbers of tags fit after reset, at an entry and after a return, and where less is said.
+pub fn tags_stay_fit()
+    ensures { TagsStayFit }
 {}

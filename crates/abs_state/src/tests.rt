@@ -8,7 +8,6 @@ use crate::{AbsByte, AbsFlags, AbsState};
 use bit_domain::TriByte;
 use sp_domain::{CarryTag, Slot, Tag};
 use std::alloc::Global;
-use std::process::Abort;
 use std::test::Fail;
 
 fn tagged(tag: Tag, known: u8, value: u8) -> AbsByte
@@ -42,55 +41,84 @@ fn state(alloc: Global, first: AbsByte, last: AbsByte, flags: AbsFlags) -> AbsSt
     state
 }
 
-/// Stops where two states differ.
-fn expect(rt: &impl Abort, state: &AbsState, wanted: &AbsState) {
-    assert_eq!(rt; state.registers, wanted.registers);
-    assert_eq!(rt; state.flags, wanted.flags);
-    assert_eq!(rt; state.slots.as_slice(), wanted.slots.as_slice());
+// Whether two states have the same registers, flags and slots.
+fn is_same(state: &AbsState, wanted: &AbsState) -> bool {
+    state.registers == wanted.registers
+        && state.flags == wanted.flags
+        && state.slots.as_slice() == wanted.slots.as_slice()
 }
 
 #[test]
-fn root_knows_the_flags_alone(rt: HostRuntime) -> Result<(), Fail> {
+fn root_knows_the_flags_alone(rt: HostRuntime) {
     let root = AbsState::root(rt.alloc());
-    assert_eq!(rt; root.registers, [tagged(Tag::None, 0, 0); 32]);
-    assert_eq!(rt; root.flags, flags(false, 0x7f, 0, CarryTag::None));
-    assert_eq!(rt; root.slots.len(), 0);
-    Ok(())
+    assert!(rt;
+        root.registers == [tagged(Tag::None, 0, 0); 32]
+            && root.flags == flags(false, 0x7f, 0, CarryTag::None)
+            && root.slots.len() == 0
+    );
 }
 
-#[test]
-fn values_join_where_they_agree(rt: HostRuntime) -> Result<(), Fail> {
-    assert_eq!(rt; AbsByte::unknown(), tagged(Tag::None, 0, 0));
-    assert_eq!(rt; AbsByte::known(0x41), tagged(Tag::None, 0xff, 0x41));
-    assert_eq!(rt;
-        AbsByte::untagged(TriByte::new(0x0f, 0x05)),
-        tagged(Tag::None, 0x0f, 0x05)
-    );
+// Two values and their join, or two flags and theirs.
+#[derive(Drop)]
+enum Join {
+    Values(AbsByte, AbsByte, AbsByte),
+    Flags(AbsFlags, AbsFlags, AbsFlags),
+}
+
+fn joins() -> [Join; 4] {
     let low = tagged(Tag::SpLo(3), 0xff, 0x45);
-    let other = tagged(Tag::SpLo(3), 0xff, 0x43);
-    let joined = tagged(Tag::SpLo(3), 0xf9, 0x41);
-    assert_eq!(rt; low.join(other), joined);
-    assert_eq!(rt;
-        low.join(tagged(Tag::SpLo(4), 0xff, 0x45)),
-        AbsByte::known(0x45)
-    );
-    assert!(rt; low.le(joined));
-    assert!(rt; !joined.le(low));
-    assert!(rt; !AbsByte::known(0x45).le(low));
-    Ok(())
-}
-
-#[test]
-fn flags_join_where_they_agree(rt: HostRuntime) -> Result<(), Fail> {
     let kept = flags(true, 0x03, 0x01, CarryTag::Borrow(3, 5));
     let changed = flags(false, 0x01, 0x01, CarryTag::Borrow(3, 5));
-    assert_eq!(rt; kept.join(changed), changed);
     let untied = flags(true, 0x03, 0x03, CarryTag::None);
-    assert_eq!(rt; kept.join(untied), flags(true, 0x01, 0x01, CarryTag::None));
-    assert!(rt; kept.le(changed));
-    assert!(rt; !changed.le(kept));
-    assert!(rt; !untied.le(kept));
-    Ok(())
+    [
+        Join::Values(
+            low,
+            tagged(Tag::SpLo(3), 0xff, 0x43),
+            tagged(Tag::SpLo(3), 0xf9, 0x41),
+        ),
+        Join::Values(
+            low,
+            tagged(Tag::SpLo(4), 0xff, 0x45),
+            tagged(Tag::None, 0xff, 0x45),
+        ),
+        Join::Flags(kept, changed, changed),
+        Join::Flags(kept, untied, flags(true, 0x01, 0x01, CarryTag::None)),
+    ]
+}
+
+// Whether the join is as wanted, says no more than either, and the first, which isn't the join, says more.
+fn is_join(row: &Join) -> bool {
+    match *row {
+        Join::Values(v, w, both) => { v.join(w) == both && v.le(both) && w.le(both) && !both.le(v) }
+        Join::Flags(f, g, both) => f.join(g) == both && f.le(both) && g.le(both) && !both.le(f),
+    }
+}
+
+#[test]
+fn values_and_flags_join_where_they_agree(rt: HostRuntime) {
+    for (at, row) in joins().iter().enumerate() {
+        assert!(rt; is_join(row), "row {at}");
+    }
+    let known = AbsByte::known(0x45);
+    let bits = TriByte::new(0x0f, 0x05);
+    assert!(rt;
+        AbsByte::unknown() == tagged(Tag::None, 0, 0)
+            && known == tagged(Tag::None, 0xff, 0x45)
+            && AbsByte::untagged(bits) == tagged(Tag::None, 0x0f, 0x05)
+            && !known.le(tagged(Tag::SpLo(3), 0xff, 0x45))
+    );
+}
+
+// Whether each register is tagged as what the caller's held, with its bits.
+fn are_entries(entered: &AbsState, caller: &AbsState) -> bool {
+    for r in 0..32u8 {
+        let bits = caller.registers[usize::from(r)].bits;
+        let tag = Tag::Entry(r);
+        if entered.registers[usize::from(r)] != (AbsByte { tag, bits }) {
+            return false;
+        }
+    }
+    true
 }
 
 #[test]
@@ -105,18 +133,20 @@ fn an_entry_tags_each_register(rt: HostRuntime) -> Result<(), Fail> {
     );
     caller.slots.push(Slot::Free)?;
     let entered = caller.entered(alloc);
-    for r in 0..32u8 {
-        let bits = caller.registers[usize::from(r)].bits;
-        let tag = Tag::Entry(r);
-        assert_eq!(rt;
-            entered.registers[usize::from(r)],
-            AbsByte { tag, bits },
-            "register {r}"
-        );
-    }
-    assert_eq!(rt; entered.flags, flags(true, 0x01, 0x01, CarryTag::None));
-    assert_eq!(rt; entered.slots.len(), 0);
+    assert!(rt;
+        are_entries(&entered, &caller)
+            && entered.flags == flags(true, 0x01, 0x01, CarryTag::None)
+            && entered.slots.len() == 0
+    );
     Ok(())
+}
+
+// Whether there is a state after the return, and it is this one.
+fn is_back(back: Option<AbsState>, wanted: &AbsState) -> bool {
+    match back {
+        Some(state) => is_same(&state, wanted),
+        None => false,
+    }
 }
 
 #[test]
@@ -137,9 +167,6 @@ fn a_return_brings_back_what_was_kept(rt: HostRuntime) -> Result<(), Fail> {
         tagged(Tag::Entry(0), 0x0f, 0x05),
         learned,
     );
-    let Some(back) = caller.returned(alloc, &exit)? else {
-        return Err("a conflict".into());
-    };
     let both = flags(false, 0x03, 0x03, CarryTag::Borrow(3, 5));
     let mut wanted = state(
         alloc,
@@ -148,7 +175,7 @@ fn a_return_brings_back_what_was_kept(rt: HostRuntime) -> Result<(), Fail> {
         both,
     );
     wanted.slots.push(Slot::Guarded(AbsByte::known(0x22)))?;
-    expect(&rt, &back, &wanted);
+    assert!(rt; is_back(caller.returned(alloc, &exit)?, &wanted));
     Ok(())
 }
 
@@ -156,26 +183,12 @@ fn a_return_brings_back_what_was_kept(rt: HostRuntime) -> Result<(), Fail> {
 fn flags_that_the_callee_changed_are_its_own(rt: HostRuntime) -> Result<(), Fail> {
     let alloc = rt.alloc();
     let any = AbsByte::unknown();
-    let caller = state(
-        alloc,
-        any,
-        any,
-        flags(true, 0x01, 0x01, CarryTag::Borrow(3, 5)),
-    );
-    let exit = state(
-        alloc,
-        any,
-        any,
-        flags(false, 0x01, 0x00, CarryTag::Borrow(9, 9)),
-    );
-    let Some(back) = caller.returned(alloc, &exit)? else {
-        return Err("a conflict".into());
-    };
-    expect(
-        &rt,
-        &back,
-        &state(alloc, any, any, flags(false, 0x01, 0x00, CarryTag::None)),
-    );
+    let known = flags(true, 0x01, 0x01, CarryTag::Borrow(3, 5));
+    let caller = state(alloc, any, any, known);
+    let learned = flags(false, 0x01, 0x00, CarryTag::Borrow(9, 9));
+    let exit = state(alloc, any, any, learned);
+    let wanted = state(alloc, any, any, flags(false, 0x01, 0x00, CarryTag::None));
+    assert!(rt; is_back(caller.returned(alloc, &exit)?, &wanted));
     Ok(())
 }
 
@@ -185,12 +198,13 @@ fn known_bits_that_differ_end_a_return(rt: HostRuntime) -> Result<(), Fail> {
     let any = AbsByte::unknown();
     let clear = flags(true, 0x01, 0x00, CarryTag::None);
     let caller = state(alloc, AbsByte::known(0x41), any, clear);
-    let exit = state(alloc, any, tagged(Tag::Entry(0), 0x03, 0x03), clear);
-    assert!(rt; caller.returned(alloc, &exit)?.is_none());
-    let exit = state(alloc, any, any, flags(true, 0x01, 0x01, CarryTag::None));
-    assert!(rt; caller.returned(alloc, &exit)?.is_none());
-    let exit = state(alloc, any, any, flags(false, 0x01, 0x01, CarryTag::None));
-    assert!(rt; caller.returned(alloc, &exit)?.is_some());
+    let other_byte = state(alloc, any, tagged(Tag::Entry(0), 0x03, 0x03), clear);
+    let other_flags = state(alloc, any, any, flags(true, 0x01, 0x01, CarryTag::None));
+    let changed = state(alloc, any, any, flags(false, 0x01, 0x01, CarryTag::None));
+    let by_byte = caller.returned(alloc, &other_byte)?.is_some();
+    let by_flags = caller.returned(alloc, &other_flags)?.is_some();
+    let by_neither = caller.returned(alloc, &changed)?.is_some();
+    assert!(rt; [by_byte, by_flags, by_neither] == [false, false, true]);
     Ok(())
 }
 
@@ -211,12 +225,17 @@ fn a_join_tells_whether_it_grew(rt: HostRuntime) -> Result<(), Fail> {
         .slots
         .push(Slot::Guarded(tagged(Tag::None, 0xfe, 0x32)))?;
     let mut joined = low.copy(alloc)?;
-    expect(&rt, &joined, &low);
-    assert!(rt; joined.join_into(&other));
-    expect(&rt, &joined, &wanted);
-    assert!(rt; !joined.join_into(&low));
-    expect(&rt, &joined, &wanted);
-    assert!(rt; low.le(&joined));
-    assert!(rt; !joined.le(&low));
+    let copied = is_same(&joined, &low);
+    let grew = joined.join_into(&other);
+    let risen = is_same(&joined, &wanted);
+    let grew_again = joined.join_into(&low);
+    let order = [low.le(&joined), joined.le(&low)];
+    assert!(rt;
+        copied
+            && risen
+            && is_same(&joined, &wanted)
+            && [grew, grew_again] == [true, false]
+            && order == [true, false]
+    );
     Ok(())
 }
