@@ -17,7 +17,8 @@ use Rattle.bit_domain.specs.TriByte.{tri_of, tri_at}
 use Rattle.bit_domain.specs.Numbers.{with_top, numbers_of, one_if_any, count_unknown}
 use Rattle.bit_domain.proofs.AllLaws.{numbers_are_permitted}
 use Rattle.mask_states.specs.Splits.{enable_in, enable_tri, splits, is_any, is_unknown}
-use Rattle.mask_states.proofs.Bits.{number_below, number_bit, enabled_is_sum, from_bit, from_bit_is, from_next, bit_of_sum}
+use Rattle.vector_table.proofs.AllLaws.{enables_are_vectors}
+use Rattle.mask_states.proofs.Bits.{enabled_is_sum, from_bit, from_bit_is, from_next, bit_of_sum}
 use Rattle.mask_states.proofs.Few.{few_unknown, more_unknown, power_le}
 
 -- ---- one bit
@@ -61,28 +62,6 @@ unknown_row (Some r) address value old h =
     let unknown = unknown_bit (bit_at value.known r.bit) (bit_at value.value r.bit) parts.1 in
     let none : bit_at value.value r.bit ≡ 0 = omega (arith, value_le_known value r.bit) in
     (rw parts.0 unknown.0, rw parts.0 none)
-
--- ---- what is written where each unknown bit is 0
-
-written_bit : (o : Option Vector) (address byte old : ℕ) → old < 2 → written_enable o address byte old < 2
-written_bit None address byte old h = h
-written_bit (Some r) address byte old h = elim (cases_Bool (eqb r.address address)) [
-  | inl here ↦ rw here (bit_at-lt byte r.bit)
-  | inr other ↦ rw other h
-]
-
-pub written_small : (m address byte : ℕ) → written_enables m address byte < 2 ^ 25
-unfolding written_enables
-written_small m address byte =
-    number_below 25 (λ k. written_enable (row_of (k + 2)) address byte (bit_at m k))
-    (λ k lt. written_bit (row_of (k + 2)) address byte (bit_at m k) (bit_at-lt m k))
-
-pub written_at : (m address byte k : ℕ) → k < 25
-    → bit_at (written_enables m address byte) k ≡ written_enable (row_of (k + 2)) address byte (bit_at m k)
-unfolding written_enables
-written_at m address byte k lt =
-    number_bit 25 (λ k. written_enable (row_of (k + 2)) address byte (bit_at m k)) k
-    (λ i below. written_bit (row_of (i + 2)) address byte (bit_at m i) (bit_at-lt m i)) lt
 
 -- ---- lists
 
@@ -178,7 +157,7 @@ pub step_known : (m address : ℕ) (value : TriByte) (k : ℕ) → k < 25 → is
 unfolding enable_tri
 step_known m address value k lt h =
     left_known (written_enables m address value.value) (enable_tri m address value) k
-    (known_row (row_of (k + 2)) address value (bit_at m k) h ∙ ap tri_bit (sym (written_at m address value.value k lt)))
+    (known_row (row_of (k + 2)) address value (bit_at m k) h ∙ ap tri_bit (sym (enables_are_vectors.bit_written m address value.value k lt)))
 
 pub step_unknown : (m address : ℕ) (value : TriByte) (k : ℕ) → k < 25 → is_unknown (row_of (k + 2)) address value ≡ true
     → left (written_enables m address value.value) (enable_tri m address value) (suc k)
@@ -187,8 +166,8 @@ pub step_unknown : (m address : ℕ) (value : TriByte) (k : ℕ) → k < 25 → 
 unfolding enable_tri
 step_unknown m address value k lt h =
     let both = unknown_row (row_of (k + 2)) address value (bit_at m k) h in
-    left_unknown (written_enables m address value.value) (enable_tri m address value) k (written_small m address value.value) lt both.0
-    (written_at m address value.value k lt ∙ both.1)
+    left_unknown (written_enables m address value.value) (enable_tri m address value) k (enables_are_vectors.written m address value.value) lt both.0
+    (enables_are_vectors.bit_written m address value.value k lt ∙ both.1)
 
 -- there is room for as many again
 pub step_room : (m address : ℕ) (value : TriByte) (k : ℕ) → k < 25 → is_unknown (row_of (k + 2)) address value ≡ true
@@ -239,4 +218,4 @@ below_room m address value v low high is = step_room m address value (v - 2) (om
 
 pub below_all : (m address : ℕ) (value : TriByte) (v : ℕ) → v ≡ 27 → below m address value v ≡ splits m address value
 below_all m address value v e =
-    ap (below m address value) e ∙ left_all (written_enables m address value.value) (enable_tri m address value) (written_small m address value.value)
+    ap (below m address value) e ∙ left_all (written_enables m address value.value) (enable_tri m address value) (enables_are_vectors.written m address value.value)

@@ -13,10 +13,10 @@ use Rattle.bit_domain.specs.Numbers.{IsPermitted}
 use Rattle.bit_domain.proofs.AllLaws.{numbers_are_permitted, bytes_are_sets}
 use Rattle.mask_states.specs.Splits.{enable_in, enable_tri, splits, IsWritten}
 use Rattle.mask_states.specs.Laws.{SplitsAreWrites}
-use Rattle.mask_states.proofs.Bits.{number_below, number_bit, by_bits}
+use Rattle.vector_table.proofs.AllLaws.{numbers_are_their_bits, enables_are_vectors}
 use Rattle.mask_states.proofs.Rows.{at_place, row_good, place_good, none_at}
 use Rattle.mask_states.proofs.Few.{few_splits}
-use Rattle.mask_states.proofs.Steps.{written_small, written_at, left, left_first, left_all, left_known}
+use Rattle.mask_states.proofs.Steps.{left, left_first, left_all, left_known}
 
 -- ---- known bits
 
@@ -43,9 +43,9 @@ permits_written address value byte k old (Some r) row has small = elim (cases_Bo
 from_written : (m address : ℕ) (value : TriByte) (n : ℕ) → IsWritten m address value n → IsPermitted (enable_tri m address value) 25 n
 unfolding enable_tri
 from_written m address value n w = record {
-  small = subst (λ (x : ℕ). x < 2 ^ 25) (sym w.left) (written_small m address w.byte);
+  small = subst (λ (x : ℕ). x < 2 ^ 25) (sym w.left) (enables_are_vectors.written m address w.byte);
   bits = λ k lt.
-      subst (Permits (enable_in (row_of (k + 2)) address value (bit_at m k))) (sym (ap (λ (x : ℕ). bit_at x k) w.left ∙ written_at m address w.byte k lt))
+      subst (Permits (enable_in (row_of (k + 2)) address value (bit_at m k))) (sym (ap (λ (x : ℕ). bit_at x k) w.left ∙ enables_are_vectors.bit_written m address w.byte k lt))
       (permits_written address value w.byte k (bit_at m k) (row_of (k + 2)) refl w.member (bit_at-lt m k));
 }
 
@@ -105,7 +105,7 @@ left_picked m address value n k (Some r) row p = elim (cases_Bool (eqb r.address
       let two : place.0.number ≡ k + 2 = place.1.1 ∙ whole.1 in
       let number : place.0.number - 2 ≡ k = ap (λ (x : ℕ). x - 2) two ∙ less_two k in
       rw here
-      (sym (number_bit 8 (bit_for address value n) r.bit (bits_small address value n) whole.0.bit
+      (sym (numbers_are_their_bits.bits 8 (bit_for address value n) (bits_small address value n) r.bit whole.0.bit
       ∙ ap (λ (o : Option Vector). picked o n (bit_at value.value r.bit)) at ∙ ap (bit_at n) number))
   | inr other ↦ rw other (permits_alone (bit_at m k) (bit_at n k) (bit_at-lt m k) (subst (λ (b : Bool). Permits (cond b (tri_at value r.bit) (tri_bit (bit_at m k))) (bit_at n k)) other p))
 ]
@@ -114,12 +114,12 @@ to_written : (m address : ℕ) (value : TriByte) (n : ℕ) → IsPermitted (enab
 unfolding enable_tri written_enables
 to_written m address value n p = record {
   byte = byte_for address value n;
-  small = number_below 8 (bit_for address value n) (bits_small address value n);
+  small = numbers_are_their_bits.below 8 (bit_for address value n) (bits_small address value n);
   member = λ b lt.
-      subst (Permits (tri_at value b)) (sym (number_bit 8 (bit_for address value n) b (bits_small address value n) lt))
+      subst (Permits (tri_at value b)) (sym (numbers_are_their_bits.bits 8 (bit_for address value n) (bits_small address value n) b lt))
       (has_picked m address value n b p lt (find (at_place address b) vectors) refl);
   left =
-      by_bits 25 n (λ k. written_enable (row_of (k + 2)) address (byte_for address value n) (bit_at m k)) p.small
+      numbers_are_their_bits.same 25 n (λ k. written_enable (row_of (k + 2)) address (byte_for address value n) (bit_at m k)) p.small
       (λ k lt. left_picked m address value n k (row_of (k + 2)) refl (p.bits k lt));
 }
 

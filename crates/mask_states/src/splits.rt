@@ -10,7 +10,7 @@ use std::marker::Model;
 use vector_table::{Masks, row, write};
 
 /// The enable bits that a write may leave: at most 16, strictly ascending. Seen as the list of their numbers.
-#[derive(Debug, Drop)]
+#[derive(Drop)]
 pub struct Splits {
     masks: [Masks; 16],
     count: usize,

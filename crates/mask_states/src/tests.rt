@@ -2,25 +2,26 @@
 
 use crate::{EdgeKind, High, InstKey, Kind, NodeKey, SpForm, split};
 use bit_domain::TriByte;
+use std::cmp::Ordering;
 use vector_table::{Masks, write};
 
-// The data addresses of enable bits, how many stand there, and one address with none. Source: the data sheet's registers EIMSK,
+// The data addresses of enable bits, how many splits the bits there have, and one address with none. Source: the data sheet's registers EIMSK,
 // EECR, SPCR, ACSR, SPMCSR, WDTCSR, PCICR, TIMSK0, TIMSK1, TIMSK2, ADCSRA, TWCR and UCSR0B.
 const ADDRESSES: [(u16, usize); 14] = [
-    (0x3D, 2),
-    (0x3F, 1),
-    (0x4C, 1),
-    (0x50, 1),
-    (0x57, 1),
-    (0x60, 1),
-    (0x68, 3),
-    (0x6E, 3),
-    (0x6F, 4),
-    (0x70, 3),
-    (0x7A, 1),
-    (0xBC, 1),
-    (0xC1, 3),
-    (0x100, 0),
+    (0x3D, 4),
+    (0x3F, 2),
+    (0x4C, 2),
+    (0x50, 2),
+    (0x57, 2),
+    (0x60, 2),
+    (0x68, 8),
+    (0x6E, 8),
+    (0x6F, 16),
+    (0x70, 8),
+    (0x7A, 2),
+    (0xBC, 2),
+    (0xC1, 8),
+    (0x100, 1),
 ];
 
 // Known bits and their values.
@@ -65,22 +66,23 @@ fn splits_are_the_writes_of_all_bytes(rt: HostRuntime) {
                 let splits = split(masks(bits), address, &value);
                 assert!(rt;
                     are_writes(splits.as_slice(), masks(bits), address, value),
-                    "{address} {value:?}"
+                    "{address} {known} {bits}"
                 );
             }
         }
     }
 }
 
+// Whether so many ascend.
+fn ascend(all: &[Masks], count: usize) -> bool {
+    all.len() == count && all.is_sorted_by(|one, next| one.bits() < next.bits())
+}
+
 #[test]
 fn all_bytes_split_each_enable_bit(rt: HostRuntime) {
-    for &(address, bits) in &ADDRESSES {
+    for &(address, count) in &ADDRESSES {
         let splits = split(Masks::none(), address, &TriByte::any());
-        let all = splits.as_slice();
-        assert_eq!(rt; all.len(), 1 << bits, "{address}");
-        for pair in all.windows(2) {
-            assert!(rt; pair[0].bits() < pair[1].bits(), "{address}");
-        }
+        assert!(rt; ascend(splits.as_slice(), count), "{address}");
     }
 }
 
@@ -96,14 +98,16 @@ const ROWS: [(u32, u16, u8, u8, [u32; 4]); 4] = [
     (0x0, 0x68, 0x02, 0x02, [0x8, 0xC, 0x18, 0x1C]),
 ];
 
+// Whether these are the bits.
+fn are_bits(all: &[Masks], bits: &[u32; 4]) -> bool {
+    all.len() == 4 && all.iter().zip(bits).all(|(one, due)| one.bits() == *due)
+}
+
 #[test]
 fn splits_of_worked_rows(rt: HostRuntime) {
     for &(before, address, known, value, after) in &ROWS {
         let splits = split(masks(before), address, &TriByte::new(known, value));
-        assert_eq!(rt; splits.as_slice().len(), 4, "{address}");
-        for (masks, bits) in splits.as_slice().iter().zip(&after) {
-            assert_eq!(rt; masks.bits(), *bits, "{address}");
-        }
+        assert!(rt; are_bits(splits.as_slice(), &after), "{address}");
     }
 }
 
@@ -127,6 +131,11 @@ fn node(inst: &InstKey, pc: u16, bits: u32, i: bool, delay: bool, sp: SpForm) ->
     }
 }
 
+// Whether two instances go in this order, and are equal by `==` where it is that of equal ones.
+fn is_inst_order(a: &InstKey, b: &InstKey, order: Ordering) -> bool {
+    a.cmp(b) == order && (a == b) == order.is_eq()
+}
+
 #[test]
 fn instances_ascend_by_kind_entry_masks_and_flag(rt: HostRuntime) {
     let keys = [
@@ -142,10 +151,14 @@ fn instances_ascend_by_kind_entry_masks_and_flag(rt: HostRuntime) {
     ];
     for (at, a) in keys.iter().enumerate() {
         for (to, b) in keys.iter().enumerate() {
-            assert_eq!(rt; a.cmp(b), at.cmp(&to), "{a:?} {b:?}");
-            assert_eq!(rt; a == b, at == to, "{a:?} {b:?}");
+            assert!(rt; is_inst_order(a, b, at.cmp(&to)), "{at} {to}");
         }
     }
+}
+
+// The same of nodes, with the other order too.
+fn is_node_order(a: &NodeKey, b: &NodeKey, order: Ordering) -> bool {
+    a.cmp(b) == order && a.partial_cmp(b) == Some(order) && (a == b) == order.is_eq()
 }
 
 #[test]
@@ -168,9 +181,7 @@ fn nodes_ascend_by_instance_and_then_by_their_fields(rt: HostRuntime) {
     ];
     for (at, a) in keys.iter().enumerate() {
         for (to, b) in keys.iter().enumerate() {
-            assert_eq!(rt; a.cmp(b), at.cmp(&to), "{a:?} {b:?}");
-            assert_eq!(rt; a.partial_cmp(b), Some(at.cmp(&to)), "{a:?} {b:?}");
-            assert_eq!(rt; a == b, at == to, "{a:?} {b:?}");
+            assert!(rt; is_node_order(a, b, at.cmp(&to)), "{at} {to}");
         }
     }
 }
@@ -179,24 +190,19 @@ fn nodes_ascend_by_instance_and_then_by_their_fields(rt: HostRuntime) {
 fn an_instance_begins_at_its_entry(rt: HostRuntime) {
     let timer = inst(Kind::Vector(17), 32, 0x8001, false);
     let begin = NodeKey::entry(&timer);
-    assert!(rt; begin == node(&timer, 32, 0x8001, false, false, SpForm::Closed(0)));
-    assert!(rt; begin.inst == timer);
-    assert_eq!(rt; begin.offset(), 0);
-}
-
-#[test]
-fn offsets_of_both_forms(rt: HostRuntime) {
-    assert_eq!(rt; SpForm::Closed(7).offset(), 7);
-    assert_eq!(rt; SpForm::Open(9, High::Tag(300)).offset(), 9);
-    let open = node(
-        &InstKey::root(),
-        4,
-        0,
-        false,
-        false,
-        SpForm::Open(2048, High::Known(1)),
+    let form = SpForm::Open(2048, High::Known(1));
+    let open = node(&InstKey::root(), 4, 0, false, false, form);
+    let offsets = [
+        begin.offset(),
+        SpForm::Closed(7).offset(),
+        SpForm::Open(9, High::Tag(300)).offset(),
+        open.offset(),
+    ];
+    assert!(rt;
+        begin == node(&timer, 32, 0x8001, false, false, SpForm::Closed(0))
+            && begin.inst == timer
+            && offsets == [0, 7, 9, 2048]
     );
-    assert_eq!(rt; open.offset(), 2048);
 }
 
 #[test]
@@ -209,7 +215,5 @@ fn edges_go_by_kind_and_then_by_vector(rt: HostRuntime) {
         EdgeKind::Interrupt(8, false),
         EdgeKind::Return,
     ];
-    for pair in kinds.windows(2) {
-        assert!(rt; pair[0] < pair[1], "{pair:?}");
-    }
+    assert!(rt; kinds.is_sorted_by(|one, next| one < next));
 }
