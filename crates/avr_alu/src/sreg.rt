@@ -7,7 +7,7 @@ use bitflags::{Flag, Flags, bitflag_items};
 
 /// The status register: the flags C, Z, N, V, S, H, T and I in bits 0 to 7.
 /// Source: Instruction Set Manual DS40002198, "Status Register (SREG)".
-#[derive(Clone, Copy, PartialEq, Eq, Debug)]
+#[derive(Clone, Copy)]
 pub struct Sreg(pub u8);
 
 bitflag_items! {
