@@ -334,101 +334,84 @@ fn tri(number: u8) -> Tri {
     }
 }
 
-fn fields((byte, register): (TriByte, TriByte)) -> [u8; 4] {
-    [byte.known, byte.value, register.known, register.value]
+fn is(byte: TriByte, known: u8, value: u8) -> bool {
+    byte.known == known && byte.value == value
 }
 
-fn word_fields(((low, high), register): ((TriByte, TriByte), TriByte)) -> [u8; 6] {
-    [
-        low.known,
-        low.value,
-        high.known,
-        high.value,
-        register.known,
-        register.value,
-    ]
+fn is_byte((byte, register): (TriByte, TriByte), expected: &[u8]) -> bool {
+    expected.len() == 4
+        && is(byte, expected[0], expected[1])
+        && is(register, expected[2], expected[3])
+}
+
+fn is_word(((low, high), register): ((TriByte, TriByte), TriByte), expected: &[u8]) -> bool {
+    expected.len() == 6
+        && is(low, expected[0], expected[1])
+        && is(high, expected[2], expected[3])
+        && is(register, expected[4], expected[5])
+}
+
+fn is_sum_row(row: &[u8; 16]) -> bool {
+    let a = TriByte::new(row[0], row[1]);
+    let b = TriByte::new(row[2], row[3]);
+    let carry = tri(row[4]);
+    let s = TriByte::new(row[6], row[7]);
+    is_byte(add(a, b, carry, s), &row[8..12])
+        && is_byte(sub(a, b, carry, row[5] == 1, s), &row[12..])
+}
+
+fn is_bitwise_row(row: &[u8; 42]) -> bool {
+    let a = TriByte::new(row[0], row[1]);
+    let b = TriByte::new(row[2], row[3]);
+    let s = TriByte::new(row[4], row[5]);
+    is_byte(logic(Logic::And, a, b, s), &row[6..10])
+        && is_byte(logic(Logic::Or, a, b, s), &row[10..14])
+        && is_byte(logic(Logic::Eor, a, b, s), &row[14..18])
+        && is_byte(com(a, s), &row[18..22])
+        && is_byte(step_one(true, a, s), &row[22..26])
+        && is_byte(step_one(false, a, s), &row[26..30])
+        && is_byte(shift(Shift::Lsr, a, s), &row[30..34])
+        && is_byte(shift(Shift::Ror, a, s), &row[34..38])
+        && is_byte(shift(Shift::Asr, a, s), &row[38..])
+}
+
+fn is_word_row(row: &[u8; 19]) -> bool {
+    let a = (TriByte::new(row[0], row[1]), TriByte::new(row[2], row[3]));
+    let s = TriByte::new(row[5], row[6]);
+    is_word(wide(true, a, row[4], s), &row[7..13]) && is_word(wide(false, a, row[4], s), &row[13..])
+}
+
+fn product_of(number: u8) -> Mul {
+    match number {
+        0 => Mul::Mul,
+        1 => Mul::Muls,
+        2 => Mul::Mulsu,
+        3 => Mul::Fmul,
+        4 => Mul::Fmuls,
+        _ => Mul::Fmulsu,
+    }
+}
+
+fn is_product_row(row: &[u8; 13]) -> bool {
+    let a = TriByte::new(row[1], row[2]);
+    let b = TriByte::new(row[3], row[4]);
+    let s = TriByte::new(row[5], row[6]);
+    is_word(mul(product_of(row[0]), a, b, s), &row[7..])
 }
 
 #[test]
-fn sums_are_those_of_all_members(rt: HostRuntime) -> Result<(), Fail> {
-    for row in SUMS {
-        let a = TriByte::new(row[0], row[1]);
-        let b = TriByte::new(row[2], row[3]);
-        let s = TriByte::new(row[6], row[7]);
-        let sum = fields(add(a, b, tri(row[4]), s));
-        assert_eq!(rt; sum, [row[8], row[9], row[10], row[11]], "{a:?} + {b:?}");
-        let difference = fields(sub(a, b, tri(row[4]), row[5] == 1, s));
-        assert_eq!(rt;
-            difference,
-            [row[12], row[13], row[14], row[15]],
-            "{a:?} - {b:?}"
-        );
+fn operations_are_those_of_all_members(rt: HostRuntime) -> Result<(), Fail> {
+    for (at, row) in SUMS.iter().enumerate() {
+        assert!(rt; is_sum_row(row), "sum row {at}");
     }
-    Ok(())
-}
-
-#[test]
-fn bit_operations_are_those_of_all_members(rt: HostRuntime) -> Result<(), Fail> {
-    for row in BITWISE {
-        let a = TriByte::new(row[0], row[1]);
-        let b = TriByte::new(row[2], row[3]);
-        let s = TriByte::new(row[4], row[5]);
-        let answers = [
-            logic(Logic::And, a, b, s),
-            logic(Logic::Or, a, b, s),
-            logic(Logic::Eor, a, b, s),
-            com(a, s),
-            step_one(true, a, s),
-            step_one(false, a, s),
-            shift(Shift::Lsr, a, s),
-            shift(Shift::Ror, a, s),
-            shift(Shift::Asr, a, s),
-        ];
-        for i in 0..9 {
-            let at = 4 * i + 6;
-            let expected = [row[at], row[at + 1], row[at + 2], row[at + 3]];
-            assert_eq!(rt;
-                fields(answers[i]),
-                expected,
-                "operation {i} of {a:?} and {b:?}"
-            );
-        }
+    for (at, row) in BITWISE.iter().enumerate() {
+        assert!(rt; is_bitwise_row(row), "bitwise row {at}");
     }
-    Ok(())
-}
-
-#[test]
-fn words_are_those_of_all_members(rt: HostRuntime) -> Result<(), Fail> {
-    for row in WORDS {
-        let a = (TriByte::new(row[0], row[1]), TriByte::new(row[2], row[3]));
-        let s = TriByte::new(row[5], row[6]);
-        let sum = word_fields(wide(true, a, row[4], s));
-        assert_eq!(rt;
-            sum,
-            [row[7], row[8], row[9], row[10], row[11], row[12]],
-            "{a:?} up"
-        );
-        let less = word_fields(wide(false, a, row[4], s));
-        assert_eq!(rt;
-            less,
-            [row[13], row[14], row[15], row[16], row[17], row[18]],
-            "{a:?} down"
-        );
+    for (at, row) in WORDS.iter().enumerate() {
+        assert!(rt; is_word_row(row), "word row {at}");
     }
-    for row in PRODUCTS {
-        let op = match row[0] {
-            0 => Mul::Mul,
-            1 => Mul::Muls,
-            2 => Mul::Mulsu,
-            3 => Mul::Fmul,
-            4 => Mul::Fmuls,
-            _ => Mul::Fmulsu,
-        };
-        let a = TriByte::new(row[1], row[2]);
-        let b = TriByte::new(row[3], row[4]);
-        let product = word_fields(mul(op, a, b, TriByte::new(row[5], row[6])));
-        let expected = [row[7], row[8], row[9], row[10], row[11], row[12]];
-        assert_eq!(rt; product, expected, "{op:?} of {a:?} and {b:?}");
+    for (at, row) in PRODUCTS.iter().enumerate() {
+        assert!(rt; is_product_row(row), "product row {at}");
     }
     Ok(())
 }
