@@ -11,7 +11,9 @@ use Rattle.sp_domain.specs.Tags.{Origin}
 use Rattle.sp_domain.specs.Slots.{slot_at}
 use Rattle.abs_state.specs.declared.state.AbsState.{AbsState}
 use Rattle.abs_state.specs.declared.values.AbsByte.{AbsByte}
-use Rattle.abs_state.specs.Frames.{returned}
+use Rattle.abs_state.specs.Frames.{entered, returned}
+use Rattle.abs_state.specs.Order.{IsStateWithin}
+use Rattle.abs_state.specs.Values.{root}
 use Rattle.abs_state.specs.Stands.{RegistersStand, FlagsStand, SlotsStand}
 use Rattle.mask_states.specs.declared.keys.InstKey.{InstKey}
 use Rattle.mask_states.specs.declared.keys.EdgeKind.{EdgeKind}
@@ -21,6 +23,7 @@ use Rattle.mask_states.specs.Keys.{root_inst, entry_key}
 use Rattle.local_rules.specs.declared.local.Node.{Node}
 use Rattle.local_rules.specs.declared.local.CallSite.{CallSite}
 use Rattle.local_rules.specs.declared.local.Exit.{Exit}
+use Rattle.local_rules.specs.Local.{joined_onto}
 use Rattle.local_rules.specs.Cover.{InFrame}
 use Rattle.edge_rules.specs.Edges.{IsFaultless, raw_of, Enters, called_inst, vector_inst, returned_key}
 use Rattle.edge_rules.specs.Families.{Family}
@@ -65,22 +68,31 @@ pub record Runs (words : List ℕ) (A : List Entry) (f : Family) (m : State) (g 
 abbrev pub HasFrames : List ℕ → List Entry → Family → State → Type 0
 HasFrames words A f m = (g : Frame) × (gs : List Frame) × Runs words A f m g gs
 
+-- the machine has the root's frame alone, as reset leaves it
+pub record HasRootFrame (words : List ℕ) (A : List Entry) (f : Family) (m : State) : Type 0 where
+  pub state : AbsState
+  pub runs : Runs words A f m (record { node = record { key = entry_key root_inst; state = state }; origin = record { registers = m.registers; sreg = m.sreg; base = RAMEND } }) []
+  pub above : IsStateWithin root state
+
 -- ---- one step
 
 -- The frames after a step by this choice. By an instruction the running one moves along a local edge, or a called one is added above it,
--- or it is taken away and the one before moves along the edge of this return; by an interrupt its frame is added. A state may say less
--- than that of the edge.
+-- or it is taken away and the one before moves along the edge of this return; by an interrupt its frame is added. The state where it
+-- lands is at least that of the edge.
 pub data Change (words : List ℕ) (A : List Entry) (g : Frame) (gs : List Frame) : Choice → Frame → List Frame → Type 0 where
-  moved : (b1 b2 : ℕ) (to : Node) (state : AbsState) → IsFaultless words A g.node → Contains (raw_of words A g.node).moves to
+  moved : (b1 b2 : ℕ) (to : Node) (state : AbsState) → IsFaultless words A g.node → Contains (joined_onto [] (raw_of words A g.node).moves) to
+      → IsStateWithin to.state state
       → Change words A g gs (Go b1 b2) (record { node = record { key = to.key; state = state }; origin = g.origin }) gs
   called : (b1 b2 : ℕ) (site : CallSite) (state : AbsState) (o : Origin) → IsFaultless words A g.node → Contains (raw_of words A g.node).calls site
+      → IsStateWithin (entered g.node.state) state
       → Change words A g gs (Go b1 b2) (record { node = record { key = entry_key (called_inst g.node.key site.entry); state = state }; origin = o })
       (g ∷ gs)
   returned_to : (b1 b2 : ℕ) (h : Frame) (hs : List Frame) (way : EdgeKind) (back : ℕ) (x : Exit) (after state : AbsState) → gs ≡ h ∷ hs
       → Enters words A h.node way g.node.key.inst back → IsFaultless words A g.node → (raw_of words A g.node).exit ≡ Some x
-      → returned h.node.state g.node.state ≡ Some after
+      → returned h.node.state g.node.state ≡ Some after → IsStateWithin after state
       → Change words A g gs (Go b1 b2) (record { node = record { key = returned_key h.node.key back x; state = state }; origin = h.origin }) hs
   interrupted : (v : ℕ) (clears : Bool) (state : AbsState) (o : Origin) → Enters words A g.node (kind.Interrupt v clears) (vector_inst g.node.key v clears) g.node.key.pc
+      → IsStateWithin (entered g.node.state) state
       → Change words A g gs (Take v clears) (record { node = record { key = entry_key (vector_inst g.node.key v clears); state = state }; origin = o })
       (g ∷ gs)
 
@@ -98,11 +110,12 @@ IsFine words A f c g gs (Done m) = HasNext words A f c g gs m
 
 -- ---- what each kind of step does to the frames
 
--- the running frame is at a local successor
+-- the running frame is where a local edge leads
 pub record HasMoved (words : List ℕ) (A : List Entry) (f : Family) (g : Frame) (gs : List Frame) (n : State) : Type 0 where
   pub to : Node
-  pub member : Contains (raw_of words A g.node).moves to
+  pub member : Contains (joined_onto [] (raw_of words A g.node).moves) to
   pub state : AbsState
+  pub above : IsStateWithin to.state state
   pub runs : Runs words A f n (record { node = record { key = to.key; state = state }; origin = g.origin }) gs
 
 -- a frame of a called instance is added
@@ -110,6 +123,7 @@ pub record HasCalled (words : List ℕ) (A : List Entry) (f : Family) (g : Frame
   pub site : CallSite
   pub member : Contains (raw_of words A g.node).calls site
   pub state : AbsState
+  pub above : IsStateWithin (entered g.node.state) state
   pub origin : Origin
   pub runs : Runs words A f n (record { node = record { key = entry_key (called_inst g.node.key site.entry); state = state }; origin = origin }) (g ∷ gs)
 
@@ -123,13 +137,17 @@ pub record HasReturned (words : List ℕ) (A : List Entry) (f : Family) (g : Fra
   pub enters : Enters words A caller.node way g.node.key.inst back
   pub exit : Exit
   pub leaves : (raw_of words A g.node).exit ≡ Some exit
+  pub after : AbsState
+  pub returns : returned caller.node.state g.node.state ≡ Some after
   pub state : AbsState
+  pub above : IsStateWithin after state
   pub runs : Runs words A f n (record { node = record { key = returned_key caller.node.key back exit; state = state }; origin = caller.origin }) rest
 
 -- the frame of this interrupt is added
 pub record HasInterrupted (words : List ℕ) (A : List Entry) (f : Family) (g : Frame) (gs : List Frame) (v : ℕ) (clears : Bool) (n : State) : Type 0 where
   pub enters : Enters words A g.node (kind.Interrupt v clears) (vector_inst g.node.key v clears) g.node.key.pc
   pub state : AbsState
+  pub above : IsStateWithin (entered g.node.state) state
   pub origin : Origin
   pub runs : Runs words A f n (record { node = record { key = entry_key (vector_inst g.node.key v clears); state = state }; origin = origin }) (g ∷ gs)
 

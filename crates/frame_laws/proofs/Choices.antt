@@ -16,6 +16,7 @@ use Rattle.avr_model.specs.Effects.{effect_of, way_back}
 use Rattle.avr_model.specs.Step.{Answer, Illegal, Undefined, Overflow, Flagged, Done, after, all_inside, live_write, protected_write, unlisted_transfer, may_take, enables_taken, entering, take, go, step}
 use Rattle.avr_model.specs.Run.{HasBytes}
 use Rattle.mask_states.specs.declared.keys.NodeKey.{NodeKey}
+use Rattle.mask_states.specs.declared.keys.EdgeKind.TheVariants as kind
 use Rattle.mask_states.specs.declared.keys.SpForm.{SpForm}
 use Rattle.mask_states.specs.declared.keys.SpForm.TheVariants.{Closed, Open}
 use Rattle.abs_state.specs.declared.state.AbsState.{AbsState}
@@ -91,9 +92,9 @@ module _ (cover : LocalPartsCover) (machines : MachinesStay) (live : LiveBytesSt
           let k = g.node.key in
           subst (λ b. GoesOn (Follow words A f (Go b1 b2) g gs) m b e) (sym on)
           (subst (GoesOn (Follow words A f (Go b1 b2) g gs) m true) (sym same)
-          (frames_enter live words A f sound m g gs runs (called_inst k site.entry) site.back offset form (by_call offset site faultless form member)
+          (frames_enter live words A f sound m g gs runs kind.Call (called_inst k site.entry) site.back offset form (by_call offset site faultless form member)
           site.entry m.sreg m.enables refl refl runs.running.place.i runs.running.place.enables
-          (Go b1 b2) (λ state. called b1 b2 site state _ faultless member)))
+          (Go b1 b2) (λ state above. called b1 b2 site state _ faultless member above)))
       follows_on guarded e (leaves x exit kind form is) = frames_return live words A f sound m g gs runs b1 b2 guarded e x faultless exit form is kind
 
       -- an instruction with its effect
@@ -127,12 +128,12 @@ module _ (cover : LocalPartsCover) (machines : MachinesStay) (live : LiveBytesSt
         let i : k.i ≡ true = sym place.i ∙ all.1 in
         let delay : k.delay ≡ false = sym place.delay ∙ all.2 in
         let closed = closed_where_taken k v k.sp refl i delay enabled (faultless_not_hung words A k g.node.state faultless) in
-        let enters : Enters words A g.node (vector_inst k v clears) k.pc = by_interrupt closed.0 v clears faultless closed.1 i delay enabled all.3 in
+        let enters : Enters words A g.node (kind.Interrupt v clears) (vector_inst k v clears) k.pc = by_interrupt closed.0 v clears faultless closed.1 i delay enabled all.3 in
         let on : GoesOn (Follow words A f (Take v clears) g gs) m true (entering m v clears) =
         subst (λ pc. GoesOn (Follow words A f (Take v clears) g gs) m true (record (entering m v clears) { pushes = way_back m.sp pc })) (sym place.pc)
-        (frames_enter live words A f sound m g gs runs (vector_inst k v clears) k.pc closed.0 closed.1 enters
+        (frames_enter live words A f sound m g gs runs (kind.Interrupt v clears) (vector_inst k v clears) k.pc closed.0 closed.1 enters
         (vector_word v) (m.sreg % 128) (enables_taken m.enables clears) refl (omega arith) (flag_cleared m.sreg) (ap (λ masks. enables_taken masks clears) place.enables)
-        (Take v clears) (λ state. interrupted v clears state _ enters)) in
+        (Take v clears) (λ state above. interrupted v clears state _ enters above)) in
         taken_fine (Follow words A f (Take v clears) g gs) m.pc (after m true (entering m v clears)) (all_inside (entering m v clears).pushes) (live_write m.memory (entering m v clears).pushes) on.inside on.done
 
     owed : (c : Choice) → HasBytes c → IsFineFor (Follow words A f c g gs) (step words A m c)

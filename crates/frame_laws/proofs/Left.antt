@@ -6,6 +6,7 @@ use Rattle.sp_domain.specs.Tags.{Origin}
 use Rattle.abs_state.specs.Laws.{Keeps}
 use Rattle.abs_state.proofs.AllLaws.{slots_follow}
 use Rattle.mask_states.specs.declared.keys.InstKey.{InstKey}
+use Rattle.mask_states.specs.declared.keys.EdgeKind.{EdgeKind}
 use Rattle.mask_states.specs.declared.keys.Kind.TheVariants.{Root}
 use Rattle.mask_states.specs.Keys.{offset_of}
 use Rattle.local_rules.specs.declared.local.Node.{Node}
@@ -13,7 +14,7 @@ use Rattle.edge_rules.specs.Edges.{Enters, by_call, by_interrupt}
 use Rattle.edge_rules.specs.Families.{Family, IsSound}
 use Rattle.edge_rules.specs.Frames.{Frame, IsLeft, AreLeft}
 
-pub not_root : {words : List ℕ} {A : List Entry} {n : Node} {inst : InstKey} {back : ℕ} → Enters words A n inst back → inst.kind ≢ Root
+pub not_root : {words : List ℕ} {A : List Entry} {n : Node} {way : EdgeKind} {inst : InstKey} {back : ℕ} → Enters words A n way inst back → inst.kind ≢ Root
 not_root (by_call offset site faultless form member) = λ e. cc
 not_root (by_interrupt offset v clears faultless form i delay enabled clearable) = λ e. cc
 
@@ -28,7 +29,7 @@ module _ (words : List ℕ) (A : List Entry) (f : Family) where
     pub within : (memory : Memory) (gs : List Frame) (inst : InstKey) (o : Origin) → AreLeft words A f memory gs inst o → RAMEND + f.need_of inst ≤ o.base + f.bound
     within memory [] inst o l = omega (arith, ap f.need_of l.0, l.1, sound.bounded)
     within memory (g ∷ gs) inst o l =
-        omega (arith, within memory gs g.node.key.inst g.origin l.1, l.0.place, ap offset_of l.0.closed, sound.needs g.node inst l.0.back l.0.present l.0.enters)
+        omega (arith, within memory gs g.node.key.inst g.origin l.1, l.0.place, ap offset_of l.0.closed, sound.needs g.node l.0.way inst l.0.back l.0.present l.0.enters)
 
     pub base_inside : (memory : Memory) (gs : List Frame) (inst : InstKey) (o : Origin) → AreLeft words A f memory gs inst o → o.base ≤ RAMEND
     base_inside memory [] inst o l = omega (arith, l.1)
@@ -46,6 +47,7 @@ module _ (words : List ℕ) (A : List Entry) (f : Family) where
             offset = l.offset;
             closed = l.closed;
             place = l.place;
+            way = l.way;
             back = l.back;
             enters = l.enters;
             rank = l.rank;

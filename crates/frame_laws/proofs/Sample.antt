@@ -11,6 +11,7 @@ use Rattle.abs_state.specs.declared.values.AbsByte.{AbsByte}
 use Rattle.abs_state.specs.Frames.{tagged_from, entered, returned}
 use Rattle.abs_state.proofs.AllLaws.{states_are_ordered, reset_stands, entries_are_true, returns_are_true}
 use Rattle.mask_states.specs.declared.keys.InstKey.{InstKey}
+use Rattle.mask_states.specs.declared.keys.EdgeKind.{EdgeKind}
 use Rattle.mask_states.specs.declared.keys.SpForm.TheVariants.{Closed}
 use Rattle.mask_states.specs.Keys.{entry_key, offset_of}
 use Rattle.local_rules.specs.declared.local.Node.{Node}
@@ -18,8 +19,10 @@ use Rattle.local_rules.specs.declared.local.CallSite.{CallSite}
 use Rattle.local_rules.specs.declared.local.Exit.{Exit}
 use Rattle.local_rules.specs.Raw.{Raw}
 use Rattle.local_rules.specs.Flow.{site}
+use Rattle.local_rules.specs.Local.{placed, joined_onto}
 use Rattle.local_rules.specs.Cover.{IsNode, TagFits, TagsFit}
-use Rattle.edge_rules.specs.Edges.{raw_of, IsFaultless, Enters, by_call, by_interrupt, Edge, moving, entering, returning, called_inst, returned_key}
+use Rattle.edge_rules.specs.declared.edge.Edge.{Edge}
+use Rattle.edge_rules.specs.Edges.{raw_of, IsFaultless, Enters, by_call, by_interrupt, IsEdge, moving, entering, returning, target, called_inst, returned_key}
 use Rattle.edge_rules.specs.Families.{IsCovered, IsSound}
 use Rattle.edge_rules.specs.Examples.{sample, callee, top, at_call, at_loop, at_return, family, plain_exit, call_leads, loop_leads, return_leads}
 
@@ -78,19 +81,19 @@ some_is x y e = cc
 
 -- ---- entries
 
-call_enters : (P : InstKey → ℕ → Type 0) → P callee 1 → (inst : InstKey) (back : ℕ) → Enters sample [] at_call inst back → P inst back
-call_enters P p _ _ (by_call offset s faultless form member) =
+call_enters : (P : InstKey → ℕ → Type 0) → P callee 1 → (way : EdgeKind) (inst : InstKey) (back : ℕ) → Enters sample [] at_call way inst back → P inst back
+call_enters P p _ _ _ (by_call offset s faultless form member) =
     let e : s ≡ site 2 1 = one_in (site 2 1) s (subst (λ (r : Raw). Contains r.calls s) call_leads member) in
     subst (λ (x : CallSite). P (called_inst at_call.key x.entry) x.back) (sym e) p
-call_enters P p _ _ (by_interrupt offset v clears faultless form i delay enabled clearable) = absurd (cc)
+call_enters P p _ _ _ (by_interrupt offset v clears faultless form i delay enabled clearable) = absurd (cc)
 
-loop_enters : (inst : InstKey) (back : ℕ) → Enters sample [] at_loop inst back → ⊥
-loop_enters _ _ (by_call offset s faultless form member) = none_in s (subst (λ (r : Raw). Contains r.calls s) loop_leads member)
-loop_enters _ _ (by_interrupt offset v clears faultless form i delay enabled clearable) = cc
+loop_enters : (way : EdgeKind) (inst : InstKey) (back : ℕ) → Enters sample [] at_loop way inst back → ⊥
+loop_enters _ _ _ (by_call offset s faultless form member) = none_in s (subst (λ (r : Raw). Contains r.calls s) loop_leads member)
+loop_enters _ _ _ (by_interrupt offset v clears faultless form i delay enabled clearable) = cc
 
-return_enters : (inst : InstKey) (back : ℕ) → Enters sample [] at_return inst back → ⊥
-return_enters _ _ (by_call offset s faultless form member) = none_in s (subst (λ (r : Raw). Contains r.calls s) return_leads member)
-return_enters _ _ (by_interrupt offset v clears faultless form i delay enabled clearable) = cc
+return_enters : (way : EdgeKind) (inst : InstKey) (back : ℕ) → Enters sample [] at_return way inst back → ⊥
+return_enters _ _ _ (by_call offset s faultless form member) = none_in s (subst (λ (r : Raw). Contains r.calls s) return_leads member)
+return_enters _ _ _ (by_interrupt offset v clears faultless form i delay enabled clearable) = cc
 
 -- ---- edges
 
@@ -112,26 +115,32 @@ return_covered inst back inst_is back_is =
     subst (λ b. IsCovered family.nodes (record { key = returned_key at_call.key b x; state = s })) (sym back_is)
     (subst (λ y. IsCovered family.nodes (record { key = returned_key at_call.key 1 y; state = s })) this (covered_by_loop s formed.count_slots)))
 
-call_edges : (to : Node) → Edge sample [] family.nodes at_call to → IsCovered family.nodes to
-call_edges _ (moving to faultless member) = absurd (none_in to (subst (λ (r : Raw). Contains r.moves to) call_leads member))
-call_edges _ (entering inst back enters) =
+no_moves : (to : Node) (r : Raw) → r.moves ≡ [] → Contains (joined_onto [] r.moves) to → ⊥
+unfolding joined_onto
+no_moves to r none member = none_in to (subst (λ (ns : List Node). Contains (joined_onto [] ns) to) none member)
+
+one_move : (to : Node) → Contains (joined_onto [] (raw_of sample [] at_loop).moves) to → to ≡ at_loop
+unfolding joined_onto placed
+one_move to member = one_in at_loop to (subst (λ (r : Raw). Contains (joined_onto [] r.moves) to) loop_leads member)
+
+call_edges : (e : Edge) → IsEdge sample [] family.nodes at_call e → IsCovered family.nodes (target e)
+call_edges _ (moving to faultless member) = absurd (no_moves to (raw_of sample [] at_call) (ap (λ (r : Raw). r.moves) call_leads) member)
+call_edges _ (entering way inst back enters) =
     call_enters (λ i b. IsCovered family.nodes (record { key = entry_key i; state = entered top }))
-    record { state = entered top; present = (2, omega arith, refl); above = states_are_ordered.same (entered top) } inst back enters
-call_edges _ (returning inst back leaver x state enters present same faultless exit is) =
-    let both = call_enters (λ i b. (i ≡ callee) × (b ≡ 1)) (refl, refl) inst back enters in
+    record { state = entered top; present = (2, omega arith, refl); above = states_are_ordered.same (entered top) } way inst back enters
+call_edges _ (returning way inst back leaver x state enters present same faultless exit is) =
+    let both = call_enters (λ i b. (i ≡ callee) × (b ≡ 1)) (refl, refl) way inst back enters in
     return_covered inst back both.0 both.1 leaver present same x state exit is
 
-loop_edges : (to : Node) → Edge sample [] family.nodes at_loop to → IsCovered family.nodes to
-loop_edges _ (moving to faultless member) =
-    let e = one_in at_loop to (subst (λ (r : Raw). Contains r.moves to) loop_leads member) in
-    subst (IsCovered family.nodes) (sym e) (covered_by_loop top refl)
-loop_edges _ (entering inst back enters) = absurd (loop_enters inst back enters)
-loop_edges _ (returning inst back leaver x state enters present same faultless exit is) = absurd (loop_enters inst back enters)
+loop_edges : (e : Edge) → IsEdge sample [] family.nodes at_loop e → IsCovered family.nodes (target e)
+loop_edges _ (moving to faultless member) = subst (IsCovered family.nodes) (sym (one_move to member)) (covered_by_loop top refl)
+loop_edges _ (entering way inst back enters) = absurd (loop_enters way inst back enters)
+loop_edges _ (returning way inst back leaver x state enters present same faultless exit is) = absurd (loop_enters way inst back enters)
 
-return_edges : (to : Node) → Edge sample [] family.nodes at_return to → IsCovered family.nodes to
-return_edges _ (moving to faultless member) = absurd (none_in to (subst (λ (r : Raw). Contains r.moves to) return_leads member))
-return_edges _ (entering inst back enters) = absurd (return_enters inst back enters)
-return_edges _ (returning inst back leaver x state enters present same faultless exit is) = absurd (return_enters inst back enters)
+return_edges : (e : Edge) → IsEdge sample [] family.nodes at_return e → IsCovered family.nodes (target e)
+return_edges _ (moving to faultless member) = absurd (no_moves to (raw_of sample [] at_return) (ap (λ (r : Raw). r.moves) return_leads) member)
+return_edges _ (entering way inst back enters) = absurd (return_enters way inst back enters)
+return_edges _ (returning way inst back leaver x state enters present same faultless exit is) = absurd (return_enters way inst back enters)
 
 offset_is : (offset : ℕ) → Closed 0 ≡ Closed offset → offset ≡ 0
 offset_is offset e = omega (arith, ap offset_of e)
@@ -162,13 +171,13 @@ the_sample_is_sound = record {
   reset = record { state = top; present = (0, omega arith, refl); above = top_above root refl };
   faultless = each (λ n. IsFaultless sample [] n)
       (ap (λ (r : Raw). r.faults) call_leads) (ap (λ (r : Raw). r.faults) loop_leads) (ap (λ (r : Raw). r.faults) return_leads);
-  edges = λ n to h. each (λ x. Edge sample [] family.nodes x to → IsCovered family.nodes to) (call_edges to) (loop_edges to) (return_edges to) n h;
-  ranks = λ n inst back h. each (λ x. Enters sample [] x inst back → family.rank_of inst < family.rank_of x.key.inst)
-      (call_enters (λ i b. family.rank_of i < 1) (omega arith) inst back) (λ e. absurd (loop_enters inst back e)) (λ e. absurd (return_enters inst back e)) n h;
+  edges = λ n e h. each (λ x. IsEdge sample [] family.nodes x e → IsCovered family.nodes (target e)) (call_edges e) (loop_edges e) (return_edges e) n h;
+  ranks = λ n way inst back h. each (λ x. Enters sample [] x way inst back → family.rank_of inst < family.rank_of x.key.inst)
+      (call_enters (λ i b. family.rank_of i < 1) (omega arith) way inst back) (λ e. absurd (loop_enters way inst back e)) (λ e. absurd (return_enters way inst back e)) n h;
   offsets = λ n offset h. each (λ x. x.key.sp ≡ Closed offset → offset ≤ family.need_of x.key.inst)
       (λ e. omega (arith, offset_is offset e)) (λ e. omega (arith, offset_is offset e)) (λ e. omega (arith, offset_is offset e)) n h;
-  needs = λ n inst back h. each (λ x. Enters sample [] x inst back → offset_of x.key.sp + 2 + family.need_of inst ≤ family.need_of x.key.inst)
-      (call_enters (λ i b. 0 + 2 + family.need_of i ≤ 2) (omega arith) inst back) (λ e. absurd (loop_enters inst back e)) (λ e. absurd (return_enters inst back e)) n h;
+  needs = λ n way inst back h. each (λ x. Enters sample [] x way inst back → offset_of x.key.sp + 2 + family.need_of inst ≤ family.need_of x.key.inst)
+      (call_enters (λ i b. 0 + 2 + family.need_of i ≤ 2) (omega arith) way inst back) (λ e. absurd (loop_enters way inst back e)) (λ e. absurd (return_enters way inst back e)) n h;
   bounded = omega arith;
   small = omega arith;
 }

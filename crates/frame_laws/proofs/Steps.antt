@@ -14,8 +14,10 @@ use Rattle.abs_state.specs.Stands.{RegistersStand, FlagsStand, Stands}
 use Rattle.abs_state.specs.Formed.{IsFormed}
 use Rattle.abs_state.specs.Frames.{entered}
 use Rattle.abs_state.specs.Laws.{Keeps}
-use Rattle.abs_state.proofs.AllLaws.{values_say_less, slots_follow, entries_are_true, returns_are_true}
+use Rattle.abs_state.specs.Order.{IsStateWithin}
+use Rattle.abs_state.proofs.AllLaws.{states_are_ordered, values_say_less, slots_follow, entries_are_true, returns_are_true}
 use Rattle.mask_states.specs.declared.keys.InstKey.{InstKey}
+use Rattle.mask_states.specs.declared.keys.EdgeKind.{EdgeKind}
 use Rattle.mask_states.specs.declared.keys.Kind.TheVariants.{Root}
 use Rattle.mask_states.specs.declared.keys.SpForm.{SpForm}
 use Rattle.mask_states.specs.declared.keys.SpForm.TheVariants.{Closed, Open}
@@ -26,6 +28,7 @@ use Rattle.local_rules.specs.declared.local.Exit.{Exit}
 use Rattle.local_rules.specs.Cover.{IsWithinBase, HasRoom, Lands, IsReturn}
 use Rattle.local_rules.specs.Machine.{IsMachine, floor_of}
 use Rattle.local_laws.specs.Laws.{LiveBytesStay}
+use Rattle.local_laws.proofs.AllLaws.{joins_are_least, local_parts_are_nodes}
 use Rattle.edge_rules.specs.Edges.{raw_of, IsFaultless, Enters, returned_key, moving, entering, returning}
 use Rattle.edge_rules.specs.Families.{Family, IsCovered, IsSound}
 use Rattle.edge_rules.specs.Frames.{Frame, AreLeft, Runs, Change, moved, returned_to, HasNext}
@@ -78,7 +81,10 @@ module _ (live : LiveBytesStay) (words : List ℕ) (A : List Entry) (f : Family)
       pub frames_local : (to : Node) → IsFaultless words A g.node → Contains (raw_of words A g.node).moves to → to.key.inst ≡ g.node.key.inst → Lands m g.origin guarded e to
           → GoesOn (Follow words A f (Go b1 b2) g gs) m guarded e
       frames_local to faultless member inst lands =
-          let cov = sound.edges g.node to runs.present (moving to faultless member) in
+          let moves = (raw_of words A g.node).moves in
+          let joined = joins_are_least.above moves to (λ x i. (local_parts_are_nodes.nodes words A g.node.key g.node.state x runs.running.node faultless i).1) member in
+          let edge : Node = record { key = to.key; state = joined.state } in
+          let cov = sound.edges g.node _ runs.present (moving edge faultless joined.present) in
           let node : Node = record { key = to.key; state = cov.state } in
           let room = room_at node cov.present inst to.key.sp refl in
           let place = lands.place (base_at g.origin.base to.key.sp room) in
@@ -101,13 +107,13 @@ module _ (live : LiveBytesStay) (words : List ℕ) (A : List Entry) (f : Family)
                       machine = machine;
                       node = sound.formed node cov.present;
                       place = place;
-                      stands = values_say_less.state g.origin to.state cov.state n cov.above stands;
+                      stands = values_say_less.state g.origin to.state cov.state n (states_are_ordered.through to.state joined.state cov.state joined.above cov.above) stands;
                       root = subst (λ (i : InstKey). i.kind ≡ Root → g.origin.base ≡ RAMEND) (sym inst) runs.running.root;
                       base_word = runs.running.base_word;
                     };
                     left = subst (λ i. AreLeft words A f n.memory gs i g.origin) (sym inst) left;
                   },
-                  moved b1 b2 to cov.state faultless member,
+                  moved b1 b2 edge cov.state faultless joined.present cov.above,
                 );
           }
 
@@ -120,21 +126,21 @@ module _ (live : LiveBytesStay) (words : List ℕ) (A : List Entry) (f : Family)
     abbrev entry_origin : Origin
     entry_origin = record { registers = m.registers; sreg = m.sreg; base = minus16 m.sp 2 }
 
-    module _ (inst : InstKey) (back offset : ℕ) (form : g.node.key.sp ≡ Closed offset) (enters : Enters words A g.node inst back) where
+    module _ (way : EdgeKind) (inst : InstKey) (back offset : ℕ) (form : g.node.key.sp ≡ Closed offset) (enters : Enters words A g.node way inst back) where
       room : RAMEND + 2 ≤ m.sp + SIZE
-      room = omega (arith, in_bound, sound.small, sound.needs g.node inst back runs.present enters, ap offset_of form, closed_sp offset form)
+      room = omega (arith, in_bound, sound.small, sound.needs g.node way inst back runs.present enters, ap offset_of form, closed_sp offset form)
 
       top : m.sp ≤ RAMEND
       top = omega (arith, low_base, closed_sp offset form)
 
       covered : IsCovered f.nodes (record { key = entry_key inst; state = entered g.node.state })
-      covered = sound.edges g.node _ runs.present (entering inst back enters)
+      covered = sound.edges g.node _ runs.present (entering way inst back enters)
 
       abbrev entry_frame : Frame
       entry_frame = record { node = record { key = entry_key inst; state = covered.state }; origin = entry_origin }
 
       left_by : (n : Memory) → Keeps m.memory n (minus16 m.sp 2) → WayBack n (minus16 m.sp 2) back → AreLeft words A f n (g ∷ gs) inst entry_origin
-      left_by n kept way =
+      left_by n kept pushed =
           let sp = closed_sp offset form in (
             record {
               present = runs.present;
@@ -144,20 +150,21 @@ module _ (live : LiveBytesStay) (words : List ℕ) (A : List Entry) (f : Family)
               offset = offset;
               closed = form;
               place = omega (arith, room, top, sp);
+              way = way;
               back = back;
               enters = enters;
-              rank = sound.ranks g.node inst back runs.present enters;
-              low_byte = way.low_byte;
-              high_byte = way.high_byte;
-              low_live = way.low_live;
-              high_live = way.high_live;
+              rank = sound.ranks g.node way inst back runs.present enters;
+              low_byte = pushed.low_byte;
+              high_byte = pushed.high_byte;
+              low_live = pushed.low_live;
+              high_live = pushed.high_live;
             },
             left_kept words A f sound m.memory n (minus16 m.sp 2) kept gs g.node.key.inst g.origin (omega (arith, room, top, sp)) runs.left,
           )
 
       module _ (target sreg enables : ℕ) (to : target ≡ inst.entry) (flags : sreg % 128 ≡ m.sreg % 128) (i : flag sreg 7 ≡ inst.i) (masks : enables ≡ inst.masks) where
         pub frames_enter : (c : Choice)
-            → ((state : AbsState) → Change words A g gs c (record { node = record { key = entry_key inst; state = state }; origin = entry_origin }) (g ∷ gs))
+            → ((state : AbsState) → IsStateWithin (entered g.node.state) state → Change words A g gs c (record { node = record { key = entry_key inst; state = state }; origin = entry_origin }) (g ∷ gs))
             → GoesOn (Follow words A f c g gs) m true (entry_effect m target sreg enables back)
         frames_enter c change =
             let n = after m true (entry_effect m target sreg enables back) in
@@ -184,7 +191,7 @@ module _ (live : LiveBytesStay) (words : List ℕ) (A : List Entry) (f : Family)
                   };
                   left = left_by n.memory (kept_by true (entry_effect m target sreg enables back) miss) (way_pushed m.memory m.sp back runs.running.machine.count_bytes runs.running.machine.count_live top room);
                 },
-                change covered.state,
+                change covered.state covered.above,
               );
             }
 
@@ -220,7 +227,7 @@ module _ (live : LiveBytesStay) (words : List ℕ) (A : List Entry) (f : Family)
           let slots = slots_follow.kept h.origin m.memory n.memory (g.origin.base + 2) h.node.state.slots kept (omega (arith, was.place, ap offset_of was.closed, caller.formed.count_slots)) was.slots in
           let back = returns_are_true.stands h.origin g.origin h.node.state g.node.state (offset_of h.node.key.sp) g.origin.registers m.registers g.origin.sreg m.sreg e.sreg n.memory
           caller.formed callee was.registers was.flags slots (record { registers_kept = refl; flags_kept = refl }) runs.running.stands.registers runs.running.stands.flags is.flags in
-          let edge = returning g.node.key.inst was.back g.node x back.0 was.enters runs.present refl faultless exit back.1 in
+          let edge = returning was.way g.node.key.inst was.back g.node x back.0 was.enters runs.present refl faultless exit back.1 in
           let cov = sound.edges h.node _ was.present edge in
           let key = returned_key h.node.key was.back x in
           let node = sound.formed (record { key = key; state = cov.state }) cov.present in
@@ -249,7 +256,7 @@ module _ (live : LiveBytesStay) (words : List ℕ) (A : List Entry) (f : Family)
               };
               left = left_kept words A f sound m.memory n.memory (g.origin.base + 2) kept hs h.node.key.inst h.origin (omega (arith, was.place)) left.1;
             },
-            returned_to b1 b2 h hs was.back x back.0 cov.state frames was.enters faultless exit back.1,
+            returned_to b1 b2 h hs was.way was.back x back.0 cov.state frames was.enters faultless exit back.1 cov.above,
           )
 
       pub frames_return : g.node.key.inst.kind ≢ Root → GoesOn (Follow words A f (Go b1 b2) g gs) m guarded e
