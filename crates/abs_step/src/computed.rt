@@ -7,6 +7,7 @@ ghost use Rattle.local_rules.specs.Registers.{set_pair, register_set, with_bits,
 
 use abs_state::{AbsByte, AbsFlags, AbsState};
 use bit_domain::TriByte;
+use local_rules::Computed;
 use sp_domain::{CarryTag, Tag};
 
 // The value of register r.
