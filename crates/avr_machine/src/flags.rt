@@ -58,7 +58,8 @@ fn unlisted(listed: &[u16], writes: &[Write]) -> Option<u16>
 fn is_permitted(flash: &Flash, assumptions: &Assumptions, site: u16) -> bool
     ensures { result ≡ is_fixed flash.now site || is_proved assumptions.now site }
 {
-    is_fixed(flash.words(), site) || assumptions.proved(site)
+    // The assumption comes first: to look for a load before the site takes longer.
+    assumptions.proved(site) || is_fixed(flash.words(), site)
 }
 
 /// The protected address that a pointer store writes, where its site is neither fixed nor lists it.
@@ -72,10 +73,15 @@ pub fn protected_write(
 ) -> Option<u16>
     ensures { result ≡ protected_write flash.now assumptions.now site instr.now effect.now }
 {
-    if is_pointer_store(instr) && !is_permitted(flash, assumptions, site) {
-        unlisted(assumptions.stores(site), effect.stores.as_slice())
-    } else {
+    if !is_pointer_store(instr) {
+        return None;
+    }
+    // The address comes first: most stores go to SRAM, and then the words before the site don't matter.
+    let address = unlisted(assumptions.stores(site), effect.stores.as_slice())?;
+    if is_permitted(flash, assumptions, site) {
         None
+    } else {
+        Some(address)
     }
 }
 
