@@ -1,5 +1,5 @@
 -- The family of the worked firmware is sound: the definitions are met where there is a call.
-use Rattle.std.proofs.Common.{◌≡◌, ℕ, zero, suc, ◌+◌, ◌<◌, ◌≤◌, ◌⊎◌, inl, inr, ⊎_elim, List, [], ◌∷◌, replicate, length, Some, slice_index_or, refl, sym, ap, ◌∙◌, subst, arith, Contains}
+use Rattle.std.proofs.Common.{◌≡◌, ℕ, zero, suc, ◌+◌, ◌<◌, ◌≤◌, ◌⊎◌, inl, inr, ⊎_elim, List, [], ◌∷◌, length, Some, slice_index_or, refl, sym, ap, ◌∙◌, subst, arith, Contains}
 use Rattle.std.proofs.lemmas.List.{get_or-replicate}
 use Rattle.bit_domain.specs.declared.bits.Tri.TheVariants.{Any}
 use Rattle.bit_domain.proofs.AllLaws.{bytes_are_their_bits, bytes_are_sets}
@@ -7,9 +7,8 @@ use Rattle.abs_state.specs.declared.state.AbsState.{AbsState}
 use Rattle.abs_state.specs.Values.{root, unknown, value_at}
 use Rattle.abs_state.specs.Order.{IsByteWithin, IsStateWithin}
 use Rattle.abs_state.specs.Formed.{IsFormed, IsUntagged}
-use Rattle.abs_state.specs.declared.values.AbsByte.{AbsByte}
-use Rattle.abs_state.specs.Frames.{tagged_from, entered, returned}
-use Rattle.abs_state.proofs.AllLaws.{states_are_ordered, reset_stands, entries_are_true, returns_are_true}
+use Rattle.abs_state.specs.Frames.{entered, returned}
+use Rattle.abs_state.proofs.AllLaws.{states_are_ordered, reset_stands, entries_are_true, returns_are_true, tags_stay_fit}
 use Rattle.mask_states.specs.declared.keys.InstKey.{InstKey}
 use Rattle.mask_states.specs.declared.keys.EdgeKind.{EdgeKind}
 use Rattle.mask_states.specs.declared.keys.SpForm.TheVariants.{Closed}
@@ -20,7 +19,7 @@ use Rattle.local_rules.specs.declared.local.Exit.{Exit}
 use Rattle.local_rules.specs.Raw.{Raw}
 use Rattle.local_rules.specs.Flow.{site}
 use Rattle.local_rules.specs.Local.{placed, joined_onto}
-use Rattle.local_rules.specs.Cover.{IsNode, TagFits, TagsFit}
+use Rattle.local_rules.specs.Cover.{IsNode}
 use Rattle.edge_rules.specs.declared.edge.Edge.{Edge}
 use Rattle.edge_rules.specs.Edges.{raw_of, IsFaultless, Enters, by_call, by_interrupt, IsEdge, moving, entering, returning, target, called_inst, returned_key}
 use Rattle.edge_rules.specs.Families.{IsCovered, IsSound}
@@ -145,29 +144,12 @@ return_edges _ (returning way inst back leaver x state enters present same fault
 offset_is : (offset : ℕ) → Closed 0 ≡ Closed offset → offset ≡ 0
 offset_is offset e = omega (arith, ap offset_of e)
 
--- no number of a tag is too great
-entry_fits : (n : ℕ) (vs : List AbsByte) (r : ℕ) → TagFits (value_at (tagged_from n vs) r).tag
-entry_fits n [] r = tt
-entry_fits n (v ∷ vs) zero = tt
-entry_fits n (v ∷ vs) (suc r) = entry_fits (suc n) vs r
-
-unknown_fits : (n r : ℕ) → TagFits (value_at (replicate n unknown) r).tag
-unknown_fits zero r = tt
-unknown_fits (suc n) zero = tt
-unknown_fits (suc n) (suc r) = unknown_fits n r
-
-top_fits : TagsFit top
-top_fits = record { registers = λ r lt. unknown_fits 32 r; slots = λ d lt. absurd (omega arith) }
-
-entered_fits : TagsFit (entered top)
-entered_fits = record { registers = λ r lt. entry_fits 0 top.registers r; slots = λ d lt. absurd (omega arith) }
-
 pub the_sample_is_sound : IsSound sample [] family
 the_sample_is_sound = record {
   formed = each (λ n. IsNode n.key n.state)
-      record { word = omega arith; small = omega arith; masks = omega arith; fits = tt; formed = top_formed; tags = top_fits; borrow_bytes = tt; untagged = λ k. top_untagged }
-      record { word = omega arith; small = omega arith; masks = omega arith; fits = tt; formed = top_formed; tags = top_fits; borrow_bytes = tt; untagged = λ k. top_untagged }
-      record { word = omega arith; small = omega arith; masks = omega arith; fits = tt; formed = entries_are_true.formed top 0 top_formed; tags = entered_fits; borrow_bytes = tt; untagged = λ k. absurd (cc) };
+      record { word = omega arith; small = omega arith; masks = omega arith; fits = tt; formed = top_formed; tags = tags_stay_fit.less root top (top_above root refl) tags_stay_fit.at_reset; borrow_bytes = tt; untagged = λ k. top_untagged }
+      record { word = omega arith; small = omega arith; masks = omega arith; fits = tt; formed = top_formed; tags = tags_stay_fit.less root top (top_above root refl) tags_stay_fit.at_reset; borrow_bytes = tt; untagged = λ k. top_untagged }
+      record { word = omega arith; small = omega arith; masks = omega arith; fits = tt; formed = entries_are_true.formed top 0 top_formed; tags = (tags_stay_fit.at_entry top).0; borrow_bytes = tt; untagged = λ k. absurd (cc) };
   reset = record { state = top; present = (0, omega arith, refl); above = top_above root refl };
   faultless = each (λ n. IsFaultless sample [] n)
       (ap (λ (r : Raw). r.faults) call_leads) (ap (λ (r : Raw). r.faults) loop_leads) (ap (λ (r : Raw). r.faults) return_leads);

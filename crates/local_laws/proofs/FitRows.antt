@@ -1,14 +1,12 @@
 -- The table of instructions, row by row: calls lead to words, and returns are at the frame's base.
-use Rattle.std.proofs.Common.{◌≡◌, refl, sym, subst, ℕ, zero, suc, ◌+◌, ◌-◌, ◌%◌, ◌^◌, ◌<◌, ◌==◌, Bool, true, false, List, [], ◌∷◌, map, filter, length, Option, Some, None, if◌then◌else◌, nat_lt, nat_le, Contains, arith}
-use Rattle.std.specs.Prelude.{⊤}
+use Rattle.std.proofs.Common.{◌≡◌, refl, sym, subst, ℕ, zero, suc, ◌-◌, ◌<◌, ◌==◌, Bool, true, false, List, [], ◌∷◌, map, filter, length, Option, Some, None, if◌then◌else◌, nat_lt, nat_le, Contains, arith}
 use Rattle.std.proofs.lemmas.Bool.Decides.{nat_tests}
 use Rattle.std.proofs.lemmas.Map.Views.{Contains-from_any}
 use Rattle.avr_model.specs.declared.assumption.Entry.{Entry}
 use Rattle.avr_model.specs.declared.instruction.Instr.{Instr}
 use Rattle.avr_model.specs.declared.instruction.Instr.TheVariants as i
 use Rattle.avr_model.specs.Assumptions.{jump_line, lists}
-use Rattle.avr_model.specs.Image.{WORDS, word_at}
-use Rattle.avr_model.specs.Table.{Row, fields, table, matches, decoded_by, decoded}
+use Rattle.avr_model.specs.Image.{WORDS}
 use Rattle.avr_model.specs.Text.{far, near}
 use Rattle.avr_model.specs.Sites.{instruction_at, is_scratch, base_register, pointer_register}
 use Rattle.avr_model.specs.Effects.{port}
@@ -34,37 +32,9 @@ use Rattle.local_rules.specs.Flow.{flag_at, words_of, targets_by, targets_at, is
 use Rattle.local_rules.specs.Local.{step_before, pointer_moved, row_of, row_at, is_hung, raw}
 use Rattle.local_laws.proofs.Members.{none_in, each_of, each_in_map, filter_passes}
 use Rattle.local_laws.specs.Laws.{LocalPartsFit}
+use Rattle.local_laws.proofs.MonotoneFields.{InstrFits, instruction_fits}
 use Rattle.local_laws.proofs.Ascending.{Ascends, site_targets_ascend, sites_ascend, one_ascends}
 use Rattle.local_laws.proofs.Quiet.{IsFit, none_ascend, quiet_fits, branch_quiet, skipping_quiet, going_by_quiet, loading_quiet, flag_quiet, written_quiet, pointer_quiet, jumping_quiet, closed_quiet, pushing_quiet, room_quiet, popping_quiet, untracked_fits}
-
--- ---- the targets of calls are words
-
-abbrev CallFits : Instr → Type 0
-CallFits (i.Call t) = t < WORDS
-CallFits instr = ⊤
-
-word_small : (n : ℕ) → n % 2 ^ 14 < WORDS
-word_small n = omega arith
-
-abbrev RowsFit : List Row → ℕ → ℕ → Type 0
-RowsFit [] w next = ⊤
-RowsFit (row ∷ rows) w next = CallFits (row.instr (fields row.pattern w next)) × RowsFit rows w next
-
-table_fits : (w next : ℕ) → RowsFit table w next
-table_fits w next = let call = word_small next in assumption (call)
-
-rows_fit : (rows : List Row) (w next : ℕ) (instr : Instr) → RowsFit rows w next → decoded_by rows w next ≡ Some instr → CallFits instr
-rows_fit [] w next instr h e = absurd (cc)
-rows_fit (row ∷ rows) w next instr h e = by (matches row w) (rows_fit rows w next instr h.1) e
-  where
-    by : (b : Bool) → (decoded_by rows w next ≡ Some instr → CallFits instr)
-        → (if b then Some (row.instr (fields row.pattern w next)) else decoded_by rows w next) ≡ Some instr → CallFits instr
-    by true rest e = let is : row.instr (fields row.pattern w next) ≡ instr = cc in subst CallFits is h.0
-    by false rest e = rest e
-
-decoded_fits : (w next : ℕ) (instr : Instr) → decoded w next ≡ Some instr → CallFits instr
-unfolding decoded
-decoded_fits w next instr e = rows_fit table w next instr (table_fits w next) e
 
 -- ---- the targets of indirect calls are words
 
@@ -150,7 +120,7 @@ module _ (words : List ℕ) (A : List Entry) (k : NodeKey) (s : AbsState) where
         ascending = λ entries. site_targets_ascend A k.pc (words_of (bits s 30) (bits s 31)) targets entries (numbers_are_permitted.ascending f 14) e;
       }
 
-  row_fits : (scratch : Bool) (instr : Instr) → CallFits instr → IsFit A k (row_of words A scratch k s instr)
+  row_fits : (scratch : Bool) (instr : Instr) → InstrFits instr → IsFit A k (row_of words A scratch k s instr)
   row_fits scratch (i.Movw d r) fits = quiet_fits A k _ (refl, refl)
   row_fits scratch (i.Muls d r) fits = quiet_fits A k _ (refl, refl)
   row_fits scratch (i.Mulsu d r) fits = quiet_fits A k _ (refl, refl)
@@ -205,7 +175,7 @@ module _ (words : List ℕ) (A : List Entry) (k : NodeKey) (s : AbsState) where
   row_fits scratch i.Break fits = quiet_fits A k _ (refl, refl)
   row_fits scratch i.Wdr fits = quiet_fits A k _ (refl, refl)
 
-  at_fits : (scratch : Bool) (x : Option Instr) → ((instr : Instr) → x ≡ Some instr → CallFits instr) → IsFit A k (row_at words A scratch k s x)
+  at_fits : (scratch : Bool) (x : Option Instr) → ((instr : Instr) → x ≡ Some instr → InstrFits instr) → IsFit A k (row_at words A scratch k s x)
   at_fits scratch None fits = quiet_fits A k _ (refl, refl)
   at_fits scratch (Some instr) fits = row_fits scratch instr (fits instr refl)
 
@@ -213,7 +183,7 @@ module _ (words : List ℕ) (A : List Entry) (k : NodeKey) (s : AbsState) where
   unfolding raw
   raw_fits =
       untracked_fits A k (is_hung k k.sp) k.pc (row_at words A (is_scratch words k.pc) k s (instruction_at words k.pc))
-      (at_fits (is_scratch words k.pc) (instruction_at words k.pc) (λ instr e. decoded_fits (word_at words k.pc) (word_at words (k.pc + 1)) instr e))
+      (at_fits (is_scratch words k.pc) (instruction_at words k.pc) (instruction_fits words k.pc))
 
 pub all_local_parts_fit : LocalPartsFit
 all_local_parts_fit = record {

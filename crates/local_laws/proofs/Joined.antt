@@ -1,59 +1,24 @@
 -- Joined successors are the least above the raw ones, in ascending order.
-use Rattle.std.proofs.Common.{◌≡◌, refl, sym, ap, ◌∙◌, subst, ◌⊎◌, inl, inr, ⊎_elim, List, [], ◌∷◌, map, Contains, arith}
+use Rattle.std.proofs.Common.{◌≡◌, refl, sym, ap, ◌∙◌, subst, ◌⊎◌, inl, inr, ⊎_elim, List, [], ◌∷◌, map, Contains}
 use Rattle.std.specs.List.{AllByRecursion}
 use Rattle.std.specs.List.Sorted.{IsStrictlySortedBy}
 use Rattle.std.specs.Ordering.{ordering_reverse}
 use Rattle.std.specs.declared.cmp.Ordering.{Ordering}
 use Rattle.std.specs.declared.cmp.Ordering.TheVariants.{Less, Equal, Greater}
-use Rattle.sp_domain.specs.declared.tags.Tag.{Tag}
-use Rattle.sp_domain.specs.declared.tags.Tag.TheVariants as tag
-use Rattle.sp_domain.specs.declared.tags.CarryTag.{CarryTag}
-use Rattle.sp_domain.specs.declared.tags.CarryTag.TheVariants as carry
-use Rattle.sp_domain.specs.declared.slots.Slot.{Slot}
-use Rattle.sp_domain.specs.declared.slots.Slot.TheVariants.{Free, Guarded}
-use Rattle.sp_domain.specs.Slots.{slot_at}
-use Rattle.sp_domain.specs.Tags.{HasBytes, IsTagWithin, IsCarryWithin}
-use Rattle.abs_state.specs.declared.values.AbsByte.{AbsByte}
 use Rattle.abs_state.specs.declared.state.AbsState.{AbsState}
-use Rattle.abs_state.specs.Values.{value_at}
-use Rattle.abs_state.specs.Order.{IsSlotWithin, IsStateWithin, IsLeastAbove, state_join}
+use Rattle.abs_state.specs.Order.{IsStateWithin, IsLeastAbove, state_join}
 use Rattle.abs_state.specs.Formed.{IsFormed}
-use Rattle.abs_state.proofs.AllLaws.{states_are_ordered, joins_are_formed}
+use Rattle.abs_state.proofs.AllLaws.{states_are_ordered, joins_are_formed, tags_stay_fit}
 use Rattle.mask_states.specs.declared.keys.NodeKey.{NodeKey}
 use Rattle.mask_states.specs.Keys.{offset_of}
 use Rattle.mask_states.specs.Order.{node_cmp}
 use Rattle.mask_states.proofs.AllLaws.{keys_are_ordered}
 use Rattle.local_rules.specs.declared.local.Node.{Node}
 use Rattle.local_rules.specs.Local.{place_by, placed, joined_onto}
-use Rattle.local_rules.specs.Cover.{TagFits, SlotFits, TagsFit, IsNode}
+use Rattle.local_rules.specs.Cover.{IsNode}
 use Rattle.local_rules.specs.Order.{IsBelowOne}
 use Rattle.local_laws.specs.Laws.{HasKey, AreNodes, JoinsAreLeast}
 use Rattle.local_laws.proofs.Members.{none_in, here, there, first_or, each_of}
-
--- ---- what says less has tags whose numbers fit too
-
-fits_less : (t u : Tag) → IsTagWithin t u → TagFits t → TagFits u
-fits_less t tag.None e h = tt
-fits_less t (tag.Entry r) e h = tt
-fits_less t tag.EntryFlags e h = tt
-fits_less t (tag.SpLo j) e h = subst TagFits e h
-fits_less t (tag.SpHi k) e h = subst TagFits e h
-
-slot_fits_less : (s t : Slot AbsByte) → IsSlotWithin s t → SlotFits s → SlotFits t
-slot_fits_less s Free le h = tt
-slot_fits_less Free (Guarded w) le h = absurd le
-slot_fits_less (Guarded v) (Guarded w) le h = fits_less v.tag w.tag le.tag h
-
-bytes_less : (c d : CarryTag) → IsCarryWithin c d → HasBytes c → HasBytes d
-bytes_less c carry.None e h = tt
-bytes_less c (carry.Borrow j l) e h = subst HasBytes e h
-
-tags_less : (s t : AbsState) → IsStateWithin s t → TagsFit s → TagsFit t
-tags_less s t le h =
-    record {
-      registers = λ r lt. fits_less (value_at s.registers r).tag (value_at t.registers r).tag (le.registers r lt).tag (h.registers r lt);
-      slots = λ d lt. slot_fits_less (slot_at s.slots d) (slot_at t.slots d) (le.slots d lt) (h.slots d (omega (arith, le.count)));
-    }
 
 -- ---- two nodes of one key
 
@@ -78,8 +43,8 @@ joined_node m n e a b =
       masks = a.masks;
       fits = a.fits;
       formed = joins_are_formed.formed m.state n.state (offset_of m.key.sp) a.formed (formed_at m n e b);
-      tags = tags_less m.state (joined m n).state le a.tags;
-      borrow_bytes = bytes_less m.state.flags.carry (joined m n).state.flags.carry le.flags.carry a.borrow_bytes;
+      tags = tags_stay_fit.less m.state (joined m n).state le a.tags;
+      borrow_bytes = tags_stay_fit.carry_less m.state (joined m n).state le a.borrow_bytes;
       untagged = λ root.
           joins_are_formed.untagged m.state n.state (offset_of m.key.sp) a.formed (formed_at m n e b) (a.untagged root)
           (b.untagged (ap (λ (k : NodeKey). k.inst.kind) e ∙ root));

@@ -7,12 +7,11 @@ use Rattle.std.proofs.lemmas.List.Elements.{All-set}
 use Rattle.avr_model.specs.declared.effect.Write.{Write}
 use Rattle.avr_model.specs.declared.effect.Effect.{Effect}
 use Rattle.avr_model.specs.Image.{WORDS}
-use Rattle.avr_model.specs.Vectors.{Vector, row_of, written_enable, written_enables}
 use Rattle.avr_model.specs.State.{State, BELOW, SPL, SPH, SREG, sram_at, is_sram, byte_in, io_bit, io_byte, read, low, high}
 use Rattle.avr_model.specs.Step.{with_registers, registers_after, sreg_after, sp_after, open_after, enables_after, after}
+use Rattle.vector_table.proofs.AllLaws.{numbers_are_their_bits, enables_are_vectors}
 use Rattle.local_rules.specs.Machine.{IsMachine}
 use Rattle.local_laws.proofs.Alu.{byte_in_list}
-use Rattle.local_laws.proofs.Bits.{number_below}
 use Rattle.local_laws.proofs.Memory.{AreByteWrites, memory_stays}
 
 -- the numbers of an effect fit
@@ -62,18 +61,9 @@ sp_stays (w ∷ ws) sp small h =
     sp_stays ws _ small.1
     (chosen (w.address == SPL) 65536 (256 * high sp + w.byte) _ (omega arith) (chosen (w.address == SPH) 65536 (256 * w.byte + low sp) sp (omega arith) h))
 
-written_bit : (r : Option Vector) (address byte old : ℕ) → old < 2 → written_enable r address byte old < 2
-written_bit None address byte old h = h
-written_bit (Some r) address byte old h = chosen (r.address == address) 2 (bit_at byte r.bit) old (bit_at-lt byte r.bit) h
-
-written_small : (enables address byte : ℕ) → written_enables enables address byte < 2 ^ 25
-unfolding written_enables
-written_small enables address byte =
-    number_below 25 (λ k. written_enable (row_of (k + 2)) address byte (bit_at enables k)) (λ k lt. written_bit (row_of (k + 2)) address byte (bit_at enables k) (bit_at-lt enables k))
-
 enables_stay : (ws : List Write) (enables : ℕ) → enables < 2 ^ 25 → enables_after enables ws < 2 ^ 25
 enables_stay [] enables h = h
-enables_stay (w ∷ ws) enables h = enables_stay ws _ (written_small enables w.address w.byte)
+enables_stay (w ∷ ws) enables h = enables_stay ws _ (enables_are_vectors.written enables w.address w.byte)
 
 pub after_stays : (m : State) (guarded : Bool) (e : Effect) → IsMachine m → IsEffect e → IsMachine (after m guarded e)
 after_stays m guarded e h fits =
@@ -101,7 +91,7 @@ io_value (Some v) enables free h = bit_at-lt enables (v - 2)
 
 io_small : (enables a input : ℕ) → io_byte enables a input < 256
 unfolding io_byte
-io_small enables a input = number_below 8 _ (λ b lt. io_value _ enables (bit_at input b) (bit_at-lt input b))
+io_small enables a input = numbers_are_their_bits.below 8 _ (λ b lt. io_value _ enables (bit_at input b) (bit_at-lt input b))
 
 byte_small : (bytes : List ℕ) (a : ℕ) → All (λ b. b < 256) bytes → byte_in bytes a < 256
 unfolding byte_in

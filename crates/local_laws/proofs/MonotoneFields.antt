@@ -1,4 +1,4 @@
--- The numbers in decoded instructions: targets of jumps are words, and immediate numbers are bytes.
+-- The numbers in decoded instructions: targets of jumps and calls are words, and immediate numbers are bytes.
 use Rattle.std.proofs.Common.{◌≡◌, refl, subst, ℕ, ◌+◌, ◌*◌, ◌%◌, ◌^◌, ◌<◌, ◌==◌, Bool, true, false, List, [], ◌∷◌, Some, length, if◌then◌else◌, arith}
 use Rattle.std.specs.Prelude.{⊤}
 use Rattle.std.specs.Int.{bit_at}
@@ -12,6 +12,7 @@ use Rattle.avr_model.specs.Sites.{instruction_at}
 
 abbrev pub InstrFits : Instr → Type 0
 InstrFits (i.Jmp t) = t < WORDS
+InstrFits (i.Call t) = t < WORDS
 InstrFits (i.Immediate op d n) = n < 256
 InstrFits instr = ⊤
 

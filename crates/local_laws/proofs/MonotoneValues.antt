@@ -26,13 +26,13 @@ use Rattle.abs_state.specs.declared.values.AbsFlags.{AbsFlags}
 use Rattle.abs_state.specs.declared.state.AbsState.{AbsState}
 use Rattle.abs_state.specs.Values.{value_at, untagged, unknown, known}
 use Rattle.abs_state.specs.Order.{IsByteWithin, IsFlagsWithin, IsSlotWithin, IsStateWithin}
-use Rattle.abs_state.specs.Formed.{NamesRegister, SlotNamesRegister, SlotIsUntagged, IsFormed, IsUntagged}
+use Rattle.abs_state.specs.Formed.{NamesRegister, SlotNamesRegister, SlotIsUntagged, IsFormed, IsUntagged, TagFits, SlotFits, TagsFit}
 use Rattle.mask_states.specs.declared.keys.NodeKey.{NodeKey}
 use Rattle.mask_states.specs.declared.keys.Kind.{Kind}
 use Rattle.mask_states.specs.declared.keys.Kind.TheVariants.{Root}
 use Rattle.mask_states.specs.Keys.{offset_of}
 use Rattle.avr_model.specs.Image.{WORDS}
-use Rattle.local_rules.specs.Cover.{TagFits, SlotFits, TagsFit, FormFits, IsNode}
+use Rattle.local_rules.specs.Cover.{FormFits, IsNode}
 
 -- ---- definitions
 

@@ -39,7 +39,8 @@ use Rattle.local_rules.specs.Raw.{moves_to, one, fails}
 use Rattle.local_rules.specs.Registers.{bits}
 use Rattle.local_rules.specs.declared.pointers.Pointed.{Pointed}
 use Rattle.local_rules.specs.Writes.{known_high, tagged_high, high_part, opening, root_closing, frame_closing, closing_offset, closing, is_entry_flags, flags_written, with_i, sreg_written, masks_written, written_at, permits, has, reaches, fixed_write, listed_writes, pointer_write}
-use Rattle.local_rules.specs.Cover.{HighFitsKind, TagFits}
+use Rattle.abs_state.specs.Formed.{TagFits}
+use Rattle.local_rules.specs.Cover.{HighFitsKind}
 use Rattle.local_laws.proofs.MonotoneValues.{IsTagOf, IsLess, AreFlagsLess, AreSlotsLess, IsSlotLess, IsStateLess, Tells, tells_by, tag_tells, free_less, constant_is, constant_tells, bit_within, registers_set}
 use Rattle.local_laws.proofs.MonotoneRaw.{IsKey, IsPlace, LeadsLess, nodes_at, fails_less, if_leads, several_less, one_less, choose, choose_more, both_less, filtered_less}
 

@@ -9,6 +9,7 @@ use Rattle.std.specs.Int.{bit_at, from_bool}
 use Rattle.avr_model.specs.Sreg.{flag}
 use Rattle.avr_model.specs.Vectors.{enable_of}
 use Rattle.avr_model.specs.State.{State, register, read, io_byte, io_bit, sram_at, byte_in, live_in, is_live, is_sram, RAMEND, BELOW, SPL, SPH, SREG, low, high, minus16}
+use Rattle.vector_table.proofs.AllLaws.{numbers_are_their_bits}
 use Rattle.bit_domain.specs.Tri.{Permits, tri_bit}
 use Rattle.bit_domain.specs.TriByte.{Has, byte_any}
 use Rattle.bit_domain.proofs.AllLaws.{bytes_are_sets, writes_cover}
@@ -31,7 +32,6 @@ use Rattle.local_rules.specs.Reads.{sp_low, sp_high, flags_tag, sreg_value, io_t
 use Rattle.local_rules.specs.Cover.{InFrame}
 use Rattle.local_laws.proofs.Frame.{nothing_stands, has_any, register_stands}
 use Rattle.local_laws.proofs.Alu.{register_byte}
-use Rattle.local_laws.proofs.Bits.{bit_of_number, number_below}
 
 -- ---- bits that are known
 
@@ -107,12 +107,12 @@ unfolding io_byte
 io_has masks a input =
     bytes_are_sets.built (λ b. io_tri (enable_of a b) masks) (io_byte masks a input) (λ b lt.
     subst (Permits (io_tri (enable_of a b) masks))
-    (sym (bit_of_number 8 (λ j. io_bit (enable_of a j) masks (bit_at input j)) (λ j h. io_bit_below (enable_of a j) masks (bit_at input j) (bit_at-lt input j)) b lt))
+    (sym (numbers_are_their_bits.bits 8 (λ j. io_bit (enable_of a j) masks (bit_at input j)) (λ j h. io_bit_below (enable_of a j) masks (bit_at input j) (bit_at-lt input j)) b lt))
     (io_permits (enable_of a b) masks (bit_at input b)))
 
 io_small : (masks a input : ℕ) → io_byte masks a input < 256
 unfolding io_byte
-io_small masks a input = number_below 8 (λ j. io_bit (enable_of a j) masks (bit_at input j)) (λ j h. io_bit_below (enable_of a j) masks (bit_at input j) (bit_at-lt input j))
+io_small masks a input = numbers_are_their_bits.below 8 (λ j. io_bit (enable_of a j) masks (bit_at input j)) (λ j h. io_bit_below (enable_of a j) masks (bit_at input j) (bit_at-lt input j))
 
 -- ---- SRAM
 

@@ -3,13 +3,15 @@ use Rattle.std.proofs.Common.{sym, subst, ℕ, ◌+◌, ◌<◌, Bool, true, fal
 use Rattle.std.proofs.lemmas.Nat.Bits.{bit_at-lt}
 use Rattle.std.specs.Int.{bit_at}
 use Rattle.avr_model.specs.Vectors.{Vector, row_of, written_enable, written_enables}
+use Rattle.vector_table.specs.Laws.{AreBits}
+use Rattle.vector_table.proofs.AllLaws.{numbers_are_their_bits}
 use Rattle.bit_domain.specs.declared.bytes.TriByte.{TriByte}
 use Rattle.bit_domain.specs.Tri.{Permits, tri_bit}
 use Rattle.bit_domain.specs.TriByte.{tri_at, Has}
 use Rattle.bit_domain.specs.Numbers.{IsPermitted}
 use Rattle.bit_domain.proofs.AllLaws.{numbers_are_permitted}
 use Rattle.mask_states.specs.Splits.{enable_in, enable_tri, splits, IsWritten}
-use Rattle.local_laws.proofs.Bits.{AreBits, number_below, bit_of_number, flag_is_bit, permits_flag}
+use Rattle.local_laws.proofs.Bits.{flag_is_bit, permits_flag}
 use Rattle.local_laws.proofs.ReadValues.{bit_permits}
 
 -- the splits are all that a member of the byte leaves
@@ -40,9 +42,9 @@ unfolding written_enables enable_tri
 left_permitted masks a v byte h =
     let bits : AreBits 25 (λ k. written_enable (row_of (k + 2)) a byte (bit_at masks k)) = λ k lt. row_bit (row_of (k + 2)) a byte (bit_at masks k) (bit_at-lt masks k) in
     record {
-      small = number_below 25 (λ k. written_enable (row_of (k + 2)) a byte (bit_at masks k)) bits;
+      small = numbers_are_their_bits.below 25 (λ k. written_enable (row_of (k + 2)) a byte (bit_at masks k)) bits;
       bits = λ i lt.
-          subst (Permits (enable_in (row_of (i + 2)) a v (bit_at masks i))) (sym (bit_of_number 25 (λ k. written_enable (row_of (k + 2)) a byte (bit_at masks k)) bits i lt))
+          subst (Permits (enable_in (row_of (i + 2)) a v (bit_at masks i))) (sym (numbers_are_their_bits.bits 25 (λ k. written_enable (row_of (k + 2)) a byte (bit_at masks k)) bits i lt))
           (by_row (row_of (i + 2)) a v byte (bit_at masks i) h (bit_at-lt masks i));
     }
 

@@ -13,6 +13,8 @@ use Rattle.avr_model.specs.Vectors.{Vector, vectors, row_of, has_enables, writte
 use Rattle.avr_model.specs.State.{State, SIZE, SPL, SPH, SREG, low, high, i_flag}
 use Rattle.avr_model.specs.Effects.{set, delay_of_out}
 use Rattle.avr_model.specs.Step.{after, with_registers, registers_after, sreg_after}
+use Rattle.vector_table.specs.Laws.{AreBits}
+use Rattle.vector_table.proofs.AllLaws.{numbers_are_their_bits}
 use Rattle.bit_domain.specs.declared.bits.Tri.{Tri}
 use Rattle.bit_domain.specs.declared.bits.Tri.TheVariants.{Zero, One, Any}
 use Rattle.bit_domain.specs.Tri.{Permits}
@@ -37,7 +39,6 @@ use Rattle.local_rules.specs.Raw.{Raw, at_word, one, fails}
 use Rattle.local_rules.specs.Writes.{high_part, opening, closing_offset, closing, is_entry_flags, flags_written, with_i, sreg_written, masks_written, written_at}
 use Rattle.local_rules.specs.Cover.{InFrame, Lands}
 use Rattle.local_laws.proofs.Frame.{first, second, set_stands, slot_kept, above_floor, same_frame}
-use Rattle.local_laws.proofs.Bits.{AreBits, number_below, bit_of_number}
 use Rattle.local_laws.proofs.Targets.{in_map}
 use Rattle.local_laws.proofs.SpWrites.{opened, closes}
 use Rattle.local_laws.proofs.SplitMembers.{AreWritten}
@@ -70,7 +71,7 @@ pub record Reaches (m : State) (o : Origin) (k : NodeKey) (guarded : Bool) (e : 
 by_bits : (n x : ℕ) (f : ℕ → ℕ) → x < 2 ^ n → ((j : ℕ) → j < n → bit_at x j ≡ f j) → number_of n f ≡ x
 by_bits n x f h same =
     let bits : AreBits n f = λ j lt. subst (λ (b : ℕ). b < 2) (same j lt) (bit_at-lt x j) in
-    same_from_bits_below n (number_of n f) x (number_below n f bits) h (λ j lt. bit_of_number n f bits j lt ∙ sym (same j lt))
+    same_from_bits_below n (number_of n f) x (numbers_are_their_bits.below n f bits) h (λ j lt. numbers_are_their_bits.bits n f bits j lt ∙ sym (same j lt))
 
 found_elsewhere : (rs : List Vector) (p : Vector → Bool) (a byte old : ℕ) → list_any (λ r. r.address == a) rs ≡ false → written_enable (find p rs) a byte old ≡ old
 found_elsewhere [] p a byte old h = refl

@@ -1,5 +1,5 @@
 -- What it means that a node's local part covers a step of the machine in its frame.
-use Rattle.std.specs.Prelude.{ℕ, ◌+◌, ◌^◌, ◌%◌, ◌≡◌, ◌≢◌, ◌<◌, ◌≤◌, ⊤, Bool, true, false, not, List, [], length, Option, Some, None, Contains}
+use Rattle.std.specs.Prelude.{ℕ, ◌+◌, ◌^◌, ◌%◌, ◌≡◌, ◌≢◌, ◌<◌, ◌≤◌, ⊤, Bool, true, false, not, List, [], Option, Some, None, Contains}
 use Rattle.avr_model.specs.declared.assumption.Entry.{Entry}
 use Rattle.avr_model.specs.declared.effect.Effect.{Effect}
 use Rattle.avr_model.specs.declared.instruction.Instr.{Instr}
@@ -9,18 +9,12 @@ use Rattle.avr_model.specs.Sites.{is_scratch}
 use Rattle.avr_model.specs.State.{State, RAMEND, SIZE, plus16}
 use Rattle.avr_model.specs.Effects.{effect_of, calling, popped_word}
 use Rattle.avr_model.specs.Step.{after, all_inside, protected_write, unlisted_transfer}
-use Rattle.sp_domain.specs.declared.tags.Tag.{Tag as ByteTag}
-use Rattle.sp_domain.specs.declared.tags.Tag.TheVariants as tag
-use Rattle.sp_domain.specs.declared.slots.Slot.{Slot}
-use Rattle.sp_domain.specs.declared.slots.Slot.TheVariants.{Free, Guarded}
 use Rattle.sp_domain.specs.Tags.{Origin, HasBytes}
-use Rattle.sp_domain.specs.Slots.{slot_at}
-use Rattle.abs_state.specs.declared.values.AbsByte.{AbsByte}
 use Rattle.abs_state.specs.declared.state.AbsState.{AbsState}
-use Rattle.abs_state.specs.Values.{value_at}
 use Rattle.abs_state.specs.Stands.{RegistersStand, FlagsStand, SlotsStand, Stands}
 use Rattle.abs_state.specs.Laws.{Keeps}
 use Rattle.abs_state.specs.Formed.{IsFormed, IsUntagged}
+pub use Rattle.abs_state.specs.Formed.{TagFits, SlotFits, TagsFit}
 use Rattle.mask_states.specs.declared.keys.NodeKey.{NodeKey}
 use Rattle.mask_states.specs.declared.keys.Kind.{Kind}
 use Rattle.mask_states.specs.declared.keys.Kind.TheVariants.{Root, Call, Vector}
@@ -54,20 +48,6 @@ FormFitsKind kind (Open offset h) = HighFitsKind kind h
 -- in the root the high byte of a half-written stack pointer is known, and elsewhere it has a tag
 abbrev pub FormFits : NodeKey → Type 0
 FormFits k = FormFitsKind k.inst.kind k.sp
-
--- the numbers of tags are as their types have them: bytes, and words of 16 bits
-abbrev pub TagFits : ByteTag → Type 0
-TagFits (tag.SpLo j) = j < 256
-TagFits (tag.SpHi k) = k < 65536
-TagFits t = ⊤
-
-abbrev pub SlotFits : Slot AbsByte → Type 0
-SlotFits Free = ⊤
-SlotFits (Guarded v) = TagFits v.tag
-
-pub record TagsFit (s : AbsState) : Type 0 where
-  pub registers : (r : ℕ) → r < 32 → TagFits (value_at s.registers r).tag
-  pub slots : (d : ℕ) → d < length s.slots → SlotFits (slot_at s.slots d)
 
 -- The key and the state of a node: a word address, at most as many bytes as SRAM has, a state that is formed for this offset, tags
 -- whose numbers fit, bytes in its carry tag, and nothing tagged in the root.
