@@ -3,12 +3,14 @@ use Rattle.std.proofs.Common.{ℕ, suc, ◌+◌, ◌-◌, ◌<◌, ◌≤◌, �
 use Rattle.sb_base.specs.Lines.{Place}
 use Rattle.line_reading.specs.Reading.{then_at}
 use Rattle.mask_states.specs.Keys.{offset_of}
-use Rattle.local_rules.specs.declared.local.Node.{Node}
+use Rattle.mask_states.specs.declared.keys.NodeKey.{NodeKey}
+use Rattle.edge_rules.specs.declared.seeded.NodeForm.{NodeForm}
+use Rattle.edge_rules.specs.Expansion.{Seeds}
 use Rattle.cert_format.specs.declared.fault.CertFault.{CertFault}
-use Rattle.cert_format.specs.Certificate.{cells_of}
-use Rattle.cert_format.specs.CertificateReading.{longer_at, items_from}
+use Rattle.certificate.specs.Claims.{cells_of, node_keys}
+use Rattle.cert_format.specs.Reading.{longer_at, items_from}
 
-pub cells_more : (ns : List Node) (n : Node) → cells_of (ns ++ n ∷ []) ≡ cells_of ns + (1 + offset_of n.key.sp)
+pub cells_more : (ns : Seeds) (n : NodeKey × NodeForm) → cells_of (node_keys (ns ++ n ∷ [])) ≡ cells_of (node_keys ns) + (1 + offset_of n.0.sp)
 unfolding cells_of
 cells_more [] n = omega arith
 cells_more (m ∷ ns) n = omega (arith, cells_more ns n)
@@ -16,37 +18,37 @@ cells_more (m ∷ ns) n = omega (arith, cells_more ns n)
 left_to : (count i : ℕ) → i < count → count - i ≡ suc (count - (i + 1))
 left_to count i h = omega arith
 
-one_line : {A : Type 0} (by : List ℕ → Option A) (refused : List A → A → ℕ → Option CertFault) (xs : List A) (n : ℕ) (p : Place) (d : Result (List A × Place) CertFault) → longer_at by refused xs p ≡ d
+one_line : {A : Type 0} (by : ℕ → List ℕ → Option A) (refused : List A → A → ℕ → Option CertFault) (xs : List A) (n : ℕ) (p : Place) (d : Result (List A × Place) CertFault) → longer_at by refused xs p ≡ d
     → items_from by refused xs (suc n) p ≡ then_at d (λ x. items_from by refused x.0 n x.1)
 unfolding items_from
 one_line by refused xs n p d e = rw e refl
 
-more : {A : Type 0} (by : List ℕ → Option A) (refused : List A → A → ℕ → Option CertFault) (xs : List A) (count i : ℕ) (p : Place) (d : Result (List A × Place) CertFault) → i < count → longer_at by refused xs p ≡ d
+more : {A : Type 0} (by : ℕ → List ℕ → Option A) (refused : List A → A → ℕ → Option CertFault) (xs : List A) (count i : ℕ) (p : Place) (d : Result (List A × Place) CertFault) → i < count → longer_at by refused xs p ≡ d
     → items_from by refused xs (count - i) p ≡ then_at d (λ x. items_from by refused x.0 (count - (i + 1)) x.1)
 more by refused xs count i p d h e = rw (left_to count i h) (one_line by refused xs (count - (i + 1)) p d e)
 
 -- a line that is read
-pub item_more : {A : Type 0} (by : List ℕ → Option A) (refused : List A → A → ℕ → Option CertFault) (xs ys : List A) (count i : ℕ) (p q : Place) (all : Result (List A × Place) CertFault) → i < count
+pub item_more : {A : Type 0} (by : ℕ → List ℕ → Option A) (refused : List A → A → ℕ → Option CertFault) (xs ys : List A) (count i : ℕ) (p q : Place) (all : Result (List A × Place) CertFault) → i < count
     → longer_at by refused xs p ≡ Ok (ys, q) → items_from by refused xs (count - i) p ≡ all → items_from by refused ys (count - (i + 1)) q ≡ all
 item_more by refused xs ys count i p q all h e is = sym (more by refused xs count i p (Ok (ys, q)) h e) ∙ is
 
 -- a line that is refused
-pub item_fault : {A : Type 0} (by : List ℕ → Option A) (refused : List A → A → ℕ → Option CertFault) (xs : List A) (count i : ℕ) (p : Place) (f : CertFault) (all : Result (List A × Place) CertFault) → i < count
+pub item_fault : {A : Type 0} (by : ℕ → List ℕ → Option A) (refused : List A → A → ℕ → Option CertFault) (xs : List A) (count i : ℕ) (p : Place) (f : CertFault) (all : Result (List A × Place) CertFault) → i < count
     → longer_at by refused xs p ≡ Err f → items_from by refused xs (count - i) p ≡ all → all ≡ Err f
 item_fault by refused xs count i p f all h e is = sym is ∙ more by refused xs count i p (Err f) h e
 
-none_left : {A : Type 0} (by : List ℕ → Option A) (refused : List A → A → ℕ → Option CertFault) (xs : List A) (p : Place) → items_from by refused xs 0 p ≡ Ok (xs, p)
+none_left : {A : Type 0} (by : ℕ → List ℕ → Option A) (refused : List A → A → ℕ → Option CertFault) (xs : List A) (p : Place) → items_from by refused xs 0 p ≡ Ok (xs, p)
 unfolding items_from
 none_left by refused xs p = refl
 
 -- all lines are read
-pub items_end : {A : Type 0} (by : List ℕ → Option A) (refused : List A → A → ℕ → Option CertFault) (xs : List A) (count i : ℕ) (p : Place) (all : Result (List A × Place) CertFault) → count ≤ i
+pub items_end : {A : Type 0} (by : ℕ → List ℕ → Option A) (refused : List A → A → ℕ → Option CertFault) (xs : List A) (count i : ℕ) (p : Place) (all : Result (List A × Place) CertFault) → count ≤ i
     → items_from by refused xs (count - i) p ≡ all → all ≡ Ok (xs, p)
 items_end by refused xs count i p all h is =
     let none : count - i ≡ 0 = omega arith in
     sym is ∙ ap (λ (n : ℕ). items_from by refused xs n p) none ∙ none_left by refused xs p
 
-pub items_begin : {A : Type 0} (by : List ℕ → Option A) (refused : List A → A → ℕ → Option CertFault) (xs : List A) (count : ℕ) (p : Place) → xs ≡ [] → items_from by refused xs (count - 0) p ≡ items_from by refused [] count p
+pub items_begin : {A : Type 0} (by : ℕ → List ℕ → Option A) (refused : List A → A → ℕ → Option CertFault) (xs : List A) (count : ℕ) (p : Place) → xs ≡ [] → items_from by refused xs (count - 0) p ≡ items_from by refused [] count p
 items_begin by refused xs count p e =
     let same : count - 0 ≡ count = omega arith in
     ap (λ (n : ℕ). items_from by refused xs n p) same ∙ ap (λ ys. items_from by refused ys count p) e

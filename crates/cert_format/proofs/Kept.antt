@@ -21,18 +21,19 @@ use Rattle.mask_states.specs.declared.keys.NodeKey.{NodeKey}
 use Rattle.mask_states.specs.Keys.{offset_of}
 use Rattle.mask_states.specs.Order.{inst_cmp, node_cmp}
 use Rattle.mask_states.specs.Laws.{KeysAreOrdered}
-use Rattle.local_rules.specs.declared.local.Node.{Node}
-use Rattle.local_rules.specs.Cover.{IsNode}
-use Rattle.cert_format.specs.declared.instance.Inst.{Inst}
+use Rattle.edge_rules.specs.declared.seeded.NodeForm.{NodeForm}
+use Rattle.edge_rules.specs.Expansion.{Seeds}
+use Rattle.certificate.specs.declared.instance.Inst.{Inst}
 use Rattle.cert_format.specs.declared.fault.CertFault.{CertFault}
 use Rattle.cert_format.specs.declared.fault.CertFault.TheVariants as fault
 use Rattle.cert_format.specs.declared.fault.Limit.TheVariants as limit
-use Rattle.cert_format.specs.Lines.{IsInst, inst_words, place_of, node_words, node_words_at}
+use Rattle.certificate.specs.Insts.{IsInst, inst_keys}
+use Rattle.certificate.specs.Claims.{cells_of, most_cells, most_instances, node_keys, FitsAt, AreFrom, Belongs}
+use Rattle.cert_words.specs.Text.{inst_words, place_of, node_words, node_words_at}
 use Rattle.cert_format.specs.LineLaws.{InstLines, NodeLines, IsInstanceOf}
-use Rattle.cert_format.specs.Certificate.{cells_of, most_cells, most_instances, inst_keys, node_keys, Belongs}
-use Rattle.cert_format.specs.CertificateReading.{entry_by, inst_by, node_by, last_in, is_inst_above, is_node_above, refused_entry, refused_inst, refused_node}
+use Rattle.cert_format.specs.Reading.{entry_by, inst_by, node_by, last_in, is_inst_above, is_node_above, refused_entry, refused_inst, refused_node}
 use Rattle.cert_format.proofs.Items.{cells_more}
-use Rattle.cert_format.proofs.Lists.{Admitted, Steady, Spells, Reads, kept_by, admitted_by, is_after, sorted_push, sorted_at}
+use Rattle.cert_format.proofs.Lists.{Admitted, Steady, Spells, Reads, AllFrom, any_of_all, kept_by, admitted_by, is_after, sorted_push, sorted_at}
 use Rattle.cert_format.proofs.Places.{place_unique, contains_at, has_place}
 use Rattle.std.proofs.lemmas.Option.{slice_get_within}
 
@@ -50,6 +51,9 @@ if_none b f e = rw e refl
 abbrev pub FitsEntry : Entry → Type 0
 FitsEntry e = is_entry e ≡ true
 
+abbrev pub AnyEntry : ℕ → Entry → Type 0
+AnyEntry at e = FitsEntry e
+
 pub entry_steady : Steady refused_entry
 entry_steady es e a b h = if_none (is_above_last es e) (fault.Order b) (none_if (is_above_last es e) (fault.Order a) h)
 
@@ -61,17 +65,17 @@ entry_pushed es e h f none = λ few.
     let n = length-append es (e ∷ []) in
     pushed es e (h (omega arith)) (record { room = omega arith; formed = f; above = none_if (is_above_last es e) (fault.Order 0) (none 0) })
 
-pub entries_kept : (es : List Entry) → length es ≤ most_entries → Admitted FitsEntry refused_entry [] es → AreEntries es
-entries_kept es few h = kept_by FitsEntry refused_entry AreFew entry_pushed [] es (λ _. none_are_entries) h few
+pub entries_kept : (es : List Entry) → length es ≤ most_entries → Admitted AnyEntry refused_entry [] es → AreEntries es
+entries_kept es few h = kept_by AnyEntry refused_entry AreFew entry_pushed [] es (λ _. none_are_entries) h few
 
 entry_follows : (es : List Entry) (e : Entry) (more : List Entry) → AreEntries (es ++ e ∷ more) → (at : ℕ) → refused_entry es e at ≡ None
 entry_follows es e more h at = if_none (is_above_last es e) (fault.Order at) (follows es e more h).above
 
-pub entries_admitted : (es : List Entry) → AreEntries es → AllByRecursion FitsEntry es → Admitted FitsEntry refused_entry [] es
-entries_admitted es h all = admitted_by FitsEntry refused_entry AreEntries entry_follows [] es h all
+pub entries_admitted : (es : List Entry) → AreEntries es → AllByRecursion FitsEntry es → Admitted AnyEntry refused_entry [] es
+entries_admitted es h all = admitted_by AnyEntry refused_entry AreEntries entry_follows [] es h (any_of_all FitsEntry 0 es all)
 
-pub entry_spells : WordLaws → EntryWords → Spells entry_by entry_words FitsEntry
-entry_spells k w text e h = let t = w.spelled (words_of text) e h in (sym (k.line_words text) ∙ ap spaced t.0, t.1)
+pub entry_spells : WordLaws → EntryWords → Spells (λ at. entry_by) entry_words AnyEntry
+entry_spells k w at text e h = let t = w.spelled (words_of text) e h in (sym (k.line_words text) ∙ ap spaced t.0, t.1)
 
 stand_words : WordLaws → (ws : List (List ℕ)) → ws ≢ [] → AllByRecursion IsWord ws → words_of (spaced ws) ≡ ws
 stand_words k [] some h = absurd (some refl)
@@ -82,8 +86,8 @@ entry_some (Jump site words) h = cc
 entry_some (Store site words) h = cc
 entry_some (Prove site) h = cc
 
-pub entry_reads : WordLaws → EntryWords → Reads entry_by entry_words FitsEntry
-entry_reads k w e h = ap entry_in (stand_words k (entry_words e) (entry_some e) (entry_is_words k e h)) ∙ w.read e h
+pub entry_reads : WordLaws → EntryWords → Reads (λ at. entry_by) entry_words AnyEntry
+entry_reads k w at e few h = ap entry_in (stand_words k (entry_words e) (entry_some e) (entry_is_words k e h)) ∙ w.read e h
 
 -- ---- instances
 
@@ -98,6 +102,9 @@ inst_above_is (y ∷ z ∷ zs) x =
 pub inst_steady : Steady refused_inst
 inst_steady xs x a b h = if_none (is_inst_above (last_in xs) x) (fault.Order b) (none_if (is_inst_above (last_in xs) x) (fault.Order a) h)
 
+abbrev pub AnyInst : ℕ → Inst → Type 0
+AnyInst at x = IsInst x
+
 abbrev InstsAscend : List Inst → Type 0
 InstsAscend xs = IsStrictlySortedBy inst_cmp (inst_keys xs)
 
@@ -107,9 +114,9 @@ inst_pushed o xs x h f none =
     let P : List InstKey → Type 0 = λ ks. IsStrictlySortedBy inst_cmp ks in
     subst P (sym (map-append (λ (y : Inst). y.key) xs (x ∷ []))) (sorted_push inst_cmp o.insts (inst_keys xs) x.key h up)
 
-pub insts_kept : KeysAreOrdered → (xs : List Inst) → Admitted IsInst refused_inst [] xs → IsStrictlySortedBy inst_cmp (inst_keys xs)
+pub insts_kept : KeysAreOrdered → (xs : List Inst) → Admitted AnyInst refused_inst [] xs → IsStrictlySortedBy inst_cmp (inst_keys xs)
 unfolding IsStrictlySortedBy
-insts_kept o xs h = kept_by IsInst refused_inst InstsAscend (inst_pushed o) [] xs tt h
+insts_kept o xs h = kept_by AnyInst refused_inst InstsAscend (inst_pushed o) [] xs tt h
 
 inst_follows : (xs : List Inst) (x : Inst) (ys : List Inst) → InstsAscend (xs ++ x ∷ ys) → (at : ℕ) → refused_inst xs x at ≡ None
 inst_follows xs x ys h at =
@@ -117,27 +124,27 @@ inst_follows xs x ys h at =
     let up = sorted_at inst_cmp (inst_keys xs) x.key (inst_keys ys) (subst P (map-append (λ (y : Inst). y.key) xs (x ∷ ys)) h) in
     if_none (is_inst_above (last_in xs) x) (fault.Order at) (inst_above_is xs x ∙ up)
 
-pub insts_admitted : (xs : List Inst) → IsStrictlySortedBy inst_cmp (inst_keys xs) → AllByRecursion IsInst xs → Admitted IsInst refused_inst [] xs
-insts_admitted xs h all = admitted_by IsInst refused_inst InstsAscend inst_follows [] xs h all
+pub insts_admitted : (xs : List Inst) → IsStrictlySortedBy inst_cmp (inst_keys xs) → AllByRecursion IsInst xs → Admitted AnyInst refused_inst [] xs
+insts_admitted xs h all = admitted_by AnyInst refused_inst InstsAscend inst_follows [] xs h (any_of_all IsInst 0 xs all)
 
-pub inst_spells : WordLaws → InstLines → Spells inst_by inst_words IsInst
-inst_spells k l text x e = let t = l.spelled (words_of text) x e in (sym (k.line_words text) ∙ ap spaced t.0, t.1)
+pub inst_spells : WordLaws → InstLines → Spells (λ at. inst_by) inst_words AnyInst
+inst_spells k l at text x e = let t = l.spelled (words_of text) x e in (sym (k.line_words text) ∙ ap spaced t.0, t.1)
 
-pub inst_reads : WordLaws → InstLines → Reads inst_by inst_words IsInst
-inst_reads k l x h = ap inst_in (k.words_stand (codes "inst") _ (l.words x h)) ∙ l.read x h
+pub inst_reads : WordLaws → InstLines → Reads (λ at. inst_by) inst_words AnyInst
+inst_reads k l at x few h = ap inst_in (k.words_stand (codes "inst") _ (l.words x h)) ∙ l.read x h
 
 -- ---- nodes
 
-abbrev pub FitsNode : List Inst → Node → Type 0
-FitsNode insts n = IsNode n.key n.state × Belongs insts n
+abbrev pub FitsNode : List Inst → ℕ → NodeKey × NodeForm → Type 0
+FitsNode insts at n = FitsAt at n.0 n.1 × Belongs insts n.0
 
-node_above_is : (ns : List Node) (n : Node) → is_node_above (last_in ns) n ≡ is_after node_cmp (node_keys ns) n.key
-node_above_is [] n = refl
-node_above_is (m ∷ []) n = refl
-node_above_is (m ∷ l ∷ ls) n =
+node_above_is : (ns : Seeds) (key : NodeKey) → is_node_above (last_in ns) key ≡ is_after node_cmp (node_keys ns) key
+node_above_is [] key = refl
+node_above_is (m ∷ []) key = refl
+node_above_is (m ∷ l ∷ ls) key =
     let one_less : length (m ∷ l ∷ ls) - 1 ≡ suc (length ls) = omega arith in
     let back : length ls ≡ length (l ∷ ls) - 1 = omega arith in
-    ap (λ (i : ℕ). is_node_above (slice_get (m ∷ l ∷ ls) i) n) one_less ∙ ap (λ (i : ℕ). is_node_above (slice_get (l ∷ ls) i) n) back ∙ node_above_is (l ∷ ls) n
+    ap (λ (i : ℕ). is_node_above (slice_get (m ∷ l ∷ ls) i) key) one_less ∙ ap (λ (i : ℕ). is_node_above (slice_get (l ∷ ls) i) key) back ∙ node_above_is (l ∷ ls) key
 
 none_both : (a b : Bool) (f g : CertFault) → cond a (cond b None (Some f)) (Some g) ≡ None → (a ≡ true) × (b ≡ true)
 none_both true true f g e = (refl, refl)
@@ -147,85 +154,90 @@ none_both false b f g e = cc
 both_none : (a b : Bool) (f g : CertFault) → a ≡ true → b ≡ true → cond a (cond b None (Some f)) (Some g) ≡ None
 both_none a b f g e h = rw (e, h) refl
 
-abbrev has_room : List Node → Node → Bool
-has_room ns n = nat_le (cells_of ns + (1 + offset_of n.key.sp)) most_cells
+abbrev has_room : Seeds → NodeKey → Bool
+has_room ns key = nat_le (cells_of (node_keys ns) + (1 + offset_of key.sp)) most_cells
 
 pub node_steady : Steady refused_node
 node_steady ns n a b h =
-    let t = none_both (is_node_above (last_in ns) n) (has_room ns n) (fault.Limit limit.Cells) (fault.Order a) h in
-    both_none (is_node_above (last_in ns) n) (has_room ns n) (fault.Limit limit.Cells) (fault.Order b) t.0 t.1
+    let t = none_both (is_node_above (last_in ns) n.0) (has_room ns n.0) (fault.Limit limit.Cells) (fault.Order a) h in
+    both_none (is_node_above (last_in ns) n.0) (has_room ns n.0) (fault.Limit limit.Cells) (fault.Order b) t.0 t.1
 
-pub record NodesKeep (ns : List Node) : Type 0 where
+pub record NodesKeep (ns : Seeds) : Type 0 where
   pub ascend : IsStrictlySortedBy node_cmp (node_keys ns)
-  pub few : cells_of ns ≤ most_cells
+  pub few : cells_of (node_keys ns) ≤ most_cells
 
-node_pushed : KeysAreOrdered → (insts : List Inst) (ns : List Node) (n : Node) → NodesKeep ns → FitsNode insts n → ((at : ℕ) → refused_node ns n at ≡ None) → NodesKeep (ns ++ n ∷ [])
+keys_append : (ns ms : Seeds) → node_keys (ns ++ ms) ≡ node_keys ns ++ node_keys ms
+keys_append ns ms = map-append (λ (e : NodeKey × NodeForm). e.0) ns ms
+
+node_pushed : KeysAreOrdered → (insts : List Inst) (ns : Seeds) (n : NodeKey × NodeForm) → NodesKeep ns → FitsNode insts (length ns) n → ((at : ℕ) → refused_node ns n at ≡ None) → NodesKeep (ns ++ n ∷ [])
 node_pushed o insts ns n h f none =
-    let t = none_both (is_node_above (last_in ns) n) (has_room ns n) (fault.Limit limit.Cells) (fault.Order 0) (none 0) in
-    let up = sym (node_above_is ns n) ∙ t.0 in
-    let room : cells_of ns + (1 + offset_of n.key.sp) ≤ most_cells = grind (arith, nat_tests, t.1) in
+    let t = none_both (is_node_above (last_in ns) n.0) (has_room ns n.0) (fault.Limit limit.Cells) (fault.Order 0) (none 0) in
+    let up = sym (node_above_is ns n.0) ∙ t.0 in
+    let room : cells_of (node_keys ns) + (1 + offset_of n.0.sp) ≤ most_cells = grind (arith, nat_tests, t.1) in
     let P : List NodeKey → Type 0 = λ ks. IsStrictlySortedBy node_cmp ks in
     record {
-      ascend = subst P (sym (map-append (λ (m : Node). m.key) ns (n ∷ []))) (sorted_push node_cmp o.nodes (node_keys ns) n.key h.ascend up);
+      ascend = subst P (sym (keys_append ns (n ∷ []))) (sorted_push node_cmp o.nodes (node_keys ns) n.0 h.ascend up);
       few = omega (arith, cells_more ns n, room);
     }
 
-pub nodes_kept : KeysAreOrdered → (insts : List Inst) (ns : List Node) → Admitted (FitsNode insts) refused_node [] ns → NodesKeep ns
+pub nodes_kept : KeysAreOrdered → (insts : List Inst) (ns : Seeds) → Admitted (FitsNode insts) refused_node [] ns → NodesKeep ns
 unfolding IsStrictlySortedBy cells_of
 nodes_kept o insts ns h = kept_by (FitsNode insts) refused_node NodesKeep (node_pushed o insts) [] ns (record { ascend = tt; few = omega arith }) h
 
-cells_append : (ns ms : List Node) → cells_of (ns ++ ms) ≡ cells_of ns + cells_of ms
+cells_append : (ks js : List NodeKey) → cells_of (ks ++ js) ≡ cells_of ks + cells_of js
 unfolding cells_of
-cells_append [] ms = omega arith
-cells_append (n ∷ ns) ms = omega (arith, cells_append ns ms)
+cells_append [] js = omega arith
+cells_append (k ∷ ks) js = omega (arith, cells_append ks js)
 
-cells_front : (n : Node) (ns : List Node) → cells_of (n ∷ ns) ≡ 1 + offset_of n.key.sp + cells_of ns
+cells_front : (k : NodeKey) (ks : List NodeKey) → cells_of (k ∷ ks) ≡ 1 + offset_of k.sp + cells_of ks
 unfolding cells_of
-cells_front n ns = refl
+cells_front k ks = refl
 
-node_follows : (ns : List Node) (n : Node) (ms : List Node) → NodesKeep (ns ++ n ∷ ms) → (at : ℕ) → refused_node ns n at ≡ None
+node_follows : (ns : Seeds) (n : NodeKey × NodeForm) (ms : Seeds) → NodesKeep (ns ++ n ∷ ms) → (at : ℕ) → refused_node ns n at ≡ None
 node_follows ns n ms h at =
     let P : List NodeKey → Type 0 = λ ks. IsStrictlySortedBy node_cmp ks in
-    let up = sorted_at node_cmp (node_keys ns) n.key (node_keys ms) (subst P (map-append (λ (m : Node). m.key) ns (n ∷ ms)) h.ascend) in
-    let few : cells_of ns + (1 + offset_of n.key.sp) ≤ most_cells = omega (arith, h.few, cells_append ns (n ∷ ms), cells_front n ms) in
-    let room : has_room ns n ≡ true = grind (arith, nat_tests, few) in
-    both_none (is_node_above (last_in ns) n) (has_room ns n) (fault.Limit limit.Cells) (fault.Order at) (node_above_is ns n ∙ up) room
+    let keys = keys_append ns (n ∷ ms) in
+    let up = sorted_at node_cmp (node_keys ns) n.0 (node_keys ms) (subst P keys h.ascend) in
+    let few : cells_of (node_keys ns) + (1 + offset_of n.0.sp) ≤ most_cells =
+    omega (arith, h.few, ap cells_of keys, cells_append (node_keys ns) (node_keys (n ∷ ms)), cells_front n.0 (node_keys ms)) in
+    let room : has_room ns n.0 ≡ true = grind (arith, nat_tests, few) in
+    both_none (is_node_above (last_in ns) n.0) (has_room ns n.0) (fault.Limit limit.Cells) (fault.Order at) (node_above_is ns n.0 ∙ up) room
 
-pub nodes_admitted : (insts : List Inst) (ns : List Node) → NodesKeep ns → AllByRecursion (FitsNode insts) ns → Admitted (FitsNode insts) refused_node [] ns
+pub nodes_admitted : (insts : List Inst) (ns : Seeds) → NodesKeep ns → AllFrom (FitsNode insts) 0 ns → Admitted (FitsNode insts) refused_node [] ns
 nodes_admitted insts ns h all = admitted_by (FitsNode insts) refused_node NodesKeep node_follows [] ns h all
 
 pub node_spells : WordLaws → NodeLines → KeysAreOrdered → (insts : List Inst) → IsStrictlySortedBy inst_cmp (inst_keys insts) → Spells (node_by insts) (node_words insts) (FitsNode insts)
-node_spells k l o insts ascend text n e =
-    let t = l.spelled insts (words_of text) n e in
+node_spells k l o insts ascend at text n e =
+    let t = l.spelled insts at (words_of text) n e in
     let own = place_unique o insts t.place t.inst.inst ascend t.inst.there in
-    let place : place_of n.key.inst insts ≡ t.place = ap (λ (key : InstKey). place_of key insts) (sym t.inst.same) ∙ own in
+    let place : place_of n.0.inst insts ≡ t.place = ap (λ (key : InstKey). place_of key insts) (sym t.inst.same) ∙ own in
     let P : InstKey → Type 0 = λ key. Contains (inst_keys insts) key in (
       sym (k.line_words text) ∙ ap spaced (t.words ∙ ap (λ (i : ℕ). node_words_at i n) (sym place)),
-      (t.node, subst P t.inst.same (contains_at insts t.place t.inst.inst t.inst.there)),
+      (t.fits, subst P t.inst.same (contains_at insts t.place t.inst.inst t.inst.there)),
     )
 
 pub node_reads : WordLaws → NodeLines → KeysAreOrdered → (insts : List Inst) → length insts ≤ most_instances → Reads (node_by insts) (node_words insts) (FitsNode insts)
-node_reads k l o insts few n h =
-    let t = has_place o insts n.key.inst h.1 in
-    let within = slice_get_within insts (place_of n.key.inst insts) t.inst t.there in
-    let small : place_of n.key.inst insts < 65536 = omega (arith, within, few) in
-    let inst : IsInstanceOf insts (place_of n.key.inst insts) n = record { inst = t.inst; there = t.there; same = t.same } in
-    ap (node_in insts) (k.words_stand (codes "node") _ (l.words (place_of n.key.inst insts) n small h.0)) ∙ l.read insts (place_of n.key.inst insts) n small inst h.0
+node_reads k l o insts few at n most h =
+    let t = has_place o insts n.0.inst h.1 in
+    let within = slice_get_within insts (place_of n.0.inst insts) t.inst t.there in
+    let small : place_of n.0.inst insts < 65536 = omega (arith, within, few) in
+    let inst : IsInstanceOf insts (place_of n.0.inst insts) n.0 = record { inst = t.inst; there = t.there; same = t.same } in
+    ap (node_in insts at) (k.words_stand (codes "node") _ (l.words at (place_of n.0.inst insts) n most small h.0)) ∙ l.read insts at (place_of n.0.inst insts) n most small inst h.0
 
-pub node_is_plain : NodeLines → KeysAreOrdered → (insts : List Inst) → length insts ≤ most_instances → (n : Node) → FitsNode insts n → AllByRecursion IsWord (node_words insts n)
-node_is_plain l o insts few n h =
-    let t = has_place o insts n.key.inst h.1 in
-    let within = slice_get_within insts (place_of n.key.inst insts) t.inst t.there in
-    l.words (place_of n.key.inst insts) n (omega (arith, within, few)) h.0
+pub node_is_plain : NodeLines → KeysAreOrdered → (insts : List Inst) → length insts ≤ most_instances → (at : ℕ) (n : NodeKey × NodeForm) → at ≤ 65536 → FitsNode insts at n → AllByRecursion IsWord (node_words insts n)
+node_is_plain l o insts few at n most h =
+    let t = has_place o insts n.0.inst h.1 in
+    let within = slice_get_within insts (place_of n.0.inst insts) t.inst t.there in
+    l.words at (place_of n.0.inst insts) n most (omega (arith, within, few)) h.0
 
-pub all_first : {A : Type 0} (P Q : A → Type 0) (xs : List A) → AllByRecursion (λ x. P x × Q x) xs → AllByRecursion P xs
-all_first P Q [] h = tt
-all_first P Q (x ∷ xs) h = (h.0.0, all_first P Q xs h.1)
+pub all_from : (insts : List Inst) (at : ℕ) (ns : Seeds) → AllFrom (FitsNode insts) at ns → AreFrom at ns
+all_from insts at [] h = tt
+all_from insts at (n ∷ ns) h = (h.0.0, all_from insts (at + 1) ns h.1)
 
-pub all_second : {A : Type 0} (P Q : A → Type 0) (xs : List A) → AllByRecursion (λ x. P x × Q x) xs → AllByRecursion Q xs
-all_second P Q [] h = tt
-all_second P Q (x ∷ xs) h = (h.0.1, all_second P Q xs h.1)
+pub all_belong : (insts : List Inst) (at : ℕ) (ns : Seeds) → AllFrom (FitsNode insts) at ns → AllByRecursion (Belongs insts) (node_keys ns)
+all_belong insts at [] h = tt
+all_belong insts at (n ∷ ns) h = (h.0.1, all_belong insts (at + 1) ns h.1)
 
-pub all_both : {A : Type 0} (P Q : A → Type 0) (xs : List A) → AllByRecursion P xs → AllByRecursion Q xs → AllByRecursion (λ x. P x × Q x) xs
-all_both P Q [] h g = tt
-all_both P Q (x ∷ xs) h g = ((h.0, g.0), all_both P Q xs h.1 g.1)
+pub all_fit : (insts : List Inst) (at : ℕ) (ns : Seeds) → AreFrom at ns → AllByRecursion (Belongs insts) (node_keys ns) → AllFrom (FitsNode insts) at ns
+all_fit insts at [] h g = tt
+all_fit insts at (n ∷ ns) h g = ((h.0, g.0), all_fit insts (at + 1) ns h.1 g.1)

@@ -1,11 +1,5 @@
-pub mod Pieces
-pub mod Words
-pub mod Loops
-pub mod Fields
-pub mod InstLine
-pub mod NodeLine
 pub mod Items
-pub mod Claims
+pub mod ItemLines
 pub mod Lists
 pub mod Places
 pub mod Kept

@@ -1,5 +1,5 @@
 -- Lists of items: what is read is spelled so, and what is spelled is read.
-use Rattle.std.proofs.Common.{ℕ, zero, suc, ◌≡◌, List, [], ◌∷◌, ◌++◌, length, map, Bool, true, refl, ap, ap₂, sym, ◌∙◌, arith, Option, Some, None, Result, Ok, Err, subst, append_assoc}
+use Rattle.std.proofs.Common.{ℕ, zero, suc, ◌+◌, ◌≤◌, ◌≡◌, List, [], ◌∷◌, ◌++◌, length, length-append, map, Bool, true, refl, ap, ap₂, sym, ◌∙◌, arith, Option, Some, None, Result, Ok, Err, subst, append_assoc}
 use Rattle.std.specs.Prelude.{⊤}
 use Rattle.std.specs.List.{AllByRecursion}
 use Rattle.std.specs.List.Sorted.{IsStrictlySortedBy}
@@ -13,7 +13,7 @@ use Rattle.line_reading.specs.Reading.{then_at, line_by}
 use Rattle.line_reading.specs.Words.{whole, Passes}
 use Rattle.line_reading.proofs.Steps.{TakesLine, line_takes, line_again, passes_none, passes_more, passes_split, passes_end}
 use Rattle.cert_format.specs.declared.fault.CertFault.{CertFault}
-use Rattle.cert_format.specs.CertificateReading.{formed, unless, with_item, longer_at, items_from}
+use Rattle.cert_format.specs.Reading.{formed, unless, with_item, longer_at, items_from}
 
 -- ---- results
 
@@ -37,20 +37,25 @@ unless_ok (Some f) x y e = absurd (err_ok f y e)
 
 -- ---- items behind others
 
-abbrev pub Admitted : {A : Type 0} → (A → Type 0) → (List A → A → ℕ → Option CertFault) → List A → List A → Type 0
+abbrev pub Admitted : {A : Type 0} → (ℕ → A → Type 0) → (List A → A → ℕ → Option CertFault) → List A → List A → Type 0
 Admitted P refused xs [] = ⊤
-Admitted P refused xs (y ∷ ys) = P y × ((at : ℕ) → refused xs y at ≡ None) × Admitted P refused (xs ++ y ∷ []) ys
+Admitted P refused xs (y ∷ ys) = P (length xs) y × ((at : ℕ) → refused xs y at ≡ None) × Admitted P refused (xs ++ y ∷ []) ys
 
 -- where an item isn't refused, it isn't wherever it stands
 abbrev pub Steady : {A : Type 0} → (List A → A → ℕ → Option CertFault) → Type 0
 Steady {A} refused = (xs : List A) (x : A) (a b : ℕ) → refused xs x a ≡ None → refused xs x b ≡ None
 
--- a line is the words of what is read of it
-abbrev pub Spells : {A : Type 0} → (List ℕ → Option A) → (A → List (List ℕ)) → (A → Type 0) → Type 0
-Spells {A} by words P = (text : List ℕ) (x : A) → by text ≡ Some x → (text ≡ spaced (words x)) × P x
+-- a line is the words of what is read of it, by its number in the list
+abbrev pub Spells : {A : Type 0} → (ℕ → List ℕ → Option A) → (A → List (List ℕ)) → (ℕ → A → Type 0) → Type 0
+Spells {A} by words P = (at : ℕ) (text : List ℕ) (x : A) → by at text ≡ Some x → (text ≡ spaced (words x)) × P at x
 
-abbrev pub Reads : {A : Type 0} → (List ℕ → Option A) → (A → List (List ℕ)) → (A → Type 0) → Type 0
-Reads {A} by words P = (x : A) → P x → by (spaced (words x)) ≡ Some x
+abbrev pub Reads : {A : Type 0} → (ℕ → List ℕ → Option A) → (A → List (List ℕ)) → (ℕ → A → Type 0) → Type 0
+Reads {A} by words P = (at : ℕ) (x : A) → at ≤ 65536 → P at x → by at (spaced (words x)) ≡ Some x
+
+-- each item, by its number
+abbrev pub AllFrom : {A : Type 0} → (ℕ → A → Type 0) → ℕ → List A → Type 0
+AllFrom P at [] = ⊤
+AllFrom P at (x ∷ xs) = P at x × AllFrom P (at + 1) xs
 
 abbrev pub lines : {A : Type 0} → (A → List (List ℕ)) → List A → List TextLine
 lines words xs = map whole (map words xs)
@@ -58,22 +63,22 @@ lines words xs = map whole (map words xs)
 pub as_words : {A : Type 0} (f : List ℕ → Option A) (p : Place) (x : A) (q : Place) (t : TakesLine f p x q) (ws : List (List ℕ)) → t.text ≡ spaced ws → Passes p (whole ws ∷ []) q
 as_words f p x q t ws e = let P : List ℕ → Type 0 = λ y. Passes p (record { text = y; whole = true } ∷ []) q in subst P e t.passes
 
-record LongerRead {A : Type 0} (words : A → List (List ℕ)) (P : A → Type 0) (refused : List A → A → ℕ → Option CertFault) (xs : List A) (p : Place) (z : List A × Place) : Type 0 where
+record LongerRead {A : Type 0} (words : A → List (List ℕ)) (P : ℕ → A → Type 0) (refused : List A → A → ℕ → Option CertFault) (xs : List A) (p : Place) (z : List A × Place) : Type 0 where
   pub item : A
-  pub fits : P item
+  pub fits : P (length xs) item
   pub none : refused xs item p.at ≡ None
   pub all : xs ++ item ∷ [] ≡ z.0
   pub passes : Passes p (whole (words item) ∷ []) z.1
 
-longer_take : {A : Type 0} (by : List ℕ → Option A) (words : A → List (List ℕ)) (P : A → Type 0) (refused : List A → A → ℕ → Option CertFault) → Spells by words P
+longer_take : {A : Type 0} (by : ℕ → List ℕ → Option A) (words : A → List (List ℕ)) (P : ℕ → A → Type 0) (refused : List A → A → ℕ → Option CertFault) → Spells by words P
     → (xs : List A) (p : Place) (z : List A × Place) → longer_at by refused xs p ≡ Ok z → LongerRead words P refused xs p z
 unfolding longer_at
 longer_take {A} by words P refused spells xs p z e =
-    let x = then_ok (formed (line_by by p)) _ z e in
+    let x = then_ok (formed (line_by (by (length xs)) p)) _ z e in
     let ys = then_ok (with_item refused xs x.0.0 p.at) _ z x.2 in
     let none = unless_ok (refused xs x.0.0 p.at) (xs ++ x.0.0 ∷ []) ys.0 ys.1 in
-    let t = line_takes by p x.0.0 x.0.1 (formed_ok (line_by by p) x.0 x.1) in
-    let s = spells t.text x.0.0 t.read in
+    let t = line_takes (by (length xs)) p x.0.0 x.0.1 (formed_ok (line_by (by (length xs)) p) x.0 x.1) in
+    let s = spells (length xs) t.text x.0.0 t.read in
     let pair = ok_is {A = List A × Place} (ys.0, x.0.1) z ys.2 in
     let Q : Place → Type 0 = λ q. Passes p (whole (words x.0.0) ∷ []) q in
     record {
@@ -81,17 +86,17 @@ longer_take {A} by words P refused spells xs p z e =
       fits = s.1;
       none = none.0;
       all = none.1 ∙ ap (λ (y : List A × Place). y.0) pair;
-      passes = subst Q (ap (λ (y : List A × Place). y.1) pair) (as_words by p x.0.0 x.0.1 t (words x.0.0) s.0);
+      passes = subst Q (ap (λ (y : List A × Place). y.1) pair) (as_words (by (length xs)) p x.0.0 x.0.1 t (words x.0.0) s.0);
     }
 
-pub record ItemsRead {A : Type 0} (words : A → List (List ℕ)) (P : A → Type 0) (refused : List A → A → ℕ → Option CertFault) (xs : List A) (n : ℕ) (p : Place) (z : List A × Place) : Type 0 where
+pub record ItemsRead {A : Type 0} (words : A → List (List ℕ)) (P : ℕ → A → Type 0) (refused : List A → A → ℕ → Option CertFault) (xs : List A) (n : ℕ) (p : Place) (z : List A × Place) : Type 0 where
   pub items : List A
   pub all : xs ++ items ≡ z.0
   pub number : length items ≡ n
   pub fit : Admitted P refused xs items
   pub passes : Passes p (lines words items) z.1
 
-pub items_take : {A : Type 0} (by : List ℕ → Option A) (words : A → List (List ℕ)) (P : A → Type 0) (refused : List A → A → ℕ → Option CertFault) → Spells by words P → Steady refused
+pub items_take : {A : Type 0} (by : ℕ → List ℕ → Option A) (words : A → List (List ℕ)) (P : ℕ → A → Type 0) (refused : List A → A → ℕ → Option CertFault) → Spells by words P → Steady refused
     → (xs : List A) (n : ℕ) (p : Place) (z : List A × Place) → items_from by refused xs n p ≡ Ok z → ItemsRead words P refused xs n p z
 unfolding items_from
 items_take {A} by words P refused spells steady xs zero p z e =
@@ -110,40 +115,54 @@ items_take {A} by words P refused spells steady xs (suc n) p z e =
       passes = passes_more p y.0.1 z.1 (whole (words one.item) ∷ []) (lines words more.items) one.passes more.passes;
     }
 
-longer_again : {A : Type 0} (by : List ℕ → Option A) (words : A → List (List ℕ)) (P : A → Type 0) (refused : List A → A → ℕ → Option CertFault) → Reads by words P
-    → (xs : List A) (x : A) (p q : Place) → P x → ((at : ℕ) → refused xs x at ≡ None) → Passes p (whole (words x) ∷ []) q → longer_at by refused xs p ≡ Ok (xs ++ x ∷ [], q)
+longer_again : {A : Type 0} (by : ℕ → List ℕ → Option A) (words : A → List (List ℕ)) (P : ℕ → A → Type 0) (refused : List A → A → ℕ → Option CertFault) → Reads by words P
+    → (xs : List A) (x : A) (p q : Place) → length xs ≤ 65536 → P (length xs) x → ((at : ℕ) → refused xs x at ≡ None) → Passes p (whole (words x) ∷ []) q → longer_at by refused xs p ≡ Ok (xs ++ x ∷ [], q)
 unfolding longer_at
-longer_again by words P refused reads xs x p q fits none h =
-    let line = line_again by p q (spaced (words x)) x (reads x fits) h in
+longer_again by words P refused reads xs x p q few fits none h =
+    let line = line_again (by (length xs)) p q (spaced (words x)) x (reads (length xs) x few fits) h in
     rw (line, none p.at) refl
 
-pub items_again : {A : Type 0} (by : List ℕ → Option A) (words : A → List (List ℕ)) (P : A → Type 0) (refused : List A → A → ℕ → Option CertFault) → Reads by words P
-    → (xs ys : List A) (n : ℕ) (p q : Place) → Admitted P refused xs ys → length ys ≡ n → Passes p (lines words ys) q → items_from by refused xs n p ≡ Ok (xs ++ ys, q)
+pub items_again : {A : Type 0} (by : ℕ → List ℕ → Option A) (words : A → List (List ℕ)) (P : ℕ → A → Type 0) (refused : List A → A → ℕ → Option CertFault) → Reads by words P
+    → (xs ys : List A) (n : ℕ) (p q : Place) → length xs + n ≤ 65536 → Admitted P refused xs ys → length ys ≡ n → Passes p (lines words ys) q → items_from by refused xs n p ≡ Ok (xs ++ ys, q)
 unfolding items_from
-items_again {A} by words P refused reads xs [] zero p q a e h = ap₂ (λ (zs : List A) (r : Place). Ok (zs, r)) (sym (append-nil xs)) (passes_end p q h)
-items_again {A} by words P refused reads xs [] (suc n) p q a e h = absurd (omega (arith, e))
-items_again {A} by words P refused reads xs (y ∷ ys) zero p q a e h = absurd (omega (arith, e))
-items_again {A} by words P refused reads xs (y ∷ ys) (suc n) p q a e h =
+items_again {A} by words P refused reads xs [] zero p q few a e h = ap₂ (λ (zs : List A) (r : Place). Ok (zs, r)) (sym (append-nil xs)) (passes_end p q h)
+items_again {A} by words P refused reads xs [] (suc n) p q few a e h = absurd (omega (arith, e))
+items_again {A} by words P refused reads xs (y ∷ ys) zero p q few a e h = absurd (omega (arith, e))
+items_again {A} by words P refused reads xs (y ∷ ys) (suc n) p q few a e h =
     let s = passes_split p q (whole (words y)) (lines words ys) h in
-    let one = longer_again by words P refused reads xs y p s.0 a.0 a.1 s.1 in
-    let more = items_again by words P refused reads (xs ++ y ∷ []) ys n s.0 q a.2 (omega (arith, e)) s.2 in
+    let one = longer_again by words P refused reads xs y p s.0 (omega (arith, few)) a.0 a.1 s.1 in
+    let more = items_again by words P refused reads (xs ++ y ∷ []) ys n s.0 q (omega (arith, few, length-append xs (y ∷ []))) a.2 (omega (arith, e)) s.2 in
     rw one (more ∙ ap (λ (zs : List A). Ok (zs, q)) (append_assoc xs (y ∷ []) ys))
 
 -- ---- what a whole list keeps
 
-pub admitted_all : {A : Type 0} (P : A → Type 0) (refused : List A → A → ℕ → Option CertFault) (xs ys : List A) → Admitted P refused xs ys → AllByRecursion P ys
-admitted_all P refused xs [] h = tt
-admitted_all P refused xs (y ∷ ys) h = (h.0, admitted_all P refused (xs ++ y ∷ []) ys h.2)
+pub longer : {A : Type 0} (xs : List A) (x : A) → length (xs ++ x ∷ []) ≡ length xs + 1
+longer xs x = length-append xs (x ∷ [])
 
-pub kept_by : {A : Type 0} (P : A → Type 0) (refused : List A → A → ℕ → Option CertFault) (Q : List A → Type 0) → ((xs : List A) (x : A) → Q xs → P x → ((at : ℕ) → refused xs x at ≡ None) → Q (xs ++ x ∷ []))
+pub admitted_all : {A : Type 0} (P : ℕ → A → Type 0) (refused : List A → A → ℕ → Option CertFault) (xs ys : List A) → Admitted P refused xs ys → AllFrom P (length xs) ys
+admitted_all P refused xs [] h = tt
+admitted_all P refused xs (y ∷ ys) h = (h.0, let Q : ℕ → Type 0 = λ n. AllFrom P n ys in subst Q (longer xs y) (admitted_all P refused (xs ++ y ∷ []) ys h.2))
+
+pub kept_by : {A : Type 0} (P : ℕ → A → Type 0) (refused : List A → A → ℕ → Option CertFault) (Q : List A → Type 0) → ((xs : List A) (x : A) → Q xs → P (length xs) x → ((at : ℕ) → refused xs x at ≡ None) → Q (xs ++ x ∷ []))
     → (xs ys : List A) → Q xs → Admitted P refused xs ys → Q (xs ++ ys)
 kept_by P refused Q step xs [] q h = subst Q (sym (append-nil xs)) q
 kept_by P refused Q step xs (y ∷ ys) q h = subst Q (append_assoc xs (y ∷ []) ys) (kept_by P refused Q step (xs ++ y ∷ []) ys (step xs y q h.0 h.1) h.2)
 
-pub admitted_by : {A : Type 0} (P : A → Type 0) (refused : List A → A → ℕ → Option CertFault) (Q : List A → Type 0) → ((xs : List A) (x : A) (ys : List A) → Q (xs ++ x ∷ ys) → (at : ℕ) → refused xs x at ≡ None)
-    → (xs ys : List A) → Q (xs ++ ys) → AllByRecursion P ys → Admitted P refused xs ys
+pub admitted_by : {A : Type 0} (P : ℕ → A → Type 0) (refused : List A → A → ℕ → Option CertFault) (Q : List A → Type 0) → ((xs : List A) (x : A) (ys : List A) → Q (xs ++ x ∷ ys) → (at : ℕ) → refused xs x at ≡ None)
+    → (xs ys : List A) → Q (xs ++ ys) → AllFrom P (length xs) ys → Admitted P refused xs ys
 admitted_by P refused Q step xs [] q h = tt
-admitted_by P refused Q step xs (y ∷ ys) q h = (h.0, (λ at. step xs y ys q at), admitted_by P refused Q step (xs ++ y ∷ []) ys (subst Q (sym (append_assoc xs (y ∷ []) ys)) q) h.1)
+admitted_by P refused Q step xs (y ∷ ys) q h =
+    let R : ℕ → Type 0 = λ n. AllFrom P n ys in
+    (h.0, (λ at. step xs y ys q at), admitted_by P refused Q step (xs ++ y ∷ []) ys (subst Q (sym (append_assoc xs (y ∷ []) ys)) q) (subst R (sym (longer xs y)) h.1))
+
+-- items of which each fits whatever its number
+pub all_of_any : {A : Type 0} (P : A → Type 0) (at : ℕ) (xs : List A) → AllFrom (λ n. P) at xs → AllByRecursion P xs
+all_of_any P at [] h = tt
+all_of_any P at (x ∷ xs) h = (h.0, all_of_any P (at + 1) xs h.1)
+
+pub any_of_all : {A : Type 0} (P : A → Type 0) (at : ℕ) (xs : List A) → AllByRecursion P xs → AllFrom (λ n. P) at xs
+any_of_all P at [] h = tt
+any_of_all P at (x ∷ xs) h = (h.0, any_of_all P (at + 1) xs h.1)
 
 -- ---- ascending keys
 

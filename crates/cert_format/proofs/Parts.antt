@@ -19,10 +19,11 @@ use Rattle.witness_replay.specs.Reading.{schedule_at}
 use Rattle.witness_replay.specs.Exact.{TextIsReading, ReadIsSpelled as ScheduleIsSpelled, SpelledIsRead as ScheduleIsRead}
 use Rattle.cert_format.specs.declared.fault.CertFault.{CertFault}
 use Rattle.cert_format.specs.declared.fault.CertFault.TheVariants as fault
-use Rattle.cert_format.specs.Certificate.{numbered, witness_lines, most_nodes}
-use Rattle.cert_format.specs.CertificateReading.{formed, numbered_in, numbered_by, counted, count_at, count_in, count_by, limited, ending_by, items_from, heading_at, plan_if, witness_at, if_last, end_at}
-use Rattle.cert_format.proofs.Pieces.{tested}
-use Rattle.cert_format.proofs.Fields.{same_text, word_take, dec_take}
+use Rattle.certificate.specs.Claims.{most_nodes}
+use Rattle.cert_words.specs.Text.{numbered, version, heading, open_line, attained_line, witness_lines, end_line}
+use Rattle.cert_format.specs.Reading.{formed, numbered_in, numbered_by, counted, count_at, count_in, count_by, limited, ending_by, items_from, heading_at, plan_if, witness_at, if_last, end_at}
+use Rattle.cert_words.proofs.Pieces.{tested}
+use Rattle.cert_words.proofs.Fields.{same_text, word_take, dec_take}
 use Rattle.cert_format.proofs.Lists.{ok_is, err_ok, then_ok, formed_ok, Admitted, Steady, Spells, Reads, as_words, items_take, items_again}
 
 -- ---- places
@@ -171,12 +172,12 @@ nodes_line k n p q small h =
 
 -- ---- a list
 
-pub record ListPart {A : Type 0} (name : List ℕ) (most : ℕ) (words : A → List (List ℕ)) (P : A → Type 0) (refused : List A → A → ℕ → Option CertFault) (p : Place) (z : List A × Place) : Type 0 where
+pub record ListPart {A : Type 0} (name : List ℕ) (most : ℕ) (words : A → List (List ℕ)) (P : ℕ → A → Type 0) (refused : List A → A → ℕ → Option CertFault) (p : Place) (z : List A × Place) : Type 0 where
   pub fit : Admitted P refused [] z.0
   pub few : length z.0 ≤ most
   pub lines : Stand p (numbered name (length z.0) ∷ map words z.0) z.1
 
-pub list_take : {A : Type 0} (by : List ℕ → Option A) (words : A → List (List ℕ)) (P : A → Type 0) (refused : List A → A → ℕ → Option CertFault) → Spells by words P → Steady refused
+pub list_take : {A : Type 0} (by : ℕ → List ℕ → Option A) (words : A → List (List ℕ)) (P : ℕ → A → Type 0) (refused : List A → A → ℕ → Option CertFault) → Spells by words P → Steady refused
     → (name : List ℕ) (most n : ℕ) (p m : Place) (z : List A × Place) → Stand p (numbered name n ∷ []) m → n ≤ most → items_from by refused [] n m ≡ Ok z → ListPart name most words P refused p z
 list_take {A} by words P refused spells steady name most n p m z count small e =
     let r = items_take by words P refused spells steady [] n m z e in
@@ -185,19 +186,13 @@ list_take {A} by words P refused spells steady name most n p m z count small e =
     let t = subst R r.all (r.fit, omega (arith, r.number, small), passes_more p m z.1 (whole (numbered name (length r.items)) ∷ []) (map whole (map words r.items)) (subst Q (sym r.number) count) r.passes) in
     record { fit = t.0; few = t.1; lines = t.2 }
 
-pub list_again : {A : Type 0} (by : List ℕ → Option A) (words : A → List (List ℕ)) (P : A → Type 0) (refused : List A → A → ℕ → Option CertFault) → Reads by words P
-    → (name : List ℕ) (xs : List A) (p q : Place) → Admitted P refused [] xs → Stand p (numbered name (length xs) ∷ map words xs) q → (m : Place) × Stand p (numbered name (length xs) ∷ []) m × (items_from by refused [] (length xs) m ≡ Ok (xs, q))
-list_again by words P refused reads name xs p q fit h =
+pub list_again : {A : Type 0} (by : ℕ → List ℕ → Option A) (words : A → List (List ℕ)) (P : ℕ → A → Type 0) (refused : List A → A → ℕ → Option CertFault) → Reads by words P
+    → (name : List ℕ) (xs : List A) (p q : Place) → length xs ≤ 65536 → Admitted P refused [] xs → Stand p (numbered name (length xs) ∷ map words xs) q → (m : Place) × Stand p (numbered name (length xs) ∷ []) m × (items_from by refused [] (length xs) m ≡ Ok (xs, q))
+list_again by words P refused reads name xs p q few fit h =
     let s = passes_split p q (whole (numbered name (length xs))) (map whole (map words xs)) h in
-    (s.0, s.1, items_again by words P refused reads [] xs (length xs) s.0 q fit refl s.2)
+    (s.0, s.1, items_again by words P refused reads [] xs (length xs) s.0 q (omega (arith, few)) fit refl s.2)
 
 -- ---- the heading
-
-abbrev pub version : List (List ℕ)
-version = codes "stackcert" ∷ codes "1" ∷ []
-
-abbrev pub heading : ℕ → List (List (List ℕ))
-heading n = version ∷ numbered (codes "bound") n ∷ []
 
 pub heading_take : WordLaws → (p : Place) (z : ℕ × Place) → heading_at p ≡ Ok z → Stand p (heading z.0) z.1 × (z.0 ≤ SIZE)
 unfolding heading_at
@@ -214,12 +209,6 @@ heading_again k p n q small h =
     rw first (number_line k (codes "bound") SIZE n s.0 q (plain (codes "bound" ∷ []) refl).0 (lit< tt) small s.2)
 
 -- ---- the schedule
-
-abbrev pub open_line : List (List ℕ)
-open_line = codes "witness" ∷ codes "open" ∷ []
-
-abbrev pub attained_line : List (List ℕ)
-attained_line = codes "witness" ∷ codes "attained" ∷ []
 
 abbrev ending_words : Bool → List (List ℕ)
 ending_words false = open_line
@@ -280,9 +269,6 @@ witness_again k reads read (Some plan) at text h =
     (q.at, rw (e, s) refl)
 
 -- ---- the end
-
-abbrev pub end_line : List (List ℕ)
-end_line = codes "end" ∷ []
 
 last_is : (ls : List TextLine) (p : Place) (z : Unit {0} × Place) → if_last ls p ≡ Ok z → (ls ≡ []) × (p ≡ z.1)
 last_is [] p z e = (refl, ap (λ (y : Unit {0} × Place). y.1) (ok_is {A = Unit {0} × Place} (tt, p) z e))

@@ -11,9 +11,9 @@ use Rattle.line_reading.proofs.Steps.{some_is, none_some}
 use Rattle.mask_states.specs.declared.keys.InstKey.{InstKey}
 use Rattle.mask_states.specs.Order.{inst_cmp, same_inst}
 use Rattle.mask_states.specs.Laws.{KeysAreOrdered}
-use Rattle.cert_format.specs.declared.instance.Inst.{Inst}
-use Rattle.cert_format.specs.Lines.{place_of}
-use Rattle.cert_format.specs.Certificate.{inst_keys}
+use Rattle.certificate.specs.declared.instance.Inst.{Inst}
+use Rattle.certificate.specs.Insts.{inst_keys}
+use Rattle.cert_words.specs.Text.{place_of}
 
 equal_is : (o : Ordering) → is_eq o ≡ true → o ≡ Equal
 equal_is Less e = cc

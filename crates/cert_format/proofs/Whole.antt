@@ -1,5 +1,5 @@
 -- A certificate: what is read is spelled so, and what is spelled is read.
-use Rattle.std.proofs.Common.{ℕ, ◌+◌, ◌≤◌, ◌≡◌, List, [], ◌∷◌, ◌++◌, length, map, codes, refl, ap, sym, ◌∙◌, arith, Option, None, Result, Ok, Err, subst, append-nil, append_assoc, lit<}
+use Rattle.std.proofs.Common.{ℕ, ◌+◌, ◌≤◌, ◌≡◌, List, [], ◌∷◌, ◌++◌, length, map, codes, refl, ap, sym, ◌∙◌, arith, Option, None, Result, Ok, Err, subst, append-nil, lit<}
 use Rattle.std.specs.Prelude.{IfOk}
 use Rattle.std.specs.List.{AllByRecursion, flat_map}
 use Rattle.std.specs.List.Sorted.{IsStrictlySortedBy}
@@ -16,22 +16,22 @@ use Rattle.indirect_targets.specs.Exact.{EntryWords}
 use Rattle.indirect_targets.proofs.Entries.{entry_is_words}
 use Rattle.mask_states.specs.Order.{inst_cmp}
 use Rattle.mask_states.specs.Laws.{KeysAreOrdered}
-use Rattle.local_rules.specs.declared.local.Node.{Node}
-use Rattle.local_rules.specs.Cover.{IsNode}
+use Rattle.edge_rules.specs.Expansion.{Seeds}
 use Rattle.witness_replay.specs.Spelling.{Plan}
 use Rattle.witness_replay.specs.Exact.{TextIsReading, ReadIsSpelled as ScheduleIsSpelled, SpelledIsRead as ScheduleIsRead}
-use Rattle.cert_format.specs.declared.instance.Inst.{Inst}
+use Rattle.certificate.specs.declared.instance.Inst.{Inst}
 use Rattle.cert_format.specs.declared.fault.CertFault.{CertFault}
 use Rattle.cert_format.specs.declared.fault.CertFault.TheVariants as fault
-use Rattle.cert_format.specs.Lines.{IsInst, inst_words, node_words}
+use Rattle.certificate.specs.Insts.{IsInst, inst_keys}
+use Rattle.certificate.specs.Claims.{Claim, IsClaim, IsCertificate, most_instances, most_nodes}
 use Rattle.cert_format.specs.LineLaws.{InstLines, NodeLines}
-use Rattle.cert_format.specs.Certificate.{Claim, IsClaim, IsCertificate, Belongs, inst_keys, most_instances, most_nodes, numbered, witness_lines, certificate_lines, text_of}
-use Rattle.cert_format.specs.CertificateReading.{entry_by, inst_by, node_by, refused_entry, refused_inst, refused_node, formed, numbered_by, count_by, limited, heading_at, entries_at, insts_at, nodes_at, witness_at, end_at, claim_at, claim_alone, certificate_in}
+use Rattle.cert_words.specs.Text.{inst_words, node_words, version, heading, entry_lines, inst_lines, node_lines, witness_lines, end_line, front_lines, certificate_lines, text_of}
+use Rattle.cert_format.specs.Reading.{entry_by, inst_by, node_by, refused_entry, refused_inst, refused_node, formed, numbered_by, count_by, limited, heading_at, entries_at, insts_at, nodes_at, witness_at, end_at, claim_at, claim_alone, certificate_in}
 use Rattle.cert_format.specs.Exact.{ReadIsSpelled, SpelledIsRead, OneText, PartsMakeClaims}
 use Rattle.line_reading.specs.Reading.{line_by}
-use Rattle.cert_format.proofs.Lists.{ok_is, err_ok, then_ok, admitted_all}
-use Rattle.cert_format.proofs.Kept.{FitsEntry, entry_steady, entries_kept, entries_admitted, entry_spells, entry_reads, inst_steady, insts_kept, insts_admitted, inst_spells, inst_reads, FitsNode, node_steady, NodesKeep, nodes_kept, nodes_admitted, node_spells, node_reads, node_is_plain, all_first, all_second, all_both}
-use Rattle.cert_format.proofs.Parts.{Stand, stand_more, stand_cut, before, stand, plain, numbered_plain, number_take, number_line, nodes_take, nodes_line, ListPart, list_take, list_again, version, heading, heading_take, heading_again, witness_part, witness_again, end_line, end_part, end_again}
+use Rattle.cert_format.proofs.Lists.{ok_is, err_ok, then_ok, AllFrom, all_of_any, admitted_all}
+use Rattle.cert_format.proofs.Kept.{FitsEntry, AnyEntry, entry_steady, entries_kept, entries_admitted, entry_spells, entry_reads, AnyInst, inst_steady, insts_kept, insts_admitted, inst_spells, inst_reads, FitsNode, node_steady, NodesKeep, nodes_kept, nodes_admitted, node_spells, node_reads, node_is_plain, all_from, all_belong, all_fit}
+use Rattle.cert_format.proofs.Parts.{Stand, stand_more, stand_cut, before, stand, plain, numbered_plain, number_take, number_line, nodes_take, nodes_line, ListPart, list_take, list_again, heading_take, heading_again, witness_part, witness_again, end_part, end_again}
 
 -- what the laws of the lower crates say
 pub record Below : Type 0 where
@@ -46,61 +46,52 @@ pub record Below : Type 0 where
 
 -- ---- the lists
 
-abbrev pub entry_lines : List Entry → List (List (List ℕ))
-entry_lines es = numbered (codes "assume") (length es) ∷ map entry_words es
-
-abbrev pub inst_lines : List Inst → List (List (List ℕ))
-inst_lines xs = numbered (codes "instances") (length xs) ∷ map inst_words xs
-
-abbrev pub node_lines : List Inst → List Node → List (List (List ℕ))
-node_lines insts ns = numbered (codes "nodes") (length ns) ∷ map (node_words insts) ns
-
-entries_take : Below → (p : Place) (z : List Entry × Place) → entries_at p ≡ Ok z → ListPart (codes "assume") most_entries entry_words FitsEntry refused_entry p z
+entries_take : Below → (p : Place) (z : List Entry × Place) → entries_at p ≡ Ok z → ListPart (codes "assume") most_entries entry_words AnyEntry refused_entry p z
 unfolding entries_at
 entries_take b p z e =
     let n = then_ok (formed (line_by (numbered_by (codes "assume") most_entries) p)) _ z e in
     let count = number_take b.words (codes "assume") most_entries p n.0 (lit< tt) n.1 in
-    list_take entry_by entry_words FitsEntry refused_entry (entry_spells b.words b.entries) entry_steady (codes "assume") most_entries n.0.0 p n.0.1 z count.0 count.1 n.2
+    list_take (λ at. entry_by) entry_words AnyEntry refused_entry (entry_spells b.words b.entries) entry_steady (codes "assume") most_entries n.0.0 p n.0.1 z count.0 count.1 n.2
 
 entries_again : Below → (p : Place) (es : List Entry) (q : Place) → AreEntries es → Stand p (entry_lines es) q → entries_at p ≡ Ok (es, q)
 unfolding entries_at
 entries_again b p es q h s =
     let all = recursion_from_All FitsEntry es h.each in
-    let r = list_again entry_by entry_words FitsEntry refused_entry (entry_reads b.words b.entries) (codes "assume") es p q (entries_admitted es h all) s in
+    let r = list_again (λ at. entry_by) entry_words AnyEntry refused_entry (entry_reads b.words b.entries) (codes "assume") es p q (omega (arith, h.few)) (entries_admitted es h all) s in
     let count = number_line b.words (codes "assume") most_entries (length es) p r.0 (plain (codes "assume" ∷ []) refl).0 (lit< tt) h.few r.1 in
     rw count r.2
 
-insts_take : Below → (p : Place) (z : List Inst × Place) → insts_at p ≡ Ok z → ListPart (codes "instances") most_instances inst_words IsInst refused_inst p z
+insts_take : Below → (p : Place) (z : List Inst × Place) → insts_at p ≡ Ok z → ListPart (codes "instances") most_instances inst_words AnyInst refused_inst p z
 unfolding insts_at
 insts_take b p z e =
     let n = then_ok (formed (line_by (numbered_by (codes "instances") most_instances) p)) _ z e in
     let count = number_take b.words (codes "instances") most_instances p n.0 (lit< tt) n.1 in
-    list_take inst_by inst_words IsInst refused_inst (inst_spells b.words b.insts) inst_steady (codes "instances") most_instances n.0.0 p n.0.1 z count.0 count.1 n.2
+    list_take (λ at. inst_by) inst_words AnyInst refused_inst (inst_spells b.words b.insts) inst_steady (codes "instances") most_instances n.0.0 p n.0.1 z count.0 count.1 n.2
 
 insts_again : Below → (p : Place) (xs : List Inst) (q : Place) → IsStrictlySortedBy inst_cmp (inst_keys xs) → AllByRecursion IsInst xs → length xs ≤ most_instances → Stand p (inst_lines xs) q → insts_at p ≡ Ok (xs, q)
 unfolding insts_at
 insts_again b p xs q ascend all few s =
-    let r = list_again inst_by inst_words IsInst refused_inst (inst_reads b.words b.insts) (codes "instances") xs p q (insts_admitted xs ascend all) s in
+    let r = list_again (λ at. inst_by) inst_words AnyInst refused_inst (inst_reads b.words b.insts) (codes "instances") xs p q (omega (arith, few)) (insts_admitted xs ascend all) s in
     let count = number_line b.words (codes "instances") most_instances (length xs) p r.0 (plain (codes "instances" ∷ []) refl).0 (lit< tt) few r.1 in
     rw count r.2
 
-nodes_part : Below → (insts : List Inst) → IsStrictlySortedBy inst_cmp (inst_keys insts) → (p : Place) (z : List Node × Place) → nodes_at insts p ≡ Ok z → ListPart (codes "nodes") most_nodes (node_words insts) (FitsNode insts) refused_node p z
+nodes_part : Below → (insts : List Inst) → IsStrictlySortedBy inst_cmp (inst_keys insts) → (p : Place) (z : Seeds × Place) → nodes_at insts p ≡ Ok z → ListPart (codes "nodes") most_nodes (node_words insts) (FitsNode insts) refused_node p z
 unfolding nodes_at
 nodes_part b insts ascend p z e =
     let n = then_ok (limited (formed (line_by count_by p))) _ z e in
     let count = nodes_take b.words p n.0 n.1 in
     list_take (node_by insts) (node_words insts) (FitsNode insts) refused_node (node_spells b.words b.nodes b.keys insts ascend) node_steady (codes "nodes") most_nodes n.0.0 p n.0.1 z count.0 count.1 n.2
 
-nodes_again : Below → (insts : List Inst) → length insts ≤ most_instances → (p : Place) (ns : List Node) (q : Place) → NodesKeep ns → AllByRecursion (FitsNode insts) ns → length ns ≤ most_nodes → Stand p (node_lines insts ns) q → nodes_at insts p ≡ Ok (ns, q)
+nodes_again : Below → (insts : List Inst) → length insts ≤ most_instances → (p : Place) (ns : Seeds) (q : Place) → NodesKeep ns → AllFrom (FitsNode insts) 0 ns → length ns ≤ most_nodes → Stand p (node_lines insts ns) q → nodes_at insts p ≡ Ok (ns, q)
 unfolding nodes_at
 nodes_again b insts few p ns q keep all most s =
-    let r = list_again (node_by insts) (node_words insts) (FitsNode insts) refused_node (node_reads b.words b.nodes b.keys insts few) (codes "nodes") ns p q (nodes_admitted insts ns keep all) s in
+    let r = list_again (node_by insts) (node_words insts) (FitsNode insts) refused_node (node_reads b.words b.nodes b.keys insts few) (codes "nodes") ns p q (omega (arith, most)) (nodes_admitted insts ns keep all) s in
     let count = nodes_line b.words (length ns) p r.0 most r.1 in
     rw count r.2
 
 -- ---- what is read is spelled so
 
-claim_by : Below → (n : ℕ) (a c d : Place) (es : List Entry × Place) (xs : List Inst × Place) (ns : List Node × Place) (w : Option Plan) → n ≤ SIZE → entries_at a ≡ Ok es → insts_at c ≡ Ok xs → nodes_at xs.0 d ≡ Ok ns
+claim_by : Below → (n : ℕ) (a c d : Place) (es : List Entry × Place) (xs : List Inst × Place) (ns : Seeds × Place) (w : Option Plan) → n ≤ SIZE → entries_at a ≡ Ok es → insts_at c ≡ Ok xs → nodes_at xs.0 d ≡ Ok ns
     → IsClaim (record { bound = n; assumptions = es.0; instances = xs.0; nodes = ns.0; witness = w })
 claim_by b n a c d es xs ns w small e f g =
     let entries = entries_take b a es e in
@@ -112,11 +103,11 @@ claim_by b n a c d es xs ns w small e f g =
     record {
       bound_fits = small;
       entries_fit = entries_kept es.0 entries.few entries.fit;
-      insts_fit = admitted_all IsInst refused_inst [] xs.0 insts.fit;
+      insts_fit = all_of_any IsInst 0 xs.0 (admitted_all AnyInst refused_inst [] xs.0 insts.fit);
       insts_ascend = ascend;
       few_insts = insts.few;
-      nodes_fit = all_first (λ m. IsNode m.key m.state) (Belongs xs.0) ns.0 all;
-      nodes_belong = all_second (λ m. IsNode m.key m.state) (Belongs xs.0) ns.0 all;
+      nodes_fit = all_from xs.0 0 ns.0 all;
+      nodes_belong = all_belong xs.0 0 ns.0 all;
       nodes_ascend = keep.ascend;
       few_nodes = nodes.few;
       few_cells = keep.few;
@@ -143,10 +134,10 @@ claim_take k p z e =
     let witness = witness_part k.schedule_spelled n.0.1 w.0 w.1 in
     let end = end_part w.0.1 d.0 d.1 in
     let last = stand_more n.0.1 w.0.1 d.0.1 (witness_lines w.0.0) (end_line ∷ []) witness.lines end.lines in
-    let third = stand_more i.0.1 n.0.1 d.0.1 (node_lines i.0.0 n.0.0) (witness_lines w.0.0 ++ end_line ∷ []) nodes.lines last in
-    let second = stand_more a.0.1 i.0.1 d.0.1 (inst_lines i.0.0) (node_lines i.0.0 n.0.0 ++ (witness_lines w.0.0 ++ end_line ∷ [])) insts.lines third in
-    let first = stand_more b.0.1 a.0.1 d.0.1 (entry_lines a.0.0) (inst_lines i.0.0 ++ (node_lines i.0.0 n.0.0 ++ (witness_lines w.0.0 ++ end_line ∷ []))) entries.lines second in
-    let all = stand_more p b.0.1 d.0.1 (heading b.0.0) (entry_lines a.0.0 ++ (inst_lines i.0.0 ++ (node_lines i.0.0 n.0.0 ++ (witness_lines w.0.0 ++ end_line ∷ [])))) top.0 first in
+    let third = stand_more a.0.1 i.0.1 n.0.1 (inst_lines i.0.0) (node_lines i.0.0 n.0.0) insts.lines nodes.lines in
+    let second = stand_more b.0.1 a.0.1 n.0.1 (entry_lines a.0.0) (inst_lines i.0.0 ++ node_lines i.0.0 n.0.0) entries.lines third in
+    let first = stand_more p b.0.1 n.0.1 (heading b.0.0) (entry_lines a.0.0 ++ (inst_lines i.0.0 ++ node_lines i.0.0 n.0.0)) top.0 second in
+    let all = stand_more p n.0.1 d.0.1 (heading b.0.0 ++ (entry_lines a.0.0 ++ (inst_lines i.0.0 ++ node_lines i.0.0 n.0.0))) (witness_lines w.0.0 ++ end_line ∷ []) first last in
     let P : Claim × Place → Type 0 = λ y. ClaimRead p y in
     subst P (ok_is {A = Claim × Place} (record { bound = b.0.0; assumptions = a.0.0; instances = i.0.0; nodes = n.0.0; witness = w.0.0 }, d.0.1) z d.2) (record {
       certificate = record { claim = claim_by k b.0.0 b.0.1 a.0.1 i.0.1 a.0 i.0 n.0 w.0.0 top.1 a.1 i.1 n.1; schedule = witness.schedule };
@@ -173,9 +164,6 @@ read_is_spelled k text c e =
 
 -- ---- what is spelled is read
 
-abbrev front : Claim → List (List (List ℕ))
-front c = heading c.bound ++ (entry_lines c.assumptions ++ (inst_lines c.instances ++ node_lines c.instances c.nodes))
-
 all_plain : {A : Type 0} (words : A → List (List ℕ)) (P : A → Type 0) → ((x : A) → P x → AllByRecursion IsWord (words x)) → (xs : List A) → AllByRecursion P xs → AllByRecursion (AllByRecursion IsWord) (map words xs)
 all_plain words P step [] h = tt
 all_plain words P step (x ∷ xs) h = (step x h.0, all_plain words P step xs h.1)
@@ -184,10 +172,14 @@ joined_plain : (xs bs : List (List (List ℕ))) → AllByRecursion (AllByRecursi
 joined_plain [] bs h g = g
 joined_plain (a ∷ xs) bs h g = (h.0, joined_plain xs bs h.1 g)
 
-fitting_nodes : (c : Claim) → IsClaim c → AllByRecursion (FitsNode c.instances) c.nodes
-fitting_nodes c h = all_both (λ m. IsNode m.key m.state) (Belongs c.instances) c.nodes h.nodes_fit h.nodes_belong
+node_plain_all : Below → (insts : List Inst) → length insts ≤ most_instances → (at : ℕ) (ns : Seeds) → at + length ns ≤ most_nodes → AllFrom (FitsNode insts) at ns → AllByRecursion (AllByRecursion IsWord) (map (node_words insts) ns)
+node_plain_all b insts few at [] most h = tt
+node_plain_all b insts few at (n ∷ ns) most h = (node_is_plain b.nodes b.keys insts few at n (omega (arith, most)) h.0, node_plain_all b insts few (at + 1) ns (omega (arith, most)) h.1)
 
-front_plain : Below → (c : Claim) → IsClaim c → AllByRecursion (AllByRecursion IsWord) (front c)
+fitting_nodes : (c : Claim) → IsClaim c → AllFrom (FitsNode c.instances) 0 c.nodes
+fitting_nodes c h = all_fit c.instances 0 c.nodes h.nodes_fit h.nodes_belong
+
+front_plain : Below → (c : Claim) → IsClaim c → AllByRecursion (AllByRecursion IsWord) (front_lines c)
 front_plain b c h =
     let k = b.words in
     let bound = numbered_plain k (codes "bound") c.bound (plain (codes "bound" ∷ []) refl).0 (omega (arith, h.bound_fits)) in
@@ -198,14 +190,11 @@ front_plain b c h =
     let insts : AllByRecursion (AllByRecursion IsWord) (inst_lines c.instances) = (numbered_plain k (codes "instances") (length c.instances) (plain (codes "instances" ∷ []) refl).0 (omega (arith, h.few_insts)), all_plain inst_words IsInst b.insts.words c.instances h.insts_fit) in
     let nodes : AllByRecursion (AllByRecursion IsWord) (node_lines c.instances c.nodes) = (
       numbered_plain k (codes "nodes") (length c.nodes) (plain (codes "nodes" ∷ []) refl).0 (omega (arith, h.few_nodes)),
-      all_plain (node_words c.instances) (FitsNode c.instances) (node_is_plain b.nodes b.keys c.instances h.few_insts) c.nodes (fitting_nodes c h),
+      node_plain_all b c.instances h.few_insts 0 c.nodes (omega (arith, h.few_nodes)) (fitting_nodes c h),
     ) in
     (plain version refl, (bound, joined_plain (entry_lines c.assumptions) (inst_lines c.instances ++ node_lines c.instances c.nodes) entries (joined_plain (inst_lines c.instances) (node_lines c.instances c.nodes) insts nodes)))
 
-behind : Claim → List (List (List ℕ))
-behind c = witness_lines c.witness ++ end_line ∷ []
-
-again_at : Below → (c : Claim) → IsClaim c → (p q : Place) → Stand p (front c) q
+again_at : Below → (c : Claim) → IsClaim c → (p q : Place) → Stand p (front_lines c) q
     → (a : Place) × (d : Place) × (f : Place) × (heading_at p ≡ Ok (c.bound, a)) × (entries_at a ≡ Ok (c.assumptions, d)) × (insts_at d ≡ Ok (c.instances, f)) × (nodes_at c.instances f ≡ Ok (c.nodes, q))
 again_at b c h p q s =
     let x = stand_cut p q (heading c.bound) (entry_lines c.assumptions ++ (inst_lines c.instances ++ node_lines c.instances c.nodes)) s in
@@ -220,26 +209,20 @@ again_at b c h p q s =
       nodes_again b c.instances h.few_insts z.0 c.nodes q (record { ascend = h.nodes_ascend; few = h.few_cells }) (fitting_nodes c h) h.few_nodes z.2,
     )
 
-lines_parts : (c : Claim) → certificate_lines c ≡ front c ++ (witness_lines c.witness ++ end_line ∷ [])
-lines_parts c =
-    sym (append_assoc (heading c.bound) (entry_lines c.assumptions ++ (inst_lines c.instances ++ node_lines c.instances c.nodes)) (witness_lines c.witness ++ end_line ∷ [])
-    ∙ ap (λ (xs : List (List (List ℕ))). heading c.bound ++ xs) (append_assoc (entry_lines c.assumptions) (inst_lines c.instances ++ node_lines c.instances c.nodes) (witness_lines c.witness ++ end_line ∷ [])
-    ∙ ap (λ (xs : List (List (List ℕ))). entry_lines c.assumptions ++ xs) (append_assoc (inst_lines c.instances) (node_lines c.instances c.nodes) (witness_lines c.witness ++ end_line ∷ []))))
-
-text_parts : (c : Claim) → text_of c ≡ flat_map line (front c) ++ (flat_map line (witness_lines c.witness) ++ flat_map line (end_line ∷ []))
+text_parts : (c : Claim) → text_of c ≡ flat_map line (front_lines c) ++ (flat_map line (witness_lines c.witness) ++ flat_map line (end_line ∷ []))
 text_parts c =
-    ap (flat_map line) (lines_parts c) ∙ flat_map-append line (front c) (witness_lines c.witness ++ end_line ∷ [])
-    ∙ ap (λ (xs : List ℕ). flat_map line (front c) ++ xs) (flat_map-append line (witness_lines c.witness) (end_line ∷ []))
+    flat_map-append line (front_lines c) (witness_lines c.witness ++ end_line ∷ [])
+    ∙ ap (λ (xs : List ℕ). flat_map line (front_lines c) ++ xs) (flat_map-append line (witness_lines c.witness) (end_line ∷ []))
 
 claim_again : Below → (c : Claim) → IsCertificate c
-    → (q : Place) × (claim_at (before 0 (flat_map line (front c) ++ (flat_map line (witness_lines c.witness) ++ flat_map line (end_line ∷ [])))) ≡ Ok (c, q))
+    → (q : Place) × (claim_at (before 0 (flat_map line (front_lines c) ++ (flat_map line (witness_lines c.witness) ++ flat_map line (end_line ∷ [])))) ≡ Ok (c, q))
 unfolding claim_at
 claim_again b c h =
     let text : List ℕ = flat_map line (witness_lines c.witness) ++ flat_map line (end_line ∷ []) in
-    let p = before 0 (flat_map line (front c) ++ text) in
-    let m = before (0 + length (flat_map line (front c))) text in
-    let r = again_at b c h.claim p m (stand b.words (front c) 0 text (front_plain b c h.claim)) in
-    let witness = witness_again b.words b.schedule_text b.schedule_read c.witness (0 + length (flat_map line (front c))) (flat_map line (end_line ∷ [])) h.schedule in
+    let p = before 0 (flat_map line (front_lines c) ++ text) in
+    let m = before (0 + length (flat_map line (front_lines c))) text in
+    let r = again_at b c h.claim p m (stand b.words (front_lines c) 0 text (front_plain b c h.claim)) in
+    let witness = witness_again b.words b.schedule_text b.schedule_read c.witness (0 + length (flat_map line (front_lines c))) (flat_map line (end_line ∷ [])) h.schedule in
     let end = end_again b.words witness.0 in
     (before end.0 [], rw (r.3, r.4, r.5, r.6, witness.1, end.1) refl)
 

@@ -3,10 +3,11 @@ use Rattle.std.specs.Prelude.{◌≡◌, ◌≤◌, ℕ, List, None, Ok}
 use Rattle.avr_model.specs.declared.assumption.Entry.{Entry}
 use Rattle.avr_model.specs.State.{SIZE}
 use Rattle.sb_base.specs.Lines.{Place}
-use Rattle.local_rules.specs.declared.local.Node.{Node}
-use Rattle.cert_format.specs.declared.instance.Inst.{Inst}
-use Rattle.cert_format.specs.Certificate.{Claim, IsClaim, IsCertificate, text_of}
-use Rattle.cert_format.specs.CertificateReading.{entries_at, insts_at, nodes_at, certificate_in}
+use Rattle.edge_rules.specs.Expansion.{Seeds}
+use Rattle.certificate.specs.declared.instance.Inst.{Inst}
+use Rattle.certificate.specs.Claims.{Claim, IsClaim, IsCertificate}
+use Rattle.cert_words.specs.Text.{text_of}
+use Rattle.cert_format.specs.Reading.{entries_at, insts_at, nodes_at, certificate_in}
 
 -- what is read is a certificate, and the text is its text
 abbrev pub ReadIsSpelled : Type 0
@@ -22,5 +23,5 @@ OneText = (a b : Claim) → IsCertificate a → IsCertificate b → text_of a �
 -- the parts that are read make up a claim
 abbrev pub PartsMakeClaims : Type 0
 PartsMakeClaims =
-    (a b c d : Place) (n : ℕ) (es : List Entry) (xs : List Inst) (ns : List Node) → n ≤ SIZE → entries_at a ≡ Ok (es, b) → insts_at b ≡ Ok (xs, c) → nodes_at xs c ≡ Ok (ns, d)
+    (a b c d : Place) (n : ℕ) (es : List Entry) (xs : List Inst) (ns : Seeds) → n ≤ SIZE → entries_at a ≡ Ok (es, b) → insts_at b ≡ Ok (xs, c) → nodes_at xs c ≡ Ok (ns, d)
     → IsClaim (record { bound = n; assumptions = es; instances = xs; nodes = ns; witness = None })

@@ -1,10 +1,4 @@
-pub mod Spelling
-pub mod Reading
-pub mod Fits
-pub mod Laws
-pub mod Lines
 pub mod LineReading
 pub mod LineLaws
-pub mod Certificate
-pub mod CertificateReading
+pub mod Reading
 pub mod Exact

@@ -1,11 +1,13 @@
 -- Lines of instances and nodes: what is read is spelled so, and what is spelled is read.
-use Rattle.std.specs.Prelude.{ℕ, ◌≡◌, ◌<◌, List, slice_get, Some}
+use Rattle.std.specs.Prelude.{ℕ, ◌≡◌, ◌<◌, ◌≤◌, List, slice_get, Some}
 use Rattle.std.specs.List.{AllByRecursion}
 use Rattle.line_reading.specs.Words.{IsWord}
-use Rattle.local_rules.specs.declared.local.Node.{Node}
-use Rattle.local_rules.specs.Cover.{IsNode}
-use Rattle.cert_format.specs.declared.instance.Inst.{Inst}
-use Rattle.cert_format.specs.Lines.{IsInst, inst_words, node_words_at}
+use Rattle.mask_states.specs.declared.keys.NodeKey.{NodeKey}
+use Rattle.edge_rules.specs.declared.seeded.NodeForm.{NodeForm}
+use Rattle.certificate.specs.declared.instance.Inst.{Inst}
+use Rattle.certificate.specs.Insts.{IsInst}
+use Rattle.certificate.specs.Claims.{FitsAt}
+use Rattle.cert_words.specs.Text.{inst_words, node_words_at}
 use Rattle.cert_format.specs.LineReading.{inst_in, node_in}
 
 pub record InstLines : Type 0 where
@@ -14,19 +16,19 @@ pub record InstLines : Type 0 where
   pub words : (x : Inst) → IsInst x → AllByRecursion IsWord (inst_words x)
 
 -- The instance whose line has this number is there, and is the node's.
-pub record IsInstanceOf (insts : List Inst) (place : ℕ) (n : Node) : Type 0 where
+pub record IsInstanceOf (insts : List Inst) (place : ℕ) (key : NodeKey) : Type 0 where
   pub inst : Inst
   pub there : slice_get insts place ≡ Some inst
-  pub same : inst.key ≡ n.key.inst
+  pub same : inst.key ≡ key.inst
 
--- The words are those of the node's line, with the number of its instance.
-pub record IsNodeLine (insts : List Inst) (ws : List (List ℕ)) (n : Node) : Type 0 where
+-- The words are those of the line of this node of the number `at`, with the number of its instance.
+pub record IsNodeLine (insts : List Inst) (at : ℕ) (ws : List (List ℕ)) (n : NodeKey × NodeForm) : Type 0 where
   pub place : ℕ
   pub words : ws ≡ node_words_at place n
-  pub inst : IsInstanceOf insts place n
-  pub node : IsNode n.key n.state
+  pub inst : IsInstanceOf insts place n.0
+  pub fits : FitsAt at n.0 n.1
 
 pub record NodeLines : Type 0 where
-  pub spelled : (insts : List Inst) (ws : List (List ℕ)) (n : Node) → node_in insts ws ≡ Some n → IsNodeLine insts ws n
-  pub read : (insts : List Inst) (place : ℕ) (n : Node) → place < 65536 → IsInstanceOf insts place n → IsNode n.key n.state → node_in insts (node_words_at place n) ≡ Some n
-  pub words : (place : ℕ) (n : Node) → place < 65536 → IsNode n.key n.state → AllByRecursion IsWord (node_words_at place n)
+  pub spelled : (insts : List Inst) (at : ℕ) (ws : List (List ℕ)) (n : NodeKey × NodeForm) → node_in insts at ws ≡ Some n → IsNodeLine insts at ws n
+  pub read : (insts : List Inst) (at place : ℕ) (n : NodeKey × NodeForm) → at ≤ 65536 → place < 65536 → IsInstanceOf insts place n.0 → FitsAt at n.0 n.1 → node_in insts at (node_words_at place n) ≡ Some n
+  pub words : (at place : ℕ) (n : NodeKey × NodeForm) → at ≤ 65536 → place < 65536 → FitsAt at n.0 n.1 → AllByRecursion IsWord (node_words_at place n)

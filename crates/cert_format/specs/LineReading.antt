@@ -1,58 +1,14 @@
 -- Reading the words of an instance's line, and of a node's.
-use Rattle.std.specs.Prelude.{ℕ, zero, suc, ◌==◌, ◌^◌, nat_lt, Bool, true, false, List, [], ◌∷◌, ◌++◌, codes, slice_get, Option, Some, None, if◌then◌else◌}
+use Rattle.std.specs.Prelude.{ℕ, List, codes, slice_get, Option, Some, None, if◌then◌else◌}
 use Rattle.std.specs.Option.{option_map}
-use Rattle.std.specs.Str.{bytes_eq}
-use Rattle.avr_model.specs.Image.{WORDS}
 use Rattle.avr_model.specs.State.{SIZE}
-use Rattle.line_reading.specs.Reading.{◌>>=◌, hex_at, dec_at, word_at, is_over}
-use Rattle.mask_states.specs.declared.keys.Kind.{Kind}
-use Rattle.mask_states.specs.declared.keys.Kind.TheVariants.{Root, Call, Vector}
+use Rattle.line_reading.specs.Reading.{◌>>=◌, dec_at, word_at, is_over}
 use Rattle.mask_states.specs.declared.keys.InstKey.{InstKey}
 use Rattle.mask_states.specs.declared.keys.NodeKey.{NodeKey}
 use Rattle.mask_states.specs.Keys.{offset_of}
-use Rattle.abs_state.specs.declared.values.AbsFlags.{AbsFlags}
-use Rattle.abs_state.specs.declared.state.AbsState.{AbsState}
-use Rattle.local_rules.specs.declared.local.Node.{Node}
-use Rattle.cert_format.specs.declared.instance.Inst.{Inst}
-use Rattle.cert_format.specs.Lines.{fits_kind}
-use Rattle.cert_format.specs.Reading.{letter_at, value_in, slot_in, flags_in, carry_in, form_in}
-
--- ---- words
-
--- the next word, read by itself
-abbrev pub word_by : {A : Type 0} → (List ℕ → Option A) → List (List ℕ) → Option (A × List (List ℕ))
-word_by f [] = None
-word_by f (w ∷ ws) = option_map (λ x. (x, ws)) (f w)
-
--- so many words behind these, each read by itself
-unfoldable pub words_from : {A : Type 0} → (List ℕ → Option A) → List A → ℕ → List (List ℕ) → Option (List A × List (List ℕ))
-words_from f front zero ws = Some (front, ws)
-words_from f front (suc n) ws = word_by f ws >>= λ x. words_from f (front ++ x.0 ∷ []) n x.1
-
--- enable bits in seven digits
-unfoldable pub masks_at : List (List ℕ) → Option (ℕ × List (List ℕ))
-masks_at ws = hex_at 7 ws >>= λ m. if nat_lt m.0 (2 ^ 25) then Some m else None
-
--- 0 or 1
-abbrev pub flag_at : List (List ℕ) → Option (Bool × List (List ℕ))
-flag_at ws = option_map (λ n. (n.0 == 1, n.1)) (dec_at 1 ws)
-
--- ---- instances
-
--- the number of a vector behind its letter
-unfoldable pub vector_in : List ℕ → Option Kind
-vector_in w = letter_at w >>= λ l. if l.0 == 118 then option_map (λ n. Vector n.0) (dec_at 26 (l.1 ∷ [])) else None
-
-unfoldable pub kind_in : List ℕ → Option Kind
-kind_in w = if bytes_eq w (codes "root") then Some Root else (if bytes_eq w (codes "call") then Some Call else vector_in w)
-
-unfoldable pub inst_key_at : List (List ℕ) → Option (InstKey × List (List ℕ))
-inst_key_at ws = do
-  k ← word_by kind_in ws
-  e ← hex_at 4 k.1
-  m ← masks_at e.1
-  i ← flag_at m.1
-  if fits_kind k.0 e.0 m.0 i.0 then Some (record { kind = k.0; entry = e.0; masks = m.0; i = i.0 }, i.1) else None
+use Rattle.edge_rules.specs.declared.seeded.NodeForm.{NodeForm}
+use Rattle.certificate.specs.declared.instance.Inst.{Inst}
+use Rattle.cert_words.specs.KeyReading.{is_root, inst_key_at, node_key_at, form_at}
 
 unfoldable pub inst_in : List (List ℕ) → Option Inst
 inst_in ws = do
@@ -64,13 +20,6 @@ inst_in ws = do
   need ← dec_at SIZE n.1
   if is_over need.1 then Some (record { key = key.0; rank = rank.0; need = need.0 }) else None
 
--- ---- nodes
-
-abbrev pub is_root : Kind → Bool
-is_root Root = true
-is_root Call = false
-is_root (Vector v) = false
-
 -- the instance of a node, by the number of its line
 unfoldable pub place_at : List Inst → List (List ℕ) → Option (InstKey × List (List ℕ))
 place_at insts ws = do
@@ -78,33 +27,12 @@ place_at insts ws = do
   j ← dec_at 65535 h.1
   option_map (λ x. (x.key, j.1)) (slice_get insts j.0)
 
-unfoldable pub node_key_at : InstKey → List (List ℕ) → Option (NodeKey × List (List ℕ))
-node_key_at inst ws = do
-  pc ← hex_at 4 ws
-  m ← masks_at pc.1
-  i ← flag_at m.1
-  d ← flag_at i.1
-  f ← word_by (form_in (is_root inst.kind)) d.1
-  if nat_lt pc.0 WORDS then Some (record { inst = inst; pc = pc.0; masks = m.0; i = i.0; delay = d.0; sp = f.0 }, f.1) else None
-
-unfoldable pub flags_at : Bool → List (List ℕ) → Option (AbsFlags × List (List ℕ))
-flags_at root ws = do
-  f ← word_by (flags_in root) ws
-  c ← word_by (carry_in root) f.1
-  Some (record { entry = f.0.0; bits = f.0.1; carry = c.0 }, c.1)
-
-unfoldable pub state_at : Bool → ℕ → List (List ℕ) → Option (AbsState × List (List ℕ))
-state_at root offset ws = do
-  r ← words_from (value_in root) [] 32 ws
-  f ← flags_at root r.1
-  s ← words_from (slot_in root) [] offset f.1
-  Some (record { registers = r.0; flags = f.0; slots = s.0 }, s.1)
-
 unfoldable pub whole_key_at : List Inst → List (List ℕ) → Option (NodeKey × List (List ℕ))
 whole_key_at insts ws = place_at insts ws >>= λ x. node_key_at x.0 x.1
 
-unfoldable pub node_in : List Inst → List (List ℕ) → Option Node
-node_in insts ws = do
+-- the node of this number
+unfoldable pub node_in : List Inst → ℕ → List (List ℕ) → Option (NodeKey × NodeForm)
+node_in insts at ws = do
   key ← whole_key_at insts ws
-  state ← state_at (is_root key.0.inst.kind) (offset_of key.0.sp) key.1
-  if is_over state.1 then Some (record { key = key.0; state = state.0 }) else None
+  form ← form_at (is_root key.0.inst.kind) (offset_of key.0.sp) at key.1
+  if is_over form.1 then Some (key.0, form.0) else None

@@ -1,140 +1,173 @@
--- Reading a word from its front: each reading gives a value and what stands behind it, or nothing. In the root's frame nothing is
--- tagged.
-use Rattle.std.specs.Prelude.{ℕ, ◌-◌, ◌==◌, ◌&&◌, nat_lt, Bool, true, false, List, [], ◌∷◌, length, take, drop, codes, Option, Some, None, Result, Ok, Err, if◌then◌else◌}
-use Rattle.std.specs.Option.{option_map}
-use Rattle.std.specs.Int.{bit_at}
-use Rattle.std.specs.Int.RustNames.{bit_and}
+-- Reading a certificate forward, line by line. A refusal tells why the first line that can't go on is refused, and where it stands:
+-- of one line, form comes before order and order before limit.
+use Rattle.std.specs.Prelude.{ℕ, zero, suc, ◌+◌, ◌-◌, nat_le, Bool, true, false, List, [], ◌∷◌, ◌++◌, length, codes, slice_get, Option, Some, None, Result, Ok, Err, if◌then◌else◌}
+use Rattle.std.specs.Ordering.{is_lt}
 use Rattle.std.specs.Str.{bytes_eq}
+use Rattle.avr_model.specs.declared.assumption.Entry.{Entry}
 use Rattle.avr_model.specs.State.{SIZE}
-use Rattle.sb_base.specs.Digits.{hex_answer}
+use Rattle.sb_base.specs.Digits.{dec_answer}
 use Rattle.sb_base.specs.declared.digits.DigitFault.{DigitFault}
-use Rattle.line_reading.specs.Reading.{◌>>=◌, dec_at}
-use Rattle.bit_domain.specs.declared.bytes.TriByte.{TriByte}
-use Rattle.bit_domain.specs.TriByte.{byte_of, tri_of}
-use Rattle.sp_domain.specs.declared.tags.Tag.{Tag}
-use Rattle.sp_domain.specs.declared.tags.Tag.TheVariants as tag
-use Rattle.sp_domain.specs.declared.tags.CarryTag.{CarryTag}
-use Rattle.sp_domain.specs.declared.tags.CarryTag.TheVariants as carry
-use Rattle.sp_domain.specs.declared.slots.Slot.{Slot}
-use Rattle.sp_domain.specs.declared.slots.Slot.TheVariants.{Free, Guarded}
-use Rattle.abs_state.specs.declared.values.AbsByte.{AbsByte}
-use Rattle.mask_states.specs.declared.keys.High.{High}
-use Rattle.mask_states.specs.declared.keys.High.TheVariants as high
-use Rattle.mask_states.specs.declared.keys.SpForm.{SpForm}
-use Rattle.mask_states.specs.declared.keys.SpForm.TheVariants.{Closed, Open}
+use Rattle.sb_base.specs.declared.digits.DigitFault.TheVariants.{WrongLength, BadDigit, TooGreat}
+use Rattle.sb_base.specs.Lines.{TextLine, Place, lines_of, words_of}
+use Rattle.line_reading.specs.Reading.{◌>>=◌, dec_at, word_at, is_over, then_at, this_by, line_by}
+use Rattle.vector_table.specs.Entries.{is_above_last, most_entries}
+use Rattle.mask_states.specs.Keys.{offset_of}
+use Rattle.mask_states.specs.Order.{inst_cmp, node_cmp}
+use Rattle.mask_states.specs.declared.keys.NodeKey.{NodeKey}
+use Rattle.edge_rules.specs.declared.seeded.NodeForm.{NodeForm}
+use Rattle.edge_rules.specs.Expansion.{Seeds}
+use Rattle.indirect_targets.specs.Reading.{entry_in}
+use Rattle.witness_replay.specs.Spelling.{Plan}
+use Rattle.witness_replay.specs.Reading.{schedule_at}
+use Rattle.certificate.specs.declared.instance.Inst.{Inst}
+use Rattle.certificate.specs.Claims.{Claim, most_instances, most_nodes, most_cells, cells_of, node_keys}
+use Rattle.cert_format.specs.declared.fault.Limit.TheVariants as limit
+use Rattle.cert_format.specs.declared.fault.CertFault.{CertFault}
+use Rattle.cert_format.specs.declared.fault.CertFault.TheVariants as fault
+use Rattle.cert_format.specs.LineReading.{inst_in, node_in}
 
--- ---- pieces
+-- ---- one line
 
--- the first byte
-abbrev pub letter_at : List ℕ → Option (ℕ × List ℕ)
-letter_at [] = None
-letter_at (b ∷ bs) = Some (b, bs)
+-- a line that isn't of its form is malformed
+abbrev pub formed : {A : Type 0} → Result (A × Place) Place → Result (A × Place) CertFault
+formed (Ok x) = Ok x
+formed (Err q) = Err (fault.Malformed q.at)
 
-abbrev pub number_before : Result ℕ DigitFault → List ℕ → Option (ℕ × List ℕ)
-number_before (Ok n) bs = Some (n, bs)
-number_before (Err e) bs = None
+-- a name and a number
+unfoldable pub numbered_in : List ℕ → ℕ → List (List ℕ) → Option ℕ
+numbered_in name most ws = do
+  w ← word_at name ws
+  n ← dec_at most w.1
+  if is_over n.1 then Some n.0 else None
 
--- a number in so many hexadecimal digits
-unfoldable pub digits_at : ℕ → List ℕ → Option (ℕ × List ℕ)
-digits_at count bs = if nat_lt (length bs) count then None else number_before (hex_answer (take count bs) count) (drop count bs)
+abbrev pub numbered_by : List ℕ → ℕ → List ℕ → Option ℕ
+numbered_by name most text = numbered_in name most (words_of text)
 
--- nothing is left
-abbrev pub is_end : List ℕ → Bool
-is_end [] = true
-is_end (b ∷ bs) = false
+-- a decimal, whose number is left out where it is too great
+abbrev pub counted : Result ℕ DigitFault → Option (Option ℕ)
+counted (Ok n) = Some (Some n)
+counted (Err TooGreat) = Some None
+counted (Err (WrongLength n)) = None
+counted (Err (BadDigit at)) = None
 
--- ---- values
+abbrev pub count_at : List (List ℕ) → Option (Option ℕ)
+count_at [] = None
+count_at (w ∷ ws) = if is_over ws then counted (dec_answer w most_nodes) else None
 
--- the byte with these known bits, and their values
-abbrev pub tri_byte : ℕ → ℕ → TriByte
-tri_byte known value = byte_of (λ i. tri_of (bit_at known i) (bit_at value i))
+-- how many nodes there are, if not too many
+unfoldable pub count_in : List (List ℕ) → Option (Option ℕ)
+count_in ws = word_at (codes "nodes") ws >>= λ w. count_at w.1
 
--- known bits and their values: no value is outside the known bits
-unfoldable pub bits_at : List ℕ → Option (TriByte × List ℕ)
-bits_at bs = do
-  k ← digits_at 2 bs
-  v ← digits_at 2 k.1
-  if bit_and v.0 k.0 == v.0 then Some (tri_byte k.0 v.0, v.1) else None
+abbrev pub count_by : List ℕ → Option (Option ℕ)
+count_by text = count_in (words_of text)
 
--- the number of a register
-unfoldable pub register_at : List ℕ → Option (ℕ × List ℕ)
-register_at bs = digits_at 2 bs >>= λ r. if nat_lt r.0 32 then Some r else None
+abbrev pub entry_by : List ℕ → Option Entry
+entry_by text = entry_in (words_of text)
 
--- what a letter and what follows it say
-unfoldable pub tag_by : ℕ → List ℕ → Option (Tag × List ℕ)
-tag_by letter bs =
-    if letter == 101 then option_map (λ r. (tag.Entry r.0, r.1)) (register_at bs)
-    else (if letter == 102 then Some (tag.EntryFlags, bs)
-    else (if letter == 108 then option_map (λ j. (tag.SpLo j.0, j.1)) (digits_at 2 bs)
-    else (if letter == 104 then option_map (λ k. (tag.SpHi k.0, k.1)) (digits_at 4 bs) else None)))
+abbrev pub inst_by : List ℕ → Option Inst
+inst_by text = inst_in (words_of text)
 
-unfoldable pub tag_at : Bool → List ℕ → Option (Tag × List ℕ)
-tag_at root bs = letter_at bs >>= λ l. if l.0 == 45 then Some (tag.None, l.1) else (if root then None else tag_by l.0 l.1)
+-- the node of this number
+abbrev pub node_by : List Inst → ℕ → List ℕ → Option (NodeKey × NodeForm)
+node_by insts at text = node_in insts at (words_of text)
 
-unfoldable pub value_in : Bool → List ℕ → Option AbsByte
-value_in root w = do
-  t ← tag_at root w
-  b ← bits_at t.1
-  if is_end b.1 then Some (record { tag = t.0; bits = b.0 }) else None
+-- whether a schedule follows
+unfoldable pub ending_by : List ℕ → Option Bool
+ending_by text = if bytes_eq text (codes "witness open") then Some false else (if bytes_eq text (codes "witness attained") then Some true else None)
 
-unfoldable pub slot_in : Bool → List ℕ → Option (Slot AbsByte)
-slot_in root w = if bytes_eq w (codes ".") then Some Free else option_map (λ v. Guarded v) (value_in root w)
+-- ---- the lines of a list
 
--- ---- flags
+-- the last one, if there is one
+abbrev pub last_in : {A : Type 0} → List A → Option A
+last_in xs = slice_get xs (length xs - 1)
 
--- whether they are those at the frame's entry
-abbrev pub entry_by : Bool → ℕ → Option Bool
-entry_by root letter = if letter == 45 then Some false else (if root then None else (if letter == 102 then Some true else None))
+abbrev pub is_inst_above : Option Inst → Inst → Bool
+is_inst_above None x = true
+is_inst_above (Some last) x = is_lt (inst_cmp last.key x.key)
 
--- bit 7 is unknown
-unfoldable pub flags_in : Bool → List ℕ → Option (Bool × TriByte)
-flags_in root w = do
-  l ← letter_at w
-  e ← entry_by root l.0
-  b ← bits_at l.1
-  if nat_lt b.0.known 128 && is_end b.1 then Some (e, b.0) else None
+abbrev pub is_node_above : Option (NodeKey × NodeForm) → NodeKey → Bool
+is_node_above None key = true
+is_node_above (Some last) key = is_lt (node_cmp last.0 key)
 
-unfoldable pub borrow_in : List ℕ → Option CarryTag
-borrow_in bs = do
-  j ← digits_at 2 bs
-  l ← digits_at 2 j.1
-  if is_end l.1 then Some (carry.Borrow j.0 l.0) else None
+-- why an item of a line at this offset is refused behind those before it, if it is
+abbrev pub refused_entry : List Entry → Entry → ℕ → Option CertFault
+refused_entry es e at = if is_above_last es e then None else Some (fault.Order at)
 
-unfoldable pub carry_in : Bool → List ℕ → Option CarryTag
-carry_in root w =
-    if bytes_eq w (codes "-") then Some carry.None
-    else (if root then None else (letter_at w >>= λ l. if l.0 == 98 then borrow_in l.1 else None))
+abbrev pub refused_inst : List Inst → Inst → ℕ → Option CertFault
+refused_inst xs x at = if is_inst_above (last_in xs) x then None else Some (fault.Order at)
 
--- ---- forms of the stack pointer
+abbrev pub refused_node : Seeds → NodeKey × NodeForm → ℕ → Option CertFault
+refused_node ns n at =
+    if is_node_above (last_in ns) n.0 then (if nat_le (cells_of (node_keys ns) + (1 + offset_of n.0.sp)) most_cells then None else Some (fault.Limit limit.Cells))
+    else Some (fault.Order at)
 
-abbrev pub offset_in : List ℕ → Option ℕ
-offset_in bs = option_map (λ n. n.0) (dec_at SIZE (bs ∷ []))
+abbrev pub unless : {X : Type 0} → Option CertFault → X → Result X CertFault
+unless None x = Ok x
+unless (Some f) x = Err f
 
--- a comma, a mark, and a number in so many digits
-unfoldable pub marked_in : ℕ → ℕ → List ℕ → Option ℕ
-marked_in mark digits bs = do
-  c ← letter_at bs
-  m ← letter_at c.1
-  n ← digits_at digits m.1
-  if c.0 == 44 && m.0 == mark && is_end n.1 then Some n.0 else None
+-- the items before and this one, from a line at this offset, or why it is refused
+abbrev pub with_item : {A : Type 0} → (List A → A → ℕ → Option CertFault) → List A → A → ℕ → Result (List A) CertFault
+with_item refused xs x at = unless (refused xs x at) (xs ++ x ∷ [])
 
--- the root's high byte is known, and another's has a tag
-abbrev pub high_in : Bool → List ℕ → Option High
-high_in true bs = option_map (λ byte. high.Known byte) (marked_in 107 2 bs)
-high_in false bs = option_map (λ k. high.Tag k) (marked_in 116 4 bs)
+-- the items before and that of the next line, which is read by the number of those before it
+unfoldable pub longer_at : {A : Type 0} → (ℕ → List ℕ → Option A) → (List A → A → ℕ → Option CertFault) → List A → Place → Result (List A × Place) CertFault
+longer_at by refused xs p = then_at (formed (line_by (by (length xs)) p)) (λ x. then_at (with_item refused xs x.0 p.at) (λ ys. Ok (ys, x.1)))
 
--- how many bytes it takes
-abbrev pub high_size : Bool → ℕ
-high_size true = 4
-high_size false = 6
+-- the items before and those of so many lines
+unfoldable pub items_from : {A : Type 0} → (ℕ → List ℕ → Option A) → (List A → A → ℕ → Option CertFault) → List A → ℕ → Place → Result (List A × Place) CertFault
+items_from by refused xs zero p = Ok (xs, p)
+items_from by refused xs (suc n) p = then_at (longer_at by refused xs p) (λ x. items_from by refused x.0 n x.1)
 
-unfoldable pub open_in : Bool → List ℕ → Option SpForm
-open_in root bs =
-    if nat_lt (length bs) (high_size root) then None
-    else (do
-      n ← offset_in (take (length bs - high_size root) bs)
-      h ← high_in root (drop (length bs - high_size root) bs)
-      Some (Open n h))
+-- ---- parts of several lines
 
-unfoldable pub form_in : Bool → List ℕ → Option SpForm
-form_in root w = letter_at w >>= λ l. if l.0 == 99 then option_map (λ n. Closed n) (offset_in l.1) else (if l.0 == 111 then open_in root l.1 else None)
+-- the version and the bound
+unfoldable pub heading_at : Place → Result (ℕ × Place) CertFault
+heading_at p = then_at (formed (line_by (this_by (codes "stackcert 1")) p)) (λ v. formed (line_by (numbered_by (codes "bound") SIZE) v.1))
+
+unfoldable pub entries_at : Place → Result (List Entry × Place) CertFault
+entries_at p = then_at (formed (line_by (numbered_by (codes "assume") most_entries) p)) (λ n. items_from (λ at. entry_by) refused_entry [] n.0 n.1)
+
+unfoldable pub insts_at : Place → Result (List Inst × Place) CertFault
+insts_at p = then_at (formed (line_by (numbered_by (codes "instances") most_instances) p)) (λ n. items_from (λ at. inst_by) refused_inst [] n.0 n.1)
+
+abbrev pub limited : Result (Option ℕ × Place) CertFault → Result (ℕ × Place) CertFault
+limited (Ok (Some n, q)) = Ok (n, q)
+limited (Ok (None, q)) = Err (fault.Limit limit.Nodes)
+limited (Err f) = Err f
+
+unfoldable pub nodes_at : List Inst → Place → Result (Seeds × Place) CertFault
+nodes_at insts p = then_at (limited (formed (line_by count_by p))) (λ n. items_from (node_by insts) refused_node [] n.0 n.1)
+
+abbrev pub plan_if : Bool → Place → Result (Option Plan × Place) CertFault
+plan_if false p = Ok (None, p)
+plan_if true p = then_at (formed (schedule_at p)) (λ s. Ok (Some s.0, s.1))
+
+unfoldable pub witness_at : Place → Result (Option Plan × Place) CertFault
+witness_at p = then_at (formed (line_by ending_by p)) (λ e. plan_if e.0 e.1)
+
+abbrev pub if_last : List TextLine → Place → Result (Unit {0} × Place) CertFault
+if_last [] p = Ok (tt, p)
+if_last (l ∷ ls) p = Err (fault.Malformed p.at)
+
+-- the last line, behind which there is nothing
+unfoldable pub end_at : Place → Result (Unit {0} × Place) CertFault
+end_at p = then_at (formed (line_by (this_by (codes "end")) p)) (λ e. if_last e.1.rest e.1)
+
+-- ---- the whole
+
+unfoldable pub claim_at : Place → Result (Claim × Place) CertFault
+claim_at p =
+    then_at (heading_at p) (λ b.
+    then_at (entries_at b.1) (λ a.
+    then_at (insts_at a.1) (λ i.
+    then_at (nodes_at i.0 i.1) (λ n.
+    then_at (witness_at n.1) (λ w.
+    then_at (end_at w.1) (λ e. Ok (record { bound = b.0; assumptions = a.0; instances = i.0; nodes = n.0; witness = w.0 }, e.1)))))))
+
+abbrev pub claim_alone : Result (Claim × Place) CertFault → Result Claim CertFault
+claim_alone (Ok x) = Ok x.0
+claim_alone (Err f) = Err f
+
+-- the claim of a text, or why it is refused
+unfoldable pub certificate_in : List ℕ → Result Claim CertFault
+certificate_in text = claim_alone (claim_at (record { at = 0; rest = lines_of text }))

@@ -1,30 +1,20 @@
 //! Laws of certificates' texts. Each function does nothing; its contract is the laws.
 
-ghost use Rattle.cert_format.specs.Laws.{ValueWords};
 ghost use Rattle.cert_format.specs.LineLaws.{InstLines, NodeLines};
 ghost use Rattle.cert_format.specs.Exact.{ReadIsSpelled, SpelledIsRead, OneText, PartsMakeClaims};
 
-use bit_domain::laws::{bytes_are_sets, bytes_are_their_bits};
+use cert_words::laws::key_words;
 use indirect_targets::laws::entry_words;
 use line_reading::laws::word_laws;
 use mask_states::laws::keys_are_ordered;
 use witness_replay::laws::{reading_is_exact, reading_is_text};
-
-/// The word of a value, of a slot, of flags, of a carry tag and of a form of the stack pointer is read as it, and a word that is
-/// read is its word.
-pub fn value_words()
-    ensures { ValueWords }
-{
-    word_laws();
-    bytes_are_their_bits();
-    bytes_are_sets();
-}
 
 /// The words of an instance's line are read as it, and words that are read are those of the instance.
 pub fn instance_lines()
     ensures { InstLines }
 {
     word_laws();
+    key_words();
 }
 
 /// The words of a node's line are read as it, and words that are read are those of the node.
@@ -32,7 +22,7 @@ pub fn node_lines()
     ensures { NodeLines }
 {
     word_laws();
-    value_words();
+    key_words();
 }
 
 /// What is read is a certificate's text, each certificate's text is read as it, and no text is that of two certificates.

@@ -1,18 +1,11 @@
-//! Certificates of a whole analysis, and their one text.
+//! Certificates of a whole analysis as text: their reader.
 #![tactic(auto)]
 
-pub mod certificate;
 pub mod fault;
-pub mod instance;
 pub mod laws;
-mod letters;
-mod node_line;
+mod lines;
 mod reading;
-mod values;
 
-pub use certificate::Certificate;
+pub use certificate::{Certificate, Inst};
 pub use fault::{CertFault, Limit};
-pub use instance::Inst;
-
-#[cfg(test)]
-mod tests;
+pub use reading::read;

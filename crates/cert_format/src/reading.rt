@@ -11,19 +11,20 @@ ghost use Rattle.line_reading.specs.Reading.{this_by, first_by, line_by, text_in
 ghost use Rattle.vector_table.specs.Entries as entries;
 ghost use Rattle.mask_states.specs.Keys.{offset_of};
 ghost use Rattle.cert_format.specs.declared.fault.CertFault.TheVariants as fault;
-ghost use Rattle.cert_format.specs.Certificate.{Claim, IsCertificate, text_of, most_instances, most_nodes, most_cells, cells_of};
-ghost use Rattle.cert_format.specs.CertificateReading.{formed, numbered_in, numbered_by, counted, count_at, count_in, count_by, entry_by, inst_by, node_by, ending_by, last_in, is_inst_above, is_node_above, refused_entry, refused_inst, refused_node, with_item, longer_at, items_from, heading_at, entries_at, insts_at, limited, nodes_at, plan_if, witness_at, if_last, end_at, claim_at, claim_alone, certificate_in};
+ghost use Rattle.certificate.specs.Claims.{Claim, IsCertificate, most_instances, most_nodes, most_cells, cells_of, node_keys};
+ghost use Rattle.cert_words.specs.Text.{text_of};
+ghost use Rattle.cert_format.specs.Reading.{formed, numbered_in, numbered_by, counted, count_at, count_in, count_by, entry_by, inst_by, node_by, ending_by, last_in, is_inst_above, is_node_above, refused_entry, refused_inst, refused_node, with_item, longer_at, items_from, heading_at, entries_at, insts_at, limited, nodes_at, plan_if, witness_at, if_last, end_at, claim_at, claim_alone, certificate_in};
 
-use crate::certificate::Certificate;
 use crate::fault::{CertFault, Limit};
-use crate::instance::{Inst, instance_of};
 use crate::laws::{certificate_texts, claims_keep};
-use crate::node_line::node_of;
-use local_rules::Node;
+use crate::lines::{instance_of, node_of};
+use certificate::{Certificate, Inst};
+use edge_rules::NodeForm;
 use indirect_targets::entry_of;
 use line_reading::{
     Malformed, dec_word, expect_word, is_over, next_is, peek_text, take_line, take_text,
 };
+use mask_states::NodeKey;
 use sb_base::{DigitFault, LineReader, Words, read_dec};
 use std::alloc::{AllocError, Global};
 use vector_table::{AssumeFault, Assumptions, Entry};
@@ -45,7 +46,7 @@ const MOST_NODES: u64 = 65_536;
 const MOST_CELLS: u32 = 8_388_608;
 
 /// The number of a line that is a name and a number.
-#[tactic(auto, unfolding(crate::specs::CertificateReading::numbered_in))]
+#[tactic(auto, unfolding(crate::specs::Reading::numbered_in))]
 fn numbered(text: &[u8], name: &[u8], most: u64) -> Option<u64>
     ensures exact { result ≡ numbered_by name.now most text.now }
     ensures small { IfSome result (λ n. n ≤ most) }
@@ -93,7 +94,7 @@ fn counted(digits: &[u8]) -> Option<Option<u64>>
 }
 
 /// How many nodes a line says that there are, if not too many.
-#[tactic(auto, unfolding(crate::specs::CertificateReading::count_in))]
+#[tactic(auto, unfolding(crate::specs::Reading::count_in))]
 fn count_of(text: &[u8]) -> Option<Option<u64>>
     ensures exact { result ≡ count_by text.now }
     ensures small { IfSome result (λ o. IfSome o (λ n. n ≤ most_nodes)) }
@@ -166,14 +167,14 @@ fn append_entry(list: &mut Assumptions, entry: Entry, at: usize) -> Result<(), C
 }
 
 /// Reads an assumption behind those before it.
-#[tactic(auto, unfolding(crate::specs::CertificateReading::longer_at))]
+#[tactic(auto, unfolding(crate::specs::Reading::longer_at))]
 fn read_entry(
     alloc: Global,
     reader: &mut LineReader<'_>,
     list: &mut Assumptions,
 ) -> Result<(), CertFault>
     requires { length list.old < entries.most_entries }
-    ensures exact { Answers (λ u. (list.new, reader.new)) fault.Memory result (longer_at entry_by refused_entry list.old reader.old) }
+    ensures exact { Answers (λ u. (list.new, reader.new)) fault.Memory result (longer_at (λ at. entry_by) refused_entry list.old reader.old) }
     ensures longer { IfOk result (λ u. length list.new ≡ length list.old + 1) }
 {
     let at = reader.offset();
@@ -188,7 +189,7 @@ fn read_each_entry(
     count: u64,
 ) -> Result<Assumptions, CertFault>
     requires { count ≤ entries.most_entries }
-    ensures { Answers (λ a. (a, reader.new)) fault.Memory result (items_from entry_by refused_entry [] count reader.old) }
+    ensures { Answers (λ a. (a, reader.new)) fault.Memory result (items_from (λ at. entry_by) refused_entry [] count reader.old) }
 {
     let mut list = Assumptions::empty(alloc);
     for _ in 0..count {
@@ -200,7 +201,7 @@ fn read_each_entry(
 }
 
 /// Reads the number of assumptions and their lines.
-#[tactic(auto, unfolding(crate::specs::CertificateReading::entries_at))]
+#[tactic(auto, unfolding(crate::specs::Reading::entries_at))]
 fn read_entries(alloc: Global, reader: &mut LineReader<'_>) -> Result<Assumptions, CertFault>
     ensures { Answers (λ a. (a, reader.new)) fault.Memory result (entries_at reader.old) }
 {
@@ -249,9 +250,9 @@ fn append_instance(list: &mut Vec<Inst>, instance: Inst, at: usize) -> Result<()
 }
 
 /// Reads an instance behind those before it.
-#[tactic(auto, unfolding(crate::specs::CertificateReading::longer_at))]
+#[tactic(auto, unfolding(crate::specs::Reading::longer_at))]
 fn read_instance(reader: &mut LineReader<'_>, list: &mut Vec<Inst>) -> Result<(), CertFault>
-    ensures { Answers (λ u. (list.new.items, reader.new)) fault.Memory result (longer_at inst_by refused_inst list.old.items reader.old) }
+    ensures { Answers (λ u. (list.new.items, reader.new)) fault.Memory result (longer_at (λ at. inst_by) refused_inst list.old.items reader.old) }
 {
     let at = reader.offset();
     let instance = read_inst_line(reader)?;
@@ -264,7 +265,7 @@ fn read_each_instance(
     reader: &mut LineReader<'_>,
     count: u64,
 ) -> Result<Vec<Inst>, CertFault>
-    ensures { Answers (λ v. (v.items, reader.new)) fault.Memory result (items_from inst_by refused_inst [] count reader.old) }
+    ensures { Answers (λ v. (v.items, reader.new)) fault.Memory result (items_from (λ at. inst_by) refused_inst [] count reader.old) }
 {
     let mut list = Vec::new(alloc);
     for _ in 0..count {
@@ -276,7 +277,7 @@ fn read_each_instance(
 }
 
 /// Reads the number of instances and their lines.
-#[tactic(auto, unfolding(crate::specs::CertificateReading::insts_at))]
+#[tactic(auto, unfolding(crate::specs::Reading::insts_at))]
 fn read_instances(alloc: Global, reader: &mut LineReader<'_>) -> Result<Vec<Inst>, CertFault>
     ensures { Answers (λ v. (v.items, reader.new)) fault.Memory result (insts_at reader.old) }
 {
@@ -285,59 +286,66 @@ fn read_instances(alloc: Global, reader: &mut LineReader<'_>) -> Result<Vec<Inst
 }
 
 /// Whether a node is above the last one.
-fn is_node_above(nodes: &[Node], node: &Node) -> bool
-    ensures { result ≡ is_node_above (last_in nodes.now) node.now }
+fn is_node_above(nodes: &[(NodeKey, NodeForm)], key: &NodeKey) -> bool
+    ensures { result ≡ is_node_above (last_in nodes.now) key.now }
 {
     match nodes.last() {
-        Some(last) => last.key.cmp(&node.key).is_lt(),
+        Some(last) => last.0.cmp(key).is_lt(),
         None => true,
     }
 }
 
-/// The node of the next line.
+/// The node of the next line, which has the number `at`.
 fn next_node(
     alloc: Global,
     reader: &LineReader<'_>,
     instances: &[Inst],
-) -> Result<Option<Node>, AllocError>
-    ensures exact { IfOk result (λ o. o ≡ first_by (node_by instances.now) reader.now.rest) }
-    ensures small { IfOk result (λ o. IfSome o (λ n. offset_of n.key.sp ≤ model.SIZE)) }
+    at: usize,
+) -> Result<Option<(NodeKey, NodeForm)>, AllocError>
+    ensures exact { IfOk result (λ o. o ≡ first_by (node_by instances.now at) reader.now.rest) }
+    ensures small { IfOk result (λ o. IfSome o (λ n. offset_of n.0.sp ≤ model.SIZE)) }
 {
     let Some(text) = peek_text(reader) else {
         return Ok(None);
     };
-    node_of(alloc, text, instances)
+    node_of(alloc, text, instances, at)
 }
 
-/// Reads a node by itself.
+/// Reads the node of the number `at` by itself.
 #[tactic(auto, unfolding(line_reading::specs::Reading::line_by))]
 fn read_node_line(
     alloc: Global,
     reader: &mut LineReader<'_>,
     instances: &[Inst],
-) -> Result<Node, CertFault>
-    ensures exact { Answers (λ n. (n, reader.new)) fault.Memory result (formed (line_by (node_by instances.now) reader.old)) }
-    ensures small { IfOk result (λ n. offset_of n.key.sp ≤ model.SIZE) }
+    at: usize,
+) -> Result<(NodeKey, NodeForm), CertFault>
+    ensures exact { Answers (λ n. (n, reader.new)) fault.Memory result (formed (line_by (node_by instances.now at) reader.old)) }
+    ensures small { IfOk result (λ n. offset_of n.0.sp ≤ model.SIZE) }
 {
-    let found = next_node(alloc, reader, instances)?;
+    let found = next_node(alloc, reader, instances, at)?;
     let node = take_line(reader, found)?;
     Ok(node)
 }
 
 /// Appends a node of a line at this offset to those with so many cells. Gives how many they then have.
 #[tactic(auto, using(crate::proofs::Items::cells_more))]
-fn append_node(list: &mut Vec<Node>, cells: u32, node: Node, at: usize) -> Result<u32, CertFault>
-    requires cells { cells ≡ cells_of list.old.items }
+fn append_node(
+    list: &mut Vec<(NodeKey, NodeForm)>,
+    cells: u32,
+    node: (NodeKey, NodeForm),
+    at: usize,
+) -> Result<u32, CertFault>
+    requires cells { cells ≡ cells_of (node_keys list.old.items) }
     requires few { cells ≤ most_cells }
-    requires small { offset_of node.key.sp ≤ model.SIZE }
+    requires small { offset_of node.0.sp ≤ model.SIZE }
     ensures exact { Answers (λ n. list.new.items) fault.Memory result (with_item refused_node list.old.items node at) }
-    ensures cells { IfOk result (λ n. n ≡ cells_of list.new.items) }
+    ensures cells { IfOk result (λ n. n ≡ cells_of (node_keys list.new.items)) }
     ensures few { IfOk result (λ n. n ≤ most_cells) }
 {
-    if !is_node_above(list, &node) {
+    if !is_node_above(list, &node.0) {
         return Err(CertFault::Order(at));
     }
-    let more = cells + (1 + u32::from(node.key.offset()));
+    let more = cells + (1 + u32::from(node.0.offset()));
     if more > MOST_CELLS {
         return Err(CertFault::Limit(Limit::Cells));
     }
@@ -348,22 +356,22 @@ fn append_node(list: &mut Vec<Node>, cells: u32, node: Node, at: usize) -> Resul
 }
 
 /// Reads a node behind those before it, with so many cells. Gives how many they then have.
-#[tactic(auto, unfolding(crate::specs::CertificateReading::longer_at))]
+#[tactic(auto, unfolding(crate::specs::Reading::longer_at))]
 fn read_node(
     alloc: Global,
     reader: &mut LineReader<'_>,
     instances: &[Inst],
-    list: &mut Vec<Node>,
+    list: &mut Vec<(NodeKey, NodeForm)>,
     cells: u32,
 ) -> Result<u32, CertFault>
-    requires cells { cells ≡ cells_of list.old.items }
+    requires cells { cells ≡ cells_of (node_keys list.old.items) }
     requires few { cells ≤ most_cells }
     ensures exact { Answers (λ n. (list.new.items, reader.new)) fault.Memory result (longer_at (node_by instances.now) refused_node list.old.items reader.old) }
-    ensures cells { IfOk result (λ n. n ≡ cells_of list.new.items) }
+    ensures cells { IfOk result (λ n. n ≡ cells_of (node_keys list.new.items)) }
     ensures few { IfOk result (λ n. n ≤ most_cells) }
 {
     let at = reader.offset();
-    let node = read_node_line(alloc, reader, instances)?;
+    let node = read_node_line(alloc, reader, instances, list.len())?;
     append_node(list, cells, node, at)
 }
 
@@ -373,7 +381,7 @@ fn read_each_node(
     reader: &mut LineReader<'_>,
     instances: &[Inst],
     count: u64,
-) -> Result<Vec<Node>, CertFault>
+) -> Result<Vec<(NodeKey, NodeForm)>, CertFault>
     ensures { Answers (λ v. (v.items, reader.new)) fault.Memory result (items_from (node_by instances.now) refused_node [] count reader.old) }
 {
     let mut list = Vec::new(alloc);
@@ -388,12 +396,12 @@ fn read_each_node(
 }
 
 /// Reads the number of nodes and their lines.
-#[tactic(auto, unfolding(crate::specs::CertificateReading::nodes_at))]
+#[tactic(auto, unfolding(crate::specs::Reading::nodes_at))]
 fn read_nodes(
     alloc: Global,
     reader: &mut LineReader<'_>,
     instances: &[Inst],
-) -> Result<Vec<Node>, CertFault>
+) -> Result<Vec<(NodeKey, NodeForm)>, CertFault>
     ensures { Answers (λ v. (v.items, reader.new)) fault.Memory result (nodes_at instances.now reader.old) }
 {
     let count = read_count(reader)?;
@@ -401,7 +409,7 @@ fn read_nodes(
 }
 
 /// Whether the next line says that a schedule follows.
-#[tactic(auto, unfolding(crate::specs::CertificateReading::ending_by))]
+#[tactic(auto, unfolding(crate::specs::Reading::ending_by))]
 fn next_ending(reader: &LineReader<'_>) -> Option<bool>
     ensures { result ≡ first_by ending_by reader.now.rest }
 {
@@ -437,7 +445,7 @@ fn read_schedule(alloc: Global, reader: &mut LineReader<'_>) -> Result<Schedule,
 }
 
 /// Reads whether there is a schedule, and the schedule.
-#[tactic(auto, unfolding(crate::specs::CertificateReading::witness_at))]
+#[tactic(auto, unfolding(crate::specs::Reading::witness_at))]
 fn read_witness(alloc: Global, reader: &mut LineReader<'_>) -> Result<Option<Schedule>, CertFault>
     ensures { Answers (λ w. (w, reader.new)) fault.Memory result (witness_at reader.old) }
 {
@@ -458,7 +466,7 @@ fn read_text(reader: &mut LineReader<'_>, text: &[u8]) -> Result<(), CertFault>
 }
 
 /// Reads the version and the bound.
-#[tactic(auto, unfolding(crate::specs::CertificateReading::heading_at))]
+#[tactic(auto, unfolding(crate::specs::Reading::heading_at))]
 fn read_heading(reader: &mut LineReader<'_>) -> Result<u64, CertFault>
     ensures exact { Answers (λ n. (n, reader.new)) fault.Memory result (heading_at reader.old) }
     ensures small { IfOk result (λ n. n ≤ model.SIZE) }
@@ -468,7 +476,7 @@ fn read_heading(reader: &mut LineReader<'_>) -> Result<u64, CertFault>
 }
 
 /// Reads the last line, behind which there has to be nothing.
-#[tactic(auto, unfolding(crate::specs::CertificateReading::end_at))]
+#[tactic(auto, unfolding(crate::specs::Reading::end_at))]
 fn read_end(reader: &mut LineReader<'_>) -> Result<(), CertFault>
     ensures { Answers (λ u. (u, reader.new)) fault.Memory result (end_at reader.old) }
 {
@@ -480,7 +488,7 @@ fn read_end(reader: &mut LineReader<'_>) -> Result<(), CertFault>
 }
 
 /// Reads all parts.
-#[tactic(auto, unfolding(crate::specs::CertificateReading::claim_at))]
+#[tactic(auto, unfolding(crate::specs::Reading::claim_at))]
 fn read_claim(alloc: Global, reader: &mut LineReader<'_>) -> Result<Certificate, CertFault>
     ensures { Answers (λ c. (c, reader.new)) fault.Memory result (claim_at reader.old) }
 {
@@ -496,7 +504,7 @@ fn read_claim(alloc: Global, reader: &mut LineReader<'_>) -> Result<Certificate,
 }
 
 /// Reads a text, all of it.
-#[tactic(auto, unfolding(crate::specs::CertificateReading::certificate_in))]
+#[tactic(auto, unfolding(crate::specs::Reading::certificate_in))]
 fn read_all(alloc: Global, text: &[u8]) -> Result<Certificate, CertFault>
     ensures { Answers (λ c. c) fault.Memory result (certificate_in text.now) }
 {
@@ -504,18 +512,16 @@ fn read_all(alloc: Global, text: &[u8]) -> Result<Certificate, CertFault>
     read_claim(alloc, &mut reader)
 }
 
-impl Certificate {
-    /// Reads the certificate whose text this is.
-    ///
-    /// Where it is that of none, the first line that can't go on decides: `Malformed` where it isn't of its form or is missing,
-    /// else `Order` where it isn't above the last one, else `Limit` where a limit is passed.
-    pub fn read(alloc: Global, text: &[u8]) -> Result<Certificate, CertFault>
-        ensures exact { Answers (λ c. c) fault.Memory result (certificate_in text.now) }
-        ensures found { IfOk result (λ c. text.now ≡ text_of c) }
-        ensures kept { IfOk result IsCertificate }
-        ensures spelled { (c : Claim) → IsCertificate c → text.now ≡ text_of c → Answers (λ x. x) fault.Memory result (Ok c) }
-    {
-        certificate_texts();
-        read_all(alloc, text)
-    }
+/// Reads the certificate whose text this is.
+///
+/// Where it is that of none, the first line that can't go on decides: `Malformed` where it isn't of its form or is missing,
+/// else `Order` where it isn't above the last one, else `Limit` where a limit is passed.
+pub fn read(alloc: Global, text: &[u8]) -> Result<Certificate, CertFault>
+    ensures exact { Answers (λ c. c) fault.Memory result (certificate_in text.now) }
+    ensures found { IfOk result (λ c. text.now ≡ text_of c) }
+    ensures kept { IfOk result IsCertificate }
+    ensures spelled { (c : Claim) → IsCertificate c → text.now ≡ text_of c → Answers (λ x. x) fault.Memory result (Ok c) }
+{
+    certificate_texts();
+    read_all(alloc, text)
 }

@@ -1,5 +1,5 @@
-use Rattle.cert_format.proofs.InstLine as lines
+use Rattle.cert_format.proofs.ItemLines as lines
 use Rattle.cert_format.proofs.laws.instance_lines.Goals as goal
 
 pub returns : goal.returns
-returns c = lines.inst_lines c.word_laws.ensures
+returns c = lines.inst_lines c.word_laws.ensures c.key_words.ensures

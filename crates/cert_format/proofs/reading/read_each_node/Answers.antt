@@ -1,13 +1,13 @@
 use Rattle.std.proofs.Common.{arith, ap, sym, ◌∙◌}
-use Rattle.cert_format.specs.Certificate.{cells_of}
-use Rattle.cert_format.specs.CertificateReading.{node_by, refused_node}
+use Rattle.certificate.specs.Claims.{cells_of, node_keys}
+use Rattle.cert_format.specs.Reading.{node_by, refused_node}
 use Rattle.cert_format.proofs.Items.{item_more, item_fault, items_end, items_begin, no_cells}
 use Rattle.cert_format.proofs.reading.read_each_node.Goals as goal
 
 pub loop-init : goal.loop-init
 loop-init c = record {
   same = items_begin (node_by c.args.instances.now) refused_node c.new-list.result.items c.args.count c.args.reader.now c.new-list.ensures.items;
-  cells = sym (ap cells_of c.new-list.ensures.items ∙ no_cells);
+  cells = sym (ap (λ ns. cells_of (node_keys ns)) c.new-list.ensures.items ∙ no_cells);
   few = omega arith;
 }
 

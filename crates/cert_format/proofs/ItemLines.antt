@@ -1,0 +1,151 @@
+-- The lines of instances and nodes: what is read is spelled so, and what is spelled is read.
+use Rattle.std.proofs.Common.{ℕ, ◌<◌, ◌≤◌, ◌≡◌, List, [], ◌∷◌, ◌++◌, codes, refl, ap, ◌∙◌, arith, Some, None, cond, subst, lit<, slice_get}
+use Rattle.std.specs.List.{AllByRecursion}
+use Rattle.std.specs.Fmt.{decimal}
+use Rattle.std.proofs.lemmas.List.{append-nil}
+use Rattle.avr_model.specs.State.{SIZE}
+use Rattle.line_reading.specs.Reading.{dec_at, word_at, is_over}
+use Rattle.line_reading.specs.Words.{IsWord, WordLaws}
+use Rattle.line_reading.proofs.Steps.{bind_some, no_words}
+use Rattle.mask_states.specs.declared.keys.InstKey.{InstKey}
+use Rattle.mask_states.specs.declared.keys.NodeKey.{NodeKey}
+use Rattle.mask_states.specs.Keys.{offset_of}
+use Rattle.edge_rules.specs.declared.seeded.NodeForm.{NodeForm}
+use Rattle.edge_rules.specs.declared.seeded.NodeForm.TheVariants.{State, From}
+use Rattle.certificate.specs.declared.instance.Inst.{Inst}
+use Rattle.certificate.specs.Insts.{IsInst}
+use Rattle.certificate.specs.Claims.{IsKey, FitsAt}
+use Rattle.cert_words.specs.KeySpelling.{inst_key_words, place_words, form_words}
+use Rattle.cert_words.specs.Text.{inst_words, node_words_at}
+use Rattle.cert_words.specs.KeyReading.{is_root, inst_key_at, form_at}
+use Rattle.cert_words.specs.KeyLaws.{KeyWords}
+use Rattle.cert_words.proofs.Pieces.{map_some, tested}
+use Rattle.cert_words.proofs.Fields.{word_take, dec_take, joined_words}
+use Rattle.cert_words.proofs.InstKeys.{cons}
+use Rattle.cert_format.specs.LineReading.{inst_in, place_at, whole_key_at, node_in}
+use Rattle.cert_format.specs.LineLaws.{InstLines, IsInstanceOf, IsNodeLine, NodeLines}
+
+over_end : {A : Type 0} (x y : A) (ws : List (List ℕ)) → cond (is_over ws) (Some x) None ≡ Some y → (ws ≡ []) × (x ≡ y)
+over_end x y ws e = let t = tested (is_over ws) x y e in (no_words ws t.0, t.1)
+
+-- ---- instances
+
+inst_take : WordLaws → KeyWords → (ws : List (List ℕ)) (x : Inst) → inst_in ws ≡ Some x → (ws ≡ inst_words x) × IsInst x
+unfolding inst_in
+inst_take k v ws x e =
+    let h = bind_some (word_at (codes "inst") ws) _ x e in
+    let key = bind_some (inst_key_at h.0.1) _ x h.2 in
+    let r = bind_some (word_at (codes "rank") key.0.1) _ x key.2 in
+    let rank = bind_some (dec_at 65535 r.0.1) _ x r.2 in
+    let n = bind_some (word_at (codes "need") rank.0.1) _ x rank.2 in
+    let need = bind_some (dec_at SIZE n.0.1) _ x n.2 in
+    let last = over_end {A = Inst} (record { key = key.0.0; rank = rank.0.0; need = need.0.0 }) x need.0.1 need.2 in
+    let front = v.insts.spelled h.0.1 key.0.1 key.0.0 key.1 in
+    let d = dec_take k 65535 r.0.1 rank.0 (lit< tt) rank.1 in
+    let m = dec_take k SIZE n.0.1 need.0 (lit< tt) need.1 in
+    let P : Inst → Type 0 = λ y. (ws ≡ inst_words y) × IsInst y in
+    let behind = word_take (codes "rank") key.0.1 r.0 r.1 ∙ ap (cons (codes "rank")) (d.0 ∙ ap (cons (decimal rank.0.0)) (word_take (codes "need") rank.0.1 n.0 n.1 ∙ ap (cons (codes "need")) (m.0 ∙ ap (cons (decimal need.0.0)) last.0))) in
+    subst P last.1 (
+      word_take (codes "inst") ws h.0 h.1 ∙ ap (cons (codes "inst")) (front.0 ∙ ap (λ (xs : List (List ℕ)). inst_key_words key.0.0 ++ xs) behind),
+      record { kind = front.1.kind; masks = front.1.masks; rank = omega (arith, d.1); need = m.1 },
+    )
+
+inst_again : WordLaws → KeyWords → (x : Inst) → IsInst x → inst_in (inst_words x) ≡ Some x
+unfolding inst_in
+inst_again k v x h =
+    let key = v.insts.read x.key (codes "rank" ∷ decimal x.rank ∷ codes "need" ∷ decimal x.need ∷ []) (record { kind = h.kind; masks = h.masks }) in
+    let d = k.dec_taken 65535 x.rank (codes "need" ∷ decimal x.need ∷ []) (lit< tt) (omega (arith, h.rank)) in
+    let m = k.dec_taken SIZE x.need [] (lit< tt) h.need in
+    rw (key, d, m) refl
+
+inst_plain : WordLaws → KeyWords → (x : Inst) → IsInst x → AllByRecursion IsWord (inst_words x)
+inst_plain k v x h = (
+  ((refl, (refl, (refl, (refl, tt)))), (refl, (refl, (refl, (refl, tt))))),
+  joined_words (inst_key_words x.key) (codes "rank" ∷ decimal x.rank ∷ codes "need" ∷ decimal x.need ∷ []) (v.insts.words x.key (record { kind = h.kind; masks = h.masks })) (
+    ((refl, (refl, (refl, (refl, tt)))), (refl, (refl, (refl, (refl, tt))))),
+    (
+      k.dec_word x.rank (omega (arith, h.rank)),
+      (
+        ((refl, (refl, (refl, (refl, tt)))), (refl, (refl, (refl, (refl, tt))))),
+        (k.dec_word x.need (omega (arith, h.need)), tt),
+      ),
+    ),
+  ),
+)
+
+pub inst_lines : WordLaws → KeyWords → InstLines
+inst_lines k v = record { spelled = inst_take k v; read = inst_again k v; words = inst_plain k v }
+
+-- ---- nodes
+
+record PlaceRead (insts : List Inst) (ws : List (List ℕ)) (z : InstKey × List (List ℕ)) : Type 0 where
+  pub place : ℕ
+  pub inst : Inst
+  pub there : slice_get insts place ≡ Some inst
+  pub same : inst.key ≡ z.0
+  pub words : ws ≡ codes "node" ∷ decimal place ∷ z.1
+
+place_take : WordLaws → (insts : List Inst) (ws : List (List ℕ)) (z : InstKey × List (List ℕ)) → place_at insts ws ≡ Some z → PlaceRead insts ws z
+unfolding place_at
+place_take k insts ws z e =
+    let h = bind_some (word_at (codes "node") ws) _ z e in
+    let j = bind_some (dec_at 65535 h.0.1) _ z h.2 in
+    let x = map_some (slice_get insts j.0.0) (λ x. (x.key, j.0.1)) z j.2 in
+    let d = dec_take k 65535 h.0.1 j.0 (lit< tt) j.1 in
+    record {
+      place = j.0.0;
+      inst = x.0;
+      there = x.1;
+      same = ap (λ (y : InstKey × List (List ℕ)). y.0) x.2;
+      words = word_take (codes "node") ws h.0 h.1 ∙ ap (cons (codes "node")) (d.0 ∙ ap (λ (y : InstKey × List (List ℕ)). decimal j.0.0 ∷ y.1) x.2);
+    }
+
+place_again : WordLaws → (insts : List Inst) (place : ℕ) (x : Inst) (rest : List (List ℕ)) → place < 65536 → slice_get insts place ≡ Some x → place_at insts (codes "node" ∷ decimal place ∷ rest) ≡ Some (x.key, rest)
+unfolding place_at
+place_again k insts place x rest small there =
+    let d = k.dec_taken 65535 place rest (lit< tt) (omega (arith, small)) in
+    rw (d, there) refl
+
+node_take : WordLaws → KeyWords → (insts : List Inst) (at : ℕ) (ws : List (List ℕ)) (n : NodeKey × NodeForm) → node_in insts at ws ≡ Some n → IsNodeLine insts at ws n
+unfolding node_in whole_key_at
+node_take k v insts at ws n e =
+    let key = bind_some (whole_key_at insts ws) _ n e in
+    let x = bind_some (place_at insts ws) _ key.0 key.1 in
+    let s = bind_some (form_at (is_root key.0.0.inst.kind) (offset_of key.0.0.sp) at key.0.1) _ n key.2 in
+    let last = over_end {A = NodeKey × NodeForm} (key.0.0, s.0.0) n s.0.1 s.2 in
+    let place = place_take k insts ws x.0 x.1 in
+    let front = v.places.spelled x.0.0 x.0.1 key.0.1 key.0.0 x.2 in
+    let form = v.forms.spelled at key.0.0 key.0.1 s.0.1 s.0.0 front.key_fits s.1 in
+    let behind : key.0.1 ≡ form_words s.0.0 = form.0 ∙ ap (λ (xs : List (List ℕ)). form_words s.0.0 ++ xs) last.0 ∙ append-nil (form_words s.0.0) in
+    let P : NodeKey × NodeForm → Type 0 = λ y. IsNodeLine insts at ws y in
+    subst P last.1 (record {
+      place = place.place;
+      words = place.words ∙ ap (λ (xs : List (List ℕ)). codes "node" ∷ decimal place.place ∷ xs) (front.words ∙ ap (λ (xs : List (List ℕ)). place_words key.0.0 ++ xs) behind);
+      inst = record { inst = place.inst; there = place.there; same = place.same ∙ front.same };
+      fits = form.1;
+    })
+
+key_of : (at : ℕ) (key : NodeKey) (form : NodeForm) → FitsAt at key form → IsKey key
+key_of at key (State s) h = record { word = h.word; small = h.small; masks = h.masks; fits = h.fits }
+key_of at key (From m) h = h.0
+
+node_again : WordLaws → KeyWords → (insts : List Inst) (at place : ℕ) (n : NodeKey × NodeForm) → at ≤ 65536 → place < 65536 → IsInstanceOf insts place n.0 → FitsAt at n.0 n.1 → node_in insts at (node_words_at place n) ≡ Some n
+unfolding node_in whole_key_at
+node_again k v insts at place n few small i h =
+    let first : place_at insts (node_words_at place n) ≡ Some (n.0.inst, place_words n.0 ++ form_words n.1) =
+    place_again k insts place i.inst (place_words n.0 ++ form_words n.1) small i.there ∙ ap (λ (x : InstKey). Some (x, place_words n.0 ++ form_words n.1)) i.same in
+    let key = v.places.read n.0 (form_words n.1) (key_of at n.0 n.1 h) in
+    let form = v.forms.read at n.0 n.1 few h in
+    rw (first, key, form) refl
+
+node_plain : WordLaws → KeyWords → (at place : ℕ) (n : NodeKey × NodeForm) → at ≤ 65536 → place < 65536 → FitsAt at n.0 n.1 → AllByRecursion IsWord (node_words_at place n)
+node_plain k v at place n few small h = (
+  ((refl, (refl, (refl, (refl, tt)))), (refl, (refl, (refl, (refl, tt))))),
+  (
+    k.dec_word place (omega (arith, small)),
+    joined_words (place_words n.0) (form_words n.1) (v.places.words n.0 (key_of at n.0 n.1 h)) (v.forms.words at n.0 n.1 few h),
+  ),
+)
+
+pub node_lines : WordLaws → KeyWords → NodeLines
+node_lines k v = record { spelled = node_take k v; read = node_again k v; words = node_plain k v }

@@ -1,0 +1,11 @@
+use Rattle.cert_format.proofs.Whole.{found, kept, spelled}
+use Rattle.cert_format.proofs.reading.read.Goals as goal
+
+pub returns-clause-found : goal.returns-clause-found
+returns-clause-found c = found c.certificate_texts.ensures.read c.args.text.now c.read_all.result c.read_all.ensures
+
+pub returns-clause-kept : goal.returns-clause-kept
+returns-clause-kept c = kept c.certificate_texts.ensures.read c.args.text.now c.read_all.result c.read_all.ensures
+
+pub returns-clause-spelled : goal.returns-clause-spelled
+returns-clause-spelled c = spelled c.certificate_texts.ensures.spelled c.args.text.now c.read_all.result c.read_all.ensures

@@ -1,0 +1,92 @@
+//! The lines of instances and nodes.
+
+ghost use Rattle.std.specs.Prelude.{◌≡◌, ◌≤◌, ◌<◌, slice_get, IfSome, IfOk};
+ghost use Rattle.std.specs.Option.{option_map};
+ghost use Rattle.avr_model.specs.State as model;
+ghost use Rattle.sb_base.specs.Lines.{words_of};
+ghost use Rattle.mask_states.specs.Keys.{offset_of};
+ghost use Rattle.cert_format.specs.LineReading.{inst_in, place_at, whole_key_at, node_in};
+
+use cert_words::{form_of, inst_key_of, is_root, node_key_of};
+use certificate::Inst;
+use edge_rules::NodeForm;
+use line_reading::{dec_word, expect_word, is_over};
+use mask_states::{InstKey, NodeKey};
+use sb_base::Words;
+use std::alloc::{AllocError, Global};
+
+/// The most that a need can be.
+const SIZE: u64 = 2_048;
+
+/// The instance of a line.
+#[tactic(auto, unfolding(crate::specs::LineReading::inst_in))]
+pub(crate) fn instance_of(text: &[u8]) -> Option<Inst>
+    ensures { result ≡ inst_in (words_of text.now) }
+{
+    let mut words = Words::new(text);
+    expect_word(&mut words, b"inst")?;
+    let key = inst_key_of(&mut words)?;
+    expect_word(&mut words, b"rank")?;
+    let rank = dec_word(&mut words, 65_535)? as u32;
+    expect_word(&mut words, b"need")?;
+    let need = dec_word(&mut words, SIZE)? as u32;
+    if is_over(&mut words) {
+        Some(Inst { key, rank, need })
+    } else {
+        None
+    }
+}
+
+/// What the instance is whose line has this number.
+fn key_at(instances: &[Inst], place: u64) -> Option<InstKey>
+    ensures { result ≡ option_map (λ x. x.key) (slice_get instances.now place) }
+{
+    let instance = instances.get(place as usize)?;
+    Some(instance.key)
+}
+
+/// The instance of a node's line.
+#[tactic(auto, unfolding(crate::specs::LineReading::place_at))]
+fn place_of(words: &mut Words<'_>, instances: &[Inst]) -> Option<InstKey>
+    ensures { option_map (λ k. (k, words.new)) result ≡ place_at instances.now words.old }
+{
+    expect_word(words, b"node")?;
+    let place = dec_word(words, 65_535)?;
+    key_at(instances, place)
+}
+
+/// What a node is, with its instance.
+#[tactic(auto, unfolding(crate::specs::LineReading::whole_key_at))]
+fn whole_key_of(words: &mut Words<'_>, instances: &[Inst]) -> Option<NodeKey>
+    ensures exact { option_map (λ k. (k, words.new)) result ≡ whole_key_at instances.now words.old }
+    ensures small { IfSome result (λ k. offset_of k.sp ≤ model.SIZE) }
+{
+    let inst = place_of(words, instances)?;
+    node_key_of(words, &inst)
+}
+
+/// The node of the line of the number `at`.
+#[tactic(auto, unfolding(crate::specs::LineReading::node_in))]
+pub(crate) fn node_of(
+    alloc: Global,
+    text: &[u8],
+    instances: &[Inst],
+    at: usize,
+) -> Result<Option<(NodeKey, NodeForm)>, AllocError>
+    ensures exact { IfOk result (λ o. o ≡ node_in instances.now at (words_of text.now)) }
+    ensures small { IfOk result (λ o. IfSome o (λ n. offset_of n.0.sp ≤ model.SIZE)) }
+{
+    let mut words = Words::new(text);
+    let Some(key) = whole_key_of(&mut words, instances) else {
+        return Ok(None);
+    };
+    let root = is_root(key.inst.kind);
+    let Some(form) = form_of(alloc, &mut words, root, key.offset(), at)? else {
+        return Ok(None);
+    };
+    if is_over(&mut words) {
+        Ok(Some((key, form)))
+    } else {
+        Ok(None)
+    }
+}

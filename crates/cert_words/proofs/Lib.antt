@@ -1,0 +1,7 @@
+pub mod Pieces
+pub mod Words
+pub mod Loops
+pub mod Fields
+pub mod InstKeys
+pub mod NodeKeys
+pub mod States

@@ -1,0 +1,177 @@
+-- The pieces of a word: what is read is spelled so, and what is spelled is read.
+use Rattle.std.proofs.Common.{ℕ, zero, suc, ◌/◌, ◌%◌, ◌<◌, ◌≤◌, ◌^◌, ◌≡◌, ◌==◌, ◌&&◌, inl, inr, List, [], ◌∷◌, ◌++◌, length, take, drop, Bool, true, false, refl, ap, ap₂, sym, ◌∙◌, arith, Option, Some, None, Result, Ok, Err, cond, nat_lt, subst, lit<, append_assoc, length-append, option_map}
+use Rattle.std.proofs.lemmas.Bool.{eqb-true, eq-eqb}
+use Rattle.std.proofs.lemmas.Bool.Decides.{nat_tests}
+use Rattle.std.proofs.lemmas.List.{take-append-drop, append-nil}
+use Rattle.std.proofs.Math.Seq.{take-append_seam, drop-append_seam}
+use Rattle.std.specs.Int.{bit_at}
+use Rattle.std.specs.Int.RustNames.{bit_and}
+use Rattle.avr_model.specs.State.{SIZE}
+use Rattle.sb_base.specs.Digits.{hex_digits, hex_digit, hex_answer}
+use Rattle.sb_base.specs.declared.digits.DigitFault.{DigitFault}
+use Rattle.line_reading.specs.Reading.{number_and, dec_at}
+use Rattle.line_reading.specs.Words.{WordLaws}
+use Rattle.line_reading.proofs.Steps.{chosen, some_is, none_some, bind_some, cons_is}
+use Rattle.std.specs.Fmt.{decimal}
+use Rattle.bit_domain.specs.declared.bytes.TriByte.{TriByte}
+use Rattle.bit_domain.specs.TriByte.{tri_of}
+use Rattle.bit_domain.specs.Laws.{BytesAreTheirBits, BytesAreSets}
+use Rattle.cert_words.specs.Spelling.{bits_text}
+use Rattle.cert_words.specs.Reading.{letter_at, number_before, digits_at, is_end, tri_byte, bits_at, register_at, offset_in, marked_in}
+
+pub map_some : {A B : Type 0} (o : Option A) (f : A → B) (y : B) → option_map f o ≡ Some y → (x : A) × (o ≡ Some x) × (f x ≡ y)
+map_some None f y e = absurd (none_some y e)
+map_some (Some x) f y e = (x, refl, some_is (f x) y e)
+
+pub same_number : (a : ℕ) → (a == a) ≡ true
+same_number a = eq-eqb a a refl
+
+-- ---- the end and one byte
+
+pub end_is : (bs : List ℕ) → is_end bs ≡ true → bs ≡ []
+end_is [] e = refl
+end_is (b ∷ bs) e = cc
+
+pub letter_take : (bs : List ℕ) (z : ℕ × List ℕ) → letter_at bs ≡ Some z → bs ≡ z.0 ∷ z.1
+letter_take [] z e = absurd (none_some z e)
+letter_take (b ∷ bs) z e = let same = some_is {A = ℕ × List ℕ} (b, bs) z e in ap (λ (y : ℕ × List ℕ). y.0 ∷ y.1) same
+
+-- a test at the end of a reading
+pub tested : {A : Type 0} (b : Bool) (x y : A) → cond b (Some x) None ≡ Some y → (b ≡ true) × (x ≡ y)
+tested b x y e = elim (chosen b (Some x) None (Some y) e) [
+  | inl h ↦ (h.0, some_is x y h.1)
+  | inr h ↦ absurd (none_some y h.1)
+]
+
+pub three : (a b c : Bool) → (a && b && c) ≡ true → (a ≡ true) × (b ≡ true) × (c ≡ true)
+three true true c e = (refl, refl, e)
+three true false c e = cc
+three false b c e = cc
+
+-- ---- digits
+
+pub length_hex : (n k : ℕ) → length (hex_digits n k) ≡ k
+unfolding hex_digits
+length_hex n zero = refl
+length_hex n (suc k) = length-append (hex_digits (n / 16) k) (hex_digit (n % 16) ∷ []) ∙ omega (arith, length_hex (n / 16) k)
+
+number_is : (r : Result ℕ DigitFault) (bs : List ℕ) (z : ℕ × List ℕ) → number_before r bs ≡ Some z → (r ≡ Ok z.0) × (bs ≡ z.1)
+number_is (Ok n) bs z e = let same = some_is {A = ℕ × List ℕ} (n, bs) z e in (ap (λ (y : ℕ × List ℕ). Ok y.0) same, ap (λ (y : ℕ × List ℕ). y.1) same)
+number_is (Err f) bs z e = absurd (none_some z e)
+
+number_of : (r : Result ℕ DigitFault) (n : ℕ) → number_and r [] ≡ Some (n, []) → r ≡ Ok n
+number_of (Ok m) n e = let same = some_is {A = ℕ × List (List ℕ)} (m, []) (n, []) e in ap (λ (y : ℕ × List (List ℕ)). Ok y.0) same
+number_of (Err f) n e = absurd (none_some {A = ℕ × List (List ℕ)} (n, []) e)
+
+pub digits_take : WordLaws → (count : ℕ) (bs : List ℕ) (z : ℕ × List ℕ) → digits_at count bs ≡ Some z → (bs ≡ hex_digits z.0 count ++ z.1) × (z.0 < 16 ^ count)
+unfolding digits_at
+digits_take k count bs z e = elim (chosen (nat_lt (length bs) count) _ _ (Some z) e) [
+  | inl h ↦ absurd (none_some z h.1)
+  | inr h ↦
+      let t = number_is (hex_answer (take count bs) count) (drop count bs) z h.1 in
+      let w = k.hex_takes count z.0 (take count bs ∷ []) [] (ap (λ (r : Result ℕ DigitFault). number_and r []) t.0) in
+      (sym (take-append-drop count bs) ∙ ap₂ (λ (xs ys : List ℕ). xs ++ ys) (cons_is (take count bs) (hex_digits z.0 count) [] [] w.0).0 t.1, w.1)
+]
+
+pub digits_again : WordLaws → (count n : ℕ) (rest : List ℕ) → n < 16 ^ count → digits_at count (hex_digits n count ++ rest) ≡ Some (n, rest)
+unfolding digits_at
+digits_again k count n rest h =
+    let cs = hex_digits n count in
+    let size = length_hex n count in
+    let all = length-append cs rest in
+    let long : nat_lt (length (cs ++ rest)) count ≡ false = grind (arith, nat_tests, size, all) in
+    let front : take count (cs ++ rest) ≡ cs = ap (λ (i : ℕ). take i (cs ++ rest)) (sym size) ∙ take-append_seam cs rest in
+    let back : drop count (cs ++ rest) ≡ rest = ap (λ (i : ℕ). drop i (cs ++ rest)) (sym size) ∙ drop-append_seam cs rest in
+    let read : hex_answer cs count ≡ Ok n = number_of (hex_answer cs count) n (k.hex_taken count n [] h) in
+    rw (long, front, back, read) refl
+
+-- ---- bits
+
+made : BytesAreTheirBits → (known value : ℕ) → known < 256 → bit_and value known ≡ value → (t : TriByte) × (t.known ≡ known) × (t.value ≡ value) × (t ≡ tri_byte known value)
+made b known value small inside =
+    let t : TriByte = record { known = known; value = value; inside = inside; small = omega (arith, small) } in
+    (t, refl, refl, b.built t (λ i. tri_of (bit_at known i) (bit_at value i)) (λ i h. refl))
+
+pub known_is : BytesAreTheirBits → (known value : ℕ) → known < 256 → bit_and value known ≡ value → (tri_byte known value).known ≡ known
+known_is b known value small inside = let m = made b known value small inside in sym (ap (λ (t : TriByte). t.known) m.3) ∙ m.1
+
+pub value_is : BytesAreTheirBits → (known value : ℕ) → known < 256 → bit_and value known ≡ value → (tri_byte known value).value ≡ value
+value_is b known value small inside = let m = made b known value small inside in sym (ap (λ (t : TriByte). t.value) m.3) ∙ m.2
+
+pub bits_take : WordLaws → BytesAreTheirBits → (bs : List ℕ) (z : TriByte × List ℕ) → bits_at bs ≡ Some z → bs ≡ bits_text z.0 ++ z.1
+unfolding bits_at
+bits_take k b bs z e =
+    let n = bind_some (digits_at 2 bs) _ z e in
+    let v = bind_some (digits_at 2 n.0.1) _ z n.2 in
+    let last = tested {A = TriByte × List ℕ} (bit_and v.0.0 n.0.0 == v.0.0) (tri_byte n.0.0 v.0.0, v.0.1) z v.2 in
+    let inside = eqb-true (bit_and v.0.0 n.0.0) v.0.0 last.0 in
+    let first = digits_take k 2 bs n.0 n.1 in
+    let second = digits_take k 2 n.0.1 v.0 v.1 in
+    let small : n.0.0 < 256 = omega (arith, first.1) in
+    let digits = ap₂ (λ (x y : ℕ). hex_digits x 2 ++ hex_digits y 2) (sym (known_is b n.0.0 v.0.0 small inside)) (sym (value_is b n.0.0 v.0.0 small inside)) in
+    let P : TriByte × List ℕ → Type 0 = λ y. bs ≡ bits_text y.0 ++ y.1 in
+    subst P last.1 (first.0 ∙ ap (λ (xs : List ℕ). hex_digits n.0.0 2 ++ xs) second.0 ∙ sym (append_assoc (hex_digits n.0.0 2) (hex_digits v.0.0 2) v.0.1) ∙ ap (λ (xs : List ℕ). xs ++ v.0.1) digits)
+
+pub bits_again : WordLaws → BytesAreTheirBits → BytesAreSets → (t : TriByte) (rest : List ℕ) → bits_at (bits_text t ++ rest) ≡ Some (t, rest)
+unfolding bits_at
+bits_again k b s t rest =
+    let text = append_assoc (hex_digits t.known 2) (hex_digits t.value 2) rest in
+    let small : t.known < 16 ^ 2 = omega (arith, t.small) in
+    let low : t.value < 16 ^ 2 = omega (arith, (s.member t).0) in
+    let first = digits_again k 2 t.known (hex_digits t.value 2 ++ rest) small in
+    let second = digits_again k 2 t.value rest low in
+    let inside = eq-eqb (bit_and t.value t.known) t.value t.inside in
+    rw (text, first, second, inside) (ap (λ (u : TriByte). Some (u, rest)) (b.is_built t))
+
+-- ---- a register's number
+
+pub register_take : WordLaws → (bs : List ℕ) (z : ℕ × List ℕ) → register_at bs ≡ Some z → (bs ≡ hex_digits z.0 2 ++ z.1) × (z.0 < 32)
+unfolding register_at
+register_take k bs z e =
+    let r = bind_some (digits_at 2 bs) _ z e in
+    let last = tested (nat_lt r.0.0 32) r.0 z r.2 in
+    let low : r.0.0 < 32 = grind (arith, nat_tests, last.0) in
+    let P : ℕ × List ℕ → Type 0 = λ y. (bs ≡ hex_digits y.0 2 ++ y.1) × (y.0 < 32) in
+    subst P last.1 ((digits_take k 2 bs r.0 r.1).0, low)
+
+pub register_again : WordLaws → (r : ℕ) (rest : List ℕ) → r < 32 → register_at (hex_digits r 2 ++ rest) ≡ Some (r, rest)
+unfolding register_at
+register_again k r rest h =
+    let low : nat_lt r 32 ≡ true = grind (arith, nat_tests, h) in
+    rw (digits_again k 2 r rest (omega (arith, h)), low) refl
+
+-- ---- a decimal, and a number behind a comma and a mark
+
+pub offset_take : WordLaws → (bs : List ℕ) (n : ℕ) → offset_in bs ≡ Some n → (bs ≡ decimal n) × (n ≤ SIZE)
+offset_take k bs n e =
+    let d = map_some (dec_at SIZE (bs ∷ [])) (λ x. x.0) n e in
+    let t = k.dec_takes SIZE d.0.0 (bs ∷ []) d.0.1 (lit< tt) d.1 in
+    let P : ℕ → Type 0 = λ y. (bs ≡ decimal y) × (y ≤ SIZE) in
+    subst P d.2 ((cons_is bs (decimal d.0.0) [] d.0.1 t.0).0, t.1)
+
+pub offset_again : WordLaws → (n : ℕ) → n ≤ SIZE → offset_in (decimal n) ≡ Some n
+offset_again k n h = rw (k.dec_taken SIZE n [] (lit< tt) h) refl
+
+pub marked_take : WordLaws → (mark digits : ℕ) (bs : List ℕ) (n : ℕ) → marked_in mark digits bs ≡ Some n → (bs ≡ 44 ∷ mark ∷ hex_digits n digits) × (n < 16 ^ digits)
+unfolding marked_in
+marked_take k mark digits bs n e =
+    let c = bind_some (letter_at bs) _ n e in
+    let m = bind_some (letter_at c.0.1) _ n c.2 in
+    let d = bind_some (digits_at digits m.0.1) _ n m.2 in
+    let last = tested (c.0.0 == 44 && m.0.0 == mark && is_end d.0.1) d.0.0 n d.2 in
+    let t = three (c.0.0 == 44) (m.0.0 == mark) (is_end d.0.1) last.0 in
+    let number = digits_take k digits m.0.1 d.0 d.1 in
+    let whole : m.0.1 ≡ hex_digits d.0.0 digits = number.0 ∙ ap (λ (xs : List ℕ). hex_digits d.0.0 digits ++ xs) (end_is d.0.1 t.2) ∙ append-nil (hex_digits d.0.0 digits) in
+    let P : ℕ → Type 0 = λ y. (bs ≡ 44 ∷ mark ∷ hex_digits y digits) × (y < 16 ^ digits) in
+    subst P last.1 (
+      letter_take bs c.0 c.1 ∙ ap₂ (λ (x : ℕ) (xs : List ℕ). x ∷ xs) (eqb-true c.0.0 44 t.0) (letter_take c.0.1 m.0 m.1 ∙ ap₂ (λ (x : ℕ) (xs : List ℕ). x ∷ xs) (eqb-true m.0.0 mark t.1) whole),
+      number.1,
+    )
+
+pub marked_again : WordLaws → (mark digits n : ℕ) → n < 16 ^ digits → marked_in mark digits (44 ∷ mark ∷ hex_digits n digits) ≡ Some n
+unfolding marked_in
+marked_again k mark digits n h =
+    let number = digits_again k digits n [] h in
+    let none = append-nil (hex_digits n digits) in
+    let d : digits_at digits (hex_digits n digits) ≡ Some (n, []) = ap (digits_at digits) (sym none) ∙ number in
+    rw (d, same_number mark) refl

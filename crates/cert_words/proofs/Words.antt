@@ -1,0 +1,394 @@
+-- The words of values, slots, flags, carry tags and forms: what is read is spelled so, and what is spelled is read.
+use Rattle.std.proofs.Common.{ℕ, ◌-◌, ◌%◌, ◌<◌, ◌≤◌, ◌≡◌, ◌==◌, ◌&&◌, inl, inr, List, [], ◌∷◌, ◌++◌, length, take, drop, codes, Bool, true, false, refl, ap, ap₂, sym, ◌∙◌, arith, Some, cond, nat_lt, subst, length-append}
+use Rattle.std.proofs.lemmas.Bool.{eqb-true, false≢true}
+use Rattle.std.proofs.lemmas.Bool.Decides.{nat_tests}
+use Rattle.std.proofs.lemmas.List.{take-append-drop, append-nil}
+use Rattle.std.proofs.lemmas.Slice.Eq.{bytes_eq-Decides}
+use Rattle.std.proofs.Math.Seq.{take-append_seam, drop-append_seam}
+use Rattle.std.specs.Int.{bit_at}
+use Rattle.std.specs.Str.{bytes_eq}
+use Rattle.std.specs.Fmt.{decimal}
+use Rattle.avr_model.specs.State.{SIZE}
+use Rattle.sb_base.specs.Digits.{hex_digits}
+use Rattle.sb_base.specs.Lines.{Lacks}
+use Rattle.line_reading.specs.Words.{WordLaws, IsWord}
+use Rattle.line_reading.proofs.Steps.{chosen, some_is, none_some, bind_some, both}
+use Rattle.bit_domain.specs.declared.bits.Tri.TheVariants.{Zero, One, Any}
+use Rattle.bit_domain.specs.declared.bytes.TriByte.{TriByte}
+use Rattle.bit_domain.specs.TriByte.{tri_of, tri_at}
+use Rattle.bit_domain.specs.Laws.{BytesAreTheirBits, BytesAreSets}
+use Rattle.sp_domain.specs.declared.tags.Tag.{Tag}
+use Rattle.sp_domain.specs.declared.tags.Tag.TheVariants as tag
+use Rattle.sp_domain.specs.declared.tags.CarryTag.{CarryTag}
+use Rattle.sp_domain.specs.declared.tags.CarryTag.TheVariants as carry
+use Rattle.sp_domain.specs.declared.slots.Slot.{Slot}
+use Rattle.sp_domain.specs.declared.slots.Slot.TheVariants.{Free, Guarded}
+use Rattle.abs_state.specs.declared.values.AbsByte.{AbsByte}
+use Rattle.abs_state.specs.Formed.{NamesRegister}
+use Rattle.mask_states.specs.declared.keys.High.{High}
+use Rattle.mask_states.specs.declared.keys.High.TheVariants as high
+use Rattle.mask_states.specs.declared.keys.SpForm.{SpForm}
+use Rattle.mask_states.specs.declared.keys.SpForm.TheVariants.{Closed, Open}
+use Rattle.local_rules.specs.Cover.{TagFits}
+use Rattle.cert_words.specs.Spelling.{bits_text, tag_text, value_word, entry_text, flags_word, carry_word, slot_word, high_text, form_word}
+use Rattle.cert_words.specs.Reading.{letter_at, digits_at, is_end, bits_at, register_at, tag_by, tag_at, value_in, slot_in, entry_by, flags_in, borrow_in, carry_in, offset_in, marked_in, high_in, high_size, open_in, form_in}
+use Rattle.cert_words.specs.Fits.{IsTag, AreFlags, IsCarry, IsSlot, IsHigh, IsForm}
+use Rattle.cert_words.specs.Laws.{ValueWords}
+use Rattle.cert_words.proofs.Pieces.{map_some, end_is, letter_take, tested, length_hex, digits_take, digits_again, bits_take, bits_again, register_take, register_again, offset_take, offset_again, marked_take, marked_again}
+
+abbrev front : ℕ → List ℕ → List ℕ
+front x xs = x ∷ xs
+
+-- ---- tags
+
+record IsTagOf (letter : ℕ) (bs : List ℕ) (z : Tag × List ℕ) : Type 0 where
+  pub text : letter ∷ bs ≡ tag_text z.0 ++ z.1
+  pub names : NamesRegister z.0
+  pub fits : TagFits z.0
+
+tag_by_take : WordLaws → (letter : ℕ) (bs : List ℕ) (z : Tag × List ℕ) → tag_by letter bs ≡ Some z → IsTagOf letter bs z
+unfolding tag_by
+tag_by_take k letter bs z e =
+    let P : Tag × List ℕ → Type 0 = λ y. IsTagOf letter bs y in
+    elim (chosen (letter == 101) _ _ (Some z) e) [
+      | inl h ↦
+          let r = map_some (register_at bs) (λ x. (tag.Entry x.0, x.1)) z h.1 in
+          let d = register_take k bs r.0 r.1 in
+          subst P r.2 (record { text = ap₂ front (eqb-true letter 101 h.0) d.0; names = d.1; fits = tt })
+      | inr h ↦ elim (chosen (letter == 102) _ _ (Some z) h.1) [
+        | inl g ↦ subst P (some_is {A = Tag × List ℕ} (tag.EntryFlags, bs) z g.1) (record { text = ap (λ (x : ℕ). x ∷ bs) (eqb-true letter 102 g.0); names = tt; fits = tt })
+        | inr g ↦ elim (chosen (letter == 108) _ _ (Some z) g.1) [
+          | inl f ↦
+              let j = map_some (digits_at 2 bs) (λ x. (tag.SpLo x.0, x.1)) z f.1 in
+              let d = digits_take k 2 bs j.0 j.1 in
+              subst P j.2 (record { text = ap₂ front (eqb-true letter 108 f.0) d.0; names = tt; fits = omega (arith, d.1) })
+          | inr f ↦ elim (chosen (letter == 104) _ _ (Some z) f.1) [
+            | inl a ↦
+                let j = map_some (digits_at 4 bs) (λ x. (tag.SpHi x.0, x.1)) z a.1 in
+                let d = digits_take k 4 bs j.0 j.1 in
+                subst P j.2 (record { text = ap₂ front (eqb-true letter 104 a.0) d.0; names = tt; fits = omega (arith, d.1) })
+            | inr a ↦ absurd (none_some z a.1)
+          ]
+        ]
+      ]
+    ]
+
+not_root : (t : Tag) (root : Bool) → root ≡ false → root ≡ true → t ≡ tag.None
+not_root t root e h = absurd (false≢true (sym e ∙ h))
+
+tag_take : WordLaws → (root : Bool) (bs : List ℕ) (z : Tag × List ℕ) → tag_at root bs ≡ Some z → (bs ≡ tag_text z.0 ++ z.1) × IsTag root z.0
+unfolding tag_at
+tag_take k root bs z e =
+    let l = bind_some (letter_at bs) _ z e in
+    let first = letter_take bs l.0 l.1 in
+    let P : Tag × List ℕ → Type 0 = λ y. (bs ≡ tag_text y.0 ++ y.1) × IsTag root y.0 in
+    elim (chosen (l.0.0 == 45) _ _ (Some z) l.2) [
+      | inl h ↦ subst P (some_is {A = Tag × List ℕ} (tag.None, l.0.1) z h.1) (first ∙ ap (λ (x : ℕ). x ∷ l.0.1) (eqb-true l.0.0 45 h.0), record { names = tt; fits = tt; none = λ _. refl })
+      | inr h ↦ elim (chosen root _ _ (Some z) h.1) [
+        | inl g ↦ absurd (none_some z g.1)
+        | inr g ↦ let t = tag_by_take k l.0.0 l.0.1 z g.1 in (first ∙ t.text, record { names = t.names; fits = t.fits; none = not_root z.0 root g.0 })
+      ]
+    ]
+
+not_in_root : (root : Bool) (t : Tag) → (t ≡ tag.None → ⊥) → IsTag root t → root ≡ false
+not_in_root true t other h = absurd (other (h.none refl))
+not_in_root false t other h = refl
+
+tag_again : WordLaws → (root : Bool) (t : Tag) (rest : List ℕ) → IsTag root t → tag_at root (tag_text t ++ rest) ≡ Some (t, rest)
+unfolding tag_at tag_by
+tag_again k root tag.None rest h = refl
+tag_again k root (tag.Entry r) rest h = rw (not_in_root root (tag.Entry r) (λ e. cc) h, register_again k r rest h.names) refl
+tag_again k root tag.EntryFlags rest h = rw (not_in_root root tag.EntryFlags (λ e. cc) h) refl
+tag_again k root (tag.SpLo j) rest h = rw (not_in_root root (tag.SpLo j) (λ e. cc) h, digits_again k 2 j rest (omega (arith, h.fits))) refl
+tag_again k root (tag.SpHi j) rest h = rw (not_in_root root (tag.SpHi j) (λ e. cc) h, digits_again k 4 j rest (omega (arith, h.fits))) refl
+
+-- ---- values and slots
+
+value_take : WordLaws → BytesAreTheirBits → (root : Bool) (w : List ℕ) (v : AbsByte) → value_in root w ≡ Some v → (w ≡ value_word v) × IsTag root v.tag
+unfolding value_in
+value_take k b root w v e =
+    let t = bind_some (tag_at root w) _ v e in
+    let n = bind_some (bits_at t.0.1) _ v t.2 in
+    let last = tested {A = AbsByte} (is_end n.0.1) (record { tag = t.0.0; bits = n.0.0 }) v n.2 in
+    let first = tag_take k root w t.0 t.1 in
+    let bits = bits_take k b t.0.1 n.0 n.1 ∙ ap (λ (xs : List ℕ). bits_text n.0.0 ++ xs) (end_is n.0.1 last.0) ∙ append-nil (bits_text n.0.0) in
+    let P : AbsByte → Type 0 = λ y. (w ≡ value_word y) × IsTag root y.tag in
+    subst P last.1 (first.0 ∙ ap (λ (xs : List ℕ). tag_text t.0.0 ++ xs) bits, first.1)
+
+bits_alone : WordLaws → BytesAreTheirBits → BytesAreSets → (t : TriByte) → bits_at (bits_text t) ≡ Some (t, [])
+bits_alone k b s t = ap bits_at (sym (append-nil (bits_text t))) ∙ bits_again k b s t []
+
+value_again : WordLaws → BytesAreTheirBits → BytesAreSets → (root : Bool) (v : AbsByte) → IsTag root v.tag → value_in root (value_word v) ≡ Some v
+unfolding value_in
+value_again k b s root v h = rw (tag_again k root v.tag (bits_text v.bits) h, bits_alone k b s v.bits) refl
+
+slot_take : WordLaws → BytesAreTheirBits → (root : Bool) (w : List ℕ) (s : Slot AbsByte) → slot_in root w ≡ Some s → (w ≡ slot_word s) × IsSlot root s
+unfolding slot_in
+slot_take k b root w s e =
+    let P : Slot AbsByte → Type 0 = λ y. (w ≡ slot_word y) × IsSlot root y in
+    elim (chosen (bytes_eq w (codes ".")) _ _ (Some s) e) [
+      | inl h ↦ subst P (some_is {A = Slot AbsByte} Free s h.1) ((bytes_eq-Decides w (codes ".")).0 h.0, tt)
+      | inr h ↦ let v = map_some (value_in root w) (λ x. Guarded x) s h.1 in subst P v.2 (value_take k b root w v.0 v.1)
+    ]
+
+not_free : (t : Tag) (xs : List ℕ) → bytes_eq (tag_text t ++ xs) (codes ".") ≡ false
+not_free tag.None xs = refl
+not_free (tag.Entry r) xs = refl
+not_free tag.EntryFlags xs = refl
+not_free (tag.SpLo j) xs = refl
+not_free (tag.SpHi j) xs = refl
+
+slot_again : WordLaws → BytesAreTheirBits → BytesAreSets → (root : Bool) (t : Slot AbsByte) → IsSlot root t → slot_in root (slot_word t) ≡ Some t
+unfolding slot_in
+slot_again k b s root Free h = refl
+slot_again k b s root (Guarded v) h = rw (not_free v.tag (bits_text v.bits), value_again k b s root v h) refl
+
+-- ---- flags
+
+entry_take : (root : Bool) (letter : ℕ) (entry : Bool) → entry_by root letter ≡ Some entry → (letter ∷ [] ≡ entry_text entry) × (root ≡ true → entry ≡ false)
+entry_take root letter entry e =
+    let P : Bool → Type 0 = λ y. (letter ∷ [] ≡ entry_text y) × (root ≡ true → y ≡ false) in
+    elim (chosen (letter == 45) _ _ (Some entry) e) [
+      | inl h ↦ subst P (some_is false entry h.1) (ap (λ (x : ℕ). x ∷ []) (eqb-true letter 45 h.0), λ _. refl)
+      | inr h ↦ elim (chosen root _ _ (Some entry) h.1) [
+        | inl g ↦ absurd (none_some entry g.1)
+        | inr g ↦ let t = tested (letter == 102) true entry g.1 in subst P t.1 (ap (λ (x : ℕ). x ∷ []) (eqb-true letter 102 t.0), λ r. absurd (false≢true (sym g.0 ∙ r)))
+      ]
+    ]
+
+low_bit_7 : (n : ℕ) → n < 128 → bit_at n 7 ≡ 0
+low_bit_7 n h = omega (arith, h)
+
+high_bit_7 : (n : ℕ) → n % 256 ≡ n → bit_at n 7 ≡ 0 → n < 128
+high_bit_7 n small e = omega (arith, small, e)
+
+unknown_if : (t : TriByte) → nat_lt t.known 128 ≡ true → tri_at t 7 ≡ Any
+unknown_if t h = let low : t.known < 128 = grind (arith, nat_tests, h) in rw (low_bit_7 t.known low) refl
+
+zero_any : Zero ≡ Any → ⊥
+zero_any e = cc
+
+one_any : One ≡ Any → ⊥
+one_any e = cc
+
+tri_any : (known value : ℕ) → tri_of known value ≡ Any → known ≡ 0
+tri_any known value e = elim (chosen (known == 0) Any (cond (value == 0) Zero One) Any e) [
+  | inl h ↦ eqb-true known 0 h.0
+  | inr h ↦ elim (chosen (value == 0) Zero One Any h.1) [
+    | inl g ↦ absurd (zero_any g.1)
+    | inr g ↦ absurd (one_any g.1)
+  ]
+]
+
+known_if : (t : TriByte) → tri_at t 7 ≡ Any → nat_lt t.known 128 ≡ true
+known_if t h = let low = high_bit_7 t.known t.small (tri_any (bit_at t.known 7) (bit_at t.value 7) h) in grind (arith, nat_tests, low)
+
+flags_take : WordLaws → BytesAreTheirBits → (root : Bool) (w : List ℕ) (entry : Bool) (bits : TriByte) → flags_in root w ≡ Some (entry, bits) → (w ≡ flags_word entry bits) × AreFlags root entry bits
+unfolding flags_in
+flags_take k b root w entry bits e =
+    let z : Bool × TriByte = (entry, bits) in
+    let l = bind_some (letter_at w) _ z e in
+    let n = bind_some (entry_by root l.0.0) _ z l.2 in
+    let t = bind_some (bits_at l.0.1) _ z n.2 in
+    let last = tested {A = Bool × TriByte} (nat_lt t.0.0.known 128 && is_end t.0.1) (n.0, t.0.0) z t.2 in
+    let tests = both (nat_lt t.0.0.known 128) (is_end t.0.1) last.0 in
+    let first = entry_take root l.0.0 n.0 n.1 in
+    let text = bits_take k b l.0.1 t.0 t.1 ∙ ap (λ (xs : List ℕ). bits_text t.0.0 ++ xs) (end_is t.0.1 tests.1) ∙ append-nil (bits_text t.0.0) in
+    let P : Bool × TriByte → Type 0 = λ y. (w ≡ flags_word y.0 y.1) × AreFlags root y.0 y.1 in
+    subst P last.1 (letter_take w l.0 l.1 ∙ ap₂ (λ (xs ys : List ℕ). xs ++ ys) first.0 text, record { bit_7 = unknown_if t.0.0 tests.0; none = first.1 })
+
+entry_again : (root entry : Bool) → (root ≡ true → entry ≡ false) → (letter : ℕ) × (entry_text entry ≡ letter ∷ []) × (entry_by root letter ≡ Some entry)
+entry_again root false h = (45, refl, refl)
+entry_again false true h = (102, refl, refl)
+entry_again true true h = absurd (false≢true (sym (h refl)))
+
+flags_by_letter : WordLaws → BytesAreTheirBits → BytesAreSets → (root entry : Bool) (letter : ℕ) (bits : TriByte) → entry_by root letter ≡ Some entry → tri_at bits 7 ≡ Any → flags_in root (letter ∷ bits_text bits) ≡ Some (entry, bits)
+unfolding flags_in
+flags_by_letter k b s root entry letter bits e h = rw (e, bits_alone k b s bits, known_if bits h) refl
+
+flags_again : WordLaws → BytesAreTheirBits → BytesAreSets → (root entry : Bool) (bits : TriByte) → AreFlags root entry bits → flags_in root (flags_word entry bits) ≡ Some (entry, bits)
+flags_again k b s root entry bits h =
+    let l = entry_again root entry h.none in
+    ap (λ (xs : List ℕ). flags_in root (xs ++ bits_text bits)) l.1 ∙ flags_by_letter k b s root entry l.0 bits l.2 h.bit_7
+
+-- ---- carry tags
+
+borrow_take : WordLaws → (bs : List ℕ) (c : CarryTag) → borrow_in bs ≡ Some c → (98 ∷ bs ≡ carry_word c) × ((root : Bool) → root ≡ false → IsCarry root c)
+unfolding borrow_in
+borrow_take k bs c e =
+    let j = bind_some (digits_at 2 bs) _ c e in
+    let l = bind_some (digits_at 2 j.0.1) _ c j.2 in
+    let last = tested {A = CarryTag} (is_end l.0.1) (carry.Borrow j.0.0 l.0.0) c l.2 in
+    let first = digits_take k 2 bs j.0 j.1 in
+    let second = digits_take k 2 j.0.1 l.0 l.1 in
+    let text = second.0 ∙ ap (λ (xs : List ℕ). hex_digits l.0.0 2 ++ xs) (end_is l.0.1 last.0) ∙ append-nil (hex_digits l.0.0 2) in
+    let P : CarryTag → Type 0 = λ y. (98 ∷ bs ≡ carry_word y) × ((root : Bool) → root ≡ false → IsCarry root y) in
+    subst P last.1 (
+      ap (front 98) (first.0 ∙ ap (λ (xs : List ℕ). hex_digits j.0.0 2 ++ xs) text),
+      λ root r. record { bytes = (omega (arith, first.1), omega (arith, second.1)); none = λ t. absurd (false≢true (sym r ∙ t)) },
+    )
+
+carry_take : WordLaws → (root : Bool) (w : List ℕ) (c : CarryTag) → carry_in root w ≡ Some c → (w ≡ carry_word c) × IsCarry root c
+unfolding carry_in
+carry_take k root w c e =
+    let P : CarryTag → Type 0 = λ y. (w ≡ carry_word y) × IsCarry root y in
+    elim (chosen (bytes_eq w (codes "-")) _ _ (Some c) e) [
+      | inl h ↦ subst P (some_is {A = CarryTag} carry.None c h.1) ((bytes_eq-Decides w (codes "-")).0 h.0, record { bytes = tt; none = λ _. refl })
+      | inr h ↦ elim (chosen root _ _ (Some c) h.1) [
+        | inl g ↦ absurd (none_some c g.1)
+        | inr g ↦
+            let l = bind_some (letter_at w) _ c g.1 in
+            elim (chosen (l.0.0 == 98) _ _ (Some c) l.2) [
+              | inl f ↦ let b = borrow_take k l.0.1 c f.1 in (letter_take w l.0 l.1 ∙ ap (λ (x : ℕ). x ∷ l.0.1) (eqb-true l.0.0 98 f.0) ∙ b.0, b.1 root g.0)
+              | inr f ↦ absurd (none_some c f.1)
+            ]
+      ]
+    ]
+
+not_carried : (root : Bool) (j l : ℕ) → IsCarry root (carry.Borrow j l) → root ≡ false
+not_carried true j l h = let bad = h.none refl in cc
+not_carried false j l h = refl
+
+borrow_again : WordLaws → (j l : ℕ) → j < 256 → l < 256 → borrow_in (hex_digits j 2 ++ hex_digits l 2) ≡ Some (carry.Borrow j l)
+unfolding borrow_in
+borrow_again k j l h g =
+    let second : digits_at 2 (hex_digits l 2) ≡ Some (l, []) = ap (digits_at 2) (sym (append-nil (hex_digits l 2))) ∙ digits_again k 2 l [] (omega (arith, g)) in
+    rw (digits_again k 2 j (hex_digits l 2) (omega (arith, h)), second) refl
+
+carry_again : WordLaws → (root : Bool) (c : CarryTag) → IsCarry root c → carry_in root (carry_word c) ≡ Some c
+unfolding carry_in
+carry_again k root carry.None h = refl
+carry_again k root (carry.Borrow j l) h = rw (not_carried root j l h, borrow_again k j l h.bytes.0 h.bytes.1) refl
+
+-- ---- forms of the stack pointer
+
+high_take : WordLaws → (root : Bool) (bs : List ℕ) (h : High) → high_in root bs ≡ Some h → (bs ≡ high_text h) × IsHigh root h
+high_take k true bs h e =
+    let n = map_some (marked_in 107 2 bs) (λ x. high.Known x) h e in
+    let t = marked_take k 107 2 bs n.0 n.1 in
+    let P : High → Type 0 = λ y. (bs ≡ high_text y) × IsHigh true y in
+    subst P n.2 (t.0, omega (arith, t.1))
+high_take k false bs h e =
+    let n = map_some (marked_in 116 4 bs) (λ x. high.Tag x) h e in
+    let t = marked_take k 116 4 bs n.0 n.1 in
+    let P : High → Type 0 = λ y. (bs ≡ high_text y) × IsHigh false y in
+    subst P n.2 (t.0, omega (arith, t.1))
+
+high_again : WordLaws → (root : Bool) (h : High) → IsHigh root h → high_in root (high_text h) ≡ Some h
+high_again k true (high.Known byte) h = rw (marked_again k 107 2 byte (omega (arith, h))) refl
+high_again k true (high.Tag j) h = absurd h
+high_again k false (high.Known byte) h = absurd h
+high_again k false (high.Tag j) h = rw (marked_again k 116 4 j (omega (arith, h))) refl
+
+high_length : (root : Bool) (h : High) → IsHigh root h → length (high_text h) ≡ high_size root
+high_length true (high.Known byte) h = omega (arith, length_hex byte 2)
+high_length true (high.Tag j) h = absurd h
+high_length false (high.Known byte) h = absurd h
+high_length false (high.Tag j) h = omega (arith, length_hex j 4)
+
+open_take : WordLaws → (root : Bool) (bs : List ℕ) (f : SpForm) → open_in root bs ≡ Some f → (111 ∷ bs ≡ form_word f) × IsForm root f
+unfolding open_in
+open_take k root bs f e = elim (chosen (nat_lt (length bs) (high_size root)) _ _ (Some f) e) [
+  | inl h ↦ absurd (none_some f h.1)
+  | inr h ↦
+      let i = length bs - high_size root in
+      let n = bind_some (offset_in (take i bs)) _ f h.1 in
+      let g = bind_some (high_in root (drop i bs)) _ f n.2 in
+      let number = offset_take k (take i bs) n.0 n.1 in
+      let byte = high_take k root (drop i bs) g.0 g.1 in
+      let P : SpForm → Type 0 = λ y. (111 ∷ bs ≡ form_word y) × IsForm root y in
+      subst P (some_is (Open n.0 g.0) f g.2) (ap (front 111) (sym (take-append-drop i bs) ∙ ap₂ (λ (xs ys : List ℕ). xs ++ ys) number.0 byte.0), (number.1, byte.1))
+]
+
+open_again : WordLaws → (root : Bool) (n : ℕ) (h : High) → n ≤ SIZE → IsHigh root h → open_in root (decimal n ++ high_text h) ≡ Some (Open n h)
+unfolding open_in
+open_again k root n h small fits =
+    let ds = decimal n in
+    let hs = high_text h in
+    let size = high_length root h fits in
+    let all = length-append ds hs in
+    let long : nat_lt (length (ds ++ hs)) (high_size root) ≡ false = grind (arith, nat_tests, size, all) in
+    let place : length (ds ++ hs) - high_size root ≡ length ds = omega (arith, size, all) in
+    let first : take (length ds) (ds ++ hs) ≡ ds = take-append_seam ds hs in
+    let back : drop (length ds) (ds ++ hs) ≡ hs = drop-append_seam ds hs in
+    rw (long, place, first, back, offset_again k n small, high_again k root h fits) refl
+
+form_take : WordLaws → (root : Bool) (w : List ℕ) (f : SpForm) → form_in root w ≡ Some f → (w ≡ form_word f) × IsForm root f
+unfolding form_in
+form_take k root w f e =
+    let l = bind_some (letter_at w) _ f e in
+    let first = letter_take w l.0 l.1 in
+    let P : SpForm → Type 0 = λ y. (w ≡ form_word y) × IsForm root y in
+    elim (chosen (l.0.0 == 99) _ _ (Some f) l.2) [
+      | inl h ↦
+          let n = map_some (offset_in l.0.1) (λ x. Closed x) f h.1 in
+          let number = offset_take k l.0.1 n.0 n.1 in
+          subst P n.2 (first ∙ ap₂ front (eqb-true l.0.0 99 h.0) number.0, number.1)
+      | inr h ↦ elim (chosen (l.0.0 == 111) _ _ (Some f) h.1) [
+        | inl g ↦ let t = open_take k root l.0.1 f g.1 in (first ∙ ap (λ (x : ℕ). x ∷ l.0.1) (eqb-true l.0.0 111 g.0) ∙ t.0, t.1)
+        | inr g ↦ absurd (none_some f g.1)
+      ]
+    ]
+
+form_again : WordLaws → (root : Bool) (f : SpForm) → IsForm root f → form_in root (form_word f) ≡ Some f
+unfolding form_in
+form_again k root (Closed offset) h = rw (offset_again k offset h) refl
+form_again k root (Open offset h) g = rw (open_again k root offset h g.0 g.1) refl
+
+-- ---- no space and no line feed
+
+lacks_both : (c : ℕ) (a b : List ℕ) → Lacks c a → Lacks c b → Lacks c (a ++ b)
+lacks_both c [] b h g = g
+lacks_both c (x ∷ a) b h g = (h.0, lacks_both c a b h.1 g)
+
+pub joined_word : (a b : List ℕ) → IsWord a → IsWord b → IsWord (a ++ b)
+joined_word a b h g = (lacks_both 32 a b h.0 g.0, lacks_both 10 a b h.1 g.1)
+
+bits_word : WordLaws → BytesAreSets → (t : TriByte) → IsWord (bits_text t)
+bits_word k s t =
+    joined_word (hex_digits t.known 2) (hex_digits t.value 2) (k.hex_word t.known 2 (omega (arith, t.small))) (k.hex_word t.value 2 (omega (arith, (s.member t).0)))
+
+tag_is_word : WordLaws → (root : Bool) (t : Tag) → IsTag root t → IsWord (tag_text t)
+tag_is_word k root tag.None h = ((refl, tt), (refl, tt))
+tag_is_word k root (tag.Entry r) h = joined_word (codes "e") (hex_digits r 2) ((refl, tt), (refl, tt)) (k.hex_word r 2 (omega (arith, h.names)))
+tag_is_word k root tag.EntryFlags h = ((refl, tt), (refl, tt))
+tag_is_word k root (tag.SpLo j) h = joined_word (codes "l") (hex_digits j 2) ((refl, tt), (refl, tt)) (k.hex_word j 2 (omega (arith, h.fits)))
+tag_is_word k root (tag.SpHi j) h = joined_word (codes "h") (hex_digits j 4) ((refl, tt), (refl, tt)) (k.hex_word j 4 (omega (arith, h.fits)))
+
+value_is_word : WordLaws → BytesAreSets → (root : Bool) (v : AbsByte) → IsTag root v.tag → IsWord (value_word v)
+value_is_word k s root v h = joined_word (tag_text v.tag) (bits_text v.bits) (tag_is_word k root v.tag h) (bits_word k s v.bits)
+
+slot_is_word : WordLaws → BytesAreSets → (root : Bool) (t : Slot AbsByte) → IsSlot root t → IsWord (slot_word t)
+slot_is_word k s root Free h = ((refl, tt), (refl, tt))
+slot_is_word k s root (Guarded v) h = value_is_word k s root v h
+
+flags_are_word : WordLaws → BytesAreSets → (entry : Bool) (bits : TriByte) → IsWord (flags_word entry bits)
+flags_are_word k s true bits = joined_word (codes "f") (bits_text bits) ((refl, tt), (refl, tt)) (bits_word k s bits)
+flags_are_word k s false bits = joined_word (codes "-") (bits_text bits) ((refl, tt), (refl, tt)) (bits_word k s bits)
+
+carry_is_word : WordLaws → (root : Bool) (c : CarryTag) → IsCarry root c → IsWord (carry_word c)
+carry_is_word k root carry.None h = ((refl, tt), (refl, tt))
+carry_is_word k root (carry.Borrow j l) h =
+    joined_word (codes "b") (hex_digits j 2 ++ hex_digits l 2) ((refl, tt), (refl, tt))
+    (joined_word (hex_digits j 2) (hex_digits l 2) (k.hex_word j 2 (omega (arith, h.bytes.0))) (k.hex_word l 2 (omega (arith, h.bytes.1))))
+
+high_is_word : WordLaws → (root : Bool) (h : High) → IsHigh root h → IsWord (high_text h)
+high_is_word k true (high.Known byte) h = joined_word (codes ",k") (hex_digits byte 2) ((refl, (refl, tt)), (refl, (refl, tt))) (k.hex_word byte 2 (omega (arith, h)))
+high_is_word k true (high.Tag j) h = absurd h
+high_is_word k false (high.Known byte) h = absurd h
+high_is_word k false (high.Tag j) h = joined_word (codes ",t") (hex_digits j 4) ((refl, (refl, tt)), (refl, (refl, tt))) (k.hex_word j 4 (omega (arith, h)))
+
+form_is_word : WordLaws → (root : Bool) (f : SpForm) → IsForm root f → IsWord (form_word f)
+form_is_word k root (Closed offset) h = joined_word (codes "c") (decimal offset) ((refl, tt), (refl, tt)) (k.dec_word offset (omega (arith, h)))
+form_is_word k root (Open offset h) g =
+    joined_word (codes "o") (decimal offset ++ high_text h) ((refl, tt), (refl, tt))
+    (joined_word (decimal offset) (high_text h) (k.dec_word offset (omega (arith, g.0))) (high_is_word k root h g.1))
+
+-- ---- all of them
+
+pub value_words : WordLaws → BytesAreTheirBits → BytesAreSets → ValueWords
+value_words k b s = record {
+  spelled = record { value = value_take k b; slot = slot_take k b; flags = flags_take k b; carry = carry_take k; form = form_take k };
+  read = record { value = value_again k b s; slot = slot_again k b s; flags = flags_again k b s; carry = carry_again k; form = form_again k };
+  words = record { value = value_is_word k s; slot = slot_is_word k s; flags = flags_are_word k s; carry = carry_is_word k; form = form_is_word k };
+}

@@ -1,0 +1,45 @@
+-- The words of keys and of forms of nodes: what is read is spelled so, and what is spelled is read.
+use Rattle.std.specs.Prelude.{ℕ, ◌≡◌, ◌<◌, ◌≤◌, ◌^◌, ◌++◌, true, List, [], Some}
+use Rattle.std.specs.List.{AllByRecursion}
+use Rattle.line_reading.specs.Words.{IsWord}
+use Rattle.mask_states.specs.declared.keys.InstKey.{InstKey}
+use Rattle.mask_states.specs.declared.keys.NodeKey.{NodeKey}
+use Rattle.mask_states.specs.Keys.{offset_of}
+use Rattle.edge_rules.specs.declared.seeded.NodeForm.{NodeForm}
+use Rattle.certificate.specs.Insts.{fits_kind}
+use Rattle.certificate.specs.Claims.{IsKey, FitsAt}
+use Rattle.cert_words.specs.KeySpelling.{inst_key_words, place_words, form_words}
+use Rattle.cert_words.specs.KeyReading.{is_root, inst_key_at, node_key_at, form_at}
+
+-- a key that an instance may have
+pub record IsInstKey (key : InstKey) : Type 0 where
+  pub kind : fits_kind key.kind key.entry key.masks key.i ≡ true
+  pub masks : key.masks < 2 ^ 25
+
+pub record InstKeyWords : Type 0 where
+  pub spelled : (ws rest : List (List ℕ)) (key : InstKey) → inst_key_at ws ≡ Some (key, rest) → (ws ≡ inst_key_words key ++ rest) × IsInstKey key
+  pub read : (key : InstKey) (rest : List (List ℕ)) → IsInstKey key → inst_key_at (inst_key_words key ++ rest) ≡ Some (key, rest)
+  pub words : (key : InstKey) → IsInstKey key → AllByRecursion IsWord (inst_key_words key)
+
+-- the words are those of this node of the instance, and of what stands behind them
+pub record IsPlace (inst : InstKey) (ws rest : List (List ℕ)) (key : NodeKey) : Type 0 where
+  pub words : ws ≡ place_words key ++ rest
+  pub key_fits : IsKey key
+  pub same : inst ≡ key.inst
+
+pub record PlaceWords : Type 0 where
+  pub spelled : (inst : InstKey) (ws rest : List (List ℕ)) (key : NodeKey) → node_key_at inst ws ≡ Some (key, rest) → IsPlace inst ws rest key
+  pub read : (key : NodeKey) (rest : List (List ℕ)) → IsKey key → node_key_at key.inst (place_words key ++ rest) ≡ Some (key, rest)
+  pub words : (key : NodeKey) → IsKey key → AllByRecursion IsWord (place_words key)
+
+-- the form of the node of this number and key
+pub record FormWords : Type 0 where
+  pub spelled : (at : ℕ) (key : NodeKey) (ws rest : List (List ℕ)) (form : NodeForm) → IsKey key → form_at (is_root key.inst.kind) (offset_of key.sp) at ws ≡ Some (form, rest)
+      → (ws ≡ form_words form ++ rest) × FitsAt at key form
+  pub read : (at : ℕ) (key : NodeKey) (form : NodeForm) → at ≤ 65536 → FitsAt at key form → form_at (is_root key.inst.kind) (offset_of key.sp) at (form_words form) ≡ Some (form, [])
+  pub words : (at : ℕ) (key : NodeKey) (form : NodeForm) → at ≤ 65536 → FitsAt at key form → AllByRecursion IsWord (form_words form)
+
+pub record KeyWords : Type 0 where
+  pub insts : InstKeyWords
+  pub places : PlaceWords
+  pub forms : FormWords

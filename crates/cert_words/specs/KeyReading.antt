@@ -1,0 +1,97 @@
+-- Reading the words of keys, states and forms of nodes.
+use Rattle.std.specs.Prelude.{ℕ, zero, suc, ◌==◌, ◌^◌, nat_lt, Bool, true, false, List, [], ◌∷◌, ◌++◌, codes, Option, Some, None, if◌then◌else◌}
+use Rattle.std.specs.Option.{option_map}
+use Rattle.std.specs.Str.{bytes_eq}
+use Rattle.avr_model.specs.Image.{WORDS}
+use Rattle.line_reading.specs.Reading.{◌>>=◌, hex_at, dec_at}
+use Rattle.mask_states.specs.declared.keys.Kind.{Kind}
+use Rattle.mask_states.specs.declared.keys.Kind.TheVariants.{Root, Call, Vector}
+use Rattle.mask_states.specs.declared.keys.InstKey.{InstKey}
+use Rattle.mask_states.specs.declared.keys.NodeKey.{NodeKey}
+use Rattle.abs_state.specs.declared.values.AbsByte.{AbsByte}
+use Rattle.abs_state.specs.declared.values.AbsFlags.{AbsFlags}
+use Rattle.abs_state.specs.declared.state.AbsState.{AbsState}
+use Rattle.edge_rules.specs.declared.seeded.NodeForm.{NodeForm}
+use Rattle.edge_rules.specs.declared.seeded.NodeForm.TheVariants.{State, From}
+use Rattle.certificate.specs.Insts.{fits_kind}
+use Rattle.cert_words.specs.Reading.{letter_at, value_in, slot_in, flags_in, carry_in, form_in}
+
+-- ---- words
+
+-- the next word, read by itself
+abbrev pub word_by : {A : Type 0} → (List ℕ → Option A) → List (List ℕ) → Option (A × List (List ℕ))
+word_by f [] = None
+word_by f (w ∷ ws) = option_map (λ x. (x, ws)) (f w)
+
+-- so many words behind these, each read by itself
+unfoldable pub words_from : {A : Type 0} → (List ℕ → Option A) → List A → ℕ → List (List ℕ) → Option (List A × List (List ℕ))
+words_from f front zero ws = Some (front, ws)
+words_from f front (suc n) ws = word_by f ws >>= λ x. words_from f (front ++ x.0 ∷ []) n x.1
+
+-- enable bits in seven digits
+unfoldable pub masks_at : List (List ℕ) → Option (ℕ × List (List ℕ))
+masks_at ws = hex_at 7 ws >>= λ m. if nat_lt m.0 (2 ^ 25) then Some m else None
+
+-- 0 or 1
+abbrev pub flag_at : List (List ℕ) → Option (Bool × List (List ℕ))
+flag_at ws = option_map (λ n. (n.0 == 1, n.1)) (dec_at 1 ws)
+
+-- ---- instances
+
+-- the number of a vector behind its letter
+unfoldable pub vector_in : List ℕ → Option Kind
+vector_in w = letter_at w >>= λ l. if l.0 == 118 then option_map (λ n. Vector n.0) (dec_at 26 (l.1 ∷ [])) else None
+
+unfoldable pub kind_in : List ℕ → Option Kind
+kind_in w = if bytes_eq w (codes "root") then Some Root else (if bytes_eq w (codes "call") then Some Call else vector_in w)
+
+unfoldable pub inst_key_at : List (List ℕ) → Option (InstKey × List (List ℕ))
+inst_key_at ws = do
+  k ← word_by kind_in ws
+  e ← hex_at 4 k.1
+  m ← masks_at e.1
+  i ← flag_at m.1
+  if fits_kind k.0 e.0 m.0 i.0 then Some (record { kind = k.0; entry = e.0; masks = m.0; i = i.0 }, i.1) else None
+
+-- ---- nodes
+
+abbrev pub is_root : Kind → Bool
+is_root Root = true
+is_root Call = false
+is_root (Vector v) = false
+
+unfoldable pub node_key_at : InstKey → List (List ℕ) → Option (NodeKey × List (List ℕ))
+node_key_at inst ws = do
+  pc ← hex_at 4 ws
+  m ← masks_at pc.1
+  i ← flag_at m.1
+  d ← flag_at i.1
+  f ← word_by (form_in (is_root inst.kind)) d.1
+  if nat_lt pc.0 WORDS then Some (record { inst = inst; pc = pc.0; masks = m.0; i = i.0; delay = d.0; sp = f.0 }, f.1) else None
+
+unfoldable pub flags_at : Bool → List (List ℕ) → Option (AbsFlags × List (List ℕ))
+flags_at root ws = do
+  f ← word_by (flags_in root) ws
+  c ← word_by (carry_in root) f.1
+  Some (record { entry = f.0.0; bits = f.0.1; carry = c.0 }, c.1)
+
+-- a state whose first register has this value
+unfoldable pub state_behind : Bool → ℕ → AbsByte → List (List ℕ) → Option (AbsState × List (List ℕ))
+state_behind root offset first ws = do
+  r ← words_from (value_in root) (first ∷ []) 31 ws
+  f ← flags_at root r.1
+  s ← words_from (slot_in root) [] offset f.1
+  Some (record { registers = r.0; flags = f.0; slots = s.0 }, s.1)
+
+abbrev pub by_state : Option (AbsState × List (List ℕ)) → Option (NodeForm × List (List ℕ))
+by_state found = option_map (λ s. (State s.0, s.1)) found
+
+-- behind `from`: the number of a node before this one
+unfoldable pub from_behind : ℕ → List (List ℕ) → Option (NodeForm × List (List ℕ))
+from_behind at ws = dec_at 65535 ws >>= λ m. if nat_lt m.0 at then Some (From m.0, m.1) else None
+
+-- the form of the node of this number
+unfoldable pub form_at : Bool → ℕ → ℕ → List (List ℕ) → Option (NodeForm × List (List ℕ))
+form_at root offset at [] = None
+form_at root offset at (w ∷ ws) =
+    if bytes_eq w (codes "from") then from_behind at ws else (value_in root w >>= λ v. by_state (state_behind root offset v ws))

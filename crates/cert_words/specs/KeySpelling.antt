@@ -1,0 +1,43 @@
+-- The words of keys, states and forms of nodes. Source: own.
+use Rattle.std.specs.Prelude.{ℕ, List, [], ◌∷◌, ◌++◌, map, codes}
+use Rattle.std.specs.Fmt.{decimal}
+use Rattle.sb_base.specs.Digits.{hex_digits}
+use Rattle.mask_states.specs.declared.keys.Kind.{Kind}
+use Rattle.mask_states.specs.declared.keys.Kind.TheVariants.{Root, Call, Vector}
+use Rattle.mask_states.specs.declared.keys.InstKey.{InstKey}
+use Rattle.mask_states.specs.declared.keys.NodeKey.{NodeKey}
+use Rattle.abs_state.specs.declared.state.AbsState.{AbsState}
+use Rattle.edge_rules.specs.declared.seeded.NodeForm.{NodeForm}
+use Rattle.edge_rules.specs.declared.seeded.NodeForm.TheVariants.{State, From}
+use Rattle.witness_replay.specs.Spelling.{bit}
+use Rattle.cert_words.specs.Spelling.{value_word, flags_word, carry_word, slot_word, form_word}
+
+-- ---- keys
+
+abbrev pub kind_word : Kind → List ℕ
+kind_word Root = codes "root"
+kind_word Call = codes "call"
+kind_word (Vector v) = codes "v" ++ decimal v
+
+-- an instance: kind, entry, enable bits and I
+abbrev pub inst_key_words : InstKey → List (List ℕ)
+inst_key_words key = kind_word key.kind ∷ hex_digits key.entry 4 ∷ hex_digits key.masks 7 ∷ bit key.i ∷ []
+
+-- a node within its instance: word, enable bits, I, delay and form of the stack pointer
+abbrev pub place_words : NodeKey → List (List ℕ)
+place_words key = hex_digits key.pc 4 ∷ hex_digits key.masks 7 ∷ bit key.i ∷ bit key.delay ∷ form_word key.sp ∷ []
+
+-- a node with its instance
+abbrev pub node_key_words : NodeKey → List (List ℕ)
+node_key_words key = inst_key_words key.inst ++ place_words key
+
+-- ---- what is known at a node
+
+-- registers, flags, carry tag and slots
+abbrev pub state_words : AbsState → List (List ℕ)
+state_words s = map value_word s.registers ++ flags_word s.flags.entry s.flags.bits ∷ carry_word s.flags.carry ∷ map slot_word s.slots
+
+-- a state, or the number of the node that it comes from
+abbrev pub form_words : NodeForm → List (List ℕ)
+form_words (State s) = state_words s
+form_words (From m) = codes "from" ∷ decimal m ∷ []

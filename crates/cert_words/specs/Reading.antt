@@ -1,0 +1,140 @@
+-- Reading a word from its front: each reading gives a value and what stands behind it, or nothing. In the root's frame nothing is
+-- tagged.
+use Rattle.std.specs.Prelude.{ℕ, ◌-◌, ◌==◌, ◌&&◌, nat_lt, Bool, true, false, List, [], ◌∷◌, length, take, drop, codes, Option, Some, None, Result, Ok, Err, if◌then◌else◌}
+use Rattle.std.specs.Option.{option_map}
+use Rattle.std.specs.Int.{bit_at}
+use Rattle.std.specs.Int.RustNames.{bit_and}
+use Rattle.std.specs.Str.{bytes_eq}
+use Rattle.avr_model.specs.State.{SIZE}
+use Rattle.sb_base.specs.Digits.{hex_answer}
+use Rattle.sb_base.specs.declared.digits.DigitFault.{DigitFault}
+use Rattle.line_reading.specs.Reading.{◌>>=◌, dec_at}
+use Rattle.bit_domain.specs.declared.bytes.TriByte.{TriByte}
+use Rattle.bit_domain.specs.TriByte.{byte_of, tri_of}
+use Rattle.sp_domain.specs.declared.tags.Tag.{Tag}
+use Rattle.sp_domain.specs.declared.tags.Tag.TheVariants as tag
+use Rattle.sp_domain.specs.declared.tags.CarryTag.{CarryTag}
+use Rattle.sp_domain.specs.declared.tags.CarryTag.TheVariants as carry
+use Rattle.sp_domain.specs.declared.slots.Slot.{Slot}
+use Rattle.sp_domain.specs.declared.slots.Slot.TheVariants.{Free, Guarded}
+use Rattle.abs_state.specs.declared.values.AbsByte.{AbsByte}
+use Rattle.mask_states.specs.declared.keys.High.{High}
+use Rattle.mask_states.specs.declared.keys.High.TheVariants as high
+use Rattle.mask_states.specs.declared.keys.SpForm.{SpForm}
+use Rattle.mask_states.specs.declared.keys.SpForm.TheVariants.{Closed, Open}
+
+-- ---- pieces
+
+-- the first byte
+abbrev pub letter_at : List ℕ → Option (ℕ × List ℕ)
+letter_at [] = None
+letter_at (b ∷ bs) = Some (b, bs)
+
+abbrev pub number_before : Result ℕ DigitFault → List ℕ → Option (ℕ × List ℕ)
+number_before (Ok n) bs = Some (n, bs)
+number_before (Err e) bs = None
+
+-- a number in so many hexadecimal digits
+unfoldable pub digits_at : ℕ → List ℕ → Option (ℕ × List ℕ)
+digits_at count bs = if nat_lt (length bs) count then None else number_before (hex_answer (take count bs) count) (drop count bs)
+
+-- nothing is left
+abbrev pub is_end : List ℕ → Bool
+is_end [] = true
+is_end (b ∷ bs) = false
+
+-- ---- values
+
+-- the byte with these known bits, and their values
+abbrev pub tri_byte : ℕ → ℕ → TriByte
+tri_byte known value = byte_of (λ i. tri_of (bit_at known i) (bit_at value i))
+
+-- known bits and their values: no value is outside the known bits
+unfoldable pub bits_at : List ℕ → Option (TriByte × List ℕ)
+bits_at bs = do
+  k ← digits_at 2 bs
+  v ← digits_at 2 k.1
+  if bit_and v.0 k.0 == v.0 then Some (tri_byte k.0 v.0, v.1) else None
+
+-- the number of a register
+unfoldable pub register_at : List ℕ → Option (ℕ × List ℕ)
+register_at bs = digits_at 2 bs >>= λ r. if nat_lt r.0 32 then Some r else None
+
+-- what a letter and what follows it say
+unfoldable pub tag_by : ℕ → List ℕ → Option (Tag × List ℕ)
+tag_by letter bs =
+    if letter == 101 then option_map (λ r. (tag.Entry r.0, r.1)) (register_at bs)
+    else (if letter == 102 then Some (tag.EntryFlags, bs)
+    else (if letter == 108 then option_map (λ j. (tag.SpLo j.0, j.1)) (digits_at 2 bs)
+    else (if letter == 104 then option_map (λ k. (tag.SpHi k.0, k.1)) (digits_at 4 bs) else None)))
+
+unfoldable pub tag_at : Bool → List ℕ → Option (Tag × List ℕ)
+tag_at root bs = letter_at bs >>= λ l. if l.0 == 45 then Some (tag.None, l.1) else (if root then None else tag_by l.0 l.1)
+
+unfoldable pub value_in : Bool → List ℕ → Option AbsByte
+value_in root w = do
+  t ← tag_at root w
+  b ← bits_at t.1
+  if is_end b.1 then Some (record { tag = t.0; bits = b.0 }) else None
+
+unfoldable pub slot_in : Bool → List ℕ → Option (Slot AbsByte)
+slot_in root w = if bytes_eq w (codes ".") then Some Free else option_map (λ v. Guarded v) (value_in root w)
+
+-- ---- flags
+
+-- whether they are those at the frame's entry
+abbrev pub entry_by : Bool → ℕ → Option Bool
+entry_by root letter = if letter == 45 then Some false else (if root then None else (if letter == 102 then Some true else None))
+
+-- bit 7 is unknown
+unfoldable pub flags_in : Bool → List ℕ → Option (Bool × TriByte)
+flags_in root w = do
+  l ← letter_at w
+  e ← entry_by root l.0
+  b ← bits_at l.1
+  if nat_lt b.0.known 128 && is_end b.1 then Some (e, b.0) else None
+
+unfoldable pub borrow_in : List ℕ → Option CarryTag
+borrow_in bs = do
+  j ← digits_at 2 bs
+  l ← digits_at 2 j.1
+  if is_end l.1 then Some (carry.Borrow j.0 l.0) else None
+
+unfoldable pub carry_in : Bool → List ℕ → Option CarryTag
+carry_in root w =
+    if bytes_eq w (codes "-") then Some carry.None
+    else (if root then None else (letter_at w >>= λ l. if l.0 == 98 then borrow_in l.1 else None))
+
+-- ---- forms of the stack pointer
+
+abbrev pub offset_in : List ℕ → Option ℕ
+offset_in bs = option_map (λ n. n.0) (dec_at SIZE (bs ∷ []))
+
+-- a comma, a mark, and a number in so many digits
+unfoldable pub marked_in : ℕ → ℕ → List ℕ → Option ℕ
+marked_in mark digits bs = do
+  c ← letter_at bs
+  m ← letter_at c.1
+  n ← digits_at digits m.1
+  if c.0 == 44 && m.0 == mark && is_end n.1 then Some n.0 else None
+
+-- the root's high byte is known, and another's has a tag
+abbrev pub high_in : Bool → List ℕ → Option High
+high_in true bs = option_map (λ byte. high.Known byte) (marked_in 107 2 bs)
+high_in false bs = option_map (λ k. high.Tag k) (marked_in 116 4 bs)
+
+-- how many bytes it takes
+abbrev pub high_size : Bool → ℕ
+high_size true = 4
+high_size false = 6
+
+unfoldable pub open_in : Bool → List ℕ → Option SpForm
+open_in root bs =
+    if nat_lt (length bs) (high_size root) then None
+    else (do
+      n ← offset_in (take (length bs - high_size root) bs)
+      h ← high_in root (drop (length bs - high_size root) bs)
+      Some (Open n h))
+
+unfoldable pub form_in : Bool → List ℕ → Option SpForm
+form_in root w = letter_at w >>= λ l. if l.0 == 99 then option_map (λ n. Closed n) (offset_in l.1) else (if l.0 == 111 then open_in root l.1 else None)

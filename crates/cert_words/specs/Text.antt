@@ -1,0 +1,82 @@
+-- The one text of a certificate. Source: own.
+use Rattle.std.specs.Prelude.{ℕ, ◌+◌, List, [], ◌∷◌, ◌++◌, map, length, codes, Option, Some, None, if◌then◌else◌}
+use Rattle.std.specs.List.{flat_map}
+use Rattle.std.specs.Fmt.{decimal}
+use Rattle.avr_model.specs.declared.assumption.Entry.{Entry}
+use Rattle.sb_base.specs.Lines.{line}
+use Rattle.mask_states.specs.declared.keys.InstKey.{InstKey}
+use Rattle.mask_states.specs.declared.keys.NodeKey.{NodeKey}
+use Rattle.mask_states.specs.Order.{same_inst}
+use Rattle.edge_rules.specs.declared.seeded.NodeForm.{NodeForm}
+use Rattle.edge_rules.specs.Expansion.{Seeds}
+use Rattle.indirect_targets.specs.Spelling.{entry_words}
+use Rattle.witness_replay.specs.Spelling.{Plan, schedule_lines}
+use Rattle.certificate.specs.declared.instance.Inst.{Inst}
+use Rattle.certificate.specs.Claims.{Claim}
+use Rattle.cert_words.specs.KeySpelling.{inst_key_words, place_words, form_words}
+
+-- ---- lines
+
+-- a name and a number
+abbrev pub numbered : List ℕ → ℕ → List (List ℕ)
+numbered name n = name ∷ decimal n ∷ []
+
+-- the words of an instance's line
+abbrev pub inst_words : Inst → List (List ℕ)
+inst_words x = codes "inst" ∷ inst_key_words x.key ++ codes "rank" ∷ decimal x.rank ∷ codes "need" ∷ decimal x.need ∷ []
+
+-- the number of an instance's line, from 0
+abbrev pub place_of : InstKey → List Inst → ℕ
+place_of key [] = 0
+place_of key (x ∷ xs) = if same_inst x.key key then 0 else place_of key xs + 1
+
+-- the words of the line of a node whose instance has this number
+abbrev pub node_words_at : ℕ → NodeKey × NodeForm → List (List ℕ)
+node_words_at place n = codes "node" ∷ decimal place ∷ place_words n.0 ++ form_words n.1
+
+abbrev pub node_words : List Inst → NodeKey × NodeForm → List (List ℕ)
+node_words insts n = node_words_at (place_of n.0.inst insts) n
+
+-- ---- parts
+
+abbrev pub version : List (List ℕ)
+version = codes "stackcert" ∷ codes "1" ∷ []
+
+abbrev pub heading : ℕ → List (List (List ℕ))
+heading bound = version ∷ numbered (codes "bound") bound ∷ []
+
+abbrev pub entry_lines : List Entry → List (List (List ℕ))
+entry_lines entries = numbered (codes "assume") (length entries) ∷ map entry_words entries
+
+abbrev pub inst_lines : List Inst → List (List (List ℕ))
+inst_lines insts = numbered (codes "instances") (length insts) ∷ map inst_words insts
+
+abbrev pub node_lines : List Inst → Seeds → List (List (List ℕ))
+node_lines insts nodes = numbered (codes "nodes") (length nodes) ∷ map (node_words insts) nodes
+
+abbrev pub open_line : List (List ℕ)
+open_line = codes "witness" ∷ codes "open" ∷ []
+
+abbrev pub attained_line : List (List ℕ)
+attained_line = codes "witness" ∷ codes "attained" ∷ []
+
+-- the lines of a schedule, or of none
+abbrev pub witness_lines : Option Plan → List (List (List ℕ))
+witness_lines None = open_line ∷ []
+witness_lines (Some plan) = attained_line ∷ schedule_lines plan
+
+abbrev pub end_line : List (List ℕ)
+end_line = codes "end" ∷ []
+
+-- ---- the whole
+
+-- the lines before the schedule
+abbrev pub front_lines : Claim → List (List (List ℕ))
+front_lines c = heading c.bound ++ (entry_lines c.assumptions ++ (inst_lines c.instances ++ node_lines c.instances c.nodes))
+
+-- the lines of a certificate, each by its words
+abbrev pub certificate_lines : Claim → List (List (List ℕ))
+certificate_lines c = front_lines c ++ (witness_lines c.witness ++ end_line ∷ [])
+
+abbrev pub text_of : Claim → List ℕ
+text_of c = flat_map line (certificate_lines c)

@@ -1,0 +1,12 @@
+//! The words of certificates: the one spelling of values, keys and forms of nodes, the certificate's text made up of them, and
+//! readers of the words. Source: own.
+#![tactic(auto)]
+
+mod keys;
+pub mod laws;
+mod letters;
+mod state;
+mod values;
+
+pub use keys::{inst_key_of, is_root, node_key_of};
+pub use state::form_of;

@@ -1,0 +1,153 @@
+//! The words of what is known at a node.
+
+ghost use Rattle.std.specs.Prelude.{◌≡◌, ◌∷◌, [], IfOk};
+ghost use Rattle.std.specs.Option.{option_map};
+ghost use Rattle.cert_words.specs.Reading.{value_in, slot_in, flags_in, carry_in};
+ghost use Rattle.cert_words.specs.KeyReading.{word_by, words_from, flags_at, state_behind, by_state, from_behind, form_at};
+
+use crate::values::{carry_of, flags_of, slot_of, value_of};
+use abs_state::{AbsByte, AbsFlags, AbsState};
+use bit_domain::TriByte;
+use edge_rules::NodeForm;
+use line_reading::dec_word;
+use sb_base::Words;
+use sp_domain::{CarryTag, Slot, Slots};
+use std::alloc::{AllocError, Global};
+
+/// The value of the next word.
+fn next_value(words: &mut Words<'_>, root: bool) -> Option<AbsByte>
+    ensures { option_map (λ v. (v, words.new)) result ≡ word_by (value_in root) words.old }
+{
+    value_of(words.next()?, root)
+}
+
+/// The slot of the next word.
+fn next_slot(words: &mut Words<'_>, root: bool) -> Option<Slot<AbsByte>>
+    ensures { option_map (λ s. (s, words.new)) result ≡ word_by (slot_in root) words.old }
+{
+    slot_of(words.next()?, root)
+}
+
+/// The flags of the next word.
+fn next_flags(words: &mut Words<'_>, root: bool) -> Option<(bool, TriByte)>
+    ensures { option_map (λ f. (f, words.new)) result ≡ word_by (flags_in root) words.old }
+{
+    flags_of(words.next()?, root)
+}
+
+/// The carry tag of the next word.
+fn next_carry(words: &mut Words<'_>, root: bool) -> Option<CarryTag>
+    ensures { option_map (λ c. (c, words.new)) result ≡ word_by (carry_in root) words.old }
+{
+    carry_of(words.next()?, root)
+}
+
+/// All registers, of which the first has this value.
+fn registers_of(words: &mut Words<'_>, root: bool, first: AbsByte) -> Option<[AbsByte; 32]>
+    ensures { option_map (λ r. (r, words.new)) result ≡ words_from (value_in root) (first ∷ []) 31 words.old }
+{
+    let mut registers = [first; 32];
+    for r in 1..32 {
+        let Some(value) = next_value(words, root) else {
+            return None;
+        };
+        registers[r] = value;
+    }
+    Some(registers)
+}
+
+/// So many slots.
+fn slots_of(
+    alloc: Global,
+    words: &mut Words<'_>,
+    root: bool,
+    count: u16,
+) -> Result<Option<Slots<AbsByte>>, AllocError>
+    ensures { IfOk result (λ o. option_map (λ s. (s, words.new)) o ≡ words_from (slot_in root) [] count words.old) }
+{
+    let mut slots = Slots::new(alloc);
+    for _ in 0..count {
+        let Some(slot) = next_slot(words, root) else {
+            return Ok(None);
+        };
+        slots.push(slot)?;
+    }
+    Ok(Some(slots))
+}
+
+/// The flags and the carry tag.
+#[tactic(auto, unfolding(crate::specs::KeyReading::flags_at))]
+fn both_flags_of(words: &mut Words<'_>, root: bool) -> Option<AbsFlags>
+    ensures { option_map (λ f. (f, words.new)) result ≡ flags_at root words.old }
+{
+    let (entry, bits) = next_flags(words, root)?;
+    let carry = next_carry(words, root)?;
+    Some(AbsFlags { entry, bits, carry })
+}
+
+/// What is known at a node, where the first register has this value.
+#[tactic(auto, unfolding(crate::specs::KeyReading::state_behind))]
+fn state_of(
+    alloc: Global,
+    words: &mut Words<'_>,
+    root: bool,
+    offset: u16,
+    first: AbsByte,
+) -> Result<Option<AbsState>, AllocError>
+    ensures { IfOk result (λ o. option_map (λ s. (s, words.new)) o ≡ state_behind root offset first words.old) }
+{
+    let Some(registers) = registers_of(words, root, first) else {
+        return Ok(None);
+    };
+    let Some(flags) = both_flags_of(words, root) else {
+        return Ok(None);
+    };
+    let Some(slots) = slots_of(alloc, words, root, offset)? else {
+        return Ok(None);
+    };
+    Ok(Some(AbsState {
+        registers,
+        flags,
+        slots,
+    }))
+}
+
+/// The number of an earlier node than that of the number `at`.
+#[tactic(auto, unfolding(crate::specs::KeyReading::from_behind))]
+fn from_of(words: &mut Words<'_>, at: usize) -> Option<NodeForm>
+    ensures { option_map (λ f. (f, words.new)) result ≡ from_behind at words.old }
+{
+    let from = dec_word(words, 65_535)? as u32;
+    if (from as usize) < at {
+        Some(NodeForm::From(from))
+    } else {
+        None
+    }
+}
+
+/// The form of the node of the number `at` by its next words, whose frame is the root's or another and whose stack pointer has
+/// this offset: a state, or `from` and the number of an earlier node. None exactly where they are those of no such node.
+#[tactic(auto, unfolding(crate::specs::KeyReading::form_at))]
+pub fn form_of(
+    alloc: Global,
+    words: &mut Words<'_>,
+    root: bool,
+    offset: u16,
+    at: usize,
+) -> Result<Option<NodeForm>, AllocError>
+    ensures { IfOk result (λ o. option_map (λ f. (f, words.new)) o ≡ form_at root offset at words.old) }
+{
+    let Some(word) = words.next() else {
+        return Ok(None);
+    };
+    if word == b"from".as_slice() {
+        return Ok(from_of(words, at));
+    }
+    let Some(first) = value_of(word, root) else {
+        return Ok(None);
+    };
+    match state_of(alloc, words, root, offset, first)? {
+        Some(state) => Ok(Some(NodeForm::State(state))),
+        None => Ok(None),
+    }
+}

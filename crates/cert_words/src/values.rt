@@ -1,0 +1,249 @@
+//! The words of values, flags, carry tags, slots and forms of the stack pointer.
+
+ghost use Rattle.std.specs.Prelude.{◌≡◌, ◌≤◌, ◌<◌, ◌^◌, IfSome};
+ghost use Rattle.std.specs.Option.{option_map};
+ghost use Rattle.avr_model.specs.State.{SIZE};
+ghost use Rattle.sp_domain.specs.declared.tags.Tag.TheVariants as tag;
+ghost use Rattle.mask_states.specs.Keys.{offset_of};
+ghost use Rattle.cert_words.specs.Reading.{bits_at, register_at, tag_by, tag_at, value_in, slot_in, entry_by, flags_in, borrow_in, carry_in, offset_in, marked_in, high_in, high_size, open_in, form_in};
+
+use crate::letters::Letters;
+use abs_state::AbsByte;
+use bit_domain::TriByte;
+use mask_states::{High, SpForm};
+use sb_base::read_dec;
+use sp_domain::{CarryTag, Slot, Tag};
+
+/// The most that an offset can be.
+const SIZE: u64 = 2_048;
+
+/// Known bits and their values.
+#[tactic(auto, unfolding(crate::specs::Reading::bits_at))]
+fn bits_of(letters: &mut Letters<'_>) -> Option<TriByte>
+    ensures { option_map (λ t. (t, letters.new)) result ≡ bits_at letters.old }
+{
+    let known = letters.digits(2)? as u8;
+    let value = letters.digits(2)? as u8;
+    if value & known == value {
+        Some(TriByte::new(known, value))
+    } else {
+        None
+    }
+}
+
+/// The number of a register.
+#[tactic(auto, unfolding(crate::specs::Reading::register_at))]
+fn register_of(letters: &mut Letters<'_>) -> Option<u8>
+    ensures { option_map (λ r. (r, letters.new)) result ≡ register_at letters.old }
+{
+    let register = letters.digits(2)?;
+    if register < 32 {
+        Some(register as u8)
+    } else {
+        None
+    }
+}
+
+/// The tag that a letter begins, which isn't that of none.
+#[tactic(auto, unfolding(crate::specs::Reading::tag_by))]
+fn tag_of(letter: u8, letters: &mut Letters<'_>) -> Option<Tag>
+    ensures { option_map (λ t. (t, letters.new)) result ≡ tag_by letter letters.old }
+{
+    if letter == b'e' {
+        Some(Tag::Entry(register_of(letters)?))
+    } else if letter == b'f' {
+        Some(Tag::EntryFlags)
+    } else if letter == b'l' {
+        Some(Tag::SpLo(letters.digits(2)? as u8))
+    } else if letter == b'h' {
+        Some(Tag::SpHi(letters.digits(4)? as u16))
+    } else {
+        None
+    }
+}
+
+/// The tag of a value, which the root's frame hasn't.
+#[tactic(auto, unfolding(crate::specs::Reading::tag_at))]
+fn any_tag_of(letters: &mut Letters<'_>, root: bool) -> Option<Tag>
+    ensures { option_map (λ t. (t, letters.new)) result ≡ tag_at root letters.old }
+{
+    let letter = letters.next()?;
+    if letter == b'-' {
+        Some(Tag::None)
+    } else if root {
+        None
+    } else {
+        tag_of(letter, letters)
+    }
+}
+
+/// The value of a word.
+#[tactic(auto, unfolding(crate::specs::Reading::value_in))]
+pub(crate) fn value_of(word: &[u8], root: bool) -> Option<AbsByte>
+    ensures { result ≡ value_in root word.now }
+{
+    let mut letters = Letters::new(word);
+    let tag = any_tag_of(&mut letters, root)?;
+    let bits = bits_of(&mut letters)?;
+    if letters.is_end() {
+        Some(AbsByte { tag, bits })
+    } else {
+        None
+    }
+}
+
+/// The slot of a word.
+#[tactic(auto, unfolding(crate::specs::Reading::slot_in))]
+pub(crate) fn slot_of(word: &[u8], root: bool) -> Option<Slot<AbsByte>>
+    ensures { result ≡ slot_in root word.now }
+{
+    if word == b".".as_slice() {
+        Some(Slot::Free)
+    } else {
+        Some(Slot::Guarded(value_of(word, root)?))
+    }
+}
+
+/// Whether a letter says that the flags are those at the frame's entry.
+fn entry_of(letter: u8, root: bool) -> Option<bool>
+    ensures { result ≡ entry_by root letter }
+{
+    if letter == b'-' {
+        Some(false)
+    } else if root {
+        None
+    } else if letter == b'f' {
+        Some(true)
+    } else {
+        None
+    }
+}
+
+/// The flags of a word: whether they are those at the frame's entry, and their bits.
+#[tactic(auto, unfolding(crate::specs::Reading::flags_in))]
+pub(crate) fn flags_of(word: &[u8], root: bool) -> Option<(bool, TriByte)>
+    ensures { result ≡ flags_in root word.now }
+{
+    let mut letters = Letters::new(word);
+    let letter = letters.next()?;
+    let entry = entry_of(letter, root)?;
+    let bits = bits_of(&mut letters)?;
+    if bits.known < 128 && letters.is_end() {
+        Some((entry, bits))
+    } else {
+        None
+    }
+}
+
+/// The two numbers of a borrow.
+#[tactic(auto, unfolding(crate::specs::Reading::borrow_in))]
+fn borrow_of(letters: &mut Letters<'_>) -> Option<CarryTag>
+    ensures { result ≡ borrow_in letters.old }
+{
+    let first = letters.digits(2)? as u8;
+    let second = letters.digits(2)? as u8;
+    if letters.is_end() {
+        Some(CarryTag::Borrow(first, second))
+    } else {
+        None
+    }
+}
+
+/// The carry tag of a word.
+#[tactic(auto, unfolding(crate::specs::Reading::carry_in))]
+pub(crate) fn carry_of(word: &[u8], root: bool) -> Option<CarryTag>
+    ensures { result ≡ carry_in root word.now }
+{
+    if word == b"-".as_slice() {
+        return Some(CarryTag::None);
+    }
+    if root {
+        return None;
+    }
+    let mut letters = Letters::new(word);
+    if letters.next()? == b'b' {
+        borrow_of(&mut letters)
+    } else {
+        None
+    }
+}
+
+/// The offset that decimal digits stand for.
+fn offset_of(digits: &[u8]) -> Option<u16>
+    ensures exact { result ≡ offset_in digits.now }
+    ensures small { IfSome result (λ n. n ≤ SIZE) }
+{
+    match read_dec(digits, SIZE) {
+        Ok(number) => Some(number as u16),
+        Err(_) => None,
+    }
+}
+
+/// A number behind a comma and a mark.
+#[tactic(auto, unfolding(crate::specs::Reading::marked_in))]
+fn marked_of(text: &[u8], mark: u8, digits: usize) -> Option<u32>
+    requires some { 1 ≤ digits }
+    requires few { digits ≤ 8 }
+    ensures exact { result ≡ marked_in mark digits text.now }
+    ensures small { IfSome result (λ n. n < 16 ^ digits) }
+{
+    let mut letters = Letters::new(text);
+    let comma = letters.next()?;
+    let letter = letters.next()?;
+    let number = letters.digits(digits)?;
+    if comma == b',' && letter == mark && letters.is_end() {
+        Some(number)
+    } else {
+        None
+    }
+}
+
+/// The high byte of a half-written stack pointer.
+fn high_of(text: &[u8], root: bool) -> Option<High>
+    ensures { result ≡ high_in root text.now }
+{
+    if root {
+        Some(High::Known(marked_of(text, b'k', 2)? as u8))
+    } else {
+        Some(High::Tag(marked_of(text, b't', 4)? as u16))
+    }
+}
+
+/// How many bytes the high byte takes.
+fn high_size(root: bool) -> usize
+    ensures { result ≡ high_size root }
+{
+    if root { 4 } else { 6 }
+}
+
+/// The form of a half-written stack pointer.
+#[tactic(auto, unfolding(crate::specs::Reading::open_in))]
+fn open_of(text: &[u8], root: bool) -> Option<SpForm>
+    ensures exact { result ≡ open_in root text.now }
+    ensures small { IfSome result (λ f. offset_of f ≤ SIZE) }
+{
+    let size = high_size(root);
+    if text.len() < size {
+        return None;
+    }
+    let (digits, high) = text.split_at(text.len() - size);
+    let offset = offset_of(digits)?;
+    Some(SpForm::Open(offset, high_of(high, root)?))
+}
+
+/// The form of the stack pointer of a word.
+#[tactic(auto, unfolding(crate::specs::Reading::form_in))]
+pub(crate) fn form_of(word: &[u8], root: bool) -> Option<SpForm>
+    ensures exact { result ≡ form_in root word.now }
+    ensures small { IfSome result (λ f. offset_of f ≤ SIZE) }
+{
+    let mut letters = Letters::new(word);
+    let letter = letters.next()?;
+    if letter == b'c' {
+        Some(SpForm::Closed(offset_of(letters.rest())?))
+    } else if letter == b'o' {
+        open_of(letters.rest(), root)
+    } else {
+        None
+    }
+}
