@@ -18,7 +18,7 @@ const MOST_TARGETS: usize = 64;
 pub struct TooMany;
 
 /// The words to which an indirect transfer may lead: at most 64, ascending. Seen as the list of them.
-#[derive(Debug, Drop)]
+#[derive(Drop)]
 pub struct Targets {
     words: [u16; 64],
     count: usize,

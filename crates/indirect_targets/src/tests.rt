@@ -82,8 +82,8 @@ fn read_and_write(alloc: Global, text: &[u8]) -> Result<Result<usize, AssumeText
 
 #[test]
 fn texts_are_read_and_written_or_refused_at_their_line(rt: HostRuntime) -> Result<(), Fail> {
-    for (text, answer) in TEXTS {
-        assert_eq!(rt; read_and_write(rt.alloc(), text)?, answer);
+    for (at, (text, answer)) in TEXTS.iter().enumerate() {
+        assert!(rt; read_and_write(rt.alloc(), text)? == *answer, "row {at}");
     }
     Ok(())
 }
@@ -98,46 +98,45 @@ fn an_entry_has_at_most_64_items(rt: HostRuntime) -> Result<(), Fail> {
     }
     line.end_line()?;
     let mut text = line.finish();
-    assert_eq!(rt; read_and_write(rt.alloc(), &text)?, Ok(1));
+    let most = read_and_write(rt.alloc(), &text)?;
     text.pop();
     text.extend_from_slice(b" 0040\n")?;
-    assert_eq!(rt;
-        read_and_write(rt.alloc(), &text)?,
-        Err(AssumeText::Malformed(1))
-    );
+    let more = read_and_write(rt.alloc(), &text)?;
+    assert!(rt; [most, more] == [Ok(1), Err(AssumeText::Malformed(1))]);
     Ok(())
 }
 
-/// The lines `prove 0000`, `prove 0001`, and on.
-fn proofs(alloc: Global, count: u32) -> Result<Vec<u8>, Fail> {
+/// The answer to the lines `prove 0000`, `prove 0001`, and on to the 4,096th, with more behind them.
+fn behind_proofs(alloc: Global, more: &[u8]) -> Result<Result<usize, AssumeText>, Fail> {
     let mut out = LineWriter::new(alloc);
-    for site in 0..count {
+    for site in 0..4_096 {
         out.word(b"prove")?;
-        out.hex(site % 0x4000, 4)?;
+        out.hex(site, 4)?;
         out.end_line()?;
     }
-    Ok(out.finish())
+    let mut text = out.finish();
+    text.extend_from_slice(more)?;
+    read_and_write(alloc, &text)
 }
 
 #[test]
 fn line_4097_is_malformed_whatever_it_is(rt: HostRuntime) -> Result<(), Fail> {
-    let whole = proofs(rt.alloc(), 4_096)?;
-    assert_eq!(rt; read_and_write(rt.alloc(), &whole)?, Ok(4_096));
-    for more in [b"prove 1000\n".as_slice(), b"prove 0000\n", b"x"] {
-        let mut text = proofs(rt.alloc(), 4_096)?;
-        text.extend_from_slice(more)?;
-        assert_eq!(rt;
-            read_and_write(rt.alloc(), &text)?,
-            Err(AssumeText::Malformed(4_097))
-        );
-    }
+    let due = Err(AssumeText::Malformed(4_097));
+    let answers = [
+        behind_proofs(rt.alloc(), b"")?,
+        behind_proofs(rt.alloc(), b"prove 1000\n")?,
+        behind_proofs(rt.alloc(), b"prove 0000\n")?,
+        behind_proofs(rt.alloc(), b"x")?,
+    ];
+    assert!(rt; answers == [Ok(4_096), due, due, due]);
     Ok(())
 }
 
 #[test]
 fn a_line_alone_is_read_without_its_line_feed(rt: HostRuntime) -> Result<(), Fail> {
-    assert!(rt; entry_of(rt.alloc(), b"jump 0004 0005")?.is_some());
-    assert!(rt; entry_of(rt.alloc(), b"jump 0004 0005\n")?.is_none());
+    let alone = entry_of(rt.alloc(), b"jump 0004 0005")?;
+    let ended = entry_of(rt.alloc(), b"jump 0004 0005\n")?;
+    assert!(rt; alone.is_some() && ended.is_none());
     Ok(())
 }
 
@@ -171,26 +170,28 @@ const TARGETS: [(u8, u8, u8, u8, Option<&[u16]>); 8] = [
     (0x00, 0x00, 0x00, 0x00, None),
 ];
 
+/// Whether the words are those due, or too many where none are.
+fn are_due(low: TriByte, high: TriByte, due: Option<&[u16]>) -> bool {
+    match (targets(&low, &high), due) {
+        (Ok(words), Some(due)) => words.as_slice() == due,
+        (Err(_), None) => true,
+        _ => false,
+    }
+}
+
 #[test]
 fn targets_are_the_words_of_all_members(rt: HostRuntime) {
     for (low_known, low, high_known, high, due) in TARGETS {
-        let found = targets(
-            &TriByte::new(low_known, low),
-            &TriByte::new(high_known, high),
-        );
-        match (found, due) {
-            (Ok(words), Some(due)) => assert_eq!(rt; words.as_slice(), due),
-            (Ok(_), None) => assert!(rt; false, "{low_known} {high_known}"),
-            (Err(_), due) => assert!(rt; due.is_none(), "{low_known} {high_known}"),
-        }
+        let low = TriByte::new(low_known, low);
+        let high = TriByte::new(high_known, high);
+        assert!(rt; are_due(low, high, due), "{low_known} {high_known}");
     }
 }
 
 #[test]
 fn six_unknown_bits_give_64_targets(rt: HostRuntime) -> Result<(), Fail> {
-    let words = targets(&TriByte::new(0xC0, 0x40), &TriByte::of(0x01))?;
-    assert_eq!(rt; words.as_slice().len(), 64);
-    assert_eq!(rt; words.as_slice()[0], 0x0140);
-    assert_eq!(rt; words.as_slice()[63], 0x017F);
+    let targets = targets(&TriByte::new(0xC0, 0x40), &TriByte::of(0x01))?;
+    let words = targets.as_slice();
+    assert!(rt; words.len() == 64 && (words[0], words[63]) == (0x0140, 0x017F));
     Ok(())
 }
