@@ -1,0 +1,3 @@
+-- The laws, each under the name of the public function that carries it. Crates above cite them from here.
+pub use Rattle.call_graph.proofs.Answered.{answers_are_exact}
+pub use Rattle.call_graph.proofs.Returning.{exits_are_exact}

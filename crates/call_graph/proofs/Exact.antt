@@ -1,0 +1,292 @@
+-- The code's list is exactly the edges of the family.
+use Rattle.std.proofs.Common.{◌≡◌, ◌≢◌, refl, sym, ap, ◌∙◌, subst, ℕ, zero, suc, ◌+◌, ◌<◌, ◌≤◌, ◌==◌, ◌&&◌, ◌||◌, not, ◌⊎◌, inl, inr, ⊎_elim, Bool, true, false, if◌then◌else◌, List, [], ◌∷◌, ◌++◌, map, Option, Some, None, Result, Ok, Err, Contains, arith}
+use Rattle.std.specs.Prelude.{◌↔◌, IfOk, OnOk}
+use Rattle.sb_base.specs.Answers.{Answers}
+use Rattle.local_rules.specs.declared.local.NodeFault.TheVariants.{Memory}
+use Rattle.std.proofs.lemmas.List.Elements.{Contains-append_left, Contains-append_right, Contains-append_cases}
+use Rattle.std.proofs.lemmas.Bool.Decides.{nat_tests, eqb_tells}
+use Rattle.avr_model.specs.declared.assumption.Entry.{Entry}
+use Rattle.avr_model.specs.Vectors.{is_enabled, WATCHDOG}
+use Rattle.abs_state.specs.declared.state.AbsState.{AbsState}
+use Rattle.abs_state.specs.Frames.{entered, returned}
+use Rattle.mask_states.specs.declared.keys.NodeKey.{NodeKey}
+use Rattle.mask_states.specs.declared.keys.InstKey.{InstKey}
+use Rattle.mask_states.specs.declared.keys.EdgeKind.{EdgeKind}
+use Rattle.mask_states.specs.declared.keys.EdgeKind.TheVariants as kind
+use Rattle.mask_states.specs.declared.keys.SpForm.{SpForm}
+use Rattle.mask_states.specs.declared.keys.SpForm.TheVariants.{Closed, Open}
+use Rattle.mask_states.specs.Keys.{entry_key}
+use Rattle.mask_states.specs.Order.{same_inst}
+use Rattle.mask_states.proofs.AllLaws.{keys_are_ordered}
+use Rattle.local_rules.specs.declared.local.Node.{Node}
+use Rattle.local_rules.specs.declared.local.Local.{Local}
+use Rattle.local_rules.specs.declared.local.Exit.{Exit}
+use Rattle.local_rules.specs.declared.local.NodeFault.{NodeFault}
+use Rattle.local_rules.specs.Raw.{Raw}
+use Rattle.local_rules.specs.Local.{local, settled, joined_onto}
+use Rattle.local_laws.proofs.Members.{none_in, here, there, first_or, in_map, each_in_map}
+use Rattle.edge_rules.specs.Edges.{IsFaultless, raw_of, Enters, by_call, by_interrupt, returned_key, IsEdge, moving, entering, returning, AreEdges}
+use Rattle.edge_rules.specs.declared.edge.Edge.{Edge}
+use Rattle.call_graph.specs.declared.ways.Way.{Way}
+use Rattle.call_graph.specs.Ways.{call_way, vector_way, at_vector, vectors_below, interrupts_if, ways_by, ways_of}
+use Rattle.call_graph.specs.Next.{gathered, local_edge, entry_edge, exit_in, returned_as, returned_by, return_edges, return_if, returns_in, all_returns, edges_with, next_by, next_of}
+
+-- ---- lists
+
+only : {X : Type 0} (y x : X) → Contains (y ∷ []) x → x ≡ y
+only y x h = ⊎_elim (λ e. e) (λ i. absurd (none_in x i)) (first_or y x [] h)
+
+gathered_in : {X Y : Type 0} (f : X → List Y) (xs : List X) (x : X) (y : Y) → Contains xs x → Contains (f x) y → Contains (gathered f xs) y
+gathered_in f [] x y h i = absurd (none_in x h)
+gathered_in f (z ∷ zs) x y h i =
+    ⊎_elim (λ e. Contains-append_left (f z) (gathered f zs) y (subst (λ v. Contains (f v) y) e i))
+    (λ j. Contains-append_right (f z) (gathered f zs) y (gathered_in f zs x y j i)) (first_or z x zs h)
+
+each_gathered : {X Y : Type 0} (f : X → List Y) (P : Y → Type 0) (xs : List X) → ((x : X) (y : Y) → Contains xs x → Contains (f x) y → P y)
+    → (y : Y) → Contains (gathered f xs) y → P y
+each_gathered f P [] h y i = absurd (none_in y i)
+each_gathered f P (x ∷ xs) h y i =
+    ⊎_elim (λ j. h x y (here x xs) j) (each_gathered f P xs (λ z w j l. h z w (there x z xs j) l) y) (Contains-append_cases (f x) (gathered f xs) y i)
+
+-- ---- the local part
+
+ok_same : (x y : List Edge) (r : Result (List Edge) NodeFault) → r ≡ Ok x → r ≡ Ok y → x ≡ y
+ok_same x y r e f = cc
+
+abbrev whole : Raw → Local
+whole r = record { same = joined_onto [] r.moves; calls = r.calls; exit = r.exit }
+
+settled_ok : (r : Raw) (fs : List NodeFault) (l : Local) → settled r fs ≡ Ok l → (fs ≡ []) × (l ≡ whole r)
+settled_ok r [] l e = (refl, cc)
+settled_ok r (f ∷ fs) l e = absurd cc
+
+local_ok : (words : List ℕ) (A : List Entry) (n : Node) (l : Local) → local words A n.key n.state ≡ Ok l → IsFaultless words A n × (l ≡ whole (raw_of words A n))
+unfolding local
+local_ok words A n l e = settled_ok (raw_of words A n) (raw_of words A n).faults l e
+
+exit_by : (r : Raw) (x : Exit) (fs : List NodeFault) → exit_in (settled r fs) ≡ Some x → (fs ≡ []) × (r.exit ≡ Some x)
+exit_by r x [] e = (refl, e)
+exit_by r x (f ∷ fs) e = absurd cc
+
+exit_from : (words : List ℕ) (A : List Entry) (n : Node) (x : Exit) → exit_in (local words A n.key n.state) ≡ Some x
+    → IsFaultless words A n × ((raw_of words A n).exit ≡ Some x)
+unfolding local
+exit_from words A n x e = exit_by (raw_of words A n) x (raw_of words A n).faults e
+
+exit_there : (words : List ℕ) (A : List Entry) (n : Node) (x : Exit) → IsFaultless words A n → (raw_of words A n).exit ≡ Some x
+    → exit_in (local words A n.key n.state) ≡ Some x
+unfolding local
+exit_there words A n x f e = subst (λ fs. exit_in (settled (raw_of words A n) fs) ≡ Some x) (sym f) e
+
+-- ---- ways
+
+enabled_bounds : (m v : ℕ) → is_enabled m v ≡ true → (2 ≤ v) × (v < 27)
+enabled_bounds m v e = (grind (arith, nat_tests), grind (arith, nat_tests))
+
+at_vector_in : (k : NodeKey) (v : ℕ) (clears : Bool) → is_enabled k.masks v ≡ true → (not clears || (v == WATCHDOG)) ≡ true
+    → Contains (at_vector k v) (vector_way k v clears)
+at_vector_in k v false on c =
+    let rest = (if v == WATCHDOG then vector_way k v true ∷ [] else []) in
+    subst (λ b. Contains (if b then (vector_way k v false ∷ rest) else []) (vector_way k v false)) (sym on) (here (vector_way k v false) rest)
+at_vector_in k v true on c =
+    subst (λ b. Contains (if b then (vector_way k v false ∷ (if v == WATCHDOG then vector_way k v true ∷ [] else [])) else []) (vector_way k v true)) (sym on)
+    (subst (λ b. Contains (vector_way k v false ∷ (if b then vector_way k v true ∷ [] else [])) (vector_way k v true)) (sym c)
+    (there (vector_way k v false) (vector_way k v true) (vector_way k v true ∷ []) (here (vector_way k v true) [])))
+
+vectors_in : (k : NodeKey) (n v : ℕ) (clears : Bool) → 2 ≤ v → v < n + 2 → is_enabled k.masks v ≡ true → (not clears || (v == WATCHDOG)) ≡ true
+    → Contains (vectors_below k n) (vector_way k v clears)
+unfolding vectors_below
+vectors_in k zero v clears low high on c = absurd (omega (arith, low, high))
+vectors_in k (suc n) v clears low high on c =
+    ⊎_elim
+    (λ e. Contains-append_right (vectors_below k n) (at_vector k (n + 2)) (vector_way k v clears)
+    (subst (λ u. Contains (at_vector k u) (vector_way k v clears)) e.1 (at_vector_in k v clears on c)))
+    (λ ne. Contains-append_left (vectors_below k n) (at_vector k (n + 2)) (vector_way k v clears)
+    (vectors_in k n v clears low (let d = ne.1 in omega (arith, high, d)) on c))
+    (eqb_tells v (n + 2))
+
+module _ (words : List ℕ) (A : List Entry) (n : Node) (clean : IsFaultless words A n) where
+  -- the way is one that the node has
+  abbrev IsWay : Way → Type 0
+  IsWay w = Enters words A n w.kind w.inst w.back
+
+  module _ (offset : ℕ) (sp : n.key.sp ≡ Closed offset) (i : n.key.i ≡ true) (delay : n.key.delay ≡ false) where
+    at_by : (v : ℕ) (b c : Bool) → is_enabled n.key.masks v ≡ b → (v == WATCHDOG) ≡ c → (w : Way)
+        → Contains (if b then (vector_way n.key v false ∷ (if c then vector_way n.key v true ∷ [] else [])) else []) w → IsWay w
+    at_by v false c on is w h = absurd (none_in w h)
+    at_by v true false on is w h =
+        subst IsWay (sym (only (vector_way n.key v false) w h)) (by_interrupt offset v false clean sp i delay on refl)
+    at_by v true true on is w h =
+        ⊎_elim (λ e. subst IsWay (sym e) (by_interrupt offset v false clean sp i delay on refl))
+        (λ j. subst IsWay (sym (only (vector_way n.key v true) w j)) (by_interrupt offset v true clean sp i delay on is))
+        (first_or (vector_way n.key v false) w (vector_way n.key v true ∷ []) h)
+
+    vectors_from : (m : ℕ) (w : Way) → Contains (vectors_below n.key m) w → IsWay w
+    unfolding vectors_below
+    vectors_from zero w h = absurd (none_in w h)
+    vectors_from (suc m) w h =
+        ⊎_elim (λ j. vectors_from m w j) (λ j. at_by (m + 2) (is_enabled n.key.masks (m + 2)) ((m + 2) == WATCHDOG) refl refl w j)
+        (Contains-append_cases (vectors_below n.key m) (at_vector n.key (m + 2)) w h)
+
+  interrupts_from : (offset : ℕ) → n.key.sp ≡ Closed offset → (i d : Bool) → n.key.i ≡ i → n.key.delay ≡ d → (w : Way)
+      → Contains (interrupts_if (i && not d) n.key) w → IsWay w
+  interrupts_from offset sp false d ei ed w h = absurd (none_in w h)
+  interrupts_from offset sp true true ei ed w h = absurd (none_in w h)
+  interrupts_from offset sp true false ei ed w h = vectors_from offset sp ei ed 25 w h
+
+  ways_from : (sp : SpForm) → n.key.sp ≡ sp → (w : Way) → Contains (ways_by sp n.key (raw_of words A n).calls) w → IsWay w
+  ways_from (Closed offset) e w h =
+      ⊎_elim (each_in_map (call_way n.key) IsWay (raw_of words A n).calls (λ site j. by_call offset site clean e j) w)
+      (interrupts_from offset e n.key.i n.key.delay refl refl w)
+      (Contains-append_cases (map (call_way n.key) (raw_of words A n).calls) (interrupts_if (n.key.i && not n.key.delay) n.key) w h)
+  ways_from (Open offset high) e w h = absurd (none_in w h)
+
+both : (i d : Bool) → i ≡ true → d ≡ false → (i && not d) ≡ true
+both true false ei ed = refl
+both true true ei ed = absurd cc
+both false d ei ed = absurd cc
+
+way_in : (words : List ℕ) (A : List Entry) (n : Node) (way : EdgeKind) (inst : InstKey) (back : ℕ) → Enters words A n way inst back
+    → Contains (ways_of n.key (raw_of words A n).calls) (record { kind = way; inst = inst; back = back })
+way_in words A n _ _ _ (by_call offset site clean sp has) =
+    let calls = (raw_of words A n).calls in
+    subst (λ p. Contains (ways_by p n.key calls) (call_way n.key site)) (sym sp)
+    (Contains-append_left (map (call_way n.key) calls) (interrupts_if (n.key.i && not n.key.delay) n.key) (call_way n.key site) (in_map (call_way n.key) calls site has))
+way_in words A n _ _ _ (by_interrupt offset v clears clean sp i delay on c) =
+    let calls = (raw_of words A n).calls in
+    let bounds = enabled_bounds n.key.masks v on in
+    let w = vector_way n.key v clears in
+    subst (λ p. Contains (ways_by p n.key calls) w) (sym sp)
+    (Contains-append_right (map (call_way n.key) calls) (interrupts_if (n.key.i && not n.key.delay) n.key) w
+    (subst (λ b. Contains (interrupts_if b n.key) w) (sym (both n.key.i n.key.delay i delay))
+    (vectors_in n.key 25 v clears bounds.0 bounds.1 on c)))
+
+-- ---- returns
+
+-- the edge back by this exit, with this state
+abbrev back_edge : NodeKey → ℕ → Exit → AbsState → Edge
+back_edge k back x t = record { kind = kind.Return; to = returned_key k back x; state = t }
+
+back_from : (k : NodeKey) (s : AbsState) (back : ℕ) (t : AbsState) (P : Edge → Type 0) (o : Option Exit)
+    → ((x : Exit) (after : AbsState) → o ≡ Some x → returned s t ≡ Some after → P (back_edge k back x after))
+    → (e : Edge) → Contains (returned_by k s back o t) e → P e
+back_from k s back t P None h e i = absurd (none_in e i)
+back_from k s back t P (Some x) h e i = from (returned s t) refl i
+  where
+    from : (p : Option AbsState) → returned s t ≡ p → Contains (returned_as k back x p) e → P e
+    from None is j = absurd (none_in e j)
+    from (Some after) is j = subst P (sym (only (back_edge k back x after) e j)) (h x after refl is)
+
+back_in : (k : NodeKey) (s : AbsState) (back : ℕ) (t : AbsState) (o : Option Exit) (x : Exit) (after : AbsState) → o ≡ Some x → returned s t ≡ Some after
+    → Contains (returned_by k s back o t) (back_edge k back x after)
+back_in k s back t o x after eo is =
+    subst (λ q. Contains (returned_by k s back q t) (back_edge k back x after)) (sym eo)
+    (subst (λ p. Contains (returned_as k back x p) (back_edge k back x after)) (sym is) (here (back_edge k back x after) []))
+
+if_from : {X : Type 0} (b : Bool) (xs : List X) (x : X) → Contains (if b then xs else []) x → (b ≡ true) × Contains xs x
+if_from true xs x h = (refl, h)
+if_from false xs x h = absurd (none_in x h)
+
+-- ---- the list
+
+module _ (words : List ℕ) (A : List Entry) (nodes : List Node) (n : Node) where
+  abbrev Is : Edge → Type 0
+  Is = IsEdge words A nodes n
+
+  return_from : (w : Way) → Enters words A n w.kind w.inst w.back → (leaver : Node) (e : Edge) → Contains nodes leaver
+      → Contains (return_if words A n.key n.state w leaver) e → Is e
+  return_from w en leaver e present h =
+      let j = if_from (same_inst leaver.key.inst w.inst) (return_edges words A n.key n.state w.back leaver) e h in
+      back_from n.key n.state w.back leaver.state Is (exit_in (local words A leaver.key leaver.state))
+      (λ x after is ret. let p = exit_from words A leaver x is in
+      returning w.kind w.inst w.back leaver x after en present ((keys_are_ordered.same_insts leaver.key.inst w.inst).0 j.0) p.0 p.1 ret)
+      e j.1
+
+  from_list : IsFaultless words A n → (e : Edge)
+      → Contains (edges_with words A nodes n.key n.state (ways_of n.key (raw_of words A n).calls) (whole (raw_of words A n))) e → Is e
+  from_list clean e h =
+      let r = raw_of words A n in
+      let ws = ways_of n.key r.calls in
+      let way = ways_from words A n clean n.key.sp refl in
+      let first = map local_edge (joined_onto [] r.moves) in
+      let second = map (entry_edge n.state) ws in
+      let third = all_returns words A n.key n.state nodes ws in
+      ⊎_elim (each_in_map local_edge Is (joined_onto [] r.moves) (λ to j. moving to clean j) e)
+      (λ i. ⊎_elim (each_in_map (entry_edge n.state) Is ws (λ w j. entering w.kind w.inst w.back (way w j)) e)
+      (each_gathered (returns_in words A n.key n.state nodes) Is ws
+      (λ w y j. each_gathered (return_if words A n.key n.state w) Is nodes (λ leaver z m. return_from w (way w j) leaver z m) y) e)
+      (Contains-append_cases second third e i))
+      (Contains-append_cases first (second ++ third) e h)
+
+  to_list : (e : Edge) → Is e → Contains (edges_with words A nodes n.key n.state (ways_of n.key (raw_of words A n).calls) (whole (raw_of words A n))) e
+  to_list _ (moving to clean has) =
+      let r = raw_of words A n in
+      let ws = ways_of n.key r.calls in
+      Contains-append_left (map local_edge (joined_onto [] r.moves)) (map (entry_edge n.state) ws ++ all_returns words A n.key n.state nodes ws)
+      (local_edge to) (in_map local_edge (joined_onto [] r.moves) to has)
+  to_list _ (entering way inst back en) =
+      let r = raw_of words A n in
+      let ws = ways_of n.key r.calls in
+      let w : Way = record { kind = way; inst = inst; back = back } in
+      Contains-append_right (map local_edge (joined_onto [] r.moves)) (map (entry_edge n.state) ws ++ all_returns words A n.key n.state nodes ws)
+      (entry_edge n.state w)
+      (Contains-append_left (map (entry_edge n.state) ws) (all_returns words A n.key n.state nodes ws) (entry_edge n.state w)
+      (in_map (entry_edge n.state) ws w (way_in words A n way inst back en)))
+  to_list _ (returning way inst back leaver x after en present same clean exit ret) =
+      let r = raw_of words A n in
+      let ws = ways_of n.key r.calls in
+      let w : Way = record { kind = way; inst = inst; back = back } in
+      let e = back_edge n.key back x after in
+      let this : Contains (return_edges words A n.key n.state back leaver) e =
+      back_in n.key n.state back leaver.state (exit_in (local words A leaver.key leaver.state)) x after (exit_there words A leaver x clean exit) ret in
+      let kept : Contains (return_if words A n.key n.state w leaver) e =
+      subst (λ b. Contains (if b then return_edges words A n.key n.state back leaver else []) e) (sym ((keys_are_ordered.same_insts leaver.key.inst inst).1 same)) this in
+      let found : Contains (returns_in words A n.key n.state nodes w) e = gathered_in (return_if words A n.key n.state w) nodes leaver e present kept in
+      Contains-append_right (map local_edge (joined_onto [] r.moves)) (map (entry_edge n.state) ws ++ all_returns words A n.key n.state nodes ws) e
+      (Contains-append_right (map (entry_edge n.state) ws) (all_returns words A n.key n.state nodes ws) e
+      (gathered_in (returns_in words A n.key n.state nodes) ws w e (way_in words A n way inst back en) found))
+
+  exact_by : (all : List Edge) (o : Result Local NodeFault) → local words A n.key n.state ≡ o → next_by words A nodes n.key n.state o ≡ Ok all
+      → AreEdges words A nodes n all
+  exact_by all (Err f) is e = absurd cc
+  exact_by all (Ok l) is e =
+      let q = local_ok words A n l is in
+      let list : edges_with words A nodes n.key n.state (ways_of n.key (raw_of words A n).calls) (whole (raw_of words A n)) ≡ all =
+      subst (λ m. edges_with words A nodes n.key n.state (ways_of n.key m.calls) m ≡ all) q.1
+      (ok_same (edges_with words A nodes n.key n.state (ways_of n.key l.calls) l) all (next_by words A nodes n.key n.state (Ok l)) refl e) in
+      subst (AreEdges words A nodes n) list (λ x. (from_list q.0 x, to_list x))
+
+-- ---- what an answer says
+
+ok_is_no_err : (x : List Edge) (f : NodeFault) (r : Result (List Edge) NodeFault) → r ≡ Ok x → r ≡ Err f → ⊥
+ok_is_no_err x f r a b = cc
+
+module _ (words : List ℕ) (A : List Entry) (nodes : List Node) (n : Node) where
+  pub answer_edges : (r : Result (List Edge) NodeFault) → Answers (λ edges. edges) Memory r (next_of words A nodes n.key n.state)
+      → IfOk r (λ edges. AreEdges words A nodes n edges)
+  answer_edges (Ok all) h = exact_by words A nodes n all (local words A n.key n.state) refl h
+  answer_edges (Err f) h = tt
+
+  fault_by : (f : NodeFault) (o : Result Local NodeFault) → next_by words A nodes n.key n.state o ≡ Err f → o ≡ Err f
+  fault_by f (Ok l) e = absurd cc
+  fault_by f (Err g) e = cc
+
+  by_fault : (f : NodeFault) (o : Result Local NodeFault) → o ≡ Err f → next_by words A nodes n.key n.state o ≡ Err f
+  by_fault f o e = ap (next_by words A nodes n.key n.state) e
+
+  pub answer_fault : (r : Result (List Edge) NodeFault) → Answers (λ edges. edges) Memory r (next_of words A nodes n.key n.state)
+      → (f : NodeFault) → r ≢ Err Memory → (r ≡ Err f) ↔ (local words A n.key n.state ≡ Err f)
+  answer_fault (Ok all) h f ne =
+      (λ e. absurd (ok_is_no_err all f (Ok all) refl e), λ e. absurd (ok_is_no_err all f (next_of words A nodes n.key n.state) h (by_fault f (local words A n.key n.state) e)))
+  answer_fault (Err g) h f ne =
+      let due = h (λ same. ne (ap (λ x. Err x) same)) in
+      (λ e. fault_by f (local words A n.key n.state) (due ∙ e), λ e. sym due ∙ by_fault f (local words A n.key n.state) e)
+
+  clean_by : (all : List Edge) (o : Result Local NodeFault) → local words A n.key n.state ≡ o → next_by words A nodes n.key n.state o ≡ Ok all → IsFaultless words A n
+  clean_by all (Err f) is e = absurd cc
+  clean_by all (Ok l) is e = (local_ok words A n l is).0
+
+  pub answer_clean : (r : Result (List Edge) NodeFault) → Answers (λ edges. edges) Memory r (next_of words A nodes n.key n.state)
+      → OnOk r (IsFaultless words A n)
+  answer_clean (Ok all) h = clean_by all (local words A n.key n.state) refl h
+  answer_clean (Err f) h = tt

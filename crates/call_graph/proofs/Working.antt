@@ -1,0 +1,46 @@
+-- One node's work.
+use Rattle.std.proofs.Common.{◌≡◌, refl, sym, ap, ◌∙◌, subst, ℕ, ◌+◌, List, [], ◌∷◌, ◌++◌, length, slice_index_or, Option, Some, None}
+use Rattle.std.specs.List.{slice_get}
+use Rattle.std.proofs.lemmas.Option.{slice_get_read}
+use Rattle.avr_model.specs.declared.assumption.Entry.{Entry}
+use Rattle.abs_state.specs.declared.state.AbsState.{AbsState}
+use Rattle.mask_states.specs.declared.keys.NodeKey.{NodeKey}
+use Rattle.local_rules.specs.declared.local.Node.{Node}
+use Rattle.edge_rules.specs.declared.seeded.NodeForm.{NodeForm}
+use Rattle.edge_rules.specs.Expansion.{Seeds, AreSeeds, HasKeyAt, IsFilled, IsMissing}
+use Rattle.expansion_laws.specs.Working.{carried, worked, SoFar}
+use Rattle.expansion_laws.proofs.One.{same_seed}
+use Rattle.expansion_laws.proofs.Steps.{one_more, missing, whole}
+use Rattle.edge_rules.specs.declared.seeded.Seed.{Seed}
+use Rattle.edge_rules.specs.declared.seeded.Seed.TheVariants as seed
+use Rattle.edge_rules.specs.Seeds.{form_of, HasFormAt}
+use Rattle.call_graph.specs.Gives.{AreNumbered, ComesFromBelow}
+
+pub from_at : (done : List Node) (x : Seed) (m : ℕ) (n : Node) → x ≡ seed.From m → ComesFromBelow (form_of x) (length done) → n ≡ slice_index_or done m n
+    → slice_get done m ≡ Some n
+from_at done x m n e h is = slice_get_read done (length done) m n refl (subst (λ (y : Seed). ComesFromBelow (form_of y) (length done)) e h) is
+
+pub worked_from : (words : List ℕ) (A : List Entry) (done : List Node) (k : NodeKey) (x : Seed) (m : ℕ) (n : Node) → x ≡ seed.From m
+    → slice_get done m ≡ Some n → carried words A k (Some n) ≡ worked words A done k (form_of x)
+worked_from words A done k x m n e g = sym (ap (λ (y : Seed). worked words A done k (form_of y)) e ∙ ap (carried words A k) g)
+
+seed_is : (nodes : Seeds) (at : ℕ) (k : NodeKey) (f : NodeForm) → HasKeyAt nodes at k → HasFormAt nodes at f → slice_get nodes at ≡ Some (k, f)
+seed_is nodes at k f a b = a.1 ∙ (λ i. Some (k, (same_seed (slice_get nodes at) k b.0 a.0 f a.1 b.1).1 i))
+
+module _ (words : List ℕ) (A : List Entry) (nodes : Seeds) (at : ℕ) (done : List Node) (so : SoFar words A nodes at done) where
+  pub numbered : (list : List Node) → list ≡ done → AreNumbered list
+  numbered list e = subst AreNumbered (sym e) (λ i n g. (so.each i n g).node)
+
+  module _ (list : List Node) (e : list ≡ done) (k : NodeKey) (f : NodeForm) (a : HasKeyAt nodes at k) (b : HasFormAt nodes at f)
+      (found : Option AbsState) (is : found ≡ worked words A list k f) where
+    pub gives_missing : found ≡ None → IsMissing words A nodes at
+    gives_missing none = missing words A nodes at done so k f (seed_is nodes at k f a b) (ap (λ l. worked words A l k f) (sym e) ∙ (sym is ∙ none))
+
+    pub gives_more : AreSeeds nodes → (s : AbsState) (new : List Node) → found ≡ Some s → new ≡ done ++ record { key = k; state = s } ∷ []
+        → SoFar words A nodes (at + 1) new
+    gives_more seeds s new some items =
+        subst (SoFar words A nodes (at + 1)) (sym items)
+        (one_more words A nodes seeds at done so k f s (seed_is nodes at k f a b) (ap (λ l. worked words A l k f) (sym e) ∙ (sym is ∙ some)))
+
+  pub gives_whole : (filled : List Node) → filled ≡ done → at ≡ length nodes → IsFilled words A nodes filled
+  gives_whole filled e full = subst (IsFilled words A nodes) (sym e) (whole words A nodes done (subst (λ x. SoFar words A nodes x done) full so))

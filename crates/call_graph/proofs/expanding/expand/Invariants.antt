@@ -1,0 +1,5 @@
+use Rattle.expansion_laws.specs.Working.{SoFar}
+use Rattle.call_graph.proofs.expanding.expand.Given as goal
+
+abbrev pub invariant-loop-at : goal.invariant-loop-at
+invariant-loop-at g l = SoFar l.flash l.assumptions (g.S.Seeded.nodes l.nodes) l.at l.done.items

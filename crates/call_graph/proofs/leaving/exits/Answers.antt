@@ -1,0 +1,28 @@
+use Rattle.std.proofs.Common.{rules, ◌≡◌, sym, subst, ◌<◌, length, arith}
+use Rattle.expansion_laws.proofs.Lists.{get_inside}
+use Rattle.call_graph.specs.Exits.{AreExits}
+use Rattle.call_graph.proofs.Returning.{one_more, first_fault, whole}
+use Rattle.call_graph.proofs.leaving.exits.Goals as goal
+
+pub loop-at-preserved : goal.loop-at-preserved
+loop-at-preserved g c =
+    let nodes = g.V.View.nodes c.args.view.now in
+    let inside : c.loop-at.at < length nodes = omega (arith, c.loop-at-test.true, c.count-at-end.ensures.count) in
+    let n = get_inside nodes c.loop-at.at inside in
+    one_more c.args.flash.now c.args.assumptions.now nodes c.loop-at.at c.loop-at.items.items c.loop-at.invariant n.0 n.1 c.in-Ok.exit c.push.new.self.items
+    (c.in-Ok.ensures n.0 n.1) c.in_ok-push-in-Ok.ensures.items
+
+pub returns-in-Err : goal.returns-in-Err
+returns-in-Err g c =
+    let nodes = g.V.View.nodes c.args.view.now in
+    let inside : c.loop-at.at < length nodes = omega (arith, c.loop-at-test.true, c.count-at-end.ensures.count) in
+    let n = get_inside nodes c.loop-at.at inside in
+    first_fault c.args.flash.now c.args.assumptions.now nodes c.loop-at.at c.loop-at.items.items c.loop-at.invariant n.0 n.1 c.in-Err.fault
+    (c.in-Err.ensures n.0 n.1 (search rules))
+
+pub returns : goal.returns
+returns g c =
+    let nodes = g.V.View.nodes c.args.view.now in
+    let full : c.loop-at.at ≡ length nodes = omega (arith, c.loop-at-test.false, c.loop-at.auto.at-end, c.count-at-end.ensures.count) in
+    subst (AreExits c.args.flash.now c.args.assumptions.now nodes) (sym c.new.ensures)
+    (whole c.args.flash.now c.args.assumptions.now nodes c.loop-at.at c.loop-at.items.items full c.loop-at.invariant)

@@ -1,0 +1,71 @@
+-- The edges from a node, in the code's order.
+use Rattle.std.specs.Prelude.{ℕ, if◌then◌else◌, List, [], ◌∷◌, ◌++◌, map, Option, Some, None, Result, Ok, Err}
+use Rattle.avr_model.specs.declared.assumption.Entry.{Entry}
+use Rattle.abs_state.specs.declared.state.AbsState.{AbsState}
+use Rattle.abs_state.specs.Frames.{entered, returned}
+use Rattle.mask_states.specs.declared.keys.NodeKey.{NodeKey}
+use Rattle.mask_states.specs.declared.keys.EdgeKind.TheVariants as kind
+use Rattle.mask_states.specs.Keys.{entry_key}
+use Rattle.mask_states.specs.Order.{same_inst}
+use Rattle.local_rules.specs.declared.local.Node.{Node}
+use Rattle.local_rules.specs.declared.local.Local.{Local}
+use Rattle.local_rules.specs.declared.local.Exit.{Exit}
+use Rattle.local_rules.specs.declared.local.NodeFault.{NodeFault}
+use Rattle.local_rules.specs.Local.{local}
+use Rattle.edge_rules.specs.Edges.{returned_key}
+use Rattle.edge_rules.specs.declared.edge.Edge.{Edge}
+use Rattle.call_graph.specs.declared.ways.Way.{Way}
+use Rattle.call_graph.specs.Ways.{ways_of}
+
+abbrev pub node_of : NodeKey → AbsState → Node
+node_of k s = record { key = k; state = s }
+
+abbrev pub local_edge : Node → Edge
+local_edge n = record { kind = kind.Local; to = n.key; state = n.state }
+
+abbrev pub entry_edge : AbsState → Way → Edge
+entry_edge s w = record { kind = w.kind; to = entry_key w.inst; state = entered s }
+
+-- a node with a fault has no exit
+abbrev pub exit_in : Result Local NodeFault → Option Exit
+exit_in (Ok l) = l.exit
+exit_in (Err f) = None
+
+abbrev pub returned_as : NodeKey → ℕ → Exit → Option AbsState → List Edge
+returned_as k back x None = []
+returned_as k back x (Some s) = record { kind = kind.Return; to = returned_key k back x; state = s } ∷ []
+
+abbrev pub returned_by : NodeKey → AbsState → ℕ → Option Exit → AbsState → List Edge
+returned_by k s back None t = []
+returned_by k s back (Some x) t = returned_as k back x (returned s t)
+
+-- back from a node
+abbrev pub return_edges : List ℕ → List Entry → NodeKey → AbsState → ℕ → Node → List Edge
+return_edges words A k s back leaver = returned_by k s back (exit_in (local words A leaver.key leaver.state)) leaver.state
+
+-- what each gives, one after the other
+abbrev pub gathered : {X Y : Type 0} → (X → List Y) → List X → List Y
+gathered f [] = []
+gathered f (x ∷ xs) = f x ++ gathered f xs
+
+-- back from a node, if it is of the entered instance
+abbrev pub return_if : List ℕ → List Entry → NodeKey → AbsState → Way → Node → List Edge
+return_if words A k s w n = if same_inst n.key.inst w.inst then return_edges words A k s w.back n else []
+
+-- back from the nodes of the entered instance
+abbrev pub returns_in : List ℕ → List Entry → NodeKey → AbsState → List Node → Way → List Edge
+returns_in words A k s nodes w = gathered (return_if words A k s w) nodes
+
+abbrev pub all_returns : List ℕ → List Entry → NodeKey → AbsState → List Node → List Way → List Edge
+all_returns words A k s nodes ws = gathered (returns_in words A k s nodes) ws
+
+abbrev pub edges_with : List ℕ → List Entry → List Node → NodeKey → AbsState → List Way → Local → List Edge
+edges_with words A nodes k s ws l = map local_edge l.same ++ (map (entry_edge s) ws ++ all_returns words A k s nodes ws)
+
+abbrev pub next_by : List ℕ → List Entry → List Node → NodeKey → AbsState → Result Local NodeFault → Result (List Edge) NodeFault
+next_by words A nodes k s (Ok l) = Ok (edges_with words A nodes k s (ways_of k l.calls) l)
+next_by words A nodes k s (Err f) = Err f
+
+-- all edges from a node, or its fault
+abbrev pub next_of : List ℕ → List Entry → List Node → NodeKey → AbsState → Result (List Edge) NodeFault
+next_of words A nodes k s = next_by words A nodes k s (local words A k s)

@@ -1,0 +1,101 @@
+//! The state of each node, worked out once, in the order of the nodes.
+
+ghost use Rattle.std.specs.Prelude.{◌≡◌, ℕ, length, Some, IfOk};
+ghost use Rattle.std.specs.Option.{option_copied};
+ghost use Rattle.local_rules.specs.Cover.{IsNode};
+ghost use Rattle.edge_rules.specs.Expansion.{AreSeeds};
+ghost use Rattle.expansion_laws.specs.Working.{first_at, carried, worked};
+ghost use Rattle.edge_rules.specs.Seeds.{form_of};
+ghost use Rattle.expansion_laws.specs.Laws.{AreAscending};
+ghost use Rattle.call_graph.specs.Gives.{Gives, AreNumbered, ComesFromBelow};
+
+use crate::filled::{Expanded, Filled};
+use abs_state::AbsState;
+use abs_step::local;
+use edge_rules::{Seed, Seeded};
+use flash_image::Flash;
+use local_rules::{Node, NodeFault};
+use mask_states::NodeKey;
+use std::alloc::{AllocError, Global};
+use vector_table::Assumptions;
+
+// The state of the first node of this key.
+fn state_in<'a>(nodes: &'a [Node], key: &NodeKey) -> Option<&'a AbsState>
+    ensures { option_copied result ≡ first_at key.now nodes.now }
+{
+    for at in 0..nodes.len() {
+        if nodes[at].key == *key {
+            return Some(&nodes[at].state);
+        }
+    }
+    None
+}
+
+// The state of a node of this key that comes from another.
+fn carry(
+    alloc: Global,
+    flash: &Flash,
+    assumptions: &Assumptions,
+    from: &Node,
+    key: &NodeKey,
+) -> Result<Option<AbsState>, AllocError>
+    requires { IsNode from.now.key from.now.state }
+    ensures { IfOk result (λ found. found ≡ carried flash.now assumptions.now key.now (Some from.now)) }
+{
+    match local(alloc, flash, assumptions, &from.key, &from.state) {
+        Ok(leads) => copied(alloc, state_in(leads.same.as_slice(), key)),
+        Err(NodeFault::Memory) => Err(AllocError),
+        Err(_) => Ok(None),
+    }
+}
+
+// The same state, where there is one.
+fn copied(alloc: Global, state: Option<&AbsState>) -> Result<Option<AbsState>, AllocError>
+    ensures { IfOk result (λ same. same ≡ option_copied state.entry) }
+{
+    match state {
+        Some(state) => Ok(Some(state.copy(alloc)?)),
+        None => Ok(None),
+    }
+}
+
+// The state of one node, where those before it are done.
+fn work(
+    alloc: Global,
+    flash: &Flash,
+    assumptions: &Assumptions,
+    done: &[Node],
+    key: &NodeKey,
+    seed: Seed<'_>,
+) -> Result<Option<AbsState>, AllocError>
+    requires nodes { AreNumbered done.now }
+    requires below { ComesFromBelow (form_of seed) (length done.now) }
+    ensures { IfOk result (λ found. found ≡ worked flash.now assumptions.now done.now key.now (form_of seed.entry)) }
+{
+    match seed {
+        Seed::State(state) => Ok(Some(state.copy(alloc)?)),
+        Seed::From(from) => carry(alloc, flash, assumptions, &done[from as usize], key),
+    }
+}
+
+/// The expansion of each node, or the least node that has none. The local part of a node is worked out once for each that comes from it.
+pub fn expand<S: Seeded>(
+    alloc: Global,
+    flash: &Flash,
+    assumptions: &Assumptions,
+    nodes: &S,
+) -> Result<Expanded, AllocError>
+    requires seeds { AreSeeds (S.nodes nodes.now) }
+    requires ascending { AreAscending (S.nodes nodes.now) }
+    ensures { IfOk result (λ answer. Gives flash.now assumptions.now (S.nodes nodes.now) answer) }
+{
+    let mut done = Vec::new(alloc);
+    for at in 0..nodes.count() {
+        let key = *nodes.key(at);
+        match work(alloc, flash, assumptions, &done, &key, nodes.seed(at))? {
+            Some(state) => done.push(Node { key, state })?,
+            None => return Ok(Expanded::Missing(at as u32)),
+        }
+    }
+    Ok(Expanded::Whole(Filled::new(done)))
+}

@@ -1,0 +1,100 @@
+//! Nodes with their states, in the order of their keys.
+
+ghost use Rattle.std.specs.Prelude.{◌≡◌};
+ghost use Rattle.edge_rules.specs.Views.{AreShown, IsSpan, place_of};
+
+use abs_state::AbsState;
+use edge_rules::View;
+use local_rules::Node;
+use mask_states::{InstKey, NodeKey};
+use std::marker::Model;
+
+/// Nodes with their states, strictly ascending by key. Seen as their list.
+#[derive(Drop)]
+pub struct Filled {
+    items: Vec<Node>,
+}
+
+impl Model for Filled {
+    ghost use Rattle.std.specs.Prelude.{List};
+    ghost use Rattle.local_rules.specs.declared.local.Node.{Node};
+    ghost use Rattle.edge_rules.specs.Views.{AreShown};
+
+    ghost Value = { List Node };
+
+    ghost view = { λ s. s.items.items };
+
+    ghost invariant = { λ s. AreShown s.items.items };
+}
+
+impl Filled {
+    /// These nodes, which ascend strictly by key.
+    pub fn new(items: Vec<Node>) -> Filled
+        requires { AreShown items.items }
+        ensures { result ≡ items.items }
+    {
+        Filled { items }
+    }
+
+    /// The nodes in their order.
+    pub fn as_slice(&self) -> &[Node]
+        ensures { result.now ≡ self.now }
+    {
+        &self.items
+    }
+}
+
+/// What an expansion answers.
+#[derive(Drop)]
+pub enum Expanded {
+    /// All nodes with their states.
+    Whole(Filled),
+    /// The least number of a node that has no expansion, counted from 0.
+    Missing(u32),
+}
+
+// The number of the node of this key.
+fn place_of(nodes: &[Node], key: &NodeKey) -> Option<usize>
+    requires { AreShown nodes.now }
+    ensures { result ≡ place_of key.now nodes.now }
+{
+    let at = nodes.partition_point(|node| node.key.cmp(key).is_lt());
+    if at < nodes.len() && nodes[at].key == *key {
+        return Some(at);
+    }
+    None
+}
+
+// The first number of the instance's nodes and the one behind their last.
+fn span_of(nodes: &[Node], inst: &InstKey) -> (usize, usize)
+    requires { AreShown nodes.now }
+    ensures { IsSpan nodes.now inst.now result.0 result.1 }
+{
+    let low = nodes.partition_point(|node| node.key.inst.cmp(inst).is_lt());
+    let high = nodes.partition_point(|node| node.key.inst.cmp(inst).is_le());
+    (low, high)
+}
+
+impl View for Filled {
+    ghost nodes = { λ nodes. nodes };
+
+    fn count(&self) -> usize {
+        self.items.len()
+    }
+
+    fn key(&self, at: usize) -> &NodeKey {
+        &self.items[at].key
+    }
+
+    fn state(&self, at: usize) -> &AbsState {
+        &self.items[at].state
+    }
+
+    fn find(&self, key: &NodeKey) -> Option<usize> {
+        place_of(&self.items, key)
+    }
+
+    fn span(&self, inst: &InstKey) -> (usize, usize) {
+        span_of(&self.items, inst)
+    }
+}

@@ -1,0 +1,17 @@
+//! The edges of a family of nodes that is seen by numbers, and the states of nodes that are given by earlier ones. Source: own.
+#![tactic(auto)]
+
+pub mod exit_list;
+pub mod expanding;
+pub mod filled;
+pub mod laws;
+pub mod leaving;
+pub mod successors;
+mod ways;
+
+pub use edge_rules::{Edge, EdgeKind, Edges, NodeForm, Seed, Seeded, View};
+pub use exit_list::{Exits, Leaving};
+pub use expanding::expand;
+pub use filled::{Expanded, Filled};
+pub use leaving::exits;
+pub use successors::{next, next_with};

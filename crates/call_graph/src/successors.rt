@@ -1,0 +1,278 @@
+//! The edges from a node.
+
+ghost use Rattle.std.specs.Prelude.{ℕ, ◌≡◌, ◌≢◌, ◌↔◌, ◌<◌, ◌++◌, map, length, slice_get, Some, Err, IfOk, OnOk};
+ghost use Rattle.sb_base.specs.Answers.{Answers};
+ghost use Rattle.abs_state.specs.Values.{value_at};
+ghost use Rattle.abs_state.specs.Formed.{NamesRegister};
+ghost use Rattle.local_rules.specs.Local as rows;
+ghost use Rattle.local_rules.specs.declared.local.NodeFault.TheVariants.{Memory};
+ghost use Rattle.local_rules.specs.declared.local.NodeFault as fault_type;
+ghost use Rattle.local_rules.specs.declared.local.Node.{Node};
+ghost use Rattle.edge_rules.specs.Edges.{IsFaultless, AreEdges};
+ghost use Rattle.edge_rules.specs.Views.{AreShown};
+ghost use Rattle.call_graph.specs.Ways.{ways_of};
+ghost use Rattle.call_graph.specs.Exits.{AreExits, AreKnown};
+ghost use Rattle.call_graph.specs.Next.{local_edge, entry_edge, returned_by, return_edges, returns_in, all_returns, edges_with, next_of};
+
+use crate::exit_list::Exits;
+use crate::leaving::exit_of;
+use crate::ways::{Way, ways};
+use abs_state::AbsState;
+use abs_step::local;
+use edge_rules::{Edge, Edges, View};
+use flash_image::Flash;
+use local_rules::{Exit, Local, Node, NodeFault};
+use mask_states::{EdgeKind, NodeKey};
+use std::alloc::{AllocError, Global};
+use vector_table::Assumptions;
+
+// The edges in the node's own frame.
+fn add_moves(alloc: Global, edges: &mut Edges, nodes: &[Node]) -> Result<(), AllocError>
+    ensures { OnOk result (edges.new ≡ edges.old ++ map local_edge nodes.now) }
+{
+    for at in 0..nodes.len() {
+        let state = nodes[at].state.copy(alloc)?;
+        edges.push(Edge {
+            kind: EdgeKind::Local,
+            to: nodes[at].key,
+            state,
+        })?;
+    }
+    Ok(())
+}
+
+// The edges into other instances.
+fn add_entries(
+    alloc: Global,
+    edges: &mut Edges,
+    state: &AbsState,
+    ways: &[Way],
+) -> Result<(), AllocError>
+    ensures { OnOk result (edges.new ≡ edges.old ++ map (entry_edge state.now) ways.now) }
+{
+    for at in 0..ways.len() {
+        edges.push(Edge {
+            kind: ways[at].kind,
+            to: NodeKey::entry(&ways[at].inst),
+            state: state.entered(alloc),
+        })?;
+    }
+    Ok(())
+}
+
+// The edge back from a node of the entered instance, if it returns and its state fits.
+fn add_return(
+    alloc: Global,
+    edges: &mut Edges,
+    key: &NodeKey,
+    state: &AbsState,
+    back: u16,
+    exit: Option<Exit>,
+    leaving: &AbsState,
+) -> Result<(), AllocError>
+    requires { (r : ℕ) → r < 32 → NamesRegister (value_at leaving.now.registers r).tag }
+    ensures { OnOk result (edges.new ≡ edges.old ++ returned_by key.now state.now back exit leaving.now) }
+{
+    let Some(exit) = exit else {
+        return Ok(());
+    };
+    let Some(after) = state.returned(alloc, leaving)? else {
+        return Ok(());
+    };
+    edges.push(Edge {
+        kind: EdgeKind::Return,
+        to: NodeKey {
+            inst: key.inst,
+            pc: back,
+            masks: exit.masks,
+            i: exit.i,
+            delay: exit.delay,
+            sp: key.sp,
+        },
+        state: after,
+    })?;
+    Ok(())
+}
+
+// The edge back from the node of this number.
+fn add_leaver<V: View>(
+    alloc: Global,
+    edges: &mut Edges,
+    flash: &Flash,
+    assumptions: &Assumptions,
+    key: &NodeKey,
+    state: &AbsState,
+    back: u16,
+    view: &V,
+    at: usize,
+    known: &[Option<Exit>],
+) -> Result<(), AllocError>
+    requires place { at < length (V.nodes view.now) }
+    requires shown { AreShown (V.nodes view.now) }
+    requires given { AreKnown flash.now assumptions.now (V.nodes view.now) known.now }
+    ensures { (n : Node) → slice_get (V.nodes view.now) at ≡ Some n → OnOk result (edges.new ≡ edges.old ++ return_edges flash.now assumptions.now key.now state.now back n) }
+{
+    let exit = exit_of(alloc, flash, assumptions, view, at, known)?;
+    let leaving = view.state(at);
+    add_return(alloc, edges, key, state, back, exit, leaving)
+}
+
+// The edges back from the instance that is entered this way.
+fn add_returns<V: View>(
+    alloc: Global,
+    edges: &mut Edges,
+    flash: &Flash,
+    assumptions: &Assumptions,
+    key: &NodeKey,
+    state: &AbsState,
+    way: &Way,
+    view: &V,
+    known: &[Option<Exit>],
+) -> Result<(), AllocError>
+    requires shown { AreShown (V.nodes view.now) }
+    requires given { AreKnown flash.now assumptions.now (V.nodes view.now) known.now }
+    ensures { OnOk result (edges.new ≡ edges.old ++ returns_in flash.now assumptions.now key.now state.now (V.nodes view.now) way.now) }
+{
+    let (low, high) = view.span(&way.inst);
+    for at in low..high {
+        add_leaver(
+            alloc,
+            edges,
+            flash,
+            assumptions,
+            key,
+            state,
+            way.back,
+            view,
+            at,
+            known,
+        )?;
+    }
+    Ok(())
+}
+
+// The edges back from all instances that are entered.
+fn add_all_returns<V: View>(
+    alloc: Global,
+    edges: &mut Edges,
+    flash: &Flash,
+    assumptions: &Assumptions,
+    key: &NodeKey,
+    state: &AbsState,
+    ways: &[Way],
+    view: &V,
+    known: &[Option<Exit>],
+) -> Result<(), AllocError>
+    requires shown { AreShown (V.nodes view.now) }
+    requires given { AreKnown flash.now assumptions.now (V.nodes view.now) known.now }
+    ensures { OnOk result (edges.new ≡ edges.old ++ all_returns flash.now assumptions.now key.now state.now (V.nodes view.now) ways.now) }
+{
+    for at in 0..ways.len() {
+        add_returns(
+            alloc,
+            edges,
+            flash,
+            assumptions,
+            key,
+            state,
+            &ways[at],
+            view,
+            known,
+        )?;
+    }
+    Ok(())
+}
+
+// All edges of a node with this local part.
+fn edges_of<V: View>(
+    alloc: Global,
+    flash: &Flash,
+    assumptions: &Assumptions,
+    key: &NodeKey,
+    state: &AbsState,
+    found: &Local,
+    view: &V,
+    known: &[Option<Exit>],
+) -> Result<Edges, AllocError>
+    requires shown { AreShown (V.nodes view.now) }
+    requires given { AreKnown flash.now assumptions.now (V.nodes view.now) known.now }
+    ensures { IfOk result (λ edges. edges ≡ edges_with flash.now assumptions.now (V.nodes view.now) key.now state.now (ways_of key.now found.now.calls) found.now) }
+{
+    let all = ways(alloc, key, found.calls.as_slice())?;
+    let mut edges = Edges::new(alloc);
+    add_moves(alloc, &mut edges, found.same.as_slice())?;
+    add_entries(alloc, &mut edges, state, &all)?;
+    add_all_returns(
+        alloc,
+        &mut edges,
+        flash,
+        assumptions,
+        key,
+        state,
+        &all,
+        view,
+        known,
+    )?;
+    Ok(edges)
+}
+
+// The edges in the order in which they are found. The exits of the first nodes may be known.
+fn listed<V: View>(
+    alloc: Global,
+    flash: &Flash,
+    assumptions: &Assumptions,
+    view: &V,
+    at: usize,
+    known: &[Option<Exit>],
+) -> Result<Edges, NodeFault>
+    requires place { at < length (V.nodes view.now) }
+    requires given { AreKnown flash.now assumptions.now (V.nodes view.now) known.now }
+    ensures { (n : Node) → slice_get (V.nodes view.now) at ≡ Some n → Answers (λ edges. edges) Memory result (next_of flash.now assumptions.now (V.nodes view.now) n.key n.state) }
+{
+    let count = view.count();
+    prove!(at < count);
+    let key = view.key(at);
+    let state = view.state(at);
+    let found = local(alloc, flash, assumptions, key, state)?;
+    match edges_of(alloc, flash, assumptions, key, state, &found, view, known) {
+        Ok(edges) => Ok(edges),
+        Err(_) => Err(NodeFault::Memory),
+    }
+}
+
+/// The edges from the node of this number, in no order that is promised, or the fault of the node that counts. `Memory` is no fault
+/// of the node. The local part of each node that may return to it is worked out anew.
+pub fn next<V: View>(
+    alloc: Global,
+    flash: &Flash,
+    assumptions: &Assumptions,
+    view: &V,
+    at: usize,
+) -> Result<Edges, NodeFault>
+    requires { at < length (V.nodes view.now) }
+    ensures edges { (n : Node) → slice_get (V.nodes view.now) at ≡ Some n → IfOk result (λ edges. AreEdges flash.now assumptions.now (V.nodes view.now) n edges) }
+    ensures fault { (n : Node) (f : fault_type.NodeFault) → slice_get (V.nodes view.now) at ≡ Some n → result ≢ Err Memory → (result ≡ Err f) ↔ (rows.local flash.now assumptions.now n.key n.state ≡ Err f) }
+    ensures faultless { (n : Node) → slice_get (V.nodes view.now) at ≡ Some n → OnOk result (IsFaultless flash.now assumptions.now n) }
+{
+    listed(alloc, flash, assumptions, view, at, &[])
+}
+
+/// The edges from the node of this number, in no order that is promised, where no node has a fault and these are their exits. The
+/// local part of this node alone is worked out.
+pub fn next_with<V: View>(
+    alloc: Global,
+    flash: &Flash,
+    assumptions: &Assumptions,
+    view: &V,
+    at: usize,
+    exits: &Exits,
+) -> Result<Edges, AllocError>
+    requires place { at < length (V.nodes view.now) }
+    requires taken { AreExits flash.now assumptions.now (V.nodes view.now) exits.now }
+    ensures { (n : Node) → slice_get (V.nodes view.now) at ≡ Some n → IfOk result (λ edges. AreEdges flash.now assumptions.now (V.nodes view.now) n edges) }
+{
+    match listed(alloc, flash, assumptions, view, at, exits.as_slice()) {
+        Ok(edges) => Ok(edges),
+        Err(_) => Err(AllocError),
+    }
+}

@@ -1,0 +1,108 @@
+//! The ways out of a node's frame into other instances.
+
+ghost use Rattle.std.specs.Prelude.{◌≡◌, ◌≤◌, ◌++◌, map, true, IfOk, OnOk, OnErr};
+ghost use Rattle.call_graph.specs.Ways.{call_way, vector_way, at_vector, vectors_below, ways_of};
+
+use local_rules::CallSite;
+use mask_states::{EdgeKind, InstKey, Kind, NodeKey, SpForm};
+use std::alloc::{AllocError, Global};
+
+// A way into an instance: how, into which, and the word at which the entering node goes on afterwards.
+#[derive(Clone, Copy)]
+pub(crate) struct Way {
+    /// By a call or an interrupt.
+    pub kind: EdgeKind,
+    /// The entered instance.
+    pub inst: InstKey,
+    /// The word behind the call, or the interrupted one.
+    pub back: u16,
+}
+
+// The way of a call.
+fn call_way(key: &NodeKey, site: CallSite) -> Way
+    ensures { result ≡ call_way key.now site }
+{
+    Way {
+        kind: EdgeKind::Call,
+        inst: InstKey {
+            kind: Kind::Call,
+            entry: site.entry,
+            masks: key.masks,
+            i: key.i,
+        },
+        back: site.back,
+    }
+}
+
+// The way of an interrupt.
+fn vector_way(key: &NodeKey, v: u8, clears: bool) -> Way
+    requires low { 2 ≤ v }
+    requires high { v ≤ 26 }
+    ensures { result ≡ vector_way key.now v clears }
+{
+    let masks = if clears {
+        key.masks.with(7, false)
+    } else {
+        key.masks
+    };
+    Way {
+        kind: EdgeKind::Interrupt(v, clears),
+        inst: InstKey {
+            kind: Kind::Vector(v),
+            entry: 2 * (u16::from(v) - 1),
+            masks,
+            i: false,
+        },
+        back: key.pc,
+    }
+}
+
+// The ways of calls.
+fn add_calls(ways: &mut Vec<Way>, key: &NodeKey, calls: &[CallSite]) -> Result<(), AllocError>
+    ensures { OnOk result (ways.new.items ≡ ways.old.items ++ map (call_way key.now) calls.now) }
+{
+    for site in calls {
+        ways.push(call_way(key, *site))?;
+    }
+    Ok(())
+}
+
+// The ways of a vector's interrupt, if it is enabled.
+fn add_vector(ways: &mut Vec<Way>, key: &NodeKey, v: u8) -> Result<(), AllocError>
+    requires low { 2 ≤ v }
+    requires high { v ≤ 26 }
+    ensures { OnOk result (ways.new.items ≡ ways.old.items ++ at_vector key.now v) }
+{
+    if key.masks.has(v) {
+        ways.push(vector_way(key, v, false))?;
+        if v == 7 {
+            ways.push(vector_way(key, v, true))?;
+        }
+    }
+    Ok(())
+}
+
+// The ways of all interrupts.
+#[tactic(auto, unfolding(crate::specs::Ways::vectors_below))]
+fn add_vectors(ways: &mut Vec<Way>, key: &NodeKey) -> Result<(), AllocError>
+    ensures { OnOk result (ways.new.items ≡ ways.old.items ++ vectors_below key.now 25) }
+{
+    for n in 0..25u8 {
+        add_vector(ways, key, n + 2)?;
+    }
+    Ok(())
+}
+
+/// The ways out of a node with these calls.
+pub(crate) fn ways(alloc: Global, key: &NodeKey, calls: &[CallSite]) -> Result<Vec<Way>, AllocError>
+    ensures { IfOk result (λ all. all.items ≡ ways_of key.now calls.now) }
+{
+    let mut all = Vec::new(alloc);
+    if let SpForm::Closed(_) = key.sp {
+        add_calls(&mut all, key, calls)?;
+        if key.i && !key.delay {
+            add_vectors(&mut all, key)?;
+        }
+    }
+    Ok(all)
+}

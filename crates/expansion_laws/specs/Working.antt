@@ -1,0 +1,43 @@
+-- How one node's state is worked out where those of the nodes before it are known.
+use Rattle.std.specs.Prelude.{ℕ, ◌≡◌, List, [], ◌∷◌, length, if◌then◌else◌, Option, Some, None, Result, Ok, Err}
+use Rattle.std.specs.List.{slice_get}
+use Rattle.avr_model.specs.declared.assumption.Entry.{Entry}
+use Rattle.abs_state.specs.declared.state.AbsState.{AbsState}
+use Rattle.mask_states.specs.declared.keys.NodeKey.{NodeKey}
+use Rattle.mask_states.specs.Order.{same_node}
+use Rattle.local_rules.specs.declared.local.Local.{Local}
+use Rattle.local_rules.specs.declared.local.Node.{Node}
+use Rattle.local_rules.specs.declared.local.NodeFault.{NodeFault}
+use Rattle.local_rules.specs.Cover.{IsNode}
+use Rattle.local_rules.specs.Local.{local}
+use Rattle.edge_rules.specs.declared.seeded.NodeForm.{NodeForm}
+use Rattle.edge_rules.specs.declared.seeded.NodeForm.TheVariants.{State, From}
+use Rattle.edge_rules.specs.Expansion.{Seeds, IsExpansion, HasKeyAt}
+
+-- the state of the first node of this key
+abbrev pub first_at : NodeKey → List Node → Option AbsState
+first_at k [] = None
+first_at k (n ∷ ns) = if same_node n.key k then Some n.state else first_at k ns
+
+abbrev pub picked : NodeKey → Result Local NodeFault → Option AbsState
+picked k (Ok l) = first_at k l.same
+picked k (Err f) = None
+
+abbrev pub carried : List ℕ → List Entry → NodeKey → Option Node → Option AbsState
+carried words A k None = None
+carried words A k (Some n) = picked k (local words A n.key n.state)
+
+abbrev pub worked : List ℕ → List Entry → List Node → NodeKey → NodeForm → Option AbsState
+worked words A done k (State s) = Some s
+worked words A done k (From m) = carried words A k (slice_get done m)
+
+-- the node is that of this number, with its expansion
+pub record IsWorked (words : List ℕ) (A : List Entry) (nodes : Seeds) (at : ℕ) (n : Node) : Type 0 where
+  pub key : HasKeyAt nodes at n.key
+  pub state : IsExpansion words A nodes at n.state
+  pub node : IsNode n.key n.state
+
+-- the first nodes, with their expansions
+pub record SoFar (words : List ℕ) (A : List Entry) (nodes : Seeds) (at : ℕ) (done : List Node) : Type 0 where
+  pub count : length done ≡ at
+  pub each : (i : ℕ) (n : Node) → slice_get done i ≡ Some n → IsWorked words A nodes i n
