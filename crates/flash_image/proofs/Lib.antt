@@ -1,4 +1,5 @@
 pub mod Bytes
 pub mod Raw
 pub mod Least
+pub mod Rows
 mod RawWords

@@ -4,6 +4,7 @@ ghost use Rattle.std.specs.Prelude.{◌≡◌, ℕ, ◌+◌, ◌*◌, ◌%◌, �
 ghost use Rattle.avr_model.specs.Image.{word_at, byte_at, IsRawImage};
 ghost use Rattle.flash_image.specs.Placing.{placed};
 
+use avr_model::device::WORDS;
 use std::alloc::{AllocError, Global};
 use std::marker::Model;
 use thiserror::Error;
@@ -16,11 +17,14 @@ pub struct Flash {
 }
 
 impl Model for Flash {
+    ghost use Rattle.std.specs.Prelude.{◌≡◌, ℕ, List, length};
+    ghost use Rattle.avr_model.specs.declared.device.TheConstants.{WORDS};
+
     ghost Value = { List ℕ };
 
     ghost view = { λ f. f.words.items };
 
-    ghost invariant = { λ f. length f.words.items ≡ 16384 };
+    ghost invariant = { λ f. length f.words.items ≡ WORDS };
 }
 
 /// Why a file is no raw image, or that there was no memory for it.
@@ -34,13 +38,13 @@ pub enum RawFault {
     Memory,
 }
 
-/// How many words flash has (data sheet: 32 KiB).
-const COUNT: usize = 16384;
+/// How many words flash has, as a length.
+const COUNT: usize = WORDS as usize;
 
 impl Flash {
     /// Flash whose words are all FFFF.
     pub fn erased(alloc: Global) -> Result<Flash, AllocError>
-        ensures { IfOk result (λ flash. flash ≡ replicate 16384 0xFFFF) }
+        ensures { IfOk result (λ flash. flash ≡ replicate WORDS 0xFFFF) }
     {
         let words = vec![in alloc; 0xFFFFu16; COUNT]?;
         Ok(Flash { words })
@@ -67,7 +71,7 @@ impl Flash {
     /// All words.
     pub fn words(&self) -> &[u16]
         ensures value { result.now ≡ self.now }
-        ensures count { length result.now ≡ 16384 }
+        ensures count { length result.now ≡ WORDS }
     {
         self.words.as_slice()
     }
@@ -95,7 +99,7 @@ impl Flash {
     /// Puts bytes at the byte addresses from `at` on; every other byte stays as it was.
     pub fn place(&mut self, at: u16, bytes: &[u8])
         requires { at + length bytes.now ≤ 0x8000 }
-        ensures count { length self.new ≡ 16384 }
+        ensures count { length self.new ≡ WORDS }
         ensures bytes { (z : ℕ) → z < 0x8000 → byte_at self.new z ≡ placed at bytes.now self.old z }
     {
         let _ = &self.words;
@@ -107,7 +111,7 @@ impl Flash {
     /// Changes the byte at `z` alone.
     fn set_byte(&mut self, z: usize, byte: u8)
         requires { z < 0x8000 }
-        ensures count { length self.new ≡ 16384 }
+        ensures count { length self.new ≡ WORDS }
         ensures there { byte_at self.new z ≡ byte }
         ensures elsewhere { (k : ℕ) → k ≢ z → byte_at self.new k ≡ byte_at self.old k }
     {
