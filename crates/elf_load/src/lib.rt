@@ -5,6 +5,7 @@
 ghost use Rattle.std.specs.Prelude.{◌≡◌, true, IfOk};
 ghost use Rattle.elf_load.specs.Elf.{is_elf, elf_fault, elf_names, static_end, IsElfImage};
 ghost use Rattle.elf_load.specs.Refusing.{Refuses};
+ghost use Rattle.flash_image.specs.Naming.{SayTheSame};
 
 use flash_image::{Flash, Names};
 use std::alloc::Global;
@@ -26,7 +27,8 @@ pub use fault::ElfFault;
 pub struct Loaded {
     /// The words of flash: the placed segments, and erased words around them.
     pub flash: Flash,
-    /// The names of words: those of the functions in the first symbol table. None where it is damaged.
+    /// The names of words: of those of the functions in the first symbol table, each word's least one by bytes. None where
+    /// the table is damaged.
     pub names: Names,
     /// The data address behind the static data in SRAM, 0x0101 to 0x0900. None where no segment lies there.
     pub static_end: Option<u16>,
@@ -45,7 +47,7 @@ pub fn load(alloc: Global, bytes: &[u8]) -> Result<Loaded, ElfFault>
     requires { is_elf bytes.now ≡ true }
     ensures refusal { Refuses result (elf_fault bytes.now) }
     ensures image { IfOk result (λ loaded. IsElfImage bytes.now loaded.flash) }
-    ensures names { IfOk result (λ loaded. loaded.names ≡ elf_names bytes.now) }
+    ensures names { IfOk result (λ loaded. SayTheSame loaded.names (elf_names bytes.now)) }
     ensures static_end { IfOk result (λ loaded. loaded.static_end ≡ static_end bytes.now) }
 {
     file_header::check(bytes)?;

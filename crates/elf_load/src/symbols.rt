@@ -1,7 +1,8 @@
 //! Symbols: the names of functions.
 
-ghost use Rattle.std.specs.Prelude.{◌≡◌, ◌≤◌, ◌<◌, ◌+◌, ◌*◌, ◌/◌, ◌++◌, Some, None, length, take, IfOk, MatchOption};
+ghost use Rattle.std.specs.Prelude.{◌≡◌, ◌≤◌, ◌<◌, ◌+◌, ◌*◌, ◌/◌, ◌++◌, Some, None, List, length, take, IfOk, MatchOption};
 ghost use Rattle.elf_load.specs.Elf.{symbol, symbols_below, name_at, named_of, name_before_zero, is_name_byte, is_function};
+ghost use Rattle.flash_image.specs.Naming.{Named, SayTheSame};
 
 use crate::fields::read_four;
 use flash_image::Names;
@@ -18,7 +19,7 @@ const LONGEST: usize = 1024;
 
 /// The names of the functions in a symbol table with these strings. A last symbol that isn't whole is passed over.
 pub fn function_names(alloc: Global, symbols: &[u8], strings: &[u8]) -> Result<Names, AllocError>
-    ensures { IfOk result (λ names. names ≡ symbols_below symbols.now strings.now (length symbols.now / 16)) }
+    ensures { IfOk result (λ names. SayTheSame names (symbols_below symbols.now strings.now (length symbols.now / 16))) }
 {
     let mut names = Names::new(alloc);
     for n in 0..symbols.len() / SIZE {
@@ -35,7 +36,7 @@ fn add_symbol(
     at: usize,
 ) -> Result<(), AllocError>
     requires { at + 16 ≤ length symbols.now }
-    ensures { IfOk result (λ _. names.new ≡ names.old ++ symbol symbols.now strings.now at) }
+    ensures { IfOk result (λ _. (added : List Named) → SayTheSame names.old added → SayTheSame names.new (added ++ symbol symbols.now strings.now at)) }
 {
     let value = read_four(symbols, at + 4);
     if !is_function(symbols[at + 12], value) {
