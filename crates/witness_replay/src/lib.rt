@@ -7,6 +7,7 @@ pub mod replaying;
 pub mod schedule;
 #[cfg(test)]
 mod tests;
+mod tracing;
 mod writing;
 
 pub use replaying::{IllegalChoice, ReplayReport, replay};

@@ -24,7 +24,7 @@ pub struct ReplayReport {
 }
 
 /// The machine permits no such choice where it is reached. The choices count from 0.
-#[derive(Clone, Copy, Debug, PartialEq, Eq)]
+#[derive(Clone, Copy, PartialEq, Eq)]
 pub struct IllegalChoice(pub u32);
 
 /// How a replay ends at the answer to a step, if it does, after so many done steps and with this depth.

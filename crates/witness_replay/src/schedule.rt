@@ -8,7 +8,7 @@ use std::marker::Model;
 use thiserror::Error;
 
 /// Equal choices in a row, which are one line of a schedule.
-#[derive(Clone, Copy, Debug, PartialEq, Eq)]
+#[derive(Clone, Copy, Debug)]
 pub enum Run {
     /// So many `Go`, from 1, with these two input bytes.
     Go(u32, u8, u8),

@@ -2,7 +2,7 @@
 //! replays are worked out by hand from the Instruction Set Manual.
 
 use crate::{IllegalChoice, ReplayReport, Schedule, ScheduleFault, replay};
-use avr_model::choice::{Flag, Stop};
+use avr_model::choice::{Choice, Flag, Stop};
 use flash_image::Flash;
 use sb_base::{LineReader, LineWriter};
 use std::alloc::Global;
@@ -80,28 +80,43 @@ fn read_and_write(
     }
 }
 
+/// Whether the text is read and written, or refused, as is due.
+fn is_due(alloc: Global, text: &[u8], answer: Result<usize, usize>) -> Result<bool, ScheduleFault> {
+    let (found, place, same) = read_and_write(alloc, text)?;
+    let due = match answer {
+        Ok(end) => end,
+        Err(at) => at,
+    };
+    Ok(found == answer && place == due && same)
+}
+
 #[test]
 fn texts_are_read_and_written_or_refused_at_their_line(rt: HostRuntime) -> Result<(), Fail> {
-    for (text, answer) in TEXTS {
-        let (found, place, same) = read_and_write(rt.alloc(), text)?;
-        let due = match answer {
-            Ok(end) => end,
-            Err(at) => at,
-        };
-        assert_eq!(rt; found, answer);
-        assert_eq!(rt; place, due);
-        assert!(rt; same);
+    for (at, (text, answer)) in TEXTS.iter().enumerate() {
+        assert!(rt; is_due(rt.alloc(), text, *answer)?, "row {at}");
     }
     Ok(())
 }
 
 #[test]
-fn a_schedule_within_a_text_is_told_by_offsets_of_the_whole(rt: HostRuntime) -> Result<(), Fail> {
+fn a_schedule_within_a_text_is_told_by_offsets_of_the_whole(rt: HostRuntime) {
     let mut reader = LineReader::new(b"first\nschedule 1\nfill 7F\ngo 0 00 00\nend\n");
     reader.next();
     let answer = Schedule::read(rt.alloc(), &mut reader);
-    assert_eq!(rt; answer.err(), Some(ScheduleFault::Malformed(25)));
-    assert_eq!(rt; reader.offset(), 25);
+    assert!(rt; answer.err() == Some(ScheduleFault::Malformed(25)) && reader.offset() == 25);
+}
+
+#[test]
+fn equal_choices_in_a_row_are_one_run(rt: HostRuntime) -> Result<(), Fail> {
+    let low = Choice::Go(0, 0);
+    let high = Choice::Go(0, 1);
+    let taken = Choice::Take(26, true);
+    let choices = [low, low, high, taken, taken, high, high];
+    let mut out = LineWriter::new(rt.alloc());
+    Schedule::from_trace(rt.alloc(), 0x5A, &choices)?.write(&mut out)?;
+    let text =
+        b"schedule 1\nfill 5A\ngo 2 00 00\ngo 1 00 01\ntake 26 1\ntake 26 1\ngo 2 00 01\nend\n";
+    assert!(rt; out.finish().as_slice() == text.as_slice());
     Ok(())
 }
 
