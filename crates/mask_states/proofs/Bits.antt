@@ -1,11 +1,10 @@
 -- Numbers with one bit more.
-use Rattle.std.proofs.Common.{◌≡◌, ◌∙◌, sym, ap, subst, inl, inr, ℕ, zero, suc, ◌+◌, ◌-◌, ◌*◌, ◌^◌, ◌%◌, ◌/◌, ◌<◌, ◌≤◌, arith, true, cond, eqb, eq-eqb, ne_eqb, bit_or}
+use Rattle.std.proofs.Common.{◌≡◌, ◌∙◌, sym, ap, inl, inr, ℕ, suc, ◌+◌, ◌-◌, ◌*◌, ◌^◌, ◌%◌, ◌/◌, ◌<◌, ◌≤◌, arith, true, cond, eqb, eq-eqb, ne_eqb, bit_or}
 use Rattle.std.specs.Int.{bit_at}
-use Rattle.std.proofs.lemmas.Bool.{cases_lt, cases_eq}
+use Rattle.std.proofs.lemmas.Bool.{cases_eq}
 use Rattle.std.proofs.lemmas.Nat.{or_lt, pow_below, or_disjoint, mod-pow-add, div-add-mod'}
-use Rattle.std.proofs.lemmas.Nat.Bits.{bit_at-lt, bit_at_cat_low, bit_at_cat_high, bit_at_lowest, same_from_bits_below, bit_at_or, bit_at-pow_same, bit_at-pow_other, and_pow}
+use Rattle.std.proofs.lemmas.Nat.Bits.{bit_at-lt, bit_at_cat_high, bit_at_lowest, bit_at_or, bit_at-pow_same, bit_at-pow_other, and_pow}
 use Rattle.std.proofs.Math.Numerals.{one-add}
-use Rattle.avr_model.specs.Bits.{number_of}
 use Rattle.avr_model.specs.Vectors.{with_enable}
 use Rattle.vector_table.proofs.AllLaws.{numbers_are_their_bits}
 
