@@ -91,7 +91,7 @@ entry_reads k w at e few h = ap entry_in (stand_words k (entry_words e) (entry_s
 
 -- ---- instances
 
-inst_above_is : (xs : List Inst) (x : Inst) → is_inst_above (last_in xs) x ≡ is_after inst_cmp (inst_keys xs) x.key
+pub inst_above_is : (xs : List Inst) (x : Inst) → is_inst_above (last_in xs) x ≡ is_after inst_cmp (inst_keys xs) x.key
 inst_above_is [] x = refl
 inst_above_is (y ∷ []) x = refl
 inst_above_is (y ∷ z ∷ zs) x =
@@ -138,7 +138,7 @@ inst_reads k l at x few h = ap inst_in (k.words_stand (codes "inst") _ (l.words 
 abbrev pub FitsNode : List Inst → ℕ → NodeKey × NodeForm → Type 0
 FitsNode insts at n = FitsAt at n.0 n.1 × Belongs insts n.0
 
-node_above_is : (ns : Seeds) (key : NodeKey) → is_node_above (last_in ns) key ≡ is_after node_cmp (node_keys ns) key
+pub node_above_is : (ns : Seeds) (key : NodeKey) → is_node_above (last_in ns) key ≡ is_after node_cmp (node_keys ns) key
 node_above_is [] key = refl
 node_above_is (m ∷ []) key = refl
 node_above_is (m ∷ l ∷ ls) key =
@@ -166,7 +166,7 @@ pub record NodesKeep (ns : Seeds) : Type 0 where
   pub ascend : IsStrictlySortedBy node_cmp (node_keys ns)
   pub few : cells_of (node_keys ns) ≤ most_cells
 
-keys_append : (ns ms : Seeds) → node_keys (ns ++ ms) ≡ node_keys ns ++ node_keys ms
+pub keys_append : (ns ms : Seeds) → node_keys (ns ++ ms) ≡ node_keys ns ++ node_keys ms
 keys_append ns ms = map-append (λ (e : NodeKey × NodeForm). e.0) ns ms
 
 node_pushed : KeysAreOrdered → (insts : List Inst) (ns : Seeds) (n : NodeKey × NodeForm) → NodesKeep ns → FitsNode insts (length ns) n → ((at : ℕ) → refused_node ns n at ≡ None) → NodesKeep (ns ++ n ∷ [])

@@ -4,4 +4,7 @@ pub mod Lists
 pub mod Places
 pub mod Kept
 pub mod Parts
+pub mod Numbers
+pub mod Stops
 pub mod Whole
+pub mod Refused

@@ -63,14 +63,14 @@ lines words xs = map whole (map words xs)
 pub as_words : {A : Type 0} (f : List ℕ → Option A) (p : Place) (x : A) (q : Place) (t : TakesLine f p x q) (ws : List (List ℕ)) → t.text ≡ spaced ws → Passes p (whole ws ∷ []) q
 as_words f p x q t ws e = let P : List ℕ → Type 0 = λ y. Passes p (record { text = y; whole = true } ∷ []) q in subst P e t.passes
 
-record LongerRead {A : Type 0} (words : A → List (List ℕ)) (P : ℕ → A → Type 0) (refused : List A → A → ℕ → Option CertFault) (xs : List A) (p : Place) (z : List A × Place) : Type 0 where
+pub record LongerRead {A : Type 0} (words : A → List (List ℕ)) (P : ℕ → A → Type 0) (refused : List A → A → ℕ → Option CertFault) (xs : List A) (p : Place) (z : List A × Place) : Type 0 where
   pub item : A
   pub fits : P (length xs) item
   pub none : refused xs item p.at ≡ None
   pub all : xs ++ item ∷ [] ≡ z.0
   pub passes : Passes p (whole (words item) ∷ []) z.1
 
-longer_take : {A : Type 0} (by : ℕ → List ℕ → Option A) (words : A → List (List ℕ)) (P : ℕ → A → Type 0) (refused : List A → A → ℕ → Option CertFault) → Spells by words P
+pub longer_take : {A : Type 0} (by : ℕ → List ℕ → Option A) (words : A → List (List ℕ)) (P : ℕ → A → Type 0) (refused : List A → A → ℕ → Option CertFault) → Spells by words P
     → (xs : List A) (p : Place) (z : List A × Place) → longer_at by refused xs p ≡ Ok z → LongerRead words P refused xs p z
 unfolding longer_at
 longer_take {A} by words P refused spells xs p z e =

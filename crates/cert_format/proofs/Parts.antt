@@ -86,7 +86,7 @@ numbered_plain k name n h room = (h, (k.dec_word n room, tt))
 this_is : (text t : List ℕ) (u : Unit {0}) → this_by text t ≡ Some u → t ≡ text
 this_is text t u e = (bytes_eq-Decides t text).0 (tested (bytes_eq t text) tt u e).0
 
-this_again : (text : List ℕ) → this_by text text ≡ Some tt
+pub this_again : (text : List ℕ) → this_by text text ≡ Some tt
 this_again text = rw (same_text text) refl
 
 pub this_take : (ws : List (List ℕ)) (p : Place) (z : Unit {0} × Place) → formed (line_by (this_by (spaced ws)) p) ≡ Ok z → Stand p (ws ∷ []) z.1
@@ -107,7 +107,7 @@ numbered_take k name most n ws room e =
     let P : ℕ → Type 0 = λ y. (ws ≡ numbered name y) × (y ≤ most) in
     subst P last.1 (word_take name ws w.0 w.1 ∙ ap (λ (xs : List (List ℕ)). name ∷ xs) (t.0 ∙ ap (λ (xs : List (List ℕ)). decimal d.0.0 ∷ xs) (no_words d.0.1 last.0)), t.1)
 
-numbered_again : WordLaws → (name : List ℕ) (most n : ℕ) → most < 2 ^ 64 → n ≤ most → numbered_in name most (numbered name n) ≡ Some n
+pub numbered_again : WordLaws → (name : List ℕ) (most n : ℕ) → most < 2 ^ 64 → n ≤ most → numbered_in name most (numbered name n) ≡ Some n
 unfolding numbered_in
 numbered_again k name most n room h = let t = k.dec_taken most n [] room h in rw (same_text name, t) refl
 
@@ -210,11 +210,11 @@ heading_again k p n q small h =
 
 -- ---- the schedule
 
-abbrev ending_words : Bool → List (List ℕ)
+abbrev pub ending_words : Bool → List (List ℕ)
 ending_words false = open_line
 ending_words true = attained_line
 
-ending_is : (t : List ℕ) (b : Bool) → ending_by t ≡ Some b → t ≡ spaced (ending_words b)
+pub ending_is : (t : List ℕ) (b : Bool) → ending_by t ≡ Some b → t ≡ spaced (ending_words b)
 unfolding ending_by
 ending_is t b e =
     let P : Bool → Type 0 = λ x. t ≡ spaced (ending_words x) in
@@ -223,7 +223,7 @@ ending_is t b e =
       | inr h ↦ let g = tested (bytes_eq t (spaced attained_line)) true b h.1 in subst P g.1 ((bytes_eq-Decides t (spaced attained_line)).0 g.0)
     ]
 
-ending_again : (b : Bool) → ending_by (spaced (ending_words b)) ≡ Some b
+pub ending_again : (b : Bool) → ending_by (spaced (ending_words b)) ≡ Some b
 unfolding ending_by
 ending_again false = refl
 ending_again true = refl

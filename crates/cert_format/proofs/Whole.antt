@@ -46,7 +46,7 @@ pub record Below : Type 0 where
 
 -- ---- the lists
 
-entries_take : Below → (p : Place) (z : List Entry × Place) → entries_at p ≡ Ok z → ListPart (codes "assume") most_entries entry_words AnyEntry refused_entry p z
+pub entries_take : Below → (p : Place) (z : List Entry × Place) → entries_at p ≡ Ok z → ListPart (codes "assume") most_entries entry_words AnyEntry refused_entry p z
 unfolding entries_at
 entries_take b p z e =
     let n = then_ok (formed (line_by (numbered_by (codes "assume") most_entries) p)) _ z e in
@@ -61,7 +61,7 @@ entries_again b p es q h s =
     let count = number_line b.words (codes "assume") most_entries (length es) p r.0 (plain (codes "assume" ∷ []) refl).0 (lit< tt) h.few r.1 in
     rw count r.2
 
-insts_take : Below → (p : Place) (z : List Inst × Place) → insts_at p ≡ Ok z → ListPart (codes "instances") most_instances inst_words AnyInst refused_inst p z
+pub insts_take : Below → (p : Place) (z : List Inst × Place) → insts_at p ≡ Ok z → ListPart (codes "instances") most_instances inst_words AnyInst refused_inst p z
 unfolding insts_at
 insts_take b p z e =
     let n = then_ok (formed (line_by (numbered_by (codes "instances") most_instances) p)) _ z e in
@@ -75,7 +75,7 @@ insts_again b p xs q ascend all few s =
     let count = number_line b.words (codes "instances") most_instances (length xs) p r.0 (plain (codes "instances" ∷ []) refl).0 (lit< tt) few r.1 in
     rw count r.2
 
-nodes_part : Below → (insts : List Inst) → IsStrictlySortedBy inst_cmp (inst_keys insts) → (p : Place) (z : Seeds × Place) → nodes_at insts p ≡ Ok z → ListPart (codes "nodes") most_nodes (node_words insts) (FitsNode insts) refused_node p z
+pub nodes_part : Below → (insts : List Inst) → IsStrictlySortedBy inst_cmp (inst_keys insts) → (p : Place) (z : Seeds × Place) → nodes_at insts p ≡ Ok z → ListPart (codes "nodes") most_nodes (node_words insts) (FitsNode insts) refused_node p z
 unfolding nodes_at
 nodes_part b insts ascend p z e =
     let n = then_ok (limited (formed (line_by count_by p))) _ z e in
@@ -91,6 +91,21 @@ nodes_again b insts few p ns q keep all most s =
 
 -- ---- what is read is spelled so
 
+pub claim_of : (n : ℕ) (es : List Entry) (xs : List Inst) (ns : Seeds) (w : Option Plan) → n ≤ SIZE → AreEntries es → AllByRecursion IsInst xs → IsStrictlySortedBy inst_cmp (inst_keys xs) → length xs ≤ most_instances
+    → AllFrom (FitsNode xs) 0 ns → NodesKeep ns → length ns ≤ most_nodes → IsClaim (record { bound = n; assumptions = es; instances = xs; nodes = ns; witness = w })
+claim_of n es xs ns w small he hx ax few hn kn most = record {
+  bound_fits = small;
+  entries_fit = he;
+  insts_fit = hx;
+  insts_ascend = ax;
+  few_insts = few;
+  nodes_fit = all_from xs 0 ns hn;
+  nodes_belong = all_belong xs 0 ns hn;
+  nodes_ascend = kn.ascend;
+  few_nodes = most;
+  few_cells = kn.few;
+}
+
 claim_by : Below → (n : ℕ) (a c d : Place) (es : List Entry × Place) (xs : List Inst × Place) (ns : Seeds × Place) (w : Option Plan) → n ≤ SIZE → entries_at a ≡ Ok es → insts_at c ≡ Ok xs → nodes_at xs.0 d ≡ Ok ns
     → IsClaim (record { bound = n; assumptions = es.0; instances = xs.0; nodes = ns.0; witness = w })
 claim_by b n a c d es xs ns w small e f g =
@@ -98,20 +113,8 @@ claim_by b n a c d es xs ns w small e f g =
     let insts = insts_take b c xs f in
     let ascend = insts_kept b.keys xs.0 insts.fit in
     let nodes = nodes_part b xs.0 ascend d ns g in
-    let keep = nodes_kept b.keys xs.0 ns.0 nodes.fit in
-    let all = admitted_all (FitsNode xs.0) refused_node [] ns.0 nodes.fit in
-    record {
-      bound_fits = small;
-      entries_fit = entries_kept es.0 entries.few entries.fit;
-      insts_fit = all_of_any IsInst 0 xs.0 (admitted_all AnyInst refused_inst [] xs.0 insts.fit);
-      insts_ascend = ascend;
-      few_insts = insts.few;
-      nodes_fit = all_from xs.0 0 ns.0 all;
-      nodes_belong = all_belong xs.0 0 ns.0 all;
-      nodes_ascend = keep.ascend;
-      few_nodes = nodes.few;
-      few_cells = keep.few;
-    }
+    claim_of n es.0 xs.0 ns.0 w small (entries_kept es.0 entries.few entries.fit) (all_of_any IsInst 0 xs.0 (admitted_all AnyInst refused_inst [] xs.0 insts.fit)) ascend insts.few
+    (admitted_all (FitsNode xs.0) refused_node [] ns.0 nodes.fit) (nodes_kept b.keys xs.0 ns.0 nodes.fit) nodes.few
 
 record ClaimRead (p : Place) (z : Claim × Place) : Type 0 where
   pub certificate : IsCertificate z.0

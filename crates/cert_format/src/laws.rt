@@ -2,6 +2,7 @@
 
 ghost use Rattle.cert_format.specs.LineLaws.{InstLines, NodeLines};
 ghost use Rattle.cert_format.specs.Exact.{ReadIsSpelled, SpelledIsRead, OneText, PartsMakeClaims};
+ghost use Rattle.cert_format.specs.Refusals.{ReadIsDue};
 
 use cert_words::laws::key_words;
 use indirect_targets::laws::entry_words;
@@ -25,11 +26,13 @@ pub fn node_lines()
     key_words();
 }
 
-/// What is read is a certificate's text, each certificate's text is read as it, and no text is that of two certificates.
+/// What is read is a certificate's text, each certificate's text is read as it, and no text is that of two certificates; where a
+/// text is refused, the line there tells why.
 pub fn certificate_texts()
     ensures read { ReadIsSpelled }
     ensures spelled { SpelledIsRead }
     ensures one { OneText }
+    ensures due { ReadIsDue }
 {
     word_laws();
     instance_lines();

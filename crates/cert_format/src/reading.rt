@@ -14,6 +14,7 @@ ghost use Rattle.cert_format.specs.declared.fault.CertFault.TheVariants as fault
 ghost use Rattle.certificate.specs.Claims.{Claim, IsCertificate, most_instances, most_nodes, most_cells, cells_of, node_keys};
 ghost use Rattle.cert_words.specs.Text.{text_of};
 ghost use Rattle.cert_format.specs.Reading.{formed, numbered_in, numbered_by, counted, count_at, count_in, count_by, entry_by, inst_by, node_by, ending_by, last_in, is_inst_above, is_node_above, refused_entry, refused_inst, refused_node, with_item, longer_at, items_from, heading_at, entries_at, insts_at, limited, nodes_at, plan_if, witness_at, if_last, end_at, claim_at, claim_alone, certificate_in};
+ghost use Rattle.cert_format.specs.Refusals.{IsDueUnlessMemory};
 
 use crate::fault::{CertFault, Limit};
 use crate::laws::{certificate_texts, claims_keep};
@@ -520,6 +521,7 @@ pub fn read(alloc: Global, text: &[u8]) -> Result<Certificate, CertFault>
     ensures exact { Answers (λ c. c) fault.Memory result (certificate_in text.now) }
     ensures found { IfOk result (λ c. text.now ≡ text_of c) }
     ensures kept { IfOk result IsCertificate }
+    ensures told { IsDueUnlessMemory text.now result }
     ensures spelled { (c : Claim) → IsCertificate c → text.now ≡ text_of c → Answers (λ x. x) fault.Memory result (Ok c) }
 {
     certificate_texts();

@@ -1,4 +1,5 @@
 use Rattle.cert_format.proofs.Whole.{found, kept, spelled}
+use Rattle.cert_format.proofs.Refused.{told}
 use Rattle.cert_format.proofs.reading.read.Goals as goal
 
 pub returns-clause-found : goal.returns-clause-found
@@ -9,3 +10,6 @@ returns-clause-kept c = kept c.certificate_texts.ensures.read c.args.text.now c.
 
 pub returns-clause-spelled : goal.returns-clause-spelled
 returns-clause-spelled c = spelled c.certificate_texts.ensures.spelled c.args.text.now c.read_all.result c.read_all.ensures
+
+pub returns-clause-told : goal.returns-clause-told
+returns-clause-told c = told c.certificate_texts.ensures.due c.args.text.now c.read_all.result c.read_all.ensures

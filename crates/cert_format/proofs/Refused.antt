@@ -1,0 +1,413 @@
+-- Each refusal is due: what stands before it are the first lines of a certificate, and the line there tells why.
+use Rattle.std.proofs.Common.{ℕ, ◌+◌, ◌<◌, ◌≤◌, ◌^◌, ◌≡◌, List, [], ◌∷◌, ◌++◌, length, map, codes, Bool, true, false, refl, ap, sym, ◌∙◌, arith, Option, Some, None, Result, Ok, Err, ◌⊎◌, inl, inr, cond, subst, lit<, nat_le}
+use Rattle.std.specs.Prelude.{◌≢◌, ⊤}
+use Rattle.std.specs.List.{AllByRecursion}
+use Rattle.std.specs.List.Sorted.{IsStrictlySortedBy}
+use Rattle.std.specs.Fmt.{decimal}
+use Rattle.std.proofs.lemmas.Bool.Decides.{nat_tests}
+use Rattle.std.proofs.lemmas.Bool.{false≢true}
+use Rattle.std.proofs.lemmas.List.{map-append}
+use Rattle.avr_model.specs.declared.assumption.Entry.{Entry}
+use Rattle.avr_model.specs.State.{SIZE}
+use Rattle.sb_base.specs.Answers.{Answers}
+use Rattle.sb_base.specs.Lines.{TextLine, Place, words_of, spaced}
+use Rattle.line_reading.specs.Reading.{first_by, this_by, line_by}
+use Rattle.line_reading.specs.Words.{IsWord, whole, Passes, WordLaws}
+use Rattle.line_reading.proofs.Steps.{passes_none, passes_more, line_takes, none_some, some_is}
+use Rattle.vector_table.specs.Entries.{AreEntries, is_above_last, most_entries}
+use Rattle.indirect_targets.specs.Spelling.{entry_words}
+use Rattle.indirect_targets.proofs.Lists.{none_are_entries}
+use Rattle.mask_states.specs.declared.keys.NodeKey.{NodeKey}
+use Rattle.mask_states.specs.declared.keys.InstKey.{InstKey}
+use Rattle.mask_states.specs.Keys.{offset_of}
+use Rattle.mask_states.specs.Order.{inst_cmp, node_cmp}
+use Rattle.edge_rules.specs.declared.seeded.NodeForm.{NodeForm}
+use Rattle.edge_rules.specs.Expansion.{Seeds}
+use Rattle.witness_replay.specs.Spelling.{Plan}
+use Rattle.witness_replay.specs.Reading.{schedule_at}
+use Rattle.witness_replay.specs.Exact.{RefusedIsStuck}
+use Rattle.certificate.specs.declared.instance.Inst.{Inst}
+use Rattle.certificate.specs.Insts.{IsInst, inst_keys}
+use Rattle.certificate.specs.Claims.{Claim, IsClaim, IsCertificate, most_instances, most_nodes, most_cells, cells_of, node_keys}
+use Rattle.cert_words.specs.Text.{numbered, version, heading, entry_lines, inst_lines, node_lines, inst_words, node_words, open_line, attained_line, witness_lines, end_line, front_lines}
+use Rattle.cert_format.specs.declared.fault.CertFault.{CertFault}
+use Rattle.cert_format.specs.declared.fault.CertFault.TheVariants as fault
+use Rattle.cert_format.specs.declared.fault.Limit.{Limit}
+use Rattle.cert_format.specs.declared.fault.Limit.TheVariants as limit
+use Rattle.cert_format.specs.Reading.{entry_by, inst_by, node_by, numbered_in, numbered_by, count_in, count_by, ending_by, formed, limited, last_in, is_inst_above, is_node_above, refused_entry, refused_inst, refused_node, heading_at, entries_at, insts_at, nodes_at, plan_if, witness_at, if_last, end_at, claim_at, claim_alone, certificate_in}
+use Rattle.cert_format.specs.Refusals.{Part, Version, Bound, Assume, AnEntry, Instances, AnInst, Nodes, ANode, Ending, End, Nothing, Stands, IsNext, IsNumbered, AreNodes, IsLow, IsTooMuch, IsStopped, IsRefused, IsDue, IsDueUnlessMemory, ReadIsDue, start}
+use Rattle.cert_format.proofs.Numbers.{decimal_word, nodes_count, too_many}
+use Rattle.cert_format.proofs.Lists.{err_ok, formed_ok, AllFrom, all_of_any, admitted_all, as_words, sorted_at, sorted_push, lines}
+use Rattle.cert_format.proofs.Items.{cells_more}
+use Rattle.cert_format.proofs.Kept.{AnyEntry, entry_steady, entries_kept, entry_spells, entry_reads, AnyInst, inst_steady, insts_kept, inst_spells, inst_reads, inst_above_is, FitsNode, node_steady, NodesKeep, nodes_kept, node_spells, node_reads, node_above_is, keys_append, all_fit}
+use Rattle.cert_format.proofs.Parts.{Stand, stand_more, plain, numbered_again, numbered_plain, number_take, nodes_take, this_again, this_take, heading_take, witness_part, ending_again, ending_words, ending_is}
+use Rattle.cert_format.proofs.Stops.{err_is, then_stop, formed_err, line_stop, not_next, is_next, Stop, ItemRefused, items_stop}
+use Rattle.cert_format.proofs.Whole.{Below, entries_take, insts_take, nodes_part, claim_of, read_is_spelled}
+
+-- ---- claims of the parts that are read
+
+no_insts : IsStrictlySortedBy inst_cmp (inst_keys [])
+unfolding IsStrictlySortedBy
+no_insts = tt
+
+no_nodes : NodesKeep []
+unfolding IsStrictlySortedBy cells_of
+no_nodes = record { ascend = tt; few = omega arith }
+
+abbrev claim_to : ℕ → List Entry → List Inst → Seeds → Option Plan → Claim
+claim_to n es xs ns w = record { bound = n; assumptions = es; instances = xs; nodes = ns; witness = w }
+
+certificate_of : (n : ℕ) (es : List Entry) (xs : List Inst) (ns : Seeds) → n ≤ SIZE → AreEntries es → AllByRecursion IsInst xs → IsStrictlySortedBy inst_cmp (inst_keys xs) → length xs ≤ most_instances
+    → AllFrom (FitsNode xs) 0 ns → NodesKeep ns → length ns ≤ most_nodes → IsCertificate (claim_to n es xs ns None)
+certificate_of n es xs ns small he hx ax few hn kn most = record { claim = claim_of n es xs ns None small he hx ax few hn kn most; schedule = tt }
+
+bound_only : (n : ℕ) → n ≤ SIZE → IsCertificate (claim_to n [] [] [] None)
+bound_only n small = certificate_of n [] [] [] small none_are_entries tt no_insts (omega arith) tt no_nodes (omega arith)
+
+with_entries : (n : ℕ) (es : List Entry) → n ≤ SIZE → AreEntries es → IsCertificate (claim_to n es [] [] None)
+with_entries n es small h = certificate_of n es [] [] small h tt no_insts (omega arith) tt no_nodes (omega arith)
+
+with_insts : (n : ℕ) (es : List Entry) (xs : List Inst) → n ≤ SIZE → AreEntries es → AllByRecursion IsInst xs → IsStrictlySortedBy inst_cmp (inst_keys xs) → length xs ≤ most_instances → IsCertificate (claim_to n es xs [] None)
+with_insts n es xs small h hx ax few = certificate_of n es xs [] small h hx ax few tt no_nodes (omega arith)
+
+-- ---- a line that isn't of its form
+
+malformed : (p : Place) (c : Claim) (part : Part) (q : Place) (g : CertFault) → Stands p c part q → IsStopped c part q.rest → g ≡ fault.Malformed q.at → IsRefused p g
+malformed p c part q g h stop e =
+    let P : CertFault → Type 0 = λ f. IsRefused p f in
+    subst P (sym e) (q, refl, inl (record { claim = c; part = part; stands = h; stop = stop }))
+
+numbered_reads : WordLaws → (name : List ℕ) (most : ℕ) (ws : List (List ℕ)) → IsWord name → most < 2 ^ 64 → IsNumbered name most ws → (n : ℕ) × (numbered_by name most (spaced ws) ≡ Some n)
+numbered_reads k name most ws word room h =
+    (h.0, ap (λ (xs : List (List ℕ)). numbered_in name most (words_of (spaced xs))) h.2 ∙ ap (numbered_in name most) (k.words_stand name (decimal h.0 ∷ []) (numbered_plain k name h.0 word (omega (arith, h.1, room)))) ∙ numbered_again k name most h.0 room h.1)
+
+no_number : WordLaws → (name : List ℕ) (most : ℕ) (ls : List TextLine) → IsWord name → most < 2 ^ 64 → first_by (numbered_by name most) ls ≡ None → (ws : List (List ℕ)) → IsNext ls ws → IsNumbered name most ws → ⊥
+no_number k name most ls word room none ws next h = let t = numbered_reads k name most ws word room h in not_next (numbered_by name most) ls ws t.0 none next t.1
+
+no_this : (line : List (List ℕ)) (ls : List TextLine) → first_by (this_by (spaced line)) ls ≡ None → (ws : List (List ℕ)) → IsNext ls ws → ws ≡ line → ⊥
+no_this line ls none ws next h = not_next (this_by (spaced line)) ls ws tt none next (ap (λ (xs : List (List ℕ)). this_by (spaced line) (spaced xs)) h ∙ this_again (spaced line))
+
+-- ---- the heading
+
+heading_stops : WordLaws → (p : Place) (g : CertFault) → heading_at p ≡ Err g → IsRefused p g
+unfolding heading_at
+heading_stops k p g e = elim (then_stop (formed (line_by (this_by (spaced version)) p)) _ g e) [
+  | inl h ↦
+      let t = line_stop (this_by (spaced version)) p g h in
+      malformed p (claim_to 0 [] [] [] None) Version p g (record { fits = bound_only 0 (omega arith); room = tt; lines = passes_none p }) (no_this version p.rest t.0) t.1
+  | inr v ↦
+      let t = line_stop (numbered_by (codes "bound") SIZE) v.0.1 g v.2 in
+      malformed p (claim_to 0 [] [] [] None) Bound v.0.1 g (record { fits = bound_only 0 (omega arith); room = tt; lines = this_take version p v.0 v.1 })
+      (no_number k (codes "bound") SIZE v.0.1.rest (plain (codes "bound" ∷ []) refl).0 (lit< tt) t.0) t.1
+]
+
+-- ---- a list
+
+-- a number of items and some of them stand behind lines
+behind : {A : Type 0} (words : A → List (List ℕ)) (name : List ℕ) (front : List (List (List ℕ))) (p a m q : Place) (n : ℕ) (xs : List A) → Stand p front a → Stand a (numbered name n ∷ []) m → Passes m (lines words xs) q
+    → Stand p (front ++ numbered name n ∷ map words xs) q
+behind words name front p a m q n xs h count items =
+    stand_more p a q front (numbered name n ∷ map words xs) h (passes_more a m q (whole (numbered name n) ∷ []) (map whole (map words xs)) count items)
+
+low_by : (b : Bool) (f g : CertFault) → cond b None (Some f) ≡ Some g → (b ≡ false) × (g ≡ f)
+low_by true f g e = absurd (none_some g e)
+low_by false f g e = (refl, sym (some_is f g e))
+
+-- why an item is refused
+entry_low : (es : List Entry) (e : Entry) (at : ℕ) (g : CertFault) → refused_entry es e at ≡ Some g → (is_above_last es e ≡ false) × (g ≡ fault.Order at)
+entry_low es e at g h = low_by (is_above_last es e) (fault.Order at) g h
+
+inst_low : (xs : List Inst) (x : Inst) (at : ℕ) (g : CertFault) → refused_inst xs x at ≡ Some g → (is_inst_above (last_in xs) x ≡ false) × (g ≡ fault.Order at)
+inst_low xs x at g h = low_by (is_inst_above (last_in xs) x) (fault.Order at) g h
+
+out_of_order : (p : Place) (c : Claim) (part : Part) (q : Place) (ws : List (List ℕ)) (g : CertFault) → Stands p c part q → IsNext q.rest ws → IsLow c part ws → g ≡ fault.Order q.at → IsRefused p g
+out_of_order p c part q ws g h next low e =
+    let P : CertFault → Type 0 = λ f. IsRefused p f in
+    subst P (sym e) (record { claim = c; part = part; place = q; words = ws; stands = h; offset = refl; next = next; low = low })
+
+-- ---- assumptions
+
+entry_stops : Below → (p : Place) (c : Claim) (n : ℕ) (q : Place) (g : CertFault) → Stands p c (AnEntry n) q → Stop (λ at. entry_by) entry_words AnyEntry refused_entry c.assumptions q g → IsRefused p g
+entry_stops b p c n q g h stop = elim stop [
+  | inl f ↦ malformed p c (AnEntry n) q g h
+      (λ ws next form. not_next entry_by q.rest ws form.0 f.0 next (ap (λ (xs : List (List ℕ)). entry_by (spaced xs)) form.2 ∙ entry_reads b.words b.entries 0 form.0 (omega arith) form.1)) f.1
+  | inr r ↦ let low = entry_low c.assumptions r.item q.at g r.refuses in out_of_order p c (AnEntry n) q (entry_words r.item) g h r.next (r.item, r.fits, refl, low.0) low.1
+]
+
+entries_stops : Below → (p a : Place) (n : ℕ) (g : CertFault) → n ≤ SIZE → Stand p (heading n) a → entries_at a ≡ Err g → IsRefused p g
+unfolding entries_at
+entries_stops b p a n g small h e = elim (then_stop (formed (line_by (numbered_by (codes "assume") most_entries) a)) _ g e) [
+  | inl f ↦
+      let t = line_stop (numbered_by (codes "assume") most_entries) a g f in
+      malformed p (claim_to n [] [] [] None) Assume a g (record { fits = bound_only n small; room = tt; lines = h })
+      (no_number b.words (codes "assume") most_entries a.rest (plain (codes "assume" ∷ []) refl).0 (lit< tt) t.0) t.1
+  | inr m ↦
+      let count = number_take b.words (codes "assume") most_entries a m.0 (lit< tt) m.1 in
+      let s = items_stop (λ at. entry_by) entry_words AnyEntry refused_entry (entry_spells b.words b.entries) entry_steady [] m.0.0 m.0.1 g m.2 in
+      let entries = entries_kept s.items (omega (arith, s.fewer, count.1)) s.fit in
+      entry_stops b p (claim_to n s.items [] [] None) m.0.0 s.place g
+      (record { fits = with_entries n s.items small entries; room = (s.fewer, count.1); lines = behind entry_words (codes "assume") (heading n) p a m.0.1 s.place m.0.0 s.items h count.0 s.passes }) s.stop
+]
+
+-- ---- instances
+
+not_ascending : (xs : List Inst) (x : Inst) → is_inst_above (last_in xs) x ≡ false → IsStrictlySortedBy inst_cmp (inst_keys (xs ++ x ∷ [])) → ⊥
+not_ascending xs x low h =
+    let P : List InstKey → Type 0 = λ ks. IsStrictlySortedBy inst_cmp ks in
+    let up = sorted_at inst_cmp (inst_keys xs) x.key [] (subst P (map-append (λ (y : Inst). y.key) xs (x ∷ [])) h) in
+    false≢true (sym low ∙ inst_above_is xs x ∙ up)
+
+inst_stops : Below → (p : Place) (c : Claim) (n : ℕ) (q : Place) (g : CertFault) → Stands p c (AnInst n) q → Stop (λ at. inst_by) inst_words AnyInst refused_inst c.instances q g → IsRefused p g
+inst_stops b p c n q g h stop = elim stop [
+  | inl f ↦ malformed p c (AnInst n) q g h
+      (λ ws next form. not_next inst_by q.rest ws form.0 f.0 next (ap (λ (xs : List (List ℕ)). inst_by (spaced xs)) form.2 ∙ inst_reads b.words b.insts 0 form.0 (omega arith) form.1)) f.1
+  | inr r ↦ let low = inst_low c.instances r.item q.at g r.refuses in out_of_order p c (AnInst n) q (inst_words r.item) g h r.next (r.item, r.fits, refl, not_ascending c.instances r.item low.0) low.1
+]
+
+insts_stops : Below → (p a d : Place) (n : ℕ) (es : List Entry) (g : CertFault) → n ≤ SIZE → AreEntries es → Stand p (heading n) a → Stand a (entry_lines es) d → insts_at d ≡ Err g → IsRefused p g
+unfolding insts_at
+insts_stops b p a d n es g small he h k e =
+    let front = stand_more p a d (heading n) (entry_lines es) h k in
+    elim (then_stop (formed (line_by (numbered_by (codes "instances") most_instances) d)) _ g e) [
+      | inl f ↦
+          let t = line_stop (numbered_by (codes "instances") most_instances) d g f in
+          malformed p (claim_to n es [] [] None) Instances d g (record { fits = with_entries n es small he; room = tt; lines = front })
+          (no_number b.words (codes "instances") most_instances d.rest (plain (codes "instances" ∷ []) refl).0 (lit< tt) t.0) t.1
+      | inr m ↦
+          let count = number_take b.words (codes "instances") most_instances d m.0 (lit< tt) m.1 in
+          let s = items_stop (λ at. inst_by) inst_words AnyInst refused_inst (inst_spells b.words b.insts) inst_steady [] m.0.0 m.0.1 g m.2 in
+          let fit = all_of_any IsInst 0 s.items (admitted_all AnyInst refused_inst [] s.items s.fit) in
+          let some = behind inst_words (codes "instances") (entry_lines es) a d m.0.1 s.place m.0.0 s.items k count.0 s.passes in
+          inst_stops b p (claim_to n es s.items [] None) m.0.0 s.place g
+          (record {
+            fits = with_insts n es s.items small he fit (insts_kept b.keys s.items s.fit) (omega (arith, s.fewer, count.1));
+            room = (s.fewer, count.1);
+            lines = stand_more p a s.place (heading n) (entry_lines es ++ numbered (codes "instances") m.0.0 ∷ map inst_words s.items) h some;
+          }) s.stop
+    ]
+
+-- ---- nodes
+
+node_low_by : (a b : Bool) (l f g : CertFault) → cond a (cond b None (Some l)) (Some f) ≡ Some g → ((a ≡ false) × (g ≡ f)) ⊎ ((a ≡ true) × (b ≡ false) × (g ≡ l))
+node_low_by true true l f g e = absurd (none_some g e)
+node_low_by true false l f g e = inr (refl, refl, sym (some_is l g e))
+node_low_by false b l f g e = inl (refl, sym (some_is f g e))
+
+nodes_not_ascending : (ns : Seeds) (n : NodeKey × NodeForm) → is_node_above (last_in ns) n.0 ≡ false → IsStrictlySortedBy node_cmp (node_keys (ns ++ n ∷ [])) → ⊥
+nodes_not_ascending ns n low h =
+    let P : List NodeKey → Type 0 = λ ks. IsStrictlySortedBy node_cmp ks in
+    let up = sorted_at node_cmp (node_keys ns) n.0 [] (subst P (keys_append ns (n ∷ [])) h) in
+    false≢true (sym low ∙ node_above_is ns n.0 ∙ up)
+
+too_much : Below → (c : Claim) (n : NodeKey × NodeForm) → IsStrictlySortedBy node_cmp (node_keys c.nodes) → is_node_above (last_in c.nodes) n.0 ≡ true
+    → nat_le (cells_of (node_keys c.nodes) + (1 + offset_of n.0.sp)) most_cells ≡ false → IsTooMuch c n
+too_much b c n ascend up room =
+    let P : List NodeKey → Type 0 = λ ks. IsStrictlySortedBy node_cmp ks in
+    let full : most_cells < cells_of (node_keys c.nodes) + (1 + offset_of n.0.sp) = grind (arith, nat_tests, room) in (
+      subst P (sym (keys_append c.nodes (n ∷ []))) (sorted_push node_cmp b.keys.nodes (node_keys c.nodes) n.0 ascend (sym (node_above_is c.nodes n.0) ∙ up)),
+      omega (arith, full, cells_more c.nodes n),
+    )
+
+node_refused : Below → (p : Place) (c : Claim) (n : ℕ) (q : Place) (g : CertFault) → Stands p c (ANode n) q → ItemRefused (node_words c.instances) (FitsNode c.instances) refused_node c.nodes q g → IsRefused p g
+node_refused b p c n q g h r =
+    let P : CertFault → Type 0 = λ f. IsRefused p f in
+    elim (node_low_by (is_node_above (last_in c.nodes) r.item.0) (nat_le (cells_of (node_keys c.nodes) + (1 + offset_of r.item.0.sp)) most_cells) (fault.Limit limit.Cells) (fault.Order q.at) g r.refuses) [
+      | inl low ↦ out_of_order p c (ANode n) q (node_words c.instances r.item) g h r.next (r.item, r.fits.0, r.fits.1, refl, nodes_not_ascending c.nodes r.item low.0) low.1
+      | inr full ↦ subst P (sym full.2) (record {
+        claim = c;
+        part = ANode n;
+        place = q;
+        words = node_words c.instances r.item;
+        stands = h;
+        next = r.next;
+        past = (r.item, r.fits.0, r.fits.1, refl, too_much b c r.item h.fits.claim.nodes_ascend full.0 full.1);
+      })
+    ]
+
+node_stops : Below → (p : Place) (c : Claim) (n : ℕ) (q : Place) (g : CertFault) → Stands p c (ANode n) q → Stop (node_by c.instances) (node_words c.instances) (FitsNode c.instances) refused_node c.nodes q g → IsRefused p g
+node_stops b p c n q g h stop = elim stop [
+  | inl f ↦ malformed p c (ANode n) q g h
+      (λ ws next form. not_next (node_by c.instances (length c.nodes)) q.rest ws form.0 f.0 next
+      (ap (λ (xs : List (List ℕ)). node_by c.instances (length c.nodes) (spaced xs)) form.3
+      ∙ node_reads b.words b.nodes b.keys c.instances h.fits.claim.few_insts (length c.nodes) form.0 (omega (arith, h.fits.claim.few_nodes)) (form.1, form.2))) f.1
+  | inr r ↦ node_refused b p c n q g h r
+]
+
+limited_err : (d : Result (Option ℕ × Place) CertFault) (g : CertFault) → limited d ≡ Err g → (d ≡ Err g) ⊎ ((q : Place) × (d ≡ Ok (None, q)) × (g ≡ fault.Limit limit.Nodes))
+limited_err (Ok (Some n, q)) g e = absurd (err_ok {A = ℕ × Place} g (n, q) (sym e))
+limited_err (Ok (None, q)) g e = inr (q, refl, sym (err_is {A = ℕ × Place} (fault.Limit limit.Nodes) g e))
+limited_err (Err f) g e = inl (ap (λ (x : CertFault). Err x) (err_is {A = ℕ × Place} f g e))
+
+no_count : WordLaws → (ls : List TextLine) → first_by count_by ls ≡ None → (ws : List (List ℕ)) → IsNext ls ws → AreNodes (λ w. ⊤) ws → ⊥
+no_count k ls none ws next h =
+    let t = nodes_count h.0 h.1 in
+    not_next count_by ls ws t.0 none next (ap (λ (xs : List (List ℕ)). count_by (spaced xs)) h.2
+    ∙ ap count_in (k.words_stand (codes "nodes") (h.0 ∷ []) ((plain (codes "nodes" ∷ []) refl).0, (decimal_word h.0 h.1, tt))) ∙ t.1)
+
+-- the line `nodes N`
+count_stops : Below → (p : Place) (c : Claim) (q : Place) (g : CertFault) → Stands p c Nodes q → limited (formed (line_by count_by q)) ≡ Err g → IsRefused p g
+count_stops b p c q g h e =
+    let P : CertFault → Type 0 = λ f. IsRefused p f in
+    elim (limited_err (formed (line_by count_by q)) g e) [
+      | inl f ↦ let t = line_stop count_by q g f in malformed p c Nodes q g h (no_count b.words q.rest t.0) t.1
+      | inr m ↦
+          let l = line_takes count_by q None m.0 (formed_ok (line_by count_by q) (None, m.0) m.1) in
+          subst P (sym m.2) (record {
+            claim = c;
+            part = Nodes;
+            place = q;
+            words = words_of l.text;
+            stands = h;
+            next = is_next q (words_of l.text) m.0 (as_words count_by q None m.0 l (words_of l.text) (sym (b.words.line_words l.text)));
+            past = too_many (words_of l.text) l.read;
+          })
+    ]
+
+nodes_stops : Below → (p a d f : Place) (n : ℕ) (es : List Entry) (xs : List Inst) (g : CertFault) → n ≤ SIZE → AreEntries es → AllByRecursion IsInst xs → IsStrictlySortedBy inst_cmp (inst_keys xs) → length xs ≤ most_instances
+    → Stand p (heading n) a → Stand a (entry_lines es) d → Stand d (inst_lines xs) f → nodes_at xs f ≡ Err g → IsRefused p g
+unfolding nodes_at
+nodes_stops b p a d f n es xs g small he hx ax few h k j e =
+    let front = stand_more p a f (heading n) (entry_lines es ++ inst_lines xs) h (stand_more a d f (entry_lines es) (inst_lines xs) k j) in
+    elim (then_stop (limited (formed (line_by count_by f))) _ g e) [
+      | inl l ↦ count_stops b p (claim_to n es xs [] None) f g (record { fits = with_insts n es xs small he hx ax few; room = tt; lines = front }) l
+      | inr m ↦
+          let count = nodes_take b.words f m.0 m.1 in
+          let s = items_stop (node_by xs) (node_words xs) (FitsNode xs) refused_node (node_spells b.words b.nodes b.keys xs ax) node_steady [] m.0.0 m.0.1 g m.2 in
+          let some = behind (node_words xs) (codes "nodes") (inst_lines xs) d f m.0.1 s.place m.0.0 s.items j count.0 s.passes in
+          node_stops b p (claim_to n es xs s.items None) m.0.0 s.place g
+          (record {
+            fits = certificate_of n es xs s.items small he hx ax few (admitted_all (FitsNode xs) refused_node [] s.items s.fit) (nodes_kept b.keys xs s.items s.fit) (omega (arith, s.fewer, count.1));
+            room = (s.fewer, count.1);
+            lines = stand_more p a s.place (heading n) (entry_lines es ++ (inst_lines xs ++ numbered (codes "nodes") m.0.0 ∷ map (node_words xs) s.items)) h
+                (stand_more a d s.place (entry_lines es) (inst_lines xs ++ numbered (codes "nodes") m.0.0 ∷ map (node_words xs) s.items) k some);
+          }) s.stop
+    ]
+
+-- ---- the schedule and the end
+
+plan_stops : RefusedIsStuck → (p : Place) (c : Claim) (bl : Bool) (q m : Place) (g : CertFault) → IsClaim c → Stand p (front_lines c) q → Stand q (ending_words bl ∷ []) m → plan_if bl m ≡ Err g → IsRefused p g
+plan_stops stuck p c false q m g h front line e = absurd (err_ok {A = Option Plan × Place} g (None, m) (sym e))
+plan_stops stuck p c true q m g h front line e =
+    let P : CertFault → Type 0 = λ f. IsRefused p f in
+    elim (then_stop (formed (schedule_at m)) _ g e) [
+      | inl f ↦
+          let r = formed_err (schedule_at m) g f in
+          subst P (sym r.2) (r.0, refl, inr (record { claim = c; fits = h; begin = m; lines = stand_more p q m (front_lines c) (attained_line ∷ []) front line; stuck = stuck m r.0 r.1 }))
+      | inr s ↦ absurd (err_ok {A = Option Plan × Place} g (Some s.0.0, s.0.1) (sym s.2))
+    ]
+
+no_ending : (ls : List TextLine) → first_by ending_by ls ≡ None → (ws : List (List ℕ)) → IsNext ls ws → (ws ≡ open_line) ⊎ (ws ≡ attained_line) → ⊥
+no_ending ls none ws next (inl h) = not_next ending_by ls ws false none next (ap (λ (xs : List (List ℕ)). ending_by (spaced xs)) h ∙ ending_again false)
+no_ending ls none ws next (inr h) = not_next ending_by ls ws true none next (ap (λ (xs : List (List ℕ)). ending_by (spaced xs)) h ∙ ending_again true)
+
+witness_stops : RefusedIsStuck → (p : Place) (c : Claim) (q : Place) (g : CertFault) → IsCertificate c → Stand p (front_lines c) q → witness_at q ≡ Err g → IsRefused p g
+unfolding witness_at
+witness_stops stuck p c q g h front e = elim (then_stop (formed (line_by ending_by q)) _ g e) [
+  | inl f ↦ let t = line_stop ending_by q g f in malformed p c Ending q g (record { fits = h; room = tt; lines = front }) (no_ending q.rest t.0) t.1
+  | inr m ↦
+      let l = line_takes ending_by q m.0.0 m.0.1 (formed_ok (line_by ending_by q) m.0 m.1) in
+      plan_stops stuck p c m.0.0 q m.0.1 g h.claim front (as_words ending_by q m.0.0 m.0.1 l (ending_words m.0.0) (ending_is l.text m.0.0 l.read)) m.2
+]
+
+lines_left : (l : TextLine) (ls : List TextLine) → l ∷ ls ≢ []
+lines_left l ls h = cc
+
+last_stop : (ls : List TextLine) (q : Place) (g : CertFault) → if_last ls q ≡ Err g → (ls ≢ []) × (g ≡ fault.Malformed q.at)
+last_stop [] q g e = absurd (err_ok {A = Unit {0} × Place} g (tt, q) (sym e))
+last_stop (l ∷ ls) q g e = (lines_left l ls, sym (err_is {A = Unit {0} × Place} (fault.Malformed q.at) g e))
+
+end_stops : (p : Place) (c : Claim) (q r : Place) (g : CertFault) → IsCertificate c → Stand p (front_lines c) q → Stand q (witness_lines c.witness) r → end_at r ≡ Err g → IsRefused p g
+unfolding end_at
+end_stops p c q r g h front witness e = elim (then_stop (formed (line_by (this_by (spaced end_line)) r)) _ g e) [
+  | inl f ↦
+      let t = line_stop (this_by (spaced end_line)) r g f in
+      malformed p c End r g (record { fits = h; room = tt; lines = stand_more p q r (front_lines c) (witness_lines c.witness) front witness }) (no_this end_line r.rest t.0) t.1
+  | inr d ↦
+      let last = last_stop d.0.1.rest d.0.1 g d.2 in
+      let end = this_take end_line r d.0 d.1 in
+      malformed p c Nothing d.0.1 g
+      (record { fits = h; room = tt; lines = stand_more p q d.0.1 (front_lines c) (witness_lines c.witness ++ end_line ∷ []) front (stand_more q r d.0.1 (witness_lines c.witness) (end_line ∷ []) witness end) }) last.0 last.1
+]
+
+-- ---- the whole
+
+behind_nodes : Below → (p : Place) (n : ℕ) (es : List Entry) (xs : List Inst) (ns : Seeds) (q : Place) (g : CertFault) → IsCertificate (claim_to n es xs ns None) → Stand p (front_lines (claim_to n es xs ns None)) q
+    → (r : Place × Option Plan) → witness_at q ≡ Ok (r.1, r.0) → end_at r.0 ≡ Err g → IsRefused p g
+behind_nodes b p n es xs ns q g h front r e f =
+    let w = witness_part b.schedule_spelled q (r.1, r.0) e in
+    end_stops p (claim_to n es xs ns r.1) q r.0 g
+    (record {
+      claim = claim_of n es xs ns r.1 h.claim.bound_fits h.claim.entries_fit h.claim.insts_fit h.claim.insts_ascend h.claim.few_insts (all_fit xs 0 ns h.claim.nodes_fit h.claim.nodes_belong)
+          (record { ascend = h.claim.nodes_ascend; few = h.claim.few_cells }) h.claim.few_nodes;
+      schedule = w.schedule;
+    }) front w.lines f
+
+claim_stops : Below → RefusedIsStuck → (p : Place) (g : CertFault) → claim_at p ≡ Err g → IsRefused p g
+unfolding claim_at
+claim_stops k stuck p g e = elim (then_stop (heading_at p) _ g e) [
+  | inl h ↦ heading_stops k.words p g h
+  | inr b ↦
+      let top = heading_take k.words p b.0 b.1 in
+      elim (then_stop (entries_at b.0.1) _ g b.2) [
+        | inl h ↦ entries_stops k p b.0.1 b.0.0 g top.1 top.0 h
+        | inr a ↦
+            let entries = entries_take k b.0.1 a.0 a.1 in
+            let are = entries_kept a.0.0 entries.few entries.fit in
+            elim (then_stop (insts_at a.0.1) _ g a.2) [
+              | inl h ↦ insts_stops k p b.0.1 a.0.1 b.0.0 a.0.0 g top.1 are top.0 entries.lines h
+              | inr i ↦
+                  let insts = insts_take k a.0.1 i.0 i.1 in
+                  let ascend = insts_kept k.keys i.0.0 insts.fit in
+                  let fit = all_of_any IsInst 0 i.0.0 (admitted_all AnyInst refused_inst [] i.0.0 insts.fit) in
+                  elim (then_stop (nodes_at i.0.0 i.0.1) _ g i.2) [
+                    | inl h ↦ nodes_stops k p b.0.1 a.0.1 i.0.1 b.0.0 a.0.0 i.0.0 g top.1 are fit ascend insts.few top.0 entries.lines insts.lines h
+                    | inr n ↦
+                        let nodes = nodes_part k i.0.0 ascend i.0.1 n.0 n.1 in
+                        let c = claim_to b.0.0 a.0.0 i.0.0 n.0.0 None in
+                        let whole_claim = certificate_of b.0.0 a.0.0 i.0.0 n.0.0 top.1 are fit ascend insts.few (admitted_all (FitsNode i.0.0) refused_node [] n.0.0 nodes.fit) (nodes_kept k.keys i.0.0 n.0.0 nodes.fit) nodes.few in
+                        let front = stand_more p b.0.1 n.0.1 (heading b.0.0) (entry_lines a.0.0 ++ (inst_lines i.0.0 ++ node_lines i.0.0 n.0.0)) top.0
+                        (stand_more b.0.1 a.0.1 n.0.1 (entry_lines a.0.0) (inst_lines i.0.0 ++ node_lines i.0.0 n.0.0) entries.lines (stand_more a.0.1 i.0.1 n.0.1 (inst_lines i.0.0) (node_lines i.0.0 n.0.0) insts.lines nodes.lines)) in
+                        elim (then_stop (witness_at n.0.1) _ g n.2) [
+                          | inl h ↦ witness_stops stuck p c n.0.1 g whole_claim front h
+                          | inr w ↦ elim (then_stop (end_at w.0.1) _ g w.2) [
+                            | inl h ↦ behind_nodes k p b.0.0 a.0.0 i.0.0 n.0.0 n.0.1 g whole_claim front (w.0.1, w.0.0) w.1 h
+                            | inr d ↦ absurd (err_ok {A = Claim × Place} g (claim_to b.0.0 a.0.0 i.0.0 n.0.0 w.0.0, d.0.1) (sym d.2))
+                          ]
+                        ]
+                  ]
+            ]
+      ]
+]
+
+alone_err : (d : Result (Claim × Place) CertFault) (g : CertFault) → claim_alone d ≡ Err g → d ≡ Err g
+alone_err (Ok x) g e = absurd (err_ok {A = Claim} g x.0 (sym e))
+alone_err (Err f) g e = ap (λ (x : CertFault). Err x) (err_is {A = Claim} f g e)
+
+due_by : Below → RefusedIsStuck → (text : List ℕ) (r : Result Claim CertFault) → certificate_in text ≡ r → IsDue text r
+unfolding certificate_in
+due_by k stuck text (Ok c) e = let t = read_is_spelled k text c e in (t.1, t.0)
+due_by k stuck text (Err g) e = claim_stops k stuck (start text) g (alone_err (claim_at (start text)) g e)
+
+pub read_is_due : Below → RefusedIsStuck → ReadIsDue
+read_is_due k stuck text = due_by k stuck text (certificate_in text) refl
+
+-- ---- what is answered
+
+not_malformed : (at : ℕ) → fault.Malformed at ≢ fault.Memory
+not_malformed at e = cc
+
+not_order : (at : ℕ) → fault.Order at ≢ fault.Memory
+not_order at e = cc
+
+not_limit : (l : Limit) → fault.Limit l ≢ fault.Memory
+not_limit l e = cc
+
+err_due : (text : List ℕ) (f : CertFault) → ReadIsDue → (f ≢ fault.Memory → certificate_in text ≡ Err f) → IsDueUnlessMemory text (Err f)
+err_due text fault.Memory due h = tt
+err_due text (fault.Malformed at) due h = let P : Result Claim CertFault → Type 0 = λ r. IsDue text r in subst P (h (not_malformed at)) (due text)
+err_due text (fault.Order at) due h = let P : Result Claim CertFault → Type 0 = λ r. IsDue text r in subst P (h (not_order at)) (due text)
+err_due text (fault.Limit l) due h = let P : Result Claim CertFault → Type 0 = λ r. IsDue text r in subst P (h (not_limit l)) (due text)
+
+pub told : ReadIsDue → (text : List ℕ) (r : Result Claim CertFault) → Answers (λ c. c) fault.Memory r (certificate_in text) → IsDueUnlessMemory text r
+told due text (Ok c) h = let P : Result Claim CertFault → Type 0 = λ r. IsDue text r in subst P h (due text)
+told due text (Err f) h = err_due text f due h

@@ -1,0 +1,200 @@
+-- Why a text is that of no certificate, by the spelling alone: what stands before the refused line are the first lines of a certificate,
+-- and the line isn't of the form that stands behind them, or isn't above the last one, or passes a limit.
+use Rattle.std.specs.Prelude.{◌≡◌, ◌≢◌, ◌<◌, ◌≤◌, ◌⊎◌, ℕ, List, [], ◌∷◌, ◌++◌, map, length, codes, None, Result, Ok, Err, ⊤, true, false, not}
+use Rattle.std.specs.List.{position}
+use Rattle.std.specs.List.Sorted.{IsStrictlySortedBy}
+use Rattle.avr_model.specs.declared.assumption.Entry.{Entry}
+use Rattle.avr_model.specs.State.{SIZE}
+use Rattle.sb_base.specs.Digits.{is_dec, number_from, has_extra_zero}
+use Rattle.sb_base.specs.Lines.{TextLine, Place, lines_of}
+use Rattle.line_reading.specs.Words.{whole, Passes}
+use Rattle.vector_table.specs.Entries.{is_entry, is_above_last, most_entries}
+use Rattle.mask_states.specs.declared.keys.NodeKey.{NodeKey}
+use Rattle.mask_states.specs.Order.{inst_cmp, node_cmp}
+use Rattle.edge_rules.specs.declared.seeded.NodeForm.{NodeForm}
+use Rattle.indirect_targets.specs.Spelling.{entry_words}
+use Rattle.witness_replay.specs.Exact.{IsStuck}
+use Rattle.certificate.specs.declared.instance.Inst.{Inst}
+use Rattle.certificate.specs.Insts.{IsInst, inst_keys}
+use Rattle.certificate.specs.Claims.{Claim, IsClaim, IsCertificate, FitsAt, Belongs, most_instances, most_nodes, most_cells, cells_of, node_keys}
+use Rattle.cert_words.specs.Text.{numbered, version, heading, entry_lines, inst_lines, inst_words, node_words, open_line, attained_line, witness_lines, end_line, front_lines, certificate_lines, text_of}
+use Rattle.cert_format.specs.declared.fault.Limit.{Limit}
+use Rattle.cert_format.specs.declared.fault.Limit.TheVariants as limit
+use Rattle.cert_format.specs.declared.fault.CertFault.{CertFault}
+use Rattle.cert_format.specs.declared.fault.CertFault.TheVariants as fault
+use Rattle.cert_format.specs.Reading.{certificate_in}
+
+-- ---- how far the lines of a certificate go
+
+-- the part that stands next; of a list, so many items were announced
+pub data Part : Type 0 where
+  Version : Part
+  Bound : Part
+  Assume : Part
+  AnEntry : ℕ → Part
+  Instances : Part
+  AnInst : ℕ → Part
+  Nodes : Part
+  ANode : ℕ → Part
+  Ending : Part
+  End : Part
+  Nothing : Part
+
+-- the lines of a certificate before this part, where the items that it has are those before it
+abbrev pub lines_to : Claim → Part → List (List (List ℕ))
+lines_to c Version = []
+lines_to c Bound = version ∷ []
+lines_to c Assume = heading c.bound
+lines_to c (AnEntry n) = heading c.bound ++ numbered (codes "assume") n ∷ map entry_words c.assumptions
+lines_to c Instances = heading c.bound ++ entry_lines c.assumptions
+lines_to c (AnInst n) = heading c.bound ++ (entry_lines c.assumptions ++ numbered (codes "instances") n ∷ map inst_words c.instances)
+lines_to c Nodes = heading c.bound ++ (entry_lines c.assumptions ++ inst_lines c.instances)
+lines_to c (ANode n) = heading c.bound ++ (entry_lines c.assumptions ++ (inst_lines c.instances ++ numbered (codes "nodes") n ∷ map (node_words c.instances) c.nodes))
+lines_to c Ending = front_lines c
+lines_to c End = front_lines c ++ witness_lines c.witness
+lines_to c Nothing = certificate_lines c
+
+-- fewer items than announced, and no more announced than there may be
+abbrev pub HasRoom : Claim → Part → Type 0
+HasRoom c (AnEntry n) = (length c.assumptions < n) × (n ≤ most_entries)
+HasRoom c (AnInst n) = (length c.instances < n) × (n ≤ most_instances)
+HasRoom c (ANode n) = (length c.nodes < n) × (n ≤ most_nodes)
+HasRoom c part = ⊤
+
+-- The lines of this certificate before the part stand at the first place, and the second place is behind them.
+pub record Stands (p : Place) (c : Claim) (part : Part) (q : Place) : Type 0 where
+  pub fits : IsCertificate c
+  pub room : HasRoom c part
+  pub lines : Passes p (map whole (lines_to c part)) q
+
+-- ---- the next line
+
+-- a line is left, and it is whole and has these words
+abbrev pub IsNext : List TextLine → List (List ℕ) → Type 0
+IsNext [] ws = ⊥
+IsNext (l ∷ ls) ws = l ≡ whole ws
+
+-- digits, of which the first of several isn't 0
+pub record IsDecimal (w : List ℕ) : Type 0 where
+  pub some : w ≢ []
+  pub plain : has_extra_zero w ≡ false
+  pub digits : position (λ b. not (is_dec b)) w ≡ None
+
+-- a name and a decimal of at most this number
+abbrev pub IsNumbered : List ℕ → ℕ → List (List ℕ) → Type 0
+IsNumbered name most ws = (n : ℕ) × (n ≤ most) × (ws ≡ numbered name n)
+
+-- the words of some entry, instance or node that can stand in a certificate, where this holds of it
+
+abbrev pub IsEntryWith : (Entry → Type 0) → List (List ℕ) → Type 0
+IsEntryWith P ws = (e : Entry) × (is_entry e ≡ true) × (ws ≡ entry_words e) × P e
+
+abbrev pub IsInstWith : (Inst → Type 0) → List (List ℕ) → Type 0
+IsInstWith P ws = (x : Inst) × IsInst x × (ws ≡ inst_words x) × P x
+
+abbrev pub IsNodeWith : Claim → (NodeKey × NodeForm → Type 0) → List (List ℕ) → Type 0
+IsNodeWith c P ws = (n : NodeKey × NodeForm) × FitsAt (length c.nodes) n.0 n.1 × Belongs c.instances n.0 × (ws ≡ node_words c.instances n) × P n
+
+abbrev pub AreNodes : (List ℕ → Type 0) → List (List ℕ) → Type 0
+AreNodes P ws = (w : List ℕ) × IsDecimal w × (ws ≡ codes "nodes" ∷ w ∷ []) × P w
+
+-- words of the form that stands at this part
+abbrev pub IsOfForm : Claim → Part → List (List ℕ) → Type 0
+IsOfForm c Version ws = ws ≡ version
+IsOfForm c Bound ws = IsNumbered (codes "bound") SIZE ws
+IsOfForm c Assume ws = IsNumbered (codes "assume") most_entries ws
+IsOfForm c (AnEntry n) ws = IsEntryWith (λ e. ⊤) ws
+IsOfForm c Instances ws = IsNumbered (codes "instances") most_instances ws
+IsOfForm c (AnInst n) ws = IsInstWith (λ x. ⊤) ws
+IsOfForm c Nodes ws = AreNodes (λ w. ⊤) ws
+IsOfForm c (ANode n) ws = IsNodeWith c (λ e. ⊤) ws
+IsOfForm c Ending ws = (ws ≡ open_line) ⊎ (ws ≡ attained_line)
+IsOfForm c End ws = ws ≡ end_line
+IsOfForm c Nothing ws = ⊥
+
+abbrev pub Ascend : List NodeKey → Type 0
+Ascend keys = IsStrictlySortedBy node_cmp keys
+
+-- words of an item that isn't above the last
+abbrev pub IsLow : Claim → Part → List (List ℕ) → Type 0
+IsLow c (AnEntry n) ws = IsEntryWith (λ e. is_above_last c.assumptions e ≡ false) ws
+IsLow c (AnInst n) ws = IsInstWith (λ x. IsStrictlySortedBy inst_cmp (inst_keys (c.instances ++ x ∷ [])) → ⊥) ws
+IsLow c (ANode n) ws = IsNodeWith c (λ e. Ascend (node_keys (c.nodes ++ e ∷ [])) → ⊥) ws
+IsLow c part ws = ⊥
+
+abbrev pub IsTooMuch : Claim → NodeKey × NodeForm → Type 0
+IsTooMuch c n = Ascend (node_keys (c.nodes ++ n ∷ [])) × (most_cells < cells_of (node_keys (c.nodes ++ n ∷ [])))
+
+-- words of their form, and above the last, that pass this limit
+abbrev pub IsPast : Claim → Part → Limit → List (List ℕ) → Type 0
+IsPast c Nodes limit.Nodes ws = AreNodes (λ w. most_nodes < number_from 10 0 w) ws
+IsPast c (ANode n) limit.Cells ws = IsNodeWith c (IsTooMuch c) ws
+IsPast c part l ws = ⊥
+
+-- ---- refusals
+
+-- no line of the form that stands at this part follows, or something follows behind the last line
+abbrev pub IsStopped : Claim → Part → List TextLine → Type 0
+IsStopped c Nothing ls = ls ≢ []
+IsStopped c part ls = (ws : List (List ℕ)) → IsNext ls ws → IsOfForm c part ws → ⊥
+
+pub record StopsAt (p q : Place) : Type 0 where
+  pub claim : Claim
+  pub part : Part
+  pub stands : Stands p claim part q
+  pub stop : IsStopped claim part q.rest
+
+-- a schedule is to follow, and none goes on there
+pub record StopsInSchedule (p q : Place) : Type 0 where
+  pub claim : Claim
+  pub fits : IsClaim claim
+  pub begin : Place
+  pub lines : Passes p (map whole (front_lines claim ++ attained_line ∷ [])) begin
+  pub stuck : IsStuck begin q
+
+abbrev pub IsMalformed : Place → ℕ → Type 0
+IsMalformed p at = (q : Place) × (q.at ≡ at) × (StopsAt p q ⊎ StopsInSchedule p q)
+
+-- the line at this offset
+pub record IsOutOfOrder (p : Place) (at : ℕ) : Type 0 where
+  pub claim : Claim
+  pub part : Part
+  pub place : Place
+  pub words : List (List ℕ)
+  pub stands : Stands p claim part place
+  pub offset : place.at ≡ at
+  pub next : IsNext place.rest words
+  pub low : IsLow claim part words
+
+pub record IsOverLimit (p : Place) (l : Limit) : Type 0 where
+  pub claim : Claim
+  pub part : Part
+  pub place : Place
+  pub words : List (List ℕ)
+  pub stands : Stands p claim part place
+  pub next : IsNext place.rest words
+  pub past : IsPast claim part l words
+
+-- the refusal that is due from this place on
+abbrev pub IsRefused : Place → CertFault → Type 0
+IsRefused p (fault.Malformed at) = IsMalformed p at
+IsRefused p (fault.Order at) = IsOutOfOrder p at
+IsRefused p (fault.Limit l) = IsOverLimit p l
+IsRefused p fault.Memory = ⊥
+
+abbrev pub start : List ℕ → Place
+start text = record { at = 0; rest = lines_of text }
+
+-- the answer that is due for a text
+abbrev pub IsDue : List ℕ → Result Claim CertFault → Type 0
+IsDue text (Ok c) = IsCertificate c × (text ≡ text_of c)
+IsDue text (Err f) = IsRefused (start text) f
+
+-- what was answered is due, unless memory was wanting
+abbrev pub IsDueUnlessMemory : List ℕ → Result Claim CertFault → Type 0
+IsDueUnlessMemory text (Err fault.Memory) = ⊤
+IsDueUnlessMemory text answer = IsDue text answer
+
+-- what is read of a text is due
+abbrev pub ReadIsDue : Type 0
+ReadIsDue = (text : List ℕ) → IsDue text (certificate_in text)
