@@ -1,11 +1,17 @@
 -- Which instance is named: settled ones never are, and one instance more.
 use Rattle.std.specs.Option.{is_some}
-use Rattle.std.proofs.Common.{true, ◌≡◌, ℕ, ◌<◌, Option, Some, None, List, refl, ap, arith}
+use Rattle.std.specs.List.{Contains}
+use Rattle.std.proofs.Common.{true, ◌≡◌, ◌≢◌, ◌∙◌, ℕ, zero, suc, ◌+◌, ◌<◌, ◌≤◌, Option, Some, None, List, length, replicate, slice_get, slice_index, refl, sym, ap, subst, arith, ◌⊎◌, ⊎_elim, inr}
 use Rattle.nesting_bound.specs.declared.found.Found.{Found}
+use Rattle.nesting_bound.specs.declared.graph.Entered.{Entered}
 use Rattle.nesting_bound.specs.declared.graph.GraphInst.{GraphInst}
-use Rattle.nesting_bound.specs.Graph.{Reaches, once, more}
+use Rattle.nesting_bound.specs.Cycle.{group_of, number_of, IsNoLater, IsNamed}
+use Rattle.nesting_bound.specs.Graph.{Enters, Reaches, once, more}
+use Rattle.nesting_bound.specs.Search.{AreLayers, IsNamedOf, IsNamedBelow}
 use Rattle.nesting_bound.specs.Table.{at, IsSound}
+use Rattle.nesting_bound.proofs.Least.{get_inside}
 use Rattle.nesting_bound.proofs.Table.{same_found}
+use Rattle.nesting_bound.proofs.Tested.{edge_of, less_or_is}
 
 -- what a settled instance reaches is settled, at a lower rank
 lower : (gs : List GraphInst) (table : List (Option Found)) → IsSound gs table → (i j : ℕ) → Reaches gs i j → (x : Found) → at table i ≡ Some x → (y : Found) × (at table j ≡ Some y) × (y.rank < x.rank)
@@ -24,3 +30,73 @@ settled_apart gs table sound i x is r =
 pub settled_there : (o : Option Found) → is_some o ≡ true → (x : Found) × (o ≡ Some x)
 settled_there None e = absurd (let e' = e in cc)
 settled_there (Some x) e = (x, refl)
+
+-- ---- numbers that only fall along edges
+abbrev pub AreLayersBelow : List GraphInst → List ℕ → ℕ → Type 0
+AreLayersBelow gs numbers i = (k : ℕ) (e : Entered) → k < i → Enters gs k e → slice_index numbers e.into ≤ slice_index numbers k
+
+reached_no_higher : (gs : List GraphInst) (numbers : List ℕ) → AreLayers gs numbers → (i j : ℕ) → Reaches gs i j → slice_index numbers j ≤ slice_index numbers i
+reached_no_higher gs numbers layers i j (once _ e enters) = layers i e enters
+reached_no_higher gs numbers layers i j (more _ _ e enters rest) = omega (arith, layers i e enters, reached_no_higher gs numbers layers e.into j rest)
+
+-- an instance that reaches itself enters one of its own number
+pub stays_on : (gs : List GraphInst) (numbers : List ℕ) → AreLayers gs numbers → (i : ℕ) → Reaches gs i i → (e : Entered) × Enters gs i e × (slice_index numbers e.into ≡ slice_index numbers i)
+stays_on gs numbers layers i (once _ e enters) = (e, enters, refl)
+stays_on gs numbers layers i (more _ _ e enters rest) =
+    (e, enters, omega (arith, layers i e enters, reached_no_higher gs numbers layers e.into i rest))
+
+pub no_candidate : (gs : List GraphInst) (numbers : List ℕ) (i number : ℕ) (here : GraphInst) (es : List Entered) → AreLayers gs numbers → slice_get gs i ≡ Some here → es ≡ here.entered → number ≡ slice_index numbers i → ((e : Entered) → Contains es e → slice_index numbers e.into ≢ number) → Reaches gs i i → ⊥
+no_candidate gs numbers i number here es layers is same at never reaches =
+    let on = stays_on gs numbers layers i reaches in
+    never on.0 (subst (λ xs. Contains xs on.0) (sym same) (edge_of gs i here is i on.0 refl on.1)) (on.2 ∙ sym at)
+
+pub layers_more : (gs : List GraphInst) (numbers : List ℕ) (i number : ℕ) (here : GraphInst) (es : List Entered) → slice_get gs i ≡ Some here → es ≡ here.entered → number ≡ slice_index numbers i → ((e : Entered) → Contains es e → slice_index numbers e.into ≤ number) → AreLayersBelow gs numbers i → AreLayersBelow gs numbers (i + 1)
+layers_more gs numbers i number here es is same at down before k e lt h =
+    ⊎_elim
+    (λ less. before k e less h)
+    (λ on. subst (λ m. slice_index numbers e.into ≤ slice_index numbers m) (sym on) (omega (arith, at, down e (subst (λ xs. Contains xs e) (sym same) (edge_of gs i here is k e on h)))))
+    (less_or_is k i lt)
+
+pub layers_upto : (gs : List GraphInst) (numbers : List ℕ) (i : ℕ) → length gs ≤ i → AreLayersBelow gs numbers i → AreLayers gs numbers
+layers_upto gs numbers i le all k e h = all k e (omega (arith, le, get_inside gs k h.inst h.is)) h
+
+none_above : (n i : ℕ) → slice_index (replicate n 0) i ≡ 0
+none_above zero i = refl
+none_above (suc n) zero = refl
+none_above (suc n) (suc i) = none_above n i
+
+pub one_layer : (gs : List GraphInst) (n : ℕ) → AreLayers gs (replicate n 0)
+one_layer gs n i e h = omega (arith, none_above n e.into, none_above n i)
+
+-- ---- the order of names
+onward : (g g' g'' n n' n'' i j k : ℕ) → (g < g') ⊎ ((g ≡ g') × ((n < n') ⊎ ((n ≡ n') × (i ≤ j)))) → (g' < g'') ⊎ ((g' ≡ g'') × ((n' < n'') ⊎ ((n' ≡ n'') × (j ≤ k)))) → (g < g'') ⊎ ((g ≡ g'') × ((n < n'') ⊎ ((n ≡ n'') × (i ≤ k))))
+onward g g' g'' n n' n'' i j k a b = grind arith
+
+itself : (g n i : ℕ) → (g < g) ⊎ ((g ≡ g) × ((n < n) ⊎ ((n ≡ n) × (i ≤ i))))
+itself g n i = inr (refl, inr (refl, omega arith))
+
+module _ (gs : List GraphInst) (i : ℕ) (x : GraphInst) (here : slice_get gs i ≡ Some x) where
+  same_at : (j : ℕ) (c : GraphInst) → j ≡ i → slice_get gs j ≡ Some c → x ≡ c
+  same_at j c same is = let is' : slice_get gs i ≡ Some c = subst (λ k. slice_get gs k ≡ Some c) same is in cc
+
+  module _ (at : ℕ) (b : GraphInst) (there : slice_get gs at ≡ Some b) where
+    pub named_takes : i < length gs → Reaches gs i i → IsNoLater x.key i b.key at → IsNamedOf gs i at → IsNamedOf gs (i + 1) i
+    named_takes inside reaches le named = record {
+      inside = inside;
+      reaches = reaches;
+      first = λ j a c lt r is_a is_c.
+          let ea : x ≡ a = cc in
+          subst (λ y. IsNoLater y.key i c.key j) ea (⊎_elim
+          (λ less. onward (group_of x.key.kind) (group_of b.key.kind) (group_of c.key.kind) (number_of x.key.kind x.key.entry) (number_of b.key.kind b.key.entry) (number_of c.key.kind c.key.entry) i at j le (named.first j b c less r there is_c))
+          (λ same. subst (λ k. IsNoLater x.key i c.key k) (sym same) (subst (λ y. IsNoLater x.key i y.key i) (same_at j c same is_c) (itself (group_of x.key.kind) (number_of x.key.kind x.key.entry) i)))
+          (less_or_is j i lt));
+    }
+
+pub named_at : (gs : List GraphInst) (n at : ℕ) (best : Option ℕ) → best ≡ Some at → IsNamedBelow gs n best → IsNamedOf gs n at
+named_at gs n at best is named = subst (IsNamedBelow gs n) is named
+
+pub named_all : (gs : List GraphInst) (at : ℕ) → IsNamedOf gs (length gs) at → IsNamed gs at
+named_all gs at named = record {
+  reaches = named.reaches;
+  first = λ j a b r is_a is_b. named.first j a b (get_inside gs j b is_b) r is_a is_b;
+}

@@ -38,14 +38,14 @@ pub record AreComposable (gs : List GraphInst) (i : ℕ) : Type 0 where
 pub composable_none : (gs : List GraphInst) → AreComposable gs 0
 composable_none gs = record { places = λ k p lt. absurd (omega arith); edges = λ k e lt. absurd (omega arith) }
 
-less_or_is : (k i : ℕ) → k < i + 1 → (k < i) ⊎ (k ≡ i)
+pub less_or_is : (k i : ℕ) → k < i + 1 → (k < i) ⊎ (k ≡ i)
 less_or_is k i lt = grind arith
 
 module _ (gs : List GraphInst) (i : ℕ) (here : GraphInst) (is : slice_get gs i ≡ Some here) where
   place_of : (k : ℕ) (p : Place) → k ≡ i → HasPlace gs k p → Contains here.offsets p
   place_of k p same h = let inst : h.inst ≡ here = let a = subst (λ m. slice_get gs m ≡ Some h.inst) same h.is in cc in subst (λ x. Contains x.offsets p) inst h.has
 
-  edge_of : (k : ℕ) (e : Entered) → k ≡ i → Enters gs k e → Contains here.entered e
+  pub edge_of : (k : ℕ) (e : Entered) → k ≡ i → Enters gs k e → Contains here.entered e
   edge_of k e same h = let inst : h.inst ≡ here = let a = subst (λ m. slice_get gs m ≡ Some h.inst) same h.is in cc in subst (λ x. Contains x.entered e) inst h.has
 
   pub composable_more : (ps : List Place) (es : List Entered) → ps ≡ here.offsets → es ≡ here.entered → ((p : Place) → Contains ps p → p.offset ≤ 2048) → ((e : Entered) → Contains es e → (e.offset ≤ 2048) × (e.into < length gs)) → AreComposable gs i → AreComposable gs (i + 1)

@@ -7,6 +7,7 @@ ghost use Rattle.nesting_bound.specs.Least.{IsLeast};
 ghost use Rattle.nesting_bound.specs.Cycle.{IsFaultOf};
 
 use crate::cycle::first_named;
+use crate::depth_first::walk_all;
 use crate::fault::ComposeFault;
 use crate::found::Found;
 use crate::graph::Graph;
@@ -93,7 +94,8 @@ pub fn compose(alloc: Global, graph: &Graph) -> Result<Composed, ComposeFault>
     ensures err { IfErr result (IsFaultOf graph.now.instances) }
 {
     let instances = graph.instances.as_slice();
-    let table = peel(alloc, instances)?;
+    let walked = walk_all(alloc, instances)?;
+    let table = peel(alloc, instances, walked.order.as_slice())?;
     let table = table.as_slice();
     match missing(table) {
         None => {
@@ -101,7 +103,7 @@ pub fn compose(alloc: Global, graph: &Graph) -> Result<Composed, ComposeFault>
             let needs = needs(alloc, table)?;
             Ok(Composed { ranks, needs })
         }
-        Some(_) => match first_named(alloc, instances, table)? {
+        Some(_) => match first_named(alloc, instances, table, walked.component)? {
             Some(at) => Err(ComposeFault::Cycle(at)),
             None => unreachable!(),
         },

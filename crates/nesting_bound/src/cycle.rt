@@ -1,13 +1,15 @@
 //! Which instance is named where some reach themselves.
 
-ghost use Rattle.std.specs.Prelude.{◌≡◌, ◌⊎◌, ℕ, ◌+◌, ◌<◌, ◌≤◌, IfOk, length, true, false};
+ghost use Rattle.std.specs.Prelude.{◌≡◌, ◌≢◌, ◌⊎◌, ℕ, ◌+◌, ◌<◌, ◌≤◌, Contains, IfOk, IfSome, length, slice_index, true, false};
+ghost use Rattle.nesting_bound.specs.declared.graph.Entered.{Entered};
 ghost use Rattle.nesting_bound.specs.Graph.{Reaches, IsGraph};
-ghost use Rattle.nesting_bound.specs.Cycle.{group_of, number_of};
-ghost use Rattle.nesting_bound.specs.Search.{IsNamedOf, IsNamedBelow};
+ghost use Rattle.nesting_bound.specs.Cycle.{group_of, number_of, IsNoLater};
+ghost use Rattle.nesting_bound.specs.Search.{IsNamedOf, IsNamedBelow, AreLayers};
 ghost use Rattle.nesting_bound.specs.Table.{IsSound};
 
+use crate::depth_first::read;
 use crate::found::Found;
-use crate::graph::GraphInst;
+use crate::graph::{Entered, GraphInst};
 use crate::reach::reaches_itself;
 use mask_states::{InstKey, Kind};
 use std::alloc::{AllocError, Global};
@@ -36,40 +38,82 @@ fn is_earlier(a: &InstKey, b: &InstKey) -> bool
     }
 }
 
-// Whether the instance reaches itself. None does that was settled.
-fn is_on_cycle(
-    alloc: Global,
-    graph: &[GraphInst],
-    table: &[Option<Found>],
-    i: usize,
-) -> Result<bool, AllocError>
-    requires graph { IsGraph graph.now }
-    requires sound { IsSound graph.now table.now }
-    requires within { i < length graph.now }
-    ensures yes { IfOk result (λ yes. yes ≡ true → Reaches graph.now i i) }
-    ensures no { IfOk result (λ yes. yes ≡ false → Reaches graph.now i i → ⊥) }
+// Whether the first is named before the second, or is the same.
+fn is_no_later(a: &InstKey, i: usize, b: &InstKey, j: usize) -> bool
+    ensures yes { result ≡ true → IsNoLater a.now i b.now j }
+    ensures no { result ≡ false → IsNoLater b.now j a.now i }
 {
-    if table[i].is_some() {
-        return Ok(false);
+    if i <= j {
+        !is_earlier(b, a)
+    } else {
+        is_earlier(a, b)
     }
-    reaches_itself(alloc, graph, i)
 }
 
-// The one that is named, of the one so far and a later one that reaches itself.
-fn first_of(graph: &[GraphInst], best: Option<u32>, i: u32) -> u32
+// Whether an instance of this number may be on a cycle by one of these edges: it leads to an instance of the same number.
+fn stays(edges: &[Entered], numbers: &[u32], number: u32) -> bool
+    ensures { result ≡ false → (e : Entered) → Contains edges.now e → slice_index numbers.now e.into ≢ number }
+{
+    for entered in edges {
+        if read(numbers, entered.into as usize) == number {
+            return true;
+        }
+    }
+    false
+}
+
+// Whether these edges lead to numbers up to this one alone.
+fn lead_down(edges: &[Entered], numbers: &[u32], number: u32) -> bool
+    ensures { result ≡ true → (e : Entered) → Contains edges.now e → slice_index numbers.now e.into ≤ number }
+{
+    for entered in edges {
+        if read(numbers, entered.into as usize) > number {
+            return false;
+        }
+    }
+    true
+}
+
+// Whether no instance enters one of a greater number.
+fn are_layers(graph: &[GraphInst], numbers: &[u32]) -> bool
+    ensures { result ≡ true → AreLayers graph.now numbers.now }
+{
+    for i in 0..graph.len() {
+        let number = read(numbers, i);
+        if !lead_down(graph[i].entered.as_slice(), numbers, number) {
+            return false;
+        }
+    }
+    true
+}
+
+// Whether instance i may reach itself: it wasn't settled, and it enters one of its own number.
+fn is_candidate(graph: &[GraphInst], table: &[Option<Found>], numbers: &[u32], i: usize) -> bool
+    requires sound { IsSound graph.now table.now }
+    requires layers { AreLayers graph.now numbers.now }
     requires within { i < length graph.now }
-    requires reaches { Reaches graph.now i i }
+    ensures { result ≡ false → Reaches graph.now i i → ⊥ }
+{
+    if table[i].is_some() {
+        return false;
+    }
+    let number = read(numbers, i);
+    stays(graph[i].entered.as_slice(), numbers, number)
+}
+
+// Whether instance i is named after the best so far, or is not.
+fn is_behind(graph: &[GraphInst], best: Option<u32>, i: usize) -> bool
+    requires graph { IsGraph graph.now }
+    requires within { i < length graph.now }
     requires best { IsNamedBelow graph.now i best }
-    ensures { IsNamedOf graph.now (i + 1) result }
+    ensures yes { result ≡ true → IsNamedBelow graph.now (i + 1) best }
+    ensures no { result ≡ false → Reaches graph.now i i → IsNamedOf graph.now (i + 1) i }
 {
     match best {
-        None => i,
+        None => false,
         Some(at) => {
-            if is_earlier(&graph[i as usize].key, &graph[at as usize].key) {
-                i
-            } else {
-                at
-            }
+            let at = at as usize;
+            is_no_later(&graph[at].key, at, &graph[i].key, i)
         }
     }
 }
@@ -79,36 +123,115 @@ fn look(
     alloc: Global,
     graph: &[GraphInst],
     table: &[Option<Found>],
+    numbers: &[u32],
     best: Option<u32>,
     i: usize,
 ) -> Result<Option<u32>, AllocError>
     requires graph { IsGraph graph.now }
     requires sound { IsSound graph.now table.now }
+    requires layers { AreLayers graph.now numbers.now }
     requires within { i < length graph.now }
     requires best { IsNamedBelow graph.now i best }
     ensures { IfOk result (IsNamedBelow graph.now (i + 1)) }
 {
-    let reaches = is_on_cycle(alloc, graph, table, i)?;
+    if !is_candidate(graph, table, numbers, i) {
+        return Ok(best);
+    }
+    if is_behind(graph, best, i) {
+        return Ok(best);
+    }
+    let reaches = reaches_itself(alloc, graph, i)?;
     if reaches {
-        Ok(Some(first_of(graph, best, i as u32)))
+        Ok(Some(i as u32))
     } else {
         Ok(best)
     }
 }
 
-/// The instance that is named, if one reaches itself. The table holds what was settled.
+// The one that is named, of the best so far and instance i.
+fn first_of(graph: &[GraphInst], best: Option<usize>, i: usize) -> usize
+    requires within { i < length graph.now }
+    requires best { IfSome best (λ at. at < length graph.now) }
+    ensures { result < length graph.now }
+{
+    match best {
+        None => i,
+        Some(at) => {
+            if is_earlier(&graph[i].key, &graph[at].key) {
+                i
+            } else {
+                at
+            }
+        }
+    }
+}
+
+// The first that is named of the candidates.
+fn first_candidate(graph: &[GraphInst], table: &[Option<Found>], numbers: &[u32]) -> Option<usize>
+    requires sound { IsSound graph.now table.now }
+    requires layers { AreLayers graph.now numbers.now }
+    ensures { IfSome result (λ at. at < length graph.now) }
+{
+    let mut best = None;
+    for i in 0..graph.len() {
+        if is_candidate(graph, table, numbers, i) {
+            best = Some(first_of(graph, best, i));
+        }
+    }
+    best
+}
+
+// An instance that reaches itself: where the numbers are components, the one that is named.
+fn guess(
+    alloc: Global,
+    graph: &[GraphInst],
+    table: &[Option<Found>],
+    numbers: &[u32],
+) -> Result<Option<u32>, AllocError>
+    requires graph { IsGraph graph.now }
+    requires sound { IsSound graph.now table.now }
+    requires layers { AreLayers graph.now numbers.now }
+    ensures { IfOk result (IsNamedBelow graph.now 0) }
+{
+    let Some(at) = first_candidate(graph, table, numbers) else {
+        return Ok(None);
+    };
+    let reaches = reaches_itself(alloc, graph, at)?;
+    if reaches {
+        Ok(Some(at as u32))
+    } else {
+        Ok(None)
+    }
+}
+
+// The same numbers, if no instance enters one of a greater number, else one number for all.
+fn layers(alloc: Global, graph: &[GraphInst], numbers: Vec<u32>) -> Result<Vec<u32>, AllocError>
+    ensures { IfOk result (λ layers. AreLayers graph.now layers.items) }
+{
+    if are_layers(graph, &numbers) {
+        Ok(numbers)
+    } else {
+        vec![in alloc; 0; graph.len()]
+    }
+}
+
+/// The instance that is named, if one reaches itself. The table holds what was settled. Any numbers serve; where they are the
+/// instances' components, one instance alone is asked what it reaches.
 pub fn first_named(
     alloc: Global,
     graph: &[GraphInst],
     table: &[Option<Found>],
+    numbers: Vec<u32>,
 ) -> Result<Option<u32>, AllocError>
     requires graph { IsGraph graph.now }
     requires sound { IsSound graph.now table.now }
     ensures { IfOk result (IsNamedBelow graph.now (length graph.now)) }
 {
-    let mut best = None;
+    let layers = layers(alloc, graph, numbers)?;
+    let numbers = layers.as_slice();
+    let mut best = guess(alloc, graph, table, numbers)?;
     for i in 0..graph.len() {
-        best = look(alloc, graph, table, best, i)?;
+        best = look(alloc, graph, table, numbers, best, i)?;
     }
     Ok(best)
 }

@@ -4,7 +4,7 @@ use crate::lists::{Entries, Instances, Places};
 use mask_states::{EdgeKind, InstKey};
 
 /// A node at which the stack pointer is whole.
-#[derive(Clone, Copy, PartialEq, Eq, Debug)]
+#[derive(Clone, Copy, PartialEq, Eq)]
 pub struct Place {
     /// The number of the node.
     pub node: u32,
@@ -13,7 +13,7 @@ pub struct Place {
 }
 
 /// An edge from a node into another instance.
-#[derive(Clone, Copy, PartialEq, Eq, Debug)]
+#[derive(Clone, Copy, PartialEq, Eq)]
 pub struct Entered {
     /// The number of the node.
     pub node: u32,
@@ -44,7 +44,7 @@ pub struct Graph {
 }
 
 /// One place of a chain of entries.
-#[derive(Clone, Copy, PartialEq, Eq, Debug)]
+#[derive(Clone, Copy, PartialEq, Eq)]
 pub struct Link {
     /// The number of the instance.
     pub inst: u32,

@@ -4,6 +4,7 @@
 pub mod chaining;
 pub mod composing;
 mod cycle;
+mod depth_first;
 pub mod fault;
 mod found;
 pub mod graph;

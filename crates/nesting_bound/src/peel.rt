@@ -101,13 +101,33 @@ fn pass(graph: &[GraphInst], table: &mut [Option<Found>]) -> bool
     grew
 }
 
-/// Settles instances until none is left that enters settled ones alone.
-pub fn peel(alloc: Global, graph: &[GraphInst]) -> Result<Vec<Option<Found>>, AllocError>
+// Looks at instances in this order.
+fn settle_in(graph: &[GraphInst], table: &mut [Option<Found>], order: &[u32])
+    requires graph { IsGraph graph.now }
+    requires sound { IsSound graph.now table.old }
+    ensures { IsSound graph.now table.new }
+{
+    for inst in order {
+        let i = *inst as usize;
+        if i < graph.len() {
+            visit(graph, table, i);
+        }
+    }
+}
+
+/// Settles instances until none is left that enters settled ones alone. Any order serves; where each instance stands behind those
+/// that it enters, one look at each is enough, and one more shows that nothing is left.
+pub fn peel(
+    alloc: Global,
+    graph: &[GraphInst],
+    order: &[u32],
+) -> Result<Vec<Option<Found>>, AllocError>
     requires graph { IsGraph graph.now }
     ensures sound { IfOk result (λ table. IsSound graph.now table.items) }
     ensures stuck { IfOk result (λ table. (i : ℕ) → i < length graph.now → at table.items i ≡ None → IsStuck graph.now table.items i) }
 {
     let mut table = vec![in alloc; None; graph.len()]?;
+    settle_in(graph, table.as_mut_slice(), order);
     loop {
         let grew = pass(graph, table.as_mut_slice());
         if !grew {

@@ -1,0 +1,16 @@
+use Rattle.std.proofs.Common.{◌≡◌, ◌∙◌, Some, get_or, slice_get, subst, sym, refl, length}
+use Rattle.std.proofs.lemmas.Option.{slice_get_read}
+use Rattle.nesting_bound.specs.Table.{at}
+use Rattle.nesting_bound.proofs.Naming.{settled_apart, settled_there, no_candidate}
+use Rattle.nesting_bound.proofs.cycle.is_candidate.Goals as goal
+
+pub returns-then-is_some : goal.returns-then-is_some
+returns-then-is_some c = λ _.
+    let found = settled_there (at c.args.table.now c.args.i) (sym c.is_some.ensures ∙ c.if-is_some.true) in
+    settled_apart c.args.graph.now c.args.table.now c.requires.sound c.args.i found.0 found.1
+
+pub returns : goal.returns
+returns c = λ no.
+    let gs = c.args.graph.now in
+    let is = slice_get_read gs (length gs) c.args.i c.index-graph-i.result refl c.requires.within c.index-graph-i.is in
+    no_candidate gs c.args.numbers.now c.args.i c.read-number.result (get_or gs c.args.i c.index-graph-i.result) c.as_slice.result.now c.requires.layers (subst (λ x. slice_get gs c.args.i ≡ Some x) c.index-graph-i.is is) c.as_slice.ensures c.read-number.ensures (c.stays.ensures no)
