@@ -1,11 +1,10 @@
 -- A filled list ascends as the given nodes do.
-use Rattle.std.proofs.Common.{◌≡◌, refl, sym, subst, ℕ, List, length, map, Contains}
+use Rattle.std.proofs.Common.{refl, sym, subst, ℕ, List, length}
 use Rattle.std.specs.List.Sorted.{IsStrictlySortedBy}
 use Rattle.std.proofs.lemmas.Option.{slice_get_read}
 use Rattle.avr_model.specs.declared.assumption.Entry.{Entry}
 use Rattle.mask_states.specs.Order.{node_cmp}
 use Rattle.local_rules.specs.declared.local.Node.{Node}
-use Rattle.local_rules.specs.Cover.{IsNode}
 use Rattle.edge_rules.specs.Views.{AreShown}
 use Rattle.edge_rules.specs.Expansion.{Seeds, IsFilled}
 use Rattle.expansion_laws.specs.Laws.{AreAscending, FilledListsAreShown}

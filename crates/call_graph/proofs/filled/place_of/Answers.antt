@@ -22,8 +22,8 @@ returns c =
     let at = c.partition_point-at.result in
     let point = IsPartitionPoint-from_clause (is_below_key k) nodes at c.partition_point-at.ensures.partitioned (parted_by_key nodes k c.requires) (λ a r q h. search rules) in
     elim c.else-at-nodes.branch [
-      else-at-nodes-via-then-at-nodes+else-eq w ↦
+      | else-at-nodes-via-then-at-nodes+else-eq w ↦
           (let there = slice_get_read nodes (length nodes) at w.index-nodes-at.result refl w.if-at-nodes.true w.index-nodes-at.is in
           place_none nodes k at c.requires point w.index-nodes-at.result there (λ same. differs w.eq.result (w.eq.ensures.same.1 (ap (λ (n : Node). n.key) (sym w.index-nodes-at.is) ∙ same)) w.if-eq.false))
-    | else-at-nodes-via-else-at-nodes w ↦ place_past nodes k at c.requires point w.if-at-nodes.false
+      | else-at-nodes-via-else-at-nodes w ↦ place_past nodes k at c.requires point w.if-at-nodes.false
     ]
