@@ -4,7 +4,9 @@
 pub mod certificate;
 pub mod instance;
 pub mod laws;
+pub mod limit;
 
 pub use certificate::Certificate;
 pub use edge_rules::{NodeForm, Seed, Seeded};
 pub use instance::Inst;
+pub use limit::Limit;

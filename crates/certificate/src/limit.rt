@@ -1,0 +1,10 @@
+//! The limits of certificates. Source: own.
+
+/// What a certificate has too many of.
+#[derive(Clone, Copy, PartialEq, Eq, Drop)]
+pub enum Limit {
+    /// Nodes: more than 65,536.
+    Nodes,
+    /// Cells, one for each node and one for each byte of its offset: more than 8,388,608.
+    Cells,
+}

@@ -1,0 +1,252 @@
+-- The rounds end once, and with no refusal where there is a valid certificate.
+use Rattle.std.proofs.Common.{◌≡◌, refl, sym, ap, ap₂, ◌∙◌, subst, ℕ, zero, suc, ◌<◌, ◌≤◌, inl, inr, ⊎_elim, List, Option, Some, Contains, arith}
+use Rattle.std.proofs.lemmas.Bool.{cases_lt, cases_order}
+use Rattle.std.specs.FinMap.{len}
+use Rattle.avr_model.specs.declared.assumption.Entry.{Entry}
+use Rattle.avr_model.specs.State.{SIZE}
+use Rattle.avr_model.specs.Vectors.{vector_word}
+use Rattle.mask_states.specs.declared.keys.InstKey.{InstKey}
+use Rattle.mask_states.specs.Keys.{root_inst}
+use Rattle.mask_states.specs.declared.keys.Kind.{Kind}
+use Rattle.mask_states.specs.declared.keys.Kind.TheVariants.{Vector}
+use Rattle.local_rules.specs.declared.local.NodeFault.{NodeFault}
+use Rattle.certificate.specs.declared.limit.Limit.{Limit}
+use Rattle.certificate.specs.declared.limit.Limit.TheVariants.{Nodes, Cells}
+use Rattle.certificate.specs.Claims.{Claim, IsClaim}
+use Rattle.certificate.specs.Insts.{rank_in, need_in}
+use Rattle.witness_replay.specs.Spelling.{Plan}
+use Rattle.certificate.specs.Valid.{IsValid, IsAttained, MeetsConditions}
+use Rattle.round_rules.specs.declared.refusal.Refusal.{Refusal}
+use Rattle.round_rules.specs.Families.{Family, nodes_of, Below, HasNoFault, IsClosed, FitsLimits}
+use Rattle.round_rules.specs.Rounds.{Reaches, IsAcyclic, AreRanks, AreNeeds, IsRootNeed, Passes, Comes}
+use Rattle.round_rules.specs.Refusals.{Test, over, faulty, re_entry, recursion, too_deep, FaultAt, IsLeastFault, FirstHolds, refusal_of, IsReEntry, IsRecursion, EndsBy, IsRefused, IsSolved, GoesBeyond}
+use Rattle.round_rules.specs.Solutions.{IsShown, IsSolution}
+use Rattle.round_laws.specs.Laws.{IsValidFamily, RoundsAreLeast, RoundsEndOnce, SolutionsAreValid}
+use Rattle.round_laws.proofs.Nodes.{has_member, member_has}
+use Rattle.round_laws.proofs.Parts.{never_both}
+use Rattle.round_laws.proofs.Faults.{later_once}
+use Rattle.round_laws.proofs.Stands.{stands}
+use Rattle.round_laws.proofs.Under.{under_root}
+use Rattle.round_laws.proofs.Sums.{below_few, below_cells}
+use Rattle.round_laws.proofs.Least.{lands_covered, formed_nodes, comes_formed, comes_same, comes_root, none_faulty, ranks_of, needs_of, comes_below, reached_lower, entered_word}
+
+module _ (words : List ℕ) (A : List Entry) where
+  -- ---- no refusal where a family is valid
+
+  never_faulty : (f : Family) (x : NodeFault) → HasNoFault words A f → FaultAt words A f x → ⊥
+  never_faulty f x clean at = never_both words A at.node.key at.node.state x (clean at.node at.has) at.is
+
+  root_need : (f : Family) (d e : ℕ) → IsRootNeed words A f d → IsRootNeed words A f e → d ≤ e
+  root_need f d e a b = subst (λ (x : ℕ). d ≤ x) b.is (a.least b.need b.are)
+
+  module _ (g : Family) (valid : IsValidFamily words A g) (n : ℕ) (f : Family) (c : Comes words A n f) where
+    below : Below f g
+    below = comes_below words A g valid n f c
+
+    clean : HasNoFault words A f
+    clean = none_faulty words A g valid f (comes_formed words A n f c) below
+
+    low : AreRanks words A f valid.rank_of
+    low = ranks_of words A g valid f (comes_formed words A n f c) below
+
+    needs : AreNeeds words A f valid.need_of
+    needs = needs_of words A g valid f (comes_formed words A n f c) below
+
+    acyclic : IsAcyclic words A f
+    acyclic i r = let lt = reached_lower words A f valid.rank_of low i i r in omega (arith, lt)
+
+    bound : (d : ℕ) → IsRootNeed words A f d → d ≤ valid.bound
+    bound d is = omega (arith, is.least valid.need_of needs, valid.sound.bounded)
+
+    never : (t : Test) → FitsLimits g → FirstHolds words A f t → ⊥
+    never (over Nodes) fits h = omega (arith, below_few f g below, fits.few_nodes, h)
+    never (over Cells) fits h = omega (arith, below_cells f g below, fits.few_cells, h.1)
+    never (faulty x) fits h = never_faulty f x clean h.1.0
+    never (re_entry v word) fits h = acyclic h.2.inst h.2.reaches
+    never (recursion word) fits h = acyclic h.2.inst h.2.reaches
+    never (too_deep d) fits h = omega (arith, bound d h.3, valid.sound.small, h.4)
+
+  never_refused : (n : ℕ) (c : Claim) (r : Refusal) → IsShown words A c → IsRefused words A n r → ⊥
+  never_refused n c r shown refused =
+      let s = stands words A c shown in
+      never s.family s.valid n refused.ends.family refused.ends.comes refused.test s.fits refused.ends.holds
+
+  bound_least : (n : ℕ) (f : Family) (c : Claim) (d : ℕ) → IsShown words A c → Comes words A n f → IsRootNeed words A f d → d ≤ c.bound
+  bound_least n f c d shown comes is =
+      let s = stands words A c shown in
+      omega (arith, bound s.family s.valid n f comes d is, s.bound)
+
+  -- ---- the solved family's certificate is valid
+
+  solved_valid : (n : ℕ) (f : Family) (c : Claim) → IsClaim c → IsSolved words A n f → IsSolution words A f c → IsValid words A c
+  solved_valid n f c claim solved is = record {
+    sound = record {
+      nodes = nodes_of f;
+      expanded = is.expands;
+      meets = record {
+        reset = lands_covered f _ (comes_root words A n f solved.comes);
+        faultless = λ m i. solved.passes.faultless m (has_member f m i);
+        edges = λ m e i edge. lands_covered f _ (solved.closed m e (has_member f m i) edge);
+        ranks = λ m way inst back i enters.
+            is.ranks m.key.inst inst _ record { node = m; has = has_member f m i; same = refl; at = refl; way = way; back = back; enters = enters };
+        needs = λ inst. record {
+          offsets = λ m offset i same form.
+              subst (λ (x : InstKey). offset ≤ need_in c.instances x) same (is.needs.offsets m offset (has_member f m i) form);
+          entered = λ m way into back i same enters.
+              is.needs.entered inst into _ record { node = m; has = has_member f m i; same = same; at = refl; way = way; back = back; enters = enters };
+        };
+        bounded = omega (arith, is.bound);
+        assumptions = is.assumptions;
+      };
+    };
+    attained = subst (λ (w : Option Plan). IsAttained words A c.bound w) (sym is.unwitnessed) tt;
+  }
+
+  solved_least : (n : ℕ) (f : Family) (c other : Claim) → IsSolved words A n f → IsSolution words A f c → IsShown words A other → c.bound ≤ other.bound
+  solved_least n f c other solved is shown =
+      let s = stands words A other shown in
+      let le = is.least_needs s.valid.need_of (needs s.family s.valid n f solved.comes) root_inst in
+      omega (arith, le, s.valid.sound.bounded, s.bound, is.bound)
+
+  -- ---- before the end no test holds
+
+  abbrev GoesOn : Family → Type 0
+  GoesOn f = Passes words A f × (IsClosed words A f → ⊥)
+
+  earlier : (m n : ℕ) (f g : Family) → m < n → Comes words A m f → Comes words A n g → GoesOn f
+  earlier m zero f g lt c d = absurd (omega arith)
+  earlier m (suc n) f g lt c d =
+      ⊎_elim (λ less. earlier m n f d.0 less c d.1)
+      (λ over. let is : n ≡ m = omega (arith, lt, over) in
+      let same = comes_same words A m d.0 f (subst (λ (k : ℕ). Comes words A k d.0) is d.1) c in
+      subst GoesOn same (d.2, d.3)) (cases_lt m n)
+
+  not_passes : (f : Family) (t : Test) → FirstHolds words A f t → Passes words A f → ⊥
+  not_passes f (over Nodes) h p = omega (arith, h, p.fits.few_nodes)
+  not_passes f (over Cells) h p = omega (arith, h.1, p.fits.few_cells)
+  not_passes f (faulty x) h p = never_faulty f x p.faultless h.1.0
+  not_passes f (re_entry v word) h p = p.acyclic h.2.inst h.2.reaches
+  not_passes f (recursion word) h p = p.acyclic h.2.inst h.2.reaches
+  not_passes f (too_deep d) h p = omega (arith, h.3.least p.shallow.need p.shallow.are, p.shallow.small, h.4)
+
+  -- ---- one family has one first test
+
+  over_fits : (f : Family) (limit : Limit) → FirstHolds words A f (over limit) → FitsLimits f → ⊥
+  over_fits f Nodes h fits = omega (arith, h, fits.few_nodes)
+  over_fits f Cells h fits = omega (arith, h.1, fits.few_cells)
+
+  re_entry_same : (f : Family) (v word u other : ℕ) → IsReEntry words A f v word → IsReEntry words A f u other → re_entry v word ≡ re_entry u other
+  re_entry_same f v word u other a b =
+      let vs : v ≡ u = omega (arith, a.least b.inst u b.reaches b.kind, b.least a.inst v a.reaches a.kind) in
+      let ws : word ≡ other = sym a.entry ∙ entered_word words A f a.inst a.inst v a.reaches a.kind ∙ ap vector_word vs ∙ sym (entered_word words A f b.inst b.inst u b.reaches b.kind) ∙ b.entry in
+      ap₂ re_entry vs ws
+
+  recursion_same : (f : Family) (word other : ℕ) → IsRecursion words A f word → IsRecursion words A f other → recursion word ≡ recursion other
+  recursion_same f word other a b = ap recursion (omega (arith, a.least b.inst b.reaches, a.entry, b.least a.inst a.reaches, b.entry))
+
+  not_both : (f : Family) (v word other : ℕ) → IsReEntry words A f v word → IsRecursion words A f other → ⊥
+  not_both f v word other a b = b.vectors a.inst v a.reaches a.kind
+
+  test_same : (f : Family) (t u : Test) → FirstHolds words A f t → FirstHolds words A f u → t ≡ u
+  test_same f (over Nodes) (over Nodes) h k = refl
+  test_same f (over Nodes) (over Cells) h k = absurd (omega (arith, h, k.0))
+  test_same f (over Cells) (over Nodes) h k = absurd (omega (arith, k, h.0))
+  test_same f (over Cells) (over Cells) h k = refl
+  test_same f (over limit) (faulty y) h k = absurd (over_fits f limit h k.0)
+  test_same f (over limit) (re_entry u other) h k = absurd (over_fits f limit h k.0)
+  test_same f (over limit) (recursion other) h k = absurd (over_fits f limit h k.0)
+  test_same f (over limit) (too_deep e) h k = absurd (over_fits f limit h k.0)
+  test_same f (faulty x) (over limit) h k = absurd (over_fits f limit k h.0)
+  test_same f (faulty x) (faulty y) h k = ap faulty (later_once x y (h.1.1 y k.1.0) (k.1.1 x h.1.0))
+  test_same f (faulty x) (re_entry u other) h k = absurd (never_faulty f x k.1 h.1.0)
+  test_same f (faulty x) (recursion other) h k = absurd (never_faulty f x k.1 h.1.0)
+  test_same f (faulty x) (too_deep e) h k = absurd (never_faulty f x k.1 h.1.0)
+  test_same f (re_entry v word) (over limit) h k = absurd (over_fits f limit k h.0)
+  test_same f (re_entry v word) (faulty y) h k = absurd (never_faulty f y h.1 k.1.0)
+  test_same f (re_entry v word) (re_entry u other) h k = re_entry_same f v word u other h.2 k.2
+  test_same f (re_entry v word) (recursion other) h k = absurd (not_both f v word other h.2 k.2)
+  test_same f (re_entry v word) (too_deep e) h k = absurd (k.2 h.2.inst h.2.reaches)
+  test_same f (recursion word) (over limit) h k = absurd (over_fits f limit k h.0)
+  test_same f (recursion word) (faulty y) h k = absurd (never_faulty f y h.1 k.1.0)
+  test_same f (recursion word) (re_entry u other) h k = absurd (not_both f u other word k.2 h.2)
+  test_same f (recursion word) (recursion other) h k = recursion_same f word other h.2 k.2
+  test_same f (recursion word) (too_deep e) h k = absurd (k.2 h.2.inst h.2.reaches)
+  test_same f (too_deep d) (over limit) h k = absurd (over_fits f limit k h.0)
+  test_same f (too_deep d) (faulty y) h k = absurd (never_faulty f y h.1 k.1.0)
+  test_same f (too_deep d) (re_entry u other) h k = absurd (h.2 k.2.inst k.2.reaches)
+  test_same f (too_deep d) (recursion other) h k = absurd (h.2 k.2.inst k.2.reaches)
+  test_same f (too_deep d) (too_deep e) h k = ap too_deep (omega (arith, root_need f d e h.3 k.3, root_need f e d k.3 h.3))
+
+  -- ---- the rounds end once
+
+  solved_once : (m n : ℕ) (f g : Family) → IsSolved words A m f → IsSolved words A n g → (m ≡ n) × (f ≡ g)
+  solved_once m n f g a b =
+      elim (cases_order m n) [
+        | inl same ↦ (same, comes_same words A n f g (subst (λ (k : ℕ). Comes words A k f) same a.comes) b.comes)
+        | inr (inl lt) ↦ absurd ((earlier m n f g lt a.comes b.comes).1 a.closed)
+        | inr (inr gt) ↦ absurd ((earlier n m g f gt b.comes a.comes).1 b.closed)
+      ]
+
+  either : (m n : ℕ) (f : Family) (r : Refusal) → IsSolved words A m f → IsRefused words A n r → ⊥
+  either m n f r a b =
+      let g = b.ends.family in
+      elim (cases_order m n) [
+        | inl same ↦ not_passes g b.test b.ends.holds
+            (subst (Passes words A) (comes_same words A n f g (subst (λ (k : ℕ). Comes words A k f) same a.comes) b.ends.comes) a.passes)
+        | inr (inl lt) ↦ (earlier m n f g lt a.comes b.ends.comes).1 a.closed
+        | inr (inr gt) ↦ not_passes g b.test b.ends.holds (earlier n m g f gt b.ends.comes a.comes).0
+      ]
+
+  refused_once : (m n : ℕ) (r s : Refusal) → IsRefused words A m r → IsRefused words A n s → (m ≡ n) × (r ≡ s)
+  refused_once m n r s a b =
+      let f = a.ends.family in
+      let g = b.ends.family in
+      elim (cases_order m n) [
+        | inl same ↦
+            let one = comes_same words A n f g (subst (λ (k : ℕ). Comes words A k f) same a.ends.comes) b.ends.comes in
+            let test = test_same g a.test b.test (subst (λ (x : Family). FirstHolds words A x a.test) one a.ends.holds) b.ends.holds in
+            (same, a.is ∙ ap refusal_of test ∙ sym b.is)
+        | inr (inl lt) ↦ absurd (not_passes f a.test a.ends.holds (earlier m n f g lt a.ends.comes b.ends.comes).0)
+        | inr (inr gt) ↦ absurd (not_passes g b.test b.ends.holds (earlier n m g f gt b.ends.comes a.ends.comes).0)
+      ]
+
+  solved_beyond : (m n : ℕ) (f : Family) → IsSolved words A m f → GoesBeyond words A n → n < m
+  solved_beyond m n f a b =
+      elim (cases_order m n) [
+        | inl same ↦ absurd (b.more (subst (IsClosed words A) (comes_same words A n f b.family (subst (λ (k : ℕ). Comes words A k f) same a.comes) b.comes) a.closed))
+        | inr (inl lt) ↦ absurd ((earlier m n f b.family lt a.comes b.comes).1 a.closed)
+        | inr (inr gt) ↦ gt
+      ]
+
+  refused_beyond : (m n : ℕ) (r : Refusal) → IsRefused words A m r → GoesBeyond words A n → n < m
+  refused_beyond m n r a b =
+      let f = a.ends.family in
+      elim (cases_order m n) [
+        | inl same ↦ absurd (not_passes f a.test a.ends.holds
+            (subst (Passes words A) (sym (comes_same words A n f b.family (subst (λ (k : ℕ). Comes words A k f) same a.ends.comes) b.comes)) b.passes))
+        | inr (inl lt) ↦ absurd (not_passes f a.test a.ends.holds (earlier m n f b.family lt a.ends.comes b.comes).0)
+        | inr (inr gt) ↦ gt
+      ]
+
+pub rounds_are_least : RoundsAreLeast
+rounds_are_least = record {
+  one = comes_same;
+  formed = comes_formed;
+  below = λ words A n f g valid c. below words A g valid n f c;
+  faultless = λ words A n f g valid c. clean words A g valid n f c;
+  ranks = λ words A n f g valid c. low words A g valid n f c;
+  needs = λ words A n f g valid c. needs words A g valid n f c;
+  acyclic = λ words A n f g valid c. acyclic words A g valid n f c;
+  few = λ words A n f g valid c. below_few f g (below words A g valid n f c);
+  fewer = λ words A n f g valid c. below_cells f g (below words A g valid n f c);
+  stands = stands;
+  never = never_refused;
+  bound = bound_least;
+  under_root = under_root;
+}
+
+pub rounds_end_once : RoundsEndOnce
+rounds_end_once = record { solved = solved_once; either = either; refused = refused_once; solved_beyond = solved_beyond; refused_beyond = refused_beyond }
+
+pub solutions_are_valid : SolutionsAreValid
+solutions_are_valid = record { valid = solved_valid; least = solved_least }

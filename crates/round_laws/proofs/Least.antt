@@ -1,0 +1,143 @@
+-- The rounds come to one family at each number, and it lies below each valid one.
+use Rattle.std.proofs.Common.{◌≡◌, sym, ap, ◌∙◌, subst, ℕ, zero, suc, ◌+◌, ◌<◌, ◌≤◌, List, Some, Contains, arith}
+use Rattle.std.specs.FinMap.{get, empty, get-empty}
+use Rattle.avr_model.specs.declared.assumption.Entry.{Entry}
+use Rattle.abs_state.specs.declared.state.AbsState.{AbsState}
+use Rattle.abs_state.specs.Values.{root}
+use Rattle.abs_state.proofs.AllLaws.{states_are_ordered}
+use Rattle.mask_states.specs.declared.keys.InstKey.{InstKey}
+use Rattle.mask_states.specs.declared.keys.NodeKey.{NodeKey}
+use Rattle.mask_states.specs.Keys.{root_inst, entry_key}
+use Rattle.mask_states.specs.Order.{node_cmp}
+use Rattle.local_rules.specs.declared.local.Node.{Node}
+use Rattle.local_rules.specs.Cover.{IsNode}
+use Rattle.local_laws.specs.Laws.{AreNodes}
+use Rattle.mask_states.specs.declared.keys.EdgeKind.{EdgeKind}
+use Rattle.edge_rules.specs.declared.edge.Edge.{Edge}
+use Rattle.mask_states.specs.declared.keys.Kind.TheVariants.{Vector}
+use Rattle.avr_model.specs.Vectors.{vector_word}
+use Rattle.edge_rules.specs.Edges.{Enters, by_call, by_interrupt, IsEdge, target}
+use Rattle.edge_rules.specs.Families.{IsCovered}
+use Rattle.edge_laws.specs.Laws.{with_state}
+use Rattle.edge_laws.proofs.AllLaws.{edges_lead_to_nodes, edges_grow}
+use Rattle.round_rules.specs.Families.{Family, nodes_of, Has, Lands, Below, AreFormed, HasNoFault, LandIn}
+use Rattle.round_rules.specs.Rounds.{Reaches, once, more, AreRanks, AreNeeds, first, IsNext, Comes}
+use Rattle.round_laws.specs.Laws.{IsValidFamily}
+use Rattle.round_laws.proofs.Keys.{at_keys, get_same, get_other, some_same}
+use Rattle.round_laws.proofs.Nodes.{has_member, member_has, families_are_their_nodes}
+
+-- ---- families
+
+pub lands_up : (f g : Family) (n : Node) → Below f g → Lands f n → Lands g n
+lands_up f g n below l =
+    let m = below (with_state n l.at) l.is in
+    record { at = m.at; is = m.is; above = states_are_ordered.through n.state l.at m.at l.above m.above }
+
+pub lands_covered : (g : Family) (n : Node) → Lands g n → IsCovered (nodes_of g) n
+lands_covered g n l = record { state = l.at; present = member_has g (with_state n l.at) l.is; above = l.above }
+
+covered_lands : (g : Family) (n : Node) → IsCovered (nodes_of g) n → Lands g n
+covered_lands g n c = record { at = c.state; is = has_member g (with_state n c.state) c.present; above = c.above }
+
+pub formed_nodes : (f : Family) → AreFormed f → AreNodes (nodes_of f)
+formed_nodes f formed n i = formed n (has_member f n i)
+
+-- what holds of the first family's one node holds of all its nodes
+pub first_has : (P : NodeKey → AbsState → Type 0) → P (entry_key root_inst) root → (n : Node) → Has first n → P n.key n.state
+first_has P h n =
+    at_keys (λ q. (s : AbsState) → get first q ≡ Some s → P q s) (entry_key root_inst) n.key
+    (λ s e. subst (P (entry_key root_inst)) (some_same root s (sym (get_same empty (entry_key root_inst) root) ∙ e)) h)
+    (λ ne s e. absurd (let never = sym (get-empty node_cmp n.key) ∙ sym (get_other empty (entry_key root_inst) root n.key ne) ∙ e in cc)) n.state
+
+module _ (words : List ℕ) (A : List Entry) where
+  pub comes_formed : (n : ℕ) (f : Family) → Comes words A n f → AreFormed f
+  comes_formed zero f c = subst AreFormed (sym c) (λ n h. first_has IsNode edges_lead_to_nodes.reset n h)
+  comes_formed (suc n) f c = c.4.formed
+
+  -- ---- one family at each number
+
+  next_same : (f g g' : Family) → IsNext words A f g → IsNext words A f g' → g ≡ g'
+  next_same f g g' next next' =
+      families_are_their_nodes.same g g' next.formed next'.formed (next.least g' next'.above next'.edges) (next'.least g next.above next.edges)
+
+  pub comes_same : (n : ℕ) (f g : Family) → Comes words A n f → Comes words A n g → f ≡ g
+  comes_same zero f g c d = c ∙ sym d
+  comes_same (suc n) f g c d =
+      let e = comes_same n c.0 d.0 c.1 d.1 in
+      next_same d.0 f g (subst (λ x. IsNext words A x f) e c.4) d.4
+
+  pub comes_root : (n : ℕ) (f : Family) → Comes words A n f → Lands f (record { key = entry_key root_inst; state = root })
+  comes_root zero f c = record { at = root; is = ap (λ x. get x (entry_key root_inst)) c ∙ get_same empty (entry_key root_inst) root; above = states_are_ordered.same root }
+  comes_root (suc n) f c = lands_up c.0 f (record { key = entry_key root_inst; state = root }) c.4.above (comes_root n c.0 c.1)
+
+  -- ---- below a valid family
+
+  module _ (g : Family) (valid : IsValidFamily words A g) where
+    module _ (f : Family) (formed : AreFormed f) (below : Below f g) where
+      covered : (n : Node) → Contains (nodes_of f) n → IsCovered (nodes_of g) n
+      covered n i = lands_covered g n (below n (has_member f n i))
+
+      edges_land : LandIn words A f g
+      edges_land n e has edge =
+          let p = edges_grow.edges words A (nodes_of f) (nodes_of g) n e (formed_nodes f formed) valid.sound.formed covered valid.sound.faultless (member_has f n has) edge in
+          let c = valid.sound.edges (with_state n p.from) (record { kind = e.kind; to = e.to; state = p.landed }) p.present p.is_edge in
+          record {
+            at = c.state;
+            is = has_member g (with_state (target e) c.state) c.present;
+            above = states_are_ordered.through e.state p.landed c.state p.above c.above;
+          }
+
+      pub none_faulty : HasNoFault words A f
+      none_faulty n has =
+          let l = below n has in
+          let i = member_has g (with_state n l.at) l.is in
+          edges_grow.faultless words A n l.at (formed n has) (valid.sound.formed (with_state n l.at) i) l.above (valid.sound.faultless (with_state n l.at) i)
+
+      enters_up : (n : Node) (way : EdgeKind) (inst : InstKey) (back : ℕ) (has : Has f n) → Enters words A n way inst back → Enters words A (with_state n (below n has).at) way inst back
+      enters_up n way inst back has enters =
+          let l = below n has in
+          let i = member_has g (with_state n l.at) l.is in
+          edges_grow.enters words A n l.at way inst back (formed n has) (valid.sound.formed (with_state n l.at) i) l.above (valid.sound.faultless (with_state n l.at) i) enters
+
+      pub ranks_of : AreRanks words A f valid.rank_of
+      ranks_of i j offset e =
+          let l = below e.node e.has in
+          let at = member_has g (with_state e.node l.at) l.is in
+          subst (λ (x : InstKey). valid.rank_of j < valid.rank_of x) e.same
+          (valid.sound.ranks (with_state e.node l.at) e.way j e.back at (enters_up e.node e.way j e.back e.has e.enters))
+
+      pub needs_of : AreNeeds words A f valid.need_of
+      needs_of = record {
+        offsets = λ n offset has is. let l = below n has in valid.sound.offsets (with_state n l.at) offset (member_has g (with_state n l.at) l.is) is;
+        entered = λ i j offset e.
+            let l = below e.node e.has in
+            let at = member_has g (with_state e.node l.at) l.is in
+            let le = valid.sound.needs (with_state e.node l.at) e.way j e.back at (enters_up e.node e.way j e.back e.has e.enters) in
+            subst (λ (x : InstKey). offset + 2 + valid.need_of j ≤ valid.need_of x) e.same
+            (subst (λ (d : ℕ). d + 2 + valid.need_of j ≤ valid.need_of e.node.key.inst) e.at le);
+      }
+
+    pub comes_below : (n : ℕ) (f : Family) → Comes words A n f → Below f g
+    comes_below zero f c =
+        subst (λ x. Below x g) (sym c) (λ n h. first_has (λ q s. Lands g (record { key = q; state = s })) (covered_lands g (record { key = entry_key root_inst; state = root }) valid.sound.reset) n h)
+    comes_below (suc n) f c = c.4.least g (comes_below n c.0 c.1) (edges_land c.0 (comes_formed n c.0 c.1) (comes_below n c.0 c.1))
+
+-- ---- ranks rule out cycles
+
+pub reached_lower : (words : List ℕ) (A : List Entry) (f : Family) (rank : InstKey → ℕ) → AreRanks words A f rank → (i j : InstKey) → Reaches words A f i j → rank j < rank i
+reached_lower words A f rank are _ _ (once i j offset e) = are i j offset e
+reached_lower words A f rank are _ _ (more i j k offset e rest) = omega (arith, are i j offset e, reached_lower words A f rank are j k rest)
+
+-- ---- an entered instance of a vector begins at its word
+
+vector_same : (v u : ℕ) → Vector v ≡ Vector u → v ≡ u
+vector_same v u e = cc
+
+enters_word : (words : List ℕ) (A : List Entry) (n : Node) (way : EdgeKind) (inst : InstKey) (back v : ℕ) → Enters words A n way inst back → inst.kind ≡ Vector v
+    → inst.entry ≡ vector_word v
+enters_word words A n _ _ _ v (by_call offset site clean form member) e = absurd (cc)
+enters_word words A n _ _ _ v (by_interrupt offset u clears clean form i delay enabled clearable) e = ap vector_word (vector_same u v e)
+
+pub entered_word : (words : List ℕ) (A : List Entry) (f : Family) (i j : InstKey) (v : ℕ) → Reaches words A f i j → j.kind ≡ Vector v → j.entry ≡ vector_word v
+entered_word words A f _ _ v (once i j offset e) kind = enters_word words A e.node e.way j e.back v e.enters kind
+entered_word words A f _ _ v (more i j k offset e rest) kind = entered_word words A f j k v rest kind

@@ -1,0 +1,11 @@
+pub mod Keys
+pub mod Nodes
+pub mod Sums
+pub mod Parts
+pub mod Faults
+pub mod Least
+pub mod Under
+pub mod Stands
+pub mod Ends
+pub mod Joins
+pub mod AllLaws

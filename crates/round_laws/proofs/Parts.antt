@@ -1,0 +1,30 @@
+-- Nodes without faults, by their local parts.
+use Rattle.std.proofs.Common.{◌≡◌, refl, sym, ap, ◌∙◌, subst, ℕ, List, [], ◌∷◌, Result, Ok, Err}
+use Rattle.avr_model.specs.declared.assumption.Entry.{Entry}
+use Rattle.abs_state.specs.declared.state.AbsState.{AbsState}
+use Rattle.mask_states.specs.declared.keys.NodeKey.{NodeKey}
+use Rattle.local_rules.specs.declared.local.Local.{Local}
+use Rattle.local_rules.specs.declared.local.NodeFault.{NodeFault}
+use Rattle.local_rules.specs.Raw.{Raw}
+use Rattle.local_rules.specs.Faults.{least}
+use Rattle.local_rules.specs.Local.{raw, local, settled, joined_onto}
+
+-- what a node without faults leads to
+abbrev pub part_of : Raw → Local
+part_of r = record { same = joined_onto [] r.moves; calls = r.calls; exit = r.exit }
+
+pub ok_of : (words : List ℕ) (A : List Entry) (k : NodeKey) (s : AbsState) → (raw words A k s).faults ≡ [] → local words A k s ≡ Ok (part_of (raw words A k s))
+unfolding local
+ok_of words A k s e = ap (settled (raw words A k s)) e
+
+-- where there is a part, there is no fault, and it is this one
+pub part_is : (words : List ℕ) (A : List Entry) (k : NodeKey) (s : AbsState) (l : Local) → local words A k s ≡ Ok l → ((raw words A k s).faults ≡ []) × (part_of (raw words A k s) ≡ l)
+unfolding local
+part_is words A k s l e = by (raw words A k s).faults refl e
+  where
+    by : (fs : List NodeFault) → (raw words A k s).faults ≡ fs → settled (raw words A k s) fs ≡ Ok l → ((raw words A k s).faults ≡ []) × (part_of (raw words A k s) ≡ l)
+    by [] is e = let same : part_of (raw words A k s) ≡ l = cc in (is, same)
+    by (f ∷ fs) is e = absurd (cc)
+
+pub never_both : (words : List ℕ) (A : List Entry) (k : NodeKey) (s : AbsState) (x : NodeFault) → (raw words A k s).faults ≡ [] → local words A k s ≡ Err x → ⊥
+never_both words A k s x clean e = absurd (let never = sym (ok_of words A k s clean) ∙ e in cc)

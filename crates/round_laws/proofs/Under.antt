@@ -1,0 +1,104 @@
+-- Each instance with a node is entered, over others, from the root: its need is no greater than the root's.
+use Rattle.std.proofs.Common.{◌≡◌, ◌≢◌, refl, sym, ap, ◌∙◌, subst, ℕ, zero, suc, ◌+◌, ◌<◌, ◌≤◌, Bool, true, false, cond, nat_le, List, Some, None, Option, Contains, arith}
+use Rattle.std.proofs.lemmas.Bool.Decides.{nat_tests}
+use Rattle.std.specs.declared.cmp.Ordering.TheVariants.{Equal}
+use Rattle.std.specs.FinMap.{get, retain_keys, get-retain_keys}
+use Rattle.avr_model.specs.declared.assumption.Entry.{Entry}
+use Rattle.abs_state.specs.declared.state.AbsState.{AbsState}
+use Rattle.abs_state.specs.Values.{root}
+use Rattle.mask_states.specs.declared.keys.InstKey.{InstKey}
+use Rattle.mask_states.specs.declared.keys.EdgeKind.{EdgeKind}
+use Rattle.mask_states.specs.declared.keys.NodeKey.{NodeKey}
+use Rattle.mask_states.specs.Keys.{root_inst, entry_key}
+use Rattle.mask_states.specs.Order.{node_cmp}
+use Rattle.local_rules.specs.declared.local.Node.{Node}
+use Rattle.local_rules.specs.Cover.{IsNode}
+use Rattle.local_laws.proofs.AllLaws.{joins_are_least, local_parts_are_nodes}
+use Rattle.edge_rules.specs.declared.edge.Edge.{Edge}
+use Rattle.edge_rules.specs.Edges.{raw_of, Enters, IsEdge, moving, entering, returning, target}
+use Rattle.edge_laws.specs.Laws.{with_state}
+use Rattle.edge_laws.proofs.AllLaws.{edges_grow}
+use Rattle.round_rules.specs.Families.{Family, nodes_of, Has, Lands, Below, AreFormed, HasInst, HasNoFault, LandIn}
+use Rattle.round_rules.specs.Rounds.{AreNeeds, IsNext, first, Comes}
+use Rattle.round_laws.proofs.Keys.{node_exact}
+use Rattle.round_laws.proofs.Least.{comes_formed, first_has}
+
+module _ (words : List ℕ) (A : List Entry) where
+  -- needs of a family without faults are needs of one below it
+  needs_down : (f g : Family) (need : InstKey → ℕ) → AreFormed f → AreFormed g → Below f g → HasNoFault words A g → AreNeeds words A g need → AreNeeds words A f need
+  needs_down f g need low high below clean are = record {
+    offsets = λ n offset has form. let l = below n has in are.offsets (with_state n l.at) offset l.is form;
+    entered = λ i j offset e.
+        let l = below e.node e.has in
+        let m = with_state e.node l.at in
+        are.entered i j offset record {
+          node = m;
+          has = l.is;
+          same = e.same;
+          at = e.at;
+          way = e.way;
+          back = e.back;
+          enters = edges_grow.enters words A e.node l.at e.way j e.back (low e.node e.has) (high m l.is) l.above (clean m l.is) e.enters;
+        };
+  }
+
+  -- the instance of an edge's target is the node's own, or one that it enters
+  edge_inst : (P : InstKey → Type 0) (f : Family) (n : Node) (e : Edge) → AreFormed f → Has f n → P n.key.inst
+      → ((way : EdgeKind) (inst : InstKey) (back : ℕ) → Enters words A n way inst back → P inst) → IsEdge words A (nodes_of f) n e → P e.to.inst
+  edge_inst P f n _ formed has own enter (moving to clean member) =
+      let raw = joins_are_least.keys (raw_of words A n).moves to member in
+      let same = (local_parts_are_nodes.nodes words A n.key n.state raw.0 (formed n has) clean raw.1.0).0 in
+      subst P (sym same ∙ ap (λ (k : NodeKey). k.inst) raw.1.1) own
+  edge_inst P f n _ formed has own enter (entering way inst back enters) = enter way inst back enters
+  edge_inst P f n _ formed has own enter (returning way inst back leaver x state enters present at clean exit is) = own
+
+  module _ (need : InstKey → ℕ) where
+    abbrev is_under : NodeKey → Bool
+    is_under k = nat_le (need k.inst) (need root_inst)
+
+    alike : (q x : NodeKey) → node_cmp q x ≡ Equal → is_under x ≡ is_under q
+    alike q x e = ap is_under (sym (node_exact q x e))
+
+    kept_by : (g : Family) (k : NodeKey) → is_under k ≡ true → get (retain_keys g is_under) k ≡ get g k
+    kept_by g k e = get-retain_keys g is_under k (λ x t. alike k x t) ∙ ap (λ b. cond b (get g k) None) e
+
+    kept_under : (g : Family) (k : NodeKey) (s : AbsState) → get (retain_keys g is_under) k ≡ Some s → is_under k ≡ true
+    kept_under g k s e = by (is_under k) refl
+      where
+        by : (b : Bool) → is_under k ≡ b → b ≡ true
+        by true t = refl
+        by false t = absurd (let never = sym (get-retain_keys g is_under k (λ x h. alike k x h) ∙ ap (λ b. cond b (get g k) None) t) ∙ e in cc)
+
+    lands_kept : (g : Family) (n : Node) → is_under n.key ≡ true → Lands g n → Lands (retain_keys g is_under) n
+    lands_kept g n under l = record { at = l.at; is = kept_by g n.key under ∙ l.is; above = l.above }
+
+    under_is : (k : NodeKey) → need k.inst ≤ need root_inst → is_under k ≡ true
+    under_is k le = grind (arith, nat_tests)
+
+    is_under_is : (k : NodeKey) → is_under k ≡ true → need k.inst ≤ need root_inst
+    is_under_is k e = grind (arith, nat_tests)
+
+    next_under : (f g : Family) → AreFormed f → IsNext words A f g → HasNoFault words A g → AreNeeds words A f need
+        → ((n : Node) → Has f n → need n.key.inst ≤ need root_inst) → (n : Node) → Has g n → need n.key.inst ≤ need root_inst
+    next_under f g formed next clean are low n has =
+        let h = retain_keys g is_under in
+        let up : Below f h = λ m there. lands_kept g m (under_is m.key (low m there)) (next.above m there) in
+        let lands : LandIn words A f h = λ m e there edge.
+        let le : need e.to.inst ≤ need root_inst = edge_inst (λ (inst : InstKey). need inst ≤ need root_inst) f m e formed there (low m there)
+        (λ way inst back enters.
+        let enough = are.entered m.key.inst inst _ record { node = m; has = there; same = refl; at = refl; way = way; back = back; enters = enters } in
+        omega (arith, enough, low m there)) edge in
+        lands_kept g (target e) (under_is e.to le) (next.edges m e there edge) in
+        is_under_is n.key (kept_under g n.key (next.least h up lands n has).at (next.least h up lands n has).is)
+
+    all_under : (n : ℕ) (f : Family) → Comes words A n f → HasNoFault words A f → AreNeeds words A f need → (m : Node) → Has f m → need m.key.inst ≤ need root_inst
+    all_under zero f c clean are = λ m has.
+        first_has (λ k s. need k.inst ≤ need root_inst) (omega arith) m (subst (λ (x : Family). get x m.key ≡ Some m.state) c has)
+    all_under (suc n) f c clean are =
+        let formed = comes_formed words A n c.0 c.1 in
+        let needs = needs_down c.0 f need formed c.4.formed c.4.above clean are in
+        next_under c.0 f formed c.4 clean needs (all_under n c.0 c.1 c.2.faultless needs)
+
+  pub under_root : (n : ℕ) (f : Family) (need : InstKey → ℕ) → Comes words A n f → HasNoFault words A f → AreNeeds words A f need → (inst : InstKey) → HasInst f inst
+      → need inst ≤ need root_inst
+  under_root n f need c clean are inst has = subst (λ (x : InstKey). need x ≤ need root_inst) has.2 (all_under need n f c clean are has.0 has.1)

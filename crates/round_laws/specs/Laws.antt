@@ -1,0 +1,81 @@
+-- Laws of families and rounds.
+use Rattle.std.specs.Prelude.{ℕ, ◌*◌, ◌≡◌, ◌<◌, ◌≤◌, ◌↔◌, ◌⊎◌, List, Contains, Some}
+use Rattle.std.specs.FinMap.{get, len}
+use Rattle.avr_model.specs.declared.assumption.Entry.{Entry}
+use Rattle.avr_model.specs.State.{SIZE}
+use Rattle.mask_states.specs.declared.keys.InstKey.{InstKey}
+use Rattle.mask_states.specs.Keys.{root_inst}
+use Rattle.local_rules.specs.declared.local.Node.{Node}
+use Rattle.local_rules.specs.Cover.{IsNode}
+use Rattle.edge_rules.specs.Families.{Family as Shown, IsSound as IsSoundFamily}
+use Rattle.certificate.specs.Claims.{Claim, IsClaim}
+use Rattle.certificate.specs.Insts.{rank_in, need_in}
+use Rattle.certificate.specs.Valid.{IsValid}
+use Rattle.round_rules.specs.declared.refusal.Refusal.{Refusal}
+use Rattle.round_rules.specs.Families.{Family, nodes_of, Has, Below, AreFormed, HasInst, HasNoFault, cells, FitsLimits}
+use Rattle.round_rules.specs.Rounds.{IsAcyclic, AreRanks, AreNeeds, IsRootNeed, IsNext, Comes}
+use Rattle.round_rules.specs.Refusals.{IsRefused, IsSolved, GoesBeyond}
+use Rattle.round_rules.specs.Solutions.{IsShown, IsSolution}
+use Rattle.round_laws.specs.Steps.{raised, raised_all, IsRoundOf, weight}
+
+pub record FamiliesAreTheirNodes : Type 0 where
+  pub members : (f : Family) (n : Node) → Contains (nodes_of f) n ↔ Has f n
+  pub same : (f g : Family) → AreFormed f → AreFormed g → Below f g → Below g f → f ≡ g
+
+-- a family that shows a bound, with ranks and needs
+pub record IsValidFamily (words : List ℕ) (A : List Entry) (g : Family) : Type 0 where
+  pub rank_of : InstKey → ℕ
+  pub need_of : InstKey → ℕ
+  pub bound : ℕ
+  pub sound : IsSoundFamily words A (record { nodes = nodes_of g; rank_of = rank_of; need_of = need_of; bound = bound })
+
+-- the family that a shown certificate stands for, within the limits
+pub record StandsFor (words : List ℕ) (A : List Entry) (c : Claim) : Type 0 where
+  pub family : Family
+  pub valid : IsValidFamily words A family
+  pub fits : FitsLimits family
+  pub bound : valid.bound ≡ c.bound
+
+pub record RoundsAreLeast : Type 0 where
+  -- one family for each number, of nodes that the analysis works with
+  pub one : (words : List ℕ) (A : List Entry) (n : ℕ) (f g : Family) → Comes words A n f → Comes words A n g → f ≡ g
+  pub formed : (words : List ℕ) (A : List Entry) (n : ℕ) (f : Family) → Comes words A n f → AreFormed f
+  -- below each valid one
+  pub below : (words : List ℕ) (A : List Entry) (n : ℕ) (f g : Family) → IsValidFamily words A g → Comes words A n f → Below f g
+  pub faultless : (words : List ℕ) (A : List Entry) (n : ℕ) (f g : Family) → IsValidFamily words A g → Comes words A n f → HasNoFault words A f
+  pub ranks : (words : List ℕ) (A : List Entry) (n : ℕ) (f g : Family) (valid : IsValidFamily words A g) → Comes words A n f → AreRanks words A f valid.rank_of
+  pub needs : (words : List ℕ) (A : List Entry) (n : ℕ) (f g : Family) (valid : IsValidFamily words A g) → Comes words A n f → AreNeeds words A f valid.need_of
+  pub acyclic : (words : List ℕ) (A : List Entry) (n : ℕ) (f g : Family) → IsValidFamily words A g → Comes words A n f → IsAcyclic words A f
+  pub few : (words : List ℕ) (A : List Entry) (n : ℕ) (f g : Family) → IsValidFamily words A g → Comes words A n f → len f ≤ len g
+  pub fewer : (words : List ℕ) (A : List Entry) (n : ℕ) (f g : Family) → IsValidFamily words A g → Comes words A n f → cells f ≤ cells g
+  -- a certificate whose nodes meet the conditions stands for a valid family
+  pub stands : (words : List ℕ) (A : List Entry) (c : Claim) → IsShown words A c → StandsFor words A c
+  -- no refusal where one is valid
+  pub never : (words : List ℕ) (A : List Entry) (n : ℕ) (c : Claim) (r : Refusal) → IsShown words A c → IsRefused words A n r → ⊥
+  -- no needs of a solved family, and no bound of a valid certificate, are below the least need of the root
+  pub bound : (words : List ℕ) (A : List Entry) (n : ℕ) (f : Family) (c : Claim) (d : ℕ) → IsShown words A c → Comes words A n f → IsRootNeed words A f d → d ≤ c.bound
+  -- what enters no instance of its own has a need no greater than the root's
+  pub under_root : (words : List ℕ) (A : List Entry) (n : ℕ) (f : Family) (need : InstKey → ℕ) → Comes words A n f → HasNoFault words A f → AreNeeds words A f need
+      → (inst : InstKey) → HasInst f inst → need inst ≤ need root_inst
+
+-- The rounds end at one number, with one family or one refusal, and go on before it.
+pub record RoundsEndOnce : Type 0 where
+  pub solved : (words : List ℕ) (A : List Entry) (m n : ℕ) (f g : Family) → IsSolved words A m f → IsSolved words A n g → (m ≡ n) × (f ≡ g)
+  pub either : (words : List ℕ) (A : List Entry) (m n : ℕ) (f : Family) (r : Refusal) → IsSolved words A m f → IsRefused words A n r → ⊥
+  pub refused : (words : List ℕ) (A : List Entry) (m n : ℕ) (r s : Refusal) → IsRefused words A m r → IsRefused words A n s → (m ≡ n) × (r ≡ s)
+  pub solved_beyond : (words : List ℕ) (A : List Entry) (m n : ℕ) (f : Family) → IsSolved words A m f → GoesBeyond words A n → n < m
+  pub refused_beyond : (words : List ℕ) (A : List Entry) (m n : ℕ) (r : Refusal) → IsRefused words A m r → GoesBeyond words A n → n < m
+
+-- The certificate of a solved family is valid. No valid one has a smaller bound.
+pub record SolutionsAreValid : Type 0 where
+  pub valid : (words : List ℕ) (A : List Entry) (n : ℕ) (f : Family) (c : Claim) → IsClaim c → IsSolved words A n f → IsSolution words A f c → IsValid words A c
+  pub least : (words : List ℕ) (A : List Entry) (n : ℕ) (f : Family) (c other : Claim) → IsSolved words A n f → IsSolution words A f c → IsShown words A other
+      → c.bound ≤ other.bound
+
+-- What the code does is a round: nodes joined into the family one after the other make the next family. Each join leaves the family as it was
+-- or raises it, and it can't rise for ever.
+pub record RoundsAreJoins : Type 0 where
+  pub next : (words : List ℕ) (A : List Entry) (f : Family) (ns : List Node) → AreFormed f → IsRoundOf words A f ns → IsNext words A f (raised_all f ns)
+  pub rises : (f : Family) (n : Node) → AreFormed f → IsNode n.key n.state → (raised f n ≡ f) ⊎ (weight f < weight (raised f n))
+  pub high : (f : Family) → AreFormed f → weight f ≤ 299 * cells f
+  pub formed : (f : Family) (n : Node) → AreFormed f → IsNode n.key n.state → AreFormed (raised f n)

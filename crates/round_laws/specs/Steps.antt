@@ -1,0 +1,42 @@
+-- One round as a list of nodes that are joined into the family one after the other.
+use Rattle.std.specs.Prelude.{ℕ, ◌+◌, ◌⊎◌, List, [], ◌∷◌, Option, Some, None, Contains}
+use Rattle.std.specs.FinMap.{get, insert, entries}
+use Rattle.avr_model.specs.declared.assumption.Entry.{Entry}
+use Rattle.abs_state.specs.declared.state.AbsState.{AbsState}
+use Rattle.abs_state.specs.Order.{state_join}
+use Rattle.mask_states.specs.declared.keys.NodeKey.{NodeKey}
+use Rattle.local_rules.specs.declared.local.Node.{Node}
+use Rattle.local_rules.specs.Cover.{IsNode}
+use Rattle.edge_rules.specs.declared.edge.Edge.{Edge}
+use Rattle.edge_rules.specs.Edges.{IsEdge, target}
+use Rattle.edge_rules.specs.Families.{IsCovered}
+use Rattle.abs_state.specs.Rank.{state_rank}
+use Rattle.round_rules.specs.Families.{Family, nodes_of, Has, Lands, Below, LandIn}
+
+-- a state joined with that which is there, if any
+abbrev pub joined_with : Option AbsState → AbsState → AbsState
+joined_with None s = s
+joined_with (Some t) s = state_join t s
+
+-- the family with this node joined into it, and with these
+abbrev pub raised : Family → Node → Family
+raised f n = insert f n.key (joined_with (get f n.key) n.state)
+
+abbrev pub raised_all : Family → List Node → Family
+raised_all f [] = f
+raised_all f (n ∷ ns) = raised_all (raised f n) ns
+
+-- Nodes to be joined into f so that all its edges land: each edge lands already or is below one of them, and where all edges land, so do
+-- they.
+pub record IsRoundOf (words : List ℕ) (A : List Entry) (f : Family) (ns : List Node) : Type 0 where
+  pub formed : (to : Node) → Contains ns to → IsNode to.key to.state
+  pub all : (n : Node) (e : Edge) → Has f n → IsEdge words A (nodes_of f) n e → Lands f (target e) ⊎ IsCovered ns (target e)
+  pub least : (h : Family) → Below f h → LandIn words A f h → (to : Node) → Contains ns to → Lands h to
+
+-- how far a family is up: one for each node, and the rank of its state
+abbrev pub weight_of : List (NodeKey × AbsState) → ℕ
+weight_of [] = 0
+weight_of (e ∷ es) = state_rank e.1 + 1 + weight_of es
+
+abbrev pub weight : Family → ℕ
+weight f = weight_of (entries f)

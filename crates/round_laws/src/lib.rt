@@ -1,0 +1,4 @@
+//! The laws of the rounds that come to the least family.
+#![tactic(auto)]
+
+pub mod laws;

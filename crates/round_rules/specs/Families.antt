@@ -1,0 +1,64 @@
+-- Families: the state of each node. Source: own.
+use Rattle.std.specs.Prelude.{ℕ, ◌≡◌, ◌≤◌, List, map, Some}
+use Rattle.std.specs.FinMap.{FinMap, get, entries, keys, len}
+use Rattle.avr_model.specs.declared.assumption.Entry.{Entry}
+use Rattle.abs_state.specs.declared.state.AbsState.{AbsState}
+use Rattle.abs_state.specs.Order.{IsStateWithin}
+use Rattle.mask_states.specs.declared.keys.InstKey.{InstKey}
+use Rattle.mask_states.specs.declared.keys.NodeKey.{NodeKey}
+use Rattle.mask_states.specs.Order.{node_cmp}
+use Rattle.local_rules.specs.declared.local.Node.{Node}
+use Rattle.local_rules.specs.Cover.{IsNode}
+use Rattle.edge_rules.specs.declared.edge.Edge.{Edge}
+use Rattle.edge_rules.specs.Edges.{IsFaultless, IsEdge, target}
+use Rattle.certificate.specs.Claims.{cells_of, most_nodes, most_cells}
+
+abbrev pub Family : Type 0
+Family = FinMap node_cmp AbsState
+
+abbrev pub node_of : NodeKey × AbsState → Node
+node_of e = record { key = e.0; state = e.1 }
+
+-- its nodes, ascending by their keys
+abbrev pub nodes_of : Family → List Node
+nodes_of f = map node_of (entries f)
+
+abbrev pub Has : Family → Node → Type 0
+Has f n = get f n.key ≡ Some n.state
+
+-- a node of the instance is there
+abbrev pub HasInst : Family → InstKey → Type 0
+HasInst f inst = (n : Node) × Has f n × (n.key.inst ≡ inst)
+
+-- the family has a node of this key, with a state at least this one
+pub record Lands (f : Family) (n : Node) : Type 0 where
+  pub at : AbsState
+  pub is : get f n.key ≡ Some at
+  pub above : IsStateWithin n.state at
+
+abbrev pub Below : Family → Family → Type 0
+Below f g = (n : Node) → Has f n → Lands g n
+
+-- its nodes are ones that the analysis works with
+abbrev pub AreFormed : Family → Type 0
+AreFormed f = (n : Node) → Has f n → IsNode n.key n.state
+
+abbrev pub HasNoFault : List ℕ → List Entry → Family → Type 0
+HasNoFault words A f = (n : Node) → Has f n → IsFaultless words A n
+
+-- each edge of f lands in the family h
+abbrev pub LandIn : List ℕ → List Entry → Family → Family → Type 0
+LandIn words A f h = (n : Node) (e : Edge) → Has f n → IsEdge words A (nodes_of f) n e → Lands h (target e)
+
+abbrev pub IsClosed : List ℕ → List Entry → Family → Type 0
+IsClosed words A f = LandIn words A f f
+
+-- ---- limits
+
+-- one for each node and one for each of its slots
+abbrev pub cells : Family → ℕ
+cells f = cells_of (keys f)
+
+pub record FitsLimits (f : Family) : Type 0 where
+  pub few_nodes : len f ≤ most_nodes
+  pub few_cells : cells f ≤ most_cells

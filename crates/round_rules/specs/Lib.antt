@@ -1,0 +1,4 @@
+pub mod Families
+pub mod Rounds
+pub mod Refusals
+pub mod Solutions

@@ -1,0 +1,126 @@
+-- How the rounds end: at the first family of which a test holds, by the first such test, or at the first that is closed.
+use Rattle.std.specs.Prelude.{ℕ, ◌≡◌, ◌<◌, ◌≤◌, ◌⊎◌, List, Err}
+use Rattle.std.specs.FinMap.{len}
+use Rattle.avr_model.specs.declared.assumption.Entry.{Entry}
+use Rattle.avr_model.specs.State.{SIZE}
+use Rattle.mask_states.specs.declared.keys.InstKey.{InstKey}
+use Rattle.mask_states.specs.declared.keys.Kind.TheVariants.{Vector}
+use Rattle.local_rules.specs.declared.local.Node.{Node}
+use Rattle.local_rules.specs.declared.local.NodeFault.{NodeFault}
+use Rattle.local_rules.specs.declared.local.NodeFault.TheVariants as fault
+use Rattle.local_rules.specs.Faults.{cause_of, depth_of}
+use Rattle.local_rules.specs.Local.{local}
+use Rattle.certificate.specs.declared.limit.Limit.{Limit}
+use Rattle.certificate.specs.declared.limit.Limit.TheVariants.{Nodes, Cells}
+use Rattle.certificate.specs.Claims.{most_nodes, most_cells}
+use Rattle.round_rules.specs.declared.refusal.Refusal.{Refusal}
+use Rattle.round_rules.specs.declared.refusal.Refusal.TheVariants as refusal
+use Rattle.round_rules.specs.Families.{Family, Has, cells, FitsLimits, HasNoFault, IsClosed}
+use Rattle.round_rules.specs.Rounds.{Reaches, IsAcyclic, IsRootNeed, Passes, Comes}
+
+-- ---- the tests, in their order
+
+-- the nodes, else the cells, are above the limits
+abbrev pub IsOver : Family → Limit → Type 0
+IsOver f Nodes = most_nodes < len f
+IsOver f Cells = (len f ≤ most_nodes) × (most_cells < cells f)
+
+-- the word at which a fault is
+abbrev pub word_of : NodeFault → ℕ
+word_of (fault.UnresolvedJump pc) = pc
+word_of (fault.UntrackedSp pc) = pc
+word_of (fault.Unsupported pc) = pc
+word_of (fault.TooDeep pc offset) = pc
+word_of (fault.UnknownPointer pc) = pc
+word_of fault.Memory = 0
+
+-- a node has the fault
+pub record FaultAt (words : List ℕ) (A : List Entry) (f : Family) (x : NodeFault) : Type 0 where
+  pub node : Node
+  pub has : Has f node
+  pub is : local words A node.key node.state ≡ Err x
+
+-- by cause, then word, then offset
+abbrev pub IsNoLater : NodeFault → NodeFault → Type 0
+IsNoLater x y =
+    (cause_of x < cause_of y) ⊎ ((cause_of x ≡ cause_of y) × ((word_of x < word_of y) ⊎ ((word_of x ≡ word_of y) × (depth_of x ≤ depth_of y))))
+
+-- the least fault of all nodes
+abbrev pub IsLeastFault : List ℕ → List Entry → Family → NodeFault → Type 0
+IsLeastFault words A f x = FaultAt words A f x × ((y : NodeFault) → FaultAt words A f y → IsNoLater x y)
+
+-- an instance of this vector, which begins at the word, reaches itself, and none of a lesser vector does
+pub record IsReEntry (words : List ℕ) (A : List Entry) (f : Family) (v word : ℕ) : Type 0 where
+  pub inst : InstKey
+  pub reaches : Reaches words A f inst inst
+  pub kind : inst.kind ≡ Vector v
+  pub entry : inst.entry ≡ word
+  pub least : (other : InstKey) (u : ℕ) → Reaches words A f other other → other.kind ≡ Vector u → v ≤ u
+
+-- no vector's instance reaches itself, one that begins at this word does, and none of a lesser word does
+pub record IsRecursion (words : List ℕ) (A : List Entry) (f : Family) (word : ℕ) : Type 0 where
+  pub inst : InstKey
+  pub reaches : Reaches words A f inst inst
+  pub entry : inst.entry ≡ word
+  pub vectors : (other : InstKey) (u : ℕ) → Reaches words A f other other → other.kind ≡ Vector u → ⊥
+  pub least : (other : InstKey) → Reaches words A f other other → word ≤ other.entry
+
+pub data Test : Type 0 where
+  over : Limit → Test
+  faulty : NodeFault → Test
+  -- of this vector, at its word
+  re_entry : ℕ → ℕ → Test
+  -- at this word
+  recursion : ℕ → Test
+  -- the least need of the root
+  too_deep : ℕ → Test
+
+-- the first test that holds of the family
+abbrev pub FirstHolds : List ℕ → List Entry → Family → Test → Type 0
+FirstHolds words A f (over limit) = IsOver f limit
+FirstHolds words A f (faulty x) = FitsLimits f × IsLeastFault words A f x
+FirstHolds words A f (re_entry v word) = FitsLimits f × HasNoFault words A f × IsReEntry words A f v word
+FirstHolds words A f (recursion word) = FitsLimits f × HasNoFault words A f × IsRecursion words A f word
+FirstHolds words A f (too_deep d) = FitsLimits f × HasNoFault words A f × IsAcyclic words A f × IsRootNeed words A f d × (SIZE < d)
+
+-- ---- refusals
+
+abbrev pub fault_refusal : NodeFault → Refusal
+fault_refusal (fault.UnresolvedJump pc) = refusal.UnresolvedJump pc
+fault_refusal (fault.UntrackedSp pc) = refusal.UntrackedSp pc
+fault_refusal (fault.Unsupported pc) = refusal.Unsupported pc
+fault_refusal (fault.TooDeep pc offset) = refusal.TooDeep pc offset
+fault_refusal (fault.UnknownPointer pc) = refusal.UnknownPointer pc
+fault_refusal fault.Memory = refusal.Memory
+
+abbrev pub refusal_of : Test → Refusal
+refusal_of (over limit) = refusal.TooLarge limit
+refusal_of (faulty x) = fault_refusal x
+refusal_of (re_entry v word) = refusal.ReEntry v word
+refusal_of (recursion word) = refusal.Recursion word
+refusal_of (too_deep d) = refusal.TooDeep 0 d
+
+-- the rounds end at family n, by this test
+pub record EndsBy (words : List ℕ) (A : List Entry) (n : ℕ) (t : Test) : Type 0 where
+  pub family : Family
+  pub comes : Comes words A n family
+  pub holds : FirstHolds words A family t
+
+-- the rounds end at family n, with this refusal
+pub record IsRefused (words : List ℕ) (A : List Entry) (n : ℕ) (r : Refusal) : Type 0 where
+  pub test : Test
+  pub ends : EndsBy words A n test
+  pub is : r ≡ refusal_of test
+
+-- the rounds end at family n, which is this one, without a refusal
+pub record IsSolved (words : List ℕ) (A : List Entry) (n : ℕ) (f : Family) : Type 0 where
+  pub comes : Comes words A n f
+  pub passes : Passes words A f
+  pub closed : IsClosed words A f
+
+-- the rounds end at none of the families 0 to n
+pub record GoesBeyond (words : List ℕ) (A : List Entry) (n : ℕ) : Type 0 where
+  pub family : Family
+  pub comes : Comes words A n family
+  pub passes : Passes words A family
+  pub more : IsClosed words A family → ⊥

@@ -1,0 +1,80 @@
+-- The rounds: family 0 is the root's node after reset, and the next family is one joined with the targets of all its edges.
+use Rattle.std.specs.Prelude.{ℕ, zero, suc, ◌+◌, ◌≡◌, ◌<◌, ◌≤◌, List}
+use Rattle.std.specs.FinMap.{insert, empty}
+use Rattle.avr_model.specs.declared.assumption.Entry.{Entry}
+use Rattle.avr_model.specs.State.{SIZE}
+use Rattle.abs_state.specs.Values.{root}
+use Rattle.mask_states.specs.declared.keys.InstKey.{InstKey}
+use Rattle.mask_states.specs.declared.keys.EdgeKind.{EdgeKind}
+use Rattle.mask_states.specs.declared.keys.SpForm.TheVariants.{Closed}
+use Rattle.mask_states.specs.Keys.{root_inst, entry_key, offset_of}
+use Rattle.local_rules.specs.declared.local.Node.{Node}
+use Rattle.edge_rules.specs.Edges.{Enters}
+use Rattle.round_rules.specs.Families.{Family, Has, Below, AreFormed, HasNoFault, LandIn, IsClosed, FitsLimits}
+
+-- ---- which instance enters which
+
+-- a node of the first instance, with this offset, enters the second
+pub record Entering (words : List ℕ) (A : List Entry) (f : Family) (i j : InstKey) (offset : ℕ) : Type 0 where
+  pub node : Node
+  pub has : Has f node
+  pub same : node.key.inst ≡ i
+  pub at : offset_of node.key.sp ≡ offset
+  pub way : EdgeKind
+  pub back : ℕ
+  pub enters : Enters words A node way j back
+
+-- the second instance is entered from the first by one or more entries
+pub data Reaches (words : List ℕ) (A : List Entry) (f : Family) : InstKey → InstKey → Type 0 where
+  once : (i j : InstKey) (offset : ℕ) → Entering words A f i j offset → Reaches words A f i j
+  more : (i j k : InstKey) (offset : ℕ) → Entering words A f i j offset → Reaches words A f j k → Reaches words A f i k
+
+abbrev pub IsAcyclic : List ℕ → List Entry → Family → Type 0
+IsAcyclic words A f = (i : InstKey) → Reaches words A f i i → ⊥
+
+-- an instance's rank is above that of each that it enters
+abbrev pub AreRanks : List ℕ → List Entry → Family → (InstKey → ℕ) → Type 0
+AreRanks words A f rank = (i j : InstKey) (offset : ℕ) → Entering words A f i j offset → rank j < rank i
+
+-- An instance's need is at least the offset of each of its closed nodes, and at least what each instance that it enters needs behind the
+-- offset there and two bytes for the way back. An instance that has no node yet may have any need.
+pub record AreNeeds (words : List ℕ) (A : List Entry) (f : Family) (need : InstKey → ℕ) : Type 0 where
+  pub offsets : (n : Node) (offset : ℕ) → Has f n → n.key.sp ≡ Closed offset → offset ≤ need n.key.inst
+  pub entered : (i j : InstKey) (offset : ℕ) → Entering words A f i j offset → offset + 2 + need j ≤ need i
+
+-- the least need of the root
+pub record IsRootNeed (words : List ℕ) (A : List Entry) (f : Family) (d : ℕ) : Type 0 where
+  pub need : InstKey → ℕ
+  pub are : AreNeeds words A f need
+  pub is : need root_inst ≡ d
+  pub least : (other : InstKey → ℕ) → AreNeeds words A f other → d ≤ other root_inst
+
+-- the least need of the root is no more than SRAM has bytes: some needs keep it there
+pub record IsShallow (words : List ℕ) (A : List Entry) (f : Family) : Type 0 where
+  pub need : InstKey → ℕ
+  pub are : AreNeeds words A f need
+  pub small : need root_inst ≤ SIZE
+
+-- ---- rounds
+
+abbrev pub first : Family
+first = insert empty (entry_key root_inst) root
+
+-- g is f joined with the targets of all its edges: the least family above f in which they land
+pub record IsNext (words : List ℕ) (A : List Entry) (f g : Family) : Type 0 where
+  pub formed : AreFormed g
+  pub above : Below f g
+  pub edges : LandIn words A f g
+  pub least : (h : Family) → Below f h → LandIn words A f h → Below g h
+
+-- no test holds of the family
+pub record Passes (words : List ℕ) (A : List Entry) (f : Family) : Type 0 where
+  pub fits : FitsLimits f
+  pub faultless : HasNoFault words A f
+  pub acyclic : IsAcyclic words A f
+  pub shallow : IsShallow words A f
+
+-- the rounds come to family n, which is this one
+abbrev pub Comes : List ℕ → List Entry → ℕ → Family → Type 0
+Comes words A zero f = f ≡ first
+Comes words A (suc n) g = (f : Family) × Comes words A n f × Passes words A f × (IsClosed words A f → ⊥) × IsNext words A f g

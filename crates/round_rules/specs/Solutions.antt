@@ -1,0 +1,56 @@
+-- What the analysis answers.
+use Rattle.std.specs.Prelude.{ℕ, ◌≡◌, ◌≤◌, ◌↔◌, ⊤, List, Option, Some, None, Contains}
+use Rattle.avr_model.specs.declared.assumption.Entry.{Entry}
+use Rattle.mask_states.specs.declared.keys.InstKey.{InstKey}
+use Rattle.mask_states.specs.Keys.{root_inst}
+use Rattle.edge_rules.specs.Expansion.{IsFilled}
+use Rattle.certificate.specs.Claims.{Claim, IsClaim}
+use Rattle.certificate.specs.Insts.{inst_keys, rank_in, need_in}
+use Rattle.certificate.specs.Valid.{IsSound}
+use Rattle.round_rules.specs.declared.refusal.Refusal.{Refusal}
+use Rattle.round_rules.specs.declared.refusal.Refusal.TheVariants.{Spent, Memory}
+use Rattle.round_rules.specs.Families.{Family, nodes_of, HasInst}
+use Rattle.round_rules.specs.Rounds.{AreRanks, AreNeeds}
+use Rattle.round_rules.specs.Refusals.{IsSolved, IsRefused, GoesBeyond}
+
+-- a certificate whose nodes meet all conditions: valid, but for its schedule
+pub record IsShown (words : List ℕ) (A : List Entry) (c : Claim) : Type 0 where
+  pub claim : IsClaim c
+  pub sound : IsSound words A c
+
+-- The certificate of a solved family: it has the family's nodes and their instances, least ranks and needs, and the root's need as bound.
+pub record IsSolution (words : List ℕ) (A : List Entry) (f : Family) (c : Claim) : Type 0 where
+  pub expands : IsFilled words A c.nodes (nodes_of f)
+  pub instances : (inst : InstKey) → Contains (inst_keys c.instances) inst ↔ HasInst f inst
+  pub ranks : AreRanks words A f (rank_in c.instances)
+  pub least_ranks : (rank : InstKey → ℕ) → AreRanks words A f rank → (inst : InstKey) → rank_in c.instances inst ≤ rank inst
+  pub needs : AreNeeds words A f (need_in c.instances)
+  pub least_needs : (need : InstKey → ℕ) → AreNeeds words A f need → (inst : InstKey) → need_in c.instances inst ≤ need inst
+  pub bound : c.bound ≡ need_in c.instances root_inst
+  pub assumptions : c.assumptions ≡ A
+  pub unwitnessed : c.witness ≡ None
+
+-- the budget serves for family n
+abbrev pub IsWithin : Option ℕ → ℕ → Type 0
+IsWithin None n = ⊤
+IsWithin (Some steps) n = n ≤ steps
+
+-- The rounds end within the budget at a solved family, and this is its certificate.
+pub record IsAnswer (words : List ℕ) (A : List Entry) (steps : Option ℕ) (c : Claim) : Type 0 where
+  pub number : ℕ
+  pub family : Family
+  pub within : IsWithin steps number
+  pub solved : IsSolved words A number family
+  pub solution : IsSolution words A family c
+
+-- The rounds end within the budget with this refusal.
+pub record IsRefusal (words : List ℕ) (A : List Entry) (steps : Option ℕ) (r : Refusal) : Type 0 where
+  pub number : ℕ
+  pub within : IsWithin steps number
+  pub refused : IsRefused words A number r
+
+-- What may be answered in place of a certificate: the one refusal, that the budget is spent, or want of memory, which says nothing.
+abbrev pub IsWhyNot : List ℕ → List Entry → Option ℕ → Refusal → Type 0
+IsWhyNot words A steps (Spent n) = (steps ≡ Some n) × GoesBeyond words A n
+IsWhyNot words A steps Memory = ⊤
+IsWhyNot words A steps r = IsRefusal words A steps r
