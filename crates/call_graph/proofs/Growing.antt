@@ -1,0 +1,86 @@
+-- Lists of nodes that are given by their states or by earlier ones, as they grow.
+use Rattle.std.proofs.Common.{◌≡◌, refl, sym, ap, ◌∙◌, subst, ℕ, zero, suc, ◌+◌, ◌^◌, ◌<◌, ◌≤◌, ◌⊎◌, ⊎_elim, List, [], ◌∷◌, ◌++◌, length, map, Option, Some, slice_get, replicate, length-append, arith}
+use Rattle.std.specs.List.{AllByRecursion}
+use Rattle.std.specs.List.Sorted.{IsStrictlySortedBy}
+use Rattle.std.specs.declared.cmp.Ordering.TheVariants.{Less}
+use Rattle.std.proofs.lemmas.Option.{none-some}
+use Rattle.avr_model.specs.Image.{WORDS}
+use Rattle.avr_model.specs.State.{SIZE}
+use Rattle.abs_state.specs.declared.state.AbsState.{AbsState}
+use Rattle.abs_state.specs.Values.{root, value_at, unknown}
+use Rattle.abs_state.specs.Formed.{IsFormed}
+use Rattle.abs_state.proofs.AllLaws.{reset_stands}
+use Rattle.mask_states.specs.declared.keys.NodeKey.{NodeKey}
+use Rattle.mask_states.specs.declared.keys.SpForm.TheVariants.{Closed}
+use Rattle.mask_states.specs.Keys.{offset_of}
+use Rattle.mask_states.specs.Order.{node_cmp}
+use Rattle.local_rules.specs.Cover.{FormFitsKind, TagFits, IsNode}
+use Rattle.edge_rules.specs.declared.seeded.NodeForm.{NodeForm}
+use Rattle.edge_rules.specs.declared.seeded.NodeForm.TheVariants.{State, From}
+use Rattle.edge_rules.specs.Expansion.{Seeds, AreSeeds}
+use Rattle.expansion_laws.specs.Laws.{AreAscending}
+use Rattle.expansion_laws.proofs.Lists.{get_push}
+
+unknown_fits : (n r : ℕ) → TagFits (value_at (replicate n unknown) r).tag
+unknown_fits zero r = tt
+unknown_fits (suc n) zero = tt
+unknown_fits (suc n) (suc r) = unknown_fits n r
+
+pub root_node : (k : NodeKey) → k.pc < WORDS → k.masks < 2 ^ 25 → k.sp ≡ Closed 0 → IsNode k root
+root_node k word masks closed = record {
+  word = word;
+  small = subst (λ p. offset_of p ≤ SIZE) (sym closed) (omega arith);
+  masks = masks;
+  fits = subst (FormFitsKind k.inst.kind) (sym closed) tt;
+  formed = subst (λ p. IsFormed root (offset_of p)) (sym closed) reset_stands.formed;
+  tags = record { registers = λ r lt. unknown_fits 32 r; slots = λ d lt. absurd (omega arith) };
+  borrow_bytes = tt;
+  untagged = λ kind. reset_stands.untagged;
+}
+
+module _ (xs : Seeds) (k : NodeKey) (f : NodeForm) where
+  pushed_seeds : AreSeeds xs → length xs < 65536 → ((s : AbsState) → f ≡ State s → IsNode k s) → ((m : ℕ) → f ≡ From m → m < length xs)
+      → AreSeeds (xs ++ (k, f) ∷ [])
+  pushed_seeds seeds few own below = record {
+    few = omega (arith, length-append xs ((k, f) ∷ []), few);
+    own = λ at j s e. ⊎_elim (λ h. seeds.own at j s h)
+        (λ last. subst (λ x. IsNode x s) (sym (ap (λ (x : NodeKey × NodeForm). x.0) last.1)) (own s (sym (ap (λ (x : NodeKey × NodeForm). x.1) last.1))))
+        (get_push xs (k, f) (j, State s) at e);
+    earlier = λ at m j e. ⊎_elim (λ h. seeds.earlier at m j h)
+        (λ last. subst (λ n. m < n) (sym last.0) (below m (sym (ap (λ (x : NodeKey × NodeForm). x.1) last.1))))
+        (get_push xs (k, f) (j, From m) at e);
+  }
+
+all_push : (P : NodeKey → Type 0) (xs : Seeds) (k : NodeKey) (f : NodeForm) → AllByRecursion P (map (λ (e : NodeKey × NodeForm). e.0) xs) → P k
+    → AllByRecursion P (map (λ (e : NodeKey × NodeForm). e.0) (xs ++ (k, f) ∷ []))
+all_push P [] k f h p = (p, tt)
+all_push P (x ∷ xs) k f h p = (h.0, all_push P xs k f h.1 p)
+
+pub pushed_ascending : (xs : Seeds) (k : NodeKey) (f : NodeForm) → AreAscending xs
+    → ((at : ℕ) (e : NodeKey × NodeForm) → slice_get xs at ≡ Some e → node_cmp e.0 k ≡ Less) → AreAscending (xs ++ (k, f) ∷ [])
+unfolding IsStrictlySortedBy
+pushed_ascending [] k f h above = (tt, tt)
+pushed_ascending (x ∷ xs) k f h above =
+    (all_push (λ y. node_cmp x.0 y ≡ Less) xs k f h.0 (above 0 x refl), pushed_ascending xs k f h.1 (λ at e g. above (suc at) e g))
+
+state_is : (s t : AbsState) → State s ≡ State t → s ≡ t
+state_is s t e = cc
+
+from_is : (m n : ℕ) → From m ≡ From n → m ≡ n
+from_is m n e = cc
+
+pub with_root : (xs : Seeds) (k : NodeKey) → AreSeeds xs → length xs < 65536 → k.pc < WORDS → k.masks < 2 ^ 25 → k.sp ≡ Closed 0
+    → AreSeeds (xs ++ (k, State root) ∷ [])
+with_root xs k seeds few word masks closed =
+    pushed_seeds xs k (State root) seeds few (λ s e. subst (IsNode k) (state_is root s e) (root_node k word masks closed)) (λ m e. absurd (cc))
+
+pub with_from : (xs : Seeds) (k : NodeKey) (m : ℕ) → AreSeeds xs → length xs < 65536 → m < length xs → AreSeeds (xs ++ (k, From m) ∷ [])
+with_from xs k m seeds few lt =
+    pushed_seeds xs k (From m) seeds few (λ s e. absurd (cc)) (λ n e. subst (λ x. x < length xs) (from_is m n e) lt)
+
+no_seeds : AreSeeds []
+no_seeds = record { few = omega arith; own = λ at k s e. absurd (none-some (k, State s) e); earlier = λ at m k e. absurd (none-some (k, From m) e) }
+
+pub none_given : AreSeeds [] × AreAscending []
+unfolding IsStrictlySortedBy
+none_given = (no_seeds, tt)
