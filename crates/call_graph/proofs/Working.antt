@@ -1,14 +1,15 @@
 -- One node's work.
-use Rattle.std.proofs.Common.{◌≡◌, refl, sym, ap, ◌∙◌, subst, ℕ, ◌+◌, List, [], ◌∷◌, ◌++◌, length, slice_index_or, Option, Some, None}
+use Rattle.std.proofs.Common.{◌≡◌, refl, sym, ap, ◌∙◌, subst, ℕ, zero, suc, ◌+◌, ◌<◌, Bool, true, false, if◌then◌else◌, List, [], ◌∷◌, ◌++◌, length, take, slice_index_or, Option, Some, None, arith}
 use Rattle.std.specs.List.{slice_get}
-use Rattle.std.proofs.lemmas.Option.{slice_get_read}
+use Rattle.std.proofs.lemmas.Option.{none-some, slice_get_read}
 use Rattle.avr_model.specs.declared.assumption.Entry.{Entry}
 use Rattle.abs_state.specs.declared.state.AbsState.{AbsState}
 use Rattle.mask_states.specs.declared.keys.NodeKey.{NodeKey}
+use Rattle.mask_states.specs.Order.{same_node}
 use Rattle.local_rules.specs.declared.local.Node.{Node}
 use Rattle.edge_rules.specs.declared.seeded.NodeForm.{NodeForm}
 use Rattle.edge_rules.specs.Expansion.{Seeds, AreSeeds, HasKeyAt, IsFilled, IsMissing}
-use Rattle.expansion_laws.specs.Working.{carried, worked, SoFar}
+use Rattle.expansion_laws.specs.Working.{first_at, carried, worked, SoFar}
 use Rattle.expansion_laws.proofs.One.{same_seed}
 use Rattle.expansion_laws.proofs.Steps.{one_more, missing, whole}
 use Rattle.edge_rules.specs.declared.seeded.Seed.{Seed}
@@ -44,3 +45,25 @@ module _ (words : List ℕ) (A : List Entry) (nodes : Seeds) (at : ℕ) (done : 
 
   pub gives_whole : (filled : List Node) → filled ≡ done → at ≡ length nodes → IsFilled words A nodes filled
   gives_whole filled e full = subst (IsFilled words A nodes) (sym e) (whole words A nodes done (subst (λ x. SoFar words A nodes x done) full so))
+
+-- ---- the first node of a key
+
+pub none_more : (k : NodeKey) (xs : List Node) (n : Node) → first_at k xs ≡ None → same_node n.key k ≡ false → first_at k (xs ++ n ∷ []) ≡ None
+none_more k [] n none other = rw other refl
+none_more k (x ∷ xs) n none other = by (none_more k xs n) (same_node x.key k) refl none
+  where
+    by : (first_at k xs ≡ None → same_node n.key k ≡ false → first_at k (xs ++ n ∷ []) ≡ None) → (b : Bool) → same_node x.key k ≡ b
+        → (if b then Some x.state else first_at k xs) ≡ None → (if b then Some x.state else first_at k (xs ++ n ∷ [])) ≡ None
+    by rest true is e = e
+    by rest false is e = rest e other
+
+pub found_first : (k : NodeKey) (xs : List Node) (at : ℕ) (n : Node) → first_at k (take at xs) ≡ None → at < length xs → n ≡ slice_index_or xs at n
+    → same_node n.key k ≡ true → Some n.state ≡ first_at k xs
+found_first k [] at n none lt is same = absurd (omega (arith, lt))
+found_first k (x ∷ xs) zero n none lt is same = subst (λ (y : Node). Some n.state ≡ first_at k (y ∷ xs)) is (rw same refl)
+found_first k (x ∷ xs) (suc at) n none lt is same = by (found_first k xs at n) (same_node x.key k) refl none
+  where
+    by : (first_at k (take at xs) ≡ None → at < length xs → n ≡ slice_index_or xs at n → same_node n.key k ≡ true → Some n.state ≡ first_at k xs) → (b : Bool)
+        → same_node x.key k ≡ b → (if b then Some x.state else first_at k (take at xs)) ≡ None → Some n.state ≡ (if b then Some x.state else first_at k xs)
+    by rest true here e = absurd (none-some x.state (sym e))
+    by rest false here e = rest e (omega (arith, lt)) is same

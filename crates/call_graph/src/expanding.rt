@@ -1,7 +1,6 @@
 //! The state of each node, worked out once, in the order of the nodes.
 
 ghost use Rattle.std.specs.Prelude.{◌≡◌, ℕ, length, Some, IfOk};
-ghost use Rattle.std.specs.Option.{option_copied};
 ghost use Rattle.local_rules.specs.Cover.{IsNode};
 ghost use Rattle.edge_rules.specs.Expansion.{AreSeeds};
 ghost use Rattle.expansion_laws.specs.Working.{first_at, carried, worked};
@@ -20,12 +19,12 @@ use std::alloc::{AllocError, Global};
 use vector_table::Assumptions;
 
 // The state of the first node of this key.
-fn state_in<'a>(nodes: &'a [Node], key: &NodeKey) -> Option<&'a AbsState>
-    ensures { option_copied result ≡ first_at key.now nodes.now }
+fn state_in(nodes: Vec<Node>, key: &NodeKey) -> Option<AbsState>
+    ensures { result ≡ first_at key.now nodes.items }
 {
-    for at in 0..nodes.len() {
-        if nodes[at].key == *key {
-            return Some(&nodes[at].state);
+    for node in nodes {
+        if node.key == *key {
+            return Some(node.state);
         }
     }
     None
@@ -43,19 +42,9 @@ fn carry(
     ensures { IfOk result (λ found. found ≡ carried flash.now assumptions.now key.now (Some from.now)) }
 {
     match local(alloc, flash, assumptions, &from.key, &from.state) {
-        Ok(leads) => copied(alloc, state_in(leads.same.as_slice(), key)),
+        Ok(leads) => Ok(state_in(leads.same.into_vec(), key)),
         Err(NodeFault::Memory) => Err(AllocError),
         Err(_) => Ok(None),
-    }
-}
-
-// The same state, where there is one.
-fn copied(alloc: Global, state: Option<&AbsState>) -> Result<Option<AbsState>, AllocError>
-    ensures { IfOk result (λ same. same ≡ option_copied state.entry) }
-{
-    match state {
-        Some(state) => Ok(Some(state.copy(alloc)?)),
-        None => Ok(None),
     }
 }
 

@@ -27,15 +27,14 @@ use std::alloc::{AllocError, Global};
 use vector_table::Assumptions;
 
 // The edges in the node's own frame.
-fn add_moves(alloc: Global, edges: &mut Edges, nodes: &[Node]) -> Result<(), AllocError>
-    ensures { OnOk result (edges.new ≡ edges.old ++ map local_edge nodes.now) }
+fn add_moves(edges: &mut Edges, nodes: Vec<Node>) -> Result<(), AllocError>
+    ensures { OnOk result (edges.new ≡ edges.old ++ map local_edge nodes.items) }
 {
-    for at in 0..nodes.len() {
-        let state = nodes[at].state.copy(alloc)?;
+    for node in nodes {
         edges.push(Edge {
             kind: EdgeKind::Local,
-            to: nodes[at].key,
-            state,
+            to: node.key,
+            state: node.state,
         })?;
     }
     Ok(())
@@ -190,17 +189,17 @@ fn edges_of<V: View>(
     assumptions: &Assumptions,
     key: &NodeKey,
     state: &AbsState,
-    found: &Local,
+    found: Local,
     view: &V,
     known: &[Option<Exit>],
 ) -> Result<Edges, AllocError>
     requires shown { AreShown (V.nodes view.now) }
     requires given { AreKnown flash.now assumptions.now (V.nodes view.now) known.now }
-    ensures { IfOk result (λ edges. edges ≡ edges_with flash.now assumptions.now (V.nodes view.now) key.now state.now (ways_of key.now found.now.calls) found.now) }
+    ensures { IfOk result (λ edges. edges ≡ edges_with flash.now assumptions.now (V.nodes view.now) key.now state.now (ways_of key.now found.calls) found) }
 {
     let all = ways(alloc, key, found.calls.as_slice())?;
     let mut edges = Edges::new(alloc);
-    add_moves(alloc, &mut edges, found.same.as_slice())?;
+    add_moves(&mut edges, found.same.into_vec())?;
     add_entries(alloc, &mut edges, state, &all)?;
     add_all_returns(
         alloc,
@@ -234,7 +233,7 @@ fn listed<V: View>(
     let key = view.key(at);
     let state = view.state(at);
     let found = local(alloc, flash, assumptions, key, state)?;
-    match edges_of(alloc, flash, assumptions, key, state, &found, view, known) {
+    match edges_of(alloc, flash, assumptions, key, state, found, view, known) {
         Ok(edges) => Ok(edges),
         Err(_) => Err(NodeFault::Memory),
     }

@@ -1,6 +1,6 @@
-use Rattle.std.proofs.Common.{◌≡◌, ◌++◌, map, take}
+use Rattle.std.proofs.Common.{◌≡◌, ◌++◌, map}
 use Rattle.call_graph.specs.Next.{local_edge}
 use Rattle.call_graph.proofs.successors.add_moves.Given as goal
 
-abbrev pub invariant-loop-at : goal.invariant-loop-at
-invariant-loop-at l = l.edges ≡ l.fn.edges ++ map local_edge (take l.at l.nodes)
+abbrev pub invariant-loop-node : goal.invariant-loop-node
+invariant-loop-node l = l.edges ≡ l.fn.edges ++ map local_edge l.yielded
