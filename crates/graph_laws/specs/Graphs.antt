@@ -1,0 +1,99 @@
+-- The graph of a family: each instance with a node has one number, and the lists are the family's. An entered instance without a node goes
+-- by a number behind these, from which nothing is entered.
+use Rattle.std.specs.Prelude.{ℕ, ◌+◌, ◌≡◌, ◌<◌, ◌≤◌, ◌⊎◌, List, [], ◌∷◌, length, map, Some, slice_get, slice_index, if◌then◌else◌}
+use Rattle.avr_model.specs.declared.assumption.Entry.{Entry}
+use Rattle.mask_states.specs.declared.keys.InstKey.{InstKey}
+use Rattle.mask_states.specs.declared.keys.SpForm.TheVariants.{Closed}
+use Rattle.mask_states.specs.declared.keys.Kind.TheVariants.{Vector}
+use Rattle.mask_states.specs.Keys.{root_inst}
+use Rattle.mask_states.specs.Order.{same_inst}
+use Rattle.local_rules.specs.declared.local.Node.{Node}
+use Rattle.nesting_bound.specs.declared.graph.GraphInst.{GraphInst}
+use Rattle.nesting_bound.specs.declared.graph.Entered.{Entered}
+use Rattle.nesting_bound.specs.declared.graph.Place.{Place}
+use Rattle.nesting_bound.specs.Graph as graph
+use Rattle.nesting_bound.specs.Least.{IsLeast}
+use Rattle.nesting_bound.specs.Cycle.{IsNamed, group_of}
+use Rattle.round_rules.specs.Refusals.{IsReEntry, IsRecursion}
+use Rattle.round_rules.specs.Families.{Family, Has, HasInst}
+use Rattle.round_rules.specs.Rounds.{Entering, IsAcyclic, AreRanks, AreNeeds, IsRootNeed}
+
+-- the instance has this number
+abbrev pub IsNumber : List InstKey → ℕ → InstKey → Type 0
+IsNumber keys i inst = slice_get keys i ≡ Some inst
+
+-- the number stands for the instance: it is its own, or one behind all, and the instance has none
+abbrev pub StandsFor : List InstKey → ℕ → InstKey → Type 0
+StandsFor keys i inst = IsNumber keys i inst ⊎ ((length keys ≤ i) × ((j : ℕ) → IsNumber keys j inst → ⊥))
+
+-- an edge of the graph for this entry
+pub record HasEntered (keys : List InstKey) (gs : List GraphInst) (i j : InstKey) (offset : ℕ) : Type 0 where
+  pub number : ℕ
+  pub edge : Entered
+  pub enters : graph.Enters gs number edge
+  pub from : IsNumber keys number i
+  pub to : StandsFor keys edge.into j
+  pub at : edge.offset ≡ offset
+
+-- an entry of the family for this edge
+pub record IsEntered (words : List ℕ) (A : List Entry) (f : Family) (keys : List InstKey) (i : ℕ) (e : Entered) : Type 0 where
+  pub inst : InstKey
+  pub into : InstKey
+  pub from : IsNumber keys i inst
+  pub to : StandsFor keys e.into into
+  pub entering : Entering words A f inst into e.offset
+
+-- a place of the graph for this node
+pub record HasNode (keys : List InstKey) (gs : List GraphInst) (inst : InstKey) (offset : ℕ) : Type 0 where
+  pub number : ℕ
+  pub place : Place
+  pub has : graph.HasPlace gs number place
+  pub of : IsNumber keys number inst
+  pub at : place.offset ≡ offset
+
+-- a node of the family for this place
+pub record IsPlaceOf (f : Family) (keys : List InstKey) (i offset : ℕ) : Type 0 where
+  pub node : Node
+  pub has : Has f node
+  pub closed : node.key.sp ≡ Closed offset
+  pub of : IsNumber keys i node.key.inst
+
+pub record IsGraphOf (words : List ℕ) (A : List Entry) (f : Family) (keys : List InstKey) (gs : List GraphInst) : Type 0 where
+  pub is_graph : graph.IsGraph gs
+  pub inside : length keys ≤ length gs
+  pub root : IsNumber keys 0 root_inst
+  pub keyed : (i : ℕ) (g : GraphInst) (inst : InstKey) → slice_get gs i ≡ Some g → IsNumber keys i inst → g.key ≡ inst
+  pub once : (i j : ℕ) (inst : InstKey) → IsNumber keys i inst → IsNumber keys j inst → i ≡ j
+  pub numbered : (inst : InstKey) → HasInst f inst → (i : ℕ) × IsNumber keys i inst
+  pub entered : (i : ℕ) (e : Entered) → graph.Enters gs i e → IsEntered words A f keys i e
+  pub all_entered : (i j : InstKey) (offset : ℕ) → Entering words A f i j offset → HasEntered keys gs i j offset
+  pub places : (i : ℕ) (p : Place) → graph.HasPlace gs i p → IsPlaceOf f keys i p.offset
+  pub all_places : (n : Node) (offset : ℕ) → Has f n → n.key.sp ≡ Closed offset → HasNode keys gs n.key.inst offset
+
+-- the value of an instance by its number, and 0 where it has none
+abbrev pub valued : List InstKey → List ℕ → InstKey → ℕ
+valued [] xs inst = 0
+valued (k ∷ ks) [] inst = 0
+valued (k ∷ ks) (x ∷ xs) inst = if same_inst k inst then x else valued ks xs inst
+
+-- A cycle of one is one of the other, and the instance that is named is the one of the refusal. Least ranks and needs are those of the
+-- family, and the least need of instance 0 is the least need of the root. Needs may all be greater by one number.
+pub record GraphsTell : Type 0 where
+  pub acyclic : (words : List ℕ) (A : List Entry) (f : Family) (keys : List InstKey) (gs : List GraphInst) → IsGraphOf words A f keys gs
+      → ((i : ℕ) → graph.Reaches gs i i → ⊥) → IsAcyclic words A f
+  pub re_entry : (words : List ℕ) (A : List Entry) (f : Family) (keys : List InstKey) (gs : List GraphInst) (at v : ℕ) (inst : InstKey) → IsGraphOf words A f keys gs
+      → IsNamed gs at → IsNumber keys at inst → inst.kind ≡ Vector v → IsReEntry words A f v inst.entry
+  pub recursion : (words : List ℕ) (A : List Entry) (f : Family) (keys : List InstKey) (gs : List GraphInst) (at : ℕ) (inst : InstKey) → IsGraphOf words A f keys gs
+      → IsNamed gs at → IsNumber keys at inst → group_of inst.kind ≡ 1 → IsRecursion words A f inst.entry
+  pub named : (words : List ℕ) (A : List Entry) (f : Family) (keys : List InstKey) (gs : List GraphInst) (at : ℕ) → IsGraphOf words A f keys gs
+      → IsNamed gs at → at < length keys
+  pub ranks : (words : List ℕ) (A : List Entry) (f : Family) (keys : List InstKey) (gs : List GraphInst) (ranks needs : List ℕ) → IsGraphOf words A f keys gs
+      → IsLeast gs ranks needs → AreRanks words A f (valued keys ranks)
+  pub least_ranks : (words : List ℕ) (A : List Entry) (f : Family) (keys : List InstKey) (gs : List GraphInst) (ranks needs : List ℕ) (rank : InstKey → ℕ)
+      → IsGraphOf words A f keys gs → IsLeast gs ranks needs → AreRanks words A f rank → (inst : InstKey) → valued keys ranks inst ≤ rank inst
+  pub needs : (words : List ℕ) (A : List Entry) (f : Family) (keys : List InstKey) (gs : List GraphInst) (ranks needs : List ℕ) (spare : ℕ) → IsGraphOf words A f keys gs
+      → IsLeast gs ranks needs → AreNeeds words A f (valued keys (map (λ x. x + spare) needs))
+  pub least_needs : (words : List ℕ) (A : List Entry) (f : Family) (keys : List InstKey) (gs : List GraphInst) (ranks needs : List ℕ) (need : InstKey → ℕ)
+      → IsGraphOf words A f keys gs → IsLeast gs ranks needs → AreNeeds words A f need → (inst : InstKey) → valued keys needs inst ≤ need inst
+  pub root : (words : List ℕ) (A : List Entry) (f : Family) (keys : List InstKey) (gs : List GraphInst) (ranks needs : List ℕ) → IsGraphOf words A f keys gs
+      → IsLeast gs ranks needs → IsRootNeed words A f (slice_index needs 0)
