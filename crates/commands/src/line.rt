@@ -1,0 +1,141 @@
+//! What stands behind a command's name.
+
+ghost use Rattle.std.specs.Prelude.{◌≡◌, Some};
+ghost use Rattle.std.specs.Option.{option_map};
+ghost use Rattle.commands.specs.Commands.{is_name, empty_line, once, with_value, named, waiting, with_json, with_free, placed, with_word};
+ghost use Rattle.commands.specs.Views.{text_of, line_of};
+
+/// An option that takes the next word.
+#[derive(Clone, Copy)]
+pub enum Valued {
+    Assume,
+    Steps,
+}
+
+/// The first two names in their order, the options with their values, and the option whose value is the next word.
+#[derive(Clone, Copy)]
+pub struct Line<'a> {
+    pub first: Option<&'a str>,
+    pub second: Option<&'a str>,
+    pub assume: Option<&'a str>,
+    pub steps: Option<&'a str>,
+    pub json: bool,
+    pub waits: Option<Valued>,
+}
+
+fn is_name(word: &str) -> bool
+    ensures { result ≡ is_name word.now }
+{
+    match word.as_bytes() {
+        [] => false,
+        [first, ..] => *first != b'-',
+    }
+}
+
+impl<'a> Line<'a> {
+    /// A line without words.
+    pub fn empty() -> Line<'a>
+        ensures { line_of result ≡ empty_line }
+    {
+        Line {
+            first: None,
+            second: None,
+            assume: None,
+            steps: None,
+            json: false,
+            waits: None,
+        }
+    }
+
+    fn with_value(self, option: Valued, word: &'a str) -> Option<Line<'a>>
+        ensures { option_map line_of result ≡ with_value option (line_of self.entry) word.entry.now }
+    {
+        match option {
+            Valued::Assume => match self.assume {
+                Some(_) => None,
+                None => Some(Line {
+                    assume: Some(word),
+                    waits: None,
+                    ..self
+                }),
+            },
+            Valued::Steps => match self.steps {
+                Some(_) => None,
+                None => Some(Line {
+                    steps: Some(word),
+                    waits: None,
+                    ..self
+                }),
+            },
+        }
+    }
+
+    fn with_name(self, word: &'a str) -> Option<Line<'a>>
+        ensures { option_map line_of result ≡ named (text_of self.entry.first) (text_of self.entry.second) (line_of self.entry) word.entry.now }
+    {
+        match self.first {
+            None => Some(Line {
+                first: Some(word),
+                ..self
+            }),
+            Some(_) => match self.second {
+                None => Some(Line {
+                    second: Some(word),
+                    ..self
+                }),
+                Some(_) => None,
+            },
+        }
+    }
+
+    fn with_json(self) -> Option<Line<'a>>
+        ensures { option_map line_of result ≡ with_json (line_of self.entry) }
+    {
+        if self.json {
+            None
+        } else {
+            Some(Line { json: true, ..self })
+        }
+    }
+
+    fn waiting(self, option: Valued) -> Option<Line<'a>>
+        ensures { option_map line_of result ≡ Some (waiting (line_of self.entry) option) }
+    {
+        Some(Line {
+            waits: Some(option),
+            ..self
+        })
+    }
+
+    fn with_free(self, word: &'a str) -> Option<Line<'a>>
+        ensures { option_map line_of result ≡ with_free (line_of self.entry) word.entry.now }
+    {
+        if word == "--assume" {
+            self.waiting(Valued::Assume)
+        } else if word == "--steps" {
+            self.waiting(Valued::Steps)
+        } else if word == "--json" {
+            self.with_json()
+        } else if is_name(word) {
+            self.with_name(word)
+        } else {
+            None
+        }
+    }
+
+    /// The line with one word more, if it can stand there.
+    pub fn with_word(self, word: &'a str) -> Option<Line<'a>>
+        ensures { option_map line_of result ≡ with_word (line_of self.entry) word.entry.now }
+    {
+        match self.waits {
+            None => self.with_free(word),
+            Some(option) => {
+                if is_name(word) {
+                    self.with_value(option, word)
+                } else {
+                    None
+                }
+            }
+        }
+    }
+}
