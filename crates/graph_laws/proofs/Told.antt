@@ -25,14 +25,14 @@ within [] i x e = absurd (none-some x e)
 within (y ∷ ys) zero x e = omega arith
 within (y ∷ ys) (suc i) x e = omega (arith, within ys i x e)
 
-there : {X : Type 0} (xs : List X) (i : ℕ) → i < length xs → (x : X) × (slice_get xs i ≡ Some x)
+pub there : {X : Type 0} (xs : List X) (i : ℕ) → i < length xs → (x : X) × (slice_get xs i ≡ Some x)
 there [] i lt = absurd (omega arith)
 there (y ∷ ys) zero lt = (y, refl)
 there (y ∷ ys) (suc i) lt = there ys i (omega (arith, lt))
 
 -- ---- values by numbers
 
-valued_at : (keys : List InstKey) (xs : List ℕ) (i : ℕ) (inst : InstKey) → ((a b : ℕ) (k : InstKey) → IsNumber keys a k → IsNumber keys b k → a ≡ b) → i < length xs
+pub valued_at : (keys : List InstKey) (xs : List ℕ) (i : ℕ) (inst : InstKey) → ((a b : ℕ) (k : InstKey) → IsNumber keys a k → IsNumber keys b k → a ≡ b) → i < length xs
     → IsNumber keys i inst → valued keys xs inst ≡ slice_index xs i
 valued_at [] xs i inst one lt e = absurd (none-some inst e)
 valued_at (k ∷ ks) [] i inst one lt e = absurd (omega arith)
@@ -71,12 +71,12 @@ find (k ∷ ks) inst = by (same_inst k inst) refl (find ks inst)
     by false t (inl h) = inl (suc h.0, h.1)
     by false t (inr none) = inr (later t none)
 
-more_by : (xs : List ℕ) (spare i : ℕ) → i < length xs → slice_index (map (λ x. x + spare) xs) i ≡ slice_index xs i + spare
+pub more_by : (xs : List ℕ) (spare i : ℕ) → i < length xs → slice_index (map (λ x. x + spare) xs) i ≡ slice_index xs i + spare
 more_by [] spare i lt = absurd (omega arith)
 more_by (x ∷ xs) spare zero lt = refl
 more_by (x ∷ xs) spare (suc i) lt = more_by xs spare i (omega (arith, lt))
 
-more_length : (xs : List ℕ) (spare : ℕ) → length (map (λ x. x + spare) xs) ≡ length xs
+pub more_length : (xs : List ℕ) (spare : ℕ) → length (map (λ x. x + spare) xs) ≡ length xs
 more_length [] spare = refl
 more_length (x ∷ xs) spare = omega (arith, more_length xs spare)
 

@@ -8,7 +8,7 @@ use Rattle.round_rules.specs.Refusals.{word_of, IsNoLater}
 abbrev fault_by : ℕ → ℕ → ℕ → NodeFault
 fault_by cause word depth =
     if cause == 1 then UnresolvedJump word else (if cause == 4 then UntrackedSp word else (if cause == 5 then Unsupported word else (
-      if cause == 6 then TooDeep word depth else (if cause == 8 then UnknownPointer word else Memory))))
+    if cause == 6 then TooDeep word depth else (if cause == 8 then UnknownPointer word else Memory))))
 
 is_by : (x : NodeFault) → fault_by (cause_of x) (word_of x) (depth_of x) ≡ x
 is_by (UnresolvedJump pc) = refl

@@ -1,0 +1,24 @@
+-- What of a key is fed to a hasher.
+use Rattle.std.proofs.Common.{◌≡◌, ℕ, List, ◌++◌, ap}
+use Rattle.std.specs.Prelude.{IsTrue}
+use Rattle.std.specs.Hash as fed
+use Rattle.mask_states.specs.declared.keys.NodeKey.{NodeKey}
+use Rattle.mask_states.specs.declared.keys.InstKey.{InstKey}
+use Rattle.mask_states.specs.Order.{same_node, same_inst}
+use Rattle.mask_states.specs.Keys.{offset_of}
+use Rattle.mask_states.proofs.AllLaws.{keys_are_ordered}
+
+-- the words that tell most nodes apart
+abbrev pub key_hash : NodeKey → List (List ℕ)
+key_hash k = fed.u16 k.inst.entry ++ fed.u32 k.inst.masks ++ fed.u16 k.pc ++ fed.u32 k.masks ++ fed.u16 (offset_of k.sp)
+
+-- equal keys are fed alike
+pub alike : (a b : NodeKey) → IsTrue (same_node a b) → key_hash a ≡ key_hash b
+alike a b h = ap key_hash ((keys_are_ordered.same_nodes a b).0 h)
+
+-- the same of instances
+abbrev pub inst_hash : InstKey → List (List ℕ)
+inst_hash k = fed.u16 k.entry ++ fed.u32 k.masks
+
+pub inst_alike : (a b : InstKey) → IsTrue (same_inst a b) → inst_hash a ≡ inst_hash b
+inst_alike a b h = ap inst_hash ((keys_are_ordered.same_insts a b).0 h)
