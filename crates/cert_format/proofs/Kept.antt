@@ -34,7 +34,7 @@ use Rattle.cert_format.specs.LineLaws.{InstLines, NodeLines, IsInstanceOf}
 use Rattle.cert_format.specs.Reading.{entry_by, inst_by, node_by, last_in, is_inst_above, is_node_above, refused_entry, refused_inst, refused_node}
 use Rattle.cert_format.proofs.Items.{cells_more}
 use Rattle.cert_format.proofs.Lists.{Admitted, Steady, Spells, Reads, AllFrom, any_of_all, kept_by, admitted_by, is_after, sorted_push, sorted_at}
-use Rattle.cert_format.proofs.Places.{place_unique, contains_at, has_place}
+use Rattle.cert_words.proofs.Places.{place_unique, contains_at, has_place}
 use Rattle.std.proofs.lemmas.Option.{slice_get_within}
 
 -- ---- a test before a fault

@@ -1,7 +1,6 @@
 pub mod Items
 pub mod ItemLines
 pub mod Lists
-pub mod Places
 pub mod Kept
 pub mod Parts
 pub mod Numbers

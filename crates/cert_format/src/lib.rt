@@ -1,4 +1,4 @@
-//! Certificates of a whole analysis as text: their reader.
+//! Certificates of a whole analysis as text: their reader, and their writer from below. Source: own.
 #![tactic(auto)]
 
 pub mod fault;
@@ -6,6 +6,10 @@ pub mod laws;
 mod lines;
 mod reading;
 
+pub use cert_writing::{write, write_inst_key, write_key};
 pub use certificate::{Certificate, Inst};
 pub use fault::{CertFault, Limit};
 pub use reading::read;
+
+#[cfg(test)]
+mod tests;

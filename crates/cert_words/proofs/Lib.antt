@@ -5,3 +5,4 @@ pub mod Fields
 pub mod InstKeys
 pub mod NodeKeys
 pub mod States
+pub mod Places

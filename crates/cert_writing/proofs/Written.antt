@@ -1,0 +1,137 @@
+-- What is written, digit by digit, word by word and line by line.
+use Rattle.std.proofs.Common.{ℕ, ◌+◌, ◌/◌, ◌%◌, ◌<◌, ◌≡◌, List, [], ◌∷◌, ◌++◌, length, map, take, get_or, Bool, false, refl, ap, ap₂, sym, ◌∙◌, arith, append_assoc, append-nil, codes, Some, None}
+use Rattle.std.proofs.lemmas.List.{map-append, take_more, take_all}
+use Rattle.std.proofs.lemmas.Grind.{flat_map-append}
+use Rattle.std.specs.List.{flat_map}
+use Rattle.sb_base.specs.Digits.{hex_digit, hex_digits}
+use Rattle.sb_base.specs.Lines.{line}
+use Rattle.sb_base.specs.Writing.{Written, with_word, with_words, with_end}
+use Rattle.line_reading.specs.Appending.{with_text, AppendingLaws}
+use Rattle.avr_model.specs.declared.assumption.Entry.{Entry}
+use Rattle.abs_state.specs.declared.state.AbsState.{AbsState}
+use Rattle.edge_rules.specs.Expansion.{Seeds}
+use Rattle.indirect_targets.specs.Spelling.{entry_words, text_of as entries_text}
+use Rattle.witness_replay.specs.Spelling.{Plan, text_of as schedule_text}
+use Rattle.certificate.specs.declared.instance.Inst.{Inst}
+use Rattle.certificate.specs.Claims.{Claim}
+use Rattle.cert_words.specs.Spelling.{value_word, flags_word, carry_word, slot_word}
+use Rattle.cert_words.specs.KeySpelling.{state_words}
+use Rattle.cert_words.specs.Text.{numbered, version, heading, entry_lines, inst_words, inst_lines, node_words, node_lines, front_lines, open_line, attained_line, witness_lines, end_line, text_of}
+
+-- ---- digits
+
+pub two : (n : ℕ) → n < 256 → hex_digits n 2 ≡ hex_digit (n / 16) ∷ hex_digit (n % 16) ∷ []
+unfolding hex_digits
+two n h =
+    let e : n / 16 % 16 ≡ n / 16 = omega (arith, h) in
+    ap (λ (d : ℕ). hex_digit d ∷ hex_digit (n % 16) ∷ []) e
+
+pub four : (n : ℕ) → n < 65536 → hex_digits n 4 ≡ hex_digit (n / 4096) ∷ hex_digit (n / 256 % 16) ∷ hex_digit (n / 16 % 16) ∷ hex_digit (n % 16) ∷ []
+unfolding hex_digits
+four n h =
+    let a : n / 16 / 16 / 16 % 16 ≡ n / 4096 = omega (arith, h) in
+    let b : n / 16 / 16 % 16 ≡ n / 256 % 16 = omega (arith, h) in
+    ap₂ (λ (d e : ℕ). hex_digit d ∷ hex_digit e ∷ hex_digit (n / 16 % 16) ∷ hex_digit (n % 16) ∷ []) a b
+
+-- ---- words
+
+pub words_append : (w : Written) (xs ys : List (List ℕ)) → with_words w (xs ++ ys) ≡ with_words (with_words w xs) ys
+words_append w [] ys = refl
+words_append w (x ∷ xs) ys = words_append (with_word w x) xs ys
+
+pub words_next : {A : Type 0} (word : A → List ℕ) (w v u : Written) (xs : List A) (i : ℕ) (x : A) → i < length xs → x ≡ get_or xs i x → v ≡ with_words w (map word (take i xs)) → u ≡ with_word v (word x)
+    → u ≡ with_words w (map word (take (i + 1) xs))
+words_next {A} word w v u xs i x lt is e f =
+    f ∙ ap (λ (y : Written). with_word y (word x)) e
+    ∙ ap (λ (y : A). with_word (with_words w (map word (take i xs))) (word y)) is
+    ∙ sym (words_append w (map word (take i xs)) (word (get_or xs i x) ∷ []))
+    ∙ ap (with_words w) (sym (map-append word (take i xs) (get_or xs i x ∷ [])))
+    ∙ ap (λ (ys : List A). with_words w (map word ys)) (sym (take_more xs i x lt))
+
+pub words_done : {A : Type 0} (word : A → List ℕ) (w v : Written) (xs : List A) (i : ℕ) → i ≡ length xs → v ≡ with_words w (map word (take i xs)) → v ≡ with_words w (map word xs)
+words_done {A} word w v xs i e f = f ∙ ap (λ (ys : List A). with_words w (map word ys)) (take_all i xs (omega (arith, e)))
+
+-- ---- lines
+
+abbrev pub text : {A : Type 0} → (A → List (List ℕ)) → List A → List ℕ
+text words xs = flat_map line (map words xs)
+
+pub more_text : (w v u : Written) (a b : List ℕ) → v ≡ with_text w a → u ≡ with_text v b → u ≡ with_text w (a ++ b)
+more_text w v u a b e f = f ∙ ap (λ (x : Written). with_text x b) e ∙ ap (λ (xs : List ℕ). record { bytes = xs; begun = false }) (append_assoc w.bytes a b)
+
+pub none_begun : (w v : Written) (a : List ℕ) → v ≡ with_text w a → v.begun ≡ false
+none_begun w v a e = ap (λ (x : Written). x.begun) e
+
+pub no_text : (w : Written) → w.begun ≡ false → w ≡ with_text w []
+no_text w e = ap (λ (b : Bool). record { bytes = w.bytes; begun = b }) e ∙ ap (λ (xs : List ℕ). record { bytes = xs; begun = false }) (sym (append-nil w.bytes))
+
+text_next : {A : Type 0} (words : A → List (List ℕ)) (xs : List A) (i : ℕ) (x : A) → i < length xs → text words (take (i + 1) xs) ≡ text words (take i xs) ++ line (words (get_or xs i x))
+text_next {A} words xs i x lt =
+    ap (text words) (take_more xs i x lt)
+    ∙ ap (flat_map line) (map-append words (take i xs) (get_or xs i x ∷ []))
+    ∙ flat_map-append line (map words (take i xs)) (words (get_or xs i x) ∷ [])
+    ∙ ap (λ (ys : List ℕ). text words (take i xs) ++ ys) (append-nil (line (words (get_or xs i x))))
+
+pub lines_next : {A : Type 0} (words : A → List (List ℕ)) → AppendingLaws → (w v u : Written) (xs : List A) (i : ℕ) (x : A) → i < length xs → x ≡ get_or xs i x → v ≡ with_text w (text words (take i xs)) → u ≡ with_end (with_words v (words x))
+    → u ≡ with_text w (text words (take (i + 1) xs))
+lines_next {A} words k w v u xs i x lt is e f =
+    more_text w v u (text words (take i xs)) (line (words x)) e (k.line v u (words x) (none_begun w v (text words (take i xs)) e) f)
+    ∙ ap (λ (y : A). with_text w (text words (take i xs) ++ line (words y))) is
+    ∙ ap (with_text w) (sym (text_next words xs i x lt))
+
+pub lines_done : {A : Type 0} (words : A → List (List ℕ)) (w v : Written) (xs : List A) (i : ℕ) → i ≡ length xs → v ≡ with_text w (text words (take i xs)) → v ≡ with_text w (text words xs)
+lines_done {A} words w v xs i e f = f ∙ ap (λ (ys : List A). with_text w (text words ys)) (take_all i xs (omega (arith, e)))
+
+-- ---- states
+
+pub state_written : (w a b v : Written) (s : AbsState) → a ≡ with_words w (map value_word s.registers) → b ≡ with_word (with_word a (flags_word s.flags.entry s.flags.bits)) (carry_word s.flags.carry) → v ≡ with_words b (map slot_word s.slots)
+    → v ≡ with_words w (state_words s)
+state_written w a b v s e f g =
+    g ∙ ap (λ (x : Written). with_words x (map slot_word s.slots)) f
+    ∙ ap (λ (x : Written). with_words x (flags_word s.flags.entry s.flags.bits ∷ carry_word s.flags.carry ∷ map slot_word s.slots)) e
+    ∙ sym (words_append w (map value_word s.registers) (flags_word s.flags.entry s.flags.bits ∷ carry_word s.flags.carry ∷ map slot_word s.slots))
+
+-- ---- parts
+
+pub entry_text : (es : List Entry) → entries_text es ≡ flat_map line (map entry_words es)
+entry_text [] = refl
+entry_text (e ∷ es) = ap (λ (xs : List ℕ). line (entry_words e) ++ xs) (entry_text es)
+
+-- a line alone
+pub one_line : (l : List (List ℕ)) → flat_map line (l ∷ []) ≡ line l
+one_line l = append-nil (line l)
+
+pub entries_written : (w v u : Written) (es : List Entry) → v ≡ with_text w (line (numbered (codes "assume") (length es))) → u ≡ with_text v (entries_text es) → u ≡ with_text w (flat_map line (entry_lines es))
+entries_written w v u es e f = more_text w v u (line (numbered (codes "assume") (length es))) (flat_map line (map entry_words es)) e (f ∙ ap (with_text v) (entry_text es))
+
+pub heading_written : (w v u : Written) (n : ℕ) → v ≡ with_text w (line version) → u ≡ with_text v (line (numbered (codes "bound") n)) → u ≡ with_text w (flat_map line (heading n))
+heading_written w v u n e f = more_text w v u (line version) (flat_map line (numbered (codes "bound") n ∷ [])) e (f ∙ ap (with_text v) (sym (one_line (numbered (codes "bound") n))))
+
+pub insts_written : (w v u : Written) (xs : List Inst) → v ≡ with_text w (line (numbered (codes "instances") (length xs))) → u ≡ with_text v (flat_map line (map inst_words xs)) → u ≡ with_text w (flat_map line (inst_lines xs))
+insts_written w v u xs e f = more_text w v u (line (numbered (codes "instances") (length xs))) (flat_map line (map inst_words xs)) e f
+
+pub nodes_written : (w v u : Written) (xs : List Inst) (ns : Seeds) → v ≡ with_text w (line (numbered (codes "nodes") (length ns))) → u ≡ with_text v (flat_map line (map (node_words xs) ns)) → u ≡ with_text w (flat_map line (node_lines xs ns))
+nodes_written w v u xs ns e f = more_text w v u (line (numbered (codes "nodes") (length ns))) (flat_map line (map (node_words xs) ns)) e f
+
+joined_text : (xs ys : List (List (List ℕ))) → flat_map line (xs ++ ys) ≡ flat_map line xs ++ flat_map line ys
+joined_text xs ys = flat_map-append line xs ys
+
+both_written : (w v u : Written) (xs ys : List (List (List ℕ))) → v ≡ with_text w (flat_map line xs) → u ≡ with_text v (flat_map line ys) → u ≡ with_text w (flat_map line (xs ++ ys))
+both_written w v u xs ys e f = more_text w v u (flat_map line xs) (flat_map line ys) e f ∙ ap (with_text w) (sym (joined_text xs ys))
+
+pub front_written : (w a b d u : Written) (c : Claim) → a ≡ with_text w (flat_map line (heading c.bound)) → b ≡ with_text a (flat_map line (entry_lines c.assumptions)) → d ≡ with_text b (flat_map line (inst_lines c.instances)) → u ≡ with_text d (flat_map line (node_lines c.instances c.nodes))
+    → u ≡ with_text w (flat_map line (front_lines c))
+front_written w a b d u c e f g h =
+    both_written w a u (heading c.bound) (entry_lines c.assumptions ++ (inst_lines c.instances ++ node_lines c.instances c.nodes)) e
+    (both_written a b u (entry_lines c.assumptions) (inst_lines c.instances ++ node_lines c.instances c.nodes) f (both_written b d u (inst_lines c.instances) (node_lines c.instances c.nodes) g h))
+
+pub attained_written : (w v u : Written) (plan : Plan) → v ≡ with_text w (line attained_line) → u ≡ with_text v (schedule_text plan) → u ≡ with_text w (flat_map line (witness_lines (Some plan)))
+attained_written w v u plan e f = more_text w v u (line attained_line) (schedule_text plan) e f
+
+pub open_written : (w v : Written) → v ≡ with_text w (line open_line) → v ≡ with_text w (flat_map line (witness_lines None))
+open_written w v e = e ∙ ap (with_text w) (sym (one_line open_line))
+
+pub all_written : (w a b u : Written) (c : Claim) → a ≡ with_text w (flat_map line (front_lines c)) → b ≡ with_text a (flat_map line (witness_lines c.witness)) → u ≡ with_text b (line end_line) → u ≡ with_text w (text_of c)
+all_written w a b u c e f g =
+    both_written w a u (front_lines c) (witness_lines c.witness ++ end_line ∷ []) e
+    (both_written a b u (witness_lines c.witness) (end_line ∷ []) f (g ∙ ap (with_text b) (sym (one_line end_line))))

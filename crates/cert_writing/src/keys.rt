@@ -1,0 +1,112 @@
+//! The words of keys.
+
+ghost use Rattle.std.specs.Prelude.{◌≡◌, ◌++◌, OnOk, decimal};
+ghost use Rattle.sb_base.specs.Writing.{with_word, with_words};
+ghost use Rattle.witness_replay.specs.Spelling.{bit};
+ghost use Rattle.cert_words.specs.Spelling.{high_text, form_word};
+ghost use Rattle.cert_words.specs.KeySpelling.{kind_word, inst_key_words, place_words, node_key_words};
+
+use crate::values::{pair, quad};
+use mask_states::{High, InstKey, Kind, NodeKey, SpForm};
+use sb_base::LineWriter;
+use std::alloc::{AllocError, Global};
+
+/// Writes 0 or 1.
+fn write_bit(out: &mut LineWriter, set: bool) -> Result<(), AllocError>
+    ensures { OnOk result (out.new ≡ with_word out.old (bit set)) }
+{
+    out.word(if set { b"1" } else { b"0" })
+}
+
+/// Appends a number in decimal.
+fn append_decimal(word: &mut Vec<u8>, alloc: Global, number: u64) -> Result<(), AllocError>
+    ensures { OnOk result (word.new.items ≡ word.old.items ++ decimal number) }
+{
+    let digits = number.to_string(alloc)?;
+    word.extend_from_slice(digits.as_bytes())
+}
+
+/// Writes a kind.
+fn write_kind(out: &mut LineWriter, alloc: Global, kind: Kind) -> Result<(), AllocError>
+    ensures { OnOk result (out.new ≡ with_word out.old (kind_word kind)) }
+{
+    match kind {
+        Kind::Root => out.word(b"root"),
+        Kind::Call => out.word(b"call"),
+        Kind::Vector(vector) => {
+            let mut word = Vec::new(alloc);
+            word.push(b'v')?;
+            append_decimal(&mut word, alloc, u64::from(vector))?;
+            out.word(&word)
+        }
+    }
+}
+
+/// Appends the high byte of a half-written stack pointer.
+fn append_high(word: &mut Vec<u8>, high: High) -> Result<(), AllocError>
+    ensures { OnOk result (word.new.items ≡ word.old.items ++ high_text high) }
+{
+    match high {
+        High::Known(byte) => {
+            let b = pair(byte);
+            word.extend_from_slice(&[b',', b'k', b.0, b.1])
+        }
+        High::Tag(below) => {
+            let n = quad(below);
+            word.extend_from_slice(&[b',', b't', n.0, n.1, n.2, n.3])
+        }
+    }
+}
+
+/// Writes a form of the stack pointer.
+fn write_form(out: &mut LineWriter, alloc: Global, form: &SpForm) -> Result<(), AllocError>
+    ensures { OnOk result (out.new ≡ with_word out.old (form_word form.now)) }
+{
+    let mut word = Vec::new(alloc);
+    match *form {
+        SpForm::Closed(offset) => {
+            word.push(b'c')?;
+            append_decimal(&mut word, alloc, u64::from(offset))?;
+        }
+        SpForm::Open(offset, high) => {
+            word.push(b'o')?;
+            append_decimal(&mut word, alloc, u64::from(offset))?;
+            append_high(&mut word, high)?;
+        }
+    }
+    out.word(&word)
+}
+
+/// Writes an instance: kind, entry, enable bits and I. After want of memory some first words are written.
+pub fn write_inst_key(out: &mut LineWriter, alloc: Global, key: &InstKey) -> Result<(), AllocError>
+    ensures { OnOk result (out.new ≡ with_words out.old (inst_key_words key.now)) }
+{
+    write_kind(out, alloc, key.kind)?;
+    out.hex(u32::from(key.entry), 4)?;
+    out.hex(key.masks.bits(), 7)?;
+    write_bit(out, key.i)
+}
+
+/// Writes a node within its instance: word, enable bits, I, delay and form of the stack pointer.
+pub(crate) fn write_place(
+    out: &mut LineWriter,
+    alloc: Global,
+    key: &NodeKey,
+) -> Result<(), AllocError>
+    ensures { OnOk result (out.new ≡ with_words out.old (place_words key.now)) }
+{
+    out.hex(u32::from(key.pc), 4)?;
+    out.hex(key.masks.bits(), 7)?;
+    write_bit(out, key.i)?;
+    write_bit(out, key.delay)?;
+    write_form(out, alloc, &key.sp)
+}
+
+/// Writes a node with its instance: kind, entry, enable bits and I of the instance, then word, enable bits, I, delay and form of
+/// the stack pointer. After want of memory some first words are written.
+pub fn write_key(out: &mut LineWriter, alloc: Global, key: &NodeKey) -> Result<(), AllocError>
+    ensures { OnOk result (out.new ≡ with_words out.old (node_key_words key.now)) }
+{
+    write_inst_key(out, alloc, &key.inst)?;
+    write_place(out, alloc, key)
+}

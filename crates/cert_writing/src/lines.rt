@@ -1,0 +1,117 @@
+//! The lines of instances and nodes.
+
+ghost use Rattle.std.specs.Prelude.{◌≡◌, ◌≤◌, ℕ, List, map, length, slice_get, Some, OnOk, IfSome, IfNone, Contains, false};
+ghost use Rattle.std.specs.List.{flat_map};
+ghost use Rattle.std.specs.List.Sorted.{IsStrictlySortedBy};
+ghost use Rattle.sb_base.specs.Lines.{line};
+ghost use Rattle.sb_base.specs.Writing.{with_words, with_end};
+ghost use Rattle.line_reading.specs.Appending.{with_text};
+ghost use Rattle.mask_states.specs.Order.{inst_cmp};
+ghost use Rattle.certificate.specs.declared.instance.Inst.{Inst};
+ghost use Rattle.certificate.specs.Insts.{inst_keys};
+ghost use Rattle.certificate.specs.Claims.{node_keys, Belongs};
+ghost use Rattle.std.specs.List.{AllByRecursion};
+ghost use Rattle.cert_words.specs.Text.{inst_words, node_words_at, node_words, place_of};
+ghost use Rattle.cert_writing.specs.Places.{IsAt, IsNowhereFrom};
+
+use crate::keys::{write_inst_key, write_place};
+use crate::state::write_form;
+use certificate::Inst;
+use edge_rules::NodeForm;
+use line_reading::laws::appending_laws;
+use mask_states::laws::keys_are_ordered;
+use mask_states::{InstKey, NodeKey};
+use sb_base::LineWriter;
+use std::alloc::{AllocError, Global};
+
+/// Writes the line of an instance.
+fn write_inst(out: &mut LineWriter, alloc: Global, inst: &Inst) -> Result<(), AllocError>
+    ensures { OnOk result (out.new ≡ with_end (with_words out.old (inst_words inst.now))) }
+{
+    out.word(b"inst")?;
+    write_inst_key(out, alloc, &inst.key)?;
+    out.word(b"rank")?;
+    out.dec(u64::from(inst.rank))?;
+    out.word(b"need")?;
+    out.dec(u64::from(inst.need))?;
+    out.end_line()
+}
+
+/// Writes the lines of instances.
+pub(crate) fn write_insts(
+    out: &mut LineWriter,
+    alloc: Global,
+    insts: &[Inst],
+) -> Result<(), AllocError>
+    requires { out.old.begun ≡ false }
+    ensures { OnOk result (out.new ≡ with_text out.old (flat_map line (map inst_words insts.now))) }
+{
+    appending_laws();
+    for inst in insts {
+        write_inst(out, alloc, inst)?;
+    }
+    Ok(())
+}
+
+/// The number of the instance, from a number on.
+fn place_from(insts: &[Inst], from: usize, key: &InstKey) -> Option<usize>
+    ensures found { IfSome result (λ j. IsAt insts.now key.now j) }
+    ensures none { IfNone result (IsNowhereFrom insts.now key.now from) }
+{
+    for j in from..insts.len() {
+        if insts[j].key == *key {
+            return Some(j);
+        }
+    }
+    None
+}
+
+/// The number of the instance, which is there. It is looked for from the guess on first.
+fn place(insts: &[Inst], guess: usize, key: &InstKey) -> usize
+    requires sorted { IsStrictlySortedBy inst_cmp (inst_keys insts.now) }
+    requires there { Contains (inst_keys insts.now) key.now }
+    ensures { result ≡ place_of key.now insts.now }
+{
+    keys_are_ordered();
+    match place_from(insts, guess, key) {
+        Some(place) => place,
+        None => place_from(insts, 0, key).unwrap_or(0),
+    }
+}
+
+/// Writes the line of a node whose instance has this number.
+fn write_node(
+    out: &mut LineWriter,
+    alloc: Global,
+    place: usize,
+    node: &(NodeKey, NodeForm),
+) -> Result<(), AllocError>
+    ensures { OnOk result (out.new ≡ with_end (with_words out.old (node_words_at place node.now))) }
+{
+    out.word(b"node")?;
+    out.dec(place as u64)?;
+    write_place(out, alloc, &node.0)?;
+    write_form(out, &node.1)?;
+    out.end_line()
+}
+
+/// Writes the lines of nodes.
+pub(crate) fn write_nodes(
+    out: &mut LineWriter,
+    alloc: Global,
+    insts: &[Inst],
+    nodes: &[(NodeKey, NodeForm)],
+) -> Result<(), AllocError>
+    requires begun { out.old.begun ≡ false }
+    requires sorted { IsStrictlySortedBy inst_cmp (inst_keys insts.now) }
+    requires there { AllByRecursion (Belongs insts.now) (node_keys nodes.now) }
+    ensures { OnOk result (out.new ≡ with_text out.old (flat_map line (map (node_words insts.now) nodes.now))) }
+{
+    appending_laws();
+    let mut guess = 0;
+    for node in nodes {
+        guess = place(insts, guess, &node.0.inst);
+        write_node(out, alloc, guess, node)?;
+    }
+    Ok(())
+}

@@ -1,0 +1,56 @@
+//! The words of what is known at a node.
+
+ghost use Rattle.std.specs.Prelude.{◌≡◌, map, OnOk};
+ghost use Rattle.sb_base.specs.Writing.{with_words};
+ghost use Rattle.cert_words.specs.Spelling.{value_word, slot_word};
+ghost use Rattle.cert_words.specs.KeySpelling.{state_words, form_words};
+
+use crate::values::{write_flags, write_slot, write_value};
+use abs_state::{AbsByte, AbsState};
+use edge_rules::NodeForm;
+use sb_base::LineWriter;
+use sp_domain::Slot;
+use std::alloc::AllocError;
+
+/// Writes values.
+fn write_values(out: &mut LineWriter, values: &[AbsByte]) -> Result<(), AllocError>
+    ensures { OnOk result (out.new ≡ with_words out.old (map value_word values.now)) }
+{
+    for value in values {
+        write_value(out, value)?;
+    }
+    Ok(())
+}
+
+/// Writes slots.
+fn write_slots(out: &mut LineWriter, slots: &[Slot<AbsByte>]) -> Result<(), AllocError>
+    ensures { OnOk result (out.new ≡ with_words out.old (map slot_word slots.now)) }
+{
+    for slot in slots {
+        write_slot(out, slot)?;
+    }
+    Ok(())
+}
+
+/// Writes a state.
+fn write_state(out: &mut LineWriter, state: &AbsState) -> Result<(), AllocError>
+    ensures { OnOk result (out.new ≡ with_words out.old (state_words state.now)) }
+{
+    write_values(out, &state.registers)?;
+    write_flags(out, &state.flags)?;
+    write_slots(out, state.slots.as_slice())?;
+    Ok(())
+}
+
+/// Writes a state, or `from` and the number of the node that it comes from.
+pub(crate) fn write_form(out: &mut LineWriter, form: &NodeForm) -> Result<(), AllocError>
+    ensures { OnOk result (out.new ≡ with_words out.old (form_words form.now)) }
+{
+    match form {
+        NodeForm::State(state) => write_state(out, state),
+        NodeForm::From(from) => {
+            out.word(b"from")?;
+            out.dec(u64::from(*from))
+        }
+    }
+}
