@@ -1,0 +1,329 @@
+-- Demands that aren't met, and what they say of ranks and needs.
+use Rattle.std.proofs.Common.{◌≡◌, refl, sym, ap, ◌∙◌, subst, ℕ, ◌+◌, ◌<◌, ◌≤◌, ◌==◌, ◌&&◌, ◌||◌, nat_lt, nat_le, ◌⊎◌, inl, inr, ⊎_elim, Bool, true, false, cond, List, [], ◌∷◌, ◌++◌, length, take, get_or, Some, None, slice_get, Contains, arith}
+use Rattle.std.proofs.lemmas.Bool.{cases_lt}
+use Rattle.std.proofs.lemmas.Bool.Decides.{nat_tests}
+use Rattle.std.proofs.lemmas.List.{take_more, take_all}
+use Rattle.std.proofs.lemmas.List.Elements.{Contains-append_left, Contains-append_right, Contains-append_cases}
+use Rattle.std.proofs.lemmas.Option.{same_Some}
+use Rattle.avr_model.specs.declared.assumption.Entry.{Entry}
+use Rattle.mask_states.specs.declared.keys.EdgeKind.{EdgeKind}
+use Rattle.mask_states.specs.declared.keys.InstKey.{InstKey}
+use Rattle.mask_states.specs.declared.keys.SpForm.TheVariants.{Closed}
+use Rattle.mask_states.specs.Keys.{offset_of}
+use Rattle.local_rules.specs.declared.local.Node.{Node}
+use Rattle.local_laws.proofs.Members.{none_in, here}
+use Rattle.edge_rules.specs.Edges.{Enters}
+use Rattle.edge_rules.specs.Families.{IsCovered}
+use Rattle.certificate.specs.declared.instance.Inst.{Inst}
+use Rattle.certificate.specs.Insts.{rank_in, need_in}
+use Rattle.certificate.specs.Claims.{Claim}
+use Rattle.certificate.specs.Valid.{reset_node, AreFaultless, AllLand, AreRanked, Suffices, NeedsSuffice}
+use Rattle.cert_check.specs.declared.demand.Demand.{Demand}
+use Rattle.cert_check.specs.declared.verdict.Reason.TheVariants as reason
+use Rattle.cert_check.specs.declared.verdict.Verdict.{Verdict}
+use Rattle.cert_check.specs.declared.verdict.Verdict.TheVariants.{Accepted, Rejected}
+use Rattle.cert_check.specs.Verdict.{InstEnters, IsFirstRank, IsFirstNeed}
+use Rattle.cert_check.specs.Working.{AreInstances, place_in, rank_of, rank_at, need_of, need_at, Asks, offset, entry, AreDemands, AllBelong, IsLeast, Pair, MeetsRank, LowRank, PairBelow, lesser_pair, MeetsNeed, LowNeed, NumberBelow, lesser_number, IsMost, more_asked, RanksFall, AllMet, IsWeighed, Decides}
+use Rattle.cert_check.proofs.Lists.{one_at, only, IsLesser}
+use Rattle.cert_check.proofs.Insts.{HasPlace, place_is, placed, rank_there, need_there}
+use Rattle.cert_check.proofs.Demands.{entered_belongs}
+
+-- ---- the lesser pair and the lesser number
+
+abbrev goes_first : Pair → Pair → Bool
+goes_first q p = nat_lt q.0 p.0 || ((q.0 == p.0) && nat_le q.1 p.1)
+
+first_says : (a b c d : ℕ) → (nat_lt a c || ((a == c) && nat_le b d)) ≡ true → (a < c) ⊎ ((a ≡ c) × (b ≤ d))
+first_says a b c d e =
+    ⊎_elim (λ lt. inl lt)
+    (λ le. ⊎_elim (λ gt. absurd (grind (arith, nat_tests)))
+    (λ ge. inr (omega (arith, le, ge), grind (arith, nat_tests))) (cases_lt c a)) (cases_lt a c)
+
+other_says : (a b c d : ℕ) → (nat_lt a c || ((a == c) && nat_le b d)) ≡ false → (c < a) ⊎ ((c ≡ a) × (d ≤ b))
+other_says a b c d e =
+    ⊎_elim (λ lt. inl lt)
+    (λ le. ⊎_elim (λ gt. absurd (grind (arith, nat_tests)))
+    (λ ge. inr (omega (arith, le, ge), grind (arith, nat_tests))) (cases_lt a c)) (cases_lt c a)
+
+pair_itself : (p : Pair) → PairBelow p p
+pair_itself p = inr (refl, omega arith)
+
+pair_along : (p q r : Pair) → PairBelow p q → PairBelow q r → PairBelow p r
+pair_along p q r (inl a) (inl b) = inl (omega (arith, a, b))
+pair_along p q r (inl a) (inr b) = inl (omega (arith, a, b.0))
+pair_along p q r (inr a) (inl b) = inl (omega (arith, a.0, b))
+pair_along p q r (inr a) (inr b) = inr (a.0 ∙ b.0, omega (arith, a.1, b.1))
+
+one_of : {K : Type 0} (b k : K) (t : Bool) → (cond t b k ≡ b) ⊎ (cond t b k ≡ k)
+one_of b k true = inl refl
+one_of b k false = inr refl
+
+pair_left : (q p : Pair) (t : Bool) → goes_first q p ≡ t → PairBelow (cond t q p) q
+pair_left q p true e = pair_itself q
+pair_left q p false e = other_says q.0 q.1 p.0 p.1 e
+
+pair_right : (q p : Pair) (t : Bool) → goes_first q p ≡ t → PairBelow (cond t q p) p
+pair_right q p true e = first_says q.0 q.1 p.0 p.1 e
+pair_right q p false e = pair_itself p
+
+pub lesser_pairs : (insts : List Inst) → IsLesser (MeetsRank insts) (LowRank insts) PairBelow lesser_pair
+lesser_pairs insts = record {
+  apart = λ d p clear o. let lt = clear p.1 o.1 in
+      let up : rank_at insts d.inst ≤ rank_at insts p.1 = subst (λ j. rank_at insts j ≤ rank_at insts p.1) (sym o.0) o.2 in
+      omega (arith, lt, up);
+  first = λ k. refl;
+  either = λ q p. one_of q p (goes_first q p);
+  left = λ q p. pair_left q p (goes_first q p) refl;
+  right = λ q p. pair_right q p (goes_first q p) refl;
+  same = pair_itself;
+  along = pair_along;
+}
+
+number_left : (i j : ℕ) (t : Bool) → nat_le i j ≡ t → cond t i j ≤ i
+number_left i j true e = omega arith
+number_left i j false e = grind (arith, nat_tests)
+
+number_right : (i j : ℕ) (t : Bool) → nat_le i j ≡ t → cond t i j ≤ j
+number_right i j true e = grind (arith, nat_tests)
+number_right i j false e = omega arith
+
+pub lesser_numbers : (insts : List Inst) → IsLesser (MeetsNeed insts) (LowNeed insts) NumberBelow lesser_number
+lesser_numbers insts = record {
+  apart = λ d j clear o.
+      let low : need_at insts d.inst < d.bytes = subst (λ i. need_at insts i < d.bytes) (sym o.0) o.1 in
+      omega (arith, clear, low);
+  first = λ k. refl;
+  either = λ i j. one_of i j (nat_le i j);
+  left = λ i j. number_left i j (nat_le i j) refl;
+  right = λ i j. number_right i j (nat_le i j) refl;
+  same = λ k. omega arith;
+  along = λ a b c h i. omega (arith, h, i);
+}
+
+-- ---- the most
+
+grows : (old : ℕ) (j : ℕ) (d : Demand) → old ≤ more_asked old j d
+grows old j d = by ((d.inst == j) && nat_lt old d.bytes) refl
+  where
+    by : (t : Bool) → ((d.inst == j) && nat_lt old d.bytes) ≡ t → old ≤ cond t d.bytes old
+    by true e = grind (arith, nat_tests)
+    by false e = omega arith
+
+reaches : (old : ℕ) (j : ℕ) (d : Demand) → d.inst ≡ j → d.bytes ≤ more_asked old j d
+reaches old j d is = by ((d.inst == j) && nat_lt old d.bytes) refl
+  where
+    by : (t : Bool) → ((d.inst == j) && nat_lt old d.bytes) ≡ t → d.bytes ≤ cond t d.bytes old
+    by true e = omega arith
+    by false e = grind (arith, nat_tests)
+
+chosen : (old : ℕ) (j : ℕ) (d : Demand) → (more_asked old j d ≡ old) ⊎ ((d.inst ≡ j) × (d.bytes ≡ more_asked old j d))
+chosen old j d = by ((d.inst == j) && nat_lt old d.bytes) refl
+  where
+    by : (t : Bool) → ((d.inst == j) && nat_lt old d.bytes) ≡ t → (cond t d.bytes old ≡ old) ⊎ ((d.inst ≡ j) × (d.bytes ≡ cond t d.bytes old))
+    by true e = inr (grind (arith, nat_tests), refl)
+    by false e = inl refl
+
+most_after : (ds : List Demand) (d : Demand) (j old : ℕ) → IsMost ds j old → IsMost (ds ++ d ∷ []) j (more_asked old j d)
+most_after ds d j old h = record {
+  above = λ e i is.
+      ⊎_elim (λ a. let le = h.above e a is in omega (arith, le, grows old j d))
+      (λ b. let same : e ≡ d = only d e b in
+      subst (λ (x : Demand). x.bytes ≤ more_asked old j d) (sym same) (reaches old j d (subst (λ (x : Demand). x.inst ≡ j) same is)))
+      (Contains-append_cases ds (d ∷ []) e i);
+  attained =
+      ⊎_elim
+      (λ same. ⊎_elim (λ z. inl (same ∙ z))
+      (λ w. inr (w.0, (Contains-append_left ds (d ∷ []) w.0 w.1.0, w.1.1, w.1.2 ∙ sym same))) h.attained)
+      (λ w. inr (d, (Contains-append_right ds (d ∷ []) d (here d []), w.0, w.1))) (chosen old j d);
+}
+
+pub most_none : (ds : List Demand) (j : ℕ) → IsMost (take 0 ds) j 0
+most_none ds j = record { above = λ d h is. absurd (none_in d h); attained = inl refl }
+
+pub most_more : (ds : List Demand) (at : ℕ) (d : Demand) (j old : ℕ) → at < length ds → IsMost (take at ds) j old
+    → IsMost (take (at + 1) ds) j (more_asked old j (get_or ds at d))
+most_more ds at d j old lt h =
+    subst (λ l. IsMost l j (more_asked old j (get_or ds at d))) (sym (take_more ds at d lt)) (most_after (take at ds) (get_or ds at d) j old h)
+
+-- what is read past the end
+abbrev pub no_demand : Demand
+no_demand = record { inst = 0; into = None; bytes = 0 }
+
+pub most_all : (ds : List Demand) (at j most : ℕ) → length ds ≤ at → IsMost (take at ds) j most → IsMost ds j most
+most_all ds at j most le h = subst (λ l. IsMost l j most) (take_all at ds le) h
+
+-- ---- what demands say
+
+module _ (words : List ℕ) (A : List Entry) (c : Claim) (nodes : List Node) (are : AreInstances c.instances) (belong : AllBelong c.instances nodes)
+    (land : AllLand words A nodes) (demands : List Demand) (asked : AreDemands words A c.instances nodes demands) where
+  offset_listed : (n : Node) (o : ℕ) → Contains nodes n → n.key.sp ≡ Closed o
+      → Contains demands (record { inst = place_in c.instances n.key.inst; into = None; bytes = o })
+  offset_listed n o h e = (asked _).1 (record { node = n; present = h; asks = offset o e })
+
+  entry_listed : (n : Node) (way : EdgeKind) (inst : InstKey) (back : ℕ) → Contains nodes n → Enters words A n way inst back
+      → Contains demands (record {
+        inst = place_in c.instances n.key.inst;
+        into = Some (place_in c.instances inst);
+        bytes = offset_of n.key.sp + 2 + need_at c.instances (place_in c.instances inst);
+      })
+  entry_listed n way inst back h e = (asked _).1 (record { node = n; present = h; asks = entry way inst back e })
+
+  pub ranked : RanksFall c.instances demands → AreRanked words A c nodes
+  ranked falls n way inst back h e =
+      subst (λ r. rank_in c.instances inst < r) (rank_there c.instances n.key.inst)
+      (subst (λ r. r < rank_at c.instances (place_in c.instances n.key.inst)) (rank_there c.instances inst)
+      (falls _ (entry_listed n way inst back h e) (place_in c.instances inst) refl))
+
+  pub sufficient : AllMet c.instances demands → NeedsSuffice words A c nodes
+  sufficient met inst = record {
+    offsets = λ n o h is form.
+        subst (λ m. o ≤ m) (need_there c.instances n.key.inst ∙ ap (need_in c.instances) is) (met _ (offset_listed n o h form));
+    entered = λ n way into back h is e.
+        subst (λ m. offset_of n.key.sp + 2 + m ≤ need_in c.instances inst) (need_there c.instances into)
+        (subst (λ m. offset_of n.key.sp + 2 + need_at c.instances (place_in c.instances into) ≤ m) (need_there c.instances n.key.inst ∙ ap (need_in c.instances) is)
+        (met _ (entry_listed n way into back h e)));
+  }
+
+  -- the instance of a node by its number
+  own_place : (n : Node) (j : ℕ) → Contains nodes n → place_in c.instances n.key.inst ≡ j → HasPlace c.instances n.key.inst j
+  own_place n j h e = subst (HasPlace c.instances n.key.inst) e (placed c.instances n.key.inst are (belong n h))
+
+  number_is : (k : InstKey) (j : ℕ) (x : Inst) → slice_get c.instances j ≡ Some x → k ≡ x.key → place_in c.instances k ≡ j
+  number_is k j x is same = place_is c.instances k j are (record { inst = x; is = is; same = sym same })
+
+  enters_listed : (i m : ℕ) (x y : Inst) → slice_get c.instances i ≡ Some x → slice_get c.instances m ≡ Some y → InstEnters words A nodes x y
+      → (d : Demand) × (Contains demands d × (d.inst ≡ i) × (d.into ≡ Some m))
+  enters_listed i m x y isx isy e = (
+    _,
+    (
+      entry_listed e.node e.way y.key e.back e.present e.enters,
+      number_is e.node.key.inst i x isx e.of,
+      ap (λ p. Some p) (number_is y.key m y isy refl),
+    ),
+  )
+
+  rank_is : (j : ℕ) (x : Inst) → slice_get c.instances j ≡ Some x → rank_at c.instances j ≡ x.rank
+  rank_is j x is = ap rank_of is
+
+  need_is : (j : ℕ) (x : Inst) → slice_get c.instances j ≡ Some x → need_at c.instances j ≡ x.need
+  need_is j x is = ap need_of is
+
+  -- a demand with an entered instance is a way into it
+  record IsWay (j l : ℕ) : Type 0 where
+    node : Node
+    present : Contains nodes node
+    way : EdgeKind
+    inst : InstKey
+    back : ℕ
+    enters : Enters words A node way inst back
+    from : place_in c.instances node.key.inst ≡ j
+    into : place_in c.instances inst ≡ l
+
+  way_of : (n : Node) (d : Demand) (j l : ℕ) → Contains nodes n → Asks words A c.instances n d → d.inst ≡ j → d.into ≡ Some l → IsWay j l
+  way_of n _ j l h (offset o e) is to = absurd (cc)
+  way_of n _ j l h (entry way inst back e) is to =
+      record { node = n; present = h; way = way; inst = inst; back = back; enters = e; from = is; into = same_Some (place_in c.instances inst) l to }
+
+  pub first_rank : (j l : ℕ) → IsLeast (MeetsRank c.instances) (LowRank c.instances) PairBelow demands (Some (j, l)) → IsFirstRank words A c nodes j l
+  first_rank j l h =
+      let d = h.0.0 in
+      let a = (asked d).0 h.0.1.0 in
+      let w = way_of a.node d j l a.present a.asks h.0.1.1.0 h.0.1.1.1 in
+      let p = own_place w.node j w.present w.from in
+      let q : HasPlace c.instances w.inst l = subst (HasPlace c.instances w.inst) w.into (placed c.instances w.inst are (entered_belongs words A c.instances nodes are belong land w.node w.way w.inst w.back w.present w.enters)) in
+      record {
+        from = p.inst;
+        into = q.inst;
+        is = p.is;
+        there = q.is;
+        enters = record {
+          node = w.node;
+          present = w.present;
+          of = sym p.same;
+          way = w.way;
+          back = w.back;
+          enters = subst (λ k. Enters words A w.node w.way k w.back) (sym q.same) w.enters;
+        };
+        low = subst (λ r. r ≤ q.inst.rank) (rank_is j p.inst p.is) (subst (λ r. rank_at c.instances j ≤ r) (rank_is l q.inst q.is) h.0.1.1.2);
+        least = λ m y isy e low.
+            let d' = enters_listed j m p.inst y p.is isy e in
+            let low' : rank_at c.instances j ≤ rank_at c.instances m = omega (arith, rank_is j p.inst p.is, rank_is m y isy, low) in
+            ⊎_elim (λ lt. absurd (omega (arith, lt))) (λ both. both.1) (h.1 d'.0 (j, m) d'.1.0 (d'.1.1, d'.1.2, low'));
+        earlier = λ i m x y isx isy lt e.
+            ⊎_elim (λ below. below)
+            (λ above. absurd (
+            let d' = enters_listed i m x y isx isy e in
+            let low' : rank_at c.instances i ≤ rank_at c.instances m = omega (arith, rank_is i x isx, rank_is m y isy, above) in
+            ⊎_elim (λ less. omega (arith, less, lt)) (λ both. omega (arith, both.0, lt)) (h.1 d'.0 (i, m) d'.1.0 (d'.1.1, d'.1.2, low'))
+            ))
+            (cases_lt y.rank x.rank);
+      }
+
+  own_number : (n : Node) (d : Demand) → Asks words A c.instances n d → d.inst ≡ place_in c.instances n.key.inst
+  own_number n _ (offset o e) = refl
+  own_number n _ (entry way inst back e) = refl
+
+  -- what suffices is at least what is asked
+  suffices_for : (n : Node) (k : InstKey) (d : Demand) (m : ℕ) → Contains nodes n → Asks words A c.instances n d → n.key.inst ≡ k → Suffices words A c nodes k m → d.bytes ≤ m
+  suffices_for n k _ m h (offset o e) is s = s.offsets n o h is e
+  suffices_for n k _ m h (entry way inst back e) is s =
+      subst (λ r. offset_of n.key.sp + 2 + r ≤ m) (sym (need_there c.instances inst)) (s.entered n way inst back h is e)
+
+  -- and what is at least all that is asked suffices
+  suffices_by : (x : Inst) (j m : ℕ) → slice_get c.instances j ≡ Some x → ((d : Demand) → Contains demands d → d.inst ≡ j → d.bytes ≤ m)
+      → Suffices words A c nodes x.key m
+  suffices_by x j m is above = record {
+    offsets = λ n o h same form. above _ (offset_listed n o h form) (number_is n.key.inst j x is same);
+    entered = λ n way into back h same e.
+        subst (λ r. offset_of n.key.sp + 2 + r ≤ m) (need_there c.instances into)
+        (above _ (entry_listed n way into back h e) (number_is n.key.inst j x is same));
+  }
+
+  pub first_need : (j need : ℕ) → IsLeast (MeetsNeed c.instances) (LowNeed c.instances) NumberBelow demands (Some j) → IsMost demands j need
+      → IsFirstNeed words A c nodes j need
+  first_need j need h most =
+      let d = h.0.0 in
+      let a = (asked d).0 h.0.1.0 in
+      let p = own_place a.node j a.present (sym (own_number a.node d a.asks) ∙ h.0.1.1.0) in
+      record {
+        inst = p.inst;
+        is = p.is;
+        enough = suffices_by p.inst j need p.is most.above;
+        least = λ n s.
+            ⊎_elim (λ z. omega (arith, z))
+            (λ w.
+            let b = (asked w.0).0 w.1.0 in
+            let q = own_place b.node j b.present (sym (own_number b.node w.0 b.asks) ∙ w.1.1) in
+            let same : b.node.key.inst ≡ p.inst.key = sym q.same ∙ ap (λ (x : Inst). x.key) (one_at c.instances j q.inst p.inst q.is p.is) in
+            let le = suffices_for b.node p.inst.key w.0 n b.present b.asks same s in
+            omega (arith, le, w.1.2)) most.attained;
+        low = let le = most.above d h.0.1.0 h.0.1.1.0 in omega (arith, le, h.0.1.1.1, need_is j p.inst p.is);
+        earlier = λ i x isx lt. suffices_by x i x.need isx (λ e m is.
+            ⊎_elim (λ above. absurd (
+            let low : need_at c.instances i < e.bytes = omega (arith, above, need_is i x isx) in
+            let le = h.1 e i m (is, low) in
+            omega (arith, le, lt)
+            )) (λ below. below) (cases_lt x.need e.bytes));
+      }
+
+  pub decided : IsCovered nodes reset_node → AreFaultless words A nodes → (v : Verdict) → IsWeighed c A demands v → Decides words A c nodes v
+  decided reset clean (Accepted bound) h = (
+    record {
+      reset = reset;
+      faultless = clean;
+      edges = land;
+      ranks = ranked h.0;
+      needs = sufficient h.1;
+      bounded = h.2;
+      assumptions = h.3;
+    },
+    h.4,
+  )
+  decided reset clean (Rejected (reason.Rank j l)) h = (reset, clean, land, first_rank j l h)
+  decided reset clean (Rejected (reason.Need j need)) h = (reset, clean, land, ranked h.0, first_need j need h.1 h.2)
+  decided reset clean (Rejected (reason.Bound need)) h = (reset, clean, land, ranked h.0, sufficient h.1, h.2, h.3)
+  decided reset clean (Rejected reason.Assumptions) h = (reset, clean, land, ranked h.0, sufficient h.1, h.2, h.3)
+  decided reset clean (Rejected reason.Root) h = absurd h
+  decided reset clean (Rejected (reason.Node j cause)) h = absurd h
+  decided reset clean (Rejected (reason.Edge j to)) h = absurd h
+  decided reset clean (Rejected (reason.Expansion at)) h = absurd h

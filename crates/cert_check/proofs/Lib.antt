@@ -1,0 +1,9 @@
+pub mod Lists
+pub mod Insts
+pub mod Demands
+pub mod Covering
+pub mod Passing
+pub mod Asking
+pub mod Verdicts
+pub mod One
+pub mod AllLaws

@@ -1,0 +1,299 @@
+-- A certificate has one verdict.
+use Rattle.std.proofs.Common.{◌≡◌, refl, sym, ap, ◌∙◌, subst, ℕ, ◌<◌, ◌≤◌, ◌⊎◌, inl, inr, ⊎_elim, List, [], ◌∷◌, Some, Result, Err, slice_get, arith}
+use Rattle.std.specs.Prelude.{◌↔◌}
+use Rattle.std.proofs.lemmas.Bool.{cases_lt}
+use Rattle.avr_model.specs.declared.assumption.Entry.{Entry}
+use Rattle.avr_model.specs.Run.{Bounded}
+use Rattle.mask_states.specs.declared.keys.NodeKey.{NodeKey}
+use Rattle.mask_states.specs.Keys.{root_inst}
+use Rattle.mask_states.specs.Order.{node_cmp}
+use Rattle.local_rules.specs.declared.local.Node.{Node}
+use Rattle.local_rules.specs.declared.local.NodeFault.{NodeFault}
+use Rattle.local_rules.specs.declared.local.Local.{Local}
+use Rattle.local_rules.specs.Faults.{cause_of}
+use Rattle.local_rules.specs.Raw.{Raw}
+use Rattle.local_rules.specs.Local.{local, settled}
+use Rattle.local_rules.specs.Machine.{AreWords}
+use Rattle.edge_rules.specs.Edges.{IsFaultless, IsEdge, raw_of}
+use Rattle.edge_rules.specs.Expansion.{IsFilled, IsMissing}
+use Rattle.expansion_laws.proofs.AllLaws.{filled_or_missing}
+use Rattle.frame_laws.proofs.AllLaws.{sound_families_bound_every_run}
+use Rattle.certificate.specs.declared.instance.Inst.{Inst}
+use Rattle.certificate.specs.Insts.{rank_in, need_in}
+use Rattle.certificate.specs.Claims.{Claim, IsClaim}
+use Rattle.certificate.specs.Valid.{AreFaultless, AllLand, AreRanked, Suffices, NeedsSuffice, IsSound, family_of}
+use Rattle.certificate.proofs.Sound.{conditions_make_families_sound}
+use Rattle.cert_check.specs.declared.verdict.Reason.{Reason}
+use Rattle.cert_check.specs.declared.verdict.Reason.TheVariants as reason
+use Rattle.cert_check.specs.declared.verdict.Verdict.{Verdict}
+use Rattle.cert_check.specs.declared.verdict.Verdict.TheVariants.{Accepted, Rejected}
+use Rattle.cert_check.specs.Verdict.{InstEnters, IsFirstFault, IsFirstGap, IsFirstRank, IsFirstNeed, IsRejected, IsReason, IsVerdict}
+use Rattle.cert_check.specs.Laws.{VerdictsAreOne, SoundCertificatesBoundEveryRun}
+use Rattle.cert_check.specs.Working.{AreInstances, Decides, need_at, rank_at, rank_of, need_of}
+use Rattle.cert_check.proofs.Lists.{contains_at, one_at}
+use Rattle.cert_check.proofs.Insts.{place_is, rank_there, need_there}
+use Rattle.cert_check.proofs.Covering.{key_antisymmetric}
+
+pub are_instances : (c : Claim) → IsClaim c → AreInstances c.instances
+are_instances c h = record { fit = h.insts_fit; ascend = h.insts_ascend; few = h.few_insts }
+
+-- ---- faults
+
+settled_err : (r : Raw) (fs : List NodeFault) (f : NodeFault) → settled r fs ≡ Err f → fs ≡ [] → ⊥
+settled_err r [] f e is = cc
+settled_err r (g ∷ fs) f e is = cc
+
+fault_counts : (words : List ℕ) (A : List Entry) (n : Node) (f : NodeFault) → local words A n.key n.state ≡ Err f → IsFaultless words A n → ⊥
+unfolding local
+fault_counts words A n f e clean = settled_err (raw_of words A n) (raw_of words A n).faults f e clean
+
+err_same : (r : Result Local NodeFault) (f g : NodeFault) → r ≡ Err f → r ≡ Err g → f ≡ g
+err_same r f g a b = cc
+
+-- ---- of two numbers the least
+
+least_of : (i j : ℕ) → (i < j → ⊥) → (j < i → ⊥) → i ≡ j
+least_of i j a b = ⊎_elim (λ lt. absurd (a lt)) (λ le. ⊎_elim (λ lt. absurd (b lt)) (λ ge. omega (arith, le, ge)) (cases_lt j i)) (cases_lt i j)
+
+module _ (words : List ℕ) (A : List Entry) (c : Claim) (claim : IsClaim c) (nodes : List Node) where
+  rank_is : (j : ℕ) (x : Inst) → slice_get c.instances j ≡ Some x → rank_in c.instances x.key ≡ x.rank
+  rank_is j x e =
+      sym (rank_there c.instances x.key)
+      ∙ (ap (rank_at c.instances) (place_is c.instances x.key j (are_instances c claim) (record { inst = x; is = e; same = refl })) ∙ ap rank_of e)
+
+  need_is : (j : ℕ) (x : Inst) → slice_get c.instances j ≡ Some x → need_in c.instances x.key ≡ x.need
+  need_is j x e =
+      sym (need_there c.instances x.key)
+      ∙ (ap (need_at c.instances) (place_is c.instances x.key j (are_instances c claim) (record { inst = x; is = e; same = refl })) ∙ ap need_of e)
+
+  -- ---- a reason excludes the condition that it tells of
+
+  not_clean : (j cause : ℕ) → IsFirstFault words A nodes j cause → AreFaultless words A nodes → ⊥
+  not_clean j cause h clean = fault_counts words A h.node h.fault h.has (clean h.node (contains_at nodes j h.node h.is))
+
+  not_landed : (j : ℕ) (to : NodeKey) → IsFirstGap words A nodes j to → AllLand words A nodes → ⊥
+  not_landed j to h land = h.gap (land h.node h.edge (contains_at nodes j h.node h.is) h.from)
+
+  not_ranked : (j l : ℕ) → IsFirstRank words A c nodes j l → AreRanked words A c nodes → ⊥
+  not_ranked j l h ranks =
+      let e = h.enters in
+      let lt = ranks e.node e.way h.into.key e.back e.present e.enters in
+      omega (arith, lt, rank_is l h.into h.there, ap (rank_in c.instances) e.of, rank_is j h.from h.is, h.low)
+
+  not_enough : (j need : ℕ) → IsFirstNeed words A c nodes j need → NeedsSuffice words A c nodes → ⊥
+  not_enough j need h enough =
+      let le = h.least (need_in c.instances h.inst.key) (enough h.inst.key) in
+      omega (arith, le, need_is j h.inst h.is, h.low)
+
+  not_bound : (need : ℕ) → need ≡ need_in c.instances root_inst → c.bound < need → need_in c.instances root_inst ≤ c.bound → ⊥
+  not_bound need e low le = omega (arith, e, low, le)
+
+  -- ---- a reason's numbers are one
+
+  fault_before : (i j a b : ℕ) → IsFirstFault words A nodes i a → IsFirstFault words A nodes j b → i < j → ⊥
+  fault_before i j a b g h lt = fault_counts words A g.node g.fault g.has (h.earlier i g.node g.is lt)
+
+  one_fault : (i j a b : ℕ) → IsFirstFault words A nodes i a → IsFirstFault words A nodes j b → Rejected (reason.Node i a) ≡ Rejected (reason.Node j b)
+  one_fault i j a b g h =
+      let same : i ≡ j = least_of i j (fault_before i j a b g h) (fault_before j i b a h g) in
+      let node : g.node ≡ h.node = one_at nodes j g.node h.node (subst (λ k. slice_get nodes k ≡ Some g.node) same g.is) h.is in
+      let fault : g.fault ≡ h.fault = err_same (local words A h.node.key h.node.state) g.fault h.fault (subst (λ (n : Node). local words A n.key n.state ≡ Err g.fault) node g.has) h.has in
+      let cause : a ≡ b = sym g.which ∙ (ap cause_of fault ∙ h.which) in
+      ap (λ k. Rejected (reason.Node k a)) same ∙ ap (λ k. Rejected (reason.Node j k)) cause
+
+  gap_before : (i j : ℕ) (k l : NodeKey) → IsFirstGap words A nodes i k → IsFirstGap words A nodes j l → i < j → ⊥
+  gap_before i j k l g h lt = g.gap (h.earlier i g.node g.edge g.is lt g.from)
+
+  one_gap : (i j : ℕ) (k l : NodeKey) → IsFirstGap words A nodes i k → IsFirstGap words A nodes j l → Rejected (reason.Edge i k) ≡ Rejected (reason.Edge j l)
+  one_gap i j k l g h =
+      let same : i ≡ j = least_of i j (gap_before i j k l g h) (gap_before j i l k h g) in
+      let node : g.node ≡ h.node = one_at nodes j g.node h.node (subst (λ m. slice_get nodes m ≡ Some g.node) same g.is) h.is in
+      let key : k ≡ l = key_antisymmetric k l
+      (λ e. g.least h.edge (subst (λ n. IsEdge words A nodes n h.edge) (sym node) h.from) h.gap (ap (λ z. node_cmp k z) h.leads ∙ e))
+      (λ e. h.least g.edge (subst (λ n. IsEdge words A nodes n g.edge) node g.from) g.gap (ap (λ z. node_cmp l z) g.leads ∙ e)) in
+      ap (λ m. Rejected (reason.Edge m k)) same ∙ ap (λ m. Rejected (reason.Edge j m)) key
+
+  rank_before : (i j k l : ℕ) → IsFirstRank words A c nodes i k → IsFirstRank words A c nodes j l → i < j → ⊥
+  rank_before i j k l g h lt = let up = h.earlier i k g.from g.into g.is g.there lt g.enters in omega (arith, up, g.low)
+
+  one_rank : (i j k l : ℕ) → IsFirstRank words A c nodes i k → IsFirstRank words A c nodes j l → Rejected (reason.Rank i k) ≡ Rejected (reason.Rank j l)
+  one_rank i j k l g h =
+      let same : i ≡ j = least_of i j (rank_before i j k l g h) (rank_before j i l k h g) in
+      let from : g.from ≡ h.from = one_at c.instances j g.from h.from (subst (λ m. slice_get c.instances m ≡ Some g.from) same g.is) h.is in
+      let up = g.least l h.into h.there (subst (λ x. InstEnters words A nodes x h.into) (sym from) h.enters) (subst (λ (x : Inst). x.rank ≤ h.into.rank) (sym from) h.low) in
+      let down = h.least k g.into g.there (subst (λ x. InstEnters words A nodes x g.into) from g.enters) (subst (λ (x : Inst). x.rank ≤ g.into.rank) from g.low) in
+      let into : k ≡ l = omega (arith, up, down) in
+      ap (λ m. Rejected (reason.Rank m k)) same ∙ ap (λ m. Rejected (reason.Rank j m)) into
+
+  need_before : (i j k l : ℕ) → IsFirstNeed words A c nodes i k → IsFirstNeed words A c nodes j l → i < j → ⊥
+  need_before i j k l g h lt = let le = g.least g.inst.need (h.earlier i g.inst g.is lt) in omega (arith, le, g.low)
+
+  one_need : (i j k l : ℕ) → IsFirstNeed words A c nodes i k → IsFirstNeed words A c nodes j l → Rejected (reason.Need i k) ≡ Rejected (reason.Need j l)
+  one_need i j k l g h =
+      let same : i ≡ j = least_of i j (need_before i j k l g h) (need_before j i l k h g) in
+      let inst : g.inst ≡ h.inst = one_at c.instances j g.inst h.inst (subst (λ m. slice_get c.instances m ≡ Some g.inst) same g.is) h.is in
+      let up = g.least l (subst (λ (x : Inst). Suffices words A c nodes x.key l) (sym inst) h.enough) in
+      let down = h.least k (subst (λ (x : Inst). Suffices words A c nodes x.key k) inst g.enough) in
+      let need : k ≡ l = omega (arith, up, down) in
+      ap (λ m. Rejected (reason.Need m k)) same ∙ ap (λ m. Rejected (reason.Need j m)) need
+
+  one_bound : (a b : ℕ) → a ≡ need_in c.instances root_inst → b ≡ need_in c.instances root_inst → Rejected (reason.Bound a) ≡ Rejected (reason.Bound b)
+  one_bound a b e f = ap (λ m. Rejected (reason.Bound m)) (e ∙ sym f)
+
+  pub one_decided : (v w : Verdict) → Decides words A c nodes v → Decides words A c nodes w → v ≡ w
+  one_decided (Rejected reason.Root) (Rejected reason.Root) a b = refl
+  one_decided (Rejected reason.Root) (Rejected (reason.Node j' cause')) a b = absurd (a b.0)
+  one_decided (Rejected reason.Root) (Rejected (reason.Edge j' to')) a b = absurd (a b.0)
+  one_decided (Rejected reason.Root) (Rejected (reason.Rank j' l')) a b = absurd (a b.0)
+  one_decided (Rejected reason.Root) (Rejected (reason.Need j' need')) a b = absurd (a b.0)
+  one_decided (Rejected reason.Root) (Rejected (reason.Bound need')) a b = absurd (a b.0)
+  one_decided (Rejected reason.Root) (Rejected reason.Assumptions) a b = absurd (a b.0)
+  one_decided (Rejected reason.Root) (Accepted bound') a b = absurd (a b.0.reset)
+  one_decided (Rejected reason.Root) (Rejected (reason.Expansion at')) a b = absurd b
+  one_decided (Rejected (reason.Node j cause)) (Rejected reason.Root) a b = absurd (b a.0)
+  one_decided (Rejected (reason.Node j cause)) (Rejected (reason.Node j' cause')) a b = one_fault j j' cause cause' a.1 b.1
+  one_decided (Rejected (reason.Node j cause)) (Rejected (reason.Edge j' to')) a b = absurd (not_clean j cause a.1 b.1)
+  one_decided (Rejected (reason.Node j cause)) (Rejected (reason.Rank j' l')) a b = absurd (not_clean j cause a.1 b.1)
+  one_decided (Rejected (reason.Node j cause)) (Rejected (reason.Need j' need')) a b = absurd (not_clean j cause a.1 b.1)
+  one_decided (Rejected (reason.Node j cause)) (Rejected (reason.Bound need')) a b = absurd (not_clean j cause a.1 b.1)
+  one_decided (Rejected (reason.Node j cause)) (Rejected reason.Assumptions) a b = absurd (not_clean j cause a.1 b.1)
+  one_decided (Rejected (reason.Node j cause)) (Accepted bound') a b = absurd (not_clean j cause a.1 b.0.faultless)
+  one_decided (Rejected (reason.Node j cause)) (Rejected (reason.Expansion at')) a b = absurd b
+  one_decided (Rejected (reason.Edge j to)) (Rejected reason.Root) a b = absurd (b a.0)
+  one_decided (Rejected (reason.Edge j to)) (Rejected (reason.Node j' cause')) a b = absurd (not_clean j' cause' b.1 a.1)
+  one_decided (Rejected (reason.Edge j to)) (Rejected (reason.Edge j' to')) a b = one_gap j j' to to' a.2 b.2
+  one_decided (Rejected (reason.Edge j to)) (Rejected (reason.Rank j' l')) a b = absurd (not_landed j to a.2 b.2)
+  one_decided (Rejected (reason.Edge j to)) (Rejected (reason.Need j' need')) a b = absurd (not_landed j to a.2 b.2)
+  one_decided (Rejected (reason.Edge j to)) (Rejected (reason.Bound need')) a b = absurd (not_landed j to a.2 b.2)
+  one_decided (Rejected (reason.Edge j to)) (Rejected reason.Assumptions) a b = absurd (not_landed j to a.2 b.2)
+  one_decided (Rejected (reason.Edge j to)) (Accepted bound') a b = absurd (not_landed j to a.2 b.0.edges)
+  one_decided (Rejected (reason.Edge j to)) (Rejected (reason.Expansion at')) a b = absurd b
+  one_decided (Rejected (reason.Rank j l)) (Rejected reason.Root) a b = absurd (b a.0)
+  one_decided (Rejected (reason.Rank j l)) (Rejected (reason.Node j' cause')) a b = absurd (not_clean j' cause' b.1 a.1)
+  one_decided (Rejected (reason.Rank j l)) (Rejected (reason.Edge j' to')) a b = absurd (not_landed j' to' b.2 a.2)
+  one_decided (Rejected (reason.Rank j l)) (Rejected (reason.Rank j' l')) a b = one_rank j j' l l' a.3 b.3
+  one_decided (Rejected (reason.Rank j l)) (Rejected (reason.Need j' need')) a b = absurd (not_ranked j l a.3 b.3)
+  one_decided (Rejected (reason.Rank j l)) (Rejected (reason.Bound need')) a b = absurd (not_ranked j l a.3 b.3)
+  one_decided (Rejected (reason.Rank j l)) (Rejected reason.Assumptions) a b = absurd (not_ranked j l a.3 b.3)
+  one_decided (Rejected (reason.Rank j l)) (Accepted bound') a b = absurd (not_ranked j l a.3 b.0.ranks)
+  one_decided (Rejected (reason.Rank j l)) (Rejected (reason.Expansion at')) a b = absurd b
+  one_decided (Rejected (reason.Need j need)) (Rejected reason.Root) a b = absurd (b a.0)
+  one_decided (Rejected (reason.Need j need)) (Rejected (reason.Node j' cause')) a b = absurd (not_clean j' cause' b.1 a.1)
+  one_decided (Rejected (reason.Need j need)) (Rejected (reason.Edge j' to')) a b = absurd (not_landed j' to' b.2 a.2)
+  one_decided (Rejected (reason.Need j need)) (Rejected (reason.Rank j' l')) a b = absurd (not_ranked j' l' b.3 a.3)
+  one_decided (Rejected (reason.Need j need)) (Rejected (reason.Need j' need')) a b = one_need j j' need need' a.4 b.4
+  one_decided (Rejected (reason.Need j need)) (Rejected (reason.Bound need')) a b = absurd (not_enough j need a.4 b.4)
+  one_decided (Rejected (reason.Need j need)) (Rejected reason.Assumptions) a b = absurd (not_enough j need a.4 b.4)
+  one_decided (Rejected (reason.Need j need)) (Accepted bound') a b = absurd (not_enough j need a.4 b.0.needs)
+  one_decided (Rejected (reason.Need j need)) (Rejected (reason.Expansion at')) a b = absurd b
+  one_decided (Rejected (reason.Bound need)) (Rejected reason.Root) a b = absurd (b a.0)
+  one_decided (Rejected (reason.Bound need)) (Rejected (reason.Node j' cause')) a b = absurd (not_clean j' cause' b.1 a.1)
+  one_decided (Rejected (reason.Bound need)) (Rejected (reason.Edge j' to')) a b = absurd (not_landed j' to' b.2 a.2)
+  one_decided (Rejected (reason.Bound need)) (Rejected (reason.Rank j' l')) a b = absurd (not_ranked j' l' b.3 a.3)
+  one_decided (Rejected (reason.Bound need)) (Rejected (reason.Need j' need')) a b = absurd (not_enough j' need' b.4 a.4)
+  one_decided (Rejected (reason.Bound need)) (Rejected (reason.Bound need')) a b = one_bound need need' a.5 b.5
+  one_decided (Rejected (reason.Bound need)) (Rejected reason.Assumptions) a b = absurd (not_bound need a.5 a.6 b.5)
+  one_decided (Rejected (reason.Bound need)) (Accepted bound') a b = absurd (not_bound need a.5 a.6 b.0.bounded)
+  one_decided (Rejected (reason.Bound need)) (Rejected (reason.Expansion at')) a b = absurd b
+  one_decided (Rejected reason.Assumptions) (Rejected reason.Root) a b = absurd (b a.0)
+  one_decided (Rejected reason.Assumptions) (Rejected (reason.Node j' cause')) a b = absurd (not_clean j' cause' b.1 a.1)
+  one_decided (Rejected reason.Assumptions) (Rejected (reason.Edge j' to')) a b = absurd (not_landed j' to' b.2 a.2)
+  one_decided (Rejected reason.Assumptions) (Rejected (reason.Rank j' l')) a b = absurd (not_ranked j' l' b.3 a.3)
+  one_decided (Rejected reason.Assumptions) (Rejected (reason.Need j' need')) a b = absurd (not_enough j' need' b.4 a.4)
+  one_decided (Rejected reason.Assumptions) (Rejected (reason.Bound need')) a b = absurd (not_bound need' b.5 b.6 a.5)
+  one_decided (Rejected reason.Assumptions) (Rejected reason.Assumptions) a b = refl
+  one_decided (Rejected reason.Assumptions) (Accepted bound') a b = absurd (a.6 b.0.assumptions)
+  one_decided (Rejected reason.Assumptions) (Rejected (reason.Expansion at')) a b = absurd b
+  one_decided (Accepted bound) (Rejected reason.Root) a b = absurd (b a.0.reset)
+  one_decided (Accepted bound) (Rejected (reason.Node j' cause')) a b = absurd (not_clean j' cause' b.1 a.0.faultless)
+  one_decided (Accepted bound) (Rejected (reason.Edge j' to')) a b = absurd (not_landed j' to' b.2 a.0.edges)
+  one_decided (Accepted bound) (Rejected (reason.Rank j' l')) a b = absurd (not_ranked j' l' b.3 a.0.ranks)
+  one_decided (Accepted bound) (Rejected (reason.Need j' need')) a b = absurd (not_enough j' need' b.4 a.0.needs)
+  one_decided (Accepted bound) (Rejected (reason.Bound need')) a b = absurd (not_bound need' b.5 b.6 a.0.bounded)
+  one_decided (Accepted bound) (Rejected reason.Assumptions) a b = absurd (b.6 a.0.assumptions)
+  one_decided (Accepted bound) (Accepted bound') a b = ap (λ m. Accepted m) (a.1 ∙ sym b.1)
+  one_decided (Accepted bound) (Rejected (reason.Expansion at')) a b = absurd b
+  one_decided (Rejected (reason.Expansion at)) (Rejected reason.Root) a b = absurd a
+  one_decided (Rejected (reason.Expansion at)) (Rejected (reason.Node j' cause')) a b = absurd a
+  one_decided (Rejected (reason.Expansion at)) (Rejected (reason.Edge j' to')) a b = absurd a
+  one_decided (Rejected (reason.Expansion at)) (Rejected (reason.Rank j' l')) a b = absurd a
+  one_decided (Rejected (reason.Expansion at)) (Rejected (reason.Need j' need')) a b = absurd a
+  one_decided (Rejected (reason.Expansion at)) (Rejected (reason.Bound need')) a b = absurd a
+  one_decided (Rejected (reason.Expansion at)) (Rejected reason.Assumptions) a b = absurd a
+  one_decided (Rejected (reason.Expansion at)) (Accepted bound') a b = absurd a
+  one_decided (Rejected (reason.Expansion at)) (Rejected (reason.Expansion at')) a b = absurd a
+
+-- ---- the whole
+
+-- either a node has no expansion, or the verdict is on the nodes with their states
+pub record IsOnNodes (words : List ℕ) (A : List Entry) (c : Claim) (v : Verdict) : Type 0 where
+  pub nodes : List Node
+  pub filled : IsFilled words A c.nodes nodes
+  pub decides : Decides words A c nodes v
+
+abbrev pub IsOnMissing : List ℕ → List Entry → Claim → Verdict → Type 0
+IsOnMissing words A c v = (at : ℕ) × ((v ≡ Rejected (reason.Expansion at)) × IsMissing words A c.nodes at)
+
+on_rejected : (words : List ℕ) (A : List Entry) (c : Claim) (r : Reason) → IsRejected words A c r → IsOnMissing words A c (Rejected r) ⊎ IsOnNodes words A c (Rejected r)
+on_rejected words A c r h = inr (record { nodes = h.nodes; filled = h.expanded; decides = h.why })
+
+pub split : (words : List ℕ) (A : List Entry) (c : Claim) (v : Verdict) → IsVerdict words A c v → IsOnMissing words A c v ⊎ IsOnNodes words A c v
+split words A c (Accepted bound) h = inr (record { nodes = h.0.nodes; filled = h.0.expanded; decides = (h.0.meets, h.1) })
+split words A c (Rejected (reason.Expansion at)) h = inl (at, (refl, h))
+split words A c (Rejected reason.Root) h = on_rejected words A c reason.Root h
+split words A c (Rejected (reason.Node j cause)) h = on_rejected words A c (reason.Node j cause) h
+split words A c (Rejected (reason.Edge j to)) h = on_rejected words A c (reason.Edge j to) h
+split words A c (Rejected (reason.Rank j l)) h = on_rejected words A c (reason.Rank j l) h
+split words A c (Rejected (reason.Need j need)) h = on_rejected words A c (reason.Need j need) h
+split words A c (Rejected (reason.Bound need)) h = on_rejected words A c (reason.Bound need) h
+split words A c (Rejected reason.Assumptions) h = on_rejected words A c reason.Assumptions h
+
+pub joined : (words : List ℕ) (A : List Entry) (c : Claim) (nodes : List Node) (v : Verdict) → IsFilled words A c.nodes nodes → Decides words A c nodes v
+    → IsVerdict words A c v
+joined words A c nodes (Accepted bound) f h = (record { nodes = nodes; expanded = f; meets = h.0 }, h.1)
+joined words A c nodes (Rejected (reason.Expansion at)) f h = absurd h
+joined words A c nodes (Rejected reason.Root) f h = record { nodes = nodes; expanded = f; why = h }
+joined words A c nodes (Rejected (reason.Node j cause)) f h = record { nodes = nodes; expanded = f; why = h }
+joined words A c nodes (Rejected (reason.Edge j to)) f h = record { nodes = nodes; expanded = f; why = h }
+joined words A c nodes (Rejected (reason.Rank j l)) f h = record { nodes = nodes; expanded = f; why = h }
+joined words A c nodes (Rejected (reason.Need j need)) f h = record { nodes = nodes; expanded = f; why = h }
+joined words A c nodes (Rejected (reason.Bound need)) f h = record { nodes = nodes; expanded = f; why = h }
+joined words A c nodes (Rejected reason.Assumptions) f h = record { nodes = nodes; expanded = f; why = h }
+
+pub verdicts_are_one : VerdictsAreOne
+verdicts_are_one words A c v w claim a b =
+    ⊎_elim
+    (λ m. ⊎_elim
+    (λ n. m.1.0 ∙ (ap (λ at. Rejected (reason.Expansion at)) (filled_or_missing.least words A c.nodes m.0 n.0 m.1.1 n.1.1) ∙ sym n.1.0))
+    (λ f. absurd (filled_or_missing.apart words A c.nodes f.nodes m.0 f.filled m.1.1)) (split words A c w b))
+    (λ f. ⊎_elim
+    (λ n. absurd (filled_or_missing.apart words A c.nodes f.nodes n.0 f.filled n.1.1))
+    (λ g. one_decided words A c claim f.nodes v w f.decides
+    (subst (λ nodes. Decides words A c nodes w) (filled_or_missing.one words A c.nodes g.nodes f.nodes g.filled f.filled) g.decides)) (split words A c w b))
+    (split words A c v a)
+
+pub sound_certificates_bound_every_run : SoundCertificatesBoundEveryRun
+sound_certificates_bound_every_run words A c have claim sound =
+    sound_families_bound_every_run words A (family_of c sound.nodes) have (conditions_make_families_sound words A c sound.nodes claim sound.expanded sound.meets)
+
+-- ---- what an exact verdict says
+
+pub accepts : (words : List ℕ) (A : List Entry) (c : Claim) (v : Verdict) → IsClaim c → IsVerdict words A c v → (b : ℕ)
+    → (v ≡ Accepted b) ↔ (IsSound words A c × (b ≡ c.bound))
+accepts words A c v claim h b = (
+  λ e. subst (IsVerdict words A c) e h,
+  λ s. verdicts_are_one words A c v (Accepted b) claim h s,
+)
+
+pub rejects : (words : List ℕ) (A : List Entry) (c : Claim) (v : Verdict) → IsClaim c → IsVerdict words A c v → (r : Reason)
+    → (v ≡ Rejected r) ↔ IsReason words A c r
+rejects words A c v claim h r = (
+  λ e. subst (IsVerdict words A c) e h,
+  λ s. verdicts_are_one words A c v (Rejected r) claim h s,
+)
+
+pub bounds : (words : List ℕ) (A : List Entry) (c : Claim) (v : Verdict) (b : ℕ) → AreWords words → IsClaim c → IsVerdict words A c v → v ≡ Accepted b
+    → Bounded words A b
+bounds words A c v b have claim h e =
+    let s = (accepts words A c v claim h b).0 e in
+    subst (Bounded words A) (sym s.1) (sound_certificates_bound_every_run words A c have claim s.0)

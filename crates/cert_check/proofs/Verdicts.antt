@@ -1,0 +1,82 @@
+-- What the parts of a verdict rest on.
+use Rattle.std.proofs.Common.{◌≡◌, sym, ap, ◌∙◌, subst, ℕ, zero, suc, ◌<◌, ◌≤◌, List, [], ◌∷◌, length, Some, Result, Ok, Err, slice_get, IfOk, arith}
+use Rattle.std.specs.List.{AllByRecursion}
+use Rattle.std.proofs.lemmas.Option.{none-some, same_Some, slice_get_within}
+use Rattle.avr_model.specs.declared.assumption.Entry.{Entry}
+use Rattle.abs_state.specs.declared.state.AbsState.{AbsState}
+use Rattle.abs_state.specs.Values.{root}
+use Rattle.mask_states.specs.declared.keys.InstKey.{InstKey}
+use Rattle.mask_states.specs.declared.keys.NodeKey.{NodeKey}
+use Rattle.mask_states.specs.Keys.{root_inst, entry_key}
+use Rattle.local_rules.specs.declared.local.Node.{Node}
+use Rattle.local_rules.specs.declared.local.NodeFault.{NodeFault}
+use Rattle.local_rules.specs.Cover.{IsNode}
+use Rattle.local_rules.specs.Faults.{cause_of}
+use Rattle.edge_rules.specs.declared.seeded.NodeForm.{NodeForm}
+use Rattle.edge_rules.specs.Expansion.{Seeds, IsFilled}
+use Rattle.edge_rules.specs.Families.{IsCovered}
+use Rattle.edge_laws.proofs.AllLaws.{edges_lead_to_nodes}
+use Rattle.call_graph.specs.Exits.{IsFirstFault as HasFirstFault}
+use Rattle.certificate.specs.declared.instance.Inst.{Inst}
+use Rattle.certificate.specs.Claims.{Claim, IsClaim, Belongs, node_keys}
+use Rattle.certificate.specs.Valid.{reset_node}
+use Rattle.cert_check.specs.declared.demand.Demand.{Demand}
+use Rattle.cert_check.specs.Verdict.{IsFirstFault}
+use Rattle.cert_check.specs.Working.{AllBelong, AreInside, IsLeast, MeetsRank, LowRank, PairBelow, MeetsNeed, LowNeed, NumberBelow}
+use Rattle.cert_check.proofs.Lists.{place_of}
+
+pub if_ok : {X E : Type 0} (P Q : X → Type 0) (r : Result X E) → ((x : X) → P x → Q x) → IfOk r P → IfOk r Q
+if_ok P Q (Ok x) f h = f x h
+if_ok P Q (Err e) f h = h
+
+-- ---- numbers fit
+
+pub inst_fits : (insts : List Inst) (demands : List Demand) (j l : ℕ) → length insts ≤ 65536 → AreInside insts demands
+    → IsLeast (MeetsRank insts) (LowRank insts) PairBelow demands (Some (j, l)) → (j < 65536) × (l < 65536)
+inst_fits insts demands j l few inside h =
+    let in_list = inside h.0.0 h.0.1.0 in
+    let up = in_list.1 l h.0.1.1.1 in
+    (omega (arith, in_list.0, few, h.0.1.1.0), omega (arith, up, few))
+
+pub need_fits : (insts : List Inst) (demands : List Demand) (j : ℕ) → length insts ≤ 65536 → AreInside insts demands
+    → IsLeast (MeetsNeed insts) (LowNeed insts) NumberBelow demands (Some j) → j < 65536
+need_fits insts demands j few inside h =
+    let in_list = inside h.0.0 h.0.1.0 in
+    omega (arith, in_list.0, few, h.0.1.1.0)
+
+module _ (words : List ℕ) (A : List Entry) (c : Claim) (nodes : List Node) (claim : IsClaim c) (filled : IsFilled words A c.nodes nodes) where
+  pub node_fits : (j : ℕ) (n : Node) → slice_get nodes j ≡ Some n → j < 65536
+  node_fits j n e = let lt = slice_get_within nodes j n e in omega (arith, lt, filled.count, claim.few_nodes)
+
+  key_at : (P : NodeKey → Type 0) (es : Seeds) (j : ℕ) (k : NodeKey) (form : NodeForm) → AllByRecursion P (node_keys es) → slice_get es j ≡ Some (k, form) → P k
+  key_at P [] j k form h e = absurd (none-some (k, form) e)
+  key_at P (x ∷ xs) zero k form h e = subst (λ (y : NodeKey × NodeForm). P y.0) (same_Some x (k, form) e) h.0
+  key_at P (x ∷ xs) (suc j) k form h e = key_at P xs j k form h.1 e
+
+  pub nodes_belong : AllBelong c.instances nodes
+  nodes_belong n h =
+      let w = place_of nodes n h in
+      let e = filled.keys w.0 n w.1 in
+      key_at (Belongs c.instances) c.nodes w.0 n.key e.0 claim.nodes_belong e.1
+
+-- ---- the node at reset
+
+pub reset_is_node : (i : InstKey) (k : NodeKey) (s : AbsState) → i ≡ root_inst → k ≡ entry_key i → s ≡ root → IsNode k s
+reset_is_node i k s ei ek es =
+    subst (IsNode k) (sym es) (subst (λ x. IsNode x root) (sym (ek ∙ ap entry_key ei)) edges_lead_to_nodes.reset)
+
+pub reset_is_covered : (nodes : List Node) (i : InstKey) (k : NodeKey) (s : AbsState) → i ≡ root_inst → k ≡ entry_key i → s ≡ root
+    → IsCovered nodes (record { key = k; state = s }) → IsCovered nodes reset_node
+reset_is_covered nodes i k s ei ek es h =
+    subst (λ x. IsCovered nodes (record { key = x; state = root })) (ek ∙ ap entry_key ei) (subst (λ t. IsCovered nodes (record { key = k; state = t })) es h)
+
+pub first_fault : (words : List ℕ) (A : List Entry) (nodes : List Node) (j cause : ℕ) (f : NodeFault) → HasFirstFault words A nodes j f → cause ≡ cause_of f
+    → IsFirstFault words A nodes j cause
+first_fault words A nodes j cause f h e = record {
+  node = h.node;
+  is = h.present;
+  fault = f;
+  has = h.fault;
+  which = sym e;
+  earlier = λ i n is lt. h.before i n lt is;
+}

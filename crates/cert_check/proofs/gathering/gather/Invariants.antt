@@ -1,0 +1,5 @@
+use Rattle.cert_check.specs.Working.{IsMidway}
+use Rattle.cert_check.proofs.gathering.gather.Given as goal
+
+abbrev pub invariant-loop-at : goal.invariant-loop-at
+invariant-loop-at l = IsMidway l.flash l.assumptions l.instances l.nodes l.at l.demands.items

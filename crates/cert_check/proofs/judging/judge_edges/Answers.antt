@@ -1,0 +1,53 @@
+use Rattle.std.proofs.Common.{sym, subst, arith}
+use Rattle.certificate.specs.Valid.{AllLand, reset_node}
+use Rattle.cert_check.specs.declared.gathering.Found.TheVariants.{All}
+use Rattle.cert_check.specs.Verdict.{IsFirstGap}
+use Rattle.cert_check.specs.Working.{AllBelong, AreDemands, AreInside, IsFound, IsWeighed}
+use Rattle.cert_check.proofs.Demands.{landed_belongs, all_inside}
+use Rattle.cert_check.proofs.Asking.{decided}
+use Rattle.cert_check.proofs.One.{are_instances}
+use Rattle.cert_check.proofs.Verdicts.{nodes_belong, node_fits}
+use Rattle.cert_check.proofs.judging.judge_edges.Goals as goal
+
+pub gather-requires-clause-belong : goal.gather-requires-clause-belong
+gather-requires-clause-belong c =
+    subst (λ i. AllBelong i c.args.nodes.now) (sym c.instances.ensures)
+    (nodes_belong c.args.flash.now c.args.assumptions.now c.args.certificate.now c.args.nodes.now c.requires.claim c.requires.filled)
+
+pub overflow_cast-result : goal.overflow_cast-result
+overflow_cast-result c =
+    let gap : IsFirstGap c.args.flash.now c.args.assumptions.now c.args.nodes.now c.in-Gap.at c.in-Gap.to =
+    subst (IsFound c.args.flash.now c.args.assumptions.now c.instances.result.now c.args.nodes.now) c.in-Gap.is c.in_ok-at.ensures in
+    let fits = node_fits c.args.flash.now c.args.assumptions.now c.args.certificate.now c.args.nodes.now c.requires.claim c.requires.filled c.in-Gap.at gap.node gap.is in
+    omega (arith, fits)
+
+pub weigh-requires-clause-inside : goal.weigh-requires-clause-inside
+weigh-requires-clause-inside c =
+    let words = c.args.flash.now in
+    let A = c.args.assumptions.now in
+    let claim = c.args.certificate.now in
+    let nodes = c.args.nodes.now in
+    let belong = nodes_belong words A claim nodes c.requires.claim c.requires.filled in
+    let found : AllLand words A nodes × AreDemands words A claim.instances nodes c.in-All.demands.items =
+    subst (λ i. IsFound words A i nodes (All c.in-All.demands)) c.instances.ensures
+    (subst (IsFound words A c.instances.result.now nodes) c.in-All.is c.in_ok-at.ensures) in
+    subst (AreInside claim.instances) (sym c.deref.ensures.value)
+    (all_inside words A claim.instances nodes (are_instances claim c.requires.claim) belong found.0 c.in-All.demands.items found.1)
+
+pub weigh-requires-clause-root : goal.weigh-requires-clause-root
+weigh-requires-clause-root c =
+    landed_belongs c.args.certificate.now.instances c.args.nodes.now reset_node
+    (nodes_belong c.args.flash.now c.args.assumptions.now c.args.certificate.now c.args.nodes.now c.requires.claim c.requires.filled) c.requires.reset
+
+pub returns-in-All : goal.returns-in-All
+returns-in-All c =
+    let words = c.args.flash.now in
+    let A = c.args.assumptions.now in
+    let claim = c.args.certificate.now in
+    let nodes = c.args.nodes.now in
+    let belong = nodes_belong words A claim nodes c.requires.claim c.requires.filled in
+    let found : AllLand words A nodes × AreDemands words A claim.instances nodes c.in-All.demands.items =
+    subst (λ i. IsFound words A i nodes (All c.in-All.demands)) c.instances.ensures
+    (subst (IsFound words A c.instances.result.now nodes) c.in-All.is c.in_ok-at.ensures) in
+    decided words A claim nodes (are_instances claim c.requires.claim) belong found.0 c.in-All.demands.items found.1 c.requires.reset c.requires.taken.faultless
+    c.weigh.result (subst (λ ds. IsWeighed claim A ds c.weigh.result) c.deref.ensures.value c.weigh.ensures)

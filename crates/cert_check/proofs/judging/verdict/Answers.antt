@@ -1,0 +1,5 @@
+use Rattle.certificate.proofs.Sound.{claims_are_seeds}
+use Rattle.cert_check.proofs.judging.verdict.Goals as goal
+
+pub expand-requires-clause-seeds : goal.expand-requires-clause-seeds
+expand-requires-clause-seeds c = claims_are_seeds c.args.certificate.now c.requires

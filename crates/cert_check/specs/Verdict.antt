@@ -1,0 +1,113 @@
+-- What is said of a certificate but for its schedule: acceptance, or the least reason against it with its least numbers. Source: own.
+use Rattle.std.specs.Prelude.{ℕ, ◌≡◌, ◌≢◌, ◌<◌, ◌≤◌, List, Contains, Some, Err}
+use Rattle.std.specs.List.{slice_get}
+use Rattle.std.specs.declared.cmp.Ordering.TheVariants.{Greater}
+use Rattle.avr_model.specs.declared.assumption.Entry.{Entry}
+use Rattle.mask_states.specs.declared.keys.EdgeKind.{EdgeKind}
+use Rattle.mask_states.specs.declared.keys.NodeKey.{NodeKey}
+use Rattle.mask_states.specs.Keys.{root_inst}
+use Rattle.mask_states.specs.Order.{node_cmp}
+use Rattle.local_rules.specs.declared.local.Node.{Node}
+use Rattle.local_rules.specs.declared.local.NodeFault.{NodeFault}
+use Rattle.local_rules.specs.Faults.{cause_of}
+use Rattle.local_rules.specs.Local.{local}
+use Rattle.edge_rules.specs.declared.edge.Edge.{Edge}
+use Rattle.edge_rules.specs.Edges.{IsFaultless, Enters, IsEdge, target}
+use Rattle.edge_rules.specs.Expansion.{IsFilled, IsMissing}
+use Rattle.edge_rules.specs.Families.{IsCovered}
+use Rattle.certificate.specs.declared.instance.Inst.{Inst}
+use Rattle.certificate.specs.Insts.{need_in}
+use Rattle.certificate.specs.Claims.{Claim}
+use Rattle.certificate.specs.Valid.{reset_node, AreFaultless, AllLand, AreRanked, Suffices, NeedsSuffice, IsSound}
+use Rattle.cert_check.specs.declared.verdict.Reason.{Reason}
+use Rattle.cert_check.specs.declared.verdict.Reason.TheVariants as reason
+use Rattle.cert_check.specs.declared.verdict.Verdict.{Verdict}
+use Rattle.cert_check.specs.declared.verdict.Verdict.TheVariants.{Accepted, Rejected}
+
+-- node j has a fault of this cause, and no earlier node has one
+pub record IsFirstFault (words : List ℕ) (A : List Entry) (nodes : List Node) (j cause : ℕ) : Type 0 where
+  pub node : Node
+  pub is : slice_get nodes j ≡ Some node
+  pub fault : NodeFault
+  pub has : local words A node.key node.state ≡ Err fault
+  pub which : cause_of fault ≡ cause
+  pub earlier : (i : ℕ) (n : Node) → slice_get nodes i ≡ Some n → i < j → IsFaultless words A n
+
+-- no node has the key with a state at least that of the edge
+abbrev pub IsGap : List Node → Edge → Type 0
+IsGap nodes e = IsCovered nodes (target e) → ⊥
+
+-- Node j has an edge to this key that doesn't land, and none to a lesser key; all edges of earlier nodes land.
+pub record IsFirstGap (words : List ℕ) (A : List Entry) (nodes : List Node) (j : ℕ) (to : NodeKey) : Type 0 where
+  pub node : Node
+  pub is : slice_get nodes j ≡ Some node
+  pub edge : Edge
+  pub from : IsEdge words A nodes node edge
+  pub leads : edge.to ≡ to
+  pub gap : IsGap nodes edge
+  pub least : (e : Edge) → IsEdge words A nodes node e → IsGap nodes e → node_cmp to e.to ≢ Greater
+  pub earlier : (i : ℕ) (n : Node) (e : Edge) → slice_get nodes i ≡ Some n → i < j → IsEdge words A nodes n e → IsCovered nodes (target e)
+
+-- instance x has a node that enters instance y
+pub record InstEnters (words : List ℕ) (A : List Entry) (nodes : List Node) (x y : Inst) : Type 0 where
+  pub node : Node
+  pub present : Contains nodes node
+  pub of : node.key.inst ≡ x.key
+  pub way : EdgeKind
+  pub back : ℕ
+  pub enters : Enters words A node way y.key back
+
+-- Instance j enters instance l, and its rank isn't above that one's; of those that j enters so l is the least, and the ranks of all earlier
+-- instances are above those of what they enter.
+pub record IsFirstRank (words : List ℕ) (A : List Entry) (c : Claim) (nodes : List Node) (j l : ℕ) : Type 0 where
+  pub from : Inst
+  pub into : Inst
+  pub is : slice_get c.instances j ≡ Some from
+  pub there : slice_get c.instances l ≡ Some into
+  pub enters : InstEnters words A nodes from into
+  pub low : from.rank ≤ into.rank
+  pub least : (m : ℕ) (y : Inst) → slice_get c.instances m ≡ Some y → InstEnters words A nodes from y → from.rank ≤ y.rank → l ≤ m
+  pub earlier : (i m : ℕ) (x y : Inst) → slice_get c.instances i ≡ Some x → slice_get c.instances m ≡ Some y → i < j → InstEnters words A nodes x y
+      → y.rank < x.rank
+
+-- The need of instance j is below this number, the least that suffices for it; the needs of all earlier instances suffice.
+pub record IsFirstNeed (words : List ℕ) (A : List Entry) (c : Claim) (nodes : List Node) (j need : ℕ) : Type 0 where
+  pub inst : Inst
+  pub is : slice_get c.instances j ≡ Some inst
+  pub enough : Suffices words A c nodes inst.key need
+  pub least : (n : ℕ) → Suffices words A c nodes inst.key n → need ≤ n
+  pub low : inst.need < need
+  pub earlier : (i : ℕ) (x : Inst) → slice_get c.instances i ≡ Some x → i < j → Suffices words A c nodes x.key x.need
+
+-- A reason holds of the nodes with their states, none before it does, and its numbers are the least.
+abbrev pub IsLeastReason : List ℕ → List Entry → Claim → List Node → Reason → Type 0
+IsLeastReason words A c nodes (reason.Expansion at) = ⊥
+IsLeastReason words A c nodes reason.Root = IsCovered nodes reset_node → ⊥
+IsLeastReason words A c nodes (reason.Node j cause) = IsCovered nodes reset_node × IsFirstFault words A nodes j cause
+IsLeastReason words A c nodes (reason.Edge j to) = IsCovered nodes reset_node × AreFaultless words A nodes × IsFirstGap words A nodes j to
+IsLeastReason words A c nodes (reason.Rank j l) =
+    IsCovered nodes reset_node × AreFaultless words A nodes × AllLand words A nodes × IsFirstRank words A c nodes j l
+IsLeastReason words A c nodes (reason.Need j need) =
+    IsCovered nodes reset_node × AreFaultless words A nodes × AllLand words A nodes × AreRanked words A c nodes × IsFirstNeed words A c nodes j need
+IsLeastReason words A c nodes (reason.Bound need) =
+    IsCovered nodes reset_node × AreFaultless words A nodes × AllLand words A nodes × AreRanked words A c nodes × NeedsSuffice words A c nodes
+    × (need ≡ need_in c.instances root_inst) × (c.bound < need)
+IsLeastReason words A c nodes reason.Assumptions =
+    IsCovered nodes reset_node × AreFaultless words A nodes × AllLand words A nodes × AreRanked words A c nodes × NeedsSuffice words A c nodes
+    × (need_in c.instances root_inst ≤ c.bound) × (c.assumptions ≢ A)
+
+-- the reason holds of the nodes with their states
+pub record IsRejected (words : List ℕ) (A : List Entry) (c : Claim) (r : Reason) : Type 0 where
+  pub nodes : List Node
+  pub expanded : IsFilled words A c.nodes nodes
+  pub why : IsLeastReason words A c nodes r
+
+-- why a certificate is refused: a node without an expansion comes before all other reasons
+abbrev pub IsReason : List ℕ → List Entry → Claim → Reason → Type 0
+IsReason words A c (reason.Expansion at) = IsMissing words A c.nodes at
+IsReason words A c r = IsRejected words A c r
+
+-- The verdict: acceptance with the bound where all conditions but that on the schedule hold, else the reason.
+abbrev pub IsVerdict : List ℕ → List Entry → Claim → Verdict → Type 0
+IsVerdict words A c (Accepted bound) = IsSound words A c × (bound ≡ c.bound)
+IsVerdict words A c (Rejected r) = IsReason words A c r

@@ -1,0 +1,217 @@
+-- What is worked out on the way to a verdict.
+use Rattle.std.specs.Prelude.{ℕ, suc, ◌+◌, ◌≡◌, ◌≢◌, ◌<◌, ◌≤◌, ◌↔◌, ◌⊎◌, ◌==◌, ◌&&◌, ◌||◌, nat_lt, nat_le, Bool, true, false, if◌then◌else◌, List, [], ◌∷◌, ◌++◌, length, Option, Some, None, Contains}
+use Rattle.std.specs.List.{slice_get, flat_map, AllByRecursion}
+use Rattle.std.specs.List.Sorted.{IsStrictlySortedBy}
+use Rattle.std.specs.Ordering.{is_le}
+use Rattle.std.specs.declared.cmp.Ordering.TheVariants.{Greater}
+use Rattle.avr_model.specs.declared.assumption.Entry.{Entry}
+use Rattle.mask_states.specs.declared.keys.EdgeKind.{EdgeKind}
+use Rattle.mask_states.specs.declared.keys.EdgeKind.TheVariants as kind
+use Rattle.mask_states.specs.declared.keys.InstKey.{InstKey}
+use Rattle.mask_states.specs.declared.keys.NodeKey.{NodeKey}
+use Rattle.mask_states.specs.declared.keys.SpForm.{SpForm}
+use Rattle.mask_states.specs.declared.keys.SpForm.TheVariants.{Closed, Open}
+use Rattle.mask_states.specs.Keys.{root_inst, offset_of}
+use Rattle.mask_states.specs.Order.{inst_cmp, node_cmp, same_inst}
+use Rattle.local_rules.specs.declared.local.Node.{Node}
+use Rattle.local_rules.specs.Cover.{IsNode}
+use Rattle.edge_rules.specs.declared.edge.Edge.{Edge}
+use Rattle.edge_rules.specs.Edges.{Enters, IsEdge, target}
+use Rattle.edge_rules.specs.Families.{IsCovered}
+use Rattle.certificate.specs.declared.instance.Inst.{Inst}
+use Rattle.certificate.specs.Insts.{IsInst, inst_keys, need_in}
+use Rattle.certificate.specs.Claims.{Claim, most_instances}
+use Rattle.certificate.specs.Valid.{AllLand, MeetsConditions}
+use Rattle.cert_check.specs.declared.demand.Demand.{Demand}
+use Rattle.cert_check.specs.declared.gathering.Found.{Found}
+use Rattle.cert_check.specs.declared.gathering.Found.TheVariants.{Gap, All}
+use Rattle.cert_check.specs.declared.verdict.Reason.TheVariants as reason
+use Rattle.cert_check.specs.declared.verdict.Verdict.{Verdict}
+use Rattle.cert_check.specs.declared.verdict.Verdict.TheVariants.{Accepted, Rejected}
+use Rattle.cert_check.specs.Verdict.{IsGap, IsFirstGap, IsLeastReason}
+
+-- ---- the least of what the items of a list offer
+
+-- An item is clear, or it offers a key. All are clear; or this key is offered, and none that is offered is below it.
+abbrev pub IsLeast : {X K : Type 0} → (X → Type 0) → (X → K → Type 0) → (K → K → Type 0) → List X → Option K → Type 0
+IsLeast {X} {K} clear offers below xs None = (x : X) → Contains xs x → clear x
+IsLeast {X} {K} clear offers below xs (Some k) = ((x : X) × (Contains xs x × offers x k)) × ((x : X) (m : K) → Contains xs x → offers x m → below k m)
+
+-- what is least after one item more: the same where it is clear, else the lesser of that and the only one that it offers
+abbrev pub IsNoted : {X K : Type 0} → (X → Type 0) → (X → K → Type 0) → (Option K → K → K) → Option K → X → Option K → Type 0
+IsNoted {X} {K} clear offers lesser old x new =
+    (clear x × (new ≡ old)) ⊎ ((k : K) × (offers x k × ((m : K) → offers x m → m ≡ k) × (new ≡ Some (lesser old k))))
+
+-- ---- edges that don't land
+
+abbrev pub Lands : List Node → Edge → Type 0
+Lands nodes e = IsCovered nodes (target e)
+
+-- an edge that doesn't land offers its key
+abbrev pub GapAt : List Node → Edge → NodeKey → Type 0
+GapAt nodes e k = (e.to ≡ k) × IsGap nodes e
+
+abbrev pub KeyBelow : NodeKey → NodeKey → Type 0
+KeyBelow a b = node_cmp a b ≢ Greater
+
+abbrev pub lesser_key : Option NodeKey → NodeKey → NodeKey
+lesser_key None k = k
+lesser_key (Some b) k = if is_le (node_cmp b k) then b else k
+
+-- edges lead to nodes that the analysis works with
+abbrev pub AreTargets : List Edge → Type 0
+AreTargets edges = (e : Edge) → Contains edges e → IsNode e.to e.state
+
+-- ---- instances
+
+pub record AreInstances (insts : List Inst) : Type 0 where
+  pub fit : AllByRecursion IsInst insts
+  pub ascend : IsStrictlySortedBy inst_cmp (inst_keys insts)
+  pub few : length insts ≤ most_instances
+
+-- the number of the instance of a key
+abbrev pub place_in : List Inst → InstKey → ℕ
+place_in [] key = 0
+place_in (x ∷ xs) key = if same_inst x.key key then 0 else suc (place_in xs key)
+
+abbrev pub rank_of : Option Inst → ℕ
+rank_of None = 0
+rank_of (Some x) = x.rank
+
+abbrev pub need_of : Option Inst → ℕ
+need_of None = 0
+need_of (Some x) = x.need
+
+-- by the number of an instance
+abbrev pub rank_at : List Inst → ℕ → ℕ
+rank_at insts j = rank_of (slice_get insts j)
+
+abbrev pub need_at : List Inst → ℕ → ℕ
+need_at insts j = need_of (slice_get insts j)
+
+-- ---- what nodes ask of their instances
+
+-- an edge leads into another instance
+abbrev pub is_entry : EdgeKind → Bool
+is_entry kind.Local = false
+is_entry kind.Call = true
+is_entry (kind.Interrupt v clears) = true
+is_entry kind.Return = false
+
+abbrev pub offset_demand : ℕ → SpForm → List Demand
+offset_demand j (Closed offset) = record { inst = j; into = None; bytes = offset } ∷ []
+offset_demand j (Open offset high) = []
+
+abbrev pub entry_demand : List Inst → ℕ → ℕ → Edge → List Demand
+entry_demand insts j offset e =
+    if is_entry e.kind
+    then record { inst = j; into = Some (place_in insts e.to.inst); bytes = offset + 2 + need_at insts (place_in insts e.to.inst) } ∷ []
+    else []
+
+-- what a node of this key with these edges asks
+abbrev pub demands_of : List Inst → NodeKey → List Edge → List Demand
+demands_of insts k edges = offset_demand (place_in insts k.inst) k.sp ++ flat_map (entry_demand insts (place_in insts k.inst) (offset_of k.sp)) edges
+
+-- A node asks of its instance a closed offset; and of each way in that it has into another, a higher rank, and the offset with two bytes and
+-- what that one needs.
+pub data Asks (words : List ℕ) (A : List Entry) (insts : List Inst) (n : Node) : Demand → Type 0 where
+  offset : (o : ℕ) → n.key.sp ≡ Closed o → Asks words A insts n (record { inst = place_in insts n.key.inst; into = None; bytes = o })
+  entry : (way : EdgeKind) (inst : InstKey) (back : ℕ) → Enters words A n way inst back
+      → Asks words A insts n (record { inst = place_in insts n.key.inst; into = Some (place_in insts inst); bytes = offset_of n.key.sp + 2 + need_at insts (place_in insts inst) })
+
+-- some of these nodes asks this
+pub record IsAsked (words : List ℕ) (A : List Entry) (insts : List Inst) (nodes : List Node) (d : Demand) : Type 0 where
+  pub node : Node
+  pub present : Contains nodes node
+  pub asks : Asks words A insts node d
+
+abbrev pub AreDemands : List ℕ → List Entry → List Inst → List Node → List Demand → Type 0
+AreDemands words A insts nodes demands = (d : Demand) → Contains demands d ↔ IsAsked words A insts nodes d
+
+-- the instances of all nodes are there
+abbrev pub AllBelong : List Inst → List Node → Type 0
+AllBelong insts nodes = (n : Node) → Contains nodes n → Contains (inst_keys insts) n.key.inst
+
+-- all edges land, and these are the demands; else the first gap
+abbrev pub IsFound : List ℕ → List Entry → List Inst → List Node → Found → Type 0
+IsFound words A insts nodes (Gap j to) = IsFirstGap words A nodes j to
+IsFound words A insts nodes (All demands) = AllLand words A nodes × AreDemands words A insts nodes demands.items
+
+-- ---- which demands aren't met
+
+-- instances by their numbers, the entering one first
+abbrev pub Pair : Type 0
+Pair = ℕ × ℕ
+
+-- the rank of an instance is above that of one that it enters
+abbrev pub MeetsRank : List Inst → Demand → Type 0
+MeetsRank insts d = (l : ℕ) → d.into ≡ Some l → rank_at insts l < rank_at insts d.inst
+
+abbrev pub LowRank : List Inst → Demand → Pair → Type 0
+LowRank insts d p = (d.inst ≡ p.0) × (d.into ≡ Some p.1) × (rank_at insts p.0 ≤ rank_at insts p.1)
+
+abbrev pub PairBelow : Pair → Pair → Type 0
+PairBelow p q = (p.0 < q.0) ⊎ ((p.0 ≡ q.0) × (p.1 ≤ q.1))
+
+abbrev pub lesser_pair : Option Pair → Pair → Pair
+lesser_pair None p = p
+lesser_pair (Some q) p = if nat_lt q.0 p.0 || ((q.0 == p.0) && nat_le q.1 p.1) then q else p
+
+abbrev pub MeetsNeed : List Inst → Demand → Type 0
+MeetsNeed insts d = d.bytes ≤ need_at insts d.inst
+
+abbrev pub LowNeed : List Inst → Demand → ℕ → Type 0
+LowNeed insts d j = (d.inst ≡ j) × (need_at insts j < d.bytes)
+
+abbrev pub NumberBelow : ℕ → ℕ → Type 0
+NumberBelow i j = i ≤ j
+
+abbrev pub lesser_number : Option ℕ → ℕ → ℕ
+lesser_number None j = j
+lesser_number (Some i) j = if nat_le i j then i else j
+
+-- the most that is asked of an instance, and 0 where nothing is
+pub record IsMost (demands : List Demand) (j most : ℕ) : Type 0 where
+  pub above : (d : Demand) → Contains demands d → d.inst ≡ j → d.bytes ≤ most
+  pub attained : (most ≡ 0) ⊎ ((d : Demand) × (Contains demands d × (d.inst ≡ j) × (d.bytes ≡ most)))
+
+-- the most after one demand more
+abbrev pub more_asked : ℕ → ℕ → Demand → ℕ
+more_asked most j d = if (d.inst == j) && nat_lt most d.bytes then d.bytes else most
+
+-- the numbers of instances are below that of all
+abbrev pub IsInside : List Inst → Demand → Type 0
+IsInside insts d = (d.inst < length insts) × ((l : ℕ) → d.into ≡ Some l → l < length insts)
+
+abbrev pub AreInside : List Inst → List Demand → Type 0
+AreInside insts demands = (d : Demand) → Contains demands d → IsInside insts d
+
+abbrev pub RanksFall : List Inst → List Demand → Type 0
+RanksFall insts demands = (d : Demand) → Contains demands d → MeetsRank insts d
+
+abbrev pub AllMet : List Inst → List Demand → Type 0
+AllMet insts demands = (d : Demand) → Contains demands d → MeetsNeed insts d
+
+-- the verdict where all edges land and these are the demands
+abbrev pub IsWeighed : Claim → List Entry → List Demand → Verdict → Type 0
+IsWeighed c A demands (Accepted bound) =
+    RanksFall c.instances demands × AllMet c.instances demands × (need_in c.instances root_inst ≤ c.bound) × (c.assumptions ≡ A) × (bound ≡ c.bound)
+IsWeighed c A demands (Rejected (reason.Rank j l)) = IsLeast (MeetsRank c.instances) (LowRank c.instances) PairBelow demands (Some (j, l))
+IsWeighed c A demands (Rejected (reason.Need j need)) =
+    RanksFall c.instances demands × IsLeast (MeetsNeed c.instances) (LowNeed c.instances) NumberBelow demands (Some j) × IsMost demands j need
+IsWeighed c A demands (Rejected (reason.Bound need)) =
+    RanksFall c.instances demands × AllMet c.instances demands × (need ≡ need_in c.instances root_inst) × (c.bound < need)
+IsWeighed c A demands (Rejected reason.Assumptions) =
+    RanksFall c.instances demands × AllMet c.instances demands × (need_in c.instances root_inst ≤ c.bound) × (c.assumptions ≢ A)
+IsWeighed c A demands (Rejected r) = ⊥
+
+-- the verdict on the nodes with their states
+abbrev pub Decides : List ℕ → List Entry → Claim → List Node → Verdict → Type 0
+Decides words A c nodes (Accepted bound) = MeetsConditions words A c nodes × (bound ≡ c.bound)
+Decides words A c nodes (Rejected r) = IsLeastReason words A c nodes r
+
+-- all edges of the nodes below this number land, and what is listed is asked, and what those nodes ask is listed
+pub record IsMidway (words : List ℕ) (A : List Entry) (insts : List Inst) (nodes : List Node) (at : ℕ) (demands : List Demand) : Type 0 where
+  pub land : (i : ℕ) (n : Node) (e : Edge) → slice_get nodes i ≡ Some n → i < at → IsEdge words A nodes n e → IsCovered nodes (target e)
+  pub asked : (d : Demand) → Contains demands d → IsAsked words A insts nodes d
+  pub listed : (i : ℕ) (n : Node) (d : Demand) → slice_get nodes i ≡ Some n → i < at → Asks words A insts n d → Contains demands d

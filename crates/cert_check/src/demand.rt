@@ -1,0 +1,132 @@
+//! What nodes ask of their instances.
+
+ghost use Rattle.std.specs.Prelude.{ℕ, ◌≡◌, ◌≤◌, ◌<◌, ◌++◌, length, slice_get, Some, OnOk, Contains};
+ghost use Rattle.std.specs.List.{flat_map};
+ghost use Rattle.edge_rules.specs.declared.edge.Edge as edge_type;
+ghost use Rattle.certificate.specs.Insts.{inst_keys};
+ghost use Rattle.cert_check.specs.Working.{AreInstances, place_in, rank_at, need_at, is_entry, offset_demand, entry_demand, demands_of};
+
+use certificate::Inst;
+use edge_rules::Edge;
+use mask_states::{EdgeKind, InstKey, NodeKey, SpForm};
+use std::alloc::AllocError;
+
+// What a node asks of its instance, by the numbers of instances.
+#[derive(Clone, Copy)]
+pub(crate) struct Demand {
+    /// The node's instance.
+    pub inst: usize,
+    /// The instance that the node enters, whose rank must be lower; none for the node's own offset.
+    pub into: Option<usize>,
+    /// How many bytes the node's instance needs at least.
+    pub bytes: u32,
+}
+
+// The rank of the instance of this number.
+pub(crate) fn rank_at(instances: &[Inst], j: usize) -> u32
+    requires { j < length instances.now }
+    ensures { result ≡ rank_at instances.now j }
+{
+    instances[j].rank
+}
+
+// The need of the instance of this number.
+pub(crate) fn need_at(instances: &[Inst], j: usize) -> u32
+    requires there { j < length instances.now }
+    requires instances { AreInstances instances.now }
+    ensures value { result ≡ need_at instances.now j }
+    ensures small { result ≤ 2048 }
+{
+    instances[j].need
+}
+
+// The number of the instance of a key that is there.
+pub(crate) fn number_of(instances: &[Inst], key: &InstKey) -> usize
+    requires instances { AreInstances instances.now }
+    requires there { Contains (inst_keys instances.now) key.now }
+    ensures value { result ≡ place_in instances.now key.now }
+    ensures inside { result < length instances.now }
+{
+    instances.partition_point(|inst| inst.key.cmp(key).is_lt())
+}
+
+fn is_entry(kind: EdgeKind) -> bool
+    ensures { result ≡ is_entry kind }
+{
+    match kind {
+        EdgeKind::Call | EdgeKind::Interrupt(_, _) => true,
+        EdgeKind::Local | EdgeKind::Return => false,
+    }
+}
+
+// A closed offset.
+fn add_offset(demands: &mut Vec<Demand>, inst: usize, form: &SpForm) -> Result<(), AllocError>
+    ensures { OnOk result (demands.new.items ≡ demands.old.items ++ offset_demand inst form.now) }
+{
+    if let SpForm::Closed(offset) = *form {
+        demands.push(Demand {
+            inst,
+            into: None,
+            bytes: u32::from(offset),
+        })?;
+    }
+    Ok(())
+}
+
+// A way into another instance.
+fn add_entry(
+    demands: &mut Vec<Demand>,
+    instances: &[Inst],
+    inst: usize,
+    offset: u16,
+    edge: &Edge,
+) -> Result<(), AllocError>
+    requires instances { AreInstances instances.now }
+    requires there { Contains (inst_keys instances.now) edge.now.to.inst }
+    ensures { OnOk result (demands.new.items ≡ demands.old.items ++ entry_demand instances.now inst offset edge.now) }
+{
+    if is_entry(edge.kind) {
+        let into = number_of(instances, &edge.to.inst);
+        demands.push(Demand {
+            inst,
+            into: Some(into),
+            bytes: u32::from(offset) + 2 + need_at(instances, into),
+        })?;
+    }
+    Ok(())
+}
+
+// All ways into other instances.
+fn add_entries(
+    demands: &mut Vec<Demand>,
+    instances: &[Inst],
+    inst: usize,
+    offset: u16,
+    edges: &[Edge],
+) -> Result<(), AllocError>
+    requires instances { AreInstances instances.now }
+    requires there { (e : edge_type.Edge) → Contains edges.now e → Contains (inst_keys instances.now) e.to.inst }
+    ensures { OnOk result (demands.new.items ≡ demands.old.items ++ flat_map (entry_demand instances.now inst offset) edges.now) }
+{
+    for at in 0..edges.len() {
+        add_entry(demands, instances, inst, offset, &edges[at])?;
+    }
+    Ok(())
+}
+
+// What a node of this key with these edges asks.
+pub(crate) fn add_demands(
+    demands: &mut Vec<Demand>,
+    instances: &[Inst],
+    key: &NodeKey,
+    edges: &[Edge],
+) -> Result<(), AllocError>
+    requires instances { AreInstances instances.now }
+    requires own { Contains (inst_keys instances.now) key.now.inst }
+    requires there { (e : edge_type.Edge) → Contains edges.now e → Contains (inst_keys instances.now) e.to.inst }
+    ensures { OnOk result (demands.new.items ≡ demands.old.items ++ demands_of instances.now key.now edges.now) }
+{
+    let inst = number_of(instances, &key.inst);
+    add_offset(demands, inst, &key.sp)?;
+    add_entries(demands, instances, inst, key.offset(), edges)
+}

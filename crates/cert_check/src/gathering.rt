@@ -1,0 +1,48 @@
+//! One pass over all edges.
+
+ghost use Rattle.std.specs.Prelude.{IfOk};
+ghost use Rattle.call_graph.specs.Exits.{AreExits};
+ghost use Rattle.cert_check.specs.Working.{AreInstances, AllBelong, IsFound};
+
+use crate::demand::{Demand, add_demands};
+use crate::landing::gap_in;
+use call_graph::{Exits, Filled, View, next_with};
+use certificate::Inst;
+use flash_image::Flash;
+use mask_states::NodeKey;
+use std::alloc::{AllocError, Global};
+use vector_table::Assumptions;
+
+// What a pass over all edges finds.
+#[derive(Drop)]
+pub(crate) enum Found {
+    /// This node is the first with an edge that doesn't land, and the key is the least of such an edge.
+    Gap(usize, NodeKey),
+    /// All edges land, and this is what the nodes ask of their instances.
+    All(Vec<Demand>),
+}
+
+// The first gap, or what all nodes ask of their instances.
+pub(crate) fn gather(
+    alloc: Global,
+    flash: &Flash,
+    assumptions: &Assumptions,
+    instances: &[Inst],
+    nodes: &Filled,
+    exits: &Exits,
+) -> Result<Found, AllocError>
+    requires instances { AreInstances instances.now }
+    requires belong { AllBelong instances.now nodes.now }
+    requires taken { AreExits flash.now assumptions.now nodes.now exits.now }
+    ensures { IfOk result (λ found. IsFound flash.now assumptions.now instances.now nodes.now found) }
+{
+    let mut demands = Vec::new(alloc);
+    for at in 0..nodes.count() {
+        let edges = next_with(alloc, flash, assumptions, nodes, at, exits)?;
+        if let Some(to) = gap_in(nodes, edges.as_slice()) {
+            return Ok(Found::Gap(at, to));
+        }
+        add_demands(&mut demands, instances, nodes.key(at), edges.as_slice())?;
+    }
+    Ok(Found::All(demands))
+}

@@ -1,0 +1,116 @@
+//! The verdict on a certificate.
+
+ghost use Rattle.std.specs.Prelude.{ℕ, ◌≡◌, ◌↔◌, Ok, IfOk};
+ghost use Rattle.avr_model.specs.Run.{Bounded};
+ghost use Rattle.local_rules.specs.Machine.{AreWords};
+ghost use Rattle.edge_rules.specs.Expansion.{IsFilled};
+ghost use Rattle.edge_rules.specs.Families.{IsCovered};
+ghost use Rattle.call_graph.specs.Exits.{AreExits};
+ghost use Rattle.certificate.specs.Claims.{IsClaim};
+ghost use Rattle.certificate.specs.Valid.{reset_node, IsSound};
+ghost use Rattle.cert_check.specs.declared.verdict.Reason as reason_type;
+ghost use Rattle.cert_check.specs.Verdict.{IsVerdict, IsReason};
+ghost use Rattle.cert_check.specs.Working.{Decides};
+
+use crate::gathering::{Found, gather};
+use crate::landing::is_covered;
+use crate::verdict::{Reason, Verdict};
+use crate::weighing::weigh;
+use abs_state::AbsState;
+use call_graph::{Exits, Expanded, Filled, Leaving, View, exits, expand};
+use certificate::Certificate;
+use flash_image::Flash;
+use mask_states::{InstKey, NodeKey};
+use std::alloc::{AllocError, Global};
+use vector_table::Assumptions;
+
+// The words of a slice have 16 bits, as their type says.
+fn have_16_bits(words: &[u16])
+    ensures { AreWords words.now }
+{}
+
+// The verdict where no node has a fault.
+fn judge_edges(
+    alloc: Global,
+    flash: &Flash,
+    assumptions: &Assumptions,
+    certificate: &Certificate,
+    nodes: &Filled,
+    exits: &Exits,
+) -> Result<Verdict, AllocError>
+    requires claim { IsClaim certificate.now }
+    requires filled { IsFilled flash.now assumptions.now certificate.now.nodes nodes.now }
+    requires reset { IsCovered nodes.now reset_node }
+    requires taken { AreExits flash.now assumptions.now nodes.now exits.now }
+    ensures { IfOk result (λ verdict. Decides flash.now assumptions.now certificate.now nodes.now verdict) }
+{
+    match gather(
+        alloc,
+        flash,
+        assumptions,
+        certificate.instances(),
+        nodes,
+        exits,
+    )? {
+        Found::Gap(at, to) => Ok(Verdict::Rejected(Reason::Edge(at as u32, to))),
+        Found::All(demands) => Ok(weigh(assumptions, certificate, &demands)),
+    }
+}
+
+// The verdict on nodes with their states.
+fn judge_nodes(
+    alloc: Global,
+    flash: &Flash,
+    assumptions: &Assumptions,
+    certificate: &Certificate,
+    nodes: &Filled,
+) -> Result<Verdict, AllocError>
+    requires claim { IsClaim certificate.now }
+    requires filled { IsFilled flash.now assumptions.now certificate.now.nodes nodes.now }
+    ensures { IfOk result (λ verdict. Decides flash.now assumptions.now certificate.now nodes.now verdict) }
+{
+    let reset = NodeKey::entry(&InstKey::root());
+    if !is_covered(nodes, &reset, &AbsState::root(alloc)) {
+        return Ok(Verdict::Rejected(Reason::Root));
+    }
+    match exits(alloc, flash, assumptions, nodes)? {
+        Leaving::Fault(at, fault) => Ok(Verdict::Rejected(Reason::Node(at as u32, fault.cause()))),
+        Leaving::All(exits) => judge_edges(alloc, flash, assumptions, certificate, nodes, &exits),
+    }
+}
+
+// The verdict, by the conditions in their order.
+fn verdict(
+    alloc: Global,
+    flash: &Flash,
+    assumptions: &Assumptions,
+    certificate: &Certificate,
+) -> Result<Verdict, AllocError>
+    requires { IsClaim certificate.now }
+    ensures { IfOk result (λ verdict. IsVerdict flash.now assumptions.now certificate.now verdict) }
+{
+    match expand(alloc, flash, assumptions, certificate)? {
+        Expanded::Missing(at) => Ok(Verdict::Rejected(Reason::Expansion(at))),
+        Expanded::Whole(nodes) => judge_nodes(alloc, flash, assumptions, certificate, &nodes),
+    }
+}
+
+/// The verdict on a certificate for a firmware under assumptions. It accepts exactly where each condition on all but the
+/// schedule holds, and then every run from reset keeps the certificate's bound and meets neither an undefined word nor a
+/// push outside SRAM. Else it gives the least reason with its least numbers. The error is want of memory. Each edge is looked
+/// at once, and each node's local part is worked out twice, and once more for each node that comes from it.
+pub fn judge(
+    alloc: Global,
+    flash: &Flash,
+    assumptions: &Assumptions,
+    certificate: &Certificate,
+) -> Result<Verdict, AllocError>
+    ensures exact { IfOk result (λ verdict. IsVerdict flash.now assumptions.now certificate.now verdict) }
+    ensures accepted { IfOk result (λ verdict. (b : ℕ) → (verdict ≡ Verdict.Accepted b) ↔ (IsSound flash.now assumptions.now certificate.now × (b ≡ certificate.now.bound))) }
+    ensures bounded { (b : ℕ) → result ≡ Ok (Verdict.Accepted b) → Bounded flash.now assumptions.now b }
+    ensures rejected { IfOk result (λ verdict. (r : reason_type.Reason) → (verdict ≡ Verdict.Rejected r) ↔ IsReason flash.now assumptions.now certificate.now r) }
+{
+    have_16_bits(flash.words());
+    let _nodes = certificate.nodes();
+    verdict(alloc, flash, assumptions, certificate)
+}

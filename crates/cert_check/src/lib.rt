@@ -1,0 +1,15 @@
+//! The checker: it judges a certificate for a firmware under assumptions, and trusts nobody who made it.
+#![tactic(auto)]
+
+mod attaining;
+mod demand;
+mod gathering;
+mod judging;
+mod landing;
+pub mod laws;
+pub mod verdict;
+mod weighing;
+
+pub use attaining::is_attained;
+pub use judging::judge;
+pub use verdict::{Reason, Verdict};

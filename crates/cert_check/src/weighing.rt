@@ -1,0 +1,140 @@
+//! Ranks and needs against what is asked of them.
+
+ghost use Rattle.std.specs.Prelude.{◌≡◌, ◌↔◌, Contains};
+ghost use Rattle.mask_states.specs.Keys.{root_inst};
+ghost use Rattle.vector_table.specs.Entries.{AreEntries};
+ghost use Rattle.certificate.specs.Claims.{IsClaim};
+ghost use Rattle.certificate.specs.Insts.{inst_keys};
+ghost use Rattle.cert_check.specs.Working.{AreInstances, AreInside, IsInside, IsLeast, IsNoted, MeetsRank, LowRank, PairBelow, lesser_pair, MeetsNeed, LowNeed, NumberBelow, lesser_number, IsMost, more_asked, IsWeighed};
+
+use crate::demand::{Demand, need_at, number_of, rank_at};
+use crate::verdict::{Reason, Verdict};
+use certificate::{Certificate, Inst};
+use mask_states::InstKey;
+use vector_table::Assumptions;
+
+// The lesser of two pairs, by their first numbers, then by their second ones.
+fn lesser_pair(least: Option<(usize, usize)>, pair: (usize, usize)) -> (usize, usize)
+    ensures { result ≡ lesser_pair least pair }
+{
+    match least {
+        Some(other) if other.0 < pair.0 || (other.0 == pair.0 && other.1 <= pair.1) => other,
+        _ => pair,
+    }
+}
+
+// The least pair after one demand more.
+fn noted_rank(
+    instances: &[Inst],
+    least: Option<(usize, usize)>,
+    demand: &Demand,
+) -> Option<(usize, usize)>
+    requires { IsInside instances.now demand.now }
+    ensures { IsNoted (MeetsRank instances.now) (LowRank instances.now) lesser_pair least demand.now result }
+{
+    match demand.into {
+        Some(into) if rank_at(instances, demand.inst) <= rank_at(instances, into) => {
+            Some(lesser_pair(least, (demand.inst, into)))
+        }
+        _ => least,
+    }
+}
+
+// The least instance whose rank isn't above that of one that it enters, and the least such one.
+fn low_rank(instances: &[Inst], demands: &[Demand]) -> Option<(usize, usize)>
+    requires { AreInside instances.now demands.now }
+    ensures { IsLeast (MeetsRank instances.now) (LowRank instances.now) PairBelow demands.now result }
+{
+    let mut least = None;
+    for at in 0..demands.len() {
+        least = noted_rank(instances, least, &demands[at]);
+    }
+    least
+}
+
+// The lesser of two numbers.
+fn lesser_number(least: Option<usize>, number: usize) -> usize
+    ensures { result ≡ lesser_number least number }
+{
+    match least {
+        Some(other) if other <= number => other,
+        _ => number,
+    }
+}
+
+// The least instance after one demand more.
+fn noted_need(instances: &[Inst], least: Option<usize>, demand: &Demand) -> Option<usize>
+    requires inside { IsInside instances.now demand.now }
+    requires instances { AreInstances instances.now }
+    ensures { IsNoted (MeetsNeed instances.now) (LowNeed instances.now) lesser_number least demand.now result }
+{
+    if need_at(instances, demand.inst) < demand.bytes {
+        Some(lesser_number(least, demand.inst))
+    } else {
+        least
+    }
+}
+
+// The least instance whose need is too low.
+fn low_need(instances: &[Inst], demands: &[Demand]) -> Option<usize>
+    requires inside { AreInside instances.now demands.now }
+    requires instances { AreInstances instances.now }
+    ensures { IsLeast (MeetsNeed instances.now) (LowNeed instances.now) NumberBelow demands.now result }
+{
+    let mut least = None;
+    for at in 0..demands.len() {
+        least = noted_need(instances, least, &demands[at]);
+    }
+    least
+}
+
+// The most after one demand more.
+fn more_asked(most: u32, j: usize, demand: &Demand) -> u32
+    ensures { result ≡ more_asked most j demand.now }
+{
+    if demand.inst == j && most < demand.bytes {
+        demand.bytes
+    } else {
+        most
+    }
+}
+
+// The most that is asked of an instance.
+fn most_asked(demands: &[Demand], j: usize) -> u32
+    ensures { IsMost demands.now j result }
+{
+    let mut most = 0;
+    for at in 0..demands.len() {
+        most = more_asked(most, j, &demands[at]);
+    }
+    most
+}
+
+// The verdict where all edges land, by what nodes ask of their instances.
+pub(crate) fn weigh(
+    assumptions: &Assumptions,
+    certificate: &Certificate,
+    demands: &[Demand],
+) -> Verdict
+    requires claim { IsClaim certificate.now }
+    requires inside { AreInside certificate.now.instances demands.now }
+    requires root { Contains (inst_keys certificate.now.instances) root_inst }
+    ensures { IsWeighed certificate.now assumptions.now demands.now result }
+{
+    let instances = certificate.instances();
+    if let Some((j, l)) = low_rank(instances, demands) {
+        return Verdict::Rejected(Reason::Rank(j as u32, l as u32));
+    }
+    if let Some(j) = low_need(instances, demands) {
+        return Verdict::Rejected(Reason::Need(j as u32, most_asked(demands, j)));
+    }
+    let need = need_at(instances, number_of(instances, &InstKey::root()));
+    let bound = certificate.bound();
+    if u32::from(bound) < need {
+        return Verdict::Rejected(Reason::Bound(need));
+    }
+    if !certificate.assumptions().same(assumptions) {
+        return Verdict::Rejected(Reason::Assumptions);
+    }
+    Verdict::Accepted(bound)
+}
