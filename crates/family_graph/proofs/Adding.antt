@@ -1,0 +1,262 @@
+-- Places and edges of an instance, node by node.
+use Rattle.std.proofs.Common.{arith, refl, sym, ap, subst, ◌∙◌, ◌≡◌, ℕ, ◌+◌, ◌≤◌, ◌⊎◌, inl, inr, Bool, true, false, if◌then◌else◌, List, [], ◌∷◌, ◌++◌, length, Some, slice_get, Contains}
+use Rattle.std.specs.Prelude.{◌↔◌}
+use Rattle.std.specs.List.{flat_map}
+use Rattle.std.proofs.lemmas.List.Elements.{Contains-append_left, Contains-append_right, Contains-append_cases}
+use Rattle.avr_model.specs.declared.assumption.Entry.{Entry}
+use Rattle.abs_state.specs.Frames.{entered}
+use Rattle.mask_states.specs.declared.keys.EdgeKind.{EdgeKind}
+use Rattle.mask_states.specs.declared.keys.InstKey.{InstKey}
+use Rattle.mask_states.specs.declared.keys.SpForm.{SpForm}
+use Rattle.mask_states.specs.declared.keys.SpForm.TheVariants.{Closed, Open}
+use Rattle.mask_states.specs.Keys.{entry_key}
+use Rattle.local_rules.specs.declared.local.Node.{Node}
+use Rattle.edge_rules.specs.declared.edge.Edge.{Edge}
+use Rattle.edge_rules.specs.Edges.{Enters, by_call, by_interrupt, IsEdge, moving, entering, returning, AreEdges}
+use Rattle.edge_rules.specs.Views.{IsSpan}
+use Rattle.nesting_bound.specs.declared.graph.Entered.{Entered}
+use Rattle.nesting_bound.specs.declared.graph.GraphInst.{GraphInst}
+use Rattle.nesting_bound.specs.declared.graph.Place.{Place}
+use Rattle.family_graph.specs.Graphs.{HasInst, IsPeopled}
+use Rattle.family_graph.specs.Numbers.{number_in, AreNumbers, is_entry, entry_if, entries_of, AddsAt, IsPlaceBetween, IsEntryBetween, IsInstOf}
+use Rattle.family_graph.proofs.Lists.{same_at, contained, only, itself, nothing, before_or}
+use Rattle.family_graph.proofs.Insts.{number_is, number_there}
+
+open_closed : (o h : ℕ) (high : _) → Open o high ≡ Closed h → ⊥
+open_closed o h high e = cc
+
+closed_is : (a b : ℕ) → Closed a ≡ Closed b → a ≡ b
+closed_is a b e = cc
+
+place_is : (p : Place) (at offset : ℕ) → p.node ≡ at → p.offset ≡ offset → record { node = at; offset = offset } ≡ p
+place_is p at offset a b =
+    let mk : ℕ → ℕ → Place = λ x y. record { node = x; offset = y } in
+    ap (λ (x : ℕ). mk x offset) (sym a) ∙ ap (mk p.node) (sym b)
+
+entry_is : (e : Entered) (at offset into : ℕ) → e.node ≡ at → e.offset ≡ offset → e.into ≡ into → record { node = at; offset = offset; kind = e.kind; into = into } ≡ e
+entry_is e at offset into a b c =
+    let mk : ℕ → ℕ → ℕ → Entered = λ x y z. record { node = x; offset = y; kind = e.kind; into = z } in
+    ap (λ (x : ℕ). mk x offset into) (sym a) ∙ ap (λ (y : ℕ). mk e.node y into) (sym b) ∙ ap (mk e.node e.offset) (sym c)
+
+-- ---- members of a list that is gathered
+
+pub gathers : {X Y : Type 0} (f : X → List Y) (xs : List X) (x : X) (y : Y) → Contains xs x → Contains (f x) y → Contains (flat_map f xs) y
+gathers f [] x y has here = absurd (nothing x has)
+gathers f (z ∷ zs) x y has here =
+    elim (Contains-append_cases (z ∷ []) zs x has) [
+      | inl this ↦ Contains-append_left (f z) (flat_map f zs) y (subst (λ (w : _). Contains (f w) y) (only z x this) here)
+      | inr more ↦ Contains-append_right (f z) (flat_map f zs) y (gathers f zs x y more here)
+    ]
+
+pub gathered : {X Y : Type 0} (f : X → List Y) (xs : List X) (y : Y) → Contains (flat_map f xs) y → (x : X) × Contains xs x × Contains (f x) y
+gathered f [] y has = absurd (nothing y has)
+gathered f (z ∷ zs) y has =
+    elim (Contains-append_cases (f z) (flat_map f zs) y has) [
+      | inl here ↦ (z, Contains-append_left (z ∷ []) zs z (itself z), here)
+      | inr more ↦ let g = gathered f zs y more in (g.0, Contains-append_right (z ∷ []) zs g.0 g.1, g.2)
+    ]
+
+kind_enters : (words : List ℕ) (A : List Entry) (n : Node) (way : EdgeKind) (inst : InstKey) (back : ℕ) → Enters words A n way inst back → is_entry way ≡ true
+kind_enters words A n way inst back (by_call offset site f sp has) = refl
+kind_enters words A n way inst back (by_interrupt offset v clears f sp i delay on dog) = refl
+
+module _ (words : List ℕ) (A : List Entry) (nodes : List Node) (insts : List InstKey) (numbers : List ℕ) (are : AreNumbers nodes (length nodes) insts numbers)
+    (peopled : IsPeopled words A nodes) (n : Node) (member : Contains nodes n) (at offset : ℕ) where
+  -- an edge from the node, as one of the graph
+  pub record IsEntryAt (e : Entered) : Type 0 where
+    pub node : e.node ≡ at
+    pub offset_is : e.offset ≡ offset
+    pub into : InstKey
+    pub leads : slice_get insts e.into ≡ Some into
+    pub back : ℕ
+    pub enters : Enters words A n e.kind into back
+
+  abbrev made : EdgeKind → InstKey → Entered
+  made way inst = record { node = at; offset = offset; kind = way; into = number_in insts inst }
+
+  from_way : (way : EdgeKind) (inst : InstKey) (back : ℕ) (b : Bool) (e : Entered) → Enters words A n way inst back → Contains (if b then made way inst ∷ [] else []) e → IsEntryAt e
+  from_way way inst back true e enters has =
+      subst IsEntryAt (sym (only (made way inst) e has))
+      (record {
+        node = refl;
+        offset_is = refl;
+        into = inst;
+        leads = number_there nodes insts numbers inst are (peopled n way inst back member enters);
+        back = back;
+        enters = enters;
+      })
+  from_way way inst back false e enters has = absurd (nothing e has)
+
+  from_edge : (edge : Edge) (e : Entered) → IsEdge words A nodes n edge → Contains (entry_if insts at offset edge) e → IsEntryAt e
+  from_edge edge e (moving to f has) h = absurd (nothing e h)
+  from_edge edge e (entering way inst back enters) h = from_way way inst back (is_entry way) e enters h
+  from_edge edge e (returning way inst back leaver x state enters has same f exit after) h = absurd (nothing e h)
+
+  to_way : (way : EdgeKind) (inst : InstKey) (b : Bool) → b ≡ true → Contains (if b then made way inst ∷ [] else []) (made way inst)
+  to_way way inst true is = itself (made way inst)
+  to_way way inst false is = absurd cc
+
+  pub listed : (edges : List Edge) → AreEdges words A nodes n edges → (e : Entered) → Contains (entries_of insts at offset edges) e ↔ IsEntryAt e
+  listed edges all e = (
+    λ has. let g = gathered (entry_if insts at offset) edges e has in from_edge g.0 e ((all g.0).0 g.1) g.2,
+    λ is.
+        let edge : Edge = record { kind = e.kind; to = entry_key is.into; state = entered n.state } in
+        let same : made e.kind is.into ≡ e = entry_is e at offset (number_in insts is.into) is.node is.offset_is (sym (number_is insts e.into is.into are.ascending is.leads)) in
+        gathers (entry_if insts at offset) edges edge e ((all edge).1 (entering e.kind is.into is.back is.enters))
+        (subst (Contains (entry_if insts at offset edge)) same (to_way e.kind is.into (is_entry e.kind) (kind_enters words A n e.kind is.into is.back is.enters))),
+  )
+
+-- ---- one node more
+
+module _ (words : List ℕ) (A : List Entry) (nodes : List Node) (insts : List InstKey) (low at : ℕ) (above : low ≤ at) (n : Node) (here : slice_get nodes at ≡ Some n) where
+  wider_place : (p : Place) → IsPlaceBetween nodes low at p → IsPlaceBetween nodes low (at + 1) p
+  wider_place p h = record { above = h.above; below = omega (arith, h.below); node = h.node; at = h.at; closed = h.closed }
+
+  newer_place : (p : Place) → IsPlaceBetween nodes low (at + 1) p → (IsPlaceBetween nodes low at p) ⊎ ((p.node ≡ at) × (n.key.sp ≡ Closed p.offset))
+  newer_place p h =
+      elim (before_or p.node at h.below) [
+        | inl less ↦ inl (record { above = h.above; below = less; node = h.node; at = h.at; closed = h.closed })
+        | inr same ↦
+            let k : h.node ≡ n = same_at nodes at h.node n (subst (λ (i : ℕ). slice_get nodes i ≡ Some h.node) same h.at) here in
+            inr (same, subst (λ (m : Node). m.key.sp ≡ Closed p.offset) k h.closed)
+      ]
+
+  pub places_more : (sp : SpForm) → n.key.sp ≡ sp → (ps ps' : List Place) (es es' : List Entered) → AddsAt words A nodes insts at n sp ps es ps' es'
+      → ((p : Place) → Contains ps p ↔ IsPlaceBetween nodes low at p) → (p : Place) → Contains ps' p ↔ IsPlaceBetween nodes low (at + 1) p
+  places_more (Open o high) is ps ps' es es' adds inv p = (
+    λ has. wider_place p ((inv p).0 (subst (λ (xs : List Place). Contains xs p) adds.0 has)),
+    λ b. elim (newer_place p b) [
+      | inl old ↦ subst (λ (xs : List Place). Contains xs p) (sym adds.0) ((inv p).1 old)
+      | inr new ↦ absurd (open_closed o p.offset high (sym is ∙ new.1))
+    ],
+  )
+  places_more (Closed o) is ps ps' es es' adds inv p = (
+    λ has. elim (Contains-append_cases ps (record { node = at; offset = o } ∷ []) p (subst (λ (xs : List Place). Contains xs p) adds.0 has)) [
+      | inl old ↦ wider_place p ((inv p).0 old)
+      | inr this ↦ subst (IsPlaceBetween nodes low (at + 1)) (sym (only (record { node = at; offset = o }) p this)) (record { above = above; below = omega arith; node = n; at = here; closed = is })
+    ],
+    λ b. subst (λ (xs : List Place). Contains xs p) (sym adds.0) (elim (newer_place p b) [
+      | inl old ↦ Contains-append_left ps (record { node = at; offset = o } ∷ []) p ((inv p).1 old)
+      | inr new ↦
+          Contains-append_right ps (record { node = at; offset = o } ∷ []) p
+          (subst (Contains (record { node = at; offset = o } ∷ [])) (place_is p at o new.0 (closed_is p.offset o (sym new.1 ∙ is))) (itself (record { node = at; offset = o })))
+    ]),
+  )
+
+  wider_entry : (e : Entered) → IsEntryBetween words A nodes insts low at e → IsEntryBetween words A nodes insts low (at + 1) e
+  wider_entry e h =
+      record { above = h.above; below = omega (arith, h.below); node = h.node; at = h.at; closed = h.closed; into = h.into; leads = h.leads; back = h.back; enters = h.enters }
+
+  module _ (numbers : List ℕ) (are : AreNumbers nodes (length nodes) insts numbers) (peopled : IsPeopled words A nodes) where
+    abbrev At : ℕ → Entered → Type 0
+    At offset e = IsEntryAt words A nodes insts numbers are peopled n (contained nodes at n here) at offset e
+
+    newer_entry : (e : Entered) → IsEntryBetween words A nodes insts low (at + 1) e → (IsEntryBetween words A nodes insts low at e) ⊎ ((n.key.sp ≡ Closed e.offset) × At e.offset e)
+    newer_entry e h =
+        elim (before_or e.node at h.below) [
+          | inl less ↦ inl (record { above = h.above; below = less; node = h.node; at = h.at; closed = h.closed; into = h.into; leads = h.leads; back = h.back; enters = h.enters })
+          | inr same ↦
+              let k : h.node ≡ n = same_at nodes at h.node n (subst (λ (i : ℕ). slice_get nodes i ≡ Some h.node) same h.at) here in
+              inr (
+                subst (λ (m : Node). m.key.sp ≡ Closed e.offset) k h.closed,
+                record { node = same; offset_is = refl; into = h.into; leads = h.leads; back = h.back; enters = subst (λ (m : Node). Enters words A m e.kind h.into h.back) k h.enters },
+              )
+        ]
+
+    older_entry : (o : ℕ) → n.key.sp ≡ Closed o → (e : Entered) → At o e → IsEntryBetween words A nodes insts low (at + 1) e
+    older_entry o is e a =
+        record {
+          above = omega (arith, above, a.node);
+          below = omega (arith, a.node);
+          node = n;
+          at = subst (λ (i : ℕ). slice_get nodes i ≡ Some n) (sym a.node) here;
+          closed = is ∙ ap (λ (x : ℕ). Closed x) (sym a.offset_is);
+          into = a.into;
+          leads = a.leads;
+          back = a.back;
+          enters = a.enters;
+        }
+
+    pub entries_more : (sp : SpForm) → n.key.sp ≡ sp → (ps ps' : List Place) (es es' : List Entered) → AddsAt words A nodes insts at n sp ps es ps' es'
+        → ((e : Entered) → Contains es e ↔ IsEntryBetween words A nodes insts low at e) → (e : Entered) → Contains es' e ↔ IsEntryBetween words A nodes insts low (at + 1) e
+    entries_more (Open o high) is ps ps' es es' adds inv e = (
+      λ has. wider_entry e ((inv e).0 (subst (λ (xs : List Entered). Contains xs e) adds.1 has)),
+      λ b. elim (newer_entry e b) [
+        | inl old ↦ subst (λ (xs : List Entered). Contains xs e) (sym adds.1) ((inv e).1 old)
+        | inr new ↦ absurd (open_closed o e.offset high (sym is ∙ new.0))
+      ],
+    )
+    entries_more (Closed o) is ps ps' es es' adds inv e =
+        let l = listed words A nodes insts numbers are peopled n (contained nodes at n here) at o adds.1.0 adds.1.1 e in (
+          λ has. elim (Contains-append_cases es (entries_of insts at o adds.1.0) e (subst (λ (xs : List Entered). Contains xs e) adds.1.2 has)) [
+            | inl old ↦ wider_entry e ((inv e).0 old)
+            | inr this ↦ older_entry o is e (l.0 this)
+          ],
+          λ b. subst (λ (xs : List Entered). Contains xs e) (sym adds.1.2) (elim (newer_entry e b) [
+            | inl old ↦ Contains-append_left es (entries_of insts at o adds.1.0) e ((inv e).1 old)
+            | inr new ↦ Contains-append_right es (entries_of insts at o adds.1.0) e (l.1 (subst (λ (x : ℕ). At x e) (closed_is e.offset o (sym new.0 ∙ is)) new.1))
+          ]),
+        )
+
+-- ---- a whole instance
+
+pub instance_is : (words : List ℕ) (A : List Entry) (nodes : List Node) (insts : List InstKey) (inst : InstKey) (low high : ℕ) (g : GraphInst) → g.key ≡ inst → IsSpan nodes inst low high
+    → ((p : Place) → Contains g.offsets p ↔ IsPlaceBetween nodes low high p) → ((e : Entered) → Contains g.entered e ↔ IsEntryBetween words A nodes insts low high e)
+    → IsInstOf words A nodes insts inst g
+instance_is words A nodes insts inst low high g is span places entries =
+    record {
+      key = is;
+      places = λ p. (
+        λ has. let b = (places p).0 has in record { node = b.node; at = b.at; same = (span.exact p.node b.node b.at).1 (b.above, b.below); closed = b.closed },
+        λ of. let b = (span.exact p.node of.node of.at).0 of.same in (places p).1 (record { above = b.0; below = b.1; node = of.node; at = of.at; closed = of.closed }),
+      );
+      entered = λ e. (
+        λ has.
+            let b = (entries e).0 has in
+            record {
+              into = b.into;
+              leads = b.leads;
+              entry = record { node = b.node; at = b.at; same = (span.exact e.node b.node b.at).1 (b.above, b.below); closed = b.closed; back = b.back; enters = b.enters };
+            },
+        λ of.
+            let b = (span.exact e.node of.entry.node of.entry.at).0 of.entry.same in
+            (entries e).1
+            (record {
+              above = b.0;
+              below = b.1;
+              node = of.entry.node;
+              at = of.entry.at;
+              closed = of.entry.closed;
+              into = of.into;
+              leads = of.leads;
+              back = of.entry.back;
+              enters = of.entry.enters;
+            }),
+      );
+    }
+
+-- what a node with a whole stack pointer adds
+pub adds_closed : (words : List ℕ) (A : List Entry) (nodes : List Node) (insts : List InstKey) (at : ℕ) (n : Node) (sp : SpForm) (o : ℕ) (ps ps' : List Place) (es es' : List Entered)
+    → sp ≡ Closed o → ps' ≡ ps ++ record { node = at; offset = o } ∷ [] → (edges : List Edge) → AreEdges words A nodes n edges → es' ≡ es ++ entries_of insts at o edges
+    → AddsAt words A nodes insts at n sp ps es ps' es'
+adds_closed words A nodes insts at n sp o ps ps' es es' is places edges all entries =
+    subst (λ (f : SpForm). AddsAt words A nodes insts at n f ps es ps' es') (sym is) (places, (edges, all, entries))
+
+-- the instance that an edge enters has a node
+pub has_by : (words : List ℕ) (A : List Entry) (nodes : List Node) → IsPeopled words A nodes → (n : Node) → Contains nodes n → (edge : Edge) → IsEdge words A nodes n edge
+    → is_entry edge.kind ≡ true → HasInst nodes edge.to.inst
+has_by words A nodes peopled n member edge (moving to f has) is = absurd cc
+has_by words A nodes peopled n member edge (entering way inst back enters) is = peopled n way inst back member enters
+has_by words A nodes peopled n member edge (returning way inst back leaver x state enters has same f exit after) is = absurd cc
+
+-- the instance that is made of these lists
+pub instance_made : (words : List ℕ) (A : List Entry) (nodes : List Node) (insts : List InstKey) (key inst : InstKey) (low high at : ℕ) (places ps : List Place) (entries es : List Entered)
+    → key ≡ inst → IsSpan nodes key low high → at ≡ high → ps ≡ places → es ≡ entries
+    → ((p : Place) → Contains places p ↔ IsPlaceBetween nodes low at p) → ((e : Entered) → Contains entries e ↔ IsEntryBetween words A nodes insts low at e)
+    → IsInstOf words A nodes insts inst (record { key = key; offsets = ps; entered = es })
+instance_made words A nodes insts key inst low high at places ps entries es same span end a b inv inv' =
+    subst (λ (k : InstKey). IsInstOf words A nodes insts k (record { key = key; offsets = ps; entered = es })) same
+    (instance_is words A nodes insts key low high (record { key = key; offsets = ps; entered = es }) refl span
+    (λ p. subst (λ (xs : List Place). Contains xs p ↔ IsPlaceBetween nodes low high p) (sym a) (subst (λ (h : ℕ). Contains places p ↔ IsPlaceBetween nodes low h p) end (inv p)))
+    (λ e. subst (λ (xs : List Entered). Contains xs e ↔ IsEntryBetween words A nodes insts low high e) (sym b)
+    (subst (λ (h : ℕ). Contains entries e ↔ IsEntryBetween words A nodes insts low h e) end (inv' e))))

@@ -1,0 +1,151 @@
+-- Graphs of one family.
+use Rattle.std.proofs.Common.{arith, refl, sym, ap, subst, ◌∙◌, ◌≡◌, ◌≢◌, ℕ, ◌+◌, List, [], ◌∷◌, ◌++◌, length, Option, Some, None, slice_get, Contains, inl, inr}
+use Rattle.std.specs.Option.{option_map}
+use Rattle.std.specs.List.{AllByRecursion}
+use Rattle.std.specs.List.Sorted.{IsStrictlySortedBy}
+use Rattle.std.specs.Cmp.Lexicographic.{slice_cmp}
+use Rattle.std.specs.Ordering.{nat_cmp}
+use Rattle.std.specs.declared.cmp.Ordering.{Ordering}
+use Rattle.std.specs.declared.cmp.Ordering.TheVariants.{Less, Equal}
+use Rattle.std.proofs.lemmas.Option.{slice_get-map}
+use Rattle.std.proofs.lemmas.List.Elements.{Contains-append_left, Contains-append_right, Contains-append_cases}
+use Rattle.avr_model.specs.declared.assumption.Entry.{Entry}
+use Rattle.mask_states.specs.declared.keys.InstKey.{InstKey}
+use Rattle.mask_states.specs.Order.{inst_cmp}
+use Rattle.mask_states.proofs.AllLaws.{keys_are_ordered}
+use Rattle.local_rules.specs.declared.local.Node.{Node}
+use Rattle.nesting_bound.specs.declared.graph.Entered.{Entered}
+use Rattle.nesting_bound.specs.declared.graph.GraphInst.{GraphInst}
+use Rattle.nesting_bound.specs.declared.graph.Link.{Link}
+use Rattle.nesting_bound.specs.declared.graph.Place.{Place}
+use Rattle.nesting_bound.specs.Graph as graph
+use Rattle.nesting_bound.specs.Chain.{kind_numbers, IsChainFrom, ends, goes, edge_cmp, turn_of, entry_of}
+use Rattle.nesting_bound.specs.Least.{IsLeast}
+use Rattle.family_graph.specs.Graphs.{insts_of, HasPlaceOf, HasEntryOf, IsGraphOf}
+use Rattle.family_graph.specs.Laws.{GraphsAreAlike}
+use Rattle.family_graph.proofs.Lists.{read, only, itself, nothing, all_get}
+use Rattle.family_graph.proofs.Graphs.{keys_long}
+
+-- ---- ascending lists with the same members are the same
+
+front : {X : Type 0} (x : X) (xs : List X) → Contains (x ∷ xs) x
+front x xs = Contains-append_left (x ∷ []) xs x (itself x)
+
+behind : {X : Type 0} (x y : X) (xs : List X) → Contains xs y → Contains (x ∷ xs) y
+behind x y xs h = Contains-append_right (x ∷ []) xs y h
+
+less_all : (P : InstKey → Type 0) (xs : List InstKey) (y : InstKey) → AllByRecursion P xs → Contains xs y → P y
+less_all P xs y all has = all_get P xs has.0 y all (read xs y has)
+
+not_less : (x : InstKey) → inst_cmp x x ≡ Less → ⊥
+not_less x e = let q : inst_cmp x x ≡ Equal = (keys_are_ordered.equal_insts x x).1 refl in cc
+
+both_ways : (x y : InstKey) → inst_cmp x y ≡ Less → inst_cmp y x ≡ Less → ⊥
+both_ways x y a b = not_less x (keys_are_ordered.insts.trans x y x a b)
+
+-- the least of two such lists is one
+heads : (x y : InstKey) (xs ys : List InstKey) → AllByRecursion (λ z. inst_cmp x z ≡ Less) xs → AllByRecursion (λ z. inst_cmp y z ≡ Less) ys → Contains (y ∷ ys) x → Contains (x ∷ xs) y → x ≡ y
+heads x y xs ys hx hy in_y in_x =
+    elim (Contains-append_cases (y ∷ []) ys x in_y) [
+      | inl this ↦ only y x this
+      | inr more ↦ elim (Contains-append_cases (x ∷ []) xs y in_x) [
+        | inl this ↦ sym (only x y this)
+        | inr other ↦ absurd (both_ways x y (less_all (λ z. inst_cmp x z ≡ Less) xs y hx other) (less_all (λ z. inst_cmp y z ≡ Less) ys x hy more))
+      ]
+    ]
+
+tails : (x y : InstKey) (xs ys : List InstKey) → x ≡ y → AllByRecursion (λ z. inst_cmp x z ≡ Less) xs → (k : InstKey) → Contains xs k → Contains (y ∷ ys) k → Contains ys k
+tails x y xs ys same hx k has there =
+    elim (Contains-append_cases (y ∷ []) ys k there) [
+      | inl this ↦ absurd (not_less x (subst (λ (z : InstKey). inst_cmp x z ≡ Less) (only y k this ∙ sym same) (less_all (λ z. inst_cmp x z ≡ Less) xs k hx has)))
+      | inr more ↦ more
+    ]
+
+same_lists : (xs ys : List InstKey) → IsStrictlySortedBy inst_cmp xs → IsStrictlySortedBy inst_cmp ys → ((k : InstKey) → Contains xs k → Contains ys k) → ((k : InstKey) → Contains ys k → Contains xs k) → xs ≡ ys
+unfolding IsStrictlySortedBy
+same_lists [] [] hx hy to from = refl
+same_lists [] (y ∷ ys) hx hy to from = absurd (nothing y (from y (front y ys)))
+same_lists (x ∷ xs) [] hx hy to from = absurd (nothing x (to x (front x xs)))
+same_lists (x ∷ xs) (y ∷ ys) hx hy to from =
+    let e : x ≡ y = heads x y xs ys hx.0 hy.0 (to x (front x xs)) (from y (front y ys)) in
+    let rest : xs ≡ ys =
+    same_lists xs ys hx.1 hy.1
+    (λ k h. tails x y xs ys e hx.0 k h (to k (behind x k xs h)))
+    (λ k h. tails y x ys xs (sym e) hy.0 k h (from k (behind y k ys h))) in
+    cc
+
+-- ---- two graphs
+
+entry_by : Option InstKey → ℕ
+entry_by None = 0
+entry_by (Some inst) = inst.entry
+
+entry_as : (o : Option GraphInst) → entry_of o ≡ entry_by (option_map (λ g. g.key) o)
+unfolding entry_by
+entry_as None = refl
+entry_as (Some g) = refl
+
+module _ (words : List ℕ) (A : List Entry) (nodes : List Node) (gs hs : List GraphInst) (g : IsGraphOf words A nodes gs) (h : IsGraphOf words A nodes hs) where
+  keys : insts_of gs ≡ insts_of hs
+  keys =
+      same_lists (insts_of gs) (insts_of hs) g.ascending h.ascending (λ k has. (h.insts k).1 ((g.insts k).0 has)) (λ k has. (g.insts k).1 ((h.insts k).0 has))
+
+  long : length gs ≡ length hs
+  long = sym (keys_long gs) ∙ ap length keys ∙ keys_long hs
+
+  place_to : (i : ℕ) (p : Place) → graph.HasPlace gs i p → graph.HasPlace hs i p
+  place_to i p has = (h.places i p).1 (subst (λ (ks : List InstKey). HasPlaceOf nodes ks i p) keys ((g.places i p).0 has))
+
+  entry_to : (i : ℕ) (e : Entered) → graph.Enters gs i e → graph.Enters hs i e
+  entry_to i e has = (h.entered i e).1 (subst (λ (ks : List InstKey). HasEntryOf words A nodes ks i e) keys ((g.entered i e).0 has))
+
+  place_from : (i : ℕ) (p : Place) → graph.HasPlace hs i p → graph.HasPlace gs i p
+  place_from i p has = (g.places i p).1 (subst (λ (ks : List InstKey). HasPlaceOf nodes ks i p) (sym keys) ((h.places i p).0 has))
+
+  entry_from : (i : ℕ) (e : Entered) → graph.Enters hs i e → graph.Enters gs i e
+  entry_from i e has = (g.entered i e).1 (subst (λ (ks : List InstKey). HasEntryOf words A nodes ks i e) (sym keys) ((h.entered i e).0 has))
+
+  pub least_as : (ranks needs : List ℕ) → IsLeast hs ranks needs → IsLeast gs ranks needs
+  least_as ranks needs l =
+      record {
+        ranks_length = l.ranks_length ∙ sym long;
+        needs_length = l.needs_length ∙ sym long;
+        are_ranks = λ i e has. l.are_ranks i e (entry_to i e has);
+        are_needs = record { offsets = λ i p has. l.are_needs.offsets i p (place_to i p has); entered = λ i e has. l.are_needs.entered i e (entry_to i e has) };
+        least_ranks = λ rank are i within. l.least_ranks rank (λ j e has. are j e (entry_from j e has)) i (omega (arith, within, long));
+        least_needs = λ need are i within.
+            l.least_needs need
+            (record { offsets = λ j p has. are.offsets j p (place_from j p has); entered = λ j e has. are.entered j e (entry_from j e has) }) i (omega (arith, within, long));
+      }
+
+  entry_same : (i : ℕ) → entry_of (slice_get hs i) ≡ entry_of (slice_get gs i)
+  entry_same i =
+      entry_as (slice_get hs i)
+      ∙ ap entry_by (sym (slice_get-map (λ (x : GraphInst). x.key) hs i) ∙ ap (λ (ks : List InstKey). slice_get ks i) (sym keys) ∙ slice_get-map (λ (x : GraphInst). x.key) gs i)
+      ∙ sym (entry_as (slice_get gs i))
+
+  turn_same : (e : Entered) → turn_of hs e ≡ turn_of gs e
+  unfolding turn_of
+  turn_same e = ap (λ (x : ℕ). e.node ∷ kind_numbers e.kind ++ x ∷ e.into ∷ []) (entry_same e.into)
+
+  cmp_same : (a b : Entered) → edge_cmp hs a b ≡ edge_cmp gs a b
+  unfolding edge_cmp
+  cmp_same a b = ap (λ (xs : List ℕ). slice_cmp nat_cmp xs (turn_of hs b)) (turn_same a) ∙ ap (slice_cmp nat_cmp (turn_of gs a)) (turn_same b)
+
+  pub chain_as : (needs : List ℕ) (i above : ℕ) (links : List Link) → IsChainFrom hs needs i above links → IsChainFrom gs needs i above links
+  chain_as needs i above links (ends _ _ p first) =
+      ends i above p (record { is = (place_from i p first.is.0, first.is.1); first = λ q has. first.first q (place_to i q has.0, has.1) })
+  chain_as needs i above links (goes _ _ e rest none first more) =
+      goes i above e rest (λ p has. none p (place_to i p has.0, has.1))
+      (record {
+        is = (entry_from i e first.is.0, first.is.1);
+        first = λ d has. subst (λ (o : Ordering). o ≢ Less) (cmp_same d e) (first.first d (entry_to i d has.0, has.1));
+      })
+      (chain_as needs e.into (above + e.offset + 2) rest more)
+
+pub graphs_are_alike : GraphsAreAlike
+graphs_are_alike =
+    record {
+      least = λ words A nodes gs hs ranks needs g h l. least_as words A nodes gs hs g h ranks needs l;
+      chain = λ words A nodes gs hs needs links g h c. chain_as words A nodes gs hs g h needs 0 0 links c;
+    }

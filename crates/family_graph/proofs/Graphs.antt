@@ -1,0 +1,143 @@
+-- The whole graph.
+use Rattle.std.proofs.Common.{arith, refl, sym, ap, subst, ◌∙◌, ◌≡◌, ℕ, suc, ◌+◌, ◌<◌, ◌≤◌, List, [], ◌∷◌, ◌++◌, length, length-append, Option, Some, slice_get, Contains, inl, inr, Result, Ok, Err, IfOk}
+use Rattle.std.specs.Prelude.{◌↔◌}
+use Rattle.std.specs.Option.{option_map}
+use Rattle.std.specs.List.Sorted.{IsStrictlySortedBy}
+use Rattle.std.proofs.lemmas.Option.{slice_get_within, slice_get-map}
+use Rattle.avr_model.specs.declared.assumption.Entry.{Entry}
+use Rattle.mask_states.specs.declared.keys.InstKey.{InstKey}
+use Rattle.mask_states.specs.declared.keys.SpForm.TheVariants.{Closed}
+use Rattle.mask_states.specs.Keys.{offset_of}
+use Rattle.mask_states.specs.Order.{inst_cmp}
+use Rattle.local_rules.specs.declared.local.Exit.{Exit}
+use Rattle.local_rules.specs.declared.local.Node.{Node}
+use Rattle.local_rules.specs.declared.local.NodeFault.{NodeFault}
+use Rattle.call_graph.specs.declared.exit_list.Leaving.TheVariants.{All, Fault}
+use Rattle.edge_rules.specs.Views.{AreShown}
+use Rattle.nesting_bound.specs.declared.graph.Entered.{Entered}
+use Rattle.nesting_bound.specs.declared.graph.Graph.{Graph}
+use Rattle.nesting_bound.specs.declared.graph.GraphInst.{GraphInst}
+use Rattle.nesting_bound.specs.declared.graph.Place.{Place}
+use Rattle.nesting_bound.specs.Graph as graph
+use Rattle.family_graph.specs.Graphs.{insts_of, HasInst, HasPlaceOf, HasEntryOf, IsGraphOf}
+use Rattle.family_graph.specs.Numbers.{AreNumbers, IsInstOf, AreInsts}
+use Rattle.family_graph.proofs.Lists.{some_is, same_at, get_left, get_behind, contained, read, before_or}
+
+pub keys_long : (gs : List GraphInst) → length (insts_of gs) ≡ length gs
+keys_long [] = refl
+keys_long (g ∷ gs) = ap suc (keys_long gs)
+
+-- lists with the same items are the same
+lists_same : (xs ys : List InstKey) → length xs ≡ length ys → ((i : ℕ) (x : InstKey) → slice_get ys i ≡ Some x → slice_get xs i ≡ Some x) → xs ≡ ys
+lists_same [] [] e h = refl
+lists_same [] (y ∷ ys) e h = absurd (omega (arith, e))
+lists_same (x ∷ xs) [] e h = absurd (omega (arith, e))
+lists_same (x ∷ xs) (y ∷ ys) e h =
+    let first : x ≡ y = some_is x y (h 0 y refl) in
+    let rest = lists_same xs ys (omega (arith, e)) (λ i z g. h (suc i) z g) in
+    cc
+
+module _ (words : List ℕ) (A : List Entry) (nodes : List Node) (insts : List InstKey) where
+  abbrev pub Made : ℕ → List GraphInst → Type 0
+  Made i gs = AreInsts words A nodes insts i gs
+
+  pub none_made : Made 0 []
+  none_made = record { count_is = refl; each = λ j inst lt is. absurd (omega (arith, lt)) }
+
+  pub made_more : (i : ℕ) (gs : List GraphInst) (inst : InstKey) (g : GraphInst) → Made i gs → slice_get insts i ≡ Some inst → IsInstOf words A nodes insts inst g → Made (i + 1) (gs ++ g ∷ [])
+  made_more i gs inst g made is of =
+      record {
+        count_is = omega (arith, length-append gs (g ∷ []), made.count_is);
+        each = λ j k lt e. elim (before_or j i lt) [
+          | inl less ↦ let m = made.each j k less e in (m.0, get_left gs (g ∷ []) j m.0 m.1, m.2)
+          | inr same ↦
+              let this : inst ≡ k = same_at insts i inst k is (subst (λ (x : ℕ). slice_get insts x ≡ Some k) same e) in
+              (g, subst (λ (x : ℕ). slice_get (gs ++ g ∷ []) x ≡ Some g) (sym (same ∙ sym made.count_is)) (get_behind gs g), subst (λ (x : InstKey). IsInstOf words A nodes insts x g) this of)
+        ];
+      }
+
+  module _ (numbers : List ℕ) (are : AreNumbers nodes (length nodes) insts numbers) (gs : List GraphInst) (made : Made (length insts) gs) where
+    keys_are : insts_of gs ≡ insts
+    keys_are =
+        lists_same (insts_of gs) insts (keys_long gs ∙ made.count_is)
+        (λ i x e. let m = made.each i x (slice_get_within insts i x e) e in slice_get-map (λ (g : GraphInst). g.key) gs i ∙ ap (option_map (λ (g : GraphInst). g.key)) m.1 ∙ ap (λ (k : InstKey). Some k) m.2.key)
+
+    at_key : (i : ℕ) (g : GraphInst) → slice_get gs i ≡ Some g → slice_get insts i ≡ Some g.key
+    at_key i g is = subst (λ (ks : List InstKey). slice_get ks i ≡ Some g.key) keys_are (slice_get-map (λ (g : GraphInst). g.key) gs i ∙ ap (option_map (λ (g : GraphInst). g.key)) is)
+
+    inst_at : (i : ℕ) (g : GraphInst) (inst : InstKey) → slice_get gs i ≡ Some g → slice_get insts i ≡ Some inst → IsInstOf words A nodes insts inst g
+    inst_at i g inst is e =
+        let m = made.each i inst (slice_get_within insts i inst e) e in
+        subst (IsInstOf words A nodes insts inst) (same_at gs i m.0 g m.1 is) m.2
+
+    place_of : (i : ℕ) (p : Place) → graph.HasPlace gs i p ↔ HasPlaceOf nodes insts i p
+    place_of i p = (
+      λ h.
+          let k = at_key i h.inst h.is in
+          record { inst = h.inst.key; is = k; place = ((inst_at i h.inst h.inst.key h.is k).places p).0 h.has },
+      λ h.
+          let m = made.each i h.inst (slice_get_within insts i h.inst h.is) h.is in
+          record { inst = m.0; is = m.1; has = (m.2.places p).1 h.place },
+    )
+
+    entry_of : (i : ℕ) (e : Entered) → graph.Enters gs i e ↔ HasEntryOf words A nodes insts i e
+    entry_of i e = (
+      λ h.
+          let k = at_key i h.inst h.is in
+          let f = ((inst_at i h.inst h.inst.key h.is k).entered e).0 h.has in
+          record { inst = h.inst.key; is = k; into = f.into; leads = f.leads; entry = f.entry },
+      λ h.
+          let m = made.each i h.inst (slice_get_within insts i h.inst h.is) h.is in
+          record { inst = m.0; is = m.1; has = (m.2.entered e).1 (record { into = h.into; leads = h.leads; entry = h.entry }) },
+    )
+
+    inst_of : (inst : InstKey) → Contains insts inst ↔ HasInst nodes inst
+    inst_of inst = (
+      are.used inst,
+      λ h.
+          let k = h.1.0 in
+          subst (Contains insts) h.2 (contained insts _ h.0.key.inst (are.named k h.0 h.1.1 (read nodes h.0 h.1))),
+    )
+
+    pub graph_is : IsGraphOf words A nodes gs
+    graph_is =
+        record {
+          ascending = subst (IsStrictlySortedBy inst_cmp) (sym keys_are) are.ascending;
+          insts = λ inst. subst (λ (ks : List InstKey). Contains ks inst ↔ HasInst nodes inst) (sym keys_are) (inst_of inst);
+          places = λ i p. subst (λ (ks : List InstKey). graph.HasPlace gs i p ↔ HasPlaceOf nodes ks i p) (sym keys_are) (place_of i p);
+          entered = λ i e. subst (λ (ks : List InstKey). graph.Enters gs i e ↔ HasEntryOf words A nodes ks i e) (sym keys_are) (entry_of i e);
+        }
+
+-- ---- it is a graph
+
+first_of : (nodes : List Node) → 0 < length nodes → (n : Node) × (slice_get nodes 0 ≡ Some n)
+first_of [] h = absurd (omega (arith, h))
+first_of (n ∷ ns) h = (n, refl)
+
+module _ (words : List ℕ) (A : List Entry) (nodes : List Node) (shown : AreShown nodes) (gs : List GraphInst) (is : IsGraphOf words A nodes gs) where
+  small : (n : Node) (at offset : ℕ) → slice_get nodes at ≡ Some n → n.key.sp ≡ Closed offset → offset ≤ 2048
+  small n at offset here closed = subst (λ (x : ℕ). x ≤ 2048) (ap offset_of closed) (shown.all n (contained nodes at n here)).small
+
+  some_inst : 0 < length nodes → 0 < length (insts_of gs)
+  some_inst some =
+      let n = first_of nodes some in
+      let has = (is.insts n.0.key.inst).1 (n.0, contained nodes 0 n.0 n.1, refl) in
+      omega (arith, has.1)
+
+  pub composable : 0 < length nodes → length gs ≤ 65537 → graph.IsGraph gs
+  composable some few =
+      record {
+        some = omega (arith, some_inst some, keys_long gs);
+        few = few;
+        offsets = λ i p h. let q = ((is.places i p).0 h).place in small q.node p.node p.offset q.at q.closed;
+        places = λ i e h. let q = ((is.entered i e).0 h).entry in small q.node e.node e.offset q.at q.closed;
+        within = λ i e h. let q = (is.entered i e).0 h in omega (arith, slice_get_within (insts_of gs) e.into q.into q.leads, keys_long gs);
+      }
+
+pub all_or_fault : (exits : List (Option Exit)) (at : ℕ) (f : NodeFault) → All exits ≡ Fault at f → ⊥
+all_or_fault exits at f e = cc
+
+pub graph_as : {E : Type 0} (words : List ℕ) (A : List Entry) (nodes : List Node) → AreShown nodes → 0 < length nodes → (r : Result Graph E)
+    → IfOk r (λ g. length g.instances ≤ 65536) → IfOk r (λ g. IsGraphOf words A nodes g.instances) → IfOk r (λ g. graph.IsGraph g.instances)
+graph_as words A nodes shown some (Ok g) few is = composable words A nodes shown g.instances is some (omega (arith, few))
+graph_as words A nodes shown some (Err e) few is = tt

@@ -1,0 +1,5 @@
+mod Lists
+mod Insts
+mod Adding
+mod Graphs
+mod Alike

@@ -1,0 +1,64 @@
+-- The graph of a family of nodes: which instance enters which. Source: own.
+use Rattle.std.specs.Prelude.{ℕ, ◌≡◌, ◌↔◌, List, map, Contains, Some, slice_get}
+use Rattle.std.specs.List.Sorted.{IsStrictlySortedBy}
+use Rattle.avr_model.specs.declared.assumption.Entry.{Entry}
+use Rattle.mask_states.specs.declared.keys.EdgeKind.{EdgeKind}
+use Rattle.mask_states.specs.declared.keys.InstKey.{InstKey}
+use Rattle.mask_states.specs.declared.keys.SpForm.TheVariants.{Closed}
+use Rattle.mask_states.specs.Order.{inst_cmp}
+use Rattle.local_rules.specs.declared.local.Node.{Node}
+use Rattle.edge_rules.specs.Edges.{Enters}
+use Rattle.nesting_bound.specs.declared.graph.Entered.{Entered}
+use Rattle.nesting_bound.specs.declared.graph.GraphInst.{GraphInst}
+use Rattle.nesting_bound.specs.declared.graph.Place.{Place}
+use Rattle.nesting_bound.specs.Graph as graph
+
+-- the instances of a graph, by their numbers
+abbrev pub insts_of : List GraphInst → List InstKey
+insts_of gs = map (λ g. g.key) gs
+
+-- the family has a node of this instance
+abbrev pub HasInst : List Node → InstKey → Type 0
+HasInst nodes inst = (n : Node) × Contains nodes n × (n.key.inst ≡ inst)
+
+-- each instance that a node of the family enters has a node
+abbrev pub IsPeopled : List ℕ → List Entry → List Node → Type 0
+IsPeopled words A nodes = (n : Node) (way : EdgeKind) (into : InstKey) (back : ℕ) → Contains nodes n → Enters words A n way into back → HasInst nodes into
+
+-- the place's node is one of this instance, with a whole stack pointer
+pub record IsPlaceOf (nodes : List Node) (inst : InstKey) (p : Place) : Type 0 where
+  pub node : Node
+  pub at : slice_get nodes p.node ≡ Some node
+  pub same : node.key.inst ≡ inst
+  pub closed : node.key.sp ≡ Closed p.offset
+
+-- the edge's node is one of the first instance, and enters the second in this way
+pub record IsEntryOf (words : List ℕ) (A : List Entry) (nodes : List Node) (inst into : InstKey) (e : Entered) : Type 0 where
+  pub node : Node
+  pub at : slice_get nodes e.node ≡ Some node
+  pub same : node.key.inst ≡ inst
+  pub closed : node.key.sp ≡ Closed e.offset
+  pub back : ℕ
+  pub enters : Enters words A node e.kind into back
+
+-- the place belongs to the instance of this number
+pub record HasPlaceOf (nodes : List Node) (insts : List InstKey) (i : ℕ) (p : Place) : Type 0 where
+  pub inst : InstKey
+  pub is : slice_get insts i ≡ Some inst
+  pub place : IsPlaceOf nodes inst p
+
+-- the edge leads from the instance of this number to that of the edge's
+pub record HasEntryOf (words : List ℕ) (A : List Entry) (nodes : List Node) (insts : List InstKey) (i : ℕ) (e : Entered) : Type 0 where
+  pub inst : InstKey
+  pub is : slice_get insts i ≡ Some inst
+  pub into : InstKey
+  pub leads : slice_get insts e.into ≡ Some into
+  pub entry : IsEntryOf words A nodes inst into e
+
+-- The instances are those that have nodes, numbered in the order of their keys; the places of each are its nodes with a whole stack
+-- pointer, and its edges are the ways in which its nodes enter instances. Nodes are named by their numbers in the family.
+pub record IsGraphOf (words : List ℕ) (A : List Entry) (nodes : List Node) (gs : List GraphInst) : Type 0 where
+  pub ascending : IsStrictlySortedBy inst_cmp (insts_of gs)
+  pub insts : (inst : InstKey) → Contains (insts_of gs) inst ↔ HasInst nodes inst
+  pub places : (i : ℕ) (p : Place) → graph.HasPlace gs i p ↔ HasPlaceOf nodes (insts_of gs) i p
+  pub entered : (i : ℕ) (e : Entered) → graph.Enters gs i e ↔ HasEntryOf words A nodes (insts_of gs) i e

@@ -1,0 +1,108 @@
+-- Numbers of instances, and places and edges node by node.
+use Rattle.std.specs.Prelude.{ℕ, ◌+◌, ◌-◌, ◌≡◌, ◌<◌, ◌≤◌, ◌↔◌, Bool, true, false, if◌then◌else◌, List, [], ◌∷◌, ◌++◌, length, Option, Some, None, Contains, slice_get, slice_index}
+use Rattle.std.specs.List.{flat_map}
+use Rattle.std.specs.List.Sorted.{IsStrictlySortedBy}
+use Rattle.avr_model.specs.declared.assumption.Entry.{Entry}
+use Rattle.mask_states.specs.declared.keys.EdgeKind.{EdgeKind}
+use Rattle.mask_states.specs.declared.keys.EdgeKind.TheVariants.{Local, Call, Interrupt, Return}
+use Rattle.mask_states.specs.declared.keys.InstKey.{InstKey}
+use Rattle.mask_states.specs.declared.keys.SpForm.{SpForm}
+use Rattle.mask_states.specs.declared.keys.SpForm.TheVariants.{Closed, Open}
+use Rattle.mask_states.specs.Order.{inst_cmp, same_inst}
+use Rattle.local_rules.specs.declared.local.Node.{Node}
+use Rattle.edge_rules.specs.declared.edge.Edge.{Edge}
+use Rattle.edge_rules.specs.Edges.{Enters, AreEdges}
+use Rattle.nesting_bound.specs.declared.graph.Entered.{Entered}
+use Rattle.nesting_bound.specs.declared.graph.GraphInst.{GraphInst}
+use Rattle.nesting_bound.specs.declared.graph.Place.{Place}
+use Rattle.family_graph.specs.Graphs.{HasInst, IsPlaceOf, IsEntryOf}
+
+-- ---- numbers
+
+-- the last instance is this one
+abbrev pub is_last : Option InstKey → InstKey → Bool
+is_last None inst = false
+is_last (Some last) inst = same_inst last inst
+
+-- the number of the first instance of this key, and how many there are where it is none of them
+abbrev pub number_in : List InstKey → InstKey → ℕ
+number_in [] inst = 0
+number_in (i ∷ is) inst = if same_inst i inst then 0 else number_in is inst + 1
+
+-- this instance is the last
+pub record EndsWith (insts : List InstKey) (inst : InstKey) : Type 0 where
+  pub front : List InstKey
+  pub is : insts ≡ front ++ inst ∷ []
+
+-- an instance behind the others, unless it is the last of them already
+pub data Grows (insts : List InstKey) (inst : InstKey) : List InstKey → Type 0 where
+  stays : EndsWith insts inst → Grows insts inst insts
+  adds : (EndsWith insts inst → ⊥) → Grows insts inst (insts ++ inst ∷ [])
+
+-- the first nodes have these numbers, which are those of these instances
+pub record AreNumbers (nodes : List Node) (count : ℕ) (insts : List InstKey) (numbers : List ℕ) : Type 0 where
+  pub all : length numbers ≡ count
+  pub few : length insts ≤ count
+  pub ascending : IsStrictlySortedBy inst_cmp insts
+  pub used : (inst : InstKey) → Contains insts inst → HasInst nodes inst
+  pub named : (at : ℕ) (n : Node) → at < count → slice_get nodes at ≡ Some n → slice_get insts (slice_index numbers at) ≡ Some n.key.inst
+  pub last : (n : Node) → 0 < count → slice_get nodes (count - 1) ≡ Some n → EndsWith insts n.key.inst
+
+-- ---- places and edges
+
+abbrev pub is_entry : EdgeKind → Bool
+is_entry Local = false
+is_entry Call = true
+is_entry (Interrupt v clears) = true
+is_entry Return = false
+
+-- an edge of the graph for one that enters an instance
+abbrev pub entry_if : List InstKey → ℕ → ℕ → Edge → List Entered
+entry_if insts at offset e = if is_entry e.kind then record { node = at; offset = offset; kind = e.kind; into = number_in insts e.to.inst } ∷ [] else []
+
+abbrev pub entries_of : List InstKey → ℕ → ℕ → List Edge → List Entered
+entries_of insts at offset edges = flat_map (entry_if insts at offset) edges
+
+-- what the node of this number adds to the places and edges of its instance
+abbrev pub AddsAt : List ℕ → List Entry → List Node → List InstKey → ℕ → Node → SpForm → List Place → List Entered → List Place → List Entered → Type 0
+AddsAt words A nodes insts at n (Open offset high) ps es ps' es' = (ps' ≡ ps) × (es' ≡ es)
+AddsAt words A nodes insts at n (Closed offset) ps es ps' es' =
+    (ps' ≡ ps ++ record { node = at; offset = offset } ∷ [])
+    × ((edges : List Edge) × AreEdges words A nodes n edges × (es' ≡ es ++ entries_of insts at offset edges))
+
+-- a place of a node between these numbers
+pub record IsPlaceBetween (nodes : List Node) (low high : ℕ) (p : Place) : Type 0 where
+  pub above : low ≤ p.node
+  pub below : p.node < high
+  pub node : Node
+  pub at : slice_get nodes p.node ≡ Some node
+  pub closed : node.key.sp ≡ Closed p.offset
+
+-- an edge from a node between these numbers
+pub record IsEntryBetween (words : List ℕ) (A : List Entry) (nodes : List Node) (insts : List InstKey) (low high : ℕ) (e : Entered) : Type 0 where
+  pub above : low ≤ e.node
+  pub below : e.node < high
+  pub node : Node
+  pub at : slice_get nodes e.node ≡ Some node
+  pub closed : node.key.sp ≡ Closed e.offset
+  pub into : InstKey
+  pub leads : slice_get insts e.into ≡ Some into
+  pub back : ℕ
+  pub enters : Enters words A node e.kind into back
+
+-- an edge of this instance
+pub record IsEntryFrom (words : List ℕ) (A : List Entry) (nodes : List Node) (insts : List InstKey) (inst : InstKey) (e : Entered) : Type 0 where
+  pub into : InstKey
+  pub leads : slice_get insts e.into ≡ Some into
+  pub entry : IsEntryOf words A nodes inst into e
+
+-- the places and edges are those of this instance
+pub record IsInstOf (words : List ℕ) (A : List Entry) (nodes : List Node) (insts : List InstKey) (inst : InstKey) (g : GraphInst) : Type 0 where
+  pub key : g.key ≡ inst
+  pub places : (p : Place) → Contains g.offsets p ↔ IsPlaceOf nodes inst p
+  pub entered : (e : Entered) → Contains g.entered e ↔ IsEntryFrom words A nodes insts inst e
+
+-- the first instances, in the order of their numbers
+pub record AreInsts (words : List ℕ) (A : List Entry) (nodes : List Node) (insts : List InstKey) (count : ℕ) (gs : List GraphInst) : Type 0 where
+  pub count_is : length gs ≡ count
+  pub each : (i : ℕ) (inst : InstKey) → i < count → slice_get insts i ≡ Some inst → (g : GraphInst) × (slice_get gs i ≡ Some g) × IsInstOf words A nodes insts inst g

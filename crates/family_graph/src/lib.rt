@@ -1,0 +1,10 @@
+//! Which instance of a family of nodes enters which, as the graph that needs are worked out from. Source: own.
+#![tactic(auto)]
+
+pub mod building;
+pub mod laws;
+mod numbering;
+
+pub use building::graph_of;
+pub use edge_rules::View;
+pub use nesting_bound::{Entered, Graph, GraphInst, Place};

@@ -1,0 +1,65 @@
+//! Numbers of instances.
+
+ghost use Rattle.std.specs.Prelude.{◌≡◌, ◌+◌, ◌<◌, ◌≤◌, ◌↔◌, length, IfOk, OnOk, IsTrue};
+ghost use Rattle.edge_rules.specs.Views.{AreShown};
+ghost use Rattle.family_graph.specs.Graphs.{HasInst};
+ghost use Rattle.family_graph.specs.Numbers.{EndsWith, Grows, AreNumbers, number_in};
+
+use edge_rules::View;
+use mask_states::InstKey;
+use std::alloc::{AllocError, Global};
+
+/// The instances of a family's nodes in the order of their keys, and for each node the number of its instance.
+#[derive(Drop)]
+pub(crate) struct Numbering {
+    /// The instances.
+    pub insts: Vec<InstKey>,
+    /// The number of each node's instance.
+    pub numbers: Vec<u32>,
+}
+
+// Whether the instance is the last.
+fn ends_with(insts: &[InstKey], inst: &InstKey) -> bool
+    ensures { IsTrue result ↔ EndsWith insts.now inst.now }
+{
+    match insts.last() {
+        None => false,
+        Some(last) => *last == *inst,
+    }
+}
+
+// Puts the instance of the next node behind the others, unless it is the last of them. Its number.
+fn put(insts: &mut Vec<InstKey>, inst: &InstKey) -> Result<u32, AllocError>
+    requires { length insts.old.items < 65536 }
+    ensures grows { OnOk result (Grows insts.old.items inst.now insts.new.items) }
+    ensures number { IfOk result (λ number. number + 1 ≡ length insts.new.items) }
+{
+    if !ends_with(insts, inst) {
+        insts.push(*inst)?;
+    }
+    Ok(insts.len() as u32 - 1)
+}
+
+/// The numbers of the instances of all nodes.
+pub(crate) fn numbered<V: View>(alloc: Global, view: &V) -> Result<Numbering, AllocError>
+    requires { length (V.nodes view.now) ≤ 65536 }
+    ensures { IfOk result (λ n. AreNumbers (V.nodes view.now) (length (V.nodes view.now)) n.insts.items n.numbers.items) }
+{
+    let mut insts = Vec::new(alloc);
+    let mut numbers = Vec::new(alloc);
+    for at in 0..view.count() {
+        let number = put(&mut insts, &view.key(at).inst)?;
+        numbers.push(number)?;
+    }
+    Ok(Numbering { insts, numbers })
+}
+
+/// The number of an instance that has a node.
+pub(crate) fn number_of<V: View>(view: &V, numbering: &Numbering, inst: &InstKey) -> u32
+    requires numbers { AreNumbers (V.nodes view.now) (length (V.nodes view.now)) numbering.now.insts.items numbering.now.numbers.items }
+    requires has { HasInst (V.nodes view.now) inst.now }
+    ensures { result ≡ number_in numbering.now.insts.items inst.now }
+{
+    let (low, _) = view.span(inst);
+    numbering.numbers[low]
+}
