@@ -1,4 +1,4 @@
-//! Worked graphs: ranks, needs and chains as one finds them by hand.
+//! Worked graphs: ranks, needs, chains and named instances as one finds them by hand.
 
 use crate::{
     ComposeFault, Entered, Entries, Graph, GraphInst, Instances, Link, Place, Places, chain,
@@ -8,239 +8,296 @@ use mask_states::{EdgeKind, InstKey, Kind};
 use std::alloc::{AllocError, Global};
 use vector_table::Masks;
 
-fn place(node: u32, offset: u16) -> Place {
-    Place { node, offset }
+/// What enters or is entered: nothing or the root, a call, or the interrupt of a vector from 2 on.
+const NONE: u8 = 0;
+
+const CALL: u8 = 1;
+
+/// A node and an offset.
+type At = (u32, u16);
+
+/// A node, an offset, how it enters, and the instance that is entered.
+type Edge = (u32, u16, u8, u32);
+
+/// How it was entered, its entry, its places and its edges.
+type Inst<'a> = (u8, u16, &'a [At], &'a [Edge]);
+
+/// An instance, a node, the depth there, and how the next one is entered.
+type Step = (u32, u32, u16, u8);
+
+/// What `compose` and `chain` make of a graph.
+#[derive(Clone, Copy)]
+enum Wanted<'a> {
+    /// The ranks, the needs and the chain.
+    Least(&'a [u32], &'a [u32], &'a [Step]),
+    /// The instance that is named.
+    Cycle(u32),
+    /// It is not composable.
+    Shapeless,
+    /// It is, but an instance that is entered or the root has no place.
+    Placeless,
 }
 
-fn call(node: u32, offset: u16, into: u32) -> Entered {
-    Entered {
-        node,
-        offset,
-        kind: EdgeKind::Call,
-        into,
+fn kind(number: u8) -> EdgeKind {
+    if number == CALL {
+        EdgeKind::Call
+    } else {
+        EdgeKind::Interrupt(number, false)
     }
 }
 
-fn interrupt(node: u32, offset: u16, vector: u8, into: u32) -> Entered {
-    Entered {
-        node,
-        offset,
-        kind: EdgeKind::Interrupt(vector, false),
-        into,
-    }
-}
-
-fn link(inst: u32, node: u32, depth: u16, kind: Option<EdgeKind>) -> Link {
-    Link {
-        inst,
-        node,
-        depth,
+fn key(number: u8, entry: u16) -> InstKey {
+    let kind = match number {
+        NONE => Kind::Root,
+        CALL => Kind::Call,
+        _ => Kind::Vector(number),
+    };
+    InstKey {
         kind,
+        entry,
+        masks: Masks::none(),
+        i: false,
     }
 }
 
-fn instance(
-    alloc: Global,
-    kind: Kind,
-    entry: u16,
-    offsets: &[Place],
-    entered: &[Entered],
-) -> Result<GraphInst, AllocError> {
-    Ok(GraphInst {
-        key: InstKey {
+fn places(alloc: Global, rows: &[At]) -> Result<Places, AllocError> {
+    let mut list = Vec::new(alloc);
+    for &(node, offset) in rows {
+        list.push(Place { node, offset })?;
+    }
+    Ok(Places::new(list))
+}
+
+fn edges(alloc: Global, rows: &[Edge]) -> Result<Entries, AllocError> {
+    let mut list = Vec::new(alloc);
+    for &(node, offset, by, into) in rows {
+        let kind = kind(by);
+        list.push(Entered {
+            node,
+            offset,
             kind,
-            entry,
-            masks: Masks::none(),
-            i: false,
-        },
-        offsets: Places::new(offsets.to_vec(alloc)?),
-        entered: Entries::new(entered.to_vec(alloc)?),
-    })
+            into,
+        })?;
+    }
+    Ok(Entries::new(list))
 }
 
-// Whether the graph has these ranks and needs, and this chain.
-fn has(alloc: Global, graph: &Graph, ranks: &[u32], needs: &[u32], links: &[Link]) -> bool {
-    if !graph.is_composable() {
-        return false;
+fn graph(alloc: Global, rows: &[Inst]) -> Result<Graph, AllocError> {
+    let mut list = Vec::new(alloc);
+    for &(by, entry, at, entered) in rows {
+        list.push(GraphInst {
+            key: key(by, entry),
+            offsets: places(alloc, at)?,
+            entered: edges(alloc, entered)?,
+        })?;
     }
-    match compose(alloc, graph) {
-        Err(_) => false,
-        Ok(composed) => {
-            if !graph.has_places() {
-                return false;
-            }
-            if composed.need(0) > 2_048 {
-                return false;
-            }
-            match chain(alloc, graph, &composed) {
-                Err(_) => false,
-                Ok(found) => {
-                    composed.ranks.as_slice() == ranks
-                        && composed.needs.as_slice() == needs
-                        && found.as_slice() == links
-                }
-            }
+    let instances = Instances::new(list);
+    Ok(Graph { instances })
+}
+
+fn is_link(link: &Link, step: Step) -> bool {
+    let (inst, node, depth, by) = step;
+    let kind = if by == NONE { None } else { Some(kind(by)) };
+    (link.inst, link.node, link.depth) == (inst, node, depth) && link.kind == kind
+}
+
+fn are_links(links: &[Link], steps: &[Step]) -> bool {
+    for (link, step) in links.iter().zip(steps) {
+        if !is_link(link, *step) {
+            return false;
         }
     }
+    links.len() == steps.len()
 }
 
-// Whether the graph is refused for a cycle that is named by this instance.
+/// Whether the graph has these ranks and needs, and this chain.
+fn has(
+    alloc: Global,
+    graph: &Graph,
+    ranks: &[u32],
+    needs: &[u32],
+    steps: &[Step],
+) -> Result<bool, AllocError> {
+    if !graph.is_composable() || !graph.has_places() {
+        return Ok(false);
+    }
+    let Ok(composed) = compose(alloc, graph) else {
+        return Ok(false);
+    };
+    if composed.need(0) > 2_048 {
+        return Ok(false);
+    }
+    let links = chain(alloc, graph, &composed)?;
+    Ok(
+        composed.ranks.as_slice() == ranks
+            && composed.needs.as_slice() == needs
+            && are_links(&links, steps),
+    )
+}
+
+/// Whether the graph is refused for a cycle that is named by this instance.
 fn is_cyclic(alloc: Global, graph: &Graph, at: u32) -> bool {
     if !graph.is_composable() {
         return false;
     }
     match compose(alloc, graph) {
-        Err(fault) => fault == ComposeFault::Cycle(at),
-        Ok(_) => false,
+        Err(ComposeFault::Cycle(named)) => named == at,
+        _ => false,
     }
 }
 
-fn graph(list: Vec<GraphInst>) -> Graph {
-    Graph {
-        instances: Instances::new(list),
+fn is_row(alloc: Global, rows: &[Inst], wanted: &Wanted) -> Result<bool, AllocError> {
+    let graph = graph(alloc, rows)?;
+    match wanted {
+        Wanted::Least(ranks, needs, steps) => has(alloc, &graph, ranks, needs, steps),
+        Wanted::Cycle(at) => Ok(is_cyclic(alloc, &graph, *at)),
+        Wanted::Shapeless => Ok(!graph.is_composable()),
+        Wanted::Placeless => Ok(graph.is_composable() && !graph.has_places()),
     }
 }
 
 #[test]
-fn a_root_alone_ends_at_its_least_deepest_node(rt: HostRuntime) -> Result<(), AllocError> {
-    let alloc = rt.alloc();
-    let mut list = Vec::new(alloc);
-    let offsets = [place(0, 0), place(4, 3), place(2, 3), place(1, 1)];
-    list.push(instance(alloc, Kind::Root, 0, &offsets, &[])?)?;
-    assert!(rt; has(alloc, &graph(list), &[0], &[3], &[link(0, 2, 3, None)]));
-    Ok(())
-}
-
-#[test]
-fn a_call_takes_two_bytes(rt: HostRuntime) -> Result<(), AllocError> {
-    let alloc = rt.alloc();
-    let mut list = Vec::new(alloc);
-    list.push(instance(alloc, Kind::Root, 0, &[place(0, 0)], &[call(0, 1, 1)])?)?;
-    list.push(instance(alloc, Kind::Call, 9, &[place(1, 0)], &[])?)?;
-    let links = [link(0, 0, 1, Some(EdgeKind::Call)), link(1, 1, 3, None)];
-    assert!(rt; has(alloc, &graph(list), &[1, 0], &[3, 0], &links));
-    Ok(())
-}
-
-// Vectors 2 and 3 at one place, each of whose handlers lets the other in: four bytes, and not two.
-#[test]
-fn two_handlers_that_nest_count_twice(rt: HostRuntime) -> Result<(), AllocError> {
-    let alloc = rt.alloc();
-    let mut list = Vec::new(alloc);
-    let both = [interrupt(0, 0, 2, 1), interrupt(0, 0, 3, 2)];
-    list.push(instance(alloc, Kind::Root, 0, &[place(0, 0)], &both)?)?;
-    list.push(instance(
-        alloc,
-        Kind::Vector(2),
-        2,
-        &[place(1, 0)],
-        &[interrupt(1, 0, 3, 4)],
-    )?)?;
-    list.push(instance(
-        alloc,
-        Kind::Vector(3),
-        4,
-        &[place(2, 0)],
-        &[interrupt(2, 0, 2, 3)],
-    )?)?;
-    list.push(instance(alloc, Kind::Vector(2), 2, &[place(3, 0)], &[])?)?;
-    list.push(instance(alloc, Kind::Vector(3), 4, &[place(4, 0)], &[])?)?;
-    let links = [
-        link(0, 0, 0, Some(EdgeKind::Interrupt(2, false))),
-        link(1, 1, 2, Some(EdgeKind::Interrupt(3, false))),
-        link(4, 4, 4, None),
+fn worked_graphs(rt: HostRuntime) -> Result<(), AllocError> {
+    let rows: [(&[Inst], Wanted); 15] = [
+        // a root alone ends at its least deepest node
+        (
+            &[(NONE, 0, &[(0, 0), (4, 3), (2, 3), (1, 1)], &[])],
+            Wanted::Least(&[0], &[3], &[(0, 2, 3, NONE)]),
+        ),
+        // a call takes two bytes
+        (
+            &[
+                (NONE, 0, &[(0, 0)], &[(0, 1, CALL, 1)]),
+                (CALL, 9, &[(1, 0)], &[]),
+            ],
+            Wanted::Least(&[1, 0], &[3, 0], &[(0, 0, 1, CALL), (1, 1, 3, NONE)]),
+        ),
+        // vectors 2 and 3 at one place, each of whose handlers lets the other in: four bytes, and not two
+        (
+            &[
+                (NONE, 0, &[(0, 0)], &[(0, 0, 2, 1), (0, 0, 3, 2)]),
+                (2, 2, &[(1, 0)], &[(1, 0, 3, 4)]),
+                (3, 4, &[(2, 0)], &[(2, 0, 2, 3)]),
+                (2, 2, &[(3, 0)], &[]),
+                (3, 4, &[(4, 0)], &[]),
+            ],
+            Wanted::Least(
+                &[2, 1, 1, 0, 0],
+                &[4, 2, 2, 0, 0],
+                &[(0, 0, 0, 2), (1, 1, 2, 3), (4, 4, 4, NONE)],
+            ),
+        ),
+        // of two functions that call themselves, that of the lesser entry is named
+        (
+            &[
+                (NONE, 0, &[(0, 0)], &[(0, 0, CALL, 1), (0, 0, CALL, 2)]),
+                (CALL, 9, &[(1, 0)], &[(1, 0, CALL, 1)]),
+                (CALL, 7, &[(2, 0)], &[(2, 0, CALL, 2)]),
+            ],
+            Wanted::Cycle(2),
+        ),
+        // A handler that lets itself in is named, although a function of a lesser entry calls itself; and the least number of
+        // two that are of one vector. The root, which reaches both and no one reaches, is not named.
+        (
+            &[
+                (NONE, 0, &[(0, 0)], &[(0, 0, CALL, 1), (0, 0, 3, 2)]),
+                (CALL, 1, &[(1, 0)], &[(1, 0, CALL, 1)]),
+                (3, 4, &[(2, 0)], &[(2, 0, 3, 3)]),
+                (3, 4, &[(3, 0)], &[(3, 0, 3, 2)]),
+            ],
+            Wanted::Cycle(2),
+        ),
+        // a handler and a function between two cycles reach themselves by neither
+        (
+            &[
+                (NONE, 0, &[(0, 0)], &[(0, 0, CALL, 1)]),
+                (CALL, 8, &[(1, 0)], &[(1, 0, CALL, 1), (1, 0, 2, 2)]),
+                (2, 2, &[(2, 0)], &[(2, 0, CALL, 3)]),
+                (CALL, 3, &[(3, 0)], &[(3, 0, CALL, 4)]),
+                (CALL, 7, &[(4, 0)], &[(4, 0, CALL, 5)]),
+                (CALL, 6, &[(5, 0)], &[(5, 0, CALL, 4)]),
+            ],
+            Wanted::Cycle(5),
+        ),
+        // two cycles with an instance in common, of which the later part was come to first
+        (
+            &[
+                (NONE, 0, &[(0, 0)], &[(0, 0, CALL, 3)]),
+                (CALL, 5, &[(1, 0)], &[(1, 0, CALL, 2)]),
+                (CALL, 6, &[(2, 0)], &[(2, 0, CALL, 3), (2, 0, CALL, 2)]),
+                (CALL, 9, &[(3, 0)], &[(3, 0, CALL, 4), (3, 0, CALL, 1)]),
+                (CALL, 8, &[(4, 0)], &[(4, 0, CALL, 3)]),
+            ],
+            Wanted::Cycle(1),
+        ),
+        // a chain whose numbers ascend, and one that an interrupt enters in its midst
+        (
+            &[
+                (NONE, 0, &[(0, 0)], &[(0, 0, CALL, 1)]),
+                (CALL, 5, &[(1, 1)], &[(1, 1, CALL, 2), (1, 1, 2, 4)]),
+                (CALL, 6, &[(2, 2)], &[(2, 2, CALL, 3)]),
+                (CALL, 7, &[(3, 3)], &[]),
+                (2, 2, &[(4, 1)], &[(4, 1, CALL, 2)]),
+            ],
+            Wanted::Least(
+                &[4, 3, 1, 0, 2],
+                &[15, 13, 7, 3, 10],
+                &[
+                    (0, 0, 0, CALL),
+                    (1, 1, 3, 2),
+                    (4, 4, 6, CALL),
+                    (2, 2, 10, CALL),
+                    (3, 3, 15, NONE),
+                ],
+            ),
+        ),
+        // two calls of one function: the deeper place counts, and the chain goes by it
+        (
+            &[
+                (
+                    NONE,
+                    0,
+                    &[(0, 1), (5, 2)],
+                    &[(0, 1, CALL, 1), (5, 2, CALL, 1)],
+                ),
+                (CALL, 9, &[(7, 4), (6, 4)], &[]),
+            ],
+            Wanted::Least(&[1, 0], &[8, 4], &[(0, 5, 2, CALL), (1, 6, 8, NONE)]),
+        ),
+        // at one node, and as deep: a call before an interrupt, and of two calls that of the lesser target
+        (
+            &[
+                (
+                    NONE,
+                    0,
+                    &[(0, 0)],
+                    &[(0, 0, 2, 1), (0, 0, CALL, 2), (0, 0, CALL, 3)],
+                ),
+                (2, 2, &[(1, 0)], &[]),
+                (CALL, 9, &[(2, 0)], &[]),
+                (CALL, 7, &[(3, 0)], &[]),
+            ],
+            Wanted::Least(
+                &[1, 0, 0, 0],
+                &[2, 0, 0, 0],
+                &[(0, 0, 0, CALL), (3, 3, 2, NONE)],
+            ),
+        ),
+        // no instance; one that isn't there is entered; an offset too great, at a place and at an edge; no place
+        (&[], Wanted::Shapeless),
+        (
+            &[(NONE, 0, &[(0, 0)], &[(0, 0, CALL, 1)])],
+            Wanted::Shapeless,
+        ),
+        (&[(NONE, 0, &[(0, 2_049)], &[])], Wanted::Shapeless),
+        (
+            &[(NONE, 0, &[(0, 0)], &[(0, 2_049, CALL, 0)])],
+            Wanted::Shapeless,
+        ),
+        (&[(NONE, 0, &[], &[])], Wanted::Placeless),
     ];
-    assert!(rt;
-        has(
-            alloc,
-            &graph(list),
-            &[2, 1, 1, 0, 0],
-            &[4, 2, 2, 0, 0],
-            &links
-        )
-    );
-    Ok(())
-}
-
-#[test]
-fn a_function_that_calls_itself_is_named(rt: HostRuntime) -> Result<(), AllocError> {
-    let alloc = rt.alloc();
-    let mut list = Vec::new(alloc);
-    let calls = [call(0, 0, 1), call(0, 0, 2)];
-    list.push(instance(alloc, Kind::Root, 0, &[place(0, 0)], &calls)?)?;
-    list.push(instance(alloc, Kind::Call, 9, &[place(1, 0)], &[call(1, 0, 1)])?)?;
-    list.push(instance(alloc, Kind::Call, 7, &[place(2, 0)], &[call(2, 0, 2)])?)?;
-    assert!(rt; is_cyclic(alloc, &graph(list), 2));
-    Ok(())
-}
-
-// A handler that lets itself in is named, although a function of a lesser entry calls itself; and the least number of two that are
-// of one vector. The root, which reaches both and no one reaches, is not named.
-#[test]
-fn a_vector_is_named_before_a_function(rt: HostRuntime) -> Result<(), AllocError> {
-    let alloc = rt.alloc();
-    let mut list = Vec::new(alloc);
-    let entered = [call(0, 0, 1), interrupt(0, 0, 3, 2)];
-    list.push(instance(alloc, Kind::Root, 0, &[place(0, 0)], &entered)?)?;
-    list.push(instance(alloc, Kind::Call, 1, &[place(1, 0)], &[call(1, 0, 1)])?)?;
-    list.push(instance(
-        alloc,
-        Kind::Vector(3),
-        4,
-        &[place(2, 0)],
-        &[interrupt(2, 0, 3, 3)],
-    )?)?;
-    list.push(instance(
-        alloc,
-        Kind::Vector(3),
-        4,
-        &[place(3, 0)],
-        &[interrupt(3, 0, 3, 2)],
-    )?)?;
-    assert!(rt; is_cyclic(alloc, &graph(list), 2));
-    Ok(())
-}
-
-// Two calls of one function: the deeper place counts, and the chain goes by it.
-#[test]
-fn the_deeper_of_two_calls_counts(rt: HostRuntime) -> Result<(), AllocError> {
-    let alloc = rt.alloc();
-    let mut list = Vec::new(alloc);
-    let calls = [call(0, 1, 1), call(5, 2, 1)];
-    list.push(instance(alloc, Kind::Root, 0, &[place(0, 1), place(5, 2)], &calls)?)?;
-    list.push(instance(alloc, Kind::Call, 9, &[place(7, 4), place(6, 4)], &[])?)?;
-    let links = [link(0, 5, 2, Some(EdgeKind::Call)), link(1, 6, 8, None)];
-    assert!(rt; has(alloc, &graph(list), &[1, 0], &[8, 4], &links));
-    Ok(())
-}
-
-// At one node, and as deep: a call before an interrupt, and of two calls that of the lesser target.
-#[test]
-fn calls_come_first_and_by_target(rt: HostRuntime) -> Result<(), AllocError> {
-    let alloc = rt.alloc();
-    let mut list = Vec::new(alloc);
-    let entered = [interrupt(0, 0, 2, 1), call(0, 0, 2), call(0, 0, 3)];
-    list.push(instance(alloc, Kind::Root, 0, &[place(0, 0)], &entered)?)?;
-    list.push(instance(alloc, Kind::Vector(2), 2, &[place(1, 0)], &[])?)?;
-    list.push(instance(alloc, Kind::Call, 9, &[place(2, 0)], &[])?)?;
-    list.push(instance(alloc, Kind::Call, 7, &[place(3, 0)], &[])?)?;
-    let links = [link(0, 0, 0, Some(EdgeKind::Call)), link(3, 3, 2, None)];
-    assert!(rt; has(alloc, &graph(list), &[1, 0, 0, 0], &[2, 0, 0, 0], &links));
-    Ok(())
-}
-
-#[test]
-fn graphs_of_another_shape_are_not_composable(rt: HostRuntime) -> Result<(), AllocError> {
-    let alloc = rt.alloc();
-    assert!(rt; !graph(Vec::new(alloc)).is_composable());
-    let mut list = Vec::new(alloc);
-    list.push(instance(alloc, Kind::Root, 0, &[place(0, 0)], &[call(0, 0, 1)])?)?;
-    assert!(rt; !graph(list).is_composable());
-    let mut list = Vec::new(alloc);
-    list.push(instance(alloc, Kind::Root, 0, &[place(0, 2_049)], &[])?)?;
-    assert!(rt; !graph(list).is_composable());
-    let mut list = Vec::new(alloc);
-    list.push(instance(alloc, Kind::Root, 0, &[], &[])?)?;
-    assert!(rt; !graph(list).has_places());
+    for (at, (instances, wanted)) in rows.iter().enumerate() {
+        assert!(rt; is_row(rt.alloc(), instances, wanted)?, "row {at}");
+    }
     Ok(())
 }
