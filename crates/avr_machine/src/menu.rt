@@ -16,7 +16,7 @@ use vector_table::Masks;
 
 /// The choices of one moment: every `Go`, and each `Take` of a vector in `takes`, which clears an enable bit only where it
 /// is the watchdog's.
-#[derive(Clone, Copy, PartialEq, Eq, Debug)]
+#[derive(Clone, Copy)]
 pub struct Menu {
     /// The program counter.
     pub pc: u16,
