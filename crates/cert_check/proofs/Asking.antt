@@ -23,7 +23,7 @@ use Rattle.cert_check.specs.declared.verdict.Reason.TheVariants as reason
 use Rattle.cert_check.specs.declared.verdict.Verdict.{Verdict}
 use Rattle.cert_check.specs.declared.verdict.Verdict.TheVariants.{Accepted, Rejected}
 use Rattle.cert_check.specs.Verdict.{InstEnters, IsFirstRank, IsFirstNeed}
-use Rattle.cert_check.specs.Working.{AreInstances, place_in, rank_of, rank_at, need_of, need_at, Asks, offset, entry, AreDemands, AllBelong, IsLeast, Pair, MeetsRank, LowRank, PairBelow, lesser_pair, MeetsNeed, LowNeed, NumberBelow, lesser_number, IsMost, more_asked, RanksFall, AllMet, IsWeighed, Decides}
+use Rattle.cert_check.specs.Working.{AreInstances, place_in, rank_of, rank_at, need_of, need_at, Asks, offset, entry, IsAsked, AreDemands, AllBelong, IsLeast, Pair, MeetsRank, LowRank, PairBelow, lesser_pair, MeetsNeed, LowNeed, NumberBelow, lesser_number, IsMost, more_asked, RanksFall, AllMet, IsWeighed, Decides}
 use Rattle.cert_check.proofs.Lists.{one_at, only, IsLesser}
 use Rattle.cert_check.proofs.Insts.{HasPlace, place_is, placed, rank_there, need_there}
 use Rattle.cert_check.proofs.Demands.{entered_belongs}
@@ -224,40 +224,50 @@ module _ (words : List ℕ) (A : List Entry) (c : Claim) (nodes : List Node) (ar
   way_of n _ j l h (entry way inst back e) is to =
       record { node = n; present = h; way = way; inst = inst; back = back; enters = e; from = is; into = same_Some (place_in c.instances inst) l to }
 
+  rank_at_place : (j l : ℕ) (w : IsWay j l) → rank_at c.instances j ≤ rank_at c.instances l
+      → ((d : Demand) (m : Pair) → Contains demands d → LowRank c.instances d m → PairBelow (j, l) m) → HasPlace c.instances w.node.key.inst j
+      → HasPlace c.instances w.inst l → IsFirstRank words A c nodes j l
+  rank_at_place j l w low before p q = record {
+    from = p.inst;
+    into = q.inst;
+    is = p.is;
+    there = q.is;
+    enters = record {
+      node = w.node;
+      present = w.present;
+      of = sym p.same;
+      way = w.way;
+      back = w.back;
+      enters = subst (λ k. Enters words A w.node w.way k w.back) (sym q.same) w.enters;
+    };
+    low = omega (arith, rank_is j p.inst p.is, rank_is l q.inst q.is, low);
+    least = λ m y isy e short.
+        let d = enters_listed j m p.inst y p.is isy e in
+        let up : rank_at c.instances j ≤ rank_at c.instances m = omega (arith, rank_is j p.inst p.is, rank_is m y isy, short) in
+        ⊎_elim (λ lt. absurd (omega (arith, lt))) (λ both. both.1) (before d.0 (j, m) d.1.0 (d.1.1, d.1.2, up));
+    earlier = λ i m x y isx isy lt e.
+        ⊎_elim (λ below. below)
+        (λ above. absurd (
+        let d = enters_listed i m x y isx isy e in
+        let up : rank_at c.instances i ≤ rank_at c.instances m = omega (arith, rank_is i x isx, rank_is m y isy, above) in
+        ⊎_elim (λ less. omega (arith, less, lt)) (λ both. omega (arith, both.0, lt)) (before d.0 (i, m) d.1.0 (d.1.1, d.1.2, up))
+        ))
+        (cases_lt y.rank x.rank);
+  }
+
+  entered_place : (j l : ℕ) (w : IsWay j l) → HasPlace c.instances w.inst l
+  entered_place j l w =
+      subst (HasPlace c.instances w.inst) w.into
+      (placed c.instances w.inst are (entered_belongs words A c.instances nodes are belong land w.node w.way w.inst w.back w.present w.enters))
+
   pub first_rank : (j l : ℕ) → IsLeast (MeetsRank c.instances) (LowRank c.instances) PairBelow demands (Some (j, l)) → IsFirstRank words A c nodes j l
-  first_rank j l h =
-      let d = h.0.0 in
-      let a = (asked d).0 h.0.1.0 in
-      let w = way_of a.node d j l a.present a.asks h.0.1.1.0 h.0.1.1.1 in
-      let p = own_place w.node j w.present w.from in
-      let q : HasPlace c.instances w.inst l = subst (HasPlace c.instances w.inst) w.into (placed c.instances w.inst are (entered_belongs words A c.instances nodes are belong land w.node w.way w.inst w.back w.present w.enters)) in
-      record {
-        from = p.inst;
-        into = q.inst;
-        is = p.is;
-        there = q.is;
-        enters = record {
-          node = w.node;
-          present = w.present;
-          of = sym p.same;
-          way = w.way;
-          back = w.back;
-          enters = subst (λ k. Enters words A w.node w.way k w.back) (sym q.same) w.enters;
-        };
-        low = subst (λ r. r ≤ q.inst.rank) (rank_is j p.inst p.is) (subst (λ r. rank_at c.instances j ≤ r) (rank_is l q.inst q.is) h.0.1.1.2);
-        least = λ m y isy e low.
-            let d' = enters_listed j m p.inst y p.is isy e in
-            let low' : rank_at c.instances j ≤ rank_at c.instances m = omega (arith, rank_is j p.inst p.is, rank_is m y isy, low) in
-            ⊎_elim (λ lt. absurd (omega (arith, lt))) (λ both. both.1) (h.1 d'.0 (j, m) d'.1.0 (d'.1.1, d'.1.2, low'));
-        earlier = λ i m x y isx isy lt e.
-            ⊎_elim (λ below. below)
-            (λ above. absurd (
-            let d' = enters_listed i m x y isx isy e in
-            let low' : rank_at c.instances i ≤ rank_at c.instances m = omega (arith, rank_is i x isx, rank_is m y isy, above) in
-            ⊎_elim (λ less. omega (arith, less, lt)) (λ both. omega (arith, both.0, lt)) (h.1 d'.0 (i, m) d'.1.0 (d'.1.1, d'.1.2, low'))
-            ))
-            (cases_lt y.rank x.rank);
-      }
+  first_rank j l h = by ((asked h.0.0).0 h.0.1.0)
+    where
+      at : IsWay j l → IsFirstRank words A c nodes j l
+      at w = rank_at_place j l w h.0.1.1.2 h.1 (own_place w.node j w.present w.from) (entered_place j l w)
+
+      by : IsAsked words A c.instances nodes h.0.0 → IsFirstRank words A c nodes j l
+      by a = at (way_of a.node h.0.0 j l a.present a.asks h.0.1.1.0 h.0.1.1.1)
 
   own_number : (n : Node) (d : Demand) → Asks words A c.instances n d → d.inst ≡ place_in c.instances n.key.inst
   own_number n _ (offset o e) = refl
@@ -279,32 +289,48 @@ module _ (words : List ℕ) (A : List Entry) (c : Claim) (nodes : List Node) (ar
         (above _ (entry_listed n way into back h e) (number_is n.key.inst j x is same));
   }
 
+  -- what suffices for an instance is at least each demand of it
+  above_asked : (x : Inst) (j m : ℕ) → slice_get c.instances j ≡ Some x → Suffices words A c nodes x.key m → (d : Demand) → Contains demands d → d.inst ≡ j
+      → d.bytes ≤ m
+  above_asked x j m is s d h e = by ((asked d).0 h)
+    where
+      from : (a : IsAsked words A c.instances nodes d) → HasPlace c.instances a.node.key.inst j → d.bytes ≤ m
+      from a p =
+          let same : a.node.key.inst ≡ x.key = sym p.same ∙ ap (λ (y : Inst). y.key) (one_at c.instances j p.inst x p.is is) in
+          suffices_for a.node x.key d m a.present a.asks same s
+
+      by : IsAsked words A c.instances nodes d → d.bytes ≤ m
+      by a = from a (own_place a.node j a.present (sym (own_number a.node d a.asks) ∙ e))
+
+  above_most : (x : Inst) (j need m : ℕ) → slice_get c.instances j ≡ Some x → IsMost demands j need → Suffices words A c nodes x.key m → need ≤ m
+  above_most x j need m is most s =
+      ⊎_elim (λ z. omega (arith, z)) (λ w. let le = above_asked x j m is s w.0 w.1.0 w.1.1 in omega (arith, le, w.1.2)) most.attained
+
+  -- an instance of which a demand isn't met, and none before it has one
+  need_at_place : (j need : ℕ) (d : Demand) (k : InstKey) → Contains demands d → d.inst ≡ j → need_at c.instances j < d.bytes → IsMost demands j need
+      → ((e : Demand) (m : ℕ) → Contains demands e → LowNeed c.instances e m → j ≤ m) → HasPlace c.instances k j → IsFirstNeed words A c nodes j need
+  need_at_place j need d k h is low most before p = record {
+    inst = p.inst;
+    is = p.is;
+    enough = suffices_by p.inst j need p.is most.above;
+    least = λ m s. above_most p.inst j need m p.is most s;
+    low = let le = most.above d h is in omega (arith, le, low, need_is j p.inst p.is);
+    earlier = λ i x isx lt. suffices_by x i x.need isx (λ e m same.
+        ⊎_elim (λ above. absurd (
+        let short : need_at c.instances i < e.bytes = omega (arith, above, need_is i x isx) in
+        let le = before e i m (same, short) in
+        omega (arith, le, lt)
+        )) (λ below. below) (cases_lt x.need e.bytes));
+  }
+
   pub first_need : (j need : ℕ) → IsLeast (MeetsNeed c.instances) (LowNeed c.instances) NumberBelow demands (Some j) → IsMost demands j need
       → IsFirstNeed words A c nodes j need
-  first_need j need h most =
-      let d = h.0.0 in
-      let a = (asked d).0 h.0.1.0 in
-      let p = own_place a.node j a.present (sym (own_number a.node d a.asks) ∙ h.0.1.1.0) in
-      record {
-        inst = p.inst;
-        is = p.is;
-        enough = suffices_by p.inst j need p.is most.above;
-        least = λ n s.
-            ⊎_elim (λ z. omega (arith, z))
-            (λ w.
-            let b = (asked w.0).0 w.1.0 in
-            let q = own_place b.node j b.present (sym (own_number b.node w.0 b.asks) ∙ w.1.1) in
-            let same : b.node.key.inst ≡ p.inst.key = sym q.same ∙ ap (λ (x : Inst). x.key) (one_at c.instances j q.inst p.inst q.is p.is) in
-            let le = suffices_for b.node p.inst.key w.0 n b.present b.asks same s in
-            omega (arith, le, w.1.2)) most.attained;
-        low = let le = most.above d h.0.1.0 h.0.1.1.0 in omega (arith, le, h.0.1.1.1, need_is j p.inst p.is);
-        earlier = λ i x isx lt. suffices_by x i x.need isx (λ e m is.
-            ⊎_elim (λ above. absurd (
-            let low : need_at c.instances i < e.bytes = omega (arith, above, need_is i x isx) in
-            let le = h.1 e i m (is, low) in
-            omega (arith, le, lt)
-            )) (λ below. below) (cases_lt x.need e.bytes));
-      }
+  first_need j need h most = by ((asked h.0.0).0 h.0.1.0)
+    where
+      by : IsAsked words A c.instances nodes h.0.0 → IsFirstNeed words A c nodes j need
+      by a =
+          need_at_place j need h.0.0 a.node.key.inst h.0.1.0 h.0.1.1.0 h.0.1.1.1 most h.1
+          (own_place a.node j a.present (sym (own_number a.node h.0.0 a.asks) ∙ h.0.1.1.0))
 
   pub decided : IsCovered nodes reset_node → AreFaultless words A nodes → (v : Verdict) → IsWeighed c A demands v → Decides words A c nodes v
   decided reset clean (Accepted bound) h = (
