@@ -22,6 +22,3 @@ mod words;
 
 pub use local_rules::{CallSite, CallSites, Exit, Local, Node, NodeFault, Nodes};
 pub use part::local;
-
-#[cfg(test)]
-mod tests;

@@ -25,7 +25,7 @@ use vector_table::Masks;
 pub(crate) const SIZE: u16 = 2048;
 
 /// What is written: the byte, the word of the instruction, and the key after it.
-#[derive(Clone, Copy, PartialEq, Eq, Debug)]
+#[derive(Clone, Copy)]
 pub(crate) struct Write {
     /// The word of the instruction.
     pub pc: u16,

@@ -16,7 +16,7 @@ use std::alloc::Global;
 use vector_table::Assumptions;
 
 /// What leaves the instance.
-#[derive(Debug, Drop)]
+#[derive(Drop)]
 pub struct Outside {
     /// Calls.
     pub calls: CallSites,

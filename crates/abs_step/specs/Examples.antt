@@ -1,0 +1,133 @@
+-- Worked nodes: each line computes. Bits are looked at by rows of a program, and here where a node leads and where bytes come from.
+use Rattle.std.specs.Prelude.{ℕ, ◌+◌, ◌≡◌, Bool, true, false, List, [], ◌∷◌, map, replicate, refl, slice_set, Option, Some}
+use Rattle.avr_model.specs.declared.assumption.Entry.TheVariants.{Jump, Store}
+use Rattle.avr_model.specs.Bits.{any_below, all_below}
+use Rattle.avr_model.specs.Sites.{is_scratch, is_fixed, path_behind, is_loaded_behind}
+use Rattle.avr_model.specs.Assumptions.{jump_line, store_line, is_proved}
+use Rattle.avr_model.specs.Table.{decoded}
+use Rattle.avr_model.specs.Vectors.{row_of}
+use Rattle.bit_domain.specs.Packed.{packed}
+use Rattle.bit_domain.specs.TriByte.{byte_known}
+use Rattle.bit_domain.specs.Numbers.{numbers_of}
+use Rattle.sp_domain.specs.declared.tags.Tag.{Tag}
+use Rattle.sp_domain.specs.declared.tags.Tag.TheVariants as tag
+use Rattle.sp_domain.specs.declared.tags.CarryTag.{CarryTag}
+use Rattle.sp_domain.specs.declared.tags.CarryTag.TheVariants as carry
+use Rattle.sp_domain.specs.declared.slots.Slot.TheVariants.{Guarded}
+use Rattle.abs_state.specs.declared.values.AbsByte.{AbsByte}
+use Rattle.abs_state.specs.declared.state.AbsState.{AbsState}
+use Rattle.abs_state.specs.Values.{root, value_at, unknown, known}
+use Rattle.mask_states.specs.declared.keys.NodeKey.{NodeKey}
+use Rattle.mask_states.specs.declared.keys.Kind.TheVariants.{Call}
+use Rattle.mask_states.specs.declared.keys.SpForm.{SpForm}
+use Rattle.mask_states.specs.declared.keys.SpForm.TheVariants.{Closed, Open}
+use Rattle.mask_states.specs.declared.keys.High.TheVariants.{Tag as Tagged}
+use Rattle.mask_states.specs.Splits.{enable_tri}
+use Rattle.local_rules.specs.declared.local.CallSite.{CallSite}
+use Rattle.local_rules.specs.declared.local.Exit.{Exit}
+use Rattle.local_rules.specs.declared.local.NodeFault.{NodeFault}
+use Rattle.local_rules.specs.declared.local.NodeFault.TheVariants.{UntrackedSp, TooDeep}
+use Rattle.local_rules.specs.Faults.{least}
+use Rattle.local_rules.specs.Raw.{Raw}
+use Rattle.local_rules.specs.Registers.{with_bits}
+use Rattle.local_rules.specs.Reads.{read_at}
+use Rattle.local_rules.specs.Writes.{written_at}
+use Rattle.local_rules.specs.Flow.{site}
+use Rattle.local_rules.specs.Local.{raw}
+
+-- a firmware of one or two words, and erased words behind them
+abbrev firmware : ℕ → ℕ → List ℕ
+firmware w0 w1 = w0 ∷ w1 ∷ replicate 16382 0xFFFF
+
+-- a node at word 0 of a call's frame, with the flag I
+abbrev in_call : SpForm → NodeKey
+in_call sp = record { inst = record { kind = Call; entry = 0; masks = 0; i = true }; pc = 0; masks = 0; i = true; delay = false; sp = sp }
+
+-- with two registers that hold these values
+abbrev with_pair : ℕ → AbsByte → AbsByte → AbsState
+with_pair r lo hi = record root { registers = slice_set (slice_set root.registers r lo) (r + 1) hi }
+
+abbrev from_base : ℕ → ℕ → AbsState
+from_base j k = with_pair 28 (with_bits (tag.SpLo j) unknown.bits) (with_bits (tag.SpHi k) unknown.bits)
+
+-- what is looked at
+abbrev words : Raw → List ℕ
+words r = map (λ n. n.key.pc) r.moves
+
+abbrev tags : ℕ → Raw → List Tag
+tags d r = map (λ n. (value_at n.state.registers d).tag) r.moves
+
+abbrev carries : Raw → List CarryTag
+carries r = map (λ n. n.state.flags.carry) r.moves
+
+abbrev entries : Raw → List Bool
+entries r = map (λ n. n.state.flags.entry) r.moves
+
+abbrev enables : Raw → List ℕ
+enables r = map (λ n. n.key.masks) r.moves
+
+abbrev calls : Raw → List CallSite
+calls r = r.calls
+
+abbrev leaves : Raw → Option Exit
+leaves r = r.exit
+
+abbrev faults : Raw → List NodeFault
+faults r = r.faults
+
+-- `subi r28, 32` of the low byte of base - 5 leaves its borrow, which `sbci r29, 1` takes
+leaves_its_borrow : carries (raw (firmware 0x52C0 0xFFFF) [] (in_call (Closed 0)) (from_base 5 5)) ≡ carry.Borrow 5 32 ∷ []
+unfolding raw is_scratch any_below all_below decoded
+leaves_its_borrow = refl
+
+abbrev borrowing : AbsState
+borrowing = record (from_base 37 5) { flags = record root.flags { carry = carry.Borrow 5 32 } }
+
+takes_the_borrow : tags 29 (raw (firmware 0x40D1 0xFFFF) [] (in_call (Closed 0)) borrowing) ≡ tag.SpHi 293 ∷ []
+unfolding raw is_scratch any_below all_below decoded
+takes_the_borrow = refl
+
+-- `out 0x3f, r29` of the flags of the entry restores them
+restores_flags : entries (raw (firmware 0xBFDF 0xFFFF) [] (in_call (Closed 0)) (with_pair 28 unknown (with_bits tag.EntryFlags (byte_known 128)))) ≡ true ∷ []
+unfolding raw is_scratch any_below all_below decoded written_at packed
+restores_flags = refl
+
+-- `ldd r16, Y+1` at base - 1 reads the slot at the base
+abbrev with_slot : AbsState
+with_slot = record (from_base 1 1) { slots = Guarded (with_bits (tag.Entry 4) unknown.bits) ∷ [] }
+
+reads_a_slot : tags 16 (raw (firmware 0x8109 0xFFFF) [] (in_call (Closed 1)) with_slot) ≡ tag.Entry 4 ∷ []
+unfolding raw is_scratch any_below all_below decoded read_at packed
+reads_a_slot = refl
+
+-- `st X, r16` of an unknown byte, X at 0x003D, where 0x003D and 0x005D are listed: it changes nothing, or the two enable bits
+stores_at_listed : enables (raw (firmware 0x930C 0xFFFF) (Store 0 (0x3D ∷ 0x5D ∷ []) ∷ []) (in_call (Closed 0)) (with_pair 26 (known 0x3D) (known 0))) ≡ 0 ∷ 0 ∷ 1 ∷ 2 ∷ 3 ∷ []
+unfolding raw is_scratch is_fixed path_behind is_loaded_behind is_proved store_line any_below all_below decoded written_at numbers_of enable_tri row_of packed
+stores_at_listed = refl
+
+-- `ijmp` with Z at 5 goes to the one word of the line that Z permits
+jumps_to_listed : words (raw (firmware 0x9409 0xFFFF) (Jump 0 (5 ∷ 7 ∷ []) ∷ []) (in_call (Closed 0)) (with_pair 30 (known 5) (known 0))) ≡ 5 ∷ []
+unfolding raw is_scratch jump_line any_below all_below decoded numbers_of packed
+jumps_to_listed = refl
+
+-- `call 0x0010`, `ret` and `reti`
+calls_a_word : calls (raw (firmware 0x940E 0x0010) [] (in_call (Closed 0)) root) ≡ site 16 2 ∷ []
+unfolding raw is_scratch any_below all_below decoded
+calls_a_word = refl
+
+returns : leaves (raw (firmware 0x9508 0xFFFF) [] (in_call (Closed 0)) root) ≡ Some (record { masks = 0; i = true; delay = false })
+unfolding raw is_scratch any_below all_below decoded
+returns = refl
+
+returns_from_interrupt : leaves (raw (firmware 0x9518 0xFFFF) [] (record (in_call (Closed 0)) { i = false }) root) ≡ Some (record { masks = 0; i = true; delay = true })
+unfolding raw is_scratch any_below all_below decoded
+returns_from_interrupt = refl
+
+-- an interrupt may come while the stack pointer is half written
+hangs : faults (raw (firmware 0x0000 0xFFFF) [] (record (in_call (Open 0 (Tagged 2))) { masks = 32768 }) root) ≡ UntrackedSp 0 ∷ []
+unfolding raw is_scratch any_below all_below decoded
+hangs = refl
+
+-- of two depths the lower one is told
+tells_the_least : least (TooDeep 16 2050) (TooDeep 16 2049 ∷ []) ≡ TooDeep 16 2049
+tells_the_least = refl

@@ -1,0 +1,115 @@
+//! Answers of the table: the successors of a node, of whose states only what the node changes is printed, its calls and its return.
+
+use abs_state::{AbsByte, AbsState};
+use local_rules::local::{Local, Node};
+use mask_states::{High, NodeKey, SpForm};
+use sp_domain::{CarryTag, Slot, Tag};
+use std::io;
+
+fn show_value(rt: &HostRuntime, value: AbsByte) -> io::Result<()> {
+    match value.tag {
+        Tag::None => print!(rt; "-")?,
+        Tag::EntryFlags => print!(rt; "f")?,
+        Tag::Entry(r) => print!(rt; "e{r:02X}")?,
+        Tag::SpLo(j) => print!(rt; "l{j:02X}")?,
+        Tag::SpHi(k) => print!(rt; "h{k:04X}")?,
+    }
+    print!(rt; "{:02X}{:02X}", value.bits.known, value.bits.value)
+}
+
+fn show_slot(rt: &HostRuntime, slot: Slot<AbsByte>) -> io::Result<()> {
+    match slot {
+        Slot::Free => print!(rt; "."),
+        Slot::Guarded(value) => show_value(rt, value),
+    }
+}
+
+fn show_key(rt: &HostRuntime, key: &NodeKey) -> io::Result<()> {
+    let (i, delay) = (u8::from(key.i), u8::from(key.delay));
+    print!(rt; "  to {:04X} {:07X} {i} {delay} ", key.pc, key.masks.bits())?;
+    match key.sp {
+        SpForm::Closed(offset) => print!(rt; "c{offset}"),
+        SpForm::Open(offset, High::Known(high)) => print!(rt; "o{offset},k{high:02X}"),
+        SpForm::Open(offset, High::Tag(k)) => print!(rt; "o{offset},t{k:04X}"),
+    }
+}
+
+fn show_registers(rt: &HostRuntime, state: &AbsState, before: &AbsState) -> io::Result<()> {
+    let values = state.registers.iter().zip(before.registers.iter());
+    for (r, (value, was)) in values.enumerate() {
+        if value != was {
+            print!(rt; " r{r}=")?;
+            show_value(rt, *value)?;
+        }
+    }
+    Ok(())
+}
+
+fn show_flags(rt: &HostRuntime, state: &AbsState, before: &AbsState) -> io::Result<()> {
+    let (flags, was) = (state.flags, before.flags);
+    if was.entry && !flags.entry {
+        print!(rt; " -entry")?;
+    }
+    if flags.entry && !was.entry {
+        print!(rt; " entry")?;
+    }
+    if flags.bits != was.bits {
+        print!(rt; " flags=")?;
+        show_value(rt, AbsByte::untagged(flags.bits))?;
+    }
+    match flags.carry {
+        CarryTag::Borrow(j, k) if flags.carry != was.carry => {
+            print!(rt; " carry=b{j:02X}{k:02X}")
+        }
+        CarryTag::None if flags.carry != was.carry => print!(rt; " carry=-"),
+        _ => Ok(()),
+    }
+}
+
+// A slot that is new is shown where it isn't free.
+fn show_slots(rt: &HostRuntime, state: &AbsState, before: &AbsState) -> io::Result<()> {
+    for (d, slot) in state.slots.as_slice().iter().enumerate() {
+        let was = before.slots.as_slice().get(d).copied();
+        if *slot != was.unwrap_or(Slot::Free) {
+            print!(rt; " s{d}=")?;
+            show_slot(rt, *slot)?;
+        }
+    }
+    Ok(())
+}
+
+fn show_node(rt: &HostRuntime, node: &Node, before: &AbsState) -> io::Result<()> {
+    show_key(rt, &node.key)?;
+    show_registers(rt, &node.state, before)?;
+    show_flags(rt, &node.state, before)?;
+    show_slots(rt, &node.state, before)?;
+    println!(rt; "")
+}
+
+// No successor, no call and no return.
+fn leads_nowhere(found: &Local) -> bool {
+    found.same.as_slice().is_empty() && found.calls.as_slice().is_empty() && found.exit.is_none()
+}
+
+fn show_calls(rt: &HostRuntime, found: &Local) -> io::Result<()> {
+    for site in found.calls.as_slice() {
+        println!(rt; "  call {:04X} back {:04X}", site.entry, site.back)?;
+    }
+    Ok(())
+}
+
+/// Prints what a node leads to, from this state.
+pub fn show(rt: &HostRuntime, found: &Local, before: &AbsState) -> io::Result<()> {
+    if leads_nowhere(found) {
+        return println!(rt; "  nowhere");
+    }
+    for node in found.same.as_slice() {
+        show_node(rt, node, before)?;
+    }
+    show_calls(rt, found)?;
+    if let Some(exit) = found.exit {
+        let (i, delay) = (u8::from(exit.i), u8::from(exit.delay));
+        println!(rt; "  exit {:07X} {i} {delay}", exit.masks.bits())?;
+    }
+    Ok(())
+}

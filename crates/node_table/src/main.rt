@@ -1,0 +1,57 @@
+//! Prints where the nodes of `nodes.txt` lead, each below its row, so that the gate compares all of them with answers that were
+//! worked by hand: `tests/nodes/README.md` says how a row is written. A row without a comment of its own goes with the one above.
+#![tactic(auto)]
+
+mod answer;
+mod row;
+
+use abs_step::local;
+use indirect_targets::entry_of;
+use row::Row;
+use std::{fs, io};
+use vector_table::Assumptions;
+
+/// The most entries of an assumption list.
+const MOST_ENTRIES: usize = 4_096;
+
+/// Where the node of a row leads.
+fn show(rt: &HostRuntime, row: &Row, lines: &Assumptions) -> io::Result<()> {
+    let (key, state) = (&row.key, &row.state);
+    if key.pc >= 0x4000 || state.slots.len() != key.offset() {
+        return println!(rt; "  no node");
+    }
+    let found = local(rt.alloc(), &row.flash, lines, key, state);
+    match found {
+        Ok(found) => answer::show(rt, &found, state),
+        Err(fault) => println!(rt; "  {fault:?}"),
+    }
+}
+
+/// Prints a line: an assumption is kept for the row behind it, and a row gets its answer.
+fn show_line(rt: &HostRuntime, line: &str, mut lines: Assumptions) -> io::Result<Assumptions> {
+    println!(rt; "{line}")?;
+    if line.is_empty() || line.starts_with('#') {
+        return Ok(lines);
+    }
+    if let Some(entry) = entry_of(rt.alloc(), line.as_bytes())? {
+        if lines.entries().len() < MOST_ENTRIES && lines.push(entry).is_ok() {
+            return Ok(lines);
+        }
+        println!(rt; "  not above the last")?;
+        return Ok(lines);
+    }
+    match row::read(rt.alloc(), line)? {
+        Some(row) => show(rt, &row, &lines)?,
+        None => println!(rt; "  malformed")?,
+    }
+    Ok(Assumptions::empty(rt.alloc()))
+}
+
+fn main(rt: HostRuntime) -> io::Result<()> {
+    let text = fs::read_to_string(&rt, "nodes.txt")?;
+    let mut lines = Assumptions::empty(rt.alloc());
+    for line in text.lines() {
+        lines = show_line(&rt, line, lines)?;
+    }
+    Ok(())
+}
