@@ -1,11 +1,13 @@
-//! Real files and the standard output, as the top call sees them: the trusted edge. They tell nothing of content.
+//! Real files and the standard output, as the top call sees them: the trusted edge. They tell nothing of content. A call that
+//! a signal interrupts is made again, and counts as no fault.
 
-ghost use Rattle.std.specs.Prelude.{None, IfOk, length, ◌≤◌};
+ghost use Rattle.std.specs.Prelude.{None, IfOk, IfSome, length, ◌≡◌, ◌≤◌};
 ghost use Rattle.sb_base.specs.Outside.{Untold, Unsaid};
 
 use sb_base::{FileFault, Files, Sink, SinkFault};
 use std::alloc::Global;
-use std::io::{Read, Write};
+use std::fs::File;
+use std::io::{ErrorKind, Read, Write};
 use std::{fs, io};
 
 /// Files on the disk. It tells neither what they hold nor whose read failed.
@@ -22,19 +24,51 @@ impl<'a> DiskFiles<'a> {
     }
 }
 
+/// What an error of the system means to a reader.
+fn fault_of(error: &io::Error) -> FileFault {
+    if error.kind() == ErrorKind::OutOfMemory {
+        FileFault::Memory
+    } else {
+        FileFault::Failed
+    }
+}
+
+/// The open file.
+fn open(rt: &HostRuntime, name: &str) -> Result<File, FileFault> {
+    for _ in 0..u64::MAX {
+        match fs::open(rt, name) {
+            Ok(file) => return Ok(file),
+            Err(error) if error.kind() == ErrorKind::Interrupted => {}
+            Err(error) => return Err(fault_of(&error)),
+        }
+    }
+    Err(FileFault::Failed)
+}
+
+/// Reads the file's next bytes into the piece, and says how many; 0 at the end.
+fn read_piece(file: &mut File, piece: &mut [u8]) -> Result<usize, FileFault>
+    ensures count { IfOk result (λ n. n ≤ length piece.old) }
+    ensures room { length piece.new ≡ length piece.old }
+{
+    for _ in 0..u64::MAX {
+        match file.read(piece) {
+            Ok(count) => return Ok(count),
+            Err(error) if error.kind() == ErrorKind::Interrupted => {}
+            Err(error) => return Err(fault_of(&error)),
+        }
+    }
+    Err(FileFault::Failed)
+}
+
 /// The bytes of a file, if they are at most `cap`.
 fn read_whole(alloc: Global, rt: &HostRuntime, name: &str, cap: usize) -> Result<Vec<u8>, FileFault>
     ensures { IfOk result (λ v. length v.items ≤ cap) }
 {
-    let Ok(mut file) = fs::open(rt, name) else {
-        return Err(FileFault::Failed);
-    };
+    let mut file = open(rt, name)?;
     let mut bytes = Vec::new(alloc);
     let mut piece = [0u8; 4096];
     for _ in 0..u64::MAX {
-        let Ok(count) = file.read(&mut piece) else {
-            return Err(FileFault::Failed);
-        };
+        let count = read_piece(&mut file, &mut piece)?;
         if count == 0 {
             break;
         }
@@ -82,6 +116,20 @@ impl<'a> StdSink<'a> {
     }
 }
 
+/// Writes the first bytes of the piece, and says how many; none where the system refuses.
+fn write_piece(rt: &HostRuntime, piece: &[u8]) -> Option<usize>
+    ensures { IfSome result (λ n. n ≤ length piece.now) }
+{
+    for _ in 0..u64::MAX {
+        match io::writer(rt).write(piece) {
+            Ok(count) => return Some(count),
+            Err(error) if error.kind() == ErrorKind::Interrupted => {}
+            Err(_) => return None,
+        }
+    }
+    None
+}
+
 impl<'a> Sink for StdSink<'a> {
     ghost written = { λ m. None };
 
@@ -89,15 +137,14 @@ impl<'a> Sink for StdSink<'a> {
 
     fn put(&mut self, piece: &[u8]) -> Result<usize, SinkFault> {
         let _faults = self.faults;
-        let outcome = io::writer(self.rt).write(piece);
-        match outcome {
-            Ok(count) => {
+        match write_piece(self.rt, piece) {
+            Some(count) => {
                 if count == 0 && !piece.is_empty() {
                     self.faults = self.faults.saturating_add(1);
                 }
                 Ok(count)
             }
-            Err(_) => {
+            None => {
                 self.faults = self.faults.saturating_add(1);
                 Err(SinkFault::Failed)
             }

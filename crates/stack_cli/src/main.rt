@@ -5,29 +5,49 @@ mod disk;
 
 use disk::{DiskFiles, StdSink};
 use stack_core::stackbound;
+use std::alloc::{AllocError, Global};
 use std::env;
+use std::io::ErrorKind;
 use std::process::ExitCode;
 
-/// Answers the words behind the program's name, with the top call's status; 2 where a word isn't UTF-8, and 12 where there
-/// is no memory for the words.
-fn main(rt: HostRuntime) -> ExitCode {
-    let alloc = rt.alloc();
-    let Ok(args) = env::args(&rt) else {
-        return ExitCode::from(2);
-    };
-    let mut owned: Vec<String> = Vec::new(alloc);
-    for word in args.skip(1) {
-        if owned.push(word).is_err() {
-            return ExitCode::from(12);
+/// The words behind the program's name. None where one isn't UTF-8.
+fn words_of(rt: &HostRuntime) -> Result<Option<Vec<String>>, AllocError> {
+    match env::args(rt) {
+        Ok(args) => {
+            let mut words = Vec::new(rt.alloc());
+            for word in args.skip(1) {
+                words.push(word)?;
+            }
+            Ok(Some(words))
         }
+        Err(error) if error.kind() == ErrorKind::OutOfMemory => Err(AllocError),
+        Err(_) => Ok(None),
     }
+}
+
+/// The status of the top call over real files and the standard output.
+fn answer(rt: &HostRuntime, alloc: Global, owned: &[String]) -> Result<u8, AllocError> {
     let mut words: Vec<&str> = Vec::new(alloc);
-    for word in &owned {
-        if words.push(word.as_str()).is_err() {
-            return ExitCode::from(12);
-        }
+    for word in owned {
+        words.push(word.as_str())?;
     }
-    let mut files = DiskFiles::new(&rt);
-    let mut out = StdSink::new(&rt);
-    ExitCode::from(stackbound(alloc, &words, &mut files, &mut out))
+    let mut files = DiskFiles::new(rt);
+    let mut out = StdSink::new(rt);
+    Ok(stackbound(alloc, &words, &mut files, &mut out))
+}
+
+/// The status of this run. Words of which one isn't UTF-8 are no command, as no words are none.
+fn status(rt: &HostRuntime) -> Result<u8, AllocError> {
+    match words_of(rt)? {
+        Some(words) => answer(rt, rt.alloc(), &words),
+        None => answer(rt, rt.alloc(), &[]),
+    }
+}
+
+/// Answers the words behind the program's name, and ends with the top call's status; 12 where there is no memory for the words.
+fn main(rt: HostRuntime) -> ExitCode {
+    match status(&rt) {
+        Ok(status) => ExitCode::from(status),
+        Err(_) => ExitCode::from(12),
+    }
 }

@@ -1,5 +1,4 @@
 pub mod Replies
+pub mod Gathering
 pub mod Answering
-pub mod Cutting
-pub mod ElfWords
-pub mod Accepting
+pub mod Held

@@ -1,60 +1,31 @@
 //! What is answered to the words, before any of it is written.
 
-ghost use Rattle.std.specs.Prelude.{◌≡◌, ◌≢◌, ℕ, List, map, IfOk};
-ghost use Rattle.stack_core.specs.Texts as texts;
-ghost use Rattle.stack_core.specs.Reply.{Fetches, IsAnswer, second_cap};
+ghost use Rattle.std.specs.Prelude.{◌≡◌, map, IfOk, MatchResult, Some};
+ghost use Rattle.std.specs.Option.{option_map};
+ghost use Rattle.commands.specs.Commands.{command_of};
+ghost use Rattle.commands.specs.Views.{command_seen};
+ghost use Rattle.replies.specs.Texts as told;
+ghost use Rattle.stack_core.specs.Answer.{IsAnswer, IsCutOff};
 
-use crate::command::{Kind, command_of};
-use crate::reply::{Reply, work};
-use crate::texts;
-use sb_base::{FileFault, Files};
+use crate::reading::{Unread, gather};
+use crate::work::{Reply, work};
+use commands::{Command, command_of};
+use replies::laws::replies_are_claims;
+use replies::texts;
+use sb_base::Files;
 use std::alloc::{AllocError, Global};
 
-/// The most bytes of a firmware or a schedule: 16 MiB.
-const FIRMWARE_CAP: usize = 16_777_216;
-
-const SCHEDULE_CAP: usize = 16_777_216;
-
-/// The most bytes of a certificate: 192 MiB.
-const CERTIFICATE_CAP: usize = 201_326_592;
-
-/// How the reading of a file went, where memory sufficed.
-#[derive(Drop)]
-pub enum Fetched {
-    Whole(Vec<u8>),
-    Long,
-    Failed,
-}
-
-fn fetch<F: Files>(
-    alloc: Global,
-    files: &mut F,
-    name: &str,
-    cap: usize,
-) -> Result<Fetched, AllocError>
-    ensures fetched { IfOk result (λ r. Fetches (F.holds files.old name.now) cap name.now (F.faults files.old) (F.faults files.new) (F.blamed files.new) r) }
-    ensures holds { (n : List ℕ) → F.holds files.new n ≡ F.holds files.old n }
+fn usage(alloc: Global) -> Result<Reply, AllocError>
+    ensures { IfOk result (λ r. (r.status ≡ 2) × (r.text.items ≡ told.usage)) }
 {
-    match files.read(alloc, name, cap) {
-        Ok(bytes) => Ok(Fetched::Whole(bytes)),
-        Err(FileFault::TooLong) => Ok(Fetched::Long),
-        Err(FileFault::Failed) => Ok(Fetched::Failed),
-        Err(FileFault::Memory) => Err(AllocError),
-    }
-}
-
-/// The cap of a command's second file.
-fn second_cap(kind: Kind) -> usize
-    ensures { result ≡ second_cap kind }
-{
-    match kind {
-        Kind::Check => CERTIFICATE_CAP,
-        Kind::Run => SCHEDULE_CAP,
-    }
+    Ok(Reply {
+        status: 2,
+        text: texts::usage(alloc)?,
+    })
 }
 
 fn too_long(alloc: Global, name: &str) -> Result<Reply, AllocError>
-    ensures { IfOk result (λ r. (r.status ≡ 5) × (r.text.items ≡ texts.too_long name.now)) }
+    ensures { IfOk result (λ r. (r.status ≡ 5) × (r.text.items ≡ told.too_long name.now)) }
 {
     Ok(Reply {
         status: 5,
@@ -63,7 +34,7 @@ fn too_long(alloc: Global, name: &str) -> Result<Reply, AllocError>
 }
 
 fn read_fault(alloc: Global, name: &str) -> Result<Reply, AllocError>
-    ensures { IfOk result (λ r. (r.status ≡ 3) × (r.text.items ≡ texts.read_fault name.now)) }
+    ensures { IfOk result (λ r. (r.status ≡ 3) × (r.text.items ≡ told.read_fault name.now)) }
 {
     Ok(Reply {
         status: 3,
@@ -71,28 +42,35 @@ fn read_fault(alloc: Global, name: &str) -> Result<Reply, AllocError>
     })
 }
 
+/// What is answered to a command.
+fn answer_to<F: Files>(
+    alloc: Global,
+    command: Command<'_>,
+    files: &mut F,
+) -> Result<Reply, AllocError>
+    ensures { MatchResult result (λ r. IsAnswer (Some (command_seen command.entry)) (F.holds files.old) (F.faults files.old) (F.faults files.new) (F.blamed files.new) r.status r.text.items) (λ e. IsCutOff (Some (command_seen command.entry)) (F.holds files.old) (F.faults files.old) (F.faults files.new) (F.blamed files.new)) }
+{
+    replies_are_claims();
+    match gather(alloc, files, command) {
+        Ok(read) => work(
+            alloc,
+            command,
+            &read.firmware,
+            &read.second,
+            &read.assumptions,
+        ),
+        Err(Unread::Long(name)) => too_long(alloc, name),
+        Err(Unread::Failed(name)) => read_fault(alloc, name),
+        Err(Unread::Memory) => Err(AllocError),
+    }
+}
+
 /// What is answered to the words.
 pub fn answer<F: Files>(alloc: Global, words: &[&str], files: &mut F) -> Result<Reply, AllocError>
-    ensures { IfOk result (λ r. IsAnswer (map (λ w. w.now) words.now) (F.holds files.old) (F.faults files.old) (F.faults files.new) (F.blamed files.new) r.status r.text.items) }
+    ensures { MatchResult result (λ r. IsAnswer (command_of (map (λ w. w.now) words.now)) (F.holds files.old) (F.faults files.old) (F.faults files.new) (F.blamed files.new) r.status r.text.items) (λ e. IsCutOff (command_of (map (λ w. w.now) words.now)) (F.holds files.old) (F.faults files.old) (F.faults files.new) (F.blamed files.new)) }
 {
-    let Some(command) = command_of(words) else {
-        return Ok(Reply {
-            status: 2,
-            text: texts::usage(alloc)?,
-        });
-    };
-    match fetch(alloc, files, command.firmware, FIRMWARE_CAP)? {
-        Fetched::Long => too_long(alloc, command.firmware),
-        Fetched::Failed => read_fault(alloc, command.firmware),
-        Fetched::Whole(firmware) => {
-            match fetch(alloc, files, command.second, second_cap(command.kind))? {
-                Fetched::Long => too_long(alloc, command.second),
-                Fetched::Failed => read_fault(alloc, command.second),
-                Fetched::Whole(second) => {
-                    let reply = work(alloc, command.kind, &firmware, &second)?;
-                    Ok(reply)
-                }
-            }
-        }
+    match command_of(words) {
+        Some(command) => answer_to(alloc, command, files),
+        None => usage(alloc),
     }
 }

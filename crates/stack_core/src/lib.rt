@@ -3,10 +3,9 @@
 
 pub mod answer;
 pub mod call;
-pub mod command;
 pub mod laws;
-pub mod reply;
-pub mod texts;
+pub mod reading;
+pub mod work;
 
 pub use call::stackbound;
 

@@ -1,21 +1,20 @@
-use Rattle.std.proofs.Common.{List, ℕ, map}
+use Rattle.std.proofs.Common.{List, ℕ, map, ap, ◌∙◌}
 use Rattle.std.specs.Borrow.{Bor}
-use Rattle.stack_core.proofs.Cutting.{nothing_cut}
-use Rattle.stack_core.proofs.Accepting.{zero_is_not_three}
+use Rattle.sb_base.specs.Outside.{grown}
+use Rattle.commands.specs.Commands.{command_of}
+use Rattle.stack_core.proofs.Answering.{written_of, zero_apart}
 use Rattle.stack_core.proofs.call.stackbound.Goals as goal
 
 pub returns-in-Ok-put_all-clause-headline : goal.returns-in-Ok-put_all-clause-headline
 returns-in-Ok-put_all-clause-headline g c =
-    λ firmware certificate check zero.
-    c.replies_are_claims.ensures.headline (map (λ (w : Bor (List ℕ)). w.now) c.args.words.now) (g.F.Files.holds c.args.files.now) c.in-Ok.reply.status c.in-Ok.reply.text.items
-    (c.in-Ok.ensures.settled (λ three. zero_is_not_three c.in-Ok.reply.status zero three)) firmware certificate check zero
+    λ firmware certificate list check zero.
+    c.written_checks_are_claims.ensures.holds (command_of (map (λ (w : Bor (List ℕ)). w.now) c.args.words.now)) (g.F.Files.holds c.args.files.now) c.in-Ok.reply.status
+    (g.K.Sink.written c.args.out.now) (g.K.Sink.written c.put_all.new.out)
+    (written_of _ _ _ _ _ c.in-Ok.reply.status c.in-Ok.reply.text.items _ _ c.in-Ok.ensures (zero_apart c.in-Ok.reply.status zero) (c.in-Ok-put_all.ensures.whole ∙ ap (grown (g.K.Sink.written c.args.out.now)) c.deref.ensures.value)) firmware certificate list check zero
 
 pub returns-in-Ok-put_all-clause-exact : goal.returns-in-Ok-put_all-clause-exact
 returns-in-Ok-put_all-clause-exact g c =
     λ three four twelve.
-    c.replies_are_claims.ensures.exact (map (λ (w : Bor (List ℕ)). w.now) c.args.words.now) (g.F.Files.holds c.args.files.now) c.in-Ok.reply.status c.in-Ok.reply.text.items
-    (c.in-Ok.ensures.settled three)
-
-pub returns-clause-cut : goal.returns-clause-cut
-returns-clause-cut g c =
-    λ _. nothing_cut (map (λ (w : Bor (List ℕ)). w.now) c.args.words.now) (g.F.Files.holds c.args.files.now) (g.F.Files.blamed c.answer.new.files) (g.K.Sink.written c.args.out.now)
+    c.written_checks_are_claims.ensures.exact (command_of (map (λ (w : Bor (List ℕ)). w.now) c.args.words.now)) (g.F.Files.holds c.args.files.now) c.in-Ok.reply.status
+    (g.K.Sink.written c.args.out.now) (g.K.Sink.written c.put_all.new.out)
+    (written_of _ _ _ _ _ c.in-Ok.reply.status c.in-Ok.reply.text.items _ _ c.in-Ok.ensures three (c.in-Ok-put_all.ensures.whole ∙ ap (grown (g.K.Sink.written c.args.out.now)) c.deref.ensures.value))

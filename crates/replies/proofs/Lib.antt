@@ -1,0 +1,3 @@
+pub mod ElfWords
+pub mod One
+pub mod Accepting

@@ -1,0 +1,5 @@
+pub mod Texts
+pub mod Firmware
+pub mod Reading
+pub mod Reply
+pub mod Headline

@@ -1,0 +1,127 @@
+-- What is printed: one line of words. `line_writing` of sb_base says that a writer's line of words is their text with one
+-- space between each two and a line feed behind them.
+use Rattle.std.specs.Option.{option_map}
+use Rattle.std.specs.Prelude.{ℕ, List, [], ◌∷◌, ◌++◌, codes, decimal, Bool, true, false, ◌≡◌, Option, Some, None}
+use Rattle.sb_base.specs.Digits.{hex_digits}
+use Rattle.sb_base.specs.Writing.{Written, with_words, with_end}
+use Rattle.avr_model.specs.declared.choice.Flag.TheVariants.{Live, Protected, Transfer}
+use Rattle.avr_model.specs.declared.choice.Stop.{Stop}
+use Rattle.avr_model.specs.declared.choice.Stop.TheVariants as stop
+use Rattle.indirect_targets.specs.declared.fault.AssumeText.{AssumeText}
+use Rattle.indirect_targets.specs.declared.fault.AssumeText.TheVariants as assume
+use Rattle.cert_words.specs.KeySpelling.{node_key_words}
+use Rattle.cert_format.specs.declared.fault.Limit.{Limit}
+use Rattle.cert_format.specs.declared.fault.Limit.TheVariants as limit
+use Rattle.cert_format.specs.declared.fault.CertFault.{CertFault}
+use Rattle.cert_format.specs.declared.fault.CertFault.TheVariants as cert
+use Rattle.cert_check.specs.declared.verdict.Reason.{Reason}
+use Rattle.cert_check.specs.declared.verdict.Reason.TheVariants.{Root, Node, Edge, Rank, Need, Bound, Assumptions, Expansion}
+use Rattle.elf_load.specs.Elf.{ElfRefusal, Short, NotElf32Little, NotExecutable, NotAvr, EntrySize, SegmentOutside, Overlap}
+use Rattle.witness_replay.specs.Replay.{Report}
+
+-- the line of these words
+abbrev pub told : List (List ℕ) → List ℕ
+told words = (with_end (with_words (record { bytes = []; begun = false }) words)).bytes
+
+abbrev pub usage : List ℕ
+usage = told (codes "usage" ∷ [])
+
+abbrev pub read_fault : List ℕ → List ℕ
+read_fault name = told (codes "read" ∷ codes "fault" ∷ name ∷ [])
+
+abbrev pub too_long : List ℕ → List ℕ
+too_long name = told (codes "too" ∷ codes "long" ∷ name ∷ [])
+
+-- 1: the length is odd; 2: the file is longer than flash
+abbrev pub raw_fault : ℕ → List ℕ
+raw_fault number = told (codes "firmware" ∷ codes "raw" ∷ decimal number ∷ [])
+
+-- the number of the test that fails, and what it names
+abbrev pub refusal_words : ElfRefusal → List (List ℕ)
+refusal_words (Short at) = codes "1" ∷ codes "at" ∷ decimal at ∷ []
+refusal_words NotElf32Little = codes "2" ∷ []
+refusal_words NotExecutable = codes "3" ∷ []
+refusal_words (NotAvr machine) = codes "4" ∷ codes "machine" ∷ decimal machine ∷ []
+refusal_words EntrySize = codes "5" ∷ []
+refusal_words (SegmentOutside i) = codes "6" ∷ codes "segment" ∷ decimal i ∷ []
+refusal_words (Overlap j i) = codes "7" ∷ codes "segments" ∷ decimal j ∷ decimal i ∷ []
+
+-- the words of a refusal were written; where there is none, nothing is said
+abbrev pub IsRefused : Written → Written → Option ElfRefusal → Type 0
+IsRefused before after None = ⊥
+IsRefused before after (Some refusal) = after ≡ with_words before (refusal_words refusal)
+
+-- these words were written; where there are none, nothing is said
+abbrev pub AreWritten : Written → Written → Option (List (List ℕ)) → Type 0
+AreWritten before after None = ⊥
+AreWritten before after (Some words) = after ≡ with_words before words
+
+abbrev pub elf_refused : ElfRefusal → List ℕ
+elf_refused refusal = told (codes "firmware" ∷ codes "elf" ∷ refusal_words refusal)
+
+-- the line of an assumption file that is refused, from 1; want of memory has no text
+abbrev pub assumption_words : AssumeText → Option (List (List ℕ))
+assumption_words (assume.Malformed line) = Some (codes "malformed" ∷ codes "line" ∷ decimal line ∷ [])
+assumption_words (assume.Order line) = Some (codes "order" ∷ codes "line" ∷ decimal line ∷ [])
+assumption_words assume.Memory = None
+
+abbrev pub assumptions_refused : AssumeText → Option (List ℕ)
+assumptions_refused fault = option_map (λ words. told (codes "assumptions" ∷ words)) (assumption_words fault)
+
+abbrev pub limit_word : Limit → List ℕ
+limit_word limit.Nodes = codes "nodes"
+limit_word limit.Cells = codes "cells"
+
+-- the offset of the line of a certificate that is refused, or the limit that is passed; want of memory has no text
+abbrev pub certificate_words : CertFault → Option (List (List ℕ))
+certificate_words (cert.Malformed at) = Some (codes "malformed" ∷ codes "at" ∷ decimal at ∷ [])
+certificate_words (cert.Order at) = Some (codes "order" ∷ codes "at" ∷ decimal at ∷ [])
+certificate_words (cert.Limit l) = Some (codes "limit" ∷ limit_word l ∷ [])
+certificate_words cert.Memory = None
+
+abbrev pub certificate_refused : CertFault → Option (List ℕ)
+certificate_refused fault = option_map (λ words. told (codes "certificate" ∷ words)) (certificate_words fault)
+
+abbrev pub schedule_malformed : ℕ → List ℕ
+schedule_malformed at = told (codes "schedule" ∷ codes "malformed" ∷ codes "at" ∷ decimal at ∷ [])
+
+abbrev pub schedule_illegal : ℕ → List ℕ
+schedule_illegal step = told (codes "schedule" ∷ codes "illegal" ∷ codes "step" ∷ decimal step ∷ [])
+
+-- attained where the certificate has a schedule
+abbrev pub witness_word : Bool → List ℕ
+witness_word true = codes "attained"
+witness_word false = codes "open"
+
+abbrev pub accepted : ℕ → Bool → List ℕ
+accepted bound attained = told (codes "accepted" ∷ codes "bound" ∷ decimal bound ∷ witness_word attained ∷ [])
+
+-- the words behind `rejected`, the first one the reason's number
+abbrev pub reason_words : Reason → List (List ℕ)
+reason_words Root = codes "1" ∷ codes "root" ∷ []
+reason_words (Node at cause) = codes "2" ∷ codes "node" ∷ decimal at ∷ codes "cause" ∷ decimal cause ∷ []
+reason_words (Edge at key) = codes "3" ∷ codes "node" ∷ decimal at ∷ codes "to" ∷ node_key_words key
+reason_words (Rank at entered) = codes "4" ∷ codes "inst" ∷ decimal at ∷ codes "inst" ∷ decimal entered ∷ []
+reason_words (Need at least) = codes "5" ∷ codes "inst" ∷ decimal at ∷ codes "least" ∷ decimal least ∷ []
+reason_words (Bound least) = codes "6" ∷ codes "least" ∷ decimal least ∷ []
+reason_words Assumptions = codes "7" ∷ codes "assumptions" ∷ []
+reason_words (Expansion at) = codes "9" ∷ codes "node" ∷ decimal at ∷ []
+
+abbrev pub rejected : Reason → List ℕ
+rejected reason = told (codes "rejected" ∷ reason_words reason)
+
+abbrev pub witness_rejected : List ℕ
+witness_rejected = told (codes "rejected" ∷ codes "8" ∷ codes "witness" ∷ [])
+
+-- how a run ended
+abbrev pub stop_words : Stop → List (List ℕ)
+stop_words stop.End = codes "end" ∷ []
+stop_words (stop.Flag (Live pc a)) = codes "live" ∷ hex_digits pc 4 ∷ hex_digits a 4 ∷ []
+stop_words (stop.Flag (Protected pc a)) = codes "protected" ∷ hex_digits pc 4 ∷ hex_digits a 4 ∷ []
+stop_words (stop.Flag (Transfer pc target)) = codes "transfer" ∷ hex_digits pc 4 ∷ hex_digits target 4 ∷ []
+stop_words (stop.Undefined pc) = codes "undefined" ∷ hex_digits pc 4 ∷ []
+stop_words (stop.Overflow pc) = codes "overflow" ∷ hex_digits pc 4 ∷ []
+
+abbrev pub run_text : Report → List ℕ
+run_text r =
+    told (codes "steps" ∷ decimal r.steps ∷ codes "depth" ∷ decimal r.depth ∷ codes "stop" ∷ stop_words r.stop)

@@ -1,0 +1,349 @@
+//! The lines that are printed.
+
+ghost use Rattle.std.specs.Prelude.{◌≡◌, ◌++◌, ◌<◌, [], ◌∷◌, IfOk, OnOk, Some, codes, decimal};
+ghost use Rattle.std.specs.Option.{option_map};
+ghost use Rattle.elf_load.specs.Refusing.{refusal_of};
+ghost use Rattle.sb_base.specs.Digits.{hex_digits};
+ghost use Rattle.sb_base.specs.Writing.{with_words, with_end};
+ghost use Rattle.replies.specs.Texts.{told, usage, read_fault, too_long, raw_fault, elf_refused, IsRefused, AreWritten, assumption_words, assumptions_refused, limit_word, certificate_words, certificate_refused, schedule_malformed, schedule_illegal, witness_word, accepted, reason_words, rejected, witness_rejected, stop_words, run_text};
+
+use avr_model::choice::{Flag, Stop};
+use cert_check::Reason;
+use cert_format::{CertFault, Limit};
+use cert_writing::write_key;
+use elf_load::ElfFault;
+use indirect_targets::AssumeText;
+use sb_base::LineWriter;
+use std::alloc::{AllocError, Global};
+use witness_replay::ReplayReport;
+
+/// A line of two words and a third.
+fn three_words(
+    alloc: Global,
+    first: &[u8],
+    second: &[u8],
+    third: &[u8],
+) -> Result<Vec<u8>, AllocError>
+    ensures { IfOk result (λ v. v.items ≡ told (first.now ∷ second.now ∷ third.now ∷ [])) }
+{
+    let mut line = LineWriter::new(alloc);
+    line.word(first)?;
+    line.word(second)?;
+    line.word(third)?;
+    line.end_line()?;
+    Ok(line.finish())
+}
+
+/// Words that are no command.
+pub fn usage(alloc: Global) -> Result<Vec<u8>, AllocError>
+    ensures { IfOk result (λ v. v.items ≡ usage) }
+{
+    let mut line = LineWriter::new(alloc);
+    line.word(b"usage")?;
+    line.end_line()?;
+    Ok(line.finish())
+}
+
+/// The file that can't be read.
+pub fn read_fault(alloc: Global, name: &str) -> Result<Vec<u8>, AllocError>
+    ensures { IfOk result (λ v. v.items ≡ read_fault name.now) }
+{
+    three_words(alloc, b"read", b"fault", name.as_bytes())
+}
+
+/// The file that is longer than its cap.
+pub fn too_long(alloc: Global, name: &str) -> Result<Vec<u8>, AllocError>
+    ensures { IfOk result (λ v. v.items ≡ too_long name.now) }
+{
+    three_words(alloc, b"too", b"long", name.as_bytes())
+}
+
+/// The number of a raw file's refusal.
+pub fn raw_fault(alloc: Global, number: u64) -> Result<Vec<u8>, AllocError>
+    ensures { IfOk result (λ v. v.items ≡ raw_fault number) }
+{
+    let mut line = LineWriter::new(alloc);
+    line.word(b"firmware")?;
+    line.word(b"raw")?;
+    line.dec(number)?;
+    line.end_line()?;
+    Ok(line.finish())
+}
+
+/// The words that name what a test of an ELF file refuses; none for want of memory.
+fn put_refusal(line: &mut LineWriter, fault: &ElfFault) -> Result<(), AllocError>
+    ensures { OnOk result (IsRefused line.old line.new (refusal_of fault.now)) }
+{
+    match *fault {
+        ElfFault::Short(at) => put_two_and_number(line, b"1", b"at", at),
+        ElfFault::NotElf32Little => line.word(b"2"),
+        ElfFault::NotExecutable => line.word(b"3"),
+        ElfFault::NotAvr(machine) => put_two_and_number(line, b"4", b"machine", u64::from(machine)),
+        ElfFault::EntrySize => line.word(b"5"),
+        ElfFault::SegmentOutside(i) => put_two_and_number(line, b"6", b"segment", u64::from(i)),
+        ElfFault::Overlap(j, i) => {
+            put_two_and_number(line, b"7", b"segments", u64::from(j))?;
+            line.dec(u64::from(i))
+        }
+        ElfFault::Memory => Err(AllocError),
+    }
+}
+
+/// The refusal of an ELF file; none for want of memory.
+pub fn elf_refused(alloc: Global, fault: &ElfFault) -> Result<Vec<u8>, AllocError>
+    ensures { IfOk result (λ v. option_map elf_refused (refusal_of fault.now) ≡ Some v.items) }
+{
+    let mut line = LineWriter::new(alloc);
+    line.word(b"firmware")?;
+    line.word(b"elf")?;
+    put_refusal(&mut line, fault)?;
+    line.end_line()?;
+    Ok(line.finish())
+}
+
+/// A word, a word and a number.
+fn put_two_and_number(
+    line: &mut LineWriter,
+    first: &[u8],
+    second: &[u8],
+    number: u64,
+) -> Result<(), AllocError>
+    ensures { OnOk result (line.new ≡ with_words line.old (first.now ∷ second.now ∷ decimal number ∷ [])) }
+{
+    line.word(first)?;
+    line.word(second)?;
+    line.dec(number)?;
+    Ok(())
+}
+
+/// The words that name the refused line; none for want of memory.
+fn put_assumption_fault(line: &mut LineWriter, fault: &AssumeText) -> Result<(), AllocError>
+    ensures { OnOk result (AreWritten line.old line.new (assumption_words fault.now)) }
+{
+    match *fault {
+        AssumeText::Malformed(at) => put_two_and_number(line, b"malformed", b"line", u64::from(at)),
+        AssumeText::Order(at) => put_two_and_number(line, b"order", b"line", u64::from(at)),
+        AssumeText::Memory => Err(AllocError),
+    }
+}
+
+/// The refusal of an assumption file; none for want of memory.
+pub fn assumptions_refused(alloc: Global, fault: &AssumeText) -> Result<Vec<u8>, AllocError>
+    ensures { IfOk result (λ v. assumptions_refused fault.now ≡ Some v.items) }
+{
+    let mut line = LineWriter::new(alloc);
+    line.word(b"assumptions")?;
+    put_assumption_fault(&mut line, fault)?;
+    line.end_line()?;
+    Ok(line.finish())
+}
+
+fn limit_word(limit: Limit) -> &'static [u8]
+    ensures { result.now ≡ limit_word limit }
+{
+    match limit {
+        Limit::Nodes => b"nodes",
+        Limit::Cells => b"cells",
+    }
+}
+
+/// A word, and that of a limit.
+fn put_limit(line: &mut LineWriter, limit: Limit) -> Result<(), AllocError>
+    ensures { OnOk result (line.new ≡ with_words line.old (codes "limit" ∷ limit_word limit ∷ [])) }
+{
+    line.word(b"limit")?;
+    line.word(limit_word(limit))?;
+    Ok(())
+}
+
+/// The words that name the refused line, or the limit that is passed; none for want of memory.
+fn put_certificate_fault(line: &mut LineWriter, fault: &CertFault) -> Result<(), AllocError>
+    ensures { OnOk result (AreWritten line.old line.new (certificate_words fault.now)) }
+{
+    match *fault {
+        CertFault::Malformed(at) => put_two_and_number(line, b"malformed", b"at", at as u64),
+        CertFault::Order(at) => put_two_and_number(line, b"order", b"at", at as u64),
+        CertFault::Limit(limit) => put_limit(line, limit),
+        CertFault::Memory => Err(AllocError),
+    }
+}
+
+/// The refusal of a certificate's text; none for want of memory.
+pub fn certificate_refused(alloc: Global, fault: &CertFault) -> Result<Vec<u8>, AllocError>
+    ensures { IfOk result (λ v. certificate_refused fault.now ≡ Some v.items) }
+{
+    let mut line = LineWriter::new(alloc);
+    line.word(b"certificate")?;
+    put_certificate_fault(&mut line, fault)?;
+    line.end_line()?;
+    Ok(line.finish())
+}
+
+/// A line of three words and a number.
+fn three_words_and_number(
+    alloc: Global,
+    first: &[u8],
+    second: &[u8],
+    third: &[u8],
+    number: u64,
+) -> Result<Vec<u8>, AllocError>
+    ensures { IfOk result (λ v. v.items ≡ told (first.now ∷ second.now ∷ third.now ∷ decimal number ∷ [])) }
+{
+    let mut line = LineWriter::new(alloc);
+    line.word(first)?;
+    line.word(second)?;
+    line.word(third)?;
+    line.dec(number)?;
+    line.end_line()?;
+    Ok(line.finish())
+}
+
+/// The offset of the refused line of a schedule.
+pub fn schedule_malformed(alloc: Global, at: usize) -> Result<Vec<u8>, AllocError>
+    ensures { IfOk result (λ v. v.items ≡ schedule_malformed at) }
+{
+    three_words_and_number(alloc, b"schedule", b"malformed", b"at", at as u64)
+}
+
+/// The number of the illegal choice of a schedule.
+pub fn schedule_illegal(alloc: Global, step: u32) -> Result<Vec<u8>, AllocError>
+    ensures { IfOk result (λ v. v.items ≡ schedule_illegal step) }
+{
+    three_words_and_number(alloc, b"schedule", b"illegal", b"step", u64::from(step))
+}
+
+fn witness_word(attained: bool) -> &'static [u8]
+    ensures { result.now ≡ witness_word attained }
+{
+    if attained { b"attained" } else { b"open" }
+}
+
+/// The bound of a certificate that is accepted, and whether it has a schedule that attains it.
+pub fn accepted(alloc: Global, bound: u16, attained: bool) -> Result<Vec<u8>, AllocError>
+    ensures { IfOk result (λ v. v.items ≡ accepted bound attained) }
+{
+    let mut line = LineWriter::new(alloc);
+    line.word(b"accepted")?;
+    line.word(b"bound")?;
+    line.dec(u64::from(bound))?;
+    line.word(witness_word(attained))?;
+    line.end_line()?;
+    Ok(line.finish())
+}
+
+/// A node's number and what is wrong with it.
+fn put_node(line: &mut LineWriter, reason: &[u8], at: u32) -> Result<(), AllocError>
+    ensures { OnOk result (line.new ≡ with_words line.old (reason.now ∷ codes "node" ∷ decimal at ∷ [])) }
+{
+    put_two_and_number(line, reason, b"node", u64::from(at))
+}
+
+/// An instance's number, a word and a number.
+fn put_inst(
+    line: &mut LineWriter,
+    reason: &[u8],
+    at: u32,
+    word: &[u8],
+    number: u32,
+) -> Result<(), AllocError>
+    ensures { OnOk result (line.new ≡ with_words line.old (reason.now ∷ codes "inst" ∷ decimal at ∷ word.now ∷ decimal number ∷ [])) }
+{
+    put_two_and_number(line, reason, b"inst", u64::from(at))?;
+    line.word(word)?;
+    line.dec(u64::from(number))?;
+    Ok(())
+}
+
+fn put_reason(alloc: Global, line: &mut LineWriter, reason: &Reason) -> Result<(), AllocError>
+    ensures { OnOk result (line.new ≡ with_words line.old (reason_words reason.now)) }
+{
+    match *reason {
+        Reason::Root => {
+            line.word(b"1")?;
+            line.word(b"root")?;
+        }
+        Reason::Node(at, cause) => {
+            put_node(line, b"2", at)?;
+            line.word(b"cause")?;
+            line.dec(u64::from(cause))?;
+        }
+        Reason::Edge(at, key) => {
+            put_node(line, b"3", at)?;
+            line.word(b"to")?;
+            write_key(line, alloc, &key)?;
+        }
+        Reason::Rank(at, entered) => put_inst(line, b"4", at, b"inst", entered)?,
+        Reason::Need(at, least) => put_inst(line, b"5", at, b"least", least)?,
+        Reason::Bound(least) => put_two_and_number(line, b"6", b"least", u64::from(least))?,
+        Reason::Assumptions => {
+            line.word(b"7")?;
+            line.word(b"assumptions")?;
+        }
+        Reason::Expansion(at) => put_node(line, b"9", at)?,
+    }
+    Ok(())
+}
+
+/// The reason for which a certificate is refused.
+pub fn rejected(alloc: Global, reason: &Reason) -> Result<Vec<u8>, AllocError>
+    ensures { IfOk result (λ v. v.items ≡ rejected reason.now) }
+{
+    let mut line = LineWriter::new(alloc);
+    line.word(b"rejected")?;
+    put_reason(alloc, &mut line, reason)?;
+    line.end_line()?;
+    Ok(line.finish())
+}
+
+/// A certificate whose schedule doesn't attain its bound.
+pub fn witness_rejected(alloc: Global) -> Result<Vec<u8>, AllocError>
+    ensures { IfOk result (λ v. v.items ≡ witness_rejected) }
+{
+    three_words(alloc, b"rejected", b"8", b"witness")
+}
+
+/// A word, a word address, and an address or word.
+fn put_flag(line: &mut LineWriter, name: &[u8], pc: u16, other: u16) -> Result<(), AllocError>
+    ensures { OnOk result (line.new ≡ with_words line.old (name.now ∷ hex_digits pc 4 ∷ hex_digits other 4 ∷ [])) }
+{
+    line.word(name)?;
+    line.hex(u32::from(pc), 4)?;
+    line.hex(u32::from(other), 4)?;
+    Ok(())
+}
+
+fn put_place(line: &mut LineWriter, name: &[u8], pc: u16) -> Result<(), AllocError>
+    ensures { OnOk result (line.new ≡ with_words line.old (name.now ∷ hex_digits pc 4 ∷ [])) }
+{
+    line.word(name)?;
+    line.hex(u32::from(pc), 4)?;
+    Ok(())
+}
+
+fn put_stop(line: &mut LineWriter, stop: Stop) -> Result<(), AllocError>
+    ensures { OnOk result (line.new ≡ with_words line.old (stop_words stop)) }
+{
+    match stop {
+        Stop::End => line.word(b"end"),
+        Stop::Flag(Flag::Live(pc, address)) => put_flag(line, b"live", pc, address),
+        Stop::Flag(Flag::Protected(pc, address)) => put_flag(line, b"protected", pc, address),
+        Stop::Flag(Flag::Transfer(pc, target)) => put_flag(line, b"transfer", pc, target),
+        Stop::Undefined(pc) => put_place(line, b"undefined", pc),
+        Stop::Overflow(pc) => put_place(line, b"overflow", pc),
+    }
+}
+
+/// What a replay tells.
+pub fn run_text(alloc: Global, report: &ReplayReport) -> Result<Vec<u8>, AllocError>
+    ensures { IfOk result (λ v. v.items ≡ run_text (record { steps = report.now.steps; depth = report.now.depth; stop = report.now.stop })) }
+{
+    let mut line = LineWriter::new(alloc);
+    line.word(b"steps")?;
+    line.dec(u64::from(report.steps))?;
+    line.word(b"depth")?;
+    line.dec(u64::from(report.depth))?;
+    line.word(b"stop")?;
+    put_stop(&mut line, report.stop)?;
+    line.end_line()?;
+    Ok(line.finish())
+}

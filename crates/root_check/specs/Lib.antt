@@ -1,3 +1,0 @@
-pub mod Verdict
-pub mod Reasons
-pub mod Examples

@@ -1,6 +1,0 @@
-pub mod Certificate
-pub mod Spelling
-pub mod Valid
-pub mod Reading
-pub mod Exact
-pub mod Examples

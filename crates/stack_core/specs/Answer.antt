@@ -1,0 +1,117 @@
+-- What the top call does.
+use Rattle.std.specs.Prelude.{◌≡◌, ◌≢◌, ◌⊎◌, ◌↔◌, ◌≤◌, ℕ, List, length, Option, Some, None}
+use Rattle.avr_model.specs.declared.assumption.Entry.{Entry}
+use Rattle.sb_base.specs.Outside.{Held, Bytes, Blamed, Rose, grown, GrewByPrefix}
+use Rattle.certificate.specs.Claims.{Claim}
+use Rattle.certificate.specs.Valid.{IsValid}
+use Rattle.commands.specs.Commands.{Command, Check}
+use Rattle.replies.specs.Texts.{usage, read_fault}
+use Rattle.replies.specs.Reading.{Contents, AllAgree, IsFirstFailed, firmware_cap, certificate_cap, assumption_cap}
+use Rattle.replies.specs.Reply.{IsReply}
+use Rattle.replies.specs.Headline.{StandFor, Holds, Headline, IsExact}
+
+-- ---- the answer where no call failed and memory sufficed
+
+-- For each file of a command there is one value, by its place, that was read: it agrees with what the files tell, also where one name
+-- stands twice. Of these values the answer is the one reply, an accepting one says that the bound holds, and it accepts exactly where the
+-- certificate is valid.
+pub record IsAnswered (command : Command) (holds : List ℕ → Held) (status : ℕ) (text : List ℕ) : Type 0 where
+  pub seen : Contents
+  pub agrees : AllAgree command holds seen
+  pub reply : IsReply command seen status text
+  pub headline : Headline command seen status text
+  pub exact : IsExact command seen status
+
+-- the answer to words that are this command, or none
+abbrev pub IsDue : Option Command → (List ℕ → Held) → ℕ → List ℕ → Type 0
+IsDue None holds status text = (status ≡ 2) × (text ≡ usage)
+IsDue (Some command) holds status text = IsAnswered command holds status text
+
+-- the same, and its text was written
+pub record IsWritten (command : Option Command) (holds : List ℕ → Held) (status : ℕ) (before after : Option (List ℕ)) : Type 0 where
+  pub text : List ℕ
+  pub due : IsDue command holds status text
+  pub grew : after ≡ grown before text
+
+-- ---- a read that failed
+
+-- The count of faults rose, and this is the command's first file that couldn't be read.
+abbrev pub IsReadFault : Option Command → (List ℕ → Held) → ℕ → ℕ → Blamed → List ℕ → Type 0
+IsReadFault None holds before after blamed name = ⊥
+IsReadFault (Some command) holds before after blamed name = IsFirstFailed command holds blamed name × Rose before after
+
+-- ---- before anything is written
+
+-- an answer that no read fault comes before
+pub record IsSettled (command : Option Command) (holds : List ℕ → Held) (before after : ℕ) (status : ℕ) (text : List ℕ) : Type 0 where
+  pub quiet : after ≡ before
+  pub due : IsDue command holds status text
+  pub usage_alone : (status ≡ 2) ↔ (command ≡ None)
+  pub read : status ≢ 3
+  pub write : status ≢ 4
+  pub ample : status ≢ 12
+
+-- a read fault is told
+pub record IsTold (command : Option Command) (holds : List ℕ → Held) (before after : ℕ) (blamed : Blamed) (status : ℕ) (text : List ℕ) : Type 0 where
+  pub three : status ≡ 3
+  pub name : List ℕ
+  pub fault : IsReadFault command holds before after blamed name
+  pub text_is : text ≡ read_fault name
+
+abbrev pub IsAnswer : Option Command → (List ℕ → Held) → ℕ → ℕ → Blamed → ℕ → List ℕ → Type 0
+IsAnswer command holds before after blamed status text = IsSettled command holds before after status text ⊎ IsTold command holds before after blamed status text
+
+-- where memory is wanting: no read failed, or one did that is to be told
+abbrev pub IsCutOff : Option Command → (List ℕ → Held) → ℕ → ℕ → Blamed → Type 0
+IsCutOff command holds before after blamed = (after ≡ before) ⊎ ((name : List ℕ) × IsReadFault command holds before after blamed name)
+
+-- ---- a write fault, and want of memory
+
+-- Some first bytes were written of the text that is due: that of the answer where no read failed, else that of the read fault.
+abbrev pub Cuts : Option Command → (List ℕ → Held) → ℕ → ℕ → Blamed → Option (List ℕ) → Option (List ℕ) → Type 0
+Cuts command holds before after blamed old new =
+    ((after ≡ before) × ((new ≡ old) ⊎ ((status : ℕ) × (text : List ℕ) × IsDue command holds status text × GrewByPrefix old new text)))
+    ⊎ ((name : List ℕ) × IsReadFault command holds before after blamed name × GrewByPrefix old new (read_fault name))
+
+-- ---- over files that tell what they hold
+
+abbrev pub AreHeld : (List ℕ → Held) → Option (List ℕ) → Option (List ℕ) → Type 0
+AreHeld holds None list = list ≡ None
+AreHeld holds (Some name) None = ⊥
+AreHeld holds (Some name) (Some bytes) = (holds name ≡ Bytes bytes) × (length bytes ≤ assumption_cap)
+
+-- The words are a check, and these bytes are held under the names in them, within the caps.
+pub record IsCheck (command : Option Command) (holds : List ℕ → Held) (firmware certificate : List ℕ) (list : Option (List ℕ)) : Type 0 where
+  pub firmware_name : List ℕ
+  pub certificate_name : List ℕ
+  pub assume : Option (List ℕ)
+  pub named : command ≡ Some (Check firmware_name certificate_name assume)
+  pub firmware_held : holds firmware_name ≡ Bytes firmware
+  pub firmware_fits : length firmware ≤ firmware_cap
+  pub certificate_held : holds certificate_name ≡ Bytes certificate
+  pub certificate_fits : length certificate ≤ certificate_cap
+  pub list_held : AreHeld holds assume list
+
+-- where a check of held bytes answers 0, the bound holds of them, and is printed
+abbrev pub HeldHeadline : Option Command → (List ℕ → Held) → ℕ → Option (List ℕ) → Option (List ℕ) → Type 0
+HeldHeadline command holds status before after =
+    (firmware certificate : List ℕ) (list : Option (List ℕ)) → IsCheck command holds firmware certificate list → status ≡ 0
+    → (text : List ℕ) × Holds firmware certificate list text × (after ≡ grown before text)
+
+-- where held bytes read as values, a check of them answers 0 exactly where the certificate is valid
+abbrev pub IsHeldExact : Option Command → (List ℕ → Held) → ℕ → Type 0
+IsHeldExact command holds status =
+    (firmware certificate : List ℕ) (list : Option (List ℕ)) (words : List ℕ) (claim : Claim) (A : List Entry) → IsCheck command holds firmware certificate list
+    → StandFor firmware certificate list words claim A → (status ≡ 0) ↔ IsValid words A claim
+
+-- ---- laws
+
+abbrev pub WrittenChecksHold : Type 0
+WrittenChecksHold =
+    (command : Option Command) (holds : List ℕ → Held) (status : ℕ) (before after : Option (List ℕ)) → IsWritten command holds status before after
+    → HeldHeadline command holds status before after
+
+abbrev pub WrittenChecksAreExact : Type 0
+WrittenChecksAreExact =
+    (command : Option Command) (holds : List ℕ → Held) (status : ℕ) (before after : Option (List ℕ)) → IsWritten command holds status before after
+    → IsHeldExact command holds status

@@ -1,0 +1,111 @@
+//! The files of a command, read in their order.
+
+ghost use Rattle.std.specs.Prelude.{◌≡◌, ℕ, List, MatchResult};
+ghost use Rattle.commands.specs.Views.{text_of, command_seen};
+ghost use Rattle.replies.specs.Reading as caps;
+ghost use Rattle.stack_core.specs.Reading.{IsFetched, IsUnfetched, IsFetchedUnder, IsUnfetchedUnder, bytes_of, IsGathered, IsUngathered};
+
+use commands::Command;
+use sb_base::{FileFault, Files};
+use std::alloc::Global;
+
+/// The most bytes of a firmware: 16 MiB.
+const FIRMWARE_CAP: usize = 16_777_216;
+
+/// The most bytes of a schedule: 16 MiB.
+const SCHEDULE_CAP: usize = 16_777_216;
+
+/// The most bytes of a certificate: 192 MiB.
+const CERTIFICATE_CAP: usize = 201_326_592;
+
+/// The most bytes of an assumption file: 1 MiB.
+const ASSUMPTION_CAP: usize = 1_048_576;
+
+/// Why the files of a command weren't all read.
+#[derive(Clone, Copy)]
+pub enum Unread<'a> {
+    /// The file of this name is longer than its cap.
+    Long(&'a str),
+    /// The file of this name can't be read.
+    Failed(&'a str),
+    /// Want of memory.
+    Memory,
+}
+
+/// What a command's files hold.
+#[derive(Drop)]
+pub struct Contents {
+    pub firmware: Vec<u8>,
+    pub second: Vec<u8>,
+    pub assumptions: Option<Vec<u8>>,
+}
+
+fn fetch<'a, F: Files>(
+    alloc: Global,
+    files: &mut F,
+    name: &'a str,
+    cap: usize,
+) -> Result<Vec<u8>, Unread<'a>>
+    ensures fetched { MatchResult result (λ v. IsFetched (F.holds files.old name.now) cap (F.faults files.old) (F.faults files.new) v.items) (λ e. IsUnfetched (F.holds files.old name.now) cap name.now (F.faults files.old) (F.faults files.new) (F.blamed files.new) e) }
+    ensures holds { (n : List ℕ) → F.holds files.new n ≡ F.holds files.old n }
+{
+    match files.read(alloc, name, cap) {
+        Ok(bytes) => Ok(bytes),
+        Err(FileFault::TooLong) => Err(Unread::Long(name)),
+        Err(FileFault::Failed) => Err(Unread::Failed(name)),
+        Err(FileFault::Memory) => Err(Unread::Memory),
+    }
+}
+
+/// The bytes of a file that a command may have.
+fn fetch_optional<'a, F: Files>(
+    alloc: Global,
+    files: &mut F,
+    name: Option<&'a str>,
+    cap: usize,
+) -> Result<Option<Vec<u8>>, Unread<'a>>
+    ensures fetched { MatchResult result (λ o. IsFetchedUnder (F.holds files.old) cap (F.faults files.old) (F.faults files.new) (text_of name.entry) (bytes_of o)) (λ e. IsUnfetchedUnder (F.holds files.old) cap (F.faults files.old) (F.faults files.new) (F.blamed files.new) (text_of name.entry) e) }
+    ensures holds { (n : List ℕ) → F.holds files.new n ≡ F.holds files.old n }
+{
+    match name {
+        Some(name) => Ok(Some(fetch(alloc, files, name, cap)?)),
+        None => Ok(None),
+    }
+}
+
+/// The cap of a command's second file.
+fn second_cap(command: Command<'_>) -> usize
+    ensures { result ≡ caps.second_cap (command_seen command.entry) }
+{
+    match command {
+        Command::Check { .. } => CERTIFICATE_CAP,
+        Command::Run { .. } => SCHEDULE_CAP,
+    }
+}
+
+/// Reads the files of a command in their order, up to the first that is too long or can't be read.
+pub fn gather<'a, F: Files>(
+    alloc: Global,
+    files: &mut F,
+    command: Command<'a>,
+) -> Result<Contents, Unread<'a>>
+    ensures { MatchResult result (λ read. IsGathered (command_seen command.entry) (F.holds files.old) (F.faults files.old) (F.faults files.new) read) (λ e. IsUngathered (command_seen command.entry) (F.holds files.old) (F.faults files.old) (F.faults files.new) (F.blamed files.new) e) }
+{
+    let firmware = match fetch(alloc, files, command.firmware(), FIRMWARE_CAP) {
+        Ok(bytes) => bytes,
+        Err(fault) => return Err(fault),
+    };
+    let second = match fetch(alloc, files, command.second(), second_cap(command)) {
+        Ok(bytes) => bytes,
+        Err(fault) => return Err(fault),
+    };
+    let assumptions = match fetch_optional(alloc, files, command.assume(), ASSUMPTION_CAP) {
+        Ok(list) => list,
+        Err(fault) => return Err(fault),
+    };
+    Ok(Contents {
+        firmware,
+        second,
+        assumptions,
+    })
+}
