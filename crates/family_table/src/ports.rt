@@ -184,6 +184,7 @@ impl Ports {
     pub fn number(&self, inst: &InstKey) -> Option<usize>
         ensures some { IfSome result (λ at. slice_get (keys_of self.now) at ≡ Some inst.now) }
         ensures none { IfNone result ((j : ℕ) → slice_get (keys_of self.now) j ≢ Some inst.now) }
+        ensures once { AreOnce (keys_of self.now) }
     {
         self.map.get_index_of(&Place { key: *inst })
     }

@@ -48,7 +48,7 @@ valued_at (k ∷ ks) (x ∷ xs) (suc i) inst one lt e =
         absurd (omega (arith, s))
     by false t rest = rest
 
-valued_none : (keys : List InstKey) (xs : List ℕ) (inst : InstKey) → ((i : ℕ) → IsNumber keys i inst → ⊥) → valued keys xs inst ≡ 0
+pub valued_none : (keys : List InstKey) (xs : List ℕ) (inst : InstKey) → ((i : ℕ) → IsNumber keys i inst → ⊥) → valued keys xs inst ≡ 0
 valued_none [] xs inst none = refl
 valued_none (k ∷ ks) [] inst none = refl
 valued_none (k ∷ ks) (x ∷ xs) inst none = by (same_inst k inst) refl (valued_none ks xs inst (λ i e. none (suc i) e))

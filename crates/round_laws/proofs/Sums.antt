@@ -2,7 +2,7 @@
 use Rattle.std.proofs.Common.{◌≡◌, refl, sym, ap, ◌∙◌, ℕ, ◌+◌, ◌≤◌, Bool, true, false, cond, List, [], ◌∷◌, length, map, Some, arith}
 use Rattle.std.specs.Prelude.{T}
 use Rattle.std.specs.Ordering.{eq_by_cmp}
-use Rattle.std.specs.FinMap.{entries, entries_sorted, get-entries, len, len-entries}
+use Rattle.std.specs.FinMap.{get, entries, entries_sorted, get-entries, len, len-entries}
 use Rattle.std.specs.FinMap.Entries.{find, is_sorted}
 use Rattle.abs_state.specs.declared.state.AbsState.{AbsState}
 use Rattle.mask_states.specs.declared.keys.NodeKey.{NodeKey}
@@ -93,3 +93,10 @@ below_few f g below = omega (arith, below_le (λ k. 1) f g below, count_is (entr
 
 pub below_cells : (f g : Family) → Below f g → cells f ≤ cells g
 below_cells f g below = omega (arith, below_le (λ k. 1 + offset_of k.sp) f g below, cells_are (entries f), cells_are (entries g))
+
+-- a family of whose nodes another has the keys has no more cells
+pub same_cells : (f g : Family) → ((q : NodeKey) (s : AbsState) → get f q ≡ Some s → (t : AbsState) × (get g q ≡ Some t)) → cells f ≤ cells g
+same_cells f g has =
+    let le = keys_le (λ k. 1 + offset_of k.sp) (entries f) (entries g) (entries_sorted f)
+    (λ q h. let t = has q h.0 (get-entries f q ∙ h.1) in (t.0, sym (get-entries g q) ∙ t.1)) in
+    omega (arith, le, cells_are (entries f), cells_are (entries g))
