@@ -1,35 +1,33 @@
 -- What status 0 of a check says, and when it comes.
 use Rattle.std.proofs.Common.{◌≡◌, ◌≤◌, ◌*◌, ◌%◌, ◌==◌, ◌&&◌, nat_lt, ℕ, Bool, true, false, List, [], length, Option, Some, None, Result, Ok, Err, if◌then◌else◌, IsOkAnd, refl, sym, ap, ◌∙◌, subst, arith}
-use Rattle.std.specs.Prelude.{◌↔◌}
 use Rattle.std.specs.Option.{option_map, is_some}
 use Rattle.std.proofs.lemmas.Bool.Decides.{nat_tests}
 use Rattle.avr_model.specs.declared.assumption.Entry.{Entry}
 use Rattle.avr_model.specs.declared.choice.Stop.{Stop}
 use Rattle.avr_model.specs.declared.choice.Stop.TheVariants as stop
 use Rattle.avr_model.specs.Image.{WORDS, IsRawImage, raw_words}
-use Rattle.avr_model.specs.Run.{Bounded}
 use Rattle.elf_load.specs.Elf.{is_elf}
 use Rattle.indirect_targets.specs.declared.fault.AssumeText.{AssumeText}
 use Rattle.indirect_targets.specs.Reading.{entries_in}
-use Rattle.indirect_targets.specs.Exact.{IsReading, IsDue, ReadingIsExact}
+use Rattle.indirect_targets.specs.Exact.{IsDue, ReadingIsExact}
 use Rattle.witness_replay.specs.Spelling.{Plan}
 use Rattle.witness_replay.specs.Replay.{Report, replay_of}
-use Rattle.certificate.specs.Claims.{Claim, IsClaim, IsCertificate}
+use Rattle.certificate.specs.Claims.{Claim, IsCertificate}
 use Rattle.certificate.specs.Valid.{IsSound, IsAttained, IsValid}
 use Rattle.cert_words.specs.Text.{text_of}
 use Rattle.cert_format.specs.declared.fault.CertFault.{CertFault}
 use Rattle.cert_format.specs.Reading.{certificate_in}
 use Rattle.cert_format.specs.Exact.{ReadIsSpelled, SpelledIsRead}
-use Rattle.cert_check.specs.Laws.{VerdictsAreOne, SoundCertificatesBoundEveryRun, ValidWhereAcceptedAndAttained}
+use Rattle.cert_check.specs.Laws.{VerdictsAreOne, SoundCertificatesBoundEveryRun}
 use Rattle.cert_check.specs.Verdict.{IsVerdict}
 use Rattle.cert_check.specs.declared.verdict.Verdict.{Verdict}
 use Rattle.cert_check.specs.declared.verdict.Verdict.TheVariants.{Accepted, Rejected}
 use Rattle.commands.specs.Commands.{Command, Check, Run}
 use Rattle.replies.specs.Firmware.{IsFirmwareBy, IsFirmware, words_by, firmware_words, fault_by, firmware_fault}
-use Rattle.replies.specs.Texts.{too_long, elf_refused, raw_fault, accepted, rejected, witness_rejected, assumptions_refused, certificate_refused}
+use Rattle.replies.specs.Texts.{elf_refused, raw_fault, accepted, assumptions_refused, certificate_refused}
 use Rattle.replies.specs.Reading.{Seen, Unread, Whole, Long, Contents}
-use Rattle.replies.specs.Reply.{Reply, Says, Refuses, WithFile, WithOptional, ImageBy, WithImage, ListBy, WithList, is_end, attains, AttainedBy, WitnessReply, VerdictReply, JudgedReply, CertificateReply, SecondReply, WorkReply, IsReply}
-use Rattle.replies.specs.Headline.{HasWords, IsSeen, AreRead, IsListOf, StandFor, Holds, HoldsAsRead, Headline, IsExact, AcceptingRepliesHold, RepliesAreExact}
+use Rattle.replies.specs.Reply.{Reply, Refuses, WithFile, WithOptional, ImageBy, WithImage, ListBy, WithList, is_end, attains, AttainedBy, WitnessReply, VerdictReply, CertificateReply, SecondReply, WorkReply, IsReply}
+use Rattle.replies.specs.Headline.{HasWords, IsSeen, AreRead, IsListOf, StandFor, HoldsAsRead, Headline, IsExact, AcceptingRepliesHold, RepliesAreExact}
 use Rattle.replies.proofs.ElfWords.{one_elf, some_elf, no_refusal}
 use Rattle.replies.proofs.One.{replies_are_one}
 

@@ -18,7 +18,7 @@ use Rattle.commands.specs.Commands.{Command, Check, Run}
 use Rattle.replies.specs.Firmware.{firmware_words, firmware_fault}
 use Rattle.replies.specs.Texts.{too_long, assumptions_refused, certificate_refused, schedule_malformed, schedule_illegal, accepted, rejected, witness_rejected, run_text}
 use Rattle.replies.specs.Reading.{Seen, Unread, Whole, Long}
-use Rattle.replies.specs.Reply.{Reply, Says, Refuses, WithFile, WithOptional, ImageBy, WithImage, ListBy, WithList, attains, AttainedBy, WitnessReply, VerdictReply, JudgedReply, CertificateReply, ReportReply, EndsBefore, ScheduleReply, SecondReply, WorkReply, FilesReply, IsReply}
+use Rattle.replies.specs.Reply.{Reply, Says, Refuses, WithFile, WithOptional, ImageBy, ListBy, WithList, attains, AttainedBy, WitnessReply, VerdictReply, JudgedReply, CertificateReply, ReportReply, EndsBefore, ScheduleReply, SecondReply, WorkReply}
 use Rattle.replies.specs.Headline.{RepliesAreOne}
 
 -- at most one status with one text is the answer

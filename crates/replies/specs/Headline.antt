@@ -12,7 +12,7 @@ use Rattle.local_rules.specs.Machine.{AreWords}
 use Rattle.replies.specs.Firmware.{IsFirmware, firmware_words}
 use Rattle.replies.specs.Texts.{accepted}
 use Rattle.replies.specs.Reading.{Seen, Whole, Contents}
-use Rattle.replies.specs.Reply.{Reply, IsReply}
+use Rattle.replies.specs.Reply.{IsReply}
 
 -- these bytes were read of a file that a command may have
 abbrev pub IsSeen : Option (List ℕ) → Seen → Option (List ℕ) → Type 0

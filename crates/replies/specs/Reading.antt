@@ -1,6 +1,6 @@
 -- What is read of a command's files. Source: own.
 use Rattle.std.specs.Prelude.{ℕ, ◌≡◌, ◌≤◌, List, length, ⊤, Bool, true, false, Option, Some, None}
-use Rattle.sb_base.specs.Outside.{Held, Blamed, Rose, Gives, MayExceed, Blames}
+use Rattle.sb_base.specs.Outside.{Held, Blamed, Gives, MayExceed, Blames}
 use Rattle.commands.specs.Commands.{Command, Check, Run, Role, Firmware, Second, Assumptions, name_of, IsFileOf}
 
 -- what was read of a file: nothing so far, all its bytes, or that it is longer than its cap

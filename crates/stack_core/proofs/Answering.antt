@@ -1,11 +1,11 @@
 -- The answer, by how the reading of files went.
-use Rattle.std.proofs.Common.{◌≡◌, ◌≢◌, ◌⊎◌, inl, inr, ℕ, Bool, true, false, List, [], ◌∷◌, take, Option, Some, None, Result, Ok, Err, refl, sym, ap, ◌∙◌, subst}
-use Rattle.std.specs.Prelude.{◌↔◌, IfOk, MatchResult}
+use Rattle.std.proofs.Common.{◌≡◌, ◌≢◌, inl, inr, ℕ, Bool, true, false, List, [], ◌∷◌, Option, Some, None, Result, Ok, Err, refl, sym, ap, ◌∙◌, subst}
+use Rattle.std.specs.Prelude.{IfOk, MatchResult}
 use Rattle.std.proofs.lemmas.List.{append-nil}
 use Rattle.avr_model.specs.declared.assumption.Entry.{Entry}
 use Rattle.local_rules.specs.Machine.{AreWords}
 use Rattle.sb_base.specs.Lines.{Place, TextLine}
-use Rattle.sb_base.specs.Outside.{Held, Blamed, Rose, grown, GrewByPrefix}
+use Rattle.sb_base.specs.Outside.{Held, Blamed, grown, GrewByPrefix}
 use Rattle.indirect_targets.specs.declared.fault.AssumeText.{AssumeText}
 use Rattle.indirect_targets.specs.Reading.{entries_in}
 use Rattle.witness_replay.specs.Spelling.{Plan}
@@ -21,11 +21,11 @@ use Rattle.replies.specs.Firmware.{firmware_words, firmware_fault}
 use Rattle.replies.specs.Texts.{usage, read_fault, too_long, assumptions_refused, certificate_refused}
 use Rattle.replies.specs.Reading as read
 use Rattle.replies.specs.Reading.{Seen, Unread, Whole, Long, AllAgree}
-use Rattle.replies.specs.Reply.{Reply, Says, Refuses, WithFile, WithOptional, ImageBy, WithImage, ListBy, WithList, attains, AttainedBy, WitnessReply, VerdictReply, CertificateReply, ReportReply, EndsBefore, ScheduleReply, SecondReply, WorkReply, IsReply}
+use Rattle.replies.specs.Reply.{Reply, Refuses, WithFile, WithOptional, ImageBy, ListBy, WithList, attains, AttainedBy, WitnessReply, VerdictReply, CertificateReply, ReportReply, EndsBefore, ScheduleReply, SecondReply, WorkReply, IsReply}
 use Rattle.replies.specs.Headline.{HasWords, AcceptingRepliesHold, RepliesAreExact}
 use Rattle.stack_core.specs.declared.work.Reply.{Reply as Answered}
 use Rattle.stack_core.specs.Reading.{GoTogether, whole_of, seen_whole, IsTooLong}
-use Rattle.stack_core.specs.Answer.{IsAnswered, IsDue, IsWritten, IsReadFault, IsSettled, IsTold, IsAnswer, IsCutOff, Cuts}
+use Rattle.stack_core.specs.Answer.{IsAnswered, IsWritten, IsReadFault, IsSettled, IsAnswer, IsCutOff, Cuts}
 
 -- ---- no reply has a status that isn't the reply's
 

@@ -1,14 +1,14 @@
 -- The files of a command, read in their order.
-use Rattle.std.proofs.Common.{◌≡◌, ◌≤◌, ℕ, Bool, true, false, List, length, Option, Some, None, refl, sym, ap, ◌∙◌, subst}
-use Rattle.sb_base.specs.Outside.{Held, Blamed, Rose, Gives, MayExceed, Blames}
+use Rattle.std.proofs.Common.{◌≡◌, ℕ, true, List, Option, Some, None, refl, sym, ap, ◌∙◌, subst}
+use Rattle.sb_base.specs.Outside.{Held, Blamed, Rose, Blames}
 use Rattle.commands.specs.Commands.{Command, Check, Run, Role, Firmware, Second, Assumptions, name_of}
 use Rattle.replies.specs.Texts.{too_long}
 use Rattle.replies.specs.Reading as read
-use Rattle.replies.specs.Reading.{Seen, Unread, Whole, Long, seen_of, firmware_cap, second_cap, assumption_cap, cap_of, Agrees, AgreesUnder, AllAgree, is_before, WasRead, IsFirstFailed}
+use Rattle.replies.specs.Reading.{Seen, Unread, Whole, Long, firmware_cap, second_cap, assumption_cap, cap_of, Agrees, AgreesUnder, AllAgree, is_before, WasRead}
 use Rattle.replies.specs.Reply.{IsReply}
 use Rattle.stack_core.specs.declared.reading.Unread.{Unread as Unfetched}
 use Rattle.stack_core.specs.declared.reading.Unread.TheVariants as unread
-use Rattle.stack_core.specs.Reading.{IsFetched, IsUnfetched, IsFetchedUnder, IsUnfetchedUnder, GoTogether, whole_of, seen_whole, IsTooLong, IsUngathered}
+use Rattle.stack_core.specs.Reading.{IsFetched, IsUnfetched, IsFetchedUnder, IsUnfetchedUnder, GoTogether, whole_of, seen_whole, IsUngathered}
 
 same_some : (a b : List ℕ) → ◌≡◌ {A = Option (List ℕ)} (Some a) (Some b) → a ≡ b
 same_some a b e = cc

@@ -1,12 +1,11 @@
 -- Checks of bytes that are held.
 use Rattle.std.proofs.Common.{◌≡◌, ◌≤◌, ◌<◌, ℕ, List, length, Option, Some, None, refl, sym, ap, ◌∙◌, subst, arith}
-use Rattle.std.specs.Prelude.{◌↔◌}
 use Rattle.sb_base.specs.Outside.{Held, Bytes, Gives, MayExceed}
-use Rattle.commands.specs.Commands.{Command, Check, Firmware, Second, Assumptions}
+use Rattle.commands.specs.Commands.{Check, Firmware, Second, Assumptions}
 use Rattle.replies.specs.Reading.{Seen, Unread, Whole, Long, firmware_cap, certificate_cap, assumption_cap, Agrees, AgreesUnder}
 use Rattle.replies.specs.Reply.{Reply, WithFile, WithOptional, WorkReply}
-use Rattle.replies.specs.Headline.{IsSeen, AreRead, Holds}
-use Rattle.stack_core.specs.Answer.{IsAnswered, IsDue, IsWritten, AreHeld, IsCheck, WrittenChecksHold, WrittenChecksAreExact}
+use Rattle.replies.specs.Headline.{IsSeen, Holds}
+use Rattle.stack_core.specs.Answer.{IsAnswered, IsDue, AreHeld, WrittenChecksHold, WrittenChecksAreExact}
 
 held_is : (h : Held) (cap : ℕ) (s : Seen) (a b : List ℕ) → Agrees h cap s → s ≡ Whole a → h ≡ Bytes b → a ≡ b
 held_is h cap s a b agrees e is = let g : Agrees h cap (Whole a) = subst (Agrees h cap) e agrees in subst (λ x. Gives x a) is g.0

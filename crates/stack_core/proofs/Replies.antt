@@ -1,9 +1,8 @@
 -- Replies by what is known of their parts.
-use Rattle.std.proofs.Common.{◌≡◌, ◌≢◌, ℕ, Bool, true, false, List, [], ◌∷◌, Option, Some, None, Result, Ok, Err, refl, sym, ap, ◌∙◌, subst}
+use Rattle.std.proofs.Common.{◌≡◌, ◌≢◌, ℕ, Bool, true, false, List, Option, Some, None, Result, Ok, Err, refl, sym, subst}
 use Rattle.std.specs.Option.{option_copied, is_some}
 use denote.Ref.{Bor}
 use Rattle.avr_model.specs.declared.assumption.Entry.{Entry}
-use Rattle.sb_base.specs.Lines.{Place, TextLine}
 use Rattle.indirect_targets.specs.declared.fault.AssumeText.{AssumeText}
 use Rattle.indirect_targets.specs.declared.fault.AssumeText.TheVariants as assume
 use Rattle.indirect_targets.specs.Reading.{entries_in}
@@ -15,15 +14,13 @@ use Rattle.cert_format.specs.declared.fault.CertFault.{CertFault}
 use Rattle.cert_format.specs.declared.fault.CertFault.TheVariants as fault
 use Rattle.cert_format.specs.Reading.{certificate_in}
 use Rattle.cert_check.specs.Verdict.{IsVerdict}
-use Rattle.cert_check.specs.declared.verdict.Verdict.{Verdict}
-use Rattle.cert_check.specs.declared.verdict.Verdict.TheVariants.{Accepted, Rejected}
+use Rattle.cert_check.specs.declared.verdict.Verdict.TheVariants.{Accepted}
 use Rattle.replies.specs.Firmware.{firmware_fault, firmware_words}
-use Rattle.replies.specs.Texts.{accepted, rejected, witness_rejected, schedule_illegal, run_text, assumptions_refused, certificate_refused}
-use Rattle.replies.specs.Reply.{Reply, Says, Refuses, ImageBy, WithImage, ListBy, WithList, attains, AttainedBy, WitnessReply, VerdictReply, JudgedReply, CertificateReply, ReportReply, ScheduleReply, SecondReply, WorkReply}
+use Rattle.replies.specs.Texts.{accepted, witness_rejected, schedule_illegal, run_text, assumptions_refused, certificate_refused}
+use Rattle.replies.specs.Reply.{Reply, Refuses, ImageBy, WithImage, ListBy, WithList, attains, AttainedBy, WitnessReply, JudgedReply, CertificateReply, ReportReply}
 use Rattle.replies.proofs.Accepting.{attained_by, attains_by}
 use Rattle.stack_core.specs.Working.{ReadsAs, ListsAs}
 use Rattle.stack_core.specs.declared.work.Reply.{Reply as Answered}
-use Rattle.stack_core.specs.declared.work.Listing.{Listing}
 use Rattle.stack_core.specs.declared.work.Listing.TheVariants.{Listed, Unlisted}
 
 -- ---- run

@@ -1,6 +1,5 @@
 -- What is made of a firmware and of an assumption file.
-use Rattle.std.specs.Prelude.{ℕ, ◌≡◌, List, [], Bool, Option, Some, None, Result, Ok, Err}
-use Rattle.avr_model.specs.declared.assumption.Entry.{Entry}
+use Rattle.std.specs.Prelude.{ℕ, ◌≡◌, List, [], Bool, Option, Some, None, Ok, Err}
 use Rattle.elf_load.specs.Elf.{is_elf}
 use Rattle.indirect_targets.specs.declared.fault.AssumeText.{AssumeText}
 use Rattle.indirect_targets.specs.Reading.{entries_in}
