@@ -1,0 +1,66 @@
+-- What a search answers.
+use Rattle.std.proofs.Common.{refl, sym, ap, subst, ◌∙◌, ◌≡◌, ◌++◌, ℕ, List, [], Option, Some, None, IfSome, slice_get, Bor}
+use Rattle.std.specs.Slice.{IsItemAt}
+use Rattle.std.proofs.lemmas.List.{append-nil}
+use Rattle.std.proofs.lemmas.Option.{slice_get_past}
+use Rattle.avr_model.specs.declared.assumption.Entry.{Entry}
+use Rattle.mask_states.specs.declared.keys.EdgeKind.{EdgeKind}
+use Rattle.local_rules.specs.declared.local.Node.{Node}
+use Rattle.edge_rules.specs.Expansion.{IsFilled}
+use Rattle.expansion_laws.specs.Laws.{FilledOrMissing}
+use Rattle.nesting_bound.specs.declared.graph.GraphInst.{GraphInst}
+use Rattle.nesting_bound.specs.declared.graph.Link.{Link}
+use Rattle.nesting_bound.specs.Chain.{IsChain}
+use Rattle.nesting_bound.specs.Least.{IsLeast}
+use Rattle.family_graph.specs.Graphs.{IsGraphOf}
+use Rattle.witness_replay.specs.Spelling.{Plan}
+use Rattle.certificate.specs.Claims.{Claim}
+use Rattle.certificate.specs.Valid.{IsSound, MeetsConditions, IsAttained}
+use Rattle.witness_search.specs.declared.waypoint.Waypoint.{Waypoint}
+use Rattle.witness_search.specs.Chains.{interrupt_at, interrupt_of, interrupts_of, AreInterrupts, AreWaypoints}
+use Rattle.witness_search.specs.Trials.{Attains, IsFound}
+
+pub attained_as : (words : List ℕ) (A : List Entry) (bound : ℕ) (found : Option Plan) → IfSome found (Attains words A bound) → IsAttained words A bound found
+attained_as words A bound None h = tt
+attained_as words A bound (Some plan) h = h
+
+-- the expansion of a certificate whose conditions hold meets them
+pub meets_as : FilledOrMissing → (words : List ℕ) (A : List Entry) (c : Claim) (nodes : List Node) → IsSound words A c → IsFilled words A c.nodes nodes → MeetsConditions words A c nodes
+meets_as law words A c nodes sound filled = subst (MeetsConditions words A c) (law.one words A c.nodes sound.nodes nodes sound.expanded filled) sound.meets
+
+-- where there is no node there is no interrupt
+none_there : (o : Option Node) (depth : ℕ) (kind : Option EdgeKind) → o ≡ None → interrupt_at o depth kind ≡ []
+none_there None depth kind e = refl
+none_there (Some n) depth kind e = absurd cc
+
+pub none_added : (nodes xs : List Node) (link : Link) (points : List Waypoint) (r : Option (Bor Node)) → IsItemAt xs link.node r → r ≡ None → xs ≡ nodes → points ≡ points ++ interrupt_of nodes link
+none_added nodes xs link points r item none same =
+    let past : IsItemAt xs link.node None = subst (λ (o : Option (Bor Node)). IsItemAt xs link.node o) none item in
+    let away : slice_get nodes link.node ≡ None = subst (λ (ns : List Node). slice_get ns link.node ≡ None) same (slice_get_past xs link.node past.3) in
+    sym (ap (λ (ws : List Waypoint). points ++ ws) (none_there (slice_get nodes link.node) link.depth link.kind away) ∙ append-nil points)
+
+-- the interrupts of the chain, whose links are given by another list
+pub interrupts_as : (words : List ℕ) (A : List Entry) (nodes : List Node) (gs : List GraphInst) (ranks needs : List ℕ) (links given : List Link) (points : List Waypoint)
+    → IsGraphOf words A nodes gs → IsLeast gs ranks needs → IsChain gs needs links → given ≡ links → points ≡ interrupts_of nodes given → AreInterrupts words A nodes points
+interrupts_as words A nodes gs ranks needs links given points family least chain same are =
+    record {
+      graph = gs;
+      family = family;
+      ranks = ranks;
+      needs = needs;
+      least = least;
+      links = links;
+      chain = chain;
+      are = are ∙ ap (interrupts_of nodes) same;
+    }
+
+-- those of a certificate's family are the certificate's
+pub waypoints_as : (words : List ℕ) (A : List Entry) (c : Claim) (nodes : List Node) (points : List Waypoint) → IsFilled words A c.nodes nodes → AreInterrupts words A nodes points
+    → AreWaypoints words A c points
+waypoints_as words A c nodes points filled interrupts = record { nodes = nodes; filled = filled; interrupts = interrupts }
+
+-- what the trials find along these waypoints
+pub found_as : (words : List ℕ) (A : List Entry) (c : Claim) (points given : List Waypoint) (bound : ℕ) (found : Option Plan) → AreWaypoints words A c points → given ≡ points → bound ≡ c.bound
+    → IsFound words A given bound found → (ps : List Waypoint) × AreWaypoints words A c ps × IsFound words A ps c.bound found
+found_as words A c points given bound found are same is h =
+    (points, are, subst (λ (b : ℕ). IsFound words A points b found) is (subst (λ (ps : List Waypoint). IsFound words A ps bound found) same h))

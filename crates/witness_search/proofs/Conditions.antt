@@ -1,0 +1,139 @@
+-- What the conditions on a certificate say of the graph of its family.
+use Rattle.std.proofs.Common.{arith, refl, sym, ap, subst, ◌∙◌, ◌≡◌, ℕ, zero, suc, ◌+◌, ◌<◌, ◌≤◌, Bool, List, [], ◌∷◌, map, length, unwrap_or, Option, Some, slice_get, slice_index, get_or, Contains, nat_cmp, Ordering, Less, Greater}
+use Rattle.std.specs.Cmp.{nat_cmp_is}
+use Rattle.std.specs.Cmp.Lexicographic.{slice_cmp}
+use Rattle.std.specs.Int.{from_bool}
+use Rattle.std.specs.List.Sorted.{IsStrictlySortedBy}
+use Rattle.std.specs.Ordering.{ordering_then}
+use Rattle.std.proofs.lemmas.Option.{slice_get_within, slice_get_read, get_or_from_slice_get}
+use Rattle.std.proofs.lemmas.Map.Keys.{Less-from_sorted}
+use Rattle.avr_model.specs.declared.assumption.Entry.{Entry}
+use Rattle.abs_state.specs.Frames.{entered}
+use Rattle.mask_states.specs.declared.keys.EdgeKind.{EdgeKind}
+use Rattle.mask_states.specs.declared.keys.Kind.{Kind}
+use Rattle.mask_states.specs.declared.keys.Kind.TheVariants.{Root, Call, Vector}
+use Rattle.mask_states.specs.declared.keys.InstKey.{InstKey}
+use Rattle.mask_states.specs.Keys.{root_inst, entry_key, inst_numbers, offset_of}
+use Rattle.mask_states.specs.Order.{inst_cmp}
+use Rattle.local_rules.specs.declared.local.Node.{Node}
+use Rattle.edge_rules.specs.Edges.{Enters, entering}
+use Rattle.edge_rules.specs.Families.{IsCovered}
+use Rattle.nesting_bound.specs.declared.graph.GraphInst.{GraphInst}
+use Rattle.nesting_bound.specs.declared.graph.Place.{Place}
+use Rattle.nesting_bound.specs.Graph as graph
+use Rattle.nesting_bound.specs.Chain.{HasSome, HavePlaces}
+use Rattle.nesting_bound.specs.Least.{IsLeast}
+use Rattle.family_graph.specs.Graphs.{insts_of, IsPeopled, IsGraphOf}
+use Rattle.certificate.specs.Insts.{rank_in, need_in}
+use Rattle.certificate.specs.Claims.{Claim}
+use Rattle.certificate.specs.Valid.{MeetsConditions}
+
+read : {X : Type 0} (xs : List X) (x : X) (h : Contains xs x) → slice_get xs h.0 ≡ Some x
+read xs x h = slice_get_read xs (length xs) h.0 x refl h.1 (sym h.2)
+
+member_of : (nodes : List Node) (n : Node) (at : ℕ) → slice_get nodes at ≡ Some n → Contains nodes n
+member_of nodes n at e = (at, slice_get_within nodes at n e, get_or_from_slice_get nodes at n n e)
+
+-- ---- the root is the first instance
+
+not_below : (x : ℕ) (o : Ordering) → (o ≡ Less → ⊥) → ordering_then (nat_cmp x 0) o ≡ Less → ⊥
+not_below zero o later e = later e
+not_below (suc x) o later e =
+    let above : Greater ≡ nat_cmp (suc x) 0 = nat_cmp_is (suc x) 0 Greater (omega arith) in
+    let less : Greater ≡ Less = subst (λ (r : Ordering). ordering_then r o ≡ Less) (sym above) e in
+    absurd cc
+
+-- nothing is below so many zeros
+zeros_least : (xs : List ℕ) → slice_cmp nat_cmp xs (map (λ x. 0) xs) ≡ Less → ⊥
+zeros_least [] e = absurd cc
+zeros_least (x ∷ xs) e = not_below x (slice_cmp nat_cmp xs (map (λ y. 0) xs)) (zeros_least xs) e
+
+least_by : (kind : Kind) (entry masks : ℕ) (i : Bool) → inst_cmp (record { kind = kind; entry = entry; masks = masks; i = i }) root_inst ≡ Less → ⊥
+unfolding inst_cmp inst_numbers
+least_by Root entry masks i e = zeros_least (0 ∷ 0 ∷ entry ∷ masks ∷ from_bool i ∷ []) e
+least_by Call entry masks i e = zeros_least (1 ∷ 0 ∷ entry ∷ masks ∷ from_bool i ∷ []) e
+least_by (Vector v) entry masks i e = zeros_least (2 ∷ v ∷ entry ∷ masks ∷ from_bool i ∷ []) e
+
+root_least : (x : InstKey) → inst_cmp x root_inst ≡ Less → ⊥
+root_least x e = least_by x.kind x.entry x.masks x.i e
+
+root_at : (insts : List InstKey) (k : ℕ) → k < length insts → IsStrictlySortedBy inst_cmp insts → slice_get insts k ≡ Some root_inst → slice_get insts 0 ≡ Some root_inst
+root_at insts zero within ascending is = is
+root_at insts (suc k) within ascending is =
+    let less = Less-from_sorted inst_cmp insts 0 (suc k) root_inst ascending (omega arith) within in
+    let e : get_or insts (suc k) root_inst ≡ root_inst = get_or_from_slice_get insts (suc k) root_inst root_inst is in
+    absurd (root_least (get_or insts 0 root_inst) (subst (λ (y : InstKey). inst_cmp (get_or insts 0 root_inst) y ≡ Less) e less))
+
+module _ (words : List ℕ) (A : List Entry) (c : Claim) (nodes : List Node) (meets : MeetsConditions words A c nodes) where
+  member : (n : Node) (at : ℕ) → slice_get nodes at ≡ Some n → Contains nodes n
+  member n at e = member_of nodes n at e
+
+  -- an instance that is entered has its first node
+  landed : (n : Node) (way : EdgeKind) (into : InstKey) (back : ℕ) → Contains nodes n → Enters words A n way into back
+      → IsCovered nodes (record { key = entry_key into; state = entered n.state })
+  landed n way into back has enters = meets.edges n (record { kind = way; to = entry_key into; state = entered n.state }) has (entering way into back enters)
+
+  pub peopled : IsPeopled words A nodes
+  peopled n way into back has enters = let l = landed n way into back has enters in (record { key = entry_key into; state = l.state }, l.present, refl)
+
+  pub some_node : 0 < length nodes
+  some_node = omega (arith, meets.reset.present.1)
+
+  module _ (gs : List GraphInst) (is : IsGraphOf words A nodes gs) where
+    abbrev pub key_at : ℕ → InstKey
+    key_at i = unwrap_or (slice_get (insts_of gs) i) root_inst
+
+    key_is : (i : ℕ) (inst : InstKey) → slice_get (insts_of gs) i ≡ Some inst → inst ≡ key_at i
+    key_is i inst e = sym (ap (λ (x : Option InstKey). unwrap_or x root_inst) e)
+
+    pub ranked : graph.AreRanks gs (λ i. rank_in c.instances (key_at i))
+    ranked i e enters =
+        let h = (is.entered i e).0 enters in
+        let at : Contains nodes h.entry.node = member h.entry.node e.node h.entry.at in
+        subst (λ (x : InstKey). rank_in c.instances x < rank_in c.instances (key_at i)) (key_is e.into h.into h.leads)
+        (subst (λ (x : InstKey). rank_in c.instances h.into < rank_in c.instances x) (h.entry.same ∙ key_is i h.inst h.is)
+        (meets.ranks h.entry.node e.kind h.into h.entry.back at h.entry.enters))
+
+    pub suffices : graph.AreNeeds gs (λ i. need_in c.instances (key_at i))
+    suffices =
+        record {
+          offsets = λ i p has.
+              let h = (is.places i p).0 has in
+              subst (λ (x : InstKey). p.offset ≤ need_in c.instances x) (key_is i h.inst h.is)
+              ((meets.needs h.inst).offsets h.place.node p.offset (member h.place.node p.node h.place.at) h.place.same h.place.closed);
+          entered = λ i e enters.
+              let h = (is.entered i e).0 enters in
+              let at : Contains nodes h.entry.node = member h.entry.node e.node h.entry.at in
+              let n = (meets.needs h.inst).entered h.entry.node e.kind h.into h.entry.back at h.entry.same h.entry.enters in
+              subst (λ (x : InstKey). e.offset + 2 + need_in c.instances x ≤ need_in c.instances (key_at i)) (key_is e.into h.into h.leads)
+              (subst (λ (x : InstKey). e.offset + 2 + need_in c.instances h.into ≤ need_in c.instances x) (key_is i h.inst h.is)
+              (subst (λ (o : ℕ). o + 2 + need_in c.instances h.into ≤ need_in c.instances h.inst) (ap offset_of h.entry.closed) n));
+        }
+
+    -- the covered first node of an instance is a place of it
+    place_at : (inst : InstKey) (i : ℕ) → slice_get (insts_of gs) i ≡ Some inst → (s : _) → IsCovered nodes (record { key = entry_key inst; state = s }) → HasSome gs i
+    place_at inst i e s covered =
+        let n : Node = record { key = entry_key inst; state = covered.state } in
+        let p : Place = record { node = covered.present.0; offset = 0 } in
+        (p, (is.places i p).1 (record { inst = inst; is = e; place = record { node = n; at = read nodes n covered.present; same = refl; closed = refl } }))
+
+    root_first : slice_get (insts_of gs) 0 ≡ Some root_inst
+    root_first =
+        let has = (is.insts root_inst).1 (record { key = entry_key root_inst; state = meets.reset.state }, meets.reset.present, refl) in
+        root_at (insts_of gs) has.0 has.1 is.ascending (read (insts_of gs) root_inst has)
+
+    pub places : HavePlaces gs
+    places =
+        record {
+          root = place_at root_inst 0 root_first _ meets.reset;
+          entered = λ i e enters.
+              let h = (is.entered i e).0 enters in
+              place_at h.into e.into h.leads _ (landed h.entry.node e.kind h.into h.entry.back (member h.entry.node e.node h.entry.at) h.entry.enters);
+        }
+
+    pub root_need : (ranks needs : List ℕ) → IsLeast gs ranks needs → 0 < length gs → c.bound ≤ 2048 → slice_index needs 0 ≤ 2048
+    root_need ranks needs least some small =
+        let n = least.least_needs (λ i. need_in c.instances (key_at i)) suffices 0 some in
+        let r : key_at 0 ≡ root_inst = sym (key_is 0 root_inst root_first) in
+        let root : slice_index needs 0 ≤ need_in c.instances root_inst = subst (λ (x : InstKey). slice_index needs 0 ≤ need_in c.instances x) r n in
+        omega (arith, root, meets.bounded, small)

@@ -1,0 +1,131 @@
+-- What a trial finds, and the first of them.
+use Rattle.std.proofs.lemmas.List.Elements.{Contains-append_cases}
+use Rattle.std.proofs.Common.{arith, suc, zero, refl, sym, ap, subst, ◌∙◌, ◌≡◌, ◌≢◌, ◌≤◌, ◌<◌, ◌+◌, ℕ, slice_index_or, List, [], ◌∷◌, ◌++◌, length, Option, Some, Contains, IsOkAnd, inl, inr, take, drop}
+use Rattle.avr_model.specs.declared.choice.Choice.{Choice}
+use Rattle.avr_model.specs.declared.choice.Stop.TheVariants as stop
+use Rattle.avr_model.specs.declared.assumption.Entry.{Entry}
+use Rattle.avr_model.specs.State.{State, filled}
+use Rattle.avr_model.specs.Run.{IsRun, starting, depth_of, stop_of}
+use Rattle.stimulus.specs.Laws.{DepthIsKept}
+use Rattle.witness_replay.specs.Spelling.{Plan, IsSchedule, choices_of}
+use Rattle.witness_replay.specs.Replay.{replay_from, report_unless, steps_of}
+use Rattle.witness_search.specs.declared.waypoint.Waypoint.{Waypoint}
+use Rattle.witness_search.specs.Waypoints.{pick_due, due_left}
+use Rattle.witness_search.specs.Trials.{fills, fill_at, most_steps, trial_by, trial_of, Succeeds, NoneSucceeds, IsTried, IsFound, Attains}
+use Rattle.witness_search.proofs.Depths.{from_none}
+use Rattle.witness_search.proofs.Runs.{few, ends_well, run_legal}
+
+only_at : (x y k : ℕ) → k < length (x ∷ []) → slice_index_or (x ∷ []) k y ≡ y → y ≡ x
+only_at x y zero within is = sym is
+only_at x y (suc k) within is = absurd (omega (arith, within))
+
+only : (x y : ℕ) → Contains (x ∷ []) y → y ≡ x
+only x y h = only_at x y h.0 h.1 h.2
+
+steps_are : most_steps ≡ 200000
+unfolding most_steps
+steps_are = refl
+
+-- the trial with all its steps
+pub whole : (steps : ℕ) (words : List ℕ) (A : List Entry) (points : List Waypoint) (bound fill : ℕ) → steps ≡ most_steps
+    → trial_by steps words A points bound fill ≡ trial_of words A points bound fill
+unfolding trial_of
+whole steps words A points bound fill is = ap (λ (n : ℕ). trial_by n words A points bound fill) is
+
+pub few_choices : (steps : ℕ) (words : List ℕ) (A : List Entry) (points : List Waypoint) (bound fill : ℕ) (cs : List Choice) → steps ≡ most_steps
+    → cs ≡ trial_by steps words A points bound fill → length cs ≤ 16777216
+few_choices steps words A points bound fill cs most is = omega (arith, few (pick_due fill) due_left words A bound steps points (starting (filled fill)), ap length is, most, steps_are)
+
+-- ---- a trial that reaches the bound
+
+module _ (law : DepthIsKept) (words : List ℕ) (A : List Entry) where
+  stop_is : (steps : ℕ) (points : List Waypoint) (bound fill : ℕ) (cs : List Choice) → cs ≡ trial_by steps words A points bound fill → IsRun words A cs (filled fill)
+      → depth_of words A cs (filled fill) ≡ bound → stop_of words A cs (filled fill) ≡ stop.End
+  stop_is steps points bound fill cs is =
+      subst (λ (xs : List Choice). IsRun words A xs (filled fill) → depth_of words A xs (filled fill) ≡ bound → stop_of words A xs (filled fill) ≡ stop.End)
+      (sym is)
+      (λ run deep.
+      let e = law words A (trial_by steps words A points bound fill) (starting (filled fill)) (omega arith) run ∙ from_none (depth_of words A (trial_by steps words A points bound fill) (filled fill)) ∙ deep in
+      ends_well (pick_due fill) due_left words A bound steps points (starting (filled fill)) (omega (arith, e)))
+
+  replays : (bound : ℕ) (cs : List Choice) (m : State) → IsRun words A cs m → depth_of words A cs m ≡ bound → stop_of words A cs m ≡ stop.End
+      → IsOkAnd (replay_from words A cs m) (λ r. (r.stop ≡ stop.End) × (r.depth ≡ bound))
+  replays bound cs m run deep end =
+      subst
+      (λ (x : Option ℕ). IsOkAnd (report_unless x (record { steps = steps_of words A cs m; depth = depth_of words A cs m; stop = stop_of words A cs m })) (λ r. (r.stop ≡ stop.End) × (r.depth ≡ bound)))
+      (sym (run_legal words A cs m run)) (end, deep)
+
+  pub attains : (steps : ℕ) (points : List Waypoint) (bound fill : ℕ) (cs : List Choice) (plan : Plan) → cs ≡ trial_by steps words A points bound fill
+      → IsRun words A cs (filled fill) → depth_of words A cs (filled fill) ≡ bound → plan.fill ≡ fill → choices_of plan.runs ≡ cs → Attains words A bound plan
+  attains steps points bound fill cs plan is run deep filling choices =
+      subst (λ (xs : List Choice). IsOkAnd (replay_from words A xs (filled plan.fill)) (λ r. (r.stop ≡ stop.End) × (r.depth ≡ bound))) (sym choices)
+      (subst (λ (b : ℕ). IsOkAnd (replay_from words A cs (filled b)) (λ r. (r.stop ≡ stop.End) × (r.depth ≡ bound))) (sym filling)
+      (replays bound cs (filled fill) run deep (stop_is steps points bound fill cs is run deep)))
+
+module _ (words : List ℕ) (A : List Entry) (points : List Waypoint) (bound : ℕ) where
+  pub succeeds : (steps fill : ℕ) (cs : List Choice) (depth : ℕ) → steps ≡ most_steps → cs ≡ trial_by steps words A points bound fill
+      → depth ≡ depth_of words A cs (filled fill) → depth ≡ bound → Succeeds words A points bound fill
+  succeeds steps fill cs depth most is deep reached =
+      ap (λ (xs : List Choice). depth_of words A xs (filled fill)) (sym (is ∙ whole steps words A points bound fill most)) ∙ sym deep ∙ reached
+
+  pub fails : (steps fill : ℕ) (cs : List Choice) (depth : ℕ) → steps ≡ most_steps → cs ≡ trial_by steps words A points bound fill
+      → depth ≡ depth_of words A cs (filled fill) → depth ≢ bound → Succeeds words A points bound fill → ⊥
+  fails steps fill cs depth most is deep short h =
+      short (deep ∙ ap (λ (xs : List Choice). depth_of words A xs (filled fill)) (is ∙ whole steps words A points bound fill most) ∙ h)
+
+  pub tried : (steps fill : ℕ) (cs : List Choice) (plan : Plan) → steps ≡ most_steps → cs ≡ trial_by steps words A points bound fill → Succeeds words A points bound fill
+      → plan.fill ≡ fill → choices_of plan.runs ≡ cs → IsSchedule plan → IsTried words A points bound fill (Some plan)
+  tried steps fill cs plan most is reached filling choices fits = (
+    filling,
+    reached,
+    record { fits = fits; choices = choices ∙ is ∙ whole steps words A points bound fill most ∙ ap (trial_of words A points bound) (sym filling) },
+  )
+
+  -- ---- one trial after another
+
+  pub none_yet : NoneSucceeds words A points bound []
+  none_yet fill has = absurd (omega (arith, has.1))
+
+  pub none_more : (before : List ℕ) (fill : ℕ) → NoneSucceeds words A points bound before → (Succeeds words A points bound fill → ⊥)
+      → NoneSucceeds words A points bound (before ++ fill ∷ [])
+  none_more before fill none failed t has reached =
+      elim (Contains-append_cases before (fill ∷ []) t has) [ inl old ↦ none t old reached | inr new ↦ failed (subst (Succeeds words A points bound) (only fill t new) reached) ]
+
+  pub first : (before after : List ℕ) (fill : ℕ) (plan : Plan) → fills ≡ before ++ fill ∷ after → NoneSucceeds words A points bound before
+      → IsTried words A points bound fill (Some plan) → IsFound words A points bound (Some plan)
+  first before after fill plan order none h =
+      record {
+        before = before;
+        after = after;
+        order = order ∙ ap (λ (b : ℕ). before ++ b ∷ after) (sym h.0);
+        failed = none;
+        succeeds = subst (Succeeds words A points bound) (sym h.0) h.1;
+        trial = h.2;
+      }
+
+-- ---- the trials' bytes by their numbers
+
+pub parted : (t : ℕ) → t < 8 → fills ≡ take t fills ++ fill_at t ∷ drop (t + 1) fills
+parted zero h = refl
+parted (suc zero) h = refl
+parted (suc (suc zero)) h = refl
+parted (suc (suc (suc zero))) h = refl
+parted (suc (suc (suc (suc zero)))) h = refl
+parted (suc (suc (suc (suc (suc zero))))) h = refl
+parted (suc (suc (suc (suc (suc (suc zero)))))) h = refl
+parted (suc (suc (suc (suc (suc (suc (suc zero))))))) h = refl
+parted (suc (suc (suc (suc (suc (suc (suc (suc n)))))))) h = absurd (omega (arith, h))
+
+pub taken_more : (t : ℕ) → t < 8 → take (t + 1) fills ≡ take t fills ++ fill_at t ∷ []
+taken_more zero h = refl
+taken_more (suc zero) h = refl
+taken_more (suc (suc zero)) h = refl
+taken_more (suc (suc (suc zero))) h = refl
+taken_more (suc (suc (suc (suc zero)))) h = refl
+taken_more (suc (suc (suc (suc (suc zero))))) h = refl
+taken_more (suc (suc (suc (suc (suc (suc zero)))))) h = refl
+taken_more (suc (suc (suc (suc (suc (suc (suc zero))))))) h = refl
+taken_more (suc (suc (suc (suc (suc (suc (suc (suc n)))))))) h = absurd (omega (arith, h))
+
+pub taken_all : (t : ℕ) → t ≡ 8 → take t fills ≡ fills
+taken_all t e = ap (λ (n : ℕ). take n fills) e

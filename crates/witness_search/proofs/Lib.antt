@@ -1,0 +1,7 @@
+mod Depths
+mod Points
+mod Runs
+mod Found
+mod Conditions
+mod One
+mod Answered

@@ -1,0 +1,51 @@
+-- What is taken of waypoints by a menu is what is picked by its state.
+use Rattle.std.proofs.Common.{◌≡◌, refl, ap, ◌∙◌, ℕ, ◌+◌, ◌==◌, ◌&&◌, ◌||◌, not, Bool, true, false, if◌then◌else◌, IsTrue, List, [], ◌∷◌}
+use Rattle.avr_model.specs.declared.choice.Choice.TheVariants.{Go}
+use Rattle.avr_model.specs.Vectors.{is_enabled, WATCHDOG}
+use Rattle.avr_model.specs.State.{State, RAMEND, i_flag}
+use Rattle.avr_model.specs.Step.{may_take}
+use Rattle.avr_machine.specs.declared.menu.Menu.{Menu}
+use Rattle.avr_machine.specs.Menu.{has_choice}
+use Rattle.stimulus.specs.Driving.{IsMenuOf}
+use Rattle.witness_search.specs.declared.waypoint.Waypoint.{Waypoint}
+use Rattle.witness_search.specs.Waypoints.{interrupt_of, is_due, taken, left_after, due_at, pick_due, due_left}
+
+last_of : (a b c d : Bool) → (a && b && c && d) ≡ true → d ≡ true
+last_of true true true d h = h
+last_of true true false d h = cc
+last_of true false c d h = cc
+last_of false b c d h = cc
+
+stands_if : (menu : Menu) (fill : ℕ) (w : Waypoint) (b : Bool) → is_due w menu ≡ b → IsTrue (has_choice menu (if b then interrupt_of w else Go fill fill))
+stands_if menu fill w true is = last_of (menu.pc == w.pc) (menu.masks == w.masks) (menu.sp + w.depth == RAMEND) (has_choice menu (interrupt_of w)) is
+stands_if menu fill w false is = refl
+
+-- what is taken stands in the menu
+pub taken_stands : (fill : ℕ) (ws : List Waypoint) (menu : Menu) → IsTrue (has_choice menu (taken fill ws menu))
+taken_stands fill [] menu = refl
+taken_stands fill (w ∷ ws) menu = stands_if menu fill w (is_due w menu) refl
+
+regrouped : (enabled i delay clears watchdog : Bool) → ((enabled && i && not delay && (not false || watchdog)) && (not clears || watchdog)) ≡ (enabled && i && not delay && (not clears || watchdog))
+regrouped true true true clears watchdog = refl
+regrouped true true false clears watchdog = refl
+regrouped true false delay clears watchdog = refl
+regrouped false i delay clears watchdog = refl
+
+legal_as : (menu : Menu) (m : State) (w : Waypoint) → IsMenuOf menu m → has_choice menu (interrupt_of w) ≡ may_take m w.vector w.clears
+legal_as menu m w is =
+    ap (λ (t : Bool). t && (not w.clears || (w.vector == WATCHDOG))) (is.takes w.vector) ∙ regrouped (is_enabled m.enables w.vector) (i_flag m) m.delay w.clears (w.vector == WATCHDOG)
+
+due_as : (menu : Menu) (m : State) (w : Waypoint) → IsMenuOf menu m → is_due w menu ≡ due_at w m
+due_as menu m w is =
+    ap (λ (x : ℕ). (x == w.pc) && (menu.masks == w.masks) && (menu.sp + w.depth == RAMEND) && has_choice menu (interrupt_of w)) is.pc
+    ∙ ap (λ (x : ℕ). (m.pc == w.pc) && (x == w.masks) && (menu.sp + w.depth == RAMEND) && has_choice menu (interrupt_of w)) is.masks
+    ∙ ap (λ (x : ℕ). (m.pc == w.pc) && (m.enables == w.masks) && (x + w.depth == RAMEND) && has_choice menu (interrupt_of w)) is.sp
+    ∙ ap (λ (b : Bool). (m.pc == w.pc) && (m.enables == w.masks) && (m.sp + w.depth == RAMEND) && b) (legal_as menu m w is)
+
+pub taken_is : (fill : ℕ) (ws : List Waypoint) (menu : Menu) (m : State) → IsMenuOf menu m → taken fill ws menu ≡ pick_due fill ws m
+taken_is fill [] menu m is = refl
+taken_is fill (w ∷ ws) menu m is = ap (λ (b : Bool). if b then interrupt_of w else Go fill fill) (due_as menu m w is)
+
+pub left_is : (ws : List Waypoint) (menu : Menu) (m : State) → IsMenuOf menu m → left_after ws menu ≡ due_left ws m
+left_is [] menu m is = refl
+left_is (w ∷ ws) menu m is = ap (λ (b : Bool). if b then ws else w ∷ ws) (due_as menu m w is)

@@ -1,0 +1,6 @@
+use Rattle.std.proofs.Common.{take}
+use Rattle.witness_search.specs.Trials.{fills, NoneSucceeds}
+use Rattle.witness_search.proofs.trial.first_trial.Given as goal
+
+abbrev pub invariant-loop-t : goal.invariant-loop-t
+invariant-loop-t l = NoneSucceeds l.flash l.assumptions l.points l.bound (take l.t fills)

@@ -1,0 +1,44 @@
+-- The waypoints of a certificate: the interrupts of the deepest chain of its family, with the least needs. Source: own.
+use Rattle.std.specs.Prelude.{ℕ, ◌≡◌, List, [], ◌∷◌, Option, Some, slice_get}
+use Rattle.std.specs.List.{flat_map}
+use Rattle.avr_model.specs.declared.assumption.Entry.{Entry}
+use Rattle.mask_states.specs.declared.keys.EdgeKind.{EdgeKind}
+use Rattle.mask_states.specs.declared.keys.EdgeKind.TheVariants.{Interrupt}
+use Rattle.local_rules.specs.declared.local.Node.{Node}
+use Rattle.edge_rules.specs.Expansion.{IsFilled}
+use Rattle.nesting_bound.specs.declared.graph.GraphInst.{GraphInst}
+use Rattle.nesting_bound.specs.declared.graph.Link.{Link}
+use Rattle.nesting_bound.specs.Chain.{IsChain}
+use Rattle.nesting_bound.specs.Least.{IsLeast}
+use Rattle.family_graph.specs.Graphs.{IsGraphOf}
+use Rattle.certificate.specs.Claims.{Claim}
+use Rattle.witness_search.specs.declared.waypoint.Waypoint.{Waypoint}
+
+-- the interrupt by which a chain goes on from a node, at this depth
+abbrev pub interrupt_at : Option Node → ℕ → Option EdgeKind → List Waypoint
+interrupt_at (Some n) depth (Some (Interrupt v clears)) = record { pc = n.key.pc; masks = n.key.masks; depth = depth; vector = v; clears = clears } ∷ []
+interrupt_at _ depth kind = []
+
+abbrev pub interrupt_of : List Node → Link → List Waypoint
+interrupt_of nodes link = interrupt_at (slice_get nodes link.node) link.depth link.kind
+
+-- the interrupts of a chain, in their order
+abbrev pub interrupts_of : List Node → List Link → List Waypoint
+interrupts_of nodes links = flat_map (interrupt_of nodes) links
+
+-- the interrupts of the deepest chain of a family
+pub record AreInterrupts (words : List ℕ) (A : List Entry) (nodes : List Node) (points : List Waypoint) : Type 0 where
+  pub graph : List GraphInst
+  pub family : IsGraphOf words A nodes graph
+  pub ranks : List ℕ
+  pub needs : List ℕ
+  pub least : IsLeast graph ranks needs
+  pub links : List Link
+  pub chain : IsChain graph needs links
+  pub are : points ≡ interrupts_of nodes links
+
+-- those of a certificate's family
+pub record AreWaypoints (words : List ℕ) (A : List Entry) (c : Claim) (points : List Waypoint) : Type 0 where
+  pub nodes : List Node
+  pub filled : IsFilled words A c.nodes nodes
+  pub interrupts : AreInterrupts words A nodes points

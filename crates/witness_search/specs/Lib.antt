@@ -1,0 +1,4 @@
+pub mod Waypoints
+pub mod Trials
+pub mod Chains
+pub mod Laws

@@ -1,0 +1,67 @@
+-- Trials along waypoints, and which of them succeeds first. Source: own.
+use Rattle.std.specs.Prelude.{ℕ, ◌≡◌, List, [], ◌∷◌, ◌++◌, Option, Some, None, Contains, IsOkAnd, ◌==◌, if◌then◌else◌}
+use Rattle.avr_model.specs.declared.choice.Choice.{Choice}
+use Rattle.avr_model.specs.declared.assumption.Entry.{Entry}
+use Rattle.avr_model.specs.declared.choice.Stop.TheVariants as stop
+use Rattle.avr_model.specs.State.{filled}
+use Rattle.avr_model.specs.Run.{starting, depth_of}
+use Rattle.stimulus.specs.Driving.{choices_by}
+use Rattle.witness_replay.specs.Spelling.{Plan, IsSchedule, choices_of}
+use Rattle.witness_replay.specs.Replay.{replay_of}
+use Rattle.witness_search.specs.declared.waypoint.Waypoint.{Waypoint}
+use Rattle.witness_search.specs.Waypoints.{pick_due, due_left}
+
+-- the bytes that fill the memory at reset and are all input of a trial, in the order of the trials
+abbrev pub fills : List ℕ
+fills = 0x00 ∷ 0xFF ∷ 0x55 ∷ 0xAA ∷ 0x01 ∷ 0x80 ∷ 0x7F ∷ 0xFE ∷ []
+
+-- the byte of the trial of this number
+abbrev pub fill_at : ℕ → ℕ
+fill_at t =
+    if t == 0 then 0x00 else (if t == 1 then 0xFF else (if t == 2 then 0x55 else (if t == 3 then 0xAA else (if t == 4 then 0x01 else (if t == 5 then 0x80 else (if t == 6 then 0x7F else 0xFE))))))
+
+-- how many steps a trial has at most
+unfoldable pub most_steps : ℕ
+most_steps = 200000
+
+-- The choices of the trial with this fill byte: from reset, until the depth is the bound or more, or a stop, or after so many steps.
+abbrev pub trial_by : ℕ → List ℕ → List Entry → List Waypoint → ℕ → ℕ → List Choice
+trial_by steps words A points bound fill = choices_by (pick_due fill) due_left words A bound steps points (starting (filled fill))
+
+unfoldable pub trial_of : List ℕ → List Entry → List Waypoint → ℕ → ℕ → List Choice
+trial_of words A points bound fill = trial_by most_steps words A points bound fill
+
+-- it succeeds where its depth is the bound
+abbrev pub Succeeds : List ℕ → List Entry → List Waypoint → ℕ → ℕ → Type 0
+Succeeds words A points bound fill = depth_of words A (trial_of words A points bound fill) (filled fill) ≡ bound
+
+abbrev pub NoneSucceeds : List ℕ → List Entry → List Waypoint → ℕ → List ℕ → Type 0
+NoneSucceeds words A points bound ts = (fill : ℕ) → Contains ts fill → Succeeds words A points bound fill → ⊥
+
+-- a schedule of the trial with its fill byte
+pub record IsTrial (words : List ℕ) (A : List Entry) (points : List Waypoint) (bound : ℕ) (plan : Plan) : Type 0 where
+  pub fits : IsSchedule plan
+  pub choices : choices_of plan.runs ≡ trial_of words A points bound plan.fill
+
+-- what one trial finds: a schedule where it succeeds
+abbrev pub IsTried : List ℕ → List Entry → List Waypoint → ℕ → ℕ → Option Plan → Type 0
+IsTried words A points bound fill None = Succeeds words A points bound fill → ⊥
+IsTried words A points bound fill (Some plan) = (plan.fill ≡ fill) × Succeeds words A points bound fill × IsTrial words A points bound plan
+
+-- a schedule of the first trial that succeeds
+pub record IsFirst (words : List ℕ) (A : List Entry) (points : List Waypoint) (bound : ℕ) (plan : Plan) : Type 0 where
+  pub before : List ℕ
+  pub after : List ℕ
+  pub order : fills ≡ before ++ plan.fill ∷ after
+  pub failed : NoneSucceeds words A points bound before
+  pub succeeds : Succeeds words A points bound plan.fill
+  pub trial : IsTrial words A points bound plan
+
+-- what the trials find: that schedule, or none where none succeeds
+abbrev pub IsFound : List ℕ → List Entry → List Waypoint → ℕ → Option Plan → Type 0
+IsFound words A points bound None = NoneSucceeds words A points bound fills
+IsFound words A points bound (Some plan) = IsFirst words A points bound plan
+
+-- the schedule's replay meets no illegal choice, ends without a stop, and its depth is the bound
+abbrev pub Attains : List ℕ → List Entry → ℕ → Plan → Type 0
+Attains words A bound plan = IsOkAnd (replay_of words A plan) (λ r. (r.stop ≡ stop.End) × (r.depth ≡ bound))

@@ -1,0 +1,81 @@
+//! The interrupts of the deepest chain of a certificate's family.
+
+ghost use Rattle.std.specs.Prelude.{◌≡◌, ◌++◌, ◌≤◌, IfOk, OnOk, length};
+ghost use Rattle.certificate.specs.Claims.{IsClaim};
+ghost use Rattle.certificate.specs.Valid.{MeetsConditions};
+ghost use Rattle.nesting_bound.specs.Graph.{IsGraph, Reaches};
+ghost use Rattle.nesting_bound.specs.Least.{IsLeast};
+ghost use Rattle.witness_search.specs.Chains.{interrupt_of, interrupts_of, AreInterrupts};
+
+use crate::waypoint::Waypoint;
+use call_graph::Filled;
+use certificate::Certificate;
+use family_graph::graph_of;
+use flash_image::Flash;
+use mask_states::EdgeKind;
+use nesting_bound::laws::ranks_rule_out_cycles;
+use nesting_bound::{ComposeFault, Composed, Graph, Link, chain, compose};
+use std::alloc::{AllocError, Global};
+use vector_table::Assumptions;
+
+// The interrupt by which the chain goes on from a place, if it goes on by one.
+fn add_interrupt(nodes: &Filled, link: &Link, points: &mut Vec<Waypoint>) -> Result<(), AllocError>
+    ensures { OnOk result (points.new.items ≡ points.old.items ++ interrupt_of nodes.now link.now) }
+{
+    if let Some(EdgeKind::Interrupt(vector, clears)) = link.kind {
+        if let Some(node) = nodes.as_slice().get(link.node as usize) {
+            points.push(Waypoint {
+                pc: node.key.pc,
+                masks: node.key.masks,
+                depth: link.depth,
+                vector,
+                clears,
+            })?;
+        }
+    }
+    Ok(())
+}
+
+// The interrupts of a chain.
+fn interrupts(alloc: Global, nodes: &Filled, links: &[Link]) -> Result<Vec<Waypoint>, AllocError>
+    ensures { IfOk result (λ points. points.items ≡ interrupts_of nodes.now links.now) }
+{
+    let mut points = Vec::new(alloc);
+    for link in links {
+        add_interrupt(nodes, link, &mut points)?;
+    }
+    Ok(points)
+}
+
+// The least ranks and needs of a graph in which no instance reaches itself.
+fn composed(alloc: Global, graph: &Graph) -> Result<Composed, AllocError>
+    requires graph { IsGraph graph.now.instances }
+    requires acyclic { (i : _) → Reaches graph.now.instances i i → ⊥ }
+    ensures { IfOk result (λ c. IsLeast graph.now.instances c.ranks c.needs) }
+{
+    match compose(alloc, graph) {
+        Ok(composed) => Ok(composed),
+        Err(ComposeFault::Memory) => Err(AllocError),
+        Err(ComposeFault::Cycle(_)) => unreachable!(),
+    }
+}
+
+/// The interrupts of the deepest chain of a certificate's nodes, which are the expansion of those that it holds and meet the conditions.
+pub(crate) fn waypoints(
+    alloc: Global,
+    flash: &Flash,
+    assumptions: &Assumptions,
+    certificate: &Certificate,
+    nodes: &Filled,
+) -> Result<Vec<Waypoint>, AllocError>
+    requires claim { IsClaim certificate.now }
+    requires few { length nodes.now ≤ 65536 }
+    requires meets { MeetsConditions flash.now assumptions.now certificate.now nodes.now }
+    ensures { IfOk result (λ points. AreInterrupts flash.now assumptions.now nodes.now points.items) }
+{
+    ranks_rule_out_cycles();
+    let graph = graph_of(alloc, flash, assumptions, nodes)?;
+    let composed = composed(alloc, &graph)?;
+    let links = chain(alloc, &graph, &composed)?;
+    interrupts(alloc, nodes, &links)
+}

@@ -1,0 +1,17 @@
+//! Laws of the search, each as the contract of a function that does nothing but call others.
+
+ghost use Rattle.witness_search.specs.Laws.{WaypointsAreOne};
+
+use expansion_laws::laws::filled_or_missing;
+use family_graph::laws::graphs_are_alike;
+use nesting_bound::laws::{answers_are_one, chains_are_one};
+
+/// A certificate has one list of waypoints, so that one schedule is due.
+pub fn waypoints_are_one()
+    ensures { WaypointsAreOne }
+{
+    filled_or_missing();
+    graphs_are_alike();
+    answers_are_one();
+    chains_are_one();
+}

@@ -1,0 +1,15 @@
+//! The search for a schedule whose run is as deep as a certificate's bound: trials along the deepest chain of entries.
+//! Source: own.
+#![tactic(auto)]
+
+mod chain;
+pub mod laws;
+mod searching;
+#[cfg(test)]
+mod tests;
+pub mod trial;
+pub mod waypoint;
+
+pub use searching::search;
+pub use trial::first_trial;
+pub use waypoint::Waypoint;

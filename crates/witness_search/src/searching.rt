@@ -1,0 +1,55 @@
+//! The search for a certificate's schedule.
+
+ghost use Rattle.std.specs.Prelude.{List, IfOk};
+ghost use Rattle.certificate.specs.Valid.{IsSound, IsAttained};
+ghost use Rattle.witness_search.specs.declared.waypoint.Waypoint.{Waypoint};
+ghost use Rattle.witness_search.specs.Chains.{AreWaypoints};
+ghost use Rattle.witness_search.specs.Trials.{IsFound};
+
+use crate::chain::waypoints;
+use crate::trial::first_trial;
+use crate::waypoint::Waypoint;
+use call_graph::{Expanded, expand};
+use certificate::Certificate;
+use certificate::laws::claims_are_seeds;
+use expansion_laws::laws::filled_or_missing;
+use flash_image::Flash;
+use std::alloc::{AllocError, Global};
+use vector_table::Assumptions;
+use witness_replay::Schedule;
+
+/// The waypoints of a certificate, whose conditions hold.
+fn waypoints_of(
+    alloc: Global,
+    flash: &Flash,
+    assumptions: &Assumptions,
+    certificate: &Certificate,
+) -> Result<Vec<Waypoint>, AllocError>
+    requires { IsSound flash.now assumptions.now certificate.now }
+    ensures { IfOk result (λ points. AreWaypoints flash.now assumptions.now certificate.now points.items) }
+{
+    claims_are_seeds();
+    filled_or_missing();
+    let _nodes = certificate.nodes();
+    match expand(alloc, flash, assumptions, certificate)? {
+        Expanded::Whole(nodes) => waypoints(alloc, flash, assumptions, certificate, &nodes),
+        Expanded::Missing(_) => unreachable!(),
+    }
+}
+
+/// A schedule whose run is as deep as the certificate's bound, of the conditions on which all but that on its schedule hold. It is that
+/// of the first of eight trials whose depth is the bound, each of which takes the interrupts of the deepest chain where they are due.
+/// None exactly where no trial's depth is the bound. Source: own.
+pub fn search(
+    alloc: Global,
+    flash: &Flash,
+    assumptions: &Assumptions,
+    certificate: &Certificate,
+) -> Result<Option<Schedule>, AllocError>
+    requires { IsSound flash.now assumptions.now certificate.now }
+    ensures first { IfOk result (λ found. (points : List Waypoint) × AreWaypoints flash.now assumptions.now certificate.now points × IsFound flash.now assumptions.now points certificate.now.bound found) }
+    ensures attained { IfOk result (IsAttained flash.now assumptions.now certificate.now.bound) }
+{
+    let points = waypoints_of(alloc, flash, assumptions, certificate)?;
+    first_trial(alloc, flash, assumptions, &points, certificate.bound())
+}

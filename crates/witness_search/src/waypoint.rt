@@ -1,0 +1,35 @@
+//! Interrupts of a chain of entries, and where they are due.
+
+ghost use Rattle.std.specs.Prelude.{◌≡◌};
+ghost use Rattle.witness_search.specs.Waypoints.{is_due};
+
+use avr_machine::{Choice, Menu};
+use vector_table::Masks;
+
+/// The deepest a stack pointer falls from.
+const RAMEND: u32 = 0x08FF;
+
+/// An interrupt, and where it is to be taken.
+#[derive(Clone, Copy)]
+pub struct Waypoint {
+    /// The program counter.
+    pub pc: u16,
+    /// The enable bits.
+    pub masks: Masks,
+    /// How many bytes the stack pointer is below its place at reset.
+    pub depth: u16,
+    /// The vector, 2 to 26.
+    pub vector: u8,
+    /// Whether the vector's own enable bit is cleared then.
+    pub clears: bool,
+}
+
+/// Whether the menu is that of the waypoint, and has its interrupt.
+pub fn is_due(point: &Waypoint, menu: &Menu) -> bool
+    ensures { result ≡ is_due point.now menu.now }
+{
+    menu.pc == point.pc
+        && menu.masks.bits() == point.masks.bits()
+        && u32::from(menu.sp) + u32::from(point.depth) == RAMEND
+        && menu.has(Choice::Take(point.vector, point.clears))
+}
