@@ -95,11 +95,41 @@ fn take_whenever(
     )
 }
 
+/// Whether both choices are the same.
+fn is_choice(a: &Choice, b: &Choice) -> bool {
+    match (a, b) {
+        (Choice::Go(first, second), Choice::Go(third, fourth)) => {
+            first == third && second == fourth
+        }
+        (Choice::Take(vector, clears), Choice::Take(other, also)) => {
+            vector == other && clears == also
+        }
+        _ => false,
+    }
+}
+
+/// Whether both lists have the same choices in the same order.
+fn are_choices(a: &[Choice], b: &[Choice]) -> bool {
+    if a.len() != b.len() {
+        return false;
+    }
+    for at in 0..a.len() {
+        if !is_choice(&a[at], &b[at]) {
+            return false;
+        }
+    }
+    true
+}
+
 fn is_row(alloc: Global, row: &Row) -> Result<bool, AllocError> {
     let (words, target, steps, choices, depth, stop) = row;
     let flash = flash_of(alloc, words)?;
     let trace = take_whenever(alloc, &flash, *target, *steps)?;
-    Ok(trace.choices.as_slice() == *choices && trace.depth == *depth && trace.stop == *stop)
+    Ok(
+        are_choices(trace.choices.as_slice(), choices)
+            && trace.depth == *depth
+            && trace.stop == *stop,
+    )
 }
 
 #[test]
