@@ -12,6 +12,7 @@ use Rattle.round_rules.specs.declared.refusal.Refusal.TheVariants.{Spent, Memory
 use Rattle.round_rules.specs.Families.{Family, nodes_of, HasInst}
 use Rattle.round_rules.specs.Rounds.{AreRanks, AreNeeds}
 use Rattle.round_rules.specs.Refusals.{IsSolved, IsRefused, GoesBeyond}
+use Rattle.round_rules.specs.Sparse.{AreSparse}
 
 -- a certificate whose nodes meet all conditions: valid, but for its schedule
 pub record IsShown (words : List ℕ) (A : List Entry) (c : Claim) : Type 0 where
@@ -19,8 +20,10 @@ pub record IsShown (words : List ℕ) (A : List Entry) (c : Claim) : Type 0 wher
   pub sound : IsSound words A c
 
 -- The certificate of a solved family: it has the family's nodes and their instances, least ranks and needs, and the root's need as bound.
+-- A node's state is left out exactly where the one edge that leads to it gives it.
 pub record IsSolution (words : List ℕ) (A : List Entry) (f : Family) (c : Claim) : Type 0 where
   pub expands : IsFilled words A c.nodes (nodes_of f)
+  pub sparse : AreSparse words A (nodes_of f) c.nodes
   pub instances : (inst : InstKey) → Contains (inst_keys c.instances) inst ↔ HasInst f inst
   pub ranks : AreRanks words A f (rank_in c.instances)
   pub least_ranks : (rank : InstKey → ℕ) → AreRanks words A f rank → (inst : InstKey) → rank_in c.instances inst ≤ rank inst

