@@ -1,0 +1,4 @@
+pub mod Sorted
+pub mod Parts
+pub mod One
+pub mod AllLaws

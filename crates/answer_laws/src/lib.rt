@@ -1,0 +1,4 @@
+//! The law that the analysis has one answer.
+#![tactic(auto)]
+
+pub mod laws;
