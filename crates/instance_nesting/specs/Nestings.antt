@@ -6,7 +6,7 @@ use Rattle.avr_model.specs.State.{SIZE}
 use Rattle.mask_states.specs.declared.keys.InstKey.{InstKey}
 use Rattle.mask_states.specs.declared.keys.NodeKey.{NodeKey}
 use Rattle.mask_states.specs.declared.keys.SpForm.TheVariants.{Closed}
-use Rattle.mask_states.specs.Keys.{offset_of}
+use Rattle.mask_states.specs.Keys.{root_inst, offset_of}
 use Rattle.local_rules.specs.declared.local.Node.{Node}
 use Rattle.round_rules.specs.Families.{Family, Has, HasInst}
 use Rattle.round_rules.specs.Rounds.{Entering, IsAcyclic, IsRootNeed, IsShallow}
@@ -82,9 +82,9 @@ Tells words A f (ReEntry v word) = IsReEntry words A f v word
 Tells words A f (Recursion word) = IsRecursion words A f word
 Tells words A f (TooDeep d) = IsAcyclic words A f × IsRootNeed words A f d × (SIZE < d)
 
--- of each family of which it is the nesting
+-- of each family of which it is the nesting, and in which the root has a node
 abbrev pub TellsAll : Noted → Weight → Type 0
-TellsAll n w = (words : List ℕ) (A : List Entry) (f : Family) → IsNestingOf words A f n → Tells words A f w
+TellsAll n w = (words : List ℕ) (A : List Entry) (f : Family) → HasInst f root_inst → IsNestingOf words A f n → Tells words A f w
 
 -- ---- laws
 

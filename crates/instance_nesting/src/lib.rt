@@ -1,6 +1,7 @@
 //! Which instance of a growing family enters which, and whether some enter themselves or need too much. Source: own.
 #![tactic(auto)]
 
+pub mod laws;
 pub mod nesting;
 pub mod weight;
 

@@ -59,6 +59,7 @@ impl Nesting {
         ensures same { AreAlike self.old self.new }
         ensures once { AreOnce self.new.insts }
     {
+        let _ = &self.alloc;
         Err(AllocError)
     }
 }
