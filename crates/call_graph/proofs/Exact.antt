@@ -28,6 +28,7 @@ use Rattle.edge_rules.specs.Edges.{IsFaultless, raw_of, Enters, by_call, by_inte
 use Rattle.edge_rules.specs.declared.edge.Edge.{Edge}
 use Rattle.call_graph.specs.declared.ways.Way.{Way}
 use Rattle.call_graph.specs.Ways.{call_way, vector_way, at_vector, vectors_below, interrupts_if, ways_by, ways_of}
+use Rattle.call_graph.specs.Laws.{LocalPartsAreEdges}
 use Rattle.call_graph.specs.Next.{gathered, local_edge, entry_edge, exit_in, returned_as, returned_by, return_edges, return_if, returns_in, all_returns, edges_with, next_by, next_of}
 
 -- ---- lists
@@ -289,3 +290,32 @@ module _ (words : List ℕ) (A : List Entry) (nodes : List Node) (n : Node) wher
       → OnOk r (IsFaultless words A n)
   answer_clean (Ok all) h = clean_by all (local words A n.key n.state) refl h
   answer_clean (Err f) h = tt
+
+-- ---- the local part
+
+module _ (words : List ℕ) (A : List Entry) (n : Node) where
+  part_of : IsFaultless words A n → (l : Local) × (local words A n.key n.state ≡ Ok l)
+  unfolding local
+  part_of f = (whole (raw_of words A n), ap (settled (raw_of words A n)) f)
+
+  same_of : (l : Local) → local words A n.key n.state ≡ Ok l → l.same ≡ joined_onto [] (raw_of words A n).moves
+  same_of l e = ap (λ (m : Local). m.same) (local_ok words A n l e).1
+
+  leave_of : (l : Local) → local words A n.key n.state ≡ Ok l → l.exit ≡ (raw_of words A n).exit
+  leave_of l e = ap (λ (m : Local). m.exit) (local_ok words A n l e).1
+
+  way_of : (l : Local) (w : Way) → local words A n.key n.state ≡ Ok l → Contains (ways_of n.key l.calls) w ↔ Enters words A n w.kind w.inst w.back
+  way_of l w e =
+      let p = local_ok words A n l e in
+      let calls : l.calls ≡ (raw_of words A n).calls = ap (λ (m : Local). m.calls) p.1 in (
+        λ h. ways_from words A n p.0 n.key.sp refl w (subst (λ cs. Contains (ways_of n.key cs) w) calls h),
+        λ h. subst (λ cs. Contains (ways_of n.key cs) w) (sym calls) (way_in words A n w.kind w.inst w.back h),
+      )
+
+pub local_parts_are_edges : LocalPartsAreEdges
+local_parts_are_edges = record {
+  faultless = λ words A n. (λ p. (local_ok words A n p.0 p.1).0, part_of words A n);
+  same = λ words A n l e. same_of words A n l e;
+  exit = λ words A n l e. leave_of words A n l e;
+  ways = λ words A n l w e. way_of words A n l w e;
+}

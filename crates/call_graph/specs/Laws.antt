@@ -1,11 +1,13 @@
 -- Laws of answers.
-use Rattle.std.specs.Prelude.{ℕ, ◌≡◌, ◌↔◌, ◌<◌, List, length, Option, Contains}
+use Rattle.std.specs.Prelude.{ℕ, ◌≡◌, ◌↔◌, ◌<◌, List, [], length, Option, Ok, Contains}
 use Rattle.avr_model.specs.declared.assumption.Entry.{Entry}
 use Rattle.abs_state.specs.declared.state.AbsState.{AbsState}
 use Rattle.local_rules.specs.declared.local.Node.{Node}
 use Rattle.local_rules.specs.declared.local.Exit.{Exit}
+use Rattle.local_rules.specs.declared.local.Local.{Local}
 use Rattle.local_rules.specs.declared.local.NodeFault.{NodeFault}
-use Rattle.edge_rules.specs.Edges.{IsFaultless}
+use Rattle.local_rules.specs.Local.{local, joined_onto}
+use Rattle.edge_rules.specs.Edges.{IsFaultless, raw_of, Enters}
 use Rattle.edge_rules.specs.Expansion.{Seeds, IsExpansion, IsMissing}
 use Rattle.call_graph.specs.declared.filled.Expanded.{Expanded}
 use Rattle.call_graph.specs.declared.filled.Expanded.TheVariants.{Whole, Missing}
@@ -13,6 +15,8 @@ use Rattle.call_graph.specs.declared.exit_list.Leaving.{Leaving}
 use Rattle.call_graph.specs.declared.exit_list.Leaving.TheVariants.{All, Fault}
 use Rattle.call_graph.specs.Gives.{Gives}
 use Rattle.call_graph.specs.Exits.{GivesExits, IsFirstFault}
+use Rattle.call_graph.specs.declared.ways.Way.{Way}
+use Rattle.call_graph.specs.Ways.{ways_of}
 
 -- each node has an expansion
 abbrev pub HasAll : List ℕ → List Entry → Seeds → Type 0
@@ -37,3 +41,12 @@ pub record ExitsAreExact : Type 0 where
   pub fault : (words : List ℕ) (A : List Entry) (nodes : List Node) (answer : Leaving) (at : ℕ) (f : NodeFault) → GivesExits words A nodes answer
       → (answer ≡ Fault at f) ↔ IsFirstFault words A nodes at f
   pub one : (words : List ℕ) (A : List Entry) (nodes : List Node) (a b : Leaving) → GivesExits words A nodes a → GivesExits words A nodes b → a ≡ b
+
+-- The local part of a node has what its edges have: it has one exactly without a fault, with its successors, its exit, and calls of
+-- which the ways into other instances are made.
+pub record LocalPartsAreEdges : Type 0 where
+  pub faultless : (words : List ℕ) (A : List Entry) (n : Node) → ((l : Local) × (local words A n.key n.state ≡ Ok l)) ↔ IsFaultless words A n
+  pub same : (words : List ℕ) (A : List Entry) (n : Node) (l : Local) → local words A n.key n.state ≡ Ok l → l.same ≡ joined_onto [] (raw_of words A n).moves
+  pub exit : (words : List ℕ) (A : List Entry) (n : Node) (l : Local) → local words A n.key n.state ≡ Ok l → l.exit ≡ (raw_of words A n).exit
+  pub ways : (words : List ℕ) (A : List Entry) (n : Node) (l : Local) (w : Way) → local words A n.key n.state ≡ Ok l
+      → Contains (ways_of n.key l.calls) w ↔ Enters words A n w.kind w.inst w.back

@@ -7,7 +7,7 @@ pub mod filled;
 pub mod laws;
 pub mod leaving;
 pub mod successors;
-mod ways;
+pub mod ways;
 
 pub use edge_rules::{Edge, EdgeKind, Edges, NodeForm, Seed, Seeded, View};
 pub use exit_list::{Exits, Leaving};

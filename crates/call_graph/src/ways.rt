@@ -7,9 +7,9 @@ use local_rules::CallSite;
 use mask_states::{EdgeKind, InstKey, Kind, NodeKey, SpForm};
 use std::alloc::{AllocError, Global};
 
-// A way into an instance: how, into which, and the word at which the entering node goes on afterwards.
+/// A way into an instance: how, into which, and the word at which the entering node goes on afterwards. Source: own.
 #[derive(Clone, Copy)]
-pub(crate) struct Way {
+pub struct Way {
     /// By a call or an interrupt.
     pub kind: EdgeKind,
     /// The entered instance.
@@ -93,8 +93,8 @@ fn add_vectors(ways: &mut Vec<Way>, key: &NodeKey) -> Result<(), AllocError>
     Ok(())
 }
 
-/// The ways out of a node with these calls.
-pub(crate) fn ways(alloc: Global, key: &NodeKey, calls: &[CallSite]) -> Result<Vec<Way>, AllocError>
+/// The ways of a node with these calls into other instances: its calls, then the interrupts that may come, by vector.
+pub fn ways(alloc: Global, key: &NodeKey, calls: &[CallSite]) -> Result<Vec<Way>, AllocError>
     ensures { IfOk result (λ all. all.items ≡ ways_of key.now calls.now) }
 {
     let mut all = Vec::new(alloc);
