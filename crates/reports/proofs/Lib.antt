@@ -1,0 +1,3 @@
+mod Lines
+mod Plain
+mod Same

@@ -1,0 +1,25 @@
+-- Reports by names that say the same.
+use Rattle.std.proofs.Common.{◌≡◌, List, [], ◌∷◌, map, refl}
+use Rattle.flash_image.specs.Naming.{Named, SayTheSame}
+use Rattle.certificate.specs.declared.instance.Inst.{Inst}
+use Rattle.reports.specs.Report.{inst_line}
+use Rattle.reports.specs.Json.{inst_data}
+use Rattle.reports.specs.Laws.{NamesThatSayTheSame}
+
+same_line : (names others : List Named) (x : Inst) → SayTheSame names others → inst_line names x ≡ inst_line others x
+same_line names others x same = rw (same x.key.entry) refl
+
+same_data : (names others : List Named) (x : Inst) → SayTheSame names others → inst_data names x ≡ inst_data others x
+same_data names others x same = rw (same x.key.entry) refl
+
+same_lines : (names others : List Named) (xs : List Inst) → SayTheSame names others → map (inst_line names) xs ≡ map (inst_line others) xs
+same_lines names others [] same = refl
+same_lines names others (x ∷ xs) same = rw (same_line names others x same, same_lines names others xs same) refl
+
+same_items : (names others : List Named) (xs : List Inst) → SayTheSame names others → map (inst_data names) xs ≡ map (inst_data others) xs
+same_items names others [] same = refl
+same_items names others (x ∷ xs) same = rw (same_data names others x same, same_items names others xs same) refl
+
+pub same_reports : NamesThatSayTheSame
+same_reports c names others static_end same =
+    (rw (same_lines names others c.instances same) refl, rw (same_items names others c.instances same) refl)

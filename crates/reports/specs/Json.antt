@@ -1,0 +1,68 @@
+-- What a report of a certificate tells, as one JSON object. Source: own; JSON is RFC 8259.
+use Rattle.std.specs.Prelude.{ℕ, List, [], ◌∷◌, ◌++◌, map, codes, Option, Some, None, if◌then◌else◌}
+use Rattle.std.specs.Str.Lossy.{utf8_lossy}
+use Rattle.serde_json.specs.Data.{Data, null, number, unsigned, string, array, object, member, no_members}
+use Rattle.serde_json.specs.View.{items_of}
+use Rattle.serde_json.specs.Written.{compact_text}
+use Rattle.flash_image.specs.Naming.{Named, least_name}
+use Rattle.witness_replay.specs.Spelling.{Plan}
+use Rattle.certificate.specs.declared.instance.Inst.{Inst}
+use Rattle.certificate.specs.Claims.{Claim}
+use Rattle.cert_words.specs.KeySpelling.{kind_word}
+use Rattle.reports.specs.Report.{room, fits_word}
+
+abbrev pub count : ℕ → Data
+count n = number (unsigned n)
+
+-- ---- members
+
+-- yes or no, and null without static data
+abbrev pub fits_data : ℕ → Option ℕ → Data
+fits_data bound None = null
+fits_data bound (Some end) = string (fits_word bound end)
+
+abbrev pub room_data : Option ℕ → Data
+room_data None = null
+room_data (Some end) = count (room end)
+
+abbrev pub static_data : Option ℕ → Data
+static_data None = null
+static_data (Some end) = count end
+
+abbrev pub witness_data : Option Plan → Data
+witness_data None = string (codes "open")
+witness_data (Some plan) = string (codes "attained")
+
+-- A name, or null where there is none. JSON is Unicode: bytes that are no UTF-8, which no ELF file's names have, are replaced.
+abbrev pub name_data : Option (List ℕ) → Data
+name_data None = null
+name_data (Some name) = string (utf8_lossy name)
+
+-- ---- the whole
+
+-- an instance, the name of its entry, and its need; keys ascend
+abbrev pub inst_data : List Named → Inst → Data
+inst_data names x = object
+    (member (codes "enables") (count x.key.masks)
+    (member (codes "entry") (count x.key.entry)
+    (member (codes "i") (count (if x.key.i then 1 else 0))
+    (member (codes "kind") (string (kind_word x.key.kind))
+    (member (codes "name") (name_data (least_name names x.key.entry))
+    (member (codes "need") (count x.need) no_members))))))
+
+abbrev pub insts_data : List Named → List Inst → Data
+insts_data names insts = array (items_of (map (inst_data names) insts))
+
+-- A report of a certificate: names are those of words of flash, and static data ends at this data address. Keys ascend.
+abbrev pub report_data : Claim → List Named → Option ℕ → Data
+report_data c names static_end = object
+    (member (codes "bound") (count c.bound)
+    (member (codes "fits") (fits_data c.bound static_end)
+    (member (codes "instances") (insts_data names c.instances)
+    (member (codes "room") (room_data static_end)
+    (member (codes "static") (static_data static_end)
+    (member (codes "witness") (witness_data c.witness) no_members))))))
+
+-- the line of the object, without spaces
+abbrev pub json_text : Claim → List Named → Option ℕ → List ℕ
+json_text c names static_end = compact_text (report_data c names static_end) ++ 10 ∷ []

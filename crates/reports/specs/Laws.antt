@@ -1,0 +1,12 @@
+-- What holds of reports. Source: own.
+use Rattle.std.specs.Prelude.{ℕ, ◌≡◌, List, Option}
+use Rattle.flash_image.specs.Naming.{Named, SayTheSame}
+use Rattle.certificate.specs.Claims.{Claim}
+use Rattle.reports.specs.Report.{plain_text}
+use Rattle.reports.specs.Json.{json_text}
+
+-- A report depends on what the names say, and not on how they are listed.
+abbrev pub NamesThatSayTheSame : Type 0
+NamesThatSayTheSame =
+    (c : Claim) (names others : List Named) (static_end : Option ℕ) → SayTheSame names others
+    → (plain_text c names static_end ≡ plain_text c others static_end) × (json_text c names static_end ≡ json_text c others static_end)

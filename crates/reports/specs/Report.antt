@@ -1,0 +1,64 @@
+-- What a report of a certificate tells, as lines of words. Source: own.
+use Rattle.std.specs.Prelude.{ℕ, ◌+◌, ◌-◌, nat_le, Bool, List, [], ◌∷◌, ◌++◌, map, codes, decimal, Option, Some, None, if◌then◌else◌}
+use Rattle.std.specs.List.{flat_map}
+use Rattle.avr_model.specs.declared.device.TheConstants.{RAMEND}
+use Rattle.sb_base.specs.Digits.{hex_digits}
+use Rattle.sb_base.specs.Lines.{line}
+use Rattle.flash_image.specs.Naming.{Named, least_name}
+use Rattle.witness_replay.specs.Spelling.{Plan}
+use Rattle.certificate.specs.declared.instance.Inst.{Inst}
+use Rattle.certificate.specs.Claims.{Claim}
+use Rattle.cert_words.specs.KeySpelling.{inst_key_words}
+use Rattle.cert_words.specs.Text.{numbered, open_line, attained_line}
+
+-- ---- the room of the stack
+
+-- the data address behind SRAM
+abbrev pub sram_end : ℕ
+sram_end = RAMEND + 1
+
+-- how many bytes of SRAM are left behind the static data that ends at this data address
+abbrev pub room : ℕ → ℕ
+room static_end = sram_end - static_end
+
+-- a stack of so many bytes doesn't meet the static data
+abbrev pub fits : ℕ → ℕ → Bool
+fits bound static_end = nat_le (static_end + bound) sram_end
+
+abbrev pub fits_word : ℕ → ℕ → List ℕ
+fits_word bound static_end = if fits bound static_end then codes "yes" else codes "no"
+
+-- ---- lines
+
+abbrev pub witness_line : Option Plan → List (List ℕ)
+witness_line None = open_line
+witness_line (Some plan) = attained_line
+
+abbrev pub static_line : ℕ → Option ℕ → List (List ℕ)
+static_line bound None = codes "static" ∷ codes "none" ∷ []
+static_line bound (Some end) =
+    codes "static" ∷ hex_digits end 4 ∷ codes "room" ∷ decimal (room end) ∷ codes "fits" ∷ fits_word bound end ∷ []
+
+-- a name, or a hyphen where there is none
+abbrev pub name_word : Option (List ℕ) → List ℕ
+name_word None = codes "-"
+name_word (Some name) = name
+
+-- an instance, the name of its entry, and its need
+abbrev pub inst_line : List Named → Inst → List (List ℕ)
+inst_line names x =
+    codes "inst" ∷ inst_key_words x.key ++ name_word (least_name names x.key.entry) ∷ codes "need" ∷ decimal x.need ∷ []
+
+-- ---- the whole
+
+-- the lines before those of instances
+abbrev pub heading : Claim → Option ℕ → List (List (List ℕ))
+heading c static_end = numbered (codes "bound") c.bound ∷ witness_line c.witness ∷ static_line c.bound static_end ∷ []
+
+-- The lines of a report of a certificate, each by its words: names are those of words of flash, and static data ends at this data
+-- address.
+abbrev pub text_lines : Claim → List Named → Option ℕ → List (List (List ℕ))
+text_lines c names static_end = heading c static_end ++ map (inst_line names) c.instances
+
+abbrev pub plain_text : Claim → List Named → Option ℕ → List ℕ
+plain_text c names static_end = flat_map line (text_lines c names static_end)

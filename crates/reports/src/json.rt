@@ -1,0 +1,154 @@
+//! The report as JSON.
+
+ghost use Rattle.std.specs.Prelude.{◌≡◌, IfOk, string_bytes};
+ghost use Rattle.serde_json.specs.Data.{string};
+ghost use Rattle.serde_json.specs.View.{view};
+ghost use Rattle.serde_json.specs.Written.{compact_text};
+ghost use Rattle.flash_image.specs.Naming.{least_name};
+ghost use Rattle.cert_words.specs.KeySpelling.{kind_word};
+ghost use Rattle.reports.specs.Json.{fits_data, room_data, static_data, witness_data, name_data, inst_data, insts_data, report_data, json_text};
+
+use crate::room::{fits_word, room};
+use certificate::{Certificate, Inst};
+use flash_image::Names;
+use mask_states::Kind;
+use serde_json::{Value, json};
+use std::alloc::{AllocError, Global};
+
+/// A text as a value.
+fn text_value(alloc: Global, text: &str) -> Result<Value, AllocError>
+    ensures { IfOk result (λ v. view v ≡ string text.now) }
+{
+    Ok(Value::String(String::from_str(alloc, text)?))
+}
+
+/// Whether the stack fits beside static data.
+fn fits_value(alloc: Global, bound: u16, static_end: Option<u16>) -> Result<Value, AllocError>
+    ensures { IfOk result (λ v. view v ≡ fits_data bound static_end) }
+{
+    match static_end {
+        Some(end) => text_value(alloc, fits_word(bound, end)),
+        None => Ok(Value::Null),
+    }
+}
+
+/// The room that static data leaves.
+fn room_value(static_end: Option<u16>) -> Value
+    ensures { view result ≡ room_data static_end }
+{
+    match static_end {
+        Some(end) => Value::from(room(end)),
+        None => Value::Null,
+    }
+}
+
+/// The end of static data.
+fn static_value(static_end: Option<u16>) -> Value
+    ensures { view result ≡ static_data static_end }
+{
+    match static_end {
+        Some(end) => Value::from(end),
+        None => Value::Null,
+    }
+}
+
+/// Whether there is a schedule that attains the bound.
+fn witness_value(alloc: Global, certificate: &Certificate) -> Result<Value, AllocError>
+    ensures { IfOk result (λ v. view v ≡ witness_data certificate.now.witness) }
+{
+    match certificate.witness() {
+        Some(_) => text_value(alloc, "attained"),
+        None => text_value(alloc, "open"),
+    }
+}
+
+/// The name of a word.
+fn name_value(alloc: Global, names: &Names, word: u16) -> Result<Value, AllocError>
+    ensures { IfOk result (λ v. view v ≡ name_data (least_name names.now word)) }
+{
+    match names.at(word) {
+        Some(name) => Ok(Value::String(String::from_utf8_lossy(alloc, name)?)),
+        None => Ok(Value::Null),
+    }
+}
+
+/// The kind of an instance.
+fn kind_value(alloc: Global, kind: Kind) -> Result<Value, AllocError>
+    ensures { IfOk result (λ v. view v ≡ string (kind_word kind)) }
+{
+    match kind {
+        Kind::Root => text_value(alloc, "root"),
+        Kind::Call => text_value(alloc, "call"),
+        Kind::Vector(vector) => Ok(Value::String(format!(in alloc; "v{vector}")?)),
+    }
+}
+
+/// An instance.
+fn inst_value(alloc: Global, names: &Names, inst: &Inst) -> Result<Value, AllocError>
+    ensures { IfOk result (λ v. view v ≡ inst_data names.now inst.now) }
+{
+    let enables = inst.key.masks.bits();
+    let entry = inst.key.entry;
+    let i = u8::from(inst.key.i);
+    let kind = kind_value(alloc, inst.key.kind)?;
+    let name = name_value(alloc, names, entry)?;
+    let need = inst.need;
+    json!(in alloc; {"enables": enables, "entry": entry, "i": i, "kind": kind, "name": name, "need": need})
+}
+
+/// The instances.
+fn insts_value(alloc: Global, names: &Names, insts: &[Inst]) -> Result<Value, AllocError>
+    ensures { IfOk result (λ v. view v ≡ insts_data names.now insts.now) }
+{
+    let mut items = Vec::new(alloc);
+    for inst in insts {
+        items.push(inst_value(alloc, names, inst)?)?;
+    }
+    Ok(Value::Array(items))
+}
+
+/// The report as a value.
+fn report_value(
+    alloc: Global,
+    certificate: &Certificate,
+    names: &Names,
+    static_end: Option<u16>,
+) -> Result<Value, AllocError>
+    ensures { IfOk result (λ v. view v ≡ report_data certificate.now names.now static_end) }
+{
+    let bound = certificate.bound();
+    let fits = fits_value(alloc, bound, static_end)?;
+    let instances = insts_value(alloc, names, certificate.instances())?;
+    let room = room_value(static_end);
+    let end = static_value(static_end);
+    let witness = witness_value(alloc, certificate)?;
+    json!(in alloc; {"bound": bound, "fits": fits, "instances": instances, "room": room, "static": end, "witness": witness})
+}
+
+/// The text of a report's value.
+fn value_text(
+    alloc: Global,
+    certificate: &Certificate,
+    names: &Names,
+    static_end: Option<u16>,
+) -> Result<String, AllocError>
+    ensures { IfOk result (λ s. string_bytes s ≡ compact_text (report_data certificate.now names.now static_end)) }
+{
+    let value = report_value(alloc, certificate, names, static_end)?;
+    value.to_string(alloc)
+}
+
+/// The report of a certificate as one JSON object without spaces, and a line feed. It tells what the lines tell; what isn't there
+/// is null.
+pub fn report_json(
+    alloc: Global,
+    certificate: &Certificate,
+    names: &Names,
+    static_end: Option<u16>,
+) -> Result<Vec<u8>, AllocError>
+    ensures { IfOk result (λ v. v.items ≡ json_text certificate.now names.now static_end) }
+{
+    let mut text = value_text(alloc, certificate, names, static_end)?.into_bytes();
+    text.push(b'\n')?;
+    Ok(text)
+}
