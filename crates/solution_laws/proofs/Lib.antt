@@ -1,0 +1,5 @@
+pub mod Lists
+pub mod Order
+pub mod Lone
+pub mod Filled
+pub mod AllLaws

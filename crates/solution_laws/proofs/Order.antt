@@ -1,0 +1,157 @@
+-- Ascending lists, and the root before all.
+use Rattle.std.proofs.Common.{◌≡◌, refl, sym, ap, ◌∙◌, subst, ℕ, zero, suc, ◌<◌, inl, inr, Bool, true, false, cond, ◌==◌, nat_lt, List, [], ◌∷◌, ◌++◌, length, length-append, map, Some, slice_get, arith}
+use Rattle.std.proofs.lemmas.Bool.{cases_order}
+use Rattle.std.proofs.lemmas.Bool.Decides.{nat_tests}
+use Rattle.std.proofs.lemmas.Option.{none-some, same_Some}
+use Rattle.std.specs.Prelude.{T, ◌&&◌}
+use Rattle.std.specs.List.{AllByRecursion}
+use Rattle.std.specs.List.Sorted.{IsStrictlySortedBy}
+use Rattle.std.specs.Int.{from_bool}
+use Rattle.std.specs.Ordering.{nat_cmp, is_lt, ordering_then}
+use Rattle.std.specs.Cmp.Lexicographic.{slice_cmp}
+use Rattle.std.specs.declared.cmp.Ordering.{Ordering}
+use Rattle.std.specs.declared.cmp.Ordering.TheVariants.{Less, Equal, Greater}
+use Rattle.std.specs.FinMap.{entries, entries_sorted}
+use Rattle.std.specs.FinMap.Entries.{is_sorted, below_all}
+use Rattle.abs_state.specs.declared.state.AbsState.{AbsState}
+use Rattle.mask_states.specs.declared.keys.High.{High}
+use Rattle.mask_states.specs.declared.keys.High.TheVariants.{Known, Tag}
+use Rattle.mask_states.specs.declared.keys.InstKey.{InstKey}
+use Rattle.mask_states.specs.declared.keys.Kind.{Kind}
+use Rattle.mask_states.specs.declared.keys.Kind.TheVariants.{Root, Call, Vector}
+use Rattle.mask_states.specs.declared.keys.NodeKey.{NodeKey}
+use Rattle.mask_states.specs.declared.keys.SpForm.{SpForm}
+use Rattle.mask_states.specs.declared.keys.SpForm.TheVariants.{Closed, Open}
+use Rattle.mask_states.specs.Keys.{root_inst, entry_key, kind_numbers, high_numbers, form_numbers, inst_numbers, node_numbers}
+use Rattle.mask_states.specs.Order.{inst_cmp, node_cmp}
+use Rattle.mask_states.proofs.AllLaws.{keys_are_ordered}
+use Rattle.local_rules.specs.declared.local.Node.{Node}
+use Rattle.edge_rules.specs.Views.{key_of}
+use Rattle.round_rules.specs.Families.{Family, node_of, nodes_of}
+
+-- ---- ascending lists
+
+all_at : {K : Type 0} (P : K → Type 0) (xs : List K) (j : ℕ) (b : K) → AllByRecursion P xs → slice_get xs j ≡ Some b → P b
+all_at P [] j b h e = absurd (none-some b e)
+all_at P (x ∷ xs) zero b h e = subst P (same_Some x b e) h.0
+all_at P (x ∷ xs) (suc j) b h e = all_at P xs j b h.1 e
+
+pub before : {K : Type 0} (R : K → K → Ordering) (xs : List K) (i j : ℕ) (a b : K) → IsStrictlySortedBy R xs → slice_get xs i ≡ Some a → slice_get xs j ≡ Some b → i < j
+    → R a b ≡ Less
+unfolding IsStrictlySortedBy
+before R [] i j a b s ea eb lt = absurd (none-some a ea)
+before R (x ∷ xs) zero zero a b s ea eb lt = absurd (omega (arith, lt))
+before R (x ∷ xs) zero (suc j) a b s ea eb lt = subst (λ y. R y b ≡ Less) (same_Some x a ea) (all_at (λ y. R x y ≡ Less) xs j b s.0 eb)
+before R (x ∷ xs) (suc i) zero a b s ea eb lt = absurd (omega (arith, lt))
+before R (x ∷ xs) (suc i) (suc j) a b s ea eb lt = before R xs i j a b s.1 ea eb (omega (arith, lt))
+
+inst_itself : (k : InstKey) → inst_cmp k k ≡ Less → ⊥
+inst_itself k e = let h : Less ≡ Equal = sym e ∙ (keys_are_ordered.equal_insts k k).1 refl in cc
+
+node_itself : (k : NodeKey) → node_cmp k k ≡ Less → ⊥
+node_itself k e = let h : Less ≡ Equal = sym e ∙ (keys_are_ordered.equal_nodes k k).1 refl in cc
+
+pub inst_once : (xs : List InstKey) (i j : ℕ) (k : InstKey) → IsStrictlySortedBy inst_cmp xs → slice_get xs i ≡ Some k → slice_get xs j ≡ Some k → i ≡ j
+inst_once xs i j k s a b =
+    elim (cases_order i j) [
+      | inl same ↦ same
+      | inr (inl lt) ↦ absurd (inst_itself k (before inst_cmp xs i j k k s a b lt))
+      | inr (inr gt) ↦ absurd (inst_itself k (before inst_cmp xs j i k k s b a gt))
+    ]
+
+-- ---- nodes in the order of their keys
+
+abbrev pub Ascend : List Node → Type 0
+Ascend nodes = IsStrictlySortedBy node_cmp (map key_of nodes)
+
+pub key_at : (nodes : List Node) (i : ℕ) (n : Node) → slice_get nodes i ≡ Some n → slice_get (map key_of nodes) i ≡ Some n.key
+key_at [] i n e = absurd (none-some n e)
+key_at (x ∷ xs) zero n e = ap Some (ap key_of (same_Some x n e))
+key_at (x ∷ xs) (suc i) n e = key_at xs i n e
+
+pub node_before : (nodes : List Node) (i j : ℕ) (a b : Node) → Ascend nodes → slice_get nodes i ≡ Some a → slice_get nodes j ≡ Some b → i < j → node_cmp a.key b.key ≡ Less
+node_before nodes i j a b s ea eb lt = before node_cmp (map key_of nodes) i j a.key b.key s (key_at nodes i a ea) (key_at nodes j b eb) lt
+
+pub number_before : (nodes : List Node) (i j : ℕ) (a b : Node) → Ascend nodes → slice_get nodes i ≡ Some a → slice_get nodes j ≡ Some b → node_cmp a.key b.key ≡ Less → i < j
+number_before nodes i j a b s ea eb less =
+    elim (cases_order i j) [
+      | inl same ↦ absurd (node_itself a.key (subst (λ (n : Node). node_cmp a.key n.key ≡ Less) (same_Some b a (sym eb ∙ ap (slice_get nodes) (sym same) ∙ ea)) less))
+      | inr (inl lt) ↦ lt
+      | inr (inr gt) ↦ absurd (node_itself a.key (keys_are_ordered.nodes.trans a.key b.key a.key less (node_before nodes j i b a s eb ea gt)))
+    ]
+
+pub node_once : (nodes : List Node) (i j : ℕ) (n : Node) → Ascend nodes → slice_get nodes i ≡ Some n → slice_get nodes j ≡ Some n → i ≡ j
+node_once nodes i j n s a b =
+    elim (cases_order i j) [
+      | inl same ↦ same
+      | inr (inl lt) ↦ absurd (node_itself n.key (node_before nodes i j n n s a b lt))
+      | inr (inr gt) ↦ absurd (node_itself n.key (node_before nodes j i n n s b a gt))
+    ]
+
+-- ---- the nodes of a family
+
+less_is : (r : Ordering) → T (is_lt r) → r ≡ Less
+less_is Less p = refl
+less_is Equal p = absurd p
+less_is Greater p = absurd p
+
+both : (a b : Bool) → T (a && b) → T a × T b
+both true b p = (tt, p)
+both false b p = absurd p
+
+above_of : (k : NodeKey) (es : List (NodeKey × AbsState)) → T (below_all node_cmp k es) → AllByRecursion (λ y. node_cmp k y ≡ Less) (map key_of (map node_of es))
+above_of k [] h = tt
+above_of k (e ∷ es) h = let p = both (is_lt (node_cmp k e.0)) _ h in (less_is (node_cmp k e.0) p.0, above_of k es p.1)
+
+sorted_of : (es : List (NodeKey × AbsState)) → T (is_sorted node_cmp es) → Ascend (map node_of es)
+unfolding IsStrictlySortedBy
+sorted_of [] h = tt
+sorted_of (e ∷ es) h = let p = both (below_all node_cmp e.0 es) _ h in (above_of e.0 es p.0, sorted_of es p.1)
+
+pub ascending : (f : Family) → Ascend (nodes_of f)
+ascending f = sorted_of (entries f) (entries_sorted f)
+
+-- ---- the root
+
+abbrev zeros : ℕ → List ℕ
+zeros zero = []
+zeros (suc n) = 0 ∷ zeros n
+
+-- what comes before zeros has fewer numbers
+least : (xs : List ℕ) (n : ℕ) → slice_cmp nat_cmp xs (zeros n) ≡ Less → length xs < n
+least [] zero e = cc
+least [] (suc n) e = omega arith
+least (x ∷ xs) zero e = cc
+least (x ∷ xs) (suc n) e = by (least xs n) (nat_lt x 0) (x == 0) refl refl e
+  where
+    by : (slice_cmp nat_cmp xs (zeros n) ≡ Less → length xs < n) → (a b : Bool) → nat_lt x 0 ≡ a → (x == 0) ≡ b → ordering_then (cond a Less (cond b Equal Greater)) (slice_cmp nat_cmp xs (zeros n)) ≡ Less → length (x ∷ xs) < suc n
+    by rest true b t u h = absurd (grind (arith, nat_tests))
+    by rest false true t u h = omega (arith, rest h)
+    by rest false false t u h = cc
+
+kind_length : (k : Kind) → length (kind_numbers k) ≡ 2
+kind_length Root = refl
+kind_length Call = refl
+kind_length (Vector v) = refl
+
+form_length : (s : SpForm) → length (form_numbers s) ≡ 4
+form_length (Closed offset) = refl
+form_length (Open offset (Known byte)) = refl
+form_length (Open offset (Tag k)) = refl
+
+inst_length : (k : InstKey) → length (inst_numbers k) ≡ 5
+unfolding inst_numbers
+inst_length k = omega (arith, length-append (kind_numbers k.kind) (k.entry ∷ k.masks ∷ from_bool k.i ∷ []), kind_length k.kind)
+
+node_length : (k : NodeKey) → length (node_numbers k) ≡ 13
+unfolding node_numbers
+node_length k =
+    omega (arith, length-append (inst_numbers k.inst) (k.pc ∷ k.masks ∷ from_bool k.i ∷ from_bool k.delay ∷ form_numbers k.sp), inst_length k.inst, form_length k.sp)
+
+pub root_inst_first : (k : InstKey) → inst_cmp k root_inst ≡ Less → ⊥
+unfolding inst_cmp inst_numbers
+root_inst_first k e = let lt = least (inst_numbers k) 5 e in omega (arith, lt, inst_length k)
+
+pub root_node_first : (k : NodeKey) → node_cmp k (entry_key root_inst) ≡ Less → ⊥
+unfolding node_cmp node_numbers inst_numbers
+root_node_first k e = let lt = least (node_numbers k) 13 e in omega (arith, lt, node_length k)

@@ -1,0 +1,4 @@
+//! The laws of the certificates of solved families.
+#![tactic(auto)]
+
+pub mod laws;
