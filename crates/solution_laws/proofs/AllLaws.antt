@@ -1,2 +1,4 @@
 -- The laws, each under the name of the public function that carries it. Crates above cite them from here.
 pub use Rattle.solution_laws.proofs.Filled.{lone_edges_tell}
+pub use Rattle.solution_laws.proofs.Graphs.{solved_families_are_shown, graphs_are_acyclic}
+pub use Rattle.solution_laws.proofs.Made.{solutions_are_made}

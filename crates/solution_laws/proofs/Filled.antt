@@ -1,6 +1,5 @@
 -- Nodes with their forms stand for the family.
-use Rattle.std.proofs.Common.{◌≡◌, ◌≢◌, refl, sym, ap, ◌∙◌, subst, ℕ, zero, suc, ◌+◌, ◌<◌, ◌≤◌, ◌⊎◌, inl, inr, Bool, true, false, if◌then◌else◌, List, [], ◌∷◌, length, Some, Ok, Contains, slice_get, arith}
-use Rattle.std.specs.FinMap.{get}
+use Rattle.std.proofs.Common.{◌≡◌, ◌≢◌, refl, sym, ap, ◌∙◌, subst, ℕ, zero, suc, ◌<◌, ◌≤◌, ◌⊎◌, inl, inr, Bool, true, false, if◌then◌else◌, List, [], ◌∷◌, length, Some, Contains, slice_get, arith}
 use Rattle.std.proofs.lemmas.Option.{same_Some, slice_get_within}
 use Rattle.std.specs.declared.cmp.Ordering.TheVariants.{Less}
 use Rattle.avr_model.specs.declared.assumption.Entry.{Entry}
@@ -11,7 +10,7 @@ use Rattle.mask_states.specs.Keys.{root_inst, entry_key}
 use Rattle.mask_states.specs.Order.{node_cmp, same_node}
 use Rattle.mask_states.proofs.AllLaws.{keys_are_ordered}
 use Rattle.local_rules.specs.declared.local.Node.{Node}
-use Rattle.local_rules.specs.Local.{local, joined_onto}
+use Rattle.local_rules.specs.Local.{joined_onto}
 use Rattle.local_laws.proofs.Members.{none_in, here, there, first_or}
 use Rattle.edge_rules.specs.declared.edge.Edge.{Edge}
 use Rattle.edge_rules.specs.declared.seeded.NodeForm.{NodeForm}
@@ -19,14 +18,14 @@ use Rattle.edge_rules.specs.declared.seeded.NodeForm.TheVariants.{State, From}
 use Rattle.edge_rules.specs.Edges.{IsFaultless, raw_of, IsEdge, by_call, by_interrupt, moving, entering, returning}
 use Rattle.edge_rules.specs.Expansion.{Seeds, states_at, IsExpansion, own, along, IsFilled}
 use Rattle.expansion_laws.proofs.AllLaws.{successors_are_one}
-use Rattle.solution_laws.proofs.Lists.{contained, read, only, get_at, same_at}
+use Rattle.solution_laws.proofs.Lists.{contained, only, get_at}
 use Rattle.round_rules.specs.Families.{Family, nodes_of}
 use Rattle.round_rules.specs.Refusals.{IsSolved}
 use Rattle.round_rules.specs.Sparse.{IsOnlyFrom, AreSparse}
 use Rattle.round_laws.proofs.Nodes.{has_member}
 use Rattle.round_laws.proofs.Parts.{part_of, ok_of}
 use Rattle.solution_laws.specs.Laws.{LoneEdgesTell}
-use Rattle.solution_laws.specs.Parts.{IsForm, IsGivenAt, AreForms}
+use Rattle.solution_laws.specs.Parts.{IsForm, AreForms}
 use Rattle.solution_laws.proofs.Order.{ascending, node_before, node_once, root_node_first}
 use Rattle.solution_laws.proofs.Lone.{formed, lone}
 
@@ -137,9 +136,10 @@ module _ (words : List ℕ) (A : List Entry) (f : Family) (seeds : Seeds) (forms
       let x = get_at (nodes_of f) at (omega (arith, forms.count, slice_get_within seeds at (k, form) e)) in
       let h = forms.each at x.0 x.1 in
       let p = same_pair (x.0.key, h.0) (k, form) (sym h.1.0 ∙ e) in
-      let is : IsForm words A (nodes_of f) at x.0 form = subst (IsForm words A (nodes_of f) at x.0) p.1 h.1.1 in
-      (λ g. subst (λ (q : NodeKey). (m < at) × IsOnlyFrom words A (nodes_of f) q m) p.0 (is_from at m x.0 form is g),
-      λ g. from_is at m x.0 form is (subst (λ (q : NodeKey). (m < at) × IsOnlyFrom words A (nodes_of f) q m) (sym p.0) g))
+      let is : IsForm words A (nodes_of f) at x.0 form = subst (IsForm words A (nodes_of f) at x.0) p.1 h.1.1 in (
+        λ g. subst (λ (q : NodeKey). (m < at) × IsOnlyFrom words A (nodes_of f) q m) p.0 (is_from at m x.0 form is g),
+        λ g. from_is at m x.0 form is (subst (λ (q : NodeKey). (m < at) × IsOnlyFrom words A (nodes_of f) q m) (sym p.0) g),
+      )
 
 pub lone_edges_tell : LoneEdgesTell
 lone_edges_tell = record {

@@ -2,4 +2,8 @@ pub mod Lists
 pub mod Order
 pub mod Lone
 pub mod Filled
+pub mod Graphs
+pub mod Insts
+pub mod Ranks
+pub mod Made
 pub mod AllLaws

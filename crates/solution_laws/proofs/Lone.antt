@@ -33,7 +33,7 @@ module _ (words : List ℕ) (A : List Entry) where
       record { at = l.at; is = l.is; above = states_are_ordered.through e.state p.landed l.at p.above l.above }
 
   -- the rounds stay below each closed family without faults that has the root's node
-  rounds_below : (h : Family) → AreFormed h → HasNoFault words A h → IsClosed words A h → Lands h reset_node → (n : ℕ) (g : Family) → Comes words A n g → Below g h
+  pub rounds_below : (h : Family) → AreFormed h → HasNoFault words A h → IsClosed words A h → Lands h reset_node → (n : ℕ) (g : Family) → Comes words A n g → Below g h
   rounds_below h high clean closed root zero g c = subst (λ (x : Family). Below x h) (sym c) (λ m i. first_has (λ q s. Lands h (record { key = q; state = s })) root m i)
   rounds_below h high clean closed root (suc n) g c =
       let low = comes_formed words A n c.0 c.1 in

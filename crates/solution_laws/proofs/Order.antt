@@ -1,5 +1,5 @@
 -- Ascending lists, and the root before all.
-use Rattle.std.proofs.Common.{◌≡◌, refl, sym, ap, ◌∙◌, subst, ℕ, zero, suc, ◌<◌, inl, inr, Bool, true, false, cond, ◌==◌, nat_lt, List, [], ◌∷◌, ◌++◌, length, length-append, map, Some, slice_get, arith}
+use Rattle.std.proofs.Common.{◌≡◌, refl, sym, ap, ◌∙◌, subst, ℕ, zero, suc, ◌<◌, inl, inr, Bool, true, false, cond, ◌==◌, nat_lt, List, [], ◌∷◌, length, length-append, map, Some, slice_get, arith}
 use Rattle.std.proofs.lemmas.Bool.{cases_order}
 use Rattle.std.proofs.lemmas.Bool.Decides.{nat_tests}
 use Rattle.std.proofs.lemmas.Option.{none-some, same_Some}
@@ -14,7 +14,6 @@ use Rattle.std.specs.declared.cmp.Ordering.TheVariants.{Less, Equal, Greater}
 use Rattle.std.specs.FinMap.{entries, entries_sorted}
 use Rattle.std.specs.FinMap.Entries.{is_sorted, below_all}
 use Rattle.abs_state.specs.declared.state.AbsState.{AbsState}
-use Rattle.mask_states.specs.declared.keys.High.{High}
 use Rattle.mask_states.specs.declared.keys.High.TheVariants.{Known, Tag}
 use Rattle.mask_states.specs.declared.keys.InstKey.{InstKey}
 use Rattle.mask_states.specs.declared.keys.Kind.{Kind}
@@ -22,7 +21,7 @@ use Rattle.mask_states.specs.declared.keys.Kind.TheVariants.{Root, Call, Vector}
 use Rattle.mask_states.specs.declared.keys.NodeKey.{NodeKey}
 use Rattle.mask_states.specs.declared.keys.SpForm.{SpForm}
 use Rattle.mask_states.specs.declared.keys.SpForm.TheVariants.{Closed, Open}
-use Rattle.mask_states.specs.Keys.{root_inst, entry_key, kind_numbers, high_numbers, form_numbers, inst_numbers, node_numbers}
+use Rattle.mask_states.specs.Keys.{root_inst, entry_key, kind_numbers, form_numbers, inst_numbers, node_numbers}
 use Rattle.mask_states.specs.Order.{inst_cmp, node_cmp}
 use Rattle.mask_states.proofs.AllLaws.{keys_are_ordered}
 use Rattle.local_rules.specs.declared.local.Node.{Node}
