@@ -1,3 +1,4 @@
 mod Lines
 mod Plain
 mod Same
+mod Sampled

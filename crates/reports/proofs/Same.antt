@@ -1,10 +1,12 @@
--- Reports by names that say the same.
-use Rattle.std.proofs.Common.{◌≡◌, List, [], ◌∷◌, map, refl}
+-- The laws of reports.
+use Rattle.std.proofs.Common.{◌≡◌, List, [], ◌∷◌, map, refl, ap}
+use Rattle.std.proofs.lemmas.Str.{IsUtf8-from_ascii, utf8_lossy-IsUtf8}
+use Rattle.serde_json.specs.Data.{string}
 use Rattle.flash_image.specs.Naming.{Named, SayTheSame}
 use Rattle.certificate.specs.declared.instance.Inst.{Inst}
 use Rattle.reports.specs.Report.{inst_line}
 use Rattle.reports.specs.Json.{inst_data}
-use Rattle.reports.specs.Laws.{NamesThatSayTheSame}
+use Rattle.reports.specs.Laws.{NamesThatSayTheSame, AsciiNamesStay}
 
 same_line : (names others : List Named) (x : Inst) → SayTheSame names others → inst_line names x ≡ inst_line others x
 same_line names others x same = rw (same x.key.entry) refl
@@ -23,3 +25,6 @@ same_items names others (x ∷ xs) same = rw (same_data names others x same, sam
 pub same_reports : NamesThatSayTheSame
 same_reports c names others static_end same =
     (rw (same_lines names others c.instances same) refl, rw (same_items names others c.instances same) refl)
+
+pub ascii_names_stay : AsciiNamesStay
+ascii_names_stay name h = ap string (utf8_lossy-IsUtf8 name (IsUtf8-from_ascii name h))

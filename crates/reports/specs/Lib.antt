@@ -1,3 +1,4 @@
 pub mod Report
 pub mod Json
 pub mod Laws
+pub mod Examples

@@ -1,8 +1,13 @@
 //! Laws of reports, each as the contract of a function that does nothing.
 
-ghost use Rattle.reports.specs.Laws.{NamesThatSayTheSame};
+ghost use Rattle.reports.specs.Laws.{NamesThatSayTheSame, AsciiNamesStay};
 
 /// Names that say the same give the same reports.
 pub fn same_names_give_same_reports()
     ensures { NamesThatSayTheSame }
+{}
+
+/// Names of ASCII characters stand in JSON as they are.
+pub fn ascii_names_stay()
+    ensures { AsciiNamesStay }
 {}

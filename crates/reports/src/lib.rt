@@ -9,3 +9,6 @@ mod text;
 
 pub use json::report_json;
 pub use text::report_text;
+
+#[cfg(test)]
+mod tests;

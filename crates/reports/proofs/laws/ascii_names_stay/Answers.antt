@@ -1,0 +1,5 @@
+use Rattle.reports.proofs.Same as laws
+use Rattle.reports.proofs.laws.ascii_names_stay.Goals as goal
+
+pub returns : goal.returns
+returns c = laws.ascii_names_stay
