@@ -1,1 +1,6 @@
 pub mod Small
+pub mod Numbers
+pub mod Changes
+pub mod Steps
+pub mod Telling
+pub mod Keeping

@@ -1,1 +1,3 @@
 pub mod Nestings
+pub mod Hashes
+pub mod Drawn

@@ -1,8 +1,11 @@
 //! Which instance of a growing family enters which, and whether some enter themselves or need too much. Source: own.
 #![tactic(auto)]
 
+mod drawing;
 pub mod laws;
 pub mod nesting;
+mod notes;
+mod weighing;
 pub mod weight;
 
 pub use nesting::Nesting;

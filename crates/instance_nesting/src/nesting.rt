@@ -3,9 +3,14 @@
 ghost use Rattle.std.specs.Prelude.{◌≡◌, ◌≤◌, length, IfOk, OnOk};
 ghost use Rattle.mask_states.specs.Keys.{offset_of};
 ghost use Rattle.instance_nesting.specs.Nestings.{Noted, nothing, AreOnce, HasNode, HasEntrance, AreAlike, TellsAll};
+ghost use Rattle.instance_nesting.specs.Drawn.{insts_of, AreApart, HasMore};
 
+use crate::drawing::drawn;
+use crate::notes::{NotedEntrance, NotedInst, NotedSpot};
+use crate::weighing::weight;
 use crate::weight::Weight;
-use mask_states::{InstKey, NodeKey};
+use indexmap::IndexSet;
+use mask_states::{InstKey, NodeKey, SpForm};
 use std::alloc::{AllocError, Global};
 use std::marker::Model;
 
@@ -13,14 +18,56 @@ use std::marker::Model;
 #[derive(Drop)]
 pub struct Nesting {
     alloc: Global,
+    has_root: bool,
+    others: IndexSet<NotedInst>,
+    spots: IndexSet<NotedSpot>,
+    entrances: IndexSet<NotedEntrance>,
 }
 
 impl Model for Nesting {
-    ghost use Rattle.instance_nesting.specs.Nestings.{Noted, nothing};
+    ghost use Rattle.instance_nesting.specs.Nestings.{Noted};
+    ghost use Rattle.instance_nesting.specs.Drawn.{insts_of, AreApart};
 
     ghost Value = { Noted };
 
-    ghost view = { λ n. nothing };
+    ghost view = { λ n. record { insts = insts_of n.has_root n.others.keys; spots = n.spots.keys; entrances = n.entrances.keys } };
+
+    ghost invariant = { λ n. AreApart n.others.keys };
+}
+
+// Keeps an instance, if it is new.
+fn keep_inst(
+    has_root: &mut bool,
+    others: &mut IndexSet<NotedInst>,
+    inst: &InstKey,
+) -> Result<(), AllocError>
+    requires apart { AreApart others.old.keys }
+    ensures apart { AreApart others.new.keys }
+    ensures more { OnOk result (HasMore (insts_of has_root.old others.old.keys) inst.now (insts_of has_root.new others.new.keys)) }
+{
+    if *inst == InstKey::root() {
+        *has_root = true;
+    } else {
+        others.insert(NotedInst { key: *inst })?;
+    }
+    Ok(())
+}
+
+fn keep_spot(spots: &mut IndexSet<NotedSpot>, spot: NotedSpot) -> Result<(), AllocError>
+    ensures { OnOk result (HasMore spots.old.keys spot spots.new.keys) }
+{
+    spots.insert(spot)?;
+    Ok(())
+}
+
+fn keep_entrance(
+    entrances: &mut IndexSet<NotedEntrance>,
+    entrance: NotedEntrance,
+) -> Result<(), AllocError>
+    ensures { OnOk result (HasMore entrances.old.keys entrance entrances.new.keys) }
+{
+    entrances.insert(entrance)?;
+    Ok(())
 }
 
 impl Nesting {
@@ -28,7 +75,13 @@ impl Nesting {
     pub fn new(alloc: Global) -> Nesting
         ensures { result ≡ nothing }
     {
-        Nesting { alloc }
+        Nesting {
+            alloc,
+            has_root: false,
+            others: IndexSet::new(alloc),
+            spots: IndexSet::new(alloc),
+            entrances: IndexSet::new(alloc),
+        }
     }
 
     /// Notes a node: its instance, and its offset where its stack pointer is whole. It may be noted before.
@@ -37,8 +90,11 @@ impl Nesting {
         ensures node { OnOk result (HasNode self.old key.now self.new) }
         ensures once { OnOk result (AreOnce self.new.insts) }
     {
-        let _key = key;
-        Err(AllocError)
+        keep_inst(&mut self.has_root, &mut self.others, &key.inst)?;
+        if let SpForm::Closed(offset) = key.sp {
+            keep_spot(&mut self.spots, NotedSpot::new(key.inst, offset))?;
+        }
+        Ok(())
     }
 
     /// Notes that a node of this key, whose stack pointer is whole, enters an instance. It may be noted before.
@@ -47,19 +103,26 @@ impl Nesting {
         ensures entrance { OnOk result (HasEntrance self.old key.now into.now self.new) }
         ensures once { OnOk result (AreOnce self.new.insts) }
     {
-        let _key = key;
-        let _into = into;
-        Err(AllocError)
+        let entrance = NotedEntrance::new(key.inst, *into, key.offset());
+        keep_entrance(&mut self.entrances, entrance)
     }
 
-    /// What the nesting tells of the family. What was noted stays.
+    /// What the nesting tells of the family. What was noted stays. Where the root has no node, nothing is told.
     pub fn weigh(&mut self) -> Result<Weight, AllocError>
         requires { length self.old.insts ≤ 65536 }
         ensures tells { IfOk result (λ w. TellsAll self.old w) }
         ensures same { AreAlike self.old self.new }
         ensures once { AreOnce self.new.insts }
     {
-        let _ = &self.alloc;
-        Err(AllocError)
+        if !self.has_root {
+            return Ok(Weight::Light);
+        }
+        let graph = drawn(
+            self.alloc,
+            &self.others,
+            self.spots.as_slice(),
+            self.entrances.as_slice(),
+        )?;
+        weight(self.alloc, &graph)
     }
 }

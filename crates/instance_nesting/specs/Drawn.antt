@@ -1,0 +1,91 @@
+-- The graph of what is noted.
+use Rattle.std.specs.Prelude.{ℕ, ◌+◌, ◌≡◌, ◌↔◌, ◌⊎◌, Bool, if◌then◌else◌, List, ◌∷◌, Some, length, Contains, slice_get}
+use Rattle.std.specs.List.{position_or_len}
+use Rattle.avr_model.specs.declared.assumption.Entry.{Entry}
+use Rattle.mask_states.specs.declared.keys.InstKey.{InstKey}
+use Rattle.mask_states.specs.Keys.{root_inst}
+use Rattle.mask_states.specs.Order.{same_inst}
+use Rattle.nesting_bound.specs.declared.graph.Entered.{Entered}
+use Rattle.nesting_bound.specs.declared.graph.GraphInst.{GraphInst}
+use Rattle.nesting_bound.specs.declared.graph.Place.{Place}
+use Rattle.nesting_bound.specs.Graph.{IsGraph, Enters, HasPlace}
+use Rattle.round_rules.specs.Families.{Family}
+use Rattle.graph_laws.specs.Graphs.{IsGraphOf}
+use Rattle.instance_nesting.specs.Nestings.{Spot, Entrance, AreOnce, Tells}
+use Rattle.instance_nesting.specs.declared.weight.Weight.{Weight}
+
+-- the instances of a nesting, where the root is kept apart from the others
+abbrev pub insts_of : Bool → List InstKey → List InstKey
+insts_of has_root others = if has_root then root_inst ∷ others else others
+
+-- each of the others is kept once, and none is the root
+pub record AreApart (others : List InstKey) : Type 0 where
+  pub once : AreOnce others
+  pub rootless : Contains others root_inst → ⊥
+
+-- one more is kept, if it is new
+abbrev pub HasMore : {X : Type 0} → List X → X → List X → Type 0
+HasMore {X} old y new = (x : X) → Contains new x ↔ (Contains old x ⊎ (x ≡ y))
+
+-- the number of an instance, or the one behind all where it has none
+abbrev pub number_of : List InstKey → InstKey → ℕ
+number_of keys inst = position_or_len (same_inst inst) keys
+
+-- the instances are those that there were
+pub record IsSame (old new : List GraphInst) : Type 0 where
+  pub count : length new ≡ length old
+  pub keys : (i : ℕ) (g : GraphInst) → slice_get new i ≡ Some g → (h : GraphInst) × (slice_get old i ≡ Some h) × (g.key ≡ h.key)
+
+-- the instance of this number has this place besides
+pub record HasPlaced (old : List GraphInst) (at : ℕ) (place : Place) (new : List GraphInst) : Type 0 where
+  pub same : IsSame old new
+  pub places : (i : ℕ) (p : Place) → HasPlace new i p ↔ (HasPlace old i p ⊎ ((i ≡ at) × (p ≡ place)))
+  pub entered : (i : ℕ) (e : Entered) → Enters new i e ↔ Enters old i e
+
+-- the instance of this number has this edge besides
+pub record HasEntered (old : List GraphInst) (at : ℕ) (edge : Entered) (new : List GraphInst) : Type 0 where
+  pub same : IsSame old new
+  pub places : (i : ℕ) (p : Place) → HasPlace new i p ↔ HasPlace old i p
+  pub entered : (i : ℕ) (e : Entered) → Enters new i e ↔ (Enters old i e ⊎ ((i ≡ at) × (e ≡ edge)))
+
+-- a spot for this place of instance i
+pub record IsPlaceOf (keys : List InstKey) (spots : List Spot) (i : ℕ) (p : Place) : Type 0 where
+  pub spot : Spot
+  pub has : Contains spots spot
+  pub of : number_of keys spot.inst ≡ i
+  pub at : spot.offset ≡ p.offset
+
+-- an entrance for this edge of instance i
+pub record IsEdgeOf (keys : List InstKey) (entrances : List Entrance) (i : ℕ) (e : Entered) : Type 0 where
+  pub entrance : Entrance
+  pub has : Contains entrances entrance
+  pub from : number_of keys entrance.from ≡ i
+  pub into : number_of keys entrance.into ≡ e.into
+  pub at : entrance.offset ≡ e.offset
+
+-- a place for the spot
+pub record HasSpot (keys : List InstKey) (gs : List GraphInst) (s : Spot) : Type 0 where
+  pub place : Place
+  pub has : HasPlace gs (number_of keys s.inst) place
+  pub at : s.offset ≡ place.offset
+
+-- an edge for the entrance
+pub record HasEdge (keys : List InstKey) (gs : List GraphInst) (x : Entrance) : Type 0 where
+  pub edge : Entered
+  pub enters : Enters gs (number_of keys x.from) edge
+  pub into : number_of keys x.into ≡ edge.into
+  pub at : x.offset ≡ edge.offset
+
+-- the graph of these spots and entrances: an instance for each key, and one more for all that has none
+pub record IsDrawn (keys : List InstKey) (spots : List Spot) (entrances : List Entrance) (gs : List GraphInst) : Type 0 where
+  pub is_graph : IsGraph gs
+  pub count : length gs ≡ length keys + 1
+  pub keyed : (i : ℕ) (g : GraphInst) (inst : InstKey) → slice_get gs i ≡ Some g → slice_get keys i ≡ Some inst → g.key ≡ inst
+  pub places : (i : ℕ) (p : Place) → HasPlace gs i p → IsPlaceOf keys spots i p
+  pub all_places : (s : Spot) → Contains spots s → HasSpot keys gs s
+  pub edges : (i : ℕ) (e : Entered) → Enters gs i e → IsEdgeOf keys entrances i e
+  pub all_edges : (x : Entrance) → Contains entrances x → HasEdge keys gs x
+
+-- the weight is told by the graph, of each family of which it is the graph
+abbrev pub GraphTells : List GraphInst → Weight → Type 0
+GraphTells gs w = (words : List ℕ) (A : List Entry) (f : Family) (keys : List InstKey) → IsGraphOf words A f keys gs → Tells words A f w
