@@ -1,6 +1,8 @@
 //! A firmware of any size, made from a number, to measure the analysis by. Source: own.
 #![tactic(auto)]
 
-pub mod image;
+mod image;
+mod places;
+mod words;
 
 pub use image::demo_image;
