@@ -1,0 +1,3 @@
+pub mod Seeing
+pub mod Besides
+pub mod Joins

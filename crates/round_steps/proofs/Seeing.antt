@@ -1,0 +1,107 @@
+-- One node more is looked at.
+use Rattle.std.proofs.Common.{◌≡◌, ◌≢◌, refl, sym, ap, ◌∙◌, subst, ℕ, ◌<◌, ◌≤◌, ◌⊎◌, inl, inr, ⊎_elim, List, [], ◌∷◌, ◌++◌, Option, Some, None, Result, Ok, Err, IfOk, IfErr, Contains, arith}
+use Rattle.std.proofs.lemmas.List.Elements.{Contains-append_left, Contains-push, Contains-push_cases}
+use Rattle.std.specs.FinMap.{get}
+use Rattle.avr_model.specs.declared.assumption.Entry.{Entry}
+use Rattle.abs_state.specs.declared.state.AbsState.{AbsState}
+use Rattle.mask_states.specs.declared.keys.NodeKey.{NodeKey}
+use Rattle.local_rules.specs.declared.local.NodeFault.{NodeFault}
+use Rattle.local_rules.specs.declared.local.NodeFault.TheVariants.{Memory}
+use Rattle.local_rules.specs.Local.{local}
+use Rattle.local_rules.specs.Faults.{depth_of}
+use Rattle.local_laws.proofs.Members.{none_in}
+use Rattle.call_graph.specs.Ways.{ways_of}
+use Rattle.round_rules.specs.Families.{Family}
+use Rattle.round_rules.specs.Refusals.{IsNoLater, word_of}
+use Rattle.round_steps.specs.declared.looking.Look.{Look}
+use Rattle.round_steps.specs.declared.looking.Seen.{Seen}
+use Rattle.round_steps.specs.Looks.{IsLook, AreSeen, IsFaultSeen, IsSeenBesides}
+
+pub later_itself : (x : NodeFault) → IsNoLater x x
+later_itself x = inr (refl, inr (refl, omega arith))
+
+pub later_through : (x y z : NodeFault) → IsNoLater x y → IsNoLater y z → IsNoLater x z
+later_through x y z (inl a) (inl b) = inl (omega (arith, a, b))
+later_through x y z (inl a) (inr b) = inl (omega (arith, a, b.0))
+later_through x y z (inr a) (inl b) = inl (omega (arith, b, a.0))
+later_through x y z (inr a) (inr b) = inr (a.0 ∙ b.0, by a.1 b.1)
+  where
+    by : (word_of x < word_of y) ⊎ ((word_of x ≡ word_of y) × (depth_of x ≤ depth_of y)) → (word_of y < word_of z) ⊎ ((word_of y ≡ word_of z) × (depth_of y ≤ depth_of z))
+        → (word_of x < word_of z) ⊎ ((word_of x ≡ word_of z) × (depth_of x ≤ depth_of z))
+    by (inl a) (inl b) = inl (omega (arith, a, b))
+    by (inl a) (inr b) = inl (omega (arith, a, b.0))
+    by (inr a) (inl b) = inl (omega (arith, b, a.0))
+    by (inr a) (inr b) = inr (a.0 ∙ b.0, omega (arith, a.1, b.1))
+
+some_fault : (x y : NodeFault) (o : Option NodeFault) → o ≡ Some x → o ≡ Some y → x ≡ y
+some_fault x y o a b = cc
+
+some_state : (x y : AbsState) (o : Option AbsState) → o ≡ Some x → o ≡ Some y → x ≡ y
+some_state x y o a b = cc
+
+module _ (words : List ℕ) (A : List Entry) (f : Family) where
+  pub seen_none : (seen : Seen) → seen.looks.items ≡ [] → seen.worst ≡ None → AreSeen words A f [] seen
+  seen_none seen looks worst = record {
+    looks = λ x i. absurd (none_in x (subst (λ (l : List Look). Contains l x) looks i));
+    each = λ k s i has. absurd (none_in k i);
+    fault = λ x e. absurd (let never = sym worst ∙ e in cc);
+  }
+
+  -- nothing is there
+  pub seen_nothing : (keys : List NodeKey) (k : NodeKey) (seen : Seen) → AreSeen words A f keys seen → get f k ≡ None → AreSeen words A f (keys ++ k ∷ []) seen
+  seen_nothing keys k seen are none = record {
+    looks = are.looks;
+    each = λ q t i has. ⊎_elim (λ j. are.each q t j has) (λ e. let at = ap (get f) e in absurd (let never = sym none ∙ at ∙ has in cc)) (Contains-push_cases keys k q i);
+    fault = are.fault;
+  }
+
+  module _ (keys : List NodeKey) (k : NodeKey) (s : AbsState) (old new : Seen) (are : AreSeen words A f keys old) (has : get f k ≡ Some s) where
+    look_more : (x : Look) → x.key ≡ k → local words A k s ≡ Ok x.part → x.ways.items ≡ ways_of k x.part.calls → new.looks.items ≡ old.looks.items ++ x ∷ []
+        → new.worst ≡ old.worst → AreSeen words A f (keys ++ k ∷ []) new
+    look_more x key leads entered looks worst =
+        let this : IsLook words A f x = record {
+          state = s;
+          has = subst (λ (q : NodeKey). get f q ≡ Some s) (sym key) has;
+          leads = subst (λ (q : NodeKey). local words A q s ≡ Ok x.part) (sym key) leads;
+          entered = subst (λ (q : NodeKey). x.ways.items ≡ ways_of q x.part.calls) (sym key) entered;
+        } in
+        let member : (y : Look) → Contains (old.looks.items ++ x ∷ []) y → Contains new.looks.items y = λ y i. subst (λ (l : List Look). Contains l y) (sym looks) i in
+        record {
+          looks = λ y i. ⊎_elim (are.looks y) (λ e. subst (IsLook words A f) e this)
+              (Contains-push_cases old.looks.items x y (subst (λ (l : List Look). Contains l y) looks i));
+          each = λ q t i there. ⊎_elim
+              (λ j. ⊎_elim
+              (λ h. inl (record { look = h.look; member = member h.look (Contains-append_left old.looks.items (x ∷ []) h.look h.member); at = h.at }))
+              (λ h. inr (record { fault = h.fault; is = h.is; first = h.first; found = worst ∙ h.found; no_later = h.no_later }))
+              (are.each q t j there))
+              (λ e. inl (record { look = x; member = member x (Contains-push old.looks.items x); at = key ∙ e }))
+              (Contains-push_cases keys k q i);
+          fault = λ y e. are.fault y (sym worst ∙ e);
+        }
+
+    fault_more : (e : NodeFault) → local words A k s ≡ Err e → IsFaultSeen old e new → AreSeen words A f (keys ++ k ∷ []) new
+    fault_more e is b = record {
+      looks = λ y i. are.looks y (subst (λ (l : List Look). Contains l y) b.looks i);
+      each = λ q t i there. ⊎_elim
+          (λ j. ⊎_elim
+          (λ h. inl (record { look = h.look; member = subst (λ (l : List Look). Contains l h.look) (sym b.looks) h.member; at = h.at }))
+          (λ h. inr (record { fault = h.fault; is = h.is; first = b.worst; found = b.is; no_later = later_through b.worst h.first h.fault (b.of.kept h.first h.found) h.no_later }))
+          (are.each q t j there))
+          (λ same. inr (record {
+            fault = e;
+            is = ap (λ (z : NodeKey). local words A z t) (sym same) ∙ ap (local words A k) (some_state t s (get f k) (ap (get f) same ∙ there) has) ∙ is;
+            first = b.worst;
+            found = b.is;
+            no_later = b.of.later;
+          }))
+          (Contains-push_cases keys k q i);
+      fault = λ y at. let worst = some_fault b.worst y new.worst b.is at in
+          ⊎_elim (λ this. record { node = record { key = k; state = s }; has = has; is = is ∙ ap Err (sym this ∙ worst) })
+          (λ before. are.fault y (before ∙ ap Some worst)) b.of.either;
+    }
+
+    pub seen_more : (found : Result Look NodeFault) → IfOk found (λ x. x.key ≡ k) → IfOk found (λ x. local words A k s ≡ Ok x.part)
+        → IfOk found (λ x. x.ways.items ≡ ways_of k x.part.calls) → IfErr found (λ e. e ≢ Memory → local words A k s ≡ Err e) → IsSeenBesides found old new
+        → AreSeen words A f (keys ++ k ∷ []) new
+    seen_more (Ok x) key leads entered fault b = look_more x key leads entered b.0 b.1
+    seen_more (Err e) key leads entered fault b = fault_more e (fault b.real) b

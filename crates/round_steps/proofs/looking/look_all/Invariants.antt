@@ -1,0 +1,6 @@
+use Rattle.std.proofs.Common.{take}
+use Rattle.round_steps.specs.Looks.{AreSeen}
+use Rattle.round_steps.proofs.looking.look_all.Given as goal
+
+abbrev pub invariant-loop-at : goal.invariant-loop-at
+invariant-loop-at l = AreSeen l.flash l.assumptions l.table (take l.at l.keys) l.seen

@@ -1,0 +1,4 @@
+pub mod Looks
+pub mod Notings
+pub mod Targets
+pub mod Joins

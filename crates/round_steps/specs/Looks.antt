@@ -1,0 +1,60 @@
+-- What is found at the nodes of a family: where each leads, or its fault.
+use Rattle.std.specs.Prelude.{ℕ, ◌≡◌, ◌≢◌, ◌⊎◌, List, [], ◌∷◌, ◌++◌, Option, Some, Result, Ok, Err, Contains}
+use Rattle.std.specs.FinMap.{get}
+use Rattle.avr_model.specs.declared.assumption.Entry.{Entry}
+use Rattle.abs_state.specs.declared.state.AbsState.{AbsState}
+use Rattle.mask_states.specs.declared.keys.NodeKey.{NodeKey}
+use Rattle.local_rules.specs.declared.local.NodeFault.{NodeFault}
+use Rattle.local_rules.specs.declared.local.NodeFault.TheVariants.{Memory}
+use Rattle.local_rules.specs.Local.{local}
+use Rattle.call_graph.specs.Ways.{ways_of}
+use Rattle.round_rules.specs.Families.{Family}
+use Rattle.round_rules.specs.Refusals.{FaultAt, IsNoLater}
+use Rattle.round_steps.specs.declared.looking.Look.{Look}
+use Rattle.round_steps.specs.declared.looking.Seen.{Seen}
+
+-- the look is at a node of the family, and this is where it leads
+pub record IsLook (words : List ℕ) (A : List Entry) (f : Family) (x : Look) : Type 0 where
+  pub state : AbsState
+  pub has : get f x.key ≡ Some state
+  pub leads : local words A x.key state ≡ Ok x.part
+  pub entered : x.ways.items ≡ ways_of x.key x.part.calls
+
+-- one of the looks is at this node
+pub record HasLook (xs : List Look) (k : NodeKey) : Type 0 where
+  pub look : Look
+  pub member : Contains xs look
+  pub at : look.key ≡ k
+
+-- the node has a fault, and the worst one counts before it
+pub record HasFault (words : List ℕ) (A : List Entry) (worst : Option NodeFault) (k : NodeKey) (s : AbsState) : Type 0 where
+  pub fault : NodeFault
+  pub is : local words A k s ≡ Err fault
+  pub first : NodeFault
+  pub found : worst ≡ Some first
+  pub no_later : IsNoLater first fault
+
+-- of these nodes of the family, each was looked at or has a fault, and the worst fault is one of theirs
+pub record AreSeen (words : List ℕ) (A : List Entry) (f : Family) (keys : List NodeKey) (seen : Seen) : Type 0 where
+  pub looks : (x : Look) → Contains seen.looks.items x → IsLook words A f x
+  pub each : (k : NodeKey) (s : AbsState) → Contains keys k → get f k ≡ Some s → HasLook seen.looks.items k ⊎ HasFault words A seen.worst k s
+  pub fault : (x : NodeFault) → seen.worst ≡ Some x → FaultAt words A f x
+
+-- ---- one more
+
+-- of the fault that counted and another, this counts
+pub record IsWorst (before : Option NodeFault) (fault now : NodeFault) : Type 0 where
+  pub later : IsNoLater now fault
+  pub kept : (x : NodeFault) → before ≡ Some x → IsNoLater now x
+  pub either : (now ≡ fault) ⊎ (before ≡ Some now)
+
+pub record IsFaultSeen (old : Seen) (fault : NodeFault) (new : Seen) : Type 0 where
+  pub real : fault ≢ Memory
+  pub worst : NodeFault
+  pub is : new.worst ≡ Some worst
+  pub of : IsWorst old.worst fault worst
+  pub looks : new.looks.items ≡ old.looks.items
+
+abbrev pub IsSeenBesides : Result Look NodeFault → Seen → Seen → Type 0
+IsSeenBesides (Ok x) old new = (new.looks.items ≡ old.looks.items ++ x ∷ []) × (new.worst ≡ old.worst)
+IsSeenBesides (Err fault) old new = IsFaultSeen old fault new

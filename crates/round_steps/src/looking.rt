@@ -1,0 +1,134 @@
+//! Looking at nodes.
+
+ghost use Rattle.std.specs.Prelude.{◌≡◌, ◌≢◌, ◌++◌, ◌∷◌, [], List, Ok, Err, IfOk, IfErr, OnOk};
+ghost use Rattle.mask_states.specs.declared.keys.NodeKey as key_type;
+ghost use Rattle.local_rules.specs.declared.local.NodeFault.TheVariants.{Memory};
+ghost use Rattle.local_rules.specs.Cover.{IsNode};
+ghost use Rattle.local_rules.specs.Local as rows;
+ghost use Rattle.call_graph.specs.Ways.{ways_of};
+ghost use Rattle.round_rules.specs.Families.{AreFormed};
+ghost use Rattle.round_steps.specs.Looks.{IsWorst, IsSeenBesides, AreSeen};
+
+use crate::faults::lesser;
+use abs_state::AbsState;
+use abs_step::local;
+use call_graph::ways::{Way, ways};
+use family_table::Table;
+use flash_image::Flash;
+use local_rules::{Local, NodeFault};
+use mask_states::NodeKey;
+use std::alloc::{AllocError, Global};
+use vector_table::Assumptions;
+
+/// Where a node leads.
+#[derive(Drop)]
+pub struct Look {
+    /// The node.
+    pub key: NodeKey,
+    /// What it leads to in its own frame.
+    pub part: Local,
+    /// Its ways into other instances.
+    pub ways: Vec<Way>,
+}
+
+/// What was found at some nodes: where those without a fault lead, and the least fault of the others.
+#[derive(Drop)]
+pub struct Seen {
+    /// Where nodes lead.
+    pub looks: Vec<Look>,
+    /// The fault that counts, if a node has one.
+    pub worst: Option<NodeFault>,
+}
+
+// Where a node leads, or its fault.
+fn found_at(
+    alloc: Global,
+    flash: &Flash,
+    assumptions: &Assumptions,
+    key: &NodeKey,
+    state: &AbsState,
+) -> Result<Look, NodeFault>
+    requires { IsNode key.now state.now }
+    ensures key { IfOk result (λ x. x.key ≡ key.now) }
+    ensures part { IfOk result (λ x. rows.local flash.now assumptions.now key.now state.now ≡ Ok x.part) }
+    ensures ways { IfOk result (λ x. x.ways.items ≡ ways_of key.now x.part.calls) }
+    ensures fault { IfErr result (λ e. e ≢ Memory → rows.local flash.now assumptions.now key.now state.now ≡ Err e) }
+{
+    let part = local(alloc, flash, assumptions, key, state)?;
+    match ways(alloc, key, part.calls.as_slice()) {
+        Ok(ways) => Ok(Look {
+            key: *key,
+            part,
+            ways,
+        }),
+        Err(_) => Err(NodeFault::Memory),
+    }
+}
+
+// The fault that counts of these.
+fn worse(worst: Option<NodeFault>, fault: NodeFault) -> NodeFault
+    ensures { IsWorst worst fault result }
+{
+    match worst {
+        Some(other) => lesser(other, fault),
+        None => fault,
+    }
+}
+
+// One more was found.
+fn see(seen: &mut Seen, found: Result<Look, NodeFault>) -> Result<(), AllocError>
+    ensures { OnOk result (IsSeenBesides found seen.old seen.new) }
+{
+    match found {
+        Ok(x) => {
+            seen.looks.push(x)?;
+            Ok(())
+        }
+        Err(NodeFault::Memory) => Err(AllocError),
+        Err(fault) => {
+            seen.worst = Some(worse(seen.worst, fault));
+            Ok(())
+        }
+    }
+}
+
+// One node more is looked at, if it is there.
+fn look_at(
+    seen: &mut Seen,
+    alloc: Global,
+    flash: &Flash,
+    assumptions: &Assumptions,
+    table: &Table,
+    key: &NodeKey,
+) -> Result<(), AllocError>
+    requires { AreFormed table.now }
+    ensures { (keys : List key_type.NodeKey) → AreSeen flash.now assumptions.now table.now keys seen.old → OnOk result (AreSeen flash.now assumptions.now table.now (keys ++ key.now ∷ []) seen.new) }
+{
+    let Some(state) = table.get(key) else {
+        return Ok(());
+    };
+    let found = found_at(alloc, flash, assumptions, key, state);
+    see(seen, found)?;
+    Ok(())
+}
+
+/// Where these nodes of a family lead, or the fault that counts of theirs.
+pub fn look_all(
+    alloc: Global,
+    flash: &Flash,
+    assumptions: &Assumptions,
+    table: &Table,
+    keys: &[NodeKey],
+) -> Result<Seen, AllocError>
+    requires { AreFormed table.now }
+    ensures { IfOk result (λ seen. AreSeen flash.now assumptions.now table.now keys.now seen) }
+{
+    let mut seen = Seen {
+        looks: Vec::new(alloc),
+        worst: None,
+    };
+    for at in 0..keys.len() {
+        look_at(&mut seen, alloc, flash, assumptions, table, &keys[at])?;
+    }
+    Ok(seen)
+}

@@ -1,0 +1,136 @@
+//! Notes of nodes: who enters an instance and who leaves it, and how instances nest.
+
+ghost use Rattle.std.specs.Prelude.{◌≡◌, ◌≤◌, OnOk, Contains};
+ghost use Rattle.mask_states.specs.Keys.{offset_of};
+ghost use Rattle.instance_nesting.specs.Nestings.{AreOnce};
+ghost use Rattle.round_steps.specs.Notings.{blank, caller, leaver, HasCallers, HasLeaver, HasEntrances, IsNoted, AreNoted};
+ghost use Rattle.round_steps.specs.declared.looking.Look as look_type;
+
+use crate::looking::Look;
+use call_graph::ways::Way;
+use family_table::{Port, Ports};
+use instance_nesting::Nesting;
+use local_rules::Exit;
+use mask_states::NodeKey;
+use std::alloc::{AllocError, Global};
+
+/// What is noted of nodes.
+#[derive(Drop)]
+pub struct Notes {
+    /// By entered instance, the nodes that enter it, and the word at which each goes on afterwards.
+    pub callers: Ports,
+    /// By instance, the nodes from which it is left, and how.
+    pub leavers: Ports,
+    /// How instances nest.
+    pub nesting: Nesting,
+}
+
+// A node that enters an instance this way.
+fn caller(key: &NodeKey, way: &Way) -> Port
+    ensures { result ≡ caller key.now way.now }
+{
+    Port {
+        node: *key,
+        inst: way.inst,
+        back: way.back,
+        exit: Exit {
+            masks: key.masks,
+            i: key.i,
+            delay: key.delay,
+        },
+    }
+}
+
+// A node that leaves its instance this way.
+fn leaver(key: &NodeKey, exit: Exit) -> Port
+    ensures { result ≡ leaver key.now exit }
+{
+    Port {
+        node: *key,
+        inst: key.inst,
+        back: key.pc,
+        exit,
+    }
+}
+
+fn note_callers(
+    callers: &mut Ports,
+    alloc: Global,
+    key: &NodeKey,
+    ways: &[Way],
+) -> Result<(), AllocError>
+    ensures { OnOk result (HasCallers callers.old key.now ways.now callers.new) }
+{
+    for at in 0..ways.len() {
+        let way = &ways[at];
+        callers.add(alloc, way.inst, caller(key, way))?;
+    }
+    Ok(())
+}
+
+fn note_leaver(
+    leavers: &mut Ports,
+    alloc: Global,
+    key: &NodeKey,
+    exit: Option<Exit>,
+) -> Result<(), AllocError>
+    ensures { OnOk result (HasLeaver leavers.old key.now exit leavers.new) }
+{
+    let Some(exit) = exit else {
+        return Ok(());
+    };
+    leavers.add(alloc, key.inst, leaver(key, exit))?;
+    Ok(())
+}
+
+fn note_entrances(nesting: &mut Nesting, key: &NodeKey, ways: &[Way]) -> Result<(), AllocError>
+    requires small { offset_of key.now.sp ≤ 2048 }
+    requires once { AreOnce nesting.old.insts }
+    ensures entrances { OnOk result (HasEntrances nesting.old key.now ways.now nesting.new) }
+    ensures once { OnOk result (AreOnce nesting.new.insts) }
+{
+    for at in 0..ways.len() {
+        let way = &ways[at];
+        nesting.note_entrance(key, &way.inst)?;
+    }
+    Ok(())
+}
+
+impl Notes {
+    /// Nothing is noted.
+    pub fn new(alloc: Global) -> Notes
+        ensures { result ≡ blank }
+    {
+        Notes {
+            callers: Ports::new(alloc),
+            leavers: Ports::new(alloc),
+            nesting: Nesting::new(alloc),
+        }
+    }
+
+    // Notes where one node leads.
+    fn note(&mut self, alloc: Global, x: &Look) -> Result<(), AllocError>
+        requires { offset_of x.now.key.sp ≤ 2048 }
+        ensures noted { OnOk result (IsNoted self.old x.now self.new) }
+        ensures once { OnOk result (AreOnce self.new.nesting.insts) }
+    {
+        note_callers(&mut self.callers, alloc, &x.key, &x.ways)?;
+        note_leaver(&mut self.leavers, alloc, &x.key, x.part.exit)?;
+        self.nesting.note_node(&x.key)?;
+        note_entrances(&mut self.nesting, &x.key, &x.ways)?;
+        Ok(())
+    }
+
+    /// Notes where these nodes lead.
+    pub fn note_all(&mut self, alloc: Global, looks: &[Look]) -> Result<(), AllocError>
+        requires small { (x : look_type.Look) → Contains looks.now x → offset_of x.key.sp ≤ 2048 }
+        requires once { AreOnce self.old.nesting.insts }
+        ensures noted { OnOk result (AreNoted self.old looks.now self.new) }
+        ensures once { OnOk result (AreOnce self.new.nesting.insts) }
+    {
+        for at in 0..looks.len() {
+            self.note(alloc, &looks[at])?;
+        }
+        Ok(())
+    }
+}
