@@ -4,3 +4,4 @@ pub mod BitwiseCover
 pub mod ProductCover
 pub mod WordCover
 pub mod Monotone
+pub mod AllLaws

@@ -6,7 +6,7 @@ use bit_domain::TriByte;
 use sp_domain::{CarryTag, Tag};
 
 /// What is known of a byte: where it comes from, and some of its bits.
-#[derive(Clone, Copy, PartialEq, Eq, Debug)]
+#[derive(Clone, Copy, PartialEq, Eq)]
 pub struct AbsByte {
     /// Where it comes from.
     pub tag: Tag,
@@ -15,7 +15,7 @@ pub struct AbsByte {
 }
 
 /// What is known of the status register but for I, bit 7.
-#[derive(Clone, Copy, PartialEq, Eq, Debug)]
+#[derive(Clone, Copy, PartialEq, Eq)]
 pub struct AbsFlags {
     /// Bits 0 to 6 are those at the frame's entry.
     pub entry: bool,

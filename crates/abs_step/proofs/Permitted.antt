@@ -5,20 +5,16 @@ use Rattle.std.proofs.lemmas.Map.Views.{list_any-from_Contains, Contains-from_an
 use Rattle.std.proofs.lemmas.Nat.Bits.{bit_at_cat_low, bit_at_cat_high}
 use Rattle.std.specs.Bool.{IsTrue}
 use Rattle.std.specs.Cmp.{IsEquivalence}
-use Rattle.std.specs.Cmp.Derive.{both_true}
 use Rattle.std.specs.Int.{bit_at}
 use Rattle.std.specs.List.{Contains}
 use Rattle.avr_model.specs.Assumptions.{lists}
-use Rattle.avr_model.specs.Bits.{all_below}
 use Rattle.bit_domain.specs.declared.bits.Tri.{Tri}
 use Rattle.bit_domain.specs.declared.bits.Tri.TheVariants.{Zero, One, Any}
 use Rattle.bit_domain.specs.declared.bytes.TriByte.{TriByte}
 use Rattle.bit_domain.specs.Tri.{Permits}
-use Rattle.bit_domain.specs.TriByte.{tri_at, Has, byte_with}
-use Rattle.bit_domain.specs.Numbers.{IsPermitted}
-use Rattle.bit_domain.proofs.AllLaws.{bytes_are_their_bits, numbers_are_permitted}
-use Rattle.local_rules.specs.Writes.{permits, has}
-use Rattle.local_rules.specs.Flow.{words_of}
+use Rattle.bit_domain.specs.TriByte.{tri_at, Has, has, byte_with}
+use Rattle.bit_domain.specs.Numbers.{pointer_bit, targets_of, IsPermitted}
+use Rattle.bit_domain.proofs.AllLaws.{bytes_are_their_bits, tests_tell_members, numbers_are_permitted}
 
 -- tests that are met by the same facts are the same
 same_test : (a b : Bool) → (a ≡ true → b ≡ true) → (b ≡ true → a ≡ true) → a ≡ b
@@ -26,44 +22,12 @@ same_test true b to from = sym (to refl)
 same_test false true to from = from refl
 same_test false false to from = refl
 
-left : (a b : Bool) → (a && b) ≡ true → a ≡ true
-left true b e = refl
-left false b e = e
-
-right : (a b : Bool) → (a && b) ≡ true → b ≡ true
-right true b e = e
-right false b e = cc
-
 -- ---- bytes
-
-permits_is : (t : Tri) (n : ℕ) → Permits t n → permits t n ≡ true
-permits_is Zero n h = eq-eqb n 0 h
-permits_is One n h = eq-eqb n 1 h
-permits_is Any n h = refl
-
-is_permits : (t : Tri) (n : ℕ) → permits t n ≡ true → Permits t n
-is_permits Zero n h = eqb-true n 0 h
-is_permits One n h = eqb-true n 1 h
-is_permits Any n h = tt
-
-all_is : (n : ℕ) (p : ℕ → Bool) → ((i : ℕ) → i < n → p i ≡ true) → all_below n p ≡ true
-unfolding all_below
-all_is zero p h = refl
-all_is (suc n) p h = both_true (all_is n p (λ i lt. h i (omega arith))) (h n (omega arith))
-
-is_all : (n : ℕ) (p : ℕ → Bool) → all_below n p ≡ true → (i : ℕ) → i < n → p i ≡ true
-unfolding all_below
-is_all zero p e i lt = absurd (omega arith)
-is_all (suc n) p e i lt = elim (cases_eq i n) [
-  | inl same ↦ subst (λ (k : ℕ). p k ≡ true) (sym same) (right (all_below n p) (p n) e)
-  | inr other ↦ is_all n p (left (all_below n p) (p n) e) i (omega arith)
-]
 
 -- a byte's members are those that the test tells
 pub has_is : (t : TriByte) (x : ℕ) (result : Bool) → (IsTrue result → Has t x) → (Has t x → IsTrue result) → result ≡ has t x
 has_is t x result to from =
-    same_test result (has t x) (λ e. all_is 8 (λ i. permits (tri_at t i) (bit_at x i)) (λ i lt. permits_is (tri_at t i) (bit_at x i) (to e i lt)))
-    (λ e. from (λ i lt. is_permits (tri_at t i) (bit_at x i) (is_all 8 (λ i. permits (tri_at t i) (bit_at x i)) e i lt)))
+    same_test result (has t x) (λ e. (tests_tell_members.bytes t x).1 (to e)) (λ e. from ((tests_tell_members.bytes t x).0 e))
 
 -- ---- words
 
@@ -115,10 +79,6 @@ open_above t i lt le = elim (cases_eq i 7) [
       ∙ ap (λ (b : Bool). cond b Any (tri_at t i)) (eq-eqb i 6 (omega arith))
 ]
 
--- bit i of a pointer of these bytes
-abbrev pub pointer_bit : TriByte → TriByte → ℕ → Tri
-pointer_bit lo hi i = if nat_lt i 8 then tri_at lo i else tri_at hi (i - 8)
-
 -- a word below the end of flash is permitted where its bytes are
 permitted : (lo hi : TriByte) (x : ℕ) → x < 16384 → Has lo (x % 256) → Has (open_top hi) (x / 256) → IsPermitted (pointer_bit lo hi) 14 x
 permitted lo hi x small low high = record {
@@ -158,26 +118,26 @@ high_of_permitted lo hi x h i lt = elim (cases_lt i 6) [
 
 -- ---- the words of a pointer are those below the end of flash whose bytes are permitted, with two bits left open
 
-pub none_above : (lo hi : TriByte) (x : ℕ) → 16384 ≤ x → false ≡ lists (words_of lo hi) x
+pub none_above : (lo hi : TriByte) (x : ℕ) → 16384 ≤ x → false ≡ lists (targets_of lo hi) x
 none_above lo hi x above =
-    same_test false (lists (words_of lo hi) x) (λ e. cc)
+    same_test false (lists (targets_of lo hi) x) (λ e. cc)
     (λ e.
-    let small = ((numbers_are_permitted.members (pointer_bit lo hi) 14 x).0 (listed (words_of lo hi) x e)).small in
+    let small = ((numbers_are_permitted.members (pointer_bit lo hi) 14 x).0 (listed (targets_of lo hi) x e)).small in
     absurd (omega (arith, small)))
 
-pub low_decides : (lo hi : TriByte) (x : ℕ) (fits : Bool) → fits ≡ false → (Has lo (x % 256) → IsTrue fits) → fits ≡ lists (words_of lo hi) x
+pub low_decides : (lo hi : TriByte) (x : ℕ) (fits : Bool) → fits ≡ false → (Has lo (x % 256) → IsTrue fits) → fits ≡ lists (targets_of lo hi) x
 low_decides lo hi x fits not from =
-    same_test fits (lists (words_of lo hi) x) (λ e. let wrong : true ≡ false = sym e ∙ not in cc)
-    (λ e. from (low_of_permitted lo hi x ((numbers_are_permitted.members (pointer_bit lo hi) 14 x).0 (listed (words_of lo hi) x e))))
+    same_test fits (lists (targets_of lo hi) x) (λ e. let wrong : true ≡ false = sym e ∙ not in cc)
+    (λ e. from (low_of_permitted lo hi x ((numbers_are_permitted.members (pointer_bit lo hi) 14 x).0 (listed (targets_of lo hi) x e))))
 
 pub high_decides : (lo hi high : TriByte) (x : ℕ) (fits : Bool) → x < 16384 → Has lo (x % 256) → high ≡ open_top hi
-    → (IsTrue fits → Has high (x / 256)) → (Has high (x / 256) → IsTrue fits) → fits ≡ lists (words_of lo hi) x
+    → (IsTrue fits → Has high (x / 256)) → (Has high (x / 256) → IsTrue fits) → fits ≡ lists (targets_of lo hi) x
 high_decides lo hi high x fits small low same to from =
-    same_test fits (lists (words_of lo hi) x)
+    same_test fits (lists (targets_of lo hi) x)
     (λ e.
-    is_listed (words_of lo hi) x
+    is_listed (targets_of lo hi) x
     ((numbers_are_permitted.members (pointer_bit lo hi) 14 x).1 (permitted lo hi x small low (subst (λ (t : TriByte). Has t (x / 256)) same (to e)))))
     (λ e.
     from
     (subst (λ (t : TriByte). Has t (x / 256)) (sym same)
-    (high_of_permitted lo hi x ((numbers_are_permitted.members (pointer_bit lo hi) 14 x).0 (listed (words_of lo hi) x e)))))
+    (high_of_permitted lo hi x ((numbers_are_permitted.members (pointer_bit lo hi) 14 x).0 (listed (targets_of lo hi) x e)))))

@@ -7,7 +7,7 @@ use Rattle.avr_model.specs.Assumptions.{jump_line, store_line, is_proved}
 use Rattle.avr_model.specs.Table.{decoded}
 use Rattle.avr_model.specs.Vectors.{row_of}
 use Rattle.bit_domain.specs.Packed.{packed}
-use Rattle.bit_domain.specs.TriByte.{byte_known}
+use Rattle.bit_domain.specs.TriByte.{byte_known, permits_below}
 use Rattle.bit_domain.specs.Numbers.{numbers_of}
 use Rattle.sp_domain.specs.declared.tags.Tag.{Tag}
 use Rattle.sp_domain.specs.declared.tags.Tag.TheVariants as tag
@@ -102,7 +102,7 @@ reads_a_slot = refl
 
 -- `st X, r16` of an unknown byte, X at 0x003D, where 0x003D and 0x005D are listed: it changes nothing, or the two enable bits
 stores_at_listed : enables (raw (firmware 0x930C 0xFFFF) (Store 0 (0x3D ∷ 0x5D ∷ []) ∷ []) (in_call (Closed 0)) (with_pair 26 (known 0x3D) (known 0))) ≡ 0 ∷ 0 ∷ 1 ∷ 2 ∷ 3 ∷ []
-unfolding raw is_scratch is_fixed path_behind is_loaded_behind is_proved store_line any_below all_below decoded written_at numbers_of enable_tri row_of packed
+unfolding raw is_scratch is_fixed path_behind is_loaded_behind is_proved store_line any_below all_below decoded written_at numbers_of enable_tri row_of packed permits_below
 stores_at_listed = refl
 
 -- `ijmp` with Z at 5 goes to the one word of the line that Z permits

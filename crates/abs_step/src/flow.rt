@@ -6,20 +6,18 @@ ghost use Rattle.avr_model.specs.Effects as effects;
 ghost use Rattle.avr_model.specs.Assumptions.{lists};
 ghost use Rattle.bit_domain.specs.TriByte.{tri_at};
 ghost use Rattle.bit_domain.specs.Logic.{byte_equal};
+ghost use Rattle.bit_domain.specs.Numbers.{targets_of};
 ghost use Rattle.local_rules.specs.Registers as registers;
 ghost use Rattle.local_rules.specs.Raw as raw;
 ghost use Rattle.local_rules.specs.Reads as reads;
-ghost use Rattle.local_rules.specs.Flow.{words_of};
 
 use crate::computed::bits;
 use crate::reads::read_at;
 use crate::words::Z;
 use abs_state::AbsState;
+use avr_model::device::WORDS;
 use bit_domain::{Tri, TriByte};
 use mask_states::NodeKey;
-
-/// How many words flash has; word addresses count modulo this number (data sheet: 32 KiB).
-pub(crate) const WORDS: u16 = 16384;
 
 /// The data address of I/O address 0.
 const IO_START: u16 = 0x20;
@@ -95,7 +93,7 @@ pub(crate) fn are_equal(state: &AbsState, d: u16, r: u16) -> Tri
 
 // Whether the word is one of these bytes, modulo the words of flash, which leaves two bits open.
 fn is_permitted(lo: TriByte, hi: TriByte, word: u16) -> bool
-    ensures { result ≡ lists (words_of lo hi) word }
+    ensures { result ≡ lists (targets_of lo hi) word }
 {
     if word >= WORDS {
         return false;
@@ -106,7 +104,7 @@ fn is_permitted(lo: TriByte, hi: TriByte, word: u16) -> bool
 
 /// Whether an indirect transfer may lead to this word.
 pub(crate) fn is_target(state: &AbsState, word: u16) -> bool
-    ensures { result ≡ lists (words_of (registers.bits state.now 30) (registers.bits state.now 31)) word }
+    ensures { result ≡ lists (targets_of (registers.bits state.now 30) (registers.bits state.now 31)) word }
 {
     is_permitted(bits(state, Z), bits(state, Z + 1), word)
 }

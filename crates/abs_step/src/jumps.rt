@@ -2,13 +2,13 @@
 
 ghost use Rattle.std.specs.Prelude.{◌≡◌, ◌<◌, ◌≤◌, length, map, filter, None, IfOk, IfErr};
 ghost use Rattle.avr_model.specs.Assumptions.{lists};
+ghost use Rattle.bit_domain.specs.Numbers.{targets_of};
 ghost use Rattle.mask_states.specs.Keys.{offset_of};
 ghost use Rattle.local_rules.specs.declared.local.NodeFault.TheVariants.{Memory};
 ghost use Rattle.local_rules.specs.Registers as registers;
 ghost use Rattle.local_rules.specs.Raw as raw;
 ghost use Rattle.local_rules.specs.Raw.{moves_to};
 ghost use Rattle.local_rules.specs.Flow as flow;
-ghost use Rattle.local_rules.specs.Flow.{words_of};
 ghost use Rattle.abs_step.specs.Adding.{Adds, Finds};
 
 use crate::computed::bits;
@@ -45,7 +45,7 @@ pub(crate) fn skipping(
 
 // The listed words that the bits permit.
 fn listed_targets(alloc: Global, state: &AbsState, listed: &[u16]) -> Result<Vec<u16>, NodeFault>
-    ensures ok { IfOk result (λ v. v.items ≡ filter (lists (words_of (registers.bits state.now 30) (registers.bits state.now 31))) listed.now) }
+    ensures ok { IfOk result (λ v. v.items ≡ filter (lists (targets_of (registers.bits state.now 30) (registers.bits state.now 31))) listed.now) }
     ensures err { IfErr result (λ e. e ≡ Memory) }
 {
     let mut words = Vec::new(alloc);
@@ -61,7 +61,7 @@ fn listed_targets(alloc: Global, state: &AbsState, listed: &[u16]) -> Result<Vec
 
 // All words that the bits permit, where these are few.
 fn unlisted_targets(alloc: Global, state: &AbsState, pc: u16) -> Result<Vec<u16>, NodeFault>
-    ensures { Finds result (flow.targets_by None (words_of (registers.bits state.now 30) (registers.bits state.now 31))) pc }
+    ensures { Finds result (flow.targets_by None (targets_of (registers.bits state.now 30) (registers.bits state.now 31))) pc }
 {
     match targets(&bits(state, Z), &bits(state, Z + 1)) {
         Ok(all) => match all.as_slice().to_vec(alloc) {

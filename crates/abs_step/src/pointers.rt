@@ -2,6 +2,7 @@
 
 ghost use Rattle.std.specs.Prelude.{◌≡◌, ◌+◌, ◌<◌};
 ghost use Rattle.avr_model.specs.Sites as sites;
+ghost use Rattle.bit_domain.specs.TriByte as bytes;
 ghost use Rattle.local_rules.specs.Reads as reads;
 ghost use Rattle.local_rules.specs.Reads.{word_of, raised, lowered, read_constant, read_both, read_frame, flash_value};
 ghost use Rattle.local_rules.specs.Writes as writes;
@@ -152,7 +153,7 @@ pub(crate) fn flash_value(flash: &Flash, z: Option<u16>) -> AbsByte
 
 // Whether the bits are those of some value that this byte is.
 fn has(bits: TriByte, byte: u8) -> bool
-    ensures { result ≡ writes.has bits byte }
+    ensures { result ≡ bytes.has bits byte }
 {
     bits.has(byte)
 }

@@ -7,22 +7,13 @@ ghost use Rattle.local_rules.specs.Reads.{io_tri, io_bits, value_of, slot_read, 
 
 use crate::computed::value;
 use crate::flags::{sreg_value, tri_of};
-use crate::stack_pointer::{RAMEND, sp_high, sp_low};
+use crate::stack_pointer::{sp_high, sp_low};
 use abs_state::{AbsByte, AbsState};
+use avr_model::device::{RAMEND, REGISTERS_END, SPH, SPL, SREG};
 use bit_domain::{Tri, TriByte};
 use mask_states::{Kind, NodeKey};
 use sp_domain::Slot;
 use vector_table::{Masks, enable_of};
-
-/// The first address behind the registers (data sheet).
-pub(crate) const REGISTERS_END: u16 = 0x20;
-
-/// The low and the high byte of the stack pointer, and the status register (data sheet).
-pub(crate) const SPL: u16 = 0x5D;
-
-pub(crate) const SPH: u16 = 0x5E;
-
-pub(crate) const SREG: u16 = 0x5F;
 
 /// The last address of I/O (data sheet).
 const IO_LAST: u16 = 0xFF;

@@ -7,13 +7,11 @@ ghost use Rattle.local_rules.specs.Local.{is_hung};
 
 use crate::computed::with_bits;
 use abs_state::AbsByte;
+use avr_model::device::RAMEND;
 use bit_domain::TriByte;
 use mask_states::{High, Kind, NodeKey, SpForm};
 use sp_domain::Tag;
 use vector_table::Masks;
-
-/// The top of SRAM, which is the base of the root's frame (data sheet).
-pub(crate) const RAMEND: u16 = 0x08FF;
 
 /// A base less so much is no address of SRAM.
 const TOO_FAR: u16 = 0x8000;

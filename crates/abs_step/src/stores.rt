@@ -12,17 +12,14 @@ ghost use Rattle.abs_step.specs.Adding.{Adds};
 use crate::computed::set;
 use crate::flags::{I, flags_written};
 use crate::moves::{add, add_copy, add_two, changed, copied};
-use crate::reads::{REGISTERS_END, SPH, SPL, SREG};
 use crate::stack_pointer::{closing_offset, high_part};
 use abs_state::{AbsByte, AbsState};
+use avr_model::device::{REGISTERS_END, SIZE, SPH, SPL, SREG};
 use bit_domain::Tri;
 use local_rules::local::{NodeFault, Nodes};
 use mask_states::{High, NodeKey, SpForm, split};
 use std::alloc::Global;
 use vector_table::Masks;
-
-/// How many bytes SRAM has (data sheet).
-pub(crate) const SIZE: u16 = 2048;
 
 /// What is written: the byte, the word of the instruction, and the key after it.
 #[derive(Clone, Copy)]

@@ -4,11 +4,9 @@ ghost use Rattle.std.specs.Prelude.{◌≡◌, ◌++◌, ◌<◌, IfOk, OnOk};
 ghost use Rattle.avr_model.specs.Text.{digit, hex2, hex4, reg, far, near, binary_name, immediate_name, unary_name, pointer_text, base_text, text_of, text_of_memory, text_of_flow};
 ghost use Rattle.avr_decode.specs.Shape.{piece_text, shape_text};
 
+use avr_model::device::WORDS;
 use avr_model::instruction::{Base, BinaryOp, ImmediateOp, Instr, Pointer, UnaryOp};
 use std::alloc::{AllocError, Global};
-
-/// How many words flash has, modulo which word addresses count.
-const WORDS: u16 = 16384;
 
 /// An operand as it is printed.
 #[derive(Clone, Copy)]

@@ -5,10 +5,11 @@ ghost use Rattle.avr_model.specs.Image.{word_at};
 ghost use Rattle.avr_model.specs.Sites.{instruction_at};
 
 use crate::decoding::decode;
+use avr_model::device;
 use avr_model::instruction::Instr;
 
 /// How many words flash has.
-pub const WORDS: usize = 16384;
+pub const WORDS: usize = device::WORDS as usize;
 
 /// The word at a word address.
 pub fn word(words: &[u16], at: usize) -> u16

@@ -4,8 +4,9 @@ ghost use Rattle.std.specs.Prelude.{◌≡◌, ◌<◌, ◌*◌, ◌/◌, ◌%�
 ghost use Rattle.avr_model.specs.Step.{with_registers, memory_after, after};
 ghost use Rattle.avr_machine.specs.Applying.{stored};
 
-use crate::processor::{Processor, REGISTERS_END, SPH, SPL, SREG};
+use crate::processor::Processor;
 use avr_alu::Sreg;
+use avr_model::device::{REGISTERS_END, SPH, SPL, SREG};
 use avr_model::effect::{Effect, Write};
 use vector_table::{Masks, write as written_enables};
 

@@ -8,9 +8,9 @@ ghost use Rattle.avr_model.specs.Effects.{port, branch_effect, reti_effect};
 
 use crate::arithmetic::I;
 use crate::bits::{has_bit, with_bit};
-use crate::pieces::WORDS;
 use crate::processor::Processor;
 use crate::transfers::{Z, port};
+use avr_model::device::WORDS;
 use avr_model::effect::Effect;
 
 impl Processor {

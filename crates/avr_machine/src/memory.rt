@@ -4,17 +4,15 @@ ghost use Rattle.std.specs.Prelude.{◌≡◌, IsTrue, false, true, replicate};
 ghost use Rattle.avr_model.specs.State.{is_sram, set_at, byte_in, is_live};
 ghost use Rattle.avr_model.specs.Step.{with_live, written, pruned, live_write};
 
+use avr_model::device::{self, RAMEND};
 use avr_model::effect::Write;
 use std::marker::Model;
 
-/// The address before the first of SRAM.
-const BELOW: u16 = 0x00FF;
-
-/// The last address of SRAM (data sheet).
-const RAMEND: u16 = 0x08FF;
-
 /// How many bytes SRAM has.
-pub const SIZE: usize = 2048;
+pub const SIZE: usize = device::SIZE as usize;
+
+/// The address before the first of SRAM.
+const BELOW: u16 = RAMEND - device::SIZE;
 
 /// Whether a data address is one of SRAM.
 pub fn is_sram(address: u16) -> bool

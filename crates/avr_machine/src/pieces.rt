@@ -6,11 +6,9 @@ ghost use Rattle.avr_model.specs.Effects.{set, set_pair, further, going_to, goin
 use crate::processor::Processor;
 use avr_alu::Sreg;
 use avr_decode::length;
+use avr_model::device::WORDS;
 use avr_model::effect::{Effect, Write, Writes};
 use flash_image::Flash;
-
-/// How many words flash has; word addresses count modulo this number (data sheet: 32 KiB).
-pub const WORDS: u16 = 16384;
 
 /// One byte at one address.
 pub fn set(address: u16, byte: u8) -> Writes

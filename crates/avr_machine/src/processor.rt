@@ -9,21 +9,9 @@ ghost use Rattle.avr_model.specs.Vectors.{enable_of};
 use crate::bits::{has_bit, with_bit};
 use crate::memory::{Memory, SIZE, is_sram};
 use avr_alu::Sreg;
+use avr_model::device::{RAMEND, REGISTERS_END, SPH, SPL, SREG};
 use std::marker::Model;
 use vector_table::{Masks, enable_of};
-
-/// Where SP stands at reset: the last address of SRAM.
-pub const RAMEND: u16 = 0x08FF;
-
-/// The first data address behind the registers.
-pub const REGISTERS_END: u16 = 0x20;
-
-/// The data addresses of the stack pointer's bytes and of the status register.
-pub const SPL: u16 = 0x5D;
-
-pub const SPH: u16 = 0x5E;
-
-pub const SREG: u16 = 0x5F;
 
 /// The processor and its memory, seen as a `State`.
 #[derive(Drop)]

@@ -8,7 +8,8 @@ ghost use Rattle.avr_model.specs.Effects.{set, set_pair, further, setting, stori
 use crate::arithmetic::I;
 use crate::bits::{has_bit, with_bit};
 use crate::pieces::{flash_read, set, set_pair};
-use crate::processor::{Processor, SREG};
+use crate::processor::Processor;
+use avr_model::device::SREG;
 use avr_model::effect::{Effect, Write, Writes};
 use avr_model::instruction::{Base, Pointer};
 use flash_image::Flash;

@@ -5,7 +5,7 @@ use Rattle.avr_model.specs.declared.instruction.Instr.TheVariants as i
 use Rattle.avr_model.specs.declared.instruction.Base.TheVariants as base
 use Rattle.avr_model.specs.declared.device.TheConstants as device
 use Rattle.avr_model.specs.Image.{WORDS}
-use Rattle.avr_model.specs.State.{SIZE, RAMEND}
+use Rattle.avr_model.specs.State.{SIZE, RAMEND, SPL, SPH, SREG}
 use Rattle.avr_model.specs.Table.{decoded, length_of}
 use Rattle.avr_model.specs.Text.{text_of}
 use Rattle.avr_model.specs.Sites.{is_scratch, is_fixed, path_behind, is_loaded_behind}
@@ -21,6 +21,15 @@ code_has_size = refl
 
 pub code_has_ramend : RAMEND ≡ device.RAMEND
 code_has_ramend = refl
+
+pub code_has_spl : SPL ≡ device.SPL
+code_has_spl = refl
+
+pub code_has_sph : SPH ≡ device.SPH
+code_has_sph = refl
+
+pub code_has_sreg : SREG ≡ device.SREG
+code_has_sreg = refl
 
 -- flash that begins with these words, and is erased behind them
 abbrev pub firmware : List ℕ → List ℕ

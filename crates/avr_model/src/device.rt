@@ -8,3 +8,15 @@ pub const SIZE: u16 = 2048;
 
 /// The last address of SRAM, where the stack begins.
 pub const RAMEND: u16 = 0x08FF;
+
+/// The first data address behind the registers.
+pub const REGISTERS_END: u16 = 0x20;
+
+/// The data address of the stack pointer's low byte.
+pub const SPL: u16 = 0x5D;
+
+/// The data address of the stack pointer's high byte.
+pub const SPH: u16 = 0x5E;
+
+/// The data address of the status register.
+pub const SREG: u16 = 0x5F;

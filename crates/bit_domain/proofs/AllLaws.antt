@@ -10,6 +10,7 @@ use Rattle.bit_domain.proofs.Built.{at_byte_of, is_byte_of, same_fields, byte_of
 use Rattle.bit_domain.proofs.Members.{from_sets, has_least, bits_within, within_bits, has_built, within_built}
 use Rattle.bit_domain.proofs.Meets.{known_has}
 use Rattle.bit_domain.proofs.Differences.{all_sums_cover, all_sums_are_monotone}
+pub use Rattle.bit_domain.proofs.Tested.{tests_tell_members}
 pub use Rattle.bit_domain.proofs.Writes.{writes_cover}
 pub use Rattle.bit_domain.proofs.Meets.{lattice_is_of_sets, lattice_is_monotone}
 pub use Rattle.bit_domain.proofs.LogicCover.{logic_covers, logic_is_monotone}

@@ -2,6 +2,7 @@ pub mod Tables
 pub mod Bounds
 pub mod Built
 pub mod Members
+pub mod Tested
 pub mod Adder
 pub mod Whole
 pub mod SumCover

@@ -1,6 +1,6 @@
 //! Laws of bytes of three-valued bits, each as the contract of a function that does nothing.
 
-ghost use Rattle.bit_domain.specs.Laws.{BitsCover, BytesAreTheirBits, BytesAreSets, WritesCover, LatticeIsOfSets, LatticeIsMonotone, SumsCover, SumsAreMonotone, LogicCovers, LogicIsMonotone, NumbersArePermitted};
+ghost use Rattle.bit_domain.specs.Laws.{BitsCover, BytesAreTheirBits, BytesAreSets, TestsTellMembers, WritesCover, LatticeIsOfSets, LatticeIsMonotone, SumsCover, SumsAreMonotone, LogicCovers, LogicIsMonotone, NumbersArePermitted};
 
 /// An operation on bits stands for that of each choice of permitted bits, and bits that stand for more give more.
 pub fn bits_cover()
@@ -15,6 +15,11 @@ pub fn bytes_are_their_bits()
 /// Each stands for some byte, and one stands for all that another does just where each of its bits does.
 pub fn bytes_are_sets()
     ensures { BytesAreSets }
+{}
+
+/// The tests of bits and bytes tell just those that are permitted.
+pub fn tests_tell_members()
+    ensures { TestsTellMembers }
 {}
 
 /// A byte with another bit stands for each member with a permitted bit there, and for more where both stand for more.

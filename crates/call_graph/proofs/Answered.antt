@@ -4,8 +4,7 @@ use Rattle.std.specs.Prelude.{◌↔◌}
 use Rattle.avr_model.specs.declared.assumption.Entry.{Entry}
 use Rattle.local_rules.specs.declared.local.Node.{Node}
 use Rattle.edge_rules.specs.Expansion.{Seeds, IsFilled, IsMissing}
-use Rattle.expansion_laws.proofs.Lists.{get_inside}
-use Rattle.expansion_laws.proofs.AllLaws.{filled_or_missing}
+use Rattle.expansion_laws.proofs.AllLaws.{get_inside, filled_or_missing}
 use Rattle.call_graph.specs.declared.filled.Expanded.{Expanded}
 use Rattle.call_graph.specs.declared.filled.Expanded.TheVariants.{Whole, Missing}
 use Rattle.call_graph.specs.Gives.{Gives}

@@ -23,7 +23,7 @@ use Rattle.local_rules.specs.declared.local.Exit.{Exit}
 use Rattle.local_rules.specs.declared.local.NodeFault.{NodeFault}
 use Rattle.local_rules.specs.Raw.{Raw}
 use Rattle.local_rules.specs.Local.{local, settled, joined_onto}
-use Rattle.local_laws.proofs.Members.{none_in, here, there, first_or, in_map, each_in_map}
+use Rattle.local_laws.proofs.AllLaws.{none_in, here, there, first_or, in_map, each_in_map}
 use Rattle.edge_rules.specs.Edges.{IsFaultless, raw_of, Enters, by_call, by_interrupt, returned_key, IsEdge, moving, entering, returning, AreEdges}
 use Rattle.edge_rules.specs.declared.edge.Edge.{Edge}
 use Rattle.call_graph.specs.declared.ways.Way.{Way}

@@ -19,7 +19,7 @@ use Rattle.edge_rules.specs.declared.seeded.NodeForm.{NodeForm}
 use Rattle.edge_rules.specs.declared.seeded.NodeForm.TheVariants.{State, From}
 use Rattle.edge_rules.specs.Expansion.{Seeds, AreSeeds}
 use Rattle.expansion_laws.specs.Laws.{AreAscending}
-use Rattle.expansion_laws.proofs.Lists.{get_push}
+use Rattle.expansion_laws.proofs.AllLaws.{get_push}
 
 unknown_fits : (n r : ℕ) → TagFits (value_at (replicate n unknown) r).tag
 unknown_fits zero r = tt

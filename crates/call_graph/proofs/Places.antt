@@ -13,7 +13,7 @@ use Rattle.mask_states.specs.Order.{inst_cmp, node_cmp, same_node}
 use Rattle.mask_states.proofs.AllLaws.{keys_are_ordered, nodes_go_by_instance}
 use Rattle.local_rules.specs.declared.local.Node.{Node}
 use Rattle.edge_rules.specs.Views.{AreShown, IsSpan, key_of, place_of}
-use Rattle.expansion_laws.proofs.Lists.{get_inside}
+use Rattle.expansion_laws.proofs.AllLaws.{get_inside}
 use Rattle.call_graph.proofs.Gathered.{some_is, none_is}
 
 -- ---- orderings

@@ -10,7 +10,7 @@ use Rattle.local_rules.specs.declared.local.NodeFault.{NodeFault}
 use Rattle.local_rules.specs.Raw.{Raw}
 use Rattle.local_rules.specs.Local.{local, settled}
 use Rattle.edge_rules.specs.Edges.{IsFaultless, raw_of}
-use Rattle.expansion_laws.proofs.Lists.{get_inside, same_list}
+use Rattle.expansion_laws.proofs.AllLaws.{get_inside, same_list}
 use Rattle.call_graph.specs.declared.exit_list.Leaving.{Leaving}
 use Rattle.call_graph.specs.declared.exit_list.Leaving.TheVariants.{All, Fault}
 use Rattle.call_graph.specs.Next.{exit_in}

@@ -9,7 +9,7 @@ use Rattle.mask_states.specs.Order.{same_inst}
 use Rattle.mask_states.proofs.AllLaws.{keys_are_ordered}
 use Rattle.local_rules.specs.declared.local.Node.{Node}
 use Rattle.local_rules.specs.Cover.{IsNode}
-use Rattle.local_laws.proofs.Members.{here, there}
+use Rattle.local_laws.proofs.AllLaws.{here, there}
 use Rattle.edge_rules.specs.declared.edge.Edge.{Edge}
 use Rattle.call_graph.specs.declared.ways.Way.{Way}
 use Rattle.edge_rules.specs.Views.{AreShown, IsSpan, key_of, state_of}

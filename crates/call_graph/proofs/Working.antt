@@ -10,8 +10,7 @@ use Rattle.local_rules.specs.declared.local.Node.{Node}
 use Rattle.edge_rules.specs.declared.seeded.NodeForm.{NodeForm}
 use Rattle.edge_rules.specs.Expansion.{Seeds, AreSeeds, HasKeyAt, IsFilled, IsMissing}
 use Rattle.expansion_laws.specs.Working.{first_at, carried, worked, SoFar}
-use Rattle.expansion_laws.proofs.One.{same_seed}
-use Rattle.expansion_laws.proofs.Steps.{one_more, missing, whole}
+use Rattle.expansion_laws.proofs.AllLaws.{same_seed, one_more, missing, whole}
 use Rattle.edge_rules.specs.declared.seeded.Seed.{Seed}
 use Rattle.edge_rules.specs.declared.seeded.Seed.TheVariants as seed
 use Rattle.edge_rules.specs.Seeds.{form_of, HasFormAt}

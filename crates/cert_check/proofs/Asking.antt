@@ -11,7 +11,7 @@ use Rattle.mask_states.specs.declared.keys.InstKey.{InstKey}
 use Rattle.mask_states.specs.declared.keys.SpForm.TheVariants.{Closed}
 use Rattle.mask_states.specs.Keys.{offset_of}
 use Rattle.local_rules.specs.declared.local.Node.{Node}
-use Rattle.local_laws.proofs.Members.{none_in, here}
+use Rattle.local_laws.proofs.AllLaws.{none_in, here}
 use Rattle.edge_rules.specs.Edges.{Enters}
 use Rattle.edge_rules.specs.Families.{IsCovered}
 use Rattle.certificate.specs.declared.instance.Inst.{Inst}

@@ -15,7 +15,7 @@ use Rattle.mask_states.specs.Order.{node_cmp, same_node}
 use Rattle.mask_states.proofs.AllLaws.{keys_are_ordered}
 use Rattle.local_rules.specs.declared.local.Node.{Node}
 use Rattle.local_rules.specs.Cover.{IsNode}
-use Rattle.local_laws.proofs.Members.{none_in, first_or}
+use Rattle.local_laws.proofs.AllLaws.{none_in, first_or}
 use Rattle.edge_rules.specs.Families.{IsCovered}
 use Rattle.edge_rules.specs.Views.{AreShown, key_of, state_of, place_of}
 use Rattle.cert_check.specs.Working.{GapAt, Lands, KeyBelow, lesser_key}

@@ -10,7 +10,7 @@ use Rattle.mask_states.specs.declared.keys.SpForm.{SpForm}
 use Rattle.mask_states.specs.declared.keys.SpForm.TheVariants.{Closed, Open}
 use Rattle.mask_states.specs.Keys.{offset_of}
 use Rattle.local_rules.specs.declared.local.Node.{Node}
-use Rattle.local_laws.proofs.Members.{none_in, here}
+use Rattle.local_laws.proofs.AllLaws.{none_in, here}
 use Rattle.edge_rules.specs.declared.edge.Edge.{Edge}
 use Rattle.edge_rules.specs.Edges.{Enters, by_call, by_interrupt, IsEdge, moving, entering, returning, AreEdges}
 use Rattle.edge_rules.specs.Families.{IsCovered}

@@ -12,7 +12,7 @@ use Rattle.avr_model.specs.State.{SIZE}
 use Rattle.mask_states.specs.declared.keys.InstKey.{InstKey}
 use Rattle.mask_states.specs.Order.{inst_cmp, same_inst}
 use Rattle.mask_states.proofs.AllLaws.{keys_are_ordered}
-use Rattle.local_laws.proofs.Members.{none_in, here, there, first_or}
+use Rattle.local_laws.proofs.AllLaws.{none_in, here, there, first_or}
 use Rattle.certificate.specs.declared.instance.Inst.{Inst}
 use Rattle.certificate.specs.Insts.{IsInst, inst_keys, rank_in, need_in}
 use Rattle.cert_check.specs.Working.{AreInstances, place_in, rank_at, need_at}

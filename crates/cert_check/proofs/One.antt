@@ -22,7 +22,7 @@ use Rattle.certificate.specs.declared.instance.Inst.{Inst}
 use Rattle.certificate.specs.Insts.{rank_in, need_in}
 use Rattle.certificate.specs.Claims.{Claim, IsClaim}
 use Rattle.certificate.specs.Valid.{AreFaultless, AllLand, AreRanked, Suffices, NeedsSuffice, IsSound, family_of}
-use Rattle.certificate.proofs.Sound.{conditions_make_families_sound}
+use Rattle.certificate.proofs.AllLaws.{conditions_make_families_sound}
 use Rattle.cert_check.specs.declared.verdict.Reason.{Reason}
 use Rattle.cert_check.specs.declared.verdict.Reason.TheVariants as reason
 use Rattle.cert_check.specs.declared.verdict.Verdict.{Verdict}

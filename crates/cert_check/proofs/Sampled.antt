@@ -10,7 +10,7 @@ use Rattle.vector_table.specs.Entries.{AreEntries}
 use Rattle.mask_states.specs.Keys.{root_inst, entry_key, inst_numbers, node_numbers}
 use Rattle.mask_states.specs.Order.{inst_cmp, node_cmp}
 use Rattle.local_rules.specs.Cover.{IsNode}
-use Rattle.local_laws.proofs.Members.{here, there}
+use Rattle.local_laws.proofs.AllLaws.{here, there}
 use Rattle.edge_rules.specs.Examples.{callee}
 use Rattle.edge_rules.specs.Expansion.{Seeds}
 use Rattle.edge_laws.proofs.AllLaws.{edges_lead_to_nodes}

@@ -6,7 +6,7 @@ use Rattle.std.proofs.lemmas.List.{append-nil}
 use Rattle.avr_model.specs.State.{SIZE}
 use Rattle.line_reading.specs.Reading.{dec_at, word_at, is_over}
 use Rattle.line_reading.specs.Words.{IsWord, WordLaws}
-use Rattle.line_reading.proofs.Steps.{bind_some, no_words}
+use Rattle.line_reading.proofs.AllLaws.{bind_some, no_words}
 use Rattle.mask_states.specs.declared.keys.InstKey.{InstKey}
 use Rattle.mask_states.specs.declared.keys.NodeKey.{NodeKey}
 use Rattle.mask_states.specs.Keys.{offset_of}
@@ -19,9 +19,7 @@ use Rattle.cert_words.specs.KeySpelling.{inst_key_words, place_words, form_words
 use Rattle.cert_words.specs.Text.{inst_words, node_words_at}
 use Rattle.cert_words.specs.KeyReading.{is_root, inst_key_at, form_at}
 use Rattle.cert_words.specs.KeyLaws.{KeyWords}
-use Rattle.cert_words.proofs.Pieces.{map_some, tested}
-use Rattle.cert_words.proofs.Fields.{word_take, dec_take, joined_words}
-use Rattle.cert_words.proofs.InstKeys.{cons}
+use Rattle.cert_words.proofs.AllLaws.{map_some, tested, word_take, dec_take, joined_words, cons}
 use Rattle.cert_format.specs.LineReading.{inst_in, place_at, whole_key_at, node_in}
 use Rattle.cert_format.specs.LineLaws.{InstLines, IsInstanceOf, IsNodeLine, NodeLines}
 

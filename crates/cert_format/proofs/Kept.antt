@@ -14,8 +14,7 @@ use Rattle.line_reading.specs.Words.{IsWord, WordLaws}
 use Rattle.vector_table.specs.Entries.{AreEntries, is_entry, is_above_last, most_entries}
 use Rattle.indirect_targets.specs.Spelling.{entry_words}
 use Rattle.indirect_targets.specs.Exact.{EntryWords}
-use Rattle.indirect_targets.proofs.Lists.{pushed, none_are_entries, follows}
-use Rattle.indirect_targets.proofs.Entries.{entry_is_words}
+use Rattle.indirect_targets.proofs.AllLaws.{pushed, none_are_entries, follows, entry_is_words}
 use Rattle.mask_states.specs.declared.keys.InstKey.{InstKey}
 use Rattle.mask_states.specs.declared.keys.NodeKey.{NodeKey}
 use Rattle.mask_states.specs.Keys.{offset_of}
@@ -26,7 +25,7 @@ use Rattle.edge_rules.specs.Expansion.{Seeds}
 use Rattle.certificate.specs.declared.instance.Inst.{Inst}
 use Rattle.cert_format.specs.declared.fault.CertFault.{CertFault}
 use Rattle.cert_format.specs.declared.fault.CertFault.TheVariants as fault
-use Rattle.cert_format.specs.declared.fault.Limit.TheVariants as limit
+use Rattle.certificate.specs.declared.limit.Limit.TheVariants as limit
 use Rattle.certificate.specs.Insts.{IsInst, inst_keys}
 use Rattle.certificate.specs.Claims.{cells_of, most_cells, most_instances, node_keys, FitsAt, AreFrom, Belongs}
 use Rattle.cert_words.specs.Text.{inst_words, place_of, node_words, node_words_at}
@@ -34,7 +33,7 @@ use Rattle.cert_format.specs.LineLaws.{InstLines, NodeLines, IsInstanceOf}
 use Rattle.cert_format.specs.Reading.{entry_by, inst_by, node_by, last_in, is_inst_above, is_node_above, refused_entry, refused_inst, refused_node}
 use Rattle.cert_format.proofs.Items.{cells_more}
 use Rattle.cert_format.proofs.Lists.{Admitted, Steady, Spells, Reads, AllFrom, any_of_all, kept_by, admitted_by, is_after, sorted_push, sorted_at}
-use Rattle.cert_words.proofs.Places.{place_unique, contains_at, has_place}
+use Rattle.cert_words.proofs.AllLaws.{place_unique, contains_at, has_place}
 use Rattle.std.proofs.lemmas.Option.{slice_get_within}
 
 -- ---- a test before a fault

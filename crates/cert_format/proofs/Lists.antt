@@ -11,7 +11,7 @@ use Rattle.std.proofs.lemmas.List.{append-nil}
 use Rattle.sb_base.specs.Lines.{TextLine, Place, spaced}
 use Rattle.line_reading.specs.Reading.{then_at, line_by}
 use Rattle.line_reading.specs.Words.{whole, Passes}
-use Rattle.line_reading.proofs.Steps.{TakesLine, line_takes, line_again, passes_none, passes_more, passes_split, passes_end}
+use Rattle.line_reading.proofs.AllLaws.{TakesLine, line_takes, line_again, passes_none, passes_more, passes_split, passes_end}
 use Rattle.cert_format.specs.declared.fault.CertFault.{CertFault}
 use Rattle.cert_format.specs.Reading.{formed, unless, with_item, longer_at, items_from}
 

@@ -10,9 +10,9 @@ use Rattle.sb_base.specs.declared.digits.DigitFault.TheVariants.{WrongLength, Ba
 use Rattle.sb_base.specs.Lines.{Lacks}
 use Rattle.line_reading.specs.Reading.{word_at, is_over}
 use Rattle.line_reading.specs.Words.{IsWord}
-use Rattle.line_reading.proofs.Steps.{chosen, none_some, bind_some, no_words}
+use Rattle.line_reading.proofs.AllLaws.{chosen, none_some, bind_some, no_words}
 use Rattle.certificate.specs.Claims.{most_nodes}
-use Rattle.cert_words.proofs.Fields.{word_take}
+use Rattle.cert_words.proofs.AllLaws.{word_take}
 use Rattle.cert_format.specs.Reading.{counted, count_at, count_in}
 use Rattle.cert_format.specs.Refusals.{IsDecimal, AreNodes}
 

@@ -13,7 +13,7 @@ use Rattle.sb_base.specs.declared.digits.DigitFault.TheVariants.{WrongLength, Ba
 use Rattle.sb_base.specs.Lines.{TextLine, Place, Lacks, lines_of, words_of, spaced, line}
 use Rattle.line_reading.specs.Reading.{dec_at, word_at, is_over, number_and, this_by, line_by}
 use Rattle.line_reading.specs.Words.{IsWord, whole, sizes, Passes, WordLaws}
-use Rattle.line_reading.proofs.Steps.{chosen, some_is, none_some, bind_some, both, no_words, line_takes, line_again, passes_more, passes_split, sizes_append}
+use Rattle.line_reading.proofs.AllLaws.{chosen, some_is, none_some, bind_some, both, no_words, line_takes, line_again, passes_more, passes_split, sizes_append}
 use Rattle.witness_replay.specs.Spelling.{Plan, IsSchedule, schedule_lines, text_of as schedule_text}
 use Rattle.witness_replay.specs.Reading.{schedule_at}
 use Rattle.witness_replay.specs.Exact.{TextIsReading, ReadIsSpelled as ScheduleIsSpelled, SpelledIsRead as ScheduleIsRead}
@@ -22,8 +22,7 @@ use Rattle.cert_format.specs.declared.fault.CertFault.TheVariants as fault
 use Rattle.certificate.specs.Claims.{most_nodes}
 use Rattle.cert_words.specs.Text.{numbered, version, heading, open_line, attained_line, witness_lines, end_line}
 use Rattle.cert_format.specs.Reading.{formed, numbered_in, numbered_by, counted, count_at, count_in, count_by, limited, ending_by, items_from, heading_at, plan_if, witness_at, if_last, end_at}
-use Rattle.cert_words.proofs.Pieces.{tested}
-use Rattle.cert_words.proofs.Fields.{same_text, word_take, dec_take}
+use Rattle.cert_words.proofs.AllLaws.{tested, same_text, word_take, dec_take}
 use Rattle.cert_format.proofs.Lists.{ok_is, err_ok, then_ok, formed_ok, Admitted, Steady, Spells, Reads, as_words, items_take, items_again}
 
 -- ---- places

@@ -13,10 +13,10 @@ use Rattle.sb_base.specs.Answers.{Answers}
 use Rattle.sb_base.specs.Lines.{TextLine, Place, words_of, spaced}
 use Rattle.line_reading.specs.Reading.{first_by, this_by, line_by}
 use Rattle.line_reading.specs.Words.{IsWord, whole, Passes, WordLaws}
-use Rattle.line_reading.proofs.Steps.{passes_none, passes_more, line_takes, none_some, some_is}
+use Rattle.line_reading.proofs.AllLaws.{passes_none, passes_more, line_takes, none_some, some_is}
 use Rattle.vector_table.specs.Entries.{AreEntries, is_above_last, most_entries}
 use Rattle.indirect_targets.specs.Spelling.{entry_words}
-use Rattle.indirect_targets.proofs.Lists.{none_are_entries}
+use Rattle.indirect_targets.proofs.AllLaws.{none_are_entries}
 use Rattle.mask_states.specs.declared.keys.NodeKey.{NodeKey}
 use Rattle.mask_states.specs.declared.keys.InstKey.{InstKey}
 use Rattle.mask_states.specs.Keys.{offset_of}
@@ -32,8 +32,8 @@ use Rattle.certificate.specs.Claims.{Claim, IsClaim, IsCertificate, most_instanc
 use Rattle.cert_words.specs.Text.{numbered, version, heading, entry_lines, inst_lines, node_lines, inst_words, node_words, open_line, attained_line, witness_lines, end_line, front_lines}
 use Rattle.cert_format.specs.declared.fault.CertFault.{CertFault}
 use Rattle.cert_format.specs.declared.fault.CertFault.TheVariants as fault
-use Rattle.cert_format.specs.declared.fault.Limit.{Limit}
-use Rattle.cert_format.specs.declared.fault.Limit.TheVariants as limit
+use Rattle.certificate.specs.declared.limit.Limit.{Limit}
+use Rattle.certificate.specs.declared.limit.Limit.TheVariants as limit
 use Rattle.cert_format.specs.Reading.{entry_by, inst_by, node_by, numbered_in, numbered_by, count_in, count_by, ending_by, formed, limited, last_in, is_inst_above, is_node_above, refused_entry, refused_inst, refused_node, heading_at, entries_at, insts_at, nodes_at, plan_if, witness_at, if_last, end_at, claim_at, claim_alone, certificate_in}
 use Rattle.cert_format.specs.Refusals.{Part, Version, Bound, Assume, AnEntry, Instances, AnInst, Nodes, ANode, Ending, End, Nothing, Stands, IsNext, IsNumbered, AreNodes, IsLow, IsTooMuch, IsStopped, IsRefused, IsDue, IsDueUnlessMemory, ReadIsDue, start}
 use Rattle.cert_format.proofs.Numbers.{decimal_word, nodes_count, too_many}

@@ -3,7 +3,7 @@ use Rattle.std.proofs.Common.{ℕ, zero, suc, ◌<◌, ◌≡◌, List, [], ◌�
 use Rattle.sb_base.specs.Lines.{TextLine, Place, spaced}
 use Rattle.line_reading.specs.Reading.{then_at, first_by, line_by}
 use Rattle.line_reading.specs.Words.{whole, Passes}
-use Rattle.line_reading.proofs.Steps.{none_some, line_takes, line_refuses, passes_none, passes_more}
+use Rattle.line_reading.proofs.AllLaws.{none_some, line_takes, line_refuses, passes_none, passes_more}
 use Rattle.cert_format.specs.declared.fault.CertFault.{CertFault}
 use Rattle.cert_format.specs.declared.fault.CertFault.TheVariants as fault
 use Rattle.cert_format.specs.Reading.{formed, unless, with_item, longer_at, items_from}

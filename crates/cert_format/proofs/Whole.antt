@@ -13,7 +13,7 @@ use Rattle.line_reading.specs.Words.{IsWord, WordLaws}
 use Rattle.vector_table.specs.Entries.{AreEntries, most_entries}
 use Rattle.indirect_targets.specs.Spelling.{entry_words}
 use Rattle.indirect_targets.specs.Exact.{EntryWords}
-use Rattle.indirect_targets.proofs.Entries.{entry_is_words}
+use Rattle.indirect_targets.proofs.AllLaws.{entry_is_words}
 use Rattle.mask_states.specs.Order.{inst_cmp}
 use Rattle.mask_states.specs.Laws.{KeysAreOrdered}
 use Rattle.edge_rules.specs.Expansion.{Seeds}

@@ -21,7 +21,7 @@ use Rattle.witness_replay.specs.Spelling.{Plan}
 use Rattle.witness_replay.specs.Reading.{schedule_at}
 use Rattle.certificate.specs.declared.instance.Inst.{Inst}
 use Rattle.certificate.specs.Claims.{Claim, most_instances, most_nodes, most_cells, cells_of, node_keys}
-use Rattle.cert_format.specs.declared.fault.Limit.TheVariants as limit
+use Rattle.certificate.specs.declared.limit.Limit.TheVariants as limit
 use Rattle.cert_format.specs.declared.fault.CertFault.{CertFault}
 use Rattle.cert_format.specs.declared.fault.CertFault.TheVariants as fault
 use Rattle.cert_format.specs.LineReading.{inst_in, node_in}

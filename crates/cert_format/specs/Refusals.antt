@@ -18,8 +18,8 @@ use Rattle.certificate.specs.declared.instance.Inst.{Inst}
 use Rattle.certificate.specs.Insts.{IsInst, inst_keys}
 use Rattle.certificate.specs.Claims.{Claim, IsClaim, IsCertificate, FitsAt, Belongs, most_instances, most_nodes, most_cells, cells_of, node_keys}
 use Rattle.cert_words.specs.Text.{numbered, version, heading, entry_lines, inst_lines, inst_words, node_words, open_line, attained_line, witness_lines, end_line, front_lines, certificate_lines, text_of}
-use Rattle.cert_format.specs.declared.fault.Limit.{Limit}
-use Rattle.cert_format.specs.declared.fault.Limit.TheVariants as limit
+use Rattle.certificate.specs.declared.limit.Limit.{Limit}
+use Rattle.certificate.specs.declared.limit.Limit.TheVariants as limit
 use Rattle.cert_format.specs.declared.fault.CertFault.{CertFault}
 use Rattle.cert_format.specs.declared.fault.CertFault.TheVariants as fault
 use Rattle.cert_format.specs.Reading.{certificate_in}

@@ -1,17 +1,9 @@
 //! Why a text is no certificate.
 
+use certificate::Limit;
 use line_reading::Malformed;
 use std::alloc::AllocError;
 use thiserror::Error;
-
-/// What a certificate may have only so many of.
-#[derive(Clone, Copy, Debug, PartialEq, Eq)]
-pub enum Limit {
-    /// 65,536 nodes.
-    Nodes,
-    /// 8,388,608 cells, of which a node takes one and one more for each byte of its offset.
-    Cells,
-}
 
 /// Why a text is no certificate, or isn't read. The places are offsets of lines.
 #[derive(Clone, Copy, Debug, PartialEq, Eq, Drop, Error)]

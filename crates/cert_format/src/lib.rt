@@ -7,8 +7,8 @@ mod lines;
 mod reading;
 
 pub use cert_writing::{write, write_inst_key, write_key};
-pub use certificate::{Certificate, Inst};
-pub use fault::{CertFault, Limit};
+pub use certificate::{Certificate, Inst, Limit};
+pub use fault::CertFault;
 pub use reading::read;
 
 #[cfg(test)]

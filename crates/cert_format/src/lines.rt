@@ -7,6 +7,7 @@ ghost use Rattle.sb_base.specs.Lines.{words_of};
 ghost use Rattle.mask_states.specs.Keys.{offset_of};
 ghost use Rattle.cert_format.specs.LineReading.{inst_in, place_at, whole_key_at, node_in};
 
+use avr_model::device;
 use cert_words::{form_of, inst_key_of, is_root, node_key_of};
 use certificate::Inst;
 use edge_rules::NodeForm;
@@ -16,7 +17,7 @@ use sb_base::Words;
 use std::alloc::{AllocError, Global};
 
 /// The most that a need can be.
-const SIZE: u64 = 2_048;
+const SIZE: u64 = device::SIZE as u64;
 
 /// The instance of a line.
 #[tactic(auto, unfolding(crate::specs::LineReading::inst_in))]

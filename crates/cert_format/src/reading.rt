@@ -16,10 +16,11 @@ ghost use Rattle.cert_words.specs.Text.{text_of};
 ghost use Rattle.cert_format.specs.Reading.{formed, numbered_in, numbered_by, counted, count_at, count_in, count_by, entry_by, inst_by, node_by, ending_by, last_in, is_inst_above, is_node_above, refused_entry, refused_inst, refused_node, with_item, longer_at, items_from, heading_at, entries_at, insts_at, limited, nodes_at, plan_if, witness_at, if_last, end_at, claim_at, claim_alone, certificate_in};
 ghost use Rattle.cert_format.specs.Refusals.{IsDueUnlessMemory};
 
-use crate::fault::{CertFault, Limit};
+use crate::fault::CertFault;
 use crate::laws::{certificate_texts, claims_keep};
 use crate::lines::{instance_of, node_of};
-use certificate::{Certificate, Inst};
+use avr_model::device;
+use certificate::{Certificate, Inst, Limit};
 use edge_rules::NodeForm;
 use indirect_targets::entry_of;
 use line_reading::{
@@ -32,7 +33,7 @@ use vector_table::{AssumeFault, Assumptions, Entry};
 use witness_replay::{Schedule, ScheduleFault};
 
 /// The bytes of SRAM, which are the most that a bound can be.
-const SIZE: u64 = 2_048;
+const SIZE: u64 = device::SIZE as u64;
 
 /// The most assumptions.
 const MOST_ENTRIES: u64 = 4_096;

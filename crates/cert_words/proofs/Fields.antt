@@ -9,7 +9,7 @@ use Rattle.std.proofs.lemmas.Slice.Eq.{bytes_eq-Decides}
 use Rattle.sb_base.specs.Digits.{hex_digits}
 use Rattle.line_reading.specs.Reading.{hex_at, dec_at, word_at}
 use Rattle.line_reading.specs.Words.{IsWord, WordLaws}
-use Rattle.line_reading.proofs.Steps.{some_is, none_some, bind_some, cons_is}
+use Rattle.line_reading.proofs.AllLaws.{some_is, none_some, bind_some, cons_is}
 use Rattle.witness_replay.specs.Spelling.{bit}
 use Rattle.cert_words.specs.KeyReading.{word_by, words_from, masks_at, flag_at}
 use Rattle.cert_words.proofs.Pieces.{map_some, tested}

@@ -10,7 +10,7 @@ use Rattle.avr_model.specs.Vectors.{vector_word}
 use Rattle.sb_base.specs.Digits.{hex_digits}
 use Rattle.line_reading.specs.Reading.{hex_at, dec_at}
 use Rattle.line_reading.specs.Words.{IsWord, WordLaws}
-use Rattle.line_reading.proofs.Steps.{chosen, some_is, none_some, bind_some, both, cons_is}
+use Rattle.line_reading.proofs.AllLaws.{chosen, some_is, none_some, bind_some, both, cons_is}
 use Rattle.witness_replay.specs.Spelling.{bit}
 use Rattle.mask_states.specs.declared.keys.Kind.{Kind}
 use Rattle.mask_states.specs.declared.keys.Kind.TheVariants.{Root, Call, Vector}

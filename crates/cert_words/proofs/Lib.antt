@@ -6,3 +6,4 @@ pub mod InstKeys
 pub mod NodeKeys
 pub mod States
 pub mod Places
+pub mod AllLaws

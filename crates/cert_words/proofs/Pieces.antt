@@ -11,7 +11,7 @@ use Rattle.sb_base.specs.Digits.{hex_digits, hex_digit, hex_answer}
 use Rattle.sb_base.specs.declared.digits.DigitFault.{DigitFault}
 use Rattle.line_reading.specs.Reading.{number_and, dec_at}
 use Rattle.line_reading.specs.Words.{WordLaws}
-use Rattle.line_reading.proofs.Steps.{chosen, some_is, none_some, bind_some, cons_is}
+use Rattle.line_reading.proofs.AllLaws.{chosen, some_is, none_some, bind_some, cons_is}
 use Rattle.std.specs.Fmt.{decimal}
 use Rattle.bit_domain.specs.declared.bytes.TriByte.{TriByte}
 use Rattle.bit_domain.specs.TriByte.{tri_of}

@@ -12,7 +12,7 @@ use Rattle.avr_model.specs.State.{SIZE}
 use Rattle.sb_base.specs.Digits.{hex_digits}
 use Rattle.sb_base.specs.Lines.{Lacks}
 use Rattle.line_reading.specs.Words.{WordLaws, IsWord}
-use Rattle.line_reading.proofs.Steps.{chosen, some_is, none_some, bind_some, both}
+use Rattle.line_reading.proofs.AllLaws.{chosen, some_is, none_some, bind_some, both}
 use Rattle.bit_domain.specs.declared.bits.Tri.TheVariants.{Zero, One, Any}
 use Rattle.bit_domain.specs.declared.bytes.TriByte.{TriByte}
 use Rattle.bit_domain.specs.TriByte.{tri_of, tri_at}

@@ -10,13 +10,11 @@ ghost use Rattle.cert_words.specs.KeyReading.{word_by, masks_at, flag_at, vector
 
 use crate::letters::Letters;
 use crate::values::form_of;
+use avr_model::device::WORDS;
 use line_reading::{dec_word, hex_word};
 use mask_states::{InstKey, Kind, NodeKey, SpForm};
 use sb_base::{Words, read_dec};
 use vector_table::Masks;
-
-/// Flash has so many words.
-const WORDS: u16 = 0x4000;
 
 /// Enable bits.
 #[tactic(auto, unfolding(crate::specs::KeyReading::masks_at))]

@@ -9,13 +9,14 @@ ghost use Rattle.cert_words.specs.Reading.{bits_at, register_at, tag_by, tag_at,
 
 use crate::letters::Letters;
 use abs_state::AbsByte;
+use avr_model::device;
 use bit_domain::TriByte;
 use mask_states::{High, SpForm};
 use sb_base::read_dec;
 use sp_domain::{CarryTag, Slot, Tag};
 
 /// The most that an offset can be.
-const SIZE: u64 = 2_048;
+const SIZE: u64 = device::SIZE as u64;
 
 /// Known bits and their values.
 #[tactic(auto, unfolding(crate::specs::Reading::bits_at))]

@@ -6,7 +6,7 @@ use Rattle.std.specs.List.{AllByRecursion}
 use Rattle.std.specs.List.Sorted.{IsStrictlySortedBy}
 use Rattle.std.proofs.lemmas.Bool.Decides.{nat_tests}
 use Rattle.std.proofs.lemmas.Option.{slice_get_within, slice_get_read}
-use Rattle.line_reading.proofs.Steps.{some_is}
+use Rattle.line_reading.proofs.AllLaws.{some_is}
 use Rattle.mask_states.specs.declared.keys.InstKey.{InstKey}
 use Rattle.mask_states.specs.declared.keys.NodeKey.{NodeKey}
 use Rattle.mask_states.specs.Order.{inst_cmp}
@@ -17,7 +17,7 @@ use Rattle.certificate.specs.declared.instance.Inst.{Inst}
 use Rattle.certificate.specs.Insts.{inst_keys}
 use Rattle.certificate.specs.Claims.{Belongs, node_keys}
 use Rattle.cert_words.specs.Text.{place_of}
-use Rattle.cert_words.proofs.Places.{place_unique, has_place}
+use Rattle.cert_words.proofs.AllLaws.{place_unique, has_place}
 use Rattle.cert_writing.specs.Places.{IsAt, IsNowhereFrom}
 
 abbrev pub NoneBefore : List Inst → InstKey → ℕ → ℕ → Type 0

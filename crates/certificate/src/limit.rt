@@ -1,7 +1,7 @@
 //! The limits of certificates. Source: own.
 
 /// What a certificate has too many of.
-#[derive(Clone, Copy, PartialEq, Eq, Drop)]
+#[derive(Clone, Copy, Debug, PartialEq, Eq, Drop)]
 pub enum Limit {
     /// Nodes: more than 65,536.
     Nodes,

@@ -13,9 +13,9 @@ use Rattle.bit_domain.specs.declared.bits.Tri.TheVariants.{Zero, One, Any}
 use Rattle.bit_domain.specs.declared.bytes.TriByte.{TriByte}
 use Rattle.bit_domain.specs.Tri.{Permits}
 use Rattle.bit_domain.specs.TriByte.{tri_at, IsWithin}
-use Rattle.bit_domain.specs.Numbers.{with_top, numbers_of, IsPermitted}
+use Rattle.bit_domain.specs.Numbers.{with_top, numbers_of, pointer_bit, IsPermitted}
 use Rattle.bit_domain.specs.Laws.{BytesAreSets, NumbersArePermitted}
-use Rattle.indirect_targets.specs.Targets.{pointer_bit, most_targets, Keeps, IsGiven, TargetsAreThoseOfMembers}
+use Rattle.indirect_targets.specs.Targets.{most_targets, Keeps, IsGiven, TargetsAreThoseOfMembers}
 
 -- ---- bits of a pointer
 

@@ -5,14 +5,13 @@ use Rattle.avr_model.specs.Vectors.{has_enables}
 use Rattle.avr_model.specs.declared.assumption.Entry.{Entry}
 use Rattle.avr_model.specs.declared.assumption.Entry.TheVariants.{Jump, Store, Prove}
 use Rattle.bit_domain.specs.declared.bits.Tri.TheVariants.{Zero, Any}
-use Rattle.bit_domain.specs.Numbers.{numbers_of}
+use Rattle.bit_domain.specs.Numbers.{numbers_of, targets_of}
 use Rattle.bit_domain.specs.Packed.{packed}
 use Rattle.bit_domain.specs.TriByte.{byte_of, byte_known, byte_any}
 use Rattle.sb_base.specs.Digits.{hex_digits}
 use Rattle.indirect_targets.specs.declared.fault.AssumeText.TheVariants.{Malformed, Order}
 use Rattle.indirect_targets.specs.Spelling.{text_of}
 use Rattle.indirect_targets.specs.Reading.{numbered_in, entry_in, next_by, with_line, entries_from, entries_in}
-use Rattle.indirect_targets.specs.Targets.{targets_of}
 
 -- lines with their line feeds
 abbrev text : List (List ℕ) → List ℕ

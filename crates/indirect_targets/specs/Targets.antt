@@ -1,20 +1,11 @@
 -- The words to which an indirect transfer may lead: those of all members of its pointer, of which the program counter takes
 -- the low 14 bits. Source: own; the pointer and the program counter are those of the Instruction Set Manual.
-use Rattle.std.specs.Prelude.{ℕ, ◌≡◌, ◌≤◌, ◌<◌, ◌+◌, ◌-◌, ◌*◌, ◌%◌, ◌^◌, ◌↔◌, nat_lt, List, length, Contains, Result, Ok, Err, if◌then◌else◌}
+use Rattle.std.specs.Prelude.{ℕ, ◌≡◌, ◌≤◌, ◌<◌, ◌+◌, ◌*◌, ◌%◌, ◌^◌, ◌↔◌, List, length, Contains, Result, Ok, Err}
 use Rattle.std.specs.List.Sorted.{IsStrictlySortedBy}
 use Rattle.std.specs.Ordering.{nat_cmp}
-use Rattle.bit_domain.specs.declared.bits.Tri.{Tri}
 use Rattle.bit_domain.specs.declared.bytes.TriByte.{TriByte}
-use Rattle.bit_domain.specs.TriByte.{tri_at, Has, IsWithin}
-use Rattle.bit_domain.specs.Numbers.{numbers_of, count_unknown}
-
--- bit i of a pointer
-abbrev pub pointer_bit : TriByte → TriByte → ℕ → Tri
-pointer_bit lo hi i = if nat_lt i 8 then tri_at lo i else tri_at hi (i - 8)
-
--- the words that the low 14 bits permit, in ascending order
-abbrev pub targets_of : TriByte → TriByte → List ℕ
-targets_of lo hi = numbers_of (pointer_bit lo hi) 14
+use Rattle.bit_domain.specs.TriByte.{Has, IsWithin}
+use Rattle.bit_domain.specs.Numbers.{pointer_bit, targets_of, count_unknown}
 
 abbrev pub most_targets : ℕ
 most_targets = 64

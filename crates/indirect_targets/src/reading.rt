@@ -18,6 +18,7 @@ ghost use Rattle.indirect_targets.specs.Reading.{numbers_in, listed_in, alone_in
 use crate::fault::AssumeText;
 use crate::laws::reading_is_exact;
 use avr_model::assumption::{Entry, Items};
+use avr_model::device::WORDS;
 use line_reading::{hex_word, is_over};
 use sb_base::{LineReader, Words, read_hex};
 use std::alloc::{AllocError, Global};
@@ -28,9 +29,6 @@ const MOST_ENTRIES: usize = 4_096;
 
 /// The most items of an entry.
 const MOST_ITEMS: usize = 64;
-
-/// Flash has so many words.
-const WORDS: u16 = 0x4000;
 
 /// The numbers of all words that are left, in four digits each. None where a word is no such number.
 #[tactic(auto, using(crate::proofs::Numbers::numbers_more, crate::proofs::Numbers::no_number, crate::proofs::Numbers::numbers_end))]

@@ -1,8 +1,9 @@
 //! The words to which an indirect transfer may lead.
 
 ghost use Rattle.std.specs.Prelude.{◌≡◌, ◌≤◌, ◌<◌, ◌↔◌, length, IfOk, IsOk, IsErr};
-ghost use Rattle.indirect_targets.specs.Targets as specs;
-ghost use Rattle.indirect_targets.specs.Targets.{targets_of, most_targets, Keeps};
+ghost use Rattle.bit_domain.specs.Numbers as numbers;
+ghost use Rattle.bit_domain.specs.Numbers.{targets_of};
+ghost use Rattle.indirect_targets.specs.Targets.{most_targets, Keeps};
 
 use crate::target_list::{Targets, TooMany};
 use bit_domain::laws::numbers_are_permitted;
@@ -11,7 +12,7 @@ use bit_domain::{Tri, TriByte};
 /// Bit `i`, from 0 to 13, of the pointer with these bytes.
 fn pointer_bit(lo: &TriByte, hi: &TriByte, i: u8) -> Tri
     requires { i < 14 }
-    ensures { result ≡ specs.pointer_bit lo.now hi.now i }
+    ensures { result ≡ numbers.pointer_bit lo.now hi.now i }
 {
     if i < 8 { lo.bit(i) } else { hi.bit(i - 8) }
 }

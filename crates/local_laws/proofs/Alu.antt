@@ -31,10 +31,7 @@ use Rattle.abs_alu.specs.Sums.{abs_add, abs_sub}
 use Rattle.abs_alu.specs.Bitwise.{abs_logic, abs_com, abs_step_one, abs_shift}
 use Rattle.abs_alu.specs.Product.{abs_mul}
 use Rattle.abs_alu.specs.Words.{abs_wide}
-use Rattle.abs_alu.proofs.SumCover.{all_sums_cover}
-use Rattle.abs_alu.proofs.BitwiseCover.{all_bitwise_cover}
-use Rattle.abs_alu.proofs.ProductCover.{all_products_cover}
-use Rattle.abs_alu.proofs.WordCover.{all_words_cover}
+use Rattle.abs_alu.proofs.AllLaws.{all_sums_cover, all_bitwise_cover, all_products_cover, all_words_cover}
 use Rattle.sp_domain.specs.declared.tags.Tag.{Tag}
 use Rattle.sp_domain.specs.declared.tags.Tag.TheVariants as tag
 use Rattle.sp_domain.specs.declared.tags.CarryTag.{CarryTag}

@@ -1,5 +1,5 @@
 -- The table of instructions, row by row: calls lead to words, and returns are at the frame's base.
-use Rattle.std.proofs.Common.{◌≡◌, refl, sym, subst, ℕ, zero, suc, ◌-◌, ◌<◌, ◌==◌, Bool, true, false, List, [], ◌∷◌, map, filter, length, Option, Some, None, if◌then◌else◌, nat_lt, nat_le, Contains, arith}
+use Rattle.std.proofs.Common.{◌≡◌, refl, sym, subst, ℕ, zero, suc, ◌<◌, ◌==◌, Bool, true, false, List, [], ◌∷◌, map, filter, length, Option, Some, None, if◌then◌else◌, nat_le, Contains, arith}
 use Rattle.std.proofs.lemmas.Bool.Decides.{nat_tests}
 use Rattle.std.proofs.lemmas.Map.Views.{Contains-from_any}
 use Rattle.avr_model.specs.declared.assumption.Entry.{Entry}
@@ -10,10 +10,10 @@ use Rattle.avr_model.specs.Image.{WORDS}
 use Rattle.avr_model.specs.Text.{far, near}
 use Rattle.avr_model.specs.Sites.{instruction_at, is_scratch, base_register, pointer_register}
 use Rattle.avr_model.specs.Effects.{port}
-use Rattle.bit_domain.specs.declared.bits.Tri.{Tri}
 use Rattle.bit_domain.specs.TriByte.{tri_at}
 use Rattle.bit_domain.specs.Tri.{tri_not}
 use Rattle.bit_domain.specs.Logic.{byte_equal}
+use Rattle.bit_domain.specs.Numbers.{pointer_bit, targets_of}
 use Rattle.bit_domain.proofs.AllLaws.{numbers_are_permitted}
 use Rattle.vector_table.specs.Entries.{AreEntries}
 use Rattle.abs_state.specs.declared.state.AbsState.{AbsState}
@@ -28,7 +28,7 @@ use Rattle.local_rules.specs.Raw.{enters, fails, next, at_word, further, leaves_
 use Rattle.local_rules.specs.declared.local.NodeFault.TheVariants.{UnresolvedJump}
 use Rattle.local_rules.specs.Registers.{bits, value, binary_after}
 use Rattle.local_rules.specs.Reads.{read_at, pointed, read_pointed}
-use Rattle.local_rules.specs.Flow.{flag_at, words_of, targets_by, targets_at, is_half_written, site, calling, indirect_call, relative_call, at_closed, returning, ret_exit, reti_exit, pushing, popping, making_room}
+use Rattle.local_rules.specs.Flow.{flag_at, targets_by, targets_at, is_half_written, site, calling, indirect_call, relative_call, at_closed, returning, ret_exit, reti_exit, pushing, popping, making_room}
 use Rattle.local_rules.specs.Local.{step_before, pointer_moved, row_of, row_at, is_hung, raw}
 use Rattle.local_laws.proofs.Members.{none_in, each_of, each_in_map, filter_passes}
 use Rattle.local_laws.specs.Laws.{LocalPartsFit}
@@ -114,10 +114,10 @@ far_small pc t = omega arith
 module _ (words : List ℕ) (A : List Entry) (k : NodeKey) (s : AbsState) where
   all_words : (targets : List ℕ) → targets_at A k s ≡ Some targets → AreTargets A targets
   all_words targets e =
-      let f : ℕ → Tri = λ n. if nat_lt n 8 then tri_at (bits s 30) n else tri_at (bits s 31) (n - 8) in
+      let f = pointer_bit (bits s 30) (bits s 31) in
       record {
-        small = targets_small (jump_line A k.pc) (words_of (bits s 30) (bits s 31)) targets (λ z h. ((numbers_are_permitted.members f 14 z).0 h).small) e;
-        ascending = λ entries. site_targets_ascend A k.pc (words_of (bits s 30) (bits s 31)) targets entries (numbers_are_permitted.ascending f 14) e;
+        small = targets_small (jump_line A k.pc) (targets_of (bits s 30) (bits s 31)) targets (λ z h. ((numbers_are_permitted.members f 14 z).0 h).small) e;
+        ascending = λ entries. site_targets_ascend A k.pc (targets_of (bits s 30) (bits s 31)) targets entries (numbers_are_permitted.ascending f 14) e;
       }
 
   row_fits : (scratch : Bool) (instr : Instr) → InstrFits instr → IsFit A k (row_of words A scratch k s instr)

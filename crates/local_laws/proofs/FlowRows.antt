@@ -16,6 +16,7 @@ use Rattle.bit_domain.specs.declared.bits.Tri.{Tri}
 use Rattle.bit_domain.specs.declared.bits.Tri.TheVariants.{Zero, One, Any}
 use Rattle.bit_domain.specs.Tri.{Permits, tri_not}
 use Rattle.bit_domain.specs.TriByte.{tri_at}
+use Rattle.bit_domain.specs.Numbers.{targets_of}
 use Rattle.sp_domain.specs.Tags.{Origin}
 use Rattle.abs_state.specs.declared.state.AbsState.{AbsState}
 use Rattle.mask_states.specs.declared.keys.NodeKey.{NodeKey}
@@ -26,7 +27,7 @@ use Rattle.mask_states.specs.declared.keys.SpForm.TheVariants.{Closed, Open}
 use Rattle.local_rules.specs.declared.local.Exit.{Exit}
 use Rattle.local_rules.specs.Raw.{Raw, untracked_if, at_word, going_to as node_going_to, further as node_further}
 use Rattle.local_rules.specs.Registers.{bits}
-use Rattle.local_rules.specs.Flow.{branch, skipping as node_skipping, flag_at, words_of, targets_by, jumping, is_half_written, at_closed, calling as node_calling, indirect_call, site, returning as node_returning, ret_exit, reti_exit}
+use Rattle.local_rules.specs.Flow.{branch, skipping as node_skipping, flag_at, targets_by, jumping, is_half_written, at_closed, calling as node_calling, indirect_call, site, returning as node_returning, ret_exit, reti_exit}
 use Rattle.local_rules.specs.Cover.{InFrame, Follows, stays, calls, leaves, IsReturn}
 use Rattle.local_laws.proofs.Bits.{permits_flag, with_bit_same, with_bit_7_low}
 use Rattle.local_laws.proofs.Frame.{first, second, only, goes_to}
@@ -94,24 +95,24 @@ module _ (m : State) (o : Origin) (k : NodeKey) (s : AbsState) (at : InFrame m o
 
   -- ---- indirect transfers
 
-  target_has : Contains (words_of (bits s 30) (bits s 31)) (pair m 30 % WORDS)
+  target_has : Contains (targets_of (bits s 30) (bits s 31)) (pair m 30 % WORDS)
   target_has =
       word_permitted (bits s 30) (bits s 31) (register m 30) (register m 31) (register_byte m o k s at 30) (register_byte m o k s at 31)
       (register_bits m o k s at 30) (register_bits m o k s at 31)
 
-  jump_by : (line : Option (List ℕ)) (found : Option (List ℕ)) → targets_by line (words_of (bits s 30) (bits s 31)) ≡ found → unless_listed line (pair m 30 % WORDS) ≡ None
+  jump_by : (line : Option (List ℕ)) (found : Option (List ℕ)) → targets_by line (targets_of (bits s 30) (bits s 31)) ≡ found → unless_listed line (pair m 30 % WORDS) ≡ None
       → (jumping found k s).faults ≡ [] → Follows m o k guarded b1 b2 (going_to m (pair m 30 % WORDS)) (jumping found k s)
   jump_by line None e unflagged none = absurd (cc)
   jump_by line (Some targets) e unflagged none =
       stays (record { key = at_word k (pair m 30 % WORDS); state = s })
-      (in_map (λ t. record { key = at_word k t; state = s }) (pair m 30 % WORDS) targets (targets_have line (words_of (bits s 30) (bits s 31)) targets (pair m 30 % WORDS) e target_has unflagged))
+      (in_map (λ t. record { key = at_word k t; state = s }) (pair m 30 % WORDS) targets (targets_have line (targets_of (bits s 30) (bits s 31)) targets (pair m 30 % WORDS) e target_has unflagged))
       refl (goes_to m o k s at guarded (pair m 30 % WORDS) (pair m 30 % WORDS) refl)
 
   pub ijmp_covered : (A : List Entry) → unless_listed (jump_line A m.pc) (pair m 30 % WORDS) ≡ None
-      → (jumping (targets_by (jump_line A k.pc) (words_of (bits s 30) (bits s 31))) k s).faults ≡ []
-      → Follows m o k guarded b1 b2 (going_to m (pair m 30 % WORDS)) (jumping (targets_by (jump_line A k.pc) (words_of (bits s 30) (bits s 31))) k s)
+      → (jumping (targets_by (jump_line A k.pc) (targets_of (bits s 30) (bits s 31))) k s).faults ≡ []
+      → Follows m o k guarded b1 b2 (going_to m (pair m 30 % WORDS)) (jumping (targets_by (jump_line A k.pc) (targets_of (bits s 30) (bits s 31))) k s)
   ijmp_covered A unflagged none =
-      jump_by (jump_line A k.pc) (targets_by (jump_line A k.pc) (words_of (bits s 30) (bits s 31))) refl
+      jump_by (jump_line A k.pc) (targets_by (jump_line A k.pc) (targets_of (bits s 30) (bits s 31))) refl
       (subst (λ pc. unless_listed (jump_line A pc) (pair m 30 % WORDS) ≡ None) at.place.pc unflagged) none
 
   -- ---- calls
@@ -128,19 +129,19 @@ module _ (m : State) (o : Origin) (k : NodeKey) (s : AbsState) (at : InFrame m o
       unless_open k.sp k.pc _ (calling m target back) none
       (λ offset form free. calls offset (site target' back') (in_map (λ t. site t back') target' targets has) form guards (ap₂ (calling m) is is'))
 
-  icall_by : (line : Option (List ℕ)) (found : Option (List ℕ)) → guarded ≡ true → targets_by line (words_of (bits s 30) (bits s 31)) ≡ found
+  icall_by : (line : Option (List ℕ)) (found : Option (List ℕ)) → guarded ≡ true → targets_by line (targets_of (bits s 30) (bits s 31)) ≡ found
       → unless_listed line (pair m 30 % WORDS) ≡ None → (indirect_call found k).faults ≡ []
       → Follows m o k guarded b1 b2 (calling m (pair m 30 % WORDS) (further m 1)) (indirect_call found k)
   icall_by line None guards e unflagged none = unless_open k.sp k.pc _ _ none (λ offset form wrong. absurd (cc))
   icall_by line (Some targets) guards e unflagged none =
       call_covered (pair m 30 % WORDS) (pair m 30 % WORDS) (further m 1) (node_further k 1) targets guards refl (further_is 1)
-      (targets_have line (words_of (bits s 30) (bits s 31)) targets (pair m 30 % WORDS) e target_has unflagged) none
+      (targets_have line (targets_of (bits s 30) (bits s 31)) targets (pair m 30 % WORDS) e target_has unflagged) none
 
   pub icall_covered : (A : List Entry) → guarded ≡ true → unless_listed (jump_line A m.pc) (pair m 30 % WORDS) ≡ None
-      → (indirect_call (targets_by (jump_line A k.pc) (words_of (bits s 30) (bits s 31))) k).faults ≡ []
-      → Follows m o k guarded b1 b2 (calling m (pair m 30 % WORDS) (further m 1)) (indirect_call (targets_by (jump_line A k.pc) (words_of (bits s 30) (bits s 31))) k)
+      → (indirect_call (targets_by (jump_line A k.pc) (targets_of (bits s 30) (bits s 31))) k).faults ≡ []
+      → Follows m o k guarded b1 b2 (calling m (pair m 30 % WORDS) (further m 1)) (indirect_call (targets_by (jump_line A k.pc) (targets_of (bits s 30) (bits s 31))) k)
   icall_covered A guards unflagged none =
-      icall_by (jump_line A k.pc) (targets_by (jump_line A k.pc) (words_of (bits s 30) (bits s 31))) guards refl
+      icall_by (jump_line A k.pc) (targets_by (jump_line A k.pc) (targets_of (bits s 30) (bits s 31))) guards refl
       (subst (λ pc. unless_listed (jump_line A pc) (pair m 30 % WORDS) ≡ None) at.place.pc unflagged) none
 
   -- ---- returns

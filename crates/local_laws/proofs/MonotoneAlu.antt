@@ -25,7 +25,7 @@ use Rattle.sp_domain.proofs.AllLaws.{tag_arithmetic_is_monotone}
 use Rattle.abs_alu.specs.Flags.{tri_flags, flag_bit}
 use Rattle.abs_alu.specs.Product.{product_of_constants}
 use Rattle.abs_alu.specs.Words.{abs_wide}
-use Rattle.abs_alu.proofs.Monotone.{all_are_monotone}
+use Rattle.abs_alu.proofs.AllLaws.{all_are_monotone}
 use Rattle.abs_state.specs.declared.values.AbsByte.{AbsByte}
 use Rattle.abs_state.specs.declared.values.AbsFlags.{AbsFlags}
 use Rattle.abs_state.specs.declared.state.AbsState.{AbsState}

@@ -15,7 +15,7 @@ use Rattle.bit_domain.specs.declared.bits.Tri.TheVariants.{Zero, One, Any}
 use Rattle.bit_domain.specs.declared.bytes.TriByte.{TriByte}
 use Rattle.bit_domain.specs.Tri.{IsTriWithin}
 use Rattle.bit_domain.specs.TriByte.{tri_at, IsWithin}
-use Rattle.bit_domain.specs.Numbers.{numbers_of, one_if_any, count_unknown}
+use Rattle.bit_domain.specs.Numbers.{numbers_of, pointer_bit, targets_of, one_if_any, count_unknown}
 use Rattle.bit_domain.proofs.AllLaws.{numbers_are_permitted}
 use Rattle.sp_domain.specs.declared.slots.Slot.{Slot}
 use Rattle.sp_domain.specs.declared.slots.Slot.TheVariants.{Free}
@@ -35,7 +35,7 @@ use Rattle.local_rules.specs.declared.local.NodeFault.TheVariants.{UnresolvedJum
 use Rattle.local_rules.specs.Raw.{Raw, moves_to, fails, enters, untracked_if, at_word, further, next}
 use Rattle.local_rules.specs.Registers.{value, bits, set}
 use Rattle.local_rules.specs.Reads.{value_of}
-use Rattle.local_rules.specs.Flow.{branch, skipping, flag_at, words_of, targets_by, targets_at, jumping, is_half_written, at_closed, pushed_slot, pushing, popping, making_room, site, calling, indirect_call, relative_call, returning}
+use Rattle.local_rules.specs.Flow.{branch, skipping, flag_at, targets_by, targets_at, jumping, is_half_written, at_closed, pushed_slot, pushing, popping, making_room, site, calling, indirect_call, relative_call, returning}
 use Rattle.local_laws.proofs.Members.{in_map, each_in_map, filter_more, filter_passes, not_empty, any_more}
 use Rattle.local_laws.proofs.MonotoneValues.{IsLess, IsSlotLess, AreSlotsLess, IsStateLess, free_less, any_bit_within, registers_set}
 use Rattle.local_laws.proofs.MonotoneRaw.{IsKey, LeadsLess, fails_less, untracked_less, several_less, one_less, choose, choose_more, choose_each, enters_less, leaves_less, further_small, word_key}
@@ -108,16 +108,16 @@ module _ (xs ys : List ℕ) (more : (z : ℕ) → Contains xs z → Contains ys 
       )
 
 module _ (a b a' b' : TriByte) (lo : IsWithin a a') (hi : IsWithin b b') where
-  word_bits : (i : ℕ) → i < 14 → IsTriWithin (if nat_lt i 8 then tri_at a i else tri_at b (i - 8)) (if nat_lt i 8 then tri_at a' i else tri_at b' (i - 8))
+  word_bits : (i : ℕ) → i < 14 → IsTriWithin (pointer_bit a b i) (pointer_bit a' b' i)
   word_bits i lt =
       if_tri_within (nat_lt i 8) (tri_at a i) (tri_at a' i) (tri_at b (i - 8)) (tri_at b' (i - 8))
       (λ e. any_bit_within a a' i lo) (λ e. any_bit_within b b' (i - 8) hi)
 
-  pub words_targets : (line : Option (List ℕ)) → AreTargetsLess (targets_by line (words_of a b)) (targets_by line (words_of a' b'))
+  pub words_targets : (line : Option (List ℕ)) → AreTargetsLess (targets_by line (targets_of a b)) (targets_by line (targets_of a' b'))
   words_targets line =
-      let f : ℕ → Tri = λ i. if nat_lt i 8 then tri_at a i else tri_at b (i - 8) in
-      let g : ℕ → Tri = λ i. if nat_lt i 8 then tri_at a' i else tri_at b' (i - 8) in
-      targets_less (words_of a b) (words_of a' b') (numbers_more f g 14 word_bits) (numbers_count f g 14 word_bits)
+      let f = pointer_bit a b in
+      let g = pointer_bit a' b' in
+      targets_less (targets_of a b) (targets_of a' b') (numbers_more f g 14 word_bits) (numbers_count f g 14 word_bits)
       (λ z i. ((numbers_are_permitted.members g 14 z).0 i).small) line
 
 -- ---- slots that are pushed and popped

@@ -1,20 +1,19 @@
 -- What a byte that is written changes: a greater state leads to more.
-use Rattle.std.proofs.Common.{◌≡◌, refl, sym, ap, subst, subst₂, ℕ, zero, suc, ◌+◌, ◌<◌, ◌≤◌, ◌==◌, ◌&&◌, ◌||◌, nat_lt, nat_le, ⊎_elim, Bool, true, false, List, map, filter, Option, Some, None, if◌then◌else◌, slice_set, arith}
+use Rattle.std.proofs.Common.{◌≡◌, refl, sym, ap, subst, subst₂, ℕ, ◌+◌, ◌<◌, ◌≤◌, ◌==◌, ◌&&◌, ◌||◌, nat_lt, nat_le, ⊎_elim, Bool, true, false, List, map, filter, Option, Some, None, if◌then◌else◌, slice_set, arith}
 use Rattle.std.specs.Int.{bit_at}
 use Rattle.std.proofs.lemmas.Bool.{cases_lt}
 use Rattle.std.proofs.lemmas.Bool.Decides.{nat_tests}
 use Rattle.std.proofs.lemmas.List.{get_or_past}
 use Rattle.avr_model.specs.declared.assumption.Entry.{Entry}
-use Rattle.avr_model.specs.Bits.{all_below}
 use Rattle.avr_model.specs.Assumptions.{store_line, is_proved}
 use Rattle.avr_model.specs.Sites.{is_fixed}
 use Rattle.avr_model.specs.State.{SIZE, SPL, SPH, SREG, low, high, minus16}
 use Rattle.bit_domain.specs.declared.bits.Tri.{Tri}
 use Rattle.bit_domain.specs.declared.bits.Tri.TheVariants.{Zero, One, Any}
 use Rattle.bit_domain.specs.declared.bytes.TriByte.{TriByte}
-use Rattle.bit_domain.specs.Tri.{IsTriWithin, Permits}
-use Rattle.bit_domain.specs.TriByte.{tri_at, IsWithin, byte_constant}
-use Rattle.bit_domain.proofs.AllLaws.{bytes_are_their_bits, writes_cover, numbers_are_permitted}
+use Rattle.bit_domain.specs.Tri.{IsTriWithin}
+use Rattle.bit_domain.specs.TriByte.{tri_at, has, IsWithin, byte_constant}
+use Rattle.bit_domain.proofs.AllLaws.{bytes_are_their_bits, tests_tell_members, writes_cover, numbers_are_permitted}
 use Rattle.sp_domain.specs.declared.tags.Tag.{Tag}
 use Rattle.sp_domain.specs.declared.tags.Tag.TheVariants as tag
 use Rattle.sp_domain.specs.declared.slots.Slot.{Slot}
@@ -38,7 +37,7 @@ use Rattle.local_rules.specs.declared.local.NodeFault.TheVariants.{UntrackedSp, 
 use Rattle.local_rules.specs.Raw.{moves_to, one, fails}
 use Rattle.local_rules.specs.Registers.{bits}
 use Rattle.local_rules.specs.declared.pointers.Pointed.{Pointed}
-use Rattle.local_rules.specs.Writes.{known_high, tagged_high, high_part, opening, root_closing, frame_closing, closing_offset, closing, is_entry_flags, flags_written, with_i, sreg_written, masks_written, written_at, permits, has, reaches, fixed_write, listed_writes, pointer_write}
+use Rattle.local_rules.specs.Writes.{known_high, tagged_high, high_part, opening, root_closing, frame_closing, closing_offset, closing, is_entry_flags, flags_written, with_i, sreg_written, masks_written, written_at, reaches, fixed_write, listed_writes, pointer_write}
 use Rattle.abs_state.specs.Formed.{TagFits}
 use Rattle.local_rules.specs.Cover.{HighFitsKind}
 use Rattle.local_laws.proofs.MonotoneValues.{IsTagOf, IsLess, AreFlagsLess, AreSlotsLess, IsSlotLess, IsStateLess, Tells, tells_by, tag_tells, free_less, constant_is, constant_tells, bit_within, registers_set}
@@ -189,30 +188,14 @@ module _ (k : NodeKey) (at : IsKey k) (s t : AbsState) (le : IsStateLess k.inst.
 
 -- ---- through a pointer
 
-permits_to : (t : Tri) (n : ℕ) → permits t n ≡ true → Permits t n
-permits_to Zero n e = grind (arith, nat_tests)
-permits_to One n e = grind (arith, nat_tests)
-permits_to Any n e = tt
-
-permits_from : (t : Tri) (n : ℕ) → Permits t n → permits t n ≡ true
-permits_from Zero n e = grind (arith, nat_tests)
-permits_from One n e = grind (arith, nat_tests)
-permits_from Any n e = refl
-
 and_more : (a b c d : Bool) → (a ≡ true → c ≡ true) → (b ≡ true → d ≡ true) → a && b ≡ true → c && d ≡ true
 and_more true true c d f g e = λ i. f refl i && g refl i
 and_more true false c d f g e = cc
 and_more false b c d f g e = cc
 
-all_more : (n : ℕ) (p q : ℕ → Bool) → ((i : ℕ) → i < n → p i ≡ true → q i ≡ true) → all_below n p ≡ true → all_below n q ≡ true
-unfolding all_below
-all_more zero p q h e = refl
-all_more (suc n) p q h e = and_more (all_below n p) (p n) (all_below n q) (q n) (all_more n p q (λ i lt. h i (omega arith))) (h n (omega arith)) e
-
 has_more : (b c : TriByte) (x : ℕ) → IsWithin b c → has b x ≡ true → has c x ≡ true
-has_more b c x le =
-    all_more 8 (λ i. permits (tri_at b i) (bit_at x i)) (λ i. permits (tri_at c i) (bit_at x i))
-    (λ i lt e. permits_from (tri_at c i) (bit_at x i) (bit_within b c i lt le (bit_at x i) (permits_to (tri_at b i) (bit_at x i) e)))
+has_more b c x le e =
+    (tests_tell_members.bytes c x).1 (λ i lt. bit_within b c i lt le (bit_at x i) ((tests_tell_members.bytes b x).0 e i lt))
 
 pub reaches_more : (s t : AbsState) (r up a : ℕ) → IsWithin (bits s r) (bits t r) → IsWithin (bits s (r + 1)) (bits t (r + 1)) → reaches s r up a ≡ true → reaches t r up a ≡ true
 reaches_more s t r up a lo hi =

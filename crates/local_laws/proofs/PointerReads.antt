@@ -11,7 +11,7 @@ use Rattle.bit_domain.specs.declared.bytes.TriByte.{TriByte}
 use Rattle.bit_domain.specs.TriByte.{Has, byte_constant}
 use Rattle.bit_domain.specs.Lattice.{byte_meet, IsIntersection}
 use Rattle.bit_domain.proofs.AllLaws.{lattice_is_of_sets}
-use Rattle.abs_alu.proofs.WordCover.{all_words_cover}
+use Rattle.abs_alu.proofs.AllLaws.{all_words_cover}
 use Rattle.sp_domain.specs.declared.tags.Tag.{Tag}
 use Rattle.sp_domain.specs.Tags.{Origin, TagHolds, frame_of}
 use Rattle.sp_domain.specs.Laws.{PairHolds}

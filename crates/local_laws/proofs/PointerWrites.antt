@@ -1,25 +1,20 @@
 -- A byte that is stored through a pointer: what the rows say covers what the machine does.
-use Rattle.std.proofs.Common.{◌≡◌, refl, sym, ◌∙◌, ap, subst, ℕ, zero, suc, ◌+◌, ◌<◌, Bool, true, false, not, ◌&&◌, ◌||◌, nat_lt, nat_le, if◌then◌else◌, ◌==◌, List, [], ◌∷◌, ◌++◌, length, map, Option, Some, None, arith, eqb-true, eq-eqb}
+use Rattle.std.proofs.Common.{◌≡◌, refl, sym, ◌∙◌, ap, subst, ℕ, ◌+◌, ◌<◌, Bool, true, false, not, ◌&&◌, ◌||◌, nat_lt, nat_le, if◌then◌else◌, ◌==◌, List, [], ◌∷◌, ◌++◌, length, map, Option, Some, None, arith, eqb-true}
 use Rattle.std.proofs.lemmas.Bool.{or_parts}
 use Rattle.std.proofs.lemmas.Bool.Decides.{nat_tests}
 use Rattle.std.proofs.lemmas.List.Elements.{Contains-append_left, Contains-append_right}
-use Rattle.std.specs.Int.{bit_at}
 use Rattle.std.specs.List.{filter}
 use Rattle.avr_model.specs.declared.assumption.Entry.{Entry}
 use Rattle.avr_model.specs.declared.effect.Write.{Write}
 use Rattle.avr_model.specs.declared.effect.Effect.{Effect}
 use Rattle.avr_model.specs.Assumptions.{store_line, is_proved, lists}
-use Rattle.avr_model.specs.Bits.{all_below}
 use Rattle.avr_model.specs.Sites.{is_fixed}
 use Rattle.avr_model.specs.State.{State, pair, SPL, SPH, SREG, low, high, plus16, minus16}
 use Rattle.avr_model.specs.Effects.{set}
 use Rattle.avr_model.specs.Step.{with_registers, unlisted}
 use Rattle.avr_model.specs.Vectors.{has_enables, is_protected}
-use Rattle.bit_domain.specs.declared.bits.Tri.{Tri}
-use Rattle.bit_domain.specs.declared.bits.Tri.TheVariants.{Zero, One, Any}
-use Rattle.bit_domain.specs.declared.bytes.TriByte.{TriByte}
-use Rattle.bit_domain.specs.Tri.{Permits}
-use Rattle.bit_domain.specs.TriByte.{tri_at, Has}
+use Rattle.bit_domain.specs.TriByte.{Has}
+use Rattle.bit_domain.proofs.AllLaws.{tests_tell_members}
 use Rattle.sp_domain.specs.Tags.{Origin}
 use Rattle.abs_state.specs.declared.values.AbsByte.{AbsByte}
 use Rattle.abs_state.specs.declared.state.AbsState.{AbsState}
@@ -28,30 +23,15 @@ use Rattle.mask_states.specs.declared.keys.NodeKey.{NodeKey}
 use Rattle.local_rules.specs.Raw.{Raw, at_word, one, all_of}
 use Rattle.local_rules.specs.Registers.{bits}
 use Rattle.local_rules.specs.Reads.{pointed}
-use Rattle.local_rules.specs.Writes.{written_at, permits, has, reaches, fixed_write, listed_writes, pointer_write}
+use Rattle.local_rules.specs.Writes.{written_at, reaches, fixed_write, listed_writes, pointer_write}
 use Rattle.local_rules.specs.Cover.{InFrame}
 use Rattle.local_laws.proofs.Frame.{register_stands}
 use Rattle.local_laws.proofs.PointerReads.{pair_small, low_is, high_is, number_is}
 use Rattle.local_laws.proofs.SplitMembers.{AreWritten}
 use Rattle.local_laws.proofs.WriteValues.{stored, Reaches, enables_kept, chosen, only, elsewhere, changes_none, written}
 
--- ---- bits that are permitted, as tests
-
-permits_bit : (t : Tri) (n : ℕ) → Permits t n → permits t n ≡ true
-permits_bit Zero n h = eq-eqb n 0 h
-permits_bit One n h = eq-eqb n 1 h
-permits_bit Any n h = refl
-
 both_hold : (a b : Bool) → a ≡ true → b ≡ true → (a && b) ≡ true
 both_hold a b h g = grind arith
-
-each_holds : (n : ℕ) (p : ℕ → Bool) → ((i : ℕ) → i < n → p i ≡ true) → all_below n p ≡ true
-unfolding all_below
-each_holds zero p h = refl
-each_holds (suc n) p h = both_hold (all_below n p) (p n) (each_holds n p (λ i lt. h i (omega arith))) (h n (omega arith))
-
-has_holds : (t : TriByte) (x : ℕ) → Has t x → has t x ≡ true
-has_holds t x h = each_holds 8 (λ i. permits (tri_at t i) (bit_at x i)) (λ i lt. permits_bit (tri_at t i) (bit_at x i) (h i lt))
 
 back_to : (w up : ℕ) → w < 65536 → w ≡ minus16 (plus16 w up) up
 back_to w up lt = omega arith
@@ -150,8 +130,8 @@ module _ (m : State) (o : Origin) (k : NodeKey) (s : AbsState) (at : InFrame m o
   reached r up =
       let back : pair m r ≡ minus16 (plus16 (pair m r) up) up = back_to (pair m r) up (pair_small m o k s at r) in
       both_hold _ _
-      (has_holds (bits s r) _ (subst (Has (bits s r)) (low_is m o k s at r ∙ ap low back) (register_stands m o k s at r).bits))
-      (has_holds (bits s (r + 1)) _ (subst (Has (bits s (r + 1))) (high_is m o k s at r ∙ ap high back) (register_stands m o k s at (r + 1)).bits))
+      ((tests_tell_members.bytes (bits s r) _).1 (subst (Has (bits s r)) (low_is m o k s at r ∙ ap low back) (register_stands m o k s at r).bits))
+      ((tests_tell_members.bytes (bits s (r + 1)) _).1 (subst (Has (bits s (r + 1))) (high_is m o k s at r ∙ ap high back) (register_stands m o k s at (r + 1)).bits))
 
   -- the successors at the listed addresses that can be met
   abbrev listed_ones : ℕ → ℕ → List ℕ → List Raw

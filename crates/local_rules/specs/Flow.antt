@@ -1,5 +1,5 @@
 -- Jumps, branches, skips, calls, returns, and bytes that are pushed and popped. Source: own.
-use Rattle.std.specs.Prelude.{ℕ, zero, suc, ◌+◌, ◌-◌, ◌==◌, Bool, true, false, nat_lt, nat_le, if◌then◌else◌, List, [], ◌∷◌, ◌++◌, map, filter, take, length, Option, Some, None}
+use Rattle.std.specs.Prelude.{ℕ, zero, suc, ◌+◌, ◌==◌, Bool, true, false, nat_le, if◌then◌else◌, List, [], ◌∷◌, ◌++◌, map, filter, take, length, Option, Some, None}
 use Rattle.avr_model.specs.declared.assumption.Entry.{Entry}
 use Rattle.avr_model.specs.Image.{word_at}
 use Rattle.avr_model.specs.Table.{length_of}
@@ -7,9 +7,8 @@ use Rattle.avr_model.specs.Assumptions.{jump_line, lists}
 use Rattle.avr_model.specs.State.{SIZE}
 use Rattle.bit_domain.specs.declared.bits.Tri.{Tri}
 use Rattle.bit_domain.specs.declared.bits.Tri.TheVariants.{Zero, One, Any}
-use Rattle.bit_domain.specs.declared.bytes.TriByte.{TriByte}
 use Rattle.bit_domain.specs.TriByte.{tri_at}
-use Rattle.bit_domain.specs.Numbers.{numbers_of}
+use Rattle.bit_domain.specs.Numbers.{targets_of}
 use Rattle.sp_domain.specs.declared.slots.Slot.{Slot}
 use Rattle.sp_domain.specs.declared.slots.Slot.TheVariants.{Free, Guarded}
 use Rattle.sp_domain.specs.Slots.{slot_at}
@@ -45,17 +44,13 @@ flag_at k s n = if n == 7 then (if k.i then One else Zero) else tri_at s.flags.b
 
 -- ---- where an indirect transfer leads
 
--- all words of a low and a high byte, modulo 16,384
-abbrev pub words_of : TriByte → TriByte → List ℕ
-words_of lo hi = numbers_of (λ i. if nat_lt i 8 then tri_at lo i else tri_at hi (i - 8)) 14
-
 -- the listed words that the bits permit; without a line all of them, where these are few
 abbrev pub targets_by : Option (List ℕ) → List ℕ → Option (List ℕ)
 targets_by None all = if nat_le (length all) 64 then Some all else None
 targets_by (Some listed) all = Some (filter (lists all) listed)
 
 abbrev pub targets_at : List Entry → NodeKey → AbsState → Option (List ℕ)
-targets_at A k s = targets_by (jump_line A k.pc) (words_of (bits s 30) (bits s 31))
+targets_at A k s = targets_by (jump_line A k.pc) (targets_of (bits s 30) (bits s 31))
 
 abbrev pub jumping : Option (List ℕ) → NodeKey → AbsState → Raw
 jumping None k s = fails (UnresolvedJump k.pc)

@@ -1,15 +1,12 @@
 -- What a byte that is written to data space changes. Source: own.
 use Rattle.std.specs.Prelude.{ℕ, ◌+◌, ◌*◌, ◌-◌, ◌%◌, ◌==◌, ◌&&◌, ◌||◌, Bool, true, false, not, nat_lt, nat_le, if◌then◌else◌, List, [], ◌∷◌, map, filter, Option, Some, None, slice_set}
-use Rattle.std.specs.Int.{bit_at}
 use Rattle.avr_model.specs.declared.assumption.Entry.{Entry}
-use Rattle.avr_model.specs.Bits.{all_below}
 use Rattle.avr_model.specs.Assumptions.{store_line, is_proved}
 use Rattle.avr_model.specs.Sites.{is_fixed}
 use Rattle.avr_model.specs.State.{RAMEND, SIZE, SPL, SPH, SREG, low, high, minus16}
 use Rattle.bit_domain.specs.declared.bits.Tri.{Tri}
 use Rattle.bit_domain.specs.declared.bits.Tri.TheVariants.{Zero, One, Any}
-use Rattle.bit_domain.specs.declared.bytes.TriByte.{TriByte}
-use Rattle.bit_domain.specs.TriByte.{tri_at, byte_with, byte_constant}
+use Rattle.bit_domain.specs.TriByte.{tri_at, has, byte_with, byte_constant}
 use Rattle.sp_domain.specs.declared.tags.Tag.{Tag}
 use Rattle.sp_domain.specs.declared.tags.Tag.TheVariants as tag
 use Rattle.sp_domain.specs.declared.tags.CarryTag.TheVariants as carry
@@ -121,15 +118,6 @@ written_at pc k s is_out a v =
     else masks_written k s a v)))
 
 -- ---- through a pointer
-
--- the bits permit the number n
-abbrev pub permits : Tri → ℕ → Bool
-permits Zero n = n == 0
-permits One n = n == 1
-permits Any n = true
-
-abbrev pub has : TriByte → ℕ → Bool
-has t x = all_below 8 (λ i. permits (tri_at t i) (bit_at x i))
 
 -- some value of registers r and r + 1 that their bits permit, plus a number, is the address
 abbrev pub reaches : AbsState → ℕ → ℕ → ℕ → Bool

@@ -15,7 +15,7 @@ use std::marker::Model;
 use vector_table::Masks;
 
 /// A node: its key, and what is known of the machine there.
-#[derive(Debug, Drop)]
+#[derive(Drop)]
 pub struct Node {
     /// Where it is.
     pub key: NodeKey,
@@ -24,7 +24,7 @@ pub struct Node {
 }
 
 /// Nodes, each of whose states has as many slots as its stack pointer's offset says. Seen as their list.
-#[derive(Debug, Drop)]
+#[derive(Drop)]
 pub struct Nodes {
     items: Vec<Node>,
 }
@@ -111,7 +111,7 @@ fn place_of(nodes: &[Node], key: &NodeKey) -> usize
 }
 
 /// A call: the word address that is called, and that at which the caller goes on.
-#[derive(Clone, Copy, Debug, PartialEq, Eq)]
+#[derive(Clone, Copy, PartialEq, Eq)]
 pub struct CallSite {
     /// The called word.
     pub entry: u16,
@@ -120,7 +120,7 @@ pub struct CallSite {
 }
 
 /// Calls, seen as their list.
-#[derive(Debug, Drop)]
+#[derive(Drop)]
 pub struct CallSites {
     items: Vec<CallSite>,
 }
@@ -176,7 +176,7 @@ impl CallSites {
 }
 
 /// A return: what it leaves of the machine's key.
-#[derive(Clone, Copy, Debug, PartialEq, Eq)]
+#[derive(Clone, Copy, PartialEq, Eq)]
 pub struct Exit {
     /// The enable bits.
     pub masks: Masks,
@@ -187,7 +187,7 @@ pub struct Exit {
 }
 
 /// What a node leads to.
-#[derive(Debug, Drop)]
+#[derive(Drop)]
 pub struct Local {
     /// Nodes of the same instance, strictly ascending by key.
     pub same: Nodes,

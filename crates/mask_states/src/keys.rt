@@ -9,7 +9,7 @@ use std::cmp::Ordering;
 use vector_table::Masks;
 
 /// How an instance is entered.
-#[derive(Clone, Copy, PartialEq, Eq, PartialOrd, Ord, Debug)]
+#[derive(Clone, Copy, PartialEq, Eq, PartialOrd, Ord)]
 pub enum Kind {
     /// It begins at reset.
     Root,
@@ -20,7 +20,7 @@ pub enum Kind {
 }
 
 /// An instance: the root, one call or one interrupt entry, with what the machine's state is there. Ordered by its fields.
-#[derive(Clone, Copy, Debug)]
+#[derive(Clone, Copy)]
 pub struct InstKey {
     /// How it is entered.
     pub kind: Kind,
@@ -33,7 +33,7 @@ pub struct InstKey {
 }
 
 /// The high byte of a stack pointer of which only the high byte is written.
-#[derive(Clone, Copy, PartialEq, Eq, PartialOrd, Ord, Debug)]
+#[derive(Clone, Copy, PartialEq, Eq, PartialOrd, Ord)]
 pub enum High {
     /// This byte.
     Known(u8),
@@ -43,7 +43,7 @@ pub enum High {
 
 /// Where the stack pointer is, by its offset: how many bytes it is below the base, which is the stack pointer after the frame's
 /// entry.
-#[derive(Clone, Copy, PartialEq, Eq, PartialOrd, Ord, Debug)]
+#[derive(Clone, Copy, PartialEq, Eq, PartialOrd, Ord)]
 pub enum SpForm {
     /// It is whole, at this offset.
     Closed(u16),
@@ -52,7 +52,7 @@ pub enum SpForm {
 }
 
 /// A node: an instance and where the machine is in it. Ordered by its fields.
-#[derive(Clone, Copy, Debug)]
+#[derive(Clone, Copy)]
 pub struct NodeKey {
     /// The instance.
     pub inst: InstKey,
@@ -69,7 +69,7 @@ pub struct NodeKey {
 }
 
 /// How an edge leads from a node to another.
-#[derive(Clone, Copy, PartialEq, Eq, PartialOrd, Ord, Debug)]
+#[derive(Clone, Copy, PartialEq, Eq, PartialOrd, Ord)]
 pub enum EdgeKind {
     /// By an instruction, in the same instance.
     Local,

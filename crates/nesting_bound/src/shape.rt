@@ -7,10 +7,11 @@ ghost use Rattle.nesting_bound.specs.Chain.{HasSome, HavePlaces};
 ghost use Rattle.nesting_bound.specs.Graph.{IsGraph};
 
 use crate::graph::{Entered, Graph, GraphInst, Place};
+use avr_model::device::SIZE;
 
 const MOST_INSTANCES: usize = 65_537;
 
-const GREATEST_OFFSET: u16 = 2_048;
+const GREATEST_OFFSET: u16 = SIZE;
 
 // Whether each offset is small enough.
 fn are_low(places: &[Place]) -> bool

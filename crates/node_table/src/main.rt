@@ -6,6 +6,7 @@ mod answer;
 mod row;
 
 use abs_step::local;
+use avr_model::device::WORDS;
 use indirect_targets::entry_of;
 use row::Row;
 use std::{fs, io};
@@ -17,7 +18,7 @@ const MOST_ENTRIES: usize = 4_096;
 /// Where the node of a row leads.
 fn show(rt: &HostRuntime, row: &Row, lines: &Assumptions) -> io::Result<()> {
     let (key, state) = (&row.key, &row.state);
-    if key.pc >= 0x4000 || state.slots.len() != key.offset() {
+    if key.pc >= WORDS || state.slots.len() != key.offset() {
         return println!(rt; "  no node");
     }
     let found = local(rt.alloc(), &row.flash, lines, key, state);

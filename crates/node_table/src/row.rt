@@ -1,6 +1,7 @@
 //! Rows of the table: a node with the two words of firmware that stand there, and what is known of the machine.
 
 use abs_state::{AbsByte, AbsFlags, AbsState};
+use avr_model::device::WORDS;
 use bit_domain::TriByte;
 use flash_image::Flash;
 use mask_states::{High, InstKey, Kind, NodeKey, SpForm};
@@ -184,10 +185,10 @@ impl Row {
 
     // The two words of firmware at the node.
     fn place(&mut self, first: u16, second: u16) {
-        let at = self.key.pc % 0x4000;
+        let at = self.key.pc % WORDS;
         self.flash.place(at * 2, &first.to_le_bytes());
         self.flash
-            .place((at + 1) % 0x4000 * 2, &second.to_le_bytes());
+            .place((at + 1) % WORDS * 2, &second.to_le_bytes());
     }
 }
 

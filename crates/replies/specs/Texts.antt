@@ -10,8 +10,8 @@ use Rattle.avr_model.specs.declared.choice.Stop.TheVariants as stop
 use Rattle.indirect_targets.specs.declared.fault.AssumeText.{AssumeText}
 use Rattle.indirect_targets.specs.declared.fault.AssumeText.TheVariants as assume
 use Rattle.cert_words.specs.KeySpelling.{node_key_words}
-use Rattle.cert_format.specs.declared.fault.Limit.{Limit}
-use Rattle.cert_format.specs.declared.fault.Limit.TheVariants as limit
+use Rattle.certificate.specs.declared.limit.Limit.{Limit}
+use Rattle.certificate.specs.declared.limit.Limit.TheVariants as limit
 use Rattle.cert_format.specs.declared.fault.CertFault.{CertFault}
 use Rattle.cert_format.specs.declared.fault.CertFault.TheVariants as cert
 use Rattle.cert_check.specs.declared.verdict.Reason.{Reason}

@@ -17,8 +17,7 @@ use Rattle.local_rules.specs.declared.local.Node.{Node}
 use Rattle.local_rules.specs.Cover.{IsNode}
 use Rattle.local_laws.specs.Laws.{AreNodes}
 use Rattle.local_rules.specs.Local.{place_by, placed, joined_onto}
-use Rattle.local_laws.proofs.AllLaws.{joins_are_least}
-use Rattle.local_laws.proofs.Members.{none_in, here, there, each_of}
+use Rattle.local_laws.proofs.AllLaws.{joins_are_least, none_in, here, there, each_of}
 use Rattle.edge_rules.specs.declared.edge.Edge.{Edge}
 use Rattle.edge_rules.specs.Edges.{IsEdge, target}
 use Rattle.edge_rules.specs.Families.{IsCovered}

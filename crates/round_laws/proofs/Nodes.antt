@@ -14,7 +14,7 @@ use Rattle.mask_states.specs.Order.{node_cmp}
 use Rattle.mask_states.specs.Total.{node_total, node_equal}
 use Rattle.mask_states.proofs.AllLaws.{keys_are_ordered}
 use Rattle.local_rules.specs.declared.local.Node.{Node}
-use Rattle.local_laws.proofs.Members.{none_in, here, there, first_or, each_of}
+use Rattle.local_laws.proofs.AllLaws.{none_in, here, there, first_or, each_of}
 use Rattle.round_rules.specs.Families.{Family, node_of, nodes_of, Has, Below, AreFormed}
 use Rattle.round_laws.specs.Laws.{FamiliesAreTheirNodes}
 use Rattle.round_laws.proofs.Keys.{node_exact, some_same}

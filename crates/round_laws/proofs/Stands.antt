@@ -18,7 +18,7 @@ use Rattle.edge_rules.specs.Expansion.{Seeds, HasKeyAt}
 use Rattle.edge_rules.specs.Families.{IsSound}
 use Rattle.certificate.specs.Claims.{Claim, node_keys, cells_of, most_nodes, most_cells}
 use Rattle.certificate.specs.Insts.{rank_in, need_in}
-use Rattle.certificate.proofs.Sound.{conditions_make_families_sound}
+use Rattle.certificate.proofs.AllLaws.{conditions_make_families_sound}
 use Rattle.round_rules.specs.Families.{Family, node_of, nodes_of}
 use Rattle.round_rules.specs.Solutions.{IsShown}
 use Rattle.round_laws.specs.Laws.{StandsFor}

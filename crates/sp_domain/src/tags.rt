@@ -4,7 +4,7 @@ ghost use Rattle.std.specs.Prelude.{◌≡◌, ◌↔◌, ◌<◌, IsTrue};
 ghost use Rattle.sp_domain.specs.Tags.{IsTagWithin, IsCarryWithin, tag_join, carry_join, frame_of, pair_below, low_less, borrow_of, high_less};
 
 /// Where a byte comes from. The base of a frame is the stack pointer after the frame's entry. Source: own.
-#[derive(Clone, Copy, PartialEq, Eq, Debug)]
+#[derive(Clone, Copy, PartialEq, Eq)]
 pub enum Tag {
     /// Nothing is known.
     None,
@@ -19,7 +19,7 @@ pub enum Tag {
 }
 
 /// Where the carry flag comes from. Source: own.
-#[derive(Clone, Copy, PartialEq, Eq, Debug)]
+#[derive(Clone, Copy, PartialEq, Eq)]
 pub enum CarryTag {
     /// Nothing is known.
     None,

@@ -3,7 +3,7 @@ use Rattle.std.proofs.Common.{◌≡◌, ◌++◌, [], ◌∷◌, List, refl, sy
 use Rattle.sb_base.specs.Lines.{TextLine, Place}
 use Rattle.line_reading.specs.Reading.{passed, passed_from}
 use Rattle.witness_replay.specs.Exact.{IsBehind}
-use Rattle.line_reading.proofs.Steps.{passes_none, passes_one, passes_more}
+use Rattle.line_reading.proofs.AllLaws.{passes_none, passes_one, passes_more}
 
 pub behind_self : (p q : Place) → q ≡ p → IsBehind p q
 behind_self p q e = let P : Place → Type 0 = λ z. IsBehind p z in subst P (sym e) (record { between = []; passes = passes_none p })

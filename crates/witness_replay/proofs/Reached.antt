@@ -15,7 +15,7 @@ use Rattle.witness_replay.specs.declared.schedule.Run.TheVariants.{Go, Take}
 use Rattle.witness_replay.specs.Spelling.{IsCounted, AreRuns, weight, choices_of_run, choices_of}
 use Rattle.witness_replay.specs.Replay.{illegal_on, first_illegal, Report, report_unless}
 use Rattle.witness_replay.specs.Runs.{ReplaysAreRuns, IllegalChoicesEndRuns}
-use Rattle.line_reading.proofs.Steps.{some_is, none_some}
+use Rattle.line_reading.proofs.AllLaws.{some_is, none_some}
 
 -- ---- the bytes of a schedule's choices
 

@@ -4,10 +4,11 @@ ghost use Rattle.std.specs.Prelude.{◌≡◌};
 ghost use Rattle.witness_search.specs.Waypoints.{is_due};
 
 use avr_machine::{Choice, Menu};
+use avr_model::device;
 use vector_table::Masks;
 
 /// The deepest a stack pointer falls from.
-const RAMEND: u32 = 0x08FF;
+const RAMEND: u32 = device::RAMEND as u32;
 
 /// An interrupt, and where it is to be taken.
 #[derive(Clone, Copy)]

@@ -1,5 +1,5 @@
 use Rattle.std.proofs.Common.{◌≡◌, ◌++◌, sym, subst, ◌<◌, ◌≤◌, length, None, Contains, arith}
-use Rattle.expansion_laws.proofs.Lists.{get_inside}
+use Rattle.expansion_laws.proofs.AllLaws.{get_inside}
 use Rattle.edge_rules.specs.Edges.{AreEdges}
 use Rattle.cert_check.specs.Working.{IsLeast, Lands, GapAt, KeyBelow, demands_of}
 use Rattle.cert_check.proofs.Passing.{key_belongs, targets, gap_first, targets_belong, goes_on, ends}

@@ -1,4 +1,4 @@
-use Rattle.certificate.proofs.Sound.{claims_are_seeds}
+use Rattle.certificate.proofs.AllLaws.{claims_are_seeds}
 use Rattle.cert_check.proofs.judging.verdict.Goals as goal
 
 pub expand-requires-clause-seeds : goal.expand-requires-clause-seeds

@@ -1,6 +1,6 @@
 use Rattle.std.proofs.Common.{arith, ◌≡◌, ◌∙◌, ◌≤◌, ap, sym, length}
-use Rattle.bit_domain.specs.Numbers.{numbers_of}
-use Rattle.indirect_targets.specs.Targets.{pointer_bit, most_targets}
+use Rattle.bit_domain.specs.Numbers.{numbers_of, pointer_bit}
+use Rattle.indirect_targets.specs.Targets.{most_targets}
 use Rattle.indirect_targets.proofs.Members.{no_bit, one_bit_more, stays_many, keeps_err, weight_is, weight_fits}
 use Rattle.indirect_targets.proofs.transfer.words_of.Goals as goal
 

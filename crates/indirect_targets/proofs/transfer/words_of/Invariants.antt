@@ -1,6 +1,6 @@
 use Rattle.std.proofs.Common.{◌≡◌, ◌≤◌, length}
-use Rattle.bit_domain.specs.Numbers.{numbers_of}
-use Rattle.indirect_targets.specs.Targets.{pointer_bit, most_targets}
+use Rattle.bit_domain.specs.Numbers.{numbers_of, pointer_bit}
+use Rattle.indirect_targets.specs.Targets.{most_targets}
 use Rattle.indirect_targets.proofs.transfer.words_of.Given as goal
 
 abbrev pub invariant-loop-i : goal.invariant-loop-i

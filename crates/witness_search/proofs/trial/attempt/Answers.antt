@@ -2,9 +2,8 @@ use Rattle.std.proofs.Common.{rules, refl, sym, ap, subst, ◌∙◌, ◌≡◌,
 use Rattle.std.proofs.lemmas.Result.{IfOk-weaker}
 use Rattle.avr_model.specs.Run.{Machine, IsRun}
 use Rattle.avr_machine.specs.Menu.{has_choice}
-use Rattle.stimulus.proofs.Steadiness.{steady_by}
+use Rattle.stimulus.proofs.AllLaws.{steady_by, determined}
 use Rattle.stimulus.specs.Driving.{choices_by}
-use Rattle.stimulus.proofs.Determined.{determined}
 use Rattle.witness_search.specs.Waypoints.{taken, left_after, pick_due, due_left}
 use Rattle.witness_search.specs.contracts.trial.fn.attempt.new as closure
 use Rattle.witness_search.proofs.Points.{taken_stands, taken_is, left_is}
