@@ -1,13 +1,20 @@
 -- The commands, their files, and which words are a command. Source: own.
-use Rattle.std.specs.Prelude.{ℕ, ◌≡◌, ◌==◌, ◌&&◌, not, Bool, true, false, List, [], ◌∷◌, Option, Some, None, is_none, codes, if◌then◌else◌}
+use Rattle.std.specs.Prelude.{ℕ, ◌≡◌, ◌==◌, ◌&&◌, not, nat_le, Bool, true, false, List, [], ◌∷◌, Option, Some, None, Result, Ok, Err, is_none, codes, if◌then◌else◌}
+use Rattle.std.specs.Option.{option_map}
 use Rattle.std.specs.Str.{bytes_eq}
+use Rattle.sb_base.specs.declared.digits.DigitFault.{DigitFault}
+use Rattle.sb_base.specs.Digits.{dec_answer}
 use Rattle.commands.specs.declared.line.Valued.{Valued}
 use Rattle.commands.specs.declared.line.Valued.TheVariants.{Assume, Steps}
 
--- what is to be done, with the names of the files
+-- what is to be done, with the names of the files: judge a certificate, write the least one within a number of rounds if there is
+-- one, replay a schedule, judge a certificate and tell what it shows, and measure the analysis by the image of a number
 pub data Command : Type 0 where
   Check : (firmware certificate : List ℕ) (assume : Option (List ℕ)) → Command
+  Analyse : (firmware : List ℕ) (assume : Option (List ℕ)) (steps : Option ℕ) → Command
   Run : (firmware schedule : List ℕ) (assume : Option (List ℕ)) → Command
+  Report : (firmware certificate : List ℕ) (assume : Option (List ℕ)) (json : Bool) → Command
+  Demo : (size : ℕ) → Command
 
 -- ---- files
 
@@ -22,9 +29,16 @@ abbrev pub name_of : Command → Role → Option (List ℕ)
 name_of (Check firmware certificate assume) Firmware = Some firmware
 name_of (Check firmware certificate assume) Second = Some certificate
 name_of (Check firmware certificate assume) Assumptions = assume
+name_of (Analyse firmware assume steps) Firmware = Some firmware
+name_of (Analyse firmware assume steps) Second = None
+name_of (Analyse firmware assume steps) Assumptions = assume
 name_of (Run firmware schedule assume) Firmware = Some firmware
 name_of (Run firmware schedule assume) Second = Some schedule
 name_of (Run firmware schedule assume) Assumptions = assume
+name_of (Report firmware certificate assume json) Firmware = Some firmware
+name_of (Report firmware certificate assume json) Second = Some certificate
+name_of (Report firmware certificate assume json) Assumptions = assume
+name_of (Demo size) role = None
 
 -- this is the name of the command's file of this role
 abbrev pub IsFileOf : Command → Role → List ℕ → Type 0
@@ -102,26 +116,76 @@ then_words line [] = line
 then_words None (word ∷ words) = None
 then_words (Some line) (word ∷ words) = then_words (with_word line word) words
 
+-- ---- numbers
+
+-- the number that a canonical decimal stands for, if it is at most `most`
+abbrev pub number_of : Result ℕ DigitFault → Option ℕ
+number_of (Ok n) = Some n
+number_of (Err fault) = None
+
+abbrev pub decimal_in : List ℕ → ℕ → Option ℕ
+decimal_in word most = number_of (dec_answer word most)
+
+-- a number of rounds, if there is one, is at most 2^64 - 1
+abbrev pub steps_in : Option (List ℕ) → Option (Option ℕ)
+steps_in None = Some None
+steps_in (Some word) = option_map Some (decimal_in word 18446744073709551615)
+
+-- the size of an image is 1 to 2,000
+abbrev pub positive : Option ℕ → Option ℕ
+positive None = None
+positive (Some n) = if nat_le 1 n then Some n else None
+
+abbrev pub size_in : List ℕ → Option ℕ
+size_in word = positive (decimal_in word 2000)
+
 -- ---- commands
-
-abbrev pub check_with : Option (List ℕ) → Option (List ℕ) → Option (List ℕ) → Option Command
-check_with (Some firmware) (Some certificate) assume = Some (Check firmware certificate assume)
-check_with _ _ assume = None
-
-abbrev pub run_with : Option (List ℕ) → Option (List ℕ) → Option (List ℕ) → Option Command
-run_with (Some firmware) (Some schedule) assume = Some (Run firmware schedule assume)
-run_with _ _ assume = None
 
 -- no option is there but `--assume`
 abbrev pub is_plain : Line → Bool
 is_plain line = is_none line.steps && not line.json
 
+-- no option is there
+abbrev pub is_bare : Line → Bool
+is_bare line = is_none line.assume && is_plain line
+
+-- what two names make, and what one makes that is alone
+abbrev pub with_two : Option (List ℕ) → Option (List ℕ) → (List ℕ → List ℕ → Command) → Option Command
+with_two (Some firmware) (Some second) command = Some (command firmware second)
+with_two _ _ command = None
+
+abbrev pub analysed : List ℕ → Option (List ℕ) → Option (Option ℕ) → Option Command
+analysed firmware assume None = None
+analysed firmware assume (Some steps) = Some (Analyse firmware assume steps)
+
+abbrev pub with_one : Option (List ℕ) → Option (List ℕ) → (List ℕ → Option Command) → Option Command
+with_one (Some word) None command = command word
+with_one _ _ command = None
+
+abbrev pub check_of : Line → Option Command
+check_of line = if is_plain line then with_two line.first line.second (λ firmware certificate. Check firmware certificate line.assume) else None
+
+abbrev pub analyse_of : Line → Option Command
+analyse_of line = if line.json then None else with_one line.first line.second (λ firmware. analysed firmware line.assume (steps_in line.steps))
+
+abbrev pub run_of : Line → Option Command
+run_of line = if is_plain line then with_two line.first line.second (λ firmware schedule. Run firmware schedule line.assume) else None
+
+abbrev pub report_of : Line → Option Command
+report_of line = if is_none line.steps then with_two line.first line.second (λ firmware certificate. Report firmware certificate line.assume line.json) else None
+
+abbrev pub demo_of : Line → Option Command
+demo_of line = if is_bare line then with_one line.first line.second (λ word. option_map Demo (size_in word)) else None
+
 -- the command of this name
 abbrev pub called : List ℕ → Line → Option Command
 called word line =
-    if bytes_eq word (codes "check") then (if is_plain line then check_with line.first line.second line.assume else None)
-    else (if bytes_eq word (codes "run") then (if is_plain line then run_with line.first line.second line.assume else None)
-    else None)
+    if bytes_eq word (codes "check") then check_of line
+    else (if bytes_eq word (codes "analyse") then analyse_of line
+    else (if bytes_eq word (codes "run") then run_of line
+    else (if bytes_eq word (codes "report") then report_of line
+    else (if bytes_eq word (codes "demo") then demo_of line
+    else None))))
 
 -- no option waits for its value
 abbrev pub whole : List ℕ → Option Line → Option Command

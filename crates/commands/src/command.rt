@@ -2,13 +2,15 @@
 
 ghost use Rattle.std.specs.Prelude.{◌≡◌, map, None, Some};
 ghost use Rattle.std.specs.Option.{option_map};
-ghost use Rattle.commands.specs.Commands.{Firmware, Second, Assumptions, name_of, empty_line, then_words, is_plain, check_with, run_with, called, whole, command_of};
+ghost use Rattle.commands.specs.Commands.{Firmware, Second, Assumptions, name_of, empty_line, then_words, steps_in, size_in, is_plain, is_bare, check_of, analyse_of, run_of, report_of, demo_of, called, whole, command_of};
 ghost use Rattle.commands.specs.Views.{text_of, line_of, command_seen};
 
 use crate::line::Line;
+use crate::size::Size;
+use sb_base::read_dec;
 
 /// What the program is to do, with the names of the files.
-#[derive(Clone, Copy)]
+#[derive(Clone, Copy, PartialEq, Eq)]
 pub enum Command<'a> {
     /// Judges a certificate for a firmware.
     Check {
@@ -16,62 +18,70 @@ pub enum Command<'a> {
         certificate: &'a str,
         assume: Option<&'a str>,
     },
+    /// Writes the least certificate of a firmware, if the rounds end within so many steps.
+    Analyse {
+        firmware: &'a str,
+        assume: Option<&'a str>,
+        steps: Option<u64>,
+    },
     /// Replays a schedule on a firmware.
     Run {
         firmware: &'a str,
         schedule: &'a str,
         assume: Option<&'a str>,
     },
+    /// Judges a certificate for a firmware, and tells what it shows, in lines of text or as JSON.
+    Report {
+        firmware: &'a str,
+        certificate: &'a str,
+        assume: Option<&'a str>,
+        json: bool,
+    },
+    /// Measures the analysis by the image of this size.
+    Demo {
+        size: Size,
+    },
 }
 
 impl<'a> Command<'a> {
     /// The name of the firmware, which is read first.
-    pub fn firmware(self) -> &'a str
-        ensures { name_of (command_seen self.entry) Firmware ≡ Some result.now }
+    pub fn firmware(&self) -> Option<&'a str>
+        ensures { name_of (command_seen self.now) Firmware ≡ text_of result }
     {
-        match self {
-            Command::Check { firmware, .. } | Command::Run { firmware, .. } => firmware,
+        match *self {
+            Command::Check { firmware, .. } => Some(firmware),
+            Command::Analyse { firmware, .. } => Some(firmware),
+            Command::Run { firmware, .. } => Some(firmware),
+            Command::Report { firmware, .. } => Some(firmware),
+            Command::Demo { .. } => None,
         }
     }
 
     /// The name of the certificate or schedule, which is read next.
-    pub fn second(self) -> &'a str
-        ensures { name_of (command_seen self.entry) Second ≡ Some result.now }
+    pub fn second(&self) -> Option<&'a str>
+        ensures { name_of (command_seen self.now) Second ≡ text_of result }
     {
-        match self {
-            Command::Check { certificate, .. } => certificate,
-            Command::Run { schedule, .. } => schedule,
+        match *self {
+            Command::Check { certificate, .. } => Some(certificate),
+            Command::Analyse { .. } => None,
+            Command::Run { schedule, .. } => Some(schedule),
+            Command::Report { certificate, .. } => Some(certificate),
+            Command::Demo { .. } => None,
         }
     }
 
     /// The name of the assumption file, which is read last.
-    pub fn assume(self) -> Option<&'a str>
-        ensures { name_of (command_seen self.entry) Assumptions ≡ text_of result }
+    pub fn assume(&self) -> Option<&'a str>
+        ensures { name_of (command_seen self.now) Assumptions ≡ text_of result }
     {
-        match self {
-            Command::Check { assume, .. } | Command::Run { assume, .. } => assume,
+        match *self {
+            Command::Check { assume, .. } => assume,
+            Command::Analyse { assume, .. } => assume,
+            Command::Run { assume, .. } => assume,
+            Command::Report { assume, .. } => assume,
+            Command::Demo { .. } => None,
         }
     }
-}
-
-fn check_of<'a>(line: Line<'a>) -> Option<Command<'a>>
-    ensures { option_map command_seen result ≡ check_with (text_of line.entry.first) (text_of line.entry.second) (text_of line.entry.assume) }
-{
-    Some(Command::Check {
-        firmware: line.first?,
-        certificate: line.second?,
-        assume: line.assume,
-    })
-}
-
-fn run_of<'a>(line: Line<'a>) -> Option<Command<'a>>
-    ensures { option_map command_seen result ≡ run_with (text_of line.entry.first) (text_of line.entry.second) (text_of line.entry.assume) }
-{
-    Some(Command::Run {
-        firmware: line.first?,
-        schedule: line.second?,
-        assume: line.assume,
-    })
 }
 
 /// Whether no option is there but `--assume`.
@@ -81,18 +91,120 @@ fn is_plain(line: &Line<'_>) -> bool
     line.steps.is_none() && !line.json
 }
 
+/// Whether no option is there.
+fn is_bare(line: &Line<'_>) -> bool
+    ensures { result ≡ is_bare (line_of line.now) }
+{
+    line.assume.is_none() && is_plain(line)
+}
+
+/// The number of rounds, if there is one.
+fn steps_in(word: Option<&str>) -> Option<Option<u64>>
+    ensures { result ≡ steps_in (text_of word.entry) }
+{
+    match word {
+        Some(word) => match read_dec(word.as_bytes(), u64::MAX) {
+            Ok(steps) => Some(Some(steps)),
+            Err(_) => None,
+        },
+        None => Some(None),
+    }
+}
+
+/// The size of an image.
+fn size_in(word: &str) -> Option<Size>
+    ensures { result ≡ size_in word.now }
+{
+    match read_dec(word.as_bytes(), 2000) {
+        Ok(count) => {
+            if count >= 1 {
+                Some(Size::new(count as u32))
+            } else {
+                None
+            }
+        }
+        Err(_) => None,
+    }
+}
+
+fn check_of<'a>(line: Line<'a>) -> Option<Command<'a>>
+    ensures { option_map command_seen result ≡ check_of (line_of line.entry) }
+{
+    if !is_plain(&line) {
+        return None;
+    }
+    Some(Command::Check {
+        firmware: line.first?,
+        certificate: line.second?,
+        assume: line.assume,
+    })
+}
+
+fn analyse_of<'a>(line: Line<'a>) -> Option<Command<'a>>
+    ensures { option_map command_seen result ≡ analyse_of (line_of line.entry) }
+{
+    if line.json || line.second.is_some() {
+        return None;
+    }
+    Some(Command::Analyse {
+        firmware: line.first?,
+        assume: line.assume,
+        steps: steps_in(line.steps)?,
+    })
+}
+
+fn run_of<'a>(line: Line<'a>) -> Option<Command<'a>>
+    ensures { option_map command_seen result ≡ run_of (line_of line.entry) }
+{
+    if !is_plain(&line) {
+        return None;
+    }
+    Some(Command::Run {
+        firmware: line.first?,
+        schedule: line.second?,
+        assume: line.assume,
+    })
+}
+
+fn report_of<'a>(line: Line<'a>) -> Option<Command<'a>>
+    ensures { option_map command_seen result ≡ report_of (line_of line.entry) }
+{
+    if line.steps.is_some() {
+        return None;
+    }
+    Some(Command::Report {
+        firmware: line.first?,
+        certificate: line.second?,
+        assume: line.assume,
+        json: line.json,
+    })
+}
+
+fn demo_of<'a>(line: Line<'a>) -> Option<Command<'a>>
+    ensures { option_map command_seen result ≡ demo_of (line_of line.entry) }
+{
+    if !is_bare(&line) || line.second.is_some() {
+        return None;
+    }
+    Some(Command::Demo {
+        size: size_in(line.first?)?,
+    })
+}
+
 /// The command of this name.
 fn called<'a>(word: &str, line: Line<'a>) -> Option<Command<'a>>
     ensures { option_map command_seen result ≡ called word.now (line_of line.entry) }
 {
     if word == "check" {
-        if is_plain(&line) {
-            check_of(line)
-        } else {
-            None
-        }
+        check_of(line)
+    } else if word == "analyse" {
+        analyse_of(line)
     } else if word == "run" {
-        if is_plain(&line) { run_of(line) } else { None }
+        run_of(line)
+    } else if word == "report" {
+        report_of(line)
+    } else if word == "demo" {
+        demo_of(line)
     } else {
         None
     }

@@ -3,5 +3,10 @@
 
 mod command;
 mod line;
+mod size;
 
 pub use command::{Command, command_of};
+pub use size::Size;
+
+#[cfg(test)]
+mod tests;

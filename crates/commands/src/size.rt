@@ -1,0 +1,41 @@
+//! The size of an image that the program makes.
+
+ghost use Rattle.std.specs.Prelude.{◌≡◌, ◌≤◌, ℕ};
+
+use std::marker::Model;
+
+/// How many functions the image of `demo` has: 1 to 2,000.
+#[derive(Clone, Copy, PartialEq, Eq)]
+pub struct Size {
+    count: u32,
+}
+
+impl Model for Size {
+    ghost Value = { ℕ };
+
+    ghost view = { λ a. a.count };
+
+    ghost invariant = { λ a. (1 ≤ a.count) × (a.count ≤ 2000) };
+
+    ghost inverse = { λ n. record { count = n } };
+}
+
+impl Size {
+    /// The size of so many functions.
+    pub fn new(count: u32) -> Size
+        requires low { 1 ≤ count }
+        requires high { count ≤ 2000 }
+        ensures { result ≡ count }
+    {
+        Size { count }
+    }
+
+    /// The number of functions.
+    pub fn get(&self) -> u32
+        ensures value { result ≡ self.now }
+        ensures low { 1 ≤ result }
+        ensures high { result ≤ 2000 }
+    {
+        self.count
+    }
+}
