@@ -2,7 +2,11 @@
 #![tactic(auto)]
 
 mod image;
+pub mod laws;
 mod places;
 mod words;
 
 pub use image::demo_image;
+
+#[cfg(test)]
+mod tests;
