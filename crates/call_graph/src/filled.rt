@@ -42,6 +42,13 @@ impl Filled {
     {
         &self.items
     }
+
+    /// The vector that the list was made from.
+    pub fn into_vec(self) -> Vec<Node>
+        ensures { result.items ≡ self }
+    {
+        self.items
+    }
 }
 
 /// What an expansion answers.

@@ -1,18 +1,65 @@
 //! The certificate, part by part.
 
-ghost use Rattle.std.specs.Prelude.{ℕ, IfOk};
+ghost use Rattle.std.specs.Prelude.{ℕ, ◌≡◌, ◌≤◌, ◌<◌, length, map, IfOk};
+ghost use Rattle.nesting_bound.specs.Graph.{IsGraph};
+ghost use Rattle.nesting_bound.specs.Least.{IsLeast};
+ghost use Rattle.nesting_bound.specs.Cycle.{IsNamed};
 ghost use Rattle.round_rules.specs.Refusals.{IsSolved};
 ghost use Rattle.round_rules.specs.Solutions.{IsSolution};
+ghost use Rattle.solution_laws.specs.Parts.{AreInsts};
 
-use certificate::Certificate;
+
+use crate::forming::forms;
+use certificate::{Certificate, Inst};
+use call_graph::Filled;
+use family_graph::graph_of;
 use family_table::Table;
 use flash_image::Flash;
+use nesting_bound::{ComposeFault, Composed, Graph, compose};
+use solution_laws::laws::{graphs_are_acyclic, solutions_are_made, solved_families_are_shown};
 use std::alloc::{AllocError, Global};
 use vector_table::Assumptions;
 
+// The least ranks and needs of a graph of which no instance reaches itself.
+fn composed(alloc: Global, graph: &Graph) -> Result<Composed, AllocError>
+    requires graph { IsGraph graph.now.instances }
+    requires acyclic { (at : ℕ) → IsNamed graph.now.instances at → ⊥ }
+    ensures { IfOk result (λ c. IsLeast graph.now.instances c.ranks c.needs) }
+{
+    match compose(alloc, graph) {
+        Ok(composed) => Ok(composed),
+        Err(ComposeFault::Memory) => Err(AllocError),
+        Err(ComposeFault::Cycle(_)) => unreachable!(),
+    }
+}
+
+// The instances with their ranks and needs.
+fn instances(
+    alloc: Global,
+    graph: &Graph,
+    composed: &Composed,
+) -> Result<Vec<Inst>, AllocError>
+    requires ranks { length composed.now.ranks ≡ length graph.now.instances }
+    requires needs { length composed.now.needs ≡ length graph.now.instances }
+    ensures { IfOk result (λ insts. AreInsts graph.now.instances composed.now.ranks composed.now.needs insts.items) }
+{
+    let graph = graph.instances.as_slice();
+    let ranks = composed.ranks.as_slice();
+    let needs = composed.needs.as_slice();
+    let mut insts = Vec::new(alloc);
+    for i in 0..graph.len() {
+        insts.push(Inst {
+            key: graph[i].key,
+            rank: ranks[i],
+            need: needs[i],
+        })?;
+    }
+    Ok(insts)
+}
+
 /// The certificate of the family at which the rounds end, without a schedule.
 pub fn certificate_of(
-    _alloc: Global,
+    alloc: Global,
     flash: &Flash,
     assumptions: &Assumptions,
     table: Table,
@@ -20,8 +67,15 @@ pub fn certificate_of(
     requires solved { (n : ℕ) × IsSolved flash.now assumptions.now n table }
     ensures { IfOk result (λ c. IsSolution flash.now assumptions.now table c) }
 {
-    let _flash = flash;
-    let _assumptions = assumptions;
-    let _table = table;
-    Err(AllocError)
+    solved_families_are_shown();
+    graphs_are_acyclic();
+    solutions_are_made();
+    let nodes = Filled::new(table.into_sorted(alloc)?);
+    let graph = graph_of(alloc, flash, assumptions, &nodes)?;
+    let composed = composed(alloc, &graph)?;
+    let insts = instances(alloc, &graph, &composed)?;
+    let seeds = forms(alloc, flash, assumptions, nodes)?;
+    let bound = composed.need(0) as u16;
+    let _entries = assumptions.entries();
+    Ok(Certificate::build(bound, assumptions.copy()?, insts, seeds))
 }

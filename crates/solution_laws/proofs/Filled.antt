@@ -61,6 +61,20 @@ moves words A nodes n _ (entering _ inst back (by_call offset site clean form me
 moves words A nodes n _ (entering _ inst back (by_interrupt offset v clears clean form i delay enabled clearable)) is = absurd (cc)
 moves words A nodes n _ (returning way inst back leaver x state enters present same clean exit it) is = absurd (cc)
 
+-- local edges of a node to one key are one
+same_edge : (words : List ℕ) (A : List Entry) (nodes : List Node) (n : Node) (d e : Edge) → IsEdge words A nodes n d → IsEdge words A nodes n e
+    → d.kind ≡ kind.Local → e.kind ≡ kind.Local → d.to ≡ e.to → d ≡ e
+same_edge words A nodes n d e is_d is_e local_d local_e to =
+    let v = moves words A nodes n d is_d local_d in
+    let w = moves words A nodes n e is_e local_e in
+    let l = part_of (raw_of words A n) in
+    let few = successors_are_one.few words A n.key e.to n.state l (ok_of words A n.key n.state w.clean) in
+    let states = alone (states_at e.to l.same) w.to.state few (in_states e.to l.same w.to w.key w.member) in
+    let state : v.to.state ≡ w.to.state = only w.to.state v.to.state (subst (λ (xs : List AbsState). Contains xs v.to.state) states (in_states e.to l.same v.to (v.key ∙ to) v.member)) in
+    let kinds = local_d ∙ sym local_e in
+    let ends = sym v.state ∙ state ∙ w.state in
+    λ i. record { kind = kinds i; to = to i; state = ends i }
+
 -- ---- the nodes with their forms
 
 module _ (words : List ℕ) (A : List Entry) (n : ℕ) (f : Family) (solved : IsSolved words A n f) (seeds : Seeds) (forms : AreForms words A (nodes_of f) seeds) where
@@ -143,6 +157,7 @@ module _ (words : List ℕ) (A : List Entry) (f : Family) (seeds : Seeds) (forms
 
 pub lone_edges_tell : LoneEdgesTell
 lone_edges_tell = record {
+  one = same_edge;
   state = λ words A n f k m s solved only other is. lone words A n f solved k m s only other is;
   filled = λ words A n f seeds solved forms. filled words A n f solved seeds forms;
   sparse = sparse;

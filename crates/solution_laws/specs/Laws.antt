@@ -5,10 +5,12 @@ use Rattle.avr_model.specs.declared.assumption.Entry.{Entry}
 use Rattle.avr_model.specs.State.{SIZE}
 use Rattle.abs_state.specs.declared.state.AbsState.{AbsState}
 use Rattle.vector_table.specs.Entries.{AreEntries}
+use Rattle.mask_states.specs.declared.keys.EdgeKind.TheVariants.{Local}
 use Rattle.mask_states.specs.declared.keys.NodeKey.{NodeKey}
 use Rattle.mask_states.specs.Keys.{root_inst, entry_key}
 use Rattle.local_rules.specs.declared.local.Node.{Node}
-use Rattle.edge_rules.specs.Edges.{IsFaultless}
+use Rattle.edge_rules.specs.declared.edge.Edge.{Edge}
+use Rattle.edge_rules.specs.Edges.{IsFaultless, IsEdge}
 use Rattle.edge_rules.specs.Expansion.{Seeds, IsFilled}
 use Rattle.edge_rules.specs.Views.{AreShown}
 use Rattle.nesting_bound.specs.declared.graph.GraphInst.{GraphInst}
@@ -32,9 +34,11 @@ pub record SolvedFamiliesAreShown : Type 0 where
   pub faultless : (words : List ℕ) (A : List Entry) (n : ℕ) (f : Family) → IsSolved words A n f → (m : Node) → Contains (nodes_of f) m → IsFaultless words A m
   pub peopled : (words : List ℕ) (A : List Entry) (n : ℕ) (f : Family) → IsSolved words A n f → IsPeopled words A (nodes_of f)
 
--- In a solved family the state of a node to which exactly one edge leads, where that is local, is the edge's, unless the node is the
--- root's after reset. So nodes with their forms stand for the family.
+-- Local edges from one node to one key are one. In a solved family the state of a node to which exactly one edge leads, where that is
+-- local, is the edge's, unless the node is the root's after reset. So nodes with their forms stand for the family.
 pub record LoneEdgesTell : Type 0 where
+  pub one : (words : List ℕ) (A : List Entry) (nodes : List Node) (n : Node) (d e : Edge) → IsEdge words A nodes n d → IsEdge words A nodes n e
+      → d.kind ≡ Local → e.kind ≡ Local → d.to ≡ e.to → d ≡ e
   pub state : (words : List ℕ) (A : List Entry) (n : ℕ) (f : Family) (k : NodeKey) (m : ℕ) (s : AbsState) → IsSolved words A n f
       → (only : IsOnlyFrom words A (nodes_of f) k m) → k ≢ entry_key root_inst → get f k ≡ Some s → only.edge.state ≡ s
   pub filled : (words : List ℕ) (A : List Entry) (n : ℕ) (f : Family) (seeds : Seeds) → IsSolved words A n f → AreForms words A (nodes_of f) seeds

@@ -7,7 +7,7 @@ pub fn solved_families_are_shown()
     ensures { SolvedFamiliesAreShown }
 {}
 
-/// In a solved family the state of a node to which one edge alone leads is that edge's, so it can be left out.
+/// Local edges from one node to one key are one. In a solved family the state of a node to which one edge alone leads is that edge's, so it can be left out.
 pub fn lone_edges_tell()
     ensures { LoneEdgesTell }
 {}

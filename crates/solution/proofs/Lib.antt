@@ -1,0 +1,3 @@
+pub mod Places
+pub mod Led
+pub mod Formed

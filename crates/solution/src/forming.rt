@@ -1,0 +1,86 @@
+//! Which states are written and which are left out.
+
+ghost use Rattle.std.specs.Prelude.{◌≡◌, ◌≤◌, ◌<◌, ◌++◌, length, IfOk, Contains};
+ghost use Rattle.local_rules.specs.declared.local.Node.{Node};
+ghost use Rattle.edge_rules.specs.Edges.{IsFaultless};
+ghost use Rattle.call_graph.specs.Exits.{AreExits};
+ghost use Rattle.solution_laws.specs.Parts.{AreForms};
+ghost use Rattle.solution.specs.Leads.{AreLeads, form_by, forms_from};
+
+use crate::leading::{Lead, leads};
+use abs_state::AbsState;
+use call_graph::laws::exits_are_exact;
+use call_graph::{Exits, Filled, Leaving, NodeForm, exits};
+use flash_image::Flash;
+use local_rules::Node;
+use mask_states::NodeKey;
+use std::alloc::{AllocError, Global};
+use vector_table::Assumptions;
+
+// The form of the node of this number, to which edges lead so.
+fn form(at: usize, lead: Lead, state: AbsState) -> NodeForm
+    ensures { result ≡ form_by at lead state }
+{
+    match lead {
+        Lead::Nothing | Lead::More => NodeForm::State(state),
+        Lead::Only(from) => {
+            if (from as usize) < at {
+                NodeForm::From(from)
+            } else {
+                NodeForm::State(state)
+            }
+        }
+    }
+}
+
+// The nodes with their forms, where edges lead to them so.
+fn formed(
+    alloc: Global,
+    nodes: Vec<Node>,
+    leads: &[Lead],
+) -> Result<Vec<(NodeKey, NodeForm)>, AllocError>
+    requires { length leads.now ≡ length nodes.items }
+    ensures { IfOk result (λ forms. forms.items ≡ forms_from 0 leads.now nodes.items) }
+{
+    let mut forms = Vec::new(alloc);
+    for node in nodes {
+        let at = forms.len();
+        forms.push((node.key, form(at, leads[at], node.state)))?;
+    }
+    Ok(forms)
+}
+
+// The nodes with their forms, where these are their exits.
+fn formed_by(
+    alloc: Global,
+    flash: &Flash,
+    assumptions: &Assumptions,
+    nodes: Filled,
+    exits: &Exits,
+) -> Result<Vec<(NodeKey, NodeForm)>, AllocError>
+    requires few { length nodes ≤ 65536 }
+    requires known { AreExits flash.now assumptions.now nodes exits.now }
+    ensures { IfOk result (λ forms. AreForms flash.now assumptions.now nodes forms.items) }
+{
+    let leads = leads(alloc, flash, assumptions, &nodes, exits)?;
+    formed(alloc, nodes.into_vec(), leads.as_slice())
+}
+
+/// The nodes of a family, at most 65,536 without a fault, with their forms: the number of an earlier node where the one edge that leads to
+/// the node is local and comes from there, and else the state. Each local part is worked out twice.
+pub fn forms(
+    alloc: Global,
+    flash: &Flash,
+    assumptions: &Assumptions,
+    nodes: Filled,
+) -> Result<Vec<(NodeKey, NodeForm)>, AllocError>
+    requires few { length nodes ≤ 65536 }
+    requires faultless { (n : Node) → Contains nodes n → IsFaultless flash.now assumptions.now n }
+    ensures { IfOk result (λ forms. AreForms flash.now assumptions.now nodes forms.items) }
+{
+    exits_are_exact();
+    match exits(alloc, flash, assumptions, &nodes)? {
+        Leaving::All(exits) => formed_by(alloc, flash, assumptions, nodes, &exits),
+        Leaving::Fault(_, _) => unreachable!(),
+    }
+}
