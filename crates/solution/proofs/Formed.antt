@@ -1,24 +1,20 @@
 -- The forms of the nodes of a family, by how edges lead to them.
-use Rattle.std.proofs.Common.{◌≡◌, refl, sym, ap, ◌∙◌, subst, ℕ, zero, suc, ◌+◌, ◌<◌, ◌≤◌, Bool, true, false, cond, nat_lt, List, [], ◌∷◌, ◌++◌, length, Some, Contains, slice_get, replicate, arith}
+use Rattle.std.proofs.Common.{◌≡◌, refl, sym, ap, ap₂, ◌∙◌, subst, ℕ, zero, suc, ◌+◌, Bool, true, false, cond, nat_lt, List, [], ◌∷◌, ◌++◌, length, Some, slice_get, replicate, length-append, Result, Ok, Err, IfOk, Vec, Global, arith}
 use Rattle.std.proofs.lemmas.Bool.Decides.{nat_tests}
 use Rattle.std.proofs.lemmas.List.{get_or-replicate, length-replicate}
 use Rattle.std.proofs.lemmas.Option.{none-some, same_Some, slice_get_within}
 use Rattle.avr_model.specs.declared.assumption.Entry.{Entry}
-use Rattle.abs_state.specs.declared.state.AbsState.{AbsState}
-use Rattle.mask_states.specs.declared.keys.EdgeKind.TheVariants.{Local}
 use Rattle.mask_states.specs.declared.keys.NodeKey.{NodeKey}
 use Rattle.local_rules.specs.declared.local.Node.{Node}
-use Rattle.edge_rules.specs.declared.edge.Edge.{Edge}
 use Rattle.edge_rules.specs.declared.seeded.NodeForm.{NodeForm}
 use Rattle.edge_rules.specs.declared.seeded.NodeForm.TheVariants.{State, From}
 use Rattle.edge_rules.specs.Edges.{IsEdge}
 use Rattle.edge_rules.specs.Expansion.{Seeds}
 use Rattle.edge_rules.specs.Views.{AreShown}
 use Rattle.round_rules.specs.Sparse.{IsOnlyFrom}
-use Rattle.solution_laws.specs.Parts.{IsForm, IsGivenAt, AreForms}
+use Rattle.solution_laws.specs.Parts.{IsForm, AreForms}
 use Rattle.solution_laws.proofs.AllLaws.{lone_edges_tell}
-use Rattle.solution_laws.proofs.Lists.{contained, read, same_at}
-use Rattle.solution_laws.proofs.Order.{node_once}
+use Rattle.solution_laws.proofs.Lists.{read, same_at}
 use Rattle.solution.specs.declared.leading.Lead.{Lead}
 use Rattle.solution.specs.declared.leading.Lead.TheVariants.{Nothing, Only, More}
 use Rattle.solution.specs.Leads.{lead_at, LeadsTo, IsLead, AreLeads, form_by, forms_from}
@@ -83,10 +79,13 @@ pub forms_are : (words : List ℕ) (A : List Entry) (nodes : List Node) → AreS
 forms_are words A nodes shown leads are = record {
   count = forms_long 0 leads nodes;
   each = λ at n e.
-      let zero_more : 0 + at ≡ at = omega arith in
-      (form_by at (lead_at leads at) n.state,
-      (subst (λ (j : ℕ). slice_get (forms_from 0 leads nodes) at ≡ Some (n.key, form_by j (lead_at leads j) n.state)) zero_more (forms_get 0 leads nodes at n e),
-      form_is words A nodes shown at n (lead_at leads at) (are.each at n e)));
+      let zero_more : 0 + at ≡ at = omega arith in (
+        form_by at (lead_at leads at) n.state,
+        (
+          subst (λ (j : ℕ). slice_get (forms_from 0 leads nodes) at ≡ Some (n.key, form_by j (lead_at leads j) n.state)) zero_more (forms_get 0 leads nodes at n e),
+          form_is words A nodes shown at n (lead_at leads at) (are.each at n e),
+        ),
+      );
 }
 
 -- ---- on the way there
@@ -107,3 +106,25 @@ none_led words A nodes leads e = record {
   all = ap length e ∙ length-replicate (length nodes) Nothing;
   each = λ p n is. subst (IsLead words A nodes 0 n.key) (sym (ap (λ (l : List Lead). lead_at l p) e ∙ get_or-replicate (length nodes) p Nothing Nothing (slice_get_within nodes p n is))) (λ i x l. let lt = l.below in omega (arith, lt));
 }
+
+pub forms_pushed : (leads : List Lead) (done : List Node) (n : Node) (forms pushed : Seeds) (at : ℕ) (form : NodeForm) → forms ≡ forms_from 0 leads done
+    → length forms ≡ length done → at ≡ length forms → form ≡ form_by at (lead_at leads at) n.state → pushed ≡ forms ++ (n.key, form) ∷ []
+    → (pushed ≡ forms_from 0 leads (done ++ n ∷ [])) × (length pushed ≡ length (done ++ n ∷ []))
+forms_pushed leads done n forms pushed at form are long is form_is all =
+    let there : at ≡ 0 + length done = omega (arith, is, long) in (
+      all
+          ∙ ap₂ (λ (l : Seeds) (x : NodeForm). l ++ (n.key, x) ∷ []) are (form_is ∙ ap (λ (j : ℕ). form_by j (lead_at leads j) n.state) there)
+          ∙ sym (forms_more 0 leads done n),
+      omega (arith, ap length all, length-append forms ((n.key, form) ∷ []), length-append done (n ∷ []), long),
+    )
+
+held : {V E : Type 0} (r : Result V E) (P Q : V → Type 0) → ((v : V) → P v → Q v) → IfOk r P → IfOk r Q
+held (Ok v) P Q h p = h v p
+held (Err e) P Q h p = tt
+
+pub forms_hold : {E : Type 0} (r : Result (Vec (NodeKey × NodeForm) Global) E) (words : List ℕ) (A : List Entry) (nodes listed : List Node) (leads slice : List Lead) → AreShown nodes
+    → AreLeads words A nodes (length nodes) leads → slice ≡ leads → listed ≡ nodes → IfOk r (λ forms. forms.items ≡ forms_from 0 slice listed)
+    → IfOk r (λ forms. AreForms words A nodes forms.items)
+forms_hold r words A nodes listed leads slice shown are same all h =
+    held r (λ forms. forms.items ≡ forms_from 0 slice listed) (λ forms. AreForms words A nodes forms.items)
+    (λ forms e. subst (AreForms words A nodes) (sym (e ∙ ap₂ (λ (l : List Lead) (ns : List Node). forms_from 0 l ns) same all)) (forms_are words A nodes shown leads are)) h

@@ -1,5 +1,5 @@
 -- How edges lead to nodes, edge by edge and node by node.
-use Rattle.std.proofs.Common.{◌≡◌, ◌≢◌, refl, sym, ap, ap₂, ◌∙◌, subst, ℕ, zero, suc, ◌+◌, ◌<◌, ◌≤◌, ◌==◌, ◌⊎◌, inl, inr, Bool, true, false, cond, List, [], ◌∷◌, length, Some, Contains, slice_get, fold, take, drop, ◌++◌, arith}
+use Rattle.std.proofs.Common.{◌≡◌, ◌≢◌, refl, sym, ap, ap₂, ◌∙◌, subst, ℕ, ◌+◌, ◌<◌, ◌==◌, ◌⊎◌, inl, inr, Bool, true, false, cond, List, [], ◌∷◌, length, Some, Contains, slice_get, fold, take, drop, ◌++◌, arith}
 use Rattle.std.proofs.lemmas.Bool.{cases_lt}
 use Rattle.std.proofs.lemmas.Grind.{common_steps}
 use Rattle.std.proofs.lemmas.Bool.Decides.{nat_tests}
@@ -14,7 +14,6 @@ use Rattle.local_laws.proofs.Members.{none_in, here, there, first_or}
 use Rattle.edge_rules.specs.declared.edge.Edge.{Edge}
 use Rattle.edge_rules.specs.Edges.{IsEdge, AreEdges}
 use Rattle.edge_rules.specs.Views.{AreShown}
-use Rattle.round_rules.specs.Sparse.{IsOnlyFrom}
 use Rattle.solution_laws.proofs.Lists.{contained, same_at}
 use Rattle.solution_laws.proofs.Order.{node_once}
 use Rattle.solution.specs.declared.leading.Lead.{Lead}
@@ -174,8 +173,10 @@ module _ (words : List ℕ) (A : List Entry) (nodes : List Node) (shown : AreSho
   -- no edge from the node leads there
   without : kinds_to k edges ≡ [] → (lead : Lead) → Before lead → After lead
   without none Nothing h = split (λ i e. ⊥) h (λ e l. none_in e.kind (subst (λ (xs : List EdgeKind). Contains xs e.kind) none (kind_of e l)))
-  without none (Only m) h = ((h.0.0, later m h.0.0 h.0.1),
-    split (λ i e. (i ≡ m) × (e.kind ≡ Local)) h.1 (λ e l. absurd (none_in e.kind (subst (λ (xs : List EdgeKind). Contains xs e.kind) none (kind_of e l)))))
+  without none (Only m) h = (
+    (h.0.0, later m h.0.0 h.0.1),
+    split (λ i e. (i ≡ m) × (e.kind ≡ Local)) h.1 (λ e l. absurd (none_in e.kind (subst (λ (xs : List EdgeKind). Contains xs e.kind) none (kind_of e l)))),
+  )
   without none More h = h
 
   -- one that isn't local does
@@ -189,9 +190,10 @@ module _ (words : List ℕ) (A : List Entry) (nodes : List Node) (shown : AreSho
   with_local : (x : EdgeKind) (xs : List EdgeKind) → kinds_to k edges ≡ x ∷ xs → AllLocal (x ∷ xs) → (lead : Lead) → Before lead → After (run at lead (x ∷ xs))
   with_local x xs are all Nothing h =
       let f = of_kind k edges x (subst (λ (l : List EdgeKind). Contains l x) (sym are) (here x xs)) in
-      subst After (sym (fresh at x xs all))
-      ((f.edge, own x f),
-      split (λ i e. (i ≡ at) × (e.kind ≡ Local)) (λ i e l. absurd (h i e l)) (λ e l. (refl, all e.kind (subst (λ (l : List EdgeKind). Contains l e.kind) are (kind_of e l)))))
+      subst After (sym (fresh at x xs all)) (
+        (f.edge, own x f),
+        split (λ i e. (i ≡ at) × (e.kind ≡ Local)) (λ i e l. absurd (h i e l)) (λ e l. (refl, all e.kind (subst (λ (l : List EdgeKind). Contains l e.kind) are (kind_of e l)))),
+      )
   with_local x xs are all (Only m) h =
       let f = of_kind k edges x (subst (λ (l : List EdgeKind). Contains l x) (sym are) (here x xs)) in
       let l = h.0.1 in

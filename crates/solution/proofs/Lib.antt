@@ -1,3 +1,4 @@
 pub mod Places
 pub mod Led
 pub mod Formed
+pub mod Certificates

@@ -5,7 +5,7 @@ ghost use Rattle.local_rules.specs.declared.local.Node.{Node};
 ghost use Rattle.edge_rules.specs.Edges.{IsFaultless};
 ghost use Rattle.call_graph.specs.Exits.{AreExits};
 ghost use Rattle.solution_laws.specs.Parts.{AreForms};
-ghost use Rattle.solution.specs.Leads.{AreLeads, form_by, forms_from};
+ghost use Rattle.solution.specs.Leads.{lead_at, form_by, forms_from};
 
 use crate::leading::{Lead, leads};
 use abs_state::AbsState;
@@ -17,11 +17,12 @@ use mask_states::NodeKey;
 use std::alloc::{AllocError, Global};
 use vector_table::Assumptions;
 
-// The form of the node of this number, to which edges lead so.
-fn form(at: usize, lead: Lead, state: AbsState) -> NodeForm
-    ensures { result ≡ form_by at lead state }
+// The form of the node of this number, where edges lead to the nodes so.
+fn form(leads: &[Lead], at: usize, state: AbsState) -> NodeForm
+    requires { at < length leads.now }
+    ensures { result ≡ form_by at (lead_at leads.now at) state }
 {
-    match lead {
+    match leads[at] {
         Lead::Nothing | Lead::More => NodeForm::State(state),
         Lead::Only(from) => {
             if (from as usize) < at {
@@ -45,7 +46,7 @@ fn formed(
     let mut forms = Vec::new(alloc);
     for node in nodes {
         let at = forms.len();
-        forms.push((node.key, form(at, leads[at], node.state)))?;
+        forms.push((node.key, form(leads, at, node.state)))?;
     }
     Ok(forms)
 }

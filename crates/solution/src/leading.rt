@@ -28,13 +28,7 @@ fn led(lead: Lead, at: u32, kind: EdgeKind) -> Lead
     match kind {
         EdgeKind::Local => match lead {
             Lead::Nothing => Lead::Only(at),
-            Lead::Only(from) => {
-                if from == at {
-                    lead
-                } else {
-                    Lead::More
-                }
-            }
+            Lead::Only(from) => { if from == at { lead } else { Lead::More } }
             Lead::More => lead,
         },
         EdgeKind::Call | EdgeKind::Interrupt(_, _) | EdgeKind::Return => Lead::More,

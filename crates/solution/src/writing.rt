@@ -8,10 +8,9 @@ ghost use Rattle.round_rules.specs.Refusals.{IsSolved};
 ghost use Rattle.round_rules.specs.Solutions.{IsSolution};
 ghost use Rattle.solution_laws.specs.Parts.{AreInsts};
 
-
 use crate::forming::forms;
-use certificate::{Certificate, Inst};
 use call_graph::Filled;
+use certificate::{Certificate, Inst};
 use family_graph::graph_of;
 use family_table::Table;
 use flash_image::Flash;
@@ -34,11 +33,7 @@ fn composed(alloc: Global, graph: &Graph) -> Result<Composed, AllocError>
 }
 
 // The instances with their ranks and needs.
-fn instances(
-    alloc: Global,
-    graph: &Graph,
-    composed: &Composed,
-) -> Result<Vec<Inst>, AllocError>
+fn instances(alloc: Global, graph: &Graph, composed: &Composed) -> Result<Vec<Inst>, AllocError>
     requires ranks { length composed.now.ranks ≡ length graph.now.instances }
     requires needs { length composed.now.needs ≡ length graph.now.instances }
     ensures { IfOk result (λ insts. AreInsts graph.now.instances composed.now.ranks composed.now.needs insts.items) }
@@ -76,6 +71,7 @@ pub fn certificate_of(
     let insts = instances(alloc, &graph, &composed)?;
     let seeds = forms(alloc, flash, assumptions, nodes)?;
     let bound = composed.need(0) as u16;
+    // These are entries that a list of assumptions may have.
     let _entries = assumptions.entries();
     Ok(Certificate::build(bound, assumptions.copy()?, insts, seeds))
 }

@@ -1,4 +1,4 @@
-use Rattle.std.proofs.Common.{◌≡◌, ◌<◌, ◌≤◌, length}
+use Rattle.std.proofs.Common.{◌≡◌, length}
 use Rattle.solution.specs.Leads.{forms_from}
 use Rattle.solution.proofs.forming.formed.Given as goal
 
