@@ -12,7 +12,7 @@ use Rattle.mask_states.specs.declared.keys.SpForm.TheVariants.{Closed}
 use Rattle.mask_states.specs.Keys.{root_inst, offset_of}
 use Rattle.mask_states.specs.Order.{same_inst}
 use Rattle.mask_states.proofs.AllLaws.{keys_are_ordered}
-use Rattle.instance_nesting.specs.Nestings.{Spot, Entrance, Noted, AreOnce, HasNode, HasEntrance}
+use Rattle.instance_nesting.specs.Nestings.{Spot, Entrance, Noted, AreOnce, HasNode, HasEntrance, AreAlike}
 use Rattle.instance_nesting.specs.Drawn.{insts_of, AreApart, HasMore}
 
 -- ---- a set with one member more
@@ -119,3 +119,6 @@ pub entrance_kept : (old : Noted) (key : NodeKey) (into : InstKey) (entrances : 
     → HasMore old.entrances (record { from = key.inst; into = into; offset = offset_of key.sp }) entrances
     → HasEntrance old key into (record { insts = old.insts; spots = old.spots; entrances = entrances })
 entrance_kept old key into entrances more = record { insts = λ x. (λ h. h, λ h. h); spots = λ s. (λ h. h, λ h. h); entrances = more }
+
+pub alike : (n : Noted) → AreAlike n n
+alike n = record { insts = λ inst. (λ h. h, λ h. h); spots = λ s. (λ h. h, λ h. h); entrances = λ e. (λ h. h, λ h. h) }

@@ -4,3 +4,4 @@ pub mod Changes
 pub mod Steps
 pub mod Telling
 pub mod Keeping
+pub mod Covering

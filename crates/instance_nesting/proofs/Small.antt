@@ -1,5 +1,5 @@
 -- No more instances are noted than the family has nodes.
-use Rattle.std.proofs.Common.{◌≡◌, refl, ap, subst, ℕ, zero, suc, ◌<◌, ◌≤◌, Bool, true, false, List, [], ◌∷◌, map, length, Some, slice_get, slice_index_or, Contains, arith}
+use Rattle.std.proofs.Common.{◌≡◌, refl, ap, subst, ℕ, zero, suc, ◌≤◌, Bool, true, false, List, [], ◌∷◌, map, length, Some, Contains, arith}
 use Rattle.std.specs.List.{IsDistinct, AllByRecursion}
 use Rattle.std.specs.Bool.{Decides}
 use Rattle.std.specs.Set.{is_member}
@@ -15,6 +15,7 @@ use Rattle.local_laws.proofs.Members.{here, there, in_map}
 use Rattle.round_rules.specs.Families.{Family, node_of, nodes_of}
 use Rattle.round_laws.proofs.AllLaws.{families_are_their_nodes}
 use Rattle.instance_nesting.specs.Nestings.{Noted, AreOnce, IsNestingOf, NestingsAreSmall}
+use Rattle.instance_nesting.proofs.Numbers.{at_place}
 
 abbrev inst_of : Node → InstKey
 inst_of n = n.key.inst
@@ -22,11 +23,6 @@ inst_of n = n.key.inst
 mapped_length : {X Y : Type 0} (f : X → Y) (xs : List X) → length (map f xs) ≡ length xs
 mapped_length f [] = refl
 mapped_length f (x ∷ xs) = omega (arith, mapped_length f xs)
-
-at_place : (keys : List InstKey) (inst : InstKey) (i : ℕ) → i < length keys → slice_index_or keys i inst ≡ inst → slice_get keys i ≡ Some inst
-at_place [] inst i lt e = absurd (omega (arith, lt))
-at_place (k ∷ ks) inst zero lt e = ap Some e
-at_place (k ∷ ks) inst (suc i) lt e = at_place ks inst i (omega (arith, lt)) e
 
 none_later : (k : InstKey) (ks : List InstKey) → ((inst : InstKey) → Contains ks inst → k ≡ inst → ⊥) → AllByRecursion (λ y. same_inst k y ≡ false) ks
 none_later k [] none = tt

@@ -1,5 +1,5 @@
 -- The graph of what is noted.
-use Rattle.std.specs.Prelude.{ℕ, ◌+◌, ◌≡◌, ◌↔◌, ◌⊎◌, Bool, if◌then◌else◌, List, ◌∷◌, Some, length, Contains, slice_get}
+use Rattle.std.specs.Prelude.{ℕ, ◌+◌, ◌≡◌, ◌↔◌, ◌⊎◌, Bool, if◌then◌else◌, List, [], ◌∷◌, ◌++◌, Some, length, Contains, slice_get}
 use Rattle.std.specs.List.{position_or_len}
 use Rattle.avr_model.specs.declared.assumption.Entry.{Entry}
 use Rattle.mask_states.specs.declared.keys.InstKey.{InstKey}
@@ -26,6 +26,10 @@ pub record AreApart (others : List InstKey) : Type 0 where
 -- one more is kept, if it is new
 abbrev pub HasMore : {X : Type 0} → List X → X → List X → Type 0
 HasMore {X} old y new = (x : X) → Contains new x ↔ (Contains old x ⊎ (x ≡ y))
+
+-- the instance comes last, if it is new
+abbrev pub MoreKeys : List InstKey → InstKey → List InstKey → Type 0
+MoreKeys old inst new = (new ≡ old) ⊎ (new ≡ old ++ inst ∷ [])
 
 -- the number of an instance, or the one behind all where it has none
 abbrev pub number_of : List InstKey → InstKey → ℕ

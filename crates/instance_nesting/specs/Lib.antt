@@ -1,3 +1,4 @@
 pub mod Nestings
 pub mod Hashes
 pub mod Drawn
+pub mod Covers

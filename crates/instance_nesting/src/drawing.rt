@@ -14,17 +14,17 @@ use std::alloc::{AllocError, Global};
 use std::mem;
 
 // The number of an instance: the root's is 0, the others' are by their order, and one that is not noted goes by the number behind all.
-fn number(others: &IndexSet<NotedInst>, inst: &InstKey) -> usize
-    requires { index_set_len others.now ≤ 65535 }
+pub(crate) fn number(others: &IndexSet<NotedInst>, inst: &InstKey) -> usize
     ensures is { result ≡ number_of (root_inst ∷ others.now.keys) inst.now }
     ensures within { result ≤ index_set_len others.now + 1 }
 {
     if *inst == InstKey::root() {
         return 0;
     }
+    let count = others.len();
     match others.get_index_of(&NotedInst { key: *inst }) {
         Some(at) => at + 1,
-        None => others.len() + 1,
+        None => count + 1,
     }
 }
 

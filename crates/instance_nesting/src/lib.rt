@@ -1,6 +1,7 @@
 //! Which instance of a growing family enters which, and whether some enter themselves or need too much. Source: own.
 #![tactic(auto)]
 
+mod allowances;
 mod drawing;
 pub mod laws;
 pub mod nesting;
@@ -10,3 +11,6 @@ pub mod weight;
 
 pub use nesting::Nesting;
 pub use weight::Weight;
+
+#[cfg(test)]
+mod tests;

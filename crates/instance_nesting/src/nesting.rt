@@ -3,11 +3,12 @@
 ghost use Rattle.std.specs.Prelude.{◌≡◌, ◌≤◌, length, IfOk, OnOk};
 ghost use Rattle.mask_states.specs.Keys.{offset_of};
 ghost use Rattle.instance_nesting.specs.Nestings.{Noted, nothing, AreOnce, HasNode, HasEntrance, AreAlike, TellsAll};
-ghost use Rattle.instance_nesting.specs.Drawn.{insts_of, AreApart, HasMore};
+ghost use Rattle.instance_nesting.specs.Drawn.{insts_of, AreApart, HasMore, MoreKeys};
 
+use crate::allowances::Allowances;
 use crate::drawing::drawn;
 use crate::notes::{NotedEntrance, NotedInst, NotedSpot};
-use crate::weighing::weight;
+use crate::weighing::{Weighed, weigh_graph};
 use crate::weight::Weight;
 use indexmap::IndexSet;
 use mask_states::{InstKey, NodeKey, SpForm};
@@ -18,6 +19,8 @@ use std::marker::Model;
 #[derive(Drop)]
 pub struct Nesting {
     alloc: Global,
+    covered: bool,
+    allowances: Allowances,
     has_root: bool,
     others: IndexSet<NotedInst>,
     spots: IndexSet<NotedSpot>,
@@ -26,13 +29,14 @@ pub struct Nesting {
 
 impl Model for Nesting {
     ghost use Rattle.instance_nesting.specs.Nestings.{Noted};
-    ghost use Rattle.instance_nesting.specs.Drawn.{insts_of, AreApart};
+    ghost use Rattle.instance_nesting.specs.Drawn.{insts_of};
+    ghost use Rattle.instance_nesting.specs.Covers.{IsKept};
 
     ghost Value = { Noted };
 
     ghost view = { λ n. record { insts = insts_of n.has_root n.others.keys; spots = n.spots.keys; entrances = n.entrances.keys } };
 
-    ghost invariant = { λ n. AreApart n.others.keys };
+    ghost invariant = { λ n. IsKept n.covered n.allowances.known.items n.allowances.unknown n.others.keys n.spots.keys n.entrances.keys };
 }
 
 // Keeps an instance, if it is new.
@@ -43,6 +47,7 @@ fn keep_inst(
 ) -> Result<(), AllocError>
     requires apart { AreApart others.old.keys }
     ensures apart { AreApart others.new.keys }
+    ensures keys { OnOk result (MoreKeys others.old.keys inst.now others.new.keys) }
     ensures more { OnOk result (HasMore (insts_of has_root.old others.old.keys) inst.now (insts_of has_root.new others.new.keys)) }
 {
     if *inst == InstKey::root() {
@@ -77,11 +82,21 @@ impl Nesting {
     {
         Nesting {
             alloc,
+            covered: false,
+            allowances: Allowances::none(alloc),
             has_root: false,
             others: IndexSet::new(alloc),
             spots: IndexSet::new(alloc),
             entrances: IndexSet::new(alloc),
         }
+    }
+
+    /// How many instances are noted.
+    pub fn count(&self) -> usize
+        ensures { result ≡ length self.now.insts }
+    {
+        let others = self.others.len();
+        if self.has_root { others + 1 } else { others }
     }
 
     /// Notes a node: its instance, and its offset where its stack pointer is whole. It may be noted before.
@@ -90,11 +105,22 @@ impl Nesting {
         ensures node { OnOk result (HasNode self.old key.now self.new) }
         ensures once { OnOk result (AreOnce self.new.insts) }
     {
+        let covered = self.covered;
+        self.covered = false;
         keep_inst(&mut self.has_root, &mut self.others, &key.inst)?;
-        if let SpForm::Closed(offset) = key.sp {
-            keep_spot(&mut self.spots, NotedSpot::new(key.inst, offset))?;
+        match key.sp {
+            SpForm::Closed(offset) => {
+                let spot = NotedSpot::new(key.inst, offset);
+                let covered = covered && self.allowances.allow_spot(&self.others, &spot);
+                keep_spot(&mut self.spots, spot)?;
+                self.covered = covered;
+                Ok(())
+            }
+            SpForm::Open(_, _) => {
+                self.covered = covered;
+                Ok(())
+            }
         }
-        Ok(())
     }
 
     /// Notes that a node of this key, whose stack pointer is whole, enters an instance. It may be noted before.
@@ -104,7 +130,11 @@ impl Nesting {
         ensures once { OnOk result (AreOnce self.new.insts) }
     {
         let entrance = NotedEntrance::new(key.inst, *into, key.offset());
-        keep_entrance(&mut self.entrances, entrance)
+        let covered = self.covered && self.allowances.allow_entrance(&self.others, &entrance);
+        self.covered = false;
+        keep_entrance(&mut self.entrances, entrance)?;
+        self.covered = covered;
+        Ok(())
     }
 
     /// What the nesting tells of the family. What was noted stays. Where the root has no node, nothing is told.
@@ -114,6 +144,9 @@ impl Nesting {
         ensures same { AreAlike self.old self.new }
         ensures once { AreOnce self.new.insts }
     {
+        if self.covered {
+            return Ok(Weight::Light);
+        }
         if !self.has_root {
             return Ok(Weight::Light);
         }
@@ -123,6 +156,18 @@ impl Nesting {
             self.spots.as_slice(),
             self.entrances.as_slice(),
         )?;
-        weight(self.alloc, &graph)
+        let Weighed { weight, allowances } = weigh_graph(
+            self.alloc,
+            &graph,
+            self.others.len() + 1,
+        )?;
+        match allowances {
+            Some(allowances) => {
+                self.allowances = allowances;
+                self.covered = true;
+                Ok(weight)
+            }
+            None => Ok(weight),
+        }
     }
 }

@@ -1,6 +1,6 @@
 //! What a graph of instances tells.
 
-ghost use Rattle.std.specs.Prelude.{◌≡◌, ℕ, List, Some, IfOk, slice_get};
+ghost use Rattle.std.specs.Prelude.{◌≡◌, ℕ, List, Some, IfSome, IfOk, slice_get};
 ghost use Rattle.avr_model.specs.declared.assumption.Entry.{Entry};
 ghost use Rattle.mask_states.specs.declared.keys.InstKey.{InstKey};
 ghost use Rattle.nesting_bound.specs.Graph.{IsGraph};
@@ -9,7 +9,9 @@ ghost use Rattle.round_rules.specs.Families.{Family};
 ghost use Rattle.graph_laws.specs.Graphs.{IsGraphOf};
 ghost use Rattle.instance_nesting.specs.Nestings.{Tells};
 ghost use Rattle.instance_nesting.specs.Drawn.{GraphTells};
+ghost use Rattle.instance_nesting.specs.Covers.{HaveRoomOver};
 
+use crate::allowances::Allowances;
 use crate::weight::Weight;
 use graph_laws::laws::graphs_tell;
 use mask_states::{InstKey, Kind};
@@ -29,22 +31,39 @@ fn named(graph: &[GraphInst], at: u32) -> Weight
     }
 }
 
-/// What the graph of a family tells.
-pub(crate) fn weight(alloc: Global, graph: &Graph) -> Result<Weight, AllocError>
+/// What the graph of a family tells, and where it is light, what its instances are allowed.
+#[derive(Drop)]
+pub(crate) struct Weighed {
+    pub weight: Weight,
+    pub allowances: Option<Allowances>,
+}
+
+/// What the graph of a family tells. So many of its instances have numbers.
+pub(crate) fn weigh_graph(alloc: Global, graph: &Graph, count: usize) -> Result<Weighed, AllocError>
     requires { IsGraph graph.now.instances }
-    ensures { IfOk result (GraphTells graph.now.instances) }
+    ensures tells { IfOk result (λ w. GraphTells graph.now.instances w.weight) }
+    ensures room { IfOk result (λ w. IfSome w.allowances (λ a. HaveRoomOver graph.now.instances count a.known.items a.unknown)) }
 {
     graphs_tell();
-    match compose(alloc, graph) {
-        Ok(composed) => {
-            let need = composed.need(0);
-            if need <= 2048 {
-                Ok(Weight::Light)
-            } else {
-                Ok(Weight::TooDeep(need))
-            }
+    let composed = match compose(alloc, graph) {
+        Ok(composed) => composed,
+        Err(ComposeFault::Cycle(at)) => {
+            return Ok(Weighed {
+                weight: named(graph.instances.as_slice(), at),
+                allowances: None,
+            });
         }
-        Err(ComposeFault::Cycle(at)) => Ok(named(graph.instances.as_slice(), at)),
-        Err(ComposeFault::Memory) => Err(AllocError),
+        Err(ComposeFault::Memory) => return Err(AllocError),
+    };
+    let need = composed.need(0);
+    if need > 2048 {
+        return Ok(Weighed {
+            weight: Weight::TooDeep(need),
+            allowances: None,
+        });
     }
+    Ok(Weighed {
+        weight: Weight::Light,
+        allowances: Some(Allowances::over(alloc, &composed, count)?),
+    })
 }

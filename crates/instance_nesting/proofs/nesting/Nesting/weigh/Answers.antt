@@ -1,35 +1,79 @@
-use Rattle.std.proofs.Common.{ap, subst, sym, List, ◌∷◌, Contains}
+use Rattle.std.proofs.Common.{ap, subst, sym, ◌+◌, arith, List, ◌∷◌, Contains}
 use Rattle.mask_states.specs.declared.keys.InstKey.{InstKey}
 use Rattle.mask_states.specs.Keys.{root_inst}
 use Rattle.nesting_bound.specs.declared.graph.GraphInst.{GraphInst}
-use Rattle.instance_nesting.specs.Nestings.{Noted, Spot, Entrance, AreOnce, TellsAll}
-use Rattle.instance_nesting.specs.Drawn.{insts_of, IsDrawn, GraphTells}
-use Rattle.instance_nesting.proofs.Keeping.{insts_once, root_kept}
-use Rattle.instance_nesting.proofs.Steps.{if_ok}
+use Rattle.instance_nesting.specs.declared.weight.Weight.TheVariants.{Light}
+use Rattle.instance_nesting.specs.Nestings.{Noted, Spot, Entrance, AreOnce, AreAlike, TellsAll}
+use Rattle.instance_nesting.specs.Drawn.{insts_of, IsDrawn}
+use Rattle.instance_nesting.proofs.Keeping.{insts_once, root_kept, alike}
 use Rattle.instance_nesting.proofs.Telling.{tells_all}
+use Rattle.instance_nesting.proofs.Covering.{light, granted}
 use Rattle.instance_nesting.proofs.nesting.Nesting.weigh.Goals as goal
+
+pub returns-then-self-clause-tells : goal.returns-then-self-clause-tells
+returns-then-self-clause-tells c =
+    let old : Noted = record { insts = insts_of c.self.inside.has_root c.self.inside.others.keys; spots = c.self.inside.spots.keys; entrances = c.self.inside.entrances.keys } in
+    subst (λ (n : Noted). TellsAll n Light) c.self.view_is
+    (light (root_inst ∷ c.self.inside.others.keys) c.self.inside.allowances.known.items c.self.inside.allowances.unknown old (c.self.invariant.covers c.if-self.true))
+
+pub returns-then-self-clause-once : goal.returns-then-self-clause-once
+returns-then-self-clause-once c = subst (λ (n : Noted). AreOnce n.insts) c.self.view_is (insts_once c.self.inside.has_root c.self.inside.others.keys c.self.invariant.apart)
 
 pub returns-then-not-self-clause-tells : goal.returns-then-not-self-clause-tells
 returns-then-not-self-clause-tells c words A f root nesting =
     let there = subst (λ (n : Noted). Contains n.insts root_inst) (sym c.self.view_is) ((nesting.insts root_inst).1 root) in
-    let kept = root_kept c.self.inside.has_root c.self.inside.others.keys c.self.invariant there in
+    let kept = root_kept c.self.inside.has_root c.self.inside.others.keys c.self.invariant.apart there in
     let none = c.if-not-self.true in
     absurd (cc)
 
 pub returns-in_err-graph-clause-once : goal.returns-in_err-graph-clause-once
-returns-in_err-graph-clause-once c = subst (λ (n : Noted). AreOnce n.insts) c.self.view_is (insts_once c.self.inside.has_root c.self.inside.others.keys c.self.invariant)
+returns-in_err-graph-clause-once c = subst (λ (n : Noted). AreOnce n.insts) c.self.view_is (insts_once c.self.inside.has_root c.self.inside.others.keys c.self.invariant.apart)
+
+pub returns-in_err-weight-clause-once : goal.returns-in_err-weight-clause-once
+returns-in_err-weight-clause-once c = subst (λ (n : Noted). AreOnce n.insts) c.self.view_is (insts_once c.self.inside.has_root c.self.inside.others.keys c.self.invariant.apart)
+
+pub invariant_of-self : goal.invariant_of-self
+invariant_of-self c =
+    let others : List InstKey = c.self.inside.others.keys in
+    let gs : List GraphInst = c.in_ok-graph.graph.instances in
+    let old : Noted = record { insts = insts_of c.self.inside.has_root c.self.inside.others.keys; spots = c.self.inside.spots.keys; entrances = c.self.inside.entrances.keys } in
+    let drawn : IsDrawn (root_inst ∷ others) old.spots old.entrances gs =
+    subst (λ (es : List Entrance). IsDrawn (root_inst ∷ others) old.spots es gs) c.as_slice-2.ensures.keys
+    (subst (λ (ss : List Spot). IsDrawn (root_inst ∷ others) ss c.as_slice-2.result.now gs) c.as_slice.ensures.keys c.in_ok-graph.ensures) in
+    granted others old.spots old.entrances gs c.in_ok-weight.field-0.allowances c.in-Some.allowances (c.len.result + 1) c.self.invariant.apart drawn
+    (omega (arith, c.len.ensures.len)) c.in-Some.is c.in_ok-weight.ensures.room
+
+pub returns-in-Some-clause-tells : goal.returns-in-Some-clause-tells
+returns-in-Some-clause-tells c =
+    let others : List InstKey = c.self.inside.others.keys in
+    let gs : List GraphInst = c.in_ok-graph.graph.instances in
+    let old : Noted = record { insts = insts_of c.self.inside.has_root c.self.inside.others.keys; spots = c.self.inside.spots.keys; entrances = c.self.inside.entrances.keys } in
+    let drawn : IsDrawn (root_inst ∷ others) old.spots old.entrances gs =
+    subst (λ (es : List Entrance). IsDrawn (root_inst ∷ others) old.spots es gs) c.as_slice-2.ensures.keys
+    (subst (λ (ss : List Spot). IsDrawn (root_inst ∷ others) ss c.as_slice-2.result.now gs) c.as_slice.ensures.keys c.in_ok-graph.ensures) in
+    subst (λ (n : Noted). TellsAll n c.in_ok-weight.field-0.weight) c.self.view_is
+    (tells_all old others gs drawn (ap (λ b. insts_of b others) c.if-not-self.false) (insts_once c.self.inside.has_root others c.self.invariant.apart)
+    c.in_ok-weight.field-0.weight c.in_ok-weight.ensures.tells)
+
+pub returns-in-Some-clause-same : goal.returns-in-Some-clause-same
+returns-in-Some-clause-same c =
+    let old : Noted = record { insts = insts_of c.self.inside.has_root c.self.inside.others.keys; spots = c.self.inside.spots.keys; entrances = c.self.inside.entrances.keys } in
+    subst (λ (n : Noted). AreAlike n old) c.self.view_is (alike old)
+
+pub returns-in-Some-clause-once : goal.returns-in-Some-clause-once
+returns-in-Some-clause-once c = insts_once c.self.inside.has_root c.self.inside.others.keys c.self.invariant.apart
 
 pub returns-clause-tells : goal.returns-clause-tells
 returns-clause-tells c =
     let others : List InstKey = c.self.inside.others.keys in
     let gs : List GraphInst = c.in_ok-graph.graph.instances in
-    let old : Noted = record { insts = insts_of c.self.inside.has_root others; spots = c.self.inside.spots.keys; entrances = c.self.inside.entrances.keys } in
+    let old : Noted = record { insts = insts_of c.self.inside.has_root c.self.inside.others.keys; spots = c.self.inside.spots.keys; entrances = c.self.inside.entrances.keys } in
     let drawn : IsDrawn (root_inst ∷ others) old.spots old.entrances gs =
     subst (λ (es : List Entrance). IsDrawn (root_inst ∷ others) old.spots es gs) c.as_slice-2.ensures.keys
     (subst (λ (ss : List Spot). IsDrawn (root_inst ∷ others) ss c.as_slice-2.result.now gs) c.as_slice.ensures.keys c.in_ok-graph.ensures) in
-    if_ok (GraphTells gs) (λ w. TellsAll c.args.self.now w) c.weight.result c.weight.ensures
-    (λ w tells. subst (λ (n : Noted). TellsAll n w) c.self.view_is
-    (tells_all old others gs drawn (ap (λ b. insts_of b others) c.if-not-self.false) (insts_once c.self.inside.has_root others c.self.invariant) w tells))
+    subst (λ (n : Noted). TellsAll n c.in_ok-weight.field-0.weight) c.self.view_is
+    (tells_all old others gs drawn (ap (λ b. insts_of b others) c.if-not-self.false) (insts_once c.self.inside.has_root others c.self.invariant.apart)
+    c.in_ok-weight.field-0.weight c.in_ok-weight.ensures.tells)
 
 pub returns-clause-once : goal.returns-clause-once
-returns-clause-once c = subst (λ (n : Noted). AreOnce n.insts) c.self.view_is (insts_once c.self.inside.has_root c.self.inside.others.keys c.self.invariant)
+returns-clause-once c = subst (λ (n : Noted). AreOnce n.insts) c.self.view_is (insts_once c.self.inside.has_root c.self.inside.others.keys c.self.invariant.apart)

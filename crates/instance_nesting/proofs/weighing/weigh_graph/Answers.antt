@@ -1,0 +1,14 @@
+use Rattle.std.proofs.Common.{subst, List, arith}
+use Rattle.nesting_bound.specs.declared.graph.GraphInst.{GraphInst}
+use Rattle.instance_nesting.specs.Drawn.{GraphTells}
+use Rattle.instance_nesting.proofs.Telling.{light}
+use Rattle.instance_nesting.proofs.weighing.weigh_graph.Goals as goal
+
+pub returns-in-Err-Cycle-clause-tells : goal.returns-in-Err-Cycle-clause-tells
+returns-in-Err-Cycle-clause-tells c = subst (λ (gs : List GraphInst). GraphTells gs c.named.result) c.as_slice.ensures c.named.ensures
+
+pub returns-clause-tells : goal.returns-clause-tells
+returns-clause-tells c =
+    let least = c.in-Ok.ensures in
+    light c.graphs_tell.ensures c.args.graph.now.instances c.in-Ok.composed.ranks c.in-Ok.composed.needs least.ok least.acyclic
+    (omega (arith, c.need-need.ensures, c.if-need-gt2048.false))
