@@ -1,7 +1,9 @@
 //! The least certificate of a firmware under assumptions, or why there is none. Source: own.
 #![tactic(auto)]
 
+pub mod rounds;
 pub mod solving;
+mod testing;
 
 pub use certificate::{Certificate, Limit};
 pub use round_rules::Refusal;

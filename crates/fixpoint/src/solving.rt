@@ -1,4 +1,4 @@
-//! The rounds, from the root's node after reset to their end.
+//! The certificate of the family at which the rounds end.
 
 ghost use Rattle.std.specs.Prelude.{◌≡◌, ◌≢◌, ◌≤◌, IfOk, IfErr, None};
 ghost use Rattle.certificate.specs.Claims.{Claim};
@@ -6,9 +6,11 @@ ghost use Rattle.certificate.specs.Valid.{IsValid};
 ghost use Rattle.round_rules.specs.declared.refusal.Refusal.TheVariants.{Memory};
 ghost use Rattle.round_rules.specs.Solutions.{IsAnswer, IsWhyNot, IsShown};
 
+use crate::rounds::least_family;
 use certificate::Certificate;
 use flash_image::Flash;
 use round_rules::Refusal;
+use solution::certificate_of;
 use std::alloc::Global;
 use vector_table::Assumptions;
 
@@ -17,7 +19,7 @@ use vector_table::Assumptions;
 /// none of the families 0 to `steps`, or want of memory. Without `steps`, a refusal for another cause than memory says that no
 /// certificate is valid.
 pub fn solve(
-    _alloc: Global,
+    alloc: Global,
     flash: &Flash,
     assumptions: &Assumptions,
     steps: Option<u64>,
@@ -28,8 +30,9 @@ pub fn solve(
     ensures why_not { IfErr result (λ r. IsWhyNot flash.now assumptions.now steps r) }
     ensures none { steps ≡ None → IfErr result (λ r. r ≢ Memory → (other : Claim) → IsShown flash.now assumptions.now other → ⊥) }
 {
-    let _flash = flash;
-    let _assumptions = assumptions;
-    let _steps = steps;
-    Err(Refusal::Memory)
+    let table = least_family(alloc, flash, assumptions, steps)?;
+    let certificate = certificate_of(alloc, flash, assumptions, table)?;
+    // a look at its nodes tells the proof what every certificate keeps
+    let _nodes = certificate.nodes();
+    Ok(certificate)
 }

@@ -1,0 +1,283 @@
+-- The targets of a round's looks are a round of the family.
+use Rattle.std.proofs.Common.{◌≡◌, refl, sym, ap, ◌∙◌, subst, ℕ, ◌⊎◌, inl, inr, ⊎_elim, List, [], ◌∷◌, ◌++◌, map, Option, Some, None, Contains}
+use Rattle.std.proofs.lemmas.List.Elements.{Contains-append_left, Contains-append_right, Contains-append_cases}
+use Rattle.std.specs.FinMap.{get}
+use Rattle.avr_model.specs.declared.assumption.Entry.{Entry}
+use Rattle.abs_state.specs.declared.state.AbsState.{AbsState}
+use Rattle.abs_state.specs.Frames.{entered, returned}
+use Rattle.abs_state.proofs.AllLaws.{states_are_ordered}
+use Rattle.mask_states.specs.declared.keys.InstKey.{InstKey}
+use Rattle.mask_states.specs.declared.keys.NodeKey.{NodeKey}
+use Rattle.mask_states.specs.declared.keys.EdgeKind.{EdgeKind}
+use Rattle.mask_states.specs.declared.keys.EdgeKind.TheVariants as kind
+use Rattle.mask_states.specs.Keys.{entry_key}
+use Rattle.local_rules.specs.declared.local.Exit.{Exit}
+use Rattle.local_rules.specs.declared.local.Node.{Node}
+use Rattle.local_rules.specs.Cover.{IsNode}
+use Rattle.local_rules.specs.Local.{joined_onto}
+use Rattle.local_laws.proofs.Members.{none_in, here, there, first_or, in_map, each_in_map}
+use Rattle.edge_rules.specs.declared.edge.Edge.{Edge}
+use Rattle.edge_rules.specs.Edges.{IsFaultless, raw_of, Enters, returned_key, IsEdge, moving, entering, returning, target}
+use Rattle.edge_rules.specs.Families.{IsCovered}
+use Rattle.edge_laws.proofs.AllLaws.{edges_lead_to_nodes}
+use Rattle.call_graph.specs.declared.ways.Way.{Way}
+use Rattle.call_graph.specs.Next.{gathered}
+use Rattle.family_table.specs.declared.ports.Port.{Port}
+use Rattle.family_table.specs.Ports.{ports_at, IsPort}
+use Rattle.round_rules.specs.Families.{Family, nodes_of, Has, Lands, Below, AreFormed, LandIn}
+use Rattle.round_laws.specs.Steps.{IsRoundOf}
+use Rattle.round_laws.proofs.Keys.{some_same}
+use Rattle.round_laws.proofs.AllLaws.{families_are_their_nodes}
+use Rattle.round_steps.specs.declared.looking.Look.{Look}
+use Rattle.round_steps.specs.declared.looking.Seen.{Seen}
+use Rattle.round_steps.specs.declared.noting.Notes.{Notes}
+use Rattle.round_steps.specs.Looks.{IsLook, HasLook, AreSeen}
+use Rattle.round_steps.specs.Notings.{caller, leaver}
+use Rattle.round_steps.specs.Targets.{entry_node, returned_as, returned_to, back_from, back_at, backs_in, all_backs, onward_from, onward_at, onwards_if, targets_with, targets_of, all_targets}
+use Rattle.fixpoint.specs.Turns.{IsOwn, own_move, own_entry, ComesBack, comes_back, AreKnown, Turn}
+use Rattle.fixpoint.proofs.Looked.{seen_node, look_clean, look_same, look_exit, look_way, look_node, looked}
+
+-- ---- lists
+
+gathered_in : {X Y : Type 0} (f : X → List Y) (xs : List X) (x : X) (y : Y) → Contains xs x → Contains (f x) y → Contains (gathered f xs) y
+gathered_in f [] x y h i = absurd (none_in x h)
+gathered_in f (z ∷ zs) x y h i =
+    ⊎_elim (λ e. Contains-append_left (f z) (gathered f zs) y (subst (λ w. Contains (f w) y) e i))
+    (λ j. Contains-append_right (f z) (gathered f zs) y (gathered_in f zs x y j i)) (first_or z x zs h)
+
+each_gathered : {X Y : Type 0} (f : X → List Y) (P : Y → Type 0) (xs : List X) → ((x : X) (y : Y) → Contains xs x → Contains (f x) y → P y)
+    → (y : Y) → Contains (gathered f xs) y → P y
+each_gathered f P [] h y i = absurd (none_in y i)
+each_gathered f P (x ∷ xs) h y i =
+    ⊎_elim (λ j. h x y (here x xs) j) (each_gathered f P xs (λ z w j l. h z w (there x z xs j) l) y) (Contains-append_cases (f x) (gathered f xs) y i)
+
+only : {X : Type 0} (y x : X) → Contains (y ∷ []) x → x ≡ y
+only y x h = ⊎_elim (λ e. e) (λ i. absurd (none_in x i)) (first_or y x [] h)
+
+module _ (words : List ℕ) (A : List Entry) where
+  -- ---- edges
+
+  -- an edge of the family leads there
+  pub record IsAim (f : Family) (to : Node) : Type 0 where
+    pub from : Node
+    pub has : Has f from
+    pub edge : Edge
+    pub is : IsEdge words A (nodes_of f) from edge
+    pub at : target edge ≡ to
+
+  pub own_aim : (f : Family) (n to : Node) → Has f n → IsOwn words A n to → IsAim f to
+  own_aim f n _ has (own_move to clean i) =
+      record { from = n; has = has; edge = record { kind = kind.Local; to = to.key; state = to.state }; is = moving to clean i; at = refl }
+  own_aim f n _ has (own_entry way inst back e) =
+      record { from = n; has = has; edge = record { kind = way; to = entry_key inst; state = entered n.state }; is = entering way inst back e; at = refl }
+
+  pub back_aim : (f : Family) (n m to : Node) → Has f n → Has f m → ComesBack words A n m to → IsAim f to
+  back_aim f n m _ has there (comes_back way inst back x state e same clean exit is) =
+      record {
+        from = n;
+        has = has;
+        edge = record { kind = kind.Return; to = returned_key n.key back x; state = state };
+        is = returning way inst back m x state e ((families_are_their_nodes.members f m).1 there) same clean exit is;
+        at = refl;
+      }
+
+  -- where an edge of the family leads: the node's own successor, or back by another
+  pub record IsBack (f : Family) (n to : Node) : Type 0 where
+    pub by : Node
+    pub has : Has f by
+    pub comes : ComesBack words A n by to
+
+  pub edge_cases : (f : Family) (n : Node) (e : Edge) → IsEdge words A (nodes_of f) n e → IsOwn words A n (target e) ⊎ IsBack f n (target e)
+  edge_cases f n _ (moving to clean i) = inl (own_move to clean i)
+  edge_cases f n _ (entering way inst back e) = inl (own_entry way inst back e)
+  edge_cases f n _ (returning way inst back m x state e present same clean exit is) =
+      inr (record { by = m; has = (families_are_their_nodes.members f m).0 present; comes = comes_back way inst back x state e same clean exit is })
+
+  -- ---- one look's targets are edges' targets
+
+  returned_in : (k : NodeKey) (back : ℕ) (x : Exit) (o : Option AbsState) (after : AbsState) → o ≡ Some after
+      → Contains (returned_as k back x o) (record { key = returned_key k back x; state = after })
+  returned_in k back x o after e =
+      subst (λ (p : Option AbsState). Contains (returned_as k back x p) (record { key = returned_key k back x; state = after })) (sym e) (here _ [])
+
+  returned_from : (k : NodeKey) (back : ℕ) (x : Exit) (P : Node → Type 0) (o : Option AbsState)
+      → ((after : AbsState) → o ≡ Some after → P (record { key = returned_key k back x; state = after })) → (to : Node) → Contains (returned_as k back x o) to → P to
+  returned_from k back x P None h to i = absurd (none_in to i)
+  returned_from k back x P (Some after) h to i = subst P (sym (only (record { key = returned_key k back x; state = after }) to i)) (h after refl)
+
+  module _ (f : Family) (notes : Notes) (known : AreKnown words A f notes) (x : Look) (is : IsLook words A f x) where
+    abbrev n : Node
+    n = seen_node words A f x is
+
+    abbrev s : AbsState
+    s = is.state
+
+    clean : IsFaultless words A n
+    clean = look_clean words A f x is
+
+    by_entry : (to : Node) → Contains (map (entry_node s) x.ways.items) to → IsAim f to
+    by_entry = each_in_map (entry_node s) (IsAim f) x.ways.items (λ w i. own_aim f n _ is.has (own_entry w.kind w.inst w.back ((look_way words A f x is w).0 i)))
+
+    by_back : (w : Way) (p : Port) (to : Node) → Contains x.ways.items w → Contains (ports_at notes.leavers w.inst) p → Contains (back_at f x.key s w.back p) to → IsAim f to
+    by_back w p to i j l =
+        let so = known.so.leavers w.inst p j in
+        let m = so.node in
+        let there : get f p.node ≡ Some m.state = ap (get f) (sym so.at) ∙ so.has in
+        returned_from x.key w.back p.exit (IsAim f) (returned s m.state)
+        (λ after e. back_aim f n m _ is.has so.has
+        (comes_back w.kind w.inst w.back p.exit after ((look_way words A f x is w).0 i) so.of (known.faultless m so.has) so.exit e))
+        to (subst (λ (o : Option AbsState). Contains (back_from x.key s w.back p.exit o) to) there l)
+
+    by_backs : (to : Node) → Contains (all_backs f notes.leavers x.key s x.ways.items) to → IsAim f to
+    by_backs = each_gathered (backs_in f notes.leavers x.key s) (IsAim f) x.ways.items
+        (λ w to i. each_gathered (back_at f x.key s w.back) (IsAim f) (ports_at notes.leavers w.inst) (λ p t j l. by_back w p t i j l) to)
+
+    by_onward : (e : Exit) (p : Port) (to : Node) → x.part.exit ≡ Some e → Contains (ports_at notes.callers x.key.inst) p → Contains (onward_at f s e p) to → IsAim f to
+    by_onward e p to is_exit j l =
+        let so = known.so.callers x.key.inst p j in
+        let c = so.node in
+        let there : get f p.node ≡ Some c.state = ap (get f) (sym so.at) ∙ so.has in
+        let exit : (raw_of words A n).exit ≡ Some e = sym (look_exit words A f x is) ∙ is_exit in
+        returned_from p.node p.back e (IsAim f) (returned c.state s)
+        (λ after r. subst (λ (k : NodeKey). IsAim f (record { key = returned_key k p.back e; state = after })) so.at
+        (back_aim f c n _ so.has is.has (comes_back so.way x.key.inst p.back e after so.enters refl clean exit r)))
+        to (subst (λ (o : Option AbsState). Contains (onward_from s e p o) to) there l)
+
+    by_onwards : (o : Option Exit) → x.part.exit ≡ o → (to : Node) → Contains (onwards_if f notes.callers x.key.inst s o) to → IsAim f to
+    by_onwards None e to i = absurd (none_in to i)
+    by_onwards (Some exit) e to i = each_gathered (onward_at f s exit) (IsAim f) (ports_at notes.callers x.key.inst) (λ p t j l. by_onward exit p t e j l) to i
+
+    by_move : (to : Node) → Contains x.part.same to → IsAim f to
+    by_move to i = own_aim f n to is.has (own_move to clean (subst (λ (l : List Node). Contains l to) (look_same words A f x is) i))
+
+    abbrev firsts : List Node
+    firsts = map (entry_node s) x.ways.items
+
+    abbrev seconds : List Node
+    seconds = all_backs f notes.leavers x.key s x.ways.items
+
+    abbrev thirds : List Node
+    thirds = onwards_if f notes.callers x.key.inst s x.part.exit
+
+    abbrev whole : List Node
+    whole = firsts ++ (seconds ++ (thirds ++ x.part.same))
+
+    here_is : targets_of f notes x ≡ whole
+    here_is = ap (targets_with f notes x) is.has
+
+    pub look_aims : (to : Node) → Contains (targets_of f notes x) to → IsAim f to
+    look_aims to i =
+        ⊎_elim (by_entry to)
+        (λ j. ⊎_elim (by_backs to)
+        (λ l. ⊎_elim (by_onwards x.part.exit refl to) (by_move to) (Contains-append_cases thirds x.part.same to l))
+        (Contains-append_cases seconds (thirds ++ x.part.same) to j))
+        (Contains-append_cases firsts (seconds ++ (thirds ++ x.part.same)) to (subst (λ (l : List Node). Contains l to) here_is i))
+
+    -- ---- all edges of the look's node are met
+
+    meets : (to : Node) → Contains whole to → Contains (targets_of f notes x) to
+    meets to i = subst (λ (l : List Node). Contains l to) (sym here_is) i
+
+    in_firsts : (to : Node) → Contains firsts to → Contains (targets_of f notes x) to
+    in_firsts to i = meets to (Contains-append_left firsts (seconds ++ (thirds ++ x.part.same)) to i)
+
+    in_seconds : (to : Node) → Contains seconds to → Contains (targets_of f notes x) to
+    in_seconds to i = meets to (Contains-append_right firsts (seconds ++ (thirds ++ x.part.same)) to (Contains-append_left seconds (thirds ++ x.part.same) to i))
+
+    in_thirds : (to : Node) → Contains thirds to → Contains (targets_of f notes x) to
+    in_thirds to i =
+        meets to (Contains-append_right firsts (seconds ++ (thirds ++ x.part.same)) to
+        (Contains-append_right seconds (thirds ++ x.part.same) to (Contains-append_left thirds x.part.same to i)))
+
+    in_last : (to : Node) → Contains x.part.same to → Contains (targets_of f notes x) to
+    in_last to i =
+        meets to (Contains-append_right firsts (seconds ++ (thirds ++ x.part.same)) to
+        (Contains-append_right seconds (thirds ++ x.part.same) to (Contains-append_right thirds x.part.same to i)))
+
+    pub own_met : (to : Node) → IsOwn words A n to → Contains (targets_of f notes x) to
+    own_met _ (own_move to c i) = in_last to (subst (λ (l : List Node). Contains l to) (sym (look_same words A f x is)) i)
+    own_met _ (own_entry way inst back e) =
+        let w : Way = record { kind = way; inst = inst; back = back } in
+        in_firsts (entry_node s w) (in_map (entry_node s) x.ways.items w ((look_way words A f x is w).1 e))
+
+    -- the look's node is entered again from one that leaves
+    pub entered_met : (m to : Node) → Has f m → ComesBack words A n m to → Contains (targets_of f notes x) to
+    entered_met m _ there (comes_back way inst back e state en same c exit r) =
+        let w : Way = record { kind = way; inst = inst; back = back } in
+        let p = leaver m.key e in
+        let port : IsPort notes.leavers inst p = subst (λ (i : InstKey). IsPort notes.leavers i p) same ((known.each m there).leavers e exit) in
+        let to : Node = record { key = returned_key x.key back e; state = state } in
+        let found : Contains (back_at f x.key s back p) to =
+        subst (λ (o : Option AbsState). Contains (back_from x.key s back e o) to) (sym there) (returned_in x.key back e (returned s m.state) state r) in
+        in_seconds to (gathered_in (backs_in f notes.leavers x.key s) x.ways.items w to ((look_way words A f x is w).1 en)
+        (gathered_in (back_at f x.key s back) (ports_at notes.leavers inst) p to port found))
+
+    -- the look's node leaves
+    pub left_met : (c to : Node) → Has f c → ComesBack words A c n to → Contains (targets_of f notes x) to
+    left_met c _ there (comes_back way inst back e state en same d exit r) =
+        let w : Way = record { kind = way; inst = inst; back = back } in
+        let p = caller c.key w in
+        let port : IsPort notes.callers x.key.inst p = subst (λ (i : InstKey). IsPort notes.callers i p) (sym same) ((known.each c there).callers way inst back en) in
+        let to : Node = record { key = returned_key c.key back e; state = state } in
+        let found : Contains (onward_at f s e p) to =
+        subst (λ (o : Option AbsState). Contains (onward_from s e p o) to) (sym there) (returned_in c.key back e (returned c.state s) state r) in
+        let leaves : x.part.exit ≡ Some e = look_exit words A f x is ∙ exit in
+        in_thirds to (subst (λ (o : Option Exit). Contains (onwards_if f notes.callers x.key.inst s o) to) (sym leaves)
+        (gathered_in (onward_at f s e) (ports_at notes.callers x.key.inst) p to port found))
+
+  -- ---- the round
+
+  module _ (f : Family) (formed : AreFormed f) (work : List NodeKey) (old notes : Notes) (seen : Seen) (turn : Turn words A f work old)
+      (are : AreSeen words A f work seen) (none : seen.worst ≡ None) (known : AreKnown words A f notes) where
+    abbrev xs : List Look
+    xs = seen.looks.items
+
+    abbrev ns : List Node
+    ns = all_targets f notes xs
+
+    aims : (to : Node) → Contains ns to → IsAim f to
+    aims = each_gathered (targets_of f notes) (IsAim f) xs (λ x to i j. look_aims f notes known x (are.looks x i) to j)
+
+    in_round : (x : Look) (to : Node) → Contains xs x → Contains (targets_of f notes x) to → Contains ns to
+    in_round x to i j = gathered_in (targets_of f notes) xs x to i j
+
+    covered : (to : Node) → Contains ns to → IsCovered ns to
+    covered to i = record { state = to.state; present = i; above = states_are_ordered.same to.state }
+
+    own_in : (n to : Node) → Has f n → HasLook xs n.key → IsOwn words A n to → Contains ns to
+    own_in n to has h own =
+        let is = are.looks h.look h.member in
+        in_round h.look to h.member (own_met f notes known h.look is to (subst (λ (m : Node). IsOwn words A m to) (sym (look_node words A f h.look is n has h.at)) own))
+
+    entered_in : (n m to : Node) → Has f n → Has f m → HasLook xs n.key → ComesBack words A n m to → Contains ns to
+    entered_in n m to has there h comes =
+        let is = are.looks h.look h.member in
+        in_round h.look to h.member
+        (entered_met f notes known h.look is m to there (subst (λ (k : Node). ComesBack words A k m to) (sym (look_node words A f h.look is n has h.at)) comes))
+
+    left_in : (n m to : Node) → Has f n → Has f m → HasLook xs m.key → ComesBack words A n m to → Contains ns to
+    left_in n m to has there h comes =
+        let is = are.looks h.look h.member in
+        in_round h.look to h.member
+        (left_met f notes known h.look is n to has (subst (λ (k : Node). ComesBack words A n k to) (sym (look_node words A f h.look is m there h.at)) comes))
+
+    look_of : (n : Node) → Has f n → Contains work n.key → HasLook xs n.key
+    look_of n has i = looked words A f work old seen turn are none n has i
+
+    own_lands : (n to : Node) → Has f n → IsOwn words A n to → Lands f to ⊎ IsCovered ns to
+    own_lands n to has own = ⊎_elim (λ i. inr (covered to (own_in n to has (look_of n has i) own))) (λ held. inl (held.own to own)) (turn.held n has)
+
+    back_lands : (n m to : Node) → Has f n → Has f m → ComesBack words A n m to → Lands f to ⊎ IsCovered ns to
+    back_lands n m to has there comes =
+        ⊎_elim (λ i. inr (covered to (entered_in n m to has there (look_of n has i) comes)))
+        (λ r. ⊎_elim (λ i. inr (covered to (left_in n m to has there (look_of m there i) comes))) (λ l. inl l) r) (turn.backs n m to has there comes)
+
+    pub round_is : IsRoundOf words A f ns
+    round_is = record {
+      formed = λ to i. let a = aims to i in
+          subst (λ (t : Node). IsNode t.key t.state) a.at
+          (edges_lead_to_nodes.edges words A (nodes_of f) a.from a.edge (λ n j. formed n ((families_are_their_nodes.members f n).0 j))
+          ((families_are_their_nodes.members f a.from).1 a.has) a.is);
+      all = λ n e has edge. ⊎_elim (own_lands n (target e) has) (λ b. back_lands n b.by (target e) has b.has b.comes) (edge_cases f n e edge);
+      least = λ h up lands to i. let a = aims to i in subst (Lands h) a.at (lands a.from a.edge a.has a.is);
+    }

@@ -1,0 +1,37 @@
+-- What the end of the rounds says of certificates.
+use Rattle.std.proofs.Common.{◌≡◌, ◌≢◌, refl, sym, subst, ℕ, ◌≤◌, List, Option, Some, None}
+use Rattle.avr_model.specs.declared.assumption.Entry.{Entry}
+use Rattle.certificate.specs.Claims.{Claim, IsClaim}
+use Rattle.certificate.specs.Valid.{IsValid}
+use Rattle.round_rules.specs.declared.refusal.Refusal.{Refusal}
+use Rattle.round_rules.specs.declared.refusal.Refusal.TheVariants as refusal
+use Rattle.round_rules.specs.Families.{Family}
+use Rattle.round_rules.specs.Solutions.{IsShown, IsSolution, IsAnswer, IsRefusal, IsWhyNot}
+use Rattle.round_laws.proofs.AllLaws.{rounds_are_least, solutions_are_valid}
+use Rattle.fixpoint.specs.Turns.{IsFound}
+
+module _ (words : List ℕ) (A : List Entry) where
+  pub is_answer : (steps : Option ℕ) (f : Family) (c : Claim) → IsFound words A steps f → IsSolution words A f c → IsAnswer words A steps c
+  is_answer steps f c found solution = record { number = found.number; family = f; within = found.within; solved = found.solved; solution = solution }
+
+  pub is_valid : (steps : Option ℕ) (f : Family) (c : Claim) → IsFound words A steps f → IsClaim c → IsSolution words A f c → IsValid words A c
+  is_valid steps f c found claim solution = solutions_are_valid.valid words A found.number f c claim found.solved solution
+
+  pub is_least : (steps : Option ℕ) (f : Family) (c : Claim) → IsFound words A steps f → IsSolution words A f c → (other : Claim) → IsShown words A other → c.bound ≤ other.bound
+  is_least steps f c found solution other shown = solutions_are_valid.least words A found.number f c other found.solved solution shown
+
+  never_shown : (steps : Option ℕ) (r : Refusal) → IsRefusal words A steps r → (other : Claim) → IsShown words A other → ⊥
+  never_shown steps r why other shown = rounds_are_least.never words A why.number other r shown why.refused
+
+  -- a refusal without a budget leaves no certificate
+  pub none_shown : (steps : Option ℕ) (r : Refusal) → IsWhyNot words A steps r → steps ≡ None → r ≢ refusal.Memory → (other : Claim) → IsShown words A other → ⊥
+  none_shown steps (refusal.Spent n) why none real other shown = absurd (let never = sym none in let e = why.0 in cc)
+  none_shown steps refusal.Memory why none real other shown = absurd (real refl)
+  none_shown steps (refusal.UnresolvedJump pc) why none real other shown = never_shown steps (refusal.UnresolvedJump pc) why other shown
+  none_shown steps (refusal.Recursion word) why none real other shown = never_shown steps (refusal.Recursion word) why other shown
+  none_shown steps (refusal.ReEntry v word) why none real other shown = never_shown steps (refusal.ReEntry v word) why other shown
+  none_shown steps (refusal.UntrackedSp pc) why none real other shown = never_shown steps (refusal.UntrackedSp pc) why other shown
+  none_shown steps (refusal.Unsupported pc) why none real other shown = never_shown steps (refusal.Unsupported pc) why other shown
+  none_shown steps (refusal.TooDeep pc d) why none real other shown = never_shown steps (refusal.TooDeep pc d) why other shown
+  none_shown steps (refusal.TooLarge limit) why none real other shown = never_shown steps (refusal.TooLarge limit) why other shown
+  none_shown steps (refusal.UnknownPointer pc) why none real other shown = never_shown steps (refusal.UnknownPointer pc) why other shown

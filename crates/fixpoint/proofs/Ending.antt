@@ -1,0 +1,193 @@
+-- How the rounds begin, go on and end.
+use Rattle.std.proofs.Common.{◌≡◌, ◌≢◌, refl, sym, ap, ◌∙◌, subst, ℕ, zero, suc, ◌+◌, ◌-◌, ◌*◌, ◌<◌, ◌≤◌, Bool, true, false, ◌==◌, List, [], ◌∷◌, ◌++◌, length, map, Option, Some, None, Result, Ok, Err, IfErr, Contains, add-one, arith}
+use Rattle.std.proofs.lemmas.Bool.Decides.{nat_tests}
+use Rattle.std.specs.FinMap.{get, insert, empty, entries, get-empty, len-entries, len-empty}
+use Rattle.avr_model.specs.declared.assumption.Entry.{Entry}
+use Rattle.abs_state.specs.declared.state.AbsState.{AbsState}
+use Rattle.abs_state.specs.Values.{root}
+use Rattle.mask_states.specs.declared.keys.InstKey.{InstKey}
+use Rattle.mask_states.specs.declared.keys.NodeKey.{NodeKey}
+use Rattle.mask_states.specs.Keys.{root_inst, entry_key}
+use Rattle.mask_states.specs.Order.{node_cmp}
+use Rattle.local_rules.specs.declared.local.Node.{Node}
+use Rattle.local_rules.specs.declared.local.NodeFault.{NodeFault}
+use Rattle.local_rules.specs.declared.local.NodeFault.TheVariants as fault
+use Rattle.local_laws.specs.Laws.{AreNodes}
+use Rattle.local_laws.proofs.Members.{none_in, each_of}
+use Rattle.edge_laws.specs.Laws.{with_state}
+use Rattle.edge_laws.proofs.AllLaws.{edges_lead_to_nodes}
+use Rattle.certificate.specs.Claims.{cells_of}
+use Rattle.round_rules.specs.declared.refusal.Refusal.{Refusal}
+use Rattle.round_rules.specs.declared.refusal.Refusal.TheVariants as refusal
+use Rattle.round_rules.specs.Families.{Family, HasInst, AreFormed, IsClosed, cells}
+use Rattle.round_rules.specs.Rounds.{first, IsNext, Comes}
+use Rattle.round_rules.specs.Refusals.{Test, over, faulty, re_entry, recursion, too_deep, refusal_of, IsSolved}
+use Rattle.round_rules.specs.Solutions.{IsWithin, IsWhyNot, IsRefusal}
+use Rattle.round_laws.specs.Steps.{joined_with, raised_all, IsRoundOf, weight}
+use Rattle.round_laws.proofs.AllLaws.{rounds_are_joins, rounds_are_least}
+use Rattle.round_laws.proofs.Least.{comes_root}
+use Rattle.round_steps.specs.declared.noting.Notes.{Notes}
+use Rattle.round_steps.specs.Notings.{blank}
+use Rattle.round_steps.specs.Joins.{KeptBut}
+use Rattle.fixpoint.specs.Turns.{Turn, IsLeft, Progress, IsSpent, IsFound}
+use Rattle.fixpoint.specs.Tests.{IsStopped, IsReady}
+use Rattle.fixpoint.proofs.Next.{next_turn, first_turn, not_closed, unchanged, closed_then}
+
+-- ---- the first family
+
+abbrev root_node : Node
+root_node = record { key = entry_key root_inst; state = root }
+
+cells_none : (es : List (NodeKey × AbsState)) → length es ≡ 0 → cells_of (map (λ (x : NodeKey × AbsState). x.0) es) ≡ 0
+unfolding cells_of
+cells_none [] e = refl
+cells_none (x ∷ es) e = absurd (omega (arith, e))
+
+pub no_cells : cells empty ≡ 0
+no_cells = cells_none (entries empty) (sym (len-entries (empty {R = node_cmp})) ∙ len-empty node_cmp AbsState)
+
+pub pushed_root : (items before : List Node) (k : NodeKey) (inst : InstKey) (s : AbsState) → items ≡ before ++ record { key = k; state = s } ∷ [] → before ≡ []
+    → k ≡ entry_key inst → inst ≡ root_inst → s ≡ root → items ≡ root_node ∷ []
+pushed_root items before k inst s is none key at state =
+    is ∙ ap (λ (l : List Node). l ++ record { key = k; state = s } ∷ []) none ∙ ap (λ (q : NodeKey). record { key = q; state = s } ∷ []) (key ∙ ap entry_key at)
+    ∙ ap (λ (t : AbsState). record { key = entry_key root_inst; state = t } ∷ []) state
+
+-- ---- whether something changed
+
+zero_if : (b : Bool) (n : ℕ) → b ≡ (n == 0) → b ≡ true → n ≡ 0
+zero_if b n is e = grind (arith, nat_tests)
+
+pub none_if : (l : List NodeKey) (b : Bool) (n : ℕ) → b ≡ (n == 0) → n ≡ length l → b ≡ true → l ≡ []
+none_if [] b n is all e = refl
+none_if (k ∷ ks) b n is all e = absurd (let z = zero_if b n is e in omega (arith, z, all))
+
+pub some_if : (l : List NodeKey) (b : Bool) (n : ℕ) → b ≡ (n == 0) → n ≡ length l → b ≡ false → l ≢ []
+some_if l b n is all e none = absurd (let same : n ≡ 0 = all ∙ ap length none in let never : true ≡ false = ap (λ m. m == 0) (sym same) ∙ sym is ∙ e in cc)
+
+pub no_nodes : AreFormed empty
+no_nodes n has = absurd (let never = sym (get-empty {X = AbsState} node_cmp n.key) ∙ has in cc)
+
+pub root_nodes : (ns : List Node) → ns ≡ root_node ∷ [] → AreNodes ns
+root_nodes ns is =
+    subst AreNodes (sym is) (each_of (λ n. Rattle.local_rules.specs.Cover.IsNode n.key n.state) root_node [] edges_lead_to_nodes.reset (λ n i. absurd (none_in n i)))
+
+pub first_is : (ns : List Node) → ns ≡ root_node ∷ [] → raised_all empty ns ≡ first
+first_is ns is = ap (raised_all empty) is ∙ ap (λ o. insert empty (entry_key root_inst) (joined_with o root)) (get-empty {X = AbsState} node_cmp (entry_key root_inst))
+
+-- ---- the budget
+
+pub within_left : (steps left : Option ℕ) (n : ℕ) → IsLeft steps left n → IsWithin steps n
+within_left None left n h = tt
+within_left (Some steps) None n h = absurd h
+within_left (Some steps) (Some left) n h = omega (arith, h)
+
+all_left : (steps : Option ℕ) → IsLeft steps steps 0
+all_left None = tt
+all_left (Some steps) = omega arith
+
+module _ (words : List ℕ) (A : List Entry) where
+  -- ---- refusals
+
+  never_spent : (n : ℕ) (t : Test) → refusal.Spent n ≡ refusal_of t → ⊥
+  never_spent n (over limit) e = absurd cc
+  never_spent n (faulty (fault.UnresolvedJump pc)) e = absurd cc
+  never_spent n (faulty (fault.UntrackedSp pc)) e = absurd cc
+  never_spent n (faulty (fault.Unsupported pc)) e = absurd cc
+  never_spent n (faulty (fault.TooDeep pc offset)) e = absurd cc
+  never_spent n (faulty (fault.UnknownPointer pc)) e = absurd cc
+  never_spent n (faulty fault.Memory) e = absurd cc
+  never_spent n (re_entry v word) e = absurd cc
+  never_spent n (recursion word) e = absurd cc
+  never_spent n (too_deep d) e = absurd cc
+
+  spent_no_memory : (n : ℕ) → refusal.Spent n ≡ refusal.Memory → ⊥
+  spent_no_memory n e = cc
+
+  refused_by : (steps : Option ℕ) (n : ℕ) (f : Family) (r : Refusal) → IsWithin steps n → Comes words A n f → (r ≢ refusal.Memory → IsRefusal words A steps r)
+      → (r ≢ refusal.Memory → IsStopped words A f r) → IsWhyNot words A steps r
+  refused_by steps n f (refusal.Spent m) within comes refused stopped =
+      let s = stopped (spent_no_memory m) in absurd (never_spent m s.test s.is)
+  refused_by steps n f refusal.Memory within comes refused stopped = tt
+  refused_by steps n f (refusal.UnresolvedJump pc) within comes refused stopped = refused (λ e. let never = e in cc)
+  refused_by steps n f (refusal.Recursion word) within comes refused stopped = refused (λ e. let never = e in cc)
+  refused_by steps n f (refusal.ReEntry v word) within comes refused stopped = refused (λ e. let never = e in cc)
+  refused_by steps n f (refusal.UntrackedSp pc) within comes refused stopped = refused (λ e. let never = e in cc)
+  refused_by steps n f (refusal.Unsupported pc) within comes refused stopped = refused (λ e. let never = e in cc)
+  refused_by steps n f (refusal.TooDeep pc d) within comes refused stopped = refused (λ e. let never = e in cc)
+  refused_by steps n f (refusal.TooLarge limit) within comes refused stopped = refused (λ e. let never = e in cc)
+  refused_by steps n f (refusal.UnknownPointer pc) within comes refused stopped = refused (λ e. let never = e in cc)
+
+  pub why_memory : (steps : Option ℕ) (r : Refusal) → r ≡ refusal.Memory → IsWhyNot words A steps r
+  why_memory steps r e = subst (IsWhyNot words A steps) (sym e) tt
+
+  module _ (steps left : Option ℕ) (f : Family) (count : ℕ) (work : List NodeKey) (notes : Notes) (p : Progress words A steps left f count work notes) where
+    within : IsWithin steps p.number
+    within = within_left steps left p.number p.budget
+
+    pub why_stopped : (r : Refusal) → (r ≢ refusal.Memory → IsStopped words A f r) → IsWhyNot words A steps r
+    why_stopped r stopped =
+        refused_by steps p.number f r within p.comes
+        (λ real. let s = stopped real in
+        record { number = p.number; within = within; refused = record { test = s.test; ends = record { family = f; comes = p.comes; holds = s.holds }; is = s.is } }) stopped
+
+    pub formed : AreFormed f
+    formed = rounds_are_least.formed words A p.number f p.comes
+
+    pub rooted : HasInst f root_inst
+    rooted = let l = comes_root words A p.number f p.comes in (with_state root_node l.at, l.is, refl)
+
+    -- ---- a round
+
+    module _ (g : Family) (mid : Notes) (nodes : List Node) (changed : List NodeKey) (ready : IsReady words A f mid nodes) (joined : g ≡ raised_all f nodes) (kept : KeptBut f g changed)
+        (more : weight f + length changed ≤ weight g) where
+      next : IsNext words A f g
+      next = subst (IsNext words A f) (sym joined) (rounds_are_joins.next words A f nodes formed ready.round)
+
+      pub is_found : changed ≡ [] → IsFound words A steps g
+      is_found none =
+          let same = unchanged words A f g changed none kept in
+          subst (IsFound words A steps) (sym same)
+          (record { number = p.number; within = within; solved = record { comes = p.comes; passes = ready.passes; closed = closed_then words A f g next same } })
+
+      module _ (some : changed ≢ []) where
+        rises : weight f < weight g
+        rises = let lt = some_length changed some in omega (arith, more, lt)
+          where
+            some_length : (l : List NodeKey) → l ≢ [] → 0 < length l
+            some_length [] ne = absurd (ne refl)
+            some_length (k ∷ ks) ne = omega arith
+
+        still_open : IsClosed words A f → ⊥
+        still_open = not_closed words A f g formed next rises
+
+        pub progress_more : (less : Option ℕ) (now : ℕ) → ((n : ℕ) → IsLeft steps left n → IsLeft steps less (n + 1)) → now ≡ cells g
+            → Progress words A steps less g now changed mid
+        progress_more less now spent counted = record {
+          number = suc p.number;
+          comes = (f, p.comes, ready.passes, still_open, next);
+          budget = subst (IsLeft steps less) (add-one p.number) (spent p.number p.budget);
+          turn = next_turn words A f g mid changed formed next ready.known ready.once kept;
+          counted = counted;
+        }
+
+        pub why_spent : (r : Refusal) → ((n : ℕ) → IsLeft steps left n → IsSpent steps n r) → IsWhyNot words A steps r
+        why_spent r spent =
+            let s = spent p.number p.budget in
+            subst (IsWhyNot words A steps) (sym s.0) (s.1, record { family = f; comes = p.comes; passes = ready.passes; more = still_open })
+
+        pub falls : 2508193793 - weight g < 2508193793 - weight f
+        falls =
+            let top = rounds_are_joins.high f formed in
+            let few = ready.passes.fits.few_cells in
+            let lt = rises in
+            omega (arith, top, few, lt)
+
+  pub progress_first : (steps : Option ℕ) (f : Family) (count : ℕ) (work : List NodeKey) (notes : Notes) → f ≡ first → count ≡ cells f → KeptBut empty f work → notes ≡ blank
+      → Progress words A steps steps f count work notes
+  progress_first steps f count work notes is counted kept no_notes = record {
+    number = 0;
+    comes = is;
+    budget = all_left steps;
+    turn = subst (Turn words A f work) (sym no_notes) (first_turn words A f work kept);
+    counted = counted;
+  }

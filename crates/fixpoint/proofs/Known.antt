@@ -1,0 +1,122 @@
+-- After a round's notes all nodes are known, and the nesting is the family's.
+use Rattle.std.proofs.Common.{◌≡◌, refl, sym, ap, ◌∙◌, subst, ℕ, ◌⊎◌, inl, inr, ⊎_elim, List, [], Option, Some, None, Contains}
+use Rattle.std.specs.Prelude.{◌↔◌}
+use Rattle.avr_model.specs.declared.assumption.Entry.{Entry}
+use Rattle.abs_state.specs.declared.state.AbsState.{AbsState}
+use Rattle.mask_states.specs.declared.keys.InstKey.{InstKey}
+use Rattle.mask_states.specs.declared.keys.NodeKey.{NodeKey}
+use Rattle.mask_states.specs.declared.keys.EdgeKind.{EdgeKind}
+use Rattle.mask_states.specs.declared.keys.SpForm.{SpForm}
+use Rattle.mask_states.specs.declared.keys.SpForm.TheVariants.{Closed}
+use Rattle.mask_states.specs.Keys.{offset_of}
+use Rattle.local_rules.specs.declared.local.Exit.{Exit}
+use Rattle.local_rules.specs.declared.local.Node.{Node}
+use Rattle.edge_rules.specs.Edges.{IsFaultless, raw_of, Enters}
+use Rattle.call_graph.specs.declared.ways.Way.{Way}
+use Rattle.family_table.specs.declared.ports.Port.{Port}
+use Rattle.family_table.specs.Ports.{IsPort}
+use Rattle.instance_nesting.specs.Nestings.{Spot, Entrance, IsSpotOf, IsNestingOf}
+use Rattle.round_rules.specs.Families.{Family, Has, HasInst, HasNoFault}
+use Rattle.round_rules.specs.Rounds.{Entering}
+use Rattle.round_steps.specs.declared.looking.Look.{Look}
+use Rattle.round_steps.specs.declared.looking.Seen.{Seen}
+use Rattle.round_steps.specs.declared.noting.Notes.{Notes}
+use Rattle.round_steps.specs.Looks.{IsLook, HasLook, AreSeen}
+use Rattle.round_steps.specs.Notings.{AnyHas, caller, leaver, CallsAt, LeavesAt, InstAt, SpotAt, EntersAt, AreNoted}
+use Rattle.fixpoint.specs.Turns.{IsCaller, IsLeaver, AreTrue, IsKnown, AreKnown, IsHeld, Turn}
+use Rattle.fixpoint.proofs.Looked.{seen_node, look_clean, look_exit, look_way, look_node, none_faulty, looked}
+
+module _ (words : List ℕ) (A : List Entry) (f : Family) (old new : Notes) (xs : List Look) (noted : AreNoted old xs new) where
+  module _ (looks : (x : Look) → Contains xs x → IsLook words A f x) where
+    -- ---- what was found is so
+
+    calls_so : (y : InstKey × Port) → AnyHas xs CallsAt y → IsCaller words A f y.0 y.1
+    calls_so y h =
+        let is = looks h.one h.member in
+        let w = h.has.one in
+        let at : y ≡ (w.inst, caller h.one.key w) = h.has.has in
+        subst (λ (z : InstKey × Port). IsCaller words A f z.0 z.1) (sym at)
+        (record { node = seen_node words A f h.one is; has = is.has; at = refl; way = w.kind; enters = (look_way words A f h.one is w).0 h.has.member })
+
+    leaves_so : (y : InstKey × Port) → AnyHas xs LeavesAt y → IsLeaver words A f y.0 y.1
+    leaves_so y h =
+        let is = looks h.one h.member in
+        let at : y ≡ (h.one.key.inst, leaver h.one.key y.1.exit) = h.has.1 in
+        subst (λ (z : InstKey × Port). IsLeaver words A f z.0 z.1) (sym at)
+        (record { node = seen_node words A f h.one is; has = is.has; at = refl; of = refl; exit = sym (look_exit words A f h.one is) ∙ h.has.0 })
+
+    inst_so : (i : InstKey) → AnyHas xs InstAt i → HasInst f i
+    inst_so i h = let is = looks h.one h.member in (seen_node words A f h.one is, is.has, sym h.has)
+
+    spot_so : (s : Spot) → AnyHas xs SpotAt s → IsSpotOf f s
+    spot_so s h =
+        let is = looks h.one h.member in
+        record { node = seen_node words A f h.one is; has = is.has; of = sym h.has.0; closed = h.has.1 }
+
+    entrance_so : (e : Entrance) → AnyHas xs EntersAt e → Entering words A f e.from e.into e.offset
+    entrance_so e h =
+        let is = looks h.one h.member in
+        let w = h.has.one in
+        subst (λ (d : Entrance). Entering words A f d.from d.into d.offset) (sym h.has.has)
+        (record { node = seen_node words A f h.one is; has = is.has; same = refl; at = refl; way = w.kind; back = w.back; enters = (look_way words A f h.one is w).0 h.has.member })
+
+    pub notes_so : AreTrue words A f old → AreTrue words A f new
+    notes_so so = record {
+      callers = λ i p h. ⊎_elim (so.callers i p) (calls_so (i, p)) ((noted.callers (i, p)).0 h);
+      leavers = λ i p h. ⊎_elim (so.leavers i p) (leaves_so (i, p)) ((noted.leavers (i, p)).0 h);
+      insts = λ i h. ⊎_elim (so.insts i) (inst_so i) ((noted.insts i).0 h);
+      spots = λ s h. ⊎_elim (so.spots s) (spot_so s) ((noted.spots s).0 h);
+      entrances = λ e h. ⊎_elim (so.entrances e) (entrance_so e) ((noted.entrances e).0 h);
+    }
+
+    -- ---- each node is known
+
+    look_known : (n : Node) → Has f n → HasLook xs n.key → IsKnown words A new n
+    look_known n has h =
+        let is = looks h.look h.member in
+        subst (IsKnown words A new) (look_node words A f h.look is n has h.at)
+        (record {
+          callers = λ way inst back e. let w : Way = record { kind = way; inst = inst; back = back } in
+              (noted.callers (inst, caller h.look.key w)).1 (inr (record { one = h.look; member = h.member; has = record { one = w; member = (look_way words A f h.look is w).1 e; has = refl } }));
+          leavers = λ x e. (noted.leavers (h.look.key.inst, leaver h.look.key x)).1
+              (inr (record { one = h.look; member = h.member; has = (look_exit words A f h.look is ∙ e, refl) }));
+          inst = (noted.insts h.look.key.inst).1 (inr (record { one = h.look; member = h.member; has = refl }));
+          spot = λ offset e. (noted.spots (record { inst = h.look.key.inst; offset = offset })).1 (inr (record { one = h.look; member = h.member; has = (refl, e) }));
+          entrances = λ way inst back e. let w : Way = record { kind = way; inst = inst; back = back } in
+              (noted.entrances (record { from = h.look.key.inst; into = inst; offset = offset_of h.look.key.sp })).1
+              (inr (record { one = h.look; member = h.member; has = record { one = w; member = (look_way words A f h.look is w).1 e; has = refl } }));
+        })
+
+  pub still_known : (n : Node) → IsKnown words A old n → IsKnown words A new n
+  still_known n k = record {
+    callers = λ way inst back e. (noted.callers (inst, caller n.key (record { kind = way; inst = inst; back = back }))).1 (inl (k.callers way inst back e));
+    leavers = λ x e. (noted.leavers (n.key.inst, leaver n.key x)).1 (inl (k.leavers x e));
+    inst = (noted.insts n.key.inst).1 (inl k.inst);
+    spot = λ offset e. (noted.spots (record { inst = n.key.inst; offset = offset })).1 (inl (k.spot offset e));
+    entrances = λ way inst back e. (noted.entrances (record { from = n.key.inst; into = inst; offset = offset_of n.key.sp })).1 (inl (k.entrances way inst back e));
+  }
+
+-- the notes of a round without a fault
+pub all_known : (words : List ℕ) (A : List Entry) (f : Family) (work : List NodeKey) (old new : Notes) (seen : Seen) → Turn words A f work old → AreSeen words A f work seen
+    → seen.worst ≡ None → AreNoted old seen.looks.items new → AreKnown words A f new
+all_known words A f work old new seen turn are none noted =
+    let clean = none_faulty words A f work old seen turn are none in
+    record {
+      faultless = clean;
+      each = λ n has. ⊎_elim (λ i. look_known words A f old new seen.looks.items noted are.looks n has (looked words A f work old seen turn are none n has i))
+          (λ held. still_known words A f old new seen.looks.items noted n held.known) (turn.held n has);
+      so = notes_so words A f old new seen.looks.items noted are.looks (turn.so clean);
+    }
+
+pub nesting_is : (words : List ℕ) (A : List Entry) (f : Family) (notes : Notes) → AreKnown words A f notes → IsNestingOf words A f notes.nesting
+nesting_is words A f notes known = record {
+  insts = λ i. (known.so.insts i, λ h. subst (Contains notes.nesting.insts) h.2 (known.each h.0 h.1).inst);
+  spots = λ s. (known.so.spots s, λ h. subst (λ (i : InstKey). Contains notes.nesting.spots (record { inst = i; offset = s.offset })) h.of ((known.each h.node h.has).spot s.offset h.closed));
+  entrances = λ e. (
+    known.so.entrances e,
+    λ h.
+        subst (λ (i : InstKey). Contains notes.nesting.entrances (record { from = i; into = e.into; offset = e.offset })) h.same
+        (subst (λ (o : ℕ). Contains notes.nesting.entrances (record { from = h.node.key.inst; into = e.into; offset = o })) h.at
+        ((known.each h.node h.has).entrances h.way e.into h.back h.enters)),
+  );
+}

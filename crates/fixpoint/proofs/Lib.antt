@@ -1,0 +1,7 @@
+pub mod Looked
+pub mod Known
+pub mod Aims
+pub mod Next
+pub mod Ready
+pub mod Ending
+pub mod Answer

@@ -1,0 +1,86 @@
+-- What was found at the nodes of a round's list tells the faults of the whole family.
+use Rattle.std.proofs.Common.{◌≡◌, refl, sym, ap, ◌∙◌, subst, ℕ, ◌⊎◌, inl, inr, ⊎_elim, List, [], Option, Some, None, Ok, Err, Contains}
+use Rattle.std.specs.Prelude.{◌↔◌}
+use Rattle.std.specs.FinMap.{get}
+use Rattle.avr_model.specs.declared.assumption.Entry.{Entry}
+use Rattle.abs_state.specs.declared.state.AbsState.{AbsState}
+use Rattle.mask_states.specs.declared.keys.NodeKey.{NodeKey}
+use Rattle.local_rules.specs.declared.local.Local.{Local}
+use Rattle.local_rules.specs.declared.local.Node.{Node}
+use Rattle.local_rules.specs.declared.local.NodeFault.{NodeFault}
+use Rattle.local_rules.specs.Local.{local, joined_onto}
+use Rattle.edge_rules.specs.Edges.{IsFaultless, raw_of, Enters}
+use Rattle.call_graph.specs.declared.ways.Way.{Way}
+use Rattle.call_graph.proofs.AllLaws.{local_parts_are_edges}
+use Rattle.round_rules.specs.Families.{Family, Has, HasNoFault}
+use Rattle.round_rules.specs.Refusals.{FaultAt, IsNoLater, IsLeastFault}
+use Rattle.round_laws.proofs.Keys.{some_same}
+use Rattle.round_laws.proofs.Parts.{never_both}
+use Rattle.round_steps.specs.declared.looking.Look.{Look}
+use Rattle.round_steps.specs.declared.looking.Seen.{Seen}
+use Rattle.round_steps.specs.declared.noting.Notes.{Notes}
+use Rattle.round_steps.specs.Looks.{IsLook, HasLook, HasFault, AreSeen}
+use Rattle.fixpoint.specs.Turns.{Turn}
+
+some_fault : (x y : NodeFault) (o : Option NodeFault) → o ≡ Some x → o ≡ Some y → x ≡ y
+some_fault x y o a b = cc
+
+module _ (words : List ℕ) (A : List Entry) where
+  -- a look and its node
+  module _ (f : Family) (x : Look) (is : IsLook words A f x) where
+    abbrev pub seen_node : Node
+    seen_node = record { key = x.key; state = is.state }
+
+    pub look_clean : IsFaultless words A seen_node
+    look_clean = (local_parts_are_edges.faultless words A seen_node).0 (x.part, is.leads)
+
+    pub look_same : x.part.same ≡ joined_onto [] (raw_of words A seen_node).moves
+    look_same = local_parts_are_edges.same words A seen_node x.part is.leads
+
+    pub look_exit : x.part.exit ≡ (raw_of words A seen_node).exit
+    look_exit = local_parts_are_edges.exit words A seen_node x.part is.leads
+
+    pub look_way : (w : Way) → Contains x.ways.items w ↔ Enters words A seen_node w.kind w.inst w.back
+    look_way w =
+        let law = local_parts_are_edges.ways words A seen_node x.part w is.leads in
+        (λ i. law.0 (subst (λ (l : List Way). Contains l w) is.entered i), λ e. subst (λ (l : List Way). Contains l w) (sym is.entered) (law.1 e))
+
+    -- a node of the look's key is the look's
+    pub look_node : (n : Node) → Has f n → x.key ≡ n.key → seen_node ≡ n
+    look_node n has at =
+        let state : is.state ≡ n.state = some_same is.state n.state (sym is.has ∙ ap (get f) at ∙ has) in
+        λ i. record { key = at i; state = state i }
+
+  -- a node of the list was looked at, or has a fault
+  module _ (f : Family) (work : List NodeKey) (notes : Notes) (seen : Seen) (turn : Turn words A f work notes) (are : AreSeen words A f work seen) where
+    look_at_clean : (n : Node) → Has f n → HasLook seen.looks.items n.key → IsFaultless words A n
+    look_at_clean n has h =
+        let is = are.looks h.look h.member in
+        subst (IsFaultless words A) (look_node f h.look is n has h.at) (look_clean f h.look is)
+
+    pub none_faulty : seen.worst ≡ None → HasNoFault words A f
+    none_faulty none n has =
+        ⊎_elim (λ i. ⊎_elim (look_at_clean n has) (λ h. absurd (let never = sym none ∙ h.found in cc)) (are.each n.key n.state i has)) (λ held. held.faultless) (turn.held n has)
+
+    pub least_fault : (b : NodeFault) → seen.worst ≡ Some b → IsLeastFault words A f b
+    least_fault b worst = (are.fault b worst, λ y at. later y at)
+      where
+        later : (y : NodeFault) → FaultAt words A f y → IsNoLater b y
+        later y at =
+            let n = at.node in
+            ⊎_elim
+            (λ i. ⊎_elim
+            (λ h. absurd (never_both words A n.key n.state y (look_at_clean n at.has h) at.is))
+            (λ h.
+            let first : h.first ≡ b = some_fault h.first b seen.worst h.found worst in
+            let fault : h.fault ≡ y = err_is h.fault y n h.is at.is in
+            subst (λ (z : NodeFault). IsNoLater z y) first (subst (IsNoLater h.first) fault h.no_later))
+            (are.each n.key n.state i at.has))
+            (λ held. absurd (never_both words A n.key n.state y held.faultless at.is)) (turn.held n at.has)
+          where
+            err_is : (a c : NodeFault) (n : Node) → local words A n.key n.state ≡ Err a → local words A n.key n.state ≡ Err c → a ≡ c
+            err_is a c n d e = let both = sym d ∙ e in cc
+
+    -- a node of the list has a look, where no fault was found
+    pub looked : seen.worst ≡ None → (n : Node) → Has f n → Contains work n.key → HasLook seen.looks.items n.key
+    looked none n has i = ⊎_elim (λ h. h) (λ h. absurd (let never = sym none ∙ h.found in cc)) (are.each n.key n.state i has)

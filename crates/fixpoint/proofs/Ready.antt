@@ -1,0 +1,109 @@
+-- What the tests of a round tell of the family.
+use Rattle.std.proofs.Common.{◌≡◌, ◌≢◌, refl, sym, ap, ◌∙◌, subst, ℕ, ◌≤◌, List, [], Option, Some, None, Result, Ok, Err, IfErr, Contains, length, arith}
+use Rattle.std.specs.Result.{IsErrAnd}
+use Rattle.std.specs.FinMap.{get}
+use Rattle.avr_model.specs.declared.assumption.Entry.{Entry}
+use Rattle.mask_states.specs.declared.keys.InstKey.{InstKey}
+use Rattle.mask_states.specs.declared.keys.NodeKey.{NodeKey}
+use Rattle.mask_states.specs.Keys.{root_inst, offset_of}
+use Rattle.local_rules.specs.declared.local.Node.{Node}
+use Rattle.local_rules.specs.declared.local.NodeFault.{NodeFault}
+use Rattle.instance_nesting.specs.Nestings.{Spot, Entrance, Noted, AreOnce, AreAlike, TellsAll, Tells}
+use Rattle.instance_nesting.specs.declared.weight.Weight.{Weight}
+use Rattle.instance_nesting.specs.declared.weight.Weight.TheVariants as weight
+use Rattle.instance_nesting.proofs.Small.{nestings_are_small}
+use Rattle.round_rules.specs.declared.refusal.Refusal.{Refusal}
+use Rattle.round_rules.specs.declared.refusal.Refusal.TheVariants.{Memory}
+use Rattle.round_rules.specs.Families.{Family, HasInst, AreFormed, FitsLimits}
+use Rattle.round_rules.specs.Rounds.{Passes}
+use Rattle.round_rules.specs.Refusals.{over, faulty, re_entry, recursion, too_deep, IsLeastFault, fault_refusal}
+use Rattle.round_steps.specs.declared.looking.Look.{Look}
+use Rattle.round_steps.specs.declared.looking.Seen.{Seen}
+use Rattle.round_steps.specs.declared.noting.Notes.{Notes}
+use Rattle.round_steps.specs.Looks.{IsLook, AreSeen}
+use Rattle.round_steps.specs.Notings.{AreNoted}
+use Rattle.round_steps.specs.Targets.{all_targets}
+use Rattle.fixpoint.specs.Turns.{AreTrue, IsKnown, AreKnown, Turn}
+use Rattle.fixpoint.specs.Tests.{IsTooLarge, weight_refusal, IsTold, IsStopped, IsReady}
+use Rattle.fixpoint.proofs.Looked.{seen_node, least_fault}
+use Rattle.fixpoint.proofs.Known.{all_known, nesting_is}
+use Rattle.fixpoint.proofs.Aims.{round_is}
+
+-- an error that is handed on
+pub handed_on : {X E : Type 0} (r : Result X E) (x : E) (P : E → Type 0) → IsErrAnd r (λ e. e ≡ x) → P x → IfErr r P
+handed_on (Ok y) x P h p = tt
+handed_on (Err e) x P h p = subst P (sym h) p
+
+module _ (words : List ℕ) (A : List Entry) where
+  pub too_large : (f : Family) (r : Refusal) → IsTooLarge f r → IsStopped words A f r
+  too_large f r h = record { test = over h.limit; holds = h.over; is = h.is }
+
+  pub has_fault : (f : Family) (work : List NodeKey) (notes : Notes) (seen : Seen) (b : NodeFault) (r : Refusal) → FitsLimits f → Turn words A f work notes
+      → AreSeen words A f work seen → seen.worst ≡ Some b → r ≡ fault_refusal b → IsStopped words A f r
+  has_fault f work notes seen b r fits turn are worst is = record { test = faulty b; holds = (fits, least_fault words A f work notes seen turn are b worst); is = is }
+
+  -- all looks are at offsets that nodes have
+  pub looks_fit : (f : Family) (work : List NodeKey) (seen : Seen) (looks : List Look) → AreFormed f → AreSeen words A f work seen → looks ≡ seen.looks.items
+      → (x : Look) → Contains looks x → offset_of x.key.sp ≤ 2048
+  looks_fit f work seen looks formed are same x i =
+      let is = are.looks x (subst (λ (l : List Look). Contains l x) same i) in
+      (formed (seen_node words A f x is) is.has).small
+
+  module _ (f : Family) (notes : Notes) (fits : FitsLimits f) (known : AreKnown words A f notes) where
+    pub few_insts : AreOnce notes.nesting.insts → length notes.nesting.insts ≤ 65536
+    few_insts once = omega (arith, nestings_are_small words A f notes.nesting (nesting_is words A f notes known) once, fits.few_nodes)
+
+    told_by : (w : Weight) (r : Refusal) → Tells words A f w → r ≡ weight_refusal w → r ≢ Memory → IsStopped words A f r
+    told_by weight.Light r t is real = absurd (real is)
+    told_by (weight.ReEntry v word) r t is real = record { test = re_entry v word; holds = (fits, known.faultless, t); is = is }
+    told_by (weight.Recursion word) r t is real = record { test = recursion word; holds = (fits, known.faultless, t); is = is }
+    told_by (weight.TooDeep d) r t is real = record { test = too_deep d; holds = (fits, known.faultless, t.0, t.1, t.2); is = is }
+
+    pub told_stops : (r : Refusal) → HasInst f root_inst → (r ≢ Memory → IsTold notes.nesting r) → r ≢ Memory → IsStopped words A f r
+    told_stops r root told real = let t = told real in told_by t.weight r (t.tells words A f root (nesting_is words A f notes known)) t.is real
+
+    light_passes : HasInst f root_inst → TellsAll notes.nesting weight.Light → Passes words A f
+    light_passes root light =
+        let t = light words A f root (nesting_is words A f notes known) in
+        record { fits = fits; faultless = known.faultless; acyclic = t.0; shallow = t.1 }
+
+    alike_known : (nesting : Noted) → AreAlike notes.nesting nesting → AreKnown words A f (record { callers = notes.callers; leavers = notes.leavers; nesting = nesting })
+    alike_known nesting alike = record {
+      faultless = known.faultless;
+      each = λ n has. let k = known.each n has in record {
+        callers = k.callers;
+        leavers = k.leavers;
+        inst = (alike.insts n.key.inst).0 k.inst;
+        spot = λ offset e. (alike.spots (record { inst = n.key.inst; offset = offset })).0 (k.spot offset e);
+        entrances = λ way inst back e. (alike.entrances (record { from = n.key.inst; into = inst; offset = offset_of n.key.sp })).0 (k.entrances way inst back e);
+      };
+      so = record {
+        callers = known.so.callers;
+        leavers = known.so.leavers;
+        insts = λ i h. known.so.insts i ((alike.insts i).1 h);
+        spots = λ s h. known.so.spots s ((alike.spots s).1 h);
+        entrances = λ e h. known.so.entrances e ((alike.entrances e).1 h);
+      };
+    }
+
+  -- the nodes that come next
+  pub is_ready : (f : Family) (work : List NodeKey) (old mid : Notes) (nesting : Noted) (seen : Seen) (nodes : List Node) → AreFormed f → HasInst f root_inst → FitsLimits f
+      → Turn words A f work old → AreSeen words A f work seen → seen.worst ≡ None → AreKnown words A f mid → TellsAll mid.nesting weight.Light
+      → AreAlike mid.nesting nesting → AreOnce nesting.insts
+      → nodes ≡ all_targets f (record { callers = mid.callers; leavers = mid.leavers; nesting = nesting }) seen.looks.items
+      → IsReady words A f (record { callers = mid.callers; leavers = mid.leavers; nesting = nesting }) nodes
+  is_ready f work old mid nesting seen nodes formed root fits turn are none known light alike once is =
+      let notes : Notes = record { callers = mid.callers; leavers = mid.leavers; nesting = nesting } in
+      let k = alike_known f mid fits known nesting alike in
+      record {
+        passes = light_passes f mid fits known root light;
+        round = subst (λ (ns : List Node). Rattle.round_laws.specs.Steps.IsRoundOf words A f ns) (sym is) (round_is words A f formed work old notes seen turn are none k);
+        known = k;
+        once = once;
+      }
+
+  -- the notes of a round, by the lists that the code has on the way
+  pub noted_known : (f : Family) (work : List NodeKey) (old mid : Notes) (seen : Seen) (looks : List Look) → Turn words A f work old → AreSeen words A f work seen
+      → seen.worst ≡ None → looks ≡ seen.looks.items → AreNoted old looks mid → AreKnown words A f mid
+  noted_known f work old mid seen looks turn are none same noted =
+      all_known words A f work old mid seen turn are none (subst (λ (l : List Look). AreNoted old l mid) same noted)

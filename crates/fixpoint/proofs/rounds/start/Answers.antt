@@ -1,0 +1,28 @@
+use Rattle.std.proofs.Common.{◌≡◌, ◌∙◌, sym, ap, subst}
+use Rattle.std.specs.FinMap.{empty, get}
+use Rattle.round_rules.specs.Families.{Family, AreFormed, cells}
+use Rattle.round_laws.specs.Steps.{raised_all}
+use Rattle.fixpoint.proofs.Ending.{no_cells, no_nodes, root_nodes, first_is, pushed_root}
+use Rattle.fixpoint.proofs.rounds.start.Goals as goal
+
+pub join_all-requires-clause-count : goal.join_all-requires-clause-count
+join_all-requires-clause-count c = sym (ap cells c.requires ∙ no_cells)
+
+pub join_all-requires-clause-formed : goal.join_all-requires-clause-formed
+join_all-requires-clause-formed c = subst AreFormed (sym c.requires) no_nodes
+
+pub join_all-requires-clause-nodes : goal.join_all-requires-clause-nodes
+join_all-requires-clause-nodes c =
+    root_nodes c.push.new.self.items
+    (pushed_root c.push.new.self.items c.new-nodes.result.items c.entry.result c.root.result c.root-2.result c.in_ok-push.ensures.items c.new-nodes.ensures.items c.entry.ensures
+    c.root.ensures c.root-2.ensures)
+
+pub returns : goal.returns
+returns c = record {
+  first = c.in_ok-work.ensures.joined ∙ ap (λ (f : Family). raised_all f c.push.new.self.items) c.requires
+      ∙ first_is c.push.new.self.items
+      (pushed_root c.push.new.self.items c.new-nodes.result.items c.entry.result c.root.result c.root-2.result c.in_ok-push.ensures.items c.new-nodes.ensures.items c.entry.ensures
+      c.root.ensures c.root-2.ensures);
+  count = c.in_ok-work.ensures.count;
+  kept = subst (λ (f : Family). Rattle.round_steps.specs.Joins.KeptBut f c.join_all.new.table c.in_ok-work.work.items) c.requires c.in_ok-work.ensures.kept;
+}

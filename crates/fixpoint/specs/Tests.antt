@@ -1,0 +1,48 @@
+-- What the tests of a round tell.
+use Rattle.std.specs.Prelude.{ℕ, ◌≡◌, ◌≢◌, List}
+use Rattle.avr_model.specs.declared.assumption.Entry.{Entry}
+use Rattle.certificate.specs.declared.limit.Limit.{Limit}
+use Rattle.local_rules.specs.declared.local.Node.{Node}
+use Rattle.instance_nesting.specs.Nestings.{Noted, AreOnce, TellsAll}
+use Rattle.instance_nesting.specs.declared.weight.Weight.{Weight}
+use Rattle.instance_nesting.specs.declared.weight.Weight.TheVariants as weight
+use Rattle.round_rules.specs.declared.refusal.Refusal.{Refusal}
+use Rattle.round_rules.specs.declared.refusal.Refusal.TheVariants.{TooLarge, ReEntry, Recursion, TooDeep, Memory}
+use Rattle.round_rules.specs.Families.{Family}
+use Rattle.round_rules.specs.Rounds.{Passes}
+use Rattle.round_rules.specs.Refusals.{Test, IsOver, FirstHolds, refusal_of, IsSolved}
+use Rattle.round_rules.specs.Solutions.{IsWithin}
+use Rattle.round_laws.specs.Steps.{IsRoundOf}
+use Rattle.round_steps.specs.declared.noting.Notes.{Notes}
+use Rattle.fixpoint.specs.Turns.{AreKnown}
+
+-- the refusal says which limit the family is above
+pub record IsTooLarge (f : Family) (r : Refusal) : Type 0 where
+  pub limit : Limit
+  pub over : IsOver f limit
+  pub is : r ≡ TooLarge limit
+
+abbrev pub weight_refusal : Weight → Refusal
+weight_refusal weight.Light = Memory
+weight_refusal (weight.ReEntry v word) = ReEntry v word
+weight_refusal (weight.Recursion word) = Recursion word
+weight_refusal (weight.TooDeep need) = TooDeep 0 need
+
+-- the refusal says what the nesting tells
+pub record IsTold (n : Noted) (r : Refusal) : Type 0 where
+  pub weight : Weight
+  pub tells : TellsAll n weight
+  pub is : r ≡ weight_refusal weight
+
+-- the refusal is of the first test that holds
+pub record IsStopped (words : List ℕ) (A : List Entry) (f : Family) (r : Refusal) : Type 0 where
+  pub test : Test
+  pub holds : FirstHolds words A f test
+  pub is : r ≡ refusal_of test
+
+-- no test holds, the nodes are a round of the family, and its nodes are known
+pub record IsReady (words : List ℕ) (A : List Entry) (f : Family) (notes : Notes) (nodes : List Node) : Type 0 where
+  pub passes : Passes words A f
+  pub round : IsRoundOf words A f nodes
+  pub known : AreKnown words A f notes
+  pub once : AreOnce notes.nesting.insts

@@ -1,0 +1,120 @@
+-- What holds between rounds. Source: own.
+use Rattle.std.specs.Prelude.{ℕ, ◌+◌, ◌≡◌, ◌⊎◌, ⊤, List, [], Option, Some, None, Contains}
+use Rattle.avr_model.specs.declared.assumption.Entry.{Entry}
+use Rattle.abs_state.specs.declared.state.AbsState.{AbsState}
+use Rattle.abs_state.specs.Frames.{entered, returned}
+use Rattle.mask_states.specs.declared.keys.InstKey.{InstKey}
+use Rattle.mask_states.specs.declared.keys.NodeKey.{NodeKey}
+use Rattle.mask_states.specs.declared.keys.EdgeKind.{EdgeKind}
+use Rattle.mask_states.specs.declared.keys.SpForm.TheVariants.{Closed}
+use Rattle.mask_states.specs.Keys.{entry_key, offset_of}
+use Rattle.local_rules.specs.declared.local.Exit.{Exit}
+use Rattle.local_rules.specs.declared.local.Node.{Node}
+use Rattle.local_rules.specs.Local.{joined_onto}
+use Rattle.edge_rules.specs.Edges.{IsFaultless, raw_of, Enters, returned_key}
+use Rattle.family_table.specs.declared.ports.Port.{Port}
+use Rattle.family_table.specs.Ports.{IsPort}
+use Rattle.instance_nesting.specs.Nestings.{Spot, Entrance, AreOnce, IsSpotOf}
+use Rattle.round_rules.specs.Families.{Family, Has, HasInst, Lands, HasNoFault, cells}
+use Rattle.round_rules.specs.Rounds.{Entering, Comes}
+use Rattle.round_rules.specs.declared.refusal.Refusal.{Refusal}
+use Rattle.round_rules.specs.declared.refusal.Refusal.TheVariants.{Spent}
+use Rattle.round_rules.specs.Refusals.{IsSolved}
+use Rattle.round_rules.specs.Solutions.{IsWithin}
+use Rattle.round_steps.specs.declared.noting.Notes.{Notes}
+use Rattle.round_steps.specs.Notings.{caller, leaver}
+
+-- ---- where a node leads, alone and with one that leaves what it enters
+
+pub data IsOwn (words : List ℕ) (A : List Entry) (n : Node) : Node → Type 0 where
+  own_move : (to : Node) → IsFaultless words A n → Contains (joined_onto [] (raw_of words A n).moves) to → IsOwn words A n to
+  own_entry : (way : EdgeKind) (inst : InstKey) (back : ℕ) → Enters words A n way inst back → IsOwn words A n (record { key = entry_key inst; state = entered n.state })
+
+pub data ComesBack (words : List ℕ) (A : List Entry) (n m : Node) : Node → Type 0 where
+  comes_back : (way : EdgeKind) (inst : InstKey) (back : ℕ) (x : Exit) (state : AbsState) → Enters words A n way inst back → m.key.inst ≡ inst → IsFaultless words A m
+      → (raw_of words A m).exit ≡ Some x → returned n.state m.state ≡ Some state → ComesBack words A n m (record { key = returned_key n.key back x; state = state })
+
+-- ---- what the notes say
+
+-- a node of the family enters the instance, as the port says
+pub record IsCaller (words : List ℕ) (A : List Entry) (f : Family) (inst : InstKey) (p : Port) : Type 0 where
+  pub node : Node
+  pub has : Has f node
+  pub at : node.key ≡ p.node
+  pub way : EdgeKind
+  pub enters : Enters words A node way inst p.back
+
+-- a node of the family leaves its instance, as the port says
+pub record IsLeaver (words : List ℕ) (A : List Entry) (f : Family) (inst : InstKey) (p : Port) : Type 0 where
+  pub node : Node
+  pub has : Has f node
+  pub at : node.key ≡ p.node
+  pub of : node.key.inst ≡ inst
+  pub exit : (raw_of words A node).exit ≡ Some p.exit
+
+-- what is noted is so in the family
+pub record AreTrue (words : List ℕ) (A : List Entry) (f : Family) (notes : Notes) : Type 0 where
+  pub callers : (inst : InstKey) (p : Port) → IsPort notes.callers inst p → IsCaller words A f inst p
+  pub leavers : (inst : InstKey) (p : Port) → IsPort notes.leavers inst p → IsLeaver words A f inst p
+  pub insts : (inst : InstKey) → Contains notes.nesting.insts inst → HasInst f inst
+  pub spots : (s : Spot) → Contains notes.nesting.spots s → IsSpotOf f s
+  pub entrances : (e : Entrance) → Contains notes.nesting.entrances e → Entering words A f e.from e.into e.offset
+
+-- all that is to be noted of the node is
+pub record IsKnown (words : List ℕ) (A : List Entry) (notes : Notes) (n : Node) : Type 0 where
+  pub callers : (way : EdgeKind) (inst : InstKey) (back : ℕ) → Enters words A n way inst back
+      → IsPort notes.callers inst (caller n.key (record { kind = way; inst = inst; back = back }))
+  pub leavers : (x : Exit) → (raw_of words A n).exit ≡ Some x → IsPort notes.leavers n.key.inst (leaver n.key x)
+  pub inst : Contains notes.nesting.insts n.key.inst
+  pub spot : (offset : ℕ) → n.key.sp ≡ Closed offset → Contains notes.nesting.spots (record { inst = n.key.inst; offset = offset })
+  pub entrances : (way : EdgeKind) (inst : InstKey) (back : ℕ) → Enters words A n way inst back
+      → Contains notes.nesting.entrances (record { from = n.key.inst; into = inst; offset = offset_of n.key.sp })
+
+-- all nodes of a family without faults are known, and all that is noted is so
+pub record AreKnown (words : List ℕ) (A : List Entry) (f : Family) (notes : Notes) : Type 0 where
+  pub faultless : HasNoFault words A f
+  pub each : (n : Node) → Has f n → IsKnown words A notes n
+  pub so : AreTrue words A f notes
+
+-- ---- before a round
+
+-- the node needs no look
+pub record IsHeld (words : List ℕ) (A : List Entry) (f : Family) (notes : Notes) (n : Node) : Type 0 where
+  pub faultless : IsFaultless words A n
+  pub known : IsKnown words A notes n
+  pub own : (to : Node) → IsOwn words A n to → Lands f to
+
+-- Each node that is not in the list needs no look, and where neither of two is, the one comes back by the other to a node that is there.
+-- Where no node has a fault, all that is noted is so.
+pub record Turn (words : List ℕ) (A : List Entry) (f : Family) (work : List NodeKey) (notes : Notes) : Type 0 where
+  pub held : (n : Node) → Has f n → Contains work n.key ⊎ IsHeld words A f notes n
+  pub backs : (n m to : Node) → Has f n → Has f m → ComesBack words A n m to → Contains work n.key ⊎ (Contains work m.key ⊎ Lands f to)
+  pub so : HasNoFault words A f → AreTrue words A f notes
+  pub once : AreOnce notes.nesting.insts
+
+-- ---- the budget
+
+-- what is left of the budget after n rounds
+abbrev pub IsLeft : Option ℕ → Option ℕ → ℕ → Type 0
+IsLeft None None n = ⊤
+IsLeft None (Some left) n = ⊥
+IsLeft (Some steps) None n = ⊥
+IsLeft (Some steps) (Some left) n = left + n ≡ steps
+
+-- the rounds so far
+pub record Progress (words : List ℕ) (A : List Entry) (steps left : Option ℕ) (f : Family) (count : ℕ) (work : List NodeKey) (notes : Notes) : Type 0 where
+  pub number : ℕ
+  pub comes : Comes words A number f
+  pub budget : IsLeft steps left number
+  pub turn : Turn words A f work notes
+  pub counted : count ≡ cells f
+
+-- the budget was for n rounds, and this says so
+abbrev pub IsSpent : Option ℕ → ℕ → Refusal → Type 0
+IsSpent steps n r = (r ≡ Spent n) × (steps ≡ Some n)
+
+-- the rounds end within the budget at this family
+pub record IsFound (words : List ℕ) (A : List Entry) (steps : Option ℕ) (f : Family) : Type 0 where
+  pub number : ℕ
+  pub within : IsWithin steps number
+  pub solved : IsSolved words A number f

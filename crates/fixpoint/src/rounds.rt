@@ -1,0 +1,115 @@
+//! The rounds, from the root's node after reset to their end.
+
+ghost use Rattle.std.specs.Prelude.{ℕ, ◌+◌, ◌≡◌, ◌≢◌, Some, IfOk, IfErr, OnOk};
+ghost use Rattle.std.specs.FinMap.{empty};
+ghost use Rattle.mask_states.specs.Keys.{root_inst};
+ghost use Rattle.round_rules.specs.declared.refusal.Refusal.TheVariants.{Memory};
+ghost use Rattle.round_rules.specs.Families.{AreFormed, HasInst, cells};
+ghost use Rattle.round_rules.specs.Rounds.{first};
+ghost use Rattle.round_rules.specs.Solutions.{IsWhyNot};
+ghost use Rattle.round_steps.specs.Joins.{KeptBut};
+ghost use Rattle.fixpoint.specs.Turns.{Turn, IsLeft, IsSpent, IsFound};
+ghost use Rattle.fixpoint.specs.Tests.{IsStopped, IsReady};
+
+use crate::testing::{check_nesting, check_size, refusal_of};
+use abs_state::AbsState;
+use family_table::Table;
+use flash_image::Flash;
+use local_rules::Node;
+use mask_states::{InstKey, NodeKey};
+use round_rules::Refusal;
+use round_steps::targets::targets;
+use round_steps::{Notes, join_all, look_all};
+use std::alloc::{AllocError, Global};
+use vector_table::Assumptions;
+
+// The tests of a round, in their order, and the nodes to be joined into the family where none holds.
+fn next_nodes(
+    alloc: Global,
+    flash: &Flash,
+    assumptions: &Assumptions,
+    table: &Table,
+    counted: u64,
+    work: &[NodeKey],
+    notes: &mut Notes,
+) -> Result<Vec<Node>, Refusal>
+    requires count { counted ≡ cells table.now }
+    requires formed { AreFormed table.now }
+    requires root { HasInst table.now root_inst }
+    requires turn { Turn flash.now assumptions.now table.now work.now notes.old }
+    ensures ready { IfOk result (λ nodes. IsReady flash.now assumptions.now table.now notes.new nodes.items) }
+    ensures stopped { IfErr result (λ r. r ≢ Memory → IsStopped flash.now assumptions.now table.now r) }
+{
+    check_size(table, counted)?;
+    let seen = look_all(alloc, flash, assumptions, table, work)?;
+    if let Some(fault) = seen.worst {
+        return Err(refusal_of(fault));
+    }
+    notes.note_all(alloc, &seen.looks)?;
+    check_nesting(&mut notes.nesting)?;
+    let nodes = targets(alloc, table, notes, seen.looks)?;
+    Ok(nodes)
+}
+
+// The first family: the root's node after reset.
+fn start(alloc: Global, table: &mut Table, counted: &mut u64) -> Result<Vec<NodeKey>, AllocError>
+    requires { table.old ≡ empty }
+    ensures first { OnOk result (table.new ≡ first) }
+    ensures count { OnOk result (counted.new ≡ cells table.new) }
+    ensures kept { IfOk result (λ work. KeptBut empty table.new work.items) }
+{
+    *counted = 0;
+    let mut nodes = Vec::new(alloc);
+    nodes.push(Node {
+        key: NodeKey::entry(&InstKey::root()),
+        state: AbsState::root(alloc),
+    })?;
+    let work = join_all(alloc, table, counted, nodes)?;
+    Ok(work)
+}
+
+// One step of the budget.
+fn spend(steps: Option<u64>, left: Option<u64>) -> Result<Option<u64>, Refusal>
+    ensures ok { IfOk result (λ l. (n : ℕ) → IsLeft steps left n → IsLeft steps l (n + 1)) }
+    ensures err { IfErr result (λ e. (n : ℕ) → IsLeft steps left n → IsSpent steps n e) }
+{
+    match (steps, left) {
+        (Some(all), Some(0)) => Err(Refusal::Spent(all)),
+        (Some(_), Some(some)) => Ok(Some(some - 1)),
+        _ => Ok(None),
+    }
+}
+
+/// The family at which the rounds end, or why they end at none within the budget.
+pub fn least_family(
+    alloc: Global,
+    flash: &Flash,
+    assumptions: &Assumptions,
+    steps: Option<u64>,
+) -> Result<Table, Refusal>
+    ensures found { IfOk result (λ f. IsFound flash.now assumptions.now steps f) }
+    ensures why_not { IfErr result (λ r. IsWhyNot flash.now assumptions.now steps r) }
+{
+    let mut table = Table::new(alloc);
+    let mut counted = 0;
+    let mut work = start(alloc, &mut table, &mut counted)?;
+    let mut notes = Notes::new(alloc);
+    let mut left = steps;
+    'rounds: loop {
+        let nodes = next_nodes(
+            alloc,
+            flash,
+            assumptions,
+            &table,
+            counted,
+            &work,
+            &mut notes,
+        )?;
+        let changed = join_all(alloc, &mut table, &mut counted, nodes)?;
+        if changed.is_empty() {
+            return Ok(table);
+        }
+        left = spend(steps, left)?;
+        work = changed;
+    }
+}

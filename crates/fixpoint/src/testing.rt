@@ -1,0 +1,61 @@
+//! The tests of a round.
+
+ghost use Rattle.std.specs.Prelude.{◌≡◌, ◌≢◌, ◌≤◌, length, IfOk, IfErr, OnOk};
+ghost use Rattle.std.specs.FinMap.{len};
+ghost use Rattle.instance_nesting.specs.Nestings.{AreAlike, AreOnce, TellsAll};
+ghost use Rattle.instance_nesting.specs.declared.weight.Weight.TheVariants.{Light};
+ghost use Rattle.round_rules.specs.declared.refusal.Refusal.TheVariants.{Memory};
+ghost use Rattle.round_rules.specs.Families.{cells, FitsLimits};
+ghost use Rattle.round_rules.specs.Refusals.{fault_refusal};
+ghost use Rattle.fixpoint.specs.Tests.{IsTooLarge, IsTold};
+
+use certificate::Limit;
+use family_table::Table;
+use instance_nesting::{Nesting, Weight};
+use local_rules::NodeFault;
+use round_rules::Refusal;
+
+// The nodes, then the cells, are within the limits.
+pub fn check_size(table: &Table, counted: u64) -> Result<(), Refusal>
+    requires { counted ≡ cells table.now }
+    ensures fits { OnOk result (FitsLimits table.now) }
+    ensures over { IfErr result (λ r. IsTooLarge table.now r) }
+{
+    if table.len() > 65536 {
+        return Err(Refusal::TooLarge(Limit::Nodes));
+    }
+    if counted > 8388608 {
+        return Err(Refusal::TooLarge(Limit::Cells));
+    }
+    Ok(())
+}
+
+// The refusal of a fault.
+pub fn refusal_of(fault: NodeFault) -> Refusal
+    ensures { result ≡ fault_refusal fault }
+{
+    match fault {
+        NodeFault::UnresolvedJump(pc) => Refusal::UnresolvedJump(pc),
+        NodeFault::UntrackedSp(pc) => Refusal::UntrackedSp(pc),
+        NodeFault::Unsupported(pc) => Refusal::Unsupported(pc),
+        NodeFault::TooDeep(pc, offset) => Refusal::TooDeep(pc, offset),
+        NodeFault::UnknownPointer(pc) => Refusal::UnknownPointer(pc),
+        NodeFault::Memory => Refusal::Memory,
+    }
+}
+
+// No instance reaches itself, and the root needs no more bytes than SRAM has.
+pub fn check_nesting(nesting: &mut Nesting) -> Result<(), Refusal>
+    requires { length nesting.old.insts ≤ 65536 }
+    ensures light { OnOk result (TellsAll nesting.old Light) }
+    ensures told { IfErr result (λ r. r ≢ Memory → IsTold nesting.old r) }
+    ensures same { AreAlike nesting.old nesting.new }
+    ensures once { AreOnce nesting.new.insts }
+{
+    match nesting.weigh()? {
+        Weight::Light => Ok(()),
+        Weight::ReEntry(vector, word) => Err(Refusal::ReEntry(vector, word)),
+        Weight::Recursion(word) => Err(Refusal::Recursion(word)),
+        Weight::TooDeep(need) => Err(Refusal::TooDeep(0, need)),
+    }
+}
