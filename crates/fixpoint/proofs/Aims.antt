@@ -8,32 +8,29 @@ use Rattle.abs_state.specs.Frames.{entered, returned}
 use Rattle.abs_state.proofs.AllLaws.{states_are_ordered}
 use Rattle.mask_states.specs.declared.keys.InstKey.{InstKey}
 use Rattle.mask_states.specs.declared.keys.NodeKey.{NodeKey}
-use Rattle.mask_states.specs.declared.keys.EdgeKind.{EdgeKind}
 use Rattle.mask_states.specs.declared.keys.EdgeKind.TheVariants as kind
 use Rattle.mask_states.specs.Keys.{entry_key}
 use Rattle.local_rules.specs.declared.local.Exit.{Exit}
 use Rattle.local_rules.specs.declared.local.Node.{Node}
 use Rattle.local_rules.specs.Cover.{IsNode}
-use Rattle.local_rules.specs.Local.{joined_onto}
 use Rattle.local_laws.proofs.Members.{none_in, here, there, first_or, in_map, each_in_map}
 use Rattle.edge_rules.specs.declared.edge.Edge.{Edge}
-use Rattle.edge_rules.specs.Edges.{IsFaultless, raw_of, Enters, returned_key, IsEdge, moving, entering, returning, target}
+use Rattle.edge_rules.specs.Edges.{IsFaultless, raw_of, returned_key, IsEdge, moving, entering, returning, target}
 use Rattle.edge_rules.specs.Families.{IsCovered}
 use Rattle.edge_laws.proofs.AllLaws.{edges_lead_to_nodes}
 use Rattle.call_graph.specs.declared.ways.Way.{Way}
 use Rattle.call_graph.specs.Next.{gathered}
 use Rattle.family_table.specs.declared.ports.Port.{Port}
 use Rattle.family_table.specs.Ports.{ports_at, IsPort}
-use Rattle.round_rules.specs.Families.{Family, nodes_of, Has, Lands, Below, AreFormed, LandIn}
+use Rattle.round_rules.specs.Families.{Family, nodes_of, Has, Lands, AreFormed}
 use Rattle.round_laws.specs.Steps.{IsRoundOf}
-use Rattle.round_laws.proofs.Keys.{some_same}
 use Rattle.round_laws.proofs.AllLaws.{families_are_their_nodes}
 use Rattle.round_steps.specs.declared.looking.Look.{Look}
 use Rattle.round_steps.specs.declared.looking.Seen.{Seen}
 use Rattle.round_steps.specs.declared.noting.Notes.{Notes}
 use Rattle.round_steps.specs.Looks.{IsLook, HasLook, AreSeen}
 use Rattle.round_steps.specs.Notings.{caller, leaver}
-use Rattle.round_steps.specs.Targets.{entry_node, returned_as, returned_to, back_from, back_at, backs_in, all_backs, onward_from, onward_at, onwards_if, targets_with, targets_of, all_targets}
+use Rattle.round_steps.specs.Targets.{entry_node, returned_as, back_from, back_at, backs_in, all_backs, onward_from, onward_at, onwards_if, targets_with, targets_of, all_targets}
 use Rattle.fixpoint.specs.Turns.{IsOwn, own_move, own_entry, ComesBack, comes_back, AreKnown, Turn}
 use Rattle.fixpoint.proofs.Looked.{seen_node, look_clean, look_same, look_exit, look_way, look_node, looked}
 

@@ -1,5 +1,5 @@
 -- What the end of the rounds says of certificates.
-use Rattle.std.proofs.Common.{◌≡◌, ◌≢◌, refl, sym, subst, ℕ, ◌≤◌, List, Option, Some, None}
+use Rattle.std.proofs.Common.{◌≡◌, ◌≢◌, refl, sym, ℕ, ◌≤◌, List, Option, None}
 use Rattle.avr_model.specs.declared.assumption.Entry.{Entry}
 use Rattle.certificate.specs.Claims.{Claim, IsClaim}
 use Rattle.certificate.specs.Valid.{IsValid}

@@ -1,7 +1,7 @@
 -- How the rounds begin, go on and end.
-use Rattle.std.proofs.Common.{◌≡◌, ◌≢◌, refl, sym, ap, ◌∙◌, subst, ℕ, zero, suc, ◌+◌, ◌-◌, ◌*◌, ◌<◌, ◌≤◌, Bool, true, false, ◌==◌, List, [], ◌∷◌, ◌++◌, length, map, Option, Some, None, Result, Ok, Err, IfErr, Contains, add-one, arith}
+use Rattle.std.proofs.Common.{◌≡◌, ◌≢◌, refl, sym, ap, ◌∙◌, subst, ℕ, suc, ◌+◌, ◌-◌, ◌<◌, ◌≤◌, Bool, true, false, ◌==◌, List, [], ◌∷◌, ◌++◌, length, map, Option, Some, None, add-one, arith}
 use Rattle.std.proofs.lemmas.Bool.Decides.{nat_tests}
-use Rattle.std.specs.FinMap.{get, insert, empty, entries, get-empty, len-entries, len-empty}
+use Rattle.std.specs.FinMap.{insert, empty, entries, get-empty, len-entries, len-empty}
 use Rattle.avr_model.specs.declared.assumption.Entry.{Entry}
 use Rattle.abs_state.specs.declared.state.AbsState.{AbsState}
 use Rattle.abs_state.specs.Values.{root}
@@ -10,7 +10,6 @@ use Rattle.mask_states.specs.declared.keys.NodeKey.{NodeKey}
 use Rattle.mask_states.specs.Keys.{root_inst, entry_key}
 use Rattle.mask_states.specs.Order.{node_cmp}
 use Rattle.local_rules.specs.declared.local.Node.{Node}
-use Rattle.local_rules.specs.declared.local.NodeFault.{NodeFault}
 use Rattle.local_rules.specs.declared.local.NodeFault.TheVariants as fault
 use Rattle.local_laws.specs.Laws.{AreNodes}
 use Rattle.local_laws.proofs.Members.{none_in, each_of}
@@ -21,9 +20,9 @@ use Rattle.round_rules.specs.declared.refusal.Refusal.{Refusal}
 use Rattle.round_rules.specs.declared.refusal.Refusal.TheVariants as refusal
 use Rattle.round_rules.specs.Families.{Family, HasInst, AreFormed, IsClosed, cells}
 use Rattle.round_rules.specs.Rounds.{first, IsNext, Comes}
-use Rattle.round_rules.specs.Refusals.{Test, over, faulty, re_entry, recursion, too_deep, refusal_of, IsSolved}
+use Rattle.round_rules.specs.Refusals.{Test, over, faulty, re_entry, recursion, too_deep, refusal_of}
 use Rattle.round_rules.specs.Solutions.{IsWithin, IsWhyNot, IsRefusal}
-use Rattle.round_laws.specs.Steps.{joined_with, raised_all, IsRoundOf, weight}
+use Rattle.round_laws.specs.Steps.{joined_with, raised_all, weight}
 use Rattle.round_laws.proofs.AllLaws.{rounds_are_joins, rounds_are_least}
 use Rattle.round_laws.proofs.Least.{comes_root}
 use Rattle.round_steps.specs.declared.noting.Notes.{Notes}

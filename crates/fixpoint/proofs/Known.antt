@@ -1,30 +1,22 @@
 -- After a round's notes all nodes are known, and the nesting is the family's.
-use Rattle.std.proofs.Common.{◌≡◌, refl, sym, ap, ◌∙◌, subst, ℕ, ◌⊎◌, inl, inr, ⊎_elim, List, [], Option, Some, None, Contains}
-use Rattle.std.specs.Prelude.{◌↔◌}
+use Rattle.std.proofs.Common.{◌≡◌, refl, sym, ◌∙◌, subst, ℕ, inl, inr, ⊎_elim, List, None, Contains}
 use Rattle.avr_model.specs.declared.assumption.Entry.{Entry}
-use Rattle.abs_state.specs.declared.state.AbsState.{AbsState}
 use Rattle.mask_states.specs.declared.keys.InstKey.{InstKey}
 use Rattle.mask_states.specs.declared.keys.NodeKey.{NodeKey}
-use Rattle.mask_states.specs.declared.keys.EdgeKind.{EdgeKind}
-use Rattle.mask_states.specs.declared.keys.SpForm.{SpForm}
-use Rattle.mask_states.specs.declared.keys.SpForm.TheVariants.{Closed}
 use Rattle.mask_states.specs.Keys.{offset_of}
-use Rattle.local_rules.specs.declared.local.Exit.{Exit}
 use Rattle.local_rules.specs.declared.local.Node.{Node}
-use Rattle.edge_rules.specs.Edges.{IsFaultless, raw_of, Enters}
 use Rattle.call_graph.specs.declared.ways.Way.{Way}
 use Rattle.family_table.specs.declared.ports.Port.{Port}
-use Rattle.family_table.specs.Ports.{IsPort}
 use Rattle.instance_nesting.specs.Nestings.{Spot, Entrance, IsSpotOf, IsNestingOf}
-use Rattle.round_rules.specs.Families.{Family, Has, HasInst, HasNoFault}
+use Rattle.round_rules.specs.Families.{Family, Has, HasInst}
 use Rattle.round_rules.specs.Rounds.{Entering}
 use Rattle.round_steps.specs.declared.looking.Look.{Look}
 use Rattle.round_steps.specs.declared.looking.Seen.{Seen}
 use Rattle.round_steps.specs.declared.noting.Notes.{Notes}
 use Rattle.round_steps.specs.Looks.{IsLook, HasLook, AreSeen}
 use Rattle.round_steps.specs.Notings.{AnyHas, caller, leaver, CallsAt, LeavesAt, InstAt, SpotAt, EntersAt, AreNoted}
-use Rattle.fixpoint.specs.Turns.{IsCaller, IsLeaver, AreTrue, IsKnown, AreKnown, IsHeld, Turn}
-use Rattle.fixpoint.proofs.Looked.{seen_node, look_clean, look_exit, look_way, look_node, none_faulty, looked}
+use Rattle.fixpoint.specs.Turns.{IsCaller, IsLeaver, AreTrue, IsKnown, AreKnown, Turn}
+use Rattle.fixpoint.proofs.Looked.{seen_node, look_exit, look_way, look_node, none_faulty, looked}
 
 module _ (words : List ℕ) (A : List Entry) (f : Family) (old new : Notes) (xs : List Look) (noted : AreNoted old xs new) where
   module _ (looks : (x : Look) → Contains xs x → IsLook words A f x) where

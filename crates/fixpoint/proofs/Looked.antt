@@ -1,11 +1,9 @@
 -- What was found at the nodes of a round's list tells the faults of the whole family.
-use Rattle.std.proofs.Common.{◌≡◌, refl, sym, ap, ◌∙◌, subst, ℕ, ◌⊎◌, inl, inr, ⊎_elim, List, [], Option, Some, None, Ok, Err, Contains}
+use Rattle.std.proofs.Common.{◌≡◌, sym, ap, ◌∙◌, subst, ℕ, ⊎_elim, List, [], Option, Some, None, Err, Contains}
 use Rattle.std.specs.Prelude.{◌↔◌}
 use Rattle.std.specs.FinMap.{get}
 use Rattle.avr_model.specs.declared.assumption.Entry.{Entry}
-use Rattle.abs_state.specs.declared.state.AbsState.{AbsState}
 use Rattle.mask_states.specs.declared.keys.NodeKey.{NodeKey}
-use Rattle.local_rules.specs.declared.local.Local.{Local}
 use Rattle.local_rules.specs.declared.local.Node.{Node}
 use Rattle.local_rules.specs.declared.local.NodeFault.{NodeFault}
 use Rattle.local_rules.specs.Local.{local, joined_onto}
@@ -19,7 +17,7 @@ use Rattle.round_laws.proofs.Parts.{never_both}
 use Rattle.round_steps.specs.declared.looking.Look.{Look}
 use Rattle.round_steps.specs.declared.looking.Seen.{Seen}
 use Rattle.round_steps.specs.declared.noting.Notes.{Notes}
-use Rattle.round_steps.specs.Looks.{IsLook, HasLook, HasFault, AreSeen}
+use Rattle.round_steps.specs.Looks.{IsLook, HasLook, AreSeen}
 use Rattle.fixpoint.specs.Turns.{Turn}
 
 some_fault : (x y : NodeFault) (o : Option NodeFault) → o ≡ Some x → o ≡ Some y → x ≡ y

@@ -1,36 +1,32 @@
 -- From a round to the next.
-use Rattle.std.proofs.Common.{◌≡◌, ◌≢◌, refl, sym, ap, ◌∙◌, subst, ℕ, zero, suc, ◌+◌, ◌-◌, ◌*◌, ◌<◌, ◌≤◌, ◌⊎◌, inl, inr, ⊎_elim, Bool, true, false, List, [], ◌∷◌, length, Option, Some, None, Contains, slice_get, add-one, arith}
-use Rattle.std.specs.FinMap.{get, insert, empty, get-empty, same_map, len}
+use Rattle.std.proofs.Common.{◌≡◌, refl, sym, ap, ◌∙◌, subst, ℕ, ◌<◌, ◌⊎◌, inl, inr, ⊎_elim, Bool, true, false, List, [], ◌∷◌, Contains, arith}
+use Rattle.std.specs.FinMap.{empty, get-empty, same_map}
 use Rattle.avr_model.specs.declared.assumption.Entry.{Entry}
 use Rattle.abs_state.specs.declared.state.AbsState.{AbsState}
-use Rattle.abs_state.specs.Order.{IsStateWithin}
-use Rattle.abs_state.specs.Values.{root}
 use Rattle.abs_state.proofs.AllLaws.{states_are_ordered}
 use Rattle.mask_states.specs.declared.keys.InstKey.{InstKey}
 use Rattle.mask_states.specs.declared.keys.NodeKey.{NodeKey}
-use Rattle.mask_states.specs.Keys.{root_inst, entry_key}
 use Rattle.mask_states.specs.Order.{node_cmp, same_node}
 use Rattle.mask_states.specs.Total.{node_total}
 use Rattle.mask_states.proofs.AllLaws.{keys_are_ordered}
 use Rattle.local_rules.specs.declared.local.Node.{Node}
-use Rattle.local_rules.specs.Cover.{IsNode}
 use Rattle.local_laws.proofs.AllLaws.{local_parts_are_monotone}
 use Rattle.local_laws.proofs.Members.{none_in, here, there, first_or}
 use Rattle.edge_rules.specs.Edges.{IsFaultless, raw_of}
 use Rattle.edge_laws.specs.Laws.{with_state}
 use Rattle.edge_laws.proofs.AllLaws.{edges_grow}
 use Rattle.family_table.specs.declared.ports.Port.{Port}
-use Rattle.instance_nesting.specs.Nestings.{Spot, Entrance, Noted, AreOnce, AreAlike, IsSpotOf}
-use Rattle.round_rules.specs.Families.{Family, Has, HasInst, Lands, Below, AreFormed, HasNoFault, IsClosed, cells}
-use Rattle.round_rules.specs.Rounds.{Entering, first, IsNext, Passes, Comes}
+use Rattle.instance_nesting.specs.Nestings.{AreOnce}
+use Rattle.round_rules.specs.Families.{Family, Has, Lands, Below, AreFormed, HasNoFault, IsClosed}
+use Rattle.round_rules.specs.Rounds.{Entering, IsNext}
 use Rattle.round_laws.specs.Steps.{weight}
-use Rattle.round_laws.proofs.AllLaws.{rounds_are_joins, families_are_their_nodes}
-use Rattle.round_laws.proofs.Keys.{node_exact, get_same, get_other, at_keys, some_same}
+use Rattle.round_laws.proofs.AllLaws.{families_are_their_nodes}
+use Rattle.round_laws.proofs.Keys.{node_exact}
 use Rattle.round_steps.specs.declared.noting.Notes.{Notes}
 use Rattle.round_steps.specs.Notings.{blank}
 use Rattle.round_steps.specs.Joins.{KeptBut}
-use Rattle.fixpoint.specs.Turns.{IsOwn, ComesBack, IsCaller, IsLeaver, AreTrue, IsKnown, AreKnown, IsHeld, Turn}
-use Rattle.fixpoint.proofs.Aims.{IsAim, own_aim, back_aim}
+use Rattle.fixpoint.specs.Turns.{IsCaller, IsLeaver, AreTrue, AreKnown, Turn}
+use Rattle.fixpoint.proofs.Aims.{own_aim, back_aim}
 
 pub there_or_not : (xs : List NodeKey) (k : NodeKey) → Contains xs k ⊎ (Contains xs k → ⊥)
 there_or_not [] k = inr (none_in k)

@@ -1,14 +1,12 @@
 -- What the tests of a round tell of the family.
-use Rattle.std.proofs.Common.{◌≡◌, ◌≢◌, refl, sym, ap, ◌∙◌, subst, ℕ, ◌≤◌, List, [], Option, Some, None, Result, Ok, Err, IfErr, Contains, length, arith}
+use Rattle.std.proofs.Common.{◌≡◌, ◌≢◌, sym, subst, ℕ, ◌≤◌, List, Some, None, Result, Ok, Err, IfErr, Contains, length, arith}
 use Rattle.std.specs.Result.{IsErrAnd}
-use Rattle.std.specs.FinMap.{get}
 use Rattle.avr_model.specs.declared.assumption.Entry.{Entry}
-use Rattle.mask_states.specs.declared.keys.InstKey.{InstKey}
 use Rattle.mask_states.specs.declared.keys.NodeKey.{NodeKey}
 use Rattle.mask_states.specs.Keys.{root_inst, offset_of}
 use Rattle.local_rules.specs.declared.local.Node.{Node}
 use Rattle.local_rules.specs.declared.local.NodeFault.{NodeFault}
-use Rattle.instance_nesting.specs.Nestings.{Spot, Entrance, Noted, AreOnce, AreAlike, TellsAll, Tells}
+use Rattle.instance_nesting.specs.Nestings.{Noted, AreOnce, AreAlike, TellsAll, Tells}
 use Rattle.instance_nesting.specs.declared.weight.Weight.{Weight}
 use Rattle.instance_nesting.specs.declared.weight.Weight.TheVariants as weight
 use Rattle.instance_nesting.proofs.Small.{nestings_are_small}
@@ -16,14 +14,14 @@ use Rattle.round_rules.specs.declared.refusal.Refusal.{Refusal}
 use Rattle.round_rules.specs.declared.refusal.Refusal.TheVariants.{Memory}
 use Rattle.round_rules.specs.Families.{Family, HasInst, AreFormed, FitsLimits}
 use Rattle.round_rules.specs.Rounds.{Passes}
-use Rattle.round_rules.specs.Refusals.{over, faulty, re_entry, recursion, too_deep, IsLeastFault, fault_refusal}
+use Rattle.round_rules.specs.Refusals.{over, faulty, re_entry, recursion, too_deep, fault_refusal}
 use Rattle.round_steps.specs.declared.looking.Look.{Look}
 use Rattle.round_steps.specs.declared.looking.Seen.{Seen}
 use Rattle.round_steps.specs.declared.noting.Notes.{Notes}
-use Rattle.round_steps.specs.Looks.{IsLook, AreSeen}
+use Rattle.round_steps.specs.Looks.{AreSeen}
 use Rattle.round_steps.specs.Notings.{AreNoted}
 use Rattle.round_steps.specs.Targets.{all_targets}
-use Rattle.fixpoint.specs.Turns.{AreTrue, IsKnown, AreKnown, Turn}
+use Rattle.fixpoint.specs.Turns.{AreKnown, Turn}
 use Rattle.fixpoint.specs.Tests.{IsTooLarge, weight_refusal, IsTold, IsStopped, IsReady}
 use Rattle.fixpoint.proofs.Looked.{seen_node, least_fault}
 use Rattle.fixpoint.proofs.Known.{all_known, nesting_is}

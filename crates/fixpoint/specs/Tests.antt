@@ -1,5 +1,5 @@
 -- What the tests of a round tell.
-use Rattle.std.specs.Prelude.{ℕ, ◌≡◌, ◌≢◌, List}
+use Rattle.std.specs.Prelude.{ℕ, ◌≡◌, List}
 use Rattle.avr_model.specs.declared.assumption.Entry.{Entry}
 use Rattle.certificate.specs.declared.limit.Limit.{Limit}
 use Rattle.local_rules.specs.declared.local.Node.{Node}
@@ -10,8 +10,7 @@ use Rattle.round_rules.specs.declared.refusal.Refusal.{Refusal}
 use Rattle.round_rules.specs.declared.refusal.Refusal.TheVariants.{TooLarge, ReEntry, Recursion, TooDeep, Memory}
 use Rattle.round_rules.specs.Families.{Family}
 use Rattle.round_rules.specs.Rounds.{Passes}
-use Rattle.round_rules.specs.Refusals.{Test, IsOver, FirstHolds, refusal_of, IsSolved}
-use Rattle.round_rules.specs.Solutions.{IsWithin}
+use Rattle.round_rules.specs.Refusals.{Test, IsOver, FirstHolds, refusal_of}
 use Rattle.round_laws.specs.Steps.{IsRoundOf}
 use Rattle.round_steps.specs.declared.noting.Notes.{Notes}
 use Rattle.fixpoint.specs.Turns.{AreKnown}

@@ -1,4 +1,5 @@
 use Rattle.std.proofs.Common.{arith}
+use Rattle.round_rules.specs.declared.refusal.Refusal.TheVariants.{Memory}
 use Rattle.round_rules.specs.Solutions.{IsWhyNot}
 use Rattle.fixpoint.proofs.Ready.{handed_on}
 use Rattle.fixpoint.proofs.Ending.{progress_first, why_stopped, formed, rooted, is_found, progress_more, why_spent, falls, none_if, some_if}
@@ -26,6 +27,10 @@ returns-in_err-nodes-clause-why_not c =
 pub join_all-requires-clause-formed : goal.join_all-requires-clause-formed
 join_all-requires-clause-formed c =
     formed c.args.flash.now c.args.assumptions.now c.args.steps c.rounds.left c.rounds.table c.rounds.counted c.rounds.work.items c.rounds.notes c.rounds.invariant
+
+pub returns-in_err-changed-clause-why_not : goal.returns-in_err-changed-clause-why_not
+returns-in_err-changed-clause-why_not c =
+    handed_on c.from_residual-in_err-changed.result Memory (IsWhyNot c.args.flash.now c.args.assumptions.now c.args.steps) c.from_residual-in_err-changed.ensures.1 tt
 
 pub returns-then-is_empty-clause-found : goal.returns-then-is_empty-clause-found
 returns-then-is_empty-clause-found c =

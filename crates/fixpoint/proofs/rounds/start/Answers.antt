@@ -1,5 +1,4 @@
-use Rattle.std.proofs.Common.{◌≡◌, ◌∙◌, sym, ap, subst}
-use Rattle.std.specs.FinMap.{empty, get}
+use Rattle.std.proofs.Common.{◌∙◌, sym, ap, subst}
 use Rattle.round_rules.specs.Families.{Family, AreFormed, cells}
 use Rattle.round_laws.specs.Steps.{raised_all}
 use Rattle.fixpoint.proofs.Ending.{no_cells, no_nodes, root_nodes, first_is, pushed_root}

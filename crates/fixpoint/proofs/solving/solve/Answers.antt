@@ -1,4 +1,4 @@
-use Rattle.std.proofs.Common.{◌≢◌, ℕ}
+use Rattle.std.proofs.Common.{◌≢◌}
 use Rattle.certificate.specs.Claims.{Claim}
 use Rattle.round_rules.specs.declared.refusal.Refusal.TheVariants.{Memory}
 use Rattle.round_rules.specs.Solutions.{IsShown}
