@@ -3,7 +3,7 @@ use Rattle.std.proofs.Common.{◌≡◌, refl, sym, ap, ◌∙◌, List, [], ◌
 use Rattle.local_rules.specs.declared.local.Local.{Local}
 use Rattle.local_rules.specs.declared.local.Node.{Node}
 use Rattle.local_rules.specs.declared.local.NodeFault.{NodeFault}
-use Rattle.abs_step.specs.declared.transfers.Outside.{Outside}
+use Rattle.abs_step.specs.declared.flow.Outside.{Outside}
 use Rattle.local_rules.specs.Raw.{Raw}
 use Rattle.local_rules.specs.Local.{settled}
 use Rattle.abs_step.specs.Adding.{first_fault, first_of, IsLed}

@@ -6,7 +6,7 @@ use Rattle.local_rules.specs.declared.local.Local.{Local}
 use Rattle.local_rules.specs.declared.local.Node.{Node}
 use Rattle.local_rules.specs.declared.local.NodeFault.{NodeFault}
 use Rattle.local_rules.specs.declared.local.NodeFault.TheVariants.{UnresolvedJump, Memory}
-use Rattle.abs_step.specs.declared.transfers.Outside.{Outside}
+use Rattle.abs_step.specs.declared.flow.Outside.{Outside}
 use Rattle.local_rules.specs.Faults.{is_less, least}
 use Rattle.local_rules.specs.Raw.{Raw, moves_to}
 use Rattle.local_rules.specs.Local.{joined_onto, settled}

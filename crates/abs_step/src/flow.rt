@@ -1,110 +1,255 @@
-//! Words that jumps, branches and skips go to, and the conditions that decide.
+//! Change of flow: jumps, skips, calls and returns.
 
-ghost use Rattle.std.specs.Prelude.{◌≡◌, ◌+◌, ◌<◌, ◌≤◌};
-ghost use Rattle.avr_model.specs.Text as text;
-ghost use Rattle.avr_model.specs.Effects as effects;
+ghost use Rattle.std.specs.Prelude.{◌≡◌, ◌<◌, length, map, filter, None, IfOk, IfErr, List};
 ghost use Rattle.avr_model.specs.Assumptions.{lists};
-ghost use Rattle.bit_domain.specs.TriByte.{tri_at};
-ghost use Rattle.bit_domain.specs.Logic.{byte_equal};
 ghost use Rattle.bit_domain.specs.Numbers.{targets_of};
+ghost use Rattle.bit_domain.specs.Tri.{tri_not};
+ghost use Rattle.mask_states.specs.Keys.{offset_of};
+ghost use Rattle.local_rules.specs.declared.local.NodeFault.TheVariants.{Memory};
+ghost use Rattle.local_rules.specs.Raw.{moves_to, Raw};
+ghost use Rattle.local_rules.specs.declared.local.Node.{Node};
 ghost use Rattle.local_rules.specs.Registers as registers;
 ghost use Rattle.local_rules.specs.Raw as raw;
-ghost use Rattle.local_rules.specs.Reads as reads;
+ghost use Rattle.local_rules.specs.Flow as flow;
+ghost use Rattle.abs_step.specs.Adding.{Adds, Finds, Leads};
 
-use crate::computed::bits;
-use crate::reads::read_at;
-use crate::words::Z;
+use crate::site::Site;
+use crate::stack::making_room;
+use crate::successors::{add_copy, at_word, branch, next};
+use abs_reads::flow::{further, is_target};
+use abs_rows::registers::bits;
+use abs_rows::transfer::Z;
 use abs_state::AbsState;
-use avr_model::device::WORDS;
-use bit_domain::{Tri, TriByte};
-use mask_states::NodeKey;
+use bit_domain::Tri;
+use indirect_targets::targets;
+use local_rules::local::{CallSite, CallSites, Exit, NodeFault, Nodes};
+use mask_states::{Kind, NodeKey, SpForm};
+use std::alloc::Global;
 
-/// The data address of I/O address 0.
-const IO_START: u16 = 0x20;
-
-/// The word so many words further.
-pub(crate) fn further(key: &NodeKey, words: u16) -> u16
-    requires { words ≤ 3 }
-    ensures { result ≡ raw.further key.now words }
+/// Past the next instruction where the condition holds.
+pub(crate) fn skipping(nodes: &mut Nodes, site: &Site<'_>, condition: Tri) -> Result<(), NodeFault>
+    requires word { site.now.key.now.pc < 16384 }
+    ensures { Adds nodes.old nodes.new result (flow.skipping site.now.flash.now site.now.key.now site.now.state.now condition) }
 {
-    key.pc.wrapping_add(words) % WORDS
+    let length = avr_decode::length(site.flash.word(site.key.pc + 1));
+    let (past, next) = (further(site.key, 1 + length), further(site.key, 1));
+    let added = branch(nodes, site, condition, past, next)?;
+    Ok(added)
 }
 
-/// The word at a distance of 12 bits, in two's complement, from the one behind `pc`.
-pub(crate) fn far(pc: u16, distance: u16) -> u16
-    requires { distance < 4096 }
-    ensures { result ≡ text.far pc distance }
+// The listed words that the bits permit.
+fn listed_targets(alloc: Global, state: &AbsState, listed: &[u16]) -> Result<Vec<u16>, NodeFault>
+    ensures ok { IfOk result (λ v. v.items ≡ filter (lists (targets_of (registers.bits state.now 30) (registers.bits state.now 31))) listed.now) }
+    ensures err { IfErr result (λ e. e ≡ Memory) }
 {
-    let words = if distance < 2048 {
-        distance
-    } else {
-        distance + 12288
-    };
-    pc.wrapping_add(1).wrapping_add(words) % WORDS
-}
-
-/// The word at a distance of 7 bits, in two's complement, from the one behind `pc`.
-pub(crate) fn near(pc: u16, distance: u16) -> u16
-    requires { distance < 128 }
-    ensures { result ≡ text.near pc distance }
-{
-    let words = if distance < 64 {
-        distance
-    } else {
-        distance + 16256
-    };
-    pc.wrapping_add(1).wrapping_add(words) % WORDS
-}
-
-/// The data address of an I/O address.
-pub(crate) fn port(address: u16) -> u16
-    requires { address < 64 }
-    ensures { result ≡ effects.port address }
-{
-    address + IO_START
-}
-
-/// A bit of an I/O address, which `sbic` and `sbis` test.
-pub(crate) fn port_bit(key: &NodeKey, state: &AbsState, address: u16, bit: u8) -> Tri
-    requires address { address < 64 }
-    requires bit { bit < 8 }
-    ensures { result ≡ tri_at (reads.read_at key.now state.now (effects.port address)).bits bit }
-{
-    read_at(key, state, port(address)).bits.bit(bit)
-}
-
-/// A bit of a register, which `sbrc` and `sbrs` test.
-pub(crate) fn register_bit(state: &AbsState, r: u16, bit: u8) -> Tri
-    requires r { r < 32 }
-    requires bit { bit < 8 }
-    ensures { result ≡ tri_at (registers.bits state.now r) bit }
-{
-    bits(state, r).bit(bit)
-}
-
-/// Whether registers `d` and `r` are equal, which `cpse` tests.
-pub(crate) fn are_equal(state: &AbsState, d: u16, r: u16) -> Tri
-    requires d { d < 32 }
-    requires r { r < 32 }
-    ensures { result ≡ byte_equal (registers.bits state.now d) (registers.bits state.now r) }
-{
-    bit_domain::equal(bits(state, d), bits(state, r))
-}
-
-// Whether the word is one of these bytes, modulo the words of flash, which leaves two bits open.
-fn is_permitted(lo: TriByte, hi: TriByte, word: u16) -> bool
-    ensures { result ≡ lists (targets_of lo hi) word }
-{
-    if word >= WORDS {
-        return false;
+    let mut words = Vec::new(alloc);
+    for at in 0..listed.len() {
+        if is_target(state, listed[at]) {
+            if words.push(listed[at]).is_err() {
+                return Err(NodeFault::Memory);
+            }
+        }
     }
-    let high = hi.with(6, Tri::Any).with(7, Tri::Any);
-    lo.has((word % 256) as u8) && high.has((word / 256) as u8)
+    Ok(words)
 }
 
-/// Whether an indirect transfer may lead to this word.
-pub(crate) fn is_target(state: &AbsState, word: u16) -> bool
-    ensures { result ≡ lists (targets_of (registers.bits state.now 30) (registers.bits state.now 31)) word }
+// All words that the bits permit, where these are few.
+fn unlisted_targets(alloc: Global, state: &AbsState, pc: u16) -> Result<Vec<u16>, NodeFault>
+    ensures { Finds result (flow.targets_by None (targets_of (registers.bits state.now 30) (registers.bits state.now 31))) pc }
 {
-    is_permitted(bits(state, Z), bits(state, Z + 1), word)
+    match targets(&bits(state, Z), &bits(state, Z + 1)) {
+        Ok(all) => match all.as_slice().to_vec(alloc) {
+            Ok(words) => Ok(words),
+            Err(_) => Err(NodeFault::Memory),
+        },
+        Err(_) => Err(NodeFault::UnresolvedJump(pc)),
+    }
+}
+
+/// The words to which an indirect transfer may lead.
+pub(crate) fn targets_at(site: &Site<'_>) -> Result<Vec<u16>, NodeFault>
+    ensures { Finds result (flow.targets_at site.now.assumptions.now site.now.key.now site.now.state.now) site.now.key.now.pc }
+{
+    match site.assumptions.jumps(site.key.pc) {
+        Some(listed) => listed_targets(site.alloc, site.state, listed),
+        None => unlisted_targets(site.alloc, site.state, site.key.pc),
+    }
+}
+
+// Going on at each of these words.
+fn add_words(nodes: &mut Nodes, site: &Site<'_>, words: &[u16]) -> Result<(), NodeFault>
+    ensures { Adds nodes.old nodes.new result (moves_to (map (λ t. record { key = raw.at_word site.now.key.now t; state = site.now.state.now }) words.now)) }
+{
+    for at in 0..words.len() {
+        add_copy(nodes, site.alloc, at_word(site.key, words[at]), site.state)?;
+    }
+    Ok(())
+}
+
+/// An indirect jump.
+pub(crate) fn jumping(nodes: &mut Nodes, site: &Site<'_>) -> Result<(), NodeFault>
+    ensures { Adds nodes.old nodes.new result (flow.jumping (flow.targets_at site.now.assumptions.now site.now.key.now site.now.state.now) site.now.key.now site.now.state.now) }
+{
+    let words = targets_at(site)?;
+    let added = add_words(nodes, site, &words)?;
+    Ok(added)
+}
+
+/// What leaves the instance.
+#[derive(Drop)]
+pub struct Outside {
+    /// Calls.
+    pub calls: CallSites,
+    /// A return.
+    pub exit: Option<Exit>,
+}
+
+/// Nothing leaves it where nodes were added.
+pub(crate) fn staying(alloc: Global, added: Result<(), NodeFault>) -> Result<Outside, NodeFault>
+    ensures { (old new : List Node) (r : Raw) → Adds old new added r → Leads old new result r }
+{
+    match added {
+        Ok(()) => Ok(Outside {
+            calls: CallSites::new(alloc),
+            exit: None,
+        }),
+        Err(fault) => Err(fault),
+    }
+}
+
+fn is_half_written(sp: SpForm) -> bool
+    ensures { result ≡ flow.is_half_written sp }
+{
+    match sp {
+        SpForm::Closed(_) => false,
+        SpForm::Open(_, _) => true,
+    }
+}
+
+// Calls of these words that go on at the word `back`.
+fn sites(alloc: Global, entries: &[u16], back: u16) -> Result<CallSites, NodeFault>
+    ensures ok { IfOk result (λ sites. sites ≡ map (λ t. flow.site t back) entries.now) }
+    ensures err { IfErr result (λ e. e ≡ Memory) }
+{
+    let mut sites = CallSites::new(alloc);
+    for at in 0..entries.len() {
+        let entry = entries[at];
+        if sites.push(CallSite { entry, back }).is_err() {
+            return Err(NodeFault::Memory);
+        }
+    }
+    Ok(sites)
+}
+
+/// A call of these words, which goes on at the word `back`.
+pub(crate) fn calling(
+    alloc: Global,
+    key: &NodeKey,
+    back: u16,
+    entries: &[u16],
+) -> Result<Outside, NodeFault>
+    ensures { (nodes : List Node) → Leads nodes nodes result (flow.calling key.now back entries.now) }
+{
+    if is_half_written(key.sp) {
+        return Err(NodeFault::UntrackedSp(key.pc));
+    }
+    let calls = sites(alloc, entries, back)?;
+    Ok(Outside { calls, exit: None })
+}
+
+/// An indirect call.
+pub(crate) fn indirect_call(site: &Site<'_>) -> Result<Outside, NodeFault>
+    ensures { (nodes : List Node) → Leads nodes nodes result (flow.indirect_call (flow.targets_at site.now.assumptions.now site.now.key.now site.now.state.now) site.now.key.now) }
+{
+    let entries = targets_at(site)?;
+    let outside = calling(site.alloc, site.key, further(site.key, 1), &entries)?;
+    Ok(outside)
+}
+
+// A return at this offset.
+fn returning_at(
+    alloc: Global,
+    exit: Exit,
+    pc: u16,
+    kind: Kind,
+    offset: u16,
+) -> Result<Outside, NodeFault>
+    ensures { (nodes : List Node) → Leads nodes nodes result (flow.returning exit pc kind offset) }
+{
+    match kind {
+        Kind::Call | Kind::Vector(_) if offset == 0 => Ok(Outside {
+            calls: CallSites::new(alloc),
+            exit: Some(exit),
+        }),
+        _ => Err(NodeFault::UntrackedSp(pc)),
+    }
+}
+
+/// A return, where the stack pointer isn't half written.
+pub(crate) fn returning(alloc: Global, key: &NodeKey, exit: Exit) -> Result<Outside, NodeFault>
+    ensures { (nodes : List Node) → Leads nodes nodes result (flow.at_closed key.now.sp key.now.pc (flow.returning exit key.now.pc key.now.inst.kind)) }
+{
+    match key.sp {
+        SpForm::Closed(offset) => returning_at(alloc, exit, key.pc, key.inst.kind, offset),
+        SpForm::Open(_, _) => Err(NodeFault::UntrackedSp(key.pc)),
+    }
+}
+
+/// What `ret` leaves of the key.
+pub(crate) fn ret_exit(key: &NodeKey) -> Exit
+    ensures { result ≡ flow.ret_exit key.now }
+{
+    Exit {
+        masks: key.masks,
+        i: key.i,
+        delay: false,
+    }
+}
+
+/// What `reti` leaves of it: it turns I on.
+pub(crate) fn reti_exit(key: &NodeKey) -> Exit
+    ensures { result ≡ flow.reti_exit key.now }
+{
+    Exit {
+        masks: key.masks,
+        i: true,
+        delay: true,
+    }
+}
+
+/// The opposite condition.
+pub(crate) fn opposite(condition: Tri) -> Tri
+    ensures { result ≡ tri_not condition }
+{
+    match condition {
+        Tri::Zero => Tri::One,
+        Tri::One => Tri::Zero,
+        Tri::Any => Tri::Any,
+    }
+}
+
+// A call of the next word that makes room, likewise.
+fn room_row(nodes: &mut Nodes, site: &Site<'_>, target: u16) -> Result<(), NodeFault>
+    ensures { Adds nodes.old nodes.new result (flow.at_closed site.now.key.now.sp site.now.key.now.pc (flow.making_room site.now.key.now site.now.state.now target)) }
+{
+    match site.key.sp {
+        SpForm::Closed(offset) => making_room(nodes, site, target, offset),
+        SpForm::Open(_, _) => Err(NodeFault::UntrackedSp(site.key.pc)),
+    }
+}
+
+/// `rcall`, which makes room in a compiler's small frame.
+pub(crate) fn relative_call(
+    nodes: &mut Nodes,
+    site: &Site<'_>,
+    scratch: bool,
+    target: u16,
+) -> Result<Outside, NodeFault>
+    ensures { Leads nodes.old nodes.new result (flow.relative_call scratch site.now.key.now site.now.state.now target) }
+{
+    if scratch {
+        staying(site.alloc, room_row(nodes, site, target))
+    } else {
+        calling(site.alloc, site.key, further(site.key, 1), &[target])
+    }
 }

@@ -2,15 +2,16 @@
 
 ghost use Rattle.std.specs.Prelude.{◌≡◌, ◌<◌, length, Err, true};
 ghost use Rattle.avr_model.specs.Sites.{instruction_at, is_scratch};
-ghost use Rattle.sb_base.specs.Answers.{Answers};
 ghost use Rattle.mask_states.specs.Keys.{offset_of};
 ghost use Rattle.local_rules.specs.declared.local.NodeFault.TheVariants.{Memory};
 ghost use Rattle.local_rules.specs.Raw.{Raw, untracked_if};
 ghost use Rattle.local_rules.specs.Local as rows;
+ghost use Rattle.sb_base.specs.Answers.{Answers};
 ghost use Rattle.abs_step.specs.Adding.{Settles};
 
-use crate::leading::row;
-use crate::stack_pointer::is_hung;
+use crate::site::Site;
+use crate::table::row;
+use abs_reads::stack_pointer::is_hung;
 use abs_state::AbsState;
 use avr_model::instruction::Instr;
 use flash_image::Flash;
@@ -20,49 +21,27 @@ use std::alloc::Global;
 use vector_table::Assumptions;
 
 // What the instruction at the node leads to.
-fn at_instruction(
-    alloc: Global,
-    flash: &Flash,
-    assumptions: &Assumptions,
-    key: &NodeKey,
-    state: &AbsState,
-) -> Result<Local, NodeFault>
-    requires word { key.now.pc < 16384 }
-    requires sized { length state.now.slots ≡ offset_of key.now.sp }
-    ensures { Settles result (rows.row_at flash.now assumptions.now (is_scratch flash.now key.now.pc) key.now state.now (instruction_at flash.now key.now.pc)) }
+fn at_instruction(site: &Site<'_>) -> Result<Local, NodeFault>
+    requires word { site.now.key.now.pc < 16384 }
+    ensures { Settles result (rows.row_at site.now.flash.now site.now.assumptions.now (is_scratch site.now.flash.now site.now.key.now.pc) site.now.key.now site.now.state.now (instruction_at site.now.flash.now site.now.key.now.pc)) }
 {
-    let scratch = avr_decode::is_scratch(flash.words(), key.pc);
-    match avr_decode::decode(flash.word(key.pc), flash.word(key.pc + 1)) {
-        Some(instr) => leading_from(alloc, flash, assumptions, scratch, key, state, &instr),
-        None => Err(NodeFault::Unsupported(key.pc)),
+    let scratch = avr_decode::is_scratch(site.flash.words(), site.key.pc);
+    match avr_decode::decode(
+        site.flash.word(site.key.pc),
+        site.flash.word(site.key.pc + 1),
+    ) {
+        Some(instr) => leading_from(site, scratch, &instr),
+        None => Err(NodeFault::Unsupported(site.key.pc)),
     }
 }
 
 // What this instruction leads to.
-fn leading_from(
-    alloc: Global,
-    flash: &Flash,
-    assumptions: &Assumptions,
-    scratch: bool,
-    key: &NodeKey,
-    state: &AbsState,
-    instr: &Instr,
-) -> Result<Local, NodeFault>
-    requires word { key.now.pc < 16384 }
-    requires sized { length state.now.slots ≡ offset_of key.now.sp }
-    ensures { Settles result (rows.row_of flash.now assumptions.now scratch key.now state.now instr.now) }
+fn leading_from(site: &Site<'_>, scratch: bool, instr: &Instr) -> Result<Local, NodeFault>
+    requires word { site.now.key.now.pc < 16384 }
+    ensures { Settles result (rows.row_of site.now.flash.now site.now.assumptions.now scratch site.now.key.now site.now.state.now instr.now) }
 {
-    let mut same = Nodes::new(alloc);
-    let outside = row(
-        &mut same,
-        alloc,
-        flash,
-        assumptions,
-        scratch,
-        key,
-        state,
-        instr,
-    )?;
+    let mut same = Nodes::new(site.alloc);
+    let outside = row(&mut same, site, scratch, instr)?;
     Ok(Local {
         same,
         calls: outside.calls,
@@ -101,7 +80,14 @@ pub fn local(
     requires sized { length state.now.slots ≡ offset_of key.now.sp }
     ensures { Answers (λ l. l) Memory result (rows.local flash.now assumptions.now key.now state.now) }
 {
-    let found = at_instruction(alloc, flash, assumptions, key, state);
+    let site = Site {
+        alloc,
+        flash,
+        assumptions,
+        key,
+        state,
+    };
+    let found = at_instruction(&site);
     if is_hung(key) {
         return Err(stopped(&found, key.pc));
     }

@@ -11,13 +11,13 @@ ghost use Rattle.local_rules.specs.Reads.{pointed};
 ghost use Rattle.local_rules.specs.Writes as writes;
 ghost use Rattle.abs_step.specs.Adding.{Adds, IsGathered, with_another, first_of};
 
-use crate::moves::add_copy;
-use crate::pointers::{point, reaches};
+use crate::site::Site;
 use crate::stores::{Write, written_at};
+use crate::successors::add_copy;
+use abs_reads::pointers::{point, reaches};
 use abs_state::AbsState;
 use flash_image::Flash;
 use local_rules::local::{NodeFault, Nodes};
-use mask_states::NodeKey;
 use std::alloc::Global;
 use vector_table::Assumptions;
 
@@ -108,27 +108,26 @@ fn is_settled(flash: &Flash, assumptions: &Assumptions, pc: u16) -> bool
     avr_decode::is_fixed(flash.words(), pc) || assumptions.proved(pc)
 }
 
-/// A byte is stored through registers `r` and `r + 1` plus a number, as they were in the state `was`.
+/// A byte is stored through registers `r` and `r + 1` plus a number, as they are before the instruction.
 pub(crate) fn pointer_write(
     nodes: &mut Nodes,
-    alloc: Global,
-    flash: &Flash,
-    assumptions: &Assumptions,
+    site: &Site<'_>,
     write: &Write,
-    was: &AbsState,
     r: u16,
     up: u16,
     state: &AbsState,
 ) -> Result<(), NodeFault>
     requires register { r < 31 }
     requires sized { length state.now.slots ≡ offset_of write.now.key.sp }
-    ensures { Adds nodes.old nodes.new result (writes.pointer_write flash.now assumptions.now was.now r up (pointed was.now r up) write.now.pc write.now.key state.now write.now.value) }
+    ensures { Adds nodes.old nodes.new result (writes.pointer_write site.now.flash.now site.now.assumptions.now site.now.state.now r up (pointed site.now.state.now r up) write.now.pc write.now.key state.now write.now.value) }
 {
-    if is_settled(flash, assumptions, write.pc) {
-        let address = point(was, r, up).constant;
-        fixed_write(nodes, alloc, address, write, state)
+    if is_settled(site.flash, site.assumptions, write.pc) {
+        let address = point(site.state, r, up).constant;
+        fixed_write(nodes, site.alloc, address, write, state)
     } else {
-        let addresses = assumptions.stores(write.pc);
-        listed_writes(nodes, alloc, write, was, r, up, state, addresses)
+        let addresses = site.assumptions.stores(write.pc);
+        listed_writes(
+            nodes, site.alloc, write, site.state, r, up, state, addresses,
+        )
     }
 }

@@ -1,4 +1,4 @@
-//! Writes to data space: what a byte changes that is written to a known address, or through a pointer.
+//! Writes to data space: what a byte changes that is written to a known address.
 
 ghost use Rattle.std.specs.Prelude.{◌≡◌, ◌<◌, length, map, slice_set, Some, IfOk, IfErr};
 ghost use Rattle.bit_domain.specs.TriByte.{tri_at};
@@ -9,10 +9,11 @@ ghost use Rattle.local_rules.specs.Raw.{one, moves_to};
 ghost use Rattle.local_rules.specs.Writes as writes;
 ghost use Rattle.abs_step.specs.Adding.{Adds};
 
-use crate::computed::set;
-use crate::flags::{I, flags_written};
-use crate::moves::{add, add_copy, add_two, changed, copied};
-use crate::stack_pointer::{closing_offset, high_part};
+use crate::successors::{add, add_copy, add_two, changed, copied};
+use abs_reads::stack_pointer::{closing_offset, high_part};
+use abs_rows::bits::I;
+use abs_rows::registers::set;
+use abs_rows::status::flags_written;
 use abs_state::{AbsByte, AbsState};
 use avr_model::device::{REGISTERS_END, SIZE, SPH, SPL, SREG};
 use bit_domain::Tri;

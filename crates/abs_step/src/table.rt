@@ -1,326 +1,169 @@
-//! Where each instruction leads: memory and flow.
+//! The whole table: where an instruction leads, and what leaves its instance.
 
-ghost use Rattle.std.specs.Prelude.{◌≡◌, ◌<◌, length};
-ghost use Rattle.bit_domain.specs.Tri.{tri_not};
+ghost use Rattle.std.specs.Prelude.{◌≡◌, ◌<◌, length, true};
 ghost use Rattle.mask_states.specs.Keys.{offset_of};
 ghost use Rattle.local_rules.specs.Registers as registers;
-ghost use Rattle.local_rules.specs.Raw as raw;
-ghost use Rattle.local_rules.specs.Reads as reads;
-ghost use Rattle.local_rules.specs.Flow as flow;
 ghost use Rattle.local_rules.specs.Local as rows;
-ghost use Rattle.local_rules.specs.Writes.{written_at};
-ghost use Rattle.abs_step.specs.Adding.{Adds, Leads};
+ghost use Rattle.abs_step.specs.Adding.{Leads};
 
-use crate::computed::{set, value};
-use crate::flow::further;
-use crate::moves::{add, add_copy, at_word, changed, next, setting};
-use crate::pointer_stores::pointer_write;
-use crate::pointers::{point, pointer_register, read_pointed, step_before};
-use crate::pushes::{making_room, popping, pushing};
-use crate::reads::read_at;
-use crate::stores::{Write, written_at};
-use crate::transfers::{Outside, calling, staying};
-use crate::words::pointer_moved;
-use abs_state::{AbsByte, AbsState};
-use avr_model::instruction::Pointer;
-use bit_domain::Tri;
-use flash_image::Flash;
+use crate::bits::{bit_row, interrupts_row};
+use crate::data_transfer::{
+    in_row, known_write, ldd_row, lds_row, load_row, lpm_plus_row, lpm_row, std_row, store_row,
+};
+use crate::flow::{
+    Outside, calling, indirect_call, jumping, opposite, relative_call, ret_exit, reti_exit,
+    returning, skipping, staying,
+};
+use crate::site::Site;
+use crate::stack::{pop_row, push_row};
+use crate::successors::{at_word, branch, going_on, going_to, next, setting};
+use abs_reads::flow::{are_equal, far, further, near, port, port_bit, register_bit};
+use abs_reads::pointers::base_register;
+use abs_rows::rows::computed_by;
+use abs_rows::status::flag_at;
+use avr_model::instruction::Instr;
 use local_rules::local::{NodeFault, Nodes};
-use mask_states::{NodeKey, SpForm};
-use std::alloc::Global;
-use vector_table::Assumptions;
 
-/// The opposite condition.
-pub(crate) fn opposite(condition: Tri) -> Tri
-    ensures { result ≡ tri_not condition }
-{
-    match condition {
-        Tri::Zero => Tri::One,
-        Tri::One => Tri::Zero,
-        Tri::Any => Tri::Any,
-    }
-}
-
-/// A register gets what was read; there is no successor where nothing can be read.
-#[tactic(auto, using(crate::proofs::Added::adding))]
-pub(crate) fn loading(
+// Flow, and what has no operand.
+fn flow_row(
     nodes: &mut Nodes,
-    alloc: Global,
-    key: &NodeKey,
-    state: &AbsState,
-    registers: &[AbsByte; 32],
-    d: u16,
-    read: Option<AbsByte>,
-) -> Result<(), NodeFault>
-    requires register { d < 32 }
-    requires sized { length state.now.slots ≡ offset_of key.now.sp }
-    ensures { Adds nodes.old nodes.new result (rows.loading key.now state.now registers.now d read) }
-{
-    match read {
-        Some(value) => {
-            let registers = set(registers, d, value);
-            setting(nodes, alloc, key, state, &registers, state.flags)
-        }
-        None => Ok(()),
-    }
-}
-
-/// `ld`: through a pointer that may move.
-pub(crate) fn load_row(
-    nodes: &mut Nodes,
-    alloc: Global,
-    key: &NodeKey,
-    state: &AbsState,
-    d: u16,
-    pointer: Pointer,
-) -> Result<(), NodeFault>
-    requires register { d < 32 }
-    requires sized { length state.now.slots ≡ offset_of key.now.sp }
-    ensures { Adds nodes.old nodes.new result (rows.load_row key.now state.now d pointer) }
-{
-    let pointed = point(state, pointer_register(pointer), step_before(pointer));
-    let read = read_pointed(key, state, pointed);
-    let registers = pointer_moved(pointer, state);
-    let added = loading(nodes, alloc, key, state, &registers, d, read)?;
-    Ok(added)
-}
-
-/// `lds`: a read of the address in the second word.
-pub(crate) fn lds_row(
-    nodes: &mut Nodes,
-    alloc: Global,
-    key: &NodeKey,
-    state: &AbsState,
-    d: u16,
-    address: u16,
-) -> Result<(), NodeFault>
-    requires register { d < 32 }
-    requires sized { length state.now.slots ≡ offset_of key.now.sp }
-    ensures { Adds nodes.old nodes.new result (raw.going_to key.now (record state.now { registers = registers.set state.now d (reads.read_at key.now state.now address) }) (raw.further key.now 2)) }
-{
-    let registers = set(&state.registers, d, read_at(key, state, address));
-    let after = changed(alloc, state, &registers, state.flags)?;
-    let added = add(nodes, at_word(key, further(key, 2)), after)?;
-    Ok(added)
-}
-
-/// `st`: through a pointer that may move.
-pub(crate) fn store_row(
-    nodes: &mut Nodes,
-    alloc: Global,
-    flash: &Flash,
-    assumptions: &Assumptions,
-    key: &NodeKey,
-    state: &AbsState,
-    pointer: Pointer,
-    r: u16,
-) -> Result<(), NodeFault>
-    requires register { r < 32 }
-    requires sized { length state.now.slots ≡ offset_of key.now.sp }
-    ensures { Adds nodes.old nodes.new result (rows.store_row flash.now assumptions.now key.now state.now pointer r) }
-{
-    let registers = pointer_moved(pointer, state);
-    let after = changed(alloc, state, &registers, state.flags)?;
-    let write = Write {
-        pc: key.pc,
-        key: next(key),
-        value: value(state, r),
-    };
-    let (base, up) = (pointer_register(pointer), step_before(pointer));
-    let added = pointer_write(
-        nodes,
-        alloc,
-        flash,
-        assumptions,
-        &write,
-        state,
-        base,
-        up,
-        &after,
-    )?;
-    Ok(added)
-}
-
-/// `std`: at a distance from a pointer.
-pub(crate) fn std_row(
-    nodes: &mut Nodes,
-    alloc: Global,
-    flash: &Flash,
-    assumptions: &Assumptions,
-    key: &NodeKey,
-    state: &AbsState,
-    base: u16,
-    up: u16,
-    r: u16,
-) -> Result<(), NodeFault>
-    requires base { base < 31 }
-    requires register { r < 32 }
-    requires sized { length state.now.slots ≡ offset_of key.now.sp }
-    ensures { Adds nodes.old nodes.new result (rows.std_row flash.now assumptions.now key.now state.now base up r) }
-{
-    let write = Write {
-        pc: key.pc,
-        key: next(key),
-        value: value(state, r),
-    };
-    let added = pointer_write(
-        nodes,
-        alloc,
-        flash,
-        assumptions,
-        &write,
-        state,
-        base,
-        up,
-        state,
-    )?;
-    Ok(added)
-}
-
-/// One bit of an I/O address is turned on or off.
-pub(crate) fn bit_row(
-    nodes: &mut Nodes,
-    alloc: Global,
-    key: &NodeKey,
-    state: &AbsState,
-    address: u16,
-    bit: u8,
-    on: bool,
-) -> Result<(), NodeFault>
-    requires bit { bit < 8 }
-    requires sized { length state.now.slots ≡ offset_of key.now.sp }
-    ensures { Adds nodes.old nodes.new result (rows.bit_row key.now state.now address bit on) }
-{
-    let bits = read_at(key, state, address)
-        .bits
-        .with(bit, if on { Tri::One } else { Tri::Zero });
-    let write = Write {
-        pc: key.pc,
-        key: next(key),
-        value: AbsByte::untagged(bits),
-    };
-    let added = written_at(nodes, alloc, &write, false, state, address)?;
-    Ok(added)
-}
-
-/// What is written to a known address, after which the machine is at this key.
-pub(crate) fn known_write(
-    nodes: &mut Nodes,
-    alloc: Global,
-    key: &NodeKey,
-    state: &AbsState,
-    after: NodeKey,
-    is_out: bool,
-    address: u16,
-    r: u16,
-) -> Result<(), NodeFault>
-    requires register { r < 32 }
-    requires sized { length state.now.slots ≡ offset_of after.sp }
-    ensures { Adds nodes.old nodes.new result (written_at key.now.pc after state.now is_out address (registers.value state.now r)) }
-{
-    let write = Write {
-        pc: key.pc,
-        key: after,
-        value: value(state, r),
-    };
-    let added = written_at(nodes, alloc, &write, is_out, state, address)?;
-    Ok(added)
-}
-
-/// `push`, where the stack pointer isn't half written.
-pub(crate) fn push_row(
-    nodes: &mut Nodes,
-    alloc: Global,
+    site: &Site<'_>,
     scratch: bool,
-    key: &NodeKey,
-    state: &AbsState,
-    r: u16,
-) -> Result<(), NodeFault>
-    requires register { r < 32 }
-    requires sized { length state.now.slots ≡ offset_of key.now.sp }
-    ensures { Adds nodes.old nodes.new result (flow.at_closed key.now.sp key.now.pc (flow.pushing scratch key.now state.now r)) }
-{
-    match key.sp {
-        SpForm::Closed(offset) => pushing(nodes, alloc, scratch, key, state, r, offset),
-        SpForm::Open(_, _) => Err(NodeFault::UntrackedSp(key.pc)),
-    }
-}
-
-/// `pop`, likewise.
-pub(crate) fn pop_row(
-    nodes: &mut Nodes,
-    alloc: Global,
-    key: &NodeKey,
-    state: &AbsState,
-    d: u16,
-) -> Result<(), NodeFault>
-    requires register { d < 32 }
-    requires sized { length state.now.slots ≡ offset_of key.now.sp }
-    ensures { Adds nodes.old nodes.new result (flow.at_closed key.now.sp key.now.pc (flow.popping key.now state.now d)) }
-{
-    match key.sp {
-        SpForm::Closed(offset) => popping(nodes, alloc, key, state, d, offset),
-        SpForm::Open(_, _) => Err(NodeFault::UntrackedSp(key.pc)),
-    }
-}
-
-// A call of the next word that makes room, likewise.
-fn room_row(
-    nodes: &mut Nodes,
-    alloc: Global,
-    key: &NodeKey,
-    state: &AbsState,
-    target: u16,
-) -> Result<(), NodeFault>
-    requires { length state.now.slots ≡ offset_of key.now.sp }
-    ensures { Adds nodes.old nodes.new result (flow.at_closed key.now.sp key.now.pc (flow.making_room key.now state.now target)) }
-{
-    match key.sp {
-        SpForm::Closed(offset) => making_room(nodes, alloc, key, state, target, offset),
-        SpForm::Open(_, _) => Err(NodeFault::UntrackedSp(key.pc)),
-    }
-}
-
-/// `rcall`, which makes room in a compiler's small frame.
-pub(crate) fn relative_call(
-    nodes: &mut Nodes,
-    alloc: Global,
-    scratch: bool,
-    key: &NodeKey,
-    state: &AbsState,
-    target: u16,
+    instr: &Instr,
 ) -> Result<Outside, NodeFault>
-    requires { length state.now.slots ≡ offset_of key.now.sp }
-    ensures { Leads nodes.old nodes.new result (flow.relative_call scratch key.now state.now target) }
+    requires word { site.now.key.now.pc < 16384 }
+    ensures { Leads nodes.old nodes.new result (rows.flow_row site.now.flash.now site.now.assumptions.now scratch site.now.key.now site.now.state.now instr.now) }
 {
-    if scratch {
-        staying(alloc, room_row(nodes, alloc, key, state, target))
-    } else {
-        calling(alloc, key, further(key, 1), &[target])
+    let a = site.alloc;
+    match instr {
+        Instr::Ijmp => staying(a, jumping(nodes, site)),
+        Instr::Icall => indirect_call(site),
+        Instr::Ret => returning(a, site.key, ret_exit(site.key)),
+        Instr::Reti => returning(a, site.key, reti_exit(site.key)),
+        Instr::Jmp(t) => staying(a, going_to(nodes, site, t.get())),
+        Instr::Call(t) => calling(a, site.key, further(site.key, 2), &[t.get()]),
+        Instr::Rjmp(t) => staying(a, going_to(nodes, site, far(site.key.pc, t.get()))),
+        Instr::Rcall(t) => relative_call(nodes, site, scratch, far(site.key.pc, t.get())),
+        Instr::Brbs(n, t) => {
+            let condition = flag_at(site.key, site.state, n.get() as u8);
+            let (taken, other) = (near(site.key.pc, t.get()), further(site.key, 1));
+            staying(a, branch(nodes, site, condition, taken, other))
+        }
+        Instr::Brbc(n, t) => {
+            let condition = opposite(flag_at(site.key, site.state, n.get() as u8));
+            let (taken, other) = (near(site.key.pc, t.get()), further(site.key, 1));
+            staying(a, branch(nodes, site, condition, taken, other))
+        }
+        Instr::Sbic(port, bit) => {
+            let condition = opposite(port_bit(site.key, site.state, port.get(), bit.get() as u8));
+            staying(a, skipping(nodes, site, condition))
+        }
+        Instr::Sbis(port, bit) => {
+            let condition = port_bit(site.key, site.state, port.get(), bit.get() as u8);
+            staying(a, skipping(nodes, site, condition))
+        }
+        Instr::Sbrc(r, bit) => {
+            let condition = opposite(register_bit(site.state, r.get(), bit.get() as u8));
+            staying(a, skipping(nodes, site, condition))
+        }
+        Instr::Sbrs(r, bit) => {
+            let condition = register_bit(site.state, r.get(), bit.get() as u8);
+            staying(a, skipping(nodes, site, condition))
+        }
+        _ => staying(a, going_on(nodes, site)),
     }
 }
 
-/// `sei` where `on`, after which one more instruction executes before any interrupt, else `cli`.
-pub(crate) fn interrupts_row(
+// Loads, stores and I/O.
+fn memory_row(
     nodes: &mut Nodes,
-    alloc: Global,
-    key: &NodeKey,
-    state: &AbsState,
-    on: bool,
-) -> Result<(), NodeFault>
-    requires { length state.now.slots ≡ offset_of key.now.sp }
-    ensures { Adds nodes.old nodes.new result (registers.interrupts_row key.now state.now on) }
+    site: &Site<'_>,
+    scratch: bool,
+    instr: &Instr,
+) -> Result<Outside, NodeFault>
+    requires word { site.now.key.now.pc < 16384 }
+    ensures { Leads nodes.old nodes.new result (rows.memory_row site.now.flash.now site.now.assumptions.now scratch site.now.key.now site.now.state.now instr.now) }
 {
-    let delay = on && !key.i;
-    let added = add_copy(
-        nodes,
-        alloc,
-        NodeKey {
-            i: on,
-            delay,
-            ..next(key)
-        },
-        state,
-    )?;
-    Ok(added)
+    let a = site.alloc;
+    match instr {
+        Instr::Ldd(d, b, q) => {
+            let base = base_register(*b);
+            staying(a, ldd_row(nodes, site, d.get(), base, q.get()))
+        }
+        Instr::Std(b, q, r) => {
+            let base = base_register(*b);
+            let (up, r) = (q.get(), r.get());
+            staying(a, std_row(nodes, site, base, up, r))
+        }
+        Instr::Lds(d, address) => staying(a, lds_row(nodes, site, d.get(), *address)),
+        Instr::Sts(address, r) => {
+            let after = at_word(site.key, further(site.key, 2));
+            staying(a, known_write(nodes, site, after, false, *address, r.get()))
+        }
+        Instr::Ld(d, p) => staying(a, load_row(nodes, site, d.get(), *p)),
+        Instr::St(p, r) => {
+            let r = r.get();
+            staying(a, store_row(nodes, site, *p, r))
+        }
+        Instr::LpmZ(d) => staying(a, lpm_row(nodes, site, d.get())),
+        Instr::LpmZPlus(d) => staying(a, lpm_plus_row(nodes, site, d.get())),
+        Instr::Lpm => staying(a, lpm_row(nodes, site, 0)),
+        Instr::Pop(d) => staying(a, pop_row(nodes, site, d.get())),
+        Instr::Push(r) => staying(a, push_row(nodes, site, scratch, r.get())),
+        Instr::In(d, i) => staying(a, in_row(nodes, site, d.get(), port(i.get()))),
+        Instr::Out(i, r) => {
+            let (after, address) = (next(site.key), port(i.get()));
+            staying(a, known_write(nodes, site, after, true, address, r.get()))
+        }
+        Instr::Cbi(i, b) => {
+            let (address, bit) = (port(i.get()), b.get() as u8);
+            staying(a, bit_row(nodes, site, address, bit, false))
+        }
+        Instr::Sbi(i, b) => {
+            let (address, bit) = (port(i.get()), b.get() as u8);
+            staying(a, bit_row(nodes, site, address, bit, true))
+        }
+        _ => flow_row(nodes, site, scratch, instr),
+    }
+}
+
+// What sets more than registers and flags.
+fn other_row(
+    nodes: &mut Nodes,
+    site: &Site<'_>,
+    scratch: bool,
+    instr: &Instr,
+) -> Result<Outside, NodeFault>
+    requires word { site.now.key.now.pc < 16384 }
+    ensures { Leads nodes.old nodes.new result (rows.other_row site.now.flash.now site.now.assumptions.now scratch site.now.key.now site.now.state.now instr.now) }
+{
+    let a = site.alloc;
+    match instr {
+        Instr::Binary(_, d, r) => {
+            let condition = are_equal(site.state, d.get(), r.get());
+            staying(a, skipping(nodes, site, condition))
+        }
+        Instr::Bset(_) => staying(a, interrupts_row(nodes, site, true)),
+        Instr::Bclr(_) => staying(a, interrupts_row(nodes, site, false)),
+        _ => memory_row(nodes, site, scratch, instr),
+    }
+}
+
+/// Where an instruction leads: nodes are put into the list, and what leaves the instance is told.
+pub(crate) fn row(
+    nodes: &mut Nodes,
+    site: &Site<'_>,
+    scratch: bool,
+    instr: &Instr,
+) -> Result<Outside, NodeFault>
+    requires word { site.now.key.now.pc < 16384 }
+    ensures { Leads nodes.old nodes.new result (rows.row_of site.now.flash.now site.now.assumptions.now scratch site.now.key.now site.now.state.now instr.now) }
+{
+    match computed_by(site.state, instr) {
+        Some(set) => {
+            let added = setting(nodes, site, &set.registers, set.flags);
+            staying(site.alloc, added)
+        }
+        None => other_row(nodes, site, scratch, instr),
+    }
 }

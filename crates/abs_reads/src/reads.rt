@@ -1,0 +1,86 @@
+//! What is known of a byte that is read from data space at a known address.
+
+ghost use Rattle.std.specs.Prelude.{◌≡◌, ◌<◌};
+ghost use Rattle.avr_model.specs.Vectors.{enable_of};
+ghost use Rattle.sp_domain.specs.Slots.{slot_at};
+ghost use Rattle.local_rules.specs.Reads.{io_tri, io_bits, value_of, slot_read, read_at};
+
+use crate::stack_pointer::{sp_high, sp_low};
+use abs_rows::bits::tri_of;
+use abs_rows::registers::value;
+use abs_rows::status::sreg_value;
+use abs_state::{AbsByte, AbsState};
+use avr_model::device::{RAMEND, REGISTERS_END, SPH, SPL, SREG};
+use bit_domain::{Tri, TriByte};
+use mask_states::{Kind, NodeKey};
+use sp_domain::Slot;
+use vector_table::{Masks, enable_of};
+
+/// The last address of I/O (data sheet).
+const IO_LAST: u16 = 0xFF;
+
+// One bit of an I/O address: an enable bit comes from the key, and no other one is known.
+fn io_tri(masks: Masks, address: u16, bit: u8) -> Tri
+    ensures { result ≡ io_tri (enable_of address bit) masks }
+{
+    match enable_of(address, bit) {
+        Some(vector) => tri_of(masks.has(vector)),
+        None => Tri::Any,
+    }
+}
+
+/// The bits of an I/O address.
+pub(crate) fn io_bits(masks: Masks, address: u16) -> TriByte
+    ensures { result ≡ io_bits masks address }
+{
+    let mut bits = TriByte::any();
+    for bit in 0..8u8 {
+        bits = bits.with(bit, io_tri(masks, address, bit));
+    }
+    bits
+}
+
+/// What is known of a slot's byte.
+pub(crate) fn value_of(slot: Slot<AbsByte>) -> AbsByte
+    ensures { result ≡ value_of slot }
+{
+    match slot {
+        Slot::Free => AbsByte::unknown(),
+        Slot::Guarded(value) => value,
+    }
+}
+
+/// What is known of the byte in slot `d`: nothing where there is no such slot.
+pub fn slot_value(state: &AbsState, d: u16) -> AbsByte
+    ensures { result ≡ value_of (slot_at state.now.slots d) }
+{
+    match state.slots.at(d) {
+        Some(slot) => value_of(slot),
+        None => AbsByte::unknown(),
+    }
+}
+
+// The byte above I/O: a slot of the root's frame, whose base is known; elsewhere nothing is known.
+fn slot_read(kind: Kind, state: &AbsState, address: u16) -> AbsByte
+    ensures { result ≡ slot_read kind state.now address }
+{
+    match kind {
+        Kind::Root if address <= RAMEND => slot_value(state, RAMEND - address),
+        _ => AbsByte::unknown(),
+    }
+}
+
+/// What a read of a data address gives.
+#[tactic(auto, unfolding(local_rules::specs::Reads::read_at))]
+pub fn read_at(key: &NodeKey, state: &AbsState, address: u16) -> AbsByte
+    ensures { result ≡ read_at key.now state.now address }
+{
+    match address {
+        0..REGISTERS_END => value(state, address),
+        SPL => sp_low(key.inst.kind, key.sp),
+        SPH => sp_high(key.inst.kind, key.sp),
+        SREG => sreg_value(key, state),
+        0..=IO_LAST => AbsByte::untagged(io_bits(key.masks, address)),
+        _ => slot_read(key.inst.kind, state, address),
+    }
+}

@@ -1,0 +1,234 @@
+//! Arithmetic and logic: sums, differences, products and operations on the bits of two bytes. Where a result has a tag, a rule
+//! here says so; all others have none. Source: own; bits and flags are those of `abs_alu`.
+
+ghost use Rattle.std.specs.Prelude.{◌≡◌, ◌+◌, ◌<◌};
+ghost use Rattle.local_rules.specs.Registers.{sum_after, compare_after, difference_after, sub_after, sbc_after, logic_after, step_after, com_after, low_tag, borrow_tag, high_tag, or_nothing, kept_tag, carry_bit, unary_after, product_after, wide_after, down_by, pair_tags};
+
+use crate::bits::CARRY;
+use crate::registers::{bits, but_carry, set, set_pair, value, with_bits, with_carry};
+use abs_state::{AbsByte, AbsState};
+use avr_model::instruction::UnaryOp;
+use avr_model::operation::{Logic, Mul};
+use bit_domain::{Tri, TriByte};
+use local_rules::Computed;
+use sp_domain::{CarryTag, Tag, move_pair, sub_high, sub_low};
+
+/// What is known of the carry flag.
+pub(crate) fn carry_bit(state: &AbsState) -> Tri
+    ensures { result ≡ carry_bit state.now }
+{
+    state.flags.bits.bit(CARRY)
+}
+
+/// Register `d` plus a byte and a carry.
+pub(crate) fn sum(state: &AbsState, d: u16, other: TriByte, carry: Tri) -> Computed
+    requires { d < 32 }
+    ensures { result ≡ sum_after state.now d other carry }
+{
+    let (sum, flags) = abs_alu::add(bits(state, d), other, carry, state.flags.bits);
+    Computed {
+        registers: set(&state.registers, d, AbsByte::untagged(sum)),
+        flags: with_carry(flags, CarryTag::None),
+    }
+}
+
+/// A comparison: a difference that sets the flags alone. With `keep_zero` Z is set only where it was.
+pub(crate) fn compare(
+    state: &AbsState,
+    a: TriByte,
+    b: TriByte,
+    borrow: Tri,
+    keep_zero: bool,
+) -> Computed
+    ensures { result ≡ compare_after state.now a b borrow keep_zero }
+{
+    let (_, flags) = abs_alu::sub(a, b, borrow, keep_zero, state.flags.bits);
+    Computed {
+        registers: state.registers,
+        flags: with_carry(flags, CarryTag::None),
+    }
+}
+
+/// A difference that goes to register `d`, with the tag of the result and that of the borrow.
+fn difference(
+    state: &AbsState,
+    d: u16,
+    operands: (TriByte, TriByte),
+    borrow: Tri,
+    keep_zero: bool,
+    tags: (Tag, CarryTag),
+) -> Computed
+    requires { d < 32 }
+    ensures { result ≡ difference_after state.now d operands.0 operands.1 borrow keep_zero tags.0 tags.1 }
+{
+    let (a, b) = operands;
+    let (tag, carry) = tags;
+    let (difference, flags) = abs_alu::sub(a, b, borrow, keep_zero, state.flags.bits);
+    Computed {
+        registers: set(&state.registers, d, with_bits(tag, difference)),
+        flags: with_carry(flags, carry),
+    }
+}
+
+// The tags of a low byte less a number, where it is known, and of the borrow.
+fn low_tags(tag: Tag, number: Option<u8>) -> (Tag, CarryTag)
+    ensures tag { result.0 ≡ low_tag tag number }
+    ensures borrow { result.1 ≡ borrow_tag tag number }
+{
+    match number {
+        Some(number) => sub_low(tag, number),
+        None => (Tag::None, CarryTag::None),
+    }
+}
+
+// The tag of a high byte less a number, where it is known, and the borrow.
+fn high_tag(tag: Tag, number: Option<u8>, borrow: CarryTag) -> Tag
+    ensures { result ≡ high_tag tag number borrow }
+{
+    match number {
+        Some(number) => sub_high(tag, number, borrow),
+        None => Tag::None,
+    }
+}
+
+/// Register `d`, of which `a` is known, less a byte, which may be a known number.
+pub(crate) fn sub(state: &AbsState, d: u16, a: TriByte, b: TriByte, number: Option<u8>) -> Computed
+    requires { d < 32 }
+    ensures { result ≡ sub_after state.now d a b number }
+{
+    let tags = low_tags(value(state, d).tag, number);
+    difference(state, d, (a, b), Tri::Zero, false, tags)
+}
+
+/// Register `d` less a byte, which may be a known number, and the carry.
+pub(crate) fn sbc(state: &AbsState, d: u16, b: TriByte, number: Option<u8>) -> Computed
+    requires { d < 32 }
+    ensures { result ≡ sbc_after state.now d b number }
+{
+    let value = value(state, d);
+    let tag = high_tag(value.tag, number, state.flags.carry);
+    let tags = (tag, CarryTag::None);
+    difference(state, d, (value.bits, b), carry_bit(state), true, tags)
+}
+
+/// 0 less register `d`.
+pub(crate) fn neg(state: &AbsState, d: u16) -> Computed
+    requires { d < 32 }
+    ensures { result ≡ unary_after state.now UnaryOp.Neg d }
+{
+    let operands = (TriByte::of(0), bits(state, d));
+    let tags = (Tag::None, CarryTag::None);
+    difference(state, d, operands, Tri::Zero, false, tags)
+}
+
+/// A register's bits where another one is subtracted from it, or is its exclusive or: 0 where both are the same register.
+pub(crate) fn or_nothing(d: u16, r: u16, bits: TriByte) -> TriByte
+    ensures { result ≡ or_nothing d r bits }
+{
+    if d == r { TriByte::of(0) } else { bits }
+}
+
+/// The tag after `and` or `or` of two registers: a register with itself stays.
+pub(crate) fn kept_tag(state: &AbsState, d: u16, r: u16) -> Tag
+    requires { d < 32 }
+    ensures { result ≡ kept_tag state.now d r }
+{
+    if d == r {
+        value(state, d).tag
+    } else {
+        Tag::None
+    }
+}
+
+/// AND, OR or EOR of two bytes, which goes to register `d` with this tag.
+pub(crate) fn logic(
+    state: &AbsState,
+    op: Logic,
+    d: u16,
+    a: TriByte,
+    b: TriByte,
+    tag: Tag,
+) -> Computed
+    requires { d < 32 }
+    ensures { result ≡ logic_after state.now op d a b tag }
+{
+    let (result, flags) = abs_alu::logic(op, a, b, state.flags.bits);
+    Computed {
+        registers: set(&state.registers, d, with_bits(tag, result)),
+        flags: but_carry(state, flags),
+    }
+}
+
+/// Register `d` plus 1 where `up`, else less 1.
+pub(crate) fn step_one(state: &AbsState, up: bool, d: u16) -> Computed
+    requires { d < 32 }
+    ensures { result ≡ step_after state.now up d }
+{
+    let (result, flags) = abs_alu::step_one(up, bits(state, d), state.flags.bits);
+    Computed {
+        registers: set(&state.registers, d, AbsByte::untagged(result)),
+        flags: but_carry(state, flags),
+    }
+}
+
+/// Each bit of register `d` turned.
+pub(crate) fn com(state: &AbsState, d: u16) -> Computed
+    requires { d < 32 }
+    ensures { result ≡ com_after state.now d }
+{
+    let (result, flags) = abs_alu::com(bits(state, d), state.flags.bits);
+    Computed {
+        registers: set(&state.registers, d, AbsByte::untagged(result)),
+        flags: with_carry(flags, CarryTag::None),
+    }
+}
+
+/// The product of registers `d` and `r` goes to registers 0 and 1.
+pub(crate) fn product(state: &AbsState, op: Mul, d: u16, r: u16) -> Computed
+    requires d { d < 32 }
+    requires r { r < 32 }
+    ensures { result ≡ product_after state.now op d r }
+{
+    let ((low, high), flags) = abs_alu::mul(op, bits(state, d), bits(state, r), state.flags.bits);
+    let (low, high) = (AbsByte::untagged(low), AbsByte::untagged(high));
+    Computed {
+        registers: set_pair(&state.registers, 0, low, high),
+        flags: with_carry(flags, CarryTag::None),
+    }
+}
+
+// How far a pair moves down, modulo 65,536.
+fn down_by(up: bool, number: u8) -> u16
+    ensures { result ≡ down_by up number }
+{
+    let number = u16::from(number);
+    if up {
+        0u16.wrapping_sub(number)
+    } else {
+        number
+    }
+}
+
+// The tags of registers d and d + 1 plus or less a number.
+fn pair_tags(state: &AbsState, d: u16, up: bool, number: u8) -> (Tag, Tag)
+    requires { d < 31 }
+    ensures { result ≡ pair_tags state.now d up number }
+{
+    let (low, high) = (value(state, d).tag, value(state, d + 1).tag);
+    move_pair(low, high, down_by(up, number))
+}
+
+/// `adiw` of registers `d` and `d + 1` where `up`, else `sbiw`.
+pub(crate) fn wide(state: &AbsState, up: bool, d: u16, number: u8) -> Computed
+    requires { d < 31 }
+    ensures { result ≡ wide_after state.now up d number }
+{
+    let pair = (bits(state, d), bits(state, d + 1));
+    let (result, flags) = abs_alu::wide(up, pair, number, state.flags.bits);
+    let (low_tag, high_tag) = pair_tags(state, d, up, number);
+    let (low, high) = (with_bits(low_tag, result.0), with_bits(high_tag, result.1));
+    Computed {
+        registers: set_pair(&state.registers, d, low, high),
+        flags: with_carry(flags, CarryTag::None),
+    }
+}

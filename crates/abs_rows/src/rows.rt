@@ -1,0 +1,114 @@
+//! The rows that set registers and flags alone.
+
+ghost use Rattle.std.specs.Prelude.{◌≡◌, ◌<◌, ◌*◌, ℕ, List, Bool};
+ghost use Rattle.avr_model.specs.declared.assumption.Entry.{Entry};
+ghost use Rattle.mask_states.specs.declared.keys.NodeKey.{NodeKey};
+ghost use Rattle.local_rules.specs.Registers.{immediate_after, unary_after, binary_after, wide_after, going_by};
+ghost use Rattle.local_rules.specs.Local.{row_of, other_row};
+ghost use Rattle.local_rules.specs.Registers as registers;
+
+use crate::arithmetic::{
+    carry_bit, com, compare, kept_tag, logic, neg, or_nothing, product, sbc, step_one, sub, sum,
+    wide,
+};
+use crate::bits::{bit_loaded, bit_stored, flag, shift, swapped};
+use crate::registers::{bits, register_set, value};
+use crate::transfer::pair_copied;
+use abs_state::{AbsByte, AbsState};
+use avr_model::instruction::{BinaryOp, HighPair, ImmediateOp, Instr, Six, UnaryOp};
+use avr_model::operation::{Logic, Mul, Shift};
+use bit_domain::{Tri, TriByte};
+use local_rules::Computed;
+use sp_domain::Tag;
+
+/// What is done to a register and a byte.
+fn immediate(state: &AbsState, op: ImmediateOp, d: u16, number: u8) -> Computed
+    requires { d < 32 }
+    ensures { result ≡ immediate_after state.now op d number }
+{
+    let a = bits(state, d);
+    let b = TriByte::of(number);
+    match op {
+        ImmediateOp::Cpi => compare(state, a, b, Tri::Zero, false),
+        ImmediateOp::Sbci => sbc(state, d, b, Some(number)),
+        ImmediateOp::Subi => sub(state, d, a, b, Some(number)),
+        ImmediateOp::Ori => logic(state, Logic::Or, d, a, b, Tag::None),
+        ImmediateOp::Andi => logic(state, Logic::And, d, a, b, Tag::None),
+        ImmediateOp::Ldi => register_set(state, d, AbsByte::known(number)),
+    }
+}
+
+/// What is done to one register.
+fn unary(state: &AbsState, op: UnaryOp, d: u16) -> Computed
+    requires { d < 32 }
+    ensures { result ≡ unary_after state.now op d }
+{
+    match op {
+        UnaryOp::Com => com(state, d),
+        UnaryOp::Neg => neg(state, d),
+        UnaryOp::Swap => register_set(state, d, AbsByte::untagged(swapped(bits(state, d)))),
+        UnaryOp::Inc => step_one(state, true, d),
+        UnaryOp::Asr => shift(state, Shift::Asr, d),
+        UnaryOp::Lsr => shift(state, Shift::Lsr, d),
+        UnaryOp::Ror => shift(state, Shift::Ror, d),
+        UnaryOp::Dec => step_one(state, false, d),
+    }
+}
+
+/// What is done to two registers: None of `cpse`, which skips.
+fn binary(state: &AbsState, op: BinaryOp, d: u16, r: u16) -> Option<Computed>
+    requires d { d < 32 }
+    requires r { r < 32 }
+    ensures { result ≡ binary_after state.now op d r }
+{
+    let (a, b) = (bits(state, d), bits(state, r));
+    let carry = carry_bit(state);
+    // A register less itself, or its exclusive or with itself, is 0, whatever it holds.
+    let (from, other) = (or_nothing(d, r, a), or_nothing(d, r, b));
+    match op {
+        BinaryOp::Cpc => Some(compare(state, a, b, carry, true)),
+        BinaryOp::Sbc => Some(sbc(state, d, b, b.constant())),
+        BinaryOp::Add => Some(sum(state, d, b, Tri::Zero)),
+        BinaryOp::Cpse => None,
+        BinaryOp::Cp => Some(compare(state, a, b, Tri::Zero, false)),
+        BinaryOp::Sub => Some(sub(state, d, from, other, b.constant())),
+        BinaryOp::Adc => Some(sum(state, d, b, carry)),
+        BinaryOp::And => Some(logic(state, Logic::And, d, a, b, kept_tag(state, d, r))),
+        BinaryOp::Eor => Some(logic(state, Logic::Eor, d, from, other, Tag::None)),
+        BinaryOp::Or => Some(logic(state, Logic::Or, d, a, b, kept_tag(state, d, r))),
+        BinaryOp::Mov => Some(register_set(state, d, value(state, r))),
+        BinaryOp::Mul => Some(product(state, Mul::Mul, d, r)),
+    }
+}
+
+/// `adiw` where `up`, else `sbiw`.
+fn pair_and_number(state: &AbsState, up: bool, d: &HighPair, number: &Six) -> Computed
+    ensures { result ≡ wide_after state.now up (2 * d.now) number.now }
+{
+    wide(state, up, 2 * d.get(), number.get() as u8)
+}
+
+/// What an instruction computes that sets registers and flags alone: None of every other one, and of loads.
+pub fn computed_by(state: &AbsState, instr: &Instr) -> Option<Computed>
+    ensures value { result ≡ registers.computed_by state.now instr.now }
+    ensures row { (words : List ℕ) (A : List Entry) (scratch : Bool) (k : NodeKey) → row_of words A scratch k state.now instr.now ≡ going_by k state.now result (other_row words A scratch k state.now instr.now) }
+{
+    match instr {
+        Instr::Movw(d, r) => Some(pair_copied(state, 2 * d.get(), 2 * r.get())),
+        Instr::Muls(d, r) => Some(product(state, Mul::Muls, d.get(), r.get())),
+        Instr::Mulsu(d, r) => Some(product(state, Mul::Mulsu, d.get(), r.get())),
+        Instr::Fmul(d, r) => Some(product(state, Mul::Fmul, d.get(), r.get())),
+        Instr::Fmuls(d, r) => Some(product(state, Mul::Fmuls, d.get(), r.get())),
+        Instr::Fmulsu(d, r) => Some(product(state, Mul::Fmulsu, d.get(), r.get())),
+        Instr::Binary(op, d, r) => binary(state, *op, d.get(), r.get()),
+        Instr::Immediate(op, d, number) => Some(immediate(state, *op, d.get(), *number)),
+        Instr::Unary(op, d) => Some(unary(state, *op, d.get())),
+        Instr::Adiw(d, number) => Some(pair_and_number(state, true, d, number)),
+        Instr::Sbiw(d, number) => Some(pair_and_number(state, false, d, number)),
+        Instr::Bset(n) => flag(state, n.get() as u8, true),
+        Instr::Bclr(n) => flag(state, n.get() as u8, false),
+        Instr::Bld(d, bit) => Some(bit_loaded(state, d.get(), bit.get() as u8)),
+        Instr::Bst(d, bit) => Some(bit_stored(state, d.get(), bit.get() as u8)),
+        _ => None,
+    }
+}

@@ -1,7 +1,0 @@
-use Rattle.std.proofs.Common.{map, take}
-use Rattle.local_rules.specs.Raw.{moves_to, at_word}
-use Rattle.abs_step.specs.Adding.{IsAdded}
-use Rattle.abs_step.proofs.jumps.add_words.Given as goal
-
-abbrev pub invariant-loop-at : goal.invariant-loop-at
-invariant-loop-at l = IsAdded l.fn.nodes l.nodes (moves_to (map (λ t. record { key = at_word l.fn.key t; state = l.fn.state }) (take l.at l.words)))

@@ -1,5 +1,0 @@
-use Rattle.abs_step.proofs.Permitted.{has_is}
-use Rattle.abs_step.proofs.pointers.has.Goals as goal
-
-pub returns : goal.returns
-returns c = has_is c.args.bits c.args.byte c.has.result c.has.ensures.0 c.has.ensures.1

@@ -1,8 +1,0 @@
-use Rattle.std.proofs.Common.{◌∙◌, sym, ap}
-use Rattle.local_rules.specs.Reads.{value_of}
-use Rattle.abs_step.proofs.NoSlot.{no_slot}
-use Rattle.abs_step.proofs.reads.slot_value.Goals as goal
-
-pub returns-in-None : goal.returns-in-None
-returns-in-None c =
-    c.unknown.ensures ∙ ap value_of (sym (no_slot c.args.state.now.slots c.args.d (sym c.at.ensures ∙ c.in-None.is)))
