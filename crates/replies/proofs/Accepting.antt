@@ -1,4 +1,4 @@
--- What status 0 of a check says, and when it comes.
+-- What status 0 of a command that judges a certificate says, and when it comes.
 use Rattle.std.proofs.Common.{◌≡◌, ◌≤◌, ◌*◌, ◌%◌, ◌==◌, ◌&&◌, nat_lt, ℕ, Bool, true, false, List, [], length, Option, Some, None, Result, Ok, Err, if◌then◌else◌, IsOkAnd, refl, sym, ap, ◌∙◌, subst, arith}
 use Rattle.std.specs.Option.{option_map, is_some}
 use Rattle.std.proofs.lemmas.Bool.Decides.{nat_tests}
@@ -6,30 +6,31 @@ use Rattle.avr_model.specs.declared.assumption.Entry.{Entry}
 use Rattle.avr_model.specs.declared.choice.Stop.{Stop}
 use Rattle.avr_model.specs.declared.choice.Stop.TheVariants as stop
 use Rattle.avr_model.specs.Image.{WORDS, IsRawImage, raw_words}
+use Rattle.avr_model.specs.Run.{Bounded}
+use Rattle.local_rules.specs.Machine.{AreWords}
 use Rattle.elf_load.specs.Elf.{is_elf}
 use Rattle.indirect_targets.specs.declared.fault.AssumeText.{AssumeText}
 use Rattle.indirect_targets.specs.Reading.{entries_in}
 use Rattle.indirect_targets.specs.Exact.{IsDue, ReadingIsExact}
 use Rattle.witness_replay.specs.Spelling.{Plan}
-use Rattle.witness_replay.specs.Replay.{Report, replay_of}
+use Rattle.witness_replay.specs.Replay.{Report as Replayed, replay_of}
 use Rattle.certificate.specs.Claims.{Claim, IsCertificate}
 use Rattle.certificate.specs.Valid.{IsSound, IsAttained, IsValid}
 use Rattle.cert_words.specs.Text.{text_of}
 use Rattle.cert_format.specs.declared.fault.CertFault.{CertFault}
 use Rattle.cert_format.specs.Reading.{certificate_in}
 use Rattle.cert_format.specs.Exact.{ReadIsSpelled, SpelledIsRead}
-use Rattle.cert_check.specs.Laws.{VerdictsAreOne, SoundCertificatesBoundEveryRun}
+use Rattle.cert_check.specs.Laws.{SoundCertificatesBoundEveryRun}
 use Rattle.cert_check.specs.Verdict.{IsVerdict}
 use Rattle.cert_check.specs.declared.verdict.Verdict.{Verdict}
 use Rattle.cert_check.specs.declared.verdict.Verdict.TheVariants.{Accepted, Rejected}
-use Rattle.commands.specs.Commands.{Command, Check, Run}
+use Rattle.commands.specs.Commands.{Command, Check, Analyse, Run, Report, Demo}
 use Rattle.replies.specs.Firmware.{IsFirmwareBy, IsFirmware, words_by, firmware_words, fault_by, firmware_fault}
 use Rattle.replies.specs.Texts.{elf_refused, raw_fault, accepted, assumptions_refused, certificate_refused}
 use Rattle.replies.specs.Reading.{Seen, Unread, Whole, Long, Contents}
-use Rattle.replies.specs.Reply.{Reply, Refuses, WithFile, WithOptional, ImageBy, WithImage, ListBy, WithList, is_end, attains, AttainedBy, WitnessReply, VerdictReply, CertificateReply, SecondReply, WorkReply, IsReply}
-use Rattle.replies.specs.Headline.{HasWords, IsSeen, AreRead, IsListOf, StandFor, HoldsAsRead, Headline, IsExact, AcceptingRepliesHold, RepliesAreExact}
+use Rattle.replies.specs.Reply.{Reply, Refuses, WithFile, WithOptional, ImageBy, WithImage, ListBy, WithList, is_end, attains, AttainedBy, WitnessReply, VerdictReply, CertificateReply, told_of, FlashReply, WorkReply, IsReply}
+use Rattle.replies.specs.Headline.{ReadsWords, IsSeen, AreLoaded, AreRead, IsListOf, Mean, StandFor, HoldsAsRead, AcceptsValid}
 use Rattle.replies.proofs.ElfWords.{one_elf, some_elf, no_refusal}
-use Rattle.replies.proofs.One.{replies_are_one}
 
 no_five : ◌≡◌ {A = ℕ} 0 5 → ⊥
 no_five e = cc
@@ -48,19 +49,19 @@ no_one e = cc
 
 -- ---- files
 
-zero_file : (name : List ℕ) (seen : Seen) (next : List ℕ → Reply) (text : List ℕ) → WithFile name seen next 0 text → (bytes : List ℕ) × (seen ≡ Whole bytes) × next bytes 0 text
+pub zero_file : (name : List ℕ) (seen : Seen) (next : List ℕ → Reply) (text : List ℕ) → WithFile name seen next 0 text → (bytes : List ℕ) × (seen ≡ Whole bytes) × next bytes 0 text
 zero_file name Unread next text h = absurd h
 zero_file name (Whole bytes) next text h = (bytes, refl, h)
 zero_file name Long next text h = absurd (no_five h.0)
 
-file_zero : (name : List ℕ) (seen : Seen) (bytes : List ℕ) (next : List ℕ → Reply) (status : ℕ) (text : List ℕ) → seen ≡ Whole bytes → next bytes status text → WithFile name seen next status text
+pub file_zero : (name : List ℕ) (seen : Seen) (bytes : List ℕ) (next : List ℕ → Reply) (status : ℕ) (text : List ℕ) → seen ≡ Whole bytes → next bytes status text → WithFile name seen next status text
 file_zero name seen bytes next status text e h = subst (λ s. WithFile name s next status text) (sym e) h
 
-zero_optional : (o : Option (List ℕ)) (seen : Seen) (next : Option (List ℕ) → Reply) (text : List ℕ) → WithOptional o seen next 0 text → (list : Option (List ℕ)) × IsSeen o seen list × next list 0 text
+pub zero_optional : (o : Option (List ℕ)) (seen : Seen) (next : Option (List ℕ) → Reply) (text : List ℕ) → WithOptional o seen next 0 text → (list : Option (List ℕ)) × IsSeen o seen list × next list 0 text
 zero_optional None seen next text h = (None, refl, h)
 zero_optional (Some name) seen next text h = let f = zero_file name seen (λ bytes. next (Some bytes)) text h in (Some f.0, f.1, f.2)
 
-optional_zero : (o : Option (List ℕ)) (seen : Seen) (list : Option (List ℕ)) (next : Option (List ℕ) → Reply) (status : ℕ) (text : List ℕ) → IsSeen o seen list → next list status text → WithOptional o seen next status text
+pub optional_zero : (o : Option (List ℕ)) (seen : Seen) (list : Option (List ℕ)) (next : Option (List ℕ) → Reply) (status : ℕ) (text : List ℕ) → IsSeen o seen list → next list status text → WithOptional o seen next status text
 optional_zero None seen list next status text e h = subst (λ l. next l status text) e h
 optional_zero (Some name) seen None next status text e h = absurd e
 optional_zero (Some name) seen (Some bytes) next status text e h = file_zero name seen bytes (λ b. next (Some b)) status text e h
@@ -93,20 +94,20 @@ module _
   firmware_by true bytes e = some_elf bytes (no_refusal bytes e)
   firmware_by false bytes e = let h = no_raw_fault (length bytes) (length bytes % 2 == 1) (nat_lt 32768 (length bytes)) refl refl e in images bytes h.0 h.1
 
-  words_of : (elf : Bool) (bytes words : List ℕ) → IsFirmwareBy elf bytes words → words ≡ words_by elf bytes
+  pub words_of : (elf : Bool) (bytes words : List ℕ) → IsFirmwareBy elf bytes words → words ≡ words_by elf bytes
   words_of true bytes words h = one_elf bytes words h
   words_of false bytes words h = one bytes words h
 
-  fault_of : (elf : Bool) (bytes words : List ℕ) → IsFirmwareBy elf bytes words → fault_by elf bytes ≡ None
+  pub fault_of : (elf : Bool) (bytes words : List ℕ) → IsFirmwareBy elf bytes words → fault_by elf bytes ≡ None
   fault_of true bytes words h = ap (option_map elf_refused) h.loads
   fault_of false bytes words h = raw_fault_none (length bytes) h.even h.fits
 
-  zero_image : (bytes : List ℕ) (next : List ℕ → Reply) (text : List ℕ) → WithImage bytes next 0 text → IsFirmware bytes (firmware_words bytes) × next (firmware_words bytes) 0 text
+  pub zero_image : (bytes : List ℕ) (next : List ℕ → Reply) (text : List ℕ) → WithImage bytes next 0 text → IsFirmware bytes (firmware_words bytes) × next (firmware_words bytes) 0 text
   zero_image bytes next text h =
       let by = zero_by (firmware_fault bytes) (next (firmware_words bytes)) text h in
       (firmware_by (is_elf bytes) bytes by.0, by.1)
 
-  image_zero : (bytes words : List ℕ) (next : List ℕ → Reply) (status : ℕ) (text : List ℕ) → IsFirmware bytes words → next words status text → WithImage bytes next status text
+  pub image_zero : (bytes words : List ℕ) (next : List ℕ → Reply) (status : ℕ) (text : List ℕ) → IsFirmware bytes words → next words status text → WithImage bytes next status text
   image_zero bytes words next status text firmware h =
       by_none (firmware_fault bytes) (next (firmware_words bytes)) status text (fault_of (is_elf bytes) bytes words firmware)
       (subst (λ ws. next ws status text) (words_of (is_elf bytes) bytes words firmware) h)
@@ -122,17 +123,17 @@ zero_read (Ok A) next text h = (A, refl, h)
 zero_read (Err fault) next text h = absurd (zero_refused 7 no_seven (assumptions_refused fault) text h)
 
 module _ (exact : ReadingIsExact) where
-  zero_list : (list : Option (List ℕ)) (next : List Entry → Reply) (text : List ℕ) → WithList list next 0 text → (A : List Entry) × IsListOf list A × next A 0 text
+  pub zero_list : (list : Option (List ℕ)) (next : List Entry → Reply) (text : List ℕ) → WithList list next 0 text → (A : List Entry) × IsListOf list A × next A 0 text
   zero_list None next text h = ([], refl, h)
   zero_list (Some bytes) next text h =
       let r = zero_read (entries_in bytes) next text h in
       (r.0, subst (IsDue bytes) r.1 (exact.read bytes), r.2)
 
-  list_zero : (list : Option (List ℕ)) (A : List Entry) (next : List Entry → Reply) (status : ℕ) (text : List ℕ) → IsListOf list A → next A status text → WithList list next status text
+  pub list_zero : (list : Option (List ℕ)) (A : List Entry) (next : List Entry → Reply) (status : ℕ) (text : List ℕ) → IsListOf list A → next A status text → WithList list next status text
   list_zero None A next status text e h = subst (λ l. next l status text) e h
   list_zero (Some bytes) A next status text e h = subst (λ x. ListBy x next status text) (sym (exact.due bytes (Ok A) e)) h
 
-  same_list : (list : Option (List ℕ)) (A B : List Entry) → IsListOf list A → IsListOf list B → A ≡ B
+  pub same_list : (list : Option (List ℕ)) (A B : List Entry) → IsListOf list A → IsListOf list B → A ≡ B
   same_list None A B h k = h ∙ sym k
   same_list (Some bytes) A B h k = let e : ◌≡◌ {A = Result (List Entry) AssumeText} (Ok A) (Ok B) = sym (exact.due bytes (Ok A) h) ∙ exact.due bytes (Ok B) k in cc
 
@@ -152,55 +153,66 @@ is_end_end (stop.Flag f) h = absurd (let wrong = h in cc)
 is_end_end (stop.Undefined pc) h = absurd (let wrong = h in cc)
 is_end_end (stop.Overflow pc) h = absurd (let wrong = h in cc)
 
-pub attained_by : (bound : ℕ) (x : Result Report ℕ) → attains bound x ≡ true → IsOkAnd x (λ r. (r.stop ≡ stop.End) × (r.depth ≡ bound))
+pub attained_by : (bound : ℕ) (x : Result Replayed ℕ) → attains bound x ≡ true → IsOkAnd x (λ r. (r.stop ≡ stop.End) × (r.depth ≡ bound))
 attained_by bound (Err step) h = absurd (let wrong = h in cc)
 attained_by bound (Ok r) h =
     let d : (r.depth == bound) ≡ true = and_right (is_end r.stop) (r.depth == bound) h in
     (is_end_end r.stop (and_left (is_end r.stop) (r.depth == bound) h), grind (arith, nat_tests))
 
-pub attains_by : (bound : ℕ) (x : Result Report ℕ) → IsOkAnd x (λ r. (r.stop ≡ stop.End) × (r.depth ≡ bound)) → attains bound x ≡ true
+pub attains_by : (bound : ℕ) (x : Result Replayed ℕ) → IsOkAnd x (λ r. (r.stop ≡ stop.End) × (r.depth ≡ bound)) → attains bound x ≡ true
 attains_by bound (Err step) h = absurd h
 attains_by bound (Ok r) h = let d : (r.depth == bound) ≡ true = (let e = h.1 in grind (arith, nat_tests)) in rw (h.0, d) refl
 
 -- the schedule attains the bound, and this is told
-pub record IsTold (words : List ℕ) (A : List Entry) (bound : ℕ) (w : Option Plan) (text : List ℕ) : Type 0 where
+pub record IsTold (words : List ℕ) (A : List Entry) (tells : List ℕ) (bound : ℕ) (w : Option Plan) (text : List ℕ) : Type 0 where
   pub attained : IsAttained words A bound w
-  pub says : text ≡ accepted bound (is_some w)
+  pub says : text ≡ tells
 
-zero_attained : (words : List ℕ) (A : List Entry) (bound : ℕ) (plan : Plan) (attained : Bool) (text : List ℕ) → attains bound (replay_of words A plan) ≡ attained → AttainedBy bound attained 0 text → IsTold words A bound (Some plan) text
-zero_attained words A bound plan true text e h = record { attained = attained_by bound (replay_of words A plan) e; says = h.1 }
-zero_attained words A bound plan false text e h = absurd (no_one h.0)
+zero_attained : (words : List ℕ) (A : List Entry) (tells : List ℕ) (bound : ℕ) (plan : Plan) (attained : Bool) (text : List ℕ) → attains bound (replay_of words A plan) ≡ attained
+    → AttainedBy tells attained 0 text → IsTold words A tells bound (Some plan) text
+zero_attained words A tells bound plan true text e h = record { attained = attained_by bound (replay_of words A plan) e; says = h.1 }
+zero_attained words A tells bound plan false text e h = absurd (no_one h.0)
 
-zero_witness : (words : List ℕ) (A : List Entry) (bound : ℕ) (w : Option Plan) (text : List ℕ) → WitnessReply words A bound w 0 text → IsTold words A bound w text
-zero_witness words A bound None text h = record { attained = tt; says = h.1 }
-zero_witness words A bound (Some plan) text h = zero_attained words A bound plan (attains bound (replay_of words A plan)) text refl h
+zero_witness : (words : List ℕ) (A : List Entry) (tells : List ℕ) (bound : ℕ) (w : Option Plan) (text : List ℕ) → WitnessReply words A tells bound w 0 text → IsTold words A tells bound w text
+zero_witness words A tells bound None text h = record { attained = tt; says = h.1 }
+zero_witness words A tells bound (Some plan) text h = zero_attained words A tells bound plan (attains bound (replay_of words A plan)) text refl h
 
-witness_zero : (words : List ℕ) (A : List Entry) (bound : ℕ) (w : Option Plan) → IsAttained words A bound w → WitnessReply words A bound w 0 (accepted bound (is_some w))
-witness_zero words A bound None h = (refl, refl)
-witness_zero words A bound (Some plan) h = subst (λ b. AttainedBy bound b 0 (accepted bound true)) (sym (attains_by bound (replay_of words A plan) h)) (refl, refl)
+witness_zero : (words : List ℕ) (A : List Entry) (tells : List ℕ) (bound : ℕ) (w : Option Plan) → IsAttained words A bound w → WitnessReply words A tells bound w 0 tells
+witness_zero words A tells bound None h = (refl, refl)
+witness_zero words A tells bound (Some plan) h = subst (λ b. AttainedBy tells b 0 tells) (sym (attains_by bound (replay_of words A plan) h)) (refl, refl)
 
 -- ---- the verdict and the certificate
 
--- the certificate is sound, and its schedule attains its bound
-pub record IsAccepted (words : List ℕ) (A : List Entry) (c : Claim) (text : List ℕ) : Type 0 where
+-- the certificate is sound, its schedule attains its bound, and it is told
+pub record IsAccepted (words : List ℕ) (A : List Entry) (tells : Claim → List ℕ) (c : Claim) (text : List ℕ) : Type 0 where
   pub sound : IsSound words A c
-  pub told : IsTold words A c.bound c.witness text
+  pub told : IsTold words A (tells c) c.bound c.witness text
 
-zero_verdict : (words : List ℕ) (A : List Entry) (c : Claim) (v : Verdict) (text : List ℕ) → IsVerdict words A c v → VerdictReply words A c v 0 text → IsAccepted words A c text
-zero_verdict words A c (Rejected reason) text is h = absurd (no_one h.0)
-zero_verdict words A c (Accepted bound) text is h =
-    record { sound = is.0; told = subst (λ b. IsTold words A b c.witness text) is.1 (zero_witness words A bound c.witness text h) }
+zero_verdict : (words : List ℕ) (A : List Entry) (tells : Claim → List ℕ) (c : Claim) (v : Verdict) (text : List ℕ) → IsVerdict words A c v → VerdictReply words A tells c v 0 text → IsAccepted words A tells c text
+zero_verdict words A tells c (Rejected reason) text is h = absurd (no_one h.0)
+zero_verdict words A tells c (Accepted bound) text is h =
+    record { sound = is.0; told = subst (λ b. IsTold words A (tells c) b c.witness text) is.1 (zero_witness words A (tells c) bound c.witness text h) }
 
-zero_certificate : (words : List ℕ) (A : List Entry) (x : Result Claim CertFault) (text : List ℕ) → CertificateReply words A x 0 text → (c : Claim) × (x ≡ Ok c) × IsAccepted words A c text
-zero_certificate words A (Err fault) text h = absurd (zero_refused 8 no_eight (certificate_refused fault) text h)
-zero_certificate words A (Ok c) text h = (c, refl, zero_verdict words A c h.verdict text h.is h.reply)
+zero_certificate : (words : List ℕ) (A : List Entry) (tells : Claim → List ℕ) (x : Result Claim CertFault) (text : List ℕ) → CertificateReply words A tells x 0 text
+    → (c : Claim) × (x ≡ Ok c) × IsAccepted words A tells c text
+zero_certificate words A tells (Err fault) text h = absurd (zero_refused 8 no_eight (certificate_refused fault) text h)
+zero_certificate words A tells (Ok c) text h = (c, refl, zero_verdict words A tells c h.verdict text h.is h.reply)
 
-certificate_zero : (words : List ℕ) (A : List Entry) (x : Result Claim CertFault) (c : Claim) → x ≡ Ok c → IsSound words A c → IsAttained words A c.bound c.witness → CertificateReply words A x 0 (accepted c.bound (is_some c.witness))
-certificate_zero words A x c e sound attained =
-    subst (λ y. CertificateReply words A y 0 (accepted c.bound (is_some c.witness))) (sym e)
-    (record { verdict = Accepted c.bound; is = (sound, refl); reply = witness_zero words A c.bound c.witness attained })
+certificate_zero : (words : List ℕ) (A : List Entry) (tells : Claim → List ℕ) (x : Result Claim CertFault) (c : Claim) → x ≡ Ok c → IsSound words A c → IsAttained words A c.bound c.witness
+    → CertificateReply words A tells x 0 (tells c)
+certificate_zero words A tells x c e sound attained =
+    subst (λ y. CertificateReply words A tells y 0 (tells c)) (sym e)
+    (record { verdict = Accepted c.bound; is = (sound, refl); reply = witness_zero words A (tells c) c.bound c.witness attained })
 
 -- ---- all
+
+-- what a command that judges makes of the bytes of its files
+abbrev JudgeReply : (List ℕ → Claim → List ℕ) → List ℕ → List ℕ → Option (List ℕ) → Reply
+JudgeReply tells firmware second list = WithImage firmware (λ words. WithList list (λ A. CertificateReply words A (tells firmware) (certificate_in second)))
+
+-- the answer of a command that judges the certificate of this name for the firmware of that one, where `tells` says what is told
+abbrev pub IsJudgement : (List ℕ → Claim → List ℕ) → List ℕ → List ℕ → Option (List ℕ) → Contents → Reply
+IsJudgement tells fw cert assume seen = WithFile fw seen.firmware (λ firmware. WithFile cert seen.second (λ s. WithOptional assume seen.assumptions (λ list. JudgeReply tells firmware s list)))
 
 module _
     (one : (bytes words : List ℕ) → IsRawImage bytes words → words ≡ raw_words bytes)
@@ -208,9 +220,9 @@ module _
     (lists : ReadingIsExact)
     (read : ReadIsSpelled)
     (spelled : SpelledIsRead)
-    (verdicts : VerdictsAreOne)
-    (bounds : SoundCertificatesBoundEveryRun) where
-  -- what a check's answer 0 rests on
+    (bounds : SoundCertificatesBoundEveryRun)
+    (tells : List ℕ → Claim → List ℕ) where
+  -- what status 0 rests on
   record IsZero (assume : Option (List ℕ)) (seen : Contents) (text : List ℕ) : Type 0 where
     firmware : List ℕ
     certificate : List ℕ
@@ -221,22 +233,21 @@ module _
     image : IsFirmware firmware (firmware_words firmware)
     assumptions : IsListOf list A
     is : certificate_in certificate ≡ Ok claim
-    accepted : IsAccepted (firmware_words firmware) A claim text
+    accepted : IsAccepted (firmware_words firmware) A (tells firmware) claim text
 
-  zero_check : (fw cert : List ℕ) (assume : Option (List ℕ)) (seen : Contents) (text : List ℕ) → IsReply (Check fw cert assume) seen 0 text → IsZero assume seen text
-  zero_check fw cert assume seen text h =
-      let c = Check fw cert assume in
+  zero_judgement : (fw cert : List ℕ) (assume : Option (List ℕ)) (seen : Contents) (text : List ℕ) → IsJudgement tells fw cert assume seen 0 text → IsZero assume seen text
+  zero_judgement fw cert assume seen text h =
       let first = zero_file fw seen.firmware _ text h in
       let second = zero_file cert seen.second _ text first.2 in
-      let third = zero_optional assume seen.assumptions (λ list. WorkReply c first.0 second.0 list) text second.2 in
-      let image = zero_image one images first.0 (λ ws. WithList third.0 (λ B. SecondReply c second.0 ws B)) text third.2 in
-      let list = zero_list lists third.0 (λ B. SecondReply c second.0 (firmware_words first.0) B) text image.1 in
-      let judged = zero_certificate (firmware_words first.0) list.0 (certificate_in second.0) text list.2 in
+      let third = zero_optional assume seen.assumptions (λ list. JudgeReply tells first.0 second.0 list) text second.2 in
+      let image = zero_image one images first.0 (λ ws. WithList third.0 (λ B. CertificateReply ws B (tells first.0) (certificate_in second.0))) text third.2 in
+      let list = zero_list lists third.0 (λ B. CertificateReply (firmware_words first.0) B (tells first.0) (certificate_in second.0)) text image.1 in
+      let judged = zero_certificate (firmware_words first.0) list.0 (tells first.0) (certificate_in second.0) text list.2 in
       record {
         firmware = first.0;
         certificate = second.0;
         list = third.0;
-        are_read = record { firmware_read = first.1; second_read = second.1; list_read = third.1 };
+        are_read = record { loaded = record { firmware_read = first.1; list_read = third.1 }; second_read = second.1 };
         A = list.0;
         claim = judged.0;
         image = image.0;
@@ -245,38 +256,43 @@ module _
         accepted = judged.2;
       }
 
-  held : (assume : Option (List ℕ)) (seen : Contents) (text : List ℕ) → HasWords seen → IsZero assume seen text → HoldsAsRead assume seen text
-  held assume seen text has z =
+  -- the bound holds of what was read
+  pub record HoldsOf (assume : Option (List ℕ)) (seen : Contents) (text : List ℕ) : Type 0 where
+    pub firmware : List ℕ
+    pub certificate : List ℕ
+    pub list : Option (List ℕ)
+    pub are_read : AreRead assume seen firmware certificate list
+    pub words : List ℕ
+    pub claim : Claim
+    pub A : List Entry
+    pub stand : StandFor firmware certificate list words claim A
+    pub bounded : Bounded words A claim.bound
+    pub told : text ≡ tells firmware claim
+
+  pub judgement_holds : (fw cert : List ℕ) (assume : Option (List ℕ)) (seen : Contents) (text : List ℕ) → ((firmware : List ℕ) → seen.firmware ≡ Whole firmware → AreWords (firmware_words firmware))
+      → IsJudgement tells fw cert assume seen 0 text → HoldsOf assume seen text
+  judgement_holds fw cert assume seen text has h =
+      let z = zero_judgement fw cert assume seen text h in
       let spelling = read z.certificate z.claim z.is in
       record {
         firmware = z.firmware;
         certificate = z.certificate;
         list = z.list;
-        read = z.are_read;
-        holds = record {
-          words = firmware_words z.firmware;
-          claim = z.claim;
-          assumptions = z.A;
-          stand = record { image = z.image; fits = spelling.1; bytes = spelling.0; assumptions = z.assumptions };
-          bounded = bounds (firmware_words z.firmware) z.A z.claim (has z.firmware z.are_read.firmware_read) spelling.1.claim z.accepted.sound;
-          told = z.accepted.told.says;
-        };
+        are_read = z.are_read;
+        words = firmware_words z.firmware;
+        claim = z.claim;
+        A = z.A;
+        stand = record { mean = record { image = z.image; assumptions = z.assumptions }; fits = spelling.1; bytes = spelling.0 };
+        bounded = bounds (firmware_words z.firmware) z.A z.claim (has z.firmware z.are_read.loaded.firmware_read) spelling.1.claim z.accepted.sound;
+        told = z.accepted.told.says;
       }
-
-  headline_of : (command : Command) (seen : Contents) (status : ℕ) (text : List ℕ) → IsReply command seen status text → (status ≡ 0 → HasWords seen) → Headline command seen status text
-  headline_of (Check fw cert assume) seen status text h has =
-      λ zero. held assume seen text (has zero) (zero_check fw cert assume seen text (subst (λ s. IsReply (Check fw cert assume) seen s text) zero h))
-  headline_of (Run fw schedule assume) seen status text h has = tt
-
-  pub accepting_replies_hold : AcceptingRepliesHold
-  accepting_replies_hold = headline_of
 
   -- ---- exactness
 
-  same_whole : (seen : Seen) (a b : List ℕ) → seen ≡ Whole a → seen ≡ Whole b → a ≡ b
+  pub same_whole : (seen : Seen) (a b : List ℕ) → seen ≡ Whole a → seen ≡ Whole b → a ≡ b
   same_whole seen a b e f = let g : Whole a ≡ Whole b = sym e ∙ f in cc
 
-  same_seen : (o : Option (List ℕ)) (seen : Seen) (a b : Option (List ℕ)) → IsSeen o seen a → IsSeen o seen b → a ≡ b
+  pub same_seen : (o : Option (List ℕ)) (seen : Seen) (a b : Option (List ℕ)) → IsSeen o seen a → IsSeen o seen b → a ≡ b
   same_seen None seen a b e f = e ∙ sym f
   same_seen (Some name) seen None b e f = absurd e
   same_seen (Some name) seen (Some a) None e f = absurd f
@@ -289,33 +305,24 @@ module _
       (are : AreRead assume seen firmware certificate list) (stand : StandFor firmware certificate list words claim A) where
     valid_if : (text : List ℕ) → IsZero assume seen text → IsValid words A claim
     valid_if text z =
-        let f : z.firmware ≡ firmware = same_whole seen.firmware z.firmware firmware z.are_read.firmware_read are.firmware_read in
+        let f : z.firmware ≡ firmware = same_whole seen.firmware z.firmware firmware z.are_read.loaded.firmware_read are.loaded.firmware_read in
         let s : z.certificate ≡ certificate = same_whole seen.second z.certificate certificate z.are_read.second_read are.second_read in
-        let l : z.list ≡ list = same_seen assume seen.assumptions z.list list z.are_read.list_read are.list_read in
-        let ws : firmware_words z.firmware ≡ words = ap firmware_words f ∙ sym (words_of one images (is_elf firmware) firmware words stand.image) in
+        let l : z.list ≡ list = same_seen assume seen.assumptions z.list list z.are_read.loaded.list_read are.loaded.list_read in
+        let ws : firmware_words z.firmware ≡ words = ap firmware_words f ∙ sym (words_of one images (is_elf firmware) firmware words stand.mean.image) in
         let c : z.claim ≡ claim = same_claim z.certificate z.claim claim z.is stand.fits (s ∙ stand.bytes) in
-        let a : z.A ≡ A = same_list lists list z.A A (subst (λ o. IsListOf o z.A) l z.assumptions) stand.assumptions in
+        let a : z.A ≡ A = same_list lists list z.A A (subst (λ o. IsListOf o z.A) l z.assumptions) stand.mean.assumptions in
         let v : IsValid (firmware_words z.firmware) z.A z.claim = record { sound = z.accepted.sound; attained = z.accepted.told.attained } in
         subst (λ x. IsValid x A claim) ws (subst (λ x. IsValid (firmware_words z.firmware) x claim) a (subst (λ x. IsValid (firmware_words z.firmware) z.A x) c v))
 
-    reply_if : IsValid words A claim → IsReply (Check fw cert assume) seen 0 (accepted claim.bound (is_some claim.witness))
-    reply_if v =
-        let c = Check fw cert assume in
-        let text = accepted claim.bound (is_some claim.witness) in
-        file_zero fw seen.firmware firmware _ 0 text are.firmware_read
+    pub judged_valid : (text : List ℕ) → IsJudgement tells fw cert assume seen 0 text → IsValid words A claim
+    judged_valid text h = valid_if text (zero_judgement fw cert assume seen text h)
+
+    pub valid_judged : IsValid words A claim → IsJudgement tells fw cert assume seen 0 (tells firmware claim)
+    valid_judged v =
+        let text = tells firmware claim in
+        file_zero fw seen.firmware firmware _ 0 text are.loaded.firmware_read
         (file_zero cert seen.second certificate _ 0 text are.second_read
-        (optional_zero assume seen.assumptions list (λ l. WorkReply c firmware certificate l) 0 text are.list_read
-        (image_zero one images firmware words (λ ws. WithList list (λ B. SecondReply c certificate ws B)) 0 text stand.image
-        (list_zero lists list A (λ B. SecondReply c certificate words B) 0 text stand.assumptions
-        (certificate_zero words A (certificate_in certificate) claim (ap certificate_in stand.bytes ∙ spelled claim stand.fits) v.sound v.attained)))))
-
-  exact_of : (command : Command) (seen : Contents) (status : ℕ) (text : List ℕ) → IsReply command seen status text → IsExact command seen status
-  exact_of (Check fw cert assume) seen status text h =
-      λ firmware certificate list words claim A are stand. (
-        λ zero. valid_if fw cert assume seen firmware certificate list words claim A are stand text (zero_check fw cert assume seen text (subst (λ s. IsReply (Check fw cert assume) seen s text) zero h)),
-        λ v. (replies_are_one read verdicts (Check fw cert assume) seen status 0 text _ h (reply_if fw cert assume seen firmware certificate list words claim A are stand v)).0,
-      )
-  exact_of (Run fw schedule assume) seen status text h = tt
-
-  pub replies_are_exact : RepliesAreExact
-  replies_are_exact = exact_of
+        (optional_zero assume seen.assumptions list (λ l. JudgeReply tells firmware certificate l) 0 text are.loaded.list_read
+        (image_zero one images firmware words (λ ws. WithList list (λ B. CertificateReply ws B (tells firmware) (certificate_in certificate))) 0 text stand.mean.image
+        (list_zero lists list A (λ B. CertificateReply words B (tells firmware) (certificate_in certificate)) 0 text stand.mean.assumptions
+        (certificate_zero words A (tells firmware) (certificate_in certificate) claim (ap certificate_in stand.bytes ∙ spelled claim stand.fits) v.sound v.attained)))))

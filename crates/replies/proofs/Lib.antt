@@ -1,3 +1,8 @@
+pub mod Words
 pub mod ElfWords
+pub mod Trials
+pub mod Analysing
 pub mod One
 pub mod Accepting
+pub mod Least
+pub mod All

@@ -6,20 +6,23 @@ use Rattle.indirect_targets.specs.declared.fault.AssumeText.{AssumeText}
 use Rattle.indirect_targets.specs.Reading.{entries_in}
 use Rattle.witness_replay.specs.Spelling.{Plan}
 use Rattle.witness_replay.specs.Reading.{schedule_in}
-use Rattle.witness_replay.specs.Replay.{Report, replay_of}
+use Rattle.witness_replay.specs.Replay.{Report as Replayed, replay_of}
 use Rattle.certificate.specs.Claims.{Claim, IsClaim}
 use Rattle.cert_format.specs.declared.fault.CertFault.{CertFault}
 use Rattle.cert_format.specs.Reading.{certificate_in}
 use Rattle.cert_format.specs.Exact.{ReadIsSpelled}
 use Rattle.cert_check.specs.Laws.{VerdictsAreOne}
+use Rattle.answer_laws.specs.Laws.{AnswersAreOne}
+use Rattle.witness_search.specs.Laws.{WaypointsAreOne}
 use Rattle.cert_check.specs.declared.verdict.Verdict.{Verdict}
 use Rattle.cert_check.specs.declared.verdict.Verdict.TheVariants.{Accepted, Rejected}
-use Rattle.commands.specs.Commands.{Command, Check, Run}
+use Rattle.commands.specs.Commands.{Command, Check, Analyse, Run, Report, Demo, Firmware, Second, Assumptions, name_of}
 use Rattle.replies.specs.Firmware.{firmware_words, firmware_fault}
 use Rattle.replies.specs.Texts.{too_long, assumptions_refused, certificate_refused, schedule_malformed, schedule_illegal, accepted, rejected, witness_rejected, run_text}
 use Rattle.replies.specs.Reading.{Seen, Unread, Whole, Long}
-use Rattle.replies.specs.Reply.{Reply, Says, Refuses, WithFile, WithOptional, ImageBy, ListBy, WithList, attains, AttainedBy, WitnessReply, VerdictReply, JudgedReply, CertificateReply, ReportReply, EndsBefore, ScheduleReply, SecondReply, WorkReply}
+use Rattle.replies.specs.Reply.{Reply, Says, Refuses, WithFile, WithBytes, WithOptional, ImageBy, WithImage, ListBy, WithList, attains, AttainedBy, WitnessReply, VerdictReply, JudgedReply, CertificateReply, RunReply, EndsBefore, ScheduleReply, AnalyseReply, DemoReply, told_of, FlashReply, WorkReply}
 use Rattle.replies.specs.Headline.{RepliesAreOne}
+use Rattle.replies.proofs.Analysing.{analyse_one, demo_one}
 
 -- at most one status with one text is the answer
 abbrev IsOne : Reply → Type 0
@@ -37,6 +40,10 @@ file_one name Unread next f s t a b h k = absurd h
 file_one name (Whole bytes) next f s t a b h k = f bytes s t a b h k
 file_one name Long next f s t a b h k = says_one 5 (too_long name) s t a b h k
 
+bytes_one : (o : Option (List ℕ)) (seen : Seen) (next : List ℕ → Reply) → ((bytes : List ℕ) → IsOne (next bytes)) → IsOne (WithBytes o seen next)
+bytes_one None seen next f s t a b h k = f [] s t a b h k
+bytes_one (Some name) seen next f s t a b h k = file_one name seen next f s t a b h k
+
 optional_one : (o : Option (List ℕ)) (seen : Seen) (next : Option (List ℕ) → Reply) → ((list : Option (List ℕ)) → IsOne (next list)) → IsOne (WithOptional o seen next)
 optional_one None seen next f s t a b h k = f None s t a b h k
 optional_one (Some name) seen next f s t a b h k = file_one name seen (λ bytes. next (Some bytes)) (λ bytes. f (Some bytes)) s t a b h k
@@ -53,21 +60,21 @@ with_list_one : (list : Option (List ℕ)) (next : List Entry → Reply) → ((A
 with_list_one None next f = f []
 with_list_one (Some bytes) next f = list_one (entries_in bytes) next f
 
-attained_one : (bound : ℕ) (attained : Bool) → IsOne (AttainedBy bound attained)
-attained_one bound true s t a b h k = says_one 0 (accepted bound true) s t a b h k
-attained_one bound false s t a b h k = says_one 1 witness_rejected s t a b h k
+attained_one : (tells : List ℕ) (attained : Bool) → IsOne (AttainedBy tells attained)
+attained_one tells true s t a b h k = says_one 0 tells s t a b h k
+attained_one tells false s t a b h k = says_one 1 witness_rejected s t a b h k
 
-witness_one : (words : List ℕ) (A : List Entry) (bound : ℕ) (w : Option Plan) → IsOne (WitnessReply words A bound w)
-witness_one words A bound None s t a b h k = says_one 0 (accepted bound false) s t a b h k
-witness_one words A bound (Some plan) s t a b h k = attained_one bound (attains bound (replay_of words A plan)) s t a b h k
+witness_one : (words : List ℕ) (A : List Entry) (tells : List ℕ) (bound : ℕ) (w : Option Plan) → IsOne (WitnessReply words A tells bound w)
+witness_one words A tells bound None s t a b h k = says_one 0 tells s t a b h k
+witness_one words A tells bound (Some plan) s t a b h k = attained_one tells (attains bound (replay_of words A plan)) s t a b h k
 
-verdict_one : (words : List ℕ) (A : List Entry) (c : Claim) (v : Verdict) → IsOne (VerdictReply words A c v)
-verdict_one words A c (Rejected reason) s t a b h k = says_one 1 (rejected reason) s t a b h k
-verdict_one words A c (Accepted bound) s t a b h k = witness_one words A bound c.witness s t a b h k
+verdict_one : (words : List ℕ) (A : List Entry) (tells : Claim → List ℕ) (c : Claim) (v : Verdict) → IsOne (VerdictReply words A tells c v)
+verdict_one words A tells c (Rejected reason) s t a b h k = says_one 1 (rejected reason) s t a b h k
+verdict_one words A tells c (Accepted bound) s t a b h k = witness_one words A (tells c) bound c.witness s t a b h k
 
-report_one : (x : Result Report ℕ) → IsOne (ReportReply x)
-report_one (Err step) s t a b h k = says_one 9 (schedule_illegal step) s t a b h k
-report_one (Ok r) s t a b h k = says_one 0 (run_text r) s t a b h k
+run_one : (x : Result Replayed ℕ) → IsOne (RunReply x)
+run_one (Err step) s t a b h k = says_one 9 (schedule_illegal step) s t a b h k
+run_one (Ok r) s t a b h k = says_one 0 (run_text r) s t a b h k
 
 ends_one : (ls : List TextLine) (at : ℕ) (reply : Reply) → IsOne reply → IsOne (EndsBefore ls at reply)
 ends_one [] at reply f s t a b h k = f s t a b h k
@@ -76,31 +83,41 @@ ends_one (l ∷ ls) at reply f s t a b h k = says_one 9 (schedule_malformed at) 
 schedule_one : (words : List ℕ) (A : List Entry) (x : Result (Plan × Place) ℕ) → IsOne (ScheduleReply words A x)
 schedule_one words A (Err at) s t a b h k = says_one 9 (schedule_malformed at) s t a b h k
 schedule_one words A (Ok read) s t a b h k =
-    ends_one read.1.rest read.1.at (ReportReply (replay_of words A read.0)) (report_one (replay_of words A read.0)) s t a b h k
+    ends_one read.1.rest read.1.at (RunReply (replay_of words A read.0)) (run_one (replay_of words A read.0)) s t a b h k
 
-module _ (read : ReadIsSpelled) (one : VerdictsAreOne) where
-  judged_one : (words : List ℕ) (A : List Entry) (c : Claim) → IsClaim c → IsOne (JudgedReply words A c)
-  judged_one words A c claim s t a b h k =
+module _ (read : ReadIsSpelled) (one : VerdictsAreOne) (answers : AnswersAreOne) (chains : WaypointsAreOne) where
+  judged_one : (words : List ℕ) (A : List Entry) (tells : Claim → List ℕ) (c : Claim) → IsClaim c → IsOne (JudgedReply words A tells c)
+  judged_one words A tells c claim s t a b h k =
       let e = one words A c h.verdict k.verdict claim h.is k.is in
-      verdict_one words A c k.verdict s t a b (subst (λ v. VerdictReply words A c v s a) e h.reply) k.reply
+      verdict_one words A tells c k.verdict s t a b (subst (λ v. VerdictReply words A tells c v s a) e h.reply) k.reply
 
-  certificate_one : (words : List ℕ) (A : List Entry) (x : Result Claim CertFault) → ((c : Claim) → x ≡ Ok c → IsClaim c) → IsOne (CertificateReply words A x)
-  certificate_one words A (Err fault) f s t a b h k = refuses_one 8 (certificate_refused fault) s t a b h k
-  certificate_one words A (Ok c) f s t a b h k = judged_one words A c (f c refl) s t a b h k
+  certificate_one : (words : List ℕ) (A : List Entry) (tells : Claim → List ℕ) (x : Result Claim CertFault) → ((c : Claim) → x ≡ Ok c → IsClaim c) → IsOne (CertificateReply words A tells x)
+  certificate_one words A tells (Err fault) f s t a b h k = refuses_one 8 (certificate_refused fault) s t a b h k
+  certificate_one words A tells (Ok c) f s t a b h k = judged_one words A tells c (f c refl) s t a b h k
 
-  second_one : (command : Command) (bytes words : List ℕ) (A : List Entry) → IsOne (SecondReply command bytes words A)
-  second_one (Check firmware certificate assume) bytes words A = certificate_one words A (certificate_in bytes) (λ c e. (read bytes c e).1.claim)
-  second_one (Run firmware schedule assume) bytes words A = schedule_one words A (schedule_in _)
+  read_one : (words : List ℕ) (A : List Entry) (tells : Claim → List ℕ) (bytes : List ℕ) → IsOne (CertificateReply words A tells (certificate_in bytes))
+  read_one words A tells bytes = certificate_one words A tells (certificate_in bytes) (λ c e. (read bytes c e).1.claim)
+
+  flash_one : (command : Command) (firmware bytes words : List ℕ) (A : List Entry) → IsOne (FlashReply command firmware bytes words A)
+  flash_one (Check fw cert assume) firmware bytes words A = read_one words A (told_of (Check fw cert assume) firmware) bytes
+  flash_one (Analyse fw assume steps) firmware bytes words A = analyse_one answers chains words A steps
+  flash_one (Run fw schedule assume) firmware bytes words A = schedule_one words A (schedule_in _)
+  flash_one (Report fw cert assume json) firmware bytes words A = read_one words A (told_of (Report fw cert assume json) firmware) bytes
+  flash_one (Demo size) firmware bytes words A = demo_one answers chains size
+
+  on_flash_one : (command : Command) (firmware second : List ℕ) (list : Option (List ℕ)) → IsOne (WithImage firmware (λ words. WithList list (λ A. FlashReply command firmware second words A)))
+  on_flash_one command firmware second list =
+      image_one (firmware_fault firmware) (WithList list (λ A. FlashReply command firmware second (firmware_words firmware) A))
+      (with_list_one list (λ A. FlashReply command firmware second (firmware_words firmware) A) (flash_one command firmware second (firmware_words firmware)))
 
   work_one : (command : Command) (firmware second : List ℕ) (list : Option (List ℕ)) → IsOne (WorkReply command firmware second list)
-  work_one command firmware second list =
-      image_one (firmware_fault firmware) (WithList list (λ A. SecondReply command second (firmware_words firmware) A))
-      (with_list_one list (λ A. SecondReply command second (firmware_words firmware) A) (second_one command second (firmware_words firmware)))
+  work_one (Check fw cert assume) firmware second list = on_flash_one (Check fw cert assume) firmware second list
+  work_one (Analyse fw assume steps) firmware second list = on_flash_one (Analyse fw assume steps) firmware second list
+  work_one (Run fw schedule assume) firmware second list = on_flash_one (Run fw schedule assume) firmware second list
+  work_one (Report fw cert assume json) firmware second list = on_flash_one (Report fw cert assume json) firmware second list
+  work_one (Demo size) firmware second list = demo_one answers chains size
 
   pub replies_are_one : RepliesAreOne
-  replies_are_one (Check firmware certificate assume) seen s t a b h k =
-      let c = Check firmware certificate assume in
-      file_one firmware seen.firmware _ (λ fw. file_one certificate seen.second _ (λ second. optional_one assume seen.assumptions _ (work_one c fw second))) s t a b h k
-  replies_are_one (Run firmware schedule assume) seen s t a b h k =
-      let c = Run firmware schedule assume in
-      file_one firmware seen.firmware _ (λ fw. file_one schedule seen.second _ (λ second. optional_one assume seen.assumptions _ (work_one c fw second))) s t a b h k
+  replies_are_one command seen s t a b h k =
+      bytes_one (name_of command Firmware) seen.firmware _
+      (λ fw. bytes_one (name_of command Second) seen.second _ (λ second. optional_one (name_of command Assumptions) seen.assumptions _ (work_one command fw second))) s t a b h k

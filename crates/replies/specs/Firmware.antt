@@ -1,8 +1,9 @@
--- The words of flash that a firmware file stands for, or its refusal.
+-- The words of flash that a firmware file stands for, or its refusal, and what else it gives.
 use Rattle.std.specs.Prelude.{ℕ, zero, suc, ◌+◌, ◌*◌, ◌%◌, ◌==◌, nat_lt, Bool, true, false, List, [], ◌∷◌, length, Option, Some, None, if◌then◌else◌}
 use Rattle.std.specs.Option.{option_map}
 use Rattle.avr_model.specs.Image.{WORDS, IsRawImage, raw_words}
-use Rattle.elf_load.specs.Elf.{is_elf, elf_fault, elf_byte, IsElfImage}
+use Rattle.flash_image.specs.Naming.{Named}
+use Rattle.elf_load.specs.Elf.{is_elf, elf_fault, elf_byte, IsElfImage, elf_names, static_end}
 use Rattle.replies.specs.Texts.{elf_refused, raw_fault}
 
 -- a file that begins 7F 45 4C 46 is an ELF file, and any other is a raw one
@@ -40,3 +41,21 @@ fault_by false bytes = if length bytes % 2 == 1 then Some (raw_fault 1) else (if
 
 abbrev pub firmware_fault : List ℕ → Option (List ℕ)
 firmware_fault bytes = fault_by (is_elf bytes) bytes
+
+-- ---- names and static data, which an ELF file alone gives
+
+abbrev pub names_by : Bool → List ℕ → List Named
+names_by true bytes = elf_names bytes
+names_by false bytes = []
+
+-- the names of words
+abbrev pub firmware_names : List ℕ → List Named
+firmware_names bytes = names_by (is_elf bytes) bytes
+
+abbrev pub end_by : Bool → List ℕ → Option ℕ
+end_by true bytes = static_end bytes
+end_by false bytes = None
+
+-- the data address at which static data ends
+abbrev pub firmware_end : List ℕ → Option ℕ
+firmware_end bytes = end_by (is_elf bytes) bytes

@@ -1,18 +1,26 @@
--- What an accepting answer says of the bytes that were read, and when it is given.
-use Rattle.std.specs.Prelude.{◌≡◌, ◌↔◌, ⊤, ℕ, List, [], Option, Some, None}
+-- What the answers say of the bytes that were read, and when they are given.
+use Rattle.std.specs.Prelude.{◌≡◌, ◌≢◌, ◌↔◌, ◌≤◌, ⊤, true, ℕ, List, [], Option, Some, None}
 use Rattle.std.specs.Option.{is_some}
 use Rattle.avr_model.specs.declared.assumption.Entry.{Entry}
-use Rattle.avr_model.specs.Run.{Bounded}
+use Rattle.avr_model.specs.declared.choice.Choice.{Choice}
+use Rattle.avr_model.specs.declared.choice.Stop.TheVariants.{End}
+use Rattle.avr_model.specs.State.{State, IsReset}
+use Rattle.avr_model.specs.Run.{IsRun, stop_of, depth_of, Bounded}
 use Rattle.indirect_targets.specs.Exact.{IsReading}
-use Rattle.certificate.specs.Claims.{Claim, IsCertificate}
+use Rattle.certificate.specs.Claims.{Claim, IsClaim, IsCertificate}
 use Rattle.certificate.specs.Valid.{IsValid}
 use Rattle.cert_words.specs.Text.{text_of}
-use Rattle.commands.specs.Commands.{Command, Check, Run}
+use Rattle.round_rules.specs.declared.refusal.Refusal.{Refusal}
+use Rattle.round_rules.specs.declared.refusal.Refusal.TheVariants.{Memory}
+use Rattle.round_rules.specs.Refusals.{GoesBeyond}
+use Rattle.round_rules.specs.Solutions.{IsAnswer, IsRefusal}
+use Rattle.commands.specs.Commands.{Command, Check, Analyse, Run, Report, Demo}
 use Rattle.local_rules.specs.Machine.{AreWords}
 use Rattle.replies.specs.Firmware.{IsFirmware, firmware_words}
 use Rattle.replies.specs.Texts.{accepted}
 use Rattle.replies.specs.Reading.{Seen, Whole, Contents}
-use Rattle.replies.specs.Reply.{IsReply}
+use Rattle.replies.specs.Analysis.{TrialsFind}
+use Rattle.replies.specs.Reply.{told_of, IsReply}
 
 -- these bytes were read of a file that a command may have
 abbrev pub IsSeen : Option (List ℕ) → Seen → Option (List ℕ) → Type 0
@@ -20,54 +28,134 @@ IsSeen None seen list = list ≡ None
 IsSeen (Some name) seen None = ⊥
 IsSeen (Some name) seen (Some bytes) = seen ≡ Whole bytes
 
--- these bytes were read of the files of a command whose assumption file has this name
-pub record AreRead (assume : Option (List ℕ)) (seen : Contents) (firmware second : List ℕ) (list : Option (List ℕ)) : Type 0 where
+-- these bytes were read of the firmware and of the assumption file, if there is one of this name
+pub record AreLoaded (assume : Option (List ℕ)) (seen : Contents) (firmware : List ℕ) (list : Option (List ℕ)) : Type 0 where
   pub firmware_read : seen.firmware ≡ Whole firmware
-  pub second_read : seen.second ≡ Whole second
   pub list_read : IsSeen assume seen.assumptions list
+
+-- and these of the second file
+pub record AreRead (assume : Option (List ℕ)) (seen : Contents) (firmware second : List ℕ) (list : Option (List ℕ)) : Type 0 where
+  pub loaded : AreLoaded assume seen firmware list
+  pub second_read : seen.second ≡ Whole second
 
 -- the assumptions of an assumption file's bytes, or none without such a file
 abbrev pub IsListOf : Option (List ℕ) → List Entry → Type 0
 IsListOf None A = A ≡ []
 IsListOf (Some bytes) A = IsReading bytes A
 
--- the bytes of a firmware, a certificate and an assumption file stand for these words, this claim and these assumptions
-pub record StandFor (firmware certificate : List ℕ) (list : Option (List ℕ)) (words : List ℕ) (claim : Claim) (A : List Entry) : Type 0 where
+-- the bytes of a firmware and of an assumption file stand for these words and these assumptions
+pub record Mean (firmware : List ℕ) (list : Option (List ℕ)) (words : List ℕ) (A : List Entry) : Type 0 where
   pub image : IsFirmware firmware words
+  pub assumptions : IsListOf list A
+
+-- and those of a certificate for this claim
+pub record StandFor (firmware certificate : List ℕ) (list : Option (List ℕ)) (words : List ℕ) (claim : Claim) (A : List Entry) : Type 0 where
+  pub mean : Mean firmware list words A
   pub fits : IsCertificate claim
   pub bytes : certificate ≡ text_of claim
-  pub assumptions : IsListOf list A
+
+-- ---- a certificate that is accepted
 
 -- The firmware's words are such that no run of the machine from reset is deeper than the bound of the certificate with this text:
 -- whatever memory held, whatever interrupts are taken and whatever bytes are read, up to the first step that is flagged under the
--- assumptions of the assumption file. The text that is printed tells this bound.
-pub record Holds (firmware certificate : List ℕ) (list : Option (List ℕ)) (text : List ℕ) : Type 0 where
+-- assumptions of the assumption file. The text that is printed is what the command tells of this certificate, the bound among it.
+pub record Holds (command : Command) (firmware certificate : List ℕ) (list : Option (List ℕ)) (text : List ℕ) : Type 0 where
   pub words : List ℕ
   pub claim : Claim
   pub assumptions : List Entry
   pub stand : StandFor firmware certificate list words claim assumptions
   pub bounded : Bounded words assumptions claim.bound
-  pub told : text ≡ accepted claim.bound (is_some claim.witness)
+  pub told : text ≡ told_of command firmware claim
 
--- bytes were read of all files of a check, and the bound holds of them
-pub record HoldsAsRead (assume : Option (List ℕ)) (seen : Contents) (text : List ℕ) : Type 0 where
+-- bytes were read of all files of a command that judges a certificate, and the bound holds of them
+pub record HoldsAsRead (command : Command) (assume : Option (List ℕ)) (seen : Contents) (text : List ℕ) : Type 0 where
   pub firmware : List ℕ
   pub certificate : List ℕ
   pub list : Option (List ℕ)
   pub read : AreRead assume seen firmware certificate list
-  pub holds : Holds firmware certificate list text
+  pub holds : Holds command firmware certificate list text
 
--- where a check answers 0, the bound holds
+-- ---- a certificate that is written
+
+-- some run of the machine from reset ends without a stop, exactly this deep
+pub record IsReached (words : List ℕ) (A : List Entry) (depth : ℕ) : Type 0 where
+  pub state : State
+  pub reset : IsReset state
+  pub choices : List Choice
+  pub run : IsRun words A choices state
+  pub ends : stop_of words A choices state ≡ End
+  pub deep : depth_of words A choices state ≡ depth
+
+-- The text is that of a valid certificate for the firmware and the assumptions. No valid one has a smaller bound, and no run of the
+-- machine is deeper than this one's. Where it has a schedule, the bound is reached, so that it is the worst case; it has one exactly where
+-- one of the trials along its deepest chain is as deep as the bound.
+pub record IsLeastCertificate (firmware : List ℕ) (list : Option (List ℕ)) (text : List ℕ) : Type 0 where
+  pub words : List ℕ
+  pub claim : Claim
+  pub assumptions : List Entry
+  pub stand : StandFor firmware text list words claim assumptions
+  pub valid : IsValid words assumptions claim
+  pub least : (other : Claim) → IsClaim other → IsValid words assumptions other → claim.bound ≤ other.bound
+  pub bounded : Bounded words assumptions claim.bound
+  pub reached : is_some claim.witness ≡ true → IsReached words assumptions claim.bound
+  pub trials : TrialsFind words assumptions claim claim.witness
+
+-- a `check` of this text, with the same firmware and assumptions, accepts it
+abbrev pub IsAcceptedAgain : Option (List ℕ) → Contents → List ℕ → Claim → Type 0
+IsAcceptedAgain assume seen text c =
+    (firmware certificate : List ℕ) → IsReply (Check firmware certificate assume) (record seen { second = Whole text }) 0 (accepted c.bound (is_some c.witness))
+
+-- bytes were read of all files of an analysis, and its text is that of their least certificate
+pub record IsLeastAsRead (assume : Option (List ℕ)) (seen : Contents) (text : List ℕ) : Type 0 where
+  pub firmware : List ℕ
+  pub list : Option (List ℕ)
+  pub read : AreLoaded assume seen firmware list
+  pub certificate : IsLeastCertificate firmware list text
+  pub again : IsAcceptedAgain assume seen text certificate.claim
+
+-- ---- what status 0 says
+
+-- where a certificate is accepted, the bound holds; where one is written, it is the least
 abbrev pub Headline : Command → Contents → ℕ → List ℕ → Type 0
-Headline (Check firmware certificate assume) seen status text = status ≡ 0 → HoldsAsRead assume seen text
+Headline (Check firmware certificate assume) seen status text = status ≡ 0 → HoldsAsRead (Check firmware certificate assume) assume seen text
+Headline (Analyse firmware assume steps) seen status text = status ≡ 0 → IsLeastAsRead assume seen text
 Headline (Run firmware schedule assume) seen status text = ⊤
+Headline (Report firmware certificate assume json) seen status text =
+    status ≡ 0 → HoldsAsRead (Report firmware certificate assume json) assume seen text
+Headline (Demo size) seen status text = ⊤
 
--- Where the files of a check read as values, it answers 0 exactly where the certificate is valid for the firmware and the assumptions.
-abbrev pub IsExact : Command → Contents → ℕ → Type 0
-IsExact (Check name_1 name_2 assume) seen status =
+-- ---- when the answers come
+
+-- Where the files of a command read as values, it accepts exactly where the certificate is valid for the firmware and the assumptions.
+abbrev pub AcceptsValid : Option (List ℕ) → Contents → ℕ → Type 0
+AcceptsValid assume seen status =
     (firmware certificate : List ℕ) (list : Option (List ℕ)) (words : List ℕ) (claim : Claim) (A : List Entry)
     → AreRead assume seen firmware certificate list → StandFor firmware certificate list words claim A → (status ≡ 0) ↔ IsValid words A claim
+
+-- some certificate is valid for the words and the assumptions
+abbrev pub HasValid : List ℕ → List Entry → Type 0
+HasValid words A = (c : Claim) × IsClaim c × IsValid words A c
+
+-- The status says how the rounds end: within the budget with a certificate, or with a cause against it, or at none of the families that
+-- the budget serves for. Without a budget there is a certificate exactly where one is valid.
+pub record SaysHowRoundsEnd (words : List ℕ) (A : List Entry) (steps : Option ℕ) (status : ℕ) : Type 0 where
+  pub solved : (status ≡ 0) ↔ ((c : Claim) × IsClaim c × IsAnswer words A steps c)
+  pub refused : (status ≡ 10) ↔ ((r : Refusal) × (r ≢ Memory) × IsRefusal words A steps r)
+  pub spent : (status ≡ 11) ↔ ((n : ℕ) × (steps ≡ Some n) × GoesBeyond words A n)
+  pub valid : steps ≡ None → (status ≡ 0) ↔ HasValid words A
+
+-- the same of the files of an analysis, where they read as values
+abbrev pub AnswersRounds : Option (List ℕ) → Option ℕ → Contents → ℕ → Type 0
+AnswersRounds assume steps seen status =
+    (firmware : List ℕ) (list : Option (List ℕ)) (words : List ℕ) (A : List Entry)
+    → AreLoaded assume seen firmware list → Mean firmware list words A → SaysHowRoundsEnd words A steps status
+
+abbrev pub IsExact : Command → Contents → ℕ → Type 0
+IsExact (Check firmware certificate assume) seen status = AcceptsValid assume seen status
+IsExact (Analyse firmware assume steps) seen status = AnswersRounds assume steps seen status
 IsExact (Run firmware schedule assume) seen status = ⊤
+IsExact (Report firmware certificate assume json) seen status = AcceptsValid assume seen status
+IsExact (Demo size) seen status = ⊤
 
 -- ---- laws
 
@@ -75,13 +163,18 @@ IsExact (Run firmware schedule assume) seen status = ⊤
 abbrev pub RepliesAreOne : Type 0
 RepliesAreOne = (command : Command) (seen : Contents) (s t : ℕ) (a b : List ℕ) → IsReply command seen s a → IsReply command seen t b → (s ≡ t) × (a ≡ b)
 
--- the words of the firmware that was read have 16 bits, as those of every flash have
-abbrev pub HasWords : Contents → Type 0
-HasWords seen = (firmware : List ℕ) → seen.firmware ≡ Whole firmware → AreWords (firmware_words firmware)
+-- the words of a command's firmware have 16 bits, as those of every flash have
+abbrev pub HasWords : Command → List ℕ → Type 0
+HasWords (Demo size) firmware = ⊤
+HasWords command firmware = AreWords (firmware_words firmware)
+
+-- the same of the firmware that was read
+abbrev pub ReadsWords : Command → Contents → Type 0
+ReadsWords command seen = (firmware : List ℕ) → seen.firmware ≡ Whole firmware → HasWords command firmware
 
 abbrev pub AcceptingRepliesHold : Type 0
 AcceptingRepliesHold =
-    (command : Command) (seen : Contents) (status : ℕ) (text : List ℕ) → IsReply command seen status text → (status ≡ 0 → HasWords seen) → Headline command seen status text
+    (command : Command) (seen : Contents) (status : ℕ) (text : List ℕ) → IsReply command seen status text → (status ≡ 0 → ReadsWords command seen) → Headline command seen status text
 
 abbrev pub RepliesAreExact : Type 0
 RepliesAreExact = (command : Command) (seen : Contents) (status : ℕ) (text : List ℕ) → IsReply command seen status text → IsExact command seen status

@@ -1,5 +1,6 @@
 pub mod Texts
 pub mod Firmware
 pub mod Reading
+pub mod Analysis
 pub mod Reply
 pub mod Headline

@@ -1,7 +1,7 @@
 -- What is read of a command's files. Source: own.
 use Rattle.std.specs.Prelude.{ℕ, ◌≡◌, ◌≤◌, List, length, ⊤, Bool, true, false, Option, Some, None}
 use Rattle.sb_base.specs.Outside.{Held, Blamed, Gives, MayExceed, Blames}
-use Rattle.commands.specs.Commands.{Command, Check, Run, Role, Firmware, Second, Assumptions, name_of, IsFileOf}
+use Rattle.commands.specs.Commands.{Command, Run, Role, Firmware, Second, Assumptions, name_of, IsFileOf}
 
 -- what was read of a file: nothing so far, all its bytes, or that it is longer than its cap
 pub data Seen : Type 0 where
@@ -36,8 +36,8 @@ abbrev pub assumption_cap : ℕ
 assumption_cap = 1048576
 
 abbrev pub second_cap : Command → ℕ
-second_cap (Check firmware certificate assume) = certificate_cap
 second_cap (Run firmware schedule assume) = schedule_cap
+second_cap command = certificate_cap
 
 abbrev pub cap_of : Command → Role → ℕ
 cap_of command Firmware = firmware_cap

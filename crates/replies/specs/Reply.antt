@@ -1,5 +1,6 @@
 -- What the program answers to a command, in terms of what was read of its files. Source: own.
-use Rattle.std.specs.Prelude.{◌≡◌, ℕ, ◌==◌, ◌&&◌, List, [], ◌∷◌, Bool, true, false, Option, Some, None, Result, Ok, Err}
+use Rattle.std.specs.Prelude.{◌≡◌, ◌⊎◌, ℕ, ◌==◌, ◌&&◌, List, [], ◌∷◌, Bool, true, false, Option, Some, None, Result, Ok, Err}
+use Rattle.std.specs.Option.{is_some}
 use Rattle.avr_model.specs.declared.assumption.Entry.{Entry}
 use Rattle.avr_model.specs.declared.choice.Stop.{Stop}
 use Rattle.avr_model.specs.declared.choice.Stop.TheVariants as stop
@@ -8,17 +9,25 @@ use Rattle.indirect_targets.specs.declared.fault.AssumeText.{AssumeText}
 use Rattle.indirect_targets.specs.Reading.{entries_in}
 use Rattle.witness_replay.specs.Spelling.{Plan}
 use Rattle.witness_replay.specs.Reading.{schedule_in}
-use Rattle.witness_replay.specs.Replay.{Report, replay_of}
-use Rattle.certificate.specs.Claims.{Claim}
+use Rattle.witness_replay.specs.Replay.{Report as Replayed, replay_of}
+use Rattle.certificate.specs.Claims.{Claim, IsClaim}
+use Rattle.cert_words.specs.Text.{text_of}
+use Rattle.round_rules.specs.declared.refusal.Refusal.{Refusal}
+use Rattle.round_rules.specs.Solutions.{IsAnswer, IsWhyNot}
+use Rattle.flash_image.specs.Naming.{Named}
+use Rattle.reports.specs.Report.{plain_text}
+use Rattle.reports.specs.Json.{json_text}
+use Rattle.demo_image.specs.Image.{demo_words}
 use Rattle.cert_format.specs.declared.fault.CertFault.{CertFault}
 use Rattle.cert_format.specs.Reading.{certificate_in}
 use Rattle.cert_check.specs.Verdict.{IsVerdict}
 use Rattle.cert_check.specs.declared.verdict.Verdict.{Verdict}
 use Rattle.cert_check.specs.declared.verdict.Verdict.TheVariants.{Accepted, Rejected}
-use Rattle.commands.specs.Commands.{Command, Check, Run}
-use Rattle.replies.specs.Firmware.{firmware_words, firmware_fault}
-use Rattle.replies.specs.Texts.{too_long, assumptions_refused, certificate_refused, schedule_malformed, schedule_illegal, accepted, rejected, witness_rejected, run_text}
+use Rattle.commands.specs.Commands.{Command, Check, Analyse, Run, Report, Demo, Firmware, Second, Assumptions, name_of}
+use Rattle.replies.specs.Firmware.{firmware_words, firmware_fault, firmware_names, firmware_end}
+use Rattle.replies.specs.Texts.{too_long, assumptions_refused, certificate_refused, schedule_malformed, schedule_illegal, accepted, rejected, witness_rejected, run_text, why_not_text, why_not_status, demo_text}
 use Rattle.replies.specs.Reading.{Seen, Unread, Whole, Long, Contents}
+use Rattle.replies.specs.Analysis.{IsAnalysis}
 
 -- which status and which text are the answer
 abbrev pub Reply : Type 1
@@ -34,13 +43,18 @@ Refuses s (Some t) status text = (status ≡ s) × (text ≡ t)
 
 -- ---- files
 
--- the bytes of a file, and what follows with them
+-- the bytes of a file that is read, and what follows with them
 abbrev pub WithFile : List ℕ → Seen → (List ℕ → Reply) → Reply
 WithFile name Unread next status text = ⊥
 WithFile name (Whole bytes) next status text = next bytes status text
 WithFile name Long next status text = Says 5 (too_long name) status text
 
--- the same of a file that a command may have
+-- the same of a file that a command may have; where it has none, no bytes
+abbrev pub WithBytes : Option (List ℕ) → Seen → (List ℕ → Reply) → Reply
+WithBytes None seen next status text = next [] status text
+WithBytes (Some name) seen next status text = WithFile name seen next status text
+
+-- the same where no file isn't the same as an empty one
 abbrev pub WithOptional : Option (List ℕ) → Seen → (Option (List ℕ) → Reply) → Reply
 WithOptional None seen next status text = next None status text
 WithOptional (Some name) seen next status text = WithFile name seen (λ bytes. next (Some bytes)) status text
@@ -64,44 +78,54 @@ abbrev pub WithList : Option (List ℕ) → (List Entry → Reply) → Reply
 WithList None next = next []
 WithList (Some bytes) next = ListBy (entries_in bytes) next
 
--- ---- check
+-- ---- check and report
 
 abbrev pub is_end : Stop → Bool
 is_end stop.End = true
 is_end _ = false
 
 -- the schedule meets no illegal choice, ends without a stop, and its depth is the bound
-abbrev pub attains : ℕ → Result Report ℕ → Bool
+abbrev pub attains : ℕ → Result Replayed ℕ → Bool
 attains bound (Err step) = false
 attains bound (Ok r) = is_end r.stop && (r.depth == bound)
 
-abbrev pub AttainedBy : ℕ → Bool → Reply
-AttainedBy bound true status text = Says 0 (accepted bound true) status text
-AttainedBy bound false status text = Says 1 witness_rejected status text
+abbrev pub AttainedBy : List ℕ → Bool → Reply
+AttainedBy tells true status text = Says 0 tells status text
+AttainedBy tells false status text = Says 1 witness_rejected status text
 
-abbrev pub WitnessReply : List ℕ → List Entry → ℕ → Option Plan → Reply
-WitnessReply words A bound None status text = Says 0 (accepted bound false) status text
-WitnessReply words A bound (Some plan) status text = AttainedBy bound (attains bound (replay_of words A plan)) status text
+abbrev pub WitnessReply : List ℕ → List Entry → List ℕ → ℕ → Option Plan → Reply
+WitnessReply words A tells bound None status text = Says 0 tells status text
+WitnessReply words A tells bound (Some plan) status text = AttainedBy tells (attains bound (replay_of words A plan)) status text
 
-abbrev pub VerdictReply : List ℕ → List Entry → Claim → Verdict → Reply
-VerdictReply words A c (Rejected reason) status text = Says 1 (rejected reason) status text
-VerdictReply words A c (Accepted bound) status text = WitnessReply words A bound c.witness status text
+abbrev pub VerdictReply : List ℕ → List Entry → (Claim → List ℕ) → Claim → Verdict → Reply
+VerdictReply words A tells c (Rejected reason) status text = Says 1 (rejected reason) status text
+VerdictReply words A tells c (Accepted bound) status text = WitnessReply words A (tells c) bound c.witness status text
 
 -- by the verdict on a certificate
-pub record JudgedReply (words : List ℕ) (A : List Entry) (c : Claim) (status : ℕ) (text : List ℕ) : Type 0 where
+pub record JudgedReply (words : List ℕ) (A : List Entry) (tells : Claim → List ℕ) (c : Claim) (status : ℕ) (text : List ℕ) : Type 0 where
   pub verdict : Verdict
   pub is : IsVerdict words A c verdict
-  pub reply : VerdictReply words A c verdict status text
+  pub reply : VerdictReply words A tells c verdict status text
 
-abbrev pub CertificateReply : List ℕ → List Entry → Result Claim CertFault → Reply
-CertificateReply words A (Err fault) status text = Refuses 8 (certificate_refused fault) status text
-CertificateReply words A (Ok c) status text = JudgedReply words A c status text
+-- of a certificate that is read, and of one that is accepted: this is told of it then
+abbrev pub CertificateReply : List ℕ → List Entry → (Claim → List ℕ) → Result Claim CertFault → Reply
+CertificateReply words A tells (Err fault) status text = Refuses 8 (certificate_refused fault) status text
+CertificateReply words A tells (Ok c) status text = JudgedReply words A tells c status text
+
+abbrev pub report_by : Bool → List Named → Option ℕ → Claim → List ℕ
+report_by true names end c = json_text c names end
+report_by false names end c = plain_text c names end
+
+-- what a command tells of a certificate that it accepts, for a firmware of these bytes
+abbrev pub told_of : Command → List ℕ → Claim → List ℕ
+told_of (Report firmware certificate assume json) bytes c = report_by json (firmware_names bytes) (firmware_end bytes) c
+told_of command bytes c = accepted c.bound (is_some c.witness)
 
 -- ---- run
 
-abbrev pub ReportReply : Result Report ℕ → Reply
-ReportReply (Err step) status text = Says 9 (schedule_illegal step) status text
-ReportReply (Ok r) status text = Says 0 (run_text r) status text
+abbrev pub RunReply : Result Replayed ℕ → Reply
+RunReply (Err step) status text = Says 9 (schedule_illegal step) status text
+RunReply (Ok r) status text = Says 0 (run_text r) status text
 
 -- nothing follows a schedule in its file
 abbrev pub EndsBefore : List TextLine → ℕ → Reply → Reply
@@ -110,25 +134,52 @@ EndsBefore (l ∷ ls) at reply status text = Says 9 (schedule_malformed at) stat
 
 abbrev pub ScheduleReply : List ℕ → List Entry → Result (Plan × Place) ℕ → Reply
 ScheduleReply words A (Err at) status text = Says 9 (schedule_malformed at) status text
-ScheduleReply words A (Ok read) status text = EndsBefore read.1.rest read.1.at (ReportReply (replay_of words A read.0)) status text
+ScheduleReply words A (Ok read) status text = EndsBefore read.1.rest read.1.at (RunReply (replay_of words A read.0)) status text
+
+-- ---- analyse and demo
+
+-- the certificate of an analysis is written
+pub record AnalysedReply (words : List ℕ) (A : List Entry) (steps : Option ℕ) (status : ℕ) (text : List ℕ) : Type 0 where
+  pub claim : Claim
+  pub analysis : IsAnalysis words A steps claim
+  pub says : Says 0 (text_of claim) status text
+
+-- it is told why there is none
+pub record WhyNotReply (words : List ℕ) (A : List Entry) (steps : Option ℕ) (status : ℕ) (text : List ℕ) : Type 0 where
+  pub refusal : Refusal
+  pub why : IsWhyNot words A steps refusal
+  pub says : Refuses (why_not_status refusal) (why_not_text words refusal) status text
+
+abbrev pub AnalyseReply : List ℕ → List Entry → Option ℕ → Reply
+AnalyseReply words A steps status text = AnalysedReply words A steps status text ⊎ WhyNotReply words A steps status text
+
+-- the numbers of the certificate of an image are told
+pub record MeasuredReply (size : ℕ) (status : ℕ) (text : List ℕ) : Type 0 where
+  pub claim : Claim
+  pub fits : IsClaim claim
+  pub answer : IsAnswer (demo_words size) [] None claim
+  pub says : Says 0 (demo_text size claim) status text
+
+abbrev pub DemoReply : ℕ → Reply
+DemoReply size status text = MeasuredReply size status text ⊎ WhyNotReply (demo_words size) [] None status text
 
 -- ---- all
 
--- what is made of a certificate or schedule, for these words of flash and under these assumptions
-abbrev pub SecondReply : Command → List ℕ → List ℕ → List Entry → Reply
-SecondReply (Check firmware certificate assume) bytes words A = CertificateReply words A (certificate_in bytes)
-SecondReply (Run firmware schedule assume) bytes words A = ScheduleReply words A (schedule_in (record { at = 0; rest = lines_of bytes }))
+-- what is made of the words of a firmware of these bytes, and of the bytes of a certificate or schedule, under these assumptions
+abbrev pub FlashReply : Command → List ℕ → List ℕ → List ℕ → List Entry → Reply
+FlashReply (Analyse name assume steps) firmware bytes words A = AnalyseReply words A steps
+FlashReply (Run name schedule assume) firmware bytes words A = ScheduleReply words A (schedule_in (record { at = 0; rest = lines_of bytes }))
+FlashReply (Demo size) firmware bytes words A = DemoReply size
+FlashReply command firmware bytes words A = CertificateReply words A (told_of command firmware) (certificate_in bytes)
 
--- The firmware, the assumptions and the second file are looked at in this order.
+-- The firmware, the assumptions and the second file are looked at in this order. `demo` has none of them.
 abbrev pub WorkReply : Command → List ℕ → List ℕ → Option (List ℕ) → Reply
-WorkReply command firmware second list = WithImage firmware (λ words. WithList list (λ A. SecondReply command second words A))
+WorkReply (Demo size) firmware second list = DemoReply size
+WorkReply command firmware second list = WithImage firmware (λ words. WithList list (λ A. FlashReply command firmware second words A))
 
--- The files are read in this order, and only then is anything made of them.
-abbrev pub FilesReply : List ℕ → List ℕ → Option (List ℕ) → Contents → (List ℕ → List ℕ → Option (List ℕ) → Reply) → Reply
-FilesReply firmware second assume seen work =
-    WithFile firmware seen.firmware (λ fw. WithFile second seen.second (λ s. WithOptional assume seen.assumptions (λ list. work fw s list)))
-
--- The status and the text are the answer to a command of whose files this was read.
+-- The status and the text are the answer to a command of whose files this was read. The files are read in this order, and only then is
+-- anything made of them.
 abbrev pub IsReply : Command → Contents → Reply
-IsReply (Check firmware certificate assume) seen = FilesReply firmware certificate assume seen (WorkReply (Check firmware certificate assume))
-IsReply (Run firmware schedule assume) seen = FilesReply firmware schedule assume seen (WorkReply (Run firmware schedule assume))
+IsReply command seen =
+    WithBytes (name_of command Firmware) seen.firmware
+    (λ fw. WithBytes (name_of command Second) seen.second (λ s. WithOptional (name_of command Assumptions) seen.assumptions (λ list. WorkReply command fw s list)))

@@ -1,14 +1,23 @@
 -- What is printed: one line of words. `line_writing` of sb_base says that a writer's line of words is their text with one
 -- space between each two and a line feed behind them.
 use Rattle.std.specs.Option.{option_map}
-use Rattle.std.specs.Prelude.{ℕ, List, [], ◌∷◌, codes, decimal, Bool, true, false, ◌≡◌, Option, Some, None}
+use Rattle.std.specs.Prelude.{ℕ, ◌+◌, List, [], ◌∷◌, length, codes, decimal, Bool, true, false, ◌≡◌, Option, Some, None}
 use Rattle.sb_base.specs.Digits.{hex_digits}
 use Rattle.sb_base.specs.Writing.{Written, with_words, with_end}
+use Rattle.avr_model.specs.declared.instruction.Instr.{Instr}
+use Rattle.avr_model.specs.Image.{word_at}
+use Rattle.avr_model.specs.Table.{decoded}
+use Rattle.avr_model.specs.Text as instruction
 use Rattle.avr_model.specs.declared.choice.Flag.TheVariants.{Live, Protected, Transfer}
 use Rattle.avr_model.specs.declared.choice.Stop.{Stop}
 use Rattle.avr_model.specs.declared.choice.Stop.TheVariants as stop
 use Rattle.indirect_targets.specs.declared.fault.AssumeText.{AssumeText}
 use Rattle.indirect_targets.specs.declared.fault.AssumeText.TheVariants as assume
+use Rattle.certificate.specs.declared.limit.Limit.{Limit as ClaimLimit}
+use Rattle.certificate.specs.declared.limit.Limit.TheVariants as claim_limit
+use Rattle.certificate.specs.Claims.{Claim}
+use Rattle.round_rules.specs.declared.refusal.Refusal.{Refusal}
+use Rattle.round_rules.specs.declared.refusal.Refusal.TheVariants as refusal
 use Rattle.cert_words.specs.KeySpelling.{node_key_words}
 use Rattle.certificate.specs.declared.limit.Limit.{Limit}
 use Rattle.certificate.specs.declared.limit.Limit.TheVariants as limit
@@ -125,3 +134,50 @@ stop_words (stop.Overflow pc) = codes "overflow" ∷ hex_digits pc 4 ∷ []
 abbrev pub run_text : Report → List ℕ
 run_text r =
     told (codes "steps" ∷ decimal r.steps ∷ codes "depth" ∷ decimal r.depth ∷ codes "stop" ∷ stop_words r.stop)
+
+-- ---- in place of a certificate
+
+-- the text of the instruction, or the word in digits where it is none
+abbrev pub instruction_words : Option Instr → ℕ → ℕ → List (List ℕ)
+instruction_words (Some instr) word at = instruction.text_of instr at ∷ []
+instruction_words None word at = codes "opcode" ∷ hex_digits word 4 ∷ []
+
+-- the same of the instruction at a word address
+abbrev pub instruction_at : List ℕ → ℕ → List (List ℕ)
+instruction_at words at = instruction_words (decoded (word_at words at) (word_at words (at + 1))) (word_at words at) at
+
+abbrev pub large_word : ClaimLimit → List ℕ
+large_word claim_limit.Nodes = codes "nodes"
+large_word claim_limit.Cells = codes "cells"
+
+-- the number of a cause, its name, and the word at which it is
+abbrev pub cause_at : List ℕ → List ℕ → ℕ → List (List ℕ) → Option (List (List ℕ))
+cause_at number name at more = Some (codes "refused" ∷ number ∷ name ∷ codes "at" ∷ hex_digits at 4 ∷ more)
+
+-- The words in place of a certificate: the cause for which there is none with what it names, or the number of rounds that don't suffice.
+-- Want of memory has none.
+abbrev pub why_not_words : List ℕ → Refusal → Option (List (List ℕ))
+why_not_words words (refusal.UnresolvedJump at) = cause_at (codes "1") (codes "unresolved-jump") at (instruction_at words at)
+why_not_words words (refusal.Recursion at) = cause_at (codes "2") (codes "recursion") at []
+why_not_words words (refusal.ReEntry v at) = Some (codes "refused" ∷ codes "3" ∷ codes "re-entry" ∷ codes "of" ∷ decimal v ∷ codes "at" ∷ hex_digits at 4 ∷ [])
+why_not_words words (refusal.UntrackedSp at) = cause_at (codes "4") (codes "untracked-sp") at (instruction_at words at)
+why_not_words words (refusal.Unsupported at) = cause_at (codes "5") (codes "unsupported") at (codes "opcode" ∷ hex_digits (word_at words at) 4 ∷ [])
+why_not_words words (refusal.TooDeep at need) = cause_at (codes "6") (codes "too-deep") at (codes "need" ∷ decimal need ∷ [])
+why_not_words words (refusal.TooLarge limit) = Some (codes "refused" ∷ codes "7" ∷ codes "too-large" ∷ large_word limit ∷ [])
+why_not_words words (refusal.UnknownPointer at) = cause_at (codes "8") (codes "unknown-pointer") at (instruction_at words at)
+why_not_words words (refusal.Spent n) = Some (codes "spent" ∷ decimal n ∷ [])
+why_not_words words refusal.Memory = None
+
+abbrev pub why_not_text : List ℕ → Refusal → Option (List ℕ)
+why_not_text words r = option_map told (why_not_words words r)
+
+abbrev pub why_not_status : Refusal → ℕ
+why_not_status (refusal.Spent n) = 11
+why_not_status r = 10
+
+-- ---- demo
+
+-- the size of an image, and the numbers of its certificate
+abbrev pub demo_text : ℕ → Claim → List ℕ
+demo_text n c =
+    told (codes "demo" ∷ decimal n ∷ codes "nodes" ∷ decimal (length c.nodes) ∷ codes "instances" ∷ decimal (length c.instances) ∷ codes "bound" ∷ decimal c.bound ∷ [])

@@ -2,13 +2,18 @@
 
 ghost use Rattle.replies.specs.Headline.{RepliesAreOne, AcceptingRepliesHold, RepliesAreExact};
 
+use answer_laws::laws::answers_are_one;
 use cert_check::laws::{sound_certificates_bound_every_run, verdicts_are_one};
 use cert_format::laws::certificate_texts;
 use flash_image::laws::raw_images_are_their_words;
 use indirect_targets::laws::reading_is_exact;
+use round_laws::laws::{rounds_are_least, solutions_are_valid};
+use witness_replay::laws::replays_are_runs;
+use witness_search::laws::waypoints_are_one;
 
-/// What was read of a command's files has one answer. Where a check's answer is 0, the bound holds of what was read; and where the
-/// files read as values, it is 0 exactly where the certificate is valid.
+/// What was read of a command's files has one answer. Where a certificate is accepted, the bound holds of what was read, and where one is
+/// written, it is the least one. Where the files read as values, a certificate is accepted exactly where it is valid, and the status of an
+/// analysis says how the rounds end.
 pub fn replies_are_claims()
     ensures one { RepliesAreOne }
     ensures holds { AcceptingRepliesHold }
@@ -19,4 +24,9 @@ pub fn replies_are_claims()
     certificate_texts();
     verdicts_are_one();
     sound_certificates_bound_every_run();
+    answers_are_one();
+    waypoints_are_one();
+    rounds_are_least();
+    solutions_are_valid();
+    replays_are_runs();
 }

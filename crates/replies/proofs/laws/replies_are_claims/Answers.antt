@@ -1,5 +1,5 @@
 use Rattle.replies.proofs.One.{replies_are_one}
-use Rattle.replies.proofs.Accepting.{accepting_replies_hold, replies_are_exact}
+use Rattle.replies.proofs.All.{replies_hold, replies_are_exact}
 use Rattle.replies.proofs.laws.replies_are_claims.Goals as goal
 
 pub returns : goal.returns
@@ -9,8 +9,13 @@ returns c =
     let lists = c.reading_is_exact.ensures in
     let verdicts = c.verdicts_are_one.ensures in
     let bounds = c.sound_certificates_bound_every_run.ensures in
+    let answers = c.answers_are_one.ensures in
+    let chains = c.waypoints_are_one.ensures in
+    let rounds = c.rounds_are_least.ensures in
+    let solutions = c.solutions_are_valid.ensures in
+    let runs = c.replays_are_runs.ensures.runs in
     record {
-      one = replies_are_one texts.read verdicts;
-      holds = accepting_replies_hold raw.one raw.some lists texts.read texts.spelled verdicts bounds;
-      exact = replies_are_exact raw.one raw.some lists texts.read texts.spelled verdicts bounds;
+      one = replies_are_one texts.read verdicts answers chains;
+      holds = replies_hold raw.one raw.some lists texts.read texts.spelled verdicts bounds answers chains rounds solutions runs;
+      exact = replies_are_exact raw.one raw.some lists texts.read texts.spelled verdicts bounds answers chains rounds solutions runs;
     }

@@ -1,0 +1,270 @@
+-- What an analysis says that writes a certificate, and how its status says where the rounds end.
+use Rattle.std.proofs.Common.{◌≡◌, ◌≢◌, ◌≤◌, ◌*◌, ◌%◌, inl, inr, ◌⊎◌, ℕ, true, false, List, [], length, Option, Some, None, Result, Ok, Err, IfSome, IsOkAnd, refl, sym, ap, ◌∙◌, subst}
+use Rattle.std.specs.Option.{is_some}
+use Rattle.avr_model.specs.declared.assumption.Entry.{Entry}
+use Rattle.avr_model.specs.declared.choice.Stop.TheVariants as stop
+use Rattle.avr_model.specs.Run.{Bounded}
+use Rattle.local_rules.specs.declared.local.NodeFault.{NodeFault}
+use Rattle.local_rules.specs.declared.local.NodeFault.TheVariants as fault
+use Rattle.local_rules.specs.Machine.{AreWords}
+use Rattle.witness_replay.specs.Spelling.{Plan, IsSchedule}
+use Rattle.witness_replay.specs.Replay.{Report as Replayed, replay_of}
+use Rattle.witness_replay.specs.Runs.{ReplaysAreRuns}
+use Rattle.certificate.specs.Claims.{Claim, IsClaim, IsCertificate}
+use Rattle.certificate.specs.Valid.{IsSound, IsAttained, IsValid}
+use Rattle.cert_check.specs.Laws.{SoundCertificatesBoundEveryRun}
+use Rattle.round_rules.specs.declared.refusal.Refusal.{Refusal}
+use Rattle.round_rules.specs.declared.refusal.Refusal.TheVariants as refusal
+use Rattle.round_rules.specs.Refusals.{Test, over, faulty, re_entry, recursion, too_deep, refusal_of, GoesBeyond}
+use Rattle.round_rules.specs.Solutions.{IsShown, IsAnswer, IsRefusal, IsWhyNot}
+use Rattle.round_laws.specs.Laws.{RoundsAreLeast, SolutionsAreValid}
+use Rattle.answer_laws.specs.Laws.{AnswersAreOne}
+use Rattle.witness_search.specs.Trials.{IsFound}
+use Rattle.witness_search.specs.declared.waypoint.Waypoint.{Waypoint}
+use Rattle.replies.specs.Texts.{why_not_status, why_not_text}
+use Rattle.replies.specs.Analysis.{TrialsFind, IsAnalysis}
+use Rattle.replies.specs.Reply.{Refuses, AnalyseReply, AnalysedReply, WhyNotReply}
+use Rattle.replies.specs.Headline.{IsReached, HasValid, SaysHowRoundsEnd}
+use Rattle.replies.proofs.Analysing.{no_memory}
+
+-- ---- the same certificate with a schedule
+
+claim_with : (c : Claim) (found : Option Plan) → IsClaim c → IsClaim (record c { witness = found })
+claim_with c found h =
+    record {
+      bound_fits = h.bound_fits;
+      entries_fit = h.entries_fit;
+      insts_fit = h.insts_fit;
+      insts_ascend = h.insts_ascend;
+      few_insts = h.few_insts;
+      nodes_fit = h.nodes_fit;
+      nodes_belong = h.nodes_belong;
+      nodes_ascend = h.nodes_ascend;
+      few_nodes = h.few_nodes;
+      few_cells = h.few_cells;
+    }
+
+sound_with : (words : List ℕ) (A : List Entry) (c : Claim) (found : Option Plan) → IsSound words A c → IsSound words A (record c { witness = found })
+sound_with words A c found h =
+    record {
+      nodes = h.nodes;
+      expanded = h.expanded;
+      meets = record {
+        reset = h.meets.reset;
+        faultless = h.meets.faultless;
+        edges = h.meets.edges;
+        ranks = h.meets.ranks;
+        needs = λ inst. record { offsets = (h.meets.needs inst).offsets; entered = (h.meets.needs inst).entered };
+        bounded = h.meets.bounded;
+        assumptions = h.meets.assumptions;
+      };
+    }
+
+schedule_found : (words : List ℕ) (A : List Entry) (points : List Waypoint) (bound : ℕ) (found : Option Plan) → IsFound words A points bound found → IfSome found IsSchedule
+schedule_found words A points bound None h = tt
+schedule_found words A points bound (Some plan) h = h.trial.fits
+
+-- ---- a schedule that attains the bound is a run
+
+replayed : (bound : ℕ) (x y : Result Replayed ℕ) → x ≡ y → IsOkAnd y (λ r. (r.stop ≡ stop.End) × (r.depth ≡ bound)) → (r : Replayed) × (x ≡ Ok r) × (r.stop ≡ stop.End) × (r.depth ≡ bound)
+replayed bound x (Err n) e h = absurd h
+replayed bound x (Ok r) e h = (r, e, h.0, h.1)
+
+no_schedule : (w : Option Plan) → w ≡ None → is_some w ≡ true → ⊥
+no_schedule None e f = let wrong = f in cc
+no_schedule (Some plan) e f = let wrong = e in cc
+
+pub reached : (runs : ReplaysAreRuns) (words : List ℕ) (A : List Entry) (bound : ℕ) (found : Option Plan) → IfSome found IsSchedule → IsAttained words A bound found → is_some found ≡ true → IsReached words A bound
+reached runs words A bound None fits h e = absurd (no_schedule None refl e)
+reached runs words A bound (Some plan) fits h e =
+    let r = replayed bound (replay_of words A plan) (replay_of words A plan) refl h in
+    let run = runs words A plan r.0 fits r.1 in
+    record { state = _; reset = run.reset; choices = run.choices; run = run.run; ends = sym run.stop ∙ r.2; deep = sym run.depth ∙ r.3 }
+
+-- ---- what is told in place of a certificate
+
+no_spent : (x : NodeFault) (limit : _) → refusal_of (faulty x) ≢ refusal.Spent limit
+no_spent (fault.UnresolvedJump pc) n e = cc
+no_spent (fault.UntrackedSp pc) n e = cc
+no_spent (fault.Unsupported pc) n e = cc
+no_spent (fault.TooDeep pc offset) n e = cc
+no_spent (fault.UnknownPointer pc) n e = cc
+no_spent fault.Memory n e = cc
+
+never_spent : (t : Test) (n : ℕ) → refusal_of t ≢ refusal.Spent n
+never_spent (over limit) n e = cc
+never_spent (faulty x) n e = no_spent x n e
+never_spent (re_entry v word) n e = cc
+never_spent (recursion word) n e = cc
+never_spent (too_deep d) n e = cc
+
+module _ (words : List ℕ) (A : List Entry) (steps : Option ℕ) where
+  abbrev IsSpent : Refusal → Type 0
+  IsSpent r = (n : ℕ) × (r ≡ refusal.Spent n) × (steps ≡ Some n) × GoesBeyond words A n
+
+  abbrev IsCause : Refusal → Type 0
+  IsCause r = IsRefusal words A steps r × (why_not_status r ≡ 10)
+
+  why_cases : (r : Refusal) → IsWhyNot words A steps r → r ≢ refusal.Memory → IsCause r ⊎ IsSpent r
+  why_cases (refusal.UnresolvedJump at) h m = inl (h, refl)
+  why_cases (refusal.Recursion at) h m = inl (h, refl)
+  why_cases (refusal.ReEntry v at) h m = inl (h, refl)
+  why_cases (refusal.UntrackedSp at) h m = inl (h, refl)
+  why_cases (refusal.Unsupported at) h m = inl (h, refl)
+  why_cases (refusal.TooDeep at need) h m = inl (h, refl)
+  why_cases (refusal.TooLarge limit) h m = inl (h, refl)
+  why_cases (refusal.UnknownPointer at) h m = inl (h, refl)
+  why_cases (refusal.Spent n) h m = inr (n, refl, h.0, h.1)
+  why_cases refusal.Memory h m = absurd (m refl)
+
+  why_of : (r : Refusal) → IsRefusal words A steps r → r ≢ refusal.Memory → IsWhyNot words A steps r × (why_not_status r ≡ 10)
+  why_of (refusal.UnresolvedJump at) h m = (h, refl)
+  why_of (refusal.Recursion at) h m = (h, refl)
+  why_of (refusal.ReEntry v at) h m = (h, refl)
+  why_of (refusal.UntrackedSp at) h m = (h, refl)
+  why_of (refusal.Unsupported at) h m = (h, refl)
+  why_of (refusal.TooDeep at need) h m = (h, refl)
+  why_of (refusal.TooLarge limit) h m = (h, refl)
+  why_of (refusal.UnknownPointer at) h m = (h, refl)
+  why_of (refusal.Spent n) h m = absurd (never_spent h.refused.test n (sym h.refused.is))
+  why_of refusal.Memory h m = absurd (m refl)
+
+says_status : (n : ℕ) (o : Option (List ℕ)) (status : ℕ) (text : List ℕ) → Refuses n o status text → status ≡ n
+says_status n None status text h = absurd h
+says_status n (Some t) status text h = h.0
+
+two_zero : {X : Type 0} (s : ℕ) → s ≡ 0 → s ≡ 10 → X
+two_zero s e f = absurd (let wrong : ◌≡◌ {A = ℕ} 0 10 = sym e ∙ f in cc)
+
+zero_eleven : {X : Type 0} (s : ℕ) → s ≡ 0 → s ≡ 11 → X
+zero_eleven s e f = absurd (let wrong : ◌≡◌ {A = ℕ} 0 11 = sym e ∙ f in cc)
+
+ten_eleven : {X : Type 0} (s : ℕ) → s ≡ 10 → s ≡ 11 → X
+ten_eleven s e f = absurd (let wrong : ◌≡◌ {A = ℕ} 10 11 = sym e ∙ f in cc)
+
+none_some : {X : Type 0} (o : Option ℕ) (n : ℕ) → o ≡ None → o ≡ Some n → X
+none_some o n e f = absurd (let wrong : ◌≡◌ {A = Option ℕ} None (Some n) = sym e ∙ f in cc)
+
+-- ---- the laws
+
+module _
+    (one : AnswersAreOne)
+    (rounds : RoundsAreLeast)
+    (solutions : SolutionsAreValid)
+    (bounds : SoundCertificatesBoundEveryRun)
+    (runs : ReplaysAreRuns)
+    (words : List ℕ) (A : List Entry) (steps : Option ℕ) where
+  -- what holds of the certificate of an analysis
+  pub record IsBest (c : Claim) : Type 0 where
+    pub fits : IsCertificate c
+    pub valid : IsValid words A c
+    pub least : (other : Claim) → IsClaim other → IsValid words A other → c.bound ≤ other.bound
+    pub reached : is_some c.witness ≡ true → IsReached words A c.bound
+    pub trials : TrialsFind words A c c.witness
+
+  best_of : (h : (c : Claim) × IsAnalysis words A steps c) → IsBest (record h.1.least { witness = h.1.found })
+  best_of h =
+      let a = h.1 in
+      let sound = (solutions.valid words A a.answer.number a.answer.family a.least a.claim a.answer.solved a.answer.solution).sound in
+      let schedule = schedule_found words A a.trials.points a.least.bound a.found a.trials.first in
+      record {
+        fits = record { claim = claim_with a.least a.found a.claim; schedule = schedule };
+        valid = record { sound = sound_with words A a.least a.found sound; attained = a.attained };
+        least = λ other claim valid. solutions.least words A a.answer.number a.answer.family a.least other a.answer.solved a.answer.solution (record { claim = claim; sound = valid.sound });
+        reached = reached runs words A a.least.bound a.found schedule a.attained;
+        trials = record { points = a.trials.points; chain = record { nodes = a.trials.chain.nodes; filled = a.trials.chain.filled; interrupts = a.trials.chain.interrupts }; first = a.trials.first };
+      }
+
+  pub analysis_best : (c : Claim) → IsAnalysis words A steps c → IsBest c
+  analysis_best c h = subst IsBest (sym h.is) (best_of (c, h))
+
+  pub best_bounds : (c : Claim) → AreWords words → IsBest c → Bounded words A c.bound
+  best_bounds c has h = bounds words A c has h.fits.claim h.valid.sound
+
+  module _ (status : ℕ) (text : List ℕ) where
+    told_status : (k : WhyNotReply words A steps status text) → status ≡ why_not_status k.refusal
+    told_status k = says_status (why_not_status k.refusal) (why_not_text words k.refusal) status text k.says
+
+    not_memory : (k : WhyNotReply words A steps status text) → k.refusal ≢ refusal.Memory
+    not_memory k = no_memory words k.refusal status text k.says
+
+    told_cases : (k : WhyNotReply words A steps status text) → IsCause words A steps k.refusal ⊎ IsSpent words A steps k.refusal
+        → ((status ≡ 10) × IsRefusal words A steps k.refusal) ⊎ ((status ≡ 11) × ((n : ℕ) × (steps ≡ Some n) × GoesBeyond words A n))
+    told_cases k (inl h) = inl (told_status k ∙ h.1, h.0)
+    told_cases k (inr h) = inr (told_status k ∙ ap why_not_status h.1, (h.0, h.2, h.3))
+
+    told_by : (k : WhyNotReply words A steps status text) → ((status ≡ 10) × IsRefusal words A steps k.refusal) ⊎ ((status ≡ 11) × ((n : ℕ) × (steps ≡ Some n) × GoesBeyond words A n))
+    told_by k = told_cases k (why_cases words A steps k.refusal k.why (not_memory k))
+
+    -- ---- where there is a certificate
+
+    not_told : {X Y Z : Type 0} → status ≡ 0 → ((status ≡ 10) × Y) ⊎ ((status ≡ 11) × Z) → X
+    not_told e (inl h) = two_zero status e h.0
+    not_told e (inr h) = zero_eleven status e h.0
+
+    solved_if : AnalyseReply words A steps status text → status ≡ 0 → (c : Claim) × IsClaim c × IsAnswer words A steps c
+    solved_if (inl h) e = (h.analysis.least, h.analysis.claim, h.analysis.answer)
+    solved_if (inr k) e = not_told e (told_by k)
+
+    if_solved : AnalyseReply words A steps status text → ((c : Claim) × IsClaim c × IsAnswer words A steps c) → status ≡ 0
+    if_solved (inl h) s = h.says.0
+    if_solved (inr k) s = absurd (not_memory k (one.either words A steps s.0 k.refusal s.2 k.why))
+
+    -- ---- where there is a cause
+
+    cause_told : {Y : Type 0} (k : WhyNotReply words A steps status text) → status ≡ 10 → ((status ≡ 10) × IsRefusal words A steps k.refusal) ⊎ ((status ≡ 11) × Y)
+        → (r : Refusal) × (r ≢ refusal.Memory) × IsRefusal words A steps r
+    cause_told k e (inl h) = (k.refusal, not_memory k, h.1)
+    cause_told k e (inr h) = ten_eleven status e h.0
+
+    refused_if : AnalyseReply words A steps status text → status ≡ 10 → (r : Refusal) × (r ≢ refusal.Memory) × IsRefusal words A steps r
+    refused_if (inl h) e = two_zero status h.says.0 e
+    refused_if (inr k) e = cause_told k e (told_by k)
+
+    if_why : AnalyseReply words A steps status text → (r : Refusal) → r ≢ refusal.Memory → IsWhyNot words A steps r → status ≡ why_not_status r
+    if_why (inl h) r m why = absurd (m (one.either words A steps h.analysis.least r h.analysis.answer why))
+    if_why (inr k) r m why = told_status k ∙ ap why_not_status (one.why_not words A steps k.refusal r k.why why (not_memory k) m)
+
+    if_refused : AnalyseReply words A steps status text → ((r : Refusal) × (r ≢ refusal.Memory) × IsRefusal words A steps r) → status ≡ 10
+    if_refused reply h = let w = why_of words A steps h.0 h.2 h.1 in if_why reply h.0 h.1 w.0 ∙ w.1
+
+    -- ---- where the budget is spent
+
+    spent_told : {Y Z : Type 0} → status ≡ 11 → ((status ≡ 10) × Y) ⊎ ((status ≡ 11) × Z) → Z
+    spent_told e (inl h) = ten_eleven status h.0 e
+    spent_told e (inr h) = h.1
+
+    spent_if : AnalyseReply words A steps status text → status ≡ 11 → (n : ℕ) × (steps ≡ Some n) × GoesBeyond words A n
+    spent_if (inl h) e = zero_eleven status h.says.0 e
+    spent_if (inr k) e = spent_told e (told_by k)
+
+    if_spent : AnalyseReply words A steps status text → ((n : ℕ) × (steps ≡ Some n) × GoesBeyond words A n) → status ≡ 11
+    if_spent reply h = if_why reply (refusal.Spent h.0) (λ e. let wrong = e in cc) (h.1, h.2)
+
+    -- ---- without a budget
+
+    valid_if : AnalyseReply words A steps status text → status ≡ 0 → HasValid words A
+    valid_if (inl h) e = let b = analysis_best h.claim h.analysis in (h.claim, b.fits.claim, b.valid)
+    valid_if (inr k) e = not_told e (told_by k)
+
+    never_told : (k : WhyNotReply words A steps status text) → steps ≡ None → HasValid words A
+        → ((status ≡ 10) × IsRefusal words A steps k.refusal) ⊎ ((status ≡ 11) × ((n : ℕ) × (steps ≡ Some n) × GoesBeyond words A n)) → status ≡ 0
+    never_told k none v (inl h) = absurd (rounds.never words A h.1.number v.0 k.refusal (record { claim = v.1; sound = v.2.sound }) h.1.refused)
+    never_told k none v (inr h) = none_some steps h.1.0 none h.1.1
+
+    if_valid : AnalyseReply words A steps status text → steps ≡ None → HasValid words A → status ≡ 0
+    if_valid (inl h) none v = h.says.0
+    if_valid (inr k) none v = never_told k none v (told_by k)
+
+    pub says_ends : AnalyseReply words A steps status text → SaysHowRoundsEnd words A steps status
+    says_ends reply =
+        record {
+          solved = (solved_if reply, if_solved reply);
+          refused = (refused_if reply, if_refused reply);
+          spent = (spent_if reply, if_spent reply);
+          valid = λ none. (valid_if reply, if_valid reply none);
+        }
+
+  -- status 0 tells no cause
+  pub not_written : (text : List ℕ) → WhyNotReply words A steps 0 text → ⊥
+  not_written text k = not_told 0 text refl (told_by 0 text k)
