@@ -10,21 +10,25 @@ use Rattle.indirect_targets.specs.declared.fault.AssumeText.{AssumeText}
 use Rattle.indirect_targets.specs.Reading.{entries_in}
 use Rattle.witness_replay.specs.Spelling.{Plan}
 use Rattle.witness_replay.specs.Reading.{schedule_in}
-use Rattle.witness_replay.specs.Replay.{Report, replay_of}
+use Rattle.witness_replay.specs.Replay.{Report as Replayed, replay_of}
 use Rattle.certificate.specs.Claims.{Claim}
 use Rattle.cert_format.specs.declared.fault.CertFault.{CertFault}
 use Rattle.cert_format.specs.Reading.{certificate_in}
+use Rattle.round_rules.specs.declared.refusal.Refusal.{Refusal}
+use Rattle.round_rules.specs.declared.refusal.Refusal.TheVariants as refusal
+use Rattle.demo_image.specs.Image.{demo_words}
 use Rattle.cert_check.specs.declared.verdict.Verdict.{Verdict}
 use Rattle.cert_check.specs.declared.verdict.Verdict.TheVariants.{Accepted, Rejected}
-use Rattle.commands.specs.Commands.{Command, Check, Run, Assumptions, name_of}
+use Rattle.commands.specs.Commands.{Command, Check, Analyse, Run, Report, Demo, Firmware, Second, Assumptions, name_of}
 use Rattle.replies.specs.Firmware.{firmware_words, firmware_fault}
-use Rattle.replies.specs.Texts.{usage, read_fault, too_long, assumptions_refused, certificate_refused}
+use Rattle.replies.specs.Texts.{usage, read_fault, too_long, assumptions_refused, certificate_refused, why_not_status, why_not_text}
 use Rattle.replies.specs.Reading as read
 use Rattle.replies.specs.Reading.{Seen, Unread, Whole, Long, AllAgree}
-use Rattle.replies.specs.Reply.{Reply, Refuses, WithFile, WithOptional, ImageBy, ListBy, WithList, attains, AttainedBy, WitnessReply, VerdictReply, CertificateReply, ReportReply, EndsBefore, ScheduleReply, SecondReply, WorkReply, IsReply}
-use Rattle.replies.specs.Headline.{HasWords, AcceptingRepliesHold, RepliesAreExact}
-use Rattle.stack_core.specs.declared.work.Reply.{Reply as Answered}
-use Rattle.stack_core.specs.Reading.{GoTogether, whole_of, seen_whole, IsTooLong}
+use Rattle.replies.specs.Reply.{Reply, Refuses, WithFile, WithBytes, WithOptional, ImageBy, WithImage, ListBy, WithList, attains, AttainedBy, WitnessReply, VerdictReply, CertificateReply, told_of, RunReply, EndsBefore, ScheduleReply, WhyNotReply, AnalyseReply, DemoReply, FlashReply, WorkReply, IsReply}
+use Rattle.replies.specs.Headline.{HasWords, ReadsWords, AcceptingRepliesHold, RepliesAreExact}
+use Rattle.stack_core.specs.declared.reply.Reply.{Reply as Answered}
+use Rattle.stack_core.specs.Reading.{GoTogether, whole_of, GoWith, seen_under, seen_whole, AreBytes, IsTooLong}
+use Rattle.stack_core.proofs.Gathering.{whole_reply}
 use Rattle.stack_core.specs.Answer.{IsAnswered, IsWritten, IsReadFault, IsSettled, IsAnswer, IsCutOff, Cuts}
 
 -- ---- no reply has a status that isn't the reply's
@@ -63,6 +67,12 @@ eight_plain = record { two = λ e. cc; three = λ e. cc; four = λ e. cc; twelve
 nine_plain : IsPlain 9
 nine_plain = record { two = λ e. cc; three = λ e. cc; four = λ e. cc; twelve = λ e. cc }
 
+ten_plain : IsPlain 10
+ten_plain = record { two = λ e. cc; three = λ e. cc; four = λ e. cc; twelve = λ e. cc }
+
+eleven_plain : IsPlain 11
+eleven_plain = record { two = λ e. cc; three = λ e. cc; four = λ e. cc; twelve = λ e. cc }
+
 refuses_apart : (n : ℕ) → IsPlain n → (o : Option (List ℕ)) → IsApart (Refuses n o)
 refuses_apart n p None s t h = absurd h
 refuses_apart n p (Some x) s t h = at n s p h.0
@@ -71,6 +81,10 @@ file_apart : (name : List ℕ) (seen : Seen) (next : List ℕ → Reply) → ((b
 file_apart name Unread next f s t h = absurd h
 file_apart name (Whole bytes) next f s t h = f bytes s t h
 file_apart name Long next f s t h = at 5 s five_plain h.0
+
+bytes_apart : (o : Option (List ℕ)) (seen : Seen) (next : List ℕ → Reply) → ((bytes : List ℕ) → IsApart (next bytes)) → IsApart (WithBytes o seen next)
+bytes_apart None seen next f s t h = f [] s t h
+bytes_apart (Some name) seen next f s t h = file_apart name seen next f s t h
 
 optional_apart : (o : Option (List ℕ)) (seen : Seen) (next : Option (List ℕ) → Reply) → ((list : Option (List ℕ)) → IsApart (next list)) → IsApart (WithOptional o seen next)
 optional_apart None seen next f s t h = f None s t h
@@ -88,25 +102,48 @@ with_list_apart : (list : Option (List ℕ)) (next : List Entry → Reply) → (
 with_list_apart None next f = f []
 with_list_apart (Some bytes) next f = list_apart (entries_in bytes) next f
 
-attained_apart : (bound : ℕ) (attained : Bool) → IsApart (AttainedBy bound attained)
-attained_apart bound true s t h = at 0 s zero_plain h.0
-attained_apart bound false s t h = at 1 s one_plain h.0
+attained_apart : (tells : List ℕ) (attained : Bool) → IsApart (AttainedBy tells attained)
+attained_apart tells true s t h = at 0 s zero_plain h.0
+attained_apart tells false s t h = at 1 s one_plain h.0
 
-witness_apart : (words : List ℕ) (A : List Entry) (bound : ℕ) (w : Option Plan) → IsApart (WitnessReply words A bound w)
-witness_apart words A bound None s t h = at 0 s zero_plain h.0
-witness_apart words A bound (Some plan) s t h = attained_apart bound (attains bound (replay_of words A plan)) s t h
+witness_apart : (words : List ℕ) (A : List Entry) (tells : List ℕ) (bound : ℕ) (w : Option Plan) → IsApart (WitnessReply words A tells bound w)
+witness_apart words A tells bound None s t h = at 0 s zero_plain h.0
+witness_apart words A tells bound (Some plan) s t h = attained_apart tells (attains bound (replay_of words A plan)) s t h
 
-verdict_apart : (words : List ℕ) (A : List Entry) (c : Claim) (v : Verdict) → IsApart (VerdictReply words A c v)
-verdict_apart words A c (Rejected reason) s t h = at 1 s one_plain h.0
-verdict_apart words A c (Accepted bound) s t h = witness_apart words A bound c.witness s t h
+verdict_apart : (words : List ℕ) (A : List Entry) (tells : Claim → List ℕ) (c : Claim) (v : Verdict) → IsApart (VerdictReply words A tells c v)
+verdict_apart words A tells c (Rejected reason) s t h = at 1 s one_plain h.0
+verdict_apart words A tells c (Accepted bound) s t h = witness_apart words A (tells c) bound c.witness s t h
 
-certificate_apart : (words : List ℕ) (A : List Entry) (x : Result Claim CertFault) → IsApart (CertificateReply words A x)
-certificate_apart words A (Err fault) s t h = refuses_apart 8 eight_plain (certificate_refused fault) s t h
-certificate_apart words A (Ok c) s t h = verdict_apart words A c h.verdict s t h.reply
+certificate_apart : (words : List ℕ) (A : List Entry) (tells : Claim → List ℕ) (x : Result Claim CertFault) → IsApart (CertificateReply words A tells x)
+certificate_apart words A tells (Err fault) s t h = refuses_apart 8 eight_plain (certificate_refused fault) s t h
+certificate_apart words A tells (Ok c) s t h = verdict_apart words A tells c h.verdict s t h.reply
 
-report_apart : (x : Result Report ℕ) → IsApart (ReportReply x)
-report_apart (Err step) s t h = at 9 s nine_plain h.0
-report_apart (Ok r) s t h = at 0 s zero_plain h.0
+why_not_plain : (r : Refusal) → IsPlain (why_not_status r)
+why_not_plain (refusal.UnresolvedJump pc) = ten_plain
+why_not_plain (refusal.Recursion pc) = ten_plain
+why_not_plain (refusal.ReEntry v pc) = ten_plain
+why_not_plain (refusal.UntrackedSp pc) = ten_plain
+why_not_plain (refusal.Unsupported pc) = ten_plain
+why_not_plain (refusal.TooDeep pc need) = ten_plain
+why_not_plain (refusal.TooLarge limit) = ten_plain
+why_not_plain (refusal.UnknownPointer pc) = ten_plain
+why_not_plain (refusal.Spent n) = eleven_plain
+why_not_plain refusal.Memory = ten_plain
+
+why_not_apart : (words : List ℕ) (A : List Entry) (steps : Option ℕ) → IsApart (WhyNotReply words A steps)
+why_not_apart words A steps s t h = refuses_apart (why_not_status h.refusal) (why_not_plain h.refusal) (why_not_text words h.refusal) s t h.says
+
+analyse_apart : (words : List ℕ) (A : List Entry) (steps : Option ℕ) → IsApart (AnalyseReply words A steps)
+analyse_apart words A steps s t (inl h) = at 0 s zero_plain h.says.0
+analyse_apart words A steps s t (inr h) = why_not_apart words A steps s t h
+
+demo_apart : (size : ℕ) → IsApart (DemoReply size)
+demo_apart size s t (inl h) = at 0 s zero_plain h.says.0
+demo_apart size s t (inr h) = why_not_apart (demo_words size) [] None s t h
+
+run_apart : (x : Result Replayed ℕ) → IsApart (RunReply x)
+run_apart (Err step) s t h = at 9 s nine_plain h.0
+run_apart (Ok r) s t h = at 0 s zero_plain h.0
 
 ends_apart : (ls : List TextLine) (place : ℕ) (reply : Reply) → IsApart reply → IsApart (EndsBefore ls place reply)
 ends_apart [] place reply f s t h = f s t h
@@ -114,36 +151,36 @@ ends_apart (l ∷ ls) place reply f s t h = at 9 s nine_plain h.0
 
 schedule_apart : (words : List ℕ) (A : List Entry) (x : Result (Plan × Place) ℕ) → IsApart (ScheduleReply words A x)
 schedule_apart words A (Err place) s t h = at 9 s nine_plain h.0
-schedule_apart words A (Ok r) s t h = ends_apart r.1.rest r.1.at (ReportReply (replay_of words A r.0)) (report_apart (replay_of words A r.0)) s t h
+schedule_apart words A (Ok r) s t h = ends_apart r.1.rest r.1.at (RunReply (replay_of words A r.0)) (run_apart (replay_of words A r.0)) s t h
 
-second_apart : (c : Command) (bytes words : List ℕ) (A : List Entry) → IsApart (SecondReply c bytes words A)
-second_apart (Check f k a) bytes words A = certificate_apart words A (certificate_in bytes)
-second_apart (Run f k a) bytes words A = schedule_apart words A (schedule_in _)
+flash_apart : (c : Command) (firmware bytes words : List ℕ) (A : List Entry) → IsApart (FlashReply c firmware bytes words A)
+flash_apart (Check f k a) firmware bytes words A = certificate_apart words A (told_of (Check f k a) firmware) (certificate_in bytes)
+flash_apart (Analyse f a steps) firmware bytes words A = analyse_apart words A steps
+flash_apart (Run f k a) firmware bytes words A = schedule_apart words A (schedule_in _)
+flash_apart (Report f k a json) firmware bytes words A = certificate_apart words A (told_of (Report f k a json) firmware) (certificate_in bytes)
+flash_apart (Demo size) firmware bytes words A = demo_apart size
+
+on_image_apart : (c : Command) (firmware second : List ℕ) (list : Option (List ℕ)) → IsApart (WithImage firmware (λ words. WithList list (λ A. FlashReply c firmware second words A)))
+on_image_apart c firmware second list =
+    image_apart (firmware_fault firmware) (WithList list (λ A. FlashReply c firmware second (firmware_words firmware) A))
+    (with_list_apart list (λ A. FlashReply c firmware second (firmware_words firmware) A) (flash_apart c firmware second (firmware_words firmware)))
 
 work_apart : (c : Command) (firmware second : List ℕ) (list : Option (List ℕ)) → IsApart (WorkReply c firmware second list)
-work_apart c firmware second list =
-    image_apart (firmware_fault firmware) (WithList list (λ A. SecondReply c second (firmware_words firmware) A))
-    (with_list_apart list (λ A. SecondReply c second (firmware_words firmware) A) (second_apart c second (firmware_words firmware)))
+work_apart (Check f k a) firmware second list = on_image_apart (Check f k a) firmware second list
+work_apart (Analyse f a steps) firmware second list = on_image_apart (Analyse f a steps) firmware second list
+work_apart (Run f k a) firmware second list = on_image_apart (Run f k a) firmware second list
+work_apart (Report f k a json) firmware second list = on_image_apart (Report f k a json) firmware second list
+work_apart (Demo size) firmware second list = demo_apart size
 
 reply_apart : (c : Command) (seen : read.Contents) → IsApart (IsReply c seen)
-reply_apart (Check f k a) seen = file_apart f seen.firmware _ (λ fw. file_apart k seen.second _ (λ s. optional_apart a seen.assumptions _ (work_apart (Check f k a) fw s)))
-reply_apart (Run f k a) seen = file_apart f seen.firmware _ (λ fw. file_apart k seen.second _ (λ s. optional_apart a seen.assumptions _ (work_apart (Run f k a) fw s)))
+reply_apart c seen =
+    bytes_apart (name_of c Firmware) seen.firmware _ (λ fw. bytes_apart (name_of c Second) seen.second _ (λ s. optional_apart (name_of c Assumptions) seen.assumptions _ (work_apart c fw s)))
 
 -- ---- files that were read whole
 
-optional_reply : (o list : Option (List ℕ)) (next : Option (List ℕ) → Reply) (status : ℕ) (text : List ℕ) → GoTogether o list → next list status text → WithOptional o (whole_of list) next status text
-optional_reply None None next status text g h = h
-optional_reply None (Some b) next status text g h = absurd g
-optional_reply (Some n) None next status text g h = absurd g
-optional_reply (Some n) (Some b) next status text g h = h
-
-whole_reply : (c : Command) (firmware second : List ℕ) (list : Option (List ℕ)) (status : ℕ) (text : List ℕ) → GoTogether (name_of c Assumptions) list → WorkReply c firmware second list status text
-    → IsReply c (seen_whole firmware second list) status text
-whole_reply (Check f k a) firmware second list status text g h = optional_reply a list (λ l. WorkReply (Check f k a) firmware second l) status text g h
-whole_reply (Run f k a) firmware second list status text g h = optional_reply a list (λ l. WorkReply (Run f k a) firmware second l) status text g h
-
-same_whole : (a b : List ℕ) → Whole a ≡ Whole b → a ≡ b
-same_whole a b e = cc
+seen_is : (o : Option (List ℕ)) (bytes b : List ℕ) → seen_under o bytes ≡ Whole b → bytes ≡ b
+seen_is None bytes b e = absurd (let wrong = e in cc)
+seen_is (Some name) bytes b e = cc
 
 -- ---- answers
 
@@ -160,35 +197,36 @@ settle c holds before after status text quiet h =
     }
 
 module _ (hold : AcceptingRepliesHold) (exact : RepliesAreExact) where
-  pub worked : (c : Command) (holds : List ℕ → Held) (before after : ℕ) (blamed : Blamed) (firmware second : List ℕ) (list : Option (List ℕ)) (status : ℕ) (text : List ℕ)
-      → AllAgree c holds (seen_whole firmware second list) × GoTogether (name_of c Assumptions) list × (after ≡ before)
-      → WorkReply c firmware second list status text → (status ≡ 0 → AreWords (firmware_words firmware))
+  worked : (c : Command) (holds : List ℕ → Held) (before after : ℕ) (blamed : Blamed) (firmware second : List ℕ) (list : Option (List ℕ)) (status : ℕ) (text : List ℕ)
+      → AreBytes c holds firmware second list × (after ≡ before)
+      → WorkReply c firmware second list status text → (status ≡ 0 → HasWords c firmware)
       → IsAnswer (Some c) holds before after blamed status text
   worked c holds before after blamed firmware second list status text read work words =
-      let reply = whole_reply c firmware second list status text read.1 work in
-      let has : status ≡ 0 → HasWords (seen_whole firmware second list) = λ zero fw e. subst (λ b. AreWords (firmware_words b)) (same_whole firmware fw e) (words zero) in
-      inl (settle c holds before after status text read.2
+      let seen = seen_whole c firmware second list in
+      let reply = whole_reply c firmware second list status text read.0.with_firmware read.0.with_second read.0.with_list work in
+      let has : status ≡ 0 → ReadsWords c seen = λ zero fw e. subst (λ b. HasWords c b) (seen_is (name_of c Firmware) firmware fw e) (words zero) in
+      inl (settle c holds before after status text read.1
       (record {
-        seen = seen_whole firmware second list;
-        agrees = read.0;
+        seen = seen;
+        agrees = read.0.agree;
         reply = reply;
-        headline = hold c (seen_whole firmware second list) status text reply has;
-        exact = exact c (seen_whole firmware second list) status text reply;
+        headline = hold c seen status text reply has;
+        exact = exact c seen status text reply;
       }))
 
   pub worked_result : (c : Command) (holds : List ℕ → Held) (before after : ℕ) (blamed : Blamed) {E : Type 0} (firmware second : List ℕ) (list : Option (List ℕ)) (x : Result Answered E)
-      → AllAgree c holds (seen_whole firmware second list) × GoTogether (name_of c Assumptions) list × (after ≡ before)
-      → IfOk x (λ r. WorkReply c firmware second list r.status r.text.items) → IfOk x (λ r. r.status ≡ 0 → AreWords (firmware_words firmware))
+      → AreBytes c holds firmware second list × (after ≡ before)
+      → IfOk x (λ r. WorkReply c firmware second list r.status r.text.items) → IfOk x (λ r. r.status ≡ 0 → HasWords c firmware)
       → MatchResult x (λ r. IsAnswer (Some c) holds before after blamed r.status r.text.items) (λ e. IsCutOff (Some c) holds before after blamed)
   worked_result c holds before after blamed firmware second list (Ok r) read work words = worked c holds before after blamed firmware second list r.status r.text.items read work words
-  worked_result c holds before after blamed firmware second list (Err e) read work words = inl read.2
+  worked_result c holds before after blamed firmware second list (Err e) read work words = inl read.1
 
   pub stopped_long : (c : Command) (holds : List ℕ → Held) (before after : ℕ) (blamed : Blamed) (name : List ℕ) (status : ℕ) (text : List ℕ)
       → IsTooLong c holds name × (after ≡ before) → status ≡ 5 → text ≡ too_long name → IsAnswer (Some c) holds before after blamed status text
   stopped_long c holds before after blamed name status text long five told =
       let l = long.0 in
       let reply : IsReply c l.seen status text = subst (λ s. IsReply c l.seen s text) (sym five) (subst (IsReply c l.seen 5) (sym told) l.reply) in
-      let never : status ≡ 0 → HasWords l.seen = λ zero. absurd (let wrong : ◌≡◌ {A = ℕ} 0 5 = sym zero ∙ five in cc) in
+      let never : status ≡ 0 → ReadsWords c l.seen = λ zero. absurd (let wrong : ◌≡◌ {A = ℕ} 0 5 = sym zero ∙ five in cc) in
       inl (settle c holds before after status text long.1
       (record {
         seen = l.seen;

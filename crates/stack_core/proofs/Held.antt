@@ -1,11 +1,11 @@
--- Checks of bytes that are held.
-use Rattle.std.proofs.Common.{◌≡◌, ◌≤◌, ◌<◌, ℕ, List, length, Option, Some, None, refl, sym, ap, ◌∙◌, subst, arith}
+-- Answers to bytes that are held.
+use Rattle.std.proofs.Common.{◌≡◌, ◌≤◌, ◌<◌, ℕ, List, [], length, Option, Some, None, refl, sym, ap, ◌∙◌, subst, arith}
 use Rattle.sb_base.specs.Outside.{Held, Bytes, Gives, MayExceed}
-use Rattle.commands.specs.Commands.{Check, Firmware, Second, Assumptions}
-use Rattle.replies.specs.Reading.{Seen, Unread, Whole, Long, firmware_cap, certificate_cap, assumption_cap, Agrees, AgreesUnder}
-use Rattle.replies.specs.Reply.{Reply, WithFile, WithOptional, WorkReply}
-use Rattle.replies.specs.Headline.{IsSeen, Holds}
-use Rattle.stack_core.specs.Answer.{IsAnswered, IsDue, AreHeld, WrittenChecksHold, WrittenChecksAreExact}
+use Rattle.commands.specs.Commands.{Command, Analyse, Firmware, Second, Assumptions, name_of}
+use Rattle.replies.specs.Reading.{Seen, Unread, Whole, Long, Contents, firmware_cap, certificate_cap, assumption_cap, second_cap, Agrees, AgreesUnder, AllAgree}
+use Rattle.replies.specs.Reply.{Reply, WithFile, WithBytes, WithOptional, WorkReply, IsReply}
+use Rattle.replies.specs.Headline.{IsSeen, AreRead, Holds, HoldsAsRead, IsLeastCertificate, Headline, AcceptsValid, IsExact}
+use Rattle.stack_core.specs.Answer.{IsAnswered, IsDue, IsWritten, AreHeld, Judges, checks, reports, HeldHeadline, IsHeldExact, HeldLeast, IsHeldEnd, WrittenAnswersHold}
 
 held_is : (h : Held) (cap : ℕ) (s : Seen) (a b : List ℕ) → Agrees h cap s → s ≡ Whole a → h ≡ Bytes b → a ≡ b
 held_is h cap s a b agrees e is = let g : Agrees h cap (Whole a) = subst (Agrees h cap) e agrees in subst (λ x. Gives x a) is g.0
@@ -34,25 +34,90 @@ optional_held holds (Some n) s None next status text reply agrees held = absurd 
 optional_held holds (Some n) s (Some b) next status text reply agrees held =
     (file_held n s (holds n) assumption_cap b (λ x. next (Some x)) status text reply agrees held.0 held.1).0
 
-pub written_checks_hold : WrittenChecksHold
-written_checks_hold o holds status before after w firmware certificate list check zero =
-    let d : IsAnswered (Check check.firmware_name check.certificate_name check.assume) holds status w.text = subst (λ x. IsDue x holds status w.text) check.named w.due in
-    let h = d.headline zero in
-    let f : h.firmware ≡ firmware = held_is (holds check.firmware_name) firmware_cap d.seen.firmware h.firmware firmware (d.agrees Firmware) h.read.firmware_read check.firmware_held in
-    let k : h.certificate ≡ certificate = held_is (holds check.certificate_name) certificate_cap d.seen.second h.certificate certificate (d.agrees Second) h.read.second_read check.certificate_held in
-    let l : h.list ≡ list = held_list holds check.assume d.seen.assumptions h.list list (d.agrees Assumptions) h.read.list_read check.list_held in (
+-- the answer to this command, of which one was due
+due_to : (o : Option Command) (c : Command) (holds : List ℕ → Held) (status : ℕ) (text : List ℕ) → o ≡ Some c → IsDue o holds status text → IsAnswered c holds status text
+due_to o c holds status text e h = subst (λ x. IsDue x holds status text) e h
+
+-- ---- commands that judge
+
+judged_headline : (judge : Command) (fw cert : List ℕ) (assume : Option (List ℕ)) (seen : Contents) (status : ℕ) (text : List ℕ) → Judges judge fw cert assume → Headline judge seen status text → status ≡ 0
+    → HoldsAsRead judge assume seen text
+judged_headline _ _ _ _ seen status text (checks fw cert assume) h zero = h zero
+judged_headline _ _ _ _ seen status text (reports fw cert assume json) h zero = h zero
+
+judged_exact : (judge : Command) (fw cert : List ℕ) (assume : Option (List ℕ)) (seen : Contents) (status : ℕ) → Judges judge fw cert assume → IsExact judge seen status → AcceptsValid assume seen status
+judged_exact _ _ _ _ seen status (checks fw cert assume) h = h
+judged_exact _ _ _ _ seen status (reports fw cert assume json) h = h
+
+judged_names : (judge : Command) (fw cert : List ℕ) (assume : Option (List ℕ)) → Judges judge fw cert assume
+    → (name_of judge Firmware ≡ Some fw) × (name_of judge Second ≡ Some cert) × (name_of judge Assumptions ≡ assume) × (second_cap judge ≡ certificate_cap)
+judged_names _ _ _ _ (checks fw cert assume) = (refl, refl, refl, refl)
+judged_names _ _ _ _ (reports fw cert assume json) = (refl, refl, refl, refl)
+
+agrees_as : (holds : List ℕ → Held) (cap cap' : ℕ) (o : Option (List ℕ)) (name : List ℕ) (s : Seen) → o ≡ Some name → cap ≡ cap' → AgreesUnder holds cap o s → Agrees (holds name) cap' s
+agrees_as holds cap cap' o name s e caps h = subst (λ x. Agrees (holds name) x s) caps (subst (λ x. AgreesUnder holds cap x s) e h)
+
+written_headline : (o : Option Command) (holds : List ℕ → Held) (status : ℕ) (before after : Option (List ℕ)) → IsWritten o holds status before after → HeldHeadline o holds status before after
+written_headline o holds status before after w judge firmware certificate list j zero =
+    let d = due_to o judge holds status w.text j.named w.due in
+    let names = judged_names judge j.firmware_name j.certificate_name j.assume j.judges in
+    let h = judged_headline judge j.firmware_name j.certificate_name j.assume d.seen status w.text j.judges d.headline zero in
+    let f : h.firmware ≡ firmware =
+        held_is (holds j.firmware_name) firmware_cap d.seen.firmware h.firmware firmware (agrees_as holds firmware_cap firmware_cap (name_of judge Firmware) j.firmware_name d.seen.firmware names.0 refl (d.agrees Firmware))
+        h.read.loaded.firmware_read j.firmware_held in
+    let k : h.certificate ≡ certificate =
+        held_is (holds j.certificate_name) certificate_cap d.seen.second h.certificate certificate
+        (agrees_as holds (second_cap judge) certificate_cap (name_of judge Second) j.certificate_name d.seen.second names.1 names.3 (d.agrees Second)) h.read.second_read j.certificate_held in
+    let l : h.list ≡ list =
+        held_list holds j.assume d.seen.assumptions h.list list (subst (λ x. AgreesUnder holds assumption_cap x d.seen.assumptions) names.2 (d.agrees Assumptions)) h.read.loaded.list_read j.list_held in (
       w.text,
-      subst (λ x. Holds firmware certificate x w.text) l (subst (λ x. Holds firmware x h.list w.text) k (subst (λ x. Holds x h.certificate h.list w.text) f h.holds)),
+      subst (λ x. Holds judge firmware certificate x w.text) l (subst (λ x. Holds judge firmware x h.list w.text) k (subst (λ x. Holds judge x h.certificate h.list w.text) f h.holds)),
       w.grew,
     )
 
-pub written_checks_are_exact : WrittenChecksAreExact
-written_checks_are_exact o holds status before after w firmware certificate list words claim A check stand =
-    let c = Check check.firmware_name check.certificate_name check.assume in
-    let d : IsAnswered (Check check.firmware_name check.certificate_name check.assume) holds status w.text = subst (λ x. IsDue x holds status w.text) check.named w.due in
-    let first = file_held check.firmware_name d.seen.firmware (holds check.firmware_name) firmware_cap firmware
-    (λ fw. WithFile check.certificate_name d.seen.second (λ s. WithOptional check.assume d.seen.assumptions (WorkReply c fw s))) status w.text d.reply (d.agrees Firmware) check.firmware_held check.firmware_fits in
-    let second = file_held check.certificate_name d.seen.second (holds check.certificate_name) certificate_cap certificate
-    (λ s. WithOptional check.assume d.seen.assumptions (WorkReply c firmware s)) status w.text first.1 (d.agrees Second) check.certificate_held check.certificate_fits in
-    let third = optional_held holds check.assume d.seen.assumptions list (WorkReply c firmware certificate) status w.text second.1 (d.agrees Assumptions) check.list_held in
-    d.exact firmware certificate list words claim A (record { firmware_read = first.0; second_read = second.0; list_read = third }) stand
+-- bytes that are held were read, where the reply to what was read isn't that a file is too long
+are_read : (c : Command) (holds : List ℕ → Held) (seen : Contents) (fw cert : List ℕ) (assume : Option (List ℕ)) (firmware certificate : List ℕ) (list : Option (List ℕ)) (status : ℕ) (text : List ℕ)
+    → name_of c Firmware ≡ Some fw → name_of c Second ≡ Some cert → name_of c Assumptions ≡ assume → second_cap c ≡ certificate_cap → AllAgree c holds seen → IsReply c seen status text
+    → holds fw ≡ Bytes firmware → length firmware ≤ firmware_cap → holds cert ≡ Bytes certificate → length certificate ≤ certificate_cap → AreHeld holds assume list → AreRead assume seen firmware certificate list
+are_read c holds seen fw cert assume firmware certificate list status text names second third caps agree reply fh ff ch cf lh =
+    let work : List ℕ → List ℕ → Option (List ℕ) → Reply = λ f s l. WorkReply c f s l in
+    let whole : WithFile fw seen.firmware (λ f. WithFile cert seen.second (λ s. WithOptional assume seen.assumptions (λ l. work f s l))) status text =
+        subst (λ a. WithFile fw seen.firmware (λ f. WithFile cert seen.second (λ s. WithOptional a seen.assumptions (λ l. work f s l))) status text) third
+        (subst (λ k. WithFile fw seen.firmware (λ f. WithBytes k seen.second (λ s. WithOptional (name_of c Assumptions) seen.assumptions (λ l. work f s l))) status text) second
+        (subst (λ n. WithBytes n seen.firmware (λ f. WithBytes (name_of c Second) seen.second (λ s. WithOptional (name_of c Assumptions) seen.assumptions (λ l. work f s l))) status text) names reply)) in
+    let first = file_held fw seen.firmware (holds fw) firmware_cap firmware (λ f. WithFile cert seen.second (λ s. WithOptional assume seen.assumptions (λ l. work f s l))) status text whole
+        (agrees_as holds firmware_cap firmware_cap (name_of c Firmware) fw seen.firmware names refl (agree Firmware)) fh ff in
+    let next = file_held cert seen.second (holds cert) certificate_cap certificate (λ s. WithOptional assume seen.assumptions (λ l. work firmware s l)) status text first.1
+        (agrees_as holds (second_cap c) certificate_cap (name_of c Second) cert seen.second second caps (agree Second)) ch cf in
+    let last = optional_held holds assume seen.assumptions list (λ l. work firmware certificate l) status text next.1 (subst (λ x. AgreesUnder holds assumption_cap x seen.assumptions) third (agree Assumptions)) lh in
+    record { loaded = record { firmware_read = first.0; list_read = last }; second_read = next.0 }
+
+written_exact : (o : Option Command) (holds : List ℕ → Held) (status : ℕ) (before after : Option (List ℕ)) → IsWritten o holds status before after → IsHeldExact o holds status
+written_exact o holds status before after w judge firmware certificate list words claim A j stand =
+    let d = due_to o judge holds status w.text j.named w.due in
+    let names = judged_names judge j.firmware_name j.certificate_name j.assume j.judges in
+    judged_exact judge j.firmware_name j.certificate_name j.assume d.seen status j.judges d.exact firmware certificate list words claim A
+    (are_read judge holds d.seen j.firmware_name j.certificate_name j.assume firmware certificate list status w.text names.0 names.1 names.2 names.3 d.agrees d.reply j.firmware_held j.firmware_fits j.certificate_held
+    j.certificate_fits j.list_held) stand
+
+-- ---- analyses
+
+written_least : (o : Option Command) (holds : List ℕ → Held) (status : ℕ) (before after : Option (List ℕ)) → IsWritten o holds status before after → HeldLeast o holds status before after
+written_least o holds status before after w steps firmware list a zero =
+    let d = due_to o (Analyse a.firmware_name a.assume steps) holds status w.text a.named w.due in
+    let h = d.headline zero in
+    let f : h.firmware ≡ firmware = held_is (holds a.firmware_name) firmware_cap d.seen.firmware h.firmware firmware (d.agrees Firmware) h.read.firmware_read a.firmware_held in
+    let l : h.list ≡ list = held_list holds a.assume d.seen.assumptions h.list list (d.agrees Assumptions) h.read.list_read a.list_held in
+    (w.text, subst (λ x. IsLeastCertificate firmware x w.text) l (subst (λ x. IsLeastCertificate x h.list w.text) f h.certificate), w.grew)
+
+written_end : (o : Option Command) (holds : List ℕ → Held) (status : ℕ) (before after : Option (List ℕ)) → IsWritten o holds status before after → IsHeldEnd o holds status
+written_end o holds status before after w steps firmware list words A a mean =
+    let c = Analyse a.firmware_name a.assume steps in
+    let d = due_to o (Analyse a.firmware_name a.assume steps) holds status w.text a.named w.due in
+    let first = file_held a.firmware_name d.seen.firmware (holds a.firmware_name) firmware_cap firmware (λ f. WithOptional a.assume d.seen.assumptions (λ l. WorkReply c f [] l)) status w.text d.reply
+        (d.agrees Firmware) a.firmware_held a.firmware_fits in
+    let last = optional_held holds a.assume d.seen.assumptions list (λ l. WorkReply c firmware [] l) status w.text first.1 (d.agrees Assumptions) a.list_held in
+    d.exact firmware list words A (record { firmware_read = first.0; list_read = last }) mean
+
+pub written_hold : WrittenAnswersHold
+written_hold = record { headline = written_headline; exact = written_exact; least = written_least; ends = written_end }

@@ -1,35 +1,45 @@
 -- Replies by what is known of their parts.
-use Rattle.std.proofs.Common.{◌≡◌, ◌≢◌, ℕ, Bool, true, false, List, Option, Some, None, Result, Ok, Err, refl, sym, subst}
+use Rattle.std.proofs.Common.{◌≡◌, ◌≢◌, inl, inr, ℕ, Bool, true, false, List, [], Option, Some, None, Result, Ok, Err, refl, sym, ap, ◌∙◌, subst}
 use Rattle.std.specs.Option.{option_copied, is_some}
+use Rattle.std.specs.Prelude.{IfOk}
 use denote.Ref.{Bor}
 use Rattle.avr_model.specs.declared.assumption.Entry.{Entry}
 use Rattle.indirect_targets.specs.declared.fault.AssumeText.{AssumeText}
 use Rattle.indirect_targets.specs.declared.fault.AssumeText.TheVariants as assume
 use Rattle.indirect_targets.specs.Reading.{entries_in}
 use Rattle.witness_replay.specs.Spelling.{Plan}
-use Rattle.witness_replay.specs.Replay.{Report, replay_of}
-use Rattle.certificate.specs.Claims.{Claim}
+use Rattle.witness_replay.specs.Replay.{Report as Replayed, replay_of}
+use Rattle.flash_image.specs.Naming.{Named, SayTheSame}
+use Rattle.elf_load.specs.Elf.{is_elf}
+use Rattle.elf_load.specs.declared.Loaded.{Loaded}
+use Rattle.certificate.specs.Claims.{Claim, IsClaim}
+use Rattle.round_rules.specs.declared.refusal.Refusal.{Refusal}
+use Rattle.round_rules.specs.Solutions.{IsAnswer, IsWhyNot}
+use Rattle.reports.specs.Laws.{NamesThatSayTheSame}
+use Rattle.demo_image.specs.Image.{demo_words}
+use Rattle.commands.specs.Commands.{Command, Check, Analyse, Run, Report, Demo}
 use Rattle.certificate.specs.Valid.{IsAttained}
 use Rattle.cert_format.specs.declared.fault.CertFault.{CertFault}
 use Rattle.cert_format.specs.declared.fault.CertFault.TheVariants as fault
 use Rattle.cert_format.specs.Reading.{certificate_in}
 use Rattle.cert_check.specs.Verdict.{IsVerdict}
-use Rattle.cert_check.specs.declared.verdict.Verdict.TheVariants.{Accepted}
-use Rattle.replies.specs.Firmware.{firmware_fault, firmware_words}
-use Rattle.replies.specs.Texts.{accepted, witness_rejected, schedule_illegal, run_text, assumptions_refused, certificate_refused}
-use Rattle.replies.specs.Reply.{Reply, Refuses, ImageBy, WithImage, ListBy, WithList, attains, AttainedBy, WitnessReply, JudgedReply, CertificateReply, ReportReply}
+use Rattle.cert_check.specs.declared.verdict.Verdict.{Verdict}
+use Rattle.cert_check.specs.declared.verdict.Verdict.TheVariants.{Accepted, Rejected}
+use Rattle.replies.specs.Firmware.{firmware_fault, firmware_words, firmware_names, firmware_end}
+use Rattle.replies.specs.Texts.{why_not_status, why_not_text, demo_text, witness_rejected, schedule_illegal, run_text, assumptions_refused, certificate_refused}
+use Rattle.replies.specs.Reply.{Reply, Refuses, ImageBy, WithImage, ListBy, WithList, attains, AttainedBy, WitnessReply, VerdictReply, JudgedReply, CertificateReply, report_by, told_of, AnalyseReply, DemoReply, FlashReply, RunReply}
 use Rattle.replies.proofs.Accepting.{attained_by, attains_by}
-use Rattle.stack_core.specs.Working.{ReadsAs, ListsAs}
-use Rattle.stack_core.specs.declared.work.Reply.{Reply as Answered}
-use Rattle.stack_core.specs.declared.work.Listing.TheVariants.{Listed, Unlisted}
+use Rattle.stack_core.specs.Working.{GivesAs, ReadsAs, ListsAs, IsWitnessedText, LoadedReply, ImageReply}
+use Rattle.stack_core.specs.declared.reply.Reply.{Reply as Answered}
+use Rattle.stack_core.specs.declared.loading.Listing.TheVariants.{Listed, Unlisted}
 
 -- ---- run
 
-pub replayed_ok : (x : Result Report ℕ) (r : Report) (text : List ℕ) → Ok r ≡ x → text ≡ run_text r → ReportReply x 0 text
-replayed_ok x r text e t = subst (λ y. ReportReply y 0 text) e (refl, t)
+pub replayed_ok : (x : Result Replayed ℕ) (r : Replayed) (text : List ℕ) → Ok r ≡ x → text ≡ run_text r → RunReply x 0 text
+replayed_ok x r text e t = subst (λ y. RunReply y 0 text) e (refl, t)
 
-pub replayed_err : (x : Result Report ℕ) (step : ℕ) (text : List ℕ) → Err step ≡ x → text ≡ schedule_illegal step → ReportReply x 9 text
-replayed_err x step text e t = subst (λ y. ReportReply y 9 text) e (refl, t)
+pub replayed_err : (x : Result Replayed ℕ) (step : ℕ) (text : List ℕ) → Err step ≡ x → text ≡ schedule_illegal step → RunReply x 9 text
+replayed_err x step text e t = subst (λ y. RunReply y 9 text) e (refl, t)
 
 -- ---- a certificate's schedule
 
@@ -37,43 +47,88 @@ not_true : (b : Bool) → (b ≡ true → ⊥) → b ≡ false
 not_true true h = absurd (h refl)
 not_true false h = refl
 
-by_attains : (bound : ℕ) (attained : Bool) (text : List ℕ) → attained ≡ true → text ≡ accepted bound true → AttainedBy bound attained 0 text
-by_attains bound attained text e t = subst (λ b. AttainedBy bound b 0 text) (sym e) (refl, t)
+by_attains : (tells : List ℕ) (attained : Bool) (text : List ℕ) → attained ≡ true → text ≡ tells → AttainedBy tells attained 0 text
+by_attains tells attained text e t = subst (λ b. AttainedBy tells b 0 text) (sym e) (refl, t)
 
-by_missing : (bound : ℕ) (attained : Bool) (text : List ℕ) → attained ≡ false → text ≡ witness_rejected → AttainedBy bound attained 1 text
-by_missing bound attained text e t = subst (λ b. AttainedBy bound b 1 text) (sym e) (refl, t)
+by_missing : (tells : List ℕ) (attained : Bool) (text : List ℕ) → attained ≡ false → text ≡ witness_rejected → AttainedBy tells attained 1 text
+by_missing tells attained text e t = subst (λ b. AttainedBy tells b 1 text) (sym e) (refl, t)
 
-pub attained_reply : (words : List ℕ) (A : List Entry) (bound : ℕ) (o : Option (Bor Plan)) (witness : Option Plan) (text : List ℕ) → IsAttained words A bound witness → option_copied o ≡ witness
-    → text ≡ accepted bound (is_some o) → WitnessReply words A bound witness 0 text
-attained_reply words A bound None witness text a w t = subst (λ x. WitnessReply words A bound x 0 text) w (refl, t)
-attained_reply words A bound (Some s) witness text a w t =
-    let met = attains_by bound (replay_of words A s.now) (subst (IsAttained words A bound) (sym w) a) in
-    subst (λ x. WitnessReply words A bound x 0 text) w (by_attains bound (attains bound (replay_of words A s.now)) text met t)
+pub attained_reply : (words : List ℕ) (A : List Entry) (tells : List ℕ) (bound : ℕ) (witness : Option Plan) (text : List ℕ) → IsAttained words A bound witness → text ≡ tells
+    → WitnessReply words A tells bound witness 0 text
+attained_reply words A tells bound None text a t = (refl, t)
+attained_reply words A tells bound (Some plan) text a t = by_attains tells (attains bound (replay_of words A plan)) text (attains_by bound (replay_of words A plan) a) t
 
-pub missed_reply : (words : List ℕ) (A : List Entry) (bound : ℕ) (witness : Option Plan) (text : List ℕ) → (IsAttained words A bound witness → ⊥) → text ≡ witness_rejected → WitnessReply words A bound witness 1 text
-missed_reply words A bound None text a t = absurd (a tt)
-missed_reply words A bound (Some plan) text a t =
-    by_missing bound (attains bound (replay_of words A plan)) text (not_true (attains bound (replay_of words A plan)) (λ h. a (attained_by bound (replay_of words A plan) h))) t
+pub missed_reply : (words : List ℕ) (A : List Entry) (tells : List ℕ) (bound : ℕ) (witness : Option Plan) (text : List ℕ) → (IsAttained words A bound witness → ⊥) → text ≡ witness_rejected
+    → WitnessReply words A tells bound witness 1 text
+missed_reply words A tells bound None text a t = absurd (a tt)
+missed_reply words A tells bound (Some plan) text a t =
+    by_missing tells (attains bound (replay_of words A plan)) text (not_true (attains bound (replay_of words A plan)) (λ h. a (attained_by bound (replay_of words A plan) h))) t
+
+pub copied_is_some : (o : Option (Bor Plan)) (w : Option Plan) → option_copied o ≡ w → is_some o ≡ is_some w
+copied_is_some None None e = refl
+copied_is_some None (Some p) e = absurd (let wrong = e in cc)
+copied_is_some (Some s) None e = absurd (let wrong = e in cc)
+copied_is_some (Some s) (Some p) e = refl
 
 -- ---- a verdict
 
-pub accepted_judged : (words : List ℕ) (A : List Entry) (c : Claim) (bound status : ℕ) (text : List ℕ) → IsVerdict words A c (Accepted bound) → WitnessReply words A c.bound c.witness status text → JudgedReply words A c status text
-accepted_judged words A c bound status text is h =
-    record { verdict = Accepted bound; is = is; reply = subst (λ b. WitnessReply words A b c.witness status text) (sym is.1) h }
+pub accepted_judged : (words : List ℕ) (A : List Entry) (tells : Claim → List ℕ) (c : Claim) (bound status : ℕ) (text : List ℕ) → IsVerdict words A c (Accepted bound)
+    → WitnessReply words A (tells c) c.bound c.witness status text → JudgedReply words A tells c status text
+accepted_judged words A tells c bound status text is h =
+    record { verdict = Accepted bound; is = is; reply = subst (λ b. WitnessReply words A (tells c) b c.witness status text) (sym is.1) h }
 
 -- ---- a certificate's text
 
-pub read_reply : (words : List ℕ) (A : List Entry) (bytes : List ℕ) (c : Claim) (status : ℕ) (text : List ℕ) → certificate_in bytes ≡ Ok c → JudgedReply words A c status text → CertificateReply words A (certificate_in bytes) status text
-read_reply words A bytes c status text e h = subst (λ x. CertificateReply words A x status text) (sym e) h
+pub read_reply : (words : List ℕ) (A : List Entry) (tells : Claim → List ℕ) (bytes : List ℕ) (c : Claim) (status : ℕ) (text : List ℕ) → certificate_in bytes ≡ Ok c → JudgedReply words A tells c status text
+    → CertificateReply words A tells (certificate_in bytes) status text
+read_reply words A tells bytes c status text e h = subst (λ x. CertificateReply words A tells x status text) (sym e) h
 
-refused_as : (words : List ℕ) (A : List Entry) (x : Result Claim CertFault) (f : CertFault) (text : List ℕ) → x ≡ Err f → certificate_refused f ≡ Some text → CertificateReply words A x 8 text
-refused_as words A x f text e t = subst (λ y. CertificateReply words A y 8 text) (sym e) (subst (λ o. Refuses 8 o 8 text) (sym t) (refl, refl))
+refused_as : (words : List ℕ) (A : List Entry) (tells : Claim → List ℕ) (x : Result Claim CertFault) (f : CertFault) (text : List ℕ) → x ≡ Err f → certificate_refused f ≡ Some text
+    → CertificateReply words A tells x 8 text
+refused_as words A tells x f text e t = subst (λ y. CertificateReply words A tells y 8 text) (sym e) (subst (λ o. Refuses 8 o 8 text) (sym t) (refl, refl))
 
-pub unread_reply : (words : List ℕ) (A : List Entry) (x : Result Claim CertFault) (f : CertFault) (text : List ℕ) → (f ≢ fault.Memory → x ≡ Err f) → certificate_refused f ≡ Some text → CertificateReply words A x 8 text
-unread_reply words A x (fault.Malformed at) text e t = refused_as words A x (fault.Malformed at) text (e (λ w. cc)) t
-unread_reply words A x (fault.Order at) text e t = refused_as words A x (fault.Order at) text (e (λ w. cc)) t
-unread_reply words A x (fault.Limit l) text e t = refused_as words A x (fault.Limit l) text (e (λ w. cc)) t
-unread_reply words A x fault.Memory text e t = absurd (let wrong = t in cc)
+pub unread_reply : (words : List ℕ) (A : List Entry) (tells : Claim → List ℕ) (x : Result Claim CertFault) (f : CertFault) (text : List ℕ) → (f ≢ fault.Memory → x ≡ Err f) → certificate_refused f ≡ Some text
+    → CertificateReply words A tells x 8 text
+unread_reply words A tells x (fault.Malformed at) text e t = refused_as words A tells x (fault.Malformed at) text (e (λ w. cc)) t
+unread_reply words A tells x (fault.Order at) text e t = refused_as words A tells x (fault.Order at) text (e (λ w. cc)) t
+unread_reply words A tells x (fault.Limit l) text e t = refused_as words A tells x (fault.Limit l) text (e (λ w. cc)) t
+unread_reply words A tells x fault.Memory text e t = absurd (let wrong = t in cc)
+
+-- ---- an analysis
+
+pub refused_by : (n : ℕ) (o : Option (List ℕ)) (status : ℕ) (text : List ℕ) → status ≡ n → o ≡ Some text → Refuses n o status text
+refused_by n o status text s t = subst (λ x. Refuses n x status text) (sym t) (s, refl)
+
+pub solved_reply : (words : List ℕ) (A : List Entry) (steps : Option ℕ) (least : Claim) (text : List ℕ) → IsAnswer words A steps least → IsClaim least → IsWitnessedText words A least text → AnalyseReply words A steps 0 text
+solved_reply words A steps least text answer claim h =
+    let w = h.witnessed in
+    inl (record {
+      claim = h.claim;
+      analysis = record { least = least; claim = claim; answer = answer; found = w.found; trials = w.trials; attained = w.attained; is = w.is };
+      says = (refl, h.is);
+    })
+
+pub why_not_reply : (words : List ℕ) (A : List Entry) (steps : Option ℕ) (r : Refusal) (status : ℕ) (text : List ℕ) → IsWhyNot words A steps r → Refuses (why_not_status r) (why_not_text words r) status text
+    → AnalyseReply words A steps status text
+why_not_reply words A steps r status text why says = inr (record { refusal = r; why = why; says = says })
+
+pub measured_reply : (size : ℕ) (words : List ℕ) (A : List Entry) (c : Claim) (text : List ℕ) → words ≡ demo_words size → A ≡ [] → IsAnswer words A None c → IsClaim c → text ≡ demo_text size c → DemoReply size 0 text
+measured_reply size words A c text w a answer claim t =
+    inl (record { claim = c; fits = claim; answer = subst (λ x. IsAnswer x [] None c) w (subst (λ x. IsAnswer words x None c) a answer); says = (refl, t) })
+
+pub unmeasured_reply : (size : ℕ) (words : List ℕ) (A : List Entry) (r : Refusal) (status : ℕ) (text : List ℕ) → words ≡ demo_words size → A ≡ [] → IsWhyNot words A None r
+    → Refuses (why_not_status r) (why_not_text words r) status text → DemoReply size status text
+unmeasured_reply size words A r status text w a why says =
+    inr (record {
+      refusal = r;
+      why = subst (λ x. IsWhyNot x [] None r) w (subst (λ x. IsWhyNot words x None r) a why);
+      says = subst (λ x. Refuses (why_not_status r) (why_not_text x r) status text) w says;
+    })
+
+pub measured_result : {E : Type 0} (size : ℕ) (words : List ℕ) (A : List Entry) (c : Claim) (x : Result Answered E) → words ≡ demo_words size → A ≡ [] → IsAnswer words A None c
+    → IfOk x (λ r. (r.status ≡ 0) × (r.text.items ≡ demo_text size c)) → IfOk x (λ r. IsClaim c) → IfOk x (λ r. DemoReply size r.status r.text.items)
+measured_result size words A c (Err e) w a answer h claim = tt
+measured_result size words A c (Ok r) w a answer h claim = subst (λ s. DemoReply size s r.text.items) (sym h.0) (measured_reply size words A c r.text.items w a answer claim h.1)
 
 -- ---- an assumption file
 
@@ -96,10 +151,46 @@ unlisted_reply (Some bytes) r next h =
 by_fault : (o : Option (List ℕ)) (reply : Reply) (status : ℕ) (text : List ℕ) → o ≡ None → reply status text → ImageBy o reply status text
 by_fault o reply status text e m = subst (λ x. ImageBy x reply status text) (sym e) m
 
-pub loaded_reply : (bytes words : List ℕ) (next : List ℕ → Reply) (status : ℕ) (text : List ℕ) → (firmware_fault bytes ≡ None) × (words ≡ firmware_words bytes) → next words status text
-    → WithImage bytes next status text
-loaded_reply bytes words next status text h m =
-    by_fault (firmware_fault bytes) (next (firmware_words bytes)) status text h.0 (subst (λ ws. next ws status text) h.1 m)
-
 pub refused_reply : (bytes : List ℕ) (r : Answered) (next : List ℕ → Reply) → (r.status ≡ 6) × (firmware_fault bytes ≡ Some r.text.items) → WithImage bytes next r.status r.text.items
 refused_reply bytes r next h = subst (λ o. ImageBy o (next (firmware_words bytes)) r.status r.text.items) (sym h.1) (h.0, refl)
+
+-- what is told of each certificate alike is answered alike
+verdict_alike : (words : List ℕ) (A : List Entry) (tells others : Claim → List ℕ) (c : Claim) (v : Verdict) (status : ℕ) (text : List ℕ) → ((d : Claim) → tells d ≡ others d)
+    → VerdictReply words A tells c v status text → VerdictReply words A others c v status text
+verdict_alike words A tells others c (Rejected reason) status text same h = h
+verdict_alike words A tells others c (Accepted bound) status text same h = subst (λ x. WitnessReply words A x bound c.witness status text) (same c) h
+
+told_alike : (words : List ℕ) (A : List Entry) (tells others : Claim → List ℕ) (x : Result Claim CertFault) (status : ℕ) (text : List ℕ) → ((c : Claim) → tells c ≡ others c)
+    → CertificateReply words A tells x status text → CertificateReply words A others x status text
+told_alike words A tells others (Err f) status text same h = h
+told_alike words A tells others (Ok c) status text same h = record { verdict = h.verdict; is = h.is; reply = verdict_alike words A tells others c h.verdict status text same h.reply }
+
+report_alike : (laws : NamesThatSayTheSame) (json : Bool) (names others : List Named) (end end' : Option ℕ) → SayTheSame names others → end ≡ end' → (c : Claim) → report_by json names end c ≡ report_by json others end' c
+report_alike laws true names others end end' same e c = (laws c names others end same).1 ∙ ap (λ x. report_by true others x c) e
+report_alike laws false names others end end' same e c = (laws c names others end same).0 ∙ ap (λ x. report_by false others x c) e
+
+flash_alike : (laws : NamesThatSayTheSame) (command : Command) (firmware bytes : List ℕ) (loaded : Loaded) (A : List Entry) (status : ℕ) (text : List ℕ) → SayTheSame loaded.names (firmware_names firmware)
+    → loaded.static_end ≡ firmware_end firmware → LoadedReply command loaded bytes A status text → FlashReply command firmware bytes loaded.flash A status text
+flash_alike laws (Check name cert assume) firmware bytes loaded A status text names end h = h
+flash_alike laws (Analyse name assume steps) firmware bytes loaded A status text names end h = h
+flash_alike laws (Run name schedule assume) firmware bytes loaded A status text names end h = h
+flash_alike laws (Report name cert assume json) firmware bytes loaded A status text names end h =
+    told_alike loaded.flash A (report_by json loaded.names loaded.static_end) (told_of (Report name cert assume json) firmware) (certificate_in bytes) status text
+    (report_alike laws json loaded.names (firmware_names firmware) loaded.static_end (firmware_end firmware) names end) h
+flash_alike laws (Demo size) firmware bytes loaded A status text names end h = h
+
+list_alike : (x : Result (List Entry) AssumeText) (next other : List Entry → Reply) (status : ℕ) (text : List ℕ) → ((A : List Entry) → next A status text → other A status text) → ListBy x next status text → ListBy x other status text
+list_alike (Ok A) next other status text f h = f A h
+list_alike (Err fault) next other status text f h = h
+
+next_alike : (list : Option (List ℕ)) (next other : List Entry → Reply) (status : ℕ) (text : List ℕ) → ((A : List Entry) → next A status text → other A status text) → WithList list next status text → WithList list other status text
+next_alike None next other status text f h = f [] h
+next_alike (Some bytes) next other status text f h = list_alike (entries_in bytes) next other status text f h
+
+pub loaded_reply : (laws : NamesThatSayTheSame) (command : Command) (firmware second : List ℕ) (list : Option (List ℕ)) (loaded : Loaded) (status : ℕ) (text : List ℕ) → GivesAs (is_elf firmware) firmware loaded
+    → WithList list (λ A. LoadedReply command loaded second A) status text → ImageReply command firmware second list status text
+loaded_reply laws command firmware second list loaded status text g h =
+    let there : WithList list (λ A. FlashReply command firmware second loaded.flash A) status text =
+        next_alike list (λ A. LoadedReply command loaded second A) (λ A. FlashReply command firmware second loaded.flash A) status text (λ A k. flash_alike laws command firmware second loaded A status text g.names g.static_end k) h in
+    by_fault (firmware_fault firmware) (WithList list (λ A. FlashReply command firmware second (firmware_words firmware) A)) status text g.loads
+    (subst (λ ws. WithList list (λ A. FlashReply command firmware second ws A) status text) g.words there)

@@ -1,20 +1,20 @@
 -- What the top call does.
-use Rattle.std.specs.Prelude.{◌≡◌, ◌≢◌, ◌⊎◌, ◌↔◌, ◌≤◌, ℕ, List, length, Option, Some, None}
+use Rattle.std.specs.Prelude.{◌≡◌, ◌≢◌, ◌⊎◌, ◌↔◌, ◌≤◌, ℕ, Bool, List, length, Option, Some, None}
 use Rattle.avr_model.specs.declared.assumption.Entry.{Entry}
 use Rattle.sb_base.specs.Outside.{Held, Bytes, Blamed, Rose, grown, GrewByPrefix}
 use Rattle.certificate.specs.Claims.{Claim}
 use Rattle.certificate.specs.Valid.{IsValid}
-use Rattle.commands.specs.Commands.{Command, Check}
+use Rattle.commands.specs.Commands.{Command, Check, Analyse, Report}
 use Rattle.replies.specs.Texts.{usage, read_fault}
 use Rattle.replies.specs.Reading.{Contents, AllAgree, IsFirstFailed, firmware_cap, certificate_cap, assumption_cap}
 use Rattle.replies.specs.Reply.{IsReply}
-use Rattle.replies.specs.Headline.{StandFor, Holds, Headline, IsExact}
+use Rattle.replies.specs.Headline.{Mean, StandFor, Holds, IsLeastCertificate, SaysHowRoundsEnd, Headline, IsExact}
 
 -- ---- the answer where no call failed and memory sufficed
 
 -- For each file of a command there is one value, by its place, that was read: it agrees with what the files tell, also where one name
--- stands twice. Of these values the answer is the one reply, an accepting one says that the bound holds, and it accepts exactly where the
--- certificate is valid.
+-- stands twice. Of these values the answer is the one reply. One that accepts a certificate says that the bound holds, and comes exactly
+-- where the certificate is valid. One that writes a certificate says that it is the least, and its status says how the rounds end.
 pub record IsAnswered (command : Command) (holds : List ℕ → Held) (status : ℕ) (text : List ℕ) : Type 0 where
   pub seen : Contents
   pub agrees : AllAgree command holds seen
@@ -80,38 +80,64 @@ AreHeld holds None list = list ≡ None
 AreHeld holds (Some name) None = ⊥
 AreHeld holds (Some name) (Some bytes) = (holds name ≡ Bytes bytes) × (length bytes ≤ assumption_cap)
 
--- The words are a check, and these bytes are held under the names in them, within the caps.
-pub record IsCheck (command : Option Command) (holds : List ℕ → Held) (firmware certificate : List ℕ) (list : Option (List ℕ)) : Type 0 where
+-- the command judges the certificate of this name for the firmware, and under the assumptions, of those names
+pub data Judges : Command → (firmware certificate : List ℕ) (assume : Option (List ℕ)) → Type 0 where
+  checks : (firmware certificate : List ℕ) (assume : Option (List ℕ)) → Judges (Check firmware certificate assume) firmware certificate assume
+  reports : (firmware certificate : List ℕ) (assume : Option (List ℕ)) (json : Bool) → Judges (Report firmware certificate assume json) firmware certificate assume
+
+-- The words are this command, a check or a report, and these bytes are held under the names in them, within the caps.
+pub record IsJudging (command : Option Command) (judge : Command) (holds : List ℕ → Held) (firmware certificate : List ℕ) (list : Option (List ℕ)) : Type 0 where
   pub firmware_name : List ℕ
   pub certificate_name : List ℕ
   pub assume : Option (List ℕ)
-  pub named : command ≡ Some (Check firmware_name certificate_name assume)
+  pub named : command ≡ Some judge
+  pub judges : Judges judge firmware_name certificate_name assume
   pub firmware_held : holds firmware_name ≡ Bytes firmware
   pub firmware_fits : length firmware ≤ firmware_cap
   pub certificate_held : holds certificate_name ≡ Bytes certificate
   pub certificate_fits : length certificate ≤ certificate_cap
   pub list_held : AreHeld holds assume list
 
--- where a check of held bytes answers 0, the bound holds of them, and is printed
+-- where a command of held bytes accepts a certificate, the bound holds of them, and is told
 abbrev pub HeldHeadline : Option Command → (List ℕ → Held) → ℕ → Option (List ℕ) → Option (List ℕ) → Type 0
 HeldHeadline command holds status before after =
-    (firmware certificate : List ℕ) (list : Option (List ℕ)) → IsCheck command holds firmware certificate list → status ≡ 0
-    → (text : List ℕ) × Holds firmware certificate list text × (after ≡ grown before text)
+    (judge : Command) (firmware certificate : List ℕ) (list : Option (List ℕ)) → IsJudging command judge holds firmware certificate list → status ≡ 0
+    → (text : List ℕ) × Holds judge firmware certificate list text × (after ≡ grown before text)
 
--- where held bytes read as values, a check of them answers 0 exactly where the certificate is valid
+-- where held bytes read as values, it accepts exactly where the certificate is valid
 abbrev pub IsHeldExact : Option Command → (List ℕ → Held) → ℕ → Type 0
 IsHeldExact command holds status =
-    (firmware certificate : List ℕ) (list : Option (List ℕ)) (words : List ℕ) (claim : Claim) (A : List Entry) → IsCheck command holds firmware certificate list
-    → StandFor firmware certificate list words claim A → (status ≡ 0) ↔ IsValid words A claim
+    (judge : Command) (firmware certificate : List ℕ) (list : Option (List ℕ)) (words : List ℕ) (claim : Claim) (A : List Entry)
+    → IsJudging command judge holds firmware certificate list → StandFor firmware certificate list words claim A → (status ≡ 0) ↔ IsValid words A claim
+
+-- The words are an analysis with this budget, and these bytes are held under the names in them, within the caps.
+pub record IsAnalysing (command : Option Command) (steps : Option ℕ) (holds : List ℕ → Held) (firmware : List ℕ) (list : Option (List ℕ)) : Type 0 where
+  pub firmware_name : List ℕ
+  pub assume : Option (List ℕ)
+  pub named : command ≡ Some (Analyse firmware_name assume steps)
+  pub firmware_held : holds firmware_name ≡ Bytes firmware
+  pub firmware_fits : length firmware ≤ firmware_cap
+  pub list_held : AreHeld holds assume list
+
+-- where an analysis of held bytes answers 0, it has written the text of their least certificate, and nothing else
+abbrev pub HeldLeast : Option Command → (List ℕ → Held) → ℕ → Option (List ℕ) → Option (List ℕ) → Type 0
+HeldLeast command holds status before after =
+    (steps : Option ℕ) (firmware : List ℕ) (list : Option (List ℕ)) → IsAnalysing command steps holds firmware list → status ≡ 0
+    → (text : List ℕ) × IsLeastCertificate firmware list text × (after ≡ grown before text)
+
+-- where held bytes read as values, the status says how the rounds end
+abbrev pub IsHeldEnd : Option Command → (List ℕ → Held) → ℕ → Type 0
+IsHeldEnd command holds status =
+    (steps : Option ℕ) (firmware : List ℕ) (list : Option (List ℕ)) (words : List ℕ) (A : List Entry)
+    → IsAnalysing command steps holds firmware list → Mean firmware list words A → SaysHowRoundsEnd words A steps status
 
 -- ---- laws
 
-abbrev pub WrittenChecksHold : Type 0
-WrittenChecksHold =
-    (command : Option Command) (holds : List ℕ → Held) (status : ℕ) (before after : Option (List ℕ)) → IsWritten command holds status before after
-    → HeldHeadline command holds status before after
-
-abbrev pub WrittenChecksAreExact : Type 0
-WrittenChecksAreExact =
-    (command : Option Command) (holds : List ℕ → Held) (status : ℕ) (before after : Option (List ℕ)) → IsWritten command holds status before after
-    → IsHeldExact command holds status
+-- what holds of an answer whose text was written, over files that tell what they hold
+pub record WrittenAnswersHold : Type 0 where
+  pub headline : (command : Option Command) (holds : List ℕ → Held) (status : ℕ) (before after : Option (List ℕ)) → IsWritten command holds status before after
+      → HeldHeadline command holds status before after
+  pub exact : (command : Option Command) (holds : List ℕ → Held) (status : ℕ) (before after : Option (List ℕ)) → IsWritten command holds status before after → IsHeldExact command holds status
+  pub least : (command : Option Command) (holds : List ℕ → Held) (status : ℕ) (before after : Option (List ℕ)) → IsWritten command holds status before after
+      → HeldLeast command holds status before after
+  pub ends : (command : Option Command) (holds : List ℕ → Held) (status : ℕ) (before after : Option (List ℕ)) → IsWritten command holds status before after → IsHeldEnd command holds status

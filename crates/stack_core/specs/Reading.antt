@@ -1,9 +1,9 @@
 -- How the reading of files went. A files object's count of faults goes from `before` to `after`.
-use Rattle.std.specs.Prelude.{ℕ, ◌≡◌, List, Option, Some, None, ⊤}
+use Rattle.std.specs.Prelude.{ℕ, ◌≡◌, List, [], Option, Some, None, ⊤}
 use Rattle.std.specs.Option.{option_map}
 use Rattle.std.specs.Global.{Vec}
 use Rattle.sb_base.specs.Outside.{Held, Blamed, Rose, Blames}
-use Rattle.commands.specs.Commands.{Command, Assumptions, name_of}
+use Rattle.commands.specs.Commands.{Command, Firmware, Second, Assumptions, name_of}
 use Rattle.replies.specs.Texts.{too_long}
 use Rattle.replies.specs.Reading as read
 use Rattle.replies.specs.Reading.{Seen, Unread, Whole, Long, Agrees, AllAgree, IsFirstFailed}
@@ -23,6 +23,11 @@ IsUnfetched held cap name before after blamed (unread.Failed n) = (n.now ≡ nam
 IsUnfetched held cap name before after blamed unread.Memory = after ≡ before
 
 -- ---- a file that a command may have
+
+-- where it has none, no bytes
+abbrev pub AreFetched : (List ℕ → Held) → ℕ → ℕ → ℕ → Option (List ℕ) → List ℕ → Type 0
+AreFetched holds cap before after None bytes = (bytes ≡ []) × (after ≡ before)
+AreFetched holds cap before after (Some name) bytes = IsFetched (holds name) cap before after bytes
 
 abbrev pub IsFetchedUnder : (List ℕ → Held) → ℕ → ℕ → ℕ → Option (List ℕ) → Option (List ℕ) → Type 0
 IsFetchedUnder holds cap before after None None = after ≡ before
@@ -50,15 +55,29 @@ abbrev pub whole_of : Option (List ℕ) → Seen
 whole_of None = Unread
 whole_of (Some bytes) = Whole bytes
 
--- what was read, in terms of the definitions
-abbrev pub seen_whole : List ℕ → List ℕ → Option (List ℕ) → read.Contents
-seen_whole firmware second list = record { firmware = Whole firmware; second = Whole second; assumptions = whole_of list }
+-- a file that the command doesn't have has no bytes
+abbrev pub GoWith : Option (List ℕ) → List ℕ → Type 0
+GoWith None bytes = bytes ≡ []
+GoWith (Some name) bytes = ⊤
 
-abbrev pub contents_seen : Contents → read.Contents
-contents_seen c = seen_whole c.firmware.items c.second.items (bytes_of c.assumptions)
+abbrev pub seen_under : Option (List ℕ) → List ℕ → Seen
+seen_under None bytes = Unread
+seen_under (Some name) bytes = Whole bytes
+
+-- what was read, in terms of the definitions
+abbrev pub seen_whole : Command → List ℕ → List ℕ → Option (List ℕ) → read.Contents
+seen_whole command firmware second list =
+    record { firmware = seen_under (name_of command Firmware) firmware; second = seen_under (name_of command Second) second; assumptions = whole_of list }
+
+-- These bytes are those of the command's files, and none where it doesn't have them.
+pub record AreBytes (command : Command) (holds : List ℕ → Held) (firmware second : List ℕ) (list : Option (List ℕ)) : Type 0 where
+  pub agree : AllAgree command holds (seen_whole command firmware second list)
+  pub with_firmware : GoWith (name_of command Firmware) firmware
+  pub with_second : GoWith (name_of command Second) second
+  pub with_list : GoTogether (name_of command Assumptions) list
 
 abbrev pub IsGathered : Command → (List ℕ → Held) → ℕ → ℕ → Contents → Type 0
-IsGathered command holds before after c = AllAgree command holds (contents_seen c) × GoTogether (name_of command Assumptions) (bytes_of c.assumptions) × (after ≡ before)
+IsGathered command holds before after c = AreBytes command holds c.firmware.items c.second.items (bytes_of c.assumptions) × (after ≡ before)
 
 -- what was read up to a file that is too long, and the answer to that
 pub record IsTooLong (command : Command) (holds : List ℕ → Held) (name : List ℕ) : Type 0 where

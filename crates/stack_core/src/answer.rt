@@ -8,7 +8,8 @@ ghost use Rattle.replies.specs.Texts as told;
 ghost use Rattle.stack_core.specs.Answer.{IsAnswer, IsCutOff};
 
 use crate::reading::{Unread, gather};
-use crate::work::{Reply, work};
+use crate::reply::Reply;
+use crate::work::work;
 use commands::{Command, command_of};
 use replies::laws::replies_are_claims;
 use replies::texts;
@@ -45,10 +46,10 @@ fn read_fault(alloc: Global, name: &str) -> Result<Reply, AllocError>
 /// What is answered to a command.
 fn answer_to<F: Files>(
     alloc: Global,
-    command: Command<'_>,
+    command: &Command<'_>,
     files: &mut F,
 ) -> Result<Reply, AllocError>
-    ensures { MatchResult result (λ r. IsAnswer (Some (command_seen command.entry)) (F.holds files.old) (F.faults files.old) (F.faults files.new) (F.blamed files.new) r.status r.text.items) (λ e. IsCutOff (Some (command_seen command.entry)) (F.holds files.old) (F.faults files.old) (F.faults files.new) (F.blamed files.new)) }
+    ensures { MatchResult result (λ r. IsAnswer (Some (command_seen command.now)) (F.holds files.old) (F.faults files.old) (F.faults files.new) (F.blamed files.new) r.status r.text.items) (λ e. IsCutOff (Some (command_seen command.now)) (F.holds files.old) (F.faults files.old) (F.faults files.new) (F.blamed files.new)) }
 {
     replies_are_claims();
     match gather(alloc, files, command) {
@@ -70,7 +71,7 @@ pub fn answer<F: Files>(alloc: Global, words: &[&str], files: &mut F) -> Result<
     ensures { MatchResult result (λ r. IsAnswer (command_of (map (λ w. w.now) words.now)) (F.holds files.old) (F.faults files.old) (F.faults files.new) (F.blamed files.new) r.status r.text.items) (λ e. IsCutOff (command_of (map (λ w. w.now) words.now)) (F.holds files.old) (F.faults files.old) (F.faults files.new) (F.blamed files.new)) }
 {
     match command_of(words) {
-        Some(command) => answer_to(alloc, command, files),
+        Some(command) => answer_to(alloc, &command, files),
         None => usage(alloc),
     }
 }

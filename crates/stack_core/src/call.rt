@@ -4,10 +4,10 @@ ghost use Rattle.std.specs.Prelude.{◌≡◌, ◌≢◌, ◌⊎◌, ◌↔◌, 
 ghost use Rattle.sb_base.specs.Outside.{Rose, grown};
 ghost use Rattle.commands.specs.Commands.{command_of};
 ghost use Rattle.replies.specs.Texts.{read_fault};
-ghost use Rattle.stack_core.specs.Answer.{IsWritten, IsReadFault, HeldHeadline, IsHeldExact, Cuts};
+ghost use Rattle.stack_core.specs.Answer.{IsWritten, IsReadFault, HeldHeadline, IsHeldExact, HeldLeast, IsHeldEnd, Cuts};
 
 use crate::answer::answer;
-use crate::laws::written_checks_are_claims;
+use crate::laws::written_answers_hold;
 use sb_base::{Files, Sink, SinkFault, put_all};
 use std::alloc::Global;
 
@@ -19,13 +19,18 @@ pub fn stackbound<F: Files, K: Sink>(
     files: &mut F,
     out: &mut K,
 ) -> u8
-    // Where no call failed and memory sufficed, the answer is the one reply to the words and to what was read, an accepting one says that
-    // the bound holds, and it is written.
+    // Where no call failed and memory sufficed, the answer is the one reply to the words and to what was read, and it is written. One that
+    // accepts a certificate says that the bound holds, and one that writes a certificate that it is the least.
     ensures settled { result ≢ 3 → result ≢ 4 → result ≢ 12 → IsWritten (command_of (map (λ w. w.now) words.now)) (F.holds files.old) result (K.written out.old) (K.written out.new) }
-    // Where a check of held bytes accepts, the bound holds of every run, and is printed.
+    // Where a check or a report of held bytes accepts, the bound holds of every run, and is told.
     ensures headline { HeldHeadline (command_of (map (λ w. w.now) words.now)) (F.holds files.old) result (K.written out.old) (K.written out.new) }
-    // Where held bytes read, a check of them accepts exactly the valid certificates.
+    // Where held bytes read, a check or a report of them accepts exactly the valid certificates.
     ensures exact { result ≢ 3 → result ≢ 4 → result ≢ 12 → IsHeldExact (command_of (map (λ w. w.now) words.now)) (F.holds files.old) result }
+    // Where an analysis of held bytes answers 0, it has written their least certificate, which is valid: no valid one has a smaller bound,
+    // every run keeps its bound, and its schedule is a run that reaches it; it has none exactly where no trial reaches it.
+    ensures least { HeldLeast (command_of (map (λ w. w.now) words.now)) (F.holds files.old) result (K.written out.old) (K.written out.new) }
+    // Where held bytes read, the status of an analysis says how the rounds end, and without a budget whether some certificate is valid.
+    ensures ends { result ≢ 3 → result ≢ 4 → result ≢ 12 → IsHeldEnd (command_of (map (λ w. w.now) words.now)) (F.holds files.old) result }
     // Words that are no command, and no others, are answered so.
     ensures usage { result ≢ 4 → result ≢ 12 → (result ≡ 2) ↔ (command_of (map (λ w. w.now) words.now) ≡ None) }
     // A read fault comes only where a read of a file of the command failed in this call; the first such is told.
@@ -38,7 +43,7 @@ pub fn stackbound<F: Files, K: Sink>(
     // A write fault and want of memory leave some first bytes of what else is answered.
     ensures cut { (result ≡ 4) ⊎ (result ≡ 12) → Cuts (command_of (map (λ w. w.now) words.now)) (F.holds files.old) (F.faults files.old) (F.faults files.new) (F.blamed files.new) (K.written out.old) (K.written out.new) }
 {
-    written_checks_are_claims();
+    written_answers_hold();
     match answer(alloc, words, files) {
         Ok(reply) => match put_all(out, &reply.text) {
             Ok(()) => reply.status,

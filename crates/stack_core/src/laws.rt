@@ -1,10 +1,10 @@
 //! What is proved of the definitions alone.
 
-ghost use Rattle.stack_core.specs.Answer.{WrittenChecksHold, WrittenChecksAreExact};
+ghost use Rattle.stack_core.specs.Answer.{WrittenAnswersHold};
 
-/// Over files that tell what they hold, a check that answers 0 says that the bound holds of the held bytes, and where these read as values
-/// it answers 0 exactly where the certificate is valid.
-pub fn written_checks_are_claims()
-    ensures holds { WrittenChecksHold }
-    ensures exact { WrittenChecksAreExact }
+/// Over files that tell what they hold: a command that accepts a certificate says that the bound holds of the held bytes, and where these
+/// read as values it accepts exactly where the certificate is valid. An analysis that answers 0 has written their least certificate, and
+/// its status says how the rounds end.
+pub fn written_answers_hold()
+    ensures { WrittenAnswersHold }
 {}

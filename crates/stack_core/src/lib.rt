@@ -1,10 +1,15 @@
 //! The top call: words, files and a sink in, a status out.
 #![tactic(auto)]
 
+pub mod analysing;
 pub mod answer;
 pub mod call;
+pub mod judging;
 pub mod laws;
+pub mod loading;
 pub mod reading;
+pub mod reply;
+pub mod running;
 pub mod work;
 
 pub use call::stackbound;

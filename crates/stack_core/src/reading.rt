@@ -3,7 +3,7 @@
 ghost use Rattle.std.specs.Prelude.{◌≡◌, ℕ, List, MatchResult};
 ghost use Rattle.commands.specs.Views.{text_of, command_seen};
 ghost use Rattle.replies.specs.Reading as caps;
-ghost use Rattle.stack_core.specs.Reading.{IsFetched, IsUnfetched, IsFetchedUnder, IsUnfetchedUnder, bytes_of, IsGathered, IsUngathered};
+ghost use Rattle.stack_core.specs.Reading.{IsFetched, IsUnfetched, AreFetched, IsFetchedUnder, IsUnfetchedUnder, bytes_of, IsGathered, IsUngathered};
 
 use commands::Command;
 use sb_base::{FileFault, Files};
@@ -32,7 +32,7 @@ pub enum Unread<'a> {
     Memory,
 }
 
-/// What a command's files hold.
+/// What a command's files hold. Where it has no firmware or no second file, there are no bytes.
 #[derive(Drop)]
 pub struct Contents {
     pub firmware: Vec<u8>,
@@ -57,7 +57,23 @@ fn fetch<'a, F: Files>(
     }
 }
 
-/// The bytes of a file that a command may have.
+/// The bytes of a file that a command may have, and none where it has no such file.
+fn fetch_bytes<'a, F: Files>(
+    alloc: Global,
+    files: &mut F,
+    name: Option<&'a str>,
+    cap: usize,
+) -> Result<Vec<u8>, Unread<'a>>
+    ensures fetched { MatchResult result (λ v. AreFetched (F.holds files.old) cap (F.faults files.old) (F.faults files.new) (text_of name.entry) v.items) (λ e. IsUnfetchedUnder (F.holds files.old) cap (F.faults files.old) (F.faults files.new) (F.blamed files.new) (text_of name.entry) e) }
+    ensures holds { (n : List ℕ) → F.holds files.new n ≡ F.holds files.old n }
+{
+    match name {
+        Some(name) => fetch(alloc, files, name, cap),
+        None => Ok(Vec::new(alloc)),
+    }
+}
+
+/// The same where no file isn't the same as an empty one.
 fn fetch_optional<'a, F: Files>(
     alloc: Global,
     files: &mut F,
@@ -74,12 +90,15 @@ fn fetch_optional<'a, F: Files>(
 }
 
 /// The cap of a command's second file.
-fn second_cap(command: Command<'_>) -> usize
-    ensures { result ≡ caps.second_cap (command_seen command.entry) }
+fn second_cap(command: &Command<'_>) -> usize
+    ensures { result ≡ caps.second_cap (command_seen command.now) }
 {
     match command {
         Command::Check { .. } => CERTIFICATE_CAP,
+        Command::Analyse { .. } => CERTIFICATE_CAP,
         Command::Run { .. } => SCHEDULE_CAP,
+        Command::Report { .. } => CERTIFICATE_CAP,
+        Command::Demo { .. } => CERTIFICATE_CAP,
     }
 }
 
@@ -87,15 +106,15 @@ fn second_cap(command: Command<'_>) -> usize
 pub fn gather<'a, F: Files>(
     alloc: Global,
     files: &mut F,
-    command: Command<'a>,
+    command: &Command<'a>,
 ) -> Result<Contents, Unread<'a>>
-    ensures { MatchResult result (λ read. IsGathered (command_seen command.entry) (F.holds files.old) (F.faults files.old) (F.faults files.new) read) (λ e. IsUngathered (command_seen command.entry) (F.holds files.old) (F.faults files.old) (F.faults files.new) (F.blamed files.new) e) }
+    ensures { MatchResult result (λ read. IsGathered (command_seen command.now) (F.holds files.old) (F.faults files.old) (F.faults files.new) read) (λ e. IsUngathered (command_seen command.now) (F.holds files.old) (F.faults files.old) (F.faults files.new) (F.blamed files.new) e) }
 {
-    let firmware = match fetch(alloc, files, command.firmware(), FIRMWARE_CAP) {
+    let firmware = match fetch_bytes(alloc, files, command.firmware(), FIRMWARE_CAP) {
         Ok(bytes) => bytes,
         Err(fault) => return Err(fault),
     };
-    let second = match fetch(alloc, files, command.second(), second_cap(command)) {
+    let second = match fetch_bytes(alloc, files, command.second(), second_cap(command)) {
         Ok(bytes) => bytes,
         Err(fault) => return Err(fault),
     };

@@ -1,19 +1,18 @@
 use Rattle.std.proofs.Common.{subst}
 use Rattle.std.specs.Prelude.{◌≡◌, IfOk}
 use Rattle.commands.specs.Views.{command_seen}
-use Rattle.local_rules.specs.Machine.{AreWords}
-use Rattle.replies.specs.Firmware.{firmware_words}
 use Rattle.replies.specs.Reply.{WorkReply}
+use Rattle.replies.specs.Headline.{HasWords}
 use Rattle.stack_core.specs.Reading.{bytes_of}
 use Rattle.stack_core.proofs.Answering.{worked_result}
 use Rattle.stack_core.proofs.answer.answer_to.Goals as goal
 
 pub returns-in-Ok : goal.returns-in-Ok
 returns-in-Ok g c =
-    worked_result c.replies_are_claims.ensures.holds c.replies_are_claims.ensures.exact (command_seen c.args.command) (g.F.Files.holds c.args.files.now)
+    worked_result c.replies_are_claims.ensures.holds c.replies_are_claims.ensures.exact (command_seen c.args.command.now) (g.F.Files.holds c.args.files.now)
     (g.F.Files.faults c.args.files.now) (g.F.Files.faults c.gather.new.files) (g.F.Files.blamed c.gather.new.files)
     c.in-Ok.read.firmware.items c.in-Ok.read.second.items (bytes_of c.in-Ok.read.assumptions) c.work.result
     c.in-Ok.ensures
-    (subst (λ b. IfOk c.work.result (λ r. WorkReply (command_seen c.args.command) b c.in-Ok.read.second.items (bytes_of c.in-Ok.read.assumptions) r.status r.text.items)) c.deref.ensures.value
-    (subst (λ b. IfOk c.work.result (λ r. WorkReply (command_seen c.args.command) c.deref.result.now b (bytes_of c.in-Ok.read.assumptions) r.status r.text.items)) c.deref-in-Ok.ensures.value c.work.ensures.reply))
-    (subst (λ b. IfOk c.work.result (λ r. r.status ≡ 0 → AreWords (firmware_words b))) c.deref.ensures.value c.work.ensures.words)
+    (subst (λ b. IfOk c.work.result (λ r. WorkReply (command_seen c.args.command.now) b c.in-Ok.read.second.items (bytes_of c.in-Ok.read.assumptions) r.status r.text.items)) c.deref.ensures.value
+    (subst (λ b. IfOk c.work.result (λ r. WorkReply (command_seen c.args.command.now) c.deref.result.now b (bytes_of c.in-Ok.read.assumptions) r.status r.text.items)) c.deref-in-Ok.ensures.value c.work.ensures.reply))
+    (subst (λ b. IfOk c.work.result (λ r. r.status ≡ 0 → HasWords (command_seen c.args.command.now) b)) c.deref.ensures.value c.work.ensures.words)

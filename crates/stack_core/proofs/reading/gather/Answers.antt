@@ -1,26 +1,34 @@
-use Rattle.std.proofs.Common.{◌∙◌}
+use Rattle.std.proofs.Common.{refl, ◌∙◌}
+use Rattle.commands.specs.Commands.{Firmware, Second, name_of}
 use Rattle.commands.specs.Views.{text_of, command_seen}
-use Rattle.stack_core.proofs.Gathering.{first_stops, second_stops, two_read, third_stops}
+use Rattle.replies.specs.Reading.{firmware_cap, second_cap}
+use Rattle.stack_core.proofs.Gathering.{first_stops, second_stops, read_as, two_read, third_stops, all_read}
 use Rattle.stack_core.proofs.reading.gather.Goals as goal
 
 pub returns-in-Err : goal.returns-in-Err
 returns-in-Err g c =
-    first_stops (command_seen c.args.command) (g.F.Files.holds c.args.files.now) c.firmware.result.now (g.F.Files.faults c.args.files.now) (g.F.Files.faults c.fetch.new.files)
-    (g.F.Files.blamed c.fetch.new.files) c.in-Err.fault c.firmware.ensures c.in-Err.ensures.fetched
+    first_stops (command_seen c.args.command.now) (g.F.Files.holds c.args.files.now) (g.F.Files.faults c.args.files.now) (g.F.Files.faults c.fetch_bytes.new.files)
+    (g.F.Files.blamed c.fetch_bytes.new.files) (text_of c.firmware.result) c.in-Err.fault c.firmware.ensures c.in-Err.ensures.fetched
 
-pub returns-in-Err-fetch : goal.returns-in-Err-fetch
-returns-in-Err-fetch g c =
-    second_stops (command_seen c.args.command) (g.F.Files.holds c.args.files.now) (g.F.Files.holds c.fetch.new.files) c.firmware.result.now c.second.result.now c.in-Ok.bytes.items c.second_cap.result
-    (g.F.Files.faults c.args.files.now) (g.F.Files.faults c.fetch.new.files) (g.F.Files.faults c.fetch-2.new.files) (g.F.Files.blamed c.fetch-2.new.files) c.in-Err-fetch.fault
-    c.firmware.ensures c.second.ensures c.second_cap.ensures (c.fetch.ensures.holds c.second.result.now) c.in-Ok.ensures.fetched c.in-Err-fetch.ensures.fetched
+pub returns-in-Err-fetch_bytes : goal.returns-in-Err-fetch_bytes
+returns-in-Err-fetch_bytes g c =
+    second_stops (command_seen c.args.command.now) (g.F.Files.holds c.args.files.now) (g.F.Files.holds c.fetch_bytes.new.files) c.in-Ok.bytes.items c.second_cap.result
+    (g.F.Files.faults c.args.files.now) (g.F.Files.faults c.fetch_bytes.new.files) (g.F.Files.faults c.fetch_bytes-2.new.files) (g.F.Files.blamed c.fetch_bytes-2.new.files)
+    (text_of c.second.result) c.in-Err-fetch_bytes.fault c.second.ensures c.second_cap.ensures c.fetch_bytes.ensures.holds
+    (read_as (g.F.Files.holds c.args.files.now) (g.F.Files.holds c.args.files.now) firmware_cap firmware_cap (g.F.Files.faults c.args.files.now) (g.F.Files.faults c.fetch_bytes.new.files)
+    (text_of c.firmware.result) (name_of (command_seen c.args.command.now) Firmware) c.in-Ok.bytes.items c.firmware.ensures refl (λ n. refl) c.in-Ok.ensures.fetched)
+    c.in-Err-fetch_bytes.ensures.fetched
 
 pub returns-in-Err-fetch_optional : goal.returns-in-Err-fetch_optional
 returns-in-Err-fetch_optional g c =
-    third_stops (command_seen c.args.command) (g.F.Files.holds c.args.files.now) (g.F.Files.holds c.fetch-2.new.files) c.in-Ok.bytes.items c.in-Ok-fetch.bytes.items
-    (g.F.Files.faults c.args.files.now) (g.F.Files.faults c.fetch-2.new.files) (g.F.Files.faults c.fetch_optional.new.files) (g.F.Files.blamed c.fetch_optional.new.files)
+    third_stops (command_seen c.args.command.now) (g.F.Files.holds c.args.files.now) (g.F.Files.holds c.fetch_bytes-2.new.files) c.in-Ok.bytes.items c.in-Ok-fetch_bytes.bytes.items
+    (g.F.Files.faults c.args.files.now) (g.F.Files.faults c.fetch_bytes-2.new.files) (g.F.Files.faults c.fetch_optional.new.files) (g.F.Files.blamed c.fetch_optional.new.files)
     (text_of c.assume.result) c.in-Err-fetch_optional.fault c.assume.ensures
-    (λ n. c.fetch-2.ensures.holds n ∙ c.fetch.ensures.holds n)
-    (two_read (command_seen c.args.command) (g.F.Files.holds c.args.files.now) (g.F.Files.holds c.fetch.new.files) c.firmware.result.now c.second.result.now c.in-Ok.bytes.items c.in-Ok-fetch.bytes.items
-    c.second_cap.result (g.F.Files.faults c.args.files.now) (g.F.Files.faults c.fetch.new.files) (g.F.Files.faults c.fetch-2.new.files)
-    c.firmware.ensures c.second.ensures c.second_cap.ensures (c.fetch.ensures.holds c.second.result.now) c.in-Ok.ensures.fetched c.in-Ok-fetch.ensures.fetched)
+    (λ n. c.fetch_bytes-2.ensures.holds n ∙ c.fetch_bytes.ensures.holds n)
+    (two_read (command_seen c.args.command.now) (g.F.Files.holds c.args.files.now) c.in-Ok.bytes.items c.in-Ok-fetch_bytes.bytes.items
+    (g.F.Files.faults c.args.files.now) (g.F.Files.faults c.fetch_bytes.new.files) (g.F.Files.faults c.fetch_bytes-2.new.files)
+    (read_as (g.F.Files.holds c.args.files.now) (g.F.Files.holds c.args.files.now) firmware_cap firmware_cap (g.F.Files.faults c.args.files.now) (g.F.Files.faults c.fetch_bytes.new.files)
+    (text_of c.firmware.result) (name_of (command_seen c.args.command.now) Firmware) c.in-Ok.bytes.items c.firmware.ensures refl (λ n. refl) c.in-Ok.ensures.fetched)
+    (read_as (g.F.Files.holds c.args.files.now) (g.F.Files.holds c.fetch_bytes.new.files) c.second_cap.result (second_cap (command_seen c.args.command.now)) (g.F.Files.faults c.fetch_bytes.new.files) (g.F.Files.faults c.fetch_bytes-2.new.files)
+    (text_of c.second.result) (name_of (command_seen c.args.command.now) Second) c.in-Ok-fetch_bytes.bytes.items c.second.ensures c.second_cap.ensures c.fetch_bytes.ensures.holds c.in-Ok-fetch_bytes.ensures.fetched))
     c.in-Err-fetch_optional.ensures.fetched

@@ -1,8 +1,0 @@
-use Rattle.std.proofs.Common.{ap, ◌∙◌}
-use Rattle.std.specs.Option.{option_map}
-use Rattle.replies.specs.Texts.{elf_refused}
-use Rattle.replies.proofs.ElfWords.{one_elf}
-use Rattle.stack_core.proofs.work.elf_image.Goals as goal
-
-pub returns-in-Ok : goal.returns-in-Ok
-returns-in-Ok c = (ap (option_map elf_refused) c.in-Ok.ensures.refusal, c.flash_of.ensures ∙ one_elf c.args.bytes.now _ c.in-Ok.ensures.image)

@@ -1,0 +1,128 @@
+//! Certificates that are made, for `analyse` and for `demo`.
+
+ghost use Rattle.std.specs.Prelude.{◌≡◌, IfOk, [], None};
+ghost use Rattle.certificate.specs.Claims.{IsClaim};
+ghost use Rattle.certificate.specs.Valid.{IsSound};
+ghost use Rattle.round_rules.specs.Solutions.{IsAnswer, IsWhyNot};
+ghost use Rattle.demo_image.specs.Image.{demo_words};
+ghost use Rattle.replies.specs.Texts.{why_not_status, why_not_text, demo_text};
+ghost use Rattle.replies.specs.Reply.{Refuses, AnalyseReply, DemoReply};
+ghost use Rattle.stack_core.specs.Working.{IsWitnessed, IsWitnessedText};
+
+use crate::reply::Reply;
+use cert_check::{Verdict, judge};
+use cert_writing::write;
+use certificate::Certificate;
+use commands::Size;
+use demo_image::demo_image;
+use fixpoint::{Refusal, solve};
+use flash_image::Flash;
+use replies::{causes, texts};
+use std::alloc::{AllocError, Global};
+use vector_table::Assumptions;
+use witness_search::search;
+
+/// The status in place of a certificate.
+fn why_not_status(refusal: &Refusal) -> u8
+    ensures { result ≡ why_not_status refusal.now }
+{
+    match refusal {
+        Refusal::Spent(_) => 11,
+        _ => 10,
+    }
+}
+
+/// What is answered in place of a certificate.
+fn why_not(alloc: Global, flash: &Flash, refusal: &Refusal) -> Result<Reply, AllocError>
+    ensures { IfOk result (λ r. Refuses (why_not_status refusal.now) (why_not_text flash.now refusal.now) r.status r.text.items) }
+{
+    Ok(Reply {
+        status: why_not_status(refusal),
+        text: causes::why_not(alloc, flash, refusal)?,
+    })
+}
+
+/// The certificate with the schedule that the trials find, if they find one.
+fn witnessed(
+    alloc: Global,
+    flash: &Flash,
+    assumptions: &Assumptions,
+    certificate: Certificate,
+) -> Result<Certificate, AllocError>
+    requires { IsSound flash.now assumptions.now certificate }
+    ensures { IfOk result (λ c. IsWitnessed flash.now assumptions.now certificate c) }
+{
+    let found = search(alloc, flash, assumptions, &certificate)?;
+    Ok(certificate.with_witness(found))
+}
+
+/// The text of the certificate with its schedule.
+fn solved(
+    alloc: Global,
+    flash: &Flash,
+    assumptions: &Assumptions,
+    certificate: Certificate,
+) -> Result<Vec<u8>, AllocError>
+    requires { IsSound flash.now assumptions.now certificate }
+    ensures text { IfOk result (λ v. IsWitnessedText flash.now assumptions.now certificate v.items) }
+    ensures claim { IfOk result (λ v. IsClaim certificate) }
+{
+    let _nodes = certificate.nodes();
+    let whole = witnessed(alloc, flash, assumptions, certificate)?;
+    write(alloc, &whole)
+}
+
+/// What is answered to an analysis.
+pub fn analyse(
+    alloc: Global,
+    flash: &Flash,
+    assumptions: &Assumptions,
+    steps: Option<u64>,
+) -> Result<Reply, AllocError>
+    ensures { IfOk result (λ r. AnalyseReply flash.now assumptions.now steps r.status r.text.items) }
+{
+    match solve(alloc, flash, assumptions, steps) {
+        Ok(certificate) => Ok(Reply {
+            status: 0,
+            text: solved(alloc, flash, assumptions, certificate)?,
+        }),
+        Err(refusal) => why_not(alloc, flash, &refusal),
+    }
+}
+
+/// What is answered of an image whose certificate this is: it is judged, and accepted.
+fn measured(
+    alloc: Global,
+    size: u32,
+    flash: &Flash,
+    assumptions: &Assumptions,
+    certificate: &Certificate,
+) -> Result<Reply, AllocError>
+    requires { IsSound flash.now assumptions.now certificate.now }
+    ensures reply { IfOk result (λ r. (r.status ≡ 0) × (r.text.items ≡ demo_text size certificate.now)) }
+    ensures claim { IfOk result (λ r. IsClaim certificate.now) }
+{
+    let _nodes = certificate.nodes();
+    match judge(alloc, flash, assumptions, certificate)? {
+        Verdict::Accepted(_) => Ok(Reply {
+            status: 0,
+            text: causes::demo_text(alloc, size, certificate)?,
+        }),
+        Verdict::Rejected(reason) => Ok(Reply {
+            status: 1,
+            text: texts::rejected(alloc, &reason)?,
+        }),
+    }
+}
+
+/// What is answered of the image of this size.
+pub fn demo(alloc: Global, size: &Size) -> Result<Reply, AllocError>
+    ensures { IfOk result (λ r. DemoReply size.now r.status r.text.items) }
+{
+    let flash = demo_image(alloc, size.get())?;
+    let assumptions = Assumptions::empty(alloc);
+    match solve(alloc, &flash, &assumptions, None) {
+        Ok(certificate) => measured(alloc, size.get(), &flash, &assumptions, &certificate),
+        Err(refusal) => why_not(alloc, &flash, &refusal),
+    }
+}

@@ -1,0 +1,102 @@
+//! Firmware and assumptions of files that were read.
+
+ghost use Rattle.std.specs.Prelude.{◌≡◌, IfOk, true, false};
+ghost use Rattle.elf_load.specs.Elf.{is_elf};
+ghost use Rattle.stack_core.specs.Reading.{bytes_of};
+ghost use Rattle.stack_core.specs.Working.{LoadsBy, LoadsAs, ReadsAs, ListsAs};
+
+use crate::reply::Reply;
+use elf_load::{Loaded, is_elf, load};
+use flash_image::laws::raw_images_are_their_words;
+use flash_image::{Flash, Names, RawFault};
+use indirect_targets::read as read_list;
+use replies::texts;
+use std::alloc::{AllocError, Global};
+use vector_table::Assumptions;
+
+/// What a firmware file is: flash with names and the end of static data, or a refusal.
+#[derive(Drop)]
+pub enum Image {
+    Loaded(Loaded),
+    Refused(Reply),
+}
+
+/// What an assumption file is: a list, or a refusal.
+#[derive(Drop)]
+pub enum Listing {
+    Listed(Assumptions),
+    Unlisted(Reply),
+}
+
+/// The flash of a raw file, which gives no names and no static data.
+fn raw_image(alloc: Global, bytes: &[u8]) -> Result<Image, AllocError>
+    ensures { IfOk result (λ i. LoadsBy false bytes.now i) }
+{
+    raw_images_are_their_words();
+    match Flash::from_raw(alloc, bytes) {
+        Ok(flash) => Ok(Image::Loaded(Loaded {
+            flash,
+            names: Names::new(alloc),
+            static_end: None,
+        })),
+        Err(RawFault::OddLength) => Ok(Image::Refused(Reply {
+            status: 6,
+            text: texts::raw_fault(alloc, 1)?,
+        })),
+        Err(RawFault::TooLong) => Ok(Image::Refused(Reply {
+            status: 6,
+            text: texts::raw_fault(alloc, 2)?,
+        })),
+        Err(RawFault::Memory) => Err(AllocError),
+    }
+}
+
+/// The firmware of an ELF file.
+fn elf_image(alloc: Global, bytes: &[u8]) -> Result<Image, AllocError>
+    requires { is_elf bytes.now ≡ true }
+    ensures { IfOk result (λ i. LoadsBy true bytes.now i) }
+{
+    match load(alloc, bytes) {
+        Ok(loaded) => Ok(Image::Loaded(loaded)),
+        Err(fault) => Ok(Image::Refused(Reply {
+            status: 6,
+            text: texts::elf_refused(alloc, &fault)?,
+        })),
+    }
+}
+
+/// The firmware of a file.
+pub fn loaded(alloc: Global, bytes: &[u8]) -> Result<Image, AllocError>
+    ensures { IfOk result (λ i. LoadsAs bytes.now i) }
+{
+    if is_elf(bytes) {
+        let image = elf_image(alloc, bytes)?;
+        Ok(image)
+    } else {
+        let image = raw_image(alloc, bytes)?;
+        Ok(image)
+    }
+}
+
+/// The assumptions of a file's bytes.
+fn list_of(alloc: Global, bytes: &[u8]) -> Result<Listing, AllocError>
+    ensures { IfOk result (λ l. ReadsAs bytes.now l) }
+{
+    match read_list(alloc, bytes) {
+        Ok(assumptions) => Ok(Listing::Listed(assumptions)),
+        Err(fault) => Ok(Listing::Unlisted(Reply {
+            status: 7,
+            text: texts::assumptions_refused(alloc, &fault)?,
+        })),
+    }
+}
+
+/// The assumptions of a file that there may be.
+pub fn listed(alloc: Global, list: &Option<Vec<u8>>) -> Result<Listing, AllocError>
+    ensures { IfOk result (λ l. ListsAs (bytes_of list.now) l) }
+{
+    match list {
+        Some(bytes) => list_of(alloc, bytes),
+        None => Ok(Listing::Listed(Assumptions::empty(alloc))),
+    }
+}

@@ -1,0 +1,69 @@
+//! Schedules that are replayed, for `run`.
+
+ghost use Rattle.std.specs.Prelude.{◌≡◌, IfOk};
+ghost use Rattle.sb_base.specs.Lines.{lines_of};
+ghost use Rattle.witness_replay.specs.Reading.{schedule_in};
+ghost use Rattle.witness_replay.specs.Replay.{replay_of};
+ghost use Rattle.replies.specs.Texts as told;
+ghost use Rattle.replies.specs.Reply.{RunReply, ScheduleReply};
+
+use crate::reply::Reply;
+use flash_image::Flash;
+use replies::texts;
+use sb_base::LineReader;
+use std::alloc::{AllocError, Global};
+use vector_table::Assumptions;
+use witness_replay::{IllegalChoice, Schedule, ScheduleFault, replay};
+
+/// What is answered of a schedule that was read.
+fn replayed(
+    alloc: Global,
+    flash: &Flash,
+    assumptions: &Assumptions,
+    schedule: &Schedule,
+) -> Result<Reply, AllocError>
+    ensures { IfOk result (λ r. RunReply (replay_of flash.now assumptions.now schedule.now) r.status r.text.items) }
+{
+    match replay(flash, assumptions, schedule) {
+        Ok(report) => Ok(Reply {
+            status: 0,
+            text: texts::run_text(alloc, &report)?,
+        }),
+        Err(IllegalChoice(step)) => Ok(Reply {
+            status: 9,
+            text: texts::schedule_illegal(alloc, step)?,
+        }),
+    }
+}
+
+fn schedule_malformed(alloc: Global, at: usize) -> Result<Reply, AllocError>
+    ensures { IfOk result (λ r. (r.status ≡ 9) × (r.text.items ≡ told.schedule_malformed at)) }
+{
+    Ok(Reply {
+        status: 9,
+        text: texts::schedule_malformed(alloc, at)?,
+    })
+}
+
+/// What is answered of the text of a schedule.
+pub fn run(
+    alloc: Global,
+    flash: &Flash,
+    assumptions: &Assumptions,
+    text: &[u8],
+) -> Result<Reply, AllocError>
+    ensures { IfOk result (λ r. ScheduleReply flash.now assumptions.now (schedule_in (record { at = 0; rest = lines_of text.now })) r.status r.text.items) }
+{
+    let mut reader = LineReader::new(text);
+    match Schedule::read(alloc, &mut reader) {
+        Ok(schedule) => {
+            if reader.peek().is_some() {
+                schedule_malformed(alloc, reader.offset())
+            } else {
+                replayed(alloc, flash, assumptions, &schedule)
+            }
+        }
+        Err(ScheduleFault::Malformed(at)) => schedule_malformed(alloc, at),
+        Err(ScheduleFault::Memory) => Err(AllocError),
+    }
+}
