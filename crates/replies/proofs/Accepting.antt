@@ -1,6 +1,6 @@
 -- What status 0 of a command that judges a certificate says, and when it comes.
 use Rattle.std.proofs.Common.{◌≡◌, ◌≤◌, ◌*◌, ◌%◌, ◌==◌, ◌&&◌, nat_lt, ℕ, Bool, true, false, List, [], length, Option, Some, None, Result, Ok, Err, if◌then◌else◌, IsOkAnd, refl, sym, ap, ◌∙◌, subst, arith}
-use Rattle.std.specs.Option.{option_map, is_some}
+use Rattle.std.specs.Option.{option_map}
 use Rattle.std.proofs.lemmas.Bool.Decides.{nat_tests}
 use Rattle.avr_model.specs.declared.assumption.Entry.{Entry}
 use Rattle.avr_model.specs.declared.choice.Stop.{Stop}
@@ -24,12 +24,11 @@ use Rattle.cert_check.specs.Laws.{SoundCertificatesBoundEveryRun}
 use Rattle.cert_check.specs.Verdict.{IsVerdict}
 use Rattle.cert_check.specs.declared.verdict.Verdict.{Verdict}
 use Rattle.cert_check.specs.declared.verdict.Verdict.TheVariants.{Accepted, Rejected}
-use Rattle.commands.specs.Commands.{Command, Check, Analyse, Run, Report, Demo}
 use Rattle.replies.specs.Firmware.{IsFirmwareBy, IsFirmware, words_by, firmware_words, fault_by, firmware_fault}
-use Rattle.replies.specs.Texts.{elf_refused, raw_fault, accepted, assumptions_refused, certificate_refused}
+use Rattle.replies.specs.Texts.{elf_refused, raw_fault, assumptions_refused, certificate_refused}
 use Rattle.replies.specs.Reading.{Seen, Unread, Whole, Long, Contents}
-use Rattle.replies.specs.Reply.{Reply, Refuses, WithFile, WithOptional, ImageBy, WithImage, ListBy, WithList, is_end, attains, AttainedBy, WitnessReply, VerdictReply, CertificateReply, told_of, FlashReply, WorkReply, IsReply}
-use Rattle.replies.specs.Headline.{ReadsWords, IsSeen, AreLoaded, AreRead, IsListOf, Mean, StandFor, HoldsAsRead, AcceptsValid}
+use Rattle.replies.specs.Reply.{Reply, Refuses, WithFile, WithOptional, ImageBy, WithImage, ListBy, WithList, is_end, attains, AttainedBy, WitnessReply, VerdictReply, CertificateReply}
+use Rattle.replies.specs.Headline.{IsSeen, AreRead, IsListOf, StandFor}
 use Rattle.replies.proofs.ElfWords.{one_elf, some_elf, no_refusal}
 
 no_five : ◌≡◌ {A = ℕ} 0 5 → ⊥

@@ -1,17 +1,12 @@
 -- What the answers say, by command.
-use Rattle.std.proofs.Common.{◌≡◌, ◌≤◌, ◌*◌, ◌%◌, inl, inr, ◌⊎◌, ℕ, List, [], length, Option, Some, None, Result, Ok, Err, refl, sym, ap, ◌∙◌, subst}
-use Rattle.std.specs.Option.{is_some}
+use Rattle.std.proofs.Common.{◌≡◌, ◌≤◌, ◌*◌, ◌%◌, inl, inr, ℕ, List, length, Option, Some, None, Ok, refl, sym, subst}
 use Rattle.avr_model.specs.declared.assumption.Entry.{Entry}
 use Rattle.avr_model.specs.Image.{WORDS, IsRawImage, raw_words}
 use Rattle.elf_load.specs.Elf.{is_elf}
-use Rattle.indirect_targets.specs.declared.fault.AssumeText.{AssumeText}
-use Rattle.indirect_targets.specs.Reading.{entries_in}
 use Rattle.indirect_targets.specs.Exact.{ReadingIsExact}
 use Rattle.local_rules.specs.Machine.{AreWords}
 use Rattle.witness_replay.specs.Runs.{ReplaysAreRuns}
 use Rattle.certificate.specs.Claims.{Claim}
-use Rattle.certificate.specs.Valid.{IsValid}
-use Rattle.cert_words.specs.Text.{text_of}
 use Rattle.cert_format.specs.Exact.{ReadIsSpelled, SpelledIsRead}
 use Rattle.cert_check.specs.Laws.{VerdictsAreOne, SoundCertificatesBoundEveryRun}
 use Rattle.round_laws.specs.Laws.{RoundsAreLeast, SolutionsAreValid}
@@ -19,13 +14,12 @@ use Rattle.answer_laws.specs.Laws.{AnswersAreOne}
 use Rattle.witness_search.specs.Laws.{WaypointsAreOne}
 use Rattle.commands.specs.Commands.{Command, Check, Analyse, Run, Report, Demo}
 use Rattle.replies.specs.Firmware.{IsFirmware, firmware_words, firmware_fault}
-use Rattle.replies.specs.Texts.{accepted}
 use Rattle.replies.specs.Reading.{Seen, Whole, Contents}
-use Rattle.replies.specs.Reply.{Reply, WithFile, WithOptional, ImageBy, WithImage, ListBy, WithList, AnalysedReply, WhyNotReply, AnalyseReply, told_of, IsReply}
-use Rattle.replies.specs.Headline.{ReadsWords, IsSeen, AreLoaded, AreRead, IsListOf, Mean, StandFor, Holds, HoldsAsRead, IsLeastCertificate, IsAcceptedAgain, IsLeastAsRead, Headline, AcceptsValid, AnswersRounds, IsExact, RepliesAreOne, AcceptingRepliesHold, RepliesAreExact}
+use Rattle.replies.specs.Reply.{Reply, WithFile, WithOptional, ImageBy, WithImage, ListBy, WithList, AnalyseReply, told_of, IsReply}
+use Rattle.replies.specs.Headline.{IsSeen, AreLoaded, IsListOf, StandFor, HoldsAsRead, IsLeastAsRead, AnswersRounds, RepliesAreOne, AcceptingRepliesHold, RepliesAreExact}
 use Rattle.replies.proofs.One.{replies_are_one}
-use Rattle.replies.proofs.Accepting.{zero_file, zero_optional, zero_image, zero_list, fault_of, words_of, IsJudgement, HoldsOf, judgement_holds, judged_valid, valid_judged}
-use Rattle.replies.proofs.Least.{IsBest, analysis_best, best_bounds, says_ends, not_written}
+use Rattle.replies.proofs.Accepting.{zero_file, zero_optional, zero_image, zero_list, fault_of, words_of, HoldsOf, judgement_holds, judged_valid, valid_judged}
+use Rattle.replies.proofs.Least.{analysis_best, best_bounds, says_ends, not_written}
 
 -- ---- what follows files that were read
 

@@ -7,13 +7,12 @@ use Rattle.cert_words.specs.Text.{text_of}
 use Rattle.round_rules.specs.declared.refusal.Refusal.{Refusal}
 use Rattle.round_rules.specs.declared.refusal.Refusal.TheVariants.{Memory}
 use Rattle.answer_laws.specs.Laws.{AnswersAreOne}
-use Rattle.witness_search.specs.Chains.{AreWaypoints}
 use Rattle.witness_search.specs.Laws.{WaypointsAreOne}
 use Rattle.witness_search.specs.Trials.{IsFound}
 use Rattle.demo_image.specs.Image.{demo_words}
 use Rattle.replies.specs.Texts.{why_not_status, why_not_text, demo_text}
 use Rattle.replies.specs.Analysis.{TrialsFind, IsAnalysis}
-use Rattle.replies.specs.Reply.{Reply, Says, Refuses, AnalysedReply, WhyNotReply, AnalyseReply, MeasuredReply, DemoReply}
+use Rattle.replies.specs.Reply.{Refuses, WhyNotReply, AnalyseReply, MeasuredReply, DemoReply}
 use Rattle.replies.proofs.Trials.{found_one}
 
 -- want of memory is never told

@@ -1,5 +1,5 @@
 -- What an analysis says that writes a certificate, and how its status says where the rounds end.
-use Rattle.std.proofs.Common.{◌≡◌, ◌≢◌, ◌≤◌, ◌*◌, ◌%◌, inl, inr, ◌⊎◌, ℕ, true, false, List, [], length, Option, Some, None, Result, Ok, Err, IfSome, IsOkAnd, refl, sym, ap, ◌∙◌, subst}
+use Rattle.std.proofs.Common.{◌≡◌, ◌≢◌, ◌≤◌, inl, inr, ◌⊎◌, ℕ, true, List, Option, Some, None, Result, Ok, Err, IfSome, IsOkAnd, refl, sym, ap, ◌∙◌, subst}
 use Rattle.std.specs.Option.{is_some}
 use Rattle.avr_model.specs.declared.assumption.Entry.{Entry}
 use Rattle.avr_model.specs.declared.choice.Stop.TheVariants as stop
@@ -16,14 +16,14 @@ use Rattle.cert_check.specs.Laws.{SoundCertificatesBoundEveryRun}
 use Rattle.round_rules.specs.declared.refusal.Refusal.{Refusal}
 use Rattle.round_rules.specs.declared.refusal.Refusal.TheVariants as refusal
 use Rattle.round_rules.specs.Refusals.{Test, over, faulty, re_entry, recursion, too_deep, refusal_of, GoesBeyond}
-use Rattle.round_rules.specs.Solutions.{IsShown, IsAnswer, IsRefusal, IsWhyNot}
+use Rattle.round_rules.specs.Solutions.{IsAnswer, IsRefusal, IsWhyNot}
 use Rattle.round_laws.specs.Laws.{RoundsAreLeast, SolutionsAreValid}
 use Rattle.answer_laws.specs.Laws.{AnswersAreOne}
 use Rattle.witness_search.specs.Trials.{IsFound}
 use Rattle.witness_search.specs.declared.waypoint.Waypoint.{Waypoint}
 use Rattle.replies.specs.Texts.{why_not_status, why_not_text}
 use Rattle.replies.specs.Analysis.{TrialsFind, IsAnalysis}
-use Rattle.replies.specs.Reply.{Refuses, AnalyseReply, AnalysedReply, WhyNotReply}
+use Rattle.replies.specs.Reply.{Refuses, AnalyseReply, WhyNotReply}
 use Rattle.replies.specs.Headline.{IsReached, HasValid, SaysHowRoundsEnd}
 use Rattle.replies.proofs.Analysing.{no_memory}
 

@@ -18,9 +18,9 @@ use Rattle.cert_check.specs.declared.verdict.Verdict.{Verdict}
 use Rattle.cert_check.specs.declared.verdict.Verdict.TheVariants.{Accepted, Rejected}
 use Rattle.commands.specs.Commands.{Command, Check, Analyse, Run, Report, Demo, Firmware, Second, Assumptions, name_of}
 use Rattle.replies.specs.Firmware.{firmware_words, firmware_fault}
-use Rattle.replies.specs.Texts.{too_long, assumptions_refused, certificate_refused, schedule_malformed, schedule_illegal, accepted, rejected, witness_rejected, run_text}
+use Rattle.replies.specs.Texts.{too_long, assumptions_refused, certificate_refused, schedule_malformed, schedule_illegal, rejected, witness_rejected, run_text}
 use Rattle.replies.specs.Reading.{Seen, Unread, Whole, Long}
-use Rattle.replies.specs.Reply.{Reply, Says, Refuses, WithFile, WithBytes, WithOptional, ImageBy, WithImage, ListBy, WithList, attains, AttainedBy, WitnessReply, VerdictReply, JudgedReply, CertificateReply, RunReply, EndsBefore, ScheduleReply, AnalyseReply, DemoReply, told_of, FlashReply, WorkReply}
+use Rattle.replies.specs.Reply.{Reply, Says, Refuses, WithFile, WithBytes, WithOptional, ImageBy, WithImage, ListBy, WithList, attains, AttainedBy, WitnessReply, VerdictReply, JudgedReply, CertificateReply, RunReply, EndsBefore, ScheduleReply, told_of, FlashReply, WorkReply}
 use Rattle.replies.specs.Headline.{RepliesAreOne}
 use Rattle.replies.proofs.Analysing.{analyse_one, demo_one}
 

@@ -1,6 +1,6 @@
 -- What the trials find is one: the first that succeeds, with its one schedule.
 use Rattle.std.specs.Bool.{⊤}
-use Rattle.std.proofs.Common.{◌≡◌, ◌≢◌, ◌≤◌, ◌-◌, ◌==◌, ◌&&◌, not, ℕ, zero, suc, Bool, true, false, List, [], ◌∷◌, ◌++◌, length, replicate, Contains, Option, Some, None, refl, sym, ap, ◌∙◌, subst, arith}
+use Rattle.std.proofs.Common.{◌≡◌, ◌≢◌, ◌≤◌, ◌-◌, ◌==◌, ◌&&◌, not, ℕ, zero, suc, Bool, true, List, [], ◌∷◌, ◌++◌, replicate, Contains, Option, Some, None, refl, sym, ap, ◌∙◌, subst, arith}
 use Rattle.std.proofs.lemmas.Bool.Decides.{nat_tests}
 use Rattle.std.proofs.lemmas.List.Elements.{Contains-append_right}
 use Rattle.avr_model.specs.declared.assumption.Entry.{Entry}
@@ -8,9 +8,9 @@ use Rattle.avr_model.specs.declared.choice.Choice.{Choice}
 use Rattle.avr_model.specs.declared.choice.Choice.TheVariants as choice
 use Rattle.witness_replay.specs.declared.schedule.Run.{Run}
 use Rattle.witness_replay.specs.declared.schedule.Run.TheVariants.{Go, Take}
-use Rattle.witness_replay.specs.Spelling.{Plan, AreRuns, most_choices, IsSchedule, choices_of, follows}
+use Rattle.witness_replay.specs.Spelling.{Plan, AreRuns, most_choices, choices_of}
 use Rattle.witness_search.specs.declared.waypoint.Waypoint.{Waypoint}
-use Rattle.witness_search.specs.Trials.{fills, trial_of, Succeeds, NoneSucceeds, IsTrial, IsFirst, IsFound}
+use Rattle.witness_search.specs.Trials.{fills, trial_of, Succeeds, NoneSucceeds, IsFirst, IsFound}
 
 -- ---- the choices of a schedule determine its runs
 

@@ -1,6 +1,6 @@
 -- Words of flash, which count modulo their number.
 use Rattle.std.proofs.Common.{◌≡◌, ◌%◌, ℕ, List, slice_index, ap, arith}
-use Rattle.avr_model.specs.Image.{WORDS, word_at}
+use Rattle.avr_model.specs.Image.{word_at}
 
 wraps : (a : ℕ) → a % 65536 % 16384 ≡ a % 16384
 wraps a = omega arith

@@ -63,13 +63,13 @@ written_headline o holds status before after w judge firmware certificate list j
     let names = judged_names judge j.firmware_name j.certificate_name j.assume j.judges in
     let h = judged_headline judge j.firmware_name j.certificate_name j.assume d.seen status w.text j.judges d.headline zero in
     let f : h.firmware ≡ firmware =
-        held_is (holds j.firmware_name) firmware_cap d.seen.firmware h.firmware firmware (agrees_as holds firmware_cap firmware_cap (name_of judge Firmware) j.firmware_name d.seen.firmware names.0 refl (d.agrees Firmware))
-        h.read.loaded.firmware_read j.firmware_held in
+    held_is (holds j.firmware_name) firmware_cap d.seen.firmware h.firmware firmware (agrees_as holds firmware_cap firmware_cap (name_of judge Firmware) j.firmware_name d.seen.firmware names.0 refl (d.agrees Firmware))
+    h.read.loaded.firmware_read j.firmware_held in
     let k : h.certificate ≡ certificate =
-        held_is (holds j.certificate_name) certificate_cap d.seen.second h.certificate certificate
-        (agrees_as holds (second_cap judge) certificate_cap (name_of judge Second) j.certificate_name d.seen.second names.1 names.3 (d.agrees Second)) h.read.second_read j.certificate_held in
+    held_is (holds j.certificate_name) certificate_cap d.seen.second h.certificate certificate
+    (agrees_as holds (second_cap judge) certificate_cap (name_of judge Second) j.certificate_name d.seen.second names.1 names.3 (d.agrees Second)) h.read.second_read j.certificate_held in
     let l : h.list ≡ list =
-        held_list holds j.assume d.seen.assumptions h.list list (subst (λ x. AgreesUnder holds assumption_cap x d.seen.assumptions) names.2 (d.agrees Assumptions)) h.read.loaded.list_read j.list_held in (
+    held_list holds j.assume d.seen.assumptions h.list list (subst (λ x. AgreesUnder holds assumption_cap x d.seen.assumptions) names.2 (d.agrees Assumptions)) h.read.loaded.list_read j.list_held in (
       w.text,
       subst (λ x. Holds judge firmware certificate x w.text) l (subst (λ x. Holds judge firmware x h.list w.text) k (subst (λ x. Holds judge x h.certificate h.list w.text) f h.holds)),
       w.grew,
@@ -82,13 +82,13 @@ are_read : (c : Command) (holds : List ℕ → Held) (seen : Contents) (fw cert 
 are_read c holds seen fw cert assume firmware certificate list status text names second third caps agree reply fh ff ch cf lh =
     let work : List ℕ → List ℕ → Option (List ℕ) → Reply = λ f s l. WorkReply c f s l in
     let whole : WithFile fw seen.firmware (λ f. WithFile cert seen.second (λ s. WithOptional assume seen.assumptions (λ l. work f s l))) status text =
-        subst (λ a. WithFile fw seen.firmware (λ f. WithFile cert seen.second (λ s. WithOptional a seen.assumptions (λ l. work f s l))) status text) third
-        (subst (λ k. WithFile fw seen.firmware (λ f. WithBytes k seen.second (λ s. WithOptional (name_of c Assumptions) seen.assumptions (λ l. work f s l))) status text) second
-        (subst (λ n. WithBytes n seen.firmware (λ f. WithBytes (name_of c Second) seen.second (λ s. WithOptional (name_of c Assumptions) seen.assumptions (λ l. work f s l))) status text) names reply)) in
+    subst (λ a. WithFile fw seen.firmware (λ f. WithFile cert seen.second (λ s. WithOptional a seen.assumptions (λ l. work f s l))) status text) third
+    (subst (λ k. WithFile fw seen.firmware (λ f. WithBytes k seen.second (λ s. WithOptional (name_of c Assumptions) seen.assumptions (λ l. work f s l))) status text) second
+    (subst (λ n. WithBytes n seen.firmware (λ f. WithBytes (name_of c Second) seen.second (λ s. WithOptional (name_of c Assumptions) seen.assumptions (λ l. work f s l))) status text) names reply)) in
     let first = file_held fw seen.firmware (holds fw) firmware_cap firmware (λ f. WithFile cert seen.second (λ s. WithOptional assume seen.assumptions (λ l. work f s l))) status text whole
-        (agrees_as holds firmware_cap firmware_cap (name_of c Firmware) fw seen.firmware names refl (agree Firmware)) fh ff in
+    (agrees_as holds firmware_cap firmware_cap (name_of c Firmware) fw seen.firmware names refl (agree Firmware)) fh ff in
     let next = file_held cert seen.second (holds cert) certificate_cap certificate (λ s. WithOptional assume seen.assumptions (λ l. work firmware s l)) status text first.1
-        (agrees_as holds (second_cap c) certificate_cap (name_of c Second) cert seen.second second caps (agree Second)) ch cf in
+    (agrees_as holds (second_cap c) certificate_cap (name_of c Second) cert seen.second second caps (agree Second)) ch cf in
     let last = optional_held holds assume seen.assumptions list (λ l. work firmware certificate l) status text next.1 (subst (λ x. AgreesUnder holds assumption_cap x seen.assumptions) third (agree Assumptions)) lh in
     record { loaded = record { firmware_read = first.0; list_read = last }; second_read = next.0 }
 
@@ -115,7 +115,7 @@ written_end o holds status before after w steps firmware list words A a mean =
     let c = Analyse a.firmware_name a.assume steps in
     let d = due_to o (Analyse a.firmware_name a.assume steps) holds status w.text a.named w.due in
     let first = file_held a.firmware_name d.seen.firmware (holds a.firmware_name) firmware_cap firmware (λ f. WithOptional a.assume d.seen.assumptions (λ l. WorkReply c f [] l)) status w.text d.reply
-        (d.agrees Firmware) a.firmware_held a.firmware_fits in
+    (d.agrees Firmware) a.firmware_held a.firmware_fits in
     let last = optional_held holds a.assume d.seen.assumptions list (λ l. WorkReply c firmware [] l) status w.text first.1 (d.agrees Assumptions) a.list_held in
     d.exact firmware list words A (record { firmware_read = first.0; list_read = last }) mean
 

@@ -191,6 +191,6 @@ pub loaded_reply : (laws : NamesThatSayTheSame) (command : Command) (firmware se
     → WithList list (λ A. LoadedReply command loaded second A) status text → ImageReply command firmware second list status text
 loaded_reply laws command firmware second list loaded status text g h =
     let there : WithList list (λ A. FlashReply command firmware second loaded.flash A) status text =
-        next_alike list (λ A. LoadedReply command loaded second A) (λ A. FlashReply command firmware second loaded.flash A) status text (λ A k. flash_alike laws command firmware second loaded A status text g.names g.static_end k) h in
+    next_alike list (λ A. LoadedReply command loaded second A) (λ A. FlashReply command firmware second loaded.flash A) status text (λ A k. flash_alike laws command firmware second loaded A status text g.names g.static_end k) h in
     by_fault (firmware_fault firmware) (WithList list (λ A. FlashReply command firmware second (firmware_words firmware) A)) status text g.loads
     (subst (λ ws. WithList list (λ A. FlashReply command firmware second ws A) status text) g.words there)

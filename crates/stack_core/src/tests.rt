@@ -73,9 +73,10 @@ const PUSH_AND_POP: &[u8] = &[0x0F, 0x92, 0x0F, 0x90, 0xFD, 0xCF];
 
 const NODES: &[(u16, u16)] = &[(0, 0), (1, 1), (2, 0)];
 
-/// A firmware, a certificate over it (bound, need, nodes, end), and what `check` says.
+/// Words, a firmware, a certificate over it (bound, need, nodes, end), and what is said.
 #[derive(Clone, Copy)]
 struct Judged {
+    words: &'static [&'static str],
     firmware: &'static [u8],
     bound: u16,
     need: u16,
@@ -88,7 +89,7 @@ struct Judged {
 fn is_judged(alloc: Global, row: &Judged) -> Result<bool, AllocError> {
     let text = certificate(alloc, row.bound, row.need, row.nodes, row.ending)?;
     let row = Row {
-        words: &["check", "FW", "SECOND"],
+        words: row.words,
         firmware: row.firmware,
         second: text.as_str(),
         list: "",
@@ -101,7 +102,8 @@ fn is_judged(alloc: Global, row: &Judged) -> Result<bool, AllocError> {
 
 #[test]
 fn certificates_are_judged(rt: HostRuntime) -> Result<(), Fail> {
-    let row = |firmware, bound, need, nodes, ending, status, printed| Judged {
+    let said = |words, firmware, bound, need, nodes, ending, status, printed| Judged {
+        words,
         firmware,
         bound,
         need,
@@ -109,6 +111,9 @@ fn certificates_are_judged(rt: HostRuntime) -> Result<(), Fail> {
         ending,
         status,
         printed,
+    };
+    let row = |firmware, bound, need, nodes, ending, status, printed| {
+        said(CHECK, firmware, bound, need, nodes, ending, status, printed)
     };
     let rows = [
         row(
@@ -167,6 +172,36 @@ fn certificates_are_judged(rt: HostRuntime) -> Result<(), Fail> {
             "rejected 3 node 1 to root 0000 0000000 0 0002 0000000 0 0 c0\n",
         ),
         row(
+            PUSH_AND_POP,
+            1,
+            1,
+            NODES,
+            NO_STEP,
+            1,
+            "rejected 8 witness\n",
+        ),
+        said(
+            &["report", "FW", "SECOND"],
+            PUSH_AND_POP,
+            1,
+            1,
+            NODES,
+            ATTAINED,
+            0,
+            "bound 1\nwitness attained\nstatic none\ninst root 0000 0000000 0 - need 1\n",
+        ),
+        said(
+            &["report", "FW", "SECOND", "--json"],
+            LOOP,
+            0,
+            0,
+            &[(0, 0)],
+            NO_STEP,
+            0,
+            "{\"bound\":0,\"fits\":null,\"instances\":[{\"enables\":0,\"entry\":0,\"i\":0,\"kind\":\"root\",\"name\":null,\"need\":0}],\"room\":null,\"static\":null,\"witness\":\"attained\"}\n",
+        ),
+        said(
+            &["report", "FW", "SECOND"],
             PUSH_AND_POP,
             1,
             1,

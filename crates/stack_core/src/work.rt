@@ -42,7 +42,13 @@ fn on_flash(
         Command::Run { .. } => run(alloc, flash, assumptions, second),
         Command::Report { json, .. } => {
             let json = *json;
-            check(alloc, flash, assumptions, Telling::Report { loaded, json }, second)
+            check(
+                alloc,
+                flash,
+                assumptions,
+                Telling::Report { loaded, json },
+                second,
+            )
         }
         Command::Demo { size } => demo(alloc, size),
     }
