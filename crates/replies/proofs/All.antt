@@ -1,5 +1,5 @@
 -- What the answers say, by command.
-use Rattle.std.proofs.Common.{◌≡◌, ◌≤◌, ◌*◌, ◌%◌, inl, inr, ℕ, List, length, Option, Some, None, Ok, refl, sym, subst}
+use Rattle.std.proofs.Common.{◌≡◌, ◌≤◌, ◌*◌, ◌%◌, inl, inr, ℕ, List, [], length, Option, Some, None, Ok, refl, sym, subst}
 use Rattle.avr_model.specs.declared.assumption.Entry.{Entry}
 use Rattle.avr_model.specs.Image.{WORDS, IsRawImage, raw_words}
 use Rattle.elf_load.specs.Elf.{is_elf}
@@ -12,14 +12,15 @@ use Rattle.cert_check.specs.Laws.{VerdictsAreOne, SoundCertificatesBoundEveryRun
 use Rattle.round_laws.specs.Laws.{RoundsAreLeast, SolutionsAreValid}
 use Rattle.answer_laws.specs.Laws.{AnswersAreOne}
 use Rattle.witness_search.specs.Laws.{WaypointsAreOne}
+use Rattle.demo_image.specs.Image.{demo_words}
 use Rattle.commands.specs.Commands.{Command, Check, Analyse, Run, Report, Demo}
 use Rattle.replies.specs.Firmware.{IsFirmware, firmware_words, firmware_fault}
 use Rattle.replies.specs.Reading.{Seen, Whole, Contents}
-use Rattle.replies.specs.Reply.{Reply, WithFile, WithOptional, ImageBy, WithImage, ListBy, WithList, AnalyseReply, told_of, IsReply}
-use Rattle.replies.specs.Headline.{IsSeen, AreLoaded, IsListOf, StandFor, HoldsAsRead, IsLeastAsRead, AnswersRounds, RepliesAreOne, AcceptingRepliesHold, RepliesAreExact}
+use Rattle.replies.specs.Reply.{Reply, WithFile, WithOptional, ImageBy, WithImage, ListBy, WithList, AnalyseReply, DemoReply, told_of, IsReply}
+use Rattle.replies.specs.Headline.{IsSeen, AreLoaded, IsListOf, StandFor, HoldsAsRead, IsLeastAsRead, IsMeasured, AnswersRounds, RepliesAreOne, AcceptingRepliesHold, RepliesAreExact}
 use Rattle.replies.proofs.One.{replies_are_one}
 use Rattle.replies.proofs.Accepting.{zero_file, zero_optional, zero_image, zero_list, fault_of, words_of, HoldsOf, judgement_holds, judged_valid, valid_judged}
-use Rattle.replies.proofs.Least.{analysis_best, best_bounds, says_ends, not_written}
+use Rattle.replies.proofs.Least.{analysis_best, best_bounds, Ends, analyse_ends, says_ends, not_written}
 
 -- ---- what follows files that were read
 
@@ -119,7 +120,18 @@ module _
       let first : WithOptional assume seen.assumptions (AfterAnalysis steps firmware) status text = file_read fw seen.firmware firmware (λ b. WithOptional assume seen.assumptions (AfterAnalysis steps b)) status text loaded.firmware_read h in
       let second = optional_read assume seen.assumptions list (AfterAnalysis steps firmware) status text loaded.list_read first in
       let image = image_read firmware words (λ ws. WithList list (λ B. AnalyseReply ws B steps)) status text mean.image second in
-      says_ends answers rounds solutions bounds runs words A steps status text (list_read list A (λ B. AnalyseReply words B steps) status text mean.assumptions image)
+      says_ends answers rounds solutions bounds runs words A steps status text
+      (analyse_ends answers rounds solutions bounds runs words A steps status text (list_read list A (λ B. AnalyseReply words B steps) status text mean.assumptions image))
+
+  -- ---- demo
+
+  measured : (size : ℕ) (text : List ℕ) → DemoReply size 0 text → IsMeasured size text
+  measured size text (inl h) = record { claim = h.claim; fits = h.fits; answer = h.answer; told = h.says.1 }
+  measured size text (inr k) = absurd (not_written answers rounds solutions bounds runs (demo_words size) [] None text k)
+
+  demo_ends : (size status : ℕ) (text : List ℕ) → DemoReply size status text → Ends answers rounds solutions bounds runs (demo_words size) [] None status text
+  demo_ends size status text (inl h) = inl (record { claim = h.claim; fits = h.fits; answer = h.answer; zero = h.says.0 })
+  demo_ends size status text (inr k) = inr k
 
   -- ---- all
 
@@ -133,7 +145,7 @@ module _
   replies_hold (Report fw cert assume json) seen status text h has =
       λ zero. holds_as (Report fw cert assume json) assume seen text
       (judgement_holds raw images lists read spelled bounds (told_of (Report fw cert assume json)) fw cert assume seen text (has zero) (subst (λ s. IsReply (Report fw cert assume json) seen s text) zero h))
-  replies_hold (Demo size) seen status text h has = tt
+  replies_hold (Demo size) seen status text h has = λ zero. measured size text (subst (λ s. IsReply (Demo size) seen s text) zero h)
 
   pub replies_are_exact : RepliesAreExact
   replies_are_exact (Check fw cert assume) seen status text h =
@@ -150,4 +162,4 @@ module _
         λ zero. judged_valid raw images lists read spelled bounds (told_of c) fw cert assume seen firmware certificate list words claim A are stand text (subst (λ s. IsReply c seen s text) zero h),
         λ v. (one c seen status 0 text _ h (valid_judged raw images lists read spelled bounds (told_of c) fw cert assume seen firmware certificate list words claim A are stand v)).0,
       )
-  replies_are_exact (Demo size) seen status text h = tt
+  replies_are_exact (Demo size) seen status text h = says_ends answers rounds solutions bounds runs (demo_words size) [] None status text (demo_ends size status text h)

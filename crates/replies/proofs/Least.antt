@@ -178,6 +178,22 @@ module _
   pub analysis_best : (c : Claim) → IsAnalysis words A steps c → IsBest c
   analysis_best c h = subst IsBest (sym h.is) (best_of (c, h))
 
+  -- ---- where the rounds end
+
+  -- they end at this certificate, and the status says so
+  pub record IsSolvedAt (status : ℕ) : Type 0 where
+    pub claim : Claim
+    pub fits : IsClaim claim
+    pub answer : IsAnswer words A steps claim
+    pub zero : status ≡ 0
+
+  abbrev pub Ends : ℕ → List ℕ → Type 0
+  Ends status text = IsSolvedAt status ⊎ WhyNotReply words A steps status text
+
+  pub analyse_ends : (status : ℕ) (text : List ℕ) → AnalyseReply words A steps status text → Ends status text
+  analyse_ends status text (inl h) = inl (record { claim = h.analysis.least; fits = h.analysis.claim; answer = h.analysis.answer; zero = h.says.0 })
+  analyse_ends status text (inr k) = inr k
+
   pub best_bounds : (c : Claim) → AreWords words → IsBest c → Bounded words A c.bound
   best_bounds c has h = bounds words A c has h.fits.claim h.valid.sound
 
@@ -202,12 +218,12 @@ module _
     not_told e (inl h) = two_zero status e h.0
     not_told e (inr h) = zero_eleven status e h.0
 
-    solved_if : AnalyseReply words A steps status text → status ≡ 0 → (c : Claim) × IsClaim c × IsAnswer words A steps c
-    solved_if (inl h) e = (h.analysis.least, h.analysis.claim, h.analysis.answer)
+    solved_if : Ends status text → status ≡ 0 → (c : Claim) × IsClaim c × IsAnswer words A steps c
+    solved_if (inl h) e = (h.claim, h.fits, h.answer)
     solved_if (inr k) e = not_told e (told_by k)
 
-    if_solved : AnalyseReply words A steps status text → ((c : Claim) × IsClaim c × IsAnswer words A steps c) → status ≡ 0
-    if_solved (inl h) s = h.says.0
+    if_solved : Ends status text → ((c : Claim) × IsClaim c × IsAnswer words A steps c) → status ≡ 0
+    if_solved (inl h) s = h.zero
     if_solved (inr k) s = absurd (not_memory k (one.either words A steps s.0 k.refusal s.2 k.why))
 
     -- ---- where there is a cause
@@ -217,15 +233,15 @@ module _
     cause_told k e (inl h) = (k.refusal, not_memory k, h.1)
     cause_told k e (inr h) = ten_eleven status e h.0
 
-    refused_if : AnalyseReply words A steps status text → status ≡ 10 → (r : Refusal) × (r ≢ refusal.Memory) × IsRefusal words A steps r
-    refused_if (inl h) e = two_zero status h.says.0 e
+    refused_if : Ends status text → status ≡ 10 → (r : Refusal) × (r ≢ refusal.Memory) × IsRefusal words A steps r
+    refused_if (inl h) e = two_zero status h.zero e
     refused_if (inr k) e = cause_told k e (told_by k)
 
-    if_why : AnalyseReply words A steps status text → (r : Refusal) → r ≢ refusal.Memory → IsWhyNot words A steps r → status ≡ why_not_status r
-    if_why (inl h) r m why = absurd (m (one.either words A steps h.analysis.least r h.analysis.answer why))
+    if_why : Ends status text → (r : Refusal) → r ≢ refusal.Memory → IsWhyNot words A steps r → status ≡ why_not_status r
+    if_why (inl h) r m why = absurd (m (one.either words A steps h.claim r h.answer why))
     if_why (inr k) r m why = told_status k ∙ ap why_not_status (one.why_not words A steps k.refusal r k.why why (not_memory k) m)
 
-    if_refused : AnalyseReply words A steps status text → ((r : Refusal) × (r ≢ refusal.Memory) × IsRefusal words A steps r) → status ≡ 10
+    if_refused : Ends status text → ((r : Refusal) × (r ≢ refusal.Memory) × IsRefusal words A steps r) → status ≡ 10
     if_refused reply h = let w = why_of words A steps h.0 h.2 h.1 in if_why reply h.0 h.1 w.0 ∙ w.1
 
     -- ---- where the budget is spent
@@ -234,17 +250,17 @@ module _
     spent_told e (inl h) = ten_eleven status h.0 e
     spent_told e (inr h) = h.1
 
-    spent_if : AnalyseReply words A steps status text → status ≡ 11 → (n : ℕ) × (steps ≡ Some n) × GoesBeyond words A n
-    spent_if (inl h) e = zero_eleven status h.says.0 e
+    spent_if : Ends status text → status ≡ 11 → (n : ℕ) × (steps ≡ Some n) × GoesBeyond words A n
+    spent_if (inl h) e = zero_eleven status h.zero e
     spent_if (inr k) e = spent_told e (told_by k)
 
-    if_spent : AnalyseReply words A steps status text → ((n : ℕ) × (steps ≡ Some n) × GoesBeyond words A n) → status ≡ 11
+    if_spent : Ends status text → ((n : ℕ) × (steps ≡ Some n) × GoesBeyond words A n) → status ≡ 11
     if_spent reply h = if_why reply (refusal.Spent h.0) (λ e. let wrong = e in cc) (h.1, h.2)
 
     -- ---- without a budget
 
-    valid_if : AnalyseReply words A steps status text → status ≡ 0 → HasValid words A
-    valid_if (inl h) e = let b = analysis_best h.claim h.analysis in (h.claim, b.fits.claim, b.valid)
+    valid_if : Ends status text → status ≡ 0 → HasValid words A
+    valid_if (inl h) e = (h.claim, h.fits, solutions.valid words A h.answer.number h.answer.family h.claim h.fits h.answer.solved h.answer.solution)
     valid_if (inr k) e = not_told e (told_by k)
 
     never_told : (k : WhyNotReply words A steps status text) → steps ≡ None → HasValid words A
@@ -252,11 +268,11 @@ module _
     never_told k none v (inl h) = absurd (rounds.never words A h.1.number v.0 k.refusal (record { claim = v.1; sound = v.2.sound }) h.1.refused)
     never_told k none v (inr h) = none_some steps h.1.0 none h.1.1
 
-    if_valid : AnalyseReply words A steps status text → steps ≡ None → HasValid words A → status ≡ 0
-    if_valid (inl h) none v = h.says.0
+    if_valid : Ends status text → steps ≡ None → HasValid words A → status ≡ 0
+    if_valid (inl h) none v = h.zero
     if_valid (inr k) none v = never_told k none v (told_by k)
 
-    pub says_ends : AnalyseReply words A steps status text → SaysHowRoundsEnd words A steps status
+    pub says_ends : Ends status text → SaysHowRoundsEnd words A steps status
     says_ends reply =
         record {
           solved = (solved_if reply, if_solved reply);

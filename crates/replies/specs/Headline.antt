@@ -14,10 +14,11 @@ use Rattle.round_rules.specs.declared.refusal.Refusal.{Refusal}
 use Rattle.round_rules.specs.declared.refusal.Refusal.TheVariants.{Memory}
 use Rattle.round_rules.specs.Refusals.{GoesBeyond}
 use Rattle.round_rules.specs.Solutions.{IsAnswer, IsRefusal}
+use Rattle.demo_image.specs.Image.{demo_words}
 use Rattle.commands.specs.Commands.{Command, Check, Analyse, Run, Report, Demo}
 use Rattle.local_rules.specs.Machine.{AreWords}
 use Rattle.replies.specs.Firmware.{IsFirmware, firmware_words}
-use Rattle.replies.specs.Texts.{accepted}
+use Rattle.replies.specs.Texts.{accepted, demo_text}
 use Rattle.replies.specs.Reading.{Seen, Whole, Contents}
 use Rattle.replies.specs.Analysis.{TrialsFind}
 use Rattle.replies.specs.Reply.{told_of, IsReply}
@@ -113,16 +114,25 @@ pub record IsLeastAsRead (assume : Option (List ℕ)) (seen : Contents) (text : 
   pub certificate : IsLeastCertificate firmware list text
   pub again : IsAcceptedAgain assume seen text certificate.claim
 
+-- ---- the numbers of an image
+
+-- the text tells the size of the image and the numbers of the certificate at which its rounds end
+pub record IsMeasured (size : ℕ) (text : List ℕ) : Type 0 where
+  pub claim : Claim
+  pub fits : IsClaim claim
+  pub answer : IsAnswer (demo_words size) [] None claim
+  pub told : text ≡ demo_text size claim
+
 -- ---- what status 0 says
 
--- where a certificate is accepted, the bound holds; where one is written, it is the least
+-- where a certificate is accepted, the bound holds; where one is written, it is the least; the numbers of an image are those of its rounds
 abbrev pub Headline : Command → Contents → ℕ → List ℕ → Type 0
 Headline (Check firmware certificate assume) seen status text = status ≡ 0 → HoldsAsRead (Check firmware certificate assume) assume seen text
 Headline (Analyse firmware assume steps) seen status text = status ≡ 0 → IsLeastAsRead assume seen text
 Headline (Run firmware schedule assume) seen status text = ⊤
 Headline (Report firmware certificate assume json) seen status text =
     status ≡ 0 → HoldsAsRead (Report firmware certificate assume json) assume seen text
-Headline (Demo size) seen status text = ⊤
+Headline (Demo size) seen status text = status ≡ 0 → IsMeasured size text
 
 -- ---- when the answers come
 
@@ -155,7 +165,7 @@ IsExact (Check firmware certificate assume) seen status = AcceptsValid assume se
 IsExact (Analyse firmware assume steps) seen status = AnswersRounds assume steps seen status
 IsExact (Run firmware schedule assume) seen status = ⊤
 IsExact (Report firmware certificate assume json) seen status = AcceptsValid assume seen status
-IsExact (Demo size) seen status = ⊤
+IsExact (Demo size) seen status = SaysHowRoundsEnd (demo_words size) [] None status
 
 -- ---- laws
 

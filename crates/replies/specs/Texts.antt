@@ -13,8 +13,6 @@ use Rattle.avr_model.specs.declared.choice.Stop.{Stop}
 use Rattle.avr_model.specs.declared.choice.Stop.TheVariants as stop
 use Rattle.indirect_targets.specs.declared.fault.AssumeText.{AssumeText}
 use Rattle.indirect_targets.specs.declared.fault.AssumeText.TheVariants as assume
-use Rattle.certificate.specs.declared.limit.Limit.{Limit as ClaimLimit}
-use Rattle.certificate.specs.declared.limit.Limit.TheVariants as claim_limit
 use Rattle.certificate.specs.Claims.{Claim}
 use Rattle.round_rules.specs.declared.refusal.Refusal.{Refusal}
 use Rattle.round_rules.specs.declared.refusal.Refusal.TheVariants as refusal
@@ -146,10 +144,6 @@ instruction_words None word at = codes "opcode" ∷ hex_digits word 4 ∷ []
 abbrev pub instruction_at : List ℕ → ℕ → List (List ℕ)
 instruction_at words at = instruction_words (decoded (word_at words at) (word_at words (at + 1))) (word_at words at) at
 
-abbrev pub large_word : ClaimLimit → List ℕ
-large_word claim_limit.Nodes = codes "nodes"
-large_word claim_limit.Cells = codes "cells"
-
 -- the number of a cause, its name, and the word at which it is
 abbrev pub cause_at : List ℕ → List ℕ → ℕ → List (List ℕ) → Option (List (List ℕ))
 cause_at number name at more = Some (codes "refused" ∷ number ∷ name ∷ codes "at" ∷ hex_digits at 4 ∷ more)
@@ -163,7 +157,7 @@ why_not_words words (refusal.ReEntry v at) = Some (codes "refused" ∷ codes "3"
 why_not_words words (refusal.UntrackedSp at) = cause_at (codes "4") (codes "untracked-sp") at (instruction_at words at)
 why_not_words words (refusal.Unsupported at) = cause_at (codes "5") (codes "unsupported") at (codes "opcode" ∷ hex_digits (word_at words at) 4 ∷ [])
 why_not_words words (refusal.TooDeep at need) = cause_at (codes "6") (codes "too-deep") at (codes "need" ∷ decimal need ∷ [])
-why_not_words words (refusal.TooLarge limit) = Some (codes "refused" ∷ codes "7" ∷ codes "too-large" ∷ large_word limit ∷ [])
+why_not_words words (refusal.TooLarge limit) = Some (codes "refused" ∷ codes "7" ∷ codes "too-large" ∷ limit_word limit ∷ [])
 why_not_words words (refusal.UnknownPointer at) = cause_at (codes "8") (codes "unknown-pointer") at (instruction_at words at)
 why_not_words words (refusal.Spent n) = Some (codes "spent" ∷ decimal n ∷ [])
 why_not_words words refusal.Memory = None

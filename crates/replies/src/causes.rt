@@ -4,8 +4,9 @@ ghost use Rattle.std.specs.Prelude.{◌≡◌, [], ◌∷◌, IfOk, OnOk, Some, 
 ghost use Rattle.sb_base.specs.Digits.{hex_digits};
 ghost use Rattle.sb_base.specs.Writing.{with_words};
 ghost use Rattle.avr_model.specs.Image.{word_at};
-ghost use Rattle.replies.specs.Texts.{AreWritten, instruction_at, large_word, why_not_words, why_not_text, demo_text};
+ghost use Rattle.replies.specs.Texts.{AreWritten, instruction_at, limit_word, why_not_words, why_not_text, demo_text};
 
+use crate::texts::limit_word;
 use avr_decode::{decode, text as instruction_text};
 use certificate::{Certificate, Limit};
 use flash_image::Flash;
@@ -63,22 +64,13 @@ fn put_re_entry(line: &mut LineWriter, vector: u8, at: u16) -> Result<(), AllocE
     line.hex(u32::from(at), 4)
 }
 
-fn large_word(limit: Limit) -> &'static [u8]
-    ensures { result.now ≡ large_word limit }
-{
-    match limit {
-        Limit::Nodes => b"nodes",
-        Limit::Cells => b"cells",
-    }
-}
-
 fn put_too_large(line: &mut LineWriter, limit: Limit) -> Result<(), AllocError>
-    ensures { OnOk result (line.new ≡ with_words line.old (codes "refused" ∷ codes "7" ∷ codes "too-large" ∷ large_word limit ∷ [])) }
+    ensures { OnOk result (line.new ≡ with_words line.old (codes "refused" ∷ codes "7" ∷ codes "too-large" ∷ limit_word limit ∷ [])) }
 {
     line.word(b"refused")?;
     line.word(b"7")?;
     line.word(b"too-large")?;
-    line.word(large_word(limit))
+    line.word(limit_word(limit))
 }
 
 fn put_need(line: &mut LineWriter, at: u16, need: u32) -> Result<(), AllocError>

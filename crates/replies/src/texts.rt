@@ -138,7 +138,8 @@ pub fn assumptions_refused(alloc: Global, fault: &AssumeText) -> Result<Vec<u8>,
     Ok(line.finish())
 }
 
-fn limit_word(limit: Limit) -> &'static [u8]
+/// The word of a limit that is passed.
+pub(crate) fn limit_word(limit: Limit) -> &'static [u8]
     ensures { result.now ≡ limit_word limit }
 {
     match limit {
