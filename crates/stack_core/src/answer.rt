@@ -10,7 +10,8 @@ ghost use Rattle.stack_core.specs.Answer.{IsAnswer, IsCutOff};
 use crate::reading::{Unread, gather};
 use crate::reply::Reply;
 use crate::work::work;
-use commands::{Command, command_of};
+use clap_words::command_of;
+use commands::Command;
 use replies::laws::replies_are_claims;
 use replies::texts;
 use sb_base::Files;
@@ -70,8 +71,9 @@ fn answer_to<F: Files>(
 pub fn answer<F: Files>(alloc: Global, words: &[&str], files: &mut F) -> Result<Reply, AllocError>
     ensures { MatchResult result (λ r. IsAnswer (command_of (map (λ w. w.now) words.now)) (F.holds files.old) (F.faults files.old) (F.faults files.new) (F.blamed files.new) r.status r.text.items) (λ e. IsCutOff (command_of (map (λ w. w.now) words.now)) (F.holds files.old) (F.faults files.old) (F.faults files.new) (F.blamed files.new)) }
 {
-    match command_of(words) {
-        Some(command) => answer_to(alloc, &command, files),
-        None => usage(alloc),
+    match command_of(alloc, words) {
+        Ok(Some(command)) => answer_to(alloc, &command, files),
+        Ok(None) => usage(alloc),
+        Err(fault) => Err(fault),
     }
 }

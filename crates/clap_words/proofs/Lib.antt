@@ -1,0 +1,4 @@
+mod Levels
+mod Pieces
+mod Steps
+mod Taken

@@ -1,0 +1,68 @@
+-- The program's command line as `clap` has it, and the words that are refused before. Source: own.
+use Rattle.std.specs.Prelude.{◌&&◌, ◌||◌, not, Bool, true, [], Some, codes}
+use Rattle.std.specs.Str.{bytes_eq}
+use Rattle.clap.specs.Words.{App, Rule, Text, new_app, new_rule, with_rule, with_subcommand}
+use Rattle.clap.specs.Simple.{new_shape}
+use Rattle.clap.specs.declared.builder.action.ArgAction.TheVariants.{SetTrue}
+use Rattle.commands.specs.Commands.{is_name}
+
+-- ---- what clap knows
+
+-- a name that has to stand there
+abbrev pub name_rule : Text → Rule
+name_rule id = record (new_rule id) { required = true }
+
+-- an option that takes the next word
+abbrev pub value_rule : Text → Rule
+value_rule id = record (new_rule id) { long = Some id }
+
+-- an option that takes none
+abbrev pub flag_rule : Text → Rule
+flag_rule id = record (new_rule id) { long = Some id; action = Some SetTrue }
+
+-- a firmware and a second file under an assumption file
+abbrev pub judging_app : Text → App
+judging_app name = with_rule (with_rule (with_rule (new_app name) (name_rule (codes "firmware"))) (name_rule (codes "second"))) (value_rule (codes "assume"))
+
+abbrev pub check_app : App
+check_app = judging_app (codes "check")
+
+abbrev pub run_app : App
+run_app = judging_app (codes "run")
+
+abbrev pub report_app : App
+report_app = with_rule (judging_app (codes "report")) (flag_rule (codes "json"))
+
+abbrev pub analyse_app : App
+analyse_app =
+    with_rule (with_rule (with_rule (new_app (codes "analyse")) (name_rule (codes "firmware"))) (value_rule (codes "assume"))) (value_rule (codes "steps"))
+
+abbrev pub demo_app : App
+demo_app = with_rule (new_app (codes "demo")) (name_rule (codes "size"))
+
+-- no help and no version
+abbrev pub bare_app : App
+bare_app = record {
+  top = record (new_shape (codes "stackbound")) {
+    no_binary_name = true;
+    disable_help_flag = true;
+    disable_help_subcommand = true;
+    disable_version_flag = true;
+    subcommand_required = true;
+  };
+  subs = [];
+}
+
+-- the program with its commands
+abbrev pub line_app : App
+line_app =
+    with_subcommand (with_subcommand (with_subcommand (with_subcommand (with_subcommand bare_app check_app.top) analyse_app.top) run_app.top) report_app.top) demo_app.top
+
+-- ---- what is refused before
+
+abbrev pub is_option : Text → Bool
+is_option word = bytes_eq word (codes "--assume") || (bytes_eq word (codes "--steps") || bytes_eq word (codes "--json"))
+
+-- an empty word, or one that begins with `-` and is none of the options
+abbrev pub is_refused : Text → Bool
+is_refused word = not (is_name word) && not (is_option word)

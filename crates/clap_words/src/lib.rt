@@ -1,0 +1,11 @@
+//! The words of the command line, read by `clap`.
+#![tactic(auto)]
+
+mod line;
+mod words;
+
+pub use commands::{Command, Size};
+pub use words::command_of;
+
+#[cfg(test)]
+mod tests;

@@ -1,0 +1,70 @@
+//! The command that words are.
+
+ghost use Rattle.std.specs.Prelude.{◌≡◌, ◌≢◌, IfOk, false, true, map};
+ghost use Rattle.std.specs.Option.{option_map};
+ghost use Rattle.std.specs.List.{list_any};
+ghost use Rattle.clap.specs.Words.{takes};
+ghost use Rattle.commands.specs.Commands.{command_of};
+ghost use Rattle.commands.specs.Views.{command_seen};
+ghost use Rattle.clap_words.specs.Lines.{is_refused, line_app};
+
+use crate::line::line_command;
+use clap::error::ErrorKind;
+use commands::Command;
+use std::alloc::{AllocError, Global};
+
+/// Whether the word is empty, or begins with `-` and is none of the options.
+fn is_refused(word: &str) -> bool
+    ensures { result ≡ is_refused word.now }
+{
+    match word.as_bytes() {
+        [] => true,
+        [first, ..] => {
+            *first == b'-' && word != "--assume" && word != "--steps" && word != "--json"
+        }
+    }
+}
+
+/// Whether some word is refused.
+fn has_refused(words: &[&str]) -> bool
+    ensures { result ≡ list_any is_refused (map (λ w. w.now) words.now) }
+{
+    match words {
+        [] => false,
+        [word, rest @ ..] => is_refused(word) || has_refused(rest),
+    }
+}
+
+/// Whether `clap` takes the words.
+fn is_taken<'a>(alloc: Global, words: &'a [&'a str]) -> Result<bool, AllocError>
+    ensures { IfOk result (λ b. b ≡ false → takes line_app (map (λ w. w.now) words.entry.now) ≢ true) }
+{
+    match line_command(alloc)?.try_get_matches_from(words) {
+        Ok(_) => Ok(true),
+        Err(error) => {
+            if error.kind() == ErrorKind::OutOfMemory {
+                Err(AllocError)
+            } else {
+                Ok(false)
+            }
+        }
+    }
+}
+
+/// The command that the words are, if they are one. An empty word is refused first, and one that begins with `-` and is none of the
+/// options; of the rest `clap` decides, and the numbers are read where it takes the words.
+pub fn command_of<'a>(
+    alloc: Global,
+    words: &'a [&'a str],
+) -> Result<Option<Command<'a>>, AllocError>
+    ensures { IfOk result (λ o. option_map command_seen o ≡ command_of (map (λ w. w.now) words.entry.now)) }
+{
+    if has_refused(words) {
+        return Ok(None);
+    }
+    if is_taken(alloc, words)? {
+        Ok(commands::command_of(words))
+    } else {
+        Ok(None)
+    }
+}
