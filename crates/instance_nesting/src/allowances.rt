@@ -17,7 +17,7 @@ pub(crate) struct Allowance {
     pub need: u64,
 }
 
-/// What the instances are allowed that had numbers when ranks and needs were worked out last, by these, and what any other is.
+/// What each instance with a number is allowed, by these, and what any other is.
 #[derive(Drop)]
 pub(crate) struct Allowances {
     pub known: Vec<Allowance>,
@@ -32,18 +32,42 @@ fn number_at(numbers: &[u32], i: usize) -> u64
     u64::from(numbers.get(i).copied().unwrap_or(0))
 }
 
+// How far below the allowance of one new instance that of the next is, in bytes, so that one may enter the next at offsets up to 6.
+const STEP: u64 = 8;
+
+// The ranks of instances that had numbers when ranks were worked out last are this far apart.
+const APART: u64 = 65_536;
+
 impl Allowance {
-    ghost use Rattle.std.specs.Prelude.{◌≡◌, ◌≤◌, ◌+◌, IsTrue};
+    ghost use Rattle.std.specs.Prelude.{◌≡◌, ◌≤◌, ◌+◌, IsTrue, IfSome};
     ghost use Rattle.instance_nesting.specs.Covers.{grant, Allows};
 
-    // What the instance of this number is allowed, where each step of ranks has this share of the room that is left.
-    fn granted(composed: &Composed, i: usize, share: u64, has_number: bool) -> Allowance
-        requires { share ≤ 2048 }
-        ensures { result ≡ grant composed.now.ranks composed.now.needs share has_number i }
+    // What the instance of this number is allowed, where all alike have this base, and each step of ranks this share.
+    fn granted(composed: &Composed, i: usize, base: u64, share: u64) -> Allowance
+        requires base { base ≤ 2048 }
+        requires share { share ≤ 2048 }
+        ensures { result ≡ grant composed.now.ranks composed.now.needs base share i }
     {
-        let rank = 2 * number_at(composed.ranks.as_slice(), i) + u64::from(has_number);
-        let need = number_at(composed.needs.as_slice(), i) + share * (rank + 1);
-        Allowance { rank, need }
+        let steps = number_at(composed.ranks.as_slice(), i) + 1;
+        let need = number_at(composed.needs.as_slice(), i) + base + share * steps;
+        Allowance {
+            rank: steps * APART,
+            need,
+        }
+    }
+
+    // What an instance is allowed that is new after one that is allowed this, where it is anything.
+    fn lower(self) -> Option<Allowance>
+        ensures rank { IfSome result (λ a. a.rank ≤ self.rank) }
+        ensures need { IfSome result (λ a. a.need ≤ self.need) }
+    {
+        if self.rank == 0 || self.need < STEP {
+            return None;
+        }
+        Some(Allowance {
+            rank: self.rank - 1,
+            need: self.need - STEP,
+        })
     }
 
     // Whether it covers that an instance that is allowed `into` is entered at this offset.
@@ -59,7 +83,7 @@ impl Allowance {
 impl Allowances {
     ghost use Rattle.std.specs.Prelude.{◌≡◌, ◌≤◌, ◌∷◌, [], IfOk, IsTrue, slice_index};
     ghost use Rattle.mask_states.specs.Keys.{root_inst};
-    ghost use Rattle.instance_nesting.specs.Covers.{allowed, Allows, HaveRoom};
+    ghost use Rattle.instance_nesting.specs.Covers.{allowed, HasNumber, Allows, Passes, HaveRoom};
 
     /// None, and no instance is allowed anything.
     pub fn none(alloc: Global) -> Allowances
@@ -71,19 +95,35 @@ impl Allowances {
         }
     }
 
-    /// What is granted over these ranks and needs of so many instances. The room that the root has left is shared out among all
-    /// steps of ranks.
+    /// What is granted over these ranks and needs of so many instances. Of the room that the root has left, half is for all alike,
+    /// and half is shared out among the steps of ranks.
     pub fn over(alloc: Global, composed: &Composed, count: usize) -> Result<Allowances, AllocError>
         requires { slice_index composed.now.needs 0 ≤ 2048 }
         ensures { IfOk result (λ a. HaveRoom composed.now.ranks composed.now.needs count a.known.items a.unknown) }
     {
-        let share = share(composed);
+        let base = base(composed);
+        let share = share(composed, base);
         let mut known = Vec::new(alloc);
         for i in 0..count {
-            known.push(Allowance::granted(composed, i, share, true))?;
+            known.push(Allowance::granted(composed, i, base, share))?;
         }
-        let unknown = Allowance::granted(composed, count, share, false);
+        let unknown = Allowance {
+            rank: APART - 1,
+            need: base,
+        };
         Ok(Allowances { known, unknown })
+    }
+
+    /// The next instance has a number: it keeps what it was allowed, and those that have none are allowed less. Whether there is less.
+    pub fn pass(&mut self) -> Result<bool, AllocError>
+        ensures { IfOk result (λ less. IsTrue less → Passes self.old.known.items self.old.unknown self.new.known.items self.new.unknown) }
+    {
+        let Some(unknown) = self.unknown.lower() else {
+            return Ok(false);
+        };
+        self.known.push(self.unknown)?;
+        self.unknown = unknown;
+        Ok(true)
     }
 
     // What the instance is allowed.
@@ -103,22 +143,31 @@ impl Allowances {
         u64::from(spot.offset()) <= self.of(others, spot.inst()).need
     }
 
-    /// Whether the entrance is covered.
+    /// Whether the entrance is covered, and from an instance that has a number.
     pub fn allow_entrance(&self, others: &IndexSet<NotedInst>, entrance: &NotedEntrance) -> bool
-        ensures { IsTrue result → Allows (allowed (root_inst ∷ others.now.keys) self.now.known.items self.now.unknown entrance.now.from) (allowed (root_inst ∷ others.now.keys) self.now.known.items self.now.unknown entrance.now.into) entrance.now.offset }
+        ensures numbered { IsTrue result → HasNumber (root_inst ∷ others.now.keys) entrance.now.from }
+        ensures allows { IsTrue result → Allows (allowed (root_inst ∷ others.now.keys) self.now.known.items self.now.unknown entrance.now.from) (allowed (root_inst ∷ others.now.keys) self.now.known.items self.now.unknown entrance.now.into) entrance.now.offset }
     {
+        if number(others, entrance.from()) > others.len() {
+            return false;
+        }
         self.of(others, entrance.from())
             .allows(self.of(others, entrance.into()), entrance.offset())
     }
 }
 
-// As much room for each step of ranks from nothing to the root, and one more, as the root's need leaves.
-fn share(composed: &Composed) -> u64
+// Half of what the root's need leaves.
+fn base(composed: &Composed) -> u64
     requires { slice_index composed.now.needs 0 ≤ 2048 }
-    ensures room { slice_index composed.now.needs 0 + result * (2 * slice_index composed.now.ranks 0 + 2) ≤ 2048 }
-    ensures low { result ≤ 2048 }
+    ensures { slice_index composed.now.needs 0 + 2 * result ≤ 2048 }
 {
-    let need = number_at(composed.needs.as_slice(), 0);
-    let steps = 2 * number_at(composed.ranks.as_slice(), 0) + 2;
-    (2048 - need) / steps
+    (2048 - number_at(composed.needs.as_slice(), 0)) / 2
+}
+
+// As much for each step of ranks from nothing to the root as this room has.
+fn share(composed: &Composed, room: u64) -> u64
+    ensures room { result * (slice_index composed.now.ranks 0 + 1) ≤ room }
+    ensures low { result ≤ room }
+{
+    room / (number_at(composed.ranks.as_slice(), 0) + 1)
 }

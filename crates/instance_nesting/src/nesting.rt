@@ -1,9 +1,10 @@
 //! The nesting of a family's instances.
 
-ghost use Rattle.std.specs.Prelude.{◌≡◌, ◌≤◌, length, IfOk, OnOk};
+ghost use Rattle.std.specs.Prelude.{◌≡◌, ◌≤◌, length, IfOk, OnOk, IsTrue};
 ghost use Rattle.mask_states.specs.Keys.{offset_of};
 ghost use Rattle.instance_nesting.specs.Nestings.{Noted, nothing, AreOnce, HasNode, HasEntrance, AreAlike, TellsAll};
 ghost use Rattle.instance_nesting.specs.Drawn.{insts_of, AreApart, HasMore, MoreKeys};
+ghost use Rattle.instance_nesting.specs.Covers.{KeepsUp};
 
 use crate::allowances::Allowances;
 use crate::drawing::drawn;
@@ -39,23 +40,40 @@ impl Model for Nesting {
     ghost invariant = { λ n. IsKept n.covered n.allowances.known.items n.allowances.unknown n.others.keys n.spots.keys n.entrances.keys };
 }
 
-// Keeps an instance, if it is new.
+// Keeps an instance, if it is new. Whether it has a number only now.
 fn keep_inst(
     has_root: &mut bool,
     others: &mut IndexSet<NotedInst>,
     inst: &InstKey,
-) -> Result<(), AllocError>
+) -> Result<bool, AllocError>
     requires apart { AreApart others.old.keys }
     ensures apart { AreApart others.new.keys }
-    ensures keys { OnOk result (MoreKeys others.old.keys inst.now others.new.keys) }
+    ensures keys { IfOk result (λ is_new. MoreKeys is_new others.old.keys inst.now others.new.keys) }
     ensures more { OnOk result (HasMore (insts_of has_root.old others.old.keys) inst.now (insts_of has_root.new others.new.keys)) }
 {
     if *inst == InstKey::root() {
         *has_root = true;
-    } else {
-        others.insert(NotedInst { key: *inst })?;
+        return Ok(false);
     }
-    Ok(())
+    Ok(others.insert(NotedInst { key: *inst })?)
+}
+
+// The allowances keep up with the numbers, where all was covered. Whether all is covered still.
+fn keep_allowed(
+    covered: bool,
+    allowances: &mut Allowances,
+    is_new: bool,
+) -> Result<bool, AllocError>
+    ensures covered { IfOk result (λ still. IsTrue still → IsTrue covered) }
+    ensures keeps { IfOk result (λ still. IsTrue still → KeepsUp is_new allowances.old.known.items allowances.old.unknown allowances.new.known.items allowances.new.unknown) }
+{
+    if !covered {
+        return Ok(false);
+    }
+    if is_new {
+        return allowances.pass();
+    }
+    Ok(true)
 }
 
 fn keep_spot(spots: &mut IndexSet<NotedSpot>, spot: NotedSpot) -> Result<(), AllocError>
@@ -107,7 +125,8 @@ impl Nesting {
     {
         let covered = self.covered;
         self.covered = false;
-        keep_inst(&mut self.has_root, &mut self.others, &key.inst)?;
+        let is_new = keep_inst(&mut self.has_root, &mut self.others, &key.inst)?;
+        let covered = keep_allowed(covered, &mut self.allowances, is_new)?;
         match key.sp {
             SpForm::Closed(offset) => {
                 let spot = NotedSpot::new(key.inst, offset);

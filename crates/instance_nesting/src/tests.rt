@@ -80,14 +80,29 @@ fn is_row(alloc: Global, notes: &[Note], wanted: Weight) -> bool {
     true
 }
 
+// Functions one below the other, each of them new when it is entered.
+fn chain() -> [Note; 81] {
+    let mut notes = [Note::Node(ROOT, 0); 81];
+    let mut from = ROOT;
+    for at in 0..40_u16 {
+        let into = (1, 100 + at);
+        notes[2 * at as usize + 1] = Note::Entrance(from, 1, into);
+        notes[2 * at as usize + 2] = Note::Node(into, 0);
+        from = into;
+    }
+    notes
+}
+
 #[test]
 fn nestings_tell_what_is_found_by_hand(rt: HostRuntime) {
     let function = (1, 40);
     let leaf = (1, 30);
     let handler = (5, 10);
     let later = (9, 18);
-    let rows: [(&[Note], Weight); 13] = [
+    let chain = chain();
+    let rows: [(&[Note], Weight); 14] = [
         (&[Note::Node(ROOT, 0)], Weight::Light),
+        (&chain, Weight::Light),
         // a need of exactly what SRAM has, and one more
         (&[Note::Node(ROOT, 2_048)], Weight::Light),
         (

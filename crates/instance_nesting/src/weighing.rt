@@ -1,6 +1,6 @@
 //! What a graph of instances tells.
 
-ghost use Rattle.std.specs.Prelude.{◌≡◌, ℕ, List, Some, IfSome, IfOk, slice_get};
+ghost use Rattle.std.specs.Prelude.{◌≡◌, ℕ, List, Some, IfSome, IfOk, IsTrue, slice_get};
 ghost use Rattle.avr_model.specs.declared.assumption.Entry.{Entry};
 ghost use Rattle.mask_states.specs.declared.keys.InstKey.{InstKey};
 ghost use Rattle.nesting_bound.specs.Graph.{IsGraph};
@@ -9,7 +9,7 @@ ghost use Rattle.round_rules.specs.Families.{Family};
 ghost use Rattle.graph_laws.specs.Graphs.{IsGraphOf};
 ghost use Rattle.instance_nesting.specs.Nestings.{Tells};
 ghost use Rattle.instance_nesting.specs.Drawn.{GraphTells};
-ghost use Rattle.instance_nesting.specs.Covers.{HaveRoomOver};
+ghost use Rattle.instance_nesting.specs.Covers.{IsBare, HaveRoomOver};
 
 use crate::allowances::Allowances;
 use crate::weight::Weight;
@@ -31,6 +31,16 @@ fn named(graph: &[GraphInst], at: u32) -> Weight
     }
 }
 
+// Whether the instance of this number has no places and enters none.
+fn is_bare(graph: &[GraphInst], at: usize) -> bool
+    ensures { IsTrue result → IsBare graph.now at }
+{
+    match graph.get(at) {
+        Some(inst) => inst.offsets.as_slice().is_empty() && inst.entered.as_slice().is_empty(),
+        None => false,
+    }
+}
+
 /// What the graph of a family tells, and where it is light, what its instances are allowed.
 #[derive(Drop)]
 pub(crate) struct Weighed {
@@ -38,7 +48,8 @@ pub(crate) struct Weighed {
     pub allowances: Option<Allowances>,
 }
 
-/// What the graph of a family tells. So many of its instances have numbers.
+/// What the graph of a family tells. So many of its instances have numbers, and the one behind stands for all that have none: nothing is
+/// allowed where that has places or enters others.
 pub(crate) fn weigh_graph(alloc: Global, graph: &Graph, count: usize) -> Result<Weighed, AllocError>
     requires { IsGraph graph.now.instances }
     ensures tells { IfOk result (λ w. GraphTells graph.now.instances w.weight) }
@@ -62,8 +73,13 @@ pub(crate) fn weigh_graph(alloc: Global, graph: &Graph, count: usize) -> Result<
             allowances: None,
         });
     }
+    let allowances = if is_bare(graph.instances.as_slice(), count) {
+        Some(Allowances::over(alloc, &composed, count)?)
+    } else {
+        None
+    };
     Ok(Weighed {
         weight: Weight::Light,
-        allowances: Some(Allowances::over(alloc, &composed, count)?),
+        allowances,
     })
 }
