@@ -1,8 +1,7 @@
 //! How edges lead to nodes.
 
-ghost use Rattle.std.specs.Prelude.{◌≡◌, ◌≤◌, ◌<◌, fold, length, IfOk};
+ghost use Rattle.std.specs.Prelude.{◌≡◌, ◌≤◌, fold, length, IfOk};
 ghost use Rattle.call_graph.specs.Exits.{AreExits};
-ghost use Rattle.edge_rules.specs.Views.{AreShown};
 ghost use Rattle.solution.specs.Leads.{led, noted, AreLeads};
 
 use call_graph::{Edge, EdgeKind, Exits, View, next_with};

@@ -1,6 +1,6 @@
 //! The certificate, part by part.
 
-ghost use Rattle.std.specs.Prelude.{ℕ, ◌≡◌, ◌≤◌, ◌<◌, length, map, IfOk};
+ghost use Rattle.std.specs.Prelude.{ℕ, ◌≡◌, length, IfOk};
 ghost use Rattle.nesting_bound.specs.Graph.{IsGraph};
 ghost use Rattle.nesting_bound.specs.Least.{IsLeast};
 ghost use Rattle.nesting_bound.specs.Cycle.{IsNamed};
@@ -52,7 +52,7 @@ fn instances(alloc: Global, graph: &Graph, composed: &Composed) -> Result<Vec<In
     Ok(insts)
 }
 
-/// The certificate of the family at which the rounds end, without a schedule.
+/// The certificate of the family at which the rounds end, without a schedule. Each local part is worked out four times.
 pub fn certificate_of(
     alloc: Global,
     flash: &Flash,
