@@ -12,7 +12,7 @@ use Rattle.mask_states.specs.Order.{node_cmp}
 use Rattle.local_rules.specs.declared.local.Node.{Node}
 use Rattle.local_rules.specs.declared.local.NodeFault.TheVariants as fault
 use Rattle.local_laws.specs.Laws.{AreNodes}
-use Rattle.local_laws.proofs.Members.{none_in, each_of}
+use Rattle.local_laws.proofs.AllLaws.{none_in, each_of}
 use Rattle.edge_laws.specs.Laws.{with_state}
 use Rattle.edge_laws.proofs.AllLaws.{edges_lead_to_nodes}
 use Rattle.certificate.specs.Claims.{cells_of}

@@ -11,7 +11,7 @@ use Rattle.mask_states.specs.Order.{same_inst}
 use Rattle.mask_states.specs.Total.{inst_equivalence}
 use Rattle.mask_states.proofs.AllLaws.{keys_are_ordered}
 use Rattle.local_rules.specs.declared.local.Node.{Node}
-use Rattle.local_laws.proofs.Members.{here, there, in_map}
+use Rattle.local_laws.proofs.AllLaws.{here, there, in_map}
 use Rattle.round_rules.specs.Families.{Family, node_of, nodes_of}
 use Rattle.round_laws.proofs.AllLaws.{families_are_their_nodes}
 use Rattle.instance_nesting.specs.Nestings.{Noted, AreOnce, IsNestingOf, NestingsAreSmall}

@@ -6,7 +6,7 @@ use Rattle.std.proofs.lemmas.List.Elements.{Contains-append_left, Contains-push,
 use Rattle.mask_states.specs.declared.keys.InstKey.{InstKey}
 use Rattle.mask_states.specs.declared.keys.NodeKey.{NodeKey}
 use Rattle.local_rules.specs.declared.local.Exit.{Exit}
-use Rattle.local_laws.proofs.Members.{none_in}
+use Rattle.local_laws.proofs.AllLaws.{none_in}
 use Rattle.call_graph.specs.declared.ways.Way.{Way}
 use Rattle.family_table.specs.declared.ports.Port.{Port}
 use Rattle.family_table.specs.Ports.{Groups, IsAdded}

@@ -13,7 +13,7 @@ use Rattle.mask_states.specs.Order.{node_cmp}
 use Rattle.mask_states.specs.Total.{node_total}
 use Rattle.local_rules.specs.declared.local.Node.{Node}
 use Rattle.local_laws.specs.Laws.{AreNodes}
-use Rattle.local_laws.proofs.Members.{here, there}
+use Rattle.local_laws.proofs.AllLaws.{here, there}
 use Rattle.certificate.specs.Claims.{cells_of}
 use Rattle.round_rules.specs.Families.{Family, AreFormed, cells}
 use Rattle.round_laws.specs.Steps.{joined_with, raised, raised_all, weight}

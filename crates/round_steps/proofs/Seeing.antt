@@ -9,7 +9,7 @@ use Rattle.local_rules.specs.declared.local.NodeFault.{NodeFault}
 use Rattle.local_rules.specs.declared.local.NodeFault.TheVariants.{Memory}
 use Rattle.local_rules.specs.Local.{local}
 use Rattle.local_rules.specs.Faults.{depth_of}
-use Rattle.local_laws.proofs.Members.{none_in}
+use Rattle.local_laws.proofs.AllLaws.{none_in}
 use Rattle.call_graph.specs.Ways.{ways_of}
 use Rattle.round_rules.specs.Families.{Family}
 use Rattle.round_rules.specs.Refusals.{IsNoLater, word_of}

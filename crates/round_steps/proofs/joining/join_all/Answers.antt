@@ -2,7 +2,7 @@ use Rattle.std.proofs.Common.{sym, subst, List}
 use Rattle.std.specs.Vec.Iter.{into_iter_items}
 use Rattle.local_rules.specs.declared.local.Node.{Node}
 use Rattle.local_laws.specs.Laws.{AreNodes}
-use Rattle.local_laws.proofs.Members.{here}
+use Rattle.local_laws.proofs.AllLaws.{here}
 use Rattle.round_steps.specs.Joins.{SoFar}
 use Rattle.round_steps.proofs.Joins.{none_yet, one_more}
 use Rattle.round_steps.proofs.joining.join_all.Goals as goal
