@@ -30,6 +30,11 @@ past [] i d le = refl
 past (x ∷ xs) zero d le = absurd (omega (arith, le))
 past (x ∷ xs) (suc i) d le = past xs i d (omega (arith, le))
 
+any_default : (xs : List Allowance) (i : ℕ) (a b : Allowance) → i < length xs → get_or xs i a ≡ get_or xs i b
+any_default [] i a b lt = absurd (omega (arith, lt))
+any_default (x ∷ xs) zero a b lt = refl
+any_default (x ∷ xs) (suc i) a b lt = any_default xs i a b (omega (arith, lt))
+
 -- ---- granting one more
 
 pub one_more : (ranks needs : List ℕ) (base share : ℕ) (known : List Allowance) (count : ℕ) (a : Allowance) → length known ≡ count → a ≡ grant ranks needs base share count
@@ -181,11 +186,6 @@ module _ (keys : List InstKey) (k : InstKey) (known : List Allowance) (unknown :
       by (inl same) = omega (arith, same, le)
       by (inr h) = h.1
 
-  any_default : (xs : List Allowance) (i : ℕ) (a b : Allowance) → i < length xs → get_or xs i a ≡ get_or xs i b
-  any_default [] i a b lt = absurd (omega (arith, lt))
-  any_default (x ∷ xs) zero a b lt = refl
-  any_default (x ∷ xs) (suc i) a b lt = any_default xs i a b (omega (arith, lt))
-
   -- an instance that had a number keeps what it was allowed
   pub number_keeps : (inst : InstKey) → HasNumber keys inst → allowed longer new lower inst ≡ allowed keys known unknown inst
   number_keeps inst lt =
@@ -242,6 +242,40 @@ module _ (keys : List InstKey) (k : InstKey) (known : List Allowance) (unknown :
           let less = no_more x.into in
           record { rank = omega (arith, allows.rank, less.0); need = omega (arith, allows.need, less.1) }
 
+-- those that have no number may be allowed less
+pub covers_lower : (keys : List InstKey) (known : List Allowance) (unknown lower : Allowance) (spots : List Spot) (entrances : List Entrance) → lower.rank ≤ unknown.rank
+    → lower.need ≤ unknown.need → Covers keys known unknown spots entrances → Covers keys known lower spots entrances
+covers_lower keys known unknown lower spots entrances rank need covers = record {
+  count = covers.count;
+  root = omega (arith, (less root_inst).1, covers.root);
+  spots_of = covers.spots_of;
+  each_spot = λ s h. subst (λ (a : Allowance). s.offset ≤ a.need) (same s.inst (covers.spots_of s h)) (covers.each_spot s h);
+  entered_from = covers.entered_from;
+  each_entrance = λ x h. subst (λ (a : Allowance). Allows a (allowed keys known lower x.into) x.offset) (same x.from (covers.entered_from x h)) (enters x h);
+}
+  where
+    same : (inst : InstKey) → HasNumber keys inst → allowed keys known unknown inst ≡ allowed keys known lower inst
+    same inst lt = any_default known (number_of keys inst) unknown lower (omega (arith, lt, covers.count))
+
+    less : (inst : InstKey)
+        → ((allowed keys known lower inst).rank ≤ (allowed keys known unknown inst).rank) × ((allowed keys known lower inst).need ≤ (allowed keys known unknown inst).need)
+    less inst = by (cases_lt (number_of keys inst) (length keys))
+      where
+        by : HasNumber keys inst ⊎ (length keys ≤ number_of keys inst)
+            → ((allowed keys known lower inst).rank ≤ (allowed keys known unknown inst).rank) × ((allowed keys known lower inst).need ≤ (allowed keys known unknown inst).need)
+        by (inl lt) = (omega (arith, ap (λ (a : Allowance). a.rank) (same inst lt)), omega (arith, ap (λ (a : Allowance). a.need) (same inst lt)))
+        by (inr le) =
+            let now = past known (number_of keys inst) lower (omega (arith, le, covers.count)) in
+            let then = past known (number_of keys inst) unknown (omega (arith, le, covers.count)) in (
+              omega (arith, rank, ap (λ (a : Allowance). a.rank) now, ap (λ (a : Allowance). a.rank) then),
+              omega (arith, need, ap (λ (a : Allowance). a.need) now, ap (λ (a : Allowance). a.need) then),
+            )
+
+    enters : (x : Entrance) → Contains entrances x → Allows (allowed keys known unknown x.from) (allowed keys known lower x.into) x.offset
+    enters x h =
+        let allows = covers.each_entrance x h in
+        record { rank = omega (arith, allows.rank, (less x.into).0); need = omega (arith, allows.need, (less x.into).1) }
+
 pub covers_spot : (keys : List InstKey) (known : List Allowance) (unknown : Allowance) (spots new : List Spot) (entrances : List Entrance) (s : Spot)
     → HasNumber keys s.inst → s.offset ≤ (allowed keys known unknown s.inst).need → HasMore spots s new → Covers keys known unknown spots entrances
     → Covers keys known unknown new entrances
@@ -297,6 +331,13 @@ module _ (covered : Bool) (known : List Allowance) (unknown : Allowance) (others
   kept_inst still is_new inst more new lower apart keys before keeps = record {
     apart = apart;
     covers = λ t. covers_keys is_new others inst more known unknown new lower spots entrances keys (keeps t) (kept.covers (before t));
+  }
+
+  pub kept_lower : (new : List Allowance) (lower : Allowance) → new ≡ known → lower.rank ≤ unknown.rank → lower.need ≤ unknown.need → IsKept covered new lower others spots entrances
+  kept_lower new lower same rank need = record {
+    apart = kept.apart;
+    covers = λ t. subst (λ (l : List Allowance). Covers (root_inst ∷ others) l lower spots entrances) (sym same)
+        (covers_lower (root_inst ∷ others) known unknown lower spots entrances rank need (kept.covers t));
   }
 
   pub kept_spot : (still : Bool) (s : Spot) (more : List Spot) → HasNumber (root_inst ∷ others) s.inst → HasMore spots s more

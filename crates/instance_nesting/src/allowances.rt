@@ -32,14 +32,15 @@ fn number_at(numbers: &[u32], i: usize) -> u64
     u64::from(numbers.get(i).copied().unwrap_or(0))
 }
 
-// How far below the allowance of one new instance that of the next is, in bytes, so that one may enter the next at offsets up to 6.
+// How far below the allowance of one new instance that of another is which it enters, besides the offset, in bytes: two for the return
+// address, and six so that it may enter it again at a greater offset.
 const STEP: u64 = 8;
 
 // The ranks of instances that had numbers when ranks were worked out last are this far apart.
 const APART: u64 = 65_536;
 
 impl Allowance {
-    ghost use Rattle.std.specs.Prelude.{◌≡◌, ◌≤◌, ◌+◌, IsTrue, IfSome};
+    ghost use Rattle.std.specs.Prelude.{◌≡◌, ◌≤◌, ◌+◌, IsTrue};
     ghost use Rattle.instance_nesting.specs.Covers.{grant, Allows};
 
     // What the instance of this number is allowed, where all alike have this base, and each step of ranks this share.
@@ -56,18 +57,17 @@ impl Allowance {
         }
     }
 
-    // What an instance is allowed that is new after one that is allowed this, where it is anything.
-    fn lower(self) -> Option<Allowance>
-        ensures rank { IfSome result (λ a. a.rank ≤ self.rank) }
-        ensures need { IfSome result (λ a. a.need ≤ self.need) }
+    // As much of it as an instance may be allowed that one which is allowed `from` enters at this offset.
+    fn below(self, from: Allowance, offset: u16) -> Allowance
+        ensures rank { result.rank ≤ self.rank }
+        ensures need { result.need ≤ self.need }
     {
-        if self.rank == 0 || self.need < STEP {
-            return None;
+        Allowance {
+            rank: self.rank.min(from.rank.saturating_sub(1)),
+            need: self
+                .need
+                .min(from.need.saturating_sub(u64::from(offset) + STEP)),
         }
-        Some(Allowance {
-            rank: self.rank - 1,
-            need: self.need - STEP,
-        })
     }
 
     // Whether it covers that an instance that is allowed `into` is entered at this offset.
@@ -81,7 +81,7 @@ impl Allowance {
 }
 
 impl Allowances {
-    ghost use Rattle.std.specs.Prelude.{◌≡◌, ◌≤◌, ◌∷◌, [], IfOk, IsTrue, slice_index};
+    ghost use Rattle.std.specs.Prelude.{◌≡◌, ◌≤◌, ◌∷◌, [], IfOk, OnOk, IsTrue, slice_index};
     ghost use Rattle.mask_states.specs.Keys.{root_inst};
     ghost use Rattle.instance_nesting.specs.Covers.{allowed, HasNumber, Allows, Passes, HaveRoom};
 
@@ -114,16 +114,25 @@ impl Allowances {
         Ok(Allowances { known, unknown })
     }
 
-    /// The next instance has a number: it keeps what it was allowed, and those that have none are allowed less. Whether there is less.
-    pub fn pass(&mut self) -> Result<bool, AllocError>
-        ensures { IfOk result (λ less. IsTrue less → Passes self.old.known.items self.old.unknown self.new.known.items self.new.unknown) }
+    /// The next instance has a number, and keeps what it was allowed.
+    pub fn pass(&mut self) -> Result<(), AllocError>
+        ensures { OnOk result (Passes self.old.known.items self.old.unknown self.new.known.items self.new.unknown) }
     {
-        let Some(unknown) = self.unknown.lower() else {
-            return Ok(false);
-        };
         self.known.push(self.unknown)?;
-        self.unknown = unknown;
-        Ok(true)
+        Ok(())
+    }
+
+    /// Where an instance is entered that has no number, all that have none are allowed no more than what the entrance covers. None of them
+    /// has a spot or enters others, so that all stays covered.
+    pub fn make_room(&mut self, others: &IndexSet<NotedInst>, entrance: &NotedEntrance)
+        ensures known { self.new.known.items ≡ self.old.known.items }
+        ensures rank { self.new.unknown.rank ≤ self.old.unknown.rank }
+        ensures need { self.new.unknown.need ≤ self.old.unknown.need }
+    {
+        if number(others, entrance.into()) > others.len() {
+            let from = self.of(others, entrance.from());
+            self.unknown = self.unknown.below(from, entrance.offset());
+        }
     }
 
     // What the instance is allowed.

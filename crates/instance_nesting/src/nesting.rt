@@ -58,7 +58,7 @@ fn keep_inst(
     Ok(others.insert(NotedInst { key: *inst })?)
 }
 
-// The allowances keep up with the numbers, where all was covered. Whether all is covered still.
+// The allowances keep up with the numbers, where all is covered.
 fn keep_allowed(
     covered: bool,
     allowances: &mut Allowances,
@@ -67,13 +67,10 @@ fn keep_allowed(
     ensures covered { IfOk result (λ still. IsTrue still → IsTrue covered) }
     ensures keeps { IfOk result (λ still. IsTrue still → KeepsUp is_new allowances.old.known.items allowances.old.unknown allowances.new.known.items allowances.new.unknown) }
 {
-    if !covered {
-        return Ok(false);
+    if covered && is_new {
+        allowances.pass()?;
     }
-    if is_new {
-        return allowances.pass();
-    }
-    Ok(true)
+    Ok(covered)
 }
 
 fn keep_spot(spots: &mut IndexSet<NotedSpot>, spot: NotedSpot) -> Result<(), AllocError>
@@ -149,6 +146,7 @@ impl Nesting {
         ensures once { OnOk result (AreOnce self.new.insts) }
     {
         let entrance = NotedEntrance::new(key.inst, *into, key.offset());
+        self.allowances.make_room(&self.others, &entrance);
         let covered = self.covered && self.allowances.allow_entrance(&self.others, &entrance);
         self.covered = false;
         keep_entrance(&mut self.entrances, entrance)?;
