@@ -223,6 +223,11 @@ const WITH_LIST: &[&str] = &["check", "--assume", "LIST", "FW", "SECOND"];
 
 const RUN: &[&str] = &["run", "FW", "SECOND"];
 
+const ANALYSE: &[&str] = &["analyse", "FW"];
+
+/// `rcall` of its own word.
+const CALLS_ITSELF: &[u8] = &[0xFF, 0xDF];
+
 /// `rjmp` over a handler, INT0 enabled, `sei`, and a loop.
 const INTERRUPT: &[u8] = &[
     0x03, 0xC0, 0, 0, 0x18, 0x95, 0, 0, 0xE8, 0x9A, 0x78, 0x94, 0xFF, 0xCF,
@@ -261,6 +266,26 @@ fn commands_are_answered(rt: HostRuntime) -> Result<(), Fail> {
             "read fault LIST\n",
         ),
         row(CHECK, LOOP, "", "", (None, Some(0)), 4, ""),
+        row(ANALYSE, LOOP, "", "", (Some(0), None), 3, "read fault FW\n"),
+        row(ANALYSE, LOOP, "", "", (None, Some(0)), 4, ""),
+        row(
+            ANALYSE,
+            CALLS_ITSELF,
+            "",
+            "",
+            fine,
+            10,
+            "refused 2 recursion at 0000\n",
+        ),
+        row(
+            &["analyse", "FW", "--steps", "0"],
+            CALLS_ITSELF,
+            "",
+            "",
+            fine,
+            11,
+            "spent 0\n",
+        ),
         row(&[], LOOP, "", "", fine, 2, "usage\n"),
         row(
             &["check", "FW", "SECOND", "--json"],
@@ -356,6 +381,35 @@ fn commands_are_answered(rt: HostRuntime) -> Result<(), Fail> {
     ];
     for (at, row) in rows.iter().enumerate() {
         assert!(rt; is_row(rt.alloc(), row)?, "row {at}");
+    }
+    Ok(())
+}
+
+/// Whether the least certificate of a firmware is this text, where each of the first puts takes one byte.
+fn is_written(
+    alloc: Global,
+    firmware: &[u8],
+    short_puts: u32,
+    text: &str,
+) -> Result<bool, AllocError> {
+    let mut files = MemFiles::new(alloc);
+    files.add("FW", firmware)?;
+    let mut out = MemSink::new(alloc);
+    for call in 0..short_puts {
+        out.short(call, 1)?;
+    }
+    let status = stackbound(alloc, ANALYSE, &mut files, &mut out);
+    Ok(status == 0 && out.written() == text.as_bytes())
+}
+
+#[test]
+fn certificates_are_written_whole(rt: HostRuntime) -> Result<(), Fail> {
+    let text = certificate(rt.alloc(), 0, 0, &[(0, 0)], NO_STEP)?;
+    for short_puts in [0, 1, 400] {
+        assert!(rt;
+            is_written(rt.alloc(), LOOP, short_puts, text.as_str())?,
+            "short puts {short_puts}"
+        );
     }
     Ok(())
 }
