@@ -102,8 +102,8 @@ fn is_judged(alloc: Global, row: &Judged) -> Result<bool, AllocError> {
 
 #[test]
 fn certificates_are_judged(rt: HostRuntime) -> Result<(), Fail> {
-    let said = |words, firmware, bound, need, nodes, ending, status, printed| Judged {
-        words,
+    let row = |firmware, bound, need, nodes, ending, status, printed| Judged {
+        words: CHECK,
         firmware,
         bound,
         need,
@@ -112,8 +112,25 @@ fn certificates_are_judged(rt: HostRuntime) -> Result<(), Fail> {
         status,
         printed,
     };
-    let row = |firmware, bound, need, nodes, ending, status, printed| {
-        said(CHECK, firmware, bound, need, nodes, ending, status, printed)
+    let report = |firmware, bound, need, nodes, ending, status, printed| Judged {
+        words: REPORT,
+        firmware,
+        bound,
+        need,
+        nodes,
+        ending,
+        status,
+        printed,
+    };
+    let json = |firmware, bound, need, nodes, ending, status, printed| Judged {
+        words: REPORT_AS_JSON,
+        firmware,
+        bound,
+        need,
+        nodes,
+        ending,
+        status,
+        printed,
     };
     let rows = [
         row(
@@ -180,8 +197,7 @@ fn certificates_are_judged(rt: HostRuntime) -> Result<(), Fail> {
             1,
             "rejected 8 witness\n",
         ),
-        said(
-            &["report", "FW", "SECOND"],
+        report(
             PUSH_AND_POP,
             1,
             1,
@@ -190,8 +206,7 @@ fn certificates_are_judged(rt: HostRuntime) -> Result<(), Fail> {
             0,
             "bound 1\nwitness attained\nstatic none\ninst root 0000 0000000 0 - need 1\n",
         ),
-        said(
-            &["report", "FW", "SECOND", "--json"],
+        json(
             LOOP,
             0,
             0,
@@ -200,8 +215,7 @@ fn certificates_are_judged(rt: HostRuntime) -> Result<(), Fail> {
             0,
             "{\"bound\":0,\"fits\":null,\"instances\":[{\"enables\":0,\"entry\":0,\"i\":0,\"kind\":\"root\",\"name\":null,\"need\":0}],\"room\":null,\"static\":null,\"witness\":\"attained\"}\n",
         ),
-        said(
-            &["report", "FW", "SECOND"],
+        report(
             PUSH_AND_POP,
             1,
             1,
@@ -220,6 +234,10 @@ fn certificates_are_judged(rt: HostRuntime) -> Result<(), Fail> {
 const CHECK: &[&str] = &["check", "FW", "SECOND"];
 
 const WITH_LIST: &[&str] = &["check", "--assume", "LIST", "FW", "SECOND"];
+
+const REPORT: &[&str] = &["report", "FW", "SECOND"];
+
+const REPORT_AS_JSON: &[&str] = &["report", "FW", "SECOND", "--json"];
 
 const RUN: &[&str] = &["run", "FW", "SECOND"];
 
