@@ -12,15 +12,13 @@ use crate::reads::{read_at, slot_value};
 use abs_rows::registers::{bits, value, with_bits};
 use abs_rows::transfer::{X, Y, Z};
 use abs_state::{AbsByte, AbsState};
+use avr_model::device::FLASH_BYTES;
 use avr_model::instruction::{Base, Pointer};
 use bit_domain::TriByte;
 use flash_image::Flash;
 use local_rules::Pointed;
 use mask_states::NodeKey;
 use sp_domain::frame;
-
-/// Flash has so many bytes (data sheet).
-const FLASH_BYTES: u16 = 0x8000;
 
 /// The low register of the pair that a base is.
 pub fn base_register(base: Base) -> u16
@@ -141,7 +139,7 @@ pub fn read_pointed(key: &NodeKey, state: &AbsState, pointed: Pointed) -> Option
     }
 }
 
-/// The byte of flash at a known address below 0x8000.
+/// The byte of flash at a known address.
 pub fn flash_value(flash: &Flash, z: Option<u16>) -> AbsByte
     ensures { result ≡ flash_value flash.now z }
 {

@@ -1,6 +1,7 @@
 //! Change of flow: jumps, skips, calls and returns.
 
 ghost use Rattle.std.specs.Prelude.{◌≡◌, ◌<◌, length, map, filter, None, IfOk, IfErr, List};
+ghost use Rattle.avr_model.specs.Image.{WORDS};
 ghost use Rattle.avr_model.specs.Assumptions.{lists};
 ghost use Rattle.bit_domain.specs.Numbers.{targets_of};
 ghost use Rattle.bit_domain.specs.Tri.{tri_not};
@@ -20,15 +21,16 @@ use abs_reads::flow::{further, is_target};
 use abs_rows::registers::bits;
 use abs_rows::transfer::Z;
 use abs_state::AbsState;
+use avr_model::listed::Listed;
 use bit_domain::Tri;
 use indirect_targets::targets;
-use local_rules::local::{CallSite, CallSites, Exit, NodeFault, Nodes};
+use local_rules::local::{CallSite, Exit, NodeFault, Nodes};
 use mask_states::{Kind, NodeKey, SpForm};
 use std::alloc::Global;
 
 /// Past the next instruction where the condition holds.
 pub(crate) fn skipping(nodes: &mut Nodes, site: &Site<'_>, condition: Tri) -> Result<(), NodeFault>
-    requires word { site.now.key.now.pc < 16384 }
+    requires word { site.now.key.now.pc < WORDS }
     ensures { Adds nodes.old nodes.new result (flow.skipping site.now.flash.now site.now.key.now site.now.state.now condition) }
 {
     let length = avr_decode::length(site.flash.word(site.key.pc + 1));
@@ -99,7 +101,7 @@ pub(crate) fn jumping(nodes: &mut Nodes, site: &Site<'_>) -> Result<(), NodeFaul
 #[derive(Drop)]
 pub struct Outside {
     /// Calls.
-    pub calls: CallSites,
+    pub calls: Listed<CallSite>,
     /// A return.
     pub exit: Option<Exit>,
 }
@@ -110,7 +112,7 @@ pub(crate) fn staying(alloc: Global, added: Result<(), NodeFault>) -> Result<Out
 {
     match added {
         Ok(()) => Ok(Outside {
-            calls: CallSites::new(alloc),
+            calls: Listed::empty(alloc),
             exit: None,
         }),
         Err(fault) => Err(fault),
@@ -127,11 +129,11 @@ fn is_half_written(sp: SpForm) -> bool
 }
 
 // Calls of these words that go on at the word `back`.
-fn sites(alloc: Global, entries: &[u16], back: u16) -> Result<CallSites, NodeFault>
+fn sites(alloc: Global, entries: &[u16], back: u16) -> Result<Listed<CallSite>, NodeFault>
     ensures ok { IfOk result (λ sites. sites ≡ map (λ t. flow.site t back) entries.now) }
     ensures err { IfErr result (λ e. e ≡ Memory) }
 {
-    let mut sites = CallSites::new(alloc);
+    let mut sites = Listed::empty(alloc);
     for at in 0..entries.len() {
         let entry = entries[at];
         if sites.push(CallSite { entry, back }).is_err() {
@@ -178,7 +180,7 @@ fn returning_at(
 {
     match kind {
         Kind::Call | Kind::Vector(_) if offset == 0 => Ok(Outside {
-            calls: CallSites::new(alloc),
+            calls: Listed::empty(alloc),
             exit: Some(exit),
         }),
         _ => Err(NodeFault::UntrackedSp(pc)),

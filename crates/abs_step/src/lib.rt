@@ -12,5 +12,5 @@ mod stores;
 mod successors;
 mod table;
 
-pub use local_rules::{CallSite, CallSites, Exit, Local, Node, NodeFault, Nodes};
+pub use local_rules::{CallSite, Exit, Local, Node, NodeFault, Nodes};
 pub use part::local;

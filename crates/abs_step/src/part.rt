@@ -1,6 +1,7 @@
 //! The local part of a node: all successors in its instance, its calls and its return, or its one fault.
 
 ghost use Rattle.std.specs.Prelude.{◌≡◌, ◌<◌, length, Err, true};
+ghost use Rattle.avr_model.specs.Image.{WORDS};
 ghost use Rattle.avr_model.specs.Sites.{instruction_at, is_scratch};
 ghost use Rattle.mask_states.specs.Keys.{offset_of};
 ghost use Rattle.local_rules.specs.declared.local.NodeFault.TheVariants.{Memory};
@@ -22,7 +23,7 @@ use vector_table::Assumptions;
 
 // What the instruction at the node leads to.
 fn at_instruction(site: &Site<'_>) -> Result<Local, NodeFault>
-    requires word { site.now.key.now.pc < 16384 }
+    requires word { site.now.key.now.pc < WORDS }
     ensures { Settles result (rows.row_at site.now.flash.now site.now.assumptions.now (is_scratch site.now.flash.now site.now.key.now.pc) site.now.key.now site.now.state.now (instruction_at site.now.flash.now site.now.key.now.pc)) }
 {
     let scratch = avr_decode::is_scratch(site.flash.words(), site.key.pc);
@@ -37,7 +38,7 @@ fn at_instruction(site: &Site<'_>) -> Result<Local, NodeFault>
 
 // What this instruction leads to.
 fn leading_from(site: &Site<'_>, scratch: bool, instr: &Instr) -> Result<Local, NodeFault>
-    requires word { site.now.key.now.pc < 16384 }
+    requires word { site.now.key.now.pc < WORDS }
     ensures { Settles result (rows.row_of site.now.flash.now site.now.assumptions.now scratch site.now.key.now site.now.state.now instr.now) }
 {
     let mut same = Nodes::new(site.alloc);
@@ -76,7 +77,7 @@ pub fn local(
     key: &NodeKey,
     state: &AbsState,
 ) -> Result<Local, NodeFault>
-    requires word { key.now.pc < 16384 }
+    requires word { key.now.pc < WORDS }
     requires sized { length state.now.slots ≡ offset_of key.now.sp }
     ensures { Answers (λ l. l) Memory result (rows.local flash.now assumptions.now key.now state.now) }
 {

@@ -1,6 +1,7 @@
 //! The whole table: where an instruction leads, and what leaves its instance.
 
 ghost use Rattle.std.specs.Prelude.{◌≡◌, ◌<◌, length, true};
+ghost use Rattle.avr_model.specs.Image.{WORDS};
 ghost use Rattle.mask_states.specs.Keys.{offset_of};
 ghost use Rattle.local_rules.specs.Registers as registers;
 ghost use Rattle.local_rules.specs.Local as rows;
@@ -31,7 +32,7 @@ fn flow_row(
     scratch: bool,
     instr: &Instr,
 ) -> Result<Outside, NodeFault>
-    requires word { site.now.key.now.pc < 16384 }
+    requires word { site.now.key.now.pc < WORDS }
     ensures { Leads nodes.old nodes.new result (rows.flow_row site.now.flash.now site.now.assumptions.now scratch site.now.key.now site.now.state.now instr.now) }
 {
     let a = site.alloc;
@@ -81,7 +82,7 @@ fn memory_row(
     scratch: bool,
     instr: &Instr,
 ) -> Result<Outside, NodeFault>
-    requires word { site.now.key.now.pc < 16384 }
+    requires word { site.now.key.now.pc < WORDS }
     ensures { Leads nodes.old nodes.new result (rows.memory_row site.now.flash.now site.now.assumptions.now scratch site.now.key.now site.now.state.now instr.now) }
 {
     let a = site.alloc;
@@ -134,7 +135,7 @@ fn other_row(
     scratch: bool,
     instr: &Instr,
 ) -> Result<Outside, NodeFault>
-    requires word { site.now.key.now.pc < 16384 }
+    requires word { site.now.key.now.pc < WORDS }
     ensures { Leads nodes.old nodes.new result (rows.other_row site.now.flash.now site.now.assumptions.now scratch site.now.key.now site.now.state.now instr.now) }
 {
     let a = site.alloc;
@@ -156,7 +157,7 @@ pub(crate) fn row(
     scratch: bool,
     instr: &Instr,
 ) -> Result<Outside, NodeFault>
-    requires word { site.now.key.now.pc < 16384 }
+    requires word { site.now.key.now.pc < WORDS }
     ensures { Leads nodes.old nodes.new result (rows.row_of site.now.flash.now site.now.assumptions.now scratch site.now.key.now site.now.state.now instr.now) }
 {
     match computed_by(site.state, instr) {

@@ -1,6 +1,7 @@
 //! Stores whose pointer is loaded a few words before.
 
 ghost use Rattle.std.specs.Prelude.{◌≡◌, ◌<◌, ◌≤◌, ◌+◌, IfSome, length, if◌then◌else◌};
+ghost use Rattle.avr_model.specs.Image.{WORDS};
 ghost use Rattle.avr_model.specs.Sites.{leaves, is_ldi, sets, store_pointer, pointer_register, loads_pair, path, is_fixed};
 
 use crate::decoding::length;
@@ -78,7 +79,7 @@ fn store_pointer(instr: &Instr) -> Option<u16>
 /// Whether decoding forward from `start` words before word `a` comes exactly to it, without an undefined word and without
 /// an instruction that leaves the way, and loads both registers of the pair from `register` up.
 fn loads_pair(words: &[u16], a: u16, register: u16, start: usize) -> bool
-    requires length { length words.now ≡ 16384 }
+    requires length { length words.now ≡ WORDS }
     requires register { register < 31 }
     requires start { start ≤ 32 }
     ensures { result ≡ loads_pair register (path words.now a start) }
@@ -107,7 +108,7 @@ fn loads_pair(words: &[u16], a: u16, register: u16, start: usize) -> bool
 /// last instruction on that way that sets each register of the pointer is `ldi`. `words` are the 16,384 words of flash,
 /// modulo whose number addresses count. Source: own.
 pub fn is_fixed(words: &[u16], a: u16) -> bool
-    requires { length words.now ≡ 16384 }
+    requires { length words.now ≡ WORDS }
     ensures { result ≡ is_fixed words.now a }
 {
     let Some(instr) = instruction(words, a as usize) else {

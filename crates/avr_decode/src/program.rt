@@ -1,6 +1,7 @@
 //! The words of a program, whose addresses count modulo their number.
 
 ghost use Rattle.std.specs.Prelude.{◌≡◌, ◌<◌, ◌+◌, length};
+ghost use Rattle.avr_model.specs.Image as image;
 ghost use Rattle.avr_model.specs.Image.{word_at};
 ghost use Rattle.avr_model.specs.Sites.{instruction_at};
 
@@ -13,7 +14,7 @@ pub const WORDS: usize = device::WORDS as usize;
 
 /// The word at a word address.
 pub fn word(words: &[u16], at: usize) -> u16
-    requires { length words.now ≡ 16384 }
+    requires { length words.now ≡ image.WORDS }
     ensures { result ≡ word_at words.now at }
 {
     words[at % WORDS]
@@ -21,7 +22,7 @@ pub fn word(words: &[u16], at: usize) -> u16
 
 /// The instruction at a word address; none where the word is undefined.
 pub fn instruction(words: &[u16], at: usize) -> Option<Instr>
-    requires length { length words.now ≡ 16384 }
+    requires length { length words.now ≡ image.WORDS }
     requires room { at < 131072 }
     ensures { result ≡ instruction_at words.now at }
 {

@@ -1,6 +1,7 @@
 //! Pushes that make room for a compiler's small frame.
 
 ghost use Rattle.std.specs.Prelude.{◌≡◌, length};
+ghost use Rattle.avr_model.specs.Image.{WORDS};
 ghost use Rattle.avr_model.specs.Sites.{makes_room, is_scratch};
 
 use crate::program::word;
@@ -20,7 +21,7 @@ const READS_STACK_POINTER: u16 = 0xB7CD;
 /// are the 16,384 words of flash, modulo whose number addresses count. Source: own.
 #[tactic(auto, using(crate::proofs::Room::scratch_at, crate::proofs::Room::scratch_none, crate::proofs::Room::scratch_never))]
 pub fn is_scratch(words: &[u16], a: u16) -> bool
-    requires { length words.now ≡ 16384 }
+    requires { length words.now ≡ WORDS }
     ensures { result ≡ is_scratch words.now a }
 {
     for n in 0..65usize {

@@ -1,8 +1,10 @@
 //! Words whose instructions another disassembler has named, and one call of each function that allocates.
 
 ghost use Rattle.std.specs.Prelude.{◌≡◌, length};
+ghost use Rattle.avr_model.specs.Image.{WORDS};
 
 use crate::{decode, is_fixed, is_scratch, length, text, writes};
+use avr_model::device::WORDS;
 use std::alloc::{AllocError, Global};
 use std::test::Fail;
 
@@ -55,8 +57,8 @@ fn words_and_their_instructions(rt: HostRuntime) -> Result<(), Fail> {
 
 /// A frame of three bytes and a fixed store, in two programs: whether the rules tell of this word what is so.
 fn is_told(frame: &[u16], store: &[u16], a: u16) -> bool
-    requires frame { length frame.now ≡ 16384 }
-    requires store { length store.now ≡ 16384 }
+    requires frame { length frame.now ≡ WORDS }
+    requires store { length store.now ≡ WORDS }
 {
     is_scratch(frame, a) == (a < 2)
         && !is_fixed(frame, a)
@@ -66,14 +68,14 @@ fn is_told(frame: &[u16], store: &[u16], a: u16) -> bool
 
 #[test]
 fn scratch_pushes_and_fixed_sites_of_two_programs(rt: HostRuntime) -> Result<(), Fail> {
-    let mut frame = vec![in rt.alloc(); 0xFFFFu16; 16384]?;
+    let mut frame = vec![in rt.alloc(); 0xFFFFu16; WORDS as usize]?;
     let small_frame = [
         0xD000, 0x921F, 0xB7CD, 0xB7DE, 0x8389, 0x900F, 0x900F, 0x900F, 0xCFFF,
     ];
     frame[..9].copy_from_slice(&small_frame);
-    let mut store = vec![in rt.alloc(); 0xFFFFu16; 16384]?;
+    let mut store = vec![in rt.alloc(); 0xFFFFu16; WORDS as usize]?;
     store[..5].copy_from_slice(&[0xC001, 0xE0E0, 0xE0F1, 0x8300, 0xCFFF]);
-    for a in 0..16384u16 {
+    for a in 0..WORDS {
         assert!(rt; is_told(&frame, &store, a), "word {a}");
     }
     Ok(())

@@ -1,6 +1,7 @@
 //! What an effect makes of the processor and its memory.
 
 ghost use Rattle.std.specs.Prelude.{◌≡◌, ◌<◌, ◌*◌, ◌/◌, ◌%◌, ◌+◌, [], ◌∷◌, slice_set};
+ghost use Rattle.avr_model.specs.Image.{WORDS};
 ghost use Rattle.avr_model.specs.Step.{with_registers, memory_after, after};
 ghost use Rattle.avr_machine.specs.Applying.{stored};
 
@@ -16,7 +17,7 @@ impl Processor {
     #[tactic(auto, using(crate::proofs::Writing::written_append), unfolding(avr_model::specs::Step::memory_after))]
     pub fn apply(&mut self, effect: &Effect, enables: Masks, guarded: bool)
         requires enables { effect.now.enables ≡ enables }
-        requires pc { effect.now.pc < 16384 }
+        requires pc { effect.now.pc < WORDS }
         ensures { self.new ≡ after self.old guarded effect.now }
     {
         self.pc = effect.pc;

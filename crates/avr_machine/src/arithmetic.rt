@@ -1,6 +1,7 @@
 //! The rows that set registers and flags alone. Results and flags are those of `avr_alu`.
 
 ghost use Rattle.std.specs.Prelude.{◌≡◌, ◌<◌, []};
+ghost use Rattle.avr_model.specs.Image.{WORDS};
 ghost use Rattle.avr_model.specs.Effects.{sum_effect, difference_effect, compare_effect, logic_effect, product_effect, step_effect, shift_effect, wide_effect, binary_effect, immediate_effect, unary_effect, flag_effect, setting, set, set_pair};
 ghost use Rattle.avr_model.specs.State.{pair, register, t_flag};
 ghost use Rattle.avr_model.specs.Bits.{with_bit};
@@ -98,7 +99,7 @@ impl Processor {
         requires r { r < 32 }
         ensures row { result ≡ binary_effect flash.now self.now op d r }
         ensures enables { result.enables ≡ self.now.enables }
-        ensures pc { result.pc < 16384 }
+        ensures pc { result.pc < WORDS }
     {
         let a = self.register(d);
         let b = self.register(r);
@@ -124,7 +125,7 @@ impl Processor {
         requires { d < 32 }
         ensures row { result ≡ immediate_effect self.now op d k }
         ensures enables { result.enables ≡ self.now.enables }
-        ensures pc { result.pc < 16384 }
+        ensures pc { result.pc < WORDS }
     {
         let a = self.register(d);
         match op {
@@ -150,7 +151,7 @@ impl Processor {
         requires { d < 32 }
         ensures row { result ≡ unary_effect self.now op d }
         ensures enables { result.enables ≡ self.now.enables }
-        ensures pc { result.pc < 16384 }
+        ensures pc { result.pc < WORDS }
     {
         let a = self.register(d);
         match op {

@@ -1,6 +1,7 @@
 //! What each instruction does, row by row.
 
 ghost use Rattle.std.specs.Prelude.{◌≡◌, ◌<◌};
+ghost use Rattle.avr_model.specs.Image.{WORDS};
 ghost use Rattle.avr_model.specs.Effects.{effect_of, memory_effect, flow_effect};
 
 use crate::processor::Processor;
@@ -14,7 +15,7 @@ impl Processor {
     pub fn effect(&self, flash: &Flash, instr: &Instr, first: u8, second: u8) -> Effect
         ensures row { result ≡ effect_of flash.now self.now instr.now first second }
         ensures enables { result.enables ≡ self.now.enables }
-        ensures pc { result.pc < 16384 }
+        ensures pc { result.pc < WORDS }
     {
         match instr {
             Instr::Movw(d, r) => self.copy_pair(2 * d.get(), 2 * r.get()),
@@ -40,7 +41,7 @@ impl Processor {
     fn transfer_effect(&self, flash: &Flash, instr: &Instr, first: u8, second: u8) -> Effect
         ensures row { result ≡ memory_effect flash.now self.now instr.now first second }
         ensures enables { result.enables ≡ self.now.enables }
-        ensures pc { result.pc < 16384 }
+        ensures pc { result.pc < WORDS }
     {
         match instr {
             Instr::Ldd(d, base, q) => self.load_displaced(d.get(), *base, q.get(), first),
@@ -66,7 +67,7 @@ impl Processor {
     fn flow_effect(&self, flash: &Flash, instr: &Instr, first: u8, second: u8) -> Effect
         ensures row { result ≡ flow_effect flash.now self.now instr.now first second }
         ensures enables { result.enables ≡ self.now.enables }
-        ensures pc { result.pc < 16384 }
+        ensures pc { result.pc < WORDS }
     {
         match instr {
             Instr::Ijmp => self.going_to(self.indirect_target()),

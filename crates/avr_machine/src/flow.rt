@@ -1,6 +1,7 @@
 //! The rows that jump, call, return, branch and skip.
 
 ghost use Rattle.std.specs.Prelude.{◌≡◌, ◌<◌, ◌%◌};
+ghost use Rattle.avr_model.specs.Image.{WORDS};
 ghost use Rattle.avr_model.specs.State.{pair, read, register};
 ghost use Rattle.avr_model.specs.Sreg.{flag};
 ghost use Rattle.avr_model.specs.Text.{far, near};
@@ -42,7 +43,7 @@ impl Processor {
 
     /// The word that an indirect jump or call goes to.
     pub fn indirect_target(&self) -> u16
-        ensures { result ≡ pair self.now 30 % 16384 }
+        ensures { result ≡ pair self.now 30 % WORDS }
     {
         self.pair(Z) % WORDS
     }

@@ -20,7 +20,7 @@ pub use avr_model::choice::{Choice, Flag, StepResult, Stop};
 pub use flash_image::Flash;
 pub use machine::Machine;
 pub use menu::Menu;
-pub use vector_table::{Assumptions, Entry, Items, Masks};
+pub use vector_table::{Assumptions, Entry, Listed, Masks};
 
 #[cfg(test)]
 mod tests;

@@ -1,6 +1,7 @@
 //! The machine that keeps its depth.
 
 ghost use Rattle.std.specs.Prelude.{◌≡◌, ◌<◌, IsTrue};
+ghost use Rattle.avr_model.specs.Image.{WORDS};
 ghost use Rattle.avr_model.specs.State.{IsReset, reset_state, filled, is_sram, sram_at, register, is_live};
 ghost use Rattle.avr_model.specs.Step.{step, result_of};
 ghost use Rattle.avr_model.specs.Run.{Machine, starting, moved_on};
@@ -74,7 +75,7 @@ impl Machine {
     /// The program counter, a word address.
     pub fn pc(&self) -> u16
         ensures value { result ≡ self.now.state.pc }
-        ensures word { result < 16384 }
+        ensures word { result < WORDS }
     {
         self.processor.pc
     }

@@ -6,7 +6,7 @@ ghost use Rattle.avr_model.specs.Effects.{set, set_pair, further, going_to, goin
 use crate::processor::Processor;
 use avr_alu::Sreg;
 use avr_decode::length;
-use avr_model::device::WORDS;
+use avr_model::device::{FLASH_BYTES, WORDS};
 use avr_model::effect::{Effect, Write, Writes};
 use flash_image::Flash;
 
@@ -49,11 +49,11 @@ pub fn way_back(sp: u16, word: u16) -> Writes
     Writes::two(low, high)
 }
 
-/// The byte of flash that `lpm` reads at Z; from 0x8000 up there is none, and the input byte is read.
+/// The byte of flash that `lpm` reads at Z; behind its last there is none, and the input byte is read.
 pub fn flash_read(flash: &Flash, z: u16, input: u8) -> u8
     ensures { result ≡ flash_read flash.now z input }
 {
-    if z < 0x8000 { flash.byte(z) } else { input }
+    if z < FLASH_BYTES { flash.byte(z) } else { input }
 }
 
 impl Processor {

@@ -1,6 +1,7 @@
 //! The processor: its registers, its memory, and how data space reads.
 
 ghost use Rattle.std.specs.Prelude.{◌≡◌, ◌<◌, false};
+ghost use Rattle.avr_model.specs.Image.{WORDS};
 ghost use Rattle.std.specs.Int.{from_bool};
 ghost use Rattle.avr_model.specs.State.{State, register, pair, io_bit, io_byte, read, reset_state};
 ghost use Rattle.avr_model.specs.Sreg.{flag};
@@ -43,7 +44,7 @@ impl Model for Processor {
       delay = p.delay;
     } };
 
-    ghost invariant = { λ p. p.pc < 16384 };
+    ghost invariant = { λ p. p.pc < WORDS };
 }
 
 impl Processor {

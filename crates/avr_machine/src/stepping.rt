@@ -1,6 +1,7 @@
 //! One step of the processor: the answer, and the state after it.
 
 ghost use Rattle.std.specs.Prelude.{◌≡◌, ◌<◌, ◌&&◌, ◌||◌, ◌-◌};
+ghost use Rattle.avr_model.specs.Image.{WORDS};
 ghost use Rattle.avr_model.specs.Sites.{instruction_at, is_scratch};
 ghost use Rattle.avr_model.specs.State.{depth_of_state};
 ghost use Rattle.avr_model.specs.Step.{all_inside, flagged_or, is_unlisted, after, answer_to, go, may_take, enables_taken, entering, take, step, result_of, state_after};
@@ -61,7 +62,7 @@ impl Processor {
         guarded: bool,
     ) -> StepResult
         requires enables { effect.now.enables ≡ enables }
-        requires pc { effect.now.pc < 16384 }
+        requires pc { effect.now.pc < WORDS }
         ensures answer { result ≡ result_of (flagged_or flag (after self.old guarded effect.now)) }
         ensures state { self.new ≡ state_after self.old (flagged_or flag (after self.old guarded effect.now)) }
     {
@@ -84,7 +85,7 @@ impl Processor {
         effect: &Effect,
     ) -> StepResult
         requires enables { effect.now.enables ≡ self.old.enables }
-        requires pc { effect.now.pc < 16384 }
+        requires pc { effect.now.pc < WORDS }
         ensures answer { result ≡ result_of (answer_to flash.now assumptions.now self.old instr.now effect.now) }
         ensures state { self.new ≡ state_after self.old (answer_to flash.now assumptions.now self.old instr.now effect.now) }
     {
@@ -143,7 +144,7 @@ impl Processor {
     /// The entry of an interrupt: the way back is pushed, and I is cleared.
     fn entering(&self, vector: u8, clears: bool) -> Effect
         ensures entry { result ≡ entering self.now vector clears }
-        ensures pc { result.pc < 16384 }
+        ensures pc { result.pc < WORDS }
     {
         Effect {
             sreg: self.sreg.bits() % 128,

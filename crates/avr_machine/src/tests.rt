@@ -3,7 +3,7 @@
 
 mod rows;
 
-use crate::{Assumptions, Choice, Entry, Flag, Flash, Items, Machine, StepResult};
+use crate::{Assumptions, Choice, Entry, Flag, Flash, Listed, Machine, StepResult};
 use rows::{FLOW_ROWS, MEMORY_ROWS, REGISTER_ROWS};
 use std::alloc::{AllocError, Global};
 use std::test::Fail;
@@ -253,15 +253,15 @@ fn is_script(
 /// Site 1 may store to address 0, and sites 2 and 7 jump to word 5 alone.
 fn assumptions(alloc: Global) -> Result<Assumptions, AllocError> {
     let mut list = Assumptions::empty(alloc);
-    let addresses = Items::new(vec![in alloc; 0u16; 1]?);
+    let addresses = Listed::new(vec![in alloc; 0u16; 1]?);
     if list.push(Entry::Store(1, addresses)).is_err() {
         return Ok(list);
     }
-    let words = Items::new(vec![in alloc; 5u16; 1]?);
+    let words = Listed::new(vec![in alloc; 5u16; 1]?);
     if list.push(Entry::Jump(2, words)).is_err() {
         return Ok(list);
     }
-    let words = Items::new(vec![in alloc; 5u16; 1]?);
+    let words = Listed::new(vec![in alloc; 5u16; 1]?);
     let _pushed = list.push(Entry::Jump(7, words));
     Ok(list)
 }

@@ -19,7 +19,7 @@ use Rattle.avr_model.specs.declared.operation.Mul.TheVariants as product
 use Rattle.avr_model.specs.declared.effect.Write.{Write}
 use Rattle.avr_model.specs.declared.effect.Effect.{Effect}
 use Rattle.avr_model.specs.Bits.{with_bit}
-use Rattle.avr_model.specs.Image.{WORDS, word_at, byte_at}
+use Rattle.avr_model.specs.Image.{WORDS, FLASH_BYTES, word_at, byte_at}
 use Rattle.avr_model.specs.Table.{length_of}
 use Rattle.avr_model.specs.Text.{far, near}
 use Rattle.avr_model.specs.Sites.{base_register, pointer_register}
@@ -100,9 +100,9 @@ returning m input_high input_low =
       is_open = false;
     }
 
--- the byte of flash at Z; from 0x8000 up there is none
+-- the byte of flash at Z; behind its last there is none
 abbrev pub flash_read : List ℕ → ℕ → ℕ → ℕ
-flash_read words z input = if nat_lt z 0x8000 then byte_at words z else input
+flash_read words z input = if nat_lt z FLASH_BYTES then byte_at words z else input
 
 -- ---- registers and flags
 

@@ -5,10 +5,14 @@ use Rattle.std.specs.Prelude.{ℕ, ◌+◌, ◌*◌, ◌/◌, ◌%◌, ◌==◌,
 abbrev pub WORDS : ℕ
 WORDS = 16384
 
+-- how many bytes it has
+abbrev pub FLASH_BYTES : ℕ
+FLASH_BYTES = 2 * WORDS
+
 abbrev pub word_at : List ℕ → ℕ → ℕ
 word_at words a = slice_index words (a % WORDS)
 
--- the byte at a byte address below 0x8000: the low byte of a word comes first
+-- the byte at a byte address: the low byte of a word comes first
 abbrev pub byte_at : List ℕ → ℕ → ℕ
 byte_at words z = if z % 2 == 0 then slice_index words (z / 2) % 256 else slice_index words (z / 2) / 256
 

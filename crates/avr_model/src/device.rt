@@ -3,6 +3,9 @@
 /// How many words flash has (32 KiB). Word addresses count modulo this number.
 pub const WORDS: u16 = 16384;
 
+/// How many bytes flash has.
+pub const FLASH_BYTES: u16 = 2 * WORDS;
+
 /// How many bytes SRAM has. They end at `RAMEND`.
 pub const SIZE: u16 = 2048;
 

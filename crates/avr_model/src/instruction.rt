@@ -14,6 +14,9 @@ pub type MiddleRegister = Operand<16, 23>;
 /// A pair of registers: pair n is the registers 2n and 2n + 1.
 pub type Pair = Operand<0, 15>;
 
+/// The lower of two registers that follow one another.
+pub type LowRegister = Operand<0, 30>;
+
 /// A pair that `adiw` and `sbiw` take.
 pub type HighPair = Operand<12, 15>;
 

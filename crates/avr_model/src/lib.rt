@@ -8,5 +8,6 @@ pub mod choice;
 pub mod device;
 pub mod effect;
 pub mod instruction;
+pub mod listed;
 pub mod operand;
 pub mod operation;

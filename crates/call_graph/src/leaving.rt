@@ -9,8 +9,9 @@ ghost use Rattle.edge_rules.specs.Views.{AreShown};
 ghost use Rattle.call_graph.specs.Next.{exit_in};
 ghost use Rattle.call_graph.specs.Exits.{exit_or, AreKnown, GivesExits};
 
-use crate::exit_list::{Exits, Leaving};
+use crate::exit_list::Leaving;
 use abs_step::local;
+use avr_model::listed::Listed;
 use edge_rules::View;
 use flash_image::Flash;
 use local_rules::{Exit, NodeFault};
@@ -76,5 +77,5 @@ pub fn exits<V: View>(
             Err(fault) => return Ok(Leaving::Fault(at, fault)),
         }
     }
-    Ok(Leaving::All(Exits::new(items)))
+    Ok(Leaving::All(Listed::new(items)))
 }

@@ -9,8 +9,8 @@ pub mod leaving;
 pub mod successors;
 pub mod ways;
 
-pub use edge_rules::{Edge, EdgeKind, Edges, NodeForm, Seed, Seeded, View};
-pub use exit_list::{Exits, Leaving};
+pub use edge_rules::{Edge, EdgeKind, NodeForm, Seed, Seeded, View};
+pub use exit_list::Leaving;
 pub use expanding::expand;
 pub use filled::{Expanded, Filled};
 pub use leaving::exits;

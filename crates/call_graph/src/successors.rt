@@ -14,12 +14,12 @@ ghost use Rattle.call_graph.specs.Ways.{ways_of};
 ghost use Rattle.call_graph.specs.Exits.{AreExits, AreKnown};
 ghost use Rattle.call_graph.specs.Next.{local_edge, entry_edge, returned_by, return_edges, returns_in, all_returns, edges_with, next_of};
 
-use crate::exit_list::Exits;
 use crate::leaving::exit_of;
 use crate::ways::{Way, ways};
 use abs_state::AbsState;
 use abs_step::local;
-use edge_rules::{Edge, Edges, View};
+use avr_model::listed::Listed;
+use edge_rules::{Edge, View};
 use flash_image::Flash;
 use local_rules::{Exit, Local, Node, NodeFault};
 use mask_states::{EdgeKind, NodeKey};
@@ -27,7 +27,7 @@ use std::alloc::{AllocError, Global};
 use vector_table::Assumptions;
 
 // The edges in the node's own frame.
-fn add_moves(edges: &mut Edges, nodes: Vec<Node>) -> Result<(), AllocError>
+fn add_moves(edges: &mut Listed<Edge>, nodes: Vec<Node>) -> Result<(), AllocError>
     ensures { OnOk result (edges.new ≡ edges.old ++ map local_edge nodes.items) }
 {
     for node in nodes {
@@ -43,7 +43,7 @@ fn add_moves(edges: &mut Edges, nodes: Vec<Node>) -> Result<(), AllocError>
 // The edges into other instances.
 fn add_entries(
     alloc: Global,
-    edges: &mut Edges,
+    edges: &mut Listed<Edge>,
     state: &AbsState,
     ways: &[Way],
 ) -> Result<(), AllocError>
@@ -62,7 +62,7 @@ fn add_entries(
 // The edge back from a node of the entered instance, if it returns and its state fits.
 fn add_return(
     alloc: Global,
-    edges: &mut Edges,
+    edges: &mut Listed<Edge>,
     key: &NodeKey,
     state: &AbsState,
     back: u16,
@@ -96,7 +96,7 @@ fn add_return(
 // The edge back from the node of this number.
 fn add_leaver<V: View>(
     alloc: Global,
-    edges: &mut Edges,
+    edges: &mut Listed<Edge>,
     flash: &Flash,
     assumptions: &Assumptions,
     key: &NodeKey,
@@ -119,7 +119,7 @@ fn add_leaver<V: View>(
 // The edges back from the instance that is entered this way.
 fn add_returns<V: View>(
     alloc: Global,
-    edges: &mut Edges,
+    edges: &mut Listed<Edge>,
     flash: &Flash,
     assumptions: &Assumptions,
     key: &NodeKey,
@@ -153,7 +153,7 @@ fn add_returns<V: View>(
 // The edges back from all instances that are entered.
 fn add_all_returns<V: View>(
     alloc: Global,
-    edges: &mut Edges,
+    edges: &mut Listed<Edge>,
     flash: &Flash,
     assumptions: &Assumptions,
     key: &NodeKey,
@@ -192,13 +192,13 @@ fn edges_of<V: View>(
     found: Local,
     view: &V,
     known: &[Option<Exit>],
-) -> Result<Edges, AllocError>
+) -> Result<Listed<Edge>, AllocError>
     requires shown { AreShown (V.nodes view.now) }
     requires given { AreKnown flash.now assumptions.now (V.nodes view.now) known.now }
     ensures { IfOk result (λ edges. edges ≡ edges_with flash.now assumptions.now (V.nodes view.now) key.now state.now (ways_of key.now found.calls) found) }
 {
     let all = ways(alloc, key, found.calls.as_slice())?;
-    let mut edges = Edges::new(alloc);
+    let mut edges = Listed::empty(alloc);
     add_moves(&mut edges, found.same.into_vec())?;
     add_entries(alloc, &mut edges, state, &all)?;
     add_all_returns(
@@ -223,7 +223,7 @@ fn listed<V: View>(
     view: &V,
     at: usize,
     known: &[Option<Exit>],
-) -> Result<Edges, NodeFault>
+) -> Result<Listed<Edge>, NodeFault>
     requires place { at < length (V.nodes view.now) }
     requires given { AreKnown flash.now assumptions.now (V.nodes view.now) known.now }
     ensures { (n : Node) → slice_get (V.nodes view.now) at ≡ Some n → Answers (λ edges. edges) Memory result (next_of flash.now assumptions.now (V.nodes view.now) n.key n.state) }
@@ -247,7 +247,7 @@ pub fn next<V: View>(
     assumptions: &Assumptions,
     view: &V,
     at: usize,
-) -> Result<Edges, NodeFault>
+) -> Result<Listed<Edge>, NodeFault>
     requires { at < length (V.nodes view.now) }
     ensures edges { (n : Node) → slice_get (V.nodes view.now) at ≡ Some n → IfOk result (λ edges. AreEdges flash.now assumptions.now (V.nodes view.now) n edges) }
     ensures fault { (n : Node) (f : fault_type.NodeFault) → slice_get (V.nodes view.now) at ≡ Some n → result ≢ Err Memory → (result ≡ Err f) ↔ (rows.local flash.now assumptions.now n.key n.state ≡ Err f) }
@@ -264,8 +264,8 @@ pub fn next_with<V: View>(
     assumptions: &Assumptions,
     view: &V,
     at: usize,
-    exits: &Exits,
-) -> Result<Edges, AllocError>
+    exits: &Listed<Option<Exit>>,
+) -> Result<Listed<Edge>, AllocError>
     requires place { at < length (V.nodes view.now) }
     requires taken { AreExits flash.now assumptions.now (V.nodes view.now) exits.now }
     ensures { (n : Node) → slice_get (V.nodes view.now) at ≡ Some n → IfOk result (λ edges. AreEdges flash.now assumptions.now (V.nodes view.now) n edges) }

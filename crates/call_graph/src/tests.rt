@@ -15,7 +15,9 @@ use crate::filled::{Expanded, Filled};
 use crate::leaving::exits;
 use crate::successors::{next, next_with};
 use abs_state::AbsState;
-use edge_rules::{EdgeKind, Edges, NodeForm, Seed, Seeded, View};
+use avr_model::device::WORDS;
+use avr_model::listed::Listed;
+use edge_rules::{Edge, EdgeKind, NodeForm, Seed, Seeded, View};
 use flash_image::Flash;
 use local_rules::NodeFault;
 use mask_states::{InstKey, Kind, NodeKey, SpForm};
@@ -103,7 +105,7 @@ fn add(alloc: Global, items: &mut Vec<(NodeKey, NodeForm)>, plan: &Plan) -> Resu
 {
     let key = key_of(plan);
     let _ = key.masks.bits();
-    if items.len() >= 65536 || key.pc >= 16384 || !are_before(items, &key) {
+    if items.len() >= 65536 || key.pc >= WORDS || !are_before(items, &key) {
         return Ok(false);
     }
     match plan.4 {
@@ -142,7 +144,7 @@ enum Due {
 /// A firmware's bytes, nodes, the number of one of them, and what is due.
 struct Row(&'static [u8], &'static [Plan], usize, Due);
 
-fn are_edges(edges: &Edges, due: &[(EdgeKind, u16)]) -> bool {
+fn are_edges(edges: &Listed<Edge>, due: &[(EdgeKind, u16)]) -> bool {
     let found = edges.as_slice();
     if found.len() != due.len() {
         return false;

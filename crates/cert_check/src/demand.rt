@@ -1,6 +1,7 @@
 //! What nodes ask of their instances.
 
 ghost use Rattle.std.specs.Prelude.{ℕ, ◌≡◌, ◌≤◌, ◌<◌, ◌++◌, length, slice_get, Some, OnOk, Contains};
+ghost use Rattle.avr_model.specs.State.{SIZE};
 ghost use Rattle.std.specs.List.{flat_map};
 ghost use Rattle.edge_rules.specs.declared.edge.Edge as edge_type;
 ghost use Rattle.certificate.specs.Insts.{inst_keys};
@@ -35,7 +36,7 @@ pub(crate) fn need_at(instances: &[Inst], j: usize) -> u32
     requires there { j < length instances.now }
     requires instances { AreInstances instances.now }
     ensures value { result ≡ need_at instances.now j }
-    ensures small { result ≤ 2048 }
+    ensures small { result ≤ SIZE }
 {
     instances[j].need
 }

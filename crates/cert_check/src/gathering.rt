@@ -6,9 +6,11 @@ ghost use Rattle.cert_check.specs.Working.{AreInstances, AllBelong, IsFound};
 
 use crate::demand::{Demand, add_demands};
 use crate::landing::gap_in;
-use call_graph::{Exits, Filled, View, next_with};
+use avr_model::listed::Listed;
+use call_graph::{Filled, View, next_with};
 use certificate::Inst;
 use flash_image::Flash;
+use local_rules::Exit;
 use mask_states::NodeKey;
 use std::alloc::{AllocError, Global};
 use vector_table::Assumptions;
@@ -29,7 +31,7 @@ pub(crate) fn gather(
     assumptions: &Assumptions,
     instances: &[Inst],
     nodes: &Filled,
-    exits: &Exits,
+    exits: &Listed<Option<Exit>>,
 ) -> Result<Found, AllocError>
     requires instances { AreInstances instances.now }
     requires belong { AllBelong instances.now nodes.now }

@@ -17,9 +17,11 @@ use crate::landing::is_covered;
 use crate::verdict::{Reason, Verdict};
 use crate::weighing::weigh;
 use abs_state::AbsState;
-use call_graph::{Exits, Expanded, Filled, Leaving, View, exits, expand};
+use avr_model::listed::Listed;
+use call_graph::{Expanded, Filled, Leaving, View, exits, expand};
 use certificate::Certificate;
 use flash_image::Flash;
+use local_rules::Exit;
 use mask_states::{InstKey, NodeKey};
 use std::alloc::{AllocError, Global};
 use vector_table::Assumptions;
@@ -36,7 +38,7 @@ fn judge_edges(
     assumptions: &Assumptions,
     certificate: &Certificate,
     nodes: &Filled,
-    exits: &Exits,
+    exits: &Listed<Option<Exit>>,
 ) -> Result<Verdict, AllocError>
     requires claim { IsClaim certificate.now }
     requires filled { IsFilled flash.now assumptions.now certificate.now.nodes nodes.now }

@@ -6,16 +6,18 @@ ghost use Rattle.elf_load.specs.Headers.{segment_of};
 
 use crate::ElfFault;
 use crate::fields::{read_four, read_two};
+use avr_model::device;
 
 /// The type of a loaded segment.
 const LOADED: u32 = 1;
 
-/// Data addresses begin here in an AVR file, and those of SRAM end at the second.
+/// Data addresses begin here in an AVR file.
 const DATA: u32 = 0x80_0000;
 
-const SRAM: u32 = 0x80_0100;
+/// The first and the last address of SRAM.
+const SRAM: u32 = SRAM_LAST - device::SIZE as u32 + 1;
 
-const SRAM_LAST: u32 = 0x80_08FF;
+const SRAM_LAST: u32 = DATA + device::RAMEND as u32;
 
 /// A program header's fields, but for flags and alignment.
 #[derive(Clone, Copy)]

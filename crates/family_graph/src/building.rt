@@ -11,12 +11,14 @@ ghost use Rattle.family_graph.specs.Graphs.{HasInst, IsPeopled, IsGraphOf};
 ghost use Rattle.family_graph.specs.Numbers.{AreNumbers, is_entry, entry_if, entries_of, AddsAt, IsInstOf};
 
 use crate::numbering::{Numbering, number_of, numbered};
+use avr_model::listed::Listed;
 use call_graph::laws::exits_are_exact;
-use call_graph::{Edge, Exits, Leaving, exits, next_with};
+use call_graph::{Edge, Leaving, exits, next_with};
 use edge_rules::View;
 use flash_image::Flash;
+use local_rules::Exit;
 use mask_states::{EdgeKind, SpForm};
-use nesting_bound::{Entered, Entries, Graph, GraphInst, Instances, Place, Places};
+use nesting_bound::{Entered, Graph, GraphInst, Place};
 use std::alloc::{AllocError, Global};
 use vector_table::Assumptions;
 
@@ -80,7 +82,7 @@ fn add_node<V: View>(
     flash: &Flash,
     assumptions: &Assumptions,
     view: &V,
-    exits: &Exits,
+    exits: &Listed<Option<Exit>>,
     numbering: &Numbering,
     at: usize,
     offsets: &mut Vec<Place>,
@@ -117,7 +119,7 @@ fn instance<V: View>(
     flash: &Flash,
     assumptions: &Assumptions,
     view: &V,
-    exits: &Exits,
+    exits: &Listed<Option<Exit>>,
     numbering: &Numbering,
     i: usize,
 ) -> Result<GraphInst, AllocError>
@@ -147,8 +149,8 @@ fn instance<V: View>(
     }
     Ok(GraphInst {
         key,
-        offsets: Places::new(offsets),
-        entered: Entries::new(entered),
+        offsets: Listed::new(offsets),
+        entered: Listed::new(entered),
     })
 }
 
@@ -158,7 +160,7 @@ fn built<V: View>(
     flash: &Flash,
     assumptions: &Assumptions,
     view: &V,
-    exits: &Exits,
+    exits: &Listed<Option<Exit>>,
 ) -> Result<Graph, AllocError>
     requires few { length (V.nodes view.now) ≤ 65536 }
     requires known { AreExits flash.now assumptions.now (V.nodes view.now) exits.now }
@@ -173,7 +175,7 @@ fn built<V: View>(
         instances.push(inst)?;
     }
     Ok(Graph {
-        instances: Instances::new(instances),
+        instances: Listed::new(instances),
     })
 }
 

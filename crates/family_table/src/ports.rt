@@ -7,6 +7,7 @@ ghost use Rattle.mask_states.specs.Total.{inst_equivalence};
 ghost use Rattle.family_table.specs.Hashes.{inst_hash, inst_alike};
 ghost use Rattle.family_table.specs.Ports.{ports_at, IsAdded, MoreKeys, AreOnce};
 
+use avr_model::listed::Listed;
 use indexmap::IndexMap;
 use local_rules::Exit;
 use mask_states::{InstKey, NodeKey};
@@ -66,48 +67,19 @@ impl Hash for Place {
     }
 }
 
-/// Some ports, seen as their list.
-#[derive(Drop)]
-struct PortList {
-    items: Vec<Port>,
-}
-
-impl Model for PortList {
-    ghost use Rattle.std.specs.Prelude.{List};
-    ghost use Rattle.family_table.specs.declared.ports.Port.{Port};
-
-    ghost Value = { List Port };
-
-    ghost view = { λ s. s.items.items };
-}
-
-impl PortList {
-    fn one(alloc: Global, port: Port) -> Result<PortList, AllocError>
-        ensures { IfOk result (λ list. list ≡ port ∷ []) }
-    {
-        let mut items = Vec::new(alloc);
-        items.push(port)?;
-        Ok(PortList { items })
-    }
-
-    fn push(&mut self, port: Port) -> Result<(), AllocError>
-        ensures { OnOk result (self.new ≡ self.old ++ port ∷ []) }
-    {
-        self.items.push(port)?;
-        Ok(())
-    }
-
-    fn as_slice(&self) -> &[Port]
-        ensures { result.now ≡ self.now }
-    {
-        &self.items
-    }
+// The list of one port.
+fn one(alloc: Global, port: Port) -> Result<Listed<Port>, AllocError>
+    ensures { IfOk result (λ list. list ≡ port ∷ []) }
+{
+    let mut ports = Listed::empty(alloc);
+    ports.push(port)?;
+    Ok(ports)
 }
 
 /// Ports by their instances, which are numbered as they came. Seen as the list of instances with their ports.
 #[derive(Drop)]
 pub struct Ports {
-    map: IndexMap<Place, PortList>,
+    map: IndexMap<Place, Listed<Port>>,
 }
 
 impl Model for Ports {
@@ -143,7 +115,7 @@ impl Ports {
         match self.map.get_mut(&place) {
             Some(list) => list.push(port),
             None => {
-                let list = PortList::one(alloc, port)?;
+                let list = one(alloc, port)?;
                 self.map.insert(place, list)?;
                 Ok(())
             }

@@ -1,7 +1,7 @@
 //! The 16,384 words of flash.
 
 ghost use Rattle.std.specs.Prelude.{◌≡◌, ℕ, ◌+◌, ◌*◌, ◌%◌, ◌<◌, ◌≤◌, ◌↔◌, ◌≢◌, List, length, IfOk, replicate};
-ghost use Rattle.avr_model.specs.Image.{word_at, byte_at, IsRawImage};
+ghost use Rattle.avr_model.specs.Image.{word_at, byte_at, IsRawImage, FLASH_BYTES};
 ghost use Rattle.flash_image.specs.Placing.{placed};
 
 use avr_model::device::WORDS;
@@ -9,8 +9,8 @@ use std::alloc::{AllocError, Global};
 use std::marker::Model;
 use thiserror::Error;
 
-/// Flash, seen as the list of its 16,384 words. Addresses of words count modulo this number; byte addresses are below
-/// 0x8000, and the low byte of a word comes first.
+/// Flash, seen as the list of its words. Addresses of words count modulo their number, and the low byte of a word comes
+/// first.
 #[derive(Drop)]
 pub struct Flash {
     words: Vec<u16>,
@@ -85,7 +85,7 @@ impl Flash {
 
     /// The byte at `z`.
     pub fn byte(&self, z: u16) -> u8
-        requires { z < 0x8000 }
+        requires { z < FLASH_BYTES }
         ensures { result ≡ byte_at self.now z }
     {
         let word = self.words[z as usize / 2];
@@ -98,9 +98,9 @@ impl Flash {
 
     /// Puts bytes at the byte addresses from `at` on; every other byte stays as it was.
     pub fn place(&mut self, at: u16, bytes: &[u8])
-        requires { at + length bytes.now ≤ 0x8000 }
+        requires { at + length bytes.now ≤ FLASH_BYTES }
         ensures count { length self.new ≡ WORDS }
-        ensures bytes { (z : ℕ) → z < 0x8000 → byte_at self.new z ≡ placed at bytes.now self.old z }
+        ensures bytes { (z : ℕ) → z < FLASH_BYTES → byte_at self.new z ≡ placed at bytes.now self.old z }
     {
         let _ = &self.words;
         for (i, byte) in bytes.iter().enumerate() {
@@ -110,7 +110,7 @@ impl Flash {
 
     /// Changes the byte at `z` alone.
     fn set_byte(&mut self, z: usize, byte: u8)
-        requires { z < 0x8000 }
+        requires { z < FLASH_BYTES }
         ensures count { length self.new ≡ WORDS }
         ensures there { byte_at self.new z ≡ byte }
         ensures elsewhere { (k : ℕ) → k ≢ z → byte_at self.new k ≡ byte_at self.old k }

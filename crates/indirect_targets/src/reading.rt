@@ -17,8 +17,9 @@ ghost use Rattle.indirect_targets.specs.Reading.{numbers_in, listed_in, alone_in
 
 use crate::fault::AssumeText;
 use crate::laws::reading_is_exact;
-use avr_model::assumption::{Entry, Items};
+use avr_model::assumption::Entry;
 use avr_model::device::WORDS;
+use avr_model::listed::Listed;
 use line_reading::{hex_word, is_over};
 use sb_base::{LineReader, Words, read_hex};
 use std::alloc::{AllocError, Global};
@@ -53,7 +54,7 @@ fn jump_of(alloc: Global, words: &mut Words<'_>) -> Result<Option<Entry>, AllocE
         return Ok(None);
     };
     match numbers_of(alloc, words)? {
-        Some(numbers) => Ok(Some(Entry::Jump(site as u16, Items::new(numbers)))),
+        Some(numbers) => Ok(Some(Entry::Jump(site as u16, Listed::new(numbers)))),
         None => Ok(None),
     }
 }
@@ -66,7 +67,7 @@ fn store_of(alloc: Global, words: &mut Words<'_>) -> Result<Option<Entry>, Alloc
         return Ok(None);
     };
     match numbers_of(alloc, words)? {
-        Some(numbers) => Ok(Some(Entry::Store(site as u16, Items::new(numbers)))),
+        Some(numbers) => Ok(Some(Entry::Store(site as u16, Listed::new(numbers)))),
         None => Ok(None),
     }
 }

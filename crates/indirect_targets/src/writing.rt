@@ -6,7 +6,7 @@ ghost use Rattle.sb_base.specs.Writing.{with_words, with_end};
 ghost use Rattle.line_reading.specs.Appending.{with_text, AppendedPart, WroteWords};
 ghost use Rattle.indirect_targets.specs.Spelling.{number_words, entry_words, text_of};
 
-use avr_model::assumption::{Entry, Items};
+use avr_model::assumption::Entry;
 use line_reading::laws::appending_laws;
 use sb_base::LineWriter;
 use std::alloc::AllocError;

@@ -1,10 +1,12 @@
 //! What each instance is allowed, so that most of what is noted needs no new graph.
 
 ghost use Rattle.std.specs.Prelude.{◌≡◌, ◌+◌, ◌*◌, ◌^◌, ◌<◌, ◌≤◌, slice_index};
+ghost use Rattle.avr_model.specs.State.{SIZE};
 ghost use Rattle.mask_states.specs.Keys.{root_inst};
 
 use crate::drawing::number;
 use crate::notes::{NotedEntrance, NotedInst, NotedSpot};
+use avr_model::device::SIZE;
 use indexmap::IndexSet;
 use mask_states::InstKey;
 use nesting_bound::Composed;
@@ -45,8 +47,8 @@ impl Allowance {
 
     // What the instance of this number is allowed, where all alike have this base, and each step of ranks this share.
     fn granted(composed: &Composed, i: usize, base: u64, share: u64) -> Allowance
-        requires base { base ≤ 2048 }
-        requires share { share ≤ 2048 }
+        requires base { base ≤ SIZE }
+        requires share { share ≤ SIZE }
         ensures { result ≡ grant composed.now.ranks composed.now.needs base share i }
     {
         let steps = number_at(composed.ranks.as_slice(), i) + 1;
@@ -98,7 +100,7 @@ impl Allowances {
     /// What is granted over these ranks and needs of so many instances. Of the room that the root has left, half is for all alike,
     /// and half is shared out among the steps of ranks.
     pub fn over(alloc: Global, composed: &Composed, count: usize) -> Result<Allowances, AllocError>
-        requires { slice_index composed.now.needs 0 ≤ 2048 }
+        requires { slice_index composed.now.needs 0 ≤ SIZE }
         ensures { IfOk result (λ a. HaveRoom composed.now.ranks composed.now.needs count a.known.items a.unknown) }
     {
         let base = base(composed);
@@ -167,10 +169,10 @@ impl Allowances {
 
 // Half of what the root's need leaves.
 fn base(composed: &Composed) -> u64
-    requires { slice_index composed.now.needs 0 ≤ 2048 }
-    ensures { slice_index composed.now.needs 0 + 2 * result ≤ 2048 }
+    requires { slice_index composed.now.needs 0 ≤ SIZE }
+    ensures { slice_index composed.now.needs 0 + 2 * result ≤ SIZE }
 {
-    (2048 - number_at(composed.needs.as_slice(), 0)) / 2
+    (u64::from(SIZE) - number_at(composed.needs.as_slice(), 0)) / 2
 }
 
 // As much for each step of ranks from nothing to the root as this room has.

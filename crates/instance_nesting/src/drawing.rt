@@ -7,9 +7,10 @@ ghost use Rattle.instance_nesting.specs.Nestings.{Spot, Entrance};
 ghost use Rattle.instance_nesting.specs.Drawn.{number_of, HasPlaced, HasEntered, IsDrawn};
 
 use crate::notes::{NotedEntrance, NotedInst, NotedSpot};
+use avr_model::listed::Listed;
 use indexmap::IndexSet;
 use mask_states::{EdgeKind, InstKey};
-use nesting_bound::{Entered, Entries, Graph, GraphInst, Instances, Place, Places};
+use nesting_bound::{Entered, Graph, GraphInst, Place};
 use std::alloc::{AllocError, Global};
 use std::mem;
 
@@ -39,9 +40,9 @@ fn add_place(
     ensures { OnOk result (HasPlaced instances.old at place instances.new) }
 {
     let inst = &mut instances[at];
-    let mut places = mem::replace(&mut inst.offsets, Places::new(Vec::new(alloc))).into_vec();
+    let mut places = mem::replace(&mut inst.offsets, Listed::empty(alloc)).into_vec();
     places.push(place)?;
-    inst.offsets = Places::new(places);
+    inst.offsets = Listed::new(places);
     Ok(())
 }
 
@@ -56,9 +57,9 @@ fn add_edge(
     ensures { OnOk result (HasEntered instances.old at edge instances.new) }
 {
     let inst = &mut instances[at];
-    let mut edges = mem::replace(&mut inst.entered, Entries::new(Vec::new(alloc))).into_vec();
+    let mut edges = mem::replace(&mut inst.entered, Listed::empty(alloc)).into_vec();
     edges.push(edge)?;
-    inst.entered = Entries::new(edges);
+    inst.entered = Listed::new(edges);
     Ok(())
 }
 
@@ -108,8 +109,8 @@ fn bare(alloc: Global, key: InstKey) -> GraphInst
 {
     GraphInst {
         key,
-        offsets: Places::new(Vec::new(alloc)),
-        entered: Entries::new(Vec::new(alloc)),
+        offsets: Listed::empty(alloc),
+        entered: Listed::empty(alloc),
     }
 }
 
@@ -174,6 +175,6 @@ pub(crate) fn drawn(
     draw_spots(alloc, others, spots, instances.as_mut_slice())?;
     draw_entrances(alloc, others, entrances, instances.as_mut_slice())?;
     Ok(Graph {
-        instances: Instances::new(instances),
+        instances: Listed::new(instances),
     })
 }

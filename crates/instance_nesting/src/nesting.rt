@@ -1,6 +1,7 @@
 //! The nesting of a family's instances.
 
 ghost use Rattle.std.specs.Prelude.{◌≡◌, ◌≤◌, length, IfOk, OnOk, IsTrue};
+ghost use Rattle.avr_model.specs.State.{SIZE};
 ghost use Rattle.mask_states.specs.Keys.{offset_of};
 ghost use Rattle.instance_nesting.specs.Nestings.{Noted, nothing, AreOnce, HasNode, HasEntrance, AreAlike, TellsAll};
 ghost use Rattle.instance_nesting.specs.Drawn.{insts_of, AreApart, HasMore, MoreKeys};
@@ -116,7 +117,7 @@ impl Nesting {
 
     /// Notes a node: its instance, and its offset where its stack pointer is whole. It may be noted before.
     pub fn note_node(&mut self, key: &NodeKey) -> Result<(), AllocError>
-        requires { offset_of key.now.sp ≤ 2048 }
+        requires { offset_of key.now.sp ≤ SIZE }
         ensures node { OnOk result (HasNode self.old key.now self.new) }
         ensures once { OnOk result (AreOnce self.new.insts) }
     {
@@ -141,7 +142,7 @@ impl Nesting {
 
     /// Notes that a node of this key, whose stack pointer is whole, enters an instance. It may be noted before.
     pub fn note_entrance(&mut self, key: &NodeKey, into: &InstKey) -> Result<(), AllocError>
-        requires { offset_of key.now.sp ≤ 2048 }
+        requires { offset_of key.now.sp ≤ SIZE }
         ensures entrance { OnOk result (HasEntrance self.old key.now into.now self.new) }
         ensures once { OnOk result (AreOnce self.new.insts) }
     {

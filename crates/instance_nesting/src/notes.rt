@@ -1,6 +1,7 @@
 //! What is noted of a family, to be hashed.
 
 ghost use Rattle.std.specs.Prelude.{◌≡◌, ◌≤◌};
+ghost use Rattle.avr_model.specs.State.{SIZE};
 ghost use Rattle.mask_states.specs.Order.{same_inst};
 ghost use Rattle.mask_states.specs.Total.{inst_equivalence};
 ghost use Rattle.instance_nesting.specs.Hashes.{same_spot, spots_equivalence, same_entrance, entrances_equivalence, inst_hash, inst_alike, spot_hash, spot_alike, entrance_hash, entrance_alike};
@@ -63,12 +64,12 @@ impl Model for NotedSpot {
 
     ghost view = { λ x. record { inst = x.inst; offset = x.offset } };
 
-    ghost invariant = { λ x. x.offset ≤ 2048 };
+    ghost invariant = { λ x. x.offset ≤ SIZE };
 }
 
 impl NotedSpot {
     pub fn new(inst: InstKey, offset: u16) -> NotedSpot
-        requires { offset ≤ 2048 }
+        requires { offset ≤ SIZE }
         ensures { result ≡ record { inst = inst; offset = offset } }
     {
         NotedSpot { inst, offset }
@@ -82,7 +83,7 @@ impl NotedSpot {
 
     pub fn offset(&self) -> u16
         ensures is { result ≡ self.now.offset }
-        ensures low { result ≤ 2048 }
+        ensures low { result ≤ SIZE }
     {
         self.offset
     }
@@ -130,12 +131,12 @@ impl Model for NotedEntrance {
 
     ghost view = { λ x. record { from = x.from; into = x.into; offset = x.offset } };
 
-    ghost invariant = { λ x. x.offset ≤ 2048 };
+    ghost invariant = { λ x. x.offset ≤ SIZE };
 }
 
 impl NotedEntrance {
     pub fn new(from: InstKey, into: InstKey, offset: u16) -> NotedEntrance
-        requires { offset ≤ 2048 }
+        requires { offset ≤ SIZE }
         ensures { result ≡ record { from = from; into = into; offset = offset } }
     {
         NotedEntrance { from, into, offset }
@@ -155,7 +156,7 @@ impl NotedEntrance {
 
     pub fn offset(&self) -> u16
         ensures is { result ≡ self.now.offset }
-        ensures low { result ≤ 2048 }
+        ensures low { result ≤ SIZE }
     {
         self.offset
     }

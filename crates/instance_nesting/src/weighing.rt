@@ -13,6 +13,7 @@ ghost use Rattle.instance_nesting.specs.Covers.{IsBare, HaveRoomOver};
 
 use crate::allowances::Allowances;
 use crate::weight::Weight;
+use avr_model::device::SIZE;
 use graph_laws::laws::graphs_tell;
 use mask_states::{InstKey, Kind};
 use nesting_bound::{ComposeFault, Composed, Graph, GraphInst, compose};
@@ -67,7 +68,7 @@ pub(crate) fn weigh_graph(alloc: Global, graph: &Graph, count: usize) -> Result<
         Err(ComposeFault::Memory) => return Err(AllocError),
     };
     let need = composed.need(0);
-    if need > 2048 {
+    if need > u32::from(SIZE) {
         return Ok(Weighed {
             weight: Weight::TooDeep(need),
             allowances: None,

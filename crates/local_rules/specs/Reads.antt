@@ -1,7 +1,7 @@
 -- What is known of a byte that is read from data space. Source: own.
 use Rattle.std.specs.Prelude.{ℕ, ◌+◌, ◌*◌, ◌-◌, ◌==◌, Bool, true, false, nat_lt, nat_le, if◌then◌else◌, List, length, Option, Some, None}
 use Rattle.std.specs.Int.{bit_at, from_bool}
-use Rattle.avr_model.specs.Image.{byte_at}
+use Rattle.avr_model.specs.Image.{FLASH_BYTES, byte_at}
 use Rattle.avr_model.specs.Vectors.{enable_of}
 use Rattle.avr_model.specs.State.{RAMEND, BELOW, SPL, SPH, SREG, low, high, plus16, minus16}
 use Rattle.bit_domain.specs.declared.bits.Tri.{Tri}
@@ -134,7 +134,7 @@ read_frame k s constant (Some d) =
 abbrev pub read_pointed : NodeKey → AbsState → Pointed → Option AbsByte
 read_pointed k s p = read_frame k s p.constant p.frame
 
--- the byte of flash at a known address below 0x8000
+-- the byte of flash at a known address
 abbrev pub flash_value : List ℕ → Option ℕ → AbsByte
 flash_value words None = unknown
-flash_value words (Some z) = if nat_lt z 0x8000 then known (byte_at words z) else unknown
+flash_value words (Some z) = if nat_lt z FLASH_BYTES then known (byte_at words z) else unknown

@@ -1,6 +1,7 @@
 //! The deepest chain of calls and interrupts.
 
 ghost use Rattle.std.specs.Prelude.{◌≡◌, ◌↔◌, ℕ, ◌+◌, ◌<◌, ◌≤◌, ◌∷◌, ◌++◌, [], List, IfOk, length, slice_get, slice_index, IsTrue, true};
+ghost use Rattle.avr_model.specs.State.{SIZE};
 ghost use Rattle.std.specs.Ordering.{is_lt};
 ghost use Rattle.nesting_bound.specs.declared.graph.Entered.{Entered};
 ghost use Rattle.nesting_bound.specs.declared.graph.Place.{Place};
@@ -149,7 +150,7 @@ fn goes_on(instances: &[GraphInst], needs: &[u32], inst: u32) -> Turn
 pub fn chain(alloc: Global, graph: &Graph, composed: &Composed) -> Result<Vec<Link>, AllocError>
     requires graph { IsGraph graph.now.instances }
     requires least { IsLeast graph.now.instances composed.now.ranks composed.now.needs }
-    requires bound { slice_index composed.now.needs 0 ≤ 2048 }
+    requires bound { slice_index composed.now.needs 0 ≤ SIZE }
     requires places { HavePlaces graph.now.instances }
     ensures { IfOk result (λ links. IsChain graph.now.instances composed.now.needs links.items) }
 {

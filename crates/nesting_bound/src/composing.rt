@@ -11,17 +11,17 @@ use crate::depth_first::walk_all;
 use crate::fault::ComposeFault;
 use crate::found::Found;
 use crate::graph::Graph;
-use crate::lists::Numbers;
 use crate::peel::peel;
+use avr_model::listed::Listed;
 use std::alloc::{AllocError, Global};
 
 /// The least rank and the least need of each instance.
 #[derive(Drop)]
 pub struct Composed {
     /// By instance, how many entries lie between it and one that enters none: its rank is above that of each that it enters.
-    pub ranks: Numbers,
+    pub ranks: Listed<u32>,
     /// By instance, how many bytes the stack pointer may fall below its base, with all that it enters.
-    pub needs: Numbers,
+    pub needs: Listed<u32>,
 }
 
 impl Composed {
@@ -57,18 +57,18 @@ fn need(found: Option<Found>) -> u32
     }
 }
 
-fn ranks(alloc: Global, table: &[Option<Found>]) -> Result<Numbers, AllocError>
+fn ranks(alloc: Global, table: &[Option<Found>]) -> Result<Listed<u32>, AllocError>
     ensures { IfOk result (λ numbers. numbers ≡ map rank_of table.now) }
 {
     let numbers = table.iter().map(|x| rank(*x)).collect(alloc)?;
-    Ok(Numbers::new(numbers))
+    Ok(Listed::new(numbers))
 }
 
-fn needs(alloc: Global, table: &[Option<Found>]) -> Result<Numbers, AllocError>
+fn needs(alloc: Global, table: &[Option<Found>]) -> Result<Listed<u32>, AllocError>
     ensures { IfOk result (λ numbers. numbers ≡ map need_of table.now) }
 {
     let numbers = table.iter().map(|x| need(*x)).collect(alloc)?;
-    Ok(Numbers::new(numbers))
+    Ok(Listed::new(numbers))
 }
 
 // The first instance that was not settled.

@@ -1,6 +1,6 @@
 //! Which instance enters which. Source: own.
 
-use crate::lists::{Entries, Instances, Places};
+use avr_model::listed::Listed;
 use mask_states::{EdgeKind, InstKey};
 
 /// A node at which the stack pointer is whole.
@@ -31,16 +31,16 @@ pub struct GraphInst {
     /// What tells it from the others.
     pub key: InstKey,
     /// Its nodes at which the stack pointer is whole.
-    pub offsets: Places,
+    pub offsets: Listed<Place>,
     /// The edges from its nodes into instances.
-    pub entered: Entries,
+    pub entered: Listed<Entered>,
 }
 
 /// The instances of a firmware. The root is instance 0.
 #[derive(Drop)]
 pub struct Graph {
     /// The instances, each named by its place.
-    pub instances: Instances,
+    pub instances: Listed<GraphInst>,
 }
 
 /// One place of a chain of entries.

@@ -9,7 +9,6 @@ pub mod fault;
 mod found;
 pub mod graph;
 pub mod laws;
-pub mod lists;
 mod peel;
 mod reach;
 mod shape;
@@ -18,7 +17,6 @@ pub use chaining::chain;
 pub use composing::{Composed, compose};
 pub use fault::ComposeFault;
 pub use graph::{Entered, Graph, GraphInst, Link, Place};
-pub use lists::{Entries, Instances, Numbers, Places};
 pub use mask_states::{EdgeKind, InstKey};
 
 #[cfg(test)]

@@ -1,6 +1,7 @@
 //! Tests of what `compose` and `chain` ask of a graph.
 
 ghost use Rattle.std.specs.Prelude.{◌≡◌, ℕ, ◌<◌, ◌≤◌, Contains, length, true, false};
+ghost use Rattle.avr_model.specs.State as model;
 ghost use Rattle.nesting_bound.specs.declared.graph.Entered.{Entered};
 ghost use Rattle.nesting_bound.specs.declared.graph.Place.{Place};
 ghost use Rattle.nesting_bound.specs.Chain.{HasSome, HavePlaces};
@@ -15,8 +16,8 @@ const GREATEST_OFFSET: u16 = SIZE;
 
 // Whether each offset is small enough.
 fn are_low(places: &[Place]) -> bool
-    ensures yes { result ≡ true → (p : Place) → Contains places.now p → p.offset ≤ 2048 }
-    ensures no { result ≡ false → (p : Place) × Contains places.now p × (2048 < p.offset) }
+    ensures yes { result ≡ true → (p : Place) → Contains places.now p → p.offset ≤ model.SIZE }
+    ensures no { result ≡ false → (p : Place) × Contains places.now p × (model.SIZE < p.offset) }
 {
     for place in places {
         if place.offset > GREATEST_OFFSET {
@@ -28,8 +29,8 @@ fn are_low(places: &[Place]) -> bool
 
 // Whether each offset is small enough, and each edge leads into one of so many instances.
 fn lead_inside(edges: &[Entered], count: usize) -> bool
-    ensures yes { result ≡ true → (e : Entered) → Contains edges.now e → (e.offset ≤ 2048) × (e.into < count) }
-    ensures no { result ≡ false → (e : Entered) × Contains edges.now e × ((e.offset ≤ 2048) × (e.into < count) → ⊥) }
+    ensures yes { result ≡ true → (e : Entered) → Contains edges.now e → (e.offset ≤ model.SIZE) × (e.into < count) }
+    ensures no { result ≡ false → (e : Entered) × Contains edges.now e × ((e.offset ≤ model.SIZE) × (e.into < count) → ⊥) }
 {
     for entered in edges {
         if entered.offset > GREATEST_OFFSET {

@@ -1,9 +1,7 @@
 //! Worked graphs: ranks, needs, chains and named instances as one finds them by hand.
 
-use crate::{
-    ComposeFault, Entered, Entries, Graph, GraphInst, Instances, Link, Place, Places, chain,
-    compose,
-};
+use crate::{ComposeFault, Entered, Graph, GraphInst, Link, Place, chain, compose};
+use avr_model::listed::Listed;
 use mask_states::{EdgeKind, InstKey, Kind};
 use std::alloc::{AllocError, Global};
 use vector_table::Masks;
@@ -60,15 +58,15 @@ fn key(number: u8, entry: u16) -> InstKey {
     }
 }
 
-fn places(alloc: Global, rows: &[At]) -> Result<Places, AllocError> {
+fn places(alloc: Global, rows: &[At]) -> Result<Listed<Place>, AllocError> {
     let mut list = Vec::new(alloc);
     for &(node, offset) in rows {
         list.push(Place { node, offset })?;
     }
-    Ok(Places::new(list))
+    Ok(Listed::new(list))
 }
 
-fn edges(alloc: Global, rows: &[Edge]) -> Result<Entries, AllocError> {
+fn edges(alloc: Global, rows: &[Edge]) -> Result<Listed<Entered>, AllocError> {
     let mut list = Vec::new(alloc);
     for &(node, offset, by, into) in rows {
         let kind = kind(by);
@@ -79,7 +77,7 @@ fn edges(alloc: Global, rows: &[Edge]) -> Result<Entries, AllocError> {
             into,
         })?;
     }
-    Ok(Entries::new(list))
+    Ok(Listed::new(list))
 }
 
 fn graph(alloc: Global, rows: &[Inst]) -> Result<Graph, AllocError> {
@@ -91,7 +89,7 @@ fn graph(alloc: Global, rows: &[Inst]) -> Result<Graph, AllocError> {
             entered: edges(alloc, entered)?,
         })?;
     }
-    let instances = Instances::new(list);
+    let instances = Listed::new(list);
     Ok(Graph { instances })
 }
 

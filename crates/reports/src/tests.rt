@@ -1,6 +1,7 @@
 //! Reports of one certificate, with and without a schedule, names and static data.
 
 ghost use Rattle.std.specs.Prelude.{◌≡◌, IfOk};
+ghost use Rattle.avr_model.specs.Image.{FLASH_BYTES};
 ghost use Rattle.reports.specs.Examples.{blinker_insts};
 
 use crate::{report_json, report_text};
@@ -62,7 +63,7 @@ const ROWS: [Row; 4] = [
 /// The enable bit of vector 17 alone.
 #[tactic(auto, using(crate::proofs::Sampled::enabled_alone))]
 fn enabled_alone() -> Masks
-    ensures { result ≡ 0x8000 }
+    ensures { result ≡ FLASH_BYTES }
 {
     Masks::none().with(17, true)
 }

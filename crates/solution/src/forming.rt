@@ -9,10 +9,11 @@ ghost use Rattle.solution.specs.Leads.{lead_at, form_by, forms_from};
 
 use crate::leading::{Lead, leads};
 use abs_state::AbsState;
+use avr_model::listed::Listed;
 use call_graph::laws::exits_are_exact;
-use call_graph::{Exits, Filled, Leaving, NodeForm, exits};
+use call_graph::{Filled, Leaving, NodeForm, exits};
 use flash_image::Flash;
-use local_rules::Node;
+use local_rules::{Exit, Node};
 use mask_states::NodeKey;
 use std::alloc::{AllocError, Global};
 use vector_table::Assumptions;
@@ -57,7 +58,7 @@ fn formed_by(
     flash: &Flash,
     assumptions: &Assumptions,
     nodes: Filled,
-    exits: &Exits,
+    exits: &Listed<Option<Exit>>,
 ) -> Result<Vec<(NodeKey, NodeForm)>, AllocError>
     requires few { length nodes ≤ 65536 }
     requires known { AreExits flash.now assumptions.now nodes exits.now }

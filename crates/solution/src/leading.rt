@@ -4,8 +4,10 @@ ghost use Rattle.std.specs.Prelude.{◌≡◌, ◌≤◌, fold, length, IfOk};
 ghost use Rattle.call_graph.specs.Exits.{AreExits};
 ghost use Rattle.solution.specs.Leads.{led, noted, AreLeads};
 
-use call_graph::{Edge, EdgeKind, Exits, View, next_with};
+use avr_model::listed::Listed;
+use call_graph::{Edge, EdgeKind, View, next_with};
 use flash_image::Flash;
+use local_rules::Exit;
 use std::alloc::{AllocError, Global};
 use vector_table::Assumptions;
 
@@ -62,7 +64,7 @@ pub(crate) fn leads<V: View>(
     flash: &Flash,
     assumptions: &Assumptions,
     view: &V,
-    exits: &Exits,
+    exits: &Listed<Option<Exit>>,
 ) -> Result<Vec<Lead>, AllocError>
     requires few { length (V.nodes view.now) ≤ 65536 }
     requires known { AreExits flash.now assumptions.now (V.nodes view.now) exits.now }

@@ -11,6 +11,7 @@ ghost use Rattle.expansion_laws.specs.Laws.{AreAscending};
 
 use crate::forming::forms;
 use abs_state::AbsState;
+use avr_model::device::WORDS;
 use call_graph::{Expanded, Filled, Leaving, NodeForm, Seed, Seeded, exits, expand};
 use flash_image::Flash;
 use mask_states::{InstKey, Kind, NodeKey, SpForm};
@@ -103,7 +104,7 @@ fn add_own(
     ensures ascending { OnOk result (AreAscending items.new.items) }
 {
     let _ = key.masks.bits();
-    if key.pc >= 16384 || !may_follow(items, &key) {
+    if key.pc >= WORDS || !may_follow(items, &key) {
         return Ok(false);
     }
     items.push((key, NodeForm::State(AbsState::root(alloc))))?;

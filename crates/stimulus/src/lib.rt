@@ -9,4 +9,4 @@ mod trace;
 
 pub use avr_machine::{Choice, Machine, Menu, Stop};
 pub use driver::Driver;
-pub use trace::{Choices, Trace};
+pub use trace::Trace;

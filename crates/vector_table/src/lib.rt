@@ -11,7 +11,8 @@ pub use crate::assumption_list::{AssumeFault, Assumptions};
 pub use crate::enable_bits::{Masks, write};
 pub use crate::rows::Row;
 pub use crate::table::{enable_of, held, is_protected, row};
-pub use avr_model::assumption::{Entry, Items};
+pub use avr_model::assumption::Entry;
+pub use avr_model::listed::Listed;
 
 #[cfg(test)]
 mod tests;

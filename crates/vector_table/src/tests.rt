@@ -1,7 +1,7 @@
 //! The data sheet's table, and one list of assumptions.
 
 use crate::{
-    AssumeFault, Assumptions, Entry, Items, Masks, enable_of, held, is_protected, row, write,
+    AssumeFault, Assumptions, Entry, Listed, Masks, enable_of, held, is_protected, row, write,
 };
 use std::test::Fail;
 
@@ -87,8 +87,8 @@ fn answers(list: &Assumptions) -> bool {
 #[test]
 fn a_list_ascends_and_answers_by_site(rt: HostRuntime) -> Result<(), Fail> {
     let mut list = Assumptions::empty(rt.alloc());
-    let jump = Entry::Jump(5, Items::new([7, 9].to_vec(rt.alloc())?));
-    let store = Entry::Store(5, Items::new([0x5D].to_vec(rt.alloc())?));
+    let jump = Entry::Jump(5, Listed::new([7, 9].to_vec(rt.alloc())?));
+    let store = Entry::Store(5, Listed::new([0x5D].to_vec(rt.alloc())?));
     let pushed = list.push(jump).is_ok() && list.push(store).is_ok();
     let refused = matches!(list.push(Entry::Prove(4)), Err(AssumeFault::Order));
     let proved = list.push(Entry::Prove(6)).is_ok();
