@@ -14,6 +14,3 @@ pub use bitwise::{com, logic, shift, step_one};
 pub use product::mul;
 pub use sums::{add, sub};
 pub use words::wide;
-
-#[cfg(test)]
-mod tests;

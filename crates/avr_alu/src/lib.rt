@@ -14,6 +14,3 @@ pub use crate::sreg::Sreg;
 pub use crate::sums::{add, sub};
 pub use crate::word::wide;
 pub use avr_model::operation::{Logic, Mul, Shift};
-
-#[cfg(test)]
-mod tests;

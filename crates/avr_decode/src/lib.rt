@@ -20,6 +20,3 @@ pub use fixed::is_fixed;
 pub use printing::text;
 pub use register_set::{RegSet, writes};
 pub use scratch::is_scratch;
-
-#[cfg(test)]
-mod tests;

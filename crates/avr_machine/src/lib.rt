@@ -21,6 +21,3 @@ pub use flash_image::Flash;
 pub use machine::Machine;
 pub use menu::Menu;
 pub use vector_table::{Assumptions, Entry, Listed, Masks};
-
-#[cfg(test)]
-mod tests;

@@ -28,6 +28,7 @@ pub struct Processor {
 }
 
 impl Model for Processor {
+    ghost use Rattle.avr_model.specs.Image.{WORDS};
     ghost use Rattle.std.specs.Prelude.{◌<◌};
     ghost use Rattle.avr_model.specs.State.{State};
 

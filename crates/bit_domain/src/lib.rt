@@ -13,6 +13,3 @@ pub use bits::Tri;
 pub use bytes::TriByte;
 pub use logic::{and, eor, equal, not, or};
 pub use sums::{Sum, add, sub};
-
-#[cfg(test)]
-mod tests;

@@ -15,6 +15,3 @@ pub use expanding::expand;
 pub use filled::{Expanded, Filled};
 pub use leaving::exits;
 pub use successors::{next, next_with};
-
-#[cfg(test)]
-mod tests;

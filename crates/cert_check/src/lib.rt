@@ -13,6 +13,3 @@ mod weighing;
 pub use attaining::is_attained;
 pub use judging::judge;
 pub use verdict::{Reason, Verdict};
-
-#[cfg(test)]
-mod tests;

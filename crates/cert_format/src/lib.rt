@@ -10,6 +10,3 @@ pub use cert_writing::{write, write_inst_key, write_key};
 pub use certificate::{Certificate, Inst, Limit};
 pub use fault::CertFault;
 pub use reading::read;
-
-#[cfg(test)]
-mod tests;

@@ -6,6 +6,3 @@ mod words;
 
 pub use commands::{Command, Size};
 pub use words::command_of;
-
-#[cfg(test)]
-mod tests;

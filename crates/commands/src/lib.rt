@@ -7,6 +7,3 @@ mod size;
 
 pub use command::{Command, command_of};
 pub use size::Size;
-
-#[cfg(test)]
-mod tests;

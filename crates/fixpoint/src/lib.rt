@@ -8,6 +8,3 @@ mod testing;
 pub use certificate::{Certificate, Limit};
 pub use round_rules::Refusal;
 pub use solving::solve;
-
-#[cfg(test)]
-mod tests;

@@ -7,6 +7,3 @@ pub mod laws;
 
 pub use image::{Flash, RawFault};
 pub use labels::Names;
-
-#[cfg(test)]
-mod tests;

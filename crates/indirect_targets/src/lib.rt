@@ -4,10 +4,7 @@
 pub mod fault;
 pub mod laws;
 pub mod reading;
-pub mod target_list;
-#[cfg(test)]
-mod tests;
-pub mod transfer;
+pub mod target_list;pub mod transfer;
 pub mod writing;
 
 pub use fault::AssumeText;

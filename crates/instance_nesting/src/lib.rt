@@ -11,6 +11,3 @@ pub mod weight;
 
 pub use nesting::Nesting;
 pub use weight::Weight;
-
-#[cfg(test)]
-mod tests;

@@ -58,6 +58,7 @@ pub(crate) struct NotedSpot {
 
 impl Model for NotedSpot {
     ghost use Rattle.std.specs.Prelude.{◌≤◌};
+    ghost use Rattle.avr_model.specs.State.{SIZE};
     ghost use Rattle.instance_nesting.specs.Nestings.{Spot};
 
     ghost Value = { Spot };
@@ -125,6 +126,7 @@ pub(crate) struct NotedEntrance {
 
 impl Model for NotedEntrance {
     ghost use Rattle.std.specs.Prelude.{◌≤◌};
+    ghost use Rattle.avr_model.specs.State.{SIZE};
     ghost use Rattle.instance_nesting.specs.Nestings.{Entrance};
 
     ghost Value = { Entrance };

@@ -7,6 +7,3 @@ pub mod splits;
 
 pub use keys::{EdgeKind, High, InstKey, Kind, NodeKey, SpForm};
 pub use splits::{Splits, split};
-
-#[cfg(test)]
-mod tests;

@@ -18,6 +18,3 @@ pub use composing::{Composed, compose};
 pub use fault::ComposeFault;
 pub use graph::{Entered, Graph, GraphInst, Link, Place};
 pub use mask_states::{EdgeKind, InstKey};
-
-#[cfg(test)]
-mod tests;

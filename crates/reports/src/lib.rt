@@ -9,6 +9,3 @@ mod text;
 
 pub use json::report_json;
 pub use text::report_text;
-
-#[cfg(test)]
-mod tests;

@@ -13,6 +13,3 @@ pub use lines::{Line, LineReader, Words};
 pub use memory::{MemFiles, MemSink};
 pub use outside::{FileFault, Files, Sink, SinkFault, put_all};
 pub use writer::LineWriter;
-
-#[cfg(test)]
-mod tests;

@@ -8,6 +8,3 @@ pub mod writing;
 pub use certificate::Certificate;
 pub use forming::forms;
 pub use writing::certificate_of;
-
-#[cfg(test)]
-mod tests;

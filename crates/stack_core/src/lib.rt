@@ -13,6 +13,3 @@ pub mod running;
 pub mod work;
 
 pub use call::stackbound;
-
-#[cfg(test)]
-mod tests;

@@ -2,10 +2,7 @@
 #![tactic(auto)]
 
 mod driver;
-pub mod laws;
-#[cfg(test)]
-mod tests;
-mod trace;
+pub mod laws;mod trace;
 
 pub use avr_machine::{Choice, Machine, Menu, Stop};
 pub use driver::Driver;

@@ -4,10 +4,7 @@
 pub mod laws;
 mod reading;
 pub mod replaying;
-pub mod schedule;
-#[cfg(test)]
-mod tests;
-mod tracing;
+pub mod schedule;mod tracing;
 mod writing;
 
 pub use replaying::{IllegalChoice, ReplayReport, replay};

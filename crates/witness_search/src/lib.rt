@@ -4,10 +4,7 @@
 
 mod chain;
 pub mod laws;
-mod searching;
-#[cfg(test)]
-mod tests;
-pub mod trial;
+mod searching;pub mod trial;
 pub mod waypoint;
 
 pub use searching::search;

@@ -1,0 +1,9 @@
+//! Tables of commands: words, reports, and replies of the whole program.
+#![tactic(auto)]
+
+#[cfg(test)]
+mod needs;
+#[cfg(test)]
+mod replies;
+#[cfg(test)]
+mod words;

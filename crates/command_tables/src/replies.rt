@@ -1,0 +1,433 @@
+//! Worked commands over files in memory: what is printed, and the status.
+
+use stack_core::stackbound;
+use sb_base::{MemFiles, MemSink};
+use std::alloc::{AllocError, Global};
+use std::test::Fail;
+
+/// A certificate's text over nodes of the root that are given by their words and offsets, with the lines of its end.
+fn certificate(
+    alloc: Global,
+    bound: u16,
+    need: u16,
+    nodes: &[(u16, u16)],
+    ending: &str,
+) -> Result<String, AllocError> {
+    let count = nodes.len();
+    let mut text = format!(in alloc;
+        "stackcert 1\nbound {bound}\nassume 0\ninstances 1\ninst root 0000 0000000 0 rank 0 need {need}\nnodes {count}\n"
+    )?;
+    for (pc, offset) in nodes {
+        let head = format!(in alloc; "node 0 {pc:04X} 0000000 0 0 c{offset}")?;
+        text.push_str(head.as_str())?;
+        for _ in 0..32 {
+            text.push_str(" -0000")?;
+        }
+        text.push_str(" -7F00 -")?;
+        for _ in 0..*offset {
+            text.push_str(" -0000")?;
+        }
+        text.push_str("\n")?;
+    }
+    text.push_str(ending)?;
+    Ok(text)
+}
+
+/// Words, the bytes of FW, of SECOND and of LIST, the number of the read and of the put that fails, and the answer.
+#[derive(Clone, Copy)]
+struct Row<'a> {
+    words: &'a [&'a str],
+    firmware: &'a [u8],
+    second: &'a str,
+    list: &'a str,
+    failing: (Option<u32>, Option<u32>),
+    status: u8,
+    printed: &'a str,
+}
+
+fn is_row(alloc: Global, row: &Row<'_>) -> Result<bool, AllocError> {
+    let mut files = MemFiles::new(alloc);
+    files.add("FW", row.firmware)?;
+    files.add("SECOND", row.second.as_bytes())?;
+    files.add("LIST", row.list.as_bytes())?;
+    if let Some(call) = row.failing.0 {
+        files.fail(call)?;
+    }
+    let mut out = MemSink::new(alloc);
+    if let Some(call) = row.failing.1 {
+        out.fail(call)?;
+    }
+    let status = stackbound(alloc, row.words, &mut files, &mut out);
+    Ok(status == row.status && out.written() == row.printed.as_bytes())
+}
+
+const OPEN: &str = "witness open\nend\n";
+
+const ATTAINED: &str = "witness attained\nschedule 1\nfill 00\ngo 1 00 00\nend\nend\n";
+
+const NO_STEP: &str = "witness attained\nschedule 1\nfill 00\nend\nend\n";
+
+const LOOP: &[u8] = &[0xFF, 0xCF];
+
+const PUSH_AND_POP: &[u8] = &[0x0F, 0x92, 0x0F, 0x90, 0xFD, 0xCF];
+
+const NODES: &[(u16, u16)] = &[(0, 0), (1, 1), (2, 0)];
+
+/// Words, a firmware, a certificate over it (bound, need, nodes, end), and what is said.
+#[derive(Clone, Copy)]
+struct Judged {
+    words: &'static [&'static str],
+    firmware: &'static [u8],
+    bound: u16,
+    need: u16,
+    nodes: &'static [(u16, u16)],
+    ending: &'static str,
+    status: u8,
+    printed: &'static str,
+}
+
+fn is_judged(alloc: Global, row: &Judged) -> Result<bool, AllocError> {
+    let text = certificate(alloc, row.bound, row.need, row.nodes, row.ending)?;
+    let row = Row {
+        words: row.words,
+        firmware: row.firmware,
+        second: text.as_str(),
+        list: "",
+        failing: (None, None),
+        status: row.status,
+        printed: row.printed,
+    };
+    is_row(alloc, &row)
+}
+
+#[test]
+fn certificates_are_judged(rt: HostRuntime) -> Result<(), Fail> {
+    let row = |firmware, bound, need, nodes, ending, status, printed| Judged {
+        words: CHECK,
+        firmware,
+        bound,
+        need,
+        nodes,
+        ending,
+        status,
+        printed,
+    };
+    let report = |firmware, bound, need, nodes, ending, status, printed| Judged {
+        words: REPORT,
+        firmware,
+        bound,
+        need,
+        nodes,
+        ending,
+        status,
+        printed,
+    };
+    let json = |firmware, bound, need, nodes, ending, status, printed| Judged {
+        words: REPORT_AS_JSON,
+        firmware,
+        bound,
+        need,
+        nodes,
+        ending,
+        status,
+        printed,
+    };
+    let rows = [
+        row(
+            LOOP,
+            0,
+            0,
+            &[(0, 0)],
+            NO_STEP,
+            0,
+            "accepted bound 0 attained\n",
+        ),
+        row(
+            PUSH_AND_POP,
+            1,
+            1,
+            NODES,
+            ATTAINED,
+            0,
+            "accepted bound 1 attained\n",
+        ),
+        row(
+            PUSH_AND_POP,
+            2048,
+            9,
+            NODES,
+            OPEN,
+            0,
+            "accepted bound 2048 open\n",
+        ),
+        row(PUSH_AND_POP, 0, 1, NODES, OPEN, 1, "rejected 6 least 1\n"),
+        row(
+            PUSH_AND_POP,
+            0,
+            0,
+            NODES,
+            OPEN,
+            1,
+            "rejected 5 inst 0 least 1\n",
+        ),
+        row(
+            PUSH_AND_POP,
+            1,
+            1,
+            &[(1, 1), (2, 0)],
+            OPEN,
+            1,
+            "rejected 1 root\n",
+        ),
+        row(
+            PUSH_AND_POP,
+            1,
+            1,
+            &[(0, 0), (1, 1)],
+            OPEN,
+            1,
+            "rejected 3 node 1 to root 0000 0000000 0 0002 0000000 0 0 c0\n",
+        ),
+        row(
+            PUSH_AND_POP,
+            1,
+            1,
+            NODES,
+            NO_STEP,
+            1,
+            "rejected 8 witness\n",
+        ),
+        report(
+            PUSH_AND_POP,
+            1,
+            1,
+            NODES,
+            ATTAINED,
+            0,
+            "bound 1\nwitness attained\nstatic none\ninst root 0000 0000000 0 - need 1\n",
+        ),
+        json(
+            LOOP,
+            0,
+            0,
+            &[(0, 0)],
+            NO_STEP,
+            0,
+            "{\"bound\":0,\"fits\":null,\"instances\":[{\"enables\":0,\"entry\":0,\"i\":0,\"kind\":\"root\",\"name\":null,\"need\":0}],\"room\":null,\"static\":null,\"witness\":\"attained\"}\n",
+        ),
+        report(
+            PUSH_AND_POP,
+            1,
+            1,
+            NODES,
+            NO_STEP,
+            1,
+            "rejected 8 witness\n",
+        ),
+    ];
+    for (at, row) in rows.iter().enumerate() {
+        assert!(rt; is_judged(rt.alloc(), row)?, "row {at}");
+    }
+    Ok(())
+}
+
+const CHECK: &[&str] = &["check", "FW", "SECOND"];
+
+const WITH_LIST: &[&str] = &["check", "--assume", "LIST", "FW", "SECOND"];
+
+const REPORT: &[&str] = &["report", "FW", "SECOND"];
+
+const REPORT_AS_JSON: &[&str] = &["report", "FW", "SECOND", "--json"];
+
+const RUN: &[&str] = &["run", "FW", "SECOND"];
+
+const ANALYSE: &[&str] = &["analyse", "FW"];
+
+/// `rcall` of its own word.
+const CALLS_ITSELF: &[u8] = &[0xFF, 0xDF];
+
+/// `rjmp` over a handler, INT0 enabled, `sei`, and a loop.
+const INTERRUPT: &[u8] = &[
+    0x03, 0xC0, 0, 0, 0x18, 0x95, 0, 0, 0xE8, 0x9A, 0x78, 0x94, 0xFF, 0xCF,
+];
+
+#[test]
+fn commands_are_answered(rt: HostRuntime) -> Result<(), Fail> {
+    let row = |words, firmware, second, list, failing, status, printed| Row {
+        words,
+        firmware,
+        second,
+        list,
+        failing,
+        status,
+        printed,
+    };
+    let fine = (None, None);
+    let rows = [
+        row(CHECK, LOOP, "", "", (Some(0), None), 3, "read fault FW\n"),
+        row(
+            CHECK,
+            LOOP,
+            "",
+            "",
+            (Some(1), None),
+            3,
+            "read fault SECOND\n",
+        ),
+        row(
+            WITH_LIST,
+            LOOP,
+            "",
+            "",
+            (Some(2), None),
+            3,
+            "read fault LIST\n",
+        ),
+        row(CHECK, LOOP, "", "", (None, Some(0)), 4, ""),
+        row(ANALYSE, LOOP, "", "", (Some(0), None), 3, "read fault FW\n"),
+        row(ANALYSE, LOOP, "", "", (None, Some(0)), 4, ""),
+        row(
+            ANALYSE,
+            CALLS_ITSELF,
+            "",
+            "",
+            fine,
+            10,
+            "refused 2 recursion at 0000\n",
+        ),
+        row(
+            &["analyse", "FW", "--steps", "0"],
+            CALLS_ITSELF,
+            "",
+            "",
+            fine,
+            11,
+            "spent 0\n",
+        ),
+        row(&[], LOOP, "", "", fine, 2, "usage\n"),
+        row(
+            &["check", "FW", "SECOND", "--json"],
+            LOOP,
+            "",
+            "",
+            fine,
+            2,
+            "usage\n",
+        ),
+        row(CHECK, &[0], "", "", fine, 6, "firmware raw 1\n"),
+        row(
+            CHECK,
+            &[0x7F, 0x45, 0x4C, 0x46],
+            "",
+            "",
+            fine,
+            6,
+            "firmware elf 1 at 0\n",
+        ),
+        row(
+            WITH_LIST,
+            LOOP,
+            "",
+            "prove 1\n",
+            fine,
+            7,
+            "assumptions malformed line 1\n",
+        ),
+        row(
+            WITH_LIST,
+            LOOP,
+            "",
+            "prove 0002\nprove 0001\n",
+            fine,
+            7,
+            "assumptions order line 2\n",
+        ),
+        row(
+            CHECK,
+            LOOP,
+            "stackcert 1\nbound 01\n",
+            "",
+            fine,
+            8,
+            "certificate malformed at 12\n",
+        ),
+        row(
+            CHECK,
+            LOOP,
+            "stackcert 1\nbound 0\nassume 2\nprove 0002\nprove 0001\n",
+            "",
+            fine,
+            8,
+            "certificate order at 40\n",
+        ),
+        row(
+            CHECK,
+            LOOP,
+            "stackcert 1\nbound 0\nassume 0\ninstances 0\nnodes 65537\n",
+            "",
+            fine,
+            8,
+            "certificate limit nodes\n",
+        ),
+        row(
+            RUN,
+            INTERRUPT,
+            "schedule 1\nfill 00\ngo 4 00 00\ntake 2 0\nend\n",
+            "",
+            fine,
+            0,
+            "steps 5 depth 2 stop end\n",
+        ),
+        row(
+            RUN,
+            INTERRUPT,
+            "schedule 1\nfill 00\ntake 2 0\nend\n",
+            "",
+            fine,
+            9,
+            "schedule illegal step 0\n",
+        ),
+        row(
+            RUN,
+            INTERRUPT,
+            "schedule 1\nfill 00\nend\nend\n",
+            "",
+            fine,
+            9,
+            "schedule malformed at 23\n",
+        ),
+    ];
+    for (at, row) in rows.iter().enumerate() {
+        assert!(rt; is_row(rt.alloc(), row)?, "row {at}");
+    }
+    Ok(())
+}
+
+/// Whether the least certificate of a firmware is this text, where each of the first puts takes one byte.
+fn is_written(
+    alloc: Global,
+    firmware: &[u8],
+    short_puts: u32,
+    text: &str,
+) -> Result<bool, AllocError> {
+    let mut files = MemFiles::new(alloc);
+    files.add("FW", firmware)?;
+    let mut out = MemSink::new(alloc);
+    for call in 0..short_puts {
+        out.short(call, 1)?;
+    }
+    let status = stackbound(alloc, ANALYSE, &mut files, &mut out);
+    Ok(status == 0 && out.written() == text.as_bytes())
+}
+
+#[test]
+fn certificates_are_written_whole(rt: HostRuntime) -> Result<(), Fail> {
+    let text = certificate(rt.alloc(), 0, 0, &[(0, 0)], NO_STEP)?;
+    for short_puts in [0, 1, 400] {
+        assert!(rt;
+            is_written(rt.alloc(), LOOP, short_puts, text.as_str())?,
+            "short puts {short_puts}"
+        );
+    }
+    Ok(())
+}

@@ -1,0 +1,12 @@
+use Rattle.std.proofs.Common.{◌≤◌, ◌<◌, arith}
+use Rattle.avr_model.specs.State.{SIZE}
+use Rattle.cert_check.proofs.Sampled.{sample_claim}
+use Rattle.family_tables.proofs.verdicts.certificate.Goals as goal
+
+pub build-requires : goal.build-requires
+build-requires c =
+    let bound : c.min-bound.result ≤ SIZE = omega (arith, c.min-bound.ensures) in
+    let rank : c.min-rank.result < 65536 = omega (arith, c.min-rank.ensures) in
+    let need : c.min-need.result ≤ SIZE = omega (arith, c.min-need.ensures) in
+    sample_claim c.min-bound.result c.min-rank.result c.min-need.result c.args.row.now.from bound rank need c.empty.result c.in_ok-instances.instances.items
+    c.in_ok-nodes.nodes.items c.empty.ensures c.in_ok-instances.ensures c.in_ok-nodes.ensures

@@ -1,0 +1,220 @@
+//! Worked nestings: what each tells as one finds it by hand, whether it is weighed once at the end or after each note.
+
+ghost use Rattle.std.specs.Prelude.{◌≤◌};
+ghost use Rattle.mask_states.specs.Keys.{offset_of};
+
+use instance_nesting::{Nesting, Weight};
+use mask_states::{InstKey, Kind, NodeKey, SpForm};
+use std::alloc::{AllocError, Global};
+use vector_table::Masks;
+
+/// How an instance is entered, and its entry: 0 is the root, 1 a call, and any other number a vector.
+type Inst = (u8, u16);
+
+const ROOT: Inst = (0, 0);
+
+#[derive(Clone, Copy)]
+enum Note {
+    /// A node of this instance at this offset.
+    Node(Inst, u16),
+    /// A node of the first instance at this offset enters the second.
+    Entrance(Inst, u16, Inst),
+}
+
+fn key(inst: Inst) -> InstKey {
+    let (by, entry) = inst;
+    let kind = match by {
+        0 => Kind::Root,
+        1 => Kind::Call,
+        _ => Kind::Vector(by),
+    };
+    InstKey {
+        kind,
+        entry,
+        masks: Masks::none(),
+        i: false,
+    }
+}
+
+fn node(inst: Inst, offset: u16) -> NodeKey
+    ensures { offset_of result.sp ≤ 2048 }
+{
+    let sp = SpForm::Closed(offset.min(2_048));
+    NodeKey {
+        sp,
+        ..NodeKey::entry(&key(inst))
+    }
+}
+
+fn take(nesting: &mut Nesting, note: Note) -> Result<(), AllocError> {
+    match note {
+        Note::Node(inst, offset) => nesting.note_node(&node(inst, offset)),
+        Note::Entrance(from, offset, into) => {
+            nesting.note_entrance(&node(from, offset), &key(into))
+        }
+    }
+}
+
+/// What the notes tell, where the nesting is weighed besides after each note if `often`.
+fn weight(alloc: Global, notes: &[Note], often: bool) -> Result<Option<Weight>, AllocError> {
+    let mut nesting = Nesting::new(alloc);
+    for note in notes {
+        take(&mut nesting, *note)?;
+        if often && nesting.count() <= 65_536 {
+            nesting.weigh()?;
+        }
+    }
+    if nesting.count() > 65_536 {
+        return Ok(None);
+    }
+    Ok(Some(nesting.weigh()?))
+}
+
+fn is_row(alloc: Global, notes: &[Note], wanted: Weight) -> bool {
+    for often in [false, true] {
+        match weight(alloc, notes, often) {
+            Ok(Some(weight)) if weight == wanted => {}
+            _ => return false,
+        }
+    }
+    true
+}
+
+// Functions one below the other, each of them new when it is entered.
+fn chain() -> [Note; 81] {
+    let mut notes = [Note::Node(ROOT, 0); 81];
+    let mut from = ROOT;
+    for at in 0..40_u16 {
+        let into = (1, 100 + at);
+        notes[2 * at as usize + 1] = Note::Entrance(from, 1, into);
+        notes[2 * at as usize + 2] = Note::Node(into, 0);
+        from = into;
+    }
+    notes
+}
+
+#[test]
+fn nestings_tell_what_is_found_by_hand(rt: HostRuntime) {
+    let function = (1, 40);
+    let leaf = (1, 30);
+    let handler = (5, 10);
+    let later = (9, 18);
+    let chain = chain();
+    let rows: [(&[Note], Weight); 14] = [
+        (&[Note::Node(ROOT, 0)], Weight::Light),
+        (&chain, Weight::Light),
+        // a need of exactly what SRAM has, and one more
+        (&[Note::Node(ROOT, 2_048)], Weight::Light),
+        (
+            &[
+                Note::Node(ROOT, 0),
+                Note::Entrance(ROOT, 46, function),
+                Note::Node(function, 2_000),
+            ],
+            Weight::Light,
+        ),
+        (
+            &[
+                Note::Node(ROOT, 0),
+                Note::Entrance(ROOT, 46, function),
+                Note::Node(function, 2_001),
+            ],
+            Weight::TooDeep(2_049),
+        ),
+        // an instance that is entered and has no node needs nothing
+        (
+            &[Note::Node(ROOT, 0), Note::Entrance(ROOT, 2_046, function)],
+            Weight::Light,
+        ),
+        (
+            &[
+                Note::Node(ROOT, 0),
+                Note::Entrance(ROOT, 2_047, function),
+                Note::Entrance(ROOT, 0, handler),
+            ],
+            Weight::TooDeep(2_049),
+        ),
+        // a handler below a function below the root, with the way back to each
+        (
+            &[
+                Note::Node(ROOT, 10),
+                Note::Entrance(ROOT, 1_000, function),
+                Note::Node(function, 0),
+                Note::Entrance(function, 1_000, handler),
+                Note::Node(handler, 45),
+            ],
+            Weight::TooDeep(2_049),
+        ),
+        // two instances enter a third, each of them at its own depth
+        (
+            &[
+                Note::Node(ROOT, 0),
+                Note::Entrance(ROOT, 2_000, leaf),
+                Note::Entrance(ROOT, 0, function),
+                Note::Node(function, 100),
+                Note::Entrance(function, 1_500, leaf),
+                Note::Node(leaf, 46),
+            ],
+            Weight::Light,
+        ),
+        // a function that enters itself, and one that does by another
+        (
+            &[
+                Note::Node(ROOT, 0),
+                Note::Entrance(ROOT, 0, function),
+                Note::Node(function, 0),
+                Note::Entrance(function, 0, function),
+            ],
+            Weight::Recursion(40),
+        ),
+        (
+            &[
+                Note::Node(ROOT, 0),
+                Note::Entrance(ROOT, 0, function),
+                Note::Node(function, 0),
+                Note::Entrance(function, 0, leaf),
+                Note::Node(leaf, 0),
+                Note::Entrance(leaf, 0, function),
+            ],
+            Weight::Recursion(30),
+        ),
+        // two handlers that enter each other: the lesser vector
+        (
+            &[
+                Note::Node(ROOT, 0),
+                Note::Entrance(ROOT, 0, later),
+                Note::Node(later, 0),
+                Note::Entrance(later, 0, handler),
+                Note::Node(handler, 0),
+                Note::Entrance(handler, 0, later),
+            ],
+            Weight::ReEntry(5, 10),
+        ),
+        // a handler is named before a function
+        (
+            &[
+                Note::Node(ROOT, 0),
+                Note::Entrance(ROOT, 0, leaf),
+                Note::Node(leaf, 0),
+                Note::Entrance(leaf, 0, leaf),
+                Note::Entrance(leaf, 0, later),
+                Note::Node(later, 0),
+                Note::Entrance(later, 0, later),
+            ],
+            Weight::ReEntry(9, 18),
+        ),
+        // a cycle is told before the depth, also where the root is noted last
+        (
+            &[
+                Note::Node(function, 2_048),
+                Note::Entrance(function, 0, function),
+                Note::Entrance(ROOT, 2_048, function),
+                Note::Node(ROOT, 0),
+            ],
+            Weight::Recursion(40),
+        ),
+    ];
+    for (at, (notes, wanted)) in rows.iter().enumerate() {
+        assert!(rt; is_row(rt.alloc(), notes, *wanted), "row {at}");
+    }
+}

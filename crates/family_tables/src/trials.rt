@@ -1,0 +1,77 @@
+//! Trials of small firmwares.
+
+use witness_search::{Waypoint, first_trial};
+use avr_machine::{Flash, Masks, Stop};
+use std::alloc::{AllocError, Global};
+use std::test::Fail;
+use vector_table::Assumptions;
+use witness_replay::{ReplayReport, replay};
+
+/// The words from 0 on, the depth at which vector 2 is due at word 7, and the bound; the fill byte and the steps of the schedule.
+type Row = ([u16; 7], u16, u16, Option<(u8, u32)>);
+
+/// An erased word.
+const E: u16 = 0xFFFF;
+
+/// `rjmp` to word 4, where the enable bit of vector 2 and I are set, and `nop`; then an erased word. Vector 2 returns at once.
+const TAKING: [u16; 7] = [0xC003, 0x0000, 0x9518, 0x0000, 0x9AE8, 0x9478, 0x0000];
+
+/// `in r24, 0x09` and `sbrc r24, 0`, which skips `push r0` where the input's bit 0 is clear; then an erased word.
+const ASKING: [u16; 7] = [0xB189, 0xFD80, 0x920F, E, E, E, E];
+
+static ROWS: [Row; 5] = [
+    // the interrupt is taken at its waypoint
+    (TAKING, 0, 2, Some((0x00, 5))),
+    // nowhere is the stack as deep as this waypoint
+    (TAKING, 1, 2, None),
+    // the second trial's input is the first with bit 0 set
+    (ASKING, 0, 1, Some((0xFF, 3))),
+    // no step is made where the bound is reached at reset
+    (ASKING, 0, 0, Some((0x00, 0))),
+    // each trial stops at once
+    ([E, E, E, E, E, E, E], 0, 1, None),
+];
+
+/// Flash that begins with these words.
+fn flash_of(alloc: Global, words: &[u16; 7]) -> Result<Flash, AllocError> {
+    let mut flash = Flash::erased(alloc)?;
+    for (a, word) in words.iter().enumerate() {
+        flash.place(2 * a as u16, &word.to_le_bytes());
+    }
+    Ok(flash)
+}
+
+fn is_row(alloc: Global, row: &Row) -> Result<bool, AllocError> {
+    let (words, depth, bound, due) = row;
+    let flash = flash_of(alloc, words)?;
+    let assumptions = Assumptions::empty(alloc);
+    let points = [Waypoint {
+        pc: 7,
+        masks: Masks::none().with(2, true),
+        depth: *depth,
+        vector: 2,
+        clears: false,
+    }];
+    let found = first_trial(alloc, &flash, &assumptions, &points, *bound)?;
+    let Some(schedule) = found else {
+        return Ok(due.is_none());
+    };
+    let report = ReplayReport {
+        steps: due.map_or(0, |(_, steps)| steps),
+        depth: *bound,
+        stop: Stop::End,
+    };
+    Ok(
+        due.map(|(fill, _)| fill) == Some(schedule.fill())
+            && replay(&flash, &assumptions, &schedule) == Ok(report),
+    )
+}
+
+#[test]
+fn the_first_trial_that_reaches_the_bound_is_found(rt: HostRuntime) -> Result<(), AllocError> {
+    let alloc = rt.alloc();
+    for (at, row) in ROWS.iter().enumerate() {
+        assert!(rt; is_row(alloc, row)?, "row {at}");
+    }
+    Ok(())
+}

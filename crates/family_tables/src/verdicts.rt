@@ -1,0 +1,206 @@
+//! Verdicts on a small firmware, worked by hand: a call, a jump to itself behind it, and the callee's return.
+
+ghost use Rattle.std.specs.Prelude.{◌≡◌, IfOk};
+ghost use Rattle.edge_rules.specs.Examples.{callee};
+ghost use Rattle.cert_check.specs.Examples.{form_by, nodes_by, insts_by};
+
+use cert_check::{Reason, Verdict, is_attained, judge};
+use abs_state::AbsState;
+use certificate::{Certificate, Inst, NodeForm};
+use flash_image::Flash;
+use mask_states::{InstKey, Kind, NodeKey};
+use std::alloc::{AllocError, Global};
+use std::test::Fail;
+use vector_table::{Assumptions, Entry, Masks};
+
+/// `rcall .+2`, `rjmp .-2`, `ret`.
+const CALL: [u8; 6] = [0x01, 0xD0, 0xFF, 0xCF, 0x08, 0x95];
+
+/// The same with a `nop` behind the call.
+const RUN_ON: [u8; 6] = [0x01, 0xD0, 0x00, 0x00, 0x08, 0x95];
+
+/// The same with an undefined word as the callee.
+const UNDEFINED: [u8; 6] = [0x01, 0xD0, 0xFF, 0xCF, 0x01, 0x00];
+
+/// The same with a `nop` in place of the call.
+const NO_CALL: [u8; 6] = [0x00, 0x00, 0xFF, 0xCF, 0x08, 0x95];
+
+/// An image and a certificate for it, and the verdict.
+#[derive(Clone, Copy)]
+struct Row {
+    image: [u8; 6],
+    /// Whether an assumption is handed in, which the certificate lacks.
+    assumed: bool,
+    /// Whether the node behind the call comes from that before it.
+    from: bool,
+    /// The bound, at most 2,048.
+    bound: u16,
+    /// The root's rank and need, at most 2,048.
+    rank: u16,
+    need: u16,
+    /// The number of the reason, or 0; then the numbers that it tells, or the bound.
+    verdict: (u8, u32, u32),
+}
+
+/// A row with neither an assumption nor a node that comes from another.
+const fn row_of(image: [u8; 6], bound: u16, rank: u16, need: u16, verdict: (u8, u32, u32)) -> Row {
+    Row {
+        image,
+        assumed: false,
+        from: false,
+        bound,
+        rank,
+        need,
+        verdict,
+    }
+}
+
+fn told(verdict: &Verdict) -> (u8, u32, u32) {
+    match verdict {
+        Verdict::Accepted(bound) => (0, u32::from(*bound), 0),
+        Verdict::Rejected(reason) => told_of(reason),
+    }
+}
+
+fn told_of(reason: &Reason) -> (u8, u32, u32) {
+    match reason {
+        Reason::Root => (1, 0, 0),
+        Reason::Node(node, cause) => (2, *node, u32::from(*cause)),
+        Reason::Edge(node, to) => (3, *node, u32::from(to.pc)),
+        Reason::Rank(inst, entered) => (4, *inst, *entered),
+        Reason::Need(inst, need) => (5, *inst, *need),
+        Reason::Bound(need) => (6, *need, 0),
+        Reason::Assumptions => (7, 0, 0),
+        Reason::Expansion(node) => (9, *node, 0),
+    }
+}
+
+/// The callee, at word 2.
+fn callee() -> InstKey
+    ensures { result ≡ callee }
+{
+    InstKey {
+        kind: Kind::Call,
+        entry: 2,
+        masks: Masks::none(),
+        i: false,
+    }
+}
+
+/// How the state behind the call is given.
+fn form(alloc: Global, from: bool) -> NodeForm
+    ensures { result ≡ form_by from }
+{
+    if from {
+        NodeForm::From(0)
+    } else {
+        NodeForm::State(AbsState::root(alloc))
+    }
+}
+
+/// The nodes: the call, the word behind it, and the callee.
+fn nodes(alloc: Global, from: bool) -> Result<Vec<(NodeKey, NodeForm)>, AllocError>
+    ensures { IfOk result (λ nodes. nodes.items ≡ nodes_by from) }
+{
+    let reset = NodeKey::entry(&InstKey::root());
+    let mut behind = reset;
+    behind.pc = 1;
+    let inside = AbsState::root(alloc).entered(alloc);
+    let mut nodes = Vec::new(alloc);
+    nodes.push((reset, NodeForm::State(AbsState::root(alloc))))?;
+    nodes.push((behind, form(alloc, from)))?;
+    nodes.push((NodeKey::entry(&callee()), NodeForm::State(inside)))?;
+    Ok(nodes)
+}
+
+/// The root with this rank and need, and the callee.
+fn instances(alloc: Global, rank: u16, need: u16) -> Result<Vec<Inst>, AllocError>
+    ensures { IfOk result (λ instances. instances.items ≡ insts_by rank need) }
+{
+    let root = Inst {
+        key: InstKey::root(),
+        rank: u32::from(rank),
+        need: u32::from(need),
+    };
+    let entered = Inst {
+        key: callee(),
+        rank: 0,
+        need: 0,
+    };
+    let mut instances = Vec::new(alloc);
+    instances.push(root)?;
+    instances.push(entered)?;
+    Ok(instances)
+}
+
+/// The row's certificate.
+fn certificate(alloc: Global, row: &Row) -> Result<Certificate, AllocError> {
+    let bound = row.bound.min(2048);
+    let rank = row.rank.min(2048);
+    let need = row.need.min(2048);
+    let instances = instances(alloc, rank, need)?;
+    let nodes = nodes(alloc, row.from)?;
+    Ok(Certificate::build(bound, Assumptions::empty(alloc), instances, nodes))
+}
+
+/// The verdict on a certificate in numbers. One without a schedule says nothing of its being attained.
+fn verdict_in_numbers(
+    alloc: Global,
+    flash: &Flash,
+    assumptions: &Assumptions,
+    certificate: &Certificate,
+) -> Result<(u8, u32, u32), AllocError> {
+    match judge(alloc, flash, assumptions, certificate) {
+        Ok(verdict) if is_attained(flash, assumptions, certificate) => Ok(told(&verdict)),
+        Ok(_) => Ok((8, 0, 0)),
+        Err(fault) => Err(fault),
+    }
+}
+
+/// What is handed in: an assumption, or none.
+fn assumptions(alloc: Global, assumed: bool) -> Result<Assumptions, Fail> {
+    let mut list = Assumptions::empty(alloc);
+    if assumed {
+        list.push(Entry::Prove(0)).map_err(|_| "no assumption")?;
+    }
+    Ok(list)
+}
+
+/// Whether the verdict is that of the row.
+fn is_row(alloc: Global, row: &Row) -> Result<bool, Fail> {
+    let flash = Flash::from_raw(alloc, &row.image).map_err(|_| "no image")?;
+    let assumptions = assumptions(alloc, row.assumed)?;
+    let certificate = certificate(alloc, row)?;
+    let verdict = verdict_in_numbers(alloc, &flash, &assumptions, &certificate)?;
+    Ok(verdict == row.verdict)
+}
+
+#[test]
+fn verdicts_are_those_worked_by_hand(rt: HostRuntime) -> Result<(), Fail> {
+    let rows = [
+        row_of(CALL, 2, 1, 2, (0, 2, 0)),
+        row_of(CALL, 7, 9, 3, (0, 7, 0)),
+        row_of(RUN_ON, 2, 0, 1, (3, 1, 2)),
+        row_of(UNDEFINED, 2, 0, 1, (2, 2, 5)),
+        row_of(CALL, 1, 0, 1, (4, 0, 1)),
+        row_of(CALL, 0, 1, 1, (5, 0, 2)),
+        row_of(CALL, 1, 1, 2, (6, 2, 0)),
+        row_of(NO_CALL, 0, 0, 0, (0, 0, 0)),
+        Row {
+            assumed: true,
+            ..row_of(CALL, 2, 1, 2, (7, 0, 0))
+        },
+        Row {
+            from: true,
+            ..row_of(CALL, 0, 0, 0, (9, 1, 0))
+        },
+        Row {
+            from: true,
+            ..row_of(NO_CALL, 0, 0, 0, (0, 0, 0))
+        },
+    ];
+    for (at, row) in rows.iter().enumerate() {
+        assert!(rt; is_row(rt.alloc(), row)?, "row {at}");
+    }
+    Ok(())
+}

@@ -1,0 +1,327 @@
+//! A certificate with each kind of line, which is written as it was read, and small damages to it with the places at which they
+//! are refused.
+
+use cert_format::{CertFault, Certificate, Limit, read, write};
+use edge_rules::NodeForm;
+use mask_states::Kind;
+use sb_base::LineWriter;
+use sp_domain::{CarryTag, Slot, Tag};
+use std::alloc::{AllocError, Global};
+use std::test::Fail;
+
+/// A piece of a text: what stands before, between and behind so many equal words.
+type Piece = (&'static [u8], &'static [u8], usize, &'static [u8]);
+
+/// A certificate with each kind of line.
+static PIECES: [Piece; 18] = [
+    (b"stackcert 1\n", b"", 0, b""),
+    (b"bound 4\n", b"", 0, b""),
+    (b"assume 2\n", b"", 0, b""),
+    (b"jump 0003 0004 0005\n", b"", 0, b""),
+    (b"prove 0004\n", b"", 0, b""),
+    (b"instances 3\n", b"", 0, b""),
+    (b"inst root 0000 0000000 0 rank 2 need 4\n", b"", 0, b""),
+    (b"inst call 0010 0000001 1 rank 1 need 3\n", b"", 0, b""),
+    (b"inst v2 0002 0000001 0 rank 0 need 2\n", b"", 0, b""),
+    (b"nodes 4\n", b"", 0, b""),
+    (b"node 0 0000 0000000 0 0 c0", b" -0000", 32, b" -7F00 -\n"),
+    (b"node 0 0001 0000000 0 0 c1 from 0\n", b"", 0, b""),
+    (
+        b"node 0 0002 0000000 0 1 o2,k08",
+        b" -0F05",
+        32,
+        b" -7F00 - -0000 .\n",
+    ),
+    (
+        b"node 1 0010 0000001 1 0 o3,t0003",
+        b" e1F0F05",
+        32,
+        b" f7F00 b0301 . l03FFFE h0003FF08\n",
+    ),
+    (b"witness attained\n", b"", 0, b""),
+    (b"schedule 1\nfill 00\nend\n", b"", 0, b""),
+    (b"end\n", b"", 0, b""),
+    (b"", b"", 0, b""),
+];
+
+/// Another piece in one place, and why the text is then refused, with the piece that begins there.
+type Damage = (usize, Piece, CertFault);
+
+/// A piece without equal words.
+const NONE: &[u8] = b"";
+
+static DAMAGES: [Damage; 33] = [
+    (
+        0,
+        (b"stackcert 2\n", NONE, 0, NONE),
+        CertFault::Malformed(0),
+    ),
+    (1, (b"bound 04\n", NONE, 0, NONE), CertFault::Malformed(1)),
+    (1, (b"bound 2049\n", NONE, 0, NONE), CertFault::Malformed(1)),
+    (
+        2,
+        (b"assume 4097\n", NONE, 0, NONE),
+        CertFault::Malformed(2),
+    ),
+    (2, (b"assume 1\n", NONE, 0, NONE), CertFault::Malformed(4)),
+    (3, (b"prove 0005\n", NONE, 0, NONE), CertFault::Order(4)),
+    (4, (b"prove 004\n", NONE, 0, NONE), CertFault::Malformed(4)),
+    (
+        5,
+        (b"instances 65537\n", NONE, 0, NONE),
+        CertFault::Malformed(5),
+    ),
+    (
+        6,
+        (b"inst root 0001 0000000 0 rank 2 need 4\n", NONE, 0, NONE),
+        CertFault::Malformed(6),
+    ),
+    (
+        7,
+        (b"inst call 4000 0000001 1 rank 1 need 3\n", NONE, 0, NONE),
+        CertFault::Malformed(7),
+    ),
+    (
+        7,
+        (b"inst root 0000 0000000 0 rank 2 need 4\n", NONE, 0, NONE),
+        CertFault::Order(7),
+    ),
+    (
+        8,
+        (b"inst v2 0004 0000001 0 rank 0 need 2\n", NONE, 0, NONE),
+        CertFault::Malformed(8),
+    ),
+    (
+        8,
+        (b"inst v2 0002 2000000 0 rank 0 need 2\n", NONE, 0, NONE),
+        CertFault::Malformed(8),
+    ),
+    (
+        8,
+        (b"inst v2 0002 0000001 0 rank 65536 need 2\n", NONE, 0, NONE),
+        CertFault::Malformed(8),
+    ),
+    (
+        9,
+        (b"nodes 65537\n", NONE, 0, NONE),
+        CertFault::Limit(Limit::Nodes),
+    ),
+    (
+        9,
+        (b"nodes 99999999999999999999999\n", NONE, 0, NONE),
+        CertFault::Limit(Limit::Nodes),
+    ),
+    (9, (b"nodes 04\n", NONE, 0, NONE), CertFault::Malformed(9)),
+    (9, (b"nodes 5\n", NONE, 0, NONE), CertFault::Malformed(14)),
+    (
+        11,
+        (b"node 0 0001 0000000 0 0 c1 from 1\n", NONE, 0, NONE),
+        CertFault::Malformed(11),
+    ),
+    (
+        11,
+        (b"node 0 0001 0000000 0 0 c1 from 00\n", NONE, 0, NONE),
+        CertFault::Malformed(11),
+    ),
+    (
+        11,
+        (b"node 0 0001 0000000 0 0 c1 from 0 -\n", NONE, 0, NONE),
+        CertFault::Malformed(11),
+    ),
+    (
+        11,
+        (b"node 0 0000 0000000 0 0 c0 from 0\n", NONE, 0, NONE),
+        CertFault::Order(11),
+    ),
+    (
+        12,
+        (
+            b"node 0 0002 0000000 0 1 o2,k08",
+            b" -0FA5",
+            32,
+            b" -7F00 - -0000 .\n",
+        ),
+        CertFault::Malformed(12),
+    ),
+    (
+        12,
+        (
+            b"node 0 0002 0000000 0 1 o2,k08",
+            b" -0F05",
+            31,
+            b" -7F00 - -0000 .\n",
+        ),
+        CertFault::Malformed(12),
+    ),
+    (
+        12,
+        (
+            b"node 0 0002 0000000 0 1 o2,t0008",
+            b" -0F05",
+            32,
+            b" -7F00 - -0000 .\n",
+        ),
+        CertFault::Malformed(12),
+    ),
+    (
+        12,
+        (
+            b"node 0 0002 0000000 0 1 o2,k08",
+            b" -0F05",
+            32,
+            b" -FF00 - -0000 .\n",
+        ),
+        CertFault::Malformed(12),
+    ),
+    (
+        13,
+        (b"node 3 0010 0000001 1 0 c0 from 0\n", NONE, 0, NONE),
+        CertFault::Malformed(13),
+    ),
+    (
+        14,
+        (b"witness open\n", NONE, 0, NONE),
+        CertFault::Malformed(15),
+    ),
+    (
+        15,
+        (b"schedule 1\nfill 00\n", NONE, 0, NONE),
+        CertFault::Malformed(17),
+    ),
+    (16, (b"end", NONE, 0, NONE), CertFault::Malformed(16)),
+    (16, (NONE, NONE, 0, NONE), CertFault::Malformed(16)),
+    (17, (b"x", NONE, 0, NONE), CertFault::Malformed(17)),
+    (17, (b"\n", NONE, 0, NONE), CertFault::Malformed(17)),
+];
+
+/// Appends a piece.
+fn append(text: &mut Vec<u8>, piece: &Piece) -> Result<(), AllocError> {
+    let (head, word, count, tail) = *piece;
+    text.extend_from_slice(head)?;
+    for _ in 0..count {
+        text.extend_from_slice(word)?;
+    }
+    text.extend_from_slice(tail)?;
+    Ok(())
+}
+
+/// All pieces, with another one in one place, and where one of them begins.
+fn joined(
+    alloc: Global,
+    place: usize,
+    other: &Piece,
+    wanted: usize,
+) -> Result<(Vec<u8>, usize), AllocError> {
+    let mut text = Vec::new(alloc);
+    let mut begin = 0;
+    for (at, piece) in PIECES.iter().enumerate() {
+        if at == wanted {
+            begin = text.len();
+        }
+        append(&mut text, if at == place { other } else { piece })?;
+    }
+    Ok((text, begin))
+}
+
+/// Whether the text with this damage is refused as told.
+fn is_refused(alloc: Global, damage: &Damage) -> Result<bool, AllocError> {
+    let (place, other, fault) = damage;
+    let wanted = match *fault {
+        CertFault::Malformed(piece) => piece,
+        CertFault::Order(piece) => piece,
+        _ => 0,
+    };
+    let (text, begin) = joined(alloc, *place, other, wanted)?;
+    let due = match *fault {
+        CertFault::Malformed(_) => CertFault::Malformed(begin),
+        CertFault::Order(_) => CertFault::Order(begin),
+        other => other,
+    };
+    Ok(read(alloc, &text).err() == Some(due))
+}
+
+#[test]
+fn each_small_damage_is_refused_at_its_place(rt: HostRuntime) -> Result<(), Fail> {
+    for (at, damage) in DAMAGES.iter().enumerate() {
+        assert!(rt; is_refused(rt.alloc(), damage)?, "damage {at}");
+    }
+    Ok(())
+}
+
+/// Whether some of its values are those that the words of the certificate with each kind of line stand for.
+fn has_its_values(certificate: &Certificate) -> Option<bool> {
+    let vector = certificate.instances().get(2)?;
+    let second = certificate.nodes().get(1)?;
+    let third = certificate.nodes().get(2)?;
+    let fourth = certificate.nodes().get(3)?;
+    let NodeForm::From(from) = &second.1 else {
+        return None;
+    };
+    let NodeForm::State(state) = &fourth.1 else {
+        return None;
+    };
+    let last = state.registers.get(31)?;
+    let keys = *from == 0 && vector.key.kind == Kind::Vector(2) && third.0.delay;
+    let value = last.tag == Tag::Entry(31) && last.bits.value == 5;
+    let behind = state.flags.carry == CarryTag::Borrow(3, 1)
+        && state.slots.at(0) == Some(Slot::Free);
+    Some(keys && value && behind)
+}
+
+#[test]
+fn what_is_read_is_written_again(rt: HostRuntime) -> Result<(), Fail> {
+    let alloc = rt.alloc();
+    let (text, _) = joined(alloc, 0, &PIECES[0], 0)?;
+    let certificate = read(alloc, &text)?;
+    assert!(rt; has_its_values(&certificate) == Some(true), "values");
+    let again = write(alloc, &certificate)?;
+    assert!(rt; again.as_slice() == text.as_slice(), "text");
+    Ok(())
+}
+
+/// Appends the line of a node of the root at this word, with a stack pointer and `from 0`.
+fn append_node(out: &mut LineWriter, word: u16, sp: &[u8]) -> Result<(), AllocError> {
+    out.word(b"node 0")?;
+    out.hex(u32::from(word), 4)?;
+    out.word(b"0000000 0 0")?;
+    out.word(sp)?;
+    out.word(b"from 0")?;
+    out.end_line()
+}
+
+/// A certificate whose nodes have 8,388,607 cells and those of the nodes of one cell each.
+fn with_cells(alloc: Global, more: u16) -> Result<Vec<u8>, AllocError> {
+    let mut out = LineWriter::new(alloc);
+    out.word(
+        b"stackcert 1\nbound 0\nassume 0\ninstances 1\ninst root 0000 0000000 0 rank 0 need 0\nnodes",
+    )?;
+    out.dec(u64::from(more).wrapping_add(4095))?;
+    out.end_line()?;
+    out.word(b"node 0 0000 0000000 0 0 c0")?;
+    for _ in 0..32 {
+        out.word(b"-0000")?;
+    }
+    out.word(b"-7F00 -")?;
+    out.end_line()?;
+    for word in 1..4095 {
+        append_node(&mut out, word, b"c2048")?;
+    }
+    for word in 0..more {
+        append_node(&mut out, word.wrapping_add(4095), b"c0")?;
+    }
+    out.word(b"witness open\nend")?;
+    out.end_line()?;
+    Ok(out.finish())
+}
+
+#[test]
+fn each_node_counts_its_cells(rt: HostRuntime) -> Result<(), Fail> {
+    let alloc = rt.alloc();
+    let most = read(alloc, &with_cells(alloc, 1)?).is_ok();
+    let over = read(alloc, &with_cells(alloc, 2)?).err();
+    assert!(rt;
+        most && over == Some(CertFault::Limit(Limit::Cells)),
+        "cells"
+    );
+    Ok(())
+}

@@ -1,0 +1,152 @@
+//! Each call with ample memory, and faults that are chosen by call.
+
+use sb_base::{
+    DigitFault, FileFault, Files, LineReader, LineWriter, MemFiles, MemSink, Sink, SinkFault,
+    Words, put_all, read_dec, read_hex,
+};
+use std::alloc::{AllocError, Global};
+use std::test::Fail;
+
+/// The reads of one object in their order: the name, the most bytes that are wanted, and the answer.
+const READS: [(&str, usize, Result<&[u8], FileFault>); 5] = [
+    ("a", 3, Ok(b"new")),
+    ("a", 3, Err(FileFault::Failed)),
+    ("a", 2, Err(FileFault::TooLong)),
+    ("b", 3, Err(FileFault::Failed)),
+    ("a", 3, Ok(b"new")),
+];
+
+fn is_read(
+    files: &mut MemFiles,
+    alloc: Global,
+    row: &(&str, usize, Result<&[u8], FileFault>),
+) -> bool {
+    match files.read(alloc, row.0, row.1) {
+        Ok(bytes) => row.2 == Ok(bytes.as_slice()),
+        Err(fault) => row.2 == Err(fault),
+    }
+}
+
+#[test]
+fn files_answer_by_name_and_call(rt: HostRuntime) -> Result<(), Fail> {
+    let alloc = rt.alloc();
+    let mut files = MemFiles::new(alloc);
+    files.add("a", b"older")?;
+    files.add("a", b"new")?;
+    files.fail(1)?;
+    for (at, row) in READS.iter().enumerate() {
+        assert!(rt; is_read(&mut files, alloc, row), "row {at}");
+    }
+    Ok(())
+}
+
+/// The texts that one sink is given in their order, the answers, and what is written then. The sink takes 1 byte, 2 and
+/// the rest of the first text, 2 bytes and then a fault of the second, and none of the last.
+const PUTS: [(&[u8], Result<(), SinkFault>, &[u8]); 4] = [
+    (b"abcdef", Ok(()), b"abcdef"),
+    (b"ghijkl", Err(SinkFault::Failed), b"abcdefgh"),
+    (b"mn", Ok(()), b"abcdefghmn"),
+    (b"o", Err(SinkFault::Failed), b"abcdefghmn"),
+];
+
+fn is_put(sink: &mut MemSink, row: &(&[u8], Result<(), SinkFault>, &[u8])) -> bool {
+    put_all(sink, row.0) == row.1 && sink.written() == row.2
+}
+
+#[test]
+fn a_text_is_put_in_pieces_up_to_a_fault(rt: HostRuntime) -> Result<(), Fail> {
+    let mut sink = MemSink::new(rt.alloc());
+    sink.short(0, 1)?;
+    sink.short(1, 2)?;
+    sink.short(3, 2)?;
+    sink.fail(4)?;
+    sink.short(6, 0)?;
+    for (at, row) in PUTS.iter().enumerate() {
+        assert!(rt; is_put(&mut sink, row), "row {at}");
+    }
+    assert!(rt; sink.put(b"") == Ok(0));
+    Ok(())
+}
+
+const HEXADECIMAL: [(&[u8], usize, Result<u32, DigitFault>); 4] = [
+    (b"940C", 4, Ok(37900)),
+    (b"FFFFFFFF", 8, Ok(4294967295)),
+    (b"940c", 4, Err(DigitFault::BadDigit(3))),
+    (b"94", 4, Err(DigitFault::WrongLength(2))),
+];
+
+const DECIMAL: [(&[u8], u64, Result<u64, DigitFault>); 6] = [
+    (b"18446744073709551615", u64::MAX, Ok(u64::MAX)),
+    (b"18446744073709551616", u64::MAX, Err(DigitFault::TooGreat)),
+    (b"2049", 2048, Err(DigitFault::TooGreat)),
+    (b"007", 2048, Err(DigitFault::BadDigit(0))),
+    (b"7 ", 2048, Err(DigitFault::BadDigit(1))),
+    (b"", 2048, Err(DigitFault::WrongLength(0))),
+];
+
+fn is_hexadecimal(row: &(&[u8], usize, Result<u32, DigitFault>)) -> bool {
+    row.1 >= 1 && row.1 <= 8 && read_hex(row.0, row.1) == row.2
+}
+
+#[test]
+fn digits_are_read(rt: HostRuntime) -> Result<(), Fail> {
+    for (at, row) in HEXADECIMAL.iter().enumerate() {
+        assert!(rt; is_hexadecimal(row), "hexadecimal row {at}");
+    }
+    for (at, row) in DECIMAL.iter().enumerate() {
+        assert!(rt; read_dec(row.0, row.1) == row.2, "decimal row {at}");
+    }
+    Ok(())
+}
+
+/// Each line: its text, where it begins, whether a line feed ends it, and the offset behind it.
+const LINES: [(&[u8], usize, bool, usize); 3] = [
+    (b"node 001F 18446744073709551615", 0, true, 31),
+    (b"00", 31, true, 34),
+    (b"end", 34, false, 37),
+];
+
+const WORDS: [&[u8]; 3] = [b"node", b"001F", b"18446744073709551615"];
+
+fn written(alloc: Global) -> Result<Vec<u8>, AllocError> {
+    let mut writer = LineWriter::new(alloc);
+    writer.word(b"node")?;
+    writer.hex(0x1F, 4)?;
+    writer.dec(18446744073709551615)?;
+    writer.end_line()?;
+    writer.hex(0, 2)?;
+    writer.end_line()?;
+    writer.word(b"end")?;
+    Ok(writer.finish())
+}
+
+fn is_line(reader: &mut LineReader<'_>, row: &(&[u8], usize, bool, usize)) -> bool {
+    let before = reader.offset();
+    let peeked = match reader.peek() {
+        Some(line) => line.text == row.0 && before == reader.offset(),
+        None => false,
+    };
+    match reader.next() {
+        Some(line) => {
+            let found = (line.text, line.at, line.whole, reader.offset());
+            peeked && found == *row
+        }
+        None => false,
+    }
+}
+
+#[test]
+fn lines_are_written_and_read(rt: HostRuntime) -> Result<(), Fail> {
+    let text = written(rt.alloc())?;
+    let mut reader = LineReader::new(&text);
+    for (at, row) in LINES.iter().enumerate() {
+        assert!(rt; is_line(&mut reader, row), "line {at}");
+    }
+    let mut words = Words::new(LINES[0].0);
+    for (at, word) in WORDS.iter().enumerate() {
+        assert!(rt; words.next() == Some(*word), "word {at}");
+    }
+    assert!(rt; words.next().is_none());
+    assert!(rt; reader.next().is_none());
+    Ok(())
+}

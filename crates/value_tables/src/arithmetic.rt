@@ -1,0 +1,120 @@
+//! The rows of `rows`, each against its call, from a register with no flag set and from one with all set.
+
+mod rows;
+
+use avr_alu::{Logic, Mul, Shift, Sreg, add, com, logic, mul, shift, step_one, sub, wide};
+
+const NONE: Sreg = Sreg(0x00);
+
+const ALL: Sreg = Sreg(0xFF);
+
+type ByteRow = (u8, u8, u8, u8);
+
+type PairRow = (u8, u8, u8, u8, u8);
+
+type CarryRow = (u8, u8, bool, u8, u8, u8);
+
+type ProductRow = (u8, u8, u16, u8, u8);
+
+type WordRow = (u16, u8, u16, u8, u8);
+
+type ShiftRow = (u8, u8, u8, u8, u8, u8, u8, u8);
+
+fn is((found, s): (u8, Sreg), expected: u8, flags: u8) -> bool {
+    found == expected && s.bits() == flags
+}
+
+fn is_word((found, s): (u16, Sreg), expected: u16, flags: u8) -> bool {
+    found == expected && s.bits() == flags
+}
+
+// Each of these gives the first row that the call doesn't meet.
+
+fn wrong_sum(rows: &[CarryRow]) -> Option<usize> {
+    rows.iter().position(|&(a, b, carry, r, clear, full)| {
+        !(is(add(a, b, carry, NONE), r, clear) && is(add(a, b, carry, ALL), r, full))
+    })
+}
+
+fn wrong_difference(keep: bool, rows: &[CarryRow]) -> Option<usize> {
+    rows.iter().position(|&(a, b, borrow, r, clear, full)| {
+        !(is(sub(a, b, borrow, keep, NONE), r, clear) && is(sub(a, b, borrow, keep, ALL), r, full))
+    })
+}
+
+fn wrong_logic(op: Logic, rows: &[PairRow]) -> Option<usize> {
+    rows.iter().position(|&(a, b, r, clear, full)| {
+        !(is(logic(op, a, b, NONE), r, clear) && is(logic(op, a, b, ALL), r, full))
+    })
+}
+
+fn wrong_complement(rows: &[ByteRow]) -> Option<usize> {
+    rows.iter().position(|&(a, r, clear, full)| {
+        !(is(com(a, NONE), r, clear) && is(com(a, ALL), r, full))
+    })
+}
+
+fn wrong_step(up: bool, rows: &[ByteRow]) -> Option<usize> {
+    rows.iter().position(|&(a, r, clear, full)| {
+        !(is(step_one(up, a, NONE), r, clear) && is(step_one(up, a, ALL), r, full))
+    })
+}
+
+fn wrong_shift(rows: &[ShiftRow]) -> Option<usize> {
+    rows.iter().position(|&(
+        a,
+        s,
+        right,
+        after_right,
+        rotated,
+        after_rotated,
+        halved,
+        after_halved,
+    )| {
+        !(is(shift(Shift::Lsr, a, Sreg(s)), right, after_right)
+            && is(shift(Shift::Ror, a, Sreg(s)), rotated, after_rotated)
+            && is(shift(Shift::Asr, a, Sreg(s)), halved, after_halved))
+    })
+}
+
+fn wrong_product(op: Mul, rows: &[ProductRow]) -> Option<usize> {
+    rows.iter().position(|&(a, b, r, clear, full)| {
+        !(is_word(mul(op, a, b, NONE), r, clear) && is_word(mul(op, a, b, ALL), r, full))
+    })
+}
+
+fn wrong_word(up: bool, rows: &[WordRow]) -> Option<usize> {
+    rows.iter().position(|&(a, k, r, clear, full)| {
+        !(is_word(wide(up, a, k, NONE), r, clear) && is_word(wide(up, a, k, ALL), r, full))
+    })
+}
+
+#[test]
+fn results_and_flags_at_the_edges_of_the_operands(rt: HostRuntime) {
+    let wrong = [
+        ("add", wrong_sum(&rows::SUMS)),
+        ("sub", wrong_difference(false, &rows::DIFFERENCES)),
+        (
+            "sbc",
+            wrong_difference(true, &rows::DIFFERENCES_THAT_KEEP_ZERO),
+        ),
+        ("and", wrong_logic(Logic::And, &rows::ANDS)),
+        ("or", wrong_logic(Logic::Or, &rows::ORS)),
+        ("eor", wrong_logic(Logic::Eor, &rows::EORS)),
+        ("com", wrong_complement(&rows::COMPLEMENTS)),
+        ("inc", wrong_step(true, &rows::INCREMENTS)),
+        ("dec", wrong_step(false, &rows::DECREMENTS)),
+        ("shifts", wrong_shift(&rows::SHIFTS)),
+        ("mul", wrong_product(Mul::Mul, &rows::MUL_ROWS)),
+        ("muls", wrong_product(Mul::Muls, &rows::MULS_ROWS)),
+        ("mulsu", wrong_product(Mul::Mulsu, &rows::MULSU_ROWS)),
+        ("fmul", wrong_product(Mul::Fmul, &rows::FMUL_ROWS)),
+        ("fmuls", wrong_product(Mul::Fmuls, &rows::FMULS_ROWS)),
+        ("fmulsu", wrong_product(Mul::Fmulsu, &rows::FMULSU_ROWS)),
+        ("adiw", wrong_word(true, &rows::RAISED_WORDS)),
+        ("sbiw", wrong_word(false, &rows::LOWERED_WORDS)),
+    ];
+    for (name, at) in wrong {
+        assert!(rt; at.is_none(), "{name}, row {}", at.unwrap_or(0));
+    }
+}

@@ -1,0 +1,228 @@
+//! A compiler's frame set-up in tags and on bytes, all pairs of a few tags, and lists of slots.
+
+use sp_domain::{CarryTag, Slot, Slots, Tag, frame, move_pair, sub_high, sub_low};
+use std::test::Fail;
+
+static TAGS: [Tag; 8] = [
+    Tag::None,
+    Tag::Entry(2),
+    Tag::Entry(3),
+    Tag::EntryFlags,
+    Tag::SpLo(2),
+    Tag::SpLo(3),
+    Tag::SpHi(2),
+    Tag::SpHi(258),
+];
+
+static CARRY_TAGS: [CarryTag; 4] = [
+    CarryTag::None,
+    CarryTag::Borrow(2, 0),
+    CarryTag::Borrow(2, 1),
+    CarryTag::Borrow(3, 0),
+];
+
+// Whether two tags, which are the same or not, are ordered and joined as is due, and their pair is at no place.
+fn is_pair(t: Tag, u: Tag, same: bool) -> bool {
+    let both = if same { t } else { Tag::None };
+    let within = same || u == Tag::None;
+    t.le(u) == within && t.join(u) == both
+}
+
+// Whether a tag's pair with itself and with none is at no place.
+fn is_nowhere(t: Tag) -> bool {
+    frame(t, t).is_none() && frame(Tag::None, t).is_none() && frame(t, Tag::None).is_none()
+}
+
+#[test]
+fn a_tag_is_within_itself_and_none_alone(rt: HostRuntime) {
+    for (i, &t) in TAGS.iter().enumerate() {
+        for (j, &u) in TAGS.iter().enumerate() {
+            assert!(rt; is_pair(t, u, i == j) && is_nowhere(t), "{i} {j}");
+        }
+    }
+}
+
+fn is_carry_pair(c: CarryTag, d: CarryTag, same: bool) -> bool {
+    let both = if same { c } else { CarryTag::None };
+    let within = same || d == CarryTag::None;
+    c.le(d) == within && c.join(d) == both
+}
+
+#[test]
+fn a_carry_tag_is_within_itself_and_none_alone(rt: HostRuntime) {
+    for (i, &c) in CARRY_TAGS.iter().enumerate() {
+        for (j, &d) in CARRY_TAGS.iter().enumerate() {
+            assert!(rt; is_carry_pair(c, d, i == j), "{i} {j}");
+        }
+    }
+}
+
+// A call and its answer.
+enum Row {
+    // The tags of a pair's bytes, and its k.
+    Frame(Tag, Tag, Option<u16>),
+    // The tags of a pair, how far it moves down, and the tags then.
+    Move(Tag, Tag, u16, Tag, Tag),
+    // The tag of a low byte, what is subtracted, and the tags of the difference and of the borrow.
+    Low(Tag, u8, Tag, CarryTag),
+    // The tag of a high byte, what is subtracted, the tag of the borrow, and the tag of the difference.
+    High(Tag, u8, CarryTag, Tag),
+}
+
+static ROWS: [Row; 32] = [
+    Row::Frame(Tag::SpLo(2), Tag::SpHi(2), Some(2)),
+    Row::Frame(Tag::SpLo(2), Tag::SpHi(258), Some(258)),
+    Row::Frame(Tag::SpLo(255), Tag::SpHi(65535), Some(65535)),
+    Row::Frame(Tag::SpLo(3), Tag::SpHi(2), None),
+    Row::Frame(Tag::SpLo(2), Tag::SpHi(3), None),
+    Row::Frame(Tag::SpLo(0), Tag::SpHi(255), None),
+    Row::Frame(Tag::SpHi(2), Tag::SpLo(2), None),
+    Row::Frame(Tag::SpHi(258), Tag::SpLo(2), None),
+    Row::Frame(Tag::SpHi(65535), Tag::SpLo(255), None),
+    Row::Frame(Tag::SpHi(2), Tag::SpLo(3), None),
+    Row::Frame(Tag::SpHi(3), Tag::SpLo(2), None),
+    Row::Frame(Tag::SpHi(255), Tag::SpLo(0), None),
+    // `sbiw` by 32, past a multiple of 256, `adiw` by 32, above the base, around, and not at all
+    Row::Move(Tag::SpLo(2), Tag::SpHi(2), 32, Tag::SpLo(34), Tag::SpHi(34)),
+    Row::Move(
+        Tag::SpLo(250),
+        Tag::SpHi(250),
+        10,
+        Tag::SpLo(4),
+        Tag::SpHi(260),
+    ),
+    Row::Move(
+        Tag::SpLo(34),
+        Tag::SpHi(34),
+        65504,
+        Tag::SpLo(2),
+        Tag::SpHi(2),
+    ),
+    Row::Move(
+        Tag::SpLo(2),
+        Tag::SpHi(2),
+        65533,
+        Tag::SpLo(255),
+        Tag::SpHi(65535),
+    ),
+    Row::Move(
+        Tag::SpLo(255),
+        Tag::SpHi(65535),
+        1,
+        Tag::SpLo(0),
+        Tag::SpHi(0),
+    ),
+    Row::Move(Tag::SpLo(7), Tag::SpHi(7), 0, Tag::SpLo(7), Tag::SpHi(7)),
+    Row::Move(Tag::SpLo(3), Tag::SpHi(2), 1, Tag::None, Tag::None),
+    Row::Move(Tag::Entry(28), Tag::Entry(29), 1, Tag::None, Tag::None),
+    // subi r28, 0x00; sbci r29, 0x01
+    Row::Low(Tag::SpLo(2), 0, Tag::SpLo(2), CarryTag::Borrow(2, 0)),
+    Row::High(Tag::SpHi(2), 1, CarryTag::Borrow(2, 0), Tag::SpHi(258)),
+    Row::Frame(Tag::SpLo(2), Tag::SpHi(258), Some(258)),
+    // subi r28, 0xF0; sbci r29, 0xFF, which adds 16
+    Row::Low(
+        Tag::SpLo(2),
+        0xF0,
+        Tag::SpLo(242),
+        CarryTag::Borrow(2, 0xF0),
+    ),
+    Row::High(
+        Tag::SpHi(2),
+        0xFF,
+        CarryTag::Borrow(2, 0xF0),
+        Tag::SpHi(65522),
+    ),
+    Row::Frame(Tag::SpLo(242), Tag::SpHi(65522), Some(65522)),
+    // nothing is known without the borrow of the low byte
+    Row::Low(Tag::SpHi(2), 1, Tag::None, CarryTag::None),
+    Row::High(Tag::SpHi(2), 1, CarryTag::None, Tag::None),
+    Row::High(Tag::SpHi(2), 1, CarryTag::Borrow(3, 0), Tag::None),
+    Row::High(Tag::SpLo(2), 1, CarryTag::Borrow(2, 0), Tag::None),
+    Row::High(Tag::SpHi(258), 1, CarryTag::Borrow(2, 7), Tag::SpHi(521)),
+    Row::High(Tag::SpHi(258), 0, CarryTag::Borrow(2, 0), Tag::SpHi(258)),
+];
+
+fn is_row(row: &Row) -> bool {
+    match *row {
+        Row::Frame(lo, hi, k) => frame(lo, hi) == k,
+        Row::Move(lo, hi, down, low, high) => move_pair(lo, hi, down) == (low, high),
+        Row::Low(t, k, less, carry) => sub_low(t, k) == (less, carry),
+        Row::High(t, k, carry, less) => sub_high(t, k, carry) == less,
+    }
+}
+
+#[test]
+fn a_large_frame_is_set_up_byte_by_byte(rt: HostRuntime) {
+    for (at, row) in ROWS.iter().enumerate() {
+        assert!(rt; is_row(row), "row {at}");
+    }
+}
+
+// Bases, places and amounts whose differences borrow, carry and wrap.
+static WORDS: [u16; 7] = [0, 1, 0x00FF, 0x0100, 0x08FF, 0x7F80, 0xFFFF];
+
+// Whether the base less k, less a number byte by byte, is where the tags say.
+fn is_difference(base: u16, k: u16, less: u16) -> bool {
+    let before = base.wrapping_sub(k).to_le_bytes();
+    let bytes = less.to_le_bytes();
+    let (low, borrow) = before[0].overflowing_sub(bytes[0]);
+    let high = before[1]
+        .wrapping_sub(bytes[1])
+        .wrapping_sub(u8::from(borrow));
+    let (lo, carry) = sub_low(Tag::SpLo(k.to_le_bytes()[0]), bytes[0]);
+    let hi = sub_high(Tag::SpHi(k), bytes[1], carry);
+    let place = frame(lo, hi).map(|j| base.wrapping_sub(j));
+    place == Some(u16::from_le_bytes([low, high]))
+}
+
+#[test]
+fn tags_say_what_the_bytes_are(rt: HostRuntime) {
+    for &base in &WORDS {
+        for &k in &WORDS {
+            for &less in &WORDS {
+                assert!(rt; is_difference(base, k, less), "{base} {k} {less}");
+            }
+        }
+    }
+}
+
+#[test]
+fn slots_are_pushed_and_popped_at_the_end(rt: HostRuntime) -> Result<(), Fail> {
+    let mut slots: Slots<u16> = Slots::new(rt.alloc());
+    let none = (slots.len(), slots.at(0), slots.pop());
+    slots.push(Slot::Guarded(7))?;
+    slots.push(Slot::Free)?;
+    slots.push(Slot::Guarded(9))?;
+    let all = [Slot::Guarded(7), Slot::Free, Slot::Guarded(9)];
+    let pushed = slots.as_slice() == all.as_slice();
+    let ends = (slots.len(), slots.at(2), slots.at(3));
+    let popped = (slots.pop(), slots.pop());
+    assert!(rt;
+        none == (0, None, None)
+            && pushed
+            && ends == (3, Some(Slot::Guarded(9)), None)
+            && popped == (Some(Slot::Guarded(9)), Some(Slot::Free))
+            && slots.as_slice() == [Slot::Guarded(7)].as_slice()
+    );
+    Ok(())
+}
+
+#[test]
+fn slots_are_cut_and_grow_with_free_ones(rt: HostRuntime) -> Result<(), Fail> {
+    let mut slots: Slots<u16> = Slots::new(rt.alloc());
+    slots.resize(3)?;
+    slots.set(0, Slot::Guarded(5));
+    slots.set(2, Slot::Guarded(6));
+    let copy = slots.copy(rt.alloc())?;
+    slots.resize(1)?;
+    let cut = slots.as_slice() == [Slot::Guarded(5)].as_slice();
+    slots.resize(3)?;
+    let grown = slots.as_slice() == [Slot::Guarded(5), Slot::Free, Slot::Free].as_slice();
+    let kept = copy.as_slice() == [Slot::Guarded(5), Slot::Free, Slot::Guarded(6)].as_slice();
+    slots.resize(0)?;
+    let none = slots.len();
+    slots.resize(65535)?;
+    let most = (slots.len(), slots.at(65534));
+    assert!(rt; cut && grown && kept && none == 0 && most == (65535, Some(Slot::Free)));
+    Ok(())
+}
