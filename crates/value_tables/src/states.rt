@@ -110,11 +110,15 @@ fn values_and_flags_join_where_they_agree(rt: HostRuntime) {
 }
 
 // Whether each register is tagged as what the caller's held, with its bits.
+fn is_entry(entered: AbsByte, r: u8, was: AbsByte) -> bool {
+    let tag = Tag::Entry(r);
+    let bits = was.bits;
+    entered == AbsByte { tag, bits }
+}
+
 fn are_entries(entered: &AbsState, caller: &AbsState) -> bool {
-    for r in 0..32u8 {
-        let bits = caller.registers[usize::from(r)].bits;
-        let tag = Tag::Entry(r);
-        if entered.registers[usize::from(r)] != (AbsByte { tag, bits }) {
+    for r in 0..32usize {
+        if !is_entry(entered.registers[r], r as u8, caller.registers[r]) {
             return false;
         }
     }
