@@ -1,9 +1,10 @@
 -- A table with all found has the least ranks and needs; a table that is stuck has a cycle.
-use Rattle.std.proofs.Common.{◌≡◌, ◌≢◌, ℕ, zero, suc, ◌<◌, Option, Some, None, List, [], ◌∷◌, map, length, get_or, slice_get, slice_index, refl, sym, ap, ◌∙◌, subst, arith}
+use Rattle.std.proofs.Common.{◌≡◌, ◌≢◌, ℕ, zero, suc, ◌+◌, ◌<◌, Option, Some, None, List, [], ◌∷◌, ◌++◌, map, take, length, get_or, slice_get, slice_index, refl, sym, ap, ◌∙◌, subst, arith, ◌⊎◌, ⊎_elim}
+use Rattle.std.proofs.lemmas.List.{take_more, take_all, map-append}
 use Rattle.nesting_bound.specs.declared.graph.GraphInst.{GraphInst}
 use Rattle.nesting_bound.specs.declared.found.Found.{Found}
 use Rattle.nesting_bound.specs.Graph.{IsGraph, Reaches, once, more}
-use Rattle.nesting_bound.specs.Table.{at, IsSound, IsStuck, rank_of, need_of}
+use Rattle.nesting_bound.specs.Table.{at, IsSound, IsStuck, AreFound, IsMissing, rank_of, need_of}
 use Rattle.nesting_bound.specs.Least.{IsLeast}
 use Rattle.nesting_bound.proofs.Walk.{some_cycle}
 
@@ -76,15 +77,35 @@ module _ (gs : List GraphInst) (table : List (Option Found)) (sound : IsSound gs
       acyclic c.0 (reaches_inside gs c.0 c.0 c.1) c.1
 
   -- the same, by the lists that the code has on the way
-  pub stuck_at : (gs0 : List GraphInst) (table0 : List (Option Found)) → gs0 ≡ gs → table0 ≡ table → IsGraph gs → ((i : ℕ) → i < length gs0 → at table i ≡ None → IsStuck gs0 table i) → (i : ℕ) → i < length table0 → at table0 i ≡ None → ((j : ℕ) → j < length gs0 → Reaches gs0 j j → ⊥) → ⊥
-  stuck_at gs0 table0 eg et graph stuck i lt none acyclic =
+  pub stuck_at : (gs0 : List GraphInst) (table0 : List (Option Found)) → gs0 ≡ gs → table0 ≡ table → IsGraph gs → ((i : ℕ) → i < length gs0 → at table i ≡ None → IsStuck gs0 table i) → IsMissing table0 → ((j : ℕ) → j < length gs0 → Reaches gs0 j j → ⊥) → ⊥
+  stuck_at gs0 table0 eg et graph stuck missing acyclic =
+      let m : IsMissing table = subst IsMissing et missing in
       stuck_cycle graph
       (subst (λ g. (i : ℕ) → i < length g → at table i ≡ None → IsStuck g table i) eg stuck)
-      i
-      (subst (λ t. i < length t) et lt)
-      (subst (λ t. at t i ≡ None) et none)
+      m.inst m.inside m.none
       (subst (λ g. (j : ℕ) → j < length g → Reaches g j j → ⊥) eg acyclic)
 
-  pub least_at : (table0 : List (Option Found)) (ranks needs : List ℕ) → table0 ≡ table → ((i : ℕ) → i < length table0 → at table0 i ≢ None) → ranks ≡ map rank_of table0 → needs ≡ map need_of table0 → IsLeast gs ranks needs
-  least_at table0 ranks needs et all er en =
-      least_of (subst (λ t. (i : ℕ) → i < length t → at t i ≢ None) et all) ranks needs (er ∙ ap (map rank_of) et) (en ∙ ap (map need_of) et)
+  pub least_at : (table0 : List (Option Found)) (ranks needs : List ℕ) → table0 ≡ table → AreFound table0 (length table0) ranks needs → IsLeast gs ranks needs
+  least_at table0 ranks needs et found =
+      let whole : take (length table) table ≡ table = take_all (length table) table (omega arith) in
+      let f : AreFound table (length table) ranks needs = subst (λ t. AreFound t (length t) ranks needs) et found in
+      least_of f.all ranks needs (f.ranks_are ∙ ap (map rank_of) whole) (f.needs_are ∙ ap (map need_of) whole)
+
+-- ---- the ranks and needs of one instance more
+not_none : (o : Option Found) (x : Found) → o ≡ Some x → o ≢ None
+not_none o x is none = cc
+
+less_or_is : (j i : ℕ) → j < i + 1 → (j < i) ⊎ (j ≡ i)
+less_or_is j i lt = grind arith
+
+mapped_more : (f : Option Found → ℕ) (table : List (Option Found)) (i : ℕ) (x : Found) (numbers new : List ℕ) → i < length table → at table i ≡ Some x → numbers ≡ map f (take i table) → new ≡ numbers ++ f (Some x) ∷ [] → new ≡ map f (take (i + 1) table)
+mapped_more f table i x numbers new lt is old e =
+    e ∙ ap (λ ns. ns ++ f (Some x) ∷ []) old ∙ ap (λ o. map f (take i table) ++ f o ∷ []) (sym is)
+    ∙ sym (ap (map f) (take_more table i None lt) ∙ map-append f (take i table) (at table i ∷ []))
+
+pub found_more : (table : List (Option Found)) (i : ℕ) (x : Found) (ranks needs ranks' needs' : List ℕ) → i < length table → at table i ≡ Some x → ranks' ≡ ranks ++ x.rank ∷ [] → needs' ≡ needs ++ x.need ∷ [] → AreFound table i ranks needs → AreFound table (i + 1) ranks' needs'
+found_more table i x ranks needs ranks' needs' lt is er en found = record {
+  all = λ j h. ⊎_elim (λ less. found.all j less) (λ same. subst (λ k. at table k ≢ None) (sym same) (not_none (at table i) x is)) (less_or_is j i h);
+  ranks_are = mapped_more rank_of table i x ranks ranks' lt is found.ranks_are er;
+  needs_are = mapped_more need_of table i x needs needs' lt is found.needs_are en;
+}

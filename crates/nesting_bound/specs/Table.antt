@@ -1,5 +1,5 @@
 -- A table of what was found of the instances so far.
-use Rattle.std.specs.Prelude.{◌≡◌, ℕ, ◌+◌, ◌*◌, ◌<◌, ◌≤◌, List, length, Option, Some, None, Contains, slice_index_or, max, Bool, true, false}
+use Rattle.std.specs.Prelude.{◌≡◌, ◌≢◌, ℕ, ◌+◌, ◌*◌, ◌<◌, ◌≤◌, List, length, map, take, Option, Some, None, Contains, slice_index_or, max, Bool, true, false}
 use Rattle.std.specs.List.{sum_by}
 use Rattle.nesting_bound.specs.declared.found.Found.{Found}
 use Rattle.nesting_bound.specs.declared.graph.Entered.{Entered}
@@ -81,3 +81,15 @@ rank_of (Some x) = x.rank
 abbrev pub need_of : Option Found → ℕ
 need_of None = 0
 need_of (Some x) = x.need
+
+-- of the first i instances all is found, and these are their ranks and needs
+pub record AreFound (table : List (Option Found)) (i : ℕ) (ranks needs : List ℕ) : Type 0 where
+  pub all : (j : ℕ) → j < i → at table j ≢ None
+  pub ranks_are : ranks ≡ map rank_of (take i table)
+  pub needs_are : needs ≡ map need_of (take i table)
+
+-- an instance of which nothing is found
+pub record IsMissing (table : List (Option Found)) : Type 0 where
+  pub inst : ℕ
+  pub inside : inst < length table
+  pub none : at table inst ≡ None

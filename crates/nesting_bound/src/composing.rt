@@ -1,8 +1,8 @@
 //! The least ranks and needs, or the instance that is named where some reach themselves.
 
-ghost use Rattle.std.specs.Prelude.{◌≡◌, ◌≢◌, ℕ, ◌+◌, ◌<◌, ◌≤◌, None, Some, IfOk, IfErr, MatchOption, map, length};
+ghost use Rattle.std.specs.Prelude.{ℕ, IfOk, IfErr, MatchOption, length};
 ghost use Rattle.nesting_bound.specs.Graph.{IsGraph, Reaches};
-ghost use Rattle.nesting_bound.specs.Table.{at, rank_of, need_of};
+ghost use Rattle.nesting_bound.specs.Table.{AreFound, IsMissing};
 ghost use Rattle.nesting_bound.specs.Least.{IsLeast};
 ghost use Rattle.nesting_bound.specs.Cycle.{IsFaultOf};
 
@@ -39,48 +39,25 @@ impl Composed {
     }
 }
 
-fn rank(found: Option<Found>) -> u32
-    ensures { result ≡ rank_of found }
+// The ranks and needs of a table in which all is settled; none where something is missing.
+fn settled(alloc: Global, table: &[Option<Found>]) -> Result<Option<Composed>, AllocError>
+    ensures { IfOk result (λ found. MatchOption found (IsMissing table.now) (λ c. AreFound table.now (length table.now) c.ranks c.needs)) }
 {
-    match found {
-        None => 0,
-        Some(x) => x.rank,
-    }
-}
-
-fn need(found: Option<Found>) -> u32
-    ensures { result ≡ need_of found }
-{
-    match found {
-        None => 0,
-        Some(x) => x.need,
-    }
-}
-
-fn ranks(alloc: Global, table: &[Option<Found>]) -> Result<Listed<u32>, AllocError>
-    ensures { IfOk result (λ numbers. numbers ≡ map rank_of table.now) }
-{
-    let numbers = table.iter().map(|x| rank(*x)).collect(alloc)?;
-    Ok(Listed::new(numbers))
-}
-
-fn needs(alloc: Global, table: &[Option<Found>]) -> Result<Listed<u32>, AllocError>
-    ensures { IfOk result (λ numbers. numbers ≡ map need_of table.now) }
-{
-    let numbers = table.iter().map(|x| need(*x)).collect(alloc)?;
-    Ok(Listed::new(numbers))
-}
-
-// The first instance that was not settled.
-fn missing(table: &[Option<Found>]) -> Option<usize>
-    ensures { MatchOption result ((i : ℕ) → i < length table.now → at table.now i ≢ None) (λ i. (i < length table.now) × (at table.now i ≡ None)) }
-{
+    let mut ranks = Vec::new(alloc);
+    let mut needs = Vec::new(alloc);
     for i in 0..table.len() {
-        if table[i].is_none() {
-            return Some(i);
+        match table[i] {
+            None => return Ok(None),
+            Some(found) => {
+                ranks.push(found.rank)?;
+                needs.push(found.need)?;
+            }
         }
     }
-    None
+    Ok(Some(Composed {
+        ranks: Listed::new(ranks),
+        needs: Listed::new(needs),
+    }))
 }
 
 /// The least ranks and needs: the rank of an instance is above that of each that it enters, and its need is at least the offset of
@@ -96,14 +73,9 @@ pub fn compose(alloc: Global, graph: &Graph) -> Result<Composed, ComposeFault>
     let instances = graph.instances.as_slice();
     let walked = walk_all(alloc, instances)?;
     let table = peel(alloc, instances, walked.order.as_slice())?;
-    let table = table.as_slice();
-    match missing(table) {
-        None => {
-            let ranks = ranks(alloc, table)?;
-            let needs = needs(alloc, table)?;
-            Ok(Composed { ranks, needs })
-        }
-        Some(_) => match first_named(alloc, instances, table, walked.component)? {
+    match settled(alloc, table.as_slice())? {
+        Some(composed) => Ok(composed),
+        None => match first_named(alloc, instances, table.as_slice(), walked.component)? {
             Some(at) => Err(ComposeFault::Cycle(at)),
             None => unreachable!(),
         },

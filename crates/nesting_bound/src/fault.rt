@@ -3,7 +3,7 @@
 use std::alloc::AllocError;
 
 /// Why `compose` gives no ranks.
-#[derive(PartialEq, Eq, Drop)]
+#[derive(Drop)]
 pub enum ComposeFault {
     /// The instance with this number reaches itself.
     Cycle(u32),

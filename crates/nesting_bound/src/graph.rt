@@ -4,7 +4,7 @@ use avr_model::listed::Listed;
 use mask_states::{EdgeKind, InstKey};
 
 /// A node at which the stack pointer is whole.
-#[derive(Clone, Copy, PartialEq, Eq)]
+#[derive(Clone, Copy)]
 pub struct Place {
     /// The number of the node.
     pub node: u32,
@@ -13,7 +13,7 @@ pub struct Place {
 }
 
 /// An edge from a node into another instance.
-#[derive(Clone, Copy, PartialEq, Eq)]
+#[derive(Clone, Copy)]
 pub struct Entered {
     /// The number of the node.
     pub node: u32,
@@ -44,7 +44,7 @@ pub struct Graph {
 }
 
 /// One place of a chain of entries.
-#[derive(Clone, Copy, PartialEq, Eq)]
+#[derive(Clone, Copy)]
 pub struct Link {
     /// The number of the instance.
     pub inst: u32,

@@ -1,6 +1,6 @@
 //! Ranks and needs, from the instances that enter none up.
 
-ghost use Rattle.std.specs.Prelude.{◌≡◌, ◌||◌, ◌≢◌, ℕ, ◌+◌, ◌*◌, ◌<◌, ◌≤◌, Contains, None, Some, IfSome, IfNone, IfOk, max, length, slice_get, true, false};
+ghost use Rattle.std.specs.Prelude.{◌≡◌, ◌≢◌, ℕ, ◌+◌, ◌*◌, ◌<◌, ◌≤◌, Contains, None, Some, IfSome, IfNone, IfOk, max, length, slice_get, true, false};
 ghost use Rattle.nesting_bound.specs.declared.graph.Entered.{Entered};
 ghost use Rattle.nesting_bound.specs.declared.graph.Place.{Place};
 ghost use Rattle.nesting_bound.specs.declared.found.Found.{Found};
@@ -81,12 +81,6 @@ fn visit(graph: &[GraphInst], table: &mut [Option<Found>], i: usize) -> bool
     }
 }
 
-fn either(a: bool, b: bool) -> bool
-    ensures { result ≡ (a || b) }
-{
-    a || b
-}
-
 // Looks at each instance once; whether one was settled.
 fn pass(graph: &[GraphInst], table: &mut [Option<Found>]) -> bool
     requires graph { IsGraph graph.now }
@@ -96,7 +90,7 @@ fn pass(graph: &[GraphInst], table: &mut [Option<Found>]) -> bool
     let mut grew = false;
     for i in 0..graph.len() {
         let grown = visit(graph, table, i);
-        grew = either(grew, grown);
+        grew |= grown;
     }
     grew
 }
