@@ -4,7 +4,8 @@
 pub mod fault;
 pub mod laws;
 pub mod reading;
-pub mod target_list;pub mod transfer;
+pub mod target_list;
+pub mod transfer;
 pub mod writing;
 
 pub use fault::AssumeText;

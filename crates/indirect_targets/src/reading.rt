@@ -121,13 +121,23 @@ fn is_listable(items: &[u16]) -> bool
 fn are_all_words(items: &[u16]) -> bool
     ensures { result ≡ list_all is_word items.now }
 {
-    items.iter().all(|item| *item < WORDS)
+    for item in items {
+        if *item >= WORDS {
+            return false;
+        }
+    }
+    true
 }
 
 fn are_all_protected(items: &[u16]) -> bool
     ensures { result ≡ list_all vectors.is_protected items.now }
 {
-    items.iter().all(|item| is_protected(*item))
+    for item in items {
+        if !is_protected(*item) {
+            return false;
+        }
+    }
+    true
 }
 
 /// Whether an assumption list can hold the entry.

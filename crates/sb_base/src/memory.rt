@@ -93,7 +93,12 @@ impl MemFiles {
 fn find_file<'a>(files: &'a [File], name: &str) -> Option<&'a File>
     ensures { option_copied result ≡ find (λ f. bytes_eq f.name name.now) files.now }
 {
-    files.iter().find(|file| file.name.as_str() == name)
+    for file in files {
+        if file.name.as_str() == name {
+            return Some(file);
+        }
+    }
+    None
 }
 
 /// The bytes that are held under a name.
@@ -111,7 +116,12 @@ fn bytes_under<'a>(files: &'a [File], name: &str) -> Option<&'a [u8]>
 fn has_call(calls: &[u32], call: u64) -> bool
     ensures { result ≡ is_listed call calls.now }
 {
-    calls.iter().any(|c| u64::from(*c) == call)
+    for listed in calls {
+        if u64::from(*listed) == call {
+            return true;
+        }
+    }
+    false
 }
 
 /// A copy of bytes that are at most `cap`.
@@ -194,7 +204,12 @@ impl Model for MemSink {
 fn find_short(shorts: &[(u32, usize)], call: u64) -> Option<&(u32, usize)>
     ensures { option_copied result ≡ limit_of call shorts.now }
 {
-    shorts.iter().find(|short| u64::from(short.0) == call)
+    for short in shorts {
+        if u64::from(short.0) == call {
+            return Some(short);
+        }
+    }
+    None
 }
 
 /// How many of the bytes offered a call takes.
