@@ -22,7 +22,8 @@ use Rattle.family_table.specs.Families.{Family, joined_with, raised}
 use Rattle.std.specs.Prelude.{OnOk, OnErr}
 use Rattle.mask_states.specs.Keys.{offset_of}
 use Rattle.family_table.specs.Sized.{AreSized}
-use Rattle.family_table.proofs.Families.{node_exact, insert_sized}
+use Rattle.round_laws.proofs.AllLaws.{node_exact}
+use Rattle.family_table.proofs.Families.{insert_sized}
 
 find_lookup : (q : NodeKey) (es : List (NodeKey × AbsState)) → find node_cmp q es ≡ lookup (same_node q) es
 find_lookup q [] = refl

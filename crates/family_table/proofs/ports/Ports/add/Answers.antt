@@ -12,7 +12,7 @@ returns-in-Some-clause-added c =
     let w = c.push.new.self in
     let gs = c.self.inside.map.entries in
     let new = (c.get_mut.follows.lender w).entries in
-    on_ok (w ≡ c.in-Some.list.now ++ c.args.port ∷ []) (IsAdded c.args.self.now c.args.inst c.args.port new) c.push.result c.push.ensures
+    on_ok (w ≡ c.in-Some.list.now ++ c.args.port ∷ []) (IsAdded c.args.self.now c.args.inst c.args.port new) c.push.result c.push.ensures.ok
     (λ is. subst (λ g. IsAdded g c.args.inst c.args.port new) c.self.view_is
     (added gs new c.args.inst c.args.port (Some c.in-Some.list.now) w c.in-Some.ensures.value is
     ((c.get_mut.follows.holds w).3 (subst IsSome c.in-Some.ensures.value refl)).0))
@@ -21,7 +21,7 @@ pub returns-in-Some-clause-keys : goal.returns-in-Some-clause-keys
 returns-in-Some-clause-keys c =
     let w = c.push.new.self in
     let new = (c.get_mut.follows.lender w).entries in
-    on_ok (w ≡ c.in-Some.list.now ++ c.args.port ∷ []) (MoreKeys (keys_of c.args.self.now) c.args.inst (keys_of new)) c.push.result c.push.ensures
+    on_ok (w ≡ c.in-Some.list.now ++ c.args.port ∷ []) (MoreKeys (keys_of c.args.self.now) c.args.inst (keys_of new)) c.push.result c.push.ensures.ok
     (λ is. inl ((c.get_mut.follows.holds w).1 ∙ ap keys_of c.self.view_is))
 
 pub returns-in_ok-insert-in-None-clause-added : goal.returns-in_ok-insert-in-None-clause-added
@@ -41,7 +41,7 @@ pub returns-in-Some-clause-once : goal.returns-in-Some-clause-once
 returns-in-Some-clause-once c =
     let w = c.push.new.self in
     let new = (c.get_mut.follows.lender w).entries in
-    on_ok (w ≡ c.in-Some.list.now ++ c.args.port ∷ []) (AreOnce (keys_of new)) c.push.result c.push.ensures (λ is. are_once (keys_of new) (c.get_mut.follows.holds w).4)
+    on_ok (w ≡ c.in-Some.list.now ++ c.args.port ∷ []) (AreOnce (keys_of new)) c.push.result c.push.ensures.ok (λ is. are_once (keys_of new) (c.get_mut.follows.holds w).4)
 
 pub returns-in_ok-insert-in-None-clause-once : goal.returns-in_ok-insert-in-None-clause-once
 returns-in_ok-insert-in-None-clause-once c = are_once (keys_of c.insert.new.self.entries) c.insert.ensures.unique
