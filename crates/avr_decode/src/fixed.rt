@@ -2,12 +2,13 @@
 
 ghost use Rattle.std.specs.Prelude.{◌≡◌, ◌<◌, ◌≤◌, ◌+◌, IfSome, length, if◌then◌else◌};
 ghost use Rattle.avr_model.specs.Image.{WORDS};
-ghost use Rattle.avr_model.specs.Sites.{leaves, is_ldi, sets, store_pointer, pointer_register, loads_pair, path, is_fixed};
+ghost use Rattle.avr_model.specs.Sites.{leaves, is_ldi, sets, store_pointer, loads_pair, path, is_fixed};
 
 use crate::decoding::length;
+use crate::pointers::{base_register, pointer_register};
 use crate::program::{WORDS, instruction, word};
 use crate::register_set::writes;
-use avr_model::instruction::{Base, BinaryOp, ImmediateOp, Instr, Pointer};
+use avr_model::instruction::{BinaryOp, ImmediateOp, Instr};
 
 /// How many words before a store its pointer may be loaded at most.
 const FARTHEST: usize = 32;
@@ -52,25 +53,13 @@ fn is_loaded(before: bool, instr: &Instr, register: u16) -> bool
     }
 }
 
-fn pointer_register(pointer: Pointer) -> u16
-    ensures value { result ≡ pointer_register pointer }
-    ensures pair { result < 31 }
-{
-    match pointer {
-        Pointer::ZPlus | Pointer::MinusZ => 30,
-        Pointer::YPlus | Pointer::MinusY => 28,
-        Pointer::X | Pointer::XPlus | Pointer::MinusX => 26,
-    }
-}
-
 /// The lower register of the pointer through which `st` or `std` stores.
 fn store_pointer(instr: &Instr) -> Option<u16>
     ensures value { result ≡ store_pointer instr.now }
     ensures pair { IfSome result (λ r. r < 31) }
 {
     match *instr {
-        Instr::Std(Base::Y, _, _) => Some(28),
-        Instr::Std(Base::Z, _, _) => Some(30),
+        Instr::Std(base, _, _) => Some(base_register(base)),
         Instr::St(pointer, _) => Some(pointer_register(pointer)),
         _ => None,
     }

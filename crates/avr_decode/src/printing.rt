@@ -1,10 +1,10 @@
 //! The text of an instruction.
 
 ghost use Rattle.std.specs.Prelude.{◌≡◌, ◌++◌, ◌<◌, IfOk, OnOk};
-ghost use Rattle.avr_model.specs.Text.{digit, hex2, hex4, reg, far, near, binary_name, immediate_name, unary_name, pointer_text, base_text, text_of, text_of_memory, text_of_flow};
+ghost use Rattle.avr_model.specs.Text.{digit, hex2, hex4, reg, binary_name, immediate_name, unary_name, pointer_text, base_text, text_of, text_of_memory, text_of_flow};
 ghost use Rattle.avr_decode.specs.Shape.{piece_text, shape_text};
 
-use avr_model::device::WORDS;
+use crate::targets::{far, near};
 use avr_model::instruction::{Base, BinaryOp, ImmediateOp, Instr, Pointer, UnaryOp};
 use std::alloc::{AllocError, Global};
 
@@ -180,30 +180,6 @@ fn base_text(base: Base) -> &'static str
     }
 }
 
-/// The word at a distance of 12 bits, in two's complement, from the next one.
-fn far_target(at: u16, k: u16) -> u16
-    requires k { k < 4096 }
-    ensures { result ≡ far at k }
-{
-    if k < 2048 {
-        (at % WORDS + 1 + k) % WORDS
-    } else {
-        (at % WORDS + 1 + (k + 12288)) % WORDS
-    }
-}
-
-/// The word at a distance of 7 bits, in two's complement, from the next one.
-fn near_target(at: u16, k: u16) -> u16
-    requires k { k < 128 }
-    ensures { result ≡ near at k }
-{
-    if k < 64 {
-        (at % WORDS + 1 + k) % WORDS
-    } else {
-        (at % WORDS + 1 + (k + 16256)) % WORDS
-    }
-}
-
 fn displaced(base: Base, q: u16) -> Piece
     requires { q < 256 }
     ensures { piece_text result ≡ base_text base ++ hex2 q }
@@ -276,18 +252,10 @@ fn shape_of_flow(instr: &Instr, at: u16) -> Shape
     match *instr {
         Instr::Jmp(k) => Shape::Unary("jmp ", Word(k.get())),
         Instr::Call(k) => Shape::Unary("call ", Word(k.get())),
-        Instr::Rjmp(k) => Shape::Unary("rjmp ", Word(far_target(at, k.get()))),
-        Instr::Rcall(k) => Shape::Unary("rcall ", Word(far_target(at, k.get()))),
-        Instr::Brbs(s, k) => Shape::Binary(
-            "brbs ",
-            Number(s.get()),
-            Word(near_target(at, k.get())),
-        ),
-        Instr::Brbc(s, k) => Shape::Binary(
-            "brbc ",
-            Number(s.get()),
-            Word(near_target(at, k.get())),
-        ),
+        Instr::Rjmp(k) => Shape::Unary("rjmp ", Word(far(at, k.get()))),
+        Instr::Rcall(k) => Shape::Unary("rcall ", Word(far(at, k.get()))),
+        Instr::Brbs(s, k) => Shape::Binary("brbs ", Number(s.get()), Word(near(at, k.get()))),
+        Instr::Brbc(s, k) => Shape::Binary("brbc ", Number(s.get()), Word(near(at, k.get()))),
         Instr::Nop => Shape::Plain("nop"),
         Instr::Ijmp => Shape::Plain("ijmp"),
         Instr::Icall => Shape::Plain("icall"),
