@@ -2,8 +2,8 @@
 
 ghost use Rattle.std.specs.Prelude.{◌≡◌, ◌<◌, []};
 ghost use Rattle.avr_model.specs.Image.{WORDS};
-ghost use Rattle.avr_model.specs.Effects.{sum_effect, difference_effect, compare_effect, logic_effect, product_effect, step_effect, shift_effect, wide_effect, binary_effect, immediate_effect, unary_effect, flag_effect, setting, set, set_pair};
-ghost use Rattle.avr_model.specs.State.{pair, register, t_flag};
+ghost use Rattle.avr_model.specs.Effects.{compare_effect, product_effect, wide_effect, binary_effect, immediate_effect, unary_effect, flag_effect, setting, set, set_pair};
+ghost use Rattle.avr_model.specs.State.{register, t_flag};
 ghost use Rattle.avr_model.specs.Bits.{with_bit};
 ghost use Rattle.avr_model.specs.Sreg.{flag};
 
@@ -23,17 +23,11 @@ const T: u16 = 6;
 pub const I: u16 = 7;
 
 impl Processor {
-    fn sum(&self, d: u16, a: u8, b: u8, carry: bool) -> Effect
-        ensures { result ≡ sum_effect self.now d a b carry }
+    /// A register gets the result of an operation, and the status register its flags.
+    pub fn giving(&self, d: u16, outcome: (u8, Sreg)) -> Effect
+        ensures { result ≡ setting self.now (set d outcome.0) outcome.1.0 }
     {
-        let (byte, sreg) = add(a, b, carry, self.sreg);
-        self.setting(set(d, byte), sreg)
-    }
-
-    fn difference(&self, d: u16, a: u8, b: u8, borrow: bool, keep_zero: bool) -> Effect
-        ensures { result ≡ difference_effect self.now d a b borrow keep_zero }
-    {
-        let (byte, sreg) = sub(a, b, borrow, keep_zero, self.sreg);
+        let (byte, sreg) = outcome;
         self.setting(set(d, byte), sreg)
     }
 
@@ -44,44 +38,14 @@ impl Processor {
         self.setting(Writes::none(), sreg)
     }
 
-    fn logic(&self, op: Logic, d: u16, a: u8, b: u8) -> Effect
-        ensures { result ≡ logic_effect self.now op d a b }
-    {
-        let (byte, sreg) = logic(op, a, b, self.sreg);
-        self.setting(set(d, byte), sreg)
-    }
-
-    /// A product goes to r1 and r0.
-    fn product(&self, op: Mul, a: u8, b: u8) -> Effect
-        ensures { result ≡ product_effect self.now op a b }
-    {
-        let (word, sreg) = mul(op, a, b, self.sreg);
-        self.setting(set_pair(0, word), sreg)
-    }
-
-    /// A product of two registers.
-    pub fn product_of(&self, op: Mul, d: u16, r: u16) -> Effect
+    /// A product of two registers goes to r1 and r0.
+    pub fn product(&self, op: Mul, d: u16, r: u16) -> Effect
         requires d { d < 32 }
         requires r { r < 32 }
         ensures { result ≡ product_effect self.now op (register self.now d) (register self.now r) }
     {
-        self.product(op, self.register(d), self.register(r))
-    }
-
-    fn step_one(&self, up: bool, d: u16) -> Effect
-        requires { d < 32 }
-        ensures { result ≡ step_effect self.now up d }
-    {
-        let (byte, sreg) = step_one(up, self.register(d), self.sreg);
-        self.setting(set(d, byte), sreg)
-    }
-
-    fn shift(&self, op: Shift, d: u16) -> Effect
-        requires { d < 32 }
-        ensures { result ≡ shift_effect self.now op d }
-    {
-        let (byte, sreg) = shift(op, self.register(d), self.sreg);
-        self.setting(set(d, byte), sreg)
+        let (word, sreg) = mul(op, self.register(d), self.register(r), self.sreg);
+        self.setting(set_pair(0, word), sreg)
     }
 
     /// `adiw` where `up` holds, and else `sbiw`.
@@ -106,17 +70,17 @@ impl Processor {
         let carry = self.sreg.carry();
         match op {
             BinaryOp::Cpc => self.compare(a, b, carry, true),
-            BinaryOp::Sbc => self.difference(d, a, b, carry, true),
-            BinaryOp::Add => self.sum(d, a, b, false),
+            BinaryOp::Sbc => self.giving(d, sub(a, b, carry, true, self.sreg)),
+            BinaryOp::Add => self.giving(d, add(a, b, false, self.sreg)),
             BinaryOp::Cpse => self.skipping(flash, a == b),
             BinaryOp::Cp => self.compare(a, b, false, false),
-            BinaryOp::Sub => self.difference(d, a, b, false, false),
-            BinaryOp::Adc => self.sum(d, a, b, carry),
-            BinaryOp::And => self.logic(Logic::And, d, a, b),
-            BinaryOp::Eor => self.logic(Logic::Eor, d, a, b),
-            BinaryOp::Or => self.logic(Logic::Or, d, a, b),
-            BinaryOp::Mov => self.setting(set(d, b), self.sreg),
-            BinaryOp::Mul => self.product(Mul::Mul, a, b),
+            BinaryOp::Sub => self.giving(d, sub(a, b, false, false, self.sreg)),
+            BinaryOp::Adc => self.giving(d, add(a, b, carry, self.sreg)),
+            BinaryOp::And => self.giving(d, logic(Logic::And, a, b, self.sreg)),
+            BinaryOp::Eor => self.giving(d, logic(Logic::Eor, a, b, self.sreg)),
+            BinaryOp::Or => self.giving(d, logic(Logic::Or, a, b, self.sreg)),
+            BinaryOp::Mov => self.giving(d, (b, self.sreg)),
+            BinaryOp::Mul => self.product(Mul::Mul, d, r),
         }
     }
 
@@ -130,20 +94,12 @@ impl Processor {
         let a = self.register(d);
         match op {
             ImmediateOp::Cpi => self.compare(a, k, false, false),
-            ImmediateOp::Sbci => self.difference(d, a, k, self.sreg.carry(), true),
-            ImmediateOp::Subi => self.difference(d, a, k, false, false),
-            ImmediateOp::Ori => self.logic(Logic::Or, d, a, k),
-            ImmediateOp::Andi => self.logic(Logic::And, d, a, k),
-            ImmediateOp::Ldi => self.setting(set(d, k), self.sreg),
+            ImmediateOp::Sbci => self.giving(d, sub(a, k, self.sreg.carry(), true, self.sreg)),
+            ImmediateOp::Subi => self.giving(d, sub(a, k, false, false, self.sreg)),
+            ImmediateOp::Ori => self.giving(d, logic(Logic::Or, a, k, self.sreg)),
+            ImmediateOp::Andi => self.giving(d, logic(Logic::And, a, k, self.sreg)),
+            ImmediateOp::Ldi => self.giving(d, (k, self.sreg)),
         }
-    }
-
-    fn complement(&self, d: u16) -> Effect
-        requires { d < 32 }
-        ensures { result ≡ unary_effect self.now UnaryOp.Com d }
-    {
-        let (byte, sreg) = com(self.register(d), self.sreg);
-        self.setting(set(d, byte), sreg)
     }
 
     /// What is done to one register.
@@ -155,24 +111,15 @@ impl Processor {
     {
         let a = self.register(d);
         match op {
-            UnaryOp::Com => self.complement(d),
-            UnaryOp::Neg => self.difference(d, 0, a, false, false),
-            UnaryOp::Swap => self.setting(set(d, a % 16 * 16 + a / 16), self.sreg),
-            UnaryOp::Inc => self.step_one(true, d),
-            UnaryOp::Asr => self.shift(Shift::Asr, d),
-            UnaryOp::Lsr => self.shift(Shift::Lsr, d),
-            UnaryOp::Ror => self.shift(Shift::Ror, d),
-            UnaryOp::Dec => self.step_one(false, d),
+            UnaryOp::Com => self.giving(d, com(a, self.sreg)),
+            UnaryOp::Neg => self.giving(d, sub(0, a, false, false, self.sreg)),
+            UnaryOp::Swap => self.giving(d, (a % 16 * 16 + a / 16, self.sreg)),
+            UnaryOp::Inc => self.giving(d, step_one(true, a, self.sreg)),
+            UnaryOp::Asr => self.giving(d, shift(Shift::Asr, a, self.sreg)),
+            UnaryOp::Lsr => self.giving(d, shift(Shift::Lsr, a, self.sreg)),
+            UnaryOp::Ror => self.giving(d, shift(Shift::Ror, a, self.sreg)),
+            UnaryOp::Dec => self.giving(d, step_one(false, a, self.sreg)),
         }
-    }
-
-    /// `movw`: a pair of registers is copied.
-    pub fn copy_pair(&self, d: u16, r: u16) -> Effect
-        requires d { d < 31 }
-        requires r { r < 31 }
-        ensures { result ≡ setting self.now (set_pair d (pair self.now r)) self.now.sreg }
-    {
-        self.setting(set_pair(d, self.pair(r)), self.sreg)
     }
 
     /// `bset` where `on` holds, and else `bclr`. Turning I on delays interrupts by one instruction where it was off.
@@ -188,6 +135,15 @@ impl Processor {
         }
     }
 
+    /// A bit of a register.
+    pub fn register_bit(&self, r: u16, index: u16) -> bool
+        requires r { r < 32 }
+        requires index { index < 8 }
+        ensures { result ≡ flag (register self.now r) index }
+    {
+        has_bit(self.register(r), index)
+    }
+
     /// `bld`: the bit T goes to a bit of a register.
     pub fn load_bit(&self, d: u16, index: u16) -> Effect
         requires d { d < 32 }
@@ -195,7 +151,7 @@ impl Processor {
         ensures { result ≡ setting self.now (set d (with_bit (register self.now d) index (t_flag self.now))) self.now.sreg }
     {
         let byte = with_bit(self.register(d), index, self.flag(T));
-        self.setting(set(d, byte), self.sreg)
+        self.giving(d, (byte, self.sreg))
     }
 
     /// `bst`: a bit of a register goes to the bit T.
@@ -204,8 +160,7 @@ impl Processor {
         requires index { index < 8 }
         ensures { result ≡ setting self.now [] (with_bit self.now.sreg 6 (flag (register self.now d) index)) }
     {
-        let on = has_bit(self.register(d), index);
-        let sreg = Sreg::from_bits_retain(with_bit(self.sreg.bits(), T, on));
-        self.setting(Writes::none(), sreg)
+        let sreg = with_bit(self.sreg.bits(), T, self.register_bit(d, index));
+        self.setting(Writes::none(), Sreg::from_bits_retain(sreg))
     }
 }

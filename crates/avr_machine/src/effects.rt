@@ -4,7 +4,12 @@ ghost use Rattle.std.specs.Prelude.{◌≡◌, ◌<◌};
 ghost use Rattle.avr_model.specs.Image.{WORDS};
 ghost use Rattle.avr_model.specs.Effects.{effect_of, memory_effect, flow_effect};
 
+use crate::bits::has_bit;
+use crate::pieces::set_pair;
 use crate::processor::Processor;
+use crate::transfers::{Z, port};
+use avr_decode::far;
+use avr_model::device::WORDS;
 use avr_model::effect::Effect;
 use avr_model::instruction::Instr;
 use avr_model::operation::Mul;
@@ -18,12 +23,15 @@ impl Processor {
         ensures pc { result.pc < WORDS }
     {
         match instr {
-            Instr::Movw(d, r) => self.copy_pair(2 * d.get(), 2 * r.get()),
-            Instr::Muls(d, r) => self.product_of(Mul::Muls, d.get(), r.get()),
-            Instr::Mulsu(d, r) => self.product_of(Mul::Mulsu, d.get(), r.get()),
-            Instr::Fmul(d, r) => self.product_of(Mul::Fmul, d.get(), r.get()),
-            Instr::Fmuls(d, r) => self.product_of(Mul::Fmuls, d.get(), r.get()),
-            Instr::Fmulsu(d, r) => self.product_of(Mul::Fmulsu, d.get(), r.get()),
+            Instr::Movw(d, r) => self.setting(
+                set_pair(2 * d.get(), self.pair(2 * r.get())),
+                self.sreg,
+            ),
+            Instr::Muls(d, r) => self.product(Mul::Muls, d.get(), r.get()),
+            Instr::Mulsu(d, r) => self.product(Mul::Mulsu, d.get(), r.get()),
+            Instr::Fmul(d, r) => self.product(Mul::Fmul, d.get(), r.get()),
+            Instr::Fmuls(d, r) => self.product(Mul::Fmuls, d.get(), r.get()),
+            Instr::Fmulsu(d, r) => self.product(Mul::Fmulsu, d.get(), r.get()),
             Instr::Binary(op, d, r) => self.binary(flash, *op, d.get(), r.get()),
             Instr::Immediate(op, d, k) => self.immediate(*op, d.get(), *k),
             Instr::Unary(op, d) => self.unary(*op, d.get()),
@@ -44,18 +52,21 @@ impl Processor {
         ensures pc { result.pc < WORDS }
     {
         match instr {
-            Instr::Ldd(d, base, q) => self.load_displaced(d.get(), *base, q.get(), first),
-            Instr::Std(base, q, r) => self.store_displaced(*base, q.get(), r.get()),
-            Instr::Lds(d, k) => self.load_direct(d.get(), *k, first),
-            Instr::Sts(k, r) => self.store_direct(*k, r.get()),
+            Instr::Ldd(d, base, q) => self.load_at(d.get(), self.displaced(*base, q.get()), first),
+            Instr::Std(base, q, r) => self.storing(
+                self.displaced(*base, q.get()),
+                self.register(r.get()),
+            ),
+            Instr::Lds(d, k) => self.of_two_words(self.load_at(d.get(), *k, first)),
+            Instr::Sts(k, r) => self.of_two_words(self.storing(*k, self.register(r.get()))),
             Instr::Ld(d, pointer) => self.load(d.get(), *pointer, first),
             Instr::St(pointer, r) => self.store_through(*pointer, r.get()),
-            Instr::LpmZ(d) => self.load_program(flash, d.get(), first),
+            Instr::LpmZ(d) => self.giving(d.get(), (self.program_byte(flash, first), self.sreg)),
             Instr::LpmZPlus(d) => self.load_program_and_move(flash, d.get(), first),
-            Instr::Lpm => self.load_program(flash, 0, first),
+            Instr::Lpm => self.giving(0, (self.program_byte(flash, first), self.sreg)),
             Instr::Pop(d) => self.pop(d.get(), first),
             Instr::Push(r) => self.push(r.get()),
-            Instr::In(d, a) => self.input(d.get(), a.get(), first),
+            Instr::In(d, a) => self.load_at(d.get(), port(a.get()), first),
             Instr::Out(a, r) => self.output(a.get(), r.get()),
             Instr::Cbi(a, b) => self.change_bit(a.get(), b.get(), false),
             Instr::Sbi(a, b) => self.change_bit(a.get(), b.get(), true),
@@ -70,18 +81,24 @@ impl Processor {
         ensures pc { result.pc < WORDS }
     {
         match instr {
-            Instr::Ijmp => self.going_to(self.indirect_target()),
-            Instr::Icall => self.calling(self.indirect_target(), self.further(1)),
+            Instr::Ijmp => self.going_to(self.pair(Z) % WORDS),
+            Instr::Icall => self.calling(self.pair(Z) % WORDS, self.further(1)),
             Instr::Ret => self.returning(first, second),
             Instr::Reti => self.returning_from_interrupt(first, second),
             Instr::Jmp(k) => self.going_to(k.get()),
             Instr::Call(k) => self.calling(k.get(), self.further(2)),
-            Instr::Rjmp(k) => self.going_to(self.far(k.get())),
-            Instr::Rcall(k) => self.calling(self.far(k.get()), self.further(1)),
+            Instr::Rjmp(k) => self.going_to(far(self.pc, k.get())),
+            Instr::Rcall(k) => self.calling(far(self.pc, k.get()), self.further(1)),
             Instr::Brbs(s, k) => self.branching(self.flag(s.get()), k.get()),
             Instr::Brbc(s, k) => self.branching(!self.flag(s.get()), k.get()),
-            Instr::Sbic(a, b) => self.skipping(flash, !self.port_bit(a.get(), b.get(), first)),
-            Instr::Sbis(a, b) => self.skipping(flash, self.port_bit(a.get(), b.get(), first)),
+            Instr::Sbic(a, b) => self.skipping(
+                flash,
+                !has_bit(self.read(port(a.get()), first), b.get()),
+            ),
+            Instr::Sbis(a, b) => self.skipping(
+                flash,
+                has_bit(self.read(port(a.get()), first), b.get()),
+            ),
             Instr::Sbrc(r, b) => self.skipping(flash, !self.register_bit(r.get(), b.get())),
             Instr::Sbrs(r, b) => self.skipping(flash, self.register_bit(r.get(), b.get())),
             _ => self.going_on(),

@@ -1,12 +1,12 @@
 //! What many effects have in common.
 
 ghost use Rattle.std.specs.Prelude.{◌≡◌, ◌<◌, ◌≤◌};
-ghost use Rattle.avr_model.specs.Effects.{set, set_pair, further, going_to, going_on, setting, storing, skipping, way_back, calling, popped_word, returning, flash_read};
+ghost use Rattle.avr_model.specs.Effects.{set, set_pair, further, going_to, going_on, setting, storing, skipping, way_back, calling, returning};
 
 use crate::processor::Processor;
 use avr_alu::Sreg;
 use avr_decode::length;
-use avr_model::device::{FLASH_BYTES, WORDS};
+use avr_model::device::WORDS;
 use avr_model::effect::{Effect, Write, Writes};
 use flash_image::Flash;
 
@@ -47,13 +47,6 @@ pub fn way_back(sp: u16, word: u16) -> Writes
         byte: (word / 256) as u8,
     };
     Writes::two(low, high)
-}
-
-/// The byte of flash that `lpm` reads at Z; behind its last there is none, and the input byte is read.
-pub fn flash_read(flash: &Flash, z: u16, input: u8) -> u8
-    ensures { result ≡ flash_read flash.now z input }
-{
-    if z < FLASH_BYTES { flash.byte(z) } else { input }
 }
 
 impl Processor {
@@ -100,6 +93,16 @@ impl Processor {
         }
     }
 
+    /// An effect of an instruction of two words.
+    pub fn of_two_words(&self, effect: Effect) -> Effect
+        ensures { result ≡ record effect { pc = further self.now 2 } }
+    {
+        Effect {
+            pc: self.further(2),
+            ..effect
+        }
+    }
+
     /// A byte is stored at a data address.
     pub fn storing(&self, address: u16, byte: u8) -> Effect
         ensures { result ≡ storing self.now address byte }
@@ -134,23 +137,17 @@ impl Processor {
         }
     }
 
-    /// The word that a return pops, modulo the words of flash; `high` and `low` are the free input bytes.
-    fn popped_word(&self, high: u8, low: u8) -> u16
-        ensures { result ≡ popped_word self.now high low }
-    {
-        let high = self.read(self.sp.wrapping_add(1), high);
-        let low = self.read(self.sp.wrapping_add(2), low);
-        (256 * u16::from(high) + u16::from(low)) % WORDS
-    }
-
-    /// A return: the popped word is the next one.
+    /// A return: the popped word, modulo the words of flash, is the next one; `high` and `low` are the free input bytes.
     pub fn returning(&self, high: u8, low: u8) -> Effect
         ensures { result ≡ returning self.now high low }
     {
+        let high = self.read(self.sp.wrapping_add(1), high);
+        let low = self.read(self.sp.wrapping_add(2), low);
+        let word = 256 * u16::from(high) + u16::from(low);
         Effect {
             sp: self.sp.wrapping_add(2),
             is_open: false,
-            ..self.going_to(self.popped_word(high, low))
+            ..self.going_to(word % WORDS)
         }
     }
 }

@@ -11,7 +11,7 @@ use crate::flags::{flag_by, live_write, protected_write, unlisted_transfer};
 use crate::memory::is_sram;
 use crate::pieces::way_back;
 use crate::processor::Processor;
-use avr_decode::{decode, is_scratch};
+use avr_decode::{instruction, is_scratch};
 use avr_model::choice::{Choice, Flag, StepResult};
 use avr_model::device::RAMEND;
 use avr_model::effect::{Effect, Write};
@@ -100,20 +100,12 @@ impl Processor {
         self.finish(flag, effect, self.enables, guarded)
     }
 
-    /// The instruction at the program counter.
-    fn instruction(&self, flash: &Flash) -> Option<Instr>
-        ensures { result ≡ instruction_at flash.now self.now.pc }
-    {
-        let next = self.pc.wrapping_add(1);
-        decode(flash.word(self.pc), flash.word(next))
-    }
-
     /// Executes one instruction.
     fn go(&mut self, flash: &Flash, assumptions: &Assumptions, first: u8, second: u8) -> StepResult
         ensures answer { result ≡ result_of (go flash.now assumptions.now self.old (instruction_at flash.now self.old.pc) first second) }
         ensures state { self.new ≡ state_after self.old (go flash.now assumptions.now self.old (instruction_at flash.now self.old.pc) first second) }
     {
-        match &self.instruction(flash) {
+        match &instruction(flash.words(), usize::from(self.pc)) {
             Some(instr) => {
                 let effect = self.effect(flash, instr, first, second);
                 self.conclude(flash, assumptions, instr, &effect)

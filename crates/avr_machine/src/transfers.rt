@@ -3,42 +3,20 @@
 ghost use Rattle.std.specs.Prelude.{◌≡◌, ◌<◌, ◌≤◌, ◌++◌, length};
 ghost use Rattle.avr_model.specs.State.{pair, read, register, plus16};
 ghost use Rattle.avr_model.specs.Sites.{base_register, pointer_register};
-ghost use Rattle.avr_model.specs.Effects.{set, set_pair, further, setting, storing, pointed, moved, load_effect, store_effect, port, out_effect, bit_effect, push_effect, pop_effect, flash_read};
+ghost use Rattle.avr_model.specs.Effects.{set, set_pair, setting, pointed, moved, load_effect, store_effect, port, out_effect, bit_effect, push_effect, pop_effect, flash_read};
 
 use crate::arithmetic::I;
 use crate::bits::{has_bit, with_bit};
-use crate::pieces::{flash_read, set, set_pair};
+use crate::pieces::{set, set_pair};
 use crate::processor::Processor;
-use avr_model::device::SREG;
+use avr_decode::{base_register, pointer_register};
+use avr_model::device::{FLASH_BYTES, SREG};
 use avr_model::effect::{Effect, Write, Writes};
 use avr_model::instruction::{Base, Pointer};
 use flash_image::Flash;
 
 /// The low register of the pair Z.
 pub const Z: u16 = 30;
-
-/// The low register of the pair that a base is.
-fn base_register(base: Base) -> u16
-    ensures value { result ≡ base_register base }
-    ensures small { result < 31 }
-{
-    match base {
-        Base::Y => 28,
-        Base::Z => 30,
-    }
-}
-
-/// The low register of the pair that a pointer is.
-fn pointer_register(pointer: Pointer) -> u16
-    ensures value { result ≡ pointer_register pointer }
-    ensures small { result < 31 }
-{
-    match pointer {
-        Pointer::ZPlus | Pointer::MinusZ => 30,
-        Pointer::YPlus | Pointer::MinusY => 28,
-        Pointer::X | Pointer::XPlus | Pointer::MinusX => 26,
-    }
-}
 
 /// The address that a pointer stands for, `at` being what its registers hold.
 fn pointed(pointer: Pointer, at: u16) -> u16
@@ -85,48 +63,17 @@ pub fn port(address: u16) -> u16
 
 impl Processor {
     /// A register gets the byte at a data address.
-    fn load_at(&self, d: u16, address: u16, input: u8) -> Effect
+    pub fn load_at(&self, d: u16, address: u16, input: u8) -> Effect
         ensures { result ≡ setting self.now (set d (read self.now address input)) self.now.sreg }
     {
-        self.setting(set(d, self.read(address, input)), self.sreg)
+        self.giving(d, (self.read(address, input), self.sreg))
     }
 
-    /// `ldd`: a load with a displacement.
-    pub fn load_displaced(&self, d: u16, base: Base, displacement: u16, input: u8) -> Effect
-        ensures { result ≡ setting self.now (set d (read self.now (plus16 (pair self.now (base_register base)) displacement) input)) self.now.sreg }
+    /// The address at a displacement from a pointer.
+    pub fn displaced(&self, base: Base, displacement: u16) -> u16
+        ensures { result ≡ plus16 (pair self.now (base_register base)) displacement }
     {
-        let address = self.pair(base_register(base)).wrapping_add(displacement);
-        self.load_at(d, address, input)
-    }
-
-    /// `std`: a store with a displacement.
-    pub fn store_displaced(&self, base: Base, displacement: u16, r: u16) -> Effect
-        requires { r < 32 }
-        ensures { result ≡ storing self.now (plus16 (pair self.now (base_register base)) displacement) (register self.now r) }
-    {
-        let address = self.pair(base_register(base)).wrapping_add(displacement);
-        self.storing(address, self.register(r))
-    }
-
-    /// `lds`, an instruction of two words.
-    pub fn load_direct(&self, d: u16, address: u16, input: u8) -> Effect
-        ensures { result ≡ record (setting self.now (set d (read self.now address input)) self.now.sreg) { pc = further self.now 2 } }
-    {
-        Effect {
-            pc: self.further(2),
-            ..self.load_at(d, address, input)
-        }
-    }
-
-    /// `sts`, an instruction of two words.
-    pub fn store_direct(&self, address: u16, r: u16) -> Effect
-        requires { r < 32 }
-        ensures { result ≡ record (storing self.now address (register self.now r)) { pc = further self.now 2 } }
-    {
-        Effect {
-            pc: self.further(2),
-            ..self.storing(address, self.register(r))
-        }
+        self.pair(base_register(base)).wrapping_add(displacement)
     }
 
     /// `ld` through a pointer.
@@ -150,32 +97,25 @@ impl Processor {
         }
     }
 
-    /// `lpm` into a register.
-    pub fn load_program(&self, flash: &Flash, d: u16, input: u8) -> Effect
-        ensures { result ≡ setting self.now (set d (flash_read flash.now (pair self.now 30) input)) self.now.sreg }
+    /// The byte of flash that `lpm` reads at Z; behind its last there is none, and the input byte is read.
+    pub fn program_byte(&self, flash: &Flash, input: u8) -> u8
+        ensures { result ≡ flash_read flash.now (pair self.now 30) input }
     {
-        let byte = flash_read(flash, self.pair(Z), input);
-        self.setting(set(d, byte), self.sreg)
+        let z = self.pair(Z);
+        if z < FLASH_BYTES {
+            flash.byte(z)
+        } else {
+            input
+        }
     }
 
     /// `lpm` into a register through Z+.
     pub fn load_program_and_move(&self, flash: &Flash, d: u16, input: u8) -> Effect
         ensures { result ≡ setting self.now (set_pair 30 (plus16 (pair self.now 30) 1) ++ set d (flash_read flash.now (pair self.now 30) input)) self.now.sreg }
     {
-        let at = self.pair(Z);
-        let byte = flash_read(flash, at, input);
-        self.setting(
-            and_then(&set_pair(Z, at.wrapping_add(1)), d, byte),
-            self.sreg,
-        )
-    }
-
-    /// `in`: the byte of an I/O address.
-    pub fn input(&self, d: u16, address: u16, input: u8) -> Effect
-        requires { address < 64 }
-        ensures { result ≡ setting self.now (set d (read self.now (port address) input)) self.now.sreg }
-    {
-        self.load_at(d, port(address), input)
+        let moved = set_pair(Z, self.pair(Z).wrapping_add(1));
+        let byte = self.program_byte(flash, input);
+        self.setting(and_then(&moved, d, byte), self.sreg)
     }
 
     /// `out`: one more instruction executes before any interrupt where it turns I on (own for `out`).
