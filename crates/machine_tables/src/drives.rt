@@ -1,10 +1,11 @@
 //! Whole runs by one driver.
 
-use stimulus::{Choice, Driver, Machine, Menu, Stop, Trace};
+use crate::programs::flash_of;
 use avr_model::choice::Flag;
 use flash_image::Flash;
 use std::alloc::{AllocError, Global};
 use std::test::Fail;
+use stimulus::{Choice, Driver, Machine, Menu, Stop, Trace};
 use vector_table::Assumptions;
 
 const GO: Choice = Choice::Go(0, 0);
@@ -60,15 +61,6 @@ static ROWS: [Row; 6] = [
         Stop::End,
     ),
 ];
-
-/// Flash that begins with these words.
-fn flash_of(alloc: Global, words: &[u16; 7]) -> Result<Flash, AllocError> {
-    let mut flash = Flash::erased(alloc)?;
-    for (a, word) in words.iter().enumerate() {
-        flash.place(2 * a as u16, &word.to_le_bytes());
-    }
-    Ok(flash)
-}
 
 /// Takes vector 2 wherever the machine permits it.
 fn take_whenever(

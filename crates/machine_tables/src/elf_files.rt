@@ -1,7 +1,7 @@
 //! Small files, damaged in one place each. The expected answers were worked out by hand.
 
-use elf_load::{ElfFault, is_elf, load};
 use byteorder::{ByteOrder, LittleEndian};
+use elf_load::{ElfFault, is_elf, load};
 use std::alloc::{AllocError, Global};
 use std::test::Fail;
 

@@ -12,6 +12,8 @@ mod elf_files;
 #[cfg(test)]
 mod images;
 #[cfg(test)]
+mod programs;
+#[cfg(test)]
 mod steps;
 #[cfg(test)]
 mod vectors;

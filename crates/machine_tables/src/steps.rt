@@ -3,6 +3,7 @@
 
 mod rows;
 
+use crate::programs::flash_of;
 use avr_machine::{Assumptions, Choice, Entry, Flag, Flash, Listed, Machine, StepResult};
 use rows::{FLOW_ROWS, MEMORY_ROWS, REGISTER_ROWS};
 use std::alloc::{AllocError, Global};
@@ -22,17 +23,6 @@ const POINTER: u16 = 0x0412;
 const OUT_SREG_R18: u16 = 0xBF2F;
 
 const GO: Choice = Choice::Go(0x96, 0x3C);
-
-/// Flash that begins with these words.
-fn flash_of(alloc: Global, words: &[u16]) -> Result<Flash, AllocError> {
-    let mut flash = Flash::erased(alloc)?;
-    for (a, word) in words.iter().enumerate() {
-        if a < 64 {
-            flash.place(2 * a as u16, &word.to_le_bytes());
-        }
-    }
-    Ok(flash)
-}
 
 /// The registers before a row: the pointer in X, Y and Z, and 37 r + 11 in each other register r.
 fn registers_of(pointer: u16) -> [u8; 32] {
