@@ -1,7 +1,7 @@
 //! Splits against all bytes that are written, and the order on a table of keys.
 
-use mask_states::{EdgeKind, High, InstKey, Kind, NodeKey, SpForm, split};
 use bit_domain::TriByte;
+use mask_states::{EdgeKind, High, InstKey, Kind, NodeKey, SpForm, split};
 use std::cmp::Ordering;
 use vector_table::{Masks, write};
 

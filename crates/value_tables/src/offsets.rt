@@ -1,6 +1,9 @@
 //! A compiler's frame set-up in tags and on bytes, all pairs of a few tags, and lists of slots.
 
+ghost use Rattle.std.specs.Prelude.{◌≡◌, []};
+
 use sp_domain::{CarryTag, Slot, Slots, Tag, frame, move_pair, sub_high, sub_low};
+use std::alloc::{AllocError, Global};
 use std::test::Fail;
 
 static TAGS: [Tag; 8] = [
@@ -186,43 +189,41 @@ fn tags_say_what_the_bytes_are(rt: HostRuntime) {
     }
 }
 
-#[test]
-fn slots_are_pushed_and_popped_at_the_end(rt: HostRuntime) -> Result<(), Fail> {
-    let mut slots: Slots<u16> = Slots::new(rt.alloc());
-    let none = (slots.len(), slots.at(0), slots.pop());
+// Whether the slots are these.
+fn are(slots: &Slots<u16>, due: &[Slot<u16>]) -> bool {
+    slots.as_slice() == due
+}
+
+// Whether what is pushed is there and can be popped, and there is nothing to pop at first.
+fn is_pushed(slots: &mut Slots<u16>) -> Result<bool, AllocError>
+    requires { slots.old ≡ [] }
+{
+    let none = slots.at(0).is_none() && slots.pop().is_none();
     slots.push(Slot::Guarded(7))?;
-    slots.push(Slot::Free)?;
     slots.push(Slot::Guarded(9))?;
-    let all = [Slot::Guarded(7), Slot::Free, Slot::Guarded(9)];
-    let pushed = slots.as_slice() == all.as_slice();
-    let ends = (slots.len(), slots.at(2), slots.at(3));
-    let popped = (slots.pop(), slots.pop());
-    assert!(rt;
-        none == (0, None, None)
-            && pushed
-            && ends == (3, Some(Slot::Guarded(9)), None)
-            && popped == (Some(Slot::Guarded(9)), Some(Slot::Free))
-            && slots.as_slice() == [Slot::Guarded(7)].as_slice()
-    );
-    Ok(())
+    let last = slots.at(1) == Some(Slot::Guarded(9));
+    Ok(none && last && slots.pop() == Some(Slot::Guarded(9)))
+}
+
+// Whether slots are cut and grow with free ones, up to the most, and a copy keeps what it was made of.
+fn is_resized(alloc: Global, slots: &mut Slots<u16>) -> Result<bool, AllocError> {
+    let copy = slots.copy(alloc)?;
+    slots.resize(0)?;
+    let cut = slots.len() == 0;
+    slots.resize(2)?;
+    let grown = are(slots, &[Slot::Free, Slot::Free]);
+    slots.set(1, Slot::Guarded(5));
+    let set = are(slots, &[Slot::Free, Slot::Guarded(5)]);
+    slots.resize(65535)?;
+    let most = slots.len() == 65535 && slots.at(65534) == Some(Slot::Free);
+    Ok(cut && grown && set && most && are(&copy, &[Slot::Guarded(7)]))
 }
 
 #[test]
-fn slots_are_cut_and_grow_with_free_ones(rt: HostRuntime) -> Result<(), Fail> {
+fn slots_are_pushed_popped_cut_and_grown(rt: HostRuntime) -> Result<(), Fail> {
     let mut slots: Slots<u16> = Slots::new(rt.alloc());
-    slots.resize(3)?;
-    slots.set(0, Slot::Guarded(5));
-    slots.set(2, Slot::Guarded(6));
-    let copy = slots.copy(rt.alloc())?;
-    slots.resize(1)?;
-    let cut = slots.as_slice() == [Slot::Guarded(5)].as_slice();
-    slots.resize(3)?;
-    let grown = slots.as_slice() == [Slot::Guarded(5), Slot::Free, Slot::Free].as_slice();
-    let kept = copy.as_slice() == [Slot::Guarded(5), Slot::Free, Slot::Guarded(6)].as_slice();
-    slots.resize(0)?;
-    let none = slots.len();
-    slots.resize(65535)?;
-    let most = (slots.len(), slots.at(65534));
-    assert!(rt; cut && grown && kept && none == 0 && most == (65535, Some(Slot::Free)));
+    let pushed = is_pushed(&mut slots)?;
+    let resized = is_resized(rt.alloc(), &mut slots)?;
+    assert!(rt; pushed && resized);
     Ok(())
 }

@@ -1,13 +1,13 @@
 //! Values and states worked by hand, each answer compared as a whole.
 
-ghost use Rattle.std.specs.Prelude.{ℕ, ◌≡◌, ◌<◌, []};
+ghost use Rattle.std.specs.Prelude.{ℕ, ◌≡◌, ◌<◌, [], length, IfOk, IfSome, IsTrue};
 ghost use Rattle.abs_state.specs.Values.{value_at};
 ghost use Rattle.abs_state.specs.Formed.{NamesRegister};
 
 use abs_state::{AbsByte, AbsFlags, AbsState};
 use bit_domain::TriByte;
 use sp_domain::{CarryTag, Slot, Tag};
-use std::alloc::Global;
+use std::alloc::{AllocError, Global};
 use std::test::Fail;
 
 fn tagged(tag: Tag, known: u8, value: u8) -> AbsByte
@@ -117,8 +117,9 @@ fn is_entry(entered: AbsByte, r: u8, was: AbsByte) -> bool {
 }
 
 fn are_entries(entered: &AbsState, caller: &AbsState) -> bool {
-    for r in 0..32usize {
-        if !is_entry(entered.registers[r], r as u8, caller.registers[r]) {
+    let both = entered.registers.iter().zip(&caller.registers);
+    for (r, (value, was)) in (0..32u8).zip(both) {
+        if !is_entry(*value, r, *was) {
             return false;
         }
     }
@@ -145,70 +146,98 @@ fn an_entry_tags_each_register(rt: HostRuntime) -> Result<(), Fail> {
     Ok(())
 }
 
-// Whether there is a state after the return, and it is this one.
-fn is_back(back: Option<AbsState>, wanted: &AbsState) -> bool {
-    match back {
-        Some(state) => is_same(&state, wanted),
-        None => false,
+/// What is known of registers 0 and 31, and of the flags.
+type Known = (AbsByte, AbsByte, AbsFlags);
+
+// A caller, an exit, and what is known after the return: none where no machine returns so.
+fn returns() -> [(Known, Known, Option<Known>); 5] {
+    let any = AbsByte::unknown();
+    let kept = flags(false, 0x01, 0x01, CarryTag::Borrow(3, 5));
+    let entry = flags(true, 0x01, 0x01, CarryTag::Borrow(3, 5));
+    let clear = flags(true, 0x01, 0x00, CarryTag::None);
+    let changed = flags(false, 0x01, 0x00, CarryTag::Borrow(9, 9));
+    let set = flags(false, 0x01, 0x01, CarryTag::None);
+    let tied = flags(true, 0x01, 0x01, CarryTag::None);
+    [
+        // what the exit still has of the entry is the caller's, with the bits of both
+        (
+            (tagged(Tag::SpLo(3), 0xf0, 0x40), AbsByte::known(0x10), kept),
+            (
+                tagged(Tag::SpHi(300), 0xff, 0x12),
+                tagged(Tag::Entry(0), 0x0f, 0x05),
+                flags(true, 0x02, 0x02, CarryTag::Borrow(9, 9)),
+            ),
+            Some((
+                AbsByte::known(0x12),
+                tagged(Tag::SpLo(3), 0xff, 0x45),
+                flags(false, 0x03, 0x03, CarryTag::Borrow(3, 5)),
+            )),
+        ),
+        // flags that the callee changed are its own
+        (
+            (any, any, entry),
+            (any, any, changed),
+            Some((any, any, flags(false, 0x01, 0x00, CarryTag::None))),
+        ),
+        // bits that differ, of a byte and of the flags, and flags that may
+        (
+            (AbsByte::known(0x41), any, clear),
+            (any, tagged(Tag::Entry(0), 0x03, 0x03), clear),
+            None,
+        ),
+        ((any, any, clear), (any, any, tied), None),
+        ((any, any, clear), (any, any, set), Some((any, any, set))),
+    ]
+}
+
+// Whether the tag names a register, if any.
+fn is_named(value: AbsByte) -> bool
+    ensures { IsTrue result → NamesRegister value.tag }
+{
+    match value.tag {
+        Tag::Entry(r) => r < 32,
+        _ => true,
+    }
+}
+
+// The state in which so much is known, with a slot.
+fn state_of(alloc: Global, known: &Known) -> Result<Option<AbsState>, AllocError>
+    ensures { IfOk result (λ o. IfSome o (λ s. (length s.slots ≡ 1) × ((r : ℕ) → r < 32 → NamesRegister (value_at s.registers r).tag))) }
+{
+    if !is_named(known.0) || !is_named(known.1) {
+        return Ok(None);
+    }
+    let mut state = state(alloc, known.0, known.1, known.2);
+    state.slots.push(Slot::Guarded(AbsByte::known(0x22)))?;
+    Ok(Some(state))
+}
+
+// Whether both are the same, or none is there.
+fn are_same(state: &Option<AbsState>, wanted: &Option<AbsState>) -> bool {
+    match (state, wanted) {
+        (Some(state), Some(wanted)) => is_same(state, wanted),
+        (None, None) => true,
+        _ => false,
+    }
+}
+
+fn is_return(alloc: Global, row: &(Known, Known, Option<Known>)) -> Result<bool, AllocError> {
+    let wanted = match &row.2 {
+        Some(known) => state_of(alloc, known)?,
+        None => None,
+    };
+    match (state_of(alloc, &row.0)?, state_of(alloc, &row.1)?) {
+        (Some(caller), Some(exit)) => Ok(are_same(&caller.returned(alloc, &exit)?, &wanted)),
+        _ => Ok(false),
     }
 }
 
 #[test]
 fn a_return_brings_back_what_was_kept(rt: HostRuntime) -> Result<(), Fail> {
-    let alloc = rt.alloc();
-    let known = flags(false, 0x01, 0x01, CarryTag::Borrow(3, 5));
-    let mut caller = state(
-        alloc,
-        tagged(Tag::SpLo(3), 0xf0, 0x40),
-        AbsByte::known(0x10),
-        known,
-    );
-    caller.slots.push(Slot::Guarded(AbsByte::known(0x22)))?;
-    let learned = flags(true, 0x02, 0x02, CarryTag::Borrow(9, 9));
-    let exit = state(
-        alloc,
-        tagged(Tag::SpHi(300), 0xff, 0x12),
-        tagged(Tag::Entry(0), 0x0f, 0x05),
-        learned,
-    );
-    let both = flags(false, 0x03, 0x03, CarryTag::Borrow(3, 5));
-    let mut wanted = state(
-        alloc,
-        AbsByte::known(0x12),
-        tagged(Tag::SpLo(3), 0xff, 0x45),
-        both,
-    );
-    wanted.slots.push(Slot::Guarded(AbsByte::known(0x22)))?;
-    assert!(rt; is_back(caller.returned(alloc, &exit)?, &wanted));
-    Ok(())
-}
-
-#[test]
-fn flags_that_the_callee_changed_are_its_own(rt: HostRuntime) -> Result<(), Fail> {
-    let alloc = rt.alloc();
-    let any = AbsByte::unknown();
-    let known = flags(true, 0x01, 0x01, CarryTag::Borrow(3, 5));
-    let caller = state(alloc, any, any, known);
-    let learned = flags(false, 0x01, 0x00, CarryTag::Borrow(9, 9));
-    let exit = state(alloc, any, any, learned);
-    let wanted = state(alloc, any, any, flags(false, 0x01, 0x00, CarryTag::None));
-    assert!(rt; is_back(caller.returned(alloc, &exit)?, &wanted));
-    Ok(())
-}
-
-#[test]
-fn known_bits_that_differ_end_a_return(rt: HostRuntime) -> Result<(), Fail> {
-    let alloc = rt.alloc();
-    let any = AbsByte::unknown();
-    let clear = flags(true, 0x01, 0x00, CarryTag::None);
-    let caller = state(alloc, AbsByte::known(0x41), any, clear);
-    let other_byte = state(alloc, any, tagged(Tag::Entry(0), 0x03, 0x03), clear);
-    let other_flags = state(alloc, any, any, flags(true, 0x01, 0x01, CarryTag::None));
-    let changed = state(alloc, any, any, flags(false, 0x01, 0x01, CarryTag::None));
-    let by_byte = caller.returned(alloc, &other_byte)?.is_some();
-    let by_flags = caller.returned(alloc, &other_flags)?.is_some();
-    let by_neither = caller.returned(alloc, &changed)?.is_some();
-    assert!(rt; [by_byte, by_flags, by_neither] == [false, false, true]);
+    for (at, row) in returns().iter().enumerate() {
+        let holds = is_return(rt.alloc(), row)?;
+        assert!(rt; holds, "row {at}");
+    }
     Ok(())
 }
 

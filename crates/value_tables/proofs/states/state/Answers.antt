@@ -1,7 +1,7 @@
 use Rattle.std.proofs.Common.{◌≡◌, ◌∙◌, sym, ap, subst, length, slice_set, length-set, arith}
 use Rattle.abs_state.specs.declared.state.AbsState.{AbsState}
 use Rattle.abs_state.proofs.AllLaws.{reset_stands}
-use Rattle.abs_state.proofs.Named.{AllName, set_names}
+use Rattle.value_tables.proofs.Named.{AllName, set_names}
 use Rattle.value_tables.proofs.states.state.Goals as goal
 
 pub returns-clause-names : goal.returns-clause-names
