@@ -27,12 +27,6 @@ fn leaves(instr: &Instr) -> bool
     }
 }
 
-fn is_ldi(instr: &Instr) -> bool
-    ensures { result ≡ is_ldi instr.now }
-{
-    matches!(*instr, Instr::Immediate(ImmediateOp::Ldi, _, _))
-}
-
 #[tactic(auto, using(crate::proofs::Sets::bit_of_set))]
 fn sets(instr: &Instr, register: u16) -> bool
     requires { register < 32 }
@@ -47,7 +41,7 @@ fn is_loaded(before: bool, instr: &Instr, register: u16) -> bool
     ensures { result ≡ (if sets register instr.now then is_ldi instr.now else before) }
 {
     if sets(instr, register) {
-        is_ldi(instr)
+        matches!(*instr, Instr::Immediate(ImmediateOp::Ldi, _, _))
     } else {
         before
     }

@@ -1,7 +1,7 @@
 //! The text of an instruction.
 
-ghost use Rattle.std.specs.Prelude.{◌≡◌, ◌++◌, ◌<◌, IfOk, OnOk};
-ghost use Rattle.avr_model.specs.Text.{digit, hex2, hex4, reg, binary_name, immediate_name, unary_name, pointer_text, base_text, text_of, text_of_memory, text_of_flow};
+ghost use Rattle.std.specs.Prelude.{◌≡◌, ◌++◌, ◌<◌, IfOk, OnOk, decimal};
+ghost use Rattle.avr_model.specs.Text.{digit, hex2, hex4, binary_name, immediate_name, unary_name, pointer_text, base_text, text_of, text_of_memory, text_of_flow};
 ghost use Rattle.avr_decode.specs.Shape.{piece_text, shape_text};
 
 use crate::targets::{far, near};
@@ -66,10 +66,10 @@ fn put_hex4(out: &mut Vec<u8>, n: u16) -> Result<(), AllocError>
     ])
 }
 
-fn put_register(alloc: Global, out: &mut Vec<u8>, n: u16) -> Result<(), AllocError>
-    ensures { OnOk result (out.new.items ≡ out.old.items ++ reg n) }
+fn put_number(alloc: Global, out: &mut Vec<u8>, n: u16) -> Result<(), AllocError>
+    ensures { OnOk result (out.new.items ≡ out.old.items ++ decimal n) }
 {
-    let text = format!(in alloc; "r{n}")?;
+    let text = format!(in alloc; "{n}")?;
     put(out, text.as_str())
 }
 
@@ -77,13 +77,13 @@ fn put_piece(alloc: Global, out: &mut Vec<u8>, piece: Piece) -> Result<(), Alloc
     ensures { OnOk result (out.new.items ≡ out.old.items ++ piece_text piece) }
 {
     match piece {
-        Piece::Register(n) => put_register(alloc, out, n),
+        Piece::Register(n) => {
+            put(out, "r")?;
+            put_number(alloc, out, n)
+        }
         Piece::Byte(n) => put_hex2(out, n),
         Piece::Word(n) => put_hex4(out, n),
-        Piece::Number(n) => {
-            let text = format!(in alloc; "{n}")?;
-            put(out, text.as_str())
-        }
+        Piece::Number(n) => put_number(alloc, out, n),
         Piece::Pointer(name) => put(out, name),
         Piece::Displaced(name, n) => {
             put(out, name)?;
