@@ -1,10 +1,10 @@
 //! One step of the processor: the answer, and the state after it.
 
-ghost use Rattle.std.specs.Prelude.{◌≡◌, ◌<◌, ◌&&◌, ◌||◌, ◌-◌};
+ghost use Rattle.std.specs.Prelude.{◌≡◌, ◌<◌};
 ghost use Rattle.avr_model.specs.Image.{WORDS};
 ghost use Rattle.avr_model.specs.Sites.{instruction_at, is_scratch};
 ghost use Rattle.avr_model.specs.State.{depth_of_state};
-ghost use Rattle.avr_model.specs.Step.{all_inside, flagged_or, is_unlisted, after, answer_to, go, may_take, enables_taken, entering, take, step, result_of, state_after};
+ghost use Rattle.avr_model.specs.Step.{all_inside, flagged_or, after, answer_to, go, may_take, enables_taken, entering, take, step, result_of, state_after};
 
 use crate::arithmetic::I;
 use crate::flags::{flag_by, live_write, protected_write, unlisted_transfer};
@@ -32,13 +32,6 @@ fn all_inside(writes: &[Write]) -> bool
         }
     }
     true
-}
-
-/// Whether an effect may be tried: no push is outside SRAM, or it is an unlisted transfer, which is flagged whatever it pushes.
-fn is_in_bounds(effect: &Effect, transfer: &Option<u16>) -> bool
-    ensures { result ≡ all_inside effect.now.pushes || is_unlisted transfer.now }
-{
-    all_inside(effect.pushes.as_slice()) || transfer.is_some()
 }
 
 impl Processor {
@@ -90,7 +83,7 @@ impl Processor {
         ensures state { self.new ≡ state_after self.old (answer_to flash.now assumptions.now self.old instr.now effect.now) }
     {
         let transfer = unlisted_transfer(assumptions, self.pc, instr, effect);
-        if !is_in_bounds(effect, &transfer) {
+        if !all_inside(effect.pushes.as_slice()) && transfer.is_none() {
             return StepResult::Overflow(self.pc);
         }
         let live = live_write(&self.memory, effect);
