@@ -9,10 +9,10 @@ use std::alloc::{AllocError, Global};
 use std::test::Fail;
 
 /// A word, the next one, the word address, the text of the instruction, how many words it takes, and the registers that it
-/// sets.
+/// sets. The text is empty where the word is undefined.
 type Row = (u16, u16, u16, &'static [u8], u16, u32);
 
-const ROWS: [Row; 11] = [
+const ROWS: [Row; 19] = [
     (0x0000, 0, 0, b"nop", 1, 0),
     (0x01F8, 0, 0, b"movw r30, r16", 1, 0xC000_0000),
     (0x8300, 0, 3, b"std Z+0x00, r16", 1, 0),
@@ -24,11 +24,16 @@ const ROWS: [Row; 11] = [
     (0x9631, 0, 0, b"adiw r30, 0x01", 1, 0xC000_0000),
     (0x920F, 0, 0, b"push r0", 1, 0),
     (0x95C8, 0, 0, b"lpm", 1, 1),
-];
-
-/// Loads that overwrite their pointer, a word between two rows, and erased flash.
-const UNDEFINED: [u16; 8] = [
-    0x91E1, 0x91AD, 0x91BE, 0x91C9, 0x93DA, 0x91F5, 0x0001, 0xFFFF,
+    // loads and stores that overwrite their pointer
+    (0x91E1, 0, 0, b"", 1, 0),
+    (0x91AD, 0, 0, b"", 1, 0),
+    (0x91BE, 0, 0, b"", 1, 0),
+    (0x91C9, 0, 0, b"", 1, 0),
+    (0x93DA, 0, 0, b"", 1, 0),
+    (0x91F5, 0, 0, b"", 1, 0),
+    // a word between two rows, and erased flash
+    (0x0001, 0, 0, b"", 1, 0),
+    (0xFFFF, 0, 0, b"", 1, 0),
 ];
 
 fn is_row(alloc: Global, row: &Row) -> Result<bool, AllocError> {
@@ -39,7 +44,7 @@ fn is_row(alloc: Global, row: &Row) -> Result<bool, AllocError> {
             let same = found.as_slice() == shown;
             Ok(same && length(word) == words && writes(&instr).bits == set)
         }
-        None => Ok(false),
+        None => Ok(shown.is_empty() && length(word) == words),
     }
 }
 
@@ -48,9 +53,6 @@ fn words_and_their_instructions(rt: HostRuntime) -> Result<(), Fail> {
     for (at, row) in ROWS.iter().enumerate() {
         let holds = is_row(rt.alloc(), row)?;
         assert!(rt; holds, "row {at}");
-    }
-    for word in UNDEFINED {
-        assert!(rt; decode(word, 0).is_none(), "word {word:04X}");
     }
     Ok(())
 }
