@@ -1,14 +1,15 @@
 -- One line more of a list.
-use Rattle.std.proofs.Common.{ℕ, suc, ◌+◌, ◌-◌, ◌<◌, ◌≤◌, ◌≡◌, List, [], ◌∷◌, ◌++◌, refl, ap, sym, ◌∙◌, arith, Option, Result, Ok, Err}
+use Rattle.std.proofs.Common.{ℕ, suc, ◌+◌, ◌-◌, ◌<◌, ◌≤◌, ◌≡◌, List, [], ◌∷◌, ◌++◌, length, refl, ap, sym, ◌∙◌, arith, Option, Result, Ok, Err}
 use Rattle.sb_base.specs.Lines.{Place}
-use Rattle.line_reading.specs.Reading.{then_at}
+use Rattle.line_reading.specs.Reading.{then_at, line_by}
 use Rattle.mask_states.specs.Keys.{offset_of}
 use Rattle.mask_states.specs.declared.keys.NodeKey.{NodeKey}
 use Rattle.edge_rules.specs.declared.seeded.NodeForm.{NodeForm}
 use Rattle.edge_rules.specs.Expansion.{Seeds}
 use Rattle.cert_format.specs.declared.fault.CertFault.{CertFault}
 use Rattle.certificate.specs.Claims.{cells_of, node_keys}
-use Rattle.cert_format.specs.Reading.{longer_at, items_from}
+use Rattle.cert_format.specs.Reading.{formed, with_item, longer_at, items_from}
+use Rattle.cert_format.proofs.Lists.{ok_is, then_ok, unless_ok, longer}
 
 pub cells_more : (ns : Seeds) (n : NodeKey × NodeForm) → cells_of (node_keys (ns ++ n ∷ [])) ≡ cells_of (node_keys ns) + (1 + offset_of n.0.sp)
 unfolding cells_of
@@ -32,6 +33,16 @@ pub item_more : {A : Type 0} (by : ℕ → List ℕ → Option A) (refused : Lis
     → longer_at by refused xs p ≡ Ok (ys, q) → items_from by refused xs (count - i) p ≡ all → items_from by refused ys (count - (i + 1)) q ≡ all
 item_more by refused xs ys count i p q all h e is = sym (more by refused xs count i p (Ok (ys, q)) h e) ∙ is
 
+-- a line that is read is one item more
+pub item_longer : {A : Type 0} (by : ℕ → List ℕ → Option A) (refused : List A → A → ℕ → Option CertFault) (xs ys : List A) (p q : Place) → longer_at by refused xs p ≡ Ok (ys, q) → length ys ≡ length xs + 1
+unfolding longer_at
+item_longer {A} by refused xs ys p q e =
+    let x = then_ok (formed (line_by (by (length xs)) p)) _ (ys, q) e in
+    let zs = then_ok (with_item refused xs x.0.0 p.at) _ (ys, q) x.2 in
+    let none = unless_ok (refused xs x.0.0 p.at) (xs ++ x.0.0 ∷ []) zs.0 zs.1 in
+    let pair = ok_is {A = List A × Place} (zs.0, x.0.1) (ys, q) zs.2 in
+    sym (ap length (none.1 ∙ ap (λ (y : List A × Place). y.0) pair)) ∙ longer xs x.0.0
+
 -- a line that is refused
 pub item_fault : {A : Type 0} (by : ℕ → List ℕ → Option A) (refused : List A → A → ℕ → Option CertFault) (xs : List A) (count i : ℕ) (p : Place) (f : CertFault) (all : Result (List A × Place) CertFault) → i < count
     → longer_at by refused xs p ≡ Err f → items_from by refused xs (count - i) p ≡ all → all ≡ Err f
@@ -47,11 +58,6 @@ pub items_end : {A : Type 0} (by : ℕ → List ℕ → Option A) (refused : Lis
 items_end by refused xs count i p all h is =
     let none : count - i ≡ 0 = omega arith in
     sym is ∙ ap (λ (n : ℕ). items_from by refused xs n p) none ∙ none_left by refused xs p
-
-pub items_begin : {A : Type 0} (by : ℕ → List ℕ → Option A) (refused : List A → A → ℕ → Option CertFault) (xs : List A) (count : ℕ) (p : Place) → xs ≡ [] → items_from by refused xs (count - 0) p ≡ items_from by refused [] count p
-items_begin by refused xs count p e =
-    let same : count - 0 ≡ count = omega arith in
-    ap (λ (n : ℕ). items_from by refused xs n p) same ∙ ap (λ ys. items_from by refused ys count p) e
 
 pub no_cells : cells_of [] ≡ 0
 unfolding cells_of

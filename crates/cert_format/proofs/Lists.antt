@@ -31,7 +31,7 @@ pub formed_ok : {A : Type 0} (d : Result (A × Place) Place) (z : A × Place) �
 formed_ok {A} (Ok x) z e = ap (λ (y : A × Place). Ok y) (ok_is x z e)
 formed_ok {A} (Err q) z e = absurd (err_ok _ z e)
 
-unless_ok : {X : Type 0} (o : Option CertFault) (x y : X) → unless o x ≡ Ok y → (o ≡ None) × (x ≡ y)
+pub unless_ok : {X : Type 0} (o : Option CertFault) (x y : X) → unless o x ≡ Ok y → (o ≡ None) × (x ≡ y)
 unless_ok None x y e = (refl, ok_is x y e)
 unless_ok (Some f) x y e = absurd (err_ok f y e)
 

@@ -109,6 +109,20 @@ unless (Some f) x = Err f
 abbrev pub with_item : {A : Type 0} → (List A → A → ℕ → Option CertFault) → List A → A → ℕ → Result (List A) CertFault
 with_item refused xs x at = unless (refused xs x at) (xs ++ x ∷ [])
 
+-- what was found in a line at this offset
+abbrev pub found_at : {A : Type 0} → Option A → ℕ → Result A CertFault
+found_at None at = Err (fault.Malformed at)
+found_at (Some x) at = Ok x
+
+-- the items before and that of a line's text at this offset
+abbrev pub with_text : {A : Type 0} → (ℕ → List ℕ → Option A) → (List A → A → ℕ → Option CertFault) → List A → List ℕ → ℕ → Result (List A) CertFault
+with_text by refused xs text at = then_at (found_at (by (length xs) text) at) (λ x. with_item refused xs x at)
+
+-- nodes, and the instances that their lines name by number
+pub record NodesSoFar : Type 0 where
+  pub instances : List Inst
+  pub nodes : Seeds
+
 -- the items before and that of the next line, which is read by the number of those before it
 unfoldable pub longer_at : {A : Type 0} → (ℕ → List ℕ → Option A) → (List A → A → ℕ → Option CertFault) → List A → Place → Result (List A × Place) CertFault
 longer_at by refused xs p = then_at (formed (line_by (by (length xs)) p)) (λ x. then_at (with_item refused xs x.0 p.at) (λ ys. Ok (ys, x.1)))

@@ -2,6 +2,7 @@
 #![tactic(auto)]
 
 pub mod fault;
+mod gathered;
 pub mod laws;
 mod lines;
 mod reading;

@@ -17,8 +17,8 @@ ghost use Rattle.cert_format.specs.Reading.{formed, numbered_in, numbered_by, co
 ghost use Rattle.cert_format.specs.Refusals.{IsDueUnlessMemory};
 
 use crate::fault::CertFault;
+use crate::gathered::{NodeList, read_each};
 use crate::laws::{certificate_texts, claims_keep};
-use crate::lines::{instance_of, node_of};
 use avr_model::device;
 use certificate::{Certificate, Inst, Limit};
 use edge_rules::NodeForm;
@@ -63,22 +63,16 @@ fn numbered(text: &[u8], name: &[u8], most: u64) -> Option<u64>
     }
 }
 
-/// The number of the next line, which is a name and a number.
-fn next_numbered(reader: &LineReader<'_>, name: &[u8], most: u64) -> Option<u64>
-    ensures exact { result ≡ first_by (numbered_by name.now most) reader.now.rest }
-    ensures small { IfSome result (λ n. n ≤ most) }
-{
-    numbered(peek_text(reader)?, name, most)
-}
-
 /// Reads a line that is a name and a number.
 #[tactic(auto, unfolding(line_reading::specs::Reading::line_by))]
 fn read_numbered(reader: &mut LineReader<'_>, name: &[u8], most: u64) -> Result<u64, CertFault>
     ensures exact { Answers (λ n. (n, reader.new)) fault.Memory result (formed (line_by (numbered_by name.now most) reader.old)) }
     ensures small { IfOk result (λ n. n ≤ most) }
 {
-    let found = next_numbered(reader, name, most);
-    let number = take_line(reader, found)?;
+    let Some(text) = peek_text(reader) else {
+        return Err(CertFault::Malformed(reader.offset()));
+    };
+    let number = take_line(reader, numbered(text, name, most))?;
     Ok(number)
 }
 
@@ -111,95 +105,19 @@ fn count_of(text: &[u8]) -> Option<Option<u64>>
     }
 }
 
-/// How many nodes the next line says that there are.
-fn next_count(reader: &LineReader<'_>) -> Option<Option<u64>>
-    ensures exact { result ≡ first_by count_by reader.now.rest }
-    ensures small { IfSome result (λ o. IfSome o (λ n. n ≤ most_nodes)) }
-{
-    count_of(peek_text(reader)?)
-}
-
 /// Reads how many nodes there are.
 #[tactic(auto, unfolding(line_reading::specs::Reading::line_by))]
 fn read_count(reader: &mut LineReader<'_>) -> Result<u64, CertFault>
     ensures exact { Answers (λ n. (n, reader.new)) fault.Memory result (limited (formed (line_by count_by reader.old))) }
     ensures small { IfOk result (λ n. n ≤ most_nodes) }
 {
-    let found = next_count(reader);
-    match take_line(reader, found)? {
+    let Some(text) = peek_text(reader) else {
+        return Err(CertFault::Malformed(reader.offset()));
+    };
+    match take_line(reader, count_of(text))? {
         Some(count) => Ok(count),
         None => Err(CertFault::Limit(Limit::Nodes)),
     }
-}
-
-/// The assumption of the next line.
-fn next_entry(alloc: Global, reader: &LineReader<'_>) -> Result<Option<Entry>, AllocError>
-    ensures exact { IfOk result (λ o. o ≡ first_by entry_by reader.now.rest) }
-    ensures formed { IfOk result (λ o. IfSome o (λ e. entries.is_entry e ≡ true)) }
-{
-    let Some(text) = peek_text(reader) else {
-        return Ok(None);
-    };
-    entry_of(alloc, text)
-}
-
-/// Reads an assumption.
-#[tactic(auto, unfolding(line_reading::specs::Reading::line_by))]
-fn read_line(alloc: Global, reader: &mut LineReader<'_>) -> Result<Entry, CertFault>
-    ensures exact { Answers (λ e. (e, reader.new)) fault.Memory result (formed (line_by entry_by reader.old)) }
-    ensures formed { IfOk result (λ e. entries.is_entry e ≡ true) }
-{
-    let found = next_entry(alloc, reader)?;
-    let entry = take_line(reader, found)?;
-    Ok(entry)
-}
-
-/// Appends an assumption of a line at this offset.
-fn append_entry(list: &mut Assumptions, entry: Entry, at: usize) -> Result<(), CertFault>
-    requires room { length list.old < entries.most_entries }
-    requires formed { entries.is_entry entry ≡ true }
-    ensures exact { Answers (λ u. list.new) fault.Memory result (with_item refused_entry list.old entry at) }
-    ensures longer { IfOk result (λ u. length list.new ≡ length list.old + 1) }
-{
-    match list.push(entry) {
-        Ok(()) => Ok(()),
-        Err(AssumeFault::Order) => Err(CertFault::Order(at)),
-        Err(AssumeFault::Memory) => Err(CertFault::Memory),
-    }
-}
-
-/// Reads an assumption behind those before it.
-#[tactic(auto, unfolding(crate::specs::Reading::longer_at))]
-fn read_entry(
-    alloc: Global,
-    reader: &mut LineReader<'_>,
-    list: &mut Assumptions,
-) -> Result<(), CertFault>
-    requires { length list.old < entries.most_entries }
-    ensures exact { Answers (λ u. (list.new, reader.new)) fault.Memory result (longer_at (λ at. entry_by) refused_entry list.old reader.old) }
-    ensures longer { IfOk result (λ u. length list.new ≡ length list.old + 1) }
-{
-    let at = reader.offset();
-    let entry = read_line(alloc, reader)?;
-    append_entry(list, entry, at)
-}
-
-/// Reads so many assumptions.
-fn read_each_entry(
-    alloc: Global,
-    reader: &mut LineReader<'_>,
-    count: u64,
-) -> Result<Assumptions, CertFault>
-    requires { count ≤ entries.most_entries }
-    ensures { Answers (λ a. (a, reader.new)) fault.Memory result (items_from (λ at. entry_by) refused_entry [] count reader.old) }
-{
-    let mut list = Assumptions::empty(alloc);
-    for _ in 0..count {
-        if let Err(fault) = read_entry(alloc, reader, &mut list) {
-            return Err(fault);
-        }
-    }
-    Ok(list)
 }
 
 /// Reads the number of assumptions and their lines.
@@ -208,73 +126,8 @@ fn read_entries(alloc: Global, reader: &mut LineReader<'_>) -> Result<Assumption
     ensures { Answers (λ a. (a, reader.new)) fault.Memory result (entries_at reader.old) }
 {
     let count = read_numbered(reader, b"assume", MOST_ENTRIES)?;
-    read_each_entry(alloc, reader, count)
-}
-
-/// Whether an instance is above the last one.
-fn is_inst_above(instances: &[Inst], instance: &Inst) -> bool
-    ensures { result ≡ is_inst_above (last_in instances.now) instance.now }
-{
-    match instances.last() {
-        Some(last) => last.key.cmp(&instance.key).is_lt(),
-        None => true,
-    }
-}
-
-/// The instance of the next line.
-fn next_instance(reader: &LineReader<'_>) -> Option<Inst>
-    ensures { result ≡ first_by inst_by reader.now.rest }
-{
-    instance_of(peek_text(reader)?)
-}
-
-/// Reads an instance by itself.
-#[tactic(auto, unfolding(line_reading::specs::Reading::line_by))]
-fn read_inst_line(reader: &mut LineReader<'_>) -> Result<Inst, CertFault>
-    ensures { Answers (λ x. (x, reader.new)) fault.Memory result (formed (line_by inst_by reader.old)) }
-{
-    let found = next_instance(reader);
-    let instance = take_line(reader, found)?;
-    Ok(instance)
-}
-
-/// Appends an instance of a line at this offset.
-fn append_instance(list: &mut Vec<Inst>, instance: Inst, at: usize) -> Result<(), CertFault>
-    ensures { Answers (λ u. list.new.items) fault.Memory result (with_item refused_inst list.old.items instance at) }
-{
-    if !is_inst_above(list, &instance) {
-        return Err(CertFault::Order(at));
-    }
-    match list.push(instance) {
-        Ok(()) => Ok(()),
-        Err(_) => Err(CertFault::Memory),
-    }
-}
-
-/// Reads an instance behind those before it.
-#[tactic(auto, unfolding(crate::specs::Reading::longer_at))]
-fn read_instance(reader: &mut LineReader<'_>, list: &mut Vec<Inst>) -> Result<(), CertFault>
-    ensures { Answers (λ u. (list.new.items, reader.new)) fault.Memory result (longer_at (λ at. inst_by) refused_inst list.old.items reader.old) }
-{
-    let at = reader.offset();
-    let instance = read_inst_line(reader)?;
-    append_instance(list, instance, at)
-}
-
-/// Reads so many instances.
-fn read_each_instance(
-    alloc: Global,
-    reader: &mut LineReader<'_>,
-    count: u64,
-) -> Result<Vec<Inst>, CertFault>
-    ensures { Answers (λ v. (v.items, reader.new)) fault.Memory result (items_from (λ at. inst_by) refused_inst [] count reader.old) }
-{
-    let mut list = Vec::new(alloc);
-    for _ in 0..count {
-        if let Err(fault) = read_instance(reader, &mut list) {
-            return Err(fault);
-        }
-    }
+    let mut list = Assumptions::empty(alloc);
+    read_each(alloc, reader, &mut list, count)?;
     Ok(list)
 }
 
@@ -284,116 +137,8 @@ fn read_instances(alloc: Global, reader: &mut LineReader<'_>) -> Result<Vec<Inst
     ensures { Answers (λ v. (v.items, reader.new)) fault.Memory result (insts_at reader.old) }
 {
     let count = read_numbered(reader, b"instances", MOST_INSTANCES)?;
-    read_each_instance(alloc, reader, count)
-}
-
-/// Whether a node is above the last one.
-fn is_node_above(nodes: &[(NodeKey, NodeForm)], key: &NodeKey) -> bool
-    ensures { result ≡ is_node_above (last_in nodes.now) key.now }
-{
-    match nodes.last() {
-        Some(last) => last.0.cmp(key).is_lt(),
-        None => true,
-    }
-}
-
-/// The node of the next line, which has the number `at`.
-fn next_node(
-    alloc: Global,
-    reader: &LineReader<'_>,
-    instances: &[Inst],
-    at: usize,
-) -> Result<Option<(NodeKey, NodeForm)>, AllocError>
-    ensures exact { IfOk result (λ o. o ≡ first_by (node_by instances.now at) reader.now.rest) }
-    ensures small { IfOk result (λ o. IfSome o (λ n. offset_of n.0.sp ≤ model.SIZE)) }
-{
-    let Some(text) = peek_text(reader) else {
-        return Ok(None);
-    };
-    node_of(alloc, text, instances, at)
-}
-
-/// Reads the node of the number `at` by itself.
-#[tactic(auto, unfolding(line_reading::specs::Reading::line_by))]
-fn read_node_line(
-    alloc: Global,
-    reader: &mut LineReader<'_>,
-    instances: &[Inst],
-    at: usize,
-) -> Result<(NodeKey, NodeForm), CertFault>
-    ensures exact { Answers (λ n. (n, reader.new)) fault.Memory result (formed (line_by (node_by instances.now at) reader.old)) }
-    ensures small { IfOk result (λ n. offset_of n.0.sp ≤ model.SIZE) }
-{
-    let found = next_node(alloc, reader, instances, at)?;
-    let node = take_line(reader, found)?;
-    Ok(node)
-}
-
-/// Appends a node of a line at this offset to those with so many cells. Gives how many they then have.
-#[tactic(auto, using(crate::proofs::Items::cells_more))]
-fn append_node(
-    list: &mut Vec<(NodeKey, NodeForm)>,
-    cells: u32,
-    node: (NodeKey, NodeForm),
-    at: usize,
-) -> Result<u32, CertFault>
-    requires cells { cells ≡ cells_of (node_keys list.old.items) }
-    requires few { cells ≤ most_cells }
-    requires small { offset_of node.0.sp ≤ model.SIZE }
-    ensures exact { Answers (λ n. list.new.items) fault.Memory result (with_item refused_node list.old.items node at) }
-    ensures cells { IfOk result (λ n. n ≡ cells_of (node_keys list.new.items)) }
-    ensures few { IfOk result (λ n. n ≤ most_cells) }
-{
-    if !is_node_above(list, &node.0) {
-        return Err(CertFault::Order(at));
-    }
-    let more = cells + (1 + u32::from(node.0.offset()));
-    if more > MOST_CELLS {
-        return Err(CertFault::Limit(Limit::Cells));
-    }
-    match list.push(node) {
-        Ok(()) => Ok(more),
-        Err(_) => Err(CertFault::Memory),
-    }
-}
-
-/// Reads a node behind those before it, with so many cells. Gives how many they then have.
-#[tactic(auto, unfolding(crate::specs::Reading::longer_at))]
-fn read_node(
-    alloc: Global,
-    reader: &mut LineReader<'_>,
-    instances: &[Inst],
-    list: &mut Vec<(NodeKey, NodeForm)>,
-    cells: u32,
-) -> Result<u32, CertFault>
-    requires cells { cells ≡ cells_of (node_keys list.old.items) }
-    requires few { cells ≤ most_cells }
-    ensures exact { Answers (λ n. (list.new.items, reader.new)) fault.Memory result (longer_at (node_by instances.now) refused_node list.old.items reader.old) }
-    ensures cells { IfOk result (λ n. n ≡ cells_of (node_keys list.new.items)) }
-    ensures few { IfOk result (λ n. n ≤ most_cells) }
-{
-    let at = reader.offset();
-    let node = read_node_line(alloc, reader, instances, list.len())?;
-    append_node(list, cells, node, at)
-}
-
-/// Reads so many nodes.
-fn read_each_node(
-    alloc: Global,
-    reader: &mut LineReader<'_>,
-    instances: &[Inst],
-    count: u64,
-) -> Result<Vec<(NodeKey, NodeForm)>, CertFault>
-    ensures { Answers (λ v. (v.items, reader.new)) fault.Memory result (items_from (node_by instances.now) refused_node [] count reader.old) }
-{
     let mut list = Vec::new(alloc);
-    let mut cells = 0;
-    for _ in 0..count {
-        match read_node(alloc, reader, instances, &mut list, cells) {
-            Ok(more) => cells = more,
-            Err(fault) => return Err(fault),
-        }
-    }
+    read_each(alloc, reader, &mut list, count)?;
     Ok(list)
 }
 
@@ -407,15 +152,16 @@ fn read_nodes(
     ensures { Answers (λ v. (v.items, reader.new)) fault.Memory result (nodes_at instances.now reader.old) }
 {
     let count = read_count(reader)?;
-    read_each_node(alloc, reader, instances, count)
+    let mut list = NodeList::empty(alloc, instances);
+    read_each(alloc, reader, &mut list, count)?;
+    Ok(list.into_nodes())
 }
 
-/// Whether the next line says that a schedule follows.
+/// Whether a line says that a schedule follows.
 #[tactic(auto, unfolding(crate::specs::Reading::ending_by))]
-fn next_ending(reader: &LineReader<'_>) -> Option<bool>
-    ensures { result ≡ first_by ending_by reader.now.rest }
+fn ending_of(text: &[u8]) -> Option<bool>
+    ensures { result ≡ ending_by text.now }
 {
-    let text = peek_text(reader)?;
     if text == b"witness open".as_slice() {
         Some(false)
     } else if text == b"witness attained".as_slice() {
@@ -430,8 +176,10 @@ fn next_ending(reader: &LineReader<'_>) -> Option<bool>
 fn read_ending(reader: &mut LineReader<'_>) -> Result<bool, CertFault>
     ensures { Answers (λ b. (b, reader.new)) fault.Memory result (formed (line_by ending_by reader.old)) }
 {
-    let found = next_ending(reader);
-    let ending = take_line(reader, found)?;
+    let Some(text) = peek_text(reader) else {
+        return Err(CertFault::Malformed(reader.offset()));
+    };
+    let ending = take_line(reader, ending_of(text))?;
     Ok(ending)
 }
 

@@ -1,0 +1,247 @@
+//! The lists of a certificate: one reader of so many lines, and what each list does with a line.
+
+ghost use Rattle.std.specs.Prelude.{◌≡◌, ◌≤◌, ◌<◌, ◌+◌, ℕ, List, [], Option, length};
+ghost use Rattle.avr_model.specs.State as model;
+ghost use Rattle.sb_base.specs.Answers.{Answers};
+ghost use Rattle.mask_states.specs.Keys.{offset_of};
+ghost use Rattle.cert_format.specs.declared.fault.CertFault.{CertFault};
+ghost use Rattle.cert_format.specs.declared.fault.CertFault.TheVariants as fault;
+ghost use Rattle.cert_format.specs.Reading.{last_in, is_inst_above, is_node_above, refused_node, with_item, with_text, longer_at, items_from};
+
+use crate::fault::CertFault;
+use crate::lines::{instance_of, node_of};
+use avr_model::assumption::Entry;
+use certificate::{Inst, Limit};
+use edge_rules::NodeForm;
+use indirect_targets::entry_of;
+use line_reading::{pass_line, peek_text};
+use mask_states::NodeKey;
+use sb_base::LineReader;
+use std::alloc::Global;
+use std::marker::Model;
+use vector_table::{AssumeFault, Assumptions};
+
+/// The most cells.
+const MOST_CELLS: u32 = 8_388_608;
+
+/// A list that is read line by line.
+pub(crate) trait Gathered {
+    type Item;
+
+    /// The items so far.
+    ghost items: { Self → List Self.Item };
+
+    /// The most items.
+    ghost most: { ℕ };
+
+    /// The item of a line's text, by the number of items before it.
+    ghost by: { Self → ℕ → List ℕ → Option Self.Item };
+
+    /// Why an item of a line at an offset is refused behind those before it, if it is.
+    ghost refused: { List Self.Item → Self.Item → ℕ → Option CertFault };
+
+    /// Appends the item of a line's text at this offset.
+    fn add(&mut self, alloc: Global, text: &[u8], at: usize) -> Result<(), CertFault>
+        requires { length (items self.old) < most }
+        ensures exact { Answers (λ u. items self.new) fault.Memory result (with_text (by self.old) refused (items self.old) text.now at) }
+        ensures same { by self.new ≡ by self.old };
+}
+
+/// Reads the item of the next line behind those before it.
+#[tactic(auto, unfolding(crate::specs::Reading::longer_at, line_reading::specs::Reading::line_by))]
+fn read_next<G: Gathered>(
+    alloc: Global,
+    reader: &mut LineReader<'_>,
+    list: &mut G,
+) -> Result<(), CertFault>
+    requires { length (G.items list.old) < G.most }
+    ensures exact { Answers (λ u. (G.items list.new, reader.new)) fault.Memory result (longer_at (G.by list.old) G.refused (G.items list.old) reader.old) }
+    ensures same { G.by list.new ≡ G.by list.old }
+{
+    let at = reader.offset();
+    let Some(text) = peek_text(reader) else {
+        return Err(CertFault::Malformed(at));
+    };
+    list.add(alloc, text, at)?;
+    pass_line(reader);
+    Ok(())
+}
+
+/// Reads so many items behind those before them.
+pub(crate) fn read_each<G: Gathered>(
+    alloc: Global,
+    reader: &mut LineReader<'_>,
+    list: &mut G,
+    count: u64,
+) -> Result<(), CertFault>
+    requires { length (G.items list.old) + count ≤ G.most }
+    ensures { Answers (λ u. (G.items list.new, reader.new)) fault.Memory result (items_from (G.by list.old) G.refused (G.items list.old) count reader.old) }
+{
+    for _ in 0..count {
+        if let Err(fault) = read_next(alloc, reader, list) {
+            return Err(fault);
+        }
+    }
+    Ok(())
+}
+
+impl Gathered for Assumptions {
+    type Item = Entry;
+
+    ghost use Rattle.vector_table.specs.Entries.{most_entries};
+    ghost use Rattle.cert_format.specs.Reading.{entry_by, refused_entry};
+
+    ghost items = { λ list. list };
+
+    ghost most = { most_entries };
+
+    ghost by = { λ list at. entry_by };
+
+    ghost refused = { refused_entry };
+
+    fn add(&mut self, alloc: Global, text: &[u8], at: usize) -> Result<(), CertFault> {
+        let Some(entry) = entry_of(alloc, text)? else {
+            return Err(CertFault::Malformed(at));
+        };
+        match self.push(entry) {
+            Ok(()) => Ok(()),
+            Err(AssumeFault::Order) => Err(CertFault::Order(at)),
+            Err(AssumeFault::Memory) => Err(CertFault::Memory),
+        }
+    }
+}
+
+/// Whether an instance is above the last one.
+fn is_inst_above(instances: &[Inst], instance: &Inst) -> bool
+    ensures { result ≡ is_inst_above (last_in instances.now) instance.now }
+{
+    match instances.last() {
+        Some(last) => last.key.cmp(&instance.key).is_lt(),
+        None => true,
+    }
+}
+
+impl Gathered for Vec<Inst> {
+    type Item = Inst;
+
+    ghost use Rattle.certificate.specs.Claims.{most_instances};
+    ghost use Rattle.cert_format.specs.Reading.{inst_by, refused_inst};
+
+    ghost items = { λ list. list.items };
+
+    ghost most = { most_instances };
+
+    ghost by = { λ list at. inst_by };
+
+    ghost refused = { refused_inst };
+
+    fn add(&mut self, _alloc: Global, text: &[u8], at: usize) -> Result<(), CertFault> {
+        let Some(instance) = instance_of(text) else {
+            return Err(CertFault::Malformed(at));
+        };
+        if !is_inst_above(self, &instance) {
+            return Err(CertFault::Order(at));
+        }
+        match self.push(instance) {
+            Ok(()) => Ok(()),
+            Err(_) => Err(CertFault::Memory),
+        }
+    }
+}
+
+/// Nodes with the instances that their lines name by number. It is seen as both.
+#[derive(Drop)]
+pub(crate) struct NodeList<'a> {
+    instances: &'a [Inst],
+    nodes: Vec<(NodeKey, NodeForm)>,
+    cells: u32,
+}
+
+impl<'a> Model for NodeList<'a> {
+    ghost use Rattle.std.specs.Prelude.{◌≡◌, ◌≤◌};
+    ghost use Rattle.certificate.specs.Claims.{most_cells, cells_of, node_keys};
+    ghost use Rattle.cert_format.specs.Reading.{NodesSoFar};
+
+    ghost Value = { NodesSoFar };
+
+    ghost view = { λ l. record { instances = l.instances.now; nodes = l.nodes.items } };
+
+    ghost invariant = { λ l. (l.cells ≡ cells_of (node_keys l.nodes.items)) × (l.cells ≤ most_cells) };
+}
+
+/// Whether a node is above the last one.
+fn is_node_above(nodes: &[(NodeKey, NodeForm)], key: &NodeKey) -> bool
+    ensures { result ≡ is_node_above (last_in nodes.now) key.now }
+{
+    match nodes.last() {
+        Some(last) => last.0.cmp(key).is_lt(),
+        None => true,
+    }
+}
+
+impl<'a> NodeList<'a> {
+    /// No nodes.
+    #[tactic(auto, using(crate::proofs::Items::no_cells))]
+    pub(crate) fn empty(alloc: Global, instances: &'a [Inst]) -> NodeList<'a>
+        ensures { result ≡ record { instances = instances.now; nodes = [] } }
+    {
+        NodeList {
+            instances,
+            nodes: Vec::new(alloc),
+            cells: 0,
+        }
+    }
+
+    /// The nodes.
+    pub(crate) fn into_nodes(self) -> Vec<(NodeKey, NodeForm)>
+        ensures { result.items ≡ self.entry.nodes }
+    {
+        self.nodes
+    }
+
+    /// Appends a node of a line at this offset.
+    #[tactic(auto, using(crate::proofs::Items::cells_more))]
+    fn append(&mut self, node: (NodeKey, NodeForm), at: usize) -> Result<(), CertFault>
+        requires { offset_of node.0.sp ≤ model.SIZE }
+        ensures exact { Answers (λ u. self.new.nodes) fault.Memory result (with_item refused_node self.old.nodes node at) }
+        ensures same { self.new.instances ≡ self.old.instances }
+    {
+        if !is_node_above(&self.nodes, &node.0) {
+            return Err(CertFault::Order(at));
+        }
+        let more = self.cells + (1 + u32::from(node.0.offset()));
+        if more > MOST_CELLS {
+            return Err(CertFault::Limit(Limit::Cells));
+        }
+        match self.nodes.push(node) {
+            Ok(()) => {
+                self.cells = more;
+                Ok(())
+            }
+            Err(_) => Err(CertFault::Memory),
+        }
+    }
+}
+
+impl<'a> Gathered for NodeList<'a> {
+    type Item = (NodeKey, NodeForm);
+
+    ghost use Rattle.certificate.specs.Claims.{most_nodes};
+    ghost use Rattle.cert_format.specs.Reading.{node_by, refused_node};
+
+    ghost items = { λ list. list.nodes };
+
+    ghost most = { most_nodes };
+
+    ghost by = { λ list. node_by list.instances };
+
+    ghost refused = { refused_node };
+
+    fn add(&mut self, alloc: Global, text: &[u8], at: usize) -> Result<(), CertFault> {
+        let number = self.nodes.len();
+        match node_of(alloc, text, self.instances, number)? {
+            Some(node) => self.append(node, at),
+            None => Err(CertFault::Malformed(at)),
+        }
+    }
+}
