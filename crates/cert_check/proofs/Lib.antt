@@ -5,6 +5,5 @@ pub mod Covering
 pub mod Passing
 pub mod Asking
 pub mod Verdicts
-pub mod Sampled
 pub mod One
 pub mod AllLaws

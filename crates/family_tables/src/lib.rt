@@ -10,6 +10,8 @@ mod nesting;
 #[cfg(test)]
 mod notes;
 #[cfg(test)]
+mod seeds;
+#[cfg(test)]
 mod solving;
 #[cfg(test)]
 mod trials;

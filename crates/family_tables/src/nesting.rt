@@ -1,8 +1,8 @@
 //! Worked graphs: ranks, needs, chains and named instances as one finds them by hand.
 
-use nesting_bound::{ComposeFault, Entered, Graph, GraphInst, Link, Place, chain, compose};
 use avr_model::listed::Listed;
 use mask_states::{EdgeKind, InstKey, Kind};
+use nesting_bound::{ComposeFault, Entered, Graph, GraphInst, Link, Place, chain, compose};
 use std::alloc::{AllocError, Global};
 use vector_table::Masks;
 
@@ -44,7 +44,8 @@ fn kind(number: u8) -> EdgeKind {
     }
 }
 
-fn key(number: u8, entry: u16) -> InstKey {
+/// The instance of this entry that is entered so.
+pub(crate) fn key(number: u8, entry: u16) -> InstKey {
     let kind = match number {
         NONE => Kind::Root,
         CALL => Kind::Call,

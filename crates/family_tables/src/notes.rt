@@ -1,12 +1,14 @@
 //! Worked nestings: what each tells as one finds it by hand, whether it is weighed once at the end or after each note.
 
 ghost use Rattle.std.specs.Prelude.{◌≤◌};
+ghost use Rattle.avr_model.specs.State.{SIZE};
 ghost use Rattle.mask_states.specs.Keys.{offset_of};
 
+use crate::nesting::key;
+use avr_model::device::SIZE;
 use instance_nesting::{Nesting, Weight};
-use mask_states::{InstKey, Kind, NodeKey, SpForm};
+use mask_states::{NodeKey, SpForm};
 use std::alloc::{AllocError, Global};
-use vector_table::Masks;
 
 /// How an instance is entered, and its entry: 0 is the root, 1 a call, and any other number a vector.
 type Inst = (u8, u16);
@@ -21,28 +23,13 @@ enum Note {
     Entrance(Inst, u16, Inst),
 }
 
-fn key(inst: Inst) -> InstKey {
-    let (by, entry) = inst;
-    let kind = match by {
-        0 => Kind::Root,
-        1 => Kind::Call,
-        _ => Kind::Vector(by),
-    };
-    InstKey {
-        kind,
-        entry,
-        masks: Masks::none(),
-        i: false,
-    }
-}
-
 fn node(inst: Inst, offset: u16) -> NodeKey
-    ensures { offset_of result.sp ≤ 2048 }
+    ensures { offset_of result.sp ≤ SIZE }
 {
-    let sp = SpForm::Closed(offset.min(2_048));
+    let sp = SpForm::Closed(offset.min(SIZE));
     NodeKey {
         sp,
-        ..NodeKey::entry(&key(inst))
+        ..NodeKey::entry(&key(inst.0, inst.1))
     }
 }
 
@@ -50,7 +37,7 @@ fn take(nesting: &mut Nesting, note: Note) -> Result<(), AllocError> {
     match note {
         Note::Node(inst, offset) => nesting.note_node(&node(inst, offset)),
         Note::Entrance(from, offset, into) => {
-            nesting.note_entrance(&node(from, offset), &key(into))
+            nesting.note_entrance(&node(from, offset), &key(into.0, into.1))
         }
     }
 }

@@ -1,10 +1,10 @@
 //! Firmwares with the bound of their least certificate, or why they have none, as worked by hand.
 
-use fixpoint::solve;
 use certificate::Limit;
+use fixpoint::solve;
 use flash_image::Flash;
 use round_rules::Refusal;
-use std::alloc::{AllocError, Global};
+use std::alloc::Global;
 use std::test::Fail;
 use vector_table::Assumptions;
 
@@ -17,17 +17,17 @@ enum Due {
 /// A firmware's words, the steps that the rounds may take, and what is due.
 struct Row(&'static [u16], Option<u64>, Due);
 
-fn bytes_of(alloc: Global, words: &[u16]) -> Result<Vec<u8>, AllocError> {
+/// Flash that begins with these words, and is erased from there on.
+pub(crate) fn flash_of(alloc: Global, words: &[u16]) -> Result<Flash, Fail> {
     let mut bytes = Vec::new(alloc);
     for word in words {
         bytes.extend_from_slice(&word.to_le_bytes())?;
     }
-    Ok(bytes)
+    Ok(Flash::from_raw(alloc, &bytes)?)
 }
 
 fn is_row(alloc: Global, row: &Row) -> Result<bool, Fail> {
-    let bytes = bytes_of(alloc, row.0)?;
-    let flash = Flash::from_raw(alloc, &bytes)?;
+    let flash = flash_of(alloc, row.0)?;
     match (
         solve(alloc, &flash, &Assumptions::empty(alloc), row.1),
         &row.2,

@@ -1,11 +1,12 @@
 //! Trials of small firmwares.
 
-use witness_search::{Waypoint, first_trial};
-use avr_machine::{Flash, Masks, Stop};
-use std::alloc::{AllocError, Global};
+use crate::solving::flash_of;
+use avr_machine::{Masks, Stop};
+use std::alloc::Global;
 use std::test::Fail;
 use vector_table::Assumptions;
 use witness_replay::{ReplayReport, replay};
+use witness_search::{Waypoint, first_trial};
 
 /// The words from 0 on, the depth at which vector 2 is due at word 7, and the bound; the fill byte and the steps of the schedule.
 type Row = ([u16; 7], u16, u16, Option<(u8, u32)>);
@@ -32,16 +33,7 @@ static ROWS: [Row; 5] = [
     ([E, E, E, E, E, E, E], 0, 1, None),
 ];
 
-/// Flash that begins with these words.
-fn flash_of(alloc: Global, words: &[u16; 7]) -> Result<Flash, AllocError> {
-    let mut flash = Flash::erased(alloc)?;
-    for (a, word) in words.iter().enumerate() {
-        flash.place(2 * a as u16, &word.to_le_bytes());
-    }
-    Ok(flash)
-}
-
-fn is_row(alloc: Global, row: &Row) -> Result<bool, AllocError> {
+fn is_row(alloc: Global, row: &Row) -> Result<bool, Fail> {
     let (words, depth, bound, due) = row;
     let flash = flash_of(alloc, words)?;
     let assumptions = Assumptions::empty(alloc);
@@ -68,7 +60,7 @@ fn is_row(alloc: Global, row: &Row) -> Result<bool, AllocError> {
 }
 
 #[test]
-fn the_first_trial_that_reaches_the_bound_is_found(rt: HostRuntime) -> Result<(), AllocError> {
+fn the_first_trial_that_reaches_the_bound_is_found(rt: HostRuntime) -> Result<(), Fail> {
     let alloc = rt.alloc();
     for (at, row) in ROWS.iter().enumerate() {
         assert!(rt; is_row(alloc, row)?, "row {at}");

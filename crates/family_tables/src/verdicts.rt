@@ -2,10 +2,10 @@
 
 ghost use Rattle.std.specs.Prelude.{◌≡◌, IfOk};
 ghost use Rattle.edge_rules.specs.Examples.{callee};
-ghost use Rattle.cert_check.specs.Examples.{form_by, nodes_by, insts_by};
+ghost use Rattle.family_tables.specs.Examples.{form_by, nodes_by, insts_by};
 
-use cert_check::{Reason, Verdict, is_attained, judge};
 use abs_state::AbsState;
+use cert_check::{Reason, Verdict, is_attained, judge};
 use certificate::{Certificate, Inst, NodeForm};
 use flash_image::Flash;
 use mask_states::{InstKey, Kind, NodeKey};

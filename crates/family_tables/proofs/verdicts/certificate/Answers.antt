@@ -1,6 +1,6 @@
 use Rattle.std.proofs.Common.{◌≤◌, ◌<◌, arith}
 use Rattle.avr_model.specs.State.{SIZE}
-use Rattle.cert_check.proofs.Sampled.{sample_claim}
+use Rattle.family_tables.proofs.Sampled.{sample_claim}
 use Rattle.family_tables.proofs.verdicts.certificate.Goals as goal
 
 pub build-requires : goal.build-requires

@@ -16,7 +16,7 @@ use Rattle.edge_rules.specs.Expansion.{Seeds}
 use Rattle.edge_laws.proofs.AllLaws.{edges_lead_to_nodes}
 use Rattle.certificate.specs.declared.instance.Inst.{Inst}
 use Rattle.certificate.specs.Claims.{IsClaim, FitsAt, cells_of}
-use Rattle.cert_check.specs.Examples.{behind, form_by, nodes_by, insts_by}
+use Rattle.family_tables.specs.Examples.{behind, form_by, nodes_by, insts_by}
 
 no_entries : AreEntries []
 no_entries = record { in_order = refl; each = search rules; few = omega arith }

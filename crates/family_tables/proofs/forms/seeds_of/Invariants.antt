@@ -1,6 +1,0 @@
-use Rattle.edge_rules.specs.Expansion.{AreSeeds}
-use Rattle.expansion_laws.specs.Laws.{AreAscending}
-use Rattle.family_tables.proofs.forms.seeds_of.Given as goal
-
-abbrev pub invariant-loop-at : goal.invariant-loop-at
-invariant-loop-at l = AreSeeds l.items.items × AreAscending l.items.items

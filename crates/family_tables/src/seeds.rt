@@ -1,0 +1,156 @@
+//! Families of small firmwares, node by node.
+
+ghost use Rattle.std.specs.Prelude.{ℕ, ◌≡◌, ◌<◌, length, slice_get, Some, IsTrue, IfOk, IfSome, OnOk};
+ghost use Rattle.std.specs.declared.cmp.Ordering.TheVariants.{Less};
+ghost use Rattle.mask_states.specs.declared.keys.NodeKey as node_key;
+ghost use Rattle.mask_states.specs.declared.keys.SpForm.TheVariants.{Closed};
+ghost use Rattle.mask_states.specs.Order.{node_cmp};
+ghost use Rattle.edge_rules.specs.declared.seeded.NodeForm as node_form;
+ghost use Rattle.edge_rules.specs.Expansion.{AreSeeds};
+ghost use Rattle.expansion_laws.specs.Laws.{AreAscending};
+
+use abs_state::AbsState;
+use avr_model::device::WORDS;
+use call_graph::{NodeForm, Seed, Seeded};
+use mask_states::{InstKey, Kind, NodeKey, SpForm};
+use std::alloc::{AllocError, Global};
+use vector_table::Masks;
+
+/// Nodes in a list.
+#[derive(Drop)]
+pub(crate) struct SeedList {
+    pub items: Vec<(NodeKey, NodeForm)>,
+}
+
+impl Seeded for SeedList {
+    ghost nodes = { λ s. s.items.items };
+
+    fn count(&self) -> usize {
+        self.items.len()
+    }
+
+    fn key(&self, at: usize) -> &NodeKey {
+        &self.items[at].0
+    }
+
+    fn seed(&self, at: usize) -> Seed<'_> {
+        match &self.items[at].1 {
+            NodeForm::State(state) => Seed::State(state),
+            NodeForm::From(from) => Seed::From(*from),
+        }
+    }
+}
+
+/// A node: how and where its instance is entered, whether vectors 2 and 7 are enabled, its word, and the number of the node that it
+/// comes from with the bytes on the stack; with none there are none, and its state is that at reset.
+#[derive(Clone, Copy)]
+pub(crate) struct Plan(pub Kind, pub u16, pub bool, pub u16, pub Option<(u32, u16)>);
+
+/// The node's key; I is on in the root where vectors are enabled.
+fn key_of(plan: &Plan, offset: u16) -> NodeKey
+    ensures { result.sp ≡ Closed offset }
+{
+    let masks = Masks::none().with(2, plan.2).with(7, plan.2);
+    let is_root = plan.0 == Kind::Root;
+    NodeKey {
+        inst: InstKey {
+            kind: plan.0,
+            entry: plan.1,
+            masks: if is_root { Masks::none() } else { masks },
+            i: false,
+        },
+        pc: plan.3,
+        masks,
+        i: plan.2 && is_root,
+        delay: false,
+        sp: SpForm::Closed(offset),
+    }
+}
+
+/// Whether the key of this number is below the other.
+fn is_before(items: &[(NodeKey, NodeForm)], at: usize, key: &NodeKey) -> bool
+    requires { at < length items.now }
+    ensures { (e : node_key.NodeKey × node_form.NodeForm) → slice_get items.now at ≡ Some e → IsTrue result → node_cmp e.0 key.now ≡ Less }
+{
+    items[at].0.cmp(key).is_lt()
+}
+
+/// Whether all keys are below this one, and there is room for it.
+fn may_follow(items: &[(NodeKey, NodeForm)], key: &NodeKey) -> bool
+    ensures room { IsTrue result → length items.now < 65536 }
+    ensures below { IsTrue result → (at : ℕ) (e : node_key.NodeKey × node_form.NodeForm) → slice_get items.now at ≡ Some e → node_cmp e.0 key.now ≡ Less }
+{
+    if items.len() >= 65536 {
+        return false;
+    }
+    for at in 0..items.len() {
+        if !is_before(items, at, key) {
+            return false;
+        }
+    }
+    true
+}
+
+/// A node with the state at reset, if it may follow.
+fn add_own(
+    alloc: Global,
+    items: &mut Vec<(NodeKey, NodeForm)>,
+    key: NodeKey,
+) -> Result<bool, AllocError>
+    requires closed { key.sp ≡ Closed 0 }
+    requires seeds { AreSeeds items.old.items }
+    requires ascending { AreAscending items.old.items }
+    ensures seeds { OnOk result (AreSeeds items.new.items) }
+    ensures ascending { OnOk result (AreAscending items.new.items) }
+{
+    let _ = key.masks.bits();
+    if key.pc >= WORDS || !may_follow(items, &key) {
+        return Ok(false);
+    }
+    items.push((key, NodeForm::State(AbsState::root(alloc))))?;
+    Ok(true)
+}
+
+/// A node that comes from an earlier one, if it may follow.
+fn add_from(
+    items: &mut Vec<(NodeKey, NodeForm)>,
+    key: NodeKey,
+    from: u32,
+) -> Result<bool, AllocError>
+    requires seeds { AreSeeds items.old.items }
+    requires ascending { AreAscending items.old.items }
+    ensures seeds { OnOk result (AreSeeds items.new.items) }
+    ensures ascending { OnOk result (AreAscending items.new.items) }
+{
+    if from as usize >= items.len() || !may_follow(items, &key) {
+        return Ok(false);
+    }
+    items.push((key, NodeForm::From(from)))?;
+    Ok(true)
+}
+
+/// One node more, if it may follow.
+fn add(alloc: Global, items: &mut Vec<(NodeKey, NodeForm)>, plan: &Plan) -> Result<bool, AllocError>
+    requires seeds { AreSeeds items.old.items }
+    requires ascending { AreAscending items.old.items }
+    ensures seeds { OnOk result (AreSeeds items.new.items) }
+    ensures ascending { OnOk result (AreAscending items.new.items) }
+{
+    match plan.4 {
+        None => add_own(alloc, items, key_of(plan, 0)),
+        Some((from, offset)) => add_from(items, key_of(plan, offset), from),
+    }
+}
+
+/// The nodes, if they may stand in this order.
+pub(crate) fn seeds_of(alloc: Global, plans: &[Plan]) -> Result<Option<SeedList>, AllocError>
+    ensures { IfOk result (λ found. IfSome found (λ s. AreSeeds s.items.items × AreAscending s.items.items)) }
+{
+    let mut items = Vec::new(alloc);
+    for at in 0..plans.len() {
+        if !add(alloc, &mut items, &plans[at])? {
+            return Ok(None);
+        }
+    }
+    Ok(Some(SeedList { items }))
+}
