@@ -5,3 +5,4 @@ pub mod Steps
 pub mod Telling
 pub mod Keeping
 pub mod Covering
+pub mod AllLaws

@@ -11,4 +11,4 @@ pub returns-clause-tells : goal.returns-clause-tells
 returns-clause-tells c =
     let least = c.in-Ok.ensures in
     light c.graphs_tell.ensures c.args.graph.now.instances c.in-Ok.composed.ranks c.in-Ok.composed.needs least.ok least.acyclic
-    (omega (arith, c.need-need.ensures, c.if-need-gt2048.false))
+    (omega (arith, c.need-need.ensures))
