@@ -59,6 +59,11 @@ fn write(list: &mut [u32], i: usize, number: u32) {
     }
 }
 
+// The same number for each of so many instances.
+fn numbers(alloc: Global, count: usize, number: u32) -> Result<Vec<u32>, AllocError> {
+    vec![in alloc; number; count]
+}
+
 fn edge(graph: &[GraphInst], visit: Visit) -> Option<Entered> {
     let inst = graph.get(visit.inst as usize)?;
     inst.entered.as_slice().get(visit.edge).copied()
@@ -67,9 +72,9 @@ fn edge(graph: &[GraphInst], visit: Visit) -> Option<Entered> {
 impl Walk {
     fn new(alloc: Global, count: usize) -> Result<Walk, AllocError> {
         Ok(Walk {
-            begun: vec![in alloc; 0; count]?,
-            lowest: vec![in alloc; 0; count]?,
-            component: vec![in alloc; OPEN; count]?,
+            begun: numbers(alloc, count, 0)?,
+            lowest: numbers(alloc, count, 0)?,
+            component: numbers(alloc, count, OPEN)?,
             open: Vec::new(alloc),
             visits: Vec::new(alloc),
             order: Vec::new(alloc),
