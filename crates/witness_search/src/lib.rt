@@ -4,7 +4,8 @@
 
 mod chain;
 pub mod laws;
-mod searching;pub mod trial;
+mod searching;
+pub mod trial;
 pub mod waypoint;
 
 pub use searching::search;
