@@ -1,25 +1,55 @@
 //! The command line as `clap` has it.
 
 ghost use Rattle.std.specs.Prelude.{◌≡◌, IfOk, false};
-ghost use Rattle.clap.specs.Words.{app_of, with_subcommand};
+ghost use Rattle.clap.specs.Words.{app_of, rule_of, with_rule, with_subcommand};
 ghost use Rattle.clap.specs.declared.builder.command.Command.TheViews.{out-Command as fields_of};
-ghost use Rattle.clap_words.specs.Lines.{judging_app, report_app, analyse_app, demo_app, bare_app, line_app};
+ghost use Rattle.clap_words.specs.Lines.{name_rule, value_rule, flag_rule, judging_app, report_app, analyse_app, demo_app, bare_app, line_app};
 
 use clap::{Arg, ArgAction, Command};
 use std::alloc::{AllocError, Global};
+
+/// A name that has to stand there.
+fn name_arg<'a>(alloc: Global, id: &'a str) -> Arg<'a>
+    ensures rule { rule_of result ≡ name_rule id.entry.now }
+    ensures local { result.global ≡ false }
+{
+    Arg::new(alloc, id).required(true)
+}
+
+/// An option that takes the next word.
+fn value_arg<'a>(alloc: Global, id: &'a str) -> Arg<'a>
+    ensures rule { rule_of result ≡ value_rule id.entry.now }
+    ensures local { result.global ≡ false }
+{
+    Arg::new(alloc, id).long(id)
+}
+
+/// An option that takes none.
+fn flag_arg<'a>(alloc: Global, id: &'a str) -> Arg<'a>
+    ensures rule { rule_of result ≡ flag_rule id.entry.now }
+    ensures local { result.global ≡ false }
+{
+    value_arg(alloc, id).action(ArgAction::SetTrue)
+}
+
+/// The command with another argument.
+fn with_arg<'a>(command: Command<'a>, arg: Arg<'a>) -> Result<Command<'a>, AllocError>
+    requires command { (fields_of command).has_globals ≡ false }
+    requires arg { arg.global ≡ false }
+    ensures app { IfOk result (λ c. app_of c ≡ with_rule (app_of command.entry) (rule_of arg.entry)) }
+    ensures local { IfOk result (λ c. (fields_of c).has_globals ≡ false) }
+{
+    command.arg(arg)
+}
 
 /// A command with a firmware and a second file, and maybe an assumption file.
 fn judging<'a>(alloc: Global, name: &'a str) -> Result<Command<'a>, AllocError>
     ensures app { IfOk result (λ c. app_of c ≡ judging_app name.entry.now) }
     ensures local { IfOk result (λ c. (fields_of c).has_globals ≡ false) }
 {
-    let firmware = Arg::new(alloc, "firmware").required(true);
-    let second = Arg::new(alloc, "second").required(true);
-    let assume = Arg::new(alloc, "assume").long("assume");
-    Command::new(alloc, name)
-        .arg(firmware)?
-        .arg(second)?
-        .arg(assume)
+    let mut command = with_arg(Command::new(alloc, name), name_arg(alloc, "firmware"))?;
+    command = with_arg(command, name_arg(alloc, "second"))?;
+    with_arg(command, value_arg(alloc, "assume"))
 }
 
 /// The command `report`, which may give JSON.
@@ -27,10 +57,7 @@ fn report<'a>(alloc: Global) -> Result<Command<'a>, AllocError>
     ensures app { IfOk result (λ c. app_of c ≡ report_app) }
     ensures local { IfOk result (λ c. (fields_of c).has_globals ≡ false) }
 {
-    let json = Arg::new(alloc, "json")
-        .long("json")
-        .action(ArgAction::SetTrue);
-    judging(alloc, "report")?.arg(json)
+    with_arg(judging(alloc, "report")?, flag_arg(alloc, "json"))
 }
 
 /// The command `analyse`, which may be held to a number of rounds.
@@ -38,13 +65,9 @@ fn analyse<'a>(alloc: Global) -> Result<Command<'a>, AllocError>
     ensures app { IfOk result (λ c. app_of c ≡ analyse_app) }
     ensures local { IfOk result (λ c. (fields_of c).has_globals ≡ false) }
 {
-    let firmware = Arg::new(alloc, "firmware").required(true);
-    let assume = Arg::new(alloc, "assume").long("assume");
-    let steps = Arg::new(alloc, "steps").long("steps");
-    Command::new(alloc, "analyse")
-        .arg(firmware)?
-        .arg(assume)?
-        .arg(steps)
+    let mut command = with_arg(Command::new(alloc, "analyse"), name_arg(alloc, "firmware"))?;
+    command = with_arg(command, value_arg(alloc, "assume"))?;
+    with_arg(command, value_arg(alloc, "steps"))
 }
 
 /// The command `demo`.
@@ -52,8 +75,7 @@ fn demo<'a>(alloc: Global) -> Result<Command<'a>, AllocError>
     ensures app { IfOk result (λ c. app_of c ≡ demo_app) }
     ensures local { IfOk result (λ c. (fields_of c).has_globals ≡ false) }
 {
-    let size = Arg::new(alloc, "size").required(true);
-    Command::new(alloc, "demo").arg(size)
+    with_arg(Command::new(alloc, "demo"), name_arg(alloc, "size"))
 }
 
 /// The program without commands, help and version.
