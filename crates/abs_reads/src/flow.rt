@@ -1,6 +1,6 @@
 //! Words that jumps, branches and skips go to, and the conditions that decide.
 
-ghost use Rattle.std.specs.Prelude.{◌≡◌, ◌+◌, ◌<◌, ◌≤◌};
+ghost use Rattle.std.specs.Prelude.{◌≡◌, ◌≤◌};
 ghost use Rattle.avr_model.specs.Assumptions.{lists};
 ghost use Rattle.avr_model.specs.Text as text;
 ghost use Rattle.avr_model.specs.Effects as effects;
@@ -12,10 +12,11 @@ ghost use Rattle.local_rules.specs.Raw as raw;
 ghost use Rattle.local_rules.specs.Reads as reads;
 
 use crate::reads::read_at;
-use abs_rows::registers::bits;
-use abs_rows::transfer::Z;
+use abs_rows::registers::{bits, pair};
+use abs_rows::transfer::base_register;
 use abs_state::AbsState;
 use avr_model::device::WORDS;
+use avr_model::instruction::{Base, Bit, FarDistance, LowPort, NearDistance, Register, Six};
 use bit_domain::{Tri, TriByte};
 use mask_states::NodeKey;
 
@@ -31,10 +32,10 @@ pub fn further(key: &NodeKey, words: u16) -> u16
 }
 
 /// The word at a distance of 12 bits, in two's complement, from the one behind `pc`.
-pub fn far(pc: u16, distance: u16) -> u16
-    requires { distance < 4096 }
+pub fn far(pc: u16, distance: FarDistance) -> u16
     ensures { result ≡ text.far pc distance }
 {
+    let distance = distance.get();
     let words = if distance < 2048 {
         distance
     } else {
@@ -44,10 +45,10 @@ pub fn far(pc: u16, distance: u16) -> u16
 }
 
 /// The word at a distance of 7 bits, in two's complement, from the one behind `pc`.
-pub fn near(pc: u16, distance: u16) -> u16
-    requires { distance < 128 }
+pub fn near(pc: u16, distance: NearDistance) -> u16
     ensures { result ≡ text.near pc distance }
 {
+    let distance = distance.get();
     let words = if distance < 64 {
         distance
     } else {
@@ -57,35 +58,30 @@ pub fn near(pc: u16, distance: u16) -> u16
 }
 
 /// The data address of an I/O address.
-pub fn port(address: u16) -> u16
-    requires { address < 64 }
+pub fn port(address: Six) -> u16
     ensures { result ≡ effects.port address }
 {
-    address + IO_START
+    address.get() + IO_START
 }
 
 /// A bit of an I/O address, which `sbic` and `sbis` test.
-pub fn port_bit(key: &NodeKey, state: &AbsState, address: u16, bit: u8) -> Tri
-    requires address { address < 64 }
-    requires bit { bit < 8 }
+pub fn port_bit(key: &NodeKey, state: &AbsState, address: LowPort, bit: Bit) -> Tri
     ensures { result ≡ tri_at (reads.read_at key.now state.now (effects.port address)).bits bit }
 {
-    read_at(key, state, port(address)).bits.bit(bit)
+    read_at(key, state, port(address.widened()))
+        .bits
+        .bit(bit.get() as u8)
 }
 
 /// A bit of a register, which `sbrc` and `sbrs` test.
-pub fn register_bit(state: &AbsState, r: u16, bit: u8) -> Tri
-    requires r { r < 32 }
-    requires bit { bit < 8 }
+pub fn register_bit(state: &AbsState, r: Register, bit: Bit) -> Tri
     ensures { result ≡ tri_at (registers.bits state.now r) bit }
 {
-    bits(state, r).bit(bit)
+    bits(state, r).bit(bit.get() as u8)
 }
 
 /// Whether registers `d` and `r` are equal, which `cpse` tests.
-pub fn are_equal(state: &AbsState, d: u16, r: u16) -> Tri
-    requires d { d < 32 }
-    requires r { r < 32 }
+pub fn are_equal(state: &AbsState, d: Register, r: Register) -> Tri
     ensures { result ≡ byte_equal (registers.bits state.now d) (registers.bits state.now r) }
 {
     bit_domain::equal(bits(state, d), bits(state, r))
@@ -106,5 +102,6 @@ fn is_permitted(lo: TriByte, hi: TriByte, word: u16) -> bool
 pub fn is_target(state: &AbsState, word: u16) -> bool
     ensures { result ≡ lists (targets_of (registers.bits state.now 30) (registers.bits state.now 31)) word }
 {
-    is_permitted(bits(state, Z), bits(state, Z + 1), word)
+    let (low, high) = pair(state, base_register(Base::Z));
+    is_permitted(low.bits, high.bits, word)
 }

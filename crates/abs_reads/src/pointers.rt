@@ -1,47 +1,22 @@
 //! Reads and writes through pairs of registers.
 
-ghost use Rattle.std.specs.Prelude.{◌≡◌, ◌+◌, ◌<◌};
-ghost use Rattle.avr_model.specs.Sites as sites;
+ghost use Rattle.std.specs.Prelude.{◌≡◌};
 ghost use Rattle.bit_domain.specs.TriByte as bytes;
-ghost use Rattle.local_rules.specs.Reads.{word_of, raised, lowered, read_constant, read_both, flash_value};
+ghost use Rattle.local_rules.specs.Reads.{raised, lowered, read_constant, read_both, flash_value};
 ghost use Rattle.local_rules.specs.Reads as reads;
 ghost use Rattle.local_rules.specs.Writes as writes;
 ghost use Rattle.local_rules.specs.Local as rows;
 
 use crate::reads::{read_at, slot_value};
-use abs_rows::registers::{bits, value, with_bits};
-use abs_rows::transfer::{X, Y, Z};
+use abs_rows::registers::{pair, with_bits};
 use abs_state::{AbsByte, AbsState};
 use avr_model::device::FLASH_BYTES;
-use avr_model::instruction::{Base, Pointer};
+use avr_model::instruction::{LowRegister, Pointer};
 use bit_domain::TriByte;
 use flash_image::Flash;
 use local_rules::Pointed;
 use mask_states::NodeKey;
 use sp_domain::frame;
-
-/// The low register of the pair that a base is.
-pub fn base_register(base: Base) -> u16
-    ensures value { result ≡ sites.base_register base }
-    ensures small { result < 31 }
-{
-    match base {
-        Base::Y => Y,
-        Base::Z => Z,
-    }
-}
-
-/// The low register of the pair that a pointer is.
-pub fn pointer_register(pointer: Pointer) -> u16
-    ensures value { result ≡ sites.pointer_register pointer }
-    ensures small { result < 31 }
-{
-    match pointer {
-        Pointer::ZPlus | Pointer::MinusZ => Z,
-        Pointer::YPlus | Pointer::MinusY => Y,
-        Pointer::X | Pointer::XPlus | Pointer::MinusX => X,
-    }
-}
 
 /// What is added to a pointer for the address, modulo 65,536: `-P` takes one off.
 pub fn step_before(pointer: Pointer) -> u16
@@ -53,21 +28,15 @@ pub fn step_before(pointer: Pointer) -> u16
     }
 }
 
-fn word_of(low: Option<u8>, high: Option<u8>) -> Option<u16>
-    ensures { result ≡ word_of low high }
+/// The number that registers `r` and `r + 1` hold, where all their bits are known.
+pub fn pair_constant(state: &AbsState, r: LowRegister) -> Option<u16>
+    ensures { result ≡ reads.pair_constant state.now r }
 {
-    match (low, high) {
+    let (low, high) = pair(state, r);
+    match (low.bits.constant(), high.bits.constant()) {
         (Some(low), Some(high)) => Some(u16::from(low) + 256 * u16::from(high)),
         _ => None,
     }
-}
-
-/// The number that registers `r` and `r + 1` hold, where all their bits are known.
-pub fn pair_constant(state: &AbsState, r: u16) -> Option<u16>
-    requires { r < 31 }
-    ensures { result ≡ reads.pair_constant state.now r }
-{
-    word_of(bits(state, r).constant(), bits(state, r + 1).constant())
 }
 
 fn raised(up: u16, address: Option<u16>) -> Option<u16>
@@ -89,13 +58,13 @@ fn lowered(up: u16, below: Option<u16>) -> Option<u16>
 }
 
 /// The address that registers `r` and `r + 1` plus a number give, modulo 65,536.
-pub fn point(state: &AbsState, r: u16, up: u16) -> Pointed
-    requires { r < 31 }
+pub fn point(state: &AbsState, r: LowRegister, up: u16) -> Pointed
     ensures { result ≡ reads.pointed state.now r up }
 {
+    let (low, high) = pair(state, r);
     Pointed {
         constant: raised(up, pair_constant(state, r)),
-        frame: lowered(up, frame(value(state, r).tag, value(state, r + 1).tag)),
+        frame: lowered(up, frame(low.tag, high.tag)),
     }
 }
 
@@ -157,10 +126,10 @@ fn has(bits: TriByte, byte: u8) -> bool
 }
 
 /// Whether some value of registers `r` and `r + 1` that their bits permit, plus a number, is the address.
-pub fn reaches(state: &AbsState, r: u16, up: u16, address: u16) -> bool
-    requires { r < 31 }
+pub fn reaches(state: &AbsState, r: LowRegister, up: u16, address: u16) -> bool
     ensures { result ≡ writes.reaches state.now r up address }
 {
     let pointer = address.wrapping_sub(up);
-    has(bits(state, r), (pointer % 256) as u8) && has(bits(state, r + 1), (pointer / 256) as u8)
+    let (low, high) = pair(state, r);
+    has(low.bits, (pointer % 256) as u8) && has(high.bits, (pointer / 256) as u8)
 }

@@ -1,6 +1,6 @@
 //! What is known of a byte that is read from data space at a known address.
 
-ghost use Rattle.std.specs.Prelude.{◌≡◌, ◌<◌};
+ghost use Rattle.std.specs.Prelude.{◌≡◌};
 ghost use Rattle.avr_model.specs.Vectors.{enable_of};
 ghost use Rattle.sp_domain.specs.Slots.{slot_at};
 ghost use Rattle.local_rules.specs.Reads.{io_tri, io_bits, value_of, slot_read, read_at};
@@ -11,6 +11,7 @@ use abs_rows::registers::value;
 use abs_rows::status::sreg_value;
 use abs_state::{AbsByte, AbsState};
 use avr_model::device::{RAMEND, REGISTERS_END, SPH, SPL, SREG};
+use avr_model::instruction::Register;
 use bit_domain::{Tri, TriByte};
 use mask_states::{Kind, NodeKey};
 use sp_domain::Slot;
@@ -76,7 +77,7 @@ pub fn read_at(key: &NodeKey, state: &AbsState, address: u16) -> AbsByte
     ensures { result ≡ read_at key.now state.now address }
 {
     match address {
-        0..REGISTERS_END => value(state, address),
+        0..REGISTERS_END => value(state, Register::new(address)),
         SPL => sp_low(key.inst.kind, key.sp),
         SPH => sp_high(key.inst.kind, key.sp),
         SREG => sreg_value(key, state),

@@ -5,9 +5,9 @@ ghost use Rattle.std.specs.Prelude.{◌≡◌, ◌+◌, ◌<◌};
 ghost use Rattle.local_rules.specs.Registers.{sum_after, compare_after, difference_after, sub_after, sbc_after, logic_after, step_after, com_after, low_tag, borrow_tag, high_tag, or_nothing, kept_tag, carry_bit, unary_after, product_after, wide_after, down_by, pair_tags};
 
 use crate::bits::CARRY;
-use crate::registers::{bits, but_carry, set, set_pair, value, with_bits, with_carry};
+use crate::registers::{bits, pair, set, set_pair, value, with_bits, with_carry};
 use abs_state::{AbsByte, AbsState};
-use avr_model::instruction::UnaryOp;
+use avr_model::instruction::{LowRegister, Register, UnaryOp};
 use avr_model::operation::{Logic, Mul};
 use bit_domain::{Tri, TriByte};
 use local_rules::Computed;
@@ -21,8 +21,7 @@ pub(crate) fn carry_bit(state: &AbsState) -> Tri
 }
 
 /// Register `d` plus a byte and a carry.
-pub(crate) fn sum(state: &AbsState, d: u16, other: TriByte, carry: Tri) -> Computed
-    requires { d < 32 }
+pub(crate) fn sum(state: &AbsState, d: Register, other: TriByte, carry: Tri) -> Computed
     ensures { result ≡ sum_after state.now d other carry }
 {
     let (sum, flags) = abs_alu::add(bits(state, d), other, carry, state.flags.bits);
@@ -52,13 +51,12 @@ pub(crate) fn compare(
 /// A difference that goes to register `d`, with the tag of the result and that of the borrow.
 fn difference(
     state: &AbsState,
-    d: u16,
+    d: Register,
     operands: (TriByte, TriByte),
     borrow: Tri,
     keep_zero: bool,
     tags: (Tag, CarryTag),
 ) -> Computed
-    requires { d < 32 }
     ensures { result ≡ difference_after state.now d operands.0 operands.1 borrow keep_zero tags.0 tags.1 }
 {
     let (a, b) = operands;
@@ -92,8 +90,13 @@ fn high_tag(tag: Tag, number: Option<u8>, borrow: CarryTag) -> Tag
 }
 
 /// Register `d`, of which `a` is known, less a byte, which may be a known number.
-pub(crate) fn sub(state: &AbsState, d: u16, a: TriByte, b: TriByte, number: Option<u8>) -> Computed
-    requires { d < 32 }
+pub(crate) fn sub(
+    state: &AbsState,
+    d: Register,
+    a: TriByte,
+    b: TriByte,
+    number: Option<u8>,
+) -> Computed
     ensures { result ≡ sub_after state.now d a b number }
 {
     let tags = low_tags(value(state, d).tag, number);
@@ -101,8 +104,7 @@ pub(crate) fn sub(state: &AbsState, d: u16, a: TriByte, b: TriByte, number: Opti
 }
 
 /// Register `d` less a byte, which may be a known number, and the carry.
-pub(crate) fn sbc(state: &AbsState, d: u16, b: TriByte, number: Option<u8>) -> Computed
-    requires { d < 32 }
+pub(crate) fn sbc(state: &AbsState, d: Register, b: TriByte, number: Option<u8>) -> Computed
     ensures { result ≡ sbc_after state.now d b number }
 {
     let value = value(state, d);
@@ -112,8 +114,7 @@ pub(crate) fn sbc(state: &AbsState, d: u16, b: TriByte, number: Option<u8>) -> C
 }
 
 /// 0 less register `d`.
-pub(crate) fn neg(state: &AbsState, d: u16) -> Computed
-    requires { d < 32 }
+pub(crate) fn neg(state: &AbsState, d: Register) -> Computed
     ensures { result ≡ unary_after state.now UnaryOp.Neg d }
 {
     let operands = (TriByte::of(0), bits(state, d));
@@ -122,15 +123,14 @@ pub(crate) fn neg(state: &AbsState, d: u16) -> Computed
 }
 
 /// A register's bits where another one is subtracted from it, or is its exclusive or: 0 where both are the same register.
-pub(crate) fn or_nothing(d: u16, r: u16, bits: TriByte) -> TriByte
+pub(crate) fn or_nothing(d: Register, r: Register, bits: TriByte) -> TriByte
     ensures { result ≡ or_nothing d r bits }
 {
     if d == r { TriByte::of(0) } else { bits }
 }
 
 /// The tag after `and` or `or` of two registers: a register with itself stays.
-pub(crate) fn kept_tag(state: &AbsState, d: u16, r: u16) -> Tag
-    requires { d < 32 }
+pub(crate) fn kept_tag(state: &AbsState, d: Register, r: Register) -> Tag
     ensures { result ≡ kept_tag state.now d r }
 {
     if d == r {
@@ -144,36 +144,33 @@ pub(crate) fn kept_tag(state: &AbsState, d: u16, r: u16) -> Tag
 pub(crate) fn logic(
     state: &AbsState,
     op: Logic,
-    d: u16,
+    d: Register,
     a: TriByte,
     b: TriByte,
     tag: Tag,
 ) -> Computed
-    requires { d < 32 }
     ensures { result ≡ logic_after state.now op d a b tag }
 {
     let (result, flags) = abs_alu::logic(op, a, b, state.flags.bits);
     Computed {
         registers: set(&state.registers, d, with_bits(tag, result)),
-        flags: but_carry(state, flags),
+        flags: with_carry(flags, state.flags.carry),
     }
 }
 
 /// Register `d` plus 1 where `up`, else less 1.
-pub(crate) fn step_one(state: &AbsState, up: bool, d: u16) -> Computed
-    requires { d < 32 }
+pub(crate) fn step_one(state: &AbsState, up: bool, d: Register) -> Computed
     ensures { result ≡ step_after state.now up d }
 {
     let (result, flags) = abs_alu::step_one(up, bits(state, d), state.flags.bits);
     Computed {
         registers: set(&state.registers, d, AbsByte::untagged(result)),
-        flags: but_carry(state, flags),
+        flags: with_carry(flags, state.flags.carry),
     }
 }
 
 /// Each bit of register `d` turned.
-pub(crate) fn com(state: &AbsState, d: u16) -> Computed
-    requires { d < 32 }
+pub(crate) fn com(state: &AbsState, d: Register) -> Computed
     ensures { result ≡ com_after state.now d }
 {
     let (result, flags) = abs_alu::com(bits(state, d), state.flags.bits);
@@ -184,15 +181,13 @@ pub(crate) fn com(state: &AbsState, d: u16) -> Computed
 }
 
 /// The product of registers `d` and `r` goes to registers 0 and 1.
-pub(crate) fn product(state: &AbsState, op: Mul, d: u16, r: u16) -> Computed
-    requires d { d < 32 }
-    requires r { r < 32 }
+pub(crate) fn product(state: &AbsState, op: Mul, d: Register, r: Register) -> Computed
     ensures { result ≡ product_after state.now op d r }
 {
     let ((low, high), flags) = abs_alu::mul(op, bits(state, d), bits(state, r), state.flags.bits);
     let (low, high) = (AbsByte::untagged(low), AbsByte::untagged(high));
     Computed {
-        registers: set_pair(&state.registers, 0, low, high),
+        registers: set_pair(&state.registers, LowRegister::new(0), low, high),
         flags: with_carry(flags, CarryTag::None),
     }
 }
@@ -210,23 +205,21 @@ fn down_by(up: bool, number: u8) -> u16
 }
 
 // The tags of registers d and d + 1 plus or less a number.
-fn pair_tags(state: &AbsState, d: u16, up: bool, number: u8) -> (Tag, Tag)
-    requires { d < 31 }
+fn pair_tags(state: &AbsState, d: LowRegister, up: bool, number: u8) -> (Tag, Tag)
     ensures { result ≡ pair_tags state.now d up number }
 {
-    let (low, high) = (value(state, d).tag, value(state, d + 1).tag);
-    move_pair(low, high, down_by(up, number))
+    let (low, high) = pair(state, d);
+    move_pair(low.tag, high.tag, down_by(up, number))
 }
 
 /// `adiw` of registers `d` and `d + 1` where `up`, else `sbiw`.
-pub(crate) fn wide(state: &AbsState, up: bool, d: u16, number: u8) -> Computed
-    requires { d < 31 }
+pub(crate) fn wide(state: &AbsState, up: bool, d: LowRegister, number: u8) -> Computed
     ensures { result ≡ wide_after state.now up d number }
 {
-    let pair = (bits(state, d), bits(state, d + 1));
-    let (result, flags) = abs_alu::wide(up, pair, number, state.flags.bits);
+    let (low, high) = pair(state, d);
+    let (bits, flags) = abs_alu::wide(up, (low.bits, high.bits), number, state.flags.bits);
     let (low_tag, high_tag) = pair_tags(state, d, up, number);
-    let (low, high) = (with_bits(low_tag, result.0), with_bits(high_tag, result.1));
+    let (low, high) = (with_bits(low_tag, bits.0), with_bits(high_tag, bits.1));
     Computed {
         registers: set_pair(&state.registers, d, low, high),
         flags: with_carry(flags, CarryTag::None),

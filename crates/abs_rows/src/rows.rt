@@ -4,26 +4,26 @@ ghost use Rattle.std.specs.Prelude.{◌≡◌, ◌<◌, ◌*◌, ℕ, List, Bool
 ghost use Rattle.avr_model.specs.declared.assumption.Entry.{Entry};
 ghost use Rattle.mask_states.specs.declared.keys.NodeKey.{NodeKey};
 ghost use Rattle.local_rules.specs.Registers.{immediate_after, unary_after, binary_after, wide_after, going_by};
-ghost use Rattle.local_rules.specs.Local.{row_of, other_row};
-ghost use Rattle.local_rules.specs.Registers as registers;
+ghost use Rattle.local_rules.specs.Local.{row_of};
+ghost use Rattle.abs_rows.specs.Sections.{other_row};
+ghost use Rattle.abs_rows.specs.Sections as sections;
 
 use crate::arithmetic::{
     carry_bit, com, compare, kept_tag, logic, neg, or_nothing, product, sbc, step_one, sub, sum,
     wide,
 };
-use crate::bits::{bit_loaded, bit_stored, flag, shift, swapped};
+use crate::bits::{bit_loaded, bit_stored, shift, swapped};
 use crate::registers::{bits, register_set, value};
 use crate::transfer::pair_copied;
 use abs_state::{AbsByte, AbsState};
-use avr_model::instruction::{BinaryOp, HighPair, ImmediateOp, Instr, Six, UnaryOp};
+use avr_model::instruction::{BinaryOp, HighPair, ImmediateOp, Instr, Register, Six, UnaryOp};
 use avr_model::operation::{Logic, Mul, Shift};
 use bit_domain::{Tri, TriByte};
 use local_rules::Computed;
 use sp_domain::Tag;
 
 /// What is done to a register and a byte.
-fn immediate(state: &AbsState, op: ImmediateOp, d: u16, number: u8) -> Computed
-    requires { d < 32 }
+fn immediate(state: &AbsState, op: ImmediateOp, d: Register, number: u8) -> Computed
     ensures { result ≡ immediate_after state.now op d number }
 {
     let a = bits(state, d);
@@ -39,8 +39,7 @@ fn immediate(state: &AbsState, op: ImmediateOp, d: u16, number: u8) -> Computed
 }
 
 /// What is done to one register.
-fn unary(state: &AbsState, op: UnaryOp, d: u16) -> Computed
-    requires { d < 32 }
+fn unary(state: &AbsState, op: UnaryOp, d: Register) -> Computed
     ensures { result ≡ unary_after state.now op d }
 {
     match op {
@@ -56,9 +55,7 @@ fn unary(state: &AbsState, op: UnaryOp, d: u16) -> Computed
 }
 
 /// What is done to two registers: None of `cpse`, which skips.
-fn binary(state: &AbsState, op: BinaryOp, d: u16, r: u16) -> Option<Computed>
-    requires d { d < 32 }
-    requires r { r < 32 }
+pub fn binary(state: &AbsState, op: BinaryOp, d: Register, r: Register) -> Option<Computed>
     ensures { result ≡ binary_after state.now op d r }
 {
     let (a, b) = (bits(state, d), bits(state, r));
@@ -85,30 +82,27 @@ fn binary(state: &AbsState, op: BinaryOp, d: u16, r: u16) -> Option<Computed>
 fn pair_and_number(state: &AbsState, up: bool, d: &HighPair, number: &Six) -> Computed
     ensures { result ≡ wide_after state.now up (2 * d.now) number.now }
 {
-    wide(state, up, 2 * d.get(), number.get() as u8)
+    wide(state, up, d.doubled(), number.get() as u8)
 }
 
 /// What an instruction computes that sets registers and flags alone: None of every other one, and of loads.
 pub fn computed_by(state: &AbsState, instr: &Instr) -> Option<Computed>
-    ensures value { result ≡ registers.computed_by state.now instr.now }
+    ensures value { result ≡ sections.computed_by state.now instr.now }
     ensures row { (words : List ℕ) (A : List Entry) (scratch : Bool) (k : NodeKey) → row_of words A scratch k state.now instr.now ≡ going_by k state.now result (other_row words A scratch k state.now instr.now) }
 {
     match instr {
-        Instr::Movw(d, r) => Some(pair_copied(state, 2 * d.get(), 2 * r.get())),
-        Instr::Muls(d, r) => Some(product(state, Mul::Muls, d.get(), r.get())),
-        Instr::Mulsu(d, r) => Some(product(state, Mul::Mulsu, d.get(), r.get())),
-        Instr::Fmul(d, r) => Some(product(state, Mul::Fmul, d.get(), r.get())),
-        Instr::Fmuls(d, r) => Some(product(state, Mul::Fmuls, d.get(), r.get())),
-        Instr::Fmulsu(d, r) => Some(product(state, Mul::Fmulsu, d.get(), r.get())),
-        Instr::Binary(op, d, r) => binary(state, *op, d.get(), r.get()),
-        Instr::Immediate(op, d, number) => Some(immediate(state, *op, d.get(), *number)),
-        Instr::Unary(op, d) => Some(unary(state, *op, d.get())),
+        Instr::Movw(d, r) => Some(pair_copied(state, d.doubled(), r.doubled())),
+        Instr::Muls(d, r) => Some(product(state, Mul::Muls, d.widened(), r.widened())),
+        Instr::Mulsu(d, r) => Some(product(state, Mul::Mulsu, d.widened(), r.widened())),
+        Instr::Fmul(d, r) => Some(product(state, Mul::Fmul, d.widened(), r.widened())),
+        Instr::Fmuls(d, r) => Some(product(state, Mul::Fmuls, d.widened(), r.widened())),
+        Instr::Fmulsu(d, r) => Some(product(state, Mul::Fmulsu, d.widened(), r.widened())),
+        Instr::Immediate(op, d, number) => Some(immediate(state, *op, d.widened(), *number)),
+        Instr::Unary(op, d) => Some(unary(state, *op, *d)),
         Instr::Adiw(d, number) => Some(pair_and_number(state, true, d, number)),
         Instr::Sbiw(d, number) => Some(pair_and_number(state, false, d, number)),
-        Instr::Bset(n) => flag(state, n.get() as u8, true),
-        Instr::Bclr(n) => flag(state, n.get() as u8, false),
-        Instr::Bld(d, bit) => Some(bit_loaded(state, d.get(), bit.get() as u8)),
-        Instr::Bst(d, bit) => Some(bit_stored(state, d.get(), bit.get() as u8)),
+        Instr::Bld(d, bit) => Some(bit_loaded(state, *d, *bit)),
+        Instr::Bst(d, bit) => Some(bit_stored(state, *d, *bit)),
         _ => None,
     }
 }

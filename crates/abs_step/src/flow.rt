@@ -1,11 +1,9 @@
 //! Change of flow: jumps, skips, calls and returns.
 
-ghost use Rattle.std.specs.Prelude.{◌≡◌, ◌<◌, length, map, filter, None, IfOk, IfErr, List};
+ghost use Rattle.std.specs.Prelude.{◌≡◌, ◌<◌, map, filter, None, IfOk, IfErr, List};
 ghost use Rattle.avr_model.specs.Image.{WORDS};
 ghost use Rattle.avr_model.specs.Assumptions.{lists};
 ghost use Rattle.bit_domain.specs.Numbers.{targets_of};
-ghost use Rattle.bit_domain.specs.Tri.{tri_not};
-ghost use Rattle.mask_states.specs.Keys.{offset_of};
 ghost use Rattle.local_rules.specs.declared.local.NodeFault.TheVariants.{Memory};
 ghost use Rattle.local_rules.specs.Raw.{moves_to, Raw};
 ghost use Rattle.local_rules.specs.declared.local.Node.{Node};
@@ -15,12 +13,13 @@ ghost use Rattle.local_rules.specs.Flow as flow;
 ghost use Rattle.abs_step.specs.Adding.{Adds, Finds, Leads};
 
 use crate::site::Site;
-use crate::stack::making_room;
+use crate::stack::room_row;
 use crate::successors::{add_copy, at_word, branch, next};
 use abs_reads::flow::{further, is_target};
-use abs_rows::registers::bits;
-use abs_rows::transfer::Z;
+use abs_rows::registers::pair;
+use abs_rows::transfer::base_register;
 use abs_state::AbsState;
+use avr_model::instruction::Base;
 use avr_model::listed::Listed;
 use bit_domain::Tri;
 use indirect_targets::targets;
@@ -59,7 +58,8 @@ fn listed_targets(alloc: Global, state: &AbsState, listed: &[u16]) -> Result<Vec
 fn unlisted_targets(alloc: Global, state: &AbsState, pc: u16) -> Result<Vec<u16>, NodeFault>
     ensures { Finds result (flow.targets_by None (targets_of (registers.bits state.now 30) (registers.bits state.now 31))) pc }
 {
-    match targets(&bits(state, Z), &bits(state, Z + 1)) {
+    let (low, high) = pair(state, base_register(Base::Z));
+    match targets(&low.bits, &high.bits) {
         Ok(all) => match all.as_slice().to_vec(alloc) {
             Ok(words) => Ok(words),
             Err(_) => Err(NodeFault::Memory),
@@ -119,15 +119,6 @@ pub(crate) fn staying(alloc: Global, added: Result<(), NodeFault>) -> Result<Out
     }
 }
 
-fn is_half_written(sp: SpForm) -> bool
-    ensures { result ≡ flow.is_half_written sp }
-{
-    match sp {
-        SpForm::Closed(_) => false,
-        SpForm::Open(_, _) => true,
-    }
-}
-
 // Calls of these words that go on at the word `back`.
 fn sites(alloc: Global, entries: &[u16], back: u16) -> Result<Listed<CallSite>, NodeFault>
     ensures ok { IfOk result (λ sites. sites ≡ map (λ t. flow.site t back) entries.now) }
@@ -152,11 +143,13 @@ pub(crate) fn calling(
 ) -> Result<Outside, NodeFault>
     ensures { (nodes : List Node) → Leads nodes nodes result (flow.calling key.now back entries.now) }
 {
-    if is_half_written(key.sp) {
-        return Err(NodeFault::UntrackedSp(key.pc));
+    match key.sp {
+        SpForm::Closed(_) => {
+            let calls = sites(alloc, entries, back)?;
+            Ok(Outside { calls, exit: None })
+        }
+        SpForm::Open(_, _) => Err(NodeFault::UntrackedSp(key.pc)),
     }
-    let calls = sites(alloc, entries, back)?;
-    Ok(Outside { calls, exit: None })
 }
 
 /// An indirect call.
@@ -188,55 +181,13 @@ fn returning_at(
 }
 
 /// A return, where the stack pointer isn't half written.
-pub(crate) fn returning(alloc: Global, key: &NodeKey, exit: Exit) -> Result<Outside, NodeFault>
-    ensures { (nodes : List Node) → Leads nodes nodes result (flow.at_closed key.now.sp key.now.pc (flow.returning exit key.now.pc key.now.inst.kind)) }
+pub(crate) fn returning(site: &Site<'_>, exit: Exit) -> Result<Outside, NodeFault>
+    ensures { (nodes : List Node) → Leads nodes nodes result (flow.at_closed site.now.key.now.sp site.now.key.now.pc (flow.returning exit site.now.key.now.pc site.now.key.now.inst.kind)) }
 {
-    match key.sp {
-        SpForm::Closed(offset) => returning_at(alloc, exit, key.pc, key.inst.kind, offset),
-        SpForm::Open(_, _) => Err(NodeFault::UntrackedSp(key.pc)),
-    }
-}
-
-/// What `ret` leaves of the key.
-pub(crate) fn ret_exit(key: &NodeKey) -> Exit
-    ensures { result ≡ flow.ret_exit key.now }
-{
-    Exit {
-        masks: key.masks,
-        i: key.i,
-        delay: false,
-    }
-}
-
-/// What `reti` leaves of it: it turns I on.
-pub(crate) fn reti_exit(key: &NodeKey) -> Exit
-    ensures { result ≡ flow.reti_exit key.now }
-{
-    Exit {
-        masks: key.masks,
-        i: true,
-        delay: true,
-    }
-}
-
-/// The opposite condition.
-pub(crate) fn opposite(condition: Tri) -> Tri
-    ensures { result ≡ tri_not condition }
-{
-    match condition {
-        Tri::Zero => Tri::One,
-        Tri::One => Tri::Zero,
-        Tri::Any => Tri::Any,
-    }
-}
-
-// A call of the next word that makes room, likewise.
-fn room_row(nodes: &mut Nodes, site: &Site<'_>, target: u16) -> Result<(), NodeFault>
-    ensures { Adds nodes.old nodes.new result (flow.at_closed site.now.key.now.sp site.now.key.now.pc (flow.making_room site.now.key.now site.now.state.now target)) }
-{
+    let (pc, kind) = (site.key.pc, site.key.inst.kind);
     match site.key.sp {
-        SpForm::Closed(offset) => making_room(nodes, site, target, offset),
-        SpForm::Open(_, _) => Err(NodeFault::UntrackedSp(site.key.pc)),
+        SpForm::Closed(offset) => returning_at(site.alloc, exit, pc, kind, offset),
+        SpForm::Open(_, _) => Err(NodeFault::UntrackedSp(pc)),
     }
 }
 

@@ -14,7 +14,6 @@ use crate::site::Site;
 use crate::table::row;
 use abs_reads::stack_pointer::is_hung;
 use abs_state::AbsState;
-use avr_model::instruction::Instr;
 use flash_image::Flash;
 use local_rules::local::{Local, NodeFault, Nodes};
 use mask_states::NodeKey;
@@ -31,23 +30,17 @@ fn at_instruction(site: &Site<'_>) -> Result<Local, NodeFault>
         site.flash.word(site.key.pc),
         site.flash.word(site.key.pc + 1),
     ) {
-        Some(instr) => leading_from(site, scratch, &instr),
+        Some(instr) => {
+            let mut same = Nodes::new(site.alloc);
+            let outside = row(&mut same, site, scratch, &instr)?;
+            Ok(Local {
+                same,
+                calls: outside.calls,
+                exit: outside.exit,
+            })
+        }
         None => Err(NodeFault::Unsupported(site.key.pc)),
     }
-}
-
-// What this instruction leads to.
-fn leading_from(site: &Site<'_>, scratch: bool, instr: &Instr) -> Result<Local, NodeFault>
-    requires word { site.now.key.now.pc < WORDS }
-    ensures { Settles result (rows.row_of site.now.flash.now site.now.assumptions.now scratch site.now.key.now site.now.state.now instr.now) }
-{
-    let mut same = Nodes::new(site.alloc);
-    let outside = row(&mut same, site, scratch, instr)?;
-    Ok(Local {
-        same,
-        calls: outside.calls,
-        exit: outside.exit,
-    })
 }
 
 // The fault that counts where the stack pointer can't be followed besides.

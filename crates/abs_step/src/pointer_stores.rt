@@ -1,21 +1,24 @@
 //! Stores through a pointer.
 
-ghost use Rattle.std.specs.Prelude.{◌≡◌, ◌<◌, ◌||◌, List, Some, false, filter, length, IfOk, IfErr};
+ghost use Rattle.std.specs.Prelude.{◌≡◌, ◌||◌, List, Some, false, filter, length, IfOk, IfErr};
 ghost use Rattle.avr_model.specs.Assumptions.{is_proved};
 ghost use Rattle.avr_model.specs.Sites.{is_fixed};
 ghost use Rattle.mask_states.specs.Keys.{offset_of};
 ghost use Rattle.local_rules.specs.declared.local.Node.{Node};
 ghost use Rattle.local_rules.specs.declared.local.NodeFault.TheVariants.{Memory};
-ghost use Rattle.local_rules.specs.Raw.{Raw};
+ghost use Rattle.local_rules.specs.Raw.{Raw, next};
+ghost use Rattle.local_rules.specs.Registers.{value};
 ghost use Rattle.local_rules.specs.Reads.{pointed};
 ghost use Rattle.local_rules.specs.Writes as writes;
 ghost use Rattle.abs_step.specs.Adding.{Adds, IsGathered, with_another, first_of};
 
 use crate::site::Site;
 use crate::stores::{Write, written_at};
-use crate::successors::add_copy;
+use crate::successors::{add_copy, next};
 use abs_reads::pointers::{point, reaches};
+use abs_rows::registers::value;
 use abs_state::AbsState;
+use avr_model::instruction::{LowRegister, Register};
 use flash_image::Flash;
 use local_rules::local::{NodeFault, Nodes};
 use std::alloc::Global;
@@ -35,16 +38,14 @@ fn first(fault: Option<NodeFault>, found: NodeFault) -> NodeFault
 fn stored_too(
     nodes: &mut Nodes,
     alloc: Global,
-    write: &Write,
-    state: &AbsState,
+    write: &Write<'_>,
     address: u16,
     fault: Option<NodeFault>,
 ) -> Result<Option<NodeFault>, NodeFault>
-    requires { length state.now.slots ≡ offset_of write.now.key.sp }
-    ensures ok { IfOk result (λ next. (old : List Node) (r : Raw) → IsGathered old nodes.old fault r → IsGathered old nodes.new next (with_another r (writes.written_at write.now.pc write.now.key state.now false address write.now.value))) }
+    ensures ok { IfOk result (λ next. (old : List Node) (r : Raw) → IsGathered old nodes.old fault r → IsGathered old nodes.new next (with_another r (writes.written_at write.now.pc write.now.key write.now.state.now false address write.now.value))) }
     ensures err { IfErr result (λ e. e ≡ Memory) }
 {
-    match written_at(nodes, alloc, write, false, state, address) {
+    match written_at(nodes, alloc, write, false, address) {
         Ok(()) => Ok(fault),
         Err(found) => {
             let cause = found.cause();
@@ -59,23 +60,19 @@ fn stored_too(
 // At an unfixed site: one successor in which the byte changes nothing that is known, and those of each listed address that can be met.
 fn listed_writes(
     nodes: &mut Nodes,
-    alloc: Global,
-    write: &Write,
-    was: &AbsState,
-    r: u16,
+    site: &Site<'_>,
+    write: &Write<'_>,
+    r: LowRegister,
     up: u16,
-    state: &AbsState,
     addresses: &[u16],
 ) -> Result<(), NodeFault>
-    requires register { r < 31 }
-    requires sized { length state.now.slots ≡ offset_of write.now.key.sp }
-    ensures { Adds nodes.old nodes.new result (writes.listed_writes write.now.pc write.now.key state.now (filter (λ a. writes.reaches was.now r up a) addresses.now) write.now.value) }
+    ensures { Adds nodes.old nodes.new result (writes.listed_writes write.now.pc write.now.key write.now.state.now (filter (λ a. writes.reaches site.now.state.now r up a) addresses.now) write.now.value) }
 {
-    add_copy(nodes, alloc, write.key, state)?;
+    add_copy(nodes, site.alloc, write.key, write.state)?;
     let mut fault: Option<NodeFault> = None;
     for at in 0..addresses.len() {
-        if reaches(was, r, up, addresses[at]) {
-            fault = stored_too(nodes, alloc, write, state, addresses[at], fault)?;
+        if reaches(site.state, r, up, addresses[at]) {
+            fault = stored_too(nodes, site.alloc, write, addresses[at], fault)?;
         }
     }
     match fault {
@@ -89,14 +86,12 @@ fn fixed_write(
     nodes: &mut Nodes,
     alloc: Global,
     address: Option<u16>,
-    write: &Write,
-    state: &AbsState,
+    write: &Write<'_>,
 ) -> Result<(), NodeFault>
-    requires { length state.now.slots ≡ offset_of write.now.key.sp }
-    ensures { Adds nodes.old nodes.new result (writes.fixed_write address write.now.pc write.now.key state.now write.now.value) }
+    ensures { Adds nodes.old nodes.new result (writes.fixed_write address write.now.pc write.now.key write.now.state.now write.now.value) }
 {
     match address {
-        Some(address) => written_at(nodes, alloc, write, false, state, address),
+        Some(address) => written_at(nodes, alloc, write, false, address),
         None => Err(NodeFault::UnknownPointer(write.pc)),
     }
 }
@@ -108,26 +103,29 @@ fn is_settled(flash: &Flash, assumptions: &Assumptions, pc: u16) -> bool
     avr_decode::is_fixed(flash.words(), pc) || assumptions.proved(pc)
 }
 
-/// A byte is stored through registers `r` and `r + 1` plus a number, as they are before the instruction.
+/// Register `source` is stored through registers `r` and `r + 1` plus a number, as they are before the instruction.
 pub(crate) fn pointer_write(
     nodes: &mut Nodes,
     site: &Site<'_>,
-    write: &Write,
-    r: u16,
+    r: LowRegister,
     up: u16,
-    state: &AbsState,
+    source: Register,
+    after: &AbsState,
 ) -> Result<(), NodeFault>
-    requires register { r < 31 }
-    requires sized { length state.now.slots ≡ offset_of write.now.key.sp }
-    ensures { Adds nodes.old nodes.new result (writes.pointer_write site.now.flash.now site.now.assumptions.now site.now.state.now r up (pointed site.now.state.now r up) write.now.pc write.now.key state.now write.now.value) }
+    requires { length after.now.slots ≡ offset_of site.now.key.now.sp }
+    ensures { Adds nodes.old nodes.new result (writes.pointer_write site.now.flash.now site.now.assumptions.now site.now.state.now r up (pointed site.now.state.now r up) site.now.key.now.pc (next site.now.key.now) after.now (value site.now.state.now source)) }
 {
-    if is_settled(site.flash, site.assumptions, write.pc) {
+    let write = Write {
+        pc: site.key.pc,
+        key: next(site.key),
+        state: after,
+        value: value(site.state, source),
+    };
+    if is_settled(site.flash, site.assumptions, site.key.pc) {
         let address = point(site.state, r, up).constant;
-        fixed_write(nodes, site.alloc, address, write, state)
+        fixed_write(nodes, site.alloc, address, &write)
     } else {
-        let addresses = site.assumptions.stores(write.pc);
-        listed_writes(
-            nodes, site.alloc, write, site.state, r, up, state, addresses,
-        )
+        let addresses = site.assumptions.stores(site.key.pc);
+        listed_writes(nodes, site, &write, r, up, addresses)
     }
 }

@@ -11,7 +11,7 @@ use vector_table::Assumptions;
 
 /// Where an instruction stands: the firmware, what is assumed of it, and the node, whose state has as many slots as its stack
 /// pointer's offset says.
-#[derive(Clone, Copy)]
+#[derive(Drop)]
 pub(crate) struct Site<'a> {
     /// Gives the memory of what the instruction leads to.
     pub alloc: Global,

@@ -1,11 +1,9 @@
 //! Bytes that are pushed and popped, and calls that make room.
 
-ghost use Rattle.std.specs.Prelude.{◌≡◌, ◌<◌, ◌+◌, ◌++◌, ◌∷◌, [], suc, length, IfOk, IfErr};
+ghost use Rattle.std.specs.Prelude.{◌≡◌, ◌<◌, ◌++◌, ◌∷◌, [], suc, length, IfOk, IfErr};
 ghost use Rattle.mask_states.specs.declared.keys.SpForm.TheVariants.{Closed};
-ghost use Rattle.mask_states.specs.Keys.{offset_of};
 ghost use Rattle.local_rules.specs.declared.local.NodeFault.TheVariants.{Memory};
 ghost use Rattle.local_rules.specs.Flow as flow;
-ghost use Rattle.local_rules.specs.Registers as registers;
 ghost use Rattle.abs_step.specs.Adding.{Adds};
 
 use crate::site::Site;
@@ -15,6 +13,7 @@ use abs_reads::reads::slot_value;
 use abs_rows::registers::{set, value};
 use abs_state::{AbsByte, AbsState};
 use avr_model::device::SIZE;
+use avr_model::instruction::Register;
 use local_rules::local::{NodeFault, Nodes};
 use mask_states::{NodeKey, SpForm};
 use sp_domain::Slot;
@@ -54,34 +53,31 @@ fn closed_at(key: NodeKey, offset: u16) -> NodeKey
     }
 }
 
-/// Register `r` is pushed at this offset.
-pub(crate) fn pushing(
+/// `push`: register `r` goes to another slot.
+pub(crate) fn push_row(
     nodes: &mut Nodes,
     site: &Site<'_>,
     scratch: bool,
-    r: u16,
-    offset: u16,
+    r: Register,
 ) -> Result<(), NodeFault>
-    requires register { r < 32 }
-    requires slots { length site.now.state.now.slots ≡ offset }
-    ensures { Adds nodes.old nodes.new result (flow.pushing scratch site.now.key.now site.now.state.now r offset) }
+    ensures { Adds nodes.old nodes.new result (flow.at_closed site.now.key.now.sp site.now.key.now.pc (flow.pushing scratch site.now.key.now site.now.state.now r)) }
 {
-    if offset >= SIZE {
-        return Err(NodeFault::TooDeep(site.key.pc, u32::from(offset) + 1));
+    match site.key.sp {
+        SpForm::Closed(offset) => {
+            if offset >= SIZE {
+                return Err(NodeFault::TooDeep(site.key.pc, u32::from(offset) + 1));
+            }
+            let slot = pushed_slot(scratch, value(site.state, r));
+            let after = with_slot(site.alloc, site.state, slot)?;
+            add(nodes, closed_at(next(site.key), offset + 1), after)
+        }
+        SpForm::Open(_, _) => Err(NodeFault::UntrackedSp(site.key.pc)),
     }
-    let after = with_slot(
-        site.alloc,
-        site.state,
-        pushed_slot(scratch, value(site.state, r)),
-    )?;
-    let added = add(nodes, closed_at(next(site.key), offset + 1), after)?;
-    Ok(added)
 }
 
 // The byte in slot n, which is the last, is popped into register `d`.
-fn pop_from(nodes: &mut Nodes, site: &Site<'_>, d: u16, n: u16) -> Result<(), NodeFault>
-    requires register { d < 32 }
-    requires slots { length site.now.state.now.slots ≡ suc n }
+fn pop_from(nodes: &mut Nodes, site: &Site<'_>, d: Register, n: u16) -> Result<(), NodeFault>
+    requires { length site.now.state.now.slots ≡ suc n }
     ensures { Adds nodes.old nodes.new result (flow.popping site.now.key.now site.now.state.now d (suc n)) }
 {
     let mut after = with_slots(site.alloc, site.state, n)?;
@@ -90,66 +86,34 @@ fn pop_from(nodes: &mut Nodes, site: &Site<'_>, d: u16, n: u16) -> Result<(), No
     Ok(added)
 }
 
-/// A byte is popped at this offset into register `d`.
-pub(crate) fn popping(
-    nodes: &mut Nodes,
-    site: &Site<'_>,
-    d: u16,
-    offset: u16,
-) -> Result<(), NodeFault>
-    requires register { d < 32 }
-    requires slots { length site.now.state.now.slots ≡ offset }
-    ensures { Adds nodes.old nodes.new result (flow.popping site.now.key.now site.now.state.now d offset) }
-{
-    if offset == 0 {
-        return Err(NodeFault::UntrackedSp(site.key.pc));
-    }
-    let added = pop_from(nodes, site, d, offset - 1)?;
-    Ok(added)
-}
-
-/// A call of the next word makes room for two bytes, and stays in its frame.
-pub(crate) fn making_room(
-    nodes: &mut Nodes,
-    site: &Site<'_>,
-    target: u16,
-    offset: u16,
-) -> Result<(), NodeFault>
-    requires { length site.now.state.now.slots ≡ offset }
-    ensures { Adds nodes.old nodes.new result (flow.making_room site.now.key.now site.now.state.now target offset) }
-{
-    if offset >= SIZE - 1 {
-        return Err(NodeFault::TooDeep(site.key.pc, u32::from(offset) + 2));
-    }
-    let one = with_slot(site.alloc, site.state, Slot::Free)?;
-    let two = with_slot(site.alloc, &one, Slot::Free)?;
-    let added = add(nodes, closed_at(at_word(site.key, target), offset + 2), two)?;
-    Ok(added)
-}
-
-/// `push`, where the stack pointer isn't half written.
-pub(crate) fn push_row(
-    nodes: &mut Nodes,
-    site: &Site<'_>,
-    scratch: bool,
-    r: u16,
-) -> Result<(), NodeFault>
-    requires register { r < 32 }
-    ensures { Adds nodes.old nodes.new result (flow.at_closed site.now.key.now.sp site.now.key.now.pc (flow.pushing scratch site.now.key.now site.now.state.now r)) }
+/// `pop`: register `d` gets the byte in the last slot, which goes.
+pub(crate) fn pop_row(nodes: &mut Nodes, site: &Site<'_>, d: Register) -> Result<(), NodeFault>
+    ensures { Adds nodes.old nodes.new result (flow.at_closed site.now.key.now.sp site.now.key.now.pc (flow.popping site.now.key.now site.now.state.now d)) }
 {
     match site.key.sp {
-        SpForm::Closed(offset) => pushing(nodes, site, scratch, r, offset),
+        SpForm::Closed(offset) => {
+            if offset == 0 {
+                return Err(NodeFault::UntrackedSp(site.key.pc));
+            }
+            pop_from(nodes, site, d, offset - 1)
+        }
         SpForm::Open(_, _) => Err(NodeFault::UntrackedSp(site.key.pc)),
     }
 }
 
-/// `pop`, likewise.
-pub(crate) fn pop_row(nodes: &mut Nodes, site: &Site<'_>, d: u16) -> Result<(), NodeFault>
-    requires register { d < 32 }
-    ensures { Adds nodes.old nodes.new result (flow.at_closed site.now.key.now.sp site.now.key.now.pc (flow.popping site.now.key.now site.now.state.now d)) }
+/// A call of the next word makes room for two bytes, and stays in its frame.
+pub(crate) fn room_row(nodes: &mut Nodes, site: &Site<'_>, target: u16) -> Result<(), NodeFault>
+    ensures { Adds nodes.old nodes.new result (flow.at_closed site.now.key.now.sp site.now.key.now.pc (flow.making_room site.now.key.now site.now.state.now target)) }
 {
     match site.key.sp {
-        SpForm::Closed(offset) => popping(nodes, site, d, offset),
+        SpForm::Closed(offset) => {
+            if offset >= SIZE - 1 {
+                return Err(NodeFault::TooDeep(site.key.pc, u32::from(offset) + 2));
+            }
+            let one = with_slot(site.alloc, site.state, Slot::Free)?;
+            let two = with_slot(site.alloc, &one, Slot::Free)?;
+            add(nodes, closed_at(at_word(site.key, target), offset + 2), two)
+        }
         SpForm::Open(_, _) => Err(NodeFault::UntrackedSp(site.key.pc)),
     }
 }

@@ -1,6 +1,6 @@
 //! Writes to data space: what a byte changes that is written to a known address.
 
-ghost use Rattle.std.specs.Prelude.{◌≡◌, ◌<◌, length, map, slice_set, Some, IfOk, IfErr};
+ghost use Rattle.std.specs.Prelude.{◌≡◌, length, map, slice_set, IfOk, IfErr};
 ghost use Rattle.bit_domain.specs.TriByte.{tri_at};
 ghost use Rattle.sp_domain.specs.Slots.{resized};
 ghost use Rattle.mask_states.specs.Keys.{offset_of};
@@ -16,21 +16,25 @@ use abs_rows::registers::set;
 use abs_rows::status::flags_written;
 use abs_state::{AbsByte, AbsState};
 use avr_model::device::{REGISTERS_END, SIZE, SPH, SPL, SREG};
+use avr_model::instruction::Register;
 use bit_domain::Tri;
 use local_rules::local::{NodeFault, Nodes};
 use mask_states::{High, NodeKey, SpForm, split};
 use std::alloc::Global;
 use vector_table::Masks;
 
-/// What is written: the byte, the word of the instruction, and the key after it.
-#[derive(Clone, Copy)]
-pub(crate) struct Write {
+/// What is written: the byte, the word of the instruction, and the node that the machine is at after it otherwise.
+#[derive(Drop)]
+pub(crate) struct Write<'a> {
     /// The word of the instruction.
     pub pc: u16,
-    /// The key that the machine has otherwise after it.
+    /// The key after it.
     pub key: NodeKey,
+    /// The state after it.
+    pub state: &'a AbsState,
     /// The byte.
     pub value: AbsByte,
+    ghost sized: { length state.now.slots ≡ offset_of key.sp },
 }
 
 // A write of the high byte of the stack pointer.
@@ -38,19 +42,17 @@ fn opening(
     nodes: &mut Nodes,
     alloc: Global,
     high: Option<High>,
-    key: &NodeKey,
-    state: &AbsState,
-    pc: u16,
+    write: &Write<'_>,
 ) -> Result<(), NodeFault>
-    requires { length state.now.slots ≡ offset_of key.now.sp }
-    ensures { Adds nodes.old nodes.new result (writes.opening high key.now state.now pc) }
+    ensures { Adds nodes.old nodes.new result (writes.opening high write.now.key write.now.state.now write.now.pc) }
 {
+    let key = write.key;
     match high {
         Some(high) => {
             let sp = SpForm::Open(key.sp.offset(), high);
-            add_copy(nodes, alloc, NodeKey { sp, ..*key }, state)
+            add_copy(nodes, alloc, NodeKey { sp, ..key }, write.state)
         }
-        None => Err(NodeFault::UntrackedSp(pc)),
+        None => Err(NodeFault::UntrackedSp(write.pc)),
     }
 }
 
@@ -71,35 +73,21 @@ fn closing(
     nodes: &mut Nodes,
     alloc: Global,
     offset: Option<u16>,
-    key: &NodeKey,
-    state: &AbsState,
-    pc: u16,
+    write: &Write<'_>,
 ) -> Result<(), NodeFault>
-    ensures { Adds nodes.old nodes.new result (writes.closing offset key.now state.now pc) }
+    ensures { Adds nodes.old nodes.new result (writes.closing offset write.now.key write.now.state.now write.now.pc) }
 {
     match offset {
-        Some(n) => close_at(nodes, alloc, n, key, state, pc),
-        None => Err(NodeFault::UntrackedSp(pc)),
+        Some(n) => {
+            if n > SIZE {
+                return Err(NodeFault::TooDeep(write.pc, u32::from(n)));
+            }
+            let after = with_slots(alloc, write.state, n)?;
+            let sp = SpForm::Closed(n);
+            add(nodes, NodeKey { sp, ..write.key }, after)
+        }
+        None => Err(NodeFault::UntrackedSp(write.pc)),
     }
-}
-
-fn close_at(
-    nodes: &mut Nodes,
-    alloc: Global,
-    offset: u16,
-    key: &NodeKey,
-    state: &AbsState,
-    pc: u16,
-) -> Result<(), NodeFault>
-    ensures { Adds nodes.old nodes.new result (writes.closing (Some offset) key.now state.now pc) }
-{
-    if offset > SIZE {
-        return Err(NodeFault::TooDeep(pc, u32::from(offset)));
-    }
-    let after = with_slots(alloc, state, offset)?;
-    let sp = SpForm::Closed(offset);
-    let added = add(nodes, NodeKey { sp, ..*key }, after)?;
-    Ok(added)
 }
 
 // The key with this I.
@@ -134,26 +122,18 @@ fn sreg_written(
     }
 }
 
-// The key with these enable bits.
-fn with_masks(key: &NodeKey, masks: Masks) -> NodeKey
-    ensures { result ≡ record key.now { masks = masks } }
-{
-    NodeKey { masks, ..*key }
-}
-
 // One successor for each of these enable bits.
 fn add_masks(
     nodes: &mut Nodes,
     alloc: Global,
-    key: &NodeKey,
-    state: &AbsState,
+    write: &Write<'_>,
     all: &[Masks],
 ) -> Result<(), NodeFault>
-    requires { length state.now.slots ≡ offset_of key.now.sp }
-    ensures { Adds nodes.old nodes.new result (moves_to (map (λ m. record { key = record key.now { masks = m }; state = state.now }) all.now)) }
+    ensures { Adds nodes.old nodes.new result (moves_to (map (λ m. record { key = record write.now.key { masks = m }; state = write.now.state.now }) all.now)) }
 {
     for at in 0..all.len() {
-        add_copy(nodes, alloc, with_masks(key, all[at]), state)?;
+        let masks = all[at];
+        add_copy(nodes, alloc, NodeKey { masks, ..write.key }, write.state)?;
     }
     Ok(())
 }
@@ -162,34 +142,28 @@ fn add_masks(
 fn masks_written(
     nodes: &mut Nodes,
     alloc: Global,
-    key: &NodeKey,
-    state: &AbsState,
+    write: &Write<'_>,
     address: u16,
-    value: AbsByte,
 ) -> Result<(), NodeFault>
-    requires { length state.now.slots ≡ offset_of key.now.sp }
-    ensures { Adds nodes.old nodes.new result (writes.masks_written key.now state.now address value) }
+    ensures { Adds nodes.old nodes.new result (writes.masks_written write.now.key write.now.state.now address write.now.value) }
 {
-    let splits = split(key.masks, address, &value.bits);
-    add_masks(nodes, alloc, key, state, splits.as_slice())
+    let splits = split(write.key.masks, address, &write.value.bits);
+    add_masks(nodes, alloc, write, splits.as_slice())
 }
 
 // A write of a register by its address.
 fn register_written(
     nodes: &mut Nodes,
     alloc: Global,
-    key: &NodeKey,
-    state: &AbsState,
-    address: u16,
-    value: AbsByte,
+    write: &Write<'_>,
+    d: Register,
 ) -> Result<(), NodeFault>
-    requires sized { length state.now.slots ≡ offset_of key.now.sp }
-    requires register { address < 32 }
-    ensures { Adds nodes.old nodes.new result (one key.now (record state.now { registers = slice_set state.now.registers address value })) }
+    ensures { Adds nodes.old nodes.new result (one write.now.key (record write.now.state.now { registers = slice_set write.now.state.now.registers d write.now.value })) }
 {
-    let registers = set(&state.registers, address, value);
+    let state = write.state;
+    let registers = set(&state.registers, d, write.value);
     let after = changed(alloc, state, &registers, state.flags)?;
-    let added = add(nodes, *key, after)?;
+    let added = add(nodes, write.key, after)?;
     Ok(added)
 }
 
@@ -197,16 +171,14 @@ fn register_written(
 fn flags_set(
     nodes: &mut Nodes,
     alloc: Global,
-    key: &NodeKey,
-    state: &AbsState,
+    write: &Write<'_>,
     is_out: bool,
-    value: AbsByte,
 ) -> Result<(), NodeFault>
-    requires { length state.now.slots ≡ offset_of key.now.sp }
-    ensures { Adds nodes.old nodes.new result (writes.sreg_written (tri_at value.bits 7) key.now (record state.now { flags = writes.flags_written value }) is_out) }
+    ensures { Adds nodes.old nodes.new result (writes.sreg_written (tri_at write.now.value.bits 7) write.now.key (record write.now.state.now { flags = writes.flags_written write.now.value }) is_out) }
 {
+    let (state, value) = (write.state, write.value);
     let after = changed(alloc, state, &state.registers, flags_written(value))?;
-    let added = sreg_written(nodes, alloc, value.bits.bit(I), key, &after, is_out)?;
+    let added = sreg_written(nodes, alloc, value.bits.bit(I), &write.key, &after, is_out)?;
     Ok(added)
 }
 
@@ -215,27 +187,21 @@ fn flags_set(
 pub(crate) fn written_at(
     nodes: &mut Nodes,
     alloc: Global,
-    write: &Write,
+    write: &Write<'_>,
     is_out: bool,
-    state: &AbsState,
     address: u16,
 ) -> Result<(), NodeFault>
-    requires { length state.now.slots ≡ offset_of write.now.key.sp }
-    ensures { Adds nodes.old nodes.new result (writes.written_at write.now.pc write.now.key state.now is_out address write.now.value) }
+    ensures { Adds nodes.old nodes.new result (writes.written_at write.now.pc write.now.key write.now.state.now is_out address write.now.value) }
 {
-    let key = &write.key;
-    let value = write.value;
+    let (inst, sp) = (&write.key.inst, write.key.sp);
     match address {
-        0..REGISTERS_END => register_written(nodes, alloc, key, state, address, value),
+        0..REGISTERS_END => register_written(nodes, alloc, write, Register::new(address)),
         SPL => {
-            let offset = closing_offset(key.inst.kind, key.sp, value);
-            closing(nodes, alloc, offset, key, state, write.pc)
+            let offset = closing_offset(inst.kind, sp, write.value);
+            closing(nodes, alloc, offset, write)
         }
-        SPH => {
-            let high = high_part(key.inst.kind, value);
-            opening(nodes, alloc, high, key, state, write.pc)
-        }
-        SREG => flags_set(nodes, alloc, key, state, is_out, value),
-        _ => masks_written(nodes, alloc, key, state, address, value),
+        SPH => opening(nodes, alloc, high_part(inst.kind, write.value), write),
+        SREG => flags_set(nodes, alloc, write, is_out),
+        _ => masks_written(nodes, alloc, write, address),
     }
 }

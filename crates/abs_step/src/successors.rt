@@ -116,13 +116,6 @@ pub(crate) fn going_to(nodes: &mut Nodes, site: &Site<'_>, pc: u16) -> Result<()
     add_copy(nodes, site.alloc, at_word(site.key, pc), site.state)
 }
 
-/// Going on at the next word.
-pub(crate) fn going_on(nodes: &mut Nodes, site: &Site<'_>) -> Result<(), NodeFault>
-    ensures { Adds nodes.old nodes.new result (raw.going_on site.now.key.now site.now.state.now) }
-{
-    add_copy(nodes, site.alloc, next(site.key), site.state)
-}
-
 /// Going on at the next word with these registers and flags.
 pub(crate) fn setting(
     nodes: &mut Nodes,

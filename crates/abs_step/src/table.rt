@@ -1,29 +1,27 @@
 //! The whole table: where an instruction leads, and what leaves its instance.
 
-ghost use Rattle.std.specs.Prelude.{◌≡◌, ◌<◌, length, true};
+ghost use Rattle.std.specs.Prelude.{◌≡◌, ◌<◌};
 ghost use Rattle.avr_model.specs.Image.{WORDS};
-ghost use Rattle.mask_states.specs.Keys.{offset_of};
-ghost use Rattle.local_rules.specs.Registers as registers;
+ghost use Rattle.abs_rows.specs.Sections as sections;
 ghost use Rattle.local_rules.specs.Local as rows;
-ghost use Rattle.abs_step.specs.Adding.{Leads};
+ghost use Rattle.abs_step.specs.Adding.{Adds, Leads};
 
-use crate::bits::{bit_row, interrupts_row};
-use crate::data_transfer::{
-    in_row, known_write, ldd_row, lds_row, load_row, lpm_plus_row, lpm_row, std_row, store_row,
-};
+use crate::bits::{bit_row, flag_row};
+use crate::data_transfer::{known_write, load_row, lpm_row, read_row, store_row};
 use crate::flow::{
-    Outside, calling, indirect_call, jumping, opposite, relative_call, ret_exit, reti_exit,
-    returning, skipping, staying,
+    Outside, calling, indirect_call, jumping, relative_call, returning, skipping, staying,
 };
+use crate::pointer_stores::pointer_write;
 use crate::site::Site;
 use crate::stack::{pop_row, push_row};
-use crate::successors::{at_word, branch, going_on, going_to, next, setting};
+use crate::successors::{branch, going_to, setting};
 use abs_reads::flow::{are_equal, far, further, near, port, port_bit, register_bit};
-use abs_reads::pointers::base_register;
-use abs_rows::rows::computed_by;
+use abs_reads::pointers::step_before;
+use abs_rows::rows::{binary, computed_by};
 use abs_rows::status::flag_at;
-use avr_model::instruction::Instr;
-use local_rules::local::{NodeFault, Nodes};
+use abs_rows::transfer::{base_register, pair_moved, pointer_moved, pointer_register};
+use avr_model::instruction::{Base, BinaryOp, Instr, Register};
+use local_rules::local::{Exit, NodeFault, Nodes};
 
 // Flow, and what has no operand.
 fn flow_row(
@@ -35,43 +33,47 @@ fn flow_row(
     requires word { site.now.key.now.pc < WORDS }
     ensures { Leads nodes.old nodes.new result (rows.flow_row site.now.flash.now site.now.assumptions.now scratch site.now.key.now site.now.state.now instr.now) }
 {
-    let a = site.alloc;
+    let (a, key, state) = (site.alloc, site.key, site.state);
     match instr {
         Instr::Ijmp => staying(a, jumping(nodes, site)),
         Instr::Icall => indirect_call(site),
-        Instr::Ret => returning(a, site.key, ret_exit(site.key)),
-        Instr::Reti => returning(a, site.key, reti_exit(site.key)),
+        Instr::Ret => {
+            let (masks, i, delay) = (key.masks, key.i, false);
+            returning(site, Exit { masks, i, delay })
+        }
+        Instr::Reti => {
+            let (masks, i, delay) = (key.masks, true, true);
+            returning(site, Exit { masks, i, delay })
+        }
         Instr::Jmp(t) => staying(a, going_to(nodes, site, t.get())),
-        Instr::Call(t) => calling(a, site.key, further(site.key, 2), &[t.get()]),
-        Instr::Rjmp(t) => staying(a, going_to(nodes, site, far(site.key.pc, t.get()))),
-        Instr::Rcall(t) => relative_call(nodes, site, scratch, far(site.key.pc, t.get())),
+        Instr::Call(t) => calling(a, key, further(key, 2), &[t.get()]),
+        Instr::Rjmp(t) => staying(a, going_to(nodes, site, far(key.pc, *t))),
+        Instr::Rcall(t) => relative_call(nodes, site, scratch, far(key.pc, *t)),
         Instr::Brbs(n, t) => {
-            let condition = flag_at(site.key, site.state, n.get() as u8);
-            let (taken, other) = (near(site.key.pc, t.get()), further(site.key, 1));
-            staying(a, branch(nodes, site, condition, taken, other))
+            let (taken, other) = (near(key.pc, *t), further(key, 1));
+            staying(
+                a,
+                branch(nodes, site, flag_at(key, state, *n), taken, other),
+            )
         }
         Instr::Brbc(n, t) => {
-            let condition = opposite(flag_at(site.key, site.state, n.get() as u8));
-            let (taken, other) = (near(site.key.pc, t.get()), further(site.key, 1));
+            let condition = flag_at(key, state, *n).complement();
+            let (taken, other) = (near(key.pc, *t), further(key, 1));
             staying(a, branch(nodes, site, condition, taken, other))
         }
         Instr::Sbic(port, bit) => {
-            let condition = opposite(port_bit(site.key, site.state, port.get(), bit.get() as u8));
+            let condition = port_bit(key, state, *port, *bit).complement();
             staying(a, skipping(nodes, site, condition))
         }
         Instr::Sbis(port, bit) => {
-            let condition = port_bit(site.key, site.state, port.get(), bit.get() as u8);
-            staying(a, skipping(nodes, site, condition))
+            staying(a, skipping(nodes, site, port_bit(key, state, *port, *bit)))
         }
         Instr::Sbrc(r, bit) => {
-            let condition = opposite(register_bit(site.state, r.get(), bit.get() as u8));
+            let condition = register_bit(state, *r, *bit).complement();
             staying(a, skipping(nodes, site, condition))
         }
-        Instr::Sbrs(r, bit) => {
-            let condition = register_bit(site.state, r.get(), bit.get() as u8);
-            staying(a, skipping(nodes, site, condition))
-        }
-        _ => staying(a, going_on(nodes, site)),
+        Instr::Sbrs(r, bit) => staying(a, skipping(nodes, site, register_bit(state, *r, *bit))),
+        _ => staying(a, going_to(nodes, site, further(key, 1))),
     }
 }
 
@@ -85,50 +87,63 @@ fn memory_row(
     requires word { site.now.key.now.pc < WORDS }
     ensures { Leads nodes.old nodes.new result (rows.memory_row site.now.flash.now site.now.assumptions.now scratch site.now.key.now site.now.state.now instr.now) }
 {
-    let a = site.alloc;
+    let (a, key, state) = (site.alloc, site.key, site.state);
     match instr {
         Instr::Ldd(d, b, q) => {
-            let base = base_register(*b);
-            staying(a, ldd_row(nodes, site, d.get(), base, q.get()))
+            let r = base_register(*b);
+            staying(a, load_row(nodes, site, &state.registers, *d, r, q.get()))
         }
         Instr::Std(b, q, r) => {
             let base = base_register(*b);
-            let (up, r) = (q.get(), r.get());
-            staying(a, std_row(nodes, site, base, up, r))
+            staying(a, pointer_write(nodes, site, base, q.get(), *r, state))
         }
-        Instr::Lds(d, address) => staying(a, lds_row(nodes, site, d.get(), *address)),
+        Instr::Lds(d, address) => staying(a, read_row(nodes, site, further(key, 2), *d, *address)),
         Instr::Sts(address, r) => {
-            let after = at_word(site.key, further(site.key, 2));
-            staying(a, known_write(nodes, site, after, false, *address, r.get()))
+            let pc = further(key, 2);
+            staying(a, known_write(nodes, site, pc, false, *address, *r))
         }
-        Instr::Ld(d, p) => staying(a, load_row(nodes, site, d.get(), *p)),
-        Instr::St(p, r) => {
-            let r = r.get();
-            staying(a, store_row(nodes, site, *p, r))
+        Instr::Ld(d, p) => {
+            let (registers, r) = (pointer_moved(*p, state), pointer_register(*p));
+            staying(a, load_row(nodes, site, &registers, *d, r, step_before(*p)))
         }
-        Instr::LpmZ(d) => staying(a, lpm_row(nodes, site, d.get())),
-        Instr::LpmZPlus(d) => staying(a, lpm_plus_row(nodes, site, d.get())),
-        Instr::Lpm => staying(a, lpm_row(nodes, site, 0)),
-        Instr::Pop(d) => staying(a, pop_row(nodes, site, d.get())),
-        Instr::Push(r) => staying(a, push_row(nodes, site, scratch, r.get())),
-        Instr::In(d, i) => staying(a, in_row(nodes, site, d.get(), port(i.get()))),
+        Instr::St(p, r) => staying(a, store_row(nodes, site, *p, *r)),
+        Instr::LpmZ(d) => staying(a, lpm_row(nodes, site, &state.registers, *d)),
+        Instr::LpmZPlus(d) => {
+            let moved = pair_moved(state, base_register(Base::Z), true, 1);
+            staying(a, lpm_row(nodes, site, &moved, *d))
+        }
+        Instr::Lpm => staying(a, lpm_row(nodes, site, &state.registers, Register::new(0))),
+        Instr::Pop(d) => staying(a, pop_row(nodes, site, *d)),
+        Instr::Push(r) => staying(a, push_row(nodes, site, scratch, *r)),
+        Instr::In(d, i) => staying(a, read_row(nodes, site, further(key, 1), *d, port(*i))),
         Instr::Out(i, r) => {
-            let (after, address) = (next(site.key), port(i.get()));
-            staying(a, known_write(nodes, site, after, true, address, r.get()))
+            let pc = further(key, 1);
+            staying(a, known_write(nodes, site, pc, true, port(*i), *r))
         }
-        Instr::Cbi(i, b) => {
-            let (address, bit) = (port(i.get()), b.get() as u8);
-            staying(a, bit_row(nodes, site, address, bit, false))
-        }
-        Instr::Sbi(i, b) => {
-            let (address, bit) = (port(i.get()), b.get() as u8);
-            staying(a, bit_row(nodes, site, address, bit, true))
-        }
+        Instr::Cbi(i, b) => staying(a, bit_row(nodes, site, port(i.widened()), *b, false)),
+        Instr::Sbi(i, b) => staying(a, bit_row(nodes, site, port(i.widened()), *b, true)),
         _ => flow_row(nodes, site, scratch, instr),
     }
 }
 
-// What sets more than registers and flags.
+// What is done to two registers. `cpse` alone skips, where they are equal.
+fn binary_row(
+    nodes: &mut Nodes,
+    site: &Site<'_>,
+    op: BinaryOp,
+    d: Register,
+    r: Register,
+) -> Result<(), NodeFault>
+    requires word { site.now.key.now.pc < WORDS }
+    ensures { Adds nodes.old nodes.new result (rows.binary_row site.now.flash.now site.now.key.now site.now.state.now op d r) }
+{
+    match binary(site.state, op, d, r) {
+        Some(set) => setting(nodes, site, &set.registers, set.flags),
+        None => skipping(nodes, site, are_equal(site.state, d, r)),
+    }
+}
+
+// The rows that may do more than set registers and flags.
 fn other_row(
     nodes: &mut Nodes,
     site: &Site<'_>,
@@ -136,16 +151,13 @@ fn other_row(
     instr: &Instr,
 ) -> Result<Outside, NodeFault>
     requires word { site.now.key.now.pc < WORDS }
-    ensures { Leads nodes.old nodes.new result (rows.other_row site.now.flash.now site.now.assumptions.now scratch site.now.key.now site.now.state.now instr.now) }
+    ensures { Leads nodes.old nodes.new result (sections.other_row site.now.flash.now site.now.assumptions.now scratch site.now.key.now site.now.state.now instr.now) }
 {
     let a = site.alloc;
     match instr {
-        Instr::Binary(_, d, r) => {
-            let condition = are_equal(site.state, d.get(), r.get());
-            staying(a, skipping(nodes, site, condition))
-        }
-        Instr::Bset(_) => staying(a, interrupts_row(nodes, site, true)),
-        Instr::Bclr(_) => staying(a, interrupts_row(nodes, site, false)),
+        Instr::Binary(op, d, r) => staying(a, binary_row(nodes, site, *op, *d, *r)),
+        Instr::Bset(n) => staying(a, flag_row(nodes, site, *n, true)),
+        Instr::Bclr(n) => staying(a, flag_row(nodes, site, *n, false)),
         _ => memory_row(nodes, site, scratch, instr),
     }
 }

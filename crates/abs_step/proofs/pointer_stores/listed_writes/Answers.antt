@@ -7,9 +7,9 @@ use Rattle.abs_step.proofs.pointer_stores.listed_writes.Goals.{then-reaches+in_o
 
 pub loop-at-preserved : goal.loop-at-preserved
 loop-at-preserved c =
-    let p : ℕ → Bool = (λ a. reaches c.args.was.now c.args.r c.args.up a) in
-    let f : ℕ → Raw = (λ a. written_at c.args.write.now.pc c.args.write.now.key c.args.state.now false a c.args.write.now.value) in
-    let base = one c.args.write.now.key c.args.state.now in
+    let p : ℕ → Bool = (λ a. reaches c.args.site.now.state.now c.args.r c.args.up a) in
+    let f : ℕ → Raw = (λ a. written_at c.args.write.now.pc c.args.write.now.key c.args.write.now.state.now false a c.args.write.now.value) in
+    let base = one c.args.write.now.key c.args.write.now.state.now in
     elim c.if-reaches.branch [
       | then-reaches+in_ok-fault w ↦
           gathered_next p f base c.args.addresses.now c.loop-at.at c.args.nodes.now c.if-reaches.nodes c.if-reaches.fault (omega arith)

@@ -7,11 +7,11 @@ use Rattle.abs_step.proofs.pointer_stores.stored_too.Goals as goal
 pub returns-in-Ok-clause-ok : goal.returns-in-Ok-clause-ok
 returns-in-Ok-clause-ok c old r g =
     gathered_more old c.args.nodes.now c.written_at.new.nodes c.args.fault r
-    (written_at c.args.write.now.pc c.args.write.now.key c.args.state.now false c.args.address c.args.write.now.value) g c.in-Ok.ensures
+    (written_at c.args.write.now.pc c.args.write.now.key c.args.write.now.state.now false c.args.address c.args.write.now.value) g c.in-Ok.ensures
 
 pub returns-else-cause-eq0-clause-ok : goal.returns-else-cause-eq0-clause-ok
 returns-else-cause-eq0-clause-ok c old r g =
-    let written = written_at c.args.write.now.pc c.args.write.now.key c.args.state.now false c.args.address c.args.write.now.value in
+    let written = written_at c.args.write.now.pc c.args.write.now.key c.args.write.now.state.now false c.args.address c.args.write.now.value in
     subst (λ f. IsGathered old c.written_at.new.nodes (Some f) (with_another r written)) (sym c.first.ensures)
     (gathered_fault old c.args.nodes.now c.written_at.new.nodes c.args.fault c.in-Err.found r written g
     (c.in-Err.ensures (not_memory c.in-Err.found c.cause-cause.result c.cause-cause.ensures c.if-cause-eq0.false)))

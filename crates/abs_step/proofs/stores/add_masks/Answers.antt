@@ -7,7 +7,6 @@ loop-at-init c = none_added c.args.nodes.now
 
 pub loop-at-preserved : goal.loop-at-preserved
 loop-at-preserved c =
-    more_added (λ m. record { key = record c.args.key.now { masks = m }; state = c.args.state.now }) c.args.all.now c.loop-at.at c.index-all-at.result
-    c.args.nodes.now c.loop-at.nodes c.add_copy.new.nodes c.with_masks.result c.args.state.now (omega arith)
-    (ap (λ k. record { key = k; state = c.args.state.now }) c.with_masks.ensures
-    ∙ ap (λ m. record { key = record c.args.key.now { masks = m }; state = c.args.state.now }) c.index-all-at.is) c.loop-at.invariant c.in_ok-add_copy.ensures
+    more_added (λ m. record { key = record c.args.write.now.key { masks = m }; state = c.args.write.now.state.now }) c.args.all.now c.loop-at.at c.index-all-at.result
+    c.args.nodes.now c.loop-at.nodes c.add_copy.new.nodes (record c.args.write.now.key { masks = c.index-all-at.result }) c.args.write.now.state.now (omega arith)
+    (ap (λ m. record { key = record c.args.write.now.key { masks = m }; state = c.args.write.now.state.now }) c.index-all-at.is) c.loop-at.invariant c.in_ok-add_copy.ensures
