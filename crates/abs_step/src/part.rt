@@ -26,10 +26,7 @@ fn at_instruction(site: &Site<'_>) -> Result<Local, NodeFault>
     ensures { Settles result (rows.row_at site.now.flash.now site.now.assumptions.now (is_scratch site.now.flash.now site.now.key.now.pc) site.now.key.now site.now.state.now (instruction_at site.now.flash.now site.now.key.now.pc)) }
 {
     let scratch = avr_decode::is_scratch(site.flash.words(), site.key.pc);
-    match avr_decode::decode(
-        site.flash.word(site.key.pc),
-        site.flash.word(site.key.pc + 1),
-    ) {
+    match avr_decode::instruction(site.flash.words(), usize::from(site.key.pc)) {
         Some(instr) => {
             let mut same = Nodes::new(site.alloc);
             let outside = row(&mut same, site, scratch, &instr)?;

@@ -15,11 +15,12 @@ use crate::pointer_stores::pointer_write;
 use crate::site::Site;
 use crate::stack::{pop_row, push_row};
 use crate::successors::{branch, going_to, setting};
-use abs_reads::flow::{are_equal, far, further, near, port, port_bit, register_bit};
+use abs_reads::flow::{are_equal, further, port, port_bit, register_bit};
 use abs_reads::pointers::step_before;
 use abs_rows::rows::{binary, computed_by};
 use abs_rows::status::flag_at;
 use abs_rows::transfer::{base_register, pair_moved, pointer_moved, pointer_register};
+use avr_decode::{far, near};
 use avr_model::instruction::{Base, BinaryOp, Instr, Register};
 use local_rules::local::{Exit, NodeFault, Nodes};
 
@@ -47,10 +48,10 @@ fn flow_row(
         }
         Instr::Jmp(t) => staying(a, going_to(nodes, site, t.get())),
         Instr::Call(t) => calling(a, key, further(key, 2), &[t.get()]),
-        Instr::Rjmp(t) => staying(a, going_to(nodes, site, far(key.pc, *t))),
-        Instr::Rcall(t) => relative_call(nodes, site, scratch, far(key.pc, *t)),
+        Instr::Rjmp(t) => staying(a, going_to(nodes, site, far(key.pc, t.get()))),
+        Instr::Rcall(t) => relative_call(nodes, site, scratch, far(key.pc, t.get())),
         Instr::Brbs(n, t) => {
-            let (taken, other) = (near(key.pc, *t), further(key, 1));
+            let (taken, other) = (near(key.pc, t.get()), further(key, 1));
             staying(
                 a,
                 branch(nodes, site, flag_at(key, state, *n), taken, other),
@@ -58,7 +59,7 @@ fn flow_row(
         }
         Instr::Brbc(n, t) => {
             let condition = flag_at(key, state, *n).complement();
-            let (taken, other) = (near(key.pc, *t), further(key, 1));
+            let (taken, other) = (near(key.pc, t.get()), further(key, 1));
             staying(a, branch(nodes, site, condition, taken, other))
         }
         Instr::Sbic(port, bit) => {

@@ -1,4 +1,4 @@
-use Rattle.std.proofs.Common.{ap, ◌∙◌, arith}
+use Rattle.std.proofs.Common.{ap, arith}
 use Rattle.abs_step.proofs.Added.{none_added, more_added}
 use Rattle.abs_step.proofs.stores.add_masks.Goals as goal
 
