@@ -1,10 +1,10 @@
-use Rattle.std.proofs.Common.{◌≡◌, ◌∙◌, sym, ap, true, false, Some}
+use Rattle.std.proofs.Common.{◌∙◌, sym, ap, true, false, Some}
 use Rattle.avr_model.specs.declared.instruction.BinaryOp.{BinaryOp}
 use Rattle.avr_model.specs.declared.operation.Logic.TheVariants as logic
 use Rattle.bit_domain.specs.declared.bits.Tri.TheVariants.{Zero}
 use Rattle.bit_domain.specs.TriByte.{byte_constant}
 use Rattle.sp_domain.specs.declared.tags.Tag.TheVariants as tag
-use Rattle.local_rules.specs.Registers.{bits, carry_bit, or_nothing, compare_after, sbc_after, sum_after, sub_after, logic_after, register_set, binary_after}
+use Rattle.local_rules.specs.Registers.{or_nothing, compare_after, sbc_after, sum_after, sub_after, logic_after, register_set, binary_after}
 use Rattle.abs_rows.proofs.rows.binary.Goals as goal
 
 pub returns-in-Cpc : goal.returns-in-Cpc
