@@ -1,4 +1,3 @@
 mod Lines
 mod Plain
 mod Same
-mod Sampled
