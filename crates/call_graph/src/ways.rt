@@ -83,7 +83,6 @@ fn add_vector(ways: &mut Vec<Way>, key: &NodeKey, v: u8) -> Result<(), AllocErro
 }
 
 // The ways of all interrupts.
-#[tactic(auto, unfolding(crate::specs::Ways::vectors_below))]
 fn add_vectors(ways: &mut Vec<Way>, key: &NodeKey) -> Result<(), AllocError>
     ensures { OnOk result (ways.new.items ≡ ways.old.items ++ vectors_below key.now 25) }
 {

@@ -1,0 +1,17 @@
+-- The ways of one vector more.
+use Rattle.std.proofs.Common.{◌≡◌, sym, ap, ◌∙◌, ℕ, ◌+◌, List, ◌++◌, append_assoc, add-one}
+use Rattle.std.proofs.lemmas.List.{append-nil}
+use Rattle.mask_states.specs.declared.keys.NodeKey.{NodeKey}
+use Rattle.call_graph.specs.declared.ways.Way.{Way}
+use Rattle.call_graph.specs.Ways.{at_vector, vectors_below}
+
+pub no_vectors : (k : NodeKey) (start : List Way) → start ≡ start ++ vectors_below k 0
+unfolding vectors_below
+no_vectors k start = sym (append-nil start)
+
+pub one_vector_more : (k : NodeKey) (n : ℕ) (start before now : List Way) → before ≡ start ++ vectors_below k n → now ≡ before ++ at_vector k (n + 2) → now ≡ start ++ vectors_below k (n + 1)
+unfolding vectors_below
+one_vector_more k n start before now so e =
+    let whole : now ≡ start ++ (vectors_below k n ++ at_vector k (n + 2)) =
+    e ∙ ap (λ ws. ws ++ at_vector k (n + 2)) so ∙ append_assoc start (vectors_below k n) (at_vector k (n + 2)) in
+    rw add-one whole
