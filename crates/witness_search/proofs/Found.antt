@@ -1,6 +1,7 @@
 -- What a trial finds, and the first of them.
 use Rattle.std.proofs.lemmas.List.Elements.{Contains-append_cases}
-use Rattle.std.proofs.Common.{arith, suc, zero, refl, sym, ap, subst, ◌∙◌, ◌≡◌, ◌≢◌, ◌≤◌, ◌<◌, ◌+◌, ℕ, slice_index_or, List, [], ◌∷◌, ◌++◌, length, Option, Some, Contains, IsOkAnd, inl, inr, take, drop}
+use Rattle.std.proofs.lemmas.List.{take_more}
+use Rattle.std.proofs.Common.{arith, add-one, suc, zero, refl, sym, ap, subst, ◌∙◌, ◌≡◌, ◌≢◌, ◌≤◌, ◌<◌, ◌+◌, ℕ, slice_index_or, List, [], ◌∷◌, ◌++◌, length, Option, Some, Contains, IsOkAnd, inl, inr, take, drop}
 use Rattle.avr_model.specs.declared.choice.Choice.{Choice}
 use Rattle.avr_model.specs.declared.choice.Stop.TheVariants as stop
 use Rattle.avr_model.specs.declared.assumption.Entry.{Entry}
@@ -11,7 +12,7 @@ use Rattle.witness_replay.specs.Spelling.{Plan, IsSchedule, choices_of}
 use Rattle.witness_replay.specs.Replay.{replay_from, report_unless, steps_of}
 use Rattle.witness_search.specs.declared.waypoint.Waypoint.{Waypoint}
 use Rattle.witness_search.specs.Waypoints.{pick_due, due_left}
-use Rattle.witness_search.specs.Trials.{fills, fill_at, most_steps, trial_by, trial_of, Succeeds, NoneSucceeds, IsTried, IsFound, Attains}
+use Rattle.witness_search.specs.Trials.{fills, most_steps, trial_by, trial_of, Succeeds, NoneSucceeds, IsTried, IsFound, Attains}
 use Rattle.witness_search.proofs.Depths.{from_none}
 use Rattle.witness_search.proofs.Runs.{few, ends_well, run_legal}
 
@@ -105,27 +106,18 @@ module _ (words : List ℕ) (A : List Entry) (points : List Waypoint) (bound : �
 
 -- ---- the trials' bytes by their numbers
 
-pub parted : (t : ℕ) → t < 8 → fills ≡ take t fills ++ fill_at t ∷ drop (t + 1) fills
-parted zero h = refl
-parted (suc zero) h = refl
-parted (suc (suc zero)) h = refl
-parted (suc (suc (suc zero))) h = refl
-parted (suc (suc (suc (suc zero)))) h = refl
-parted (suc (suc (suc (suc (suc zero))))) h = refl
-parted (suc (suc (suc (suc (suc (suc zero)))))) h = refl
-parted (suc (suc (suc (suc (suc (suc (suc zero))))))) h = refl
-parted (suc (suc (suc (suc (suc (suc (suc (suc n)))))))) h = absurd (omega (arith, h))
+split_at : (xs : List ℕ) (t : ℕ) → t < length xs → xs ≡ take t xs ++ slice_index_or xs t 0 ∷ drop (t + 1) xs
+split_at [] t lt = absurd (omega (arith, lt))
+split_at (x ∷ xs) zero lt = refl
+split_at (x ∷ xs) (suc t) lt =
+    let rest = rw add-one at (split_at xs t (omega (arith, lt))) in
+    rw add-one (ap (λ (ys : List ℕ). x ∷ ys) rest)
 
-pub taken_more : (t : ℕ) → t < 8 → take (t + 1) fills ≡ take t fills ++ fill_at t ∷ []
-taken_more zero h = refl
-taken_more (suc zero) h = refl
-taken_more (suc (suc zero)) h = refl
-taken_more (suc (suc (suc zero))) h = refl
-taken_more (suc (suc (suc (suc zero)))) h = refl
-taken_more (suc (suc (suc (suc (suc zero))))) h = refl
-taken_more (suc (suc (suc (suc (suc (suc zero)))))) h = refl
-taken_more (suc (suc (suc (suc (suc (suc (suc zero))))))) h = refl
-taken_more (suc (suc (suc (suc (suc (suc (suc (suc n)))))))) h = absurd (omega (arith, h))
+pub parted : (t : ℕ) → t < 8 → fills ≡ take t fills ++ slice_index_or fills t 0 ∷ drop (t + 1) fills
+parted t lt = split_at fills t lt
+
+pub taken_more : (t : ℕ) → t < 8 → take (t + 1) fills ≡ take t fills ++ slice_index_or fills t 0 ∷ []
+taken_more t lt = take_more fills t 0 lt
 
 pub taken_all : (t : ℕ) → t ≡ 8 → take t fills ≡ fills
 taken_all t e = ap (λ (n : ℕ). take n fills) e

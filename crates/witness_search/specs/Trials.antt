@@ -1,5 +1,5 @@
 -- Trials along waypoints, and which of them succeeds first. Source: own.
-use Rattle.std.specs.Prelude.{ℕ, ◌≡◌, List, [], ◌∷◌, ◌++◌, Option, Some, None, Contains, IsOkAnd, ◌==◌, if◌then◌else◌}
+use Rattle.std.specs.Prelude.{ℕ, ◌≡◌, List, [], ◌∷◌, ◌++◌, Option, Some, None, Contains, IsOkAnd}
 use Rattle.avr_model.specs.declared.choice.Choice.{Choice}
 use Rattle.avr_model.specs.declared.assumption.Entry.{Entry}
 use Rattle.avr_model.specs.declared.choice.Stop.TheVariants as stop
@@ -14,11 +14,6 @@ use Rattle.witness_search.specs.Waypoints.{pick_due, due_left}
 -- the bytes that fill the memory at reset and are all input of a trial, in the order of the trials
 abbrev pub fills : List ℕ
 fills = 0x00 ∷ 0xFF ∷ 0x55 ∷ 0xAA ∷ 0x01 ∷ 0x80 ∷ 0x7F ∷ 0xFE ∷ []
-
--- the byte of the trial of this number
-abbrev pub fill_at : ℕ → ℕ
-fill_at t =
-    if t == 0 then 0x00 else (if t == 1 then 0xFF else (if t == 2 then 0x55 else (if t == 3 then 0xAA else (if t == 4 then 0x01 else (if t == 5 then 0x80 else (if t == 6 then 0x7F else 0xFE))))))
 
 -- how many steps a trial has at most
 unfoldable pub most_steps : ℕ

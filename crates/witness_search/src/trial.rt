@@ -4,7 +4,7 @@ ghost use Rattle.std.specs.Prelude.{◌≡◌, IfOk, IfSome};
 ghost use Rattle.avr_model.specs.State.{filled};
 ghost use Rattle.avr_model.specs.Run.{IsRun, depth_of};
 ghost use Rattle.witness_search.specs.Waypoints.{taken, left_after};
-ghost use Rattle.witness_search.specs.Trials.{fill_at, trial_by, most_steps, Attains, IsTried, IsFound};
+ghost use Rattle.witness_search.specs.Trials.{trial_by, most_steps, Attains, IsTried, IsFound};
 
 use crate::waypoint::{Waypoint, is_due};
 use avr_machine::{Choice, Machine, Menu};
@@ -78,33 +78,8 @@ fn try_fill(
     Ok(Some(schedule))
 }
 
-/// The byte with which the trial of this number begins, counted from 0.
-fn fill_of(t: u8) -> u8
-    ensures { result ≡ fill_at t }
-{
-    if t == 0 {
-        return 0x00;
-    }
-    if t == 1 {
-        return 0xFF;
-    }
-    if t == 2 {
-        return 0x55;
-    }
-    if t == 3 {
-        return 0xAA;
-    }
-    if t == 4 {
-        return 0x01;
-    }
-    if t == 5 {
-        return 0x80;
-    }
-    if t == 6 {
-        return 0x7F;
-    }
-    0xFE
-}
+// The bytes that fill the memory at reset and are all input of a trial, in the order of the trials.
+const FILLS: [u8; 8] = [0x00, 0xFF, 0x55, 0xAA, 0x01, 0x80, 0x7F, 0xFE];
 
 /// The schedule of the first trial whose depth is the bound. None exactly where no trial's is. The replay of the schedule ends
 /// without a stop, and its depth is the bound.
@@ -119,7 +94,7 @@ pub fn first_trial(
     ensures attained { IfOk result (λ found. IfSome found (Attains flash.now assumptions.now bound)) }
 {
     for t in 0..8 {
-        let fill = fill_of(t);
+        let fill = FILLS[t];
         if let Some(schedule) = try_fill(alloc, flash, assumptions, points, bound, fill)? {
             return Ok(Some(schedule));
         }

@@ -1,21 +1,21 @@
-use Rattle.std.proofs.Common.{◌≡◌, ◌+◌, ◌++◌, ◌∷◌, [], arith, sym, subst, ap, ◌∙◌, take, drop, ℕ}
+use Rattle.std.proofs.Common.{◌≡◌, ◌+◌, [], arith, sym, subst, take, drop, ℕ, slice_index_or}
 use Rattle.witness_search.specs.Trials.{fills, NoneSucceeds, IsTried}
 use Rattle.witness_search.proofs.Found.{none_more, first, parted, taken_more, taken_all}
 use Rattle.witness_search.proofs.trial.first_trial.Goals as goal
 
 pub returns-in-Some-clause-first : goal.returns-in-Some-clause-first
 returns-in-Some-clause-first c =
-    first c.args.flash.now c.args.assumptions.now c.args.points.now c.args.bound (take c.loop-t.t fills) (drop (c.loop-t.t + 1) fills) c.fill_of-fill.result c.in-Some.schedule
-    (parted c.loop-t.t c.loop-t-test.true ∙ ap (λ (b : ℕ). take c.loop-t.t fills ++ b ∷ drop (c.loop-t.t + 1) fills) (sym c.fill_of-fill.ensures))
-    c.loop-t.invariant
-    (subst (IsTried c.args.flash.now c.args.assumptions.now c.args.points.now c.args.bound c.fill_of-fill.result) c.in-Some.is c.in_ok-schedule.ensures.tried)
+    let fill : ℕ = slice_index_or fills c.loop-t.t 0 in
+    first c.args.flash.now c.args.assumptions.now c.args.points.now c.args.bound (take c.loop-t.t fills) (drop (c.loop-t.t + 1) fills) fill c.in-Some.schedule
+    (parted c.loop-t.t c.loop-t-test.true) c.loop-t.invariant
+    (subst (IsTried c.args.flash.now c.args.assumptions.now c.args.points.now c.args.bound fill) c.in-Some.is c.in_ok-schedule.ensures.tried)
 
 pub loop-t-preserved : goal.loop-t-preserved
 loop-t-preserved c =
-    subst (NoneSucceeds c.args.flash.now c.args.assumptions.now c.args.points.now c.args.bound)
-    (ap (λ (b : ℕ). take c.loop-t.t fills ++ b ∷ []) c.fill_of-fill.ensures ∙ sym (taken_more c.loop-t.t c.loop-t-test.true))
-    (none_more c.args.flash.now c.args.assumptions.now c.args.points.now c.args.bound (take c.loop-t.t fills) c.fill_of-fill.result c.loop-t.invariant
-    (subst (IsTried c.args.flash.now c.args.assumptions.now c.args.points.now c.args.bound c.fill_of-fill.result) c.in_default.is c.in_ok-schedule.ensures.tried))
+    let fill : ℕ = slice_index_or fills c.loop-t.t 0 in
+    subst (NoneSucceeds c.args.flash.now c.args.assumptions.now c.args.points.now c.args.bound) (sym (taken_more c.loop-t.t c.loop-t-test.true))
+    (none_more c.args.flash.now c.args.assumptions.now c.args.points.now c.args.bound (take c.loop-t.t fills) fill c.loop-t.invariant
+    (subst (IsTried c.args.flash.now c.args.assumptions.now c.args.points.now c.args.bound fill) c.in_default.is c.in_ok-schedule.ensures.tried))
 
 pub returns-clause-first : goal.returns-clause-first
 returns-clause-first c =
