@@ -81,21 +81,6 @@ fn listed_writes(
     }
 }
 
-// At a fixed site the address has to be known.
-fn fixed_write(
-    nodes: &mut Nodes,
-    alloc: Global,
-    address: Option<u16>,
-    write: &Write<'_>,
-) -> Result<(), NodeFault>
-    ensures { Adds nodes.old nodes.new result (writes.fixed_write address write.now.pc write.now.key write.now.state.now write.now.value) }
-{
-    match address {
-        Some(address) => written_at(nodes, alloc, write, false, address),
-        None => Err(NodeFault::UnknownPointer(write.pc)),
-    }
-}
-
 // Whether the address of the store at this word has to be known.
 fn is_settled(flash: &Flash, assumptions: &Assumptions, pc: u16) -> bool
     ensures { result ≡ (is_fixed flash.now pc || is_proved assumptions.now pc) }
@@ -122,8 +107,10 @@ pub(crate) fn pointer_write(
         value: value(site.state, source),
     };
     if is_settled(site.flash, site.assumptions, site.key.pc) {
-        let address = point(site.state, r, up).constant;
-        fixed_write(nodes, site.alloc, address, &write)
+        match point(site.state, r, up).constant {
+            Some(address) => written_at(nodes, site.alloc, &write, false, address),
+            None => Err(NodeFault::UnknownPointer(site.key.pc)),
+        }
     } else {
         let addresses = site.assumptions.stores(site.key.pc);
         listed_writes(nodes, site, &write, r, up, addresses)

@@ -1,7 +1,6 @@
 //! Bytes that are pushed and popped, and calls that make room.
 
 ghost use Rattle.std.specs.Prelude.{◌≡◌, ◌<◌, ◌++◌, ◌∷◌, [], suc, length, IfOk, IfErr};
-ghost use Rattle.mask_states.specs.declared.keys.SpForm.TheVariants.{Closed};
 ghost use Rattle.local_rules.specs.declared.local.NodeFault.TheVariants.{Memory};
 ghost use Rattle.local_rules.specs.Flow as flow;
 ghost use Rattle.abs_step.specs.Adding.{Adds};
@@ -43,16 +42,6 @@ fn with_slot(alloc: Global, state: &AbsState, slot: Slot<AbsByte>) -> Result<Abs
     }
 }
 
-// The key with a closed stack pointer at this offset.
-fn closed_at(key: NodeKey, offset: u16) -> NodeKey
-    ensures { result ≡ record key { sp = Closed offset } }
-{
-    NodeKey {
-        sp: SpForm::Closed(offset),
-        ..key
-    }
-}
-
 /// `push`: register `r` goes to another slot.
 pub(crate) fn push_row(
     nodes: &mut Nodes,
@@ -69,7 +58,15 @@ pub(crate) fn push_row(
             }
             let slot = pushed_slot(scratch, value(site.state, r));
             let after = with_slot(site.alloc, site.state, slot)?;
-            add(nodes, closed_at(next(site.key), offset + 1), after)
+            let sp = SpForm::Closed(offset + 1);
+            add(
+                nodes,
+                NodeKey {
+                    sp,
+                    ..next(site.key)
+                },
+                after,
+            )
         }
         SpForm::Open(_, _) => Err(NodeFault::UntrackedSp(site.key.pc)),
     }
@@ -82,7 +79,15 @@ fn pop_from(nodes: &mut Nodes, site: &Site<'_>, d: Register, n: u16) -> Result<(
 {
     let mut after = with_slots(site.alloc, site.state, n)?;
     after.registers = set(&site.state.registers, d, slot_value(site.state, n));
-    let added = add(nodes, closed_at(next(site.key), n), after)?;
+    let sp = SpForm::Closed(n);
+    let added = add(
+        nodes,
+        NodeKey {
+            sp,
+            ..next(site.key)
+        },
+        after,
+    )?;
     Ok(added)
 }
 
@@ -112,7 +117,9 @@ pub(crate) fn room_row(nodes: &mut Nodes, site: &Site<'_>, target: u16) -> Resul
             }
             let one = with_slot(site.alloc, site.state, Slot::Free)?;
             let two = with_slot(site.alloc, &one, Slot::Free)?;
-            add(nodes, closed_at(at_word(site.key, target), offset + 2), two)
+            let sp = SpForm::Closed(offset + 2);
+            let after = at_word(site.key, target);
+            add(nodes, NodeKey { sp, ..after }, two)
         }
         SpForm::Open(_, _) => Err(NodeFault::UntrackedSp(site.key.pc)),
     }
