@@ -25,11 +25,6 @@ fn number(text: &str) -> Option<u16> {
     u16::from_str_radix(text, 16).ok()
 }
 
-// A hexadecimal number of at most two digits.
-fn byte(text: &str) -> Option<u8> {
-    u8::from_str_radix(text, 16).ok()
-}
-
 fn decimal(text: &str) -> Option<u16> {
     u16::from_str_radix(text, 10).ok()
 }
@@ -50,23 +45,17 @@ fn kind(text: &str) -> Option<Kind> {
     }
 }
 
-// `k` and a known high byte, or `t` and the number of its tag.
-fn high(text: &str) -> Option<High> {
-    match text.strip_prefix('k') {
-        Some(known) => Some(High::Known(byte(known)?)),
-        None => Some(High::Tag(number(text.strip_prefix('t')?)?)),
-    }
-}
-
-// `c` and the offset, or `o`, the offset of the low byte, a comma and the high byte.
+// `c` and the offset; or `o`, the offset of the low byte, a comma, and `k` with a known high byte or `t` with the number of its tag.
 fn form(text: &str) -> Option<SpForm> {
-    match text.split_once(',') {
-        Some((offset, rest)) => {
-            let offset = decimal(offset.strip_prefix('o')?)?;
-            Some(SpForm::Open(offset, high(rest)?))
-        }
-        None => Some(SpForm::Closed(decimal(text.strip_prefix('c')?)?)),
-    }
+    let Some((offset, high)) = text.split_once(',') else {
+        return Some(SpForm::Closed(decimal(text.strip_prefix('c')?)?));
+    };
+    let offset = decimal(offset.strip_prefix('o')?)?;
+    let high = match high.strip_prefix('k') {
+        Some(known) => High::Known(u8::from_str_radix(known, 16).ok()?),
+        None => High::Tag(number(high.strip_prefix('t')?)?),
+    };
+    Some(SpForm::Open(offset, high))
 }
 
 // A tag as certificates spell it: `-`, `f`, `e` and a register, `l` and a byte, `h` and a number.
@@ -76,9 +65,9 @@ fn tag(text: &str) -> Option<Tag> {
     } else if text == "f" {
         Some(Tag::EntryFlags)
     } else if let Some(r) = text.strip_prefix('e') {
-        Some(Tag::Entry(byte(r)?))
+        Some(Tag::Entry(u8::from_str_radix(r, 16).ok()?))
     } else if let Some(j) = text.strip_prefix('l') {
-        Some(Tag::SpLo(byte(j)?))
+        Some(Tag::SpLo(u8::from_str_radix(j, 16).ok()?))
     } else {
         Some(Tag::SpHi(number(text.strip_prefix('h')?)?))
     }
