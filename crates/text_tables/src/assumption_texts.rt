@@ -1,7 +1,7 @@
 //! Texts with the answers that the rules give, worked out by hand, written lists, and targets.
 
-use indirect_targets::{AssumeText, entry_of, read, targets, write};
 use bit_domain::TriByte;
+use indirect_targets::{AssumeText, entry_of, read, targets, write};
 use sb_base::LineWriter;
 use std::alloc::Global;
 use std::test::Fail;

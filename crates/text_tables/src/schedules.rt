@@ -1,13 +1,13 @@
 //! Texts and the places at which they are refused, and replays of small firmwares. Offsets are counted by hand, and the
 //! replays are worked out by hand from the Instruction Set Manual.
 
-use witness_replay::{IllegalChoice, ReplayReport, Schedule, ScheduleFault, replay};
 use avr_model::choice::{Choice, Flag, Stop};
 use flash_image::Flash;
 use sb_base::{LineReader, LineWriter};
 use std::alloc::Global;
 use std::test::Fail;
 use vector_table::Assumptions;
+use witness_replay::{IllegalChoice, ReplayReport, Schedule, ScheduleFault, replay};
 
 /// Each text with the place behind its schedule, or the offset of the refused line.
 const TEXTS: [(&[u8], Result<usize, usize>); 30] = [

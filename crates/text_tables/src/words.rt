@@ -135,6 +135,17 @@ fn is_line(reader: &mut LineReader<'_>, row: &(&[u8], usize, bool, usize)) -> bo
     }
 }
 
+/// Whether the words of a line are those and no more.
+fn are_words(line: &[u8]) -> bool {
+    let mut words = Words::new(line);
+    for word in WORDS {
+        if words.next() != Some(word) {
+            return false;
+        }
+    }
+    words.next().is_none()
+}
+
 #[test]
 fn lines_are_written_and_read(rt: HostRuntime) -> Result<(), Fail> {
     let text = written(rt.alloc())?;
@@ -142,11 +153,6 @@ fn lines_are_written_and_read(rt: HostRuntime) -> Result<(), Fail> {
     for (at, row) in LINES.iter().enumerate() {
         assert!(rt; is_line(&mut reader, row), "line {at}");
     }
-    let mut words = Words::new(LINES[0].0);
-    for (at, word) in WORDS.iter().enumerate() {
-        assert!(rt; words.next() == Some(*word), "word {at}");
-    }
-    assert!(rt; words.next().is_none());
-    assert!(rt; reader.next().is_none());
+    assert!(rt; reader.next().is_none() && are_words(LINES[0].0));
     Ok(())
 }
