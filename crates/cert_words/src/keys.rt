@@ -62,13 +62,6 @@ fn kind_of(word: &[u8]) -> Option<Kind>
     }
 }
 
-/// The kind of the next word.
-fn next_kind(words: &mut Words<'_>) -> Option<Kind>
-    ensures { option_map (λ k. (k, words.new)) result ≡ word_by kind_in words.old }
-{
-    kind_of(words.next()?)
-}
-
 /// Whether an instance of this kind can have this entry, these enable bits and this I.
 fn fits_kind(kind: Kind, entry: u16, masks: Masks, i: bool) -> bool
     ensures { result ≡ fits_kind kind entry masks i }
@@ -86,7 +79,7 @@ fn fits_kind(kind: Kind, entry: u16, masks: Masks, i: bool) -> bool
 pub fn inst_key_of(words: &mut Words<'_>) -> Option<InstKey>
     ensures { option_map (λ k. (k, words.new)) result ≡ inst_key_at words.old }
 {
-    let kind = next_kind(words)?;
+    let kind = kind_of(words.next()?)?;
     let entry = hex_word(words, 4)? as u16;
     let masks = masks_of(words)?;
     let i = flag_of(words)?;
@@ -113,14 +106,6 @@ pub fn is_root(kind: Kind) -> bool
     }
 }
 
-/// The form of the stack pointer in the next word.
-fn next_form(words: &mut Words<'_>, root: bool) -> Option<SpForm>
-    ensures exact { option_map (λ f. (f, words.new)) result ≡ word_by (form_in root) words.old }
-    ensures small { IfSome result (λ f. offset_of f ≤ model.SIZE) }
-{
-    form_of(words.next()?, root)
-}
-
 /// A node of this instance by its next words: word, enable bits, I, delay and form of the stack pointer. None exactly where they
 /// are those of no node that it can have.
 #[tactic(auto, unfolding(crate::specs::KeyReading::node_key_at))]
@@ -132,7 +117,7 @@ pub fn node_key_of(words: &mut Words<'_>, inst: &InstKey) -> Option<NodeKey>
     let masks = masks_of(words)?;
     let i = flag_of(words)?;
     let delay = flag_of(words)?;
-    let sp = next_form(words, is_root(inst.kind))?;
+    let sp = form_of(words.next()?, is_root(inst.kind))?;
     if pc < WORDS {
         Some(NodeKey {
             inst: *inst,

@@ -28,20 +28,6 @@ fn next_slot(words: &mut Words<'_>, root: bool) -> Option<Slot<AbsByte>>
     slot_of(words.next()?, root)
 }
 
-/// The flags of the next word.
-fn next_flags(words: &mut Words<'_>, root: bool) -> Option<(bool, TriByte)>
-    ensures { option_map (λ f. (f, words.new)) result ≡ word_by (flags_in root) words.old }
-{
-    flags_of(words.next()?, root)
-}
-
-/// The carry tag of the next word.
-fn next_carry(words: &mut Words<'_>, root: bool) -> Option<CarryTag>
-    ensures { option_map (λ c. (c, words.new)) result ≡ word_by (carry_in root) words.old }
-{
-    carry_of(words.next()?, root)
-}
-
 /// All registers, of which the first has this value.
 fn registers_of(words: &mut Words<'_>, root: bool, first: AbsByte) -> Option<[AbsByte; 32]>
     ensures { option_map (λ r. (r, words.new)) result ≡ words_from (value_in root) (first ∷ []) 31 words.old }
@@ -80,8 +66,8 @@ fn slots_of(
 fn both_flags_of(words: &mut Words<'_>, root: bool) -> Option<AbsFlags>
     ensures { option_map (λ f. (f, words.new)) result ≡ flags_at root words.old }
 {
-    let (entry, bits) = next_flags(words, root)?;
-    let carry = next_carry(words, root)?;
+    let (entry, bits) = flags_of(words.next()?, root)?;
+    let carry = carry_of(words.next()?, root)?;
     Some(AbsFlags { entry, bits, carry })
 }
 
