@@ -1,5 +1,5 @@
 #!/usr/bin/env python3
-"""The rows of crates/value_tables/src/arithmetic/rows.rt: results and flags at the edges of each operand.
+"""The rows of crates/value_tables/src/tests/arithmetic/rows.rt: results and flags at the edges of each operand.
 
 Each flag is the Boolean formula of the instruction, over the bits of the operands and the result, as the Instruction Set
 Manual (DS40002198) has it. The formulas were written from memory, with no copy of the manual at hand, and are still to be

@@ -2,14 +2,4 @@
 #![tactic(auto)]
 
 #[cfg(test)]
-mod abstract_arithmetic;
-#[cfg(test)]
-mod arithmetic;
-#[cfg(test)]
-mod keys;
-#[cfg(test)]
-mod offsets;
-#[cfg(test)]
-mod states;
-#[cfg(test)]
-mod three_valued;
+mod tests;

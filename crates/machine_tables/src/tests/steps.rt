@@ -3,7 +3,7 @@
 
 mod rows;
 
-use crate::programs::flash_of;
+use crate::tests::programs::flash_of;
 use avr_machine::{Assumptions, Choice, Entry, Flag, Flash, Listed, Machine, StepResult};
 use rows::{FLOW_ROWS, MEMORY_ROWS, REGISTER_ROWS};
 use std::alloc::{AllocError, Global};

@@ -2,7 +2,7 @@ use Rattle.std.proofs.Common.{◌≡◌, ◌∙◌, sym, ap, subst, length, slic
 use Rattle.abs_state.specs.declared.state.AbsState.{AbsState}
 use Rattle.abs_state.proofs.AllLaws.{reset_stands}
 use Rattle.value_tables.proofs.Named.{AllName, set_names}
-use Rattle.value_tables.proofs.states.state.Goals as goal
+use Rattle.value_tables.proofs.tests.states.state.Goals as goal
 
 pub returns-clause-names : goal.returns-clause-names
 returns-clause-names c =

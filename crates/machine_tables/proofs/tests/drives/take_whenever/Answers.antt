@@ -1,7 +1,7 @@
 use Rattle.std.proofs.Common.{rules, IsTrue}
 use Rattle.avr_machine.specs.Menu.{has_choice}
 use Rattle.stimulus.proofs.Steadiness.{steady_by}
-use Rattle.machine_tables.proofs.drives.take_whenever.Goals as goal
+use Rattle.machine_tables.proofs.tests.drives.take_whenever.Goals as goal
 
 pub new-driver-requires : goal.new-driver-requires
 new-driver-requires c =

@@ -1,0 +1,8 @@
+//! The tables, by what they are about.
+
+mod abstract_arithmetic;
+mod arithmetic;
+mod keys;
+mod offsets;
+mod states;
+mod three_valued;
