@@ -1,18 +1,10 @@
 //! Reports of one certificate, with and without a schedule, names and static data.
 
-ghost use Rattle.std.specs.Prelude.{◌≡◌, IfOk};
-ghost use Rattle.avr_model.specs.Image.{FLASH_BYTES};
-ghost use Rattle.reports.specs.Examples.{blinker_insts};
-
-use reports::{report_json, report_text};
-use certificate::{Certificate, Inst};
+use cert_format::read;
 use flash_image::Names;
-use mask_states::{InstKey, Kind};
-use sb_base::LineReader;
-use std::alloc::{AllocError, Global};
+use reports::{report_json, report_text};
+use std::alloc::Global;
 use std::test::Fail;
-use vector_table::{Assumptions, Masks};
-use witness_replay::Schedule;
 
 /// What is reported: the bound, whether the certificate has a schedule, the name of word 0040, and the end of static data.
 #[derive(Clone, Copy)]
@@ -60,66 +52,27 @@ const ROWS: [Row; 4] = [
     },
 ];
 
-/// The enable bit of vector 17 alone.
-#[tactic(auto, using(crate::proofs::Sampled::enabled_alone))]
-fn enabled_alone() -> Masks
-    ensures { result ≡ FLASH_BYTES }
-{
-    Masks::none().with(17, true)
-}
+/// The instances of the certificate: the root, a call of word 0040, and the vector 17.
+const INSTANCES: &str =
+    "instances 3\ninst root 0000 0000000 0 rank 2 need 9\ninst call 0040 0000000 0 rank 1 need 7\ninst v17 0020 0008000 0 rank 0 need 5\n";
 
-/// The root, a call and an interrupt.
-fn instances(alloc: Global) -> Result<Vec<Inst>, AllocError>
-    ensures { IfOk result (λ instances. instances.items ≡ blinker_insts) }
-{
-    let root = Inst {
-        key: InstKey::root(),
-        rank: 2,
-        need: 9,
-    };
-    let call = Inst {
-        key: InstKey {
-            kind: Kind::Call,
-            entry: 0x40,
-            masks: Masks::none(),
-            i: false,
-        },
-        rank: 1,
-        need: 7,
-    };
-    let interrupt = Inst {
-        key: InstKey {
-            kind: Kind::Vector(17),
-            entry: 0x20,
-            masks: enabled_alone(),
-            i: false,
-        },
-        rank: 0,
-        need: 5,
-    };
-    let mut instances = Vec::new(alloc);
-    instances.push(root)?;
-    instances.push(call)?;
-    instances.push(interrupt)?;
-    Ok(instances)
-}
-
-/// The row's certificate.
-fn certificate(alloc: Global, row: &Row) -> Result<Certificate, Fail> {
-    let bound = row.bound.min(2048);
-    let instances = instances(alloc)?;
-    let open = Certificate::build(bound, Assumptions::empty(alloc), instances, Vec::new(alloc));
-    if !row.attained {
-        return Ok(open);
+/// The end of its text with a schedule and without one.
+fn ending(attained: bool) -> &'static str {
+    if attained {
+        "witness attained\nschedule 1\nfill 00\nend\nend\n"
+    } else {
+        "witness open\nend\n"
     }
-    let mut reader = LineReader::new(b"schedule 1\nfill 00\nend\n");
-    let schedule = Schedule::read(alloc, &mut reader).map_err(|_| "no schedule")?;
-    Ok(open.with_witness(Some(schedule)))
 }
 
 /// Whether both reports of the row's certificate are the row's.
 fn is_row(alloc: Global, row: &Row) -> Result<bool, Fail> {
-    let certificate = certificate(alloc, row)?;
+    let bound = row.bound;
+    let ending = ending(row.attained);
+    let certificate_text = format!(in alloc;
+        "stackcert 1\nbound {bound}\nassume 0\n{INSTANCES}nodes 0\n{ending}"
+    )?;
+    let certificate = read(alloc, certificate_text.as_bytes()).map_err(|_| "no certificate")?;
     let mut names = Names::new(alloc);
     if let Some(name) = row.name {
         names.add(0x40, name.as_bytes())?;

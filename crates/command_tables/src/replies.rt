@@ -1,7 +1,7 @@
 //! Worked commands over files in memory: what is printed, and the status.
 
-use stack_core::stackbound;
 use sb_base::{MemFiles, MemSink};
+use stack_core::stackbound;
 use std::alloc::{AllocError, Global};
 use std::test::Fail;
 
@@ -100,133 +100,124 @@ fn is_judged(alloc: Global, row: &Judged) -> Result<bool, AllocError> {
     is_row(alloc, &row)
 }
 
+const JUDGED: [Judged; 11] = [
+    Judged {
+        words: CHECK,
+        firmware: LOOP,
+        bound: 0,
+        need: 0,
+        nodes: &[(0, 0)],
+        ending: NO_STEP,
+        status: 0,
+        printed: "accepted bound 0 attained\n",
+    },
+    Judged {
+        words: CHECK,
+        firmware: PUSH_AND_POP,
+        bound: 1,
+        need: 1,
+        nodes: NODES,
+        ending: ATTAINED,
+        status: 0,
+        printed: "accepted bound 1 attained\n",
+    },
+    Judged {
+        words: CHECK,
+        firmware: PUSH_AND_POP,
+        bound: 2048,
+        need: 9,
+        nodes: NODES,
+        ending: OPEN,
+        status: 0,
+        printed: "accepted bound 2048 open\n",
+    },
+    Judged {
+        words: CHECK,
+        firmware: PUSH_AND_POP,
+        bound: 0,
+        need: 1,
+        nodes: NODES,
+        ending: OPEN,
+        status: 1,
+        printed: "rejected 6 least 1\n",
+    },
+    Judged {
+        words: CHECK,
+        firmware: PUSH_AND_POP,
+        bound: 0,
+        need: 0,
+        nodes: NODES,
+        ending: OPEN,
+        status: 1,
+        printed: "rejected 5 inst 0 least 1\n",
+    },
+    Judged {
+        words: CHECK,
+        firmware: PUSH_AND_POP,
+        bound: 1,
+        need: 1,
+        nodes: &[(1, 1), (2, 0)],
+        ending: OPEN,
+        status: 1,
+        printed: "rejected 1 root\n",
+    },
+    Judged {
+        words: CHECK,
+        firmware: PUSH_AND_POP,
+        bound: 1,
+        need: 1,
+        nodes: &[(0, 0), (1, 1)],
+        ending: OPEN,
+        status: 1,
+        printed: "rejected 3 node 1 to root 0000 0000000 0 0002 0000000 0 0 c0\n",
+    },
+    Judged {
+        words: CHECK,
+        firmware: PUSH_AND_POP,
+        bound: 1,
+        need: 1,
+        nodes: NODES,
+        ending: NO_STEP,
+        status: 1,
+        printed: "rejected 8 witness\n",
+    },
+    Judged {
+        words: REPORT,
+        firmware: PUSH_AND_POP,
+        bound: 1,
+        need: 1,
+        nodes: NODES,
+        ending: ATTAINED,
+        status: 0,
+        printed: "bound 1\nwitness attained\nstatic none\ninst root 0000 0000000 0 - need 1\n",
+    },
+    Judged {
+        words: REPORT_AS_JSON,
+        firmware: LOOP,
+        bound: 0,
+        need: 0,
+        nodes: &[(0, 0)],
+        ending: NO_STEP,
+        status: 0,
+        printed: "{\"bound\":0,\"fits\":null,\"instances\":[{\"enables\":0,\"entry\":0,\"i\":0,\"kind\":\"root\",\"name\":null,\"need\":0}],\"room\":null,\"static\":null,\"witness\":\"attained\"}\n",
+    },
+    Judged {
+        words: REPORT,
+        firmware: PUSH_AND_POP,
+        bound: 1,
+        need: 1,
+        nodes: NODES,
+        ending: NO_STEP,
+        status: 1,
+        printed: "rejected 8 witness\n",
+    },
+];
+
 #[test]
 fn certificates_are_judged(rt: HostRuntime) -> Result<(), Fail> {
-    let row = |firmware, bound, need, nodes, ending, status, printed| Judged {
-        words: CHECK,
-        firmware,
-        bound,
-        need,
-        nodes,
-        ending,
-        status,
-        printed,
-    };
-    let report = |firmware, bound, need, nodes, ending, status, printed| Judged {
-        words: REPORT,
-        firmware,
-        bound,
-        need,
-        nodes,
-        ending,
-        status,
-        printed,
-    };
-    let json = |firmware, bound, need, nodes, ending, status, printed| Judged {
-        words: REPORT_AS_JSON,
-        firmware,
-        bound,
-        need,
-        nodes,
-        ending,
-        status,
-        printed,
-    };
-    let rows = [
-        row(
-            LOOP,
-            0,
-            0,
-            &[(0, 0)],
-            NO_STEP,
-            0,
-            "accepted bound 0 attained\n",
-        ),
-        row(
-            PUSH_AND_POP,
-            1,
-            1,
-            NODES,
-            ATTAINED,
-            0,
-            "accepted bound 1 attained\n",
-        ),
-        row(
-            PUSH_AND_POP,
-            2048,
-            9,
-            NODES,
-            OPEN,
-            0,
-            "accepted bound 2048 open\n",
-        ),
-        row(PUSH_AND_POP, 0, 1, NODES, OPEN, 1, "rejected 6 least 1\n"),
-        row(
-            PUSH_AND_POP,
-            0,
-            0,
-            NODES,
-            OPEN,
-            1,
-            "rejected 5 inst 0 least 1\n",
-        ),
-        row(
-            PUSH_AND_POP,
-            1,
-            1,
-            &[(1, 1), (2, 0)],
-            OPEN,
-            1,
-            "rejected 1 root\n",
-        ),
-        row(
-            PUSH_AND_POP,
-            1,
-            1,
-            &[(0, 0), (1, 1)],
-            OPEN,
-            1,
-            "rejected 3 node 1 to root 0000 0000000 0 0002 0000000 0 0 c0\n",
-        ),
-        row(
-            PUSH_AND_POP,
-            1,
-            1,
-            NODES,
-            NO_STEP,
-            1,
-            "rejected 8 witness\n",
-        ),
-        report(
-            PUSH_AND_POP,
-            1,
-            1,
-            NODES,
-            ATTAINED,
-            0,
-            "bound 1\nwitness attained\nstatic none\ninst root 0000 0000000 0 - need 1\n",
-        ),
-        json(
-            LOOP,
-            0,
-            0,
-            &[(0, 0)],
-            NO_STEP,
-            0,
-            "{\"bound\":0,\"fits\":null,\"instances\":[{\"enables\":0,\"entry\":0,\"i\":0,\"kind\":\"root\",\"name\":null,\"need\":0}],\"room\":null,\"static\":null,\"witness\":\"attained\"}\n",
-        ),
-        report(
-            PUSH_AND_POP,
-            1,
-            1,
-            NODES,
-            NO_STEP,
-            1,
-            "rejected 8 witness\n",
-        ),
-    ];
-    for (at, row) in rows.iter().enumerate() {
-        assert!(rt; is_judged(rt.alloc(), row)?, "row {at}");
+    for (at, row) in JUDGED.iter().enumerate() {
+        let holds = is_judged(rt.alloc(), row)?;
+        assert!(rt; holds, "row {at}");
     }
     Ok(())
 }
@@ -251,154 +242,194 @@ const INTERRUPT: &[u8] = &[
     0x03, 0xC0, 0, 0, 0x18, 0x95, 0, 0, 0xE8, 0x9A, 0x78, 0x94, 0xFF, 0xCF,
 ];
 
+const ROWS: [Row<'static>; 20] = [
+    Row {
+        words: CHECK,
+        firmware: LOOP,
+        second: "",
+        list: "",
+        failing: (Some(0), None),
+        status: 3,
+        printed: "read fault FW\n",
+    },
+    Row {
+        words: CHECK,
+        firmware: LOOP,
+        second: "",
+        list: "",
+        failing: (Some(1), None),
+        status: 3,
+        printed: "read fault SECOND\n",
+    },
+    Row {
+        words: WITH_LIST,
+        firmware: LOOP,
+        second: "",
+        list: "",
+        failing: (Some(2), None),
+        status: 3,
+        printed: "read fault LIST\n",
+    },
+    Row {
+        words: CHECK,
+        firmware: LOOP,
+        second: "",
+        list: "",
+        failing: (None, Some(0)),
+        status: 4,
+        printed: "",
+    },
+    Row {
+        words: ANALYSE,
+        firmware: LOOP,
+        second: "",
+        list: "",
+        failing: (Some(0), None),
+        status: 3,
+        printed: "read fault FW\n",
+    },
+    Row {
+        words: ANALYSE,
+        firmware: LOOP,
+        second: "",
+        list: "",
+        failing: (None, Some(0)),
+        status: 4,
+        printed: "",
+    },
+    Row {
+        words: ANALYSE,
+        firmware: CALLS_ITSELF,
+        second: "",
+        list: "",
+        failing: (None, None),
+        status: 10,
+        printed: "refused 2 recursion at 0000\n",
+    },
+    Row {
+        words: &["analyse", "FW", "--steps", "0"],
+        firmware: CALLS_ITSELF,
+        second: "",
+        list: "",
+        failing: (None, None),
+        status: 11,
+        printed: "spent 0\n",
+    },
+    Row {
+        words: &[],
+        firmware: LOOP,
+        second: "",
+        list: "",
+        failing: (None, None),
+        status: 2,
+        printed: "usage\n",
+    },
+    Row {
+        words: &["check", "FW", "SECOND", "--json"],
+        firmware: LOOP,
+        second: "",
+        list: "",
+        failing: (None, None),
+        status: 2,
+        printed: "usage\n",
+    },
+    Row {
+        words: CHECK,
+        firmware: &[0],
+        second: "",
+        list: "",
+        failing: (None, None),
+        status: 6,
+        printed: "firmware raw 1\n",
+    },
+    Row {
+        words: CHECK,
+        firmware: &[0x7F, 0x45, 0x4C, 0x46],
+        second: "",
+        list: "",
+        failing: (None, None),
+        status: 6,
+        printed: "firmware elf 1 at 0\n",
+    },
+    Row {
+        words: WITH_LIST,
+        firmware: LOOP,
+        second: "",
+        list: "prove 1\n",
+        failing: (None, None),
+        status: 7,
+        printed: "assumptions malformed line 1\n",
+    },
+    Row {
+        words: WITH_LIST,
+        firmware: LOOP,
+        second: "",
+        list: "prove 0002\nprove 0001\n",
+        failing: (None, None),
+        status: 7,
+        printed: "assumptions order line 2\n",
+    },
+    Row {
+        words: CHECK,
+        firmware: LOOP,
+        second: "stackcert 1\nbound 01\n",
+        list: "",
+        failing: (None, None),
+        status: 8,
+        printed: "certificate malformed at 12\n",
+    },
+    Row {
+        words: CHECK,
+        firmware: LOOP,
+        second: "stackcert 1\nbound 0\nassume 2\nprove 0002\nprove 0001\n",
+        list: "",
+        failing: (None, None),
+        status: 8,
+        printed: "certificate order at 40\n",
+    },
+    Row {
+        words: CHECK,
+        firmware: LOOP,
+        second: "stackcert 1\nbound 0\nassume 0\ninstances 0\nnodes 65537\n",
+        list: "",
+        failing: (None, None),
+        status: 8,
+        printed: "certificate limit nodes\n",
+    },
+    Row {
+        words: RUN,
+        firmware: INTERRUPT,
+        second: "schedule 1\nfill 00\ngo 4 00 00\ntake 2 0\nend\n",
+        list: "",
+        failing: (None, None),
+        status: 0,
+        printed: "steps 5 depth 2 stop end\n",
+    },
+    Row {
+        words: RUN,
+        firmware: INTERRUPT,
+        second: "schedule 1\nfill 00\ntake 2 0\nend\n",
+        list: "",
+        failing: (None, None),
+        status: 9,
+        printed: "schedule illegal step 0\n",
+    },
+    Row {
+        words: RUN,
+        firmware: INTERRUPT,
+        second: "schedule 1\nfill 00\nend\nend\n",
+        list: "",
+        failing: (None, None),
+        status: 9,
+        printed: "schedule malformed at 23\n",
+    },
+];
+
 #[test]
 fn commands_are_answered(rt: HostRuntime) -> Result<(), Fail> {
-    let row = |words, firmware, second, list, failing, status, printed| Row {
-        words,
-        firmware,
-        second,
-        list,
-        failing,
-        status,
-        printed,
-    };
-    let fine = (None, None);
-    let rows = [
-        row(CHECK, LOOP, "", "", (Some(0), None), 3, "read fault FW\n"),
-        row(
-            CHECK,
-            LOOP,
-            "",
-            "",
-            (Some(1), None),
-            3,
-            "read fault SECOND\n",
-        ),
-        row(
-            WITH_LIST,
-            LOOP,
-            "",
-            "",
-            (Some(2), None),
-            3,
-            "read fault LIST\n",
-        ),
-        row(CHECK, LOOP, "", "", (None, Some(0)), 4, ""),
-        row(ANALYSE, LOOP, "", "", (Some(0), None), 3, "read fault FW\n"),
-        row(ANALYSE, LOOP, "", "", (None, Some(0)), 4, ""),
-        row(
-            ANALYSE,
-            CALLS_ITSELF,
-            "",
-            "",
-            fine,
-            10,
-            "refused 2 recursion at 0000\n",
-        ),
-        row(
-            &["analyse", "FW", "--steps", "0"],
-            CALLS_ITSELF,
-            "",
-            "",
-            fine,
-            11,
-            "spent 0\n",
-        ),
-        row(&[], LOOP, "", "", fine, 2, "usage\n"),
-        row(
-            &["check", "FW", "SECOND", "--json"],
-            LOOP,
-            "",
-            "",
-            fine,
-            2,
-            "usage\n",
-        ),
-        row(CHECK, &[0], "", "", fine, 6, "firmware raw 1\n"),
-        row(
-            CHECK,
-            &[0x7F, 0x45, 0x4C, 0x46],
-            "",
-            "",
-            fine,
-            6,
-            "firmware elf 1 at 0\n",
-        ),
-        row(
-            WITH_LIST,
-            LOOP,
-            "",
-            "prove 1\n",
-            fine,
-            7,
-            "assumptions malformed line 1\n",
-        ),
-        row(
-            WITH_LIST,
-            LOOP,
-            "",
-            "prove 0002\nprove 0001\n",
-            fine,
-            7,
-            "assumptions order line 2\n",
-        ),
-        row(
-            CHECK,
-            LOOP,
-            "stackcert 1\nbound 01\n",
-            "",
-            fine,
-            8,
-            "certificate malformed at 12\n",
-        ),
-        row(
-            CHECK,
-            LOOP,
-            "stackcert 1\nbound 0\nassume 2\nprove 0002\nprove 0001\n",
-            "",
-            fine,
-            8,
-            "certificate order at 40\n",
-        ),
-        row(
-            CHECK,
-            LOOP,
-            "stackcert 1\nbound 0\nassume 0\ninstances 0\nnodes 65537\n",
-            "",
-            fine,
-            8,
-            "certificate limit nodes\n",
-        ),
-        row(
-            RUN,
-            INTERRUPT,
-            "schedule 1\nfill 00\ngo 4 00 00\ntake 2 0\nend\n",
-            "",
-            fine,
-            0,
-            "steps 5 depth 2 stop end\n",
-        ),
-        row(
-            RUN,
-            INTERRUPT,
-            "schedule 1\nfill 00\ntake 2 0\nend\n",
-            "",
-            fine,
-            9,
-            "schedule illegal step 0\n",
-        ),
-        row(
-            RUN,
-            INTERRUPT,
-            "schedule 1\nfill 00\nend\nend\n",
-            "",
-            fine,
-            9,
-            "schedule malformed at 23\n",
-        ),
-    ];
-    for (at, row) in rows.iter().enumerate() {
-        assert!(rt; is_row(rt.alloc(), row)?, "row {at}");
+    for (at, row) in ROWS.iter().enumerate() {
+        let holds = is_row(rt.alloc(), row)?;
+        assert!(rt; holds, "row {at}");
     }
     Ok(())
 }
@@ -424,10 +455,8 @@ fn is_written(
 fn certificates_are_written_whole(rt: HostRuntime) -> Result<(), Fail> {
     let text = certificate(rt.alloc(), 0, 0, &[(0, 0)], NO_STEP)?;
     for short_puts in [0, 1, 400] {
-        assert!(rt;
-            is_written(rt.alloc(), LOOP, short_puts, text.as_str())?,
-            "short puts {short_puts}"
-        );
+        let holds = is_written(rt.alloc(), LOOP, short_puts, text.as_str())?;
+        assert!(rt; holds, "short puts {short_puts}");
     }
     Ok(())
 }
