@@ -6,3 +6,4 @@ pub mod One
 pub mod Accepting
 pub mod Least
 pub mod All
+pub mod AllLaws

@@ -81,11 +81,12 @@ fn put_need(line: &mut LineWriter, at: u16, need: u32) -> Result<(), AllocError>
     line.dec(u64::from(need))
 }
 
-fn put_spent(line: &mut LineWriter, steps: u64) -> Result<(), AllocError>
-    ensures { OnOk result (line.new ≡ with_words line.old (codes "spent" ∷ decimal steps ∷ [])) }
+/// A word and a number.
+fn put_number(line: &mut LineWriter, name: &[u8], number: u64) -> Result<(), AllocError>
+    ensures { OnOk result (line.new ≡ with_words line.old (name.now ∷ decimal number ∷ [])) }
 {
-    line.word(b"spent")?;
-    line.dec(steps)
+    line.word(name)?;
+    line.dec(number)
 }
 
 /// The words in place of a certificate; none for want of memory.
@@ -118,7 +119,7 @@ fn put_why_not(
             put_cause(line, b"8", b"unknown-pointer", at)?;
             put_instruction(alloc, line, flash, at)
         }
-        Refusal::Spent(steps) => put_spent(line, steps),
+        Refusal::Spent(steps) => put_number(line, b"spent", steps),
         Refusal::Memory => Err(AllocError),
     }
 }
@@ -132,14 +133,6 @@ pub fn why_not(alloc: Global, flash: &Flash, refusal: &Refusal) -> Result<Vec<u8
     put_why_not(alloc, &mut line, flash, refusal)?;
     line.end_line()?;
     Ok(line.finish())
-}
-
-/// A word and a number.
-fn put_number(line: &mut LineWriter, name: &[u8], number: u64) -> Result<(), AllocError>
-    ensures { OnOk result (line.new ≡ with_words line.old (name.now ∷ decimal number ∷ [])) }
-{
-    line.word(name)?;
-    line.dec(number)
 }
 
 /// The size of an image, and how many nodes and instances its certificate has, with the bound.

@@ -232,13 +232,6 @@ pub fn accepted(alloc: Global, bound: u16, attained: bool) -> Result<Vec<u8>, Al
     Ok(line.finish())
 }
 
-/// A node's number and what is wrong with it.
-fn put_node(line: &mut LineWriter, reason: &[u8], at: u32) -> Result<(), AllocError>
-    ensures { OnOk result (line.new ≡ with_words line.old (reason.now ∷ codes "node" ∷ decimal at ∷ [])) }
-{
-    put_two_and_number(line, reason, b"node", u64::from(at))
-}
-
 /// An instance's number, a word and a number.
 fn put_inst(
     line: &mut LineWriter,
@@ -264,12 +257,12 @@ fn put_reason(alloc: Global, line: &mut LineWriter, reason: &Reason) -> Result<(
             line.word(b"root")?;
         }
         Reason::Node(at, cause) => {
-            put_node(line, b"2", at)?;
+            put_two_and_number(line, b"2", b"node", u64::from(at))?;
             line.word(b"cause")?;
             line.dec(u64::from(cause))?;
         }
         Reason::Edge(at, key) => {
-            put_node(line, b"3", at)?;
+            put_two_and_number(line, b"3", b"node", u64::from(at))?;
             line.word(b"to")?;
             write_key(line, alloc, &key)?;
         }
@@ -280,7 +273,7 @@ fn put_reason(alloc: Global, line: &mut LineWriter, reason: &Reason) -> Result<(
             line.word(b"7")?;
             line.word(b"assumptions")?;
         }
-        Reason::Expansion(at) => put_node(line, b"9", at)?,
+        Reason::Expansion(at) => put_two_and_number(line, b"9", b"node", u64::from(at))?,
     }
     Ok(())
 }

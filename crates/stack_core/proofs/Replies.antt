@@ -28,7 +28,7 @@ use Rattle.cert_check.specs.declared.verdict.Verdict.TheVariants.{Accepted, Reje
 use Rattle.replies.specs.Firmware.{firmware_fault, firmware_words, firmware_names, firmware_end}
 use Rattle.replies.specs.Texts.{why_not_status, why_not_text, demo_text, witness_rejected, schedule_illegal, run_text, assumptions_refused, certificate_refused}
 use Rattle.replies.specs.Reply.{Reply, Refuses, ImageBy, WithImage, ListBy, WithList, attains, AttainedBy, WitnessReply, VerdictReply, JudgedReply, CertificateReply, report_by, told_of, AnalyseReply, DemoReply, FlashReply, RunReply}
-use Rattle.replies.proofs.Accepting.{attained_by, attains_by}
+use Rattle.replies.proofs.AllLaws.{attained_by, attains_by}
 use Rattle.stack_core.specs.Working.{GivesAs, ReadsAs, ListsAs, IsWitnessedText, LoadedReply, ImageReply}
 use Rattle.stack_core.specs.declared.reply.Reply.{Reply as Answered}
 use Rattle.stack_core.specs.declared.loading.Listing.TheVariants.{Listed, Unlisted}

@@ -1,7 +1,7 @@
 use Rattle.std.proofs.Common.{ap}
 use Rattle.std.specs.Option.{option_map}
 use Rattle.replies.specs.Texts.{elf_refused}
-use Rattle.replies.proofs.ElfWords.{one_elf}
+use Rattle.replies.proofs.AllLaws.{one_elf}
 use Rattle.stack_core.proofs.loading.elf_image.Goals as goal
 
 pub returns-in-Ok : goal.returns-in-Ok
