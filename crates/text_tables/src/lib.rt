@@ -2,12 +2,4 @@
 #![tactic(auto)]
 
 #[cfg(test)]
-mod assumption_texts;
-#[cfg(test)]
-mod certificates;
-#[cfg(test)]
-mod command_words;
-#[cfg(test)]
-mod schedules;
-#[cfg(test)]
-mod words;
+mod tests;

@@ -1,0 +1,7 @@
+//! The tables, by what they are about.
+
+mod assumption_texts;
+mod certificates;
+mod command_words;
+mod schedules;
+mod words;
