@@ -7,3 +7,4 @@ pub mod Asking
 pub mod Verdicts
 pub mod One
 pub mod AllLaws
+pub mod Gathered

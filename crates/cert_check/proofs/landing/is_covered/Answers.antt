@@ -18,3 +18,6 @@ returns-in-Some c =
 
 pub returns-in-None : goal.returns-in-None
 returns-in-None c = (λ e. absurd (cc), λ h. absurd (not_covered c.args.nodes.now c.args.key.now c.args.state.now (sym c.find.ensures ∙ c.in-None.is) h))
+
+pub state-requires : goal.state-requires
+state-requires c = inside_at c.args.nodes.now c.args.key.now c.in-Some.at (sym c.find.ensures ∙ c.in-Some.is)
