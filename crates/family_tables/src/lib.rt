@@ -2,18 +2,4 @@
 #![tactic(auto)]
 
 #[cfg(test)]
-mod edges;
-#[cfg(test)]
-mod forms;
-#[cfg(test)]
-mod nesting;
-#[cfg(test)]
-mod notes;
-#[cfg(test)]
-mod seeds;
-#[cfg(test)]
-mod solving;
-#[cfg(test)]
-mod trials;
-#[cfg(test)]
-mod verdicts;
+mod tests;

@@ -2,7 +2,7 @@
 
 ghost use Rattle.std.specs.Prelude.{◌<◌, length};
 
-use crate::seeds::{Plan, seeds_of};
+use crate::tests::seeds::{Plan, seeds_of};
 use avr_model::listed::Listed;
 use call_graph::{Edge, EdgeKind, Expanded, Filled, Leaving, View, exits, expand, next, next_with};
 use flash_image::Flash;

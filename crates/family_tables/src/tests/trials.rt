@@ -1,6 +1,6 @@
 //! Trials of small firmwares.
 
-use crate::solving::flash_of;
+use crate::tests::solving::flash_of;
 use avr_machine::{Masks, Stop};
 use std::alloc::Global;
 use std::test::Fail;

@@ -1,6 +1,6 @@
 use Rattle.std.proofs.Common.{length, refl}
 use Rattle.std.proofs.lemmas.Option.{slice_get_read}
-use Rattle.family_tables.proofs.seeds.SeedListSeeded.key.Goals as goal
+use Rattle.family_tables.proofs.tests.seeds.SeedListSeeded.key.Goals as goal
 
 pub returns : goal.returns
 returns c = (

@@ -2,7 +2,7 @@ use Rattle.std.proofs.Common.{sym, subst}
 use Rattle.edge_rules.specs.Expansion.{Seeds, AreSeeds}
 use Rattle.expansion_laws.specs.Laws.{AreAscending}
 use Rattle.family_tables.proofs.Growing.{none_given}
-use Rattle.family_tables.proofs.seeds.seeds_of.Goals as goal
+use Rattle.family_tables.proofs.tests.seeds.seeds_of.Goals as goal
 
 pub loop-at-init : goal.loop-at-init
 loop-at-init c = subst (λ (xs : Seeds). AreSeeds xs × AreAscending xs) (sym c.new-items.ensures.items) none_given

@@ -1,7 +1,7 @@
 use Rattle.std.proofs.Common.{◌≤◌, ◌<◌, arith}
 use Rattle.avr_model.specs.State.{SIZE}
 use Rattle.family_tables.proofs.Sampled.{sample_claim}
-use Rattle.family_tables.proofs.verdicts.certificate.Goals as goal
+use Rattle.family_tables.proofs.tests.verdicts.certificate.Goals as goal
 
 pub build-requires : goal.build-requires
 build-requires c =

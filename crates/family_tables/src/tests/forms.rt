@@ -2,7 +2,7 @@
 
 ghost use Rattle.std.specs.Prelude.{◌≤◌, length};
 
-use crate::seeds::{Plan, seeds_of};
+use crate::tests::seeds::{Plan, seeds_of};
 use call_graph::{Expanded, Filled, Leaving, NodeForm, exits, expand};
 use flash_image::Flash;
 use mask_states::{Kind, NodeKey};

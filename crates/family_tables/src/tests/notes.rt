@@ -4,7 +4,7 @@ ghost use Rattle.std.specs.Prelude.{◌≤◌};
 ghost use Rattle.avr_model.specs.State.{SIZE};
 ghost use Rattle.mask_states.specs.Keys.{offset_of};
 
-use crate::nesting::key;
+use crate::tests::nesting::key;
 use avr_model::device::SIZE;
 use instance_nesting::{Nesting, Weight};
 use mask_states::{NodeKey, SpForm};

@@ -1,6 +1,6 @@
 use Rattle.std.proofs.Common.{length, refl, ◌∙◌, Some}
 use Rattle.std.proofs.lemmas.Option.{slice_get_read}
-use Rattle.family_tables.proofs.seeds.SeedListSeeded.seed.Goals as goal
+use Rattle.family_tables.proofs.tests.seeds.SeedListSeeded.seed.Goals as goal
 
 pub returns-in-State : goal.returns-in-State
 returns-in-State c = (
