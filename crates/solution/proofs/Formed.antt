@@ -13,8 +13,7 @@ use Rattle.edge_rules.specs.Expansion.{Seeds}
 use Rattle.edge_rules.specs.Views.{AreShown}
 use Rattle.round_rules.specs.Sparse.{IsOnlyFrom}
 use Rattle.solution_laws.specs.Parts.{IsForm, AreForms}
-use Rattle.solution_laws.proofs.AllLaws.{lone_edges_tell}
-use Rattle.solution_laws.proofs.Lists.{read, same_at}
+use Rattle.solution_laws.proofs.AllLaws.{lone_edges_tell, read, same_at}
 use Rattle.solution.specs.declared.leading.Lead.{Lead}
 use Rattle.solution.specs.declared.leading.Lead.TheVariants.{Nothing, Only, More}
 use Rattle.solution.specs.Leads.{lead_at, LeadsTo, IsLead, AreLeads, form_by, forms_from}

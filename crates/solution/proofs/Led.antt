@@ -14,8 +14,7 @@ use Rattle.local_laws.proofs.AllLaws.{none_in, here, there, first_or}
 use Rattle.edge_rules.specs.declared.edge.Edge.{Edge}
 use Rattle.edge_rules.specs.Edges.{IsEdge, AreEdges}
 use Rattle.edge_rules.specs.Views.{AreShown}
-use Rattle.solution_laws.proofs.Lists.{contained, same_at}
-use Rattle.solution_laws.proofs.Order.{node_once}
+use Rattle.solution_laws.proofs.AllLaws.{contained, same_at, node_once}
 use Rattle.solution.specs.declared.leading.Lead.{Lead}
 use Rattle.solution.specs.declared.leading.Lead.TheVariants.{Nothing, Only, More}
 use Rattle.solution.specs.Leads.{moved, led, lead_at, noted, LeadsTo, IsLead, AreLeads}

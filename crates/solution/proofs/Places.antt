@@ -11,7 +11,7 @@ use Rattle.mask_states.proofs.AllLaws.{keys_are_ordered}
 use Rattle.local_rules.specs.declared.local.Node.{Node}
 use Rattle.edge_rules.specs.declared.edge.Edge.{Edge}
 use Rattle.edge_rules.specs.Views.{AreShown, place_of}
-use Rattle.solution_laws.proofs.Order.{node_before}
+use Rattle.solution_laws.proofs.AllLaws.{node_before}
 use Rattle.solution.specs.declared.leading.Lead.{Lead}
 use Rattle.solution.specs.declared.leading.Lead.TheVariants.{Nothing}
 use Rattle.solution.specs.Leads.{led, lead_at, noted_at, noted}

@@ -22,8 +22,7 @@ use Rattle.solution_laws.proofs.Lists.{contained, only, get_at}
 use Rattle.round_rules.specs.Families.{Family, nodes_of}
 use Rattle.round_rules.specs.Refusals.{IsSolved}
 use Rattle.round_rules.specs.Sparse.{IsOnlyFrom, AreSparse}
-use Rattle.round_laws.proofs.Nodes.{has_member}
-use Rattle.round_laws.proofs.Parts.{part_of, ok_of}
+use Rattle.round_laws.proofs.AllLaws.{has_member, part_of, ok_of}
 use Rattle.solution_laws.specs.Laws.{LoneEdgesTell}
 use Rattle.solution_laws.specs.Parts.{IsForm, AreForms}
 use Rattle.solution_laws.proofs.Order.{ascending, node_before, node_once, root_node_first}

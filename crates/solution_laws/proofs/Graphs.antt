@@ -25,13 +25,12 @@ use Rattle.nesting_bound.specs.Cycle.{IsNamed, group_of}
 use Rattle.family_graph.specs.Graphs.{insts_of, IsPeopled, IsGraphOf}
 use Rattle.graph_laws.specs.Graphs as told
 use Rattle.graph_laws.specs.Graphs.{IsNumber}
-use Rattle.graph_laws.proofs.Told.{graphs_tell}
+use Rattle.graph_laws.proofs.AllLaws.{graphs_tell}
 use Rattle.certificate.specs.Valid.{reset_node}
 use Rattle.round_rules.specs.Families.{Family, node_of, nodes_of, Has, HasInst}
 use Rattle.round_rules.specs.Rounds.{Entering}
 use Rattle.round_rules.specs.Refusals.{IsSolved}
-use Rattle.round_laws.proofs.Nodes.{has_member, member_has}
-use Rattle.round_laws.proofs.Least.{formed_nodes, comes_root}
+use Rattle.round_laws.proofs.AllLaws.{has_member, member_has, formed_nodes, comes_root}
 use Rattle.solution_laws.specs.Laws.{SolvedFamiliesAreShown, GraphsAreAcyclic}
 use Rattle.solution_laws.proofs.Lists.{same_at, contained, read, get_at}
 use Rattle.solution_laws.proofs.Order.{ascending, before, inst_once, root_inst_first}

@@ -24,9 +24,7 @@ use Rattle.certificate.specs.Insts.{fits_kind}
 use Rattle.certificate.specs.Valid.{reset_node}
 use Rattle.round_rules.specs.Families.{Family, nodes_of, Lands, Below, AreFormed, HasInst, HasNoFault, IsClosed}
 use Rattle.round_rules.specs.Refusals.{IsSolved}
-use Rattle.round_laws.proofs.Keys.{node_exact}
-use Rattle.round_laws.proofs.Nodes.{has_member, member_has}
-use Rattle.round_laws.proofs.Least.{lands_covered, formed_nodes, comes_root}
+use Rattle.round_laws.proofs.AllLaws.{node_exact, has_member, member_has, lands_covered, formed_nodes, comes_root}
 use Rattle.solution_laws.proofs.Lone.{formed, rounds_below}
 
 -- its kind fits its other parts, and its enable bits are 25

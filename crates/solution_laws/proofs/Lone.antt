@@ -19,9 +19,7 @@ use Rattle.round_rules.specs.Families.{Family, nodes_of, Has, Lands, Below, AreF
 use Rattle.round_rules.specs.Rounds.{Comes}
 use Rattle.round_rules.specs.Refusals.{IsSolved}
 use Rattle.round_rules.specs.Sparse.{IsOnlyFrom}
-use Rattle.round_laws.proofs.Keys.{at_keys, get_same, get_other, some_same}
-use Rattle.round_laws.proofs.Nodes.{has_member, member_has}
-use Rattle.round_laws.proofs.Least.{lands_covered, formed_nodes, first_has, comes_formed, comes_root}
+use Rattle.round_laws.proofs.AllLaws.{at_keys, get_same, get_other, some_same, has_member, member_has, lands_covered, formed_nodes, first_has, comes_formed, comes_root}
 
 module _ (words : List ℕ) (A : List Entry) where
   -- where an edge of a greater family lands, that of the lesser does

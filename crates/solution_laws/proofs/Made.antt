@@ -25,7 +25,7 @@ use Rattle.expansion_laws.proofs.AllLaws.{filled_or_missing}
 use Rattle.nesting_bound.specs.declared.graph.GraphInst.{GraphInst}
 use Rattle.family_graph.specs.Graphs.{insts_of}
 use Rattle.graph_laws.specs.Graphs.{IsGraphOf, valued}
-use Rattle.graph_laws.proofs.Told.{graphs_tell, valued_at}
+use Rattle.graph_laws.proofs.AllLaws.{graphs_tell, valued_at}
 use Rattle.certificate.specs.declared.instance.Inst.{Inst}
 use Rattle.certificate.specs.Insts.{fits_kind, IsInst, inst_keys, rank_in, need_in}
 use Rattle.certificate.specs.Claims.{node_keys, cells_of, IsKey, FitsAt, AreFrom, Belongs, IsClaim}
@@ -33,8 +33,7 @@ use Rattle.round_rules.specs.Families.{Family, node_of, nodes_of, HasInst}
 use Rattle.round_rules.specs.Rounds.{AreRanks, AreNeeds, IsRootNeed}
 use Rattle.round_rules.specs.Refusals.{IsSolved}
 use Rattle.round_rules.specs.Solutions.{IsSolution}
-use Rattle.round_laws.proofs.Ends.{rounds_are_least}
-use Rattle.round_laws.proofs.Nodes.{has_member, member_has}
+use Rattle.round_laws.proofs.AllLaws.{rounds_are_least, has_member, member_has}
 use Rattle.solution_laws.specs.Laws.{SolutionsAreMade}
 use Rattle.solution_laws.specs.Parts.{IsForm, AreInsts, AreParts, claim_of}
 use Rattle.solution_laws.proofs.Lists.{contained, get_at, same_at, all_of}

@@ -1,5 +1,5 @@
 use Rattle.std.proofs.Common.{arith}
-use Rattle.solution_laws.proofs.Lists.{get_at}
+use Rattle.solution_laws.proofs.AllLaws.{get_at}
 use Rattle.solution.proofs.Led.{led_written}
 use Rattle.solution.proofs.leading.leads.Goals as goal
 
