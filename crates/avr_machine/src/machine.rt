@@ -39,7 +39,7 @@ impl Machine {
     }
 
     /// The machine after reset, with these registers and these bytes of SRAM from its first address up.
-    pub fn from_memory(registers: &[u8; 32], sram: &[u8; 2048]) -> Machine
+    pub fn from_memory(registers: &[u8; 32], sram: &[u8; SIZE]) -> Machine
         ensures start { result ≡ starting (reset_state registers.now sram.now) }
         ensures reset { IsReset result.state }
     {

@@ -1,6 +1,7 @@
 //! SRAM: its bytes, and which of them are live.
 
 ghost use Rattle.std.specs.Prelude.{◌≡◌, IsTrue, false, true, replicate};
+ghost use Rattle.avr_model.specs.State as model;
 ghost use Rattle.avr_model.specs.State.{is_sram, set_at, byte_in, is_live};
 ghost use Rattle.avr_model.specs.Step.{with_live, written, pruned, live_write};
 
@@ -39,7 +40,7 @@ impl Model for Memory {
 impl Memory {
     /// These bytes, none of them live.
     pub fn new(bytes: &[u8; SIZE]) -> Memory
-        ensures { result ≡ record { bytes = bytes.now; live = replicate 2048 false } }
+        ensures { result ≡ record { bytes = bytes.now; live = replicate model.SIZE false } }
     {
         Memory {
             bytes: *bytes,

@@ -1,6 +1,7 @@
 //! Notes of nodes: who enters an instance and who leaves it, and how instances nest.
 
 ghost use Rattle.std.specs.Prelude.{◌≡◌, ◌≤◌, OnOk, Contains};
+ghost use Rattle.avr_model.specs.State.{SIZE};
 ghost use Rattle.mask_states.specs.Keys.{offset_of};
 ghost use Rattle.instance_nesting.specs.Nestings.{AreOnce};
 ghost use Rattle.round_steps.specs.Notings.{blank, caller, leaver, HasCallers, HasLeaver, HasEntrances, IsNoted, AreNoted};
@@ -84,7 +85,7 @@ fn note_leaver(
 }
 
 fn note_entrances(nesting: &mut Nesting, key: &NodeKey, ways: &[Way]) -> Result<(), AllocError>
-    requires small { offset_of key.now.sp ≤ 2048 }
+    requires small { offset_of key.now.sp ≤ SIZE }
     requires once { AreOnce nesting.old.insts }
     ensures entrances { OnOk result (HasEntrances nesting.old key.now ways.now nesting.new) }
     ensures once { OnOk result (AreOnce nesting.new.insts) }
@@ -110,7 +111,7 @@ impl Notes {
 
     // Notes where one node leads.
     fn note(&mut self, alloc: Global, x: &Look) -> Result<(), AllocError>
-        requires { offset_of x.now.key.sp ≤ 2048 }
+        requires { offset_of x.now.key.sp ≤ SIZE }
         ensures noted { OnOk result (IsNoted self.old x.now self.new) }
         ensures once { OnOk result (AreOnce self.new.nesting.insts) }
     {
@@ -123,7 +124,7 @@ impl Notes {
 
     /// Notes where these nodes lead.
     pub fn note_all(&mut self, alloc: Global, looks: &[Look]) -> Result<(), AllocError>
-        requires small { (x : look_type.Look) → Contains looks.now x → offset_of x.key.sp ≤ 2048 }
+        requires small { (x : look_type.Look) → Contains looks.now x → offset_of x.key.sp ≤ SIZE }
         requires once { AreOnce self.old.nesting.insts }
         ensures noted { OnOk result (AreNoted self.old looks.now self.new) }
         ensures once { OnOk result (AreOnce self.new.nesting.insts) }
