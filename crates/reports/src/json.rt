@@ -1,6 +1,6 @@
 //! The report as JSON.
 
-ghost use Rattle.std.specs.Prelude.{◌≡◌, IfOk, string_bytes};
+ghost use Rattle.std.specs.Prelude.{◌≡◌, ◌++◌, IfOk, codes, decimal, string_bytes};
 ghost use Rattle.serde_json.specs.Data.{string};
 ghost use Rattle.serde_json.specs.View.{view};
 ghost use Rattle.serde_json.specs.Written.{compact_text};
@@ -72,6 +72,16 @@ fn name_value(alloc: Global, names: &Names, word: u16) -> Result<Value, AllocErr
     }
 }
 
+/// The text of an interrupt's kind.
+fn vector_text(alloc: Global, vector: u8) -> Result<String, AllocError>
+    ensures { IfOk result (λ s. string_bytes s ≡ codes "v" ++ decimal vector) }
+{
+    let mut text = String::from_str(alloc, "v")?;
+    let digits = vector.to_string(alloc)?;
+    text.push_str(digits.as_str())?;
+    Ok(text)
+}
+
 /// The kind of an instance.
 fn kind_value(alloc: Global, kind: Kind) -> Result<Value, AllocError>
     ensures { IfOk result (λ v. view v ≡ string (kind_word kind)) }
@@ -79,7 +89,7 @@ fn kind_value(alloc: Global, kind: Kind) -> Result<Value, AllocError>
     match kind {
         Kind::Root => text_value(alloc, "root"),
         Kind::Call => text_value(alloc, "call"),
-        Kind::Vector(vector) => Ok(Value::String(format!(in alloc; "v{vector}")?)),
+        Kind::Vector(vector) => Ok(Value::String(vector_text(alloc, vector)?)),
     }
 }
 
