@@ -23,8 +23,7 @@ use Rattle.round_rules.specs.Rounds.{first, IsNext, Comes}
 use Rattle.round_rules.specs.Refusals.{Test, over, faulty, re_entry, recursion, too_deep, refusal_of}
 use Rattle.round_rules.specs.Solutions.{IsWithin, IsWhyNot, IsRefusal}
 use Rattle.round_laws.specs.Steps.{joined_with, raised_all, weight}
-use Rattle.round_laws.proofs.AllLaws.{rounds_are_joins, rounds_are_least}
-use Rattle.round_laws.proofs.Least.{comes_root}
+use Rattle.round_laws.proofs.AllLaws.{rounds_are_joins, rounds_are_least, comes_root}
 use Rattle.round_steps.specs.declared.noting.Notes.{Notes}
 use Rattle.round_steps.specs.Notings.{blank}
 use Rattle.round_steps.specs.Joins.{KeptBut}

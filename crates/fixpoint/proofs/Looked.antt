@@ -12,8 +12,7 @@ use Rattle.call_graph.specs.declared.ways.Way.{Way}
 use Rattle.call_graph.proofs.AllLaws.{local_parts_are_edges}
 use Rattle.round_rules.specs.Families.{Family, Has, HasNoFault}
 use Rattle.round_rules.specs.Refusals.{FaultAt, IsNoLater, IsLeastFault}
-use Rattle.round_laws.proofs.Keys.{some_same}
-use Rattle.round_laws.proofs.Parts.{never_both}
+use Rattle.round_laws.proofs.AllLaws.{some_same, never_both}
 use Rattle.round_steps.specs.declared.looking.Look.{Look}
 use Rattle.round_steps.specs.declared.looking.Seen.{Seen}
 use Rattle.round_steps.specs.declared.noting.Notes.{Notes}

@@ -20,8 +20,7 @@ use Rattle.instance_nesting.specs.Nestings.{AreOnce}
 use Rattle.round_rules.specs.Families.{Family, Has, Lands, Below, AreFormed, HasNoFault, IsClosed}
 use Rattle.round_rules.specs.Rounds.{Entering, IsNext}
 use Rattle.round_laws.specs.Steps.{weight}
-use Rattle.round_laws.proofs.AllLaws.{families_are_their_nodes}
-use Rattle.round_laws.proofs.Keys.{node_exact}
+use Rattle.round_laws.proofs.AllLaws.{families_are_their_nodes, node_exact}
 use Rattle.round_steps.specs.declared.noting.Notes.{Notes}
 use Rattle.round_steps.specs.Notings.{blank}
 use Rattle.round_steps.specs.Joins.{KeptBut}

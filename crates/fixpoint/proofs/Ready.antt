@@ -9,7 +9,7 @@ use Rattle.local_rules.specs.declared.local.NodeFault.{NodeFault}
 use Rattle.instance_nesting.specs.Nestings.{Noted, AreOnce, AreAlike, TellsAll, Tells}
 use Rattle.instance_nesting.specs.declared.weight.Weight.{Weight}
 use Rattle.instance_nesting.specs.declared.weight.Weight.TheVariants as weight
-use Rattle.instance_nesting.proofs.Small.{nestings_are_small}
+use Rattle.instance_nesting.proofs.AllLaws.{nestings_are_small}
 use Rattle.round_rules.specs.declared.refusal.Refusal.{Refusal}
 use Rattle.round_rules.specs.declared.refusal.Refusal.TheVariants.{Memory}
 use Rattle.round_rules.specs.Families.{Family, HasInst, AreFormed, FitsLimits}

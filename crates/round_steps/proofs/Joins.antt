@@ -17,9 +17,7 @@ use Rattle.local_laws.proofs.AllLaws.{here, there}
 use Rattle.certificate.specs.Claims.{cells_of}
 use Rattle.round_rules.specs.Families.{Family, AreFormed, cells}
 use Rattle.round_laws.specs.Steps.{joined_with, raised, raised_all, weight}
-use Rattle.round_laws.proofs.AllLaws.{rounds_are_joins}
-use Rattle.round_laws.proofs.Keys.{at_keys, get_same, get_other}
-use Rattle.round_laws.proofs.Sums.{same_cells}
+use Rattle.round_laws.proofs.AllLaws.{rounds_are_joins, at_keys, get_same, get_other, same_cells}
 use Rattle.round_steps.specs.Joins.{noted, SoFar}
 
 -- ---- cells
