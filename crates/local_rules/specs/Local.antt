@@ -30,7 +30,7 @@ use Rattle.local_rules.specs.declared.local.NodeFault.{NodeFault}
 use Rattle.local_rules.specs.declared.local.NodeFault.TheVariants.{Unsupported}
 use Rattle.local_rules.specs.Faults.{least}
 use Rattle.local_rules.specs.Raw.{Raw, nowhere, fails, untracked_if, at_word, next, further, going_to, going_on, setting}
-use Rattle.local_rules.specs.Registers.{value, bits, set, going_with, going_by, binary_after, pair_copied, bit_loaded, bit_stored, product_row, wide_row, pair_moved, interrupts_row, flag_row, immediate_row, unary_row}
+use Rattle.local_rules.specs.Registers.{value, bits, set, going_with, going_by, binary_after, pair_copied, bit_loaded, bit_stored, product_row, wide_row, pair_moved, flag_row, immediate_row, unary_row}
 use Rattle.local_rules.specs.Reads.{read_at, pointed, pair_constant, read_pointed, flash_value}
 use Rattle.local_rules.specs.Writes.{written_at, pointer_write}
 use Rattle.local_rules.specs.Flow.{branch, skipping, flag_at, targets_at, jumping, at_closed, pushing, popping, relative_call, calling, indirect_call, returning, ret_exit, reti_exit}
@@ -141,13 +141,6 @@ row_of words A scratch k s (i.Bclr n) = flag_row k s n false
 row_of words A scratch k s (i.Bld d b) = going_with k s (bit_loaded s d b)
 row_of words A scratch k s (i.Bst d b) = going_with k s (bit_stored s d b)
 row_of words A scratch k s instr = memory_row words A scratch k s instr
-
--- The rows that set more than registers and flags; what is computed goes before it.
-abbrev pub other_row : List ℕ → List Entry → Bool → NodeKey → AbsState → Instr → Raw
-other_row words A scratch k s (i.Binary op d r) = skipping words k s (byte_equal (bits s d) (bits s r))
-other_row words A scratch k s (i.Bset n) = interrupts_row k s true
-other_row words A scratch k s (i.Bclr n) = interrupts_row k s false
-other_row words A scratch k s instr = memory_row words A scratch k s instr
 
 abbrev pub row_at : List ℕ → List Entry → Bool → NodeKey → AbsState → Option Instr → Raw
 row_at words A scratch k s None = fails (Unsupported k.pc)

@@ -1,8 +1,6 @@
 -- Instructions that work on registers and flags alone. Where a result has a tag, a rule here says so; all others have none. Source: own;
 -- bits and flags follow the Instruction Set Manual DS40002198.
-use Rattle.std.specs.Prelude.{ℕ, ◌+◌, ◌*◌, ◌%◌, ◌==◌, Bool, true, false, not, if◌then◌else◌, List, Option, Some, None, slice_set}
-use Rattle.avr_model.specs.declared.instruction.Instr.{Instr}
-use Rattle.avr_model.specs.declared.instruction.Instr.TheVariants as i
+use Rattle.std.specs.Prelude.{ℕ, ◌+◌, ◌%◌, ◌==◌, Bool, true, false, not, if◌then◌else◌, List, Option, Some, None, slice_set}
 use Rattle.avr_model.specs.declared.instruction.BinaryOp.{BinaryOp}
 use Rattle.avr_model.specs.declared.instruction.BinaryOp.TheVariants as binary
 use Rattle.avr_model.specs.declared.instruction.ImmediateOp.{ImmediateOp}
@@ -231,6 +229,10 @@ carry_tag_at s n = if n == 0 then carry.None else s.flags.carry
 abbrev pub flag_after : AbsState → ℕ → Bool → Computed
 flag_after s n on = both_set s.registers (with_carry (byte_with s.flags.bits n (tri_of_bool on)) (carry_tag_at s n))
 
+-- what is computed where the flag isn't I
+abbrev pub flag_unless_i : AbsState → ℕ → Bool → Option Computed
+flag_unless_i s n on = if n == 7 then None else Some (flag_after s n on)
+
 abbrev pub flag_row : NodeKey → AbsState → ℕ → Bool → Raw
 flag_row k s n on = if n == 7 then interrupts_row k s on else going_with k s (flag_after s n on)
 
@@ -281,28 +283,3 @@ binary_after s binary.Eor d r = Some (logic_after s logic.Eor d (or_nothing d r 
 binary_after s binary.Or d r = Some (logic_after s logic.Or d (bits s d) (bits s r) (kept_tag s d r))
 binary_after s binary.Mov d r = Some (register_set s d (value s r))
 binary_after s binary.Mul d r = Some (product_after s product.Mul d r)
-
--- ---- by the instruction
-
--- I is in the key
-abbrev pub flag_unless_i : AbsState → ℕ → Bool → Option Computed
-flag_unless_i s n on = if n == 7 then None else Some (flag_after s n on)
-
--- what is computed by an instruction that sets registers and flags alone; none by any other, and by loads
-abbrev pub computed_by : AbsState → Instr → Option Computed
-computed_by s (i.Movw d r) = Some (pair_copied s (2 * d) (2 * r))
-computed_by s (i.Muls d r) = Some (product_after s product.Muls d r)
-computed_by s (i.Mulsu d r) = Some (product_after s product.Mulsu d r)
-computed_by s (i.Fmul d r) = Some (product_after s product.Fmul d r)
-computed_by s (i.Fmuls d r) = Some (product_after s product.Fmuls d r)
-computed_by s (i.Fmulsu d r) = Some (product_after s product.Fmulsu d r)
-computed_by s (i.Binary op d r) = binary_after s op d r
-computed_by s (i.Immediate op d n) = Some (immediate_after s op d n)
-computed_by s (i.Unary op d) = Some (unary_after s op d)
-computed_by s (i.Adiw d n) = Some (wide_after s true (2 * d) n)
-computed_by s (i.Sbiw d n) = Some (wide_after s false (2 * d) n)
-computed_by s (i.Bset n) = flag_unless_i s n true
-computed_by s (i.Bclr n) = flag_unless_i s n false
-computed_by s (i.Bld d b) = Some (bit_loaded s d b)
-computed_by s (i.Bst d b) = Some (bit_stored s d b)
-computed_by s _ = None
