@@ -2,8 +2,4 @@
 #![tactic(auto)]
 
 #[cfg(test)]
-mod needs;
-#[cfg(test)]
-mod replies;
-#[cfg(test)]
-mod words;
+mod tests;

@@ -1,0 +1,5 @@
+//! The tables, by what they are about.
+
+mod needs;
+mod replies;
+mod words;
