@@ -1,14 +1,13 @@
 -- What the type of a certificate keeps is what an expansion asks for, and the conditions make a family sound.
-use Rattle.std.proofs.Common.{◌≡◌, refl, sym, subst, ℕ, zero, suc, ◌+◌, ◌<◌, List, [], ◌∷◌, length, Some, Contains, arith}
+use Rattle.std.proofs.Common.{◌≡◌, refl, sym, subst, ℕ, zero, suc, ◌+◌, List, [], ◌∷◌, length, Some, Contains, arith}
 use Rattle.std.specs.List.{slice_get}
 use Rattle.std.proofs.lemmas.Option.{none-some, same_Some, slice_get_read}
-use Rattle.avr_model.specs.declared.assumption.Entry.{Entry}
 use Rattle.mask_states.specs.declared.keys.NodeKey.{NodeKey}
 use Rattle.local_rules.specs.declared.local.Node.{Node}
 use Rattle.edge_rules.specs.declared.seeded.NodeForm.{NodeForm}
 use Rattle.edge_rules.specs.declared.seeded.NodeForm.TheVariants.{State, From}
 use Rattle.edge_rules.specs.Expansion.{Seeds}
-use Rattle.certificate.specs.Claims.{Claim, IsClaim, FitsAt, AreFrom}
+use Rattle.certificate.specs.Claims.{FitsAt, AreFrom}
 use Rattle.certificate.specs.Laws.{ClaimsAreSeeds, ConditionsMakeFamiliesSound}
 
 fits_at : (at i : ℕ) (es : Seeds) (k : NodeKey) (form : NodeForm) → AreFrom at es → slice_get es i ≡ Some (k, form) → FitsAt (at + i) k form
