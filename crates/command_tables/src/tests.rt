@@ -1,5 +1,5 @@
 //! The tables, by what they are about.
 
+mod answers;
 mod needs;
-mod replies;
 mod words;
