@@ -1,3 +1,2 @@
-pub mod Added
-pub mod Gathered
+pub mod Led
 pub mod Settled

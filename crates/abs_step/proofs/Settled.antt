@@ -6,8 +6,9 @@ use Rattle.local_rules.specs.declared.local.NodeFault.{NodeFault}
 use Rattle.abs_step.specs.declared.flow.Outside.{Outside}
 use Rattle.local_rules.specs.Raw.{Raw}
 use Rattle.local_rules.specs.Local.{settled}
-use Rattle.abs_step.specs.Adding.{first_fault, first_of, IsLed}
-use Rattle.abs_step.proofs.Gathered.{first_more}
+use Rattle.abs_successors.specs.Adding.{first_fault, first_of}
+use Rattle.abs_step.specs.Leading.{IsLed}
+use Rattle.abs_successors.proofs.AllLaws.{first_more}
 
 pub led_settled : (new : List Node) (o : Outside) (r : Raw) → IsLed [] new o r
     → settled r r.faults ≡ Ok (record { same = new; calls = o.calls; exit = o.exit })

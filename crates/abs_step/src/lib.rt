@@ -1,15 +1,8 @@
 //! Where a node leads in its own frame: what one instruction does to what is known of the machine. Source: own.
 #![tactic(auto)]
 
-mod bits;
-mod data_transfer;
 mod flow;
 pub mod part;
-mod pointer_stores;
-mod site;
-mod stack;
-mod stores;
-mod successors;
 mod table;
 
 pub use local_rules::{CallSite, Exit, Local, Node, NodeFault, Nodes};

@@ -8,12 +8,12 @@ ghost use Rattle.local_rules.specs.declared.local.NodeFault.TheVariants.{Memory}
 ghost use Rattle.local_rules.specs.Raw.{Raw, untracked_if};
 ghost use Rattle.local_rules.specs.Local as rows;
 ghost use Rattle.sb_base.specs.Answers.{Answers};
-ghost use Rattle.abs_step.specs.Adding.{Settles};
+ghost use Rattle.abs_step.specs.Leading.{Settles};
 
-use crate::site::Site;
 use crate::table::row;
 use abs_reads::stack_pointer::is_hung;
 use abs_state::AbsState;
+use abs_successors::site::Site;
 use flash_image::Flash;
 use local_rules::local::{Local, NodeFault, Nodes};
 use mask_states::NodeKey;

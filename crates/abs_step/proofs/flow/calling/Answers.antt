@@ -1,7 +1,7 @@
 use Rattle.std.proofs.Common.{sym, ap, ◌∙◌, map, None}
 use Rattle.local_rules.specs.Raw.{untracked_if, enters}
 use Rattle.local_rules.specs.Flow.{site, calling, is_half_written}
-use Rattle.abs_step.proofs.Added.{led}
+use Rattle.abs_step.proofs.Led.{led}
 use Rattle.abs_step.proofs.flow.calling.Goals as goal
 
 pub returns-in_ok-calls-in-Closed : goal.returns-in_ok-calls-in-Closed

@@ -1,6 +1,6 @@
 use Rattle.std.proofs.Common.{sym, ap, ◌∙◌, subst}
 use Rattle.local_rules.specs.Flow.{calling, indirect_call}
-use Rattle.abs_step.specs.Adding.{IsLed}
+use Rattle.abs_step.specs.Leading.{IsLed}
 use Rattle.abs_step.proofs.flow.indirect_call.Goals as goal
 
 pub returns : goal.returns

@@ -1,7 +1,7 @@
 use Rattle.std.proofs.Common.{◌≡◌, ◌∙◌, sym, inl, inr, [], Some}
 use Rattle.local_rules.specs.Raw.{leaves_by}
 use Rattle.local_rules.specs.Flow.{returning}
-use Rattle.abs_step.proofs.Added.{led}
+use Rattle.abs_step.proofs.Led.{led}
 use Rattle.abs_step.proofs.flow.returning_at.Goals as goal
 
 pub returns-in-Call : goal.returns-in-Call

@@ -2,8 +2,8 @@ use Rattle.std.proofs.Common.{sym, ap, ◌∙◌, subst, Result, Err}
 use Rattle.local_rules.specs.declared.local.Local.{Local}
 use Rattle.local_rules.specs.declared.local.NodeFault.{NodeFault}
 use Rattle.local_rules.specs.declared.local.NodeFault.TheVariants.{UntrackedSp}
-use Rattle.abs_step.specs.Adding.{Settles}
-use Rattle.abs_step.proofs.Gathered.{not_memory}
+use Rattle.abs_step.specs.Leading.{Settles}
+use Rattle.abs_successors.proofs.AllLaws.{not_memory}
 use Rattle.abs_step.proofs.Settled.{stopped_too}
 use Rattle.abs_step.proofs.part.stopped.Goals as goal
 

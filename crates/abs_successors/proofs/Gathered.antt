@@ -10,7 +10,7 @@ use Rattle.local_rules.specs.declared.local.NodeFault.TheVariants.{Memory}
 use Rattle.local_rules.specs.Faults.{cause_of, is_less, least}
 use Rattle.local_rules.specs.Raw.{Raw, one, all_of}
 use Rattle.local_rules.specs.Local.{placed, joined_onto}
-use Rattle.abs_step.specs.Adding.{first_fault, first_of, with_another, IsAdded, IsGathered}
+use Rattle.abs_successors.specs.Adding.{first_fault, first_of, with_another, IsAdded, IsGathered}
 
 abbrev lesser : NodeFault → NodeFault → NodeFault
 lesser f g = first_of (Some f) g

@@ -1,13 +1,11 @@
 -- Nodes that are added to a list.
-use Rattle.std.proofs.Common.{◌≡◌, refl, sym, ap, ◌∙◌, ℕ, zero, suc, ◌+◌, ◌<◌, List, [], ◌∷◌, ◌++◌, length, map, take, slice_index_or, Option, None, arith}
+use Rattle.std.proofs.Common.{◌≡◌, refl, sym, ap, ◌∙◌, ℕ, zero, suc, ◌+◌, ◌<◌, List, [], ◌∷◌, ◌++◌, length, map, take, slice_index_or, arith}
 use Rattle.abs_state.specs.declared.state.AbsState.{AbsState}
 use Rattle.mask_states.specs.declared.keys.NodeKey.{NodeKey}
 use Rattle.local_rules.specs.declared.local.Node.{Node}
-use Rattle.local_rules.specs.declared.local.CallSite.{CallSite}
-use Rattle.local_rules.specs.declared.local.Exit.{Exit}
 use Rattle.local_rules.specs.Raw.{Raw, one, moves_to}
 use Rattle.local_rules.specs.Local.{placed, joined_onto}
-use Rattle.abs_step.specs.Adding.{IsAdded, IsLed}
+use Rattle.abs_successors.specs.Adding.{IsAdded}
 
 pub one_added : (old new : List Node) (k : NodeKey) (s : AbsState) → new ≡ placed (record { key = k; state = s }) old → IsAdded old new (one k s)
 unfolding joined_onto
@@ -49,24 +47,4 @@ more_added f xs at d old mid new k s lt e p q =
           ∙ ap (joined_onto old) (sym (map_more f xs at (at + 1) d lt refl));
     }
 
--- ---- what leaves the instance
-
-pub led : (nodes : List Node) (calls : List CallSite) (exit : Option Exit) (r : Raw)
-    → r ≡ record { moves = []; calls = calls; exit = exit; faults = [] } → IsLed nodes nodes (record { calls = calls; exit = exit }) r
-unfolding joined_onto
-led nodes calls exit r e = record {
-  faults = ap (λ (r : Raw). r.faults) e;
-  nodes = sym (ap (λ (r : Raw). joined_onto nodes r.moves) e);
-  calls = sym (ap (λ (r : Raw). r.calls) e);
-  exit = sym (ap (λ (r : Raw). r.exit) e);
-}
-
-pub added_led : (old new : List Node) (r : Raw) → IsAdded old new r → IsLed old new (record { calls = []; exit = None }) r
-added_led old new r h = record {
-  faults = ap (λ (r : Raw). r.faults) h.moves;
-  nodes = h.nodes;
-  calls = sym (ap (λ (r : Raw). r.calls) h.moves);
-  exit = sym (ap (λ (r : Raw). r.exit) h.moves);
-}
-
-pub ruleset adding = (one_added, two_added, none_added, added_led)
+pub ruleset adding = (one_added, two_added, none_added)

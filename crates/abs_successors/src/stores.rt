@@ -7,7 +7,7 @@ ghost use Rattle.mask_states.specs.Keys.{offset_of};
 ghost use Rattle.local_rules.specs.declared.local.NodeFault.TheVariants.{Memory};
 ghost use Rattle.local_rules.specs.Raw.{one, moves_to};
 ghost use Rattle.local_rules.specs.Writes as writes;
-ghost use Rattle.abs_step.specs.Adding.{Adds};
+ghost use Rattle.abs_successors.specs.Adding.{Adds};
 
 use crate::successors::{add, add_copy, add_two, changed, copied};
 use abs_reads::stack_pointer::{closing_offset, high_part};
@@ -25,7 +25,7 @@ use vector_table::Masks;
 
 /// What is written: the byte, the word of the instruction, and the node that the machine is at after it otherwise.
 #[derive(Drop)]
-pub(crate) struct Write<'a> {
+pub struct Write<'a> {
     /// The word of the instruction.
     pub pc: u16,
     /// The key after it.
@@ -57,7 +57,7 @@ fn opening(
 }
 
 /// The state with so many slots.
-pub(crate) fn with_slots(alloc: Global, state: &AbsState, count: u16) -> Result<AbsState, NodeFault>
+pub fn with_slots(alloc: Global, state: &AbsState, count: u16) -> Result<AbsState, NodeFault>
     ensures ok { IfOk result (λ s. s ≡ record state.now { slots = resized count state.now.slots }) }
     ensures err { IfErr result (λ e. e ≡ Memory) }
 {
@@ -184,7 +184,7 @@ fn flags_set(
 
 /// A byte is written to a known address, by `out` or otherwise.
 #[tactic(auto, unfolding(local_rules::specs::Writes::written_at))]
-pub(crate) fn written_at(
+pub fn written_at(
     nodes: &mut Nodes,
     alloc: Global,
     write: &Write<'_>,
