@@ -4,7 +4,7 @@ ghost use Rattle.std.specs.Prelude.{ℕ, ◌≡◌, ◌<◌, ◌++◌, map, OnOk
 ghost use Rattle.abs_state.specs.Values.{value_at};
 ghost use Rattle.abs_state.specs.Formed.{NamesRegister};
 ghost use Rattle.round_rules.specs.Families.{AreFormed};
-ghost use Rattle.round_steps.specs.Targets.{entry_node, returned_to, back_at, backs_by, backs_in, all_backs, onward_at, onwards_by, onwards_if, targets_of, all_targets};
+ghost use Rattle.round_steps.specs.Targets.{entry_node, returned_to, back_at, backs_in, all_backs, onward_at, onwards_if, targets_of, all_targets};
 
 use crate::looking::Look;
 use crate::noting::Notes;
@@ -93,24 +93,6 @@ fn add_back(
     add_return(targets, alloc, key, state, back, &port.exit, leaving)
 }
 
-fn add_backs_by(
-    targets: &mut Vec<Node>,
-    alloc: Global,
-    table: &Table,
-    key: &NodeKey,
-    state: &AbsState,
-    back: u16,
-    ports: &[Port],
-) -> Result<(), AllocError>
-    requires { AreFormed table.now }
-    ensures { OnOk result (targets.new.items ≡ targets.old.items ++ backs_by table.now key.now state.now back ports.now) }
-{
-    for at in 0..ports.len() {
-        add_back(targets, alloc, table, key, state, back, &ports[at])?;
-    }
-    Ok(())
-}
-
 fn add_backs(
     targets: &mut Vec<Node>,
     alloc: Global,
@@ -126,7 +108,10 @@ fn add_backs(
     let Some(ports) = leavers.at(&way.inst) else {
         return Ok(());
     };
-    add_backs_by(targets, alloc, table, key, state, way.back, ports)
+    for at in 0..ports.len() {
+        add_back(targets, alloc, table, key, state, way.back, &ports[at])?;
+    }
+    Ok(())
 }
 
 fn add_all_backs(
@@ -166,23 +151,6 @@ fn add_onward(
     add_return(targets, alloc, &port.node, state, port.back, exit, leaving)
 }
 
-fn add_onwards_by(
-    targets: &mut Vec<Node>,
-    alloc: Global,
-    table: &Table,
-    leaving: &AbsState,
-    exit: &Exit,
-    ports: &[Port],
-) -> Result<(), AllocError>
-    requires { (r : ℕ) → r < 32 → NamesRegister (value_at leaving.now.registers r).tag }
-    ensures { OnOk result (targets.new.items ≡ targets.old.items ++ onwards_by table.now leaving.now exit.now ports.now) }
-{
-    for at in 0..ports.len() {
-        add_onward(targets, alloc, table, leaving, exit, &ports[at])?;
-    }
-    Ok(())
-}
-
 fn add_onwards(
     targets: &mut Vec<Node>,
     alloc: Global,
@@ -201,7 +169,10 @@ fn add_onwards(
     let Some(ports) = callers.at(inst) else {
         return Ok(());
     };
-    add_onwards_by(targets, alloc, table, leaving, &exit, ports)
+    for at in 0..ports.len() {
+        add_onward(targets, alloc, table, leaving, &exit, &ports[at])?;
+    }
+    Ok(())
 }
 
 // ---- of nodes

@@ -1,6 +1,0 @@
-use Rattle.std.proofs.Common.{◌≡◌, ◌++◌, take}
-use Rattle.round_steps.specs.Targets.{backs_by}
-use Rattle.round_steps.proofs.targets.add_backs_by.Given as goal
-
-abbrev pub invariant-loop-at : goal.invariant-loop-at
-invariant-loop-at l = l.targets.items ≡ l.fn.targets.items ++ backs_by l.table l.key l.state l.back (take l.at l.ports)
