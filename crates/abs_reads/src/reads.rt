@@ -10,15 +10,12 @@ use abs_rows::bits::tri_of;
 use abs_rows::registers::value;
 use abs_rows::status::sreg_value;
 use abs_state::{AbsByte, AbsState};
-use avr_model::device::{RAMEND, REGISTERS_END, SPH, SPL, SREG};
+use avr_model::device::{BELOW, Device, REGISTERS_END, SPH, SPL, SREG};
 use avr_model::instruction::Register;
 use bit_domain::{Tri, TriByte};
 use mask_states::{Kind, NodeKey};
 use sp_domain::Slot;
 use vector_table::{Masks, enable_of};
-
-/// The last address of I/O (data sheet).
-const IO_LAST: u16 = 0xFF;
 
 // One bit of an I/O address: an enable bit comes from the key, and no other one is known.
 fn io_tri(masks: Masks, address: u16, bit: u8) -> Tri
@@ -62,26 +59,27 @@ pub fn slot_value(state: &AbsState, d: u16) -> AbsByte
 }
 
 // The byte above I/O: a slot of the root's frame, whose base is known; elsewhere nothing is known.
-fn slot_read(kind: Kind, state: &AbsState, address: u16) -> AbsByte
-    ensures { result ≡ slot_read kind state.now address }
+fn slot_read(device: Device, kind: Kind, state: &AbsState, address: u16) -> AbsByte
+    ensures { result ≡ slot_read device kind state.now address }
 {
+    let base = device.ramend();
     match kind {
-        Kind::Root if address <= RAMEND => slot_value(state, RAMEND - address),
+        Kind::Root if address <= base => slot_value(state, base - address),
         _ => AbsByte::unknown(),
     }
 }
 
 /// What a read of a data address gives.
 #[tactic(auto, unfolding(local_rules::specs::Reads::read_at))]
-pub fn read_at(key: &NodeKey, state: &AbsState, address: u16) -> AbsByte
-    ensures { result ≡ read_at key.now state.now address }
+pub fn read_at(device: Device, key: &NodeKey, state: &AbsState, address: u16) -> AbsByte
+    ensures { result ≡ read_at device key.now state.now address }
 {
     match address {
         0..REGISTERS_END => value(state, Register::new(address)),
-        SPL => sp_low(key.inst.kind, key.sp),
-        SPH => sp_high(key.inst.kind, key.sp),
+        SPL => sp_low(device, key.inst.kind, key.sp),
+        SPH => sp_high(device, key.inst.kind, key.sp),
         SREG => sreg_value(key, state),
-        0..=IO_LAST => AbsByte::untagged(io_bits(key.masks, address)),
-        _ => slot_read(key.inst.kind, state, address),
+        0..=BELOW => AbsByte::untagged(io_bits(key.masks, address)),
+        _ => slot_read(device, key.inst.kind, state, address),
     }
 }

@@ -1,8 +1,8 @@
 //! Arithmetic and logic: sums, differences, products and operations on the bits of two bytes. Where a result has a tag, a rule
 //! here says so; all others have none. Source: own; bits and flags are those of `abs_alu`.
 
-ghost use Rattle.std.specs.Prelude.{◌≡◌, ◌+◌, ◌<◌};
-ghost use Rattle.local_rules.specs.Registers.{sum_after, compare_after, difference_after, sub_after, sbc_after, logic_after, step_after, com_after, low_tag, borrow_tag, high_tag, or_nothing, kept_tag, carry_bit, unary_after, product_after, wide_after, down_by, pair_tags};
+ghost use Rattle.std.specs.Prelude.{◌≡◌, ◌==◌, ◌+◌, ◌<◌};
+ghost use Rattle.local_rules.specs.Registers.{sum_after, compare_after, difference_after, sub_after, sbc_after, logic_after, step_after, com_after, low_tag, borrow_tag, high_tag, or_nothing, less_than, less_alone, less_kept, carry_bit, unary_after, product_after, wide_after, down_by, pair_tags};
 
 use crate::bits::CARRY;
 use crate::registers::{bits, pair, set, set_pair, value, with_bits, with_carry};
@@ -14,7 +14,7 @@ use local_rules::Computed;
 use sp_domain::{CarryTag, Tag, move_pair, sub_high, sub_low};
 
 /// What is known of the carry flag.
-pub(crate) fn carry_bit(state: &AbsState) -> Tri
+pub fn carry_bit(state: &AbsState) -> Tri
     ensures { result ≡ carry_bit state.now }
 {
     state.flags.bits.bit(CARRY)
@@ -31,20 +31,51 @@ pub(crate) fn sum(state: &AbsState, d: Register, other: TriByte, carry: Tri) -> 
     }
 }
 
-/// A comparison: a difference that sets the flags alone. With `keep_zero` Z is set only where it was.
+/// A comparison: a difference that sets the flags alone, with what C says afterwards. With `keep_zero` Z is set only where it was.
 pub(crate) fn compare(
     state: &AbsState,
     a: TriByte,
     b: TriByte,
     borrow: Tri,
     keep_zero: bool,
+    says: CarryTag,
 ) -> Computed
-    ensures { result ≡ compare_after state.now a b borrow keep_zero }
+    ensures { result ≡ compare_after state.now a b borrow keep_zero says }
 {
     let (_, flags) = abs_alu::sub(a, b, borrow, keep_zero, state.flags.bits);
     Computed {
         registers: state.registers,
-        flags: with_carry(flags, CarryTag::None),
+        flags: with_carry(flags, says),
+    }
+}
+
+/// What C says after register `d` was compared with a number: whether it is below.
+pub(crate) fn less_than(d: Register, number: Option<u8>) -> CarryTag
+    ensures { result ≡ less_than d number }
+{
+    match number {
+        Some(number) => CarryTag::Less(d.get() as u8, number),
+        None => CarryTag::None,
+    }
+}
+
+/// What C says of a register, alone.
+fn less_alone(carry: CarryTag) -> CarryTag
+    ensures { result ≡ less_alone carry }
+{
+    match carry {
+        CarryTag::Less(_, _) => carry,
+        CarryTag::None | CarryTag::Borrow(_, _) => CarryTag::None,
+    }
+}
+
+/// What C says of a register is kept where two equal numbers and the borrow are compared.
+pub(crate) fn less_kept(a: Option<u8>, b: Option<u8>, carry: CarryTag) -> CarryTag
+    ensures { result ≡ less_kept a b carry }
+{
+    match (a, b) {
+        (Some(a), Some(b)) if a == b => less_alone(carry),
+        _ => CarryTag::None,
     }
 }
 
@@ -129,31 +160,32 @@ pub(crate) fn or_nothing(d: Register, r: Register, bits: TriByte) -> TriByte
     if d == r { TriByte::of(0) } else { bits }
 }
 
-/// The tag after `and` or `or` of two registers: a register with itself stays.
-pub(crate) fn kept_tag(state: &AbsState, d: Register, r: Register) -> Tag
-    ensures { result ≡ kept_tag state.now d r }
+/// Whether the two are the same register.
+pub(crate) fn is_same(d: Register, r: Register) -> bool
+    ensures { result ≡ (d == r) }
 {
-    if d == r {
-        value(state, d).tag
-    } else {
-        Tag::None
-    }
+    d == r
 }
 
-/// AND, OR or EOR of two bytes, which goes to register `d` with this tag.
+/// AND, OR or EOR of two bytes, which goes to register `d`; of a register with itself, which changes no bit, the value stays.
 pub(crate) fn logic(
     state: &AbsState,
     op: Logic,
     d: Register,
     a: TriByte,
     b: TriByte,
-    tag: Tag,
+    same: bool,
 ) -> Computed
-    ensures { result ≡ logic_after state.now op d a b tag }
+    ensures { result ≡ logic_after state.now op d a b same }
 {
     let (result, flags) = abs_alu::logic(op, a, b, state.flags.bits);
+    let kept = if same {
+        value(state, d)
+    } else {
+        AbsByte::untagged(result)
+    };
     Computed {
-        registers: set(&state.registers, d, with_bits(tag, result)),
+        registers: set(&state.registers, d, kept),
         flags: with_carry(flags, state.flags.carry),
     }
 }

@@ -1,6 +1,7 @@
 //! The rows that set registers and flags alone.
 
 ghost use Rattle.std.specs.Prelude.{◌≡◌, ◌<◌, ◌*◌, ℕ, List, Bool};
+ghost use Rattle.avr_model.specs.declared.device.Device.{Device};
 ghost use Rattle.avr_model.specs.declared.assumption.Entry.{Entry};
 ghost use Rattle.mask_states.specs.declared.keys.NodeKey.{NodeKey};
 ghost use Rattle.local_rules.specs.Registers.{immediate_after, unary_after, binary_after, wide_after, going_by};
@@ -9,8 +10,8 @@ ghost use Rattle.abs_rows.specs.Sections.{other_row};
 ghost use Rattle.abs_rows.specs.Sections as sections;
 
 use crate::arithmetic::{
-    carry_bit, com, compare, kept_tag, logic, neg, or_nothing, product, sbc, step_one, sub, sum,
-    wide,
+    carry_bit, com, compare, is_same, less_kept, less_than, logic, neg, or_nothing, product, sbc,
+    step_one, sub, sum, wide,
 };
 use crate::bits::{bit_loaded, bit_stored, shift, swapped};
 use crate::registers::{bits, register_set, value};
@@ -20,7 +21,6 @@ use avr_model::instruction::{BinaryOp, HighPair, ImmediateOp, Instr, Register, S
 use avr_model::operation::{Logic, Mul, Shift};
 use bit_domain::{Tri, TriByte};
 use local_rules::Computed;
-use sp_domain::Tag;
 
 /// What is done to a register and a byte.
 fn immediate(state: &AbsState, op: ImmediateOp, d: Register, number: u8) -> Computed
@@ -29,11 +29,11 @@ fn immediate(state: &AbsState, op: ImmediateOp, d: Register, number: u8) -> Comp
     let a = bits(state, d);
     let b = TriByte::of(number);
     match op {
-        ImmediateOp::Cpi => compare(state, a, b, Tri::Zero, false),
+        ImmediateOp::Cpi => compare(state, a, b, Tri::Zero, false, less_than(d, Some(number))),
         ImmediateOp::Sbci => sbc(state, d, b, Some(number)),
         ImmediateOp::Subi => sub(state, d, a, b, Some(number)),
-        ImmediateOp::Ori => logic(state, Logic::Or, d, a, b, Tag::None),
-        ImmediateOp::Andi => logic(state, Logic::And, d, a, b, Tag::None),
+        ImmediateOp::Ori => logic(state, Logic::Or, d, a, b, false),
+        ImmediateOp::Andi => logic(state, Logic::And, d, a, b, false),
         ImmediateOp::Ldi => register_set(state, d, AbsByte::known(number)),
     }
 }
@@ -63,16 +63,22 @@ pub fn binary(state: &AbsState, op: BinaryOp, d: Register, r: Register) -> Optio
     // A register less itself, or its exclusive or with itself, is 0, whatever it holds.
     let (from, other) = (or_nothing(d, r, a), or_nothing(d, r, b));
     match op {
-        BinaryOp::Cpc => Some(compare(state, a, b, carry, true)),
+        BinaryOp::Cpc => {
+            let says = less_kept(a.constant(), b.constant(), state.flags.carry);
+            Some(compare(state, a, b, carry, true, says))
+        },
         BinaryOp::Sbc => Some(sbc(state, d, b, b.constant())),
         BinaryOp::Add => Some(sum(state, d, b, Tri::Zero)),
         BinaryOp::Cpse => None,
-        BinaryOp::Cp => Some(compare(state, a, b, Tri::Zero, false)),
+        BinaryOp::Cp => {
+            let says = less_than(d, b.constant());
+            Some(compare(state, a, b, Tri::Zero, false, says))
+        },
         BinaryOp::Sub => Some(sub(state, d, from, other, b.constant())),
         BinaryOp::Adc => Some(sum(state, d, b, carry)),
-        BinaryOp::And => Some(logic(state, Logic::And, d, a, b, kept_tag(state, d, r))),
-        BinaryOp::Eor => Some(logic(state, Logic::Eor, d, from, other, Tag::None)),
-        BinaryOp::Or => Some(logic(state, Logic::Or, d, a, b, kept_tag(state, d, r))),
+        BinaryOp::And => Some(logic(state, Logic::And, d, a, b, is_same(d, r))),
+        BinaryOp::Eor => Some(logic(state, Logic::Eor, d, from, other, false)),
+        BinaryOp::Or => Some(logic(state, Logic::Or, d, a, b, is_same(d, r))),
         BinaryOp::Mov => Some(register_set(state, d, value(state, r))),
         BinaryOp::Mul => Some(product(state, Mul::Mul, d, r)),
     }
@@ -88,7 +94,7 @@ fn pair_and_number(state: &AbsState, up: bool, d: &HighPair, number: &Six) -> Co
 /// What an instruction computes that sets registers and flags alone: None of every other one, and of loads.
 pub fn computed_by(state: &AbsState, instr: &Instr) -> Option<Computed>
     ensures value { result ≡ sections.computed_by state.now instr.now }
-    ensures row { (words : List ℕ) (A : List Entry) (scratch : Bool) (k : NodeKey) → row_of words A scratch k state.now instr.now ≡ going_by k state.now result (other_row words A scratch k state.now instr.now) }
+    ensures row { (device : Device) (words : List ℕ) (A : List Entry) (scratch : Bool) (k : NodeKey) → row_of device words A scratch k state.now instr.now ≡ going_by device k state.now result (other_row device words A scratch k state.now instr.now) }
 {
     match instr {
         Instr::Movw(d, r) => Some(pair_copied(state, d.doubled(), r.doubled())),

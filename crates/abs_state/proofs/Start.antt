@@ -12,16 +12,20 @@ use Rattle.bit_domain.specs.Tri.{Permits}
 use Rattle.bit_domain.specs.TriByte.{tri_of, tri_at, byte_of, Has}
 use Rattle.bit_domain.specs.Packed.{packed}
 use Rattle.bit_domain.proofs.AllLaws.{bytes_are_their_bits, bytes_are_sets}
-use Rattle.avr_model.specs.State.{RAMEND}
+use Rattle.avr_model.specs.Devices.{ramend}
 use Rattle.sp_domain.specs.declared.tags.Tag.TheVariants as tag
 use Rattle.abs_state.specs.declared.values.AbsByte.{AbsByte}
 use Rattle.abs_state.specs.declared.state.AbsState.{AbsState}
-use Rattle.abs_state.specs.Values.{unknown, value_at, clear_flags, root}
+use Rattle.abs_state.specs.Values.{unknown, value_at, clear_flags, root, valued, set_of}
+use Rattle.bit_domain.specs.TriByte.{byte_any}
+use Rattle.sp_domain.specs.Tags.{Origin}
+use Rattle.std.proofs.lemmas.List.Elements.{All-get_or}
 use Rattle.abs_state.specs.Stands.{ByteStands}
 use Rattle.abs_state.specs.Order.{IsByteWithin}
 use Rattle.abs_state.specs.Frames.{tagged_from, entered}
-use Rattle.abs_state.specs.Formed.{NamesRegister}
+use Rattle.abs_state.specs.Formed.{NamesRegister, ByteFits}
 use Rattle.abs_state.specs.Laws.{ResetStands, EntriesAreTrue}
+use Rattle.abs_state.proofs.Ordered.{bits_make_values}
 
 -- ---- reset
 
@@ -41,13 +45,17 @@ pub cleared : byte_of (λ i. tri_of (bit_at 0x7F i) (bit_at 0 i)) ≡ clear_flag
 unfolding packed
 cleared = bytes_are_their_bits.from_fields (byte_of (λ i. tri_of (bit_at 0x7F i) (bit_at 0 i))) clear_flags refl refl
 
+any_stands : (o : Origin) (x : ℕ) → x < 256 → ByteStands o unknown x
+any_stands o x small = bits_make_values.stands o tag.None byte_any x small tt (bytes_are_sets.built (λ _. Any) x (λ i k. tt))
+
 pub reset_stands : ResetStands
 reset_stands = record {
-  stands = λ m reset. record {
+  stands = λ device m reset. record {
     registers = λ r h.
-        subst (λ (v : AbsByte). ByteStands (record { registers = m.registers; sreg = m.sreg; base = RAMEND }) v (slice_index m.registers r)) (sym (root_value r h))
-        record { tag = tt; bits = bytes_are_sets.built (λ _. Any) (slice_index m.registers r) (λ i k. tt) };
+        subst (λ (v : AbsByte). ByteStands (record { registers = m.registers; sreg = m.sreg; base = ramend device }) v (slice_index m.registers r)) (sym (root_value r h))
+        (any_stands (record { registers = m.registers; sreg = m.sreg; base = ramend device }) (slice_index m.registers r) (All-get_or (λ b. b < 256) m.registers r 0 (omega (arith, reset.count_registers)) reset.register_bytes));
     flags = record { entry = tt; bits = subst (Has clear_flags) (sym reset.sreg) clear_has; carry = tt };
+    less = tt;
     slots = λ d h. absurd (omega arith);
   };
   formed = record {
@@ -56,11 +64,14 @@ reset_stands = record {
     bit_7 = bytes_are_their_bits.has_bits (λ i. if i == 7 then Any else Zero) 7 (omega arith);
     count_slots = refl;
     slots = λ d h. absurd (omega arith);
+    carry = tt;
+    ranges = λ r h. subst ByteFits (sym (root_value r h)) (bits_make_values.fits tag.None byte_any);
+    slot_ranges = λ d h. absurd (omega arith);
   };
   untagged = record {
     registers = λ r h. ap (λ (v : AbsByte). v.tag) (root_value r h);
     entry = refl;
-    carry = refl;
+    carry = tt;
     slots = λ d h. absurd (omega arith);
   };
 }
@@ -68,13 +79,13 @@ reset_stands = record {
 -- ---- entries
 
 abbrev pub tagged : AbsByte → ℕ → AbsByte
-tagged v r = record { tag = tag.Entry r; bits = v.bits }
+tagged v r = valued (tag.Entry r) (set_of v)
 
 pub length-tagged_from : (n : ℕ) (vs : List AbsByte) → length (tagged_from n vs) ≡ length vs
 length-tagged_from n [] = refl
 length-tagged_from n (v ∷ vs) = ap suc (length-tagged_from (suc n) vs)
 
-value_at-tagged : (vs : List AbsByte) (n r : ℕ) → r < length vs → value_at (tagged_from n vs) r ≡ record { tag = tag.Entry (n + r); bits = (value_at vs r).bits }
+value_at-tagged : (vs : List AbsByte) (n r : ℕ) → r < length vs → value_at (tagged_from n vs) r ≡ valued (tag.Entry (n + r)) (set_of (value_at vs r))
 value_at-tagged [] n r h = absurd (omega arith)
 value_at-tagged (v ∷ vs) n zero h =
     let e : n ≡ n + 0 = omega arith in
@@ -112,7 +123,7 @@ pub entries_are_true : EntriesAreTrue
 entries_are_true = record {
   registers = λ o s registers sreg base n h r lt.
       subst (λ (v : AbsByte). ByteStands (record { registers = registers; sreg = sreg; base = base }) v (slice_index registers r)) (sym (entered_value s r n lt))
-      record { tag = refl; bits = (h r lt).bits };
+      record { tag = refl; bits = (h r lt).bits; low = (h r lt).low; high = (h r lt).high; small = (h r lt).small };
   flags = λ o s offset registers sreg new base formed same h. record {
     entry = same;
     bits = has_flags s.flags.bits sreg new formed.bit_7 (sym same) h.bits;
@@ -124,11 +135,14 @@ entries_are_true = record {
     bit_7 = formed.bit_7;
     count_slots = refl;
     slots = λ d h. absurd (omega arith);
+    carry = tt;
+    ranges = λ r h. subst ByteFits (sym (entered_value s r formed.count_registers h)) (formed.ranges r h);
+    slot_ranges = λ d h. absurd (omega arith);
   };
   more = λ s t m n le. record {
     registers = λ r h.
         subst (λ (v : AbsByte). IsByteWithin v (value_at (entered t).registers r)) (sym (entered_value s r m h))
-        (subst (IsByteWithin (tagged (value_at s.registers r) r)) (sym (entered_value t r n h)) record { tag = refl; bits = (le.registers r h).bits });
+        (subst (IsByteWithin (tagged (value_at s.registers r) r)) (sym (entered_value t r n h)) record { tag = refl; bits = (le.registers r h).bits; low = (le.registers r h).low; high = (le.registers r h).high });
     flags = record { entry = λ e. refl; bits = le.flags.bits; carry = tt };
     count = refl;
     slots = λ d h. absurd (omega arith);

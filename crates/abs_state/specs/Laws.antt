@@ -1,19 +1,33 @@
 -- Laws of values and states: their order and join, that what stands still stands where less is said, and that entries and returns
 -- stand for what the machine does.
 use Rattle.std.specs.Prelude.{ℕ, ◌+◌, ◌-◌, ◌%◌, ◌≡◌, ◌<◌, ◌≤◌, ◌↔◌, ◌⊎◌, true, List, [], ◌∷◌, ◌++◌, length, take, Some, None}
-use Rattle.avr_model.specs.State.{State, Memory, IsReset, RAMEND, byte_in, is_live}
+use Rattle.avr_model.specs.Sreg.{flag}
+use Rattle.avr_model.specs.declared.device.Device.{Device}
+use Rattle.avr_model.specs.Devices.{ramend}
+use Rattle.avr_model.specs.State.{State, Memory, IsReset, byte_in, is_live}
+use Rattle.bit_domain.specs.declared.bytes.TriByte.{TriByte}
+use Rattle.bit_domain.specs.TriByte.{Has, IsWithin}
 use Rattle.sp_domain.specs.declared.slots.Slot.{Slot}
-use Rattle.sp_domain.specs.Tags.{Origin, HasBytes}
+use Rattle.sp_domain.specs.declared.tags.Tag.{Tag}
+use Rattle.sp_domain.specs.Tags.{Origin, TagHolds, LessHolds, HasBytes, IsTagWithin}
 use Rattle.sp_domain.specs.Slots.{slot_at, resized}
 use Rattle.abs_state.specs.declared.values.AbsByte.{AbsByte}
 use Rattle.abs_state.specs.declared.values.AbsFlags.{AbsFlags}
 use Rattle.abs_state.specs.declared.state.AbsState.{AbsState}
-use Rattle.abs_state.specs.Values.{root}
+use Rattle.abs_state.specs.Values.{with_bits, root}
 use Rattle.abs_state.specs.Stands.{ByteStands, FlagsStand, RegistersStand, SlotStands, SlotsStand, Stands}
 use Rattle.abs_state.specs.Order.{IsByteWithin, IsFlagsWithin, IsSlotWithin, IsStateWithin, value_join, flags_join, state_join, IsLeastAbove}
 use Rattle.abs_state.specs.Frames.{entered, returned, Conflict}
-use Rattle.abs_state.specs.Formed.{IsFormed, IsUntagged, TagsFit}
+use Rattle.abs_state.specs.Formed.{ByteFits, IsFormed, IsUntagged, TagsFit}
 use Rattle.abs_state.specs.Rank.{state_rank, height_of}
+
+-- A value of a tag and bits has all bytes of the bits: it stands where both hold, says less where both do, and its range fits; and a join
+-- of values whose ranges fit has one that does.
+pub record BitsMakeValues : Type 0 where
+  pub stands : (o : Origin) (t : Tag) (bits : TriByte) (x : ℕ) → x < 256 → TagHolds o t x → Has bits x → ByteStands o (with_bits t bits) x
+  pub within : (t u : Tag) (bits more : TriByte) → IsTagWithin t u → IsWithin bits more → IsByteWithin (with_bits t bits) (with_bits u more)
+  pub fits : (t : Tag) (bits : TriByte) → ByteFits (with_bits t bits)
+  pub joins_fit : (v w : AbsByte) → ByteFits v → ByteFits w → ByteFits (value_join v w)
 
 -- `within` is a partial order on values, and a join is the least above both
 pub record ValuesAreOrdered : Type 0 where
@@ -79,7 +93,8 @@ pub record SlotsFollow : Type 0 where
 
 -- After reset the root's state stands, in a frame with the reset state's registers whose base is the top of SRAM.
 pub record ResetStands : Type 0 where
-  pub stands : (m : State) → IsReset m → Stands (record { registers = m.registers; sreg = m.sreg; base = RAMEND }) root m
+  pub stands : (device : Device) (m : State) → IsReset device m
+      → Stands (record { registers = m.registers; sreg = m.sreg; base = ramend device }) root m
   pub formed : IsFormed root 0
   pub untagged : IsUntagged root
 
@@ -102,10 +117,12 @@ pub record IsEnteredFrom (registers : List ℕ) (sreg : ℕ) (o : Origin) : Type
 pub record ReturnsAreTrue : Type 0 where
   pub stands : (o callee : Origin) (caller exit : AbsState) (offset : ℕ) (left registers : List ℕ) (left_sreg sreg new : ℕ) (memory : Memory)
       → IsFormed caller offset → IsFormed exit 0
-      → RegistersStand o caller.registers left → FlagsStand o caller.flags left_sreg → SlotsStand o memory caller.slots
+      → RegistersStand o caller.registers left → FlagsStand o caller.flags left_sreg → LessHolds left caller.flags.carry (flag left_sreg 0)
+      → SlotsStand o memory caller.slots
       → IsEnteredFrom left left_sreg callee
       → RegistersStand callee exit.registers registers → FlagsStand callee exit.flags sreg → new % 128 ≡ sreg % 128
-      → (t : AbsState) × (returned caller exit ≡ Some t) × RegistersStand o t.registers registers × FlagsStand o t.flags new × SlotsStand o memory t.slots
+      → (t : AbsState) × (returned caller exit ≡ Some t) × RegistersStand o t.registers registers × FlagsStand o t.flags new
+      × LessHolds registers t.flags.carry (flag new 0) × SlotsStand o memory t.slots
   pub formed : (caller exit t : AbsState) (offset : ℕ) → IsFormed caller offset → IsFormed exit 0 → returned caller exit ≡ Some t → IsFormed t offset
   pub untagged : (caller exit t : AbsState) (offset : ℕ) → IsFormed caller offset → IsFormed exit 0 → IsUntagged caller → returned caller exit ≡ Some t → IsUntagged t
   pub more : (caller caller' exit exit' t : AbsState) (offset : ℕ) → IsFormed caller offset → IsFormed caller' offset → IsFormed exit 0 → IsFormed exit' 0

@@ -1,2 +1,4 @@
+pub mod Forgetting
 pub mod Led
 pub mod Settled
+pub mod Picked

@@ -1,8 +1,9 @@
 -- Worked nodes: each line computes. Bits are looked at by rows of a program, and here where a node leads and where bytes come from.
-use Rattle.std.specs.Prelude.{ℕ, ◌+◌, ◌≡◌, Bool, true, false, List, [], ◌∷◌, map, replicate, refl, slice_set, Option, Some}
+use Rattle.std.specs.Prelude.{ℕ, ◌+◌, ◌≡◌, Bool, true, false, List, [], ◌∷◌, map, replicate, refl, slice_set, Option, Some, None}
 use Rattle.avr_model.specs.declared.assumption.Entry.TheVariants.{Jump, Store}
+use Rattle.avr_model.specs.Devices.{device_of}
 use Rattle.avr_model.specs.Bits.{any_below, all_below}
-use Rattle.avr_model.specs.Sites.{is_scratch, is_fixed, path_behind, is_loaded_behind}
+use Rattle.avr_model.specs.Sites.{is_scratch, is_fixed, path_behind, is_loaded_behind, table_site, ijmp_from}
 use Rattle.avr_model.specs.Assumptions.{jump_line, store_line, is_proved}
 use Rattle.avr_model.specs.Table.{decoded}
 use Rattle.avr_model.specs.Vectors.{row_of}
@@ -41,7 +42,7 @@ firmware w0 w1 = w0 ∷ w1 ∷ replicate 16382 0xFFFF
 
 -- a node at word 0 of a call's frame, with the flag I
 abbrev in_call : SpForm → NodeKey
-in_call sp = record { inst = record { kind = Call; entry = 0; masks = 0; i = true }; pc = 0; masks = 0; i = true; delay = false; sp = sp }
+in_call sp = record { inst = record { kind = Call; entry = 0; masks = 0; i = true }; pc = 0; masks = 0; i = true; delay = false; sp = sp; pick = None }
 
 -- with two registers that hold these values
 abbrev with_pair : ℕ → AbsByte → AbsByte → AbsState
@@ -77,19 +78,19 @@ faults r = r.faults
 
 -- `subi r28, 32` of the low byte of base - 5 leaves its borrow, which `sbci r29, 1` takes
 leaves_its_borrow : carries (raw (firmware 0x52C0 0xFFFF) [] (in_call (Closed 0)) (from_base 5 5)) ≡ carry.Borrow 5 32 ∷ []
-unfolding raw is_scratch any_below all_below decoded
+unfolding raw table_site ijmp_from is_scratch any_below all_below decoded device_of
 leaves_its_borrow = refl
 
 abbrev borrowing : AbsState
 borrowing = record (from_base 37 5) { flags = record root.flags { carry = carry.Borrow 5 32 } }
 
 takes_the_borrow : tags 29 (raw (firmware 0x40D1 0xFFFF) [] (in_call (Closed 0)) borrowing) ≡ tag.SpHi 293 ∷ []
-unfolding raw is_scratch any_below all_below decoded
+unfolding raw table_site ijmp_from is_scratch any_below all_below decoded device_of
 takes_the_borrow = refl
 
 -- `out 0x3f, r29` of the flags of the entry restores them
 restores_flags : entries (raw (firmware 0xBFDF 0xFFFF) [] (in_call (Closed 0)) (with_pair 28 unknown (with_bits tag.EntryFlags (byte_known 128)))) ≡ true ∷ []
-unfolding raw is_scratch any_below all_below decoded written_at packed
+unfolding raw table_site ijmp_from is_scratch any_below all_below decoded device_of written_at packed
 restores_flags = refl
 
 -- `ldd r16, Y+1` at base - 1 reads the slot at the base
@@ -97,35 +98,35 @@ abbrev with_slot : AbsState
 with_slot = record (from_base 1 1) { slots = Guarded (with_bits (tag.Entry 4) unknown.bits) ∷ [] }
 
 reads_a_slot : tags 16 (raw (firmware 0x8109 0xFFFF) [] (in_call (Closed 1)) with_slot) ≡ tag.Entry 4 ∷ []
-unfolding raw is_scratch any_below all_below decoded read_at packed
+unfolding raw table_site ijmp_from is_scratch any_below all_below decoded device_of read_at packed
 reads_a_slot = refl
 
 -- `st X, r16` of an unknown byte, X at 0x003D, where 0x003D and 0x005D are listed: it changes nothing, or the two enable bits
 stores_at_listed : enables (raw (firmware 0x930C 0xFFFF) (Store 0 (0x3D ∷ 0x5D ∷ []) ∷ []) (in_call (Closed 0)) (with_pair 26 (known 0x3D) (known 0))) ≡ 0 ∷ 0 ∷ 1 ∷ 2 ∷ 3 ∷ []
-unfolding raw is_scratch is_fixed path_behind is_loaded_behind is_proved store_line any_below all_below decoded written_at numbers_of enable_tri row_of packed permits_below
+unfolding raw table_site ijmp_from is_scratch is_fixed path_behind is_loaded_behind is_proved store_line any_below all_below decoded device_of written_at numbers_of enable_tri row_of packed permits_below
 stores_at_listed = refl
 
 -- `ijmp` with Z at 5 goes to the one word of the line that Z permits
 jumps_to_listed : words (raw (firmware 0x9409 0xFFFF) (Jump 0 (5 ∷ 7 ∷ []) ∷ []) (in_call (Closed 0)) (with_pair 30 (known 5) (known 0))) ≡ 5 ∷ []
-unfolding raw is_scratch jump_line any_below all_below decoded numbers_of packed
+unfolding raw table_site ijmp_from is_scratch jump_line any_below all_below decoded device_of numbers_of packed
 jumps_to_listed = refl
 
 -- `call 0x0010`, `ret` and `reti`
 calls_a_word : calls (raw (firmware 0x940E 0x0010) [] (in_call (Closed 0)) root) ≡ site 16 2 ∷ []
-unfolding raw is_scratch any_below all_below decoded
+unfolding raw table_site ijmp_from is_scratch any_below all_below decoded device_of
 calls_a_word = refl
 
 returns : leaves (raw (firmware 0x9508 0xFFFF) [] (in_call (Closed 0)) root) ≡ Some (record { masks = 0; i = true; delay = false })
-unfolding raw is_scratch any_below all_below decoded
+unfolding raw table_site ijmp_from is_scratch any_below all_below decoded device_of
 returns = refl
 
 returns_from_interrupt : leaves (raw (firmware 0x9518 0xFFFF) [] (record (in_call (Closed 0)) { i = false }) root) ≡ Some (record { masks = 0; i = true; delay = true })
-unfolding raw is_scratch any_below all_below decoded
+unfolding raw table_site ijmp_from is_scratch any_below all_below decoded device_of
 returns_from_interrupt = refl
 
 -- an interrupt may come while the stack pointer is half written
 hangs : faults (raw (firmware 0x0000 0xFFFF) [] (record (in_call (Open 0 (Tagged 2))) { masks = 32768 }) root) ≡ UntrackedSp 0 ∷ []
-unfolding raw is_scratch any_below all_below decoded
+unfolding raw table_site ijmp_from is_scratch any_below all_below decoded device_of
 hangs = refl
 
 -- of two depths the lower one is told

@@ -3,50 +3,96 @@
 ghost use Rattle.std.specs.Prelude.{◌≡◌, ◌<◌, map, filter, None, IfOk, IfErr, List};
 ghost use Rattle.avr_model.specs.Image.{WORDS};
 ghost use Rattle.avr_model.specs.Assumptions.{lists};
-ghost use Rattle.bit_domain.specs.Numbers.{targets_of};
+ghost use Rattle.bit_domain.specs.Tri.{tri_not};
 ghost use Rattle.local_rules.specs.declared.local.NodeFault.TheVariants.{Memory};
 ghost use Rattle.local_rules.specs.Raw.{moves_to, Raw};
 ghost use Rattle.local_rules.specs.declared.local.Node.{Node};
 ghost use Rattle.local_rules.specs.Registers as registers;
 ghost use Rattle.local_rules.specs.Raw as raw;
 ghost use Rattle.local_rules.specs.Flow as flow;
+ghost use Rattle.local_rules.specs.Flow.{words_on};
 ghost use Rattle.abs_successors.specs.Adding.{Adds};
 ghost use Rattle.abs_step.specs.Leading.{Finds, Leads};
 
-use abs_reads::flow::{further, is_target};
+use abs_reads::flow::{further, is_target, width};
+use abs_rows::arithmetic::carry_bit;
 use abs_rows::registers::pair;
+use abs_rows::status::flag_at;
 use abs_rows::transfer::base_register;
 use abs_state::AbsState;
+use abs_successors::cuts::carry_branch;
 use abs_successors::site::Site;
 use abs_successors::stack::room_row;
-use abs_successors::successors::{add_copy, at_word, branch, next};
-use avr_model::instruction::Base;
+use abs_successors::successors::{add_copy, branch, off_table};
+use avr_model::device::Device;
+use avr_model::instruction::{Base, Bit};
 use avr_model::listed::Listed;
 use bit_domain::Tri;
-use indirect_targets::targets;
+use indirect_targets::targets_on;
 use local_rules::local::{CallSite, Exit, NodeFault, Nodes};
 use mask_states::{Kind, NodeKey, SpForm};
 use std::alloc::Global;
 
+/// `brbs` of flag `n`. A branch on C cuts what C speaks of.
+pub(crate) fn branch_where_set(
+    nodes: &mut Nodes,
+    site: &Site<'_>,
+    n: Bit,
+    taken: u16,
+    other: u16,
+) -> Result<(), NodeFault>
+    ensures { Adds nodes.old nodes.new result (flow.flag_branch n site.now.key.now site.now.state.now taken other (flow.branch (flow.flag_at site.now.key.now site.now.state.now n) site.now.key.now site.now.state.now taken other)) }
+{
+    if n.get() == 0 {
+        return carry_branch(nodes, site, carry_bit(site.state), taken, other);
+    }
+    branch(nodes, site, flag_at(site.key, site.state, n), taken, other)
+}
+
+/// `brbc` of flag `n`, which goes the other way.
+pub(crate) fn branch_where_clear(
+    nodes: &mut Nodes,
+    site: &Site<'_>,
+    n: Bit,
+    taken: u16,
+    other: u16,
+) -> Result<(), NodeFault>
+    ensures { Adds nodes.old nodes.new result (flow.flag_branch n site.now.key.now site.now.state.now other taken (flow.branch (tri_not (flow.flag_at site.now.key.now site.now.state.now n)) site.now.key.now site.now.state.now taken other)) }
+{
+    if n.get() == 0 {
+        return carry_branch(nodes, site, carry_bit(site.state), other, taken);
+    }
+    let condition = flag_at(site.key, site.state, n).complement();
+    branch(nodes, site, condition, taken, other)
+}
+
 /// Past the next instruction where the condition holds.
 pub(crate) fn skipping(nodes: &mut Nodes, site: &Site<'_>, condition: Tri) -> Result<(), NodeFault>
     requires word { site.now.key.now.pc < WORDS }
-    ensures { Adds nodes.old nodes.new result (flow.skipping site.now.flash.now site.now.key.now site.now.state.now condition) }
+    ensures { Adds nodes.old nodes.new result (flow.skipping site.now.device site.now.flash.now site.now.key.now site.now.state.now condition) }
 {
     let length = avr_decode::length(site.flash.word(site.key.pc + 1));
-    let (past, next) = (further(site.key, 1 + length), further(site.key, 1));
+    let (past, next) = (
+        further(site.device, site.key, 1 + length),
+        further(site.device, site.key, 1),
+    );
     let added = branch(nodes, site, condition, past, next)?;
     Ok(added)
 }
 
 // The listed words that the bits permit.
-fn listed_targets(alloc: Global, state: &AbsState, listed: &[u16]) -> Result<Vec<u16>, NodeFault>
-    ensures ok { IfOk result (λ v. v.items ≡ filter (lists (targets_of (registers.bits state.now 30) (registers.bits state.now 31))) listed.now) }
+fn listed_targets(
+    alloc: Global,
+    device: Device,
+    state: &AbsState,
+    listed: &[u16],
+) -> Result<Vec<u16>, NodeFault>
+    ensures ok { IfOk result (λ v. v.items ≡ filter (lists (words_on device (registers.bits state.now 30) (registers.bits state.now 31))) listed.now) }
     ensures err { IfErr result (λ e. e ≡ Memory) }
 {
     let mut words = Vec::new(alloc);
     for at in 0..listed.len() {
-        if is_target(state, listed[at]) {
+        if is_target(device, state, listed[at]) {
             if words.push(listed[at]).is_err() {
                 return Err(NodeFault::Memory);
             }
@@ -56,11 +102,16 @@ fn listed_targets(alloc: Global, state: &AbsState, listed: &[u16]) -> Result<Vec
 }
 
 // All words that the bits permit, where these are few.
-fn unlisted_targets(alloc: Global, state: &AbsState, pc: u16) -> Result<Vec<u16>, NodeFault>
-    ensures { Finds result (flow.targets_by None (targets_of (registers.bits state.now 30) (registers.bits state.now 31))) pc }
+fn unlisted_targets(
+    alloc: Global,
+    device: Device,
+    state: &AbsState,
+    pc: u16,
+) -> Result<Vec<u16>, NodeFault>
+    ensures { Finds result (flow.targets_by device None (registers.bits state.now 30) (registers.bits state.now 31)) pc }
 {
     let (low, high) = pair(state, base_register(Base::Z));
-    match targets(&low.bits, &high.bits) {
+    match targets_on(&low.bits, &high.bits, width(device)) {
         Ok(all) => match all.as_slice().to_vec(alloc) {
             Ok(words) => Ok(words),
             Err(_) => Err(NodeFault::Memory),
@@ -71,27 +122,32 @@ fn unlisted_targets(alloc: Global, state: &AbsState, pc: u16) -> Result<Vec<u16>
 
 /// The words to which an indirect transfer may lead.
 pub(crate) fn targets_at(site: &Site<'_>) -> Result<Vec<u16>, NodeFault>
-    ensures { Finds result (flow.targets_at site.now.assumptions.now site.now.key.now site.now.state.now) site.now.key.now.pc }
+    ensures { Finds result (flow.targets_at site.now.device site.now.assumptions.now site.now.key.now site.now.state.now) site.now.key.now.pc }
 {
     match site.assumptions.jumps(site.key.pc) {
-        Some(listed) => listed_targets(site.alloc, site.state, listed),
-        None => unlisted_targets(site.alloc, site.state, site.key.pc),
+        Some(listed) => listed_targets(site.alloc, site.device, site.state, listed),
+        None => unlisted_targets(site.alloc, site.device, site.state, site.key.pc),
     }
 }
 
 // Going on at each of these words.
 fn add_words(nodes: &mut Nodes, site: &Site<'_>, words: &[u16]) -> Result<(), NodeFault>
-    ensures { Adds nodes.old nodes.new result (moves_to (map (λ t. record { key = raw.at_word site.now.key.now t; state = site.now.state.now }) words.now)) }
+    ensures { Adds nodes.old nodes.new result (moves_to (map (λ t. record { key = raw.off_table site.now.key.now t; state = site.now.state.now }) words.now)) }
 {
     for at in 0..words.len() {
-        add_copy(nodes, site.alloc, at_word(site.key, words[at]), site.state)?;
+        add_copy(
+            nodes,
+            site.alloc,
+            off_table(site.key, words[at]),
+            site.state,
+        )?;
     }
     Ok(())
 }
 
 /// An indirect jump.
 pub(crate) fn jumping(nodes: &mut Nodes, site: &Site<'_>) -> Result<(), NodeFault>
-    ensures { Adds nodes.old nodes.new result (flow.jumping (flow.targets_at site.now.assumptions.now site.now.key.now site.now.state.now) site.now.key.now site.now.state.now) }
+    ensures { Adds nodes.old nodes.new result (flow.jumping (flow.targets_at site.now.device site.now.assumptions.now site.now.key.now site.now.state.now) site.now.key.now site.now.state.now) }
 {
     let words = targets_at(site)?;
     let added = add_words(nodes, site, &words)?;
@@ -155,10 +211,15 @@ pub(crate) fn calling(
 
 /// An indirect call.
 pub(crate) fn indirect_call(site: &Site<'_>) -> Result<Outside, NodeFault>
-    ensures { (nodes : List Node) → Leads nodes nodes result (flow.indirect_call (flow.targets_at site.now.assumptions.now site.now.key.now site.now.state.now) site.now.key.now) }
+    ensures { (nodes : List Node) → Leads nodes nodes result (flow.indirect_call site.now.device (flow.targets_at site.now.device site.now.assumptions.now site.now.key.now site.now.state.now) site.now.key.now) }
 {
     let entries = targets_at(site)?;
-    let outside = calling(site.alloc, site.key, further(site.key, 1), &entries)?;
+    let outside = calling(
+        site.alloc,
+        site.key,
+        further(site.device, site.key, 1),
+        &entries,
+    )?;
     Ok(outside)
 }
 
@@ -199,11 +260,16 @@ pub(crate) fn relative_call(
     scratch: bool,
     target: u16,
 ) -> Result<Outside, NodeFault>
-    ensures { Leads nodes.old nodes.new result (flow.relative_call scratch site.now.key.now site.now.state.now target) }
+    ensures { Leads nodes.old nodes.new result (flow.relative_call site.now.device scratch site.now.key.now site.now.state.now target) }
 {
     if scratch {
         staying(site.alloc, room_row(nodes, site, target))
     } else {
-        calling(site.alloc, site.key, further(site.key, 1), &[target])
+        calling(
+            site.alloc,
+            site.key,
+            further(site.device, site.key, 1),
+            &[target],
+        )
     }
 }

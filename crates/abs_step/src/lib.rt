@@ -2,7 +2,9 @@
 #![tactic(auto)]
 
 mod flow;
+mod instruction;
 pub mod part;
+mod splitting;
 mod table;
 
 pub use local_rules::{CallSite, Exit, Local, Node, NodeFault, Nodes};

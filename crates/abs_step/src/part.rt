@@ -1,16 +1,16 @@
 //! The local part of a node: all successors in its instance, its calls and its return, or its one fault.
 
-ghost use Rattle.std.specs.Prelude.{◌≡◌, ◌<◌, length, Err, true};
+ghost use Rattle.std.specs.Prelude.{◌≡◌, ◌<◌, ◌∷◌, nat_lt, length, Err};
+ghost use Rattle.avr_model.specs.Devices.{size_of};
 ghost use Rattle.avr_model.specs.Image.{WORDS};
-ghost use Rattle.avr_model.specs.Sites.{instruction_at, is_scratch};
 ghost use Rattle.mask_states.specs.Keys.{offset_of};
 ghost use Rattle.local_rules.specs.declared.local.NodeFault.TheVariants.{Memory};
-ghost use Rattle.local_rules.specs.Raw.{Raw, untracked_if};
+ghost use Rattle.local_rules.specs.Raw.{Raw, too_deep_if};
 ghost use Rattle.local_rules.specs.Local as rows;
 ghost use Rattle.sb_base.specs.Answers.{Answers};
 ghost use Rattle.abs_step.specs.Leading.{Settles};
 
-use crate::table::row;
+use crate::splitting::splitting;
 use abs_reads::stack_pointer::is_hung;
 use abs_state::AbsState;
 use abs_successors::site::Site;
@@ -20,41 +20,48 @@ use mask_states::NodeKey;
 use std::alloc::Global;
 use vector_table::Assumptions;
 
-// What the instruction at the node leads to.
-fn at_instruction(site: &Site<'_>) -> Result<Local, NodeFault>
+// What the node leads to, where it splits too.
+fn led(site: &Site<'_>) -> Result<Local, NodeFault>
     requires word { site.now.key.now.pc < WORDS }
-    ensures { Settles result (rows.row_at site.now.flash.now site.now.assumptions.now (is_scratch site.now.flash.now site.now.key.now.pc) site.now.key.now site.now.state.now (instruction_at site.now.flash.now site.now.key.now.pc)) }
+    ensures { Settles result (rows.splitting (rows.split_site site.now.flash.now site.now.assumptions.now site.now.key.now.pc site.now.key.now.pick) (rows.row_in site.now.device site.now.flash.now site.now.assumptions.now) site.now.key.now site.now.state.now) }
 {
-    let scratch = avr_decode::is_scratch(site.flash.words(), site.key.pc);
-    match avr_decode::instruction(site.flash.words(), usize::from(site.key.pc)) {
-        Some(instr) => {
-            let mut same = Nodes::new(site.alloc);
-            let outside = row(&mut same, site, scratch, &instr)?;
-            Ok(Local {
-                same,
-                calls: outside.calls,
-                exit: outside.exit,
-            })
-        }
-        None => Err(NodeFault::Unsupported(site.key.pc)),
-    }
+    let mut same = Nodes::new(site.alloc);
+    let outside = splitting(&mut same, site)?;
+    Ok(Local {
+        same,
+        calls: outside.calls,
+        exit: outside.exit,
+    })
 }
 
-// The fault that counts where the stack pointer can't be followed besides.
-fn stopped(found: &Result<Local, NodeFault>, pc: u16) -> NodeFault
-    ensures { (r : Raw) → Settles found.now r → Settles (Err result) (untracked_if true pc r) }
+// The fault that counts where the node has this one besides.
+fn stopped(found: &Result<Local, NodeFault>, besides: NodeFault) -> NodeFault
+    ensures { (r : Raw) → Settles found.now r → Settles (Err result) (record r { faults = besides ∷ r.faults }) }
 {
-    let hung = NodeFault::UntrackedSp(pc);
     match found {
-        Ok(_) => hung,
+        Ok(_) => besides,
         Err(fault) => {
             let cause = fault.cause();
             if cause == 0 {
                 return NodeFault::Memory;
             }
-            hung.lesser(*fault)
+            besides.lesser(*fault)
         }
     }
+}
+
+// The same, and that the frame lies in the device's SRAM.
+fn in_sram(site: &Site<'_>) -> Result<Local, NodeFault>
+    requires word { site.now.key.now.pc < WORDS }
+    ensures { Settles result (too_deep_if (nat_lt (size_of site.now.device) (offset_of site.now.key.now.sp)) site.now.key.now.pc (offset_of site.now.key.now.sp) (rows.splitting (rows.split_site site.now.flash.now site.now.assumptions.now site.now.key.now.pc site.now.key.now.pick) (rows.row_in site.now.device site.now.flash.now site.now.assumptions.now) site.now.key.now site.now.state.now)) }
+{
+    let found = led(site);
+    let offset = site.key.offset();
+    if offset > site.device.size() {
+        let deep = NodeFault::TooDeep(site.key.pc, u32::from(offset));
+        return Err(stopped(&found, deep));
+    }
+    found
 }
 
 /// Where a node leads in its own frame: the successors in its instance, joined where they have one key, its calls and its
@@ -73,14 +80,15 @@ pub fn local(
 {
     let site = Site {
         alloc,
+        device: flash.device(),
         flash,
         assumptions,
         key,
         state,
     };
-    let found = at_instruction(&site);
+    let found = in_sram(&site);
     if is_hung(key) {
-        return Err(stopped(&found, key.pc));
+        return Err(stopped(&found, NodeFault::UntrackedSp(key.pc)));
     }
     found
 }

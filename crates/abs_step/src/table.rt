@@ -8,19 +8,19 @@ ghost use Rattle.abs_successors.specs.Adding.{Adds};
 ghost use Rattle.abs_step.specs.Leading.{Leads};
 
 use crate::flow::{
-    Outside, calling, indirect_call, jumping, relative_call, returning, skipping, staying,
+    Outside, branch_where_clear, branch_where_set, calling, indirect_call, jumping, relative_call,
+    returning, skipping, staying,
 };
 use abs_reads::flow::{are_equal, further, port, port_bit, register_bit};
 use abs_reads::pointers::step_before;
 use abs_rows::rows::{binary, computed_by};
-use abs_rows::status::flag_at;
 use abs_rows::transfer::{base_register, pair_moved, pointer_moved, pointer_register};
 use abs_successors::bits::{bit_row, flag_row};
 use abs_successors::data_transfer::{known_write, load_row, lpm_row, read_row, store_row};
 use abs_successors::pointer_stores::pointer_write;
 use abs_successors::site::Site;
 use abs_successors::stack::{pop_row, push_row};
-use abs_successors::successors::{branch, going_to, setting};
+use abs_successors::successors::{going_to, setting};
 use avr_decode::{far, near};
 use avr_model::instruction::{Base, BinaryOp, Instr, Register};
 use local_rules::local::{Exit, NodeFault, Nodes};
@@ -33,9 +33,10 @@ fn flow_row(
     instr: &Instr,
 ) -> Result<Outside, NodeFault>
     requires word { site.now.key.now.pc < WORDS }
-    ensures { Leads nodes.old nodes.new result (rows.flow_row site.now.flash.now site.now.assumptions.now scratch site.now.key.now site.now.state.now instr.now) }
+    ensures { Leads nodes.old nodes.new result (rows.flow_row site.now.device site.now.flash.now site.now.assumptions.now scratch site.now.key.now site.now.state.now instr.now) }
 {
-    let (a, key, state) = (site.alloc, site.key, site.state);
+    let (a, device) = (site.alloc, site.device);
+    let (key, state) = (site.key, site.state);
     match instr {
         Instr::Ijmp => staying(a, jumping(nodes, site)),
         Instr::Icall => indirect_call(site),
@@ -47,35 +48,34 @@ fn flow_row(
             let (masks, i, delay) = (key.masks, true, true);
             returning(site, Exit { masks, i, delay })
         }
-        Instr::Jmp(t) => staying(a, going_to(nodes, site, t.get())),
-        Instr::Call(t) => calling(a, key, further(key, 2), &[t.get()]),
-        Instr::Rjmp(t) => staying(a, going_to(nodes, site, far(key.pc, t.get()))),
-        Instr::Rcall(t) => relative_call(nodes, site, scratch, far(key.pc, t.get())),
+        Instr::Jmp(t) => staying(a, going_to(nodes, site, device.wrap(t.get()))),
+        Instr::Call(t) => calling(a, key, further(device, key, 2), &[device.wrap(t.get())]),
+        Instr::Rjmp(t) => staying(a, going_to(nodes, site, device.wrap(far(key.pc, t.get())))),
+        Instr::Rcall(t) => relative_call(nodes, site, scratch, device.wrap(far(key.pc, t.get()))),
         Instr::Brbs(n, t) => {
-            let (taken, other) = (near(key.pc, t.get()), further(key, 1));
-            staying(
-                a,
-                branch(nodes, site, flag_at(key, state, *n), taken, other),
-            )
+            let (taken, other) = (device.wrap(near(key.pc, t.get())), further(device, key, 1));
+            staying(a, branch_where_set(nodes, site, *n, taken, other))
         }
         Instr::Brbc(n, t) => {
-            let condition = flag_at(key, state, *n).complement();
-            let (taken, other) = (near(key.pc, t.get()), further(key, 1));
-            staying(a, branch(nodes, site, condition, taken, other))
+            let (taken, other) = (device.wrap(near(key.pc, t.get())), further(device, key, 1));
+            staying(a, branch_where_clear(nodes, site, *n, taken, other))
         }
         Instr::Sbic(port, bit) => {
-            let condition = port_bit(key, state, *port, *bit).complement();
+            let condition = port_bit(device, key, state, *port, *bit).complement();
             staying(a, skipping(nodes, site, condition))
         }
         Instr::Sbis(port, bit) => {
-            staying(a, skipping(nodes, site, port_bit(key, state, *port, *bit)))
+            staying(
+                a,
+                skipping(nodes, site, port_bit(device, key, state, *port, *bit)),
+            )
         }
         Instr::Sbrc(r, bit) => {
             let condition = register_bit(state, *r, *bit).complement();
             staying(a, skipping(nodes, site, condition))
         }
         Instr::Sbrs(r, bit) => staying(a, skipping(nodes, site, register_bit(state, *r, *bit))),
-        _ => staying(a, going_to(nodes, site, further(key, 1))),
+        _ => staying(a, going_to(nodes, site, further(device, key, 1))),
     }
 }
 
@@ -87,9 +87,10 @@ fn memory_row(
     instr: &Instr,
 ) -> Result<Outside, NodeFault>
     requires word { site.now.key.now.pc < WORDS }
-    ensures { Leads nodes.old nodes.new result (rows.memory_row site.now.flash.now site.now.assumptions.now scratch site.now.key.now site.now.state.now instr.now) }
+    ensures { Leads nodes.old nodes.new result (rows.memory_row site.now.device site.now.flash.now site.now.assumptions.now scratch site.now.key.now site.now.state.now instr.now) }
 {
-    let (a, key, state) = (site.alloc, site.key, site.state);
+    let (a, device) = (site.alloc, site.device);
+    let (key, state) = (site.key, site.state);
     match instr {
         Instr::Ldd(d, b, q) => {
             let r = base_register(*b);
@@ -99,9 +100,12 @@ fn memory_row(
             let base = base_register(*b);
             staying(a, pointer_write(nodes, site, base, q.get(), *r, state))
         }
-        Instr::Lds(d, address) => staying(a, read_row(nodes, site, further(key, 2), *d, *address)),
+        Instr::Lds(d, address) => staying(
+            a,
+            read_row(nodes, site, further(device, key, 2), *d, *address),
+        ),
         Instr::Sts(address, r) => {
-            let pc = further(key, 2);
+            let pc = further(device, key, 2);
             staying(a, known_write(nodes, site, pc, false, *address, *r))
         }
         Instr::Ld(d, p) => {
@@ -117,9 +121,12 @@ fn memory_row(
         Instr::Lpm => staying(a, lpm_row(nodes, site, &state.registers, Register::new(0))),
         Instr::Pop(d) => staying(a, pop_row(nodes, site, *d)),
         Instr::Push(r) => staying(a, push_row(nodes, site, scratch, *r)),
-        Instr::In(d, i) => staying(a, read_row(nodes, site, further(key, 1), *d, port(*i))),
+        Instr::In(d, i) => staying(
+            a,
+            read_row(nodes, site, further(device, key, 1), *d, port(*i)),
+        ),
         Instr::Out(i, r) => {
-            let pc = further(key, 1);
+            let pc = further(device, key, 1);
             staying(a, known_write(nodes, site, pc, true, port(*i), *r))
         }
         Instr::Cbi(i, b) => staying(a, bit_row(nodes, site, port(i.widened()), *b, false)),
@@ -137,7 +144,7 @@ fn binary_row(
     r: Register,
 ) -> Result<(), NodeFault>
     requires word { site.now.key.now.pc < WORDS }
-    ensures { Adds nodes.old nodes.new result (rows.binary_row site.now.flash.now site.now.key.now site.now.state.now op d r) }
+    ensures { Adds nodes.old nodes.new result (rows.binary_row site.now.device site.now.flash.now site.now.key.now site.now.state.now op d r) }
 {
     match binary(site.state, op, d, r) {
         Some(set) => setting(nodes, site, &set.registers, set.flags),
@@ -153,7 +160,7 @@ fn other_row(
     instr: &Instr,
 ) -> Result<Outside, NodeFault>
     requires word { site.now.key.now.pc < WORDS }
-    ensures { Leads nodes.old nodes.new result (sections.other_row site.now.flash.now site.now.assumptions.now scratch site.now.key.now site.now.state.now instr.now) }
+    ensures { Leads nodes.old nodes.new result (sections.other_row site.now.device site.now.flash.now site.now.assumptions.now scratch site.now.key.now site.now.state.now instr.now) }
 {
     let a = site.alloc;
     match instr {
@@ -172,7 +179,7 @@ pub(crate) fn row(
     instr: &Instr,
 ) -> Result<Outside, NodeFault>
     requires word { site.now.key.now.pc < WORDS }
-    ensures { Leads nodes.old nodes.new result (rows.row_of site.now.flash.now site.now.assumptions.now scratch site.now.key.now site.now.state.now instr.now) }
+    ensures { Leads nodes.old nodes.new result (rows.row_of site.now.device site.now.flash.now site.now.assumptions.now scratch site.now.key.now site.now.state.now instr.now) }
 {
     match computed_by(site.state, instr) {
         Some(set) => {

@@ -3,7 +3,7 @@ use Rattle.std.proofs.Common.{◌≡◌, refl, sym, ap, ◌∙◌, ℕ, zero, su
 use Rattle.abs_state.specs.declared.state.AbsState.{AbsState}
 use Rattle.mask_states.specs.declared.keys.NodeKey.{NodeKey}
 use Rattle.local_rules.specs.declared.local.Node.{Node}
-use Rattle.local_rules.specs.Raw.{Raw, one, moves_to}
+use Rattle.local_rules.specs.Raw.{one, moves_to}
 use Rattle.local_rules.specs.Local.{placed, joined_onto}
 use Rattle.abs_successors.specs.Adding.{IsAdded}
 
@@ -23,7 +23,7 @@ unfolding joined_onto
 joined_more old [] n = refl
 joined_more old (m ∷ ns) n = joined_more (placed m old) ns n
 
-map_more : (f : ℕ → Node) (xs : List ℕ) (at next d : ℕ) → at < length xs → next ≡ at + 1
+pub map_more : {B : Type 0} (f : ℕ → B) (xs : List ℕ) (at next d : ℕ) → at < length xs → next ≡ at + 1
     → map f (take next xs) ≡ map f (take at xs) ++ f (slice_index_or xs at d) ∷ []
 map_more f [] at next d lt e = absurd (omega (arith, lt))
 map_more f (x ∷ xs) zero zero d lt e = absurd (omega (arith, e))

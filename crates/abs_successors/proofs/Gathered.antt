@@ -62,7 +62,7 @@ not_memory f n e h m = h (e ∙ ap cause_of m)
 
 -- ---- one more
 
-joined_all : (old ns ms : List Node) → joined_onto old (ns ++ ms) ≡ joined_onto (joined_onto old ns) ms
+pub joined_all : (old ns ms : List Node) → joined_onto old (ns ++ ms) ≡ joined_onto (joined_onto old ns) ms
 unfolding joined_onto
 joined_all old [] ms = refl
 joined_all old (n ∷ ns) ms = joined_all (placed n old) ns ms
@@ -86,7 +86,7 @@ as_gathered old a b x y r d e h = record { fault = h.fault ∙ sym e; nodes = λ
 
 -- ---- of a list
 
-all_more : (rs : List Raw) (r : Raw) → with_another (all_of rs) r ≡ all_of (rs ++ r ∷ [])
+pub all_more : (rs : List Raw) (r : Raw) → with_another (all_of rs) r ≡ all_of (rs ++ r ∷ [])
 all_more [] r = sym (λ i. record { moves = append-nil r.moves i; calls = []; exit = None; faults = append-nil r.faults i })
 all_more (q ∷ rs) r =
     let rest = all_more rs r in

@@ -1,31 +1,35 @@
 //! Writes to data space: what a byte changes that is written to a known address.
 
-ghost use Rattle.std.specs.Prelude.{◌≡◌, length, map, slice_set, IfOk, IfErr};
+ghost use Rattle.std.specs.Prelude.{◌≡◌, ◌∷◌, [], length, map, IfOk, IfErr};
 ghost use Rattle.bit_domain.specs.TriByte.{tri_at};
 ghost use Rattle.sp_domain.specs.Slots.{resized};
 ghost use Rattle.mask_states.specs.Keys.{offset_of};
 ghost use Rattle.local_rules.specs.declared.local.NodeFault.TheVariants.{Memory};
 ghost use Rattle.local_rules.specs.Raw.{one, moves_to};
+ghost use Rattle.local_rules.specs.Registers.{forgotten};
 ghost use Rattle.local_rules.specs.Writes as writes;
 ghost use Rattle.abs_successors.specs.Adding.{Adds};
 
 use crate::successors::{add, add_copy, add_two, changed, copied};
 use abs_reads::stack_pointer::{closing_offset, high_part};
 use abs_rows::bits::I;
-use abs_rows::registers::set;
+use abs_rows::registers::{set, with_bits};
 use abs_rows::status::flags_written;
-use abs_state::{AbsByte, AbsState};
-use avr_model::device::{REGISTERS_END, SIZE, SPH, SPL, SREG};
+use abs_state::{AbsByte, AbsFlags, AbsState};
+use avr_model::device::{Device, REGISTERS_END, SPH, SPL, SREG};
 use avr_model::instruction::Register;
 use bit_domain::Tri;
 use local_rules::local::{NodeFault, Nodes};
 use mask_states::{High, NodeKey, SpForm, split};
+use sp_domain::CarryTag;
 use std::alloc::Global;
 use vector_table::Masks;
 
-/// What is written: the byte, the word of the instruction, and the node that the machine is at after it otherwise.
+/// What is written: the device, the byte, the word of the instruction, and the node that the machine is at after it otherwise.
 #[derive(Drop)]
 pub struct Write<'a> {
+    /// The device.
+    pub device: Device,
     /// The word of the instruction.
     pub pc: u16,
     /// The key after it.
@@ -75,11 +79,11 @@ fn closing(
     offset: Option<u16>,
     write: &Write<'_>,
 ) -> Result<(), NodeFault>
-    ensures { Adds nodes.old nodes.new result (writes.closing offset write.now.key write.now.state.now write.now.pc) }
+    ensures { Adds nodes.old nodes.new result (writes.closing write.now.device offset write.now.key write.now.state.now write.now.pc) }
 {
     match offset {
         Some(n) => {
-            if n > SIZE {
+            if n > write.device.size() {
                 return Err(NodeFault::TooDeep(write.pc, u32::from(n)));
             }
             let after = with_slots(alloc, write.state, n)?;
@@ -151,18 +155,39 @@ fn masks_written(
     add_masks(nodes, alloc, write, splits.as_slice())
 }
 
-// A write of a register by its address.
+// What C says of a register ends where that register is written.
+fn forgotten(carry: CarryTag, d: Register) -> CarryTag
+    ensures { result ≡ forgotten (d ∷ []) carry }
+{
+    match carry {
+        CarryTag::Less(r, _) => {
+            if d.get() == u16::from(r) {
+                CarryTag::None
+            } else {
+                carry
+            }
+        }
+        CarryTag::None | CarryTag::Borrow(_, _) => carry,
+    }
+}
+
+// A write of a register by its address: it gets the byte's bits and tag.
 fn register_written(
     nodes: &mut Nodes,
     alloc: Global,
     write: &Write<'_>,
     d: Register,
 ) -> Result<(), NodeFault>
-    ensures { Adds nodes.old nodes.new result (one write.now.key (record write.now.state.now { registers = slice_set write.now.state.now.registers d write.now.value })) }
+    ensures { Adds nodes.old nodes.new result (one write.now.key (writes.register_written write.now.state.now d write.now.value)) }
 {
     let state = write.state;
-    let registers = set(&state.registers, d, write.value);
-    let after = changed(alloc, state, &registers, state.flags)?;
+    let value = with_bits(write.value.tag, write.value.bits);
+    let registers = set(&state.registers, d, value);
+    let flags = AbsFlags {
+        carry: forgotten(state.flags.carry, d),
+        ..state.flags
+    };
+    let after = changed(alloc, state, &registers, flags)?;
     let added = add(nodes, write.key, after)?;
     Ok(added)
 }
@@ -191,13 +216,13 @@ pub fn written_at(
     is_out: bool,
     address: u16,
 ) -> Result<(), NodeFault>
-    ensures { Adds nodes.old nodes.new result (writes.written_at write.now.pc write.now.key write.now.state.now is_out address write.now.value) }
+    ensures { Adds nodes.old nodes.new result (writes.written_at write.now.device write.now.pc write.now.key write.now.state.now is_out address write.now.value) }
 {
     let (inst, sp) = (&write.key.inst, write.key.sp);
     match address {
         0..REGISTERS_END => register_written(nodes, alloc, write, Register::new(address)),
         SPL => {
-            let offset = closing_offset(inst.kind, sp, write.value);
+            let offset = closing_offset(write.device, inst.kind, sp, write.value);
             closing(nodes, alloc, offset, write)
         }
         SPH => opening(nodes, alloc, high_part(inst.kind, write.value), write),

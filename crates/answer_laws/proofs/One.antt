@@ -63,6 +63,9 @@ module _ (words : List ℕ) (A : List Entry) (f : Family) (c d : Claim) (claim_c
   nodes : c.nodes ≡ d.nodes
   nodes = same_seeds c.nodes d.nodes (sym (filled_or_missing.keys words A c.nodes (nodes_of f) has_c.expands) ∙ filled_or_missing.keys words A d.nodes (nodes_of f) has_d.expands) forms
 
+  versions : c.version ≡ d.version
+  versions = has_c.version ∙ sym has_d.version
+
   bounds : c.bound ≡ d.bound
   bounds = has_c.bound ∙ needs root_inst ∙ sym has_d.bound
 
@@ -72,17 +75,18 @@ module _ (words : List ℕ) (A : List Entry) (f : Family) (c d : Claim) (claim_c
   unwitnessed : c.witness ≡ d.witness
   unwitnessed = has_c.unwitnessed ∙ sym has_d.unwitnessed
 
-claim_is : (c d : Claim) → c.bound ≡ d.bound → c.assumptions ≡ d.assumptions → c.instances ≡ d.instances → c.nodes ≡ d.nodes → c.witness ≡ d.witness → c ≡ d
-claim_is c d a b e f g =
-    ap (λ x. record { bound = x; assumptions = c.assumptions; instances = c.instances; nodes = c.nodes; witness = c.witness }) a
-    ∙ ap (λ x. record { bound = d.bound; assumptions = x; instances = c.instances; nodes = c.nodes; witness = c.witness }) b
-    ∙ ap (λ x. record { bound = d.bound; assumptions = d.assumptions; instances = x; nodes = c.nodes; witness = c.witness }) e
-    ∙ ap (λ x. record { bound = d.bound; assumptions = d.assumptions; instances = d.instances; nodes = x; witness = c.witness }) f
-    ∙ ap (λ x. record { bound = d.bound; assumptions = d.assumptions; instances = d.instances; nodes = d.nodes; witness = x }) g
+claim_is : (c d : Claim) → c.version ≡ d.version → c.bound ≡ d.bound → c.assumptions ≡ d.assumptions → c.instances ≡ d.instances → c.nodes ≡ d.nodes → c.witness ≡ d.witness → c ≡ d
+claim_is c d v a b e f g =
+    ap (λ x. record { version = x; bound = c.bound; assumptions = c.assumptions; instances = c.instances; nodes = c.nodes; witness = c.witness }) v
+    ∙ ap (λ x. record { version = d.version; bound = x; assumptions = c.assumptions; instances = c.instances; nodes = c.nodes; witness = c.witness }) a
+    ∙ ap (λ x. record { version = d.version; bound = d.bound; assumptions = x; instances = c.instances; nodes = c.nodes; witness = c.witness }) b
+    ∙ ap (λ x. record { version = d.version; bound = d.bound; assumptions = d.assumptions; instances = x; nodes = c.nodes; witness = c.witness }) e
+    ∙ ap (λ x. record { version = d.version; bound = d.bound; assumptions = d.assumptions; instances = d.instances; nodes = x; witness = c.witness }) f
+    ∙ ap (λ x. record { version = d.version; bound = d.bound; assumptions = d.assumptions; instances = d.instances; nodes = d.nodes; witness = x }) g
 
 solution : (words : List ℕ) (A : List Entry) (f : Family) (c d : Claim) → IsClaim c → IsClaim d → IsSolution words A f c → IsSolution words A f d → c ≡ d
 solution words A f c d p q h i =
-    claim_is c d (bounds words A f c d p q h i) (assumed words A f c d p q h i) (insts words A f c d p q h i) (nodes words A f c d p q h i) (unwitnessed words A f c d p q h i)
+    claim_is c d (versions words A f c d p q h i) (bounds words A f c d p q h i) (assumed words A f c d p q h i) (insts words A f c d p q h i) (nodes words A f c d p q h i) (unwitnessed words A f c d p q h i)
 
 answer : (words : List ℕ) (A : List Entry) (steps : Option ℕ) (c d : Claim) → IsClaim c → IsClaim d → IsAnswer words A steps c → IsAnswer words A steps d → c ≡ d
 answer words A steps c d p q h i =

@@ -1,20 +1,24 @@
 //! Stores whose pointer is loaded a few words before.
 
-ghost use Rattle.std.specs.Prelude.{◌≡◌, ◌<◌, ◌≤◌, ◌+◌, IfSome, length, if◌then◌else◌};
-ghost use Rattle.avr_model.specs.Image.{WORDS};
+ghost use Rattle.std.specs.Prelude.{◌≡◌, ◌<◌, ◌≤◌, ◌+◌, IfSome, if◌then◌else◌};
+ghost use Rattle.avr_model.specs.Devices.{IsFlash};
 ghost use Rattle.avr_model.specs.Sites.{leaves, is_ldi, sets, store_pointer, loads_pair, path, is_fixed};
 
 use crate::decoding::length;
 use crate::pointers::{base_register, pointer_register};
-use crate::program::{WORDS, instruction, word};
+use crate::program::{instruction, word};
 use crate::register_set::writes;
+use avr_model::device;
 use avr_model::instruction::{BinaryOp, ImmediateOp, Instr};
+
+/// The number of words of the greatest flash, and a multiple of every other's.
+const WORDS: usize = device::WORDS as usize;
 
 /// How many words before a store its pointer may be loaded at most.
 const FARTHEST: usize = 32;
 
 /// A jump, a call, a return, a branch or a skip.
-fn leaves(instr: &Instr) -> bool
+pub(crate) fn leaves(instr: &Instr) -> bool
     ensures { result ≡ leaves instr.now }
 {
     match *instr {
@@ -27,12 +31,12 @@ fn leaves(instr: &Instr) -> bool
     }
 }
 
-#[tactic(auto, using(crate::proofs::Sets::bit_of_set))]
-fn sets(instr: &Instr, register: u16) -> bool
-    requires { register < 32 }
+/// Whether the instruction sets the register other than through a data address.
+pub fn sets(instr: &Instr, register: u16) -> bool
     ensures { result ≡ sets register instr.now }
 {
-    (writes(instr).bits >> register) & 1 == 1
+    let set = writes(instr).bits;
+    register < 32 && (set >> register) & 1 == 1
 }
 
 /// Whether the last instruction that sets the register is `ldi`, where `before` says it of those before this one.
@@ -62,7 +66,7 @@ fn store_pointer(instr: &Instr) -> Option<u16>
 /// Whether decoding forward from `start` words before word `a` comes exactly to it, without an undefined word and without
 /// an instruction that leaves the way, and loads both registers of the pair from `register` up.
 fn loads_pair(words: &[u16], a: u16, register: u16, start: usize) -> bool
-    requires length { length words.now ≡ WORDS }
+    requires flash { IsFlash words.now }
     requires register { register < 31 }
     requires start { start ≤ 32 }
     ensures { result ≡ loads_pair register (path words.now a start) }
@@ -88,10 +92,10 @@ fn loads_pair(words: &[u16], a: u16, register: u16, start: usize) -> bool
 
 /// Whether word `a` is `st` or `std` and its pointer is sure to be loaded just before: from some word 1 to 32 words before
 /// it, decoding forward comes exactly to it through defined words without a jump, call, return, branch or skip, and the
-/// last instruction on that way that sets each register of the pointer is `ldi`. `words` are the 16,384 words of flash,
+/// last instruction on that way that sets each register of the pointer is `ldi`. `words` are those of any device's flash,
 /// modulo whose number addresses count. Source: own.
 pub fn is_fixed(words: &[u16], a: u16) -> bool
-    requires { length words.now ≡ WORDS }
+    requires { IsFlash words.now }
     ensures { result ≡ is_fixed words.now a }
 {
     let Some(instr) = instruction(words, a as usize) else {

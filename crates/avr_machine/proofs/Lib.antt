@@ -1,6 +1,9 @@
 pub mod ByteBits
 pub mod HeldBits
 pub mod Writing
+pub mod Wrapping
+pub mod Living
+pub mod Remembering
 pub mod Moving
 pub mod Resetting
 pub mod Choosing

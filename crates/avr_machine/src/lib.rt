@@ -7,6 +7,7 @@ mod bits;
 mod effects;
 mod flags;
 mod flow;
+mod live_bytes;
 mod machine;
 mod memory;
 mod menu;
@@ -17,7 +18,7 @@ mod transfers;
 
 pub use avr_alu::Sreg;
 pub use avr_model::choice::{Choice, Flag, StepResult, Stop};
-pub use flash_image::Flash;
+pub use flash_image::{Device, Flash};
 pub use machine::Machine;
 pub use menu::Menu;
 pub use vector_table::{Assumptions, Entry, Listed, Masks};

@@ -1,57 +1,70 @@
 //! SRAM: its bytes, and which of them are live.
 
-ghost use Rattle.std.specs.Prelude.{◌≡◌, IsTrue, false, true, replicate};
-ghost use Rattle.avr_model.specs.State as model;
-ghost use Rattle.avr_model.specs.State.{is_sram, set_at, byte_in, is_live};
+ghost use Rattle.std.specs.Prelude.{◌≡◌, ◌<◌, ◌≤◌, ◌+◌, ◌-◌, ◌&&◌, nat_lt, false, true, length, take, replicate};
+ghost use Rattle.avr_model.specs.Devices.{size_of};
+ghost use Rattle.avr_model.specs.State.{BELOW, is_sram, set_at, byte_in, is_live};
 ghost use Rattle.avr_model.specs.Step.{with_live, written, pruned, live_write};
 
-use avr_model::device::{self, RAMEND};
+use crate::live_bytes::LiveBytes;
+use avr_model::device::{self, BELOW, Device};
 use avr_model::effect::Write;
 use std::marker::Model;
 
-/// How many bytes SRAM has.
+/// How many bytes the greatest SRAM has.
 pub const SIZE: usize = device::SIZE as usize;
 
-/// The address before the first of SRAM.
-const BELOW: u16 = RAMEND - device::SIZE;
-
-/// Whether a data address is one of SRAM.
-pub fn is_sram(address: u16) -> bool
-    ensures { result ≡ is_sram address }
+/// Whether a data address is one of a device's SRAM.
+pub fn is_sram(device: Device, address: u16) -> bool
+    ensures { result ≡ is_sram device address }
 {
-    BELOW < address && address <= RAMEND
+    BELOW < address && address <= device.ramend()
 }
 
-/// The bytes of SRAM, and which of them are live: pushed, guarded, and not popped yet.
+/// The bytes of SRAM, and which of them are live: pushed, guarded, and not popped yet. There is room for the bytes of the
+/// greatest SRAM, of which the first `size` are used.
 #[derive(Drop)]
 pub struct Memory {
+    size: usize,
     bytes: [u8; SIZE],
-    live: [bool; SIZE],
+    live: LiveBytes,
 }
 
 impl Model for Memory {
+    ghost use Rattle.std.specs.Prelude.{◌≡◌, ◌≤◌, length, take};
     ghost use Rattle.avr_model.specs.State.{Memory};
 
     ghost Value = { Memory };
 
-    ghost view = { λ m. record { bytes = m.bytes; live = m.live } };
+    ghost view = { λ m. record { bytes = take m.size m.bytes; live = m.live } };
+
+    ghost invariant = { λ m. (m.size ≤ 2048) × (length m.bytes ≡ 2048) };
 }
 
 impl Memory {
-    /// These bytes, none of them live.
-    pub fn new(bytes: &[u8; SIZE]) -> Memory
-        ensures { result ≡ record { bytes = bytes.now; live = replicate model.SIZE false } }
+    /// The memory of a device with the first of these bytes, as many as it has, none of them live.
+    pub fn new(device: Device, bytes: &[u8; SIZE]) -> Memory
+        ensures { result ≡ record { bytes = take (size_of device) bytes.now; live = replicate (size_of device) false } }
     {
+        let size = usize::from(device.size());
         Memory {
+            size,
             bytes: *bytes,
-            live: [false; SIZE],
+            live: LiveBytes::none(size),
         }
     }
 
+    /// Whether an address is one of this SRAM.
+    fn has(&self, address: u16) -> bool
+        ensures { result ≡ (nat_lt BELOW address && nat_lt (address - (BELOW + 1)) (length self.now.bytes)) }
+    {
+        BELOW < address && usize::from(address - 1 - BELOW) < self.size
+    }
+
     /// The byte at an address of SRAM.
-    #[tactic(auto, unfolding(avr_model::specs::State::byte_in))]
+    #[tactic(auto, using(crate::proofs::Remembering::taken), unfolding(avr_model::specs::State::byte_in))]
     pub fn byte(&self, address: u16) -> u8
-        requires { IsTrue (is_sram address) }
+        requires above { BELOW < address }
+        requires inside { address - (BELOW + 1) < length self.now.bytes }
         ensures { result ≡ byte_in self.now.bytes address }
     {
         self.bytes[(address - 1 - BELOW) as usize]
@@ -62,16 +75,17 @@ impl Memory {
     pub fn is_live(&self, address: u16) -> bool
         ensures { result ≡ is_live self.now address }
     {
-        is_sram(address) && self.live[(address - 1 - BELOW) as usize]
+        BELOW < address && self.live.has(usize::from(address - 1 - BELOW))
     }
 
     /// Writes a byte; outside SRAM nothing changes.
-    #[tactic(auto, unfolding(avr_model::specs::State::set_at))]
+    #[tactic(auto, using(crate::proofs::Remembering::set_taken, crate::proofs::Remembering::set_missed), unfolding(avr_model::specs::State::set_at))]
     pub fn set_byte(&mut self, address: u16, byte: u8)
-        ensures { self.new ≡ record self.old { bytes = set_at self.old.bytes address byte } }
+        ensures value { self.new ≡ record self.old { bytes = set_at self.old.bytes address byte } }
+        ensures size { length self.new.bytes ≡ length self.old.bytes }
     {
-        if is_sram(address) {
-            self.bytes[(address - 1 - BELOW) as usize] = byte;
+        if self.has(address) {
+            self.bytes[usize::from(address - 1 - BELOW)] = byte;
         }
     }
 
@@ -80,14 +94,15 @@ impl Memory {
     fn set_live(&mut self, address: u16)
         ensures { self.new ≡ record self.old { live = set_at self.old.live address true } }
     {
-        if is_sram(address) {
-            self.live[(address - 1 - BELOW) as usize] = true;
+        if BELOW < address {
+            self.live.set(usize::from(address - 1 - BELOW));
         }
     }
 
     /// Writes the bytes in order.
     pub fn set_bytes(&mut self, writes: &[Write])
-        ensures { self.new ≡ record self.old { bytes = written self.old.bytes writes.now } }
+        ensures value { self.new ≡ record self.old { bytes = written self.old.bytes writes.now } }
+        ensures size { length self.new.bytes ≡ length self.old.bytes }
     {
         for write in writes {
             self.set_byte(write.address, write.byte);
@@ -107,9 +122,7 @@ impl Memory {
     pub fn prune(&mut self, sp: u16)
         ensures { self.new ≡ record self.old { live = pruned sp self.old.live } }
     {
-        let count = usize::from(sp.saturating_sub(BELOW));
-        let end = count.min(self.live.len());
-        self.live[..end].fill(false);
+        self.live.clear(usize::from(sp.saturating_sub(BELOW)));
     }
 
     /// The address of the first write that goes onto a live byte.

@@ -4,11 +4,12 @@ use Rattle.std.specs.Fmt.{digits}
 use Rattle.avr_model.specs.declared.instruction.Instr.TheVariants as i
 use Rattle.avr_model.specs.declared.instruction.Base.TheVariants as base
 use Rattle.avr_model.specs.declared.device.TheConstants as device
+use Rattle.avr_model.specs.Devices.{device_of}
 use Rattle.avr_model.specs.Image.{WORDS}
-use Rattle.avr_model.specs.State.{SIZE, RAMEND, SPL, SPH, SREG}
+use Rattle.avr_model.specs.State.{SIZE, BELOW, SPL, SPH, SREG}
 use Rattle.avr_model.specs.Table.{decoded, length_of}
 use Rattle.avr_model.specs.Text.{text_of}
-use Rattle.avr_model.specs.Sites.{is_scratch, is_fixed, path_behind, is_loaded_behind}
+use Rattle.avr_model.specs.Sites.{is_scratch, is_fixed, path_behind, is_loaded_behind, ijmp_from, table_site}
 use Rattle.avr_model.specs.Bits.{any_below, all_below, number_of}
 use Rattle.avr_model.specs.Vectors.{row_of, enable_of, held_bits, written_enables}
 
@@ -19,8 +20,8 @@ code_has_words = refl
 pub code_has_size : SIZE ≡ device.SIZE
 code_has_size = refl
 
-pub code_has_ramend : RAMEND ≡ device.RAMEND
-code_has_ramend = refl
+pub code_has_below : BELOW ≡ device.BELOW
+code_has_below = refl
 
 pub code_has_spl : SPL ≡ device.SPL
 code_has_spl = refl
@@ -31,7 +32,7 @@ code_has_sph = refl
 pub code_has_sreg : SREG ≡ device.SREG
 code_has_sreg = refl
 
--- flash that begins with these words, and is erased behind them
+-- the ATmega328P's flash that begins with these words, and is erased behind them
 abbrev pub firmware : List ℕ → List ℕ
 firmware words = words ++ replicate 16384 0xFFFF
 
@@ -57,7 +58,7 @@ abbrev pub small_frame : List ℕ
 small_frame = firmware (0xD000 ∷ 0x921F ∷ 0xB7CD ∷ 0xB7DE ∷ 0x8389 ∷ 0x900F ∷ 0x900F ∷ 0x900F ∷ 0xCFFF ∷ [])
 
 pub frame_scratch : map (is_scratch small_frame) (0 ∷ 1 ∷ 2 ∷ 3 ∷ 5 ∷ []) ≡ true ∷ true ∷ false ∷ false ∷ false ∷ []
-unfolding is_scratch any_below all_below
+unfolding device_of is_scratch any_below all_below
 frame_scratch = refl
 
 -- a jump, ldi r30, ldi r31, std Z+0
@@ -65,12 +66,43 @@ abbrev pub fixed_store : List ℕ
 fixed_store = firmware (0xC001 ∷ 0xE0E0 ∷ 0xE0F1 ∷ 0x8300 ∷ 0xCFFF ∷ [])
 
 pub store_is_fixed : is_fixed fixed_store 3 ≡ true
-unfolding is_fixed any_below path_behind is_loaded_behind decoded length_of
+unfolding device_of is_fixed any_below path_behind is_loaded_behind decoded length_of
 store_is_fixed = refl
 
 pub ldi_is_not_fixed : is_fixed fixed_store 2 ≡ false
-unfolding is_fixed any_below path_behind is_loaded_behind decoded length_of
+unfolding device_of is_fixed any_below path_behind is_loaded_behind decoded length_of
 ldi_is_not_fixed = refl
+
+-- cpi and brcc before, ldi r31, subi r30, sbci r31, ijmp, and a table of two jumps
+abbrev pub jump_table : List ℕ
+jump_table = firmware (0x3082 ∷ 0xF430 ∷ 0x2FE8 ∷ 0xE0F0 ∷ 0x5FE9 ∷ 0x4FFF ∷ 0x9409 ∷ 0xC001 ∷ 0xC000 ∷ 0xCFFF ∷ [])
+
+pub tables_begin_at_subi : map (table_site jump_table) (3 ∷ 4 ∷ 5 ∷ []) ≡ None ∷ Some 6 ∷ None ∷ []
+unfolding device_of table_site ijmp_from decoded length_of
+tables_begin_at_subi = refl
+
+-- subi r30, sbci r31, then a jump over one word to `lpm r0, Z+` and `ijmp`
+pub ways_follow_jumps : table_site (firmware (0x5FE9 ∷ 0x4FFF ∷ 0xC001 ∷ 0x9508 ∷ 0x9005 ∷ 0x9409 ∷ [])) 0 ≡ Some 5
+unfolding device_of table_site ijmp_from decoded length_of
+ways_follow_jumps = refl
+
+-- a branch, and an undefined word, end the way
+pub branches_end_ways : table_site (firmware (0x5FE9 ∷ 0x4FFF ∷ 0xF400 ∷ 0x9409 ∷ [])) 0 ≡ None
+unfolding device_of table_site ijmp_from decoded length_of
+branches_end_ways = refl
+
+pub undefined_words_end_ways : table_site (firmware (0x5FE9 ∷ 0x4FFF ∷ 0xFFFF ∷ 0x9409 ∷ [])) 0 ≡ None
+unfolding device_of table_site ijmp_from decoded length_of
+undefined_words_end_ways = refl
+
+-- `ijmp` is the last of 16 instructions at most
+pub sixteen_lead_there : table_site (firmware (0x5FE9 ∷ 0x4FFF ∷ replicate 15 0 ++ 0x9409 ∷ [])) 0 ≡ Some 17
+unfolding device_of table_site ijmp_from decoded length_of
+sixteen_lead_there = refl
+
+pub seventeen_are_too_many : table_site (firmware (0x5FE9 ∷ 0x4FFF ∷ replicate 16 0 ++ 0x9409 ∷ [])) 0 ≡ None
+unfolding device_of table_site ijmp_from decoded length_of
+seventeen_are_too_many = refl
 
 pub watchdog_enable : enable_of 0x60 6 ≡ Some 7
 unfolding enable_of

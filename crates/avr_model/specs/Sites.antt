@@ -1,6 +1,7 @@
--- What the words around an address tell of it: two rules that recognise what compilers write. Source: own.
-use Rattle.std.specs.Prelude.{ℕ, zero, suc, ◌+◌, ◌-◌, ◌==◌, ◌&&◌, ◌||◌, Bool, true, false, List, [], ◌∷◌, Option, Some, None, if◌then◌else◌}
+-- What the words around an address tell of it: three rules that recognise what compilers write. Source: own.
+use Rattle.std.specs.Prelude.{ℕ, zero, suc, ◌+◌, ◌-◌, ◌==◌, ◌&&◌, ◌||◌, not, Bool, true, false, List, [], ◌∷◌, Option, Some, None, if◌then◌else◌}
 use Rattle.std.specs.List.{list_any}
+use Rattle.avr_model.specs.declared.device.Device.{Device}
 use Rattle.avr_model.specs.declared.instruction.Instr.{Instr}
 use Rattle.avr_model.specs.declared.instruction.Instr.TheVariants as i
 use Rattle.avr_model.specs.declared.instruction.BinaryOp.{BinaryOp}
@@ -12,13 +13,26 @@ use Rattle.avr_model.specs.declared.instruction.Base.TheVariants as base
 use Rattle.avr_model.specs.declared.instruction.Pointer.{Pointer}
 use Rattle.avr_model.specs.declared.instruction.Pointer.TheVariants as pointer
 use Rattle.avr_model.specs.Bits.{any_below, all_below}
+use Rattle.avr_model.specs.Devices.{has_jmp, wrapped, device_of}
 use Rattle.avr_model.specs.Image.{WORDS, word_at}
 use Rattle.avr_model.specs.Table.{decoded, length_of}
+use Rattle.avr_model.specs.Text.{far}
 use Rattle.avr_model.specs.Written.{written}
+
+-- `jmp` and `call`
+abbrev pub is_long_transfer : Instr → Bool
+is_long_transfer (i.Jmp k) = true
+is_long_transfer (i.Call k) = true
+is_long_transfer _ = false
+
+-- `jmp` and `call` are no instructions where the device has none
+abbrev pub on_device : Device → Option Instr → Option Instr
+on_device device None = None
+on_device device (Some x) = if is_long_transfer x && not (has_jmp device) then None else Some x
 
 -- the instruction at a word address
 abbrev pub instruction_at : List ℕ → ℕ → Option Instr
-instruction_at words a = decoded (word_at words a) (word_at words (a + 1))
+instruction_at words a = on_device (device_of words) (decoded (word_at words a) (word_at words (a + 1)))
 
 -- ---- scratch pushes: a compiler's small frame
 
@@ -93,7 +107,7 @@ onto_path None rest = None
 onto_path (Some x) None = None
 onto_path (Some x) (Some xs) = if leaves x then None else Some (x ∷ xs)
 
--- the word address d words before a
+-- the word address d words before a, on every device
 abbrev pub before : ℕ → ℕ → ℕ
 before a d = a + WORDS - d
 
@@ -133,3 +147,58 @@ pointer_of (Some x) = store_pointer x
 -- The word is `st` or `std`, and from some word 1 to 32 words before it a path loads both registers of its pointer.
 unfoldable pub is_fixed : List ℕ → ℕ → Bool
 is_fixed words a = is_fixed_pointer words a (pointer_of (instruction_at words a))
+
+-- ---- table sites: an index is added to a table's address, and an `ijmp` follows
+
+abbrev pub subtracts : ImmediateOp → Bool
+subtracts immediate.Subi = true
+subtracts _ = false
+
+abbrev pub borrows : ImmediateOp → Bool
+borrows immediate.Sbci = true
+borrows _ = false
+
+-- `subi` of r30, which adds to the low byte of Z
+abbrev pub adds_low : Instr → Bool
+adds_low (i.Immediate op d k) = subtracts op && (d == 30)
+adds_low _ = false
+
+-- `sbci` of r31, which adds to its high byte
+abbrev pub adds_high : Instr → Bool
+adds_high (i.Immediate op d k) = borrows op && (d == 31)
+adds_high _ = false
+
+abbrev pub is_some_that : (Instr → Bool) → Option Instr → Bool
+is_some_that p None = false
+is_some_that p (Some x) = p x
+
+abbrev pub is_ijmp : Instr → Bool
+is_ijmp i.Ijmp = true
+is_ijmp _ = false
+
+-- the word at which a way goes on: along a jump, or behind an instruction of this size; none behind a branch, a skip, a call and a return
+abbrev pub onward : ℕ → ℕ → Instr → Option ℕ
+onward a size (i.Jmp t) = Some t
+onward a size (i.Rjmp k) = Some (far a k)
+onward a size x = if leaves x then None else Some (a + size)
+
+abbrev pub from_word : Device → (ℕ → Option ℕ) → Option ℕ → Option ℕ
+from_word device on None = None
+from_word device on (Some a) = on (wrapped device a)
+
+-- A way ends at an `ijmp`, whose word it gives, and without one at an undefined word. `on` is the way from another word.
+abbrev pub way_on : Device → (ℕ → Option ℕ) → ℕ → ℕ → Option Instr → Option ℕ
+way_on device on a size None = None
+way_on device on a size (Some x) = if is_ijmp x then Some a else from_word device on (onward a size x)
+
+-- the word of the `ijmp` to which at most so many instructions lead from the word a, itself counted
+unfoldable pub ijmp_from : List ℕ → ℕ → ℕ → Option ℕ
+ijmp_from words zero a = None
+ijmp_from words (suc n) a = way_on (device_of words) (ijmp_from words n) a (length_of (word_at words a)) (instruction_at words a)
+
+-- The word of the `ijmp` of a table site: `subi` of r30 stands at a and `sbci` of r31 behind it, and from there at most 16 instructions lead to
+-- the `ijmp`.
+unfoldable pub table_site : List ℕ → ℕ → Option ℕ
+table_site words a =
+    if is_some_that adds_low (instruction_at words a) && is_some_that adds_high (instruction_at words (a + 1))
+    then ijmp_from words 16 (wrapped (device_of words) (a + 2)) else None

@@ -83,26 +83,26 @@ exit_there words A n x f e = subst (λ fs. exit_in (settled (raw_of words A n) f
 enabled_bounds : (m v : ℕ) → is_enabled m v ≡ true → (2 ≤ v) × (v < 27)
 enabled_bounds m v e = (grind (arith, nat_tests), grind (arith, nat_tests))
 
-at_vector_in : (k : NodeKey) (v : ℕ) (clears : Bool) → is_enabled k.masks v ≡ true → (not clears || (v == WATCHDOG)) ≡ true
-    → Contains (at_vector k v) (vector_way k v clears)
-at_vector_in k v false on c =
-    let rest = (if v == WATCHDOG then vector_way k v true ∷ [] else []) in
-    subst (λ b. Contains (if b then (vector_way k v false ∷ rest) else []) (vector_way k v false)) (sym on) (here (vector_way k v false) rest)
-at_vector_in k v true on c =
-    subst (λ b. Contains (if b then (vector_way k v false ∷ (if v == WATCHDOG then vector_way k v true ∷ [] else [])) else []) (vector_way k v true)) (sym on)
-    (subst (λ b. Contains (vector_way k v false ∷ (if b then vector_way k v true ∷ [] else [])) (vector_way k v true)) (sym c)
-    (there (vector_way k v false) (vector_way k v true) (vector_way k v true ∷ []) (here (vector_way k v true) [])))
+at_vector_in : (words : List ℕ) (k : NodeKey) (v : ℕ) (clears : Bool) → is_enabled k.masks v ≡ true → (not clears || (v == WATCHDOG)) ≡ true
+    → Contains (at_vector words k v) (vector_way words k v clears)
+at_vector_in words k v false on c =
+    let rest = (if v == WATCHDOG then vector_way words k v true ∷ [] else []) in
+    subst (λ b. Contains (if b then (vector_way words k v false ∷ rest) else []) (vector_way words k v false)) (sym on) (here (vector_way words k v false) rest)
+at_vector_in words k v true on c =
+    subst (λ b. Contains (if b then (vector_way words k v false ∷ (if v == WATCHDOG then vector_way words k v true ∷ [] else [])) else []) (vector_way words k v true)) (sym on)
+    (subst (λ b. Contains (vector_way words k v false ∷ (if b then vector_way words k v true ∷ [] else [])) (vector_way words k v true)) (sym c)
+    (there (vector_way words k v false) (vector_way words k v true) (vector_way words k v true ∷ []) (here (vector_way words k v true) [])))
 
-vectors_in : (k : NodeKey) (n v : ℕ) (clears : Bool) → 2 ≤ v → v < n + 2 → is_enabled k.masks v ≡ true → (not clears || (v == WATCHDOG)) ≡ true
-    → Contains (vectors_below k n) (vector_way k v clears)
+vectors_in : (words : List ℕ) (k : NodeKey) (n v : ℕ) (clears : Bool) → 2 ≤ v → v < n + 2 → is_enabled k.masks v ≡ true → (not clears || (v == WATCHDOG)) ≡ true
+    → Contains (vectors_below words k n) (vector_way words k v clears)
 unfolding vectors_below
-vectors_in k zero v clears low high on c = absurd (omega (arith, low, high))
-vectors_in k (suc n) v clears low high on c =
+vectors_in words k zero v clears low high on c = absurd (omega (arith, low, high))
+vectors_in words k (suc n) v clears low high on c =
     ⊎_elim
-    (λ e. Contains-append_right (vectors_below k n) (at_vector k (n + 2)) (vector_way k v clears)
-    (subst (λ u. Contains (at_vector k u) (vector_way k v clears)) e.1 (at_vector_in k v clears on c)))
-    (λ ne. Contains-append_left (vectors_below k n) (at_vector k (n + 2)) (vector_way k v clears)
-    (vectors_in k n v clears low (let d = ne.1 in omega (arith, high, d)) on c))
+    (λ e. Contains-append_right (vectors_below words k n) (at_vector words k (n + 2)) (vector_way words k v clears)
+    (subst (λ u. Contains (at_vector words k u) (vector_way words k v clears)) e.1 (at_vector_in words k v clears on c)))
+    (λ ne. Contains-append_left (vectors_below words k n) (at_vector words k (n + 2)) (vector_way words k v clears)
+    (vectors_in words k n v clears low (let d = ne.1 in omega (arith, high, d)) on c))
     (eqb_tells v (n + 2))
 
 module _ (words : List ℕ) (A : List Entry) (n : Node) (clean : IsFaultless words A n) where
@@ -112,33 +112,33 @@ module _ (words : List ℕ) (A : List Entry) (n : Node) (clean : IsFaultless wor
 
   module _ (offset : ℕ) (sp : n.key.sp ≡ Closed offset) (i : n.key.i ≡ true) (delay : n.key.delay ≡ false) where
     at_by : (v : ℕ) (b c : Bool) → is_enabled n.key.masks v ≡ b → (v == WATCHDOG) ≡ c → (w : Way)
-        → Contains (if b then (vector_way n.key v false ∷ (if c then vector_way n.key v true ∷ [] else [])) else []) w → IsWay w
+        → Contains (if b then (vector_way words n.key v false ∷ (if c then vector_way words n.key v true ∷ [] else [])) else []) w → IsWay w
     at_by v false c on is w h = absurd (none_in w h)
     at_by v true false on is w h =
-        subst IsWay (sym (only (vector_way n.key v false) w h)) (by_interrupt offset v false clean sp i delay on refl)
+        subst IsWay (sym (only (vector_way words n.key v false) w h)) (by_interrupt offset v false clean sp i delay on refl)
     at_by v true true on is w h =
         ⊎_elim (λ e. subst IsWay (sym e) (by_interrupt offset v false clean sp i delay on refl))
-        (λ j. subst IsWay (sym (only (vector_way n.key v true) w j)) (by_interrupt offset v true clean sp i delay on is))
-        (first_or (vector_way n.key v false) w (vector_way n.key v true ∷ []) h)
+        (λ j. subst IsWay (sym (only (vector_way words n.key v true) w j)) (by_interrupt offset v true clean sp i delay on is))
+        (first_or (vector_way words n.key v false) w (vector_way words n.key v true ∷ []) h)
 
-    vectors_from : (m : ℕ) (w : Way) → Contains (vectors_below n.key m) w → IsWay w
+    vectors_from : (m : ℕ) (w : Way) → Contains (vectors_below words n.key m) w → IsWay w
     unfolding vectors_below
     vectors_from zero w h = absurd (none_in w h)
     vectors_from (suc m) w h =
         ⊎_elim (λ j. vectors_from m w j) (λ j. at_by (m + 2) (is_enabled n.key.masks (m + 2)) ((m + 2) == WATCHDOG) refl refl w j)
-        (Contains-append_cases (vectors_below n.key m) (at_vector n.key (m + 2)) w h)
+        (Contains-append_cases (vectors_below words n.key m) (at_vector words n.key (m + 2)) w h)
 
   interrupts_from : (offset : ℕ) → n.key.sp ≡ Closed offset → (i d : Bool) → n.key.i ≡ i → n.key.delay ≡ d → (w : Way)
-      → Contains (interrupts_if (i && not d) n.key) w → IsWay w
+      → Contains (interrupts_if (i && not d) words n.key) w → IsWay w
   interrupts_from offset sp false d ei ed w h = absurd (none_in w h)
   interrupts_from offset sp true true ei ed w h = absurd (none_in w h)
   interrupts_from offset sp true false ei ed w h = vectors_from offset sp ei ed 25 w h
 
-  ways_from : (sp : SpForm) → n.key.sp ≡ sp → (w : Way) → Contains (ways_by sp n.key (raw_of words A n).calls) w → IsWay w
+  ways_from : (sp : SpForm) → n.key.sp ≡ sp → (w : Way) → Contains (ways_by sp words n.key (raw_of words A n).calls) w → IsWay w
   ways_from (Closed offset) e w h =
       ⊎_elim (each_in_map (call_way n.key) IsWay (raw_of words A n).calls (λ site j. by_call offset site clean e j) w)
       (interrupts_from offset e n.key.i n.key.delay refl refl w)
-      (Contains-append_cases (map (call_way n.key) (raw_of words A n).calls) (interrupts_if (n.key.i && not n.key.delay) n.key) w h)
+      (Contains-append_cases (map (call_way n.key) (raw_of words A n).calls) (interrupts_if (n.key.i && not n.key.delay) words n.key) w h)
   ways_from (Open offset high) e w h = absurd (none_in w h)
 
 both : (i d : Bool) → i ≡ true → d ≡ false → (i && not d) ≡ true
@@ -147,41 +147,41 @@ both true true ei ed = absurd cc
 both false d ei ed = absurd cc
 
 way_in : (words : List ℕ) (A : List Entry) (n : Node) (way : EdgeKind) (inst : InstKey) (back : ℕ) → Enters words A n way inst back
-    → Contains (ways_of n.key (raw_of words A n).calls) (record { kind = way; inst = inst; back = back })
+    → Contains (ways_of words n.key (raw_of words A n).calls) (record { kind = way; inst = inst; back = back })
 way_in words A n _ _ _ (by_call offset site clean sp has) =
     let calls = (raw_of words A n).calls in
-    subst (λ p. Contains (ways_by p n.key calls) (call_way n.key site)) (sym sp)
-    (Contains-append_left (map (call_way n.key) calls) (interrupts_if (n.key.i && not n.key.delay) n.key) (call_way n.key site) (in_map (call_way n.key) calls site has))
+    subst (λ p. Contains (ways_by p words n.key calls) (call_way n.key site)) (sym sp)
+    (Contains-append_left (map (call_way n.key) calls) (interrupts_if (n.key.i && not n.key.delay) words n.key) (call_way n.key site) (in_map (call_way n.key) calls site has))
 way_in words A n _ _ _ (by_interrupt offset v clears clean sp i delay on c) =
     let calls = (raw_of words A n).calls in
     let bounds = enabled_bounds n.key.masks v on in
-    let w = vector_way n.key v clears in
-    subst (λ p. Contains (ways_by p n.key calls) w) (sym sp)
-    (Contains-append_right (map (call_way n.key) calls) (interrupts_if (n.key.i && not n.key.delay) n.key) w
-    (subst (λ b. Contains (interrupts_if b n.key) w) (sym (both n.key.i n.key.delay i delay))
-    (vectors_in n.key 25 v clears bounds.0 bounds.1 on c)))
+    let w = vector_way words n.key v clears in
+    subst (λ p. Contains (ways_by p words n.key calls) w) (sym sp)
+    (Contains-append_right (map (call_way n.key) calls) (interrupts_if (n.key.i && not n.key.delay) words n.key) w
+    (subst (λ b. Contains (interrupts_if b words n.key) w) (sym (both n.key.i n.key.delay i delay))
+    (vectors_in words n.key 25 v clears bounds.0 bounds.1 on c)))
 
 -- ---- returns
 
 -- the edge back by this exit, with this state
-abbrev back_edge : NodeKey → ℕ → Exit → AbsState → Edge
-back_edge k back x t = record { kind = kind.Return; to = returned_key k back x; state = t }
+abbrev back_edge : NodeKey → Way → Exit → AbsState → Edge
+back_edge k w x t = record { kind = kind.Return; to = returned_key w.kind k w.back x; state = t }
 
-back_from : (k : NodeKey) (s : AbsState) (back : ℕ) (t : AbsState) (P : Edge → Type 0) (o : Option Exit)
-    → ((x : Exit) (after : AbsState) → o ≡ Some x → returned s t ≡ Some after → P (back_edge k back x after))
-    → (e : Edge) → Contains (returned_by k s back o t) e → P e
-back_from k s back t P None h e i = absurd (none_in e i)
-back_from k s back t P (Some x) h e i = from (returned s t) refl i
+back_from : (k : NodeKey) (s : AbsState) (w : Way) (t : AbsState) (P : Edge → Type 0) (o : Option Exit)
+    → ((x : Exit) (after : AbsState) → o ≡ Some x → returned s t ≡ Some after → P (back_edge k w x after))
+    → (e : Edge) → Contains (returned_by k s w o t) e → P e
+back_from k s w t P None h e i = absurd (none_in e i)
+back_from k s w t P (Some x) h e i = from (returned s t) refl i
   where
-    from : (p : Option AbsState) → returned s t ≡ p → Contains (returned_as k back x p) e → P e
+    from : (p : Option AbsState) → returned s t ≡ p → Contains (returned_as k w x p) e → P e
     from None is j = absurd (none_in e j)
-    from (Some after) is j = subst P (sym (only (back_edge k back x after) e j)) (h x after refl is)
+    from (Some after) is j = subst P (sym (only (back_edge k w x after) e j)) (h x after refl is)
 
-back_in : (k : NodeKey) (s : AbsState) (back : ℕ) (t : AbsState) (o : Option Exit) (x : Exit) (after : AbsState) → o ≡ Some x → returned s t ≡ Some after
-    → Contains (returned_by k s back o t) (back_edge k back x after)
-back_in k s back t o x after eo is =
-    subst (λ q. Contains (returned_by k s back q t) (back_edge k back x after)) (sym eo)
-    (subst (λ p. Contains (returned_as k back x p) (back_edge k back x after)) (sym is) (here (back_edge k back x after) []))
+back_in : (k : NodeKey) (s : AbsState) (w : Way) (t : AbsState) (o : Option Exit) (x : Exit) (after : AbsState) → o ≡ Some x → returned s t ≡ Some after
+    → Contains (returned_by k s w o t) (back_edge k w x after)
+back_in k s w t o x after eo is =
+    subst (λ q. Contains (returned_by k s w q t) (back_edge k w x after)) (sym eo)
+    (subst (λ p. Contains (returned_as k w x p) (back_edge k w x after)) (sym is) (here (back_edge k w x after) []))
 
 if_from : {X : Type 0} (b : Bool) (xs : List X) (x : X) → Contains (if b then xs else []) x → (b ≡ true) × Contains xs x
 if_from true xs x h = (refl, h)
@@ -196,17 +196,17 @@ module _ (words : List ℕ) (A : List Entry) (nodes : List Node) (n : Node) wher
   return_from : (w : Way) → Enters words A n w.kind w.inst w.back → (leaver : Node) (e : Edge) → Contains nodes leaver
       → Contains (return_if words A n.key n.state w leaver) e → Is e
   return_from w en leaver e present h =
-      let j = if_from (same_inst leaver.key.inst w.inst) (return_edges words A n.key n.state w.back leaver) e h in
-      back_from n.key n.state w.back leaver.state Is (exit_in (local words A leaver.key leaver.state))
+      let j = if_from (same_inst leaver.key.inst w.inst) (return_edges words A n.key n.state w leaver) e h in
+      back_from n.key n.state w leaver.state Is (exit_in (local words A leaver.key leaver.state))
       (λ x after is ret. let p = exit_from words A leaver x is in
       returning w.kind w.inst w.back leaver x after en present ((keys_are_ordered.same_insts leaver.key.inst w.inst).0 j.0) p.0 p.1 ret)
       e j.1
 
   from_list : IsFaultless words A n → (e : Edge)
-      → Contains (edges_with words A nodes n.key n.state (ways_of n.key (raw_of words A n).calls) (whole (raw_of words A n))) e → Is e
+      → Contains (edges_with words A nodes n.key n.state (ways_of words n.key (raw_of words A n).calls) (whole (raw_of words A n))) e → Is e
   from_list clean e h =
       let r = raw_of words A n in
-      let ws = ways_of n.key r.calls in
+      let ws = ways_of words n.key r.calls in
       let way = ways_from words A n clean n.key.sp refl in
       let first = map local_edge (joined_onto [] r.moves) in
       let second = map (entry_edge n.state) ws in
@@ -218,15 +218,15 @@ module _ (words : List ℕ) (A : List Entry) (nodes : List Node) (n : Node) wher
       (Contains-append_cases second third e i))
       (Contains-append_cases first (second ++ third) e h)
 
-  to_list : (e : Edge) → Is e → Contains (edges_with words A nodes n.key n.state (ways_of n.key (raw_of words A n).calls) (whole (raw_of words A n))) e
+  to_list : (e : Edge) → Is e → Contains (edges_with words A nodes n.key n.state (ways_of words n.key (raw_of words A n).calls) (whole (raw_of words A n))) e
   to_list _ (moving to clean has) =
       let r = raw_of words A n in
-      let ws = ways_of n.key r.calls in
+      let ws = ways_of words n.key r.calls in
       Contains-append_left (map local_edge (joined_onto [] r.moves)) (map (entry_edge n.state) ws ++ all_returns words A n.key n.state nodes ws)
       (local_edge to) (in_map local_edge (joined_onto [] r.moves) to has)
   to_list _ (entering way inst back en) =
       let r = raw_of words A n in
-      let ws = ways_of n.key r.calls in
+      let ws = ways_of words n.key r.calls in
       let w : Way = record { kind = way; inst = inst; back = back } in
       Contains-append_right (map local_edge (joined_onto [] r.moves)) (map (entry_edge n.state) ws ++ all_returns words A n.key n.state nodes ws)
       (entry_edge n.state w)
@@ -234,13 +234,13 @@ module _ (words : List ℕ) (A : List Entry) (nodes : List Node) (n : Node) wher
       (in_map (entry_edge n.state) ws w (way_in words A n way inst back en)))
   to_list _ (returning way inst back leaver x after en present same clean exit ret) =
       let r = raw_of words A n in
-      let ws = ways_of n.key r.calls in
+      let ws = ways_of words n.key r.calls in
       let w : Way = record { kind = way; inst = inst; back = back } in
-      let e = back_edge n.key back x after in
-      let this : Contains (return_edges words A n.key n.state back leaver) e =
-      back_in n.key n.state back leaver.state (exit_in (local words A leaver.key leaver.state)) x after (exit_there words A leaver x clean exit) ret in
+      let e = back_edge n.key w x after in
+      let this : Contains (return_edges words A n.key n.state w leaver) e =
+      back_in n.key n.state w leaver.state (exit_in (local words A leaver.key leaver.state)) x after (exit_there words A leaver x clean exit) ret in
       let kept : Contains (return_if words A n.key n.state w leaver) e =
-      subst (λ b. Contains (if b then return_edges words A n.key n.state back leaver else []) e) (sym ((keys_are_ordered.same_insts leaver.key.inst inst).1 same)) this in
+      subst (λ b. Contains (if b then return_edges words A n.key n.state w leaver else []) e) (sym ((keys_are_ordered.same_insts leaver.key.inst inst).1 same)) this in
       let found : Contains (returns_in words A n.key n.state nodes w) e = gathered_in (return_if words A n.key n.state w) nodes leaver e present kept in
       Contains-append_right (map local_edge (joined_onto [] r.moves)) (map (entry_edge n.state) ws ++ all_returns words A n.key n.state nodes ws) e
       (Contains-append_right (map (entry_edge n.state) ws) (all_returns words A n.key n.state nodes ws) e
@@ -251,9 +251,9 @@ module _ (words : List ℕ) (A : List Entry) (nodes : List Node) (n : Node) wher
   exact_by all (Err f) is e = absurd cc
   exact_by all (Ok l) is e =
       let q = local_ok words A n l is in
-      let list : edges_with words A nodes n.key n.state (ways_of n.key (raw_of words A n).calls) (whole (raw_of words A n)) ≡ all =
-      subst (λ m. edges_with words A nodes n.key n.state (ways_of n.key m.calls) m ≡ all) q.1
-      (ok_same (edges_with words A nodes n.key n.state (ways_of n.key l.calls) l) all (next_by words A nodes n.key n.state (Ok l)) refl e) in
+      let list : edges_with words A nodes n.key n.state (ways_of words n.key (raw_of words A n).calls) (whole (raw_of words A n)) ≡ all =
+      subst (λ m. edges_with words A nodes n.key n.state (ways_of words n.key m.calls) m ≡ all) q.1
+      (ok_same (edges_with words A nodes n.key n.state (ways_of words n.key l.calls) l) all (next_by words A nodes n.key n.state (Ok l)) refl e) in
       subst (AreEdges words A nodes n) list (λ x. (from_list q.0 x, to_list x))
 
 -- ---- what an answer says
@@ -304,12 +304,12 @@ module _ (words : List ℕ) (A : List Entry) (n : Node) where
   leave_of : (l : Local) → local words A n.key n.state ≡ Ok l → l.exit ≡ (raw_of words A n).exit
   leave_of l e = ap (λ (m : Local). m.exit) (local_ok words A n l e).1
 
-  way_of : (l : Local) (w : Way) → local words A n.key n.state ≡ Ok l → Contains (ways_of n.key l.calls) w ↔ Enters words A n w.kind w.inst w.back
+  way_of : (l : Local) (w : Way) → local words A n.key n.state ≡ Ok l → Contains (ways_of words n.key l.calls) w ↔ Enters words A n w.kind w.inst w.back
   way_of l w e =
       let p = local_ok words A n l e in
       let calls : l.calls ≡ (raw_of words A n).calls = ap (λ (m : Local). m.calls) p.1 in (
-        λ h. ways_from words A n p.0 n.key.sp refl w (subst (λ cs. Contains (ways_of n.key cs) w) calls h),
-        λ h. subst (λ cs. Contains (ways_of n.key cs) w) (sym calls) (way_in words A n w.kind w.inst w.back h),
+        λ h. ways_from words A n p.0 n.key.sp refl w (subst (λ cs. Contains (ways_of words n.key cs) w) calls h),
+        λ h. subst (λ cs. Contains (ways_of words n.key cs) w) (sym calls) (way_in words A n w.kind w.inst w.back h),
       )
 
 pub local_parts_are_edges : LocalPartsAreEdges

@@ -56,7 +56,7 @@ pub other_gives_none : (words : List ℕ) (A : List Entry) (k : NodeKey) (s : Ab
 other_gives_none words A k s w n other = other_by words A k s w n (same_inst n.key.inst w.inst) refl other
 
 pub same_gives : (words : List ℕ) (A : List Entry) (k : NodeKey) (s : AbsState) (w : Way) (n : Node) → n.key.inst ≡ w.inst
-    → return_if words A k s w n ≡ return_edges words A k s w.back n
+    → return_if words A k s w n ≡ return_edges words A k s w n
 same_gives words A k s w n e = rw ((keys_are_ordered.same_insts n.key.inst w.inst).1 e) refl
 
 pub returned_none : (words : List ℕ) (A : List Entry) (k : NodeKey) (s : AbsState) (nodes : List Node) (w : Way) (low high : ℕ) (old : List Edge)
@@ -67,13 +67,13 @@ returned_none words A k s nodes w low high old span =
 
 pub returned_more : (words : List ℕ) (A : List Entry) (k : NodeKey) (s : AbsState) (nodes : List Node) (w : Way) (low high at : ℕ) (old now new : List Edge)
     → IsSpan nodes w.inst low high → low ≤ at → at < high → now ≡ old ++ returns_in words A k s (take at nodes) w
-    → ((n : Node) → slice_get nodes at ≡ Some n → new ≡ now ++ return_edges words A k s w.back n)
+    → ((n : Node) → slice_get nodes at ≡ Some n → new ≡ now ++ return_edges words A k s w n)
     → new ≡ old ++ returns_in words A k s (take (at + 1) nodes) w
 returned_more words A k s nodes w low high at old now new span above below e h =
     let found = there_is nodes at (omega (arith, below, span.inside)) in
     let n = found.0 in
     let f = return_if words A k s w in
-    let gives : return_edges words A k s w.back n ≡ f n = sym (same_gives words A k s w n ((span.exact at n found.1).1 (above, below))) in
+    let gives : return_edges words A k s w n ≡ f n = sym (same_gives words A k s w n ((span.exact at n found.1).1 (above, below))) in
     let more : gathered f (take (suc at) nodes) ≡ gathered f (take at nodes) ++ f n = one_more f nodes at n found.1 in
     let first : new ≡ (old ++ gathered f (take at nodes)) ++ f n = h n found.1 ∙ ap (λ l. now ++ l) gives ∙ ap (λ l. l ++ f n) e in
     rw (add-one at) (first ∙ append_assoc old (gathered f (take at nodes)) (f n) ∙ ap (λ l. old ++ l) (sym more))

@@ -5,13 +5,13 @@ use Rattle.mask_states.specs.declared.keys.NodeKey.{NodeKey}
 use Rattle.call_graph.specs.declared.ways.Way.{Way}
 use Rattle.call_graph.specs.Ways.{at_vector, vectors_below}
 
-pub no_vectors : (k : NodeKey) (start : List Way) → start ≡ start ++ vectors_below k 0
+pub no_vectors : (words : List ℕ) (k : NodeKey) (start : List Way) → start ≡ start ++ vectors_below words k 0
 unfolding vectors_below
-no_vectors k start = sym (append-nil start)
+no_vectors words k start = sym (append-nil start)
 
-pub one_vector_more : (k : NodeKey) (n : ℕ) (start before now : List Way) → before ≡ start ++ vectors_below k n → now ≡ before ++ at_vector k (n + 2) → now ≡ start ++ vectors_below k (n + 1)
+pub one_vector_more : (words : List ℕ) (k : NodeKey) (n : ℕ) (start before now : List Way) → before ≡ start ++ vectors_below words k n → now ≡ before ++ at_vector words k (n + 2) → now ≡ start ++ vectors_below words k (n + 1)
 unfolding vectors_below
-one_vector_more k n start before now so e =
-    let whole : now ≡ start ++ (vectors_below k n ++ at_vector k (n + 2)) =
-    e ∙ ap (λ ws. ws ++ at_vector k (n + 2)) so ∙ append_assoc start (vectors_below k n) (at_vector k (n + 2)) in
+one_vector_more words k n start before now so e =
+    let whole : now ≡ start ++ (vectors_below words k n ++ at_vector words k (n + 2)) =
+    e ∙ ap (λ ws. ws ++ at_vector words k (n + 2)) so ∙ append_assoc start (vectors_below words k n) (at_vector words k (n + 2)) in
     rw add-one whole

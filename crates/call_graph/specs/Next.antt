@@ -31,17 +31,17 @@ abbrev pub exit_in : Result Local NodeFault → Option Exit
 exit_in (Ok l) = l.exit
 exit_in (Err f) = None
 
-abbrev pub returned_as : NodeKey → ℕ → Exit → Option AbsState → List Edge
-returned_as k back x None = []
-returned_as k back x (Some s) = record { kind = kind.Return; to = returned_key k back x; state = s } ∷ []
+abbrev pub returned_as : NodeKey → Way → Exit → Option AbsState → List Edge
+returned_as k w x None = []
+returned_as k w x (Some s) = record { kind = kind.Return; to = returned_key w.kind k w.back x; state = s } ∷ []
 
-abbrev pub returned_by : NodeKey → AbsState → ℕ → Option Exit → AbsState → List Edge
-returned_by k s back None t = []
-returned_by k s back (Some x) t = returned_as k back x (returned s t)
+abbrev pub returned_by : NodeKey → AbsState → Way → Option Exit → AbsState → List Edge
+returned_by k s w None t = []
+returned_by k s w (Some x) t = returned_as k w x (returned s t)
 
 -- back from a node
-abbrev pub return_edges : List ℕ → List Entry → NodeKey → AbsState → ℕ → Node → List Edge
-return_edges words A k s back leaver = returned_by k s back (exit_in (local words A leaver.key leaver.state)) leaver.state
+abbrev pub return_edges : List ℕ → List Entry → NodeKey → AbsState → Way → Node → List Edge
+return_edges words A k s w leaver = returned_by k s w (exit_in (local words A leaver.key leaver.state)) leaver.state
 
 -- what each gives, one after the other
 abbrev pub gathered : {X Y : Type 0} → (X → List Y) → List X → List Y
@@ -50,7 +50,7 @@ gathered f (x ∷ xs) = f x ++ gathered f xs
 
 -- back from a node, if it is of the entered instance
 abbrev pub return_if : List ℕ → List Entry → NodeKey → AbsState → Way → Node → List Edge
-return_if words A k s w n = if same_inst n.key.inst w.inst then return_edges words A k s w.back n else []
+return_if words A k s w n = if same_inst n.key.inst w.inst then return_edges words A k s w n else []
 
 -- back from the nodes of the entered instance
 abbrev pub returns_in : List ℕ → List Entry → NodeKey → AbsState → List Node → Way → List Edge
@@ -63,7 +63,7 @@ abbrev pub edges_with : List ℕ → List Entry → List Node → NodeKey → Ab
 edges_with words A nodes k s ws l = map local_edge l.same ++ (map (entry_edge s) ws ++ all_returns words A k s nodes ws)
 
 abbrev pub next_by : List ℕ → List Entry → List Node → NodeKey → AbsState → Result Local NodeFault → Result (List Edge) NodeFault
-next_by words A nodes k s (Ok l) = Ok (edges_with words A nodes k s (ways_of k l.calls) l)
+next_by words A nodes k s (Ok l) = Ok (edges_with words A nodes k s (ways_of words k l.calls) l)
 next_by words A nodes k s (Err f) = Err f
 
 -- all edges from a node, or its fault

@@ -15,7 +15,7 @@ ghost use Rattle.call_graph.specs.Exits.{AreExits, AreKnown};
 ghost use Rattle.call_graph.specs.Next.{local_edge, entry_edge, returned_by, return_edges, returns_in, all_returns, edges_with, next_of};
 
 use crate::leaving::exit_of;
-use crate::ways::{Way, ways};
+use crate::ways::{Way, returned_key, ways};
 use abs_state::AbsState;
 use abs_step::local;
 use avr_model::listed::Listed;
@@ -65,12 +65,12 @@ fn add_return(
     edges: &mut Listed<Edge>,
     key: &NodeKey,
     state: &AbsState,
-    back: u16,
+    way: &Way,
     exit: Option<Exit>,
     leaving: &AbsState,
 ) -> Result<(), AllocError>
     requires { (r : ℕ) → r < 32 → NamesRegister (value_at leaving.now.registers r).tag }
-    ensures { OnOk result (edges.new ≡ edges.old ++ returned_by key.now state.now back exit leaving.now) }
+    ensures { OnOk result (edges.new ≡ edges.old ++ returned_by key.now state.now way.now exit leaving.now) }
 {
     let Some(exit) = exit else {
         return Ok(());
@@ -80,14 +80,7 @@ fn add_return(
     };
     edges.push(Edge {
         kind: EdgeKind::Return,
-        to: NodeKey {
-            inst: key.inst,
-            pc: back,
-            masks: exit.masks,
-            i: exit.i,
-            delay: exit.delay,
-            sp: key.sp,
-        },
+        to: returned_key(way.kind, key, way.back, &exit),
         state: after,
     })?;
     Ok(())
@@ -101,7 +94,7 @@ fn add_leaver<V: View>(
     assumptions: &Assumptions,
     key: &NodeKey,
     state: &AbsState,
-    back: u16,
+    way: &Way,
     view: &V,
     at: usize,
     known: &[Option<Exit>],
@@ -109,11 +102,11 @@ fn add_leaver<V: View>(
     requires place { at < length (V.nodes view.now) }
     requires shown { AreShown (V.nodes view.now) }
     requires given { AreKnown flash.now assumptions.now (V.nodes view.now) known.now }
-    ensures { (n : Node) → slice_get (V.nodes view.now) at ≡ Some n → OnOk result (edges.new ≡ edges.old ++ return_edges flash.now assumptions.now key.now state.now back n) }
+    ensures { (n : Node) → slice_get (V.nodes view.now) at ≡ Some n → OnOk result (edges.new ≡ edges.old ++ return_edges flash.now assumptions.now key.now state.now way.now n) }
 {
     let exit = exit_of(alloc, flash, assumptions, view, at, known)?;
     let leaving = view.state(at);
-    add_return(alloc, edges, key, state, back, exit, leaving)
+    add_return(alloc, edges, key, state, way, exit, leaving)
 }
 
 // The edges back from the instance that is entered this way.
@@ -141,7 +134,7 @@ fn add_returns<V: View>(
             assumptions,
             key,
             state,
-            way.back,
+            way,
             view,
             at,
             known,
@@ -195,9 +188,9 @@ fn edges_of<V: View>(
 ) -> Result<Listed<Edge>, AllocError>
     requires shown { AreShown (V.nodes view.now) }
     requires given { AreKnown flash.now assumptions.now (V.nodes view.now) known.now }
-    ensures { IfOk result (λ edges. edges ≡ edges_with flash.now assumptions.now (V.nodes view.now) key.now state.now (ways_of key.now found.calls) found) }
+    ensures { IfOk result (λ edges. edges ≡ edges_with flash.now assumptions.now (V.nodes view.now) key.now state.now (ways_of flash.now key.now found.calls) found) }
 {
-    let all = ways(alloc, key, found.calls.as_slice())?;
+    let all = ways(alloc, flash, key, found.calls.as_slice())?;
     let mut edges = Listed::empty(alloc);
     add_moves(&mut edges, found.same.into_vec())?;
     add_entries(alloc, &mut edges, state, &all)?;

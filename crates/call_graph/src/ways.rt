@@ -1,9 +1,11 @@
 //! The ways out of a node's frame into other instances.
 
 ghost use Rattle.std.specs.Prelude.{◌≡◌, ◌≤◌, ◌++◌, map, true, IfOk, OnOk, OnErr};
+ghost use Rattle.edge_rules.specs.Edges.{pick_back, returned_key};
 ghost use Rattle.call_graph.specs.Ways.{call_way, vector_way, at_vector, vectors_below, ways_of};
 
-use local_rules::CallSite;
+use flash_image::Flash;
+use local_rules::{CallSite, Exit};
 use mask_states::{EdgeKind, InstKey, Kind, NodeKey, SpForm};
 use std::alloc::{AllocError, Global};
 
@@ -35,10 +37,10 @@ fn call_way(key: &NodeKey, site: CallSite) -> Way
 }
 
 // The way of an interrupt.
-fn vector_way(key: &NodeKey, v: u8, clears: bool) -> Way
+fn vector_way(flash: &Flash, key: &NodeKey, v: u8, clears: bool) -> Way
     requires low { 2 ≤ v }
     requires high { v ≤ 26 }
-    ensures { result ≡ vector_way key.now v clears }
+    ensures { result ≡ vector_way flash.now key.now v clears }
 {
     let masks = if clears {
         key.masks.with(7, false)
@@ -49,7 +51,7 @@ fn vector_way(key: &NodeKey, v: u8, clears: bool) -> Way
         kind: EdgeKind::Interrupt(v, clears),
         inst: InstKey {
             kind: Kind::Vector(v),
-            entry: 2 * (u16::from(v) - 1),
+            entry: flash.device().vector_word(v),
             masks,
             i: false,
         },
@@ -68,40 +70,71 @@ fn add_calls(ways: &mut Vec<Way>, key: &NodeKey, calls: &[CallSite]) -> Result<(
 }
 
 // The ways of a vector's interrupt, if it is enabled.
-fn add_vector(ways: &mut Vec<Way>, key: &NodeKey, v: u8) -> Result<(), AllocError>
+fn add_vector(ways: &mut Vec<Way>, flash: &Flash, key: &NodeKey, v: u8) -> Result<(), AllocError>
     requires low { 2 ≤ v }
     requires high { v ≤ 26 }
-    ensures { OnOk result (ways.new.items ≡ ways.old.items ++ at_vector key.now v) }
+    ensures { OnOk result (ways.new.items ≡ ways.old.items ++ at_vector flash.now key.now v) }
 {
     if key.masks.has(v) {
-        ways.push(vector_way(key, v, false))?;
+        ways.push(vector_way(flash, key, v, false))?;
         if v == 7 {
-            ways.push(vector_way(key, v, true))?;
+            ways.push(vector_way(flash, key, v, true))?;
         }
     }
     Ok(())
 }
 
 // The ways of all interrupts.
-fn add_vectors(ways: &mut Vec<Way>, key: &NodeKey) -> Result<(), AllocError>
-    ensures { OnOk result (ways.new.items ≡ ways.old.items ++ vectors_below key.now 25) }
+fn add_vectors(ways: &mut Vec<Way>, flash: &Flash, key: &NodeKey) -> Result<(), AllocError>
+    ensures { OnOk result (ways.new.items ≡ ways.old.items ++ vectors_below flash.now key.now 25) }
 {
     for n in 0..25u8 {
-        add_vector(ways, key, n + 2)?;
+        add_vector(ways, flash, key, n + 2)?;
     }
     Ok(())
 }
 
-/// The ways of a node with these calls into other instances: its calls, then the interrupts that may come, by vector.
-pub fn ways(alloc: Global, key: &NodeKey, calls: &[CallSite]) -> Result<Vec<Way>, AllocError>
-    ensures { IfOk result (λ all. all.items ≡ ways_of key.now calls.now) }
+/// The ways of a node with these calls into other instances on the device: its calls, then the interrupts that may come, by vector.
+pub fn ways(
+    alloc: Global,
+    flash: &Flash,
+    key: &NodeKey,
+    calls: &[CallSite],
+) -> Result<Vec<Way>, AllocError>
+    ensures { IfOk result (λ all. all.items ≡ ways_of flash.now key.now calls.now) }
 {
     let mut all = Vec::new(alloc);
     if let SpForm::Closed(_) = key.sp {
         add_calls(&mut all, key, calls)?;
         if key.i && !key.delay {
-            add_vectors(&mut all, key)?;
+            add_vectors(&mut all, flash, key)?;
         }
     }
     Ok(all)
+}
+
+// The pick after a return to a node with this one that entered by such an edge.
+fn pick_back(kind: EdgeKind, pick: Option<u8>) -> Option<u8>
+    ensures { result ≡ pick_back kind pick }
+{
+    match kind {
+        EdgeKind::Interrupt(..) => pick,
+        _ => None,
+    }
+}
+
+/// Where a return leads, in the frame of the node that entered the instance by this kind of edge: to the word behind the call or the
+/// interrupted word, with what the exit leaves.
+pub fn returned_key(kind: EdgeKind, key: &NodeKey, back: u16, exit: &Exit) -> NodeKey
+    ensures { result ≡ returned_key kind key.now back exit.now }
+{
+    NodeKey {
+        inst: key.inst,
+        pc: back,
+        masks: exit.masks,
+        i: exit.i,
+        delay: exit.delay,
+        sp: key.sp,
+        pick: pick_back(kind, key.pick),
+    }
 }

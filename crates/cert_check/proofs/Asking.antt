@@ -332,7 +332,7 @@ module _ (words : List ℕ) (A : List Entry) (c : Claim) (nodes : List Node) (ar
           need_at_place j need h.0.0 a.node.key.inst h.0.1.0 h.0.1.1.0 h.0.1.1.1 most h.1
           (own_place a.node j a.present (sym (own_number a.node h.0.0 a.asks) ∙ h.0.1.1.0))
 
-  pub decided : IsCovered nodes reset_node → AreFaultless words A nodes → (v : Verdict) → IsWeighed c A demands v → Decides words A c nodes v
+  pub decided : IsCovered nodes reset_node → AreFaultless words A nodes → (v : Verdict) → IsWeighed words c A demands v → Decides words A c nodes v
   decided reset clean (Accepted bound) h = (
     record {
       reset = reset;

@@ -85,9 +85,6 @@ module _ (words : List ℕ) (A : List Entry) (c : Claim) (claim : IsClaim c) (no
       let le = h.least (need_in c.instances h.inst.key) (enough h.inst.key) in
       omega (arith, le, need_is j h.inst h.is, h.low)
 
-  not_bound : (need : ℕ) → need ≡ need_in c.instances root_inst → c.bound < need → need_in c.instances root_inst ≤ c.bound → ⊥
-  not_bound need e low le = omega (arith, e, low, le)
-
   -- ---- a reason's numbers are one
 
   fault_before : (i j a b : ℕ) → IsFirstFault words A nodes i a → IsFirstFault words A nodes j b → i < j → ⊥
@@ -192,15 +189,15 @@ module _ (words : List ℕ) (A : List Entry) (c : Claim) (claim : IsClaim c) (no
   one_decided (Rejected (reason.Bound need)) (Rejected (reason.Rank j' l')) a b = absurd (not_ranked j' l' b.3 a.3)
   one_decided (Rejected (reason.Bound need)) (Rejected (reason.Need j' need')) a b = absurd (not_enough j' need' b.4 a.4)
   one_decided (Rejected (reason.Bound need)) (Rejected (reason.Bound need')) a b = one_bound need need' a.5 b.5
-  one_decided (Rejected (reason.Bound need)) (Rejected reason.Assumptions) a b = absurd (not_bound need a.5 a.6 b.5)
-  one_decided (Rejected (reason.Bound need)) (Accepted bound') a b = absurd (not_bound need a.5 a.6 b.0.bounded)
+  one_decided (Rejected (reason.Bound need)) (Rejected reason.Assumptions) a b = absurd (a.6 b.5)
+  one_decided (Rejected (reason.Bound need)) (Accepted bound') a b = absurd (a.6 b.0.bounded)
   one_decided (Rejected (reason.Bound need)) (Rejected (reason.Expansion at')) a b = absurd b
   one_decided (Rejected reason.Assumptions) (Rejected reason.Root) a b = absurd (b a.0)
   one_decided (Rejected reason.Assumptions) (Rejected (reason.Node j' cause')) a b = absurd (not_clean j' cause' b.1 a.1)
   one_decided (Rejected reason.Assumptions) (Rejected (reason.Edge j' to')) a b = absurd (not_landed j' to' b.2 a.2)
   one_decided (Rejected reason.Assumptions) (Rejected (reason.Rank j' l')) a b = absurd (not_ranked j' l' b.3 a.3)
   one_decided (Rejected reason.Assumptions) (Rejected (reason.Need j' need')) a b = absurd (not_enough j' need' b.4 a.4)
-  one_decided (Rejected reason.Assumptions) (Rejected (reason.Bound need')) a b = absurd (not_bound need' b.5 b.6 a.5)
+  one_decided (Rejected reason.Assumptions) (Rejected (reason.Bound need')) a b = absurd (b.6 a.5)
   one_decided (Rejected reason.Assumptions) (Rejected reason.Assumptions) a b = refl
   one_decided (Rejected reason.Assumptions) (Accepted bound') a b = absurd (a.6 b.0.assumptions)
   one_decided (Rejected reason.Assumptions) (Rejected (reason.Expansion at')) a b = absurd b
@@ -209,7 +206,7 @@ module _ (words : List ℕ) (A : List Entry) (c : Claim) (claim : IsClaim c) (no
   one_decided (Accepted bound) (Rejected (reason.Edge j' to')) a b = absurd (not_landed j' to' b.2 a.0.edges)
   one_decided (Accepted bound) (Rejected (reason.Rank j' l')) a b = absurd (not_ranked j' l' b.3 a.0.ranks)
   one_decided (Accepted bound) (Rejected (reason.Need j' need')) a b = absurd (not_enough j' need' b.4 a.0.needs)
-  one_decided (Accepted bound) (Rejected (reason.Bound need')) a b = absurd (not_bound need' b.5 b.6 a.0.bounded)
+  one_decided (Accepted bound) (Rejected (reason.Bound need')) a b = absurd (b.6 a.0.bounded)
   one_decided (Accepted bound) (Rejected reason.Assumptions) a b = absurd (b.6 a.0.assumptions)
   one_decided (Accepted bound) (Accepted bound') a b = ap (λ m. Accepted m) (a.1 ∙ sym b.1)
   one_decided (Accepted bound) (Rejected (reason.Expansion at')) a b = absurd b

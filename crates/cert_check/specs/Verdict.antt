@@ -18,7 +18,7 @@ use Rattle.edge_rules.specs.Families.{IsCovered}
 use Rattle.certificate.specs.declared.instance.Inst.{Inst}
 use Rattle.certificate.specs.Insts.{need_in}
 use Rattle.certificate.specs.Claims.{Claim}
-use Rattle.certificate.specs.Valid.{reset_node, AreFaultless, AllLand, AreRanked, Suffices, NeedsSuffice, IsSound}
+use Rattle.certificate.specs.Valid.{reset_node, AreFaultless, AllLand, AreRanked, Suffices, NeedsSuffice, IsBounded, IsSound}
 use Rattle.cert_check.specs.declared.verdict.Reason.{Reason}
 use Rattle.cert_check.specs.declared.verdict.Reason.TheVariants as reason
 use Rattle.cert_check.specs.declared.verdict.Verdict.{Verdict}
@@ -91,10 +91,10 @@ IsLeastReason words A c nodes (reason.Need j need) =
     IsCovered nodes reset_node × AreFaultless words A nodes × AllLand words A nodes × AreRanked words A c nodes × IsFirstNeed words A c nodes j need
 IsLeastReason words A c nodes (reason.Bound need) =
     IsCovered nodes reset_node × AreFaultless words A nodes × AllLand words A nodes × AreRanked words A c nodes × NeedsSuffice words A c nodes
-    × (need ≡ need_in c.instances root_inst) × (c.bound < need)
+    × (need ≡ need_in c.instances root_inst) × (IsBounded words c → ⊥)
 IsLeastReason words A c nodes reason.Assumptions =
     IsCovered nodes reset_node × AreFaultless words A nodes × AllLand words A nodes × AreRanked words A c nodes × NeedsSuffice words A c nodes
-    × (need_in c.instances root_inst ≤ c.bound) × (c.assumptions ≢ A)
+    × IsBounded words c × (c.assumptions ≢ A)
 
 -- the reason holds of the nodes with their states
 pub record IsRejected (words : List ℕ) (A : List Entry) (c : Claim) (r : Reason) : Type 0 where

@@ -21,7 +21,7 @@ use Rattle.edge_rules.specs.Families.{IsCovered}
 use Rattle.certificate.specs.declared.instance.Inst.{Inst}
 use Rattle.certificate.specs.Insts.{IsInst, inst_keys, need_in}
 use Rattle.certificate.specs.Claims.{Claim, most_instances}
-use Rattle.certificate.specs.Valid.{AllLand, MeetsConditions}
+use Rattle.certificate.specs.Valid.{AllLand, IsBounded, MeetsConditions}
 use Rattle.cert_check.specs.declared.demand.Demand.{Demand}
 use Rattle.cert_check.specs.declared.gathering.Found.{Found}
 use Rattle.cert_check.specs.declared.gathering.Found.TheVariants.{Gap, All}
@@ -193,17 +193,17 @@ abbrev pub AllMet : List Inst → List Demand → Type 0
 AllMet insts demands = (d : Demand) → Contains demands d → MeetsNeed insts d
 
 -- the verdict where all edges land and these are the demands
-abbrev pub IsWeighed : Claim → List Entry → List Demand → Verdict → Type 0
-IsWeighed c A demands (Accepted bound) =
-    RanksFall c.instances demands × AllMet c.instances demands × (need_in c.instances root_inst ≤ c.bound) × (c.assumptions ≡ A) × (bound ≡ c.bound)
-IsWeighed c A demands (Rejected (reason.Rank j l)) = IsLeast (MeetsRank c.instances) (LowRank c.instances) PairBelow demands (Some (j, l))
-IsWeighed c A demands (Rejected (reason.Need j need)) =
+abbrev pub IsWeighed : List ℕ → Claim → List Entry → List Demand → Verdict → Type 0
+IsWeighed words c A demands (Accepted bound) =
+    RanksFall c.instances demands × AllMet c.instances demands × IsBounded words c × (c.assumptions ≡ A) × (bound ≡ c.bound)
+IsWeighed words c A demands (Rejected (reason.Rank j l)) = IsLeast (MeetsRank c.instances) (LowRank c.instances) PairBelow demands (Some (j, l))
+IsWeighed words c A demands (Rejected (reason.Need j need)) =
     RanksFall c.instances demands × IsLeast (MeetsNeed c.instances) (LowNeed c.instances) NumberBelow demands (Some j) × IsMost demands j need
-IsWeighed c A demands (Rejected (reason.Bound need)) =
-    RanksFall c.instances demands × AllMet c.instances demands × (need ≡ need_in c.instances root_inst) × (c.bound < need)
-IsWeighed c A demands (Rejected reason.Assumptions) =
-    RanksFall c.instances demands × AllMet c.instances demands × (need_in c.instances root_inst ≤ c.bound) × (c.assumptions ≢ A)
-IsWeighed c A demands (Rejected r) = ⊥
+IsWeighed words c A demands (Rejected (reason.Bound need)) =
+    RanksFall c.instances demands × AllMet c.instances demands × (need ≡ need_in c.instances root_inst) × (IsBounded words c → ⊥)
+IsWeighed words c A demands (Rejected reason.Assumptions) =
+    RanksFall c.instances demands × AllMet c.instances demands × IsBounded words c × (c.assumptions ≢ A)
+IsWeighed words c A demands (Rejected r) = ⊥
 
 -- the verdict on the nodes with their states
 abbrev pub Decides : List ℕ → List Entry → Claim → List Node → Verdict → Type 0

@@ -55,7 +55,7 @@ fn judge_edges(
         exits,
     )? {
         Found::Gap(at, to) => Ok(Verdict::Rejected(Reason::Edge(at as u32, to))),
-        Found::All(demands) => Ok(weigh(assumptions, certificate, &demands)),
+        Found::All(demands) => Ok(weigh(flash, assumptions, certificate, &demands)),
     }
 }
 

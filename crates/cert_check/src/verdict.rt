@@ -15,7 +15,7 @@ pub enum Reason {
     Rank(u32, u32),
     /// The need of this instance, the least such, is too low; the least that suffices is this number of bytes.
     Need(u32, u32),
-    /// The bound is below the root's need, which is this.
+    /// The bound is below the root's need, which is this, or above the number of bytes that the device's SRAM has.
     Bound(u32),
     /// The assumptions are not those handed in.
     Assumptions,

@@ -1,6 +1,7 @@
 //! Ranks and needs against what is asked of them.
 
-ghost use Rattle.std.specs.Prelude.{◌≡◌, ◌↔◌, Contains};
+ghost use Rattle.std.specs.Prelude.{◌≡◌, ◌≤◌, ◌↔◌, Contains, IsTrue};
+ghost use Rattle.avr_model.specs.Devices.{device_of, size_of};
 ghost use Rattle.mask_states.specs.Keys.{root_inst};
 ghost use Rattle.vector_table.specs.Entries.{AreEntries};
 ghost use Rattle.certificate.specs.Claims.{IsClaim};
@@ -10,6 +11,7 @@ ghost use Rattle.cert_check.specs.Working.{AreInstances, AreInside, IsInside, Is
 use crate::demand::{Demand, need_at, number_of, rank_at};
 use crate::verdict::{Reason, Verdict};
 use certificate::{Certificate, Inst};
+use flash_image::Flash;
 use mask_states::InstKey;
 use vector_table::Assumptions;
 
@@ -110,8 +112,16 @@ fn most_asked(demands: &[Demand], j: usize) -> u32
     most
 }
 
+// Whether the bound is at least this need, and no more than the device's SRAM has bytes.
+fn is_bounded(flash: &Flash, bound: u16, need: u32) -> bool
+    ensures { IsTrue result ↔ ((need ≤ bound) × (bound ≤ size_of (device_of flash.now))) }
+{
+    need <= u32::from(bound) && bound <= flash.device().size()
+}
+
 // The verdict where all edges land, by what nodes ask of their instances.
 pub(crate) fn weigh(
+    flash: &Flash,
     assumptions: &Assumptions,
     certificate: &Certificate,
     demands: &[Demand],
@@ -119,7 +129,7 @@ pub(crate) fn weigh(
     requires claim { IsClaim certificate.now }
     requires inside { AreInside certificate.now.instances demands.now }
     requires root { Contains (inst_keys certificate.now.instances) root_inst }
-    ensures { IsWeighed certificate.now assumptions.now demands.now result }
+    ensures { IsWeighed flash.now certificate.now assumptions.now demands.now result }
 {
     let instances = certificate.instances();
     if let Some((j, l)) = low_rank(instances, demands) {
@@ -130,7 +140,7 @@ pub(crate) fn weigh(
     }
     let need = need_at(instances, number_of(instances, &InstKey::root()));
     let bound = certificate.bound();
-    if u32::from(bound) < need {
+    if !is_bounded(flash, bound, need) {
         return Verdict::Rejected(Reason::Bound(need));
     }
     if !certificate.assumptions().same(assumptions) {

@@ -13,8 +13,10 @@ use Rattle.mask_states.specs.Keys.{offset_of}
 use Rattle.edge_rules.specs.declared.seeded.NodeForm.{NodeForm}
 use Rattle.edge_rules.specs.declared.seeded.NodeForm.TheVariants.{State, From}
 use Rattle.certificate.specs.declared.instance.Inst.{Inst}
+use Rattle.certificate.specs.declared.version.Version.{Version}
 use Rattle.certificate.specs.Insts.{IsInst}
 use Rattle.certificate.specs.Claims.{IsKey, FitsAt}
+use Rattle.certificate.specs.Versions.{NodeIsOf}
 use Rattle.cert_words.specs.KeySpelling.{inst_key_words, place_words, form_words}
 use Rattle.cert_words.specs.Text.{inst_words, node_words_at}
 use Rattle.cert_words.specs.KeyReading.{is_root, inst_key_at, form_at}
@@ -104,44 +106,46 @@ place_again k insts place x rest small there =
     let d = k.dec_taken 65535 place rest (lit< tt) (omega (arith, small)) in
     rw (d, there) refl
 
-node_take : WordLaws → KeyWords → (insts : List Inst) (at : ℕ) (ws : List (List ℕ)) (n : NodeKey × NodeForm) → node_in insts at ws ≡ Some n → IsNodeLine insts at ws n
+node_take : WordLaws → KeyWords → (version : Version) (insts : List Inst) (at : ℕ) (ws : List (List ℕ)) (n : NodeKey × NodeForm) → node_in version insts at ws ≡ Some n → IsNodeLine version insts at ws n
 unfolding node_in whole_key_at
-node_take k v insts at ws n e =
-    let key = bind_some (whole_key_at insts ws) _ n e in
+node_take k v version insts at ws n e =
+    let key = bind_some (whole_key_at version insts ws) _ n e in
     let x = bind_some (place_at insts ws) _ key.0 key.1 in
-    let s = bind_some (form_at (is_root key.0.0.inst.kind) (offset_of key.0.0.sp) at key.0.1) _ n key.2 in
+    let s = bind_some (form_at version (is_root key.0.0.inst.kind) (offset_of key.0.0.sp) at key.0.1) _ n key.2 in
     let last = over_end {A = NodeKey × NodeForm} (key.0.0, s.0.0) n s.0.1 s.2 in
     let place = place_take k insts ws x.0 x.1 in
-    let front = v.places.spelled x.0.0 x.0.1 key.0.1 key.0.0 x.2 in
-    let form = v.forms.spelled at key.0.0 key.0.1 s.0.1 s.0.0 front.key_fits s.1 in
-    let behind : key.0.1 ≡ form_words s.0.0 = form.0 ∙ ap (λ (xs : List (List ℕ)). form_words s.0.0 ++ xs) last.0 ∙ append-nil (form_words s.0.0) in
-    let P : NodeKey × NodeForm → Type 0 = λ y. IsNodeLine insts at ws y in
+    let front = v.places.spelled version x.0.0 x.0.1 key.0.1 key.0.0 x.2 in
+    let form = v.forms.spelled version at key.0.0 key.0.1 s.0.1 s.0.0 front.key_fits s.1 in
+    let behind : key.0.1 ≡ form_words version s.0.0 = form.0 ∙ ap (λ (xs : List (List ℕ)). form_words version s.0.0 ++ xs) last.0 ∙ append-nil (form_words version s.0.0) in
+    let P : NodeKey × NodeForm → Type 0 = λ y. IsNodeLine version insts at ws y in
     subst P last.1 (record {
       place = place.place;
-      words = place.words ∙ ap (λ (xs : List (List ℕ)). codes "node" ∷ decimal place.place ∷ xs) (front.words ∙ ap (λ (xs : List (List ℕ)). place_words key.0.0 ++ xs) behind);
+      words = place.words ∙ ap (λ (xs : List (List ℕ)). codes "node" ∷ decimal place.place ∷ xs) (front.words ∙ ap (λ (xs : List (List ℕ)). place_words version key.0.0 ++ xs) behind);
       inst = record { inst = place.inst; there = place.there; same = place.same ∙ front.same };
       fits = form.1;
+      of_version = record { key = front.of_version; form = form.2 };
     })
 
 key_of : (at : ℕ) (key : NodeKey) (form : NodeForm) → FitsAt at key form → IsKey key
-key_of at key (State s) h = record { word = h.word; small = h.small; masks = h.masks; fits = h.fits }
+key_of at key (State s) h = record { word = h.word; small = h.small; masks = h.masks; fits = h.fits; pick = h.pick }
 key_of at key (From m) h = h.0
 
-node_again : WordLaws → KeyWords → (insts : List Inst) (at place : ℕ) (n : NodeKey × NodeForm) → at ≤ 65536 → place < 65536 → IsInstanceOf insts place n.0 → FitsAt at n.0 n.1 → node_in insts at (node_words_at place n) ≡ Some n
+node_again : WordLaws → KeyWords → (version : Version) (insts : List Inst) (at place : ℕ) (n : NodeKey × NodeForm) → at ≤ 65536 → place < 65536 → IsInstanceOf insts place n.0 → FitsAt at n.0 n.1 → NodeIsOf version n
+    → node_in version insts at (node_words_at version place n) ≡ Some n
 unfolding node_in whole_key_at
-node_again k v insts at place n few small i h =
-    let first : place_at insts (node_words_at place n) ≡ Some (n.0.inst, place_words n.0 ++ form_words n.1) =
-    place_again k insts place i.inst (place_words n.0 ++ form_words n.1) small i.there ∙ ap (λ (x : InstKey). Some (x, place_words n.0 ++ form_words n.1)) i.same in
-    let key = v.places.read n.0 (form_words n.1) (key_of at n.0 n.1 h) in
-    let form = v.forms.read at n.0 n.1 few h in
+node_again k v version insts at place n few small i h o =
+    let rest : List (List ℕ) = place_words version n.0 ++ form_words version n.1 in
+    let first : place_at insts (node_words_at version place n) ≡ Some (n.0.inst, rest) = place_again k insts place i.inst rest small i.there ∙ ap (λ (x : InstKey). Some (x, rest)) i.same in
+    let key = v.places.read version n.0 (form_words version n.1) (key_of at n.0 n.1 h) o.key in
+    let form = v.forms.read version at n.0 n.1 few h o.form in
     rw (first, key, form) refl
 
-node_plain : WordLaws → KeyWords → (at place : ℕ) (n : NodeKey × NodeForm) → at ≤ 65536 → place < 65536 → FitsAt at n.0 n.1 → AllByRecursion IsWord (node_words_at place n)
-node_plain k v at place n few small h = (
+node_plain : WordLaws → KeyWords → (version : Version) (at place : ℕ) (n : NodeKey × NodeForm) → at ≤ 65536 → place < 65536 → FitsAt at n.0 n.1 → NodeIsOf version n → AllByRecursion IsWord (node_words_at version place n)
+node_plain k v version at place n few small h o = (
   ((refl, (refl, (refl, (refl, tt)))), (refl, (refl, (refl, (refl, tt))))),
   (
     k.dec_word place (omega (arith, small)),
-    joined_words (place_words n.0) (form_words n.1) (v.places.words n.0 (key_of at n.0 n.1 h)) (v.forms.words at n.0 n.1 few h),
+    joined_words (place_words version n.0) (form_words version n.1) (v.places.words version n.0 (key_of at n.0 n.1 h)) (v.forms.words version at n.0 n.1 few h o.form),
   ),
 )
 

@@ -23,11 +23,13 @@ use Rattle.mask_states.specs.Laws.{KeysAreOrdered}
 use Rattle.edge_rules.specs.declared.seeded.NodeForm.{NodeForm}
 use Rattle.edge_rules.specs.Expansion.{Seeds}
 use Rattle.certificate.specs.declared.instance.Inst.{Inst}
+use Rattle.certificate.specs.declared.version.Version.{Version}
 use Rattle.cert_format.specs.declared.fault.CertFault.{CertFault}
 use Rattle.cert_format.specs.declared.fault.CertFault.TheVariants as fault
 use Rattle.certificate.specs.declared.limit.Limit.TheVariants as limit
 use Rattle.certificate.specs.Insts.{IsInst, inst_keys}
 use Rattle.certificate.specs.Claims.{cells_of, most_cells, most_instances, node_keys, FitsAt, AreFrom, Belongs}
+use Rattle.certificate.specs.Versions.{NodeIsOf}
 use Rattle.cert_words.specs.Text.{inst_words, place_of, node_words, node_words_at}
 use Rattle.cert_format.specs.LineLaws.{InstLines, NodeLines, IsInstanceOf}
 use Rattle.cert_format.specs.Reading.{entry_by, inst_by, node_by, last_in, is_inst_above, is_node_above, refused_entry, refused_inst, refused_node}
@@ -134,8 +136,8 @@ inst_reads k l at x few h = ap inst_in (k.words_stand (codes "inst") _ (l.words 
 
 -- ---- nodes
 
-abbrev pub FitsNode : List Inst → ℕ → NodeKey × NodeForm → Type 0
-FitsNode insts at n = FitsAt at n.0 n.1 × Belongs insts n.0
+abbrev pub FitsNode : Version → List Inst → ℕ → NodeKey × NodeForm → Type 0
+FitsNode version insts at n = FitsAt at n.0 n.1 × Belongs insts n.0 × NodeIsOf version n
 
 pub node_above_is : (ns : Seeds) (key : NodeKey) → is_node_above (last_in ns) key ≡ is_after node_cmp (node_keys ns) key
 node_above_is [] key = refl
@@ -168,8 +170,8 @@ pub record NodesKeep (ns : Seeds) : Type 0 where
 pub keys_append : (ns ms : Seeds) → node_keys (ns ++ ms) ≡ node_keys ns ++ node_keys ms
 keys_append ns ms = map-append (λ (e : NodeKey × NodeForm). e.0) ns ms
 
-node_pushed : KeysAreOrdered → (insts : List Inst) (ns : Seeds) (n : NodeKey × NodeForm) → NodesKeep ns → FitsNode insts (length ns) n → ((at : ℕ) → refused_node ns n at ≡ None) → NodesKeep (ns ++ n ∷ [])
-node_pushed o insts ns n h f none =
+node_pushed : KeysAreOrdered → (version : Version) (insts : List Inst) (ns : Seeds) (n : NodeKey × NodeForm) → NodesKeep ns → FitsNode version insts (length ns) n → ((at : ℕ) → refused_node ns n at ≡ None) → NodesKeep (ns ++ n ∷ [])
+node_pushed o version insts ns n h f none =
     let t = none_both (is_node_above (last_in ns) n.0) (has_room ns n.0) (fault.Limit limit.Cells) (fault.Order 0) (none 0) in
     let up = sym (node_above_is ns n.0) ∙ t.0 in
     let room : cells_of (node_keys ns) + (1 + offset_of n.0.sp) ≤ most_cells = grind (arith, nat_tests, t.1) in
@@ -179,9 +181,9 @@ node_pushed o insts ns n h f none =
       few = omega (arith, cells_more ns n, room);
     }
 
-pub nodes_kept : KeysAreOrdered → (insts : List Inst) (ns : Seeds) → Admitted (FitsNode insts) refused_node [] ns → NodesKeep ns
+pub nodes_kept : KeysAreOrdered → (version : Version) (insts : List Inst) (ns : Seeds) → Admitted (FitsNode version insts) refused_node [] ns → NodesKeep ns
 unfolding IsStrictlySortedBy cells_of
-nodes_kept o insts ns h = kept_by (FitsNode insts) refused_node NodesKeep (node_pushed o insts) [] ns (record { ascend = tt; few = omega arith }) h
+nodes_kept o version insts ns h = kept_by (FitsNode version insts) refused_node NodesKeep (node_pushed o version insts) [] ns (record { ascend = tt; few = omega arith }) h
 
 cells_append : (ks js : List NodeKey) → cells_of (ks ++ js) ≡ cells_of ks + cells_of js
 unfolding cells_of
@@ -202,41 +204,45 @@ node_follows ns n ms h at =
     let room : has_room ns n.0 ≡ true = grind (arith, nat_tests, few) in
     both_none (is_node_above (last_in ns) n.0) (has_room ns n.0) (fault.Limit limit.Cells) (fault.Order at) (node_above_is ns n.0 ∙ up) room
 
-pub nodes_admitted : (insts : List Inst) (ns : Seeds) → NodesKeep ns → AllFrom (FitsNode insts) 0 ns → Admitted (FitsNode insts) refused_node [] ns
-nodes_admitted insts ns h all = admitted_by (FitsNode insts) refused_node NodesKeep node_follows [] ns h all
+pub nodes_admitted : (version : Version) (insts : List Inst) (ns : Seeds) → NodesKeep ns → AllFrom (FitsNode version insts) 0 ns → Admitted (FitsNode version insts) refused_node [] ns
+nodes_admitted version insts ns h all = admitted_by (FitsNode version insts) refused_node NodesKeep node_follows [] ns h all
 
-pub node_spells : WordLaws → NodeLines → KeysAreOrdered → (insts : List Inst) → IsStrictlySortedBy inst_cmp (inst_keys insts) → Spells (node_by insts) (node_words insts) (FitsNode insts)
-node_spells k l o insts ascend at text n e =
-    let t = l.spelled insts at (words_of text) n e in
+pub node_spells : WordLaws → NodeLines → KeysAreOrdered → (version : Version) (insts : List Inst) → IsStrictlySortedBy inst_cmp (inst_keys insts) → Spells (node_by version insts) (node_words version insts) (FitsNode version insts)
+node_spells k l o version insts ascend at text n e =
+    let t = l.spelled version insts at (words_of text) n e in
     let own = place_unique o insts t.place t.inst.inst ascend t.inst.there in
     let place : place_of n.0.inst insts ≡ t.place = ap (λ (key : InstKey). place_of key insts) (sym t.inst.same) ∙ own in
     let P : InstKey → Type 0 = λ key. Contains (inst_keys insts) key in (
-      sym (k.line_words text) ∙ ap spaced (t.words ∙ ap (λ (i : ℕ). node_words_at i n) (sym place)),
-      (t.fits, subst P t.inst.same (contains_at insts t.place t.inst.inst t.inst.there)),
+      sym (k.line_words text) ∙ ap spaced (t.words ∙ ap (λ (i : ℕ). node_words_at version i n) (sym place)),
+      (t.fits, subst P t.inst.same (contains_at insts t.place t.inst.inst t.inst.there), t.of_version),
     )
 
-pub node_reads : WordLaws → NodeLines → KeysAreOrdered → (insts : List Inst) → length insts ≤ most_instances → Reads (node_by insts) (node_words insts) (FitsNode insts)
-node_reads k l o insts few at n most h =
+pub node_reads : WordLaws → NodeLines → KeysAreOrdered → (version : Version) (insts : List Inst) → length insts ≤ most_instances → Reads (node_by version insts) (node_words version insts) (FitsNode version insts)
+node_reads k l o version insts few at n most h =
     let t = has_place o insts n.0.inst h.1 in
     let within = slice_get_within insts (place_of n.0.inst insts) t.inst t.there in
     let small : place_of n.0.inst insts < 65536 = omega (arith, within, few) in
     let inst : IsInstanceOf insts (place_of n.0.inst insts) n.0 = record { inst = t.inst; there = t.there; same = t.same } in
-    ap (node_in insts at) (k.words_stand (codes "node") _ (l.words at (place_of n.0.inst insts) n most small h.0)) ∙ l.read insts at (place_of n.0.inst insts) n most small inst h.0
+    ap (node_in version insts at) (k.words_stand (codes "node") _ (l.words version at (place_of n.0.inst insts) n most small h.0 h.2)) ∙ l.read version insts at (place_of n.0.inst insts) n most small inst h.0 h.2
 
-pub node_is_plain : NodeLines → KeysAreOrdered → (insts : List Inst) → length insts ≤ most_instances → (at : ℕ) (n : NodeKey × NodeForm) → at ≤ 65536 → FitsNode insts at n → AllByRecursion IsWord (node_words insts n)
-node_is_plain l o insts few at n most h =
+pub node_is_plain : NodeLines → KeysAreOrdered → (version : Version) (insts : List Inst) → length insts ≤ most_instances → (at : ℕ) (n : NodeKey × NodeForm) → at ≤ 65536 → FitsNode version insts at n → AllByRecursion IsWord (node_words version insts n)
+node_is_plain l o version insts few at n most h =
     let t = has_place o insts n.0.inst h.1 in
     let within = slice_get_within insts (place_of n.0.inst insts) t.inst t.there in
-    l.words at (place_of n.0.inst insts) n most (omega (arith, within, few)) h.0
+    l.words version at (place_of n.0.inst insts) n most (omega (arith, within, few)) h.0 h.2
 
-pub all_from : (insts : List Inst) (at : ℕ) (ns : Seeds) → AllFrom (FitsNode insts) at ns → AreFrom at ns
-all_from insts at [] h = tt
-all_from insts at (n ∷ ns) h = (h.0.0, all_from insts (at + 1) ns h.1)
+pub all_from : (version : Version) (insts : List Inst) (at : ℕ) (ns : Seeds) → AllFrom (FitsNode version insts) at ns → AreFrom at ns
+all_from version insts at [] h = tt
+all_from version insts at (n ∷ ns) h = (h.0.0, all_from version insts (at + 1) ns h.1)
 
-pub all_belong : (insts : List Inst) (at : ℕ) (ns : Seeds) → AllFrom (FitsNode insts) at ns → AllByRecursion (Belongs insts) (node_keys ns)
-all_belong insts at [] h = tt
-all_belong insts at (n ∷ ns) h = (h.0.1, all_belong insts (at + 1) ns h.1)
+pub all_belong : (version : Version) (insts : List Inst) (at : ℕ) (ns : Seeds) → AllFrom (FitsNode version insts) at ns → AllByRecursion (Belongs insts) (node_keys ns)
+all_belong version insts at [] h = tt
+all_belong version insts at (n ∷ ns) h = (h.0.1, all_belong version insts (at + 1) ns h.1)
 
-pub all_fit : (insts : List Inst) (at : ℕ) (ns : Seeds) → AreFrom at ns → AllByRecursion (Belongs insts) (node_keys ns) → AllFrom (FitsNode insts) at ns
-all_fit insts at [] h g = tt
-all_fit insts at (n ∷ ns) h g = ((h.0, g.0), all_fit insts (at + 1) ns h.1 g.1)
+pub all_of_version : (version : Version) (insts : List Inst) (at : ℕ) (ns : Seeds) → AllFrom (FitsNode version insts) at ns → AllByRecursion (λ n. NodeIsOf version n) ns
+all_of_version version insts at [] h = tt
+all_of_version version insts at (n ∷ ns) h = (h.0.2, all_of_version version insts (at + 1) ns h.1)
+
+pub all_fit : (version : Version) (insts : List Inst) (at : ℕ) (ns : Seeds) → AreFrom at ns → AllByRecursion (Belongs insts) (node_keys ns) → AllByRecursion (λ n. NodeIsOf version n) ns → AllFrom (FitsNode version insts) at ns
+all_fit version insts at [] h g o = tt
+all_fit version insts at (n ∷ ns) h g o = ((h.0, g.0, o.0), all_fit version insts (at + 1) ns h.1 g.1 o.1)

@@ -1,4 +1,5 @@
 pub mod Items
+pub mod Versions
 pub mod ItemLines
 pub mod Lists
 pub mod Kept

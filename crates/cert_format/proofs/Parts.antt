@@ -20,8 +20,10 @@ use Rattle.witness_replay.specs.Exact.{TextIsReading, ReadIsSpelled as ScheduleI
 use Rattle.cert_format.specs.declared.fault.CertFault.{CertFault}
 use Rattle.cert_format.specs.declared.fault.CertFault.TheVariants as fault
 use Rattle.certificate.specs.Claims.{most_nodes}
-use Rattle.cert_words.specs.Text.{numbered, version, heading, open_line, attained_line, witness_lines, end_line}
-use Rattle.cert_format.specs.Reading.{formed, numbered_in, numbered_by, counted, count_at, count_in, count_by, limited, ending_by, items_from, heading_at, plan_if, witness_at, if_last, end_at}
+use Rattle.certificate.specs.declared.version.Version.{Version}
+use Rattle.certificate.specs.declared.version.Version.TheVariants.{One, Two}
+use Rattle.cert_words.specs.Text.{numbered, version_line, heading, open_line, attained_line, witness_lines, end_line}
+use Rattle.cert_format.specs.Reading.{formed, numbered_in, numbered_by, counted, count_at, count_in, count_by, limited, version_by, ending_by, items_from, heading_at, plan_if, witness_at, if_last, end_at}
 use Rattle.cert_words.proofs.AllLaws.{tested, same_text, word_take, dec_take}
 use Rattle.cert_format.proofs.Lists.{ok_is, err_ok, then_ok, formed_ok, Admitted, Steady, Spells, Reads, as_words, items_take, items_again}
 
@@ -193,19 +195,46 @@ list_again by words P refused reads name xs p q few fit h =
 
 -- ---- the heading
 
-pub heading_take : WordLaws → (p : Place) (z : ℕ × Place) → heading_at p ≡ Ok z → Stand p (heading z.0) z.1 × (z.0 ≤ SIZE)
+version_is : (t : List ℕ) (version : Version) → version_by t ≡ Some version → t ≡ spaced (version_line version)
+unfolding version_by
+version_is t version e =
+    let P : Version → Type 0 = λ x. t ≡ spaced (version_line x) in
+    elim (chosen (bytes_eq t (spaced (version_line One))) _ _ (Some version) e) [
+      | inl h ↦ subst P (some_is One version h.1) ((bytes_eq-Decides t (spaced (version_line One))).0 h.0)
+      | inr h ↦ let g = tested (bytes_eq t (spaced (version_line Two))) Two version h.1 in subst P g.1 ((bytes_eq-Decides t (spaced (version_line Two))).0 g.0)
+    ]
+
+pub version_again : (version : Version) → version_by (spaced (version_line version)) ≡ Some version
+unfolding version_by
+version_again One = refl
+version_again Two = refl
+
+pub version_take : (p : Place) (z : Version × Place) → formed (line_by version_by p) ≡ Ok z → Stand p (version_line z.0 ∷ []) z.1
+version_take p z e =
+    let l = line_takes version_by p z.0 z.1 (formed_ok (line_by version_by p) z e) in
+    as_words version_by p z.0 z.1 l (version_line z.0) (version_is l.text z.0 l.read)
+
+pub version_plain : (version : Version) → AllByRecursion IsWord (version_line version)
+version_plain One = plain (version_line One) refl
+version_plain Two = plain (version_line Two) refl
+
+pub heading_take : WordLaws → (p : Place) (z : (Version × ℕ) × Place) → heading_at p ≡ Ok z → Stand p (heading z.0.0 z.0.1) z.1 × (z.0.1 ≤ SIZE)
 unfolding heading_at
 heading_take k p z e =
-    let v = then_ok (formed (line_by (this_by (spaced version)) p)) _ z e in
-    let b = number_take k (codes "bound") SIZE v.0.1 z (lit< tt) v.2 in
-    (passes_more p v.0.1 z.1 (whole version ∷ []) (whole (numbered (codes "bound") z.0) ∷ []) (this_take version p v.0 v.1) b.0, b.1)
+    let v = then_ok (formed (line_by version_by p)) _ z e in
+    let n = then_ok (formed (line_by (numbered_by (codes "bound") SIZE) v.0.1)) _ z v.2 in
+    let b = number_take k (codes "bound") SIZE v.0.1 n.0 (lit< tt) n.1 in
+    let P : (Version × ℕ) × Place → Type 0 = λ y. Stand p (heading y.0.0 y.0.1) y.1 × (y.0.1 ≤ SIZE) in
+    subst P (ok_is {A = (Version × ℕ) × Place} ((v.0.0, n.0.0), n.0.1) z n.2)
+    (passes_more p v.0.1 n.0.1 (whole (version_line v.0.0) ∷ []) (whole (numbered (codes "bound") n.0.0) ∷ []) (version_take p v.0 v.1) b.0, b.1)
 
-pub heading_again : WordLaws → (p : Place) (n : ℕ) (q : Place) → n ≤ SIZE → Stand p (heading n) q → heading_at p ≡ Ok (n, q)
+pub heading_again : WordLaws → (p : Place) (version : Version) (n : ℕ) (q : Place) → n ≤ SIZE → Stand p (heading version n) q → heading_at p ≡ Ok ((version, n), q)
 unfolding heading_at
-heading_again k p n q small h =
-    let s = passes_split p q (whole version) (whole (numbered (codes "bound") n) ∷ []) h in
-    let first = this_line version p s.0 s.1 in
-    rw first (number_line k (codes "bound") SIZE n s.0 q (plain (codes "bound" ∷ []) refl).0 (lit< tt) small s.2)
+heading_again k p version n q small h =
+    let s = passes_split p q (whole (version_line version)) (whole (numbered (codes "bound") n) ∷ []) h in
+    let first : formed (line_by version_by p) ≡ Ok (version, s.0) = ap formed (line_again version_by p s.0 (spaced (version_line version)) version (version_again version) s.1) in
+    let second = number_line k (codes "bound") SIZE n s.0 q (plain (codes "bound" ∷ []) refl).0 (lit< tt) small s.2 in
+    rw (first, second) refl
 
 -- ---- the schedule
 

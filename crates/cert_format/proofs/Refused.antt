@@ -27,22 +27,24 @@ use Rattle.witness_replay.specs.Spelling.{Plan}
 use Rattle.witness_replay.specs.Reading.{schedule_at}
 use Rattle.witness_replay.specs.Exact.{RefusedIsStuck}
 use Rattle.certificate.specs.declared.instance.Inst.{Inst}
+use Rattle.certificate.specs.declared.version.Version.{Version}
+use Rattle.certificate.specs.declared.version.Version.TheVariants.{Two}
 use Rattle.certificate.specs.Insts.{IsInst, inst_keys}
 use Rattle.certificate.specs.Claims.{Claim, IsClaim, IsCertificate, most_instances, most_nodes, most_cells, cells_of, node_keys}
-use Rattle.cert_words.specs.Text.{numbered, version, heading, entry_lines, inst_lines, node_lines, inst_words, node_words, open_line, attained_line, witness_lines, end_line, front_lines}
+use Rattle.cert_words.specs.Text.{numbered, version_line, heading, entry_lines, inst_lines, node_lines, inst_words, node_words, open_line, attained_line, witness_lines, end_line, front_lines}
 use Rattle.cert_format.specs.declared.fault.CertFault.{CertFault}
 use Rattle.cert_format.specs.declared.fault.CertFault.TheVariants as fault
 use Rattle.certificate.specs.declared.limit.Limit.{Limit}
 use Rattle.certificate.specs.declared.limit.Limit.TheVariants as limit
-use Rattle.cert_format.specs.Reading.{entry_by, inst_by, node_by, numbered_in, numbered_by, count_in, count_by, ending_by, formed, limited, last_in, is_inst_above, is_node_above, refused_entry, refused_inst, refused_node, heading_at, entries_at, insts_at, nodes_at, plan_if, witness_at, if_last, end_at, claim_at, claim_alone, certificate_in}
-use Rattle.cert_format.specs.Refusals.{Part, Version, Bound, Assume, AnEntry, Instances, AnInst, Nodes, ANode, Ending, End, Nothing, Stands, IsNext, IsNumbered, AreNodes, IsLow, IsTooMuch, IsStopped, IsRefused, IsDue, IsDueUnlessMemory, ReadIsDue, start}
+use Rattle.cert_format.specs.Reading.{entry_by, inst_by, node_by, numbered_in, numbered_by, count_in, count_by, version_by, ending_by, formed, limited, last_in, is_inst_above, is_node_above, refused_entry, refused_inst, refused_node, heading_at, entries_at, insts_at, nodes_at, plan_if, witness_at, if_last, end_at, claim_at, claim_alone, certificate_in}
+use Rattle.cert_format.specs.Refusals.{Part, Begin, Bound, Assume, AnEntry, Instances, AnInst, Nodes, ANode, Ending, End, Nothing, Stands, IsNext, IsNumbered, AreNodes, IsLow, IsTooMuch, IsStopped, IsRefused, IsDue, IsDueUnlessMemory, ReadIsDue, start}
 use Rattle.cert_format.proofs.Numbers.{decimal_word, nodes_count, too_many}
 use Rattle.cert_format.proofs.Lists.{err_ok, formed_ok, AllFrom, all_of_any, admitted_all, as_words, sorted_at, sorted_push, lines}
 use Rattle.cert_format.proofs.Items.{cells_more}
-use Rattle.cert_format.proofs.Kept.{AnyEntry, entry_steady, entries_kept, entry_spells, entry_reads, AnyInst, inst_steady, insts_kept, inst_spells, inst_reads, inst_above_is, FitsNode, node_steady, NodesKeep, nodes_kept, node_spells, node_reads, node_above_is, keys_append, all_fit}
-use Rattle.cert_format.proofs.Parts.{Stand, stand_more, plain, numbered_again, numbered_plain, number_take, nodes_take, this_again, this_take, heading_take, witness_part, ending_again, ending_words, ending_is}
+use Rattle.cert_format.proofs.Kept.{AnyEntry, entry_steady, entries_kept, entry_spells, entry_reads, AnyInst, inst_steady, insts_kept, inst_spells, inst_reads, inst_above_is, FitsNode, node_steady, NodesKeep, nodes_kept, node_spells, node_reads, node_above_is, keys_append}
+use Rattle.cert_format.proofs.Parts.{Stand, stand_more, plain, numbered_again, numbered_plain, number_take, nodes_take, this_again, this_take, version_again, version_take, heading_take, witness_part, ending_again, ending_words, ending_is}
 use Rattle.cert_format.proofs.Stops.{err_is, then_stop, formed_err, line_stop, not_next, is_next, Stop, ItemRefused, items_stop}
-use Rattle.cert_format.proofs.Whole.{Below, entries_take, insts_take, nodes_part, claim_of, read_is_spelled}
+use Rattle.cert_format.proofs.Whole.{Below, entries_take, insts_take, nodes_part, claim_of, fitting_nodes, read_is_spelled}
 
 -- ---- claims of the parts that are read
 
@@ -54,21 +56,22 @@ no_nodes : NodesKeep []
 unfolding IsStrictlySortedBy cells_of
 no_nodes = record { ascend = tt; few = omega arith }
 
-abbrev claim_to : ℕ → List Entry → List Inst → Seeds → Option Plan → Claim
-claim_to n es xs ns w = record { bound = n; assumptions = es; instances = xs; nodes = ns; witness = w }
+abbrev claim_to : Version → ℕ → List Entry → List Inst → Seeds → Option Plan → Claim
+claim_to version n es xs ns w = record { version = version; bound = n; assumptions = es; instances = xs; nodes = ns; witness = w }
 
-certificate_of : (n : ℕ) (es : List Entry) (xs : List Inst) (ns : Seeds) → n ≤ SIZE → AreEntries es → AllByRecursion IsInst xs → IsStrictlySortedBy inst_cmp (inst_keys xs) → length xs ≤ most_instances
-    → AllFrom (FitsNode xs) 0 ns → NodesKeep ns → length ns ≤ most_nodes → IsCertificate (claim_to n es xs ns None)
-certificate_of n es xs ns small he hx ax few hn kn most = record { claim = claim_of n es xs ns None small he hx ax few hn kn most; schedule = tt }
+certificate_of : (version : Version) (n : ℕ) (es : List Entry) (xs : List Inst) (ns : Seeds) → n ≤ SIZE → AreEntries es → AllByRecursion IsInst xs → IsStrictlySortedBy inst_cmp (inst_keys xs) → length xs ≤ most_instances
+    → AllFrom (FitsNode version xs) 0 ns → NodesKeep ns → length ns ≤ most_nodes → IsCertificate (claim_to version n es xs ns None)
+certificate_of version n es xs ns small he hx ax few hn kn most = record { claim = claim_of version n es xs ns None small he hx ax few hn kn most; schedule = tt }
 
-bound_only : (n : ℕ) → n ≤ SIZE → IsCertificate (claim_to n [] [] [] None)
-bound_only n small = certificate_of n [] [] [] small none_are_entries tt no_insts (omega arith) tt no_nodes (omega arith)
+bound_only : (version : Version) (n : ℕ) → n ≤ SIZE → IsCertificate (claim_to version n [] [] [] None)
+bound_only version n small = certificate_of version n [] [] [] small none_are_entries tt no_insts (omega arith) tt no_nodes (omega arith)
 
-with_entries : (n : ℕ) (es : List Entry) → n ≤ SIZE → AreEntries es → IsCertificate (claim_to n es [] [] None)
-with_entries n es small h = certificate_of n es [] [] small h tt no_insts (omega arith) tt no_nodes (omega arith)
+with_entries : (version : Version) (n : ℕ) (es : List Entry) → n ≤ SIZE → AreEntries es → IsCertificate (claim_to version n es [] [] None)
+with_entries version n es small h = certificate_of version n es [] [] small h tt no_insts (omega arith) tt no_nodes (omega arith)
 
-with_insts : (n : ℕ) (es : List Entry) (xs : List Inst) → n ≤ SIZE → AreEntries es → AllByRecursion IsInst xs → IsStrictlySortedBy inst_cmp (inst_keys xs) → length xs ≤ most_instances → IsCertificate (claim_to n es xs [] None)
-with_insts n es xs small h hx ax few = certificate_of n es xs [] small h hx ax few tt no_nodes (omega arith)
+with_insts : (version : Version) (n : ℕ) (es : List Entry) (xs : List Inst) → n ≤ SIZE → AreEntries es → AllByRecursion IsInst xs → IsStrictlySortedBy inst_cmp (inst_keys xs) → length xs ≤ most_instances
+    → IsCertificate (claim_to version n es xs [] None)
+with_insts version n es xs small h hx ax few = certificate_of version n es xs [] small h hx ax few tt no_nodes (omega arith)
 
 -- ---- a line that isn't of its form
 
@@ -89,16 +92,22 @@ no_this line ls none ws next h = not_next (this_by (spaced line)) ls ws tt none 
 
 -- ---- the heading
 
+no_version : (ls : List TextLine) → first_by version_by ls ≡ None → (ws : List (List ℕ)) → IsNext ls ws → (version : Version) × (ws ≡ version_line version) → ⊥
+no_version ls none ws next h = not_next version_by ls ws h.0 none next (ap (λ (xs : List (List ℕ)). version_by (spaced xs)) h.1 ∙ version_again h.0)
+
 heading_stops : WordLaws → (p : Place) (g : CertFault) → heading_at p ≡ Err g → IsRefused p g
 unfolding heading_at
-heading_stops k p g e = elim (then_stop (formed (line_by (this_by (spaced version)) p)) _ g e) [
+heading_stops k p g e = elim (then_stop (formed (line_by version_by p)) _ g e) [
   | inl h ↦
-      let t = line_stop (this_by (spaced version)) p g h in
-      malformed p (claim_to 0 [] [] [] None) Version p g (record { fits = bound_only 0 (omega arith); room = tt; lines = passes_none p }) (no_this version p.rest t.0) t.1
-  | inr v ↦
-      let t = line_stop (numbered_by (codes "bound") SIZE) v.0.1 g v.2 in
-      malformed p (claim_to 0 [] [] [] None) Bound v.0.1 g (record { fits = bound_only 0 (omega arith); room = tt; lines = this_take version p v.0 v.1 })
-      (no_number k (codes "bound") SIZE v.0.1.rest (plain (codes "bound" ∷ []) refl).0 (lit< tt) t.0) t.1
+      let t = line_stop version_by p g h in
+      malformed p (claim_to Two 0 [] [] [] None) Begin p g (record { fits = bound_only Two 0 (omega arith); room = tt; lines = passes_none p }) (no_version p.rest t.0) t.1
+  | inr v ↦ elim (then_stop (formed (line_by (numbered_by (codes "bound") SIZE) v.0.1)) _ g v.2) [
+    | inl h ↦
+        let t = line_stop (numbered_by (codes "bound") SIZE) v.0.1 g h in
+        malformed p (claim_to v.0.0 0 [] [] [] None) Bound v.0.1 g (record { fits = bound_only v.0.0 0 (omega arith); room = tt; lines = version_take p v.0 v.1 })
+        (no_number k (codes "bound") SIZE v.0.1.rest (plain (codes "bound" ∷ []) refl).0 (lit< tt) t.0) t.1
+    | inr b ↦ absurd (err_ok {A = (Version × ℕ) × Place} g ((v.0.0, b.0.0), b.0.1) (sym b.2))
+  ]
 ]
 
 -- ---- a list
@@ -134,19 +143,19 @@ entry_stops b p c n q g h stop = elim stop [
   | inr r ↦ let low = entry_low c.assumptions r.item q.at g r.refuses in out_of_order p c (AnEntry n) q (entry_words r.item) g h r.next (r.item, r.fits, refl, low.0) low.1
 ]
 
-entries_stops : Below → (p a : Place) (n : ℕ) (g : CertFault) → n ≤ SIZE → Stand p (heading n) a → entries_at a ≡ Err g → IsRefused p g
+entries_stops : Below → (version : Version) (p a : Place) (n : ℕ) (g : CertFault) → n ≤ SIZE → Stand p (heading version n) a → entries_at a ≡ Err g → IsRefused p g
 unfolding entries_at
-entries_stops b p a n g small h e = elim (then_stop (formed (line_by (numbered_by (codes "assume") most_entries) a)) _ g e) [
+entries_stops b version p a n g small h e = elim (then_stop (formed (line_by (numbered_by (codes "assume") most_entries) a)) _ g e) [
   | inl f ↦
       let t = line_stop (numbered_by (codes "assume") most_entries) a g f in
-      malformed p (claim_to n [] [] [] None) Assume a g (record { fits = bound_only n small; room = tt; lines = h })
+      malformed p (claim_to version n [] [] [] None) Assume a g (record { fits = bound_only version n small; room = tt; lines = h })
       (no_number b.words (codes "assume") most_entries a.rest (plain (codes "assume" ∷ []) refl).0 (lit< tt) t.0) t.1
   | inr m ↦
       let count = number_take b.words (codes "assume") most_entries a m.0 (lit< tt) m.1 in
       let s = items_stop (λ at. entry_by) entry_words AnyEntry refused_entry (entry_spells b.words b.entries) entry_steady [] m.0.0 m.0.1 g m.2 in
       let entries = entries_kept s.items (omega (arith, s.fewer, count.1)) s.fit in
-      entry_stops b p (claim_to n s.items [] [] None) m.0.0 s.place g
-      (record { fits = with_entries n s.items small entries; room = (s.fewer, count.1); lines = behind entry_words (codes "assume") (heading n) p a m.0.1 s.place m.0.0 s.items h count.0 s.passes }) s.stop
+      entry_stops b p (claim_to version n s.items [] [] None) m.0.0 s.place g
+      (record { fits = with_entries version n s.items small entries; room = (s.fewer, count.1); lines = behind entry_words (codes "assume") (heading version n) p a m.0.1 s.place m.0.0 s.items h count.0 s.passes }) s.stop
 ]
 
 -- ---- instances
@@ -164,25 +173,25 @@ inst_stops b p c n q g h stop = elim stop [
   | inr r ↦ let low = inst_low c.instances r.item q.at g r.refuses in out_of_order p c (AnInst n) q (inst_words r.item) g h r.next (r.item, r.fits, refl, not_ascending c.instances r.item low.0) low.1
 ]
 
-insts_stops : Below → (p a d : Place) (n : ℕ) (es : List Entry) (g : CertFault) → n ≤ SIZE → AreEntries es → Stand p (heading n) a → Stand a (entry_lines es) d → insts_at d ≡ Err g → IsRefused p g
+insts_stops : Below → (version : Version) (p a d : Place) (n : ℕ) (es : List Entry) (g : CertFault) → n ≤ SIZE → AreEntries es → Stand p (heading version n) a → Stand a (entry_lines es) d → insts_at d ≡ Err g → IsRefused p g
 unfolding insts_at
-insts_stops b p a d n es g small he h k e =
-    let front = stand_more p a d (heading n) (entry_lines es) h k in
+insts_stops b version p a d n es g small he h k e =
+    let front = stand_more p a d (heading version n) (entry_lines es) h k in
     elim (then_stop (formed (line_by (numbered_by (codes "instances") most_instances) d)) _ g e) [
       | inl f ↦
           let t = line_stop (numbered_by (codes "instances") most_instances) d g f in
-          malformed p (claim_to n es [] [] None) Instances d g (record { fits = with_entries n es small he; room = tt; lines = front })
+          malformed p (claim_to version n es [] [] None) Instances d g (record { fits = with_entries version n es small he; room = tt; lines = front })
           (no_number b.words (codes "instances") most_instances d.rest (plain (codes "instances" ∷ []) refl).0 (lit< tt) t.0) t.1
       | inr m ↦
           let count = number_take b.words (codes "instances") most_instances d m.0 (lit< tt) m.1 in
           let s = items_stop (λ at. inst_by) inst_words AnyInst refused_inst (inst_spells b.words b.insts) inst_steady [] m.0.0 m.0.1 g m.2 in
           let fit = all_of_any IsInst 0 s.items (admitted_all AnyInst refused_inst [] s.items s.fit) in
           let some = behind inst_words (codes "instances") (entry_lines es) a d m.0.1 s.place m.0.0 s.items k count.0 s.passes in
-          inst_stops b p (claim_to n es s.items [] None) m.0.0 s.place g
+          inst_stops b p (claim_to version n es s.items [] None) m.0.0 s.place g
           (record {
-            fits = with_insts n es s.items small he fit (insts_kept b.keys s.items s.fit) (omega (arith, s.fewer, count.1));
+            fits = with_insts version n es s.items small he fit (insts_kept b.keys s.items s.fit) (omega (arith, s.fewer, count.1));
             room = (s.fewer, count.1);
-            lines = stand_more p a s.place (heading n) (entry_lines es ++ numbered (codes "instances") m.0.0 ∷ map inst_words s.items) h some;
+            lines = stand_more p a s.place (heading version n) (entry_lines es ++ numbered (codes "instances") m.0.0 ∷ map inst_words s.items) h some;
           }) s.stop
     ]
 
@@ -208,28 +217,28 @@ too_much b c n ascend up room =
       omega (arith, full, cells_more c.nodes n),
     )
 
-node_refused : Below → (p : Place) (c : Claim) (n : ℕ) (q : Place) (g : CertFault) → Stands p c (ANode n) q → ItemRefused (node_words c.instances) (FitsNode c.instances) refused_node c.nodes q g → IsRefused p g
+node_refused : Below → (p : Place) (c : Claim) (n : ℕ) (q : Place) (g : CertFault) → Stands p c (ANode n) q → ItemRefused (node_words c.version c.instances) (FitsNode c.version c.instances) refused_node c.nodes q g → IsRefused p g
 node_refused b p c n q g h r =
     let P : CertFault → Type 0 = λ f. IsRefused p f in
     elim (node_low_by (is_node_above (last_in c.nodes) r.item.0) (nat_le (cells_of (node_keys c.nodes) + (1 + offset_of r.item.0.sp)) most_cells) (fault.Limit limit.Cells) (fault.Order q.at) g r.refuses) [
-      | inl low ↦ out_of_order p c (ANode n) q (node_words c.instances r.item) g h r.next (r.item, r.fits.0, r.fits.1, refl, nodes_not_ascending c.nodes r.item low.0) low.1
+      | inl low ↦ out_of_order p c (ANode n) q (node_words c.version c.instances r.item) g h r.next (r.item, r.fits.0, r.fits.1, r.fits.2, refl, nodes_not_ascending c.nodes r.item low.0) low.1
       | inr full ↦ subst P (sym full.2) (record {
         claim = c;
         part = ANode n;
         place = q;
-        words = node_words c.instances r.item;
+        words = node_words c.version c.instances r.item;
         stands = h;
         next = r.next;
-        past = (r.item, r.fits.0, r.fits.1, refl, too_much b c r.item h.fits.claim.nodes_ascend full.0 full.1);
+        past = (r.item, r.fits.0, r.fits.1, r.fits.2, refl, too_much b c r.item h.fits.claim.nodes_ascend full.0 full.1);
       })
     ]
 
-node_stops : Below → (p : Place) (c : Claim) (n : ℕ) (q : Place) (g : CertFault) → Stands p c (ANode n) q → Stop (node_by c.instances) (node_words c.instances) (FitsNode c.instances) refused_node c.nodes q g → IsRefused p g
+node_stops : Below → (p : Place) (c : Claim) (n : ℕ) (q : Place) (g : CertFault) → Stands p c (ANode n) q → Stop (node_by c.version c.instances) (node_words c.version c.instances) (FitsNode c.version c.instances) refused_node c.nodes q g → IsRefused p g
 node_stops b p c n q g h stop = elim stop [
   | inl f ↦ malformed p c (ANode n) q g h
-      (λ ws next form. not_next (node_by c.instances (length c.nodes)) q.rest ws form.0 f.0 next
-      (ap (λ (xs : List (List ℕ)). node_by c.instances (length c.nodes) (spaced xs)) form.3
-      ∙ node_reads b.words b.nodes b.keys c.instances h.fits.claim.few_insts (length c.nodes) form.0 (omega (arith, h.fits.claim.few_nodes)) (form.1, form.2))) f.1
+      (λ ws next form. not_next (node_by c.version c.instances (length c.nodes)) q.rest ws form.0 f.0 next
+      (ap (λ (xs : List (List ℕ)). node_by c.version c.instances (length c.nodes) (spaced xs)) form.4
+      ∙ node_reads b.words b.nodes b.keys c.version c.instances h.fits.claim.few_insts (length c.nodes) form.0 (omega (arith, h.fits.claim.few_nodes)) (form.1, form.2, form.3))) f.1
   | inr r ↦ node_refused b p c n q g h r
 ]
 
@@ -263,23 +272,23 @@ count_stops b p c q g h e =
           })
     ]
 
-nodes_stops : Below → (p a d f : Place) (n : ℕ) (es : List Entry) (xs : List Inst) (g : CertFault) → n ≤ SIZE → AreEntries es → AllByRecursion IsInst xs → IsStrictlySortedBy inst_cmp (inst_keys xs) → length xs ≤ most_instances
-    → Stand p (heading n) a → Stand a (entry_lines es) d → Stand d (inst_lines xs) f → nodes_at xs f ≡ Err g → IsRefused p g
+nodes_stops : Below → (version : Version) (p a d f : Place) (n : ℕ) (es : List Entry) (xs : List Inst) (g : CertFault) → n ≤ SIZE → AreEntries es → AllByRecursion IsInst xs → IsStrictlySortedBy inst_cmp (inst_keys xs) → length xs ≤ most_instances
+    → Stand p (heading version n) a → Stand a (entry_lines es) d → Stand d (inst_lines xs) f → nodes_at version xs f ≡ Err g → IsRefused p g
 unfolding nodes_at
-nodes_stops b p a d f n es xs g small he hx ax few h k j e =
-    let front = stand_more p a f (heading n) (entry_lines es ++ inst_lines xs) h (stand_more a d f (entry_lines es) (inst_lines xs) k j) in
+nodes_stops b version p a d f n es xs g small he hx ax few h k j e =
+    let front = stand_more p a f (heading version n) (entry_lines es ++ inst_lines xs) h (stand_more a d f (entry_lines es) (inst_lines xs) k j) in
     elim (then_stop (limited (formed (line_by count_by f))) _ g e) [
-      | inl l ↦ count_stops b p (claim_to n es xs [] None) f g (record { fits = with_insts n es xs small he hx ax few; room = tt; lines = front }) l
+      | inl l ↦ count_stops b p (claim_to version n es xs [] None) f g (record { fits = with_insts version n es xs small he hx ax few; room = tt; lines = front }) l
       | inr m ↦
           let count = nodes_take b.words f m.0 m.1 in
-          let s = items_stop (node_by xs) (node_words xs) (FitsNode xs) refused_node (node_spells b.words b.nodes b.keys xs ax) node_steady [] m.0.0 m.0.1 g m.2 in
-          let some = behind (node_words xs) (codes "nodes") (inst_lines xs) d f m.0.1 s.place m.0.0 s.items j count.0 s.passes in
-          node_stops b p (claim_to n es xs s.items None) m.0.0 s.place g
+          let s = items_stop (node_by version xs) (node_words version xs) (FitsNode version xs) refused_node (node_spells b.words b.nodes b.keys version xs ax) node_steady [] m.0.0 m.0.1 g m.2 in
+          let some = behind (node_words version xs) (codes "nodes") (inst_lines xs) d f m.0.1 s.place m.0.0 s.items j count.0 s.passes in
+          node_stops b p (claim_to version n es xs s.items None) m.0.0 s.place g
           (record {
-            fits = certificate_of n es xs s.items small he hx ax few (admitted_all (FitsNode xs) refused_node [] s.items s.fit) (nodes_kept b.keys xs s.items s.fit) (omega (arith, s.fewer, count.1));
+            fits = certificate_of version n es xs s.items small he hx ax few (admitted_all (FitsNode version xs) refused_node [] s.items s.fit) (nodes_kept b.keys version xs s.items s.fit) (omega (arith, s.fewer, count.1));
             room = (s.fewer, count.1);
-            lines = stand_more p a s.place (heading n) (entry_lines es ++ (inst_lines xs ++ numbered (codes "nodes") m.0.0 ∷ map (node_words xs) s.items)) h
-                (stand_more a d s.place (entry_lines es) (inst_lines xs ++ numbered (codes "nodes") m.0.0 ∷ map (node_words xs) s.items) k some);
+            lines = stand_more p a s.place (heading version n) (entry_lines es ++ (inst_lines xs ++ numbered (codes "nodes") m.0.0 ∷ map (node_words version xs) s.items)) h
+                (stand_more a d s.place (entry_lines es) (inst_lines xs ++ numbered (codes "nodes") m.0.0 ∷ map (node_words version xs) s.items) k some);
           }) s.stop
     ]
 
@@ -331,13 +340,13 @@ end_stops p c q r g h front witness e = elim (then_stop (formed (line_by (this_b
 
 -- ---- the whole
 
-behind_nodes : Below → (p : Place) (n : ℕ) (es : List Entry) (xs : List Inst) (ns : Seeds) (q : Place) (g : CertFault) → IsCertificate (claim_to n es xs ns None) → Stand p (front_lines (claim_to n es xs ns None)) q
-    → (r : Place × Option Plan) → witness_at q ≡ Ok (r.1, r.0) → end_at r.0 ≡ Err g → IsRefused p g
-behind_nodes b p n es xs ns q g h front r e f =
+behind_nodes : Below → (version : Version) (p : Place) (n : ℕ) (es : List Entry) (xs : List Inst) (ns : Seeds) (q : Place) (g : CertFault) → IsCertificate (claim_to version n es xs ns None)
+    → Stand p (front_lines (claim_to version n es xs ns None)) q → (r : Place × Option Plan) → witness_at q ≡ Ok (r.1, r.0) → end_at r.0 ≡ Err g → IsRefused p g
+behind_nodes b version p n es xs ns q g h front r e f =
     let w = witness_part b.schedule_spelled q (r.1, r.0) e in
-    end_stops p (claim_to n es xs ns r.1) q r.0 g
+    end_stops p (claim_to version n es xs ns r.1) q r.0 g
     (record {
-      claim = claim_of n es xs ns r.1 h.claim.bound_fits h.claim.entries_fit h.claim.insts_fit h.claim.insts_ascend h.claim.few_insts (all_fit xs 0 ns h.claim.nodes_fit h.claim.nodes_belong)
+      claim = claim_of version n es xs ns r.1 h.claim.bound_fits h.claim.entries_fit h.claim.insts_fit h.claim.insts_ascend h.claim.few_insts (fitting_nodes (claim_to version n es xs ns None) h.claim)
           (record { ascend = h.claim.nodes_ascend; few = h.claim.few_cells }) h.claim.few_nodes;
       schedule = w.schedule;
     }) front w.lines f
@@ -349,29 +358,30 @@ claim_stops k stuck p g e = elim (then_stop (heading_at p) _ g e) [
   | inr b ↦
       let top = heading_take k.words p b.0 b.1 in
       elim (then_stop (entries_at b.0.1) _ g b.2) [
-        | inl h ↦ entries_stops k p b.0.1 b.0.0 g top.1 top.0 h
+        | inl h ↦ entries_stops k b.0.0.0 p b.0.1 b.0.0.1 g top.1 top.0 h
         | inr a ↦
             let entries = entries_take k b.0.1 a.0 a.1 in
             let are = entries_kept a.0.0 entries.few entries.fit in
             elim (then_stop (insts_at a.0.1) _ g a.2) [
-              | inl h ↦ insts_stops k p b.0.1 a.0.1 b.0.0 a.0.0 g top.1 are top.0 entries.lines h
+              | inl h ↦ insts_stops k b.0.0.0 p b.0.1 a.0.1 b.0.0.1 a.0.0 g top.1 are top.0 entries.lines h
               | inr i ↦
                   let insts = insts_take k a.0.1 i.0 i.1 in
                   let ascend = insts_kept k.keys i.0.0 insts.fit in
                   let fit = all_of_any IsInst 0 i.0.0 (admitted_all AnyInst refused_inst [] i.0.0 insts.fit) in
-                  elim (then_stop (nodes_at i.0.0 i.0.1) _ g i.2) [
-                    | inl h ↦ nodes_stops k p b.0.1 a.0.1 i.0.1 b.0.0 a.0.0 i.0.0 g top.1 are fit ascend insts.few top.0 entries.lines insts.lines h
+                  elim (then_stop (nodes_at b.0.0.0 i.0.0 i.0.1) _ g i.2) [
+                    | inl h ↦ nodes_stops k b.0.0.0 p b.0.1 a.0.1 i.0.1 b.0.0.1 a.0.0 i.0.0 g top.1 are fit ascend insts.few top.0 entries.lines insts.lines h
                     | inr n ↦
-                        let nodes = nodes_part k i.0.0 ascend i.0.1 n.0 n.1 in
-                        let c = claim_to b.0.0 a.0.0 i.0.0 n.0.0 None in
-                        let whole_claim = certificate_of b.0.0 a.0.0 i.0.0 n.0.0 top.1 are fit ascend insts.few (admitted_all (FitsNode i.0.0) refused_node [] n.0.0 nodes.fit) (nodes_kept k.keys i.0.0 n.0.0 nodes.fit) nodes.few in
-                        let front = stand_more p b.0.1 n.0.1 (heading b.0.0) (entry_lines a.0.0 ++ (inst_lines i.0.0 ++ node_lines i.0.0 n.0.0)) top.0
-                        (stand_more b.0.1 a.0.1 n.0.1 (entry_lines a.0.0) (inst_lines i.0.0 ++ node_lines i.0.0 n.0.0) entries.lines (stand_more a.0.1 i.0.1 n.0.1 (inst_lines i.0.0) (node_lines i.0.0 n.0.0) insts.lines nodes.lines)) in
+                        let nodes = nodes_part k b.0.0.0 i.0.0 ascend i.0.1 n.0 n.1 in
+                        let c = claim_to b.0.0.0 b.0.0.1 a.0.0 i.0.0 n.0.0 None in
+                        let whole_claim =
+                        certificate_of b.0.0.0 b.0.0.1 a.0.0 i.0.0 n.0.0 top.1 are fit ascend insts.few (admitted_all (FitsNode b.0.0.0 i.0.0) refused_node [] n.0.0 nodes.fit) (nodes_kept k.keys b.0.0.0 i.0.0 n.0.0 nodes.fit) nodes.few in
+                        let front = stand_more p b.0.1 n.0.1 (heading b.0.0.0 b.0.0.1) (entry_lines a.0.0 ++ (inst_lines i.0.0 ++ node_lines b.0.0.0 i.0.0 n.0.0)) top.0
+                        (stand_more b.0.1 a.0.1 n.0.1 (entry_lines a.0.0) (inst_lines i.0.0 ++ node_lines b.0.0.0 i.0.0 n.0.0) entries.lines (stand_more a.0.1 i.0.1 n.0.1 (inst_lines i.0.0) (node_lines b.0.0.0 i.0.0 n.0.0) insts.lines nodes.lines)) in
                         elim (then_stop (witness_at n.0.1) _ g n.2) [
                           | inl h ↦ witness_stops stuck p c n.0.1 g whole_claim front h
                           | inr w ↦ elim (then_stop (end_at w.0.1) _ g w.2) [
-                            | inl h ↦ behind_nodes k p b.0.0 a.0.0 i.0.0 n.0.0 n.0.1 g whole_claim front (w.0.1, w.0.0) w.1 h
-                            | inr d ↦ absurd (err_ok {A = Claim × Place} g (claim_to b.0.0 a.0.0 i.0.0 n.0.0 w.0.0, d.0.1) (sym d.2))
+                            | inl h ↦ behind_nodes k b.0.0.0 p b.0.0.1 a.0.0 i.0.0 n.0.0 n.0.1 g whole_claim front (w.0.1, w.0.0) w.1 h
+                            | inr d ↦ absurd (err_ok {A = Claim × Place} g (claim_to b.0.0.0 b.0.0.1 a.0.0 i.0.0 n.0.0 w.0.0, d.0.1) (sym d.2))
                           ]
                         ]
                   ]

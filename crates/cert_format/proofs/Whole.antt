@@ -20,18 +20,20 @@ use Rattle.edge_rules.specs.Expansion.{Seeds}
 use Rattle.witness_replay.specs.Spelling.{Plan}
 use Rattle.witness_replay.specs.Exact.{TextIsReading, ReadIsSpelled as ScheduleIsSpelled, SpelledIsRead as ScheduleIsRead}
 use Rattle.certificate.specs.declared.instance.Inst.{Inst}
+use Rattle.certificate.specs.declared.version.Version.{Version}
 use Rattle.cert_format.specs.declared.fault.CertFault.{CertFault}
 use Rattle.cert_format.specs.declared.fault.CertFault.TheVariants as fault
 use Rattle.certificate.specs.Insts.{IsInst, inst_keys}
 use Rattle.certificate.specs.Claims.{Claim, IsClaim, IsCertificate, most_instances, most_nodes}
 use Rattle.cert_format.specs.LineLaws.{InstLines, NodeLines}
-use Rattle.cert_words.specs.Text.{inst_words, node_words, version, heading, entry_lines, inst_lines, node_lines, witness_lines, end_line, front_lines, certificate_lines, text_of}
+use Rattle.cert_words.specs.Text.{inst_words, node_words, heading, entry_lines, inst_lines, node_lines, witness_lines, end_line, front_lines, certificate_lines, text_of}
 use Rattle.cert_format.specs.Reading.{entry_by, inst_by, node_by, refused_entry, refused_inst, refused_node, formed, numbered_by, count_by, limited, heading_at, entries_at, insts_at, nodes_at, witness_at, end_at, claim_at, claim_alone, certificate_in}
 use Rattle.cert_format.specs.Exact.{ReadIsSpelled, SpelledIsRead, OneText, PartsMakeClaims}
 use Rattle.line_reading.specs.Reading.{line_by}
 use Rattle.cert_format.proofs.Lists.{ok_is, err_ok, then_ok, AllFrom, all_of_any, admitted_all}
-use Rattle.cert_format.proofs.Kept.{FitsEntry, AnyEntry, entry_steady, entries_kept, entries_admitted, entry_spells, entry_reads, AnyInst, inst_steady, insts_kept, insts_admitted, inst_spells, inst_reads, FitsNode, node_steady, NodesKeep, nodes_kept, nodes_admitted, node_spells, node_reads, node_is_plain, all_from, all_belong, all_fit}
-use Rattle.cert_format.proofs.Parts.{Stand, stand_more, stand_cut, before, stand, plain, numbered_plain, number_take, number_line, nodes_take, nodes_line, ListPart, list_take, list_again, heading_take, heading_again, witness_part, witness_again, end_part, end_again}
+use Rattle.cert_format.proofs.Kept.{FitsEntry, AnyEntry, entry_steady, entries_kept, entries_admitted, entry_spells, entry_reads, AnyInst, inst_steady, insts_kept, insts_admitted, inst_spells, inst_reads, FitsNode, node_steady, NodesKeep, nodes_kept, nodes_admitted, node_spells, node_reads, node_is_plain, all_from, all_belong, all_of_version, all_fit}
+use Rattle.cert_format.proofs.Versions.{each_of, are_of}
+use Rattle.cert_format.proofs.Parts.{Stand, stand_more, stand_cut, before, stand, plain, numbered_plain, number_take, number_line, nodes_take, nodes_line, ListPart, list_take, list_again, version_plain, heading_take, heading_again, witness_part, witness_again, end_part, end_again}
 
 -- what the laws of the lower crates say
 pub record Below : Type 0 where
@@ -75,46 +77,49 @@ insts_again b p xs q ascend all few s =
     let count = number_line b.words (codes "instances") most_instances (length xs) p r.0 (plain (codes "instances" ∷ []) refl).0 (lit< tt) few r.1 in
     rw count r.2
 
-pub nodes_part : Below → (insts : List Inst) → IsStrictlySortedBy inst_cmp (inst_keys insts) → (p : Place) (z : Seeds × Place) → nodes_at insts p ≡ Ok z → ListPart (codes "nodes") most_nodes (node_words insts) (FitsNode insts) refused_node p z
+pub nodes_part : Below → (version : Version) (insts : List Inst) → IsStrictlySortedBy inst_cmp (inst_keys insts) → (p : Place) (z : Seeds × Place) → nodes_at version insts p ≡ Ok z
+    → ListPart (codes "nodes") most_nodes (node_words version insts) (FitsNode version insts) refused_node p z
 unfolding nodes_at
-nodes_part b insts ascend p z e =
+nodes_part b version insts ascend p z e =
     let n = then_ok (limited (formed (line_by count_by p))) _ z e in
     let count = nodes_take b.words p n.0 n.1 in
-    list_take (node_by insts) (node_words insts) (FitsNode insts) refused_node (node_spells b.words b.nodes b.keys insts ascend) node_steady (codes "nodes") most_nodes n.0.0 p n.0.1 z count.0 count.1 n.2
+    list_take (node_by version insts) (node_words version insts) (FitsNode version insts) refused_node (node_spells b.words b.nodes b.keys version insts ascend) node_steady (codes "nodes") most_nodes n.0.0 p n.0.1 z count.0 count.1 n.2
 
-nodes_again : Below → (insts : List Inst) → length insts ≤ most_instances → (p : Place) (ns : Seeds) (q : Place) → NodesKeep ns → AllFrom (FitsNode insts) 0 ns → length ns ≤ most_nodes → Stand p (node_lines insts ns) q → nodes_at insts p ≡ Ok (ns, q)
+nodes_again : Below → (version : Version) (insts : List Inst) → length insts ≤ most_instances → (p : Place) (ns : Seeds) (q : Place) → NodesKeep ns → AllFrom (FitsNode version insts) 0 ns → length ns ≤ most_nodes
+    → Stand p (node_lines version insts ns) q → nodes_at version insts p ≡ Ok (ns, q)
 unfolding nodes_at
-nodes_again b insts few p ns q keep all most s =
-    let r = list_again (node_by insts) (node_words insts) (FitsNode insts) refused_node (node_reads b.words b.nodes b.keys insts few) (codes "nodes") ns p q (omega (arith, most)) (nodes_admitted insts ns keep all) s in
+nodes_again b version insts few p ns q keep all most s =
+    let r = list_again (node_by version insts) (node_words version insts) (FitsNode version insts) refused_node (node_reads b.words b.nodes b.keys version insts few) (codes "nodes") ns p q (omega (arith, most)) (nodes_admitted version insts ns keep all) s in
     let count = nodes_line b.words (length ns) p r.0 most r.1 in
     rw count r.2
 
 -- ---- what is read is spelled so
 
-pub claim_of : (n : ℕ) (es : List Entry) (xs : List Inst) (ns : Seeds) (w : Option Plan) → n ≤ SIZE → AreEntries es → AllByRecursion IsInst xs → IsStrictlySortedBy inst_cmp (inst_keys xs) → length xs ≤ most_instances
-    → AllFrom (FitsNode xs) 0 ns → NodesKeep ns → length ns ≤ most_nodes → IsClaim (record { bound = n; assumptions = es; instances = xs; nodes = ns; witness = w })
-claim_of n es xs ns w small he hx ax few hn kn most = record {
+pub claim_of : (version : Version) (n : ℕ) (es : List Entry) (xs : List Inst) (ns : Seeds) (w : Option Plan) → n ≤ SIZE → AreEntries es → AllByRecursion IsInst xs → IsStrictlySortedBy inst_cmp (inst_keys xs) → length xs ≤ most_instances
+    → AllFrom (FitsNode version xs) 0 ns → NodesKeep ns → length ns ≤ most_nodes → IsClaim (record { version = version; bound = n; assumptions = es; instances = xs; nodes = ns; witness = w })
+claim_of version n es xs ns w small he hx ax few hn kn most = record {
   bound_fits = small;
   entries_fit = he;
   insts_fit = hx;
   insts_ascend = ax;
   few_insts = few;
-  nodes_fit = all_from xs 0 ns hn;
-  nodes_belong = all_belong xs 0 ns hn;
+  nodes_fit = all_from version xs 0 ns hn;
+  nodes_belong = all_belong version xs 0 ns hn;
   nodes_ascend = kn.ascend;
   few_nodes = most;
   few_cells = kn.few;
+  of_version = are_of version ns (all_of_version version xs 0 ns hn);
 }
 
-claim_by : Below → (n : ℕ) (a c d : Place) (es : List Entry × Place) (xs : List Inst × Place) (ns : Seeds × Place) (w : Option Plan) → n ≤ SIZE → entries_at a ≡ Ok es → insts_at c ≡ Ok xs → nodes_at xs.0 d ≡ Ok ns
-    → IsClaim (record { bound = n; assumptions = es.0; instances = xs.0; nodes = ns.0; witness = w })
-claim_by b n a c d es xs ns w small e f g =
+claim_by : Below → (version : Version) (n : ℕ) (a c d : Place) (es : List Entry × Place) (xs : List Inst × Place) (ns : Seeds × Place) (w : Option Plan) → n ≤ SIZE → entries_at a ≡ Ok es → insts_at c ≡ Ok xs → nodes_at version xs.0 d ≡ Ok ns
+    → IsClaim (record { version = version; bound = n; assumptions = es.0; instances = xs.0; nodes = ns.0; witness = w })
+claim_by b version n a c d es xs ns w small e f g =
     let entries = entries_take b a es e in
     let insts = insts_take b c xs f in
     let ascend = insts_kept b.keys xs.0 insts.fit in
-    let nodes = nodes_part b xs.0 ascend d ns g in
-    claim_of n es.0 xs.0 ns.0 w small (entries_kept es.0 entries.few entries.fit) (all_of_any IsInst 0 xs.0 (admitted_all AnyInst refused_inst [] xs.0 insts.fit)) ascend insts.few
-    (admitted_all (FitsNode xs.0) refused_node [] ns.0 nodes.fit) (nodes_kept b.keys xs.0 ns.0 nodes.fit) nodes.few
+    let nodes = nodes_part b version xs.0 ascend d ns g in
+    claim_of version n es.0 xs.0 ns.0 w small (entries_kept es.0 entries.few entries.fit) (all_of_any IsInst 0 xs.0 (admitted_all AnyInst refused_inst [] xs.0 insts.fit)) ascend insts.few
+    (admitted_all (FitsNode version xs.0) refused_node [] ns.0 nodes.fit) (nodes_kept b.keys version xs.0 ns.0 nodes.fit) nodes.few
 
 record ClaimRead (p : Place) (z : Claim × Place) : Type 0 where
   pub certificate : IsCertificate z.0
@@ -127,23 +132,23 @@ claim_take k p z e =
     let b = then_ok (heading_at p) _ z e in
     let a = then_ok (entries_at b.0.1) _ z b.2 in
     let i = then_ok (insts_at a.0.1) _ z a.2 in
-    let n = then_ok (nodes_at i.0.0 i.0.1) _ z i.2 in
+    let n = then_ok (nodes_at b.0.0.0 i.0.0 i.0.1) _ z i.2 in
     let w = then_ok (witness_at n.0.1) _ z n.2 in
     let d = then_ok (end_at w.0.1) _ z w.2 in
     let top = heading_take k.words p b.0 b.1 in
     let entries = entries_take k b.0.1 a.0 a.1 in
     let insts = insts_take k a.0.1 i.0 i.1 in
-    let nodes = nodes_part k i.0.0 (insts_kept k.keys i.0.0 insts.fit) i.0.1 n.0 n.1 in
+    let nodes = nodes_part k b.0.0.0 i.0.0 (insts_kept k.keys i.0.0 insts.fit) i.0.1 n.0 n.1 in
     let witness = witness_part k.schedule_spelled n.0.1 w.0 w.1 in
     let end = end_part w.0.1 d.0 d.1 in
     let last = stand_more n.0.1 w.0.1 d.0.1 (witness_lines w.0.0) (end_line ∷ []) witness.lines end.lines in
-    let third = stand_more a.0.1 i.0.1 n.0.1 (inst_lines i.0.0) (node_lines i.0.0 n.0.0) insts.lines nodes.lines in
-    let second = stand_more b.0.1 a.0.1 n.0.1 (entry_lines a.0.0) (inst_lines i.0.0 ++ node_lines i.0.0 n.0.0) entries.lines third in
-    let first = stand_more p b.0.1 n.0.1 (heading b.0.0) (entry_lines a.0.0 ++ (inst_lines i.0.0 ++ node_lines i.0.0 n.0.0)) top.0 second in
-    let all = stand_more p n.0.1 d.0.1 (heading b.0.0 ++ (entry_lines a.0.0 ++ (inst_lines i.0.0 ++ node_lines i.0.0 n.0.0))) (witness_lines w.0.0 ++ end_line ∷ []) first last in
+    let third = stand_more a.0.1 i.0.1 n.0.1 (inst_lines i.0.0) (node_lines b.0.0.0 i.0.0 n.0.0) insts.lines nodes.lines in
+    let second = stand_more b.0.1 a.0.1 n.0.1 (entry_lines a.0.0) (inst_lines i.0.0 ++ node_lines b.0.0.0 i.0.0 n.0.0) entries.lines third in
+    let first = stand_more p b.0.1 n.0.1 (heading b.0.0.0 b.0.0.1) (entry_lines a.0.0 ++ (inst_lines i.0.0 ++ node_lines b.0.0.0 i.0.0 n.0.0)) top.0 second in
+    let all = stand_more p n.0.1 d.0.1 (heading b.0.0.0 b.0.0.1 ++ (entry_lines a.0.0 ++ (inst_lines i.0.0 ++ node_lines b.0.0.0 i.0.0 n.0.0))) (witness_lines w.0.0 ++ end_line ∷ []) first last in
     let P : Claim × Place → Type 0 = λ y. ClaimRead p y in
-    subst P (ok_is {A = Claim × Place} (record { bound = b.0.0; assumptions = a.0.0; instances = i.0.0; nodes = n.0.0; witness = w.0.0 }, d.0.1) z d.2) (record {
-      certificate = record { claim = claim_by k b.0.0 b.0.1 a.0.1 i.0.1 a.0 i.0 n.0 w.0.0 top.1 a.1 i.1 n.1; schedule = witness.schedule };
+    subst P (ok_is {A = Claim × Place} (record { version = b.0.0.0; bound = b.0.0.1; assumptions = a.0.0; instances = i.0.0; nodes = n.0.0; witness = w.0.0 }, d.0.1) z d.2) (record {
+      certificate = record { claim = claim_by k b.0.0.0 b.0.0.1 b.0.1 a.0.1 i.0.1 a.0 i.0 n.0 w.0.0 top.1 a.1 i.1 n.1; schedule = witness.schedule };
       lines = all;
       over = end.over;
     })
@@ -175,12 +180,13 @@ joined_plain : (xs bs : List (List (List ℕ))) → AllByRecursion (AllByRecursi
 joined_plain [] bs h g = g
 joined_plain (a ∷ xs) bs h g = (h.0, joined_plain xs bs h.1 g)
 
-node_plain_all : Below → (insts : List Inst) → length insts ≤ most_instances → (at : ℕ) (ns : Seeds) → at + length ns ≤ most_nodes → AllFrom (FitsNode insts) at ns → AllByRecursion (AllByRecursion IsWord) (map (node_words insts) ns)
-node_plain_all b insts few at [] most h = tt
-node_plain_all b insts few at (n ∷ ns) most h = (node_is_plain b.nodes b.keys insts few at n (omega (arith, most)) h.0, node_plain_all b insts few (at + 1) ns (omega (arith, most)) h.1)
+node_plain_all : Below → (version : Version) (insts : List Inst) → length insts ≤ most_instances → (at : ℕ) (ns : Seeds) → at + length ns ≤ most_nodes → AllFrom (FitsNode version insts) at ns
+    → AllByRecursion (AllByRecursion IsWord) (map (node_words version insts) ns)
+node_plain_all b version insts few at [] most h = tt
+node_plain_all b version insts few at (n ∷ ns) most h = (node_is_plain b.nodes b.keys version insts few at n (omega (arith, most)) h.0, node_plain_all b version insts few (at + 1) ns (omega (arith, most)) h.1)
 
-fitting_nodes : (c : Claim) → IsClaim c → AllFrom (FitsNode c.instances) 0 c.nodes
-fitting_nodes c h = all_fit c.instances 0 c.nodes h.nodes_fit h.nodes_belong
+pub fitting_nodes : (c : Claim) → IsClaim c → AllFrom (FitsNode c.version c.instances) 0 c.nodes
+fitting_nodes c h = all_fit c.version c.instances 0 c.nodes h.nodes_fit h.nodes_belong (each_of c.version c.nodes h.of_version)
 
 front_plain : Below → (c : Claim) → IsClaim c → AllByRecursion (AllByRecursion IsWord) (front_lines c)
 front_plain b c h =
@@ -191,25 +197,25 @@ front_plain b c h =
       all_plain entry_words FitsEntry (entry_is_words k) c.assumptions (recursion_from_All FitsEntry c.assumptions h.entries_fit.each),
     ) in
     let insts : AllByRecursion (AllByRecursion IsWord) (inst_lines c.instances) = (numbered_plain k (codes "instances") (length c.instances) (plain (codes "instances" ∷ []) refl).0 (omega (arith, h.few_insts)), all_plain inst_words IsInst b.insts.words c.instances h.insts_fit) in
-    let nodes : AllByRecursion (AllByRecursion IsWord) (node_lines c.instances c.nodes) = (
+    let nodes : AllByRecursion (AllByRecursion IsWord) (node_lines c.version c.instances c.nodes) = (
       numbered_plain k (codes "nodes") (length c.nodes) (plain (codes "nodes" ∷ []) refl).0 (omega (arith, h.few_nodes)),
-      node_plain_all b c.instances h.few_insts 0 c.nodes (omega (arith, h.few_nodes)) (fitting_nodes c h),
+      node_plain_all b c.version c.instances h.few_insts 0 c.nodes (omega (arith, h.few_nodes)) (fitting_nodes c h),
     ) in
-    (plain version refl, (bound, joined_plain (entry_lines c.assumptions) (inst_lines c.instances ++ node_lines c.instances c.nodes) entries (joined_plain (inst_lines c.instances) (node_lines c.instances c.nodes) insts nodes)))
+    (version_plain c.version, (bound, joined_plain (entry_lines c.assumptions) (inst_lines c.instances ++ node_lines c.version c.instances c.nodes) entries (joined_plain (inst_lines c.instances) (node_lines c.version c.instances c.nodes) insts nodes)))
 
 again_at : Below → (c : Claim) → IsClaim c → (p q : Place) → Stand p (front_lines c) q
-    → (a : Place) × (d : Place) × (f : Place) × (heading_at p ≡ Ok (c.bound, a)) × (entries_at a ≡ Ok (c.assumptions, d)) × (insts_at d ≡ Ok (c.instances, f)) × (nodes_at c.instances f ≡ Ok (c.nodes, q))
+    → (a : Place) × (d : Place) × (f : Place) × (heading_at p ≡ Ok ((c.version, c.bound), a)) × (entries_at a ≡ Ok (c.assumptions, d)) × (insts_at d ≡ Ok (c.instances, f)) × (nodes_at c.version c.instances f ≡ Ok (c.nodes, q))
 again_at b c h p q s =
-    let x = stand_cut p q (heading c.bound) (entry_lines c.assumptions ++ (inst_lines c.instances ++ node_lines c.instances c.nodes)) s in
-    let y = stand_cut x.0 q (entry_lines c.assumptions) (inst_lines c.instances ++ node_lines c.instances c.nodes) x.2 in
-    let z = stand_cut y.0 q (inst_lines c.instances) (node_lines c.instances c.nodes) y.2 in (
+    let x = stand_cut p q (heading c.version c.bound) (entry_lines c.assumptions ++ (inst_lines c.instances ++ node_lines c.version c.instances c.nodes)) s in
+    let y = stand_cut x.0 q (entry_lines c.assumptions) (inst_lines c.instances ++ node_lines c.version c.instances c.nodes) x.2 in
+    let z = stand_cut y.0 q (inst_lines c.instances) (node_lines c.version c.instances c.nodes) y.2 in (
       x.0,
       y.0,
       z.0,
-      heading_again b.words p c.bound x.0 h.bound_fits x.1,
+      heading_again b.words p c.version c.bound x.0 h.bound_fits x.1,
       entries_again b x.0 c.assumptions y.0 h.entries_fit y.1,
       insts_again b y.0 c.instances z.0 h.insts_ascend h.insts_fit h.few_insts z.1,
-      nodes_again b c.instances h.few_insts z.0 c.nodes q (record { ascend = h.nodes_ascend; few = h.few_cells }) (fitting_nodes c h) h.few_nodes z.2,
+      nodes_again b c.version c.instances h.few_insts z.0 c.nodes q (record { ascend = h.nodes_ascend; few = h.few_cells }) (fitting_nodes c h) h.few_nodes z.2,
     )
 
 text_parts : (c : Claim) → text_of c ≡ flat_map line (front_lines c) ++ (flat_map line (witness_lines c.witness) ++ flat_map line (end_line ∷ []))
@@ -241,7 +247,7 @@ one_text k a b h g e = ok_is a b (sym (spelled_is_read k a h) ∙ ap certificate
 -- ---- what is answered
 
 pub claims_keep : Below → PartsMakeClaims
-claims_keep k a d f q n es xs ns small e g h = claim_by k n a d f (es, d) (xs, f) (ns, q) None small e g h
+claims_keep k version a d f q n es xs ns small e g h = claim_by k version n a d f (es, d) (xs, f) (ns, q) None small e g h
 
 pub found : ReadIsSpelled → (text : List ℕ) (r : Result Claim CertFault) → Answers (λ c. c) fault.Memory r (certificate_in text) → IfOk r (λ c. text ≡ text_of c)
 found read text (Ok c) h = (read text c h).0

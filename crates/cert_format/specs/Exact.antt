@@ -5,6 +5,7 @@ use Rattle.avr_model.specs.State.{SIZE}
 use Rattle.sb_base.specs.Lines.{Place}
 use Rattle.edge_rules.specs.Expansion.{Seeds}
 use Rattle.certificate.specs.declared.instance.Inst.{Inst}
+use Rattle.certificate.specs.declared.version.Version.{Version}
 use Rattle.certificate.specs.Claims.{Claim, IsClaim, IsCertificate}
 use Rattle.cert_words.specs.Text.{text_of}
 use Rattle.cert_format.specs.Reading.{entries_at, insts_at, nodes_at, certificate_in}
@@ -23,5 +24,5 @@ OneText = (a b : Claim) → IsCertificate a → IsCertificate b → text_of a �
 -- the parts that are read make up a claim
 abbrev pub PartsMakeClaims : Type 0
 PartsMakeClaims =
-    (a b c d : Place) (n : ℕ) (es : List Entry) (xs : List Inst) (ns : Seeds) → n ≤ SIZE → entries_at a ≡ Ok (es, b) → insts_at b ≡ Ok (xs, c) → nodes_at xs c ≡ Ok (ns, d)
-    → IsClaim (record { bound = n; assumptions = es; instances = xs; nodes = ns; witness = None })
+    (version : Version) (a b c d : Place) (n : ℕ) (es : List Entry) (xs : List Inst) (ns : Seeds) → n ≤ SIZE → entries_at a ≡ Ok (es, b) → insts_at b ≡ Ok (xs, c) → nodes_at version xs c ≡ Ok (ns, d)
+    → IsClaim (record { version = version; bound = n; assumptions = es; instances = xs; nodes = ns; witness = None })

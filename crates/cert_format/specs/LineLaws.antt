@@ -5,8 +5,10 @@ use Rattle.line_reading.specs.Words.{IsWord}
 use Rattle.mask_states.specs.declared.keys.NodeKey.{NodeKey}
 use Rattle.edge_rules.specs.declared.seeded.NodeForm.{NodeForm}
 use Rattle.certificate.specs.declared.instance.Inst.{Inst}
+use Rattle.certificate.specs.declared.version.Version.{Version}
 use Rattle.certificate.specs.Insts.{IsInst}
 use Rattle.certificate.specs.Claims.{FitsAt}
+use Rattle.certificate.specs.Versions.{NodeIsOf}
 use Rattle.cert_words.specs.Text.{inst_words, node_words_at}
 use Rattle.cert_format.specs.LineReading.{inst_in, node_in}
 
@@ -22,13 +24,15 @@ pub record IsInstanceOf (insts : List Inst) (place : ℕ) (key : NodeKey) : Type
   pub same : inst.key ≡ key.inst
 
 -- The words are those of the line of this node of the number `at`, with the number of its instance.
-pub record IsNodeLine (insts : List Inst) (at : ℕ) (ws : List (List ℕ)) (n : NodeKey × NodeForm) : Type 0 where
+pub record IsNodeLine (version : Version) (insts : List Inst) (at : ℕ) (ws : List (List ℕ)) (n : NodeKey × NodeForm) : Type 0 where
   pub place : ℕ
-  pub words : ws ≡ node_words_at place n
+  pub words : ws ≡ node_words_at version place n
   pub inst : IsInstanceOf insts place n.0
   pub fits : FitsAt at n.0 n.1
+  pub of_version : NodeIsOf version n
 
 pub record NodeLines : Type 0 where
-  pub spelled : (insts : List Inst) (at : ℕ) (ws : List (List ℕ)) (n : NodeKey × NodeForm) → node_in insts at ws ≡ Some n → IsNodeLine insts at ws n
-  pub read : (insts : List Inst) (at place : ℕ) (n : NodeKey × NodeForm) → at ≤ 65536 → place < 65536 → IsInstanceOf insts place n.0 → FitsAt at n.0 n.1 → node_in insts at (node_words_at place n) ≡ Some n
-  pub words : (at place : ℕ) (n : NodeKey × NodeForm) → at ≤ 65536 → place < 65536 → FitsAt at n.0 n.1 → AllByRecursion IsWord (node_words_at place n)
+  pub spelled : (version : Version) (insts : List Inst) (at : ℕ) (ws : List (List ℕ)) (n : NodeKey × NodeForm) → node_in version insts at ws ≡ Some n → IsNodeLine version insts at ws n
+  pub read : (version : Version) (insts : List Inst) (at place : ℕ) (n : NodeKey × NodeForm) → at ≤ 65536 → place < 65536 → IsInstanceOf insts place n.0 → FitsAt at n.0 n.1 → NodeIsOf version n
+      → node_in version insts at (node_words_at version place n) ≡ Some n
+  pub words : (version : Version) (at place : ℕ) (n : NodeKey × NodeForm) → at ≤ 65536 → place < 65536 → FitsAt at n.0 n.1 → NodeIsOf version n → AllByRecursion IsWord (node_words_at version place n)

@@ -8,6 +8,7 @@ use Rattle.mask_states.specs.declared.keys.NodeKey.{NodeKey}
 use Rattle.mask_states.specs.Keys.{offset_of}
 use Rattle.edge_rules.specs.declared.seeded.NodeForm.{NodeForm}
 use Rattle.certificate.specs.declared.instance.Inst.{Inst}
+use Rattle.certificate.specs.declared.version.Version.{Version}
 use Rattle.cert_words.specs.KeyReading.{is_root, inst_key_at, node_key_at, form_at}
 
 unfoldable pub inst_in : List (List ℕ) → Option Inst
@@ -27,12 +28,12 @@ place_at insts ws = do
   j ← dec_at 65535 h.1
   option_map (λ x. (x.key, j.1)) (slice_get insts j.0)
 
-unfoldable pub whole_key_at : List Inst → List (List ℕ) → Option (NodeKey × List (List ℕ))
-whole_key_at insts ws = place_at insts ws >>= λ x. node_key_at x.0 x.1
+unfoldable pub whole_key_at : Version → List Inst → List (List ℕ) → Option (NodeKey × List (List ℕ))
+whole_key_at version insts ws = place_at insts ws >>= λ x. node_key_at version x.0 x.1
 
 -- the node of this number
-unfoldable pub node_in : List Inst → ℕ → List (List ℕ) → Option (NodeKey × NodeForm)
-node_in insts at ws = do
-  key ← whole_key_at insts ws
-  form ← form_at (is_root key.0.inst.kind) (offset_of key.0.sp) at key.1
+unfoldable pub node_in : Version → List Inst → ℕ → List (List ℕ) → Option (NodeKey × NodeForm)
+node_in version insts at ws = do
+  key ← whole_key_at version insts ws
+  form ← form_at version (is_root key.0.inst.kind) (offset_of key.0.sp) at key.1
   if is_over form.1 then Some (key.0, form.0) else None

@@ -20,6 +20,8 @@ use Rattle.indirect_targets.specs.Reading.{entry_in}
 use Rattle.witness_replay.specs.Spelling.{Plan}
 use Rattle.witness_replay.specs.Reading.{schedule_at}
 use Rattle.certificate.specs.declared.instance.Inst.{Inst}
+use Rattle.certificate.specs.declared.version.Version.{Version}
+use Rattle.certificate.specs.declared.version.Version.TheVariants.{One, Two}
 use Rattle.certificate.specs.Claims.{Claim, most_instances, most_nodes, most_cells, cells_of, node_keys}
 use Rattle.certificate.specs.declared.limit.Limit.TheVariants as limit
 use Rattle.cert_format.specs.declared.fault.CertFault.{CertFault}
@@ -68,8 +70,12 @@ abbrev pub inst_by : List ℕ → Option Inst
 inst_by text = inst_in (words_of text)
 
 -- the node of this number
-abbrev pub node_by : List Inst → ℕ → List ℕ → Option (NodeKey × NodeForm)
-node_by insts at text = node_in insts at (words_of text)
+abbrev pub node_by : Version → List Inst → ℕ → List ℕ → Option (NodeKey × NodeForm)
+node_by version insts at text = node_in version insts at (words_of text)
+
+-- the version of a text
+unfoldable pub version_by : List ℕ → Option Version
+version_by text = if bytes_eq text (codes "stackcert 1") then Some One else (if bytes_eq text (codes "stackcert 2") then Some Two else None)
 
 -- whether a schedule follows
 unfoldable pub ending_by : List ℕ → Option Bool
@@ -118,8 +124,9 @@ found_at (Some x) at = Ok x
 abbrev pub with_text : {A : Type 0} → (ℕ → List ℕ → Option A) → (List A → A → ℕ → Option CertFault) → List A → List ℕ → ℕ → Result (List A) CertFault
 with_text by refused xs text at = then_at (found_at (by (length xs) text) at) (λ x. with_item refused xs x at)
 
--- nodes, and the instances that their lines name by number
+-- nodes, the version of their lines, and the instances that these name by number
 pub record NodesSoFar : Type 0 where
+  pub version : Version
   pub instances : List Inst
   pub nodes : Seeds
 
@@ -135,8 +142,9 @@ items_from by refused xs (suc n) p = then_at (longer_at by refused xs p) (λ x. 
 -- ---- parts of several lines
 
 -- the version and the bound
-unfoldable pub heading_at : Place → Result (ℕ × Place) CertFault
-heading_at p = then_at (formed (line_by (this_by (codes "stackcert 1")) p)) (λ v. formed (line_by (numbered_by (codes "bound") SIZE) v.1))
+unfoldable pub heading_at : Place → Result ((Version × ℕ) × Place) CertFault
+heading_at p =
+    then_at (formed (line_by version_by p)) (λ v. then_at (formed (line_by (numbered_by (codes "bound") SIZE) v.1)) (λ b. Ok ((v.0, b.0), b.1)))
 
 unfoldable pub entries_at : Place → Result (List Entry × Place) CertFault
 entries_at p = then_at (formed (line_by (numbered_by (codes "assume") most_entries) p)) (λ n. items_from (λ at. entry_by) refused_entry [] n.0 n.1)
@@ -149,8 +157,8 @@ limited (Ok (Some n, q)) = Ok (n, q)
 limited (Ok (None, q)) = Err (fault.Limit limit.Nodes)
 limited (Err f) = Err f
 
-unfoldable pub nodes_at : List Inst → Place → Result (Seeds × Place) CertFault
-nodes_at insts p = then_at (limited (formed (line_by count_by p))) (λ n. items_from (node_by insts) refused_node [] n.0 n.1)
+unfoldable pub nodes_at : Version → List Inst → Place → Result (Seeds × Place) CertFault
+nodes_at version insts p = then_at (limited (formed (line_by count_by p))) (λ n. items_from (node_by version insts) refused_node [] n.0 n.1)
 
 abbrev pub plan_if : Bool → Place → Result (Option Plan × Place) CertFault
 plan_if false p = Ok (None, p)
@@ -174,9 +182,9 @@ claim_at p =
     then_at (heading_at p) (λ b.
     then_at (entries_at b.1) (λ a.
     then_at (insts_at a.1) (λ i.
-    then_at (nodes_at i.0 i.1) (λ n.
+    then_at (nodes_at b.0.0 i.0 i.1) (λ n.
     then_at (witness_at n.1) (λ w.
-    then_at (end_at w.1) (λ e. Ok (record { bound = b.0; assumptions = a.0; instances = i.0; nodes = n.0; witness = w.0 }, e.1)))))))
+    then_at (end_at w.1) (λ e. Ok (record { version = b.0.0; bound = b.0.1; assumptions = a.0; instances = i.0; nodes = n.0; witness = w.0 }, e.1)))))))
 
 abbrev pub claim_alone : Result (Claim × Place) CertFault → Result Claim CertFault
 claim_alone (Ok x) = Ok x.0

@@ -15,9 +15,11 @@ use Rattle.edge_rules.specs.declared.seeded.NodeForm.{NodeForm}
 use Rattle.indirect_targets.specs.Spelling.{entry_words}
 use Rattle.witness_replay.specs.Exact.{IsStuck}
 use Rattle.certificate.specs.declared.instance.Inst.{Inst}
+use Rattle.certificate.specs.declared.version.Version.{Version}
 use Rattle.certificate.specs.Insts.{IsInst, inst_keys}
 use Rattle.certificate.specs.Claims.{Claim, IsClaim, IsCertificate, FitsAt, Belongs, most_instances, most_nodes, most_cells, cells_of, node_keys}
-use Rattle.cert_words.specs.Text.{numbered, version, heading, entry_lines, inst_lines, inst_words, node_words, open_line, attained_line, witness_lines, end_line, front_lines, certificate_lines, text_of}
+use Rattle.certificate.specs.Versions.{NodeIsOf}
+use Rattle.cert_words.specs.Text.{numbered, version_line, heading, entry_lines, inst_lines, inst_words, node_words, open_line, attained_line, witness_lines, end_line, front_lines, certificate_lines, text_of}
 use Rattle.certificate.specs.declared.limit.Limit.{Limit}
 use Rattle.certificate.specs.declared.limit.Limit.TheVariants as limit
 use Rattle.cert_format.specs.declared.fault.CertFault.{CertFault}
@@ -28,7 +30,7 @@ use Rattle.cert_format.specs.Reading.{certificate_in}
 
 -- the part that stands next; of a list, so many items were announced
 pub data Part : Type 0 where
-  Version : Part
+  Begin : Part
   Bound : Part
   Assume : Part
   AnEntry : ℕ → Part
@@ -42,14 +44,14 @@ pub data Part : Type 0 where
 
 -- the lines of a certificate before this part, where the items that it has are those before it
 abbrev pub lines_to : Claim → Part → List (List (List ℕ))
-lines_to c Version = []
-lines_to c Bound = version ∷ []
-lines_to c Assume = heading c.bound
-lines_to c (AnEntry n) = heading c.bound ++ numbered (codes "assume") n ∷ map entry_words c.assumptions
-lines_to c Instances = heading c.bound ++ entry_lines c.assumptions
-lines_to c (AnInst n) = heading c.bound ++ (entry_lines c.assumptions ++ numbered (codes "instances") n ∷ map inst_words c.instances)
-lines_to c Nodes = heading c.bound ++ (entry_lines c.assumptions ++ inst_lines c.instances)
-lines_to c (ANode n) = heading c.bound ++ (entry_lines c.assumptions ++ (inst_lines c.instances ++ numbered (codes "nodes") n ∷ map (node_words c.instances) c.nodes))
+lines_to c Begin = []
+lines_to c Bound = version_line c.version ∷ []
+lines_to c Assume = heading c.version c.bound
+lines_to c (AnEntry n) = heading c.version c.bound ++ numbered (codes "assume") n ∷ map entry_words c.assumptions
+lines_to c Instances = heading c.version c.bound ++ entry_lines c.assumptions
+lines_to c (AnInst n) = heading c.version c.bound ++ (entry_lines c.assumptions ++ numbered (codes "instances") n ∷ map inst_words c.instances)
+lines_to c Nodes = heading c.version c.bound ++ (entry_lines c.assumptions ++ inst_lines c.instances)
+lines_to c (ANode n) = heading c.version c.bound ++ (entry_lines c.assumptions ++ (inst_lines c.instances ++ numbered (codes "nodes") n ∷ map (node_words c.version c.instances) c.nodes))
 lines_to c Ending = front_lines c
 lines_to c End = front_lines c ++ witness_lines c.witness
 lines_to c Nothing = certificate_lines c
@@ -93,14 +95,14 @@ abbrev pub IsInstWith : (Inst → Type 0) → List (List ℕ) → Type 0
 IsInstWith P ws = (x : Inst) × IsInst x × (ws ≡ inst_words x) × P x
 
 abbrev pub IsNodeWith : Claim → (NodeKey × NodeForm → Type 0) → List (List ℕ) → Type 0
-IsNodeWith c P ws = (n : NodeKey × NodeForm) × FitsAt (length c.nodes) n.0 n.1 × Belongs c.instances n.0 × (ws ≡ node_words c.instances n) × P n
+IsNodeWith c P ws = (n : NodeKey × NodeForm) × FitsAt (length c.nodes) n.0 n.1 × Belongs c.instances n.0 × NodeIsOf c.version n × (ws ≡ node_words c.version c.instances n) × P n
 
 abbrev pub AreNodes : (List ℕ → Type 0) → List (List ℕ) → Type 0
 AreNodes P ws = (w : List ℕ) × IsDecimal w × (ws ≡ codes "nodes" ∷ w ∷ []) × P w
 
 -- words of the form that stands at this part
 abbrev pub IsOfForm : Claim → Part → List (List ℕ) → Type 0
-IsOfForm c Version ws = ws ≡ version
+IsOfForm c Begin ws = (version : Version) × (ws ≡ version_line version)
 IsOfForm c Bound ws = IsNumbered (codes "bound") SIZE ws
 IsOfForm c Assume ws = IsNumbered (codes "assume") most_entries ws
 IsOfForm c (AnEntry n) ws = IsEntryWith (λ e. ⊤) ws

@@ -11,7 +11,7 @@ ghost use Rattle.cert_format.specs.Reading.{last_in, is_inst_above, is_node_abov
 use crate::fault::CertFault;
 use crate::lines::{instance_of, node_of};
 use avr_model::assumption::Entry;
-use certificate::{Inst, Limit};
+use certificate::{Inst, Limit, Version};
 use edge_rules::NodeForm;
 use indirect_targets::entry_of;
 use line_reading::{pass_line, peek_text};
@@ -149,9 +149,10 @@ impl Gathered for Vec<Inst> {
     }
 }
 
-/// Nodes with the instances that their lines name by number. It is seen as both.
+/// Nodes with the version of their lines and the instances that these name by number. It is seen as all three.
 #[derive(Drop)]
 pub(crate) struct NodeList<'a> {
+    version: Version,
     instances: &'a [Inst],
     nodes: Vec<(NodeKey, NodeForm)>,
     cells: u32,
@@ -164,7 +165,7 @@ impl<'a> Model for NodeList<'a> {
 
     ghost Value = { NodesSoFar };
 
-    ghost view = { λ l. record { instances = l.instances.now; nodes = l.nodes.items } };
+    ghost view = { λ l. record { version = l.version; instances = l.instances.now; nodes = l.nodes.items } };
 
     ghost invariant = { λ l. (l.cells ≡ cells_of (node_keys l.nodes.items)) × (l.cells ≤ most_cells) };
 }
@@ -182,10 +183,11 @@ fn is_node_above(nodes: &[(NodeKey, NodeForm)], key: &NodeKey) -> bool
 impl<'a> NodeList<'a> {
     /// No nodes.
     #[tactic(auto, using(crate::proofs::Items::no_cells))]
-    pub(crate) fn empty(alloc: Global, instances: &'a [Inst]) -> NodeList<'a>
-        ensures { result ≡ record { instances = instances.now; nodes = [] } }
+    pub(crate) fn empty(alloc: Global, version: Version, instances: &'a [Inst]) -> NodeList<'a>
+        ensures { result ≡ record { version = version; instances = instances.now; nodes = [] } }
     {
         NodeList {
+            version,
             instances,
             nodes: Vec::new(alloc),
             cells: 0,
@@ -204,6 +206,7 @@ impl<'a> NodeList<'a> {
     fn append(&mut self, node: (NodeKey, NodeForm), at: usize) -> Result<(), CertFault>
         requires { offset_of node.0.sp ≤ model.SIZE }
         ensures exact { Answers (λ u. self.new.nodes) fault.Memory result (with_item refused_node self.old.nodes node at) }
+        ensures version { self.new.version ≡ self.old.version }
         ensures same { self.new.instances ≡ self.old.instances }
     {
         if !is_node_above(&self.nodes, &node.0) {
@@ -233,13 +236,13 @@ impl<'a> Gathered for NodeList<'a> {
 
     ghost most = { most_nodes };
 
-    ghost by = { λ list. node_by list.instances };
+    ghost by = { λ list. node_by list.version list.instances };
 
     ghost refused = { refused_node };
 
     fn add(&mut self, alloc: Global, text: &[u8], at: usize) -> Result<(), CertFault> {
         let number = self.nodes.len();
-        match node_of(alloc, text, self.instances, number)? {
+        match node_of(alloc, text, self.version, self.instances, number)? {
             Some(node) => self.append(node, at),
             None => Err(CertFault::Malformed(at)),
         }

@@ -8,6 +8,6 @@ mod lines;
 mod reading;
 
 pub use cert_writing::{write, write_inst_key, write_key};
-pub use certificate::{Certificate, Inst, Limit};
+pub use certificate::{Certificate, Inst, Limit, Version};
 pub use fault::CertFault;
 pub use reading::read;

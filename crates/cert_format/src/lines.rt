@@ -9,7 +9,7 @@ ghost use Rattle.cert_format.specs.LineReading.{inst_in, place_at, whole_key_at,
 
 use avr_model::device;
 use cert_words::{form_of, inst_key_of, is_root, node_key_of};
-use certificate::Inst;
+use certificate::{Inst, Version};
 use edge_rules::NodeForm;
 use line_reading::{dec_word, expect_word, is_over};
 use mask_states::{InstKey, NodeKey};
@@ -58,31 +58,32 @@ fn place_of(words: &mut Words<'_>, instances: &[Inst]) -> Option<InstKey>
 
 /// What a node is, with its instance.
 #[tactic(auto, unfolding(crate::specs::LineReading::whole_key_at))]
-fn whole_key_of(words: &mut Words<'_>, instances: &[Inst]) -> Option<NodeKey>
-    ensures exact { option_map (λ k. (k, words.new)) result ≡ whole_key_at instances.now words.old }
+fn whole_key_of(words: &mut Words<'_>, version: Version, instances: &[Inst]) -> Option<NodeKey>
+    ensures exact { option_map (λ k. (k, words.new)) result ≡ whole_key_at version instances.now words.old }
     ensures small { IfSome result (λ k. offset_of k.sp ≤ model.SIZE) }
 {
     let inst = place_of(words, instances)?;
-    node_key_of(words, &inst)
+    node_key_of(words, version, &inst)
 }
 
-/// The node of the line of the number `at`.
+/// The node of the line of the number `at` in a certificate of this version.
 #[tactic(auto, unfolding(crate::specs::LineReading::node_in))]
 pub(crate) fn node_of(
     alloc: Global,
     text: &[u8],
+    version: Version,
     instances: &[Inst],
     at: usize,
 ) -> Result<Option<(NodeKey, NodeForm)>, AllocError>
-    ensures exact { IfOk result (λ o. o ≡ node_in instances.now at (words_of text.now)) }
+    ensures exact { IfOk result (λ o. o ≡ node_in version instances.now at (words_of text.now)) }
     ensures small { IfOk result (λ o. IfSome o (λ n. offset_of n.0.sp ≤ model.SIZE)) }
 {
     let mut words = Words::new(text);
-    let Some(key) = whole_key_of(&mut words, instances) else {
+    let Some(key) = whole_key_of(&mut words, version, instances) else {
         return Ok(None);
     };
     let root = is_root(key.inst.kind);
-    let Some(form) = form_of(alloc, &mut words, root, key.offset(), at)? else {
+    let Some(form) = form_of(alloc, &mut words, version, root, key.offset(), at)? else {
         return Ok(None);
     };
     if is_over(&mut words) {

@@ -13,14 +13,14 @@ ghost use Rattle.mask_states.specs.Keys.{offset_of};
 ghost use Rattle.cert_format.specs.declared.fault.CertFault.TheVariants as fault;
 ghost use Rattle.certificate.specs.Claims.{Claim, IsCertificate, most_instances, most_nodes, most_cells, cells_of, node_keys};
 ghost use Rattle.cert_words.specs.Text.{text_of};
-ghost use Rattle.cert_format.specs.Reading.{formed, numbered_in, numbered_by, counted, count_at, count_in, count_by, entry_by, inst_by, node_by, ending_by, last_in, is_inst_above, is_node_above, refused_entry, refused_inst, refused_node, with_item, longer_at, items_from, heading_at, entries_at, insts_at, limited, nodes_at, plan_if, witness_at, if_last, end_at, claim_at, claim_alone, certificate_in};
+ghost use Rattle.cert_format.specs.Reading.{formed, version_by, numbered_in, numbered_by, counted, count_at, count_in, count_by, entry_by, inst_by, node_by, ending_by, last_in, is_inst_above, is_node_above, refused_entry, refused_inst, refused_node, with_item, longer_at, items_from, heading_at, entries_at, insts_at, limited, nodes_at, plan_if, witness_at, if_last, end_at, claim_at, claim_alone, certificate_in};
 ghost use Rattle.cert_format.specs.Refusals.{IsDueUnlessMemory};
 
 use crate::fault::CertFault;
 use crate::gathered::{NodeList, read_each};
 use crate::laws::{certificate_texts, claims_keep};
 use avr_model::device;
-use certificate::{Certificate, Inst, Limit};
+use certificate::{Certificate, Inst, Limit, Version};
 use edge_rules::NodeForm;
 use indirect_targets::entry_of;
 use line_reading::{
@@ -147,12 +147,13 @@ fn read_instances(alloc: Global, reader: &mut LineReader<'_>) -> Result<Vec<Inst
 fn read_nodes(
     alloc: Global,
     reader: &mut LineReader<'_>,
+    version: Version,
     instances: &[Inst],
 ) -> Result<Vec<(NodeKey, NodeForm)>, CertFault>
-    ensures { Answers (λ v. (v.items, reader.new)) fault.Memory result (nodes_at instances.now reader.old) }
+    ensures { Answers (λ v. (v.items, reader.new)) fault.Memory result (nodes_at version instances.now reader.old) }
 {
     let count = read_count(reader)?;
-    let mut list = NodeList::empty(alloc, instances);
+    let mut list = NodeList::empty(alloc, version, instances);
     read_each(alloc, reader, &mut list, count)?;
     Ok(list.into_nodes())
 }
@@ -215,14 +216,41 @@ fn read_text(reader: &mut LineReader<'_>, text: &[u8]) -> Result<(), CertFault>
     Ok(())
 }
 
+/// The version of a line.
+#[tactic(auto, unfolding(crate::specs::Reading::version_by))]
+fn version_of(text: &[u8]) -> Option<Version>
+    ensures { result ≡ version_by text.now }
+{
+    if text == b"stackcert 1".as_slice() {
+        Some(Version::One)
+    } else if text == b"stackcert 2".as_slice() {
+        Some(Version::Two)
+    } else {
+        None
+    }
+}
+
+/// Reads the version.
+#[tactic(auto, unfolding(line_reading::specs::Reading::line_by))]
+fn read_version(reader: &mut LineReader<'_>) -> Result<Version, CertFault>
+    ensures { Answers (λ v. (v, reader.new)) fault.Memory result (formed (line_by version_by reader.old)) }
+{
+    let Some(text) = peek_text(reader) else {
+        return Err(CertFault::Malformed(reader.offset()));
+    };
+    let version = take_line(reader, version_of(text))?;
+    Ok(version)
+}
+
 /// Reads the version and the bound.
 #[tactic(auto, unfolding(crate::specs::Reading::heading_at))]
-fn read_heading(reader: &mut LineReader<'_>) -> Result<u64, CertFault>
-    ensures exact { Answers (λ n. (n, reader.new)) fault.Memory result (heading_at reader.old) }
-    ensures small { IfOk result (λ n. n ≤ model.SIZE) }
+fn read_heading(reader: &mut LineReader<'_>) -> Result<(Version, u64), CertFault>
+    ensures exact { Answers (λ h. (h, reader.new)) fault.Memory result (heading_at reader.old) }
+    ensures small { IfOk result (λ h. h.1 ≤ model.SIZE) }
 {
-    read_text(reader, b"stackcert 1")?;
-    read_numbered(reader, b"bound", SIZE)
+    let version = read_version(reader)?;
+    let bound = read_numbered(reader, b"bound", SIZE)?;
+    Ok((version, bound))
 }
 
 /// Reads the last line, behind which there has to be nothing.
@@ -243,13 +271,13 @@ fn read_claim(alloc: Global, reader: &mut LineReader<'_>) -> Result<Certificate,
     ensures { Answers (λ c. (c, reader.new)) fault.Memory result (claim_at reader.old) }
 {
     claims_keep();
-    let bound = read_heading(reader)?;
+    let (version, bound) = read_heading(reader)?;
     let assumptions = read_entries(alloc, reader)?;
     let instances = read_instances(alloc, reader)?;
-    let nodes = read_nodes(alloc, reader, &instances)?;
+    let nodes = read_nodes(alloc, reader, version, &instances)?;
     let witness = read_witness(alloc, reader)?;
     read_end(reader)?;
-    let claim = Certificate::build(bound as u16, assumptions, instances, nodes);
+    let claim = Certificate::of_version(version, bound as u16, assumptions, instances, nodes);
     Ok(claim.with_witness(witness))
 }
 

@@ -1,12 +1,11 @@
 -- The key of an instance: what is read is spelled so, and what is spelled is read.
-use Rattle.std.proofs.Common.{ℕ, ◌<◌, ◌≤◌, ◌≡◌, ◌==◌, ◌&&◌, inl, inr, List, [], ◌∷◌, ◌++◌, codes, Bool, true, not, refl, ap, ap₂, ◌∙◌, arith, Some, nat_le, subst, lit<}
+use Rattle.std.proofs.Common.{ℕ, ◌*◌, ◌-◌, ◌<◌, ◌≤◌, ◌≡◌, ◌==◌, ◌&&◌, ◌||◌, ◌⊎◌, inl, inr, List, [], ◌∷◌, ◌++◌, codes, Bool, true, false, not, refl, ap, ap₂, ◌∙◌, arith, Some, nat_le, subst, lit<}
 use Rattle.std.specs.List.{AllByRecursion}
 use Rattle.std.specs.Str.{bytes_eq}
 use Rattle.std.specs.Fmt.{decimal}
 use Rattle.std.proofs.lemmas.Bool.{eqb-true}
 use Rattle.std.proofs.lemmas.Bool.Decides.{nat_tests}
 use Rattle.std.proofs.lemmas.Slice.Eq.{bytes_eq-Decides}
-use Rattle.avr_model.specs.Vectors.{vector_word}
 use Rattle.sb_base.specs.Digits.{hex_digits}
 use Rattle.line_reading.specs.Reading.{hex_at, dec_at}
 use Rattle.line_reading.specs.Words.{IsWord, WordLaws}
@@ -15,7 +14,7 @@ use Rattle.witness_replay.specs.Spelling.{bit}
 use Rattle.mask_states.specs.declared.keys.Kind.{Kind}
 use Rattle.mask_states.specs.declared.keys.Kind.TheVariants.{Root, Call, Vector}
 use Rattle.mask_states.specs.declared.keys.InstKey.{InstKey}
-use Rattle.certificate.specs.Insts.{fits_kind}
+use Rattle.certificate.specs.Insts.{is_vector_word, fits_kind}
 use Rattle.cert_words.specs.KeySpelling.{kind_word, inst_key_words}
 use Rattle.cert_words.specs.Reading.{letter_at}
 use Rattle.cert_words.specs.KeyReading.{word_by, masks_at, flag_at, vector_in, kind_in, inst_key_at}
@@ -71,13 +70,23 @@ kind_is_word k Root h = ((refl, (refl, (refl, (refl, tt)))), (refl, (refl, (refl
 kind_is_word k Call h = ((refl, (refl, (refl, (refl, tt)))), (refl, (refl, (refl, (refl, tt)))))
 kind_is_word k (Vector v) h = joined_word (codes "v") (decimal v) ((refl, tt), (refl, tt)) (k.dec_word v (omega (arith, h)))
 
-vector_fits : (v entry masks : ℕ) (i : Bool) → fits_kind (Vector v) entry masks i ≡ true → (v ≤ 26) × (entry ≡ vector_word v)
+either : (a b : Bool) → a || b ≡ true → (a ≡ true) ⊎ (b ≡ true)
+either true b e = inl refl
+either false b e = inr e
+
+vector_low : (v entry : ℕ) → v ≤ 26 → is_vector_word v entry ≡ true → entry < 65536
+vector_low v entry most e = elim (either (entry == 2 * (v - 1)) (entry == v - 1) e) [
+  | inl h ↦ omega (arith, most, eqb-true entry (2 * (v - 1)) h)
+  | inr h ↦ omega (arith, most, eqb-true entry (v - 1) h)
+]
+
+vector_fits : (v entry masks : ℕ) (i : Bool) → fits_kind (Vector v) entry masks i ≡ true → (v ≤ 26) × (entry < 65536)
 vector_fits v entry masks i e =
-    let a = both (nat_le 2 v && nat_le v 26 && (entry == vector_word v)) (not i) e in
-    let b = both (nat_le 2 v && nat_le v 26) (entry == vector_word v) a.0 in
+    let a = both (nat_le 2 v && nat_le v 26 && is_vector_word v entry) (not i) e in
+    let b = both (nat_le 2 v && nat_le v 26) (is_vector_word v entry) a.0 in
     let c = both (nat_le 2 v) (nat_le v 26) b.0 in
     let most : v ≤ 26 = grind (arith, nat_tests, c.1) in
-    (most, eqb-true entry (vector_word v) b.1)
+    (most, vector_low v entry most b.1)
 
 numbered : (kd : Kind) (entry masks : ℕ) (i : Bool) → fits_kind kd entry masks i ≡ true → IsNumbered kd
 numbered Root entry masks i e = tt
@@ -90,7 +99,7 @@ small_entry Root entry masks i e =
     let none = eqb-true entry 0 (both (entry == 0) (masks == 0) a.0).0 in
     omega (arith, none)
 small_entry Call entry masks i e = grind (arith, nat_tests, e)
-small_entry (Vector v) entry masks i e = let t = vector_fits v entry masks i e in omega (arith, t.0, t.1)
+small_entry (Vector v) entry masks i e = (vector_fits v entry masks i e).1
 
 -- ---- the key
 

@@ -1,13 +1,15 @@
 -- The place of a node in its instance: what is read is spelled so, and what is spelled is read.
-use Rattle.std.proofs.Common.{ℕ, ◌<◌, ◌≤◌, ◌≡◌, List, ◌∷◌, ◌++◌, Bool, true, refl, ap, ◌∙◌, arith, Some, nat_lt, subst}
+use Rattle.std.proofs.Common.{ℕ, ◌<◌, ◌≤◌, ◌≡◌, inl, inr, List, [], ◌∷◌, ◌++◌, length, codes, Bool, true, false, refl, ap, ap₂, sym, ◌∙◌, arith, Option, Some, None, nat_lt, subst}
 use Rattle.std.specs.List.{AllByRecursion}
+use Rattle.std.specs.Str.{bytes_eq}
 use Rattle.std.proofs.lemmas.Bool.Decides.{nat_tests}
+use Rattle.std.proofs.lemmas.Slice.Eq.{bytes_eq-Decides}
 use Rattle.avr_model.specs.Image.{WORDS}
 use Rattle.avr_model.specs.State.{SIZE}
 use Rattle.sb_base.specs.Digits.{hex_digits}
 use Rattle.line_reading.specs.Reading.{hex_at}
 use Rattle.line_reading.specs.Words.{IsWord, WordLaws}
-use Rattle.line_reading.proofs.AllLaws.{bind_some}
+use Rattle.line_reading.proofs.AllLaws.{chosen, some_is, bind_some, cons_is}
 use Rattle.witness_replay.specs.Spelling.{bit}
 use Rattle.mask_states.specs.declared.keys.Kind.{Kind}
 use Rattle.mask_states.specs.declared.keys.Kind.TheVariants.{Root, Call, Vector}
@@ -17,17 +19,20 @@ use Rattle.mask_states.specs.declared.keys.High.{High}
 use Rattle.mask_states.specs.declared.keys.High.TheVariants as high
 use Rattle.mask_states.specs.declared.keys.SpForm.{SpForm}
 use Rattle.mask_states.specs.declared.keys.SpForm.TheVariants.{Closed, Open}
-use Rattle.mask_states.specs.Keys.{offset_of}
+use Rattle.mask_states.specs.Keys.{offset_of, PickFits}
 use Rattle.local_rules.specs.Cover.{FormFitsKind}
 use Rattle.certificate.specs.Claims.{IsKey}
+use Rattle.certificate.specs.declared.version.Version.{Version}
+use Rattle.certificate.specs.declared.version.Version.TheVariants.{One, Two}
+use Rattle.certificate.specs.Versions.{PickIsOf}
 use Rattle.cert_words.specs.Spelling.{form_word}
-use Rattle.cert_words.specs.KeySpelling.{place_words}
+use Rattle.cert_words.specs.KeySpelling.{pick_word, pick_words, place_words}
 use Rattle.cert_words.specs.Reading.{form_in}
-use Rattle.cert_words.specs.KeyReading.{word_by, masks_at, flag_at, is_root, node_key_at}
+use Rattle.cert_words.specs.KeyReading.{word_by, masks_at, flag_at, is_root, pick_in, pick_at, node_key_at}
 use Rattle.cert_words.specs.Fits.{IsHigh, IsForm}
 use Rattle.cert_words.specs.Laws.{ValueWords}
 use Rattle.cert_words.specs.KeyLaws.{IsPlace, PlaceWords}
-use Rattle.cert_words.proofs.Pieces.{tested}
+use Rattle.cert_words.proofs.Pieces.{map_some, tested, length_hex}
 use Rattle.cert_words.proofs.Fields.{hex_take, masks_take, masks_again, flag_take, flag_again, bit_word, word_by_take}
 use Rattle.cert_words.proofs.InstKeys.{cons}
 
@@ -59,47 +64,109 @@ is_form : (kd : Kind) (f : SpForm) → offset_of f ≤ SIZE → FormFitsKind kd 
 is_form kd (Closed offset) small h = small
 is_form kd (Open offset x) small h = (small, is_high kd offset x h)
 
-key_take : WordLaws → ValueWords → (inst : InstKey) (ws : List (List ℕ)) (z : NodeKey × List (List ℕ)) → node_key_at inst ws ≡ Some z → IsPlace inst ws z.1 z.0
+-- ---- the pick
+
+not_dash_by : (w : List ℕ) (t : Bool) → 2 ≤ length w → bytes_eq w (codes "-") ≡ t → t ≡ false
+not_dash_by w false long e = refl
+not_dash_by w true long e = absurd (omega (arith, long, ap length ((bytes_eq-Decides w (codes "-")).0 e)))
+
+not_dash : (byte : ℕ) → bytes_eq (hex_digits byte 2) (codes "-") ≡ false
+not_dash byte = not_dash_by (hex_digits byte 2) (bytes_eq (hex_digits byte 2) (codes "-")) (omega (arith, length_hex byte 2)) refl
+
+pick_take : WordLaws → (w : List ℕ) (pick : Option ℕ) → pick_in w ≡ Some pick → (w ≡ pick_word pick) × PickFits pick
+unfolding pick_in
+pick_take k w pick e =
+    let P : Option ℕ → Type 0 = λ y. (w ≡ pick_word y) × PickFits y in
+    elim (chosen (bytes_eq w (codes "-")) _ _ (Some pick) e) [
+      | inl h ↦ subst P (some_is {A = Option ℕ} None pick h.1) ((bytes_eq-Decides w (codes "-")).0 h.0, tt)
+      | inr h ↦
+          let n = map_some (hex_at 2 (w ∷ [])) (λ x. Some x.0) pick h.1 in
+          let d = hex_take k 2 (w ∷ []) n.0 n.1 in
+          subst P n.2 ((cons_is w (hex_digits n.0.0 2) [] n.0.1 d.0).0, omega (arith, d.1))
+    ]
+
+pick_again : WordLaws → (pick : Option ℕ) → PickFits pick → pick_in (pick_word pick) ≡ Some pick
+unfolding pick_in
+pick_again k None h = refl
+pick_again k (Some byte) h = rw (not_dash byte, k.hex_taken 2 byte [] (omega (arith, h))) refl
+
+record PickRead (version : Version) (ws : List (List ℕ)) (z : Option ℕ × List (List ℕ)) : Type 0 where
+  pub words : ws ≡ pick_words version z.0 ++ z.1
+  pub fits : PickFits z.0
+  pub of_version : PickIsOf version z.0
+
+pick_at_take : WordLaws → (version : Version) (ws : List (List ℕ)) (z : Option ℕ × List (List ℕ)) → pick_at version ws ≡ Some z → PickRead version ws z
+pick_at_take k One ws z e =
+    let P : Option ℕ × List (List ℕ) → Type 0 = λ y. PickRead One ws y in
+    subst P (some_is {A = Option ℕ × List (List ℕ)} (None, ws) z e) (record { words = refl; fits = tt; of_version = refl })
+pick_at_take k Two ws z e =
+    let w = word_by_take pick_in ws z e in
+    let t = pick_take k w.0 z.0 w.2 in
+    record { words = w.1 ∙ ap (λ (x : List ℕ). x ∷ z.1) t.0; fits = t.1; of_version = tt }
+
+pick_at_again : WordLaws → (version : Version) (pick : Option ℕ) (rest : List (List ℕ)) → PickFits pick → PickIsOf version pick → pick_at version (pick_words version pick ++ rest) ≡ Some (pick, rest)
+pick_at_again k One pick rest h g = ap (λ (p : Option ℕ). Some (p, rest)) (sym g)
+pick_at_again k Two pick rest h g = rw (pick_again k pick h) refl
+
+pick_is_word : WordLaws → (pick : Option ℕ) → PickFits pick → IsWord (pick_word pick)
+pick_is_word k None h = ((refl, tt), (refl, tt))
+pick_is_word k (Some byte) h = k.hex_word byte 2 (omega (arith, h))
+
+pick_plain : WordLaws → (version : Version) (pick : Option ℕ) → PickFits pick → AllByRecursion IsWord (pick_words version pick)
+pick_plain k One pick h = tt
+pick_plain k Two pick h = (pick_is_word k pick h, tt)
+
+-- ---- the key
+
+key_take : WordLaws → ValueWords → (version : Version) (inst : InstKey) (ws : List (List ℕ)) (z : NodeKey × List (List ℕ)) → node_key_at version inst ws ≡ Some z → IsPlace version inst ws z.1 z.0
 unfolding node_key_at
-key_take k v inst ws z e =
+key_take k v version inst ws z e =
     let pc = bind_some (hex_at 4 ws) _ z e in
     let m = bind_some (masks_at pc.0.1) _ z pc.2 in
     let i = bind_some (flag_at m.0.1) _ z m.2 in
     let d = bind_some (flag_at i.0.1) _ z i.2 in
     let f = bind_some (word_by (form_in (is_root inst.kind)) d.0.1) _ z d.2 in
-    let key : NodeKey = record { inst = inst; pc = pc.0.0; masks = m.0.0; i = i.0.0; delay = d.0.0; sp = f.0.0 } in
-    let last = tested {A = NodeKey × List (List ℕ)} (nat_lt pc.0.0 WORDS) (key, f.0.1) z f.2 in
+    let p = bind_some (pick_at version f.0.1) _ z f.2 in
+    let key : NodeKey = record { inst = inst; pc = pc.0.0; masks = m.0.0; i = i.0.0; delay = d.0.0; sp = f.0.0; pick = p.0.0 } in
+    let last = tested {A = NodeKey × List (List ℕ)} (nat_lt pc.0.0 WORDS) (key, p.0.1) z p.2 in
     let w = word_by_take (form_in (is_root inst.kind)) d.0.1 f.0 f.1 in
     let form = v.spelled.form (is_root inst.kind) w.0 f.0.0 w.2 in
+    let pick = pick_at_take k version f.0.1 p.0 p.1 in
     let masks = masks_take k pc.0.1 m.0 m.1 in
     let below : pc.0.0 < WORDS = grind (arith, nat_tests, last.0) in
-    let P : NodeKey × List (List ℕ) → Type 0 = λ y. IsPlace inst ws y.1 y.0 in
+    let P : NodeKey × List (List ℕ) → Type 0 = λ y. IsPlace version inst ws y.1 y.0 in
     subst P last.1 (record {
       words = (hex_take k 4 ws pc.0 pc.1).0 ∙ ap (cons (hex_digits pc.0.0 4)) (masks.0 ∙ ap (cons (hex_digits m.0.0 7)) (flag_take k m.0.1 i.0 i.1
-          ∙ ap (cons (bit i.0.0)) (flag_take k i.0.1 d.0 d.1 ∙ ap (cons (bit d.0.0)) (w.1 ∙ ap (λ (x : List ℕ). x ∷ f.0.1) form.0))));
-      key_fits = record { word = below; small = form_offset (is_root inst.kind) f.0.0 form.1; masks = masks.1; fits = form_fits inst.kind f.0.0 form.1 };
+          ∙ ap (cons (bit i.0.0)) (flag_take k i.0.1 d.0 d.1 ∙ ap (cons (bit d.0.0)) (w.1 ∙ ap₂ cons form.0 pick.words))));
+      key_fits = record { word = below; small = form_offset (is_root inst.kind) f.0.0 form.1; masks = masks.1; fits = form_fits inst.kind f.0.0 form.1; pick = pick.fits };
+      of_version = pick.of_version;
       same = refl;
     })
 
-key_spelled : WordLaws → ValueWords → (inst : InstKey) (ws rest : List (List ℕ)) (key : NodeKey) → node_key_at inst ws ≡ Some (key, rest) → IsPlace inst ws rest key
-key_spelled k v inst ws rest key e = key_take k v inst ws (key, rest) e
+key_spelled : WordLaws → ValueWords → (version : Version) (inst : InstKey) (ws rest : List (List ℕ)) (key : NodeKey) → node_key_at version inst ws ≡ Some (key, rest) → IsPlace version inst ws rest key
+key_spelled k v version inst ws rest key e = key_take k v version inst ws (key, rest) e
 
-key_again : WordLaws → ValueWords → (key : NodeKey) (rest : List (List ℕ)) → IsKey key → node_key_at key.inst (place_words key ++ rest) ≡ Some (key, rest)
+key_again : WordLaws → ValueWords → (version : Version) (key : NodeKey) (rest : List (List ℕ)) → IsKey key → PickIsOf version key.pick → node_key_at version key.inst (place_words version key ++ rest) ≡ Some (key, rest)
 unfolding node_key_at
-key_again k v key rest h =
-    let pc = k.hex_taken 4 key.pc (hex_digits key.masks 7 ∷ bit key.i ∷ bit key.delay ∷ form_word key.sp ∷ rest) (omega (arith, h.word)) in
-    let m = masks_again k key.masks (bit key.i ∷ bit key.delay ∷ form_word key.sp ∷ rest) h.masks in
-    let i = flag_again k key.i (bit key.delay ∷ form_word key.sp ∷ rest) in
-    let d = flag_again k key.delay (form_word key.sp ∷ rest) in
+key_again k v version key rest h g =
+    let behind : List (List ℕ) = pick_words version key.pick ++ rest in
+    let pc = k.hex_taken 4 key.pc (hex_digits key.masks 7 ∷ bit key.i ∷ bit key.delay ∷ form_word key.sp ∷ behind) (omega (arith, h.word)) in
+    let m = masks_again k key.masks (bit key.i ∷ bit key.delay ∷ form_word key.sp ∷ behind) h.masks in
+    let i = flag_again k key.i (bit key.delay ∷ form_word key.sp ∷ behind) in
+    let d = flag_again k key.delay (form_word key.sp ∷ behind) in
     let f = v.read.form (is_root key.inst.kind) key.sp (is_form key.inst.kind key.sp h.small h.fits) in
+    let p = pick_at_again k version key.pick rest h.pick g in
     let word : key.pc < WORDS = h.word in
     let below : nat_lt key.pc WORDS ≡ true = grind (arith, nat_tests, word) in
-    rw (pc, m, i, d, f, below) refl
+    rw (pc, m, i, d, f, p, below) refl
 
-key_plain : WordLaws → ValueWords → (key : NodeKey) → IsKey key → AllByRecursion IsWord (place_words key)
-key_plain k v key h = (
+key_plain : WordLaws → ValueWords → (version : Version) (key : NodeKey) → IsKey key → AllByRecursion IsWord (place_words version key)
+key_plain k v version key h = (
   k.hex_word key.pc 4 (omega (arith, h.word)),
-  (k.hex_word key.masks 7 (omega (arith, h.masks)), (bit_word key.i, (bit_word key.delay, (v.words.form (is_root key.inst.kind) key.sp (is_form key.inst.kind key.sp h.small h.fits), tt)))),
+  (
+    k.hex_word key.masks 7 (omega (arith, h.masks)),
+    (bit_word key.i, (bit_word key.delay, (v.words.form (is_root key.inst.kind) key.sp (is_form key.inst.kind key.sp h.small h.fits), pick_plain k version key.pick h.pick))),
+  ),
 )
 
 pub places : WordLaws → ValueWords → PlaceWords

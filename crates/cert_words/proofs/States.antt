@@ -19,7 +19,7 @@ use Rattle.abs_state.specs.declared.values.AbsByte.{AbsByte}
 use Rattle.abs_state.specs.declared.values.AbsFlags.{AbsFlags}
 use Rattle.abs_state.specs.declared.state.AbsState.{AbsState}
 use Rattle.abs_state.specs.Values.{unknown}
-use Rattle.abs_state.specs.Formed.{SlotNamesRegister, SlotIsUntagged, IsFormed, IsUntagged}
+use Rattle.abs_state.specs.Formed.{SlotNamesRegister, SlotByteFits, SlotIsUntagged, IsFormed, IsUntagged}
 use Rattle.mask_states.specs.declared.keys.Kind.{Kind}
 use Rattle.mask_states.specs.declared.keys.Kind.TheVariants.{Root, Call, Vector}
 use Rattle.mask_states.specs.declared.keys.NodeKey.{NodeKey}
@@ -28,11 +28,13 @@ use Rattle.local_rules.specs.Cover.{SlotFits, TagsFit, IsNode}
 use Rattle.edge_rules.specs.declared.seeded.NodeForm.{NodeForm}
 use Rattle.edge_rules.specs.declared.seeded.NodeForm.TheVariants.{State, From}
 use Rattle.certificate.specs.Claims.{IsKey, FitsAt}
-use Rattle.cert_words.specs.Spelling.{value_word, flags_word, carry_word, slot_word, tag_text}
+use Rattle.certificate.specs.declared.version.Version.{Version}
+use Rattle.certificate.specs.Versions.{ValueIsOf, SlotIsOf, StateIsOf, FormIsOf}
+use Rattle.cert_words.specs.Spelling.{value_word, flags_word, carry_word, slot_word, tag_text, bits_text, range_text}
 use Rattle.cert_words.specs.KeySpelling.{state_words, form_words}
 use Rattle.cert_words.specs.Reading.{value_in, slot_in, flags_in, carry_in}
 use Rattle.cert_words.specs.KeyReading.{word_by, words_from, is_root, flags_at, state_behind, by_state, from_behind, form_at}
-use Rattle.cert_words.specs.Fits.{IsTag, AreFlags, IsCarry, IsSlot}
+use Rattle.cert_words.specs.Fits.{IsValue, AreFlags, IsCarry, IsSlot}
 use Rattle.cert_words.specs.Laws.{ValueWords}
 use Rattle.cert_words.specs.KeyLaws.{FormWords}
 use Rattle.cert_words.proofs.Pieces.{map_some, tested, length_hex}
@@ -41,145 +43,175 @@ use Rattle.cert_words.proofs.InstKeys.{cons}
 
 -- ---- what a state has, by its lists
 
-pub record HasParts (root : Bool) (offset : ℕ) (s : AbsState) : Type 0 where
+pub record HasParts (version : Version) (root : Bool) (offset : ℕ) (s : AbsState) : Type 0 where
   pub count_registers : length s.registers ≡ 32
-  pub registers : AllByRecursion (λ v. IsTag root v.tag) s.registers
+  pub registers : AllByRecursion (λ v. IsValue version root v) s.registers
   pub flags : AreFlags root s.flags.entry s.flags.bits
-  pub carry_fits : IsCarry root s.flags.carry
+  pub carry_fits : IsCarry version root s.flags.carry
   pub count_slots : length s.slots ≡ offset
-  pub slots : AllByRecursion (λ t. IsSlot root t) s.slots
+  pub slots : AllByRecursion (λ t. IsSlot version root t) s.slots
 
 same_at : {A : Type 0} (xs : List A) (i : ℕ) (d e : A) → i < length xs → get_or xs i d ≡ get_or xs i e
 same_at [] i d e h = absurd (omega (arith, h))
 same_at (x ∷ xs) zero d e h = refl
 same_at (x ∷ xs) (suc i) d e h = same_at xs i d e (omega (arith, h))
 
-slot_names : (root : Bool) (t : Slot AbsByte) → IsSlot root t → SlotNamesRegister t
-slot_names root Free h = tt
-slot_names root (Guarded v) h = h.names
+slot_names : (version : Version) (root : Bool) (t : Slot AbsByte) → IsSlot version root t → SlotNamesRegister t
+slot_names version root Free h = tt
+slot_names version root (Guarded v) h = h.fits_tag.names
 
-slot_fits : (root : Bool) (t : Slot AbsByte) → IsSlot root t → SlotFits t
-slot_fits root Free h = tt
-slot_fits root (Guarded v) h = h.fits
+slot_fits : (version : Version) (root : Bool) (t : Slot AbsByte) → IsSlot version root t → SlotFits t
+slot_fits version root Free h = tt
+slot_fits version root (Guarded v) h = h.fits_tag.fits
 
-slot_untagged : (t : Slot AbsByte) → IsSlot true t → SlotIsUntagged t
-slot_untagged Free h = tt
-slot_untagged (Guarded v) h = h.none refl
+slot_range : (version : Version) (root : Bool) (t : Slot AbsByte) → IsSlot version root t → SlotByteFits t
+slot_range version root Free h = tt
+slot_range version root (Guarded v) h = h.range
 
-slot_is : (root : Bool) (t : Slot AbsByte) → SlotNamesRegister t → SlotFits t → (root ≡ true → SlotIsUntagged t) → IsSlot root t
-slot_is root Free a b c = tt
-slot_is root (Guarded v) a b c = record { names = a; fits = b; none = c }
+slot_of_version : (version : Version) (root : Bool) (t : Slot AbsByte) → IsSlot version root t → SlotIsOf version t
+slot_of_version version root Free h = tt
+slot_of_version version root (Guarded v) h = h.of_version
 
-formed_by : (root : Bool) (offset : ℕ) (s : AbsState) → HasParts root offset s → IsFormed s offset
-formed_by root offset s h =
-    let rs = All-from_recursion (λ (v : AbsByte). IsTag root v.tag) s.registers h.registers in
-    let ss = All-from_recursion (λ (t : Slot AbsByte). IsSlot root t) s.slots h.slots in
+slot_untagged : (version : Version) (t : Slot AbsByte) → IsSlot version true t → SlotIsUntagged t
+slot_untagged version Free h = tt
+slot_untagged version (Guarded v) h = h.fits_tag.none refl
+
+slot_is : (version : Version) (root : Bool) (t : Slot AbsByte) → SlotNamesRegister t → SlotFits t → (root ≡ true → SlotIsUntagged t) → SlotByteFits t → SlotIsOf version t → IsSlot version root t
+slot_is version root Free a b c d e = tt
+slot_is version root (Guarded v) a b c d e = record { fits_tag = record { names = a; fits = b; none = c }; range = d; of_version = e }
+
+all_say : {A : Type 0} (P Q : A → Type 0) → ((x : A) → P x → Q x) → (xs : List A) → AllByRecursion P xs → AllByRecursion Q xs
+all_say P Q says [] h = tt
+all_say P Q says (x ∷ xs) h = (says x h.0, all_say P Q says xs h.1)
+
+formed_by : (version : Version) (root : Bool) (offset : ℕ) (s : AbsState) → HasParts version root offset s → IsFormed s offset
+formed_by version root offset s h =
+    let rs = All-from_recursion (λ (v : AbsByte). IsValue version root v) s.registers h.registers in
+    let ss = All-from_recursion (λ (t : Slot AbsByte). IsSlot version root t) s.slots h.slots in
     record {
       count_registers = h.count_registers;
-      registers = λ r l. (rs r unknown (omega (arith, h.count_registers, l))).names;
+      registers = λ r l. (rs r unknown (omega (arith, h.count_registers, l))).fits_tag.names;
       bit_7 = h.flags.bit_7;
       count_slots = h.count_slots;
-      slots = λ d l. slot_names root (slot_at s.slots d) (ss d Free l);
+      slots = λ d l. slot_names version root (slot_at s.slots d) (ss d Free l);
+      carry = h.carry_fits.names;
+      ranges = λ r l. (rs r unknown (omega (arith, h.count_registers, l))).range;
+      slot_ranges = λ d l. slot_range version root (slot_at s.slots d) (ss d Free l);
     }
 
-tags_by : (root : Bool) (offset : ℕ) (s : AbsState) → HasParts root offset s → TagsFit s
-tags_by root offset s h =
-    let rs = All-from_recursion (λ (v : AbsByte). IsTag root v.tag) s.registers h.registers in
-    let ss = All-from_recursion (λ (t : Slot AbsByte). IsSlot root t) s.slots h.slots in
+tags_by : (version : Version) (root : Bool) (offset : ℕ) (s : AbsState) → HasParts version root offset s → TagsFit s
+tags_by version root offset s h =
+    let rs = All-from_recursion (λ (v : AbsByte). IsValue version root v) s.registers h.registers in
+    let ss = All-from_recursion (λ (t : Slot AbsByte). IsSlot version root t) s.slots h.slots in
     record {
-      registers = λ r l. (rs r unknown (omega (arith, h.count_registers, l))).fits;
-      slots = λ d l. slot_fits root (slot_at s.slots d) (ss d Free l);
+      registers = λ r l. (rs r unknown (omega (arith, h.count_registers, l))).fits_tag.fits;
+      slots = λ d l. slot_fits version root (slot_at s.slots d) (ss d Free l);
     }
 
-untagged_by : (offset : ℕ) (s : AbsState) → HasParts true offset s → IsUntagged s
-untagged_by offset s h =
-    let rs = All-from_recursion (λ (v : AbsByte). IsTag true v.tag) s.registers h.registers in
-    let ss = All-from_recursion (λ (t : Slot AbsByte). IsSlot true t) s.slots h.slots in
+untagged_by : (version : Version) (offset : ℕ) (s : AbsState) → HasParts version true offset s → IsUntagged s
+untagged_by version offset s h =
+    let rs = All-from_recursion (λ (v : AbsByte). IsValue version true v) s.registers h.registers in
+    let ss = All-from_recursion (λ (t : Slot AbsByte). IsSlot version true t) s.slots h.slots in
     record {
-      registers = λ r l. (rs r unknown (omega (arith, h.count_registers, l))).none refl;
+      registers = λ r l. (rs r unknown (omega (arith, h.count_registers, l))).fits_tag.none refl;
       entry = h.flags.none refl;
-      carry = h.carry_fits.none refl;
-      slots = λ d l. slot_untagged (slot_at s.slots d) (ss d Free l);
+      carry = h.carry_fits.untagged refl;
+      slots = λ d l. slot_untagged version (slot_at s.slots d) (ss d Free l);
     }
 
-parts_by : (root : Bool) (offset : ℕ) (s : AbsState) → IsFormed s offset → TagsFit s → IsCarry root s.flags.carry → (root ≡ true → IsUntagged s) → HasParts root offset s
-parts_by root offset s f t c u = record {
-  count_registers = f.count_registers;
-  registers = recursion_from_All (λ (v : AbsByte). IsTag root v.tag) s.registers (λ r d l.
-      let low : r < 32 = omega (arith, f.count_registers, l) in
-      let P : AbsByte → Type 0 = λ v. IsTag root v.tag in
-      subst P (same_at s.registers r unknown d l) (record { names = f.registers r low; fits = t.registers r low; none = λ e. (u e).registers r low }));
-  flags = record { bit_7 = f.bit_7; none = λ e. (u e).entry };
-  carry_fits = c;
-  count_slots = f.count_slots;
-  slots = recursion_from_All (λ (x : Slot AbsByte). IsSlot root x) s.slots (λ i d l.
-      let P : Slot AbsByte → Type 0 = λ x. IsSlot root x in
-      subst P (same_at s.slots i Free d l) (slot_is root (slot_at s.slots i) (f.slots i l) (t.slots i l) (λ e. (u e).slots i l)));
+of_version_by : (version : Version) (root : Bool) (offset : ℕ) (s : AbsState) → HasParts version root offset s → StateIsOf version s
+of_version_by version root offset s h = record {
+  registers = all_say (λ v. IsValue version root v) (λ v. ValueIsOf version v) (λ v p. p.of_version) s.registers h.registers;
+  carry_tag = h.carry_fits.of_version;
+  slots = all_say (λ t. IsSlot version root t) (λ t. SlotIsOf version t) (slot_of_version version root) s.slots h.slots;
 }
+
+parts_by : (version : Version) (root : Bool) (offset : ℕ) (s : AbsState) → IsFormed s offset → TagsFit s → IsCarry version root s.flags.carry → (root ≡ true → IsUntagged s) → StateIsOf version s → HasParts version root offset s
+parts_by version root offset s f t c u o =
+    let vs = All-from_recursion (λ (v : AbsByte). ValueIsOf version v) s.registers o.registers in
+    let ts = All-from_recursion (λ (x : Slot AbsByte). SlotIsOf version x) s.slots o.slots in
+    record {
+      count_registers = f.count_registers;
+      registers = recursion_from_All (λ (v : AbsByte). IsValue version root v) s.registers (λ r d l.
+          let low : r < 32 = omega (arith, f.count_registers, l) in
+          let P : AbsByte → Type 0 = λ v. IsValue version root v in
+          subst P (same_at s.registers r unknown d l)
+          (record { fits_tag = record { names = f.registers r low; fits = t.registers r low; none = λ e. (u e).registers r low }; range = f.ranges r low; of_version = vs r unknown l }));
+      flags = record { bit_7 = f.bit_7; none = λ e. (u e).entry };
+      carry_fits = c;
+      count_slots = f.count_slots;
+      slots = recursion_from_All (λ (x : Slot AbsByte). IsSlot version root x) s.slots (λ i d l.
+          let P : Slot AbsByte → Type 0 = λ x. IsSlot version root x in
+          subst P (same_at s.slots i Free d l) (slot_is version root (slot_at s.slots i) (f.slots i l) (t.slots i l) (λ e. (u e).slots i l) (f.slot_ranges i l) (ts i Free l)));
+    }
 
 -- ---- the state's words
 
-flags_take : ValueWords → (root : Bool) (ws : List (List ℕ)) (z : AbsFlags × List (List ℕ)) → flags_at root ws ≡ Some z
-    → (ws ≡ flags_word z.0.entry z.0.bits ∷ carry_word z.0.carry ∷ z.1) × AreFlags root z.0.entry z.0.bits × IsCarry root z.0.carry
+flags_take : ValueWords → (version : Version) (root : Bool) (ws : List (List ℕ)) (z : AbsFlags × List (List ℕ)) → flags_at version root ws ≡ Some z
+    → (ws ≡ flags_word z.0.entry z.0.bits ∷ carry_word z.0.carry ∷ z.1) × AreFlags root z.0.entry z.0.bits × IsCarry version root z.0.carry
 unfolding flags_at
-flags_take v root ws z e =
+flags_take v version root ws z e =
     let f = bind_some (word_by (flags_in root) ws) _ z e in
-    let c = bind_some (word_by (carry_in root) f.0.1) _ z f.2 in
+    let c = bind_some (word_by (carry_in version root) f.0.1) _ z f.2 in
     let wf = word_by_take (flags_in root) ws f.0 f.1 in
-    let wc = word_by_take (carry_in root) f.0.1 c.0 c.1 in
+    let wc = word_by_take (carry_in version root) f.0.1 c.0 c.1 in
     let tf = v.spelled.flags root wf.0 f.0.0.0 f.0.0.1 wf.2 in
-    let tc = v.spelled.carry root wc.0 c.0.0 wc.2 in
-    let P : AbsFlags × List (List ℕ) → Type 0 = λ y. (ws ≡ flags_word y.0.entry y.0.bits ∷ carry_word y.0.carry ∷ y.1) × AreFlags root y.0.entry y.0.bits × IsCarry root y.0.carry in
+    let tc = v.spelled.carry version root wc.0 c.0.0 wc.2 in
+    let P : AbsFlags × List (List ℕ) → Type 0 = λ y. (ws ≡ flags_word y.0.entry y.0.bits ∷ carry_word y.0.carry ∷ y.1) × AreFlags root y.0.entry y.0.bits × IsCarry version root y.0.carry in
     subst P (some_is {A = AbsFlags × List (List ℕ)} (record { entry = f.0.0.0; bits = f.0.0.1; carry = c.0.0 }, c.0.1) z c.2)
     (wf.1 ∙ ap₂ cons tf.0 (wc.1 ∙ ap (λ (w : List ℕ). w ∷ c.0.1) tc.0), tf.1, tc.1)
 
-flags_again : ValueWords → (root : Bool) (f : AbsFlags) (rest : List (List ℕ)) → AreFlags root f.entry f.bits → IsCarry root f.carry → flags_at root (flags_word f.entry f.bits ∷ carry_word f.carry ∷ rest) ≡ Some (f, rest)
+flags_again : ValueWords → (version : Version) (root : Bool) (f : AbsFlags) (rest : List (List ℕ)) → AreFlags root f.entry f.bits → IsCarry version root f.carry
+    → flags_at version root (flags_word f.entry f.bits ∷ carry_word f.carry ∷ rest) ≡ Some (f, rest)
 unfolding flags_at
-flags_again v root f rest h g = rw (v.read.flags root f.entry f.bits h, v.read.carry root f.carry g) refl
+flags_again v version root f rest h g = rw (v.read.flags root f.entry f.bits h, v.read.carry version root f.carry g) refl
 
-record StateRead (root : Bool) (offset : ℕ) (first : AbsByte) (ws : List (List ℕ)) (z : AbsState × List (List ℕ)) : Type 0 where
-  pub words : value_word first ∷ ws ≡ state_words z.0 ++ z.1
-  pub parts : HasParts root offset z.0
+record StateRead (version : Version) (root : Bool) (offset : ℕ) (first : AbsByte) (ws : List (List ℕ)) (z : AbsState × List (List ℕ)) : Type 0 where
+  pub words : value_word version first ∷ ws ≡ state_words version z.0 ++ z.1
+  pub parts : HasParts version root offset z.0
 
-state_take : ValueWords → (root : Bool) (offset : ℕ) (first : AbsByte) (ws : List (List ℕ)) (z : AbsState × List (List ℕ)) → IsTag root first.tag → state_behind root offset first ws ≡ Some z → StateRead root offset first ws z
+state_take : ValueWords → (version : Version) (root : Bool) (offset : ℕ) (first : AbsByte) (ws : List (List ℕ)) (z : AbsState × List (List ℕ)) → IsValue version root first
+    → state_behind version root offset first ws ≡ Some z → StateRead version root offset first ws z
 unfolding state_behind
-state_take v root offset first ws z h e =
-    let r = bind_some (words_from (value_in root) (first ∷ []) 31 ws) _ z e in
-    let f = bind_some (flags_at root r.0.1) _ z r.2 in
-    let s = bind_some (words_from (slot_in root) [] offset f.0.1) _ z f.2 in
-    let rs = words_take (value_in root) value_word (λ x. IsTag root x.tag) (v.spelled.value root) (first ∷ []) 31 ws r.0 r.1 in
-    let fs = flags_take v root r.0.1 f.0 f.1 in
-    let ss = words_take (slot_in root) slot_word (λ x. IsSlot root x) (v.spelled.slot root) [] offset f.0.1 s.0 s.1 in
-    let P : AbsState × List (List ℕ) → Type 0 = λ y. StateRead root offset first ws y in
-    let R : List AbsByte → Type 0 = λ xs. (length xs ≡ 32) × AllByRecursion (λ x. IsTag root x.tag) xs × (value_word first ∷ ws ≡ map value_word xs ++ r.0.1) in
-    let S : List (Slot AbsByte) → Type 0 = λ xs. (length xs ≡ offset) × AllByRecursion (λ x. IsSlot root x) xs × (f.0.1 ≡ map slot_word xs ++ s.0.1) in
+state_take v version root offset first ws z h e =
+    let r = bind_some (words_from (value_in version root) (first ∷ []) 31 ws) _ z e in
+    let f = bind_some (flags_at version root r.0.1) _ z r.2 in
+    let s = bind_some (words_from (slot_in version root) [] offset f.0.1) _ z f.2 in
+    let rs = words_take (value_in version root) (value_word version) (λ x. IsValue version root x) (v.spelled.value version root) (first ∷ []) 31 ws r.0 r.1 in
+    let fs = flags_take v version root r.0.1 f.0 f.1 in
+    let ss = words_take (slot_in version root) (slot_word version) (λ x. IsSlot version root x) (v.spelled.slot version root) [] offset f.0.1 s.0 s.1 in
+    let P : AbsState × List (List ℕ) → Type 0 = λ y. StateRead version root offset first ws y in
+    let R : List AbsByte → Type 0 = λ xs. (length xs ≡ 32) × AllByRecursion (λ x. IsValue version root x) xs × (value_word version first ∷ ws ≡ map (value_word version) xs ++ r.0.1) in
+    let S : List (Slot AbsByte) → Type 0 = λ xs. (length xs ≡ offset) × AllByRecursion (λ x. IsSlot version root x) xs × (f.0.1 ≡ map (slot_word version) xs ++ s.0.1) in
     let count : length (first ∷ rs.items) ≡ 32 = omega (arith, rs.number) in
-    let a = subst R (sym rs.all) (count, (h, rs.fit), ap (cons (value_word first)) rs.words) in
+    let a = subst R (sym rs.all) (count, (h, rs.fit), ap (cons (value_word version first)) rs.words) in
     let b = subst S (sym ss.all) (ss.number, ss.fit, ss.words) in
     subst P (some_is {A = AbsState × List (List ℕ)} (record { registers = r.0.0; flags = f.0.0; slots = s.0.0 }, s.0.1) z s.2) (record {
-      words = a.2 ∙ ap (λ (xs : List (List ℕ)). map value_word r.0.0 ++ xs) (fs.0 ∙ ap (λ (xs : List (List ℕ)). flags_word f.0.0.entry f.0.0.bits ∷ carry_word f.0.0.carry ∷ xs) b.2)
-          ∙ sym (append_assoc (map value_word r.0.0) (flags_word f.0.0.entry f.0.0.bits ∷ carry_word f.0.0.carry ∷ map slot_word s.0.0) s.0.1);
+      words = a.2 ∙ ap (λ (xs : List (List ℕ)). map (value_word version) r.0.0 ++ xs) (fs.0 ∙ ap (λ (xs : List (List ℕ)). flags_word f.0.0.entry f.0.0.bits ∷ carry_word f.0.0.carry ∷ xs) b.2)
+          ∙ sym (append_assoc (map (value_word version) r.0.0) (flags_word f.0.0.entry f.0.0.bits ∷ carry_word f.0.0.carry ∷ map (slot_word version) s.0.0) s.0.1);
       parts = record { count_registers = a.0; registers = a.1; flags = fs.1; carry_fits = fs.2; count_slots = b.0; slots = b.1 };
     })
 
-abbrev behind_registers : AbsFlags → List (Slot AbsByte) → List (List ℕ)
-behind_registers f slots = flags_word f.entry f.bits ∷ carry_word f.carry ∷ map slot_word slots
+abbrev behind_registers : Version → AbsFlags → List (Slot AbsByte) → List (List ℕ)
+behind_registers version f slots = flags_word f.entry f.bits ∷ carry_word f.carry ∷ map (slot_word version) slots
 
-state_again : ValueWords → (root : Bool) (offset : ℕ) (first : AbsByte) (more : List AbsByte) (f : AbsFlags) (slots : List (Slot AbsByte)) → HasParts root offset (record { registers = first ∷ more; flags = f; slots = slots })
-    → state_behind root offset first (map value_word more ++ behind_registers f slots) ≡ Some (record { registers = first ∷ more; flags = f; slots = slots }, [])
+state_again : ValueWords → (version : Version) (root : Bool) (offset : ℕ) (first : AbsByte) (more : List AbsByte) (f : AbsFlags) (slots : List (Slot AbsByte)) → HasParts version root offset (record { registers = first ∷ more; flags = f; slots = slots })
+    → state_behind version root offset first (map (value_word version) more ++ behind_registers version f slots) ≡ Some (record { registers = first ∷ more; flags = f; slots = slots }, [])
 unfolding state_behind
-state_again v root offset first more f slots h =
-    let rs = words_again (value_in root) value_word (λ x. IsTag root x.tag) (v.read.value root) (first ∷ []) more 31 (behind_registers f slots) h.registers.1 (omega (arith, h.count_registers)) in
-    let fs = flags_again v root f (map slot_word slots) h.flags h.carry_fits in
-    let ss : words_from (slot_in root) [] offset (map slot_word slots) ≡ Some (slots, []) =
-    ap (words_from (slot_in root) [] offset) (sym (append-nil (map slot_word slots))) ∙ words_again (slot_in root) slot_word (λ x. IsSlot root x) (v.read.slot root) [] slots offset [] h.slots h.count_slots in
+state_again v version root offset first more f slots h =
+    let rs =
+    words_again (value_in version root) (value_word version) (λ x. IsValue version root x) (v.read.value version root) (first ∷ []) more 31 (behind_registers version f slots) h.registers.1 (omega (arith, h.count_registers)) in
+    let fs = flags_again v version root f (map (slot_word version) slots) h.flags h.carry_fits in
+    let ss : words_from (slot_in version root) [] offset (map (slot_word version) slots) ≡ Some (slots, []) =
+    ap (words_from (slot_in version root) [] offset) (sym (append-nil (map (slot_word version) slots)))
+    ∙ words_again (slot_in version root) (slot_word version) (λ x. IsSlot version root x) (v.read.slot version root) [] slots offset [] h.slots h.count_slots in
     rw (rs, fs, ss) refl
 
-state_plain : ValueWords → (root : Bool) (offset : ℕ) (s : AbsState) → HasParts root offset s → AllByRecursion IsWord (state_words s)
-state_plain v root offset s h =
-    joined_words (map value_word s.registers) (flags_word s.flags.entry s.flags.bits ∷ carry_word s.flags.carry ∷ map slot_word s.slots)
-    (words_plain value_word (λ x. IsTag root x.tag) (v.words.value root) s.registers h.registers)
-    (v.words.flags s.flags.entry s.flags.bits, (v.words.carry root s.flags.carry h.carry_fits, words_plain slot_word (λ x. IsSlot root x) (v.words.slot root) s.slots h.slots))
+state_plain : ValueWords → (version : Version) (root : Bool) (offset : ℕ) (s : AbsState) → HasParts version root offset s → AllByRecursion IsWord (state_words version s)
+state_plain v version root offset s h =
+    joined_words (map (value_word version) s.registers) (flags_word s.flags.entry s.flags.bits ∷ carry_word s.flags.carry ∷ map (slot_word version) s.slots)
+    (words_plain (value_word version) (λ x. IsValue version root x) (v.words.value version root) s.registers h.registers)
+    (v.words.flags s.flags.entry s.flags.bits, (v.words.carry version root s.flags.carry h.carry_fits, words_plain (slot_word version) (λ x. IsSlot version root x) (v.words.slot version root) s.slots h.slots))
 
 -- ---- states of nodes
 
@@ -193,22 +225,24 @@ kind_root Root e = refl
 kind_root Call e = cc
 kind_root (Vector v) e = cc
 
-node_kept : (key : NodeKey) (s : AbsState) → IsKey key → HasParts (is_root key.inst.kind) (offset_of key.sp) s → IsNode key s
-node_kept key s h parts = record {
+node_kept : (version : Version) (key : NodeKey) (s : AbsState) → IsKey key → HasParts version (is_root key.inst.kind) (offset_of key.sp) s → IsNode key s
+node_kept version key s h parts = record {
   word = h.word;
   small = h.small;
   masks = h.masks;
   fits = h.fits;
-  formed = formed_by (is_root key.inst.kind) (offset_of key.sp) s parts;
-  tags = tags_by (is_root key.inst.kind) (offset_of key.sp) s parts;
-  borrow_bytes = parts.carry_fits.bytes;
-  untagged = λ e. let P : Bool → Type 0 = λ r. HasParts r (offset_of key.sp) s in untagged_by (offset_of key.sp) s (subst P (root_kind key.inst.kind e) parts);
+  pick = h.pick;
+  formed = formed_by version (is_root key.inst.kind) (offset_of key.sp) s parts;
+  tags = tags_by version (is_root key.inst.kind) (offset_of key.sp) s parts;
+  carry_bytes = parts.carry_fits.bytes;
+  untagged = λ e. let P : Bool → Type 0 = λ r. HasParts version r (offset_of key.sp) s in untagged_by version (offset_of key.sp) s (subst P (root_kind key.inst.kind e) parts);
 }
 
-node_parts : (key : NodeKey) (s : AbsState) → IsNode key s → HasParts (is_root key.inst.kind) (offset_of key.sp) s
-node_parts key s h =
+node_parts : (version : Version) (key : NodeKey) (s : AbsState) → IsNode key s → StateIsOf version s → HasParts version (is_root key.inst.kind) (offset_of key.sp) s
+node_parts version key s h o =
     let untagged : is_root key.inst.kind ≡ true → IsUntagged s = λ e. h.untagged (kind_root key.inst.kind e) in
-    parts_by (is_root key.inst.kind) (offset_of key.sp) s h.formed h.tags (record { bytes = h.borrow_bytes; none = λ e. (untagged e).carry }) untagged
+    parts_by version (is_root key.inst.kind) (offset_of key.sp) s h.formed h.tags
+    (record { bytes = h.carry_bytes; names = h.formed.carry; untagged = λ e. (untagged e).carry; of_version = o.carry_tag }) untagged o
 
 -- ---- where a state comes from
 
@@ -220,77 +254,84 @@ tag_some tag.EntryFlags = omega arith
 tag_some (tag.SpLo j) = omega (arith, length_hex j 2)
 tag_some (tag.SpHi k) = omega (arith, length_hex k 4)
 
-value_long : (v : AbsByte) → 5 ≤ length (value_word v)
-value_long v =
-    let all = length-append (tag_text v.tag) (hex_digits v.bits.known 2 ++ hex_digits v.bits.value 2) in
+value_long : (version : Version) (v : AbsByte) → 5 ≤ length (value_word version v)
+value_long version v =
+    let all = length-append (tag_text v.tag) (bits_text v.bits ++ range_text version v) in
+    let behind = length-append (bits_text v.bits) (range_text version v) in
     let bits = length-append (hex_digits v.bits.known 2) (hex_digits v.bits.value 2) in
-    omega (arith, all, bits, length_hex v.bits.known 2, length_hex v.bits.value 2, tag_some v.tag)
+    omega (arith, all, behind, bits, length_hex v.bits.known 2, length_hex v.bits.value 2, tag_some v.tag)
 
-no_from_by : (v : AbsByte) (t : Bool) → bytes_eq (value_word v) (codes "from") ≡ t → t ≡ false
-no_from_by v false e = refl
-no_from_by v true e = absurd (omega (arith, value_long v, ap length ((bytes_eq-Decides (value_word v) (codes "from")).0 e)))
+no_from_by : (version : Version) (v : AbsByte) (t : Bool) → bytes_eq (value_word version v) (codes "from") ≡ t → t ≡ false
+no_from_by version v false e = refl
+no_from_by version v true e = absurd (omega (arith, value_long version v, ap length ((bytes_eq-Decides (value_word version v) (codes "from")).0 e)))
 
-no_from : (v : AbsByte) → bytes_eq (value_word v) (codes "from") ≡ false
-no_from v = no_from_by v (bytes_eq (value_word v) (codes "from")) refl
+no_from : (version : Version) (v : AbsByte) → bytes_eq (value_word version v) (codes "from") ≡ false
+no_from version v = no_from_by version v (bytes_eq (value_word version v) (codes "from")) refl
 
 -- ---- the form
 
-record FormRead (at : ℕ) (key : NodeKey) (ws : List (List ℕ)) (z : NodeForm × List (List ℕ)) : Type 0 where
-  pub words : ws ≡ form_words z.0 ++ z.1
+record FormRead (version : Version) (at : ℕ) (key : NodeKey) (ws : List (List ℕ)) (z : NodeForm × List (List ℕ)) : Type 0 where
+  pub words : ws ≡ form_words version z.0 ++ z.1
   pub fits : FitsAt at key z.0
+  pub of_version : FormIsOf version z.0
 
-from_take : WordLaws → (at : ℕ) (key : NodeKey) (w : List ℕ) (ws : List (List ℕ)) (z : NodeForm × List (List ℕ)) → IsKey key → w ≡ codes "from" → from_behind at ws ≡ Some z → FormRead at key (w ∷ ws) z
+from_take : WordLaws → (version : Version) (at : ℕ) (key : NodeKey) (w : List ℕ) (ws : List (List ℕ)) (z : NodeForm × List (List ℕ)) → IsKey key → w ≡ codes "from" → from_behind at ws ≡ Some z → FormRead version at key (w ∷ ws) z
 unfolding from_behind
-from_take k at key w ws z h is e =
+from_take k version at key w ws z h is e =
     let m = bind_some (dec_at 65535 ws) _ z e in
     let last = tested {A = NodeForm × List (List ℕ)} (nat_lt m.0.0 at) (From m.0.0, m.0.1) z m.2 in
     let t = dec_take k 65535 ws m.0 (lit< tt) m.1 in
     let low : m.0.0 < at = grind (arith, nat_tests, last.0) in
-    let P : NodeForm × List (List ℕ) → Type 0 = λ y. FormRead at key (w ∷ ws) y in
-    subst P last.1 (record { words = ap₂ cons is t.0; fits = (h, low) })
+    let P : NodeForm × List (List ℕ) → Type 0 = λ y. FormRead version at key (w ∷ ws) y in
+    subst P last.1 (record { words = ap₂ cons is t.0; fits = (h, low); of_version = tt })
 
-form_state : ValueWords → (at : ℕ) (key : NodeKey) (w : List ℕ) (ws : List (List ℕ)) (z : NodeForm × List (List ℕ)) → IsKey key
-    → (value_in (is_root key.inst.kind) w >>= λ v. by_state (state_behind (is_root key.inst.kind) (offset_of key.sp) v ws)) ≡ Some z → FormRead at key (w ∷ ws) z
-form_state v at key w ws z h e =
-    let first = bind_some (value_in (is_root key.inst.kind) w) _ z e in
-    let s = map_some (state_behind (is_root key.inst.kind) (offset_of key.sp) first.0 ws) (λ s. (State s.0, s.1)) z first.2 in
-    let word = v.spelled.value (is_root key.inst.kind) w first.0 first.1 in
-    let t = state_take v (is_root key.inst.kind) (offset_of key.sp) first.0 ws s.0 word.1 s.1 in
-    let P : NodeForm × List (List ℕ) → Type 0 = λ y. FormRead at key (w ∷ ws) y in
-    subst P s.2 (record { words = ap (λ (x : List ℕ). x ∷ ws) word.0 ∙ t.words; fits = node_kept key s.0.0 h t.parts })
+form_state : ValueWords → (version : Version) (at : ℕ) (key : NodeKey) (w : List ℕ) (ws : List (List ℕ)) (z : NodeForm × List (List ℕ)) → IsKey key
+    → (value_in version (is_root key.inst.kind) w >>= λ v. by_state (state_behind version (is_root key.inst.kind) (offset_of key.sp) v ws)) ≡ Some z → FormRead version at key (w ∷ ws) z
+form_state v version at key w ws z h e =
+    let first = bind_some (value_in version (is_root key.inst.kind) w) _ z e in
+    let s = map_some (state_behind version (is_root key.inst.kind) (offset_of key.sp) first.0 ws) (λ s. (State s.0, s.1)) z first.2 in
+    let word = v.spelled.value version (is_root key.inst.kind) w first.0 first.1 in
+    let t = state_take v version (is_root key.inst.kind) (offset_of key.sp) first.0 ws s.0 word.1 s.1 in
+    let P : NodeForm × List (List ℕ) → Type 0 = λ y. FormRead version at key (w ∷ ws) y in
+    subst P s.2 (record {
+      words = ap (λ (x : List ℕ). x ∷ ws) word.0 ∙ t.words;
+      fits = node_kept version key s.0.0 h t.parts;
+      of_version = of_version_by version (is_root key.inst.kind) (offset_of key.sp) s.0.0 t.parts;
+    })
 
-form_take : WordLaws → ValueWords → (at : ℕ) (key : NodeKey) (ws : List (List ℕ)) (z : NodeForm × List (List ℕ)) → IsKey key → form_at (is_root key.inst.kind) (offset_of key.sp) at ws ≡ Some z → FormRead at key ws z
+form_take : WordLaws → ValueWords → (version : Version) (at : ℕ) (key : NodeKey) (ws : List (List ℕ)) (z : NodeForm × List (List ℕ)) → IsKey key → form_at version (is_root key.inst.kind) (offset_of key.sp) at ws ≡ Some z → FormRead version at key ws z
 unfolding form_at
-form_take k v at key [] z h e = absurd (none_some z e)
-form_take k v at key (w ∷ ws) z h e = elim (chosen (bytes_eq w (codes "from")) _ _ (Some z) e) [
-  | inl g ↦ from_take k at key w ws z h ((bytes_eq-Decides w (codes "from")).0 g.0) g.1
-  | inr g ↦ form_state v at key w ws z h g.1
+form_take k v version at key [] z h e = absurd (none_some z e)
+form_take k v version at key (w ∷ ws) z h e = elim (chosen (bytes_eq w (codes "from")) _ _ (Some z) e) [
+  | inl g ↦ from_take k version at key w ws z h ((bytes_eq-Decides w (codes "from")).0 g.0) g.1
+  | inr g ↦ form_state v version at key w ws z h g.1
 ]
 
-form_spelled : WordLaws → ValueWords → (at : ℕ) (key : NodeKey) (ws rest : List (List ℕ)) (form : NodeForm) → IsKey key → form_at (is_root key.inst.kind) (offset_of key.sp) at ws ≡ Some (form, rest)
-    → (ws ≡ form_words form ++ rest) × FitsAt at key form
-form_spelled k v at key ws rest form h e = let t = form_take k v at key ws (form, rest) h e in (t.words, t.fits)
+form_spelled : WordLaws → ValueWords → (version : Version) (at : ℕ) (key : NodeKey) (ws rest : List (List ℕ)) (form : NodeForm) → IsKey key
+    → form_at version (is_root key.inst.kind) (offset_of key.sp) at ws ≡ Some (form, rest) → (ws ≡ form_words version form ++ rest) × FitsAt at key form × FormIsOf version form
+form_spelled k v version at key ws rest form h e = let t = form_take k v version at key ws (form, rest) h e in (t.words, t.fits, t.of_version)
 
-state_form : ValueWords → (root : Bool) (offset at : ℕ) (registers : List AbsByte) (f : AbsFlags) (slots : List (Slot AbsByte)) → HasParts root offset (record { registers = registers; flags = f; slots = slots })
-    → form_at root offset at (map value_word registers ++ behind_registers f slots) ≡ Some (State (record { registers = registers; flags = f; slots = slots }), [])
+state_form : ValueWords → (version : Version) (root : Bool) (offset at : ℕ) (registers : List AbsByte) (f : AbsFlags) (slots : List (Slot AbsByte)) → HasParts version root offset (record { registers = registers; flags = f; slots = slots })
+    → form_at version root offset at (map (value_word version) registers ++ behind_registers version f slots) ≡ Some (State (record { registers = registers; flags = f; slots = slots }), [])
 unfolding form_at
-state_form v root offset at [] f slots h = absurd (omega (arith, h.count_registers))
-state_form v root offset at (first ∷ more) f slots h =
-    let word = v.read.value root first h.registers.0 in
-    let s = state_again v root offset first more f slots h in
-    rw (no_from first, word, s) refl
+state_form v version root offset at [] f slots h = absurd (omega (arith, h.count_registers))
+state_form v version root offset at (first ∷ more) f slots h =
+    let word = v.read.value version root first h.registers.0 in
+    let s = state_again v version root offset first more f slots h in
+    rw (no_from version first, word, s) refl
 
-form_again : WordLaws → ValueWords → (at : ℕ) (key : NodeKey) (form : NodeForm) → at ≤ 65536 → FitsAt at key form → form_at (is_root key.inst.kind) (offset_of key.sp) at (form_words form) ≡ Some (form, [])
+form_again : WordLaws → ValueWords → (version : Version) (at : ℕ) (key : NodeKey) (form : NodeForm) → at ≤ 65536 → FitsAt at key form → FormIsOf version form
+    → form_at version (is_root key.inst.kind) (offset_of key.sp) at (form_words version form) ≡ Some (form, [])
 unfolding form_at from_behind
-form_again k v at key (State s) few h = state_form v (is_root key.inst.kind) (offset_of key.sp) at s.registers s.flags s.slots (node_parts key s h)
-form_again k v at key (From m) few h =
+form_again k v version at key (State s) few h o = state_form v version (is_root key.inst.kind) (offset_of key.sp) at s.registers s.flags s.slots (node_parts version key s h o)
+form_again k v version at key (From m) few h o =
     let d = k.dec_taken 65535 m [] (lit< tt) (omega (arith, few, h.1)) in
     let low : nat_lt m at ≡ true = grind (arith, nat_tests, h.1) in
     rw (d, low) refl
 
-form_plain : WordLaws → ValueWords → (at : ℕ) (key : NodeKey) (form : NodeForm) → at ≤ 65536 → FitsAt at key form → AllByRecursion IsWord (form_words form)
-form_plain k v at key (State s) few h = state_plain v (is_root key.inst.kind) (offset_of key.sp) s (node_parts key s h)
-form_plain k v at key (From m) few h = (((refl, (refl, (refl, (refl, tt)))), (refl, (refl, (refl, (refl, tt))))), (k.dec_word m (omega (arith, few, h.1)), tt))
+form_plain : WordLaws → ValueWords → (version : Version) (at : ℕ) (key : NodeKey) (form : NodeForm) → at ≤ 65536 → FitsAt at key form → FormIsOf version form → AllByRecursion IsWord (form_words version form)
+form_plain k v version at key (State s) few h o = state_plain v version (is_root key.inst.kind) (offset_of key.sp) s (node_parts version key s h o)
+form_plain k v version at key (From m) few h o = (((refl, (refl, (refl, (refl, tt)))), (refl, (refl, (refl, (refl, tt))))), (k.dec_word m (omega (arith, few, h.1)), tt))
 
 pub forms : WordLaws → ValueWords → FormWords
 forms k v = record { spelled = form_spelled k v; read = form_again k v; words = form_plain k v }

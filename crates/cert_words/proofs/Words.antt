@@ -1,5 +1,5 @@
 -- The words of values, slots, flags, carry tags and forms: what is read is spelled so, and what is spelled is read.
-use Rattle.std.proofs.Common.{ℕ, ◌-◌, ◌%◌, ◌<◌, ◌≤◌, ◌≡◌, ◌==◌, ◌&&◌, inl, inr, List, [], ◌∷◌, ◌++◌, length, take, drop, codes, Bool, true, false, refl, ap, ap₂, sym, ◌∙◌, arith, Some, cond, nat_lt, subst, length-append}
+use Rattle.std.proofs.Common.{ℕ, ◌-◌, ◌%◌, ◌<◌, ◌≤◌, ◌^◌, ◌≡◌, ◌==◌, ◌&&◌, not, nat_le, inl, inr, List, [], ◌∷◌, ◌++◌, length, take, drop, codes, Bool, true, false, refl, ap, ap₂, sym, ◌∙◌, arith, Some, cond, nat_lt, subst, length-append, append_assoc}
 use Rattle.std.proofs.lemmas.Bool.{eqb-true, false≢true}
 use Rattle.std.proofs.lemmas.Bool.Decides.{nat_tests}
 use Rattle.std.proofs.lemmas.List.{take-append-drop, append-nil}
@@ -13,10 +13,11 @@ use Rattle.sb_base.specs.Digits.{hex_digits}
 use Rattle.sb_base.specs.Lines.{Lacks}
 use Rattle.line_reading.specs.Words.{WordLaws, IsWord}
 use Rattle.line_reading.proofs.AllLaws.{chosen, some_is, none_some, bind_some, both}
-use Rattle.bit_domain.specs.declared.bits.Tri.TheVariants.{Zero, One, Any}
+use Rattle.bit_domain.specs.declared.bits.Tri.TheVariants as tri
 use Rattle.bit_domain.specs.declared.bytes.TriByte.{TriByte}
 use Rattle.bit_domain.specs.TriByte.{tri_of, tri_at}
 use Rattle.bit_domain.specs.Laws.{BytesAreTheirBits, BytesAreSets}
+use Rattle.bit_domain.specs.Ranges.{least_of, most_of, RangesFit, ByteSet}
 use Rattle.sp_domain.specs.declared.tags.Tag.{Tag}
 use Rattle.sp_domain.specs.declared.tags.Tag.TheVariants as tag
 use Rattle.sp_domain.specs.declared.tags.CarryTag.{CarryTag}
@@ -24,17 +25,20 @@ use Rattle.sp_domain.specs.declared.tags.CarryTag.TheVariants as carry
 use Rattle.sp_domain.specs.declared.slots.Slot.{Slot}
 use Rattle.sp_domain.specs.declared.slots.Slot.TheVariants.{Free, Guarded}
 use Rattle.abs_state.specs.declared.values.AbsByte.{AbsByte}
-use Rattle.abs_state.specs.Formed.{NamesRegister}
+use Rattle.abs_state.specs.Formed.{NamesRegister, ByteFits}
 use Rattle.mask_states.specs.declared.keys.High.{High}
 use Rattle.mask_states.specs.declared.keys.High.TheVariants as high
 use Rattle.mask_states.specs.declared.keys.SpForm.{SpForm}
 use Rattle.mask_states.specs.declared.keys.SpForm.TheVariants.{Closed, Open}
 use Rattle.local_rules.specs.Cover.{TagFits}
-use Rattle.cert_words.specs.Spelling.{bits_text, tag_text, value_word, entry_text, flags_word, carry_word, slot_word, high_text, form_word}
-use Rattle.cert_words.specs.Reading.{letter_at, digits_at, is_end, bits_at, register_at, tag_by, tag_at, value_in, slot_in, entry_by, flags_in, borrow_in, carry_in, offset_in, marked_in, high_in, high_size, open_in, form_in}
-use Rattle.cert_words.specs.Fits.{IsTag, AreFlags, IsCarry, IsSlot, IsHigh, IsForm}
+use Rattle.certificate.specs.declared.version.Version.{Version}
+use Rattle.certificate.specs.declared.version.Version.TheVariants.{One, Two}
+use Rattle.certificate.specs.Versions.{ValueIsOf}
+use Rattle.cert_words.specs.Spelling.{bits_text, tag_text, range_text, value_word, entry_text, flags_word, carry_word, slot_word, high_text, form_word}
+use Rattle.cert_words.specs.Reading.{letter_at, digits_at, is_end, bits_at, register_at, tag_by, tag_at, ends_at, range_at, value_in, slot_in, entry_by, flags_in, borrow_in, less_in, carry_by, carry_in, offset_in, marked_in, high_in, high_size, open_in, form_in}
+use Rattle.cert_words.specs.Fits.{IsTag, IsValue, AreFlags, IsCarry, IsSlot, IsHigh, IsForm}
 use Rattle.cert_words.specs.Laws.{ValueWords}
-use Rattle.cert_words.proofs.Pieces.{map_some, end_is, letter_take, tested, length_hex, digits_take, digits_again, bits_take, bits_again, register_take, register_again, offset_take, offset_again, marked_take, marked_again}
+use Rattle.cert_words.proofs.Pieces.{map_some, end_is, letter_take, tested, three, length_hex, digits_take, digits_again, bits_take, bits_again, register_take, register_again, offset_take, offset_again, marked_take, marked_again}
 
 abbrev front : ℕ → List ℕ → List ℕ
 front x xs = x ∷ xs
@@ -102,33 +106,106 @@ tag_again k root tag.EntryFlags rest h = rw (not_in_root root tag.EntryFlags (λ
 tag_again k root (tag.SpLo j) rest h = rw (not_in_root root (tag.SpLo j) (λ e. cc) h, digits_again k 2 j rest (omega (arith, h.fits))) refl
 tag_again k root (tag.SpHi j) rest h = rw (not_in_root root (tag.SpHi j) (λ e. cc) h, digits_again k 4 j rest (omega (arith, h.fits))) refl
 
+-- ---- ranges
+
+at_most : (a b : ℕ) → nat_le a b ≡ true → a ≤ b
+at_most a b h = grind (arith, nat_tests, h)
+
+is_at_most : (a b : ℕ) → a ≤ b → nat_le a b ≡ true
+is_at_most a b h = grind (arith, nat_tests, h)
+
+digits_alone : WordLaws → (count n : ℕ) → n < 16 ^ count → digits_at count (hex_digits n count) ≡ Some (n, [])
+digits_alone k count n h = ap (digits_at count) (sym (append-nil (hex_digits n count))) ∙ digits_again k count n [] h
+
+record EndsRead (bits : TriByte) (bs : List ℕ) (z : (ℕ × ℕ) × List ℕ) : Type 0 where
+  pub text : bs ≡ hex_digits z.0.0 2 ++ (hex_digits z.0.1 2 ++ z.1)
+  pub low : least_of bits ≤ z.0.0
+  pub ordered : z.0.0 ≤ z.0.1
+  pub high : z.0.1 ≤ most_of bits
+
+ends_take : WordLaws → (bits : TriByte) (bs : List ℕ) (z : (ℕ × ℕ) × List ℕ) → ends_at bits bs ≡ Some z → EndsRead bits bs z
+unfolding ends_at
+ends_take k bits bs z e =
+    let l = bind_some (digits_at 2 bs) _ z e in
+    let h = bind_some (digits_at 2 l.0.1) _ z l.2 in
+    let last = tested {A = (ℕ × ℕ) × List ℕ} (nat_le (least_of bits) l.0.0 && nat_le l.0.0 h.0.0 && nat_le h.0.0 (most_of bits)) ((l.0.0, h.0.0), h.0.1) z h.2 in
+    let t = three (nat_le (least_of bits) l.0.0) (nat_le l.0.0 h.0.0) (nat_le h.0.0 (most_of bits)) last.0 in
+    let first = digits_take k 2 bs l.0 l.1 in
+    let second = digits_take k 2 l.0.1 h.0 h.1 in
+    let P : (ℕ × ℕ) × List ℕ → Type 0 = λ y. EndsRead bits bs y in
+    subst P last.1 (record {
+      text = first.0 ∙ ap (λ (xs : List ℕ). hex_digits l.0.0 2 ++ xs) second.0;
+      low = at_most (least_of bits) l.0.0 t.0;
+      ordered = at_most l.0.0 h.0.0 t.1;
+      high = at_most h.0.0 (most_of bits) t.2;
+    })
+
+two_digits : (x most : ℕ) → x ≤ most → most < 256 → x < 16 ^ 2
+two_digits x most h g = omega (arith, h, g)
+
+ends_again : WordLaws → RangesFit → (bits : TriByte) (low high : ℕ) → least_of bits ≤ low → low ≤ high → high ≤ most_of bits → ends_at bits (hex_digits low 2 ++ hex_digits high 2) ≡ Some ((low, high), [])
+unfolding ends_at
+ends_again k r bits low high least ordered most =
+    let last = two_digits high (most_of bits) most (r.most bits) in
+    let first : low < 16 ^ 2 = omega (arith, ordered, last) in
+    rw (digits_again k 2 low (hex_digits high 2) first, digits_alone k 2 high last, is_at_most (least_of bits) low least, is_at_most low high ordered, is_at_most high (most_of bits) most) refl
+
+-- the value of these parts
+abbrev value_of : Tag → TriByte → ℕ × ℕ → AbsByte
+value_of t bits ends = record { tag = t; bits = bits; low = ends.0; high = ends.1 }
+
+record RangeRead (version : Version) (t : Tag) (bits : TriByte) (bs : List ℕ) (z : (ℕ × ℕ) × List ℕ) : Type 0 where
+  pub text : bs ≡ range_text version (value_of t bits z.0) ++ z.1
+  pub fits : ByteFits (value_of t bits z.0)
+  pub of_version : ValueIsOf version (value_of t bits z.0)
+
+range_take : WordLaws → RangesFit → (version : Version) (t : Tag) (bits : TriByte) (bs : List ℕ) (z : (ℕ × ℕ) × List ℕ) → range_at version bits bs ≡ Some z → RangeRead version t bits bs z
+range_take k r One t bits bs z e =
+    let P : (ℕ × ℕ) × List ℕ → Type 0 = λ y. RangeRead One t bits bs y in
+    subst P (some_is {A = (ℕ × ℕ) × List ℕ} ((least_of bits, most_of bits), bs) z e) (record { text = refl; fits = r.of_bits bits; of_version = refl })
+range_take k r Two t bits bs z e =
+    let d = ends_take k bits bs z e in
+    record { text = d.text ∙ sym (append_assoc (hex_digits z.0.0 2) (hex_digits z.0.1 2) z.1); fits = record { low = d.low; ordered = d.ordered; high = d.high }; of_version = tt }
+
+range_again : WordLaws → RangesFit → (version : Version) (v : AbsByte) → ByteFits v → ValueIsOf version v → range_at version v.bits (range_text version v) ≡ Some ((v.low, v.high), [])
+range_again k r One v fits h = ap (λ (s : ByteSet). Some ((s.low, s.high), [])) (sym h)
+range_again k r Two v fits h = ends_again k r v.bits v.low v.high fits.low fits.ordered fits.high
+
 -- ---- values and slots
 
-value_take : WordLaws → BytesAreTheirBits → (root : Bool) (w : List ℕ) (v : AbsByte) → value_in root w ≡ Some v → (w ≡ value_word v) × IsTag root v.tag
+value_take : WordLaws → BytesAreTheirBits → RangesFit → (version : Version) (root : Bool) (w : List ℕ) (v : AbsByte) → value_in version root w ≡ Some v → (w ≡ value_word version v) × IsValue version root v
 unfolding value_in
-value_take k b root w v e =
+value_take k b r version root w v e =
     let t = bind_some (tag_at root w) _ v e in
     let n = bind_some (bits_at t.0.1) _ v t.2 in
-    let last = tested {A = AbsByte} (is_end n.0.1) (record { tag = t.0.0; bits = n.0.0 }) v n.2 in
+    let g = bind_some (range_at version n.0.0 n.0.1) _ v n.2 in
+    let last = tested {A = AbsByte} (is_end g.0.1) (value_of t.0.0 n.0.0 g.0.0) v g.2 in
     let first = tag_take k root w t.0 t.1 in
-    let bits = bits_take k b t.0.1 n.0 n.1 ∙ ap (λ (xs : List ℕ). bits_text n.0.0 ++ xs) (end_is n.0.1 last.0) ∙ append-nil (bits_text n.0.0) in
-    let P : AbsByte → Type 0 = λ y. (w ≡ value_word y) × IsTag root y.tag in
-    subst P last.1 (first.0 ∙ ap (λ (xs : List ℕ). tag_text t.0.0 ++ xs) bits, first.1)
+    let range = range_take k r version t.0.0 n.0.0 n.0.1 g.0 g.1 in
+    let ends : List ℕ = range_text version (value_of t.0.0 n.0.0 g.0.0) in
+    let behind : n.0.1 ≡ ends = range.text ∙ ap (λ (xs : List ℕ). ends ++ xs) (end_is g.0.1 last.0) ∙ append-nil ends in
+    let bits : t.0.1 ≡ bits_text n.0.0 ++ ends = bits_take k b t.0.1 n.0 n.1 ∙ ap (λ (xs : List ℕ). bits_text n.0.0 ++ xs) behind in
+    let P : AbsByte → Type 0 = λ y. (w ≡ value_word version y) × IsValue version root y in
+    subst P last.1 (first.0 ∙ ap (λ (xs : List ℕ). tag_text t.0.0 ++ xs) bits, record { fits_tag = first.1; range = range.fits; of_version = range.of_version })
 
 bits_alone : WordLaws → BytesAreTheirBits → BytesAreSets → (t : TriByte) → bits_at (bits_text t) ≡ Some (t, [])
 bits_alone k b s t = ap bits_at (sym (append-nil (bits_text t))) ∙ bits_again k b s t []
 
-value_again : WordLaws → BytesAreTheirBits → BytesAreSets → (root : Bool) (v : AbsByte) → IsTag root v.tag → value_in root (value_word v) ≡ Some v
+value_again : WordLaws → BytesAreTheirBits → BytesAreSets → RangesFit → (version : Version) (root : Bool) (v : AbsByte) → IsValue version root v → value_in version root (value_word version v) ≡ Some v
 unfolding value_in
-value_again k b s root v h = rw (tag_again k root v.tag (bits_text v.bits) h, bits_alone k b s v.bits) refl
+value_again k b s r version root v h =
+    let first = tag_again k root v.tag (bits_text v.bits ++ range_text version v) h.fits_tag in
+    let bits = bits_again k b s v.bits (range_text version v) in
+    let range = range_again k r version v h.range h.of_version in
+    rw (first, bits, range) refl
 
-slot_take : WordLaws → BytesAreTheirBits → (root : Bool) (w : List ℕ) (s : Slot AbsByte) → slot_in root w ≡ Some s → (w ≡ slot_word s) × IsSlot root s
+slot_take : WordLaws → BytesAreTheirBits → RangesFit → (version : Version) (root : Bool) (w : List ℕ) (s : Slot AbsByte) → slot_in version root w ≡ Some s → (w ≡ slot_word version s) × IsSlot version root s
 unfolding slot_in
-slot_take k b root w s e =
-    let P : Slot AbsByte → Type 0 = λ y. (w ≡ slot_word y) × IsSlot root y in
+slot_take k b r version root w s e =
+    let P : Slot AbsByte → Type 0 = λ y. (w ≡ slot_word version y) × IsSlot version root y in
     elim (chosen (bytes_eq w (codes ".")) _ _ (Some s) e) [
       | inl h ↦ subst P (some_is {A = Slot AbsByte} Free s h.1) ((bytes_eq-Decides w (codes ".")).0 h.0, tt)
-      | inr h ↦ let v = map_some (value_in root w) (λ x. Guarded x) s h.1 in subst P v.2 (value_take k b root w v.0 v.1)
+      | inr h ↦ let v = map_some (value_in version root w) (λ x. Guarded x) s h.1 in subst P v.2 (value_take k b r version root w v.0 v.1)
     ]
 
 not_free : (t : Tag) (xs : List ℕ) → bytes_eq (tag_text t ++ xs) (codes ".") ≡ false
@@ -138,10 +215,10 @@ not_free tag.EntryFlags xs = refl
 not_free (tag.SpLo j) xs = refl
 not_free (tag.SpHi j) xs = refl
 
-slot_again : WordLaws → BytesAreTheirBits → BytesAreSets → (root : Bool) (t : Slot AbsByte) → IsSlot root t → slot_in root (slot_word t) ≡ Some t
+slot_again : WordLaws → BytesAreTheirBits → BytesAreSets → RangesFit → (version : Version) (root : Bool) (t : Slot AbsByte) → IsSlot version root t → slot_in version root (slot_word version t) ≡ Some t
 unfolding slot_in
-slot_again k b s root Free h = refl
-slot_again k b s root (Guarded v) h = rw (not_free v.tag (bits_text v.bits), value_again k b s root v h) refl
+slot_again k b s r version root Free h = refl
+slot_again k b s r version root (Guarded v) h = rw (not_free v.tag (bits_text v.bits ++ range_text version v), value_again k b s r version root v h) refl
 
 -- ---- flags
 
@@ -162,25 +239,25 @@ low_bit_7 n h = omega (arith, h)
 high_bit_7 : (n : ℕ) → n % 256 ≡ n → bit_at n 7 ≡ 0 → n < 128
 high_bit_7 n small e = omega (arith, small, e)
 
-unknown_if : (t : TriByte) → nat_lt t.known 128 ≡ true → tri_at t 7 ≡ Any
+unknown_if : (t : TriByte) → nat_lt t.known 128 ≡ true → tri_at t 7 ≡ tri.Any
 unknown_if t h = let low : t.known < 128 = grind (arith, nat_tests, h) in rw (low_bit_7 t.known low) refl
 
-zero_any : Zero ≡ Any → ⊥
+zero_any : tri.Zero ≡ tri.Any → ⊥
 zero_any e = cc
 
-one_any : One ≡ Any → ⊥
+one_any : tri.One ≡ tri.Any → ⊥
 one_any e = cc
 
-tri_any : (known value : ℕ) → tri_of known value ≡ Any → known ≡ 0
-tri_any known value e = elim (chosen (known == 0) Any (cond (value == 0) Zero One) Any e) [
+tri_any : (known value : ℕ) → tri_of known value ≡ tri.Any → known ≡ 0
+tri_any known value e = elim (chosen (known == 0) tri.Any (cond (value == 0) tri.Zero tri.One) tri.Any e) [
   | inl h ↦ eqb-true known 0 h.0
-  | inr h ↦ elim (chosen (value == 0) Zero One Any h.1) [
+  | inr h ↦ elim (chosen (value == 0) tri.Zero tri.One tri.Any h.1) [
     | inl g ↦ absurd (zero_any g.1)
     | inr g ↦ absurd (one_any g.1)
   ]
 ]
 
-known_if : (t : TriByte) → tri_at t 7 ≡ Any → nat_lt t.known 128 ≡ true
+known_if : (t : TriByte) → tri_at t 7 ≡ tri.Any → nat_lt t.known 128 ≡ true
 known_if t h = let low = high_bit_7 t.known t.small (tri_any (bit_at t.known 7) (bit_at t.value 7) h) in grind (arith, nat_tests, low)
 
 flags_take : WordLaws → BytesAreTheirBits → (root : Bool) (w : List ℕ) (entry : Bool) (bits : TriByte) → flags_in root w ≡ Some (entry, bits) → (w ≡ flags_word entry bits) × AreFlags root entry bits
@@ -202,7 +279,7 @@ entry_again root false h = (45, refl, refl)
 entry_again false true h = (102, refl, refl)
 entry_again true true h = absurd (false≢true (sym (h refl)))
 
-flags_by_letter : WordLaws → BytesAreTheirBits → BytesAreSets → (root entry : Bool) (letter : ℕ) (bits : TriByte) → entry_by root letter ≡ Some entry → tri_at bits 7 ≡ Any → flags_in root (letter ∷ bits_text bits) ≡ Some (entry, bits)
+flags_by_letter : WordLaws → BytesAreTheirBits → BytesAreSets → (root entry : Bool) (letter : ℕ) (bits : TriByte) → entry_by root letter ≡ Some entry → tri_at bits 7 ≡ tri.Any → flags_in root (letter ∷ bits_text bits) ≡ Some (entry, bits)
 unfolding flags_in
 flags_by_letter k b s root entry letter bits e h = rw (e, bits_alone k b s bits, known_if bits h) refl
 
@@ -213,7 +290,11 @@ flags_again k b s root entry bits h =
 
 -- ---- carry tags
 
-borrow_take : WordLaws → (bs : List ℕ) (c : CarryTag) → borrow_in bs ≡ Some c → (98 ∷ bs ≡ carry_word c) × ((root : Bool) → root ≡ false → IsCarry root c)
+not_true : (b : Bool) → not b ≡ true → b ≡ false
+not_true true e = cc
+not_true false e = refl
+
+borrow_take : WordLaws → (bs : List ℕ) (c : CarryTag) → borrow_in bs ≡ Some c → (98 ∷ bs ≡ carry_word c) × ((version : Version) (root : Bool) → root ≡ false → IsCarry version root c)
 unfolding borrow_in
 borrow_take k bs c e =
     let j = bind_some (digits_at 2 bs) _ c e in
@@ -222,43 +303,86 @@ borrow_take k bs c e =
     let first = digits_take k 2 bs j.0 j.1 in
     let second = digits_take k 2 j.0.1 l.0 l.1 in
     let text = second.0 ∙ ap (λ (xs : List ℕ). hex_digits l.0.0 2 ++ xs) (end_is l.0.1 last.0) ∙ append-nil (hex_digits l.0.0 2) in
-    let P : CarryTag → Type 0 = λ y. (98 ∷ bs ≡ carry_word y) × ((root : Bool) → root ≡ false → IsCarry root y) in
+    let P : CarryTag → Type 0 = λ y. (98 ∷ bs ≡ carry_word y) × ((version : Version) (root : Bool) → root ≡ false → IsCarry version root y) in
     subst P last.1 (
       ap (front 98) (first.0 ∙ ap (λ (xs : List ℕ). hex_digits j.0.0 2 ++ xs) text),
-      λ root r. record { bytes = (omega (arith, first.1), omega (arith, second.1)); none = λ t. absurd (false≢true (sym r ∙ t)) },
+      λ version root r. record { bytes = (omega (arith, first.1), omega (arith, second.1)); names = tt; untagged = λ t. absurd (false≢true (sym r ∙ t)); of_version = tt },
     )
 
-carry_take : WordLaws → (root : Bool) (w : List ℕ) (c : CarryTag) → carry_in root w ≡ Some c → (w ≡ carry_word c) × IsCarry root c
+less_take : WordLaws → (bs : List ℕ) (c : CarryTag) → less_in bs ≡ Some c → (99 ∷ bs ≡ carry_word c) × ((root : Bool) → IsCarry Two root c)
+unfolding less_in
+less_take k bs c e =
+    let r = bind_some (register_at bs) _ c e in
+    let n = bind_some (digits_at 2 r.0.1) _ c r.2 in
+    let last = tested {A = CarryTag} (is_end n.0.1) (carry.Less r.0.0 n.0.0) c n.2 in
+    let first = register_take k bs r.0 r.1 in
+    let second = digits_take k 2 r.0.1 n.0 n.1 in
+    let text = second.0 ∙ ap (λ (xs : List ℕ). hex_digits n.0.0 2 ++ xs) (end_is n.0.1 last.0) ∙ append-nil (hex_digits n.0.0 2) in
+    let P : CarryTag → Type 0 = λ y. (99 ∷ bs ≡ carry_word y) × ((root : Bool) → IsCarry Two root y) in
+    subst P last.1 (
+      ap (front 99) (first.0 ∙ ap (λ (xs : List ℕ). hex_digits r.0.0 2 ++ xs) text),
+      λ root. record { bytes = (omega (arith, first.1), omega (arith, second.1)); names = first.1; untagged = λ _. tt; of_version = tt },
+    )
+
+borrow_by : WordLaws → (version : Version) (root : Bool) (letter : ℕ) (bs : List ℕ) (c : CarryTag) → letter == 98 && not root ≡ true → borrow_in bs ≡ Some c → (letter ∷ bs ≡ carry_word c) × IsCarry version root c
+borrow_by k version root letter bs c t e =
+    let h = both (letter == 98) (not root) t in
+    let b = borrow_take k bs c e in
+    (ap (λ (x : ℕ). x ∷ bs) (eqb-true letter 98 h.0) ∙ b.0, b.1 version root (not_true root h.1))
+
+carry_by_take : WordLaws → (version : Version) (root : Bool) (letter : ℕ) (bs : List ℕ) (c : CarryTag) → carry_by version root letter bs ≡ Some c → (letter ∷ bs ≡ carry_word c) × IsCarry version root c
+unfolding carry_by
+carry_by_take k One root letter bs c e = elim (chosen (letter == 98 && not root) _ _ (Some c) e) [
+  | inl h ↦ borrow_by k One root letter bs c h.0 h.1
+  | inr h ↦ absurd (none_some c h.1)
+]
+carry_by_take k Two root letter bs c e = elim (chosen (letter == 98 && not root) _ _ (Some c) e) [
+  | inl h ↦ borrow_by k Two root letter bs c h.0 h.1
+  | inr h ↦ elim (chosen (letter == 99) _ _ (Some c) h.1) [
+    | inl g ↦ let l = less_take k bs c g.1 in (ap (λ (x : ℕ). x ∷ bs) (eqb-true letter 99 g.0) ∙ l.0, l.1 root)
+    | inr g ↦ absurd (none_some c g.1)
+  ]
+]
+
+carry_take : WordLaws → (version : Version) (root : Bool) (w : List ℕ) (c : CarryTag) → carry_in version root w ≡ Some c → (w ≡ carry_word c) × IsCarry version root c
 unfolding carry_in
-carry_take k root w c e =
-    let P : CarryTag → Type 0 = λ y. (w ≡ carry_word y) × IsCarry root y in
+carry_take k version root w c e =
+    let P : CarryTag → Type 0 = λ y. (w ≡ carry_word y) × IsCarry version root y in
     elim (chosen (bytes_eq w (codes "-")) _ _ (Some c) e) [
-      | inl h ↦ subst P (some_is {A = CarryTag} carry.None c h.1) ((bytes_eq-Decides w (codes "-")).0 h.0, record { bytes = tt; none = λ _. refl })
-      | inr h ↦ elim (chosen root _ _ (Some c) h.1) [
-        | inl g ↦ absurd (none_some c g.1)
-        | inr g ↦
-            let l = bind_some (letter_at w) _ c g.1 in
-            elim (chosen (l.0.0 == 98) _ _ (Some c) l.2) [
-              | inl f ↦ let b = borrow_take k l.0.1 c f.1 in (letter_take w l.0 l.1 ∙ ap (λ (x : ℕ). x ∷ l.0.1) (eqb-true l.0.0 98 f.0) ∙ b.0, b.1 root g.0)
-              | inr f ↦ absurd (none_some c f.1)
-            ]
-      ]
+      | inl h ↦ subst P (some_is {A = CarryTag} carry.None c h.1) ((bytes_eq-Decides w (codes "-")).0 h.0, record { bytes = tt; names = tt; untagged = λ _. tt; of_version = tt })
+      | inr h ↦
+          let l = bind_some (letter_at w) _ c h.1 in
+          let t = carry_by_take k version root l.0.0 l.0.1 c l.2 in
+          (letter_take w l.0 l.1 ∙ t.0, t.1)
     ]
 
-not_carried : (root : Bool) (j l : ℕ) → IsCarry root (carry.Borrow j l) → root ≡ false
-not_carried true j l h = let bad = h.none refl in cc
-not_carried false j l h = refl
+not_carried : (version : Version) (root : Bool) (j l : ℕ) → IsCarry version root (carry.Borrow j l) → root ≡ false
+not_carried version true j l h = absurd (h.untagged refl)
+not_carried version false j l h = refl
 
 borrow_again : WordLaws → (j l : ℕ) → j < 256 → l < 256 → borrow_in (hex_digits j 2 ++ hex_digits l 2) ≡ Some (carry.Borrow j l)
 unfolding borrow_in
-borrow_again k j l h g =
-    let second : digits_at 2 (hex_digits l 2) ≡ Some (l, []) = ap (digits_at 2) (sym (append-nil (hex_digits l 2))) ∙ digits_again k 2 l [] (omega (arith, g)) in
-    rw (digits_again k 2 j (hex_digits l 2) (omega (arith, h)), second) refl
+borrow_again k j l h g = rw (digits_again k 2 j (hex_digits l 2) (omega (arith, h)), digits_alone k 2 l (omega (arith, g))) refl
 
-carry_again : WordLaws → (root : Bool) (c : CarryTag) → IsCarry root c → carry_in root (carry_word c) ≡ Some c
+less_again : WordLaws → (r n : ℕ) → r < 32 → n < 256 → less_in (hex_digits r 2 ++ hex_digits n 2) ≡ Some (carry.Less r n)
+unfolding less_in
+less_again k r n h g = rw (register_again k r (hex_digits n 2) h, digits_alone k 2 n (omega (arith, g))) refl
+
+borrow_by_again : WordLaws → (version : Version) (root : Bool) (j l : ℕ) → root ≡ false → j < 256 → l < 256 → carry_by version root 98 (hex_digits j 2 ++ hex_digits l 2) ≡ Some (carry.Borrow j l)
+unfolding carry_by
+borrow_by_again k One root j l e h g = rw (e, borrow_again k j l h g) refl
+borrow_by_again k Two root j l e h g = rw (e, borrow_again k j l h g) refl
+
+less_by_again : WordLaws → (version : Version) (root : Bool) (r n : ℕ) → IsCarry version root (carry.Less r n) → carry_by version root 99 (hex_digits r 2 ++ hex_digits n 2) ≡ Some (carry.Less r n)
+unfolding carry_by
+less_by_again k One root r n h = absurd h.of_version
+less_by_again k Two root r n h = less_again k r n h.names h.bytes.1
+
+carry_again : WordLaws → (version : Version) (root : Bool) (c : CarryTag) → IsCarry version root c → carry_in version root (carry_word c) ≡ Some c
 unfolding carry_in
-carry_again k root carry.None h = refl
-carry_again k root (carry.Borrow j l) h = rw (not_carried root j l h, borrow_again k j l h.bytes.0 h.bytes.1) refl
+carry_again k version root carry.None h = refl
+carry_again k version root (carry.Borrow j l) h = borrow_by_again k version root j l (not_carried version root j l h) h.bytes.0 h.bytes.1
+carry_again k version root (carry.Less r n) h = less_by_again k version root r n h
 
 -- ---- forms of the stack pointer
 
@@ -355,22 +479,34 @@ tag_is_word k root tag.EntryFlags h = ((refl, tt), (refl, tt))
 tag_is_word k root (tag.SpLo j) h = joined_word (codes "l") (hex_digits j 2) ((refl, tt), (refl, tt)) (k.hex_word j 2 (omega (arith, h.fits)))
 tag_is_word k root (tag.SpHi j) h = joined_word (codes "h") (hex_digits j 4) ((refl, tt), (refl, tt)) (k.hex_word j 4 (omega (arith, h.fits)))
 
-value_is_word : WordLaws → BytesAreSets → (root : Bool) (v : AbsByte) → IsTag root v.tag → IsWord (value_word v)
-value_is_word k s root v h = joined_word (tag_text v.tag) (bits_text v.bits) (tag_is_word k root v.tag h) (bits_word k s v.bits)
+range_is_word : WordLaws → RangesFit → (version : Version) (v : AbsByte) → ByteFits v → IsWord (range_text version v)
+range_is_word k r One v h = (tt, tt)
+range_is_word k r Two v h =
+    let last = two_digits v.high (most_of v.bits) h.high (r.most v.bits) in
+    let first : v.low < 16 ^ 2 = omega (arith, h.ordered, last) in
+    joined_word (hex_digits v.low 2) (hex_digits v.high 2) (k.hex_word v.low 2 first) (k.hex_word v.high 2 last)
 
-slot_is_word : WordLaws → BytesAreSets → (root : Bool) (t : Slot AbsByte) → IsSlot root t → IsWord (slot_word t)
-slot_is_word k s root Free h = ((refl, tt), (refl, tt))
-slot_is_word k s root (Guarded v) h = value_is_word k s root v h
+value_is_word : WordLaws → BytesAreSets → RangesFit → (version : Version) (root : Bool) (v : AbsByte) → IsValue version root v → IsWord (value_word version v)
+value_is_word k s r version root v h =
+    joined_word (tag_text v.tag) (bits_text v.bits ++ range_text version v) (tag_is_word k root v.tag h.fits_tag)
+    (joined_word (bits_text v.bits) (range_text version v) (bits_word k s v.bits) (range_is_word k r version v h.range))
+
+slot_is_word : WordLaws → BytesAreSets → RangesFit → (version : Version) (root : Bool) (t : Slot AbsByte) → IsSlot version root t → IsWord (slot_word version t)
+slot_is_word k s r version root Free h = ((refl, tt), (refl, tt))
+slot_is_word k s r version root (Guarded v) h = value_is_word k s r version root v h
 
 flags_are_word : WordLaws → BytesAreSets → (entry : Bool) (bits : TriByte) → IsWord (flags_word entry bits)
 flags_are_word k s true bits = joined_word (codes "f") (bits_text bits) ((refl, tt), (refl, tt)) (bits_word k s bits)
 flags_are_word k s false bits = joined_word (codes "-") (bits_text bits) ((refl, tt), (refl, tt)) (bits_word k s bits)
 
-carry_is_word : WordLaws → (root : Bool) (c : CarryTag) → IsCarry root c → IsWord (carry_word c)
-carry_is_word k root carry.None h = ((refl, tt), (refl, tt))
-carry_is_word k root (carry.Borrow j l) h =
+carry_is_word : WordLaws → (version : Version) (root : Bool) (c : CarryTag) → IsCarry version root c → IsWord (carry_word c)
+carry_is_word k version root carry.None h = ((refl, tt), (refl, tt))
+carry_is_word k version root (carry.Borrow j l) h =
     joined_word (codes "b") (hex_digits j 2 ++ hex_digits l 2) ((refl, tt), (refl, tt))
     (joined_word (hex_digits j 2) (hex_digits l 2) (k.hex_word j 2 (omega (arith, h.bytes.0))) (k.hex_word l 2 (omega (arith, h.bytes.1))))
+carry_is_word k version root (carry.Less r n) h =
+    joined_word (codes "c") (hex_digits r 2 ++ hex_digits n 2) ((refl, tt), (refl, tt))
+    (joined_word (hex_digits r 2) (hex_digits n 2) (k.hex_word r 2 (omega (arith, h.bytes.0))) (k.hex_word n 2 (omega (arith, h.bytes.1))))
 
 high_is_word : WordLaws → (root : Bool) (h : High) → IsHigh root h → IsWord (high_text h)
 high_is_word k true (high.Known byte) h = joined_word (codes ",k") (hex_digits byte 2) ((refl, (refl, tt)), (refl, (refl, tt))) (k.hex_word byte 2 (omega (arith, h)))
@@ -386,9 +522,9 @@ form_is_word k root (Open offset h) g =
 
 -- ---- all of them
 
-pub value_words : WordLaws → BytesAreTheirBits → BytesAreSets → ValueWords
-value_words k b s = record {
-  spelled = record { value = value_take k b; slot = slot_take k b; flags = flags_take k b; carry = carry_take k; form = form_take k };
-  read = record { value = value_again k b s; slot = slot_again k b s; flags = flags_again k b s; carry = carry_again k; form = form_again k };
-  words = record { value = value_is_word k s; slot = slot_is_word k s; flags = flags_are_word k s; carry = carry_is_word k; form = form_is_word k };
+pub value_words : WordLaws → BytesAreTheirBits → BytesAreSets → RangesFit → ValueWords
+value_words k b s r = record {
+  spelled = record { value = value_take k b r; slot = slot_take k b r; flags = flags_take k b; carry = carry_take k; form = form_take k };
+  read = record { value = value_again k b s r; slot = slot_again k b s r; flags = flags_again k b s; carry = carry_again k; form = form_again k };
+  words = record { value = value_is_word k s r; slot = slot_is_word k s r; flags = flags_are_word k s; carry = carry_is_word k; form = form_is_word k };
 }

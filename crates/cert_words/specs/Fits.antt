@@ -7,17 +7,18 @@ use Rattle.bit_domain.specs.TriByte.{tri_at}
 use Rattle.sp_domain.specs.declared.tags.Tag.{Tag}
 use Rattle.sp_domain.specs.declared.tags.Tag.TheVariants as tag
 use Rattle.sp_domain.specs.declared.tags.CarryTag.{CarryTag}
-use Rattle.sp_domain.specs.declared.tags.CarryTag.TheVariants as carry
 use Rattle.sp_domain.specs.declared.slots.Slot.{Slot}
 use Rattle.sp_domain.specs.declared.slots.Slot.TheVariants.{Free, Guarded}
 use Rattle.sp_domain.specs.Tags.{HasBytes}
 use Rattle.abs_state.specs.declared.values.AbsByte.{AbsByte}
-use Rattle.abs_state.specs.Formed.{NamesRegister}
+use Rattle.abs_state.specs.Formed.{NamesRegister, CarryNamesRegister, ByteFits, CarryIsUntagged}
 use Rattle.mask_states.specs.declared.keys.High.{High}
 use Rattle.mask_states.specs.declared.keys.High.TheVariants as high
 use Rattle.mask_states.specs.declared.keys.SpForm.{SpForm}
 use Rattle.mask_states.specs.declared.keys.SpForm.TheVariants.{Closed, Open}
 use Rattle.local_rules.specs.Cover.{TagFits}
+use Rattle.certificate.specs.declared.version.Version.{Version}
+use Rattle.certificate.specs.Versions.{ValueIsOf, CarryIsOf}
 
 -- its number fits, and in the root's frame it is none
 pub record IsTag (root : Bool) (t : Tag) : Type 0 where
@@ -25,18 +26,27 @@ pub record IsTag (root : Bool) (t : Tag) : Type 0 where
   pub fits : TagFits t
   pub none : root ≡ true → t ≡ tag.None
 
-abbrev pub IsSlot : Bool → Slot AbsByte → Type 0
-IsSlot root Free = ⊤
-IsSlot root (Guarded v) = IsTag root v.tag
+-- its tag fits, its range lies between the least and the greatest byte of its bits, and the version can say it
+pub record IsValue (version : Version) (root : Bool) (v : AbsByte) : Type 0 where
+  pub fits_tag : IsTag root v.tag
+  pub range : ByteFits v
+  pub of_version : ValueIsOf version v
+
+abbrev pub IsSlot : Version → Bool → Slot AbsByte → Type 0
+IsSlot version root Free = ⊤
+IsSlot version root (Guarded v) = IsValue version root v
 
 -- bit 7 is unknown, and in the root's frame they aren't those at the entry
 pub record AreFlags (root entry : Bool) (bits : TriByte) : Type 0 where
   pub bit_7 : tri_at bits 7 ≡ Any
   pub none : root ≡ true → entry ≡ false
 
-pub record IsCarry (root : Bool) (c : CarryTag) : Type 0 where
+-- its numbers are bytes, a register that it names is there, in the root's frame it is of no base, and the version can say it
+pub record IsCarry (version : Version) (root : Bool) (c : CarryTag) : Type 0 where
   pub bytes : HasBytes c
-  pub none : root ≡ true → c ≡ carry.None
+  pub names : CarryNamesRegister c
+  pub untagged : root ≡ true → CarryIsUntagged c
+  pub of_version : CarryIsOf version c
 
 abbrev pub IsHigh : Bool → High → Type 0
 IsHigh true (high.Known byte) = byte < 256

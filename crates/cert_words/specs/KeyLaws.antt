@@ -8,6 +8,8 @@ use Rattle.mask_states.specs.Keys.{offset_of}
 use Rattle.edge_rules.specs.declared.seeded.NodeForm.{NodeForm}
 use Rattle.certificate.specs.Insts.{fits_kind}
 use Rattle.certificate.specs.Claims.{IsKey, FitsAt}
+use Rattle.certificate.specs.declared.version.Version.{Version}
+use Rattle.certificate.specs.Versions.{PickIsOf, FormIsOf}
 use Rattle.cert_words.specs.KeySpelling.{inst_key_words, place_words, form_words}
 use Rattle.cert_words.specs.KeyReading.{is_root, inst_key_at, node_key_at, form_at}
 
@@ -22,22 +24,24 @@ pub record InstKeyWords : Type 0 where
   pub words : (key : InstKey) → IsInstKey key → AllByRecursion IsWord (inst_key_words key)
 
 -- the words are those of this node of the instance, and of what stands behind them
-pub record IsPlace (inst : InstKey) (ws rest : List (List ℕ)) (key : NodeKey) : Type 0 where
-  pub words : ws ≡ place_words key ++ rest
+pub record IsPlace (version : Version) (inst : InstKey) (ws rest : List (List ℕ)) (key : NodeKey) : Type 0 where
+  pub words : ws ≡ place_words version key ++ rest
   pub key_fits : IsKey key
+  pub of_version : PickIsOf version key.pick
   pub same : inst ≡ key.inst
 
 pub record PlaceWords : Type 0 where
-  pub spelled : (inst : InstKey) (ws rest : List (List ℕ)) (key : NodeKey) → node_key_at inst ws ≡ Some (key, rest) → IsPlace inst ws rest key
-  pub read : (key : NodeKey) (rest : List (List ℕ)) → IsKey key → node_key_at key.inst (place_words key ++ rest) ≡ Some (key, rest)
-  pub words : (key : NodeKey) → IsKey key → AllByRecursion IsWord (place_words key)
+  pub spelled : (version : Version) (inst : InstKey) (ws rest : List (List ℕ)) (key : NodeKey) → node_key_at version inst ws ≡ Some (key, rest) → IsPlace version inst ws rest key
+  pub read : (version : Version) (key : NodeKey) (rest : List (List ℕ)) → IsKey key → PickIsOf version key.pick → node_key_at version key.inst (place_words version key ++ rest) ≡ Some (key, rest)
+  pub words : (version : Version) (key : NodeKey) → IsKey key → AllByRecursion IsWord (place_words version key)
 
 -- the form of the node of this number and key
 pub record FormWords : Type 0 where
-  pub spelled : (at : ℕ) (key : NodeKey) (ws rest : List (List ℕ)) (form : NodeForm) → IsKey key → form_at (is_root key.inst.kind) (offset_of key.sp) at ws ≡ Some (form, rest)
-      → (ws ≡ form_words form ++ rest) × FitsAt at key form
-  pub read : (at : ℕ) (key : NodeKey) (form : NodeForm) → at ≤ 65536 → FitsAt at key form → form_at (is_root key.inst.kind) (offset_of key.sp) at (form_words form) ≡ Some (form, [])
-  pub words : (at : ℕ) (key : NodeKey) (form : NodeForm) → at ≤ 65536 → FitsAt at key form → AllByRecursion IsWord (form_words form)
+  pub spelled : (version : Version) (at : ℕ) (key : NodeKey) (ws rest : List (List ℕ)) (form : NodeForm) → IsKey key
+      → form_at version (is_root key.inst.kind) (offset_of key.sp) at ws ≡ Some (form, rest) → (ws ≡ form_words version form ++ rest) × FitsAt at key form × FormIsOf version form
+  pub read : (version : Version) (at : ℕ) (key : NodeKey) (form : NodeForm) → at ≤ 65536 → FitsAt at key form → FormIsOf version form
+      → form_at version (is_root key.inst.kind) (offset_of key.sp) at (form_words version form) ≡ Some (form, [])
+  pub words : (version : Version) (at : ℕ) (key : NodeKey) (form : NodeForm) → at ≤ 65536 → FitsAt at key form → FormIsOf version form → AllByRecursion IsWord (form_words version form)
 
 pub record KeyWords : Type 0 where
   pub insts : InstKeyWords

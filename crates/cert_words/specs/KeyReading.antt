@@ -14,6 +14,8 @@ use Rattle.abs_state.specs.declared.state.AbsState.{AbsState}
 use Rattle.edge_rules.specs.declared.seeded.NodeForm.{NodeForm}
 use Rattle.edge_rules.specs.declared.seeded.NodeForm.TheVariants.{State, From}
 use Rattle.certificate.specs.Insts.{fits_kind}
+use Rattle.certificate.specs.declared.version.Version.{Version}
+use Rattle.certificate.specs.declared.version.Version.TheVariants.{One, Two}
 use Rattle.cert_words.specs.Reading.{letter_at, value_in, slot_in, flags_in, carry_in, form_in}
 
 -- ---- words
@@ -60,27 +62,37 @@ is_root Root = true
 is_root Call = false
 is_root (Vector v) = false
 
-unfoldable pub node_key_at : InstKey → List (List ℕ) → Option (NodeKey × List (List ℕ))
-node_key_at inst ws = do
+-- no pick, or the byte that is picked
+unfoldable pub pick_in : List ℕ → Option (Option ℕ)
+pick_in w = if bytes_eq w (codes "-") then Some None else option_map (λ n. Some n.0) (hex_at 2 (w ∷ []))
+
+-- the pick, for which the first version has no word
+abbrev pub pick_at : Version → List (List ℕ) → Option (Option ℕ × List (List ℕ))
+pick_at One ws = Some (None, ws)
+pick_at Two ws = word_by pick_in ws
+
+unfoldable pub node_key_at : Version → InstKey → List (List ℕ) → Option (NodeKey × List (List ℕ))
+node_key_at version inst ws = do
   pc ← hex_at 4 ws
   m ← masks_at pc.1
   i ← flag_at m.1
   d ← flag_at i.1
   f ← word_by (form_in (is_root inst.kind)) d.1
-  if nat_lt pc.0 WORDS then Some (record { inst = inst; pc = pc.0; masks = m.0; i = i.0; delay = d.0; sp = f.0 }, f.1) else None
+  p ← pick_at version f.1
+  if nat_lt pc.0 WORDS then Some (record { inst = inst; pc = pc.0; masks = m.0; i = i.0; delay = d.0; sp = f.0; pick = p.0 }, p.1) else None
 
-unfoldable pub flags_at : Bool → List (List ℕ) → Option (AbsFlags × List (List ℕ))
-flags_at root ws = do
+unfoldable pub flags_at : Version → Bool → List (List ℕ) → Option (AbsFlags × List (List ℕ))
+flags_at version root ws = do
   f ← word_by (flags_in root) ws
-  c ← word_by (carry_in root) f.1
+  c ← word_by (carry_in version root) f.1
   Some (record { entry = f.0.0; bits = f.0.1; carry = c.0 }, c.1)
 
 -- a state whose first register has this value
-unfoldable pub state_behind : Bool → ℕ → AbsByte → List (List ℕ) → Option (AbsState × List (List ℕ))
-state_behind root offset first ws = do
-  r ← words_from (value_in root) (first ∷ []) 31 ws
-  f ← flags_at root r.1
-  s ← words_from (slot_in root) [] offset f.1
+unfoldable pub state_behind : Version → Bool → ℕ → AbsByte → List (List ℕ) → Option (AbsState × List (List ℕ))
+state_behind version root offset first ws = do
+  r ← words_from (value_in version root) (first ∷ []) 31 ws
+  f ← flags_at version root r.1
+  s ← words_from (slot_in version root) [] offset f.1
   Some (record { registers = r.0; flags = f.0; slots = s.0 }, s.1)
 
 abbrev pub by_state : Option (AbsState × List (List ℕ)) → Option (NodeForm × List (List ℕ))
@@ -91,7 +103,7 @@ unfoldable pub from_behind : ℕ → List (List ℕ) → Option (NodeForm × Lis
 from_behind at ws = dec_at 65535 ws >>= λ m. if nat_lt m.0 at then Some (From m.0, m.1) else None
 
 -- the form of the node of this number
-unfoldable pub form_at : Bool → ℕ → ℕ → List (List ℕ) → Option (NodeForm × List (List ℕ))
-form_at root offset at [] = None
-form_at root offset at (w ∷ ws) =
-    if bytes_eq w (codes "from") then from_behind at ws else (value_in root w >>= λ v. by_state (state_behind root offset v ws))
+unfoldable pub form_at : Version → Bool → ℕ → ℕ → List (List ℕ) → Option (NodeForm × List (List ℕ))
+form_at version root offset at [] = None
+form_at version root offset at (w ∷ ws) =
+    if bytes_eq w (codes "from") then from_behind at ws else (value_in version root w >>= λ v. by_state (state_behind version root offset v ws))

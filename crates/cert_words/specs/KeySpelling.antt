@@ -1,5 +1,5 @@
 -- The words of keys, states and forms of nodes. Source: own.
-use Rattle.std.specs.Prelude.{ℕ, List, [], ◌∷◌, ◌++◌, map, codes}
+use Rattle.std.specs.Prelude.{ℕ, List, [], ◌∷◌, ◌++◌, map, codes, Option, Some, None}
 use Rattle.std.specs.Fmt.{decimal}
 use Rattle.sb_base.specs.Digits.{hex_digits}
 use Rattle.mask_states.specs.declared.keys.Kind.{Kind}
@@ -10,6 +10,8 @@ use Rattle.abs_state.specs.declared.state.AbsState.{AbsState}
 use Rattle.edge_rules.specs.declared.seeded.NodeForm.{NodeForm}
 use Rattle.edge_rules.specs.declared.seeded.NodeForm.TheVariants.{State, From}
 use Rattle.witness_replay.specs.Spelling.{bit}
+use Rattle.certificate.specs.declared.version.Version.{Version}
+use Rattle.certificate.specs.declared.version.Version.TheVariants.{One, Two}
 use Rattle.cert_words.specs.Spelling.{value_word, flags_word, carry_word, slot_word, form_word}
 
 -- ---- keys
@@ -23,21 +25,33 @@ kind_word (Vector v) = codes "v" ++ decimal v
 abbrev pub inst_key_words : InstKey → List (List ℕ)
 inst_key_words key = kind_word key.kind ∷ hex_digits key.entry 4 ∷ hex_digits key.masks 7 ∷ bit key.i ∷ []
 
--- a node within its instance: word, enable bits, I, delay and form of the stack pointer
-abbrev pub place_words : NodeKey → List (List ℕ)
-place_words key = hex_digits key.pc 4 ∷ hex_digits key.masks 7 ∷ bit key.i ∷ bit key.delay ∷ form_word key.sp ∷ []
+-- no pick, or the byte that is picked
+abbrev pub pick_word : Option ℕ → List ℕ
+pick_word None = codes "-"
+pick_word (Some byte) = hex_digits byte 2
 
--- a node with its instance
+-- the pick, which the first version leaves out
+abbrev pub pick_words : Version → Option ℕ → List (List ℕ)
+pick_words One pick = []
+pick_words Two pick = pick_word pick ∷ []
+
+-- a node within its instance: word, enable bits, I, delay, form of the stack pointer and pick
+abbrev pub place_words : Version → NodeKey → List (List ℕ)
+place_words version key =
+    hex_digits key.pc 4 ∷ hex_digits key.masks 7 ∷ bit key.i ∷ bit key.delay ∷ form_word key.sp ∷ pick_words version key.pick
+
+-- a node with its instance, which ends with the pick whatever the certificate's version
 abbrev pub node_key_words : NodeKey → List (List ℕ)
-node_key_words key = inst_key_words key.inst ++ place_words key
+node_key_words key = inst_key_words key.inst ++ place_words Two key
 
 -- ---- what is known at a node
 
 -- registers, flags, carry tag and slots
-abbrev pub state_words : AbsState → List (List ℕ)
-state_words s = map value_word s.registers ++ flags_word s.flags.entry s.flags.bits ∷ carry_word s.flags.carry ∷ map slot_word s.slots
+abbrev pub state_words : Version → AbsState → List (List ℕ)
+state_words version s =
+    map (value_word version) s.registers ++ flags_word s.flags.entry s.flags.bits ∷ carry_word s.flags.carry ∷ map (slot_word version) s.slots
 
 -- a state, or the number of the node that it comes from
-abbrev pub form_words : NodeForm → List (List ℕ)
-form_words (State s) = state_words s
-form_words (From m) = codes "from" ∷ decimal m ∷ []
+abbrev pub form_words : Version → NodeForm → List (List ℕ)
+form_words version (State s) = state_words version s
+form_words version (From m) = codes "from" ∷ decimal m ∷ []

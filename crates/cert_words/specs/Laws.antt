@@ -5,33 +5,34 @@ use Rattle.sp_domain.specs.declared.tags.CarryTag.{CarryTag}
 use Rattle.sp_domain.specs.declared.slots.Slot.{Slot}
 use Rattle.abs_state.specs.declared.values.AbsByte.{AbsByte}
 use Rattle.mask_states.specs.declared.keys.SpForm.{SpForm}
+use Rattle.certificate.specs.declared.version.Version.{Version}
 use Rattle.line_reading.specs.Words.{IsWord}
 use Rattle.cert_words.specs.Spelling.{value_word, flags_word, carry_word, slot_word, form_word}
 use Rattle.cert_words.specs.Reading.{value_in, flags_in, carry_in, slot_in, form_in}
-use Rattle.cert_words.specs.Fits.{IsTag, AreFlags, IsCarry, IsSlot, IsForm}
+use Rattle.cert_words.specs.Fits.{IsValue, AreFlags, IsCarry, IsSlot, IsForm}
 
 -- a word that is read is that of a fitting value
 pub record WordsAreSpelled : Type 0 where
-  pub value : (root : Bool) (w : List ℕ) (v : AbsByte) → value_in root w ≡ Some v → (w ≡ value_word v) × IsTag root v.tag
-  pub slot : (root : Bool) (w : List ℕ) (s : Slot AbsByte) → slot_in root w ≡ Some s → (w ≡ slot_word s) × IsSlot root s
+  pub value : (version : Version) (root : Bool) (w : List ℕ) (v : AbsByte) → value_in version root w ≡ Some v → (w ≡ value_word version v) × IsValue version root v
+  pub slot : (version : Version) (root : Bool) (w : List ℕ) (s : Slot AbsByte) → slot_in version root w ≡ Some s → (w ≡ slot_word version s) × IsSlot version root s
   pub flags : (root : Bool) (w : List ℕ) (entry : Bool) (bits : TriByte) → flags_in root w ≡ Some (entry, bits) → (w ≡ flags_word entry bits) × AreFlags root entry bits
-  pub carry : (root : Bool) (w : List ℕ) (c : CarryTag) → carry_in root w ≡ Some c → (w ≡ carry_word c) × IsCarry root c
+  pub carry : (version : Version) (root : Bool) (w : List ℕ) (c : CarryTag) → carry_in version root w ≡ Some c → (w ≡ carry_word c) × IsCarry version root c
   pub form : (root : Bool) (w : List ℕ) (f : SpForm) → form_in root w ≡ Some f → (w ≡ form_word f) × IsForm root f
 
 -- the word of a fitting value is read as it
 pub record WordsAreRead : Type 0 where
-  pub value : (root : Bool) (v : AbsByte) → IsTag root v.tag → value_in root (value_word v) ≡ Some v
-  pub slot : (root : Bool) (s : Slot AbsByte) → IsSlot root s → slot_in root (slot_word s) ≡ Some s
+  pub value : (version : Version) (root : Bool) (v : AbsByte) → IsValue version root v → value_in version root (value_word version v) ≡ Some v
+  pub slot : (version : Version) (root : Bool) (s : Slot AbsByte) → IsSlot version root s → slot_in version root (slot_word version s) ≡ Some s
   pub flags : (root entry : Bool) (bits : TriByte) → AreFlags root entry bits → flags_in root (flags_word entry bits) ≡ Some (entry, bits)
-  pub carry : (root : Bool) (c : CarryTag) → IsCarry root c → carry_in root (carry_word c) ≡ Some c
+  pub carry : (version : Version) (root : Bool) (c : CarryTag) → IsCarry version root c → carry_in version root (carry_word c) ≡ Some c
   pub form : (root : Bool) (f : SpForm) → IsForm root f → form_in root (form_word f) ≡ Some f
 
 -- no space and no line feed is in it
 pub record WordsAreWords : Type 0 where
-  pub value : (root : Bool) (v : AbsByte) → IsTag root v.tag → IsWord (value_word v)
-  pub slot : (root : Bool) (s : Slot AbsByte) → IsSlot root s → IsWord (slot_word s)
+  pub value : (version : Version) (root : Bool) (v : AbsByte) → IsValue version root v → IsWord (value_word version v)
+  pub slot : (version : Version) (root : Bool) (s : Slot AbsByte) → IsSlot version root s → IsWord (slot_word version s)
   pub flags : (entry : Bool) (bits : TriByte) → IsWord (flags_word entry bits)
-  pub carry : (root : Bool) (c : CarryTag) → IsCarry root c → IsWord (carry_word c)
+  pub carry : (version : Version) (root : Bool) (c : CarryTag) → IsCarry version root c → IsWord (carry_word c)
   pub form : (root : Bool) (f : SpForm) → IsForm root f → IsWord (form_word f)
 
 pub record ValueWords : Type 0 where

@@ -1,6 +1,6 @@
 -- Reading a word from its front: each reading gives a value and what stands behind it, or nothing. In the root's frame nothing is
 -- tagged.
-use Rattle.std.specs.Prelude.{ℕ, ◌-◌, ◌==◌, ◌&&◌, nat_lt, Bool, true, false, List, [], ◌∷◌, length, take, drop, codes, Option, Some, None, Result, Ok, Err, if◌then◌else◌}
+use Rattle.std.specs.Prelude.{ℕ, ◌-◌, ◌==◌, ◌&&◌, nat_lt, nat_le, not, Bool, true, false, List, [], ◌∷◌, length, take, drop, codes, Option, Some, None, Result, Ok, Err, if◌then◌else◌}
 use Rattle.std.specs.Option.{option_map}
 use Rattle.std.specs.Int.{bit_at}
 use Rattle.std.specs.Int.RustNames.{bit_and}
@@ -11,6 +11,7 @@ use Rattle.sb_base.specs.declared.digits.DigitFault.{DigitFault}
 use Rattle.line_reading.specs.Reading.{◌>>=◌, dec_at}
 use Rattle.bit_domain.specs.declared.bytes.TriByte.{TriByte}
 use Rattle.bit_domain.specs.TriByte.{byte_of, tri_of}
+use Rattle.bit_domain.specs.Ranges.{least_of, most_of}
 use Rattle.sp_domain.specs.declared.tags.Tag.{Tag}
 use Rattle.sp_domain.specs.declared.tags.Tag.TheVariants as tag
 use Rattle.sp_domain.specs.declared.tags.CarryTag.{CarryTag}
@@ -22,6 +23,8 @@ use Rattle.mask_states.specs.declared.keys.High.{High}
 use Rattle.mask_states.specs.declared.keys.High.TheVariants as high
 use Rattle.mask_states.specs.declared.keys.SpForm.{SpForm}
 use Rattle.mask_states.specs.declared.keys.SpForm.TheVariants.{Closed, Open}
+use Rattle.certificate.specs.declared.version.Version.{Version}
+use Rattle.certificate.specs.declared.version.Version.TheVariants.{One, Two}
 
 -- ---- pieces
 
@@ -71,14 +74,27 @@ tag_by letter bs =
 unfoldable pub tag_at : Bool → List ℕ → Option (Tag × List ℕ)
 tag_at root bs = letter_at bs >>= λ l. if l.0 == 45 then Some (tag.None, l.1) else (if root then None else tag_by l.0 l.1)
 
-unfoldable pub value_in : Bool → List ℕ → Option AbsByte
-value_in root w = do
+-- the ends of a range that lies between the least and the greatest byte of the bits
+unfoldable pub ends_at : TriByte → List ℕ → Option ((ℕ × ℕ) × List ℕ)
+ends_at bits bs = do
+  l ← digits_at 2 bs
+  h ← digits_at 2 l.1
+  if nat_le (least_of bits) l.0 && nat_le l.0 h.0 && nat_le h.0 (most_of bits) then Some ((l.0, h.0), h.1) else None
+
+-- the ends of a value's range, which are those of its bits in the first version
+abbrev pub range_at : Version → TriByte → List ℕ → Option ((ℕ × ℕ) × List ℕ)
+range_at One bits bs = Some ((least_of bits, most_of bits), bs)
+range_at Two bits bs = ends_at bits bs
+
+unfoldable pub value_in : Version → Bool → List ℕ → Option AbsByte
+value_in version root w = do
   t ← tag_at root w
   b ← bits_at t.1
-  if is_end b.1 then Some (record { tag = t.0; bits = b.0 }) else None
+  r ← range_at version b.0 b.1
+  if is_end r.1 then Some (record { tag = t.0; bits = b.0; low = r.0.0; high = r.0.1 }) else None
 
-unfoldable pub slot_in : Bool → List ℕ → Option (Slot AbsByte)
-slot_in root w = if bytes_eq w (codes ".") then Some Free else option_map (λ v. Guarded v) (value_in root w)
+unfoldable pub slot_in : Version → Bool → List ℕ → Option (Slot AbsByte)
+slot_in version root w = if bytes_eq w (codes ".") then Some Free else option_map (λ v. Guarded v) (value_in version root w)
 
 -- ---- flags
 
@@ -100,10 +116,19 @@ borrow_in bs = do
   l ← digits_at 2 j.1
   if is_end l.1 then Some (carry.Borrow j.0 l.0) else None
 
-unfoldable pub carry_in : Bool → List ℕ → Option CarryTag
-carry_in root w =
-    if bytes_eq w (codes "-") then Some carry.None
-    else (if root then None else (letter_at w >>= λ l. if l.0 == 98 then borrow_in l.1 else None))
+unfoldable pub less_in : List ℕ → Option CarryTag
+less_in bs = do
+  r ← register_at bs
+  k ← digits_at 2 r.1
+  if is_end k.1 then Some (carry.Less r.0 k.0) else None
+
+-- what a letter and what follows it say: the root's frame has no borrow, and the first version nothing of a register
+unfoldable pub carry_by : Version → Bool → ℕ → List ℕ → Option CarryTag
+carry_by One root letter bs = if letter == 98 && not root then borrow_in bs else None
+carry_by Two root letter bs = if letter == 98 && not root then borrow_in bs else (if letter == 99 then less_in bs else None)
+
+unfoldable pub carry_in : Version → Bool → List ℕ → Option CarryTag
+carry_in version root w = if bytes_eq w (codes "-") then Some carry.None else (letter_at w >>= λ l. carry_by version root l.0 l.1)
 
 -- ---- forms of the stack pointer
 

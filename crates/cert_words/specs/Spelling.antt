@@ -1,5 +1,5 @@
 -- The one spelling of a value, of flags, of a carry tag, of a slot and of a form of the stack pointer, each as a word. Source: own.
-use Rattle.std.specs.Prelude.{ℕ, Bool, true, false, List, ◌++◌, codes}
+use Rattle.std.specs.Prelude.{ℕ, Bool, true, false, List, [], ◌++◌, codes}
 use Rattle.std.specs.Fmt.{decimal}
 use Rattle.sb_base.specs.Digits.{hex_digits}
 use Rattle.bit_domain.specs.declared.bytes.TriByte.{TriByte}
@@ -14,6 +14,8 @@ use Rattle.mask_states.specs.declared.keys.High.{High}
 use Rattle.mask_states.specs.declared.keys.High.TheVariants as high
 use Rattle.mask_states.specs.declared.keys.SpForm.{SpForm}
 use Rattle.mask_states.specs.declared.keys.SpForm.TheVariants.{Closed, Open}
+use Rattle.certificate.specs.declared.version.Version.{Version}
+use Rattle.certificate.specs.declared.version.Version.TheVariants.{One, Two}
 
 -- which bits are known, and their values
 abbrev pub bits_text : TriByte → List ℕ
@@ -26,8 +28,13 @@ tag_text tag.EntryFlags = codes "f"
 tag_text (tag.SpLo j) = codes "l" ++ hex_digits j 2
 tag_text (tag.SpHi k) = codes "h" ++ hex_digits k 4
 
-abbrev pub value_word : AbsByte → List ℕ
-value_word v = tag_text v.tag ++ bits_text v.bits
+-- the least and the greatest byte of a value, which the first version leaves out
+abbrev pub range_text : Version → AbsByte → List ℕ
+range_text One v = []
+range_text Two v = hex_digits v.low 2 ++ hex_digits v.high 2
+
+abbrev pub value_word : Version → AbsByte → List ℕ
+value_word version v = tag_text v.tag ++ (bits_text v.bits ++ range_text version v)
 
 -- whether the flags are those at the frame's entry
 abbrev pub entry_text : Bool → List ℕ
@@ -40,10 +47,11 @@ flags_word entry bits = entry_text entry ++ bits_text bits
 abbrev pub carry_word : CarryTag → List ℕ
 carry_word carry.None = codes "-"
 carry_word (carry.Borrow j l) = codes "b" ++ hex_digits j 2 ++ hex_digits l 2
+carry_word (carry.Less r k) = codes "c" ++ hex_digits r 2 ++ hex_digits k 2
 
-abbrev pub slot_word : Slot AbsByte → List ℕ
-slot_word Free = codes "."
-slot_word (Guarded v) = value_word v
+abbrev pub slot_word : Version → Slot AbsByte → List ℕ
+slot_word version Free = codes "."
+slot_word version (Guarded v) = value_word version v
 
 -- the high byte of a half-written stack pointer
 abbrev pub high_text : High → List ℕ

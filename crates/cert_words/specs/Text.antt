@@ -13,6 +13,8 @@ use Rattle.indirect_targets.specs.Spelling.{entry_words}
 use Rattle.witness_replay.specs.Spelling.{Plan, schedule_lines}
 use Rattle.certificate.specs.declared.instance.Inst.{Inst}
 use Rattle.certificate.specs.Claims.{Claim}
+use Rattle.certificate.specs.declared.version.Version.{Version}
+use Rattle.certificate.specs.declared.version.Version.TheVariants.{One, Two}
 use Rattle.cert_words.specs.KeySpelling.{inst_key_words, place_words, form_words}
 
 -- ---- lines
@@ -31,19 +33,20 @@ place_of key [] = 0
 place_of key (x ∷ xs) = if same_inst x.key key then 0 else place_of key xs + 1
 
 -- the words of the line of a node whose instance has this number
-abbrev pub node_words_at : ℕ → NodeKey × NodeForm → List (List ℕ)
-node_words_at place n = codes "node" ∷ decimal place ∷ place_words n.0 ++ form_words n.1
+abbrev pub node_words_at : Version → ℕ → NodeKey × NodeForm → List (List ℕ)
+node_words_at version place n = codes "node" ∷ decimal place ∷ place_words version n.0 ++ form_words version n.1
 
-abbrev pub node_words : List Inst → NodeKey × NodeForm → List (List ℕ)
-node_words insts n = node_words_at (place_of n.0.inst insts) n
+abbrev pub node_words : Version → List Inst → NodeKey × NodeForm → List (List ℕ)
+node_words version insts n = node_words_at version (place_of n.0.inst insts) n
 
 -- ---- parts
 
-abbrev pub version : List (List ℕ)
-version = codes "stackcert" ∷ codes "1" ∷ []
+abbrev pub version_line : Version → List (List ℕ)
+version_line One = codes "stackcert" ∷ codes "1" ∷ []
+version_line Two = codes "stackcert" ∷ codes "2" ∷ []
 
-abbrev pub heading : ℕ → List (List (List ℕ))
-heading bound = version ∷ numbered (codes "bound") bound ∷ []
+abbrev pub heading : Version → ℕ → List (List (List ℕ))
+heading version bound = version_line version ∷ numbered (codes "bound") bound ∷ []
 
 abbrev pub entry_lines : List Entry → List (List (List ℕ))
 entry_lines entries = numbered (codes "assume") (length entries) ∷ map entry_words entries
@@ -51,8 +54,8 @@ entry_lines entries = numbered (codes "assume") (length entries) ∷ map entry_w
 abbrev pub inst_lines : List Inst → List (List (List ℕ))
 inst_lines insts = numbered (codes "instances") (length insts) ∷ map inst_words insts
 
-abbrev pub node_lines : List Inst → Seeds → List (List (List ℕ))
-node_lines insts nodes = numbered (codes "nodes") (length nodes) ∷ map (node_words insts) nodes
+abbrev pub node_lines : Version → List Inst → Seeds → List (List (List ℕ))
+node_lines version insts nodes = numbered (codes "nodes") (length nodes) ∷ map (node_words version insts) nodes
 
 abbrev pub open_line : List (List ℕ)
 open_line = codes "witness" ∷ codes "open" ∷ []
@@ -72,7 +75,8 @@ end_line = codes "end" ∷ []
 
 -- the lines before the schedule
 abbrev pub front_lines : Claim → List (List (List ℕ))
-front_lines c = heading c.bound ++ (entry_lines c.assumptions ++ (inst_lines c.instances ++ node_lines c.instances c.nodes))
+front_lines c =
+    heading c.version c.bound ++ (entry_lines c.assumptions ++ (inst_lines c.instances ++ node_lines c.version c.instances c.nodes))
 
 -- the lines of a certificate, each by its words
 abbrev pub certificate_lines : Claim → List (List (List ℕ))

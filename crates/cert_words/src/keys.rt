@@ -4,16 +4,17 @@ ghost use Rattle.std.specs.Prelude.{◌≡◌, ◌≤◌, IfSome};
 ghost use Rattle.std.specs.Option.{option_map};
 ghost use Rattle.avr_model.specs.State as model;
 ghost use Rattle.mask_states.specs.Keys.{offset_of};
-ghost use Rattle.certificate.specs.Insts.{fits_kind};
+ghost use Rattle.certificate.specs.Insts.{is_vector_word, fits_kind};
 ghost use Rattle.cert_words.specs.Reading.{form_in};
-ghost use Rattle.cert_words.specs.KeyReading.{word_by, masks_at, flag_at, vector_in, kind_in, inst_key_at, is_root, node_key_at};
+ghost use Rattle.cert_words.specs.KeyReading.{word_by, masks_at, flag_at, vector_in, kind_in, inst_key_at, is_root, pick_in, pick_at, node_key_at};
 
 use crate::letters::Letters;
 use crate::values::form_of;
 use avr_model::device::WORDS;
+use certificate::Version;
 use line_reading::{dec_word, hex_word};
 use mask_states::{InstKey, Kind, NodeKey, SpForm};
-use sb_base::{Words, read_dec};
+use sb_base::{Words, read_dec, read_hex};
 use vector_table::Masks;
 
 /// Enable bits.
@@ -62,6 +63,15 @@ fn kind_of(word: &[u8]) -> Option<Kind>
     }
 }
 
+/// Whether the vector begins at this word, where vectors are two words long or one.
+fn is_vector_word(vector: u8, entry: u16) -> bool
+    requires { 2 ≤ vector }
+    ensures { result ≡ is_vector_word vector entry }
+{
+    let before = u16::from(vector) - 1;
+    entry == 2 * before || entry == before
+}
+
 /// Whether an instance of this kind can have this entry, these enable bits and this I.
 fn fits_kind(kind: Kind, entry: u16, masks: Masks, i: bool) -> bool
     ensures { result ≡ fits_kind kind entry masks i }
@@ -69,7 +79,7 @@ fn fits_kind(kind: Kind, entry: u16, masks: Masks, i: bool) -> bool
     match kind {
         Kind::Root => entry == 0 && masks.bits() == 0 && !i,
         Kind::Call => entry < WORDS,
-        Kind::Vector(v) => v >= 2 && v <= 26 && entry == 2 * (u16::from(v) - 1) && !i,
+        Kind::Vector(v) => v >= 2 && v <= 26 && is_vector_word(v, entry) && !i,
     }
 }
 
@@ -106,11 +116,35 @@ pub fn is_root(kind: Kind) -> bool
     }
 }
 
-/// A node of this instance by its next words: word, enable bits, I, delay and form of the stack pointer. None exactly where they
-/// are those of no node that it can have.
+/// The pick of a word.
+#[tactic(auto, unfolding(crate::specs::KeyReading::pick_in))]
+fn pick_in(word: &[u8]) -> Option<Option<u8>>
+    ensures { result ≡ pick_in word.now }
+{
+    if word == b"-".as_slice() {
+        return Some(None);
+    }
+    match read_hex(word, 2) {
+        Ok(byte) => Some(Some(byte as u8)),
+        Err(_) => None,
+    }
+}
+
+/// The pick, for which the first version has no word.
+fn pick_of(words: &mut Words<'_>, version: Version) -> Option<Option<u8>>
+    ensures { option_map (λ p. (p, words.new)) result ≡ pick_at version words.old }
+{
+    match version {
+        Version::One => Some(None),
+        Version::Two => pick_in(words.next()?),
+    }
+}
+
+/// A node of this instance by its next words in a certificate of this version: word, enable bits, I, delay, form of the stack
+/// pointer and, in the second, pick. None exactly where they are those of no node that it can have.
 #[tactic(auto, unfolding(crate::specs::KeyReading::node_key_at))]
-pub fn node_key_of(words: &mut Words<'_>, inst: &InstKey) -> Option<NodeKey>
-    ensures exact { option_map (λ k. (k, words.new)) result ≡ node_key_at inst.now words.old }
+pub fn node_key_of(words: &mut Words<'_>, version: Version, inst: &InstKey) -> Option<NodeKey>
+    ensures exact { option_map (λ k. (k, words.new)) result ≡ node_key_at version inst.now words.old }
     ensures small { IfSome result (λ k. offset_of k.sp ≤ model.SIZE) }
 {
     let pc = hex_word(words, 4)? as u16;
@@ -118,6 +152,7 @@ pub fn node_key_of(words: &mut Words<'_>, inst: &InstKey) -> Option<NodeKey>
     let i = flag_of(words)?;
     let delay = flag_of(words)?;
     let sp = form_of(words.next()?, is_root(inst.kind))?;
+    let pick = pick_of(words, version)?;
     if pc < WORDS {
         Some(NodeKey {
             inst: *inst,
@@ -126,6 +161,7 @@ pub fn node_key_of(words: &mut Words<'_>, inst: &InstKey) -> Option<NodeKey>
             i,
             delay,
             sp,
+            pick,
         })
     } else {
         None

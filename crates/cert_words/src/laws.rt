@@ -3,17 +3,18 @@
 ghost use Rattle.cert_words.specs.Laws.{ValueWords};
 ghost use Rattle.cert_words.specs.KeyLaws.{KeyWords};
 
-use bit_domain::laws::{bytes_are_sets, bytes_are_their_bits};
+use bit_domain::laws::{bytes_are_sets, bytes_are_their_bits, ranges_fit};
 use line_reading::laws::word_laws;
 
-/// The word of a value, of a slot, of flags, of a carry tag and of a form of the stack pointer is read as it, and a word that is
-/// read is its word.
+/// The word of a value, of a slot, of flags, of a carry tag and of a form of the stack pointer is read as it in each version that can
+/// say it, and a word that is read is its word.
 pub fn value_words()
     ensures { ValueWords }
 {
     word_laws();
     bytes_are_their_bits();
     bytes_are_sets();
+    ranges_fit();
 }
 
 /// The words of an instance, of a node within its instance and of its form are read as it, and words that are read are its words.

@@ -8,6 +8,7 @@ ghost use Rattle.cert_words.specs.KeyReading.{word_by, words_from, flags_at, sta
 use crate::values::{carry_of, flags_of, slot_of, value_of};
 use abs_state::{AbsByte, AbsFlags, AbsState};
 use bit_domain::TriByte;
+use certificate::Version;
 use edge_rules::NodeForm;
 use line_reading::dec_word;
 use sb_base::Words;
@@ -15,26 +16,31 @@ use sp_domain::{CarryTag, Slot, Slots};
 use std::alloc::{AllocError, Global};
 
 /// The value of the next word.
-fn next_value(words: &mut Words<'_>, root: bool) -> Option<AbsByte>
-    ensures { option_map (λ v. (v, words.new)) result ≡ word_by (value_in root) words.old }
+fn next_value(words: &mut Words<'_>, version: Version, root: bool) -> Option<AbsByte>
+    ensures { option_map (λ v. (v, words.new)) result ≡ word_by (value_in version root) words.old }
 {
-    value_of(words.next()?, root)
+    value_of(words.next()?, version, root)
 }
 
 /// The slot of the next word.
-fn next_slot(words: &mut Words<'_>, root: bool) -> Option<Slot<AbsByte>>
-    ensures { option_map (λ s. (s, words.new)) result ≡ word_by (slot_in root) words.old }
+fn next_slot(words: &mut Words<'_>, version: Version, root: bool) -> Option<Slot<AbsByte>>
+    ensures { option_map (λ s. (s, words.new)) result ≡ word_by (slot_in version root) words.old }
 {
-    slot_of(words.next()?, root)
+    slot_of(words.next()?, version, root)
 }
 
 /// All registers, of which the first has this value.
-fn registers_of(words: &mut Words<'_>, root: bool, first: AbsByte) -> Option<[AbsByte; 32]>
-    ensures { option_map (λ r. (r, words.new)) result ≡ words_from (value_in root) (first ∷ []) 31 words.old }
+fn registers_of(
+    words: &mut Words<'_>,
+    version: Version,
+    root: bool,
+    first: AbsByte,
+) -> Option<[AbsByte; 32]>
+    ensures { option_map (λ r. (r, words.new)) result ≡ words_from (value_in version root) (first ∷ []) 31 words.old }
 {
     let mut registers = [first; 32];
     for r in 1..32 {
-        let Some(value) = next_value(words, root) else {
+        let Some(value) = next_value(words, version, root) else {
             return None;
         };
         registers[r] = value;
@@ -46,14 +52,15 @@ fn registers_of(words: &mut Words<'_>, root: bool, first: AbsByte) -> Option<[Ab
 fn slots_of(
     alloc: Global,
     words: &mut Words<'_>,
+    version: Version,
     root: bool,
     count: u16,
 ) -> Result<Option<Slots<AbsByte>>, AllocError>
-    ensures { IfOk result (λ o. option_map (λ s. (s, words.new)) o ≡ words_from (slot_in root) [] count words.old) }
+    ensures { IfOk result (λ o. option_map (λ s. (s, words.new)) o ≡ words_from (slot_in version root) [] count words.old) }
 {
     let mut slots = Slots::new(alloc);
     for _ in 0..count {
-        let Some(slot) = next_slot(words, root) else {
+        let Some(slot) = next_slot(words, version, root) else {
             return Ok(None);
         };
         slots.push(slot)?;
@@ -63,11 +70,11 @@ fn slots_of(
 
 /// The flags and the carry tag.
 #[tactic(auto, unfolding(crate::specs::KeyReading::flags_at))]
-fn both_flags_of(words: &mut Words<'_>, root: bool) -> Option<AbsFlags>
-    ensures { option_map (λ f. (f, words.new)) result ≡ flags_at root words.old }
+fn both_flags_of(words: &mut Words<'_>, version: Version, root: bool) -> Option<AbsFlags>
+    ensures { option_map (λ f. (f, words.new)) result ≡ flags_at version root words.old }
 {
     let (entry, bits) = flags_of(words.next()?, root)?;
-    let carry = carry_of(words.next()?, root)?;
+    let carry = carry_of(words.next()?, version, root)?;
     Some(AbsFlags { entry, bits, carry })
 }
 
@@ -76,19 +83,20 @@ fn both_flags_of(words: &mut Words<'_>, root: bool) -> Option<AbsFlags>
 fn state_of(
     alloc: Global,
     words: &mut Words<'_>,
+    version: Version,
     root: bool,
     offset: u16,
     first: AbsByte,
 ) -> Result<Option<AbsState>, AllocError>
-    ensures { IfOk result (λ o. option_map (λ s. (s, words.new)) o ≡ state_behind root offset first words.old) }
+    ensures { IfOk result (λ o. option_map (λ s. (s, words.new)) o ≡ state_behind version root offset first words.old) }
 {
-    let Some(registers) = registers_of(words, root, first) else {
+    let Some(registers) = registers_of(words, version, root, first) else {
         return Ok(None);
     };
-    let Some(flags) = both_flags_of(words, root) else {
+    let Some(flags) = both_flags_of(words, version, root) else {
         return Ok(None);
     };
-    let Some(slots) = slots_of(alloc, words, root, offset)? else {
+    let Some(slots) = slots_of(alloc, words, version, root, offset)? else {
         return Ok(None);
     };
     Ok(Some(AbsState {
@@ -111,17 +119,19 @@ fn from_of(words: &mut Words<'_>, at: usize) -> Option<NodeForm>
     }
 }
 
-/// The form of the node of the number `at` by its next words, whose frame is the root's or another and whose stack pointer has
-/// this offset: a state, or `from` and the number of an earlier node. None exactly where they are those of no such node.
+/// The form of the node of the number `at` by its next words in a certificate of this version, whose frame is the root's or another
+/// and whose stack pointer has this offset: a state, or `from` and the number of an earlier node. None exactly where they are those
+/// of no such node.
 #[tactic(auto, unfolding(crate::specs::KeyReading::form_at))]
 pub fn form_of(
     alloc: Global,
     words: &mut Words<'_>,
+    version: Version,
     root: bool,
     offset: u16,
     at: usize,
 ) -> Result<Option<NodeForm>, AllocError>
-    ensures { IfOk result (λ o. option_map (λ f. (f, words.new)) o ≡ form_at root offset at words.old) }
+    ensures { IfOk result (λ o. option_map (λ f. (f, words.new)) o ≡ form_at version root offset at words.old) }
 {
     let Some(word) = words.next() else {
         return Ok(None);
@@ -129,10 +139,10 @@ pub fn form_of(
     if word == b"from".as_slice() {
         return Ok(from_of(words, at));
     }
-    let Some(first) = value_of(word, root) else {
+    let Some(first) = value_of(word, version, root) else {
         return Ok(None);
     };
-    match state_of(alloc, words, root, offset, first)? {
+    match state_of(alloc, words, version, root, offset, first)? {
         Some(state) => Ok(Some(NodeForm::State(state))),
         None => Ok(None),
     }

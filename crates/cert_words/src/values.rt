@@ -5,12 +5,13 @@ ghost use Rattle.std.specs.Option.{option_map};
 ghost use Rattle.avr_model.specs.State.{SIZE};
 ghost use Rattle.sp_domain.specs.declared.tags.Tag.TheVariants as tag;
 ghost use Rattle.mask_states.specs.Keys.{offset_of};
-ghost use Rattle.cert_words.specs.Reading.{bits_at, register_at, tag_by, tag_at, value_in, slot_in, entry_by, flags_in, borrow_in, carry_in, offset_in, marked_in, high_in, high_size, open_in, form_in};
+ghost use Rattle.cert_words.specs.Reading.{bits_at, register_at, tag_by, tag_at, ends_at, range_at, value_in, slot_in, entry_by, flags_in, borrow_in, less_in, carry_by, carry_in, offset_in, marked_in, high_in, high_size, open_in, form_in};
 
 use crate::letters::Letters;
 use abs_state::AbsByte;
 use avr_model::device;
-use bit_domain::TriByte;
+use bit_domain::{Range, TriByte};
+use certificate::Version;
 use mask_states::{High, SpForm};
 use sb_base::read_dec;
 use sp_domain::{CarryTag, Slot, Tag};
@@ -78,16 +79,50 @@ fn any_tag_of(letters: &mut Letters<'_>, root: bool) -> Option<Tag>
     }
 }
 
+/// The ends of a range that lies between the least and the greatest byte of the bits.
+#[tactic(auto, unfolding(crate::specs::Reading::ends_at))]
+fn ends_of(letters: &mut Letters<'_>, bits: TriByte) -> Option<(u8, u8)>
+    ensures { option_map (λ r. (r, letters.new)) result ≡ ends_at bits letters.old }
+{
+    let low = letters.digits(2)? as u8;
+    let high = letters.digits(2)? as u8;
+    let all = Range::of_bits(bits);
+    if all.low <= low && low <= high && high <= all.high {
+        Some((low, high))
+    } else {
+        None
+    }
+}
+
+/// The ends of the range of a value with these bits.
+fn range_of(letters: &mut Letters<'_>, version: Version, bits: TriByte) -> Option<(u8, u8)>
+    ensures { option_map (λ r. (r, letters.new)) result ≡ range_at version bits letters.old }
+{
+    match version {
+        Version::One => {
+            let all = Range::of_bits(bits);
+            Some((all.low, all.high))
+        }
+        Version::Two => ends_of(letters, bits),
+    }
+}
+
 /// The value of a word.
 #[tactic(auto, unfolding(crate::specs::Reading::value_in))]
-pub(crate) fn value_of(word: &[u8], root: bool) -> Option<AbsByte>
-    ensures { result ≡ value_in root word.now }
+pub(crate) fn value_of(word: &[u8], version: Version, root: bool) -> Option<AbsByte>
+    ensures { result ≡ value_in version root word.now }
 {
     let mut letters = Letters::new(word);
     let tag = any_tag_of(&mut letters, root)?;
     let bits = bits_of(&mut letters)?;
+    let (low, high) = range_of(&mut letters, version, bits)?;
     if letters.is_end() {
-        Some(AbsByte { tag, bits })
+        Some(AbsByte {
+            tag,
+            bits,
+            low,
+            high,
+        })
     } else {
         None
     }
@@ -95,13 +130,13 @@ pub(crate) fn value_of(word: &[u8], root: bool) -> Option<AbsByte>
 
 /// The slot of a word.
 #[tactic(auto, unfolding(crate::specs::Reading::slot_in))]
-pub(crate) fn slot_of(word: &[u8], root: bool) -> Option<Slot<AbsByte>>
-    ensures { result ≡ slot_in root word.now }
+pub(crate) fn slot_of(word: &[u8], version: Version, root: bool) -> Option<Slot<AbsByte>>
+    ensures { result ≡ slot_in version root word.now }
 {
     if word == b".".as_slice() {
         Some(Slot::Free)
     } else {
-        Some(Slot::Guarded(value_of(word, root)?))
+        Some(Slot::Guarded(value_of(word, version, root)?))
     }
 }
 
@@ -150,23 +185,56 @@ fn borrow_of(letters: &mut Letters<'_>) -> Option<CarryTag>
     }
 }
 
+/// The register and the number that it is compared with.
+#[tactic(auto, unfolding(crate::specs::Reading::less_in))]
+fn less_of(letters: &mut Letters<'_>) -> Option<CarryTag>
+    ensures { result ≡ less_in letters.old }
+{
+    let register = register_of(letters)?;
+    let number = letters.digits(2)? as u8;
+    if letters.is_end() {
+        Some(CarryTag::Less(register, number))
+    } else {
+        None
+    }
+}
+
+/// The carry tag that a letter begins, which isn't that of none.
+#[tactic(auto, unfolding(crate::specs::Reading::carry_by))]
+fn carry_by(letter: u8, letters: &mut Letters<'_>, version: Version, root: bool) -> Option<CarryTag>
+    ensures { result ≡ carry_by version root letter letters.old }
+{
+    match version {
+        Version::One => {
+            if letter == b'b' && !root {
+                borrow_of(letters)
+            } else {
+                None
+            }
+        }
+        Version::Two => {
+            if letter == b'b' && !root {
+                borrow_of(letters)
+            } else if letter == b'c' {
+                less_of(letters)
+            } else {
+                None
+            }
+        }
+    }
+}
+
 /// The carry tag of a word.
 #[tactic(auto, unfolding(crate::specs::Reading::carry_in))]
-pub(crate) fn carry_of(word: &[u8], root: bool) -> Option<CarryTag>
-    ensures { result ≡ carry_in root word.now }
+pub(crate) fn carry_of(word: &[u8], version: Version, root: bool) -> Option<CarryTag>
+    ensures { result ≡ carry_in version root word.now }
 {
     if word == b"-".as_slice() {
         return Some(CarryTag::None);
     }
-    if root {
-        return None;
-    }
     let mut letters = Letters::new(word);
-    if letters.next()? == b'b' {
-        borrow_of(&mut letters)
-    } else {
-        None
-    }
+    let letter = letters.next()?;
+    carry_by(letter, &mut letters, version, root)
 }
 
 /// The offset that decimal digits stand for.

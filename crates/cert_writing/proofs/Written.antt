@@ -8,15 +8,18 @@ use Rattle.sb_base.specs.Lines.{line}
 use Rattle.sb_base.specs.Writing.{Written, with_word, with_words, with_end}
 use Rattle.line_reading.specs.Appending.{with_text, AppendingLaws}
 use Rattle.avr_model.specs.declared.assumption.Entry.{Entry}
+use Rattle.abs_state.specs.declared.values.AbsByte.{AbsByte}
 use Rattle.abs_state.specs.declared.state.AbsState.{AbsState}
 use Rattle.edge_rules.specs.Expansion.{Seeds}
 use Rattle.indirect_targets.specs.Spelling.{entry_words, text_of as entries_text}
 use Rattle.witness_replay.specs.Spelling.{Plan, text_of as schedule_text}
 use Rattle.certificate.specs.declared.instance.Inst.{Inst}
+use Rattle.certificate.specs.declared.version.Version.{Version}
+use Rattle.certificate.specs.declared.version.Version.TheVariants.{Two}
 use Rattle.certificate.specs.Claims.{Claim}
-use Rattle.cert_words.specs.Spelling.{value_word, flags_word, carry_word, slot_word}
+use Rattle.cert_words.specs.Spelling.{tag_text, bits_text, range_text, value_word, flags_word, carry_word, slot_word}
 use Rattle.cert_words.specs.KeySpelling.{state_words}
-use Rattle.cert_words.specs.Text.{numbered, version, heading, entry_lines, inst_words, inst_lines, node_words, node_lines, front_lines, open_line, attained_line, witness_lines, end_line, text_of}
+use Rattle.cert_words.specs.Text.{numbered, version_line, heading, entry_lines, inst_words, inst_lines, node_words, node_lines, front_lines, open_line, attained_line, witness_lines, end_line, text_of}
 
 -- ---- digits
 
@@ -32,6 +35,10 @@ four n h =
     let a : n / 16 / 16 / 16 % 16 ≡ n / 4096 = omega (arith, h) in
     let b : n / 16 / 16 % 16 ≡ n / 256 % 16 = omega (arith, h) in
     ap₂ (λ (d e : ℕ). hex_digit d ∷ hex_digit e ∷ hex_digit (n / 16 % 16) ∷ hex_digit (n % 16) ∷ []) a b
+
+-- the word of a value by its three parts
+pub spelled : (v : AbsByte) (ts bs rs : List ℕ) → tag_text v.tag ≡ ts → bits_text v.bits ≡ bs → range_text Two v ≡ rs → ts ++ (bs ++ rs) ≡ value_word Two v
+spelled v ts bs rs t b r = sym (ap₂ (λ (xs ys : List ℕ). xs ++ ys) t (ap₂ (λ (xs ys : List ℕ). xs ++ ys) b r))
 
 -- ---- words
 
@@ -84,12 +91,12 @@ lines_done {A} words w v xs i e f = f ∙ ap (λ (ys : List A). with_text w (tex
 
 -- ---- states
 
-pub state_written : (w a b v : Written) (s : AbsState) → a ≡ with_words w (map value_word s.registers) → b ≡ with_word (with_word a (flags_word s.flags.entry s.flags.bits)) (carry_word s.flags.carry) → v ≡ with_words b (map slot_word s.slots)
-    → v ≡ with_words w (state_words s)
-state_written w a b v s e f g =
-    g ∙ ap (λ (x : Written). with_words x (map slot_word s.slots)) f
-    ∙ ap (λ (x : Written). with_words x (flags_word s.flags.entry s.flags.bits ∷ carry_word s.flags.carry ∷ map slot_word s.slots)) e
-    ∙ sym (words_append w (map value_word s.registers) (flags_word s.flags.entry s.flags.bits ∷ carry_word s.flags.carry ∷ map slot_word s.slots))
+pub state_written : (version : Version) (w a b v : Written) (s : AbsState) → a ≡ with_words w (map (value_word version) s.registers) → b ≡ with_word (with_word a (flags_word s.flags.entry s.flags.bits)) (carry_word s.flags.carry) → v ≡ with_words b (map (slot_word version) s.slots)
+    → v ≡ with_words w (state_words version s)
+state_written version w a b v s e f g =
+    g ∙ ap (λ (x : Written). with_words x (map (slot_word version) s.slots)) f
+    ∙ ap (λ (x : Written). with_words x (flags_word s.flags.entry s.flags.bits ∷ carry_word s.flags.carry ∷ map (slot_word version) s.slots)) e
+    ∙ sym (words_append w (map (value_word version) s.registers) (flags_word s.flags.entry s.flags.bits ∷ carry_word s.flags.carry ∷ map (slot_word version) s.slots))
 
 -- ---- parts
 
@@ -104,14 +111,14 @@ one_line l = append-nil (line l)
 pub entries_written : (w v u : Written) (es : List Entry) → v ≡ with_text w (line (numbered (codes "assume") (length es))) → u ≡ with_text v (entries_text es) → u ≡ with_text w (flat_map line (entry_lines es))
 entries_written w v u es e f = more_text w v u (line (numbered (codes "assume") (length es))) (flat_map line (map entry_words es)) e (f ∙ ap (with_text v) (entry_text es))
 
-pub heading_written : (w v u : Written) (n : ℕ) → v ≡ with_text w (line version) → u ≡ with_text v (line (numbered (codes "bound") n)) → u ≡ with_text w (flat_map line (heading n))
-heading_written w v u n e f = more_text w v u (line version) (flat_map line (numbered (codes "bound") n ∷ [])) e (f ∙ ap (with_text v) (sym (one_line (numbered (codes "bound") n))))
+pub heading_written : (version : Version) (w v u : Written) (n : ℕ) → v ≡ with_text w (line (version_line version)) → u ≡ with_text v (line (numbered (codes "bound") n)) → u ≡ with_text w (flat_map line (heading version n))
+heading_written version w v u n e f = more_text w v u (line (version_line version)) (flat_map line (numbered (codes "bound") n ∷ [])) e (f ∙ ap (with_text v) (sym (one_line (numbered (codes "bound") n))))
 
 pub insts_written : (w v u : Written) (xs : List Inst) → v ≡ with_text w (line (numbered (codes "instances") (length xs))) → u ≡ with_text v (flat_map line (map inst_words xs)) → u ≡ with_text w (flat_map line (inst_lines xs))
 insts_written w v u xs e f = more_text w v u (line (numbered (codes "instances") (length xs))) (flat_map line (map inst_words xs)) e f
 
-pub nodes_written : (w v u : Written) (xs : List Inst) (ns : Seeds) → v ≡ with_text w (line (numbered (codes "nodes") (length ns))) → u ≡ with_text v (flat_map line (map (node_words xs) ns)) → u ≡ with_text w (flat_map line (node_lines xs ns))
-nodes_written w v u xs ns e f = more_text w v u (line (numbered (codes "nodes") (length ns))) (flat_map line (map (node_words xs) ns)) e f
+pub nodes_written : (version : Version) (w v u : Written) (xs : List Inst) (ns : Seeds) → v ≡ with_text w (line (numbered (codes "nodes") (length ns))) → u ≡ with_text v (flat_map line (map (node_words version xs) ns)) → u ≡ with_text w (flat_map line (node_lines version xs ns))
+nodes_written version w v u xs ns e f = more_text w v u (line (numbered (codes "nodes") (length ns))) (flat_map line (map (node_words version xs) ns)) e f
 
 joined_text : (xs ys : List (List (List ℕ))) → flat_map line (xs ++ ys) ≡ flat_map line xs ++ flat_map line ys
 joined_text xs ys = flat_map-append line xs ys
@@ -119,11 +126,11 @@ joined_text xs ys = flat_map-append line xs ys
 both_written : (w v u : Written) (xs ys : List (List (List ℕ))) → v ≡ with_text w (flat_map line xs) → u ≡ with_text v (flat_map line ys) → u ≡ with_text w (flat_map line (xs ++ ys))
 both_written w v u xs ys e f = more_text w v u (flat_map line xs) (flat_map line ys) e f ∙ ap (with_text w) (sym (joined_text xs ys))
 
-pub front_written : (w a b d u : Written) (c : Claim) → a ≡ with_text w (flat_map line (heading c.bound)) → b ≡ with_text a (flat_map line (entry_lines c.assumptions)) → d ≡ with_text b (flat_map line (inst_lines c.instances)) → u ≡ with_text d (flat_map line (node_lines c.instances c.nodes))
+pub front_written : (w a b d u : Written) (c : Claim) → a ≡ with_text w (flat_map line (heading c.version c.bound)) → b ≡ with_text a (flat_map line (entry_lines c.assumptions)) → d ≡ with_text b (flat_map line (inst_lines c.instances)) → u ≡ with_text d (flat_map line (node_lines c.version c.instances c.nodes))
     → u ≡ with_text w (flat_map line (front_lines c))
 front_written w a b d u c e f g h =
-    both_written w a u (heading c.bound) (entry_lines c.assumptions ++ (inst_lines c.instances ++ node_lines c.instances c.nodes)) e
-    (both_written a b u (entry_lines c.assumptions) (inst_lines c.instances ++ node_lines c.instances c.nodes) f (both_written b d u (inst_lines c.instances) (node_lines c.instances c.nodes) g h))
+    both_written w a u (heading c.version c.bound) (entry_lines c.assumptions ++ (inst_lines c.instances ++ node_lines c.version c.instances c.nodes)) e
+    (both_written a b u (entry_lines c.assumptions) (inst_lines c.instances ++ node_lines c.version c.instances c.nodes) f (both_written b d u (inst_lines c.instances) (node_lines c.version c.instances c.nodes) g h))
 
 pub attained_written : (w v u : Written) (plan : Plan) → v ≡ with_text w (line attained_line) → u ≡ with_text v (schedule_text plan) → u ≡ with_text w (flat_map line (witness_lines (Some plan)))
 attained_written w v u plan e f = more_text w v u (line attained_line) (schedule_text plan) e f

@@ -4,9 +4,10 @@ ghost use Rattle.std.specs.Prelude.{◌≡◌, ◌++◌, OnOk, decimal};
 ghost use Rattle.sb_base.specs.Writing.{with_word, with_words};
 ghost use Rattle.witness_replay.specs.Spelling.{bit};
 ghost use Rattle.cert_words.specs.Spelling.{high_text, form_word};
-ghost use Rattle.cert_words.specs.KeySpelling.{kind_word, inst_key_words, place_words, node_key_words};
+ghost use Rattle.cert_words.specs.KeySpelling.{kind_word, inst_key_words, pick_words, place_words, node_key_words};
 
 use crate::values::{pair, quad};
+use certificate::Version;
 use mask_states::{High, InstKey, Kind, NodeKey, SpForm};
 use sb_base::LineWriter;
 use std::alloc::{AllocError, Global};
@@ -87,26 +88,41 @@ pub fn write_inst_key(out: &mut LineWriter, alloc: Global, key: &InstKey) -> Res
     write_bit(out, key.i)
 }
 
-/// Writes a node within its instance: word, enable bits, I, delay and form of the stack pointer.
+/// Writes a pick, for which the first version has no word.
+fn write_pick(out: &mut LineWriter, version: Version, pick: Option<u8>) -> Result<(), AllocError>
+    ensures { OnOk result (out.new ≡ with_words out.old (pick_words version pick)) }
+{
+    match version {
+        Version::One => Ok(()),
+        Version::Two => match pick {
+            None => out.word(b"-"),
+            Some(byte) => out.hex(u32::from(byte), 2),
+        },
+    }
+}
+
+/// Writes a node within its instance: word, enable bits, I, delay, form of the stack pointer and, in the second version, pick.
 pub(crate) fn write_place(
     out: &mut LineWriter,
     alloc: Global,
+    version: Version,
     key: &NodeKey,
 ) -> Result<(), AllocError>
-    ensures { OnOk result (out.new ≡ with_words out.old (place_words key.now)) }
+    ensures { OnOk result (out.new ≡ with_words out.old (place_words version key.now)) }
 {
     out.hex(u32::from(key.pc), 4)?;
     out.hex(key.masks.bits(), 7)?;
     write_bit(out, key.i)?;
     write_bit(out, key.delay)?;
-    write_form(out, alloc, &key.sp)
+    write_form(out, alloc, &key.sp)?;
+    write_pick(out, version, key.pick)
 }
 
-/// Writes a node with its instance: kind, entry, enable bits and I of the instance, then word, enable bits, I, delay and form of
-/// the stack pointer. After want of memory some first words are written.
+/// Writes a node with its instance: kind, entry, enable bits and I of the instance, then word, enable bits, I, delay, form of the
+/// stack pointer and pick. After want of memory some first words are written.
 pub fn write_key(out: &mut LineWriter, alloc: Global, key: &NodeKey) -> Result<(), AllocError>
     ensures { OnOk result (out.new ≡ with_words out.old (node_key_words key.now)) }
 {
     write_inst_key(out, alloc, &key.inst)?;
-    write_place(out, alloc, key)
+    write_place(out, alloc, Version::Two, key)
 }

@@ -2,6 +2,7 @@
 #![tactic(auto)]
 
 mod keys;
+pub mod laws;
 mod lines;
 mod state;
 mod values;

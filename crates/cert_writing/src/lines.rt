@@ -16,7 +16,7 @@ ghost use Rattle.cert_writing.specs.Places.{IsAt, IsNowhereFrom};
 
 use crate::keys::{write_inst_key, write_place};
 use crate::state::write_form;
-use certificate::Inst;
+use certificate::{Inst, Version};
 use edge_rules::NodeForm;
 use line_reading::laws::appending_laws;
 use mask_states::laws::keys_are_ordered;
@@ -83,15 +83,16 @@ fn place(insts: &[Inst], guess: usize, key: &InstKey) -> usize
 fn write_node(
     out: &mut LineWriter,
     alloc: Global,
+    version: Version,
     place: usize,
     node: &(NodeKey, NodeForm),
 ) -> Result<(), AllocError>
-    ensures { OnOk result (out.new ≡ with_end (with_words out.old (node_words_at place node.now))) }
+    ensures { OnOk result (out.new ≡ with_end (with_words out.old (node_words_at version place node.now))) }
 {
     out.word(b"node")?;
     out.dec(place as u64)?;
-    write_place(out, alloc, &node.0)?;
-    write_form(out, &node.1)?;
+    write_place(out, alloc, version, &node.0)?;
+    write_form(out, version, &node.1)?;
     out.end_line()
 }
 
@@ -99,19 +100,20 @@ fn write_node(
 pub(crate) fn write_nodes(
     out: &mut LineWriter,
     alloc: Global,
+    version: Version,
     insts: &[Inst],
     nodes: &[(NodeKey, NodeForm)],
 ) -> Result<(), AllocError>
     requires begun { out.old.begun ≡ false }
     requires sorted { IsStrictlySortedBy inst_cmp (inst_keys insts.now) }
     requires there { AllByRecursion (Belongs insts.now) (node_keys nodes.now) }
-    ensures { OnOk result (out.new ≡ with_text out.old (flat_map line (map (node_words insts.now) nodes.now))) }
+    ensures { OnOk result (out.new ≡ with_text out.old (flat_map line (map (node_words version insts.now) nodes.now))) }
 {
     appending_laws();
     let mut guess = 0;
     for node in nodes {
         guess = place(insts, guess, &node.0.inst);
-        write_node(out, alloc, guess, node)?;
+        write_node(out, alloc, version, guess, node)?;
     }
     Ok(())
 }

@@ -7,47 +7,60 @@ ghost use Rattle.cert_words.specs.KeySpelling.{state_words, form_words};
 
 use crate::values::{write_flags, write_slot, write_value};
 use abs_state::{AbsByte, AbsState};
+use certificate::Version;
 use edge_rules::NodeForm;
 use sb_base::LineWriter;
 use sp_domain::Slot;
 use std::alloc::AllocError;
 
 /// Writes values.
-fn write_values(out: &mut LineWriter, values: &[AbsByte]) -> Result<(), AllocError>
-    ensures { OnOk result (out.new ≡ with_words out.old (map value_word values.now)) }
+fn write_values(
+    out: &mut LineWriter,
+    version: Version,
+    values: &[AbsByte],
+) -> Result<(), AllocError>
+    ensures { OnOk result (out.new ≡ with_words out.old (map (value_word version) values.now)) }
 {
     for value in values {
-        write_value(out, value)?;
+        write_value(out, version, value)?;
     }
     Ok(())
 }
 
 /// Writes slots.
-fn write_slots(out: &mut LineWriter, slots: &[Slot<AbsByte>]) -> Result<(), AllocError>
-    ensures { OnOk result (out.new ≡ with_words out.old (map slot_word slots.now)) }
+fn write_slots(
+    out: &mut LineWriter,
+    version: Version,
+    slots: &[Slot<AbsByte>],
+) -> Result<(), AllocError>
+    ensures { OnOk result (out.new ≡ with_words out.old (map (slot_word version) slots.now)) }
 {
     for slot in slots {
-        write_slot(out, slot)?;
+        write_slot(out, version, slot)?;
     }
     Ok(())
 }
 
 /// Writes a state.
-fn write_state(out: &mut LineWriter, state: &AbsState) -> Result<(), AllocError>
-    ensures { OnOk result (out.new ≡ with_words out.old (state_words state.now)) }
+fn write_state(out: &mut LineWriter, version: Version, state: &AbsState) -> Result<(), AllocError>
+    ensures { OnOk result (out.new ≡ with_words out.old (state_words version state.now)) }
 {
-    write_values(out, &state.registers)?;
+    write_values(out, version, &state.registers)?;
     write_flags(out, &state.flags)?;
-    write_slots(out, state.slots.as_slice())?;
+    write_slots(out, version, state.slots.as_slice())?;
     Ok(())
 }
 
 /// Writes a state, or `from` and the number of the node that it comes from.
-pub(crate) fn write_form(out: &mut LineWriter, form: &NodeForm) -> Result<(), AllocError>
-    ensures { OnOk result (out.new ≡ with_words out.old (form_words form.now)) }
+pub(crate) fn write_form(
+    out: &mut LineWriter,
+    version: Version,
+    form: &NodeForm,
+) -> Result<(), AllocError>
+    ensures { OnOk result (out.new ≡ with_words out.old (form_words version form.now)) }
 {
     match form {
-        NodeForm::State(state) => write_state(out, state),
+        NodeForm::State(state) => write_state(out, version, state),
         NodeForm::From(from) => {
             out.word(b"from")?;
             out.dec(u64::from(*from))

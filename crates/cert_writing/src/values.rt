@@ -3,9 +3,12 @@
 ghost use Rattle.std.specs.Prelude.{◌≡◌, ◌<◌, ◌∷◌, [], OnOk};
 ghost use Rattle.sb_base.specs.Digits.{hex_digit, hex_digits};
 ghost use Rattle.sb_base.specs.Writing.{with_word};
-ghost use Rattle.cert_words.specs.Spelling.{value_word, flags_word, carry_word, slot_word};
+ghost use Rattle.certificate.specs.declared.version.Version.TheVariants.{One, Two};
+ghost use Rattle.cert_words.specs.Spelling.{bits_text, range_text, value_word, flags_word, carry_word, slot_word};
 
 use abs_state::{AbsByte, AbsFlags};
+use bit_domain::TriByte;
+use certificate::Version;
 use sb_base::LineWriter;
 use sp_domain::{CarryTag, Slot, Tag};
 use std::alloc::AllocError;
@@ -41,37 +44,98 @@ pub(crate) fn quad(number: u16) -> (u8, u8, u8, u8)
     )
 }
 
-/// Writes a value.
-pub(crate) fn write_value(out: &mut LineWriter, value: &AbsByte) -> Result<(), AllocError>
-    ensures { OnOk result (out.new ≡ with_word out.old (value_word value.now)) }
+/// The digits of known bits and of their values.
+fn bit_digits(bits: TriByte) -> (u8, u8, u8, u8)
+    ensures { bits_text bits ≡ result.0 ∷ result.1 ∷ result.2 ∷ result.3 ∷ [] }
 {
-    let k = pair(value.bits.known);
-    let v = pair(value.bits.value);
+    let k = pair(bits.known);
+    let v = pair(bits.value);
+    (k.0, k.1, v.0, v.1)
+}
+
+/// The digits of the ends of a value's range.
+fn range_digits(value: &AbsByte) -> (u8, u8, u8, u8)
+    ensures { range_text Two value.now ≡ result.0 ∷ result.1 ∷ result.2 ∷ result.3 ∷ [] }
+{
+    let a = pair(value.low);
+    let b = pair(value.high);
+    (a.0, a.1, b.0, b.1)
+}
+
+/// Writes a value without its range.
+fn write_bits(out: &mut LineWriter, value: &AbsByte) -> Result<(), AllocError>
+    ensures { OnOk result (out.new ≡ with_word out.old (value_word One value.now)) }
+{
+    let v = bit_digits(value.bits);
     match value.tag {
-        Tag::None => out.word(&[b'-', k.0, k.1, v.0, v.1]),
+        Tag::None => out.word(&[b'-', v.0, v.1, v.2, v.3]),
         Tag::Entry(register) => {
             let r = pair(register);
-            out.word(&[b'e', r.0, r.1, k.0, k.1, v.0, v.1])
+            out.word(&[b'e', r.0, r.1, v.0, v.1, v.2, v.3])
         }
-        Tag::EntryFlags => out.word(&[b'f', k.0, k.1, v.0, v.1]),
+        Tag::EntryFlags => out.word(&[b'f', v.0, v.1, v.2, v.3]),
         Tag::SpLo(below) => {
             let j = pair(below);
-            out.word(&[b'l', j.0, j.1, k.0, k.1, v.0, v.1])
+            out.word(&[b'l', j.0, j.1, v.0, v.1, v.2, v.3])
         }
         Tag::SpHi(below) => {
             let n = quad(below);
-            out.word(&[b'h', n.0, n.1, n.2, n.3, k.0, k.1, v.0, v.1])
+            out.word(&[b'h', n.0, n.1, n.2, n.3, v.0, v.1, v.2, v.3])
         }
     }
 }
 
+/// Writes a value with its range.
+fn write_bits_and_range(out: &mut LineWriter, value: &AbsByte) -> Result<(), AllocError>
+    ensures { OnOk result (out.new ≡ with_word out.old (value_word Two value.now)) }
+{
+    let v = bit_digits(value.bits);
+    let a = range_digits(value);
+    match value.tag {
+        Tag::None => out.word(&[b'-', v.0, v.1, v.2, v.3, a.0, a.1, a.2, a.3]),
+        Tag::Entry(register) => {
+            let r = pair(register);
+            out.word(&[b'e', r.0, r.1, v.0, v.1, v.2, v.3, a.0, a.1, a.2, a.3])
+        }
+        Tag::EntryFlags => out.word(&[b'f', v.0, v.1, v.2, v.3, a.0, a.1, a.2, a.3]),
+        Tag::SpLo(below) => {
+            let j = pair(below);
+            out.word(&[b'l', j.0, j.1, v.0, v.1, v.2, v.3, a.0, a.1, a.2, a.3])
+        }
+        Tag::SpHi(below) => {
+            let n = quad(below);
+            out.word(&[
+                b'h', n.0, n.1, n.2, n.3, v.0, v.1, v.2, v.3, a.0, a.1, a.2, a.3,
+            ])
+        }
+    }
+}
+
+/// Writes a value.
+pub(crate) fn write_value(
+    out: &mut LineWriter,
+    version: Version,
+    value: &AbsByte,
+) -> Result<(), AllocError>
+    ensures { OnOk result (out.new ≡ with_word out.old (value_word version value.now)) }
+{
+    match version {
+        Version::One => write_bits(out, value),
+        Version::Two => write_bits_and_range(out, value),
+    }
+}
+
 /// Writes a slot.
-pub(crate) fn write_slot(out: &mut LineWriter, slot: &Slot<AbsByte>) -> Result<(), AllocError>
-    ensures { OnOk result (out.new ≡ with_word out.old (slot_word slot.now)) }
+pub(crate) fn write_slot(
+    out: &mut LineWriter,
+    version: Version,
+    slot: &Slot<AbsByte>,
+) -> Result<(), AllocError>
+    ensures { OnOk result (out.new ≡ with_word out.old (slot_word version slot.now)) }
 {
     match slot {
         Slot::Free => out.word(b"."),
-        Slot::Guarded(value) => write_value(out, value),
+        Slot::Guarded(value) => write_value(out, version, value),
     }
 }
 
@@ -79,12 +143,11 @@ pub(crate) fn write_slot(out: &mut LineWriter, slot: &Slot<AbsByte>) -> Result<(
 fn write_flag_bits(out: &mut LineWriter, flags: &AbsFlags) -> Result<(), AllocError>
     ensures { OnOk result (out.new ≡ with_word out.old (flags_word flags.now.entry flags.now.bits)) }
 {
-    let k = pair(flags.bits.known);
-    let v = pair(flags.bits.value);
+    let v = bit_digits(flags.bits);
     if flags.entry {
-        out.word(&[b'f', k.0, k.1, v.0, v.1])
+        out.word(&[b'f', v.0, v.1, v.2, v.3])
     } else {
-        out.word(&[b'-', k.0, k.1, v.0, v.1])
+        out.word(&[b'-', v.0, v.1, v.2, v.3])
     }
 }
 
@@ -98,6 +161,11 @@ fn write_carry(out: &mut LineWriter, carry: CarryTag) -> Result<(), AllocError>
             let j = pair(first);
             let l = pair(second);
             out.word(&[b'b', j.0, j.1, l.0, l.1])
+        }
+        CarryTag::Less(register, number) => {
+            let r = pair(register);
+            let n = pair(number);
+            out.word(&[b'c', r.0, r.1, n.0, n.1])
         }
     }
 }

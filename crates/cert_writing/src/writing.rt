@@ -5,10 +5,10 @@ ghost use Rattle.std.specs.List.{flat_map};
 ghost use Rattle.sb_base.specs.Lines.{line};
 ghost use Rattle.line_reading.specs.Appending.{with_text};
 ghost use Rattle.certificate.specs.Claims.{IsCertificate};
-ghost use Rattle.cert_words.specs.Text.{numbered, heading, entry_lines, inst_lines, node_lines, front_lines, witness_lines, end_line, text_of};
+ghost use Rattle.cert_words.specs.Text.{numbered, version_line, heading, entry_lines, inst_lines, node_lines, front_lines, witness_lines, end_line, text_of};
 
 use crate::lines::{write_insts, write_nodes};
-use certificate::{Certificate, Inst};
+use certificate::{Certificate, Inst, Version};
 use line_reading::laws::appending_laws;
 use sb_base::LineWriter;
 use std::alloc::{AllocError, Global};
@@ -36,12 +36,23 @@ fn write_pair(out: &mut LineWriter, first: &[u8], second: &[u8]) -> Result<(), A
     out.end_line()
 }
 
-/// Writes the version and the bound.
-fn write_heading(out: &mut LineWriter, bound: u16) -> Result<(), AllocError>
+/// Writes the version.
+fn write_version(out: &mut LineWriter, version: Version) -> Result<(), AllocError>
     requires { out.old.begun ≡ false }
-    ensures { OnOk result (out.new ≡ with_text out.old (flat_map line (heading bound))) }
+    ensures { OnOk result (out.new ≡ with_text out.old (line (version_line version))) }
 {
-    write_pair(out, b"stackcert", b"1")?;
+    match version {
+        Version::One => write_pair(out, b"stackcert", b"1"),
+        Version::Two => write_pair(out, b"stackcert", b"2"),
+    }
+}
+
+/// Writes the version and the bound.
+fn write_heading(out: &mut LineWriter, version: Version, bound: u16) -> Result<(), AllocError>
+    requires { out.old.begun ≡ false }
+    ensures { OnOk result (out.new ≡ with_text out.old (flat_map line (heading version bound))) }
+{
+    write_version(out, version)?;
     write_numbered(out, b"bound", u64::from(bound))?;
     Ok(())
 }
@@ -76,11 +87,12 @@ fn write_node_part(
     certificate: &Certificate,
 ) -> Result<(), AllocError>
     requires { out.old.begun ≡ false }
-    ensures { OnOk result (out.new ≡ with_text out.old (flat_map line (node_lines certificate.now.instances certificate.now.nodes))) }
+    ensures { OnOk result (out.new ≡ with_text out.old (flat_map line (node_lines certificate.now.version certificate.now.instances certificate.now.nodes))) }
 {
     let nodes = certificate.nodes();
     write_numbered(out, b"nodes", nodes.len() as u64)?;
-    write_nodes(out, alloc, certificate.instances(), nodes)?;
+    let version = certificate.version();
+    write_nodes(out, alloc, version, certificate.instances(), nodes)?;
     Ok(())
 }
 
@@ -94,7 +106,7 @@ fn write_front(
     requires { out.old.begun ≡ false }
     ensures { OnOk result (out.new ≡ with_text out.old (flat_map line (front_lines certificate.now))) }
 {
-    write_heading(out, certificate.bound())?;
+    write_heading(out, certificate.version(), certificate.bound())?;
     write_assumptions(out, certificate.assumptions())?;
     write_instances(out, alloc, certificate.instances())?;
     write_node_part(out, alloc, certificate)?;

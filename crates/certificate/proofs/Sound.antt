@@ -37,6 +37,6 @@ conditions_make_families_sound words A c nodes claim filled m = record {
   ranks = m.ranks;
   offsets = λ n offset h form. (m.needs n.key.inst).offsets n offset h refl form;
   needs = λ n way inst back h e. (m.needs n.key.inst).entered n way inst back h refl e;
-  bounded = m.bounded;
-  small = claim.bound_fits;
+  bounded = m.bounded.enough;
+  small = m.bounded.small;
 }

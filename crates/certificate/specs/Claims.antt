@@ -7,7 +7,7 @@ use Rattle.avr_model.specs.Image.{WORDS}
 use Rattle.avr_model.specs.State.{SIZE}
 use Rattle.vector_table.specs.Entries.{AreEntries}
 use Rattle.mask_states.specs.declared.keys.NodeKey.{NodeKey}
-use Rattle.mask_states.specs.Keys.{offset_of}
+use Rattle.mask_states.specs.Keys.{offset_of, PickFits}
 use Rattle.mask_states.specs.Order.{inst_cmp, node_cmp}
 use Rattle.local_rules.specs.Cover.{IsNode, FormFits}
 use Rattle.edge_rules.specs.declared.seeded.NodeForm.{NodeForm}
@@ -15,11 +15,14 @@ use Rattle.edge_rules.specs.declared.seeded.NodeForm.TheVariants.{State, From}
 use Rattle.edge_rules.specs.Expansion.{Seeds}
 use Rattle.witness_replay.specs.Spelling.{Plan, IsSchedule}
 use Rattle.certificate.specs.declared.instance.Inst.{Inst}
+use Rattle.certificate.specs.declared.version.Version.{Version}
 use Rattle.certificate.specs.Insts.{IsInst, inst_keys}
+use Rattle.certificate.specs.Versions.{AreOf}
 
--- The bound, the assumptions that it rests on, the instances and nodes that every run stays in, and the schedule. A node has its state, or
--- the number of an earlier node from which the state is worked out.
+-- The version of its text, the bound, the assumptions that it rests on, the instances and nodes that every run stays in, and the schedule. A
+-- node has its state, or the number of an earlier node from which the state is worked out.
 pub record Claim : Type 0 where
+  pub version : Version
   pub bound : ℕ
   pub assumptions : List Entry
   pub instances : List Inst
@@ -47,12 +50,14 @@ cells_of (k ∷ ks) = 1 + offset_of k.sp + cells_of ks
 
 -- ---- what the type keeps
 
--- A key by itself: a word address, at most as many bytes as SRAM has, 25 enable bits, and a form that its instance's kind may have.
+-- A key by itself: a word address, at most as many bytes as SRAM has, 25 enable bits, a form that its instance's kind may have, and a byte
+-- where one is picked.
 pub record IsKey (k : NodeKey) : Type 0 where
   pub word : k.pc < WORDS
   pub small : offset_of k.sp ≤ SIZE
   pub masks : k.masks < 2 ^ 25
   pub fits : FormFits k
+  pub pick : PickFits k.pick
 
 -- the node of this number: its state is one that the analysis works with, or it comes from an earlier node
 abbrev pub FitsAt : ℕ → NodeKey → NodeForm → Type 0
@@ -79,6 +84,7 @@ pub record IsClaim (c : Claim) : Type 0 where
   pub nodes_ascend : IsStrictlySortedBy node_cmp (node_keys c.nodes)
   pub few_nodes : length c.nodes ≤ most_nodes
   pub few_cells : cells_of (node_keys c.nodes) ≤ most_cells
+  pub of_version : AreOf c.version c.nodes
 
 -- a claim whose schedule is one
 pub record IsCertificate (c : Claim) : Type 0 where

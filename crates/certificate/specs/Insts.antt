@@ -1,19 +1,22 @@
 -- The instances of a certificate. Source: own.
-use Rattle.std.specs.Prelude.{ℕ, ◌==◌, ◌&&◌, ◌≡◌, ◌<◌, ◌≤◌, ◌^◌, not, nat_lt, nat_le, Bool, true, List, [], ◌∷◌, map, if◌then◌else◌}
+use Rattle.std.specs.Prelude.{ℕ, ◌*◌, ◌-◌, ◌==◌, ◌&&◌, ◌||◌, ◌≡◌, ◌<◌, ◌≤◌, ◌^◌, not, nat_lt, nat_le, Bool, true, List, [], ◌∷◌, map, if◌then◌else◌}
 use Rattle.avr_model.specs.Image.{WORDS}
 use Rattle.avr_model.specs.State.{SIZE}
-use Rattle.avr_model.specs.Vectors.{vector_word}
 use Rattle.mask_states.specs.declared.keys.Kind.{Kind}
 use Rattle.mask_states.specs.declared.keys.Kind.TheVariants.{Root, Call, Vector}
 use Rattle.mask_states.specs.declared.keys.InstKey.{InstKey}
 use Rattle.mask_states.specs.Order.{same_inst}
 use Rattle.certificate.specs.declared.instance.Inst.{Inst}
 
+-- the word of a vector from 2 on: vectors are two words long, or one on the smaller devices
+abbrev pub is_vector_word : ℕ → ℕ → Bool
+is_vector_word v entry = (entry == 2 * (v - 1)) || (entry == v - 1)
+
 -- The root begins at word 0 with no vector enabled and I clear, a call at any word, and a vector at its own word with I clear.
 abbrev pub fits_kind : Kind → ℕ → ℕ → Bool → Bool
 fits_kind Root entry masks i = (entry == 0) && (masks == 0) && not i
 fits_kind Call entry masks i = nat_lt entry WORDS
-fits_kind (Vector v) entry masks i = nat_le 2 v && nat_le v 26 && (entry == vector_word v) && not i
+fits_kind (Vector v) entry masks i = nat_le 2 v && nat_le v 26 && is_vector_word v entry && not i
 
 -- its numbers are in their ranges
 pub record IsInst (x : Inst) : Type 0 where

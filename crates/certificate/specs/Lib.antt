@@ -1,4 +1,5 @@
 pub mod Insts
+pub mod Versions
 pub mod Claims
 pub mod Valid
 pub mod Laws

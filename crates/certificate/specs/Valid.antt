@@ -1,6 +1,7 @@
 -- When a certificate is valid for a firmware and assumptions. Source: own.
 use Rattle.std.specs.Prelude.{ℕ, ◌+◌, ◌≡◌, ◌<◌, ◌≤◌, List, Contains, Option, Some, None, IsOkAnd, ⊤}
 use Rattle.avr_model.specs.declared.assumption.Entry.{Entry}
+use Rattle.avr_model.specs.Devices.{device_of, size_of}
 use Rattle.avr_model.specs.declared.choice.Stop.TheVariants as stop
 use Rattle.abs_state.specs.Values.{root}
 use Rattle.mask_states.specs.declared.keys.EdgeKind.{EdgeKind}
@@ -47,6 +48,11 @@ pub record Suffices (words : List ℕ) (A : List Entry) (c : Claim) (nodes : Lis
 abbrev pub NeedsSuffice : List ℕ → List Entry → Claim → List Node → Type 0
 NeedsSuffice words A c nodes = (inst : InstKey) → Suffices words A c nodes inst (need_in c.instances inst)
 
+-- 6: the bound is at least the root's need, and no more than the device's SRAM has bytes
+pub record IsBounded (words : List ℕ) (c : Claim) : Type 0 where
+  pub enough : need_in c.instances root_inst ≤ c.bound
+  pub small : c.bound ≤ size_of (device_of words)
+
 pub record MeetsConditions (words : List ℕ) (A : List Entry) (c : Claim) (nodes : List Node) : Type 0 where
   -- 1: the node at reset is there, with a state at least that one
   pub reset : IsCovered nodes reset_node
@@ -54,8 +60,7 @@ pub record MeetsConditions (words : List ℕ) (A : List Entry) (c : Claim) (node
   pub edges : AllLand words A nodes
   pub ranks : AreRanked words A c nodes
   pub needs : NeedsSuffice words A c nodes
-  -- 6: the bound is at least the root's need
-  pub bounded : need_in c.instances root_inst ≤ c.bound
+  pub bounded : IsBounded words c
   -- 7: the assumptions are those handed in
   pub assumptions : c.assumptions ≡ A
 

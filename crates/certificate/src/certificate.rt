@@ -2,9 +2,11 @@
 
 ghost use Rattle.std.specs.Prelude.{◌≡◌, ◌<◌, length, slice_get, Some, None};
 ghost use Rattle.std.specs.Option.{option_copied};
+ghost use Rattle.certificate.specs.declared.version.Version.TheVariants.{Two};
 ghost use Rattle.certificate.specs.Claims.{IsClaim};
 
 use crate::instance::Inst;
+use crate::version::Version;
 use edge_rules::{NodeForm, Seed, Seeded};
 use mask_states::NodeKey;
 use std::marker::Model;
@@ -16,6 +18,7 @@ use witness_replay::Schedule;
 /// range, its lists ascend strictly, the instance of each node is there, and it keeps the limits. Source: own.
 #[derive(Drop)]
 pub struct Certificate {
+    version: Version,
     bound: u16,
     assumptions: Assumptions,
     instances: Vec<Inst>,
@@ -28,23 +31,40 @@ impl Model for Certificate {
 
     ghost Value = { Claim };
 
-    ghost view = { λ c. record { bound = c.bound; assumptions = c.assumptions; instances = c.instances.items; nodes = c.nodes.items; witness = c.witness } };
+    ghost view = { λ c. record { version = c.version; bound = c.bound; assumptions = c.assumptions; instances = c.instances.items; nodes = c.nodes.items; witness = c.witness } };
 
-    ghost invariant = { λ c. IsClaim (record { bound = c.bound; assumptions = c.assumptions; instances = c.instances.items; nodes = c.nodes.items; witness = c.witness }) };
+    ghost invariant = { λ c. IsClaim (record { version = c.version; bound = c.bound; assumptions = c.assumptions; instances = c.instances.items; nodes = c.nodes.items; witness = c.witness }) };
 }
 
 impl Certificate {
-    /// The certificate of these parts, which keep to the ranges, the order and the limits. It has no schedule.
+    /// The certificate of these parts, which keep to the ranges, the order and the limits. It is of the second version, and has no
+    /// schedule.
     pub fn build(
         bound: u16,
         assumptions: Assumptions,
         instances: Vec<Inst>,
         nodes: Vec<(NodeKey, NodeForm)>,
     ) -> Certificate
-        requires { IsClaim (record { bound = bound; assumptions = assumptions; instances = instances.items; nodes = nodes.items; witness = None }) }
-        ensures { result ≡ record { bound = bound; assumptions = assumptions; instances = instances.items; nodes = nodes.items; witness = None } }
+        requires { IsClaim (record { version = Two; bound = bound; assumptions = assumptions; instances = instances.items; nodes = nodes.items; witness = None }) }
+        ensures { result ≡ record { version = Two; bound = bound; assumptions = assumptions; instances = instances.items; nodes = nodes.items; witness = None } }
+    {
+        Certificate::of_version(Version::Two, bound, assumptions, instances, nodes)
+    }
+
+    /// The certificate of this version and these parts, which keep to the ranges, the order and the limits, and to what a text of the
+    /// version can say. It has no schedule.
+    pub fn of_version(
+        version: Version,
+        bound: u16,
+        assumptions: Assumptions,
+        instances: Vec<Inst>,
+        nodes: Vec<(NodeKey, NodeForm)>,
+    ) -> Certificate
+        requires { IsClaim (record { version = version; bound = bound; assumptions = assumptions; instances = instances.items; nodes = nodes.items; witness = None }) }
+        ensures { result ≡ record { version = version; bound = bound; assumptions = assumptions; instances = instances.items; nodes = nodes.items; witness = None } }
     {
         Certificate {
+            version,
             bound,
             assumptions,
             instances,
@@ -56,15 +76,23 @@ impl Certificate {
     /// The same with another schedule, or with none.
     #[tactic(auto, using(crate::proofs::Kept::with_witness))]
     pub fn with_witness(self, schedule: Option<Schedule>) -> Certificate
-        ensures { result ≡ record { bound = self.bound; assumptions = self.assumptions; instances = self.instances; nodes = self.nodes; witness = schedule } }
+        ensures { result ≡ record { version = self.version; bound = self.bound; assumptions = self.assumptions; instances = self.instances; nodes = self.nodes; witness = schedule } }
     {
         Certificate {
+            version: self.version,
             bound: self.bound,
             assumptions: self.assumptions,
             instances: self.instances,
             nodes: self.nodes,
             witness: schedule,
         }
+    }
+
+    /// The version of its text.
+    pub fn version(&self) -> Version
+        ensures { result ≡ self.now.version }
+    {
+        self.version
     }
 
     /// The bound, at most 2,048 bytes.

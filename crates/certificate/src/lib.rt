@@ -5,8 +5,10 @@ pub mod certificate;
 pub mod instance;
 pub mod laws;
 pub mod limit;
+pub mod version;
 
 pub use certificate::Certificate;
 pub use edge_rules::{NodeForm, Seed, Seeded};
 pub use instance::Inst;
 pub use limit::Limit;
+pub use version::Version;

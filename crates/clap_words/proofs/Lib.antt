@@ -1,4 +1,6 @@
+mod Going
 mod Levels
 mod Pieces
+mod Rows
 mod Steps
 mod Taken

@@ -4,20 +4,29 @@ use Rattle.std.specs.Prelude.{⊤}
 use Rattle.std.specs.Str.{bytes_eq}
 use Rattle.std.proofs.lemmas.Slice.Eq.{bytes_eq-Decides}
 use Rattle.commands.specs.declared.line.Valued.{Valued}
-use Rattle.commands.specs.declared.line.Valued.TheVariants.{Assume, Steps}
-use Rattle.commands.specs.Commands.{Command, Line, is_name, once, with_assume, with_steps, with_json, named, waiting, with_free, then_words}
+use Rattle.commands.specs.declared.line.Valued.TheVariants.{Assume, Steps, Device}
+use Rattle.commands.specs.Commands.{Command, Line, is_name, once, with_assume, with_steps, with_device, with_value, with_json, named, waiting, with_free, placed, then_words}
 
 -- a name, an option with its value, and the option without one; texts by their first byte
 pub data Piece : Type 0 where
   Named : ℕ → List ℕ → Piece
-  Assumed : ℕ → List ℕ → Piece
-  Stepped : ℕ → List ℕ → Piece
+  Given : Valued → ℕ → List ℕ → Piece
   Marked : Piece
+
+-- the name of an option that takes the next word, and how it is written
+abbrev pub option_name : Valued → List ℕ
+option_name Assume = codes "assume"
+option_name Steps = codes "steps"
+option_name Device = codes "device"
+
+abbrev pub spelled : Valued → List ℕ
+spelled Assume = codes "--assume"
+spelled Steps = codes "--steps"
+spelled Device = codes "--device"
 
 abbrev pub words_of : Piece → List (List ℕ)
 words_of (Named b bs) = (b ∷ bs) ∷ []
-words_of (Assumed b bs) = codes "--assume" ∷ (b ∷ bs) ∷ []
-words_of (Stepped b bs) = codes "--steps" ∷ (b ∷ bs) ∷ []
+words_of (Given v b bs) = spelled v ∷ (b ∷ bs) ∷ []
 words_of Marked = codes "--json" ∷ []
 
 abbrev pub all_words : List Piece → List (List ℕ)
@@ -27,28 +36,86 @@ all_words (p ∷ ps) = words_of p ++ all_words ps
 -- its text doesn't begin with a hyphen
 abbrev pub IsFit : Piece → Type 0
 IsFit (Named b bs) = (b == 45) ≡ false
-IsFit (Assumed b bs) = (b == 45) ≡ false
-IsFit (Stepped b bs) = (b == 45) ≡ false
+IsFit (Given v b bs) = (b == 45) ≡ false
 IsFit Marked = ⊤
 
 abbrev pub AreFit : List Piece → Type 0
 AreFit [] = ⊤
 AreFit (p ∷ ps) = IsFit p × AreFit ps
 
--- a line on which no option waits
-abbrev pub line_at : Option (List ℕ) → Option (List ℕ) → Option (List ℕ) → Option (List ℕ) → Bool → Line
-line_at f s a t j = record { first = f; second = s; assume = a; steps = t; json = j; waits = None }
-
 abbrev pub added : Line → Piece → Option Line
 added line (Named b bs) = named line.first line.second line (b ∷ bs)
-added line (Assumed b bs) = with_assume (waiting line Assume) (once line.assume (b ∷ bs))
-added line (Stepped b bs) = with_steps (waiting line Steps) (once line.steps (b ∷ bs))
+added line (Given v b bs) = with_value v (waiting line v) (b ∷ bs)
 added line Marked = with_json line
 
 abbrev pub all_added : Option Line → List Piece → Option Line
 all_added None ps = None
 all_added (Some line) [] = Some line
 all_added (Some line) (p ∷ ps) = all_added (added line p) ps
+
+-- ---- what a piece adds
+
+pub no_line : (l : Line) → ◌≡◌ {A = Option Line} None (Some l) → ⊥
+no_line l e = cc
+
+pub some_is : (a b : Line) → ◌≡◌ {A = Option Line} (Some a) (Some b) → a ≡ b
+some_is a b e = cc
+
+-- the value of an option, and the line with another
+abbrev pub value_of : Valued → Line → Option (List ℕ)
+value_of Assume line = line.assume
+value_of Steps line = line.steps
+value_of Device line = line.device
+
+abbrev pub valued : Valued → Line → List ℕ → Line
+valued Assume line word = record line { assume = Some word; waits = None }
+valued Steps line word = record line { steps = Some word; waits = None }
+valued Device line word = record line { device = Some word; waits = None }
+
+-- an option that gets a value had none
+pub record Gets (v : Valued) (line next : Line) (word : List ℕ) : Type 0 where
+  pub had : value_of v line ≡ None
+  pub is : next ≡ valued v line word
+
+pub gets : (v : Valued) (line next : Line) (word : List ℕ) → with_value v (waiting line v) word ≡ Some next → Gets v line next word
+gets Assume line next word e = by line.assume refl e where
+  by : (o : Option (List ℕ)) → line.assume ≡ o → with_assume (waiting line Assume) (once o word) ≡ Some next → Gets Assume line next word
+  by None is e = record { had = is; is = sym (some_is (valued Assume line word) next e) }
+  by (Some x) is e = absurd (no_line next e)
+gets Steps line next word e = by line.steps refl e where
+  by : (o : Option (List ℕ)) → line.steps ≡ o → with_steps (waiting line Steps) (once o word) ≡ Some next → Gets Steps line next word
+  by None is e = record { had = is; is = sym (some_is (valued Steps line word) next e) }
+  by (Some x) is e = absurd (no_line next e)
+gets Device line next word e = by line.device refl e where
+  by : (o : Option (List ℕ)) → line.device ≡ o → with_device (waiting line Device) (once o word) ≡ Some next → Gets Device line next word
+  by None is e = record { had = is; is = sym (some_is (valued Device line word) next e) }
+  by (Some x) is e = absurd (no_line next e)
+
+pub record Marks (line next : Line) : Type 0 where
+  pub had : line.json ≡ false
+  pub is : next ≡ record line { json = true }
+
+pub marks : (line next : Line) → with_json line ≡ Some next → Marks line next
+marks line next e = by line.json refl e where
+  by : (b : Bool) → line.json ≡ b → cond b None (Some (record line { json = true })) ≡ Some next → Marks line next
+  by true is e = absurd (no_line next e)
+  by false is e = record { had = is; is = sym (some_is (record line { json = true }) next e) }
+
+-- no option waits on a line, and none does after a piece
+value_rests : (v : Valued) (line : Line) (word : List ℕ) → (valued v line word).waits ≡ None
+value_rests Assume line word = refl
+value_rests Steps line word = refl
+value_rests Device line word = refl
+
+named_rests : (first second : Option (List ℕ)) (line next : Line) (word : List ℕ) → named first second line word ≡ Some next → line.waits ≡ None → next.waits ≡ None
+named_rests None second line next word e h = ap (λ (x : Line). x.waits) (sym (some_is (record line { first = Some word }) next e)) ∙ h
+named_rests (Some x) None line next word e h = ap (λ (x : Line). x.waits) (sym (some_is (record line { second = Some word }) next e)) ∙ h
+named_rests (Some x) (Some y) line next word e h = absurd (no_line next e)
+
+added_rests : (line next : Line) (p : Piece) → added line p ≡ Some next → line.waits ≡ None → next.waits ≡ None
+added_rests line next (Named b bs) e h = named_rests line.first line.second line next (b ∷ bs) e h
+added_rests line next (Given v b bs) e h = ap (λ (x : Line). x.waits) (gets v line next (b ∷ bs) e).is ∙ value_rests v line (b ∷ bs)
+added_rests line next Marked e h = ap (λ (x : Line). x.waits) (marks line next e).is ∙ h
 
 -- ---- cutting
 
@@ -58,18 +125,12 @@ pub record Cut (line : Line) (ws : List (List ℕ)) (l : Line) : Type 0 where
   pub fit : AreFit pieces
   pub ends : all_added (Some line) pieces ≡ Some l
 
-no_line : (l : Line) → ◌≡◌ {A = Option Line} None (Some l) → ⊥
-no_line l e = cc
-
 none_words : (ws : List (List ℕ)) (l : Line) → then_words None ws ≡ Some l → ⊥
 none_words [] l e = cc
 none_words (w ∷ ws) l e = cc
 
 none_waits : {v : Valued} → ◌≡◌ {A = Option Valued} (Some v) None → ⊥
 none_waits e = cc
-
-some_is : (a b : Line) → ◌≡◌ {A = Option Line} (Some a) (Some b) → a ≡ b
-some_is a b e = cc
 
 pub is_false : (b : Bool) → not b ≡ true → b ≡ false
 is_false true e = cc
@@ -89,143 +150,152 @@ more line next l p w vs e fit is c = record {
 
 -- what is to be had of lines of at most n words
 Cuts : Line → ℕ → Type 0
-Cuts l n = (vs : List (List ℕ)) (f s a t : Option (List ℕ)) (j : Bool) → length vs ≤ n → then_words (Some (line_at f s a t j)) vs ≡ Some l → Cut (line_at f s a t j) vs l
+Cuts l n = (vs : List (List ℕ)) (line : Line) → line.waits ≡ None → length vs ≤ n → then_words (Some line) vs ≡ Some l → Cut line vs l
 
 module _ (l : Line) (whole : l.waits ≡ None) (n : ℕ) (go : Cuts l n) where
-  cut_assume : (w : List ℕ) (ws : List (List ℕ)) (f s a t : Option (List ℕ)) (j : Bool) → length ws ≤ n → w ≡ codes "--assume" → then_words (Some (waiting (line_at f s a t j) Assume)) ws ≡ Some l → Cut (line_at f s a t j) (w ∷ ws) l
+  -- one piece, and the words behind it
+  cut_piece : (p : Piece) (w vs : List (List ℕ)) (line : Line) → line.waits ≡ None → length vs ≤ n → w ≡ words_of p ++ vs → IsFit p → then_words (added line p) vs ≡ Some l → Cut line w l
   unfolding Cuts
-  cut_assume w [] f s a t j le is e = let k : waiting (line_at f s a t j) Assume ≡ l = some_is (waiting (line_at f s a t j) Assume) l e in absurd (none_waits (ap (λ (x : Line). x.waits) k ∙ whole))
-  cut_assume w ([] ∷ vs) f s a t j le is e = absurd (none_words vs l e)
-  cut_assume w ((b ∷ bs) ∷ vs) f s (Some x) t j le is e = by (b == 45) refl e where
-    by : (m : Bool) → (b == 45) ≡ m → then_words (cond (not m) None None) vs ≡ Some l → Cut (line_at f s (Some x) t j) (w ∷ (b ∷ bs) ∷ vs) l
-    by true m e = absurd (none_words vs l e)
-    by false m e = absurd (none_words vs l e)
-  cut_assume w ((b ∷ bs) ∷ vs) f s None t j le is e = by (b == 45) refl e where
-    by : (m : Bool) → (b == 45) ≡ m → then_words (cond (not m) (Some (line_at f s (Some (b ∷ bs)) t j)) None) vs ≡ Some l → Cut (line_at f s None t j) (w ∷ (b ∷ bs) ∷ vs) l
-    by true m e = absurd (none_words vs l e)
-    by false m e = more (line_at f s None t j) (line_at f s (Some (b ∷ bs)) t j) l (Assumed b bs) (w ∷ (b ∷ bs) ∷ vs) vs (ap (λ (x : List ℕ). x ∷ (b ∷ bs) ∷ vs) is) m refl (go vs f s (Some (b ∷ bs)) t j (omega (arith, le)) e)
+  cut_piece p w vs line rests le is fit e = by (added line p) refl e where
+    by : (o : Option Line) → added line p ≡ o → then_words o vs ≡ Some l → Cut line w l
+    by None k e = absurd (none_words vs l e)
+    by (Some next) k e = more line next l p w vs is fit k (go vs next (added_rests line next p k rests) le e)
 
-  cut_steps : (w : List ℕ) (ws : List (List ℕ)) (f s a t : Option (List ℕ)) (j : Bool) → length ws ≤ n → w ≡ codes "--steps" → then_words (Some (waiting (line_at f s a t j) Steps)) ws ≡ Some l → Cut (line_at f s a t j) (w ∷ ws) l
-  unfolding Cuts
-  cut_steps w [] f s a t j le is e = let k : waiting (line_at f s a t j) Steps ≡ l = some_is (waiting (line_at f s a t j) Steps) l e in absurd (none_waits (ap (λ (x : Line). x.waits) k ∙ whole))
-  cut_steps w ([] ∷ vs) f s a t j le is e = absurd (none_words vs l e)
-  cut_steps w ((b ∷ bs) ∷ vs) f s a (Some x) j le is e = by (b == 45) refl e where
-    by : (m : Bool) → (b == 45) ≡ m → then_words (cond (not m) None None) vs ≡ Some l → Cut (line_at f s a (Some x) j) (w ∷ (b ∷ bs) ∷ vs) l
+  cut_given : (v : Valued) (w : List ℕ) (ws : List (List ℕ)) (line : Line) → line.waits ≡ None → length ws ≤ n → w ≡ spelled v → then_words (Some (waiting line v)) ws ≡ Some l → Cut line (w ∷ ws) l
+  cut_given v w [] line rests le is e = absurd (none_waits (ap (λ (x : Line). x.waits) (some_is (waiting line v) l e) ∙ whole))
+  cut_given v w ([] ∷ vs) line rests le is e = absurd (none_words vs l e)
+  cut_given v w ((b ∷ bs) ∷ vs) line rests le is e = by (b == 45) refl e where
+    by : (m : Bool) → (b == 45) ≡ m → then_words (cond (not m) (with_value v (waiting line v) (b ∷ bs)) None) vs ≡ Some l → Cut line (w ∷ (b ∷ bs) ∷ vs) l
     by true m e = absurd (none_words vs l e)
-    by false m e = absurd (none_words vs l e)
-  cut_steps w ((b ∷ bs) ∷ vs) f s a None j le is e = by (b == 45) refl e where
-    by : (m : Bool) → (b == 45) ≡ m → then_words (cond (not m) (Some (line_at f s a (Some (b ∷ bs)) j)) None) vs ≡ Some l → Cut (line_at f s a None j) (w ∷ (b ∷ bs) ∷ vs) l
-    by true m e = absurd (none_words vs l e)
-    by false m e = more (line_at f s a None j) (line_at f s a (Some (b ∷ bs)) j) l (Stepped b bs) (w ∷ (b ∷ bs) ∷ vs) vs (ap (λ (x : List ℕ). x ∷ (b ∷ bs) ∷ vs) is) m refl (go vs f s a (Some (b ∷ bs)) j (omega (arith, le)) e)
+    by false m e = cut_piece (Given v b bs) (w ∷ (b ∷ bs) ∷ vs) vs line rests (omega (arith, le)) (ap (λ (x : List ℕ). x ∷ (b ∷ bs) ∷ vs) is) m e
 
-  cut_json : (w : List ℕ) (ws : List (List ℕ)) (f s a t : Option (List ℕ)) (j : Bool) → length ws ≤ n → w ≡ codes "--json" → then_words (with_json (line_at f s a t j)) ws ≡ Some l → Cut (line_at f s a t j) (w ∷ ws) l
-  unfolding Cuts
-  cut_json w ws f s a t true le is e = absurd (none_words ws l e)
-  cut_json w ws f s a t false le is e = more (line_at f s a t false) (line_at f s a t true) l Marked (w ∷ ws) ws (ap (λ (x : List ℕ). x ∷ ws) is) tt refl (go ws f s a t true le e)
-
-  cut_named : (b : ℕ) (bs : List ℕ) (ws : List (List ℕ)) (f s a t : Option (List ℕ)) (j : Bool) → length ws ≤ n → (b == 45) ≡ false → then_words (named f s (line_at f s a t j) (b ∷ bs)) ws ≡ Some l → Cut (line_at f s a t j) ((b ∷ bs) ∷ ws) l
-  unfolding Cuts
-  cut_named b bs ws None s a t j le m e = more (line_at None s a t j) (line_at (Some (b ∷ bs)) s a t j) l (Named b bs) ((b ∷ bs) ∷ ws) ws refl m refl (go ws (Some (b ∷ bs)) s a t j le e)
-  cut_named b bs ws (Some x) None a t j le m e = more (line_at (Some x) None a t j) (line_at (Some x) (Some (b ∷ bs)) a t j) l (Named b bs) ((b ∷ bs) ∷ ws) ws refl m refl (go ws (Some x) (Some (b ∷ bs)) a t j le e)
-  cut_named b bs ws (Some x) (Some y) a t j le m e = absurd (none_words ws l e)
-
-  cut_name : (w : List ℕ) (ws : List (List ℕ)) (f s a t : Option (List ℕ)) (j : Bool) → length ws ≤ n → then_words (cond (is_name w) (named f s (line_at f s a t j) w) None) ws ≡ Some l → Cut (line_at f s a t j) (w ∷ ws) l
-  cut_name [] ws f s a t j le e = absurd (none_words ws l e)
-  cut_name (b ∷ bs) ws f s a t j le e = by (b == 45) refl e where
-    by : (m : Bool) → (b == 45) ≡ m → then_words (cond (not m) (named f s (line_at f s a t j) (b ∷ bs)) None) ws ≡ Some l → Cut (line_at f s a t j) ((b ∷ bs) ∷ ws) l
+  cut_name : (w : List ℕ) (ws : List (List ℕ)) (line : Line) → line.waits ≡ None → length ws ≤ n → then_words (cond (is_name w) (named line.first line.second line w) None) ws ≡ Some l → Cut line (w ∷ ws) l
+  cut_name [] ws line rests le e = absurd (none_words ws l e)
+  cut_name (b ∷ bs) ws line rests le e = by (b == 45) refl e where
+    by : (m : Bool) → (b == 45) ≡ m → then_words (cond (not m) (named line.first line.second line (b ∷ bs)) None) ws ≡ Some l → Cut line ((b ∷ bs) ∷ ws) l
     by true m e = absurd (none_words ws l e)
-    by false m e = cut_named b bs ws f s a t j le m e
+    by false m e = cut_piece (Named b bs) ((b ∷ bs) ∷ ws) ws line rests le refl m e
 
-  cut_first : (w : List ℕ) (ws : List (List ℕ)) (f s a t : Option (List ℕ)) (j : Bool) → length ws ≤ n → then_words (with_free (line_at f s a t j) w) ws ≡ Some l → Cut (line_at f s a t j) (w ∷ ws) l
-  cut_first w ws f s a t j le e = by_assume (bytes_eq w (codes "--assume")) refl e where
-    by_assume : (b : Bool) → bytes_eq w (codes "--assume") ≡ b
-        → then_words (cond b (Some (waiting (line_at f s a t j) Assume)) (cond (bytes_eq w (codes "--steps")) (Some (waiting (line_at f s a t j) Steps)) (cond (bytes_eq w (codes "--json")) (with_json (line_at f s a t j)) (cond (is_name w) (named f s (line_at f s a t j) w) None)))) ws ≡ Some l
-        → Cut (line_at f s a t j) (w ∷ ws) l
-    by_assume true is e = cut_assume w ws f s a t j le (is_text w (codes "--assume") is) e
-    by_assume false is e = by_steps (bytes_eq w (codes "--steps")) refl e where
-      by_steps : (b : Bool) → bytes_eq w (codes "--steps") ≡ b
-          → then_words (cond b (Some (waiting (line_at f s a t j) Steps)) (cond (bytes_eq w (codes "--json")) (with_json (line_at f s a t j)) (cond (is_name w) (named f s (line_at f s a t j) w) None))) ws ≡ Some l
-          → Cut (line_at f s a t j) (w ∷ ws) l
-      by_steps true is e = cut_steps w ws f s a t j le (is_text w (codes "--steps") is) e
-      by_steps false is e = by_json (bytes_eq w (codes "--json")) refl e where
-        by_json : (b : Bool) → bytes_eq w (codes "--json") ≡ b
-            → then_words (cond b (with_json (line_at f s a t j)) (cond (is_name w) (named f s (line_at f s a t j) w) None)) ws ≡ Some l
-            → Cut (line_at f s a t j) (w ∷ ws) l
-        by_json true is e = cut_json w ws f s a t j le (is_text w (codes "--json") is) e
-        by_json false is e = cut_name w ws f s a t j le e
+  -- what a word is that is none of the options before
+  abbrev else_name : Line → List ℕ → Option Line
+  else_name line w = cond (is_name w) (named line.first line.second line w) None
+
+  abbrev else_json : Line → List ℕ → Option Line
+  else_json line w = cond (bytes_eq w (codes "--json")) (with_json line) (else_name line w)
+
+  abbrev else_device : Line → List ℕ → Option Line
+  else_device line w = cond (bytes_eq w (codes "--device")) (Some (waiting line Device)) (else_json line w)
+
+  abbrev else_steps : Line → List ℕ → Option Line
+  else_steps line w = cond (bytes_eq w (codes "--steps")) (Some (waiting line Steps)) (else_device line w)
+
+  cut_json : (w : List ℕ) (ws : List (List ℕ)) (line : Line) → line.waits ≡ None → length ws ≤ n → then_words (else_json line w) ws ≡ Some l → Cut line (w ∷ ws) l
+  cut_json w ws line rests le e = by (bytes_eq w (codes "--json")) refl e where
+    by : (b : Bool) → bytes_eq w (codes "--json") ≡ b → then_words (cond b (with_json line) (else_name line w)) ws ≡ Some l → Cut line (w ∷ ws) l
+    by true is e = cut_piece Marked (w ∷ ws) ws line rests le (ap (λ (x : List ℕ). x ∷ ws) (is_text w (codes "--json") is)) tt e
+    by false is e = cut_name w ws line rests le e
+
+  cut_device : (w : List ℕ) (ws : List (List ℕ)) (line : Line) → line.waits ≡ None → length ws ≤ n → then_words (else_device line w) ws ≡ Some l → Cut line (w ∷ ws) l
+  cut_device w ws line rests le e = by (bytes_eq w (codes "--device")) refl e where
+    by : (b : Bool) → bytes_eq w (codes "--device") ≡ b → then_words (cond b (Some (waiting line Device)) (else_json line w)) ws ≡ Some l → Cut line (w ∷ ws) l
+    by true is e = cut_given Device w ws line rests le (is_text w (codes "--device") is) e
+    by false is e = cut_json w ws line rests le e
+
+  cut_steps : (w : List ℕ) (ws : List (List ℕ)) (line : Line) → line.waits ≡ None → length ws ≤ n → then_words (else_steps line w) ws ≡ Some l → Cut line (w ∷ ws) l
+  cut_steps w ws line rests le e = by (bytes_eq w (codes "--steps")) refl e where
+    by : (b : Bool) → bytes_eq w (codes "--steps") ≡ b → then_words (cond b (Some (waiting line Steps)) (else_device line w)) ws ≡ Some l → Cut line (w ∷ ws) l
+    by true is e = cut_given Steps w ws line rests le (is_text w (codes "--steps") is) e
+    by false is e = cut_device w ws line rests le e
+
+  cut_first : (w : List ℕ) (ws : List (List ℕ)) (line : Line) → line.waits ≡ None → length ws ≤ n → then_words (with_free line w) ws ≡ Some l → Cut line (w ∷ ws) l
+  cut_first w ws line rests le e = by (bytes_eq w (codes "--assume")) refl e where
+    by : (b : Bool) → bytes_eq w (codes "--assume") ≡ b → then_words (cond b (Some (waiting line Assume)) (else_steps line w)) ws ≡ Some l → Cut line (w ∷ ws) l
+    by true is e = cut_given Assume w ws line rests le (is_text w (codes "--assume") is) e
+    by false is e = cut_steps w ws line rests le e
 
 cut : (l : Line) → l.waits ≡ None → (n : ℕ) → Cuts l n
 unfolding Cuts
-cut l whole zero [] f s a t j le e = record { pieces = []; words = refl; fit = tt; ends = e }
-cut l whole zero (w ∷ ws) f s a t j le e = absurd (omega (arith, le))
-cut l whole (suc n) [] f s a t j le e = record { pieces = []; words = refl; fit = tt; ends = e }
-cut l whole (suc n) (w ∷ ws) f s a t j le e = cut_first l whole n (cut l whole n) w ws f s a t j (omega (arith, le)) e
+cut l whole zero [] line rests le e = record { pieces = []; words = refl; fit = tt; ends = e }
+cut l whole zero (w ∷ ws) line rests le e = absurd (omega (arith, le))
+cut l whole (suc n) [] line rests le e = record { pieces = []; words = refl; fit = tt; ends = e }
+cut l whole (suc n) (w ∷ ws) line rests le e =
+    cut_first l whole n (cut l whole n) w ws line rests (omega (arith, le)) (sym (ap (λ (o : Option Valued). then_words (placed o line w) ws) rests) ∙ e)
 
-pub cut_words : (ws : List (List ℕ)) (l : Line) → l.waits ≡ None → then_words (Some (line_at None None None None false)) ws ≡ Some l → Cut (line_at None None None None false) ws l
+pub cut_words : (ws : List (List ℕ)) (line l : Line) → line.waits ≡ None → l.waits ≡ None → then_words (Some line) ws ≡ Some l → Cut line ws l
 unfolding Cuts
-cut_words ws l h e = cut l h (length ws) ws None None None None false (omega arith) e
+cut_words ws line l rests whole e = cut l whole (length ws) ws line rests (omega arith) e
 
 -- ---- what is on the line stays
 
 pub record Stays (line l : Line) : Type 0 where
+  pub first : is_some line.first ≡ true → is_some l.first ≡ true
   pub second : is_some line.second ≡ true → is_some l.second ≡ true
-  pub assume : is_some line.assume ≡ true → is_some l.assume ≡ true
-  pub steps : is_some line.steps ≡ true → is_some l.steps ≡ true
+  pub given : (v : Valued) → is_some (value_of v line) ≡ true → is_some (value_of v l) ≡ true
   pub json : line.json ≡ true → l.json ≡ true
 
--- a line by its fields
-abbrev full : Option (List ℕ) → Option (List ℕ) → Option (List ℕ) → Option (List ℕ) → Bool → Option Valued → Line
-full f s a t j v = record { first = f; second = s; assume = a; steps = t; json = j; waits = v }
+itself : (l : Line) → Stays l l
+itself l = record { first = λ h. h; second = λ h. h; given = λ v h. h; json = λ h. h }
 
-stays_named : (b : ℕ) (bs : List ℕ) (f s a t : Option (List ℕ)) (j : Bool) (v : Option Valued) (l : Line) → named f s (full f s a t j v) (b ∷ bs) ≡ Some l → Stays (full f s a t j v) l
-stays_named b bs None s a t j v l e =
-    subst (Stays (full None s a t j v)) (some_is (full (Some (b ∷ bs)) s a t j v) l e) (record { second = λ h. h; assume = λ h. h; steps = λ h. h; json = λ h. h })
-stays_named b bs (Some x) None a t j v l e =
-    subst (Stays (full (Some x) None a t j v)) (some_is (full (Some x) (Some (b ∷ bs)) a t j v) l e) (record { second = λ h. refl; assume = λ h. h; steps = λ h. h; json = λ h. h })
-stays_named b bs (Some x) (Some y) a t j v l e = absurd (no_line l e)
+value_stays : (v u : Valued) (line : Line) (word : List ℕ) → is_some (value_of u line) ≡ true → is_some (value_of u (valued v line word)) ≡ true
+value_stays Assume Assume line word h = refl
+value_stays Assume Steps line word h = h
+value_stays Assume Device line word h = h
+value_stays Steps Assume line word h = h
+value_stays Steps Steps line word h = refl
+value_stays Steps Device line word h = h
+value_stays Device Assume line word h = h
+value_stays Device Steps line word h = h
+value_stays Device Device line word h = refl
 
-stays_assumed : (b : ℕ) (bs : List ℕ) (f s a t : Option (List ℕ)) (j : Bool) (v : Option Valued) (l : Line) → with_assume (waiting (full f s a t j v) Assume) (once a (b ∷ bs)) ≡ Some l → Stays (full f s a t j v) l
-stays_assumed b bs f s None t j v l e =
-    subst (Stays (full f s None t j v)) (some_is (full f s (Some (b ∷ bs)) t j None) l e) (record { second = λ h. h; assume = λ h. refl; steps = λ h. h; json = λ h. h })
-stays_assumed b bs f s (Some x) t j v l e = absurd (no_line l e)
+others_stay : (v : Valued) (line : Line) (word : List ℕ) → Stays line (valued v line word)
+others_stay Assume line word = record { first = λ h. h; second = λ h. h; given = λ u h. value_stays Assume u line word h; json = λ h. h }
+others_stay Steps line word = record { first = λ h. h; second = λ h. h; given = λ u h. value_stays Steps u line word h; json = λ h. h }
+others_stay Device line word = record { first = λ h. h; second = λ h. h; given = λ u h. value_stays Device u line word h; json = λ h. h }
 
-stays_stepped : (b : ℕ) (bs : List ℕ) (f s a t : Option (List ℕ)) (j : Bool) (v : Option Valued) (l : Line) → with_steps (waiting (full f s a t j v) Steps) (once t (b ∷ bs)) ≡ Some l → Stays (full f s a t j v) l
-stays_stepped b bs f s a None j v l e =
-    subst (Stays (full f s a None j v)) (some_is (full f s a (Some (b ∷ bs)) j None) l e) (record { second = λ h. h; assume = λ h. h; steps = λ h. refl; json = λ h. h })
-stays_stepped b bs f s a (Some x) j v l e = absurd (no_line l e)
+pub same_value : (u : Valued) (line next : Line) → next.assume ≡ line.assume → next.steps ≡ line.steps → next.device ≡ line.device → value_of u next ≡ value_of u line
+same_value Assume line next a s d = a
+same_value Steps line next a s d = s
+same_value Device line next a s d = d
 
-stays_marked : (f s a t : Option (List ℕ)) (j : Bool) (v : Option Valued) (l : Line) → with_json (full f s a t j v) ≡ Some l → Stays (full f s a t j v) l
-stays_marked f s a t true v l e = absurd (no_line l e)
-stays_marked f s a t false v l e =
-    subst (Stays (full f s a t false v)) (some_is (full f s a t true v) l e) (record { second = λ h. h; assume = λ h. h; steps = λ h. h; json = λ h. refl })
+named_stays : (first second : Option (List ℕ)) (line next : Line) (word : List ℕ) → line.first ≡ first → line.second ≡ second → named first second line word ≡ Some next → Stays line next
+named_stays None second line next word f s e = subst (Stays line) (some_is (record line { first = Some word }) next e) (record {
+  first = λ h. refl;
+  second = λ h. h;
+  given = λ v h. ap is_some (same_value v line (record line { first = Some word }) refl refl refl) ∙ h;
+  json = λ h. h;
+})
+named_stays (Some x) None line next word f s e = subst (Stays line) (some_is (record line { second = Some word }) next e) (record {
+  first = λ h. h;
+  second = λ h. refl;
+  given = λ v h. ap is_some (same_value v line (record line { second = Some word }) refl refl refl) ∙ h;
+  json = λ h. h;
+})
+named_stays (Some x) (Some y) line next word f s e = absurd (no_line next e)
+
+marked_stays : (line : Line) → Stays line (record line { json = true })
+marked_stays line = record {
+  first = λ h. h;
+  second = λ h. h;
+  given = λ v h. ap is_some (same_value v line (record line { json = true }) refl refl refl) ∙ h;
+  json = λ h. refl;
+}
 
 stays_one : (line : Line) (p : Piece) (l : Line) → added line p ≡ Some l → Stays line l
-stays_one line (Named b bs) l e = stays_named b bs line.first line.second line.assume line.steps line.json line.waits l e
-stays_one line (Assumed b bs) l e = stays_assumed b bs line.first line.second line.assume line.steps line.json line.waits l e
-stays_one line (Stepped b bs) l e = stays_stepped b bs line.first line.second line.assume line.steps line.json line.waits l e
-stays_one line Marked l e = stays_marked line.first line.second line.assume line.steps line.json line.waits l e
+stays_one line (Named b bs) l e = named_stays line.first line.second line l (b ∷ bs) refl refl e
+stays_one line (Given v b bs) l e = subst (Stays line) (sym (gets v line l (b ∷ bs) e).is) (others_stay v line (b ∷ bs))
+stays_one line Marked l e = subst (Stays line) (sym (marks line l e).is) (marked_stays line)
 
 through : (a b c : Line) → Stays a b → Stays b c → Stays a c
 through a b c f g = record {
+  first = λ h. g.first (f.first h);
   second = λ h. g.second (f.second h);
-  assume = λ h. g.assume (f.assume h);
-  steps = λ h. g.steps (f.steps h);
+  given = λ v h. g.given v (f.given v h);
   json = λ h. g.json (f.json h);
 }
 
-stays : (ps : List Piece) (line l : Line) → all_added (Some line) ps ≡ Some l → Stays line l
-stays [] line l e = subst (Stays line) (some_is line l e) (record { second = λ h. h; assume = λ h. h; steps = λ h. h; json = λ h. h })
+pub stays : (ps : List Piece) (line l : Line) → all_added (Some line) ps ≡ Some l → Stays line l
+stays [] line l e = subst (Stays line) (some_is line l e) (itself line)
 stays (p ∷ ps) line l e = by (λ next. stays ps next l) (added line p) refl e where
   by : ((next : Line) → all_added (Some next) ps ≡ Some l → Stays next l) → (o : Option Line) → added line p ≡ o → all_added o ps ≡ Some l → Stays line l
   by later None is e = absurd (no_line l e)
   by later (Some next) is e = through line next l (stays_one line p next is) (later next e)
-
--- Where no line that goes on from this one is a command, no pieces make it one.
-pub doomed : (command : Option Line → Option Command) (line : Line) (ps : List Piece) (x : Command) → command None ≡ None → ((l : Line) → Stays line l → command (Some l) ≡ None) → command (all_added (Some line) ps) ≡ Some x → ⊥
-doomed command line ps x none some e = by (all_added (Some line) ps) refl e where
-  no_command : ◌≡◌ {A = Option Command} None (Some x) → ⊥
-  no_command e = cc
-
-  by : (o : Option Line) → all_added (Some line) ps ≡ o → command o ≡ Some x → ⊥
-  by None is e = no_command (sym none ∙ e)
-  by (Some l) is e = no_command (sym (some l (stays ps line l is)) ∙ e)

@@ -9,38 +9,40 @@ use Rattle.clap.specs.Words.{Shape, Text, Rule}
 use Rattle.clap.specs.Walk.{Held, Waiting, Walk, Step, idle, option, positional, trailing, value, walked, walk_from, nothing_held, finished, long_or_other, short_or_plain, long_met, option_met, flag_met, after_flag, after_step, to_positional, positional_held, next_position, is_multiple, arg_by_index, arg_by_long, arg_by_id, takes_values, most_values, Outcome, settled, reacted, pushed, pending_count, option_word}
 use Rattle.clap.specs.Takes.{turn_passes, walk_passes, step_passes, positional_passes, flag_word_passes, bundle_passes, long_passes, option_passes, react_passes, settle_passes, default_passes, is_valid}
 use Rattle.clap_words.proofs.Levels.{level_takes, both_true}
-use Rattle.clap_words.proofs.Pieces.{Piece, Named, Assumed, Stepped, Marked, all_words, AreFit}
+use Rattle.commands.specs.declared.line.Valued.{Valued}
+use Rattle.commands.specs.declared.line.Valued.TheVariants.{Assume, Steps, Device}
+use Rattle.clap_words.proofs.Pieces.{Piece, Named, Given, Marked, option_name, spelled, all_words, AreFit}
 
 -- where the walk stands between two pieces
 abbrev at : Held → Waiting → ℕ → Walk
 at h waiting i = record { held = h; waiting = waiting; position = i; is_trailing = false; stopped = None }
 
 -- what is tested once the walk is over
-abbrev final : Shape → Held → Bool
+abbrev pub final : Shape → Held → Bool
 final s h = settle_passes s.rules s.args_override_self h && (list_all default_passes s.rules && is_valid s (finished s.rules h) false)
 
 -- an option whose value is to come
-abbrev begun : List Rule → Rule → Held → Held
+abbrev pub begun : List Rule → Rule → Held → Held
 begun c a h = record (settled c h) { pending = Some (a.id, []) }
 
 -- ---- pieces
 
-abbrev name_goes : Shape → Held → ℕ → Text → Option Rule → (Held → ℕ → Bool) → Bool
+abbrev pub name_goes : Shape → Held → ℕ → Text → Option Rule → (Held → ℕ → Bool) → Bool
 name_goes s h i word None later = false
 name_goes s h i word (Some a) later =
     positional_passes s.rules s.args_override_self a h
     && (not (is_multiple a) && (not a.trailing_var_arg && later (positional_held s.rules a word h) (next_position a i)))
 
-abbrev value_goes : Held → Text → Text → Option Rule → (Held → Bool) → Bool
+abbrev pub value_goes : Held → Text → Text → Option Rule → (Held → Bool) → Bool
 value_goes h id word None later = false
 value_goes h id word (Some a) later = not (nat_lt (pending_count a (pushed id word h).pending) (most_values a)) && later (pushed id word h)
 
-abbrev option_goes : Shape → Held → Text → Option Rule → (Held → Bool) → Bool
+abbrev pub option_goes : Shape → Held → Text → Option Rule → (Held → Bool) → Bool
 option_goes s h word None later = false
 option_goes s h word (Some a) later =
     takes_values a && (settle_passes s.rules s.args_override_self h && value_goes (begun s.rules a h) a.id word (arg_by_id s.rules a.id) later)
 
-abbrev flag_goes : Shape → Held → Option Rule → (Held → Bool) → Bool
+abbrev pub flag_goes : Shape → Held → Option Rule → (Held → Bool) → Bool
 flag_goes s h None later = false
 flag_goes s h (Some a) later = not (takes_values a) && (react_passes s.rules s.args_override_self a [] h && later (reacted s.rules a [] h))
 
@@ -48,8 +50,7 @@ flag_goes s h (Some a) later = not (takes_values a) && (react_passes s.rules s.a
 unfoldable pub goes : Shape → Held → ℕ → List Piece → Bool
 goes s h i [] = final s h
 goes s h i (Named b bs ∷ ps) = name_goes s h i (b ∷ bs) (arg_by_index s.rules i) (λ k j. goes s k j ps)
-goes s h i (Assumed b bs ∷ ps) = option_goes s h (b ∷ bs) (arg_by_long s.rules (codes "assume")) (λ k. goes s k i ps)
-goes s h i (Stepped b bs ∷ ps) = option_goes s h (b ∷ bs) (arg_by_long s.rules (codes "steps")) (λ k. goes s k i ps)
+goes s h i (Given v b bs ∷ ps) = option_goes s h (b ∷ bs) (arg_by_long s.rules (option_name v)) (λ k. goes s k i ps)
 goes s h i (Marked ∷ ps) = flag_goes s h (arg_by_long s.rules (codes "json")) (λ k. goes s k i ps)
 
 -- ---- words
@@ -238,14 +239,24 @@ take_flag s h word name i ws go later d l e = by (arg_by_long s.rules name) refl
       step s (at h idle i) (at (reacted s.rules a [] h) idle i) word ws (flag_turn s h i word name a d l is (is_not (takes_values a) p.0) q.0) (flag_walked s h i word name a d l is (is_not (takes_values a) p.0))
       (later (reacted s.rules a [] h) q.1)
 
+-- how an option is read
+no_option_dashes : (v : Valued) → bytes_eq (spelled v) dashes ≡ false
+unfolding dashes
+no_option_dashes Assume = refl
+no_option_dashes Steps = refl
+no_option_dashes Device = refl
+
+option_long : (v : Valued) → long_of (spelled v) ≡ Some (option_name v, None)
+option_long Assume = refl
+option_long Steps = refl
+option_long Device = refl
+
 take_pieces : (s : Shape) (h : Held) (i : ℕ) (ps : List Piece) → AreFit ps → goes s h i ps ≡ true → Taken s (at h idle i) (all_words ps)
 unfolding goes walk_passes dashes
 take_pieces s h i [] fit e = record { passes = refl; ends = e }
 take_pieces s h i (Named b bs ∷ ps) fit e = take_name s h i b bs (all_words ps) (λ k j. goes s k j ps) (λ k j. take_pieces s k j ps fit.1) fit.0 e
-take_pieces s h i (Assumed b bs ∷ ps) fit e =
-    take_option s h (codes "--assume") (codes "assume") i b bs (all_words ps) (λ k. goes s k i ps) (λ k. take_pieces s k i ps fit.1) fit.0 refl refl e
-take_pieces s h i (Stepped b bs ∷ ps) fit e =
-    take_option s h (codes "--steps") (codes "steps") i b bs (all_words ps) (λ k. goes s k i ps) (λ k. take_pieces s k i ps fit.1) fit.0 refl refl e
+take_pieces s h i (Given v b bs ∷ ps) fit e =
+    take_option s h (spelled v) (option_name v) i b bs (all_words ps) (λ k. goes s k i ps) (λ k. take_pieces s k i ps fit.1) fit.0 (no_option_dashes v) (option_long v) e
 take_pieces s h i (Marked ∷ ps) fit e = take_flag s h (codes "--json") (codes "json") i (all_words ps) (λ k. goes s k i ps) (λ k. take_pieces s k i ps fit.1) refl refl e
 
 pub level_goes : (s : Shape) (ps : List Piece) → AreFit ps → goes s nothing_held 1 ps ≡ true → level_takes s (all_words ps) ≡ true

@@ -4,417 +4,359 @@ use Rattle.std.specs.Option.{option_map}
 use Rattle.std.specs.List.{list_any}
 use Rattle.std.specs.Str.{bytes_eq}
 use Rattle.std.proofs.lemmas.Slice.Eq.{bytes_eq-Decides}
-use Rattle.clap.specs.Words.{takes}
-use Rattle.clap.specs.Walk.{nothing_held}
+use Rattle.clap.specs.Words.{Shape, Text, Rule, new_rule, takes}
+use Rattle.clap.specs.Walk.{Row, nothing_held, arg_by_index, arg_by_long, reading_by, values_or_missing}
+use Rattle.clap.specs.Takes.{values_pass, is_given}
 use Rattle.clap.proofs.OnLiterals.{clap_on_literals}
+use Rattle.avr_model.specs.declared.device.Device.{Device as Chip}
 use Rattle.commands.specs.declared.line.Valued.{Valued}
-use Rattle.commands.specs.Commands.{Command, Line, Demo, empty_line, then_words, steps_in, size_in, is_plain, is_bare, with_one, analysed, check_of, analyse_of, run_of, report_of, demo_of, called, whole, command_of}
-use Rattle.clap_words.specs.Lines.{check_app, analyse_app, run_app, report_app, demo_app, line_app, is_option, is_refused}
-use Rattle.clap_words.proofs.Levels.{below, check_level, analyse_level, run_level, report_level, demo_level}
-use Rattle.clap_words.proofs.Pieces.{Piece, Named, Assumed, Stepped, Marked, all_words, AreFit, all_added, Cut, cut_words, doomed}
-use Rattle.clap_words.proofs.Steps.{goes, level_goes}
+use Rattle.commands.specs.declared.line.Valued.TheVariants.{Assume, Steps, Device}
+use Rattle.commands.specs.Commands.{Command, Check, Run, Report, Demo, Line, empty_line, then_words, steps_in, size_in, device_in, on_device, with_one, with_two, analysed, check_of, analyse_of, run_of, report_of, demo_of, called, whole, command_of}
+use Rattle.clap_words.specs.Lines.{judging_app, analyse_app, report_app, demo_app, line_app, is_option, is_refused}
+use Rattle.clap_words.proofs.Levels.{below, level_takes, both_true, check_level, analyse_level, run_level, report_level, demo_level}
+use Rattle.clap_words.proofs.Pieces.{Piece, Named, Given, Marked, option_name, spelled, value_of, all_words, AreFit, Cut, cut_words}
+use Rattle.clap_words.proofs.Steps.{level_goes}
+use Rattle.clap_words.proofs.Going.{IsOption, Allows, IsLevel, IsWanted, Shows, goes_on}
 
 no_command : (x : Command) → ◌≡◌ {A = Option Command} None (Some x) → ⊥
 no_command x e = cc
 
--- ---- what no command has
+-- ---- what each command has
 
-none_of_some : {X : Type 0} (o : Option X) → is_some o ≡ true → is_none o ≡ false
-none_of_some None h = cc
-none_of_some (Some y) h = refl
+abbrev two_options : Valued → Bool
+two_options Assume = true
+two_options Steps = false
+two_options Device = true
 
-not_both : (a b : Bool) → b ≡ false → (a && b) ≡ false
-not_both true b h = h
-not_both false b h = refl
+abbrev all_options : Valued → Bool
+all_options _ = true
 
-not_first : (a b : Bool) → a ≡ false → (a && b) ≡ false
-not_first true b h = cc
-not_first false b h = refl
+abbrev no_options : Valued → Bool
+no_options _ = false
 
-unless : {X : Type 0} (b : Bool) (o : Option X) → b ≡ false → cond b o None ≡ None
-unless true o h = cc
-unless false o h = refl
+abbrev judging : Allows
+judging = record { second = true; given = two_options; json = false }
 
-not_plain_json : (l : Line) → l.json ≡ true → is_plain l ≡ false
-not_plain_json l h = not_both (is_none l.steps) (not l.json) (ap not h)
+abbrev reporting : Allows
+reporting = record { second = true; given = two_options; json = true }
 
-not_plain_steps : (l : Line) → is_some l.steps ≡ true → is_plain l ≡ false
-not_plain_steps l h = not_first (is_none l.steps) (not l.json) (none_of_some l.steps h)
+abbrev analysing : Allows
+analysing = record { second = false; given = all_options; json = false }
 
-abbrev check_in : Option Line → Option Command
-check_in None = None
-check_in (Some l) = check_of l
+abbrev measuring : Allows
+measuring = record { second = false; given = no_options; json = false }
 
-abbrev analyse_in : Option Line → Option Command
-analyse_in None = None
-analyse_in (Some l) = analyse_of l
+-- ---- and so does its level
 
-abbrev run_in : Option Line → Option Command
-run_in None = None
-run_in (Some l) = run_of l
+abbrev the : Option Rule → Rule
+the None = new_rule []
+the (Some a) = a
 
-abbrev report_in : Option Line → Option Command
-report_in None = None
-report_in (Some l) = report_of l
+abbrev name_at : Shape → ℕ → Rule
+name_at s i = the (arg_by_index s.rules i)
 
-abbrev demo_in : Option Line → Option Command
-demo_in None = None
-demo_in (Some l) = demo_of l
+abbrev option_of : Shape → Text → Rule
+option_of s name = the (arg_by_long s.rules name)
 
-check_json : (l : Line) → l.json ≡ true → check_in (Some l) ≡ None
-check_json l h = unless (is_plain l) _ (not_plain_json l h)
+-- a use passes where there was none
+abbrev once : Rule → List Text → Bool → Bool
+once a values there = (not there || false) && values_pass a values
 
-check_steps : (l : Line) → is_some l.steps ≡ true → check_in (Some l) ≡ None
-check_steps l h = unless (is_plain l) _ (not_plain_steps l h)
+no_value : ◌≡◌ {A = Bool} false true → ⊥
+no_value e = cc
 
-run_json : (l : Line) → l.json ≡ true → run_in (Some l) ≡ None
-run_json l h = unless (is_plain l) _ (not_plain_json l h)
+firmware_apart : (v : Valued) → (bytes_eq (codes "firmware") (option_name v) ≡ false) × (bytes_eq (option_name v) (codes "firmware") ≡ false)
+firmware_apart Assume = (refl, refl)
+firmware_apart Steps = (refl, refl)
+firmware_apart Device = (refl, refl)
 
-run_steps : (l : Line) → is_some l.steps ≡ true → run_in (Some l) ≡ None
-run_steps l h = unless (is_plain l) _ (not_plain_steps l h)
+size_apart : (v : Valued) → (bytes_eq (codes "size") (option_name v) ≡ false) × (bytes_eq (option_name v) (codes "size") ≡ false)
+size_apart Assume = (refl, refl)
+size_apart Steps = (refl, refl)
+size_apart Device = (refl, refl)
 
-report_steps : (l : Line) → is_some l.steps ≡ true → report_in (Some l) ≡ None
-report_steps l h = unless (is_none l.steps) _ (none_of_some l.steps h)
+judging_options : (n : Text) (v : Valued) → two_options v ≡ true → IsOption (below (judging_app n)) (option_name v)
+unfolding clap_on_literals
+judging_options n Assume e =
+    let a : Rule = option_of (below (judging_app n)) (codes "assume") in
+    record {
+      rule = a;
+      found = refl;
+      usable = record { how = reading_by a; found = refl; passes = λ word rows h. ap (once a (word ∷ [])) h; adds = λ word rows. refl };
+      takes = refl;
+      one = λ word. refl;
+    }
+judging_options n Steps e = absurd (no_value e)
+judging_options n Device e =
+    let a : Rule = option_of (below (judging_app n)) (codes "device") in
+    record {
+      rule = a;
+      found = refl;
+      usable = record { how = reading_by a; found = refl; passes = λ word rows h. ap (once a (word ∷ [])) h; adds = λ word rows. refl };
+      takes = refl;
+      one = λ word. refl;
+    }
 
-analyse_json : (l : Line) → l.json ≡ true → analyse_in (Some l) ≡ None
-analyse_json l h = by l.json h where
-  by : (j : Bool) → j ≡ true → cond j None (with_one l.first l.second (λ firmware. analysed firmware l.assume (steps_in l.steps))) ≡ None
-  by true h = refl
-  by false h = cc
+judging_has : (n : Text) → IsLevel (below (judging_app n)) judging (codes "firmware")
+unfolding clap_on_literals
+judging_has n =
+    let a : Rule = name_at (below (judging_app n)) 1 in
+    let b : Rule = name_at (below (judging_app n)) 2 in
+    record {
+      first = record {
+        rule = a;
+        found = refl;
+        usable = record { how = reading_by a; found = refl; passes = λ word rows h. ap (once a (word ∷ [])) h; adds = λ word rows. refl };
+        one = refl;
+        single = refl;
+        last = refl;
+        next = refl;
+      };
+      second = λ e. record {
+        rule = b;
+        found = refl;
+        usable = record { how = reading_by b; found = refl; passes = λ word rows h. ap (once b (word ∷ [])) h; adds = λ word rows. refl };
+        one = refl;
+        single = refl;
+        last = refl;
+        next = refl;
+      };
+      given = judging_options n;
+      json = λ e. absurd (no_value e);
+      defaults = refl;
+      valid = λ rows f t. both_true (is_given (codes "firmware") rows) _ f (both_true (is_given (codes "second") rows) _ (t refl) refl);
+      same = refl;
+      of_second = (refl, refl);
+      of_given = firmware_apart;
+      of_json = (refl, refl);
+    }
 
-two_names : (first second : Option (List ℕ)) (command : List ℕ → Option Command) → is_some second ≡ true → with_one first second command ≡ None
-two_names None second command h = refl
-two_names (Some x) None command h = cc
-two_names (Some x) (Some y) command h = refl
+report_options : (v : Valued) → two_options v ≡ true → IsOption (below report_app) (option_name v)
+unfolding clap_on_literals
+report_options Assume e =
+    let a : Rule = option_of (below report_app) (codes "assume") in
+    record {
+      rule = a;
+      found = refl;
+      usable = record { how = reading_by a; found = refl; passes = λ word rows h. ap (once a (word ∷ [])) h; adds = λ word rows. refl };
+      takes = refl;
+      one = λ word. refl;
+    }
+report_options Steps e = absurd (no_value e)
+report_options Device e =
+    let a : Rule = option_of (below report_app) (codes "device") in
+    record {
+      rule = a;
+      found = refl;
+      usable = record { how = reading_by a; found = refl; passes = λ word rows h. ap (once a (word ∷ [])) h; adds = λ word rows. refl };
+      takes = refl;
+      one = λ word. refl;
+    }
 
-either_none : (b : Bool) (o : Option Command) → o ≡ None → cond b o None ≡ None
-either_none true o h = h
-either_none false o h = refl
+report_has : IsLevel (below report_app) reporting (codes "firmware")
+unfolding clap_on_literals
+report_has =
+    let a : Rule = name_at (below report_app) 1 in
+    let b : Rule = name_at (below report_app) 2 in
+    let j : Rule = option_of (below report_app) (codes "json") in
+    record {
+      first = record {
+        rule = a;
+        found = refl;
+        usable = record { how = reading_by a; found = refl; passes = λ word rows h. ap (once a (word ∷ [])) h; adds = λ word rows. refl };
+        one = refl;
+        single = refl;
+        last = refl;
+        next = refl;
+      };
+      second = λ e. record {
+        rule = b;
+        found = refl;
+        usable = record { how = reading_by b; found = refl; passes = λ word rows h. ap (once b (word ∷ [])) h; adds = λ word rows. refl };
+        one = refl;
+        single = refl;
+        last = refl;
+        next = refl;
+      };
+      given = report_options;
+      json = λ e. record {
+        rule = j;
+        how = reading_by j;
+        values = values_or_missing j [];
+        found = refl;
+        takes = refl;
+        passes = λ rows h. ap (once j (values_or_missing j [])) h;
+        adds = λ rows. refl;
+      };
+      defaults = refl;
+      valid = λ rows f t. both_true (is_given (codes "firmware") rows) _ f (both_true (is_given (codes "second") rows) _ (t refl) refl);
+      same = refl;
+      of_second = (refl, refl);
+      of_given = firmware_apart;
+      of_json = (refl, refl);
+    }
 
-none_either : (b : Bool) (o : Option Command) → o ≡ None → cond b None o ≡ None
-none_either true o h = refl
-none_either false o h = h
+analyse_options : (v : Valued) → all_options v ≡ true → IsOption (below analyse_app) (option_name v)
+unfolding clap_on_literals
+analyse_options Assume e =
+    let a : Rule = option_of (below analyse_app) (codes "assume") in
+    record {
+      rule = a;
+      found = refl;
+      usable = record { how = reading_by a; found = refl; passes = λ word rows h. ap (once a (word ∷ [])) h; adds = λ word rows. refl };
+      takes = refl;
+      one = λ word. refl;
+    }
+analyse_options Steps e =
+    let a : Rule = option_of (below analyse_app) (codes "steps") in
+    record {
+      rule = a;
+      found = refl;
+      usable = record { how = reading_by a; found = refl; passes = λ word rows h. ap (once a (word ∷ [])) h; adds = λ word rows. refl };
+      takes = refl;
+      one = λ word. refl;
+    }
+analyse_options Device e =
+    let a : Rule = option_of (below analyse_app) (codes "device") in
+    record {
+      rule = a;
+      found = refl;
+      usable = record { how = reading_by a; found = refl; passes = λ word rows h. ap (once a (word ∷ [])) h; adds = λ word rows. refl };
+      takes = refl;
+      one = λ word. refl;
+    }
 
-analyse_second : (l : Line) → is_some l.second ≡ true → analyse_in (Some l) ≡ None
-analyse_second l h = none_either l.json _ (two_names l.first l.second (λ firmware. analysed firmware l.assume (steps_in l.steps)) h)
+analyse_has : IsLevel (below analyse_app) analysing (codes "firmware")
+unfolding clap_on_literals
+analyse_has =
+    let a : Rule = name_at (below analyse_app) 1 in
+    record {
+      first = record {
+        rule = a;
+        found = refl;
+        usable = record { how = reading_by a; found = refl; passes = λ word rows h. ap (once a (word ∷ [])) h; adds = λ word rows. refl };
+        one = refl;
+        single = refl;
+        last = refl;
+        next = refl;
+      };
+      second = λ e. absurd (no_value e);
+      given = analyse_options;
+      json = λ e. absurd (no_value e);
+      defaults = refl;
+      valid = λ rows f t. both_true (is_given (codes "firmware") rows) _ f refl;
+      same = refl;
+      of_second = (refl, refl);
+      of_given = firmware_apart;
+      of_json = (refl, refl);
+    }
 
-demo_second : (l : Line) → is_some l.second ≡ true → demo_in (Some l) ≡ None
-demo_second l h = either_none (is_bare l) _ (two_names l.first l.second (λ word. option_map Demo (size_in word)) h)
+demo_has : IsLevel (below demo_app) measuring (codes "size")
+unfolding clap_on_literals
+demo_has =
+    let a : Rule = name_at (below demo_app) 1 in
+    record {
+      first = record {
+        rule = a;
+        found = refl;
+        usable = record { how = reading_by a; found = refl; passes = λ word rows h. ap (once a (word ∷ [])) h; adds = λ word rows. refl };
+        one = refl;
+        single = refl;
+        last = refl;
+        next = refl;
+      };
+      second = λ e. absurd (no_value e);
+      given = λ v e. absurd (no_value e);
+      json = λ e. absurd (no_value e);
+      defaults = refl;
+      valid = λ rows f t. both_true (is_given (codes "size") rows) _ f refl;
+      same = refl;
+      of_second = (refl, refl);
+      of_given = size_apart;
+      of_json = (refl, refl);
+    }
 
-demo_assume : (l : Line) → is_some l.assume ≡ true → demo_in (Some l) ≡ None
-demo_assume l h = unless (is_bare l) _ (not_first (is_none l.assume) (is_plain l) (none_of_some l.assume h))
+-- ---- a line that is a command has what it wants
 
-demo_steps : (l : Line) → is_some l.steps ≡ true → demo_in (Some l) ≡ None
-demo_steps l h = unless (is_bare l) _ (not_both (is_none l.assume) (is_plain l) (not_plain_steps l h))
+opposite : (b : Bool) → b ≡ true → b ≡ false → ⊥
+opposite true h e = cc
+opposite false h e = cc
 
-demo_json : (l : Line) → l.json ≡ true → demo_in (Some l) ≡ None
-demo_json l h = unless (is_bare l) _ (not_both (is_none l.assume) (is_plain l) (not_plain_json l h))
+plain_facts : (first second steps : Option Text) (json : Bool) (device : Option Chip) (command : Chip → Text → Text → Command) (x : Command)
+    → cond (is_none steps && not json) (on_device device (λ d. with_two first second (command d))) None ≡ Some x
+    → (is_some first ≡ true) × ((is_some second ≡ true) × ((is_some steps ≡ false) × (json ≡ false)))
+plain_facts first second (Some t) json device command x e = absurd (no_command x e)
+plain_facts first second None true device command x e = absurd (no_command x e)
+plain_facts first second None false None command x e = absurd (no_command x e)
+plain_facts None second None false (Some d) command x e = absurd (no_command x e)
+plain_facts (Some f) None None false (Some d) command x e = absurd (no_command x e)
+plain_facts (Some f) (Some g) None false (Some d) command x e = (refl, (refl, (refl, refl)))
 
--- ---- forms
+report_facts : (first second steps : Option Text) (device : Option Chip) (command : Chip → Text → Text → Command) (x : Command)
+    → cond (is_none steps) (on_device device (λ d. with_two first second (command d))) None ≡ Some x
+    → (is_some first ≡ true) × ((is_some second ≡ true) × (is_some steps ≡ false))
+report_facts first second (Some t) device command x e = absurd (no_command x e)
+report_facts first second None None command x e = absurd (no_command x e)
+report_facts None second None (Some d) command x e = absurd (no_command x e)
+report_facts (Some f) None None (Some d) command x e = absurd (no_command x e)
+report_facts (Some f) (Some g) None (Some d) command x e = (refl, (refl, refl))
 
-check_forms : (ps : List Piece) (x : Command) → check_in (all_added (Some empty_line) ps) ≡ Some x → goes (below check_app) nothing_held 1 ps ≡ true
-unfolding goes clap_on_literals
-check_forms [] x e = absurd (no_command x e)
-check_forms (Named f fs ∷ []) x e = absurd (no_command x e)
-check_forms (Named f fs ∷ Named c cs ∷ []) x e = refl
-check_forms (Named f fs ∷ Named c cs ∷ Named b bs ∷ ps) x e = absurd (no_command x e)
-check_forms (Named f fs ∷ Named c cs ∷ Assumed a xs ∷ []) x e = refl
-check_forms (Named f fs ∷ Named c cs ∷ Assumed a xs ∷ Named b bs ∷ ps) x e = absurd (no_command x e)
-check_forms (Named f fs ∷ Named c cs ∷ Assumed a xs ∷ Assumed b bs ∷ ps) x e = absurd (no_command x e)
-check_forms (Named f fs ∷ Named c cs ∷ Assumed a xs ∷ Stepped b bs ∷ ps) x e = absurd (doomed check_in _ ps x refl (λ l h. check_steps l (h.steps refl)) e)
-check_forms (Named f fs ∷ Named c cs ∷ Assumed a xs ∷ Marked ∷ ps) x e = absurd (doomed check_in _ ps x refl (λ l h. check_json l (h.json refl)) e)
-check_forms (Named f fs ∷ Named c cs ∷ Stepped b bs ∷ ps) x e = absurd (doomed check_in _ ps x refl (λ l h. check_steps l (h.steps refl)) e)
-check_forms (Named f fs ∷ Named c cs ∷ Marked ∷ ps) x e = absurd (doomed check_in _ ps x refl (λ l h. check_json l (h.json refl)) e)
-check_forms (Named f fs ∷ Assumed a xs ∷ []) x e = absurd (no_command x e)
-check_forms (Named f fs ∷ Assumed a xs ∷ Named c cs ∷ []) x e = refl
-check_forms (Named f fs ∷ Assumed a xs ∷ Named c cs ∷ Named b bs ∷ ps) x e = absurd (no_command x e)
-check_forms (Named f fs ∷ Assumed a xs ∷ Named c cs ∷ Assumed b bs ∷ ps) x e = absurd (no_command x e)
-check_forms (Named f fs ∷ Assumed a xs ∷ Named c cs ∷ Stepped b bs ∷ ps) x e = absurd (doomed check_in _ ps x refl (λ l h. check_steps l (h.steps refl)) e)
-check_forms (Named f fs ∷ Assumed a xs ∷ Named c cs ∷ Marked ∷ ps) x e = absurd (doomed check_in _ ps x refl (λ l h. check_json l (h.json refl)) e)
-check_forms (Named f fs ∷ Assumed a xs ∷ Assumed b bs ∷ ps) x e = absurd (no_command x e)
-check_forms (Named f fs ∷ Assumed a xs ∷ Stepped b bs ∷ ps) x e = absurd (doomed check_in _ ps x refl (λ l h. check_steps l (h.steps refl)) e)
-check_forms (Named f fs ∷ Assumed a xs ∷ Marked ∷ ps) x e = absurd (doomed check_in _ ps x refl (λ l h. check_json l (h.json refl)) e)
-check_forms (Named f fs ∷ Stepped b bs ∷ ps) x e = absurd (doomed check_in _ ps x refl (λ l h. check_steps l (h.steps refl)) e)
-check_forms (Named f fs ∷ Marked ∷ ps) x e = absurd (doomed check_in _ ps x refl (λ l h. check_json l (h.json refl)) e)
-check_forms (Assumed a xs ∷ []) x e = absurd (no_command x e)
-check_forms (Assumed a xs ∷ Named f fs ∷ []) x e = absurd (no_command x e)
-check_forms (Assumed a xs ∷ Named f fs ∷ Named c cs ∷ []) x e = refl
-check_forms (Assumed a xs ∷ Named f fs ∷ Named c cs ∷ Named b bs ∷ ps) x e = absurd (no_command x e)
-check_forms (Assumed a xs ∷ Named f fs ∷ Named c cs ∷ Assumed b bs ∷ ps) x e = absurd (no_command x e)
-check_forms (Assumed a xs ∷ Named f fs ∷ Named c cs ∷ Stepped b bs ∷ ps) x e = absurd (doomed check_in _ ps x refl (λ l h. check_steps l (h.steps refl)) e)
-check_forms (Assumed a xs ∷ Named f fs ∷ Named c cs ∷ Marked ∷ ps) x e = absurd (doomed check_in _ ps x refl (λ l h. check_json l (h.json refl)) e)
-check_forms (Assumed a xs ∷ Named f fs ∷ Assumed b bs ∷ ps) x e = absurd (no_command x e)
-check_forms (Assumed a xs ∷ Named f fs ∷ Stepped b bs ∷ ps) x e = absurd (doomed check_in _ ps x refl (λ l h. check_steps l (h.steps refl)) e)
-check_forms (Assumed a xs ∷ Named f fs ∷ Marked ∷ ps) x e = absurd (doomed check_in _ ps x refl (λ l h. check_json l (h.json refl)) e)
-check_forms (Assumed a xs ∷ Assumed b bs ∷ ps) x e = absurd (no_command x e)
-check_forms (Assumed a xs ∷ Stepped b bs ∷ ps) x e = absurd (doomed check_in _ ps x refl (λ l h. check_steps l (h.steps refl)) e)
-check_forms (Assumed a xs ∷ Marked ∷ ps) x e = absurd (doomed check_in _ ps x refl (λ l h. check_json l (h.json refl)) e)
-check_forms (Stepped b bs ∷ ps) x e = absurd (doomed check_in _ ps x refl (λ l h. check_steps l (h.steps refl)) e)
-check_forms (Marked ∷ ps) x e = absurd (doomed check_in _ ps x refl (λ l h. check_json l (h.json refl)) e)
+analyse_facts : (first second : Option Text) (json : Bool) (device : Option Chip) (command : Chip → Text → Option Command) (x : Command)
+    → cond json None (on_device device (λ d. with_one first second (command d))) ≡ Some x
+    → (is_some first ≡ true) × ((is_some second ≡ false) × (json ≡ false))
+analyse_facts first second true device command x e = absurd (no_command x e)
+analyse_facts first second false None command x e = absurd (no_command x e)
+analyse_facts None second false (Some d) command x e = absurd (no_command x e)
+analyse_facts (Some f) (Some g) false (Some d) command x e = absurd (no_command x e)
+analyse_facts (Some f) None false (Some d) command x e = (refl, (refl, refl))
 
-analyse_forms : (ps : List Piece) (x : Command) → analyse_in (all_added (Some empty_line) ps) ≡ Some x → goes (below analyse_app) nothing_held 1 ps ≡ true
-unfolding goes clap_on_literals
-analyse_forms [] x e = absurd (no_command x e)
-analyse_forms (Named f fs ∷ []) x e = refl
-analyse_forms (Named f fs ∷ Named b bs ∷ ps) x e = absurd (doomed analyse_in _ ps x refl (λ l h. analyse_second l (h.second refl)) e)
-analyse_forms (Named f fs ∷ Assumed a xs ∷ []) x e = refl
-analyse_forms (Named f fs ∷ Assumed a xs ∷ Named b bs ∷ ps) x e = absurd (doomed analyse_in _ ps x refl (λ l h. analyse_second l (h.second refl)) e)
-analyse_forms (Named f fs ∷ Assumed a xs ∷ Assumed b bs ∷ ps) x e = absurd (no_command x e)
-analyse_forms (Named f fs ∷ Assumed a xs ∷ Stepped s ss ∷ []) x e = refl
-analyse_forms (Named f fs ∷ Assumed a xs ∷ Stepped s ss ∷ Named b bs ∷ ps) x e = absurd (doomed analyse_in _ ps x refl (λ l h. analyse_second l (h.second refl)) e)
-analyse_forms (Named f fs ∷ Assumed a xs ∷ Stepped s ss ∷ Assumed b bs ∷ ps) x e = absurd (no_command x e)
-analyse_forms (Named f fs ∷ Assumed a xs ∷ Stepped s ss ∷ Stepped b bs ∷ ps) x e = absurd (no_command x e)
-analyse_forms (Named f fs ∷ Assumed a xs ∷ Stepped s ss ∷ Marked ∷ ps) x e = absurd (doomed analyse_in _ ps x refl (λ l h. analyse_json l (h.json refl)) e)
-analyse_forms (Named f fs ∷ Assumed a xs ∷ Marked ∷ ps) x e = absurd (doomed analyse_in _ ps x refl (λ l h. analyse_json l (h.json refl)) e)
-analyse_forms (Named f fs ∷ Stepped s ss ∷ []) x e = refl
-analyse_forms (Named f fs ∷ Stepped s ss ∷ Named b bs ∷ ps) x e = absurd (doomed analyse_in _ ps x refl (λ l h. analyse_second l (h.second refl)) e)
-analyse_forms (Named f fs ∷ Stepped s ss ∷ Assumed a xs ∷ []) x e = refl
-analyse_forms (Named f fs ∷ Stepped s ss ∷ Assumed a xs ∷ Named b bs ∷ ps) x e = absurd (doomed analyse_in _ ps x refl (λ l h. analyse_second l (h.second refl)) e)
-analyse_forms (Named f fs ∷ Stepped s ss ∷ Assumed a xs ∷ Assumed b bs ∷ ps) x e = absurd (no_command x e)
-analyse_forms (Named f fs ∷ Stepped s ss ∷ Assumed a xs ∷ Stepped b bs ∷ ps) x e = absurd (no_command x e)
-analyse_forms (Named f fs ∷ Stepped s ss ∷ Assumed a xs ∷ Marked ∷ ps) x e = absurd (doomed analyse_in _ ps x refl (λ l h. analyse_json l (h.json refl)) e)
-analyse_forms (Named f fs ∷ Stepped s ss ∷ Stepped b bs ∷ ps) x e = absurd (no_command x e)
-analyse_forms (Named f fs ∷ Stepped s ss ∷ Marked ∷ ps) x e = absurd (doomed analyse_in _ ps x refl (λ l h. analyse_json l (h.json refl)) e)
-analyse_forms (Named f fs ∷ Marked ∷ ps) x e = absurd (doomed analyse_in _ ps x refl (λ l h. analyse_json l (h.json refl)) e)
-analyse_forms (Assumed a xs ∷ []) x e = absurd (no_command x e)
-analyse_forms (Assumed a xs ∷ Named f fs ∷ []) x e = refl
-analyse_forms (Assumed a xs ∷ Named f fs ∷ Named b bs ∷ ps) x e = absurd (doomed analyse_in _ ps x refl (λ l h. analyse_second l (h.second refl)) e)
-analyse_forms (Assumed a xs ∷ Named f fs ∷ Assumed b bs ∷ ps) x e = absurd (no_command x e)
-analyse_forms (Assumed a xs ∷ Named f fs ∷ Stepped s ss ∷ []) x e = refl
-analyse_forms (Assumed a xs ∷ Named f fs ∷ Stepped s ss ∷ Named b bs ∷ ps) x e = absurd (doomed analyse_in _ ps x refl (λ l h. analyse_second l (h.second refl)) e)
-analyse_forms (Assumed a xs ∷ Named f fs ∷ Stepped s ss ∷ Assumed b bs ∷ ps) x e = absurd (no_command x e)
-analyse_forms (Assumed a xs ∷ Named f fs ∷ Stepped s ss ∷ Stepped b bs ∷ ps) x e = absurd (no_command x e)
-analyse_forms (Assumed a xs ∷ Named f fs ∷ Stepped s ss ∷ Marked ∷ ps) x e = absurd (doomed analyse_in _ ps x refl (λ l h. analyse_json l (h.json refl)) e)
-analyse_forms (Assumed a xs ∷ Named f fs ∷ Marked ∷ ps) x e = absurd (doomed analyse_in _ ps x refl (λ l h. analyse_json l (h.json refl)) e)
-analyse_forms (Assumed a xs ∷ Assumed b bs ∷ ps) x e = absurd (no_command x e)
-analyse_forms (Assumed a xs ∷ Stepped s ss ∷ []) x e = absurd (no_command x e)
-analyse_forms (Assumed a xs ∷ Stepped s ss ∷ Named f fs ∷ []) x e = refl
-analyse_forms (Assumed a xs ∷ Stepped s ss ∷ Named f fs ∷ Named b bs ∷ ps) x e = absurd (doomed analyse_in _ ps x refl (λ l h. analyse_second l (h.second refl)) e)
-analyse_forms (Assumed a xs ∷ Stepped s ss ∷ Named f fs ∷ Assumed b bs ∷ ps) x e = absurd (no_command x e)
-analyse_forms (Assumed a xs ∷ Stepped s ss ∷ Named f fs ∷ Stepped b bs ∷ ps) x e = absurd (no_command x e)
-analyse_forms (Assumed a xs ∷ Stepped s ss ∷ Named f fs ∷ Marked ∷ ps) x e = absurd (doomed analyse_in _ ps x refl (λ l h. analyse_json l (h.json refl)) e)
-analyse_forms (Assumed a xs ∷ Stepped s ss ∷ Assumed b bs ∷ ps) x e = absurd (no_command x e)
-analyse_forms (Assumed a xs ∷ Stepped s ss ∷ Stepped b bs ∷ ps) x e = absurd (no_command x e)
-analyse_forms (Assumed a xs ∷ Stepped s ss ∷ Marked ∷ ps) x e = absurd (doomed analyse_in _ ps x refl (λ l h. analyse_json l (h.json refl)) e)
-analyse_forms (Assumed a xs ∷ Marked ∷ ps) x e = absurd (doomed analyse_in _ ps x refl (λ l h. analyse_json l (h.json refl)) e)
-analyse_forms (Stepped s ss ∷ []) x e = absurd (no_command x e)
-analyse_forms (Stepped s ss ∷ Named f fs ∷ []) x e = refl
-analyse_forms (Stepped s ss ∷ Named f fs ∷ Named b bs ∷ ps) x e = absurd (doomed analyse_in _ ps x refl (λ l h. analyse_second l (h.second refl)) e)
-analyse_forms (Stepped s ss ∷ Named f fs ∷ Assumed a xs ∷ []) x e = refl
-analyse_forms (Stepped s ss ∷ Named f fs ∷ Assumed a xs ∷ Named b bs ∷ ps) x e = absurd (doomed analyse_in _ ps x refl (λ l h. analyse_second l (h.second refl)) e)
-analyse_forms (Stepped s ss ∷ Named f fs ∷ Assumed a xs ∷ Assumed b bs ∷ ps) x e = absurd (no_command x e)
-analyse_forms (Stepped s ss ∷ Named f fs ∷ Assumed a xs ∷ Stepped b bs ∷ ps) x e = absurd (no_command x e)
-analyse_forms (Stepped s ss ∷ Named f fs ∷ Assumed a xs ∷ Marked ∷ ps) x e = absurd (doomed analyse_in _ ps x refl (λ l h. analyse_json l (h.json refl)) e)
-analyse_forms (Stepped s ss ∷ Named f fs ∷ Stepped b bs ∷ ps) x e = absurd (no_command x e)
-analyse_forms (Stepped s ss ∷ Named f fs ∷ Marked ∷ ps) x e = absurd (doomed analyse_in _ ps x refl (λ l h. analyse_json l (h.json refl)) e)
-analyse_forms (Stepped s ss ∷ Assumed a xs ∷ []) x e = absurd (no_command x e)
-analyse_forms (Stepped s ss ∷ Assumed a xs ∷ Named f fs ∷ []) x e = refl
-analyse_forms (Stepped s ss ∷ Assumed a xs ∷ Named f fs ∷ Named b bs ∷ ps) x e = absurd (doomed analyse_in _ ps x refl (λ l h. analyse_second l (h.second refl)) e)
-analyse_forms (Stepped s ss ∷ Assumed a xs ∷ Named f fs ∷ Assumed b bs ∷ ps) x e = absurd (no_command x e)
-analyse_forms (Stepped s ss ∷ Assumed a xs ∷ Named f fs ∷ Stepped b bs ∷ ps) x e = absurd (no_command x e)
-analyse_forms (Stepped s ss ∷ Assumed a xs ∷ Named f fs ∷ Marked ∷ ps) x e = absurd (doomed analyse_in _ ps x refl (λ l h. analyse_json l (h.json refl)) e)
-analyse_forms (Stepped s ss ∷ Assumed a xs ∷ Assumed b bs ∷ ps) x e = absurd (no_command x e)
-analyse_forms (Stepped s ss ∷ Assumed a xs ∷ Stepped b bs ∷ ps) x e = absurd (no_command x e)
-analyse_forms (Stepped s ss ∷ Assumed a xs ∷ Marked ∷ ps) x e = absurd (doomed analyse_in _ ps x refl (λ l h. analyse_json l (h.json refl)) e)
-analyse_forms (Stepped s ss ∷ Stepped b bs ∷ ps) x e = absurd (no_command x e)
-analyse_forms (Stepped s ss ∷ Marked ∷ ps) x e = absurd (doomed analyse_in _ ps x refl (λ l h. analyse_json l (h.json refl)) e)
-analyse_forms (Marked ∷ ps) x e = absurd (doomed analyse_in _ ps x refl (λ l h. analyse_json l (h.json refl)) e)
+demo_facts : (first second assume steps device : Option Text) (json : Bool) (command : Text → Option Command) (x : Command)
+    → cond (is_none assume && is_none device && (is_none steps && not json)) (with_one first second command) None ≡ Some x
+    → (is_some first ≡ true) × ((is_some second ≡ false) × ((is_some assume ≡ false) × ((is_some steps ≡ false) × ((is_some device ≡ false) × (json ≡ false)))))
+demo_facts first second (Some a) steps device json command x e = absurd (no_command x e)
+demo_facts first second None steps (Some d) json command x e = absurd (no_command x e)
+demo_facts first second None (Some t) None json command x e = absurd (no_command x e)
+demo_facts first second None None None true command x e = absurd (no_command x e)
+demo_facts None second None None None false command x e = absurd (no_command x e)
+demo_facts (Some f) (Some g) None None None false command x e = absurd (no_command x e)
+demo_facts (Some f) None None None None false command x e = (refl, (refl, (refl, (refl, (refl, refl)))))
 
-run_forms : (ps : List Piece) (x : Command) → run_in (all_added (Some empty_line) ps) ≡ Some x → goes (below run_app) nothing_held 1 ps ≡ true
-unfolding goes clap_on_literals
-run_forms [] x e = absurd (no_command x e)
-run_forms (Named f fs ∷ []) x e = absurd (no_command x e)
-run_forms (Named f fs ∷ Named c cs ∷ []) x e = refl
-run_forms (Named f fs ∷ Named c cs ∷ Named b bs ∷ ps) x e = absurd (no_command x e)
-run_forms (Named f fs ∷ Named c cs ∷ Assumed a xs ∷ []) x e = refl
-run_forms (Named f fs ∷ Named c cs ∷ Assumed a xs ∷ Named b bs ∷ ps) x e = absurd (no_command x e)
-run_forms (Named f fs ∷ Named c cs ∷ Assumed a xs ∷ Assumed b bs ∷ ps) x e = absurd (no_command x e)
-run_forms (Named f fs ∷ Named c cs ∷ Assumed a xs ∷ Stepped b bs ∷ ps) x e = absurd (doomed run_in _ ps x refl (λ l h. run_steps l (h.steps refl)) e)
-run_forms (Named f fs ∷ Named c cs ∷ Assumed a xs ∷ Marked ∷ ps) x e = absurd (doomed run_in _ ps x refl (λ l h. run_json l (h.json refl)) e)
-run_forms (Named f fs ∷ Named c cs ∷ Stepped b bs ∷ ps) x e = absurd (doomed run_in _ ps x refl (λ l h. run_steps l (h.steps refl)) e)
-run_forms (Named f fs ∷ Named c cs ∷ Marked ∷ ps) x e = absurd (doomed run_in _ ps x refl (λ l h. run_json l (h.json refl)) e)
-run_forms (Named f fs ∷ Assumed a xs ∷ []) x e = absurd (no_command x e)
-run_forms (Named f fs ∷ Assumed a xs ∷ Named c cs ∷ []) x e = refl
-run_forms (Named f fs ∷ Assumed a xs ∷ Named c cs ∷ Named b bs ∷ ps) x e = absurd (no_command x e)
-run_forms (Named f fs ∷ Assumed a xs ∷ Named c cs ∷ Assumed b bs ∷ ps) x e = absurd (no_command x e)
-run_forms (Named f fs ∷ Assumed a xs ∷ Named c cs ∷ Stepped b bs ∷ ps) x e = absurd (doomed run_in _ ps x refl (λ l h. run_steps l (h.steps refl)) e)
-run_forms (Named f fs ∷ Assumed a xs ∷ Named c cs ∷ Marked ∷ ps) x e = absurd (doomed run_in _ ps x refl (λ l h. run_json l (h.json refl)) e)
-run_forms (Named f fs ∷ Assumed a xs ∷ Assumed b bs ∷ ps) x e = absurd (no_command x e)
-run_forms (Named f fs ∷ Assumed a xs ∷ Stepped b bs ∷ ps) x e = absurd (doomed run_in _ ps x refl (λ l h. run_steps l (h.steps refl)) e)
-run_forms (Named f fs ∷ Assumed a xs ∷ Marked ∷ ps) x e = absurd (doomed run_in _ ps x refl (λ l h. run_json l (h.json refl)) e)
-run_forms (Named f fs ∷ Stepped b bs ∷ ps) x e = absurd (doomed run_in _ ps x refl (λ l h. run_steps l (h.steps refl)) e)
-run_forms (Named f fs ∷ Marked ∷ ps) x e = absurd (doomed run_in _ ps x refl (λ l h. run_json l (h.json refl)) e)
-run_forms (Assumed a xs ∷ []) x e = absurd (no_command x e)
-run_forms (Assumed a xs ∷ Named f fs ∷ []) x e = absurd (no_command x e)
-run_forms (Assumed a xs ∷ Named f fs ∷ Named c cs ∷ []) x e = refl
-run_forms (Assumed a xs ∷ Named f fs ∷ Named c cs ∷ Named b bs ∷ ps) x e = absurd (no_command x e)
-run_forms (Assumed a xs ∷ Named f fs ∷ Named c cs ∷ Assumed b bs ∷ ps) x e = absurd (no_command x e)
-run_forms (Assumed a xs ∷ Named f fs ∷ Named c cs ∷ Stepped b bs ∷ ps) x e = absurd (doomed run_in _ ps x refl (λ l h. run_steps l (h.steps refl)) e)
-run_forms (Assumed a xs ∷ Named f fs ∷ Named c cs ∷ Marked ∷ ps) x e = absurd (doomed run_in _ ps x refl (λ l h. run_json l (h.json refl)) e)
-run_forms (Assumed a xs ∷ Named f fs ∷ Assumed b bs ∷ ps) x e = absurd (no_command x e)
-run_forms (Assumed a xs ∷ Named f fs ∷ Stepped b bs ∷ ps) x e = absurd (doomed run_in _ ps x refl (λ l h. run_steps l (h.steps refl)) e)
-run_forms (Assumed a xs ∷ Named f fs ∷ Marked ∷ ps) x e = absurd (doomed run_in _ ps x refl (λ l h. run_json l (h.json refl)) e)
-run_forms (Assumed a xs ∷ Assumed b bs ∷ ps) x e = absurd (no_command x e)
-run_forms (Assumed a xs ∷ Stepped b bs ∷ ps) x e = absurd (doomed run_in _ ps x refl (λ l h. run_steps l (h.steps refl)) e)
-run_forms (Assumed a xs ∷ Marked ∷ ps) x e = absurd (doomed run_in _ ps x refl (λ l h. run_json l (h.json refl)) e)
-run_forms (Stepped b bs ∷ ps) x e = absurd (doomed run_in _ ps x refl (λ l h. run_steps l (h.steps refl)) e)
-run_forms (Marked ∷ ps) x e = absurd (doomed run_in _ ps x refl (λ l h. run_json l (h.json refl)) e)
+no_steps : (l : Line) → is_some l.steps ≡ false → (v : Valued) → is_some (value_of v l) ≡ true → two_options v ≡ true
+no_steps l e Assume h = refl
+no_steps l e Steps h = absurd (opposite (is_some l.steps) h e)
+no_steps l e Device h = refl
 
-report_forms : (ps : List Piece) (x : Command) → report_in (all_added (Some empty_line) ps) ≡ Some x → goes (below report_app) nothing_held 1 ps ≡ true
-unfolding goes clap_on_literals
-report_forms [] x e = absurd (no_command x e)
-report_forms (Named f fs ∷ []) x e = absurd (no_command x e)
-report_forms (Named f fs ∷ Named c cs ∷ []) x e = refl
-report_forms (Named f fs ∷ Named c cs ∷ Named b bs ∷ ps) x e = absurd (no_command x e)
-report_forms (Named f fs ∷ Named c cs ∷ Assumed a xs ∷ []) x e = refl
-report_forms (Named f fs ∷ Named c cs ∷ Assumed a xs ∷ Named b bs ∷ ps) x e = absurd (no_command x e)
-report_forms (Named f fs ∷ Named c cs ∷ Assumed a xs ∷ Assumed b bs ∷ ps) x e = absurd (no_command x e)
-report_forms (Named f fs ∷ Named c cs ∷ Assumed a xs ∷ Stepped b bs ∷ ps) x e = absurd (doomed report_in _ ps x refl (λ l h. report_steps l (h.steps refl)) e)
-report_forms (Named f fs ∷ Named c cs ∷ Assumed a xs ∷ Marked ∷ []) x e = refl
-report_forms (Named f fs ∷ Named c cs ∷ Assumed a xs ∷ Marked ∷ Named b bs ∷ ps) x e = absurd (no_command x e)
-report_forms (Named f fs ∷ Named c cs ∷ Assumed a xs ∷ Marked ∷ Assumed b bs ∷ ps) x e = absurd (no_command x e)
-report_forms (Named f fs ∷ Named c cs ∷ Assumed a xs ∷ Marked ∷ Stepped b bs ∷ ps) x e = absurd (doomed report_in _ ps x refl (λ l h. report_steps l (h.steps refl)) e)
-report_forms (Named f fs ∷ Named c cs ∷ Assumed a xs ∷ Marked ∷ Marked ∷ ps) x e = absurd (no_command x e)
-report_forms (Named f fs ∷ Named c cs ∷ Stepped b bs ∷ ps) x e = absurd (doomed report_in _ ps x refl (λ l h. report_steps l (h.steps refl)) e)
-report_forms (Named f fs ∷ Named c cs ∷ Marked ∷ []) x e = refl
-report_forms (Named f fs ∷ Named c cs ∷ Marked ∷ Named b bs ∷ ps) x e = absurd (no_command x e)
-report_forms (Named f fs ∷ Named c cs ∷ Marked ∷ Assumed a xs ∷ []) x e = refl
-report_forms (Named f fs ∷ Named c cs ∷ Marked ∷ Assumed a xs ∷ Named b bs ∷ ps) x e = absurd (no_command x e)
-report_forms (Named f fs ∷ Named c cs ∷ Marked ∷ Assumed a xs ∷ Assumed b bs ∷ ps) x e = absurd (no_command x e)
-report_forms (Named f fs ∷ Named c cs ∷ Marked ∷ Assumed a xs ∷ Stepped b bs ∷ ps) x e = absurd (doomed report_in _ ps x refl (λ l h. report_steps l (h.steps refl)) e)
-report_forms (Named f fs ∷ Named c cs ∷ Marked ∷ Assumed a xs ∷ Marked ∷ ps) x e = absurd (no_command x e)
-report_forms (Named f fs ∷ Named c cs ∷ Marked ∷ Stepped b bs ∷ ps) x e = absurd (doomed report_in _ ps x refl (λ l h. report_steps l (h.steps refl)) e)
-report_forms (Named f fs ∷ Named c cs ∷ Marked ∷ Marked ∷ ps) x e = absurd (no_command x e)
-report_forms (Named f fs ∷ Assumed a xs ∷ []) x e = absurd (no_command x e)
-report_forms (Named f fs ∷ Assumed a xs ∷ Named c cs ∷ []) x e = refl
-report_forms (Named f fs ∷ Assumed a xs ∷ Named c cs ∷ Named b bs ∷ ps) x e = absurd (no_command x e)
-report_forms (Named f fs ∷ Assumed a xs ∷ Named c cs ∷ Assumed b bs ∷ ps) x e = absurd (no_command x e)
-report_forms (Named f fs ∷ Assumed a xs ∷ Named c cs ∷ Stepped b bs ∷ ps) x e = absurd (doomed report_in _ ps x refl (λ l h. report_steps l (h.steps refl)) e)
-report_forms (Named f fs ∷ Assumed a xs ∷ Named c cs ∷ Marked ∷ []) x e = refl
-report_forms (Named f fs ∷ Assumed a xs ∷ Named c cs ∷ Marked ∷ Named b bs ∷ ps) x e = absurd (no_command x e)
-report_forms (Named f fs ∷ Assumed a xs ∷ Named c cs ∷ Marked ∷ Assumed b bs ∷ ps) x e = absurd (no_command x e)
-report_forms (Named f fs ∷ Assumed a xs ∷ Named c cs ∷ Marked ∷ Stepped b bs ∷ ps) x e = absurd (doomed report_in _ ps x refl (λ l h. report_steps l (h.steps refl)) e)
-report_forms (Named f fs ∷ Assumed a xs ∷ Named c cs ∷ Marked ∷ Marked ∷ ps) x e = absurd (no_command x e)
-report_forms (Named f fs ∷ Assumed a xs ∷ Assumed b bs ∷ ps) x e = absurd (no_command x e)
-report_forms (Named f fs ∷ Assumed a xs ∷ Stepped b bs ∷ ps) x e = absurd (doomed report_in _ ps x refl (λ l h. report_steps l (h.steps refl)) e)
-report_forms (Named f fs ∷ Assumed a xs ∷ Marked ∷ []) x e = absurd (no_command x e)
-report_forms (Named f fs ∷ Assumed a xs ∷ Marked ∷ Named c cs ∷ []) x e = refl
-report_forms (Named f fs ∷ Assumed a xs ∷ Marked ∷ Named c cs ∷ Named b bs ∷ ps) x e = absurd (no_command x e)
-report_forms (Named f fs ∷ Assumed a xs ∷ Marked ∷ Named c cs ∷ Assumed b bs ∷ ps) x e = absurd (no_command x e)
-report_forms (Named f fs ∷ Assumed a xs ∷ Marked ∷ Named c cs ∷ Stepped b bs ∷ ps) x e = absurd (doomed report_in _ ps x refl (λ l h. report_steps l (h.steps refl)) e)
-report_forms (Named f fs ∷ Assumed a xs ∷ Marked ∷ Named c cs ∷ Marked ∷ ps) x e = absurd (no_command x e)
-report_forms (Named f fs ∷ Assumed a xs ∷ Marked ∷ Assumed b bs ∷ ps) x e = absurd (no_command x e)
-report_forms (Named f fs ∷ Assumed a xs ∷ Marked ∷ Stepped b bs ∷ ps) x e = absurd (doomed report_in _ ps x refl (λ l h. report_steps l (h.steps refl)) e)
-report_forms (Named f fs ∷ Assumed a xs ∷ Marked ∷ Marked ∷ ps) x e = absurd (no_command x e)
-report_forms (Named f fs ∷ Stepped b bs ∷ ps) x e = absurd (doomed report_in _ ps x refl (λ l h. report_steps l (h.steps refl)) e)
-report_forms (Named f fs ∷ Marked ∷ []) x e = absurd (no_command x e)
-report_forms (Named f fs ∷ Marked ∷ Named c cs ∷ []) x e = refl
-report_forms (Named f fs ∷ Marked ∷ Named c cs ∷ Named b bs ∷ ps) x e = absurd (no_command x e)
-report_forms (Named f fs ∷ Marked ∷ Named c cs ∷ Assumed a xs ∷ []) x e = refl
-report_forms (Named f fs ∷ Marked ∷ Named c cs ∷ Assumed a xs ∷ Named b bs ∷ ps) x e = absurd (no_command x e)
-report_forms (Named f fs ∷ Marked ∷ Named c cs ∷ Assumed a xs ∷ Assumed b bs ∷ ps) x e = absurd (no_command x e)
-report_forms (Named f fs ∷ Marked ∷ Named c cs ∷ Assumed a xs ∷ Stepped b bs ∷ ps) x e = absurd (doomed report_in _ ps x refl (λ l h. report_steps l (h.steps refl)) e)
-report_forms (Named f fs ∷ Marked ∷ Named c cs ∷ Assumed a xs ∷ Marked ∷ ps) x e = absurd (no_command x e)
-report_forms (Named f fs ∷ Marked ∷ Named c cs ∷ Stepped b bs ∷ ps) x e = absurd (doomed report_in _ ps x refl (λ l h. report_steps l (h.steps refl)) e)
-report_forms (Named f fs ∷ Marked ∷ Named c cs ∷ Marked ∷ ps) x e = absurd (no_command x e)
-report_forms (Named f fs ∷ Marked ∷ Assumed a xs ∷ []) x e = absurd (no_command x e)
-report_forms (Named f fs ∷ Marked ∷ Assumed a xs ∷ Named c cs ∷ []) x e = refl
-report_forms (Named f fs ∷ Marked ∷ Assumed a xs ∷ Named c cs ∷ Named b bs ∷ ps) x e = absurd (no_command x e)
-report_forms (Named f fs ∷ Marked ∷ Assumed a xs ∷ Named c cs ∷ Assumed b bs ∷ ps) x e = absurd (no_command x e)
-report_forms (Named f fs ∷ Marked ∷ Assumed a xs ∷ Named c cs ∷ Stepped b bs ∷ ps) x e = absurd (doomed report_in _ ps x refl (λ l h. report_steps l (h.steps refl)) e)
-report_forms (Named f fs ∷ Marked ∷ Assumed a xs ∷ Named c cs ∷ Marked ∷ ps) x e = absurd (no_command x e)
-report_forms (Named f fs ∷ Marked ∷ Assumed a xs ∷ Assumed b bs ∷ ps) x e = absurd (no_command x e)
-report_forms (Named f fs ∷ Marked ∷ Assumed a xs ∷ Stepped b bs ∷ ps) x e = absurd (doomed report_in _ ps x refl (λ l h. report_steps l (h.steps refl)) e)
-report_forms (Named f fs ∷ Marked ∷ Assumed a xs ∷ Marked ∷ ps) x e = absurd (no_command x e)
-report_forms (Named f fs ∷ Marked ∷ Stepped b bs ∷ ps) x e = absurd (doomed report_in _ ps x refl (λ l h. report_steps l (h.steps refl)) e)
-report_forms (Named f fs ∷ Marked ∷ Marked ∷ ps) x e = absurd (no_command x e)
-report_forms (Assumed a xs ∷ []) x e = absurd (no_command x e)
-report_forms (Assumed a xs ∷ Named f fs ∷ []) x e = absurd (no_command x e)
-report_forms (Assumed a xs ∷ Named f fs ∷ Named c cs ∷ []) x e = refl
-report_forms (Assumed a xs ∷ Named f fs ∷ Named c cs ∷ Named b bs ∷ ps) x e = absurd (no_command x e)
-report_forms (Assumed a xs ∷ Named f fs ∷ Named c cs ∷ Assumed b bs ∷ ps) x e = absurd (no_command x e)
-report_forms (Assumed a xs ∷ Named f fs ∷ Named c cs ∷ Stepped b bs ∷ ps) x e = absurd (doomed report_in _ ps x refl (λ l h. report_steps l (h.steps refl)) e)
-report_forms (Assumed a xs ∷ Named f fs ∷ Named c cs ∷ Marked ∷ []) x e = refl
-report_forms (Assumed a xs ∷ Named f fs ∷ Named c cs ∷ Marked ∷ Named b bs ∷ ps) x e = absurd (no_command x e)
-report_forms (Assumed a xs ∷ Named f fs ∷ Named c cs ∷ Marked ∷ Assumed b bs ∷ ps) x e = absurd (no_command x e)
-report_forms (Assumed a xs ∷ Named f fs ∷ Named c cs ∷ Marked ∷ Stepped b bs ∷ ps) x e = absurd (doomed report_in _ ps x refl (λ l h. report_steps l (h.steps refl)) e)
-report_forms (Assumed a xs ∷ Named f fs ∷ Named c cs ∷ Marked ∷ Marked ∷ ps) x e = absurd (no_command x e)
-report_forms (Assumed a xs ∷ Named f fs ∷ Assumed b bs ∷ ps) x e = absurd (no_command x e)
-report_forms (Assumed a xs ∷ Named f fs ∷ Stepped b bs ∷ ps) x e = absurd (doomed report_in _ ps x refl (λ l h. report_steps l (h.steps refl)) e)
-report_forms (Assumed a xs ∷ Named f fs ∷ Marked ∷ []) x e = absurd (no_command x e)
-report_forms (Assumed a xs ∷ Named f fs ∷ Marked ∷ Named c cs ∷ []) x e = refl
-report_forms (Assumed a xs ∷ Named f fs ∷ Marked ∷ Named c cs ∷ Named b bs ∷ ps) x e = absurd (no_command x e)
-report_forms (Assumed a xs ∷ Named f fs ∷ Marked ∷ Named c cs ∷ Assumed b bs ∷ ps) x e = absurd (no_command x e)
-report_forms (Assumed a xs ∷ Named f fs ∷ Marked ∷ Named c cs ∷ Stepped b bs ∷ ps) x e = absurd (doomed report_in _ ps x refl (λ l h. report_steps l (h.steps refl)) e)
-report_forms (Assumed a xs ∷ Named f fs ∷ Marked ∷ Named c cs ∷ Marked ∷ ps) x e = absurd (no_command x e)
-report_forms (Assumed a xs ∷ Named f fs ∷ Marked ∷ Assumed b bs ∷ ps) x e = absurd (no_command x e)
-report_forms (Assumed a xs ∷ Named f fs ∷ Marked ∷ Stepped b bs ∷ ps) x e = absurd (doomed report_in _ ps x refl (λ l h. report_steps l (h.steps refl)) e)
-report_forms (Assumed a xs ∷ Named f fs ∷ Marked ∷ Marked ∷ ps) x e = absurd (no_command x e)
-report_forms (Assumed a xs ∷ Assumed b bs ∷ ps) x e = absurd (no_command x e)
-report_forms (Assumed a xs ∷ Stepped b bs ∷ ps) x e = absurd (doomed report_in _ ps x refl (λ l h. report_steps l (h.steps refl)) e)
-report_forms (Assumed a xs ∷ Marked ∷ []) x e = absurd (no_command x e)
-report_forms (Assumed a xs ∷ Marked ∷ Named f fs ∷ []) x e = absurd (no_command x e)
-report_forms (Assumed a xs ∷ Marked ∷ Named f fs ∷ Named c cs ∷ []) x e = refl
-report_forms (Assumed a xs ∷ Marked ∷ Named f fs ∷ Named c cs ∷ Named b bs ∷ ps) x e = absurd (no_command x e)
-report_forms (Assumed a xs ∷ Marked ∷ Named f fs ∷ Named c cs ∷ Assumed b bs ∷ ps) x e = absurd (no_command x e)
-report_forms (Assumed a xs ∷ Marked ∷ Named f fs ∷ Named c cs ∷ Stepped b bs ∷ ps) x e = absurd (doomed report_in _ ps x refl (λ l h. report_steps l (h.steps refl)) e)
-report_forms (Assumed a xs ∷ Marked ∷ Named f fs ∷ Named c cs ∷ Marked ∷ ps) x e = absurd (no_command x e)
-report_forms (Assumed a xs ∷ Marked ∷ Named f fs ∷ Assumed b bs ∷ ps) x e = absurd (no_command x e)
-report_forms (Assumed a xs ∷ Marked ∷ Named f fs ∷ Stepped b bs ∷ ps) x e = absurd (doomed report_in _ ps x refl (λ l h. report_steps l (h.steps refl)) e)
-report_forms (Assumed a xs ∷ Marked ∷ Named f fs ∷ Marked ∷ ps) x e = absurd (no_command x e)
-report_forms (Assumed a xs ∷ Marked ∷ Assumed b bs ∷ ps) x e = absurd (no_command x e)
-report_forms (Assumed a xs ∷ Marked ∷ Stepped b bs ∷ ps) x e = absurd (doomed report_in _ ps x refl (λ l h. report_steps l (h.steps refl)) e)
-report_forms (Assumed a xs ∷ Marked ∷ Marked ∷ ps) x e = absurd (no_command x e)
-report_forms (Stepped b bs ∷ ps) x e = absurd (doomed report_in _ ps x refl (λ l h. report_steps l (h.steps refl)) e)
-report_forms (Marked ∷ []) x e = absurd (no_command x e)
-report_forms (Marked ∷ Named f fs ∷ []) x e = absurd (no_command x e)
-report_forms (Marked ∷ Named f fs ∷ Named c cs ∷ []) x e = refl
-report_forms (Marked ∷ Named f fs ∷ Named c cs ∷ Named b bs ∷ ps) x e = absurd (no_command x e)
-report_forms (Marked ∷ Named f fs ∷ Named c cs ∷ Assumed a xs ∷ []) x e = refl
-report_forms (Marked ∷ Named f fs ∷ Named c cs ∷ Assumed a xs ∷ Named b bs ∷ ps) x e = absurd (no_command x e)
-report_forms (Marked ∷ Named f fs ∷ Named c cs ∷ Assumed a xs ∷ Assumed b bs ∷ ps) x e = absurd (no_command x e)
-report_forms (Marked ∷ Named f fs ∷ Named c cs ∷ Assumed a xs ∷ Stepped b bs ∷ ps) x e = absurd (doomed report_in _ ps x refl (λ l h. report_steps l (h.steps refl)) e)
-report_forms (Marked ∷ Named f fs ∷ Named c cs ∷ Assumed a xs ∷ Marked ∷ ps) x e = absurd (no_command x e)
-report_forms (Marked ∷ Named f fs ∷ Named c cs ∷ Stepped b bs ∷ ps) x e = absurd (doomed report_in _ ps x refl (λ l h. report_steps l (h.steps refl)) e)
-report_forms (Marked ∷ Named f fs ∷ Named c cs ∷ Marked ∷ ps) x e = absurd (no_command x e)
-report_forms (Marked ∷ Named f fs ∷ Assumed a xs ∷ []) x e = absurd (no_command x e)
-report_forms (Marked ∷ Named f fs ∷ Assumed a xs ∷ Named c cs ∷ []) x e = refl
-report_forms (Marked ∷ Named f fs ∷ Assumed a xs ∷ Named c cs ∷ Named b bs ∷ ps) x e = absurd (no_command x e)
-report_forms (Marked ∷ Named f fs ∷ Assumed a xs ∷ Named c cs ∷ Assumed b bs ∷ ps) x e = absurd (no_command x e)
-report_forms (Marked ∷ Named f fs ∷ Assumed a xs ∷ Named c cs ∷ Stepped b bs ∷ ps) x e = absurd (doomed report_in _ ps x refl (λ l h. report_steps l (h.steps refl)) e)
-report_forms (Marked ∷ Named f fs ∷ Assumed a xs ∷ Named c cs ∷ Marked ∷ ps) x e = absurd (no_command x e)
-report_forms (Marked ∷ Named f fs ∷ Assumed a xs ∷ Assumed b bs ∷ ps) x e = absurd (no_command x e)
-report_forms (Marked ∷ Named f fs ∷ Assumed a xs ∷ Stepped b bs ∷ ps) x e = absurd (doomed report_in _ ps x refl (λ l h. report_steps l (h.steps refl)) e)
-report_forms (Marked ∷ Named f fs ∷ Assumed a xs ∷ Marked ∷ ps) x e = absurd (no_command x e)
-report_forms (Marked ∷ Named f fs ∷ Stepped b bs ∷ ps) x e = absurd (doomed report_in _ ps x refl (λ l h. report_steps l (h.steps refl)) e)
-report_forms (Marked ∷ Named f fs ∷ Marked ∷ ps) x e = absurd (no_command x e)
-report_forms (Marked ∷ Assumed a xs ∷ []) x e = absurd (no_command x e)
-report_forms (Marked ∷ Assumed a xs ∷ Named f fs ∷ []) x e = absurd (no_command x e)
-report_forms (Marked ∷ Assumed a xs ∷ Named f fs ∷ Named c cs ∷ []) x e = refl
-report_forms (Marked ∷ Assumed a xs ∷ Named f fs ∷ Named c cs ∷ Named b bs ∷ ps) x e = absurd (no_command x e)
-report_forms (Marked ∷ Assumed a xs ∷ Named f fs ∷ Named c cs ∷ Assumed b bs ∷ ps) x e = absurd (no_command x e)
-report_forms (Marked ∷ Assumed a xs ∷ Named f fs ∷ Named c cs ∷ Stepped b bs ∷ ps) x e = absurd (doomed report_in _ ps x refl (λ l h. report_steps l (h.steps refl)) e)
-report_forms (Marked ∷ Assumed a xs ∷ Named f fs ∷ Named c cs ∷ Marked ∷ ps) x e = absurd (no_command x e)
-report_forms (Marked ∷ Assumed a xs ∷ Named f fs ∷ Assumed b bs ∷ ps) x e = absurd (no_command x e)
-report_forms (Marked ∷ Assumed a xs ∷ Named f fs ∷ Stepped b bs ∷ ps) x e = absurd (doomed report_in _ ps x refl (λ l h. report_steps l (h.steps refl)) e)
-report_forms (Marked ∷ Assumed a xs ∷ Named f fs ∷ Marked ∷ ps) x e = absurd (no_command x e)
-report_forms (Marked ∷ Assumed a xs ∷ Assumed b bs ∷ ps) x e = absurd (no_command x e)
-report_forms (Marked ∷ Assumed a xs ∷ Stepped b bs ∷ ps) x e = absurd (doomed report_in _ ps x refl (λ l h. report_steps l (h.steps refl)) e)
-report_forms (Marked ∷ Assumed a xs ∷ Marked ∷ ps) x e = absurd (no_command x e)
-report_forms (Marked ∷ Stepped b bs ∷ ps) x e = absurd (doomed report_in _ ps x refl (λ l h. report_steps l (h.steps refl)) e)
-report_forms (Marked ∷ Marked ∷ ps) x e = absurd (no_command x e)
+plain_wanted : (l : Line) (command : Chip → Text → Text → Command) (x : Command)
+    → cond (is_none l.steps && not l.json) (on_device (device_in l.device) (λ d. with_two l.first l.second (command d))) None ≡ Some x → IsWanted judging l
+plain_wanted l command x e =
+    let k = plain_facts l.first l.second l.steps l.json (device_in l.device) command x e in
+    record { first = k.0; second = k.1.0; given = no_steps l k.1.1.0; json = λ h. absurd (opposite l.json h k.1.1.1) }
 
-demo_forms : (ps : List Piece) (x : Command) → demo_in (all_added (Some empty_line) ps) ≡ Some x → goes (below demo_app) nothing_held 1 ps ≡ true
-unfolding goes clap_on_literals
-demo_forms [] x e = absurd (no_command x e)
-demo_forms (Named f fs ∷ []) x e = refl
-demo_forms (Named f fs ∷ Named b bs ∷ ps) x e = absurd (doomed demo_in _ ps x refl (λ l h. demo_second l (h.second refl)) e)
-demo_forms (Named f fs ∷ Assumed b bs ∷ ps) x e = absurd (doomed demo_in _ ps x refl (λ l h. demo_assume l (h.assume refl)) e)
-demo_forms (Named f fs ∷ Stepped b bs ∷ ps) x e = absurd (doomed demo_in _ ps x refl (λ l h. demo_steps l (h.steps refl)) e)
-demo_forms (Named f fs ∷ Marked ∷ ps) x e = absurd (doomed demo_in _ ps x refl (λ l h. demo_json l (h.json refl)) e)
-demo_forms (Assumed b bs ∷ ps) x e = absurd (doomed demo_in _ ps x refl (λ l h. demo_assume l (h.assume refl)) e)
-demo_forms (Stepped b bs ∷ ps) x e = absurd (doomed demo_in _ ps x refl (λ l h. demo_steps l (h.steps refl)) e)
-demo_forms (Marked ∷ ps) x e = absurd (doomed demo_in _ ps x refl (λ l h. demo_json l (h.json refl)) e)
+check_wanted : (l : Line) (x : Command) → check_of l ≡ Some x → IsWanted judging l
+check_wanted l x e = plain_wanted l (λ device firmware certificate. Check device firmware certificate l.assume) x e
+
+run_wanted : (l : Line) (x : Command) → run_of l ≡ Some x → IsWanted judging l
+run_wanted l x e = plain_wanted l (λ device firmware schedule. Run device firmware schedule l.assume) x e
+
+report_wanted : (l : Line) (x : Command) → report_of l ≡ Some x → IsWanted reporting l
+report_wanted l x e =
+    let k = report_facts l.first l.second l.steps (device_in l.device) (λ device firmware certificate. Report device firmware certificate l.assume l.json) x e in
+    record { first = k.0; second = k.1.0; given = no_steps l k.1.1; json = λ h. refl }
+
+analyse_wanted : (l : Line) (x : Command) → analyse_of l ≡ Some x → IsWanted analysing l
+analyse_wanted l x e =
+    let k = analyse_facts l.first l.second l.json (device_in l.device) (λ device firmware. analysed device firmware l.assume (steps_in l.steps)) x e in
+    record { first = k.0; second = k.1.0; given = λ v h. refl; json = λ h. absurd (opposite l.json h k.1.1) }
+
+demo_wanted : (l : Line) (x : Command) → demo_of l ≡ Some x → IsWanted measuring l
+demo_wanted l x e =
+    let k = demo_facts l.first l.second l.assume l.steps l.device l.json (λ word. option_map Demo (size_in word)) x e in
+    let none : (v : Valued) → is_some (value_of v l) ≡ true → no_options v ≡ true = none_by k.1.1.0 k.1.1.1.0 k.1.1.1.1.0 in
+    record { first = k.0; second = k.1.0; given = none; json = λ h. absurd (opposite l.json h k.1.1.1.1.1) } where
+      none_by : is_some l.assume ≡ false → is_some l.steps ≡ false → is_some l.device ≡ false → (v : Valued) → is_some (value_of v l) ≡ true → no_options v ≡ true
+      none_by a s d Assume h = absurd (opposite (is_some l.assume) h a)
+      none_by a s d Steps h = absurd (opposite (is_some l.steps) h s)
+      none_by a s d Device h = absurd (opposite (is_some l.device) h d)
 
 -- ---- all
 
@@ -426,69 +368,50 @@ record IsGood (ws : List (List ℕ)) : Type 0 where
 text_free : (b : ℕ) (bs : List ℕ) → (b == 45) ≡ false → is_refused (b ∷ bs) ≡ false
 text_free b bs h = ap (λ (t : Bool). not (not t) && not (is_option (b ∷ bs))) h
 
+option_free : (v : Valued) → is_refused (spelled v) ≡ false
+option_free Assume = refl
+option_free Steps = refl
+option_free Device = refl
+
 pieces_free : (ps : List Piece) → AreFit ps → list_any is_refused (all_words ps) ≡ false
 pieces_free [] fit = refl
 pieces_free (Named b bs ∷ ps) fit = ap₂ (λ (x y : Bool). x || y) (text_free b bs fit.0) (pieces_free ps fit.1)
-pieces_free (Assumed b bs ∷ ps) fit = ap₂ (λ (x y : Bool). x || y) (text_free b bs fit.0) (pieces_free ps fit.1)
-pieces_free (Stepped b bs ∷ ps) fit = ap₂ (λ (x y : Bool). x || y) (text_free b bs fit.0) (pieces_free ps fit.1)
+pieces_free (Given v b bs ∷ ps) fit =
+    ap₂ (λ (x y : Bool). x || y) (option_free v) (ap₂ (λ (x y : Bool). x || y) (text_free b bs fit.0) (pieces_free ps fit.1))
 pieces_free (Marked ∷ ps) fit = pieces_free ps fit.1
 
-check_good : (word : List ℕ) (words : List (List ℕ)) (l : Line) (x : Command) → l.waits ≡ None → then_words (Some empty_line) words ≡ Some l → bytes_eq word (codes "check") ≡ true → check_of l ≡ Some x → IsGood (word ∷ words)
-check_good word words l x waits e is h =
-    let c : Cut empty_line words l = cut_words words l waits e in
-    subst IsGood (sym (ap₂ (λ (w : List ℕ) (ws : List (List ℕ)). w ∷ ws) ((bytes_eq-Decides word (codes "check")).0 is) c.words)) (record {
-      taken = check_level (all_words c.pieces) (level_goes (below check_app) c.pieces c.fit (check_forms c.pieces x (ap check_in c.ends ∙ h)));
-      free = pieces_free c.pieces c.fit;
-    })
+shows_nothing : (id : Text) → Shows id empty_line []
+shows_nothing id = record { first = refl; second = refl; given = none; json = refl; explicit = refl; order = λ h. h } where
+  none : (v : Valued) → false ≡ is_some (value_of v empty_line)
+  none Assume = refl
+  none Steps = refl
+  none Device = refl
 
-analyse_good : (word : List ℕ) (words : List (List ℕ)) (l : Line) (x : Command) → l.waits ≡ None → then_words (Some empty_line) words ≡ Some l → bytes_eq word (codes "analyse") ≡ true → analyse_of l ≡ Some x → IsGood (word ∷ words)
-analyse_good word words l x waits e is h =
-    let c : Cut empty_line words l = cut_words words l waits e in
-    subst IsGood (sym (ap₂ (λ (w : List ℕ) (ws : List (List ℕ)). w ∷ ws) ((bytes_eq-Decides word (codes "analyse")).0 is) c.words)) (record {
-      taken = analyse_level (all_words c.pieces) (level_goes (below analyse_app) c.pieces c.fit (analyse_forms c.pieces x (ap analyse_in c.ends ∙ h)));
-      free = pieces_free c.pieces c.fit;
-    })
-
-run_good : (word : List ℕ) (words : List (List ℕ)) (l : Line) (x : Command) → l.waits ≡ None → then_words (Some empty_line) words ≡ Some l → bytes_eq word (codes "run") ≡ true → run_of l ≡ Some x → IsGood (word ∷ words)
-run_good word words l x waits e is h =
-    let c : Cut empty_line words l = cut_words words l waits e in
-    subst IsGood (sym (ap₂ (λ (w : List ℕ) (ws : List (List ℕ)). w ∷ ws) ((bytes_eq-Decides word (codes "run")).0 is) c.words)) (record {
-      taken = run_level (all_words c.pieces) (level_goes (below run_app) c.pieces c.fit (run_forms c.pieces x (ap run_in c.ends ∙ h)));
-      free = pieces_free c.pieces c.fit;
-    })
-
-report_good : (word : List ℕ) (words : List (List ℕ)) (l : Line) (x : Command) → l.waits ≡ None → then_words (Some empty_line) words ≡ Some l → bytes_eq word (codes "report") ≡ true → report_of l ≡ Some x → IsGood (word ∷ words)
-report_good word words l x waits e is h =
-    let c : Cut empty_line words l = cut_words words l waits e in
-    subst IsGood (sym (ap₂ (λ (w : List ℕ) (ws : List (List ℕ)). w ∷ ws) ((bytes_eq-Decides word (codes "report")).0 is) c.words)) (record {
-      taken = report_level (all_words c.pieces) (level_goes (below report_app) c.pieces c.fit (report_forms c.pieces x (ap report_in c.ends ∙ h)));
-      free = pieces_free c.pieces c.fit;
-    })
-
-demo_good : (word : List ℕ) (words : List (List ℕ)) (l : Line) (x : Command) → l.waits ≡ None → then_words (Some empty_line) words ≡ Some l → bytes_eq word (codes "demo") ≡ true → demo_of l ≡ Some x → IsGood (word ∷ words)
-demo_good word words l x waits e is h =
-    let c : Cut empty_line words l = cut_words words l waits e in
-    subst IsGood (sym (ap₂ (λ (w : List ℕ) (ws : List (List ℕ)). w ∷ ws) ((bytes_eq-Decides word (codes "demo")).0 is) c.words)) (record {
-      taken = demo_level (all_words c.pieces) (level_goes (below demo_app) c.pieces c.fit (demo_forms c.pieces x (ap demo_in c.ends ∙ h)));
-      free = pieces_free c.pieces c.fit;
+good : (name : Text) (s : Shape) (w : Allows) (id : Text) → IsLevel s w id → ((ws : List Text) → level_takes s ws ≡ true → takes line_app (name ∷ ws) ≡ true)
+    → is_refused name ≡ false → (word : Text) (words : List Text) (l : Line) → l.waits ≡ None → then_words (Some empty_line) words ≡ Some l → bytes_eq word name ≡ true → IsWanted w l → IsGood (word ∷ words)
+good name s w id level takes_at plain word words l waits e is n =
+    let c : Cut empty_line words l = cut_words words empty_line l refl waits e in
+    subst IsGood (sym (ap₂ (λ (w : List ℕ) (ws : List (List ℕ)). w ∷ ws) ((bytes_eq-Decides word name).0 is) c.words)) (record {
+      taken = takes_at (all_words c.pieces) (level_goes s c.pieces c.fit (goes_on s w id level c.pieces empty_line l nothing_held refl (shows_nothing id) c.ends n));
+      free = ap₂ (λ (x y : Bool). x || y) plain (pieces_free c.pieces c.fit);
     })
 
 called_good : (word : List ℕ) (words : List (List ℕ)) (l : Line) (x : Command) → l.waits ≡ None → then_words (Some empty_line) words ≡ Some l → called word l ≡ Some x → IsGood (word ∷ words)
 called_good word words l x waits e h = by_check (bytes_eq word (codes "check")) refl h where
   by_check : (b : Bool) → bytes_eq word (codes "check") ≡ b → cond b (check_of l) (cond (bytes_eq word (codes "analyse")) (analyse_of l) (cond (bytes_eq word (codes "run")) (run_of l) (cond (bytes_eq word (codes "report")) (report_of l) (cond (bytes_eq word (codes "demo")) (demo_of l) None)))) ≡ Some x → IsGood (word ∷ words)
-  by_check true is h = check_good word words l x waits e is h
+  by_check true is h = good (codes "check") (below (judging_app (codes "check"))) judging (codes "firmware") (judging_has (codes "check")) check_level refl word words l waits e is (check_wanted l x h)
   by_check false is h = by_analyse (bytes_eq word (codes "analyse")) refl h where
     by_analyse : (b : Bool) → bytes_eq word (codes "analyse") ≡ b → cond b (analyse_of l) (cond (bytes_eq word (codes "run")) (run_of l) (cond (bytes_eq word (codes "report")) (report_of l) (cond (bytes_eq word (codes "demo")) (demo_of l) None))) ≡ Some x → IsGood (word ∷ words)
-    by_analyse true is h = analyse_good word words l x waits e is h
+    by_analyse true is h = good (codes "analyse") (below analyse_app) analysing (codes "firmware") analyse_has analyse_level refl word words l waits e is (analyse_wanted l x h)
     by_analyse false is h = by_run (bytes_eq word (codes "run")) refl h where
       by_run : (b : Bool) → bytes_eq word (codes "run") ≡ b → cond b (run_of l) (cond (bytes_eq word (codes "report")) (report_of l) (cond (bytes_eq word (codes "demo")) (demo_of l) None)) ≡ Some x → IsGood (word ∷ words)
-      by_run true is h = run_good word words l x waits e is h
+      by_run true is h = good (codes "run") (below (judging_app (codes "run"))) judging (codes "firmware") (judging_has (codes "run")) run_level refl word words l waits e is (run_wanted l x h)
       by_run false is h = by_report (bytes_eq word (codes "report")) refl h where
         by_report : (b : Bool) → bytes_eq word (codes "report") ≡ b → cond b (report_of l) (cond (bytes_eq word (codes "demo")) (demo_of l) None) ≡ Some x → IsGood (word ∷ words)
-        by_report true is h = report_good word words l x waits e is h
+        by_report true is h = good (codes "report") (below report_app) reporting (codes "firmware") report_has report_level refl word words l waits e is (report_wanted l x h)
         by_report false is h = by_demo (bytes_eq word (codes "demo")) refl h where
           by_demo : (b : Bool) → bytes_eq word (codes "demo") ≡ b → cond b (demo_of l) None ≡ Some x → IsGood (word ∷ words)
-          by_demo true is h = demo_good word words l x waits e is h
+          by_demo true is h = good (codes "demo") (below demo_app) measuring (codes "size") demo_has demo_level refl word words l waits e is (demo_wanted l x h)
           by_demo false is h = absurd (no_command x h)
 
 whole_good : (word : List ℕ) (words : List (List ℕ)) (o : Option Line) (x : Command) → then_words (Some empty_line) words ≡ o → whole word o ≡ Some x → IsGood (word ∷ words)

@@ -20,9 +20,13 @@ value_rule id = record (new_rule id) { long = Some id }
 abbrev pub flag_rule : Text → Rule
 flag_rule id = record (new_rule id) { long = Some id; action = Some SetTrue }
 
--- a firmware and a second file under an assumption file
+-- the options that a command on a firmware has: an assumption file, and the device
+abbrev pub on_device : App → App
+on_device app = with_rule (with_rule app (value_rule (codes "assume"))) (value_rule (codes "device"))
+
+-- a firmware and a second file
 abbrev pub judging_app : Text → App
-judging_app name = with_rule (with_rule (with_rule (new_app name) (name_rule (codes "firmware"))) (name_rule (codes "second"))) (value_rule (codes "assume"))
+judging_app name = on_device (with_rule (with_rule (new_app name) (name_rule (codes "firmware"))) (name_rule (codes "second")))
 
 abbrev pub check_app : App
 check_app = judging_app (codes "check")
@@ -34,8 +38,7 @@ abbrev pub report_app : App
 report_app = with_rule (judging_app (codes "report")) (flag_rule (codes "json"))
 
 abbrev pub analyse_app : App
-analyse_app =
-    with_rule (with_rule (with_rule (new_app (codes "analyse")) (name_rule (codes "firmware"))) (value_rule (codes "assume"))) (value_rule (codes "steps"))
+analyse_app = with_rule (on_device (with_rule (new_app (codes "analyse")) (name_rule (codes "firmware")))) (value_rule (codes "steps"))
 
 abbrev pub demo_app : App
 demo_app = with_rule (new_app (codes "demo")) (name_rule (codes "size"))
@@ -61,7 +64,8 @@ line_app =
 -- ---- what is refused before
 
 abbrev pub is_option : Text → Bool
-is_option word = bytes_eq word (codes "--assume") || (bytes_eq word (codes "--steps") || bytes_eq word (codes "--json"))
+is_option word =
+    bytes_eq word (codes "--assume") || (bytes_eq word (codes "--steps") || (bytes_eq word (codes "--device") || bytes_eq word (codes "--json")))
 
 -- an empty word, or one that begins with `-` and is none of the options
 abbrev pub is_refused : Text → Bool

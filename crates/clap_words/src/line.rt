@@ -3,7 +3,7 @@
 ghost use Rattle.std.specs.Prelude.{◌≡◌, IfOk, false};
 ghost use Rattle.clap.specs.Words.{app_of, rule_of, with_rule, with_subcommand};
 ghost use Rattle.clap.specs.declared.builder.command.Command.TheViews.{out-Command as fields_of};
-ghost use Rattle.clap_words.specs.Lines.{name_rule, value_rule, flag_rule, judging_app, report_app, analyse_app, demo_app, bare_app, line_app};
+ghost use Rattle.clap_words.specs.Lines.{name_rule, value_rule, flag_rule, on_device, judging_app, report_app, analyse_app, demo_app, bare_app, line_app};
 
 use clap::{Arg, ArgAction, Command};
 use std::alloc::{AllocError, Global};
@@ -42,14 +42,23 @@ fn with_arg<'a>(command: Command<'a>, arg: Arg<'a>) -> Result<Command<'a>, Alloc
     command.arg(arg)
 }
 
-/// A command with a firmware and a second file, and maybe an assumption file.
+/// The command with the options of all that work on a firmware: an assumption file, and the device.
+fn on_device<'a>(alloc: Global, command: Command<'a>) -> Result<Command<'a>, AllocError>
+    requires { (fields_of command).has_globals ≡ false }
+    ensures app { IfOk result (λ c. app_of c ≡ on_device (app_of command.entry)) }
+    ensures local { IfOk result (λ c. (fields_of c).has_globals ≡ false) }
+{
+    let command = with_arg(command, value_arg(alloc, "assume"))?;
+    with_arg(command, value_arg(alloc, "device"))
+}
+
+/// A command with a firmware and a second file.
 fn judging<'a>(alloc: Global, name: &'a str) -> Result<Command<'a>, AllocError>
     ensures app { IfOk result (λ c. app_of c ≡ judging_app name.entry.now) }
     ensures local { IfOk result (λ c. (fields_of c).has_globals ≡ false) }
 {
-    let mut command = with_arg(Command::new(alloc, name), name_arg(alloc, "firmware"))?;
-    command = with_arg(command, name_arg(alloc, "second"))?;
-    with_arg(command, value_arg(alloc, "assume"))
+    let command = with_arg(Command::new(alloc, name), name_arg(alloc, "firmware"))?;
+    on_device(alloc, with_arg(command, name_arg(alloc, "second"))?)
 }
 
 /// The command `report`, which may give JSON.
@@ -65,9 +74,8 @@ fn analyse<'a>(alloc: Global) -> Result<Command<'a>, AllocError>
     ensures app { IfOk result (λ c. app_of c ≡ analyse_app) }
     ensures local { IfOk result (λ c. (fields_of c).has_globals ≡ false) }
 {
-    let mut command = with_arg(Command::new(alloc, "analyse"), name_arg(alloc, "firmware"))?;
-    command = with_arg(command, value_arg(alloc, "assume"))?;
-    with_arg(command, value_arg(alloc, "steps"))
+    let command = with_arg(Command::new(alloc, "analyse"), name_arg(alloc, "firmware"))?;
+    with_arg(on_device(alloc, command)?, value_arg(alloc, "steps"))
 }
 
 /// The command `demo`.

@@ -20,7 +20,11 @@ fn is_refused(word: &str) -> bool
     match word.as_bytes() {
         [] => true,
         [first, ..] => {
-            *first == b'-' && word != "--assume" && word != "--steps" && word != "--json"
+            *first == b'-'
+                && word != "--assume"
+                && word != "--steps"
+                && word != "--device"
+                && word != "--json"
         }
     }
 }

@@ -2,19 +2,30 @@
 use Rattle.std.specs.Prelude.{ℕ, ◌≡◌, ◌==◌, ◌&&◌, not, nat_le, Bool, true, false, List, [], ◌∷◌, Option, Some, None, Result, Ok, Err, is_none, codes, if◌then◌else◌}
 use Rattle.std.specs.Option.{option_map}
 use Rattle.std.specs.Str.{bytes_eq}
+use Rattle.avr_model.specs.declared.device.Device.{Device}
+use Rattle.avr_model.specs.declared.device.Device.TheVariants.{M48, M88, M168, M328}
 use Rattle.sb_base.specs.declared.digits.DigitFault.{DigitFault}
 use Rattle.sb_base.specs.Digits.{dec_answer}
 use Rattle.commands.specs.declared.line.Valued.{Valued}
-use Rattle.commands.specs.declared.line.Valued.TheVariants.{Assume, Steps}
+use Rattle.commands.specs.declared.line.Valued.TheVariants as option
 
--- what is to be done, with the names of the files: judge a certificate, write the least one within a number of rounds if there is
--- one, replay a schedule, judge a certificate and tell what it shows, and measure the analysis by the image of a number
+-- what is to be done for a firmware of which device, with the names of the files: judge a certificate, write the least one within a
+-- number of rounds if there is one, replay a schedule, judge a certificate and tell what it shows, and measure the analysis by the image
+-- of a number
 pub data Command : Type 0 where
-  Check : (firmware certificate : List ℕ) (assume : Option (List ℕ)) → Command
-  Analyse : (firmware : List ℕ) (assume : Option (List ℕ)) (steps : Option ℕ) → Command
-  Run : (firmware schedule : List ℕ) (assume : Option (List ℕ)) → Command
-  Report : (firmware certificate : List ℕ) (assume : Option (List ℕ)) (json : Bool) → Command
+  Check : (device : Device) (firmware certificate : List ℕ) (assume : Option (List ℕ)) → Command
+  Analyse : (device : Device) (firmware : List ℕ) (assume : Option (List ℕ)) (steps : Option ℕ) → Command
+  Run : (device : Device) (firmware schedule : List ℕ) (assume : Option (List ℕ)) → Command
+  Report : (device : Device) (firmware certificate : List ℕ) (assume : Option (List ℕ)) (json : Bool) → Command
   Demo : (size : ℕ) → Command
+
+-- the device that it is for; the image of `demo` is the ATmega328P's
+abbrev pub device_for : Command → Device
+device_for (Check device firmware certificate assume) = device
+device_for (Analyse device firmware assume steps) = device
+device_for (Run device firmware schedule assume) = device
+device_for (Report device firmware certificate assume json) = device
+device_for (Demo size) = M328
 
 -- ---- files
 
@@ -26,18 +37,18 @@ pub data Role : Type 0 where
 
 -- the name of a command's file, if it has one of this role
 abbrev pub name_of : Command → Role → Option (List ℕ)
-name_of (Check firmware certificate assume) Firmware = Some firmware
-name_of (Check firmware certificate assume) Second = Some certificate
-name_of (Check firmware certificate assume) Assumptions = assume
-name_of (Analyse firmware assume steps) Firmware = Some firmware
-name_of (Analyse firmware assume steps) Second = None
-name_of (Analyse firmware assume steps) Assumptions = assume
-name_of (Run firmware schedule assume) Firmware = Some firmware
-name_of (Run firmware schedule assume) Second = Some schedule
-name_of (Run firmware schedule assume) Assumptions = assume
-name_of (Report firmware certificate assume json) Firmware = Some firmware
-name_of (Report firmware certificate assume json) Second = Some certificate
-name_of (Report firmware certificate assume json) Assumptions = assume
+name_of (Check device firmware certificate assume) Firmware = Some firmware
+name_of (Check device firmware certificate assume) Second = Some certificate
+name_of (Check device firmware certificate assume) Assumptions = assume
+name_of (Analyse device firmware assume steps) Firmware = Some firmware
+name_of (Analyse device firmware assume steps) Second = None
+name_of (Analyse device firmware assume steps) Assumptions = assume
+name_of (Run device firmware schedule assume) Firmware = Some firmware
+name_of (Run device firmware schedule assume) Second = Some schedule
+name_of (Run device firmware schedule assume) Assumptions = assume
+name_of (Report device firmware certificate assume json) Firmware = Some firmware
+name_of (Report device firmware certificate assume json) Second = Some certificate
+name_of (Report device firmware certificate assume json) Assumptions = assume
 name_of (Demo size) role = None
 
 -- this is the name of the command's file of this role
@@ -58,11 +69,12 @@ pub record Line : Type 0 where
   pub second : Option (List ℕ)
   pub assume : Option (List ℕ)
   pub steps : Option (List ℕ)
+  pub device : Option (List ℕ)
   pub json : Bool
   pub waits : Option Valued
 
 abbrev pub empty_line : Line
-empty_line = record { first = None; second = None; assume = None; steps = None; json = false; waits = None }
+empty_line = record { first = None; second = None; assume = None; steps = None; device = None; json = false; waits = None }
 
 -- a value where there was none
 abbrev pub once : Option (List ℕ) → List ℕ → Option (Option (List ℕ))
@@ -77,10 +89,15 @@ abbrev pub with_steps : Line → Option (Option (List ℕ)) → Option Line
 with_steps line None = None
 with_steps line (Some value) = Some (record line { steps = value; waits = None })
 
+abbrev pub with_device : Line → Option (Option (List ℕ)) → Option Line
+with_device line None = None
+with_device line (Some value) = Some (record line { device = value; waits = None })
+
 -- the value of an option, which stands at most once
 abbrev pub with_value : Valued → Line → List ℕ → Option Line
-with_value Assume line word = with_assume line (once line.assume word)
-with_value Steps line word = with_steps line (once line.steps word)
+with_value option.Assume line word = with_assume line (once line.assume word)
+with_value option.Steps line word = with_steps line (once line.steps word)
+with_value option.Device line word = with_device line (once line.device word)
 
 -- the name behind those before, of which there are at most two
 abbrev pub named : Option (List ℕ) → Option (List ℕ) → Line → List ℕ → Option Line
@@ -97,10 +114,11 @@ with_json line = if line.json then None else Some (record line { json = true })
 -- a word that is no option's value
 abbrev pub with_free : Line → List ℕ → Option Line
 with_free line word =
-    if bytes_eq word (codes "--assume") then Some (waiting line Assume)
-    else (if bytes_eq word (codes "--steps") then Some (waiting line Steps)
+    if bytes_eq word (codes "--assume") then Some (waiting line option.Assume)
+    else (if bytes_eq word (codes "--steps") then Some (waiting line option.Steps)
+    else (if bytes_eq word (codes "--device") then Some (waiting line option.Device)
     else (if bytes_eq word (codes "--json") then with_json line
-    else (if is_name word then named line.first line.second line word else None)))
+    else (if is_name word then named line.first line.second line word else None))))
 
 abbrev pub placed : Option Valued → Line → List ℕ → Option Line
 placed None line word = with_free line word
@@ -139,40 +157,73 @@ positive (Some n) = if nat_le 1 n then Some n else None
 abbrev pub size_in : List ℕ → Option ℕ
 size_in word = positive (decimal_in word 2000)
 
+-- ---- devices
+
+-- the device of this name
+abbrev pub device_called : List ℕ → Option Device
+device_called word =
+    if bytes_eq word (codes "atmega48pa") then Some M48
+    else (if bytes_eq word (codes "atmega88pa") then Some M88
+    else (if bytes_eq word (codes "atmega168pa") then Some M168
+    else (if bytes_eq word (codes "atmega328p") then Some M328
+    else None)))
+
+-- without a name it is the ATmega328P
+abbrev pub device_in : Option (List ℕ) → Option Device
+device_in None = Some M328
+device_in (Some word) = device_called word
+
 -- ---- commands
 
--- no option is there but `--assume`
+-- no option is there but `--assume` and `--device`
 abbrev pub is_plain : Line → Bool
 is_plain line = is_none line.steps && not line.json
 
 -- no option is there
 abbrev pub is_bare : Line → Bool
-is_bare line = is_none line.assume && is_plain line
+is_bare line = is_none line.assume && is_none line.device && is_plain line
+
+-- what a device makes, if there is one
+abbrev pub on_device : Option Device → (Device → Option Command) → Option Command
+on_device None command = None
+on_device (Some device) command = command device
 
 -- what two names make, and what one makes that is alone
 abbrev pub with_two : Option (List ℕ) → Option (List ℕ) → (List ℕ → List ℕ → Command) → Option Command
 with_two (Some firmware) (Some second) command = Some (command firmware second)
 with_two _ _ command = None
 
-abbrev pub analysed : List ℕ → Option (List ℕ) → Option (Option ℕ) → Option Command
-analysed firmware assume None = None
-analysed firmware assume (Some steps) = Some (Analyse firmware assume steps)
+abbrev pub analysed : Device → List ℕ → Option (List ℕ) → Option (Option ℕ) → Option Command
+analysed device firmware assume None = None
+analysed device firmware assume (Some steps) = Some (Analyse device firmware assume steps)
 
 abbrev pub with_one : Option (List ℕ) → Option (List ℕ) → (List ℕ → Option Command) → Option Command
 with_one (Some word) None command = command word
 with_one _ _ command = None
 
 abbrev pub check_of : Line → Option Command
-check_of line = if is_plain line then with_two line.first line.second (λ firmware certificate. Check firmware certificate line.assume) else None
+check_of line =
+    if is_plain line
+    then on_device (device_in line.device) (λ device. with_two line.first line.second (λ firmware certificate. Check device firmware certificate line.assume))
+    else None
 
 abbrev pub analyse_of : Line → Option Command
-analyse_of line = if line.json then None else with_one line.first line.second (λ firmware. analysed firmware line.assume (steps_in line.steps))
+analyse_of line =
+    if line.json
+    then None
+    else on_device (device_in line.device) (λ device. with_one line.first line.second (λ firmware. analysed device firmware line.assume (steps_in line.steps)))
 
 abbrev pub run_of : Line → Option Command
-run_of line = if is_plain line then with_two line.first line.second (λ firmware schedule. Run firmware schedule line.assume) else None
+run_of line =
+    if is_plain line
+    then on_device (device_in line.device) (λ device. with_two line.first line.second (λ firmware schedule. Run device firmware schedule line.assume))
+    else None
 
 abbrev pub report_of : Line → Option Command
-report_of line = if is_none line.steps then with_two line.first line.second (λ firmware certificate. Report firmware certificate line.assume line.json) else None
+report_of line =
+    if is_none line.steps
+    then on_device (device_in line.device) (λ device. with_two line.first line.second (λ firmware certificate. Report device firmware certificate line.assume line.json))
+    else None
 
 abbrev pub demo_of : Line → Option Command
 demo_of line = if is_bare line then with_one line.first line.second (λ word. option_map Demo (size_in word)) else None
@@ -192,8 +243,8 @@ abbrev pub whole : List ℕ → Option Line → Option Command
 whole word None = None
 whole word (Some line) = if is_none line.waits then called word line else None
 
--- The command that the words are. The first is its name. Of the others, `--assume` and `--steps` take the next word, each option stands
--- at most once and only where the command has it, and what is left are the names in order.
+-- The command that the words are. The first is its name. Of the others, `--assume`, `--steps` and `--device` take the next word, each
+-- option stands at most once and only where the command has it, and what is left are the names in order.
 abbrev pub command_of : List (List ℕ) → Option Command
 command_of [] = None
 command_of (word ∷ words) = whole word (then_words (Some empty_line) words)

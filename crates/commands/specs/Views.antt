@@ -11,11 +11,11 @@ text_of None = None
 text_of (Some text) = Some text.now
 
 abbrev pub line_of : Words → Line
-line_of l = record { first = text_of l.first; second = text_of l.second; assume = text_of l.assume; steps = text_of l.steps; json = l.json; waits = l.waits }
+line_of l = record { first = text_of l.first; second = text_of l.second; assume = text_of l.assume; steps = text_of l.steps; device = text_of l.device; json = l.json; waits = l.waits }
 
 abbrev pub command_seen : Owned → Command
-command_seen (owned.Check firmware certificate assume) = Check firmware.now certificate.now (text_of assume)
-command_seen (owned.Analyse firmware assume steps) = Analyse firmware.now (text_of assume) steps
-command_seen (owned.Run firmware schedule assume) = Run firmware.now schedule.now (text_of assume)
-command_seen (owned.Report firmware certificate assume json) = Report firmware.now certificate.now (text_of assume) json
+command_seen (owned.Check device firmware certificate assume) = Check device firmware.now certificate.now (text_of assume)
+command_seen (owned.Analyse device firmware assume steps) = Analyse device firmware.now (text_of assume) steps
+command_seen (owned.Run device firmware schedule assume) = Run device firmware.now schedule.now (text_of assume)
+command_seen (owned.Report device firmware certificate assume json) = Report device firmware.now certificate.now (text_of assume) json
 command_seen (owned.Demo size) = Demo size

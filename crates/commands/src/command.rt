@@ -2,36 +2,41 @@
 
 ghost use Rattle.std.specs.Prelude.{◌≡◌, map, None, Some};
 ghost use Rattle.std.specs.Option.{option_map};
-ghost use Rattle.commands.specs.Commands.{Firmware, Second, Assumptions, name_of, empty_line, then_words, steps_in, size_in, is_plain, is_bare, check_of, analyse_of, run_of, report_of, demo_of, called, whole, command_of};
+ghost use Rattle.commands.specs.Commands.{Firmware, Second, Assumptions, device_for, name_of, empty_line, then_words, steps_in, size_in, device_called, device_in, is_plain, is_bare, check_of, analyse_of, run_of, report_of, demo_of, called, whole, command_of};
 ghost use Rattle.commands.specs.Views.{text_of, line_of, command_seen};
 
 use crate::line::Line;
 use crate::size::Size;
+use avr_model::device::Device;
 use sb_base::read_dec;
 
-/// What the program is to do, with the names of the files.
+/// What the program is to do for a firmware of which device, with the names of the files.
 #[derive(Clone, Copy, PartialEq, Eq)]
 pub enum Command<'a> {
     /// Judges a certificate for a firmware.
     Check {
+        device: Device,
         firmware: &'a str,
         certificate: &'a str,
         assume: Option<&'a str>,
     },
     /// Writes the least certificate of a firmware, if the rounds end within so many steps.
     Analyse {
+        device: Device,
         firmware: &'a str,
         assume: Option<&'a str>,
         steps: Option<u64>,
     },
     /// Replays a schedule on a firmware.
     Run {
+        device: Device,
         firmware: &'a str,
         schedule: &'a str,
         assume: Option<&'a str>,
     },
     /// Judges a certificate for a firmware, and tells what it shows, in lines of text or as JSON.
     Report {
+        device: Device,
         firmware: &'a str,
         certificate: &'a str,
         assume: Option<&'a str>,
@@ -44,6 +49,19 @@ pub enum Command<'a> {
 }
 
 impl<'a> Command<'a> {
+    /// The device that it is for.
+    pub fn device(&self) -> Device
+        ensures { result ≡ device_for (command_seen self.now) }
+    {
+        match *self {
+            Command::Check { device, .. } => device,
+            Command::Analyse { device, .. } => device,
+            Command::Run { device, .. } => device,
+            Command::Report { device, .. } => device,
+            Command::Demo { .. } => Device::M328,
+        }
+    }
+
     /// The name of the firmware, which is read first.
     pub fn firmware(&self) -> Option<&'a str>
         ensures { name_of (command_seen self.now) Firmware ≡ text_of result }
@@ -84,7 +102,7 @@ impl<'a> Command<'a> {
     }
 }
 
-/// Whether no option is there but `--assume`.
+/// Whether no option is there but `--assume` and `--device`.
 fn is_plain(line: &Line<'_>) -> bool
     ensures { result ≡ is_plain (line_of line.now) }
 {
@@ -95,7 +113,7 @@ fn is_plain(line: &Line<'_>) -> bool
 fn is_bare(line: &Line<'_>) -> bool
     ensures { result ≡ is_bare (line_of line.now) }
 {
-    line.assume.is_none() && is_plain(line)
+    line.assume.is_none() && line.device.is_none() && is_plain(line)
 }
 
 /// The number of rounds, if there is one.
@@ -127,6 +145,33 @@ fn size_in(word: &str) -> Option<Size>
     }
 }
 
+/// The device of this name.
+fn device_called(word: &str) -> Option<Device>
+    ensures { result ≡ device_called word.now }
+{
+    if word == "atmega48pa" {
+        Some(Device::M48)
+    } else if word == "atmega88pa" {
+        Some(Device::M88)
+    } else if word == "atmega168pa" {
+        Some(Device::M168)
+    } else if word == "atmega328p" {
+        Some(Device::M328)
+    } else {
+        None
+    }
+}
+
+/// The device of a name that there may be; without one it is the ATmega328P.
+fn device_in(word: Option<&str>) -> Option<Device>
+    ensures { result ≡ device_in (text_of word.entry) }
+{
+    match word {
+        Some(word) => device_called(word),
+        None => Some(Device::M328),
+    }
+}
+
 fn check_of<'a>(line: Line<'a>) -> Option<Command<'a>>
     ensures { option_map command_seen result ≡ check_of (line_of line.entry) }
 {
@@ -134,6 +179,7 @@ fn check_of<'a>(line: Line<'a>) -> Option<Command<'a>>
         return None;
     }
     Some(Command::Check {
+        device: device_in(line.device)?,
         firmware: line.first?,
         certificate: line.second?,
         assume: line.assume,
@@ -147,6 +193,7 @@ fn analyse_of<'a>(line: Line<'a>) -> Option<Command<'a>>
         return None;
     }
     Some(Command::Analyse {
+        device: device_in(line.device)?,
         firmware: line.first?,
         assume: line.assume,
         steps: steps_in(line.steps)?,
@@ -160,6 +207,7 @@ fn run_of<'a>(line: Line<'a>) -> Option<Command<'a>>
         return None;
     }
     Some(Command::Run {
+        device: device_in(line.device)?,
         firmware: line.first?,
         schedule: line.second?,
         assume: line.assume,
@@ -173,6 +221,7 @@ fn report_of<'a>(line: Line<'a>) -> Option<Command<'a>>
         return None;
     }
     Some(Command::Report {
+        device: device_in(line.device)?,
         firmware: line.first?,
         certificate: line.second?,
         assume: line.assume,
@@ -210,7 +259,7 @@ fn called<'a>(word: &str, line: Line<'a>) -> Option<Command<'a>>
     }
 }
 
-/// The line with all these words more, if each can stand where it does. At most seven can.
+/// The line with all these words more, if each can stand where it does. At most nine can.
 fn line_with<'a>(line: Line<'a>, words: &'a [&'a str]) -> Option<Line<'a>>
     ensures { option_map line_of result ≡ then_words (Some (line_of line.entry)) (map (λ w. w.now) words.now) }
 {
@@ -230,8 +279,9 @@ fn whole<'a>(word: &str, line: Line<'a>) -> Option<Command<'a>>
     }
 }
 
-/// The command that the words are, if they are one. The first is its name. Of the others, `--assume` and `--steps` take the
-/// next word, each option stands at most once and only where the command has it, and what is left are the names in order.
+/// The command that the words are, if they are one. The first is its name. Of the others, `--assume`, `--steps` and
+/// `--device` take the next word, each option stands at most once and only where the command has it, and what is left are
+/// the names in order.
 pub fn command_of<'a>(words: &'a [&'a str]) -> Option<Command<'a>>
     ensures { option_map command_seen result ≡ command_of (map (λ w. w.now) words.now) }
 {

@@ -10,6 +10,7 @@ ghost use Rattle.commands.specs.Views.{text_of, line_of};
 pub enum Valued {
     Assume,
     Steps,
+    Device,
 }
 
 /// The first two names in their order, the options with their values, and the option whose value is the next word.
@@ -19,6 +20,7 @@ pub struct Line<'a> {
     pub second: Option<&'a str>,
     pub assume: Option<&'a str>,
     pub steps: Option<&'a str>,
+    pub device: Option<&'a str>,
     pub json: bool,
     pub waits: Option<Valued>,
 }
@@ -42,6 +44,7 @@ impl<'a> Line<'a> {
             second: None,
             assume: None,
             steps: None,
+            device: None,
             json: false,
             waits: None,
         }
@@ -63,6 +66,14 @@ impl<'a> Line<'a> {
                 Some(_) => None,
                 None => Some(Line {
                     steps: Some(word),
+                    waits: None,
+                    ..self
+                }),
+            },
+            Valued::Device => match self.device {
+                Some(_) => None,
+                None => Some(Line {
+                    device: Some(word),
                     waits: None,
                     ..self
                 }),
@@ -114,6 +125,8 @@ impl<'a> Line<'a> {
             self.waiting(Valued::Assume)
         } else if word == "--steps" {
             self.waiting(Valued::Steps)
+        } else if word == "--device" {
+            self.waiting(Valued::Device)
         } else if word == "--json" {
             self.with_json()
         } else if is_name(word) {

@@ -1,6 +1,10 @@
 -- Edges between nodes that the analysis works with lead to such nodes.
-use Rattle.std.proofs.Common.{◌≡◌, ◌≢◌, sym, ap, subst, ℕ, ◌^◌, ◌<◌, ◌≤◌, true, List, Some, Contains, arith}
+use Rattle.std.proofs.Common.{◌≡◌, ◌≢◌, sym, ap, subst, ℕ, ◌^◌, ◌<◌, ◌≤◌, true, List, Option, Some, Contains, arith}
 use Rattle.std.proofs.lemmas.Bool.Decides.{nat_tests}
+use Rattle.avr_model.proofs.AllLaws.{devices_are_alike}
+use Rattle.avr_model.specs.Devices.{device_of}
+use Rattle.avr_model.specs.declared.device.Device.{Device}
+use Rattle.avr_model.specs.declared.device.Device.TheVariants.{M48, M88, M168, M328}
 use Rattle.avr_model.specs.declared.assumption.Entry.{Entry}
 use Rattle.avr_model.specs.Image.{WORDS}
 use Rattle.avr_model.specs.Vectors.{is_enabled, vector_word}
@@ -13,16 +17,17 @@ use Rattle.abs_state.proofs.AllLaws.{reset_stands, entries_are_true, returns_are
 use Rattle.mask_states.specs.declared.keys.InstKey.{InstKey}
 use Rattle.mask_states.specs.declared.keys.NodeKey.{NodeKey}
 use Rattle.mask_states.specs.declared.keys.EdgeKind.{EdgeKind}
+use Rattle.mask_states.specs.declared.keys.EdgeKind.TheVariants as kind
 use Rattle.mask_states.specs.declared.keys.Kind.TheVariants.{Root}
 use Rattle.mask_states.specs.declared.keys.SpForm.TheVariants.{Closed}
-use Rattle.mask_states.specs.Keys.{root_inst, entry_key, offset_of}
+use Rattle.mask_states.specs.Keys.{root_inst, entry_key, offset_of, PickFits}
 use Rattle.local_rules.specs.declared.local.Node.{Node}
 use Rattle.local_rules.specs.declared.local.Exit.{Exit}
 use Rattle.local_rules.specs.Cover.{IsNode}
 use Rattle.local_laws.specs.Laws.{AreNodes}
 use Rattle.local_laws.proofs.AllLaws.{joins_are_least, local_parts_are_nodes, local_parts_fit}
 use Rattle.edge_rules.specs.declared.edge.Edge.{Edge}
-use Rattle.edge_rules.specs.Edges.{called_inst, vector_inst, returned_key, raw_of, Enters, by_call, by_interrupt, IsEdge, moving, entering, returning, Leads, along_move, along_entry, along_return}
+use Rattle.edge_rules.specs.Edges.{called_inst, vector_inst, pick_back, returned_key, raw_of, Enters, by_call, by_interrupt, IsEdge, moving, entering, returning, Leads, along_move, along_entry, along_return}
 use Rattle.edge_laws.specs.Laws.{EdgesLeadToNodes}
 
 -- ---- entries
@@ -33,9 +38,10 @@ reset_node = record {
   small = omega arith;
   masks = omega arith;
   fits = tt;
+  pick = tt;
   formed = reset_stands.formed;
   tags = tags_stay_fit.at_reset;
-  borrow_bytes = tt;
+  carry_bytes = tt;
   untagged = λ kind. reset_stands.untagged;
 }
 
@@ -45,25 +51,30 @@ entry_node s offset inst formed other word masks = record {
   small = omega arith;
   masks = masks;
   fits = tt;
+  pick = tt;
   formed = entries_are_true.formed s offset formed;
   tags = (tags_stay_fit.at_entry s).0;
-  borrow_bytes = (tags_stay_fit.at_entry s).1;
+  carry_bytes = (tags_stay_fit.at_entry s).1;
   untagged = λ kind. absurd (other kind);
 }
 
 enabled_small : (enables v : ℕ) → is_enabled enables v ≡ true → v ≤ 26
 enabled_small enables v e = grind (arith, nat_tests)
 
-vector_small : (v : ℕ) → v ≤ 26 → vector_word v < WORDS
-vector_small v h = omega arith
+vector_small : (device : Device) (v : ℕ) → v ≤ 26 → vector_word device v < WORDS
+vector_small M48 v h = omega arith
+vector_small M88 v h = omega arith
+vector_small M168 v h = omega arith
+vector_small M328 v h = omega arith
 
 entered_node : (words : List ℕ) (A : List Entry) (n : Node) (way : EdgeKind) (inst : InstKey) (back : ℕ) → IsNode n.key n.state → Enters words A n way inst back
     → IsNode (entry_key inst) (entered n.state) × (back < WORDS)
 entered_node words A n _ _ _ node (by_call offset site faultless form member) =
-    let words_of = (local_parts_fit.fit words A n.key n.state).calls site member in
-    (entry_node n.state (offset_of n.key.sp) (called_inst n.key site.entry) node.formed (λ kind. absurd (cc)) words_of.0 node.masks, words_of.1)
+    let lead = (local_parts_fit.fit words A n.key n.state).calls site member in
+    let few = devices_are_alike.most_words (device_of words) in
+    (entry_node n.state (offset_of n.key.sp) (called_inst n.key site.entry) node.formed (λ kind. absurd (cc)) (omega (arith, lead.0, few)) node.masks, omega (arith, lead.1, few))
 entered_node words A n _ _ _ node (by_interrupt offset v clears faultless form i delay enabled clearable) = (
-  entry_node n.state (offset_of n.key.sp) (vector_inst n.key v clears) node.formed (λ kind. absurd (cc)) (vector_small v (enabled_small n.key.masks v enabled))
+  entry_node n.state (offset_of n.key.sp) (vector_inst words n.key v clears) node.formed (λ kind. absurd (cc)) (vector_small (device_of words) v (enabled_small n.key.masks v enabled))
       (enables_are_vectors.taken n.key.masks clears node.masks),
   node.word,
 )
@@ -73,9 +84,15 @@ entered_node words A n _ _ _ node (by_interrupt offset v clears faultless form i
 pub at_base : (k : NodeKey) (s : AbsState) → IsNode k s → k.sp ≡ Closed 0 → IsFormed s 0
 at_base k s node e = subst (IsFormed s) (ap offset_of e) node.formed
 
-returned_node : (words : List ℕ) (A : List Entry) (n leaver : Node) (back : ℕ) (x : Exit) (t : AbsState) → IsNode n.key n.state → back < WORDS
-    → IsNode leaver.key leaver.state → (raw_of words A leaver).exit ≡ Some x → returned n.state leaver.state ≡ Some t → IsNode (returned_key n.key back x) t
-returned_node words A n leaver back x t node word other exit is =
+pick_fits : (way : EdgeKind) (pick : Option ℕ) → PickFits pick → PickFits (pick_back way pick)
+pick_fits kind.Local pick fits = tt
+pick_fits kind.Call pick fits = tt
+pick_fits (kind.Interrupt v clears) pick fits = fits
+pick_fits kind.Return pick fits = tt
+
+returned_node : (words : List ℕ) (A : List Entry) (way : EdgeKind) (n leaver : Node) (back : ℕ) (x : Exit) (t : AbsState) → IsNode n.key n.state → back < WORDS
+    → IsNode leaver.key leaver.state → (raw_of words A leaver).exit ≡ Some x → returned n.state leaver.state ≡ Some t → IsNode (returned_key way n.key back x) t
+returned_node words A way n leaver back x t node word other exit is =
     let left = (local_parts_fit.fit words A leaver.key leaver.state).exit x exit in
     let base = at_base leaver.key leaver.state other left.0 in
     record {
@@ -83,9 +100,10 @@ returned_node words A n leaver back x t node word other exit is =
       small = node.small;
       masks = subst (λ (m : ℕ). m < 2 ^ 25) (sym left.1) other.masks;
       fits = node.fits;
+      pick = pick_fits way n.key.pick node.pick;
       formed = returns_are_true.formed n.state leaver.state t (offset_of n.key.sp) node.formed base is;
       tags = tags_stay_fit.at_return n.state leaver.state t node.formed.count_registers node.tags is;
-      borrow_bytes = tags_stay_fit.carry_at_return n.state leaver.state t node.borrow_bytes is;
+      carry_bytes = tags_stay_fit.carry_at_return n.state leaver.state t node.carry_bytes is;
       untagged = λ kind. returns_are_true.untagged n.state leaver.state t (offset_of n.key.sp) node.formed base (node.untagged kind) is;
     }
 
@@ -96,7 +114,7 @@ lead_node : (words : List ℕ) (A : List Entry) (nodes : List Node) (n to : Node
 lead_node words A nodes n _ are here (along_move to faultless member) = (local_parts_are_nodes.nodes words A n.key n.state to (are n here) faultless member).1
 lead_node words A nodes n _ are here (along_entry way inst back enters) = (entered_node words A n way inst back (are n here) enters).0
 lead_node words A nodes n _ are here (along_return way inst back leaver x state enters present same faultless exit is) =
-    returned_node words A n leaver back x state (are n here) (entered_node words A n way inst back (are n here) enters).1 (are leaver present) exit is
+    returned_node words A way n leaver back x state (are n here) (entered_node words A n way inst back (are n here) enters).1 (are leaver present) exit is
 
 edge_node : (words : List ℕ) (A : List Entry) (nodes : List Node) (n : Node) (e : Edge) → AreNodes nodes → Contains nodes n → IsEdge words A nodes n e
     → IsNode e.to e.state
@@ -104,7 +122,7 @@ edge_node words A nodes n _ are here (moving to faultless member) =
     joins_are_least.nodes (raw_of words A n).moves (λ m i. (local_parts_are_nodes.nodes words A n.key n.state m (are n here) faultless i).1) to member
 edge_node words A nodes n _ are here (entering way inst back enters) = (entered_node words A n way inst back (are n here) enters).0
 edge_node words A nodes n _ are here (returning way inst back leaver x state enters present same faultless exit is) =
-    returned_node words A n leaver back x state (are n here) (entered_node words A n way inst back (are n here) enters).1 (are leaver present) exit is
+    returned_node words A way n leaver back x state (are n here) (entered_node words A n way inst back (are n here) enters).1 (are leaver present) exit is
 
 pub edges_lead_to_nodes : EdgesLeadToNodes
 edges_lead_to_nodes = record {

@@ -1,13 +1,15 @@
 -- The frames of a machine's state: the running one, and those that were left by a call or an interrupt, the latest first. Source: own.
 use Rattle.std.specs.Prelude.{ℕ, ◌+◌, ◌-◌, ◌≡◌, ◌<◌, ⊤, Bool, true, List, [], ◌∷◌, length, Some, Contains}
+use Rattle.avr_model.specs.Devices.{ramend, device_of}
 use Rattle.avr_model.specs.declared.assumption.Entry.{Entry}
 use Rattle.avr_model.specs.declared.choice.Choice.{Choice}
 use Rattle.avr_model.specs.declared.choice.Choice.TheVariants.{Go, Take}
-use Rattle.avr_model.specs.State.{State, Memory, RAMEND, byte_in, is_live, low, high}
+use Rattle.avr_model.specs.Sreg.{flag}
+use Rattle.avr_model.specs.State.{State, Memory, byte_in, is_live, low, high}
 use Rattle.avr_model.specs.Step.{Answer, Illegal, Undefined, Overflow, Flagged, Done}
 use Rattle.sp_domain.specs.declared.slots.Slot.{Slot}
 use Rattle.sp_domain.specs.declared.slots.Slot.TheVariants.{Guarded}
-use Rattle.sp_domain.specs.Tags.{Origin}
+use Rattle.sp_domain.specs.Tags.{Origin, LessHolds}
 use Rattle.sp_domain.specs.Slots.{slot_at}
 use Rattle.abs_state.specs.declared.state.AbsState.{AbsState}
 use Rattle.abs_state.specs.declared.values.AbsByte.{AbsByte}
@@ -40,6 +42,7 @@ pub record IsLeft (words : List ℕ) (A : List Entry) (f : Family) (memory : Mem
   pub present : Contains f.nodes g.node
   pub registers : RegistersStand g.origin g.node.state.registers o.registers
   pub flags : FlagsStand g.origin g.node.state.flags o.sreg
+  pub less : LessHolds o.registers g.node.state.flags.carry (flag o.sreg 0)
   pub slots : SlotsStand g.origin memory g.node.state.slots
   pub offset : ℕ
   pub closed : g.node.key.sp ≡ Closed offset
@@ -55,11 +58,12 @@ pub record IsLeft (words : List ℕ) (A : List Entry) (f : Family) (memory : Mem
 
 -- the frames that were left, below a frame of this instance and origin; the last of them is the root's, or this one is
 abbrev pub AreLeft : List ℕ → List Entry → Family → Memory → List Frame → InstKey → Origin → Type 0
-AreLeft words A f memory [] inst o = (inst ≡ root_inst) × (o.base ≡ RAMEND)
+AreLeft words A f memory [] inst o = (inst ≡ root_inst) × (o.base ≡ ramend (device_of words))
 AreLeft words A f memory (g ∷ gs) inst o = IsLeft words A f memory g inst o × AreLeft words A f memory gs g.node.key.inst g.origin
 
--- the machine runs in the frame g, above the frames gs
+-- the machine is of the device of these words, and runs in the frame g, above the frames gs
 pub record Runs (words : List ℕ) (A : List Entry) (f : Family) (m : State) (g : Frame) (gs : List Frame) : Type 0 where
+  pub device : m.device ≡ device_of words
   pub present : Contains f.nodes g.node
   pub running : InFrame m g.origin g.node.key g.node.state
   pub left : AreLeft words A f m.memory gs g.node.key.inst g.origin
@@ -71,7 +75,7 @@ HasFrames words A f m = (g : Frame) × (gs : List Frame) × Runs words A f m g g
 -- the machine has the root's frame alone, as reset leaves it
 pub record HasRootFrame (words : List ℕ) (A : List Entry) (f : Family) (m : State) : Type 0 where
   pub state : AbsState
-  pub runs : Runs words A f m (record { node = record { key = entry_key root_inst; state = state }; origin = record { registers = m.registers; sreg = m.sreg; base = RAMEND } }) []
+  pub runs : Runs words A f m (record { node = record { key = entry_key root_inst; state = state }; origin = record { registers = m.registers; sreg = m.sreg; base = ramend (device_of words) } }) []
   pub above : IsStateWithin root state
 
 -- ---- one step
@@ -90,10 +94,10 @@ pub data Change (words : List ℕ) (A : List Entry) (g : Frame) (gs : List Frame
   returned_to : (b1 b2 : ℕ) (h : Frame) (hs : List Frame) (way : EdgeKind) (back : ℕ) (x : Exit) (after state : AbsState) → gs ≡ h ∷ hs
       → Enters words A h.node way g.node.key.inst back → IsFaultless words A g.node → (raw_of words A g.node).exit ≡ Some x
       → returned h.node.state g.node.state ≡ Some after → IsStateWithin after state
-      → Change words A g gs (Go b1 b2) (record { node = record { key = returned_key h.node.key back x; state = state }; origin = h.origin }) hs
-  interrupted : (v : ℕ) (clears : Bool) (state : AbsState) (o : Origin) → Enters words A g.node (kind.Interrupt v clears) (vector_inst g.node.key v clears) g.node.key.pc
+      → Change words A g gs (Go b1 b2) (record { node = record { key = returned_key way h.node.key back x; state = state }; origin = h.origin }) hs
+  interrupted : (v : ℕ) (clears : Bool) (state : AbsState) (o : Origin) → Enters words A g.node (kind.Interrupt v clears) (vector_inst words g.node.key v clears) g.node.key.pc
       → IsStateWithin (entered g.node.state) state
-      → Change words A g gs (Take v clears) (record { node = record { key = entry_key (vector_inst g.node.key v clears); state = state }; origin = o })
+      → Change words A g gs (Take v clears) (record { node = record { key = entry_key (vector_inst words g.node.key v clears); state = state }; origin = o })
       (g ∷ gs)
 
 -- the machine has frames, by one change of these
@@ -141,15 +145,15 @@ pub record HasReturned (words : List ℕ) (A : List Entry) (f : Family) (g : Fra
   pub returns : returned caller.node.state g.node.state ≡ Some after
   pub state : AbsState
   pub above : IsStateWithin after state
-  pub runs : Runs words A f n (record { node = record { key = returned_key caller.node.key back exit; state = state }; origin = caller.origin }) rest
+  pub runs : Runs words A f n (record { node = record { key = returned_key way caller.node.key back exit; state = state }; origin = caller.origin }) rest
 
 -- the frame of this interrupt is added
 pub record HasInterrupted (words : List ℕ) (A : List Entry) (f : Family) (g : Frame) (gs : List Frame) (v : ℕ) (clears : Bool) (n : State) : Type 0 where
-  pub enters : Enters words A g.node (kind.Interrupt v clears) (vector_inst g.node.key v clears) g.node.key.pc
+  pub enters : Enters words A g.node (kind.Interrupt v clears) (vector_inst words g.node.key v clears) g.node.key.pc
   pub state : AbsState
   pub above : IsStateWithin (entered g.node.state) state
   pub origin : Origin
-  pub runs : Runs words A f n (record { node = record { key = entry_key (vector_inst g.node.key v clears); state = state }; origin = origin }) (g ∷ gs)
+  pub runs : Runs words A f n (record { node = record { key = entry_key (vector_inst words g.node.key v clears); state = state }; origin = origin }) (g ∷ gs)
 
 -- ---- the bytes that the frames stand for
 

@@ -10,7 +10,7 @@ ghost use Rattle.family_table.specs.Ports.{ports_at, IsAdded, MoreKeys, AreOnce}
 use avr_model::listed::Listed;
 use indexmap::IndexMap;
 use local_rules::Exit;
-use mask_states::{InstKey, NodeKey};
+use mask_states::{EdgeKind, InstKey, NodeKey};
 use std::alloc::{AllocError, Global};
 use std::hash::{Hash, Hasher};
 use std::marker::Model;
@@ -20,6 +20,8 @@ use std::marker::Model;
 pub struct Port {
     /// The node.
     pub node: NodeKey,
+    /// How it enters the instance, or `Return` where it leaves its own.
+    pub kind: EdgeKind,
     /// The instance that it enters, or its own.
     pub inst: InstKey,
     /// The word at which it goes on after the return from there.

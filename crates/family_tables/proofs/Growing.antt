@@ -1,5 +1,5 @@
 -- Lists of nodes that are given by their states or by earlier ones, as they grow.
-use Rattle.std.proofs.Common.{◌≡◌, refl, sym, ap, subst, ℕ, zero, suc, ◌^◌, ◌<◌, ◌≤◌, ⊎_elim, [], ◌∷◌, ◌++◌, length, map, Some, slice_get, replicate, length-append, arith}
+use Rattle.std.proofs.Common.{◌≡◌, refl, sym, ap, subst, ℕ, zero, suc, ◌^◌, ◌<◌, ◌≤◌, ⊎_elim, [], ◌∷◌, ◌++◌, length, map, Some, None, slice_get, replicate, length-append, arith}
 use Rattle.std.specs.List.{AllByRecursion}
 use Rattle.std.specs.List.Sorted.{IsStrictlySortedBy}
 use Rattle.std.specs.declared.cmp.Ordering.TheVariants.{Less}
@@ -12,7 +12,7 @@ use Rattle.abs_state.specs.Formed.{IsFormed}
 use Rattle.abs_state.proofs.AllLaws.{reset_stands}
 use Rattle.mask_states.specs.declared.keys.NodeKey.{NodeKey}
 use Rattle.mask_states.specs.declared.keys.SpForm.TheVariants.{Closed}
-use Rattle.mask_states.specs.Keys.{offset_of}
+use Rattle.mask_states.specs.Keys.{offset_of, PickFits}
 use Rattle.mask_states.specs.Order.{node_cmp}
 use Rattle.local_rules.specs.Cover.{FormFitsKind, TagFits, IsNode}
 use Rattle.edge_rules.specs.declared.seeded.NodeForm.{NodeForm}
@@ -26,15 +26,16 @@ unknown_fits zero r = tt
 unknown_fits (suc n) zero = tt
 unknown_fits (suc n) (suc r) = unknown_fits n r
 
-pub root_node : (k : NodeKey) → k.pc < WORDS → k.masks < 2 ^ 25 → k.sp ≡ Closed 0 → IsNode k root
-root_node k word masks closed = record {
+pub root_node : (k : NodeKey) → k.pc < WORDS → k.masks < 2 ^ 25 → k.sp ≡ Closed 0 → k.pick ≡ None → IsNode k root
+root_node k word masks closed unpicked = record {
   word = word;
   small = subst (λ p. offset_of p ≤ SIZE) (sym closed) (omega arith);
   masks = masks;
   fits = subst (FormFitsKind k.inst.kind) (sym closed) tt;
+  pick = subst PickFits (sym unpicked) tt;
   formed = subst (λ p. IsFormed root (offset_of p)) (sym closed) reset_stands.formed;
   tags = record { registers = λ r lt. unknown_fits 32 r; slots = λ d lt. absurd (omega arith) };
-  borrow_bytes = tt;
+  carry_bytes = tt;
   untagged = λ kind. reset_stands.untagged;
 }
 
@@ -69,10 +70,10 @@ state_is s t e = cc
 from_is : (m n : ℕ) → From m ≡ From n → m ≡ n
 from_is m n e = cc
 
-pub with_root : (xs : Seeds) (k : NodeKey) → AreSeeds xs → length xs < 65536 → k.pc < WORDS → k.masks < 2 ^ 25 → k.sp ≡ Closed 0
+pub with_root : (xs : Seeds) (k : NodeKey) → AreSeeds xs → length xs < 65536 → k.pc < WORDS → k.masks < 2 ^ 25 → k.sp ≡ Closed 0 → k.pick ≡ None
     → AreSeeds (xs ++ (k, State root) ∷ [])
-with_root xs k seeds few word masks closed =
-    pushed_seeds xs k (State root) seeds few (λ s e. subst (IsNode k) (state_is root s e) (root_node k word masks closed)) (λ m e. absurd (cc))
+with_root xs k seeds few word masks closed unpicked =
+    pushed_seeds xs k (State root) seeds few (λ s e. subst (IsNode k) (state_is root s e) (root_node k word masks closed unpicked)) (λ m e. absurd (cc))
 
 pub with_from : (xs : Seeds) (k : NodeKey) (m : ℕ) → AreSeeds xs → length xs < 65536 → m < length xs → AreSeeds (xs ++ (k, From m) ∷ [])
 with_from xs k m seeds few lt =

@@ -14,6 +14,7 @@ use Rattle.local_laws.proofs.AllLaws.{here, there}
 use Rattle.edge_rules.specs.Examples.{callee}
 use Rattle.edge_rules.specs.Expansion.{Seeds}
 use Rattle.edge_laws.proofs.AllLaws.{edges_lead_to_nodes}
+use Rattle.certificate.specs.declared.version.Version.TheVariants.{Two}
 use Rattle.certificate.specs.declared.instance.Inst.{Inst}
 use Rattle.certificate.specs.Claims.{IsClaim, FitsAt, cells_of}
 use Rattle.family_tables.specs.Examples.{behind, form_by, nodes_by, insts_by}
@@ -29,9 +30,10 @@ behind_is_node =
       small = r.small;
       masks = r.masks;
       fits = r.fits;
+      pick = r.pick;
       formed = r.formed;
       tags = r.tags;
-      borrow_bytes = r.borrow_bytes;
+      carry_bytes = r.carry_bytes;
       untagged = r.untagged;
     }
 
@@ -41,20 +43,21 @@ callee_is_node = record {
   small = omega arith;
   masks = omega arith;
   fits = tt;
+  pick = tt;
   formed = entries_are_true.formed root 0 edges_lead_to_nodes.reset.formed;
   tags = (tags_stay_fit.at_entry root).0;
-  borrow_bytes = (tags_stay_fit.at_entry root).1;
+  carry_bytes = (tags_stay_fit.at_entry root).1;
   untagged = λ e. absurd (cc);
 }
 
 behind_fits : (from : Bool) → FitsAt 1 behind (form_by from)
 behind_fits true =
     let r = behind_is_node in
-    (record { word = r.word; small = r.small; masks = r.masks; fits = r.fits }, omega arith)
+    (record { word = r.word; small = r.small; masks = r.masks; fits = r.fits; pick = r.pick }, omega arith)
 behind_fits false = behind_is_node
 
 module _ (bound rank need : ℕ) (from : Bool) (b : bound ≤ SIZE) (r : rank < 65536) (n : need ≤ SIZE) where
-  sample : IsClaim (record { bound = bound; assumptions = []; instances = insts_by rank need; nodes = nodes_by from; witness = None })
+  sample : IsClaim (record { version = Two; bound = bound; assumptions = []; instances = insts_by rank need; nodes = nodes_by from; witness = None })
   unfolding IsStrictlySortedBy inst_cmp node_cmp inst_numbers node_numbers cells_of
   sample = record {
     bound_fits = b;
@@ -67,11 +70,12 @@ module _ (bound rank need : ℕ) (from : Bool) (b : bound ≤ SIZE) (r : rank < 
     nodes_ascend = ((refl, (refl, tt)), ((refl, tt), (tt, tt)));
     few_nodes = omega arith;
     few_cells = omega arith;
+    of_version = tt;
   }
 
   pub sample_claim : (A : List Entry) (insts : List Inst) (nodes : Seeds) → A ≡ [] → insts ≡ insts_by rank need → nodes ≡ nodes_by from
-      → IsClaim (record { bound = bound; assumptions = A; instances = insts; nodes = nodes; witness = None })
+      → IsClaim (record { version = Two; bound = bound; assumptions = A; instances = insts; nodes = nodes; witness = None })
   sample_claim A insts nodes ea ei en =
-      subst (λ x. IsClaim (record { bound = bound; assumptions = x; instances = insts; nodes = nodes; witness = None })) (sym ea)
-      (subst (λ x. IsClaim (record { bound = bound; assumptions = []; instances = x; nodes = nodes; witness = None })) (sym ei)
-      (subst (λ x. IsClaim (record { bound = bound; assumptions = []; instances = insts_by rank need; nodes = x; witness = None })) (sym en) sample))
+      subst (λ x. IsClaim (record { version = Two; bound = bound; assumptions = x; instances = insts; nodes = nodes; witness = None })) (sym ea)
+      (subst (λ x. IsClaim (record { version = Two; bound = bound; assumptions = []; instances = x; nodes = nodes; witness = None })) (sym ei)
+      (subst (λ x. IsClaim (record { version = Two; bound = bound; assumptions = []; instances = insts_by rank need; nodes = x; witness = None })) (sym en) sample))

@@ -28,7 +28,7 @@ module _ (words : List ℕ) (A : List Entry) (f : Family) (old new : Notes) (xs 
         let w = h.has.one in
         let at : y ≡ (w.inst, caller h.one.key w) = h.has.has in
         subst (λ (z : InstKey × Port). IsCaller words A f z.0 z.1) (sym at)
-        (record { node = seen_node words A f h.one is; has = is.has; at = refl; way = w.kind; enters = (look_way words A f h.one is w).0 h.has.member })
+        (record { node = seen_node words A f h.one is; has = is.has; at = refl; enters = (look_way words A f h.one is w).0 h.has.member })
 
     leaves_so : (y : InstKey × Port) → AnyHas xs LeavesAt y → IsLeaver words A f y.0 y.1
     leaves_so y h =

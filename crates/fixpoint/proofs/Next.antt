@@ -51,8 +51,7 @@ module _ (words : List ℕ) (A : List Entry) where
           node = m;
           has = l.is;
           at = c.at;
-          way = c.way;
-          enters = edges_grow.enters words A c.node l.at c.way inst p.back (low c.node c.has) (high m l.is) l.above (clean m l.is) c.enters;
+          enters = edges_grow.enters words A c.node l.at p.kind inst p.back (low c.node c.has) (high m l.is) l.above (clean m l.is) c.enters;
         }
 
     leaver_up : (inst : InstKey) (p : Port) → IsLeaver words A f inst p → IsLeaver words A g inst p

@@ -1,7 +1,8 @@
 -- What the tests of a round tell of the family.
-use Rattle.std.proofs.Common.{◌≡◌, ◌≢◌, sym, subst, ℕ, ◌≤◌, List, Some, None, Result, Ok, Err, IfErr, Contains, length, arith}
+use Rattle.std.proofs.Common.{◌≡◌, ◌≢◌, refl, sym, subst, ℕ, ◌≤◌, List, Some, None, Result, Ok, Err, IfErr, Contains, length, arith}
 use Rattle.std.specs.Result.{IsErrAnd}
 use Rattle.avr_model.specs.declared.assumption.Entry.{Entry}
+use Rattle.avr_model.specs.Devices.{device_of, size_of}
 use Rattle.mask_states.specs.declared.keys.NodeKey.{NodeKey}
 use Rattle.mask_states.specs.Keys.{root_inst, offset_of}
 use Rattle.local_rules.specs.declared.local.Node.{Node}
@@ -57,12 +58,12 @@ module _ (words : List ℕ) (A : List Entry) where
     told_by (weight.Recursion word) r t is real = record { test = recursion word; holds = (fits, known.faultless, t); is = is }
     told_by (weight.TooDeep d) r t is real = record { test = too_deep d; holds = (fits, known.faultless, t.0, t.1, t.2); is = is }
 
-    pub told_stops : (r : Refusal) → HasInst f root_inst → (r ≢ Memory → IsTold notes.nesting r) → r ≢ Memory → IsStopped words A f r
-    told_stops r root told real = let t = told real in told_by t.weight r (t.tells words A f root (nesting_is words A f notes known)) t.is real
+    pub told_stops : (r : Refusal) → HasInst f root_inst → (r ≢ Memory → IsTold (size_of (device_of words)) notes.nesting r) → r ≢ Memory → IsStopped words A f r
+    told_stops r root told real = let t = told real in told_by t.weight r (t.tells words A f refl root (nesting_is words A f notes known)) t.is real
 
-    light_passes : HasInst f root_inst → TellsAll notes.nesting weight.Light → Passes words A f
+    light_passes : HasInst f root_inst → TellsAll (size_of (device_of words)) notes.nesting weight.Light → Passes words A f
     light_passes root light =
-        let t = light words A f root (nesting_is words A f notes known) in
+        let t = light words A f refl root (nesting_is words A f notes known) in
         record { fits = fits; faultless = known.faultless; acyclic = t.0; shallow = t.1 }
 
     alike_known : (nesting : Noted) → AreAlike notes.nesting nesting → AreKnown words A f (record { callers = notes.callers; leavers = notes.leavers; nesting = nesting })
@@ -86,7 +87,7 @@ module _ (words : List ℕ) (A : List Entry) where
 
   -- the nodes that come next
   pub is_ready : (f : Family) (work : List NodeKey) (old mid : Notes) (nesting : Noted) (seen : Seen) (nodes : List Node) → AreFormed f → HasInst f root_inst → FitsLimits f
-      → Turn words A f work old → AreSeen words A f work seen → seen.worst ≡ None → AreKnown words A f mid → TellsAll mid.nesting weight.Light
+      → Turn words A f work old → AreSeen words A f work seen → seen.worst ≡ None → AreKnown words A f mid → TellsAll (size_of (device_of words)) mid.nesting weight.Light
       → AreAlike mid.nesting nesting → AreOnce nesting.insts
       → nodes ≡ all_targets f (record { callers = mid.callers; leavers = mid.leavers; nesting = nesting }) seen.looks.items
       → IsReady words A f (record { callers = mid.callers; leavers = mid.leavers; nesting = nesting }) nodes

@@ -27,10 +27,10 @@ weight_refusal (weight.ReEntry v word) = ReEntry v word
 weight_refusal (weight.Recursion word) = Recursion word
 weight_refusal (weight.TooDeep need) = TooDeep 0 need
 
--- the refusal says what the nesting tells
-pub record IsTold (n : Noted) (r : Refusal) : Type 0 where
+-- the refusal says what the nesting tells of a device whose SRAM has so many bytes
+pub record IsTold (size : ℕ) (n : Noted) (r : Refusal) : Type 0 where
   pub weight : Weight
-  pub tells : TellsAll n weight
+  pub tells : TellsAll size n weight
   pub is : r ≡ weight_refusal weight
 
 -- the refusal is of the first test that holds

@@ -32,7 +32,7 @@ pub data IsOwn (words : List ℕ) (A : List Entry) (n : Node) : Node → Type 0 
 
 pub data ComesBack (words : List ℕ) (A : List Entry) (n m : Node) : Node → Type 0 where
   comes_back : (way : EdgeKind) (inst : InstKey) (back : ℕ) (x : Exit) (state : AbsState) → Enters words A n way inst back → m.key.inst ≡ inst → IsFaultless words A m
-      → (raw_of words A m).exit ≡ Some x → returned n.state m.state ≡ Some state → ComesBack words A n m (record { key = returned_key n.key back x; state = state })
+      → (raw_of words A m).exit ≡ Some x → returned n.state m.state ≡ Some state → ComesBack words A n m (record { key = returned_key way n.key back x; state = state })
 
 -- ---- what the notes say
 
@@ -41,8 +41,7 @@ pub record IsCaller (words : List ℕ) (A : List Entry) (f : Family) (inst : Ins
   pub node : Node
   pub has : Has f node
   pub at : node.key ≡ p.node
-  pub way : EdgeKind
-  pub enters : Enters words A node way inst p.back
+  pub enters : Enters words A node p.kind inst p.back
 
 -- a node of the family leaves its instance, as the port says
 pub record IsLeaver (words : List ℕ) (A : List Entry) (f : Family) (inst : InstKey) (p : Port) : Type 0 where

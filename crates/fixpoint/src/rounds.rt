@@ -46,7 +46,7 @@ fn next_nodes(
         return Err(refusal_of(fault));
     }
     notes.note_all(alloc, &seen.looks)?;
-    check_nesting(&mut notes.nesting)?;
+    check_nesting(flash, &mut notes.nesting)?;
     let nodes = targets(alloc, table, notes, seen.looks)?;
     Ok(nodes)
 }

@@ -2,6 +2,7 @@
 
 ghost use Rattle.std.specs.Prelude.{◌≡◌, ◌≢◌, ◌≤◌, length, IfOk, IfErr, OnOk};
 ghost use Rattle.std.specs.FinMap.{len};
+ghost use Rattle.avr_model.specs.Devices.{device_of, size_of};
 ghost use Rattle.instance_nesting.specs.Nestings.{AreAlike, AreOnce, TellsAll};
 ghost use Rattle.instance_nesting.specs.declared.weight.Weight.TheVariants.{Light};
 ghost use Rattle.round_rules.specs.declared.refusal.Refusal.TheVariants.{Memory};
@@ -11,6 +12,7 @@ ghost use Rattle.fixpoint.specs.Tests.{IsTooLarge, IsTold};
 
 use certificate::Limit;
 use family_table::Table;
+use flash_image::Flash;
 use instance_nesting::{Nesting, Weight};
 use local_rules::NodeFault;
 use round_rules::Refusal;
@@ -44,15 +46,15 @@ pub fn refusal_of(fault: NodeFault) -> Refusal
     }
 }
 
-// No instance reaches itself, and the root needs no more bytes than SRAM has.
-pub fn check_nesting(nesting: &mut Nesting) -> Result<(), Refusal>
+// No instance reaches itself, and the root needs no more bytes than the device's SRAM has.
+pub fn check_nesting(flash: &Flash, nesting: &mut Nesting) -> Result<(), Refusal>
     requires { length nesting.old.insts ≤ 65536 }
-    ensures light { OnOk result (TellsAll nesting.old Light) }
-    ensures told { IfErr result (λ r. r ≢ Memory → IsTold nesting.old r) }
+    ensures light { OnOk result (TellsAll (size_of (device_of flash.now)) nesting.old Light) }
+    ensures told { IfErr result (λ r. r ≢ Memory → IsTold (size_of (device_of flash.now)) nesting.old r) }
     ensures same { AreAlike nesting.old nesting.new }
     ensures once { AreOnce nesting.new.insts }
 {
-    match nesting.weigh()? {
+    match nesting.weigh(flash.device().size())? {
         Weight::Light => Ok(()),
         Weight::ReEntry(vector, word) => Err(Refusal::ReEntry(vector, word)),
         Weight::Recursion(word) => Err(Refusal::Recursion(word)),

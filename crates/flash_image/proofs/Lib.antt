@@ -1,5 +1,7 @@
+pub mod Narrowing
 pub mod Bytes
 pub mod Raw
 pub mod Least
 pub mod Rows
 mod RawWords
+mod Behind

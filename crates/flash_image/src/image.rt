@@ -1,30 +1,33 @@
-//! The 16,384 words of flash.
+//! The words of a device's flash.
 
-ghost use Rattle.std.specs.Prelude.{◌≡◌, ℕ, ◌+◌, ◌*◌, ◌%◌, ◌<◌, ◌≤◌, ◌↔◌, ◌≢◌, List, length, IfOk, replicate};
-ghost use Rattle.avr_model.specs.Image.{word_at, byte_at, IsRawImage, FLASH_BYTES};
+ghost use Rattle.std.specs.Prelude.{◌≡◌, ℕ, ◌+◌, ◌*◌, ◌%◌, ◌<◌, ◌≤◌, ◌↔◌, ◌≢◌, List, length, IfOk, MatchResult, MatchOption, IsTrue, is_ok, replicate};
+ghost use Rattle.avr_model.specs.declared.device.Device.TheVariants.{M328};
+ghost use Rattle.avr_model.specs.Devices.{words_of, device_of, IsFlash};
+ghost use Rattle.avr_model.specs.Image.{word_at, byte_at, IsRawImage, IsNarrowed, IsOutside, AreErased, FLASH_BYTES};
 ghost use Rattle.flash_image.specs.Placing.{placed};
 
-use avr_model::device::WORDS;
+use avr_model::device::{Device, WORDS};
 use std::alloc::{AllocError, Global};
 use std::marker::Model;
 use thiserror::Error;
 
-/// Flash, seen as the list of its words. Addresses of words count modulo their number, and the low byte of a word comes
-/// first.
+/// The flash of a device, seen as the list of its words, whose number tells the device. Addresses of words count modulo
+/// this number, and the low byte of a word comes first.
 #[derive(Drop)]
 pub struct Flash {
+    device: Device,
     words: Vec<u16>,
 }
 
 impl Model for Flash {
-    ghost use Rattle.std.specs.Prelude.{◌≡◌, ℕ, List, length};
-    ghost use Rattle.avr_model.specs.declared.device.TheConstants.{WORDS};
+    ghost use Rattle.std.specs.Prelude.{◌≡◌, ℕ, List};
+    ghost use Rattle.avr_model.specs.Devices.{device_of, IsFlash};
 
     ghost Value = { List ℕ };
 
     ghost view = { λ f. f.words.items };
 
-    ghost invariant = { λ f. length f.words.items ≡ WORDS };
+    ghost invariant = { λ f. IsFlash f.words.items × (f.device ≡ device_of f.words.items) };
 }
 
 /// Why a file is no raw image, or that there was no memory for it.
@@ -38,22 +41,33 @@ pub enum RawFault {
     Memory,
 }
 
-/// How many words flash has, as a length.
+/// The least word behind a device's flash that isn't erased.
+#[derive(Clone, Copy, Debug, Drop, PartialEq, Eq)]
+pub struct Outside(pub u16);
+
+/// How many words the ATmega328P's flash has, as a length.
 const COUNT: usize = WORDS as usize;
 
 impl Flash {
-    /// Flash whose words are all FFFF.
+    /// The ATmega328P's flash with all words FFFF.
     pub fn erased(alloc: Global) -> Result<Flash, AllocError>
-        ensures { IfOk result (λ flash. flash ≡ replicate WORDS 0xFFFF) }
+        ensures words { IfOk result (λ flash. flash ≡ replicate WORDS 0xFFFF) }
+        ensures device { IfOk result (λ flash. device_of flash ≡ M328) }
     {
         let words = vec![in alloc; 0xFFFFu16; COUNT]?;
-        Ok(Flash { words })
+        Ok(Flash {
+            device: Device::M328,
+            words,
+        })
     }
 
-    /// The words of a raw image, the low byte of each first; the rest is erased. Refused are files of odd length, and of
-    /// the others those that are longer than flash. Source: own, since a raw file names no address.
+    /// The ATmega328P's flash with the words of a raw image, the low byte of each first; the rest is erased. Refused are
+    /// files of odd length, and of the others those that are longer than flash. Source: own, since a raw file names no
+    /// address.
+    #[tactic(auto, using(crate::proofs::Narrowing::greatest))]
     pub fn from_raw(alloc: Global, bytes: &[u8]) -> Result<Flash, RawFault>
         ensures image { IfOk result (λ flash. IsRawImage bytes.now flash) }
+        ensures device { IfOk result (λ flash. device_of flash ≡ M328) }
         ensures odd { (result ≡ Err RawFault.OddLength) ↔ (length bytes.now % 2 ≡ 1) }
         ensures long { (result ≡ Err RawFault.TooLong) ↔ ((length bytes.now % 2 ≡ 0) × (32768 < length bytes.now)) }
     {
@@ -68,24 +82,61 @@ impl Flash {
         Ok(flash)
     }
 
+    /// The device.
+    pub fn device(&self) -> Device
+        ensures { result ≡ device_of self.now }
+    {
+        self.device
+    }
+
     /// All words.
     pub fn words(&self) -> &[u16]
         ensures value { result.now ≡ self.now }
-        ensures count { length result.now ≡ WORDS }
+        ensures flash { IsFlash result.now }
     {
         self.words.as_slice()
     }
 
-    /// The word at `a`, which counts modulo 16,384.
+    /// The word at `a`, which counts modulo the number of words.
+    #[tactic(auto, using(crate::proofs::Narrowing::inside))]
     pub fn word(&self, a: u16) -> u16
         ensures { result ≡ word_at self.now a }
     {
-        self.words[a as usize % COUNT]
+        self.words[usize::from(self.device.wrap(a))]
+    }
+
+    /// The ATmega328P's words on another device, which has fewer or as many: refused where a word behind that device's last
+    /// isn't FFFF, and the least such word is told. It takes no memory, and a refused flash is dropped.
+    pub fn narrow(mut self, device: Device) -> Result<Flash, Outside>
+        requires { length self ≡ WORDS }
+        ensures answer { MatchResult result (λ flash. IsNarrowed device self flash) (λ fault. IsOutside device self fault.0) }
+        ensures exact { IsTrue (is_ok result) ↔ AreErased self (words_of device) WORDS }
+    {
+        if let Some(word) = self.first_outside(device) {
+            return Err(Outside(word));
+        }
+        self.words.truncate(usize::from(device.words()));
+        self.device = device;
+        Ok(self)
+    }
+
+    /// The first word behind a device's last that isn't FFFF.
+    fn first_outside(&self, device: Device) -> Option<u16>
+        requires { length self.now ≡ WORDS }
+        ensures { MatchOption result (AreErased self.now (words_of device) WORDS) (IsOutside device self.now) }
+    {
+        for at in device.words()..WORDS {
+            if self.words[usize::from(at)] != 0xFFFF {
+                return Some(at);
+            }
+        }
+        None
     }
 
     /// The byte at `z`.
+    #[tactic(auto, using(crate::proofs::Narrowing::half))]
     pub fn byte(&self, z: u16) -> u8
-        requires { z < FLASH_BYTES }
+        requires { z < 2 * words_of (device_of self.now) }
         ensures { result ≡ byte_at self.now z }
     {
         let word = self.words[z as usize / 2];
@@ -96,10 +147,13 @@ impl Flash {
         }
     }
 
-    /// Puts bytes at the byte addresses from `at` on; every other byte stays as it was.
+    /// Puts bytes at the byte addresses of the ATmega328P's flash from `at` on; every other byte stays as it was.
+    #[tactic(auto, using(crate::proofs::Narrowing::greatest))]
     pub fn place(&mut self, at: u16, bytes: &[u8])
-        requires { at + length bytes.now ≤ FLASH_BYTES }
+        requires device { length self.old ≡ WORDS }
+        requires fits { at + length bytes.now ≤ FLASH_BYTES }
         ensures count { length self.new ≡ WORDS }
+        ensures device { device_of self.new ≡ M328 }
         ensures bytes { (z : ℕ) → z < FLASH_BYTES → byte_at self.new z ≡ placed at bytes.now self.old z }
     {
         let _ = &self.words;
@@ -110,7 +164,8 @@ impl Flash {
 
     /// Changes the byte at `z` alone.
     fn set_byte(&mut self, z: usize, byte: u8)
-        requires { z < FLASH_BYTES }
+        requires device { length self.old ≡ WORDS }
+        requires fits { z < FLASH_BYTES }
         ensures count { length self.new ≡ WORDS }
         ensures there { byte_at self.new z ≡ byte }
         ensures elsewhere { (k : ℕ) → k ≢ z → byte_at self.new k ≡ byte_at self.old k }

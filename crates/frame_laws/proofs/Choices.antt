@@ -1,8 +1,12 @@
 -- Each choice is fine: an instruction or an interrupt.
-use Rattle.std.proofs.Common.{◌≡◌, ℕ, ◌-◌, ◌%◌, Bool, true, false, not, ◌&&◌, ◌||◌, ◌==◌, nat_le, if◌then◌else◌, List, [], ◌++◌, Option, Some, None, refl, sym, ap, ◌∙◌, subst, arith, eqb-true}
+use Rattle.std.proofs.Common.{◌≡◌, ℕ, ◌-◌, ◌%◌, Bool, true, false, not, ◌&&◌, ◌||◌, ◌==◌, nat_le, if◌then◌else◌, List, [], ◌++◌, Option, Some, None, refl, sym, ap, ◌∙◌, subst, arith, eqb-true, Contains, ◌<◌, ◌≤◌}
 use Rattle.std.specs.Int.{bit_at}
 use Rattle.std.proofs.lemmas.Bool.Decides.{nat_tests}
 use Rattle.std.proofs.lemmas.Nat.Bits.{bit_at-zero}
+use Rattle.avr_model.specs.declared.device.Device.{Device}
+use Rattle.avr_model.specs.declared.device.Device.TheVariants.{M48, M88, M168, M328}
+use Rattle.avr_model.proofs.AllLaws.{devices_are_alike}
+use Rattle.avr_model.specs.Devices.{words_of, wrapped, device_of}
 use Rattle.avr_model.specs.declared.assumption.Entry.{Entry}
 use Rattle.avr_model.specs.declared.instruction.Instr.{Instr}
 use Rattle.avr_model.specs.declared.choice.Choice.{Choice}
@@ -20,10 +24,12 @@ use Rattle.mask_states.specs.declared.keys.EdgeKind.TheVariants as kind
 use Rattle.mask_states.specs.declared.keys.SpForm.{SpForm}
 use Rattle.mask_states.specs.declared.keys.SpForm.TheVariants.{Closed, Open}
 use Rattle.abs_state.specs.declared.state.AbsState.{AbsState}
+use Rattle.local_rules.specs.declared.local.CallSite.{CallSite}
 use Rattle.local_rules.specs.Raw.{Raw, untracked_if}
 use Rattle.local_rules.specs.Local.{raw, is_hung}
 use Rattle.local_rules.specs.Cover.{Follows, stays, calls, leaves, IsCovered}
 use Rattle.local_rules.specs.Machine.{IsMachine, AreWords}
+use Rattle.local_laws.proofs.AllLaws.{local_parts_fit}
 use Rattle.local_laws.specs.Laws.{LocalPartsCover, MachinesStay, LiveBytesStay}
 use Rattle.edge_rules.specs.Edges.{raw_of, IsFaultless, Enters, by_call, by_interrupt, called_inst, vector_inst}
 use Rattle.edge_rules.specs.Families.{Family, IsSound}
@@ -67,6 +73,16 @@ closed_where_taken : (k : NodeKey) (v : ℕ) (form : SpForm) → k.sp ≡ form �
 closed_where_taken k v (Closed offset) is i delay enabled hung = (offset, is)
 closed_where_taken k v (Open offset high) is i delay enabled hung = absurd (hangs k.i k.delay (k.masks == 0) i delay (not_zero k.masks v enabled) hung)
 
+-- a vector's word is one of the device's
+vector_inside : (device : Device) (v : ℕ) → v ≤ 26 → vector_word device v < words_of device
+vector_inside M48 v le = omega arith
+vector_inside M88 v le = omega arith
+vector_inside M168 v le = omega arith
+vector_inside M328 v le = omega arith
+
+vector_small : (enables v : ℕ) → is_enabled enables v ≡ true → v ≤ 26
+vector_small enables v h = grind (arith, nat_tests)
+
 -- I is cleared
 flag_cleared : (sreg : ℕ) → flag (sreg % 128) 7 ≡ false
 flag_cleared sreg = grind (arith, nat_tests)
@@ -86,6 +102,12 @@ module _ (cover : LocalPartsCover) (machines : MachinesStay) (live : LiveBytesSt
     faultless = sound.faultless g.node runs.present
 
     module _ (b1 b2 : ℕ) where
+      -- a called word is one of the device's
+      calls_inside : (site : CallSite) → Contains (raw_of words A g.node).calls site → wrapped m.device site.entry ≡ site.entry
+      calls_inside site member =
+          devices_are_alike.same m.device site.entry
+          (subst (λ device. site.entry < words_of device) (sym runs.device) ((local_parts_fit.fit words A g.node.key g.node.state).calls site member).0)
+
       follows_on : (guarded : Bool) (e : Effect) → Follows m g.origin g.node.key guarded b1 b2 e (raw_of words A g.node) → GoesOn (Follow words A f (Go b1 b2) g gs) m guarded e
       follows_on guarded e (stays to member inst lands) = frames_local live words A f sound m g gs runs b1 b2 guarded e to faultless member inst lands
       follows_on guarded e (calls offset site member form on same) =
@@ -93,7 +115,7 @@ module _ (cover : LocalPartsCover) (machines : MachinesStay) (live : LiveBytesSt
           subst (λ b. GoesOn (Follow words A f (Go b1 b2) g gs) m b e) (sym on)
           (subst (GoesOn (Follow words A f (Go b1 b2) g gs) m true) (sym same)
           (frames_enter live words A f sound m g gs runs kind.Call (called_inst k site.entry) site.back offset form (by_call offset site faultless form member)
-          site.entry m.sreg m.enables refl refl runs.running.place.i runs.running.place.enables
+          site.entry m.sreg m.enables (calls_inside site member) refl runs.running.place.i runs.running.place.enables
           (Go b1 b2) (λ state above. called b1 b2 site state _ faultless member above)))
       follows_on guarded e (leaves x exit kind form is) = frames_return live words A f sound m g gs runs b1 b2 guarded e x faultless exit form is kind
 
@@ -104,10 +126,10 @@ module _ (cover : LocalPartsCover) (machines : MachinesStay) (live : LiveBytesSt
           let guarded = not (is_scratch words m.pc) in
           let on : protected_write words A m.pc instr e ≡ None → unlisted_transfer A m.pc instr e ≡ None → GoesOn (Follow words A f (Go b1 b2) g gs) m guarded e =
           λ protected listed. follows_on guarded e (covered faultless (record { protected = protected; listed = listed })) in
-          answer_fine (Follow words A f (Go b1 b2) g gs) m.pc (after m guarded e) (all_inside e.pushes) (live_write m.memory (e.stores ++ e.pushes)) (protected_write words A m.pc instr e) (unlisted_transfer A m.pc instr e)
+          answer_fine (Follow words A f (Go b1 b2) g gs) m.pc (after m guarded e) (all_inside m.device e.pushes) (live_write m.memory (e.stores ++ e.pushes)) (protected_write words A m.pc instr e) (unlisted_transfer A m.pc instr e)
           (λ listed. inside_by (protected_write words A m.pc instr e) refl
           (λ protected. (on protected listed).inside)
-          (λ a is. ap all_inside (store_pushes_nothing words m instr b1 b2 (protected_is_store words A m.pc instr e a is))))
+          (λ a is. ap (all_inside m.device) (store_pushes_nothing words m instr b1 b2 (protected_is_store words A m.pc instr e a is))))
           (λ missed protected listed. (on protected listed).done missed)
         where
           inside_by : {P : Type 0} (p : Option ℕ) {q : Option ℕ} → q ≡ p → (q ≡ None → P) → ((a : ℕ) → q ≡ Some a → P) → P
@@ -117,6 +139,11 @@ module _ (cover : LocalPartsCover) (machines : MachinesStay) (live : LiveBytesSt
       goes : (o : Option Instr) → IsCovered words A m g.origin g.node.key b1 b2 o (raw_of words A g.node) → IsFineFor (Follow words A f (Go b1 b2) g gs) (go words A m o b1 b2)
       goes None covered = absurd (covered faultless)
       goes (Some instr) covered = answers instr covered
+
+    vector_is : (v : ℕ) → is_enabled m.enables v ≡ true → wrapped m.device (vector_word m.device v) ≡ vector_word (device_of words) v
+    vector_is v enabled =
+        devices_are_alike.same m.device (vector_word m.device v) (vector_inside m.device v (vector_small m.enables v enabled))
+        ∙ ap (λ device. vector_word device v) runs.device
 
     taken : (v : ℕ) (clears t : Bool) → may_take m v clears ≡ t → IsFineFor (Follow words A f (Take v clears) g gs) (if t then take m (entering m v clears) else Illegal)
     taken v clears false legal = tt
@@ -128,16 +155,16 @@ module _ (cover : LocalPartsCover) (machines : MachinesStay) (live : LiveBytesSt
         let i : k.i ≡ true = sym place.i ∙ all.1 in
         let delay : k.delay ≡ false = sym place.delay ∙ all.2 in
         let closed = closed_where_taken k v k.sp refl i delay enabled (faultless_not_hung words A k g.node.state faultless) in
-        let enters : Enters words A g.node (kind.Interrupt v clears) (vector_inst k v clears) k.pc = by_interrupt closed.0 v clears faultless closed.1 i delay enabled all.3 in
+        let enters : Enters words A g.node (kind.Interrupt v clears) (vector_inst words k v clears) k.pc = by_interrupt closed.0 v clears faultless closed.1 i delay enabled all.3 in
         let on : GoesOn (Follow words A f (Take v clears) g gs) m true (entering m v clears) =
         subst (λ pc. GoesOn (Follow words A f (Take v clears) g gs) m true (record (entering m v clears) { pushes = way_back m.sp pc })) (sym place.pc)
-        (frames_enter live words A f sound m g gs runs (kind.Interrupt v clears) (vector_inst k v clears) k.pc closed.0 closed.1 enters
-        (vector_word v) (m.sreg % 128) (enables_taken m.enables clears) refl (omega arith) (flag_cleared m.sreg) (ap (λ masks. enables_taken masks clears) place.enables)
+        (frames_enter live words A f sound m g gs runs (kind.Interrupt v clears) (vector_inst words k v clears) k.pc closed.0 closed.1 enters
+        (vector_word m.device v) (m.sreg % 128) (enables_taken m.enables clears) (vector_is v all.0) (omega arith) (flag_cleared m.sreg) (ap (λ masks. enables_taken masks clears) place.enables)
         (Take v clears) (λ state above. interrupted v clears state _ enters above)) in
-        taken_fine (Follow words A f (Take v clears) g gs) m.pc (after m true (entering m v clears)) (all_inside (entering m v clears).pushes) (live_write m.memory (entering m v clears).pushes) on.inside on.done
+        taken_fine (Follow words A f (Take v clears) g gs) m.pc (after m true (entering m v clears)) (all_inside m.device (entering m v clears).pushes) (live_write m.memory (entering m v clears).pushes) on.inside on.done
 
     owed : (c : Choice) → HasBytes c → IsFineFor (Follow words A f c g gs) (step words A m c)
-    owed (Go b1 b2) bytes = goes b1 b2 (instruction_at words m.pc) (cover.covered words A m g.origin g.node.key g.node.state b1 b2 runs.running bytes.0 bytes.1)
+    owed (Go b1 b2) bytes = goes b1 b2 (instruction_at words m.pc) (cover.covered words A m g.origin g.node.key g.node.state b1 b2 sized runs.device runs.running bytes.0 bytes.1)
     owed (Take v clears) bytes = taken v clears (may_take m v clears) refl
 
     pub fine : (c : Choice) → HasBytes c → IsFine words A f c g gs (step words A m c)

@@ -1,7 +1,8 @@
 -- The frames that were left: what is kept of the memory keeps them, and what the needs say of their bases.
 use Rattle.std.proofs.Common.{◌≡◌, ◌≢◌, ℕ, ◌+◌, ◌≤◌, List, [], ◌∷◌, ap, ◌∙◌, arith}
+use Rattle.avr_model.specs.Devices.{ramend, device_of}
 use Rattle.avr_model.specs.declared.assumption.Entry.{Entry}
-use Rattle.avr_model.specs.State.{Memory, RAMEND}
+use Rattle.avr_model.specs.State.{Memory}
 use Rattle.sp_domain.specs.Tags.{Origin}
 use Rattle.abs_state.specs.Laws.{Keeps}
 use Rattle.abs_state.proofs.AllLaws.{slots_follow}
@@ -20,18 +21,18 @@ not_root (by_interrupt offset v clears faultless form i delay enabled clearable)
 
 module _ (words : List ℕ) (A : List Entry) (f : Family) where
   -- the root's frame is the last
-  pub root_base : (memory : Memory) (gs : List Frame) (inst : InstKey) (o : Origin) → AreLeft words A f memory gs inst o → inst.kind ≡ Root → o.base ≡ RAMEND
+  pub root_base : (memory : Memory) (gs : List Frame) (inst : InstKey) (o : Origin) → AreLeft words A f memory gs inst o → inst.kind ≡ Root → o.base ≡ ramend (device_of words)
   root_base memory [] inst o l e = l.1
   root_base memory (g ∷ gs) inst o l e = absurd (not_root l.0.enters e)
 
   module _ (sound : IsSound words A f) where
     -- what the frames above a base take, and what its instance needs, is within the bound
-    pub within : (memory : Memory) (gs : List Frame) (inst : InstKey) (o : Origin) → AreLeft words A f memory gs inst o → RAMEND + f.need_of inst ≤ o.base + f.bound
+    pub within : (memory : Memory) (gs : List Frame) (inst : InstKey) (o : Origin) → AreLeft words A f memory gs inst o → ramend (device_of words) + f.need_of inst ≤ o.base + f.bound
     within memory [] inst o l = omega (arith, ap f.need_of l.0, l.1, sound.bounded)
     within memory (g ∷ gs) inst o l =
         omega (arith, within memory gs g.node.key.inst g.origin l.1, l.0.place, ap offset_of l.0.closed, sound.needs g.node l.0.way inst l.0.back l.0.present l.0.enters)
 
-    pub base_inside : (memory : Memory) (gs : List Frame) (inst : InstKey) (o : Origin) → AreLeft words A f memory gs inst o → o.base ≤ RAMEND
+    pub base_inside : (memory : Memory) (gs : List Frame) (inst : InstKey) (o : Origin) → AreLeft words A f memory gs inst o → o.base ≤ ramend (device_of words)
     base_inside memory [] inst o l = omega (arith, l.1)
     base_inside memory (g ∷ gs) inst o l = omega (arith, base_inside memory gs g.node.key.inst g.origin l.1, l.0.place)
 
@@ -42,6 +43,7 @@ module _ (words : List ℕ) (A : List Entry) (f : Family) where
             present = l.present;
             registers = l.registers;
             flags = l.flags;
+            less = l.less;
             slots =
                 slots_follow.kept g.origin old new floor g.node.state.slots kept (omega (arith, l.place, ap offset_of l.closed, (sound.formed g.node l.present).formed.count_slots)) l.slots;
             offset = l.offset;

@@ -1,8 +1,11 @@
 -- The family of the worked firmware is sound: the definitions are met where there is a call.
-use Rattle.std.proofs.Common.{◌≡◌, ℕ, zero, suc, ◌+◌, ◌<◌, ◌≤◌, ◌⊎◌, inl, inr, ⊎_elim, List, [], ◌∷◌, length, Some, slice_index_or, refl, sym, ap, ◌∙◌, subst, arith, Contains}
+use Rattle.std.proofs.Common.{◌≡◌, ℕ, zero, suc, ◌+◌, ◌<◌, ◌≤◌, ◌⊎◌, inl, inr, ⊎_elim, List, [], ◌∷◌, Option, Some, None, slice_index_or, refl, sym, ap, ◌∙◌, subst, arith, Contains}
 use Rattle.std.proofs.lemmas.List.{get_or-replicate}
+use Rattle.avr_model.specs.Devices.{size_of, device_of}
 use Rattle.bit_domain.specs.declared.bits.Tri.TheVariants.{Any}
-use Rattle.bit_domain.proofs.AllLaws.{bytes_are_their_bits, bytes_are_sets}
+use Rattle.bit_domain.specs.TriByte.{IsWithin, byte_any}
+use Rattle.bit_domain.proofs.AllLaws.{bytes_are_their_bits, bytes_are_sets, ranges_hold}
+use Rattle.abs_state.specs.declared.values.AbsByte.{AbsByte}
 use Rattle.abs_state.specs.declared.state.AbsState.{AbsState}
 use Rattle.abs_state.specs.Values.{root, unknown, value_at}
 use Rattle.abs_state.specs.Order.{IsByteWithin, IsStateWithin}
@@ -11,6 +14,7 @@ use Rattle.abs_state.specs.Frames.{entered, returned}
 use Rattle.abs_state.proofs.AllLaws.{states_are_ordered, reset_stands, entries_are_true, returns_are_true, tags_stay_fit}
 use Rattle.mask_states.specs.declared.keys.InstKey.{InstKey}
 use Rattle.mask_states.specs.declared.keys.EdgeKind.{EdgeKind}
+use Rattle.mask_states.specs.declared.keys.EdgeKind.TheVariants as kind
 use Rattle.mask_states.specs.declared.keys.SpForm.TheVariants.{Closed}
 use Rattle.mask_states.specs.Keys.{entry_key, offset_of}
 use Rattle.local_rules.specs.declared.local.Node.{Node}
@@ -21,7 +25,7 @@ use Rattle.local_rules.specs.Flow.{site}
 use Rattle.local_rules.specs.Local.{placed, joined_onto}
 use Rattle.local_rules.specs.Cover.{IsNode}
 use Rattle.edge_rules.specs.declared.edge.Edge.{Edge}
-use Rattle.edge_rules.specs.Edges.{raw_of, IsFaultless, Enters, by_call, by_interrupt, IsEdge, moving, entering, returning, target, called_inst, returned_key}
+use Rattle.edge_rules.specs.Edges.{raw_of, IsFaultless, Enters, by_call, by_interrupt, IsEdge, moving, entering, returning, target, called_inst, pick_back, returned_key}
 use Rattle.edge_rules.specs.Families.{IsCovered, IsSound}
 use Rattle.edge_rules.specs.Examples.{sample, callee, top, at_call, at_loop, at_return, family, plain_exit, call_leads, loop_leads, return_leads}
 
@@ -34,21 +38,29 @@ top_formed = record {
   bit_7 = bytes_are_their_bits.has_bits (λ i. Any) 7 (omega arith);
   count_slots = refl;
   slots = λ d lt. absurd (omega arith);
+  carry = tt;
+  ranges = reset_stands.formed.ranges;
+  slot_ranges = λ d lt. absurd (omega arith);
 }
 
 top_untagged : IsUntagged top
-top_untagged = record { registers = reset_stands.untagged.registers; entry = refl; carry = refl; slots = λ d lt. absurd (omega arith) }
+top_untagged = record { registers = reset_stands.untagged.registers; entry = refl; carry = tt; slots = λ d lt. absurd (omega arith) }
 
-unknown_above : (s : AbsState) (r : ℕ) → r < 32 → IsByteWithin (value_at s.registers r) (value_at top.registers r)
-unknown_above s r lt =
-    subst (IsByteWithin (value_at s.registers r)) (sym (get_or-replicate 32 r unknown unknown lt)) record { tag = tt; bits = λ x small has. bytes_are_sets.built (λ i. Any) x (λ i k. tt) }
+unknown_above : (s : AbsState) → IsFormed s 0 → (r : ℕ) → r < 32 → IsByteWithin (value_at s.registers r) (value_at top.registers r)
+unknown_above s formed r lt =
+    let v : AbsByte = value_at s.registers r in
+    let below : IsWithin v.bits byte_any = λ x small has. bytes_are_sets.built (λ i. Any) x (λ i k. tt) in
+    let wide = ranges_hold.bits_within v.bits byte_any below in
+    let fits = formed.ranges r lt in
+    subst (IsByteWithin v) (sym (get_or-replicate 32 r unknown unknown lt))
+    record { tag = tt; bits = below; low = omega (arith, wide.low, fits.low); high = omega (arith, wide.high, fits.high) }
 
 -- nothing says less, where there is no slot
-top_above : (s : AbsState) → length s.slots ≡ 0 → IsStateWithin s top
-top_above s count = record {
-  registers = unknown_above s;
+top_above : (s : AbsState) → IsFormed s 0 → IsStateWithin s top
+top_above s formed = record {
+  registers = unknown_above s formed;
   flags = record { entry = λ e. cc; bits = λ x small has. bytes_are_sets.built (λ i. Any) x (λ i k. tt); carry = tt };
-  count = count;
+  count = formed.count_slots;
   slots = λ d lt. absurd (omega arith);
 }
 
@@ -96,23 +108,30 @@ return_enters _ _ _ (by_interrupt offset v clears faultless form i delay enabled
 
 -- ---- edges
 
-covered_by_loop : (s : AbsState) → length s.slots ≡ 0 → IsCovered family.nodes (record { key = at_loop.key; state = s })
-covered_by_loop s count = record { state = top; present = (1, omega arith, refl); above = top_above s count }
+covered_by_loop : (s : AbsState) → IsFormed s 0 → IsCovered family.nodes (record { key = at_loop.key; state = s })
+covered_by_loop s formed = record { state = top; present = (1, omega arith, refl); above = top_above s formed }
+
+no_pick : (way : EdgeKind) → pick_back way None ≡ None
+no_pick kind.Local = refl
+no_pick kind.Call = refl
+no_pick (kind.Interrupt v clears) = refl
+no_pick kind.Return = refl
 
 -- the return leads behind the call
-return_covered : (inst : InstKey) (back : ℕ) → inst ≡ callee → back ≡ 1 → (leaver : Node) → Contains family.nodes leaver → leaver.key.inst ≡ inst → (x : Exit) (s : AbsState)
-    → (raw_of sample [] leaver).exit ≡ Some x → returned top leaver.state ≡ Some s → IsCovered family.nodes (record { key = returned_key at_call.key back x; state = s })
-return_covered inst back inst_is back_is =
+return_covered : (way : EdgeKind) (inst : InstKey) (back : ℕ) → inst ≡ callee → back ≡ 1 → (leaver : Node) → Contains family.nodes leaver → leaver.key.inst ≡ inst → (x : Exit) (s : AbsState)
+    → (raw_of sample [] leaver).exit ≡ Some x → returned top leaver.state ≡ Some s → IsCovered family.nodes (record { key = returned_key way at_call.key back x; state = s })
+return_covered way inst back inst_is back_is =
     each
     (λ leaver. leaver.key.inst ≡ inst → (x : Exit) (s : AbsState) → (raw_of sample [] leaver).exit ≡ Some x → returned top leaver.state ≡ Some s
-    → IsCovered family.nodes (record { key = returned_key at_call.key back x; state = s }))
+    → IsCovered family.nodes (record { key = returned_key way at_call.key back x; state = s }))
     (λ same x s exit is. absurd (let k = ap (λ (i : InstKey). i.kind) (same ∙ inst_is) in cc))
     (λ same x s exit is. absurd (let k = ap (λ (i : InstKey). i.kind) (same ∙ inst_is) in cc))
     (λ same x s exit is.
     let this : plain_exit ≡ x = some_is _ x (sym (ap (λ (r : Raw). r.exit) return_leads) ∙ exit) in
     let formed = returns_are_true.formed top (entered top) s 0 top_formed (entries_are_true.formed top 0 top_formed) is in
-    subst (λ b. IsCovered family.nodes (record { key = returned_key at_call.key b x; state = s })) (sym back_is)
-    (subst (λ y. IsCovered family.nodes (record { key = returned_key at_call.key 1 y; state = s })) this (covered_by_loop s formed.count_slots)))
+    subst (λ (p : Option ℕ). IsCovered family.nodes (record { key = record (returned_key way at_call.key back x) { pick = p }; state = s })) (sym (no_pick way))
+    (subst (λ b. IsCovered family.nodes (record { key = returned_key kind.Call at_call.key b x; state = s })) (sym back_is)
+    (subst (λ y. IsCovered family.nodes (record { key = returned_key kind.Call at_call.key 1 y; state = s })) this (covered_by_loop s formed))))
 
 no_moves : (to : Node) (r : Raw) → r.moves ≡ [] → Contains (joined_onto [] r.moves) to → ⊥
 unfolding joined_onto
@@ -129,10 +148,10 @@ call_edges _ (entering way inst back enters) =
     record { state = entered top; present = (2, omega arith, refl); above = states_are_ordered.same (entered top) } way inst back enters
 call_edges _ (returning way inst back leaver x state enters present same faultless exit is) =
     let both = call_enters (λ i b. (i ≡ callee) × (b ≡ 1)) (refl, refl) way inst back enters in
-    return_covered inst back both.0 both.1 leaver present same x state exit is
+    return_covered way inst back both.0 both.1 leaver present same x state exit is
 
 loop_edges : (e : Edge) → IsEdge sample [] family.nodes at_loop e → IsCovered family.nodes (target e)
-loop_edges _ (moving to faultless member) = subst (IsCovered family.nodes) (sym (one_move to member)) (covered_by_loop top refl)
+loop_edges _ (moving to faultless member) = subst (IsCovered family.nodes) (sym (one_move to member)) (covered_by_loop top top_formed)
 loop_edges _ (entering way inst back enters) = absurd (loop_enters way inst back enters)
 loop_edges _ (returning way inst back leaver x state enters present same faultless exit is) = absurd (loop_enters way inst back enters)
 
@@ -144,13 +163,18 @@ return_edges _ (returning way inst back leaver x state enters present same fault
 offset_is : (offset : ℕ) → Closed 0 ≡ Closed offset → offset ≡ 0
 offset_is offset e = omega (arith, ap offset_of e)
 
+-- the worked firmware is one of the greatest device
+sample_small : 2 ≤ size_of (device_of sample)
+unfolding device_of
+sample_small = omega arith
+
 pub the_sample_is_sound : IsSound sample [] family
 the_sample_is_sound = record {
   formed = each (λ n. IsNode n.key n.state)
-      record { word = omega arith; small = omega arith; masks = omega arith; fits = tt; formed = top_formed; tags = tags_stay_fit.less root top (top_above root refl) tags_stay_fit.at_reset; borrow_bytes = tt; untagged = λ k. top_untagged }
-      record { word = omega arith; small = omega arith; masks = omega arith; fits = tt; formed = top_formed; tags = tags_stay_fit.less root top (top_above root refl) tags_stay_fit.at_reset; borrow_bytes = tt; untagged = λ k. top_untagged }
-      record { word = omega arith; small = omega arith; masks = omega arith; fits = tt; formed = entries_are_true.formed top 0 top_formed; tags = (tags_stay_fit.at_entry top).0; borrow_bytes = tt; untagged = λ k. absurd (cc) };
-  reset = record { state = top; present = (0, omega arith, refl); above = top_above root refl };
+      record { word = omega arith; small = omega arith; masks = omega arith; fits = tt; pick = tt; formed = top_formed; tags = tags_stay_fit.less root top (top_above root reset_stands.formed) tags_stay_fit.at_reset; carry_bytes = tt; untagged = λ k. top_untagged }
+      record { word = omega arith; small = omega arith; masks = omega arith; fits = tt; pick = tt; formed = top_formed; tags = tags_stay_fit.less root top (top_above root reset_stands.formed) tags_stay_fit.at_reset; carry_bytes = tt; untagged = λ k. top_untagged }
+      record { word = omega arith; small = omega arith; masks = omega arith; fits = tt; pick = tt; formed = entries_are_true.formed top 0 top_formed; tags = (tags_stay_fit.at_entry top).0; carry_bytes = tt; untagged = λ k. absurd (cc) };
+  reset = record { state = top; present = (0, omega arith, refl); above = top_above root reset_stands.formed };
   faultless = each (λ n. IsFaultless sample [] n)
       (ap (λ (r : Raw). r.faults) call_leads) (ap (λ (r : Raw). r.faults) loop_leads) (ap (λ (r : Raw). r.faults) return_leads);
   edges = λ n e h. each (λ x. IsEdge sample [] family.nodes x e → IsCovered family.nodes (target e)) (call_edges e) (loop_edges e) (return_edges e) n h;
@@ -161,5 +185,5 @@ the_sample_is_sound = record {
   needs = λ n way inst back h. each (λ x. Enters sample [] x way inst back → offset_of x.key.sp + 2 + family.need_of inst ≤ family.need_of x.key.inst)
       (call_enters (λ i b. 0 + 2 + family.need_of i ≤ 2) (omega arith) way inst back) (λ e. absurd (loop_enters way inst back e)) (λ e. absurd (return_enters way inst back e)) n h;
   bounded = omega arith;
-  small = omega arith;
+  small = sample_small;
 }

@@ -1,14 +1,17 @@
 -- Each kind of step keeps the frames.
-use Rattle.std.proofs.Common.{◌≡◌, ◌≢◌, ℕ, ◌+◌, ◌%◌, ◌≤◌, Bool, true, false, List, [], ◌∷◌, ◌++◌, length, Some, None, refl, sym, ap, ap₂, ◌∙◌, subst, arith, Contains}
+use Rattle.std.proofs.Common.{◌≡◌, ◌≢◌, ℕ, ◌+◌, ◌%◌, ◌≤◌, Bool, true, false, List, [], ◌∷◌, ◌++◌, length, Some, None, refl, sym, ap, ap₂, ◌∙◌, subst, subst₂, arith, Contains, ◌<◌}
+use Rattle.avr_model.specs.declared.device.Device.{Device}
+use Rattle.avr_model.proofs.AllLaws.{devices_are_alike}
+use Rattle.avr_model.specs.Devices.{words_of, size_of, ramend, wrapped, device_of}
 use Rattle.avr_model.specs.declared.assumption.Entry.{Entry}
 use Rattle.avr_model.specs.declared.choice.Choice.{Choice}
 use Rattle.avr_model.specs.declared.choice.Choice.TheVariants.{Go}
 use Rattle.avr_model.specs.declared.effect.Effect.{Effect}
 use Rattle.avr_model.specs.Sreg.{flag}
-use Rattle.avr_model.specs.State.{State, Memory, RAMEND, SIZE, minus16, plus16}
+use Rattle.avr_model.specs.State.{State, Memory, minus16, plus16}
 use Rattle.avr_model.specs.Effects.{way_back, going_to}
 use Rattle.avr_model.specs.Step.{after, all_inside, live_write, registers_after, with_registers, sreg_after, sp_after, open_after, enables_after}
-use Rattle.sp_domain.specs.Tags.{Origin}
+use Rattle.sp_domain.specs.Tags.{Origin, LessHolds}
 use Rattle.abs_state.specs.declared.state.AbsState.{AbsState}
 use Rattle.abs_state.specs.Stands.{RegistersStand, FlagsStand, Stands}
 use Rattle.abs_state.specs.Formed.{IsFormed}
@@ -28,8 +31,8 @@ use Rattle.local_rules.specs.declared.local.Exit.{Exit}
 use Rattle.local_rules.specs.Cover.{IsWithinBase, HasRoom, Lands, IsReturn}
 use Rattle.local_rules.specs.Machine.{IsMachine, floor_of}
 use Rattle.local_laws.specs.Laws.{LiveBytesStay}
-use Rattle.local_laws.proofs.AllLaws.{joins_are_least, local_parts_are_nodes}
-use Rattle.edge_rules.specs.Edges.{raw_of, IsFaultless, Enters, returned_key, moving, entering, returning}
+use Rattle.local_laws.proofs.AllLaws.{joins_are_least, local_parts_are_nodes, local_parts_fit}
+use Rattle.edge_rules.specs.Edges.{raw_of, IsFaultless, Enters, by_call, by_interrupt, returned_key, moving, entering, returning}
 use Rattle.edge_rules.specs.Families.{Family, IsCovered, IsSound}
 use Rattle.edge_rules.specs.Frames.{Frame, AreLeft, Runs, Change, moved, returned_to, HasNext}
 use Rattle.frame_laws.proofs.Left.{not_root, root_base, within, base_inside, left_kept}
@@ -51,13 +54,28 @@ floor_fits base false sp (Open offset high) h = absurd (let e = h.0 in cc)
 abbrev pub Follow : List ℕ → List Entry → Family → Choice → Frame → List Frame → State → Type 0
 Follow words A f c g gs n = IsMachine n → HasNext words A f c g gs n
 
+-- the word that an entry pushes is one of the device's
+back_inside : {words : List ℕ} {A : List Entry} {n : Node} {way : EdgeKind} {inst : InstKey} {back : ℕ} → Enters words A n way inst back → back < words_of (device_of words)
+back_inside {words = words} {A = A} {n = n} (by_call offset site faultless form member) = ((local_parts_fit.fit words A n.key n.state).calls site member).1
+back_inside {words = words} {A = A} {n = n} (by_interrupt offset v clears faultless form i delay enabled clearable) = (local_parts_fit.inside words A n.key n.state faultless).0
+
 module _ (live : LiveBytesStay) (words : List ℕ) (A : List Entry) (f : Family) (sound : IsSound words A f) where
   module _ (m : State) (g : Frame) (gs : List Frame) (runs : Runs words A f m g gs) where
-    in_bound : RAMEND + f.need_of g.node.key.inst ≤ g.origin.base + f.bound
-    in_bound = within words A f sound m.memory gs g.node.key.inst g.origin runs.left
+    -- what holds of the device of the words holds of the machine's
+    on_machine : (P : Device → Type 0) → P (device_of words) → P m.device
+    on_machine P h = subst P (sym runs.device) h
 
-    low_base : g.origin.base ≤ RAMEND
-    low_base = base_inside words A f sound m.memory gs g.node.key.inst g.origin runs.left
+    in_bound : ramend m.device + f.need_of g.node.key.inst ≤ g.origin.base + f.bound
+    in_bound = on_machine (λ device. ramend device + f.need_of g.node.key.inst ≤ g.origin.base + f.bound) (within words A f sound m.memory gs g.node.key.inst g.origin runs.left)
+
+    low_base : g.origin.base ≤ ramend m.device
+    low_base = on_machine (λ device. g.origin.base ≤ ramend device) (base_inside words A f sound m.memory gs g.node.key.inst g.origin runs.left)
+
+    small : f.bound ≤ size_of m.device
+    small = on_machine (λ device. f.bound ≤ size_of device) sound.small
+
+    few : size_of m.device ≤ 2048
+    few = devices_are_alike.most_bytes m.device
 
     -- what a step keeps that writes no live byte
     kept_by : (guarded : Bool) (e : Effect) → live_write m.memory (e.stores ++ e.pushes) ≡ None → Keeps m.memory (after m guarded e).memory (floor_of (after m guarded e).is_open (after m guarded e).sp)
@@ -69,11 +87,11 @@ module _ (live : LiveBytesStay) (words : List ℕ) (A : List Entry) (f : Family)
     -- ---- a local step
 
     -- a closed successor has room
-    room_at : (to : Node) → Contains f.nodes to → to.key.inst ≡ g.node.key.inst → (form : SpForm) → to.key.sp ≡ form → HasRoom g.origin.base form
-    room_at to present inst (Closed offset) is = (low_base, omega (arith, in_bound, sound.small, sound.offsets to offset present is, ap f.need_of inst))
+    room_at : (to : Node) → Contains f.nodes to → to.key.inst ≡ g.node.key.inst → (form : SpForm) → to.key.sp ≡ form → HasRoom m.device g.origin.base form
+    room_at to present inst (Closed offset) is = (low_base, omega (arith, in_bound, small, sound.offsets to offset present is, ap f.need_of inst))
     room_at to present inst (Open offset high) is = tt
 
-    base_at : (base : ℕ) (form : SpForm) → HasRoom base form → IsWithinBase base form
+    base_at : (base : ℕ) (form : SpForm) → HasRoom m.device base form → IsWithinBase base form
     base_at base (Closed offset) room = omega (arith, room.0, room.1)
     base_at base (Open offset high) room = tt
 
@@ -96,19 +114,21 @@ module _ (live : LiveBytesStay) (words : List ℕ) (A : List Entry) (f : Family)
                 let stands : Stands g.origin to.state n = record {
                   registers = lands.registers;
                   flags = lands.flags;
+                  less = lands.less;
                   slots = lands.slots (base_at g.origin.base to.key.sp room) (lands.inside room) kept;
                 } in
                 let left = left_kept words A f sound m.memory n.memory _ kept gs g.node.key.inst g.origin (floor_fits g.origin.base n.is_open n.sp to.key.sp place.sp) runs.left in (
                   record { node = node; origin = g.origin },
                   gs,
                   record {
+                    device = runs.device;
                     present = cov.present;
                     running = record {
                       machine = machine;
                       node = sound.formed node cov.present;
                       place = place;
                       stands = values_say_less.state g.origin to.state cov.state n (states_are_ordered.through to.state joined.state cov.state joined.above cov.above) stands;
-                      root = subst (λ (i : InstKey). i.kind ≡ Root → g.origin.base ≡ RAMEND) (sym inst) runs.running.root;
+                      root = subst (λ (i : InstKey). i.kind ≡ Root → g.origin.base ≡ ramend m.device) (sym inst) runs.running.root;
                       base_word = runs.running.base_word;
                     };
                     left = subst (λ i. AreLeft words A f n.memory gs i g.origin) (sym inst) left;
@@ -127,10 +147,10 @@ module _ (live : LiveBytesStay) (words : List ℕ) (A : List Entry) (f : Family)
     entry_origin = record { registers = m.registers; sreg = m.sreg; base = minus16 m.sp 2 }
 
     module _ (way : EdgeKind) (inst : InstKey) (back offset : ℕ) (form : g.node.key.sp ≡ Closed offset) (enters : Enters words A g.node way inst back) where
-      room : RAMEND + 2 ≤ m.sp + SIZE
-      room = omega (arith, in_bound, sound.small, sound.needs g.node way inst back runs.present enters, ap offset_of form, closed_sp offset form)
+      room : ramend m.device + 2 ≤ m.sp + size_of m.device
+      room = omega (arith, in_bound, small, sound.needs g.node way inst back runs.present enters, ap offset_of form, closed_sp offset form)
 
-      top : m.sp ≤ RAMEND
+      top : m.sp ≤ ramend m.device
       top = omega (arith, low_base, closed_sp offset form)
 
       covered : IsCovered f.nodes (record { key = entry_key inst; state = entered g.node.state })
@@ -146,10 +166,11 @@ module _ (live : LiveBytesStay) (words : List ℕ) (A : List Entry) (f : Family)
               present = runs.present;
               registers = runs.running.stands.registers;
               flags = runs.running.stands.flags;
-              slots = slots_follow.kept g.origin m.memory n (minus16 m.sp 2) g.node.state.slots kept (omega (arith, count_slots, ap offset_of form, room, sp)) runs.running.stands.slots;
+              less = runs.running.stands.less;
+              slots = slots_follow.kept g.origin m.memory n (minus16 m.sp 2) g.node.state.slots kept (omega (arith, count_slots, ap offset_of form, room, top, few, sp)) runs.running.stands.slots;
               offset = offset;
               closed = form;
-              place = omega (arith, room, top, sp);
+              place = omega (arith, room, top, few, sp);
               way = way;
               back = back;
               enters = enters;
@@ -159,10 +180,10 @@ module _ (live : LiveBytesStay) (words : List ℕ) (A : List Entry) (f : Family)
               low_live = pushed.low_live;
               high_live = pushed.high_live;
             },
-            left_kept words A f sound m.memory n (minus16 m.sp 2) kept gs g.node.key.inst g.origin (omega (arith, room, top, sp)) runs.left,
+            left_kept words A f sound m.memory n (minus16 m.sp 2) kept gs g.node.key.inst g.origin (omega (arith, room, top, few, sp)) runs.left,
           )
 
-      module _ (target sreg enables : ℕ) (to : target ≡ inst.entry) (flags : sreg % 128 ≡ m.sreg % 128) (i : flag sreg 7 ≡ inst.i) (masks : enables ≡ inst.masks) where
+      module _ (target sreg enables : ℕ) (to : wrapped m.device target ≡ inst.entry) (flags : sreg % 128 ≡ m.sreg % 128) (i : flag sreg 7 ≡ inst.i) (masks : enables ≡ inst.masks) where
         pub frames_enter : (c : Choice)
             → ((state : AbsState) → IsStateWithin (entered g.node.state) state → Change words A g gs c (record { node = record { key = entry_key inst; state = state }; origin = entry_origin }) (g ∷ gs))
             → GoesOn (Follow words A f c g gs) m true (entry_effect m target sreg enables back)
@@ -172,14 +193,16 @@ module _ (live : LiveBytesStay) (words : List ℕ) (A : List Entry) (f : Family)
             let stands : Stands entry_origin (entered g.node.state) n = record {
               registers = entries_are_true.registers g.origin g.node.state m.registers m.sreg (minus16 m.sp 2) formed.count_registers runs.running.stands.registers;
               flags = entries_are_true.flags g.origin g.node.state (offset_of g.node.key.sp) m.registers m.sreg sreg (minus16 m.sp 2) formed flags runs.running.stands.flags;
+              less = tt;
               slots = λ d lt. absurd (omega arith);
             } in
             record {
-              inside = two_inside m.sp back top room;
+              inside = two_inside m.device m.sp back top room;
               done = λ miss machine. (
                 entry_frame,
                 g ∷ gs,
                 record {
+                  device = runs.device;
                   present = covered.present;
                   running = record {
                     machine = machine;
@@ -189,7 +212,7 @@ module _ (live : LiveBytesStay) (words : List ℕ) (A : List Entry) (f : Family)
                     root = λ kind. absurd (not_root enters kind);
                     base_word = omega arith;
                   };
-                  left = left_by n.memory (kept_by true (entry_effect m target sreg enables back) miss) (way_pushed m.memory m.sp back runs.running.machine.count_bytes runs.running.machine.count_live top room);
+                  left = left_by n.memory (kept_by true (entry_effect m target sreg enables back) miss) (way_pushed m.device m.memory m.sp back runs.running.machine.count_bytes runs.running.machine.count_live top room);
                 },
                 change covered.state covered.above,
               );
@@ -222,37 +245,43 @@ module _ (live : LiveBytesStay) (words : List ℕ) (A : List Entry) (f : Family)
           let caller = sound.formed h.node was.present in
           let callee = subst (λ sp. IsFormed g.node.state (offset_of sp)) form runs.running.node.formed in
           let sp : m.sp ≡ g.origin.base = omega (arith, closed_sp 0 form) in
-          let floor : floor_of n.is_open n.sp ≡ g.origin.base + 2 = ap₂ floor_of still_closed raised_sp ∙ omega (arith, low_base, sp) in
+          let floor : floor_of n.is_open n.sp ≡ g.origin.base + 2 = ap₂ floor_of still_closed raised_sp ∙ omega (arith, low_base, few, sp) in
           let kept = subst (Keeps m.memory n.memory) floor (kept_by guarded e miss) in
           let slots = slots_follow.kept h.origin m.memory n.memory (g.origin.base + 2) h.node.state.slots kept (omega (arith, was.place, ap offset_of was.closed, caller.formed.count_slots)) was.slots in
           let back = returns_are_true.stands h.origin g.origin h.node.state g.node.state (offset_of h.node.key.sp) g.origin.registers m.registers g.origin.sreg m.sreg e.sreg n.memory
-          caller.formed callee was.registers was.flags slots (record { registers_kept = refl; flags_kept = refl }) runs.running.stands.registers runs.running.stands.flags is.flags in
+          caller.formed callee was.registers was.flags was.less slots (record { registers_kept = refl; flags_kept = refl }) runs.running.stands.registers runs.running.stands.flags is.flags in
           let edge = returning was.way g.node.key.inst was.back g.node x back.0 was.enters runs.present refl faultless exit back.1 in
           let cov = sound.edges h.node _ was.present edge in
-          let key = returned_key h.node.key was.back x in
+          let key = returned_key was.way h.node.key was.back x in
           let node = sound.formed (record { key = key; state = cov.state }) cov.present in
           let stands : Stands h.origin back.0 n = record {
             registers = subst (RegistersStand h.origin back.0.registers) (sym same_registers) back.2;
             flags = subst (FlagsStand h.origin back.0.flags) (sym same_sreg) back.3;
-            slots = back.4;
+            less = subst₂ (λ (rs : List ℕ) (x : ℕ). LessHolds rs back.0.flags.carry (flag x 0)) (sym same_registers) (sym same_sreg) back.4;
+            slots = back.5;
           } in (
             record { node = record { key = key; state = cov.state }; origin = h.origin },
             hs,
             record {
+              device = runs.device;
               present = cov.present;
               running = record {
                 machine = machine;
                 node = node;
                 place = record {
-                  pc = is.pc ∙ way_read m g.origin.base was.back b1 b2 sp low_base node.word record { low_byte = was.low_byte; high_byte = was.high_byte; low_live = was.low_live; high_live = was.high_live };
+                  pc = is.pc
+                      ∙ ap (wrapped m.device)
+                      (way_read m g.origin.base was.back b1 b2 runs.running.machine.count_live sp low_base node.word
+                      record { low_byte = was.low_byte; high_byte = was.high_byte; low_live = was.low_live; high_live = was.high_live })
+                      ∙ devices_are_alike.same m.device was.back (on_machine (λ device. was.back < words_of device) (back_inside was.enters));
                   enables = ap₂ enables_after is.enables is.stores;
                   i = ap (λ s. flag s 7) same_sreg ∙ is.i;
                   delay = is.delay;
-                  sp = subst (SpIs h.origin.base n.is_open n.sp) (sym was.closed) (still_closed, omega (arith, raised_sp, was.place, low_base, sp));
+                  sp = subst (SpIs h.origin.base n.is_open n.sp) (sym was.closed) (still_closed, omega (arith, raised_sp, was.place, low_base, few, sp));
                 };
                 stands = values_say_less.state h.origin back.0 cov.state n cov.above stands;
-                root = root_base words A f n.memory hs h.node.key.inst h.origin (left_kept words A f sound m.memory n.memory (g.origin.base + 2) kept hs h.node.key.inst h.origin (omega (arith, was.place)) left.1);
-                base_word = omega (arith, base_inside words A f sound m.memory hs h.node.key.inst h.origin left.1);
+                root = λ kind. root_base words A f n.memory hs h.node.key.inst h.origin (left_kept words A f sound m.memory n.memory (g.origin.base + 2) kept hs h.node.key.inst h.origin (omega (arith, was.place)) left.1) kind ∙ ap ramend (sym runs.device);
+                base_word = omega (arith, base_inside words A f sound m.memory hs h.node.key.inst h.origin left.1, devices_are_alike.most_bytes (device_of words));
               };
               left = left_kept words A f sound m.memory n.memory (g.origin.base + 2) kept hs h.node.key.inst h.origin (omega (arith, was.place)) left.1;
             },
@@ -262,6 +291,6 @@ module _ (live : LiveBytesStay) (words : List ℕ) (A : List Entry) (f : Family)
       pub frames_return : g.node.key.inst.kind ≢ Root → GoesOn (Follow words A f (Go b1 b2) g gs) m guarded e
       frames_return kind =
           record {
-            inside = ap all_inside is.pushes;
+            inside = ap (all_inside m.device) is.pushes;
             done = λ miss machine. pops gs refl kind runs.left miss machine;
           }

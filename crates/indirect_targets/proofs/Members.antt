@@ -2,7 +2,7 @@
 use Rattle.std.proofs.Common.{◌≡◌, ◌∙◌, sym, ap, subst, refl, ℕ, zero, suc, ◌+◌, ◌-◌, ◌*◌, ◌/◌, ◌%◌, ◌^◌, ◌<◌, ◌≤◌, arith, inl, inr, true, false, cond, ltb, List, [], ◌∷◌, map, length, length-append, get_or, add-one, Result, Ok, Err}
 use Rattle.std.specs.Int.{bit_at}
 use Rattle.std.specs.List.{All, Contains}
-use Rattle.std.specs.Result.{IsErr}
+use Rattle.std.specs.Result.{IsErr, IsOk}
 use Rattle.std.proofs.Math.Pow.{pow_mono}
 use Rattle.std.proofs.lemmas.Bool.{cases_lt, cases_eq, false≢true}
 use Rattle.std.proofs.lemmas.Bool.Decides.{nat_tests}
@@ -153,12 +153,20 @@ grows f n (suc m) h = elim (cases_eq n (suc m)) [
 ]
 
 -- too many by then are too many in the end
-pub stays_many : (f : ℕ → Tri) (i : ℕ) (ns : List ℕ) → i < 14 → ns ≡ numbers_of f (i + 1) → most_targets < length ns → most_targets < length (numbers_of f 14)
-stays_many f i ns lt e many = let more = grows f (i + 1) 14 (omega arith) in omega (arith, ap length e)
+pub stays_many : (f : ℕ → Tri) (i width : ℕ) (ns : List ℕ) → i < width → ns ≡ numbers_of f (i + 1) → most_targets < length ns → most_targets < length (numbers_of f width)
+stays_many f i width ns lt e many = let more = grows f (i + 1) width (omega arith) in omega (arith, ap length e)
+
+-- few of all 14 bits are few of so many
+pub stays_few : (f : ℕ → Tri) (width : ℕ) → width ≤ 14 → length (numbers_of f 14) ≤ most_targets → length (numbers_of f width) ≤ most_targets
+stays_few f width le few = omega (arith, grows f width 14 le)
 
 pub keeps_err : {E : Type 0} (r : Result (List ℕ) E) (due : List ℕ) → IsErr r → most_targets < length due → Keeps r due
 keeps_err (Ok t) due err many = absurd (false≢true err)
 keeps_err (Err e) due err many = many
+
+pub few_are_kept : {E : Type 0} (r : Result (List ℕ) E) (due : List ℕ) → Keeps r due → length due ≤ most_targets → IsOk r
+few_are_kept (Ok t) due kept few = refl
+few_are_kept (Err e) due many few = absurd (omega (arith, many, few))
 
 pub weight_is : (i : ℕ) → i < 14 → 1 * 2 ^ i % 65536 ≡ 2 ^ i
 weight_is i lt = let small : 2 ^ i ≤ 2 ^ 13 = pow_mono (let le : i ≤ 13 = omega arith in le) in omega arith

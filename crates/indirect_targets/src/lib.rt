@@ -11,5 +11,5 @@ pub mod writing;
 pub use fault::AssumeText;
 pub use reading::{entry_of, read};
 pub use target_list::{Targets, TooMany};
-pub use transfer::targets;
+pub use transfer::{targets, targets_on};
 pub use writing::write;

@@ -243,7 +243,7 @@ fn read_lines(alloc: Global, text: &[u8]) -> Result<Assumptions, AssumeText>
 
 /// Reads the assumption list whose text this is.
 ///
-/// The text has a line for each entry: `jump SITE W1 W2 ...`, `store SITE A1 A2 ...` or `prove SITE`, with word addresses and
+/// The text has a line for each entry: `jump SITE WORD ...`, `store SITE ADDRESS ...` or `prove SITE`, with word addresses and
 /// protected addresses in four upper-case hexadecimal digits, single spaces, and a line feed behind each line. Where it is
 /// the text of no list, the first line at which none can go on is told: `Malformed` where that line isn't of its form or is
 /// line 4,097, else `Order`. Source: own.

@@ -2,7 +2,7 @@
 
 ghost use Rattle.std.specs.Prelude.{◌≡◌, ◌≤◌, ◌<◌, ◌↔◌, length, IfOk, IsOk, IsErr};
 ghost use Rattle.bit_domain.specs.Numbers as numbers;
-ghost use Rattle.bit_domain.specs.Numbers.{targets_of};
+ghost use Rattle.bit_domain.specs.Numbers.{numbers_of, targets_of};
 ghost use Rattle.indirect_targets.specs.Targets.{most_targets, Keeps};
 
 use crate::target_list::{Targets, TooMany};
@@ -17,13 +17,14 @@ fn pointer_bit(lo: &TriByte, hi: &TriByte, i: u8) -> Tri
     if i < 8 { lo.bit(i) } else { hi.bit(i - 8) }
 }
 
-/// The words, or that they are too many.
-fn words_of(lo: &TriByte, hi: &TriByte) -> Result<Targets, TooMany>
-    ensures { Keeps result (targets_of lo.now hi.now) }
+/// The words of so many bits, or that they are too many.
+fn words_of(lo: &TriByte, hi: &TriByte, width: u8) -> Result<Targets, TooMany>
+    requires { width ≤ 14 }
+    ensures { Keeps result (numbers_of (numbers.pointer_bit lo.now hi.now) width) }
 {
     numbers_are_permitted();
     let mut words = Targets::zero();
-    for i in 0..14 {
+    for i in 0..width {
         words = words.with_bit(pointer_bit(lo, hi, i), 1 << i)?;
     }
     Ok(words)
@@ -36,5 +37,16 @@ pub fn targets(lo: &TriByte, hi: &TriByte) -> Result<Targets, TooMany>
     ensures few { IsOk result ↔ (length (targets_of lo.now hi.now) ≤ most_targets) }
     ensures many { IsErr result ↔ (most_targets < length (targets_of lo.now hi.now)) }
 {
-    words_of(lo, hi)
+    words_of(lo, hi, 14)
+}
+
+/// The same of which only so many low bits count: the words that some of these is, modulo 2 to the power of `width`.
+/// `TooMany` exactly where there are more than 64 of all 14 bits.
+pub fn targets_on(lo: &TriByte, hi: &TriByte, width: u8) -> Result<Targets, TooMany>
+    requires { width ≤ 14 }
+    ensures words { IfOk result (λ t. t ≡ numbers_of (numbers.pointer_bit lo.now hi.now) width) }
+    ensures few { IsOk result ↔ (length (targets_of lo.now hi.now) ≤ most_targets) }
+{
+    words_of(lo, hi, 14)?;
+    words_of(lo, hi, width)
 }

@@ -23,7 +23,7 @@ use Rattle.instance_nesting.specs.declared.weight.Weight.TheVariants.{Light}
 use Rattle.instance_nesting.specs.Nestings.{Spot, Entrance, Noted, TellsAll}
 use Rattle.instance_nesting.specs.Drawn.{insts_of, number_of, AreApart, IsDrawn, HasEdge, HasMore, MoreKeys}
 use Rattle.instance_nesting.specs.Covers.{allowed, HasNumber, Allows, Covers, Passes, KeepsUp, grant, AreGranted, HaveRoom, IsBare, HaveRoomOver, IsKept}
-use Rattle.instance_nesting.proofs.Numbers.{number_within, root_number, numbered}
+use Rattle.instance_nesting.proofs.Numbers.{number_within, numbered}
 
 past : {X : Type 0} (xs : List X) (i : ℕ) (d : X) → length xs ≤ i → get_or xs i d ≡ d
 past [] i d le = refl
@@ -136,18 +136,11 @@ pub covers_graph : (others : List InstKey) (spots : List Spot) (entrances : List
     → HaveRoom ranks needs (length (root_inst ∷ others)) known unknown → Covers (root_inst ∷ others) known unknown spots entrances
 covers_graph others spots entrances gs drawn bare ranks needs least known unknown room = record {
   count = room.granted.total;
-  root = omega (arith, ap (λ (a : Allowance). a.need) root_granted, room.room);
   spots_of = spot_numbered (root_inst ∷ others) spots entrances gs drawn bare ranks needs least room.base room.share known unknown room.granted;
   each_spot = spot_allowed (root_inst ∷ others) spots entrances gs drawn bare ranks needs least room.base room.share known unknown room.granted;
   entered_from = from_numbered (root_inst ∷ others) spots entrances gs drawn bare ranks needs least room.base room.share known unknown room.granted;
   each_entrance = entrance_allowed (root_inst ∷ others) spots entrances gs drawn bare ranks needs least room.base room.share known unknown room.granted;
 }
-  where
-    itself : same_inst root_inst root_inst ≡ true
-    itself = (keys_are_ordered.same_insts root_inst root_inst).1 refl
-
-    root_granted : allowed (root_inst ∷ others) known unknown root_inst ≡ grant ranks needs room.base room.share 0
-    root_granted = ap (λ i. get_or known i unknown) (sym (root_number root_inst others itself)) ∙ room.granted.each 0 unknown (omega arith)
 
 -- ---- with one note more
 
@@ -229,7 +222,6 @@ module _ (keys : List InstKey) (k : InstKey) (known : List Allowance) (unknown :
   pub covers_push : (spots : List Spot) (entrances : List Entrance) → Covers keys known unknown spots entrances → Covers longer new lower spots entrances
   covers_push spots entrances covers = record {
     count = ap length passes.items ∙ length-append known (unknown ∷ []) ∙ ap (λ (n : ℕ). n + 1) count ∙ sym more_length;
-    root = omega (arith, (no_more root_inst).1, covers.root);
     spots_of = λ s h. (still_numbered s.inst (covers.spots_of s h)).1;
     each_spot = λ s h. subst (λ (a : Allowance). s.offset ≤ a.need) (sym (number_keeps s.inst (covers.spots_of s h))) (covers.each_spot s h);
     entered_from = λ x h. (still_numbered x.from (covers.entered_from x h)).1;
@@ -247,7 +239,6 @@ pub covers_lower : (keys : List InstKey) (known : List Allowance) (unknown lower
     → lower.need ≤ unknown.need → Covers keys known unknown spots entrances → Covers keys known lower spots entrances
 covers_lower keys known unknown lower spots entrances rank need covers = record {
   count = covers.count;
-  root = omega (arith, (less root_inst).1, covers.root);
   spots_of = covers.spots_of;
   each_spot = λ s h. subst (λ (a : Allowance). s.offset ≤ a.need) (same s.inst (covers.spots_of s h)) (covers.each_spot s h);
   entered_from = covers.entered_from;
@@ -281,7 +272,6 @@ pub covers_spot : (keys : List InstKey) (known : List Allowance) (unknown : Allo
     → Covers keys known unknown new entrances
 covers_spot keys known unknown spots new entrances s numbered le more covers = record {
   count = covers.count;
-  root = covers.root;
   spots_of = λ x h. ⊎_elim (λ old. covers.spots_of x old) (λ same. subst (λ (y : Spot). HasNumber keys y.inst) (sym same) numbered) ((more x).0 h);
   each_spot = λ x h. ⊎_elim (λ old. covers.each_spot x old) (λ same. subst (λ (y : Spot). y.offset ≤ (allowed keys known unknown y.inst).need) (sym same) le) ((more x).0 h);
   entered_from = covers.entered_from;
@@ -293,7 +283,6 @@ pub covers_entrance : (keys : List InstKey) (known : List Allowance) (unknown : 
     → Covers keys known unknown spots entrances → Covers keys known unknown spots new
 covers_entrance keys known unknown spots entrances new x numbered allows more covers = record {
   count = covers.count;
-  root = covers.root;
   spots_of = covers.spots_of;
   each_spot = covers.each_spot;
   entered_from = λ y h. ⊎_elim (λ old. covers.entered_from y old) (λ same. subst (λ (z : Entrance). HasNumber keys z.from) (sym same) numbered) ((more y).0 h);
@@ -362,8 +351,9 @@ falls : (words : List ℕ) (A : List Entry) (f : Family) (rank : InstKey → ℕ
 falls words A f rank are _ _ (rounds.once i j offset e) = are i j offset e
 falls words A f rank are _ _ (rounds.more i j k offset e rest) = omega (arith, are i j offset e, falls words A f rank are j k rest)
 
-pub light : (keys : List InstKey) (known : List Allowance) (unknown : Allowance) (n : Noted) → Covers keys known unknown n.spots n.entrances → TellsAll n Light
-light keys known unknown n covers words A f root nesting = (
+pub light : (size : ℕ) (keys : List InstKey) (known : List Allowance) (unknown : Allowance) (n : Noted) → (allowed keys known unknown root_inst).need ≤ size
+    → Covers keys known unknown n.spots n.entrances → TellsAll size n Light
+light size keys known unknown n le covers words A f sized root nesting = (
   λ i reaches. let lt = falls words A f rank are_ranks i i reaches in omega (arith, lt),
   record {
     need = need;
@@ -373,7 +363,7 @@ light keys known unknown n covers words A f root nesting = (
           ((nesting.spots (record { inst = node.key.inst; offset = offset })).1 (record { node = node; has = has; of = refl; closed = closed }));
       entered = λ i j offset e. (allows i j offset e).need;
     };
-    small = covers.root;
+    small = omega (arith, le, sized);
   },
 )
   where

@@ -85,8 +85,8 @@ module _ (n : Noted) (others : List InstKey) (gs : List GraphInst) (drawn : IsDr
       all_places = all_places;
     }
 
-  pub tells_all : (w : Weight) → GraphTells gs w → TellsAll n w
-  tells_all w tells words A f root nesting = tells words A f keys (is_graph_of words A f nesting)
+  pub tells_all : (size : ℕ) (w : Weight) → GraphTells size gs w → TellsAll size n w
+  tells_all size w tells words A f sized root nesting = tells words A f keys sized (is_graph_of words A f nesting)
 
 -- ---- from the graph
 
@@ -97,20 +97,20 @@ module _ (tell : GraphsTell) (gs : List GraphInst) where
         let k = there keys at (tell.named words A f keys gs at of named) in
         k.1 ∙ ap (λ (x : InstKey). Some x) (sym (of.keyed at g k.0 is k.1))
 
-    pub re_entry : (v : ℕ) → g.key.kind ≡ Vector v → GraphTells gs (ReEntry v g.key.entry)
-    re_entry v kind words A f keys of = tell.re_entry words A f keys gs at v g.key of named (number words A f keys of) kind
+    pub re_entry : (v : ℕ) → g.key.kind ≡ Vector v → (size : ℕ) → GraphTells size gs (ReEntry v g.key.entry)
+    re_entry v kind size words A f keys sized of = tell.re_entry words A f keys gs at v g.key of named (number words A f keys of) kind
 
-    pub recursion : group_of g.key.kind ≡ 1 → GraphTells gs (Recursion g.key.entry)
-    recursion one words A f keys of = tell.recursion words A f keys gs at g.key of named (number words A f keys of) one
+    pub recursion : group_of g.key.kind ≡ 1 → (size : ℕ) → GraphTells size gs (Recursion g.key.entry)
+    recursion one size words A f keys sized of = tell.recursion words A f keys gs at g.key of named (number words A f keys of) one
 
   module _ (ranks needs : List ℕ) (least : IsLeast gs ranks needs) (acyclic : (i : ℕ) → graph.Reaches gs i i → ⊥) where
-    pub light : slice_index needs 0 ≤ 2048 → GraphTells gs Light
-    light le words A f keys of =
+    pub light : (size : ℕ) → slice_index needs 0 ≤ size → GraphTells size gs Light
+    light size le words A f keys sized of =
         let root = tell.root words A f keys gs ranks needs of least in
-        (tell.acyclic words A f keys gs of acyclic, record { need = root.need; are = root.are; small = omega (arith, root.is, le) })
+        (tell.acyclic words A f keys gs of acyclic, record { need = root.need; are = root.are; small = omega (arith, root.is, le, sized) })
 
-    pub too_deep : 2048 < slice_index needs 0 → GraphTells gs (TooDeep (slice_index needs 0))
-    too_deep lt words A f keys of = (tell.acyclic words A f keys gs of acyclic, tell.root words A f keys gs ranks needs of least, lt)
+    pub too_deep : (size : ℕ) → size < slice_index needs 0 → GraphTells size gs (TooDeep (slice_index needs 0))
+    too_deep size lt words A f keys sized of = (tell.acyclic words A f keys gs of acyclic, tell.root words A f keys gs ranks needs of least, omega (arith, lt, sized))
 
 -- ---- a named instance is there
 

@@ -21,11 +21,10 @@ pub record Allows (from into : Allowance) (offset : ℕ) : Type 0 where
   pub rank : into.rank < from.rank
   pub need : offset + 2 + into.need ≤ from.need
 
--- what is allowed covers all spots and entrances, and allows the root no more than SRAM has; each instance with a number has its own
--- allowance, and only such have spots and enter others
+-- what is allowed covers all spots and entrances; each instance with a number has its own allowance, and only such have spots and enter
+-- others
 pub record Covers (keys : List InstKey) (known : List Allowance) (unknown : Allowance) (spots : List Spot) (entrances : List Entrance) : Type 0 where
   pub count : length known ≡ length keys
-  pub root : (allowed keys known unknown root_inst).need ≤ 2048
   pub spots_of : (s : Spot) → Contains spots s → HasNumber keys s.inst
   pub each_spot : (s : Spot) → Contains spots s → s.offset ≤ (allowed keys known unknown s.inst).need
   pub entered_from : (x : Entrance) → Contains entrances x → HasNumber keys x.from
@@ -57,12 +56,11 @@ pub record AreGranted (ranks needs : List ℕ) (base share count : ℕ) (known :
   pub each : (i : ℕ) (other : Allowance) → i < count → slice_index_or known i other ≡ grant ranks needs base share i
   pub others : unknown ≡ record { rank = 65535; need = base }
 
--- some room for all alike, and some share, that the root's need leaves
+-- with some room for all alike, and some share
 pub record HaveRoom (ranks needs : List ℕ) (count : ℕ) (known : List Allowance) (unknown : Allowance) : Type 0 where
   pub base : ℕ
   pub share : ℕ
   pub granted : AreGranted ranks needs base share count known unknown
-  pub room : slice_index needs 0 + base + share * (slice_index ranks 0 + 1) ≤ 2048
 
 -- ---- what a nesting keeps
 

@@ -2,7 +2,7 @@
 use Rattle.std.specs.Prelude.{ℕ, ◌≡◌, ◌<◌, ◌≤◌, ◌↔◌, ◌⊎◌, List, [], length, Contains, Some, slice_get}
 use Rattle.std.specs.FinMap.{len}
 use Rattle.avr_model.specs.declared.assumption.Entry.{Entry}
-use Rattle.avr_model.specs.State.{SIZE}
+use Rattle.avr_model.specs.Devices.{device_of, size_of}
 use Rattle.mask_states.specs.declared.keys.InstKey.{InstKey}
 use Rattle.mask_states.specs.declared.keys.NodeKey.{NodeKey}
 use Rattle.mask_states.specs.declared.keys.SpForm.TheVariants.{Closed}
@@ -80,11 +80,12 @@ abbrev pub Tells : List ℕ → List Entry → Family → Weight → Type 0
 Tells words A f Light = IsAcyclic words A f × IsShallow words A f
 Tells words A f (ReEntry v word) = IsReEntry words A f v word
 Tells words A f (Recursion word) = IsRecursion words A f word
-Tells words A f (TooDeep d) = IsAcyclic words A f × IsRootNeed words A f d × (SIZE < d)
+Tells words A f (TooDeep d) = IsAcyclic words A f × IsRootNeed words A f d × (size_of (device_of words) < d)
 
--- of each family of which it is the nesting, and in which the root has a node
-abbrev pub TellsAll : Noted → Weight → Type 0
-TellsAll n w = (words : List ℕ) (A : List Entry) (f : Family) → HasInst f root_inst → IsNestingOf words A f n → Tells words A f w
+-- of each family of which it is the nesting, in which the root has a node, and whose device's SRAM has so many bytes
+abbrev pub TellsAll : ℕ → Noted → Weight → Type 0
+TellsAll size n w =
+    (words : List ℕ) (A : List Entry) (f : Family) → size_of (device_of words) ≡ size → HasInst f root_inst → IsNestingOf words A f n → Tells words A f w
 
 -- ---- laws
 

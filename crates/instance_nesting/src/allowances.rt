@@ -1,12 +1,10 @@
 //! What each instance is allowed, so that most of what is noted needs no new graph.
 
 ghost use Rattle.std.specs.Prelude.{◌≡◌, ◌+◌, ◌*◌, ◌^◌, ◌<◌, ◌≤◌, slice_index};
-ghost use Rattle.avr_model.specs.State.{SIZE};
 ghost use Rattle.mask_states.specs.Keys.{root_inst};
 
 use crate::drawing::number;
 use crate::notes::{NotedEntrance, NotedInst, NotedSpot};
-use avr_model::device::SIZE;
 use indexmap::IndexSet;
 use mask_states::InstKey;
 use nesting_bound::Composed;
@@ -47,8 +45,8 @@ impl Allowance {
 
     // What the instance of this number is allowed, where all alike have this base, and each step of ranks this share.
     fn granted(composed: &Composed, i: usize, base: u64, share: u64) -> Allowance
-        requires base { base ≤ SIZE }
-        requires share { share ≤ SIZE }
+        requires base { base < 2 ^ 16 }
+        requires share { share < 2 ^ 16 }
         ensures { result ≡ grant composed.now.ranks composed.now.needs base share i }
     {
         let steps = number_at(composed.ranks.as_slice(), i) + 1;
@@ -97,13 +95,18 @@ impl Allowances {
         }
     }
 
-    /// What is granted over these ranks and needs of so many instances. Of the room that the root has left, half is for all alike,
+    /// What is granted over these ranks and needs of so many instances. Of the room that the root has left in so many bytes, half is for all alike,
     /// and half is shared out among the steps of ranks.
-    pub fn over(alloc: Global, composed: &Composed, count: usize) -> Result<Allowances, AllocError>
-        requires { slice_index composed.now.needs 0 ≤ SIZE }
+    pub fn over(
+        alloc: Global,
+        composed: &Composed,
+        count: usize,
+        size: u16,
+    ) -> Result<Allowances, AllocError>
+        requires { slice_index composed.now.needs 0 ≤ size }
         ensures { IfOk result (λ a. HaveRoom composed.now.ranks composed.now.needs count a.known.items a.unknown) }
     {
-        let base = base(composed);
+        let base = base(composed, size);
         let share = share(composed, base);
         let mut known = Vec::new(alloc);
         for i in 0..count {
@@ -147,6 +150,13 @@ impl Allowances {
             .unwrap_or(self.unknown)
     }
 
+    /// Whether the root is allowed no more than so many bytes.
+    pub fn allow_root(&self, others: &IndexSet<NotedInst>, size: u16) -> bool
+        ensures { IsTrue result → (allowed (root_inst ∷ others.now.keys) self.now.known.items self.now.unknown root_inst).need ≤ size }
+    {
+        self.of(others, &InstKey::root()).need <= u64::from(size)
+    }
+
     /// Whether the spot is covered.
     pub fn allow_spot(&self, others: &IndexSet<NotedInst>, spot: &NotedSpot) -> bool
         ensures { IsTrue result → spot.now.offset ≤ (allowed (root_inst ∷ others.now.keys) self.now.known.items self.now.unknown spot.now.inst).need }
@@ -167,12 +177,12 @@ impl Allowances {
     }
 }
 
-// Half of what the root's need leaves.
-fn base(composed: &Composed) -> u64
-    requires { slice_index composed.now.needs 0 ≤ SIZE }
-    ensures { slice_index composed.now.needs 0 + 2 * result ≤ SIZE }
+// Half of what the root's need leaves of so many bytes.
+fn base(composed: &Composed, size: u16) -> u64
+    requires { slice_index composed.now.needs 0 ≤ size }
+    ensures { slice_index composed.now.needs 0 + 2 * result ≤ size }
 {
-    (u64::from(SIZE) - number_at(composed.needs.as_slice(), 0)) / 2
+    (u64::from(size) - number_at(composed.needs.as_slice(), 0)) / 2
 }
 
 // As much for each step of ranks from nothing to the root as this room has.

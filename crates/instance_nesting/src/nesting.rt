@@ -155,14 +155,15 @@ impl Nesting {
         Ok(())
     }
 
-    /// What the nesting tells of the family. What was noted stays. Where the root has no node, nothing is told.
-    pub fn weigh(&mut self) -> Result<Weight, AllocError>
+    /// What the nesting tells of the family on a device whose SRAM has so many bytes. What was noted stays. Where the root has no node,
+    /// nothing is told.
+    pub fn weigh(&mut self, size: u16) -> Result<Weight, AllocError>
         requires { length self.old.insts ≤ 65536 }
-        ensures tells { IfOk result (λ w. TellsAll self.old w) }
+        ensures tells { IfOk result (λ w. TellsAll size self.old w) }
         ensures same { AreAlike self.old self.new }
         ensures once { AreOnce self.new.insts }
     {
-        if self.covered {
+        if self.covered && self.allowances.allow_root(&self.others, size) {
             return Ok(Weight::Light);
         }
         if !self.has_root {
@@ -178,6 +179,7 @@ impl Nesting {
             self.alloc,
             &graph,
             self.others.len() + 1,
+            size,
         )?;
         match allowances {
             Some(allowances) => {

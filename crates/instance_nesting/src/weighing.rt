@@ -13,7 +13,6 @@ ghost use Rattle.instance_nesting.specs.Covers.{IsBare, HaveRoomOver};
 
 use crate::allowances::Allowances;
 use crate::weight::Weight;
-use avr_model::device::SIZE;
 use graph_laws::laws::graphs_tell;
 use mask_states::{InstKey, Kind};
 use nesting_bound::{ComposeFault, Composed, Graph, GraphInst, compose};
@@ -22,7 +21,7 @@ use std::alloc::{AllocError, Global};
 // How an instance that reaches itself is named.
 fn named(graph: &[GraphInst], at: u32) -> Weight
     requires { IsNamed graph.now at }
-    ensures { GraphTells graph.now result }
+    ensures { (size : ℕ) → GraphTells size graph.now result }
 {
     graphs_tell();
     let key = &graph[at as usize].key;
@@ -49,11 +48,16 @@ pub(crate) struct Weighed {
     pub allowances: Option<Allowances>,
 }
 
-/// What the graph of a family tells. So many of its instances have numbers, and the one behind stands for all that have none: nothing is
-/// allowed where that has places or enters others.
-pub(crate) fn weigh_graph(alloc: Global, graph: &Graph, count: usize) -> Result<Weighed, AllocError>
+/// What the graph of a family tells on a device whose SRAM has so many bytes. So many of its instances have numbers, and the one behind
+/// stands for all that have none: nothing is allowed where that has places or enters others.
+pub(crate) fn weigh_graph(
+    alloc: Global,
+    graph: &Graph,
+    count: usize,
+    size: u16,
+) -> Result<Weighed, AllocError>
     requires { IsGraph graph.now.instances }
-    ensures tells { IfOk result (λ w. GraphTells graph.now.instances w.weight) }
+    ensures tells { IfOk result (λ w. GraphTells size graph.now.instances w.weight) }
     ensures room { IfOk result (λ w. IfSome w.allowances (λ a. HaveRoomOver graph.now.instances count a.known.items a.unknown)) }
 {
     graphs_tell();
@@ -68,14 +72,14 @@ pub(crate) fn weigh_graph(alloc: Global, graph: &Graph, count: usize) -> Result<
         Err(ComposeFault::Memory) => return Err(AllocError),
     };
     let need = composed.need(0);
-    if need > u32::from(SIZE) {
+    if need > u32::from(size) {
         return Ok(Weighed {
             weight: Weight::TooDeep(need),
             allowances: None,
         });
     }
     let allowances = if is_bare(graph.instances.as_slice(), count) {
-        Some(Allowances::over(alloc, &composed, count)?)
+        Some(Allowances::over(alloc, &composed, count, size)?)
     } else {
         None
     };

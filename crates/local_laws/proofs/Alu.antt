@@ -1,13 +1,9 @@
 -- Rows that work on registers and flags alone.
-use Rattle.std.proofs.Common.{◌≡◌, refl, sym, ◌∙◌, ap, subst, subst₂, ℕ, zero, suc, ◌+◌, ◌-◌, ◌*◌, ◌/◌, ◌%◌, ◌<◌, ◌==◌, nat_lt, nat_le, Bool, true, false, not, ◌&&◌, ◌||◌, if◌then◌else◌, ⊎_elim, List, [], length, Option, Some, None, slice_index, arith, bit_xor}
+use Rattle.std.proofs.Common.{◌≡◌, refl, sym, ◌∙◌, ap, subst, subst₂, ℕ, zero, suc, ◌+◌, ◌-◌, ◌*◌, ◌/◌, ◌%◌, ◌<◌, ◌==◌, nat_lt, nat_le, Bool, true, false, not, ◌&&◌, ◌||◌, if◌then◌else◌, [], Option, Some, None, ◌∷◌, arith, bit_xor}
 use Rattle.std.specs.Int.{bit_at, from_bool}
-use Rattle.std.specs.List.{All}
 use Rattle.std.proofs.lemmas.Int.{ints}
 use Rattle.std.specs.Int.Bits.{xor_self}
-use Rattle.std.proofs.lemmas.Bool.{cases_lt}
 use Rattle.std.proofs.lemmas.Bool.Decides.{nat_tests}
-use Rattle.std.proofs.lemmas.List.{get_or_past}
-use Rattle.std.proofs.lemmas.List.Elements.{All-get_or}
 use Rattle.avr_model.specs.declared.operation.Logic.{Logic}
 use Rattle.avr_model.specs.declared.operation.Logic.TheVariants as logic
 use Rattle.avr_model.specs.declared.operation.Shift.{Shift}
@@ -36,28 +32,26 @@ use Rattle.sp_domain.specs.declared.tags.Tag.{Tag}
 use Rattle.sp_domain.specs.declared.tags.Tag.TheVariants as tag
 use Rattle.sp_domain.specs.declared.tags.CarryTag.{CarryTag}
 use Rattle.sp_domain.specs.declared.tags.CarryTag.TheVariants as carry_tag
-use Rattle.sp_domain.specs.Tags.{Origin, TagHolds, CarryHolds}
+use Rattle.sp_domain.specs.Tags.{Origin, TagHolds, CarryHolds, LessHolds}
 use Rattle.sp_domain.specs.Laws.{PairHolds}
 use Rattle.sp_domain.proofs.AllLaws.{differences_are_true, pairs_are_true}
 use Rattle.abs_state.specs.declared.values.AbsByte.{AbsByte}
 use Rattle.abs_state.specs.declared.state.AbsState.{AbsState}
 use Rattle.abs_state.specs.Values.{untagged}
+use Rattle.abs_state.specs.Formed.{CarryIsUntagged}
 use Rattle.abs_state.specs.Stands.{ByteStands, RegistersStand}
+use Rattle.abs_state.proofs.AllLaws.{bits_make_values}
 use Rattle.mask_states.specs.declared.keys.NodeKey.{NodeKey}
 use Rattle.local_rules.specs.Raw.{setting as node_setting}
-use Rattle.local_rules.specs.Registers.{value, bits, carry_bit, with_bits, set as node_set, set_pair as node_pair, with_carry, but_carry, sum_row, compare_row, difference_row, low_tag, borrow_tag, high_tag, sub_row, sbc_row, logic_row, kept_tag, step_row, shift_row, com_row, swapped, product_row, down_by, pair_tags, pair_moved, wide_row}
+use Rattle.local_rules.specs.Registers.{value, bits, carry_bit, with_bits, set as node_set, set_pair as node_pair, with_carry, but_carry, low_tag, borrow_tag, high_tag, swapped, product_row, down_by, pair_tags, pair_moved, wide_row, going_with, sum_after, compare_after, difference_after, sub_after, sbc_after, logic_after, step_after, shift_after, com_after}
 use Rattle.local_rules.specs.Cover.{InFrame, Follows}
 use Rattle.local_laws.proofs.Bits.{with_flags_i, with_flags_carry, with_carry_and_zero_i, permits_flag, constant_is, has_known}
+use Rattle.local_laws.proofs.Bytes.{byte_in_list}
+use Rattle.local_laws.proofs.EffectSizes.{logic_small, shift_small, result_small, wide_small}
 use Rattle.local_laws.proofs.Frame.{register_stands, set_one, set_two, sets}
+use Rattle.local_laws.proofs.Less.{Spares, SparesAll, NamesNone, less_set, less_two, less_of_none, borrow_names_none, untagged_holds}
 
 -- ---- bytes
-
-pub below_in_list : (bound : ℕ) (xs : List ℕ) (i : ℕ) → 0 < bound → All (λ x. x < bound) xs → slice_index xs i < bound
-below_in_list bound xs i some h =
-    ⊎_elim (λ lt. All-get_or (λ x. x < bound) xs i 0 lt h) (λ over. subst (λ x. x < bound) (sym (get_or_past xs i 0 over)) some) (cases_lt i (length xs))
-
-pub byte_in_list : (bytes : List ℕ) (i : ℕ) → All (λ b. b < 256) bytes → slice_index bytes i < 256
-byte_in_list bytes i h = below_in_list 256 bytes i (omega arith) h
 
 -- a byte less itself is 0 - 0, with the same flags
 same_result : (a : ℕ) → a < 256 → difference_of a a false ≡ difference_of 0 0 false
@@ -90,6 +84,13 @@ moved_is false w n lt small = omega arith
 wide_i : (up : Bool) (w n s : ℕ) → flag (flags_of_wide up w n s) 7 ≡ flag s 7
 wide_i true w n s = with_flags_i _ _ _ _ _ s
 wide_i false w n s = with_flags_i _ _ _ _ _ s
+
+difference_small : (x y : ℕ) (c : Bool) → difference_of x y c < 256
+difference_small x y c = omega arith
+
+step_small : (up : Bool) (x : ℕ) → step_of up x < 256
+step_small true x = omega arith
+step_small false x = omega arith
 
 swapped_bit : (x i : ℕ) → x < 256 → i < 8 → bit_at x ((i + 4) % 8) ≡ bit_at (x % 16 * 16 + x / 16) i
 swapped_bit x zero small lt = omega arith
@@ -124,53 +125,67 @@ module _ (m : State) (o : Origin) (k : NodeKey) (s : AbsState) (at : InFrame m o
   flag_bits = at.stands.flags.bits
 
   module _ (guarded : Bool) (b1 b2 : ℕ) where
-    -- one register and the flags are set
-    answers : (d result flags : ℕ) (answer : TriByte × TriByte) (t : Tag) (c : CarryTag) → Covers answer result flags → flag flags 7 ≡ flag m.sreg 7
-        → TagHolds o t result → CarryHolds o c (flag flags 0)
-        → Follows m o k guarded b1 b2 (setting m (set d result) flags) (node_setting k s (node_set s d (with_bits t answer.0)) (with_carry answer.1 c))
-    answers d result flags answer t c covers i tagged borrow =
+    -- one register and the flags are set; C says nothing of a register
+    answers : (d result flags : ℕ) (answer : TriByte × TriByte) (t : Tag) (c : CarryTag) → Covers answer result flags → result < 256 → flag flags 7 ≡ flag m.sreg 7
+        → TagHolds o t result → CarryHolds o c (flag flags 0) → NamesNone c
+        → Follows m o k guarded b1 b2 (setting m (set d result) flags) (node_setting m.device k s (node_set s d (with_bits t answer.0)) (with_carry answer.1 c))
+    answers d result flags answer t c covers small i tagged borrow none =
         sets m o k s at guarded b1 b2 (set d result) flags (node_set s d (with_bits t answer.0)) (with_carry answer.1 c) i
-        (set_one m o k s at d (with_bits t answer.0) result (record { tag = tagged; bits = covers.0 })) (record { entry = tt; bits = covers.1; carry = borrow })
+        (set_one m o k s at d (with_bits t answer.0) result (bits_make_values.stands o t answer.0 result small tagged covers.0)) (record { entry = tt; bits = covers.1; carry = borrow })
+        (less_of_none _ c (flag flags 0) none)
 
     -- the same where the carry is kept
-    keeps : (d result flags : ℕ) (answer : TriByte × TriByte) (t : Tag) → Covers answer result flags → flag flags 7 ≡ flag m.sreg 7 → flag flags 0 ≡ flag m.sreg 0
-        → TagHolds o t result
-        → Follows m o k guarded b1 b2 (setting m (set d result) flags) (node_setting k s (node_set s d (with_bits t answer.0)) (but_carry s answer.1))
-    keeps d result flags answer t covers i c tagged =
-        answers d result flags answer t s.flags.carry covers i tagged (subst (CarryHolds o s.flags.carry) (sym c) at.stands.flags.carry)
+    kept : (d result flags : ℕ) (v : AbsByte) (b : TriByte) → ByteStands o v result → Has b flags → flag flags 7 ≡ flag m.sreg 7 → flag flags 0 ≡ flag m.sreg 0
+        → Spares s.flags.carry d → Follows m o k guarded b1 b2 (setting m (set d result) flags) (node_setting m.device k s (node_set s d v) (but_carry s b))
+    kept d result flags v b h has i c spare =
+        sets m o k s at guarded b1 b2 (set d result) flags (node_set s d v) (but_carry s b) i (set_one m o k s at d v result h)
+        (record { entry = tt; bits = has; carry = subst (CarryHolds o s.flags.carry) (sym c) at.stands.flags.carry })
+        (less_set m.registers s.flags.carry (flag flags 0) d result spare (subst (LessHolds m.registers s.flags.carry) (sym c) at.stands.less))
+
+    keeps : (d result flags : ℕ) (answer : TriByte × TriByte) → Covers answer result flags → result < 256 → flag flags 7 ≡ flag m.sreg 7 → flag flags 0 ≡ flag m.sreg 0
+        → Spares s.flags.carry d
+        → Follows m o k guarded b1 b2 (setting m (set d result) flags) (node_setting m.device k s (node_set s d (untagged answer.0)) (but_carry s answer.1))
+    keeps d result flags answer covers small i c spare =
+        kept d result flags (untagged answer.0) answer.1 (bits_make_values.stands o tag.None answer.0 result small tt covers.0) covers.1 i c spare
 
     -- flags are kept
-    pub moves : (d x : ℕ) (v : AbsByte) → ByteStands o v x → Follows m o k guarded b1 b2 (setting m (set d x) m.sreg) (node_setting k s (node_set s d v) s.flags)
-    moves d x v h = sets m o k s at guarded b1 b2 (set d x) m.sreg (node_set s d v) s.flags refl (set_one m o k s at d v x h) at.stands.flags
+    pub moves : (d x : ℕ) (v : AbsByte) → ByteStands o v x → Spares s.flags.carry d
+        → Follows m o k guarded b1 b2 (setting m (set d x) m.sreg) (node_setting m.device k s (node_set s d v) s.flags)
+    moves d x v h spare =
+        sets m o k s at guarded b1 b2 (set d x) m.sreg (node_set s d v) s.flags refl (set_one m o k s at d v x h) at.stands.flags
+        (less_set m.registers s.flags.carry (flag m.sreg 0) d x spare at.stands.less)
 
     -- ---- sums and differences
 
     pub sum_covered : (d y : ℕ) (b : TriByte) (c : Bool) (t : Tri) → y < 256 → Has b y → Permits t (from_bool c)
-        → Follows m o k guarded b1 b2 (sum_effect m d (register m d) y c) (sum_row k s d b t)
+        → Follows m o k guarded b1 b2 (sum_effect m d (register m d) y c) (going_with m.device k s (sum_after s d b t))
     sum_covered d y b c t small has may =
         answers d (sum_of (register m d) y c % 256) (flags_of_sum (register m d) y c m.sreg) (abs_add (bits s d) b t s.flags.bits) tag.None carry_tag.None
         (all_sums_cover.sums (bits s d) b s.flags.bits t (register m d) y m.sreg c (register_byte d) small (register_bits d) has flag_bits may)
-        (with_flags_i _ _ _ _ _ m.sreg) tt tt
+        (omega arith) (with_flags_i _ _ _ _ _ m.sreg) tt tt tt
 
     difference_covers : (x y : ℕ) (a b : TriByte) (c : Bool) (t : Tri) (keep_zero : Bool) → x < 256 → y < 256 → Has a x → Has b y → Permits t (from_bool c)
         → Covers (abs_sub a b t keep_zero s.flags.bits) (difference_of x y c) (flags_of_difference x y c keep_zero m.sreg)
     difference_covers x y a b c t keep_zero small_x small_y has_x has_y may =
         all_sums_cover.differences a b s.flags.bits t keep_zero x y m.sreg c small_x small_y has_x has_y flag_bits may
 
-    pub compare_covered : (x y : ℕ) (a b : TriByte) (c : Bool) (t : Tri) (keep_zero : Bool) → x < 256 → y < 256 → Has a x → Has b y → Permits t (from_bool c)
-        → Follows m o k guarded b1 b2 (compare_effect m x y c keep_zero) (compare_row k s a b t keep_zero)
-    compare_covered x y a b c t keep_zero small_x small_y has_x has_y may =
-        sets m o k s at guarded b1 b2 [] (flags_of_difference x y c keep_zero m.sreg) s.registers (with_carry (abs_sub a b t keep_zero s.flags.bits).1 carry_tag.None)
+    -- C says something of a register, or nothing
+    pub compare_covered : (x y : ℕ) (a b : TriByte) (c : Bool) (t : Tri) (keep_zero : Bool) (w : CarryTag) → x < 256 → y < 256 → Has a x → Has b y → Permits t (from_bool c)
+        → CarryIsUntagged w → LessHolds m.registers w (nat_lt x (y + from_bool c))
+        → Follows m o k guarded b1 b2 (compare_effect m x y c keep_zero) (going_with m.device k s (compare_after s a b t keep_zero w))
+    compare_covered x y a b c t keep_zero w small_x small_y has_x has_y may free less =
+        sets m o k s at guarded b1 b2 [] (flags_of_difference x y c keep_zero m.sreg) s.registers (with_carry (abs_sub a b t keep_zero s.flags.bits).1 w)
         (with_flags_i _ _ _ _ _ m.sreg) at.stands.registers
-        (record { entry = tt; bits = (difference_covers x y a b c t keep_zero small_x small_y has_x has_y may).1; carry = tt })
+        (record { entry = tt; bits = (difference_covers x y a b c t keep_zero small_x small_y has_x has_y may).1; carry = untagged_holds o w _ free })
+        (subst (LessHolds m.registers w) (sym (with_flags_carry _ _ _ _ _ m.sreg)) less)
 
     pub difference_covered : (d x y : ℕ) (a b : TriByte) (c : Bool) (t : Tri) (keep_zero : Bool) (v : Tag) (w : CarryTag) → x < 256 → y < 256 → Has a x → Has b y
-        → Permits t (from_bool c) → TagHolds o v (difference_of x y c) → CarryHolds o w (nat_lt x (y + from_bool c))
-        → Follows m o k guarded b1 b2 (difference_effect m d x y c keep_zero) (difference_row k s d a b t keep_zero v w)
-    difference_covered d x y a b c t keep_zero v w small_x small_y has_x has_y may tagged borrow =
+        → Permits t (from_bool c) → TagHolds o v (difference_of x y c) → CarryHolds o w (nat_lt x (y + from_bool c)) → NamesNone w
+        → Follows m o k guarded b1 b2 (difference_effect m d x y c keep_zero) (going_with m.device k s (difference_after s d a b t keep_zero v w))
+    difference_covered d x y a b c t keep_zero v w small_x small_y has_x has_y may tagged borrow none =
         answers d (difference_of x y c) (flags_of_difference x y c keep_zero m.sreg) (abs_sub a b t keep_zero s.flags.bits) v w
-        (difference_covers x y a b c t keep_zero small_x small_y has_x has_y may)
-        (with_flags_i _ _ _ _ _ m.sreg) tagged (subst (CarryHolds o w) (sym (with_flags_carry _ _ _ _ _ m.sreg)) borrow)
+        (difference_covers x y a b c t keep_zero small_x small_y has_x has_y may) (difference_small x y c)
+        (with_flags_i _ _ _ _ _ m.sreg) tagged (subst (CarryHolds o w) (sym (with_flags_carry _ _ _ _ _ m.sreg)) borrow) none
 
     low_holds : (d y : ℕ) (number : Option ℕ) → y < 256 → ((l : ℕ) → number ≡ Some l → y ≡ l) → TagHolds o (low_tag (value s d).tag number) (difference_of (register m d) y false)
     low_holds d y None small is = tt
@@ -189,7 +204,7 @@ module _ (m : State) (o : Origin) (k : NodeKey) (s : AbsState) (at : InFrame m o
     high_holds d y None small is = tt
     high_holds d y (Some l) small is =
         subst (λ n. TagHolds o (high_tag (value s d).tag (Some n) s.flags.carry) (difference_of (register m d) y (carry m))) (is l refl)
-        (differences_are_true.high o (value s d).tag (register m d) y s.flags.carry (carry m) (register_byte d) small at.node.borrow_bytes
+        (differences_are_true.high o (value s d).tag (register m d) y s.flags.carry (carry m) (register_byte d) small at.node.carry_bytes
         (register_stands m o k s at d).tag at.stands.flags.carry)
 
     pub carry_may : Permits (carry_bit s) (from_bool (carry m))
@@ -199,20 +214,21 @@ module _ (m : State) (o : Origin) (k : NodeKey) (s : AbsState) (at : InFrame m o
     no_carry y = omega arith
 
     pub sub_covered : (d y : ℕ) (b : TriByte) (number : Option ℕ) → y < 256 → Has b y → ((l : ℕ) → number ≡ Some l → y ≡ l)
-        → Follows m o k guarded b1 b2 (difference_effect m d (register m d) y false false) (sub_row k s d (bits s d) b number)
+        → Follows m o k guarded b1 b2 (difference_effect m d (register m d) y false false) (going_with m.device k s (sub_after s d (bits s d) b number))
     sub_covered d y b number small has is =
         difference_covered d (register m d) y (bits s d) b false Zero false _ _ (register_byte d) small (register_bits d) has refl (low_holds d y number small is)
         (subst (λ n. CarryHolds o (borrow_tag (value s d).tag number) (nat_lt (register m d) n)) (sym (no_carry y)) (borrow_holds d y number small is))
+        (borrow_names_none (value s d).tag number)
 
     pub sbc_covered : (d y : ℕ) (b : TriByte) (number : Option ℕ) → y < 256 → Has b y → ((l : ℕ) → number ≡ Some l → y ≡ l)
-        → Follows m o k guarded b1 b2 (difference_effect m d (register m d) y (carry m) true) (sbc_row k s d b number)
+        → Follows m o k guarded b1 b2 (difference_effect m d (register m d) y (carry m) true) (going_with m.device k s (sbc_after s d b number))
     sbc_covered d y b number small has is =
-        difference_covered d (register m d) y (bits s d) b (carry m) (carry_bit s) true _ carry_tag.None (register_byte d) small (register_bits d) has carry_may (high_holds d y number small is) tt
+        difference_covered d (register m d) y (bits s d) b (carry m) (carry_bit s) true _ carry_tag.None (register_byte d) small (register_bits d) has carry_may (high_holds d y number small is) tt tt
 
     -- a register less a register, which may be the same one
     pub sub_by : (d r : ℕ) (same : Bool) → (d == r) ≡ same
         → Follows m o k guarded b1 b2 (difference_effect m d (register m d) (register m r) false false)
-        (sub_row k s d (if same then byte_known 0 else bits s d) (if same then byte_known 0 else bits s r) (byte_constant (bits s r)))
+        (going_with m.device k s (sub_after s d (if same then byte_known 0 else bits s d) (if same then byte_known 0 else bits s r) (byte_constant (bits s r))))
     sub_by d r false e =
         sub_covered d (register m r) (bits s r) (byte_constant (bits s r)) (register_byte r) (register_bits r)
         (λ l some. constant_is (bits s r) (register m r) l some (register_byte r) (register_bits r))
@@ -227,67 +243,73 @@ module _ (m : State) (o : Origin) (k : NodeKey) (s : AbsState) (at : InFrame m o
         (abs_sub (byte_known 0) (byte_known 0) Zero false s.flags.bits) (low_tag (value s d).tag number) (borrow_tag (value s d).tag number)
         (subst (λ n. Covers (abs_sub (byte_known 0) (byte_known 0) Zero false s.flags.bits) (difference_of (register m d) n false) (flags_of_difference (register m d) n false false m.sreg)) y
         (subst₂ (Covers (abs_sub (byte_known 0) (byte_known 0) Zero false s.flags.bits)) (sym (same_result (register m d) x)) (sym (same_flags (register m d) m.sreg x)) zero_covers))
-        (with_flags_i _ _ _ _ _ m.sreg) (low_holds d (register m r) number (register_byte r) known_number)
+        (difference_small (register m d) (register m r) false) (with_flags_i _ _ _ _ _ m.sreg) (low_holds d (register m r) number (register_byte r) known_number)
         (subst (CarryHolds o (borrow_tag (value s d).tag number)) (sym (with_flags_carry _ _ _ _ _ m.sreg))
         (subst (λ n. CarryHolds o (borrow_tag (value s d).tag number) (nat_lt (register m d) n)) (sym (no_carry (register m r))) (borrow_holds d (register m r) number (register_byte r) known_number)))
+        (borrow_names_none (value s d).tag number)
 
     -- ---- bit by bit
 
-    pub logic_covered : (op : Logic) (d x y : ℕ) (a b : TriByte) (t : Tag) → x < 256 → y < 256 → Has a x → Has b y → TagHolds o t (logic_of op x y)
-        → Follows m o k guarded b1 b2 (logic_effect m op d x y) (logic_row k s op d a b t)
-    logic_covered op d x y a b t small_x small_y has_x has_y tagged =
-        keeps d (logic_of op x y) (flags_of_result (carry m) false (logic_of op x y) m.sreg) (abs_logic op a b s.flags.bits) t
-        (all_bitwise_cover.logics op a b s.flags.bits x y m.sreg small_x small_y has_x has_y flag_bits)
-        (result_i (carry m) false (logic_of op x y) m.sreg) (result_carry (carry m) false (logic_of op x y) m.sreg) tagged
+    pub logic_covered : (op : Logic) (d x y : ℕ) (a b : TriByte) → x < 256 → y < 256 → Has a x → Has b y → Spares s.flags.carry d
+        → Follows m o k guarded b1 b2 (logic_effect m op d x y) (going_with m.device k s (logic_after s op d a b false))
+    logic_covered op d x y a b small_x small_y has_x has_y spare =
+        keeps d (logic_of op x y) (flags_of_result (carry m) false (logic_of op x y) m.sreg) (abs_logic op a b s.flags.bits)
+        (all_bitwise_cover.logics op a b s.flags.bits x y m.sreg small_x small_y has_x has_y flag_bits) (logic_small op x y small_x small_y)
+        (result_i (carry m) false (logic_of op x y) m.sreg) (result_carry (carry m) false (logic_of op x y) m.sreg) spare
 
-    -- a register with itself keeps its tag
-    kept_holds : (op : Logic) → ((x : ℕ) → logic_of op x x ≡ x) → (d r : ℕ) (same : Bool) → (d == r) ≡ same
-        → TagHolds o (if same then (value s d).tag else tag.None) (logic_of op (register m d) (register m r))
-    kept_holds op itself d r false e = tt
-    kept_holds op itself d r true e =
+    -- a register with itself keeps its value
+    kept_by : (op : Logic) → ((x : ℕ) → logic_of op x x ≡ x) → (d r : ℕ) → Spares s.flags.carry d → (same : Bool) → (d == r) ≡ same
+        → Follows m o k guarded b1 b2 (logic_effect m op d (register m d) (register m r)) (going_with m.device k s (logic_after s op d (bits s d) (bits s r) same))
+    kept_by op itself d r spare false e = logic_covered op d (register m d) (register m r) (bits s d) (bits s r) (register_byte d) (register_byte r) (register_bits d) (register_bits r) spare
+    kept_by op itself d r spare true e =
         let is : d ≡ r = grind (arith, nat_tests) in
-        subst (TagHolds o (value s d).tag) (sym (ap (λ n. logic_of op (register m d) (register m n)) (sym is) ∙ itself (register m d))) (register_stands m o k s at d).tag
+        let x : ℕ = logic_of op (register m d) (register m r) in
+        kept d x (flags_of_result (carry m) false x m.sreg) (value s d) (abs_logic op (bits s d) (bits s r) s.flags.bits).1
+        (subst (ByteStands o (value s d)) (sym (ap (λ n. logic_of op (register m d) (register m n)) (sym is) ∙ itself (register m d))) (register_stands m o k s at d))
+        (all_bitwise_cover.logics op (bits s d) (bits s r) s.flags.bits (register m d) (register m r) m.sreg (register_byte d) (register_byte r) (register_bits d) (register_bits r) flag_bits).1
+        (result_i (carry m) false x m.sreg) (result_carry (carry m) false x m.sreg) spare
 
-    pub kept_covered : (op : Logic) → ((x : ℕ) → logic_of op x x ≡ x) → (d r : ℕ)
-        → Follows m o k guarded b1 b2 (logic_effect m op d (register m d) (register m r)) (logic_row k s op d (bits s d) (bits s r) (kept_tag s d r))
-    kept_covered op itself d r =
-        logic_covered op d (register m d) (register m r) (bits s d) (bits s r) (kept_tag s d r) (register_byte d) (register_byte r) (register_bits d) (register_bits r)
-        (kept_holds op itself d r (d == r) refl)
+    pub kept_covered : (op : Logic) → ((x : ℕ) → logic_of op x x ≡ x) → (d r : ℕ) → Spares s.flags.carry d
+        → Follows m o k guarded b1 b2 (logic_effect m op d (register m d) (register m r)) (going_with m.device k s (logic_after s op d (bits s d) (bits s r) (d == r)))
+    kept_covered op itself d r spare = kept_by op itself d r spare (d == r) refl
 
-    pub eor_by : (d r : ℕ) (same : Bool) → (d == r) ≡ same
+    pub eor_by : (d r : ℕ) → Spares s.flags.carry d → (same : Bool) → (d == r) ≡ same
         → Follows m o k guarded b1 b2 (logic_effect m logic.Eor d (register m d) (register m r))
-        (logic_row k s logic.Eor d (if same then byte_known 0 else bits s d) (if same then byte_known 0 else bits s r) tag.None)
-    eor_by d r false e = logic_covered logic.Eor d (register m d) (register m r) (bits s d) (bits s r) tag.None (register_byte d) (register_byte r) (register_bits d) (register_bits r) tt
-    eor_by d r true e =
+        (going_with m.device k s (logic_after s logic.Eor d (if same then byte_known 0 else bits s d) (if same then byte_known 0 else bits s r) false))
+    eor_by d r spare false e = logic_covered logic.Eor d (register m d) (register m r) (bits s d) (bits s r) (register_byte d) (register_byte r) (register_bits d) (register_bits r) spare
+    eor_by d r spare true e =
         let is : d ≡ r = grind (arith, nat_tests) in
         let none : 0 ≡ bit_xor (register m d) (register m r) = sym (ap (λ n. bit_xor (register m d) (register m n)) (sym is) ∙ xor_self (register m d)) in
-        subst (λ n. Follows m o k guarded b1 b2 (setting m (set d n) (flags_of_result (carry m) false n m.sreg)) (logic_row k s logic.Eor d (byte_known 0) (byte_known 0) tag.None)) none
-        (logic_covered logic.Eor d 0 0 (byte_known 0) (byte_known 0) tag.None (omega arith) (omega arith) (has_known 0 (omega arith)) (has_known 0 (omega arith)) tt)
+        subst (λ n. Follows m o k guarded b1 b2 (setting m (set d n) (flags_of_result (carry m) false n m.sreg)) (going_with m.device k s (logic_after s logic.Eor d (byte_known 0) (byte_known 0) false))) none
+        (logic_covered logic.Eor d 0 0 (byte_known 0) (byte_known 0) (omega arith) (omega arith) (has_known 0 (omega arith)) (has_known 0 (omega arith)) spare)
 
-    pub step_covered : (up : Bool) (d : ℕ) → Follows m o k guarded b1 b2 (step_effect m up d) (step_row k s up d)
-    step_covered up d =
+    pub step_covered : (up : Bool) (d : ℕ) → Spares s.flags.carry d → Follows m o k guarded b1 b2 (step_effect m up d) (going_with m.device k s (step_after s up d))
+    step_covered up d spare =
         keeps d (step_of up (register m d)) (flags_of_result (carry m) (step_overflows up (step_of up (register m d))) (step_of up (register m d)) m.sreg)
-        (abs_step_one up (bits s d) s.flags.bits) tag.None
-        (all_bitwise_cover.steps up (bits s d) s.flags.bits (register m d) m.sreg (register_byte d) (register_bits d) flag_bits)
-        (result_i (carry m) _ (step_of up (register m d)) m.sreg) (result_carry (carry m) _ (step_of up (register m d)) m.sreg) tt
+        (abs_step_one up (bits s d) s.flags.bits)
+        (all_bitwise_cover.steps up (bits s d) s.flags.bits (register m d) m.sreg (register_byte d) (register_bits d) flag_bits) (step_small up (register m d))
+        (result_i (carry m) _ (step_of up (register m d)) m.sreg) (result_carry (carry m) _ (step_of up (register m d)) m.sreg) spare
 
-    pub shift_covered : (op : Shift) (d : ℕ) → Follows m o k guarded b1 b2 (shift_effect m op d) (shift_row k s op d)
+    pub shift_covered : (op : Shift) (d : ℕ) → Follows m o k guarded b1 b2 (shift_effect m op d) (going_with m.device k s (shift_after s op d))
     shift_covered op d =
         answers d (shift_of op (register m d) m.sreg) (flags_of_shift (register m d) (shift_of op (register m d) m.sreg) m.sreg)
         (abs_shift op (bits s d) s.flags.bits) tag.None carry_tag.None
         (all_bitwise_cover.shifts op (bits s d) s.flags.bits (register m d) m.sreg (register_byte d) (register_bits d) flag_bits)
-        (with_flags_i _ _ _ _ _ m.sreg) tt tt
+        (shift_small op (register m d) m.sreg (register_byte d)) (with_flags_i _ _ _ _ _ m.sreg) tt tt tt
 
     pub com_covered : (d : ℕ)
-        → Follows m o k guarded b1 b2 (setting m (set d (255 - register m d)) (flags_of_result true false (255 - register m d) m.sreg)) (com_row k s d)
+        → Follows m o k guarded b1 b2 (setting m (set d (255 - register m d)) (flags_of_result true false (255 - register m d) m.sreg)) (going_with m.device k s (com_after s d))
     com_covered d =
         answers d (255 - register m d) (flags_of_result true false (255 - register m d) m.sreg) (abs_com (bits s d) s.flags.bits) tag.None carry_tag.None
         (all_bitwise_cover.coms (bits s d) s.flags.bits (register m d) m.sreg (register_byte d) (register_bits d) flag_bits)
-        (result_i true false (255 - register m d) m.sreg) tt tt
+        (omega arith) (result_i true false (255 - register m d) m.sreg) tt tt tt
 
-    pub swap_covered : (d : ℕ)
-        → Follows m o k guarded b1 b2 (setting m (set d (register m d % 16 * 16 + register m d / 16)) m.sreg) (node_setting k s (node_set s d (untagged (swapped (bits s d)))) s.flags)
-    swap_covered d = moves d (register m d % 16 * 16 + register m d / 16) (untagged (swapped (bits s d))) (record { tag = tt; bits = has_swapped (bits s d) (register m d) (register_byte d) (register_bits d) })
+    pub swap_covered : (d : ℕ) → Spares s.flags.carry d
+        → Follows m o k guarded b1 b2 (setting m (set d (register m d % 16 * 16 + register m d / 16)) m.sreg) (node_setting m.device k s (node_set s d (untagged (swapped (bits s d)))) s.flags)
+    swap_covered d spare =
+        moves d (register m d % 16 * 16 + register m d / 16) (untagged (swapped (bits s d)))
+        (bits_make_values.stands o tag.None (swapped (bits s d)) (register m d % 16 * 16 + register m d / 16) (omega (arith, register_byte d)) tt
+        (has_swapped (bits s d) (register m d) (register_byte d) (register_bits d))) spare
 
     -- ---- words
 
@@ -295,23 +317,26 @@ module _ (m : State) (o : Origin) (k : NodeKey) (s : AbsState) (at : InFrame m o
         → RegistersStand o (node_pair s.registers d lo hi) (with_registers m.registers (set_pair d w))
     pair_stands d w lo hi h g = set_two m o k s at d (d + 1) lo hi (low w) (high w) h g
 
-    pub product_covered : (op : Mul) (d r : ℕ) → Follows m o k guarded b1 b2 (product_effect m op (register m d) (register m r)) (product_row k s op d r)
+    pub product_covered : (op : Mul) (d r : ℕ) → Follows m o k guarded b1 b2 (product_effect m op (register m d) (register m r)) (product_row m.device k s op d r)
     product_covered op d r =
         let covers = all_products_cover.products op (bits s d) (bits s r) s.flags.bits (register m d) (register m r) m.sreg (register_byte d) (register_byte r) (register_bits d) (register_bits r) flag_bits in
         let answer = abs_mul op (bits s d) (bits s r) s.flags.bits in
         sets m o k s at guarded b1 b2 (set_pair 0 (result_of op (register m d) (register m r))) (flags_of_product op (register m d) (register m r) m.sreg)
         (node_pair s.registers 0 (untagged answer.0.0) (untagged answer.0.1)) (with_carry answer.1 carry_tag.None) (with_carry_and_zero_i _ _ m.sreg)
-        (pair_stands 0 (result_of op (register m d) (register m r)) (untagged answer.0.0) (untagged answer.0.1) (record { tag = tt; bits = covers.0 }) (record { tag = tt; bits = covers.1 }))
-        (record { entry = tt; bits = covers.2; carry = tt })
+        (pair_stands 0 (result_of op (register m d) (register m r)) (untagged answer.0.0) (untagged answer.0.1)
+        (bits_make_values.stands o tag.None answer.0.0 (low (result_of op (register m d) (register m r))) (omega arith) tt covers.0)
+        (bits_make_values.stands o tag.None answer.0.1 (high (result_of op (register m d) (register m r)))
+        (omega (arith, result_small op (register m d) (register m r) (register_byte d) (register_byte r))) tt covers.1))
+        (record { entry = tt; bits = covers.2; carry = tt }) tt
 
-    pub movw_covered : (d r : ℕ)
-        → Follows m o k guarded b1 b2 (setting m (set_pair d (pair m r)) m.sreg) (node_setting k s (node_pair s.registers d (value s r) (value s (r + 1))) s.flags)
-    movw_covered d r =
+    pub movw_covered : (d r : ℕ) → SparesAll s.flags.carry (d ∷ (d + 1) ∷ [])
+        → Follows m o k guarded b1 b2 (setting m (set_pair d (pair m r)) m.sreg) (node_setting m.device k s (node_pair s.registers d (value s r) (value s (r + 1))) s.flags)
+    movw_covered d r spares =
         sets m o k s at guarded b1 b2 (set_pair d (pair m r)) m.sreg (node_pair s.registers d (value s r) (value s (r + 1))) s.flags refl
         (pair_stands d (pair m r) (value s r) (value s (r + 1))
         (subst (ByteStands o (value s r)) (sym (low_pair (register m r) (register m (r + 1)) (register_byte r))) (register_stands m o k s at r))
         (subst (ByteStands o (value s (r + 1))) (sym (high_pair (register m r) (register m (r + 1)) (register_byte r))) (register_stands m o k s at (r + 1))))
-        at.stands.flags
+        at.stands.flags (less_two m.registers s.flags.carry (flag m.sreg 0) d (d + 1) _ _ spares at.stands.less)
 
     pub pair_small : (d : ℕ) → pair m d < 65536
     pair_small d = omega (arith, register_byte d, register_byte (d + 1))
@@ -342,10 +367,11 @@ module _ (m : State) (o : Origin) (k : NodeKey) (s : AbsState) (at : InFrame m o
         let tags = moved_tags d up n small in
         let answer = abs_wide up (bits s d, bits s (d + 1)) n s.flags.bits in
         pair_stands d (wide_of up (pair m d) n) (with_bits (pair_tags s d up n).0 answer.0.0) (with_bits (pair_tags s d up n).1 answer.0.1)
-        (record { tag = tags.low; bits = covers.0 }) (record { tag = tags.high; bits = covers.1 })
+        (bits_make_values.stands o (pair_tags s d up n).0 answer.0.0 (low (wide_of up (pair m d) n)) (omega arith) tags.low covers.0)
+        (bits_make_values.stands o (pair_tags s d up n).1 answer.0.1 (high (wide_of up (pair m d) n)) (omega (arith, wide_small up (pair m d) n)) tags.high covers.1)
 
-    pub wide_covered : (up : Bool) (d n : ℕ) → n < 256 → Follows m o k guarded b1 b2 (wide_effect m up d n) (wide_row k s up d n)
+    pub wide_covered : (up : Bool) (d n : ℕ) → n < 256 → Follows m o k guarded b1 b2 (wide_effect m up d n) (wide_row m.device k s up d n)
     wide_covered up d n small =
         sets m o k s at guarded b1 b2 (set_pair d (wide_of up (pair m d) n)) (flags_of_wide up (pair m d) n m.sreg)
         (pair_moved s d up n) (with_carry (abs_wide up (bits s d, bits s (d + 1)) n s.flags.bits).1 carry_tag.None) (wide_i up (pair m d) n m.sreg)
-        (moved_stands d up n small) (record { entry = tt; bits = (wide_covers d up n small).2; carry = tt })
+        (moved_stands d up n small) (record { entry = tt; bits = (wide_covers d up n small).2; carry = tt }) tt

@@ -3,6 +3,7 @@ use Rattle.std.proofs.Common.{◌≡◌, refl, ap, ℕ, ◌*◌, ◌<◌, ◌==�
 use Rattle.std.specs.Prelude.{⊤}
 use Rattle.std.specs.Int.{from_bool}
 use Rattle.std.specs.Int.Bits.{or_self, and_self}
+use Rattle.avr_model.specs.Devices.{wrapped}
 use Rattle.avr_model.specs.declared.assumption.Entry.{Entry}
 use Rattle.avr_model.specs.declared.effect.Effect.{Effect}
 use Rattle.avr_model.specs.declared.instruction.Instr.{Instr}
@@ -18,6 +19,7 @@ use Rattle.avr_model.specs.declared.operation.Shift.TheVariants as shift
 use Rattle.avr_model.specs.declared.operation.Mul.TheVariants as product
 use Rattle.avr_model.specs.Assumptions.{jump_line}
 use Rattle.avr_model.specs.Sreg.{flag}
+use Rattle.avr_model.specs.Written.{set_by_binary, set_by_immediate, written}
 use Rattle.avr_model.specs.Text.{far}
 use Rattle.avr_model.specs.State.{State, register}
 use Rattle.avr_model.specs.Effects.{effect_of, binary_effect, immediate_effect, unary_effect, carry}
@@ -32,16 +34,19 @@ use Rattle.sp_domain.specs.declared.tags.CarryTag.TheVariants as carry_tag
 use Rattle.sp_domain.specs.Tags.{Origin}
 use Rattle.abs_state.specs.declared.state.AbsState.{AbsState}
 use Rattle.abs_state.specs.Values.{known}
+use Rattle.abs_state.specs.Formed.{CarryIsUntagged}
+use Rattle.abs_state.proofs.AllLaws.{bits_make_values}
 use Rattle.mask_states.specs.declared.keys.NodeKey.{NodeKey}
 use Rattle.local_rules.specs.Raw.{further}
-use Rattle.local_rules.specs.Registers.{value, bits, carry_bit, immediate_row, unary_row}
+use Rattle.local_rules.specs.Registers.{value, bits, carry_bit, less_than, less_kept, immediate_row, unary_row}
 use Rattle.local_rules.specs.Local.{binary_row, row_of}
 use Rattle.local_rules.specs.Cover.{InFrame, IsUnflagged, Follows}
 use Rattle.local_laws.proofs.Bits.{has_known, constant_is, permits_flag}
 use Rattle.local_laws.proofs.Frame.{first, register_stands}
 use Rattle.local_laws.proofs.Alu.{register_byte, register_bits, moves, carry_may, sum_covered, compare_covered, difference_covered, sub_covered, sbc_covered, sub_by, logic_covered, kept_covered, eor_by, step_covered, shift_covered, com_covered, swap_covered, product_covered, movw_covered, wide_covered}
+use Rattle.local_laws.proofs.Less.{Spares, SparesAll, compared, than_untagged, than_holds, alone_untagged, kept_is, kept_holds}
 use Rattle.local_laws.proofs.FlagRows.{flag_covered, bld_covered, bst_covered}
-use Rattle.local_laws.proofs.FlowRows.{not_may, going_covered, further_is, brbs_covered, brbc_covered, skip_covered, ijmp_covered, icall_covered, call_covered, ret_covered, reti_covered}
+use Rattle.local_laws.proofs.FlowRows.{not_may, going_covered, further_is, goes_further, brbs_covered, brbc_covered, skip_covered, ijmp_covered, icall_covered, call_covered, ret_covered, reti_covered}
 use Rattle.local_laws.proofs.Sized.{IsSized}
 use Rattle.local_laws.proofs.Stack.{pop_covered, push_covered, rcall_covered}
 use Rattle.local_laws.proofs.Targets.{MakesRoom}
@@ -73,50 +78,55 @@ module _ (m : State) (o : Origin) (k : NodeKey) (s : AbsState) (at : InFrame m o
   number_is n l e = cc
 
   module _ (guarded : Bool) where
-    immediate_covered : (op : ImmediateOp) (d n : ℕ) → n < 256 → Follows m o k guarded b1 b2 (immediate_effect m op d n) (immediate_row k s op d n)
-    immediate_covered immediate.Cpi d n small =
-        compare_covered m o k s at guarded b1 b2 (register m d) n (bits s d) (byte_known n) false Zero false (register_byte m o k s at d) small (register_bits m o k s at d) (has_known n small) refl
-    immediate_covered immediate.Sbci d n small = sbc_covered m o k s at guarded b1 b2 d n (byte_known n) (Some n) small (has_known n small) (number_is n)
-    immediate_covered immediate.Subi d n small = sub_covered m o k s at guarded b1 b2 d n (byte_known n) (Some n) small (has_known n small) (number_is n)
-    immediate_covered immediate.Ori d n small =
-        logic_covered m o k s at guarded b1 b2 logic.Or d (register m d) n (bits s d) (byte_known n) tag.None (register_byte m o k s at d) small (register_bits m o k s at d) (has_known n small) tt
-    immediate_covered immediate.Andi d n small =
-        logic_covered m o k s at guarded b1 b2 logic.And d (register m d) n (bits s d) (byte_known n) tag.None (register_byte m o k s at d) small (register_bits m o k s at d) (has_known n small) tt
-    immediate_covered immediate.Ldi d n small = moves m o k s at guarded b1 b2 d n (known n) (record { tag = tt; bits = has_known n small })
+    immediate_covered : (op : ImmediateOp) (d n : ℕ) → SparesAll s.flags.carry (set_by_immediate op d) → n < 256 → Follows m o k guarded b1 b2 (immediate_effect m op d n) (immediate_row m.device k s op d n)
+    immediate_covered immediate.Cpi d n spares small =
+        compare_covered m o k s at guarded b1 b2 (register m d) n (bits s d) (byte_known n) false Zero false (carry_tag.Less d n) (register_byte m o k s at d) small (register_bits m o k s at d)
+        (has_known n small) refl tt (compared m.registers d n n refl)
+    immediate_covered immediate.Sbci d n spares small = sbc_covered m o k s at guarded b1 b2 d n (byte_known n) (Some n) small (has_known n small) (number_is n)
+    immediate_covered immediate.Subi d n spares small = sub_covered m o k s at guarded b1 b2 d n (byte_known n) (Some n) small (has_known n small) (number_is n)
+    immediate_covered immediate.Ori d n spares small =
+        logic_covered m o k s at guarded b1 b2 logic.Or d (register m d) n (bits s d) (byte_known n) (register_byte m o k s at d) small (register_bits m o k s at d) (has_known n small) spares.0
+    immediate_covered immediate.Andi d n spares small =
+        logic_covered m o k s at guarded b1 b2 logic.And d (register m d) n (bits s d) (byte_known n) (register_byte m o k s at d) small (register_bits m o k s at d) (has_known n small) spares.0
+    immediate_covered immediate.Ldi d n spares small = moves m o k s at guarded b1 b2 d n (known n) (bits_make_values.stands o tag.None (byte_known n) n small tt (has_known n small)) spares.0
 
-    unary_covered : (op : UnaryOp) (d : ℕ) → Follows m o k guarded b1 b2 (unary_effect m op d) (unary_row k s op d)
-    unary_covered unary.Com d = com_covered m o k s at guarded b1 b2 d
-    unary_covered unary.Neg d =
+    unary_covered : (op : UnaryOp) (d : ℕ) → Spares s.flags.carry d → Follows m o k guarded b1 b2 (unary_effect m op d) (unary_row m.device k s op d)
+    unary_covered unary.Com d spare = com_covered m o k s at guarded b1 b2 d
+    unary_covered unary.Neg d spare =
         difference_covered m o k s at guarded b1 b2 d 0 (register m d) (byte_known 0) (bits s d) false Zero false tag.None carry_tag.None (omega arith) (register_byte m o k s at d)
-        (has_known 0 (omega arith)) (register_bits m o k s at d) refl tt tt
-    unary_covered unary.Swap d = swap_covered m o k s at guarded b1 b2 d
-    unary_covered unary.Inc d = step_covered m o k s at guarded b1 b2 true d
-    unary_covered unary.Asr d = shift_covered m o k s at guarded b1 b2 shift.Asr d
-    unary_covered unary.Lsr d = shift_covered m o k s at guarded b1 b2 shift.Lsr d
-    unary_covered unary.Ror d = shift_covered m o k s at guarded b1 b2 shift.Ror d
-    unary_covered unary.Dec d = step_covered m o k s at guarded b1 b2 false d
+        (has_known 0 (omega arith)) (register_bits m o k s at d) refl tt tt tt
+    unary_covered unary.Swap d spare = swap_covered m o k s at guarded b1 b2 d spare
+    unary_covered unary.Inc d spare = step_covered m o k s at guarded b1 b2 true d spare
+    unary_covered unary.Asr d spare = shift_covered m o k s at guarded b1 b2 shift.Asr d
+    unary_covered unary.Lsr d spare = shift_covered m o k s at guarded b1 b2 shift.Lsr d
+    unary_covered unary.Ror d spare = shift_covered m o k s at guarded b1 b2 shift.Ror d
+    unary_covered unary.Dec d spare = step_covered m o k s at guarded b1 b2 false d spare
 
-    binary_covered : (words : List ℕ) (op : BinaryOp) (d r : ℕ) → Follows m o k guarded b1 b2 (binary_effect words m op d r) (binary_row words k s op d r)
-    binary_covered words binary.Cpc d r =
-        compare_covered m o k s at guarded b1 b2 (register m d) (register m r) (bits s d) (bits s r) (carry m) (carry_bit s) true (register_byte m o k s at d) (register_byte m o k s at r)
+    binary_covered : (words : List ℕ) (op : BinaryOp) (d r : ℕ) → SparesAll s.flags.carry (set_by_binary op d) → Follows m o k guarded b1 b2 (binary_effect words m op d r) (binary_row m.device words k s op d r)
+    binary_covered words binary.Cpc d r spares =
+        compare_covered m o k s at guarded b1 b2 (register m d) (register m r) (bits s d) (bits s r) (carry m) (carry_bit s) true
+        (less_kept (byte_constant (bits s d)) (byte_constant (bits s r)) s.flags.carry) (register_byte m o k s at d) (register_byte m o k s at r)
         (register_bits m o k s at d) (register_bits m o k s at r) (carry_may m o k s at guarded b1 b2)
-    binary_covered words binary.Sbc d r =
+        (kept_is CarryIsUntagged (byte_constant (bits s d)) (byte_constant (bits s r)) s.flags.carry (alone_untagged s.flags.carry) tt)
+        (kept_holds m.registers (register m d) (register m r) (byte_constant (bits s d)) (byte_constant (bits s r)) s.flags.carry (carry m) (register_number d) (register_number r) at.stands.less)
+    binary_covered words binary.Sbc d r spares =
         sbc_covered m o k s at guarded b1 b2 d (register m r) (bits s r) (byte_constant (bits s r)) (register_byte m o k s at r) (register_bits m o k s at r) (register_number r)
-    binary_covered words binary.Add d r = sum_covered m o k s at guarded b1 b2 d (register m r) (bits s r) false Zero (register_byte m o k s at r) (register_bits m o k s at r) refl
-    binary_covered words binary.Cpse d r =
+    binary_covered words binary.Add d r spares = sum_covered m o k s at guarded b1 b2 d (register m r) (bits s r) false Zero (register_byte m o k s at r) (register_bits m o k s at r) refl
+    binary_covered words binary.Cpse d r spares =
         skip_covered m o k s at guarded b1 b2 words (register m d == register m r) (byte_equal (bits s d) (bits s r))
         (logic_covers.tests (bits s d) (bits s r) (register m d) (register m r) (register_byte m o k s at d) (register_byte m o k s at r) (register_bits m o k s at d) (register_bits m o k s at r))
-    binary_covered words binary.Cp d r =
-        compare_covered m o k s at guarded b1 b2 (register m d) (register m r) (bits s d) (bits s r) false Zero false (register_byte m o k s at d) (register_byte m o k s at r)
-        (register_bits m o k s at d) (register_bits m o k s at r) refl
-    binary_covered words binary.Sub d r = sub_by m o k s at guarded b1 b2 d r (d == r) refl
-    binary_covered words binary.Adc d r =
+    binary_covered words binary.Cp d r spares =
+        compare_covered m o k s at guarded b1 b2 (register m d) (register m r) (bits s d) (bits s r) false Zero false (less_than d (byte_constant (bits s r)))
+        (register_byte m o k s at d) (register_byte m o k s at r) (register_bits m o k s at d) (register_bits m o k s at r) refl
+        (than_untagged d (byte_constant (bits s r))) (than_holds m.registers d (register m r) (byte_constant (bits s r)) (register_number r))
+    binary_covered words binary.Sub d r spares = sub_by m o k s at guarded b1 b2 d r (d == r) refl
+    binary_covered words binary.Adc d r spares =
         sum_covered m o k s at guarded b1 b2 d (register m r) (bits s r) (carry m) (carry_bit s) (register_byte m o k s at r) (register_bits m o k s at r) (carry_may m o k s at guarded b1 b2)
-    binary_covered words binary.And d r = kept_covered m o k s at guarded b1 b2 logic.And and_self d r
-    binary_covered words binary.Eor d r = eor_by m o k s at guarded b1 b2 d r (d == r) refl
-    binary_covered words binary.Or d r = kept_covered m o k s at guarded b1 b2 logic.Or or_self d r
-    binary_covered words binary.Mov d r = moves m o k s at guarded b1 b2 d (register m r) (value s r) (register_stands m o k s at r)
-    binary_covered words binary.Mul d r = product_covered m o k s at guarded b1 b2 product.Mul d r
+    binary_covered words binary.And d r spares = kept_covered m o k s at guarded b1 b2 logic.And and_self d r spares.0
+    binary_covered words binary.Eor d r spares = eor_by m o k s at guarded b1 b2 d r spares.0 (d == r) refl
+    binary_covered words binary.Or d r spares = kept_covered m o k s at guarded b1 b2 logic.Or or_self d r spares.0
+    binary_covered words binary.Mov d r spares = moves m o k s at guarded b1 b2 d (register m r) (value s r) (register_stands m o k s at r) spares.0
+    binary_covered words binary.Mul d r spares = product_covered m o k s at guarded b1 b2 product.Mul d r
 
 listed_word : (A : List Entry) (pc : ℕ) (e : Effect) → unlisted_transfer A pc i.Ijmp e ≡ None → unless_listed (jump_line A pc) e.pc ≡ None
 unfolding unlisted_transfer
@@ -138,56 +148,56 @@ module _ (m : State) (o : Origin) (k : NodeKey) (s : AbsState) (at : InFrame m o
   -- what a row owes
   abbrev pub RowIsCovered : Instr → Type 0
   RowIsCovered instr =
-      (row_of words A scratch k s instr).faults ≡ [] → IsUnflagged words A m instr (effect_of words m instr b1 b2)
-      → Follows m o k (not scratch) b1 b2 (effect_of words m instr b1 b2) (row_of words A scratch k s instr)
+      (row_of m.device words A scratch k s instr).faults ≡ [] → IsUnflagged words A m instr (effect_of words m instr b1 b2)
+      → Follows m o k (not scratch) b1 b2 (effect_of words m instr b1 b2) (row_of m.device words A scratch k s instr)
 
   -- Each row is covered, where those that name an address are.
-  pub row_covered : (instr : Instr) → IsSized instr → (scratch ≡ true → MakesRoom instr) → (NamesAddress instr → RowIsCovered instr) → RowIsCovered instr
-  row_covered i.Nop sized rooms addressed none unflagged = going_covered m o k s at (not scratch) b1 b2 _ (further k 1) (further_is m o k s at (not scratch) b1 b2 1)
-  row_covered (i.Movw d r) sized rooms addressed none unflagged = movw_covered m o k s at (not scratch) b1 b2 (2 * d) (2 * r)
-  row_covered (i.Muls d r) sized rooms addressed none unflagged = product_covered m o k s at (not scratch) b1 b2 product.Muls d r
-  row_covered (i.Mulsu d r) sized rooms addressed none unflagged = product_covered m o k s at (not scratch) b1 b2 product.Mulsu d r
-  row_covered (i.Fmul d r) sized rooms addressed none unflagged = product_covered m o k s at (not scratch) b1 b2 product.Fmul d r
-  row_covered (i.Fmuls d r) sized rooms addressed none unflagged = product_covered m o k s at (not scratch) b1 b2 product.Fmuls d r
-  row_covered (i.Fmulsu d r) sized rooms addressed none unflagged = product_covered m o k s at (not scratch) b1 b2 product.Fmulsu d r
-  row_covered (i.Binary op d r) sized rooms addressed none unflagged = binary_covered m o k s at b1 b2 (not scratch) words op d r
-  row_covered (i.Immediate op d n) sized rooms addressed none unflagged = immediate_covered m o k s at b1 b2 (not scratch) op d n sized
-  row_covered (i.Ldd d b q) sized rooms addressed none unflagged = addressed tt none unflagged
-  row_covered (i.Std b q r) sized rooms addressed none unflagged = addressed tt none unflagged
-  row_covered (i.Lds d a) sized rooms addressed none unflagged = addressed tt none unflagged
-  row_covered (i.Ld d p) sized rooms addressed none unflagged = addressed tt none unflagged
-  row_covered (i.LpmZ d) sized rooms addressed none unflagged = addressed tt none unflagged
-  row_covered (i.LpmZPlus d) sized rooms addressed none unflagged = addressed tt none unflagged
-  row_covered (i.Pop d) sized rooms addressed none unflagged = pop_covered m o k s at (not scratch) b1 b2 d none
-  row_covered (i.Sts a r) sized rooms addressed none unflagged = addressed tt none unflagged
-  row_covered (i.St p r) sized rooms addressed none unflagged = addressed tt none unflagged
-  row_covered (i.Push r) sized rooms addressed none unflagged = push_covered m o k s at scratch b1 b2 r none
-  row_covered (i.Unary op d) sized rooms addressed none unflagged = unary_covered m o k s at b1 b2 (not scratch) op d
-  row_covered (i.Bset n) sized rooms addressed none unflagged = flag_covered m o k s at (not scratch) b1 b2 n true
-  row_covered (i.Bclr n) sized rooms addressed none unflagged = flag_covered m o k s at (not scratch) b1 b2 n false
-  row_covered i.Ijmp sized rooms addressed none unflagged = ijmp_covered m o k s at (not scratch) b1 b2 A (listed_word A m.pc (effect_of words m i.Ijmp b1 b2) unflagged.listed) none
-  row_covered i.Icall sized rooms addressed none unflagged = icall_covered m o k s at (not scratch) b1 b2 A (guards scratch rooms) (listed_call A m.pc (effect_of words m i.Icall b1 b2) unflagged.listed) none
-  row_covered i.Ret sized rooms addressed none unflagged = ret_covered m o k s at (not scratch) b1 b2 none
-  row_covered i.Reti sized rooms addressed none unflagged = reti_covered m o k s at (not scratch) b1 b2 none
-  row_covered i.Sleep sized rooms addressed none unflagged = going_covered m o k s at (not scratch) b1 b2 _ (further k 1) (further_is m o k s at (not scratch) b1 b2 1)
-  row_covered i.Break sized rooms addressed none unflagged = going_covered m o k s at (not scratch) b1 b2 _ (further k 1) (further_is m o k s at (not scratch) b1 b2 1)
-  row_covered i.Wdr sized rooms addressed none unflagged = going_covered m o k s at (not scratch) b1 b2 _ (further k 1) (further_is m o k s at (not scratch) b1 b2 1)
-  row_covered i.Lpm sized rooms addressed none unflagged = addressed tt none unflagged
-  row_covered (i.Jmp t) sized rooms addressed none unflagged = going_covered m o k s at (not scratch) b1 b2 t t refl
-  row_covered (i.Call t) sized rooms addressed none unflagged = call_covered m o k s at (not scratch) b1 b2 t t _ (further k 2) (t ∷ []) (guards scratch rooms) refl (further_is m o k s at (not scratch) b1 b2 2) (first t []) none
-  row_covered (i.Adiw d n) sized rooms addressed none unflagged = wide_covered m o k s at (not scratch) b1 b2 true (2 * d) n sized
-  row_covered (i.Sbiw d n) sized rooms addressed none unflagged = wide_covered m o k s at (not scratch) b1 b2 false (2 * d) n sized
-  row_covered (i.Cbi a b) sized rooms addressed none unflagged = addressed tt none unflagged
-  row_covered (i.Sbi a b) sized rooms addressed none unflagged = addressed tt none unflagged
-  row_covered (i.Sbic a b) sized rooms addressed none unflagged = addressed tt none unflagged
-  row_covered (i.Sbis a b) sized rooms addressed none unflagged = addressed tt none unflagged
-  row_covered (i.In d a) sized rooms addressed none unflagged = addressed tt none unflagged
-  row_covered (i.Out a r) sized rooms addressed none unflagged = addressed tt none unflagged
-  row_covered (i.Rjmp t) sized rooms addressed none unflagged = going_covered m o k s at (not scratch) b1 b2 (far m.pc t) (far k.pc t) (ap (λ pc. far pc t) at.place.pc)
-  row_covered (i.Rcall t) sized rooms addressed none unflagged = rcall_covered m o k s at scratch b1 b2 (far m.pc t) (far k.pc t) (ap (λ pc. far pc t) at.place.pc) none
-  row_covered (i.Brbs n t) sized rooms addressed none unflagged = brbs_covered m o k s at (not scratch) b1 b2 n t
-  row_covered (i.Brbc n t) sized rooms addressed none unflagged = brbc_covered m o k s at (not scratch) b1 b2 n t
-  row_covered (i.Bld d b) sized rooms addressed none unflagged = bld_covered m o k s at (not scratch) b1 b2 d b
-  row_covered (i.Bst d b) sized rooms addressed none unflagged = bst_covered m o k s at (not scratch) b1 b2 d b
-  row_covered (i.Sbrc r b) sized rooms addressed none unflagged = skip_covered m o k s at (not scratch) b1 b2 words (not (flag (register m r) b)) (tri_not (tri_at (bits s r) b)) (not_may (tri_at (bits s r) b) (flag (register m r) b) (bit_may r b))
-  row_covered (i.Sbrs r b) sized rooms addressed none unflagged = skip_covered m o k s at (not scratch) b1 b2 words (flag (register m r) b) (tri_at (bits s r) b) (bit_may r b)
+  pub row_covered : b1 < 256 → (instr : Instr) → SparesAll s.flags.carry (written instr) → IsSized instr → (scratch ≡ true → MakesRoom instr) → (NamesAddress instr → RowIsCovered instr) → RowIsCovered instr
+  row_covered small i.Nop spares sized rooms addressed none unflagged = going_covered m o k s at (not scratch) b1 b2 _ (further m.device k 1) (goes_further m o k s at (not scratch) b1 b2 1)
+  row_covered small (i.Movw d r) spares sized rooms addressed none unflagged = movw_covered m o k s at (not scratch) b1 b2 (2 * d) (2 * r) spares
+  row_covered small (i.Muls d r) spares sized rooms addressed none unflagged = product_covered m o k s at (not scratch) b1 b2 product.Muls d r
+  row_covered small (i.Mulsu d r) spares sized rooms addressed none unflagged = product_covered m o k s at (not scratch) b1 b2 product.Mulsu d r
+  row_covered small (i.Fmul d r) spares sized rooms addressed none unflagged = product_covered m o k s at (not scratch) b1 b2 product.Fmul d r
+  row_covered small (i.Fmuls d r) spares sized rooms addressed none unflagged = product_covered m o k s at (not scratch) b1 b2 product.Fmuls d r
+  row_covered small (i.Fmulsu d r) spares sized rooms addressed none unflagged = product_covered m o k s at (not scratch) b1 b2 product.Fmulsu d r
+  row_covered small (i.Binary op d r) spares sized rooms addressed none unflagged = binary_covered m o k s at b1 b2 (not scratch) words op d r spares
+  row_covered small (i.Immediate op d n) spares sized rooms addressed none unflagged = immediate_covered m o k s at b1 b2 (not scratch) op d n spares sized
+  row_covered small (i.Ldd d b q) spares sized rooms addressed none unflagged = addressed tt none unflagged
+  row_covered small (i.Std b q r) spares sized rooms addressed none unflagged = addressed tt none unflagged
+  row_covered small (i.Lds d a) spares sized rooms addressed none unflagged = addressed tt none unflagged
+  row_covered small (i.Ld d p) spares sized rooms addressed none unflagged = addressed tt none unflagged
+  row_covered small (i.LpmZ d) spares sized rooms addressed none unflagged = addressed tt none unflagged
+  row_covered small (i.LpmZPlus d) spares sized rooms addressed none unflagged = addressed tt none unflagged
+  row_covered small (i.Pop d) spares sized rooms addressed none unflagged = pop_covered m o k s at (not scratch) b1 b2 d small spares.0 none
+  row_covered small (i.Sts a r) spares sized rooms addressed none unflagged = addressed tt none unflagged
+  row_covered small (i.St p r) spares sized rooms addressed none unflagged = addressed tt none unflagged
+  row_covered small (i.Push r) spares sized rooms addressed none unflagged = push_covered m o k s at scratch b1 b2 r none
+  row_covered small (i.Unary op d) spares sized rooms addressed none unflagged = unary_covered m o k s at b1 b2 (not scratch) op d spares.0
+  row_covered small (i.Bset n) spares sized rooms addressed none unflagged = flag_covered m o k s at (not scratch) b1 b2 n true
+  row_covered small (i.Bclr n) spares sized rooms addressed none unflagged = flag_covered m o k s at (not scratch) b1 b2 n false
+  row_covered small i.Ijmp spares sized rooms addressed none unflagged = ijmp_covered m o k s at (not scratch) b1 b2 A (listed_word A m.pc (effect_of words m i.Ijmp b1 b2) unflagged.listed) none
+  row_covered small i.Icall spares sized rooms addressed none unflagged = icall_covered m o k s at (not scratch) b1 b2 A (guards scratch rooms) (listed_call A m.pc (effect_of words m i.Icall b1 b2) unflagged.listed) none
+  row_covered small i.Ret spares sized rooms addressed none unflagged = ret_covered m o k s at (not scratch) b1 b2 none
+  row_covered small i.Reti spares sized rooms addressed none unflagged = reti_covered m o k s at (not scratch) b1 b2 none
+  row_covered small i.Sleep spares sized rooms addressed none unflagged = going_covered m o k s at (not scratch) b1 b2 _ (further m.device k 1) (goes_further m o k s at (not scratch) b1 b2 1)
+  row_covered small i.Break spares sized rooms addressed none unflagged = going_covered m o k s at (not scratch) b1 b2 _ (further m.device k 1) (goes_further m o k s at (not scratch) b1 b2 1)
+  row_covered small i.Wdr spares sized rooms addressed none unflagged = going_covered m o k s at (not scratch) b1 b2 _ (further m.device k 1) (goes_further m o k s at (not scratch) b1 b2 1)
+  row_covered small i.Lpm spares sized rooms addressed none unflagged = addressed tt none unflagged
+  row_covered small (i.Jmp t) spares sized rooms addressed none unflagged = going_covered m o k s at (not scratch) b1 b2 t (wrapped m.device t) refl
+  row_covered small (i.Call t) spares sized rooms addressed none unflagged = call_covered m o k s at (not scratch) b1 b2 t (wrapped m.device t) _ (further m.device k 2) (wrapped m.device t ∷ []) (guards scratch rooms) refl (further_is m o k s at (not scratch) b1 b2 2) (first (wrapped m.device t) []) none
+  row_covered small (i.Adiw d n) spares sized rooms addressed none unflagged = wide_covered m o k s at (not scratch) b1 b2 true (2 * d) n sized
+  row_covered small (i.Sbiw d n) spares sized rooms addressed none unflagged = wide_covered m o k s at (not scratch) b1 b2 false (2 * d) n sized
+  row_covered small (i.Cbi a b) spares sized rooms addressed none unflagged = addressed tt none unflagged
+  row_covered small (i.Sbi a b) spares sized rooms addressed none unflagged = addressed tt none unflagged
+  row_covered small (i.Sbic a b) spares sized rooms addressed none unflagged = addressed tt none unflagged
+  row_covered small (i.Sbis a b) spares sized rooms addressed none unflagged = addressed tt none unflagged
+  row_covered small (i.In d a) spares sized rooms addressed none unflagged = addressed tt none unflagged
+  row_covered small (i.Out a r) spares sized rooms addressed none unflagged = addressed tt none unflagged
+  row_covered small (i.Rjmp t) spares sized rooms addressed none unflagged = going_covered m o k s at (not scratch) b1 b2 (far m.pc t) (wrapped m.device (far k.pc t)) (ap (λ pc. wrapped m.device (far pc t)) at.place.pc)
+  row_covered small (i.Rcall t) spares sized rooms addressed none unflagged = rcall_covered m o k s at scratch b1 b2 (far m.pc t) (wrapped m.device (far k.pc t)) (ap (λ pc. wrapped m.device (far pc t)) at.place.pc) none
+  row_covered small (i.Brbs n t) spares sized rooms addressed none unflagged = brbs_covered m o k s at (not scratch) b1 b2 n t
+  row_covered small (i.Brbc n t) spares sized rooms addressed none unflagged = brbc_covered m o k s at (not scratch) b1 b2 n t
+  row_covered small (i.Bld d b) spares sized rooms addressed none unflagged = bld_covered m o k s at (not scratch) b1 b2 d b spares.0
+  row_covered small (i.Bst d b) spares sized rooms addressed none unflagged = bst_covered m o k s at (not scratch) b1 b2 d b
+  row_covered small (i.Sbrc r b) spares sized rooms addressed none unflagged = skip_covered m o k s at (not scratch) b1 b2 words (not (flag (register m r) b)) (tri_not (tri_at (bits s r) b)) (not_may (tri_at (bits s r) b) (flag (register m r) b) (bit_may r b))
+  row_covered small (i.Sbrs r b) spares sized rooms addressed none unflagged = skip_covered m o k s at (not scratch) b1 b2 words (flag (register m r) b) (tri_at (bits s r) b) (bit_may r b)

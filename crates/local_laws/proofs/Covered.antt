@@ -1,43 +1,105 @@
 -- The local part of a node covers each step of the machine there.
-use Rattle.std.proofs.Common.{◌≡◌, refl, subst, ℕ, ◌+◌, ◌<◌, Bool, true, false, List, Option, Some, None}
+use Rattle.std.proofs.Common.{◌≡◌, refl, subst, ℕ, ◌<◌, Bool, true, false, List, Option, Some, None, sym, ap, nat_lt, nat_le, length, map, if◌then◌else◌, lt-ltb}
+use Rattle.avr_model.specs.Devices.{words_of, size_of, device_of}
 use Rattle.avr_model.specs.declared.assumption.Entry.{Entry}
 use Rattle.avr_model.specs.declared.instruction.Instr.{Instr}
-use Rattle.avr_model.specs.Image.{word_at}
 use Rattle.avr_model.specs.Sites.{instruction_at, is_scratch}
-use Rattle.avr_model.specs.State.{State}
+use Rattle.avr_model.specs.Written.{written}
+use Rattle.avr_model.specs.State.{State, register}
 use Rattle.sp_domain.specs.Tags.{Origin}
 use Rattle.abs_state.specs.declared.state.AbsState.{AbsState}
 use Rattle.mask_states.specs.declared.keys.NodeKey.{NodeKey}
-use Rattle.local_rules.specs.Raw.{Raw, untracked_if}
-use Rattle.local_rules.specs.Local.{row_at, is_hung, raw}
+use Rattle.mask_states.specs.Keys.{offset_of}
+use Rattle.local_rules.specs.declared.local.NodeFault.TheVariants.{UnresolvedJump}
+use Rattle.local_rules.specs.Raw.{Raw, fails, all_of, untracked_if, too_deep_if}
+use Rattle.local_rules.specs.Local.{row_at, row_in, is_hung, fetched, picks, picking, picked, split_site, splitting, raw}
+use Rattle.local_rules.specs.Registers.{forgetting}
+use Rattle.local_rules.specs.Machine.{AreWords}
 use Rattle.local_rules.specs.Cover.{InFrame, IsCovered}
+use Rattle.local_laws.proofs.Less.{forgetting_at, forgotten_spares}
 use Rattle.local_laws.specs.Laws.{LocalPartsCover}
 use Rattle.local_laws.proofs.CoverMemory.{addressed_covered}
 use Rattle.local_laws.proofs.CoverRows.{row_covered}
-use Rattle.local_laws.proofs.Sized.{sized}
+use Rattle.local_laws.proofs.Sized.{sized_at}
 use Rattle.local_laws.proofs.SplitMembers.{are_written}
 use Rattle.local_laws.proofs.Targets.{scratch_makes_room}
+use Rattle.local_laws.proofs.Quiet.{Quiet}
+use Rattle.local_laws.proofs.Picks.{splits_at, at_quiet, in_picks, picked_at, all_covered}
 
-module _ (words : List ℕ) (A : List Entry) (m : State) (o : Origin) (k : NodeKey) (s : AbsState) (at : InFrame m o k s) (b1 b2 : ℕ) (small : b1 < 256) where
-  -- where the stack pointer isn't half written while an interrupt may come, the row decides
+module _ (words : List ℕ) (A : List Entry) (m : State) (o : Origin) (k : NodeKey) (s : AbsState) (at : InFrame m o k s) (b1 b2 : ℕ) (small : b1 < 256)
+    (are : AreWords words) where
+  -- where the stack pointer isn't half written while an interrupt may come, and the frame isn't deeper than SRAM, the row decides
   not_hung : (hung : Bool) (instr : Option Instr) (r : Raw) → IsCovered words A m o k b1 b2 instr r → IsCovered words A m o k b1 b2 instr (untracked_if hung k.pc r)
   not_hung true None r h = λ clean. absurd (let e = clean in cc)
   not_hung true (Some instr) r h = λ clean. absurd (let e = clean in cc)
   not_hung false instr r h = h
 
-  at_instruction : (instr : Option Instr) → instruction_at words m.pc ≡ instr → IsCovered words A m o k b1 b2 instr (row_at words A (is_scratch words m.pc) k s instr)
+  not_deep : (deep : Bool) (offset : ℕ) (instr : Option Instr) (r : Raw) → IsCovered words A m o k b1 b2 instr r
+      → IsCovered words A m o k b1 b2 instr (too_deep_if deep k.pc offset r)
+  not_deep true offset None r h = λ clean. absurd (let e = clean in cc)
+  not_deep true offset (Some instr) r h = λ clean. absurd (let e = clean in cc)
+  not_deep false offset instr r h = h
+
+  at_instruction : (instr : Option Instr) → instruction_at words m.pc ≡ instr → IsCovered words A m o k b1 b2 instr (row_at m.device words A (is_scratch words m.pc) k s instr)
   at_instruction None e = λ clean. absurd (let e = clean in cc)
   at_instruction (Some instr) e =
-      row_covered m o k s at b1 b2 words A (is_scratch words m.pc) instr (sized (word_at words m.pc) (word_at words (m.pc + 1)) instr e)
+      let t = forgetting (written instr) s in
+      let there = forgetting_at m o k s (written instr) at in
+      let spares = forgotten_spares (written instr) s.flags.carry in
+      row_covered m o k t there b1 b2 words A (is_scratch words m.pc) small instr spares (sized_at words m.pc instr e)
       (λ scratch. scratch_makes_room words m.pc instr scratch e)
-      (addressed_covered words A m o k s at (is_scratch words m.pc) b1 b2 are_written small instr)
+      (addressed_covered words A m o k t there (is_scratch words m.pc) b1 b2 are_written are small instr spares)
 
-  covered : IsCovered words A m o k b1 b2 (instruction_at words m.pc) (raw words A k s)
+  -- the machine's word is one of its device's flash
+  is_fetched : instruction_at words m.pc ≡ fetched m.device words m.pc
+  is_fetched = sym (ap (λ (b : Bool). if b then instruction_at words m.pc else None) (lt-ltb m.pc (words_of m.device) at.machine.pc_small))
+
+  -- the local part covers the machine's instruction
+  abbrev Covering : Raw → Type 0
+  Covering r = IsCovered words A m o k b1 b2 (instruction_at words m.pc) r
+
+  -- what the row says of the node, where the machine's word and device are those of the node
+  row_in_covered : m.device ≡ device_of words → Covering (row_in (device_of words) words A k s)
+  row_in_covered told =
+      let here = subst (λ x. Covering (row_at m.device words A (is_scratch words m.pc) k s x)) is_fetched (at_instruction (instruction_at words m.pc) refl) in
+      subst (λ pc. Covering (row_at (device_of words) words A (is_scratch words pc) k s (fetched (device_of words) words pc))) at.place.pc
+      (subst (λ device. Covering (row_at device words A (is_scratch words m.pc) k s (fetched device words m.pc))) told here)
+
+module _ (words : List ℕ) (A : List Entry) (m : State) (o : Origin) (k : NodeKey) (s : AbsState) (at : InFrame m o k s) (b1 b2 : ℕ) (small : b1 < 256)
+    (are : AreWords words) (told : m.device ≡ device_of words) where
+  abbrev Covers : Raw → Type 0
+  Covers r = IsCovered words A m o k b1 b2 (instruction_at words m.pc) r
+
+  unresolved : (jump : ℕ) (instr : Option Instr) → IsCovered words A m o k b1 b2 instr (fails (UnresolvedJump jump))
+  unresolved jump None = λ clean. absurd (let e = clean in cc)
+  unresolved jump (Some instr) = λ clean. absurd (let e = clean in cc)
+
+  -- what the node leads to with one byte picked
+  abbrev row_picked : ℕ → Raw
+  row_picked x = row_in (device_of words) words A (picking k x) (picked s x)
+
+  -- a node that splits is covered by what it leads to with the byte that r30 has
+  splitting_covered : (site : Option ℕ) → split_site words A k.pc k.pick ≡ site → Covers (splitting site (row_in (device_of words) words A) k s)
+  splitting_covered None e = row_in_covered words A m o k s at b1 b2 small are told
+  splitting_covered (Some jump) e = by (nat_le (length (picks s)) 64)
+    where
+      quiet : Quiet (row_picked (register m 30))
+      quiet =
+          at_quiet (device_of words) words A (is_scratch words k.pc) (picking k (register m 30)) (picked s (register m 30)) (fetched (device_of words) words k.pc)
+          (splits_at words A k.pc k.pick jump e).1
+
+      by : (few : Bool) → Covers (if few then all_of (map row_picked (picks s)) else fails (UnresolvedJump jump))
+      by true =
+          all_covered words A m o k b1 b2 row_picked (picks s) (register m 30) (in_picks m o k s at) quiet (instruction_at words m.pc)
+          (row_in_covered words A m o (picking k (register m 30)) (picked s (register m 30)) (picked_at m o k s at) b1 b2 small are told)
+      by false = unresolved jump (instruction_at words m.pc)
+
+  covered : Covers (raw words A k s)
   unfolding raw
   covered =
-      subst (λ pc. IsCovered words A m o k b1 b2 (instruction_at words m.pc) (untracked_if (is_hung k k.sp) k.pc (row_at words A (is_scratch words pc) k s (instruction_at words pc))))
-      at.place.pc
-      (not_hung (is_hung k k.sp) (instruction_at words m.pc) (row_at words A (is_scratch words m.pc) k s (instruction_at words m.pc)) (at_instruction (instruction_at words m.pc) refl))
+      not_hung words A m o k s at b1 b2 small are (is_hung k k.sp) (instruction_at words m.pc) _
+      (not_deep words A m o k s at b1 b2 small are (nat_lt (size_of (device_of words)) (offset_of k.sp)) (offset_of k.sp) (instruction_at words m.pc) _
+      (splitting_covered (split_site words A k.pc k.pick) refl))
 
 pub local_parts_cover : LocalPartsCover
-local_parts_cover = record { covered = λ words A m o k s b1 b2 at small other. covered words A m o k s at b1 b2 small }
+local_parts_cover = record { covered = λ words A m o k s b1 b2 are told at small other. covered words A m o k s at b1 b2 small are told }

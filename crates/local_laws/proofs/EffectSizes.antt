@@ -5,6 +5,8 @@ use Rattle.std.specs.Int.{from_bool, cast_unsigned, cast_signed, w8, w16}
 use Rattle.std.proofs.lemmas.Int.{ints, fits_signed_mul}
 use Rattle.std.proofs.Math.Nat.{mul-le-mul}
 use Rattle.std.proofs.lemmas.Nat.{and_le_l, or_lt, xor_lt}
+use Rattle.avr_model.proofs.AllLaws.{devices_are_alike}
+use Rattle.avr_model.specs.Devices.{words_of, device_of, wrapped}
 use Rattle.avr_model.specs.declared.effect.Write.{Write}
 use Rattle.avr_model.specs.declared.instruction.Instr.{Instr}
 use Rattle.avr_model.specs.declared.instruction.Instr.TheVariants as i
@@ -23,22 +25,22 @@ use Rattle.avr_model.specs.declared.operation.Shift.TheVariants as shift
 use Rattle.avr_model.specs.declared.operation.Mul.{Mul}
 use Rattle.avr_model.specs.declared.operation.Mul.TheVariants as product
 use Rattle.avr_model.specs.Bitwise.{logic_of, shift_of, top_of, flags_of_result}
-use Rattle.avr_model.specs.Image.{WORDS, byte_at}
+use Rattle.avr_model.specs.Image.{byte_at}
 use Rattle.avr_model.specs.Product.{word_of, result_of, is_fractional, flags_of_product}
 use Rattle.avr_model.specs.Sreg.{flag}
 use Rattle.avr_model.specs.Wide.{wide_of, flags_of_wide}
 use Rattle.avr_model.specs.State.{State, register, pair, plus16, minus16}
 use Rattle.avr_model.specs.Effects.{set, set_pair, going_to, setting, storing, calling, flash_read, moved, binary_effect, immediate_effect, unary_effect, effect_of, branch_effect, logic_effect, carry}
 use Rattle.local_rules.specs.Machine.{IsMachine, AreWords}
-use Rattle.local_laws.proofs.Alu.{below_in_list, byte_in_list}
+use Rattle.local_laws.proofs.Bytes.{below_in_list, byte_in_list}
 use Rattle.local_laws.proofs.Bits.{with_bit_small, with_flags_small, with_carry_and_zero_small}
 use Rattle.local_laws.proofs.Memory.{AreByteWrites}
-use Rattle.local_laws.proofs.Sized.{IsSized, sized}
+use Rattle.local_laws.proofs.Sized.{IsSized}
 use Rattle.local_laws.proofs.Machine.{IsEffect, read_small}
 
 -- ---- numbers
 
-logic_small : (op : Logic) (a b : ℕ) → a < 256 → b < 256 → logic_of op a b < 256
+pub logic_small : (op : Logic) (a b : ℕ) → a < 256 → b < 256 → logic_of op a b < 256
 logic_small logic.And a b h g = omega (arith, and_le_l a b)
 logic_small logic.Or a b h g = or_lt 8 a b h g
 logic_small logic.Eor a b h g = xor_lt 8 a b h g
@@ -52,7 +54,7 @@ top_small shift.Ror a s h = from_bool_small (flag s 0)
     from_bool_small false = omega arith
 top_small shift.Asr a s h = omega arith
 
-shift_small : (op : Shift) (a s : ℕ) → a < 256 → shift_of op a s < 256
+pub shift_small : (op : Shift) (a s : ℕ) → a < 256 → shift_of op a s < 256
 shift_small op a s h = omega (arith, top_small op a s h)
 
 -- a product of two bytes has 16 bits
@@ -83,14 +85,14 @@ word_small product.Fmul a b h g = unsigned_small a b h g
 word_small product.Fmuls a b h g = signed_small a b h g
 word_small product.Fmulsu a b h g = mixed_small a b h g
 
-result_small : (op : Mul) (a b : ℕ) → a < 256 → b < 256 → result_of op a b < 65536
+pub result_small : (op : Mul) (a b : ℕ) → a < 256 → b < 256 → result_of op a b < 65536
 result_small op a b h g = by_kind (is_fractional op)
   where
     by_kind : (twice : Bool) → (if twice then 2 * word_of op a b % 65536 else word_of op a b) < 65536
     by_kind true = omega arith
     by_kind false = word_small op a b h g
 
-wide_small : (up : Bool) (a k : ℕ) → wide_of up a k < 65536
+pub wide_small : (up : Bool) (a k : ℕ) → wide_of up a k < 65536
 wide_small true a k = omega arith
 wide_small false a k = omega arith
 
@@ -101,15 +103,15 @@ wide_flags_small : (up : Bool) (a k s : ℕ) → s < 256 → flags_of_wide up a 
 wide_flags_small true a k s h = with_flags_small _ _ _ _ _ s h
 wide_flags_small false a k s h = with_flags_small _ _ _ _ _ s h
 
-byte_at_small : (words : List ℕ) (z : ℕ) → AreWords words → byte_at words z < 256
+pub byte_at_small : (words : List ℕ) (z : ℕ) → AreWords words → byte_at words z < 256
 byte_at_small words z h = here (z % 2 == 0)
   where
     here : (b : Bool) → (if b then slice_index words (z / 2) % 256 else slice_index words (z / 2) / 256) < 256
     here true = omega arith
     here false = omega (arith, below_in_list 65536 words (z / 2) (omega arith) h)
 
-flash_small : (words : List ℕ) (z input : ℕ) → AreWords words → input < 256 → flash_read words z input < 256
-flash_small words z input h small = here (nat_lt z 0x8000)
+pub flash_small : (words : List ℕ) (z input : ℕ) → AreWords words → input < 256 → flash_read words z input < 256
+flash_small words z input h small = here (nat_lt z (2 * words_of (device_of words)))
   where
     here : (b : Bool) → (if b then byte_at words z else input) < 256
     here true = byte_at_small words z h
@@ -148,32 +150,38 @@ module _ (m : State) (h : IsMachine m) where
   byte : (r : ℕ) → register m r < 256
   byte r = byte_in_list m.registers r h.register_bytes
 
-  goes : (pc : ℕ) → pc < WORDS → IsEffect (going_to m pc)
-  goes pc small = record { pc = small; registers = tt; sreg = h.sreg_byte; sp = h.sp_word; enables = h.enable_bits; stores = tt; pushes = tt }
+  inside : (a : ℕ) → wrapped m.device a < words_of m.device
+  inside a = devices_are_alike.inside m.device a
 
-  sets : (ws : List Write) (sreg : ℕ) → AreByteWrites ws → sreg < 256 → IsEffect (setting m ws sreg)
-  sets ws sreg bytes small = record { pc = omega arith; registers = bytes; sreg = small; sp = h.sp_word; enables = h.enable_bits; stores = tt; pushes = tt }
+  word : (n : ℕ) → wrapped m.device (m.pc + n) < 65536
+  word n = omega (arith, devices_are_alike.most m.device (m.pc + n))
 
-  stores_byte : (a b : ℕ) → b < 256 → IsEffect (storing m a b)
-  stores_byte a b small = record { pc = omega arith; registers = tt; sreg = h.sreg_byte; sp = h.sp_word; enables = h.enable_bits; stores = (small, tt); pushes = tt }
+  goes : (pc : ℕ) → IsEffect m.device (going_to m pc)
+  goes pc = record { pc = inside pc; registers = tt; sreg = h.sreg_byte; sp = h.sp_word; enables = h.enable_bits; stores = tt; pushes = tt }
 
-  calls : (target back : ℕ) → target < WORDS → back < 65536 → IsEffect (calling m target back)
-  calls target back small word =
-      record { pc = small; registers = tt; sreg = h.sreg_byte; sp = omega arith; enables = h.enable_bits; stores = tt; pushes = (omega arith, (omega arith, tt)) }
+  sets : (ws : List Write) (sreg : ℕ) → AreByteWrites ws → sreg < 256 → IsEffect m.device (setting m ws sreg)
+  sets ws sreg bytes small = record { pc = inside _; registers = bytes; sreg = small; sp = h.sp_word; enables = h.enable_bits; stores = tt; pushes = tt }
 
-  logic_fits : (op : Logic) (d a b : ℕ) → a < 256 → b < 256 → IsEffect (logic_effect m op d a b)
+  stores_byte : (a b : ℕ) → b < 256 → IsEffect m.device (storing m a b)
+  stores_byte a b small = record { pc = inside _; registers = tt; sreg = h.sreg_byte; sp = h.sp_word; enables = h.enable_bits; stores = (small, tt); pushes = tt }
+
+  calls : (target back : ℕ) → back < 65536 → IsEffect m.device (calling m target back)
+  calls target back word =
+      record { pc = inside target; registers = tt; sreg = h.sreg_byte; sp = omega arith; enables = h.enable_bits; stores = tt; pushes = (omega arith, (omega arith, tt)) }
+
+  logic_fits : (op : Logic) (d a b : ℕ) → a < 256 → b < 256 → IsEffect m.device (logic_effect m op d a b)
   logic_fits op d a b small_a small_b =
       sets (set d (logic_of op a b)) (flags_of_result (carry m) false (logic_of op a b) m.sreg) (one_write d _ (logic_small op a b small_a small_b))
       (result_flags_small (carry m) false (logic_of op a b) m.sreg h.sreg_byte)
 
-  multiplies : (op : Mul) (a b : ℕ) → a < 256 → b < 256 → IsEffect (setting m (set_pair 0 (result_of op a b)) (flags_of_product op a b m.sreg))
+  multiplies : (op : Mul) (a b : ℕ) → a < 256 → b < 256 → IsEffect m.device (setting m (set_pair 0 (result_of op a b)) (flags_of_product op a b m.sreg))
   multiplies op a b small_a small_b = sets _ _ (pair_writes 0 _ (result_small op a b small_a small_b)) (with_carry_and_zero_small _ _ m.sreg h.sreg_byte)
 
-  binary_fits : (words : List ℕ) (op : BinaryOp) (d r : ℕ) → IsEffect (binary_effect words m op d r)
+  binary_fits : (words : List ℕ) (op : BinaryOp) (d r : ℕ) → IsEffect m.device (binary_effect words m op d r)
   binary_fits words binary.Cpc d r = sets [] _ tt (with_flags_small _ _ _ _ _ m.sreg h.sreg_byte)
   binary_fits words binary.Sbc d r = sets _ _ (one_write d _ (omega arith)) (with_flags_small _ _ _ _ _ m.sreg h.sreg_byte)
   binary_fits words binary.Add d r = sets _ _ (one_write d _ (omega arith)) (with_flags_small _ _ _ _ _ m.sreg h.sreg_byte)
-  binary_fits words binary.Cpse d r = goes _ (omega arith)
+  binary_fits words binary.Cpse d r = goes _
   binary_fits words binary.Cp d r = sets [] _ tt (with_flags_small _ _ _ _ _ m.sreg h.sreg_byte)
   binary_fits words binary.Sub d r = sets _ _ (one_write d _ (omega arith)) (with_flags_small _ _ _ _ _ m.sreg h.sreg_byte)
   binary_fits words binary.Adc d r = sets _ _ (one_write d _ (omega arith)) (with_flags_small _ _ _ _ _ m.sreg h.sreg_byte)
@@ -183,7 +191,7 @@ module _ (m : State) (h : IsMachine m) where
   binary_fits words binary.Mov d r = sets _ _ (one_write d _ (byte r)) h.sreg_byte
   binary_fits words binary.Mul d r = multiplies product.Mul (register m d) (register m r) (byte d) (byte r)
 
-  immediate_fits : (op : ImmediateOp) (d n : ℕ) → n < 256 → IsEffect (immediate_effect m op d n)
+  immediate_fits : (op : ImmediateOp) (d n : ℕ) → n < 256 → IsEffect m.device (immediate_effect m op d n)
   immediate_fits immediate.Cpi d n small = sets [] _ tt (with_flags_small _ _ _ _ _ m.sreg h.sreg_byte)
   immediate_fits immediate.Sbci d n small = sets _ _ (one_write d _ (omega arith)) (with_flags_small _ _ _ _ _ m.sreg h.sreg_byte)
   immediate_fits immediate.Subi d n small = sets _ _ (one_write d _ (omega arith)) (with_flags_small _ _ _ _ _ m.sreg h.sreg_byte)
@@ -191,7 +199,7 @@ module _ (m : State) (h : IsMachine m) where
   immediate_fits immediate.Andi d n small = logic_fits logic.And d (register m d) n (byte d) small
   immediate_fits immediate.Ldi d n small = sets _ _ (one_write d _ small) h.sreg_byte
 
-  unary_fits : (op : UnaryOp) (d : ℕ) → IsEffect (unary_effect m op d)
+  unary_fits : (op : UnaryOp) (d : ℕ) → IsEffect m.device (unary_effect m op d)
   unary_fits unary.Com d = sets _ (flags_of_result true false (255 - register m d) m.sreg) (one_write d _ (omega arith)) (result_flags_small true false (255 - register m d) m.sreg h.sreg_byte)
   unary_fits unary.Neg d = sets _ _ (one_write d _ (omega arith)) (with_flags_small _ _ _ _ _ m.sreg h.sreg_byte)
   unary_fits unary.Swap d = sets _ _ (one_write d _ (omega (arith, byte d))) h.sreg_byte
@@ -201,14 +209,14 @@ module _ (m : State) (h : IsMachine m) where
   unary_fits unary.Ror d = sets _ _ (one_write d _ (shift_small shift.Ror _ m.sreg (byte d))) (with_flags_small _ _ _ _ _ m.sreg h.sreg_byte)
   unary_fits unary.Dec d = sets _ _ (one_write d _ (omega arith)) (with_flags_small _ _ _ _ _ m.sreg h.sreg_byte)
 
-  branches : (test : Bool) (k : ℕ) → IsEffect (branch_effect m test k)
-  branches true k = goes _ (omega arith)
-  branches false k = goes _ (omega arith)
+  branches : (test : Bool) (k : ℕ) → IsEffect m.device (branch_effect m test k)
+  branches true k = goes _
+  branches false k = goes _
 
   module _ (words : List ℕ) (are : AreWords words) (b1 b2 : ℕ) (small1 : b1 < 256) (small2 : b2 < 256) where
     -- every row's effect fits
-    pub row_fits : (instr : Instr) → IsSized instr → IsEffect (effect_of words m instr b1 b2)
-    row_fits i.Nop sized = goes _ (omega arith)
+    pub row_fits : (instr : Instr) → IsSized instr → IsEffect m.device (effect_of words m instr b1 b2)
+    row_fits i.Nop sized = goes _
     row_fits (i.Movw d r) sized = sets _ _ (pair_writes (2 * d) (pair m (2 * r)) (omega (arith, byte (2 * r), byte (2 * r + 1)))) h.sreg_byte
     row_fits (i.Muls d r) sized = multiplies product.Muls (register m d) (register m r) (byte d) (byte r)
     row_fits (i.Mulsu d r) sized = multiplies product.Mulsu (register m d) (register m r) (byte d) (byte r)
@@ -219,40 +227,40 @@ module _ (m : State) (h : IsMachine m) where
     row_fits (i.Immediate op d n) sized = immediate_fits op d n sized
     row_fits (i.Ldd d b q) sized = sets _ _ (one_write d _ (read_small m _ b1 h small1)) h.sreg_byte
     row_fits (i.Std b q r) sized = stores_byte _ _ (byte r)
-    row_fits (i.Lds d a) sized = record { pc = omega arith; registers = (read_small m a b1 h small1, tt); sreg = h.sreg_byte; sp = h.sp_word; enables = h.enable_bits; stores = tt; pushes = tt }
+    row_fits (i.Lds d a) sized = record { pc = inside _; registers = (read_small m a b1 h small1, tt); sreg = h.sreg_byte; sp = h.sp_word; enables = h.enable_bits; stores = tt; pushes = tt }
     row_fits (i.Ld d p) sized = sets _ _ (moved_and_one p _ d _ (read_small m _ b1 h small1)) h.sreg_byte
     row_fits (i.LpmZ d) sized = sets _ _ (one_write d _ (flash_small words (pair m 30) b1 are small1)) h.sreg_byte
     row_fits (i.LpmZPlus d) sized = sets _ _ (and_one 30 (plus16 (pair m 30) 1) d _ (omega arith) (flash_small words (pair m 30) b1 are small1)) h.sreg_byte
-    row_fits (i.Pop d) sized = record { pc = omega arith; registers = (read_small m _ b1 h small1, tt); sreg = h.sreg_byte; sp = omega arith; enables = h.enable_bits; stores = tt; pushes = tt }
-    row_fits (i.Sts a r) sized = record { pc = omega arith; registers = tt; sreg = h.sreg_byte; sp = h.sp_word; enables = h.enable_bits; stores = (byte r, tt); pushes = tt }
-    row_fits (i.St p r) sized = record { pc = omega arith; registers = moved_writes p _; sreg = h.sreg_byte; sp = h.sp_word; enables = h.enable_bits; stores = (byte r, tt); pushes = tt }
-    row_fits (i.Push r) sized = record { pc = omega arith; registers = tt; sreg = h.sreg_byte; sp = omega arith; enables = h.enable_bits; stores = tt; pushes = (byte r, tt) }
+    row_fits (i.Pop d) sized = record { pc = inside _; registers = (read_small m _ b1 h small1, tt); sreg = h.sreg_byte; sp = omega arith; enables = h.enable_bits; stores = tt; pushes = tt }
+    row_fits (i.Sts a r) sized = record { pc = inside _; registers = tt; sreg = h.sreg_byte; sp = h.sp_word; enables = h.enable_bits; stores = (byte r, tt); pushes = tt }
+    row_fits (i.St p r) sized = record { pc = inside _; registers = moved_writes p _; sreg = h.sreg_byte; sp = h.sp_word; enables = h.enable_bits; stores = (byte r, tt); pushes = tt }
+    row_fits (i.Push r) sized = record { pc = inside _; registers = tt; sreg = h.sreg_byte; sp = omega arith; enables = h.enable_bits; stores = tt; pushes = (byte r, tt) }
     row_fits (i.Unary op d) sized = unary_fits op d
-    row_fits (i.Bset n) sized = record { pc = omega arith; registers = tt; sreg = with_bit_small m.sreg n true; sp = h.sp_word; enables = h.enable_bits; stores = tt; pushes = tt }
-    row_fits (i.Bclr n) sized = record { pc = omega arith; registers = tt; sreg = with_bit_small m.sreg n false; sp = h.sp_word; enables = h.enable_bits; stores = tt; pushes = tt }
-    row_fits i.Ijmp sized = goes _ (omega arith)
-    row_fits i.Icall sized = calls _ _ (omega arith) (omega arith)
-    row_fits i.Ret sized = record { pc = omega arith; registers = tt; sreg = h.sreg_byte; sp = omega arith; enables = h.enable_bits; stores = tt; pushes = tt }
-    row_fits i.Reti sized = record { pc = omega arith; registers = tt; sreg = with_bit_small m.sreg 7 true; sp = omega arith; enables = h.enable_bits; stores = tt; pushes = tt }
-    row_fits i.Sleep sized = goes _ (omega arith)
-    row_fits i.Break sized = goes _ (omega arith)
-    row_fits i.Wdr sized = goes _ (omega arith)
+    row_fits (i.Bset n) sized = record { pc = inside _; registers = tt; sreg = with_bit_small m.sreg n true; sp = h.sp_word; enables = h.enable_bits; stores = tt; pushes = tt }
+    row_fits (i.Bclr n) sized = record { pc = inside _; registers = tt; sreg = with_bit_small m.sreg n false; sp = h.sp_word; enables = h.enable_bits; stores = tt; pushes = tt }
+    row_fits i.Ijmp sized = goes _
+    row_fits i.Icall sized = calls _ _ (word 1)
+    row_fits i.Ret sized = record { pc = inside _; registers = tt; sreg = h.sreg_byte; sp = omega arith; enables = h.enable_bits; stores = tt; pushes = tt }
+    row_fits i.Reti sized = record { pc = inside _; registers = tt; sreg = with_bit_small m.sreg 7 true; sp = omega arith; enables = h.enable_bits; stores = tt; pushes = tt }
+    row_fits i.Sleep sized = goes _
+    row_fits i.Break sized = goes _
+    row_fits i.Wdr sized = goes _
     row_fits i.Lpm sized = sets _ _ (one_write 0 _ (flash_small words (pair m 30) b1 are small1)) h.sreg_byte
-    row_fits (i.Jmp t) sized = goes t sized
-    row_fits (i.Call t) sized = calls t _ sized (omega arith)
+    row_fits (i.Jmp t) sized = goes t
+    row_fits (i.Call t) sized = calls t _ (word 2)
     row_fits (i.Adiw d n) sized = sets _ _ (pair_writes (2 * d) _ (wide_small true (pair m (2 * d)) n)) (wide_flags_small true (pair m (2 * d)) n m.sreg h.sreg_byte)
     row_fits (i.Sbiw d n) sized = sets _ _ (pair_writes (2 * d) _ (wide_small false (pair m (2 * d)) n)) (wide_flags_small false (pair m (2 * d)) n m.sreg h.sreg_byte)
     row_fits (i.Cbi a b) sized = stores_byte _ _ (with_bit_small _ b false)
     row_fits (i.Sbi a b) sized = stores_byte _ _ (with_bit_small _ b true)
-    row_fits (i.Sbic a b) sized = goes _ (omega arith)
-    row_fits (i.Sbis a b) sized = goes _ (omega arith)
+    row_fits (i.Sbic a b) sized = goes _
+    row_fits (i.Sbis a b) sized = goes _
     row_fits (i.In d a) sized = sets _ _ (one_write d _ (read_small m _ b1 h small1)) h.sreg_byte
-    row_fits (i.Out a r) sized = record { pc = omega arith; registers = tt; sreg = h.sreg_byte; sp = h.sp_word; enables = h.enable_bits; stores = (byte r, tt); pushes = tt }
-    row_fits (i.Rjmp t) sized = goes _ (omega arith)
-    row_fits (i.Rcall t) sized = calls _ _ (omega arith) (omega arith)
+    row_fits (i.Out a r) sized = record { pc = inside _; registers = tt; sreg = h.sreg_byte; sp = h.sp_word; enables = h.enable_bits; stores = (byte r, tt); pushes = tt }
+    row_fits (i.Rjmp t) sized = goes _
+    row_fits (i.Rcall t) sized = calls _ _ (word 1)
     row_fits (i.Brbs n t) sized = branches (flag m.sreg n) t
     row_fits (i.Brbc n t) sized = branches (not (flag m.sreg n)) t
     row_fits (i.Bld d b) sized = sets _ _ (one_write d _ (with_bit_small _ b _)) h.sreg_byte
     row_fits (i.Bst d b) sized = sets [] _ tt (with_bit_small m.sreg 6 _)
-    row_fits (i.Sbrc r b) sized = goes _ (omega arith)
-    row_fits (i.Sbrs r b) sized = goes _ (omega arith)
+    row_fits (i.Sbrc r b) sized = goes _
+    row_fits (i.Sbrs r b) sized = goes _

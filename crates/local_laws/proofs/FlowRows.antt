@@ -1,5 +1,5 @@
 -- Branches, skips, jumps, calls and returns.
-use Rattle.std.proofs.Common.{◌≡◌, refl, ap, ap₂, subst, ℕ, zero, suc, ◌+◌, ◌%◌, ◌==◌, Bool, true, false, not, if◌then◌else◌, List, [], ◌∷◌, Option, Some, None, arith, Contains}
+use Rattle.std.proofs.Common.{◌≡◌, refl, sym, ◌∙◌, ap, ap₂, subst, ℕ, zero, suc, ◌+◌, ◌%◌, ◌==◌, Bool, true, false, not, if◌then◌else◌, List, [], ◌∷◌, Option, Some, None, slice_index, slice_set, arith, Contains}
 use Rattle.std.specs.Int.{from_bool}
 use Rattle.std.proofs.lemmas.Bool.Decides.{nat_tests}
 use Rattle.avr_model.specs.declared.assumption.Entry.{Entry}
@@ -16,8 +16,12 @@ use Rattle.bit_domain.specs.declared.bits.Tri.{Tri}
 use Rattle.bit_domain.specs.declared.bits.Tri.TheVariants.{Zero, One, Any}
 use Rattle.bit_domain.specs.Tri.{Permits, tri_not}
 use Rattle.bit_domain.specs.TriByte.{tri_at}
-use Rattle.bit_domain.specs.Numbers.{targets_of}
-use Rattle.sp_domain.specs.Tags.{Origin}
+use Rattle.sp_domain.specs.declared.tags.CarryTag.{CarryTag}
+use Rattle.sp_domain.specs.declared.tags.CarryTag.TheVariants as carry_tag
+use Rattle.sp_domain.specs.Tags.{Origin, LessHolds}
+use Rattle.abs_state.specs.declared.values.AbsByte.{AbsByte}
+use Rattle.abs_state.specs.Formed.{CarryNamesRegister}
+use Rattle.abs_state.specs.Stands.{RegistersStand}
 use Rattle.abs_state.specs.declared.state.AbsState.{AbsState}
 use Rattle.mask_states.specs.declared.keys.NodeKey.{NodeKey}
 use Rattle.mask_states.specs.declared.keys.Kind.{Kind}
@@ -25,12 +29,17 @@ use Rattle.mask_states.specs.declared.keys.Kind.TheVariants.{Root, Call, Vector}
 use Rattle.mask_states.specs.declared.keys.SpForm.{SpForm}
 use Rattle.mask_states.specs.declared.keys.SpForm.TheVariants.{Closed, Open}
 use Rattle.local_rules.specs.declared.local.Exit.{Exit}
-use Rattle.local_rules.specs.Raw.{Raw, untracked_if, at_word, going_to as node_going_to, further as node_further}
-use Rattle.local_rules.specs.Registers.{bits}
-use Rattle.local_rules.specs.Flow.{branch, skipping as node_skipping, flag_at, targets_by, jumping, is_half_written, at_closed, calling as node_calling, indirect_call, site, returning as node_returning, ret_exit, reti_exit}
-use Rattle.local_rules.specs.Cover.{InFrame, Follows, stays, calls, leaves, IsReturn}
+use Rattle.local_rules.specs.declared.local.Node.{Node}
+use Rattle.local_rules.specs.Raw.{Raw, moves_to, all_of, untracked_if, at_word, off_table, turning_to, going_to as node_going_to, further as node_further}
+use Rattle.local_rules.specs.Registers.{value, bits, set, carry_bit}
+use Rattle.local_rules.specs.Flow.{branch, skipping as node_skipping, flag_at, with_value, where_carry, going_where, carry_branch, flag_branch, words_on, targets_by, jumping, is_half_written, at_closed, calling as node_calling, indirect_call, site, returning as node_returning, ret_exit, reti_exit}
+use Rattle.local_rules.specs.Cover.{InFrame, Lands, Follows, stays, calls, leaves, IsReturn}
 use Rattle.local_laws.proofs.Bits.{permits_flag, with_bit_same, with_bit_7_low}
-use Rattle.local_laws.proofs.Frame.{first, second, only, goes_to}
+use Rattle.std.proofs.lemmas.List.Elements.{Contains-append_left, Contains-append_right}
+use Rattle.avr_model.proofs.AllLaws.{devices_are_alike}
+use Rattle.avr_model.specs.Devices.{wrapped}
+use Rattle.local_laws.proofs.Less.{part_stands}
+use Rattle.local_laws.proofs.Frame.{first, second, set_one, only, goes_to, turns_to, goes_cut}
 use Rattle.local_laws.proofs.Alu.{register_byte, register_bits}
 use Rattle.local_laws.proofs.Targets.{in_map, word_permitted, targets_have}
 
@@ -41,27 +50,41 @@ not_may One true h = refl
 not_may One false h = absurd (omega arith)
 not_may Any b h = tt
 
+set_itself : (xs : List ℕ) (r : ℕ) → slice_set xs r (slice_index xs r) ≡ xs
+set_itself [] r = refl
+set_itself (x ∷ xs) zero = refl
+set_itself (x ∷ xs) (suc r) = ap (λ (ys : List ℕ). x ∷ ys) (set_itself xs r)
+
 module _ (m : State) (o : Origin) (k : NodeKey) (s : AbsState) (at : InFrame m o k s) (guarded : Bool) (b1 b2 : ℕ) where
-  pub going_covered : (pc pc' : ℕ) → pc ≡ pc' → Follows m o k guarded b1 b2 (going_to m pc) (node_going_to k s pc')
+  pub going_covered : (pc pc' : ℕ) → wrapped m.device pc ≡ pc' → Follows m o k guarded b1 b2 (going_to m pc) (node_going_to k s pc')
   going_covered pc pc' is = only m o k s at guarded b1 b2 (going_to m pc) (record { key = at_word k pc'; state = s }) refl (goes_to m o k s at guarded pc pc' is)
 
-  pub further_is : (n : ℕ) → further m n ≡ node_further k n
-  further_is n = ap (λ pc. (pc + n) % WORDS) at.place.pc
+  turning_covered : (pc pc' : ℕ) → wrapped m.device pc ≡ pc' → Follows m o k guarded b1 b2 (going_to m pc) (turning_to k s pc')
+  turning_covered pc pc' is = only m o k s at guarded b1 b2 (going_to m pc) (record { key = off_table k pc'; state = s }) refl (turns_to m o k s at guarded pc pc' is)
+
+  pub further_is : (n : ℕ) → further m n ≡ node_further m.device k n
+  further_is n = ap (λ pc. wrapped m.device (pc + n)) at.place.pc
+
+  pub goes_further : (n : ℕ) → wrapped m.device (further m n) ≡ node_further m.device k n
+  goes_further n = devices_are_alike.twice m.device (m.pc + n) ∙ further_is n
+
+  goes_near : (t : ℕ) → wrapped m.device (near m.pc t) ≡ wrapped m.device (near k.pc t)
+  goes_near t = ap (λ pc. wrapped m.device (near pc t)) at.place.pc
 
   -- ---- branches and skips
 
-  branch_by : (t : Tri) (test : Bool) (taken taken' other other' : ℕ) → taken ≡ taken' → other ≡ other' → Permits t (from_bool test)
+  branch_by : (t : Tri) (test : Bool) (taken taken' other other' : ℕ) → wrapped m.device taken ≡ taken' → wrapped m.device other ≡ other' → Permits t (from_bool test)
       → Follows m o k guarded b1 b2 (going_to m (if test then taken else other)) (branch t k s taken' other')
   branch_by Zero true taken taken' other other' is is' may = absurd (omega arith)
-  branch_by Zero false taken taken' other other' is is' may = going_covered other other' is'
-  branch_by One true taken taken' other other' is is' may = going_covered taken taken' is
+  branch_by Zero false taken taken' other other' is is' may = turning_covered other other' is'
+  branch_by One true taken taken' other other' is is' may = turning_covered taken taken' is
   branch_by One false taken taken' other other' is is' may = absurd (omega arith)
   branch_by Any true taken taken' other other' is is' may =
-      stays (record { key = at_word k taken'; state = s }) (second (record { key = at_word k other'; state = s }) (record { key = at_word k taken'; state = s }) []) refl
-      (goes_to m o k s at guarded taken taken' is)
+      stays (record { key = off_table k taken'; state = s }) (second (record { key = off_table k other'; state = s }) (record { key = off_table k taken'; state = s }) []) refl
+      (turns_to m o k s at guarded taken taken' is)
   branch_by Any false taken taken' other other' is is' may =
-      stays (record { key = at_word k other'; state = s }) (first (record { key = at_word k other'; state = s }) (record { key = at_word k taken'; state = s } ∷ [])) refl
-      (goes_to m o k s at guarded other other' is')
+      stays (record { key = off_table k other'; state = s }) (first (record { key = off_table k other'; state = s }) (record { key = off_table k taken'; state = s } ∷ [])) refl
+      (turns_to m o k s at guarded other other' is')
 
   flag_may : (n : ℕ) → Permits (flag_at k s n) (from_bool (flag m.sreg n))
   flag_may n = by_i (n == 7) refl
@@ -74,46 +97,136 @@ module _ (m : State) (o : Origin) (k : NodeKey) (s : AbsState) (at : InFrame m o
       by_i true e = let is : 7 ≡ n = grind (arith, nat_tests) in subst (λ x. Permits (if k.i then One else Zero) (from_bool (flag m.sreg x))) is (key_may k.i at.place.i)
       by_i false e = permits_flag s.flags.bits m.sreg n at.stands.flags.bits
 
-  pub brbs_covered : (n t : ℕ) → Follows m o k guarded b1 b2 (branch_effect m (flag m.sreg n) t) (branch (flag_at k s n) k s (near k.pc t) (node_further k 1))
-  brbs_covered n t = branch_by (flag_at k s n) (flag m.sreg n) (near m.pc t) (near k.pc t) (further m 1) (node_further k 1) (ap (λ pc. near pc t) at.place.pc) (further_is 1) (flag_may n)
+  brbs_by : (n t : ℕ) → Follows m o k guarded b1 b2 (branch_effect m (flag m.sreg n) t) (branch (flag_at k s n) k s (wrapped m.device (near k.pc t)) (node_further m.device k 1))
+  brbs_by n t = branch_by (flag_at k s n) (flag m.sreg n) (near m.pc t) (wrapped m.device (near k.pc t)) (further m 1) (node_further m.device k 1) (goes_near t) (goes_further 1) (flag_may n)
+
+  brbc_by : (n t : ℕ)
+      → Follows m o k guarded b1 b2 (branch_effect m (not (flag m.sreg n)) t) (branch (tri_not (flag_at k s n)) k s (wrapped m.device (near k.pc t)) (node_further m.device k 1))
+  brbc_by n t =
+      branch_by (tri_not (flag_at k s n)) (not (flag m.sreg n)) (near m.pc t) (wrapped m.device (near k.pc t)) (further m 1) (node_further m.device k 1)
+      (goes_near t) (goes_further 1) (not_may (flag_at k s n) (flag m.sreg n) (flag_may n))
+
+  -- ---- branches on C
+
+  -- the state where C has its value
+  cut_by : (c : CarryTag) → s.flags.carry ≡ c → CarryNamesRegister c → LessHolds m.registers c (flag m.sreg 0) → (on : Bool) → flag m.sreg 0 ≡ on
+      → (values : List AbsByte) × ((where_carry c s on ≡ Some (record s { registers = values })) × RegistersStand o values m.registers)
+  cut_by carry_tag.None is lt h on e = (s.registers, (refl, at.stands.registers))
+  cut_by (carry_tag.Borrow j l) is lt h on e = (s.registers, (refl, at.stands.registers))
+  cut_by (carry_tag.Less r n) is lt h on e =
+      let part = part_stands o (value s r) (register m r) n on (at.stands.registers r lt) (sym e ∙ h) in
+      let kept : slice_set m.registers r (register m r) ≡ m.registers = set_itself m.registers r in (
+        set s r part.0,
+        (
+          ap (with_value s r) part.1.0,
+          subst (RegistersStand o (set s r part.0)) kept (set_one m o k s at r part.0 (register m r) part.1.1),
+        ),
+      )
+
+  goes_where : (on : Bool) → flag m.sreg 0 ≡ on → (pc pc' : ℕ) → wrapped m.device pc ≡ pc'
+      → (to : Node) × ((going_where k (where_carry s.flags.carry s on) pc' ≡ moves_to (to ∷ [])) × ((to.key.inst ≡ k.inst) × Lands m o guarded (going_to m pc) to))
+  goes_where on e pc pc' is =
+      let cut = cut_by s.flags.carry refl at.node.formed.carry at.stands.less on e in (
+        record { key = off_table k pc'; state = record s { registers = cut.0 } },
+        (ap (λ (t : Option AbsState). going_where k t pc') cut.1.0, (refl, goes_cut m o k s at guarded pc pc' cut.0 is cut.1.1)),
+      )
+
+  follows_one : (e : Effect) (r : Raw) → (to : Node) × ((r ≡ moves_to (to ∷ [])) × ((to.key.inst ≡ k.inst) × Lands m o guarded e to)) → Follows m o k guarded b1 b2 e r
+  follows_one e r h = subst (Follows m o k guarded b1 b2 e) (sym h.1.0) (only m o k s at guarded b1 b2 e h.0 h.1.1.0 h.1.1.1)
+
+  follows_first : (e : Effect) (r q : Raw) → (to : Node) × ((r ≡ moves_to (to ∷ [])) × ((to.key.inst ≡ k.inst) × Lands m o guarded e to))
+      → Follows m o k guarded b1 b2 e (all_of (r ∷ q ∷ []))
+  follows_first e r q h =
+      subst (λ (x : Raw). Follows m o k guarded b1 b2 e (all_of (x ∷ q ∷ []))) (sym h.1.0)
+      (stays h.0 (Contains-append_left (h.0 ∷ []) (all_of (q ∷ [])).moves h.0 (first h.0 [])) h.1.1.0 h.1.1.1)
+
+  follows_second : (e : Effect) (r q : Raw) → (to : Node) × ((q ≡ moves_to (to ∷ [])) × ((to.key.inst ≡ k.inst) × Lands m o guarded e to))
+      → Follows m o k guarded b1 b2 e (all_of (r ∷ q ∷ []))
+  follows_second e r q h =
+      subst (λ (x : Raw). Follows m o k guarded b1 b2 e (all_of (r ∷ x ∷ []))) (sym h.1.0)
+      (stays h.0 (Contains-append_right r.moves (h.0 ∷ []) h.0 (first h.0 [])) h.1.1.0 h.1.1.1)
+
+  carry_by : (t : Tri) (on : Bool) → flag m.sreg 0 ≡ on → (set' set'' clear clear' : ℕ) → wrapped m.device set' ≡ set'' → wrapped m.device clear ≡ clear' → Permits t (from_bool on)
+      → Follows m o k guarded b1 b2 (going_to m (if on then set' else clear)) (carry_branch t k s set'' clear')
+  carry_by One true e set' set'' clear clear' is is' may = follows_one _ _ (goes_where true e set' set'' is)
+  carry_by One false e set' set'' clear clear' is is' may = absurd (omega arith)
+  carry_by Zero true e set' set'' clear clear' is is' may = absurd (omega arith)
+  carry_by Zero false e set' set'' clear clear' is is' may = follows_one _ _ (goes_where false e clear clear' is')
+  carry_by Any true e set' set'' clear clear' is is' may =
+      follows_second _ (going_where k (where_carry s.flags.carry s false) clear') (going_where k (where_carry s.flags.carry s true) set'') (goes_where true e set' set'' is)
+  carry_by Any false e set' set'' clear clear' is is' may =
+      follows_first _ (going_where k (where_carry s.flags.carry s false) clear') (going_where k (where_carry s.flags.carry s true) set'') (goes_where false e clear clear' is')
+
+  carry_permits : Permits (carry_bit s) (from_bool (flag m.sreg 0))
+  carry_permits = permits_flag s.flags.bits m.sreg 0 at.stands.flags.bits
+
+  -- flag 0 is C
+  by_flag : (n : ℕ) (is_carry : Bool) → (n == 0) ≡ is_carry → (set' clear : ℕ) (e : Effect) (other : Raw)
+      → (0 ≡ n → Follows m o k guarded b1 b2 e (carry_branch (carry_bit s) k s set' clear)) → Follows m o k guarded b1 b2 e other
+      → Follows m o k guarded b1 b2 e (if is_carry then carry_branch (carry_bit s) k s set' clear else other)
+  by_flag n true is set' clear e other h g = h (grind (arith, nat_tests))
+  by_flag n false is set' clear e other h g = g
+
+  turned : (b : Bool) (x y : ℕ) → (if b then x else y) ≡ (if not b then y else x)
+  turned true x y = refl
+  turned false x y = refl
+
+  pub brbs_covered : (n t : ℕ)
+      → Follows m o k guarded b1 b2 (branch_effect m (flag m.sreg n) t)
+      (flag_branch n k s (wrapped m.device (near k.pc t)) (node_further m.device k 1) (branch (flag_at k s n) k s (wrapped m.device (near k.pc t)) (node_further m.device k 1)))
+  brbs_covered n t =
+      by_flag n (n == 0) refl (wrapped m.device (near k.pc t)) (node_further m.device k 1) _ _
+      (λ is. subst (λ (i : ℕ). Follows m o k guarded b1 b2 (branch_effect m (flag m.sreg i) t) (carry_branch (carry_bit s) k s (wrapped m.device (near k.pc t)) (node_further m.device k 1))) is
+      (carry_by (carry_bit s) (flag m.sreg 0) refl (near m.pc t) (wrapped m.device (near k.pc t)) (further m 1) (node_further m.device k 1) (goes_near t) (goes_further 1) carry_permits))
+      (brbs_by n t)
 
   pub brbc_covered : (n t : ℕ)
-      → Follows m o k guarded b1 b2 (branch_effect m (not (flag m.sreg n)) t) (branch (tri_not (flag_at k s n)) k s (near k.pc t) (node_further k 1))
+      → Follows m o k guarded b1 b2 (branch_effect m (not (flag m.sreg n)) t)
+      (flag_branch n k s (node_further m.device k 1) (wrapped m.device (near k.pc t)) (branch (tri_not (flag_at k s n)) k s (wrapped m.device (near k.pc t)) (node_further m.device k 1)))
   brbc_covered n t =
-      branch_by (tri_not (flag_at k s n)) (not (flag m.sreg n)) (near m.pc t) (near k.pc t) (further m 1) (node_further k 1)
-      (ap (λ pc. near pc t) at.place.pc) (further_is 1) (not_may (flag_at k s n) (flag m.sreg n) (flag_may n))
+      by_flag n (n == 0) refl (node_further m.device k 1) (wrapped m.device (near k.pc t)) _ _
+      (λ is. subst (λ (i : ℕ). Follows m o k guarded b1 b2 (branch_effect m (not (flag m.sreg i)) t) (carry_branch (carry_bit s) k s (node_further m.device k 1) (wrapped m.device (near k.pc t)))) is
+      (subst (λ (pc : ℕ). Follows m o k guarded b1 b2 (going_to m pc) (carry_branch (carry_bit s) k s (node_further m.device k 1) (wrapped m.device (near k.pc t))))
+      (turned (flag m.sreg 0) (further m 1) (near m.pc t))
+      (carry_by (carry_bit s) (flag m.sreg 0) refl (further m 1) (node_further m.device k 1) (near m.pc t) (wrapped m.device (near k.pc t)) (goes_further 1) (goes_near t) carry_permits)))
+      (brbc_by n t)
 
-  pub skip_covered : (words : List ℕ) (test : Bool) (t : Tri) → Permits t (from_bool test) → Follows m o k guarded b1 b2 (skipping words m test) (node_skipping words k s t)
-  skip_covered words test t may = by_test test (branch_by t test (further m (1 + length_of (word_at words (m.pc + 1)))) (node_further k (1 + length_of (word_at words (k.pc + 1)))) (further m 1) (node_further k 1)
-      (ap (λ pc. (pc + (1 + length_of (word_at words (pc + 1)))) % WORDS) at.place.pc) (further_is 1) may)
+  pub skip_covered : (words : List ℕ) (test : Bool) (t : Tri) → Permits t (from_bool test) → Follows m o k guarded b1 b2 (skipping words m test) (node_skipping m.device words k s t)
+  skip_covered words test t may = by_test test (branch_by t test (further m (1 + length_of (word_at words (m.pc + 1)))) (node_further m.device k (1 + length_of (word_at words (k.pc + 1)))) (further m 1) (node_further m.device k 1)
+      (devices_are_alike.twice m.device (m.pc + (1 + length_of (word_at words (m.pc + 1)))) ∙ ap (λ pc. wrapped m.device (pc + (1 + length_of (word_at words (pc + 1))))) at.place.pc)
+      (goes_further 1) may)
     where
       -- the test stands inside the sum
-      by_test : (b : Bool) → Follows m o k guarded b1 b2 (going_to m (if b then further m (1 + length_of (word_at words (m.pc + 1))) else further m 1)) (node_skipping words k s t)
-          → Follows m o k guarded b1 b2 (skipping words m b) (node_skipping words k s t)
+      by_test : (b : Bool) → Follows m o k guarded b1 b2 (going_to m (if b then further m (1 + length_of (word_at words (m.pc + 1))) else further m 1)) (node_skipping m.device words k s t)
+          → Follows m o k guarded b1 b2 (skipping words m b) (node_skipping m.device words k s t)
       by_test true h = h
       by_test false h = h
 
   -- ---- indirect transfers
 
-  target_has : Contains (targets_of (bits s 30) (bits s 31)) (pair m 30 % WORDS)
+  -- where the machine goes
+  abbrev target : ℕ
+  target = wrapped m.device (pair m 30 % WORDS)
+
+  target_has : Contains (words_on m.device (bits s 30) (bits s 31)) target
   target_has =
-      word_permitted (bits s 30) (bits s 31) (register m 30) (register m 31) (register_byte m o k s at 30) (register_byte m o k s at 31)
+      word_permitted m.device (bits s 30) (bits s 31) (register m 30) (register m 31) (register_byte m o k s at 30) (register_byte m o k s at 31)
       (register_bits m o k s at 30) (register_bits m o k s at 31)
 
-  jump_by : (line : Option (List ℕ)) (found : Option (List ℕ)) → targets_by line (targets_of (bits s 30) (bits s 31)) ≡ found → unless_listed line (pair m 30 % WORDS) ≡ None
+  jump_by : (line : Option (List ℕ)) (found : Option (List ℕ)) → targets_by m.device line (bits s 30) (bits s 31) ≡ found → unless_listed line target ≡ None
       → (jumping found k s).faults ≡ [] → Follows m o k guarded b1 b2 (going_to m (pair m 30 % WORDS)) (jumping found k s)
   jump_by line None e unflagged none = absurd (cc)
   jump_by line (Some targets) e unflagged none =
-      stays (record { key = at_word k (pair m 30 % WORDS); state = s })
-      (in_map (λ t. record { key = at_word k t; state = s }) (pair m 30 % WORDS) targets (targets_have line (targets_of (bits s 30) (bits s 31)) targets (pair m 30 % WORDS) e target_has unflagged))
-      refl (goes_to m o k s at guarded (pair m 30 % WORDS) (pair m 30 % WORDS) refl)
+      stays (record { key = off_table k target; state = s })
+      (in_map (λ t. record { key = off_table k t; state = s }) target targets (targets_have m.device line (bits s 30) (bits s 31) targets target e target_has unflagged))
+      refl (turns_to m o k s at guarded (pair m 30 % WORDS) target refl)
 
-  pub ijmp_covered : (A : List Entry) → unless_listed (jump_line A m.pc) (pair m 30 % WORDS) ≡ None
-      → (jumping (targets_by (jump_line A k.pc) (targets_of (bits s 30) (bits s 31))) k s).faults ≡ []
-      → Follows m o k guarded b1 b2 (going_to m (pair m 30 % WORDS)) (jumping (targets_by (jump_line A k.pc) (targets_of (bits s 30) (bits s 31))) k s)
+  pub ijmp_covered : (A : List Entry) → unless_listed (jump_line A m.pc) target ≡ None
+      → (jumping (targets_by m.device (jump_line A k.pc) (bits s 30) (bits s 31)) k s).faults ≡ []
+      → Follows m o k guarded b1 b2 (going_to m (pair m 30 % WORDS)) (jumping (targets_by m.device (jump_line A k.pc) (bits s 30) (bits s 31)) k s)
   ijmp_covered A unflagged none =
-      jump_by (jump_line A k.pc) (targets_by (jump_line A k.pc) (targets_of (bits s 30) (bits s 31))) refl
-      (subst (λ pc. unless_listed (jump_line A pc) (pair m 30 % WORDS) ≡ None) at.place.pc unflagged) none
+      jump_by (jump_line A k.pc) (targets_by m.device (jump_line A k.pc) (bits s 30) (bits s 31)) refl
+      (subst (λ pc. unless_listed (jump_line A pc) target ≡ None) at.place.pc unflagged) none
 
   -- ---- calls
 
@@ -123,26 +236,33 @@ module _ (m : State) (o : Origin) (k : NodeKey) (s : AbsState) (at : InFrame m o
   unless_open (Closed offset) pc r e none h = h offset refl none
   unless_open (Open offset high) pc r e none h = absurd (cc)
 
-  pub call_covered : (target target' back back' : ℕ) (targets : List ℕ) → guarded ≡ true → target ≡ target' → back ≡ back' → Contains targets target'
+  -- a call whose entry is a word of the device already
+  abbrev call_to : ℕ → ℕ → Effect
+  call_to pc back = record (calling m 0 back) { pc = pc }
+
+  call_is : (target target' back back' : ℕ) → wrapped m.device target ≡ target' → back ≡ back' → calling m target back ≡ calling m target' back'
+  call_is target target' back back' is is' = ap₂ call_to (sym (devices_are_alike.twice m.device target) ∙ ap (wrapped m.device) is) is'
+
+  pub call_covered : (target target' back back' : ℕ) (targets : List ℕ) → guarded ≡ true → wrapped m.device target ≡ target' → back ≡ back' → Contains targets target'
       → (node_calling k back' targets).faults ≡ [] → Follows m o k guarded b1 b2 (calling m target back) (node_calling k back' targets)
   call_covered target target' back back' targets guards is is' has none =
       unless_open k.sp k.pc _ (calling m target back) none
-      (λ offset form free. calls offset (site target' back') (in_map (λ t. site t back') target' targets has) form guards (ap₂ (calling m) is is'))
+      (λ offset form free. calls offset (site target' back') (in_map (λ t. site t back') target' targets has) form guards (call_is target target' back back' is is'))
 
-  icall_by : (line : Option (List ℕ)) (found : Option (List ℕ)) → guarded ≡ true → targets_by line (targets_of (bits s 30) (bits s 31)) ≡ found
-      → unless_listed line (pair m 30 % WORDS) ≡ None → (indirect_call found k).faults ≡ []
-      → Follows m o k guarded b1 b2 (calling m (pair m 30 % WORDS) (further m 1)) (indirect_call found k)
+  icall_by : (line : Option (List ℕ)) (found : Option (List ℕ)) → guarded ≡ true → targets_by m.device line (bits s 30) (bits s 31) ≡ found
+      → unless_listed line target ≡ None → (indirect_call m.device found k).faults ≡ []
+      → Follows m o k guarded b1 b2 (calling m (pair m 30 % WORDS) (further m 1)) (indirect_call m.device found k)
   icall_by line None guards e unflagged none = unless_open k.sp k.pc _ _ none (λ offset form wrong. absurd (cc))
   icall_by line (Some targets) guards e unflagged none =
-      call_covered (pair m 30 % WORDS) (pair m 30 % WORDS) (further m 1) (node_further k 1) targets guards refl (further_is 1)
-      (targets_have line (targets_of (bits s 30) (bits s 31)) targets (pair m 30 % WORDS) e target_has unflagged) none
+      call_covered (pair m 30 % WORDS) target (further m 1) (node_further m.device k 1) targets guards refl (further_is 1)
+      (targets_have m.device line (bits s 30) (bits s 31) targets target e target_has unflagged) none
 
-  pub icall_covered : (A : List Entry) → guarded ≡ true → unless_listed (jump_line A m.pc) (pair m 30 % WORDS) ≡ None
-      → (indirect_call (targets_by (jump_line A k.pc) (targets_of (bits s 30) (bits s 31))) k).faults ≡ []
-      → Follows m o k guarded b1 b2 (calling m (pair m 30 % WORDS) (further m 1)) (indirect_call (targets_by (jump_line A k.pc) (targets_of (bits s 30) (bits s 31))) k)
+  pub icall_covered : (A : List Entry) → guarded ≡ true → unless_listed (jump_line A m.pc) target ≡ None
+      → (indirect_call m.device (targets_by m.device (jump_line A k.pc) (bits s 30) (bits s 31)) k).faults ≡ []
+      → Follows m o k guarded b1 b2 (calling m (pair m 30 % WORDS) (further m 1)) (indirect_call m.device (targets_by m.device (jump_line A k.pc) (bits s 30) (bits s 31)) k)
   icall_covered A guards unflagged none =
-      icall_by (jump_line A k.pc) (targets_by (jump_line A k.pc) (targets_of (bits s 30) (bits s 31))) guards refl
-      (subst (λ pc. unless_listed (jump_line A pc) (pair m 30 % WORDS) ≡ None) at.place.pc unflagged) none
+      icall_by (jump_line A k.pc) (targets_by m.device (jump_line A k.pc) (bits s 30) (bits s 31)) guards refl
+      (subst (λ pc. unless_listed (jump_line A pc) target ≡ None) at.place.pc unflagged) none
 
   -- ---- returns
 

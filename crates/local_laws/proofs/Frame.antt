@@ -1,12 +1,13 @@
 -- What the rows share: successors that keep the stack pointer, registers that are read and set, and flags that are kept.
-use Rattle.std.proofs.Common.{◌≡◌, refl, sym, ◌∙◌, ap, ap₂, subst, subst₂, ℕ, ◌+◌, ◌-◌, ◌%◌, ◌<◌, ⊎_elim, Bool, true, false, List, [], ◌∷◌, length, slice_index, slice_set, arith, Contains, length-set}
+use Rattle.std.proofs.Common.{◌≡◌, refl, sym, ◌∙◌, ap, ap₂, subst, subst₂, ℕ, ◌+◌, ◌-◌, ◌<◌, ⊎_elim, Bool, true, false, List, [], ◌∷◌, length, slice_index, slice_set, arith, Contains, length-set}
 use Rattle.std.proofs.lemmas.Grind.{elements}
 use Rattle.std.proofs.lemmas.Bool.{cases_lt, cases_eq}
 use Rattle.std.proofs.lemmas.Bool.Decides.{nat_tests}
 use Rattle.std.proofs.lemmas.List.{get_or_past}
+use Rattle.avr_model.proofs.AllLaws.{devices_are_alike}
+use Rattle.avr_model.specs.Devices.{wrapped}
 use Rattle.avr_model.specs.declared.effect.Write.{Write}
 use Rattle.avr_model.specs.declared.effect.Effect.{Effect}
-use Rattle.avr_model.specs.Image.{WORDS}
 use Rattle.avr_model.specs.Sreg.{flag}
 use Rattle.avr_model.specs.State.{State, Memory, register, is_live, live_in}
 use Rattle.avr_model.specs.Effects.{going_to, setting, further}
@@ -16,7 +17,8 @@ use Rattle.bit_domain.specs.declared.bits.Tri.TheVariants.{Any}
 use Rattle.bit_domain.proofs.AllLaws.{bytes_are_sets}
 use Rattle.sp_domain.specs.declared.slots.Slot.{Slot}
 use Rattle.sp_domain.specs.declared.slots.Slot.TheVariants.{Free, Guarded}
-use Rattle.sp_domain.specs.Tags.{Origin}
+use Rattle.sp_domain.specs.declared.tags.Tag.TheVariants as tag
+use Rattle.sp_domain.specs.Tags.{Origin, LessHolds}
 use Rattle.sp_domain.specs.Slots.{slot_at}
 use Rattle.abs_state.specs.declared.values.AbsByte.{AbsByte}
 use Rattle.abs_state.specs.declared.values.AbsFlags.{AbsFlags}
@@ -24,16 +26,18 @@ use Rattle.abs_state.specs.declared.state.AbsState.{AbsState}
 use Rattle.abs_state.specs.Values.{value_at, unknown}
 use Rattle.abs_state.specs.Stands.{ByteStands, FlagsStand, RegistersStand, SlotStands, SlotsStand}
 use Rattle.abs_state.specs.Laws.{Keeps}
+use Rattle.abs_state.proofs.AllLaws.{bits_make_values}
 use Rattle.mask_states.specs.declared.keys.NodeKey.{NodeKey}
 use Rattle.mask_states.specs.declared.keys.SpForm.{SpForm}
 use Rattle.mask_states.specs.declared.keys.SpForm.TheVariants.{Closed, Open}
 use Rattle.mask_states.specs.Keys.{offset_of}
 use Rattle.mask_states.specs.Place.{SpIs}
 use Rattle.local_rules.specs.declared.local.Node.{Node}
-use Rattle.local_rules.specs.Raw.{moves_to, next, at_word, setting as node_setting, further as node_further}
+use Rattle.local_rules.specs.Raw.{moves_to, next, at_word, off_table, setting as node_setting, further as node_further}
 use Rattle.local_rules.specs.Registers.{value}
 use Rattle.local_rules.specs.Machine.{floor_of}
 use Rattle.local_rules.specs.Cover.{InFrame, Lands, Follows, stays}
+use Rattle.local_laws.proofs.Bytes.{byte_in_list}
 
 pub first : {A : Type 0} (x : A) (xs : List A) → Contains (x ∷ xs) x
 first x xs = (0, omega arith, refl)
@@ -44,8 +48,8 @@ second x y xs = (1, omega arith, refl)
 pub has_any : (x : ℕ) → Has byte_any x
 has_any x = bytes_are_sets.built (λ i. Any) x (λ i lt. tt)
 
-pub nothing_stands : (o : Origin) (x : ℕ) → ByteStands o unknown x
-nothing_stands o x = record { tag = tt; bits = has_any x }
+pub nothing_stands : (o : Origin) (x : ℕ) → x < 256 → ByteStands o unknown x
+nothing_stands o x small = bits_make_values.stands o tag.None byte_any x small tt (has_any x)
 
 -- ---- registers
 
@@ -88,7 +92,7 @@ module _ (m : State) (o : Origin) (k : NodeKey) (s : AbsState) (at : InFrame m o
   register_stands r =
       ⊎_elim
       (λ lt. at.stands.registers r lt)
-      (λ over. subst (λ v. ByteStands o v (register m r)) (sym (get_or_past s.registers r unknown (omega (arith, at.node.formed.count_registers)))) (nothing_stands o (register m r)))
+      (λ over. subst (λ v. ByteStands o v (register m r)) (sym (get_or_past s.registers r unknown (omega (arith, at.node.formed.count_registers)))) (nothing_stands o (register m r) (byte_in_list m.registers r at.machine.register_bytes)))
       (cases_lt r 32)
 
   pub set_one : (d : ℕ) (v : AbsByte) (x : ℕ) → ByteStands o v x → RegistersStand o (slice_set s.registers d v) (slice_set m.registers d x)
@@ -106,8 +110,8 @@ module _ (m : State) (o : Origin) (k : NodeKey) (s : AbsState) (at : InFrame m o
       slot_kept o m.memory new (floor_of m.is_open m.sp) (o.base - d) (slot_at s.slots d) keeps
       (above_floor o.base m.sp d m.memory m.is_open k.sp at.place.sp (omega (arith, at.node.formed.count_slots))) (at.stands.slots d lt)
 
-  pub next_is : further m 1 ≡ node_further k 1
-  next_is = ap (λ pc. (pc + 1) % WORDS) at.place.pc
+  pub next_is : wrapped m.device (further m 1) ≡ node_further m.device k 1
+  next_is = devices_are_alike.twice m.device (m.pc + 1) ∙ ap (λ pc. wrapped m.device (pc + 1)) at.place.pc
 
   -- A successor at the same stack pointer, with the same slots, where nothing is pushed.
   pub same_frame : (guarded : Bool) (e : Effect) (to : Node) → e.pushes ≡ [] → to.key.sp ≡ k.sp → to.state.slots ≡ s.slots
@@ -115,13 +119,15 @@ module _ (m : State) (o : Origin) (k : NodeKey) (s : AbsState) (at : InFrame m o
       → e.pc ≡ to.key.pc → enables_after e.enables e.stores ≡ to.key.masks → flag (sreg_after e.sreg e.stores) 7 ≡ to.key.i → e.delay ≡ to.key.delay
       → RegistersStand o to.state.registers (registers_after (with_registers m.registers e.registers) e.stores)
       → FlagsStand o to.state.flags (sreg_after e.sreg e.stores)
+      → LessHolds (registers_after (with_registers m.registers e.registers) e.stores) to.state.flags.carry (flag (sreg_after e.sreg e.stores) 0)
       → Lands m o guarded e to
-  same_frame guarded e to pushes sp slots sp_is open_is pc enables i delay registers flags =
+  same_frame guarded e to pushes sp slots sp_is open_is pc enables i delay registers flags less =
       record {
-        inside = λ room. ap all_inside pushes;
+        inside = λ room. ap (all_inside m.device) pushes;
         place = λ within. record { pc = pc; enables = enables; i = i; delay = delay; sp = place };
         registers = registers;
         flags = flags;
+        less = less;
         slots = λ within inside kept. subst (SlotsStand o (after m guarded e).memory) (sym slots) (slots_kept (after m guarded e).memory (subst (Keeps m.memory (after m guarded e).memory) floor kept));
       }
     where
@@ -141,12 +147,25 @@ module _ (m : State) (o : Origin) (k : NodeKey) (s : AbsState) (at : InFrame m o
   -- a row that sets registers and flags and goes on
   pub sets : (guarded : Bool) (b1 b2 : ℕ) (writes : List Write) (sreg : ℕ) (registers : List AbsByte) (flags : AbsFlags) → flag sreg 7 ≡ flag m.sreg 7
       → RegistersStand o registers (with_registers m.registers writes) → FlagsStand o flags sreg
-      → Follows m o k guarded b1 b2 (setting m writes sreg) (node_setting k s registers flags)
-  sets guarded b1 b2 writes sreg registers flags i h g =
+      → LessHolds (with_registers m.registers writes) flags.carry (flag sreg 0)
+      → Follows m o k guarded b1 b2 (setting m writes sreg) (node_setting m.device k s registers flags)
+  sets guarded b1 b2 writes sreg registers flags i h g less =
       only guarded b1 b2 _ _ refl
-      (same_frame guarded (setting m writes sreg) (record { key = next k; state = record s { registers = registers; flags = flags } }) refl refl refl refl refl next_is at.place.enables (i ∙ at.place.i) refl h g)
+      (same_frame guarded (setting m writes sreg) (record { key = next m.device k; state = record s { registers = registers; flags = flags } }) refl refl refl refl refl next_is at.place.enables (i ∙ at.place.i) refl h g less)
 
-  -- a row that goes to a word and changes nothing else
-  pub goes_to : (guarded : Bool) (pc pc' : ℕ) → pc ≡ pc' → Lands m o guarded (going_to m pc) (record { key = at_word k pc'; state = s })
+  -- a row that goes to a word, modulo the number of words, and changes nothing else
+  pub goes_to : (guarded : Bool) (pc pc' : ℕ) → wrapped m.device pc ≡ pc' → Lands m o guarded (going_to m pc) (record { key = at_word k pc'; state = s })
   goes_to guarded pc pc' is =
-      same_frame guarded (going_to m pc) (record { key = at_word k pc'; state = s }) refl refl refl refl refl is at.place.enables at.place.i refl at.stands.registers at.stands.flags
+      same_frame guarded (going_to m pc) (record { key = at_word k pc'; state = s }) refl refl refl refl refl is at.place.enables at.place.i refl at.stands.registers at.stands.flags at.stands.less
+
+  -- the same off a jump table
+  pub turns_to : (guarded : Bool) (pc pc' : ℕ) → wrapped m.device pc ≡ pc' → Lands m o guarded (going_to m pc) (record { key = off_table k pc'; state = s })
+  turns_to guarded pc pc' is =
+      same_frame guarded (going_to m pc) (record { key = off_table k pc'; state = s }) refl refl refl refl refl is at.place.enables at.place.i refl at.stands.registers at.stands.flags at.stands.less
+
+  -- the same where some registers' ranges are cut
+  pub goes_cut : (guarded : Bool) (pc pc' : ℕ) (values : List AbsByte) → wrapped m.device pc ≡ pc' → RegistersStand o values m.registers
+      → Lands m o guarded (going_to m pc) (record { key = off_table k pc'; state = record s { registers = values } })
+  goes_cut guarded pc pc' values is stand =
+      same_frame guarded (going_to m pc) (record { key = off_table k pc'; state = record s { registers = values } }) refl refl refl refl refl is at.place.enables at.place.i refl stand
+      at.stands.flags at.stands.less

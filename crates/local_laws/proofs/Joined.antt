@@ -42,9 +42,10 @@ joined_node m n e a b =
       small = a.small;
       masks = a.masks;
       fits = a.fits;
+      pick = a.pick;
       formed = joins_are_formed.formed m.state n.state (offset_of m.key.sp) a.formed (formed_at m n e b);
       tags = tags_stay_fit.less m.state (joined m n).state le a.tags;
-      borrow_bytes = tags_stay_fit.carry_less m.state (joined m n).state le a.borrow_bytes;
+      carry_bytes = tags_stay_fit.carry_less m.state (joined m n).state le a.carry_bytes;
       untagged = λ root.
           joins_are_formed.untagged m.state n.state (offset_of m.key.sp) a.formed (formed_at m n e b) (a.untagged root)
           (b.untagged (ap (λ (k : NodeKey). k.inst.kind) e ∙ root));

@@ -1,4 +1,6 @@
+pub mod Bytes
 pub mod Bits
+pub mod Less
 pub mod Frame
 pub mod Memory
 pub mod Alu
@@ -34,6 +36,7 @@ pub mod Monotone
 pub mod MonotoneNodes
 pub mod MonotoneLocal
 pub mod Quiet
+pub mod Picks
 pub mod Ascending
 pub mod FitRows
 pub mod AllLaws

@@ -4,19 +4,20 @@ use Rattle.std.specs.Int.{bit_at}
 use Rattle.std.specs.List.{All}
 use Rattle.std.proofs.lemmas.Nat.Bits.{bit_at-lt}
 use Rattle.std.proofs.lemmas.List.Elements.{All-set}
+use Rattle.avr_model.specs.Devices.{words_of, size_of}
+use Rattle.avr_model.specs.declared.device.Device.{Device}
 use Rattle.avr_model.specs.declared.effect.Write.{Write}
 use Rattle.avr_model.specs.declared.effect.Effect.{Effect}
-use Rattle.avr_model.specs.Image.{WORDS}
 use Rattle.avr_model.specs.State.{State, BELOW, SPL, SPH, SREG, sram_at, is_sram, byte_in, io_bit, io_byte, read, low, high}
 use Rattle.avr_model.specs.Step.{with_registers, registers_after, sreg_after, sp_after, open_after, enables_after, after}
 use Rattle.vector_table.proofs.AllLaws.{numbers_are_their_bits, enables_are_vectors}
 use Rattle.local_rules.specs.Machine.{IsMachine}
-use Rattle.local_laws.proofs.Alu.{byte_in_list}
+use Rattle.local_laws.proofs.Bytes.{byte_in_list}
 use Rattle.local_laws.proofs.Memory.{AreByteWrites, memory_stays}
 
 -- the numbers of an effect fit
-pub record IsEffect (e : Effect) : Type 0 where
-  pub pc : e.pc < WORDS
+pub record IsEffect (device : Device) (e : Effect) : Type 0 where
+  pub pc : e.pc < words_of device
   pub registers : AreByteWrites e.registers
   pub sreg : e.sreg < 256
   pub sp : e.sp < 65536
@@ -65,11 +66,11 @@ enables_stay : (ws : List Write) (enables : ℕ) → enables < 2 ^ 25 → enable
 enables_stay [] enables h = h
 enables_stay (w ∷ ws) enables h = enables_stay ws _ (enables_are_vectors.written enables w.address w.byte)
 
-pub after_stays : (m : State) (guarded : Bool) (e : Effect) → IsMachine m → IsEffect e → IsMachine (after m guarded e)
+pub after_stays : (m : State) (guarded : Bool) (e : Effect) → IsMachine m → IsEffect m.device e → IsMachine (after m guarded e)
 after_stays m guarded e h fits =
     let set_first = with_stay e.registers m.registers fits.registers (record { count = h.count_registers; each = h.register_bytes }) in
     let registers = registers_stay e.stores (with_registers m.registers e.registers) fits.stores set_first in
-    let memory = memory_stays m.memory guarded (open_after e.is_open e.stores) (sp_after e.sp e.stores) e.stores e.pushes fits.stores fits.pushes
+    let memory = memory_stays (size_of m.device) m.memory guarded (open_after e.is_open e.stores) (sp_after e.sp e.stores) e.stores e.pushes fits.stores fits.pushes
     (record { count_bytes = h.count_bytes; sram_bytes = h.sram_bytes; count_live = h.count_live }) in
     record {
       pc_small = fits.pc;
@@ -105,4 +106,4 @@ read_small m a input h small =
     (chosen (a == SPH) 256 (high m.sp) _ (omega (arith, h.sp_word))
     (chosen (a == SREG) 256 m.sreg _ h.sreg_byte
     (chosen (nat_le a BELOW) 256 (io_byte m.enables a input) _ (io_small m.enables a input)
-    (chosen (is_sram a) 256 (sram_at m a) input (byte_small m.memory.bytes a h.sram_bytes) small)))))
+    (chosen (is_sram m.device a) 256 (sram_at m a) input (byte_small m.memory.bytes a h.sram_bytes) small)))))

@@ -1,6 +1,7 @@
 -- Instructions that work on registers and flags alone: a greater state gives more.
-use Rattle.std.proofs.Common.{◌≡◌, ◌≢◌, refl, sym, ap, ◌∙◌, subst, ℕ, ◌+◌, ◌*◌, ◌%◌, ◌<◌, ◌==◌, Bool, true, false, not, List, Option, Some, None, if◌then◌else◌, slice_set, cond, eqb, arith}
+use Rattle.std.proofs.Common.{◌≡◌, ◌≢◌, refl, sym, ap, ◌∙◌, subst, subst₂, ℕ, ◌+◌, ◌*◌, ◌%◌, ◌<◌, ◌==◌, Bool, true, false, not, List, Option, Some, None, if◌then◌else◌, slice_set, cond, eqb, arith}
 use Rattle.std.proofs.lemmas.Bool.Decides.{nat_tests}
+use Rattle.avr_model.specs.declared.device.Device.{Device}
 use Rattle.avr_model.specs.declared.instruction.ImmediateOp.{ImmediateOp}
 use Rattle.avr_model.specs.declared.instruction.ImmediateOp.TheVariants as immediate
 use Rattle.avr_model.specs.declared.instruction.UnaryOp.{UnaryOp}
@@ -30,13 +31,15 @@ use Rattle.abs_state.specs.declared.values.AbsByte.{AbsByte}
 use Rattle.abs_state.specs.declared.values.AbsFlags.{AbsFlags}
 use Rattle.abs_state.specs.declared.state.AbsState.{AbsState}
 use Rattle.abs_state.specs.Values.{untagged, known}
+use Rattle.abs_state.specs.Formed.{CarryNamesRegister, CarryIsUntagged}
 use Rattle.mask_states.specs.declared.keys.NodeKey.{NodeKey}
 use Rattle.mask_states.specs.declared.keys.Kind.{Kind}
 use Rattle.mask_states.specs.declared.keys.Kind.TheVariants.{Root}
 use Rattle.mask_states.specs.Keys.{offset_of}
 use Rattle.local_rules.specs.Raw.{setting, next}
-use Rattle.local_rules.specs.Registers.{value, bits, carry_bit, set, set_pair, with_carry, but_carry, sum_row, compare_row, difference_row, low_tag, borrow_tag, high_tag, or_nothing, sub_row, sbc_row, logic_row, kept_tag, step_row, shift_row, com_row, swapped, product_row, down_by, pair_moved, wide_row, interrupts_row, tri_of_bool, carry_tag_at, flag_row, immediate_row, unary_row}
-use Rattle.local_laws.proofs.MonotoneValues.{IsTagOf, IsLess, AreFlagsLess, AreRegistersLess, IsStateLess, Tells, none_of, if_tag_of, same_bits, bit_within, untagged_less, known_same, registers_set}
+use Rattle.local_rules.specs.Registers.{value, bits, carry_bit, set, set_pair, with_carry, but_carry, low_tag, borrow_tag, high_tag, or_nothing, less_than, less_alone, less_kept, swapped, product_row, down_by, pair_moved, wide_row, interrupts_row, tri_of_bool, carry_tag_at, flag_row, immediate_row, unary_row, going_with, sum_after, compare_after, difference_after, sub_after, sbc_after, logic_after, step_after, shift_after, com_after}
+use Rattle.local_laws.proofs.MonotoneValues.{IsTagOf, IsLess, AreFlagsLess, AreRegistersLess, IsStateLess, Tells, none_of, if_tag_of, same_bits, bit_within, bits_less, if_less, untagged_less, known_same, registers_set}
+use Rattle.local_laws.proofs.Less.{kept_is}
 use Rattle.local_laws.proofs.MonotoneRaw.{IsKey, LeadsLess, one_less, setting_less, further_small}
 
 -- ---- tags
@@ -65,9 +68,65 @@ borrow_bytes kind tag.EntryFlags (Some l) h small = tt
 borrow_bytes kind (tag.SpLo j) (Some l) h small = (h.fits, small l refl)
 borrow_bytes kind (tag.SpHi k) (Some l) h small = tt
 
-no_borrow : (t : Tag) (f : Option ℕ) → t ≡ tag.None → borrow_tag t f ≡ carry.None
-no_borrow t None e = refl
-no_borrow t (Some l) e = ap (λ (u : Tag). borrow_of u l) e
+no_borrow : (t : Tag) (f : Option ℕ) → t ≡ tag.None → CarryIsUntagged (borrow_tag t f)
+no_borrow t None e = tt
+no_borrow t (Some l) e = subst (λ (u : Tag). CarryIsUntagged (borrow_of u l)) (sym e) tt
+
+borrow_names : (t : Tag) (f : Option ℕ) → CarryNamesRegister (borrow_tag t f)
+borrow_names t None = tt
+borrow_names tag.None (Some l) = tt
+borrow_names (tag.Entry r) (Some l) = tt
+borrow_names tag.EntryFlags (Some l) = tt
+borrow_names (tag.SpLo j) (Some l) = tt
+borrow_names (tag.SpHi k) (Some l) = tt
+
+-- ---- what a comparison says
+
+-- a carry tag of a register of the 32, and nothing else
+pub record IsOfRegister (c : CarryTag) : Type 0 where
+  pub bytes : HasBytes c
+  pub names : CarryNamesRegister c
+  pub free : CarryIsUntagged c
+
+no_tag : IsOfRegister carry.None
+no_tag = record { bytes = tt; names = tt; free = tt }
+
+pub less_of : (d n : ℕ) → d < 32 → n < 256 → IsOfRegister (carry.Less d n)
+less_of d n lt small = record { bytes = (omega arith, small); names = lt; free = tt }
+
+pub than_of : (d : ℕ) (f : Option ℕ) → d < 32 → ((n : ℕ) → f ≡ Some n → n < 256) → IsOfRegister (less_than d f)
+than_of d None lt small = no_tag
+than_of d (Some n) lt small = less_of d n lt (small n refl)
+
+pub than_within : (d : ℕ) (f g : Option ℕ) → Tells f g → IsCarryWithin (less_than d f) (less_than d g)
+than_within d f None tells = tt
+than_within d f (Some n) tells = ap (less_than d) (tells n refl)
+
+alone_of : (c : CarryTag) → HasBytes c → CarryNamesRegister c → IsOfRegister (less_alone c)
+alone_of carry.None bytes names = no_tag
+alone_of (carry.Borrow j l) bytes names = no_tag
+alone_of (carry.Less r n) bytes names = record { bytes = bytes; names = names; free = tt }
+
+pub kept_of : (f g : Option ℕ) (c : CarryTag) → HasBytes c → CarryNamesRegister c → IsOfRegister (less_kept f g c)
+kept_of f g c bytes names = kept_is IsOfRegister f g c (alone_of c bytes names) no_tag
+
+alone_within : (c d : CarryTag) → IsCarryWithin c d → IsCarryWithin (less_alone c) (less_alone d)
+alone_within c carry.None le = tt
+alone_within c (carry.Borrow j l) le = tt
+alone_within c (carry.Less r n) le = ap less_alone le
+
+kept_same : (x y : ℕ) (c d : CarryTag) → IsCarryWithin c d → IsCarryWithin (less_kept (Some x) (Some y) c) (less_kept (Some x) (Some y) d)
+kept_same x y c d le = by (x == y)
+  where
+    by : (b : Bool) → IsCarryWithin (if b then less_alone c else carry.None) (if b then less_alone d else carry.None)
+    by true = alone_within c d le
+    by false = tt
+
+pub kept_within : (f g f' g' : Option ℕ) (c d : CarryTag) → Tells f f' → Tells g g' → IsCarryWithin c d → IsCarryWithin (less_kept f g c) (less_kept f' g' d)
+kept_within f g None g' c d h k le = tt
+kept_within f g (Some x) None c d h k le = tt
+kept_within f g (Some x) (Some y) c d h k le =
+    subst₂ (λ (a b : Option ℕ). IsCarryWithin (less_kept a b c) (less_kept (Some x) (Some y) d)) (sym (h x refl)) (sym (k y refl)) (kept_same x y c d le)
 
 borrow_within : (t u : Tag) (f g : Option ℕ) → IsTagWithin t u → Tells f g → IsCarryWithin (borrow_tag t f) (borrow_tag u g)
 borrow_within t u f None le tells = tt
@@ -80,6 +139,7 @@ high_less_of kind (tag.Entry r) m c h = none_of kind
 high_less_of kind tag.EntryFlags m c h = none_of kind
 high_less_of kind (tag.SpLo j) m c h = none_of kind
 high_less_of kind (tag.SpHi k) m carry.None h = none_of kind
+high_less_of kind (tag.SpHi k) m (carry.Less r n) h = none_of kind
 high_less_of kind (tag.SpHi k) m (carry.Borrow j l) h =
     if_tag_of kind (j == k % 256) (high_of (k + l + 256 * m)) tag.None
     (record { names = tt; fits = omega arith; none = λ root. let e = h.none root in absurd (cc) }) (none_of kind)
@@ -100,10 +160,6 @@ low_below_of kind (Some k) down h = record { names = tt; fits = omega arith; non
 high_below_of : (kind : Kind) (f : Option ℕ) (down : ℕ) → (kind ≡ Root → f ≡ None) → IsTagOf kind (high_below f down)
 high_below_of kind None down h = none_of kind
 high_below_of kind (Some k) down h = record { names = tt; fits = omega arith; none = λ root. let e = h root in absurd (cc) }
-
-if_tag_within : (b : Bool) (t u t' u' : Tag) → IsTagWithin t u → IsTagWithin t' u' → IsTagWithin (if b then t else t') (if b then u else u')
-if_tag_within true t u t' u' h k = h
-if_tag_within false t u t' u' h k = k
 
 if_within : (b : Bool) (t u t' u' : TriByte) → IsWithin t u → IsWithin t' u' → IsWithin (if b then t else t') (if b then u else u')
 if_within true t u t' u' h k = h
@@ -141,7 +197,7 @@ pub swapped_within : (b c : TriByte) → IsWithin b c → IsWithin (swapped b) (
 swapped_within b c le =
     bytes_are_sets.built_within (λ i. tri_at b ((i + 4) % 8)) (λ i. tri_at c ((i + 4) % 8)) (λ i lt. bit_within b c ((i + 4) % 8) (omega arith) le)
 
-module _ (k : NodeKey) (at : IsKey k) (s t : AbsState) (le : IsStateLess k.inst.kind (offset_of k.sp) s t) where
+module _ (device : Device) (k : NodeKey) (at : IsKey k) (s t : AbsState) (le : IsStateLess k.inst.kind (offset_of k.sp) s t) where
   abbrev kind : Kind
   kind = k.inst.kind
 
@@ -159,111 +215,105 @@ module _ (k : NodeKey) (at : IsKey k) (s t : AbsState) (le : IsStateLess k.inst.
 
   -- ---- what is written
 
-  written_flags : (b c : TriByte) (x y : CarryTag) → IsWithin b c → tri_at b 7 ≡ Any → HasBytes x → (kind ≡ Root → x ≡ carry.None) → IsCarryWithin x y
+  written_flags : (b c : TriByte) (x y : CarryTag) → IsWithin b c → tri_at b 7 ≡ Any → HasBytes x → CarryNamesRegister x → (kind ≡ Root → CarryIsUntagged x) → IsCarryWithin x y
       → AreFlagsLess kind (with_carry b x) (with_carry c y)
-  written_flags b c x y over top bytes none under =
+  written_flags b c x y over top bytes names none under =
       record {
         within = record { entry = λ e. e; bits = over; carry = under };
         bit_7 = top;
         bytes = bytes;
         no_entry = λ root. refl;
+        names = names;
         no_carry = none;
       }
 
   no_tag_flags : (b c : TriByte) → IsWithin b c → tri_at b 7 ≡ Any → AreFlagsLess kind (with_carry b carry.None) (with_carry c carry.None)
-  no_tag_flags b c over top = written_flags b c carry.None carry.None over top tt (λ root. refl) tt
+  no_tag_flags b c over top = written_flags b c carry.None carry.None over top tt tt (λ root. tt) tt
 
   pub kept_flags : (b c : TriByte) → IsWithin b c → tri_at b 7 ≡ Any → AreFlagsLess kind (but_carry s b) (but_carry t c)
-  kept_flags b c over top = written_flags b c s.flags.carry t.flags.carry over top le.flags.bytes le.flags.no_carry le.flags.within.carry
+  kept_flags b c over top = written_flags b c s.flags.carry t.flags.carry over top le.flags.bytes le.flags.names le.flags.no_carry le.flags.within.carry
 
   pub setting_one : (d : ℕ) (v w : AbsByte) (f g : AbsFlags) → IsLess kind v w → AreFlagsLess kind f g
-      → LeadsLess k.inst (setting k s (set s d v) f) (setting k t (set t d w) g)
+      → LeadsLess k.inst (setting device k s (set s d v) f) (setting device k t (set t d w) g)
   setting_one d v w f g h flags =
-      setting_less k at s t le (set s d v) (set t d w) f g (registers_set kind s.registers t.registers le.registers d v w h) flags
+      setting_less device k at s t le (set s d v) (set t d w) f g (registers_set kind s.registers t.registers le.registers d v w h) flags
 
-  pub setting_flags : (f g : AbsFlags) → AreFlagsLess kind f g → LeadsLess k.inst (setting k s s.registers f) (setting k t t.registers g)
-  setting_flags f g flags = setting_less k at s t le s.registers t.registers f g le.registers flags
+  pub setting_flags : (f g : AbsFlags) → AreFlagsLess kind f g → LeadsLess k.inst (setting device k s s.registers f) (setting device k t t.registers g)
+  setting_flags f g flags = setting_less device k at s t le s.registers t.registers f g le.registers flags
 
-  pub setting_register : (d : ℕ) (v w : AbsByte) → IsLess kind v w → LeadsLess k.inst (setting k s (set s d v) s.flags) (setting k t (set t d w) t.flags)
+  pub setting_register : (d : ℕ) (v w : AbsByte) → IsLess kind v w → LeadsLess k.inst (setting device k s (set s d v) s.flags) (setting device k t (set t d w) t.flags)
   setting_register d v w h = setting_one d v w s.flags t.flags h le.flags
 
   -- ---- sums and differences
 
-  pub sum_less : (d : ℕ) (b b' : TriByte) (c c' : Tri) → IsWithin b b' → IsTriWithin c c' → LeadsLess k.inst (sum_row k s d b c) (sum_row k t d b' c')
+  pub sum_less : (d : ℕ) (b b' : TriByte) (c c' : Tri) → IsWithin b b' → IsTriWithin c c' → LeadsLess k.inst (going_with device k s (sum_after s d b c)) (going_with device k t (sum_after t d b' c'))
   sum_less d b b' c c' over carries =
       let r = all_are_monotone.sums (bits s d) b s.flags.bits (bits t d) b' t.flags.bits c c' (reg_bits d) over flag_bits carries in
       setting_one d _ _ _ _ (untagged_less kind _ _ r.0) (no_tag_flags _ _ r.1 (flags_7 _ _ _ _ _ s.flags.bits le.flags.bit_7))
 
-  pub compare_less : (a a' b b' : TriByte) (w w' : Tri) (keep_zero : Bool) → IsWithin a a' → IsWithin b b' → IsTriWithin w w'
-      → LeadsLess k.inst (compare_row k s a b w keep_zero) (compare_row k t a' b' w' keep_zero)
-  compare_less a a' b b' w w' keep_zero over under borrow =
+  pub compare_less : (a a' b b' : TriByte) (w w' : Tri) (keep_zero : Bool) (c c' : CarryTag) → IsWithin a a' → IsWithin b b' → IsTriWithin w w' → IsOfRegister c → IsCarryWithin c c'
+      → LeadsLess k.inst (going_with device k s (compare_after s a b w keep_zero c)) (going_with device k t (compare_after t a' b' w' keep_zero c'))
+  compare_less a a' b b' w w' keep_zero c c' over under borrow says less =
       let r = all_are_monotone.differences a b s.flags.bits a' b' t.flags.bits w w' keep_zero over under flag_bits borrow in
-      setting_flags _ _ (no_tag_flags _ _ r.1 (flags_7 _ _ _ _ _ s.flags.bits le.flags.bit_7))
+      setting_flags _ _ (written_flags _ _ c c' r.1 (flags_7 _ _ _ _ _ s.flags.bits le.flags.bit_7) says.bytes says.names (λ root. says.free) less)
 
   difference_less : (d : ℕ) (a a' b b' : TriByte) (w w' : Tri) (keep_zero : Bool) (x x' : Tag) (c c' : CarryTag) → IsWithin a a' → IsWithin b b' → IsTriWithin w w'
-      → IsTagOf kind x → IsTagWithin x x' → HasBytes c → (kind ≡ Root → c ≡ carry.None) → IsCarryWithin c c'
-      → LeadsLess k.inst (difference_row k s d a b w keep_zero x c) (difference_row k t d a' b' w' keep_zero x' c')
-  difference_less d a a' b b' w w' keep_zero x x' c c' over under borrow good tags bytes none carries =
+      → IsTagOf kind x → IsTagWithin x x' → HasBytes c → CarryNamesRegister c → (kind ≡ Root → CarryIsUntagged c) → IsCarryWithin c c'
+      → LeadsLess k.inst (going_with device k s (difference_after s d a b w keep_zero x c)) (going_with device k t (difference_after t d a' b' w' keep_zero x' c'))
+  difference_less d a a' b b' w w' keep_zero x x' c c' over under borrow good tags bytes names none carries =
       let r = all_are_monotone.differences a b s.flags.bits a' b' t.flags.bits w w' keep_zero over under flag_bits borrow in
-      setting_one d _ _ _ _ (record { within = record { tag = tags; bits = r.0 }; good = good })
-      (written_flags _ _ c c' r.1 (flags_7 _ _ _ _ _ s.flags.bits le.flags.bit_7) bytes none carries)
+      setting_one d _ _ _ _ (bits_less kind x x' _ _ good tags r.0)
+      (written_flags _ _ c c' r.1 (flags_7 _ _ _ _ _ s.flags.bits le.flags.bit_7) bytes names none carries)
 
   pub sub_less : (d : ℕ) (a a' b b' : TriByte) (f g : Option ℕ) → IsWithin a a' → IsWithin b b' → Tells f g → ((n : ℕ) → f ≡ Some n → n < 256)
-      → LeadsLess k.inst (sub_row k s d a b f) (sub_row k t d a' b' g)
+      → LeadsLess k.inst (going_with device k s (sub_after s d a b f)) (going_with device k t (sub_after t d a' b' g))
   sub_less d a a' b b' f g over under tells small =
       let v = reg d in
       difference_less d a a' b b' Zero Zero false (low_tag (value s d).tag f) (low_tag (value t d).tag g) (borrow_tag (value s d).tag f) (borrow_tag (value t d).tag g)
       over under (λ n p. p) (low_tag_of kind (value s d).tag f v.good) (low_tag_within (value s d).tag (value t d).tag f g v.within.tag tells)
-      (borrow_bytes kind (value s d).tag f v.good small) (λ root. no_borrow (value s d).tag f (v.good.none root))
+      (borrow_bytes kind (value s d).tag f v.good small) (borrow_names (value s d).tag f) (λ root. no_borrow (value s d).tag f (v.good.none root))
       (borrow_within (value s d).tag (value t d).tag f g v.within.tag tells)
 
-  pub sbc_less : (d : ℕ) (b b' : TriByte) (f g : Option ℕ) → IsWithin b b' → Tells f g → LeadsLess k.inst (sbc_row k s d b f) (sbc_row k t d b' g)
+  pub sbc_less : (d : ℕ) (b b' : TriByte) (f g : Option ℕ) → IsWithin b b' → Tells f g → LeadsLess k.inst (going_with device k s (sbc_after s d b f)) (going_with device k t (sbc_after t d b' g))
   sbc_less d b b' f g under tells =
       let v = reg d in
       difference_less d (bits s d) (bits t d) b b' (carry_bit s) (carry_bit t) true
       (high_tag (value s d).tag f s.flags.carry) (high_tag (value t d).tag g t.flags.carry) carry.None carry.None
       (reg_bits d) under carry_in (high_tag_of kind (value s d).tag f s.flags.carry v.good)
       (high_tag_within (value s d).tag (value t d).tag f g s.flags.carry t.flags.carry v.within.tag tells le.flags.within.carry)
-      tt (λ root. refl) tt
+      tt tt (λ root. tt) tt
 
   pub or_nothing_within : (d r : ℕ) (b c : TriByte) → IsWithin b c → IsWithin (or_nothing d r b) (or_nothing d r c)
   or_nothing_within d r b c h = if_within (d == r) (byte_known 0) (byte_known 0) b c (same_bits (byte_known 0)) h
 
   -- ---- bit by bit
 
-  pub logic_less : (op : Logic) (d : ℕ) (a a' b b' : TriByte) (x x' : Tag) → IsWithin a a' → IsWithin b b' → IsTagOf kind x → IsTagWithin x x'
-      → LeadsLess k.inst (logic_row k s op d a b x) (logic_row k t op d a' b' x')
-  logic_less op d a a' b b' x x' over under good tags =
+  pub logic_less : (op : Logic) (d : ℕ) (a a' b b' : TriByte) (same : Bool) → IsWithin a a' → IsWithin b b' → LeadsLess k.inst (going_with device k s (logic_after s op d a b same)) (going_with device k t (logic_after t op d a' b' same))
+  logic_less op d a a' b b' same over under =
       let r = all_are_monotone.logics op a b s.flags.bits a' b' t.flags.bits over under flag_bits in
-      setting_one d _ _ _ _ (record { within = record { tag = tags; bits = r.0 }; good = good }) (kept_flags _ _ r.1 (flags_7 _ _ _ _ _ s.flags.bits le.flags.bit_7))
+      setting_one d _ _ _ _ (if_less kind same _ _ _ _ (reg d) (untagged_less kind _ _ r.0)) (kept_flags _ _ r.1 (flags_7 _ _ _ _ _ s.flags.bits le.flags.bit_7))
 
-  pub kept_tag_of : (d r : ℕ) → IsTagOf kind (kept_tag s d r)
-  kept_tag_of d r = if_tag_of kind (d == r) (value s d).tag tag.None (reg d).good (none_of kind)
-
-  pub kept_tag_within : (d r : ℕ) → IsTagWithin (kept_tag s d r) (kept_tag t d r)
-  kept_tag_within d r = if_tag_within (d == r) (value s d).tag (value t d).tag tag.None tag.None (reg d).within.tag tt
-
-  step_less : (up : Bool) (d : ℕ) → LeadsLess k.inst (step_row k s up d) (step_row k t up d)
+  step_less : (up : Bool) (d : ℕ) → LeadsLess k.inst (going_with device k s (step_after s up d)) (going_with device k t (step_after t up d))
   step_less up d =
       let r = all_are_monotone.steps up (bits s d) s.flags.bits (bits t d) t.flags.bits (reg_bits d) flag_bits in
       setting_one d _ _ _ _ (untagged_less kind _ _ r.0) (kept_flags _ _ r.1 (flags_7 _ _ _ _ _ s.flags.bits le.flags.bit_7))
 
-  shift_less : (op : Shift) (d : ℕ) → LeadsLess k.inst (shift_row k s op d) (shift_row k t op d)
+  shift_less : (op : Shift) (d : ℕ) → LeadsLess k.inst (going_with device k s (shift_after s op d)) (going_with device k t (shift_after t op d))
   shift_less op d =
       let r = all_are_monotone.shifts op (bits s d) s.flags.bits (bits t d) t.flags.bits (reg_bits d) flag_bits in
       setting_one d _ _ _ _ (untagged_less kind _ _ r.0) (no_tag_flags _ _ r.1 (flags_7 _ _ _ _ _ s.flags.bits le.flags.bit_7))
 
-  com_less : (d : ℕ) → LeadsLess k.inst (com_row k s d) (com_row k t d)
+  com_less : (d : ℕ) → LeadsLess k.inst (going_with device k s (com_after s d)) (going_with device k t (com_after t d))
   com_less d =
       let r = all_are_monotone.coms (bits s d) s.flags.bits (bits t d) t.flags.bits (reg_bits d) flag_bits in
       setting_one d _ _ _ _ (untagged_less kind _ _ r.0) (no_tag_flags _ _ r.1 (flags_7 _ _ _ _ _ s.flags.bits le.flags.bit_7))
 
   -- ---- words
 
-  pub product_less : (op : Mul) (d r : ℕ) → LeadsLess k.inst (product_row k s op d r) (product_row k t op d r)
+  pub product_less : (op : Mul) (d r : ℕ) → LeadsLess k.inst (product_row device k s op d r) (product_row device k t op d r)
   product_less op d r =
       let p = all_are_monotone.products op (bits s d) (bits s r) s.flags.bits (bits t d) (bits t r) t.flags.bits (reg_bits d) (reg_bits r) flag_bits in
-      setting_less k at s t le _ _ _ _ (pair_set kind s.registers t.registers 0 _ _ _ _ le.registers (untagged_less kind _ _ p.0.0) (untagged_less kind _ _ p.0.1))
+      setting_less device k at s t le _ _ _ _ (pair_set kind s.registers t.registers 0 _ _ _ _ le.registers (untagged_less kind _ _ p.0.0) (untagged_less kind _ _ p.0.1))
       (no_tag_flags _ _ p.1 (product_7 op (byte_constant (bits s d)) (byte_constant (bits s r)) s.flags.bits le.flags.bit_7))
 
   -- a pair in the root has no frame
@@ -277,51 +327,44 @@ module _ (k : NodeKey) (at : IsKey k) (s t : AbsState) (le : IsStateLess k.inst.
       let hi = (reg (d + 1)).within.tag in
       let down = down_by up n in
       pair_set kind s.registers t.registers d _ _ _ _ le.registers
-      (record {
-        within = record { tag = tag_arithmetic_is_monotone.low_below (value s d).tag (value s (d + 1)).tag (value t d).tag (value t (d + 1)).tag down lo hi; bits = p.0.0 };
-        good = low_below_of kind (frame_of (value s d).tag (value s (d + 1)).tag) down (no_frame d);
-      })
-      (record {
-        within = record { tag = tag_arithmetic_is_monotone.high_below (value s d).tag (value s (d + 1)).tag (value t d).tag (value t (d + 1)).tag down lo hi; bits = p.0.1 };
-        good = high_below_of kind (frame_of (value s d).tag (value s (d + 1)).tag) down (no_frame d);
-      })
+      (bits_less kind _ _ _ _ (low_below_of kind (frame_of (value s d).tag (value s (d + 1)).tag) down (no_frame d))
+      (tag_arithmetic_is_monotone.low_below (value s d).tag (value s (d + 1)).tag (value t d).tag (value t (d + 1)).tag down lo hi) p.0.0)
+      (bits_less kind _ _ _ _ (high_below_of kind (frame_of (value s d).tag (value s (d + 1)).tag) down (no_frame d))
+      (tag_arithmetic_is_monotone.high_below (value s d).tag (value s (d + 1)).tag (value t d).tag (value t (d + 1)).tag down lo hi) p.0.1)
 
-  pub wide_less : (up : Bool) (d n : ℕ) → LeadsLess k.inst (wide_row k s up d n) (wide_row k t up d n)
+  pub wide_less : (up : Bool) (d n : ℕ) → LeadsLess k.inst (wide_row device k s up d n) (wide_row device k t up d n)
   wide_less up d n =
       let p = all_are_monotone.words up (bits s d, bits s (d + 1)) (bits t d, bits t (d + 1)) n s.flags.bits t.flags.bits (reg_bits d, reg_bits (d + 1)) flag_bits in
-      setting_less k at s t le _ _ _ _ (pair_less d up n) (no_tag_flags _ _ p.1 (wide_7 up (bits s d, bits s (d + 1)) n s.flags.bits le.flags.bit_7))
+      setting_less device k at s t le _ _ _ _ (pair_less d up n) (no_tag_flags _ _ p.1 (wide_7 up (bits s d, bits s (d + 1)) n s.flags.bits le.flags.bit_7))
 
   -- ---- flags
 
-  interrupts_less : (on : Bool) → LeadsLess k.inst (interrupts_row k s on) (interrupts_row k t on)
+  interrupts_less : (on : Bool) → LeadsLess k.inst (interrupts_row device k s on) (interrupts_row device k t on)
   interrupts_less true =
-      one_less (record (next k) { i = true; delay = not k.i }) s t (record { word = further_small k 1; small = at.small; masks = at.masks; fits = at.fits }) le
-  interrupts_less false = one_less (record (next k) { i = false }) s t (record { word = further_small k 1; small = at.small; masks = at.masks; fits = at.fits }) le
+      one_less (record (next device k) { i = true; delay = not k.i }) s t (record { word = further_small device k 1; small = at.small; masks = at.masks; fits = at.fits; pick = at.pick }) le
+  interrupts_less false = one_less (record (next device k) { i = false }) s t (record { word = further_small device k 1; small = at.small; masks = at.masks; fits = at.fits; pick = at.pick }) le
 
-  flag_carry_bytes : (b : Bool) (c : CarryTag) → HasBytes c → HasBytes (if b then carry.None else c)
-  flag_carry_bytes true c h = tt
-  flag_carry_bytes false c h = h
-
-  flag_carry_none : (b : Bool) (c : CarryTag) → c ≡ carry.None → (if b then carry.None else c) ≡ carry.None
-  flag_carry_none true c h = refl
-  flag_carry_none false c h = h
+  flag_carry_is : (C : CarryTag → Type 0) (b : Bool) (c : CarryTag) → C c → C carry.None → C (if b then carry.None else c)
+  flag_carry_is C true c h none = none
+  flag_carry_is C false c h none = h
 
   flag_carry_within : (b : Bool) (c d : CarryTag) → IsCarryWithin c d → IsCarryWithin (if b then carry.None else c) (if b then carry.None else d)
   flag_carry_within true c d h = tt
   flag_carry_within false c d h = h
 
   flag_less_by : (b : Bool) (n : ℕ) (on : Bool) → (b ≡ false → n ≢ 7)
-      → LeadsLess k.inst (if b then interrupts_row k s on else setting k s s.registers (with_carry (byte_with s.flags.bits n (tri_of_bool on)) (carry_tag_at s n)))
-      (if b then interrupts_row k t on else setting k t t.registers (with_carry (byte_with t.flags.bits n (tri_of_bool on)) (carry_tag_at t n)))
+      → LeadsLess k.inst (if b then interrupts_row device k s on else setting device k s s.registers (with_carry (byte_with s.flags.bits n (tri_of_bool on)) (carry_tag_at s n)))
+      (if b then interrupts_row device k t on else setting device k t t.registers (with_carry (byte_with t.flags.bits n (tri_of_bool on)) (carry_tag_at t n)))
   flag_less_by true n on ne = interrupts_less on
   flag_less_by false n on ne =
       setting_flags _ _ (written_flags _ _ (carry_tag_at s n) (carry_tag_at t n)
       (writes_cover.more s.flags.bits t.flags.bits n (tri_of_bool on) (tri_of_bool on) flag_bits (λ m p. p))
       (with_7 s.flags.bits n (tri_of_bool on) (ne refl) le.flags.bit_7)
-      (flag_carry_bytes (n == 0) s.flags.carry le.flags.bytes) (λ root. flag_carry_none (n == 0) s.flags.carry (le.flags.no_carry root))
+      (flag_carry_is HasBytes (n == 0) s.flags.carry le.flags.bytes tt) (flag_carry_is CarryNamesRegister (n == 0) s.flags.carry le.flags.names tt)
+      (λ root. flag_carry_is CarryIsUntagged (n == 0) s.flags.carry (le.flags.no_carry root) tt)
       (flag_carry_within (n == 0) s.flags.carry t.flags.carry le.flags.within.carry))
 
-  pub flag_less : (n : ℕ) (on : Bool) → LeadsLess k.inst (flag_row k s n on) (flag_row k t n on)
+  pub flag_less : (n : ℕ) (on : Bool) → LeadsLess k.inst (flag_row device k s n on) (flag_row device k t n on)
   flag_less n on = flag_less_by (n == 7) n on (λ e. grind (arith, nat_tests))
 
   -- ---- by the operation
@@ -332,22 +375,23 @@ module _ (k : NodeKey) (at : IsKey k) (s t : AbsState) (le : IsStateLess k.inst.
   number_small : (n : ℕ) → n < 256 → (x : ℕ) → Some n ≡ Some x → x < 256
   number_small n lt x e = let is : n ≡ x = cc in omega (arith, is)
 
-  pub immediate_less : (op : ImmediateOp) (d n : ℕ) → n < 256 → LeadsLess k.inst (immediate_row k s op d n) (immediate_row k t op d n)
-  immediate_less immediate.Cpi d n lt = compare_less (bits s d) (bits t d) (byte_known n) (byte_known n) Zero Zero false (reg_bits d) (same_bits (byte_known n)) (λ m p. p)
-  immediate_less immediate.Sbci d n lt = sbc_less d (byte_known n) (byte_known n) (Some n) (Some n) (same_bits (byte_known n)) (number_tells n)
-  immediate_less immediate.Subi d n lt =
+  pub immediate_less : (op : ImmediateOp) (d n : ℕ) → d < 32 → n < 256 → LeadsLess k.inst (immediate_row device k s op d n) (immediate_row device k t op d n)
+  immediate_less immediate.Cpi d n low lt =
+      compare_less (bits s d) (bits t d) (byte_known n) (byte_known n) Zero Zero false (carry.Less d n) (carry.Less d n) (reg_bits d) (same_bits (byte_known n)) (λ m p. p) (less_of d n low lt) refl
+  immediate_less immediate.Sbci d n low lt = sbc_less d (byte_known n) (byte_known n) (Some n) (Some n) (same_bits (byte_known n)) (number_tells n)
+  immediate_less immediate.Subi d n low lt =
       sub_less d (bits s d) (bits t d) (byte_known n) (byte_known n) (Some n) (Some n) (reg_bits d) (same_bits (byte_known n)) (number_tells n) (number_small n lt)
-  immediate_less immediate.Ori d n lt =
-      logic_less logic.Or d (bits s d) (bits t d) (byte_known n) (byte_known n) tag.None tag.None (reg_bits d) (same_bits (byte_known n)) (none_of kind) tt
-  immediate_less immediate.Andi d n lt =
-      logic_less logic.And d (bits s d) (bits t d) (byte_known n) (byte_known n) tag.None tag.None (reg_bits d) (same_bits (byte_known n)) (none_of kind) tt
-  immediate_less immediate.Ldi d n lt = setting_register d (known n) (known n) (known_same kind n)
+  immediate_less immediate.Ori d n low lt =
+      logic_less logic.Or d (bits s d) (bits t d) (byte_known n) (byte_known n) false (reg_bits d) (same_bits (byte_known n))
+  immediate_less immediate.Andi d n low lt =
+      logic_less logic.And d (bits s d) (bits t d) (byte_known n) (byte_known n) false (reg_bits d) (same_bits (byte_known n))
+  immediate_less immediate.Ldi d n low lt = setting_register d (known n) (known n) (known_same kind n)
 
-  pub unary_less : (op : UnaryOp) (d : ℕ) → LeadsLess k.inst (unary_row k s op d) (unary_row k t op d)
+  pub unary_less : (op : UnaryOp) (d : ℕ) → LeadsLess k.inst (unary_row device k s op d) (unary_row device k t op d)
   unary_less unary.Com d = com_less d
   unary_less unary.Neg d =
       difference_less d (byte_known 0) (byte_known 0) (bits s d) (bits t d) Zero Zero false tag.None tag.None carry.None carry.None
-      (same_bits (byte_known 0)) (reg_bits d) (λ m p. p) (none_of kind) tt tt (λ root. refl) tt
+      (same_bits (byte_known 0)) (reg_bits d) (λ m p. p) (none_of kind) tt tt tt (λ root. tt) tt
   unary_less unary.Swap d =
       setting_register d (untagged (swapped (bits s d))) (untagged (swapped (bits t d))) (untagged_less kind _ _ (swapped_within (bits s d) (bits t d) (reg_bits d)))
   unary_less unary.Inc d = step_less true d

@@ -1,19 +1,24 @@
--- The numbers in decoded instructions: targets of jumps and calls are words, and immediate numbers are bytes.
-use Rattle.std.proofs.Common.{◌≡◌, refl, subst, ℕ, ◌+◌, ◌*◌, ◌%◌, ◌^◌, ◌<◌, ◌==◌, Bool, true, false, List, [], ◌∷◌, Some, length, if◌then◌else◌, arith}
+-- The numbers in decoded instructions: targets of jumps and calls are words, immediate numbers are bytes, and operands are registers.
+use Rattle.std.proofs.Common.{◌≡◌, refl, subst, ℕ, ◌+◌, ◌*◌, ◌%◌, ◌^◌, ◌<◌, ◌==◌, Bool, true, false, List, [], ◌∷◌, Some, length, if◌then◌else◌, arith, None, nat_lt}
 use Rattle.std.specs.Prelude.{⊤}
 use Rattle.std.specs.Int.{bit_at}
 use Rattle.std.proofs.lemmas.Nat.Bits.{bit_at-lt}
+use Rattle.avr_model.specs.Devices.{words_of}
+use Rattle.avr_model.specs.declared.device.Device.{Device}
 use Rattle.avr_model.specs.declared.instruction.Instr.{Instr}
 use Rattle.avr_model.specs.declared.instruction.Instr.TheVariants as i
 use Rattle.avr_model.specs.Image.{WORDS, word_at}
 use Rattle.avr_model.specs.Pattern.{places, letter}
 use Rattle.avr_model.specs.Table.{Row, fields, table, matches, decoded_by, decoded}
 use Rattle.avr_model.specs.Sites.{instruction_at}
+use Rattle.local_rules.specs.Local.{fetched}
+use Rattle.local_laws.proofs.Sized.{decoded_at}
 
 abbrev pub InstrFits : Instr → Type 0
 InstrFits (i.Jmp t) = t < WORDS
 InstrFits (i.Call t) = t < WORDS
-InstrFits (i.Immediate op d n) = n < 256
+InstrFits (i.Immediate op d n) = (d < 32) × (n < 256)
+InstrFits (i.Binary op d r) = d < 32
 InstrFits instr = ⊤
 
 -- ---- what is in the places of a letter
@@ -37,6 +42,15 @@ letter_below c (x ∷ p) w sofar below lt =
 eight : (p : List ℕ) (w : ℕ) → bound_of 75 1 p ≡ 256 → letter 75 0 p w < 256
 eight p w e = subst (λ (n : ℕ). letter 75 0 p w < n) e (letter_below 75 p w 0 1 (omega arith))
 
+sixteen : (p : List ℕ) (w : ℕ) → bound_of 100 1 p ≡ 16 → 16 + letter 100 0 p w < 32
+sixteen p w e = let lt : letter 100 0 p w < 16 = subst (λ (n : ℕ). letter 100 0 p w < n) e (letter_below 100 p w 0 1 (omega arith)) in omega arith
+
+all_registers : (p : List ℕ) (w : ℕ) → bound_of 100 1 p ≡ 32 → letter 100 0 p w < 32
+all_registers p w e = subst (λ (n : ℕ). letter 100 0 p w < n) e (letter_below 100 p w 0 1 (omega arith))
+
+both : (p : List ℕ) (w : ℕ) → bound_of 100 1 p ≡ 16 → bound_of 75 1 p ≡ 256 → (16 + letter 100 0 p w < 32) × (letter 75 0 p w < 256)
+both p w d k = (sixteen p w d, eight p w k)
+
 word_small : (n : ℕ) → n % 2 ^ 14 < WORDS
 word_small n = omega arith
 
@@ -48,14 +62,26 @@ RowsFit (row ∷ rows) w next = InstrFits (row.instr (fields row.pattern w next)
 
 table_fits : (w next : ℕ) → RowsFit table w next
 table_fits w next =
-    let cpi = eight (places "0011 KKKK dddd KKKK") w refl in
-    let sbci = eight (places "0100 KKKK dddd KKKK") w refl in
-    let subi = eight (places "0101 KKKK dddd KKKK") w refl in
-    let ori = eight (places "0110 KKKK dddd KKKK") w refl in
-    let andi = eight (places "0111 KKKK dddd KKKK") w refl in
-    let ldi = eight (places "1110 KKKK dddd KKKK") w refl in
+    let cpi = both (places "0011 KKKK dddd KKKK") w refl refl in
+    let sbci = both (places "0100 KKKK dddd KKKK") w refl refl in
+    let subi = both (places "0101 KKKK dddd KKKK") w refl refl in
+    let ori = both (places "0110 KKKK dddd KKKK") w refl refl in
+    let andi = both (places "0111 KKKK dddd KKKK") w refl refl in
+    let ldi = both (places "1110 KKKK dddd KKKK") w refl refl in
+    let of_cpc = all_registers (places "0000 01rd dddd rrrr") w refl in
+    let of_sbc = all_registers (places "0000 10rd dddd rrrr") w refl in
+    let of_add = all_registers (places "0000 11rd dddd rrrr") w refl in
+    let of_cpse = all_registers (places "0001 00rd dddd rrrr") w refl in
+    let of_cp = all_registers (places "0001 01rd dddd rrrr") w refl in
+    let of_sub = all_registers (places "0001 10rd dddd rrrr") w refl in
+    let of_adc = all_registers (places "0001 11rd dddd rrrr") w refl in
+    let of_and = all_registers (places "0010 00rd dddd rrrr") w refl in
+    let of_eor = all_registers (places "0010 01rd dddd rrrr") w refl in
+    let of_or = all_registers (places "0010 10rd dddd rrrr") w refl in
+    let of_mov = all_registers (places "0010 11rd dddd rrrr") w refl in
+    let of_mul = all_registers (places "1001 11rd dddd rrrr") w refl in
     let jmp = word_small next in
-    assumption (cpi, sbci, subi, ori, andi, ldi, jmp)
+    assumption (cpi, sbci, subi, ori, andi, ldi, of_cpc, of_sbc, of_add, of_cpse, of_cp, of_sub, of_adc, of_and, of_eor, of_or, of_mov, of_mul, jmp)
 
 rows_fit : (rows : List Row) (w next : ℕ) (instr : Instr) → RowsFit rows w next → decoded_by rows w next ≡ Some instr → InstrFits instr
 rows_fit [] w next instr h e = cc
@@ -70,5 +96,12 @@ decoded_fits : (w next : ℕ) (instr : Instr) → decoded w next ≡ Some instr 
 unfolding decoded
 decoded_fits w next instr e = rows_fit table w next instr (table_fits w next) e
 
-pub instruction_fits : (words : List ℕ) (pc : ℕ) (instr : Instr) → instruction_at words pc ≡ Some instr → InstrFits instr
-instruction_fits words pc instr e = decoded_fits (word_at words pc) (word_at words (pc + 1)) instr e
+instruction_fits : (words : List ℕ) (pc : ℕ) (instr : Instr) → instruction_at words pc ≡ Some instr → InstrFits instr
+instruction_fits words pc instr e = decoded_fits (word_at words pc) (word_at words (pc + 1)) instr (decoded_at words pc instr e)
+
+pub fetched_fits : (device : Device) (words : List ℕ) (pc : ℕ) (instr : Instr) → fetched device words pc ≡ Some instr → InstrFits instr
+fetched_fits device words pc instr e = by (nat_lt pc (words_of device)) e
+  where
+    by : (inside : Bool) → (if inside then instruction_at words pc else None) ≡ Some instr → InstrFits instr
+    by true same = instruction_fits words pc instr same
+    by false same = absurd (cc)

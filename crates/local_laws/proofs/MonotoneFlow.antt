@@ -1,15 +1,19 @@
 -- Jumps, branches, skips, calls, returns, and bytes that are pushed and popped: a greater state leads to more.
-use Rattle.std.proofs.Common.{◌≡◌, refl, sym, ap, ◌∙◌, subst, subst₂, ℕ, zero, suc, ◌+◌, ◌-◌, ◌<◌, ◌≤◌, ◌==◌, nat_lt, nat_le, ⊎_elim, Bool, true, false, List, [], ◌∷◌, ◌++◌, map, filter, take, Option, Some, None, length, if◌then◌else◌, Contains, arith, append_assoc, length-append, length-take}
+use Rattle.std.proofs.Common.{◌≡◌, refl, sym, ap, ◌∙◌, subst, subst₂, ℕ, zero, suc, ◌+◌, ◌-◌, ◌<◌, ◌≤◌, ◌==◌, nat_lt, nat_le, min, max, ⊎_elim, Bool, true, false, List, [], ◌∷◌, ◌++◌, map, filter, take, Option, Some, None, length, if◌then◌else◌, slice_set, Contains, arith, append_assoc, length-append, length-take, leb-true, ◌^◌}
 use Rattle.std.proofs.Math.Nat.{pow-le-pow_right}
 use Rattle.std.proofs.lemmas.Bool.{cases_lt, cases_eq}
 use Rattle.std.proofs.lemmas.Bool.Decides.{nat_tests}
 use Rattle.std.proofs.lemmas.List.{get_or_past}
 use Rattle.std.proofs.lemmas.Map.Views.{Contains-from_any}
+use Rattle.avr_model.specs.State.{SIZE}
+use Rattle.avr_model.proofs.AllLaws.{devices_are_alike}
+use Rattle.avr_model.specs.Devices.{size_of}
+use Rattle.avr_model.specs.declared.device.Device.{Device}
+use Rattle.avr_model.specs.declared.device.Device.TheVariants.{M48, M88, M168, M328}
 use Rattle.avr_model.specs.declared.assumption.Entry.{Entry}
 use Rattle.avr_model.specs.Image.{WORDS, word_at}
 use Rattle.avr_model.specs.Table.{length_of}
 use Rattle.avr_model.specs.Assumptions.{jump_line, lists}
-use Rattle.avr_model.specs.State.{SIZE}
 use Rattle.bit_domain.specs.declared.bits.Tri.{Tri}
 use Rattle.bit_domain.specs.declared.bits.Tri.TheVariants.{Zero, One, Any}
 use Rattle.bit_domain.specs.declared.bytes.TriByte.{TriByte}
@@ -17,12 +21,17 @@ use Rattle.bit_domain.specs.Tri.{IsTriWithin}
 use Rattle.bit_domain.specs.TriByte.{tri_at, IsWithin}
 use Rattle.bit_domain.specs.Numbers.{numbers_of, pointer_bit, targets_of, one_if_any, count_unknown}
 use Rattle.bit_domain.proofs.AllLaws.{numbers_are_permitted}
+use Rattle.sp_domain.specs.declared.tags.CarryTag.{CarryTag}
+use Rattle.sp_domain.specs.declared.tags.CarryTag.TheVariants as carry
 use Rattle.sp_domain.specs.declared.slots.Slot.{Slot}
 use Rattle.sp_domain.specs.declared.slots.Slot.TheVariants.{Free}
 use Rattle.sp_domain.specs.Slots.{slot_at}
+use Rattle.sp_domain.specs.Tags.{IsCarryWithin}
 use Rattle.sp_domain.proofs.AllLaws.{slots_are_lists}
 use Rattle.abs_state.specs.declared.values.AbsByte.{AbsByte}
 use Rattle.abs_state.specs.declared.state.AbsState.{AbsState}
+use Rattle.abs_state.specs.Values.{value_at}
+use Rattle.abs_state.specs.Formed.{CarryNamesRegister}
 use Rattle.mask_states.specs.declared.keys.NodeKey.{NodeKey}
 use Rattle.mask_states.specs.declared.keys.InstKey.{InstKey}
 use Rattle.mask_states.specs.declared.keys.Kind.{Kind}
@@ -32,15 +41,15 @@ use Rattle.mask_states.specs.declared.keys.SpForm.TheVariants.{Closed, Open}
 use Rattle.mask_states.specs.Keys.{offset_of}
 use Rattle.local_rules.specs.declared.local.Exit.{Exit}
 use Rattle.local_rules.specs.declared.local.NodeFault.TheVariants.{UnresolvedJump, UntrackedSp, TooDeep}
-use Rattle.local_rules.specs.Raw.{Raw, moves_to, fails, enters, untracked_if, at_word, further, next}
-use Rattle.local_rules.specs.Registers.{value, bits, set}
+use Rattle.local_rules.specs.Raw.{Raw, moves_to, fails, enters, untracked_if, all_of, at_word, off_table, turning_to, further, next}
+use Rattle.local_rules.specs.Registers.{value, bits, set, carry_bit}
 use Rattle.local_rules.specs.Reads.{value_of}
-use Rattle.local_rules.specs.Flow.{branch, skipping, flag_at, targets_by, targets_at, jumping, is_half_written, at_closed, pushed_slot, pushing, popping, making_room, site, calling, indirect_call, relative_call, returning}
+use Rattle.local_rules.specs.Flow.{branch, skipping, flag_at, part_of, with_value, where_carry, going_where, carry_branch, flag_branch, width, words_on, targets_by, targets_at, jumping, is_half_written, at_closed, pushed_slot, pushing, popping, making_room, site, calling, indirect_call, relative_call, returning}
 use Rattle.local_laws.proofs.Members.{in_map, each_in_map, filter_more, filter_passes, not_empty, any_more}
 use Rattle.local_laws.proofs.MonotoneValues.{IsLess, IsSlotLess, AreSlotsLess, IsStateLess, free_less, any_bit_within, registers_set}
-use Rattle.local_laws.proofs.MonotoneRaw.{IsKey, LeadsLess, fails_less, untracked_less, several_less, one_less, choose, choose_more, choose_each, enters_less, leaves_less, further_small, word_key}
+use Rattle.local_laws.proofs.MonotoneRaw.{IsKey, LeadsLess, fails_less, untracked_less, if_leads, nowhere_less, above_first, above_rest, none_less, both_less, turning_less, several_less, one_less, choose, choose_more, choose_each, enters_less, leaves_less, further_small, off_table_key}
 use Rattle.local_laws.proofs.MonotoneAlu.{reg, reg_bits, flag_bits}
-use Rattle.local_laws.proofs.MonotoneReads.{slot_value}
+use Rattle.local_laws.proofs.MonotoneReads.{IsReadLess, slot_value}
 
 -- ---- where an indirect transfer leads
 
@@ -79,7 +88,7 @@ AreTargetsLess x y =
     (ys : List ℕ) → y ≡ Some ys
     → (xs : List ℕ) × ((x ≡ Some xs) × (((z : ℕ) → Contains xs z → Contains ys z) × ((z : ℕ) → Contains ys z → z < WORDS)))
 
-module _ (xs ys : List ℕ) (more : (z : ℕ) → Contains xs z → Contains ys z) (count : length xs ≤ length ys) (small : (z : ℕ) → Contains ys z → z < WORDS) where
+module _ (xs ys : List ℕ) (more : (z : ℕ) → Contains xs z → Contains ys z) (small : (z : ℕ) → Contains ys z → z < WORDS) where
   all_targets : (a b : Bool) → (b ≡ true → a ≡ true) → AreTargetsLess (if a then Some xs else None) (if b then Some ys else None)
   all_targets a false h zs e = cc
   all_targets true true h zs e =
@@ -93,9 +102,11 @@ module _ (xs ys : List ℕ) (more : (z : ℕ) → Contains xs z → Contains ys 
   listed_small : (x : ℕ) → lists ys x ≡ true → x < WORDS
   listed_small x e = small x (Contains-from_any {eq = λ (a b : ℕ). b == a} (λ a b is. grind (arith, nat_tests)) x ys e)
 
-  pub targets_less : (line : Option (List ℕ)) → AreTargetsLess (targets_by line xs) (targets_by line ys)
-  targets_less None zs e = all_targets (nat_le (length xs) 64) (nat_le (length ys) 64) (λ is. grind (arith, nat_tests)) zs e
-  targets_less (Some listed) zs e =
+  few_less : (m n : ℕ) → m ≤ n → AreTargetsLess (if nat_le m 64 then Some xs else None) (if nat_le n 64 then Some ys else None)
+  few_less m n count = all_targets (nat_le m 64) (nat_le n 64) (λ is. grind (arith, nat_tests))
+
+  listed_less : (listed : List ℕ) → AreTargetsLess (Some (filter (lists xs) listed)) (Some (filter (lists ys) listed))
+  listed_less listed zs e =
       let is : filter (lists ys) listed ≡ zs = cc in (
         filter (lists xs) listed,
         (
@@ -107,24 +118,36 @@ module _ (xs ys : List ℕ) (more : (z : ℕ) → Contains xs z → Contains ys 
         ),
       )
 
-module _ (a b a' b' : TriByte) (lo : IsWithin a a') (hi : IsWithin b b') where
-  word_bits : (i : ℕ) → i < 14 → IsTriWithin (pointer_bit a b i) (pointer_bit a' b' i)
-  word_bits i lt =
+-- a word address of the device is one in a text
+pub width_small : (device : Device) (z : ℕ) → z < 2 ^ width device → z < WORDS
+width_small M48 z lt = omega (arith, lt)
+width_small M88 z lt = omega (arith, lt)
+width_small M168 z lt = omega (arith, lt)
+width_small M328 z lt = omega (arith, lt)
+
+module _ (device : Device) (a b a' b' : TriByte) (lo : IsWithin a a') (hi : IsWithin b b') where
+  word_bits : (n i : ℕ) → i < n → IsTriWithin (pointer_bit a b i) (pointer_bit a' b' i)
+  word_bits n i lt =
       if_tri_within (nat_lt i 8) (tri_at a i) (tri_at a' i) (tri_at b (i - 8)) (tri_at b' (i - 8))
       (λ e. any_bit_within a a' i lo) (λ e. any_bit_within b b' (i - 8) hi)
 
-  pub words_targets : (line : Option (List ℕ)) → AreTargetsLess (targets_by line (targets_of a b)) (targets_by line (targets_of a' b'))
-  words_targets line =
-      let f = pointer_bit a b in
-      let g = pointer_bit a' b' in
-      targets_less (targets_of a b) (targets_of a' b') (numbers_more f g 14 word_bits) (numbers_count f g 14 word_bits)
-      (λ z i. ((numbers_are_permitted.members g 14 z).0 i).small) line
+  words_more : (z : ℕ) → Contains (words_on device a b) z → Contains (words_on device a' b') z
+  words_more = numbers_more (pointer_bit a b) (pointer_bit a' b') (width device) (word_bits (width device))
+
+  words_small : (z : ℕ) → Contains (words_on device a' b') z → z < WORDS
+  words_small z i = width_small device z ((numbers_are_permitted.members (pointer_bit a' b') (width device) z).0 i).small
+
+  pub words_targets : (line : Option (List ℕ)) → AreTargetsLess (targets_by device line a b) (targets_by device line a' b')
+  words_targets None =
+      few_less (words_on device a b) (words_on device a' b') words_more words_small (length (targets_of a b)) (length (targets_of a' b'))
+      (numbers_count (pointer_bit a b) (pointer_bit a' b') 14 (word_bits 14))
+  words_targets (Some listed) = listed_less (words_on device a b) (words_on device a' b') words_more words_small listed
 
 -- ---- slots that are pushed and popped
 
 pub pushed_slot_less : (kind : Kind) (scratch : Bool) (v w : AbsByte) → IsLess kind v w → IsSlotLess kind (pushed_slot scratch v) (pushed_slot scratch w)
 pushed_slot_less kind true v w h = free_less kind
-pushed_slot_less kind false v w h = record { within = h.within; good = h.good }
+pushed_slot_less kind false v w h = record { within = h.within; good = (h.good, h.ranged) }
 
 module _ (kind : Kind) (offset : ℕ) (xs ys : List (Slot AbsByte)) (le : AreSlotsLess kind offset xs ys) where
   past : (us vs : List (Slot AbsByte)) (d : ℕ) → length us ≤ d → length vs ≤ d → IsSlotLess kind (slot_at us d) (slot_at vs d)
@@ -171,6 +194,22 @@ room_less kind offset xs ys le =
     subst₂ (AreSlotsLess kind (offset + 2)) (append_assoc xs (Free ∷ []) (Free ∷ [])) (append_assoc ys (Free ∷ []) (Free ∷ []))
     (subst (λ (n : ℕ). AreSlotsLess kind n ((xs ++ Free ∷ []) ++ Free ∷ []) ((ys ++ Free ∷ []) ++ Free ∷ [])) is twice)
 
+-- ---- branches on C
+
+-- what a test chose
+if_some : (b : Bool) (v x : AbsByte) → (if b then Some v else None) ≡ Some x → (b ≡ true) × (v ≡ x)
+if_some true v x e = (refl, cc)
+if_some false v x e = absurd (cc)
+
+-- one that goes to a word, below the first or the second of two
+first_less : (inst : InstKey) (o : Option AbsState) (k : NodeKey) (pc : ℕ) (q r : Raw) → LeadsLess inst (going_where k o pc) q → LeadsLess inst (going_where k o pc) (all_of (q ∷ r ∷ []))
+first_less inst None k pc q r h = above_first inst [] q (r ∷ []) h
+first_less inst (Some s) k pc q r h = above_first inst _ q (r ∷ []) h
+
+second_less : (inst : InstKey) (o : Option AbsState) (k : NodeKey) (pc : ℕ) (r q : Raw) → LeadsLess inst (going_where k o pc) q → LeadsLess inst (going_where k o pc) (all_of (r ∷ q ∷ []))
+second_less inst None k pc r q h = above_rest inst [] r (q ∷ []) (above_first inst [] q [] h)
+second_less inst (Some s) k pc r q h = above_rest inst _ r (q ∷ []) (above_first inst _ q [] h)
+
 -- ---- rows
 
 closed_less : (inst : InstKey) (sp : SpForm) (pc : ℕ) (f g : ℕ → Raw) → ((offset : ℕ) → sp ≡ Closed offset → LeadsLess inst (f offset) (g offset))
@@ -182,7 +221,7 @@ room_by : (inst : InstKey) (b : Bool) (n pc : ℕ) (p q : Raw) → (b ≡ true �
 room_by inst true n pc p q h = h refl
 room_by inst false n pc p q h = fails_less inst (fails (TooDeep pc n)) (TooDeep pc n)
 
-branch_nodes : (x : Tri) (k : NodeKey) (s : AbsState) (taken other : ℕ) → branch x k s taken other ≡ moves_to (map (λ a. record { key = at_word k a; state = s }) (choose x other taken))
+branch_nodes : (x : Tri) (k : NodeKey) (s : AbsState) (taken other : ℕ) → branch x k s taken other ≡ moves_to (map (λ a. record { key = off_table k a; state = s }) (choose x other taken))
 branch_nodes Zero k s taken other = refl
 branch_nodes One k s taken other = refl
 branch_nodes Any k s taken other = refl
@@ -203,28 +242,151 @@ returning_less inst x pc Root zero = fails_less inst (fails (UntrackedSp pc)) (U
 returning_less inst x pc Call zero = leaves_less inst x
 returning_less inst x pc (Vector v) zero = leaves_less inst x
 
-module _ (k : NodeKey) (at : IsKey k) (s t : AbsState) (le : IsStateLess k.inst.kind (offset_of k.sp) s t) where
+module _ (device : Device) (k : NodeKey) (at : IsKey k) (s t : AbsState) (le : IsStateLess k.inst.kind (offset_of k.sp) s t) where
   abbrev kind : Kind
   kind = k.inst.kind
 
   words_less : (xs ys : List ℕ) → ((z : ℕ) → Contains xs z → Contains ys z) → ((z : ℕ) → Contains ys z → z < WORDS)
-      → LeadsLess k.inst (moves_to (map (λ a. record { key = at_word k a; state = s }) xs)) (moves_to (map (λ a. record { key = at_word k a; state = t }) ys))
+      → LeadsLess k.inst (moves_to (map (λ a. record { key = off_table k a; state = s }) xs)) (moves_to (map (λ a. record { key = off_table k a; state = t }) ys))
   words_less xs ys more small =
-      several_less k.inst (offset_of k.sp) (at_word k) s t xs ys more (λ z i. record { key = word_key k z at (small z i); same = refl; at = refl }) le
+      several_less k.inst (offset_of k.sp) (off_table k) s t xs ys more (λ z i. record { key = off_table_key k z at (small z i); same = refl; at = refl }) le
 
   pub branch_less : (x y : Tri) (taken other : ℕ) → IsTriWithin x y → taken < WORDS → other < WORDS → LeadsLess k.inst (branch x k s taken other) (branch y k t taken other)
   branch_less x y taken other within a b =
       subst₂ (LeadsLess k.inst) (sym (branch_nodes x k s taken other)) (sym (branch_nodes y k t taken other))
       (words_less (choose x other taken) (choose y other taken) (λ z. choose_more x y other taken z within) (choose_each (λ (z : ℕ). z < WORDS) y other taken b a))
 
-  pub skipping_less : (words : List ℕ) (x y : Tri) → IsTriWithin x y → LeadsLess k.inst (skipping words k s x) (skipping words k t y)
+  -- ---- branches on C
+
+  -- what is cut of the lesser lies below what is cut of the greater, which is there
+  part_less : (c : Bool) (v w : AbsByte) (n : ℕ) → IsLess kind v w → IsReadLess kind (part_of c v n) (part_of c w n)
+  part_less true v w n h x e =
+      let was = if_some (nat_lt v.low n) _ x e in
+      let some : nat_lt w.low n ≡ true = grind (arith, nat_tests, was.0, h.within.low) in (
+        record w { high = min w.high (n - 1) },
+        (
+          ap (λ (b : Bool). if b then Some (record w { high = min w.high (n - 1) }) else None) some,
+          subst (λ (z : AbsByte). IsLess kind z (record w { high = min w.high (n - 1) })) was.1 (record {
+            within = record { tag = h.within.tag; bits = h.within.bits; low = h.within.low; high = omega (arith, h.within.high) };
+            good = h.good;
+            ranged = record { low = h.ranged.low; ordered = grind (arith, nat_tests, was.0, h.ranged.ordered); high = omega (arith, h.ranged.high) };
+          }),
+        ),
+      )
+  part_less false v w n h x e =
+      let was = if_some (nat_le n v.high) _ x e in
+      let some : nat_le n w.high ≡ true = grind (arith, nat_tests, was.0, h.within.high) in (
+        record w { low = max w.low n },
+        (
+          ap (λ (b : Bool). if b then Some (record w { low = max w.low n }) else None) some,
+          subst (λ (z : AbsByte). IsLess kind z (record w { low = max w.low n })) was.1 (record {
+            within = record { tag = h.within.tag; bits = h.within.bits; low = omega (arith, h.within.low); high = h.within.high };
+            good = h.good;
+            ranged = record { low = omega (arith, h.ranged.low); ordered = grind (arith, nat_tests, was.0, h.ranged.ordered); high = h.ranged.high };
+          }),
+        ),
+      )
+
+  -- and below the greater
+  part_under : (c : Bool) (v w : AbsByte) (n : ℕ) (x : AbsByte) → IsLess kind v w → part_of c v n ≡ Some x → IsLess kind x w
+  part_under true v w n x h e =
+      let was = if_some (nat_lt v.low n) _ x e in
+      subst (λ (z : AbsByte). IsLess kind z w) was.1 (record {
+        within = record { tag = h.within.tag; bits = h.within.bits; low = h.within.low; high = omega (arith, h.within.high) };
+        good = h.good;
+        ranged = record { low = h.ranged.low; ordered = grind (arith, nat_tests, was.0, h.ranged.ordered); high = omega (arith, h.ranged.high) };
+      })
+  part_under false v w n x h e =
+      let was = if_some (nat_le n v.high) _ x e in
+      subst (λ (z : AbsByte). IsLess kind z w) was.1 (record {
+        within = record { tag = h.within.tag; bits = h.within.bits; low = omega (arith, h.within.low); high = h.within.high };
+        good = h.good;
+        ranged = record { low = omega (arith, h.ranged.low); ordered = grind (arith, nat_tests, was.0, h.ranged.ordered); high = h.ranged.high };
+      })
+
+  -- the lesser state with one register cut
+  cut_state : (r : ℕ) (x w : AbsByte) → IsLess kind x w → IsStateLess kind (offset_of k.sp) (record s { registers = set s r x }) (record t { registers = set t r w })
+  cut_state r x w h = record { registers = registers_set kind s.registers t.registers le.registers r x w h; flags = le.flags; slots = le.slots }
+
+  set_itself : (xs : List AbsByte) (r : ℕ) → r < length xs → slice_set xs r (value_at xs r) ≡ xs
+  set_itself [] r lt = absurd (omega arith)
+  set_itself (x ∷ xs) zero lt = refl
+  set_itself (x ∷ xs) (suc r) lt = ap (λ (ys : List AbsByte). x ∷ ys) (set_itself xs r (omega arith))
+
+  -- the greater state isn't cut where its carry tag says nothing of a register
+  uncut : (c : CarryTag) → CarryNamesRegister c → (on : Bool) (pc : ℕ) → pc < WORDS → LeadsLess k.inst (going_where k (where_carry c s on) pc) (turning_to k t pc)
+  uncut carry.None names on pc lt = turning_less device k at s t le pc lt
+  uncut (carry.Borrow j l) names on pc lt = turning_less device k at s t le pc lt
+  uncut (carry.Less r n) names on pc lt = by (part_of on (value s r) n) refl
+    where
+      back : record t { registers = set t r (value t r) } ≡ t
+      back = ap (λ (xs : List AbsByte). record t { registers = xs }) (set_itself t.registers r (omega (arith, le.registers.others)))
+
+      by : (x : Option AbsByte) → part_of on (value s r) n ≡ x → LeadsLess k.inst (going_where k (with_value s r x) pc) (turning_to k t pc)
+      by None e = nowhere_less k.inst _
+      by (Some x) e =
+          turning_less device k at (record s { registers = set s r x }) t
+          (subst (IsStateLess kind (offset_of k.sp) (record s { registers = set s r x })) back
+          (cut_state r x (value t r) (part_under on (value s r) (value t r) n x (reg device k at s t le r) e))) pc lt
+
+  -- both are cut alike
+  both_cut : (r n : ℕ) (on : Bool) (pc : ℕ) → pc < WORDS
+      → LeadsLess k.inst (going_where k (where_carry (carry.Less r n) s on) pc) (going_where k (where_carry (carry.Less r n) t on) pc)
+  both_cut r n on pc lt = by (part_of on (value s r) n) (part_of on (value t r) n) (part_less on (value s r) (value t r) n (reg device k at s t le r))
+    where
+      by : (x y : Option AbsByte) → IsReadLess kind x y → LeadsLess k.inst (going_where k (with_value s r x) pc) (going_where k (with_value t r y) pc)
+      by None None h = nowhere_less k.inst []
+      by None (Some w) h = nowhere_less k.inst _
+      by (Some x) y h =
+          let above = h x refl in
+          subst (λ (z : Option AbsByte). LeadsLess k.inst (going_where k (with_value s r (Some x)) pc) (going_where k (with_value t r z) pc)) (sym above.1.0)
+          (turning_less device k at (record s { registers = set s r x }) (record t { registers = set t r above.0 }) (cut_state r x above.0 above.1.1) pc lt)
+
+  where_less : (c d : CarryTag) → CarryNamesRegister c → IsCarryWithin c d → (on : Bool) (pc : ℕ) → pc < WORDS
+      → LeadsLess k.inst (going_where k (where_carry c s on) pc) (going_where k (where_carry d t on) pc)
+  where_less c carry.None names under on pc lt = uncut c names on pc lt
+  where_less c (carry.Borrow j l) names under on pc lt = uncut c names on pc lt
+  where_less c (carry.Less r n) names under on pc lt =
+      subst (λ (x : CarryTag). LeadsLess k.inst (going_where k (where_carry x s on) pc) (going_where k (where_carry (carry.Less r n) t on) pc)) (sym under) (both_cut r n on pc lt)
+
+  carry_less : (x y : Tri) (set' clear : ℕ) → IsTriWithin x y → set' < WORDS → clear < WORDS → LeadsLess k.inst (carry_branch x k s set' clear) (carry_branch y k t set' clear)
+  carry_less x y set' clear within lt lt' =
+      let when_set = where_less s.flags.carry t.flags.carry le.flags.names le.flags.within.carry true set' lt in
+      let when_clear = where_less s.flags.carry t.flags.carry le.flags.names le.flags.within.carry false clear lt' in
+      by x y within when_set when_clear
+    where
+      by : (x y : Tri) → IsTriWithin x y
+          → LeadsLess k.inst (going_where k (where_carry s.flags.carry s true) set') (going_where k (where_carry t.flags.carry t true) set')
+          → LeadsLess k.inst (going_where k (where_carry s.flags.carry s false) clear) (going_where k (where_carry t.flags.carry t false) clear)
+          → LeadsLess k.inst (carry_branch x k s set' clear) (carry_branch y k t set' clear)
+      by Zero Zero within one none = none
+      by Zero One within one none = absurd (omega (arith, within 0 refl))
+      by Zero Any within one none =
+          first_less k.inst (where_carry s.flags.carry s false) k clear (going_where k (where_carry t.flags.carry t false) clear) (going_where k (where_carry t.flags.carry t true) set') none
+      by One Zero within one none = absurd (omega (arith, within 1 refl))
+      by One One within one none = one
+      by One Any within one none =
+          second_less k.inst (where_carry s.flags.carry s true) k set' (going_where k (where_carry t.flags.carry t false) clear) (going_where k (where_carry t.flags.carry t true) set') one
+      by Any Zero within one none = absurd (omega (arith, within 1 tt))
+      by Any One within one none = absurd (omega (arith, within 0 tt))
+      by Any Any within one none =
+          both_less k.inst (going_where k (where_carry s.flags.carry s false) clear) (going_where k (where_carry t.flags.carry t false) clear)
+          (going_where k (where_carry s.flags.carry s true) set' ∷ []) (going_where k (where_carry t.flags.carry t true) set' ∷ []) none
+          (both_less k.inst (going_where k (where_carry s.flags.carry s true) set') (going_where k (where_carry t.flags.carry t true) set') [] [] one (none_less k.inst))
+
+  pub flag_less : (n set' clear : ℕ) (p q : Raw) → set' < WORDS → clear < WORDS → LeadsLess k.inst p q
+      → LeadsLess k.inst (flag_branch n k s set' clear p) (flag_branch n k t set' clear q)
+  flag_less n set' clear p q lt lt' other =
+      if_leads k.inst (n == 0) _ _ _ _ (carry_less (carry_bit s) (carry_bit t) set' clear (any_bit_within s.flags.bits t.flags.bits 0 (flag_bits device k at s t le)) lt lt') other
+
+  pub skipping_less : (words : List ℕ) (x y : Tri) → IsTriWithin x y → LeadsLess k.inst (skipping device words k s x) (skipping device words k t y)
   skipping_less words x y within =
-      branch_less x y (further k (1 + length_of (word_at words (k.pc + 1)))) (further k 1) within (further_small k (1 + length_of (word_at words (k.pc + 1)))) (further_small k 1)
+      branch_less x y (further device k (1 + length_of (word_at words (k.pc + 1)))) (further device k 1) within (further_small device k (1 + length_of (word_at words (k.pc + 1)))) (further_small device k 1)
 
   pub flag_within : (n : ℕ) → IsTriWithin (flag_at k s n) (flag_at k t n)
   flag_within n =
       if_tri_within (n == 7) (if k.i then One else Zero) (if k.i then One else Zero) (tri_at s.flags.bits n) (tri_at t.flags.bits n)
-      (λ e m p. p) (λ e. any_bit_within s.flags.bits t.flags.bits n (flag_bits k at s t le))
+      (λ e m p. p) (λ e. any_bit_within s.flags.bits t.flags.bits n (flag_bits device k at s t le))
 
   jumping_by : (x y : Option (List ℕ)) → AreTargetsLess x y → LeadsLess k.inst (jumping x k s) (jumping y k t)
   jumping_by x None h = fails_less k.inst (jumping x k s) (UnresolvedJump k.pc)
@@ -232,66 +394,70 @@ module _ (k : NodeKey) (at : IsKey k) (s t : AbsState) (le : IsStateLess k.inst.
       let xs = h ys refl in
       subst (λ (z : Option (List ℕ)). LeadsLess k.inst (jumping z k s) (jumping (Some ys) k t)) (sym xs.1.0) (words_less xs.0 ys xs.1.1.0 xs.1.1.1)
 
-  indirect_by : (x y : Option (List ℕ)) → AreTargetsLess x y → LeadsLess k.inst (indirect_call x k) (indirect_call y k)
+  indirect_by : (x y : Option (List ℕ)) → AreTargetsLess x y → LeadsLess k.inst (indirect_call device x k) (indirect_call device y k)
   indirect_by x None h = indirect_none x (is_half_written k.sp)
     where
-      indirect_none : (x : Option (List ℕ)) (b : Bool) → LeadsLess k.inst (indirect_call x k) (untracked_if b k.pc (fails (UnresolvedJump k.pc)))
+      indirect_none : (x : Option (List ℕ)) (b : Bool) → LeadsLess k.inst (indirect_call device x k) (untracked_if b k.pc (fails (UnresolvedJump k.pc)))
       indirect_none x true = λ e. absurd (not_empty (UntrackedSp k.pc) (UnresolvedJump k.pc ∷ []) e)
-      indirect_none x false = fails_less k.inst (indirect_call x k) (UnresolvedJump k.pc)
+      indirect_none x false = fails_less k.inst (indirect_call device x k) (UnresolvedJump k.pc)
   indirect_by x (Some ys) h =
       let xs = h ys refl in
-      subst (λ (z : Option (List ℕ)). LeadsLess k.inst (indirect_call z k) (indirect_call (Some ys) k)) (sym xs.1.0) (sites_less k.inst k (further k 1) xs.0 ys xs.1.1.0)
+      subst (λ (z : Option (List ℕ)). LeadsLess k.inst (indirect_call device z k) (indirect_call device (Some ys) k)) (sym xs.1.0) (sites_less k.inst k (further device k 1) xs.0 ys xs.1.1.0)
 
-  targets : (A : List Entry) → AreTargetsLess (targets_at A k s) (targets_at A k t)
-  targets A = words_targets (bits s 30) (bits s 31) (bits t 30) (bits t 31) (reg_bits k at s t le 30) (reg_bits k at s t le 31) (jump_line A k.pc)
+  targets : (A : List Entry) → AreTargetsLess (targets_at device A k s) (targets_at device A k t)
+  targets A = words_targets device (bits s 30) (bits s 31) (bits t 30) (bits t 31) (reg_bits device k at s t le 30) (reg_bits device k at s t le 31) (jump_line A k.pc)
 
-  pub jump_less : (A : List Entry) → LeadsLess k.inst (jumping (targets_at A k s) k s) (jumping (targets_at A k t) k t)
-  jump_less A = jumping_by (targets_at A k s) (targets_at A k t) (targets A)
+  pub jump_less : (A : List Entry) → LeadsLess k.inst (jumping (targets_at device A k s) k s) (jumping (targets_at device A k t) k t)
+  jump_less A = jumping_by (targets_at device A k s) (targets_at device A k t) (targets A)
 
-  pub indirect_less : (A : List Entry) → LeadsLess k.inst (indirect_call (targets_at A k s) k) (indirect_call (targets_at A k t) k)
-  indirect_less A = indirect_by (targets_at A k s) (targets_at A k t) (targets A)
+  pub indirect_less : (A : List Entry) → LeadsLess k.inst (indirect_call device (targets_at device A k s) k) (indirect_call device (targets_at device A k t) k)
+  indirect_less A = indirect_by (targets_at device A k s) (targets_at device A k t) (targets A)
 
   slots_at : (offset : ℕ) → k.sp ≡ Closed offset → AreSlotsLess kind offset s.slots t.slots
   slots_at offset e = subst (λ (n : ℕ). AreSlotsLess kind n s.slots t.slots) (ap offset_of e) le.slots
 
-  pub push_less : (scratch : Bool) (r : ℕ) → LeadsLess k.inst (at_closed k.sp k.pc (pushing scratch k s r)) (at_closed k.sp k.pc (pushing scratch k t r))
+  -- what has room on the device has room at all
+  room_small : {n : ℕ} → nat_le n (size_of device) ≡ true → n ≤ SIZE
+  room_small {n = n} e = omega (arith, leb-true n (size_of device) e, devices_are_alike.most_bytes device)
+
+  pub push_less : (scratch : Bool) (r : ℕ) → LeadsLess k.inst (at_closed k.sp k.pc (pushing device scratch k s r)) (at_closed k.sp k.pc (pushing device scratch k t r))
   push_less scratch r =
-      closed_less k.inst k.sp k.pc (pushing scratch k s r) (pushing scratch k t r)
-      (λ offset e. room_by k.inst (nat_le (offset + 1) SIZE) (offset + 1) k.pc _ _ (λ small.
-      one_less (record (next k) { sp = Closed (offset + 1) }) (record s { slots = s.slots ++ pushed_slot scratch (value s r) ∷ [] }) (record t { slots = t.slots ++ pushed_slot scratch (value t r) ∷ [] })
-      (record { word = further_small k 1; small = grind (arith, nat_tests); masks = at.masks; fits = tt })
+      closed_less k.inst k.sp k.pc (pushing device scratch k s r) (pushing device scratch k t r)
+      (λ offset e. room_by k.inst (nat_le (offset + 1) (size_of device)) (offset + 1) k.pc _ _ (λ small.
+      one_less (record (next device k) { sp = Closed (offset + 1) }) (record s { slots = s.slots ++ pushed_slot scratch (value s r) ∷ [] }) (record t { slots = t.slots ++ pushed_slot scratch (value t r) ∷ [] })
+      (record { word = further_small device k 1; small = room_small small; masks = at.masks; fits = tt; pick = at.pick })
       (record {
         registers = le.registers;
         flags = le.flags;
-        slots = pushed_less kind offset s.slots t.slots (slots_at offset e) _ _ (pushed_slot_less kind scratch (value s r) (value t r) (reg k at s t le r));
+        slots = pushed_less kind offset s.slots t.slots (slots_at offset e) _ _ (pushed_slot_less kind scratch (value s r) (value t r) (reg device k at s t le r));
       })))
 
-  room_row : (target : ℕ) → target < WORDS → LeadsLess k.inst (at_closed k.sp k.pc (making_room k s target)) (at_closed k.sp k.pc (making_room k t target))
+  room_row : (target : ℕ) → target < WORDS → LeadsLess k.inst (at_closed k.sp k.pc (making_room device k s target)) (at_closed k.sp k.pc (making_room device k t target))
   room_row target lt =
-      closed_less k.inst k.sp k.pc (making_room k s target) (making_room k t target)
-      (λ offset e. room_by k.inst (nat_le (offset + 2) SIZE) (offset + 2) k.pc _ _ (λ small.
+      closed_less k.inst k.sp k.pc (making_room device k s target) (making_room device k t target)
+      (λ offset e. room_by k.inst (nat_le (offset + 2) (size_of device)) (offset + 2) k.pc _ _ (λ small.
       one_less (record (at_word k target) { sp = Closed (offset + 2) }) (record s { slots = s.slots ++ Free ∷ Free ∷ [] }) (record t { slots = t.slots ++ Free ∷ Free ∷ [] })
-      (record { word = lt; small = grind (arith, nat_tests); masks = at.masks; fits = tt })
+      (record { word = lt; small = room_small small; masks = at.masks; fits = tt; pick = at.pick })
       (record { registers = le.registers; flags = le.flags; slots = room_less kind offset s.slots t.slots (slots_at offset e) })))
 
-  pub relative_less : (scratch : Bool) (target : ℕ) → target < WORDS → LeadsLess k.inst (relative_call scratch k s target) (relative_call scratch k t target)
+  pub relative_less : (scratch : Bool) (target : ℕ) → target < WORDS → LeadsLess k.inst (relative_call device scratch k s target) (relative_call device scratch k t target)
   relative_less true target lt = room_row target lt
-  relative_less false target lt = calling_less k.inst k (further k 1) (target ∷ [])
+  relative_less false target lt = calling_less k.inst k (further device k 1) (target ∷ [])
 
-  pop_by : (d offset : ℕ) → k.sp ≡ Closed offset → LeadsLess k.inst (popping k s d offset) (popping k t d offset)
+  pop_by : (d offset : ℕ) → k.sp ≡ Closed offset → LeadsLess k.inst (popping device k s d offset) (popping device k t d offset)
   pop_by d zero e = fails_less k.inst (fails (UntrackedSp k.pc)) (UntrackedSp k.pc)
   pop_by d (suc n) e =
-      one_less (record (next k) { sp = Closed n })
+      one_less (record (next device k) { sp = Closed n })
       (record s { registers = set s d (value_of (slot_at s.slots n)); slots = take n s.slots }) (record t { registers = set t d (value_of (slot_at t.slots n)); slots = take n t.slots })
-      (record { word = further_small k 1; small = omega (arith, at.small, ap offset_of e); masks = at.masks; fits = tt })
+      (record { word = further_small device k 1; small = omega (arith, at.small, ap offset_of e); masks = at.masks; fits = tt; pick = at.pick })
       (record {
         registers = registers_set kind s.registers t.registers le.registers d _ _ (slot_value kind (slot_at s.slots n) (slot_at t.slots n) (le.slots.each n));
         flags = le.flags;
         slots = cut_less kind (suc n) s.slots t.slots (slots_at (suc n) e) n (omega arith);
       })
 
-  pub pop_less : (d : ℕ) → LeadsLess k.inst (at_closed k.sp k.pc (popping k s d)) (at_closed k.sp k.pc (popping k t d))
-  pop_less d = closed_less k.inst k.sp k.pc (popping k s d) (popping k t d) (pop_by d)
+  pub pop_less : (d : ℕ) → LeadsLess k.inst (at_closed k.sp k.pc (popping device k s d)) (at_closed k.sp k.pc (popping device k t d))
+  pop_less d = closed_less k.inst k.sp k.pc (popping device k s d) (popping device k t d) (pop_by d)
 
   pub return_less : (x : Exit) → LeadsLess k.inst (at_closed k.sp k.pc (returning x k.pc k.inst.kind)) (at_closed k.sp k.pc (returning x k.pc k.inst.kind))
   return_less x =

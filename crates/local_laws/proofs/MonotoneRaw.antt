@@ -1,6 +1,8 @@
 -- A lesser and a greater node: what the lesser leads to is a node, and below what the greater leads to.
-use Rattle.std.proofs.Common.{◌≡◌, refl, sym, subst, ℕ, ◌^◌, ◌<◌, ◌≤◌, ⊎_elim, Bool, true, false, cond, List, [], ◌∷◌, ◌++◌, map, filter, None, if◌then◌else◌, Contains, arith}
+use Rattle.std.proofs.Common.{◌≡◌, refl, sym, subst, ℕ, ◌^◌, ◌<◌, ◌≤◌, ⊎_elim, Bool, true, false, cond, List, [], ◌∷◌, ◌++◌, map, filter, None, if◌then◌else◌, Contains, arith, ◌+◌}
 use Rattle.std.proofs.lemmas.List.Elements.{Contains-append_left, Contains-append_right, Contains-append_cases}
+use Rattle.avr_model.proofs.AllLaws.{devices_are_alike}
+use Rattle.avr_model.specs.declared.device.Device.{Device}
 use Rattle.avr_model.specs.Image.{WORDS}
 use Rattle.avr_model.specs.State.{SIZE}
 use Rattle.bit_domain.specs.declared.bits.Tri.{Tri}
@@ -11,13 +13,13 @@ use Rattle.abs_state.specs.declared.values.AbsFlags.{AbsFlags}
 use Rattle.abs_state.specs.declared.state.AbsState.{AbsState}
 use Rattle.mask_states.specs.declared.keys.NodeKey.{NodeKey}
 use Rattle.mask_states.specs.declared.keys.InstKey.{InstKey}
-use Rattle.mask_states.specs.Keys.{offset_of}
+use Rattle.mask_states.specs.Keys.{offset_of, PickFits}
 use Rattle.local_rules.specs.declared.local.Node.{Node}
 use Rattle.local_rules.specs.declared.local.CallSite.{CallSite}
 use Rattle.local_rules.specs.declared.local.Exit.{Exit}
 use Rattle.local_rules.specs.declared.local.NodeFault.{NodeFault}
-use Rattle.local_rules.specs.declared.local.NodeFault.TheVariants.{UntrackedSp}
-use Rattle.local_rules.specs.Raw.{Raw, nowhere, moves_to, one, fails, enters, leaves_by, untracked_if, all_of, at_word, next, further, going_to, going_on, setting}
+use Rattle.local_rules.specs.declared.local.NodeFault.TheVariants.{UntrackedSp, TooDeep}
+use Rattle.local_rules.specs.Raw.{Raw, nowhere, moves_to, one, fails, enters, leaves_by, untracked_if, too_deep_if, all_of, at_word, off_table, next, further, going_to, turning_to, going_on, setting}
 use Rattle.local_rules.specs.Cover.{FormFits, IsNode}
 use Rattle.local_rules.specs.Order.{IsBelowOne}
 use Rattle.local_laws.proofs.Members.{none_in, here, there, each_of, in_map, each_in_map, not_empty, empty_both}
@@ -31,6 +33,7 @@ pub record IsKey (k : NodeKey) : Type 0 where
   pub small : offset_of k.sp ≤ SIZE
   pub masks : k.masks < 2 ^ 25
   pub fits : FormFits k
+  pub pick : PickFits k.pick
 
 -- the node is one that the analysis works with, in this instance, and one of these is above it
 pub record IsMet (inst : InstKey) (nodes : List Node) (to : Node) : Type 0 where
@@ -52,6 +55,10 @@ LeadsLess inst a b = b.faults ≡ [] → Leads inst a b
 
 pub fails_less : (inst : InstKey) (a : Raw) (f : NodeFault) → LeadsLess inst a (fails f)
 fails_less inst a f e = absurd (not_empty f [] e)
+
+pub too_deep_less : (inst : InstKey) (b : Bool) (pc offset : ℕ) (p q : Raw) → LeadsLess inst p q → LeadsLess inst (too_deep_if b pc offset p) (too_deep_if b pc offset q)
+too_deep_less inst true pc offset p q h e = absurd (not_empty (TooDeep pc offset) q.faults e)
+too_deep_less inst false pc offset p q h e = h e
 
 pub untracked_less : (inst : InstKey) (b : Bool) (pc : ℕ) (p q : Raw) → LeadsLess inst p q → LeadsLess inst (untracked_if b pc p) (untracked_if b pc q)
 untracked_less inst true pc p q h e = absurd (not_empty (UntrackedSp pc) q.faults e)
@@ -75,7 +82,7 @@ pub record IsPlace (inst : InstKey) (offset : ℕ) (k : NodeKey) : Type 0 where
 place_node : (inst : InstKey) (offset : ℕ) (k : NodeKey) (s t : AbsState) → IsPlace inst offset k → IsStateLess inst.kind offset s t → IsNode k s
 place_node inst offset k s t at le =
     let same : IsStateLess k.inst.kind offset s t = subst (λ (i : InstKey). IsStateLess i.kind offset s t) (sym at.same) le in
-    less_node k s t at.key.word at.key.small at.key.masks at.key.fits (subst (λ (n : ℕ). IsStateLess k.inst.kind n s t) (sym at.at) same)
+    less_node k s t at.key.word at.key.small at.key.masks at.key.fits at.key.pick (subst (λ (n : ℕ). IsStateLess k.inst.kind n s t) (sym at.at) same)
 
 pub several_less : {A : Type 0} (inst : InstKey) (offset : ℕ) (f : A → NodeKey) (s t : AbsState) (xs ys : List A)
     → ((x : A) → Contains xs x → Contains ys x) → ((x : A) → Contains ys x → IsPlace inst offset (f x)) → IsStateLess inst.kind offset s t
@@ -154,14 +161,26 @@ met_right inst xs ys to h =
       below = record { state = h.below.state; present = Contains-append_right xs ys (record { key = to.key; state = h.below.state }) h.below.present; above = h.below.above };
     }
 
-none_less : (inst : InstKey) → LeadsLess inst (all_of []) (all_of [])
+pub above_first : (inst : InstKey) (nodes : List Node) (q : Raw) (qs : List Raw) → LeadsLess inst (moves_to nodes) q → LeadsLess inst (moves_to nodes) (all_of (q ∷ qs))
+above_first inst nodes q qs h e =
+    let none = empty_both q.faults (all_of qs).faults e in
+    let a = h none.0 in
+    record { faultless = refl; moves = λ to i. met_left inst q.moves (all_of qs).moves to (a.moves to i); calls = λ site i. i; exit = refl }
+
+pub above_rest : (inst : InstKey) (nodes : List Node) (q : Raw) (qs : List Raw) → LeadsLess inst (moves_to nodes) (all_of qs) → LeadsLess inst (moves_to nodes) (all_of (q ∷ qs))
+above_rest inst nodes q qs h e =
+    let none = empty_both q.faults (all_of qs).faults e in
+    let a = h none.1 in
+    record { faultless = refl; moves = λ to i. met_right inst q.moves (all_of qs).moves to (a.moves to i); calls = λ site i. i; exit = refl }
+
+pub none_less : (inst : InstKey) → LeadsLess inst (all_of []) (all_of [])
 none_less inst = nowhere_less inst []
 
-no_calls : (rs : List Raw) → (all_of rs).calls ≡ []
+pub no_calls : (rs : List Raw) → (all_of rs).calls ≡ []
 no_calls [] = refl
 no_calls (r ∷ rs) = refl
 
-no_exit : (rs : List Raw) → (all_of rs).exit ≡ None
+pub no_exit : (rs : List Raw) → (all_of rs).exit ≡ None
 no_exit [] = refl
 no_exit (r ∷ rs) = refl
 
@@ -194,39 +213,47 @@ more_less inst q ps qs rest e =
 
 -- those of the members that pass a test, where the greater's test passes more
 pub filtered_less : {A : Type 0} (inst : InstKey) (f g : A → Raw) (p q : A → Bool) (xs : List A)
-    → ((x : A) → LeadsLess inst (f x) (g x)) → ((x : A) → p x ≡ true → q x ≡ true)
+    → ((x : A) → Contains xs x → LeadsLess inst (f x) (g x)) → ((x : A) → Contains xs x → p x ≡ true → q x ≡ true)
     → LeadsLess inst (all_of (map f (filter p xs))) (all_of (map g (filter q xs)))
 filtered_less inst f g p q [] each more = none_less inst
-filtered_less {A = A} inst f g p q (x ∷ xs) each more = by (filtered_less inst f g p q xs each more) (p x) (q x) (more x)
+filtered_less {A = A} inst f g p q (x ∷ xs) each more =
+    by (filtered_less inst f g p q xs (λ y i. each y (there x y xs i)) (λ y i. more y (there x y xs i))) (p x) (q x) (more x (here x xs))
   where
     by : LeadsLess inst (all_of (map f (filter p xs))) (all_of (map g (filter q xs))) → (a b : Bool) → (a ≡ true → b ≡ true)
         → LeadsLess inst (all_of (map f (cond a (x ∷ filter p xs) (filter p xs)))) (all_of (map g (cond b (x ∷ filter q xs) (filter q xs))))
-    by rest true true k = both_less inst (f x) (g x) (map f (filter p xs)) (map g (filter q xs)) (each x) rest
+    by rest true true k = both_less inst (f x) (g x) (map f (filter p xs)) (map g (filter q xs)) (each x (here x xs)) rest
     by rest true false k = let e : false ≡ true = k refl in absurd (cc)
     by rest false true k = more_less inst (g x) (map f (filter p xs)) (map g (filter q xs)) rest
     by rest false false k = rest
 
 -- ---- going on
 
-pub further_small : (k : NodeKey) (n : ℕ) → further k n < WORDS
-further_small k n = omega arith
+pub further_small : (device : Device) (k : NodeKey) (n : ℕ) → further device k n < WORDS
+further_small device k n = devices_are_alike.most device (k.pc + n)
 
 -- at another word
 pub word_key : (k : NodeKey) (pc : ℕ) → IsKey k → pc < WORDS → IsKey (at_word k pc)
-word_key k pc at lt = record { word = lt; small = at.small; masks = at.masks; fits = at.fits }
+word_key k pc at lt = record { word = lt; small = at.small; masks = at.masks; fits = at.fits; pick = at.pick }
 
-pub next_key : (k : NodeKey) → IsKey k → IsKey (next k)
-next_key k at = word_key k (further k 1) at (further_small k 1)
+-- off a jump table
+pub off_table_key : (k : NodeKey) (pc : ℕ) → IsKey k → pc < WORDS → IsKey (off_table k pc)
+off_table_key k pc at lt = record { word = lt; small = at.small; masks = at.masks; fits = at.fits; pick = tt }
 
-module _ (k : NodeKey) (at : IsKey k) (s t : AbsState) (le : IsStateLess k.inst.kind (offset_of k.sp) s t) where
+pub next_key : (device : Device) (k : NodeKey) → IsKey k → IsKey (next device k)
+next_key device k at = word_key k (further device k 1) at (further_small device k 1)
+
+module _ (device : Device) (k : NodeKey) (at : IsKey k) (s t : AbsState) (le : IsStateLess k.inst.kind (offset_of k.sp) s t) where
   pub going_less : (pc : ℕ) → pc < WORDS → LeadsLess k.inst (going_to k s pc) (going_to k t pc)
   going_less pc lt = one_less (at_word k pc) s t (word_key k pc at lt) le
 
-  pub on_less : LeadsLess k.inst (going_on k s) (going_on k t)
-  on_less = going_less (further k 1) (further_small k 1)
+  pub turning_less : (pc : ℕ) → pc < WORDS → LeadsLess k.inst (turning_to k s pc) (turning_to k t pc)
+  turning_less pc lt = one_less (off_table k pc) s t (off_table_key k pc at lt) le
+
+  pub on_less : LeadsLess k.inst (going_on device k s) (going_on device k t)
+  on_less = going_less (further device k 1) (further_small device k 1)
 
   pub setting_less : (vs ws : List AbsByte) (f g : AbsFlags) → AreRegistersLess k.inst.kind vs ws → AreFlagsLess k.inst.kind f g
-      → LeadsLess k.inst (setting k s vs f) (setting k t ws g)
+      → LeadsLess k.inst (setting device k s vs f) (setting device k t ws g)
   setting_less vs ws f g values flags =
-      one_less (next k) (record s { registers = vs; flags = f }) (record t { registers = ws; flags = g }) (next_key k at)
+      one_less (next device k) (record s { registers = vs; flags = f }) (record t { registers = ws; flags = g }) (next_key device k at)
       (record { registers = values; flags = flags; slots = le.slots })

@@ -1,5 +1,9 @@
 -- The table of instructions, row by row: a greater state leads to more.
-use Rattle.std.proofs.Common.{◌≡◌, refl, ℕ, ◌+◌, ◌*◌, ◌<◌, Bool, true, false, List, [], ◌∷◌, Option, Some, None, if◌then◌else◌, arith}
+use Rattle.std.proofs.Common.{◌≡◌, refl, ℕ, ◌+◌, ◌*◌, ◌<◌, ◌≤◌, ◌==◌, Bool, true, false, List, [], ◌∷◌, length, map, Option, Some, None, if◌then◌else◌, Contains, arith, nat_lt, nat_le}
+use Rattle.std.proofs.lemmas.Bool.Decides.{nat_tests}
+use Rattle.avr_model.proofs.AllLaws.{devices_are_alike}
+use Rattle.avr_model.specs.Devices.{size_of, wrapped, device_of}
+use Rattle.avr_model.specs.declared.device.Device.{Device}
 use Rattle.avr_model.specs.declared.assumption.Entry.{Entry}
 use Rattle.avr_model.specs.declared.instruction.Instr.{Instr}
 use Rattle.avr_model.specs.declared.instruction.Instr.TheVariants as i
@@ -9,186 +13,229 @@ use Rattle.avr_model.specs.declared.instruction.Pointer.{Pointer}
 use Rattle.avr_model.specs.declared.instruction.Pointer.TheVariants as pointer
 use Rattle.avr_model.specs.declared.operation.Logic.TheVariants as logic
 use Rattle.avr_model.specs.declared.operation.Mul.TheVariants as product
-use Rattle.avr_model.specs.Image.{WORDS}
 use Rattle.avr_model.specs.Text.{far, near}
-use Rattle.avr_model.specs.Sites.{instruction_at, is_scratch, base_register, pointer_register}
+use Rattle.avr_model.specs.Sites.{is_scratch, base_register, pointer_register}
 use Rattle.avr_model.specs.Effects.{port}
+use Rattle.avr_model.specs.Written.{written}
 use Rattle.bit_domain.specs.declared.bits.Tri.TheVariants.{Zero, One}
 use Rattle.bit_domain.specs.Tri.{IsTriWithin, tri_not}
-use Rattle.bit_domain.specs.TriByte.{tri_at, byte_constant}
+use Rattle.bit_domain.specs.TriByte.{tri_at, has, byte_constant}
 use Rattle.bit_domain.specs.Logic.{byte_equal}
-use Rattle.bit_domain.proofs.AllLaws.{bits_cover, writes_cover, logic_is_monotone}
-use Rattle.sp_domain.specs.declared.tags.Tag.TheVariants as tag
+use Rattle.bit_domain.proofs.AllLaws.{bits_cover, writes_cover, logic_is_monotone, tests_tell_members}
+use Rattle.abs_state.specs.declared.values.AbsByte.{AbsByte}
 use Rattle.abs_state.specs.declared.state.AbsState.{AbsState}
+use Rattle.abs_state.specs.Order.{IsByteWithin}
 use Rattle.mask_states.specs.declared.keys.NodeKey.{NodeKey}
 use Rattle.mask_states.specs.declared.keys.Kind.{Kind}
 use Rattle.mask_states.specs.Keys.{offset_of}
-use Rattle.local_rules.specs.declared.local.NodeFault.TheVariants.{Unsupported}
-use Rattle.local_rules.specs.Raw.{fails, at_word, next, further}
-use Rattle.local_rules.specs.Registers.{value, bits, carry_bit, set, or_nothing, kept_tag, pair_moved}
+use Rattle.local_rules.specs.declared.local.NodeFault.TheVariants.{UnresolvedJump, Unsupported}
+use Rattle.local_rules.specs.Raw.{Raw, fails, all_of, at_word, next, further}
+use Rattle.local_rules.specs.Registers.{value, bits, carry_bit, set, less_than, less_kept, or_nothing, forgetting, pair_moved}
 use Rattle.local_rules.specs.Reads.{read_at, pointed, pair_constant}
 use Rattle.local_rules.specs.Flow.{flag_at, ret_exit, reti_exit}
-use Rattle.local_rules.specs.Local.{binary_row, step_before, pointer_moved, bit_row, row_of, row_at, is_hung, raw}
-use Rattle.local_laws.proofs.MonotoneValues.{AreRegistersLess, IsStateLess, any_bit_within, constant_is, constant_tells, none_of, untagged_less, registers_set}
-use Rattle.local_laws.proofs.MonotoneRaw.{IsKey, LeadsLess, fails_less, untracked_less, further_small, word_key, next_key, going_less, on_less, setting_less}
-use Rattle.local_laws.proofs.MonotoneAlu.{with_7, pair_set, reg, reg_bits, flag_bits, kept_flags, setting_flags, setting_register, sum_less, compare_less, sub_less, sbc_less, or_nothing_within, logic_less, kept_tag_of, kept_tag_within, product_less, pair_less, wide_less, flag_less, immediate_less, unary_less}
+use Rattle.local_rules.specs.Local.{binary_row, step_before, pointer_moved, bit_row, row_of, row_at, row_in, is_hung, fetched, may_be, below, picks, picking, picked, split_site, splitting, raw}
+use Rattle.local_laws.proofs.MonotoneValues.{AreRegistersLess, IsStateLess, any_bit_within, constant_is, constant_tells, untagged_less, registers_set, forgetting_both}
+use Rattle.local_laws.proofs.MonotoneRaw.{IsKey, LeadsLess, fails_less, untracked_less, too_deep_less, filtered_less, further_small, word_key, next_key, going_less, on_less, setting_less}
+use Rattle.local_laws.proofs.MonotoneAlu.{with_7, pair_set, reg, reg_bits, flag_bits, kept_flags, setting_flags, setting_register, sum_less, compare_less, sub_less, sbc_less, or_nothing_within, logic_less, than_of, than_within, kept_of, kept_within, product_less, pair_less, wide_less, flag_less as one_flag_less, immediate_less, unary_less}
 use Rattle.local_laws.proofs.MonotoneReads.{flash_less, read_less, constants, pointed_constants, pointer_read, loading_less}
 use Rattle.local_laws.proofs.MonotoneWrites.{write_less, pointer_less}
-use Rattle.local_laws.proofs.MonotoneFlow.{calling_less, branch_less, skipping_less, flag_within, jump_less, indirect_less, push_less, relative_less, pop_less, return_less}
-use Rattle.local_laws.proofs.MonotoneFields.{InstrFits, instruction_fits}
+use Rattle.local_laws.proofs.MonotoneFlow.{calling_less, branch_less, flag_less, skipping_less, flag_within, jump_less, indirect_less, push_less, relative_less, pop_less, return_less}
+use Rattle.local_laws.proofs.Members.{fewer}
+use Rattle.local_laws.proofs.Picks.{below_small, picked_less, may_by}
+use Rattle.local_laws.proofs.MonotoneFields.{InstrFits, fetched_fits}
 
-far_small : (pc t : ℕ) → far pc t < WORDS
-far_small pc t = omega arith
-
-near_small : (pc t : ℕ) → near pc t < WORDS
-near_small pc t = omega arith
-
-module _ (words : List ℕ) (A : List Entry) (k : NodeKey) (at : IsKey k) (s t : AbsState) (le : IsStateLess k.inst.kind (offset_of k.sp) s t) where
+module _ (device : Device) (words : List ℕ) (A : List Entry) (k : NodeKey) (at : IsKey k) (s t : AbsState) (le : IsStateLess k.inst.kind (offset_of k.sp) s t) where
   abbrev kind : Kind
   kind = k.inst.kind
 
   carry_in : IsTriWithin (carry_bit s) (carry_bit t)
-  carry_in = any_bit_within s.flags.bits t.flags.bits 0 (flag_bits k at s t le)
+  carry_in = any_bit_within s.flags.bits t.flags.bits 0 (flag_bits device k at s t le)
 
   register_bit : (r b : ℕ) → IsTriWithin (tri_at (bits s r) b) (tri_at (bits t r) b)
-  register_bit r b = any_bit_within (bits s r) (bits t r) b (reg_bits k at s t le r)
+  register_bit r b = any_bit_within (bits s r) (bits t r) b (reg_bits device k at s t le r)
 
-  binary_less : (op : BinaryOp) (d r : ℕ) → LeadsLess k.inst (binary_row words k s op d r) (binary_row words k t op d r)
-  binary_less binary.Cpc d r =
-      compare_less k at s t le (bits s d) (bits t d) (bits s r) (bits t r) (carry_bit s) (carry_bit t) true (reg_bits k at s t le d) (reg_bits k at s t le r) carry_in
-  binary_less binary.Sbc d r =
-      sbc_less k at s t le d (bits s r) (bits t r) (byte_constant (bits s r)) (byte_constant (bits t r)) (reg_bits k at s t le r)
-      (constant_tells (bits s r) (bits t r) (reg_bits k at s t le r))
-  binary_less binary.Add d r = sum_less k at s t le d (bits s r) (bits t r) Zero Zero (reg_bits k at s t le r) (λ n p. p)
-  binary_less binary.Cpse d r =
-      skipping_less k at s t le words (byte_equal (bits s d) (bits s r)) (byte_equal (bits t d) (bits t r))
-      (logic_is_monotone.tests (bits s d) (bits s r) (bits t d) (bits t r) (reg_bits k at s t le d) (reg_bits k at s t le r))
-  binary_less binary.Cp d r =
-      compare_less k at s t le (bits s d) (bits t d) (bits s r) (bits t r) Zero Zero false (reg_bits k at s t le d) (reg_bits k at s t le r) (λ n p. p)
-  binary_less binary.Sub d r =
-      sub_less k at s t le d (or_nothing d r (bits s d)) (or_nothing d r (bits t d)) (or_nothing d r (bits s r)) (or_nothing d r (bits t r))
+  binary_less : (op : BinaryOp) (d r : ℕ) → d < 32 → LeadsLess k.inst (binary_row device words k s op d r) (binary_row device words k t op d r)
+  binary_less binary.Cpc d r low =
+      compare_less device k at s t le (bits s d) (bits t d) (bits s r) (bits t r) (carry_bit s) (carry_bit t) true
+      (less_kept (byte_constant (bits s d)) (byte_constant (bits s r)) s.flags.carry) (less_kept (byte_constant (bits t d)) (byte_constant (bits t r)) t.flags.carry)
+      (reg_bits device k at s t le d) (reg_bits device k at s t le r) carry_in (kept_of (byte_constant (bits s d)) (byte_constant (bits s r)) s.flags.carry le.flags.bytes le.flags.names)
+      (kept_within (byte_constant (bits s d)) (byte_constant (bits s r)) (byte_constant (bits t d)) (byte_constant (bits t r)) s.flags.carry t.flags.carry
+      (constant_tells (bits s d) (bits t d) (reg_bits device k at s t le d)) (constant_tells (bits s r) (bits t r) (reg_bits device k at s t le r)) le.flags.within.carry)
+  binary_less binary.Sbc d r low =
+      sbc_less device k at s t le d (bits s r) (bits t r) (byte_constant (bits s r)) (byte_constant (bits t r)) (reg_bits device k at s t le r)
+      (constant_tells (bits s r) (bits t r) (reg_bits device k at s t le r))
+  binary_less binary.Add d r low = sum_less device k at s t le d (bits s r) (bits t r) Zero Zero (reg_bits device k at s t le r) (λ n p. p)
+  binary_less binary.Cpse d r low =
+      skipping_less device k at s t le words (byte_equal (bits s d) (bits s r)) (byte_equal (bits t d) (bits t r))
+      (logic_is_monotone.tests (bits s d) (bits s r) (bits t d) (bits t r) (reg_bits device k at s t le d) (reg_bits device k at s t le r))
+  binary_less binary.Cp d r low =
+      compare_less device k at s t le (bits s d) (bits t d) (bits s r) (bits t r) Zero Zero false (less_than d (byte_constant (bits s r))) (less_than d (byte_constant (bits t r)))
+      (reg_bits device k at s t le d) (reg_bits device k at s t le r) (λ n p. p) (than_of d (byte_constant (bits s r)) low (λ n e. (constant_is (bits s r) n e).1))
+      (than_within d (byte_constant (bits s r)) (byte_constant (bits t r)) (constant_tells (bits s r) (bits t r) (reg_bits device k at s t le r)))
+  binary_less binary.Sub d r low =
+      sub_less device k at s t le d (or_nothing d r (bits s d)) (or_nothing d r (bits t d)) (or_nothing d r (bits s r)) (or_nothing d r (bits t r))
       (byte_constant (bits s r)) (byte_constant (bits t r))
-      (or_nothing_within k at s t le d r (bits s d) (bits t d) (reg_bits k at s t le d)) (or_nothing_within k at s t le d r (bits s r) (bits t r) (reg_bits k at s t le r))
-      (constant_tells (bits s r) (bits t r) (reg_bits k at s t le r)) (λ n e. (constant_is (bits s r) n e).1)
-  binary_less binary.Adc d r = sum_less k at s t le d (bits s r) (bits t r) (carry_bit s) (carry_bit t) (reg_bits k at s t le r) carry_in
-  binary_less binary.And d r =
-      logic_less k at s t le logic.And d (bits s d) (bits t d) (bits s r) (bits t r) (kept_tag s d r) (kept_tag t d r) (reg_bits k at s t le d) (reg_bits k at s t le r)
-      (kept_tag_of k at s t le d r) (kept_tag_within k at s t le d r)
-  binary_less binary.Eor d r =
-      logic_less k at s t le logic.Eor d (or_nothing d r (bits s d)) (or_nothing d r (bits t d)) (or_nothing d r (bits s r)) (or_nothing d r (bits t r)) tag.None tag.None
-      (or_nothing_within k at s t le d r (bits s d) (bits t d) (reg_bits k at s t le d)) (or_nothing_within k at s t le d r (bits s r) (bits t r) (reg_bits k at s t le r))
-      (none_of kind) tt
-  binary_less binary.Or d r =
-      logic_less k at s t le logic.Or d (bits s d) (bits t d) (bits s r) (bits t r) (kept_tag s d r) (kept_tag t d r) (reg_bits k at s t le d) (reg_bits k at s t le r)
-      (kept_tag_of k at s t le d r) (kept_tag_within k at s t le d r)
-  binary_less binary.Mov d r = setting_register k at s t le d (value s r) (value t r) (reg k at s t le r)
-  binary_less binary.Mul d r = product_less k at s t le product.Mul d r
+      (or_nothing_within device k at s t le d r (bits s d) (bits t d) (reg_bits device k at s t le d)) (or_nothing_within device k at s t le d r (bits s r) (bits t r) (reg_bits device k at s t le r))
+      (constant_tells (bits s r) (bits t r) (reg_bits device k at s t le r)) (λ n e. (constant_is (bits s r) n e).1)
+  binary_less binary.Adc d r low = sum_less device k at s t le d (bits s r) (bits t r) (carry_bit s) (carry_bit t) (reg_bits device k at s t le r) carry_in
+  binary_less binary.And d r low =
+      logic_less device k at s t le logic.And d (bits s d) (bits t d) (bits s r) (bits t r) (d == r) (reg_bits device k at s t le d) (reg_bits device k at s t le r)
+  binary_less binary.Eor d r low =
+      logic_less device k at s t le logic.Eor d (or_nothing d r (bits s d)) (or_nothing d r (bits t d)) (or_nothing d r (bits s r)) (or_nothing d r (bits t r)) false
+      (or_nothing_within device k at s t le d r (bits s d) (bits t d) (reg_bits device k at s t le d)) (or_nothing_within device k at s t le d r (bits s r) (bits t r) (reg_bits device k at s t le r))
+  binary_less binary.Or d r low =
+      logic_less device k at s t le logic.Or d (bits s d) (bits t d) (bits s r) (bits t r) (d == r) (reg_bits device k at s t le d) (reg_bits device k at s t le r)
+  binary_less binary.Mov d r low = setting_register device k at s t le d (value s r) (value t r) (reg device k at s t le r)
+  binary_less binary.Mul d r low = product_less device k at s t le product.Mul d r
 
   -- ---- loads and stores
 
   moved_less : (p : Pointer) → AreRegistersLess kind (pointer_moved p s) (pointer_moved p t)
-  moved_less pointer.ZPlus = pair_less k at s t le 30 true 1
-  moved_less pointer.MinusZ = pair_less k at s t le 30 false 1
-  moved_less pointer.YPlus = pair_less k at s t le 28 true 1
-  moved_less pointer.MinusY = pair_less k at s t le 28 false 1
+  moved_less pointer.ZPlus = pair_less device k at s t le 30 true 1
+  moved_less pointer.MinusZ = pair_less device k at s t le 30 false 1
+  moved_less pointer.YPlus = pair_less device k at s t le 28 true 1
+  moved_less pointer.MinusY = pair_less device k at s t le 28 false 1
   moved_less pointer.X = le.registers
-  moved_less pointer.XPlus = pair_less k at s t le 26 true 1
-  moved_less pointer.MinusX = pair_less k at s t le 26 false 1
+  moved_less pointer.XPlus = pair_less device k at s t le 26 true 1
+  moved_less pointer.MinusX = pair_less device k at s t le 26 false 1
 
-  bit_less : (a b : ℕ) (on : Bool) → LeadsLess k.inst (bit_row k s a b on) (bit_row k t a b on)
+  bit_less : (a b : ℕ) (on : Bool) → LeadsLess k.inst (bit_row device k s a b on) (bit_row device k t a b on)
   bit_less a b on =
-      write_less (next k) (next_key k at) s t le k.pc false a _ _
-      (untagged_less kind _ _ (writes_cover.more (read_at k s a).bits (read_at k t a).bits b (if on then One else Zero) (if on then One else Zero)
-      (read_less k at s t le a).within.bits (λ n p. p)))
+      write_less device (next device k) (next_key device k at) s t le k.pc false a _ _
+      (untagged_less kind _ _ (writes_cover.more (read_at device k s a).bits (read_at device k t a).bits b (if on then One else Zero) (if on then One else Zero)
+      (read_less device k at s t le a).within.bits (λ n p. p)))
 
-  port_bit : (a b : ℕ) → IsTriWithin (tri_at (read_at k s a).bits b) (tri_at (read_at k t a).bits b)
-  port_bit a b = any_bit_within (read_at k s a).bits (read_at k t a).bits b (read_less k at s t le a).within.bits
+  port_bit : (a b : ℕ) → IsTriWithin (tri_at (read_at device k s a).bits b) (tri_at (read_at device k t a).bits b)
+  port_bit a b = any_bit_within (read_at device k s a).bits (read_at device k t a).bits b (read_less device k at s t le a).within.bits
 
   -- ---- the whole table
 
-  row_less : (scratch : Bool) (instr : Instr) → InstrFits instr → LeadsLess k.inst (row_of words A scratch k s instr) (row_of words A scratch k t instr)
+  row_less : (scratch : Bool) (instr : Instr) → InstrFits instr → LeadsLess k.inst (row_of device words A scratch k s instr) (row_of device words A scratch k t instr)
   row_less scratch (i.Movw d r) fits =
-      setting_less k at s t le _ _ s.flags t.flags
-      (pair_set kind s.registers t.registers (2 * d) _ _ _ _ le.registers (reg k at s t le (2 * r)) (reg k at s t le (2 * r + 1))) le.flags
-  row_less scratch (i.Muls d r) fits = product_less k at s t le product.Muls d r
-  row_less scratch (i.Mulsu d r) fits = product_less k at s t le product.Mulsu d r
-  row_less scratch (i.Fmul d r) fits = product_less k at s t le product.Fmul d r
-  row_less scratch (i.Fmuls d r) fits = product_less k at s t le product.Fmuls d r
-  row_less scratch (i.Fmulsu d r) fits = product_less k at s t le product.Fmulsu d r
-  row_less scratch (i.Binary op d r) fits = binary_less op d r
-  row_less scratch (i.Immediate op d n) fits = immediate_less k at s t le op d n fits
-  row_less scratch (i.Unary op d) fits = unary_less k at s t le op d
-  row_less scratch (i.Adiw d n) fits = wide_less k at s t le true (2 * d) n
-  row_less scratch (i.Sbiw d n) fits = wide_less k at s t le false (2 * d) n
-  row_less scratch (i.Bset n) fits = flag_less k at s t le n true
-  row_less scratch (i.Bclr n) fits = flag_less k at s t le n false
+      setting_less device k at s t le _ _ s.flags t.flags
+      (pair_set kind s.registers t.registers (2 * d) _ _ _ _ le.registers (reg device k at s t le (2 * r)) (reg device k at s t le (2 * r + 1))) le.flags
+  row_less scratch (i.Muls d r) fits = product_less device k at s t le product.Muls d r
+  row_less scratch (i.Mulsu d r) fits = product_less device k at s t le product.Mulsu d r
+  row_less scratch (i.Fmul d r) fits = product_less device k at s t le product.Fmul d r
+  row_less scratch (i.Fmuls d r) fits = product_less device k at s t le product.Fmuls d r
+  row_less scratch (i.Fmulsu d r) fits = product_less device k at s t le product.Fmulsu d r
+  row_less scratch (i.Binary op d r) fits = binary_less op d r fits
+  row_less scratch (i.Immediate op d n) fits = immediate_less device k at s t le op d n fits.0 fits.1
+  row_less scratch (i.Unary op d) fits = unary_less device k at s t le op d
+  row_less scratch (i.Adiw d n) fits = wide_less device k at s t le true (2 * d) n
+  row_less scratch (i.Sbiw d n) fits = wide_less device k at s t le false (2 * d) n
+  row_less scratch (i.Bset n) fits = one_flag_less device k at s t le n true
+  row_less scratch (i.Bclr n) fits = one_flag_less device k at s t le n false
   row_less scratch (i.Bld d b) fits =
-      setting_register k at s t le d _ _
-      (untagged_less kind _ _ (writes_cover.more (bits s d) (bits t d) b (tri_at s.flags.bits 6) (tri_at t.flags.bits 6) (reg_bits k at s t le d)
-      (any_bit_within s.flags.bits t.flags.bits 6 (flag_bits k at s t le))))
+      setting_register device k at s t le d _ _
+      (untagged_less kind _ _ (writes_cover.more (bits s d) (bits t d) b (tri_at s.flags.bits 6) (tri_at t.flags.bits 6) (reg_bits device k at s t le d)
+      (any_bit_within s.flags.bits t.flags.bits 6 (flag_bits device k at s t le))))
   row_less scratch (i.Bst d b) fits =
-      setting_flags k at s t le _ _
-      (kept_flags k at s t le _ _
-      (writes_cover.more s.flags.bits t.flags.bits 6 (tri_at (bits s d) b) (tri_at (bits t d) b) (flag_bits k at s t le) (register_bit d b))
+      setting_flags device k at s t le _ _
+      (kept_flags device k at s t le _ _
+      (writes_cover.more s.flags.bits t.flags.bits 6 (tri_at (bits s d) b) (tri_at (bits t d) b) (flag_bits device k at s t le) (register_bit d b))
       (with_7 s.flags.bits 6 (tri_at (bits s d) b) (omega arith) le.flags.bit_7))
-  row_less scratch (i.Ldd d b q) fits = loading_less k at s t le s.registers t.registers d _ _ le.registers (pointer_read k at s t le (base_register b) q)
+  row_less scratch (i.Ldd d b q) fits = loading_less device k at s t le s.registers t.registers d _ _ le.registers (pointer_read device k at s t le (base_register b) q)
   row_less scratch (i.Std b q r) fits =
-      pointer_less (next k) (next_key k at) s t le k.pc (value s r) (value t r) (reg k at s t le r) words A s t (base_register b) q
-      (pointed s (base_register b) q) (pointed t (base_register b) q) (pointed_constants k at s t le (base_register b) q)
-      (reg_bits k at s t le (base_register b)) (reg_bits k at s t le (base_register b + 1))
+      pointer_less device (next device k) (next_key device k at) s t le k.pc (value s r) (value t r) (reg device k at s t le r) words A s t (base_register b) q
+      (pointed s (base_register b) q) (pointed t (base_register b) q) (pointed_constants device k at s t le (base_register b) q)
+      (reg_bits device k at s t le (base_register b)) (reg_bits device k at s t le (base_register b + 1))
   row_less scratch (i.Lds d a) fits =
-      going_less k at (record s { registers = set s d (read_at k s a) }) (record t { registers = set t d (read_at k t a) })
-      (record { registers = registers_set kind s.registers t.registers le.registers d _ _ (read_less k at s t le a); flags = le.flags; slots = le.slots })
-      (further k 2) (further_small k 2)
+      going_less device k at (record s { registers = set s d (read_at device k s a) }) (record t { registers = set t d (read_at device k t a) })
+      (record { registers = registers_set kind s.registers t.registers le.registers d _ _ (read_less device k at s t le a); flags = le.flags; slots = le.slots })
+      (further device k 2) (further_small device k 2)
   row_less scratch (i.Sts a r) fits =
-      write_less (at_word k (further k 2)) (word_key k (further k 2) at (further_small k 2)) s t le k.pc false a (value s r) (value t r) (reg k at s t le r)
+      write_less device (at_word k (further device k 2)) (word_key k (further device k 2) at (further_small device k 2)) s t le k.pc false a (value s r) (value t r) (reg device k at s t le r)
   row_less scratch (i.Ld d p) fits =
-      loading_less k at s t le (pointer_moved p s) (pointer_moved p t) d _ _ (moved_less p) (pointer_read k at s t le (pointer_register p) (step_before p))
+      loading_less device k at s t le (pointer_moved p s) (pointer_moved p t) d _ _ (moved_less p) (pointer_read device k at s t le (pointer_register p) (step_before p))
   row_less scratch (i.St p r) fits =
-      pointer_less (next k) (next_key k at) (record s { registers = pointer_moved p s }) (record t { registers = pointer_moved p t })
-      (record { registers = moved_less p; flags = le.flags; slots = le.slots }) k.pc (value s r) (value t r) (reg k at s t le r) words A s t (pointer_register p) (step_before p)
-      (pointed s (pointer_register p) (step_before p)) (pointed t (pointer_register p) (step_before p)) (pointed_constants k at s t le (pointer_register p) (step_before p))
-      (reg_bits k at s t le (pointer_register p)) (reg_bits k at s t le (pointer_register p + 1))
-  row_less scratch (i.LpmZ d) fits = setting_register k at s t le d _ _ (flash_less kind words (pair_constant s 30) (pair_constant t 30) (constants k at s t le 30))
+      pointer_less device (next device k) (next_key device k at) (record s { registers = pointer_moved p s }) (record t { registers = pointer_moved p t })
+      (record { registers = moved_less p; flags = le.flags; slots = le.slots }) k.pc (value s r) (value t r) (reg device k at s t le r) words A s t (pointer_register p) (step_before p)
+      (pointed s (pointer_register p) (step_before p)) (pointed t (pointer_register p) (step_before p)) (pointed_constants device k at s t le (pointer_register p) (step_before p))
+      (reg_bits device k at s t le (pointer_register p)) (reg_bits device k at s t le (pointer_register p + 1))
+  row_less scratch (i.LpmZ d) fits = setting_register device k at s t le d _ _ (flash_less kind words (pair_constant s 30) (pair_constant t 30) (constants device k at s t le 30))
   row_less scratch (i.LpmZPlus d) fits =
-      setting_less k at s t le _ _ s.flags t.flags
-      (registers_set kind (pair_moved s 30 true 1) (pair_moved t 30 true 1) (pair_less k at s t le 30 true 1) d _ _
-      (flash_less kind words (pair_constant s 30) (pair_constant t 30) (constants k at s t le 30))) le.flags
-  row_less scratch i.Lpm fits = setting_register k at s t le 0 _ _ (flash_less kind words (pair_constant s 30) (pair_constant t 30) (constants k at s t le 30))
-  row_less scratch (i.Pop d) fits = pop_less k at s t le d
-  row_less scratch (i.Push r) fits = push_less k at s t le scratch r
-  row_less scratch (i.In d a) fits = setting_register k at s t le d _ _ (read_less k at s t le (port a))
-  row_less scratch (i.Out a r) fits = write_less (next k) (next_key k at) s t le k.pc true (port a) (value s r) (value t r) (reg k at s t le r)
+      setting_less device k at s t le _ _ s.flags t.flags
+      (registers_set kind (pair_moved s 30 true 1) (pair_moved t 30 true 1) (pair_less device k at s t le 30 true 1) d _ _
+      (flash_less kind words (pair_constant s 30) (pair_constant t 30) (constants device k at s t le 30))) le.flags
+  row_less scratch i.Lpm fits = setting_register device k at s t le 0 _ _ (flash_less kind words (pair_constant s 30) (pair_constant t 30) (constants device k at s t le 30))
+  row_less scratch (i.Pop d) fits = pop_less device k at s t le d
+  row_less scratch (i.Push r) fits = push_less device k at s t le scratch r
+  row_less scratch (i.In d a) fits = setting_register device k at s t le d _ _ (read_less device k at s t le (port a))
+  row_less scratch (i.Out a r) fits = write_less device (next device k) (next_key device k at) s t le k.pc true (port a) (value s r) (value t r) (reg device k at s t le r)
   row_less scratch (i.Cbi a b) fits = bit_less (port a) b false
   row_less scratch (i.Sbi a b) fits = bit_less (port a) b true
-  row_less scratch i.Ijmp fits = jump_less k at s t le A
-  row_less scratch i.Icall fits = indirect_less k at s t le A
-  row_less scratch i.Ret fits = return_less k at s t le (ret_exit k)
-  row_less scratch i.Reti fits = return_less k at s t le (reti_exit k)
-  row_less scratch (i.Jmp target) fits = going_less k at s t le target fits
-  row_less scratch (i.Call target) fits = calling_less k.inst k (further k 2) (target ∷ [])
-  row_less scratch (i.Rjmp target) fits = going_less k at s t le (far k.pc target) (far_small k.pc target)
-  row_less scratch (i.Rcall target) fits = relative_less k at s t le scratch (far k.pc target) (far_small k.pc target)
+  row_less scratch i.Ijmp fits = jump_less device k at s t le A
+  row_less scratch i.Icall fits = indirect_less device k at s t le A
+  row_less scratch i.Ret fits = return_less device k at s t le (ret_exit k)
+  row_less scratch i.Reti fits = return_less device k at s t le (reti_exit k)
+  row_less scratch (i.Jmp target) fits = going_less device k at s t le (wrapped device target) (devices_are_alike.most device target)
+  row_less scratch (i.Call target) fits = calling_less k.inst k (further device k 2) (wrapped device target ∷ [])
+  row_less scratch (i.Rjmp target) fits = going_less device k at s t le (wrapped device (far k.pc target)) (devices_are_alike.most device (far k.pc target))
+  row_less scratch (i.Rcall target) fits = relative_less device k at s t le scratch (wrapped device (far k.pc target)) (devices_are_alike.most device (far k.pc target))
   row_less scratch (i.Brbs n target) fits =
-      branch_less k at s t le (flag_at k s n) (flag_at k t n) (near k.pc target) (further k 1) (flag_within k at s t le n) (near_small k.pc target) (further_small k 1)
+      flag_less device k at s t le n (wrapped device (near k.pc target)) (further device k 1) _ _ (devices_are_alike.most device (near k.pc target)) (further_small device k 1)
+      (branch_less device k at s t le (flag_at k s n) (flag_at k t n) (wrapped device (near k.pc target)) (further device k 1) (flag_within device k at s t le n) (devices_are_alike.most device (near k.pc target)) (further_small device k 1))
   row_less scratch (i.Brbc n target) fits =
-      branch_less k at s t le (tri_not (flag_at k s n)) (tri_not (flag_at k t n)) (near k.pc target) (further k 1)
-      (bits_cover.nots_within (flag_at k s n) (flag_at k t n) (flag_within k at s t le n)) (near_small k.pc target) (further_small k 1)
-  row_less scratch (i.Sbic a b) fits = skipping_less k at s t le words _ _ (bits_cover.nots_within _ _ (port_bit (port a) b))
-  row_less scratch (i.Sbis a b) fits = skipping_less k at s t le words _ _ (port_bit (port a) b)
-  row_less scratch (i.Sbrc r b) fits = skipping_less k at s t le words _ _ (bits_cover.nots_within _ _ (register_bit r b))
-  row_less scratch (i.Sbrs r b) fits = skipping_less k at s t le words _ _ (register_bit r b)
-  row_less scratch i.Nop fits = on_less k at s t le
-  row_less scratch i.Sleep fits = on_less k at s t le
-  row_less scratch i.Break fits = on_less k at s t le
-  row_less scratch i.Wdr fits = on_less k at s t le
+      flag_less device k at s t le n (further device k 1) (wrapped device (near k.pc target)) _ _ (further_small device k 1) (devices_are_alike.most device (near k.pc target))
+      (branch_less device k at s t le (tri_not (flag_at k s n)) (tri_not (flag_at k t n)) (wrapped device (near k.pc target)) (further device k 1)
+      (bits_cover.nots_within (flag_at k s n) (flag_at k t n) (flag_within device k at s t le n)) (devices_are_alike.most device (near k.pc target)) (further_small device k 1))
+  row_less scratch (i.Sbic a b) fits = skipping_less device k at s t le words _ _ (bits_cover.nots_within _ _ (port_bit (port a) b))
+  row_less scratch (i.Sbis a b) fits = skipping_less device k at s t le words _ _ (port_bit (port a) b)
+  row_less scratch (i.Sbrc r b) fits = skipping_less device k at s t le words _ _ (bits_cover.nots_within _ _ (register_bit r b))
+  row_less scratch (i.Sbrs r b) fits = skipping_less device k at s t le words _ _ (register_bit r b)
+  row_less scratch i.Nop fits = on_less device k at s t le
+  row_less scratch i.Sleep fits = on_less device k at s t le
+  row_less scratch i.Break fits = on_less device k at s t le
+  row_less scratch i.Wdr fits = on_less device k at s t le
 
-  row_at_less : (scratch : Bool) (x : Option Instr) → ((instr : Instr) → x ≡ Some instr → InstrFits instr) → LeadsLess k.inst (row_at words A scratch k s x) (row_at words A scratch k t x)
+module _ (words : List ℕ) (A : List Entry) (k : NodeKey) (at : IsKey k) (s t : AbsState) (le : IsStateLess k.inst.kind (offset_of k.sp) s t) where
+  row_at_less : (scratch : Bool) (x : Option Instr) → ((instr : Instr) → x ≡ Some instr → InstrFits instr) → LeadsLess k.inst (row_at (device_of words) words A scratch k s x) (row_at (device_of words) words A scratch k t x)
   row_at_less scratch None fits = fails_less k.inst (fails (Unsupported k.pc)) (Unsupported k.pc)
-  row_at_less scratch (Some instr) fits = row_less scratch instr (fits instr refl)
+  row_at_less scratch (Some instr) fits =
+      row_less (device_of words) words A k at (forgetting (written instr) s) (forgetting (written instr) t) (forgetting_both k.inst.kind (offset_of k.sp) (written instr) s t le) scratch instr (fits instr refl)
+
+  row_in_less : LeadsLess k.inst (row_in (device_of words) words A k s) (row_in (device_of words) words A k t)
+  row_in_less = row_at_less (is_scratch words k.pc) (fetched (device_of words) words k.pc) (fetched_fits (device_of words) words k.pc)
+
+module _ (words : List ℕ) (A : List Entry) (k : NodeKey) (at : IsKey k) (s t : AbsState) (le : IsStateLess k.inst.kind (offset_of k.sp) s t) where
+  -- what the node leads to with one byte picked
+  abbrev row_picked : AbsState → ℕ → Raw
+  row_picked state byte = row_in (device_of words) words A (picking k byte) (picked state byte)
+
+  -- the byte may be r30's in the greater state too
+  may_more : (byte : ℕ) → Contains (below 256) byte → may_be (value s 30) byte ≡ true → may_be (value t 30) byte ≡ true
+  may_more byte i may =
+      let v : AbsByte = value s 30 in
+      let w : AbsByte = value t 30 in
+      let within : IsByteWithin v w = (le.registers.each 30).within in
+      let has_it : has v.bits byte ≡ true = grind arith in
+      let low : nat_le w.low byte ≡ true = grind (arith, nat_tests, within.low) in
+      let high : nat_le byte w.high ≡ true = grind (arith, nat_tests, within.high) in
+      may_by (has w.bits byte) _ _ ((tests_tell_members.bytes w.bits byte).1 (within.bits byte (below_small 256 byte i) ((tests_tell_members.bytes v.bits byte).0 has_it))) low high
+
+  picked_row_less : (byte : ℕ) → Contains (below 256) byte → LeadsLess k.inst (row_picked s byte) (row_picked t byte)
+  picked_row_less byte i =
+      row_in_less words A (picking k byte) (record { word = at.word; small = at.small; masks = at.masks; fits = at.fits; pick = below_small 256 byte i })
+      (picked s byte) (picked t byte) (picked_less k.inst.kind (offset_of k.sp) byte s t le)
+
+  -- where the greater splits so does the lesser, in no more
+  splitting_less : (jump : Option ℕ) → LeadsLess k.inst (splitting jump (row_in (device_of words) words A) k s) (splitting jump (row_in (device_of words) words A) k t)
+  splitting_less None = row_in_less words A k at s t le
+  splitting_less (Some jump) = by (nat_le (length (picks s)) 64) (nat_le (length (picks t)) 64) (λ is. grind (arith, nat_tests, few))
+    where
+      few : length (picks s) ≤ length (picks t)
+      few = fewer (may_be (value s 30)) (may_be (value t 30)) (below 256) may_more
+
+      by : (a b : Bool) → (b ≡ true → a ≡ true)
+          → LeadsLess k.inst (if a then all_of (map (row_picked s) (picks s)) else fails (UnresolvedJump jump))
+          (if b then all_of (map (row_picked t) (picks t)) else fails (UnresolvedJump jump))
+      by a false h = fails_less k.inst _ (UnresolvedJump jump)
+      by true true h = filtered_less k.inst (row_picked s) (row_picked t) (may_be (value s 30)) (may_be (value t 30)) (below 256) picked_row_less may_more
+      by false true h = let no : false ≡ true = h refl in absurd (cc)
 
   pub raw_less : LeadsLess k.inst (raw words A k s) (raw words A k t)
   unfolding raw
   raw_less =
-      untracked_less k.inst (is_hung k k.sp) k.pc (row_at words A (is_scratch words k.pc) k s (instruction_at words k.pc)) (row_at words A (is_scratch words k.pc) k t (instruction_at words k.pc))
-      (row_at_less (is_scratch words k.pc) (instruction_at words k.pc) (instruction_fits words k.pc))
+      untracked_less k.inst (is_hung k k.sp) k.pc _ _
+      (too_deep_less k.inst (nat_lt (size_of (device_of words)) (offset_of k.sp)) k.pc (offset_of k.sp) _ _ (splitting_less (split_site words A k.pc k.pick)))

@@ -12,27 +12,28 @@ use Rattle.bit_domain.specs.declared.bits.Tri.TheVariants.{Any}
 use Rattle.bit_domain.specs.declared.bytes.TriByte.{TriByte}
 use Rattle.bit_domain.specs.Tri.{IsTriWithin}
 use Rattle.bit_domain.specs.TriByte.{tri_of, tri_at, Has, IsWithin, byte_any, byte_known, byte_constant}
-use Rattle.bit_domain.proofs.AllLaws.{bytes_are_their_bits, bytes_are_sets}
+use Rattle.bit_domain.proofs.AllLaws.{bytes_are_their_bits, bytes_are_sets, ranges_hold}
 use Rattle.sp_domain.specs.declared.tags.Tag.{Tag}
 use Rattle.sp_domain.specs.declared.tags.Tag.TheVariants as tag
-use Rattle.sp_domain.specs.declared.tags.CarryTag.TheVariants as carry
 use Rattle.sp_domain.specs.declared.slots.Slot.{Slot}
 use Rattle.sp_domain.specs.declared.slots.Slot.TheVariants.{Free, Guarded}
 use Rattle.sp_domain.specs.Slots.{slot_at}
 use Rattle.sp_domain.specs.Tags.{HasBytes, IsTagWithin}
-use Rattle.sp_domain.proofs.AllLaws.{tags_are_ordered}
 use Rattle.abs_state.specs.declared.values.AbsByte.{AbsByte}
 use Rattle.abs_state.specs.declared.values.AbsFlags.{AbsFlags}
 use Rattle.abs_state.specs.declared.state.AbsState.{AbsState}
-use Rattle.abs_state.specs.Values.{value_at, untagged, unknown, known}
+use Rattle.abs_state.specs.Values.{value_at, with_bits, untagged, unknown, known, valued, set_of}
+use Rattle.abs_state.proofs.AllLaws.{bits_make_values, values_are_ordered}
 use Rattle.abs_state.specs.Order.{IsByteWithin, IsFlagsWithin, IsSlotWithin, IsStateWithin}
-use Rattle.abs_state.specs.Formed.{NamesRegister, SlotNamesRegister, SlotIsUntagged, IsFormed, IsUntagged, TagFits, SlotFits, TagsFit}
+use Rattle.abs_state.specs.Formed.{NamesRegister, CarryNamesRegister, SlotNamesRegister, ByteFits, SlotByteFits, CarryIsUntagged, SlotIsUntagged, IsFormed, IsUntagged, TagFits, SlotFits, TagsFit}
 use Rattle.mask_states.specs.declared.keys.NodeKey.{NodeKey}
 use Rattle.mask_states.specs.declared.keys.Kind.{Kind}
 use Rattle.mask_states.specs.declared.keys.Kind.TheVariants.{Root}
-use Rattle.mask_states.specs.Keys.{offset_of}
+use Rattle.mask_states.specs.Keys.{offset_of, PickFits}
 use Rattle.avr_model.specs.Image.{WORDS}
+use Rattle.local_rules.specs.Registers.{forgetting}
 use Rattle.local_rules.specs.Cover.{FormFits, IsNode}
+use Rattle.local_laws.proofs.Less.{forgotten_is, forgotten_more}
 
 -- ---- definitions
 
@@ -46,13 +47,15 @@ pub record IsTagOf (kind : Kind) (t : Tag) : Type 0 where
 pub record IsLess (kind : Kind) (v w : AbsByte) : Type 0 where
   pub within : IsByteWithin v w
   pub good : IsTagOf kind v.tag
+  pub ranged : ByteFits v
 
 pub record AreFlagsLess (kind : Kind) (f g : AbsFlags) : Type 0 where
   pub within : IsFlagsWithin f g
   pub bit_7 : tri_at f.bits 7 ≡ Any
   pub bytes : HasBytes f.carry
   pub no_entry : kind ≡ Root → f.entry ≡ false
-  pub no_carry : kind ≡ Root → f.carry ≡ carry.None
+  pub names : CarryNamesRegister f.carry
+  pub no_carry : kind ≡ Root → CarryIsUntagged f.carry
 
 pub record AreRegistersLess (kind : Kind) (vs ws : List AbsByte) : Type 0 where
   pub count : length vs ≡ 32
@@ -61,7 +64,7 @@ pub record AreRegistersLess (kind : Kind) (vs ws : List AbsByte) : Type 0 where
 
 abbrev pub IsSlotOf : Kind → Slot AbsByte → Type 0
 IsSlotOf kind Free = ⊤
-IsSlotOf kind (Guarded v) = IsTagOf kind v.tag
+IsSlotOf kind (Guarded v) = IsTagOf kind v.tag × ByteFits v
 
 pub record IsSlotLess (kind : Kind) (x y : Slot AbsByte) : Type 0 where
   pub within : IsSlotWithin x y
@@ -148,17 +151,34 @@ constant_tells b c le n e =
 
 -- ---- values
 
-pub value_same : (kind : Kind) (v : AbsByte) → IsTagOf kind v.tag → IsLess kind v v
-value_same kind v h = record { within = record { tag = tags_are_ordered.same v.tag; bits = same_bits v.bits }; good = h }
+pub value_same : (kind : Kind) (v : AbsByte) → IsTagOf kind v.tag → ByteFits v → IsLess kind v v
+value_same kind v h fit = record { within = values_are_ordered.same v; good = h; ranged = fit }
+
+pub bits_less : (kind : Kind) (t u : Tag) (b c : TriByte) → IsTagOf kind t → IsTagWithin t u → IsWithin b c → IsLess kind (with_bits t b) (with_bits u c)
+bits_less kind t u b c good tags le = record { within = bits_make_values.within t u b c tags le; good = good; ranged = bits_make_values.fits t b }
 
 pub untagged_less : (kind : Kind) (b c : TriByte) → IsWithin b c → IsLess kind (untagged b) (untagged c)
-untagged_less kind b c le = record { within = record { tag = tt; bits = le }; good = none_of kind }
+untagged_less kind b c le = bits_less kind tag.None tag.None b c (none_of kind) tt le
+
+pub unknown_same : (kind : Kind) → IsLess kind unknown unknown
+unknown_same kind = untagged_less kind byte_any byte_any (same_bits byte_any)
+
+-- bits and range without the tag
+pub range_less : (kind : Kind) (v w : AbsByte) → IsLess kind v w → IsLess kind (valued tag.None (set_of v)) (valued tag.None (set_of w))
+range_less kind v w h =
+    record { within = record { tag = tt; bits = h.within.bits; low = h.within.low; high = h.within.high }; good = none_of kind; ranged = h.ranged }
 
 pub known_same : (kind : Kind) (n : ℕ) → IsLess kind (known n) (known n)
 known_same kind n = untagged_less kind (byte_known n) (byte_known n) (same_bits (byte_known n))
 
-pub below_unknown : (kind : Kind) (v : AbsByte) → IsTagOf kind v.tag → IsLess kind v unknown
-below_unknown kind v h = record { within = record { tag = tt; bits = below_any v.bits }; good = h }
+pub below_unknown : (kind : Kind) (v : AbsByte) → IsTagOf kind v.tag → ByteFits v → IsLess kind v unknown
+below_unknown kind v h fit =
+    let wide = ranges_hold.bits_within v.bits byte_any (below_any v.bits) in
+    record {
+      within = record { tag = tt; bits = below_any v.bits; low = omega (arith, wide.low, fit.low); high = omega (arith, wide.high, fit.high) };
+      good = h;
+      ranged = fit;
+    }
 
 pub if_less : (kind : Kind) (b : Bool) (v v' w w' : AbsByte) → IsLess kind v w → IsLess kind v' w' → IsLess kind (if b then v else v') (if b then w else w')
 if_less kind true v v' w w' h k = h
@@ -166,10 +186,10 @@ if_less kind false v v' w w' h k = k
 
 -- ---- registers
 
-set_same : (vs : List AbsByte) (d r : ℕ) (v : AbsByte) → r ≡ d → d < length vs → value_at (slice_set vs d v) r ≡ v
+pub set_same : (vs : List AbsByte) (d r : ℕ) (v : AbsByte) → r ≡ d → d < length vs → value_at (slice_set vs d v) r ≡ v
 set_same vs d r v e lt = grind (arith, elements)
 
-set_other : (vs : List AbsByte) (d r : ℕ) (v : AbsByte) → r ≢ d → value_at (slice_set vs d v) r ≡ value_at vs r
+pub set_other : (vs : List AbsByte) (d r : ℕ) (v : AbsByte) → r ≢ d → value_at (slice_set vs d v) r ≡ value_at vs r
 set_other vs d r v ne = grind (arith, elements)
 
 set_past : (vs : List AbsByte) (d r : ℕ) (v : AbsByte) → length vs ≤ r → value_at (slice_set vs d v) r ≡ unknown
@@ -181,7 +201,7 @@ module _ (kind : Kind) (vs ws : List AbsByte) (le : AreRegistersLess kind vs ws)
       record {
         count = length-set vs d v ∙ le.count;
         others = length-set ws d w ∙ le.others;
-        each = λ r. ⊎_elim (inside r) (λ over. subst₂ (IsLess kind) (sym (set_past vs d r v (omega (arith, le.count)))) (sym (set_past ws d r w (omega (arith, le.others)))) (value_same kind unknown (none_of kind)))
+        each = λ r. ⊎_elim (inside r) (λ over. subst₂ (IsLess kind) (sym (set_past vs d r v (omega (arith, le.count)))) (sym (set_past ws d r w (omega (arith, le.others)))) (unknown_same kind))
             (cases_lt r 32);
       }
     where
@@ -203,21 +223,25 @@ register_tags : (kind : Kind) (s : AbsState) (offset : ℕ) → IsFormed s offse
 register_tags kind s offset formed fit untagged r lt =
     record { names = formed.registers r lt; fits = fit.registers r lt; none = λ root. (untagged root).registers r lt }
 
-slot_tags : (kind : Kind) (x : Slot AbsByte) → SlotNamesRegister x → SlotFits x → (kind ≡ Root → SlotIsUntagged x) → IsSlotOf kind x
-slot_tags kind Free names fits none = tt
-slot_tags kind (Guarded v) names fits none = record { names = names; fits = fits; none = none }
+slot_tags : (kind : Kind) (x : Slot AbsByte) → SlotNamesRegister x → SlotFits x → (kind ≡ Root → SlotIsUntagged x) → SlotByteFits x → IsSlotOf kind x
+slot_tags kind Free names fits none ranged = tt
+slot_tags kind (Guarded v) names fits none ranged = (record { names = names; fits = fits; none = none }, ranged)
 
 slot_names : (kind : Kind) (x : Slot AbsByte) → IsSlotOf kind x → SlotNamesRegister x
 slot_names kind Free h = tt
-slot_names kind (Guarded v) h = h.names
+slot_names kind (Guarded v) h = h.0.names
 
 slot_fits : (kind : Kind) (x : Slot AbsByte) → IsSlotOf kind x → SlotFits x
 slot_fits kind Free h = tt
-slot_fits kind (Guarded v) h = h.fits
+slot_fits kind (Guarded v) h = h.0.fits
+
+slot_ranged : (kind : Kind) (x : Slot AbsByte) → IsSlotOf kind x → SlotByteFits x
+slot_ranged kind Free h = tt
+slot_ranged kind (Guarded v) h = h.1
 
 slot_untagged : (kind : Kind) (x : Slot AbsByte) → IsSlotOf kind x → kind ≡ Root → SlotIsUntagged x
 slot_untagged kind Free h root = tt
-slot_untagged kind (Guarded v) h root = h.none root
+slot_untagged kind (Guarded v) h root = h.0.none root
 
 pub node_less : (k : NodeKey) (s t : AbsState) → IsNode k s → IsNode k t → IsStateWithin s t → IsStateLess k.inst.kind (offset_of k.sp) s t
 node_less k s t a b le =
@@ -226,15 +250,16 @@ node_less k s t a b le =
         count = a.formed.count_registers;
         others = b.formed.count_registers;
         each = λ r. ⊎_elim
-            (λ lt. record { within = le.registers r lt; good = register_tags k.inst.kind s (offset_of k.sp) a.formed a.tags a.untagged r lt })
+            (λ lt. record { within = le.registers r lt; good = register_tags k.inst.kind s (offset_of k.sp) a.formed a.tags a.untagged r lt; ranged = a.formed.ranges r lt })
             (λ over. subst₂ (IsLess k.inst.kind) (sym (get_or_past s.registers r unknown (omega (arith, a.formed.count_registers)))) (sym (get_or_past t.registers r unknown (omega (arith, b.formed.count_registers))))
-            (value_same k.inst.kind unknown (none_of k.inst.kind)))
+            (unknown_same k.inst.kind))
             (cases_lt r 32);
       };
       flags = record {
         within = le.flags;
         bit_7 = a.formed.bit_7;
-        bytes = a.borrow_bytes;
+        bytes = a.carry_bytes;
+        names = a.formed.carry;
         no_entry = λ root. (a.untagged root).entry;
         no_carry = λ root. (a.untagged root).carry;
       };
@@ -245,7 +270,7 @@ node_less k s t a b le =
             (λ lt. record {
               within = le.slots d lt;
               good = let in_s : d < length s.slots = omega (arith, le.count) in
-                  slot_tags k.inst.kind (slot_at s.slots d) (a.formed.slots d in_s) (a.tags.slots d in_s) (λ root. (a.untagged root).slots d in_s);
+                  slot_tags k.inst.kind (slot_at s.slots d) (a.formed.slots d in_s) (a.tags.slots d in_s) (λ root. (a.untagged root).slots d in_s) (a.formed.slot_ranges d in_s);
             })
             (λ over. subst₂ (IsSlotLess k.inst.kind) (sym (get_or_past s.slots d Free (omega (arith, le.count)))) (sym (get_or_past t.slots d Free over)) (free_less k.inst.kind))
             (cases_lt d (length t.slots));
@@ -261,29 +286,55 @@ less_within kind offset s t h =
       slots = λ d lt. (h.slots.each d).within;
     }
 
-pub less_node : (k : NodeKey) (s t : AbsState) → k.pc < WORDS → offset_of k.sp ≤ SIZE → k.masks < 2 ^ 25 → FormFits k → IsStateLess k.inst.kind (offset_of k.sp) s t → IsNode k s
-less_node k s t word small masks fits h =
+pub less_node : (k : NodeKey) (s t : AbsState) → k.pc < WORDS → offset_of k.sp ≤ SIZE → k.masks < 2 ^ 25 → FormFits k → PickFits k.pick → IsStateLess k.inst.kind (offset_of k.sp) s t
+    → IsNode k s
+less_node k s t word small masks fits pick h =
     record {
       word = word;
       small = small;
       masks = masks;
       fits = fits;
+      pick = pick;
       formed = record {
         count_registers = h.registers.count;
         registers = λ r lt. (h.registers.each r).good.names;
         bit_7 = h.flags.bit_7;
         count_slots = h.slots.count;
         slots = λ d lt. slot_names k.inst.kind (slot_at s.slots d) (h.slots.each d).good;
+        carry = h.flags.names;
+        ranges = λ r lt. (h.registers.each r).ranged;
+        slot_ranges = λ d lt. slot_ranged k.inst.kind (slot_at s.slots d) (h.slots.each d).good;
       };
       tags = record {
         registers = λ r lt. (h.registers.each r).good.fits;
         slots = λ d lt. slot_fits k.inst.kind (slot_at s.slots d) (h.slots.each d).good;
       };
-      borrow_bytes = h.flags.bytes;
+      carry_bytes = h.flags.bytes;
       untagged = λ root. record {
         registers = λ r lt. (h.registers.each r).good.none root;
         entry = h.flags.no_entry root;
         carry = h.flags.no_carry root;
         slots = λ d lt. slot_untagged k.inst.kind (slot_at s.slots d) (h.slots.each d).good root;
       };
+    }
+
+-- ---- what C says of registers that are written is forgotten in both
+
+pub forgetting_both : (kind : Kind) (offset : ℕ) (written : List ℕ) (s t : AbsState) → IsStateLess kind offset s t → IsStateLess kind offset (forgetting written s) (forgetting written t)
+forgetting_both kind offset written s t h =
+    record {
+      registers = h.registers;
+      flags = record {
+        within = record {
+          entry = h.flags.within.entry;
+          bits = h.flags.within.bits;
+          carry = forgotten_more written s.flags.carry t.flags.carry h.flags.within.carry;
+        };
+        bit_7 = h.flags.bit_7;
+        bytes = forgotten_is HasBytes written s.flags.carry h.flags.bytes tt;
+        no_entry = h.flags.no_entry;
+        names = forgotten_is CarryNamesRegister written s.flags.carry h.flags.names tt;
+        no_carry = λ root. forgotten_is CarryIsUntagged written s.flags.carry (h.flags.no_carry root) tt;
+      };
+      slots = h.slots;
     }

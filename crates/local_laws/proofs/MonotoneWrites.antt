@@ -1,13 +1,16 @@
 -- What a byte that is written changes: a greater state leads to more.
-use Rattle.std.proofs.Common.{◌≡◌, refl, sym, ap, subst, subst₂, ℕ, ◌+◌, ◌<◌, ◌≤◌, ◌==◌, ◌&&◌, ◌||◌, nat_lt, nat_le, ⊎_elim, Bool, true, false, List, map, filter, Option, Some, None, if◌then◌else◌, slice_set, arith}
+use Rattle.std.proofs.Common.{◌≡◌, refl, sym, ap, subst, subst₂, ℕ, ◌+◌, ◌<◌, ◌≤◌, ◌==◌, ◌&&◌, ◌||◌, nat_lt, nat_le, ⊎_elim, Bool, true, false, List, map, filter, Option, Some, None, if◌then◌else◌, arith, [], ◌∷◌}
 use Rattle.std.specs.Int.{bit_at}
 use Rattle.std.proofs.lemmas.Bool.{cases_lt}
 use Rattle.std.proofs.lemmas.Bool.Decides.{nat_tests}
 use Rattle.std.proofs.lemmas.List.{get_or_past}
+use Rattle.avr_model.proofs.AllLaws.{devices_are_alike}
+use Rattle.avr_model.specs.Devices.{size_of}
+use Rattle.avr_model.specs.declared.device.Device.{Device}
 use Rattle.avr_model.specs.declared.assumption.Entry.{Entry}
 use Rattle.avr_model.specs.Assumptions.{store_line, is_proved}
 use Rattle.avr_model.specs.Sites.{is_fixed}
-use Rattle.avr_model.specs.State.{SIZE, SPL, SPH, SREG, low, high, minus16}
+use Rattle.avr_model.specs.State.{SPL, SPH, SREG, low, high, minus16}
 use Rattle.bit_domain.specs.declared.bits.Tri.{Tri}
 use Rattle.bit_domain.specs.declared.bits.Tri.TheVariants.{Zero, One, Any}
 use Rattle.bit_domain.specs.declared.bytes.TriByte.{TriByte}
@@ -37,10 +40,10 @@ use Rattle.local_rules.specs.declared.local.NodeFault.TheVariants.{UntrackedSp, 
 use Rattle.local_rules.specs.Raw.{moves_to, one, fails}
 use Rattle.local_rules.specs.Registers.{bits}
 use Rattle.local_rules.specs.declared.pointers.Pointed.{Pointed}
-use Rattle.local_rules.specs.Writes.{known_high, tagged_high, high_part, opening, root_closing, frame_closing, closing_offset, closing, is_entry_flags, flags_written, with_i, sreg_written, masks_written, written_at, reaches, fixed_write, listed_writes, pointer_write}
+use Rattle.local_rules.specs.Writes.{known_high, tagged_high, high_part, opening, root_closing, frame_closing, closing_offset, closing, is_entry_flags, flags_written, with_i, sreg_written, masks_written, register_written, written_at, reaches, fixed_write, listed_writes, pointer_write}
 use Rattle.abs_state.specs.Formed.{TagFits}
 use Rattle.local_rules.specs.Cover.{HighFitsKind}
-use Rattle.local_laws.proofs.MonotoneValues.{IsTagOf, IsLess, AreFlagsLess, AreSlotsLess, IsSlotLess, IsStateLess, Tells, tells_by, tag_tells, free_less, constant_is, constant_tells, bit_within, registers_set}
+use Rattle.local_laws.proofs.MonotoneValues.{IsTagOf, IsLess, AreFlagsLess, AreSlotsLess, IsSlotLess, IsStateLess, Tells, tells_by, tag_tells, free_less, constant_is, constant_tells, bit_within, bits_less, registers_set, forgetting_both}
 use Rattle.local_laws.proofs.MonotoneRaw.{IsKey, IsPlace, LeadsLess, nodes_at, fails_less, if_leads, several_less, one_less, choose, choose_more, both_less, filtered_less}
 
 -- ---- the high byte of the stack pointer
@@ -71,24 +74,24 @@ opening_less : (k : NodeKey) (at : IsKey k) (s t : AbsState) (le : IsStateLess k
 opening_less k at s t le pc f None tells fits = fails_less k.inst (opening f k s pc) (UntrackedSp pc)
 opening_less k at s t le pc f (Some h) tells fits =
     subst (λ (x : Option High). LeadsLess k.inst (opening x k s pc) (opening (Some h) k t pc)) (sym (tells h refl))
-    (one_less (record k { sp = Open (offset_of k.sp) h }) s t (record { word = at.word; small = at.small; masks = at.masks; fits = fits h (tells h refl) }) le)
+    (one_less (record k { sp = Open (offset_of k.sp) h }) s t (record { word = at.word; small = at.small; masks = at.masks; fits = fits h (tells h refl); pick = at.pick }) le)
 
 -- ---- its low byte
 
-no_root : (sp : SpForm) → root_closing sp None ≡ None
-no_root (Closed offset) = refl
-no_root (Open offset (Known h)) = refl
-no_root (Open offset (Tagged k)) = refl
+no_root : (device : Device) (sp : SpForm) → root_closing device sp None ≡ None
+no_root device (Closed offset) = refl
+no_root device (Open offset (Known h)) = refl
+no_root device (Open offset (Tagged k)) = refl
 
 no_frame : (sp : SpForm) → frame_closing sp tag.None ≡ None
 no_frame (Closed offset) = refl
 no_frame (Open offset (Known h)) = refl
 no_frame (Open offset (Tagged k)) = refl
 
-closing_tells : (kind : Kind) (sp : SpForm) (v w : AbsByte) → IsLess kind v w → Tells (closing_offset kind sp v) (closing_offset kind sp w)
-closing_tells Root sp v w le = tells_by (root_closing sp) (no_root sp) (byte_constant v.bits) (byte_constant w.bits) (constant_tells v.bits w.bits le.within.bits)
-closing_tells Call sp v w le = tag_tells (frame_closing sp) (no_frame sp) v.tag w.tag le.within.tag
-closing_tells (Vector n) sp v w le = tag_tells (frame_closing sp) (no_frame sp) v.tag w.tag le.within.tag
+closing_tells : (device : Device) (kind : Kind) (sp : SpForm) (v w : AbsByte) → IsLess kind v w → Tells (closing_offset device kind sp v) (closing_offset device kind sp w)
+closing_tells device Root sp v w le = tells_by (root_closing device sp) (no_root device sp) (byte_constant v.bits) (byte_constant w.bits) (constant_tells v.bits w.bits le.within.bits)
+closing_tells device Call sp v w le = tag_tells (frame_closing sp) (no_frame sp) v.tag w.tag le.within.tag
+closing_tells device (Vector n) sp v w le = tag_tells (frame_closing sp) (no_frame sp) v.tag w.tag le.within.tag
 
 module _ (kind : Kind) (offset : ℕ) (xs ys : List (Slot AbsByte)) (le : AreSlotsLess kind offset xs ys) where
   pub resized_less : (n : ℕ) → AreSlotsLess kind n (resized n xs) (resized n ys)
@@ -104,21 +107,21 @@ module _ (kind : Kind) (offset : ℕ) (xs ys : List (Slot AbsByte)) (le : AreSlo
             (cases_lt d n);
       }
 
-module _ (k : NodeKey) (at : IsKey k) (s t : AbsState) (le : IsStateLess k.inst.kind (offset_of k.sp) s t) (pc : ℕ) where
-  closing_by : (b : Bool) (n : ℕ) → (b ≡ true → n ≤ SIZE)
+module _ (device : Device) (k : NodeKey) (at : IsKey k) (s t : AbsState) (le : IsStateLess k.inst.kind (offset_of k.sp) s t) (pc : ℕ) where
+  closing_by : (b : Bool) (n : ℕ) → (b ≡ true → n ≤ size_of device)
       → LeadsLess k.inst (if b then one (record k { sp = Closed n }) (record s { slots = resized n s.slots }) else fails (TooDeep pc n))
       (if b then one (record k { sp = Closed n }) (record t { slots = resized n t.slots }) else fails (TooDeep pc n))
   closing_by true n small =
       one_less (record k { sp = Closed n }) (record s { slots = resized n s.slots }) (record t { slots = resized n t.slots })
-      (record { word = at.word; small = small refl; masks = at.masks; fits = tt })
+      (record { word = at.word; small = omega (arith, small refl, devices_are_alike.most_bytes device); masks = at.masks; fits = tt; pick = at.pick })
       (record { registers = le.registers; flags = le.flags; slots = resized_less k.inst.kind (offset_of k.sp) s.slots t.slots le.slots n })
   closing_by false n small = fails_less k.inst (fails (TooDeep pc n)) (TooDeep pc n)
 
-  closing_less : (f g : Option ℕ) → Tells f g → LeadsLess k.inst (closing f k s pc) (closing g k t pc)
-  closing_less f None tells = fails_less k.inst (closing f k s pc) (UntrackedSp pc)
+  closing_less : (f g : Option ℕ) → Tells f g → LeadsLess k.inst (closing device f k s pc) (closing device g k t pc)
+  closing_less f None tells = fails_less k.inst (closing device f k s pc) (UntrackedSp pc)
   closing_less f (Some n) tells =
-      subst (λ (x : Option ℕ). LeadsLess k.inst (closing x k s pc) (closing (Some n) k t pc)) (sym (tells n refl))
-      (closing_by (nat_le n SIZE) n (λ e. grind (arith, nat_tests)))
+      subst (λ (x : Option ℕ). LeadsLess k.inst (closing device x k s pc) (closing device (Some n) k t pc)) (sym (tells n refl))
+      (closing_by (nat_le n (size_of device)) n (λ e. grind (arith, nat_tests)))
 
 -- ---- the status register
 
@@ -140,7 +143,8 @@ written_flags kind v w le =
       bit_7 = bytes_are_their_bits.has_bits _ 7 (omega arith);
       bytes = tt;
       no_entry = λ root. ap is_entry_flags (le.good.none root);
-      no_carry = λ root. refl;
+      names = tt;
+      no_carry = λ root. tt;
     }
 
 sreg_nodes : (x : Tri) (k : NodeKey) (s : AbsState) (is_out : Bool) → sreg_written x k s is_out ≡ moves_to (nodes_at (with_i k is_out) s (choose x false true))
@@ -149,7 +153,7 @@ sreg_nodes One k s is_out = refl
 sreg_nodes Any k s is_out = refl
 
 i_place : (k : NodeKey) (is_out on : Bool) → IsKey k → IsPlace k.inst (offset_of k.sp) (with_i k is_out on)
-i_place k is_out on at = record { key = record { word = at.word; small = at.small; masks = at.masks; fits = at.fits }; same = refl; at = refl }
+i_place k is_out on at = record { key = record { word = at.word; small = at.small; masks = at.masks; fits = at.fits; pick = at.pick }; same = refl; at = refl }
 
 sreg_less : (k : NodeKey) (at : IsKey k) (s t : AbsState) (le : IsStateLess k.inst.kind (offset_of k.sp) s t) (is_out : Bool) (x y : Tri) → IsTriWithin x y
     → LeadsLess k.inst (sreg_written x k s is_out) (sreg_written y k t is_out)
@@ -160,25 +164,30 @@ sreg_less k at s t le is_out x y within =
 
 -- ---- at an address
 
-module _ (k : NodeKey) (at : IsKey k) (s t : AbsState) (le : IsStateLess k.inst.kind (offset_of k.sp) s t) where
+module _ (device : Device) (k : NodeKey) (at : IsKey k) (s t : AbsState) (le : IsStateLess k.inst.kind (offset_of k.sp) s t) where
   masks_less : (a : ℕ) (v w : AbsByte) → IsLess k.inst.kind v w → LeadsLess k.inst (masks_written k s a v) (masks_written k t a w)
   masks_less a v w h =
       several_less k.inst (offset_of k.sp) (λ (m : ℕ). record k { masks = m }) s t (splits k.masks a v.bits) (splits k.masks a w.bits)
       (λ n. splits_are_writes.more k.masks a v.bits w.bits n h.within.bits)
       (λ n i. record {
-        key = record { word = at.word; small = at.small; masks = ((numbers_are_permitted.members (enable_tri k.masks a w.bits) 25 n).0 i).small; fits = at.fits };
+        key = record { word = at.word; small = at.small; masks = ((numbers_are_permitted.members (enable_tri k.masks a w.bits) 25 n).0 i).small; fits = at.fits; pick = at.pick };
         same = refl;
         at = refl;
       })
       le
 
-  pub write_less : (pc : ℕ) (is_out : Bool) (a : ℕ) (v w : AbsByte) → IsLess k.inst.kind v w → LeadsLess k.inst (written_at pc k s is_out a v) (written_at pc k t is_out a w)
+  pub write_less : (pc : ℕ) (is_out : Bool) (a : ℕ) (v w : AbsByte) → IsLess k.inst.kind v w → LeadsLess k.inst (written_at device pc k s is_out a v) (written_at device pc k t is_out a w)
   unfolding written_at
   write_less pc is_out a v w h =
       if_leads k.inst (nat_lt a 0x20) _ _ _ _
-      (one_less k (record s { registers = slice_set s.registers a v }) (record t { registers = slice_set t.registers a w }) at
-      (record { registers = registers_set k.inst.kind s.registers t.registers le.registers a v w h; flags = le.flags; slots = le.slots }))
-      (if_leads k.inst (a == SPL) _ _ _ _ (closing_less k at s t le pc _ _ (closing_tells k.inst.kind k.sp v w h))
+      (one_less k (register_written s a v) (register_written t a w) at
+      (forgetting_both k.inst.kind (offset_of k.sp) (a ∷ []) _ _
+      (record {
+        registers = registers_set k.inst.kind s.registers t.registers le.registers a _ _ (bits_less k.inst.kind v.tag w.tag v.bits w.bits h.good h.within.tag h.within.bits);
+        flags = le.flags;
+        slots = le.slots;
+      })))
+      (if_leads k.inst (a == SPL) _ _ _ _ (closing_less device k at s t le pc _ _ (closing_tells device k.inst.kind k.sp v w h))
       (if_leads k.inst (a == SPH) _ _ _ _ (opening_less k at s t le pc _ _ (high_tells k.inst.kind v w h) (λ x. high_fits k.inst.kind v x h.good))
       (if_leads k.inst (a == SREG) _ _ _ _
       (sreg_less k at (record s { flags = flags_written v }) (record t { flags = flags_written w })
@@ -202,23 +211,23 @@ reaches_more s t r up a lo hi =
     and_more (has (bits s r) (low (minus16 a up))) (has (bits s (r + 1)) (high (minus16 a up))) (has (bits t r) (low (minus16 a up))) (has (bits t (r + 1)) (high (minus16 a up)))
     (has_more (bits s r) (bits t r) (low (minus16 a up)) lo) (has_more (bits s (r + 1)) (bits t (r + 1)) (high (minus16 a up)) hi)
 
-module _ (k : NodeKey) (at : IsKey k) (s t : AbsState) (le : IsStateLess k.inst.kind (offset_of k.sp) s t) (pc : ℕ) (v w : AbsByte) (h : IsLess k.inst.kind v w) where
-  fixed_less : (f g : Option ℕ) → Tells f g → LeadsLess k.inst (fixed_write f pc k s v) (fixed_write g pc k t w)
-  fixed_less f None tells = fails_less k.inst (fixed_write f pc k s v) (UnknownPointer pc)
+module _ (device : Device) (k : NodeKey) (at : IsKey k) (s t : AbsState) (le : IsStateLess k.inst.kind (offset_of k.sp) s t) (pc : ℕ) (v w : AbsByte) (h : IsLess k.inst.kind v w) where
+  fixed_less : (f g : Option ℕ) → Tells f g → LeadsLess k.inst (fixed_write device f pc k s v) (fixed_write device g pc k t w)
+  fixed_less f None tells = fails_less k.inst (fixed_write device f pc k s v) (UnknownPointer pc)
   fixed_less f (Some a) tells =
-      subst (λ (x : Option ℕ). LeadsLess k.inst (fixed_write x pc k s v) (fixed_write (Some a) pc k t w)) (sym (tells a refl)) (write_less k at s t le pc false a v w h)
+      subst (λ (x : Option ℕ). LeadsLess k.inst (fixed_write device x pc k s v) (fixed_write device (Some a) pc k t w)) (sym (tells a refl)) (write_less device k at s t le pc false a v w h)
 
   listed_less : (p q : ℕ → Bool) (addresses : List ℕ) → ((a : ℕ) → p a ≡ true → q a ≡ true)
-      → LeadsLess k.inst (listed_writes pc k s (filter p addresses) v) (listed_writes pc k t (filter q addresses) w)
+      → LeadsLess k.inst (listed_writes device pc k s (filter p addresses) v) (listed_writes device pc k t (filter q addresses) w)
   listed_less p q addresses more =
-      both_less k.inst (one k s) (one k t) (map (λ a. written_at pc k s false a v) (filter p addresses)) (map (λ a. written_at pc k t false a w) (filter q addresses))
+      both_less k.inst (one k s) (one k t) (map (λ a. written_at device pc k s false a v) (filter p addresses)) (map (λ a. written_at device pc k t false a w) (filter q addresses))
       (one_less k s t at le)
-      (filtered_less k.inst (λ (a : ℕ). written_at pc k s false a v) (λ (a : ℕ). written_at pc k t false a w) p q addresses (λ a. write_less k at s t le pc false a v w h) more)
+      (filtered_less k.inst (λ (a : ℕ). written_at device pc k s false a v) (λ (a : ℕ). written_at device pc k t false a w) p q addresses (λ a i. write_less device k at s t le pc false a v w h) (λ a i. more a))
 
   -- the pointer as it was in these states
   pub pointer_less : (words : List ℕ) (A : List Entry) (was_s was_t : AbsState) (r up : ℕ) (p q : Pointed) → Tells p.constant q.constant
       → IsWithin (bits was_s r) (bits was_t r) → IsWithin (bits was_s (r + 1)) (bits was_t (r + 1))
-      → LeadsLess k.inst (pointer_write words A was_s r up p pc k s v) (pointer_write words A was_t r up q pc k t w)
+      → LeadsLess k.inst (pointer_write device words A was_s r up p pc k s v) (pointer_write device words A was_t r up q pc k t w)
   pointer_less words A was_s was_t r up p q tells lo hi =
       if_leads k.inst (is_fixed words pc || is_proved A pc) _ _ _ _ (fixed_less p.constant q.constant tells)
       (listed_less (λ a. reaches was_s r up a) (λ a. reaches was_t r up a) (store_line A pc) (λ a. reaches_more was_s was_t r up a lo hi))

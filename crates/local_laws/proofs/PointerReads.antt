@@ -1,35 +1,39 @@
 -- Pointers: what is read through them, and what they are after they move.
-use Rattle.std.proofs.Common.{◌≡◌, refl, ◌∙◌, ap, subst, ℕ, ◌+◌, ◌-◌, ◌*◌, ◌<◌, Bool, true, false, if◌then◌else◌, nat_lt, length, Option, Some, None, arith}
+use Rattle.std.proofs.Common.{◌≡◌, refl, sym, ◌∙◌, ap, subst, ℕ, ◌+◌, ◌-◌, ◌*◌, ◌<◌, Bool, true, false, if◌then◌else◌, nat_lt, nat_le, length, Option, Some, None, arith}
 use Rattle.avr_model.specs.declared.instruction.Pointer.{Pointer}
 use Rattle.avr_model.specs.declared.instruction.Pointer.TheVariants as pointer
 use Rattle.avr_model.specs.Sites.{pointer_register}
 use Rattle.avr_model.specs.Wide.{wide_of}
-use Rattle.avr_model.specs.State.{State, register, pair, read, low, high, plus16, minus16}
+use Rattle.avr_model.specs.State.{State, BELOW, register, pair, read, low, high, plus16, minus16}
 use Rattle.avr_model.specs.Effects.{set_pair, moved}
 use Rattle.avr_model.specs.Step.{with_registers}
-use Rattle.bit_domain.specs.declared.bytes.TriByte.{TriByte}
 use Rattle.bit_domain.specs.TriByte.{Has, byte_constant}
-use Rattle.bit_domain.specs.Lattice.{byte_meet, IsIntersection}
-use Rattle.bit_domain.proofs.AllLaws.{lattice_is_of_sets}
+use Rattle.bit_domain.specs.Ranges.{ByteSet, set_meet}
+use Rattle.bit_domain.proofs.AllLaws.{ranges_hold}
 use Rattle.abs_alu.proofs.AllLaws.{all_words_cover}
 use Rattle.sp_domain.specs.declared.tags.Tag.{Tag}
+use Rattle.sp_domain.specs.declared.tags.Tag.TheVariants as tag
 use Rattle.sp_domain.specs.Tags.{Origin, TagHolds, frame_of}
 use Rattle.sp_domain.specs.Laws.{PairHolds}
 use Rattle.sp_domain.specs.Slots.{slot_at}
 use Rattle.sp_domain.proofs.AllLaws.{pairs_are_true}
 use Rattle.abs_state.specs.declared.values.AbsByte.{AbsByte}
 use Rattle.abs_state.specs.declared.state.AbsState.{AbsState}
+use Rattle.abs_state.specs.Values.{untagged, valued, set_of}
 use Rattle.abs_state.specs.Frames.{with_tag}
+use Rattle.abs_state.proofs.AllLaws.{bits_make_values}
 use Rattle.abs_state.specs.Stands.{ByteStands, RegistersStand}
 use Rattle.mask_states.specs.declared.keys.NodeKey.{NodeKey}
 use Rattle.local_rules.specs.Registers.{value, bits, down_by, pair_tags, pair_moved}
-use Rattle.local_rules.specs.Reads.{value_of, read_at, word_of, pair_constant, raised, lowered, pointed, read_constant, read_both, read_frame, read_pointed}
+use Rattle.local_rules.specs.Reads.{value_of, read_at, word_of, pair_constant, raised, lowered, pointed, read_number, read_constant, read_both, read_frame, read_pointed}
 use Rattle.local_rules.specs.Local.{pointer_moved}
 use Rattle.local_rules.specs.Cover.{InFrame}
 use Rattle.local_laws.proofs.Alu.{register_byte}
 use Rattle.local_laws.proofs.Bits.{constant_is}
+use Rattle.local_laws.proofs.EffectSizes.{wide_small}
 use Rattle.local_laws.proofs.Frame.{nothing_stands, register_stands, set_two}
-use Rattle.local_laws.proofs.ReadValues.{untagged_stands, read_small, live_inside, inside_numbers, live_read, slot_at_stands, read_stands}
+use Rattle.local_laws.proofs.Memory.{inside_if_live}
+use Rattle.local_laws.proofs.ReadValues.{untagged_stands, range_stands, read_small, inside_numbers, live_read, slot_at_stands, read_stands}
 
 -- the value stands for the byte; there is one
 abbrev pub IsRead : Origin → Option AbsByte → ℕ → Type 0
@@ -105,41 +109,51 @@ module _ (m : State) (o : Origin) (k : NodeKey) (s : AbsState) (at : InFrame m o
   -- ---- what is read
 
   module _ (a input : ℕ) (small : input < 256) where
-    constant_stands : (c : Option ℕ) → ((x : ℕ) → c ≡ Some x → a ≡ x) → ByteStands o (read_constant k s c) (read m a input)
-    constant_stands None is = nothing_stands o (read m a input)
+    -- by the number
+    number_stands : ByteStands o (read_number m.device k s a) (read m a input)
+    number_stands = by (nat_le a BELOW)
+      where
+        by : (b : Bool) → ByteStands o (if b then untagged (read_at m.device k s a).bits else valued tag.None (set_of (read_at m.device k s a))) (read m a input)
+        by true = untagged_stands o (read_at m.device k s a) (read m a input) (read_stands m o k s at a input small)
+        by false = range_stands o (read_at m.device k s a) (read m a input) (read_stands m o k s at a input small)
+
+    constant_stands : (c : Option ℕ) → ((x : ℕ) → c ≡ Some x → a ≡ x) → ByteStands o (read_constant m.device k s c) (read m a input)
+    constant_stands None is = nothing_stands o (read m a input) (read_small m o k s at a input small)
     constant_stands (Some x) is =
-        subst (λ b. ByteStands o (read_constant k s (Some b)) (read m a input)) (is x refl) (untagged_stands o (read_at k s a) (read m a input) (read_stands m o k s at a input))
+        subst (λ b. ByteStands o (read_constant m.device k s (Some b)) (read m a input)) (is x refl) number_stands
 
     slot_read_stands : (d : ℕ) → a ≡ minus16 o.base d → ByteStands o (value_of (slot_at s.slots d)) (read m a input)
     slot_read_stands d is =
-        slot_at_stands m o k s at d (read m a input) (λ live.
-        let inside = inside_numbers (o.base - d) (live_inside m.memory.live (o.base - d) live) in
+        slot_at_stands m o k s at d (read m a input) (read_small m o k s at a input small) (λ live.
+        let inside = inside_numbers m.device (o.base - d) (inside_if_live m.device m.memory.live (o.base - d) at.machine.count_live live) in
         let here : a ≡ o.base - d = is ∙ in_word o.base d at.base_word (omega (arith, inside.0)) in
         ap (λ b. read m b input) here ∙ live_read m o k s at (o.base - d) input live)
 
-    met : (t : Tag) (x : ℕ) (u w : TriByte) (meet : Option TriByte) → x < 256 → TagHolds o t x → Has u x → Has w x → IsIntersection u w meet → IsRead o (with_tag t meet) x
-    met t x u w None lt tag h g is = is x lt h g
-    met t x u w (Some v) lt tag h g is = record { tag = tag; bits = (is x lt).1 (h, g) }
+    met : (t : Tag) (x : ℕ) (u w : AbsByte) → TagHolds o t x → ByteStands o u x → ByteStands o w x → IsRead o (with_tag t (set_meet (set_of u) (set_of w))) x
+    met t x u w holds h g =
+        let meet = ranges_hold.meets (set_of u) (set_of w) x
+        (record { bits = h.bits; low = h.low; high = h.high; small = h.small }) (record { bits = g.bits; low = g.low; high = g.high; small = g.small }) in
+        subst (λ (z : Option ByteSet). IsRead o (with_tag t z) x) (sym meet.1.0)
+        (record { tag = holds; bits = meet.1.1.bits; low = meet.1.1.low; high = meet.1.1.high; small = meet.1.1.small })
 
-    both_stand : (c : Option ℕ) (v : AbsByte) → ((x : ℕ) → c ≡ Some x → a ≡ x) → ByteStands o v (read m a input) → IsRead o (read_both k s c v) (read m a input)
+    both_stand : (c : Option ℕ) (v : AbsByte) → ((x : ℕ) → c ≡ Some x → a ≡ x) → ByteStands o v (read m a input) → IsRead o (read_both m.device k s c v) (read m a input)
     both_stand None v is h = h
     both_stand (Some x) v is h =
-        subst (λ b. IsRead o (read_both k s (Some b) v) (read m a input)) (is x refl)
-        (met v.tag (read m a input) (read_at k s a).bits v.bits (byte_meet (read_at k s a).bits v.bits) (read_small m o k s at a input small) h.tag
-        (read_stands m o k s at a input).bits h.bits (lattice_is_of_sets.meets (read_at k s a).bits v.bits))
+        subst (λ b. IsRead o (read_both m.device k s (Some b) v) (read m a input)) (is x refl)
+        (met v.tag (read m a input) (read_number m.device k s a) v h.tag number_stands h)
 
     one_of : (b : Bool) (v w : Option AbsByte) → IsRead o v (read m a input) → IsRead o w (read m a input) → IsRead o (if b then v else w) (read m a input)
     one_of true v w h g = h
     one_of false v w h g = g
 
-    frame_stands : (c f : Option ℕ) → ((x : ℕ) → c ≡ Some x → a ≡ x) → ((d : ℕ) → f ≡ Some d → a ≡ minus16 o.base d) → IsRead o (read_frame k s c f) (read m a input)
+    frame_stands : (c f : Option ℕ) → ((x : ℕ) → c ≡ Some x → a ≡ x) → ((d : ℕ) → f ≡ Some d → a ≡ minus16 o.base d) → IsRead o (read_frame m.device k s c f) (read m a input)
     frame_stands c None is here = constant_stands c is
     frame_stands c (Some d) is here =
-        one_of (nat_lt d (length s.slots)) (read_both k s c (value_of (slot_at s.slots d))) (Some (read_constant k s c))
+        one_of (nat_lt d (length s.slots)) (read_both m.device k s c (value_of (slot_at s.slots d))) (Some (read_constant m.device k s c))
         (both_stand c (value_of (slot_at s.slots d)) is (slot_read_stands d (here d refl))) (constant_stands c is)
 
   -- what a read through a pointer gives stands for what is read there
-  pub pointed_stands : (r up input : ℕ) → input < 256 → IsRead o (read_pointed k s (pointed s r up)) (read m (plus16 (pair m r) up) input)
+  pub pointed_stands : (r up input : ℕ) → input < 256 → IsRead o (read_pointed m.device k s (pointed s r up)) (read m (plus16 (pair m r) up) input)
   pointed_stands r up input small =
       frame_stands (plus16 (pair m r) up) input small (pointed s r up).constant (pointed s r up).frame (number_is r up) (frame_is r up)
 
@@ -153,8 +167,9 @@ module _ (m : State) (o : Origin) (k : NodeKey) (s : AbsState) (at : InFrame m o
       at.stands.flags.bits in
       let tags = pairs_are_true.below o (value s r).tag (value s (r + 1)).tag (pair m r) (down_by up 1) (pair_small r) (pair_holds r) in
       set_two m o k s at r (r + 1) _ _ _ _
-      record { tag = subst (λ w. TagHolds o (pair_tags s r up 1).0 (low w)) is tags.low; bits = word.0 }
-      record { tag = subst (λ w. TagHolds o (pair_tags s r up 1).1 (high w)) is tags.high; bits = word.1 }
+      (bits_make_values.stands o (pair_tags s r up 1).0 _ (low (wide_of up (pair m r) 1)) (omega arith) (subst (λ w. TagHolds o (pair_tags s r up 1).0 (low w)) is tags.low) word.0)
+      (bits_make_values.stands o (pair_tags s r up 1).1 _ (high (wide_of up (pair m r) 1)) (omega (arith, wide_small up (pair m r) 1))
+      (subst (λ w. TagHolds o (pair_tags s r up 1).1 (high w)) is tags.high) word.1)
 
   up_stands : (r : ℕ) → RegistersStand o (pair_moved s r true 1) (with_registers m.registers (set_pair r (plus16 (pair m r) 1)))
   up_stands r = moved_by r true (up_one (pair m r))

@@ -9,13 +9,15 @@ use Rattle.avr_model.specs.declared.effect.Write.{Write}
 use Rattle.avr_model.specs.declared.effect.Effect.{Effect}
 use Rattle.avr_model.specs.Assumptions.{store_line, is_proved, lists}
 use Rattle.avr_model.specs.Sites.{is_fixed}
+use Rattle.avr_model.specs.Sreg.{flag}
 use Rattle.avr_model.specs.State.{State, pair, SPL, SPH, SREG, low, high, plus16, minus16}
 use Rattle.avr_model.specs.Effects.{set}
 use Rattle.avr_model.specs.Step.{with_registers, unlisted}
 use Rattle.avr_model.specs.Vectors.{has_enables, is_protected}
 use Rattle.bit_domain.specs.TriByte.{Has}
 use Rattle.bit_domain.proofs.AllLaws.{tests_tell_members}
-use Rattle.sp_domain.specs.Tags.{Origin}
+use Rattle.sp_domain.specs.Tags.{Origin, LessHolds}
+use Rattle.sp_domain.proofs.AllLaws.{carries_are_ordered}
 use Rattle.abs_state.specs.declared.values.AbsByte.{AbsByte}
 use Rattle.abs_state.specs.declared.state.AbsState.{AbsState}
 use Rattle.abs_state.specs.Stands.{ByteStands, RegistersStand}
@@ -28,9 +30,9 @@ use Rattle.local_rules.specs.Cover.{InFrame}
 use Rattle.local_laws.proofs.Frame.{register_stands}
 use Rattle.local_laws.proofs.PointerReads.{pair_small, low_is, high_is, number_is}
 use Rattle.local_laws.proofs.SplitMembers.{AreWritten}
-use Rattle.local_laws.proofs.WriteValues.{stored, Reaches, enables_kept, chosen, only, elsewhere, changes_none, written}
+use Rattle.local_laws.proofs.WriteValues.{stored, Reaches, enables_kept, chosen, only, elsewhere, changes_none, less_still, written}
 
-both_hold : (a b : Bool) → a ≡ true → b ≡ true → (a && b) ≡ true
+pub both_hold : (a b : Bool) → a ≡ true → b ≡ true → (a && b) ≡ true
 both_hold a b h g = grind arith
 
 back_to : (w up : ℕ) → w < 65536 → w ≡ minus16 (plus16 w up) up
@@ -62,10 +64,10 @@ both_empty [] ys h = (refl, h)
 both_empty (x ∷ xs) ys h = absurd (cc)
 
 module _ (m : State) (o : Origin) (k : NodeKey) (guarded : Bool) (e : Effect) where
-  by_first : (r : Raw) (rs : List Raw) → Reaches m o k guarded e r → Reaches m o k guarded e (all_of (r ∷ rs))
+  pub by_first : (r : Raw) (rs : List Raw) → Reaches m o k guarded e r → Reaches m o k guarded e (all_of (r ∷ rs))
   by_first r rs h = record { to = h.to; present = Contains-append_left r.moves (all_of rs).moves h.to h.present; inst = h.inst; lands = h.lands }
 
-  by_rest : (r : Raw) (rs : List Raw) → Reaches m o k guarded e (all_of rs) → Reaches m o k guarded e (all_of (r ∷ rs))
+  pub by_rest : (r : Raw) (rs : List Raw) → Reaches m o k guarded e (all_of rs) → Reaches m o k guarded e (all_of (r ∷ rs))
   by_rest r rs h = record { to = h.to; present = Contains-append_right r.moves (all_of rs).moves h.to h.present; inst = h.inst; lands = h.lands }
 
   -- one more item, which is kept or not, and is the address or not
@@ -99,6 +101,7 @@ is_listed false listed a is none = absurd (cc)
 
 module _ (m : State) (o : Origin) (k : NodeKey) (s : AbsState) (at : InFrame m o k s) (guarded : Bool) (pc pc' : ℕ) (pc_is : pc ≡ pc') (writes : List Write)
     (registers : List AbsByte) (stand : RegistersStand o registers (with_registers m.registers writes))
+    (less : LessHolds (with_registers m.registers writes) s.flags.carry (flag m.sreg 0))
     (byte : ℕ) (small : byte < 256) (v : AbsByte) (stands : ByteStands o v byte) (count_values : length registers ≡ 32)
     (count : length (with_registers m.registers writes) ≡ 32) (members : AreWritten) where
   abbrev key : NodeKey
@@ -110,21 +113,22 @@ module _ (m : State) (o : Origin) (k : NodeKey) (s : AbsState) (at : InFrame m o
   abbrev effect : ℕ → Effect
   effect a = stored m pc writes false a byte
 
-  known_written : (a : ℕ) → (written_at k.pc key state false a v).faults ≡ [] → Reaches m o k guarded (effect a) (written_at k.pc key state false a v)
-  known_written = written m o k s at guarded pc pc' pc_is writes registers stand false byte small v stands count_values count members
+  known_written : (a : ℕ) → (written_at m.device k.pc key state false a v).faults ≡ [] → Reaches m o k guarded (effect a) (written_at m.device k.pc key state false a v)
+  known_written = written m o k s at guarded pc pc' pc_is writes registers stand less false byte small v stands count_values count members
 
-  fixed_written : (a : ℕ) (c : Option ℕ) → ((x : ℕ) → c ≡ Some x → a ≡ x) → (fixed_write c k.pc key state v).faults ≡ []
-      → Reaches m o k guarded (effect a) (fixed_write c k.pc key state v)
+  fixed_written : (a : ℕ) (c : Option ℕ) → ((x : ℕ) → c ≡ Some x → a ≡ x) → (fixed_write m.device c k.pc key state v).faults ≡ []
+      → Reaches m o k guarded (effect a) (fixed_write m.device c k.pc key state v)
   fixed_written a None is clean = absurd (cc)
-  fixed_written a (Some x) is clean = subst (λ b. Reaches m o k guarded (effect b) (fixed_write (Some x) k.pc key state v)) (sym (is x refl)) (known_written x clean)
+  fixed_written a (Some x) is clean = subst (λ b. Reaches m o k guarded (effect b) (fixed_write m.device (Some x) k.pc key state v)) (sym (is x refl)) (known_written x clean)
 
   nothing_written : (a : ℕ) → is_protected a ≡ false → Reaches m o k guarded (effect a) (one key state)
   nothing_written a free =
       let is = elsewhere_is a free in
-      only m o k s at guarded pc pc' pc_is writes registers stand false (effect a) (record { key = key; state = state }) refl
-      (elsewhere m o k s at guarded pc pc' pc_is writes registers stand false a byte k.masks registers is.not_low is.not_high is.not_sreg
+      only m o k s at guarded pc pc' pc_is writes registers stand less false (effect a) (record { key = key; state = state }) refl
+      (elsewhere m o k s at guarded pc pc' pc_is writes registers stand less false a byte k.masks registers s.flags.carry (carries_are_ordered.same s.flags.carry) is.not_low is.not_high is.not_sreg
       (enables_kept m.enables a byte at.machine.enable_bits is.no_enables ∙ at.place.enables)
-      (changes_none m o k s at guarded pc pc' pc_is writes registers stand false a byte is.beyond))
+      (changes_none m o k s at guarded pc pc' pc_is writes registers stand less false a byte is.beyond)
+      (less_still m o k s at guarded pc pc' pc_is writes registers stand less false a byte is.beyond))
 
   reached : (r up : ℕ) → reaches s r up (plus16 (pair m r) up) ≡ true
   reached r up =
@@ -135,26 +139,26 @@ module _ (m : State) (o : Origin) (k : NodeKey) (s : AbsState) (at : InFrame m o
 
   -- the successors at the listed addresses that can be met
   abbrev listed_ones : ℕ → ℕ → List ℕ → List Raw
-  listed_ones r up listed = map (λ a. written_at k.pc key state false a v) (filter (λ a. reaches s r up a) listed)
+  listed_ones r up listed = map (λ a. written_at m.device k.pc key state false a v) (filter (λ a. reaches s r up a) listed)
 
   listed_by : (r up : ℕ) (listed : List ℕ) (b : Bool) → is_protected (plus16 (pair m r) up) ≡ b → unlisted listed (set (plus16 (pair m r) up) byte) ≡ None
-      → (listed_writes k.pc key state (filter (λ a. reaches s r up a) listed) v).faults ≡ []
-      → Reaches m o k guarded (effect (plus16 (pair m r) up)) (listed_writes k.pc key state (filter (λ a. reaches s r up a) listed) v)
+      → (listed_writes m.device k.pc key state (filter (λ a. reaches s r up a) listed) v).faults ≡ []
+      → Reaches m o k guarded (effect (plus16 (pair m r) up)) (listed_writes m.device k.pc key state (filter (λ a. reaches s r up a) listed) v)
   listed_by r up listed false is unflagged clean = by_first m o k guarded (effect (plus16 (pair m r) up)) (one key state) (listed_ones r up listed) (nothing_written (plus16 (pair m r) up) is)
   listed_by r up listed true is unflagged clean =
       let a : ℕ = plus16 (pair m r) up in
       by_rest m o k guarded (effect a) (one key state) (listed_ones r up listed)
-      (by_listed m o k guarded (effect a) (λ b. written_at k.pc key state false b v) (λ b. reaches s r up b) a listed
+      (by_listed m o k guarded (effect a) (λ b. written_at m.device k.pc key state false b v) (λ b. reaches s r up b) a listed
       (is_listed (is_protected a) (lists listed a) a is unflagged) (reached r up) (known_written a) clean)
 
   -- a byte that is stored through a pointer, where the store isn't flagged
   pub pointer_written : (words : List ℕ) (A : List Entry) (r up : ℕ)
       → ((is_fixed words k.pc || is_proved A k.pc) ≡ false → unlisted (store_line A k.pc) (set (plus16 (pair m r) up) byte) ≡ None)
-      → (pointer_write words A s r up (pointed s r up) k.pc key state v).faults ≡ []
-      → Reaches m o k guarded (effect (plus16 (pair m r) up)) (pointer_write words A s r up (pointed s r up) k.pc key state v)
+      → (pointer_write m.device words A s r up (pointed s r up) k.pc key state v).faults ≡ []
+      → Reaches m o k guarded (effect (plus16 (pair m r) up)) (pointer_write m.device words A s r up (pointed s r up) k.pc key state v)
   pointer_written words A r up unflagged clean =
       let a : ℕ = plus16 (pair m r) up in
-      chosen m o k s at guarded pc pc' pc_is writes registers stand false (effect a) (is_fixed words k.pc || is_proved A k.pc)
-      (fixed_write (pointed s r up).constant k.pc key state v) (listed_writes k.pc key state (filter (λ b. reaches s r up b) (store_line A k.pc)) v)
+      chosen m o k s at guarded pc pc' pc_is writes registers stand less false (effect a) (is_fixed words k.pc || is_proved A k.pc)
+      (fixed_write m.device (pointed s r up).constant k.pc key state v) (listed_writes m.device k.pc key state (filter (λ b. reaches s r up b) (store_line A k.pc)) v)
       (λ is rest. fixed_written a (pointed s r up).constant (number_is m o k s at r up) rest)
       (λ is rest. listed_by r up (store_line A k.pc) (is_protected a) refl (unflagged is) rest) clean

@@ -1,10 +1,12 @@
 -- Local parts that neither call nor return.
 use Rattle.std.proofs.Common.{◌≡◌, refl, sym, ◌∙◌, subst, ℕ, zero, suc, ◌+◌, ◌==◌, Bool, true, false, ◌||◌, List, [], Option, Some, None, if◌then◌else◌, nat_lt, nat_le, Contains}
 use Rattle.std.specs.List.Sorted.{IsStrictlySortedBy}
+use Rattle.avr_model.specs.Devices.{size_of}
+use Rattle.avr_model.specs.declared.device.Device.{Device}
 use Rattle.avr_model.specs.declared.assumption.Entry.{Entry}
 use Rattle.avr_model.specs.Sites.{is_fixed}
 use Rattle.avr_model.specs.Assumptions.{is_proved}
-use Rattle.avr_model.specs.State.{SPL, SPH, SREG, SIZE}
+use Rattle.avr_model.specs.State.{SPL, SPH, SREG}
 use Rattle.bit_domain.specs.declared.bits.Tri.{Tri}
 use Rattle.bit_domain.specs.declared.bits.Tri.TheVariants.{Zero, One, Any}
 use Rattle.bit_domain.specs.TriByte.{tri_at}
@@ -16,12 +18,12 @@ use Rattle.mask_states.specs.declared.keys.High.{High}
 use Rattle.mask_states.specs.declared.keys.SpForm.{SpForm}
 use Rattle.mask_states.specs.declared.keys.SpForm.TheVariants.{Closed, Open}
 use Rattle.local_rules.specs.declared.local.CallSite.{CallSite}
-use Rattle.local_rules.specs.Raw.{Raw, untracked_if}
-use Rattle.local_rules.specs.Registers.{going_by, interrupts_row, flag_row}
+use Rattle.local_rules.specs.Raw.{Raw, untracked_if, too_deep_if}
+use Rattle.local_rules.specs.Registers.{carry_bit, going_by, interrupts_row, flag_row}
 use Rattle.local_rules.specs.declared.computed.Computed.{Computed}
 use Rattle.local_rules.specs.declared.pointers.Pointed.{Pointed}
 use Rattle.local_rules.specs.Writes.{opening, closing, sreg_written, written_at, fixed_write, pointer_write, high_part, closing_offset, flags_written}
-use Rattle.local_rules.specs.Flow.{branch, skipping, jumping, at_closed, pushing, popping, making_room}
+use Rattle.local_rules.specs.Flow.{branch, where_carry, going_where, carry_branch, flag_branch, skipping, jumping, at_closed, pushing, popping, making_room}
 use Rattle.local_rules.specs.Local.{loading}
 use Rattle.local_laws.proofs.Members.{none_in}
 use Rattle.local_laws.specs.Laws.{LeadsToWords, AscendByEntry}
@@ -30,15 +32,15 @@ abbrev pub Quiet : Raw → Type 0
 Quiet r = (r.calls ≡ []) × (r.exit ≡ None)
 
 -- what the law says of one node
-pub record IsFit (A : List Entry) (k : NodeKey) (r : Raw) : Type 0 where
-  pub words : LeadsToWords k r
+pub record IsFit (device : Device) (A : List Entry) (k : NodeKey) (r : Raw) : Type 0 where
+  pub words : LeadsToWords device k r
   pub ascending : AreEntries A → AscendByEntry r.calls
 
 pub none_ascend : AscendByEntry []
 unfolding IsStrictlySortedBy
 none_ascend = tt
 
-pub quiet_fits : (A : List Entry) (k : NodeKey) (r : Raw) → Quiet r → IsFit A k r
+pub quiet_fits : {device : Device} (A : List Entry) (k : NodeKey) (r : Raw) → Quiet r → IsFit device A k r
 quiet_fits A k r q = record {
   words = record {
     calls = λ site i. absurd (none_in site (subst (λ (l : List CallSite). Contains l site) q.0 i));
@@ -56,52 +58,64 @@ branch_quiet k s Zero taken other = (refl, refl)
 branch_quiet k s One taken other = (refl, refl)
 branch_quiet k s Any taken other = (refl, refl)
 
-pub skipping_quiet : (words : List ℕ) (k : NodeKey) (s : AbsState) (t : Tri) → Quiet (skipping words k s t)
-skipping_quiet words k s t = branch_quiet k s t _ _
+where_quiet : (k : NodeKey) (o : Option AbsState) (pc : ℕ) → Quiet (going_where k o pc)
+where_quiet k None pc = (refl, refl)
+where_quiet k (Some s) pc = (refl, refl)
 
-pub going_by_quiet : (k : NodeKey) (s : AbsState) (c : Option Computed) (r : Raw) → Quiet r → Quiet (going_by k s c r)
-going_by_quiet k s None r q = q
-going_by_quiet k s (Some c) r q = (refl, refl)
+carry_quiet : (k : NodeKey) (s : AbsState) (t : Tri) (set clear : ℕ) → Quiet (carry_branch t k s set clear)
+carry_quiet k s Zero set clear = where_quiet k (where_carry s.flags.carry s false) clear
+carry_quiet k s One set clear = where_quiet k (where_carry s.flags.carry s true) set
+carry_quiet k s Any set clear = (refl, refl)
 
-pub loading_quiet : (k : NodeKey) (s : AbsState) (registers : List AbsByte) (d : ℕ) (v : Option AbsByte) → Quiet (loading k s registers d v)
-loading_quiet k s registers d None = (refl, refl)
-loading_quiet k s registers d (Some v) = (refl, refl)
+pub flag_branch_quiet : (n : ℕ) (k : NodeKey) (s : AbsState) (set clear : ℕ) (other : Raw) → Quiet other → Quiet (flag_branch n k s set clear other)
+flag_branch_quiet n k s set clear other h = if_quiet (n == 0) (carry_branch (carry_bit s) k s set clear) other (carry_quiet k s (carry_bit s) set clear) h
 
-interrupts_quiet : (k : NodeKey) (s : AbsState) (on : Bool) → Quiet (interrupts_row k s on)
-interrupts_quiet k s true = (refl, refl)
-interrupts_quiet k s false = (refl, refl)
+pub skipping_quiet : (device : Device) (words : List ℕ) (k : NodeKey) (s : AbsState) (t : Tri) → Quiet (skipping device words k s t)
+skipping_quiet device words k s t = branch_quiet k s t _ _
 
-pub flag_quiet : (k : NodeKey) (s : AbsState) (n : ℕ) (on : Bool) → Quiet (flag_row k s n on)
-flag_quiet k s n on = if_quiet (n == 7) _ _ (interrupts_quiet k s on) (refl, refl)
+pub going_by_quiet : (device : Device) (k : NodeKey) (s : AbsState) (c : Option Computed) (r : Raw) → Quiet r → Quiet (going_by device k s c r)
+going_by_quiet device k s None r q = q
+going_by_quiet device k s (Some c) r q = (refl, refl)
+
+pub loading_quiet : (device : Device) (k : NodeKey) (s : AbsState) (registers : List AbsByte) (d : ℕ) (v : Option AbsByte) → Quiet (loading device k s registers d v)
+loading_quiet device k s registers d None = (refl, refl)
+loading_quiet device k s registers d (Some v) = (refl, refl)
+
+interrupts_quiet : (device : Device) (k : NodeKey) (s : AbsState) (on : Bool) → Quiet (interrupts_row device k s on)
+interrupts_quiet device k s true = (refl, refl)
+interrupts_quiet device k s false = (refl, refl)
+
+pub flag_quiet : (device : Device) (k : NodeKey) (s : AbsState) (n : ℕ) (on : Bool) → Quiet (flag_row device k s n on)
+flag_quiet device k s n on = if_quiet (n == 7) _ _ (interrupts_quiet device k s on) (refl, refl)
 
 opening_quiet : (h : Option High) (k : NodeKey) (s : AbsState) (pc : ℕ) → Quiet (opening h k s pc)
 opening_quiet None k s pc = (refl, refl)
 opening_quiet (Some h) k s pc = (refl, refl)
 
-closing_quiet : (n : Option ℕ) (k : NodeKey) (s : AbsState) (pc : ℕ) → Quiet (closing n k s pc)
-closing_quiet None k s pc = (refl, refl)
-closing_quiet (Some n) k s pc = if_quiet (nat_le n SIZE) _ _ (refl, refl) (refl, refl)
+closing_quiet : (device : Device) (n : Option ℕ) (k : NodeKey) (s : AbsState) (pc : ℕ) → Quiet (closing device n k s pc)
+closing_quiet device None k s pc = (refl, refl)
+closing_quiet device (Some n) k s pc = if_quiet (nat_le n (size_of device)) _ _ (refl, refl) (refl, refl)
 
 sreg_quiet : (t : Tri) (k : NodeKey) (s : AbsState) (is_out : Bool) → Quiet (sreg_written t k s is_out)
 sreg_quiet Zero k s is_out = (refl, refl)
 sreg_quiet One k s is_out = (refl, refl)
 sreg_quiet Any k s is_out = (refl, refl)
 
-pub written_quiet : (pc : ℕ) (k : NodeKey) (s : AbsState) (is_out : Bool) (a : ℕ) (v : AbsByte) → Quiet (written_at pc k s is_out a v)
+pub written_quiet : (device : Device) (pc : ℕ) (k : NodeKey) (s : AbsState) (is_out : Bool) (a : ℕ) (v : AbsByte) → Quiet (written_at device pc k s is_out a v)
 unfolding written_at
-written_quiet pc k s is_out a v =
+written_quiet device pc k s is_out a v =
     if_quiet (nat_lt a 0x20) _ _ (refl, refl)
-    (if_quiet (a == SPL) _ _ (closing_quiet (closing_offset k.inst.kind k.sp v) k s pc)
+    (if_quiet (a == SPL) _ _ (closing_quiet device (closing_offset device k.inst.kind k.sp v) k s pc)
     (if_quiet (a == SPH) _ _ (opening_quiet (high_part k.inst.kind v) k s pc)
     (if_quiet (a == SREG) _ _ (sreg_quiet (tri_at v.bits 7) k (record s { flags = flags_written v }) is_out) (refl, refl))))
 
-fixed_quiet : (a : Option ℕ) (pc : ℕ) (k : NodeKey) (s : AbsState) (v : AbsByte) → Quiet (fixed_write a pc k s v)
-fixed_quiet None pc k s v = (refl, refl)
-fixed_quiet (Some a) pc k s v = written_quiet pc k s false a v
+fixed_quiet : (device : Device) (a : Option ℕ) (pc : ℕ) (k : NodeKey) (s : AbsState) (v : AbsByte) → Quiet (fixed_write device a pc k s v)
+fixed_quiet device None pc k s v = (refl, refl)
+fixed_quiet device (Some a) pc k s v = written_quiet device pc k s false a v
 
-pub pointer_quiet : (words : List ℕ) (A : List Entry) (was : AbsState) (r up : ℕ) (p : Pointed) (pc : ℕ) (k : NodeKey) (s : AbsState) (v : AbsByte)
-    → Quiet (pointer_write words A was r up p pc k s v)
-pointer_quiet words A was r up p pc k s v = if_quiet (is_fixed words pc || is_proved A pc) _ _ (fixed_quiet p.constant pc k s v) (refl, refl)
+pub pointer_quiet : (device : Device) (words : List ℕ) (A : List Entry) (was : AbsState) (r up : ℕ) (p : Pointed) (pc : ℕ) (k : NodeKey) (s : AbsState) (v : AbsByte)
+    → Quiet (pointer_write device words A was r up p pc k s v)
+pointer_quiet device words A was r up p pc k s v = if_quiet (is_fixed words pc || is_proved A pc) _ _ (fixed_quiet device p.constant pc k s v) (refl, refl)
 
 pub jumping_quiet : (targets : Option (List ℕ)) (k : NodeKey) (s : AbsState) → Quiet (jumping targets k s)
 jumping_quiet None k s = (refl, refl)
@@ -111,16 +125,20 @@ pub closed_quiet : (sp : SpForm) (pc : ℕ) (f : ℕ → Raw) → ((offset : ℕ
 closed_quiet (Closed offset) pc f h = h offset
 closed_quiet (Open offset high) pc f h = (refl, refl)
 
-pub pushing_quiet : (scratch : Bool) (k : NodeKey) (s : AbsState) (r offset : ℕ) → Quiet (pushing scratch k s r offset)
-pushing_quiet scratch k s r offset = if_quiet (nat_le (offset + 1) SIZE) _ _ (refl, refl) (refl, refl)
+pub pushing_quiet : (device : Device) (scratch : Bool) (k : NodeKey) (s : AbsState) (r offset : ℕ) → Quiet (pushing device scratch k s r offset)
+pushing_quiet device scratch k s r offset = if_quiet (nat_le (offset + 1) (size_of device)) _ _ (refl, refl) (refl, refl)
 
-pub room_quiet : (k : NodeKey) (s : AbsState) (target offset : ℕ) → Quiet (making_room k s target offset)
-room_quiet k s target offset = if_quiet (nat_le (offset + 2) SIZE) _ _ (refl, refl) (refl, refl)
+pub room_quiet : (device : Device) (k : NodeKey) (s : AbsState) (target offset : ℕ) → Quiet (making_room device k s target offset)
+room_quiet device k s target offset = if_quiet (nat_le (offset + 2) (size_of device)) _ _ (refl, refl) (refl, refl)
 
-pub popping_quiet : (k : NodeKey) (s : AbsState) (d offset : ℕ) → Quiet (popping k s d offset)
-popping_quiet k s d zero = (refl, refl)
-popping_quiet k s d (suc n) = (refl, refl)
+pub popping_quiet : (device : Device) (k : NodeKey) (s : AbsState) (d offset : ℕ) → Quiet (popping device k s d offset)
+popping_quiet device k s d zero = (refl, refl)
+popping_quiet device k s d (suc n) = (refl, refl)
 
-pub untracked_fits : (A : List Entry) (k : NodeKey) (b : Bool) (pc : ℕ) (r : Raw) → IsFit A k r → IsFit A k (untracked_if b pc r)
+pub untracked_fits : {device : Device} (A : List Entry) (k : NodeKey) (b : Bool) (pc : ℕ) (r : Raw) → IsFit device A k r → IsFit device A k (untracked_if b pc r)
 untracked_fits A k true pc r h = record { words = record { calls = h.words.calls; exit = h.words.exit }; ascending = h.ascending }
 untracked_fits A k false pc r h = h
+
+pub too_deep_fits : {device : Device} (A : List Entry) (k : NodeKey) (b : Bool) (pc offset : ℕ) (r : Raw) → IsFit device A k r → IsFit device A k (too_deep_if b pc offset r)
+too_deep_fits A k true pc offset r h = record { words = record { calls = h.words.calls; exit = h.words.exit }; ascending = h.ascending }
+too_deep_fits A k false pc offset r h = h

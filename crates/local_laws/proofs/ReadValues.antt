@@ -1,25 +1,29 @@
 -- What is known of a byte that is read stands for the byte that the machine reads.
-use Rattle.std.proofs.Common.{◌≡◌, refl, sym, ◌∙◌, ap, subst, ℕ, zero, suc, ◌+◌, ◌-◌, ◌%◌, ◌<◌, ◌≤◌, ⊎_elim, Bool, true, false, if◌then◌else◌, ◌==◌, nat_le, List, length, Option, Some, None, arith, leb-true}
+use Rattle.std.proofs.Common.{◌≡◌, refl, sym, ◌∙◌, ap, subst, ℕ, zero, suc, ◌+◌, ◌-◌, ◌%◌, ◌<◌, ◌≤◌, ⊎_elim, Bool, true, false, if◌then◌else◌, ◌==◌, nat_le, length, Option, Some, None, arith, leb-true}
 use Rattle.std.proofs.lemmas.Bool.{cases_lt}
 use Rattle.std.proofs.lemmas.Bool.Decides.{nat_tests}
 use Rattle.std.proofs.lemmas.Nat.Bits.{bit_at-lt}
 use Rattle.std.proofs.lemmas.List.{get_or_past}
 use Rattle.std.proofs.lemmas.List.Elements.{All-get_or}
 use Rattle.std.specs.Int.{bit_at, from_bool}
+use Rattle.avr_model.specs.Devices.{ramend}
+use Rattle.avr_model.specs.declared.device.Device.{Device}
 use Rattle.avr_model.specs.Sreg.{flag}
 use Rattle.avr_model.specs.Vectors.{enable_of}
-use Rattle.avr_model.specs.State.{State, register, read, io_byte, io_bit, sram_at, byte_in, live_in, is_live, is_sram, RAMEND, BELOW, SPL, SPH, SREG, low, high, minus16}
+use Rattle.avr_model.specs.State.{State, register, read, io_byte, io_bit, sram_at, byte_in, is_live, is_sram, BELOW, SPL, SPH, SREG, low, high, minus16}
 use Rattle.vector_table.proofs.AllLaws.{numbers_are_their_bits}
 use Rattle.bit_domain.specs.Tri.{Permits, tri_bit}
-use Rattle.bit_domain.specs.TriByte.{Has, byte_any}
+use Rattle.bit_domain.specs.TriByte.{Has, byte_any, byte_known, byte_with}
 use Rattle.bit_domain.proofs.AllLaws.{bytes_are_sets, writes_cover}
+use Rattle.sp_domain.specs.declared.tags.Tag.TheVariants as tag
 use Rattle.sp_domain.specs.declared.slots.Slot.{Slot}
 use Rattle.sp_domain.specs.declared.slots.Slot.TheVariants.{Free, Guarded}
 use Rattle.sp_domain.specs.Tags.{Origin, TagHolds, low_of, high_of}
 use Rattle.sp_domain.specs.Slots.{slot_at}
 use Rattle.abs_state.specs.declared.values.AbsByte.{AbsByte}
 use Rattle.abs_state.specs.declared.state.AbsState.{AbsState}
-use Rattle.abs_state.specs.Values.{untagged, unknown, known}
+use Rattle.abs_state.specs.Values.{untagged, unknown, known, valued, set_of}
+use Rattle.abs_state.proofs.AllLaws.{bits_make_values}
 use Rattle.abs_state.specs.Stands.{ByteStands, EntryHolds, SlotStands}
 use Rattle.mask_states.specs.declared.keys.NodeKey.{NodeKey}
 use Rattle.mask_states.specs.declared.keys.Kind.{Kind}
@@ -32,6 +36,7 @@ use Rattle.local_rules.specs.Reads.{sp_low, sp_high, flags_tag, sreg_value, io_t
 use Rattle.local_rules.specs.Cover.{InFrame}
 use Rattle.local_laws.proofs.Frame.{nothing_stands, has_any, register_stands}
 use Rattle.local_laws.proofs.Alu.{register_byte}
+use Rattle.local_laws.proofs.Memory.{inside_if_live}
 
 -- ---- bits that are known
 
@@ -40,11 +45,16 @@ bit_permits zero lt = refl
 bit_permits (suc zero) lt = refl
 bit_permits (suc (suc n)) lt = absurd (omega arith)
 
-pub known_stands : (o : Origin) (x : ℕ) → ByteStands o (known x) x
-known_stands o x = record { tag = tt; bits = bytes_are_sets.built (λ i. tri_bit (bit_at x i)) x (λ i lt. bit_permits (bit_at x i) (bit_at-lt x i)) }
+pub known_stands : (o : Origin) (x : ℕ) → x < 256 → ByteStands o (known x) x
+known_stands o x small =
+    bits_make_values.stands o tag.None (byte_known x) x small tt (bytes_are_sets.built (λ i. tri_bit (bit_at x i)) x (λ i lt. bit_permits (bit_at x i) (bit_at-lt x i)))
 
 pub untagged_stands : (o : Origin) (v : AbsByte) (x : ℕ) → ByteStands o v x → ByteStands o (untagged v.bits) x
-untagged_stands o v x h = record { tag = tt; bits = h.bits }
+untagged_stands o v x h = bits_make_values.stands o tag.None v.bits x h.small tt h.bits
+
+-- the bits and the range without the tag
+pub range_stands : (o : Origin) (v : AbsByte) (x : ℕ) → ByteStands o v x → ByteStands o (valued tag.None (set_of v)) x
+range_stands o v x h = record { tag = tt; bits = h.bits; low = h.low; high = h.high; small = h.small }
 
 -- ---- the stack pointer's bytes
 
@@ -57,26 +67,28 @@ low_byte base offset = omega arith
 high_byte : (base offset : ℕ) → high (minus16 base offset) ≡ high (minus16 base (offset % 65536))
 high_byte base offset = omega arith
 
-module _ (o : Origin) (word : o.base < 65536) (is_open : Bool) (sp : ℕ) where
+module _ (device : Device) (o : Origin) (word : o.base < 65536) (is_open : Bool) (sp : ℕ) (small : sp < 65536) where
   tagged_low : (offset : ℕ) → sp + offset ≡ o.base → ByteStands o (with_bits (low_of offset) byte_any) (low sp)
-  tagged_low offset e = record { tag = ap low (in_frame o.base offset sp word e) ∙ low_byte o.base offset; bits = has_any (low sp) }
+  tagged_low offset e =
+      bits_make_values.stands o (low_of offset) byte_any (low sp) (omega arith) (ap low (in_frame o.base offset sp word e) ∙ low_byte o.base offset) (has_any (low sp))
 
   tagged_high : (offset : ℕ) → sp + offset ≡ o.base → ByteStands o (with_bits (high_of offset) byte_any) (high sp)
-  tagged_high offset e = record { tag = ap high (in_frame o.base offset sp word e) ∙ high_byte o.base offset; bits = has_any (high sp) }
+  tagged_high offset e =
+      bits_make_values.stands o (high_of offset) byte_any (high sp) (omega (arith, small)) (ap high (in_frame o.base offset sp word e) ∙ high_byte o.base offset) (has_any (high sp))
 
-  pub low_stands : (kind : Kind) (form : SpForm) → (kind ≡ Root → o.base ≡ RAMEND) → SpIs o.base is_open sp form → ByteStands o (sp_low kind form) (low sp)
-  low_stands kind (Open offset h) root is = nothing_stands o (low sp)
+  pub low_stands : (kind : Kind) (form : SpForm) → (kind ≡ Root → o.base ≡ ramend device) → SpIs o.base is_open sp form → ByteStands o (sp_low device kind form) (low sp)
+  low_stands kind (Open offset h) root is = nothing_stands o (low sp) (omega arith)
   low_stands Root (Closed offset) root is =
-      let e : sp ≡ RAMEND - offset = omega (arith, root refl, is.1) in
-      subst (λ x. ByteStands o (known (low x)) (low sp)) e (known_stands o (low sp))
+      let e : sp ≡ ramend device - offset = omega (arith, root refl, is.1) in
+      subst (λ x. ByteStands o (known (low x)) (low sp)) e (known_stands o (low sp) (omega arith))
   low_stands Call (Closed offset) root is = tagged_low offset is.1
   low_stands (Vector v) (Closed offset) root is = tagged_low offset is.1
 
-  pub high_stands : (kind : Kind) (form : SpForm) → (kind ≡ Root → o.base ≡ RAMEND) → SpIs o.base is_open sp form → ByteStands o (sp_high kind form) (high sp)
-  high_stands kind (Open offset h) root is = nothing_stands o (high sp)
+  pub high_stands : (kind : Kind) (form : SpForm) → (kind ≡ Root → o.base ≡ ramend device) → SpIs o.base is_open sp form → ByteStands o (sp_high device kind form) (high sp)
+  high_stands kind (Open offset h) root is = nothing_stands o (high sp) (omega (arith, small))
   high_stands Root (Closed offset) root is =
-      let e : sp ≡ RAMEND - offset = omega (arith, root refl, is.1) in
-      subst (λ x. ByteStands o (known (high x)) (high sp)) e (known_stands o (high sp))
+      let e : sp ≡ ramend device - offset = omega (arith, root refl, is.1) in
+      subst (λ x. ByteStands o (known (high x)) (high sp)) e (known_stands o (high sp) (omega (arith, small)))
   high_stands Call (Closed offset) root is = tagged_high offset is.1
   high_stands (Vector v) (Closed offset) root is = tagged_high offset is.1
 
@@ -116,12 +128,8 @@ io_small masks a input = numbers_are_their_bits.below 8 (λ j. io_bit (enable_of
 
 -- ---- SRAM
 
-pub live_inside : (live : List Bool) (a : ℕ) → live_in live a ≡ true → is_sram a ≡ true
-unfolding live_in
-live_inside live a h = grind arith
-
-pub inside_numbers : (a : ℕ) → is_sram a ≡ true → (BELOW < a) × (a ≤ RAMEND)
-inside_numbers a h = (grind (arith, nat_tests), grind (arith, nat_tests))
+pub inside_numbers : (device : Device) (a : ℕ) → is_sram device a ≡ true → (BELOW < a) × (a ≤ ramend device)
+inside_numbers device a h = (grind (arith, nat_tests), grind (arith, nat_tests))
 
 -- what a test chooses on both sides
 by_test : (o : Origin) (b : Bool) (v w : AbsByte) (x y : ℕ) → ByteStands o v x → ByteStands o w y → ByteStands o (if b then v else w) (if b then x else y)
@@ -132,9 +140,9 @@ small_by_test : (b : Bool) (x y : ℕ) → x < 256 → y < 256 → (if b then x 
 small_by_test true x y h g = h
 small_by_test false x y h g = g
 
-test_only : (o : Origin) (b : Bool) (v : AbsByte) (x : ℕ) → (b ≡ true → ByteStands o v x) → ByteStands o (if b then v else unknown) x
-test_only o true v x h = h refl
-test_only o false v x h = nothing_stands o x
+test_only : (o : Origin) (b : Bool) (v : AbsByte) (x : ℕ) → x < 256 → (b ≡ true → ByteStands o v x) → ByteStands o (if b then v else unknown) x
+test_only o true v x small h = h refl
+test_only o false v x small h = nothing_stands o x small
 
 module _ (m : State) (o : Origin) (k : NodeKey) (s : AbsState) (at : InFrame m o k s) where
   byte_small : (a : ℕ) → byte_in m.memory.bytes a < 256
@@ -157,56 +165,60 @@ module _ (m : State) (o : Origin) (k : NodeKey) (s : AbsState) (at : InFrame m o
 
   sreg_stands : ByteStands o (sreg_value k s) m.sreg
   sreg_stands =
-      record {
-        tag = entry_holds o s.flags.entry m.sreg at.stands.flags.entry;
-        bits = writes_cover.members s.flags.bits 7 (tri_bit (from_bool k.i)) m.sreg m.sreg at.stands.flags.bits (flag_permits m.sreg 7 k.i at.place.i) (λ j lt other. refl);
-      }
+      bits_make_values.stands o (flags_tag s.flags.entry) (byte_with s.flags.bits 7 (tri_bit (from_bool k.i))) m.sreg at.machine.sreg_byte
+      (entry_holds o s.flags.entry m.sreg at.stands.flags.entry)
+      (writes_cover.members s.flags.bits 7 (tri_bit (from_bool k.i)) m.sreg m.sreg at.stands.flags.bits (flag_permits m.sreg 7 k.i at.place.i) (λ j lt other. refl))
 
   io_stands : (a input : ℕ) → ByteStands o (untagged (io_bits k.masks a)) (io_byte m.enables a input)
-  io_stands a input = record { tag = tt; bits = subst (λ masks. Has (io_bits masks a) (io_byte m.enables a input)) at.place.enables (io_has m.enables a input) }
+  io_stands a input =
+      bits_make_values.stands o tag.None (io_bits k.masks a) (io_byte m.enables a input) (io_small m.enables a input) tt
+      (subst (λ masks. Has (io_bits masks a) (io_byte m.enables a input)) at.place.enables (io_has m.enables a input))
 
   -- the byte of a live address is that of SRAM
   pub live_read : (a input : ℕ) → is_live m.memory a ≡ true → read m a input ≡ sram_at m a
   unfolding read
   live_read a input live =
-      let inside : is_sram a ≡ true = live_inside m.memory.live a live in
+      let inside : is_sram m.device a ≡ true = inside_if_live m.device m.memory.live a at.machine.count_live live in
       grind (arith, nat_tests)
 
-  slot_stands : (a x : ℕ) (slot : Slot AbsByte) → (is_live m.memory a ≡ true → x ≡ sram_at m a) → SlotStands o m.memory a slot → ByteStands o (value_of slot) x
-  slot_stands a x Free is h = nothing_stands o x
-  slot_stands a x (Guarded v) is h = subst (ByteStands o v) (sym (is h.0)) h.1
+  slot_stands : (a x : ℕ) (slot : Slot AbsByte) → x < 256 → (is_live m.memory a ≡ true → x ≡ sram_at m a) → SlotStands o m.memory a slot → ByteStands o (value_of slot) x
+  slot_stands a x Free small is h = nothing_stands o x small
+  slot_stands a x (Guarded v) small is h = subst (ByteStands o v) (sym (is h.0)) h.1
 
   -- the slot at base - d, where there is one
-  pub slot_at_stands : (d x : ℕ) → (is_live m.memory (o.base - d) ≡ true → x ≡ sram_at m (o.base - d)) → ByteStands o (value_of (slot_at s.slots d)) x
-  slot_at_stands d x is =
+  pub slot_at_stands : (d x : ℕ) → x < 256 → (is_live m.memory (o.base - d) ≡ true → x ≡ sram_at m (o.base - d)) → ByteStands o (value_of (slot_at s.slots d)) x
+  slot_at_stands d x small is =
       ⊎_elim
-      (λ lt. slot_stands (o.base - d) x (slot_at s.slots d) is (at.stands.slots d lt))
-      (λ over. subst (λ slot. ByteStands o (value_of slot) x) (sym (get_or_past s.slots d Free over)) (nothing_stands o x))
+      (λ lt. slot_stands (o.base - d) x (slot_at s.slots d) small is (at.stands.slots d lt))
+      (λ over. subst (λ slot. ByteStands o (value_of slot) x) (sym (get_or_past s.slots d Free over)) (nothing_stands o x small))
       (cases_lt d (length s.slots))
 
-  sram_or_input : (a input : ℕ) → is_live m.memory a ≡ true → (if is_sram a then sram_at m a else input) ≡ sram_at m a
-  sram_or_input a input live = ap (λ b. if b then sram_at m a else input) (live_inside m.memory.live a live)
+  sram_or_input : (a input : ℕ) → is_live m.memory a ≡ true → (if is_sram m.device a then sram_at m a else input) ≡ sram_at m a
+  sram_or_input a input live = ap (λ b. if b then sram_at m a else input) (inside_if_live m.device m.memory.live a at.machine.count_live live)
 
-  root_slot : (a input : ℕ) → o.base ≡ RAMEND
-      → ByteStands o (if nat_le a RAMEND then value_of (slot_at s.slots (RAMEND - a)) else unknown) (if is_sram a then sram_at m a else input)
-  root_slot a input root =
-      test_only o (nat_le a RAMEND) (value_of (slot_at s.slots (RAMEND - a))) _ (λ h.
-      let le : a ≤ RAMEND = leb-true a RAMEND h in
-      let here : a ≡ o.base - (RAMEND - a) = omega (arith, root) in
-      slot_at_stands (RAMEND - a) (if is_sram a then sram_at m a else input)
-      (subst (λ b. is_live m.memory b ≡ true → (if is_sram a then sram_at m a else input) ≡ sram_at m b) here (sram_or_input a input)))
+  slot_small : (a input : ℕ) → input < 256 → (if is_sram m.device a then sram_at m a else input) < 256
+  slot_small a input lt = small_by_test (is_sram m.device a) (sram_at m a) input (byte_small a) lt
 
-  kind_slot : (kind : Kind) (a input : ℕ) → (kind ≡ Root → o.base ≡ RAMEND) → ByteStands o (slot_read kind s a) (if is_sram a then sram_at m a else input)
-  kind_slot Root a input root = root_slot a input (root refl)
-  kind_slot Call a input root = nothing_stands o (if is_sram a then sram_at m a else input)
-  kind_slot (Vector v) a input root = nothing_stands o (if is_sram a then sram_at m a else input)
+  root_slot : (a input : ℕ) → input < 256 → o.base ≡ ramend m.device
+      → ByteStands o (if nat_le a (ramend m.device) then value_of (slot_at s.slots (ramend m.device - a)) else unknown) (if is_sram m.device a then sram_at m a else input)
+  root_slot a input lt root =
+      test_only o (nat_le a (ramend m.device)) (value_of (slot_at s.slots (ramend m.device - a))) _ (slot_small a input lt) (λ h.
+      let le : a ≤ ramend m.device = leb-true a (ramend m.device) h in
+      let here : a ≡ o.base - (ramend m.device - a) = omega (arith, root) in
+      slot_at_stands (ramend m.device - a) (if is_sram m.device a then sram_at m a else input) (slot_small a input lt)
+      (subst (λ b. is_live m.memory b ≡ true → (if is_sram m.device a then sram_at m a else input) ≡ sram_at m b) here (sram_or_input a input)))
+
+  kind_slot : (kind : Kind) (a input : ℕ) → input < 256 → (kind ≡ Root → o.base ≡ ramend m.device) → ByteStands o (slot_read m.device kind s a) (if is_sram m.device a then sram_at m a else input)
+  kind_slot Root a input lt root = root_slot a input lt (root refl)
+  kind_slot Call a input lt root = nothing_stands o (if is_sram m.device a then sram_at m a else input) (slot_small a input lt)
+  kind_slot (Vector v) a input lt root = nothing_stands o (if is_sram m.device a then sram_at m a else input) (slot_small a input lt)
 
   -- what a read of a known address gives
-  pub read_stands : (a input : ℕ) → ByteStands o (read_at k s a) (read m a input)
+  pub read_stands : (a input : ℕ) → input < 256 → ByteStands o (read_at m.device k s a) (read m a input)
   unfolding read read_at
-  read_stands a input =
+  read_stands a input lt =
       by_test o _ _ _ _ _ (register_stands m o k s at a)
-      (by_test o (a == SPL) _ _ _ _ (low_stands o at.base_word m.is_open m.sp k.inst.kind k.sp at.root at.place.sp)
-      (by_test o (a == SPH) _ _ _ _ (high_stands o at.base_word m.is_open m.sp k.inst.kind k.sp at.root at.place.sp)
+      (by_test o (a == SPL) _ _ _ _ (low_stands m.device o at.base_word m.is_open m.sp at.machine.sp_word k.inst.kind k.sp at.root at.place.sp)
+      (by_test o (a == SPH) _ _ _ _ (high_stands m.device o at.base_word m.is_open m.sp at.machine.sp_word k.inst.kind k.sp at.root at.place.sp)
       (by_test o (a == SREG) _ _ _ _ sreg_stands
-      (by_test o (nat_le a BELOW) _ _ _ _ (io_stands a input) (kind_slot k.inst.kind a input at.root)))))
+      (by_test o (nat_le a BELOW) _ _ _ _ (io_stands a input) (kind_slot k.inst.kind a input lt at.root)))))

@@ -1,9 +1,13 @@
 -- Bytes that are pushed and popped, and calls of a compiler's small frame.
-use Rattle.std.proofs.Common.{◌≡◌, refl, sym, ap, ◌∙◌, subst, ℕ, zero, suc, ◌+◌, ◌-◌, ◌<◌, ◌≤◌, ◌==◌, ◌&&◌, Bool, true, false, not, nat_lt, nat_le, if◌then◌else◌, [], ◌∷◌, ◌++◌, take, length, arith, length-take}
+use Rattle.std.proofs.Common.{◌≡◌, refl, sym, ap, ◌∙◌, subst, ℕ, zero, suc, ◌+◌, ◌-◌, ◌<◌, ◌≤◌, ◌==◌, ◌&&◌, Bool, true, false, not, nat_lt, nat_le, if◌then◌else◌, [], ◌∷◌, ◌++◌, take, length, arith, length-take, ap₂}
 use Rattle.std.proofs.lemmas.Bool.Decides.{nat_tests}
 use Rattle.std.proofs.lemmas.List.{append_assoc}
+use Rattle.avr_model.proofs.AllLaws.{devices_are_alike}
+use Rattle.avr_model.specs.Devices.{size_of, ramend, wrapped}
+use Rattle.avr_model.specs.declared.device.Device.{Device}
 use Rattle.avr_model.specs.declared.effect.Effect.{Effect}
-use Rattle.avr_model.specs.State.{State, Memory, RAMEND, SIZE, BELOW, register, sram_at, is_sram, is_live, plus16, minus16, low, read, SPL, SPH, SREG}
+use Rattle.avr_model.specs.Sreg.{flag}
+use Rattle.avr_model.specs.State.{State, Memory, BELOW, register, sram_at, is_sram, is_live, plus16, minus16, low, read, SPL, SPH, SREG}
 use Rattle.avr_model.specs.Effects.{further, calling, way_back, push_effect, pop_effect}
 use Rattle.avr_model.specs.Step.{after, memory_after, all_inside}
 use Rattle.sp_domain.specs.declared.slots.Slot.{Slot}
@@ -27,10 +31,13 @@ use Rattle.local_rules.specs.Flow.{if_room, pushed_slot, pushing, popping, makin
 use Rattle.local_rules.specs.Cover.{InFrame, Follows}
 use Rattle.local_laws.proofs.Frame.{first, only, register_stands, set_one, next_is, nothing_stands}
 use Rattle.local_laws.proofs.Memory.{inside_if_live, pushed_byte, pushed_live}
+use Rattle.local_laws.proofs.Less.{Spares, less_set}
+use Rattle.local_laws.proofs.ReadValues.{read_small}
 use Rattle.local_laws.proofs.FlowRows.{closed, call_covered, further_is}
 
-inside_one : (sp offset base : ℕ) → sp + offset ≡ base → base ≤ RAMEND → RAMEND + (offset + 1) ≤ base + SIZE → is_sram sp ≡ true
-inside_one sp offset base e low room = grind (arith, nat_tests)
+inside_one : (device : Device) (sp offset base : ℕ) → sp + offset ≡ base → base ≤ ramend device → ramend device + (offset + 1) ≤ base + size_of device
+    → is_sram device sp ≡ true
+inside_one device sp offset base e low room = grind (arith, nat_tests)
 
 and_true : (a : Bool) → a ≡ true → (a && true) ≡ true
 and_true a e = grind arith
@@ -38,26 +45,29 @@ and_true a e = grind arith
 first_true : (a : Bool) → (a && true) ≡ true → a ≡ true
 first_true a e = grind arith
 
-inside_two : (sp offset base word : ℕ) → sp + offset ≡ base → base ≤ RAMEND → RAMEND + (offset + 2) ≤ base + SIZE → all_inside (way_back sp word) ≡ true
-inside_two sp offset base word e low room =
-    let next_one : minus16 sp 1 + 1 ≡ sp = omega arith in
-    let here : is_sram sp ≡ true = inside_one sp offset base e low (omega arith) in
-    let there : is_sram (minus16 sp 1) ≡ true = inside_one (minus16 sp 1) (offset + 1) base (omega arith) low (omega arith) in
-    grind arith
+inside_two : (device : Device) (sp offset base word : ℕ) → sp + offset ≡ base → base ≤ ramend device → ramend device + (offset + 2) ≤ base + size_of device
+    → all_inside device (way_back sp word) ≡ true
+inside_two device sp offset base word e low room =
+    let few = devices_are_alike.most_bytes device in
+    let next_one : minus16 sp 1 + 1 ≡ sp = omega (arith, few, e, low, room) in
+    let here : is_sram device sp ≡ true = inside_one device sp offset base e low (omega (arith, room)) in
+    let there : is_sram device (minus16 sp 1) ≡ true = inside_one device (minus16 sp 1) (offset + 1) base (omega (arith, next_one, e)) low (omega (arith, room)) in
+    ap₂ (λ (a b : Bool). a && (b && true)) here there
 
 -- the byte of an address in SRAM
-in_sram : (a r l h f i b x : ℕ) → is_sram a ≡ true
-    → (if nat_lt a 0x20 then r else (if a == SPL then l else (if a == SPH then h else (if a == SREG then f else (if nat_le a BELOW then i else (if is_sram a then b else x)))))) ≡ b
-in_sram a r l h f i b x inside = grind (arith, nat_tests)
+in_sram : (device : Device) (a r l h f i b x : ℕ) → is_sram device a ≡ true
+    → (if nat_lt a 0x20 then r else (if a == SPL then l else (if a == SPH then h else (if a == SREG then f else (if nat_le a BELOW then i else (if is_sram device a then b else x)))))) ≡ b
+in_sram device a r l h f i b x inside = grind (arith, nat_tests)
 
-live_read : (m : State) (a input : ℕ) → is_live m.memory a ≡ true → read m a input ≡ sram_at m a
+live_read : (m : State) (a input : ℕ) → length m.memory.live ≡ size_of m.device → is_live m.memory a ≡ true → read m a input ≡ sram_at m a
 unfolding read
-live_read m a input live = in_sram a _ _ _ _ _ (sram_at m a) input (inside_if_live m.memory.live a live)
+live_read m a input count live = in_sram m.device a _ _ _ _ _ (sram_at m a) input (inside_if_live m.device m.memory.live a count live)
 
 -- what is known of a slot's byte
-slot_read : (m : State) (o : Origin) (a input : ℕ) (slot : Slot AbsByte) → SlotStands o m.memory a slot → ByteStands o (value_of slot) (read m a input)
-slot_read m o a input Free h = nothing_stands o (read m a input)
-slot_read m o a input (Guarded v) h = subst (ByteStands o v) (sym (live_read m a input h.0)) h.1
+slot_read : (m : State) (o : Origin) (a input : ℕ) (slot : Slot AbsByte) → length m.memory.live ≡ size_of m.device → read m a input < 256 → SlotStands o m.memory a slot
+    → ByteStands o (value_of slot) (read m a input)
+slot_read m o a input Free count small h = nothing_stands o (read m a input) small
+slot_read m o a input (Guarded v) count small h = subst (ByteStands o v) (sym (live_read m a input count h.0)) h.1
 
 module _ (m : State) (o : Origin) (k : NodeKey) (s : AbsState) (at : InFrame m o k s) where
   sp_is : (offset : ℕ) → k.sp ≡ Closed offset → m.sp + offset ≡ o.base
@@ -72,8 +82,8 @@ module _ (m : State) (o : Origin) (k : NodeKey) (s : AbsState) (at : InFrame m o
 
   module _ (guarded : Bool) (b1 b2 : ℕ) where
     -- a row that has room
-    with_room : (n : ℕ) (r : Raw) (e : Effect) → (if_room n k.pc r).faults ≡ [] → Follows m o k guarded b1 b2 e r → Follows m o k guarded b1 b2 e (if_room n k.pc r)
-    with_room n r e none h = by_room (nat_le n SIZE) none
+    with_room : (n : ℕ) (r : Raw) (e : Effect) → (if_room m.device n k.pc r).faults ≡ [] → Follows m o k guarded b1 b2 e r → Follows m o k guarded b1 b2 e (if_room m.device n k.pc r)
+    with_room n r e none h = by_room (nat_le n (size_of m.device)) none
       where
         by_room : (fits : Bool) → (if fits then r else fails (TooDeep k.pc n)).faults ≡ [] → Follows m o k guarded b1 b2 e (if fits then r else fails (TooDeep k.pc n))
         by_room true free = h
@@ -81,68 +91,70 @@ module _ (m : State) (o : Origin) (k : NodeKey) (s : AbsState) (at : InFrame m o
 
     -- ---- pop
 
-    popped : (d offset : ℕ) → k.sp ≡ Closed offset → (popping k s d offset).faults ≡ [] → Follows m o k guarded b1 b2 (pop_effect m d b1) (popping k s d offset)
-    popped d zero form none = absurd (cc)
-    popped d (suc n) form none =
+    popped : (d offset : ℕ) → b1 < 256 → Spares s.flags.carry d → k.sp ≡ Closed offset → (popping m.device k s d offset).faults ≡ [] → Follows m o k guarded b1 b2 (pop_effect m d b1) (popping m.device k s d offset)
+    popped d zero small spare form none = absurd (cc)
+    popped d (suc n) small spare form none =
         let sp = sp_is (suc n) form in
         let slots = count (suc n) form in
         let address : o.base - n ≡ plus16 m.sp 1 = omega (arith, at.base_word) in
         only m o k s at guarded b1 b2 (pop_effect m d b1)
-        (record { key = record (next k) { sp = Closed n }; state = record s { registers = node_set s d (value_of (slot_at s.slots n)); slots = take n s.slots } }) refl
+        (record { key = record (next m.device k) { sp = Closed n }; state = record s { registers = node_set s d (value_of (slot_at s.slots n)); slots = take n s.slots } }) refl
         (record {
           inside = λ room. refl;
           place = λ within. record { pc = next_is m o k s at; enables = at.place.enables; i = at.place.i; delay = refl; sp = (refl, omega (arith, at.base_word)) };
           registers = set_one m o k s at d (value_of (slot_at s.slots n)) (read m (plus16 m.sp 1) b1)
-              (slot_read m o (plus16 m.sp 1) b1 (slot_at s.slots n)
+              (slot_read m o (plus16 m.sp 1) b1 (slot_at s.slots n) at.machine.count_live (read_small m o k s at (plus16 m.sp 1) b1 small)
               (subst (λ a. SlotStands o m.memory a (slot_at s.slots n)) address (at.stands.slots n (omega arith))));
           flags = at.stands.flags;
+          less = less_set m.registers s.flags.carry (flag m.sreg 0) d (read m (plus16 m.sp 1) b1) spare at.stands.less;
           slots = λ within inside kept.
               slots_follow.kept o m.memory (after m guarded (pop_effect m d b1)).memory (plus16 m.sp 1) (take n s.slots) kept (omega (arith, at.base_word, length-take n s.slots))
               (slots_follow.taken o m.memory s.slots n at.stands.slots);
         })
 
-    pub pop_covered : (d : ℕ) → (at_closed k.sp k.pc (popping k s d)).faults ≡ [] → Follows m o k guarded b1 b2 (pop_effect m d b1) (at_closed k.sp k.pc (popping k s d))
-    pop_covered d none = closed m o k s at guarded b1 b2 k.sp k.pc (pop_effect m d b1) (popping k s d) none (popped d)
+    pub pop_covered : (d : ℕ) → b1 < 256 → Spares s.flags.carry d → (at_closed k.sp k.pc (popping m.device k s d)).faults ≡ [] → Follows m o k guarded b1 b2 (pop_effect m d b1) (at_closed k.sp k.pc (popping m.device k s d))
+    pop_covered d small spare none = closed m o k s at guarded b1 b2 k.sp k.pc (pop_effect m d b1) (popping m.device k s d) none (λ offset. popped d offset small spare)
 
   module _ (scratch : Bool) (b1 b2 : ℕ) where
     -- ---- push
 
-    pushed_stands : (b : Bool) (r : ℕ) → is_sram m.sp ≡ true → minus16 m.sp 1 < m.sp
+    pushed_stands : (b : Bool) (r : ℕ) → is_sram m.device m.sp ≡ true → minus16 m.sp 1 < m.sp
         → SlotStands o (memory_after m.memory (not b) false (minus16 m.sp 1) [] (record { address = m.sp; byte = register m r } ∷ [])) m.sp (pushed_slot b (value s r))
     pushed_stands true r inside lt = tt
     pushed_stands false r inside lt = (
-      pushed_live m.memory (minus16 m.sp 1) at.machine.count_bytes at.machine.count_live m.sp (register m r) inside lt,
-      subst (ByteStands o (value s r)) (sym (pushed_byte m.memory (minus16 m.sp 1) at.machine.count_bytes at.machine.count_live true m.sp (register m r) inside)) (register_stands m o k s at r),
+      pushed_live m.device m.memory (minus16 m.sp 1) at.machine.count_bytes at.machine.count_live m.sp (register m r) inside lt,
+      subst (ByteStands o (value s r)) (sym (pushed_byte m.device m.memory (minus16 m.sp 1) at.machine.count_bytes at.machine.count_live true m.sp (register m r) inside)) (register_stands m o k s at r),
     )
 
-    pushed : (r offset : ℕ) → k.sp ≡ Closed offset → (pushing scratch k s r offset).faults ≡ [] → Follows m o k (not scratch) b1 b2 (push_effect m r) (pushing scratch k s r offset)
+    pushed : (r offset : ℕ) → k.sp ≡ Closed offset → (pushing m.device scratch k s r offset).faults ≡ [] → Follows m o k (not scratch) b1 b2 (push_effect m r) (pushing m.device scratch k s r offset)
     pushed r offset form none =
         let sp = sp_is offset form in
         let slots = count offset form in
         let new = (after m (not scratch) (push_effect m r)).memory in
         with_room (not scratch) b1 b2 (offset + 1) _ (push_effect m r) none
         (only m o k s at (not scratch) b1 b2 (push_effect m r)
-        (record { key = record (next k) { sp = Closed (offset + 1) }; state = record s { slots = s.slots ++ pushed_slot scratch (value s r) ∷ [] } }) refl
+        (record { key = record (next m.device k) { sp = Closed (offset + 1) }; state = record s { slots = s.slots ++ pushed_slot scratch (value s r) ∷ [] } }) refl
         (record {
-          inside = λ room. and_true (is_sram m.sp) (inside_one m.sp offset o.base sp room.0 room.1);
+          inside = λ room. and_true (is_sram m.device m.sp) (inside_one m.device m.sp offset o.base sp room.0 room.1);
           place = λ within. record { pc = next_is m o k s at; enables = at.place.enables; i = at.place.i; delay = refl; sp = (refl, omega (arith, at.machine.sp_word)) };
           registers = at.stands.registers;
           flags = at.stands.flags;
+          less = at.stands.less;
           slots = λ within inside kept.
               let here : m.sp ≡ o.base - length s.slots = omega (arith, at.machine.sp_word) in
               let lt : minus16 m.sp 1 < m.sp = omega (arith, at.machine.sp_word) in
               slots_follow.pushed o new s.slots (pushed_slot scratch (value s r)) (kept_below offset (minus16 m.sp 1) new form (omega (arith, at.machine.sp_word)) kept)
-              (subst (λ a. SlotStands o new a (pushed_slot scratch (value s r))) here (pushed_stands scratch r (first_true (is_sram m.sp) inside) lt));
+              (subst (λ a. SlotStands o new a (pushed_slot scratch (value s r))) here (pushed_stands scratch r (first_true (is_sram m.device m.sp) inside) lt));
         }))
 
-    pub push_covered : (r : ℕ) → (at_closed k.sp k.pc (pushing scratch k s r)).faults ≡ []
-        → Follows m o k (not scratch) b1 b2 (push_effect m r) (at_closed k.sp k.pc (pushing scratch k s r))
-    push_covered r none = closed m o k s at (not scratch) b1 b2 k.sp k.pc (push_effect m r) (pushing scratch k s r) none (pushed r)
+    pub push_covered : (r : ℕ) → (at_closed k.sp k.pc (pushing m.device scratch k s r)).faults ≡ []
+        → Follows m o k (not scratch) b1 b2 (push_effect m r) (at_closed k.sp k.pc (pushing m.device scratch k s r))
+    push_covered r none = closed m o k s at (not scratch) b1 b2 k.sp k.pc (push_effect m r) (pushing m.device scratch k s r) none (pushed r)
 
     -- ---- calls
 
-    roomier : (target target' offset : ℕ) → target ≡ target' → k.sp ≡ Closed offset → (making_room k s target' offset).faults ≡ []
-        → Follows m o k (not scratch) b1 b2 (calling m target (further m 1)) (making_room k s target' offset)
+    roomier : (target target' offset : ℕ) → wrapped m.device target ≡ target' → k.sp ≡ Closed offset → (making_room m.device k s target' offset).faults ≡ []
+        → Follows m o k (not scratch) b1 b2 (calling m target (further m 1)) (making_room m.device k s target' offset)
     roomier target target' offset is form none =
         let sp = sp_is offset form in
         let slots = count offset form in
@@ -151,24 +163,25 @@ module _ (m : State) (o : Origin) (k : NodeKey) (s : AbsState) (at : InFrame m o
         (only m o k s at (not scratch) b1 b2 (calling m target (further m 1))
         (record { key = record (at_word k target') { sp = Closed (offset + 2) }; state = record s { slots = s.slots ++ Free ∷ Free ∷ [] } }) refl
         (record {
-          inside = λ room. inside_two m.sp offset o.base (further m 1) sp room.0 room.1;
+          inside = λ room. inside_two m.device m.sp offset o.base (further m 1) sp room.0 room.1;
           place = λ within. record { pc = is; enables = at.place.enables; i = at.place.i; delay = refl; sp = (refl, omega (arith, at.machine.sp_word)) };
           registers = at.stands.registers;
           flags = at.stands.flags;
+          less = at.stands.less;
           slots = λ within inside kept.
               subst (SlotsStand o new) (append_assoc s.slots (Free ∷ []) (Free ∷ []))
               (slots_follow.pushed o new (s.slots ++ Free ∷ []) Free
               (slots_follow.pushed o new s.slots Free (kept_below offset (minus16 m.sp 2) new form (omega (arith, at.machine.sp_word)) kept) tt) tt);
         }))
 
-    rcall_by : (b : Bool) (target target' : ℕ) → b ≡ scratch → target ≡ target' → (relative_call b k s target').faults ≡ []
-        → Follows m o k (not scratch) b1 b2 (calling m target (further m 1)) (relative_call b k s target')
+    rcall_by : (b : Bool) (target target' : ℕ) → b ≡ scratch → wrapped m.device target ≡ target' → (relative_call m.device b k s target').faults ≡ []
+        → Follows m o k (not scratch) b1 b2 (calling m target (further m 1)) (relative_call m.device b k s target')
     rcall_by true target target' small is none =
-        closed m o k s at (not scratch) b1 b2 k.sp k.pc (calling m target (further m 1)) (making_room k s target') none (λ offset form free. roomier target target' offset is form free)
+        closed m o k s at (not scratch) b1 b2 k.sp k.pc (calling m target (further m 1)) (making_room m.device k s target') none (λ offset form free. roomier target target' offset is form free)
     rcall_by false target target' small is none =
-        call_covered m o k s at (not scratch) b1 b2 target target' (further m 1) (node_further k 1) (target' ∷ []) (ap not (sym small)) is
+        call_covered m o k s at (not scratch) b1 b2 target target' (further m 1) (node_further m.device k 1) (target' ∷ []) (ap not (sym small)) is
         (further_is m o k s at (not scratch) b1 b2 1) (first target' []) none
 
-    pub rcall_covered : (target target' : ℕ) → target ≡ target' → (relative_call scratch k s target').faults ≡ []
-        → Follows m o k (not scratch) b1 b2 (calling m target (further m 1)) (relative_call scratch k s target')
+    pub rcall_covered : (target target' : ℕ) → wrapped m.device target ≡ target' → (relative_call m.device scratch k s target').faults ≡ []
+        → Follows m o k (not scratch) b1 b2 (calling m target (further m 1)) (relative_call m.device scratch k s target')
     rcall_covered target target' is none = rcall_by scratch target target' refl is none

@@ -79,15 +79,15 @@ module _ (words : List ℕ) (A : List Entry) (m : State) (o : Origin) (k : NodeK
 
     -- a raw successor lies below a joined one, which the machine is at too
     lands_joined : (guarded : Bool) (e : Effect) (to : Node) → Contains (raw words A k s).moves to → to.key.inst ≡ k.inst → Lands m o guarded e to
-        → live_write m.memory (e.stores ++ e.pushes) ≡ None → all_inside e.pushes ≡ true → IsStep m o k b1 b2 (joined (raw words A k s)) (after m guarded e)
+        → live_write m.memory (e.stores ++ e.pushes) ≡ None → all_inside m.device e.pushes ≡ true → IsStep m o k b1 b2 (joined (raw words A k s)) (after m guarded e)
     lands_joined guarded e to member inst lands unhit inside =
         let above = joins.above (raw words A k s).moves to are_nodes member in
         let whole : IsWithinBase o.base to.key.sp = within (record { key = to.key; state = above.state }) above.present in
         let kept = live_bytes_stay.kept m guarded e at.machine unhit in
         stays (record { key = to.key; state = above.state }) above.present inst (lands.place whole)
-        (values_say_less.state o to.state above.state (after m guarded e) above.above (record { registers = lands.registers; flags = lands.flags; slots = lands.slots whole inside kept }))
+        (values_say_less.state o to.state above.state (after m guarded e) above.above (record { registers = lands.registers; flags = lands.flags; less = lands.less; slots = lands.slots whole inside kept }))
 
-    follows_steps : (guarded : Bool) (e : Effect) → live_write m.memory (e.stores ++ e.pushes) ≡ None → all_inside e.pushes ≡ true
+    follows_steps : (guarded : Bool) (e : Effect) → live_write m.memory (e.stores ++ e.pushes) ≡ None → all_inside m.device e.pushes ≡ true
         → Follows m o k guarded b1 b2 e (raw words A k s) → IsStep m o k b1 b2 (joined (raw words A k s)) (after m guarded e)
     follows_steps guarded e unhit inside (stays to member inst lands) = lands_joined guarded e to member inst lands unhit inside
     follows_steps guarded e unhit inside (calls offset site member form guards is) = calls offset site member form (ap₂ (after m) guards is)
@@ -98,22 +98,22 @@ module _ (words : List ℕ) (A : List Entry) (m : State) (o : Origin) (k : NodeK
     go_steps n None covered e = absurd (covered none)
     go_steps n (Some instr) covered e =
         let effect = effect_of words m instr b1 b2 in
-        let passed = passes (all_inside effect.pushes || is_unlisted (unlisted_transfer A m.pc instr effect)) _ m.pc n e in
+        let passed = passes (all_inside m.device effect.pushes || is_unlisted (unlisted_transfer A m.pc instr effect)) _ m.pc n e in
         let unflagged = flags_none m.pc (live_write m.memory (effect.stores ++ effect.pushes)) (protected_write words A m.pc instr effect) (unlisted_transfer A m.pc instr effect)
         (after m (not (is_scratch words m.pc)) effect) n passed.1 in
-        let inside = inside_if_listed (all_inside effect.pushes) (unlisted_transfer A m.pc instr effect) passed.0 unflagged.1.1.0 in
+        let inside = inside_if_listed (all_inside m.device effect.pushes) (unlisted_transfer A m.pc instr effect) passed.0 unflagged.1.1.0 in
         subst (IsStep m o k b1 b2 (joined (raw words A k s))) unflagged.1.1.1
         (follows_steps (not (is_scratch words m.pc)) effect unflagged.0 inside
         (covered none (record { protected = unflagged.1.0; listed = unflagged.1.1.0 })))
 
 pub steps_are_covered : JoinsAreLeast → LocalPartsAreNodes → StepsAreCovered
 steps_are_covered joins nodes = record {
-  defined = λ words A m o k s l b1 b2 pc at small1 small2 there.
+  defined = λ words A m o k s l b1 b2 pc are told at small1 small2 there.
       let here = local_is words A k s l there in
-      is_defined words A m o k s b1 b2 at small1 small2 (raw words A k s) (instruction_at words m.pc) pc (local_parts_cover.covered words A m o k s b1 b2 at small1 small2) here.0;
-  done = λ words A m n o k s l b1 b2 at small1 small2 there within e.
+      is_defined words A m o k s b1 b2 at small1 small2 (raw words A k s) (instruction_at words m.pc) pc (local_parts_cover.covered words A m o k s b1 b2 are told at small1 small2) here.0;
+  done = λ words A m n o k s l b1 b2 are told at small1 small2 there within e.
       let here = local_is words A k s l there in
       subst (λ x. IsStep m o k b1 b2 x n) here.1
       (go_steps words A m o k s b1 b2 at small1 small2 joins nodes here.0 (subst (λ x. (to : Node) → Contains x.same to → IsWithinBase o.base to.key.sp) (sym here.1) within)
-      n (instruction_at words m.pc) (local_parts_cover.covered words A m o k s b1 b2 at small1 small2) e);
+      n (instruction_at words m.pc) (local_parts_cover.covered words A m o k s b1 b2 are told at small1 small2) e);
 }

@@ -5,12 +5,13 @@ use Rattle.std.proofs.lemmas.Bool.Decides.{nat_tests}
 use Rattle.std.proofs.lemmas.Nat.Bits.{bit_at-lt, same_from_bits_below}
 use Rattle.std.specs.Int.{bit_at}
 use Rattle.std.specs.List.{list_any}
+use Rattle.avr_model.specs.Devices.{size_of}
 use Rattle.avr_model.specs.declared.effect.Write.{Write}
 use Rattle.avr_model.specs.declared.effect.Effect.{Effect}
 use Rattle.avr_model.specs.Bits.{number_of}
 use Rattle.avr_model.specs.Sreg.{flag}
 use Rattle.avr_model.specs.Vectors.{Vector, vectors, row_of, has_enables, written_enable, written_enables}
-use Rattle.avr_model.specs.State.{State, SIZE, SPL, SPH, SREG, low, high, i_flag}
+use Rattle.avr_model.specs.State.{State, SPL, SPH, SREG, low, high, i_flag}
 use Rattle.avr_model.specs.Effects.{set, delay_of_out}
 use Rattle.avr_model.specs.Step.{after, with_registers, registers_after, sreg_after}
 use Rattle.vector_table.specs.Laws.{AreBits}
@@ -22,12 +23,14 @@ use Rattle.bit_domain.specs.TriByte.{tri_at}
 use Rattle.bit_domain.proofs.AllLaws.{writes_cover}
 use Rattle.sp_domain.specs.declared.tags.Tag.{Tag}
 use Rattle.sp_domain.specs.declared.tags.Tag.TheVariants as tag
-use Rattle.sp_domain.specs.Tags.{Origin, TagHolds}
+use Rattle.sp_domain.specs.declared.tags.CarryTag.{CarryTag}
+use Rattle.sp_domain.specs.Tags.{Origin, TagHolds, LessHolds, IsCarryWithin}
+use Rattle.sp_domain.proofs.AllLaws.{carries_are_ordered, tags_say_less}
 use Rattle.sp_domain.specs.Slots.{slot_at, resized}
 use Rattle.abs_state.specs.declared.values.AbsByte.{AbsByte}
 use Rattle.abs_state.specs.declared.state.AbsState.{AbsState}
 use Rattle.abs_state.specs.Stands.{ByteStands, EntryHolds, FlagsStand, RegistersStand}
-use Rattle.abs_state.proofs.AllLaws.{slots_follow}
+use Rattle.abs_state.proofs.AllLaws.{bits_make_values, values_say_less, slots_follow}
 use Rattle.mask_states.specs.declared.keys.NodeKey.{NodeKey}
 use Rattle.mask_states.specs.declared.keys.High.{High}
 use Rattle.mask_states.specs.declared.keys.SpForm.TheVariants.{Closed, Open}
@@ -36,9 +39,11 @@ use Rattle.mask_states.specs.Splits.{splits}
 use Rattle.local_rules.specs.declared.local.Node.{Node}
 use Rattle.local_rules.specs.declared.local.NodeFault.TheVariants.{TooDeep}
 use Rattle.local_rules.specs.Raw.{Raw, at_word, one, fails}
-use Rattle.local_rules.specs.Writes.{high_part, opening, closing_offset, closing, is_entry_flags, flags_written, with_i, sreg_written, masks_written, written_at}
+use Rattle.local_rules.specs.Writes.{high_part, opening, closing_offset, closing, is_entry_flags, flags_written, with_i, sreg_written, masks_written, register_written as node_written, written_at}
 use Rattle.local_rules.specs.Cover.{InFrame, Lands}
 use Rattle.local_laws.proofs.Frame.{first, second, set_stands, slot_kept, above_floor, same_frame}
+use Rattle.local_rules.specs.Registers.{with_bits, forgotten}
+use Rattle.local_laws.proofs.Less.{less_set, forgotten_less, forgotten_spares}
 use Rattle.local_laws.proofs.Targets.{in_map}
 use Rattle.local_laws.proofs.SpWrites.{opened, closes}
 use Rattle.local_laws.proofs.SplitMembers.{AreWritten}
@@ -145,7 +150,8 @@ not_same : (a b : ℕ) → nat_lt a 0x20 ≡ true → 0x1F < b → (a == b) ≡ 
 not_same a b here above = ne_eqb a b (λ same. let lt : a < 0x20 = ltb-true a 0x20 here in omega arith)
 
 module _ (m : State) (o : Origin) (k : NodeKey) (s : AbsState) (at : InFrame m o k s) (guarded : Bool) (pc pc' : ℕ) (pc_is : pc ≡ pc') (writes : List Write)
-    (registers : List AbsByte) (stand : RegistersStand o registers (with_registers m.registers writes)) (is_out : Bool) where
+    (registers : List AbsByte) (stand : RegistersStand o registers (with_registers m.registers writes))
+    (less : LessHolds (with_registers m.registers writes) s.flags.carry (flag m.sreg 0)) (is_out : Bool) where
   abbrev key : NodeKey
   key = at_word k pc'
 
@@ -161,39 +167,54 @@ module _ (m : State) (o : Origin) (k : NodeKey) (s : AbsState) (at : InFrame m o
   chosen e false r q h g clean = g refl clean
 
   -- no byte of the stack pointer and not the status register
-  pub elsewhere : (a byte masks : ℕ) (values : List AbsByte) → (a == SPL) ≡ false → (a == SPH) ≡ false → (a == SREG) ≡ false
+  pub elsewhere : (a byte masks : ℕ) (values : List AbsByte) (c : CarryTag) → IsCarryWithin s.flags.carry c → (a == SPL) ≡ false → (a == SPH) ≡ false → (a == SREG) ≡ false
       → written_enables m.enables a byte ≡ masks
       → RegistersStand o values (registers_after (with_registers m.registers writes) (set a byte))
-      → Lands m o guarded (stored m pc writes is_out a byte) (record { key = record key { masks = masks }; state = record s { registers = values } })
-  elsewhere a byte masks values not_low not_high not_sreg enables values_stand =
+      → LessHolds (registers_after (with_registers m.registers writes) (set a byte)) c (flag m.sreg 0)
+      → Lands m o guarded (stored m pc writes is_out a byte)
+      (record { key = record key { masks = masks }; state = record s { registers = values; flags = record s.flags { carry = c } } })
+  elsewhere a byte masks values c over not_low not_high not_sreg enables values_stand still =
+      let flags = values_say_less.flags o s.flags (record s.flags { carry = c }) m.sreg (record { entry = λ e. e; bits = λ x small has. has; carry = over }) at.stands.flags in
       let sreg : sreg_after m.sreg (set a byte) ≡ m.sreg = not_chosen (a == SREG) byte m.sreg not_sreg in
-      same_frame m o k s at guarded (stored m pc writes is_out a byte) (record { key = record key { masks = masks }; state = record s { registers = values } }) refl refl refl
+      same_frame m o k s at guarded (stored m pc writes is_out a byte)
+      (record { key = record key { masks = masks }; state = record s { registers = values; flags = record s.flags { carry = c } } }) refl refl refl
       (neither (a == SPL) (a == SPH) (256 * high m.sp + byte) (256 * byte + low m.sp) m.sp not_low not_high)
       (neither (a == SPL) (a == SPH) false true m.is_open not_low not_high)
       pc_is enables (ap (λ x. flag x 7) sreg ∙ at.place.i) (no_delay is_out (a == SREG) (flag byte 7) (not (i_flag m)) not_sreg)
-      values_stand (subst (FlagsStand o s.flags) (sym sreg) at.stands.flags)
+      values_stand (subst (FlagsStand o (record s.flags { carry = c })) (sym sreg) flags)
+      (subst (λ (x : ℕ). LessHolds (registers_after (with_registers m.registers writes) (set a byte)) c (flag x 0)) (sym sreg) still)
 
   -- no register either
   pub changes_none : (a byte : ℕ) → nat_lt a 0x20 ≡ false → RegistersStand o registers (registers_after (with_registers m.registers writes) (set a byte))
   changes_none a byte beyond = subst (RegistersStand o registers) (sym (not_chosen (nat_lt a 0x20) (slice_set (with_registers m.registers writes) a byte) (with_registers m.registers writes) beyond)) stand
 
+  pub less_still : (a byte : ℕ) → nat_lt a 0x20 ≡ false → LessHolds (registers_after (with_registers m.registers writes) (set a byte)) s.flags.carry (flag m.sreg 0)
+  less_still a byte beyond =
+      subst (λ (xs : List ℕ). LessHolds xs s.flags.carry (flag m.sreg 0))
+      (sym (not_chosen (nat_lt a 0x20) (slice_set (with_registers m.registers writes) a byte) (with_registers m.registers writes) beyond)) less
+
   module _ (byte : ℕ) (small : byte < 256) (v : AbsByte) (stands : ByteStands o v byte) (count_values : length registers ≡ 32)
       (count : length (with_registers m.registers writes) ≡ 32) where
     register_written : (a : ℕ) → nat_lt a 0x20 ≡ true → (a == SPL) ≡ false → (a == SPH) ≡ false → (a == SREG) ≡ false
-        → Lands m o guarded (stored m pc writes is_out a byte) (record { key = key; state = record s { registers = slice_set registers a v } })
+        → Lands m o guarded (stored m pc writes is_out a byte) (record { key = key; state = node_written state a v })
     register_written a here not_low not_high not_sreg =
         let lt : a < 0x20 = ltb-true a 0x20 here in
-        elsewhere a byte k.masks (slice_set registers a v) not_low not_high not_sreg
+        let w : AbsByte = with_bits v.tag v.bits in
+        let c : CarryTag = forgotten (a ∷ []) s.flags.carry in
+        elsewhere a byte k.masks (slice_set registers a w) c (forgotten_less (a ∷ []) s.flags.carry) not_low not_high not_sreg
         (enables_kept m.enables a byte at.machine.enable_bits (above_registers a lt) ∙ at.place.enables)
-        (subst (λ t. RegistersStand o (slice_set registers a v) (if t then slice_set (with_registers m.registers writes) a byte else with_registers m.registers writes)) (sym here)
-        (set_stands o registers (with_registers m.registers writes) a v byte count_values count stands stand))
+        (subst (λ t. RegistersStand o (slice_set registers a w) (if t then slice_set (with_registers m.registers writes) a byte else with_registers m.registers writes)) (sym here)
+        (set_stands o registers (with_registers m.registers writes) a w byte count_values count (bits_make_values.stands o v.tag v.bits byte small stands.tag stands.bits) stand))
+        (subst (λ t. LessHolds (if t then slice_set (with_registers m.registers writes) a byte else with_registers m.registers writes) c (flag m.sreg 0)) (sym here)
+        (less_set (with_registers m.registers writes) c (flag m.sreg 0) a byte (forgotten_spares (a ∷ []) s.flags.carry).0
+        (tags_say_less.less (with_registers m.registers writes) s.flags.carry c (flag m.sreg 0) (forgotten_less (a ∷ []) s.flags.carry) less)))
 
     -- ---- SPL
 
-    closed_lands : (n : ℕ) → closing_offset k.inst.kind k.sp v ≡ Some n
+    closed_lands : (n : ℕ) → closing_offset m.device k.inst.kind k.sp v ≡ Some n
         → Lands m o guarded (stored m pc writes is_out SPL byte) (record { key = record key { sp = Closed n }; state = record state { slots = resized n s.slots } })
     closed_lands n e =
-        let at_base : n ≤ o.base → 256 * high m.sp + byte + n ≡ o.base = closes o at.base_word m.is_open m.sp byte n small v stands k.inst.kind k.sp e at.place.sp at.root in
+        let at_base : n ≤ o.base → 256 * high m.sp + byte + n ≡ o.base = closes m.device o at.base_word m.is_open m.sp byte n small v stands k.inst.kind k.sp e at.place.sp at.root in
         record {
           inside = λ room. refl;
           place = λ within.
@@ -206,17 +227,18 @@ module _ (m : State) (o : Origin) (k : NodeKey) (s : AbsState) (at : InFrame m o
               };
           registers = stand;
           flags = at.stands.flags;
+          less = less;
           slots = λ within inside kept.
               slots_follow.resized o (after m guarded (stored m pc writes is_out SPL byte)).memory s.slots n (λ d lt below.
               slot_kept o m.memory (after m guarded (stored m pc writes is_out SPL byte)).memory (256 * high m.sp + byte) (o.base - d) (slot_at s.slots d) kept
               (λ live. omega (arith, at_base within)) (at.stands.slots d below));
         }
 
-    closed_written : (n : Option ℕ) → closing_offset k.inst.kind k.sp v ≡ n → (closing n key state k.pc).faults ≡ []
-        → Reaches m o k guarded (stored m pc writes is_out SPL byte) (closing n key state k.pc)
+    closed_written : (n : Option ℕ) → closing_offset m.device k.inst.kind k.sp v ≡ n → (closing m.device n key state k.pc).faults ≡ []
+        → Reaches m o k guarded (stored m pc writes is_out SPL byte) (closing m.device n key state k.pc)
     closed_written None e clean = absurd (cc)
     closed_written (Some n) e clean =
-        chosen (stored m pc writes is_out SPL byte) (nat_le n SIZE) (one (record key { sp = Closed n }) (record state { slots = resized n s.slots })) (fails (TooDeep k.pc n))
+        chosen (stored m pc writes is_out SPL byte) (nat_le n (size_of m.device)) (one (record key { sp = Closed n }) (record state { slots = resized n s.slots })) (fails (TooDeep k.pc n))
         (λ fits rest. only (stored m pc writes is_out SPL byte) _ refl (closed_lands n e)) (λ deep rest. absurd (cc)) clean
 
     -- ---- SPH
@@ -237,6 +259,7 @@ module _ (m : State) (o : Origin) (k : NodeKey) (s : AbsState) (at : InFrame m o
               };
           registers = stand;
           flags = at.stands.flags;
+          less = less;
           slots = λ within inside kept d lt.
               slot_kept o m.memory (after m guarded (stored m pc writes is_out SPH byte)).memory 0 (o.base - d) (slot_at s.slots d) kept
               (above_floor o.base (256 * byte + low m.sp) d m.memory true (Open (offset_of k.sp) h) place (omega (arith, at.node.formed.count_slots))) (at.stands.slots d lt);
@@ -256,7 +279,7 @@ module _ (m : State) (o : Origin) (k : NodeKey) (s : AbsState) (at : InFrame m o
     sreg_lands on is =
         same_frame m o k s at guarded (stored m pc writes is_out SREG byte) (record { key = with_i key is_out on; state = flagged }) refl refl refl refl refl pc_is
         (enables_kept m.enables SREG byte at.machine.enable_bits sreg_holds_none ∙ at.place.enables) is
-        (delay_is is_out (flag byte 7) (i_flag m) on k.i is at.place.i) stand (flags_stand o v byte stands)
+        (delay_is is_out (flag byte 7) (i_flag m) on k.i is at.place.i) stand (flags_stand o v byte stands) tt
 
     flag_zero : bit_at byte 7 ≡ 0 → flag byte 7 ≡ false
     flag_zero e = ap (λ x. x == 1) e
@@ -296,7 +319,8 @@ module _ (m : State) (o : Origin) (k : NodeKey) (s : AbsState) (at : InFrame m o
           present = in_map (λ masks. record { key = record key { masks = masks }; state = state }) left (splits k.masks a v.bits)
               (members k.masks a v.bits left record { byte = byte; small = small; member = stands.bits; left = refl });
           inst = refl;
-          lands = elsewhere a byte left registers not_low not_high not_sreg (ap (λ x. written_enables x a byte) at.place.enables) (changes_none a byte beyond);
+          lands = elsewhere a byte left registers s.flags.carry (carries_are_ordered.same s.flags.carry) not_low not_high not_sreg (ap (λ x. written_enables x a byte) at.place.enables)
+              (changes_none a byte beyond) (less_still a byte beyond);
         }
 
     at_address : (a b : ℕ) (r : Raw) → (a == b) ≡ true → Reaches m o k guarded (stored m pc writes is_out b byte) r
@@ -304,16 +328,16 @@ module _ (m : State) (o : Origin) (k : NodeKey) (s : AbsState) (at : InFrame m o
     at_address a b r e h = subst (λ x. Reaches m o k guarded (stored m pc writes is_out x byte) r) (sym (eqb-true a b e)) h
 
     -- a byte that is written to a known address
-    pub written : AreWritten → (a : ℕ) → (written_at k.pc key state is_out a v).faults ≡ []
-        → Reaches m o k guarded (stored m pc writes is_out a byte) (written_at k.pc key state is_out a v)
+    pub written : AreWritten → (a : ℕ) → (written_at m.device k.pc key state is_out a v).faults ≡ []
+        → Reaches m o k guarded (stored m pc writes is_out a byte) (written_at m.device k.pc key state is_out a v)
     unfolding written_at
     written members a clean =
         let e = stored m pc writes is_out a byte in
-        chosen e (nat_lt a 0x20) (one key (record state { registers = slice_set registers a v })) _
+        chosen e (nat_lt a 0x20) (one key (node_written state a v)) _
         (λ here rest. only e _ refl (register_written a here (not_same a SPL here (omega arith)) (not_same a SPH here (omega arith)) (not_same a SREG here (omega arith))))
         (λ beyond.
-        chosen e (a == SPL) (closing (closing_offset k.inst.kind k.sp v) key state k.pc) _ (λ here rest.
-        at_address a SPL _ here (closed_written (closing_offset k.inst.kind k.sp v) refl rest)) (λ not_low.
+        chosen e (a == SPL) (closing m.device (closing_offset m.device k.inst.kind k.sp v) key state k.pc) _ (λ here rest.
+        at_address a SPL _ here (closed_written (closing_offset m.device k.inst.kind k.sp v) refl rest)) (λ not_low.
         chosen e (a == SPH) (opening (high_part k.inst.kind v) key state k.pc) _ (λ here rest.
         at_address a SPH _ here (opened_written (high_part k.inst.kind v) refl rest)) (λ not_high.
         chosen e (a == SREG) (sreg_written (tri_at v.bits 7) key flagged is_out) _ (λ here rest.

@@ -1,9 +1,10 @@
 -- Laws of the local part of a node.
-use Rattle.std.specs.Prelude.{ℕ, Some, None, Ok, Bool, ◌≢◌, ◌≡◌, ◌<◌, List, [], ◌++◌, map, Contains}
+use Rattle.std.specs.Prelude.{ℕ, Some, None, Ok, Bool, ◌≢◌, ◌≡◌, ◌<◌, List, [], ◌++◌, map, Contains, ◌≤◌}
 use Rattle.std.specs.List.Sorted.{IsStrictlySortedBy}
 use Rattle.std.specs.Ordering.{nat_cmp}
+use Rattle.avr_model.specs.Devices.{device_of, words_of, size_of}
+use Rattle.avr_model.specs.declared.device.Device.{Device}
 use Rattle.avr_model.specs.declared.assumption.Entry.{Entry}
-use Rattle.avr_model.specs.Image.{WORDS}
 use Rattle.avr_model.specs.Sites.{instruction_at}
 use Rattle.avr_model.specs.State.{State, IsReset}
 use Rattle.sp_domain.specs.Tags.{Origin}
@@ -12,6 +13,7 @@ use Rattle.abs_state.specs.Order.{IsStateWithin}
 use Rattle.vector_table.specs.Entries.{AreEntries}
 use Rattle.mask_states.specs.declared.keys.NodeKey.{NodeKey}
 use Rattle.mask_states.specs.declared.keys.SpForm.TheVariants.{Closed}
+use Rattle.mask_states.specs.Keys.{offset_of}
 use Rattle.mask_states.specs.Order.{node_cmp}
 use Rattle.local_rules.specs.declared.local.CallSite.{CallSite}
 use Rattle.local_rules.specs.declared.local.Exit.{Exit}
@@ -29,10 +31,10 @@ use Rattle.avr_model.specs.Run.{HasBytes}
 use Rattle.avr_model.specs.Step.{step, Done, Undefined, after, live_write}
 use Rattle.local_rules.specs.Order.{IsBelowOne, IsBelow}
 
--- The local part of a node covers each step of the machine there.
+-- The local part of a node covers each step of the machine there, with the flash of its own device, whose words have 16 bits.
 pub record LocalPartsCover : Type 0 where
-  pub covered : (words : List ℕ) (A : List Entry) (m : State) (o : Origin) (k : NodeKey) (s : AbsState) (b1 b2 : ℕ) → InFrame m o k s
-      → b1 < 256 → b2 < 256 → IsCovered words A m o k b1 b2 (instruction_at words m.pc) (raw words A k s)
+  pub covered : (words : List ℕ) (A : List Entry) (m : State) (o : Origin) (k : NodeKey) (s : AbsState) (b1 b2 : ℕ) → AreWords words → m.device ≡ device_of words
+      → InFrame m o k s → b1 < 256 → b2 < 256 → IsCovered words A m o k b1 b2 (instruction_at words m.pc) (raw words A k s)
 
 -- each joined successor is below one of its key, the calls are among those, and the return is the same
 pub record IsLocalWithin (l m : Local) : Type 0 where
@@ -53,19 +55,22 @@ pub record LocalPartsAreMonotone : Type 0 where
   pub joined : (words : List ℕ) (A : List Entry) (k : NodeKey) (s t : AbsState) (m : Local) → IsNode k s → IsNode k t → IsStateWithin s t
       → local words A k t ≡ Ok m → LeadsWithin words A k s m
 
--- Calls lead to words of flash and go on at such. A return is at the frame's base, and keeps the enable bits.
-pub record LeadsToWords (k : NodeKey) (r : Raw) : Type 0 where
-  pub calls : (site : CallSite) → Contains r.calls site → (site.entry < WORDS) × (site.back < WORDS)
+-- Calls lead to words of the device's flash and go on at such. A return is at the frame's base, and keeps the enable bits.
+pub record LeadsToWords (device : Device) (k : NodeKey) (r : Raw) : Type 0 where
+  pub calls : (site : CallSite) → Contains r.calls site → (site.entry < words_of device) × (site.back < words_of device)
   pub exit : (x : Exit) → r.exit ≡ Some x → (k.sp ≡ Closed 0) × (x.masks ≡ k.masks)
 
 -- calls ascend strictly by the called word
 abbrev pub AscendByEntry : List CallSite → Type 0
 AscendByEntry sites = IsStrictlySortedBy nat_cmp (map (λ (site : CallSite). site.entry) sites)
 
--- The numbers of calls and returns are what their types say, and with an assumption list that may be one, calls ascend.
+-- The numbers of calls and returns are what their types say, and with an assumption list that may be one, calls ascend. A node without
+-- a fault lies in the device's flash, and its offset in its SRAM.
 pub record LocalPartsFit : Type 0 where
-  pub fit : (words : List ℕ) (A : List Entry) (k : NodeKey) (s : AbsState) → LeadsToWords k (raw words A k s)
+  pub fit : (words : List ℕ) (A : List Entry) (k : NodeKey) (s : AbsState) → LeadsToWords (device_of words) k (raw words A k s)
   pub ascending : (words : List ℕ) (A : List Entry) (k : NodeKey) (s : AbsState) → AreEntries A → AscendByEntry (raw words A k s).calls
+  pub inside : (words : List ℕ) (A : List Entry) (k : NodeKey) (s : AbsState) → (raw words A k s).faults ≡ []
+      → (k.pc < words_of (device_of words)) × (offset_of k.sp ≤ size_of (device_of words))
 
 -- Successors are nodes that the analysis works with, in the same instance.
 pub record LocalPartsAreNodes : Type 0 where
@@ -92,7 +97,7 @@ pub record JoinsAreLeast : Type 0 where
 
 -- A reset state is a machine's state, and each step that is done leads to one.
 pub record MachinesStay : Type 0 where
-  pub reset : (m : State) → IsReset m → IsMachine m
+  pub reset : (device : Device) (m : State) → IsReset device m → IsMachine m
   pub step : (words : List ℕ) (A : List Entry) (m n : State) (c : Choice) → AreWords words → IsMachine m → HasBytes c → step words A m c ≡ Done n
       → IsMachine n
 
@@ -105,8 +110,8 @@ pub record LiveBytesStay : Type 0 where
 -- successor may lie deeper than the base.
 pub record StepsAreCovered : Type 0 where
   pub defined : (words : List ℕ) (A : List Entry) (m : State) (o : Origin) (k : NodeKey) (s : AbsState) (l : Local) (b1 b2 pc : ℕ)
-      → InFrame m o k s → b1 < 256 → b2 < 256 → local words A k s ≡ Ok l → step words A m (Go b1 b2) ≢ Undefined pc
+      → AreWords words → m.device ≡ device_of words → InFrame m o k s → b1 < 256 → b2 < 256 → local words A k s ≡ Ok l → step words A m (Go b1 b2) ≢ Undefined pc
   pub done : (words : List ℕ) (A : List Entry) (m n : State) (o : Origin) (k : NodeKey) (s : AbsState) (l : Local) (b1 b2 : ℕ)
-      → InFrame m o k s → b1 < 256 → b2 < 256 → local words A k s ≡ Ok l
+      → AreWords words → m.device ≡ device_of words → InFrame m o k s → b1 < 256 → b2 < 256 → local words A k s ≡ Ok l
       → ((to : Node) → Contains l.same to → IsWithinBase o.base to.key.sp)
       → step words A m (Go b1 b2) ≡ Done n → IsStep m o k b1 b2 l n

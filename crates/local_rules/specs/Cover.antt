@@ -1,15 +1,17 @@
 -- What it means that a node's local part covers a step of the machine in its frame.
 use Rattle.std.specs.Prelude.{ℕ, ◌+◌, ◌^◌, ◌%◌, ◌≡◌, ◌≢◌, ◌<◌, ◌≤◌, ⊤, Bool, true, false, not, List, [], Option, Some, None, Contains}
+use Rattle.avr_model.specs.declared.device.Device.{Device}
 use Rattle.avr_model.specs.declared.assumption.Entry.{Entry}
 use Rattle.avr_model.specs.declared.effect.Effect.{Effect}
 use Rattle.avr_model.specs.declared.instruction.Instr.{Instr}
+use Rattle.avr_model.specs.Devices.{size_of, ramend, wrapped}
 use Rattle.avr_model.specs.Image.{WORDS}
 use Rattle.avr_model.specs.Sreg.{flag}
 use Rattle.avr_model.specs.Sites.{is_scratch}
-use Rattle.avr_model.specs.State.{State, RAMEND, SIZE, plus16}
+use Rattle.avr_model.specs.State.{State, SIZE, plus16}
 use Rattle.avr_model.specs.Effects.{effect_of, calling, popped_word}
 use Rattle.avr_model.specs.Step.{after, all_inside, protected_write, unlisted_transfer}
-use Rattle.sp_domain.specs.Tags.{Origin, HasBytes}
+use Rattle.sp_domain.specs.Tags.{Origin, LessHolds, HasBytes}
 use Rattle.abs_state.specs.declared.state.AbsState.{AbsState}
 use Rattle.abs_state.specs.Stands.{RegistersStand, FlagsStand, SlotsStand, Stands}
 use Rattle.abs_state.specs.Laws.{Keeps}
@@ -22,7 +24,7 @@ use Rattle.mask_states.specs.declared.keys.High.{High}
 use Rattle.mask_states.specs.declared.keys.High.TheVariants.{Known, Tag}
 use Rattle.mask_states.specs.declared.keys.SpForm.{SpForm}
 use Rattle.mask_states.specs.declared.keys.SpForm.TheVariants.{Closed, Open}
-use Rattle.mask_states.specs.Keys.{offset_of}
+use Rattle.mask_states.specs.Keys.{offset_of, PickFits}
 use Rattle.mask_states.specs.Place.{AtNode}
 use Rattle.local_rules.specs.declared.local.Node.{Node}
 use Rattle.local_rules.specs.declared.local.Local.{Local}
@@ -49,27 +51,28 @@ FormFitsKind kind (Open offset h) = HighFitsKind kind h
 abbrev pub FormFits : NodeKey → Type 0
 FormFits k = FormFitsKind k.inst.kind k.sp
 
--- The key and the state of a node: a word address, at most as many bytes as SRAM has, a state that is formed for this offset, tags
--- whose numbers fit, bytes in its carry tag, and nothing tagged in the root.
+-- The key and the state of a node: a word address, at most as many bytes as the greatest SRAM has, a byte where one is picked, a state that is
+-- formed for this offset, tags whose numbers fit, bytes in its carry tag, and no byte tagged in the root.
 pub record IsNode (k : NodeKey) (s : AbsState) : Type 0 where
   pub word : k.pc < WORDS
   pub small : offset_of k.sp ≤ SIZE
   pub masks : k.masks < 2 ^ 25
   pub fits : FormFits k
+  pub pick : PickFits k.pick
   pub formed : IsFormed s (offset_of k.sp)
   pub tags : TagsFit s
-  pub borrow_bytes : HasBytes s.flags.carry
+  pub carry_bytes : HasBytes s.flags.carry
   pub untagged : k.inst.kind ≡ Root → IsUntagged s
 
 -- ---- where the machine is
 
--- The machine is at the node, in a frame with this origin, and the state stands for it. The root's frame has the top of SRAM as its base.
+-- The machine is at the node, in a frame with this origin, and the state stands for it. The root's frame has the top of the device's SRAM as its base.
 pub record InFrame (m : State) (o : Origin) (k : NodeKey) (s : AbsState) : Type 0 where
   pub machine : IsMachine m
   pub node : IsNode k s
   pub place : AtNode o.base m k
   pub stands : Stands o s m
-  pub root : k.inst.kind ≡ Root → o.base ≡ RAMEND
+  pub root : k.inst.kind ≡ Root → o.base ≡ ramend m.device
   pub base_word : o.base < 65536
 
 -- a closed offset is at most the base, and then also leaves the stack pointer in SRAM
@@ -77,9 +80,9 @@ abbrev pub IsWithinBase : ℕ → SpForm → Type 0
 IsWithinBase base (Closed offset) = offset ≤ base
 IsWithinBase base (Open offset h) = ⊤
 
-abbrev pub HasRoom : ℕ → SpForm → Type 0
-HasRoom base (Closed offset) = (base ≤ RAMEND) × (RAMEND + offset ≤ base + SIZE)
-HasRoom base (Open offset h) = ⊤
+abbrev pub HasRoom : Device → ℕ → SpForm → Type 0
+HasRoom device base (Closed offset) = (base ≤ ramend device) × (ramend device + offset ≤ base + size_of device)
+HasRoom device base (Open offset h) = ⊤
 
 -- ---- what a step does
 
@@ -91,17 +94,18 @@ pub record IsUnflagged (words : List ℕ) (A : List Entry) (m : State) (instr : 
 
 -- after the effect the machine is at the node, in a frame with this origin, and the node's state stands for it
 pub record Lands (m : State) (o : Origin) (guarded : Bool) (e : Effect) (to : Node) : Type 0 where
-  pub inside : HasRoom o.base to.key.sp → all_inside e.pushes ≡ true
+  pub inside : HasRoom m.device o.base to.key.sp → all_inside m.device e.pushes ≡ true
   pub place : IsWithinBase o.base to.key.sp → AtNode o.base (after m guarded e) to.key
   pub registers : RegistersStand o to.state.registers (after m guarded e).registers
   pub flags : FlagsStand o to.state.flags (after m guarded e).sreg
-  pub slots : IsWithinBase o.base to.key.sp → all_inside e.pushes ≡ true
+  pub less : LessHolds (after m guarded e).registers to.state.flags.carry (flag (after m guarded e).sreg 0)
+  pub slots : IsWithinBase o.base to.key.sp → all_inside m.device e.pushes ≡ true
       → Keeps m.memory (after m guarded e).memory (floor_of (after m guarded e).is_open (after m guarded e).sp)
       → SlotsStand o (after m guarded e).memory to.state.slots
 
 -- the effect is a return with this exit: it goes to the popped word, and keeps registers, flags 0 to 6 and memory
 pub record IsReturn (m : State) (b1 b2 : ℕ) (x : Exit) (e : Effect) : Type 0 where
-  pub pc : e.pc ≡ popped_word m b1 b2
+  pub pc : e.pc ≡ wrapped m.device (popped_word m b1 b2)
   pub registers : e.registers ≡ []
   pub flags : e.sreg % 128 ≡ m.sreg % 128
   pub i : flag e.sreg 7 ≡ x.i

@@ -1,14 +1,19 @@
 -- Jumps, branches, skips, calls, returns, and bytes that are pushed and popped. Source: own.
-use Rattle.std.specs.Prelude.{ℕ, zero, suc, ◌+◌, ◌==◌, Bool, true, false, nat_le, if◌then◌else◌, List, [], ◌∷◌, ◌++◌, map, filter, take, length, Option, Some, None}
+use Rattle.std.specs.Prelude.{ℕ, zero, suc, ◌+◌, ◌-◌, ◌==◌, Bool, true, false, nat_lt, nat_le, min, max, if◌then◌else◌, List, [], ◌∷◌, ◌++◌, map, filter, take, length, Option, Some, None}
+use Rattle.avr_model.specs.declared.device.Device.{Device}
+use Rattle.avr_model.specs.declared.device.Device.TheVariants.{M48, M88, M168, M328}
 use Rattle.avr_model.specs.declared.assumption.Entry.{Entry}
+use Rattle.avr_model.specs.Devices.{size_of}
 use Rattle.avr_model.specs.Image.{word_at}
 use Rattle.avr_model.specs.Table.{length_of}
 use Rattle.avr_model.specs.Assumptions.{jump_line, lists}
-use Rattle.avr_model.specs.State.{SIZE}
 use Rattle.bit_domain.specs.declared.bits.Tri.{Tri}
 use Rattle.bit_domain.specs.declared.bits.Tri.TheVariants.{Zero, One, Any}
+use Rattle.bit_domain.specs.declared.bytes.TriByte.{TriByte}
 use Rattle.bit_domain.specs.TriByte.{tri_at}
-use Rattle.bit_domain.specs.Numbers.{targets_of}
+use Rattle.bit_domain.specs.Numbers.{numbers_of, pointer_bit, targets_of}
+use Rattle.sp_domain.specs.declared.tags.CarryTag.{CarryTag}
+use Rattle.sp_domain.specs.declared.tags.CarryTag.TheVariants as carry
 use Rattle.sp_domain.specs.declared.slots.Slot.{Slot}
 use Rattle.sp_domain.specs.declared.slots.Slot.TheVariants.{Free, Guarded}
 use Rattle.sp_domain.specs.Slots.{slot_at}
@@ -22,39 +27,82 @@ use Rattle.mask_states.specs.declared.keys.SpForm.TheVariants.{Closed, Open}
 use Rattle.local_rules.specs.declared.local.CallSite.{CallSite}
 use Rattle.local_rules.specs.declared.local.Exit.{Exit}
 use Rattle.local_rules.specs.declared.local.NodeFault.TheVariants.{UnresolvedJump, UntrackedSp, TooDeep}
-use Rattle.local_rules.specs.Raw.{Raw, moves_to, one, fails, enters, untracked_if, leaves_by, at_word, further, next, going_to}
-use Rattle.local_rules.specs.Registers.{value, bits, set}
+use Rattle.local_rules.specs.Raw.{Raw, nowhere, moves_to, one, fails, all_of, enters, untracked_if, leaves_by, at_word, off_table, further, next, turning_to}
+use Rattle.local_rules.specs.Registers.{value, bits, set, carry_bit}
 use Rattle.local_rules.specs.Reads.{value_of}
 
 -- ---- branches and skips
 
 -- one successor where the condition is known, else two; the state tells nothing of the condition
 abbrev pub branch : Tri → NodeKey → AbsState → ℕ → ℕ → Raw
-branch One k s taken other = going_to k s taken
-branch Zero k s taken other = going_to k s other
-branch Any k s taken other = moves_to (record { key = at_word k other; state = s } ∷ record { key = at_word k taken; state = s } ∷ [])
+branch One k s taken other = turning_to k s taken
+branch Zero k s taken other = turning_to k s other
+branch Any k s taken other = moves_to (record { key = off_table k other; state = s } ∷ record { key = off_table k taken; state = s } ∷ [])
 
 -- past the next instruction, of one word or two
-abbrev pub skipping : List ℕ → NodeKey → AbsState → Tri → Raw
-skipping words k s t = branch t k s (further k (1 + length_of (word_at words (k.pc + 1)))) (further k 1)
+abbrev pub skipping : Device → List ℕ → NodeKey → AbsState → Tri → Raw
+skipping device words k s t = branch t k s (further device k (1 + length_of (word_at words (k.pc + 1)))) (further device k 1)
 
 -- flag n, where I is in the key
 abbrev pub flag_at : NodeKey → AbsState → ℕ → Tri
 flag_at k s n = if n == 7 then (if k.i then One else Zero) else tri_at s.flags.bits n
 
+-- ---- branches on C
+
+-- what is left of a value that is below n, or that isn't: the range is cut, and nothing else; none where it is empty
+abbrev pub part_of : Bool → AbsByte → ℕ → Option AbsByte
+part_of true v n = if nat_lt v.low n then Some (record v { high = min v.high (n - 1) }) else None
+part_of false v n = if nat_le n v.high then Some (record v { low = max v.low n }) else None
+
+abbrev pub with_value : AbsState → ℕ → Option AbsByte → Option AbsState
+with_value s r None = None
+with_value s r (Some v) = Some (record s { registers = set s r v })
+
+-- the state where C has this value
+abbrev pub where_carry : CarryTag → AbsState → Bool → Option AbsState
+where_carry carry.None s c = Some s
+where_carry (carry.Borrow j l) s c = Some s
+where_carry (carry.Less r n) s c = with_value s r (part_of c (value s r) n)
+
+abbrev pub going_where : NodeKey → Option AbsState → ℕ → Raw
+going_where k None pc = nowhere
+going_where k (Some s) pc = turning_to k s pc
+
+-- to one word where C is 1, and to the other where it is 0
+abbrev pub carry_branch : Tri → NodeKey → AbsState → ℕ → ℕ → Raw
+carry_branch One k s set clear = going_where k (where_carry s.flags.carry s true) set
+carry_branch Zero k s set clear = going_where k (where_carry s.flags.carry s false) clear
+carry_branch Any k s set clear =
+    all_of (going_where k (where_carry s.flags.carry s false) clear ∷ going_where k (where_carry s.flags.carry s true) set ∷ [])
+
+-- a branch on flag n, which is another where that is C
+abbrev pub flag_branch : ℕ → NodeKey → AbsState → ℕ → ℕ → Raw → Raw
+flag_branch n k s set clear other = if n == 0 then carry_branch (carry_bit s) k s set clear else other
+
 -- ---- where an indirect transfer leads
 
--- the listed words that the bits permit; without a line all of them, where these are few
-abbrev pub targets_by : Option (List ℕ) → List ℕ → Option (List ℕ)
-targets_by None all = if nat_le (length all) 64 then Some all else None
-targets_by (Some listed) all = Some (filter (lists all) listed)
+-- how many bits a word address has
+abbrev pub width : Device → ℕ
+width M48 = 11
+width M88 = 12
+width M168 = 13
+width M328 = 14
 
-abbrev pub targets_at : List Entry → NodeKey → AbsState → Option (List ℕ)
-targets_at A k s = targets_by (jump_line A k.pc) (targets_of (bits s 30) (bits s 31))
+-- the words that some permitted target is, modulo the number of words, in ascending order
+abbrev pub words_on : Device → TriByte → TriByte → List ℕ
+words_on device lo hi = numbers_of (pointer_bit lo hi) (width device)
+
+-- the listed words that the bits permit; without a line all of them, where the targets, which have 14 bits on every device, are few
+abbrev pub targets_by : Device → Option (List ℕ) → TriByte → TriByte → Option (List ℕ)
+targets_by device None lo hi = if nat_le (length (targets_of lo hi)) 64 then Some (words_on device lo hi) else None
+targets_by device (Some listed) lo hi = Some (filter (lists (words_on device lo hi)) listed)
+
+abbrev pub targets_at : Device → List Entry → NodeKey → AbsState → Option (List ℕ)
+targets_at device A k s = targets_by device (jump_line A k.pc) (bits s 30) (bits s 31)
 
 abbrev pub jumping : Option (List ℕ) → NodeKey → AbsState → Raw
 jumping None k s = fails (UnresolvedJump k.pc)
-jumping (Some targets) k s = moves_to (map (λ t. record { key = at_word k t; state = s }) targets)
+jumping (Some targets) k s = moves_to (map (λ t. record { key = off_table k t; state = s }) targets)
 
 -- ---- the stack
 
@@ -67,28 +115,28 @@ abbrev pub at_closed : SpForm → ℕ → (ℕ → Raw) → Raw
 at_closed (Closed offset) pc f = f offset
 at_closed (Open offset h) pc f = fails (UntrackedSp pc)
 
-abbrev pub if_room : ℕ → ℕ → Raw → Raw
-if_room n pc r = if nat_le n SIZE then r else fails (TooDeep pc n)
+abbrev pub if_room : Device → ℕ → ℕ → Raw → Raw
+if_room device n pc r = if nat_le n (size_of device) then r else fails (TooDeep pc n)
 
 -- A scratch push makes a free slot, and any other a guarded one.
 abbrev pub pushed_slot : Bool → AbsByte → Slot AbsByte
 pushed_slot true v = Free
 pushed_slot false v = Guarded v
 
-abbrev pub pushing : Bool → NodeKey → AbsState → ℕ → ℕ → Raw
-pushing scratch k s r offset =
-    if_room (offset + 1) k.pc
-    (one (record (next k) { sp = Closed (offset + 1) }) (record s { slots = s.slots ++ pushed_slot scratch (value s r) ∷ [] }))
+abbrev pub pushing : Device → Bool → NodeKey → AbsState → ℕ → ℕ → Raw
+pushing device scratch k s r offset =
+    if_room device (offset + 1) k.pc
+    (one (record (next device k) { sp = Closed (offset + 1) }) (record s { slots = s.slots ++ pushed_slot scratch (value s r) ∷ [] }))
 
-abbrev pub popping : NodeKey → AbsState → ℕ → ℕ → Raw
-popping k s d zero = fails (UntrackedSp k.pc)
-popping k s d (suc n) =
-    one (record (next k) { sp = Closed n }) (record s { registers = set s d (value_of (slot_at s.slots n)); slots = take n s.slots })
+abbrev pub popping : Device → NodeKey → AbsState → ℕ → ℕ → Raw
+popping device k s d zero = fails (UntrackedSp k.pc)
+popping device k s d (suc n) =
+    one (record (next device k) { sp = Closed n }) (record s { registers = set s d (value_of (slot_at s.slots n)); slots = take n s.slots })
 
 -- a call of the next word that makes room on the stack stays in its frame
-abbrev pub making_room : NodeKey → AbsState → ℕ → ℕ → Raw
-making_room k s target offset =
-    if_room (offset + 2) k.pc
+abbrev pub making_room : Device → NodeKey → AbsState → ℕ → ℕ → Raw
+making_room device k s target offset =
+    if_room device (offset + 2) k.pc
     (one (record (at_word k target) { sp = Closed (offset + 2) }) (record s { slots = s.slots ++ Free ∷ Free ∷ [] }))
 
 abbrev pub site : ℕ → ℕ → CallSite
@@ -98,13 +146,13 @@ site target back = record { entry = target; back = back }
 abbrev pub calling : NodeKey → ℕ → List ℕ → Raw
 calling k back targets = untracked_if (is_half_written k.sp) k.pc (enters (map (λ t. site t back) targets))
 
-abbrev pub indirect_call : Option (List ℕ) → NodeKey → Raw
-indirect_call None k = untracked_if (is_half_written k.sp) k.pc (fails (UnresolvedJump k.pc))
-indirect_call (Some targets) k = calling k (further k 1) targets
+abbrev pub indirect_call : Device → Option (List ℕ) → NodeKey → Raw
+indirect_call device None k = untracked_if (is_half_written k.sp) k.pc (fails (UnresolvedJump k.pc))
+indirect_call device (Some targets) k = calling k (further device k 1) targets
 
-abbrev pub relative_call : Bool → NodeKey → AbsState → ℕ → Raw
-relative_call true k s target = at_closed k.sp k.pc (making_room k s target)
-relative_call false k s target = calling k (further k 1) (target ∷ [])
+abbrev pub relative_call : Device → Bool → NodeKey → AbsState → ℕ → Raw
+relative_call device true k s target = at_closed k.sp k.pc (making_room device k s target)
+relative_call device false k s target = calling k (further device k 1) (target ∷ [])
 
 -- a return at this offset, in this kind of instance
 abbrev pub returning : Exit → ℕ → Kind → ℕ → Raw

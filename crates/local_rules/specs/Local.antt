@@ -1,7 +1,8 @@
 -- Where a node leads in its own frame. Source: own.
-use Rattle.std.specs.Prelude.{ℕ, ◌*◌, ◌==◌, ◌&&◌, Bool, true, false, not, if◌then◌else◌, List, [], ◌∷◌, Option, Some, None, Result, Ok, Err, slice_set}
+use Rattle.std.specs.Prelude.{ℕ, zero, suc, ◌*◌, ◌==◌, ◌&&◌, Bool, true, false, not, nat_lt, nat_le, if◌then◌else◌, List, [], ◌∷◌, ◌++◌, length, map, filter, Option, Some, None, Result, Ok, Err, slice_set}
 use Rattle.std.specs.declared.cmp.Ordering.{Ordering}
 use Rattle.std.specs.declared.cmp.Ordering.TheVariants.{Less, Equal, Greater}
+use Rattle.avr_model.specs.declared.device.Device.{Device}
 use Rattle.avr_model.specs.declared.assumption.Entry.{Entry}
 use Rattle.avr_model.specs.declared.instruction.Instr.{Instr}
 use Rattle.avr_model.specs.declared.instruction.Instr.TheVariants as i
@@ -9,12 +10,15 @@ use Rattle.avr_model.specs.declared.instruction.BinaryOp.{BinaryOp}
 use Rattle.avr_model.specs.declared.instruction.Pointer.{Pointer}
 use Rattle.avr_model.specs.declared.instruction.Pointer.TheVariants as pointer
 use Rattle.avr_model.specs.declared.operation.Mul.TheVariants as product
+use Rattle.avr_model.specs.Devices.{words_of, size_of, wrapped, device_of}
 use Rattle.avr_model.specs.Text.{far, near}
-use Rattle.avr_model.specs.Sites.{instruction_at, is_scratch, base_register, pointer_register}
+use Rattle.avr_model.specs.Written.{written}
+use Rattle.avr_model.specs.Assumptions.{jump_line}
+use Rattle.avr_model.specs.Sites.{instruction_at, is_scratch, table_site, base_register, pointer_register}
 use Rattle.avr_model.specs.Effects.{port}
 use Rattle.bit_domain.specs.declared.bits.Tri.TheVariants.{Zero, One}
 use Rattle.bit_domain.specs.Tri.{tri_not}
-use Rattle.bit_domain.specs.TriByte.{tri_at, byte_with}
+use Rattle.bit_domain.specs.TriByte.{tri_at, has, byte_known, byte_with}
 use Rattle.bit_domain.specs.Logic.{byte_equal}
 use Rattle.abs_state.specs.declared.values.AbsByte.{AbsByte}
 use Rattle.abs_state.specs.declared.state.AbsState.{AbsState}
@@ -23,23 +27,24 @@ use Rattle.abs_state.specs.Order.{state_join}
 use Rattle.mask_states.specs.declared.keys.NodeKey.{NodeKey}
 use Rattle.mask_states.specs.declared.keys.SpForm.{SpForm}
 use Rattle.mask_states.specs.declared.keys.SpForm.TheVariants.{Closed, Open}
+use Rattle.mask_states.specs.Keys.{offset_of}
 use Rattle.mask_states.specs.Order.{node_cmp}
 use Rattle.local_rules.specs.declared.local.Local.{Local}
 use Rattle.local_rules.specs.declared.local.Node.{Node}
 use Rattle.local_rules.specs.declared.local.NodeFault.{NodeFault}
-use Rattle.local_rules.specs.declared.local.NodeFault.TheVariants.{Unsupported}
+use Rattle.local_rules.specs.declared.local.NodeFault.TheVariants.{UnresolvedJump, Unsupported}
 use Rattle.local_rules.specs.Faults.{least}
-use Rattle.local_rules.specs.Raw.{Raw, nowhere, fails, untracked_if, at_word, next, further, going_to, going_on, setting}
-use Rattle.local_rules.specs.Registers.{value, bits, set, going_with, going_by, binary_after, pair_copied, bit_loaded, bit_stored, product_row, wide_row, pair_moved, flag_row, immediate_row, unary_row}
+use Rattle.local_rules.specs.Raw.{Raw, nowhere, fails, all_of, untracked_if, too_deep_if, at_word, next, further, going_to, going_on, setting}
+use Rattle.local_rules.specs.Registers.{value, bits, set, with_bits, going_with, going_by, forgetting, binary_after, pair_copied, bit_loaded, bit_stored, product_row, wide_row, pair_moved, flag_row, immediate_row, unary_row}
 use Rattle.local_rules.specs.Reads.{read_at, pointed, pair_constant, read_pointed, flash_value}
 use Rattle.local_rules.specs.Writes.{written_at, pointer_write}
-use Rattle.local_rules.specs.Flow.{branch, skipping, flag_at, targets_at, jumping, at_closed, pushing, popping, relative_call, calling, indirect_call, returning, ret_exit, reti_exit}
+use Rattle.local_rules.specs.Flow.{branch, skipping, flag_at, flag_branch, targets_at, jumping, at_closed, pushing, popping, relative_call, calling, indirect_call, returning, ret_exit, reti_exit}
 
 -- ---- registers
 
 -- `cpse` skips where the registers are equal
-abbrev pub binary_row : List ℕ → NodeKey → AbsState → BinaryOp → ℕ → ℕ → Raw
-binary_row words k s op d r = going_by k s (binary_after s op d r) (skipping words k s (byte_equal (bits s d) (bits s r)))
+abbrev pub binary_row : Device → List ℕ → NodeKey → AbsState → BinaryOp → ℕ → ℕ → Raw
+binary_row device words k s op d r = going_by device k s (binary_after s op d r) (skipping device words k s (byte_equal (bits s d) (bits s r)))
 
 -- ---- loads and stores
 
@@ -64,87 +69,93 @@ pointer_moved pointer.XPlus s = pair_moved s 26 true 1
 pointer_moved pointer.MinusX s = pair_moved s 26 false 1
 
 -- A register gets what was read; there is no successor where nothing can be read.
-abbrev pub loading : NodeKey → AbsState → List AbsByte → ℕ → Option AbsByte → Raw
-loading k s registers d None = nowhere
-loading k s registers d (Some v) = setting k s (slice_set registers d v) s.flags
+abbrev pub loading : Device → NodeKey → AbsState → List AbsByte → ℕ → Option AbsByte → Raw
+loading device k s registers d None = nowhere
+loading device k s registers d (Some v) = setting device k s (slice_set registers d v) s.flags
 
-abbrev pub load_row : NodeKey → AbsState → ℕ → Pointer → Raw
-load_row k s d p = loading k s (pointer_moved p s) d (read_pointed k s (pointed s (pointer_register p) (step_before p)))
+abbrev pub load_row : Device → NodeKey → AbsState → ℕ → Pointer → Raw
+load_row device k s d p = loading device k s (pointer_moved p s) d (read_pointed device k s (pointed s (pointer_register p) (step_before p)))
 
-abbrev pub store_row : List ℕ → List Entry → NodeKey → AbsState → Pointer → ℕ → Raw
-store_row words A k s p r =
-    pointer_write words A s (pointer_register p) (step_before p) (pointed s (pointer_register p) (step_before p)) k.pc (next k)
+abbrev pub store_row : Device → List ℕ → List Entry → NodeKey → AbsState → Pointer → ℕ → Raw
+store_row device words A k s p r =
+    pointer_write device words A s (pointer_register p) (step_before p) (pointed s (pointer_register p) (step_before p)) k.pc (next device k)
     (record s { registers = pointer_moved p s }) (value s r)
 
-abbrev pub std_row : List ℕ → List Entry → NodeKey → AbsState → ℕ → ℕ → ℕ → Raw
-std_row words A k s b q r = pointer_write words A s b q (pointed s b q) k.pc (next k) s (value s r)
+abbrev pub std_row : Device → List ℕ → List Entry → NodeKey → AbsState → ℕ → ℕ → ℕ → Raw
+std_row device words A k s b q r = pointer_write device words A s b q (pointed s b q) k.pc (next device k) s (value s r)
 
 -- one bit of an I/O address is turned on or off
-abbrev pub bit_row : NodeKey → AbsState → ℕ → ℕ → Bool → Raw
-bit_row k s a b on = written_at k.pc (next k) s false a (untagged (byte_with (read_at k s a).bits b (if on then One else Zero)))
+abbrev pub bit_row : Device → NodeKey → AbsState → ℕ → ℕ → Bool → Raw
+bit_row device k s a b on = written_at device k.pc (next device k) s false a (untagged (byte_with (read_at device k s a).bits b (if on then One else Zero)))
 
 -- ---- the whole table, in three parts
 
 -- flow, and what has no operand
-abbrev pub flow_row : List ℕ → List Entry → Bool → NodeKey → AbsState → Instr → Raw
-flow_row words A scratch k s i.Ijmp = jumping (targets_at A k s) k s
-flow_row words A scratch k s i.Icall = indirect_call (targets_at A k s) k
-flow_row words A scratch k s i.Ret = at_closed k.sp k.pc (returning (ret_exit k) k.pc k.inst.kind)
-flow_row words A scratch k s i.Reti = at_closed k.sp k.pc (returning (reti_exit k) k.pc k.inst.kind)
-flow_row words A scratch k s (i.Jmp t) = going_to k s t
-flow_row words A scratch k s (i.Call t) = calling k (further k 2) (t ∷ [])
-flow_row words A scratch k s (i.Rjmp t) = going_to k s (far k.pc t)
-flow_row words A scratch k s (i.Rcall t) = relative_call scratch k s (far k.pc t)
-flow_row words A scratch k s (i.Brbs n t) = branch (flag_at k s n) k s (near k.pc t) (further k 1)
-flow_row words A scratch k s (i.Brbc n t) = branch (tri_not (flag_at k s n)) k s (near k.pc t) (further k 1)
-flow_row words A scratch k s (i.Sbic a b) = skipping words k s (tri_not (tri_at (read_at k s (port a)).bits b))
-flow_row words A scratch k s (i.Sbis a b) = skipping words k s (tri_at (read_at k s (port a)).bits b)
-flow_row words A scratch k s (i.Sbrc r b) = skipping words k s (tri_not (tri_at (bits s r) b))
-flow_row words A scratch k s (i.Sbrs r b) = skipping words k s (tri_at (bits s r) b)
+abbrev pub flow_row : Device → List ℕ → List Entry → Bool → NodeKey → AbsState → Instr → Raw
+flow_row device words A scratch k s i.Ijmp = jumping (targets_at device A k s) k s
+flow_row device words A scratch k s i.Icall = indirect_call device (targets_at device A k s) k
+flow_row device words A scratch k s i.Ret = at_closed k.sp k.pc (returning (ret_exit k) k.pc k.inst.kind)
+flow_row device words A scratch k s i.Reti = at_closed k.sp k.pc (returning (reti_exit k) k.pc k.inst.kind)
+flow_row device words A scratch k s (i.Jmp t) = going_to k s (wrapped device t)
+flow_row device words A scratch k s (i.Call t) = calling k (further device k 2) (wrapped device t ∷ [])
+flow_row device words A scratch k s (i.Rjmp t) = going_to k s (wrapped device (far k.pc t))
+flow_row device words A scratch k s (i.Rcall t) = relative_call device scratch k s (wrapped device (far k.pc t))
+flow_row device words A scratch k s (i.Brbs n t) =
+    flag_branch n k s (wrapped device (near k.pc t)) (further device k 1)
+    (branch (flag_at k s n) k s (wrapped device (near k.pc t)) (further device k 1))
+flow_row device words A scratch k s (i.Brbc n t) =
+    flag_branch n k s (further device k 1) (wrapped device (near k.pc t))
+    (branch (tri_not (flag_at k s n)) k s (wrapped device (near k.pc t)) (further device k 1))
+flow_row device words A scratch k s (i.Sbic a b) = skipping device words k s (tri_not (tri_at (read_at device k s (port a)).bits b))
+flow_row device words A scratch k s (i.Sbis a b) = skipping device words k s (tri_at (read_at device k s (port a)).bits b)
+flow_row device words A scratch k s (i.Sbrc r b) = skipping device words k s (tri_not (tri_at (bits s r) b))
+flow_row device words A scratch k s (i.Sbrs r b) = skipping device words k s (tri_at (bits s r) b)
 -- nop, sleep, break and wdr
-flow_row words A scratch k s _ = going_on k s
+flow_row device words A scratch k s _ = going_on device k s
 
 -- loads, stores and I/O
-abbrev pub memory_row : List ℕ → List Entry → Bool → NodeKey → AbsState → Instr → Raw
-memory_row words A scratch k s (i.Ldd d b q) = loading k s s.registers d (read_pointed k s (pointed s (base_register b) q))
-memory_row words A scratch k s (i.Std b q r) = std_row words A k s (base_register b) q r
-memory_row words A scratch k s (i.Lds d a) = going_to k (record s { registers = set s d (read_at k s a) }) (further k 2)
-memory_row words A scratch k s (i.Sts a r) = written_at k.pc (at_word k (further k 2)) s false a (value s r)
-memory_row words A scratch k s (i.Ld d p) = load_row k s d p
-memory_row words A scratch k s (i.St p r) = store_row words A k s p r
-memory_row words A scratch k s (i.LpmZ d) = setting k s (set s d (flash_value words (pair_constant s 30))) s.flags
-memory_row words A scratch k s (i.LpmZPlus d) = setting k s (slice_set (pair_moved s 30 true 1) d (flash_value words (pair_constant s 30))) s.flags
-memory_row words A scratch k s i.Lpm = setting k s (set s 0 (flash_value words (pair_constant s 30))) s.flags
-memory_row words A scratch k s (i.Pop d) = at_closed k.sp k.pc (popping k s d)
-memory_row words A scratch k s (i.Push r) = at_closed k.sp k.pc (pushing scratch k s r)
-memory_row words A scratch k s (i.In d a) = setting k s (set s d (read_at k s (port a))) s.flags
-memory_row words A scratch k s (i.Out a r) = written_at k.pc (next k) s true (port a) (value s r)
-memory_row words A scratch k s (i.Cbi a b) = bit_row k s (port a) b false
-memory_row words A scratch k s (i.Sbi a b) = bit_row k s (port a) b true
-memory_row words A scratch k s instr = flow_row words A scratch k s instr
+abbrev pub memory_row : Device → List ℕ → List Entry → Bool → NodeKey → AbsState → Instr → Raw
+memory_row device words A scratch k s (i.Ldd d b q) = loading device k s s.registers d (read_pointed device k s (pointed s (base_register b) q))
+memory_row device words A scratch k s (i.Std b q r) = std_row device words A k s (base_register b) q r
+memory_row device words A scratch k s (i.Lds d a) = going_to k (record s { registers = set s d (read_at device k s a) }) (further device k 2)
+memory_row device words A scratch k s (i.Sts a r) = written_at device k.pc (at_word k (further device k 2)) s false a (value s r)
+memory_row device words A scratch k s (i.Ld d p) = load_row device k s d p
+memory_row device words A scratch k s (i.St p r) = store_row device words A k s p r
+memory_row device words A scratch k s (i.LpmZ d) = setting device k s (set s d (flash_value words (pair_constant s 30))) s.flags
+memory_row device words A scratch k s (i.LpmZPlus d) = setting device k s (slice_set (pair_moved s 30 true 1) d (flash_value words (pair_constant s 30))) s.flags
+memory_row device words A scratch k s i.Lpm = setting device k s (set s 0 (flash_value words (pair_constant s 30))) s.flags
+memory_row device words A scratch k s (i.Pop d) = at_closed k.sp k.pc (popping device k s d)
+memory_row device words A scratch k s (i.Push r) = at_closed k.sp k.pc (pushing device scratch k s r)
+memory_row device words A scratch k s (i.In d a) = setting device k s (set s d (read_at device k s (port a))) s.flags
+memory_row device words A scratch k s (i.Out a r) = written_at device k.pc (next device k) s true (port a) (value s r)
+memory_row device words A scratch k s (i.Cbi a b) = bit_row device k s (port a) b false
+memory_row device words A scratch k s (i.Sbi a b) = bit_row device k s (port a) b true
+memory_row device words A scratch k s instr = flow_row device words A scratch k s instr
 
 -- What an instruction leads to, where `scratch` says that its pushes make a compiler's small frame.
-abbrev pub row_of : List ℕ → List Entry → Bool → NodeKey → AbsState → Instr → Raw
-row_of words A scratch k s (i.Movw d r) = going_with k s (pair_copied s (2 * d) (2 * r))
-row_of words A scratch k s (i.Muls d r) = product_row k s product.Muls d r
-row_of words A scratch k s (i.Mulsu d r) = product_row k s product.Mulsu d r
-row_of words A scratch k s (i.Fmul d r) = product_row k s product.Fmul d r
-row_of words A scratch k s (i.Fmuls d r) = product_row k s product.Fmuls d r
-row_of words A scratch k s (i.Fmulsu d r) = product_row k s product.Fmulsu d r
-row_of words A scratch k s (i.Binary op d r) = binary_row words k s op d r
-row_of words A scratch k s (i.Immediate op d n) = immediate_row k s op d n
-row_of words A scratch k s (i.Unary op d) = unary_row k s op d
-row_of words A scratch k s (i.Adiw d n) = wide_row k s true (2 * d) n
-row_of words A scratch k s (i.Sbiw d n) = wide_row k s false (2 * d) n
-row_of words A scratch k s (i.Bset n) = flag_row k s n true
-row_of words A scratch k s (i.Bclr n) = flag_row k s n false
-row_of words A scratch k s (i.Bld d b) = going_with k s (bit_loaded s d b)
-row_of words A scratch k s (i.Bst d b) = going_with k s (bit_stored s d b)
-row_of words A scratch k s instr = memory_row words A scratch k s instr
+abbrev pub row_of : Device → List ℕ → List Entry → Bool → NodeKey → AbsState → Instr → Raw
+row_of device words A scratch k s (i.Movw d r) = going_with device k s (pair_copied s (2 * d) (2 * r))
+row_of device words A scratch k s (i.Muls d r) = product_row device k s product.Muls d r
+row_of device words A scratch k s (i.Mulsu d r) = product_row device k s product.Mulsu d r
+row_of device words A scratch k s (i.Fmul d r) = product_row device k s product.Fmul d r
+row_of device words A scratch k s (i.Fmuls d r) = product_row device k s product.Fmuls d r
+row_of device words A scratch k s (i.Fmulsu d r) = product_row device k s product.Fmulsu d r
+row_of device words A scratch k s (i.Binary op d r) = binary_row device words k s op d r
+row_of device words A scratch k s (i.Immediate op d n) = immediate_row device k s op d n
+row_of device words A scratch k s (i.Unary op d) = unary_row device k s op d
+row_of device words A scratch k s (i.Adiw d n) = wide_row device k s true (2 * d) n
+row_of device words A scratch k s (i.Sbiw d n) = wide_row device k s false (2 * d) n
+row_of device words A scratch k s (i.Bset n) = flag_row device k s n true
+row_of device words A scratch k s (i.Bclr n) = flag_row device k s n false
+row_of device words A scratch k s (i.Bld d b) = going_with device k s (bit_loaded s d b)
+row_of device words A scratch k s (i.Bst d b) = going_with device k s (bit_stored s d b)
+row_of device words A scratch k s instr = memory_row device words A scratch k s instr
 
-abbrev pub row_at : List ℕ → List Entry → Bool → NodeKey → AbsState → Option Instr → Raw
-row_at words A scratch k s None = fails (Unsupported k.pc)
-row_at words A scratch k s (Some instr) = row_of words A scratch k s instr
+-- No row reads what C says of a register but a branch on C and `cpc`, which set none: so it ends before the row where the instruction
+-- sets that register.
+abbrev pub row_at : Device → List ℕ → List Entry → Bool → NodeKey → AbsState → Option Instr → Raw
+row_at device words A scratch k s None = fails (Unsupported k.pc)
+row_at device words A scratch k s (Some instr) = row_of device words A scratch k (forgetting (written instr) s) instr
 
 -- ---- the node
 
@@ -153,9 +164,62 @@ abbrev pub is_hung : NodeKey → SpForm → Bool
 is_hung k (Closed offset) = false
 is_hung k (Open offset h) = k.i && not k.delay && not (k.masks == 0)
 
--- all that a node leads to, with all its faults
+-- the instruction of a node; behind the device's flash there is none
+abbrev pub fetched : Device → List ℕ → ℕ → Option Instr
+fetched device words pc = if nat_lt pc (words_of device) then instruction_at words pc else None
+
+-- ---- jump tables
+
+-- the bits permit the byte, and it lies in the range
+abbrev pub may_be : AbsByte → ℕ → Bool
+may_be v byte = (has v.bits byte && nat_le v.low byte) && nat_le byte v.high
+
+-- the numbers below n, ascending
+unfoldable pub below : ℕ → List ℕ
+below zero = []
+below (suc n) = below n ++ n ∷ []
+
+-- the bytes that r30 may hold
+abbrev pub picks : AbsState → List ℕ
+picks s = filter (may_be (value s 30)) (below 256)
+
+-- the key and the state of one of them: r30 is this byte, with its tag as it was
+abbrev pub picking : NodeKey → ℕ → NodeKey
+picking k byte = record k { pick = Some byte }
+
+abbrev pub picked : AbsState → ℕ → AbsState
+picked s byte = record s { registers = set s 30 (with_bits (value s 30).tag (byte_known byte)) }
+
+-- the word of the `ijmp`, where its site has no `jump` line
+abbrev pub unless_lined : Option (List ℕ) → ℕ → Option ℕ
+unless_lined None jump = Some jump
+unless_lined (Some listed) jump = None
+
+abbrev pub unlined : List Entry → Option ℕ → Option ℕ
+unlined A None = None
+unlined A (Some jump) = unless_lined (jump_line A jump) jump
+
+-- Where a node splits: at a table site of flash, unless an entry is picked already; the word of its `ijmp`.
+abbrev pub split_site : List ℕ → List Entry → ℕ → Option ℕ → Option ℕ
+split_site words A pc None = if nat_lt pc (words_of (device_of words)) then unlined A (table_site words pc) else None
+split_site words A pc (Some byte) = None
+
+-- A node that splits leads where it would with each byte that r30 may hold, picked; with more than 64 its `ijmp` can't be resolved.
+abbrev pub splitting : Option ℕ → (NodeKey → AbsState → Raw) → NodeKey → AbsState → Raw
+splitting None row k s = row k s
+splitting (Some jump) row k s =
+    if nat_le (length (picks s)) 64 then all_of (map (λ byte. row (picking k byte) (picked s byte)) (picks s)) else fails (UnresolvedJump jump)
+
+-- what the instruction of a node leads to, on this device
+abbrev pub row_in : Device → List ℕ → List Entry → NodeKey → AbsState → Raw
+row_in device words A k s = row_at device words A (is_scratch words k.pc) k s (fetched device words k.pc)
+
+-- all that a node leads to, with all its faults, on the device of these words
 unfoldable pub raw : List ℕ → List Entry → NodeKey → AbsState → Raw
-raw words A k s = untracked_if (is_hung k k.sp) k.pc (row_at words A (is_scratch words k.pc) k s (instruction_at words k.pc))
+raw words A k s =
+    untracked_if (is_hung k k.sp) k.pc
+    (too_deep_if (nat_lt (size_of (device_of words)) (offset_of k.sp)) k.pc (offset_of k.sp)
+    (splitting (split_site words A k.pc k.pick) (row_in (device_of words) words A) k s))
 
 -- ---- successors of one key are joined
 

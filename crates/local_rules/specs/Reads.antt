@@ -1,15 +1,17 @@
 -- What is known of a byte that is read from data space. Source: own.
 use Rattle.std.specs.Prelude.{ℕ, ◌+◌, ◌*◌, ◌-◌, ◌==◌, Bool, true, false, nat_lt, nat_le, if◌then◌else◌, List, length, Option, Some, None}
 use Rattle.std.specs.Int.{bit_at, from_bool}
-use Rattle.avr_model.specs.Image.{FLASH_BYTES, byte_at}
+use Rattle.avr_model.specs.declared.device.Device.{Device}
+use Rattle.avr_model.specs.Devices.{words_of, ramend, device_of}
+use Rattle.avr_model.specs.Image.{byte_at}
 use Rattle.avr_model.specs.Vectors.{enable_of}
-use Rattle.avr_model.specs.State.{RAMEND, BELOW, SPL, SPH, SREG, low, high, plus16, minus16}
+use Rattle.avr_model.specs.State.{BELOW, SPL, SPH, SREG, low, high, plus16, minus16}
 use Rattle.bit_domain.specs.declared.bits.Tri.{Tri}
 use Rattle.bit_domain.specs.declared.bits.Tri.TheVariants.{Any}
 use Rattle.bit_domain.specs.declared.bytes.TriByte.{TriByte}
 use Rattle.bit_domain.specs.Tri.{tri_bit}
 use Rattle.bit_domain.specs.TriByte.{byte_of, byte_any, byte_with, byte_constant}
-use Rattle.bit_domain.specs.Lattice.{byte_meet}
+use Rattle.bit_domain.specs.Ranges.{set_meet}
 use Rattle.sp_domain.specs.declared.tags.Tag.{Tag}
 use Rattle.sp_domain.specs.declared.tags.Tag.TheVariants as tag
 use Rattle.sp_domain.specs.declared.slots.Slot.{Slot}
@@ -18,7 +20,7 @@ use Rattle.sp_domain.specs.Tags.{low_of, high_of, frame_of}
 use Rattle.sp_domain.specs.Slots.{slot_at}
 use Rattle.abs_state.specs.declared.values.AbsByte.{AbsByte}
 use Rattle.abs_state.specs.declared.state.AbsState.{AbsState}
-use Rattle.abs_state.specs.Values.{untagged, unknown, known}
+use Rattle.abs_state.specs.Values.{untagged, unknown, known, set_of, valued}
 use Rattle.abs_state.specs.Frames.{with_tag}
 use Rattle.mask_states.specs.declared.keys.NodeKey.{NodeKey}
 use Rattle.mask_states.specs.declared.keys.Kind.{Kind}
@@ -32,24 +34,24 @@ use Rattle.local_rules.specs.Registers.{value, bits, with_bits}
 -- ---- at an address
 
 -- The bytes of a closed stack pointer: known in the root, whose base is the top of SRAM; elsewhere base - offset.
-abbrev pub closed_low : Kind → ℕ → AbsByte
-closed_low Root offset = known (low (RAMEND - offset))
-closed_low Call offset = with_bits (low_of offset) byte_any
-closed_low (Vector v) offset = with_bits (low_of offset) byte_any
+abbrev pub closed_low : Device → Kind → ℕ → AbsByte
+closed_low device Root offset = known (low (ramend device - offset))
+closed_low device Call offset = with_bits (low_of offset) byte_any
+closed_low device (Vector v) offset = with_bits (low_of offset) byte_any
 
-abbrev pub closed_high : Kind → ℕ → AbsByte
-closed_high Root offset = known (high (RAMEND - offset))
-closed_high Call offset = with_bits (high_of offset) byte_any
-closed_high (Vector v) offset = with_bits (high_of offset) byte_any
+abbrev pub closed_high : Device → Kind → ℕ → AbsByte
+closed_high device Root offset = known (high (ramend device - offset))
+closed_high device Call offset = with_bits (high_of offset) byte_any
+closed_high device (Vector v) offset = with_bits (high_of offset) byte_any
 
 -- those of an open one are unknown
-abbrev pub sp_low : Kind → SpForm → AbsByte
-sp_low kind (Closed offset) = closed_low kind offset
-sp_low kind (Open offset h) = unknown
+abbrev pub sp_low : Device → Kind → SpForm → AbsByte
+sp_low device kind (Closed offset) = closed_low device kind offset
+sp_low device kind (Open offset h) = unknown
 
-abbrev pub sp_high : Kind → SpForm → AbsByte
-sp_high kind (Closed offset) = closed_high kind offset
-sp_high kind (Open offset h) = unknown
+abbrev pub sp_high : Device → Kind → SpForm → AbsByte
+sp_high device kind (Closed offset) = closed_high device kind offset
+sp_high device kind (Open offset h) = unknown
 
 -- the status register, with I from the key
 abbrev pub flags_tag : Bool → Tag
@@ -72,20 +74,20 @@ value_of Free = unknown
 value_of (Guarded v) = v
 
 -- the slot at an address: in the root, whose base is known
-abbrev pub slot_read : Kind → AbsState → ℕ → AbsByte
-slot_read Root s a = if nat_le a RAMEND then value_of (slot_at s.slots (RAMEND - a)) else unknown
-slot_read Call s a = unknown
-slot_read (Vector v) s a = unknown
+abbrev pub slot_read : Device → Kind → AbsState → ℕ → AbsByte
+slot_read device Root s a = if nat_le a (ramend device) then value_of (slot_at s.slots (ramend device - a)) else unknown
+slot_read device Call s a = unknown
+slot_read device (Vector v) s a = unknown
 
 -- what a read of a known address gives
-unfoldable pub read_at : NodeKey → AbsState → ℕ → AbsByte
-read_at k s a =
+unfoldable pub read_at : Device → NodeKey → AbsState → ℕ → AbsByte
+read_at device k s a =
     if nat_lt a 0x20 then value s a
-    else (if a == SPL then sp_low k.inst.kind k.sp
-    else (if a == SPH then sp_high k.inst.kind k.sp
+    else (if a == SPL then sp_low device k.inst.kind k.sp
+    else (if a == SPH then sp_high device k.inst.kind k.sp
     else (if a == SREG then sreg_value k s
     else (if nat_le a BELOW then untagged (io_bits k.masks a)
-    else slot_read k.inst.kind s a))))
+    else slot_read device k.inst.kind s a))))
 
 -- ---- through a pointer
 
@@ -114,27 +116,30 @@ pointed s r up =
       frame = lowered up (frame_of (value s r).tag (value s (r + 1)).tag);
     }
 
--- by its number alone: the bits, without a tag
-abbrev pub read_constant : NodeKey → AbsState → Option ℕ → AbsByte
-read_constant k s None = unknown
-read_constant k s (Some a) = untagged (read_at k s a).bits
+-- by its number alone: without a tag, and of a register or I/O the bits alone; a slot keeps its range
+abbrev pub read_number : Device → NodeKey → AbsState → ℕ → AbsByte
+read_number device k s a = if nat_le a BELOW then untagged (read_at device k s a).bits else valued tag.None (set_of (read_at device k s a))
 
--- a slot, with what is known by the number; none where these bits conflict
-abbrev pub read_both : NodeKey → AbsState → Option ℕ → AbsByte → Option AbsByte
-read_both k s None v = Some v
-read_both k s (Some a) v = with_tag v.tag (byte_meet (read_at k s a).bits v.bits)
+abbrev pub read_constant : Device → NodeKey → AbsState → Option ℕ → AbsByte
+read_constant device k s None = unknown
+read_constant device k s (Some a) = read_number device k s a
+
+-- a slot, with what is known by the number; none where the two have no meet
+abbrev pub read_both : Device → NodeKey → AbsState → Option ℕ → AbsByte → Option AbsByte
+read_both device k s None v = Some v
+read_both device k s (Some a) v = with_tag v.tag (set_meet (set_of (read_number device k s a)) (set_of v))
 
 -- A slot that isn't there is read by the number alone.
-abbrev pub read_frame : NodeKey → AbsState → Option ℕ → Option ℕ → Option AbsByte
-read_frame k s constant None = Some (read_constant k s constant)
-read_frame k s constant (Some d) =
-    if nat_lt d (length s.slots) then read_both k s constant (value_of (slot_at s.slots d)) else Some (read_constant k s constant)
+abbrev pub read_frame : Device → NodeKey → AbsState → Option ℕ → Option ℕ → Option AbsByte
+read_frame device k s constant None = Some (read_constant device k s constant)
+read_frame device k s constant (Some d) =
+    if nat_lt d (length s.slots) then read_both device k s constant (value_of (slot_at s.slots d)) else Some (read_constant device k s constant)
 
 -- what a read through a pointer gives; none where it can't be
-abbrev pub read_pointed : NodeKey → AbsState → Pointed → Option AbsByte
-read_pointed k s p = read_frame k s p.constant p.frame
+abbrev pub read_pointed : Device → NodeKey → AbsState → Pointed → Option AbsByte
+read_pointed device k s p = read_frame device k s p.constant p.frame
 
--- the byte of flash at a known address
+-- the byte of flash at a known address, on the device of these words
 abbrev pub flash_value : List ℕ → Option ℕ → AbsByte
 flash_value words None = unknown
-flash_value words (Some z) = if nat_lt z FLASH_BYTES then known (byte_at words z) else unknown
+flash_value words (Some z) = if nat_lt z (2 * words_of (device_of words)) then known (byte_at words z) else unknown

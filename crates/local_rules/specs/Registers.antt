@@ -1,6 +1,8 @@
 -- Instructions that work on registers and flags alone. Where a result has a tag, a rule here says so; all others have none. Source: own;
 -- bits and flags follow the Instruction Set Manual DS40002198.
 use Rattle.std.specs.Prelude.{ℕ, ◌+◌, ◌%◌, ◌==◌, Bool, true, false, not, if◌then◌else◌, List, Option, Some, None, slice_set}
+use Rattle.std.specs.List.{list_any}
+use Rattle.avr_model.specs.declared.device.Device.{Device}
 use Rattle.avr_model.specs.declared.instruction.BinaryOp.{BinaryOp}
 use Rattle.avr_model.specs.declared.instruction.BinaryOp.TheVariants as binary
 use Rattle.avr_model.specs.declared.instruction.ImmediateOp.{ImmediateOp}
@@ -31,6 +33,7 @@ use Rattle.abs_state.specs.declared.values.AbsByte.{AbsByte}
 use Rattle.abs_state.specs.declared.values.AbsFlags.{AbsFlags}
 use Rattle.abs_state.specs.declared.state.AbsState.{AbsState}
 use Rattle.abs_state.specs.Values.{value_at, untagged, known}
+pub use Rattle.abs_state.specs.Values.{with_bits}
 use Rattle.mask_states.specs.declared.keys.NodeKey.{NodeKey}
 use Rattle.local_rules.specs.declared.computed.Computed.{Computed}
 use Rattle.local_rules.specs.Raw.{Raw, setting, next, one}
@@ -47,15 +50,21 @@ bits s r = (value s r).bits
 abbrev pub carry_bit : AbsState → Tri
 carry_bit s = tri_at s.flags.bits 0
 
-abbrev pub with_bits : Tag → TriByte → AbsByte
-with_bits t b = record { tag = t; bits = b }
-
 abbrev pub set : AbsState → ℕ → AbsByte → List AbsByte
 set s d v = slice_set s.registers d v
 
 -- registers r and r + 1, the low byte first
 abbrev pub set_pair : List AbsByte → ℕ → AbsByte → AbsByte → List AbsByte
 set_pair registers r lo hi = slice_set (slice_set registers r lo) (r + 1) hi
+
+-- What the carry tag says of a register ends where that register is written.
+abbrev pub forgotten : List ℕ → CarryTag → CarryTag
+forgotten written carry.None = carry.None
+forgotten written (carry.Borrow j l) = carry.Borrow j l
+forgotten written (carry.Less r k) = if list_any (λ n. n == r) written then carry.None else carry.Less r k
+
+abbrev pub forgetting : List ℕ → AbsState → AbsState
+forgetting written s = record s { flags = record s.flags { carry = forgotten written s.flags.carry } }
 
 -- Flags that are written, C among them. They are those of the frame's entry no more.
 abbrev pub with_carry : TriByte → CarryTag → AbsFlags
@@ -69,13 +78,13 @@ but_carry s b = with_carry b s.flags.carry
 abbrev pub both_set : List AbsByte → AbsFlags → Computed
 both_set registers flags = record { registers = registers; flags = flags }
 
-abbrev pub going_with : NodeKey → AbsState → Computed → Raw
-going_with k s c = setting k s c.registers c.flags
+abbrev pub going_with : Device → NodeKey → AbsState → Computed → Raw
+going_with device k s c = setting device k s c.registers c.flags
 
 -- with what was computed, where something was
-abbrev pub going_by : NodeKey → AbsState → Option Computed → Raw → Raw
-going_by k s None other = other
-going_by k s (Some c) other = going_with k s c
+abbrev pub going_by : Device → NodeKey → AbsState → Option Computed → Raw → Raw
+going_by device k s None other = other
+going_by device k s (Some c) other = going_with device k s c
 
 -- one register is set, and the flags stay
 abbrev pub register_set : AbsState → ℕ → AbsByte → Computed
@@ -88,24 +97,31 @@ sum_after s d b c =
     let r = abs_add (bits s d) b c s.flags.bits in
     both_set (set s d (untagged r.0)) (with_carry r.1 carry.None)
 
-abbrev pub sum_row : NodeKey → AbsState → ℕ → TriByte → Tri → Raw
-sum_row k s d b c = going_with k s (sum_after s d b c)
+-- a comparison sets the flags alone, with what C says afterwards
+abbrev pub compare_after : AbsState → TriByte → TriByte → Tri → Bool → CarryTag → Computed
+compare_after s a b borrow keep_zero c = both_set s.registers (with_carry (abs_sub a b borrow keep_zero s.flags.bits).1 c)
 
--- a comparison sets the flags alone
-abbrev pub compare_after : AbsState → TriByte → TriByte → Tri → Bool → Computed
-compare_after s a b borrow keep_zero = both_set s.registers (with_carry (abs_sub a b borrow keep_zero s.flags.bits).1 carry.None)
+-- after a comparison with a known number: whether the register is below it
+abbrev pub less_than : ℕ → Option ℕ → CarryTag
+less_than d None = carry.None
+less_than d (Some n) = carry.Less d n
 
-abbrev pub compare_row : NodeKey → AbsState → TriByte → TriByte → Tri → Bool → Raw
-compare_row k s a b borrow keep_zero = going_with k s (compare_after s a b borrow keep_zero)
+-- a comparison of two equal numbers and a borrow leaves C as it was, and with it what C says of a register
+abbrev pub less_alone : CarryTag → CarryTag
+less_alone carry.None = carry.None
+less_alone (carry.Borrow j l) = carry.None
+less_alone (carry.Less r n) = carry.Less r n
+
+abbrev pub less_kept : Option ℕ → Option ℕ → CarryTag → CarryTag
+less_kept None b c = carry.None
+less_kept (Some x) None c = carry.None
+less_kept (Some x) (Some y) c = if x == y then less_alone c else carry.None
 
 -- a difference, with the tag of the result and that of the borrow
 abbrev pub difference_after : AbsState → ℕ → TriByte → TriByte → Tri → Bool → Tag → CarryTag → Computed
 difference_after s d a b borrow keep_zero t c =
     let r = abs_sub a b borrow keep_zero s.flags.bits in
     both_set (set s d (with_bits t r.0)) (with_carry r.1 c)
-
-abbrev pub difference_row : NodeKey → AbsState → ℕ → TriByte → TriByte → Tri → Bool → Tag → CarryTag → Raw
-difference_row k s d a b borrow keep_zero t c = going_with k s (difference_after s d a b borrow keep_zero t c)
 
 -- A known number less from the low byte of base - j, and from the high byte of base - k under the borrow of the low one.
 abbrev pub low_tag : Tag → Option ℕ → Tag
@@ -127,52 +143,31 @@ or_nothing d r b = if d == r then byte_known 0 else b
 abbrev pub sub_after : AbsState → ℕ → TriByte → TriByte → Option ℕ → Computed
 sub_after s d a b number = difference_after s d a b Zero false (low_tag (value s d).tag number) (borrow_tag (value s d).tag number)
 
-abbrev pub sub_row : NodeKey → AbsState → ℕ → TriByte → TriByte → Option ℕ → Raw
-sub_row k s d a b number = going_with k s (sub_after s d a b number)
-
 abbrev pub sbc_after : AbsState → ℕ → TriByte → Option ℕ → Computed
 sbc_after s d b number = difference_after s d (bits s d) b (carry_bit s) true (high_tag (value s d).tag number s.flags.carry) carry.None
 
-abbrev pub sbc_row : NodeKey → AbsState → ℕ → TriByte → Option ℕ → Raw
-sbc_row k s d b number = going_with k s (sbc_after s d b number)
-
 -- ---- bit by bit
 
-abbrev pub logic_after : AbsState → Logic → ℕ → TriByte → TriByte → Tag → Computed
-logic_after s op d a b t =
+-- a bit operation; `and` and `or` of a register with itself change no bit, and keep the whole value
+abbrev pub logic_after : AbsState → Logic → ℕ → TriByte → TriByte → Bool → Computed
+logic_after s op d a b same =
     let r = abs_logic op a b s.flags.bits in
-    both_set (set s d (with_bits t r.0)) (but_carry s r.1)
-
-abbrev pub logic_row : NodeKey → AbsState → Logic → ℕ → TriByte → TriByte → Tag → Raw
-logic_row k s op d a b t = going_with k s (logic_after s op d a b t)
-
--- `and` and `or` of a register with itself change no bit, and keep the tag
-abbrev pub kept_tag : AbsState → ℕ → ℕ → Tag
-kept_tag s d r = if d == r then (value s d).tag else tag.None
+    both_set (set s d (if same then value s d else untagged r.0)) (but_carry s r.1)
 
 abbrev pub step_after : AbsState → Bool → ℕ → Computed
 step_after s up d =
     let r = abs_step_one up (bits s d) s.flags.bits in
     both_set (set s d (untagged r.0)) (but_carry s r.1)
 
-abbrev pub step_row : NodeKey → AbsState → Bool → ℕ → Raw
-step_row k s up d = going_with k s (step_after s up d)
-
 abbrev pub shift_after : AbsState → Shift → ℕ → Computed
 shift_after s op d =
     let r = abs_shift op (bits s d) s.flags.bits in
     both_set (set s d (untagged r.0)) (with_carry r.1 carry.None)
 
-abbrev pub shift_row : NodeKey → AbsState → Shift → ℕ → Raw
-shift_row k s op d = going_with k s (shift_after s op d)
-
 abbrev pub com_after : AbsState → ℕ → Computed
 com_after s d =
     let r = abs_com (bits s d) s.flags.bits in
     both_set (set s d (untagged r.0)) (with_carry r.1 carry.None)
-
-abbrev pub com_row : NodeKey → AbsState → ℕ → Raw
-com_row k s d = going_with k s (com_after s d)
 
 -- the halves of a byte exchanged
 abbrev pub swapped : TriByte → TriByte
@@ -185,8 +180,8 @@ product_after s op d r =
     let p = abs_mul op (bits s d) (bits s r) s.flags.bits in
     both_set (set_pair s.registers 0 (untagged p.0.0) (untagged p.0.1)) (with_carry p.1 carry.None)
 
-abbrev pub product_row : NodeKey → AbsState → Mul → ℕ → ℕ → Raw
-product_row k s op d r = going_with k s (product_after s op d r)
+abbrev pub product_row : Device → NodeKey → AbsState → Mul → ℕ → ℕ → Raw
+product_row device k s op d r = going_with device k s (product_after s op d r)
 
 -- registers d and d + 1 become r and r + 1
 abbrev pub pair_copied : AbsState → ℕ → ℕ → Computed
@@ -208,15 +203,15 @@ abbrev pub wide_after : AbsState → Bool → ℕ → ℕ → Computed
 wide_after s up d n =
     both_set (pair_moved s d up n) (with_carry (abs_wide up (bits s d, bits s (d + 1)) n s.flags.bits).1 carry.None)
 
-abbrev pub wide_row : NodeKey → AbsState → Bool → ℕ → ℕ → Raw
-wide_row k s up d n = going_with k s (wide_after s up d n)
+abbrev pub wide_row : Device → NodeKey → AbsState → Bool → ℕ → ℕ → Raw
+wide_row device k s up d n = going_with device k s (wide_after s up d n)
 
 -- ---- flags
 
 -- I is in the key
-abbrev pub interrupts_row : NodeKey → AbsState → Bool → Raw
-interrupts_row k s true = one (record (next k) { i = true; delay = not k.i }) s
-interrupts_row k s false = one (record (next k) { i = false }) s
+abbrev pub interrupts_row : Device → NodeKey → AbsState → Bool → Raw
+interrupts_row device k s true = one (record (next device k) { i = true; delay = not k.i }) s
+interrupts_row device k s false = one (record (next device k) { i = false }) s
 
 abbrev pub tri_of_bool : Bool → Tri
 tri_of_bool true = One
@@ -233,8 +228,8 @@ flag_after s n on = both_set s.registers (with_carry (byte_with s.flags.bits n (
 abbrev pub flag_unless_i : AbsState → ℕ → Bool → Option Computed
 flag_unless_i s n on = if n == 7 then None else Some (flag_after s n on)
 
-abbrev pub flag_row : NodeKey → AbsState → ℕ → Bool → Raw
-flag_row k s n on = if n == 7 then interrupts_row k s on else going_with k s (flag_after s n on)
+abbrev pub flag_row : Device → NodeKey → AbsState → ℕ → Bool → Raw
+flag_row device k s n on = if n == 7 then interrupts_row device k s on else going_with device k s (flag_after s n on)
 
 -- bit b of register d becomes T, and T that bit
 abbrev pub bit_loaded : AbsState → ℕ → ℕ → Computed
@@ -246,15 +241,15 @@ bit_stored s d b = both_set s.registers (with_carry (byte_with s.flags.bits 6 (t
 -- ---- by the operation
 
 abbrev pub immediate_after : AbsState → ImmediateOp → ℕ → ℕ → Computed
-immediate_after s immediate.Cpi d n = compare_after s (bits s d) (byte_known n) Zero false
+immediate_after s immediate.Cpi d n = compare_after s (bits s d) (byte_known n) Zero false (carry.Less d n)
 immediate_after s immediate.Sbci d n = sbc_after s d (byte_known n) (Some n)
 immediate_after s immediate.Subi d n = sub_after s d (bits s d) (byte_known n) (Some n)
-immediate_after s immediate.Ori d n = logic_after s logic.Or d (bits s d) (byte_known n) tag.None
-immediate_after s immediate.Andi d n = logic_after s logic.And d (bits s d) (byte_known n) tag.None
+immediate_after s immediate.Ori d n = logic_after s logic.Or d (bits s d) (byte_known n) false
+immediate_after s immediate.Andi d n = logic_after s logic.And d (bits s d) (byte_known n) false
 immediate_after s immediate.Ldi d n = register_set s d (known n)
 
-abbrev pub immediate_row : NodeKey → AbsState → ImmediateOp → ℕ → ℕ → Raw
-immediate_row k s op d n = going_with k s (immediate_after s op d n)
+abbrev pub immediate_row : Device → NodeKey → AbsState → ImmediateOp → ℕ → ℕ → Raw
+immediate_row device k s op d n = going_with device k s (immediate_after s op d n)
 
 abbrev pub unary_after : AbsState → UnaryOp → ℕ → Computed
 unary_after s unary.Com d = com_after s d
@@ -266,20 +261,20 @@ unary_after s unary.Lsr d = shift_after s shift.Lsr d
 unary_after s unary.Ror d = shift_after s shift.Ror d
 unary_after s unary.Dec d = step_after s false d
 
-abbrev pub unary_row : NodeKey → AbsState → UnaryOp → ℕ → Raw
-unary_row k s op d = going_with k s (unary_after s op d)
+abbrev pub unary_row : Device → NodeKey → AbsState → UnaryOp → ℕ → Raw
+unary_row device k s op d = going_with device k s (unary_after s op d)
 
 -- all but `cpse`
 abbrev pub binary_after : AbsState → BinaryOp → ℕ → ℕ → Option Computed
-binary_after s binary.Cpc d r = Some (compare_after s (bits s d) (bits s r) (carry_bit s) true)
+binary_after s binary.Cpc d r = Some (compare_after s (bits s d) (bits s r) (carry_bit s) true (less_kept (byte_constant (bits s d)) (byte_constant (bits s r)) s.flags.carry))
 binary_after s binary.Sbc d r = Some (sbc_after s d (bits s r) (byte_constant (bits s r)))
 binary_after s binary.Add d r = Some (sum_after s d (bits s r) Zero)
 binary_after s binary.Cpse d r = None
-binary_after s binary.Cp d r = Some (compare_after s (bits s d) (bits s r) Zero false)
+binary_after s binary.Cp d r = Some (compare_after s (bits s d) (bits s r) Zero false (less_than d (byte_constant (bits s r))))
 binary_after s binary.Sub d r = Some (sub_after s d (or_nothing d r (bits s d)) (or_nothing d r (bits s r)) (byte_constant (bits s r)))
 binary_after s binary.Adc d r = Some (sum_after s d (bits s r) (carry_bit s))
-binary_after s binary.And d r = Some (logic_after s logic.And d (bits s d) (bits s r) (kept_tag s d r))
-binary_after s binary.Eor d r = Some (logic_after s logic.Eor d (or_nothing d r (bits s d)) (or_nothing d r (bits s r)) tag.None)
-binary_after s binary.Or d r = Some (logic_after s logic.Or d (bits s d) (bits s r) (kept_tag s d r))
+binary_after s binary.And d r = Some (logic_after s logic.And d (bits s d) (bits s r) (d == r))
+binary_after s binary.Eor d r = Some (logic_after s logic.Eor d (or_nothing d r (bits s d)) (or_nothing d r (bits s r)) false)
+binary_after s binary.Or d r = Some (logic_after s logic.Or d (bits s d) (bits s r) (d == r))
 binary_after s binary.Mov d r = Some (register_set s d (value s r))
 binary_after s binary.Mul d r = Some (product_after s product.Mul d r)

@@ -1,9 +1,11 @@
 -- What a byte that is written to data space changes. Source: own.
 use Rattle.std.specs.Prelude.{ℕ, ◌+◌, ◌*◌, ◌-◌, ◌%◌, ◌==◌, ◌&&◌, ◌||◌, Bool, true, false, not, nat_lt, nat_le, if◌then◌else◌, List, [], ◌∷◌, map, filter, Option, Some, None, slice_set}
+use Rattle.avr_model.specs.declared.device.Device.{Device}
 use Rattle.avr_model.specs.declared.assumption.Entry.{Entry}
+use Rattle.avr_model.specs.Devices.{size_of, ramend}
 use Rattle.avr_model.specs.Assumptions.{store_line, is_proved}
 use Rattle.avr_model.specs.Sites.{is_fixed}
-use Rattle.avr_model.specs.State.{RAMEND, SIZE, SPL, SPH, SREG, low, high, minus16}
+use Rattle.avr_model.specs.State.{SPL, SPH, SREG, low, high, minus16}
 use Rattle.bit_domain.specs.declared.bits.Tri.{Tri}
 use Rattle.bit_domain.specs.declared.bits.Tri.TheVariants.{Zero, One, Any}
 use Rattle.bit_domain.specs.TriByte.{tri_at, has, byte_with, byte_constant}
@@ -25,7 +27,7 @@ use Rattle.mask_states.specs.Keys.{offset_of}
 use Rattle.mask_states.specs.Splits.{splits}
 use Rattle.local_rules.specs.declared.local.NodeFault.TheVariants.{UntrackedSp, TooDeep, UnknownPointer}
 use Rattle.local_rules.specs.Raw.{Raw, moves_to, one, fails, all_of}
-use Rattle.local_rules.specs.Registers.{bits}
+use Rattle.local_rules.specs.Registers.{bits, with_bits, forgetting}
 use Rattle.local_rules.specs.declared.pointers.Pointed.{Pointed}
 
 -- ---- the stack pointer
@@ -50,9 +52,9 @@ opening None k s pc = fails (UntrackedSp pc)
 opening (Some h) k s pc = one (record k { sp = Open (offset_of k.sp) h }) s
 
 -- the offset at which the root's stack pointer is 256 times its high part plus a low byte; none above the top of SRAM
-abbrev pub root_offset : ℕ → Option ℕ → Option ℕ
-root_offset h None = None
-root_offset h (Some l) = if nat_le (256 * h + l) RAMEND then Some (RAMEND - (256 * h + l)) else None
+abbrev pub root_offset : Device → ℕ → Option ℕ → Option ℕ
+root_offset device h None = None
+root_offset device h (Some l) = if nat_le (256 * h + l) (ramend device) then Some (ramend device - (256 * h + l)) else None
 
 -- base - k, where the low byte says the same of it; a k from 0x8000 up would be above the base
 abbrev pub tagged_offset : ℕ → Tag → Option ℕ
@@ -60,26 +62,26 @@ tagged_offset k (tag.SpLo j) = if (j == k % 256) && nat_lt k 0x8000 then Some k 
 tagged_offset k _ = None
 
 -- the offset at which a low byte closes the pair
-abbrev pub root_closing : SpForm → Option ℕ → Option ℕ
-root_closing (Closed offset) l = root_offset (high (RAMEND - offset)) l
-root_closing (Open offset (Known h)) l = root_offset h l
-root_closing (Open offset (Tagged k)) l = None
+abbrev pub root_closing : Device → SpForm → Option ℕ → Option ℕ
+root_closing device (Closed offset) l = root_offset device (high (ramend device - offset)) l
+root_closing device (Open offset (Known h)) l = root_offset device h l
+root_closing device (Open offset (Tagged k)) l = None
 
 abbrev pub frame_closing : SpForm → Tag → Option ℕ
 frame_closing (Closed offset) t = tagged_offset offset t
 frame_closing (Open offset (Known h)) t = None
 frame_closing (Open offset (Tagged k)) t = tagged_offset k t
 
-abbrev pub closing_offset : Kind → SpForm → AbsByte → Option ℕ
-closing_offset Root sp v = root_closing sp (byte_constant v.bits)
-closing_offset Call sp v = frame_closing sp v.tag
-closing_offset (Vector n) sp v = frame_closing sp v.tag
+abbrev pub closing_offset : Device → Kind → SpForm → AbsByte → Option ℕ
+closing_offset device Root sp v = root_closing device sp (byte_constant v.bits)
+closing_offset device Call sp v = frame_closing sp v.tag
+closing_offset device (Vector n) sp v = frame_closing sp v.tag
 
 -- Slots are cut at the new offset, or free ones are added up to it.
-abbrev pub closing : Option ℕ → NodeKey → AbsState → ℕ → Raw
-closing None k s pc = fails (UntrackedSp pc)
-closing (Some n) k s pc =
-    if nat_le n SIZE then one (record k { sp = Closed n }) (record s { slots = resized n s.slots }) else fails (TooDeep pc n)
+abbrev pub closing : Device → Option ℕ → NodeKey → AbsState → ℕ → Raw
+closing device None k s pc = fails (UntrackedSp pc)
+closing device (Some n) k s pc =
+    if nat_le n (size_of device) then one (record k { sp = Closed n }) (record s { slots = resized n s.slots }) else fails (TooDeep pc n)
 
 -- ---- the status register
 
@@ -107,12 +109,16 @@ sreg_written Any k s is_out =
 abbrev pub masks_written : NodeKey → AbsState → ℕ → AbsByte → Raw
 masks_written k s a v = moves_to (map (λ m. record { key = record k { masks = m }; state = s }) (splits k.masks a v.bits))
 
+-- a register that is written by its address gets the byte's bits and tag, and what C says of it ends
+abbrev pub register_written : AbsState → ℕ → AbsByte → AbsState
+register_written s a v = forgetting (a ∷ []) (record s { registers = slice_set s.registers a (with_bits v.tag v.bits) })
+
 -- What a byte does that is written to a known address, at the word pc, from a node whose key and state are what they are
 -- otherwise after the instruction.
-unfoldable pub written_at : ℕ → NodeKey → AbsState → Bool → ℕ → AbsByte → Raw
-written_at pc k s is_out a v =
-    if nat_lt a 0x20 then one k (record s { registers = slice_set s.registers a v })
-    else (if a == SPL then closing (closing_offset k.inst.kind k.sp v) k s pc
+unfoldable pub written_at : Device → ℕ → NodeKey → AbsState → Bool → ℕ → AbsByte → Raw
+written_at device pc k s is_out a v =
+    if nat_lt a 0x20 then one k (register_written s a v)
+    else (if a == SPL then closing device (closing_offset device k.inst.kind k.sp v) k s pc
     else (if a == SPH then opening (high_part k.inst.kind v) k s pc
     else (if a == SREG then sreg_written (tri_at v.bits 7) k (record s { flags = flags_written v }) is_out
     else masks_written k s a v)))
@@ -124,17 +130,17 @@ abbrev pub reaches : AbsState → ℕ → ℕ → ℕ → Bool
 reaches s r up a = has (bits s r) (low (minus16 a up)) && has (bits s (r + 1)) (high (minus16 a up))
 
 -- at a fixed site: the address is known
-abbrev pub fixed_write : Option ℕ → ℕ → NodeKey → AbsState → AbsByte → Raw
-fixed_write None pc k s v = fails (UnknownPointer pc)
-fixed_write (Some a) pc k s v = written_at pc k s false a v
+abbrev pub fixed_write : Device → Option ℕ → ℕ → NodeKey → AbsState → AbsByte → Raw
+fixed_write device None pc k s v = fails (UnknownPointer pc)
+fixed_write device (Some a) pc k s v = written_at device pc k s false a v
 
 -- At an unfixed site: one successor in which the byte changes nothing that is known, and those of each listed address that can be met.
-abbrev pub listed_writes : ℕ → NodeKey → AbsState → List ℕ → AbsByte → Raw
-listed_writes pc k s addresses v = all_of (one k s ∷ map (λ a. written_at pc k s false a v) addresses)
+abbrev pub listed_writes : Device → ℕ → NodeKey → AbsState → List ℕ → AbsByte → Raw
+listed_writes device pc k s addresses v = all_of (one k s ∷ map (λ a. written_at device pc k s false a v) addresses)
 
 -- A byte v is stored through registers r and r + 1 plus a number, as they were in the state `was`.
-abbrev pub pointer_write : List ℕ → List Entry → AbsState → ℕ → ℕ → Pointed → ℕ → NodeKey → AbsState → AbsByte → Raw
-pointer_write words A was r up p pc k s v =
+abbrev pub pointer_write : Device → List ℕ → List Entry → AbsState → ℕ → ℕ → Pointed → ℕ → NodeKey → AbsState → AbsByte → Raw
+pointer_write device words A was r up p pc k s v =
     if is_fixed words pc || is_proved A pc
-    then fixed_write p.constant pc k s v
-    else listed_writes pc k s (filter (λ a. reaches was r up a) (store_line A pc)) v
+    then fixed_write device p.constant pc k s v
+    else listed_writes device pc k s (filter (λ a. reaches was r up a) (store_line A pc)) v

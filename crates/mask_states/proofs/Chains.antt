@@ -1,6 +1,8 @@
 -- The order of keys, as the code computes it: field by field.
 use Rattle.std.proofs.Common.{◌≡◌, ◌∙◌, sym, ap, refl, ℕ, Bool, true, false, List, [], ◌∷◌, ◌++◌, length, length-append, arith, Less, Equal, Greater}
 use Rattle.std.specs.Int.{from_bool}
+use Rattle.std.specs.Prelude.{Option, Some, None}
+use Rattle.std.specs.Option.{option_cmp}
 use Rattle.std.specs.Ordering.{nat_cmp, bool_cmp, ordering_then}
 use Rattle.std.specs.declared.cmp.Ordering.{Ordering}
 use Rattle.mask_states.specs.declared.keys.Kind.{Kind}
@@ -14,7 +16,7 @@ use Rattle.mask_states.specs.declared.keys.NodeKey.{NodeKey}
 use Rattle.mask_states.specs.contracts.keys.KindOrd.TheImpl as kinds
 use Rattle.mask_states.specs.contracts.keys.HighOrd.TheImpl as highs
 use Rattle.mask_states.specs.contracts.keys.SpFormOrd.TheImpl as forms
-use Rattle.mask_states.specs.Keys.{kind_numbers, high_numbers, form_numbers, inst_numbers, node_numbers}
+use Rattle.mask_states.specs.Keys.{kind_numbers, high_numbers, form_numbers, pick_numbers, inst_numbers, node_numbers}
 use Rattle.mask_states.specs.Order.{numbers_cmp, inst_cmp, node_cmp}
 
 then_assoc : (a b c : Ordering) → ordering_then a (ordering_then b c) ≡ ordering_then (ordering_then a b) c
@@ -61,6 +63,17 @@ form_order (Closed o) (Open p k) = refl
 form_order (Open o h) (Closed p) = refl
 form_order (Open o h) (Open p k) = ap (ordering_then (nat_cmp o p)) (high_order h k)
 
+pub form_length : (a : SpForm) → length (form_numbers a) ≡ 4
+form_length (Closed o) = refl
+form_length (Open o (Known h)) = refl
+form_length (Open o (Tag k)) = refl
+
+pick_order : (a b : Option ℕ) → option_cmp nat_cmp a b ≡ numbers_cmp (pick_numbers a) (pick_numbers b)
+pick_order None None = refl
+pick_order None (Some w) = refl
+pick_order (Some v) None = refl
+pick_order (Some v) (Some w) = sym (then_equal (nat_cmp v w))
+
 bool_order : (a b : Bool) → bool_cmp a b ≡ nat_cmp (from_bool a) (from_bool b)
 bool_order true true = refl
 bool_order true false = refl
@@ -92,23 +105,29 @@ inst_chained a b k e m i ek ee em ei =
     ∙ sym whole
 
 abbrev pub rest : NodeKey → List ℕ
-rest a = a.pc ∷ a.masks ∷ from_bool a.i ∷ from_bool a.delay ∷ form_numbers a.sp
+rest a = a.pc ∷ a.masks ∷ from_bool a.i ∷ from_bool a.delay ∷ (form_numbers a.sp ++ pick_numbers a.pick)
 
 -- a node goes by its instance first
 pub node_by_inst : (a b : NodeKey) → node_cmp a b ≡ ordering_then (inst_cmp a.inst b.inst) (numbers_cmp (rest a) (rest b))
 unfolding inst_cmp node_cmp node_numbers
 node_by_inst a b = cmp_append (inst_numbers a.inst) (inst_numbers b.inst) (rest a) (rest b) (inst_length a.inst ∙ sym (inst_length b.inst))
 
-pub node_chained : (a b : NodeKey) (n p m i d f : Ordering) → n ≡ inst_cmp a.inst b.inst → p ≡ nat_cmp a.pc b.pc
+pub node_chained : (a b : NodeKey) (n p m i d f c : Ordering) → n ≡ inst_cmp a.inst b.inst → p ≡ nat_cmp a.pc b.pc
     → m ≡ nat_cmp a.masks b.masks → i ≡ bool_cmp a.i b.i → d ≡ bool_cmp a.delay b.delay → f ≡ forms.ghosts.cmp a.sp b.sp
-    → ordering_then (ordering_then (ordering_then (ordering_then (ordering_then n p) m) i) d) f ≡ node_cmp a b
-node_chained a b n p m i d f en ep em ei ed ef =
+    → c ≡ option_cmp nat_cmp a.pick b.pick
+    → ordering_then (ordering_then (ordering_then (ordering_then (ordering_then (ordering_then n p) m) i) d) f) c ≡ node_cmp a b
+node_chained a b n p m i d f c en ep em ei ed ef ec =
     let i_is = ei ∙ bool_order a.i b.i in
     let d_is = ed ∙ bool_order a.delay b.delay in
     let f_is = ef ∙ form_order a.sp b.sp in
-    sym (then_assoc (ordering_then (ordering_then (ordering_then n p) m) i) d f)
-    ∙ sym (then_assoc (ordering_then (ordering_then n p) m) i (ordering_then d f))
-    ∙ sym (then_assoc (ordering_then n p) m (ordering_then i (ordering_then d f)))
-    ∙ sym (then_assoc n p (ordering_then m (ordering_then i (ordering_then d f))))
-    ∙ (λ j. ordering_then (en j) (ordering_then (ep j) (ordering_then (em j) (ordering_then (i_is j) (ordering_then (d_is j) (f_is j))))))
+    let c_is = ec ∙ pick_order a.pick b.pick in
+    let last =
+    cmp_append (form_numbers a.sp) (form_numbers b.sp) (pick_numbers a.pick) (pick_numbers b.pick) (form_length a.sp ∙ sym (form_length b.sp)) in
+    sym (then_assoc (ordering_then (ordering_then (ordering_then (ordering_then n p) m) i) d) f c)
+    ∙ sym (then_assoc (ordering_then (ordering_then (ordering_then n p) m) i) d (ordering_then f c))
+    ∙ sym (then_assoc (ordering_then (ordering_then n p) m) i (ordering_then d (ordering_then f c)))
+    ∙ sym (then_assoc (ordering_then n p) m (ordering_then i (ordering_then d (ordering_then f c))))
+    ∙ sym (then_assoc n p (ordering_then m (ordering_then i (ordering_then d (ordering_then f c)))))
+    ∙ (λ j. ordering_then (en j) (ordering_then (ep j) (ordering_then (em j) (ordering_then (i_is j) (ordering_then (d_is j) (ordering_then (f_is j) (c_is j)))))))
+    ∙ ap (λ (o : Ordering). ordering_then (inst_cmp a.inst b.inst) (ordering_then (nat_cmp a.pc b.pc) (ordering_then (nat_cmp a.masks b.masks) (ordering_then (nat_cmp (from_bool a.i) (from_bool b.i)) (ordering_then (nat_cmp (from_bool a.delay) (from_bool b.delay)) o))))) (sym last)
     ∙ sym (node_by_inst a b)

@@ -1,6 +1,6 @@
 -- Keys with the same numbers are the same.
 use Rattle.std.proofs.Common.{◌≡◌, ◌∙◌, sym, ap, refl, ℕ, Bool, true, false, List, [], ◌∷◌, ◌++◌, length, get_or, arith, IsTrue, Less, Equal, Greater}
-use Rattle.std.specs.Prelude.{◌↔◌, ◌⊎◌}
+use Rattle.std.specs.Prelude.{◌↔◌, ◌⊎◌, Option, Some, None}
 use Rattle.std.specs.Int.{from_bool}
 use Rattle.std.specs.Cmp.{Equal-is}
 use Rattle.std.specs.Ordering.{nat_cmp, ordering_then}
@@ -15,11 +15,11 @@ use Rattle.mask_states.specs.declared.keys.High.TheVariants.{Known, Tag}
 use Rattle.mask_states.specs.declared.keys.SpForm.{SpForm}
 use Rattle.mask_states.specs.declared.keys.SpForm.TheVariants.{Closed, Open}
 use Rattle.mask_states.specs.declared.keys.NodeKey.{NodeKey}
-use Rattle.mask_states.specs.Keys.{kind_numbers, high_numbers, form_numbers, inst_numbers, node_numbers}
+use Rattle.mask_states.specs.Keys.{kind_numbers, high_numbers, form_numbers, pick_numbers, inst_numbers, node_numbers}
 use Rattle.mask_states.specs.Order.{numbers_cmp, inst_cmp, node_cmp, same_inst, same_node}
 use Rattle.mask_states.specs.Total.{inst_total, node_total}
 use Rattle.mask_states.specs.Laws.{KeysAreTheirNumbers, KeysAreOrdered, NodesGoByInstance}
-use Rattle.mask_states.proofs.Chains.{kind_length, inst_length, rest, node_by_inst}
+use Rattle.mask_states.proofs.Chains.{kind_length, inst_length, form_length, rest, node_by_inst}
 
 -- the number at a place
 at : (i : ℕ) {ns ms : List ℕ} → ns ≡ ms → get_or ns i 0 ≡ get_or ms i 0
@@ -63,6 +63,12 @@ form_same (Open o h) (Open p k) e =
     let highs = high_same h k (let both = parts (1 ∷ o ∷ []) (1 ∷ p ∷ []) (high_numbers h) (high_numbers k) refl e in both.1) in
     λ i. Open (offsets i) (highs i)
 
+pick_same : (a b : Option ℕ) → pick_numbers a ≡ pick_numbers b → a ≡ b
+pick_same None None e = refl
+pick_same None (Some w) e = absurd (let h = at 0 e in omega arith)
+pick_same (Some v) None e = absurd (let h = at 0 e in omega arith)
+pick_same (Some v) (Some w) e = ap Some (at 1 e)
+
 bool_same : (a b : Bool) → from_bool a ≡ from_bool b → a ≡ b
 bool_same true true e = refl
 bool_same true false e = absurd (omega arith)
@@ -86,17 +92,21 @@ inst_from_numbers a b e =
 pub node_from_numbers : (a b : NodeKey) → node_numbers a ≡ node_numbers b → a ≡ b
 unfolding node_numbers
 node_from_numbers a b e =
-    let tail : NodeKey → List ℕ = λ c. c.pc ∷ c.masks ∷ from_bool c.i ∷ from_bool c.delay ∷ form_numbers c.sp in
+    let tail : NodeKey → List ℕ = λ c. c.pc ∷ c.masks ∷ from_bool c.i ∷ from_bool c.delay ∷ (form_numbers c.sp ++ pick_numbers c.pick) in
     let both = parts (inst_numbers a.inst) (inst_numbers b.inst) (tail a) (tail b) (inst_length a.inst ∙ sym (inst_length b.inst)) e in
     let four : NodeKey → List ℕ = λ c. c.pc ∷ c.masks ∷ from_bool c.i ∷ from_bool c.delay ∷ [] in
-    let form = parts (four a) (four b) (form_numbers a.sp) (form_numbers b.sp) refl both.1 in
+    let last : NodeKey → List ℕ = λ c. form_numbers c.sp ++ pick_numbers c.pick in
+    let form = parts (four a) (four b) (last a) (last b) refl both.1 in
+    let pick =
+    parts (form_numbers a.sp) (form_numbers b.sp) (pick_numbers a.pick) (pick_numbers b.pick) (form_length a.sp ∙ sym (form_length b.sp)) form.1 in
     let insts = inst_from_numbers a.inst b.inst both.0 in
     let places = at 0 both.1 in
     let masks = at 1 both.1 in
     let is = bool_same a.i b.i (at 2 both.1) in
     let delays = bool_same a.delay b.delay (at 3 both.1) in
-    let forms = form_same a.sp b.sp form.1 in
-    λ j. record { inst = insts j; pc = places j; masks = masks j; i = is j; delay = delays j; sp = forms j }
+    let forms = form_same a.sp b.sp pick.0 in
+    let picks = pick_same a.pick b.pick pick.1 in
+    λ j. record { inst = insts j; pc = places j; masks = masks j; i = is j; delay = delays j; sp = forms j; pick = picks j }
 
 pub keys_are_their_numbers : KeysAreTheirNumbers
 keys_are_their_numbers = record { insts = inst_from_numbers; nodes = node_from_numbers }

@@ -1,7 +1,9 @@
 -- Worked rows of the definitions, as a reader would do them by hand.
-use Rattle.std.specs.Prelude.{ℕ, ◌≡◌, ◌==◌, refl, true, false, [], ◌∷◌, if◌then◌else◌}
+use Rattle.std.specs.Prelude.{ℕ, ◌≡◌, ◌==◌, refl, true, false, [], ◌∷◌, Some, None, if◌then◌else◌}
 use Rattle.std.specs.declared.cmp.Ordering.TheVariants.{Less, Greater}
-use Rattle.avr_model.specs.State.{RAMEND, filled}
+use Rattle.avr_model.specs.declared.device.Device.TheVariants.{M328}
+use Rattle.avr_model.specs.Devices.{ramend}
+use Rattle.avr_model.specs.State.{filled}
 use Rattle.avr_model.specs.Vectors.{row_of}
 use Rattle.bit_domain.specs.declared.bits.Tri.TheVariants.{Zero, Any}
 use Rattle.bit_domain.specs.Packed.{packed}
@@ -27,7 +29,7 @@ offset_of_open = refl
 abbrev timer : InstKey
 timer = record { kind = Vector 17; entry = 32; masks = 3; i = false }
 
-numbers_of_timer : node_numbers (entry_key timer) ≡ 2 ∷ 17 ∷ 32 ∷ 3 ∷ 0 ∷ 32 ∷ 3 ∷ 0 ∷ 0 ∷ 0 ∷ 0 ∷ 0 ∷ 0 ∷ []
+numbers_of_timer : node_numbers (entry_key timer) ≡ 2 ∷ 17 ∷ 32 ∷ 3 ∷ 0 ∷ 32 ∷ 3 ∷ 0 ∷ 0 ∷ 0 ∷ 0 ∷ 0 ∷ 0 ∷ 0 ∷ 0 ∷ []
 unfolding node_numbers inst_numbers
 numbers_of_timer = refl
 
@@ -43,7 +45,7 @@ unfolding inst_cmp inst_numbers
 call_before_vector = refl
 
 abbrev root_at : ℕ → SpForm → NodeKey
-root_at pc sp = record { inst = root_inst; pc = pc; masks = 0; i = false; delay = false; sp = sp }
+root_at pc sp = record { inst = root_inst; pc = pc; masks = 0; i = false; delay = false; sp = sp; pick = None }
 
 -- the instance decides before the program counter
 instance_before_pc : node_cmp (root_at 99 (Closed 0)) (entry_key timer) ≡ Less
@@ -58,6 +60,11 @@ tag_after_known : node_cmp (root_at 9 (Open 4 (Tag 0))) (root_at 9 (Open 4 (Know
 unfolding node_cmp node_numbers inst_numbers
 tag_after_known = refl
 
+-- no pick is before any pick
+no_pick_first : node_cmp (root_at 9 (Closed 3)) (record (root_at 9 (Closed 3)) { pick = Some 0 }) ≡ Less
+unfolding node_cmp node_numbers inst_numbers
+no_pick_first = refl
+
 one_node : same_node (root_at 9 (Closed 3)) (root_at 9 (Closed 3)) ≡ true
 unfolding same_node node_cmp node_numbers inst_numbers
 one_node = refl
@@ -65,11 +72,11 @@ one_node = refl
 -- ---- places
 
 -- a machine after reset is at the node at which the root begins
-at_reset : AtNode RAMEND (filled 0x55) (entry_key root_inst)
+at_reset : AtNode (ramend M328) (filled M328 0x55) (entry_key root_inst)
 at_reset = record { pc = refl; enables = refl; i = refl; delay = refl; sp = (refl, refl) }
 
 -- SPH is written with the high byte of 0x08FF - 0x100, and SPL is still that of 0x08FF - 2
-half_written : SpIs RAMEND true 0x07FD (Open 2 (Tag 0x100))
+half_written : SpIs (ramend M328) true 0x07FD (Open 2 (Tag 0x100))
 half_written = (refl, refl, refl)
 
 -- ---- splits: INT0 and INT1 have their enable bits 0 and 1 at address 0x3D, PCINT0 has its at 0x68

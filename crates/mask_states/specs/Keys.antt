@@ -1,5 +1,5 @@
 -- Keys of instances and nodes: where they begin, and the numbers that tell them.
-use Rattle.std.specs.Prelude.{ℕ, false, List, [], ◌∷◌, ◌++◌}
+use Rattle.std.specs.Prelude.{ℕ, ◌<◌, ⊤, false, List, [], ◌∷◌, ◌++◌, Option, Some, None}
 use Rattle.std.specs.Int.{from_bool}
 use Rattle.mask_states.specs.declared.keys.Kind.{Kind}
 use Rattle.mask_states.specs.declared.keys.Kind.TheVariants.{Root, Call, Vector}
@@ -15,13 +15,18 @@ abbrev pub offset_of : SpForm → ℕ
 offset_of (Closed offset) = offset
 offset_of (Open offset high) = offset
 
+-- a pick is a byte
+abbrev pub PickFits : Option ℕ → Type 0
+PickFits None = ⊤
+PickFits (Some byte) = byte < 256
+
 -- the instance that begins at reset
 abbrev pub root_inst : InstKey
 root_inst = record { kind = Root; entry = 0; masks = 0; i = false }
 
 -- the node at which an instance begins
 abbrev pub entry_key : InstKey → NodeKey
-entry_key inst = record { inst = inst; pc = inst.entry; masks = inst.masks; i = inst.i; delay = false; sp = Closed 0 }
+entry_key inst = record { inst = inst; pc = inst.entry; masks = inst.masks; i = inst.i; delay = false; sp = Closed 0; pick = None }
 
 -- ---- the numbers that tell a key
 
@@ -38,10 +43,14 @@ abbrev pub form_numbers : SpForm → List ℕ
 form_numbers (Closed offset) = 0 ∷ offset ∷ 0 ∷ 0 ∷ []
 form_numbers (Open offset high) = 1 ∷ offset ∷ high_numbers high
 
+abbrev pub pick_numbers : Option ℕ → List ℕ
+pick_numbers None = 0 ∷ 0 ∷ []
+pick_numbers (Some byte) = 1 ∷ byte ∷ []
+
 -- an instance: its kind, entry, enable bits and I
 unfoldable pub inst_numbers : InstKey → List ℕ
 inst_numbers key = kind_numbers key.kind ++ key.entry ∷ key.masks ∷ from_bool key.i ∷ []
 
--- a node: its instance, place, enable bits, I, delay and form of the stack pointer
+-- a node: its instance, place, enable bits, I, delay, form of the stack pointer and pick
 unfoldable pub node_numbers : NodeKey → List ℕ
-node_numbers key = inst_numbers key.inst ++ key.pc ∷ key.masks ∷ from_bool key.i ∷ from_bool key.delay ∷ form_numbers key.sp
+node_numbers key = inst_numbers key.inst ++ key.pc ∷ key.masks ∷ from_bool key.i ∷ from_bool key.delay ∷ (form_numbers key.sp ++ pick_numbers key.pick)

@@ -18,7 +18,7 @@ abbrev pub SpIs : ℕ → Bool → ℕ → SpForm → Type 0
 SpIs base is_open sp (Closed offset) = (is_open ≡ false) × (sp + offset ≡ base)
 SpIs base is_open sp (Open offset h) = (is_open ≡ true) × (low sp ≡ low (minus16 base offset)) × HighIs base h (high sp)
 
--- the machine is at this node
+-- the machine is at this node; of the pick the machine knows nothing
 pub record AtNode (base : ℕ) (m : State) (key : NodeKey) : Type 0 where
   pub pc : m.pc ≡ key.pc
   pub enables : m.enables ≡ key.masks

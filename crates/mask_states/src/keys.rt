@@ -66,6 +66,9 @@ pub struct NodeKey {
     pub delay: bool,
     /// Where the stack pointer is.
     pub sp: SpForm,
+    /// The byte that picked an entry of a jump table, while the code goes to that entry. It says nothing of the machine: it
+    /// keeps the ways to the entries of one table apart.
+    pub pick: Option<u8>,
 }
 
 /// How an edge leads from a node to another.
@@ -125,6 +128,7 @@ impl NodeKey {
             i: inst.i,
             delay: false,
             sp: SpForm::Closed(0),
+            pick: None,
         }
     }
 
@@ -201,6 +205,7 @@ impl Ord for NodeKey {
             .then(self.i.cmp(&other.i))
             .then(self.delay.cmp(&other.delay))
             .then(self.sp.cmp(&other.sp))
+            .then(self.pick.cmp(&other.pick))
     }
 }
 

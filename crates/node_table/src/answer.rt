@@ -14,7 +14,11 @@ fn show_value(rt: &HostRuntime, value: AbsByte) -> io::Result<()> {
         Tag::SpLo(j) => print!(rt; "l{j:02X}")?,
         Tag::SpHi(k) => print!(rt; "h{k:04X}")?,
     }
-    print!(rt; "{:02X}{:02X}", value.bits.known, value.bits.value)
+    let bits = value.bits;
+    print!(rt;
+        "{:02X}{:02X}{:02X}{:02X}",
+        bits.known, bits.value, value.low, value.high
+    )
 }
 
 fn show_slot(rt: &HostRuntime, slot: Slot<AbsByte>) -> io::Result<()> {
@@ -28,9 +32,13 @@ fn show_key(rt: &HostRuntime, key: &NodeKey) -> io::Result<()> {
     let (i, delay) = (u8::from(key.i), u8::from(key.delay));
     print!(rt; "  to {:04X} {:07X} {i} {delay} ", key.pc, key.masks.bits())?;
     match key.sp {
-        SpForm::Closed(offset) => print!(rt; "c{offset}"),
-        SpForm::Open(offset, High::Known(high)) => print!(rt; "o{offset},k{high:02X}"),
-        SpForm::Open(offset, High::Tag(k)) => print!(rt; "o{offset},t{k:04X}"),
+        SpForm::Closed(offset) => print!(rt; "c{offset}")?,
+        SpForm::Open(offset, High::Known(high)) => print!(rt; "o{offset},k{high:02X}")?,
+        SpForm::Open(offset, High::Tag(k)) => print!(rt; "o{offset},t{k:04X}")?,
+    }
+    match key.pick {
+        Some(byte) => print!(rt; " pick={byte:02X}"),
+        None => Ok(()),
     }
 }
 
@@ -54,12 +62,14 @@ fn show_flags(rt: &HostRuntime, state: &AbsState, before: &AbsState) -> io::Resu
         print!(rt; " entry")?;
     }
     if flags.bits != was.bits {
-        print!(rt; " flags=")?;
-        show_value(rt, AbsByte::untagged(flags.bits))?;
+        print!(rt; " flags=-{:02X}{:02X}", flags.bits.known, flags.bits.value)?;
     }
     match flags.carry {
         CarryTag::Borrow(j, k) if flags.carry != was.carry => {
             print!(rt; " carry=b{j:02X}{k:02X}")
+        }
+        CarryTag::Less(r, number) if flags.carry != was.carry => {
+            print!(rt; " carry=c{r:02X}{number:02X}")
         }
         CarryTag::None if flags.carry != was.carry => print!(rt; " carry=-"),
         _ => Ok(()),

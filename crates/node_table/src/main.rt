@@ -21,7 +21,10 @@ fn show(rt: &HostRuntime, row: &Row, lines: &Assumptions) -> io::Result<()> {
     if key.pc >= WORDS || state.slots.len() != key.offset() {
         return println!(rt; "  no node");
     }
-    let found = local(rt.alloc(), &row.flash, lines, key, state);
+    let Some(flash) = row.flash(rt.alloc())? else {
+        return println!(rt; "  no flash");
+    };
+    let found = local(rt.alloc(), &flash, lines, key, state);
     match found {
         Ok(found) => answer::show(rt, &found, state),
         Err(fault) => println!(rt; "  {fault:?}"),

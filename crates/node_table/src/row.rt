@@ -1,7 +1,7 @@
 //! Rows of the table: a node with the two words of firmware that stand there, and what is known of the machine.
 
 use abs_state::{AbsByte, AbsFlags, AbsState};
-use avr_model::device::WORDS;
+use avr_model::device::{Device, WORDS};
 use bit_domain::TriByte;
 use flash_image::Flash;
 use mask_states::{High, InstKey, Kind, NodeKey, SpForm};
@@ -12,8 +12,10 @@ use vector_table::Masks;
 /// A node of the table.
 #[derive(Drop)]
 pub struct Row {
-    /// Its two words, and erased words elsewhere.
-    pub flash: Flash,
+    /// The word at the node and the word behind it.
+    words: (u16, u16),
+    /// The device.
+    device: Device,
     /// Its key.
     pub key: NodeKey,
     /// What is known there.
@@ -27,6 +29,20 @@ fn number(text: &str) -> Option<u16> {
 
 fn decimal(text: &str) -> Option<u16> {
     u16::from_str_radix(text, 10).ok()
+}
+
+fn device(text: &str) -> Option<Device> {
+    if text == "atmega48pa" {
+        Some(Device::M48)
+    } else if text == "atmega88pa" {
+        Some(Device::M88)
+    } else if text == "atmega168pa" {
+        Some(Device::M168)
+    } else if text == "atmega328p" {
+        Some(Device::M328)
+    } else {
+        None
+    }
 }
 
 // `root`, `call`, or `v` and a vector's number.
@@ -73,13 +89,22 @@ fn tag(text: &str) -> Option<Tag> {
     }
 }
 
-// A tag, and two digits each for the known bits and their values.
+// Two digits each for the known bits and their values.
+fn bits(text: &str) -> Option<TriByte> {
+    let bits = number(text)?;
+    Some(TriByte::new((bits / 256) as u8, (bits % 256) as u8))
+}
+
+// A tag, the bits, and two digits each for the least and the greatest byte.
 fn value(text: &str) -> Option<AbsByte> {
-    let (front, bits) = text.split_at_checked(text.len().checked_sub(4)?)?;
-    let bits = number(bits)?;
+    let (front, range) = text.split_at_checked(text.len().checked_sub(4)?)?;
+    let (front, known) = front.split_at_checked(front.len().checked_sub(4)?)?;
+    let range = number(range)?;
     Some(AbsByte {
         tag: tag(front)?,
-        bits: TriByte::new((bits / 256) as u8, (bits % 256) as u8),
+        bits: bits(known)?,
+        low: (range / 256) as u8,
+        high: (range % 256) as u8,
     })
 }
 
@@ -92,15 +117,24 @@ fn slot(text: &str) -> Option<Slot<AbsByte>> {
     }
 }
 
-// `b`, and two digits each for the low byte of the base less which the number is, and what is subtracted.
+// `b`, and two digits each for the low byte of the base less which the number is, and what is subtracted; or `c`, and two digits each
+// for a register and the number that it is compared with.
 fn carry(text: &str) -> Option<CarryTag> {
-    let both = number(text.strip_prefix('b')?)?;
-    Some(CarryTag::Borrow((both / 256) as u8, (both % 256) as u8))
+    let (kind, both) = text.split_at_checked(1)?;
+    let both = number(both)?;
+    let (first, second) = ((both / 256) as u8, (both % 256) as u8);
+    if kind == "b" {
+        Some(CarryTag::Borrow(first, second))
+    } else if kind == "c" {
+        Some(CarryTag::Less(first, second))
+    } else {
+        None
+    }
 }
 
 impl Row {
-    // A node at word 0 of which nothing else is known, with so many free slots.
-    fn new(alloc: Global, kind: Kind, sp: SpForm) -> Result<Row, AllocError> {
+    // A node at word 0 of the ATmega328P of which nothing else is known, with so many free slots.
+    fn new(alloc: Global, words: (u16, u16), kind: Kind, sp: SpForm) -> Result<Row, AllocError> {
         let mut slots = Slots::new(alloc);
         slots.resize(sp.offset())?;
         let inst = InstKey {
@@ -110,7 +144,8 @@ impl Row {
             i: false,
         };
         Ok(Row {
-            flash: Flash::erased(alloc)?,
+            words,
+            device: Device::M328,
             key: NodeKey {
                 sp,
                 ..NodeKey::entry(&inst)
@@ -162,8 +197,12 @@ impl Row {
             self.key.pc = number(text)?;
         } else if name == "masks" {
             self.key.masks = Masks::from_bits(u32::from_str_radix(text, 16).ok()?)?;
+        } else if name == "device" {
+            self.device = device(text)?;
+        } else if name == "pick" {
+            self.key.pick = Some(u8::from_str_radix(text, 16).ok()?);
         } else if name == "flags" {
-            self.state.flags.bits = value(text)?.bits;
+            self.state.flags.bits = bits(text.strip_prefix('-')?)?;
         } else if name == "carry" {
             self.state.flags.carry = carry(text)?;
         } else {
@@ -172,12 +211,15 @@ impl Row {
         Some(())
     }
 
-    // The two words of firmware at the node.
-    fn place(&mut self, first: u16, second: u16) {
-        let at = self.key.pc % WORDS;
-        self.flash.place(at * 2, &first.to_le_bytes());
-        self.flash
-            .place((at + 1) % WORDS * 2, &second.to_le_bytes());
+    /// The device's flash with the two words at the node, modulo the number of its words, and erased words elsewhere.
+    pub fn flash(&self, alloc: Global) -> Result<Option<Flash>, AllocError> {
+        let (first, second) = self.words;
+        let at = self.device.wrap(self.key.pc) % WORDS;
+        let behind = self.device.wrap(at + 1) % WORDS;
+        let mut flash = Flash::erased(alloc)?;
+        flash.place(at * 2, &first.to_le_bytes());
+        flash.place(behind * 2, &second.to_le_bytes());
+        Ok(flash.narrow(self.device).ok())
     }
 }
 
@@ -193,7 +235,7 @@ pub fn read(alloc: Global, text: &str) -> Result<Option<Row>, AllocError> {
     let Some((first, second, kind, sp)) = heading(text) else {
         return Ok(None);
     };
-    let mut row = Row::new(alloc, kind, sp)?;
+    let mut row = Row::new(alloc, (first, second), kind, sp)?;
     for word in text.split(' ').skip(4) {
         let said = match word.split_once('=') {
             Some((name, text)) => row.set(name, text),
@@ -203,6 +245,5 @@ pub fn read(alloc: Global, text: &str) -> Result<Option<Row>, AllocError> {
             return Ok(None);
         }
     }
-    row.place(first, second);
     Ok(Some(row))
 }

@@ -1,14 +1,17 @@
 -- What status 0 of a command that judges a certificate says, and when it comes.
-use Rattle.std.proofs.Common.{◌≡◌, ◌≤◌, ◌*◌, ◌%◌, ◌==◌, ◌&&◌, nat_lt, ℕ, Bool, true, false, List, [], length, Option, Some, None, Result, Ok, Err, if◌then◌else◌, IsOkAnd, refl, sym, ap, ◌∙◌, subst, arith}
+use Rattle.std.proofs.Common.{◌≡◌, ◌≤◌, ◌*◌, ◌%◌, ◌==◌, ◌&&◌, nat_lt, ℕ, Bool, true, false, List, [], length, take, Option, Some, None, Result, Ok, Err, if◌then◌else◌, IsOkAnd, refl, sym, ap, ◌∙◌, subst, arith}
 use Rattle.std.specs.Option.{option_map}
 use Rattle.std.proofs.lemmas.Bool.Decides.{nat_tests}
 use Rattle.avr_model.specs.declared.assumption.Entry.{Entry}
 use Rattle.avr_model.specs.declared.choice.Stop.{Stop}
 use Rattle.avr_model.specs.declared.choice.Stop.TheVariants as stop
-use Rattle.avr_model.specs.Image.{WORDS, IsRawImage, raw_words}
+use Rattle.avr_model.specs.declared.device.Device.{Device}
+use Rattle.avr_model.specs.Devices.{words_of as count_of}
+use Rattle.avr_model.specs.Image.{WORDS, IsRawImage, raw_words, IsNarrowed}
 use Rattle.avr_model.specs.Run.{Bounded}
 use Rattle.local_rules.specs.Machine.{AreWords}
 use Rattle.elf_load.specs.Elf.{is_elf}
+use Rattle.flash_image.specs.Narrowing.{NarrowingIsExact, outside_word}
 use Rattle.indirect_targets.specs.declared.fault.AssumeText.{AssumeText}
 use Rattle.indirect_targets.specs.Reading.{entries_in}
 use Rattle.indirect_targets.specs.Exact.{IsDue, ReadingIsExact}
@@ -24,8 +27,8 @@ use Rattle.cert_check.specs.Laws.{SoundCertificatesBoundEveryRun}
 use Rattle.cert_check.specs.Verdict.{IsVerdict}
 use Rattle.cert_check.specs.declared.verdict.Verdict.{Verdict}
 use Rattle.cert_check.specs.declared.verdict.Verdict.TheVariants.{Accepted, Rejected}
-use Rattle.replies.specs.Firmware.{IsFirmwareBy, IsFirmware, words_by, firmware_words, fault_by, firmware_fault}
-use Rattle.replies.specs.Texts.{elf_refused, raw_fault, assumptions_refused, certificate_refused}
+use Rattle.replies.specs.Firmware.{IsImageBy, IsFirmware, words_by, firmware_words, fault_by, outside_fault, fault_or, firmware_fault}
+use Rattle.replies.specs.Texts.{elf_refused, raw_fault, firmware_outside, assumptions_refused, certificate_refused}
 use Rattle.replies.specs.Reading.{Seen, Unread, Whole, Long, Contents}
 use Rattle.replies.specs.Reply.{Reply, Refuses, WithFile, WithOptional, ImageBy, WithImage, ListBy, WithList, is_end, attains, AttainedBy, WitnessReply, VerdictReply, CertificateReply}
 use Rattle.replies.specs.Headline.{IsSeen, AreRead, IsListOf, StandFor}
@@ -86,30 +89,64 @@ raw_fault_none n even fits =
     let f : nat_lt 32768 n ≡ false = grind (arith, nat_tests) in
     rw (e, f) refl
 
+-- neither fault is there
+none_of : (a b : Option (List ℕ)) → fault_or a b ≡ None → (a ≡ None) × (b ≡ None)
+none_of None b e = (refl, e)
+none_of (Some text) b e = absurd (let wrong = e in cc)
+
+no_word : (o : Option ℕ) → option_map firmware_outside o ≡ None → o ≡ None
+no_word None e = refl
+no_word (Some word) e = absurd (let wrong = e in cc)
+
 module _
     (one : (bytes words : List ℕ) → IsRawImage bytes words → words ≡ raw_words bytes)
-    (images : (bytes : List ℕ) → length bytes % 2 ≡ 0 → length bytes ≤ 2 * WORDS → IsRawImage bytes (raw_words bytes)) where
-  firmware_by : (elf : Bool) (bytes : List ℕ) → fault_by elf bytes ≡ None → IsFirmwareBy elf bytes (words_by elf bytes)
-  firmware_by true bytes e = some_elf bytes (no_refusal bytes e)
-  firmware_by false bytes e = let h = no_raw_fault (length bytes) (length bytes % 2 == 1) (nat_lt 32768 (length bytes)) refl refl e in images bytes h.0 h.1
+    (images : (bytes : List ℕ) → length bytes % 2 ≡ 0 → length bytes ≤ 2 * WORDS → IsRawImage bytes (raw_words bytes))
+    (narrowing : NarrowingIsExact) where
+  image_by : (elf : Bool) (bytes : List ℕ) → fault_by elf bytes ≡ None → IsImageBy elf bytes (words_by elf bytes)
+  image_by true bytes e = some_elf bytes (no_refusal bytes e)
+  image_by false bytes e = let h = no_raw_fault (length bytes) (length bytes % 2 == 1) (nat_lt 32768 (length bytes)) refl refl e in images bytes h.0 h.1
 
-  pub words_of : (elf : Bool) (bytes words : List ℕ) → IsFirmwareBy elf bytes words → words ≡ words_by elf bytes
-  words_of true bytes words h = one_elf bytes words h
-  words_of false bytes words h = one bytes words h
+  all_of : (elf : Bool) (bytes all : List ℕ) → IsImageBy elf bytes all → all ≡ words_by elf bytes
+  all_of true bytes all h = one_elf bytes all h
+  all_of false bytes all h = one bytes all h
 
-  pub fault_of : (elf : Bool) (bytes words : List ℕ) → IsFirmwareBy elf bytes words → fault_by elf bytes ≡ None
-  fault_of true bytes words h = ap (option_map elf_refused) h.loads
-  fault_of false bytes words h = raw_fault_none (length bytes) h.even h.fits
+  image_fault : (elf : Bool) (bytes all : List ℕ) → IsImageBy elf bytes all → fault_by elf bytes ≡ None
+  image_fault true bytes all h = ap (option_map elf_refused) h.loads
+  image_fault false bytes all h = raw_fault_none (length bytes) h.even h.fits
 
-  pub zero_image : (bytes : List ℕ) (next : List ℕ → Reply) (text : List ℕ) → WithImage bytes next 0 text → IsFirmware bytes (firmware_words bytes) × next (firmware_words bytes) 0 text
-  zero_image bytes next text h =
-      let by = zero_by (firmware_fault bytes) (next (firmware_words bytes)) text h in
-      (firmware_by (is_elf bytes) bytes by.0, by.1)
+  image_size : (elf : Bool) (bytes all : List ℕ) → IsImageBy elf bytes all → length all ≡ WORDS
+  image_size true bytes all h = h.size
+  image_size false bytes all h = h.size
 
-  pub image_zero : (bytes words : List ℕ) (next : List ℕ → Reply) (status : ℕ) (text : List ℕ) → IsFirmware bytes words → next words status text → WithImage bytes next status text
-  image_zero bytes words next status text firmware h =
-      by_none (firmware_fault bytes) (next (firmware_words bytes)) status text (fault_of (is_elf bytes) bytes words firmware)
-      (subst (λ ws. next ws status text) (words_of (is_elf bytes) bytes words firmware) h)
+  firmware_here : (device : Device) (bytes : List ℕ) → firmware_fault device bytes ≡ None → IsFirmware device bytes (firmware_words device bytes)
+  firmware_here device bytes e =
+      let all : List ℕ = words_by (is_elf bytes) bytes in
+      let none = none_of (fault_by (is_elf bytes) bytes) (outside_fault device all) e in
+      let image = image_by (is_elf bytes) bytes none.0 in
+      record { all = all; image = image; narrowed = narrowing.some device all (image_size (is_elf bytes) bytes all image) (no_word (outside_word device all) none.1) }
+
+  pub words_of : (device : Device) (bytes words : List ℕ) → IsFirmware device bytes words → words ≡ firmware_words device bytes
+  words_of device bytes words h =
+      narrowing.words device h.all words (image_size (is_elf bytes) bytes h.all h.image) h.narrowed
+      ∙ ap (take (count_of device)) (all_of (is_elf bytes) bytes h.all h.image)
+
+  pub fault_of : (device : Device) (bytes words : List ℕ) → IsFirmware device bytes words → firmware_fault device bytes ≡ None
+  fault_of device bytes words h =
+      let none = narrowing.none device h.all words (image_size (is_elf bytes) bytes h.all h.image) h.narrowed in
+      ap (λ (o : Option (List ℕ)). fault_or o (outside_fault device (words_by (is_elf bytes) bytes))) (image_fault (is_elf bytes) bytes h.all h.image)
+      ∙ ap (outside_fault device) (sym (all_of (is_elf bytes) bytes h.all h.image))
+      ∙ ap (option_map firmware_outside) none
+
+  pub zero_image : (device : Device) (bytes : List ℕ) (next : List ℕ → Reply) (text : List ℕ) → WithImage device bytes next 0 text
+      → IsFirmware device bytes (firmware_words device bytes) × next (firmware_words device bytes) 0 text
+  zero_image device bytes next text h =
+      let by = zero_by (firmware_fault device bytes) (next (firmware_words device bytes)) text h in
+      (firmware_here device bytes by.0, by.1)
+
+  pub image_zero : (device : Device) (bytes words : List ℕ) (next : List ℕ → Reply) (status : ℕ) (text : List ℕ) → IsFirmware device bytes words → next words status text → WithImage device bytes next status text
+  image_zero device bytes words next status text firmware h =
+      by_none (firmware_fault device bytes) (next (firmware_words device bytes)) status text (fault_of device bytes words firmware)
+      (subst (λ ws. next ws status text) (words_of device bytes words firmware) h)
 
 -- ---- the assumptions
 
@@ -206,20 +243,22 @@ certificate_zero words A tells x c e sound attained =
 -- ---- all
 
 -- what a command that judges makes of the bytes of its files
-abbrev JudgeReply : (List ℕ → Claim → List ℕ) → List ℕ → List ℕ → Option (List ℕ) → Reply
-JudgeReply tells firmware second list = WithImage firmware (λ words. WithList list (λ A. CertificateReply words A (tells firmware) (certificate_in second)))
+abbrev JudgeReply : Device → (List ℕ → Claim → List ℕ) → List ℕ → List ℕ → Option (List ℕ) → Reply
+JudgeReply device tells firmware second list = WithImage device firmware (λ words. WithList list (λ A. CertificateReply words A (tells firmware) (certificate_in second)))
 
 -- the answer of a command that judges the certificate of this name for the firmware of that one, where `tells` says what is told
-abbrev pub IsJudgement : (List ℕ → Claim → List ℕ) → List ℕ → List ℕ → Option (List ℕ) → Contents → Reply
-IsJudgement tells fw cert assume seen = WithFile fw seen.firmware (λ firmware. WithFile cert seen.second (λ s. WithOptional assume seen.assumptions (λ list. JudgeReply tells firmware s list)))
+abbrev pub IsJudgement : Device → (List ℕ → Claim → List ℕ) → List ℕ → List ℕ → Option (List ℕ) → Contents → Reply
+IsJudgement device tells fw cert assume seen = WithFile fw seen.firmware (λ firmware. WithFile cert seen.second (λ s. WithOptional assume seen.assumptions (λ list. JudgeReply device tells firmware s list)))
 
 module _
     (one : (bytes words : List ℕ) → IsRawImage bytes words → words ≡ raw_words bytes)
     (images : (bytes : List ℕ) → length bytes % 2 ≡ 0 → length bytes ≤ 2 * WORDS → IsRawImage bytes (raw_words bytes))
+    (narrowing : NarrowingIsExact)
     (lists : ReadingIsExact)
     (read : ReadIsSpelled)
     (spelled : SpelledIsRead)
     (bounds : SoundCertificatesBoundEveryRun)
+    (device : Device)
     (tells : List ℕ → Claim → List ℕ) where
   -- what status 0 rests on
   record IsZero (assume : Option (List ℕ)) (seen : Contents) (text : List ℕ) : Type 0 where
@@ -229,19 +268,19 @@ module _
     are_read : AreRead assume seen firmware certificate list
     A : List Entry
     claim : Claim
-    image : IsFirmware firmware (firmware_words firmware)
+    image : IsFirmware device firmware (firmware_words device firmware)
     assumptions : IsListOf list A
     is : certificate_in certificate ≡ Ok claim
-    accepted : IsAccepted (firmware_words firmware) A (tells firmware) claim text
+    accepted : IsAccepted (firmware_words device firmware) A (tells firmware) claim text
 
-  zero_judgement : (fw cert : List ℕ) (assume : Option (List ℕ)) (seen : Contents) (text : List ℕ) → IsJudgement tells fw cert assume seen 0 text → IsZero assume seen text
+  zero_judgement : (fw cert : List ℕ) (assume : Option (List ℕ)) (seen : Contents) (text : List ℕ) → IsJudgement device tells fw cert assume seen 0 text → IsZero assume seen text
   zero_judgement fw cert assume seen text h =
       let first = zero_file fw seen.firmware _ text h in
       let second = zero_file cert seen.second _ text first.2 in
-      let third = zero_optional assume seen.assumptions (λ list. JudgeReply tells first.0 second.0 list) text second.2 in
-      let image = zero_image one images first.0 (λ ws. WithList third.0 (λ B. CertificateReply ws B (tells first.0) (certificate_in second.0))) text third.2 in
-      let list = zero_list lists third.0 (λ B. CertificateReply (firmware_words first.0) B (tells first.0) (certificate_in second.0)) text image.1 in
-      let judged = zero_certificate (firmware_words first.0) list.0 (tells first.0) (certificate_in second.0) text list.2 in
+      let third = zero_optional assume seen.assumptions (λ list. JudgeReply device tells first.0 second.0 list) text second.2 in
+      let image = zero_image one images narrowing device first.0 (λ ws. WithList third.0 (λ B. CertificateReply ws B (tells first.0) (certificate_in second.0))) text third.2 in
+      let list = zero_list lists third.0 (λ B. CertificateReply (firmware_words device first.0) B (tells first.0) (certificate_in second.0)) text image.1 in
+      let judged = zero_certificate (firmware_words device first.0) list.0 (tells first.0) (certificate_in second.0) text list.2 in
       record {
         firmware = first.0;
         certificate = second.0;
@@ -264,12 +303,12 @@ module _
     pub words : List ℕ
     pub claim : Claim
     pub A : List Entry
-    pub stand : StandFor firmware certificate list words claim A
+    pub stand : StandFor device firmware certificate list words claim A
     pub bounded : Bounded words A claim.bound
     pub told : text ≡ tells firmware claim
 
-  pub judgement_holds : (fw cert : List ℕ) (assume : Option (List ℕ)) (seen : Contents) (text : List ℕ) → ((firmware : List ℕ) → seen.firmware ≡ Whole firmware → AreWords (firmware_words firmware))
-      → IsJudgement tells fw cert assume seen 0 text → HoldsOf assume seen text
+  pub judgement_holds : (fw cert : List ℕ) (assume : Option (List ℕ)) (seen : Contents) (text : List ℕ) → ((firmware : List ℕ) → seen.firmware ≡ Whole firmware → AreWords (firmware_words device firmware))
+      → IsJudgement device tells fw cert assume seen 0 text → HoldsOf assume seen text
   judgement_holds fw cert assume seen text has h =
       let z = zero_judgement fw cert assume seen text h in
       let spelling = read z.certificate z.claim z.is in
@@ -278,11 +317,11 @@ module _
         certificate = z.certificate;
         list = z.list;
         are_read = z.are_read;
-        words = firmware_words z.firmware;
+        words = firmware_words device z.firmware;
         claim = z.claim;
         A = z.A;
         stand = record { mean = record { image = z.image; assumptions = z.assumptions }; fits = spelling.1; bytes = spelling.0 };
-        bounded = bounds (firmware_words z.firmware) z.A z.claim (has z.firmware z.are_read.loaded.firmware_read) spelling.1.claim z.accepted.sound;
+        bounded = bounds (firmware_words device z.firmware) z.A z.claim (has z.firmware z.are_read.loaded.firmware_read) spelling.1.claim z.accepted.sound;
         told = z.accepted.told.says;
       }
 
@@ -301,27 +340,27 @@ module _
   same_claim text c d e fits t = let f : ◌≡◌ {A = Result Claim CertFault} (Ok c) (Ok d) = sym e ∙ (ap certificate_in t ∙ spelled d fits) in cc
 
   module _ (fw cert : List ℕ) (assume : Option (List ℕ)) (seen : Contents) (firmware certificate : List ℕ) (list : Option (List ℕ)) (words : List ℕ) (claim : Claim) (A : List Entry)
-      (are : AreRead assume seen firmware certificate list) (stand : StandFor firmware certificate list words claim A) where
+      (are : AreRead assume seen firmware certificate list) (stand : StandFor device firmware certificate list words claim A) where
     valid_if : (text : List ℕ) → IsZero assume seen text → IsValid words A claim
     valid_if text z =
         let f : z.firmware ≡ firmware = same_whole seen.firmware z.firmware firmware z.are_read.loaded.firmware_read are.loaded.firmware_read in
         let s : z.certificate ≡ certificate = same_whole seen.second z.certificate certificate z.are_read.second_read are.second_read in
         let l : z.list ≡ list = same_seen assume seen.assumptions z.list list z.are_read.loaded.list_read are.loaded.list_read in
-        let ws : firmware_words z.firmware ≡ words = ap firmware_words f ∙ sym (words_of one images (is_elf firmware) firmware words stand.mean.image) in
+        let ws : firmware_words device z.firmware ≡ words = ap (firmware_words device) f ∙ sym (words_of one images narrowing device firmware words stand.mean.image) in
         let c : z.claim ≡ claim = same_claim z.certificate z.claim claim z.is stand.fits (s ∙ stand.bytes) in
         let a : z.A ≡ A = same_list lists list z.A A (subst (λ o. IsListOf o z.A) l z.assumptions) stand.mean.assumptions in
-        let v : IsValid (firmware_words z.firmware) z.A z.claim = record { sound = z.accepted.sound; attained = z.accepted.told.attained } in
-        subst (λ x. IsValid x A claim) ws (subst (λ x. IsValid (firmware_words z.firmware) x claim) a (subst (λ x. IsValid (firmware_words z.firmware) z.A x) c v))
+        let v : IsValid (firmware_words device z.firmware) z.A z.claim = record { sound = z.accepted.sound; attained = z.accepted.told.attained } in
+        subst (λ x. IsValid x A claim) ws (subst (λ x. IsValid (firmware_words device z.firmware) x claim) a (subst (λ x. IsValid (firmware_words device z.firmware) z.A x) c v))
 
-    pub judged_valid : (text : List ℕ) → IsJudgement tells fw cert assume seen 0 text → IsValid words A claim
+    pub judged_valid : (text : List ℕ) → IsJudgement device tells fw cert assume seen 0 text → IsValid words A claim
     judged_valid text h = valid_if text (zero_judgement fw cert assume seen text h)
 
-    pub valid_judged : IsValid words A claim → IsJudgement tells fw cert assume seen 0 (tells firmware claim)
+    pub valid_judged : IsValid words A claim → IsJudgement device tells fw cert assume seen 0 (tells firmware claim)
     valid_judged v =
         let text = tells firmware claim in
         file_zero fw seen.firmware firmware _ 0 text are.loaded.firmware_read
         (file_zero cert seen.second certificate _ 0 text are.second_read
-        (optional_zero assume seen.assumptions list (λ l. JudgeReply tells firmware certificate l) 0 text are.loaded.list_read
-        (image_zero one images firmware words (λ ws. WithList list (λ B. CertificateReply ws B (tells firmware) (certificate_in certificate))) 0 text stand.mean.image
+        (optional_zero assume seen.assumptions list (λ l. JudgeReply device tells firmware certificate l) 0 text are.loaded.list_read
+        (image_zero one images narrowing device firmware words (λ ws. WithList list (λ B. CertificateReply ws B (tells firmware) (certificate_in certificate))) 0 text stand.mean.image
         (list_zero lists list A (λ B. CertificateReply words B (tells firmware) (certificate_in certificate)) 0 text stand.mean.assumptions
         (certificate_zero words A (tells firmware) (certificate_in certificate) claim (ap certificate_in stand.bytes ∙ spelled claim stand.fits) v.sound v.attained)))))

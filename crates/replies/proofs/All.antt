@@ -1,8 +1,9 @@
 -- What the answers say, by command.
 use Rattle.std.proofs.Common.{◌≡◌, ◌≤◌, ◌*◌, ◌%◌, inl, inr, ℕ, List, [], length, Option, Some, None, Ok, refl, sym, subst}
 use Rattle.avr_model.specs.declared.assumption.Entry.{Entry}
+use Rattle.avr_model.specs.declared.device.Device.{Device}
 use Rattle.avr_model.specs.Image.{WORDS, IsRawImage, raw_words}
-use Rattle.elf_load.specs.Elf.{is_elf}
+use Rattle.flash_image.specs.Narrowing.{NarrowingIsExact}
 use Rattle.indirect_targets.specs.Exact.{ReadingIsExact}
 use Rattle.local_rules.specs.Machine.{AreWords}
 use Rattle.witness_replay.specs.Runs.{ReplaysAreRuns}
@@ -13,7 +14,7 @@ use Rattle.round_laws.specs.Laws.{RoundsAreLeast, SolutionsAreValid}
 use Rattle.answer_laws.specs.Laws.{AnswersAreOne}
 use Rattle.witness_search.specs.Laws.{WaypointsAreOne}
 use Rattle.demo_image.specs.Image.{demo_words}
-use Rattle.commands.specs.Commands.{Command, Check, Analyse, Run, Report, Demo}
+use Rattle.commands.specs.Commands.{Command, Check, Analyse, Run, Report, Demo, device_for}
 use Rattle.replies.specs.Firmware.{IsFirmware, firmware_words, firmware_fault}
 use Rattle.replies.specs.Reading.{Seen, Whole, Contents}
 use Rattle.replies.specs.Reply.{Reply, WithFile, WithOptional, ImageBy, WithImage, ListBy, WithList, AnalyseReply, DemoReply, told_of, IsReply}
@@ -38,6 +39,7 @@ fault_none o reply status text e h = subst (λ x. ImageBy x reply status text) e
 module _
     (raw : (bytes words : List ℕ) → IsRawImage bytes words → words ≡ raw_words bytes)
     (images : (bytes : List ℕ) → length bytes % 2 ≡ 0 → length bytes ≤ 2 * WORDS → IsRawImage bytes (raw_words bytes))
+    (narrowing : NarrowingIsExact)
     (lists : ReadingIsExact)
     (read : ReadIsSpelled)
     (spelled : SpelledIsRead)
@@ -51,10 +53,10 @@ module _
   one : RepliesAreOne
   one = replies_are_one read verdicts answers chains
 
-  image_read : (bytes words : List ℕ) (next : List ℕ → Reply) (status : ℕ) (text : List ℕ) → IsFirmware bytes words → WithImage bytes next status text → next words status text
-  image_read bytes words next status text firmware h =
-      subst (λ ws. next ws status text) (sym (words_of raw images (is_elf bytes) bytes words firmware))
-      (fault_none (firmware_fault bytes) (next (firmware_words bytes)) status text (fault_of raw images (is_elf bytes) bytes words firmware) h)
+  image_read : (device : Device) (bytes words : List ℕ) (next : List ℕ → Reply) (status : ℕ) (text : List ℕ) → IsFirmware device bytes words → WithImage device bytes next status text → next words status text
+  image_read device bytes words next status text firmware h =
+      subst (λ ws. next ws status text) (sym (words_of raw images narrowing device bytes words firmware))
+      (fault_none (firmware_fault device bytes) (next (firmware_words device bytes)) status text (fault_of raw images narrowing device bytes words firmware) h)
 
   list_read : (list : Option (List ℕ)) (A : List Entry) (next : List Entry → Reply) (status : ℕ) (text : List ℕ) → IsListOf list A → WithList list next status text → next A status text
   list_read None A next status text e h = subst (λ l. next l status text) (sym e) h
@@ -62,10 +64,10 @@ module _
 
   -- ---- commands that judge
 
-  abbrev check_tells : List ℕ → List ℕ → Option (List ℕ) → List ℕ → Claim → List ℕ
-  check_tells fw cert assume = told_of (Check fw cert assume)
+  abbrev check_tells : Device → List ℕ → List ℕ → Option (List ℕ) → List ℕ → Claim → List ℕ
+  check_tells device fw cert assume = told_of (Check device fw cert assume)
 
-  holds_as : (command : Command) (assume : Option (List ℕ)) (seen : Contents) (text : List ℕ) → HoldsOf raw images lists read spelled bounds (told_of command) assume seen text → HoldsAsRead command assume seen text
+  holds_as : (command : Command) (assume : Option (List ℕ)) (seen : Contents) (text : List ℕ) → HoldsOf raw images narrowing lists read spelled bounds (device_for command) (told_of command) assume seen text → HoldsAsRead command assume seen text
   holds_as command assume seen text h =
       record {
         firmware = h.firmware;
@@ -77,49 +79,49 @@ module _
 
   -- ---- analyse
 
-  abbrev AfterAnalysis : Option ℕ → List ℕ → Option (List ℕ) → Reply
-  AfterAnalysis steps firmware list = WithImage firmware (λ words. WithList list (λ A. AnalyseReply words A steps))
+  abbrev AfterAnalysis : Device → Option ℕ → List ℕ → Option (List ℕ) → Reply
+  AfterAnalysis device steps firmware list = WithImage device firmware (λ words. WithList list (λ A. AnalyseReply words A steps))
 
-  least_text : (assume : Option (List ℕ)) (steps : Option ℕ) (seen : Contents) (text firmware : List ℕ) (list : Option (List ℕ)) (A : List Entry) → AreLoaded assume seen firmware list
-      → IsFirmware firmware (firmware_words firmware) → IsListOf list A → AreWords (firmware_words firmware) → AnalyseReply (firmware_words firmware) A steps 0 text → IsLeastAsRead assume seen text
-  least_text assume steps seen text firmware list A loaded image listed has (inr h) = absurd (not_written answers rounds solutions bounds runs (firmware_words firmware) A steps text h)
-  least_text assume steps seen text firmware list A loaded image listed has (inl h) =
-      let best = analysis_best answers rounds solutions bounds runs (firmware_words firmware) A steps h.claim h.analysis in
-      let stand : StandFor firmware text list (firmware_words firmware) h.claim A = record { mean = record { image = image; assumptions = listed }; fits = best.fits; bytes = h.says.1 } in
+  least_text : (device : Device) (assume : Option (List ℕ)) (steps : Option ℕ) (seen : Contents) (text firmware : List ℕ) (list : Option (List ℕ)) (A : List Entry) → AreLoaded assume seen firmware list
+      → IsFirmware device firmware (firmware_words device firmware) → IsListOf list A → AreWords (firmware_words device firmware) → AnalyseReply (firmware_words device firmware) A steps 0 text → IsLeastAsRead device assume seen text
+  least_text device assume steps seen text firmware list A loaded image listed has (inr h) = absurd (not_written answers rounds solutions bounds runs (firmware_words device firmware) A steps text h)
+  least_text device assume steps seen text firmware list A loaded image listed has (inl h) =
+      let best = analysis_best answers rounds solutions bounds runs (firmware_words device firmware) A steps h.claim h.analysis in
+      let stand : StandFor device firmware text list (firmware_words device firmware) h.claim A = record { mean = record { image = image; assumptions = listed }; fits = best.fits; bytes = h.says.1 } in
       record {
         firmware = firmware;
         list = list;
         read = loaded;
         certificate = record {
-          words = firmware_words firmware;
+          words = firmware_words device firmware;
           claim = h.claim;
           assumptions = A;
           stand = stand;
           valid = best.valid;
           least = best.least;
-          bounded = best_bounds answers rounds solutions bounds runs (firmware_words firmware) A steps h.claim has best;
+          bounded = best_bounds answers rounds solutions bounds runs (firmware_words device firmware) A steps h.claim has best;
           reached = best.reached;
           trials = best.trials;
         };
         again = λ fw cert.
-            valid_judged raw images lists read spelled bounds (check_tells fw cert assume) fw cert assume (record seen { second = Whole text }) firmware text list (firmware_words firmware) h.claim A
+            valid_judged raw images narrowing lists read spelled bounds device (check_tells device fw cert assume) fw cert assume (record seen { second = Whole text }) firmware text list (firmware_words device firmware) h.claim A
             (record { loaded = record { firmware_read = loaded.firmware_read; list_read = loaded.list_read }; second_read = refl }) stand best.valid;
       }
 
-  zero_analysis : (fw : List ℕ) (assume : Option (List ℕ)) (steps : Option ℕ) (seen : Contents) (text : List ℕ) → ((firmware : List ℕ) → seen.firmware ≡ Whole firmware → AreWords (firmware_words firmware))
-      → IsReply (Analyse fw assume steps) seen 0 text → IsLeastAsRead assume seen text
-  zero_analysis fw assume steps seen text has h =
+  zero_analysis : (device : Device) (fw : List ℕ) (assume : Option (List ℕ)) (steps : Option ℕ) (seen : Contents) (text : List ℕ) → ((firmware : List ℕ) → seen.firmware ≡ Whole firmware → AreWords (firmware_words device firmware))
+      → IsReply (Analyse device fw assume steps) seen 0 text → IsLeastAsRead device assume seen text
+  zero_analysis device fw assume steps seen text has h =
       let first = zero_file fw seen.firmware _ text h in
-      let second = zero_optional assume seen.assumptions (AfterAnalysis steps first.0) text first.2 in
-      let image = zero_image raw images first.0 (λ ws. WithList second.0 (λ B. AnalyseReply ws B steps)) text second.2 in
-      let list = zero_list lists second.0 (λ B. AnalyseReply (firmware_words first.0) B steps) text image.1 in
-      least_text assume steps seen text first.0 second.0 list.0 (record { firmware_read = first.1; list_read = second.1 }) image.0 list.1 (has first.0 first.1) list.2
+      let second = zero_optional assume seen.assumptions (AfterAnalysis device steps first.0) text first.2 in
+      let image = zero_image raw images narrowing device first.0 (λ ws. WithList second.0 (λ B. AnalyseReply ws B steps)) text second.2 in
+      let list = zero_list lists second.0 (λ B. AnalyseReply (firmware_words device first.0) B steps) text image.1 in
+      least_text device assume steps seen text first.0 second.0 list.0 (record { firmware_read = first.1; list_read = second.1 }) image.0 list.1 (has first.0 first.1) list.2
 
-  analysis_read : (fw : List ℕ) (assume : Option (List ℕ)) (steps : Option ℕ) (seen : Contents) (status : ℕ) (text : List ℕ) → IsReply (Analyse fw assume steps) seen status text → AnswersRounds assume steps seen status
-  analysis_read fw assume steps seen status text h firmware list words A loaded mean =
-      let first : WithOptional assume seen.assumptions (AfterAnalysis steps firmware) status text = file_read fw seen.firmware firmware (λ b. WithOptional assume seen.assumptions (AfterAnalysis steps b)) status text loaded.firmware_read h in
-      let second = optional_read assume seen.assumptions list (AfterAnalysis steps firmware) status text loaded.list_read first in
-      let image = image_read firmware words (λ ws. WithList list (λ B. AnalyseReply ws B steps)) status text mean.image second in
+  analysis_read : (device : Device) (fw : List ℕ) (assume : Option (List ℕ)) (steps : Option ℕ) (seen : Contents) (status : ℕ) (text : List ℕ) → IsReply (Analyse device fw assume steps) seen status text → AnswersRounds device assume steps seen status
+  analysis_read device fw assume steps seen status text h firmware list words A loaded mean =
+      let first : WithOptional assume seen.assumptions (AfterAnalysis device steps firmware) status text = file_read fw seen.firmware firmware (λ b. WithOptional assume seen.assumptions (AfterAnalysis device steps b)) status text loaded.firmware_read h in
+      let second = optional_read assume seen.assumptions list (AfterAnalysis device steps firmware) status text loaded.list_read first in
+      let image = image_read device firmware words (λ ws. WithList list (λ B. AnalyseReply ws B steps)) status text mean.image second in
       says_ends answers rounds solutions bounds runs words A steps status text
       (analyse_ends answers rounds solutions bounds runs words A steps status text (list_read list A (λ B. AnalyseReply words B steps) status text mean.assumptions image))
 
@@ -136,30 +138,30 @@ module _
   -- ---- all
 
   pub replies_hold : AcceptingRepliesHold
-  replies_hold (Check fw cert assume) seen status text h has =
-      λ zero. holds_as (Check fw cert assume) assume seen text
-      (judgement_holds raw images lists read spelled bounds (told_of (Check fw cert assume)) fw cert assume seen text (has zero) (subst (λ s. IsReply (Check fw cert assume) seen s text) zero h))
-  replies_hold (Analyse fw assume steps) seen status text h has =
-      λ zero. zero_analysis fw assume steps seen text (has zero) (subst (λ s. IsReply (Analyse fw assume steps) seen s text) zero h)
-  replies_hold (Run fw schedule assume) seen status text h has = tt
-  replies_hold (Report fw cert assume json) seen status text h has =
-      λ zero. holds_as (Report fw cert assume json) assume seen text
-      (judgement_holds raw images lists read spelled bounds (told_of (Report fw cert assume json)) fw cert assume seen text (has zero) (subst (λ s. IsReply (Report fw cert assume json) seen s text) zero h))
+  replies_hold (Check device fw cert assume) seen status text h has =
+      λ zero. holds_as (Check device fw cert assume) assume seen text
+      (judgement_holds raw images narrowing lists read spelled bounds device (told_of (Check device fw cert assume)) fw cert assume seen text (has zero) (subst (λ s. IsReply (Check device fw cert assume) seen s text) zero h))
+  replies_hold (Analyse device fw assume steps) seen status text h has =
+      λ zero. zero_analysis device fw assume steps seen text (has zero) (subst (λ s. IsReply (Analyse device fw assume steps) seen s text) zero h)
+  replies_hold (Run device fw schedule assume) seen status text h has = tt
+  replies_hold (Report device fw cert assume json) seen status text h has =
+      λ zero. holds_as (Report device fw cert assume json) assume seen text
+      (judgement_holds raw images narrowing lists read spelled bounds device (told_of (Report device fw cert assume json)) fw cert assume seen text (has zero) (subst (λ s. IsReply (Report device fw cert assume json) seen s text) zero h))
   replies_hold (Demo size) seen status text h has = λ zero. measured size text (subst (λ s. IsReply (Demo size) seen s text) zero h)
 
   pub replies_are_exact : RepliesAreExact
-  replies_are_exact (Check fw cert assume) seen status text h =
-      let c = Check fw cert assume in
+  replies_are_exact (Check device fw cert assume) seen status text h =
+      let c = Check device fw cert assume in
       λ firmware certificate list words claim A are stand. (
-        λ zero. judged_valid raw images lists read spelled bounds (told_of c) fw cert assume seen firmware certificate list words claim A are stand text (subst (λ s. IsReply c seen s text) zero h),
-        λ v. (one c seen status 0 text _ h (valid_judged raw images lists read spelled bounds (told_of c) fw cert assume seen firmware certificate list words claim A are stand v)).0,
+        λ zero. judged_valid raw images narrowing lists read spelled bounds device (told_of c) fw cert assume seen firmware certificate list words claim A are stand text (subst (λ s. IsReply c seen s text) zero h),
+        λ v. (one c seen status 0 text _ h (valid_judged raw images narrowing lists read spelled bounds device (told_of c) fw cert assume seen firmware certificate list words claim A are stand v)).0,
       )
-  replies_are_exact (Analyse fw assume steps) seen status text h = analysis_read fw assume steps seen status text h
-  replies_are_exact (Run fw schedule assume) seen status text h = tt
-  replies_are_exact (Report fw cert assume json) seen status text h =
-      let c = Report fw cert assume json in
+  replies_are_exact (Analyse device fw assume steps) seen status text h = analysis_read device fw assume steps seen status text h
+  replies_are_exact (Run device fw schedule assume) seen status text h = tt
+  replies_are_exact (Report device fw cert assume json) seen status text h =
+      let c = Report device fw cert assume json in
       λ firmware certificate list words claim A are stand. (
-        λ zero. judged_valid raw images lists read spelled bounds (told_of c) fw cert assume seen firmware certificate list words claim A are stand text (subst (λ s. IsReply c seen s text) zero h),
-        λ v. (one c seen status 0 text _ h (valid_judged raw images lists read spelled bounds (told_of c) fw cert assume seen firmware certificate list words claim A are stand v)).0,
+        λ zero. judged_valid raw images narrowing lists read spelled bounds device (told_of c) fw cert assume seen firmware certificate list words claim A are stand text (subst (λ s. IsReply c seen s text) zero h),
+        λ v. (one c seen status 0 text _ h (valid_judged raw images narrowing lists read spelled bounds device (told_of c) fw cert assume seen firmware certificate list words claim A are stand v)).0,
       )
   replies_are_exact (Demo size) seen status text h = says_ends answers rounds solutions bounds runs (demo_words size) [] None status text (demo_ends size status text h)

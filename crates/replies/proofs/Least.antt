@@ -42,6 +42,7 @@ claim_with c found h =
       nodes_ascend = h.nodes_ascend;
       few_nodes = h.few_nodes;
       few_cells = h.few_cells;
+      of_version = h.of_version;
     }
 
 sound_with : (words : List ℕ) (A : List Entry) (c : Claim) (found : Option Plan) → IsSound words A c → IsSound words A (record c { witness = found })
@@ -55,7 +56,7 @@ sound_with words A c found h =
         edges = h.meets.edges;
         ranks = h.meets.ranks;
         needs = λ inst. record { offsets = (h.meets.needs inst).offsets; entered = (h.meets.needs inst).entered };
-        bounded = h.meets.bounded;
+        bounded = record { enough = h.meets.bounded.enough; small = h.meets.bounded.small };
         assumptions = h.meets.assumptions;
       };
     }

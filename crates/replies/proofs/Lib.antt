@@ -1,4 +1,3 @@
-pub mod Words
 pub mod ElfWords
 pub mod Trials
 pub mod Analysing

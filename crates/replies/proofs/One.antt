@@ -16,7 +16,7 @@ use Rattle.answer_laws.specs.Laws.{AnswersAreOne}
 use Rattle.witness_search.specs.Laws.{WaypointsAreOne}
 use Rattle.cert_check.specs.declared.verdict.Verdict.{Verdict}
 use Rattle.cert_check.specs.declared.verdict.Verdict.TheVariants.{Accepted, Rejected}
-use Rattle.commands.specs.Commands.{Command, Check, Analyse, Run, Report, Demo, Firmware, Second, Assumptions, name_of}
+use Rattle.commands.specs.Commands.{Command, Check, Analyse, Run, Report, Demo, Firmware, Second, Assumptions, device_for, name_of}
 use Rattle.replies.specs.Firmware.{firmware_words, firmware_fault}
 use Rattle.replies.specs.Texts.{too_long, assumptions_refused, certificate_refused, schedule_malformed, schedule_illegal, rejected, witness_rejected, run_text}
 use Rattle.replies.specs.Reading.{Seen, Unread, Whole, Long}
@@ -99,22 +99,22 @@ module _ (read : ReadIsSpelled) (one : VerdictsAreOne) (answers : AnswersAreOne)
   read_one words A tells bytes = certificate_one words A tells (certificate_in bytes) (λ c e. (read bytes c e).1.claim)
 
   flash_one : (command : Command) (firmware bytes words : List ℕ) (A : List Entry) → IsOne (FlashReply command firmware bytes words A)
-  flash_one (Check fw cert assume) firmware bytes words A = read_one words A (told_of (Check fw cert assume) firmware) bytes
-  flash_one (Analyse fw assume steps) firmware bytes words A = analyse_one answers chains words A steps
-  flash_one (Run fw schedule assume) firmware bytes words A = schedule_one words A (schedule_in _)
-  flash_one (Report fw cert assume json) firmware bytes words A = read_one words A (told_of (Report fw cert assume json) firmware) bytes
+  flash_one (Check device fw cert assume) firmware bytes words A = read_one words A (told_of (Check device fw cert assume) firmware) bytes
+  flash_one (Analyse device fw assume steps) firmware bytes words A = analyse_one answers chains words A steps
+  flash_one (Run device fw schedule assume) firmware bytes words A = schedule_one words A (schedule_in _)
+  flash_one (Report device fw cert assume json) firmware bytes words A = read_one words A (told_of (Report device fw cert assume json) firmware) bytes
   flash_one (Demo size) firmware bytes words A = demo_one answers chains size
 
-  on_flash_one : (command : Command) (firmware second : List ℕ) (list : Option (List ℕ)) → IsOne (WithImage firmware (λ words. WithList list (λ A. FlashReply command firmware second words A)))
+  on_flash_one : (command : Command) (firmware second : List ℕ) (list : Option (List ℕ)) → IsOne (WithImage (device_for command) firmware (λ words. WithList list (λ A. FlashReply command firmware second words A)))
   on_flash_one command firmware second list =
-      image_one (firmware_fault firmware) (WithList list (λ A. FlashReply command firmware second (firmware_words firmware) A))
-      (with_list_one list (λ A. FlashReply command firmware second (firmware_words firmware) A) (flash_one command firmware second (firmware_words firmware)))
+      image_one (firmware_fault (device_for command) firmware) (WithList list (λ A. FlashReply command firmware second (firmware_words (device_for command) firmware) A))
+      (with_list_one list (λ A. FlashReply command firmware second (firmware_words (device_for command) firmware) A) (flash_one command firmware second (firmware_words (device_for command) firmware)))
 
   work_one : (command : Command) (firmware second : List ℕ) (list : Option (List ℕ)) → IsOne (WorkReply command firmware second list)
-  work_one (Check fw cert assume) firmware second list = on_flash_one (Check fw cert assume) firmware second list
-  work_one (Analyse fw assume steps) firmware second list = on_flash_one (Analyse fw assume steps) firmware second list
-  work_one (Run fw schedule assume) firmware second list = on_flash_one (Run fw schedule assume) firmware second list
-  work_one (Report fw cert assume json) firmware second list = on_flash_one (Report fw cert assume json) firmware second list
+  work_one (Check device fw cert assume) firmware second list = on_flash_one (Check device fw cert assume) firmware second list
+  work_one (Analyse device fw assume steps) firmware second list = on_flash_one (Analyse device fw assume steps) firmware second list
+  work_one (Run device fw schedule assume) firmware second list = on_flash_one (Run device fw schedule assume) firmware second list
+  work_one (Report device fw cert assume json) firmware second list = on_flash_one (Report device fw cert assume json) firmware second list
   work_one (Demo size) firmware second list = demo_one answers chains size
 
   pub replies_are_one : RepliesAreOne

@@ -1,19 +1,28 @@
 -- The words of flash that a firmware file stands for, or its refusal, and what else it gives.
-use Rattle.std.specs.Prelude.{ℕ, zero, suc, ◌+◌, ◌*◌, ◌%◌, ◌==◌, nat_lt, Bool, true, false, List, [], ◌∷◌, length, Option, Some, None, if◌then◌else◌}
+use Rattle.std.specs.Prelude.{ℕ, zero, suc, ◌+◌, ◌*◌, ◌%◌, ◌==◌, nat_lt, Bool, true, false, List, [], ◌∷◌, length, take, Option, Some, None, if◌then◌else◌}
 use Rattle.std.specs.Option.{option_map}
-use Rattle.avr_model.specs.Image.{WORDS, IsRawImage, raw_words}
+use Rattle.avr_model.specs.declared.device.Device.{Device}
+use Rattle.avr_model.specs.Devices.{words_of}
+use Rattle.avr_model.specs.Image.{WORDS, IsRawImage, raw_words, IsNarrowed}
+use Rattle.flash_image.specs.Narrowing.{outside_word}
 use Rattle.flash_image.specs.Naming.{Named}
 use Rattle.elf_load.specs.Elf.{is_elf, elf_fault, elf_byte, IsElfImage, elf_names, static_end}
-use Rattle.replies.specs.Texts.{elf_refused, raw_fault}
+use Rattle.replies.specs.Texts.{elf_refused, raw_fault, firmware_outside}
 
 -- a file that begins 7F 45 4C 46 is an ELF file, and any other is a raw one
-abbrev pub IsFirmwareBy : Bool → List ℕ → List ℕ → Type 0
-IsFirmwareBy true bytes words = IsElfImage bytes words
-IsFirmwareBy false bytes words = IsRawImage bytes words
+abbrev pub IsImageBy : Bool → List ℕ → List ℕ → Type 0
+IsImageBy true bytes all = IsElfImage bytes all
+IsImageBy false bytes all = IsRawImage bytes all
 
--- The words that a firmware file stands for.
-abbrev pub IsFirmware : List ℕ → List ℕ → Type 0
-IsFirmware bytes words = IsFirmwareBy (is_elf bytes) bytes words
+-- the words of the greatest flash under a firmware file
+abbrev pub IsImage : List ℕ → List ℕ → Type 0
+IsImage bytes all = IsImageBy (is_elf bytes) bytes all
+
+-- The words that a firmware file stands for on a device: those of its image, of which all behind the device's flash are erased.
+pub record IsFirmware (device : Device) (bytes words : List ℕ) : Type 0 where
+  pub all : List ℕ
+  pub image : IsImage bytes all
+  pub narrowed : IsNarrowed device all words
 
 -- the list of f at, f (at + 1), .., n numbers
 unfoldable pub tabulated : ℕ → ℕ → (ℕ → ℕ) → List ℕ
@@ -27,20 +36,30 @@ elf_word bytes a = elf_byte bytes (2 * a) + 256 * elf_byte bytes (2 * a + 1)
 abbrev pub elf_words : List ℕ → List ℕ
 elf_words bytes = tabulated 0 WORDS (elf_word bytes)
 
--- the words of a firmware file in order, and the text of its refusal
+-- the words of the greatest flash under a firmware file in order, and the text of its refusal
 abbrev pub words_by : Bool → List ℕ → List ℕ
 words_by true bytes = elf_words bytes
 words_by false bytes = raw_words bytes
-
-abbrev pub firmware_words : List ℕ → List ℕ
-firmware_words bytes = words_by (is_elf bytes) bytes
 
 abbrev pub fault_by : Bool → List ℕ → Option (List ℕ)
 fault_by true bytes = option_map elf_refused (elf_fault bytes)
 fault_by false bytes = if length bytes % 2 == 1 then Some (raw_fault 1) else (if nat_lt 32768 (length bytes) then Some (raw_fault 2) else None)
 
-abbrev pub firmware_fault : List ℕ → Option (List ℕ)
-firmware_fault bytes = fault_by (is_elf bytes) bytes
+-- the words of a firmware file on a device in order
+abbrev pub firmware_words : Device → List ℕ → List ℕ
+firmware_words device bytes = take (words_of device) (words_by (is_elf bytes) bytes)
+
+-- the text of the refusal of an image that has a word behind a device's flash
+abbrev pub outside_fault : Device → List ℕ → Option (List ℕ)
+outside_fault device all = option_map firmware_outside (outside_word device all)
+
+abbrev pub fault_or : Option (List ℕ) → Option (List ℕ) → Option (List ℕ)
+fault_or None later = later
+fault_or (Some text) later = Some text
+
+-- the text of the refusal of a firmware file for a device: the file is looked at first
+abbrev pub firmware_fault : Device → List ℕ → Option (List ℕ)
+firmware_fault device bytes = fault_or (fault_by (is_elf bytes) bytes) (outside_fault device (words_by (is_elf bytes) bytes))
 
 -- ---- names and static data, which an ELF file alone gives
 

@@ -2,6 +2,8 @@
 use Rattle.std.specs.Prelude.{◌≡◌, ◌≢◌, ◌↔◌, ◌≤◌, ⊤, true, ℕ, List, [], Option, Some, None}
 use Rattle.std.specs.Option.{is_some}
 use Rattle.avr_model.specs.declared.assumption.Entry.{Entry}
+use Rattle.avr_model.specs.declared.device.Device.{Device}
+use Rattle.avr_model.specs.Devices.{device_of}
 use Rattle.avr_model.specs.declared.choice.Choice.{Choice}
 use Rattle.avr_model.specs.declared.choice.Stop.TheVariants.{End}
 use Rattle.avr_model.specs.State.{State, IsReset}
@@ -15,7 +17,7 @@ use Rattle.round_rules.specs.declared.refusal.Refusal.TheVariants.{Memory}
 use Rattle.round_rules.specs.Refusals.{GoesBeyond}
 use Rattle.round_rules.specs.Solutions.{IsAnswer, IsRefusal}
 use Rattle.demo_image.specs.Image.{demo_words}
-use Rattle.commands.specs.Commands.{Command, Check, Analyse, Run, Report, Demo}
+use Rattle.commands.specs.Commands.{Command, Check, Analyse, Run, Report, Demo, device_for}
 use Rattle.local_rules.specs.Machine.{AreWords}
 use Rattle.replies.specs.Firmware.{IsFirmware, firmware_words}
 use Rattle.replies.specs.Texts.{accepted, demo_text}
@@ -44,27 +46,27 @@ abbrev pub IsListOf : Option (List ℕ) → List Entry → Type 0
 IsListOf None A = A ≡ []
 IsListOf (Some bytes) A = IsReading bytes A
 
--- the bytes of a firmware and of an assumption file stand for these words and these assumptions
-pub record Mean (firmware : List ℕ) (list : Option (List ℕ)) (words : List ℕ) (A : List Entry) : Type 0 where
-  pub image : IsFirmware firmware words
+-- the bytes of a firmware for a device and of an assumption file stand for these words and these assumptions
+pub record Mean (device : Device) (firmware : List ℕ) (list : Option (List ℕ)) (words : List ℕ) (A : List Entry) : Type 0 where
+  pub image : IsFirmware device firmware words
   pub assumptions : IsListOf list A
 
 -- and those of a certificate for this claim
-pub record StandFor (firmware certificate : List ℕ) (list : Option (List ℕ)) (words : List ℕ) (claim : Claim) (A : List Entry) : Type 0 where
-  pub mean : Mean firmware list words A
+pub record StandFor (device : Device) (firmware certificate : List ℕ) (list : Option (List ℕ)) (words : List ℕ) (claim : Claim) (A : List Entry) : Type 0 where
+  pub mean : Mean device firmware list words A
   pub fits : IsCertificate claim
   pub bytes : certificate ≡ text_of claim
 
 -- ---- a certificate that is accepted
 
--- The firmware's words are such that no run of the machine from reset is deeper than the bound of the certificate with this text:
+-- The firmware's words on the command's device are such that no run of that machine from reset is deeper than the bound of the certificate with this text:
 -- whatever memory held, whatever interrupts are taken and whatever bytes are read, up to the first step that is flagged under the
 -- assumptions of the assumption file. The text that is printed is what the command tells of this certificate, the bound among it.
 pub record Holds (command : Command) (firmware certificate : List ℕ) (list : Option (List ℕ)) (text : List ℕ) : Type 0 where
   pub words : List ℕ
   pub claim : Claim
   pub assumptions : List Entry
-  pub stand : StandFor firmware certificate list words claim assumptions
+  pub stand : StandFor (device_for command) firmware certificate list words claim assumptions
   pub bounded : Bounded words assumptions claim.bound
   pub told : text ≡ told_of command firmware claim
 
@@ -81,38 +83,38 @@ pub record HoldsAsRead (command : Command) (assume : Option (List ℕ)) (seen : 
 -- some run of the machine from reset ends without a stop, exactly this deep
 pub record IsReached (words : List ℕ) (A : List Entry) (depth : ℕ) : Type 0 where
   pub state : State
-  pub reset : IsReset state
+  pub reset : IsReset (device_of words) state
   pub choices : List Choice
   pub run : IsRun words A choices state
   pub ends : stop_of words A choices state ≡ End
   pub deep : depth_of words A choices state ≡ depth
 
--- The text is that of a valid certificate for the firmware and the assumptions. No valid one has a smaller bound, and no run of the
+-- The text is that of a valid certificate for the firmware on the device and the assumptions. No valid one has a smaller bound, and no run of the
 -- machine is deeper than this one's. Where it has a schedule, the bound is reached, so that it is the worst case; it has one exactly where
 -- one of the trials along its deepest chain is as deep as the bound.
-pub record IsLeastCertificate (firmware : List ℕ) (list : Option (List ℕ)) (text : List ℕ) : Type 0 where
+pub record IsLeastCertificate (device : Device) (firmware : List ℕ) (list : Option (List ℕ)) (text : List ℕ) : Type 0 where
   pub words : List ℕ
   pub claim : Claim
   pub assumptions : List Entry
-  pub stand : StandFor firmware text list words claim assumptions
+  pub stand : StandFor device firmware text list words claim assumptions
   pub valid : IsValid words assumptions claim
   pub least : (other : Claim) → IsClaim other → IsValid words assumptions other → claim.bound ≤ other.bound
   pub bounded : Bounded words assumptions claim.bound
   pub reached : is_some claim.witness ≡ true → IsReached words assumptions claim.bound
   pub trials : TrialsFind words assumptions claim claim.witness
 
--- a `check` of this text, with the same firmware and assumptions, accepts it
-abbrev pub IsAcceptedAgain : Option (List ℕ) → Contents → List ℕ → Claim → Type 0
-IsAcceptedAgain assume seen text c =
-    (firmware certificate : List ℕ) → IsReply (Check firmware certificate assume) (record seen { second = Whole text }) 0 (accepted c.bound (is_some c.witness))
+-- a `check` of this text, with the same device, firmware and assumptions, accepts it
+abbrev pub IsAcceptedAgain : Device → Option (List ℕ) → Contents → List ℕ → Claim → Type 0
+IsAcceptedAgain device assume seen text c =
+    (firmware certificate : List ℕ) → IsReply (Check device firmware certificate assume) (record seen { second = Whole text }) 0 (accepted c.bound (is_some c.witness))
 
 -- bytes were read of all files of an analysis, and its text is that of their least certificate
-pub record IsLeastAsRead (assume : Option (List ℕ)) (seen : Contents) (text : List ℕ) : Type 0 where
+pub record IsLeastAsRead (device : Device) (assume : Option (List ℕ)) (seen : Contents) (text : List ℕ) : Type 0 where
   pub firmware : List ℕ
   pub list : Option (List ℕ)
   pub read : AreLoaded assume seen firmware list
-  pub certificate : IsLeastCertificate firmware list text
-  pub again : IsAcceptedAgain assume seen text certificate.claim
+  pub certificate : IsLeastCertificate device firmware list text
+  pub again : IsAcceptedAgain device assume seen text certificate.claim
 
 -- ---- the numbers of an image
 
@@ -127,20 +129,20 @@ pub record IsMeasured (size : ℕ) (text : List ℕ) : Type 0 where
 
 -- where a certificate is accepted, the bound holds; where one is written, it is the least; the numbers of an image are those of its rounds
 abbrev pub Headline : Command → Contents → ℕ → List ℕ → Type 0
-Headline (Check firmware certificate assume) seen status text = status ≡ 0 → HoldsAsRead (Check firmware certificate assume) assume seen text
-Headline (Analyse firmware assume steps) seen status text = status ≡ 0 → IsLeastAsRead assume seen text
-Headline (Run firmware schedule assume) seen status text = ⊤
-Headline (Report firmware certificate assume json) seen status text =
-    status ≡ 0 → HoldsAsRead (Report firmware certificate assume json) assume seen text
+Headline (Check device firmware certificate assume) seen status text = status ≡ 0 → HoldsAsRead (Check device firmware certificate assume) assume seen text
+Headline (Analyse device firmware assume steps) seen status text = status ≡ 0 → IsLeastAsRead device assume seen text
+Headline (Run device firmware schedule assume) seen status text = ⊤
+Headline (Report device firmware certificate assume json) seen status text =
+    status ≡ 0 → HoldsAsRead (Report device firmware certificate assume json) assume seen text
 Headline (Demo size) seen status text = status ≡ 0 → IsMeasured size text
 
 -- ---- when the answers come
 
 -- Where the files of a command read as values, it accepts exactly where the certificate is valid for the firmware and the assumptions.
-abbrev pub AcceptsValid : Option (List ℕ) → Contents → ℕ → Type 0
-AcceptsValid assume seen status =
+abbrev pub AcceptsValid : Device → Option (List ℕ) → Contents → ℕ → Type 0
+AcceptsValid device assume seen status =
     (firmware certificate : List ℕ) (list : Option (List ℕ)) (words : List ℕ) (claim : Claim) (A : List Entry)
-    → AreRead assume seen firmware certificate list → StandFor firmware certificate list words claim A → (status ≡ 0) ↔ IsValid words A claim
+    → AreRead assume seen firmware certificate list → StandFor device firmware certificate list words claim A → (status ≡ 0) ↔ IsValid words A claim
 
 -- some certificate is valid for the words and the assumptions
 abbrev pub HasValid : List ℕ → List Entry → Type 0
@@ -155,16 +157,16 @@ pub record SaysHowRoundsEnd (words : List ℕ) (A : List Entry) (steps : Option 
   pub valid : steps ≡ None → (status ≡ 0) ↔ HasValid words A
 
 -- the same of the files of an analysis, where they read as values
-abbrev pub AnswersRounds : Option (List ℕ) → Option ℕ → Contents → ℕ → Type 0
-AnswersRounds assume steps seen status =
+abbrev pub AnswersRounds : Device → Option (List ℕ) → Option ℕ → Contents → ℕ → Type 0
+AnswersRounds device assume steps seen status =
     (firmware : List ℕ) (list : Option (List ℕ)) (words : List ℕ) (A : List Entry)
-    → AreLoaded assume seen firmware list → Mean firmware list words A → SaysHowRoundsEnd words A steps status
+    → AreLoaded assume seen firmware list → Mean device firmware list words A → SaysHowRoundsEnd words A steps status
 
 abbrev pub IsExact : Command → Contents → ℕ → Type 0
-IsExact (Check firmware certificate assume) seen status = AcceptsValid assume seen status
-IsExact (Analyse firmware assume steps) seen status = AnswersRounds assume steps seen status
-IsExact (Run firmware schedule assume) seen status = ⊤
-IsExact (Report firmware certificate assume json) seen status = AcceptsValid assume seen status
+IsExact (Check device firmware certificate assume) seen status = AcceptsValid device assume seen status
+IsExact (Analyse device firmware assume steps) seen status = AnswersRounds device assume steps seen status
+IsExact (Run device firmware schedule assume) seen status = ⊤
+IsExact (Report device firmware certificate assume json) seen status = AcceptsValid device assume seen status
 IsExact (Demo size) seen status = SaysHowRoundsEnd (demo_words size) [] None status
 
 -- ---- laws
@@ -176,7 +178,7 @@ RepliesAreOne = (command : Command) (seen : Contents) (s t : ℕ) (a b : List �
 -- the words of a command's firmware have 16 bits, as those of every flash have
 abbrev pub HasWords : Command → List ℕ → Type 0
 HasWords (Demo size) firmware = ⊤
-HasWords command firmware = AreWords (firmware_words firmware)
+HasWords command firmware = AreWords (firmware_words (device_for command) firmware)
 
 -- the same of the firmware that was read
 abbrev pub ReadsWords : Command → Contents → Type 0

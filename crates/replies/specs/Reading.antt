@@ -36,7 +36,7 @@ abbrev pub assumption_cap : ℕ
 assumption_cap = 1048576
 
 abbrev pub second_cap : Command → ℕ
-second_cap (Run firmware schedule assume) = schedule_cap
+second_cap (Run device firmware schedule assume) = schedule_cap
 second_cap command = certificate_cap
 
 abbrev pub cap_of : Command → Role → ℕ

@@ -2,6 +2,7 @@
 use Rattle.std.specs.Prelude.{◌≡◌, ◌⊎◌, ℕ, ◌==◌, ◌&&◌, List, [], ◌∷◌, Bool, true, false, Option, Some, None, Result, Ok, Err}
 use Rattle.std.specs.Option.{is_some}
 use Rattle.avr_model.specs.declared.assumption.Entry.{Entry}
+use Rattle.avr_model.specs.declared.device.Device.{Device}
 use Rattle.avr_model.specs.declared.choice.Stop.{Stop}
 use Rattle.avr_model.specs.declared.choice.Stop.TheVariants as stop
 use Rattle.sb_base.specs.Lines.{Place, TextLine, lines_of}
@@ -23,7 +24,7 @@ use Rattle.cert_format.specs.Reading.{certificate_in}
 use Rattle.cert_check.specs.Verdict.{IsVerdict}
 use Rattle.cert_check.specs.declared.verdict.Verdict.{Verdict}
 use Rattle.cert_check.specs.declared.verdict.Verdict.TheVariants.{Accepted, Rejected}
-use Rattle.commands.specs.Commands.{Command, Analyse, Run, Report, Demo, Firmware, Second, Assumptions, name_of}
+use Rattle.commands.specs.Commands.{Command, Analyse, Run, Report, Demo, Firmware, Second, Assumptions, device_for, name_of}
 use Rattle.replies.specs.Firmware.{firmware_words, firmware_fault, firmware_names, firmware_end}
 use Rattle.replies.specs.Texts.{too_long, assumptions_refused, certificate_refused, schedule_malformed, schedule_illegal, accepted, rejected, witness_rejected, run_text, why_not_text, why_not_status, demo_text}
 use Rattle.replies.specs.Reading.{Seen, Unread, Whole, Long, Contents}
@@ -65,9 +66,9 @@ abbrev pub ImageBy : Option (List ℕ) → Reply → Reply
 ImageBy (Some refusal) reply status text = Says 6 refusal status text
 ImageBy None reply status text = reply status text
 
--- the words of a firmware, and what follows with them
-abbrev pub WithImage : List ℕ → (List ℕ → Reply) → Reply
-WithImage bytes next = ImageBy (firmware_fault bytes) (next (firmware_words bytes))
+-- the words of a firmware on a device, and what follows with them
+abbrev pub WithImage : Device → List ℕ → (List ℕ → Reply) → Reply
+WithImage device bytes next = ImageBy (firmware_fault device bytes) (next (firmware_words device bytes))
 
 abbrev pub ListBy : Result (List Entry) AssumeText → (List Entry → Reply) → Reply
 ListBy (Ok entries) next status text = next entries status text
@@ -112,13 +113,13 @@ abbrev pub CertificateReply : List ℕ → List Entry → (Claim → List ℕ) �
 CertificateReply words A tells (Err fault) status text = Refuses 8 (certificate_refused fault) status text
 CertificateReply words A tells (Ok c) status text = JudgedReply words A tells c status text
 
-abbrev pub report_by : Bool → List Named → Option ℕ → Claim → List ℕ
-report_by true names end c = json_text c names end
-report_by false names end c = plain_text c names end
+abbrev pub report_by : Bool → Device → List Named → Option ℕ → Claim → List ℕ
+report_by true device names end c = json_text device c names end
+report_by false device names end c = plain_text device c names end
 
 -- what a command tells of a certificate that it accepts, for a firmware of these bytes
 abbrev pub told_of : Command → List ℕ → Claim → List ℕ
-told_of (Report firmware certificate assume json) bytes c = report_by json (firmware_names bytes) (firmware_end bytes) c
+told_of (Report device firmware certificate assume json) bytes c = report_by json device (firmware_names bytes) (firmware_end bytes) c
 told_of command bytes c = accepted c.bound (is_some c.witness)
 
 -- ---- run
@@ -167,15 +168,15 @@ DemoReply size status text = MeasuredReply size status text ⊎ WhyNotReply (dem
 
 -- what is made of the words of a firmware of these bytes, and of the bytes of a certificate or schedule, under these assumptions
 abbrev pub FlashReply : Command → List ℕ → List ℕ → List ℕ → List Entry → Reply
-FlashReply (Analyse name assume steps) firmware bytes words A = AnalyseReply words A steps
-FlashReply (Run name schedule assume) firmware bytes words A = ScheduleReply words A (schedule_in (record { at = 0; rest = lines_of bytes }))
+FlashReply (Analyse device name assume steps) firmware bytes words A = AnalyseReply words A steps
+FlashReply (Run device name schedule assume) firmware bytes words A = ScheduleReply words A (schedule_in (record { at = 0; rest = lines_of bytes }))
 FlashReply (Demo size) firmware bytes words A = DemoReply size
 FlashReply command firmware bytes words A = CertificateReply words A (told_of command firmware) (certificate_in bytes)
 
 -- The firmware, the assumptions and the second file are looked at in this order. `demo` has none of them.
 abbrev pub WorkReply : Command → List ℕ → List ℕ → Option (List ℕ) → Reply
 WorkReply (Demo size) firmware second list = DemoReply size
-WorkReply command firmware second list = WithImage firmware (λ words. WithList list (λ A. FlashReply command firmware second words A))
+WorkReply command firmware second list = WithImage (device_for command) firmware (λ words. WithList list (λ A. FlashReply command firmware second words A))
 
 -- The status and the text are the answer to a command of whose files this was read. The files are read in this order, and only then is
 -- anything made of them.

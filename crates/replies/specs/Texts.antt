@@ -6,7 +6,7 @@ use Rattle.sb_base.specs.Digits.{hex_digits}
 use Rattle.sb_base.specs.Writing.{Written, with_words, with_end}
 use Rattle.avr_model.specs.declared.instruction.Instr.{Instr}
 use Rattle.avr_model.specs.Image.{word_at}
-use Rattle.avr_model.specs.Table.{decoded}
+use Rattle.avr_model.specs.Sites.{instruction_at}
 use Rattle.avr_model.specs.Text as instruction
 use Rattle.avr_model.specs.declared.choice.Flag.TheVariants.{Live, Protected, Transfer}
 use Rattle.avr_model.specs.declared.choice.Stop.{Stop}
@@ -65,6 +65,10 @@ AreWritten before after (Some words) = after ≡ with_words before words
 
 abbrev pub elf_refused : ElfRefusal → List ℕ
 elf_refused refusal = told (codes "firmware" ∷ codes "elf" ∷ refusal_words refusal)
+
+-- the least word behind the device's flash that the firmware fills
+abbrev pub firmware_outside : ℕ → List ℕ
+firmware_outside word = told (codes "firmware" ∷ codes "outside" ∷ codes "at" ∷ hex_digits word 4 ∷ [])
 
 -- the line of an assumption file that is refused, from 1; want of memory has no text
 abbrev pub assumption_words : AssumeText → Option (List (List ℕ))
@@ -135,14 +139,14 @@ run_text r =
 
 -- ---- in place of a certificate
 
--- the text of the instruction, or the word in digits where it is none
+-- the text of the instruction, or the word in digits where it is none on the device
 abbrev pub instruction_words : Option Instr → ℕ → ℕ → List (List ℕ)
 instruction_words (Some instr) word at = instruction.text_of instr at ∷ []
 instruction_words None word at = codes "opcode" ∷ hex_digits word 4 ∷ []
 
 -- the same of the instruction at a word address
-abbrev pub instruction_at : List ℕ → ℕ → List (List ℕ)
-instruction_at words at = instruction_words (decoded (word_at words at) (word_at words (at + 1))) (word_at words at) at
+abbrev pub instruction_told : List ℕ → ℕ → List (List ℕ)
+instruction_told words at = instruction_words (instruction_at words at) (word_at words at) at
 
 -- the number of a cause, its name, and the word at which it is
 abbrev pub cause_at : List ℕ → List ℕ → ℕ → List (List ℕ) → Option (List (List ℕ))
@@ -151,14 +155,14 @@ cause_at number name at more = Some (codes "refused" ∷ number ∷ name ∷ cod
 -- The words in place of a certificate: the cause for which there is none with what it names, or the number of rounds that don't suffice.
 -- Want of memory has none.
 abbrev pub why_not_words : List ℕ → Refusal → Option (List (List ℕ))
-why_not_words words (refusal.UnresolvedJump at) = cause_at (codes "1") (codes "unresolved-jump") at (instruction_at words at)
+why_not_words words (refusal.UnresolvedJump at) = cause_at (codes "1") (codes "unresolved-jump") at (instruction_told words at)
 why_not_words words (refusal.Recursion at) = cause_at (codes "2") (codes "recursion") at []
 why_not_words words (refusal.ReEntry v at) = Some (codes "refused" ∷ codes "3" ∷ codes "re-entry" ∷ codes "of" ∷ decimal v ∷ codes "at" ∷ hex_digits at 4 ∷ [])
-why_not_words words (refusal.UntrackedSp at) = cause_at (codes "4") (codes "untracked-sp") at (instruction_at words at)
+why_not_words words (refusal.UntrackedSp at) = cause_at (codes "4") (codes "untracked-sp") at (instruction_told words at)
 why_not_words words (refusal.Unsupported at) = cause_at (codes "5") (codes "unsupported") at (codes "opcode" ∷ hex_digits (word_at words at) 4 ∷ [])
 why_not_words words (refusal.TooDeep at need) = cause_at (codes "6") (codes "too-deep") at (codes "need" ∷ decimal need ∷ [])
 why_not_words words (refusal.TooLarge limit) = Some (codes "refused" ∷ codes "7" ∷ codes "too-large" ∷ limit_word limit ∷ [])
-why_not_words words (refusal.UnknownPointer at) = cause_at (codes "8") (codes "unknown-pointer") at (instruction_at words at)
+why_not_words words (refusal.UnknownPointer at) = cause_at (codes "8") (codes "unknown-pointer") at (instruction_told words at)
 why_not_words words (refusal.Spent n) = Some (codes "spent" ∷ decimal n ∷ [])
 why_not_words words refusal.Memory = None
 

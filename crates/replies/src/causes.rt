@@ -4,33 +4,31 @@ ghost use Rattle.std.specs.Prelude.{◌≡◌, [], ◌∷◌, IfOk, OnOk, Some, 
 ghost use Rattle.sb_base.specs.Digits.{hex_digits};
 ghost use Rattle.sb_base.specs.Writing.{with_words};
 ghost use Rattle.avr_model.specs.Image.{word_at};
-ghost use Rattle.replies.specs.Texts.{AreWritten, instruction_at, limit_word, why_not_words, why_not_text, demo_text};
+ghost use Rattle.replies.specs.Texts.{AreWritten, instruction_told, limit_word, why_not_words, why_not_text, demo_text};
 
 use crate::texts::limit_word;
-use avr_decode::{decode, text as instruction_text};
+use avr_decode::{instruction, text as instruction_text};
 use certificate::{Certificate, Limit};
 use flash_image::Flash;
 use round_rules::Refusal;
 use sb_base::LineWriter;
 use std::alloc::{AllocError, Global};
 
-/// The text of the instruction at a word, or the word in digits where it is none.
-#[tactic(auto, using(crate::proofs::Words::word_wraps))]
+/// The text of the instruction at a word, or the word in digits where it is none on the device.
 fn put_instruction(
     alloc: Global,
     line: &mut LineWriter,
     flash: &Flash,
     at: u16,
 ) -> Result<(), AllocError>
-    ensures { OnOk result (line.new ≡ with_words line.old (instruction_at flash.now at)) }
+    ensures { OnOk result (line.new ≡ with_words line.old (instruction_told flash.now at)) }
 {
-    let word = flash.word(at);
-    match decode(word, flash.word(at.wrapping_add(1))) {
+    match instruction(flash.words(), usize::from(at)) {
         Some(instr) => {
             let text = instruction_text(alloc, &instr, at)?;
             line.word(&text)
         }
-        None => put_opcode(line, word),
+        None => put_opcode(line, flash.word(at)),
     }
 }
 

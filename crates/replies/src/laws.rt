@@ -5,7 +5,7 @@ ghost use Rattle.replies.specs.Headline.{RepliesAreOne, AcceptingRepliesHold, Re
 use answer_laws::laws::answers_are_one;
 use cert_check::laws::{sound_certificates_bound_every_run, verdicts_are_one};
 use cert_format::laws::certificate_texts;
-use flash_image::laws::raw_images_are_their_words;
+use flash_image::laws::{narrowing_is_exact, raw_images_are_their_words};
 use indirect_targets::laws::reading_is_exact;
 use round_laws::laws::{rounds_are_least, solutions_are_valid};
 use witness_replay::laws::replays_are_runs;
@@ -20,6 +20,7 @@ pub fn replies_are_claims()
     ensures exact { RepliesAreExact }
 {
     raw_images_are_their_words();
+    narrowing_is_exact();
     reading_is_exact();
     certificate_texts();
     verdicts_are_one();

@@ -5,7 +5,7 @@ ghost use Rattle.std.specs.Option.{option_map};
 ghost use Rattle.elf_load.specs.Refusing.{refusal_of};
 ghost use Rattle.sb_base.specs.Digits.{hex_digits};
 ghost use Rattle.sb_base.specs.Writing.{with_words, with_end};
-ghost use Rattle.replies.specs.Texts.{told, usage, read_fault, too_long, raw_fault, elf_refused, IsRefused, AreWritten, assumption_words, assumptions_refused, limit_word, certificate_words, certificate_refused, schedule_malformed, schedule_illegal, witness_word, accepted, reason_words, rejected, witness_rejected, stop_words, run_text};
+ghost use Rattle.replies.specs.Texts.{told, usage, read_fault, too_long, raw_fault, elf_refused, firmware_outside, IsRefused, AreWritten, assumption_words, assumptions_refused, limit_word, certificate_words, certificate_refused, schedule_malformed, schedule_illegal, witness_word, accepted, reason_words, rejected, witness_rejected, stop_words, run_text};
 
 use avr_model::choice::{Flag, Stop};
 use cert_check::Reason;
@@ -97,6 +97,19 @@ pub fn elf_refused(alloc: Global, fault: &ElfFault) -> Result<Vec<u8>, AllocErro
     line.word(b"firmware")?;
     line.word(b"elf")?;
     put_refusal(&mut line, fault)?;
+    line.end_line()?;
+    Ok(line.finish())
+}
+
+/// The least word behind the device's flash that a firmware fills.
+pub fn firmware_outside(alloc: Global, word: u16) -> Result<Vec<u8>, AllocError>
+    ensures { IfOk result (λ v. v.items ≡ firmware_outside word) }
+{
+    let mut line = LineWriter::new(alloc);
+    line.word(b"firmware")?;
+    line.word(b"outside")?;
+    line.word(b"at")?;
+    line.hex(u32::from(word), 4)?;
     line.end_line()?;
     Ok(line.finish())
 }

@@ -6,6 +6,7 @@ use Rattle.std.specs.List.{flat_map}
 use Rattle.sb_base.specs.Lines.{line}
 use Rattle.sb_base.specs.Writing.{Written, with_words, with_end}
 use Rattle.line_reading.specs.Appending.{with_text, AppendingLaws}
+use Rattle.avr_model.specs.declared.device.Device.{Device}
 use Rattle.certificate.specs.Claims.{Claim}
 use Rattle.cert_words.specs.Text.{numbered}
 use Rattle.reports.specs.Report.{witness_line, static_line, heading}
@@ -34,16 +35,16 @@ lines_next {A} words k w v u xs i x lt is e f =
     ∙ ap (with_text w) (sym (text_next words xs i x lt))
 
 -- the three lines of a heading
-pub heading_written : AppendingLaws → (w a b u : Written) (c : Claim) (o : Option ℕ) → w.begun ≡ false
-    → a ≡ with_end (with_words w (numbered (codes "bound") c.bound)) → b ≡ with_end (with_words a (witness_line c.witness)) → u ≡ with_end (with_words b (static_line c.bound o))
-    → u ≡ with_text w (flat_map line (heading c o))
-heading_written k w a b u c o n e f g =
+pub heading_written : AppendingLaws → (w a b u : Written) (device : Device) (c : Claim) (o : Option ℕ) → w.begun ≡ false
+    → a ≡ with_end (with_words w (numbered (codes "bound") c.bound)) → b ≡ with_end (with_words a (witness_line c.witness)) → u ≡ with_end (with_words b (static_line device c.bound o))
+    → u ≡ with_text w (flat_map line (heading device c o))
+heading_written k w a b u device c o n e f g =
     let first : a ≡ with_text w (line (numbered (codes "bound") c.bound)) = k.line w a (numbered (codes "bound") c.bound) n e in
     let second : b ≡ with_text a (line (witness_line c.witness)) = k.line a b (witness_line c.witness) (none_begun w a (line (numbered (codes "bound") c.bound)) first) f in
-    let third : u ≡ with_text b (line (static_line c.bound o)) = k.line b u (static_line c.bound o) (none_begun a b (line (witness_line c.witness)) second) g in
-    more_text w a u (line (numbered (codes "bound") c.bound)) (line (witness_line c.witness) ++ (line (static_line c.bound o) ++ [])) first
-    (more_text a b u (line (witness_line c.witness)) (line (static_line c.bound o) ++ []) second
-    (third ∙ ap (with_text b) (sym (append-nil (line (static_line c.bound o))))))
+    let third : u ≡ with_text b (line (static_line device c.bound o)) = k.line b u (static_line device c.bound o) (none_begun a b (line (witness_line c.witness)) second) g in
+    more_text w a u (line (numbered (codes "bound") c.bound)) (line (witness_line c.witness) ++ (line (static_line device c.bound o) ++ [])) first
+    (more_text a b u (line (witness_line c.witness)) (line (static_line device c.bound o) ++ []) second
+    (third ∙ ap (with_text b) (sym (append-nil (line (static_line device c.bound o))))))
 
 -- a heading, and the lines of instances
 pub report_written : {A : Type 0} (words : A → List (List ℕ)) (w v u : Written) (front : List (List (List ℕ))) (xs : List A) → v ≡ with_text w (flat_map line front) → u ≡ with_text v (text words xs)

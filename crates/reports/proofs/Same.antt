@@ -23,7 +23,7 @@ same_items names others [] same = refl
 same_items names others (x ∷ xs) same = rw (same_data names others x same, same_items names others xs same) refl
 
 pub same_reports : NamesThatSayTheSame
-same_reports c names others static_end same =
+same_reports device c names others static_end same =
     (rw (same_lines names others c.instances same) refl, rw (same_items names others c.instances same) refl)
 
 pub ascii_names_stay : AsciiNamesStay

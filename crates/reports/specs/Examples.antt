@@ -5,9 +5,11 @@ use Rattle.sb_base.specs.Digits.{hex_digits}
 use Rattle.serde_json.proofs.OnLiterals.{serde_json_on_literals}
 use Rattle.serde_json.specs.Data.{string}
 use Rattle.serde_json.specs.Written.{compact_text}
+use Rattle.avr_model.specs.declared.device.Device.TheVariants.{M48, M328}
 use Rattle.mask_states.specs.declared.keys.Kind.TheVariants.{Root, Call, Vector}
 use Rattle.witness_replay.specs.Spelling.{Plan}
 use Rattle.certificate.specs.declared.instance.Inst.{Inst}
+use Rattle.certificate.specs.declared.version.Version.TheVariants.{Two}
 use Rattle.certificate.specs.Claims.{Claim}
 use Rattle.reports.specs.Report.{room, fits_word, text_lines}
 use Rattle.reports.specs.Json.{json_text}
@@ -21,11 +23,11 @@ blinker_insts =
 
 -- a certificate of these instances; nodes aren't reported
 abbrev pub blinker : Option Plan → Claim
-blinker witness = record { bound = 9; assumptions = []; instances = blinker_insts; nodes = []; witness = witness }
+blinker witness = record { version = Two; bound = 9; assumptions = []; instances = blinker_insts; nodes = []; witness = witness }
 
 -- ---- lines
 
-three_instances : text_lines (blinker None) [] None
+three_instances : text_lines M328 (blinker None) [] None
     ≡ (codes "bound" ∷ codes "9" ∷ []) ∷ (codes "witness" ∷ codes "open" ∷ []) ∷ (codes "static" ∷ codes "none" ∷ [])
     ∷ (codes "inst" ∷ codes "root" ∷ codes "0000" ∷ codes "0000000" ∷ codes "0" ∷ codes "-" ∷ codes "need" ∷ codes "9" ∷ [])
     ∷ (codes "inst" ∷ codes "call" ∷ codes "0040" ∷ codes "0000000" ∷ codes "0" ∷ codes "-" ∷ codes "need" ∷ codes "7" ∷ [])
@@ -34,20 +36,31 @@ unfolding digits hex_digits
 three_instances = refl
 
 -- static data that ends at 0x0104 leaves 2,044 bytes
-room_behind : room 0x0104 ≡ 2044
+room_behind : room M328 0x0104 ≡ 2044
 room_behind = refl
 
-just_fits : fits_word 2044 0x0104 ≡ codes "yes"
+just_fits : fits_word M328 2044 0x0104 ≡ codes "yes"
 just_fits = refl
 
-one_too_many : fits_word 2045 0x0104 ≡ codes "no"
+one_too_many : fits_word M328 2045 0x0104 ≡ codes "no"
 one_too_many = refl
+
+-- on a small device static data may end behind SRAM, and then nothing fits
+small_room : room M48 0x0104 ≡ 508
+small_room = refl
+
+no_room : room M48 0x0301 ≡ 0
+no_room = refl
+
+nothing_fits : fits_word M48 0 0x0301 ≡ codes "no"
+nothing_fits = refl
 
 -- ---- JSON
 
 -- the root alone
 abbrev loop : Claim
 loop = record {
+  version = Two;
   bound = 0;
   assumptions = [];
   instances = record { key = record { kind = Root; entry = 0; masks = 0; i = false }; rank = 0; need = 0 } ∷ [];
@@ -55,7 +68,7 @@ loop = record {
   witness = Some (record { fill = 0; runs = [] });
 }
 
-no_names : json_text loop [] None
+no_names : json_text M328 loop [] None
     ≡ codes "{\"bound\":0,\"fits\":null,\"instances\":[{\"enables\":0,\"entry\":0,\"i\":0,\"kind\":\"root\",\"name\":null,\"need\":0}],\"room\":null,\"static\":null,\"witness\":\"attained\"}\n"
 unfolding digits serde_json_on_literals
 no_names = refl
@@ -66,7 +79,7 @@ unfolding serde_json_on_literals
 escaped = refl
 
 -- static data that ends at 0x0104
-with_static_data : json_text (record loop { instances = [] }) [] (Some 0x0104)
+with_static_data : json_text M328 (record loop { instances = [] }) [] (Some 0x0104)
     ≡ codes "{\"bound\":0,\"fits\":\"yes\",\"instances\":[],\"room\":2044,\"static\":260,\"witness\":\"attained\"}\n"
 unfolding digits serde_json_on_literals
 with_static_data = refl

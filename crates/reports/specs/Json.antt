@@ -4,6 +4,7 @@ use Rattle.std.specs.Str.Lossy.{utf8_lossy}
 use Rattle.serde_json.specs.Data.{Data, null, number, unsigned, string, array, object, member, no_members}
 use Rattle.serde_json.specs.View.{items_of}
 use Rattle.serde_json.specs.Written.{compact_text}
+use Rattle.avr_model.specs.declared.device.Device.{Device}
 use Rattle.flash_image.specs.Naming.{Named, least_name}
 use Rattle.witness_replay.specs.Spelling.{Plan}
 use Rattle.certificate.specs.declared.instance.Inst.{Inst}
@@ -17,13 +18,13 @@ count n = number (unsigned n)
 -- ---- members
 
 -- yes or no, and null without static data
-abbrev pub fits_data : ℕ → Option ℕ → Data
-fits_data bound None = null
-fits_data bound (Some end) = string (fits_word bound end)
+abbrev pub fits_data : Device → ℕ → Option ℕ → Data
+fits_data device bound None = null
+fits_data device bound (Some end) = string (fits_word device bound end)
 
-abbrev pub room_data : Option ℕ → Data
-room_data None = null
-room_data (Some end) = count (room end)
+abbrev pub room_data : Device → Option ℕ → Data
+room_data device None = null
+room_data device (Some end) = count (room device end)
 
 abbrev pub static_data : Option ℕ → Data
 static_data None = null
@@ -53,16 +54,16 @@ inst_data names x = object
 abbrev pub insts_data : List Named → List Inst → Data
 insts_data names insts = array (items_of (map (inst_data names) insts))
 
--- A report of a certificate: names are those of words of flash, and static data ends at this data address. Keys ascend.
-abbrev pub report_data : Claim → List Named → Option ℕ → Data
-report_data c names static_end = object
+-- A report of a certificate for a device: names are those of words of flash, and static data ends at this data address. Keys ascend.
+abbrev pub report_data : Device → Claim → List Named → Option ℕ → Data
+report_data device c names static_end = object
     (member (codes "bound") (count c.bound)
-    (member (codes "fits") (fits_data c.bound static_end)
+    (member (codes "fits") (fits_data device c.bound static_end)
     (member (codes "instances") (insts_data names c.instances)
-    (member (codes "room") (room_data static_end)
+    (member (codes "room") (room_data device static_end)
     (member (codes "static") (static_data static_end)
     (member (codes "witness") (witness_data c.witness) no_members))))))
 
 -- the line of the object, without spaces
-abbrev pub json_text : Claim → List Named → Option ℕ → List ℕ
-json_text c names static_end = compact_text (report_data c names static_end) ++ 10 ∷ []
+abbrev pub json_text : Device → Claim → List Named → Option ℕ → List ℕ
+json_text device c names static_end = compact_text (report_data device c names static_end) ++ 10 ∷ []

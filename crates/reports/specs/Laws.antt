@@ -2,6 +2,7 @@
 use Rattle.std.specs.Prelude.{ℕ, ◌≡◌, List, Option, Some}
 use Rattle.std.specs.Str.{IsAscii}
 use Rattle.serde_json.specs.Data.{string}
+use Rattle.avr_model.specs.declared.device.Device.{Device}
 use Rattle.flash_image.specs.Naming.{Named, SayTheSame}
 use Rattle.certificate.specs.Claims.{Claim}
 use Rattle.reports.specs.Report.{plain_text}
@@ -10,8 +11,8 @@ use Rattle.reports.specs.Json.{name_data, json_text}
 -- A report depends on what the names say, and not on how they are listed.
 abbrev pub NamesThatSayTheSame : Type 0
 NamesThatSayTheSame =
-    (c : Claim) (names others : List Named) (static_end : Option ℕ) → SayTheSame names others
-    → (plain_text c names static_end ≡ plain_text c others static_end) × (json_text c names static_end ≡ json_text c others static_end)
+    (device : Device) (c : Claim) (names others : List Named) (static_end : Option ℕ) → SayTheSame names others
+    → (plain_text device c names static_end ≡ plain_text device c others static_end) × (json_text device c names static_end ≡ json_text device c others static_end)
 
 -- A name of ASCII characters, as all names of an ELF file are, stands in JSON as it is.
 abbrev pub AsciiNamesStay : Type 0

@@ -1,7 +1,8 @@
 -- What a report of a certificate tells, as lines of words. Source: own.
 use Rattle.std.specs.Prelude.{ℕ, ◌+◌, ◌-◌, nat_le, Bool, List, [], ◌∷◌, ◌++◌, map, codes, decimal, Option, Some, None, if◌then◌else◌}
 use Rattle.std.specs.List.{flat_map}
-use Rattle.avr_model.specs.declared.device.TheConstants.{RAMEND}
+use Rattle.avr_model.specs.declared.device.Device.{Device}
+use Rattle.avr_model.specs.Devices.{ramend}
 use Rattle.sb_base.specs.Digits.{hex_digits}
 use Rattle.sb_base.specs.Lines.{line}
 use Rattle.flash_image.specs.Naming.{Named, least_name}
@@ -13,20 +14,20 @@ use Rattle.cert_words.specs.Text.{numbered, open_line, attained_line}
 
 -- ---- the room of the stack
 
--- the data address behind SRAM
-abbrev pub sram_end : ℕ
-sram_end = RAMEND + 1
+-- the data address behind a device's SRAM
+abbrev pub sram_end : Device → ℕ
+sram_end device = ramend device + 1
 
 -- how many bytes of SRAM are left behind the static data that ends at this data address
-abbrev pub room : ℕ → ℕ
-room static_end = sram_end - static_end
+abbrev pub room : Device → ℕ → ℕ
+room device static_end = sram_end device - static_end
 
 -- a stack of so many bytes doesn't meet the static data
-abbrev pub fits : ℕ → ℕ → Bool
-fits bound static_end = nat_le (static_end + bound) sram_end
+abbrev pub fits : Device → ℕ → ℕ → Bool
+fits device bound static_end = nat_le (static_end + bound) (sram_end device)
 
-abbrev pub fits_word : ℕ → ℕ → List ℕ
-fits_word bound static_end = if fits bound static_end then codes "yes" else codes "no"
+abbrev pub fits_word : Device → ℕ → ℕ → List ℕ
+fits_word device bound static_end = if fits device bound static_end then codes "yes" else codes "no"
 
 -- ---- lines
 
@@ -34,10 +35,10 @@ abbrev pub witness_line : Option Plan → List (List ℕ)
 witness_line None = open_line
 witness_line (Some plan) = attained_line
 
-abbrev pub static_line : ℕ → Option ℕ → List (List ℕ)
-static_line bound None = codes "static" ∷ codes "none" ∷ []
-static_line bound (Some end) =
-    codes "static" ∷ hex_digits end 4 ∷ codes "room" ∷ decimal (room end) ∷ codes "fits" ∷ fits_word bound end ∷ []
+abbrev pub static_line : Device → ℕ → Option ℕ → List (List ℕ)
+static_line device bound None = codes "static" ∷ codes "none" ∷ []
+static_line device bound (Some end) =
+    codes "static" ∷ hex_digits end 4 ∷ codes "room" ∷ decimal (room device end) ∷ codes "fits" ∷ fits_word device bound end ∷ []
 
 -- a name, or a hyphen where there is none
 abbrev pub name_word : Option (List ℕ) → List ℕ
@@ -52,13 +53,13 @@ inst_line names x =
 -- ---- the whole
 
 -- the lines before those of instances
-abbrev pub heading : Claim → Option ℕ → List (List (List ℕ))
-heading c static_end = numbered (codes "bound") c.bound ∷ witness_line c.witness ∷ static_line c.bound static_end ∷ []
+abbrev pub heading : Device → Claim → Option ℕ → List (List (List ℕ))
+heading device c static_end = numbered (codes "bound") c.bound ∷ witness_line c.witness ∷ static_line device c.bound static_end ∷ []
 
--- The lines of a report of a certificate, each by its words: names are those of words of flash, and static data ends at this data
--- address.
-abbrev pub text_lines : Claim → List Named → Option ℕ → List (List (List ℕ))
-text_lines c names static_end = heading c static_end ++ map (inst_line names) c.instances
+-- The lines of a report of a certificate for a device, each by its words: names are those of words of flash, and static data ends at
+-- this data address.
+abbrev pub text_lines : Device → Claim → List Named → Option ℕ → List (List (List ℕ))
+text_lines device c names static_end = heading device c static_end ++ map (inst_line names) c.instances
 
-abbrev pub plain_text : Claim → List Named → Option ℕ → List ℕ
-plain_text c names static_end = flat_map line (text_lines c names static_end)
+abbrev pub plain_text : Device → Claim → List Named → Option ℕ → List ℕ
+plain_text device c names static_end = flat_map line (text_lines device c names static_end)

@@ -9,6 +9,7 @@ ghost use Rattle.cert_words.specs.KeySpelling.{kind_word};
 ghost use Rattle.reports.specs.Json.{fits_data, room_data, static_data, witness_data, name_data, inst_data, insts_data, report_data, json_text};
 
 use crate::room::{fits_word, room};
+use avr_model::device::Device;
 use certificate::{Certificate, Inst};
 use flash_image::Names;
 use mask_states::Kind;
@@ -23,21 +24,26 @@ fn text_value(alloc: Global, text: &str) -> Result<Value, AllocError>
 }
 
 /// Whether the stack fits beside static data.
-fn fits_value(alloc: Global, bound: u16, static_end: Option<u16>) -> Result<Value, AllocError>
-    ensures { IfOk result (λ v. view v ≡ fits_data bound static_end) }
+fn fits_value(
+    alloc: Global,
+    device: Device,
+    bound: u16,
+    static_end: Option<u16>,
+) -> Result<Value, AllocError>
+    ensures { IfOk result (λ v. view v ≡ fits_data device bound static_end) }
 {
     match static_end {
-        Some(end) => text_value(alloc, fits_word(bound, end)),
+        Some(end) => text_value(alloc, fits_word(device, bound, end)),
         None => Ok(Value::Null),
     }
 }
 
 /// The room that static data leaves.
-fn room_value(static_end: Option<u16>) -> Value
-    ensures { view result ≡ room_data static_end }
+fn room_value(device: Device, static_end: Option<u16>) -> Value
+    ensures { view result ≡ room_data device static_end }
 {
     match static_end {
-        Some(end) => Value::from(room(end)),
+        Some(end) => Value::from(room(device, end)),
         None => Value::Null,
     }
 }
@@ -120,16 +126,17 @@ fn insts_value(alloc: Global, names: &Names, insts: &[Inst]) -> Result<Value, Al
 /// The report as a value.
 fn report_value(
     alloc: Global,
+    device: Device,
     certificate: &Certificate,
     names: &Names,
     static_end: Option<u16>,
 ) -> Result<Value, AllocError>
-    ensures { IfOk result (λ v. view v ≡ report_data certificate.now names.now static_end) }
+    ensures { IfOk result (λ v. view v ≡ report_data device certificate.now names.now static_end) }
 {
     let bound = certificate.bound();
-    let fits = fits_value(alloc, bound, static_end)?;
+    let fits = fits_value(alloc, device, bound, static_end)?;
     let instances = insts_value(alloc, names, certificate.instances())?;
-    let room = room_value(static_end);
+    let room = room_value(device, static_end);
     let end = static_value(static_end);
     let witness = witness_value(alloc, certificate)?;
     json!(in alloc; {"bound": bound, "fits": fits, "instances": instances, "room": room, "static": end, "witness": witness})
@@ -138,13 +145,14 @@ fn report_value(
 /// The text of a report's value.
 fn value_text(
     alloc: Global,
+    device: Device,
     certificate: &Certificate,
     names: &Names,
     static_end: Option<u16>,
 ) -> Result<String, AllocError>
-    ensures { IfOk result (λ s. string_bytes s ≡ compact_text (report_data certificate.now names.now static_end)) }
+    ensures { IfOk result (λ s. string_bytes s ≡ compact_text (report_data device certificate.now names.now static_end)) }
 {
-    let value = report_value(alloc, certificate, names, static_end)?;
+    let value = report_value(alloc, device, certificate, names, static_end)?;
     value.to_string(alloc)
 }
 
@@ -152,13 +160,14 @@ fn value_text(
 /// is null.
 pub fn report_json(
     alloc: Global,
+    device: Device,
     certificate: &Certificate,
     names: &Names,
     static_end: Option<u16>,
 ) -> Result<Vec<u8>, AllocError>
-    ensures { IfOk result (λ v. v.items ≡ json_text certificate.now names.now static_end) }
+    ensures { IfOk result (λ v. v.items ≡ json_text device certificate.now names.now static_end) }
 {
-    let mut text = value_text(alloc, certificate, names, static_end)?.into_bytes();
+    let mut text = value_text(alloc, device, certificate, names, static_end)?.into_bytes();
     text.push(b'\n')?;
     Ok(text)
 }

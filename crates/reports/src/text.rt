@@ -10,6 +10,7 @@ ghost use Rattle.cert_words.specs.Text.{numbered};
 ghost use Rattle.reports.specs.Report.{witness_line, static_line, name_word, inst_line, heading, plain_text};
 
 use crate::room::{fits_word, room};
+use avr_model::device::Device;
 use cert_writing::write_inst_key;
 use certificate::{Certificate, Inst};
 use flash_image::Names;
@@ -39,17 +40,22 @@ fn write_witness(out: &mut LineWriter, certificate: &Certificate) -> Result<(), 
 }
 
 /// Writes the line of static data.
-fn write_static(out: &mut LineWriter, bound: u16, static_end: Option<u16>) -> Result<(), AllocError>
-    ensures { OnOk result (out.new ≡ with_end (with_words out.old (static_line bound static_end))) }
+fn write_static(
+    out: &mut LineWriter,
+    device: Device,
+    bound: u16,
+    static_end: Option<u16>,
+) -> Result<(), AllocError>
+    ensures { OnOk result (out.new ≡ with_end (with_words out.old (static_line device bound static_end))) }
 {
     out.word(b"static")?;
     match static_end {
         Some(end) => {
             out.hex(u32::from(end), 4)?;
             out.word(b"room")?;
-            out.dec(u64::from(room(end)))?;
+            out.dec(u64::from(room(device, end)))?;
             out.word(b"fits")?;
-            out.word(fits_word(bound, end).as_bytes())?;
+            out.word(fits_word(device, bound, end).as_bytes())?;
         }
         None => out.word(b"none")?,
     }
@@ -103,30 +109,33 @@ fn write_insts(
 /// Writes the lines before those of instances.
 fn write_heading(
     out: &mut LineWriter,
+    device: Device,
     certificate: &Certificate,
     static_end: Option<u16>,
 ) -> Result<(), AllocError>
     requires { out.old.begun ≡ false }
-    ensures { OnOk result (out.new ≡ with_text out.old (flat_map line (heading certificate.now static_end))) }
+    ensures { OnOk result (out.new ≡ with_text out.old (flat_map line (heading device certificate.now static_end))) }
 {
     appending_laws();
     write_bound(out, certificate.bound())?;
     write_witness(out, certificate)?;
-    write_static(out, certificate.bound(), static_end)
+    write_static(out, device, certificate.bound(), static_end)
 }
 
-/// The report of a certificate as lines: its bound, whether a schedule attains it, how much room the stack has behind static
-/// data that ends at the data address `static_end`, and the instances with the names of their entries and their needs in bytes.
+/// The report of a certificate as lines: its bound, whether a schedule attains it, how much room the stack has in a device's
+/// SRAM behind static data that ends at the data address `static_end`, and the instances with the names of their entries and
+/// their needs in bytes.
 pub fn report_text(
     alloc: Global,
+    device: Device,
     certificate: &Certificate,
     names: &Names,
     static_end: Option<u16>,
 ) -> Result<Vec<u8>, AllocError>
-    ensures { IfOk result (λ v. v.items ≡ plain_text certificate.now names.now static_end) }
+    ensures { IfOk result (λ v. v.items ≡ plain_text device certificate.now names.now static_end) }
 {
     let mut out = LineWriter::new(alloc);
-    write_heading(&mut out, certificate, static_end)?;
+    write_heading(&mut out, device, certificate, static_end)?;
     write_insts(&mut out, alloc, names, certificate.instances())?;
     Ok(out.finish())
 }

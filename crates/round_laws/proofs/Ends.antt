@@ -3,6 +3,7 @@ use Rattle.std.proofs.Common.{◌≡◌, refl, sym, ap, ap₂, ◌∙◌, subst,
 use Rattle.std.proofs.lemmas.Bool.{cases_lt, cases_order}
 use Rattle.std.specs.FinMap.{len}
 use Rattle.avr_model.specs.declared.assumption.Entry.{Entry}
+use Rattle.avr_model.specs.Devices.{device_of}
 use Rattle.avr_model.specs.State.{SIZE}
 use Rattle.avr_model.specs.Vectors.{vector_word}
 use Rattle.mask_states.specs.declared.keys.InstKey.{InstKey}
@@ -95,7 +96,10 @@ module _ (words : List ℕ) (A : List Entry) where
           entered = λ m way into back i same enters.
               is.needs.entered inst into _ record { node = m; has = has_member f m i; same = same; at = refl; way = way; back = back; enters = enters };
         };
-        bounded = omega (arith, is.bound);
+        bounded = record {
+          enough = omega (arith, is.bound);
+          small = let s = solved.passes.shallow in let le = is.least_needs s.need s.are root_inst in omega (arith, le, s.small, is.bound);
+        };
         assumptions = is.assumptions;
       };
     };
@@ -138,7 +142,7 @@ module _ (words : List ℕ) (A : List Entry) where
   re_entry_same : (f : Family) (v word u other : ℕ) → IsReEntry words A f v word → IsReEntry words A f u other → re_entry v word ≡ re_entry u other
   re_entry_same f v word u other a b =
       let vs : v ≡ u = omega (arith, a.least b.inst u b.reaches b.kind, b.least a.inst v a.reaches a.kind) in
-      let ws : word ≡ other = sym a.entry ∙ entered_word words A f a.inst a.inst v a.reaches a.kind ∙ ap vector_word vs ∙ sym (entered_word words A f b.inst b.inst u b.reaches b.kind) ∙ b.entry in
+      let ws : word ≡ other = sym a.entry ∙ entered_word words A f a.inst a.inst v a.reaches a.kind ∙ ap (vector_word (device_of words)) vs ∙ sym (entered_word words A f b.inst b.inst u b.reaches b.kind) ∙ b.entry in
       ap₂ re_entry vs ws
 
   recursion_same : (f : Family) (word other : ℕ) → IsRecursion words A f word → IsRecursion words A f other → recursion word ≡ recursion other

@@ -188,7 +188,7 @@ raised_rises f n formed node = by (get f n.key) refl
         (λ lt. inr (insert_more f n.key (state_join t n.state) (λ u is. subst (λ x. state_rank x < state_rank (state_join t n.state)) (some_same t u (sym e ∙ is)) lt)))
         (states_rise.rises t (state_join t n.state) (offset_of n.key.sp) at.formed j.formed (join_least n.key t n.state at node).first)
 
-weight_high : (es : List (NodeKey × AbsState)) → ((n : Node) → Contains (map node_of es) n → IsNode n.key n.state) → weight_of es ≤ 299 * cells_of (map (λ (x : NodeKey × AbsState). x.0) es)
+weight_high : (es : List (NodeKey × AbsState)) → ((n : Node) → Contains (map node_of es) n → IsNode n.key n.state) → weight_of es ≤ 8459 * cells_of (map (λ (x : NodeKey × AbsState). x.0) es)
 unfolding cells_of
 weight_high [] nodes = omega arith
 weight_high (e ∷ es) nodes =

@@ -2,6 +2,7 @@
 use Rattle.std.proofs.Common.{◌≡◌, sym, ap, ◌∙◌, subst, ℕ, zero, suc, ◌+◌, ◌<◌, ◌≤◌, List, Some, Contains, arith}
 use Rattle.std.specs.FinMap.{get, empty, get-empty}
 use Rattle.avr_model.specs.declared.assumption.Entry.{Entry}
+use Rattle.avr_model.specs.Devices.{device_of}
 use Rattle.abs_state.specs.declared.state.AbsState.{AbsState}
 use Rattle.abs_state.specs.Values.{root}
 use Rattle.abs_state.proofs.AllLaws.{states_are_ordered}
@@ -134,10 +135,10 @@ vector_same : (v u : ℕ) → Vector v ≡ Vector u → v ≡ u
 vector_same v u e = cc
 
 enters_word : (words : List ℕ) (A : List Entry) (n : Node) (way : EdgeKind) (inst : InstKey) (back v : ℕ) → Enters words A n way inst back → inst.kind ≡ Vector v
-    → inst.entry ≡ vector_word v
+    → inst.entry ≡ vector_word (device_of words) v
 enters_word words A n _ _ _ v (by_call offset site clean form member) e = absurd (cc)
-enters_word words A n _ _ _ v (by_interrupt offset u clears clean form i delay enabled clearable) e = ap vector_word (vector_same u v e)
+enters_word words A n _ _ _ v (by_interrupt offset u clears clean form i delay enabled clearable) e = ap (vector_word (device_of words)) (vector_same u v e)
 
-pub entered_word : (words : List ℕ) (A : List Entry) (f : Family) (i j : InstKey) (v : ℕ) → Reaches words A f i j → j.kind ≡ Vector v → j.entry ≡ vector_word v
+pub entered_word : (words : List ℕ) (A : List Entry) (f : Family) (i j : InstKey) (v : ℕ) → Reaches words A f i j → j.kind ≡ Vector v → j.entry ≡ vector_word (device_of words) v
 entered_word words A f _ _ v (once i j offset e) kind = enters_word words A e.node e.way j e.back v e.enters kind
 entered_word words A f _ _ v (more i j k offset e rest) kind = entered_word words A f j k v rest kind

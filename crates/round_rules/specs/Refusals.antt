@@ -2,7 +2,7 @@
 use Rattle.std.specs.Prelude.{ℕ, ◌≡◌, ◌<◌, ◌≤◌, ◌⊎◌, List, Err}
 use Rattle.std.specs.FinMap.{len}
 use Rattle.avr_model.specs.declared.assumption.Entry.{Entry}
-use Rattle.avr_model.specs.State.{SIZE}
+use Rattle.avr_model.specs.Devices.{device_of, size_of}
 use Rattle.mask_states.specs.declared.keys.InstKey.{InstKey}
 use Rattle.mask_states.specs.declared.keys.Kind.TheVariants.{Vector}
 use Rattle.local_rules.specs.declared.local.Node.{Node}
@@ -72,7 +72,7 @@ pub data Test : Type 0 where
   re_entry : ℕ → ℕ → Test
   -- at this word
   recursion : ℕ → Test
-  -- the least need of the root
+  -- the least need of the root, more than the device's SRAM has bytes
   too_deep : ℕ → Test
 
 -- the first test that holds of the family
@@ -81,7 +81,7 @@ FirstHolds words A f (over limit) = IsOver f limit
 FirstHolds words A f (faulty x) = FitsLimits f × IsLeastFault words A f x
 FirstHolds words A f (re_entry v word) = FitsLimits f × HasNoFault words A f × IsReEntry words A f v word
 FirstHolds words A f (recursion word) = FitsLimits f × HasNoFault words A f × IsRecursion words A f word
-FirstHolds words A f (too_deep d) = FitsLimits f × HasNoFault words A f × IsAcyclic words A f × IsRootNeed words A f d × (SIZE < d)
+FirstHolds words A f (too_deep d) = FitsLimits f × HasNoFault words A f × IsAcyclic words A f × IsRootNeed words A f d × (size_of (device_of words) < d)
 
 -- ---- refusals
 

@@ -2,7 +2,7 @@
 use Rattle.std.specs.Prelude.{ℕ, zero, suc, ◌+◌, ◌≡◌, ◌<◌, ◌≤◌, List}
 use Rattle.std.specs.FinMap.{insert, empty}
 use Rattle.avr_model.specs.declared.assumption.Entry.{Entry}
-use Rattle.avr_model.specs.State.{SIZE}
+use Rattle.avr_model.specs.Devices.{device_of, size_of}
 use Rattle.abs_state.specs.Values.{root}
 use Rattle.mask_states.specs.declared.keys.InstKey.{InstKey}
 use Rattle.mask_states.specs.declared.keys.EdgeKind.{EdgeKind}
@@ -49,11 +49,11 @@ pub record IsRootNeed (words : List ℕ) (A : List Entry) (f : Family) (d : ℕ)
   pub is : need root_inst ≡ d
   pub least : (other : InstKey → ℕ) → AreNeeds words A f other → d ≤ other root_inst
 
--- the least need of the root is no more than SRAM has bytes: some needs keep it there
+-- the least need of the root is no more than the device's SRAM has bytes: some needs keep it there
 pub record IsShallow (words : List ℕ) (A : List Entry) (f : Family) : Type 0 where
   pub need : InstKey → ℕ
   pub are : AreNeeds words A f need
-  pub small : need root_inst ≤ SIZE
+  pub small : need root_inst ≤ size_of (device_of words)
 
 -- ---- rounds
 

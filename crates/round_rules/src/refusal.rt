@@ -16,7 +16,7 @@ pub enum Refusal {
     UntrackedSp(u16),
     /// This word is no instruction.
     Unsupported(u16),
-    /// The stack would pass 2,048 bytes: at this word with this offset, or at word 0 with what the whole needs.
+    /// The stack would pass the device's SRAM: at this word with this offset, or at word 0 with what the whole needs.
     TooDeep(u16, u32),
     /// There are more nodes or cells than a certificate may have.
     TooLarge(Limit),

@@ -2,6 +2,7 @@
 use Rattle.std.specs.Prelude.{◌≡◌, ◌↔◌, ◌⊎◌, List, [], Option, Some, Contains}
 use Rattle.mask_states.specs.declared.keys.InstKey.{InstKey}
 use Rattle.mask_states.specs.declared.keys.NodeKey.{NodeKey}
+use Rattle.mask_states.specs.declared.keys.EdgeKind.TheVariants as kind
 use Rattle.mask_states.specs.declared.keys.SpForm.TheVariants.{Closed}
 use Rattle.mask_states.specs.Keys.{offset_of}
 use Rattle.local_rules.specs.declared.local.Exit.{Exit}
@@ -33,10 +34,10 @@ HasPort gs y = IsPort gs y.0 y.1
 
 -- a node that enters an instance this way, and one that leaves its instance
 abbrev pub caller : NodeKey → Way → Port
-caller k w = record { node = k; inst = w.inst; back = w.back; exit = record { masks = k.masks; i = k.i; delay = k.delay } }
+caller k w = record { node = k; kind = w.kind; inst = w.inst; back = w.back; exit = record { masks = k.masks; i = k.i; delay = k.delay } }
 
 abbrev pub leaver : NodeKey → Exit → Port
-leaver k x = record { node = k; inst = k.inst; back = k.pc; exit = x }
+leaver k x = record { node = k; kind = kind.Return; inst = k.inst; back = k.pc; exit = x }
 
 abbrev pub entrance : NodeKey → Way → Entrance
 entrance k w = record { from = k.inst; into = w.inst; offset = offset_of k.sp }

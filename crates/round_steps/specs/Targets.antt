@@ -22,34 +22,38 @@ abbrev pub entry_node : AbsState → Way → Node
 entry_node s w = record { key = entry_key w.inst; state = entered s }
 
 -- back to a node, if the states fit
-abbrev pub returned_as : NodeKey → ℕ → Exit → Option AbsState → List Node
-returned_as k back x None = []
-returned_as k back x (Some after) = record { key = returned_key k back x; state = after } ∷ []
+abbrev pub returned_as : NodeKey → Way → Exit → Option AbsState → List Node
+returned_as k w x None = []
+returned_as k w x (Some after) = record { key = returned_key w.kind k w.back x; state = after } ∷ []
 
-abbrev pub returned_to : NodeKey → AbsState → ℕ → Exit → AbsState → List Node
-returned_to k s back x leaving = returned_as k back x (returned s leaving)
+abbrev pub returned_to : NodeKey → AbsState → Way → Exit → AbsState → List Node
+returned_to k s w x leaving = returned_as k w x (returned s leaving)
 
 -- back to a node from one that leaves what it enters
-abbrev pub back_from : NodeKey → AbsState → ℕ → Exit → Option AbsState → List Node
-back_from k s back x None = []
-back_from k s back x (Some leaving) = returned_to k s back x leaving
+abbrev pub back_from : NodeKey → AbsState → Way → Exit → Option AbsState → List Node
+back_from k s w x None = []
+back_from k s w x (Some leaving) = returned_to k s w x leaving
 
-abbrev pub back_at : Family → NodeKey → AbsState → ℕ → Port → List Node
-back_at f k s back p = back_from k s back p.exit (get f p.node)
+abbrev pub back_at : Family → NodeKey → AbsState → Way → Port → List Node
+back_at f k s w p = back_from k s w p.exit (get f p.node)
 
-abbrev pub backs_by : Family → NodeKey → AbsState → ℕ → List Port → List Node
-backs_by f k s back = gathered (back_at f k s back)
+abbrev pub backs_by : Family → NodeKey → AbsState → Way → List Port → List Node
+backs_by f k s w = gathered (back_at f k s w)
 
 abbrev pub backs_in : Family → Groups → NodeKey → AbsState → Way → List Node
-backs_in f leavers k s w = backs_by f k s w.back (ports_at leavers w.inst)
+backs_in f leavers k s w = backs_by f k s w (ports_at leavers w.inst)
 
 abbrev pub all_backs : Family → Groups → NodeKey → AbsState → List Way → List Node
 all_backs f leavers k s = gathered (backs_in f leavers k s)
 
+-- how the port's node enters
+abbrev pub way_of : Port → Way
+way_of p = record { kind = p.kind; inst = p.inst; back = p.back }
+
 -- from a node to one that enters what it leaves
 abbrev pub onward_from : AbsState → Exit → Port → Option AbsState → List Node
 onward_from leaving x p None = []
-onward_from leaving x p (Some s) = returned_to p.node s p.back x leaving
+onward_from leaving x p (Some s) = returned_to p.node s (way_of p) x leaving
 
 abbrev pub onward_at : Family → AbsState → Exit → Port → List Node
 onward_at f leaving x p = onward_from leaving x p (get f p.node)

@@ -12,7 +12,7 @@ use call_graph::ways::Way;
 use family_table::{Port, Ports};
 use instance_nesting::Nesting;
 use local_rules::Exit;
-use mask_states::NodeKey;
+use mask_states::{EdgeKind, NodeKey};
 use std::alloc::{AllocError, Global};
 
 /// What is noted of nodes.
@@ -32,6 +32,7 @@ fn caller(key: &NodeKey, way: &Way) -> Port
 {
     Port {
         node: *key,
+        kind: way.kind,
         inst: way.inst,
         back: way.back,
         exit: Exit {
@@ -48,6 +49,7 @@ fn leaver(key: &NodeKey, exit: Exit) -> Port
 {
     Port {
         node: *key,
+        kind: EdgeKind::Return,
         inst: key.inst,
         back: key.pc,
         exit,

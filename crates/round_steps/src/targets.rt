@@ -4,12 +4,12 @@ ghost use Rattle.std.specs.Prelude.{ℕ, ◌≡◌, ◌<◌, ◌++◌, map, OnOk
 ghost use Rattle.abs_state.specs.Values.{value_at};
 ghost use Rattle.abs_state.specs.Formed.{NamesRegister};
 ghost use Rattle.round_rules.specs.Families.{AreFormed};
-ghost use Rattle.round_steps.specs.Targets.{entry_node, returned_to, back_at, backs_in, all_backs, onward_at, onwards_if, targets_of, all_targets};
+ghost use Rattle.round_steps.specs.Targets.{entry_node, returned_to, back_at, way_of, backs_in, all_backs, onward_at, onwards_if, targets_of, all_targets};
 
 use crate::looking::Look;
 use crate::noting::Notes;
 use abs_state::AbsState;
-use call_graph::ways::Way;
+use call_graph::ways::{Way, returned_key};
 use family_table::{Port, Ports, Table};
 use local_rules::{Exit, Node};
 use mask_states::{InstKey, NodeKey};
@@ -49,25 +49,18 @@ fn add_return(
     alloc: Global,
     key: &NodeKey,
     state: &AbsState,
-    back: u16,
+    way: &Way,
     exit: &Exit,
     leaving: &AbsState,
 ) -> Result<(), AllocError>
     requires { (r : ℕ) → r < 32 → NamesRegister (value_at leaving.now.registers r).tag }
-    ensures { OnOk result (targets.new.items ≡ targets.old.items ++ returned_to key.now state.now back exit.now leaving.now) }
+    ensures { OnOk result (targets.new.items ≡ targets.old.items ++ returned_to key.now state.now way.now exit.now leaving.now) }
 {
     let Some(after) = state.returned(alloc, leaving)? else {
         return Ok(());
     };
     targets.push(Node {
-        key: NodeKey {
-            inst: key.inst,
-            pc: back,
-            masks: exit.masks,
-            i: exit.i,
-            delay: exit.delay,
-            sp: key.sp,
-        },
+        key: returned_key(way.kind, key, way.back, exit),
         state: after,
     })?;
     Ok(())
@@ -81,16 +74,16 @@ fn add_back(
     table: &Table,
     key: &NodeKey,
     state: &AbsState,
-    back: u16,
+    way: &Way,
     port: &Port,
 ) -> Result<(), AllocError>
     requires { AreFormed table.now }
-    ensures { OnOk result (targets.new.items ≡ targets.old.items ++ back_at table.now key.now state.now back port.now) }
+    ensures { OnOk result (targets.new.items ≡ targets.old.items ++ back_at table.now key.now state.now way.now port.now) }
 {
     let Some(leaving) = table.get(&port.node) else {
         return Ok(());
     };
-    add_return(targets, alloc, key, state, back, &port.exit, leaving)
+    add_return(targets, alloc, key, state, way, &port.exit, leaving)
 }
 
 fn add_backs(
@@ -109,7 +102,7 @@ fn add_backs(
         return Ok(());
     };
     for at in 0..ports.len() {
-        add_back(targets, alloc, table, key, state, way.back, &ports[at])?;
+        add_back(targets, alloc, table, key, state, way, &ports[at])?;
     }
     Ok(())
 }
@@ -134,6 +127,17 @@ fn add_all_backs(
 
 // ---- to the nodes that enter what a node leaves
 
+// How the port's node enters.
+fn way_of(port: &Port) -> Way
+    ensures { result ≡ way_of port.now }
+{
+    Way {
+        kind: port.kind,
+        inst: port.inst,
+        back: port.back,
+    }
+}
+
 fn add_onward(
     targets: &mut Vec<Node>,
     alloc: Global,
@@ -148,7 +152,15 @@ fn add_onward(
     let Some(state) = table.get(&port.node) else {
         return Ok(());
     };
-    add_return(targets, alloc, &port.node, state, port.back, exit, leaving)
+    add_return(
+        targets,
+        alloc,
+        &port.node,
+        state,
+        &way_of(port),
+        exit,
+        leaving,
+    )
 }
 
 fn add_onwards(

@@ -1,6 +1,8 @@
 -- The certificate of what was worked out.
 use Rattle.std.proofs.Common.{◌≡◌, sym, ◌∙◌, subst, ℕ, ◌≤◌, List, slice_index, arith}
 use Rattle.avr_model.specs.declared.assumption.Entry.{Entry}
+use Rattle.avr_model.specs.Devices.{device_of}
+use Rattle.avr_model.proofs.AllLaws.{devices_are_alike}
 use Rattle.vector_table.specs.Entries.{AreEntries}
 use Rattle.local_rules.specs.declared.local.Node.{Node}
 use Rattle.edge_rules.specs.Expansion.{Seeds}
@@ -35,7 +37,7 @@ module _ (words : List ℕ) (A : List Entry) (f : Family) (nodes : List Node) (i
     }
 
     pub bound_small : (bound : ℕ) → bound ≡ slice_index needs 0 → bound ≤ 2048
-    bound_small bound e = let le = law.bound words A solved.0 f insts seeds solved.1 parts in omega (arith, le, e)
+    bound_small bound e = let le = law.bound words A solved.0 f insts seeds solved.1 parts in omega (arith, le, e, devices_are_alike.most_bytes (device_of words))
 
     pub claim : (bound : ℕ) (entries : List Entry) → bound ≡ slice_index needs 0 → entries ≡ A → AreEntries A → IsClaim (claim_of bound entries insts seeds)
     claim bound entries e same fit =

@@ -1,10 +1,14 @@
 -- The instances of a solved family are ones that may stand in a certificate.
-use Rattle.std.proofs.Common.{◌≡◌, refl, sym, ap, ◌∙◌, subst, ℕ, ◌^◌, ◌<◌, Bool, true, false, cond, ◌&&◌, nat_lt, List, Some, None, arith}
+use Rattle.std.proofs.Common.{◌≡◌, refl, sym, ap, ◌∙◌, subst, ℕ, ◌^◌, ◌<◌, Bool, true, false, cond, ◌==◌, ◌&&◌, ◌||◌, ◌-◌, ◌*◌, not, nat_lt, List, Some, None, arith}
+use Rattle.std.specs.Prelude.{nat_le}
 use Rattle.std.proofs.lemmas.Bool.Decides.{nat_tests}
 use Rattle.std.specs.FinMap.{get, retain_keys, get-retain_keys}
 use Rattle.std.specs.declared.cmp.Ordering.TheVariants.{Equal}
 use Rattle.avr_model.specs.declared.assumption.Entry.{Entry}
 use Rattle.avr_model.specs.Image.{WORDS}
+use Rattle.avr_model.specs.declared.device.Device.{Device}
+use Rattle.avr_model.specs.declared.device.Device.TheVariants.{M48, M88, M168, M328}
+use Rattle.avr_model.specs.Devices.{device_of}
 use Rattle.avr_model.specs.Vectors.{is_enabled, vector_word}
 use Rattle.abs_state.specs.declared.state.AbsState.{AbsState}
 use Rattle.abs_state.proofs.AllLaws.{states_are_ordered}
@@ -20,7 +24,7 @@ use Rattle.edge_rules.specs.declared.edge.Edge.{Edge}
 use Rattle.edge_rules.specs.Edges.{raw_of, Enters, by_call, by_interrupt, IsEdge, moving, entering, returning, target}
 use Rattle.edge_laws.specs.Laws.{with_state}
 use Rattle.edge_laws.proofs.AllLaws.{edges_lead_to_nodes, edges_grow}
-use Rattle.certificate.specs.Insts.{fits_kind}
+use Rattle.certificate.specs.Insts.{is_vector_word, fits_kind}
 use Rattle.certificate.specs.Valid.{reset_node}
 use Rattle.round_rules.specs.Families.{Family, nodes_of, Lands, Below, AreFormed, HasInst, HasNoFault, IsClosed}
 use Rattle.round_rules.specs.Refusals.{IsSolved}
@@ -34,8 +38,31 @@ fits k = fits_kind k.kind k.entry k.masks k.i && nat_lt k.masks (2 ^ 25)
 call_fits : (entry masks : ℕ) → entry < WORDS → masks < 2 ^ 25 → (nat_lt entry WORDS && nat_lt masks (2 ^ 25)) ≡ true
 call_fits entry masks a b = grind (arith, nat_tests)
 
-vector_fits : (enables v masks : ℕ) → is_enabled enables v ≡ true → masks < 2 ^ 25 → fits_kind (Vector v) (vector_word v) masks false && nat_lt masks (2 ^ 25) ≡ true
-vector_fits enables v masks e b = grind (arith, nat_tests)
+eq_self : (n : ℕ) → (n == n) ≡ true
+eq_self n = grind (arith, nat_tests)
+
+or_first : (a b : Bool) → a ≡ true → (a || b) ≡ true
+or_first true b e = refl
+or_first false b e = absurd (cc)
+
+or_second : (a b : Bool) → b ≡ true → (a || b) ≡ true
+or_second true b e = refl
+or_second false b e = e
+
+-- a vector's word on each device is one that an entry may be
+vector_is : (device : Device) (v : ℕ) → is_vector_word v (vector_word device v) ≡ true
+vector_is M48 v = or_second (v - 1 == 2 * (v - 1)) (v - 1 == v - 1) (eq_self (v - 1))
+vector_is M88 v = or_second (v - 1 == 2 * (v - 1)) (v - 1 == v - 1) (eq_self (v - 1))
+vector_is M168 v = or_first (2 * (v - 1) == 2 * (v - 1)) (2 * (v - 1) == v - 1) (eq_self (2 * (v - 1)))
+vector_is M328 v = or_first (2 * (v - 1) == 2 * (v - 1)) (2 * (v - 1) == v - 1) (eq_self (2 * (v - 1)))
+
+fits_if : (enables v masks : ℕ) (is : Bool) → is_enabled enables v ≡ true → masks < 2 ^ 25 → is ≡ true
+    → (nat_le 2 v && nat_le v 26 && is && not false) && nat_lt masks (2 ^ 25) ≡ true
+fits_if enables v masks is e b t = grind (arith, nat_tests)
+
+vector_fits : (device : Device) (enables v masks : ℕ) → is_enabled enables v ≡ true → masks < 2 ^ 25
+    → fits_kind (Vector v) (vector_word device v) masks false && nat_lt masks (2 ^ 25) ≡ true
+vector_fits device enables v masks e b = fits_if enables v masks (is_vector_word v (vector_word device v)) e b (vector_is device v)
 
 -- an entered instance fits
 entered_fits : (words : List ℕ) (A : List Entry) (n : Node) (way : EdgeKind) (inst : InstKey) (back : ℕ) → IsNode n.key n.state → Enters words A n way inst back → fits inst ≡ true
@@ -43,7 +70,7 @@ entered_fits words A n way inst back node enters = let to = edges_lead_to_nodes.
   where
     by : (way : EdgeKind) (inst : InstKey) (back : ℕ) → Enters words A n way inst back → inst.entry < WORDS → inst.masks < 2 ^ 25 → fits inst ≡ true
     by _ _ _ (by_call offset site clean form member) word masks = call_fits _ _ word masks
-    by _ _ _ (by_interrupt offset v clears clean form i delay enabled clearable) word masks = vector_fits n.key.masks v _ enabled masks
+    by _ _ _ (by_interrupt offset v clears clean form i delay enabled clearable) word masks = vector_fits (device_of words) n.key.masks v _ enabled masks
 
 -- the instance of an edge's target fits where the node's own does
 target_fits : (words : List ℕ) (A : List Entry) (nodes : List Node) (n : Node) (e : Edge) → IsNode n.key n.state → fits n.key.inst ≡ true → IsEdge words A nodes n e → fits e.to.inst ≡ true

@@ -8,7 +8,8 @@ use Rattle.std.specs.FinMap.{entries}
 use Rattle.std.specs.List.{AllByRecursion}
 use Rattle.std.specs.List.Sorted.{IsStrictlySortedBy}
 use Rattle.avr_model.specs.declared.assumption.Entry.{Entry}
-use Rattle.avr_model.specs.State.{SIZE}
+use Rattle.avr_model.specs.Devices.{device_of, size_of}
+use Rattle.avr_model.proofs.AllLaws.{devices_are_alike}
 use Rattle.abs_state.specs.declared.state.AbsState.{AbsState}
 use Rattle.vector_table.specs.Entries.{AreEntries}
 use Rattle.mask_states.specs.declared.keys.InstKey.{InstKey}
@@ -105,7 +106,7 @@ keys_of_nodes [] = refl
 keys_of_nodes (e ∷ es) = ap (λ (l : List NodeKey). e.0 ∷ l) (keys_of_nodes es)
 
 key_of_node : (k : NodeKey) (s : AbsState) → IsNode k s → IsKey k
-key_of_node k s node = record { word = node.word; small = node.small; masks = node.masks; fits = node.fits }
+key_of_node k s node = record { word = node.word; small = node.small; masks = node.masks; fits = node.fits; pick = node.pick }
 
 fits_both : (a : Bool) (masks : ℕ) → (a && nat_lt masks (2 ^ 25)) ≡ true → (a ≡ true) × (masks < 2 ^ 25)
 fits_both true masks e = (refl, grind (arith, nat_tests))
@@ -157,8 +158,11 @@ module _ (words : List ℕ) (A : List Entry) (n : ℕ) (f : Family) (insts : Lis
   root_need : IsRootNeed words A f (slice_index parts.needs 0)
   root_need = graphs_tell.root words A f keys gs parts.ranks parts.needs told parts.least
 
-  pub bound_small : slice_index parts.needs 0 ≤ SIZE
+  pub bound_small : slice_index parts.needs 0 ≤ size_of (device_of words)
   bound_small = let s = solved.passes.shallow in let le = root_need.least s.need s.are in omega (arith, le, s.small)
+
+  bound_fits : slice_index parts.needs 0 ≤ 2048
+  bound_fits = omega (arith, bound_small, devices_are_alike.most_bytes (device_of words))
 
   bound_is : slice_index parts.needs 0 ≡ need_in insts root_inst
   bound_is =
@@ -199,7 +203,7 @@ module _ (words : List ℕ) (A : List Entry) (n : ℕ) (f : Family) (insts : Lis
         kind = fit.0;
         masks = fit.1;
         rank = omega (arith, low, few_graph);
-        need = omega (arith, under, at, bound_small, bound_is, need_is root_inst);
+        need = omega (arith, under, at, bound_fits, bound_is, need_is root_inst);
       })
 
   -- ---- nodes
@@ -229,7 +233,7 @@ module _ (words : List ℕ) (A : List Entry) (n : ℕ) (f : Family) (insts : Lis
 
   pub claim : AreEntries A → IsClaim (claim_of (slice_index parts.needs 0) A insts seeds)
   claim entries_fit = record {
-    bound_fits = bound_small;
+    bound_fits = bound_fits;
     entries_fit = entries_fit;
     insts_fit = all_of IsInst insts is_inst;
     insts_ascend = subst (IsStrictlySortedBy inst_cmp) (sym are_keys) parts.of.ascending;
@@ -239,10 +243,12 @@ module _ (words : List ℕ) (A : List Entry) (n : ℕ) (f : Family) (insts : Lis
     nodes_ascend = subst (IsStrictlySortedBy node_cmp) (sym are_node_keys) (ascending f);
     few_nodes = omega (arith, parts.forms.count, few words A n f solved);
     few_cells = subst (λ (l : List NodeKey). cells_of l ≤ 8388608) (sym (are_node_keys ∙ keys_of_nodes (entries f))) solved.passes.fits.few_cells;
+    of_version = tt;
   }
 
   pub solution : IsSolution words A f (claim_of (slice_index parts.needs 0) A insts seeds)
   solution = record {
+    version = refl;
     expands = filled_nodes;
     sparse = sparse words A f seeds parts.forms;
     instances = has_inst;

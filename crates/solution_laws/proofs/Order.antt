@@ -1,5 +1,5 @@
 -- Ascending lists, and the root before all.
-use Rattle.std.proofs.Common.{◌≡◌, refl, sym, ap, ◌∙◌, subst, ℕ, zero, suc, ◌<◌, inl, inr, Bool, true, false, cond, ◌==◌, nat_lt, List, [], ◌∷◌, length, length-append, map, Some, slice_get, arith}
+use Rattle.std.proofs.Common.{◌≡◌, refl, sym, ap, ◌∙◌, subst, ℕ, zero, suc, ◌<◌, inl, inr, Bool, true, false, cond, ◌==◌, nat_lt, List, [], ◌∷◌, length, length-append, map, Option, Some, None, slice_get, ◌++◌, arith}
 use Rattle.std.proofs.lemmas.Bool.{cases_order}
 use Rattle.std.proofs.lemmas.Bool.Decides.{nat_tests}
 use Rattle.std.proofs.lemmas.Option.{none-some, same_Some}
@@ -21,7 +21,7 @@ use Rattle.mask_states.specs.declared.keys.Kind.TheVariants.{Root, Call, Vector}
 use Rattle.mask_states.specs.declared.keys.NodeKey.{NodeKey}
 use Rattle.mask_states.specs.declared.keys.SpForm.{SpForm}
 use Rattle.mask_states.specs.declared.keys.SpForm.TheVariants.{Closed, Open}
-use Rattle.mask_states.specs.Keys.{root_inst, entry_key, kind_numbers, form_numbers, inst_numbers, node_numbers}
+use Rattle.mask_states.specs.Keys.{root_inst, entry_key, kind_numbers, form_numbers, pick_numbers, inst_numbers, node_numbers}
 use Rattle.mask_states.specs.Order.{inst_cmp, node_cmp}
 use Rattle.mask_states.proofs.AllLaws.{keys_are_ordered}
 use Rattle.local_rules.specs.declared.local.Node.{Node}
@@ -138,14 +138,25 @@ form_length (Closed offset) = refl
 form_length (Open offset (Known byte)) = refl
 form_length (Open offset (Tag k)) = refl
 
+pick_length : (p : Option ℕ) → length (pick_numbers p) ≡ 2
+pick_length None = refl
+pick_length (Some byte) = refl
+
 inst_length : (k : InstKey) → length (inst_numbers k) ≡ 5
 unfolding inst_numbers
 inst_length k = omega (arith, length-append (kind_numbers k.kind) (k.entry ∷ k.masks ∷ from_bool k.i ∷ []), kind_length k.kind)
 
-node_length : (k : NodeKey) → length (node_numbers k) ≡ 13
+node_length : (k : NodeKey) → length (node_numbers k) ≡ 15
 unfolding node_numbers
 node_length k =
-    omega (arith, length-append (inst_numbers k.inst) (k.pc ∷ k.masks ∷ from_bool k.i ∷ from_bool k.delay ∷ form_numbers k.sp), inst_length k.inst, form_length k.sp)
+    omega (
+      arith,
+      length-append (inst_numbers k.inst) (k.pc ∷ k.masks ∷ from_bool k.i ∷ from_bool k.delay ∷ form_numbers k.sp ++ pick_numbers k.pick),
+      length-append (form_numbers k.sp) (pick_numbers k.pick),
+      inst_length k.inst,
+      form_length k.sp,
+      pick_length k.pick,
+    )
 
 pub root_inst_first : (k : InstKey) → inst_cmp k root_inst ≡ Less → ⊥
 unfolding inst_cmp inst_numbers
@@ -153,4 +164,4 @@ root_inst_first k e = let lt = least (inst_numbers k) 5 e in omega (arith, lt, i
 
 pub root_node_first : (k : NodeKey) → node_cmp k (entry_key root_inst) ≡ Less → ⊥
 unfolding node_cmp node_numbers inst_numbers
-root_node_first k e = let lt = least (node_numbers k) 13 e in omega (arith, lt, node_length k)
+root_node_first k e = let lt = least (node_numbers k) 15 e in omega (arith, lt, node_length k)

@@ -2,7 +2,7 @@
 use Rattle.std.specs.Prelude.{ℕ, ◌≡◌, ◌≢◌, ◌<◌, ◌≤◌, List, length, Some, Contains, slice_index}
 use Rattle.std.specs.FinMap.{get}
 use Rattle.avr_model.specs.declared.assumption.Entry.{Entry}
-use Rattle.avr_model.specs.State.{SIZE}
+use Rattle.avr_model.specs.Devices.{device_of, size_of}
 use Rattle.abs_state.specs.declared.state.AbsState.{AbsState}
 use Rattle.vector_table.specs.Entries.{AreEntries}
 use Rattle.mask_states.specs.declared.keys.EdgeKind.TheVariants.{Local}
@@ -53,7 +53,7 @@ GraphsAreAcyclic = (words : List ℕ) (A : List Entry) (n : ℕ) (f : Family) (g
 -- The least need of the root is no more than SRAM has bytes, and with it as bound the parts are a certificate: that of the family.
 pub record SolutionsAreMade : Type 0 where
   pub bound : (words : List ℕ) (A : List Entry) (n : ℕ) (f : Family) (insts : List Inst) (seeds : Seeds) → IsSolved words A n f
-      → (parts : AreParts words A f insts seeds) → slice_index parts.needs 0 ≤ SIZE
+      → (parts : AreParts words A f insts seeds) → slice_index parts.needs 0 ≤ size_of (device_of words)
   pub claim : (words : List ℕ) (A : List Entry) (n : ℕ) (f : Family) (insts : List Inst) (seeds : Seeds) → AreEntries A → IsSolved words A n f
       → (parts : AreParts words A f insts seeds) → IsClaim (claim_of (slice_index parts.needs 0) A insts seeds)
   pub solution : (words : List ℕ) (A : List Entry) (n : ℕ) (f : Family) (insts : List Inst) (seeds : Seeds) → IsSolved words A n f

@@ -19,7 +19,7 @@ use Rattle.round_rules.specs.declared.refusal.Refusal.TheVariants as refusal
 use Rattle.demo_image.specs.Image.{demo_words}
 use Rattle.cert_check.specs.declared.verdict.Verdict.{Verdict}
 use Rattle.cert_check.specs.declared.verdict.Verdict.TheVariants.{Accepted, Rejected}
-use Rattle.commands.specs.Commands.{Command, Check, Analyse, Run, Report, Demo, Firmware, Second, Assumptions, name_of}
+use Rattle.commands.specs.Commands.{Command, Check, Analyse, Run, Report, Demo, Firmware, Second, Assumptions, device_for, name_of}
 use Rattle.replies.specs.Firmware.{firmware_words, firmware_fault}
 use Rattle.replies.specs.Texts.{usage, read_fault, too_long, assumptions_refused, certificate_refused, why_not_status, why_not_text}
 use Rattle.replies.specs.Reading as read
@@ -154,22 +154,22 @@ schedule_apart words A (Err place) s t h = at 9 s nine_plain h.0
 schedule_apart words A (Ok r) s t h = ends_apart r.1.rest r.1.at (RunReply (replay_of words A r.0)) (run_apart (replay_of words A r.0)) s t h
 
 flash_apart : (c : Command) (firmware bytes words : List ℕ) (A : List Entry) → IsApart (FlashReply c firmware bytes words A)
-flash_apart (Check f k a) firmware bytes words A = certificate_apart words A (told_of (Check f k a) firmware) (certificate_in bytes)
-flash_apart (Analyse f a steps) firmware bytes words A = analyse_apart words A steps
-flash_apart (Run f k a) firmware bytes words A = schedule_apart words A (schedule_in _)
-flash_apart (Report f k a json) firmware bytes words A = certificate_apart words A (told_of (Report f k a json) firmware) (certificate_in bytes)
+flash_apart (Check device f k a) firmware bytes words A = certificate_apart words A (told_of (Check device f k a) firmware) (certificate_in bytes)
+flash_apart (Analyse device f a steps) firmware bytes words A = analyse_apart words A steps
+flash_apart (Run device f k a) firmware bytes words A = schedule_apart words A (schedule_in _)
+flash_apart (Report device f k a json) firmware bytes words A = certificate_apart words A (told_of (Report device f k a json) firmware) (certificate_in bytes)
 flash_apart (Demo size) firmware bytes words A = demo_apart size
 
-on_image_apart : (c : Command) (firmware second : List ℕ) (list : Option (List ℕ)) → IsApart (WithImage firmware (λ words. WithList list (λ A. FlashReply c firmware second words A)))
+on_image_apart : (c : Command) (firmware second : List ℕ) (list : Option (List ℕ)) → IsApart (WithImage (device_for c) firmware (λ words. WithList list (λ A. FlashReply c firmware second words A)))
 on_image_apart c firmware second list =
-    image_apart (firmware_fault firmware) (WithList list (λ A. FlashReply c firmware second (firmware_words firmware) A))
-    (with_list_apart list (λ A. FlashReply c firmware second (firmware_words firmware) A) (flash_apart c firmware second (firmware_words firmware)))
+    image_apart (firmware_fault (device_for c) firmware) (WithList list (λ A. FlashReply c firmware second (firmware_words (device_for c) firmware) A))
+    (with_list_apart list (λ A. FlashReply c firmware second (firmware_words (device_for c) firmware) A) (flash_apart c firmware second (firmware_words (device_for c) firmware)))
 
 work_apart : (c : Command) (firmware second : List ℕ) (list : Option (List ℕ)) → IsApart (WorkReply c firmware second list)
-work_apart (Check f k a) firmware second list = on_image_apart (Check f k a) firmware second list
-work_apart (Analyse f a steps) firmware second list = on_image_apart (Analyse f a steps) firmware second list
-work_apart (Run f k a) firmware second list = on_image_apart (Run f k a) firmware second list
-work_apart (Report f k a json) firmware second list = on_image_apart (Report f k a json) firmware second list
+work_apart (Check device f k a) firmware second list = on_image_apart (Check device f k a) firmware second list
+work_apart (Analyse device f a steps) firmware second list = on_image_apart (Analyse device f a steps) firmware second list
+work_apart (Run device f k a) firmware second list = on_image_apart (Run device f k a) firmware second list
+work_apart (Report device f k a json) firmware second list = on_image_apart (Report device f k a json) firmware second list
 work_apart (Demo size) firmware second list = demo_apart size
 
 reply_apart : (c : Command) (seen : read.Contents) → IsApart (IsReply c seen)

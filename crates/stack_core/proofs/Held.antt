@@ -1,7 +1,7 @@
 -- Answers to bytes that are held.
 use Rattle.std.proofs.Common.{◌≡◌, ◌≤◌, ◌<◌, ℕ, List, [], length, Option, Some, None, refl, sym, ap, ◌∙◌, subst, arith}
 use Rattle.sb_base.specs.Outside.{Held, Bytes, Gives, MayExceed}
-use Rattle.commands.specs.Commands.{Command, Analyse, Firmware, Second, Assumptions, name_of}
+use Rattle.commands.specs.Commands.{Command, Analyse, Firmware, Second, Assumptions, device_for, name_of}
 use Rattle.replies.specs.Reading.{Seen, Unread, Whole, Long, Contents, firmware_cap, certificate_cap, assumption_cap, second_cap, Agrees, AgreesUnder, AllAgree}
 use Rattle.replies.specs.Reply.{Reply, WithFile, WithBytes, WithOptional, WorkReply, IsReply}
 use Rattle.replies.specs.Headline.{IsSeen, AreRead, Holds, HoldsAsRead, IsLeastCertificate, Headline, AcceptsValid, IsExact}
@@ -42,17 +42,17 @@ due_to o c holds status text e h = subst (λ x. IsDue x holds status text) e h
 
 judged_headline : (judge : Command) (fw cert : List ℕ) (assume : Option (List ℕ)) (seen : Contents) (status : ℕ) (text : List ℕ) → Judges judge fw cert assume → Headline judge seen status text → status ≡ 0
     → HoldsAsRead judge assume seen text
-judged_headline _ _ _ _ seen status text (checks fw cert assume) h zero = h zero
-judged_headline _ _ _ _ seen status text (reports fw cert assume json) h zero = h zero
+judged_headline _ _ _ _ seen status text (checks device fw cert assume) h zero = h zero
+judged_headline _ _ _ _ seen status text (reports device fw cert assume json) h zero = h zero
 
-judged_exact : (judge : Command) (fw cert : List ℕ) (assume : Option (List ℕ)) (seen : Contents) (status : ℕ) → Judges judge fw cert assume → IsExact judge seen status → AcceptsValid assume seen status
-judged_exact _ _ _ _ seen status (checks fw cert assume) h = h
-judged_exact _ _ _ _ seen status (reports fw cert assume json) h = h
+judged_exact : (judge : Command) (fw cert : List ℕ) (assume : Option (List ℕ)) (seen : Contents) (status : ℕ) → Judges judge fw cert assume → IsExact judge seen status → AcceptsValid (device_for judge) assume seen status
+judged_exact _ _ _ _ seen status (checks device fw cert assume) h = h
+judged_exact _ _ _ _ seen status (reports device fw cert assume json) h = h
 
 judged_names : (judge : Command) (fw cert : List ℕ) (assume : Option (List ℕ)) → Judges judge fw cert assume
     → (name_of judge Firmware ≡ Some fw) × (name_of judge Second ≡ Some cert) × (name_of judge Assumptions ≡ assume) × (second_cap judge ≡ certificate_cap)
-judged_names _ _ _ _ (checks fw cert assume) = (refl, refl, refl, refl)
-judged_names _ _ _ _ (reports fw cert assume json) = (refl, refl, refl, refl)
+judged_names _ _ _ _ (checks device fw cert assume) = (refl, refl, refl, refl)
+judged_names _ _ _ _ (reports device fw cert assume json) = (refl, refl, refl, refl)
 
 agrees_as : (holds : List ℕ → Held) (cap cap' : ℕ) (o : Option (List ℕ)) (name : List ℕ) (s : Seen) → o ≡ Some name → cap ≡ cap' → AgreesUnder holds cap o s → Agrees (holds name) cap' s
 agrees_as holds cap cap' o name s e caps h = subst (λ x. Agrees (holds name) x s) caps (subst (λ x. AgreesUnder holds cap x s) e h)
@@ -103,17 +103,17 @@ written_exact o holds status before after w judge firmware certificate list word
 -- ---- analyses
 
 written_least : (o : Option Command) (holds : List ℕ → Held) (status : ℕ) (before after : Option (List ℕ)) → IsWritten o holds status before after → HeldLeast o holds status before after
-written_least o holds status before after w steps firmware list a zero =
-    let d = due_to o (Analyse a.firmware_name a.assume steps) holds status w.text a.named w.due in
+written_least o holds status before after w device steps firmware list a zero =
+    let d = due_to o (Analyse device a.firmware_name a.assume steps) holds status w.text a.named w.due in
     let h = d.headline zero in
     let f : h.firmware ≡ firmware = held_is (holds a.firmware_name) firmware_cap d.seen.firmware h.firmware firmware (d.agrees Firmware) h.read.firmware_read a.firmware_held in
     let l : h.list ≡ list = held_list holds a.assume d.seen.assumptions h.list list (d.agrees Assumptions) h.read.list_read a.list_held in
-    (w.text, subst (λ x. IsLeastCertificate firmware x w.text) l (subst (λ x. IsLeastCertificate x h.list w.text) f h.certificate), w.grew)
+    (w.text, subst (λ x. IsLeastCertificate device firmware x w.text) l (subst (λ x. IsLeastCertificate device x h.list w.text) f h.certificate), w.grew)
 
 written_end : (o : Option Command) (holds : List ℕ → Held) (status : ℕ) (before after : Option (List ℕ)) → IsWritten o holds status before after → IsHeldEnd o holds status
-written_end o holds status before after w steps firmware list words A a mean =
-    let c = Analyse a.firmware_name a.assume steps in
-    let d = due_to o (Analyse a.firmware_name a.assume steps) holds status w.text a.named w.due in
+written_end o holds status before after w device steps firmware list words A a mean =
+    let c = Analyse device a.firmware_name a.assume steps in
+    let d = due_to o (Analyse device a.firmware_name a.assume steps) holds status w.text a.named w.due in
     let first = file_held a.firmware_name d.seen.firmware (holds a.firmware_name) firmware_cap firmware (λ f. WithOptional a.assume d.seen.assumptions (λ l. WorkReply c f [] l)) status w.text d.reply
     (d.agrees Firmware) a.firmware_held a.firmware_fits in
     let last = optional_held holds a.assume d.seen.assumptions list (λ l. WorkReply c firmware [] l) status w.text first.1 (d.agrees Assumptions) a.list_held in

@@ -1,15 +1,19 @@
 -- Replies by what is known of their parts.
-use Rattle.std.proofs.Common.{◌≡◌, ◌≢◌, inl, inr, ℕ, Bool, true, false, List, [], Option, Some, None, Result, Ok, Err, refl, sym, ap, ◌∙◌, subst}
-use Rattle.std.specs.Option.{option_copied, is_some}
+use Rattle.std.proofs.Common.{◌≡◌, ◌≢◌, inl, inr, ℕ, Bool, true, false, List, [], length, take, Option, Some, None, Result, Ok, Err, refl, sym, ap, ◌∙◌, subst}
+use Rattle.std.specs.Option.{option_copied, option_map, is_some}
 use Rattle.std.specs.Prelude.{IfOk}
 use denote.Ref.{Bor}
 use Rattle.avr_model.specs.declared.assumption.Entry.{Entry}
+use Rattle.avr_model.specs.declared.device.Device.{Device}
+use Rattle.avr_model.specs.Devices.{words_of}
+use Rattle.avr_model.specs.Image.{WORDS, IsOutside}
 use Rattle.indirect_targets.specs.declared.fault.AssumeText.{AssumeText}
 use Rattle.indirect_targets.specs.declared.fault.AssumeText.TheVariants as assume
 use Rattle.indirect_targets.specs.Reading.{entries_in}
 use Rattle.witness_replay.specs.Spelling.{Plan}
 use Rattle.witness_replay.specs.Replay.{Report as Replayed, replay_of}
 use Rattle.flash_image.specs.Naming.{Named, SayTheSame}
+use Rattle.flash_image.specs.Narrowing.{NarrowingIsExact}
 use Rattle.elf_load.specs.Elf.{is_elf}
 use Rattle.elf_load.specs.declared.Loaded.{Loaded}
 use Rattle.certificate.specs.Claims.{Claim, IsClaim}
@@ -17,7 +21,7 @@ use Rattle.round_rules.specs.declared.refusal.Refusal.{Refusal}
 use Rattle.round_rules.specs.Solutions.{IsAnswer, IsWhyNot}
 use Rattle.reports.specs.Laws.{NamesThatSayTheSame}
 use Rattle.demo_image.specs.Image.{demo_words}
-use Rattle.commands.specs.Commands.{Command, Check, Analyse, Run, Report, Demo}
+use Rattle.commands.specs.Commands.{Command, Check, Analyse, Run, Report, Demo, device_for}
 use Rattle.certificate.specs.Valid.{IsAttained}
 use Rattle.cert_format.specs.declared.fault.CertFault.{CertFault}
 use Rattle.cert_format.specs.declared.fault.CertFault.TheVariants as fault
@@ -25,12 +29,14 @@ use Rattle.cert_format.specs.Reading.{certificate_in}
 use Rattle.cert_check.specs.Verdict.{IsVerdict}
 use Rattle.cert_check.specs.declared.verdict.Verdict.{Verdict}
 use Rattle.cert_check.specs.declared.verdict.Verdict.TheVariants.{Accepted, Rejected}
-use Rattle.replies.specs.Firmware.{firmware_fault, firmware_words, firmware_names, firmware_end}
-use Rattle.replies.specs.Texts.{why_not_status, why_not_text, demo_text, witness_rejected, schedule_illegal, run_text, assumptions_refused, certificate_refused}
+use Rattle.replies.specs.Firmware.{fault_by, words_by, names_by, end_by, outside_fault, fault_or, firmware_fault, firmware_words, firmware_names, firmware_end}
+use Rattle.replies.specs.Texts.{firmware_outside, why_not_status, why_not_text, demo_text, witness_rejected, schedule_illegal, run_text, assumptions_refused, certificate_refused}
 use Rattle.replies.specs.Reply.{Reply, Refuses, ImageBy, WithImage, ListBy, WithList, attains, AttainedBy, WitnessReply, VerdictReply, JudgedReply, CertificateReply, report_by, told_of, AnalyseReply, DemoReply, FlashReply, RunReply}
 use Rattle.replies.proofs.AllLaws.{attained_by, attains_by}
-use Rattle.stack_core.specs.Working.{GivesAs, ReadsAs, ListsAs, IsWitnessedText, LoadedReply, ImageReply}
+use Rattle.stack_core.specs.Working.{GivesAs, GivesOn, NarrowedTo, LoadsOn, ReadsAs, ListsAs, IsWitnessedText, LoadedReply, ImageReply}
 use Rattle.stack_core.specs.declared.reply.Reply.{Reply as Answered}
+use Rattle.stack_core.specs.declared.loading.Image.{Image}
+use Rattle.stack_core.specs.declared.loading.Image.TheVariants.{Loaded as OnFlash, Refused}
 use Rattle.stack_core.specs.declared.loading.Listing.TheVariants.{Listed, Unlisted}
 
 -- ---- run
@@ -151,8 +157,30 @@ unlisted_reply (Some bytes) r next h =
 by_fault : (o : Option (List ℕ)) (reply : Reply) (status : ℕ) (text : List ℕ) → o ≡ None → reply status text → ImageBy o reply status text
 by_fault o reply status text e m = subst (λ x. ImageBy x reply status text) (sym e) m
 
-pub refused_reply : (bytes : List ℕ) (r : Answered) (next : List ℕ → Reply) → (r.status ≡ 6) × (firmware_fault bytes ≡ Some r.text.items) → WithImage bytes next r.status r.text.items
-refused_reply bytes r next h = subst (λ o. ImageBy o (next (firmware_words bytes)) r.status r.text.items) (sym h.1) (h.0, refl)
+pub refused_reply : (device : Device) (bytes : List ℕ) (r : Answered) (next : List ℕ → Reply) → (r.status ≡ 6) × (firmware_fault device bytes ≡ Some r.text.items) → WithImage device bytes next r.status r.text.items
+refused_reply device bytes r next h = subst (λ o. ImageBy o (next (firmware_words device bytes)) r.status r.text.items) (sym h.1) (h.0, refl)
+
+-- a word outside is told
+pub outside_told : (device : Device) (all : List ℕ) (word : ℕ) (text : List ℕ) → NarrowingIsExact → length all ≡ WORDS → IsOutside device all word → text ≡ firmware_outside word → outside_fault device all ≡ Some text
+outside_told device all word text narrowing size o t = ap (option_map firmware_outside) (narrowing.outside device all word size o) ∙ ap Some (sym t)
+
+-- what the greatest flash holds, on a device
+pub loaded_on : (device : Device) (bytes : List ℕ) (before : Loaded) (image : Image) → NarrowingIsExact → GivesAs (is_elf bytes) bytes before → NarrowedTo device before image → LoadsOn device bytes image
+loaded_on device bytes before (OnFlash after) narrowing g h = record {
+  loads = ap (λ (o : Option (List ℕ)). fault_or o (outside_fault device (words_by (is_elf bytes) bytes))) g.loads
+      ∙ ap (outside_fault device) (sym g.words) ∙ ap (option_map firmware_outside) (narrowing.none device before.flash after.flash g.size h.0);
+  words = narrowing.words device before.flash after.flash g.size h.0 ∙ ap (take (words_of device)) g.words;
+  names = subst (λ (names : List Named). SayTheSame names (firmware_names bytes)) (sym h.1.0) g.names;
+  static_end = h.1.1 ∙ g.static_end;
+}
+loaded_on device bytes before (Refused r) narrowing g h = (
+  h.0,
+  ap (λ (o : Option (List ℕ)). fault_or o (outside_fault device (words_by (is_elf bytes) bytes))) g.loads ∙ ap (outside_fault device) (sym g.words) ∙ h.1,
+)
+
+-- a file that is refused before is refused for every device
+pub refused_on : (device : Device) (bytes : List ℕ) (r : Answered) → (r.status ≡ 6) × (fault_by (is_elf bytes) bytes ≡ Some r.text.items) → LoadsOn device bytes (Refused r)
+refused_on device bytes r h = (h.0, ap (λ (o : Option (List ℕ)). fault_or o (outside_fault device (words_by (is_elf bytes) bytes))) h.1)
 
 -- what is told of each certificate alike is answered alike
 verdict_alike : (words : List ℕ) (A : List Entry) (tells others : Claim → List ℕ) (c : Claim) (v : Verdict) (status : ℕ) (text : List ℕ) → ((d : Claim) → tells d ≡ others d)
@@ -165,18 +193,18 @@ told_alike : (words : List ℕ) (A : List Entry) (tells others : Claim → List 
 told_alike words A tells others (Err f) status text same h = h
 told_alike words A tells others (Ok c) status text same h = record { verdict = h.verdict; is = h.is; reply = verdict_alike words A tells others c h.verdict status text same h.reply }
 
-report_alike : (laws : NamesThatSayTheSame) (json : Bool) (names others : List Named) (end end' : Option ℕ) → SayTheSame names others → end ≡ end' → (c : Claim) → report_by json names end c ≡ report_by json others end' c
-report_alike laws true names others end end' same e c = (laws c names others end same).1 ∙ ap (λ x. report_by true others x c) e
-report_alike laws false names others end end' same e c = (laws c names others end same).0 ∙ ap (λ x. report_by false others x c) e
+report_alike : (laws : NamesThatSayTheSame) (json : Bool) (device : Device) (names others : List Named) (end end' : Option ℕ) → SayTheSame names others → end ≡ end' → (c : Claim) → report_by json device names end c ≡ report_by json device others end' c
+report_alike laws true device names others end end' same e c = (laws device c names others end same).1 ∙ ap (λ x. report_by true device others x c) e
+report_alike laws false device names others end end' same e c = (laws device c names others end same).0 ∙ ap (λ x. report_by false device others x c) e
 
 flash_alike : (laws : NamesThatSayTheSame) (command : Command) (firmware bytes : List ℕ) (loaded : Loaded) (A : List Entry) (status : ℕ) (text : List ℕ) → SayTheSame loaded.names (firmware_names firmware)
     → loaded.static_end ≡ firmware_end firmware → LoadedReply command loaded bytes A status text → FlashReply command firmware bytes loaded.flash A status text
-flash_alike laws (Check name cert assume) firmware bytes loaded A status text names end h = h
-flash_alike laws (Analyse name assume steps) firmware bytes loaded A status text names end h = h
-flash_alike laws (Run name schedule assume) firmware bytes loaded A status text names end h = h
-flash_alike laws (Report name cert assume json) firmware bytes loaded A status text names end h =
-    told_alike loaded.flash A (report_by json loaded.names loaded.static_end) (told_of (Report name cert assume json) firmware) (certificate_in bytes) status text
-    (report_alike laws json loaded.names (firmware_names firmware) loaded.static_end (firmware_end firmware) names end) h
+flash_alike laws (Check device name cert assume) firmware bytes loaded A status text names end h = h
+flash_alike laws (Analyse device name assume steps) firmware bytes loaded A status text names end h = h
+flash_alike laws (Run device name schedule assume) firmware bytes loaded A status text names end h = h
+flash_alike laws (Report device name cert assume json) firmware bytes loaded A status text names end h =
+    told_alike loaded.flash A (report_by json device loaded.names loaded.static_end) (told_of (Report device name cert assume json) firmware) (certificate_in bytes) status text
+    (report_alike laws json device loaded.names (firmware_names firmware) loaded.static_end (firmware_end firmware) names end) h
 flash_alike laws (Demo size) firmware bytes loaded A status text names end h = h
 
 list_alike : (x : Result (List Entry) AssumeText) (next other : List Entry → Reply) (status : ℕ) (text : List ℕ) → ((A : List Entry) → next A status text → other A status text) → ListBy x next status text → ListBy x other status text
@@ -187,10 +215,10 @@ next_alike : (list : Option (List ℕ)) (next other : List Entry → Reply) (sta
 next_alike None next other status text f h = f [] h
 next_alike (Some bytes) next other status text f h = list_alike (entries_in bytes) next other status text f h
 
-pub loaded_reply : (laws : NamesThatSayTheSame) (command : Command) (firmware second : List ℕ) (list : Option (List ℕ)) (loaded : Loaded) (status : ℕ) (text : List ℕ) → GivesAs (is_elf firmware) firmware loaded
+pub loaded_reply : (laws : NamesThatSayTheSame) (command : Command) (firmware second : List ℕ) (list : Option (List ℕ)) (loaded : Loaded) (status : ℕ) (text : List ℕ) → GivesOn (device_for command) firmware loaded
     → WithList list (λ A. LoadedReply command loaded second A) status text → ImageReply command firmware second list status text
 loaded_reply laws command firmware second list loaded status text g h =
     let there : WithList list (λ A. FlashReply command firmware second loaded.flash A) status text =
     next_alike list (λ A. LoadedReply command loaded second A) (λ A. FlashReply command firmware second loaded.flash A) status text (λ A k. flash_alike laws command firmware second loaded A status text g.names g.static_end k) h in
-    by_fault (firmware_fault firmware) (WithList list (λ A. FlashReply command firmware second (firmware_words firmware) A)) status text g.loads
+    by_fault (firmware_fault (device_for command) firmware) (WithList list (λ A. FlashReply command firmware second (firmware_words (device_for command) firmware) A)) status text g.loads
     (subst (λ ws. WithList list (λ A. FlashReply command firmware second ws A) status text) g.words there)

@@ -1,10 +1,11 @@
 -- What the top call does.
 use Rattle.std.specs.Prelude.{◌≡◌, ◌≢◌, ◌⊎◌, ◌↔◌, ◌≤◌, ℕ, Bool, List, length, Option, Some, None}
 use Rattle.avr_model.specs.declared.assumption.Entry.{Entry}
+use Rattle.avr_model.specs.declared.device.Device.{Device}
 use Rattle.sb_base.specs.Outside.{Held, Bytes, Blamed, Rose, grown, GrewByPrefix}
 use Rattle.certificate.specs.Claims.{Claim}
 use Rattle.certificate.specs.Valid.{IsValid}
-use Rattle.commands.specs.Commands.{Command, Check, Analyse, Report}
+use Rattle.commands.specs.Commands.{Command, Check, Analyse, Report, device_for}
 use Rattle.replies.specs.Texts.{usage, read_fault}
 use Rattle.replies.specs.Reading.{Contents, AllAgree, IsFirstFailed, firmware_cap, certificate_cap, assumption_cap}
 use Rattle.replies.specs.Reply.{IsReply}
@@ -82,8 +83,8 @@ AreHeld holds (Some name) (Some bytes) = (holds name ≡ Bytes bytes) × (length
 
 -- the command judges the certificate of this name for the firmware, and under the assumptions, of those names
 pub data Judges : Command → (firmware certificate : List ℕ) (assume : Option (List ℕ)) → Type 0 where
-  checks : (firmware certificate : List ℕ) (assume : Option (List ℕ)) → Judges (Check firmware certificate assume) firmware certificate assume
-  reports : (firmware certificate : List ℕ) (assume : Option (List ℕ)) (json : Bool) → Judges (Report firmware certificate assume json) firmware certificate assume
+  checks : (device : Device) (firmware certificate : List ℕ) (assume : Option (List ℕ)) → Judges (Check device firmware certificate assume) firmware certificate assume
+  reports : (device : Device) (firmware certificate : List ℕ) (assume : Option (List ℕ)) (json : Bool) → Judges (Report device firmware certificate assume json) firmware certificate assume
 
 -- The words are this command, a check or a report, and these bytes are held under the names in them, within the caps.
 pub record IsJudging (command : Option Command) (judge : Command) (holds : List ℕ → Held) (firmware certificate : List ℕ) (list : Option (List ℕ)) : Type 0 where
@@ -108,13 +109,13 @@ HeldHeadline command holds status before after =
 abbrev pub IsHeldExact : Option Command → (List ℕ → Held) → ℕ → Type 0
 IsHeldExact command holds status =
     (judge : Command) (firmware certificate : List ℕ) (list : Option (List ℕ)) (words : List ℕ) (claim : Claim) (A : List Entry)
-    → IsJudging command judge holds firmware certificate list → StandFor firmware certificate list words claim A → (status ≡ 0) ↔ IsValid words A claim
+    → IsJudging command judge holds firmware certificate list → StandFor (device_for judge) firmware certificate list words claim A → (status ≡ 0) ↔ IsValid words A claim
 
--- The words are an analysis with this budget, and these bytes are held under the names in them, within the caps.
-pub record IsAnalysing (command : Option Command) (steps : Option ℕ) (holds : List ℕ → Held) (firmware : List ℕ) (list : Option (List ℕ)) : Type 0 where
+-- The words are an analysis for this device with this budget, and these bytes are held under the names in them, within the caps.
+pub record IsAnalysing (command : Option Command) (device : Device) (steps : Option ℕ) (holds : List ℕ → Held) (firmware : List ℕ) (list : Option (List ℕ)) : Type 0 where
   pub firmware_name : List ℕ
   pub assume : Option (List ℕ)
-  pub named : command ≡ Some (Analyse firmware_name assume steps)
+  pub named : command ≡ Some (Analyse device firmware_name assume steps)
   pub firmware_held : holds firmware_name ≡ Bytes firmware
   pub firmware_fits : length firmware ≤ firmware_cap
   pub list_held : AreHeld holds assume list
@@ -122,14 +123,14 @@ pub record IsAnalysing (command : Option Command) (steps : Option ℕ) (holds : 
 -- where an analysis of held bytes answers 0, it has written the text of their least certificate, and nothing else
 abbrev pub HeldLeast : Option Command → (List ℕ → Held) → ℕ → Option (List ℕ) → Option (List ℕ) → Type 0
 HeldLeast command holds status before after =
-    (steps : Option ℕ) (firmware : List ℕ) (list : Option (List ℕ)) → IsAnalysing command steps holds firmware list → status ≡ 0
-    → (text : List ℕ) × IsLeastCertificate firmware list text × (after ≡ grown before text)
+    (device : Device) (steps : Option ℕ) (firmware : List ℕ) (list : Option (List ℕ)) → IsAnalysing command device steps holds firmware list → status ≡ 0
+    → (text : List ℕ) × IsLeastCertificate device firmware list text × (after ≡ grown before text)
 
 -- where held bytes read as values, the status says how the rounds end
 abbrev pub IsHeldEnd : Option Command → (List ℕ → Held) → ℕ → Type 0
 IsHeldEnd command holds status =
-    (steps : Option ℕ) (firmware : List ℕ) (list : Option (List ℕ)) (words : List ℕ) (A : List Entry)
-    → IsAnalysing command steps holds firmware list → Mean firmware list words A → SaysHowRoundsEnd words A steps status
+    (device : Device) (steps : Option ℕ) (firmware : List ℕ) (list : Option (List ℕ)) (words : List ℕ) (A : List Entry)
+    → IsAnalysing command device steps holds firmware list → Mean device firmware list words A → SaysHowRoundsEnd words A steps status
 
 -- ---- laws
 

@@ -1,7 +1,9 @@
 -- What is made of a firmware and of an assumption file, and what is told.
-use Rattle.std.specs.Prelude.{ℕ, ◌≡◌, List, [], Bool, Option, Some, None, Ok, Err}
+use Rattle.std.specs.Prelude.{ℕ, ◌≡◌, List, [], Bool, length, Option, Some, None, Ok, Err}
 use Rattle.std.specs.Option.{is_some}
 use Rattle.avr_model.specs.declared.assumption.Entry.{Entry}
+use Rattle.avr_model.specs.declared.device.Device.{Device}
+use Rattle.avr_model.specs.Image.{WORDS, IsNarrowed}
 use Rattle.flash_image.specs.Naming.{SayTheSame}
 use Rattle.elf_load.specs.Elf.{is_elf}
 use Rattle.elf_load.specs.declared.Loaded.{Loaded as Firmware}
@@ -12,9 +14,9 @@ use Rattle.certificate.specs.Claims.{Claim}
 use Rattle.certificate.specs.Valid.{IsAttained}
 use Rattle.cert_words.specs.Text.{text_of}
 use Rattle.cert_format.specs.Reading.{certificate_in}
-use Rattle.commands.specs.Commands.{Command, Report}
+use Rattle.commands.specs.Commands.{Command, Report, device_for}
 use Rattle.replies.specs.Texts.{accepted, assumptions_refused}
-use Rattle.replies.specs.Firmware.{words_by, fault_by, names_by, end_by}
+use Rattle.replies.specs.Firmware.{words_by, fault_by, names_by, end_by, outside_fault, firmware_words, firmware_fault, firmware_names, firmware_end}
 use Rattle.replies.specs.Analysis.{TrialsFind}
 use Rattle.replies.specs.Reply.{Reply, WithImage, WithList, report_by, CertificateReply, FlashReply}
 use Rattle.stack_core.specs.declared.loading.Image.{Image}
@@ -24,9 +26,10 @@ use Rattle.stack_core.specs.declared.loading.Listing.TheVariants.{Listed, Unlist
 use Rattle.stack_core.specs.declared.judging.Telling.{Telling}
 use Rattle.stack_core.specs.declared.judging.Telling.TheVariants as telling
 
--- a firmware that was loaded gives what the file's bytes give
+-- a firmware that was loaded into the greatest flash gives what the file's bytes give
 pub record GivesAs (elf : Bool) (bytes : List ℕ) (loaded : Firmware) : Type 0 where
   pub loads : fault_by elf bytes ≡ None
+  pub size : length loaded.flash ≡ WORDS
   pub words : loaded.flash ≡ words_by elf bytes
   pub names : SayTheSame loaded.names (names_by elf bytes)
   pub static_end : loaded.static_end ≡ end_by elf bytes
@@ -38,6 +41,24 @@ LoadsBy elf bytes (Refused r) = (r.status ≡ 6) × (fault_by elf bytes ≡ Some
 
 abbrev pub LoadsAs : List ℕ → Image → Type 0
 LoadsAs bytes image = LoadsBy (is_elf bytes) bytes image
+
+-- the same firmware on a device, or its refusal where it has a word behind the device's flash
+abbrev pub NarrowedTo : Device → Firmware → Image → Type 0
+NarrowedTo device before (Loaded after) =
+    IsNarrowed device before.flash after.flash × ((after.names ≡ before.names) × (after.static_end ≡ before.static_end))
+NarrowedTo device before (Refused r) = (r.status ≡ 6) × (outside_fault device before.flash ≡ Some r.text.items)
+
+-- a firmware that was loaded for a device gives what the file's bytes give there
+pub record GivesOn (device : Device) (bytes : List ℕ) (loaded : Firmware) : Type 0 where
+  pub loads : firmware_fault device bytes ≡ None
+  pub words : loaded.flash ≡ firmware_words device bytes
+  pub names : SayTheSame loaded.names (firmware_names bytes)
+  pub static_end : loaded.static_end ≡ firmware_end bytes
+
+-- a firmware that was loaded for a device, or refused
+abbrev pub LoadsOn : Device → List ℕ → Image → Type 0
+LoadsOn device bytes (Loaded loaded) = GivesOn device bytes loaded
+LoadsOn device bytes (Refused r) = (r.status ≡ 6) × (firmware_fault device bytes ≡ Some r.text.items)
 
 -- a list that was read, or a refusal
 abbrev pub ReadsAs : List ℕ → Listing → Type 0
@@ -53,7 +74,7 @@ ListsAs (Some bytes) listing = ReadsAs bytes listing
 -- what is told of a certificate that is accepted
 abbrev pub tells_of : Telling → Claim → List ℕ
 tells_of telling.Verdict c = accepted c.bound (is_some c.witness)
-tells_of (telling.Report loaded json) c = report_by json loaded.now.names loaded.now.static_end c
+tells_of (telling.Report device loaded json) c = report_by json device loaded.now.names loaded.now.static_end c
 
 -- the certificate is the first one with the schedule that the trials find, which attains its bound
 pub record IsWitnessed (words : List ℕ) (A : List Entry) (least c : Claim) : Type 0 where
@@ -70,8 +91,8 @@ pub record IsWitnessedText (words : List ℕ) (A : List Entry) (least : Claim) (
 
 -- what is answered for a firmware that was loaded, with the names and the static data that it was loaded with
 abbrev pub LoadedReply : Command → Firmware → List ℕ → List Entry → Reply
-LoadedReply (Report name certificate assume json) loaded bytes A = CertificateReply loaded.flash A (report_by json loaded.names loaded.static_end) (certificate_in bytes)
+LoadedReply (Report device name certificate assume json) loaded bytes A = CertificateReply loaded.flash A (report_by json device loaded.names loaded.static_end) (certificate_in bytes)
 LoadedReply command loaded bytes A = FlashReply command [] bytes loaded.flash A
 
 abbrev pub ImageReply : Command → List ℕ → List ℕ → Option (List ℕ) → Reply
-ImageReply command firmware second list = WithImage firmware (λ words. WithList list (λ A. FlashReply command firmware second words A))
+ImageReply command firmware second list = WithImage (device_for command) firmware (λ words. WithList list (λ A. FlashReply command firmware second words A))

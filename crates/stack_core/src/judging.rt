@@ -11,7 +11,7 @@ use crate::reply::Reply;
 use cert_check::{Verdict, is_attained, judge};
 use cert_format::{Certificate, read as read_certificate};
 use elf_load::Loaded;
-use flash_image::Flash;
+use flash_image::{Device, Flash};
 use replies::texts;
 use reports::{report_json, report_text};
 use std::alloc::{AllocError, Global};
@@ -22,8 +22,12 @@ use vector_table::Assumptions;
 pub enum Telling<'a> {
     /// A line with its bound, and whether it has a schedule that attains the bound.
     Verdict,
-    /// A report with the names and the static data of the firmware, in lines or as JSON.
-    Report { loaded: &'a Loaded, json: bool },
+    /// A report with the names and the static data of the firmware for a device, in lines or as JSON.
+    Report {
+        device: Device,
+        loaded: &'a Loaded,
+        json: bool,
+    },
 }
 
 /// The line of a verdict.
@@ -39,15 +43,16 @@ fn verdict_text(alloc: Global, certificate: &Certificate) -> Result<Vec<u8>, All
 fn report(
     alloc: Global,
     certificate: &Certificate,
+    device: Device,
     loaded: &Loaded,
     json: bool,
 ) -> Result<Vec<u8>, AllocError>
-    ensures { IfOk result (λ v. v.items ≡ report_by json loaded.now.names loaded.now.static_end certificate.now) }
+    ensures { IfOk result (λ v. v.items ≡ report_by json device loaded.now.names loaded.now.static_end certificate.now) }
 {
     if json {
-        report_json(alloc, certificate, &loaded.names, loaded.static_end)
+        report_json(alloc, device, certificate, &loaded.names, loaded.static_end)
     } else {
-        report_text(alloc, certificate, &loaded.names, loaded.static_end)
+        report_text(alloc, device, certificate, &loaded.names, loaded.static_end)
     }
 }
 
@@ -61,7 +66,11 @@ fn accepting(
 {
     match telling {
         Telling::Verdict => verdict_text(alloc, certificate),
-        Telling::Report { loaded, json } => report(alloc, certificate, loaded, json),
+        Telling::Report {
+            device,
+            loaded,
+            json,
+        } => report(alloc, certificate, device, loaded, json),
     }
 }
 

@@ -1,14 +1,15 @@
 //! Firmware and assumptions of files that were read.
 
-ghost use Rattle.std.specs.Prelude.{◌≡◌, IfOk, true, false};
+ghost use Rattle.std.specs.Prelude.{◌≡◌, IfOk, true, false, length};
+ghost use Rattle.avr_model.specs.Image.{WORDS};
 ghost use Rattle.elf_load.specs.Elf.{is_elf};
 ghost use Rattle.stack_core.specs.Reading.{bytes_of};
-ghost use Rattle.stack_core.specs.Working.{LoadsBy, LoadsAs, ReadsAs, ListsAs};
+ghost use Rattle.stack_core.specs.Working.{LoadsBy, LoadsAs, NarrowedTo, LoadsOn, ReadsAs, ListsAs};
 
 use crate::reply::Reply;
 use elf_load::{Loaded, is_elf, load};
-use flash_image::laws::raw_images_are_their_words;
-use flash_image::{Flash, Names, RawFault};
+use flash_image::laws::{narrowing_is_exact, raw_images_are_their_words};
+use flash_image::{Device, Flash, Names, Outside, RawFault};
 use indirect_targets::read as read_list;
 use replies::texts;
 use std::alloc::{AllocError, Global};
@@ -65,8 +66,8 @@ fn elf_image(alloc: Global, bytes: &[u8]) -> Result<Image, AllocError>
     }
 }
 
-/// The firmware of a file.
-pub fn loaded(alloc: Global, bytes: &[u8]) -> Result<Image, AllocError>
+/// The firmware of a file, in the greatest flash.
+fn whole(alloc: Global, bytes: &[u8]) -> Result<Image, AllocError>
     ensures { IfOk result (λ i. LoadsAs bytes.now i) }
 {
     if is_elf(bytes) {
@@ -75,6 +76,41 @@ pub fn loaded(alloc: Global, bytes: &[u8]) -> Result<Image, AllocError>
     } else {
         let image = raw_image(alloc, bytes)?;
         Ok(image)
+    }
+}
+
+/// The same firmware on a device.
+fn narrowed(alloc: Global, device: Device, loaded: Loaded) -> Result<Image, AllocError>
+    requires { length loaded.flash ≡ WORDS }
+    ensures { IfOk result (λ i. NarrowedTo device loaded i) }
+{
+    narrowing_is_exact();
+    let Loaded {
+        flash,
+        names,
+        static_end,
+    } = loaded;
+    match flash.narrow(device) {
+        Ok(flash) => Ok(Image::Loaded(Loaded {
+            flash,
+            names,
+            static_end,
+        })),
+        Err(Outside(word)) => Ok(Image::Refused(Reply {
+            status: 6,
+            text: texts::firmware_outside(alloc, word)?,
+        })),
+    }
+}
+
+/// The firmware of a file for a device.
+pub fn loaded(alloc: Global, device: Device, bytes: &[u8]) -> Result<Image, AllocError>
+    ensures { IfOk result (λ i. LoadsOn device bytes.now i) }
+{
+    narrowing_is_exact();
+    match whole(alloc, bytes)? {
+        Image::Loaded(loaded) => narrowed(alloc, device, loaded),
+        Image::Refused(reply) => Ok(Image::Refused(reply)),
     }
 }
 

@@ -2,6 +2,7 @@
 
 ghost use Rattle.std.specs.Prelude.{◌≡◌, IfOk};
 ghost use Rattle.local_rules.specs.Machine.{AreWords};
+ghost use Rattle.commands.specs.Commands.{device_for};
 ghost use Rattle.commands.specs.Views.{command_seen};
 ghost use Rattle.replies.specs.Firmware.{firmware_words};
 ghost use Rattle.replies.specs.Reply.{WithImage, WithList, FlashReply, WorkReply};
@@ -40,15 +41,13 @@ fn on_flash(
         Command::Check { .. } => check(alloc, flash, assumptions, Telling::Verdict, second),
         Command::Analyse { steps, .. } => analyse(alloc, flash, assumptions, *steps),
         Command::Run { .. } => run(alloc, flash, assumptions, second),
-        Command::Report { json, .. } => {
-            let json = *json;
-            check(
-                alloc,
-                flash,
-                assumptions,
-                Telling::Report { loaded, json },
-                second,
-            )
+        Command::Report { device, json, .. } => {
+            let telling = Telling::Report {
+                device: *device,
+                loaded,
+                json: *json,
+            };
+            check(alloc, flash, assumptions, telling, second)
         }
         Command::Demo { size } => demo(alloc, size),
     }
@@ -79,10 +78,10 @@ fn on_image(
     list: &Option<Vec<u8>>,
 ) -> Result<Reply, AllocError>
     ensures reply { IfOk result (λ r. ImageReply (command_seen command.now) firmware.now second.now (bytes_of list.now) r.status r.text.items) }
-    ensures words { IfOk result (λ r. r.status ≡ 0 → AreWords (firmware_words firmware.now)) }
+    ensures words { IfOk result (λ r. r.status ≡ 0 → AreWords (firmware_words (device_for (command_seen command.now)) firmware.now)) }
 {
     same_names_give_same_reports();
-    match loaded(alloc, firmware)? {
+    match loaded(alloc, command.device(), firmware)? {
         Image::Loaded(loaded) => {
             have_16_bits(loaded.flash.words());
             let reply = under_list(alloc, command, &loaded, second, list)?;

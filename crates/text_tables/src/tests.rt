@@ -4,4 +4,5 @@ mod assumption_texts;
 mod certificates;
 mod command_words;
 mod schedules;
+mod second_version;
 mod words;

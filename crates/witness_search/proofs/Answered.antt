@@ -29,19 +29,19 @@ pub meets_as : FilledOrMissing → (words : List ℕ) (A : List Entry) (c : Clai
 meets_as law words A c nodes sound filled = subst (MeetsConditions words A c) (law.one words A c.nodes sound.nodes nodes sound.expanded filled) sound.meets
 
 -- where there is no node there is no interrupt
-none_there : (o : Option Node) (depth : ℕ) (kind : Option EdgeKind) → o ≡ None → interrupt_at o depth kind ≡ []
-none_there None depth kind e = refl
-none_there (Some n) depth kind e = absurd cc
+none_there : (words : List ℕ) (o : Option Node) (depth : ℕ) (kind : Option EdgeKind) → o ≡ None → interrupt_at words o depth kind ≡ []
+none_there words None depth kind e = refl
+none_there words (Some n) depth kind e = absurd cc
 
-pub none_added : (nodes xs : List Node) (link : Link) (points : List Waypoint) (r : Option (Bor Node)) → IsItemAt xs link.node r → r ≡ None → xs ≡ nodes → points ≡ points ++ interrupt_of nodes link
-none_added nodes xs link points r item none same =
+pub none_added : (words : List ℕ) (nodes xs : List Node) (link : Link) (points : List Waypoint) (r : Option (Bor Node)) → IsItemAt xs link.node r → r ≡ None → xs ≡ nodes → points ≡ points ++ interrupt_of words nodes link
+none_added words nodes xs link points r item none same =
     let past : IsItemAt xs link.node None = subst (λ (o : Option (Bor Node)). IsItemAt xs link.node o) none item in
     let away : slice_get nodes link.node ≡ None = subst (λ (ns : List Node). slice_get ns link.node ≡ None) same (slice_get_past xs link.node past.3) in
-    sym (ap (λ (ws : List Waypoint). points ++ ws) (none_there (slice_get nodes link.node) link.depth link.kind away) ∙ append-nil points)
+    sym (ap (λ (ws : List Waypoint). points ++ ws) (none_there words (slice_get nodes link.node) link.depth link.kind away) ∙ append-nil points)
 
 -- the interrupts of the chain, whose links are given by another list
 pub interrupts_as : (words : List ℕ) (A : List Entry) (nodes : List Node) (gs : List GraphInst) (ranks needs : List ℕ) (links given : List Link) (points : List Waypoint)
-    → IsGraphOf words A nodes gs → IsLeast gs ranks needs → IsChain gs needs links → given ≡ links → points ≡ interrupts_of nodes given → AreInterrupts words A nodes points
+    → IsGraphOf words A nodes gs → IsLeast gs ranks needs → IsChain gs needs links → given ≡ links → points ≡ interrupts_of words nodes given → AreInterrupts words A nodes points
 interrupts_as words A nodes gs ranks needs links given points family least chain same are =
     record {
       graph = gs;
@@ -51,7 +51,7 @@ interrupts_as words A nodes gs ranks needs links given points family least chain
       least = least;
       links = links;
       chain = chain;
-      are = are ∙ ap (interrupts_of nodes) same;
+      are = are ∙ ap (interrupts_of words nodes) same;
     }
 
 -- those of a certificate's family are the certificate's

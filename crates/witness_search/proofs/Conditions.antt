@@ -136,4 +136,4 @@ module _ (words : List ℕ) (A : List Entry) (c : Claim) (nodes : List Node) (me
         let n = least.least_needs (λ i. need_in c.instances (key_at i)) suffices 0 some in
         let r : key_at 0 ≡ root_inst = sym (key_is 0 root_inst root_first) in
         let root : slice_index needs 0 ≤ need_in c.instances root_inst = subst (λ (x : InstKey). slice_index needs 0 ≤ need_in c.instances x) r n in
-        omega (arith, root, meets.bounded, small)
+        omega (arith, root, meets.bounded.enough, small)

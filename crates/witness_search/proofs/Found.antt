@@ -5,6 +5,7 @@ use Rattle.std.proofs.Common.{arith, add-one, suc, zero, refl, sym, ap, subst, �
 use Rattle.avr_model.specs.declared.choice.Choice.{Choice}
 use Rattle.avr_model.specs.declared.choice.Stop.TheVariants as stop
 use Rattle.avr_model.specs.declared.assumption.Entry.{Entry}
+use Rattle.avr_model.specs.Devices.{device_of, ramend}
 use Rattle.avr_model.specs.State.{State, filled}
 use Rattle.avr_model.specs.Run.{IsRun, starting, depth_of, stop_of}
 use Rattle.stimulus.specs.Laws.{DepthIsKept}
@@ -13,7 +14,7 @@ use Rattle.witness_replay.specs.Replay.{replay_from, report_unless, steps_of}
 use Rattle.witness_search.specs.declared.waypoint.Waypoint.{Waypoint}
 use Rattle.witness_search.specs.Waypoints.{pick_due, due_left}
 use Rattle.witness_search.specs.Trials.{fills, most_steps, trial_by, trial_of, Succeeds, NoneSucceeds, IsTried, IsFound, Attains}
-use Rattle.witness_search.proofs.Depths.{from_none}
+use Rattle.witness_search.proofs.Depths.{from_start}
 use Rattle.witness_search.proofs.Runs.{few, ends_well, run_legal}
 
 only_at : (x y k : ℕ) → k < length (x ∷ []) → slice_index_or (x ∷ []) k y ≡ y → y ≡ x
@@ -35,19 +36,19 @@ whole steps words A points bound fill is = ap (λ (n : ℕ). trial_by n words A 
 
 pub few_choices : (steps : ℕ) (words : List ℕ) (A : List Entry) (points : List Waypoint) (bound fill : ℕ) (cs : List Choice) → steps ≡ most_steps
     → cs ≡ trial_by steps words A points bound fill → length cs ≤ 16777216
-few_choices steps words A points bound fill cs most is = omega (arith, few (pick_due fill) due_left words A bound steps points (starting (filled fill)), ap length is, most, steps_are)
+few_choices steps words A points bound fill cs most is = omega (arith, few (pick_due fill) due_left words A bound steps points (starting (filled (device_of words) fill)), ap length is, most, steps_are)
 
 -- ---- a trial that reaches the bound
 
 module _ (law : DepthIsKept) (words : List ℕ) (A : List Entry) where
-  stop_is : (steps : ℕ) (points : List Waypoint) (bound fill : ℕ) (cs : List Choice) → cs ≡ trial_by steps words A points bound fill → IsRun words A cs (filled fill)
-      → depth_of words A cs (filled fill) ≡ bound → stop_of words A cs (filled fill) ≡ stop.End
+  stop_is : (steps : ℕ) (points : List Waypoint) (bound fill : ℕ) (cs : List Choice) → cs ≡ trial_by steps words A points bound fill → IsRun words A cs (filled (device_of words) fill)
+      → depth_of words A cs (filled (device_of words) fill) ≡ bound → stop_of words A cs (filled (device_of words) fill) ≡ stop.End
   stop_is steps points bound fill cs is =
-      subst (λ (xs : List Choice). IsRun words A xs (filled fill) → depth_of words A xs (filled fill) ≡ bound → stop_of words A xs (filled fill) ≡ stop.End)
+      subst (λ (xs : List Choice). IsRun words A xs (filled (device_of words) fill) → depth_of words A xs (filled (device_of words) fill) ≡ bound → stop_of words A xs (filled (device_of words) fill) ≡ stop.End)
       (sym is)
       (λ run deep.
-      let e = law words A (trial_by steps words A points bound fill) (starting (filled fill)) (omega arith) run ∙ from_none (depth_of words A (trial_by steps words A points bound fill) (filled fill)) ∙ deep in
-      ends_well (pick_due fill) due_left words A bound steps points (starting (filled fill)) (omega (arith, e)))
+      let e = law words A (trial_by steps words A points bound fill) (starting (filled (device_of words) fill)) (omega arith) run ∙ from_start (ramend (device_of words)) (depth_of words A (trial_by steps words A points bound fill) (filled (device_of words) fill)) ∙ deep in
+      ends_well (pick_due fill) due_left words A bound steps points (starting (filled (device_of words) fill)) (omega (arith, e)))
 
   replays : (bound : ℕ) (cs : List Choice) (m : State) → IsRun words A cs m → depth_of words A cs m ≡ bound → stop_of words A cs m ≡ stop.End
       → IsOkAnd (replay_from words A cs m) (λ r. (r.stop ≡ stop.End) × (r.depth ≡ bound))
@@ -57,22 +58,22 @@ module _ (law : DepthIsKept) (words : List ℕ) (A : List Entry) where
       (sym (run_legal words A cs m run)) (end, deep)
 
   pub attains : (steps : ℕ) (points : List Waypoint) (bound fill : ℕ) (cs : List Choice) (plan : Plan) → cs ≡ trial_by steps words A points bound fill
-      → IsRun words A cs (filled fill) → depth_of words A cs (filled fill) ≡ bound → plan.fill ≡ fill → choices_of plan.runs ≡ cs → Attains words A bound plan
+      → IsRun words A cs (filled (device_of words) fill) → depth_of words A cs (filled (device_of words) fill) ≡ bound → plan.fill ≡ fill → choices_of plan.runs ≡ cs → Attains words A bound plan
   attains steps points bound fill cs plan is run deep filling choices =
-      subst (λ (xs : List Choice). IsOkAnd (replay_from words A xs (filled plan.fill)) (λ r. (r.stop ≡ stop.End) × (r.depth ≡ bound))) (sym choices)
-      (subst (λ (b : ℕ). IsOkAnd (replay_from words A cs (filled b)) (λ r. (r.stop ≡ stop.End) × (r.depth ≡ bound))) (sym filling)
-      (replays bound cs (filled fill) run deep (stop_is steps points bound fill cs is run deep)))
+      subst (λ (xs : List Choice). IsOkAnd (replay_from words A xs (filled (device_of words) plan.fill)) (λ r. (r.stop ≡ stop.End) × (r.depth ≡ bound))) (sym choices)
+      (subst (λ (b : ℕ). IsOkAnd (replay_from words A cs (filled (device_of words) b)) (λ r. (r.stop ≡ stop.End) × (r.depth ≡ bound))) (sym filling)
+      (replays bound cs (filled (device_of words) fill) run deep (stop_is steps points bound fill cs is run deep)))
 
 module _ (words : List ℕ) (A : List Entry) (points : List Waypoint) (bound : ℕ) where
   pub succeeds : (steps fill : ℕ) (cs : List Choice) (depth : ℕ) → steps ≡ most_steps → cs ≡ trial_by steps words A points bound fill
-      → depth ≡ depth_of words A cs (filled fill) → depth ≡ bound → Succeeds words A points bound fill
+      → depth ≡ depth_of words A cs (filled (device_of words) fill) → depth ≡ bound → Succeeds words A points bound fill
   succeeds steps fill cs depth most is deep reached =
-      ap (λ (xs : List Choice). depth_of words A xs (filled fill)) (sym (is ∙ whole steps words A points bound fill most)) ∙ sym deep ∙ reached
+      ap (λ (xs : List Choice). depth_of words A xs (filled (device_of words) fill)) (sym (is ∙ whole steps words A points bound fill most)) ∙ sym deep ∙ reached
 
   pub fails : (steps fill : ℕ) (cs : List Choice) (depth : ℕ) → steps ≡ most_steps → cs ≡ trial_by steps words A points bound fill
-      → depth ≡ depth_of words A cs (filled fill) → depth ≢ bound → Succeeds words A points bound fill → ⊥
+      → depth ≡ depth_of words A cs (filled (device_of words) fill) → depth ≢ bound → Succeeds words A points bound fill → ⊥
   fails steps fill cs depth most is deep short h =
-      short (deep ∙ ap (λ (xs : List Choice). depth_of words A xs (filled fill)) (is ∙ whole steps words A points bound fill most) ∙ h)
+      short (deep ∙ ap (λ (xs : List Choice). depth_of words A xs (filled (device_of words) fill)) (is ∙ whole steps words A points bound fill most) ∙ h)
 
   pub tried : (steps fill : ℕ) (cs : List Choice) (plan : Plan) → steps ≡ most_steps → cs ≡ trial_by steps words A points bound fill → Succeeds words A points bound fill
       → plan.fill ≡ fill → choices_of plan.runs ≡ cs → IsSchedule plan → IsTried words A points bound fill (Some plan)

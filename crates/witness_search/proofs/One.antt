@@ -18,7 +18,7 @@ module _ (alike : GraphsAreAlike) (answers : AnswersAreOne) (chains : ChainsAreO
       let needs : y.needs ≡ x.needs = answers.needs x.graph y.ranks y.needs x.ranks x.needs least x.least in
       let chain : IsChain x.graph x.needs y.links =
       subst (λ (ns : List ℕ). IsChain x.graph ns y.links) needs (alike.chain words A nodes x.graph y.graph y.needs y.links x.family y.family y.chain) in
-      x.are ∙ ap (interrupts_of nodes) (chains x.graph x.needs x.links y.links x.chain chain) ∙ sym y.are
+      x.are ∙ ap (interrupts_of words nodes) (chains x.graph x.needs x.links y.links x.chain chain) ∙ sym y.are
 
 pub waypoints_are_one : FilledOrMissing → GraphsAreAlike → AnswersAreOne → ChainsAreOne → WaypointsAreOne
 waypoints_are_one filled alike answers chains words A c points points' a b =

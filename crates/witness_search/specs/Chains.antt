@@ -1,7 +1,8 @@
 -- The waypoints of a certificate: the interrupts of the deepest chain of its family, with the least needs. Source: own.
-use Rattle.std.specs.Prelude.{ℕ, ◌≡◌, List, [], ◌∷◌, Option, Some, slice_get}
+use Rattle.std.specs.Prelude.{ℕ, ◌-◌, ◌≡◌, List, [], ◌∷◌, Option, Some, slice_get}
 use Rattle.std.specs.List.{flat_map}
 use Rattle.avr_model.specs.declared.assumption.Entry.{Entry}
+use Rattle.avr_model.specs.Devices.{device_of, ramend}
 use Rattle.mask_states.specs.declared.keys.EdgeKind.{EdgeKind}
 use Rattle.mask_states.specs.declared.keys.EdgeKind.TheVariants.{Interrupt}
 use Rattle.local_rules.specs.declared.local.Node.{Node}
@@ -14,17 +15,18 @@ use Rattle.family_graph.specs.Graphs.{IsGraphOf}
 use Rattle.certificate.specs.Claims.{Claim}
 use Rattle.witness_search.specs.declared.waypoint.Waypoint.{Waypoint}
 
--- the interrupt by which a chain goes on from a node, at this depth
-abbrev pub interrupt_at : Option Node → ℕ → Option EdgeKind → List Waypoint
-interrupt_at (Some n) depth (Some (Interrupt v clears)) = record { pc = n.key.pc; masks = n.key.masks; depth = depth; vector = v; clears = clears } ∷ []
-interrupt_at _ depth kind = []
+-- the interrupt by which a chain goes on from a node, at this depth below where the stack begins on the device
+abbrev pub interrupt_at : List ℕ → Option Node → ℕ → Option EdgeKind → List Waypoint
+interrupt_at words (Some n) depth (Some (Interrupt v clears)) =
+    record { pc = n.key.pc; masks = n.key.masks; sp = ramend (device_of words) - depth; vector = v; clears = clears } ∷ []
+interrupt_at words _ depth kind = []
 
-abbrev pub interrupt_of : List Node → Link → List Waypoint
-interrupt_of nodes link = interrupt_at (slice_get nodes link.node) link.depth link.kind
+abbrev pub interrupt_of : List ℕ → List Node → Link → List Waypoint
+interrupt_of words nodes link = interrupt_at words (slice_get nodes link.node) link.depth link.kind
 
 -- the interrupts of a chain, in their order
-abbrev pub interrupts_of : List Node → List Link → List Waypoint
-interrupts_of nodes links = flat_map (interrupt_of nodes) links
+abbrev pub interrupts_of : List ℕ → List Node → List Link → List Waypoint
+interrupts_of words nodes links = flat_map (interrupt_of words nodes) links
 
 -- the interrupts of the deepest chain of a family
 pub record AreInterrupts (words : List ℕ) (A : List Entry) (nodes : List Node) (points : List Waypoint) : Type 0 where
@@ -35,7 +37,7 @@ pub record AreInterrupts (words : List ℕ) (A : List Entry) (nodes : List Node)
   pub least : IsLeast graph ranks needs
   pub links : List Link
   pub chain : IsChain graph needs links
-  pub are : points ≡ interrupts_of nodes links
+  pub are : points ≡ interrupts_of words nodes links
 
 -- those of a certificate's family
 pub record AreWaypoints (words : List ℕ) (A : List Entry) (c : Claim) (points : List Waypoint) : Type 0 where

@@ -2,6 +2,7 @@
 use Rattle.std.specs.Prelude.{ℕ, ◌≡◌, List, [], ◌∷◌, ◌++◌, Option, Some, None, Contains, IsOkAnd}
 use Rattle.avr_model.specs.declared.choice.Choice.{Choice}
 use Rattle.avr_model.specs.declared.assumption.Entry.{Entry}
+use Rattle.avr_model.specs.Devices.{device_of}
 use Rattle.avr_model.specs.declared.choice.Stop.TheVariants as stop
 use Rattle.avr_model.specs.State.{filled}
 use Rattle.avr_model.specs.Run.{starting, depth_of}
@@ -21,14 +22,14 @@ most_steps = 200000
 
 -- The choices of the trial with this fill byte: from reset, until the depth is the bound or more, or a stop, or after so many steps.
 abbrev pub trial_by : ℕ → List ℕ → List Entry → List Waypoint → ℕ → ℕ → List Choice
-trial_by steps words A points bound fill = choices_by (pick_due fill) due_left words A bound steps points (starting (filled fill))
+trial_by steps words A points bound fill = choices_by (pick_due fill) due_left words A bound steps points (starting (filled (device_of words) fill))
 
 unfoldable pub trial_of : List ℕ → List Entry → List Waypoint → ℕ → ℕ → List Choice
 trial_of words A points bound fill = trial_by most_steps words A points bound fill
 
 -- it succeeds where its depth is the bound
 abbrev pub Succeeds : List ℕ → List Entry → List Waypoint → ℕ → ℕ → Type 0
-Succeeds words A points bound fill = depth_of words A (trial_of words A points bound fill) (filled fill) ≡ bound
+Succeeds words A points bound fill = depth_of words A (trial_of words A points bound fill) (filled (device_of words) fill) ≡ bound
 
 abbrev pub NoneSucceeds : List ℕ → List Entry → List Waypoint → ℕ → List ℕ → Type 0
 NoneSucceeds words A points bound ts = (fill : ℕ) → Contains ts fill → Succeeds words A points bound fill → ⊥

@@ -19,15 +19,20 @@ use std::alloc::{AllocError, Global};
 use vector_table::Assumptions;
 
 // The interrupt by which the chain goes on from a place, if it goes on by one.
-fn add_interrupt(nodes: &Filled, link: &Link, points: &mut Vec<Waypoint>) -> Result<(), AllocError>
-    ensures { OnOk result (points.new.items ≡ points.old.items ++ interrupt_of nodes.now link.now) }
+fn add_interrupt(
+    flash: &Flash,
+    nodes: &Filled,
+    link: &Link,
+    points: &mut Vec<Waypoint>,
+) -> Result<(), AllocError>
+    ensures { OnOk result (points.new.items ≡ points.old.items ++ interrupt_of flash.now nodes.now link.now) }
 {
     if let Some(EdgeKind::Interrupt(vector, clears)) = link.kind {
         if let Some(node) = nodes.as_slice().get(link.node as usize) {
             points.push(Waypoint {
                 pc: node.key.pc,
                 masks: node.key.masks,
-                depth: link.depth,
+                sp: flash.device().ramend().saturating_sub(link.depth),
                 vector,
                 clears,
             })?;
@@ -37,12 +42,17 @@ fn add_interrupt(nodes: &Filled, link: &Link, points: &mut Vec<Waypoint>) -> Res
 }
 
 // The interrupts of a chain.
-fn interrupts(alloc: Global, nodes: &Filled, links: &[Link]) -> Result<Vec<Waypoint>, AllocError>
-    ensures { IfOk result (λ points. points.items ≡ interrupts_of nodes.now links.now) }
+fn interrupts(
+    alloc: Global,
+    flash: &Flash,
+    nodes: &Filled,
+    links: &[Link],
+) -> Result<Vec<Waypoint>, AllocError>
+    ensures { IfOk result (λ points. points.items ≡ interrupts_of flash.now nodes.now links.now) }
 {
     let mut points = Vec::new(alloc);
     for link in links {
-        add_interrupt(nodes, link, &mut points)?;
+        add_interrupt(flash, nodes, link, &mut points)?;
     }
     Ok(points)
 }
@@ -77,5 +87,5 @@ pub(crate) fn waypoints(
     let graph = graph_of(alloc, flash, assumptions, nodes)?;
     let composed = composed(alloc, &graph)?;
     let links = chain(alloc, &graph, &composed)?;
-    interrupts(alloc, nodes, &links)
+    interrupts(alloc, flash, nodes, &links)
 }

@@ -1,6 +1,7 @@
 //! Trials: runs from reset that take the interrupts of a chain of entries where they are due.
 
 ghost use Rattle.std.specs.Prelude.{◌≡◌, IfOk, IfSome};
+ghost use Rattle.avr_model.specs.Devices.{device_of};
 ghost use Rattle.avr_model.specs.State.{filled};
 ghost use Rattle.avr_model.specs.Run.{IsRun, depth_of};
 ghost use Rattle.witness_search.specs.Waypoints.{taken, left_after};
@@ -34,12 +35,12 @@ fn attempt(
     steps: u32,
 ) -> Result<Trace, AllocError>
     ensures choices { IfOk result (λ trace. trace.choices ≡ trial_by steps flash.now assumptions.now points.now bound fill) }
-    ensures run { IfOk result (λ trace. IsRun flash.now assumptions.now trace.choices (filled fill)) }
-    ensures depth { IfOk result (λ trace. trace.depth ≡ depth_of flash.now assumptions.now trace.choices (filled fill)) }
+    ensures run { IfOk result (λ trace. IsRun flash.now assumptions.now trace.choices (filled (device_of flash.now) fill)) }
+    ensures depth { IfOk result (λ trace. trace.depth ≡ depth_of flash.now assumptions.now trace.choices (filled (device_of flash.now) fill)) }
 {
     depth_is_kept();
     let mut rest = points;
-    let mut machine = Machine::new(fill);
+    let mut machine = Machine::start(flash.device(), fill);
     let mut driver = Driver::new(
         move |menu: &Menu| -> Choice
             ensures choice { result ≡ taken fill rest.entry.now menu.now }

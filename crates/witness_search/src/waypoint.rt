@@ -4,11 +4,7 @@ ghost use Rattle.std.specs.Prelude.{◌≡◌};
 ghost use Rattle.witness_search.specs.Waypoints.{is_due};
 
 use avr_machine::{Choice, Menu};
-use avr_model::device;
 use vector_table::Masks;
-
-/// The deepest a stack pointer falls from.
-const RAMEND: u32 = device::RAMEND as u32;
 
 /// An interrupt, and where it is to be taken.
 #[derive(Clone, Copy)]
@@ -17,8 +13,8 @@ pub struct Waypoint {
     pub pc: u16,
     /// The enable bits.
     pub masks: Masks,
-    /// How many bytes the stack pointer is below its place at reset.
-    pub depth: u16,
+    /// The stack pointer: as far below its place at reset as the chain is deep there.
+    pub sp: u16,
     /// The vector, 2 to 26.
     pub vector: u8,
     /// Whether the vector's own enable bit is cleared then.
@@ -31,6 +27,6 @@ pub fn is_due(point: &Waypoint, menu: &Menu) -> bool
 {
     menu.pc == point.pc
         && menu.masks.bits() == point.masks.bits()
-        && u32::from(menu.sp) + u32::from(point.depth) == RAMEND
+        && menu.sp == point.sp
         && menu.has(Choice::Take(point.vector, point.clears))
 }

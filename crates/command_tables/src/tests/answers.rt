@@ -5,27 +5,50 @@ use stack_core::stackbound;
 use std::alloc::{AllocError, Global};
 use std::test::Fail;
 
+/// How a version of the format says its version, a value that nothing is known of, and no pick.
+#[derive(Clone, Copy)]
+struct Form {
+    version: &'static str,
+    unknown: &'static str,
+    no_pick: &'static str,
+}
+
+const FIRST_FORM: Form = Form {
+    version: "1",
+    unknown: " -0000",
+    no_pick: "",
+};
+
+const SECOND_FORM: Form = Form {
+    version: "2",
+    unknown: " -000000FF",
+    no_pick: " -",
+};
+
 /// A certificate's text over nodes of the root that are given by their words and offsets, with the lines of its end.
 fn certificate(
     alloc: Global,
+    form: Form,
     bound: u16,
     need: u16,
     nodes: &[(u16, u16)],
     ending: &str,
 ) -> Result<String, AllocError> {
+    let version = form.version;
     let count = nodes.len();
     let mut text = format!(in alloc;
-        "stackcert 1\nbound {bound}\nassume 0\ninstances 1\ninst root 0000 0000000 0 rank 0 need {need}\nnodes {count}\n"
+        "stackcert {version}\nbound {bound}\nassume 0\ninstances 1\ninst root 0000 0000000 0 rank 0 need {need}\nnodes {count}\n"
     )?;
     for (pc, offset) in nodes {
         let head = format!(in alloc; "node 0 {pc:04X} 0000000 0 0 c{offset}")?;
         text.push_str(head.as_str())?;
+        text.push_str(form.no_pick)?;
         for _ in 0..32 {
-            text.push_str(" -0000")?;
+            text.push_str(form.unknown)?;
         }
         text.push_str(" -7F00 -")?;
         for _ in 0..*offset {
-            text.push_str(" -0000")?;
+            text.push_str(form.unknown)?;
         }
         text.push_str("\n")?;
     }
@@ -73,11 +96,12 @@ const PUSH_AND_POP: &[u8] = &[0x0F, 0x92, 0x0F, 0x90, 0xFD, 0xCF];
 
 const NODES: &[(u16, u16)] = &[(0, 0), (1, 1), (2, 0)];
 
-/// Words, a firmware, a certificate over it (bound, need, nodes, end), and what is said.
+/// Words, a firmware, a certificate over it (form, bound, need, nodes, end), and what is said.
 #[derive(Clone, Copy)]
 struct Judged {
     words: &'static [&'static str],
     firmware: &'static [u8],
+    form: Form,
     bound: u16,
     need: u16,
     nodes: &'static [(u16, u16)],
@@ -87,7 +111,7 @@ struct Judged {
 }
 
 fn is_judged(alloc: Global, row: &Judged) -> Result<bool, AllocError> {
-    let text = certificate(alloc, row.bound, row.need, row.nodes, row.ending)?;
+    let text = certificate(alloc, row.form, row.bound, row.need, row.nodes, row.ending)?;
     let row = Row {
         words: row.words,
         firmware: row.firmware,
@@ -100,10 +124,11 @@ fn is_judged(alloc: Global, row: &Judged) -> Result<bool, AllocError> {
     is_row(alloc, &row)
 }
 
-const JUDGED: [Judged; 11] = [
+const JUDGED: [Judged; 13] = [
     Judged {
         words: CHECK,
         firmware: LOOP,
+        form: FIRST_FORM,
         bound: 0,
         need: 0,
         nodes: &[(0, 0)],
@@ -114,6 +139,7 @@ const JUDGED: [Judged; 11] = [
     Judged {
         words: CHECK,
         firmware: PUSH_AND_POP,
+        form: FIRST_FORM,
         bound: 1,
         need: 1,
         nodes: NODES,
@@ -124,6 +150,7 @@ const JUDGED: [Judged; 11] = [
     Judged {
         words: CHECK,
         firmware: PUSH_AND_POP,
+        form: FIRST_FORM,
         bound: 2048,
         need: 9,
         nodes: NODES,
@@ -134,6 +161,7 @@ const JUDGED: [Judged; 11] = [
     Judged {
         words: CHECK,
         firmware: PUSH_AND_POP,
+        form: FIRST_FORM,
         bound: 0,
         need: 1,
         nodes: NODES,
@@ -144,6 +172,7 @@ const JUDGED: [Judged; 11] = [
     Judged {
         words: CHECK,
         firmware: PUSH_AND_POP,
+        form: FIRST_FORM,
         bound: 0,
         need: 0,
         nodes: NODES,
@@ -154,6 +183,7 @@ const JUDGED: [Judged; 11] = [
     Judged {
         words: CHECK,
         firmware: PUSH_AND_POP,
+        form: FIRST_FORM,
         bound: 1,
         need: 1,
         nodes: &[(1, 1), (2, 0)],
@@ -164,16 +194,18 @@ const JUDGED: [Judged; 11] = [
     Judged {
         words: CHECK,
         firmware: PUSH_AND_POP,
+        form: FIRST_FORM,
         bound: 1,
         need: 1,
         nodes: &[(0, 0), (1, 1)],
         ending: OPEN,
         status: 1,
-        printed: "rejected 3 node 1 to root 0000 0000000 0 0002 0000000 0 0 c0\n",
+        printed: "rejected 3 node 1 to root 0000 0000000 0 0002 0000000 0 0 c0 -\n",
     },
     Judged {
         words: CHECK,
         firmware: PUSH_AND_POP,
+        form: FIRST_FORM,
         bound: 1,
         need: 1,
         nodes: NODES,
@@ -184,6 +216,7 @@ const JUDGED: [Judged; 11] = [
     Judged {
         words: REPORT,
         firmware: PUSH_AND_POP,
+        form: FIRST_FORM,
         bound: 1,
         need: 1,
         nodes: NODES,
@@ -194,6 +227,7 @@ const JUDGED: [Judged; 11] = [
     Judged {
         words: REPORT_AS_JSON,
         firmware: LOOP,
+        form: FIRST_FORM,
         bound: 0,
         need: 0,
         nodes: &[(0, 0)],
@@ -204,12 +238,35 @@ const JUDGED: [Judged; 11] = [
     Judged {
         words: REPORT,
         firmware: PUSH_AND_POP,
+        form: FIRST_FORM,
         bound: 1,
         need: 1,
         nodes: NODES,
         ending: NO_STEP,
         status: 1,
         printed: "rejected 8 witness\n",
+    },
+    Judged {
+        words: CHECK,
+        firmware: PUSH_AND_POP,
+        form: SECOND_FORM,
+        bound: 1,
+        need: 1,
+        nodes: NODES,
+        ending: ATTAINED,
+        status: 0,
+        printed: "accepted bound 1 attained\n",
+    },
+    Judged {
+        words: CHECK,
+        firmware: PUSH_AND_POP,
+        form: SECOND_FORM,
+        bound: 1,
+        need: 1,
+        nodes: &[(0, 0), (1, 1)],
+        ending: OPEN,
+        status: 1,
+        printed: "rejected 3 node 1 to root 0000 0000000 0 0002 0000000 0 0 c0 -\n",
     },
 ];
 
@@ -453,7 +510,7 @@ fn is_written(
 
 #[test]
 fn certificates_are_written_whole(rt: HostRuntime) -> Result<(), Fail> {
-    let text = certificate(rt.alloc(), 0, 0, &[(0, 0)], NO_STEP)?;
+    let text = certificate(rt.alloc(), SECOND_FORM, 0, 0, &[(0, 0)], NO_STEP)?;
     for short_puts in [0, 1, 400] {
         let holds = is_written(rt.alloc(), LOOP, short_puts, text.as_str())?;
         assert!(rt; holds, "short puts {short_puts}");

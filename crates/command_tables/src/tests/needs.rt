@@ -1,14 +1,15 @@
 //! Reports of one certificate, with and without a schedule, names and static data.
 
 use cert_format::read;
-use flash_image::Names;
+use flash_image::{Device, Names};
 use reports::{report_json, report_text};
 use std::alloc::Global;
 use std::test::Fail;
 
-/// What is reported: the bound, whether the certificate has a schedule, the name of word 0040, and the end of static data.
+/// What is reported, on which device: the bound, whether the certificate has a schedule, the name of word 0040, and the end of static data.
 #[derive(Clone, Copy)]
 struct Row {
+    device: Device,
     bound: u16,
     attained: bool,
     name: Option<&'static str>,
@@ -17,8 +18,9 @@ struct Row {
     json: &'static str,
 }
 
-const ROWS: [Row; 4] = [
+const ROWS: [Row; 5] = [
     Row {
+        device: Device::M328,
         bound: 9,
         attained: true,
         name: None,
@@ -27,6 +29,7 @@ const ROWS: [Row; 4] = [
         json: "{\"bound\":9,\"fits\":null,\"instances\":[{\"enables\":0,\"entry\":0,\"i\":0,\"kind\":\"root\",\"name\":null,\"need\":9},{\"enables\":0,\"entry\":64,\"i\":0,\"kind\":\"call\",\"name\":null,\"need\":7},{\"enables\":32768,\"entry\":32,\"i\":0,\"kind\":\"v17\",\"name\":null,\"need\":5}],\"room\":null,\"static\":null,\"witness\":\"attained\"}\n",
     },
     Row {
+        device: Device::M328,
         bound: 9,
         attained: false,
         name: Some("a\"b\\c"),
@@ -35,6 +38,7 @@ const ROWS: [Row; 4] = [
         json: "{\"bound\":9,\"fits\":\"yes\",\"instances\":[{\"enables\":0,\"entry\":0,\"i\":0,\"kind\":\"root\",\"name\":null,\"need\":9},{\"enables\":0,\"entry\":64,\"i\":0,\"kind\":\"call\",\"name\":\"a\\\"b\\\\c\",\"need\":7},{\"enables\":32768,\"entry\":32,\"i\":0,\"kind\":\"v17\",\"name\":null,\"need\":5}],\"room\":2044,\"static\":260,\"witness\":\"open\"}\n",
     },
     Row {
+        device: Device::M328,
         bound: 2047,
         attained: false,
         name: None,
@@ -43,12 +47,22 @@ const ROWS: [Row; 4] = [
         json: "{\"bound\":2047,\"fits\":\"yes\",\"instances\":[{\"enables\":0,\"entry\":0,\"i\":0,\"kind\":\"root\",\"name\":null,\"need\":9},{\"enables\":0,\"entry\":64,\"i\":0,\"kind\":\"call\",\"name\":null,\"need\":7},{\"enables\":32768,\"entry\":32,\"i\":0,\"kind\":\"v17\",\"name\":null,\"need\":5}],\"room\":2047,\"static\":257,\"witness\":\"open\"}\n",
     },
     Row {
+        device: Device::M328,
         bound: 9,
         attained: false,
         name: None,
         static_end: Some(0x0900),
         text: "bound 9\nwitness open\nstatic 0900 room 0 fits no\ninst root 0000 0000000 0 - need 9\ninst call 0040 0000000 0 - need 7\ninst v17 0020 0008000 0 - need 5\n",
         json: "{\"bound\":9,\"fits\":\"no\",\"instances\":[{\"enables\":0,\"entry\":0,\"i\":0,\"kind\":\"root\",\"name\":null,\"need\":9},{\"enables\":0,\"entry\":64,\"i\":0,\"kind\":\"call\",\"name\":null,\"need\":7},{\"enables\":32768,\"entry\":32,\"i\":0,\"kind\":\"v17\",\"name\":null,\"need\":5}],\"room\":0,\"static\":2304,\"witness\":\"open\"}\n",
+    },
+    Row {
+        device: Device::M48,
+        bound: 9,
+        attained: false,
+        name: None,
+        static_end: Some(0x0104),
+        text: "bound 9\nwitness open\nstatic 0104 room 508 fits yes\ninst root 0000 0000000 0 - need 9\ninst call 0040 0000000 0 - need 7\ninst v17 0020 0008000 0 - need 5\n",
+        json: "{\"bound\":9,\"fits\":\"yes\",\"instances\":[{\"enables\":0,\"entry\":0,\"i\":0,\"kind\":\"root\",\"name\":null,\"need\":9},{\"enables\":0,\"entry\":64,\"i\":0,\"kind\":\"call\",\"name\":null,\"need\":7},{\"enables\":32768,\"entry\":32,\"i\":0,\"kind\":\"v17\",\"name\":null,\"need\":5}],\"room\":508,\"static\":260,\"witness\":\"open\"}\n",
     },
 ];
 
@@ -77,8 +91,8 @@ fn is_row(alloc: Global, row: &Row) -> Result<bool, Fail> {
     if let Some(name) = row.name {
         names.add(0x40, name.as_bytes())?;
     }
-    let text = report_text(alloc, &certificate, &names, row.static_end)?;
-    let json = report_json(alloc, &certificate, &names, row.static_end)?;
+    let text = report_text(alloc, row.device, &certificate, &names, row.static_end)?;
+    let json = report_json(alloc, row.device, &certificate, &names, row.static_end)?;
     Ok(text.as_slice() == row.text.as_bytes() && json.as_slice() == row.json.as_bytes())
 }
 

@@ -3,6 +3,7 @@
 ghost use Rattle.std.specs.Prelude.{◌<◌, length};
 
 use crate::tests::seeds::{Plan, seeds_of};
+use avr_model::device::Device;
 use avr_model::listed::Listed;
 use call_graph::{Edge, EdgeKind, Expanded, Filled, Leaving, View, exits, expand, next, next_with};
 use flash_image::Flash;
@@ -20,8 +21,8 @@ enum Due {
     Missing(u32),
 }
 
-/// A firmware's bytes, nodes, the number of one of them, and what is due.
-struct Row(&'static [u8], &'static [Plan], usize, Due);
+/// A device, a firmware's bytes, nodes, the number of one of them, and what is due.
+struct Row(Device, &'static [u8], &'static [Plan], usize, Due);
 
 fn are_edges(edges: &Listed<Edge>, due: &[(EdgeKind, u16)]) -> bool {
     let found = edges.as_slice();
@@ -64,13 +65,14 @@ fn leads(
 }
 
 fn is_row(alloc: Global, row: &Row) -> Result<bool, Fail> {
-    let flash = Flash::from_raw(alloc, row.0)?;
-    let Some(nodes) = seeds_of(alloc, row.1)? else {
+    let whole = Flash::from_raw(alloc, row.1)?;
+    let flash = whole.narrow(row.0).map_err(|_| "words outside")?;
+    let Some(nodes) = seeds_of(alloc, row.2)? else {
         return Ok(false);
     };
-    let at = row.2;
+    let at = row.3;
     match (
-        row.3,
+        row.4,
         expand(alloc, &flash, &Assumptions::empty(alloc), &nodes)?,
     ) {
         (Due::Missing(due), Expanded::Missing(missing)) => Ok(missing == due),
@@ -102,15 +104,17 @@ const LOOP_NODES: &[Plan] = &[
 // nop; rjmp to itself
 const LINE: &[u8] = &[0, 0, 0xFF, 0xCF];
 
-static ROWS: [Row; 6] = [
+static ROWS: [Row; 7] = [
     Row(
+        Device::M328,
         CALL,
         CALL_NODES,
         0,
         Due::Edges(&[(EdgeKind::Call, 2), (EdgeKind::Return, 1)]),
     ),
-    Row(CALL, CALL_NODES, 2, Due::Edges(&[])),
+    Row(Device::M328, CALL, CALL_NODES, 2, Due::Edges(&[])),
     Row(
+        Device::M328,
         LOOP,
         LOOP_NODES,
         0,
@@ -122,7 +126,25 @@ static ROWS: [Row; 6] = [
             (EdgeKind::Return, 0),
         ]),
     ),
+    // a vector has one word
     Row(
+        Device::M48,
+        &[0xFF, 0xCF, 0x18, 0x95],
+        &[
+            Plan(Kind::Root, 0, true, 0, None),
+            Plan(Kind::Vector(2), 1, true, 1, None),
+        ],
+        0,
+        Due::Edges(&[
+            (EdgeKind::Local, 0),
+            (EdgeKind::Interrupt(2, false), 1),
+            (EdgeKind::Interrupt(7, false), 6),
+            (EdgeKind::Interrupt(7, true), 6),
+            (EdgeKind::Return, 0),
+        ]),
+    ),
+    Row(
+        Device::M328,
         LINE,
         &[
             Plan(Kind::Root, 0, false, 0, None),
@@ -132,6 +154,7 @@ static ROWS: [Row; 6] = [
         Due::Edges(&[(EdgeKind::Local, 1)]),
     ),
     Row(
+        Device::M328,
         LINE,
         &[
             Plan(Kind::Root, 0, false, 0, None),
@@ -141,6 +164,7 @@ static ROWS: [Row; 6] = [
         Due::Missing(1),
     ),
     Row(
+        Device::M328,
         &[0xFF, 0xFF],
         &[Plan(Kind::Root, 0, false, 0, None)],
         0,

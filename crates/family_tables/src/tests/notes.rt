@@ -42,24 +42,29 @@ fn take(nesting: &mut Nesting, note: Note) -> Result<(), AllocError> {
     }
 }
 
-/// What the notes tell, where the nesting is weighed besides after each note if `often`.
-fn weight(alloc: Global, notes: &[Note], often: bool) -> Result<Option<Weight>, AllocError> {
+/// What the notes tell where SRAM has so many bytes, where the nesting is weighed besides after each note if `often`.
+fn weight(
+    alloc: Global,
+    size: u16,
+    notes: &[Note],
+    often: bool,
+) -> Result<Option<Weight>, AllocError> {
     let mut nesting = Nesting::new(alloc);
     for note in notes {
         take(&mut nesting, *note)?;
         if often && nesting.count() <= 65_536 {
-            nesting.weigh()?;
+            nesting.weigh(size)?;
         }
     }
     if nesting.count() > 65_536 {
         return Ok(None);
     }
-    Ok(Some(nesting.weigh()?))
+    Ok(Some(nesting.weigh(size)?))
 }
 
-fn is_row(alloc: Global, notes: &[Note], wanted: Weight) -> bool {
+fn is_row(alloc: Global, size: u16, notes: &[Note], wanted: Weight) -> bool {
     for often in [false, true] {
-        match weight(alloc, notes, often) {
+        match weight(alloc, size, notes, often) {
             Ok(Some(weight)) if weight == wanted => {}
             _ => return false,
         }
@@ -87,12 +92,15 @@ fn nestings_tell_what_is_found_by_hand(rt: HostRuntime) {
     let handler = (5, 10);
     let later = (9, 18);
     let chain = chain();
-    let rows: [(&[Note], Weight); 14] = [
-        (&[Note::Node(ROOT, 0)], Weight::Light),
-        (&chain, Weight::Light),
-        // a need of exactly what SRAM has, and one more
-        (&[Note::Node(ROOT, 2_048)], Weight::Light),
+    let rows: [(u16, &[Note], Weight); 16] = [
+        (SIZE, &[Note::Node(ROOT, 0)], Weight::Light),
+        (SIZE, &chain, Weight::Light),
+        // a need of exactly what the least SRAM has, and one more; then of the greatest
+        (512, &[Note::Node(ROOT, 512)], Weight::Light),
+        (512, &[Note::Node(ROOT, 513)], Weight::TooDeep(513)),
+        (SIZE, &[Note::Node(ROOT, 2_048)], Weight::Light),
         (
+            SIZE,
             &[
                 Note::Node(ROOT, 0),
                 Note::Entrance(ROOT, 46, function),
@@ -101,6 +109,7 @@ fn nestings_tell_what_is_found_by_hand(rt: HostRuntime) {
             Weight::Light,
         ),
         (
+            SIZE,
             &[
                 Note::Node(ROOT, 0),
                 Note::Entrance(ROOT, 46, function),
@@ -110,10 +119,12 @@ fn nestings_tell_what_is_found_by_hand(rt: HostRuntime) {
         ),
         // an instance that is entered and has no node needs nothing
         (
+            SIZE,
             &[Note::Node(ROOT, 0), Note::Entrance(ROOT, 2_046, function)],
             Weight::Light,
         ),
         (
+            SIZE,
             &[
                 Note::Node(ROOT, 0),
                 Note::Entrance(ROOT, 2_047, function),
@@ -123,6 +134,7 @@ fn nestings_tell_what_is_found_by_hand(rt: HostRuntime) {
         ),
         // a handler below a function below the root, with the way back to each
         (
+            SIZE,
             &[
                 Note::Node(ROOT, 10),
                 Note::Entrance(ROOT, 1_000, function),
@@ -134,6 +146,7 @@ fn nestings_tell_what_is_found_by_hand(rt: HostRuntime) {
         ),
         // two instances enter a third, each of them at its own depth
         (
+            SIZE,
             &[
                 Note::Node(ROOT, 0),
                 Note::Entrance(ROOT, 2_000, leaf),
@@ -146,6 +159,7 @@ fn nestings_tell_what_is_found_by_hand(rt: HostRuntime) {
         ),
         // a function that enters itself, and one that does by another
         (
+            SIZE,
             &[
                 Note::Node(ROOT, 0),
                 Note::Entrance(ROOT, 0, function),
@@ -155,6 +169,7 @@ fn nestings_tell_what_is_found_by_hand(rt: HostRuntime) {
             Weight::Recursion(40),
         ),
         (
+            SIZE,
             &[
                 Note::Node(ROOT, 0),
                 Note::Entrance(ROOT, 0, function),
@@ -167,6 +182,7 @@ fn nestings_tell_what_is_found_by_hand(rt: HostRuntime) {
         ),
         // two handlers that enter each other: the lesser vector
         (
+            SIZE,
             &[
                 Note::Node(ROOT, 0),
                 Note::Entrance(ROOT, 0, later),
@@ -179,6 +195,7 @@ fn nestings_tell_what_is_found_by_hand(rt: HostRuntime) {
         ),
         // a handler is named before a function
         (
+            SIZE,
             &[
                 Note::Node(ROOT, 0),
                 Note::Entrance(ROOT, 0, leaf),
@@ -192,6 +209,7 @@ fn nestings_tell_what_is_found_by_hand(rt: HostRuntime) {
         ),
         // a cycle is told before the depth, also where the root is noted last
         (
+            SIZE,
             &[
                 Note::Node(function, 2_048),
                 Note::Entrance(function, 0, function),
@@ -201,7 +219,7 @@ fn nestings_tell_what_is_found_by_hand(rt: HostRuntime) {
             Weight::Recursion(40),
         ),
     ];
-    for (at, (notes, wanted)) in rows.iter().enumerate() {
-        assert!(rt; is_row(rt.alloc(), notes, *wanted), "row {at}");
+    for (at, (size, notes, wanted)) in rows.iter().enumerate() {
+        assert!(rt; is_row(rt.alloc(), *size, notes, *wanted), "row {at}");
     }
 }

@@ -1,6 +1,6 @@
 //! Families of small firmwares, node by node.
 
-ghost use Rattle.std.specs.Prelude.{ℕ, ◌≡◌, ◌<◌, length, slice_get, Some, IsTrue, IfOk, IfSome, OnOk};
+ghost use Rattle.std.specs.Prelude.{ℕ, ◌≡◌, ◌<◌, length, slice_get, Some, None, IsTrue, IfOk, IfSome, OnOk};
 ghost use Rattle.std.specs.declared.cmp.Ordering.TheVariants.{Less};
 ghost use Rattle.mask_states.specs.declared.keys.NodeKey as node_key;
 ghost use Rattle.mask_states.specs.declared.keys.SpForm.TheVariants.{Closed};
@@ -48,7 +48,8 @@ pub(crate) struct Plan(pub Kind, pub u16, pub bool, pub u16, pub Option<(u32, u1
 
 /// The node's key; I is on in the root where vectors are enabled.
 fn key_of(plan: &Plan, offset: u16) -> NodeKey
-    ensures { result.sp ≡ Closed offset }
+    ensures closed { result.sp ≡ Closed offset }
+    ensures unpicked { result.pick ≡ None }
 {
     let masks = Masks::none().with(2, plan.2).with(7, plan.2);
     let is_root = plan.0 == Kind::Root;
@@ -64,6 +65,7 @@ fn key_of(plan: &Plan, offset: u16) -> NodeKey
         i: plan.2 && is_root,
         delay: false,
         sp: SpForm::Closed(offset),
+        pick: None,
     }
 }
 
@@ -98,6 +100,7 @@ fn add_own(
     key: NodeKey,
 ) -> Result<bool, AllocError>
     requires closed { key.sp ≡ Closed 0 }
+    requires unpicked { key.pick ≡ None }
     requires seeds { AreSeeds items.old.items }
     requires ascending { AreAscending items.old.items }
     ensures seeds { OnOk result (AreSeeds items.new.items) }

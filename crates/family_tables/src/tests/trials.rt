@@ -2,6 +2,7 @@
 
 use crate::tests::solving::flash_of;
 use avr_machine::{Masks, Stop};
+use avr_model::device::Device;
 use std::alloc::Global;
 use std::test::Fail;
 use vector_table::Assumptions;
@@ -40,7 +41,7 @@ fn is_row(alloc: Global, row: &Row) -> Result<bool, Fail> {
     let points = [Waypoint {
         pc: 7,
         masks: Masks::none().with(2, true),
-        depth: *depth,
+        sp: Device::M328.ramend().saturating_sub(*depth),
         vector: 2,
         clears: false,
     }];

@@ -5,6 +5,7 @@ ghost use Rattle.edge_rules.specs.Examples.{callee};
 ghost use Rattle.family_tables.specs.Examples.{form_by, nodes_by, insts_by};
 
 use abs_state::AbsState;
+use avr_model::device::Device;
 use cert_check::{Reason, Verdict, is_attained, judge};
 use certificate::{Certificate, Inst, NodeForm};
 use flash_image::Flash;
@@ -28,6 +29,7 @@ const NO_CALL: [u8; 6] = [0x00, 0x00, 0xFF, 0xCF, 0x08, 0x95];
 /// An image and a certificate for it, and the verdict.
 #[derive(Clone, Copy)]
 struct Row {
+    device: Device,
     image: [u8; 6],
     /// Whether an assumption is handed in, which the certificate lacks.
     assumed: bool,
@@ -42,9 +44,10 @@ struct Row {
     verdict: (u8, u32, u32),
 }
 
-/// A row with neither an assumption nor a node that comes from another.
+/// A row on the greatest device, with neither an assumption nor a node that comes from another.
 const fn row_of(image: [u8; 6], bound: u16, rank: u16, need: u16, verdict: (u8, u32, u32)) -> Row {
     Row {
+        device: Device::M328,
         image,
         assumed: false,
         from: false,
@@ -168,7 +171,8 @@ fn assumptions(alloc: Global, assumed: bool) -> Result<Assumptions, Fail> {
 
 /// Whether the verdict is that of the row.
 fn is_row(alloc: Global, row: &Row) -> Result<bool, Fail> {
-    let flash = Flash::from_raw(alloc, &row.image).map_err(|_| "no image")?;
+    let whole = Flash::from_raw(alloc, &row.image).map_err(|_| "no image")?;
+    let flash = whole.narrow(row.device).map_err(|_| "words outside")?;
     let assumptions = assumptions(alloc, row.assumed)?;
     let certificate = certificate(alloc, row)?;
     let verdict = verdict_in_numbers(alloc, &flash, &assumptions, &certificate)?;
@@ -186,6 +190,15 @@ fn verdicts_are_those_worked_by_hand(rt: HostRuntime) -> Result<(), Fail> {
         row_of(CALL, 0, 1, 1, (5, 0, 2)),
         row_of(CALL, 1, 1, 2, (6, 2, 0)),
         row_of(NO_CALL, 0, 0, 0, (0, 0, 0)),
+        // a bound of as many bytes as the least SRAM has, and of one more
+        Row {
+            device: Device::M48,
+            ..row_of(CALL, 512, 1, 2, (0, 512, 0))
+        },
+        Row {
+            device: Device::M48,
+            ..row_of(CALL, 513, 1, 2, (6, 2, 0))
+        },
         Row {
             assumed: true,
             ..row_of(CALL, 2, 1, 2, (7, 0, 0))

@@ -1,5 +1,5 @@
-//! A certificate with each kind of line, which is written as it was read, and small damages to it with the places at which they
-//! are refused.
+//! A certificate of the first version with each kind of line, which is written as it was read, and small damages to it with the
+//! places at which they are refused.
 
 use cert_format::{CertFault, Certificate, Limit, read, write};
 use edge_rules::NodeForm;
@@ -10,7 +10,7 @@ use std::alloc::{AllocError, Global};
 use std::test::Fail;
 
 /// A piece of a text: what stands before, between and behind so many equal words.
-type Piece = (&'static [u8], &'static [u8], usize, &'static [u8]);
+pub(crate) type Piece = (&'static [u8], &'static [u8], usize, &'static [u8]);
 
 /// A certificate with each kind of line.
 static PIECES: [Piece; 18] = [
@@ -45,16 +45,21 @@ static PIECES: [Piece; 18] = [
 ];
 
 /// Another piece in one place, and why the text is then refused, with the piece that begins there.
-type Damage = (usize, Piece, CertFault);
+pub(crate) type Damage = (usize, Piece, CertFault);
 
 /// A piece without equal words.
-const NONE: &[u8] = b"";
+pub(crate) const NONE: &[u8] = b"";
 
-static DAMAGES: [Damage; 33] = [
+static DAMAGES: [Damage; 36] = [
+    (
+        0,
+        (b"stackcert 3\n", NONE, 0, NONE),
+        CertFault::Malformed(0),
+    ),
     (
         0,
         (b"stackcert 2\n", NONE, 0, NONE),
-        CertFault::Malformed(0),
+        CertFault::Malformed(10),
     ),
     (1, (b"bound 04\n", NONE, 0, NONE), CertFault::Malformed(1)),
     (1, (b"bound 2049\n", NONE, 0, NONE), CertFault::Malformed(1)),
@@ -174,6 +179,21 @@ static DAMAGES: [Damage; 33] = [
         CertFault::Malformed(12),
     ),
     (
+        11,
+        (b"node 0 0001 0000000 0 0 c1 - from 0\n", NONE, 0, NONE),
+        CertFault::Malformed(11),
+    ),
+    (
+        13,
+        (
+            b"node 1 0010 0000001 1 0 o3,t0003",
+            b" e1F0F05",
+            32,
+            b" f7F00 c0301 . l03FFFE h0003FF08\n",
+        ),
+        CertFault::Malformed(13),
+    ),
+    (
         13,
         (b"node 3 0010 0000001 1 0 c0 from 0\n", NONE, 0, NONE),
         CertFault::Malformed(13),
@@ -206,15 +226,16 @@ fn append(text: &mut Vec<u8>, piece: &Piece) -> Result<(), AllocError> {
 }
 
 /// All pieces, with another one in one place, and where one of them begins.
-fn joined(
+pub(crate) fn joined(
     alloc: Global,
+    pieces: &[Piece; 18],
     place: usize,
     other: &Piece,
     wanted: usize,
 ) -> Result<(Vec<u8>, usize), AllocError> {
     let mut text = Vec::new(alloc);
     let mut begin = 0;
-    for (at, piece) in PIECES.iter().enumerate() {
+    for (at, piece) in pieces.iter().enumerate() {
         if at == wanted {
             begin = text.len();
         }
@@ -224,14 +245,18 @@ fn joined(
 }
 
 /// Whether the text with this damage is refused as told.
-fn is_refused(alloc: Global, damage: &Damage) -> Result<bool, AllocError> {
+pub(crate) fn is_refused(
+    alloc: Global,
+    pieces: &[Piece; 18],
+    damage: &Damage,
+) -> Result<bool, AllocError> {
     let (place, other, fault) = damage;
     let wanted = match *fault {
         CertFault::Malformed(piece) => piece,
         CertFault::Order(piece) => piece,
         _ => 0,
     };
-    let (text, begin) = joined(alloc, *place, other, wanted)?;
+    let (text, begin) = joined(alloc, pieces, *place, other, wanted)?;
     let due = match *fault {
         CertFault::Malformed(_) => CertFault::Malformed(begin),
         CertFault::Order(_) => CertFault::Order(begin),
@@ -243,7 +268,7 @@ fn is_refused(alloc: Global, damage: &Damage) -> Result<bool, AllocError> {
 #[test]
 fn each_small_damage_is_refused_at_its_place(rt: HostRuntime) -> Result<(), Fail> {
     for (at, damage) in DAMAGES.iter().enumerate() {
-        assert!(rt; is_refused(rt.alloc(), damage)?, "damage {at}");
+        assert!(rt; is_refused(rt.alloc(), &PIECES, damage)?, "damage {at}");
     }
     Ok(())
 }
@@ -271,7 +296,7 @@ fn has_its_values(certificate: &Certificate) -> Option<bool> {
 #[test]
 fn what_is_read_is_written_again(rt: HostRuntime) -> Result<(), Fail> {
     let alloc = rt.alloc();
-    let (text, _) = joined(alloc, 0, &PIECES[0], 0)?;
+    let (text, _) = joined(alloc, &PIECES, 0, &PIECES[0], 0)?;
     let certificate = read(alloc, &text)?;
     let has_values = has_its_values(&certificate) == Some(true);
     let again = write(alloc, &certificate)?;

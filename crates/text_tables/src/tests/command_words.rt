@@ -1,5 +1,6 @@
 //! Words, and the commands that they are.
 
+use avr_model::device::Device;
 use commands::{Command, Size, command_of};
 use std::test::Fail;
 
@@ -7,21 +8,28 @@ use std::test::Fail;
 type Row<'a> = (&'a [&'a str], Option<Command<'a>>);
 
 const CHECK: Option<Command<'static>> = Some(Command::Check {
+    device: Device::M328,
     firmware: "a",
     certificate: "b",
     assume: Some("c"),
 });
 
-fn analyse(steps: Option<u64>) -> Option<Command<'static>> {
+fn analyse_on(device: Device, steps: Option<u64>) -> Option<Command<'static>> {
     Some(Command::Analyse {
+        device,
         firmware: "a",
         assume: None,
         steps,
     })
 }
 
+fn analyse(steps: Option<u64>) -> Option<Command<'static>> {
+    analyse_on(Device::M328, steps)
+}
+
 fn run() -> Option<Command<'static>> {
     Some(Command::Run {
+        device: Device::M328,
         firmware: "a",
         schedule: "b",
         assume: None,
@@ -30,6 +38,7 @@ fn run() -> Option<Command<'static>> {
 
 fn report(assume: Option<&'static str>, json: bool) -> Option<Command<'static>> {
     Some(Command::Report {
+        device: Device::M328,
         firmware: "a",
         certificate: "b",
         assume,
@@ -43,7 +52,7 @@ fn demo(size: Size) -> Option<Command<'static>> {
 
 #[test]
 fn words_are_commands(rt: HostRuntime) -> Result<(), Fail> {
-    let rows: [Row<'_>; 28] = [
+    let rows: [Row<'_>; 34] = [
         (&["check", "--assume", "c", "a", "b"], CHECK),
         (&["check", "a", "--assume", "c", "b"], CHECK),
         (&["check", "a", "b", "--assume", "c"], CHECK),
@@ -61,7 +70,30 @@ fn words_are_commands(rt: HostRuntime) -> Result<(), Fail> {
         ),
         (&["demo", "1"], demo(Size::new(1))),
         (&["demo", "2000"], demo(Size::new(2000))),
+        (&["analyse", "a", "--device", "atmega328p"], analyse(None)),
+        (
+            &["analyse", "--device", "atmega48pa", "a"],
+            analyse_on(Device::M48, None),
+        ),
+        (
+            &["analyse", "a", "--device", "atmega168pa", "--steps", "0"],
+            analyse_on(Device::M168, Some(0)),
+        ),
         // no command
+        (&["analyse", "a", "--device", "atmega8"], None),
+        (&["demo", "1", "--device", "atmega88pa"], None),
+        (
+            &[
+                "check",
+                "a",
+                "b",
+                "--device",
+                "atmega88pa",
+                "--device",
+                "atmega88pa",
+            ],
+            None,
+        ),
         (&[], None),
         (&["help"], None),
         (&["check", "a"], None),

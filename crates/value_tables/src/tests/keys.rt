@@ -128,7 +128,13 @@ fn node(inst: &InstKey, pc: u16, bits: u32, i: bool, delay: bool, sp: SpForm) ->
         i,
         delay,
         sp,
+        pick: None,
     }
+}
+
+fn picked(key: NodeKey, byte: u8) -> NodeKey {
+    let pick = Some(byte);
+    NodeKey { pick, ..key }
 }
 
 // Whether two instances go in this order, and are equal by `==` where it is that of equal ones.
@@ -167,6 +173,8 @@ fn nodes_ascend_by_instance_and_then_by_their_fields(rt: HostRuntime) {
     let call = inst(Kind::Call, 1, 0, false);
     let keys = [
         NodeKey::entry(&root),
+        picked(NodeKey::entry(&root), 0),
+        picked(NodeKey::entry(&root), 255),
         node(&root, 0, 0, false, false, SpForm::Closed(2)),
         node(&root, 0, 0, false, false, SpForm::Open(0, High::Known(8))),
         node(&root, 0, 0, false, false, SpForm::Open(0, High::Known(9))),

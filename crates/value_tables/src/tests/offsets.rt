@@ -17,11 +17,14 @@ static TAGS: [Tag; 8] = [
     Tag::SpHi(258),
 ];
 
-static CARRY_TAGS: [CarryTag; 4] = [
+static CARRY_TAGS: [CarryTag; 7] = [
     CarryTag::None,
     CarryTag::Borrow(2, 0),
     CarryTag::Borrow(2, 1),
     CarryTag::Borrow(3, 0),
+    CarryTag::Less(2, 0),
+    CarryTag::Less(2, 1),
+    CarryTag::Less(3, 0),
 ];
 
 // Whether two tags, which are the same or not, are ordered and joined as is due, and their pair is at no place.
@@ -72,7 +75,7 @@ enum Row {
     High(Tag, u8, CarryTag, Tag),
 }
 
-static ROWS: [Row; 32] = [
+static ROWS: [Row; 33] = [
     Row::Frame(Tag::SpLo(2), Tag::SpHi(2), Some(2)),
     Row::Frame(Tag::SpLo(2), Tag::SpHi(258), Some(258)),
     Row::Frame(Tag::SpLo(255), Tag::SpHi(65535), Some(65535)),
@@ -137,6 +140,7 @@ static ROWS: [Row; 32] = [
     ),
     Row::Frame(Tag::SpLo(242), Tag::SpHi(65522), Some(65522)),
     // nothing is known without the borrow of the low byte
+    Row::High(Tag::SpHi(2), 1, CarryTag::Less(2, 0), Tag::None),
     Row::Low(Tag::SpHi(2), 1, Tag::None, CarryTag::None),
     Row::High(Tag::SpHi(2), 1, CarryTag::None, Tag::None),
     Row::High(Tag::SpHi(2), 1, CarryTag::Borrow(3, 0), Tag::None),

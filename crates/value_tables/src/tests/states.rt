@@ -13,10 +13,14 @@ use std::test::Fail;
 fn tagged(tag: Tag, known: u8, value: u8) -> AbsByte
     ensures { result.tag ≡ tag }
 {
-    AbsByte {
-        tag,
-        bits: TriByte::new(known, value),
-    }
+    AbsByte::of_bits(tag, TriByte::new(known, value))
+}
+
+// A byte that lies in a range besides.
+fn ranged(value: AbsByte, low: u8, high: u8) -> AbsByte
+    ensures { result.tag ≡ value.tag }
+{
+    AbsByte { low, high, ..value }
 }
 
 fn flags(entry: bool, known: u8, value: u8, carry: CarryTag) -> AbsFlags {
@@ -65,16 +69,30 @@ enum Join {
     Flags(AbsFlags, AbsFlags, AbsFlags),
 }
 
-fn joins() -> [Join; 4] {
+fn joins() -> [Join; 8] {
     let low = tagged(Tag::SpLo(3), 0xff, 0x45);
+    let any = AbsByte::unknown();
+    let less = flags(false, 0x03, 0x01, CarryTag::Less(16, 4));
+    let same = flags(false, 0x01, 0x01, CarryTag::Less(16, 4));
     let kept = flags(true, 0x03, 0x01, CarryTag::Borrow(3, 5));
     let changed = flags(false, 0x01, 0x01, CarryTag::Borrow(3, 5));
     let untied = flags(true, 0x03, 0x03, CarryTag::None);
     [
+        // the least range that holds both, which the bits alone don't give
         Join::Values(
             low,
             tagged(Tag::SpLo(3), 0xff, 0x43),
-            tagged(Tag::SpLo(3), 0xf9, 0x41),
+            ranged(tagged(Tag::SpLo(3), 0xf9, 0x41), 0x43, 0x45),
+        ),
+        Join::Values(
+            ranged(any, 0x03, 0x10),
+            ranged(any, 0x20, 0x30),
+            ranged(any, 0x03, 0x30),
+        ),
+        Join::Values(
+            ranged(any, 0x03, 0x10),
+            ranged(any, 0x04, 0x11),
+            ranged(any, 0x03, 0x11),
         ),
         Join::Values(
             low,
@@ -83,6 +101,12 @@ fn joins() -> [Join; 4] {
         ),
         Join::Flags(kept, changed, changed),
         Join::Flags(kept, untied, flags(true, 0x01, 0x01, CarryTag::None)),
+        Join::Flags(less, same, same),
+        Join::Flags(
+            less,
+            flags(false, 0x03, 0x01, CarryTag::Less(16, 5)),
+            flags(false, 0x03, 0x01, CarryTag::None),
+        ),
     ]
 }
 
@@ -109,11 +133,10 @@ fn values_and_flags_join_where_they_agree(rt: HostRuntime) {
     );
 }
 
-// Whether each register is tagged as what the caller's held, with its bits.
+// Whether each register is tagged as what the caller's held, with its bits and its range.
 fn is_entry(entered: AbsByte, r: u8, was: AbsByte) -> bool {
     let tag = Tag::Entry(r);
-    let bits = was.bits;
-    entered == AbsByte { tag, bits }
+    entered == AbsByte { tag, ..was }
 }
 
 fn are_entries(entered: &AbsState, caller: &AbsState) -> bool {
@@ -132,7 +155,7 @@ fn an_entry_tags_each_register(rt: HostRuntime) -> Result<(), Fail> {
     let known = flags(false, 0x01, 0x01, CarryTag::Borrow(3, 5));
     let mut caller = state(
         alloc,
-        AbsByte::known(0x41),
+        ranged(AbsByte::unknown(), 0x03, 0x41),
         tagged(Tag::SpHi(3), 0x0f, 0x08),
         known,
     );
@@ -150,7 +173,7 @@ fn an_entry_tags_each_register(rt: HostRuntime) -> Result<(), Fail> {
 type Known = (AbsByte, AbsByte, AbsFlags);
 
 // A caller, an exit, and what is known after the return: none where no machine returns so.
-fn returns() -> [(Known, Known, Option<Known>); 5] {
+fn returns() -> [(Known, Known, Option<Known>); 9] {
     let any = AbsByte::unknown();
     let kept = flags(false, 0x01, 0x01, CarryTag::Borrow(3, 5));
     let entry = flags(true, 0x01, 0x01, CarryTag::Borrow(3, 5));
@@ -158,6 +181,9 @@ fn returns() -> [(Known, Known, Option<Known>); 5] {
     let changed = flags(false, 0x01, 0x00, CarryTag::Borrow(9, 9));
     let set = flags(false, 0x01, 0x01, CarryTag::None);
     let tied = flags(true, 0x01, 0x01, CarryTag::None);
+    let less = flags(false, 0x01, 0x01, CarryTag::Less(0, 4));
+    let entered = tagged(Tag::Entry(0), 0, 0);
+    let kept_range = ranged(entered, 8, 0x20);
     [
         // what the exit still has of the entry is the caller's, with the bits of both
         (
@@ -187,6 +213,20 @@ fn returns() -> [(Known, Known, Option<Known>); 5] {
         ),
         ((any, any, clear), (any, any, tied), None),
         ((any, any, clear), (any, any, set), Some((any, any, set))),
+        // what both ranges hold, if anything
+        (
+            (ranged(any, 3, 0x10), any, kept),
+            (any, kept_range, set),
+            Some((any, ranged(any, 8, 0x10), set)),
+        ),
+        ((ranged(any, 3, 7), any, kept), (any, kept_range, set), None),
+        // what C says of a register is kept where the register and the flags are
+        (
+            (any, any, less),
+            (entered, any, tied),
+            Some((any, any, less)),
+        ),
+        ((any, any, less), (any, any, tied), Some((any, any, set))),
     ]
 }
 
@@ -252,7 +292,8 @@ fn a_join_tells_whether_it_grew(rt: HostRuntime) -> Result<(), Fail> {
     let mut other = state(alloc, AbsByte::known(0x43), any, clear);
     other.slots.push(Slot::Free)?;
     other.slots.push(Slot::Guarded(AbsByte::known(0x32)))?;
-    let mut wanted = state(alloc, tagged(Tag::None, 0xf9, 0x41), any, clear);
+    let both = ranged(tagged(Tag::None, 0xf9, 0x41), 0x43, 0x45);
+    let mut wanted = state(alloc, both, any, clear);
     wanted.slots.push(Slot::Free)?;
     wanted
         .slots

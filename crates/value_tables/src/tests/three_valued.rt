@@ -8,7 +8,7 @@ use bit_domain::{Sum, Tri, TriByte, add, and, eor, equal, not, or, sub};
 use std::test::Fail;
 
 // Operands, carry; sum, its carries out of bit 3, into bit 7 and out of bit 7; difference, its borrows there.
-const SUMS: [[u8; 15]; 34] = [
+const SUMS: [[u8; 15]; 35] = [
     [
         0xFF, 0xFF, 0xFF, 0x01, 0, 0xFF, 0x00, 1, 1, 1, 0xFF, 0xFE, 0, 0, 0,
     ],
@@ -110,6 +110,9 @@ const SUMS: [[u8; 15]; 34] = [
     ],
     [
         0x7F, 0x71, 0x0F, 0x01, 0, 0x0F, 0x02, 0, 2, 2, 0x0F, 0x00, 0, 0, 2,
+    ],
+    [
+        0xF0, 0x10, 0xFF, 0x0F, 0, 0xC0, 0x00, 2, 0, 0, 0xE0, 0x00, 2, 0, 0,
     ],
 ];
 

@@ -1,5 +1,5 @@
 use Rattle.std.proofs.Common.{ap, arith}
-use Rattle.local_rules.specs.Raw.{at_word}
+use Rattle.local_rules.specs.Raw.{off_table}
 use Rattle.abs_successors.proofs.AllLaws.{none_added, more_added}
 use Rattle.abs_step.proofs.flow.add_words.Goals as goal
 
@@ -8,6 +8,6 @@ loop-at-init c = none_added c.args.nodes.now
 
 pub loop-at-preserved : goal.loop-at-preserved
 loop-at-preserved c =
-    more_added (λ t. record { key = at_word c.args.site.now.key.now t; state = c.args.site.now.state.now }) c.args.words.now c.loop-at.at 0
-    c.args.nodes.now c.loop-at.nodes c.add_copy.new.nodes c.at_word.result c.args.site.now.state.now (omega arith)
-    (ap (λ k. record { key = k; state = c.args.site.now.state.now }) c.at_word.ensures) c.loop-at.invariant c.in_ok-add_copy.ensures
+    more_added (λ t. record { key = off_table c.args.site.now.key.now t; state = c.args.site.now.state.now }) c.args.words.now c.loop-at.at 0
+    c.args.nodes.now c.loop-at.nodes c.add_copy.new.nodes c.off_table.result c.args.site.now.state.now (omega arith)
+    (ap (λ k. record { key = k; state = c.args.site.now.state.now }) c.off_table.ensures) c.loop-at.invariant c.in_ok-add_copy.ensures

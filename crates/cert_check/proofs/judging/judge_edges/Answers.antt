@@ -50,4 +50,4 @@ returns-in-All c =
     subst (λ i. IsFound words A i nodes (All c.in-All.demands)) c.instances.ensures
     (subst (IsFound words A c.instances.result.now nodes) c.in-All.is c.in_ok-at.ensures) in
     decided words A claim nodes (are_instances claim c.requires.claim) belong found.0 c.in-All.demands.items found.1 c.requires.reset c.requires.taken.faultless
-    c.weigh.result (subst (λ ds. IsWeighed claim A ds c.weigh.result) c.deref.ensures.value c.weigh.ensures)
+    c.weigh.result (subst (λ ds. IsWeighed words claim A ds c.weigh.result) c.deref.ensures.value c.weigh.ensures)

@@ -40,8 +40,8 @@ returns-in-Some-low_need c = (
   c.most_asked.ensures,
 )
 
-pub returns-then-from-need : goal.returns-then-from-need
-returns-then-from-need c =
+pub returns-then-not-is_bounded : goal.returns-then-not-is_bounded
+returns-then-not-is_bounded c =
     let i = c.instances-instances.result.now in
     let need : c.need_at-need.result ≡ need_in c.args.certificate.now.instances root_inst =
     c.need_at-need.ensures.value
@@ -50,7 +50,8 @@ returns-then-from-need c =
       subst (λ i. RanksFall i c.args.demands.now) c.instances-instances.ensures c.in_default.ensures,
       subst (λ i. AllMet i c.args.demands.now) c.instances-instances.ensures c.in_default-low_need.ensures,
       need,
-      omega (arith, c.if-from-need.true, c.from.ensures, c.bound-bound.ensures),
+      λ m. let t = c.is_bounded.ensures.1 (omega (arith, need, c.bound-bound.ensures, m.enough), omega (arith, c.bound-bound.ensures, m.small)) in
+          let f = c.if-not-is_bounded.true in cc,
     )
 
 pub returns-then-not-same : goal.returns-then-not-same
@@ -62,7 +63,10 @@ returns-then-not-same c =
     ∙ (need_there i c.root.result ∙ (ap (need_in i) c.root.ensures ∙ ap (λ x. need_in x root_inst) c.instances-instances.ensures))) in (
       subst (λ i. RanksFall i c.args.demands.now) c.instances-instances.ensures c.in_default.ensures,
       subst (λ i. AllMet i c.args.demands.now) c.instances-instances.ensures c.in_default-low_need.ensures,
-      omega (arith, c.if-from-need.false, c.from.ensures, c.bound-bound.ensures, need),
+      let fits = c.is_bounded.ensures.0 c.if-not-is_bounded.false in record {
+        enough = omega (arith, fits.0, c.bound-bound.ensures, need);
+        small = omega (arith, fits.1, c.bound-bound.ensures);
+      },
       λ e. let t = c.same.ensures.1 (c.assumptions.ensures ∙ e) in let f = c.if-not-same.true in cc,
     )
 
@@ -75,7 +79,10 @@ returns c =
     ∙ (need_there i c.root.result ∙ (ap (need_in i) c.root.ensures ∙ ap (λ x. need_in x root_inst) c.instances-instances.ensures))) in (
       subst (λ i. RanksFall i c.args.demands.now) c.instances-instances.ensures c.in_default.ensures,
       subst (λ i. AllMet i c.args.demands.now) c.instances-instances.ensures c.in_default-low_need.ensures,
-      omega (arith, c.if-from-need.false, c.from.ensures, c.bound-bound.ensures, need),
+      let fits = c.is_bounded.ensures.0 c.if-not-is_bounded.false in record {
+        enough = omega (arith, fits.0, c.bound-bound.ensures, need);
+        small = omega (arith, fits.1, c.bound-bound.ensures);
+      },
       sym c.assumptions.ensures ∙ c.same.ensures.0 c.if-not-same.false,
       c.bound-bound.ensures,
     )

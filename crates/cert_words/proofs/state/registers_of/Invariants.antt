@@ -5,6 +5,6 @@ use Rattle.cert_words.proofs.state.registers_of.Given as goal
 
 abbrev pub invariant-loop-r : goal.invariant-loop-r
 invariant-loop-r l = record {
-  same : words_from (value_in l.root) (take l.r l.registers) (32 - l.r) l.words ≡ words_from (value_in l.root) (l.fn.first ∷ []) 31 l.initial.words;
+  same : words_from (value_in l.version l.root) (take l.r l.registers) (32 - l.r) l.words ≡ words_from (value_in l.version l.root) (l.fn.first ∷ []) 31 l.initial.words;
   count : length l.registers ≡ 32;
 }

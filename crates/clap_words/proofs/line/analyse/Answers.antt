@@ -1,10 +1,11 @@
-use Rattle.std.proofs.Common.{ap₂, ◌∙◌}
+use Rattle.std.proofs.Common.{ap, ap₂, ◌∙◌}
 use Rattle.std.proofs.lemmas.Result.{IfOk-weaker}
 use Rattle.clap.specs.Words.{with_rule}
+use Rattle.clap_words.specs.Lines.{on_device}
 use Rattle.clap_words.proofs.line.analyse.Goals as goal
 
 pub returns-clause-app : goal.returns-clause-app
 returns-clause-app c =
     let first = c.in_ok-command.ensures.app ∙ ap₂ with_rule c.new.ensures.app c.name_arg.ensures.rule in
-    let second = c.in_ok-command-2.ensures.app ∙ ap₂ with_rule first c.value_arg.ensures.rule in
-    IfOk-weaker c.with_arg-3.result _ _ (λ x h. h ∙ ap₂ with_rule second c.value_arg-2.ensures.rule) c.with_arg-3.ensures.app
+    let second = c.in_ok-on_device.ensures.app ∙ ap on_device first in
+    IfOk-weaker c.with_arg-2.result _ _ (λ x h. h ∙ ap₂ with_rule second c.value_arg.ensures.rule) c.with_arg-2.ensures.app

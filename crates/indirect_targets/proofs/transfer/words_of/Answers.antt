@@ -11,22 +11,22 @@ loop-i-init c = record {
 }
 
 pub with_bit-requires : goal.with_bit-requires
-with_bit-requires c = weight_fits c.numbers_are_permitted.ensures (pointer_bit c.args.lo.now c.args.hi.now) c.loop-i.i c.loop-i.words c.loop-i-test.true c.loop-i.invariant.same
+with_bit-requires c = weight_fits c.numbers_are_permitted.ensures (pointer_bit c.args.lo.now c.args.hi.now) c.loop-i.i c.loop-i.words (omega arith) c.loop-i.invariant.same
 
 pub loop-i-preserved : goal.loop-i-preserved
 loop-i-preserved c =
     let kept = c.in_ok-words.ensures in
-    let next = one_bit_more (pointer_bit c.args.lo.now c.args.hi.now) c.loop-i.i _ c.pointer_bit.result c.loop-i.words c.loop-i.invariant.same c.pointer_bit.ensures (weight_is c.loop-i.i c.loop-i-test.true) in
+    let next = one_bit_more (pointer_bit c.args.lo.now c.args.hi.now) c.loop-i.i _ c.pointer_bit.result c.loop-i.words c.loop-i.invariant.same c.pointer_bit.ensures (weight_is c.loop-i.i (omega arith)) in
     record { same = kept.0 ∙ next; few = rw kept.0 kept.1 }
 
 pub returns-in_err-words : goal.returns-in_err-words
 returns-in_err-words c =
-    let next = one_bit_more (pointer_bit c.args.lo.now c.args.hi.now) c.loop-i.i _ c.pointer_bit.result c.loop-i.words c.loop-i.invariant.same c.pointer_bit.ensures (weight_is c.loop-i.i c.loop-i-test.true) in
-    keeps_err c.from_residual.result _ c.from_residual.ensures.0 (stays_many (pointer_bit c.args.lo.now c.args.hi.now) c.loop-i.i _ c.loop-i-test.true next c.in_err-words.ensures)
+    let next = one_bit_more (pointer_bit c.args.lo.now c.args.hi.now) c.loop-i.i _ c.pointer_bit.result c.loop-i.words c.loop-i.invariant.same c.pointer_bit.ensures (weight_is c.loop-i.i (omega arith)) in
+    keeps_err c.from_residual.result _ c.from_residual.ensures.0 (stays_many (pointer_bit c.args.lo.now c.args.hi.now) c.loop-i.i c.args.width _ c.loop-i-test.true next c.in_err-words.ensures)
 
 pub returns : goal.returns
 returns c =
-    let last : c.loop-i.i ≡ 14 = omega arith in
+    let last : c.loop-i.i ≡ c.args.width = omega arith in
     let same = c.loop-i.invariant.same ∙ ap (numbers_of (pointer_bit c.args.lo.now c.args.hi.now)) last in
-    let few : length (numbers_of (pointer_bit c.args.lo.now c.args.hi.now) 14) ≤ most_targets = rw (← same) c.loop-i.invariant.few in
+    let few : length (numbers_of (pointer_bit c.args.lo.now c.args.hi.now) c.args.width) ≤ most_targets = rw (← same) c.loop-i.invariant.few in
     (same, few)

@@ -5,6 +5,7 @@ use Rattle.replies.proofs.laws.replies_are_claims.Goals as goal
 pub returns : goal.returns
 returns c =
     let raw = c.raw_images_are_their_words.ensures in
+    let narrowing = c.narrowing_is_exact.ensures in
     let texts = c.certificate_texts.ensures in
     let lists = c.reading_is_exact.ensures in
     let verdicts = c.verdicts_are_one.ensures in
@@ -16,6 +17,6 @@ returns c =
     let runs = c.replays_are_runs.ensures.runs in
     record {
       one = replies_are_one texts.read verdicts answers chains;
-      holds = replies_hold raw.one raw.some lists texts.read texts.spelled verdicts bounds answers chains rounds solutions runs;
-      exact = replies_are_exact raw.one raw.some lists texts.read texts.spelled verdicts bounds answers chains rounds solutions runs;
+      holds = replies_hold raw.one raw.some narrowing lists texts.read texts.spelled verdicts bounds answers chains rounds solutions runs;
+      exact = replies_are_exact raw.one raw.some narrowing lists texts.read texts.spelled verdicts bounds answers chains rounds solutions runs;
     }

@@ -3,4 +3,4 @@ use Rattle.round_steps.specs.Targets.{backs_by}
 use Rattle.round_steps.proofs.targets.add_backs.Given as goal
 
 abbrev pub invariant-loop-at : goal.invariant-loop-at
-invariant-loop-at l = l.targets.items ≡ l.fn.targets.items ++ backs_by l.table l.key l.state l.way.back (take l.at l.ports)
+invariant-loop-at l = l.targets.items ≡ l.fn.targets.items ++ backs_by l.table l.key l.state l.way (take l.at l.ports)

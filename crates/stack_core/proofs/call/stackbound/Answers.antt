@@ -21,10 +21,10 @@ returns-in-Ok-put_all-clause-exact g c =
 
 pub returns-in-Ok-put_all-clause-least : goal.returns-in-Ok-put_all-clause-least
 returns-in-Ok-put_all-clause-least g c =
-    λ steps firmware list analysing zero.
+    λ device steps firmware list analysing zero.
     c.written_answers_hold.ensures.least (command_of (map (λ (w : Bor (List ℕ)). w.now) c.args.words.now)) (g.F.Files.holds c.args.files.now) c.in-Ok.reply.status
     (g.K.Sink.written c.args.out.now) (g.K.Sink.written c.put_all.new.out)
-    (written_of _ _ _ _ _ c.in-Ok.reply.status c.in-Ok.reply.text.items _ _ c.in-Ok.ensures (zero_apart c.in-Ok.reply.status zero) (c.in-Ok-put_all.ensures.whole ∙ ap (grown (g.K.Sink.written c.args.out.now)) c.deref.ensures.value)) steps firmware list analysing zero
+    (written_of _ _ _ _ _ c.in-Ok.reply.status c.in-Ok.reply.text.items _ _ c.in-Ok.ensures (zero_apart c.in-Ok.reply.status zero) (c.in-Ok-put_all.ensures.whole ∙ ap (grown (g.K.Sink.written c.args.out.now)) c.deref.ensures.value)) device steps firmware list analysing zero
 
 pub returns-in-Ok-put_all-clause-ends : goal.returns-in-Ok-put_all-clause-ends
 returns-in-Ok-put_all-clause-ends g c =

@@ -1,6 +1,7 @@
 use Rattle.std.proofs.Common.{rules, refl, sym, ap, subst, ◌∙◌, ◌≡◌, IsTrue}
 use Rattle.std.proofs.lemmas.Result.{IfOk-weaker}
-use Rattle.avr_model.specs.Run.{Machine, IsRun}
+use Rattle.avr_model.specs.State.{filled}
+use Rattle.avr_model.specs.Run.{Machine, IsRun, starting}
 use Rattle.avr_machine.specs.Menu.{has_choice}
 use Rattle.stimulus.proofs.AllLaws.{steady_by, determined}
 use Rattle.stimulus.specs.Driving.{choices_by}
@@ -35,18 +36,18 @@ returns-clause-choices c =
       same ∙ i,
     ))
     _ _ _ _ _ _ _ _ (ap (λ f. (closure.captures f).fill) c.new-driver.ensures.closure) t.drives
-    ∙ ap (λ f. choices_by (pick_due c.args.fill) due_left c.args.flash.now c.args.assumptions.now c.args.bound c.args.steps (closure.captures f).rest.now c.new-machine.result) c.new-driver.ensures.closure
-    ∙ ap (λ m. choices_by (pick_due c.args.fill) due_left c.args.flash.now c.args.assumptions.now c.args.bound c.args.steps c.args.points.now m) c.new-machine.ensures.start)
+    ∙ ap (λ f. choices_by (pick_due c.args.fill) due_left c.args.flash.now c.args.assumptions.now c.args.bound c.args.steps (closure.captures f).rest.now c.start-machine.result) c.new-driver.ensures.closure
+    ∙ ap (λ m. choices_by (pick_due c.args.fill) due_left c.args.flash.now c.args.assumptions.now c.args.bound c.args.steps c.args.points.now m) (c.start-machine.ensures.start ∙ ap (λ d. starting (filled d c.args.fill)) c.device.ensures))
     c.drive.ensures.ok
 
 pub returns-clause-run : goal.returns-clause-run
 returns-clause-run c =
     IfOk-weaker c.drive.result _ _
-    (λ trace t. subst (λ (m : Machine). IsRun c.args.flash.now c.args.assumptions.now trace.choices m.state) c.new-machine.ensures.start t.run)
+    (λ trace t. subst (λ (m : Machine). IsRun c.args.flash.now c.args.assumptions.now trace.choices m.state) (c.start-machine.ensures.start ∙ ap (λ d. starting (filled d c.args.fill)) c.device.ensures) t.run)
     c.drive.ensures.ok
 
 pub returns-clause-depth : goal.returns-clause-depth
 returns-clause-depth c =
     IfOk-weaker c.drive.result _ _
-    (λ trace t. depth_from_reset c.depth_is_kept.ensures c.args.flash.now c.args.assumptions.now c.args.fill c.new-machine.result trace.choices _ trace.depth c.new-machine.ensures.start t.run t.machine t.depth)
+    (λ trace t. depth_from_reset c.depth_is_kept.ensures c.args.flash.now c.args.assumptions.now c.args.fill c.start-machine.result trace.choices _ trace.depth (c.start-machine.ensures.start ∙ ap (λ d. starting (filled d c.args.fill)) c.device.ensures) t.run t.machine t.depth)
     c.drive.ensures.ok

@@ -17,7 +17,7 @@ returns-clause-seeds c =
     let masks = subst (λ (n : ℕ). n < 2 ^ 25) c.bits.ensures.value c.bits.ensures.small in
     subst AreSeeds (sym c.in_ok-push.ensures.items)
     (subst (λ (s : AbsState). AreSeeds (xs ++ (c.args.key, State s) ∷ [])) (sym c.root.ensures)
-    (with_root xs c.args.key c.requires.seeds few c.if-key-ge-WORDS.false masks c.requires.closed))
+    (with_root xs c.args.key c.requires.seeds few c.if-key-ge-WORDS.false masks c.requires.closed c.requires.unpicked))
 
 pub returns-clause-ascending : goal.returns-clause-ascending
 returns-clause-ascending c =

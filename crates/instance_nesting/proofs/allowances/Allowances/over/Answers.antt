@@ -28,5 +28,4 @@ returns c =
         each = λ i other lt. c.loop-i.invariant.each i other (omega (arith, lt, done));
         others = refl;
       };
-      room = omega (arith, c.base-base.ensures, c.share-share.ensures.room);
     }

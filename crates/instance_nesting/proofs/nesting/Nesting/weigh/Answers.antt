@@ -10,17 +10,18 @@ use Rattle.instance_nesting.proofs.Telling.{tells_all}
 use Rattle.instance_nesting.proofs.Covering.{light, granted}
 use Rattle.instance_nesting.proofs.nesting.Nesting.weigh.Goals as goal
 
-pub returns-then-self-clause-tells : goal.returns-then-self-clause-tells
-returns-then-self-clause-tells c =
+pub returns-then-allow_root-clause-tells : goal.returns-then-allow_root-clause-tells
+returns-then-allow_root-clause-tells c =
     let old : Noted = record { insts = insts_of c.self.inside.has_root c.self.inside.others.keys; spots = c.self.inside.spots.keys; entrances = c.self.inside.entrances.keys } in
-    subst (λ (n : Noted). TellsAll n Light) c.self.view_is
-    (light (root_inst ∷ c.self.inside.others.keys) c.self.inside.allowances.known.items c.self.inside.allowances.unknown old (c.self.invariant.covers c.if-self.true))
+    subst (λ (n : Noted). TellsAll c.args.size n Light) c.self.view_is
+    (light c.args.size (root_inst ∷ c.self.inside.others.keys) c.self.inside.allowances.known.items c.self.inside.allowances.unknown old
+    (c.allow_root.ensures c.if-allow_root.true) (c.self.invariant.covers c.if-self.true))
 
-pub returns-then-self-clause-once : goal.returns-then-self-clause-once
-returns-then-self-clause-once c = subst (λ (n : Noted). AreOnce n.insts) c.self.view_is (insts_once c.self.inside.has_root c.self.inside.others.keys c.self.invariant.apart)
+pub returns-then-allow_root-clause-once : goal.returns-then-allow_root-clause-once
+returns-then-allow_root-clause-once c = subst (λ (n : Noted). AreOnce n.insts) c.self.view_is (insts_once c.self.inside.has_root c.self.inside.others.keys c.self.invariant.apart)
 
 pub returns-then-not-self-clause-tells : goal.returns-then-not-self-clause-tells
-returns-then-not-self-clause-tells c words A f root nesting =
+returns-then-not-self-clause-tells c words A f sized root nesting =
     let there = subst (λ (n : Noted). Contains n.insts root_inst) (sym c.self.view_is) ((nesting.insts root_inst).1 root) in
     let kept = root_kept c.self.inside.has_root c.self.inside.others.keys c.self.invariant.apart there in
     let none = c.if-not-self.true in
@@ -51,9 +52,9 @@ returns-in-Some-clause-tells c =
     let drawn : IsDrawn (root_inst ∷ others) old.spots old.entrances gs =
     subst (λ (es : List Entrance). IsDrawn (root_inst ∷ others) old.spots es gs) c.as_slice-2.ensures.keys
     (subst (λ (ss : List Spot). IsDrawn (root_inst ∷ others) ss c.as_slice-2.result.now gs) c.as_slice.ensures.keys c.in_ok-graph.ensures) in
-    subst (λ (n : Noted). TellsAll n c.in_ok-weight.field-0.weight) c.self.view_is
+    subst (λ (n : Noted). TellsAll c.args.size n c.in_ok-weight.field-0.weight) c.self.view_is
     (tells_all old others gs drawn (ap (λ b. insts_of b others) c.if-not-self.false) (insts_once c.self.inside.has_root others c.self.invariant.apart)
-    c.in_ok-weight.field-0.weight c.in_ok-weight.ensures.tells)
+    c.args.size c.in_ok-weight.field-0.weight c.in_ok-weight.ensures.tells)
 
 pub returns-in-Some-clause-same : goal.returns-in-Some-clause-same
 returns-in-Some-clause-same c =
@@ -71,9 +72,9 @@ returns-clause-tells c =
     let drawn : IsDrawn (root_inst ∷ others) old.spots old.entrances gs =
     subst (λ (es : List Entrance). IsDrawn (root_inst ∷ others) old.spots es gs) c.as_slice-2.ensures.keys
     (subst (λ (ss : List Spot). IsDrawn (root_inst ∷ others) ss c.as_slice-2.result.now gs) c.as_slice.ensures.keys c.in_ok-graph.ensures) in
-    subst (λ (n : Noted). TellsAll n c.in_ok-weight.field-0.weight) c.self.view_is
+    subst (λ (n : Noted). TellsAll c.args.size n c.in_ok-weight.field-0.weight) c.self.view_is
     (tells_all old others gs drawn (ap (λ b. insts_of b others) c.if-not-self.false) (insts_once c.self.inside.has_root others c.self.invariant.apart)
-    c.in_ok-weight.field-0.weight c.in_ok-weight.ensures.tells)
+    c.args.size c.in_ok-weight.field-0.weight c.in_ok-weight.ensures.tells)
 
 pub returns-clause-once : goal.returns-clause-once
 returns-clause-once c = subst (λ (n : Noted). AreOnce n.insts) c.self.view_is (insts_once c.self.inside.has_root c.self.inside.others.keys c.self.invariant.apart)

@@ -1,0 +1,57 @@
+-- Which bytes are picked, and what a node leads to with one after the other.
+use Rattle.std.proofs.Common.{◌≡◌, refl, sym, ap, ◌∙◌, subst, ℕ, ◌+◌, ◌<◌, List, [], ◌∷◌, ◌++◌, Bool, true, false, cond, length, map, filter, take, slice_index_or, Option, None, suc, arith}
+use Rattle.std.proofs.lemmas.List.{append-nil}
+use Rattle.local_rules.specs.declared.local.Node.{Node}
+use Rattle.local_rules.specs.declared.local.NodeFault.{NodeFault}
+use Rattle.local_rules.specs.Raw.{Raw, all_of}
+use Rattle.local_rules.specs.Local.{joined_onto, below}
+use Rattle.abs_successors.specs.Adding.{first_fault, with_another, IsAdded, IsGathered}
+use Rattle.abs_successors.proofs.AllLaws.{map_more, joined_all, all_more, gathered_added}
+use Rattle.abs_step.specs.declared.flow.Outside.{Outside}
+use Rattle.abs_step.specs.Leading.{IsLed}
+
+-- ---- the bytes that pass
+
+below_next : (n : ℕ) → below (n + 1) ≡ below n ++ n ∷ []
+unfolding below
+below_next n = let e : n + 1 ≡ suc n = omega arith in ap below e
+
+filter_all : (p : ℕ → Bool) (xs ys : List ℕ) → filter p (xs ++ ys) ≡ filter p xs ++ filter p ys
+filter_all p [] ys = refl
+filter_all p (x ∷ xs) ys = by (p x) (filter_all p xs ys)
+  where
+    by : (b : Bool) → filter p (xs ++ ys) ≡ filter p xs ++ filter p ys
+        → cond b (x ∷ filter p (xs ++ ys)) (filter p (xs ++ ys)) ≡ cond b (x ∷ filter p xs) (filter p xs) ++ filter p ys
+    by true rest = ap (λ (zs : List ℕ). x ∷ zs) rest
+    by false rest = rest
+
+-- the next one passes, or it doesn't
+pub passes_next : (p : ℕ → Bool) (n : ℕ) → p n ≡ true → filter p (below (n + 1)) ≡ filter p (below n) ++ n ∷ []
+passes_next p n e = ap (filter p) (below_next n) ∙ filter_all p (below n) (n ∷ []) ∙ ap (λ (b : Bool). filter p (below n) ++ cond b (n ∷ []) []) e
+
+pub stops_next : (p : ℕ → Bool) (n : ℕ) → p n ≡ false → filter p (below (n + 1)) ≡ filter p (below n)
+stops_next p n e =
+    ap (filter p) (below_next n) ∙ filter_all p (below n) (n ∷ []) ∙ ap (λ (b : Bool). filter p (below n) ++ cond b (n ∷ []) []) e ∙ append-nil (filter p (below n))
+
+-- ---- one after the other
+
+pub none_gathered : (old : List Node) → IsGathered old old None (all_of [])
+unfolding joined_onto
+none_gathered old = record { fault = refl; nodes = λ none. refl }
+
+-- one more that has no fault
+pub gathered_led : (old mid new : List Node) (fault : Option NodeFault) (r q : Raw) (o : Outside) → IsGathered old mid fault r → IsLed mid new o q
+    → IsGathered old new fault (with_another r q)
+gathered_led old mid new fault r q o g h = record {
+  fault = ap (λ fs. first_fault (r.faults ++ fs)) h.faults ∙ ap first_fault (append-nil r.faults) ∙ g.fault;
+  nodes = λ none. h.nodes ∙ ap (λ ns. joined_onto ns q.moves) (g.nodes none) ∙ sym (joined_all old r.moves q.moves);
+}
+
+pub next_gathered : (f : ℕ → Raw) (xs : List ℕ) (at d : ℕ) (old new : List Node) (fault : Option NodeFault) → at < length xs
+    → IsGathered old new fault (with_another (all_of (map f (take at xs))) (f (slice_index_or xs at d))) → IsGathered old new fault (all_of (map f (take (at + 1) xs)))
+next_gathered f xs at d old new fault lt h =
+    subst (IsGathered old new fault) (all_more (map f (take at xs)) (f (slice_index_or xs at d)) ∙ ap all_of (sym (map_more f xs at (at + 1) d lt refl))) h
+
+pub all_added : (old new : List Node) (rs : List Raw) → IsGathered old new None (all_of rs) → IsAdded old new (all_of rs)
+all_added old new [] h = record { moves = refl; nodes = h.nodes refl }
+all_added old new (r ∷ rs) h = gathered_added old new r rs h

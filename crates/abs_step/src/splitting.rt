@@ -1,0 +1,164 @@
+//! Jump tables: a node at a table site splits by the bytes that r30 may hold, so that the ways to the entries stay apart.
+
+ghost use Rattle.std.specs.Prelude.{◌≡◌, ◌<◌, List, Some, map, IfOk, IfErr};
+ghost use Rattle.avr_model.specs.Image.{WORDS};
+ghost use Rattle.local_rules.specs.declared.local.Node.{Node};
+ghost use Rattle.local_rules.specs.declared.local.NodeFault.TheVariants.{Memory};
+ghost use Rattle.local_rules.specs.Raw.{Raw, all_of};
+ghost use Rattle.local_rules.specs.Local as rows;
+ghost use Rattle.abs_successors.specs.Adding.{Adds, IsGathered, with_another};
+ghost use Rattle.abs_step.specs.Leading.{Leads};
+
+use crate::flow::{Outside, staying};
+use crate::instruction::at_instruction;
+use abs_reads::pointers::has;
+use abs_rows::registers::{set, value, with_bits};
+use abs_state::{AbsByte, AbsState};
+use abs_successors::pointer_stores::first;
+use abs_successors::site::Site;
+use abs_successors::successors::changed;
+use avr_model::instruction::Register;
+use bit_domain::TriByte;
+use local_rules::local::{NodeFault, Nodes};
+use mask_states::NodeKey;
+use std::alloc::Global;
+use vector_table::Assumptions;
+
+// The most bytes by which a node splits.
+const MOST_PICKS: usize = 64;
+
+// The word of the `ijmp` of a table site, where it has no `jump` line.
+fn unlined(assumptions: &Assumptions, jump: Option<u16>) -> Option<u16>
+    ensures { result ≡ rows.unlined assumptions.now jump }
+{
+    let jump = jump?;
+    match assumptions.jumps(jump) {
+        Some(_) => None,
+        None => Some(jump),
+    }
+}
+
+// Where the node splits: the word of the `ijmp` of its table.
+fn split_site(site: &Site<'_>) -> Option<u16>
+    ensures { result ≡ rows.split_site site.now.flash.now site.now.assumptions.now site.now.key.now.pc site.now.key.now.pick }
+{
+    match site.key.pick {
+        Some(_) => None,
+        None => {
+            if site.key.pc >= site.flash.device().words() {
+                return None;
+            }
+            let jump = avr_decode::table_site(site.flash.words(), site.key.pc);
+            unlined(site.assumptions, jump)
+        }
+    }
+}
+
+// Whether the value may be this byte: its bits permit it, and it lies in the range.
+fn may_be(value: AbsByte, byte: u8) -> bool
+    ensures { result ≡ rows.may_be value byte }
+{
+    has(value.bits, byte) && value.low <= byte && byte <= value.high
+}
+
+// The bytes that r30 may hold, ascending.
+fn picks(alloc: Global, state: &AbsState) -> Result<Vec<u8>, NodeFault>
+    ensures ok { IfOk result (λ v. v.items ≡ rows.picks state.now) }
+    ensures err { IfErr result (λ e. e ≡ Memory) }
+{
+    let index = value(state, Register::new(30));
+    let mut picks = Vec::new(alloc);
+    for byte in 0..256u16 {
+        if may_be(index, byte as u8) {
+            if picks.push(byte as u8).is_err() {
+                return Err(NodeFault::Memory);
+            }
+        }
+    }
+    Ok(picks)
+}
+
+// What the node leads to with this byte picked.
+fn with_pick(nodes: &mut Nodes, site: &Site<'_>, byte: u8) -> Result<Outside, NodeFault>
+    requires word { site.now.key.now.pc < WORDS }
+    ensures { Leads nodes.old nodes.new result (rows.row_in site.now.device site.now.flash.now site.now.assumptions.now (rows.picking site.now.key.now byte) (rows.picked site.now.state.now byte)) }
+{
+    let (state, r30) = (site.state, Register::new(30));
+    let index = with_bits(value(state, r30).tag, TriByte::of(byte));
+    let registers = set(&state.registers, r30, index);
+    let picked = changed(site.alloc, state, &registers, state.flags)?;
+    let key = NodeKey {
+        pick: Some(byte),
+        ..*site.key
+    };
+    let site = Site {
+        alloc: site.alloc,
+        device: site.device,
+        flash: site.flash,
+        assumptions: site.assumptions,
+        key: &key,
+        state: &picked,
+    };
+    at_instruction(nodes, &site)
+}
+
+// One more byte is picked, where a fault was found so far or not.
+fn picked_too(
+    nodes: &mut Nodes,
+    site: &Site<'_>,
+    byte: u8,
+    fault: Option<NodeFault>,
+) -> Result<Option<NodeFault>, NodeFault>
+    requires word { site.now.key.now.pc < WORDS }
+    ensures ok { IfOk result (λ next. (old : List Node) (r : Raw) → IsGathered old nodes.old fault r → IsGathered old nodes.new next (with_another r (rows.row_in site.now.device site.now.flash.now site.now.assumptions.now (rows.picking site.now.key.now byte) (rows.picked site.now.state.now byte)))) }
+    ensures err { IfErr result (λ e. e ≡ Memory) }
+{
+    match with_pick(nodes, site, byte) {
+        Ok(_) => Ok(fault),
+        Err(found) => {
+            let cause = found.cause();
+            if cause == 0 {
+                return Err(NodeFault::Memory);
+            }
+            Ok(Some(first(fault, found)))
+        }
+    }
+}
+
+// What the node leads to with each of these bytes picked.
+fn all_picked(nodes: &mut Nodes, site: &Site<'_>, picks: &[u8]) -> Result<(), NodeFault>
+    requires word { site.now.key.now.pc < WORDS }
+    ensures { Adds nodes.old nodes.new result (all_of (map (λ byte. rows.row_in site.now.device site.now.flash.now site.now.assumptions.now (rows.picking site.now.key.now byte) (rows.picked site.now.state.now byte)) picks.now)) }
+{
+    let mut fault: Option<NodeFault> = None;
+    for at in 0..picks.len() {
+        fault = picked_too(nodes, site, picks[at], fault)?;
+    }
+    match fault {
+        Some(fault) => Err(fault),
+        None => Ok(()),
+    }
+}
+
+// The node splits, where the bytes are few enough. `jump` is the word of its `ijmp`.
+fn split(nodes: &mut Nodes, site: &Site<'_>, jump: u16) -> Result<(), NodeFault>
+    requires word { site.now.key.now.pc < WORDS }
+    ensures { Adds nodes.old nodes.new result (rows.splitting (Some jump) (rows.row_in site.now.device site.now.flash.now site.now.assumptions.now) site.now.key.now site.now.state.now) }
+{
+    let picks = picks(site.alloc, site.state)?;
+    if picks.len() > MOST_PICKS {
+        return Err(NodeFault::UnresolvedJump(jump));
+    }
+    all_picked(nodes, site, &picks)
+}
+
+/// What the node leads to: where it splits, all that it would with each byte that r30 may hold.
+pub(crate) fn splitting(nodes: &mut Nodes, site: &Site<'_>) -> Result<Outside, NodeFault>
+    requires word { site.now.key.now.pc < WORDS }
+    ensures { Leads nodes.old nodes.new result (rows.splitting (rows.split_site site.now.flash.now site.now.assumptions.now site.now.key.now.pc site.now.key.now.pick) (rows.row_in site.now.device site.now.flash.now site.now.assumptions.now) site.now.key.now site.now.state.now) }
+{
+    match split_site(site) {
+        Some(jump) => staying(site.alloc, split(nodes, site, jump)),
+        None => at_instruction(nodes, site),
+    }
+}

@@ -1,0 +1,105 @@
+//! Sites where an index is added to a table's address and an `ijmp` follows.
+
+ghost use Rattle.std.specs.Prelude.{◌≡◌, ◌<◌, ◌≤◌};
+ghost use Rattle.avr_model.specs.Devices.{IsFlash};
+ghost use Rattle.avr_model.specs.Image.{WORDS};
+ghost use Rattle.avr_model.specs.Sites.{adds_low, adds_high, is_some_that, instruction_at, is_ijmp, onward, ijmp_from, table_site};
+
+use crate::decoding::length;
+use crate::fixed::leaves;
+use crate::program::{instruction, word};
+use crate::targets::far;
+use avr_model::device::{Device, WORDS};
+use avr_model::instruction::{ImmediateOp, Instr};
+
+/// How many instructions lead from behind the sum to the `ijmp` at most, itself counted.
+const MOST: u8 = 16;
+
+// `subi` of r30 at word `a`, which adds to the low byte of Z.
+fn adds_low(words: &[u16], a: usize) -> bool
+    requires flash { IsFlash words.now }
+    requires room { a < 131072 }
+    ensures { result ≡ is_some_that adds_low (instruction_at words.now a) }
+{
+    match instruction(words, a) {
+        Some(instr) => match &instr {
+            Instr::Immediate(ImmediateOp::Subi, register, _) => register.get() == 30,
+            _ => false,
+        },
+        None => false,
+    }
+}
+
+// `sbci` of r31 at word `a`, which adds to its high byte.
+fn adds_high(words: &[u16], a: usize) -> bool
+    requires flash { IsFlash words.now }
+    requires room { a < 131072 }
+    ensures { result ≡ is_some_that adds_high (instruction_at words.now a) }
+{
+    match instruction(words, a) {
+        Some(instr) => match &instr {
+            Instr::Immediate(ImmediateOp::Sbci, register, _) => register.get() == 31,
+            _ => false,
+        },
+        None => false,
+    }
+}
+
+fn is_ijmp(instr: &Instr) -> bool
+    ensures { result ≡ is_ijmp instr.now }
+{
+    matches!(instr, Instr::Ijmp)
+}
+
+// The word at which a way goes on behind the instruction of this size at word `at`; none where it leaves the way.
+fn onward(at: u16, size: u16, instr: &Instr) -> Option<u16>
+    requires inside { at < WORDS }
+    requires size { size ≤ 2 }
+    ensures { result ≡ onward at size instr.now }
+{
+    match instr {
+        Instr::Jmp(target) => Some(target.get()),
+        Instr::Rjmp(distance) => Some(far(at, distance.get())),
+        other => { if leaves(other) { None } else { Some(at + size) } }
+    }
+}
+
+// The word of the `ijmp` to which at most `most` instructions lead from word `at`, itself counted.
+#[tactic(auto, using(crate::proofs::JumpTables::none_left, crate::proofs::JumpTables::undefined, crate::proofs::JumpTables::ended, crate::proofs::JumpTables::left, crate::proofs::JumpTables::went_on))]
+fn ijmp_from(words: &[u16], most: u8, at: u16) -> Option<u16>
+    requires flash { IsFlash words.now }
+    requires inside { at < WORDS }
+    ensures { result ≡ ijmp_from words.now most at }
+{
+    if most == 0 {
+        return None;
+    }
+    let Some(instr) = instruction(words, usize::from(at)) else {
+        return None;
+    };
+    if is_ijmp(&instr) {
+        return Some(at);
+    }
+    let Some(next) = onward(at, length(word(words, usize::from(at))), &instr) else {
+        return None;
+    };
+    ijmp_from(words, most - 1, Device::of_words(words).wrap(next))
+}
+
+/// The word of the `ijmp` of a table site: word `a` is a `subi` of r30 and the next one an `sbci` of r31, and from there
+/// at most 16 instructions lead to the `ijmp`, itself counted, along `jmp` and `rjmp` and with no branch, skip, call,
+/// return or undefined word before it. None where no table site begins at `a`. `words` are those of any device's flash,
+/// modulo whose number addresses count. Source: own.
+#[tactic(auto, using(crate::proofs::JumpTables::two_behind), unfolding(avr_model::specs::Sites::table_site))]
+pub fn table_site(words: &[u16], a: u16) -> Option<u16>
+    requires { IsFlash words.now }
+    ensures { result ≡ table_site words.now a }
+{
+    let at = usize::from(a);
+    if adds_low(words, at) && adds_high(words, at + 1) {
+        let from = Device::of_words(words).wrap(a % WORDS + 2);
+        ijmp_from(words, MOST, from)
+    } else {
+        None
+    }
+}

@@ -1,0 +1,92 @@
+-- Places of SRAM that are live, of which those below a floor aren't.
+use Rattle.std.proofs.Common.{◌≡◌, ◌<◌, ◌≤◌, ◌+◌, ◌-◌, ℕ, Bool, true, false, List, length, take, drop, ◌++◌, replicate, sym, ap, ap₂, ◌∙◌, arith, ◌⊎◌, inl, inr}
+use Rattle.std.specs.Prelude.{min, slice_index_or, slice_set}
+use borrow.Rule.Slice.PartMut.{put_mid, mid_of}
+use Rattle.std.proofs.lemmas.Slice.{take-put_mid, drop-put_mid}
+use Rattle.std.proofs.Math.ListN.{drop_of_length-le, length-replicate}
+use Rattle.std.proofs.Math.Seq.{take-append_seam, take-append-add, take-set-lt}
+use Rattle.std.proofs.lemmas.List.{length-take, length-take-le, length-drop, get_or-take, get_or_past, set_past, take-replicate, take-append-drop, take-append-le, take-set-le, drop-take, replicate-append-replicate}
+
+-- no place below the floor is live
+abbrev pub IsClear : ℕ → List Bool → Type 0
+IsClear floor flags = take floor flags ≡ replicate floor false
+
+pub none_live : (size : ℕ) → size ≤ 2048 → take size (replicate 2048 false) ≡ replicate size false
+none_live size le = take-replicate size 2048 false le
+
+pub has_taken : (size place : ℕ) (flags : List Bool) → place < size → slice_index_or flags place false ≡ slice_index_or (take size flags) place false
+has_taken size place flags lt = sym (get_or-take size flags place false lt)
+
+pub none_past : (size place : ℕ) (flags : List Bool) → size ≤ place → slice_index_or (take size flags) place false ≡ false
+none_past size place flags le = get_or_past (take size flags) place false (let e = length-take size flags in omega (arith, le, e))
+
+-- fewer places are clear too
+clear_below : (flags : List Bool) (floor n : ℕ) → IsClear floor flags → n ≤ floor → IsClear n flags
+clear_below flags floor n clear le =
+    ap (take n) (sym (take-append-drop floor flags))
+    ∙ ap (λ (xs : List Bool). take n (xs ++ drop floor flags)) clear
+    ∙ take-append-le n (replicate floor false) (drop floor flags) (let e = length-replicate {A = Bool} floor false in omega (arith, le, e))
+    ∙ take-replicate n floor false le
+
+-- a place that becomes live lowers the floor
+pub clear_set : (flags : List Bool) (floor place n : ℕ) (x : Bool) → IsClear floor flags → n ≡ min floor place → IsClear n (slice_set flags place x)
+clear_set flags floor place n x clear is =
+    take-set-le n flags place x (omega (arith, is)) ∙ clear_below flags floor n clear (omega (arith, is))
+
+pub set_part : (flags : List Bool) (size place : ℕ) → place < size → take size (slice_set flags place true) ≡ slice_set (take size flags) place true
+set_part flags size place lt = take-set-lt size flags place true lt
+
+pub set_past_part : (flags : List Bool) (size place : ℕ) → size ≤ place → slice_set (take size flags) place true ≡ take size flags
+set_past_part flags size place le = set_past (take size flags) place true (let e = length-take size flags in omega (arith, le, e))
+
+-- the places below `end` are cleared, and the others kept
+abbrev pub IsCleared : ℕ → List Bool → List Bool → Type 0
+IsCleared end before after = after ≡ replicate end false ++ drop end before
+
+pub cleared_already : (flags : List Bool) (floor end : ℕ) → IsClear floor flags → end ≤ floor → IsCleared end flags flags
+cleared_already flags floor end clear le =
+    sym (take-append-drop end flags) ∙ ap (λ (xs : List Bool). xs ++ drop end flags) (clear_below flags floor end clear le)
+
+pub cleared_mid : (flags part : List Bool) (floor end : ℕ) → IsClear floor flags → floor < end → end ≤ length flags → part ≡ replicate (length (mid_of floor (end - floor) flags)) false
+    → IsCleared end flags (put_mid floor (end - floor) flags part)
+cleared_mid flags part floor end clear less fits is =
+    let count : length (mid_of floor (end - floor) flags) ≡ end - floor =
+    length-take-le (end - floor) (drop floor flags) (let e = length-drop floor flags in omega (arith, e, fits)) in
+    let all : part ≡ replicate (end - floor) false = is ∙ ap (λ (n : ℕ). replicate n false) count in
+    let size : length part ≡ end - floor = ap length all ∙ length-replicate (end - floor) false in
+    let sum : floor + (end - floor) ≡ end = omega (arith, less) in
+    sym (take-append-drop end (put_mid floor (end - floor) flags part))
+    ∙ ap₂ (λ (xs ys : List Bool). xs ++ ys)
+    (take-put_mid floor (end - floor) flags part end (omega (arith, size, less)) (omega (arith, less, fits))
+    ∙ ap₂ (λ (xs ys : List Bool). xs ++ ys) clear all
+    ∙ replicate-append-replicate floor (end - floor) false
+    ∙ ap (λ (n : ℕ). replicate n false) sum)
+    (drop-put_mid floor (end - floor) flags part end (omega (arith, less)) (omega (arith, less, fits)) size)
+
+pub clear_after : (before after : List Bool) (end : ℕ) → IsCleared end before after → IsClear end after
+clear_after before after end cleared =
+    ap (take end) cleared
+    ∙ ap (λ (n : ℕ). take n (replicate end false ++ drop end before)) (sym (length-replicate {A = Bool} end false))
+    ∙ take-append_seam (replicate end false) (drop end before)
+
+-- what is seen of it: the first places
+pub cleared_part : (before after : List Bool) (size count end : ℕ) → size ≤ length before → end ≡ min count size → IsCleared end before after
+    → take size after ≡ replicate (min count (length (take size before))) false ++ drop count (take size before)
+cleared_part before after size count end fits is cleared =
+    let size_is : length (take size before) ≡ size = length-take-le size before fits in
+    let rest : end + (size - end) ≡ size = omega (arith, is) in
+    let longer : length (replicate {A = Bool} end false) + (size - end) ≡ size = (let e = length-replicate {A = Bool} end false in omega (arith, e, rest)) in
+    ap (take size) cleared
+    ∙ ap (λ (n : ℕ). take n (replicate end false ++ drop end before)) (sym longer)
+    ∙ take-append-add (replicate end false) (drop end before) (size - end)
+    ∙ ap (λ (xs : List Bool). replicate end false ++ xs) (sym (drop-take end (size - end) before) ∙ ap (λ (n : ℕ). drop end (take n before)) rest)
+    ∙ ap₂ (λ (n : ℕ) (xs : List Bool). replicate n false ++ xs) (is ∙ ap (min count) (sym size_is)) (dropped count end (take size before) (is ∙ ap (min count) (sym size_is)))
+  where
+    either : (n m : ℕ) → (n ≤ m) ⊎ (m ≤ n)
+    either n m = grind arith
+
+    dropped : (count end : ℕ) (xs : List Bool) → end ≡ min count (length xs) → drop end xs ≡ drop count xs
+    dropped count end xs is = elim (either count (length xs)) [
+      | inl le ↦ ap (λ (n : ℕ). drop n xs) (let e : end ≡ count = omega (arith, is, le) in e)
+      | inr le ↦ drop_of_length-le xs {i = end} (omega (arith, is, le)) ∙ sym (drop_of_length-le xs {i = count} le)
+    ]

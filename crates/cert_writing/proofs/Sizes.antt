@@ -1,0 +1,306 @@
+-- How long the words and lines of a certificate are.
+use Rattle.std.proofs.Common.{ℕ, ◌+◌, ◌*◌, ◌-◌, ◌<◌, ◌≤◌, ◌≡◌, ◌&&◌, List, [], ◌∷◌, ◌++◌, length, length-append, map, codes, Bool, true, false, not, refl, ap, ◌∙◌, arith, Option, Some, None, cond, nat_le}
+use Rattle.std.specs.Prelude.{IfSome}
+use Rattle.std.specs.Fmt.{decimal}
+use Rattle.std.specs.List.{AllByRecursion, flat_map, list_all}
+use Rattle.std.proofs.lemmas.Bool.Decides.{nat_tests}
+use Rattle.std.proofs.lemmas.Fmt.{length-decimal-le}
+use Rattle.std.proofs.lemmas.Grind.{flat_map-append}
+use Rattle.std.proofs.lemmas.List.{length-replicate}
+use Rattle.std.proofs.lemmas.List.Elements.{recursion_from_All}
+use Rattle.line_reading.proofs.AllLaws.{both}
+use Rattle.sb_base.specs.Digits.{hex_digits}
+use Rattle.sb_base.specs.Lines.{spaced, line}
+use Rattle.avr_model.specs.declared.assumption.Entry.{Entry}
+use Rattle.avr_model.specs.declared.assumption.Entry.TheVariants.{Jump, Store, Prove}
+use Rattle.vector_table.specs.Entries.{are_items, is_entry, ascends, is_word}
+use Rattle.sp_domain.specs.declared.tags.Tag.{Tag}
+use Rattle.sp_domain.specs.declared.tags.Tag.TheVariants as tag
+use Rattle.sp_domain.specs.declared.tags.CarryTag.{CarryTag}
+use Rattle.sp_domain.specs.declared.tags.CarryTag.TheVariants as carry
+use Rattle.sp_domain.specs.declared.slots.Slot.{Slot}
+use Rattle.sp_domain.specs.declared.slots.Slot.TheVariants.{Free, Guarded}
+use Rattle.bit_domain.specs.declared.bytes.TriByte.{TriByte}
+use Rattle.abs_state.specs.declared.values.AbsByte.{AbsByte}
+use Rattle.abs_state.specs.declared.state.AbsState.{AbsState}
+use Rattle.mask_states.specs.declared.keys.Kind.{Kind}
+use Rattle.mask_states.specs.declared.keys.Kind.TheVariants.{Root, Call, Vector}
+use Rattle.mask_states.specs.declared.keys.InstKey.{InstKey}
+use Rattle.mask_states.specs.declared.keys.NodeKey.{NodeKey}
+use Rattle.mask_states.specs.declared.keys.High.{High}
+use Rattle.mask_states.specs.declared.keys.High.TheVariants as high
+use Rattle.mask_states.specs.declared.keys.SpForm.{SpForm}
+use Rattle.mask_states.specs.declared.keys.SpForm.TheVariants.{Closed, Open}
+use Rattle.mask_states.specs.Keys.{offset_of}
+use Rattle.mask_states.specs.Order.{same_inst}
+use Rattle.edge_rules.specs.declared.seeded.NodeForm.{NodeForm}
+use Rattle.edge_rules.specs.declared.seeded.NodeForm.TheVariants.{State, From}
+use Rattle.edge_rules.specs.Expansion.{Seeds}
+use Rattle.avr_model.specs.Vectors.{is_protected}
+use Rattle.avr_model.specs.declared.choice.Choice.TheVariants as choice
+use Rattle.witness_replay.specs.declared.schedule.Run.{Run}
+use Rattle.witness_replay.specs.declared.schedule.Run.TheVariants.{Go, Take}
+use Rattle.witness_replay.specs.Spelling.{Plan, bit, weight, choices_of, choices_of_run, most_choices, IsCounted, AreRuns, IsSchedule, run_words}
+use Rattle.indirect_targets.specs.Spelling.{number_words, entry_words}
+use Rattle.certificate.specs.declared.instance.Inst.{Inst}
+use Rattle.certificate.specs.declared.version.Version.{Version}
+use Rattle.certificate.specs.declared.version.Version.TheVariants.{One, Two}
+use Rattle.certificate.specs.Insts.{is_vector_word, fits_kind, IsInst}
+use Rattle.certificate.specs.Claims.{Claim, IsClaim, FitsAt, AreFrom, cells_of, node_keys}
+use Rattle.cert_words.specs.Spelling.{bits_text, tag_text, range_text, value_word, flags_word, carry_word, slot_word, high_text, form_word}
+use Rattle.cert_words.specs.KeySpelling.{kind_word, pick_word, pick_words, place_words, state_words, form_words}
+use Rattle.cert_words.specs.Text.{numbered, version_line, heading, entry_lines, inst_words, inst_lines, place_of, node_words, node_lines, attained_line, witness_lines, end_line, front_lines}
+use Rattle.cert_words.proofs.AllLaws.{length_hex}
+use Rattle.cert_writing.specs.Sizes.{HasFewChoices, TextsFit}
+
+-- ---- lines
+
+-- how many bytes words take, each with what stands behind it
+abbrev taken : List (List ℕ) → ℕ
+taken [] = 0
+taken (w ∷ ws) = length w + 1 + taken ws
+
+spaced_short : (ws : List (List ℕ)) → length (spaced ws) ≤ taken ws
+spaced_short [] = omega arith
+spaced_short (w ∷ []) = omega arith
+spaced_short (w ∷ v ∷ ws) = omega (arith, length-append w (32 ∷ spaced (v ∷ ws)), spaced_short (v ∷ ws))
+
+line_short : (ws : List (List ℕ)) → length (line ws) ≤ taken ws + 1
+line_short ws = omega (arith, length-append (spaced ws) (10 ∷ []), spaced_short ws)
+
+taken_both : (vs ws : List (List ℕ)) → taken (vs ++ ws) ≡ taken vs + taken ws
+taken_both [] ws = omega arith
+taken_both (v ∷ vs) ws = omega (arith, taken_both vs ws)
+
+-- words of which none is above 13 bytes
+taken_few : {A : Type 0} (word : A → List ℕ) → ((x : A) → length (word x) ≤ 13) → (xs : List A) → taken (map word xs) ≤ 14 * length xs
+taken_few word short [] = omega arith
+taken_few word short (x ∷ xs) = omega (arith, short x, taken_few word short xs)
+
+abbrev text : {A : Type 0} → (A → List (List ℕ)) → List A → ℕ
+text words xs = length (flat_map line (map words xs))
+
+text_more : {A : Type 0} (words : A → List (List ℕ)) (x : A) (xs : List A) → text words (x ∷ xs) ≤ taken (words x) + 1 + text words xs
+text_more words x xs = omega (arith, length-append (line (words x)) (flat_map line (map words xs)), line_short (words x))
+
+-- ---- numbers
+
+number_short : (n : ℕ) → n < 4294967296 → length (decimal n) ≤ 10
+number_short n h = length-decimal-le 10 n (omega arith) (omega (arith, h)) (omega (arith, h))
+
+bit_short : (b : Bool) → length (bit b) ≡ 1
+bit_short true = refl
+bit_short false = refl
+
+-- ---- values
+
+bits_long : (t : TriByte) → length (bits_text t) ≡ 4
+bits_long t = omega (arith, length-append (hex_digits t.known 2) (hex_digits t.value 2), length_hex t.known 2, length_hex t.value 2)
+
+tag_short : (t : Tag) → length (tag_text t) ≤ 5
+tag_short tag.None = omega arith
+tag_short (tag.Entry r) = omega (arith, length_hex r 2)
+tag_short tag.EntryFlags = omega arith
+tag_short (tag.SpLo j) = omega (arith, length_hex j 2)
+tag_short (tag.SpHi k) = omega (arith, length_hex k 4)
+
+range_short : (version : Version) (v : AbsByte) → length (range_text version v) ≤ 4
+range_short One v = omega arith
+range_short Two v = omega (arith, length-append (hex_digits v.low 2) (hex_digits v.high 2), length_hex v.low 2, length_hex v.high 2)
+
+value_short : (version : Version) (v : AbsByte) → length (value_word version v) ≤ 13
+value_short version v =
+    omega (arith, length-append (tag_text v.tag) (bits_text v.bits ++ range_text version v), length-append (bits_text v.bits) (range_text version v), tag_short v.tag, bits_long v.bits, range_short version v)
+
+slot_short : (version : Version) (s : Slot AbsByte) → length (slot_word version s) ≤ 13
+slot_short version Free = omega arith
+slot_short version (Guarded v) = value_short version v
+
+flags_long : (entry : Bool) (bits : TriByte) → length (flags_word entry bits) ≡ 5
+flags_long true bits = omega (arith, bits_long bits)
+flags_long false bits = omega (arith, bits_long bits)
+
+pair_long : (a b : ℕ) → length (hex_digits a 2 ++ hex_digits b 2) ≡ 4
+pair_long a b = omega (arith, length-append (hex_digits a 2) (hex_digits b 2), length_hex a 2, length_hex b 2)
+
+carry_short : (c : CarryTag) → length (carry_word c) ≤ 5
+carry_short carry.None = omega arith
+carry_short (carry.Borrow j l) = omega (arith, pair_long j l)
+carry_short (carry.Less r k) = omega (arith, pair_long r k)
+
+state_short : (version : Version) (s : AbsState) → taken (state_words version s) ≤ 14 * length s.registers + 12 + 14 * length s.slots
+state_short version s =
+    let behind : List (List ℕ) = flags_word s.flags.entry s.flags.bits ∷ carry_word s.flags.carry ∷ map (slot_word version) s.slots in
+    let values = taken_few (value_word version) (value_short version) s.registers in
+    let slots = taken_few (slot_word version) (slot_short version) s.slots in
+    omega (arith, taken_both (map (value_word version) s.registers) behind, values, slots, flags_long s.flags.entry s.flags.bits, carry_short s.flags.carry)
+
+-- ---- keys
+
+high_short : (h : High) → length (high_text h) ≤ 6
+high_short (high.Known byte) = omega (arith, length_hex byte 2)
+high_short (high.Tag k) = omega (arith, length_hex k 4)
+
+form_short : (f : SpForm) → offset_of f ≤ 2048 → length (form_word f) ≤ 17
+form_short (Closed offset) h = omega (arith, number_short offset (omega (arith, h)))
+form_short (Open offset x) h = omega (arith, length-append (decimal offset) (high_text x), number_short offset (omega (arith, h)), high_short x)
+
+pick_short : (pick : Option ℕ) → length (pick_word pick) ≤ 2
+pick_short None = omega arith
+pick_short (Some byte) = omega (arith, length_hex byte 2)
+
+picks_short : (version : Version) (pick : Option ℕ) → taken (pick_words version pick) ≤ 3
+picks_short One pick = omega arith
+picks_short Two pick = omega (arith, pick_short pick)
+
+place_short : (version : Version) (key : NodeKey) → offset_of key.sp ≤ 2048 → taken (place_words version key) ≤ 38
+place_short version key h =
+    omega (arith, length_hex key.pc 4, length_hex key.masks 7, bit_short key.i, bit_short key.delay, form_short key.sp h, picks_short version key.pick)
+
+-- ---- nodes
+
+key_small : (at : ℕ) (key : NodeKey) (form : NodeForm) → FitsAt at key form → offset_of key.sp ≤ 2048
+key_small at key (State s) h = omega (arith, h.small)
+key_small at key (From m) h = omega (arith, h.0.small)
+
+body_short : (version : Version) (at : ℕ) (key : NodeKey) (form : NodeForm) → at ≤ 65536 → FitsAt at key form → taken (form_words version form) ≤ 460 + 14 * offset_of key.sp
+body_short version at key (State s) few h = omega (arith, state_short version s, h.formed.count_registers, h.formed.count_slots)
+body_short version at key (From m) few h = omega (arith, number_short m (omega (arith, few, h.1)))
+
+place_by : (b : Bool) (p n : ℕ) → p ≤ n → cond b 0 (p + 1) ≤ n + 1
+place_by true p n h = omega arith
+place_by false p n h = omega (arith, h)
+
+place_few : (key : InstKey) (insts : List Inst) → place_of key insts ≤ length insts
+place_few key [] = omega arith
+place_few key (x ∷ xs) = omega (arith, place_by (same_inst x.key key) (place_of key xs) (length xs) (place_few key xs))
+
+nodes_short : (version : Version) (insts : List Inst) (at : ℕ) (ns : Seeds) → length insts ≤ 65536 → at + length ns ≤ 65536 → AreFrom at ns → text (node_words version insts) ns ≤ 600 * length ns + 14 * cells_of (node_keys ns)
+unfolding cells_of
+nodes_short version insts at [] few most h = omega arith
+nodes_short version insts at (n ∷ ns) few most h =
+    let front = place_short version n.0 (key_small at n.0 n.1 h.0) in
+    let body = body_short version at n.0 n.1 (omega (arith, most)) h.0 in
+    let behind = nodes_short version insts (at + 1) ns few (omega (arith, most)) h.1 in
+    let own = number_short (place_of n.0.inst insts) (omega (arith, place_few n.0.inst insts, few)) in
+    omega (arith, text_more (node_words version insts) n ns, taken_both (place_words version n.0) (form_words version n.1), front, body, own, behind)
+
+-- ---- instances
+
+kind_short : (kind : Kind) (entry masks : ℕ) (i : Bool) → fits_kind kind entry masks i ≡ true → length (kind_word kind) ≤ 11
+kind_short Root entry masks i e = omega arith
+kind_short Call entry masks i e = omega arith
+kind_short (Vector v) entry masks i e =
+    let a = both (nat_le 2 v && nat_le v 26 && is_vector_word v entry) (not i) e in
+    let b = both (nat_le 2 v && nat_le v 26) (is_vector_word v entry) a.0 in
+    let c = both (nat_le 2 v) (nat_le v 26) b.0 in
+    let most : v ≤ 26 = grind (arith, nat_tests, c.1) in
+    omega (arith, number_short v (omega (arith, most)))
+
+inst_short : (x : Inst) → IsInst x → taken (inst_words x) + 1 ≤ 100
+inst_short x h =
+    let kind = kind_short x.key.kind x.key.entry x.key.masks x.key.i h.kind in
+    let rank = number_short x.rank (omega (arith, h.rank)) in
+    let need = number_short x.need (omega (arith, h.need)) in
+    omega (arith, kind, length_hex x.key.entry 4, length_hex x.key.masks 7, bit_short x.key.i, rank, need)
+
+insts_short : (xs : List Inst) → AllByRecursion IsInst xs → text inst_words xs ≤ 100 * length xs
+insts_short [] h = omega arith
+insts_short (x ∷ xs) h = omega (arith, text_more inst_words x xs, inst_short x h.0, insts_short xs h.1)
+
+-- ---- assumptions
+
+numbers_long : (ns : List ℕ) → taken (number_words ns) ≡ 5 * length ns
+numbers_long [] = omega arith
+numbers_long (n ∷ ns) = omega (arith, length_hex n 4, numbers_long ns)
+
+items_few : (is_item : ℕ → Bool) (items : List ℕ) → are_items is_item items ≡ true → length items ≤ 64
+items_few is_item items e =
+    let a = both (nat_le 1 (length items) && nat_le (length items) 64 && ascends items) (list_all is_item items) e in
+    let b = both (nat_le 1 (length items) && nat_le (length items) 64) (ascends items) a.0 in
+    let c = both (nat_le 1 (length items)) (nat_le (length items) 64) b.0 in
+    grind (arith, nat_tests, c.1)
+
+entry_short : (e : Entry) → is_entry e ≡ true → taken (entry_words e) + 1 ≤ 400
+entry_short (Jump site words) e =
+    let few = items_few is_word words (both (is_word site) (are_items is_word words) e).1 in
+    omega (arith, numbers_long (site ∷ words), few)
+entry_short (Store site addresses) e =
+    let few = items_few is_protected addresses (both (is_word site) (are_items is_protected addresses) e).1 in
+    omega (arith, numbers_long (site ∷ addresses), few)
+entry_short (Prove site) e = omega (arith, numbers_long (site ∷ []))
+
+entries_short : (es : List Entry) → AllByRecursion (λ e. is_entry e ≡ true) es → text entry_words es ≤ 400 * length es
+entries_short [] h = omega arith
+entries_short (e ∷ es) h = omega (arith, text_more entry_words e es, entry_short e h.0, entries_short es h.1)
+
+-- ---- the schedule
+
+run_some : (r : Run) → IsCounted r → 1 ≤ length (choices_of_run r)
+run_some (Go n b1 b2) h = omega (arith, length-replicate n (choice.Go b1 b2), h.0)
+run_some (Take v clears) h = omega arith
+
+run_short : (r : Run) → IsCounted r → weight r ≤ most_choices → taken (run_words r) + 1 ≤ 40
+run_short (Go n b1 b2) h few = omega (arith, number_short n (omega (arith, few)), length_hex b1 2, length_hex b2 2)
+run_short (Take v clears) h few = omega (arith, number_short v (omega (arith, h.1)), bit_short clears)
+
+runs_short : (before : Option Run) (left : ℕ) (rs : List Run) → left ≤ most_choices → AreRuns before left rs → text run_words rs ≤ 40 * length (choices_of rs)
+runs_short before left [] few h = omega arith
+runs_short before left (r ∷ rs) few h =
+    let one = run_short r h.0 (omega (arith, few, h.2)) in
+    let more = runs_short (Some r) (left - weight r) rs (omega (arith, few)) h.3 in
+    omega (arith, text_more run_words r rs, one, run_some r h.0, length-append (choices_of_run r) (choices_of rs), more)
+
+-- ---- the whole
+
+both_long : (xs ys : List (List (List ℕ))) → length (flat_map line (xs ++ ys)) ≡ length (flat_map line xs) + length (flat_map line ys)
+both_long xs ys = ap length (flat_map-append line xs ys) ∙ length-append (flat_map line xs) (flat_map line ys)
+
+line_more : (l : List (List ℕ)) (ls : List (List (List ℕ))) → length (flat_map line (l ∷ ls)) ≤ taken l + 1 + length (flat_map line ls)
+line_more l ls = omega (arith, length-append (line l) (flat_map line ls), line_short l)
+
+version_short : (version : Version) → taken (version_line version) ≤ 12
+version_short One = omega arith
+version_short Two = omega arith
+
+abbrev size : List (List (List ℕ)) → ℕ
+size ls = length (flat_map line ls)
+
+heading_short : (version : Version) (bound : ℕ) → bound ≤ 2048 → size (heading version bound) ≤ 100
+heading_short version bound h =
+    let number = line_more (numbered (codes "bound") bound) [] in
+    omega (arith, line_more (version_line version) (numbered (codes "bound") bound ∷ []), version_short version, number, number_short bound (omega (arith, h)))
+
+-- a list with its number
+list_short : (name : List ℕ) (n most : ℕ) (ls : List (List (List ℕ))) → length name ≤ 9 → n ≤ 65536 → size ls ≤ most → size (numbered name n ∷ ls) ≤ most + 100
+list_short name n most ls short few h = omega (arith, line_more (numbered name n) ls, short, number_short n (omega (arith, few)), h)
+
+witness_short : (w : Option Plan) → IfSome w IsSchedule → IfSome w HasFewChoices → size (witness_lines w) ≤ 8000200
+witness_short None h few = omega arith
+witness_short (Some plan) h few =
+    let runs = runs_short None most_choices plan.runs (omega arith) h.runs_fit in
+    let fill : List (List ℕ) = codes "fill" ∷ hex_digits plan.fill 2 ∷ [] in
+    let first : List (List ℕ) = codes "schedule" ∷ codes "1" ∷ [] in
+    let end : List (List (List ℕ)) = (codes "end" ∷ []) ∷ [] in
+    let lines : List (List (List ℕ)) = map run_words plan.runs ++ end in
+    let behind = both_long (map run_words plan.runs) end in
+    omega (arith, line_more attained_line (first ∷ fill ∷ lines), line_more first (fill ∷ lines), line_more fill lines, length_hex plan.fill 2, behind, runs, few)
+
+front_short : (c : Claim) → IsClaim c → size (front_lines c) ≤ 166000000
+front_short c h =
+    let entries = list_short (codes "assume") (length c.assumptions) (400 * length c.assumptions) (map entry_words c.assumptions) (omega arith) (omega (arith, h.entries_fit.few))
+    (entries_short c.assumptions (recursion_from_All (λ e. is_entry e ≡ true) c.assumptions h.entries_fit.each)) in
+    let insts = list_short (codes "instances") (length c.instances) (100 * length c.instances) (map inst_words c.instances) (omega arith) (omega (arith, h.few_insts)) (insts_short c.instances h.insts_fit) in
+    let most : ℕ = 600 * length c.nodes + 14 * cells_of (node_keys c.nodes) in
+    let nodes = list_short (codes "nodes") (length c.nodes) most (map (node_words c.version c.instances) c.nodes) (omega arith) (omega (arith, h.few_nodes))
+    (nodes_short c.version c.instances 0 c.nodes h.few_insts (omega (arith, h.few_nodes)) h.nodes_fit) in
+    let third = both_long (inst_lines c.instances) (node_lines c.version c.instances c.nodes) in
+    let second = both_long (entry_lines c.assumptions) (inst_lines c.instances ++ node_lines c.version c.instances c.nodes) in
+    let first = both_long (heading c.version c.bound) (entry_lines c.assumptions ++ (inst_lines c.instances ++ node_lines c.version c.instances c.nodes)) in
+    omega (arith, first, second, third, heading_short c.version c.bound h.bound_fits, entries, insts, nodes, h.entries_fit.few, h.few_insts, h.few_nodes, h.few_cells)
+
+pub texts_fit : TextsFit
+texts_fit c h few =
+    let behind = both_long (witness_lines c.witness) (end_line ∷ []) in
+    let all = both_long (front_lines c) (witness_lines c.witness ++ end_line ∷ []) in
+    omega (arith, all, behind, front_short c h.claim, witness_short c.witness h.schedule few)

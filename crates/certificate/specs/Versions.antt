@@ -1,0 +1,60 @@
+-- What each version of a certificate's text can say. The first knows no ranges, no carry tag of a register and no picks. Source: own.
+use Rattle.std.specs.Prelude.{ℕ, ◌≡◌, ⊤, Option, None}
+use Rattle.std.specs.List.{AllByRecursion}
+use Rattle.bit_domain.specs.Ranges.{set_of_bits}
+use Rattle.sp_domain.specs.declared.tags.CarryTag.{CarryTag}
+use Rattle.sp_domain.specs.declared.tags.CarryTag.TheVariants as carry
+use Rattle.sp_domain.specs.declared.slots.Slot.{Slot}
+use Rattle.sp_domain.specs.declared.slots.Slot.TheVariants.{Free, Guarded}
+use Rattle.abs_state.specs.declared.values.AbsByte.{AbsByte}
+use Rattle.abs_state.specs.declared.state.AbsState.{AbsState}
+use Rattle.abs_state.specs.Values.{set_of}
+use Rattle.mask_states.specs.declared.keys.NodeKey.{NodeKey}
+use Rattle.edge_rules.specs.declared.seeded.NodeForm.{NodeForm}
+use Rattle.edge_rules.specs.declared.seeded.NodeForm.TheVariants.{State, From}
+use Rattle.edge_rules.specs.Expansion.{Seeds}
+use Rattle.certificate.specs.declared.version.Version.{Version}
+use Rattle.certificate.specs.declared.version.Version.TheVariants.{One, Two}
+
+-- a value of the first version stands for all bytes that its bits permit
+abbrev pub ValueIsOf : Version → AbsByte → Type 0
+ValueIsOf One v = set_of v ≡ set_of_bits v.bits
+ValueIsOf Two v = ⊤
+
+abbrev pub SlotIsOf : Version → Slot AbsByte → Type 0
+SlotIsOf version Free = ⊤
+SlotIsOf version (Guarded v) = ValueIsOf version v
+
+-- a carry tag of the first version isn't of a register
+abbrev pub HasRegisters : Version → Type 0
+HasRegisters One = ⊥
+HasRegisters Two = ⊤
+
+abbrev pub CarryIsOf : Version → CarryTag → Type 0
+CarryIsOf version carry.None = ⊤
+CarryIsOf version (carry.Borrow j l) = ⊤
+CarryIsOf version (carry.Less r k) = HasRegisters version
+
+-- a node of the first version has no pick
+abbrev pub PickIsOf : Version → Option ℕ → Type 0
+PickIsOf One pick = pick ≡ None
+PickIsOf Two pick = ⊤
+
+pub record StateIsOf (version : Version) (s : AbsState) : Type 0 where
+  pub registers : AllByRecursion (ValueIsOf version) s.registers
+  pub carry_tag : CarryIsOf version s.flags.carry
+  pub slots : AllByRecursion (SlotIsOf version) s.slots
+
+abbrev pub FormIsOf : Version → NodeForm → Type 0
+FormIsOf version (State s) = StateIsOf version s
+FormIsOf version (From m) = ⊤
+
+-- its key and its state can be written
+pub record NodeIsOf (version : Version) (n : NodeKey × NodeForm) : Type 0 where
+  pub key : PickIsOf version n.0.pick
+  pub form : FormIsOf version n.1
+
+-- nodes that a text of this version can have: in the second each
+abbrev pub AreOf : Version → Seeds → Type 0
+AreOf One nodes = AllByRecursion (NodeIsOf One) nodes
+AreOf Two nodes = ⊤

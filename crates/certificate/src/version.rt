@@ -1,0 +1,10 @@
+//! The versions of certificates. Source: own.
+
+/// The version of a certificate, which decides what its text can say.
+#[derive(Clone, Copy, PartialEq, Eq)]
+pub enum Version {
+    /// The first: a value's range is that of its bits, no carry tag is of a register, and no node has a pick.
+    One,
+    /// The second: ranges, carry tags of registers and picks are written.
+    Two,
+}

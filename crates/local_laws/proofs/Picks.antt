@@ -1,0 +1,236 @@
+-- Where a node splits: its instruction neither calls nor returns, the byte that r30 has is among the picks, and what the node leads to with
+-- that byte picked covers the step.
+use Rattle.std.proofs.Common.{◌≡◌, refl, sym, subst, ℕ, zero, suc, ◌+◌, ◌<◌, ⊎_elim, Bool, true, false, ◌&&◌, nat_lt, nat_le, if◌then◌else◌, not, List, [], ◌∷◌, length, map, Option, Some, None, Contains, slice_index, slice_set, arith}
+use Rattle.std.proofs.lemmas.Bool.{cases_lt, cases_eq}
+use Rattle.std.proofs.lemmas.Bool.Decides.{nat_tests}
+use Rattle.std.proofs.lemmas.List.Elements.{Contains-append_left, Contains-append_right, Contains-append_cases}
+use Rattle.avr_model.specs.Devices.{words_of, device_of, wrapped}
+use Rattle.avr_model.specs.declared.device.Device.{Device}
+use Rattle.avr_model.specs.declared.assumption.Entry.{Entry}
+use Rattle.avr_model.specs.declared.effect.Effect.{Effect}
+use Rattle.avr_model.specs.declared.instruction.Instr.{Instr}
+use Rattle.avr_model.specs.declared.instruction.Instr.TheVariants as i
+use Rattle.avr_model.specs.Sites.{instruction_at, is_scratch, adds_low, adds_high, is_some_that, ijmp_from, table_site}
+use Rattle.avr_model.specs.Effects.{effect_of}
+use Rattle.avr_model.specs.State.{State, register}
+use Rattle.avr_model.specs.Written.{written}
+use Rattle.bit_domain.specs.TriByte.{byte_known}
+use Rattle.bit_domain.proofs.AllLaws.{bytes_are_sets, tests_tell_members}
+use Rattle.sp_domain.specs.Tags.{Origin}
+use Rattle.abs_state.specs.declared.values.AbsByte.{AbsByte}
+use Rattle.abs_state.specs.declared.state.AbsState.{AbsState}
+use Rattle.abs_state.specs.Values.{with_bits}
+use Rattle.abs_state.specs.Stands.{ByteStands, RegistersStand}
+use Rattle.abs_state.proofs.AllLaws.{bits_make_values, states_are_ordered}
+use Rattle.mask_states.specs.declared.keys.NodeKey.{NodeKey}
+use Rattle.mask_states.specs.declared.keys.Kind.{Kind}
+use Rattle.mask_states.specs.Keys.{offset_of}
+use Rattle.local_rules.specs.Raw.{Raw, all_of}
+use Rattle.local_rules.specs.Registers.{value, forgetting}
+use Rattle.local_rules.specs.Local.{row_of, row_at, fetched, may_be, below, picks, picking, picked, unlined, split_site}
+use Rattle.local_rules.specs.Cover.{InFrame, Follows, stays, calls, leaves, IsCovered}
+use Rattle.local_laws.proofs.Bytes.{byte_in_list}
+use Rattle.local_laws.proofs.Members.{none_in, here, first_or, empty_both}
+use Rattle.local_laws.proofs.Targets.{in_filter}
+use Rattle.local_laws.proofs.WriteValues.{Reaches}
+use Rattle.local_laws.proofs.PointerWrites.{both_hold, by_first, by_rest}
+use Rattle.local_laws.proofs.MonotoneValues.{IsLess, IsStateLess, set_same, set_other, registers_set, bits_less, same_bits, node_less, less_node}
+use Rattle.local_laws.proofs.Quiet.{Quiet}
+
+-- ---- the site
+
+unlined_some : (A : List Entry) (x : Option ℕ) (jump : ℕ) → unlined A x ≡ Some jump → (y : ℕ) × (x ≡ Some y)
+unlined_some A None jump e = absurd (cc)
+unlined_some A (Some y) jump e = (y, refl)
+
+site_adds : (words : List ℕ) (a jump : ℕ) → table_site words a ≡ Some jump → is_some_that adds_low (instruction_at words a) ≡ true
+unfolding table_site
+site_adds words a jump e = by (is_some_that adds_low (instruction_at words a)) (is_some_that adds_high (instruction_at words (a + 1))) e
+  where
+    by : (low high : Bool) → (if low && high then ijmp_from words 16 (wrapped (device_of words) (a + 2)) else None) ≡ Some jump → low ≡ true
+    by true high e = refl
+    by false high e = absurd (cc)
+
+-- it lies in flash, and its instruction adds to r30
+pub splits_at : (words : List ℕ) (A : List Entry) (pc : ℕ) (pick : Option ℕ) (jump : ℕ) → split_site words A pc pick ≡ Some jump
+    → (nat_lt pc (words_of (device_of words)) ≡ true) × (is_some_that adds_low (fetched (device_of words) words pc) ≡ true)
+splits_at words A pc (Some byte) jump e = absurd (cc)
+splits_at words A pc None jump e = by (nat_lt pc (words_of (device_of words))) e
+  where
+    by : (inside : Bool) → (if inside then unlined A (table_site words pc) else None) ≡ Some jump
+        → (inside ≡ true) × (is_some_that adds_low (if inside then instruction_at words pc else None) ≡ true)
+    by true e = let found = unlined_some A (table_site words pc) jump e in (refl, site_adds words pc found.0 found.1)
+    by false e = absurd (cc)
+
+module _ (device : Device) (words : List ℕ) (A : List Entry) (scratch : Bool) (k : NodeKey) where
+  adds_quiet : (s : AbsState) (x : Instr) → adds_low x ≡ true → Quiet (row_of device words A scratch k s x)
+  adds_quiet s (i.Immediate op d n) e = (refl, refl)
+  adds_quiet s (i.Movw d r) e = absurd (cc)
+  adds_quiet s (i.Muls d r) e = absurd (cc)
+  adds_quiet s (i.Mulsu d r) e = absurd (cc)
+  adds_quiet s (i.Fmul d r) e = absurd (cc)
+  adds_quiet s (i.Fmuls d r) e = absurd (cc)
+  adds_quiet s (i.Fmulsu d r) e = absurd (cc)
+  adds_quiet s (i.Binary op d r) e = absurd (cc)
+  adds_quiet s (i.Unary op d) e = absurd (cc)
+  adds_quiet s (i.Adiw d n) e = absurd (cc)
+  adds_quiet s (i.Sbiw d n) e = absurd (cc)
+  adds_quiet s (i.Bset n) e = absurd (cc)
+  adds_quiet s (i.Bclr n) e = absurd (cc)
+  adds_quiet s (i.Bld d b) e = absurd (cc)
+  adds_quiet s (i.Bst d b) e = absurd (cc)
+  adds_quiet s (i.Ldd d b q) e = absurd (cc)
+  adds_quiet s (i.Std b q r) e = absurd (cc)
+  adds_quiet s (i.Lds d a) e = absurd (cc)
+  adds_quiet s (i.Sts a r) e = absurd (cc)
+  adds_quiet s (i.Ld d p) e = absurd (cc)
+  adds_quiet s (i.St p r) e = absurd (cc)
+  adds_quiet s (i.LpmZ d) e = absurd (cc)
+  adds_quiet s (i.LpmZPlus d) e = absurd (cc)
+  adds_quiet s i.Lpm e = absurd (cc)
+  adds_quiet s (i.Pop d) e = absurd (cc)
+  adds_quiet s (i.Push r) e = absurd (cc)
+  adds_quiet s (i.In d a) e = absurd (cc)
+  adds_quiet s (i.Out a r) e = absurd (cc)
+  adds_quiet s (i.Cbi a b) e = absurd (cc)
+  adds_quiet s (i.Sbi a b) e = absurd (cc)
+  adds_quiet s i.Ijmp e = absurd (cc)
+  adds_quiet s i.Icall e = absurd (cc)
+  adds_quiet s i.Ret e = absurd (cc)
+  adds_quiet s i.Reti e = absurd (cc)
+  adds_quiet s (i.Jmp target) e = absurd (cc)
+  adds_quiet s (i.Call target) e = absurd (cc)
+  adds_quiet s (i.Rjmp target) e = absurd (cc)
+  adds_quiet s (i.Rcall target) e = absurd (cc)
+  adds_quiet s (i.Brbs n target) e = absurd (cc)
+  adds_quiet s (i.Brbc n target) e = absurd (cc)
+  adds_quiet s (i.Sbic a b) e = absurd (cc)
+  adds_quiet s (i.Sbis a b) e = absurd (cc)
+  adds_quiet s (i.Sbrc r b) e = absurd (cc)
+  adds_quiet s (i.Sbrs r b) e = absurd (cc)
+  adds_quiet s i.Nop e = absurd (cc)
+  adds_quiet s i.Sleep e = absurd (cc)
+  adds_quiet s i.Break e = absurd (cc)
+  adds_quiet s i.Wdr e = absurd (cc)
+
+  -- what adds to r30 neither calls nor returns
+  pub at_quiet : (s : AbsState) (x : Option Instr) → is_some_that adds_low x ≡ true → Quiet (row_at device words A scratch k s x)
+  at_quiet s None e = absurd (cc)
+  at_quiet s (Some x) e = adds_quiet (forgetting (written x) s) x e
+
+-- ---- the picks
+
+in_below : (n x : ℕ) → x < n → Contains (below n) x
+unfolding below
+in_below zero x lt = absurd (omega (arith, lt))
+in_below (suc n) x lt =
+    ⊎_elim
+    (λ less. Contains-append_left (below n) (n ∷ []) x (in_below n x less))
+    (λ over. let is : n ≡ x = omega (arith, lt, over) in Contains-append_right (below n) (n ∷ []) x (subst (Contains (n ∷ [])) is (here n [])))
+    (cases_lt x n)
+
+pub below_small : (n x : ℕ) → Contains (below n) x → x < n
+unfolding below
+below_small zero x h = absurd (none_in x h)
+below_small (suc n) x h =
+    ⊎_elim
+    (λ before. let lt = below_small n x before in omega (arith, lt))
+    (λ last. ⊎_elim (λ e. omega (arith, e)) (λ none. absurd (none_in x none)) (first_or n x [] last))
+    (Contains-append_cases (below n) (n ∷ []) x h)
+
+-- with the same byte picked, the lesser state stays below the greater
+pub picked_less : (kind : Kind) (offset byte : ℕ) (s t : AbsState) → IsStateLess kind offset s t → IsStateLess kind offset (picked s byte) (picked t byte)
+picked_less kind offset byte s t le =
+    let at : IsLess kind (value s 30) (value t 30) = le.registers.each 30 in
+    record {
+      registers = registers_set kind s.registers t.registers le.registers 30 _ _
+          (bits_less kind (value s 30).tag (value t 30).tag (byte_known byte) (byte_known byte) at.good at.within.tag (same_bits (byte_known byte)));
+      flags = le.flags;
+      slots = le.slots;
+    }
+
+-- a register's value that stands for its byte may be set
+itself_stands : (o : Origin) (values : List AbsByte) (registers : List ℕ) (d : ℕ) (v : AbsByte) → d < length values
+    → ((r : ℕ) → r ≡ d → ByteStands o v (slice_index registers r)) → RegistersStand o values registers → RegistersStand o (slice_set values d v) registers
+itself_stands o values registers d v lt h old r small =
+    ⊎_elim
+    (λ same. subst (λ (w : AbsByte). ByteStands o w (slice_index registers r)) (sym (set_same values d r v same lt)) (h r same))
+    (λ other. subst (λ (w : AbsByte). ByteStands o w (slice_index registers r)) (sym (set_other values d r v other)) (old r small))
+    (cases_eq r d)
+
+-- ---- the machine is at one of them
+
+pub may_by : (bits low high : Bool) → bits ≡ true → low ≡ true → high ≡ true → ((bits && low) && high) ≡ true
+may_by bits low high a b c = both_hold (bits && low) high (both_hold bits low a b) c
+
+module _ (m : State) (o : Origin) (k : NodeKey) (s : AbsState) (at : InFrame m o k s) where
+  -- the byte that r30 has
+  abbrev pub byte : ℕ
+  byte = register m 30
+
+  byte_small : byte < 256
+  byte_small = byte_in_list m.registers 30 at.machine.register_bytes
+
+  byte_stands : ByteStands o (value s 30) byte
+  byte_stands = at.stands.registers 30 (omega arith)
+
+  pub in_picks : Contains (picks s) byte
+  in_picks =
+      let low : nat_le (value s 30).low byte ≡ true = grind (arith, nat_tests, byte_stands.low) in
+      let high : nat_le byte (value s 30).high ≡ true = grind (arith, nat_tests, byte_stands.high) in
+      in_filter (may_be (value s 30)) byte (below 256) (may_by _ _ _ ((tests_tell_members.bytes (value s 30).bits byte).1 byte_stands.bits) low high) (in_below 256 byte byte_small)
+
+  picked_stands : ByteStands o (with_bits (value s 30).tag (byte_known byte)) byte
+  picked_stands = bits_make_values.stands o (value s 30).tag (byte_known byte) byte byte_small byte_stands.tag ((bytes_are_sets.known byte byte byte_small byte_small).1 refl)
+
+  pub picked_at : InFrame m o (picking k byte) (picked s byte)
+  picked_at =
+      let less : IsStateLess k.inst.kind (offset_of k.sp) (picked s byte) (picked s byte) =
+      picked_less k.inst.kind (offset_of k.sp) byte s s (node_less k s s at.node at.node (states_are_ordered.same s)) in
+      record {
+        machine = at.machine;
+        node = less_node (picking k byte) (picked s byte) (picked s byte) at.node.word at.node.small at.node.masks at.node.fits byte_small less;
+        place = record { pc = at.place.pc; enables = at.place.enables; i = at.place.i; delay = at.place.delay; sp = at.place.sp };
+        stands = record {
+          registers = itself_stands o s.registers m.registers 30 (with_bits (value s 30).tag (byte_known byte)) (omega (arith, at.node.formed.count_registers))
+              (λ r same. subst (λ (n : ℕ). ByteStands o (with_bits (value s 30).tag (byte_known byte)) (register m n)) (sym same) picked_stands) at.stands.registers;
+          flags = at.stands.flags;
+          less = at.stands.less;
+          slots = at.stands.slots;
+        };
+        root = at.root;
+        base_word = at.base_word;
+      }
+
+-- ---- what one of several reaches, all reach
+
+faultless_in : (f : ℕ → Raw) (xs : List ℕ) (x : ℕ) → Contains xs x → (all_of (map f xs)).faults ≡ [] → (f x).faults ≡ []
+faultless_in f [] x h clean = absurd (none_in x h)
+faultless_in f (y ∷ ys) x h clean =
+    let none = empty_both (f y).faults (all_of (map f ys)).faults clean in
+    ⊎_elim (λ e. subst (λ (z : ℕ). (f z).faults ≡ []) (sym e) none.0) (λ rest. faultless_in f ys x rest none.1) (first_or y x ys h)
+
+module _ (m : State) (o : Origin) (k : NodeKey) (guarded : Bool) (e : Effect) where
+  reached_in : (f : ℕ → Raw) (xs : List ℕ) (x : ℕ) → Contains xs x → Reaches m o k guarded e (f x) → Reaches m o k guarded e (all_of (map f xs))
+  reached_in f [] x h reached = absurd (none_in x h)
+  reached_in f (y ∷ ys) x h reached =
+      ⊎_elim
+      (λ same. by_first m o k guarded e (f y) (map f ys) (subst (λ (z : ℕ). Reaches m o k guarded e (f z)) same reached))
+      (λ rest. by_rest m o k guarded e (f y) (map f ys) (reached_in f ys x rest reached))
+      (first_or y x ys h)
+
+  -- where nothing is called or left, what follows is reached
+  reached_by : (byte b1 b2 : ℕ) (r : Raw) → Quiet r → Follows m o (picking k byte) guarded b1 b2 e r → Reaches m o k guarded e r
+  reached_by byte b1 b2 r quiet (stays to present inst lands) = record { to = to; present = present; inst = inst; lands = lands }
+  reached_by byte b1 b2 r quiet (calls offset site present closed is made) = absurd (none_in site (subst (λ xs. Contains xs site) quiet.0 present))
+  reached_by byte b1 b2 r quiet (leaves x is kind closed return) = absurd (let e = sym quiet.1 in let no = is in cc)
+
+-- what one that is picked covers, all cover
+pub all_covered : (words : List ℕ) (A : List Entry) (m : State) (o : Origin) (k : NodeKey) (b1 b2 : ℕ) (f : ℕ → Raw) (xs : List ℕ) (x : ℕ) → Contains xs x → Quiet (f x)
+    → (instr : Option Instr) → IsCovered words A m o (picking k x) b1 b2 instr (f x) → IsCovered words A m o k b1 b2 instr (all_of (map f xs))
+all_covered words A m o k b1 b2 f xs x h quiet None covered = λ clean. covered (faultless_in f xs x h clean)
+all_covered words A m o k b1 b2 f xs x h quiet (Some instr) covered = λ clean unflagged.
+    let guarded : Bool = not (is_scratch words m.pc) in
+    let e : Effect = effect_of words m instr b1 b2 in
+    let found = reached_in m o k guarded e f xs x h (reached_by m o k guarded e x b1 b2 (f x) quiet (covered (faultless_in f xs x h clean) unflagged)) in
+    stays found.to found.present found.inst found.lands
