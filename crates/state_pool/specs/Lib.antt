@@ -1,0 +1,7 @@
+pub mod Same
+pub mod Digest
+pub mod Equal
+pub mod Uses
+pub mod Numbers
+pub mod Places
+pub mod Laws

@@ -1,0 +1,25 @@
+-- Numbers in the order of their places.
+use Rattle.std.specs.Prelude.{ℕ, ◌≡◌, ◌<◌, ◌≤◌, List, [], ◌∷◌, ◌++◌, length, slice_index_or}
+
+-- the number at a place
+abbrev pub number_at : List ℕ → ℕ → ℕ
+number_at numbers place = slice_index_or numbers place 0
+
+-- each number below the count stands at one place
+pub record AreNumbers (numbers : List ℕ) : Type 0 where
+  pub low : (i : ℕ) → i < length numbers → number_at numbers i < length numbers
+  pub once : (i j : ℕ) → i < length numbers → j < length numbers → number_at numbers i ≡ number_at numbers j → i ≡ j
+  pub few : length numbers ≤ 65537
+
+-- each of the two lists has at a number the place of that number in the other
+pub record AreInverse (numbers places : List ℕ) : Type 0 where
+  pub count : length places ≡ length numbers
+  pub few : length numbers ≤ 65537
+  pub low : (i : ℕ) → i < length numbers → number_at numbers i < length numbers
+  pub back : (i : ℕ) → i < length numbers → number_at places (number_at numbers i) ≡ i
+  pub place_low : (n : ℕ) → n < length numbers → number_at places n < length numbers
+  pub forth : (n : ℕ) → n < length numbers → number_at numbers (number_at places n) ≡ n
+
+-- one number more, where the places end before this one
+abbrev pub IsReached : List ℕ → ℕ → List ℕ → Type 0
+IsReached old place new = (place < length old → new ≡ old) × (length old ≡ place → new ≡ old ++ place ∷ [])

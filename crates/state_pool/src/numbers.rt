@@ -1,0 +1,104 @@
+//! Numbers by their places, and places by their numbers.
+
+ghost use Rattle.std.specs.Prelude.{ℕ, ◌≡◌, ◌<◌, ◌≤◌, ◌++◌, ◌∷◌, [], length, OnOk, OnErr};
+ghost use Rattle.std.specs.List.{swap};
+ghost use Rattle.state_pool.specs.Numbers.{number_at, AreNumbers, IsReached};
+
+use std::alloc::{AllocError, Global};
+use std::marker::Model;
+
+/// The numbers from 0 on, each at one place. Seen as the list of the numbers by their places.
+#[derive(Drop)]
+pub struct Numbers {
+    numbers: Vec<u32>,
+    places: Vec<u32>,
+}
+
+impl Model for Numbers {
+    ghost use Rattle.std.specs.Prelude.{ℕ, List};
+    ghost use Rattle.state_pool.specs.Numbers.{AreInverse};
+
+    ghost Value = { List ℕ };
+
+    ghost view = { λ s. s.numbers.items };
+
+    ghost invariant = { λ s. AreInverse s.numbers.items s.places.items };
+}
+
+impl Numbers {
+    /// No numbers.
+    pub fn new(alloc: Global) -> Numbers
+        ensures { result ≡ [] }
+    {
+        Numbers {
+            numbers: Vec::new(alloc),
+            places: Vec::new(alloc),
+        }
+    }
+
+    /// How many there are. Each has one place.
+    pub fn len(&self) -> usize
+        ensures count { result ≡ length self.now }
+        ensures once { AreNumbers self.now }
+    {
+        self.numbers.len()
+    }
+
+    /// The number at a place.
+    pub fn number(&self, place: usize) -> u32
+        requires { place < length self.now }
+        ensures { result ≡ number_at self.now place }
+    {
+        self.numbers[place]
+    }
+
+    /// The place of a number.
+    pub fn place(&self, number: u32) -> usize
+        requires { number < length self.now }
+        ensures low { result < length self.now }
+        ensures place { number_at self.now result ≡ number }
+    {
+        self.places[number as usize] as usize
+    }
+
+    /// A number for a place: the one that it has, or another where the places end before it.
+    pub fn reach(&mut self, place: usize) -> Result<(), AllocError>
+        requires { (place ≤ length self.old) × (place < 65537) }
+        ensures ok { OnOk result (IsReached self.old place self.new) }
+        ensures err { OnErr result (self.new ≡ self.old) }
+        ensures once { AreNumbers self.new }
+    {
+        if place < self.len() {
+            return Ok(());
+        }
+        self.add()
+    }
+
+    // Another number at the last place.
+    fn add(&mut self) -> Result<(), AllocError>
+        requires { length self.old < 65537 }
+        ensures ok { OnOk result (self.new ≡ self.old ++ length self.old ∷ []) }
+        ensures err { OnErr result (self.new ≡ self.old) }
+        ensures once { AreNumbers self.new }
+    {
+        let number = self.numbers.len() as u32;
+        self.numbers.push(number)?;
+        if self.places.push(number).is_err() {
+            self.numbers.pop();
+            return Err(AllocError);
+        }
+        Ok(())
+    }
+
+    /// Each of two numbers at the other's place.
+    pub fn swap(&mut self, place: usize, other: usize)
+        requires { (place < length self.old) × (other < length self.old) }
+        ensures swapped { self.new ≡ swap self.old place other }
+        ensures once { AreNumbers self.new }
+    {
+        let number = self.number(place);
+        let next = self.number(other);
+        self.numbers.swap(place, other);
+        self.places.swap(number as usize, next as usize);
+    }
+}

@@ -1,0 +1,148 @@
+//! The states and their counts.
+
+ghost use Rattle.std.specs.Prelude.{ℕ, ◌≡◌, ◌<◌, Some, IfOk, IfErr, OnErr, IsSome, slice_get, length};
+ghost use Rattle.std.specs.FinMap.{get, empty, len};
+ghost use Rattle.indexmap.specs.IndexMap.{index_map_len};
+ghost use Rattle.indexmap.specs.Layout.{set_value_at};
+ghost use Rattle.abs_state.specs.declared.state.AbsState.{AbsState};
+ghost use Rattle.state_pool.specs.Uses.{IsInterned, IsAbsent, AreDistinct, AreUsed, AreBelow, IsHeld, released};
+
+use crate::numbers::Numbers;
+use crate::shared::Shared;
+use abs_state::AbsState;
+use indexmap::IndexMap;
+use std::alloc::Global;
+use std::marker::Model;
+
+/// States by their numbers, each with a count of its uses. Seen as a map from the numbers to both. Equal states have one number.
+#[derive(Drop)]
+pub struct Pool {
+    /// Each state and its count.
+    uses: IndexMap<Shared, u32>,
+    /// The number of each place among these; behind them those that no state has.
+    numbers: Numbers,
+}
+
+impl Model for Pool {
+    ghost use Rattle.std.specs.FinMap.{FinMap, from_entries, code};
+    ghost use Rattle.std.specs.Coded.{coded×, coded_ℕ};
+    ghost use Rattle.abs_state.specs.contracts.state.AbsState as abs_state;
+    ghost use Rattle.state_pool.specs.Uses.{Uses};
+    ghost use Rattle.state_pool.specs.Places.{numbered, AreKept};
+
+    ghost Value = { Uses };
+
+    ghost coded = { code coded_ℕ (coded× abs_state.the_row.coded coded_ℕ) };
+
+    ghost view = { λ p. from_entries (numbered p.numbers p.uses.entries) };
+
+    ghost invariant = { λ p. AreKept p.numbers p.uses.entries };
+}
+
+// The count at a place.
+fn count_at(uses: &IndexMap<Shared, u32>, place: usize) -> u32
+    requires { place < index_map_len uses.now }
+    ensures { (s : AbsState) × (slice_get uses.now.entries place ≡ Some (s, result)) }
+{
+    match uses.get_index(place) {
+        Some((_, count)) => *count,
+        None => unreachable!(),
+    }
+}
+
+// Another count at a place.
+fn set_count(uses: &mut IndexMap<Shared, u32>, place: usize, count: u32)
+    requires { place < index_map_len uses.old }
+    ensures { uses.new.entries ≡ set_value_at uses.old.entries place count }
+{
+    match uses.get_index_mut(place) {
+        Some(held) => *held = count,
+        None => unreachable!(),
+    }
+}
+
+impl Pool {
+    /// No states.
+    pub fn new(alloc: Global) -> Pool
+        ensures { result ≡ empty }
+    {
+        Pool {
+            uses: IndexMap::new(alloc),
+            numbers: Numbers::new(alloc),
+        }
+    }
+
+    /// How many states there are. Each has one number, and is used.
+    pub fn len(&self) -> usize
+        ensures count { result ≡ len self.now }
+        ensures distinct { AreDistinct self.now }
+        ensures used { AreUsed self.now }
+    {
+        self.uses.len()
+    }
+
+    /// The state of a number that is there.
+    pub fn get(&self, number: u32) -> &AbsState
+        requires { IsSome (get self.now number) }
+        ensures { (count : ℕ) × IsHeld self.now number result.now count }
+    {
+        let place = self.numbers.place(number);
+        match self.uses.get_index(place) {
+            Some((shared, _)) => &shared.state,
+            None => unreachable!(),
+        }
+    }
+
+    /// Uses a state once more, and gives its number: that of an equal state, or a new one. Gives the state back for want of memory.
+    pub fn intern(&mut self, state: AbsState) -> Result<u32, AbsState>
+        requires few { len self.old < 65537 }
+        requires counts { AreBelow 65536 self.old }
+        ensures ok { IfOk result (λ number. IsInterned self.old state number self.new) }
+        ensures back { IfErr result (λ s. s ≡ state) }
+        ensures err { OnErr result (self.new ≡ self.old) }
+    {
+        let shared = Shared { state };
+        match self.uses.get_index_of(&shared) {
+            Some(place) => {
+                let count = count_at(&self.uses, place);
+                set_count(&mut self.uses, place, count + 1);
+                Ok(self.numbers.number(place))
+            }
+            None => self.admit(shared),
+        }
+    }
+
+    // Adds a state that isn't there.
+    fn admit(&mut self, shared: Shared) -> Result<u32, AbsState>
+        requires few { len self.old < 65537 }
+        requires absent { IsAbsent self.old shared }
+        ensures ok { IfOk result (λ number. IsInterned self.old shared number self.new) }
+        ensures back { IfErr result (λ s. s ≡ shared) }
+        ensures err { OnErr result (self.new ≡ self.old) }
+    {
+        let place = self.uses.len();
+        if self.numbers.reach(place).is_err() {
+            return Err(shared.state);
+        }
+        match self.uses.insert(shared, 1) {
+            Ok(_) => {}
+            Err(failed) => return Err(failed.value.0.state),
+        }
+        Ok(self.numbers.number(place))
+    }
+
+    /// Uses the state of a number that is there once less. It goes where it was used once.
+    pub fn release(&mut self, number: u32)
+        requires { IsSome (get self.old number) }
+        ensures { self.new ≡ released self.old number }
+    {
+        let place = self.numbers.place(number);
+        let count = count_at(&self.uses, place);
+        if count > 1 {
+            set_count(&mut self.uses, place, count - 1);
+        } else {
+            self.uses.swap_remove_index(place);
+            self.numbers.swap(place, self.uses.len());
+        }
+    }
+}
