@@ -1,0 +1,8 @@
+"""An extra script of PlatformIO: the build fails where the stack may not fit."""
+
+Import("env")  # noqa: F821
+
+env.AddPostAction(  # noqa: F821
+    "$BUILD_DIR/${PROGNAME}.elf",
+    env.VerboseAction("stackcheck $TARGET --spec $PROJECT_DIR/stack.spec --margin 64", "Checking the stack of $TARGET"),  # noqa: F821
+)

@@ -1,0 +1,178 @@
+"""Source lines of byte addresses, from the debug information of an ELF file: DWARF line tables of versions 2 to 4, and stabs."""
+
+import os
+import shutil
+import struct
+import subprocess
+
+
+class Reader:
+    def __init__(self, data, at=0):
+        self.data, self.at = data, at
+
+    def take(self, form):
+        value = struct.unpack_from("<" + form, self.data, self.at)[0]
+        self.at += struct.calcsize(form)
+        return value
+
+    def text(self):
+        end = self.data.index(b"\0", self.at)
+        text, self.at = self.data[self.at:end].decode("utf8", "replace"), end + 1
+        return text
+
+    def number(self, is_signed=False):
+        """A number in LEB128."""
+        value = shift = 0
+        while True:
+            byte = self.take("B")
+            value |= (byte & 0x7F) << shift
+            shift += 7
+            if byte < 0x80:
+                return value - (1 << shift) if is_signed and byte & 0x40 else value
+
+
+def dwarf_rows(data):
+    """Yields (begin, end, file, line) of each row of the line tables. A table of another version is passed over."""
+    at = 0
+    while at + 4 <= len(data):
+        reader = Reader(data, at)
+        at += 4 + reader.take("I")
+        version = reader.take("H")
+        if 2 <= version <= 4:
+            yield from unit_rows(reader, at, version)
+
+
+class Header:
+    """What the head of a line table tells; the reader stands behind it."""
+
+    def __init__(self, reader, version):
+        length = reader.take("I")
+        start = reader.at + length
+        self.step = reader.take("B")
+        if version == 4:
+            reader.take("B")
+        reader.take("B")
+        self.base, self.span, self.special = reader.take("b"), reader.take("B"), reader.take("B")
+        self.lengths = [reader.take("B") for _ in range(self.special - 1)]
+        while reader.text():
+            pass
+        self.files = [""]
+        while name := reader.text():
+            self.files.append(name)
+            for _ in range(3):
+                reader.number()
+        reader.at = start
+
+
+class Place:
+    """The registers of a line table's program: address, file and line."""
+
+    def __init__(self, head):
+        self.head = head
+        self.reset()
+
+    def reset(self):
+        self.address, self.file, self.line = 0, 1, 1
+
+    def special(self, code):
+        self.address += (code - self.head.special) // self.head.span * self.head.step
+        self.line += self.head.base + (code - self.head.special) % self.head.span
+
+    def extended(self, reader):
+        """An extended code; whether it ends a sequence."""
+        after = reader.number() + reader.at
+        kind = reader.take("B")
+        if kind == 2:
+            self.address = int.from_bytes(reader.data[reader.at:after], "little")
+        elif kind == 3:
+            self.head.files.append(reader.text())
+        reader.at = after
+        return kind == 1
+
+    def standard(self, code, reader):
+        if code == 2:
+            self.address += reader.number() * self.head.step
+        elif code == 3:
+            self.line += reader.number(is_signed=True)
+        elif code == 4:
+            self.file = reader.number()
+        elif code == 8:
+            self.address += (255 - self.head.special) // self.head.span * self.head.step
+        elif code == 9:
+            self.address += reader.take("H")
+        else:
+            for _ in range(self.head.lengths[code - 1]):
+                reader.number()
+
+    def name(self):
+        return self.head.files[self.file] if self.file < len(self.head.files) else ""
+
+
+def unit_rows(reader, end, version):
+    """Yields the rows of one line table: each reaches up to the next one, or to the end of its sequence."""
+    head = Header(reader, version)
+    place, last = Place(head), None
+    while reader.at < end:
+        code = reader.take("B")
+        is_end = code == 0 and place.extended(reader)
+        if code >= head.special:
+            place.special(code)
+        elif code > 1:
+            place.standard(code, reader)
+        if is_end or code == 1 or code >= head.special:
+            if last and last[0] < place.address:
+                yield last[0], place.address, last[1], last[2]
+            last = None if is_end else (place.address, place.name(), place.line)
+        if is_end:
+            place.reset()
+
+
+def stab_rows(stabs, names, end_of):
+    """Yields (begin, end, file, line) of each line entry of stabs. Offsets count from the function's begin; `end_of` gives its end."""
+    file, function, base, last = "", 0, 0, None
+    unit = 0
+    for at in range(0, len(stabs) - 11, 12):
+        name, kind, _, value, number = struct.unpack_from("<IBBHI", stabs, at)
+        if kind == 0x00:
+            base, unit = unit, unit + number
+        elif kind in (0x64, 0x84):
+            if kind == 0x64 and last:
+                yield last[0], end_of(last[0]), last[1], last[2]
+                last = None
+            text = Reader(names, base + name).text()
+            file = text if text and not text.endswith("/") else file
+        elif kind == 0x24:
+            text = Reader(names, base + name).text()
+            if text and last:
+                yield last[0], end_of(last[0]), last[1], last[2]
+                last = None
+            function = number if text else function
+        elif kind == 0x44:
+            place = function + number
+            if last and last[0] < place:
+                yield last[0], place, last[1], last[2]
+            last = (place, file, value)
+
+
+class Lines:
+    """The source lines of an ELF file."""
+
+    def __init__(self, elf, path):
+        self.path = path
+        self.rows = []
+        try:
+            self.rows += dwarf_rows(elf.section(".debug_line"))
+            self.rows += stab_rows(elf.section(".stab"), elf.section(".stabstr"), lambda at: elf.extent(elf.symbol_at(at))[1])
+        except (struct.error, ValueError, IndexError):
+            pass  # damaged debug information tells what was read so far
+        self.other = shutil.which("avr-addr2line")
+
+    def at(self, address):
+        """`file:line` of a byte address, the file without its folders; None where nothing tells it."""
+        for begin, end, file, line in self.rows:
+            if begin <= address < end and line:
+                return f"{os.path.basename(file)}:{line}"
+        if not self.other or self.rows:
+            return None
+        said = subprocess.run([self.other, "-e", self.path, hex(address)], capture_output=True, text=True).stdout.split(" (")[0].strip()
+        return os.path.basename(said) if said and "?" not in said else None

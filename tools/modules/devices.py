@@ -1,0 +1,46 @@
+"""The four devices of stackbound, and the names of their vectors and protected registers as avr-libc has them."""
+
+
+class Device:
+    """Words of flash, the first and the last byte of SRAM, and how many words a vector has."""
+
+    def __init__(self, name, words, last, vector_words):
+        self.name, self.words, self.first, self.last, self.vector_words = name, words, 0x0100, last, vector_words
+
+    def sram(self):
+        return self.last + 1 - self.first
+
+    def vector_word(self, vector):
+        return (vector - 1) * self.vector_words
+
+
+DEVICES = {it.name: it for it in (
+    Device("atmega48pa", 2048, 0x02FF, 1),
+    Device("atmega88pa", 4096, 0x04FF, 1),
+    Device("atmega168pa", 8192, 0x04FF, 2),
+    Device("atmega328p", 16384, 0x08FF, 2),
+)}
+
+# What a file may be linked for, and the device as which it is taken: chips of one family, alike in flash, SRAM, vectors and registers.
+LINKED_FOR = {
+    "atmega48p": "atmega48pa", "atmega48a": "atmega48pa", "atmega48pa": "atmega48pa",
+    "atmega88p": "atmega88pa", "atmega88a": "atmega88pa", "atmega88pa": "atmega88pa",
+    "atmega168p": "atmega168pa", "atmega168a": "atmega168pa", "atmega168pa": "atmega168pa",
+    "atmega328": "atmega328p", "atmega328p": "atmega328p",
+}
+
+# By number, from 2 on, as <avr/io.h> calls them.
+VECTORS = dict(enumerate([
+    "INT0_vect", "INT1_vect", "PCINT0_vect", "PCINT1_vect", "PCINT2_vect", "WDT_vect", "TIMER2_COMPA_vect", "TIMER2_COMPB_vect",
+    "TIMER2_OVF_vect", "TIMER1_CAPT_vect", "TIMER1_COMPA_vect", "TIMER1_COMPB_vect", "TIMER1_OVF_vect", "TIMER0_COMPA_vect",
+    "TIMER0_COMPB_vect", "TIMER0_OVF_vect", "SPI_STC_vect", "USART_RX_vect", "USART_UDRE_vect", "USART_TX_vect", "ADC_vect",
+    "EE_READY_vect", "ANALOG_COMP_vect", "TWI_vect", "SPM_READY_vect",
+], start=2))
+
+# Protected registers by name, with their data addresses.
+REGISTERS = {
+    "EIMSK": 0x3D, "EECR": 0x3F, "SPCR": 0x4C, "ACSR": 0x50, "SPMCSR": 0x57, "SPL": 0x5D, "SPH": 0x5E, "SREG": 0x5F, "WDTCSR": 0x60,
+    "PCICR": 0x68, "TIMSK0": 0x6E, "TIMSK1": 0x6F, "TIMSK2": 0x70, "ADCSRA": 0x7A, "TWCR": 0xBC, "UCSR0B": 0xC1,
+    **{f"r{n}": n for n in range(32)},
+}
+NAME_OF = {address: name for name, address in REGISTERS.items()}

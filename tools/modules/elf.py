@@ -1,0 +1,129 @@
+"""An ELF file of avr-gcc: flash, symbols, and the device that it was linked for."""
+
+import bisect
+import struct
+
+FLASH = 0x8000  # bytes
+CODE_END = 0x800000  # from here on addresses are of data
+SRAM, EEPROM = 0x800100, 0x810000  # where sections of data in SRAM begin, and what lies behind them
+ALLOCATED = 2  # a flag of sections that take memory
+FUNCTION, FILE_NAME = 2, 4  # types of symbols
+ABSOLUTE = 0xFFF1  # the section number of symbols that are no place in a section
+BOUNDS = ("__ctors_", "__dtors_", "__trampolines_", "__vector_default", "_etext", "__TEXT_REGION", "__data_load")  # the linker's own marks
+
+
+class NoElf(Exception):
+    """The file is no ELF file of an AVR that these tools read."""
+
+
+class Symbol:
+    """A symbol of code: its name, byte address, size in bytes (0: not told), whether it is a function, and its source file where it is local."""
+
+    def __init__(self, name, address, size, is_function, file):
+        self.name, self.address, self.size, self.is_function, self.file = name, address, size, is_function, file
+
+    def end(self):
+        return self.address + self.size
+
+
+def text_at(data, offset):
+    return data[offset:data.index(b"\0", offset)].decode("ascii", "replace")
+
+
+class Elf:
+    """`flash` has 32,768 bytes (FF where nothing is placed), `code` the symbols of code by address, `all` the addresses of all names."""
+
+    def __init__(self, path):
+        with open(path, "rb") as file:
+            self.data = file.read()
+        if self.data[:7] != b"\x7fELF\x01\x01\x01" or len(self.data) < 52 or struct.unpack_from("<HH", self.data, 16) != (2, 83):
+            raise NoElf(f"{path} is no ELF file of an AVR")
+        try:
+            self.read()
+        except (struct.error, ValueError, IndexError):
+            raise NoElf(f"{path} is damaged: a header or a name lies outside it") from None
+
+    def read(self):
+        head = struct.unpack_from("<IIIIHHHHHH", self.data, 24)
+        self.flash = bytearray(b"\xff" * FLASH)
+        self.flash_end = 0
+        self.loaded = []
+        for n in range(head[6]):
+            kind, offset, address, place, size = struct.unpack_from("<IIIII", self.data, head[1] + n * head[5])
+            if kind == 1:
+                self.loaded.append((address, size, offset))
+            if kind == 1 and size and place < CODE_END and place + size <= FLASH:
+                self.flash[place:place + size] = self.data[offset:offset + size]
+                self.flash_end = max(self.flash_end, place + size)
+        self.headers = [struct.unpack_from("<IIIIIIIIII", self.data, head[2] + n * head[7]) for n in range(head[8])]
+        self.sections = {}
+        if self.headers:
+            names = self.headers[head[9]][4]
+            self.sections = {text_at(self.data, names + it[0]): it for it in self.headers}
+        self.read_symbols()
+
+    def section(self, name):
+        """The bytes of the section of this name; none where there is no such section."""
+        header = self.sections.get(name)
+        return b"" if header is None or header[1] == 8 else self.data[header[4]:header[4] + header[5]]
+
+    def read_symbols(self):
+        self.code, self.all = [], {}
+        file = ""
+        for table in (it for it in self.headers if it[1] == 2):
+            names = self.headers[table[6]][4]
+            for at in range(table[4], table[4] + table[5] - 15, 16):
+                name, address, size, info, _, section = struct.unpack_from("<IIIBBH", self.data, at)
+                name, kind = text_at(self.data, names + name), info & 15
+                if kind == FILE_NAME:
+                    file = name
+                elif name and section:
+                    self.all.setdefault(name, address)
+                    if address < CODE_END and section != ABSOLUTE and kind in (0, FUNCTION) and not name.startswith((".", *BOUNDS)):
+                        self.code.append(Symbol(name, address, size, kind == FUNCTION, file if info >> 4 == 0 else ""))
+        self.code.sort(key=lambda it: (it.address, not it.is_function, it.name))
+        self.starts = sorted({it.address for it in self.code})
+
+    def extent(self, symbol):
+        """The byte addresses from a symbol's begin to its end: its size where told, else up to the next symbol."""
+        if symbol.size:
+            return symbol.address, symbol.end()
+        after = bisect.bisect_right(self.starts, symbol.address)
+        return symbol.address, self.starts[after] if after < len(self.starts) else self.flash_end
+
+    def symbol_at(self, address):
+        """The symbol in whose extent a byte address lies: the innermost function with a size, else the last symbol before; or None."""
+        before = [it for it in self.code if it.address <= address]
+        sized = [it for it in before if it.size and address < it.end()]
+        if sized:
+            last = sized[-1].address
+            return next(it for it in sized if it.address == last)
+        if not before or address >= self.flash_end:
+            return None
+        last = before[-1].address
+        return next(it for it in before if it.address == last)
+
+    def named(self, name):
+        """The symbols of code that a name means: NAME, or FILE:NAME for a local one."""
+        file, _, own = name.rpartition(":")
+        return [it for it in self.code if it.name == own and (not file or it.file == file)]
+
+    def static_end(self):
+        """The data address behind the last section of data in SRAM, `.bss` among them; None where there is none, or no section headers."""
+        ends = [it[3] + it[5] - CODE_END for it in self.headers if it[2] & ALLOCATED and it[5] and SRAM <= it[3] < EEPROM]
+        return max(ends, default=None)
+
+    def device(self):
+        """The device that the file was linked for by its note, as the compiler calls it; None without a note."""
+        note = self.section(".note.gnu.avr.deviceinfo").rstrip(b"\0")
+        return note.rpartition(b"\0")[2].decode("ascii", "replace") or None if note else None
+
+    def at_data_address(self, address, size=2):
+        """The initial bytes at a data address (0x800000 and up); None where the file has none."""
+        for begin, length, offset in self.loaded:
+            if begin <= address and address + size <= begin + length:
+                return self.data[offset + address - begin:offset + address - begin + size]
+        return None
+
+    def word(self, word):
+        return struct.unpack_from("<H", self.flash, 2 * (word % (FLASH // 2)))[0]

@@ -1,0 +1,62 @@
+"""Sites in a function's code: its indirect transfers and its stores through pointers, found by their opcodes."""
+
+IJMP, ICALL = 0x9409, 0x9509
+
+
+def length(opcode):
+    """How many words an instruction has: `lds`, `sts`, `jmp` and `call` have two."""
+    return 2 if opcode & 0xFC0F == 0x9000 or opcode & 0xFE0C == 0x940C else 1
+
+
+def is_indirect(opcode):
+    return opcode in (IJMP, ICALL)
+
+
+def is_pointer_store(opcode):
+    """`st` through X, Y or Z with or without a step, and `std`."""
+    if opcode & 0xD200 == 0x8200:
+        return True
+    return opcode & 0xFE00 == 0x9200 and opcode & 15 in (0x1, 0x2, 0x9, 0xA, 0xC, 0xD, 0xE)
+
+
+def words_of(elf, symbol):
+    """Yields (word address, opcode) of each instruction of a symbol's extent, read one behind the other."""
+    begin, end = elf.extent(symbol)
+    word = begin // 2
+    while 2 * word < end:
+        opcode = elf.word(word)
+        yield word, opcode
+        word += length(opcode)
+
+
+def sites(elf, symbol, test):
+    return [word for word, opcode in words_of(elf, symbol) if test(opcode)]
+
+
+def target(elf, word, far, near):
+    opcode = elf.word(word)
+    if opcode & 0xFE0E == far:
+        return elf.word(word + 1) % 0x4000
+    if opcode & 0xF000 == near:
+        step = opcode & 0xFFF
+        return (word + 1 + step - (0x1000 if step & 0x800 else 0)) % 0x4000
+    return None
+
+
+def jump_target(elf, word):
+    """The word to which the `jmp` or `rjmp` at a word leads; None where another instruction stands there."""
+    return target(elf, word, 0x940C, 0xC000)
+
+
+def call_target(elf, word):
+    """The word that the `call` or `rcall` at a word enters; None where another instruction stands there."""
+    return target(elf, word, 0x940E, 0xD000)
+
+
+def pair_loaded(elf, word):
+    """The number that `subi r30`, `sbci r31` at a word add to the pair r31:r30; None where these aren't there."""
+    low, high = elf.word(word), elf.word(word + 1)
+    if low & 0xF0F0 == 0x50E0 and high & 0xF0F0 == 0x40F0:
+        byte = lambda opcode: opcode & 15 | (opcode >> 4) & 0xF0  # noqa: E731
+        return -(byte(low) | byte(high) << 8) % 0x10000
+    return None

@@ -1,0 +1,161 @@
+"""What `stackcheck` finds of one firmware: the bound with what it rests on, or the refusal with its place, cause and cure."""
+
+import json
+import os
+
+import cures
+from opcodes import jump_target
+from debug_lines import Lines
+from devices import DEVICES, LINKED_FOR, VECTORS
+from elf import Elf
+from program import OK, REFUSED, NoProgram, Program
+from spec import assumptions
+
+
+class Misuse(Exception):
+    """The words or the firmware aren't as `stackcheck` takes them."""
+
+
+class Part:
+    """A number of bytes and what it is of."""
+
+    def __init__(self, count, text):
+        self.count, self.text = count, text
+
+
+class Outcome:
+    """`refusal` with `places_of_refusal`, `cause` and `cure`; or, where it is None, the bound and what else is told of it."""
+
+    def __init__(self, path, elf, linked_for, device):
+        self.path, self.elf, self.linked_for, self.device = path, elf, linked_for, device
+        self.lines = Lines(elf, path)
+        self.refusal = self.certificate = None
+        self.assumed, self.rests_on, self.chain, self.needs, self.places = "", [], [], [], None
+        self.keeps, self.rule = True, ""
+
+    def place(self, word):
+        """Function, offset and source line of a word address."""
+        symbol, line = self.elf.symbol_at(2 * word), self.lines.at(2 * word)
+        return " ".join([f"{symbol.name}+{2 * word - symbol.address}" if symbol else "-", *([line] if line else [])])
+
+    def handler(self, vector):
+        """The name of a vector, and the function that its word jumps to."""
+        target = jump_target(self.elf, self.device.vector_word(vector))
+        symbol = self.elf.symbol_at(2 * target) if target is not None else None
+        return f"{VECTORS[vector]} ({symbol.name})" if symbol else VECTORS[vector]
+
+    def instance(self, kind, entry, name):
+        """What an instance is called: its function, its vector, or the start."""
+        if kind == "root":
+            return "reset"
+        if kind != "call":
+            return self.handler(int(kind[1:]))
+        symbol = self.elf.symbol_at(2 * entry)
+        return name or (symbol.name if symbol else f"{entry:04X}")
+
+
+def device_of(elf, path, asked):
+    """The device that the file was linked for, and the one as which it is taken."""
+    linked_for = elf.device()
+    if asked and asked not in DEVICES:
+        raise Misuse(f"--device is one of {', '.join(DEVICES)}")
+    if linked_for is None:
+        if not asked:
+            raise Misuse(f"{path} doesn't say for which device it was linked: give --device")
+        return None, DEVICES[asked]
+    if linked_for not in LINKED_FOR:
+        raise Misuse(f"{path} was linked for {linked_for}, and stackbound knows {', '.join(DEVICES)} alone")
+    if asked not in (None, LINKED_FOR[linked_for]):
+        raise Misuse(f"{path} was linked for {linked_for}, and not for {asked}")
+    return linked_for, DEVICES[LINKED_FOR[linked_for]]
+
+
+def refuse(outcome, text):
+    outcome.refusal = text
+    name, word = cures.cure(outcome.elf, text, outcome.assumed)
+    _, outcome.cause, outcome.cure = cures.CURES[name]
+    outcome.places_of_refusal = []
+    if word is not None:
+        vector = cures.REFUSAL.match(text).group(3)
+        outcome.places_of_refusal.append(f"{word:04X} " + (outcome.handler(int(vector)) if vector else outcome.place(word)))
+
+
+def tell_bound(outcome, program, certificate, words):
+    status, text = program.call("report", certificate, "--json")
+    if status != OK:
+        raise NoProgram(f"report: status {status}: {text.strip()}")
+    report = json.loads(text)
+    outcome.bound, outcome.witness = report["bound"], report["witness"]
+    rooms = [outcome.device.sram(), *([] if report["room"] is None else [report["room"]])]
+    if elf_end := outcome.elf.static_end():
+        rooms.append(max(outcome.device.last + 1 - elf_end, 0))
+    outcome.room = min(rooms)
+    margin = outcome.room - outcome.bound
+    if margin < 0:
+        outcome.keeps, outcome.rule = False, "it is more than the room"
+    elif words.limit is not None:
+        outcome.keeps, outcome.rule = outcome.bound <= words.limit, f"the limit is {words.limit} bytes"
+    elif words.margin is not None:
+        outcome.keeps, outcome.rule = margin >= words.margin, f"{words.margin} bytes are to be left"
+    greatest = {}
+    for it in report["instances"]:
+        name = outcome.instance(it["kind"], it["entry"], it["name"])
+        greatest[name] = max(it["need"], greatest.get(name, 0))
+    outcome.needs = [Part(need, name) for name, need in sorted(greatest.items(), key=lambda it: (-it[1], it[0]))]
+
+
+def tell_chain(outcome, program, certificate):
+    """The deepest chain, where the program has `explain`."""
+    for line in program.lines("explain", certificate) or ():
+        words = line.split()
+        if words[0] == "link":
+            kind, entry, name, at, adds = words[1], int(words[2], 16), words[5], int(words[7], 16), int(words[9])
+            outcome.chain.append(Part(adds, f"{outcome.instance(kind, entry, None if name == '-' else name)} at {outcome.place(at)}"))
+
+
+def tell_premises(outcome, program, certificate):
+    """What the bound rests on: that no step is flagged before, the assumption file, and the places where one may be, where `premises` is."""
+    outcome.rests_on.append("The bound holds of each run up to its first flagged step." if outcome.witness == "attained" else
+                            "The bound holds of each run up to its first flagged step; no schedule shows that it is reached.")
+    for line in outcome.assumed.splitlines():
+        outcome.rests_on.append(f"assumed: {line}, at {outcome.place(int(line.split()[1], 16))}")
+    lines = program.lines("premises", certificate)
+    if lines is None:
+        outcome.rests_on.append("This stackbound doesn't list the places where a step may be flagged; the tool `flagged` finds some.")
+        return
+    outcome.places = lines[1:]
+    outcome.rests_on.append(f"places where a step may be flagged: {len(outcome.places)}")
+    for line in outcome.places:
+        kind, word = line.split()[:2]
+        outcome.rests_on.append(f"  {line.partition(' in ')[0]}: {outcome.place(int(word, 16))}" if kind == "at" else f"  {line}")
+
+
+def judge(words, folder):
+    """Analyses and judges the firmware of the command's words; files are made in the folder."""
+    elf = Elf(words.firmware)
+    outcome = Outcome(words.firmware, elf, *device_of(elf, words.firmware, words.device))
+    assumed = None
+    if words.spec:
+        with open(words.spec, encoding="utf8") as file:
+            outcome.assumed = assumptions(elf, file.read())
+        assumed = os.path.join(folder, "assumptions")
+        with open(assumed, "w", encoding="ascii") as file:
+            file.write(outcome.assumed)
+    program = Program(words.firmware, outcome.device.name, assumed)
+    status, text = program.call("analyse")
+    if status == REFUSED:
+        refuse(outcome, text.strip())
+        return outcome
+    if status != OK:
+        raise NoProgram(f"analyse: status {status}: {text.strip()}")
+    outcome.certificate = text
+    certificate = os.path.join(folder, "certificate")
+    with open(certificate, "w", encoding="ascii") as file:
+        file.write(text)
+    status, text = program.call("check", certificate)
+    if status != OK or not text.startswith("accepted bound "):
+        raise NoProgram(f"check: status {status}: {text.strip()}")
+    tell_bound(outcome, program, certificate, words)
+    tell_chain(outcome, program, certificate)
+    tell_premises(outcome, program, certificate)
+    return outcome
