@@ -29,7 +29,7 @@ use Rattle.edge_rules.specs.declared.edge.Edge.{Edge}
 use Rattle.call_graph.specs.declared.ways.Way.{Way}
 use Rattle.call_graph.specs.Ways.{call_way, vector_way, at_vector, vectors_below, interrupts_if, ways_by, ways_of}
 use Rattle.call_graph.specs.Laws.{LocalPartsAreEdges}
-use Rattle.call_graph.specs.Next.{gathered, local_edge, entry_edge, exit_in, returned_as, returned_by, return_edges, return_if, returns_in, all_returns, edges_with, next_by, next_of}
+use Rattle.call_graph.specs.Next.{gathered, local_edge, entry_edge, exit_in, returned_as, edge_back, returned_by, return_edges, return_if, returns_in, all_returns, edges_with, next_by, next_of}
 
 -- ---- lists
 
@@ -173,7 +173,7 @@ back_from : (k : NodeKey) (s : AbsState) (w : Way) (t : AbsState) (P : Edge → 
 back_from k s w t P None h e i = absurd (none_in e i)
 back_from k s w t P (Some x) h e i = from (returned s t) refl i
   where
-    from : (p : Option AbsState) → returned s t ≡ p → Contains (returned_as k w x p) e → P e
+    from : (p : Option AbsState) → returned s t ≡ p → Contains (edge_back (returned_as k w x p)) e → P e
     from None is j = absurd (none_in e j)
     from (Some after) is j = subst P (sym (only (back_edge k w x after) e j)) (h x after refl is)
 
@@ -181,7 +181,7 @@ back_in : (k : NodeKey) (s : AbsState) (w : Way) (t : AbsState) (o : Option Exit
     → Contains (returned_by k s w o t) (back_edge k w x after)
 back_in k s w t o x after eo is =
     subst (λ q. Contains (returned_by k s w q t) (back_edge k w x after)) (sym eo)
-    (subst (λ p. Contains (returned_as k w x p) (back_edge k w x after)) (sym is) (here (back_edge k w x after) []))
+    (subst (λ p. Contains (edge_back (returned_as k w x p)) (back_edge k w x after)) (sym is) (here (back_edge k w x after) []))
 
 if_from : {X : Type 0} (b : Bool) (xs : List X) (x : X) → Contains (if b then xs else []) x → (b ≡ true) × Contains xs x
 if_from true xs x h = (refl, h)

@@ -31,13 +31,21 @@ abbrev pub exit_in : Result Local NodeFault → Option Exit
 exit_in (Ok l) = l.exit
 exit_in (Err f) = None
 
-abbrev pub returned_as : NodeKey → Way → Exit → Option AbsState → List Edge
-returned_as k w x None = []
-returned_as k w x (Some s) = record { kind = kind.Return; to = returned_key w.kind k w.back x; state = s } ∷ []
+-- where an exit leads a node that entered this way, if what is known at both goes together
+abbrev pub returned_as : NodeKey → Way → Exit → Option AbsState → Option Node
+returned_as k w x None = None
+returned_as k w x (Some s) = Some (record { key = returned_key w.kind k w.back x; state = s })
+
+abbrev pub returned_node : NodeKey → AbsState → Way → Exit → AbsState → Option Node
+returned_node k s w x t = returned_as k w x (returned s t)
+
+abbrev pub edge_back : Option Node → List Edge
+edge_back None = []
+edge_back (Some n) = record { kind = kind.Return; to = n.key; state = n.state } ∷ []
 
 abbrev pub returned_by : NodeKey → AbsState → Way → Option Exit → AbsState → List Edge
 returned_by k s w None t = []
-returned_by k s w (Some x) t = returned_as k w x (returned s t)
+returned_by k s w (Some x) t = edge_back (returned_node k s w x t)
 
 -- back from a node
 abbrev pub return_edges : List ℕ → List Entry → NodeKey → AbsState → Way → Node → List Edge

@@ -1,6 +1,7 @@
 //! The edges of a family of nodes that is seen by numbers, and the states of nodes that are given by earlier ones. Source: own.
 #![tactic(auto)]
 
+pub mod callers;
 pub mod exit_list;
 pub mod expanding;
 pub mod filled;
@@ -9,6 +10,7 @@ pub mod leaving;
 pub mod successors;
 pub mod ways;
 
+pub use callers::{Caller, returned};
 pub use edge_rules::{Edge, EdgeKind, NodeForm, Seed, Seeded, View};
 pub use exit_list::Leaving;
 pub use expanding::expand;

@@ -14,8 +14,9 @@ ghost use Rattle.call_graph.specs.Ways.{ways_of};
 ghost use Rattle.call_graph.specs.Exits.{AreExits, AreKnown};
 ghost use Rattle.call_graph.specs.Next.{local_edge, entry_edge, returned_by, return_edges, returns_in, all_returns, edges_with, next_of};
 
+use crate::callers::{Caller, returned};
 use crate::leaving::exit_of;
-use crate::ways::{Way, returned_key, ways};
+use crate::ways::{Way, ways};
 use abs_state::AbsState;
 use abs_step::local;
 use avr_model::listed::Listed;
@@ -63,25 +64,23 @@ fn add_entries(
 fn add_return(
     alloc: Global,
     edges: &mut Listed<Edge>,
-    key: &NodeKey,
-    state: &AbsState,
-    way: &Way,
+    caller: &Caller<'_>,
     exit: Option<Exit>,
     leaving: &AbsState,
 ) -> Result<(), AllocError>
     requires { (r : ℕ) → r < 32 → NamesRegister (value_at leaving.now.registers r).tag }
-    ensures { OnOk result (edges.new ≡ edges.old ++ returned_by key.now state.now way.now exit leaving.now) }
+    ensures { OnOk result (edges.new ≡ edges.old ++ returned_by caller.now.key.now caller.now.state.now caller.now.way exit leaving.now) }
 {
     let Some(exit) = exit else {
         return Ok(());
     };
-    let Some(after) = state.returned(alloc, leaving)? else {
+    let Some(node) = returned(alloc, caller, &exit, leaving)? else {
         return Ok(());
     };
     edges.push(Edge {
         kind: EdgeKind::Return,
-        to: returned_key(way.kind, key, way.back, &exit),
-        state: after,
+        to: node.key,
+        state: node.state,
     })?;
     Ok(())
 }
@@ -92,9 +91,7 @@ fn add_leaver<V: View>(
     edges: &mut Listed<Edge>,
     flash: &Flash,
     assumptions: &Assumptions,
-    key: &NodeKey,
-    state: &AbsState,
-    way: &Way,
+    caller: &Caller<'_>,
     view: &V,
     at: usize,
     known: &[Option<Exit>],
@@ -102,43 +99,30 @@ fn add_leaver<V: View>(
     requires place { at < length (V.nodes view.now) }
     requires shown { AreShown (V.nodes view.now) }
     requires given { AreKnown flash.now assumptions.now (V.nodes view.now) known.now }
-    ensures { (n : Node) → slice_get (V.nodes view.now) at ≡ Some n → OnOk result (edges.new ≡ edges.old ++ return_edges flash.now assumptions.now key.now state.now way.now n) }
+    ensures { (n : Node) → slice_get (V.nodes view.now) at ≡ Some n → OnOk result (edges.new ≡ edges.old ++ return_edges flash.now assumptions.now caller.now.key.now caller.now.state.now caller.now.way n) }
 {
     let exit = exit_of(alloc, flash, assumptions, view, at, known)?;
     let leaving = view.state(at);
-    add_return(alloc, edges, key, state, way, exit, leaving)
+    add_return(alloc, edges, caller, exit, leaving)
 }
 
-// The edges back from the instance that is entered this way.
+// The edges back from the instance that the caller entered.
 fn add_returns<V: View>(
     alloc: Global,
     edges: &mut Listed<Edge>,
     flash: &Flash,
     assumptions: &Assumptions,
-    key: &NodeKey,
-    state: &AbsState,
-    way: &Way,
+    caller: &Caller<'_>,
     view: &V,
     known: &[Option<Exit>],
 ) -> Result<(), AllocError>
     requires shown { AreShown (V.nodes view.now) }
     requires given { AreKnown flash.now assumptions.now (V.nodes view.now) known.now }
-    ensures { OnOk result (edges.new ≡ edges.old ++ returns_in flash.now assumptions.now key.now state.now (V.nodes view.now) way.now) }
+    ensures { OnOk result (edges.new ≡ edges.old ++ returns_in flash.now assumptions.now caller.now.key.now caller.now.state.now (V.nodes view.now) caller.now.way) }
 {
-    let (low, high) = view.span(&way.inst);
+    let (low, high) = view.span(&caller.way.inst);
     for at in low..high {
-        add_leaver(
-            alloc,
-            edges,
-            flash,
-            assumptions,
-            key,
-            state,
-            way,
-            view,
-            at,
-            known,
-        )?;
+        add_leaver(alloc, edges, flash, assumptions, caller, view, at, known)?;
     }
     Ok(())
 }
@@ -160,17 +144,9 @@ fn add_all_returns<V: View>(
     ensures { OnOk result (edges.new ≡ edges.old ++ all_returns flash.now assumptions.now key.now state.now (V.nodes view.now) ways.now) }
 {
     for at in 0..ways.len() {
-        add_returns(
-            alloc,
-            edges,
-            flash,
-            assumptions,
-            key,
-            state,
-            &ways[at],
-            view,
-            known,
-        )?;
+        let way = ways[at];
+        let caller = Caller { key, state, way };
+        add_returns(alloc, edges, flash, assumptions, &caller, view, known)?;
     }
     Ok(())
 }

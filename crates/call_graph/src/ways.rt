@@ -1,11 +1,10 @@
 //! The ways out of a node's frame into other instances.
 
 ghost use Rattle.std.specs.Prelude.{◌≡◌, ◌≤◌, ◌++◌, map, true, IfOk, OnOk, OnErr};
-ghost use Rattle.edge_rules.specs.Edges.{pick_back, returned_key};
 ghost use Rattle.call_graph.specs.Ways.{call_way, vector_way, at_vector, vectors_below, ways_of};
 
 use flash_image::Flash;
-use local_rules::{CallSite, Exit};
+use local_rules::CallSite;
 use mask_states::{EdgeKind, InstKey, Kind, NodeKey, SpForm};
 use std::alloc::{AllocError, Global};
 
@@ -111,30 +110,4 @@ pub fn ways(
         }
     }
     Ok(all)
-}
-
-// The pick after a return to a node with this one that entered by such an edge.
-fn pick_back(kind: EdgeKind, pick: Option<u8>) -> Option<u8>
-    ensures { result ≡ pick_back kind pick }
-{
-    match kind {
-        EdgeKind::Interrupt(..) => pick,
-        _ => None,
-    }
-}
-
-/// Where a return leads, in the frame of the node that entered the instance by this kind of edge: to the word behind the call or the
-/// interrupted word, with what the exit leaves.
-pub fn returned_key(kind: EdgeKind, key: &NodeKey, back: u16, exit: &Exit) -> NodeKey
-    ensures { result ≡ returned_key kind key.now back exit.now }
-{
-    NodeKey {
-        inst: key.inst,
-        pc: back,
-        masks: exit.masks,
-        i: exit.i,
-        delay: exit.delay,
-        sp: key.sp,
-        pick: pick_back(kind, key.pick),
-    }
 }

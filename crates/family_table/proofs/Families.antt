@@ -1,14 +1,27 @@
 -- Families by what they have at each key.
-use Rattle.std.proofs.Common.{◌≡◌, ◌≢◌, ◌↔◌, sym, ap, ◌∙◌, subst, Bool, Some, None, length}
+use Rattle.std.proofs.Common.{◌≡◌, ◌≢◌, ◌↔◌, sym, ap, ◌∙◌, subst, Bool, false, Some, None, length}
 use Rattle.std.specs.Prelude.{IsTrue}
 use Rattle.std.specs.FinMap.{get, insert, same_map}
 use Rattle.abs_state.specs.declared.state.AbsState.{AbsState}
+use Rattle.abs_state.specs.Order.{IsStateWithin}
 use Rattle.mask_states.specs.declared.keys.NodeKey.{NodeKey}
 use Rattle.mask_states.specs.Keys.{offset_of}
 use Rattle.mask_states.specs.Total.{node_total}
 use Rattle.round_laws.proofs.AllLaws.{node_exact, at_keys, get_same, get_other, some_same}
-use Rattle.family_table.specs.Families.{Family}
+use Rattle.local_rules.specs.declared.local.Node.{Node}
+use Rattle.family_table.specs.Families.{Family, Lands}
 use Rattle.family_table.specs.Sized.{AreSized}
+
+-- ---- where a node lands
+
+pub lands_if : (f : Family) (n : Node) (s : AbsState) → get f n.key ≡ Some s → (b : Bool) → IsTrue b ↔ IsStateWithin n.state s → IsTrue b ↔ Lands f n
+lands_if f n s is b within = (
+  λ t. record { at = s; is = is; above = within.0 t },
+  λ l. within.1 (subst (IsStateWithin n.state) (some_same l.at s (sym l.is ∙ is)) l.above),
+)
+
+pub lands_never : (f : Family) (n : Node) → get f n.key ≡ None → IsTrue false ↔ Lands f n
+lands_never f n none = (λ t. absurd (cc), λ l. absurd (let never = sym none ∙ l.is in cc))
 
 -- ---- one more
 

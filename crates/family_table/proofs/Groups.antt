@@ -1,112 +1,116 @@
--- Ports by their instances.
-use Rattle.std.proofs.Common.{◌≡◌, ◌≢◌, ◌↔◌, refl, sym, ap, ◌∙◌, subst, ◌⊎◌, inl, inr, ⊎_elim, Bool, true, false, cond, List, [], ◌∷◌, ◌++◌, map, Option, Some, None, Result, Ok, Err, slice_get, ℕ, zero, suc, ◌+◌, ◌<◌, ◌≤◌, nat_lt, not, length, Contains, arith}
-use Rattle.std.specs.Prelude.{unwrap_or, OnOk}
-use Rattle.std.specs.List.{IsDistinct, AllByRecursion, position_or_len}
-use Rattle.std.specs.Prelude.{position}
-use Rattle.std.proofs.lemmas.Bool.Decides.{nat_tests}
-use Rattle.std.proofs.lemmas.Option.{none-some, same_Some}
-use Rattle.std.specs.Map.{keys_of}
+-- Crossings by their instances.
+use Rattle.std.proofs.Common.{◌≡◌, refl, sym, ap, ◌∙◌, subst, ◌⊎◌, inl, inr, ⊎_elim, rules, Bool, true, false, cond, if◌then◌else◌, List, [], ◌∷◌, ◌++◌, map, Option, Some, None, slice_get, ℕ, zero, suc, Contains}
+use Rattle.std.specs.Prelude.{◌==◌, ◌↔◌, unwrap_or}
+use Rattle.std.specs.Bool.{Decides}
+use Rattle.std.specs.Option.{option_map}
+use Rattle.std.specs.List.{IsDistinct, AllByRecursion, list_any}
 use Rattle.std.specs.Map.{lookup}
+use Rattle.std.proofs.lemmas.Bool.Decides.{Decides-eqb, Decides-and}
 use Rattle.std.proofs.lemmas.List.Elements.{Contains-append_left, Contains-push_cases, Contains-push}
+use Rattle.std.proofs.lemmas.Map.Made.{lookup-map_values}
+use Rattle.std.proofs.lemmas.Option.{none-some, same_Some}
+use Rattle.indexmap.specs.IndexSet.{IndexSet, insert_key}
+use Rattle.indexmap.proofs.CallerLemmas.{Contains-list_any}
+use Rattle.mask_states.specs.declared.keys.EdgeKind.{EdgeKind}
 use Rattle.mask_states.specs.declared.keys.InstKey.{InstKey}
-use Rattle.mask_states.specs.Order.{same_inst}
+use Rattle.mask_states.specs.contracts.keys.EdgeKindPartialEq.TheImpl as kinds
+use Rattle.mask_states.specs.Order.{same_inst, same_node}
 use Rattle.mask_states.proofs.AllLaws.{keys_are_ordered}
-use Rattle.family_table.specs.declared.ports.Port.{Port}
-use Rattle.family_table.specs.Ports.{Groups, ports_at, IsPort, IsAdded, MoreKeys, AreOnce}
+use Rattle.local_rules.specs.declared.local.Exit.{Exit}
+use Rattle.local_rules.specs.contracts.local.ExitPartialEq.TheImpl as exits
+use Rattle.family_table.specs.declared.crossings.Crossing.{Crossing}
+use Rattle.family_table.specs.contracts.crossings.CrossingPartialEq.TheImpl as crossings
+use Rattle.family_table.specs.Crossings.{Groups, listed, crossings_at, IsCrossing, IsAdded, AreOnce}
 
--- the lists, where one port is pushed at one instance
-added_by : (gs new : Groups) (inst : InstKey) (port : Port) → ((q : InstKey) → ports_at new q ≡ cond (same_inst inst q) (ports_at gs inst ++ port ∷ []) (ports_at gs q))
-    → IsAdded gs inst port new
-added_by gs new inst port is i p = by (same_inst inst i) refl
+-- ---- when two are the same
+
+abbrev pub same : Crossing → Crossing → Bool
+same = crossings.ghosts.eq
+
+same_kind : (a b : EdgeKind) → Decides (kinds.ghosts.eq a b) (a ≡ b)
+same_kind a b = search rules
+
+same_exit : (a b : Exit) → Decides (exits.ghosts.eq a b) (a ≡ b)
+same_exit a b = search rules
+
+decides : (a b : Crossing) → Decides (same a b) (a ≡ b)
+decides a b =
+    let parts = Decides-and (same_node a.node b.node) _ (keys_are_ordered.same_nodes a.node b.node)
+    (Decides-and (kinds.ghosts.eq a.kind b.kind) _ (same_kind a.kind b.kind)
+    (Decides-and (a.back == b.back) (exits.ghosts.eq a.exit b.exit) (Decides-eqb a.back b.back) (same_exit a.exit b.exit))) in (
+      λ e. let p = parts.0 e in λ i. record { node = p.0 i; kind = p.1.0 i; back = p.1.1.0 i; exit = p.1.1.1 i },
+      λ e. parts.1 (ap (λ (c : Crossing). c.node) e, (ap (λ (c : Crossing). c.kind) e, (ap (λ (c : Crossing). c.back) e, ap (λ (c : Crossing). c.exit) e))),
+    )
+
+crossing_is : (a b : Crossing) → same a b ≡ true → a ≡ b
+crossing_is a b e = (decides a b).0 e
+
+-- ---- a set with one more
+
+inserted : (cs : List Crossing) (c x : Crossing) → Contains (insert_key same cs c) x ↔ (Contains cs x ⊎ (x ≡ c))
+inserted cs c x = by (list_any (same c) cs) refl
   where
-    by : (b : Bool) → same_inst inst i ≡ b → IsPort new i p ↔ (IsPort gs i p ⊎ ((i ≡ inst) × (p ≡ port)))
-    by true e =
-        let same : inst ≡ i = (keys_are_ordered.same_insts inst i).0 e in
-        let ports : ports_at new i ≡ ports_at gs inst ++ port ∷ [] = is i ∙ ap (λ b. cond b (ports_at gs inst ++ port ∷ []) (ports_at gs i)) e in
-        let old : ports_at gs inst ≡ ports_at gs i = ap (ports_at gs) same in (
-          λ h. ⊎_elim (λ k. inl (subst (λ (l : List Port). Contains l p) old k)) (λ k. inr (sym same, sym k))
-              (Contains-push_cases (ports_at gs inst) port p (subst (λ (l : List Port). Contains l p) ports h)),
-          ⊎_elim (λ k. subst (λ (l : List Port). Contains l p) (sym ports) (Contains-append_left (ports_at gs inst) (port ∷ []) p (subst (λ (l : List Port). Contains l p) (sym old) k)))
-              (λ k. subst (λ (l : List Port). Contains l p) (sym ports) (subst (Contains (ports_at gs inst ++ port ∷ [])) (sym k.1) (Contains-push (ports_at gs inst) port))),
-        )
-    by false e =
-        let ports : ports_at new i ≡ ports_at gs i = is i ∙ ap (λ b. cond b (ports_at gs inst ++ port ∷ []) (ports_at gs i)) e in (
-          λ h. inl (subst (λ (l : List Port). Contains l p) ports h),
-          ⊎_elim (λ k. subst (λ (l : List Port). Contains l p) (sym ports) k)
-              (λ k. absurd (let t = (keys_are_ordered.same_insts inst i).1 (sym k.0) in cc)),
-        )
+    by : (b : Bool) → list_any (same c) cs ≡ b → Contains (if b then cs else cs ++ c ∷ []) x ↔ (Contains cs x ⊎ (x ≡ c))
+    by true e = (λ h. inl h, ⊎_elim (λ h. h) (λ is. subst (Contains cs) (sym is) (Contains-list_any same crossing_is cs c e)))
+    by false e = (
+      λ h. ⊎_elim (λ old. inl old) (λ is. inr (sym is)) (Contains-push_cases cs c x h),
+      ⊎_elim (λ h. Contains-append_left cs (c ∷ []) x h) (λ is. subst (Contains (cs ++ c ∷ [])) (sym is) (Contains-push cs c)),
+    )
 
-listed : (b : Bool) (ls : List Port) (o : Option (List Port)) → unwrap_or (cond b (Some ls) o) [] ≡ cond b ls (unwrap_or o [])
-listed true ls o = refl
-listed false ls o = refl
+-- ---- one crossing more
 
-pub added : (gs new : Groups) (inst : InstKey) (port : Port) (o : Option (List Port)) (ls : List Port) → o ≡ lookup (same_inst inst) gs → ls ≡ unwrap_or o [] ++ port ∷ []
-    → ((q : InstKey) → lookup (same_inst q) new ≡ cond (same_inst inst q) (Some ls) (lookup (same_inst q) gs)) → IsAdded gs inst port new
-added gs new inst port o ls found is up =
-    added_by gs new inst port
-    (λ q. ap (λ x. unwrap_or x []) (up q) ∙ listed (same_inst inst q) ls (lookup (same_inst q) gs)
-    ∙ ap (λ l. cond (same_inst inst q) l (ports_at gs q)) (is ∙ ap (λ x. unwrap_or x [] ++ port ∷ []) found))
+module _ (gs new : Groups) (inst : InstKey) (c : Crossing) (is : (q : InstKey) → crossings_at new q ≡ cond (same_inst inst q) (insert_key same (crossings_at gs inst) c) (crossings_at gs q)) where
+  added_by : IsAdded gs inst c new
+  added_by i x = by (same_inst inst i) refl
+    where
+      by : (b : Bool) → same_inst inst i ≡ b → IsCrossing new i x ↔ (IsCrossing gs i x ⊎ ((i ≡ inst) × (x ≡ c)))
+      by true e =
+          let at : inst ≡ i = (keys_are_ordered.same_insts inst i).0 e in
+          let now : crossings_at new i ≡ insert_key same (crossings_at gs inst) c = is i ∙ ap (λ b. cond b (insert_key same (crossings_at gs inst) c) (crossings_at gs i)) e in
+          let old : crossings_at gs inst ≡ crossings_at gs i = ap (crossings_at gs) at in
+          let more = inserted (crossings_at gs inst) c x in (
+            λ h. ⊎_elim (λ k. inl (subst (λ (l : List Crossing). Contains l x) old k)) (λ k. inr (sym at, k)) (more.0 (subst (λ (l : List Crossing). Contains l x) now h)),
+            λ h. subst (λ (l : List Crossing). Contains l x) (sym now)
+                (more.1 (⊎_elim (λ k. inl (subst (λ (l : List Crossing). Contains l x) (sym old) k)) (λ k. inr k.1) h)),
+          )
+      by false e =
+          let now : crossings_at new i ≡ crossings_at gs i = is i ∙ ap (λ b. cond b (insert_key same (crossings_at gs inst) c) (crossings_at gs i)) e in (
+            λ h. inl (subst (λ (l : List Crossing). Contains l x) now h),
+            ⊎_elim (λ k. subst (λ (l : List Crossing). Contains l x) (sym now) k)
+                (λ k. absurd (let t = (keys_are_ordered.same_insts inst i).1 (sym k.0) in cc)),
+          )
 
--- what follows from a success
-pub on_ok : {V E : Type 0} (P Q : Type 0) (r : Result V E) → OnOk r P → (P → Q) → OnOk r Q
-on_ok P Q (Ok v) h f = f h
-on_ok P Q (Err e) h f = h
+-- what a set has, if there is one
+abbrev pub kept : {S : Type 0} → Option (IndexSet Crossing S) → List Crossing
+kept o = unwrap_or (option_map (λ s. s.keys) o) []
 
--- ---- numbers
+pub kept_at : {S : Type 0} (es : List (InstKey × IndexSet Crossing S)) (q : InstKey) → crossings_at (map listed es) q ≡ kept (lookup (same_inst q) es)
+kept_at es q = ap (λ (o : Option (List Crossing)). unwrap_or o []) (lookup-map_values (λ s. s.keys) (same_inst q) es)
 
-pub found_at : (inst : InstKey) (keys : List InstKey) → position_or_len (same_inst inst) keys < length keys → slice_get keys (position_or_len (same_inst inst) keys) ≡ Some inst
-found_at inst [] lt = absurd (omega arith)
-found_at inst (k ∷ ks) lt = by (same_inst inst k) refl lt (found_at inst ks)
+pub added : {S : Type 0} (es new : List (InstKey × IndexSet Crossing S)) (inst : InstKey) (c : Crossing) (o : Option (IndexSet Crossing S)) (w : IndexSet Crossing S)
+    → o ≡ lookup (same_inst inst) es → w.keys ≡ insert_key same (kept o) c
+    → ((q : InstKey) → lookup (same_inst q) new ≡ cond (same_inst inst q) (Some w) (lookup (same_inst q) es)) → IsAdded (map listed es) inst c (map listed new)
+added {S} es new inst c o w found is up =
+    added_by (map listed es) (map listed new) inst c
+    (λ q. kept_at new q ∙ ap kept (up q) ∙ split (same_inst inst q) (lookup (same_inst q) es)
+    ∙ ap (λ l. cond (same_inst inst q) l (kept (lookup (same_inst q) es))) (is ∙ ap (λ l. insert_key same l c) (ap kept found ∙ sym (kept_at es inst)))
+    ∙ ap (cond (same_inst inst q) (insert_key same (crossings_at (map listed es) inst) c)) (sym (kept_at es q)))
   where
-    by : (b : Bool) → same_inst inst k ≡ b → cond (not b) (1 + position_or_len (same_inst inst) ks) 0 < length (k ∷ ks)
-        → (position_or_len (same_inst inst) ks < length ks → slice_get ks (position_or_len (same_inst inst) ks) ≡ Some inst)
-        → slice_get (k ∷ ks) (cond (not b) (1 + position_or_len (same_inst inst) ks) 0) ≡ Some inst
-    by true t lt rest = ap Some (sym ((keys_are_ordered.same_insts inst k).0 t))
-    by false t lt rest =
-        let one : suc (position_or_len (same_inst inst) ks) ≡ 1 + position_or_len (same_inst inst) ks = omega arith in
-        subst (λ (i : ℕ). slice_get (k ∷ ks) i ≡ Some inst) one (rest (omega (arith, lt)))
+    split : (b : Bool) (p : Option (IndexSet Crossing S)) → kept (cond b (Some w) p) ≡ cond b w.keys (kept p)
+    split true p = refl
+    split false p = refl
 
-pub none_at : (inst : InstKey) (keys : List InstKey) → length keys ≤ position_or_len (same_inst inst) keys → (j : ℕ) → slice_get keys j ≢ Some inst
-none_at inst [] le j is = none-some inst is
-none_at inst (k ∷ ks) le j is = by (same_inst inst k) refl le (none_at inst ks) j is
-  where
-    by : (b : Bool) → same_inst inst k ≡ b → length (k ∷ ks) ≤ cond (not b) (1 + position_or_len (same_inst inst) ks) 0
-        → (length ks ≤ position_or_len (same_inst inst) ks → (j : ℕ) → slice_get ks j ≢ Some inst) → (j : ℕ) → slice_get (k ∷ ks) j ≡ Some inst → ⊥
-    by true t le rest j is = absurd (omega (arith, le))
-    by false t le rest zero is = let s = (keys_are_ordered.same_insts inst k).1 (sym (same_Some k inst is)) in absurd (cc)
-    by false t le rest (suc j) is = rest (omega (arith, le)) j is
+-- ---- each stands once
 
-pub position_some : (inst : InstKey) (keys : List InstKey) (at : ℕ) → position (same_inst inst) keys ≡ Some at → slice_get keys at ≡ Some inst
-position_some inst keys at e = by (nat_lt (position_or_len (same_inst inst) keys) (length keys)) refl e
-  where
-    by : (b : Bool) → nat_lt (position_or_len (same_inst inst) keys) (length keys) ≡ b → cond b (Some (position_or_len (same_inst inst) keys)) None ≡ Some at
-        → slice_get keys at ≡ Some inst
-    by true t e =
-        let same : position_or_len (same_inst inst) keys ≡ at = cc in
-        subst (λ (i : ℕ). slice_get keys i ≡ Some inst) same (found_at inst keys (grind (arith, nat_tests)))
-    by false t e = absurd (cc)
+other_than : (x : Crossing) (cs : List Crossing) (j : ℕ) (c : Crossing) → AllByRecursion (λ y. same x y ≡ false) cs → slice_get cs j ≡ Some c → x ≡ c → ⊥
+other_than x [] j c h e is = none-some c e
+other_than x (y ∷ ys) zero c h e is = let t = (decides x y).1 (is ∙ sym (same_Some y c e)) in let f = h.0 in absurd (cc)
+other_than x (y ∷ ys) (suc j) c h e is = other_than x ys j c h.1 e is
 
-pub position_none : (inst : InstKey) (keys : List InstKey) → position (same_inst inst) keys ≡ None → (j : ℕ) → slice_get keys j ≢ Some inst
-position_none inst keys e = by (nat_lt (position_or_len (same_inst inst) keys) (length keys)) refl e
-  where
-    by : (b : Bool) → nat_lt (position_or_len (same_inst inst) keys) (length keys) ≡ b → cond b (Some (position_or_len (same_inst inst) keys)) None ≡ None
-        → (j : ℕ) → slice_get keys j ≢ Some inst
-    by true t e = absurd (cc)
-    by false t e = none_at inst keys (grind (arith, nat_tests))
-
-other_than : (x : InstKey) (keys : List InstKey) (j : ℕ) (inst : InstKey) → AllByRecursion (λ y. same_inst x y ≡ false) keys → slice_get keys j ≡ Some inst → x ≢ inst
-other_than x [] j inst h e same = none-some inst e
-other_than x (k ∷ ks) zero inst h e same = let t = (keys_are_ordered.same_insts x k).1 (same ∙ sym (same_Some k inst e)) in let f = h.0 in absurd (cc)
-other_than x (k ∷ ks) (suc j) inst h e same = other_than x ks j inst h.1 e same
-
-pub are_once : (keys : List InstKey) → IsDistinct same_inst keys → AreOnce keys
+pub are_once : (cs : List Crossing) → IsDistinct same cs → AreOnce cs
 unfolding IsDistinct
-are_once [] d i j inst e f = absurd (none-some inst e)
-are_once (k ∷ ks) d zero zero inst e f = refl
-are_once (k ∷ ks) d zero (suc j) inst e f = absurd (other_than k ks j inst d.0 f (same_Some k inst e))
-are_once (k ∷ ks) d (suc i) zero inst e f = absurd (other_than k ks i inst d.0 e (same_Some k inst f))
-are_once (k ∷ ks) d (suc i) (suc j) inst e f = ap suc (are_once ks d.1 i j inst e f)
-
-pub keys_more : (gs : Groups) (inst : InstKey) (ports : List Port) → keys_of (gs ++ (inst, ports) ∷ []) ≡ keys_of gs ++ inst ∷ []
-keys_more [] inst ports = refl
-keys_more (g ∷ gs) inst ports = ap (λ l. g.0 ∷ l) (keys_more gs inst ports)
+are_once [] d i j c e f = absurd (none-some c e)
+are_once (x ∷ xs) d zero zero c e f = refl
+are_once (x ∷ xs) d zero (suc j) c e f = absurd (other_than x xs j c d.0 f (same_Some x c e))
+are_once (x ∷ xs) d (suc i) zero c e f = absurd (other_than x xs i c d.0 e (same_Some x c f))
+are_once (x ∷ xs) d (suc i) (suc j) c e f = ap suc (are_once xs d.1 i j c e f)

@@ -1,6 +1,6 @@
 -- What of a key is fed to a hasher.
-use Rattle.std.proofs.Common.{◌≡◌, ℕ, List, ◌++◌, ap}
-use Rattle.std.specs.Prelude.{IsTrue}
+use Rattle.std.proofs.Common.{◌≡◌, refl, ℕ, List, ◌++◌, ap, Bool, true, false}
+use Rattle.std.specs.Prelude.{IsTrue, ◌&&◌}
 use Rattle.std.specs.Hash as fed
 use Rattle.mask_states.specs.declared.keys.NodeKey.{NodeKey}
 use Rattle.mask_states.specs.declared.keys.InstKey.{InstKey}
@@ -15,6 +15,14 @@ key_hash k = fed.u16 k.inst.entry ++ fed.u32 k.inst.masks ++ fed.u16 k.pc ++ fed
 -- equal keys are fed alike
 pub alike : (a b : NodeKey) → IsTrue (same_node a b) → key_hash a ≡ key_hash b
 alike a b h = ap key_hash ((keys_are_ordered.same_nodes a b).0 h)
+
+-- the same where more than the keys is compared
+pub first_alike : (a b : NodeKey) (more : Bool) → IsTrue (same_node a b && more) → key_hash a ≡ key_hash b
+first_alike a b more h = by (same_node a b) (λ t. alike a b t) h
+  where
+    by : (same : Bool) → (IsTrue same → key_hash a ≡ key_hash b) → IsTrue (same && more) → key_hash a ≡ key_hash b
+    by true then t = then refl
+    by false then t = absurd (cc)
 
 -- the same of instances
 abbrev pub inst_hash : InstKey → List (List ℕ)

@@ -1,4 +1,4 @@
 pub mod Hashes
 pub mod Sized
 pub mod Families
-pub mod Ports
+pub mod Crossings

@@ -1,8 +1,8 @@
-//! What the rounds keep: the state of each node by its key, and ports of nodes by their instances.
+//! What the rounds keep: the state of each node by its key, and the nodes that enter and leave instances.
 #![tactic(auto)]
 
-pub mod ports;
+pub mod crossings;
 pub mod table;
 
-pub use ports::{Port, Ports};
+pub use crossings::{Crossing, Crossings};
 pub use table::Table;

@@ -8,7 +8,7 @@ ghost use Rattle.std.specs.Ordering.{as_partial_cmp};
 ghost use Rattle.mask_states.specs.Order.{same_node, node_cmp};
 ghost use Rattle.mask_states.specs.Total.{node_equivalence, node_partial, node_total, node_equal};
 ghost use Rattle.mask_states.specs.Keys.{offset_of};
-ghost use Rattle.family_table.specs.Families.{raised, nodes_of, node_of};
+ghost use Rattle.family_table.specs.Families.{Lands, raised, nodes_of, node_of};
 ghost use Rattle.family_table.specs.Hashes.{key_hash, alike};
 
 use abs_state::AbsState;
@@ -134,6 +134,17 @@ impl Table {
         ensures { option_copied result ≡ get self.now key.now }
     {
         self.map.get(&Place { key: *key })
+    }
+
+    /// Whether the node lands here: its key has a state that is at least its own.
+    pub fn covers(&self, node: &Node) -> bool
+        requires { length node.now.state.slots ≡ offset_of node.now.key.sp }
+        ensures { IsTrue result ↔ Lands self.now node.now }
+    {
+        match self.map.get(&Place { key: node.key }) {
+            Some(state) => node.state.le(state),
+            None => false,
+        }
     }
 
     /// Joins a state into that of its node, or adds the node. Gives whether the table is another then.

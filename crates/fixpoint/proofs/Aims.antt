@@ -19,9 +19,9 @@ use Rattle.edge_rules.specs.Edges.{IsFaultless, raw_of, returned_key, IsEdge, mo
 use Rattle.edge_rules.specs.Families.{IsCovered}
 use Rattle.edge_laws.proofs.AllLaws.{edges_lead_to_nodes}
 use Rattle.call_graph.specs.declared.ways.Way.{Way}
-use Rattle.call_graph.specs.Next.{gathered}
-use Rattle.family_table.specs.declared.ports.Port.{Port}
-use Rattle.family_table.specs.Ports.{ports_at, IsPort}
+use Rattle.call_graph.specs.Next.{gathered, returned_as}
+use Rattle.family_table.specs.declared.crossings.Crossing.{Crossing}
+use Rattle.family_table.specs.Crossings.{crossings_at, IsCrossing}
 use Rattle.round_rules.specs.Families.{Family, nodes_of, Has, Lands, AreFormed}
 use Rattle.round_laws.specs.Steps.{IsRoundOf}
 use Rattle.round_laws.proofs.AllLaws.{families_are_their_nodes}
@@ -30,7 +30,7 @@ use Rattle.round_steps.specs.declared.looking.Seen.{Seen}
 use Rattle.round_steps.specs.declared.noting.Notes.{Notes}
 use Rattle.round_steps.specs.Looks.{IsLook, HasLook, AreSeen}
 use Rattle.round_steps.specs.Notings.{caller, leaver}
-use Rattle.round_steps.specs.Targets.{entry_node, returned_as, way_of, back_from, back_at, backs_in, all_backs, onward_from, onward_at, onwards_if, targets_with, targets_of, all_targets}
+use Rattle.round_steps.specs.Targets.{entry_node, if_any, way_of, back_from, back_at, backs_in, all_backs, onward_from, onward_at, onwards_if, targets_with, targets_of, all_targets}
 use Rattle.fixpoint.specs.Turns.{IsOwn, own_move, own_entry, ComesBack, comes_back, AreKnown, Turn}
 use Rattle.fixpoint.proofs.Looked.{seen_node, look_clean, look_same, look_exit, look_way, look_node, looked}
 
@@ -93,12 +93,12 @@ module _ (words : List ℕ) (A : List Entry) where
   -- ---- one look's targets are edges' targets
 
   returned_in : (k : NodeKey) (w : Way) (x : Exit) (o : Option AbsState) (after : AbsState) → o ≡ Some after
-      → Contains (returned_as k w x o) (record { key = returned_key w.kind k w.back x; state = after })
+      → Contains (if_any (returned_as k w x o)) (record { key = returned_key w.kind k w.back x; state = after })
   returned_in k w x o after e =
-      subst (λ (p : Option AbsState). Contains (returned_as k w x p) (record { key = returned_key w.kind k w.back x; state = after })) (sym e) (here _ [])
+      subst (λ (p : Option AbsState). Contains (if_any (returned_as k w x p)) (record { key = returned_key w.kind k w.back x; state = after })) (sym e) (here _ [])
 
   returned_from : (k : NodeKey) (w : Way) (x : Exit) (P : Node → Type 0) (o : Option AbsState)
-      → ((after : AbsState) → o ≡ Some after → P (record { key = returned_key w.kind k w.back x; state = after })) → (to : Node) → Contains (returned_as k w x o) to → P to
+      → ((after : AbsState) → o ≡ Some after → P (record { key = returned_key w.kind k w.back x; state = after })) → (to : Node) → Contains (if_any (returned_as k w x o)) to → P to
   returned_from k w x P None h to i = absurd (none_in to i)
   returned_from k w x P (Some after) h to i = subst P (sym (only (record { key = returned_key w.kind k w.back x; state = after }) to i)) (h after refl)
 
@@ -115,7 +115,7 @@ module _ (words : List ℕ) (A : List Entry) where
     by_entry : (to : Node) → Contains (map (entry_node s) x.ways.items) to → IsAim f to
     by_entry = each_in_map (entry_node s) (IsAim f) x.ways.items (λ w i. own_aim f n _ is.has (own_entry w.kind w.inst w.back ((look_way words A f x is w).0 i)))
 
-    by_back : (w : Way) (p : Port) (to : Node) → Contains x.ways.items w → Contains (ports_at notes.leavers w.inst) p → Contains (back_at f x.key s w p) to → IsAim f to
+    by_back : (w : Way) (p : Crossing) (to : Node) → Contains x.ways.items w → Contains (crossings_at notes.leavers w.inst) p → Contains (back_at f x.key s w p) to → IsAim f to
     by_back w p to i j l =
         let so = known.so.leavers w.inst p j in
         let m = so.node in
@@ -127,22 +127,22 @@ module _ (words : List ℕ) (A : List Entry) where
 
     by_backs : (to : Node) → Contains (all_backs f notes.leavers x.key s x.ways.items) to → IsAim f to
     by_backs = each_gathered (backs_in f notes.leavers x.key s) (IsAim f) x.ways.items
-        (λ w to i. each_gathered (back_at f x.key s w) (IsAim f) (ports_at notes.leavers w.inst) (λ p t j l. by_back w p t i j l) to)
+        (λ w to i. each_gathered (back_at f x.key s w) (IsAim f) (crossings_at notes.leavers w.inst) (λ p t j l. by_back w p t i j l) to)
 
-    by_onward : (e : Exit) (p : Port) (to : Node) → x.part.exit ≡ Some e → Contains (ports_at notes.callers x.key.inst) p → Contains (onward_at f s e p) to → IsAim f to
+    by_onward : (e : Exit) (p : Crossing) (to : Node) → x.part.exit ≡ Some e → Contains (crossings_at notes.callers x.key.inst) p → Contains (onward_at f x.key.inst s e p) to → IsAim f to
     by_onward e p to is_exit j l =
         let so = known.so.callers x.key.inst p j in
         let c = so.node in
         let there : get f p.node ≡ Some c.state = ap (get f) (sym so.at) ∙ so.has in
         let exit : (raw_of words A n).exit ≡ Some e = sym (look_exit words A f x is) ∙ is_exit in
-        returned_from p.node (way_of p) e (IsAim f) (returned c.state s)
+        returned_from p.node (way_of x.key.inst p) e (IsAim f) (returned c.state s)
         (λ after r. subst (λ (k : NodeKey). IsAim f (record { key = returned_key p.kind k p.back e; state = after })) so.at
         (back_aim f c n _ so.has is.has (comes_back p.kind x.key.inst p.back e after so.enters refl clean exit r)))
-        to (subst (λ (o : Option AbsState). Contains (onward_from s e p o) to) there l)
+        to (subst (λ (o : Option AbsState). Contains (onward_from x.key.inst s e p o) to) there l)
 
     by_onwards : (o : Option Exit) → x.part.exit ≡ o → (to : Node) → Contains (onwards_if f notes.callers x.key.inst s o) to → IsAim f to
     by_onwards None e to i = absurd (none_in to i)
-    by_onwards (Some exit) e to i = each_gathered (onward_at f s exit) (IsAim f) (ports_at notes.callers x.key.inst) (λ p t j l. by_onward exit p t e j l) to i
+    by_onwards (Some exit) e to i = each_gathered (onward_at f x.key.inst s exit) (IsAim f) (crossings_at notes.callers x.key.inst) (λ p t j l. by_onward exit p t e j l) to i
 
     by_move : (to : Node) → Contains x.part.same to → IsAim f to
     by_move to i = own_aim f n to is.has (own_move to clean (subst (λ (l : List Node). Contains l to) (look_same words A f x is) i))
@@ -202,25 +202,25 @@ module _ (words : List ℕ) (A : List Entry) where
     entered_met m _ there (comes_back way inst back e state en same c exit r) =
         let w : Way = record { kind = way; inst = inst; back = back } in
         let p = leaver m.key e in
-        let port : IsPort notes.leavers inst p = subst (λ (i : InstKey). IsPort notes.leavers i p) same ((known.each m there).leavers e exit) in
+        let crossing : IsCrossing notes.leavers inst p = subst (λ (i : InstKey). IsCrossing notes.leavers i p) same ((known.each m there).leavers e exit) in
         let to : Node = record { key = returned_key way x.key back e; state = state } in
         let found : Contains (back_at f x.key s w p) to =
         subst (λ (o : Option AbsState). Contains (back_from x.key s w e o) to) (sym there) (returned_in x.key w e (returned s m.state) state r) in
         in_seconds to (gathered_in (backs_in f notes.leavers x.key s) x.ways.items w to ((look_way words A f x is w).1 en)
-        (gathered_in (back_at f x.key s w) (ports_at notes.leavers inst) p to port found))
+        (gathered_in (back_at f x.key s w) (crossings_at notes.leavers inst) p to crossing found))
 
     -- the look's node leaves
     pub left_met : (c to : Node) → Has f c → ComesBack words A c n to → Contains (targets_of f notes x) to
     left_met c _ there (comes_back way inst back e state en same d exit r) =
         let w : Way = record { kind = way; inst = inst; back = back } in
         let p = caller c.key w in
-        let port : IsPort notes.callers x.key.inst p = subst (λ (i : InstKey). IsPort notes.callers i p) (sym same) ((known.each c there).callers way inst back en) in
+        let crossing : IsCrossing notes.callers x.key.inst p = subst (λ (i : InstKey). IsCrossing notes.callers i p) (sym same) ((known.each c there).callers way inst back en) in
         let to : Node = record { key = returned_key way c.key back e; state = state } in
-        let found : Contains (onward_at f s e p) to =
-        subst (λ (o : Option AbsState). Contains (onward_from s e p o) to) (sym there) (returned_in c.key w e (returned c.state s) state r) in
+        let found : Contains (onward_at f x.key.inst s e p) to =
+        subst (λ (o : Option AbsState). Contains (onward_from x.key.inst s e p o) to) (sym there) (returned_in c.key (way_of x.key.inst p) e (returned c.state s) state r) in
         let leaves : x.part.exit ≡ Some e = look_exit words A f x is ∙ exit in
         in_thirds to (subst (λ (o : Option Exit). Contains (onwards_if f notes.callers x.key.inst s o) to) (sym leaves)
-        (gathered_in (onward_at f s e) (ports_at notes.callers x.key.inst) p to port found))
+        (gathered_in (onward_at f x.key.inst s e) (crossings_at notes.callers x.key.inst) p to crossing found))
 
   -- ---- the round
 

@@ -1,7 +1,7 @@
 -- How the rounds begin, go on and end.
 use Rattle.std.proofs.Common.{◌≡◌, ◌≢◌, refl, sym, ap, ◌∙◌, subst, ℕ, suc, ◌+◌, ◌-◌, ◌<◌, ◌≤◌, Bool, true, false, ◌==◌, List, [], ◌∷◌, ◌++◌, length, map, Option, Some, None, add-one, arith}
 use Rattle.std.proofs.lemmas.Bool.Decides.{nat_tests}
-use Rattle.std.specs.FinMap.{insert, empty, entries, get-empty, len-entries, len-empty}
+use Rattle.std.specs.FinMap.{get, insert, empty, entries, get-empty, len-entries, len-empty}
 use Rattle.avr_model.specs.declared.assumption.Entry.{Entry}
 use Rattle.abs_state.specs.declared.state.AbsState.{AbsState}
 use Rattle.abs_state.specs.Values.{root}
@@ -22,11 +22,11 @@ use Rattle.round_rules.specs.Families.{Family, HasInst, AreFormed, IsClosed, cel
 use Rattle.round_rules.specs.Rounds.{first, IsNext, Comes}
 use Rattle.round_rules.specs.Refusals.{Test, over, faulty, re_entry, recursion, too_deep, refusal_of}
 use Rattle.round_rules.specs.Solutions.{IsWithin, IsWhyNot, IsRefusal}
-use Rattle.round_laws.specs.Steps.{joined_with, raised_all, weight}
+use Rattle.round_laws.specs.Steps.{joined_with, raised_all, AreApart, weight}
 use Rattle.round_laws.proofs.AllLaws.{rounds_are_joins, rounds_are_least, comes_root}
 use Rattle.round_steps.specs.declared.noting.Notes.{Notes}
 use Rattle.round_steps.specs.Notings.{blank}
-use Rattle.round_steps.specs.Joins.{KeptBut}
+use Rattle.round_steps.specs.Joins.{AreNew, KeptBut}
 use Rattle.fixpoint.specs.Turns.{Turn, IsLeft, Progress, IsSpent, IsFound}
 use Rattle.fixpoint.specs.Tests.{IsStopped, IsReady}
 use Rattle.fixpoint.proofs.Next.{next_turn, first_turn, not_closed, unchanged, closed_then}
@@ -68,6 +68,13 @@ no_nodes n has = absurd (let never = sym (get-empty {X = AbsState} node_cmp n.ke
 pub root_nodes : (ns : List Node) → ns ≡ root_node ∷ [] → AreNodes ns
 root_nodes ns is =
     subst AreNodes (sym is) (each_of (λ n. Rattle.local_rules.specs.Cover.IsNode n.key n.state) root_node [] edges_lead_to_nodes.reset (λ n i. absurd (none_in n i)))
+
+pub root_fresh : (f : Family) (ns : List Node) → f ≡ empty → AreNew f ns
+root_fresh f ns is n i l =
+    absurd (let never = sym (get-empty {X = AbsState} node_cmp n.key) ∙ sym (ap (λ (g : Family). get g n.key) is) ∙ l.is in cc)
+
+pub root_apart : (ns : List Node) → ns ≡ root_node ∷ [] → AreApart ns
+root_apart ns is = subst AreApart (sym is) (λ m i. absurd (none_in m i), tt)
 
 pub first_is : (ns : List Node) → ns ≡ root_node ∷ [] → raised_all empty ns ≡ first
 first_is ns is = ap (raised_all empty) is ∙ ap (λ o. insert empty (entry_key root_inst) (joined_with o root)) (get-empty {X = AbsState} node_cmp (entry_key root_inst))

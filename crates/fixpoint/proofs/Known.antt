@@ -6,7 +6,7 @@ use Rattle.mask_states.specs.declared.keys.NodeKey.{NodeKey}
 use Rattle.mask_states.specs.Keys.{offset_of}
 use Rattle.local_rules.specs.declared.local.Node.{Node}
 use Rattle.call_graph.specs.declared.ways.Way.{Way}
-use Rattle.family_table.specs.declared.ports.Port.{Port}
+use Rattle.family_table.specs.declared.crossings.Crossing.{Crossing}
 use Rattle.instance_nesting.specs.Nestings.{Spot, Entrance, IsSpotOf, IsNestingOf}
 use Rattle.round_rules.specs.Families.{Family, Has, HasInst}
 use Rattle.round_rules.specs.Rounds.{Entering}
@@ -22,19 +22,19 @@ module _ (words : List ℕ) (A : List Entry) (f : Family) (old new : Notes) (xs 
   module _ (looks : (x : Look) → Contains xs x → IsLook words A f x) where
     -- ---- what was found is so
 
-    calls_so : (y : InstKey × Port) → AnyHas xs CallsAt y → IsCaller words A f y.0 y.1
+    calls_so : (y : InstKey × Crossing) → AnyHas xs CallsAt y → IsCaller words A f y.0 y.1
     calls_so y h =
         let is = looks h.one h.member in
         let w = h.has.one in
         let at : y ≡ (w.inst, caller h.one.key w) = h.has.has in
-        subst (λ (z : InstKey × Port). IsCaller words A f z.0 z.1) (sym at)
+        subst (λ (z : InstKey × Crossing). IsCaller words A f z.0 z.1) (sym at)
         (record { node = seen_node words A f h.one is; has = is.has; at = refl; enters = (look_way words A f h.one is w).0 h.has.member })
 
-    leaves_so : (y : InstKey × Port) → AnyHas xs LeavesAt y → IsLeaver words A f y.0 y.1
+    leaves_so : (y : InstKey × Crossing) → AnyHas xs LeavesAt y → IsLeaver words A f y.0 y.1
     leaves_so y h =
         let is = looks h.one h.member in
         let at : y ≡ (h.one.key.inst, leaver h.one.key y.1.exit) = h.has.1 in
-        subst (λ (z : InstKey × Port). IsLeaver words A f z.0 z.1) (sym at)
+        subst (λ (z : InstKey × Crossing). IsLeaver words A f z.0 z.1) (sym at)
         (record { node = seen_node words A f h.one is; has = is.has; at = refl; of = refl; exit = sym (look_exit words A f h.one is) ∙ h.has.0 })
 
     inst_so : (i : InstKey) → AnyHas xs InstAt i → HasInst f i

@@ -1,6 +1,7 @@
 pub mod Looked
 pub mod Known
 pub mod Aims
+pub mod Beyond
 pub mod Next
 pub mod Ready
 pub mod Ending

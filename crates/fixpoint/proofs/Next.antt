@@ -15,7 +15,7 @@ use Rattle.local_laws.proofs.AllLaws.{none_in, here, there, first_or}
 use Rattle.edge_rules.specs.Edges.{IsFaultless, raw_of}
 use Rattle.edge_laws.specs.Laws.{with_state}
 use Rattle.edge_laws.proofs.AllLaws.{edges_grow}
-use Rattle.family_table.specs.declared.ports.Port.{Port}
+use Rattle.family_table.specs.declared.crossings.Crossing.{Crossing}
 use Rattle.instance_nesting.specs.Nestings.{AreOnce}
 use Rattle.round_rules.specs.Families.{Family, Has, Lands, Below, AreFormed, HasNoFault, IsClosed}
 use Rattle.round_rules.specs.Rounds.{Entering, IsNext}
@@ -43,7 +43,7 @@ module _ (words : List ℕ) (A : List Entry) where
     abbrev up : (n : Node) → Has f n → Node
     up n has = with_state n (below n has).at
 
-    caller_up : (inst : InstKey) (p : Port) → IsCaller words A f inst p → IsCaller words A g inst p
+    caller_up : (inst : InstKey) (p : Crossing) → IsCaller words A f inst p → IsCaller words A g inst p
     caller_up inst p c =
         let l = below c.node c.has in
         let m = with_state c.node l.at in
@@ -54,7 +54,7 @@ module _ (words : List ℕ) (A : List Entry) where
           enters = edges_grow.enters words A c.node l.at p.kind inst p.back (low c.node c.has) (high m l.is) l.above (clean m l.is) c.enters;
         }
 
-    leaver_up : (inst : InstKey) (p : Port) → IsLeaver words A f inst p → IsLeaver words A g inst p
+    leaver_up : (inst : InstKey) (p : Crossing) → IsLeaver words A f inst p → IsLeaver words A g inst p
     leaver_up inst p c =
         let l = below c.node c.has in
         let m = with_state c.node l.at in

@@ -7,6 +7,7 @@ use Rattle.mask_states.specs.declared.keys.NodeKey.{NodeKey}
 use Rattle.mask_states.specs.Keys.{root_inst, offset_of}
 use Rattle.local_rules.specs.declared.local.Node.{Node}
 use Rattle.local_rules.specs.declared.local.NodeFault.{NodeFault}
+use Rattle.local_laws.specs.Laws.{AreNodes}
 use Rattle.instance_nesting.specs.Nestings.{Noted, AreOnce, AreAlike, TellsAll, Tells}
 use Rattle.instance_nesting.specs.declared.weight.Weight.{Weight}
 use Rattle.instance_nesting.specs.declared.weight.Weight.TheVariants as weight
@@ -22,11 +23,13 @@ use Rattle.round_steps.specs.declared.noting.Notes.{Notes}
 use Rattle.round_steps.specs.Looks.{AreSeen}
 use Rattle.round_steps.specs.Notings.{AreNoted}
 use Rattle.round_steps.specs.Targets.{all_targets}
+use Rattle.round_steps.specs.Gathers.{AreBeyond}
 use Rattle.fixpoint.specs.Turns.{AreKnown, Turn}
 use Rattle.fixpoint.specs.Tests.{IsTooLarge, weight_refusal, IsTold, IsStopped, IsReady}
 use Rattle.fixpoint.proofs.Looked.{seen_node, least_fault}
 use Rattle.fixpoint.proofs.Known.{all_known, nesting_is}
 use Rattle.fixpoint.proofs.Aims.{round_is}
+use Rattle.fixpoint.proofs.Beyond.{round_beyond}
 
 -- an error that is handed on
 pub handed_on : {X E : Type 0} (r : Result X E) (x : E) (P : E → Type 0) → IsErrAnd r (λ e. e ≡ x) → P x → IfErr r P
@@ -85,18 +88,29 @@ module _ (words : List ℕ) (A : List Entry) where
       };
     }
 
+  -- all targets are nodes
+  pub targets_fit : (f : Family) (work : List NodeKey) (old mid : Notes) (nesting : Noted) (seen : Seen) (looks : List Look) → AreFormed f → FitsLimits f → Turn words A f work old
+      → AreSeen words A f work seen → seen.worst ≡ None → AreKnown words A f mid → AreAlike mid.nesting nesting → looks ≡ seen.looks.items
+      → AreNodes (all_targets f (record { callers = mid.callers; leavers = mid.leavers; nesting = nesting }) looks)
+  targets_fit f work old mid nesting seen looks formed fits turn are none known alike same =
+      let notes : Notes = record { callers = mid.callers; leavers = mid.leavers; nesting = nesting } in
+      subst (λ (xs : List Look). AreNodes (all_targets f notes xs)) (sym same)
+      (round_is words A f formed work old notes seen turn are none (alike_known f mid fits known nesting alike)).formed
+
   -- the nodes that come next
   pub is_ready : (f : Family) (work : List NodeKey) (old mid : Notes) (nesting : Noted) (seen : Seen) (nodes : List Node) → AreFormed f → HasInst f root_inst → FitsLimits f
       → Turn words A f work old → AreSeen words A f work seen → seen.worst ≡ None → AreKnown words A f mid → TellsAll (size_of (device_of words)) mid.nesting weight.Light
       → AreAlike mid.nesting nesting → AreOnce nesting.insts
-      → nodes ≡ all_targets f (record { callers = mid.callers; leavers = mid.leavers; nesting = nesting }) seen.looks.items
+      → AreBeyond f (all_targets f (record { callers = mid.callers; leavers = mid.leavers; nesting = nesting }) seen.looks.items) nodes
       → IsReady words A f (record { callers = mid.callers; leavers = mid.leavers; nesting = nesting }) nodes
-  is_ready f work old mid nesting seen nodes formed root fits turn are none known light alike once is =
+  is_ready f work old mid nesting seen nodes formed root fits turn are none known light alike once beyond =
       let notes : Notes = record { callers = mid.callers; leavers = mid.leavers; nesting = nesting } in
       let k = alike_known f mid fits known nesting alike in
       record {
         passes = light_passes f mid fits known root light;
-        round = subst (λ (ns : List Node). Rattle.round_laws.specs.Steps.IsRoundOf words A f ns) (sym is) (round_is words A f formed work old notes seen turn are none k);
+        round = round_beyond words A f (all_targets f notes seen.looks.items) nodes (round_is words A f formed work old notes seen turn are none k) beyond;
+        fresh = beyond.beyond;
+        apart = beyond.apart;
         known = k;
         once = once;
       }

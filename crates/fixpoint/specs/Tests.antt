@@ -11,8 +11,9 @@ use Rattle.round_rules.specs.declared.refusal.Refusal.TheVariants.{TooLarge, ReE
 use Rattle.round_rules.specs.Families.{Family}
 use Rattle.round_rules.specs.Rounds.{Passes}
 use Rattle.round_rules.specs.Refusals.{Test, IsOver, FirstHolds, refusal_of}
-use Rattle.round_laws.specs.Steps.{IsRoundOf}
+use Rattle.round_laws.specs.Steps.{IsRoundOf, AreApart}
 use Rattle.round_steps.specs.declared.noting.Notes.{Notes}
+use Rattle.round_steps.specs.Joins.{AreNew}
 use Rattle.fixpoint.specs.Turns.{AreKnown}
 
 -- the refusal says which limit the family is above
@@ -39,9 +40,11 @@ pub record IsStopped (words : List ℕ) (A : List Entry) (f : Family) (r : Refus
   pub holds : FirstHolds words A f test
   pub is : r ≡ refusal_of test
 
--- no test holds, the nodes are a round of the family, and its nodes are known
+-- No test holds; the nodes are a round of the family, none of them lands in it, and no two have the same key; and its nodes are known.
 pub record IsReady (words : List ℕ) (A : List Entry) (f : Family) (notes : Notes) (nodes : List Node) : Type 0 where
   pub passes : Passes words A f
   pub round : IsRoundOf words A f nodes
+  pub fresh : AreNew f nodes
+  pub apart : AreApart nodes
   pub known : AreKnown words A f notes
   pub once : AreOnce notes.nesting.insts

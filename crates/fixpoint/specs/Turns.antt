@@ -12,8 +12,8 @@ use Rattle.local_rules.specs.declared.local.Exit.{Exit}
 use Rattle.local_rules.specs.declared.local.Node.{Node}
 use Rattle.local_rules.specs.Local.{joined_onto}
 use Rattle.edge_rules.specs.Edges.{IsFaultless, raw_of, Enters, returned_key}
-use Rattle.family_table.specs.declared.ports.Port.{Port}
-use Rattle.family_table.specs.Ports.{IsPort}
+use Rattle.family_table.specs.declared.crossings.Crossing.{Crossing}
+use Rattle.family_table.specs.Crossings.{IsCrossing}
 use Rattle.instance_nesting.specs.Nestings.{Spot, Entrance, AreOnce, IsSpotOf}
 use Rattle.round_rules.specs.Families.{Family, Has, HasInst, Lands, HasNoFault, cells}
 use Rattle.round_rules.specs.Rounds.{Entering, Comes}
@@ -36,15 +36,15 @@ pub data ComesBack (words : List ℕ) (A : List Entry) (n m : Node) : Node → T
 
 -- ---- what the notes say
 
--- a node of the family enters the instance, as the port says
-pub record IsCaller (words : List ℕ) (A : List Entry) (f : Family) (inst : InstKey) (p : Port) : Type 0 where
+-- a node of the family enters the instance, as the crossing says
+pub record IsCaller (words : List ℕ) (A : List Entry) (f : Family) (inst : InstKey) (p : Crossing) : Type 0 where
   pub node : Node
   pub has : Has f node
   pub at : node.key ≡ p.node
   pub enters : Enters words A node p.kind inst p.back
 
--- a node of the family leaves its instance, as the port says
-pub record IsLeaver (words : List ℕ) (A : List Entry) (f : Family) (inst : InstKey) (p : Port) : Type 0 where
+-- a node of the family leaves its instance, as the crossing says
+pub record IsLeaver (words : List ℕ) (A : List Entry) (f : Family) (inst : InstKey) (p : Crossing) : Type 0 where
   pub node : Node
   pub has : Has f node
   pub at : node.key ≡ p.node
@@ -53,8 +53,8 @@ pub record IsLeaver (words : List ℕ) (A : List Entry) (f : Family) (inst : Ins
 
 -- what is noted is so in the family
 pub record AreTrue (words : List ℕ) (A : List Entry) (f : Family) (notes : Notes) : Type 0 where
-  pub callers : (inst : InstKey) (p : Port) → IsPort notes.callers inst p → IsCaller words A f inst p
-  pub leavers : (inst : InstKey) (p : Port) → IsPort notes.leavers inst p → IsLeaver words A f inst p
+  pub callers : (inst : InstKey) (p : Crossing) → IsCrossing notes.callers inst p → IsCaller words A f inst p
+  pub leavers : (inst : InstKey) (p : Crossing) → IsCrossing notes.leavers inst p → IsLeaver words A f inst p
   pub insts : (inst : InstKey) → Contains notes.nesting.insts inst → HasInst f inst
   pub spots : (s : Spot) → Contains notes.nesting.spots s → IsSpotOf f s
   pub entrances : (e : Entrance) → Contains notes.nesting.entrances e → Entering words A f e.from e.into e.offset
@@ -62,8 +62,8 @@ pub record AreTrue (words : List ℕ) (A : List Entry) (f : Family) (notes : Not
 -- all that is to be noted of the node is
 pub record IsKnown (words : List ℕ) (A : List Entry) (notes : Notes) (n : Node) : Type 0 where
   pub callers : (way : EdgeKind) (inst : InstKey) (back : ℕ) → Enters words A n way inst back
-      → IsPort notes.callers inst (caller n.key (record { kind = way; inst = inst; back = back }))
-  pub leavers : (x : Exit) → (raw_of words A n).exit ≡ Some x → IsPort notes.leavers n.key.inst (leaver n.key x)
+      → IsCrossing notes.callers inst (caller n.key (record { kind = way; inst = inst; back = back }))
+  pub leavers : (x : Exit) → (raw_of words A n).exit ≡ Some x → IsCrossing notes.leavers n.key.inst (leaver n.key x)
   pub inst : Contains notes.nesting.insts n.key.inst
   pub spot : (offset : ℕ) → n.key.sp ≡ Closed offset → Contains notes.nesting.spots (record { inst = n.key.inst; offset = offset })
   pub entrances : (way : EdgeKind) (inst : InstKey) (back : ℕ) → Enters words A n way inst back

@@ -28,10 +28,6 @@ pub record AreApart (others : List InstKey) : Type 0 where
 abbrev pub HasMore : {X : Type 0} → List X → X → List X → Type 0
 HasMore {X} old y new = (x : X) → Contains new x ↔ (Contains old x ⊎ (x ≡ y))
 
--- the instance comes last, if it is new
-abbrev pub MoreKeys : Bool → List InstKey → InstKey → List InstKey → Type 0
-MoreKeys is_new old inst new = new ≡ (if is_new then old ++ inst ∷ [] else old)
-
 -- the number of an instance, or the one behind all where it has none
 abbrev pub number_of : List InstKey → InstKey → ℕ
 number_of keys inst = position_or_len (same_inst inst) keys

@@ -1,11 +1,10 @@
 //! What each instance is allowed, so that most of what is noted needs no new graph.
 
-ghost use Rattle.std.specs.Prelude.{◌≡◌, ◌+◌, ◌*◌, ◌^◌, ◌<◌, ◌≤◌, slice_index};
-ghost use Rattle.mask_states.specs.Keys.{root_inst};
+ghost use Rattle.std.specs.Prelude.{◌≡◌, ◌+◌, ◌*◌, ◌^◌, ◌<◌, ◌≤◌};
 
 use crate::drawing::number;
 use crate::notes::{NotedEntrance, NotedInst, NotedSpot};
-use indexmap::IndexSet;
+use indexmap::{IndexMap, IndexSet};
 use mask_states::InstKey;
 use nesting_bound::Composed;
 use std::alloc::{AllocError, Global};
@@ -17,56 +16,71 @@ pub(crate) struct Allowance {
     pub need: u64,
 }
 
-/// What each instance with a number is allowed, by these, and what any other is.
+/// What instances are allowed, each for itself.
 #[derive(Drop)]
 pub(crate) struct Allowances {
-    pub known: Vec<Allowance>,
-    pub unknown: Allowance,
+    pub map: IndexMap<NotedInst, Allowance>,
 }
 
 // A number of a list, or 0.
 fn number_at(numbers: &[u32], i: usize) -> u64
-    ensures is { result ≡ slice_index numbers.now i }
-    ensures low { result < 2 ^ 32 }
+    ensures { result < 2 ^ 32 }
 {
     u64::from(numbers.get(i).copied().unwrap_or(0))
 }
 
-// How far below the allowance of one new instance that of another is which it enters, besides the offset, in bytes: two for the return
+// How far below the allowance of an instance that of another is which it enters, besides the offset, in bytes: two for the return
 // address, and six so that it may enter it again at a greater offset.
 const STEP: u64 = 8;
 
-// The ranks of instances that had numbers when ranks were worked out last are this far apart.
+// The ranks of instances that had nodes when ranks were worked out last are this far apart.
 const APART: u64 = 65_536;
 
-impl Allowance {
-    ghost use Rattle.std.specs.Prelude.{◌≡◌, ◌≤◌, ◌+◌, IsTrue};
-    ghost use Rattle.instance_nesting.specs.Covers.{grant, Allows};
+// What there is to give beyond the least ranks and needs: as much for all alike, and as much for each step of ranks.
+#[derive(Clone, Copy)]
+struct Room {
+    base: u64,
+    share: u64,
+    ghost low: { (base < 2 ^ 16) × (share < 2 ^ 16) },
+}
 
-    // What the instance of this number is allowed, where all alike have this base, and each step of ranks this share.
-    fn granted(composed: &Composed, i: usize, base: u64, share: u64) -> Allowance
-        requires base { base < 2 ^ 16 }
-        requires share { share < 2 ^ 16 }
-        ensures { result ≡ grant composed.now.ranks composed.now.needs base share i }
-    {
+impl Room {
+    // Of the bytes that the root has left, half is for all alike, and half is shared out among the steps of ranks.
+    fn of(composed: &Composed, size: u16) -> Room {
+        let left = u64::from(size).saturating_sub(number_at(composed.needs.as_slice(), 0));
+        let base = left / 2;
+        let share = base / (number_at(composed.ranks.as_slice(), 0) + 1);
+        Room { base, share }
+    }
+
+    // What the instance of this number is allowed.
+    fn grant(self, composed: &Composed, i: usize) -> Allowance {
         let steps = number_at(composed.ranks.as_slice(), i) + 1;
-        let need = number_at(composed.needs.as_slice(), i) + base + share * steps;
+        let need = number_at(composed.needs.as_slice(), i) + self.base + self.share * steps;
         Allowance {
             rank: steps * APART,
             need,
         }
     }
+}
 
-    // As much of it as an instance may be allowed that one which is allowed `from` enters at this offset.
-    fn below(self, from: Allowance, offset: u16) -> Allowance
-        ensures rank { result.rank ≤ self.rank }
-        ensures need { result.need ≤ self.need }
-    {
+impl Allowance {
+    ghost use Rattle.std.specs.Prelude.{IsTrue};
+    ghost use Rattle.instance_nesting.specs.Covers.{Allows};
+
+    // What it leaves to an instance that is entered at this offset.
+    fn left(self, offset: u16) -> Allowance {
         Allowance {
-            rank: self.rank.min(from.rank.saturating_sub(1)),
-            need: self
-                .need
-                .min(from.need.saturating_sub(u64::from(offset) + STEP)),
+            rank: self.rank.saturating_sub(1),
+            need: self.need.saturating_sub(u64::from(offset) + STEP),
+        }
+    }
+
+    // The least of both.
+    fn least(self, other: Allowance) -> Allowance {
+        Allowance {
+            rank: self.rank.min(other.rank),
+            need: self.need.min(other.need),
         }
     }
 
@@ -81,114 +95,148 @@ impl Allowance {
 }
 
 impl Allowances {
-    ghost use Rattle.std.specs.Prelude.{◌≡◌, ◌≤◌, ◌∷◌, [], IfOk, OnOk, IsTrue, slice_index};
-    ghost use Rattle.mask_states.specs.Keys.{root_inst};
-    ghost use Rattle.instance_nesting.specs.Covers.{allowed, HasNumber, Allows, Passes, HaveRoom};
+    ghost use Rattle.std.specs.Prelude.{◌≡◌, [], Contains, OnOk, IsTrue};
+    ghost use Rattle.instance_nesting.specs.Nestings as nestings;
+    ghost use Rattle.instance_nesting.specs.Covers.{allowed, AreKept, AllowsRoot, AllowsSpot, AllowsEntrance, Covers};
 
-    /// None, and no instance is allowed anything.
-    pub fn none(alloc: Global) -> Allowances
-        ensures { result.known.items ≡ [] }
-    {
+    /// None.
+    pub fn none(alloc: Global) -> Allowances {
         Allowances {
-            known: Vec::new(alloc),
-            unknown: Allowance { rank: 0, need: 0 },
+            map: IndexMap::new(alloc),
         }
     }
 
-    /// What is granted over these ranks and needs of so many instances. Of the room that the root has left in so many bytes, half is for all alike,
-    /// and half is shared out among the steps of ranks.
+    /// What the root and these others are granted over their ranks and needs, on a device whose SRAM has so many bytes, and what these
+    /// entrances leave to instances without a node.
     pub fn over(
         alloc: Global,
         composed: &Composed,
-        count: usize,
+        others: &IndexSet<NotedInst>,
+        entrances: &IndexSet<NotedEntrance>,
         size: u16,
-    ) -> Result<Allowances, AllocError>
-        requires { slice_index composed.now.needs 0 ≤ size }
-        ensures { IfOk result (λ a. HaveRoom composed.now.ranks composed.now.needs count a.known.items a.unknown) }
-    {
-        let base = base(composed, size);
-        let share = share(composed, base);
-        let mut known = Vec::new(alloc);
-        for i in 0..count {
-            known.push(Allowance::granted(composed, i, base, share))?;
+    ) -> Result<Allowances, AllocError> {
+        let room = Room::of(composed, size);
+        let mut map = IndexMap::new(alloc);
+        let key = InstKey::root();
+        map.insert(NotedInst { key }, room.grant(composed, 0))?;
+        for (at, other) in others.as_slice().iter().enumerate() {
+            let key = other.key;
+            map.insert(NotedInst { key }, room.grant(composed, at + 1))?;
         }
-        let unknown = Allowance {
-            rank: APART - 1,
-            need: base,
-        };
-        Ok(Allowances { known, unknown })
+        let mut granted = Allowances { map };
+        granted.leave_all(others, entrances.as_slice())?;
+        Ok(granted)
     }
 
-    /// The next instance has a number, and keeps what it was allowed.
-    pub fn pass(&mut self) -> Result<(), AllocError>
-        ensures { OnOk result (Passes self.old.known.items self.old.unknown self.new.known.items self.new.unknown) }
-    {
-        self.known.push(self.unknown)?;
+    // Leaves to each instance that these enter, and that has no node, as much as the least of those that enter it leaves.
+    fn leave_all(
+        &mut self,
+        others: &IndexSet<NotedInst>,
+        entrances: &[NotedEntrance],
+    ) -> Result<(), AllocError> {
+        for entrance in entrances {
+            if number(others, entrance.into()) > others.len() {
+                self.lower(entrance)?;
+            }
+        }
         Ok(())
     }
 
-    /// Where an instance is entered that has no number, all that have none are allowed no more than what the entrance covers. None of them
-    /// has a spot or enters others, so that all stays covered.
-    pub fn make_room(&mut self, others: &IndexSet<NotedInst>, entrance: &NotedEntrance)
-        ensures known { self.new.known.items ≡ self.old.known.items }
-        ensures rank { self.new.unknown.rank ≤ self.old.unknown.rank }
-        ensures need { self.new.unknown.need ≤ self.old.unknown.need }
+    // The entered instance is allowed no more than what is left to it.
+    fn lower(&mut self, entrance: &NotedEntrance) -> Result<(), AllocError> {
+        let Some(from) = self.of(entrance.from()) else {
+            return Ok(());
+        };
+        let left = from.left(entrance.offset());
+        let key = *entrance.into();
+        let most = match self.of(&key) {
+            Some(most) => most.least(left),
+            None => left,
+        };
+        self.map.insert(NotedInst { key }, most)?;
+        Ok(())
+    }
+
+    /// Where an instance is entered that has no allowance, it gets what is left to it.
+    pub fn leave(&mut self, entrance: &NotedEntrance) -> Result<(), AllocError>
+        ensures { OnOk result (AreKept self.old.map.entries self.new.map.entries) }
     {
-        if number(others, entrance.into()) > others.len() {
-            let from = self.of(others, entrance.from());
-            self.unknown = self.unknown.below(from, entrance.offset());
+        let key = *entrance.into();
+        match (self.of(entrance.from()), self.of(&key)) {
+            (Some(from), None) => {
+                self.map
+                    .insert(NotedInst { key }, from.left(entrance.offset()))?;
+                Ok(())
+            }
+            _ => Ok(()),
         }
     }
 
     // What the instance is allowed.
-    fn of(&self, others: &IndexSet<NotedInst>, inst: &InstKey) -> Allowance
-        ensures { result ≡ allowed (root_inst ∷ others.now.keys) self.now.known.items self.now.unknown inst.now }
+    fn of(&self, inst: &InstKey) -> Option<Allowance>
+        ensures { result ≡ allowed self.now.map.entries inst.now }
     {
-        self.known
-            .get(number(others, inst))
-            .copied()
-            .unwrap_or(self.unknown)
+        self.map.get(&NotedInst { key: *inst }).copied()
     }
 
     /// Whether the root is allowed no more than so many bytes.
-    pub fn allow_root(&self, others: &IndexSet<NotedInst>, size: u16) -> bool
-        ensures { IsTrue result → (allowed (root_inst ∷ others.now.keys) self.now.known.items self.now.unknown root_inst).need ≤ size }
+    pub fn allow_root(&self, size: u16) -> bool
+        ensures { IsTrue result → AllowsRoot self.now.map.entries size }
     {
-        self.of(others, &InstKey::root()).need <= u64::from(size)
+        match self.of(&InstKey::root()) {
+            Some(most) => most.need <= u64::from(size),
+            None => false,
+        }
     }
 
     /// Whether the spot is covered.
-    pub fn allow_spot(&self, others: &IndexSet<NotedInst>, spot: &NotedSpot) -> bool
-        ensures { IsTrue result → spot.now.offset ≤ (allowed (root_inst ∷ others.now.keys) self.now.known.items self.now.unknown spot.now.inst).need }
+    pub fn allow_spot(&self, spot: &NotedSpot) -> bool
+        ensures { IsTrue result → AllowsSpot self.now.map.entries spot.now }
     {
-        u64::from(spot.offset()) <= self.of(others, spot.inst()).need
-    }
-
-    /// Whether the entrance is covered, and from an instance that has a number.
-    pub fn allow_entrance(&self, others: &IndexSet<NotedInst>, entrance: &NotedEntrance) -> bool
-        ensures numbered { IsTrue result → HasNumber (root_inst ∷ others.now.keys) entrance.now.from }
-        ensures allows { IsTrue result → Allows (allowed (root_inst ∷ others.now.keys) self.now.known.items self.now.unknown entrance.now.from) (allowed (root_inst ∷ others.now.keys) self.now.known.items self.now.unknown entrance.now.into) entrance.now.offset }
-    {
-        if number(others, entrance.from()) > others.len() {
-            return false;
+        match self.of(spot.inst()) {
+            Some(most) => u64::from(spot.offset()) <= most.need,
+            None => false,
         }
-        self.of(others, entrance.from())
-            .allows(self.of(others, entrance.into()), entrance.offset())
     }
-}
 
-// Half of what the root's need leaves of so many bytes.
-fn base(composed: &Composed, size: u16) -> u64
-    requires { slice_index composed.now.needs 0 ≤ size }
-    ensures { slice_index composed.now.needs 0 + 2 * result ≤ size }
-{
-    (u64::from(size) - number_at(composed.needs.as_slice(), 0)) / 2
-}
+    /// Whether the entrance is covered.
+    pub fn allow_entrance(&self, entrance: &NotedEntrance) -> bool
+        ensures { IsTrue result → AllowsEntrance self.now.map.entries entrance.now }
+    {
+        match (self.of(entrance.from()), self.of(entrance.into())) {
+            (Some(from), Some(into)) => from.allows(into, entrance.offset()),
+            _ => false,
+        }
+    }
 
-// As much for each step of ranks from nothing to the root as this room has.
-fn share(composed: &Composed, room: u64) -> u64
-    ensures room { result * (slice_index composed.now.ranks 0 + 1) ≤ room }
-    ensures low { result ≤ room }
-{
-    room / (number_at(composed.ranks.as_slice(), 0) + 1)
+    // Whether all spots are covered.
+    fn allow_spots(&self, spots: &[NotedSpot]) -> bool
+        ensures { IsTrue result → (s : nestings.Spot) → Contains spots.now s → AllowsSpot self.now.map.entries s }
+    {
+        for spot in spots {
+            if !self.allow_spot(spot) {
+                return false;
+            }
+        }
+        true
+    }
+
+    // Whether all entrances are covered.
+    fn allow_entrances(&self, entrances: &[NotedEntrance]) -> bool
+        ensures { IsTrue result → (x : nestings.Entrance) → Contains entrances.now x → AllowsEntrance self.now.map.entries x }
+    {
+        for entrance in entrances {
+            if !self.allow_entrance(entrance) {
+                return false;
+            }
+        }
+        true
+    }
+
+    /// Whether all spots and entrances are covered.
+    pub fn cover(&self, spots: &IndexSet<NotedSpot>, entrances: &IndexSet<NotedEntrance>) -> bool
+        ensures { IsTrue result → Covers self.now.map.entries spots.now.keys entrances.now.keys }
+    {
+        self.allow_spots(spots.as_slice()) && self.allow_entrances(entrances.as_slice())
+    }
 }

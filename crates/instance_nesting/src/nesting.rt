@@ -1,11 +1,10 @@
 //! The nesting of a family's instances.
 
-ghost use Rattle.std.specs.Prelude.{◌≡◌, ◌≤◌, length, IfOk, OnOk, IsTrue};
+ghost use Rattle.std.specs.Prelude.{◌≡◌, ◌≤◌, length, IfOk, OnOk};
 ghost use Rattle.avr_model.specs.State.{SIZE};
 ghost use Rattle.mask_states.specs.Keys.{offset_of};
 ghost use Rattle.instance_nesting.specs.Nestings.{Noted, nothing, AreOnce, HasNode, HasEntrance, AreAlike, TellsAll};
-ghost use Rattle.instance_nesting.specs.Drawn.{insts_of, AreApart, HasMore, MoreKeys};
-ghost use Rattle.instance_nesting.specs.Covers.{KeepsUp};
+ghost use Rattle.instance_nesting.specs.Drawn.{insts_of, AreApart, HasMore};
 
 use crate::allowances::Allowances;
 use crate::drawing::drawn;
@@ -38,40 +37,25 @@ impl Model for Nesting {
 
     ghost view = { λ n. record { insts = insts_of n.has_root n.others.keys; spots = n.spots.keys; entrances = n.entrances.keys } };
 
-    ghost invariant = { λ n. IsKept n.covered n.allowances.known.items n.allowances.unknown n.others.keys n.spots.keys n.entrances.keys };
+    ghost invariant = { λ n. IsKept n.covered n.allowances.map.entries n.others.keys n.spots.keys n.entrances.keys };
 }
 
-// Keeps an instance, if it is new. Whether it has a number only now.
+// Keeps an instance, if it is new.
 fn keep_inst(
     has_root: &mut bool,
     others: &mut IndexSet<NotedInst>,
     inst: &InstKey,
-) -> Result<bool, AllocError>
+) -> Result<(), AllocError>
     requires apart { AreApart others.old.keys }
     ensures apart { AreApart others.new.keys }
-    ensures keys { IfOk result (λ is_new. MoreKeys is_new others.old.keys inst.now others.new.keys) }
     ensures more { OnOk result (HasMore (insts_of has_root.old others.old.keys) inst.now (insts_of has_root.new others.new.keys)) }
 {
     if *inst == InstKey::root() {
         *has_root = true;
-        return Ok(false);
+        return Ok(());
     }
-    Ok(others.insert(NotedInst { key: *inst })?)
-}
-
-// The allowances keep up with the numbers, where all is covered.
-fn keep_allowed(
-    covered: bool,
-    allowances: &mut Allowances,
-    is_new: bool,
-) -> Result<bool, AllocError>
-    ensures covered { IfOk result (λ still. IsTrue still → IsTrue covered) }
-    ensures keeps { IfOk result (λ still. IsTrue still → KeepsUp is_new allowances.old.known.items allowances.old.unknown allowances.new.known.items allowances.new.unknown) }
-{
-    if covered && is_new {
-        allowances.pass()?;
-    }
-    Ok(covered)
+    others.insert(NotedInst { key: *inst })?;
+    Ok(())
 }
 
 fn keep_spot(spots: &mut IndexSet<NotedSpot>, spot: NotedSpot) -> Result<(), AllocError>
@@ -123,12 +107,11 @@ impl Nesting {
     {
         let covered = self.covered;
         self.covered = false;
-        let is_new = keep_inst(&mut self.has_root, &mut self.others, &key.inst)?;
-        let covered = keep_allowed(covered, &mut self.allowances, is_new)?;
+        keep_inst(&mut self.has_root, &mut self.others, &key.inst)?;
         match key.sp {
             SpForm::Closed(offset) => {
                 let spot = NotedSpot::new(key.inst, offset);
-                let covered = covered && self.allowances.allow_spot(&self.others, &spot);
+                let covered = covered && self.allowances.allow_spot(&spot);
                 keep_spot(&mut self.spots, spot)?;
                 self.covered = covered;
                 Ok(())
@@ -147,9 +130,10 @@ impl Nesting {
         ensures once { OnOk result (AreOnce self.new.insts) }
     {
         let entrance = NotedEntrance::new(key.inst, *into, key.offset());
-        self.allowances.make_room(&self.others, &entrance);
-        let covered = self.covered && self.allowances.allow_entrance(&self.others, &entrance);
+        let covered = self.covered;
         self.covered = false;
+        self.allowances.leave(&entrance)?;
+        let covered = covered && self.allowances.allow_entrance(&entrance);
         keep_entrance(&mut self.entrances, entrance)?;
         self.covered = covered;
         Ok(())
@@ -163,7 +147,7 @@ impl Nesting {
         ensures same { AreAlike self.old self.new }
         ensures once { AreOnce self.new.insts }
     {
-        if self.covered && self.allowances.allow_root(&self.others, size) {
+        if self.covered && self.allowances.allow_root(size) {
             return Ok(Weight::Light);
         }
         if !self.has_root {
@@ -175,16 +159,18 @@ impl Nesting {
             self.spots.as_slice(),
             self.entrances.as_slice(),
         )?;
-        let Weighed { weight, allowances } = weigh_graph(
-            self.alloc,
-            &graph,
-            self.others.len() + 1,
-            size,
-        )?;
-        match allowances {
-            Some(allowances) => {
+        let Weighed { weight, composed } = weigh_graph(self.alloc, &graph, size)?;
+        match composed {
+            Some(composed) => {
+                let allowances = Allowances::over(
+                    self.alloc,
+                    &composed,
+                    &self.others,
+                    &self.entrances,
+                    size,
+                )?;
+                self.covered = allowances.cover(&self.spots, &self.entrances);
                 self.allowances = allowances;
-                self.covered = true;
                 Ok(weight)
             }
             None => Ok(weight),

@@ -5,4 +5,4 @@ pub use Rattle.round_laws.proofs.Joins.{rounds_are_joins}
 pub use Rattle.round_laws.proofs.Keys.{node_exact, at_keys, get_same, get_other, some_same}
 pub use Rattle.round_laws.proofs.Sums.{same_cells}
 pub use Rattle.round_laws.proofs.Parts.{part_of, ok_of, never_both}
-pub use Rattle.round_laws.proofs.Least.{lands_covered, formed_nodes, first_has, comes_formed, comes_root}
+pub use Rattle.round_laws.proofs.Least.{lands_up, lands_covered, formed_nodes, first_has, comes_formed, comes_root}

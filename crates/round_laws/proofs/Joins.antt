@@ -27,7 +27,7 @@ use Rattle.abs_state.proofs.AllLaws.{states_rise}
 use Rattle.round_rules.specs.Families.{Family, node_of, nodes_of, Has, Lands, Below, AreFormed}
 use Rattle.certificate.specs.Claims.{cells_of}
 use Rattle.round_rules.specs.Rounds.{IsNext}
-use Rattle.round_laws.specs.Steps.{joined_with, raised, raised_all, IsRoundOf, weight_of, weight}
+use Rattle.round_laws.specs.Steps.{joined_with, raised, raised_all, IsRoundOf, AreJoined, weight_of, weight}
 use Rattle.round_laws.specs.Laws.{RoundsAreJoins}
 use Rattle.round_laws.proofs.Keys.{node_exact, at_keys, get_same, get_other, some_same}
 use Rattle.round_laws.proofs.Nodes.{has_member, member_has}
@@ -106,12 +106,6 @@ module _ (f : Family) (n : Node) (formed : AreFormed f) (node : IsNode n.key n.s
       (λ ne s e. up (record { key = m.key; state = s }) (sym (get_other f n.key v m.key ne) ∙ e)) m.state has
 
 -- ---- several joins
-
-record AreJoined (f : Family) (ns : List Node) (g : Family) : Type 0 where
-  formed : AreFormed g
-  above : Below f g
-  lands : (to : Node) → Contains ns to → Lands g to
-  least : (h : Family) → Below f h → ((to : Node) → Contains ns to → Lands h to) → Below g h
 
 below_itself : (f : Family) → Below f f
 below_itself f n has = record { at = n.state; is = has; above = states_are_ordered.same n.state }
@@ -198,6 +192,7 @@ weight_high (e ∷ es) nodes =
 pub rounds_are_joins : RoundsAreJoins
 rounds_are_joins = record {
   next = next_is;
+  joined = λ f ns formed nodes. all_joined ns f formed nodes;
   rises = raised_rises;
   high = λ f formed. weight_high (entries f) (formed_nodes f formed);
   formed = raised_formed;

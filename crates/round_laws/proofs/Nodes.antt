@@ -16,6 +16,7 @@ use Rattle.mask_states.proofs.AllLaws.{keys_are_ordered}
 use Rattle.local_rules.specs.declared.local.Node.{Node}
 use Rattle.local_laws.proofs.AllLaws.{none_in, here, there, first_or, each_of}
 use Rattle.round_rules.specs.Families.{Family, node_of, nodes_of, Has, Below, AreFormed}
+use Rattle.round_laws.specs.Steps.{AreApart}
 use Rattle.round_laws.specs.Laws.{FamiliesAreTheirNodes}
 use Rattle.round_laws.proofs.Keys.{node_exact, some_same}
 
@@ -96,6 +97,14 @@ has_member f n i = get-entries f n.key ∙ found (entries f) n (entries_sorted f
 pub member_has : (f : Family) (n : Node) → Has f n → Contains (nodes_of f) n
 member_has f n h = found_in n.key n.state (entries f) (sym (get-entries f n.key) ∙ h)
 
+nodes_apart : (es : List (NodeKey × AbsState)) → T (is_sorted node_cmp es) → AreApart (map node_of es)
+nodes_apart [] sorted = tt
+nodes_apart (e ∷ es) sorted =
+    let p = both _ _ sorted in (
+      λ m i same. never_less e.0 m.key (subst (λ (k : NodeKey). eq_by_cmp node_cmp m.key k ≡ true) same (tied m.key)) (member_above e.0 es m (all_above e.0 es p.0) i),
+      nodes_apart es p.1,
+    )
+
 -- ---- the order of families
 
 below_same : (f g : Family) → AreFormed f → AreFormed g → Below f g → Below g f → f ≡ g
@@ -115,4 +124,8 @@ below_same f g a b up down = same_map node_total node_exact f g (λ q. by q (get
         ap Some (states_are_ordered.both s t (a n e).formed.count_registers (b m d).formed.count_registers le ge)
 
 pub families_are_their_nodes : FamiliesAreTheirNodes
-families_are_their_nodes = record { members = λ f n. (has_member f n, member_has f n); same = below_same }
+families_are_their_nodes = record {
+  members = λ f n. (has_member f n, member_has f n);
+  same = below_same;
+  apart = λ f. nodes_apart (entries f) (entries_sorted f);
+}

@@ -7,6 +7,7 @@ use Rattle.mask_states.specs.declared.keys.InstKey.{InstKey}
 use Rattle.mask_states.specs.Keys.{root_inst}
 use Rattle.local_rules.specs.declared.local.Node.{Node}
 use Rattle.local_rules.specs.Cover.{IsNode}
+use Rattle.local_laws.specs.Laws.{AreNodes}
 use Rattle.edge_rules.specs.Families.{Family as Shown, IsSound as IsSoundFamily}
 use Rattle.certificate.specs.Claims.{Claim, IsClaim}
 use Rattle.certificate.specs.Insts.{rank_in, need_in}
@@ -16,11 +17,12 @@ use Rattle.round_rules.specs.Families.{Family, nodes_of, Has, Below, AreFormed, 
 use Rattle.round_rules.specs.Rounds.{IsAcyclic, AreRanks, AreNeeds, IsRootNeed, IsNext, Comes}
 use Rattle.round_rules.specs.Refusals.{IsRefused, IsSolved, GoesBeyond}
 use Rattle.round_rules.specs.Solutions.{IsShown, IsSolution}
-use Rattle.round_laws.specs.Steps.{raised, raised_all, IsRoundOf, weight}
+use Rattle.round_laws.specs.Steps.{raised, raised_all, IsRoundOf, AreJoined, AreApart, weight}
 
 pub record FamiliesAreTheirNodes : Type 0 where
   pub members : (f : Family) (n : Node) → Contains (nodes_of f) n ↔ Has f n
   pub same : (f g : Family) → AreFormed f → AreFormed g → Below f g → Below g f → f ≡ g
+  pub apart : (f : Family) → AreApart (nodes_of f)
 
 -- a family that shows a bound, with ranks and needs
 pub record IsValidFamily (words : List ℕ) (A : List Entry) (g : Family) : Type 0 where
@@ -76,6 +78,7 @@ pub record SolutionsAreValid : Type 0 where
 -- or raises it, and it can't rise for ever.
 pub record RoundsAreJoins : Type 0 where
   pub next : (words : List ℕ) (A : List Entry) (f : Family) (ns : List Node) → AreFormed f → IsRoundOf words A f ns → IsNext words A f (raised_all f ns)
+  pub joined : (f : Family) (ns : List Node) → AreFormed f → AreNodes ns → AreJoined f ns (raised_all f ns)
   pub rises : (f : Family) (n : Node) → AreFormed f → IsNode n.key n.state → (raised f n ≡ f) ⊎ (weight f < weight (raised f n))
   pub high : (f : Family) → AreFormed f → weight f ≤ 8459 * cells f
   pub formed : (f : Family) (n : Node) → AreFormed f → IsNode n.key n.state → AreFormed (raised f n)

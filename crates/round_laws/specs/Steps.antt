@@ -1,5 +1,5 @@
 -- One round as a list of nodes that are joined into the family one after the other.
-use Rattle.std.specs.Prelude.{ℕ, ◌+◌, ◌⊎◌, List, [], ◌∷◌, Option, Some, None, Contains}
+use Rattle.std.specs.Prelude.{ℕ, ◌+◌, ◌≡◌, ◌⊎◌, ⊤, List, [], ◌∷◌, Option, Some, None, Contains}
 use Rattle.std.specs.FinMap.{get, insert, entries}
 use Rattle.avr_model.specs.declared.assumption.Entry.{Entry}
 use Rattle.abs_state.specs.declared.state.AbsState.{AbsState}
@@ -11,7 +11,7 @@ use Rattle.edge_rules.specs.declared.edge.Edge.{Edge}
 use Rattle.edge_rules.specs.Edges.{IsEdge, target}
 use Rattle.edge_rules.specs.Families.{IsCovered}
 use Rattle.abs_state.specs.Rank.{state_rank}
-use Rattle.round_rules.specs.Families.{Family, nodes_of, Has, Lands, Below, LandIn}
+use Rattle.round_rules.specs.Families.{Family, nodes_of, Has, Lands, Below, AreFormed, LandIn}
 
 -- a state joined with that which is there, if any
 abbrev pub joined_with : Option AbsState → AbsState → AbsState
@@ -32,6 +32,18 @@ pub record IsRoundOf (words : List ℕ) (A : List Entry) (f : Family) (ns : List
   pub formed : (to : Node) → Contains ns to → IsNode to.key to.state
   pub all : (n : Node) (e : Edge) → Has f n → IsEdge words A (nodes_of f) n e → Lands f (target e) ⊎ IsCovered ns (target e)
   pub least : (h : Family) → Below f h → LandIn words A f h → (to : Node) → Contains ns to → Lands h to
+
+-- g is f with all of these nodes joined into it: the least family above f in which they land
+pub record AreJoined (f : Family) (ns : List Node) (g : Family) : Type 0 where
+  pub formed : AreFormed g
+  pub above : Below f g
+  pub lands : (to : Node) → Contains ns to → Lands g to
+  pub least : (h : Family) → Below f h → ((to : Node) → Contains ns to → Lands h to) → Below g h
+
+-- no two of the nodes have the same key
+abbrev pub AreApart : List Node → Type 0
+AreApart [] = ⊤
+AreApart (n ∷ ns) = ((m : Node) → Contains ns m → m.key ≡ n.key → ⊥) × AreApart ns
 
 -- how far a family is up: one for each node, and the rank of its state
 abbrev pub weight_of : List (NodeKey × AbsState) → ℕ

@@ -8,12 +8,12 @@ use Rattle.mask_states.specs.declared.keys.NodeKey.{NodeKey}
 use Rattle.local_rules.specs.declared.local.Exit.{Exit}
 use Rattle.local_laws.proofs.AllLaws.{none_in}
 use Rattle.call_graph.specs.declared.ways.Way.{Way}
-use Rattle.family_table.specs.declared.ports.Port.{Port}
-use Rattle.family_table.specs.Ports.{Groups, IsAdded}
+use Rattle.family_table.specs.declared.crossings.Crossing.{Crossing}
+use Rattle.family_table.specs.Crossings.{Groups, IsAdded}
 use Rattle.instance_nesting.specs.Nestings.{Noted, HasNode, HasEntrance}
 use Rattle.round_steps.specs.declared.looking.Look.{Look}
 use Rattle.round_steps.specs.declared.noting.Notes.{Notes}
-use Rattle.round_steps.specs.Notings.{AnyHas, Besides, HasPort, caller, leaver, CallsBy, EntersBy, HasCallers, HasLeaver, HasEntrances, CallsAt, LeavesAt, InstAt, SpotAt, EntersAt, IsNoted, AreNoted}
+use Rattle.round_steps.specs.Notings.{AnyHas, Besides, HasCrossing, caller, leaver, CallsBy, EntersBy, HasCallers, HasLeaver, HasEntrances, CallsAt, LeavesAt, InstAt, SpotAt, EntersAt, IsNoted, AreNoted}
 
 pub pushed : {X : Type 0} (xs : List X) (i : ℕ) (x : X) → i < length xs → x ≡ get_or xs i x → take (i + 1) xs ≡ take i xs ++ x ∷ []
 pushed xs i x lt is = take_more xs i x lt ∙ ap (λ y. take i xs ++ y ∷ []) (sym is)
@@ -40,10 +40,10 @@ besides_more old mid new xs x P a b y = (
 pub callers_more : (old mid new : Groups) (k : NodeKey) (ws : List Way) (w : Way) → HasCallers old k ws mid → IsAdded mid w.inst (caller k w) new
     → HasCallers old k (ws ++ w ∷ []) new
 callers_more old mid new k ws w a b =
-    besides_more (HasPort old) (HasPort mid) (HasPort new) ws w (CallsBy k) a
+    besides_more (HasCrossing old) (HasCrossing mid) (HasCrossing new) ws w (CallsBy k) a
     (λ y. (
       λ n. ⊎_elim (λ m. inl m) (λ e. inr (λ j. (e.0 j, e.1 j))) ((b y.0 y.1).0 n),
-      λ s. (b y.0 y.1).1 (⊎_elim (λ m. inl m) (λ e. inr (ap (λ (z : InstKey × Port). z.0) e, ap (λ (z : InstKey × Port). z.1) e)) s),
+      λ s. (b y.0 y.1).1 (⊎_elim (λ m. inl m) (λ e. inr (ap (λ (z : InstKey × Crossing). z.0) e, ap (λ (z : InstKey × Crossing). z.1) e)) s),
     ))
 
 pub leaver_none : (old : Groups) (k : NodeKey) → HasLeaver old k None old
@@ -52,11 +52,11 @@ leaver_none old k y = (λ o. inl o, λ s. ⊎_elim (λ o. o) (λ p. absurd (let 
 pub leaver_some : (old new : Groups) (k : NodeKey) (x : Exit) → IsAdded old k.inst (leaver k x) new → HasLeaver old k (Some x) new
 leaver_some old new k x b y = (
   λ n. ⊎_elim (λ m. inl m)
-      (λ e. let same : x ≡ y.1.exit = sym (ap (λ (p : Port). p.exit) e.1) in
+      (λ e. let same : x ≡ y.1.exit = sym (ap (λ (p : Crossing). p.exit) e.1) in
       inr (ap Some same, λ j. (e.0 j, (e.1 ∙ ap (leaver k) same) j))) ((b y.0 y.1).0 n),
   λ s. (b y.0 y.1).1 (⊎_elim (λ m. inl m)
       (λ p. let same : x ≡ y.1.exit = some_exit x y.1.exit p.0 in
-      inr (ap (λ (z : InstKey × Port). z.0) p.1, ap (λ (z : InstKey × Port). z.1) p.1 ∙ ap (leaver k) (sym same))) s),
+      inr (ap (λ (z : InstKey × Crossing). z.0) p.1, ap (λ (z : InstKey × Crossing). z.1) p.1 ∙ ap (leaver k) (sym same))) s),
 )
   where
     some_exit : (a b : Exit) → Some a ≡ Some b → a ≡ b
@@ -95,8 +95,8 @@ noted_one old x callers leavers mid nesting ws is c l n e = record {
 
 pub noted_none : (old : Notes) → AreNoted old [] old
 noted_none old = record {
-  callers = besides_none (HasPort old.callers) CallsAt;
-  leavers = besides_none (HasPort old.leavers) LeavesAt;
+  callers = besides_none (HasCrossing old.callers) CallsAt;
+  leavers = besides_none (HasCrossing old.leavers) LeavesAt;
   insts = besides_none (Contains old.nesting.insts) InstAt;
   spots = besides_none (Contains old.nesting.spots) SpotAt;
   entrances = besides_none (Contains old.nesting.entrances) EntersAt;
@@ -104,8 +104,8 @@ noted_none old = record {
 
 pub noted_more : (old mid new : Notes) (xs : List Look) (x : Look) → AreNoted old xs mid → IsNoted mid x new → AreNoted old (xs ++ x ∷ []) new
 noted_more old mid new xs x a b = record {
-  callers = besides_more (HasPort old.callers) (HasPort mid.callers) (HasPort new.callers) xs x CallsAt a.callers b.callers;
-  leavers = besides_more (HasPort old.leavers) (HasPort mid.leavers) (HasPort new.leavers) xs x LeavesAt a.leavers b.leavers;
+  callers = besides_more (HasCrossing old.callers) (HasCrossing mid.callers) (HasCrossing new.callers) xs x CallsAt a.callers b.callers;
+  leavers = besides_more (HasCrossing old.leavers) (HasCrossing mid.leavers) (HasCrossing new.leavers) xs x LeavesAt a.leavers b.leavers;
   insts = besides_more (Contains old.nesting.insts) (Contains mid.nesting.insts) (Contains new.nesting.insts) xs x InstAt a.insts b.insts;
   spots = besides_more (Contains old.nesting.spots) (Contains mid.nesting.spots) (Contains new.nesting.spots) xs x SpotAt a.spots b.spots;
   entrances = besides_more (Contains old.nesting.entrances) (Contains mid.nesting.entrances) (Contains new.nesting.entrances) xs x EntersAt a.entrances b.entrances;

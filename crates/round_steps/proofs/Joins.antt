@@ -1,6 +1,5 @@
 -- One node more is joined into a family.
-use Rattle.std.proofs.Common.{◌≡◌, ◌≢◌, ◌↔◌, refl, sym, ap, ◌∙◌, subst, ℕ, ◌+◌, ◌<◌, ◌≤◌, ⊎_elim, Bool, true, false, List, [], ◌∷◌, ◌++◌, length, map, Some, None, Result, Ok, Err, IfOk, Contains, cond, arith, length-append}
-use Rattle.std.specs.Prelude.{IsTrue}
+use Rattle.std.proofs.Common.{◌≡◌, ◌≢◌, ◌↔◌, refl, sym, ap, ◌∙◌, subst, ℕ, ◌+◌, ◌<◌, ◌≤◌, ⊎_elim, List, [], ◌∷◌, ◌++◌, length, map, Some, None, Result, Ok, Err, IfOk, Contains, cond, arith, length-append, append_assoc}
 use Rattle.std.specs.declared.cmp.Ordering.TheVariants.{Less, Equal, Greater}
 use Rattle.std.specs.Ordering.{is_eq}
 use Rattle.std.proofs.lemmas.List.Elements.{Contains-append_left, Contains-push}
@@ -12,13 +11,14 @@ use Rattle.mask_states.specs.Keys.{offset_of}
 use Rattle.mask_states.specs.Order.{node_cmp}
 use Rattle.mask_states.specs.Total.{node_total}
 use Rattle.local_rules.specs.declared.local.Node.{Node}
+use Rattle.local_rules.specs.Cover.{IsNode}
 use Rattle.local_laws.specs.Laws.{AreNodes}
-use Rattle.local_laws.proofs.AllLaws.{here, there}
+use Rattle.local_laws.proofs.AllLaws.{none_in, here, there, each_of}
 use Rattle.certificate.specs.Claims.{cells_of}
-use Rattle.round_rules.specs.Families.{Family, AreFormed, cells}
-use Rattle.round_laws.specs.Steps.{joined_with, raised, raised_all, weight}
+use Rattle.round_rules.specs.Families.{Family, Lands, AreFormed, cells}
+use Rattle.round_laws.specs.Steps.{joined_with, raised, raised_all, AreApart, weight}
 use Rattle.round_laws.proofs.AllLaws.{rounds_are_joins, at_keys, get_same, get_other, same_cells}
-use Rattle.round_steps.specs.Joins.{noted, SoFar}
+use Rattle.round_steps.specs.Joins.{keys_of, AreNew, SoFar}
 
 -- ---- cells
 
@@ -64,49 +64,50 @@ more_known f k count (Err e) is none h = tt
 
 -- ---- joins
 
-pub none_yet : (f : Family) (count : ℕ) (all : List Node) → count ≡ cells f → AreFormed f → AreNodes all → SoFar f all f count all []
-none_yet f count all counted formed nodes =
-    record { joined = refl; counted = counted; nodes = nodes; formed = formed; kept = λ k apart. refl; more = omega arith }
+pub none_yet : (f : Family) (count : ℕ) (all : List Node) → count ≡ cells f → AreFormed f → AreNodes all → AreNew f all → AreApart all → SoFar f all f count all []
+none_yet f count all counted formed nodes fresh apart = record {
+  joined = refl;
+  counted = counted;
+  nodes = nodes;
+  fresh = fresh;
+  apart = apart;
+  formed = formed;
+  keys = refl;
+  kept = λ k apart. refl;
+  more = omega arith;
+}
 
-pub one_more : (f : Family) (all : List Node) (g h : Family) (n : Node) (left : List Node) (changed now : List NodeKey) (grew : Bool) (before count : ℕ) → SoFar f all g before (n ∷ left) changed
-    → h ≡ raised g n → IsTrue grew ↔ (h ≢ g) → count ≡ cells h → now ≡ noted grew changed n.key → SoFar f all h count left now
-one_more f all g h n left changed now grew before count so is changes counted noted_is = subst (SoFar f all h count left) (sym noted_is) (by grew (changes.0) (changes.1))
-  where
-    formed : AreFormed h
-    formed = subst AreFormed (sym is) (rounds_are_joins.formed g n so.formed (so.nodes n (here n left)))
+module _ (f : Family) (all : List Node) (g : Family) (n : Node) (left : List Node) (changed : List NodeKey) (before : ℕ) (so : SoFar f all g before (n ∷ left) changed) where
+  node : IsNode n.key n.state
+  node = so.nodes n (here n left)
 
-    joined : raised_all h left ≡ raised_all f all
-    joined = ap (λ x. raised_all x left) is ∙ so.joined
+  other : (k : NodeKey) → k ≢ n.key → get (raised g n) k ≡ get g k
+  other k ne = get_other g n.key (joined_with (get g n.key) n.state) k ne
 
-    nodes : AreNodes left
-    nodes x i = so.nodes x (there n x left i)
+  -- the node raises the family
+  higher : weight g < weight (raised g n)
+  higher = ⊎_elim (λ same. absurd (so.fresh n (here n left) (subst (λ h. Lands h n) same landed))) (λ lt. lt) (rounds_are_joins.rises g n so.formed node)
+    where
+      landed : Lands (raised g n) n
+      landed = (rounds_are_joins.joined g (n ∷ []) so.formed (each_of (λ m. IsNode m.key m.state) n [] node (λ m i. absurd (none_in m i)))).lands n (here n [])
 
-    other : (k : NodeKey) → k ≢ n.key → get h k ≡ get g k
-    other k ne = ap (λ x. get x k) is ∙ get_other g n.key (joined_with (get g n.key) n.state) k ne
+  more_joined : (count : ℕ) → count ≡ cells (raised g n) → SoFar f all (raised g n) count left (changed ++ n.key ∷ [])
+  more_joined count counted = record {
+    joined = so.joined;
+    counted = counted;
+    nodes = λ x i. so.nodes x (there n x left i);
+    fresh = λ x i l.
+        so.fresh x (there n x left i) (record { at = l.at; is = sym (other x.key (so.apart.0 x i)) ∙ l.is; above = l.above });
+    apart = so.apart.1;
+    formed = rounds_are_joins.formed g n so.formed node;
+    keys = append_assoc changed (n.key ∷ []) (keys_of left) ∙ so.keys;
+    kept = λ k apart.
+        other k (λ same. apart (subst (Contains (changed ++ n.key ∷ [])) (sym same) (Contains-push changed n.key)))
+        ∙ so.kept k (λ i. apart (Contains-append_left changed (n.key ∷ []) k i));
+    more = let lt = higher in omega (arith, so.more, lt, length-append changed (n.key ∷ []));
+  }
 
-    by : (b : Bool) → (IsTrue b → h ≢ g) → (h ≢ g → IsTrue b) → SoFar f all h count left (noted b changed n.key)
-    by true does back = record {
-      joined = joined;
-      counted = counted;
-      nodes = nodes;
-      formed = formed;
-      kept = λ k apart.
-          other k (λ same. apart (subst (Contains (changed ++ n.key ∷ [])) (sym same) (Contains-push changed n.key)))
-          ∙ so.kept k (λ i. apart (Contains-append_left changed (n.key ∷ []) k i));
-      more =
-          let lt : weight g < weight h = ⊎_elim (λ same. absurd (does refl (is ∙ same))) (λ lt. subst (λ x. weight g < weight x) (sym is) lt)
-          (rounds_are_joins.rises g n so.formed (so.nodes n (here n left))) in
-          omega (arith, so.more, lt, length-append changed (n.key ∷ []));
-    }
-    by false does back =
-        let same : h ≡ g = ⊎_elim (λ e. is ∙ e)
-        (λ lt. let ne : h ≢ g = λ e. let eq = ap weight (sym is ∙ e) in omega (arith, lt, eq) in absurd (let t = back ne in cc))
-        (rounds_are_joins.rises g n so.formed (so.nodes n (here n left))) in
-        record {
-          joined = joined;
-          counted = counted;
-          nodes = nodes;
-          formed = formed;
-          kept = λ k apart. ap (λ x. get x k) same ∙ so.kept k apart;
-          more = subst (λ x. weight f + length changed ≤ weight x) (sym same) so.more;
-        }
+  pub one_more : (h : Family) (now : List NodeKey) (count : ℕ) → h ≡ raised g n → count ≡ cells h → now ≡ changed ++ n.key ∷ [] → SoFar f all h count left now
+  one_more h now count is counted noted =
+      subst (SoFar f all h count left) (sym noted)
+      (subst (λ (x : Family). SoFar f all x count left (changed ++ n.key ∷ [])) (sym is) (more_joined count (counted ∙ ap cells is)))

@@ -1,3 +1,4 @@
 pub mod Seeing
 pub mod Besides
 pub mod Joins
+pub mod Gathers

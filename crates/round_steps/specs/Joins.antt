@@ -1,15 +1,18 @@
 -- What changes as nodes are joined into a family.
-use Rattle.std.specs.Prelude.{ℕ, ◌+◌, ◌≡◌, ◌≤◌, Bool, true, false, List, [], ◌∷◌, ◌++◌, length, Contains}
+use Rattle.std.specs.Prelude.{ℕ, ◌+◌, ◌≡◌, ◌≤◌, List, ◌++◌, map, length, Contains}
 use Rattle.std.specs.FinMap.{get}
 use Rattle.mask_states.specs.declared.keys.NodeKey.{NodeKey}
 use Rattle.local_rules.specs.declared.local.Node.{Node}
 use Rattle.local_laws.specs.Laws.{AreNodes}
-use Rattle.round_rules.specs.Families.{Family, AreFormed, cells}
-use Rattle.round_laws.specs.Steps.{raised_all, weight}
+use Rattle.round_rules.specs.Families.{Family, Lands, AreFormed, cells}
+use Rattle.round_laws.specs.Steps.{raised_all, AreApart, weight}
 
-abbrev pub noted : Bool → List NodeKey → NodeKey → List NodeKey
-noted true changed k = changed ++ k ∷ []
-noted false changed k = changed
+abbrev pub keys_of : List Node → List NodeKey
+keys_of = map (λ (n : Node). n.key)
+
+-- none of the nodes lands in the family
+abbrev pub AreNew : Family → List Node → Type 0
+AreNew f ns = (n : Node) → Contains ns n → Lands f n → ⊥
 
 -- the two families have the same at each key that is not in the list
 abbrev pub KeptBut : Family → Family → List NodeKey → Type 0
@@ -20,6 +23,9 @@ pub record SoFar (f : Family) (all : List Node) (g : Family) (count : ℕ) (left
   pub joined : raised_all g left ≡ raised_all f all
   pub counted : count ≡ cells g
   pub nodes : AreNodes left
+  pub fresh : AreNew g left
+  pub apart : AreApart left
   pub formed : AreFormed g
+  pub keys : changed ++ keys_of left ≡ keys_of all
   pub kept : KeptBut f g changed
   pub more : weight f + length changed ≤ weight g

@@ -1,14 +1,14 @@
 //! Nodes joined into a family.
 
-ghost use Rattle.std.specs.Prelude.{ℕ, ◌≡◌, ◌≢◌, ◌↔◌, ◌+◌, ◌≤◌, IsTrue, Contains, length, IfOk, OnOk};
+ghost use Rattle.std.specs.Prelude.{ℕ, ◌≡◌, ◌+◌, ◌≤◌, length, IfOk, OnOk};
 ghost use Rattle.std.specs.FinMap.{insert};
 ghost use Rattle.abs_state.specs.declared.state.AbsState as state_type;
 ghost use Rattle.mask_states.specs.Keys.{offset_of};
 ghost use Rattle.local_rules.specs.Cover.{IsNode};
 ghost use Rattle.local_laws.specs.Laws.{AreNodes};
 ghost use Rattle.round_rules.specs.Families.{AreFormed, cells};
-ghost use Rattle.round_laws.specs.Steps.{raised, raised_all, weight};
-ghost use Rattle.round_steps.specs.Joins.{noted, KeptBut};
+ghost use Rattle.round_laws.specs.Steps.{raised, raised_all, AreApart, weight};
+ghost use Rattle.round_steps.specs.Joins.{keys_of, AreNew, KeptBut};
 
 use family_table::Table;
 use local_rules::Node;
@@ -37,29 +37,20 @@ fn cells_with(table: &Table, counted: u64, key: &NodeKey) -> Result<u64, AllocEr
 }
 
 // Joins one node into the table, whose cells are counted.
-fn join_one(table: &mut Table, counted: &mut u64, node: Node) -> Result<bool, AllocError>
+fn join_one(table: &mut Table, counted: &mut u64, node: Node) -> Result<(), AllocError>
     requires count { counted.old ≡ cells table.old }
     requires node { IsNode node.key node.state }
     ensures joined { OnOk result (table.new ≡ raised table.old node) }
-    ensures grew { IfOk result (λ grew. IsTrue grew ↔ (table.new ≢ table.old)) }
     ensures count { OnOk result (counted.new ≡ cells table.new) }
 {
     let more = cells_with(table, *counted, &node.key)?;
-    let grew = table.raise(node)?;
+    table.raise(node)?;
     *counted = more;
-    Ok(grew)
-}
-
-fn note(changed: &mut Vec<NodeKey>, grew: bool, key: NodeKey) -> Result<(), AllocError>
-    ensures { OnOk result (changed.new.items ≡ noted grew changed.old.items key) }
-{
-    if grew {
-        changed.push(key)?;
-    }
     Ok(())
 }
 
-/// Joins nodes into a family whose cells are counted, and gives the keys of those that changed it.
+/// Joins nodes into a family whose cells are counted, of which none lands there and no two have the same key. Gives their keys: each of
+/// them changed, and stands once.
 pub fn join_all(
     alloc: Global,
     table: &mut Table,
@@ -69,17 +60,20 @@ pub fn join_all(
     requires count { counted.old ≡ cells table.old }
     requires formed { AreFormed table.old }
     requires nodes { AreNodes nodes.items }
+    requires fresh { AreNew table.old nodes.items }
+    requires apart { AreApart nodes.items }
     ensures joined { OnOk result (table.new ≡ raised_all table.old nodes.items) }
     ensures count { OnOk result (counted.new ≡ cells table.new) }
     ensures formed { OnOk result (AreFormed table.new) }
+    ensures keys { IfOk result (λ changed. changed.items ≡ keys_of nodes.items) }
     ensures kept { IfOk result (λ changed. KeptBut table.old table.new changed.items) }
     ensures more { IfOk result (λ changed. weight table.old + length changed.items ≤ weight table.new) }
 {
     let mut changed = Vec::new(alloc);
     for node in nodes {
         let key = node.key;
-        let grew = join_one(table, counted, node)?;
-        note(&mut changed, grew, key)?;
+        join_one(table, counted, node)?;
+        changed.push(key)?;
     }
     Ok(changed)
 }

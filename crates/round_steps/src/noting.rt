@@ -9,7 +9,7 @@ ghost use Rattle.round_steps.specs.declared.looking.Look as look_type;
 
 use crate::looking::Look;
 use call_graph::ways::Way;
-use family_table::{Port, Ports};
+use family_table::{Crossing, Crossings};
 use instance_nesting::Nesting;
 use local_rules::Exit;
 use mask_states::{EdgeKind, NodeKey};
@@ -19,21 +19,20 @@ use std::alloc::{AllocError, Global};
 #[derive(Drop)]
 pub struct Notes {
     /// By entered instance, the nodes that enter it, and the word at which each goes on afterwards.
-    pub callers: Ports,
+    pub callers: Crossings,
     /// By instance, the nodes from which it is left, and how.
-    pub leavers: Ports,
+    pub leavers: Crossings,
     /// How instances nest.
     pub nesting: Nesting,
 }
 
 // A node that enters an instance this way.
-fn caller(key: &NodeKey, way: &Way) -> Port
+fn caller(key: &NodeKey, way: &Way) -> Crossing
     ensures { result ≡ caller key.now way.now }
 {
-    Port {
+    Crossing {
         node: *key,
         kind: way.kind,
-        inst: way.inst,
         back: way.back,
         exit: Exit {
             masks: key.masks,
@@ -44,20 +43,19 @@ fn caller(key: &NodeKey, way: &Way) -> Port
 }
 
 // A node that leaves its instance this way.
-fn leaver(key: &NodeKey, exit: Exit) -> Port
+fn leaver(key: &NodeKey, exit: Exit) -> Crossing
     ensures { result ≡ leaver key.now exit }
 {
-    Port {
+    Crossing {
         node: *key,
         kind: EdgeKind::Return,
-        inst: key.inst,
         back: key.pc,
         exit,
     }
 }
 
 fn note_callers(
-    callers: &mut Ports,
+    callers: &mut Crossings,
     alloc: Global,
     key: &NodeKey,
     ways: &[Way],
@@ -72,7 +70,7 @@ fn note_callers(
 }
 
 fn note_leaver(
-    leavers: &mut Ports,
+    leavers: &mut Crossings,
     alloc: Global,
     key: &NodeKey,
     exit: Option<Exit>,
@@ -105,8 +103,8 @@ impl Notes {
         ensures { result ≡ blank }
     {
         Notes {
-            callers: Ports::new(alloc),
-            leavers: Ports::new(alloc),
+            callers: Crossings::new(alloc),
+            leavers: Crossings::new(alloc),
             nesting: Nesting::new(alloc),
         }
     }

@@ -1,16 +1,21 @@
 //! What the edges of nodes lead to.
 
-ghost use Rattle.std.specs.Prelude.{ℕ, ◌≡◌, ◌<◌, ◌++◌, map, OnOk, IfOk};
+ghost use Rattle.std.specs.Prelude.{ℕ, ◌≡◌, ◌<◌, ◌++◌, List, map, OnOk, IfOk};
 ghost use Rattle.abs_state.specs.Values.{value_at};
 ghost use Rattle.abs_state.specs.Formed.{NamesRegister};
+ghost use Rattle.local_rules.specs.declared.local.Node as node_type;
+ghost use Rattle.local_rules.specs.Cover.{IsNode};
+ghost use Rattle.local_laws.specs.Laws.{AreNodes};
 ghost use Rattle.round_rules.specs.Families.{AreFormed};
-ghost use Rattle.round_steps.specs.Targets.{entry_node, returned_to, back_at, way_of, backs_in, all_backs, onward_at, onwards_if, targets_of, all_targets};
+ghost use Rattle.round_steps.specs.Targets.{entry_node, returned_to, back_at, backs_in, all_backs, onward_at, onwards_if, targets_of, all_targets};
+ghost use Rattle.round_steps.specs.Gathers.{IsGathered, AreGathered, AreBeyond};
 
 use crate::looking::Look;
 use crate::noting::Notes;
 use abs_state::AbsState;
-use call_graph::ways::{Way, returned_key};
-use family_table::{Port, Ports, Table};
+use call_graph::ways::Way;
+use call_graph::{Caller, returned};
+use family_table::{Crossing, Crossings, Table};
 use local_rules::{Exit, Node};
 use mask_states::{InstKey, NodeKey};
 use std::alloc::{AllocError, Global};
@@ -43,26 +48,21 @@ fn add_entries(
     Ok(())
 }
 
-// Back to a node by an exit, if the states fit.
+// Back to a caller by an exit, if the states fit.
 fn add_return(
     targets: &mut Vec<Node>,
     alloc: Global,
-    key: &NodeKey,
-    state: &AbsState,
-    way: &Way,
+    caller: &Caller<'_>,
     exit: &Exit,
     leaving: &AbsState,
 ) -> Result<(), AllocError>
     requires { (r : ℕ) → r < 32 → NamesRegister (value_at leaving.now.registers r).tag }
-    ensures { OnOk result (targets.new.items ≡ targets.old.items ++ returned_to key.now state.now way.now exit.now leaving.now) }
+    ensures { OnOk result (targets.new.items ≡ targets.old.items ++ returned_to caller.now.key.now caller.now.state.now caller.now.way exit.now leaving.now) }
 {
-    let Some(after) = state.returned(alloc, leaving)? else {
+    let Some(node) = returned(alloc, caller, exit, leaving)? else {
         return Ok(());
     };
-    targets.push(Node {
-        key: returned_key(way.kind, key, way.back, exit),
-        state: after,
-    })?;
+    targets.push(node)?;
     Ok(())
 }
 
@@ -72,37 +72,33 @@ fn add_back(
     targets: &mut Vec<Node>,
     alloc: Global,
     table: &Table,
-    key: &NodeKey,
-    state: &AbsState,
-    way: &Way,
-    port: &Port,
+    caller: &Caller<'_>,
+    leaver: &Crossing,
 ) -> Result<(), AllocError>
     requires { AreFormed table.now }
-    ensures { OnOk result (targets.new.items ≡ targets.old.items ++ back_at table.now key.now state.now way.now port.now) }
+    ensures { OnOk result (targets.new.items ≡ targets.old.items ++ back_at table.now caller.now.key.now caller.now.state.now caller.now.way leaver.now) }
 {
-    let Some(leaving) = table.get(&port.node) else {
+    let Some(leaving) = table.get(&leaver.node) else {
         return Ok(());
     };
-    add_return(targets, alloc, key, state, way, &port.exit, leaving)
+    add_return(targets, alloc, caller, &leaver.exit, leaving)
 }
 
 fn add_backs(
     targets: &mut Vec<Node>,
     alloc: Global,
     table: &Table,
-    leavers: &Ports,
-    key: &NodeKey,
-    state: &AbsState,
-    way: &Way,
+    leavers: &Crossings,
+    caller: &Caller<'_>,
 ) -> Result<(), AllocError>
     requires { AreFormed table.now }
-    ensures { OnOk result (targets.new.items ≡ targets.old.items ++ backs_in table.now leavers.now key.now state.now way.now) }
+    ensures { OnOk result (targets.new.items ≡ targets.old.items ++ backs_in table.now leavers.now caller.now.key.now caller.now.state.now caller.now.way) }
 {
-    let Some(ports) = leavers.at(&way.inst) else {
+    let Some(list) = leavers.at(&caller.way.inst) else {
         return Ok(());
     };
-    for at in 0..ports.len() {
-        add_back(targets, alloc, table, key, state, way, &ports[at])?;
+    for at in 0..list.len() {
+        add_back(targets, alloc, table, caller, &list[at])?;
     }
     Ok(())
 }
@@ -111,7 +107,7 @@ fn add_all_backs(
     targets: &mut Vec<Node>,
     alloc: Global,
     table: &Table,
-    leavers: &Ports,
+    leavers: &Crossings,
     key: &NodeKey,
     state: &AbsState,
     ways: &[Way],
@@ -120,54 +116,44 @@ fn add_all_backs(
     ensures { OnOk result (targets.new.items ≡ targets.old.items ++ all_backs table.now leavers.now key.now state.now ways.now) }
 {
     for at in 0..ways.len() {
-        add_backs(targets, alloc, table, leavers, key, state, &ways[at])?;
+        let way = ways[at];
+        let caller = Caller { key, state, way };
+        add_backs(targets, alloc, table, leavers, &caller)?;
     }
     Ok(())
 }
 
 // ---- to the nodes that enter what a node leaves
 
-// How the port's node enters.
-fn way_of(port: &Port) -> Way
-    ensures { result ≡ way_of port.now }
-{
-    Way {
-        kind: port.kind,
-        inst: port.inst,
-        back: port.back,
-    }
-}
-
 fn add_onward(
     targets: &mut Vec<Node>,
     alloc: Global,
     table: &Table,
+    inst: &InstKey,
     leaving: &AbsState,
     exit: &Exit,
-    port: &Port,
+    entering: &Crossing,
 ) -> Result<(), AllocError>
     requires { (r : ℕ) → r < 32 → NamesRegister (value_at leaving.now.registers r).tag }
-    ensures { OnOk result (targets.new.items ≡ targets.old.items ++ onward_at table.now leaving.now exit.now port.now) }
+    ensures { OnOk result (targets.new.items ≡ targets.old.items ++ onward_at table.now inst.now leaving.now exit.now entering.now) }
 {
-    let Some(state) = table.get(&port.node) else {
+    let key = &entering.node;
+    let Some(state) = table.get(key) else {
         return Ok(());
     };
-    add_return(
-        targets,
-        alloc,
-        &port.node,
-        state,
-        &way_of(port),
-        exit,
-        leaving,
-    )
+    let way = Way {
+        kind: entering.kind,
+        inst: *inst,
+        back: entering.back,
+    };
+    add_return(targets, alloc, &Caller { key, state, way }, exit, leaving)
 }
 
 fn add_onwards(
     targets: &mut Vec<Node>,
     alloc: Global,
     table: &Table,
-    callers: &Ports,
+    callers: &Crossings,
     inst: &InstKey,
     leaving: &AbsState,
     exit: Option<Exit>,
@@ -178,11 +164,11 @@ fn add_onwards(
     let Some(exit) = exit else {
         return Ok(());
     };
-    let Some(ports) = callers.at(inst) else {
+    let Some(list) = callers.at(inst) else {
         return Ok(());
     };
-    for at in 0..ports.len() {
-        add_onward(targets, alloc, table, leaving, &exit, &ports[at])?;
+    for at in 0..list.len() {
+        add_onward(targets, alloc, table, inst, leaving, &exit, &list[at])?;
     }
     Ok(())
 }
@@ -224,20 +210,47 @@ fn add_targets(
     add_moves(targets, x.part.same.into_vec())
 }
 
+// Joins a node into those of its key that are gathered, unless it lands in the family.
+fn gather_one(next: &mut Table, table: &Table, node: Node) -> Result<(), AllocError>
+    requires { IsNode node.key node.state }
+    ensures { OnOk result (IsGathered table.now next.old node next.new) }
+{
+    if table.covers(&node) {
+        return Ok(());
+    }
+    next.raise(node)?;
+    Ok(())
+}
+
+fn gather(next: &mut Table, table: &Table, nodes: Vec<Node>) -> Result<(), AllocError>
+    requires { AreNodes nodes.items }
+    ensures { (before : List node_type.Node) → AreGathered table.now before next.old → OnOk result (AreGathered table.now (before ++ nodes.items) next.new) }
+{
+    for node in nodes {
+        gather_one(next, table, node)?;
+    }
+    Ok(())
+}
+
 /// What the edges lead to that these nodes have: their own, those back to them over nodes that are noted as leaving what they enter,
-/// and those over them to nodes that are noted as entering their instances.
+/// and those over them to nodes that are noted as entering their instances. One state for each key, ascending by key, and none that
+/// lands in the family.
 pub fn targets(
     alloc: Global,
     table: &Table,
     notes: &Notes,
     looks: Vec<Look>,
 ) -> Result<Vec<Node>, AllocError>
-    requires { AreFormed table.now }
-    ensures { IfOk result (λ all. all.items ≡ all_targets table.now notes.now looks.items) }
+    requires formed { AreFormed table.now }
+    requires nodes { AreNodes (all_targets table.now notes.now looks.items) }
+    ensures { IfOk result (λ all. AreBeyond table.now (all_targets table.now notes.now looks.items) all.items) }
 {
-    let mut all = Vec::new(alloc);
+    let mut next = Table::new(alloc);
     for x in looks {
-        add_targets(&mut all, alloc, table, notes, x)?;
+        let mut nodes = Vec::new(alloc);
+        add_targets(&mut nodes, alloc, table, notes, x)?;
+        gather(&mut next, table, nodes)?;
     }
+    let all = next.into_sorted(alloc)?;
     Ok(all)
 }

@@ -28,6 +28,18 @@ pub join_all-requires-clause-formed : goal.join_all-requires-clause-formed
 join_all-requires-clause-formed c =
     formed c.args.flash.now c.args.assumptions.now c.args.steps c.rounds.left c.rounds.table c.rounds.counted c.rounds.work.items c.rounds.notes c.rounds.invariant
 
+pub join_all-requires-clause-nodes : goal.join_all-requires-clause-nodes
+join_all-requires-clause-nodes c = c.in_ok-nodes.ensures.ready.round.formed
+
+pub join_all-requires-clause-count : goal.join_all-requires-clause-count
+join_all-requires-clause-count c = c.rounds.invariant.counted
+
+pub join_all-requires-clause-fresh : goal.join_all-requires-clause-fresh
+join_all-requires-clause-fresh c = c.in_ok-nodes.ensures.ready.fresh
+
+pub join_all-requires-clause-apart : goal.join_all-requires-clause-apart
+join_all-requires-clause-apart c = c.in_ok-nodes.ensures.ready.apart
+
 pub returns-in_err-changed-clause-why_not : goal.returns-in_err-changed-clause-why_not
 returns-in_err-changed-clause-why_not c =
     handed_on c.from_residual-in_err-changed.result Memory (IsWhyNot c.args.flash.now c.args.assumptions.now c.args.steps) c.from_residual-in_err-changed.ensures.1 tt

@@ -1,7 +1,7 @@
-use Rattle.std.proofs.Common.{◌≢◌}
+use Rattle.std.proofs.Common.{◌≢◌, refl}
 use Rattle.round_rules.specs.declared.refusal.Refusal.TheVariants.{Memory}
 use Rattle.fixpoint.specs.Tests.{IsStopped}
-use Rattle.fixpoint.proofs.Ready.{handed_on, too_large, has_fault, looks_fit, few_insts, told_stops, is_ready, noted_known}
+use Rattle.fixpoint.proofs.Ready.{handed_on, too_large, has_fault, looks_fit, few_insts, told_stops, targets_fit, is_ready, noted_known}
 use Rattle.fixpoint.proofs.rounds.next_nodes.Goals as goal
 
 pub returns-in_err-check_size-clause-stopped : goal.returns-in_err-check_size-clause-stopped
@@ -33,6 +33,13 @@ returns-in_err-check_nesting-clause-stopped c =
     (told_stops c.args.flash.now c.args.assumptions.now c.args.table.now c.note_all.new.self c.in_ok-check_size.ensures.fits
     (noted_known c.args.flash.now c.args.assumptions.now c.args.table.now c.args.work.now c.args.notes.now c.note_all.new.self c.in_ok-seen.seen c.deref.result.now c.requires.turn
     c.in_ok-seen.ensures c.in_default.is c.deref.ensures.value c.in_ok-note_all.ensures.noted) c.in_err-check_nesting.field-0.0 c.requires.root c.in_err-check_nesting.ensures.told)
+
+pub targets-requires-clause-nodes : goal.targets-requires-clause-nodes
+targets-requires-clause-nodes c =
+    targets_fit c.args.flash.now c.args.assumptions.now c.args.table.now c.args.work.now c.args.notes.now c.note_all.new.self c.check_nesting.new.nesting c.in_ok-seen.seen
+    c.in_ok-seen.seen.looks.items c.requires.formed c.in_ok-check_size.ensures.fits c.requires.turn c.in_ok-seen.ensures c.in_default.is
+    (noted_known c.args.flash.now c.args.assumptions.now c.args.table.now c.args.work.now c.args.notes.now c.note_all.new.self c.in_ok-seen.seen c.deref.result.now c.requires.turn
+    c.in_ok-seen.ensures c.in_default.is c.deref.ensures.value c.in_ok-note_all.ensures.noted) c.in_ok-check_nesting.ensures.same refl
 
 pub returns : goal.returns
 returns c = record {

@@ -1,7 +1,7 @@
 use Rattle.std.proofs.Common.{◌∙◌, sym, ap, subst}
 use Rattle.round_rules.specs.Families.{Family, AreFormed, cells}
 use Rattle.round_laws.specs.Steps.{raised_all}
-use Rattle.fixpoint.proofs.Ending.{no_cells, no_nodes, root_nodes, first_is, pushed_root}
+use Rattle.fixpoint.proofs.Ending.{no_cells, no_nodes, root_nodes, root_fresh, root_apart, first_is, pushed_root}
 use Rattle.fixpoint.proofs.rounds.start.Goals as goal
 
 pub join_all-requires-clause-count : goal.join_all-requires-clause-count
@@ -13,6 +13,15 @@ join_all-requires-clause-formed c = subst AreFormed (sym c.requires) no_nodes
 pub join_all-requires-clause-nodes : goal.join_all-requires-clause-nodes
 join_all-requires-clause-nodes c =
     root_nodes c.push.new.self.items
+    (pushed_root c.push.new.self.items c.new-nodes.result.items c.entry.result c.root.result c.root-2.result c.in_ok-push.ensures.items c.new-nodes.ensures.items c.entry.ensures
+    c.root.ensures c.root-2.ensures)
+
+pub join_all-requires-clause-fresh : goal.join_all-requires-clause-fresh
+join_all-requires-clause-fresh c = root_fresh c.args.table.now c.push.new.self.items c.requires
+
+pub join_all-requires-clause-apart : goal.join_all-requires-clause-apart
+join_all-requires-clause-apart c =
+    root_apart c.push.new.self.items
     (pushed_root c.push.new.self.items c.new-nodes.result.items c.entry.result c.root.result c.root-2.result c.in_ok-push.ensures.items c.new-nodes.ensures.items c.entry.ensures
     c.root.ensures c.root-2.ensures)
 

@@ -3,15 +3,18 @@ use Rattle.std.specs.Vec.Iter.{into_iter_items}
 use Rattle.local_rules.specs.declared.local.Node.{Node}
 use Rattle.local_laws.specs.Laws.{AreNodes}
 use Rattle.local_laws.proofs.AllLaws.{here}
-use Rattle.round_steps.specs.Joins.{SoFar}
+use Rattle.round_laws.specs.Steps.{AreApart}
+use Rattle.round_steps.specs.Joins.{AreNew, SoFar}
 use Rattle.round_steps.proofs.Joins.{none_yet, one_more}
 use Rattle.round_steps.proofs.joining.join_all.Goals as goal
 
 pub loop-node-init : goal.loop-node-init
 loop-node-init c =
     let items = into_iter_items c.into_iter-node-iterator.result in
+    let same = sym c.into_iter-node-iterator.ensures.into_iter_gives.0 in
     subst (SoFar c.args.table.now items c.args.table.now c.args.counted.now items) (sym c.new-changed.ensures.items)
-    (none_yet c.args.table.now c.args.counted.now items c.requires.count c.requires.formed (subst AreNodes (sym c.into_iter-node-iterator.ensures.into_iter_gives.0) c.requires.nodes))
+    (none_yet c.args.table.now c.args.counted.now items c.requires.count c.requires.formed (subst AreNodes same c.requires.nodes)
+    (subst (AreNew c.args.table.now) same c.requires.fresh) (subst AreApart same c.requires.apart))
 
 pub join_one-requires-clause-node : goal.join_one-requires-clause-node
 join_one-requires-clause-node c =
@@ -24,6 +27,7 @@ pub loop-node-preserved : goal.loop-node-preserved
 loop-node-preserved c =
     let all = into_iter_items c.into_iter-node-iterator.result in
     let left = into_iter_items c.next.new.self in
-    one_more c.args.table.now all c.loop-node.table c.join_one.new.table c.in-Some.node left c.loop-node.changed.items c.note.new.changed.items c.in_ok-grew.grew c.loop-node.counted c.join_one.new.counted
+    one_more c.args.table.now all c.loop-node.table c.in-Some.node left c.loop-node.changed.items c.loop-node.counted
     (subst (λ (l : List Node). SoFar c.args.table.now all c.loop-node.table c.loop-node.counted l c.loop-node.changed.items) c.in-Some.ensures.steps.0 c.loop-node.invariant)
-    c.in_ok-grew.ensures.joined c.in_ok-grew.ensures.grew c.in_ok-grew.ensures.count c.in_ok-note.ensures
+    c.join_one.new.table c.push.new.self.items c.join_one.new.counted
+    c.in_ok-join_one.ensures.joined c.in_ok-join_one.ensures.count c.in_ok-push.ensures.items

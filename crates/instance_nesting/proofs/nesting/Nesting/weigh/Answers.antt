@@ -7,15 +7,14 @@ use Rattle.instance_nesting.specs.Nestings.{Noted, Spot, Entrance, AreOnce, AreA
 use Rattle.instance_nesting.specs.Drawn.{insts_of, IsDrawn}
 use Rattle.instance_nesting.proofs.Keeping.{insts_once, root_kept, alike}
 use Rattle.instance_nesting.proofs.Telling.{tells_all}
-use Rattle.instance_nesting.proofs.Covering.{light, granted}
+use Rattle.instance_nesting.proofs.Covering.{light}
 use Rattle.instance_nesting.proofs.nesting.Nesting.weigh.Goals as goal
 
 pub returns-then-allow_root-clause-tells : goal.returns-then-allow_root-clause-tells
 returns-then-allow_root-clause-tells c =
     let old : Noted = record { insts = insts_of c.self.inside.has_root c.self.inside.others.keys; spots = c.self.inside.spots.keys; entrances = c.self.inside.entrances.keys } in
     subst (λ (n : Noted). TellsAll c.args.size n Light) c.self.view_is
-    (light c.args.size (root_inst ∷ c.self.inside.others.keys) c.self.inside.allowances.known.items c.self.inside.allowances.unknown old
-    (c.allow_root.ensures c.if-allow_root.true) (c.self.invariant.covers c.if-self.true))
+    (light c.args.size c.self.inside.allowances.map.entries old (c.allow_root.ensures c.if-allow_root.true) (c.self.invariant.covers c.if-self.true))
 
 pub returns-then-allow_root-clause-once : goal.returns-then-allow_root-clause-once
 returns-then-allow_root-clause-once c = subst (λ (n : Noted). AreOnce n.insts) c.self.view_is (insts_once c.self.inside.has_root c.self.inside.others.keys c.self.invariant.apart)
@@ -33,16 +32,9 @@ returns-in_err-graph-clause-once c = subst (λ (n : Noted). AreOnce n.insts) c.s
 pub returns-in_err-weight-clause-once : goal.returns-in_err-weight-clause-once
 returns-in_err-weight-clause-once c = subst (λ (n : Noted). AreOnce n.insts) c.self.view_is (insts_once c.self.inside.has_root c.self.inside.others.keys c.self.invariant.apart)
 
-pub invariant_of-self : goal.invariant_of-self
-invariant_of-self c =
-    let others : List InstKey = c.self.inside.others.keys in
-    let gs : List GraphInst = c.in_ok-graph.graph.instances in
-    let old : Noted = record { insts = insts_of c.self.inside.has_root c.self.inside.others.keys; spots = c.self.inside.spots.keys; entrances = c.self.inside.entrances.keys } in
-    let drawn : IsDrawn (root_inst ∷ others) old.spots old.entrances gs =
-    subst (λ (es : List Entrance). IsDrawn (root_inst ∷ others) old.spots es gs) c.as_slice-2.ensures.keys
-    (subst (λ (ss : List Spot). IsDrawn (root_inst ∷ others) ss c.as_slice-2.result.now gs) c.as_slice.ensures.keys c.in_ok-graph.ensures) in
-    granted others old.spots old.entrances gs c.in_ok-weight.field-0.allowances c.in-Some.allowances (c.len.result + 1) c.self.invariant.apart drawn
-    (omega (arith, c.len.ensures.len)) c.in-Some.is c.in_ok-weight.ensures.room
+pub returns-in_err-allowances-in-Some-clause-once : goal.returns-in_err-allowances-in-Some-clause-once
+returns-in_err-allowances-in-Some-clause-once c =
+    subst (λ (n : Noted). AreOnce n.insts) c.self.view_is (insts_once c.self.inside.has_root c.self.inside.others.keys c.self.invariant.apart)
 
 pub returns-in-Some-clause-tells : goal.returns-in-Some-clause-tells
 returns-in-Some-clause-tells c =
@@ -54,7 +46,7 @@ returns-in-Some-clause-tells c =
     (subst (λ (ss : List Spot). IsDrawn (root_inst ∷ others) ss c.as_slice-2.result.now gs) c.as_slice.ensures.keys c.in_ok-graph.ensures) in
     subst (λ (n : Noted). TellsAll c.args.size n c.in_ok-weight.field-0.weight) c.self.view_is
     (tells_all old others gs drawn (ap (λ b. insts_of b others) c.if-not-self.false) (insts_once c.self.inside.has_root others c.self.invariant.apart)
-    c.args.size c.in_ok-weight.field-0.weight c.in_ok-weight.ensures.tells)
+    c.args.size c.in_ok-weight.field-0.weight c.in_ok-weight.ensures)
 
 pub returns-in-Some-clause-same : goal.returns-in-Some-clause-same
 returns-in-Some-clause-same c =
@@ -74,7 +66,7 @@ returns-clause-tells c =
     (subst (λ (ss : List Spot). IsDrawn (root_inst ∷ others) ss c.as_slice-2.result.now gs) c.as_slice.ensures.keys c.in_ok-graph.ensures) in
     subst (λ (n : Noted). TellsAll c.args.size n c.in_ok-weight.field-0.weight) c.self.view_is
     (tells_all old others gs drawn (ap (λ b. insts_of b others) c.if-not-self.false) (insts_once c.self.inside.has_root others c.self.invariant.apart)
-    c.args.size c.in_ok-weight.field-0.weight c.in_ok-weight.ensures.tells)
+    c.args.size c.in_ok-weight.field-0.weight c.in_ok-weight.ensures)
 
 pub returns-clause-once : goal.returns-clause-once
 returns-clause-once c = subst (λ (n : Noted). AreOnce n.insts) c.self.view_is (insts_once c.self.inside.has_root c.self.inside.others.keys c.self.invariant.apart)

@@ -1,0 +1,87 @@
+-- Targets as they are gathered.
+use Rattle.std.proofs.Common.{◌≡◌, ◌≢◌, refl, sym, ap, ◌∙◌, subst, ◌⊎◌, inl, inr, ⊎_elim, List, [], ◌∷◌, ◌++◌, Some, Contains, append_assoc}
+use Rattle.std.proofs.lemmas.List.{append-nil}
+use Rattle.std.proofs.lemmas.List.Elements.{Contains-append_left, Contains-push, Contains-push_cases}
+use Rattle.std.specs.FinMap.{get, empty, get-empty}
+use Rattle.abs_state.specs.declared.state.AbsState.{AbsState}
+use Rattle.abs_state.specs.Order.{IsStateWithin}
+use Rattle.abs_state.proofs.AllLaws.{states_are_ordered}
+use Rattle.mask_states.specs.declared.keys.NodeKey.{NodeKey}
+use Rattle.mask_states.specs.Order.{node_cmp}
+use Rattle.local_rules.specs.declared.local.Node.{Node}
+use Rattle.local_rules.specs.Cover.{IsNode}
+use Rattle.local_laws.specs.Laws.{AreNodes}
+use Rattle.local_laws.proofs.AllLaws.{none_in, here, each_of}
+use Rattle.call_graph.specs.Next.{gathered}
+use Rattle.round_rules.specs.Families.{Family, nodes_of, Has, Lands, AreFormed}
+use Rattle.round_laws.specs.Steps.{joined_with, raised, AreJoined}
+use Rattle.round_laws.proofs.AllLaws.{families_are_their_nodes, rounds_are_joins, lands_up, lands_covered, at_keys, get_same, get_other, some_same}
+use Rattle.round_steps.specs.Gathers.{IsGathered, AreGathered, AreBeyond}
+
+nothing_there : (n : Node) → Has empty n → ⊥
+nothing_there n has = let never = sym (get-empty {X = AbsState} node_cmp n.key) ∙ has in cc
+
+pub none_gathered : (f : Family) → AreGathered f [] empty
+none_gathered f = record {
+  formed = λ n has. absurd (nothing_there n has);
+  each = λ to i. absurd (none_in to i);
+  least = λ h lands n has. absurd (nothing_there n has);
+  beyond = λ n has lands. nothing_there n has;
+}
+
+-- what is at or below a node that lands does so too
+lands_below : (f : Family) (n m : Node) → m.key ≡ n.key → IsStateWithin n.state m.state → Lands f m → Lands f n
+lands_below f n m same below l =
+    record { at = l.at; is = subst (λ (k : NodeKey). get f k ≡ Some l.at) same l.is; above = states_are_ordered.through n.state m.state l.at below l.above }
+
+module _ (f old : Family) (all : List Node) (n : Node) (node : IsNode n.key n.state) (g : AreGathered f all old) where
+  lands_already : Lands f n → AreGathered f (all ++ n ∷ []) old
+  lands_already l = record {
+    formed = g.formed;
+    each = λ to i. ⊎_elim (g.each to) (λ same. inl (subst (Lands f) same l)) (Contains-push_cases all n to i);
+    least = λ h lands. g.least h (λ to i. lands to (Contains-append_left all (n ∷ []) to i));
+    beyond = g.beyond;
+  }
+
+  joined : AreJoined old (n ∷ []) (raised old n)
+  joined = rounds_are_joins.joined old (n ∷ []) g.formed (each_of (λ m. IsNode m.key m.state) n [] node (λ m i. absurd (none_in m i)))
+
+  landed : Lands (raised old n) n
+  landed = joined.lands n (here n [])
+
+  beyond_still : (Lands f n → ⊥) → (m : Node) → Has (raised old n) m → Lands f m → ⊥
+  beyond_still never m has =
+      at_keys (λ q. (s : AbsState) → get (raised old n) q ≡ Some s → Lands f (record { key = q; state = s }) → ⊥) n.key m.key
+      (λ s e l.
+      never (lands_below f n (record { key = n.key; state = s }) refl (subst (IsStateWithin n.state) (some_same landed.at s (sym landed.is ∙ e)) landed.above) l))
+      (λ ne s e l. g.beyond (record { key = m.key; state = s }) (sym (get_other old n.key (joined_with (get old n.key) n.state) m.key ne) ∙ e) l) m.state has
+
+  joins_in : (Lands f n → ⊥) → AreGathered f (all ++ n ∷ []) (raised old n)
+  joins_in never = record {
+    formed = joined.formed;
+    each = λ to i. ⊎_elim (λ j. ⊎_elim (λ l. inl l) (λ l. inr (lands_up old (raised old n) to joined.above l)) (g.each to j))
+        (λ same. inr (subst (Lands (raised old n)) same landed)) (Contains-push_cases all n to i);
+    least = λ h lands. joined.least h (g.least h (λ to i. lands to (Contains-append_left all (n ∷ []) to i)))
+        (each_of (Lands h) n [] (lands n (Contains-push all n)) (λ m i. absurd (none_in m i)));
+    beyond = beyond_still never;
+  }
+
+  pub one_gathered : (new : Family) → IsGathered f old n new → AreGathered f (all ++ n ∷ []) new
+  one_gathered new is =
+      ⊎_elim (λ p. subst (AreGathered f (all ++ n ∷ [])) (sym p.1) (lands_already p.0)) (λ p. subst (AreGathered f (all ++ n ∷ [])) (sym p.1) (joins_in p.0)) is
+
+-- ---- look by look
+
+pub gathered_push : {X Y : Type 0} (f : X → List Y) (xs : List X) (x : X) → gathered f (xs ++ x ∷ []) ≡ gathered f xs ++ f x
+gathered_push f [] x = append-nil (f x)
+gathered_push f (y ∷ ys) x = ap (λ l. f y ++ l) (gathered_push f ys x) ∙ sym (append_assoc (f y) (gathered f ys) (f x))
+
+-- the nodes of what is gathered
+pub are_beyond : (f : Family) (all : List Node) (g : Family) → AreGathered f all g → AreBeyond f all (nodes_of g)
+are_beyond f all g a = record {
+  nodes = λ n i. a.formed n ((families_are_their_nodes.members g n).0 i);
+  each = λ to i. ⊎_elim (λ l. inl l) (λ l. inr (lands_covered g to l)) (a.each to i);
+  least = λ h lands n i. a.least h lands n ((families_are_their_nodes.members g n).0 i);
+  beyond = λ n i. a.beyond n ((families_are_their_nodes.members g n).0 i);
+  apart = families_are_their_nodes.apart g;
+}

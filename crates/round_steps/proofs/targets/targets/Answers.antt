@@ -1,0 +1,52 @@
+use Rattle.std.proofs.Common.{List, ◌++◌, ◌∷◌, [], sym, subst, ap, ◌∙◌}
+use Rattle.std.specs.Vec.Iter.{into_iter_items}
+use Rattle.std.proofs.lemmas.List.{map-id}
+use Rattle.std.proofs.lemmas.Iterator.Adapters.{YieldsList-from_vec}
+use Rattle.std.proofs.lemmas.Iterator.Consumers.{YieldsList-end}
+use Rattle.std.proofs.lemmas.List.Elements.{Contains-append_left, Contains-append_right}
+use Rattle.local_rules.specs.declared.local.Node.{Node}
+use Rattle.local_laws.specs.Laws.{AreNodes}
+use Rattle.round_steps.specs.declared.looking.Look.{Look}
+use Rattle.round_steps.specs.Targets.{targets_of, all_targets}
+use Rattle.round_steps.specs.Gathers.{AreGathered, AreBeyond}
+use Rattle.round_steps.proofs.Gathers.{none_gathered, gathered_push, are_beyond}
+use Rattle.round_steps.proofs.targets.targets.Goals as goal
+
+pub loop-x-init : goal.loop-x-init
+loop-x-init c = (
+  subst (AreGathered c.args.table.now []) (sym c.new-next.ensures) (none_gathered c.args.table.now),
+  subst (λ (xs : List Look). AreNodes (all_targets c.args.table.now c.args.notes.now xs)) (sym c.into_iter-x-iterator.ensures.into_iter_gives.0) c.requires.nodes,
+)
+
+pub gather-requires : goal.gather-requires
+gather-requires c =
+    let f = c.args.table.now in
+    let notes = c.args.notes.now in
+    let left = into_iter_items c.next.new.self in
+    let all = subst (λ (xs : List Look). AreNodes (all_targets f notes xs)) c.in-Some.ensures.steps.0 c.loop-x.invariant.1 in
+    subst AreNodes (sym (c.in_ok-add_targets.ensures ∙ ap (λ (ns : List Node). ns ++ targets_of f notes c.in-Some.x) c.new-nodes.ensures.items))
+    (λ n i. all n (Contains-append_left (targets_of f notes c.in-Some.x) (all_targets f notes left) n i))
+
+pub loop-x-preserved : goal.loop-x-preserved
+loop-x-preserved c =
+    let f = c.args.table.now in
+    let notes = c.args.notes.now in
+    let left = into_iter_items c.next.new.self in
+    let all = subst (λ (xs : List Look). AreNodes (all_targets f notes xs)) c.in-Some.ensures.steps.0 c.loop-x.invariant.1 in
+    let found = c.in_ok-add_targets.ensures ∙ ap (λ (ns : List Node). ns ++ targets_of f notes c.in-Some.x) c.new-nodes.ensures.items in (
+      subst (λ (l : List Node). AreGathered f l c.gather.new.next)
+          (ap (λ (ns : List Node). all_targets f notes c.loop-x.yielded ++ ns) found ∙ sym (gathered_push (targets_of f notes) c.loop-x.yielded c.in-Some.x))
+          (c.in_ok-gather.ensures (all_targets f notes c.loop-x.yielded) c.loop-x.invariant.0),
+      λ n i. all n (Contains-append_right (targets_of f notes c.in-Some.x) (all_targets f notes left) n i),
+    )
+
+pub returns : goal.returns
+returns c =
+    let f = c.args.table.now in
+    let gives = c.into_iter-x-iterator.ensures.into_iter_gives in
+    let road = YieldsList-from_vec {s = c.into_iter-x-iterator.result} c.args.looks.items gives.0 (gives.1 ∙ c.args.looks.ok.0) in
+    let end = YieldsList-end road c.loop-x.yielded c.loop-x.x-iterator c.loop-x.yielded_by c.next.result c.next.new.self c.in-None.is c.next.ensures.steps in
+    let all = sym (map-id c.loop-x.yielded) ∙ end.0 in
+    subst (AreBeyond f (all_targets f c.args.notes.now c.args.looks.items)) (sym c.in_ok-all.ensures)
+    (are_beyond f (all_targets f c.args.notes.now c.args.looks.items) c.loop-x.next
+    (subst (λ (xs : List Look). AreGathered f (all_targets f c.args.notes.now xs) c.loop-x.next) all c.loop-x.invariant.0))
