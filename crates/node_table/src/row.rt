@@ -1,4 +1,6 @@
-//! Rows of the table: a node with the two words of firmware that stand there, and what is known of the machine.
+//! Rows of the table: a node with the words of firmware that stand there, and what is known of the machine.
+
+ghost use Rattle.std.specs.Prelude.{◌<◌};
 
 use abs_state::{AbsByte, AbsFlags, AbsState};
 use avr_model::device::{Device, WORDS};
@@ -9,11 +11,16 @@ use sp_domain::{CarryTag, Slot, Slots, Tag};
 use std::alloc::{AllocError, Global};
 use vector_table::Masks;
 
+/// A word of flash that nothing was written to.
+const ERASED: u16 = 0xFFFF;
+
 /// A node of the table.
 #[derive(Drop)]
 pub struct Row {
     /// The word at the node and the word behind it.
     words: (u16, u16),
+    /// The two words behind these.
+    behind: (u16, u16),
     /// The device.
     device: Device,
     /// Its key.
@@ -72,6 +79,14 @@ fn form(text: &str) -> Option<SpForm> {
         None => High::Tag(number(high.strip_prefix('t')?)?),
     };
     Some(SpForm::Open(offset, high))
+}
+
+// One word, or two with a comma between them.
+fn behind(text: &str) -> Option<(u16, u16)> {
+    match text.split_once(',') {
+        Some((first, second)) => Some((number(first)?, number(second)?)),
+        None => Some((number(text)?, ERASED)),
+    }
 }
 
 // A tag as certificates spell it: `-`, `f`, `e` and a register, `l` and a byte, `h` and a number.
@@ -145,6 +160,7 @@ impl Row {
         };
         Ok(Row {
             words,
+            behind: (ERASED, ERASED),
             device: Device::M328,
             key: NodeKey {
                 sp,
@@ -195,6 +211,8 @@ impl Row {
     fn set(&mut self, name: &str, text: &str) -> Option<()> {
         if name == "pc" {
             self.key.pc = number(text)?;
+        } else if name == "behind" {
+            self.behind = behind(text)?;
         } else if name == "masks" {
             self.key.masks = Masks::from_bits(u32::from_str_radix(text, 16).ok()?)?;
         } else if name == "device" {
@@ -211,14 +229,22 @@ impl Row {
         Some(())
     }
 
-    /// The device's flash with the two words at the node, modulo the number of its words, and erased words elsewhere.
+    // The byte address of a word so many words from the node, modulo the number of words.
+    fn address(&self, words: u16) -> u16
+        ensures { result < 32767 }
+    {
+        self.device.wrap(self.key.pc.wrapping_add(words)) % WORDS * 2
+    }
+
+    /// The device's flash with the four words at the node, modulo the number of its words, and erased words elsewhere.
     pub fn flash(&self, alloc: Global) -> Result<Option<Flash>, AllocError> {
         let (first, second) = self.words;
-        let at = self.device.wrap(self.key.pc) % WORDS;
-        let behind = self.device.wrap(at + 1) % WORDS;
+        let (third, fourth) = self.behind;
         let mut flash = Flash::erased(alloc)?;
-        flash.place(at * 2, &first.to_le_bytes());
-        flash.place(behind * 2, &second.to_le_bytes());
+        flash.place(self.address(0), &first.to_le_bytes());
+        flash.place(self.address(1), &second.to_le_bytes());
+        flash.place(self.address(2), &third.to_le_bytes());
+        flash.place(self.address(3), &fourth.to_le_bytes());
         Ok(flash.narrow(self.device).ok())
     }
 }
