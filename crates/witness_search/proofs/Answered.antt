@@ -8,16 +8,12 @@ use Rattle.mask_states.specs.declared.keys.EdgeKind.{EdgeKind}
 use Rattle.local_rules.specs.declared.local.Node.{Node}
 use Rattle.edge_rules.specs.Expansion.{IsFilled}
 use Rattle.expansion_laws.specs.Laws.{FilledOrMissing}
-use Rattle.nesting_bound.specs.declared.graph.GraphInst.{GraphInst}
 use Rattle.nesting_bound.specs.declared.graph.Link.{Link}
-use Rattle.nesting_bound.specs.Chain.{IsChain}
-use Rattle.nesting_bound.specs.Least.{IsLeast}
-use Rattle.family_graph.specs.Graphs.{IsGraphOf}
 use Rattle.witness_replay.specs.Spelling.{Plan}
 use Rattle.certificate.specs.Claims.{Claim}
 use Rattle.certificate.specs.Valid.{IsSound, MeetsConditions, IsAttained}
 use Rattle.witness_search.specs.declared.waypoint.Waypoint.{Waypoint}
-use Rattle.witness_search.specs.Chains.{interrupt_at, interrupt_of, interrupts_of, AreInterrupts, AreWaypoints}
+use Rattle.witness_search.specs.Chains.{interrupt_at, interrupt_of, interrupts_of, IsDeepest, AreInterrupts, AreWaypoints}
 use Rattle.witness_search.specs.Trials.{Attains, IsFound}
 
 pub attained_as : (words : List ℕ) (A : List Entry) (bound : ℕ) (found : Option Plan) → IfSome found (Attains words A bound) → IsAttained words A bound found
@@ -40,17 +36,13 @@ none_added words nodes xs link points r item none same =
     sym (ap (λ (ws : List Waypoint). points ++ ws) (none_there words (slice_get nodes link.node) link.depth link.kind away) ∙ append-nil points)
 
 -- the interrupts of the chain, whose links are given by another list
-pub interrupts_as : (words : List ℕ) (A : List Entry) (nodes : List Node) (gs : List GraphInst) (ranks needs : List ℕ) (links given : List Link) (points : List Waypoint)
-    → IsGraphOf words A nodes gs → IsLeast gs ranks needs → IsChain gs needs links → given ≡ links → points ≡ interrupts_of words nodes given → AreInterrupts words A nodes points
-interrupts_as words A nodes gs ranks needs links given points family least chain same are =
+pub interrupts_as : (words : List ℕ) (A : List Entry) (nodes : List Node) (need : ℕ) (links given : List Link) (points : List Waypoint)
+    → IsDeepest words A nodes need links → given ≡ links → points ≡ interrupts_of words nodes given → AreInterrupts words A nodes points
+interrupts_as words A nodes need links given points deepest same are =
     record {
-      graph = gs;
-      family = family;
-      ranks = ranks;
-      needs = needs;
-      least = least;
+      need = need;
       links = links;
-      chain = chain;
+      deepest = deepest;
       are = are ∙ ap (interrupts_of words nodes) same;
     }
 

@@ -117,7 +117,7 @@ module _ (words : List ℕ) (A : List Entry) (c : Claim) (nodes : List Node) (me
         let p : Place = record { node = covered.present.0; offset = 0 } in
         (p, (is.places i p).1 (record { inst = inst; is = e; place = record { node = n; at = read nodes n covered.present; same = refl; closed = refl } }))
 
-    root_first : slice_get (insts_of gs) 0 ≡ Some root_inst
+    pub root_first : slice_get (insts_of gs) 0 ≡ Some root_inst
     root_first =
         let has = (is.insts root_inst).1 (record { key = entry_key root_inst; state = meets.reset.state }, meets.reset.present, refl) in
         root_at (insts_of gs) has.0 has.1 is.ascending (read (insts_of gs) root_inst has)
@@ -131,9 +131,9 @@ module _ (words : List ℕ) (A : List Entry) (c : Claim) (nodes : List Node) (me
               place_at h.into e.into h.leads _ (landed h.entry.node e.kind h.into h.entry.back (member h.entry.node e.node h.entry.at) h.entry.enters);
         }
 
-    pub root_need : (ranks needs : List ℕ) → IsLeast gs ranks needs → 0 < length gs → c.bound ≤ 2048 → slice_index needs 0 ≤ 2048
-    root_need ranks needs least some small =
+    pub root_bound : (ranks needs : List ℕ) → IsLeast gs ranks needs → 0 < length gs → slice_index needs 0 ≤ c.bound
+    root_bound ranks needs least some =
         let n = least.least_needs (λ i. need_in c.instances (key_at i)) suffices 0 some in
         let r : key_at 0 ≡ root_inst = sym (key_is 0 root_inst root_first) in
         let root : slice_index needs 0 ≤ need_in c.instances root_inst = subst (λ (x : InstKey). slice_index needs 0 ≤ need_in c.instances x) r n in
-        omega (arith, root, meets.bounded.enough, small)
+        omega (arith, root, meets.bounded.enough)

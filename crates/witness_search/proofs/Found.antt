@@ -14,6 +14,7 @@ use Rattle.witness_replay.specs.Replay.{replay_from, report_unless, steps_of}
 use Rattle.witness_search.specs.declared.waypoint.Waypoint.{Waypoint}
 use Rattle.witness_search.specs.Waypoints.{pick_due, due_left}
 use Rattle.witness_search.specs.Trials.{fills, most_steps, trial_by, trial_of, Succeeds, NoneSucceeds, IsTried, IsFound, Attains}
+use Rattle.witness_search.specs.Laws.{TrialsAreShort}
 use Rattle.witness_search.proofs.Depths.{from_start}
 use Rattle.witness_search.proofs.Runs.{few, ends_well, run_legal}
 
@@ -37,6 +38,10 @@ whole steps words A points bound fill is = ap (λ (n : ℕ). trial_by n words A 
 pub few_choices : (steps : ℕ) (words : List ℕ) (A : List Entry) (points : List Waypoint) (bound fill : ℕ) (cs : List Choice) → steps ≡ most_steps
     → cs ≡ trial_by steps words A points bound fill → length cs ≤ 16777216
 few_choices steps words A points bound fill cs most is = omega (arith, few (pick_due fill) due_left words A bound steps points (starting (filled (device_of words) fill)), ap length is, most, steps_are)
+
+pub short : TrialsAreShort
+unfolding trial_of
+short words A points bound fill = omega (arith, few (pick_due fill) due_left words A bound most_steps points (starting (filled (device_of words) fill)), steps_are)
 
 -- ---- a trial that reaches the bound
 

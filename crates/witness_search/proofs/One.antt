@@ -1,26 +1,45 @@
--- A certificate has one list of waypoints.
-use Rattle.std.proofs.Common.{sym, ap, subst, ◌∙◌, ◌≡◌, ℕ, List}
+-- A family has one deepest chain, and a certificate one list of waypoints.
+use Rattle.std.proofs.Common.{sym, ap, subst, ◌∙◌, ◌≡◌, ℕ, List, slice_index}
 use Rattle.avr_model.specs.declared.assumption.Entry.{Entry}
 use Rattle.local_rules.specs.declared.local.Node.{Node}
 use Rattle.expansion_laws.specs.Laws.{FilledOrMissing}
+use Rattle.nesting_bound.specs.declared.graph.Link.{Link}
 use Rattle.nesting_bound.specs.Chain.{IsChain}
 use Rattle.nesting_bound.specs.Least.{IsLeast}
 use Rattle.nesting_bound.specs.Laws.{AnswersAreOne, ChainsAreOne}
 use Rattle.family_graph.specs.Laws.{GraphsAreAlike}
 use Rattle.witness_search.specs.declared.waypoint.Waypoint.{Waypoint}
-use Rattle.witness_search.specs.Chains.{interrupts_of, AreInterrupts}
-use Rattle.witness_search.specs.Laws.{WaypointsAreOne}
+use Rattle.witness_search.specs.Chains.{interrupts_of, IsDeepest, AreInterrupts}
+use Rattle.witness_search.specs.Laws.{DeepestChainsAreOne, WaypointsAreOne}
 
-module _ (alike : GraphsAreAlike) (answers : AnswersAreOne) (chains : ChainsAreOne) (words : List ℕ) (A : List Entry) where
-  interrupts_are_one : (nodes : List Node) (points points' : List Waypoint) → AreInterrupts words A nodes points → AreInterrupts words A nodes points' → points ≡ points'
-  interrupts_are_one nodes points points' x y =
+module _ (alike : GraphsAreAlike) (answers : AnswersAreOne) (chains : ChainsAreOne) (words : List ℕ) (A : List Entry) (nodes : List Node) (need need' : ℕ) (links links' : List Link)
+    (x : IsDeepest words A nodes need links) (y : IsDeepest words A nodes need' links') where
+  same_needs : y.needs ≡ x.needs
+  same_needs =
       let least : IsLeast x.graph y.ranks y.needs = alike.least words A nodes x.graph y.graph y.ranks y.needs x.family y.family y.least in
-      let needs : y.needs ≡ x.needs = answers.needs x.graph y.ranks y.needs x.ranks x.needs least x.least in
-      let chain : IsChain x.graph x.needs y.links =
-      subst (λ (ns : List ℕ). IsChain x.graph ns y.links) needs (alike.chain words A nodes x.graph y.graph y.needs y.links x.family y.family y.chain) in
-      x.are ∙ ap (interrupts_of words nodes) (chains x.graph x.needs x.links y.links x.chain chain) ∙ sym y.are
+      answers.needs x.graph y.ranks y.needs x.ranks x.needs least x.least
 
-pub waypoints_are_one : FilledOrMissing → GraphsAreAlike → AnswersAreOne → ChainsAreOne → WaypointsAreOne
-waypoints_are_one filled alike answers chains words A c points points' a b =
-    interrupts_are_one alike answers chains words A a.nodes points points' a.interrupts
+  same_need : need ≡ need'
+  same_need = x.root ∙ (ap (λ (ns : List ℕ). slice_index ns 0) (sym same_needs) ∙ sym y.root)
+
+  same_links : links ≡ links'
+  same_links =
+      chains x.graph x.needs links links' x.chain
+      (subst (λ (ns : List ℕ). IsChain x.graph ns links') same_needs (alike.chain words A nodes x.graph y.graph y.needs links' x.family y.family y.chain))
+
+pub deepest_chains_are_one : GraphsAreAlike → AnswersAreOne → ChainsAreOne → DeepestChainsAreOne
+deepest_chains_are_one alike answers chains =
+    record {
+      need = λ words A nodes need need' links links' x y. same_need alike answers chains words A nodes need need' links links' x y;
+      links = λ words A nodes need need' links links' x y. same_links alike answers chains words A nodes need need' links links' x y;
+    }
+
+interrupts_are_one : DeepestChainsAreOne → (words : List ℕ) (A : List Entry) (nodes : List Node) (points points' : List Waypoint) → AreInterrupts words A nodes points
+    → AreInterrupts words A nodes points' → points ≡ points'
+interrupts_are_one deepest words A nodes points points' p q =
+    p.are ∙ (ap (interrupts_of words nodes) (deepest.links words A nodes p.need q.need p.links q.links p.deepest q.deepest) ∙ sym q.are)
+
+pub waypoints_are_one : FilledOrMissing → DeepestChainsAreOne → WaypointsAreOne
+waypoints_are_one filled deepest words A c points points' a b =
+    interrupts_are_one deepest words A a.nodes points points' a.interrupts
     (subst (λ (ns : List Node). AreInterrupts words A ns points') (filled.one words A c.nodes b.nodes a.nodes b.filled a.filled) b.interrupts)

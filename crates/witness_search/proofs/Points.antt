@@ -1,5 +1,5 @@
 -- What is taken of waypoints by a menu is what is picked by its state.
-use Rattle.std.proofs.Common.{◌≡◌, refl, ap, ◌∙◌, ℕ, ◌==◌, ◌&&◌, ◌||◌, not, Bool, true, false, if◌then◌else◌, IsTrue, List, [], ◌∷◌}
+use Rattle.std.proofs.Common.{◌≡◌, refl, ap, ◌∙◌, ℕ, ◌+◌, ◌==◌, ◌&&◌, ◌||◌, not, Bool, true, false, if◌then◌else◌, IsTrue, List, [], ◌∷◌}
 use Rattle.avr_model.specs.declared.choice.Choice.TheVariants.{Go}
 use Rattle.avr_model.specs.Vectors.{is_enabled, WATCHDOG}
 use Rattle.avr_model.specs.State.{State, i_flag}
@@ -17,7 +17,7 @@ last_of true false c d h = cc
 last_of false b c d h = cc
 
 stands_if : (menu : Menu) (fill : ℕ) (w : Waypoint) (b : Bool) → is_due w menu ≡ b → IsTrue (has_choice menu (if b then interrupt_of w else Go fill fill))
-stands_if menu fill w true is = last_of (menu.pc == w.pc) (menu.masks == w.masks) (menu.sp == w.sp) (has_choice menu (interrupt_of w)) is
+stands_if menu fill w true is = last_of (menu.pc == w.pc) (menu.masks == w.masks) (menu.sp + w.depth == w.end) (has_choice menu (interrupt_of w)) is
 stands_if menu fill w false is = refl
 
 -- what is taken stands in the menu
@@ -37,10 +37,10 @@ legal_as menu m w is =
 
 due_as : (menu : Menu) (m : State) (w : Waypoint) → IsMenuOf menu m → is_due w menu ≡ due_at w m
 due_as menu m w is =
-    ap (λ (x : ℕ). (x == w.pc) && (menu.masks == w.masks) && (menu.sp == w.sp) && has_choice menu (interrupt_of w)) is.pc
-    ∙ ap (λ (x : ℕ). (m.pc == w.pc) && (x == w.masks) && (menu.sp == w.sp) && has_choice menu (interrupt_of w)) is.masks
-    ∙ ap (λ (x : ℕ). (m.pc == w.pc) && (m.enables == w.masks) && (x == w.sp) && has_choice menu (interrupt_of w)) is.sp
-    ∙ ap (λ (b : Bool). (m.pc == w.pc) && (m.enables == w.masks) && (m.sp == w.sp) && b) (legal_as menu m w is)
+    ap (λ (x : ℕ). (x == w.pc) && (menu.masks == w.masks) && (menu.sp + w.depth == w.end) && has_choice menu (interrupt_of w)) is.pc
+    ∙ ap (λ (x : ℕ). (m.pc == w.pc) && (x == w.masks) && (menu.sp + w.depth == w.end) && has_choice menu (interrupt_of w)) is.masks
+    ∙ ap (λ (x : ℕ). (m.pc == w.pc) && (m.enables == w.masks) && (x + w.depth == w.end) && has_choice menu (interrupt_of w)) is.sp
+    ∙ ap (λ (b : Bool). (m.pc == w.pc) && (m.enables == w.masks) && (m.sp + w.depth == w.end) && b) (legal_as menu m w is)
 
 pub taken_is : (fill : ℕ) (ws : List Waypoint) (menu : Menu) (m : State) → IsMenuOf menu m → taken fill ws menu ≡ pick_due fill ws m
 taken_is fill [] menu m is = refl

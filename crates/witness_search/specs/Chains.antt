@@ -1,24 +1,25 @@
 -- The waypoints of a certificate: the interrupts of the deepest chain of its family, with the least needs. Source: own.
-use Rattle.std.specs.Prelude.{ℕ, ◌-◌, ◌≡◌, List, [], ◌∷◌, Option, Some, slice_get}
+use Rattle.std.specs.Prelude.{ℕ, ◌≡◌, List, [], ◌∷◌, Option, Some, slice_get, slice_index}
 use Rattle.std.specs.List.{flat_map}
 use Rattle.avr_model.specs.declared.assumption.Entry.{Entry}
 use Rattle.avr_model.specs.Devices.{device_of, ramend}
 use Rattle.mask_states.specs.declared.keys.EdgeKind.{EdgeKind}
 use Rattle.mask_states.specs.declared.keys.EdgeKind.TheVariants.{Interrupt}
+use Rattle.mask_states.specs.Keys.{root_inst}
 use Rattle.local_rules.specs.declared.local.Node.{Node}
 use Rattle.edge_rules.specs.Expansion.{IsFilled}
 use Rattle.nesting_bound.specs.declared.graph.GraphInst.{GraphInst}
 use Rattle.nesting_bound.specs.declared.graph.Link.{Link}
 use Rattle.nesting_bound.specs.Chain.{IsChain}
 use Rattle.nesting_bound.specs.Least.{IsLeast}
-use Rattle.family_graph.specs.Graphs.{IsGraphOf}
+use Rattle.family_graph.specs.Graphs.{insts_of, IsGraphOf}
 use Rattle.certificate.specs.Claims.{Claim}
 use Rattle.witness_search.specs.declared.waypoint.Waypoint.{Waypoint}
 
 -- the interrupt by which a chain goes on from a node, at this depth below where the stack begins on the device
 abbrev pub interrupt_at : List ℕ → Option Node → ℕ → Option EdgeKind → List Waypoint
 interrupt_at words (Some n) depth (Some (Interrupt v clears)) =
-    record { pc = n.key.pc; masks = n.key.masks; sp = ramend (device_of words) - depth; vector = v; clears = clears } ∷ []
+    record { pc = n.key.pc; masks = n.key.masks; depth = depth; end = ramend (device_of words); vector = v; clears = clears } ∷ []
 interrupt_at words _ depth kind = []
 
 abbrev pub interrupt_of : List ℕ → List Node → Link → List Waypoint
@@ -28,15 +29,25 @@ interrupt_of words nodes link = interrupt_at words (slice_get nodes link.node) l
 abbrev pub interrupts_of : List ℕ → List Node → List Link → List Waypoint
 interrupts_of words nodes links = flat_map (interrupt_of words nodes) links
 
--- the interrupts of the deepest chain of a family
-pub record AreInterrupts (words : List ℕ) (A : List Entry) (nodes : List Node) (points : List Waypoint) : Type 0 where
+-- The deepest chain of a family with the least needs, and the root's need.
+pub record IsDeepest (words : List ℕ) (A : List Entry) (nodes : List Node) (need : ℕ) (links : List Link) : Type 0 where
   pub graph : List GraphInst
   pub family : IsGraphOf words A nodes graph
   pub ranks : List ℕ
   pub needs : List ℕ
   pub least : IsLeast graph ranks needs
-  pub links : List Link
+  pub root : need ≡ slice_index needs 0
   pub chain : IsChain graph needs links
+
+-- the root is the first instance of each graph of the family, where chains begin
+abbrev pub BeginsAtRoot : List ℕ → List Entry → List Node → Type 0
+BeginsAtRoot words A nodes = (graph : List GraphInst) → IsGraphOf words A nodes graph → slice_get (insts_of graph) 0 ≡ Some root_inst
+
+-- the interrupts of the deepest chain of a family
+pub record AreInterrupts (words : List ℕ) (A : List Entry) (nodes : List Node) (points : List Waypoint) : Type 0 where
+  pub need : ℕ
+  pub links : List Link
+  pub deepest : IsDeepest words A nodes need links
   pub are : points ≡ interrupts_of words nodes links
 
 -- those of a certificate's family

@@ -1,10 +1,24 @@
 -- Laws of the search.
-use Rattle.std.specs.Prelude.{ℕ, ◌≡◌, List}
+use Rattle.std.specs.Prelude.{ℕ, ◌≡◌, ◌≤◌, List, length}
 use Rattle.avr_model.specs.declared.assumption.Entry.{Entry}
+use Rattle.local_rules.specs.declared.local.Node.{Node}
+use Rattle.nesting_bound.specs.declared.graph.Link.{Link}
 use Rattle.certificate.specs.Claims.{Claim}
 use Rattle.witness_search.specs.declared.waypoint.Waypoint.{Waypoint}
-use Rattle.witness_search.specs.Chains.{AreWaypoints}
+use Rattle.witness_search.specs.Chains.{IsDeepest, AreWaypoints}
+use Rattle.witness_search.specs.Trials.{trial_of}
+
+-- a family has one deepest chain, and the root one least need
+pub record DeepestChainsAreOne : Type 0 where
+  pub need : (words : List ℕ) (A : List Entry) (nodes : List Node) (need need' : ℕ) (links links' : List Link) → IsDeepest words A nodes need links → IsDeepest words A nodes need' links'
+      → need ≡ need'
+  pub links : (words : List ℕ) (A : List Entry) (nodes : List Node) (need need' : ℕ) (links links' : List Link) → IsDeepest words A nodes need links → IsDeepest words A nodes need' links'
+      → links ≡ links'
 
 -- a certificate has one list of waypoints
 abbrev pub WaypointsAreOne : Type 0
 WaypointsAreOne = (words : List ℕ) (A : List Entry) (c : Claim) (points points' : List Waypoint) → AreWaypoints words A c points → AreWaypoints words A c points' → points ≡ points'
+
+-- a trial has at most 200,000 choices
+abbrev pub TrialsAreShort : Type 0
+TrialsAreShort = (words : List ℕ) (A : List Entry) (points : List Waypoint) (bound fill : ℕ) → length (trial_of words A points bound fill) ≤ 200000

@@ -1,5 +1,5 @@
 -- Waypoints: interrupts that are taken where they are due. Source: own.
-use Rattle.std.specs.Prelude.{ℕ, Bool, if◌then◌else◌, ◌==◌, ◌&&◌, List, [], ◌∷◌}
+use Rattle.std.specs.Prelude.{ℕ, ◌+◌, Bool, if◌then◌else◌, ◌==◌, ◌&&◌, List, [], ◌∷◌}
 use Rattle.avr_model.specs.declared.choice.Choice.{Choice}
 use Rattle.avr_model.specs.declared.choice.Choice.TheVariants.{Go, Take}
 use Rattle.avr_model.specs.State.{State}
@@ -15,7 +15,7 @@ interrupt_of w = Take w.vector w.clears
 
 -- the state is where the waypoint's interrupt is to be taken, and it may be taken there
 abbrev pub due_at : Waypoint → State → Bool
-due_at w m = (m.pc == w.pc) && (m.enables == w.masks) && (m.sp == w.sp) && may_take m w.vector w.clears
+due_at w m = (m.pc == w.pc) && (m.enables == w.masks) && (m.sp + w.depth == w.end) && may_take m w.vector w.clears
 
 -- what is chosen: the next waypoint's interrupt where it is due, and else an instruction with the fill byte as its input
 abbrev pub pick_due : ℕ → List Waypoint → State → Choice
@@ -30,7 +30,7 @@ due_left (w ∷ ws) m = if due_at w m then ws else w ∷ ws
 -- ---- by a menu: the same
 
 abbrev pub is_due : Waypoint → Menu → Bool
-is_due w menu = (menu.pc == w.pc) && (menu.masks == w.masks) && (menu.sp == w.sp) && has_choice menu (interrupt_of w)
+is_due w menu = (menu.pc == w.pc) && (menu.masks == w.masks) && (menu.sp + w.depth == w.end) && has_choice menu (interrupt_of w)
 
 abbrev pub taken : ℕ → List Waypoint → Menu → Choice
 taken fill [] menu = Go fill fill

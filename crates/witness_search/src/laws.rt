@@ -1,17 +1,29 @@
 //! Laws of the search, each as the contract of a function that does nothing but call others.
 
-ghost use Rattle.witness_search.specs.Laws.{WaypointsAreOne};
+ghost use Rattle.witness_search.specs.Laws.{DeepestChainsAreOne, WaypointsAreOne, TrialsAreShort};
 
 use expansion_laws::laws::filled_or_missing;
 use family_graph::laws::graphs_are_alike;
 use nesting_bound::laws::{answers_are_one, chains_are_one};
+
+/// A family has one deepest chain, and the root one least need.
+pub fn deepest_chains_are_one()
+    ensures { DeepestChainsAreOne }
+{
+    graphs_are_alike();
+    answers_are_one();
+    chains_are_one();
+}
 
 /// A certificate has one list of waypoints, so that one schedule is due.
 pub fn waypoints_are_one()
     ensures { WaypointsAreOne }
 {
     filled_or_missing();
-    graphs_are_alike();
-    answers_are_one();
-    chains_are_one();
+    deepest_chains_are_one();
 }
+
+/// A trial is short, so that a certificate with its schedule is.
+pub fn trials_are_short()
+    ensures { TrialsAreShort }
+{}

@@ -2,12 +2,13 @@
 //! Source: own.
 #![tactic(auto)]
 
-mod chain;
+pub mod chain;
 pub mod laws;
 mod searching;
 pub mod trial;
 pub mod waypoint;
 
+pub use chain::{Deepest, deepest_chain};
 pub use searching::search;
 pub use trial::first_trial;
 pub use waypoint::Waypoint;

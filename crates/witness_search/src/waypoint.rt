@@ -13,8 +13,10 @@ pub struct Waypoint {
     pub pc: u16,
     /// The enable bits.
     pub masks: Masks,
-    /// The stack pointer: as far below its place at reset as the chain is deep there.
-    pub sp: u16,
+    /// How many bytes the stack pointer is below its place at reset.
+    pub depth: u16,
+    /// This place: the last address of the device's SRAM.
+    pub end: u16,
     /// The vector, 2 to 26.
     pub vector: u8,
     /// Whether the vector's own enable bit is cleared then.
@@ -27,6 +29,6 @@ pub fn is_due(point: &Waypoint, menu: &Menu) -> bool
 {
     menu.pc == point.pc
         && menu.masks.bits() == point.masks.bits()
-        && menu.sp == point.sp
+        && u32::from(menu.sp) + u32::from(point.depth) == u32::from(point.end)
         && menu.has(Choice::Take(point.vector, point.clears))
 }

@@ -41,7 +41,8 @@ fn is_row(alloc: Global, row: &Row) -> Result<bool, Fail> {
     let points = [Waypoint {
         pc: 7,
         masks: Masks::none().with(2, true),
-        sp: Device::M328.ramend().saturating_sub(*depth),
+        depth: *depth,
+        end: Device::M328.ramend(),
         vector: 2,
         clears: false,
     }];

@@ -1,34 +1,10 @@
 use Rattle.std.proofs.lemmas.Result.{IfOk-weaker}
 use Rattle.witness_search.proofs.Answered.{interrupts_as}
-use Rattle.witness_search.proofs.Conditions.{peopled, some_node, ranked, places, root_need}
 use Rattle.witness_search.proofs.chain.waypoints.Goals as goal
-
-pub graph_of-requires-clause-some : goal.graph_of-requires-clause-some
-graph_of-requires-clause-some c = some_node c.args.flash.now c.args.assumptions.now c.args.certificate.now c.args.nodes.now c.requires.meets
-
-pub graph_of-requires-clause-faultless : goal.graph_of-requires-clause-faultless
-graph_of-requires-clause-faultless c = c.requires.meets.faultless
-
-pub graph_of-requires-clause-peopled : goal.graph_of-requires-clause-peopled
-graph_of-requires-clause-peopled c = peopled c.args.flash.now c.args.assumptions.now c.args.certificate.now c.args.nodes.now c.requires.meets
-
-pub composed-requires-clause-acyclic : goal.composed-requires-clause-acyclic
-composed-requires-clause-acyclic c =
-    c.ranks_rule_out_cycles.ensures c.in_ok-graph.graph.instances _
-    (ranked c.args.flash.now c.args.assumptions.now c.args.certificate.now c.args.nodes.now c.requires.meets c.in_ok-graph.graph.instances c.in_ok-graph.ensures.family)
-
-pub chain-requires-clause-bound : goal.chain-requires-clause-bound
-chain-requires-clause-bound c =
-    root_need c.args.flash.now c.args.assumptions.now c.args.certificate.now c.args.nodes.now c.requires.meets c.in_ok-graph.graph.instances c.in_ok-graph.ensures.family
-    c.in_ok-composed.composed.ranks c.in_ok-composed.composed.needs c.in_ok-composed.ensures c.in_ok-graph.ensures.graph.some c.requires.claim.bound_fits
-
-pub chain-requires-clause-places : goal.chain-requires-clause-places
-chain-requires-clause-places c =
-    places c.args.flash.now c.args.assumptions.now c.args.certificate.now c.args.nodes.now c.requires.meets c.in_ok-graph.graph.instances c.in_ok-graph.ensures.family
 
 pub returns : goal.returns
 returns c =
     IfOk-weaker c.interrupts.result _ _
-    (λ points e. interrupts_as c.args.flash.now c.args.assumptions.now c.args.nodes.now c.in_ok-graph.graph.instances c.in_ok-composed.composed.ranks c.in_ok-composed.composed.needs
-    c.in_ok-links.links.items c.deref.result.now points.items c.in_ok-graph.ensures.family c.in_ok-composed.ensures c.in_ok-links.ensures c.deref.ensures.value e)
+    (λ points e. interrupts_as c.args.flash.now c.args.assumptions.now c.args.nodes.now c.in_ok-deepest.deepest.need c.in_ok-deepest.deepest.links
+    c.as_slice.result.now points.items c.in_ok-deepest.ensures.deepest c.as_slice.ensures e)
     c.interrupts.ensures

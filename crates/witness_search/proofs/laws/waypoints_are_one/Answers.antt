@@ -2,4 +2,4 @@ use Rattle.witness_search.proofs.One as one
 use Rattle.witness_search.proofs.laws.waypoints_are_one.Goals as goal
 
 pub returns : goal.returns
-returns c = one.waypoints_are_one c.filled_or_missing.ensures c.graphs_are_alike.ensures c.answers_are_one.ensures c.chains_are_one.ensures
+returns c = one.waypoints_are_one c.filled_or_missing.ensures c.deepest_chains_are_one.ensures

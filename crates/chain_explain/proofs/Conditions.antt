@@ -1,0 +1,50 @@
+-- The reached nodes of a family that meets the conditions meet them too.
+use Rattle.std.proofs.Common.{◌≡◌, refl, sym, ap, ◌∙◌, subst, ℕ, ◌≤◌, List, Contains, length, arith}
+use Rattle.avr_model.specs.declared.assumption.Entry.{Entry}
+use Rattle.mask_states.specs.declared.keys.NodeKey.{NodeKey}
+use Rattle.mask_states.specs.Keys.{root_inst, entry_key}
+use Rattle.local_rules.specs.declared.local.Node.{Node}
+use Rattle.edge_rules.specs.declared.edge.Edge.{Edge}
+use Rattle.edge_rules.specs.Edges.{Enters, IsEdge, moving, entering, returning, target}
+use Rattle.edge_rules.specs.Families.{IsCovered}
+use Rattle.certificate.specs.Claims.{Claim}
+use Rattle.certificate.specs.Insts.{need_in}
+use Rattle.certificate.specs.Valid.{reset_node, MeetsConditions}
+use Rattle.chain_explain.specs.Reached.{IsReached, AreReached, at_reset, by_edge}
+
+module _ (words : List ℕ) (A : List Entry) (nodes reached : List Node) (are : AreReached words A nodes reached) where
+  pub of_family : (n : Node) → Contains reached n → Contains nodes n
+  of_family n h = ((are.exact n).0 h).0
+
+  pub reached_by : (n : Node) → Contains reached n → IsReached words A nodes n.key
+  reached_by n h = ((are.exact n).0 h).1
+
+  -- an edge of the reached nodes is one of the family
+  edge_up : (n : Node) (e : Edge) → IsEdge words A reached n e → IsEdge words A nodes n e
+  edge_up n _ (moving to clean member) = moving to clean member
+  edge_up n _ (entering way inst back enters) = entering way inst back enters
+  edge_up n _ (returning way inst back leaver x state enters present at clean exit is) =
+      returning way inst back leaver x state enters (of_family leaver present) at clean exit is
+
+  -- a covered node with a reached key is covered by a reached one
+  covered_down : (n : Node) → IsCovered nodes n → IsReached words A nodes n.key → IsCovered reached n
+  covered_down n c r = record { state = c.state; present = (are.exact (record { key = n.key; state = c.state })).1 (c.present, r); above = c.above }
+
+  pub meets_reached : (c : Claim) → MeetsConditions words A c nodes → MeetsConditions words A c reached
+  meets_reached c meets =
+      record {
+        reset = covered_down reset_node meets.reset at_reset;
+        faultless = λ n h. meets.faultless n (of_family n h);
+        edges = λ n e h is.
+            let up = edge_up n e is in
+            covered_down (target e) (meets.edges n e (of_family n h) up) (by_edge n e (of_family n h) (reached_by n h) up);
+        ranks = λ n way inst back h enters. meets.ranks n way inst back (of_family n h) enters;
+        needs = λ inst.
+            let s = meets.needs inst in
+            record {
+              offsets = λ n offset h same closed. s.offsets n offset (of_family n h) same closed;
+              entered = λ n way into back h same enters. s.entered n way into back (of_family n h) same enters;
+            };
+        bounded = meets.bounded;
+        assumptions = meets.assumptions;
+      }

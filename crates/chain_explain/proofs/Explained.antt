@@ -1,0 +1,52 @@
+-- What is put together is the explanation.
+use Rattle.std.proofs.Common.{◌≡◌, sym, ap, ◌∙◌, subst, ℕ, ◌≤◌, List}
+use Rattle.avr_model.specs.declared.assumption.Entry.{Entry}
+use Rattle.mask_states.specs.Keys.{root_inst, entry_key}
+use Rattle.local_rules.specs.declared.local.Node.{Node}
+use Rattle.local_laws.specs.Laws.{HasKey}
+use Rattle.edge_rules.specs.Expansion.{IsFilled}
+use Rattle.expansion_laws.specs.Laws.{FilledOrMissing}
+use Rattle.nesting_bound.specs.declared.graph.Link.{Link}
+use Rattle.certificate.specs.Claims.{Claim}
+use Rattle.certificate.specs.Valid.{IsSound, MeetsConditions}
+use Rattle.reach_laws.specs.Laws.{RoundsAreReached}
+use Rattle.witness_search.specs.Chains.{IsDeepest, BeginsAtRoot}
+use Rattle.chain_explain.specs.declared.explanation.Explanation.{Explanation}
+use Rattle.chain_explain.specs.declared.explanation.Part.{Part}
+use Rattle.chain_explain.specs.Reached.{AreReached}
+use Rattle.chain_explain.specs.Explanation.{AreParts, Explains, IsExplanation}
+use Rattle.chain_explain.specs.Told.{sum_of, Nest, IsOfRounds}
+use Rattle.chain_explain.proofs.Chains as chains
+use Rattle.chain_explain.proofs.Rounds.{least_is_bound}
+
+module _ (words : List ℕ) (A : List Entry) (c : Claim) (nodes : List Node) (filled : IsFilled words A c.nodes nodes) (reached : List Node) (are : AreReached words A nodes reached)
+    (need : ℕ) (links : List Link) (deepest : IsDeepest words A reached need links) (root : BeginsAtRoot words A reached) (given : List Link) (same : given ≡ links)
+    (parts : List Part) (are_parts : AreParts words A nodes reached given parts) where
+  abbrev pub told : Explanation
+  told = record { least = need; parts = parts }
+
+  abbrev pub explains : Explains words A nodes told
+  explains =
+      record {
+        reached = reached;
+        are_reached = are;
+        links = links;
+        deepest = deepest;
+        parts = subst (λ (ls : List Link). AreParts words A nodes reached ls parts) same are_parts;
+      }
+
+  pub exact : IsExplanation words A c told
+  exact = record { nodes = nodes; filled = filled; explains = explains }
+
+  pub sums : sum_of parts ≡ need
+  sums = chains.sums words A nodes told explains
+
+  pub nests : Nest words A c parts
+  nests = chains.nests words A nodes told explains c filled root
+
+  pub least : FilledOrMissing → RoundsAreReached → HasKey nodes (entry_key root_inst) → need ≤ c.bound → IsOfRounds words A c → need ≡ c.bound
+  least one law reset under of = least_is_bound one law words A c nodes told filled reset explains root under of
+
+-- the expansion of a certificate whose conditions hold meets them
+pub meets_as : FilledOrMissing → (words : List ℕ) (A : List Entry) (c : Claim) (nodes : List Node) → IsSound words A c → IsFilled words A c.nodes nodes → MeetsConditions words A c nodes
+meets_as law words A c nodes sound filled = subst (MeetsConditions words A c) (law.one words A c.nodes sound.nodes nodes sound.expanded filled) sound.meets

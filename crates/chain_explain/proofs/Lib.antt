@@ -1,0 +1,14 @@
+pub mod Lists
+pub mod Numbers
+pub mod Edges
+pub mod Built
+pub mod Stepped
+pub mod Marks
+pub mod Ways
+pub mod Shifted
+pub mod Conditions
+pub mod Chains
+pub mod Rounds
+pub mod Explained
+pub mod One
+pub mod AllLaws

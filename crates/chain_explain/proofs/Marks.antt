@@ -1,0 +1,124 @@
+-- The marked nodes are those that are reached.
+use Rattle.std.proofs.Common.{◌≡◌, refl, sym, ap, ◌∙◌, subst, ℕ, zero, suc, ◌+◌, ◌<◌, ◌≤◌, ◌⊎◌, ⊎_elim, Bool, true, false, List, [], ◌∷◌, ◌++◌, length, map, get_or, drop, Some, slice_get, Contains, arith}
+use Rattle.std.specs.Prelude.{◌↔◌, if◌then◌else◌}
+use Rattle.std.specs.List.{AllByRecursion}
+use Rattle.std.specs.List.Sorted.{IsStrictlySortedBy}
+use Rattle.std.specs.declared.cmp.Ordering.TheVariants.{Less}
+use Rattle.std.proofs.lemmas.List.{append_assoc}
+use Rattle.std.proofs.lemmas.Option.{none-some, same_Some}
+use Rattle.avr_model.specs.declared.assumption.Entry.{Entry}
+use Rattle.mask_states.specs.declared.keys.NodeKey.{NodeKey}
+use Rattle.mask_states.specs.Keys.{root_inst, entry_key}
+use Rattle.mask_states.specs.Order.{node_cmp}
+use Rattle.local_rules.specs.declared.local.Node.{Node}
+use Rattle.local_laws.proofs.AllLaws.{none_in, here, there, first_or}
+use Rattle.edge_rules.specs.Views.{AreShown, key_of}
+use Rattle.shortest_walk.specs.Graph as walk
+use Rattle.shortest_walk.specs.Graph.{AreMarks}
+use Rattle.chain_explain.specs.Reached.{IsReached, AreReached}
+use Rattle.chain_explain.specs.Working.{kept_by, AreSteps}
+use Rattle.chain_explain.proofs.Lists.{number_of, contains_at, one_at}
+use Rattle.chain_explain.proofs.Edges.{reached_down, reached_up}
+
+-- the node has a number that is marked
+pub record IsMarked (marks : List Bool) (nodes : List Node) (n : Node) : Type 0 where
+  pub number : ℕ
+  pub at : slice_get nodes number ≡ Some n
+  pub mark : get_or marks number false ≡ true
+
+later : (mark : Bool) (marks : List Bool) (x : Node) (nodes : List Node) (n : Node) → IsMarked marks nodes n → IsMarked (mark ∷ marks) (x ∷ nodes) n
+later mark marks x nodes n m = record { number = suc m.number; at = m.at; mark = m.mark }
+
+pub kept_marked : (marks : List Bool) (nodes : List Node) (n : Node) → Contains (kept_by marks nodes) n → IsMarked marks nodes n
+kept_marked [] nodes n h = absurd (none_in n h)
+kept_marked (mark ∷ marks) [] n h = absurd (none_in n h)
+kept_marked (true ∷ marks) (x ∷ nodes) n h =
+    ⊎_elim (λ e. record { number = 0; at = ap (λ (y : Node). Some y) (sym e); mark = refl }) (λ i. later true marks x nodes n (kept_marked marks nodes n i)) (first_or x n (kept_by marks nodes) h)
+kept_marked (false ∷ marks) (x ∷ nodes) n h = later false marks x nodes n (kept_marked marks nodes n h)
+
+kept_at : (marks : List Bool) (nodes : List Node) (i : ℕ) (n : Node) → slice_get nodes i ≡ Some n → get_or marks i false ≡ true → Contains (kept_by marks nodes) n
+kept_at [] nodes i n e m = absurd cc
+kept_at (mark ∷ marks) [] i n e m = absurd (none-some n e)
+kept_at (true ∷ marks) (x ∷ nodes) zero n e m = subst (Contains (x ∷ kept_by marks nodes)) (same_Some x n e) (here x (kept_by marks nodes))
+kept_at (false ∷ marks) (x ∷ nodes) zero n e m = absurd cc
+kept_at (true ∷ marks) (x ∷ nodes) (suc i) n e m = there x n (kept_by marks nodes) (kept_at marks nodes i n e m)
+kept_at (false ∷ marks) (x ∷ nodes) (suc i) n e m = kept_at marks nodes i n e m
+
+all_kept : (P : NodeKey → Type 0) (marks : List Bool) (nodes : List Node) → AllByRecursion P (map key_of nodes) → AllByRecursion P (map key_of (kept_by marks nodes))
+all_kept P [] nodes h = tt
+all_kept P (mark ∷ marks) [] h = tt
+all_kept P (true ∷ marks) (x ∷ nodes) h = (h.0, all_kept P marks nodes h.1)
+all_kept P (false ∷ marks) (x ∷ nodes) h = all_kept P marks nodes h.1
+
+pub kept_ascend : (marks : List Bool) (nodes : List Node) → IsStrictlySortedBy node_cmp (map key_of nodes) → IsStrictlySortedBy node_cmp (map key_of (kept_by marks nodes))
+unfolding IsStrictlySortedBy
+kept_ascend [] nodes s = tt
+kept_ascend (mark ∷ marks) [] s = tt
+kept_ascend (true ∷ marks) (x ∷ nodes) s = (all_kept (λ k. node_cmp x.key k ≡ Less) marks nodes s.0, kept_ascend marks nodes s.1)
+kept_ascend (false ∷ marks) (x ∷ nodes) s = kept_ascend marks nodes s.1
+
+pub kept_shown : (marks : List Bool) (nodes kept : List Node) → kept ≡ kept_by marks nodes → AreShown nodes → AreShown kept
+kept_shown marks nodes kept e shown =
+    subst AreShown (sym e)
+    record {
+      ascending = kept_ascend marks nodes shown.ascending;
+      all = λ n h. let m = kept_marked marks nodes n h in shown.all n (contains_at nodes m.number n m.at);
+    }
+
+pub kept_few : (marks : List Bool) (nodes : List Node) → length (kept_by marks nodes) ≤ length nodes
+kept_few [] nodes = omega arith
+kept_few (mark ∷ marks) [] = omega arith
+kept_few (true ∷ marks) (x ∷ nodes) = let few = kept_few marks nodes in omega (arith, few)
+kept_few (false ∷ marks) (x ∷ nodes) = let few = kept_few marks nodes in omega (arith, few)
+
+-- ---- the loop
+
+pub kept_start : (marks : List Bool) (nodes : List Node) → kept_by marks nodes ≡ [] ++ kept_by (drop 0 marks) (drop 0 nodes)
+kept_start marks nodes = refl
+
+drop_at : {X : Type 0} (xs : List X) (i : ℕ) (x : X) → slice_get xs i ≡ Some x → drop i xs ≡ x ∷ drop (suc i) xs
+drop_at [] i x e = absurd (none-some x e)
+drop_at (y ∷ ys) zero x e = ap (λ z. z ∷ ys) (same_Some y x e)
+drop_at (y ∷ ys) (suc i) x e = drop_at ys i x e
+
+next_drop : {X : Type 0} (xs : List X) (i : ℕ) (x : X) → slice_get xs i ≡ Some x → drop i xs ≡ x ∷ drop (i + 1) xs
+next_drop xs i x e = let next : suc i ≡ i + 1 = omega arith in drop_at xs i x e ∙ ap (λ k. x ∷ drop k xs) next
+
+-- the kept ones so far, with those of the rest
+pub kept_next : (marks : List Bool) (nodes kept more : List Node) (i : ℕ) (mark : Bool) (n : Node) → slice_get marks i ≡ Some mark → slice_get nodes i ≡ Some n
+    → kept_by marks nodes ≡ kept ++ kept_by (drop i marks) (drop i nodes) → more ≡ kept ++ (if mark then n ∷ [] else [])
+    → kept_by marks nodes ≡ more ++ kept_by (drop (i + 1) marks) (drop (i + 1) nodes)
+kept_next marks nodes kept more i mark n e f so_far added =
+    so_far
+    ∙ (ap (λ (xs : List Node). kept ++ xs)
+    (ap (λ (ms : List Bool). kept_by ms (drop i nodes)) (next_drop marks i mark e)
+    ∙ (ap (kept_by (mark ∷ drop (i + 1) marks)) (next_drop nodes i n f) ∙ one mark (kept_by (drop (i + 1) marks) (drop (i + 1) nodes)) refl))
+    ∙ (sym (append_assoc kept (if mark then n ∷ [] else []) (kept_by (drop (i + 1) marks) (drop (i + 1) nodes)))
+    ∙ ap (λ (xs : List Node). xs ++ kept_by (drop (i + 1) marks) (drop (i + 1) nodes)) (sym added)))
+  where
+    one : (b : Bool) (rest : List Node) → kept_by (drop (i + 1) marks) (drop (i + 1) nodes) ≡ rest → (if b then n ∷ kept_by (drop (i + 1) marks) (drop (i + 1) nodes) else kept_by (drop (i + 1) marks) (drop (i + 1) nodes)) ≡ (if b then n ∷ [] else []) ++ rest
+    one true rest h = ap (λ xs. n ∷ xs) h
+    one false rest h = h
+
+-- ---- what is kept
+
+module _ (words : List ℕ) (A : List Entry) (nodes : List Node) (shown : AreShown nodes) (all moves : List (List ℕ)) (steps : AreSteps words A nodes (length nodes) all moves)
+    (root : ℕ) (reset : Node) (at : slice_get nodes root ≡ Some reset) (is : reset.key ≡ entry_key root_inst) (marks : List Bool) (marked : AreMarks all (root ∷ []) marks) where
+  kept_reached : (n : Node) → Contains (kept_by marks nodes) n → Contains nodes n × IsReached words A nodes n.key
+  kept_reached n h =
+      let m = kept_marked marks nodes n h in
+      let r = reached_down words A nodes shown all moves steps root reset at is m.number ((marked.exact m.number).0 m.mark) in
+      (contains_at nodes m.number n m.at, subst (λ (x : Node). IsReached words A nodes x.key) (one_at nodes m.number r.0 n r.1.0 m.at) r.1.1)
+
+  reached_kept : (n : Node) → Contains nodes n × IsReached words A nodes n.key → Contains (kept_by marks nodes) n
+  reached_kept n h =
+      let p = number_of nodes n h.0 in
+      kept_at marks nodes p.0 n p.1 ((marked.exact p.0).1 (reached_up words A nodes shown all moves steps root reset at is n.key h.1 p.0 n p.1 refl))
+
+  pub are_reached : (kept : List Node) → kept ≡ kept_by marks nodes → AreReached words A nodes kept
+  are_reached kept e =
+      subst (AreReached words A nodes) (sym e)
+      record {
+        ascending = kept_ascend marks nodes shown.ascending;
+        exact = λ n. (kept_reached n, reached_kept n);
+      }

@@ -1,0 +1,190 @@
+-- Where the rounds end with a certificate, the least need of the root over the reached nodes is its bound.
+use Rattle.std.proofs.Common.{◌≡◌, refl, sym, ap, ◌∙◌, subst, ℕ, zero, suc, ◌+◌, ◌<◌, ◌≤◌, ◌⊎◌, ⊎_elim, Bool, true, false, cond, List, [], ◌∷◌, length, map, Some, slice_get, slice_index, Contains, arith}
+use Rattle.std.specs.Prelude.{◌↔◌}
+use Rattle.std.specs.List.{AllByRecursion}
+use Rattle.std.specs.List.Sorted.{IsStrictlySortedBy}
+use Rattle.std.proofs.lemmas.List.{length-map}
+use Rattle.std.specs.declared.cmp.Ordering.TheVariants.{Less, Equal}
+use Rattle.std.proofs.lemmas.Option.{none-some, same_Some, slice_get_within}
+use Rattle.avr_model.specs.declared.assumption.Entry.{Entry}
+use Rattle.abs_state.specs.Frames.{entered}
+use Rattle.mask_states.specs.declared.keys.InstKey.{InstKey}
+use Rattle.mask_states.specs.declared.keys.NodeKey.{NodeKey}
+use Rattle.mask_states.specs.declared.keys.EdgeKind.{EdgeKind}
+use Rattle.mask_states.specs.declared.keys.SpForm.{SpForm}
+use Rattle.mask_states.specs.declared.keys.SpForm.TheVariants.{Closed}
+use Rattle.mask_states.specs.Keys.{root_inst, entry_key, offset_of}
+use Rattle.mask_states.specs.Order.{inst_cmp, node_cmp, same_inst, same_node}
+use Rattle.mask_states.proofs.AllLaws.{keys_are_ordered}
+use Rattle.local_rules.specs.declared.local.Node.{Node}
+use Rattle.local_laws.specs.Laws.{HasKey}
+use Rattle.local_laws.proofs.AllLaws.{none_in, here, there, first_or}
+use Rattle.edge_rules.specs.declared.edge.Edge.{Edge}
+use Rattle.edge_rules.specs.Edges.{Enters, by_call, by_interrupt, IsEdge, entering, target}
+use Rattle.edge_rules.specs.Views.{AreShown, key_of}
+use Rattle.edge_rules.specs.Expansion.{IsFilled}
+use Rattle.expansion_laws.specs.Laws.{FilledOrMissing}
+use Rattle.nesting_bound.specs.declared.graph.Entered.{Entered}
+use Rattle.nesting_bound.specs.declared.graph.GraphInst.{GraphInst}
+use Rattle.nesting_bound.specs.declared.graph.Place.{Place}
+use Rattle.nesting_bound.specs.Graph as graph
+use Rattle.nesting_bound.specs.Least.{IsLeast}
+use Rattle.family_graph.specs.Graphs.{insts_of, IsGraphOf}
+use Rattle.certificate.specs.Claims.{Claim}
+use Rattle.round_rules.specs.Families.{Family, nodes_of, Has, HasInst, HasNoFault}
+use Rattle.round_rules.specs.Rounds.{Entering, AreNeeds, Comes}
+use Rattle.round_rules.specs.Refusals.{IsSolved}
+use Rattle.round_laws.proofs.AllLaws.{has_member, member_has}
+use Rattle.reach_laws.specs.Laws.{IsKept, RoundsAreReached}
+use Rattle.witness_search.specs.Chains.{BeginsAtRoot}
+use Rattle.chain_explain.specs.declared.explanation.Explanation.{Explanation}
+use Rattle.chain_explain.specs.Reached.{IsReached, AreReached, at_reset, by_edge}
+use Rattle.chain_explain.specs.Explanation.{Explains}
+use Rattle.chain_explain.specs.Told.{IsOfRounds}
+use Rattle.chain_explain.proofs.Lists.{number_of, contains_at, one_at, get_at}
+
+-- ---- whether a node of the list has the key
+
+abbrev is_held : List Node → NodeKey → Bool
+is_held [] k = false
+is_held (n ∷ nodes) k = cond (same_node n.key k) true (is_held nodes k)
+
+held_has : (nodes : List Node) (k : NodeKey) → is_held nodes k ≡ true → HasKey nodes k
+held_has [] k h = absurd cc
+held_has (n ∷ nodes) k h = by (held_has nodes k) (same_node n.key k) refl h
+  where
+    by : (is_held nodes k ≡ true → HasKey nodes k) → (b : Bool) → same_node n.key k ≡ b → cond b true (is_held nodes k) ≡ true → HasKey (n ∷ nodes) k
+    by rest true is e = (n, (here n nodes, (keys_are_ordered.same_nodes n.key k).0 is))
+    by rest false is e = let w = rest e in (w.0, (there n w.0 nodes w.1.0, w.1.1))
+
+has_held : (nodes : List Node) (k : NodeKey) → HasKey nodes k → is_held nodes k ≡ true
+has_held [] k h = absurd (none_in h.0 h.1.0)
+has_held (n ∷ nodes) k h = by (has_held nodes k) (same_node n.key k) refl
+  where
+    by : (HasKey nodes k → is_held nodes k ≡ true) → (b : Bool) → same_node n.key k ≡ b → cond b true (is_held nodes k) ≡ true
+    by rest true is = refl
+    by rest false is =
+        ⊎_elim (λ e. absurd (let up = (keys_are_ordered.same_nodes n.key k).1 (ap key_of (sym e) ∙ h.1.1) in cc)) (λ i. rest (h.0, (i, h.1.1)))
+        (first_or n h.0 nodes h.1.0)
+
+-- ---- the value of an instance by its number, and 0 where it has none
+
+abbrev valued : List InstKey → List ℕ → InstKey → ℕ
+valued [] xs inst = 0
+valued (k ∷ ks) [] inst = 0
+valued (k ∷ ks) (x ∷ xs) inst = cond (same_inst k inst) x (valued ks xs inst)
+
+not_itself : (a b : InstKey) → inst_cmp a b ≡ Less → a ≡ b → ⊥
+not_itself a b lt e = let same = (keys_are_ordered.equal_insts a b).1 e in cc
+
+all_at : (P : InstKey → Type 0) (ks : List InstKey) (j : ℕ) (k : InstKey) → AllByRecursion P ks → slice_get ks j ≡ Some k → P k
+all_at P [] j k h e = absurd (none-some k e)
+all_at P (x ∷ xs) zero k h e = subst P (same_Some x k e) h.0
+all_at P (x ∷ xs) (suc j) k h e = all_at P xs j k h.1 e
+
+valued_at : (ks : List InstKey) (xs : List ℕ) (i : ℕ) (inst : InstKey) → IsStrictlySortedBy inst_cmp ks → length xs ≡ length ks → slice_get ks i ≡ Some inst
+    → valued ks xs inst ≡ slice_index xs i
+unfolding IsStrictlySortedBy
+valued_at [] xs i inst s same e = absurd (none-some inst e)
+valued_at (k ∷ ks) [] i inst s same e = absurd (omega (arith, same))
+valued_at (k ∷ ks) (x ∷ xs) zero inst s same e = by (same_inst k inst) refl
+  where
+    by : (b : Bool) → same_inst k inst ≡ b → cond b x (valued ks xs inst) ≡ x
+    by true is = refl
+    by false is = absurd (let up = (keys_are_ordered.same_insts k inst).1 (same_Some k inst e) in cc)
+valued_at (k ∷ ks) (x ∷ xs) (suc i) inst s same e = by (valued_at ks xs i inst s.1 (omega (arith, same)) e) (same_inst k inst) refl
+  where
+    by : valued ks xs inst ≡ slice_index xs i → (b : Bool) → same_inst k inst ≡ b → cond b x (valued ks xs inst) ≡ slice_index xs i
+    by rest true is = absurd (not_itself k inst (all_at (λ y. inst_cmp k y ≡ Less) ks i inst s.0 e) ((keys_are_ordered.same_insts k inst).0 is))
+    by rest false is = rest
+
+module _ (words : List ℕ) (A : List Entry) (f : Family) (n : ℕ) (solved : IsSolved words A n f) (law : RoundsAreReached) (reached : List Node)
+    (are : AreReached words A (nodes_of f) reached) (reset : HasKey (nodes_of f) (entry_key root_inst)) where
+  -- where an edge from a node of the family leads there is one
+  lands_at : (m : Node) (e : Edge) → Has f m → IsEdge words A (nodes_of f) m e → HasKey (nodes_of f) e.to
+  lands_at m e has is =
+      let l = solved.closed m e has is in
+      let to : Node = record { key = e.to; state = l.at } in
+      (to, (member_has f to l.is, refl))
+
+  into_reached : (k : NodeKey) → HasKey (nodes_of f) k → IsReached words A (nodes_of f) k → HasKey reached k
+  into_reached k h r = (h.0, ((are.exact h.0).1 (h.1.0, subst (IsReached words A (nodes_of f)) (sym h.1.1) r), h.1.1))
+
+  kept : IsKept words A f (is_held reached)
+  kept m e has held is =
+      let h = held_has reached m.key held in
+      let r : IsReached words A (nodes_of f) m.key = subst (IsReached words A (nodes_of f)) h.1.1 ((are.exact h.0).0 h.1.0).1 in
+      has_held reached e.to (into_reached e.to (lands_at m e has is) (by_edge m e (member_has f m has) r is))
+
+  -- each node of the family is reached
+  all_reached : (m : Node) → Has f m → Contains reached m
+  all_reached m has =
+      let held = law words A n f (is_held reached) solved.comes solved.passes.faultless (has_held reached (entry_key root_inst) (into_reached (entry_key root_inst) reset at_reset)) kept m has in
+      let h = held_has reached m.key held in
+      let r : IsReached words A (nodes_of f) m.key = subst (IsReached words A (nodes_of f)) h.1.1 ((are.exact h.0).0 h.1.0).1 in
+      (are.exact m).1 (member_has f m has, r)
+
+  module _ (gs : List GraphInst) (ranks needs : List ℕ) (family : IsGraphOf words A reached gs) (least : IsLeast gs ranks needs) where
+    abbrev need : InstKey → ℕ
+    need inst = valued (insts_of gs) needs inst
+
+    need_at : (i : ℕ) (inst : InstKey) → slice_get (insts_of gs) i ≡ Some inst → need inst ≡ slice_index needs i
+    need_at i inst e = valued_at (insts_of gs) needs i inst family.ascending (least.needs_length ∙ sym (length-map gs (λ g. g.key))) e
+
+    number : (m : Node) → Has f m → (i : ℕ) × (slice_get (insts_of gs) i ≡ Some m.key.inst)
+    number m has = number_of (insts_of gs) m.key.inst ((family.insts m.key.inst).1 (m, all_reached m has, refl))
+
+    closed_by : (m : Node) (way : EdgeKind) (inst : InstKey) (back : ℕ) → Enters words A m way inst back → (offset : ℕ) × (m.key.sp ≡ Closed offset)
+    closed_by m _ _ _ (by_call offset site clean closed has) = (offset, closed)
+    closed_by m _ _ _ (by_interrupt offset v clears clean closed i d enabled may) = (offset, closed)
+
+    suffice : AreNeeds words A f need
+    suffice =
+        record {
+          offsets = λ m offset has closed.
+              let i = number m has in
+              let at = number_of reached m (all_reached m has) in
+              let p : Place = record { node = at.0; offset = offset } in
+              let placed = (family.places i.0 p).1 (record { inst = m.key.inst; is = i.1; place = record { node = m; at = at.1; same = refl; closed = closed } }) in
+              let enough = least.are_needs.offsets i.0 p placed in
+              let e = need_at i.0 m.key.inst i.1 in
+              omega (arith, enough, e);
+          entered = λ a b offset e.
+              let i = number e.node e.has in
+              let at = number_of reached e.node (all_reached e.node e.has) in
+              let c = closed_by e.node e.way b e.back e.enters in
+              let to = lands_at e.node (record { kind = e.way; to = entry_key b; state = entered e.node.state }) e.has (entering e.way b e.back e.enters) in
+              let j : (x : ℕ) × (slice_get (insts_of gs) x ≡ Some b) =
+              number_of (insts_of gs) b ((family.insts b).1 (to.0, all_reached to.0 (has_member f to.0 to.1.0), ap (λ (k : NodeKey). k.inst) to.1.1)) in
+              let edge : Entered = record { node = at.0; offset = c.0; kind = e.way; into = j.0 } in
+              let enters = (family.entered i.0 edge).1 (record {
+                inst = e.node.key.inst;
+                is = i.1;
+                into = b;
+                leads = j.1;
+                entry = record { node = e.node; at = at.1; same = refl; closed = c.1; back = e.back; enters = e.enters };
+              }) in
+              let enough = least.are_needs.entered i.0 edge enters in
+              let o : c.0 ≡ offset = ap offset_of (sym c.1) ∙ e.at in
+              let from : need a ≡ slice_index needs i.0 = ap need (sym e.same) ∙ need_at i.0 e.node.key.inst i.1 in
+              let into : need b ≡ slice_index needs j.0 = need_at j.0 b j.1 in
+              omega (arith, enough, o, from, into);
+        }
+
+-- the explanation's number is the bound of a certificate with which the rounds end
+pub least_is_bound : FilledOrMissing → RoundsAreReached → (words : List ℕ) (A : List Entry) (c : Claim) (nodes : List Node) (x : Explanation) → IsFilled words A c.nodes nodes
+    → HasKey nodes (entry_key root_inst) → (e : Explains words A nodes x) → BeginsAtRoot words A e.reached → x.least ≤ c.bound → IsOfRounds words A c → x.least ≡ c.bound
+least_is_bound filled law words A c nodes x is reset e root under of =
+    let answer = of.answer in
+    let same : nodes ≡ nodes_of answer.family =
+    filled.one words A c.nodes nodes (nodes_of answer.family) is (subst (λ ns. IsFilled words A ns (nodes_of answer.family)) (sym of.nodes) answer.solution.expands) in
+    let are = subst (λ (ns : List Node). AreReached words A ns e.reached) same e.are_reached in
+    let first = subst (λ (ns : List Node). HasKey ns (entry_key root_inst)) same reset in
+    let d = e.deepest in
+    let suffices = suffice words A answer.family answer.number answer.solved law e.reached are first d.graph d.ranks d.needs d.family d.least in
+    let low = answer.solution.least_needs (valued (insts_of d.graph) d.needs) suffices root_inst in
+    let at : valued (insts_of d.graph) d.needs root_inst ≡ slice_index d.needs 0 =
+    need_at words A answer.family answer.number answer.solved law e.reached are first d.graph d.ranks d.needs d.family d.least 0 root_inst (root d.graph d.family) in
+    let r = d.root in
+    let b = of.bound ∙ answer.solution.bound in
+    omega (arith, low, at, r, b, under)

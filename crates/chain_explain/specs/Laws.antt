@@ -1,0 +1,10 @@
+-- Laws of explanations.
+use Rattle.std.specs.Prelude.{ℕ, ◌≡◌, List}
+use Rattle.avr_model.specs.declared.assumption.Entry.{Entry}
+use Rattle.certificate.specs.Claims.{Claim, IsClaim}
+use Rattle.chain_explain.specs.declared.explanation.Explanation.{Explanation}
+use Rattle.chain_explain.specs.Explanation.{IsExplanation}
+
+-- a certificate has at most one explanation
+abbrev pub ExplanationsAreOne : Type 0
+ExplanationsAreOne = (words : List ℕ) (A : List Entry) (c : Claim) (x y : Explanation) → IsClaim c → IsExplanation words A c x → IsExplanation words A c y → x ≡ y

@@ -1,0 +1,66 @@
+-- What an explanation tells.
+use Rattle.std.specs.Prelude.{ℕ, ◌+◌, ◌≡◌, List, [], ◌∷◌, Option, Contains, slice_get, Some}
+use Rattle.std.specs.List.{sum_by}
+use Rattle.avr_model.specs.declared.assumption.Entry.{Entry}
+use Rattle.mask_states.specs.declared.keys.EdgeKind.{EdgeKind}
+use Rattle.mask_states.specs.declared.keys.SpForm.TheVariants.{Closed}
+use Rattle.mask_states.specs.Keys.{root_inst}
+use Rattle.local_rules.specs.declared.local.Node.{Node}
+use Rattle.edge_rules.specs.Edges.{Enters}
+use Rattle.edge_rules.specs.Expansion.{IsFilled}
+use Rattle.certificate.specs.Claims.{Claim}
+use Rattle.round_rules.specs.Solutions.{IsAnswer}
+use Rattle.chain_explain.specs.declared.explanation.Part.{Part}
+use Rattle.chain_explain.specs.Walks.{IsWay}
+
+-- the sum of the parts' numbers
+abbrev pub sum_of : List Part → ℕ
+sum_of parts = sum_by (λ p. p.adds) parts
+
+-- The part's place is this node of the family, at which the stack pointer is whole and so far below the instance's base; the part's
+-- words are those of the first of the shortest walks to it.
+pub record IsPlace (words : List ℕ) (A : List Entry) (nodes : List Node) (part : Part) (n : Node) (offset : ℕ) : Type 0 where
+  pub number : ℕ
+  pub at : slice_get nodes number ≡ Some n
+  pub inst : n.key.inst ≡ part.inst
+  pub pc : n.key.pc ≡ part.pc
+  pub closed : n.key.sp ≡ Closed offset
+  pub way : IsWay words A nodes part.inst number part.walk
+
+-- the last part ends at its place
+pub record Ends (words : List ℕ) (A : List Entry) (nodes : List Node) (part : Part) : Type 0 where
+  pub place : Node
+  pub is : IsPlace words A nodes part place part.adds
+
+-- a call or interrupt edge of the family leads from the place of a part into the instance of the next
+pub record EntersNext (words : List ℕ) (A : List Entry) (nodes : List Node) (part next : Part) : Type 0 where
+  pub place : Node
+  pub offset : ℕ
+  pub is : IsPlace words A nodes part place offset
+  pub adds : part.adds ≡ offset + 2
+  pub way : EdgeKind
+  pub back : ℕ
+  pub enters : Enters words A place way next.inst back
+
+-- each part goes on so into the next, to the last
+abbrev pub GoOn : List ℕ → List Entry → List Node → Part → List Part → Type 0
+GoOn words A nodes part [] = Ends words A nodes part
+GoOn words A nodes part (next ∷ rest) = EntersNext words A nodes part next × GoOn words A nodes next rest
+
+-- the parts nest from the root on, in the family of the certificate
+pub record Nest (words : List ℕ) (A : List Entry) (c : Claim) (parts : List Part) : Type 0 where
+  pub nodes : List Node
+  pub filled : IsFilled words A c.nodes nodes
+  pub root : Part
+  pub rest : List Part
+  pub are : parts ≡ root ∷ rest
+  pub begins : root.inst ≡ root_inst
+  pub go_on : GoOn words A nodes root rest
+
+-- the certificate has the nodes and the bound of one at which the rounds end, with or without a schedule
+pub record IsOfRounds (words : List ℕ) (A : List Entry) (c : Claim) : Type 0 where
+  pub steps : Option ℕ
+  pub least : Claim
+  pub answer : IsAnswer words A steps least
+  pub nodes : c.nodes ≡ least.nodes
+  pub bound : c.bound ≡ least.bound

@@ -1,0 +1,50 @@
+//! What an explanation is.
+
+use avr_model::listed::Listed;
+use mask_states::InstKey;
+
+/// One link of the deepest chain: an instance, the place in it, and the way to that place.
+#[derive(Drop)]
+pub struct Part {
+    /// The instance.
+    pub inst: InstKey,
+    /// The word address of the place.
+    pub pc: u16,
+    /// How many bytes the link adds: the offset at its place, and two for the return address where the chain goes on.
+    pub adds: u16,
+    /// The word addresses of a shortest way within the instance to the place, both ends included.
+    pub walk: Listed<u16>,
+}
+
+/// The deepest chain over the nodes of a certificate that are reached, link by link from the root on, and how deep it is.
+#[derive(Drop)]
+pub struct Explanation {
+    pub(crate) least: u16,
+    pub(crate) parts: Listed<Part>,
+}
+
+impl Explanation {
+    ghost use Rattle.std.specs.Prelude.{◌≡◌, ◌<◌, length, slice_get, Some};
+
+    /// The least need of the root over the reached nodes, in bytes: what the parts add up to.
+    pub fn least(&self) -> u16
+        ensures { result ≡ self.now.least }
+    {
+        self.least
+    }
+
+    /// How many parts there are.
+    pub fn count(&self) -> usize
+        ensures { result ≡ length self.now.parts }
+    {
+        self.parts.as_slice().len()
+    }
+
+    /// The part of this number, from 0 on.
+    pub fn part(&self, n: usize) -> &Part
+        requires { n < length self.now.parts }
+        ensures { slice_get self.now.parts n ≡ Some result.now }
+    {
+        &self.parts.as_slice()[n]
+    }
+}

@@ -1,0 +1,19 @@
+//! Numbers of nodes.
+
+ghost use Rattle.std.specs.Prelude.{◌≡◌, Some};
+ghost use Rattle.local_laws.specs.Laws.{HasKey};
+ghost use Rattle.edge_rules.specs.Views.{place_of};
+
+use call_graph::{Filled, View};
+use mask_states::NodeKey;
+
+/// The number of the node of this key, which is there.
+pub(crate) fn number_of(nodes: &Filled, key: &NodeKey) -> usize
+    requires { HasKey nodes.now key.now }
+    ensures { place_of key.now nodes.now ≡ Some result }
+{
+    match nodes.find(key) {
+        Some(at) => at,
+        None => unreachable!(),
+    }
+}

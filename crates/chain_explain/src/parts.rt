@@ -1,0 +1,78 @@
+//! The parts of an explanation.
+
+ghost use Rattle.std.specs.Prelude.{◌≡◌, ◌<◌, ◌≤◌, length, IfOk};
+ghost use Rattle.avr_model.specs.State.{SIZE};
+ghost use Rattle.mask_states.specs.Keys.{offset_of};
+ghost use Rattle.chain_explain.specs.Explanation.{adds_by, IsPart, AreParts};
+ghost use Rattle.chain_explain.specs.Reached.{AreReached};
+ghost use Rattle.chain_explain.specs.Working.{AreMoves, AreThere};
+
+use crate::explanation::Part;
+use crate::way::way;
+use avr_model::listed::Listed;
+use call_graph::{EdgeKind, Filled, View};
+use flash_image::Flash;
+use mask_states::NodeKey;
+use nesting_bound::Link;
+use std::alloc::{AllocError, Global};
+use vector_table::Assumptions;
+
+// How many bytes a link at this node adds.
+fn adds(key: &NodeKey, kind: Option<EdgeKind>) -> u16
+    requires { offset_of key.now.sp ≤ SIZE }
+    ensures { result ≡ adds_by (offset_of key.now.sp) kind }
+{
+    match kind {
+        None => key.sp.offset(),
+        Some(_) => key.sp.offset() + 2,
+    }
+}
+
+// The part for a link of the chain.
+fn part(
+    alloc: Global,
+    flash: &Flash,
+    assumptions: &Assumptions,
+    nodes: &Filled,
+    moves: &[Listed<u32>],
+    reached: &Filled,
+    link: &Link,
+) -> Result<Part, AllocError>
+    requires moves { AreMoves flash.now assumptions.now nodes.now moves.now }
+    requires reached { AreReached flash.now assumptions.now nodes.now reached.now }
+    requires there { link.now.node < length reached.now }
+    ensures { IfOk result (IsPart flash.now assumptions.now nodes.now reached.now link.now) }
+{
+    let _count = nodes.count();
+    let key = reached.key(link.node as usize);
+    let walk = way(alloc, flash, assumptions, nodes, moves, key)?;
+    Ok(Part {
+        inst: key.inst,
+        pc: key.pc,
+        adds: adds(key, link.kind),
+        walk,
+    })
+}
+
+/// The parts for the links of a chain over the reached nodes.
+pub(crate) fn parts(
+    alloc: Global,
+    flash: &Flash,
+    assumptions: &Assumptions,
+    nodes: &Filled,
+    moves: &[Listed<u32>],
+    reached: &Filled,
+    links: &[Link],
+) -> Result<Listed<Part>, AllocError>
+    requires moves { AreMoves flash.now assumptions.now nodes.now moves.now }
+    requires reached { AreReached flash.now assumptions.now nodes.now reached.now }
+    requires there { AreThere reached.now links.now }
+    ensures { IfOk result (AreParts flash.now assumptions.now nodes.now reached.now links.now) }
+{
+    let mut parts = Listed::empty(alloc);
+    for link in links {
+        let part = part(alloc, flash, assumptions, nodes, moves, reached, link)?;
+        parts.push(part)?;
+    }
+    Ok(parts)
+}
