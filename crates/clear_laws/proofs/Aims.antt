@@ -1,0 +1,312 @@
+-- Where a store's byte goes: to an address that its aim reaches, and at its slot.
+use Rattle.std.proofs.Common.{◌≡◌, ◌∙◌, refl, sym, ap, subst, ℕ, zero, suc, ◌+◌, ◌-◌, ◌*◌, ◌<◌, ◌≤◌, ◌&&◌, ◌==◌, ⊎_elim, Bool, true, false, nat_lt, nat_le, if◌then◌else◌, Option, Some, None, arith, eqb-true}
+use Rattle.std.specs.Prelude.{⊤}
+use Rattle.std.proofs.lemmas.Bool.{cases_lt}
+use Rattle.std.proofs.lemmas.Bool.Decides.{nat_tests}
+use Rattle.avr_model.specs.declared.device.Device.{Device}
+use Rattle.avr_model.specs.declared.instruction.Base.{Base}
+use Rattle.avr_model.specs.declared.instruction.Base.TheVariants as base_of
+use Rattle.avr_model.specs.declared.instruction.Pointer.{Pointer}
+use Rattle.avr_model.specs.declared.instruction.Pointer.TheVariants as pointer
+use Rattle.avr_model.specs.Devices.{ramend}
+use Rattle.avr_model.proofs.AllLaws.{devices_are_alike}
+use Rattle.avr_model.specs.Sites.{base_register, pointer_register}
+use Rattle.avr_model.specs.State.{State, register, pair, low, high, plus16, minus16}
+use Rattle.avr_model.specs.Effects as effects
+use Rattle.bit_domain.specs.declared.bytes.TriByte.{TriByte}
+use Rattle.bit_domain.specs.TriByte.{Has, byte_constant}
+use Rattle.bit_domain.proofs.AllLaws.{bytes_are_sets, tests_tell_members}
+use Rattle.sp_domain.specs.Tags.{Origin, TagHolds, frame_of}
+use Rattle.sp_domain.specs.Laws.{PairHolds}
+use Rattle.sp_domain.proofs.AllLaws.{pairs_are_true}
+use Rattle.abs_state.specs.declared.values.AbsByte.{AbsByte}
+use Rattle.abs_state.specs.declared.state.AbsState.{AbsState}
+use Rattle.abs_state.specs.Stands.{ByteStands}
+use Rattle.mask_states.specs.declared.keys.NodeKey.{NodeKey}
+use Rattle.mask_states.specs.declared.keys.Kind.{Kind}
+use Rattle.mask_states.specs.declared.keys.Kind.TheVariants.{Root, Call, Vector}
+use Rattle.local_rules.specs.declared.pointers.Pointed.{Pointed}
+use Rattle.local_rules.specs.Registers.{value, bits}
+use Rattle.local_rules.specs.Reads.{word_of, pair_constant, pointed, raised as number_raised, lowered as number_lowered}
+use Rattle.local_rules.specs.Local.{step_before, may_be}
+use Rattle.local_rules.specs.Cover.{InFrame}
+use Rattle.clear_laws.specs.Aims.{Span, Reach, Aim, or_number, least_below, greatest_below, first_byte, last_byte, spanning, pair_span, raised, lowered, pointer_reach, slot_at_number, slot_aimed, at_number}
+use Rattle.clear_laws.specs.Aims.reach as reach
+
+-- ---- the least and the greatest number that passes a test
+
+abbrev IsLow : Option ℕ → ℕ → Type 0
+IsLow None x = ⊥
+IsLow (Some a) x = a ≤ x
+
+abbrev IsHigh : Option ℕ → ℕ → Type 0
+IsHigh None x = ⊥
+IsHigh (Some a) x = x ≤ a
+
+least_small : (p : ℕ → Bool) (n a : ℕ) → least_below p n ≡ Some a → a < n
+unfolding least_below
+least_small p zero a e = absurd (cc)
+least_small p (suc n) a e = by (least_below p n) (p n) (least_small p n) e
+  where
+    by : (o : Option ℕ) (b : Bool) → ((x : ℕ) → o ≡ Some x → x < n) → or_number o b n ≡ Some a → a < suc n
+    by (Some x) b small e = let same : x ≡ a = cc in let lt = small x refl in omega (arith, lt, same)
+    by None true small e = let same : n ≡ a = cc in omega (arith, same)
+    by None false small e = absurd (cc)
+
+least_at : (p : ℕ → Bool) (n x : ℕ) → x < n → p x ≡ true → IsLow (least_below p n) x
+unfolding least_below
+least_at p zero x lt h = absurd (omega (arith, lt))
+least_at p (suc n) x lt h =
+    ⊎_elim (λ less. kept (least_below p n) (p n) (least_at p n x less h))
+    (λ over.
+    let same : n ≡ x = omega (arith, lt, over) in
+    last (least_below p n) (p n) (least_small p n) (ap p same ∙ h) same) (cases_lt x n)
+  where
+    kept : (o : Option ℕ) (b : Bool) → IsLow o x → IsLow (or_number o b n) x
+    kept (Some a) b h = h
+    kept None b h = absurd h
+
+    last : (o : Option ℕ) (b : Bool) → ((a : ℕ) → o ≡ Some a → a < n) → b ≡ true → n ≡ x → IsLow (or_number o b n) x
+    last (Some a) b small t same = let lt = small a refl in omega (arith, lt, same)
+    last None true small t same = omega (arith, same)
+    last None false small t same = absurd (cc)
+
+greatest_at : (p : ℕ → Bool) (n x : ℕ) → x < n → p x ≡ true → IsHigh (greatest_below p n) x
+unfolding greatest_below
+greatest_at p zero x lt h = absurd (omega (arith, lt))
+greatest_at p (suc n) x lt h = by (greatest_at p n x) (p n) refl
+  where
+    by : (x < n → p x ≡ true → IsHigh (greatest_below p n) x) → (b : Bool) → p n ≡ b → IsHigh (if b then Some n else greatest_below p n) x
+    by before true is = omega (arith, lt)
+    by before false is =
+        ⊎_elim (λ less. before less h)
+        (λ over. let same : n ≡ x = omega (arith, lt, over) in absurd (let no : false ≡ true = sym is ∙ ap p same ∙ h in cc)) (cases_lt x n)
+
+-- ---- a byte between its least and its greatest
+
+all_three : (a b c : Bool) → a ≡ true → b ≡ true → c ≡ true → ((a && b) && c) ≡ true
+all_three a b c h g k = grind arith
+
+may_stand : (o : Origin) (v : AbsByte) (x : ℕ) → ByteStands o v x → may_be v x ≡ true
+may_stand o v x stands =
+    let low : nat_le v.low x ≡ true = grind (arith, nat_tests, stands.low) in
+    let high : nat_le x v.high ≡ true = grind (arith, nat_tests, stands.high) in
+    all_three _ _ _ ((tests_tell_members.bytes v.bits x).1 stands.bits) low high
+
+-- the address is within the span
+pub record IsWithin (span : Span) (a : ℕ) : Type 0 where
+  pub first : span.first ≤ a
+  pub last : a ≤ span.last
+
+abbrev IsSpanned : Option Span → ℕ → Type 0
+IsSpanned None a = ⊥
+IsSpanned (Some span) a = IsWithin span a
+
+-- the address is one that a store may reach
+abbrev pub IsReached : Reach → ℕ → Type 0
+IsReached reach.Nothing a = ⊥
+IsReached (reach.Within span) a = IsWithin span a
+IsReached reach.Beyond a = ⊤
+
+-- what an aim says of an address
+pub record IsAimed (base : ℕ) (aim : Aim) (a : ℕ) : Type 0 where
+  pub reach : IsReached aim.reach a
+  pub slot : (d : ℕ) → aim.slot ≡ Some d → a ≡ minus16 base d
+
+spans : (a b c d : Option ℕ) (x y : ℕ) → IsLow a x → IsLow b y → IsHigh c x → IsHigh d y → IsSpanned (spanning a b c d) (x + 256 * y)
+spans (Some a) (Some b) (Some c) (Some d) x y h g i j = record { first = omega (arith, h, g); last = omega (arith, i, j) }
+spans None b c d x y h g i j = absurd h
+spans (Some a) None c d x y h g i j = absurd g
+spans (Some a) (Some b) None d x y h g i j = absurd i
+spans (Some a) (Some b) (Some c) None x y h g i j = absurd j
+
+-- ---- with a number added, or 1 taken off
+
+raised_reached : (span : Option Span) (q p : ℕ) → IsSpanned span p → IsReached (raised span q) (plus16 p q)
+raised_reached None q p h = absurd h
+raised_reached (Some span) q p h = by (nat_lt (span.first + q) 65536 && nat_lt (span.last + q) 65536) refl
+  where
+    by : (b : Bool) → (nat_lt (span.first + q) 65536 && nat_lt (span.last + q) 65536) ≡ b
+        → IsReached (if b then reach.Within (record { first = span.first + q; last = span.last + q }) else reach.Beyond) (plus16 p q)
+    by true is =
+        let fits : span.last + q < 65536 = grind (arith, nat_tests) in
+        record { first = omega (arith, h.first, h.last, fits); last = omega (arith, h.last, fits) }
+    by false is = tt
+
+lowered_reached : (span : Option Span) (p : ℕ) → p < 65536 → IsSpanned span p → IsReached (lowered span) (minus16 p 1)
+lowered_reached None p small h = absurd h
+lowered_reached (Some span) p small h = by (nat_le 1 span.first && nat_le 1 span.last) refl
+  where
+    by : (b : Bool) → (nat_le 1 span.first && nat_le 1 span.last) ≡ b
+        → IsReached (if b then reach.Within (record { first = span.first - 1; last = span.last - 1 }) else reach.Beyond) (minus16 p 1)
+    by true is =
+        let fits : 1 ≤ span.first = grind (arith, nat_tests) in
+        record { first = omega (arith, h.first, h.last, fits, small); last = omega (arith, h.first, h.last, fits, small) }
+    by false is = tt
+
+no_more : (p : ℕ) → p < 65536 → plus16 p 0 ≡ p
+no_more p h = omega arith
+
+one_less : (p : ℕ) → p < 65536 → plus16 p 65535 ≡ minus16 p 1
+one_less p h = omega arith
+
+-- ---- what a pointer gives
+
+constant_is : (t : TriByte) (x b : ℕ) → byte_constant t ≡ Some b → x < 256 → Has t x → x ≡ b
+constant_is t x b e small has = by (t.known == 255) refl e
+  where
+    by : (c : Bool) → (t.known == 255) ≡ c → (if c then Some t.value else None) ≡ Some b → x ≡ b
+    by false is e = absurd (cc)
+    by true is e =
+        let value : t.value ≡ b = cc in
+        let known = bytes_are_sets.constant t (eqb-true t.known 255 is) in
+        let member = bytes_are_sets.member t in
+        (bytes_are_sets.known t.value x member.0 small).0 (subst (λ (u : TriByte). Has u x) known has) ∙ value
+
+word_is : (lo hi : Option ℕ) (x y c : ℕ) → ((b : ℕ) → lo ≡ Some b → x ≡ b) → ((b : ℕ) → hi ≡ Some b → y ≡ b) → word_of lo hi ≡ Some c → x + 256 * y ≡ c
+word_is None hi x y c low_is high_is e = absurd (cc)
+word_is (Some b) None x y c low_is high_is e = absurd (cc)
+word_is (Some b) (Some d) x y c low_is high_is e =
+    let sum : b + 256 * d ≡ c = cc in
+    omega (arith, low_is b refl, high_is d refl)
+
+number_by : (c : Option ℕ) (p up a : ℕ) → ((x : ℕ) → c ≡ Some x → p ≡ x) → number_raised up c ≡ Some a → plus16 p up ≡ a
+number_by None p up a is e = absurd (cc)
+number_by (Some x) p up a is e =
+    let sum : plus16 x up ≡ a = cc in
+    ap (λ y. plus16 y up) (is x refl) ∙ sum
+
+lowered_number : (base j up : ℕ) → plus16 (minus16 base j) up ≡ minus16 base (minus16 j up)
+lowered_number base j up = omega arith
+
+frame_by : (f : Option ℕ) (base p up d : ℕ) → ((j : ℕ) → f ≡ Some j → p ≡ minus16 base j) → number_lowered up f ≡ Some d → plus16 p up ≡ minus16 base d
+frame_by None base p up d is e = absurd (cc)
+frame_by (Some j) base p up d is e =
+    let difference : minus16 j up ≡ d = cc in
+    ap (λ y. plus16 y up) (is j refl) ∙ lowered_number base j up ∙ ap (minus16 base) difference
+
+number_some : (a b : ℕ) → Some a ≡ Some b → a ≡ b
+number_some a b e = cc
+
+-- the slot at a number, where the base is the top of SRAM
+fold : (r base a d x : ℕ) → r < 65536 → base ≡ r → x ≤ r → r - x ≡ d → a ≡ x → a ≡ minus16 base d
+fold r base a d x small top fits slot same = omega arith
+
+top_small : (device : Device) → ramend device < 65536
+top_small device = omega (arith, devices_are_alike.most_bytes device)
+
+number_slot : (device : Device) (c : Option ℕ) (base a d : ℕ) → base ≡ ramend device → ((x : ℕ) → c ≡ Some x → a ≡ x) → slot_at_number device c ≡ Some d
+    → a ≡ minus16 base d
+number_slot device None base a d top is e = absurd (cc)
+number_slot device (Some x) base a d top is e = by (nat_le x (ramend device)) refl e
+  where
+    by : (b : Bool) → nat_le x (ramend device) ≡ b → (if b then Some (ramend device - x) else None) ≡ Some d → a ≡ minus16 base d
+    by true at e = fold (ramend device) base a d x (top_small device) top (grind (arith, nat_tests)) (number_some _ d e) (is x refl)
+    by false at e = absurd (cc)
+
+base_small : (b : Base) → base_register b + 1 < 32
+base_small base_of.Y = omega arith
+base_small base_of.Z = omega arith
+
+module _ (m : State) (o : Origin) (k : NodeKey) (s : AbsState) (at : InFrame m o k s) where
+  stands : (r : ℕ) → r < 32 → ByteStands o (value s r) (register m r)
+  stands r lt = at.stands.registers r lt
+
+  first_at : (r : ℕ) → r < 32 → IsLow (first_byte (value s r)) (register m r)
+  first_at r lt = let here = stands r lt in least_at (may_be (value s r)) 256 (register m r) here.small (may_stand o (value s r) (register m r) here)
+
+  last_at : (r : ℕ) → r < 32 → IsHigh (last_byte (value s r)) (register m r)
+  last_at r lt = let here = stands r lt in greatest_at (may_be (value s r)) 256 (register m r) here.small (may_stand o (value s r) (register m r) here)
+
+  module _ (r : ℕ) (there : r + 1 < 32) where
+    first_there : r < 32
+    first_there = omega (arith, there)
+
+    pair_small : pair m r < 65536
+    pair_small = omega (arith, (stands r first_there).small, (stands (r + 1) there).small)
+
+    pair_spanned : IsSpanned (pair_span s r) (pair m r)
+    pair_spanned =
+        spans (first_byte (value s r)) (first_byte (value s (r + 1))) (last_byte (value s r)) (last_byte (value s (r + 1))) (register m r) (register m (r + 1))
+        (first_at r first_there) (first_at (r + 1) there) (last_at r first_there) (last_at (r + 1) there)
+
+    low_is : register m r ≡ low (pair m r)
+    low_is = omega (arith, (stands r first_there).small)
+
+    high_is : register m (r + 1) ≡ high (pair m r)
+    high_is = omega (arith, (stands r first_there).small)
+
+    pair_holds : PairHolds o (value s r).tag (value s (r + 1)).tag (pair m r)
+    pair_holds =
+        record {
+          low = subst (TagHolds o (value s r).tag) low_is (stands r first_there).tag;
+          high = subst (TagHolds o (value s (r + 1)).tag) high_is (stands (r + 1) there).tag;
+        }
+
+    constant_there : (c : ℕ) → pair_constant s r ≡ Some c → pair m r ≡ c
+    constant_there c e =
+        word_is (byte_constant (bits s r)) (byte_constant (bits s (r + 1))) (register m r) (register m (r + 1)) c
+        (λ b is. constant_is (bits s r) (register m r) b is (stands r first_there).small (stands r first_there).bits)
+        (λ b is. constant_is (bits s (r + 1)) (register m (r + 1)) b is (stands (r + 1) there).small (stands (r + 1) there).bits) e
+
+    number_is : (up a : ℕ) → (pointed s r up).constant ≡ Some a → plus16 (pair m r) up ≡ a
+    number_is up a e = number_by (pair_constant s r) (pair m r) up a constant_there e
+
+    frame_is : (up d : ℕ) → (pointed s r up).frame ≡ Some d → plus16 (pair m r) up ≡ minus16 o.base d
+    frame_is up d e =
+        frame_by (frame_of (value s r).tag (value s (r + 1)).tag) o.base (pair m r) up d
+        (λ j is. pairs_are_true.frame o (value s r).tag (value s (r + 1)).tag (pair m r) j pair_small pair_holds is) e
+
+  -- the slot at an address
+  slot_is : (kind : Kind) → k.inst.kind ≡ kind → (p : Pointed) (a d : ℕ) → ((x : ℕ) → p.constant ≡ Some x → a ≡ x)
+      → ((x : ℕ) → p.frame ≡ Some x → a ≡ minus16 o.base x) → slot_aimed m.device kind p ≡ Some d → a ≡ minus16 o.base d
+  slot_is Root is p a d constant frame e = number_slot m.device p.constant o.base a d (at.root is) constant e
+  slot_is Call is p a d constant frame e = frame d e
+  slot_is (Vector v) is p a d constant frame e = frame d e
+
+  pointed_slot : (r : ℕ) → r + 1 < 32 → (up d : ℕ) → slot_aimed m.device k.inst.kind (pointed s r up) ≡ Some d → plus16 (pair m r) up ≡ minus16 o.base d
+  pointed_slot r there up d =
+      slot_is k.inst.kind refl (pointed s r up) (plus16 (pair m r) up) d (number_is r there up) (frame_is r there up)
+
+  -- ---- the three stores
+
+  displaced_at : (r : ℕ) → r + 1 < 32 → (q : ℕ)
+      → IsAimed o.base (record { reach = raised (pair_span s r) q; slot = slot_aimed m.device k.inst.kind (pointed s r q) }) (plus16 (pair m r) q)
+  displaced_at r there q = record { reach = raised_reached (pair_span s r) q (pair m r) (pair_spanned r there); slot = pointed_slot r there q }
+
+  pub displaced : (b : Base) (q : ℕ)
+      → IsAimed o.base (record { reach = raised (pair_span s (base_register b)) q; slot = slot_aimed m.device k.inst.kind (pointed s (base_register b) q) })
+      (plus16 (pair m (base_register b)) q)
+  displaced b q = displaced_at (base_register b) (base_small b) q
+
+  plain : (r : ℕ) → r + 1 < 32 → IsAimed o.base (record { reach = raised (pair_span s r) 0; slot = slot_aimed m.device k.inst.kind (pointed s r 0) }) (pair m r)
+  plain r there =
+      subst (IsAimed o.base (record { reach = raised (pair_span s r) 0; slot = slot_aimed m.device k.inst.kind (pointed s r 0) }))
+      (no_more (pair m r) (pair_small r there)) (displaced_at r there 0)
+
+  before : (r : ℕ) → r + 1 < 32
+      → IsAimed o.base (record { reach = lowered (pair_span s r); slot = slot_aimed m.device k.inst.kind (pointed s r 65535) }) (minus16 (pair m r) 1)
+  before r there =
+      record {
+        reach = lowered_reached (pair_span s r) (pair m r) (pair_small r there) (pair_spanned r there);
+        slot = λ d e. sym (one_less (pair m r) (pair_small r there)) ∙ pointed_slot r there 65535 d e;
+      }
+
+  pub by_pointer : (p : Pointer)
+      → IsAimed o.base (record { reach = pointer_reach p s; slot = slot_aimed m.device k.inst.kind (pointed s (pointer_register p) (step_before p)) })
+      (effects.pointed p (pair m (pointer_register p)))
+  by_pointer pointer.ZPlus = plain 30 (omega arith)
+  by_pointer pointer.MinusZ = before 30 (omega arith)
+  by_pointer pointer.YPlus = plain 28 (omega arith)
+  by_pointer pointer.MinusY = before 28 (omega arith)
+  by_pointer pointer.X = plain 26 (omega arith)
+  by_pointer pointer.XPlus = plain 26 (omega arith)
+  by_pointer pointer.MinusX = before 26 (omega arith)
+
+  pub direct : (a : ℕ)
+      → IsAimed o.base (record { reach = reach.Within (record { first = a; last = a }); slot = slot_aimed m.device k.inst.kind (at_number a) }) a
+  direct a =
+      record {
+        reach = record { first = omega arith; last = omega arith };
+        slot = λ d e. slot_is k.inst.kind refl (at_number a) a d (λ x is. number_some a x is) (λ x is. absurd (cc)) e;
+      }

@@ -1,0 +1,22 @@
+-- What the needs of suspended frames say of the base of the one above them.
+use Rattle.std.proofs.Common.{ℕ, ◌+◌, ◌≤◌, List, [], ◌∷◌, ap, arith}
+use Rattle.avr_model.specs.Devices.{ramend, device_of}
+use Rattle.avr_model.specs.declared.assumption.Entry.{Entry}
+use Rattle.avr_model.specs.State.{Memory}
+use Rattle.sp_domain.specs.Tags.{Origin}
+use Rattle.mask_states.specs.declared.keys.InstKey.{InstKey}
+use Rattle.mask_states.specs.Keys.{offset_of}
+use Rattle.edge_rules.specs.Families.{Family, IsSound}
+use Rattle.edge_rules.specs.Frames.{Frame, AreLeft}
+
+module _ (words : List ℕ) (A : List Entry) (f : Family) (memory : Memory) where
+  -- what the frames above a base take, and what its instance needs, is within the bound
+  pub within : IsSound words A f → (gs : List Frame) (inst : InstKey) (o : Origin) → AreLeft words A f memory gs inst o
+      → ramend (device_of words) + f.need_of inst ≤ o.base + f.bound
+  within sound [] inst o l = omega (arith, ap f.need_of l.0, l.1, sound.bounded)
+  within sound (g ∷ gs) inst o l =
+      omega (arith, within sound gs g.node.key.inst g.origin l.1, l.0.place, ap offset_of l.0.closed, sound.needs g.node l.0.way inst l.0.back l.0.present l.0.enters)
+
+  pub base_inside : (gs : List Frame) (inst : InstKey) (o : Origin) → AreLeft words A f memory gs inst o → o.base ≤ ramend (device_of words)
+  base_inside [] inst o l = omega (arith, l.1)
+  base_inside (g ∷ gs) inst o l = omega (arith, base_inside gs g.node.key.inst g.origin l.1, l.0.place)

@@ -1,0 +1,181 @@
+-- What each instruction stores and pushes.
+use Rattle.std.proofs.Common.{◌≡◌, refl, subst, ℕ, ◌<◌, ◌≤◌, Bool, true, false, List, [], Option, Some, None, arith}
+use Rattle.avr_model.specs.declared.assumption.Entry.{Entry}
+use Rattle.avr_model.specs.declared.device.Device.{Device}
+use Rattle.avr_model.specs.declared.instruction.Instr.{Instr}
+use Rattle.avr_model.specs.declared.instruction.Instr.TheVariants as i
+use Rattle.avr_model.specs.declared.instruction.BinaryOp.{BinaryOp}
+use Rattle.avr_model.specs.declared.instruction.BinaryOp.TheVariants as binary
+use Rattle.avr_model.specs.declared.instruction.ImmediateOp.{ImmediateOp}
+use Rattle.avr_model.specs.declared.instruction.ImmediateOp.TheVariants as immediate
+use Rattle.avr_model.specs.declared.instruction.UnaryOp.{UnaryOp}
+use Rattle.avr_model.specs.declared.instruction.UnaryOp.TheVariants as unary
+use Rattle.avr_model.specs.declared.effect.Effect.{Effect}
+use Rattle.avr_model.specs.Devices.{wrapped}
+use Rattle.avr_model.specs.Sites.{adds_low}
+use Rattle.avr_model.specs.Text.{far}
+use Rattle.avr_model.specs.State.{State, BELOW}
+use Rattle.avr_model.specs.Effects.{set, port, way_back, binary_effect, immediate_effect, unary_effect, effect_of}
+use Rattle.avr_model.specs.Step.{is_pointer_store}
+use Rattle.abs_state.specs.declared.state.AbsState.{AbsState}
+use Rattle.sp_domain.specs.Tags.{Origin}
+use Rattle.mask_states.specs.declared.keys.NodeKey.{NodeKey}
+use Rattle.mask_states.specs.declared.keys.SpForm.{SpForm}
+use Rattle.mask_states.specs.declared.keys.SpForm.TheVariants.{Closed, Open}
+use Rattle.local_rules.specs.declared.local.CallSite.{CallSite}
+use Rattle.local_rules.specs.declared.local.NodeFault.{NodeFault}
+use Rattle.local_rules.specs.Raw.{Raw, enters, fails, untracked_if}
+use Rattle.local_rules.specs.Flow.{is_half_written, at_closed, indirect_call, relative_call, targets_at}
+use Rattle.local_rules.specs.Local.{row_of}
+use Rattle.local_rules.specs.Cover.{InFrame}
+use Rattle.clear_laws.specs.Held.{is_push}
+use Rattle.clear_laws.specs.Aims.{Aim, aim_of}
+use Rattle.clear_laws.proofs.Ports.{PortFits}
+use Rattle.clear_laws.proofs.Aims.{IsAimed, displaced, by_pointer, direct}
+
+-- the stack pointer isn't half written
+abbrev pub IsWhole : SpForm → Type 0
+IsWhole sp = (offset : ℕ) × (sp ≡ Closed offset)
+
+-- What an instruction stores and pushes: nothing; a byte in I/O, a byte where its aim says, a register's byte on the stack, or the way back
+-- of a call. It pushes only where a node with no fault has a whole stack pointer. A guarded call has no successor in its frame.
+pub data Does (device : Device) (m : State) (base : ℕ) (k : NodeKey) (s : AbsState) (instr : Instr) (e : Effect) (row guarded_row : Raw) : Type 0 where
+  nothing : e.stores ≡ [] → e.pushes ≡ [] → Does device m base k s instr e row guarded_row
+  to_port : (a byte : ℕ) → a ≤ BELOW → is_pointer_store instr ≡ false → e.stores ≡ set a byte → e.pushes ≡ [] → Does device m base k s instr e row guarded_row
+  by_aim : (a byte : ℕ) (aim : Aim) → aim_of device k s instr ≡ Some aim → IsAimed base aim a → e.stores ≡ set a byte → e.pushes ≡ []
+      → Does device m base k s instr e row guarded_row
+  pushing : (byte : ℕ) → is_push instr ≡ true → adds_low instr ≡ false → (row.faults ≡ [] → IsWhole k.sp) → e.is_open ≡ false → e.stores ≡ []
+      → e.pushes ≡ set m.sp byte → Does device m base k s instr e row guarded_row
+  entering : (back : ℕ) → guarded_row.moves ≡ [] → adds_low instr ≡ false → (row.faults ≡ [] → IsWhole k.sp) → e.is_open ≡ false → e.stores ≡ []
+      → e.pushes ≡ way_back m.sp back → Does device m base k s instr e row guarded_row
+
+-- ---- nodes with no fault
+
+whole_at : (sp : SpForm) (pc : ℕ) (f : ℕ → Raw) → (at_closed sp pc f).faults ≡ [] → IsWhole sp
+whole_at (Closed offset) pc f h = (offset, refl)
+whole_at (Open offset high) pc f h = absurd (cc)
+
+whole_by : (sp : SpForm) (pc : ℕ) (r : Raw) → (untracked_if (is_half_written sp) pc r).faults ≡ [] → IsWhole sp
+whole_by (Closed offset) pc r h = (offset, refl)
+whole_by (Open offset high) pc r h = absurd (cc)
+
+no_moves : (b : Bool) (pc : ℕ) (sites : List CallSite) → (untracked_if b pc (enters sites)).moves ≡ []
+no_moves true pc sites = refl
+no_moves false pc sites = refl
+
+no_failed_moves : (b : Bool) (pc : ℕ) (f : NodeFault) → (untracked_if b pc (fails f)).moves ≡ []
+no_failed_moves true pc f = refl
+no_failed_moves false pc f = refl
+
+module _ (device : Device) (k : NodeKey) where
+  no_indirect_moves : (targets : Option (List ℕ)) → (indirect_call device targets k).moves ≡ []
+  no_indirect_moves None = no_failed_moves (is_half_written k.sp) k.pc _
+  no_indirect_moves (Some targets) = no_moves (is_half_written k.sp) k.pc _
+
+  whole_indirect : (targets : Option (List ℕ)) → (indirect_call device targets k).faults ≡ [] → IsWhole k.sp
+  whole_indirect None h = whole_by k.sp k.pc _ h
+  whole_indirect (Some targets) h = whole_by k.sp k.pc _ h
+
+  whole_relative : (scratch : Bool) (s : AbsState) (target : ℕ) → (relative_call device scratch k s target).faults ≡ [] → IsWhole k.sp
+  whole_relative true s target h = whole_at k.sp k.pc _ h
+  whole_relative false s target h = whole_by k.sp k.pc _ h
+
+port_low : (a : ℕ) → a < 64 → port a ≤ BELOW
+port_low a h = omega arith
+
+-- ---- operations on registers
+
+module _ (words : List ℕ) (m : State) where
+  binary_plain : (op : BinaryOp) (d r : ℕ) → ((binary_effect words m op d r).stores ≡ []) × ((binary_effect words m op d r).pushes ≡ [])
+  binary_plain binary.Cpc d r = (refl, refl)
+  binary_plain binary.Sbc d r = (refl, refl)
+  binary_plain binary.Add d r = (refl, refl)
+  binary_plain binary.Cpse d r = (refl, refl)
+  binary_plain binary.Cp d r = (refl, refl)
+  binary_plain binary.Sub d r = (refl, refl)
+  binary_plain binary.Adc d r = (refl, refl)
+  binary_plain binary.And d r = (refl, refl)
+  binary_plain binary.Eor d r = (refl, refl)
+  binary_plain binary.Or d r = (refl, refl)
+  binary_plain binary.Mov d r = (refl, refl)
+  binary_plain binary.Mul d r = (refl, refl)
+
+  immediate_plain : (op : ImmediateOp) (d n : ℕ) → ((immediate_effect m op d n).stores ≡ []) × ((immediate_effect m op d n).pushes ≡ [])
+  immediate_plain immediate.Cpi d n = (refl, refl)
+  immediate_plain immediate.Sbci d n = (refl, refl)
+  immediate_plain immediate.Subi d n = (refl, refl)
+  immediate_plain immediate.Ori d n = (refl, refl)
+  immediate_plain immediate.Andi d n = (refl, refl)
+  immediate_plain immediate.Ldi d n = (refl, refl)
+
+  unary_plain : (op : UnaryOp) (d : ℕ) → ((unary_effect m op d).stores ≡ []) × ((unary_effect m op d).pushes ≡ [])
+  unary_plain unary.Com d = (refl, refl)
+  unary_plain unary.Neg d = (refl, refl)
+  unary_plain unary.Swap d = (refl, refl)
+  unary_plain unary.Inc d = (refl, refl)
+  unary_plain unary.Asr d = (refl, refl)
+  unary_plain unary.Lsr d = (refl, refl)
+  unary_plain unary.Ror d = (refl, refl)
+  unary_plain unary.Dec d = (refl, refl)
+
+-- ---- the table, where the row is that of a state t of which the node may have forgotten something
+
+module _ (words : List ℕ) (A : List Entry) (m : State) (o : Origin) (k : NodeKey) (s t : AbsState) (at : InFrame m o k s) (scratch : Bool) (b1 b2 : ℕ) where
+  abbrev DoesBy : Device → Instr → Type 0
+  DoesBy device instr =
+      Does device m o.base k s instr (effect_of words m instr b1 b2) (row_of device words A scratch k t instr) (row_of device words A false k t instr)
+
+  does_by : (instr : Instr) → PortFits instr → DoesBy m.device instr
+  does_by (i.Movw d r) fits = nothing refl refl
+  does_by (i.Muls d r) fits = nothing refl refl
+  does_by (i.Mulsu d r) fits = nothing refl refl
+  does_by (i.Fmul d r) fits = nothing refl refl
+  does_by (i.Fmuls d r) fits = nothing refl refl
+  does_by (i.Fmulsu d r) fits = nothing refl refl
+  does_by (i.Binary op d r) fits = let p = binary_plain words m op d r in nothing p.0 p.1
+  does_by (i.Immediate op d n) fits = let p = immediate_plain words m op d n in nothing p.0 p.1
+  does_by (i.Unary op d) fits = let p = unary_plain words m op d in nothing p.0 p.1
+  does_by (i.Adiw d n) fits = nothing refl refl
+  does_by (i.Sbiw d n) fits = nothing refl refl
+  does_by (i.Bset n) fits = nothing refl refl
+  does_by (i.Bclr n) fits = nothing refl refl
+  does_by (i.Bld d b) fits = nothing refl refl
+  does_by (i.Bst d b) fits = nothing refl refl
+  does_by (i.Ldd d b q) fits = nothing refl refl
+  does_by (i.Std b q r) fits = by_aim _ _ _ refl (displaced m o k s at b q) refl refl
+  does_by (i.Lds d a) fits = nothing refl refl
+  does_by (i.Sts a r) fits = by_aim _ _ _ refl (direct m o k s at a) refl refl
+  does_by (i.Ld d p) fits = nothing refl refl
+  does_by (i.St p r) fits = by_aim _ _ _ refl (by_pointer m o k s at p) refl refl
+  does_by (i.LpmZ d) fits = nothing refl refl
+  does_by (i.LpmZPlus d) fits = nothing refl refl
+  does_by i.Lpm fits = nothing refl refl
+  does_by (i.Pop d) fits = nothing refl refl
+  does_by (i.Push r) fits = pushing _ refl refl (whole_at k.sp k.pc _) refl refl refl
+  does_by (i.In d a) fits = nothing refl refl
+  does_by (i.Out a r) fits = to_port (port a) _ (port_low a fits) refl refl refl
+  does_by (i.Cbi a b) fits = to_port (port a) _ (port_low a fits) refl refl refl
+  does_by (i.Sbi a b) fits = to_port (port a) _ (port_low a fits) refl refl refl
+  does_by i.Ijmp fits = nothing refl refl
+  does_by i.Icall fits =
+      entering _ (no_indirect_moves m.device k (targets_at m.device A k t)) refl (whole_indirect m.device k (targets_at m.device A k t)) refl refl refl
+  does_by i.Ret fits = nothing refl refl
+  does_by i.Reti fits = nothing refl refl
+  does_by (i.Jmp target) fits = nothing refl refl
+  does_by (i.Call target) fits = entering _ (no_moves (is_half_written k.sp) k.pc _) refl (whole_by k.sp k.pc _) refl refl refl
+  does_by (i.Rjmp target) fits = nothing refl refl
+  does_by (i.Rcall target) fits =
+      entering _ (no_moves (is_half_written k.sp) k.pc _) refl (whole_relative m.device k scratch t (wrapped m.device (far k.pc target))) refl refl refl
+  does_by (i.Brbs n target) fits = nothing refl refl
+  does_by (i.Brbc n target) fits = nothing refl refl
+  does_by (i.Sbic a b) fits = nothing refl refl
+  does_by (i.Sbis a b) fits = nothing refl refl
+  does_by (i.Sbrc r b) fits = nothing refl refl
+  does_by (i.Sbrs r b) fits = nothing refl refl
+  does_by i.Nop fits = nothing refl refl
+  does_by i.Sleep fits = nothing refl refl
+  does_by i.Break fits = nothing refl refl
+  does_by i.Wdr fits = nothing refl refl
+
+  pub does : (device : Device) → m.device ≡ device → (instr : Instr) → PortFits instr → DoesBy device instr
+  does device same instr fits = subst (λ (d : Device). DoesBy d instr) same (does_by instr fits)

@@ -1,0 +1,95 @@
+-- The slots that may hold a live byte are the least map with its rules.
+use Rattle.std.proofs.Common.{◌≡◌, refl, subst, ℕ, ◌+◌, ◌<◌, Bool, true, false, ◌&&◌, if◌then◌else◌, nat_le, List, [], Option, Some, None, Contains, arith}
+use Rattle.avr_model.specs.declared.assumption.Entry.{Entry}
+use Rattle.avr_model.specs.declared.device.Device.{Device}
+use Rattle.avr_model.specs.declared.instruction.Instr.{Instr}
+use Rattle.avr_model.specs.declared.instruction.Instr.TheVariants as i
+use Rattle.avr_model.specs.Devices.{size_of, device_of}
+use Rattle.avr_model.specs.Sites.{instruction_at, is_scratch, adds_low}
+use Rattle.avr_model.specs.Written.{written}
+use Rattle.abs_state.specs.declared.state.AbsState.{AbsState}
+use Rattle.mask_states.specs.declared.keys.NodeKey.{NodeKey}
+use Rattle.mask_states.specs.declared.keys.InstKey.{InstKey}
+use Rattle.mask_states.specs.declared.keys.EdgeKind.{EdgeKind}
+use Rattle.mask_states.specs.declared.keys.EdgeKind.TheVariants as kind
+use Rattle.mask_states.specs.declared.keys.SpForm.{SpForm}
+use Rattle.mask_states.specs.declared.keys.SpForm.TheVariants.{Closed, Open}
+use Rattle.mask_states.specs.Keys.{offset_of}
+use Rattle.local_rules.specs.declared.local.Node.{Node}
+use Rattle.local_rules.specs.Raw.{Raw, one}
+use Rattle.local_rules.specs.Registers.{forgetting}
+use Rattle.local_rules.specs.Flow.{at_closed, pushing}
+use Rattle.local_rules.specs.Local.{row_of}
+use Rattle.local_laws.proofs.AllLaws.{joins_are_least, none_in, each_of}
+use Rattle.edge_rules.specs.declared.edge.Edge.{Edge}
+use Rattle.edge_rules.specs.Edges.{raw_of, IsFaultless, IsEdge, moving, entering, returning, Enters, by_call, by_interrupt}
+use Rattle.clear_laws.specs.Held.{MayHold, kept, pushed, IsClosed, is_push, pushes_register, is_guarded_push}
+use Rattle.clear_laws.specs.Laws.{HeldSlotsAreLeast}
+use Rattle.clear_laws.proofs.Rows.{row_unless_added}
+
+module _ (words : List ℕ) (A : List Entry) (nodes : List Node) where
+  least : (may : NodeKey → ℕ → Bool) → IsClosed words A nodes may → (k : NodeKey) (d : ℕ) → MayHold words A nodes k d → may k d ≡ true
+  least may closed _ _ (kept n e d member edge stays held lt) = closed.keeps n e d member edge stays (least may closed n.key d held) lt
+  least may closed _ _ (pushed n e member edge is push) = closed.pushes n e member edge is push
+
+-- ---- a push leads above its offset
+
+abbrev AllAbove : ℕ → Raw → Type 0
+AllAbove offset r = (to : Node) → Contains r.moves to → offset < offset_of to.key.sp
+
+one_above : (offset : ℕ) (k : NodeKey) (s : AbsState) → offset < offset_of k.sp → AllAbove offset (one k s)
+one_above offset k s lt = each_of (λ (to : Node). offset < offset_of to.key.sp) (record { key = k; state = s }) [] lt (λ to h. absurd (none_in to h))
+
+if_above : (b : Bool) (offset : ℕ) (r q : Raw) → AllAbove offset r → AllAbove offset q → AllAbove offset (if b then r else q)
+if_above true offset r q h g = h
+if_above false offset r q h g = g
+
+push_above : (device : Device) (scratch : Bool) (k : NodeKey) (s : AbsState) (r : ℕ) (sp : SpForm) → AllAbove (offset_of sp) (at_closed sp k.pc (pushing device scratch k s r))
+push_above device scratch k s r (Closed offset) =
+    if_above (nat_le (offset + 1) (size_of device)) offset _ _ (one_above offset _ _ (omega arith)) (λ to h. absurd (none_in to h))
+push_above device scratch k s r (Open offset high) = λ to h. absurd (none_in to h)
+
+push_adds_none : (instr : Instr) → is_push instr ≡ true → adds_low instr ≡ false
+push_adds_none (i.Push r) push = refl
+push_adds_none _ push = absurd (cc)
+
+row_above : (device : Device) (words : List ℕ) (A : List Entry) (scratch : Bool) (k : NodeKey) (s : AbsState) (instr : Instr) → is_push instr ≡ true
+    → AllAbove (offset_of k.sp) (row_of device words A scratch k s instr)
+row_above device words A scratch k s (i.Push r) push = push_above device scratch k s r k.sp
+row_above device words A scratch k s _ push = absurd (cc)
+
+raw_above : (words : List ℕ) (A : List Entry) (n : Node) (x : Option Instr) → instruction_at words n.key.pc ≡ x → pushes_register x ≡ true → IsFaultless words A n
+    → AllAbove (offset_of n.key.sp) (raw_of words A n)
+raw_above words A n None is push clean = absurd (cc)
+raw_above words A n (Some instr) is push clean =
+    λ to member.
+    let row = row_unless_added words A n.key n.state instr is clean (push_adds_none instr push) in
+    row_above (device_of words) words A (is_scratch words n.key.pc) n.key (forgetting (written instr) n.state) instr push to
+    (subst (λ (l : List Node). Contains l to) row.moves member)
+
+first_of_two : (a b : Bool) → (a && b) ≡ true → a ≡ true
+first_of_two a b h = grind arith
+
+not_local : {words : List ℕ} {A : List Entry} {n : Node} {way : EdgeKind} {inst : InstKey} {back : ℕ} → Enters words A n way inst back → way ≡ kind.Local → ⊥
+not_local (by_call offset site faultless form member) = λ e. cc
+not_local (by_interrupt offset v clears faultless form i delay enabled clearable) = λ e. cc
+
+module _ (words : List ℕ) (A : List Entry) (nodes : List Node) where
+  pushed_below : (n : Node) (e : Edge) → is_guarded_push words n.key.pc ≡ true → IsEdge words A nodes n e → e.kind ≡ kind.Local → offset_of n.key.sp < offset_of e.to.sp
+  pushed_below n _ push (moving to faultless member) is =
+      let from = joins_are_least.keys (raw_of words A n).moves to member in
+      subst (λ (k : NodeKey). offset_of n.key.sp < offset_of k.sp) from.1.1
+      (raw_above words A n (instruction_at words n.key.pc) refl (first_of_two _ _ push) faultless from.0 from.1.0)
+  pushed_below n _ push (entering way inst back enters) is = absurd (not_local enters is)
+  pushed_below n _ push (returning way inst back leaver x state enters present same faultless exit after) is = absurd (cc)
+
+  below : (k : NodeKey) (d : ℕ) → MayHold words A nodes k d → d < offset_of k.sp
+  below _ _ (kept n e d member edge stays held lt) = lt
+  below _ _ (pushed n e member edge is push) = pushed_below n e push edge is
+
+pub held_slots_are_least : HeldSlotsAreLeast
+held_slots_are_least =
+    record {
+      least = λ words A nodes may k d closed. least words A nodes may closed k d;
+      below = below;
+    }

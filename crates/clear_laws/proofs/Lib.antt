@@ -1,0 +1,14 @@
+pub mod Memory
+pub mod Ports
+pub mod Aims
+pub mod Effects
+pub mod Bases
+pub mod Opens
+pub mod Rows
+pub mod Steps
+pub mod Kept
+pub mod Unflagged
+pub mod Runs
+pub mod Least
+pub mod Told
+pub mod AllLaws

@@ -1,0 +1,78 @@
+-- The numbers of I/O registers that instructions name are below 64.
+use Rattle.std.proofs.Common.{◌≡◌, refl, subst, ℕ, ◌+◌, ◌*◌, ◌<◌, ◌==◌, ◌&&◌, not, Bool, true, false, List, [], ◌∷◌, length, Option, Some, None, if◌then◌else◌, arith}
+use Rattle.std.specs.Prelude.{⊤}
+use Rattle.std.specs.Int.{bit_at}
+use Rattle.std.proofs.lemmas.Nat.Bits.{bit_at-lt}
+use Rattle.avr_model.specs.declared.device.Device.{Device}
+use Rattle.avr_model.specs.declared.instruction.Instr.{Instr}
+use Rattle.avr_model.specs.declared.instruction.Instr.TheVariants as i
+use Rattle.avr_model.specs.Devices.{has_jmp, device_of}
+use Rattle.avr_model.specs.Image.{word_at}
+use Rattle.avr_model.specs.Pattern.{places, letter}
+use Rattle.avr_model.specs.Sites.{instruction_at, on_device, is_long_transfer}
+use Rattle.avr_model.specs.Table.{Row, fields, matches, table, decoded, decoded_by}
+
+abbrev pub PortFits : Instr → Type 0
+PortFits (i.Out a r) = a < 64
+PortFits (i.Cbi a b) = a < 64
+PortFits (i.Sbi a b) = a < 64
+PortFits instr = ⊤
+
+-- what the number is below: twice as much for each place
+abbrev bound_of : ℕ → ℕ → List ℕ → ℕ
+bound_of c below [] = below
+bound_of c below (x ∷ p) = bound_of c (if x == c then below * 2 else below) p
+
+place_below : (b : Bool) (sofar bit below : ℕ) → bit < 2 → sofar < below → (if b then sofar * 2 + bit else sofar) < (if b then below * 2 else below)
+place_below true sofar bit below small lt = omega arith
+place_below false sofar bit below small lt = lt
+
+letter_below : (c : ℕ) (p : List ℕ) (w sofar below : ℕ) → sofar < below → letter c sofar p w < bound_of c below p
+letter_below c [] w sofar below lt = lt
+letter_below c (x ∷ p) w sofar below lt =
+    letter_below c p w (if x == c then sofar * 2 + bit_at w (length p) else sofar) (if x == c then below * 2 else below)
+    (place_below (x == c) sofar (bit_at w (length p)) below (bit_at-lt w (length p)) lt)
+
+-- a number in five or six places
+small : (p : List ℕ) (w n : ℕ) → bound_of 65 1 p ≡ n → letter 65 0 p w < n
+small p w n e = subst (λ (n : ℕ). letter 65 0 p w < n) e (letter_below 65 p w 0 1 (omega arith))
+
+within : (a : ℕ) → a < 32 → a < 64
+within a h = omega arith
+
+abbrev RowsFit : List Row → ℕ → ℕ → Type 0
+RowsFit [] w next = ⊤
+RowsFit (row ∷ rows) w next = PortFits (row.instr (fields row.pattern w next)) × RowsFit rows w next
+
+table_fits : (w next : ℕ) → RowsFit table w next
+table_fits w next =
+    let cbi = within _ (small (places "1001 1000 AAAA Abbb") w 32 refl) in
+    let sbi = within _ (small (places "1001 1010 AAAA Abbb") w 32 refl) in
+    let out = small (places "1011 1AAr rrrr AAAA") w 64 refl in
+    assumption (cbi, sbi, out)
+
+rows_fit : (rows : List Row) (w next : ℕ) (instr : Instr) → RowsFit rows w next → decoded_by rows w next ≡ Some instr → PortFits instr
+rows_fit [] w next instr h e = cc
+rows_fit (row ∷ rows) w next instr h e = by (matches row w) (rows_fit rows w next instr h.1) e
+  where
+    by : (b : Bool) → (decoded_by rows w next ≡ Some instr → PortFits instr)
+        → (if b then Some (row.instr (fields row.pattern w next)) else decoded_by rows w next) ≡ Some instr → PortFits instr
+    by true rest e = let is : row.instr (fields row.pattern w next) ≡ instr = cc in subst PortFits is h.0
+    by false rest e = rest e
+
+decoded_fits : (w next : ℕ) (instr : Instr) → decoded w next ≡ Some instr → PortFits instr
+unfolding decoded
+decoded_fits w next instr e = rows_fit table w next instr (table_fits w next) e
+
+-- a device leaves an instruction out or has it as it is
+device_fits : (device : Device) (x : Option Instr) (instr : Instr) → ((y : Instr) → x ≡ Some y → PortFits y) → on_device device x ≡ Some instr → PortFits instr
+device_fits device None instr h e = absurd (cc)
+device_fits device (Some y) instr h e = by (is_long_transfer y && not (has_jmp device)) e
+  where
+    by : (b : Bool) → (if b then None else Some y) ≡ Some instr → PortFits instr
+    by true e = absurd (cc)
+    by false e = let is : y ≡ instr = cc in subst PortFits is (h y refl)
+
+pub ports_fit : (words : List ℕ) (pc : ℕ) (instr : Instr) → instruction_at words pc ≡ Some instr → PortFits instr
+ports_fit words pc instr e =
+    device_fits (device_of words) (decoded (word_at words pc) (word_at words (pc + 1))) instr (λ y is. decoded_fits (word_at words pc) (word_at words (pc + 1)) y is) e

@@ -1,0 +1,101 @@
+-- A node leads where its instruction's row says, but where it splits at a jump table, whose instruction adds to r30.
+use Rattle.std.proofs.Common.{◌≡◌, refl, sym, ap, ◌∙◌, ℕ, ◌+◌, Bool, true, false, ◌&&◌, if◌then◌else◌, nat_lt, List, [], Option, Some, None, ◌⊎◌, inl, inr, lt-ltb}
+use Rattle.avr_model.specs.declared.assumption.Entry.{Entry}
+use Rattle.avr_model.specs.declared.device.Device.{Device}
+use Rattle.avr_model.specs.declared.instruction.Instr.{Instr}
+use Rattle.avr_model.specs.Devices.{words_of, size_of, wrapped, device_of}
+use Rattle.avr_model.specs.Sites.{instruction_at, is_scratch, adds_low, adds_high, is_some_that, ijmp_from, table_site}
+use Rattle.avr_model.specs.Written.{written}
+use Rattle.abs_state.specs.declared.state.AbsState.{AbsState}
+use Rattle.mask_states.specs.declared.keys.NodeKey.{NodeKey}
+use Rattle.mask_states.specs.Keys.{offset_of}
+use Rattle.local_rules.specs.Raw.{Raw, untracked_if, too_deep_if}
+use Rattle.local_rules.specs.Registers.{forgetting}
+use Rattle.local_rules.specs.Local.{raw, row_of, row_at, row_in, is_hung, fetched, unlined, split_site, splitting}
+use Rattle.local_laws.proofs.AllLaws.{local_parts_fit}
+
+-- ---- the site of a table
+
+unlined_some : (A : List Entry) (x : Option ℕ) (jump : ℕ) → unlined A x ≡ Some jump → (y : ℕ) × (x ≡ Some y)
+unlined_some A None jump e = absurd (cc)
+unlined_some A (Some y) jump e = (y, refl)
+
+site_adds : (words : List ℕ) (a jump : ℕ) → table_site words a ≡ Some jump → is_some_that adds_low (instruction_at words a) ≡ true
+unfolding table_site
+site_adds words a jump e = by (is_some_that adds_low (instruction_at words a)) (is_some_that adds_high (instruction_at words (a + 1))) e
+  where
+    by : (low high : Bool) → (if low && high then ijmp_from words 16 (wrapped (device_of words) (a + 2)) else None) ≡ Some jump → low ≡ true
+    by true high e = refl
+    by false high e = absurd (cc)
+
+splits_at : (words : List ℕ) (A : List Entry) (pc : ℕ) (pick : Option ℕ) (jump : ℕ) → split_site words A pc pick ≡ Some jump
+    → is_some_that adds_low (instruction_at words pc) ≡ true
+splits_at words A pc None jump e = by (nat_lt pc (words_of (device_of words))) e
+  where
+    by : (inside : Bool) → (if inside then unlined A (table_site words pc) else None) ≡ Some jump → is_some_that adds_low (instruction_at words pc) ≡ true
+    by true e = let found = unlined_some A (table_site words pc) jump e in site_adds words pc found.0 found.1
+    by false e = absurd (cc)
+splits_at words A pc (Some byte) jump e = absurd (cc)
+
+-- ---- faults and moves
+
+outer_moves : (a b : Bool) (pc offset : ℕ) (r : Raw) → (untracked_if a pc (too_deep_if b pc offset r)).moves ≡ r.moves
+outer_moves true true pc offset r = refl
+outer_moves true false pc offset r = refl
+outer_moves false true pc offset r = refl
+outer_moves false false pc offset r = refl
+
+outer_faultless : (a b : Bool) (pc offset : ℕ) (r : Raw) → (untracked_if a pc (too_deep_if b pc offset r)).faults ≡ [] → (a ≡ false) × (r.faults ≡ [])
+outer_faultless true b pc offset r h = absurd (cc)
+outer_faultless false true pc offset r h = absurd (cc)
+outer_faultless false false pc offset r h = (refl, h)
+
+-- what a node has by its instruction's row
+pub record IsRow (words : List ℕ) (A : List Entry) (k : NodeKey) (s : AbsState) (instr : Instr) : Type 0 where
+  pub faultless : (row_of (device_of words) words A (is_scratch words k.pc) k (forgetting (written instr) s) instr).faults ≡ []
+  pub moves : (raw words A k s).moves ≡ (row_of (device_of words) words A (is_scratch words k.pc) k (forgetting (written instr) s) instr).moves
+
+module _ (words : List ℕ) (A : List Entry) (k : NodeKey) (s : AbsState) where
+  abbrev device : Device
+  device = device_of words
+
+  abbrev outside : Raw → Raw
+  outside r = untracked_if (is_hung k k.sp) k.pc (too_deep_if (nat_lt (size_of device) (offset_of k.sp)) k.pc (offset_of k.sp) r)
+
+  raw_is : (site : Option ℕ) → split_site words A k.pc k.pick ≡ site → raw words A k s ≡ outside (splitting site (row_in device words A) k s)
+  unfolding raw
+  raw_is site e = ap (λ site. outside (splitting site (row_in device words A) k s)) e
+
+  -- a node without a fault isn't half written where an interrupt may come
+  pub not_hung : (raw words A k s).faults ≡ [] → is_hung k k.sp ≡ false
+  unfolding raw
+  not_hung h = (outer_faultless (is_hung k k.sp) (nat_lt (size_of device) (offset_of k.sp)) k.pc (offset_of k.sp) _ h).0
+
+  module _ (instr : Instr) (is : instruction_at words k.pc ≡ Some instr) (clean : (raw words A k s).faults ≡ []) where
+    there : fetched device words k.pc ≡ Some instr
+    there =
+        ap (λ (b : Bool). if b then instruction_at words k.pc else None) (lt-ltb k.pc (words_of device) (local_parts_fit.inside words A k s clean).0) ∙ is
+
+    row_is : row_in device words A k s ≡ row_of device words A (is_scratch words k.pc) k (forgetting (written instr) s) instr
+    row_is = ap (row_at device words A (is_scratch words k.pc) k s) there
+
+    by_site : (site : Option ℕ) → split_site words A k.pc k.pick ≡ site → IsRow words A k s instr ⊎ (adds_low instr ≡ true)
+    by_site None e =
+        let same = raw_is None e in
+        inl (record {
+          faultless =
+              ap (λ (r : Raw). r.faults) (sym row_is)
+              ∙ (outer_faultless (is_hung k k.sp) (nat_lt (size_of device) (offset_of k.sp)) k.pc (offset_of k.sp) (row_in device words A k s) (ap (λ (r : Raw). r.faults) (sym same) ∙ clean)).1;
+          moves =
+              ap (λ (r : Raw). r.moves) same
+              ∙ outer_moves (is_hung k k.sp) (nat_lt (size_of device) (offset_of k.sp)) k.pc (offset_of k.sp) (row_in device words A k s) ∙ ap (λ (r : Raw). r.moves) row_is;
+        })
+    by_site (Some jump) e = inr (ap (is_some_that adds_low) (sym is) ∙ splits_at words A k.pc k.pick jump e)
+
+    -- what doesn't add to r30 has its row
+    pub row_unless_added : adds_low instr ≡ false → IsRow words A k s instr
+    row_unless_added other = by (by_site (split_site words A k.pc k.pick) refl)
+      where
+        by : IsRow words A k s instr ⊎ (adds_low instr ≡ true) → IsRow words A k s instr
+        by (inl row) = row
+        by (inr adds) = absurd (let no : true ≡ false = sym adds ∙ other in cc)

@@ -1,0 +1,85 @@
+-- A run from reset that ends flagged ends at a word of a node that may be flagged.
+use Rattle.std.proofs.Common.{◌≡◌, refl, ap, ◌∙◌, sym, ℕ, zero, suc, ◌+◌, ◌-◌, ◌&&◌, Bool, true, false, List, [], ◌∷◌, replicate, nat_lt, slice_index_or, arith}
+use Rattle.avr_model.specs.Devices.{size_of, device_of}
+use Rattle.avr_model.specs.declared.assumption.Entry.{Entry}
+use Rattle.avr_model.specs.declared.choice.Choice.{Choice}
+use Rattle.avr_model.specs.declared.choice.Flag.{Flag}
+use Rattle.avr_model.specs.declared.choice.Stop.TheVariants as stop
+use Rattle.avr_model.specs.State.{State, IsReset, BELOW, live_in}
+use Rattle.avr_model.specs.Step.{Answer, Illegal, Undefined, Overflow, Flagged, Done, step}
+use Rattle.avr_model.specs.Run.{IsRun, RunsOn, stop_of, stop_on}
+use Rattle.local_rules.specs.Machine.{AreWords}
+use Rattle.edge_rules.specs.Families.{Family, IsSound}
+use Rattle.edge_rules.specs.Frames.{Frame, Runs, IsFine}
+use Rattle.frame_laws.proofs.AllLaws.{frames_start, frames_step}
+use Rattle.clear_laws.specs.Clear.{MayBeFlagged, word_of_flag}
+use Rattle.clear_laws.specs.Laws.{FlaggedRunsAreTold}
+use Rattle.clear_laws.proofs.Kept.{Holding, step_holds}
+use Rattle.clear_laws.proofs.Unflagged.{not_flagged_here, flag_names}
+
+-- ---- reset
+
+none_at : (n i : ℕ) → slice_index_or (replicate n false) i false ≡ false
+none_at zero i = refl
+none_at (suc n) zero = refl
+none_at (suc n) (suc i) = none_at n i
+
+and_second : (a b : Bool) → b ≡ false → (a && b) ≡ true → ⊥
+and_second a b h e = grind arith
+
+none_live : (n : ℕ) (live : List Bool) (a : ℕ) → live ≡ replicate n false → live_in live a ≡ true → ⊥
+unfolding live_in
+none_live n live a e h =
+    and_second (nat_lt BELOW a) (slice_index_or live (a - (BELOW + 1)) false)
+    (ap (λ (l : List Bool). slice_index_or l (a - (BELOW + 1)) false) e ∙ none_at n (a - (BELOW + 1))) h
+
+flag_same : (p q : Flag) → stop.Flag p ≡ stop.Flag q → p ≡ q
+flag_same p q e = cc
+
+module _ (words : List ℕ) (A : List Entry) (f : Family) (sized : AreWords words) (sound : IsSound words A f) (flag : Flag) where
+  -- what a run owes from a state on
+  abbrev Told : List Choice → State → Type 0
+  Told cs m = (g : Frame) (gs : List Frame) → Runs words A f m g gs → Holding words A f m.memory g gs → IsRun words A cs m → stop_of words A cs m ≡ stop.Flag flag
+      → MayBeFlagged words A f (word_of_flag flag)
+
+  by_answer : (c : Choice) (cs : List Choice) (m : State) (g : Frame) (gs : List Frame) → Runs words A f m g gs → Holding words A f m.memory g gs → ((n : State) → Told cs n)
+      → (a : Answer) → step words A m c ≡ a → IsFine words A f c g gs a → RunsOn a cs (IsRun words A cs) → stop_on a (stop_of words A cs) ≡ stop.Flag flag
+      → MayBeFlagged words A f (word_of_flag flag)
+  by_answer c cs m g gs runs holds on Illegal is fine run ends = absurd run
+  by_answer c cs m g gs runs holds on (Undefined pc) is fine run ends = absurd fine
+  by_answer c cs m g gs runs holds on (Overflow pc) is fine run ends = absurd fine
+  by_answer c cs m g gs runs holds on (Flagged why) is fine run ends =
+      record {
+        node = g.node;
+        present = runs.present;
+        is = sym runs.running.place.pc ∙ sym (flag_names words A m why c is) ∙ ap word_of_flag (flag_same why flag ends);
+        unclear = λ clear. not_flagged_here words A f sound m g gs runs holds clear why c is;
+      }
+  by_answer c cs m g gs runs holds on (Done n) is fine run ends =
+      on n fine.0 fine.1 fine.2 (step_holds words A f sound m n g gs runs holds c fine.0 fine.1 is fine.2 fine.3) run ends
+
+  told_from : (cs : List Choice) (m : State) → Told cs m
+  told_from [] m g gs runs holds run ends = absurd (cc)
+  told_from (c ∷ cs) m g gs runs holds run ends =
+      by_answer c cs m g gs runs holds (told_from cs) (step words A m c) refl (frames_step.fine words A f m g gs c sized sound runs run.0) run.1 ends
+
+  told : (m : State) (choices : List Choice) → IsReset (device_of words) m → IsRun words A choices m → stop_of words A choices m ≡ stop.Flag flag
+      → MayBeFlagged words A f (word_of_flag flag)
+  told m choices reset run ends =
+      let start = frames_start.starts words A f m sound.formed sound.reset reset in
+      told_from choices m _ [] start.runs
+      record {
+        above = λ a live. absurd (none_live (size_of (device_of words)) m.memory.live a reset.none_live live);
+        depth = omega arith;
+        running = λ d lt live. absurd (omega (arith, lt));
+        left = tt;
+      }
+      run ends
+
+pub flagged_runs_are_told : FlaggedRunsAreTold
+flagged_runs_are_told =
+    record {
+      told = λ words A f m choices flag sized sound reset run ends. told words A f sized sound flag m choices reset run ends;
+      never = λ words A f sized sound clear m choices flag reset run ends.
+          let at = told words A f sized sound flag m choices reset run ends in at.unclear (clear at.node at.present);
+    }

@@ -1,0 +1,217 @@
+-- What a step that is done makes live: the bytes that a guarded push or an entry pushes, at the stack pointer and below.
+use Rattle.std.proofs.Common.{◌≡◌, ◌≢◌, refl, sym, ap, ap₂, ◌∙◌, subst, ℕ, ◌+◌, ◌<◌, ◌≤◌, Bool, true, false, not, ◌&&◌, ◌||◌, if◌then◌else◌, List, [], ◌++◌, length, Option, Some, None, ◌⊎◌, inl, inr, ⊎_elim, arith}
+use Rattle.avr_model.specs.declared.assumption.Entry.{Entry}
+use Rattle.avr_model.specs.declared.instruction.Instr.{Instr}
+use Rattle.avr_model.specs.declared.choice.Choice.{Choice}
+use Rattle.avr_model.specs.declared.choice.Choice.TheVariants.{Go, Take}
+use Rattle.avr_model.specs.declared.effect.Effect.{Effect}
+use Rattle.avr_model.specs.declared.effect.Write.{Write}
+use Rattle.avr_model.specs.Devices.{device_of}
+use Rattle.avr_model.specs.Sites.{instruction_at, is_scratch, adds_low}
+use Rattle.avr_model.specs.Written.{written}
+use Rattle.avr_model.specs.State.{State, Memory, is_live}
+use Rattle.avr_model.specs.Effects.{effect_of, way_back}
+use Rattle.avr_model.specs.Step.{Answer, Illegal, Overflow, Done, after, all_inside, live_write, protected_write, unlisted_transfer, is_unlisted, flag_by, flagged_or, memory_after, open_after, sp_after, may_take, entering, take, go, step}
+use Rattle.abs_state.specs.declared.state.AbsState.{AbsState}
+use Rattle.mask_states.specs.declared.keys.NodeKey.{NodeKey}
+use Rattle.mask_states.specs.declared.keys.SpForm.{SpForm}
+use Rattle.mask_states.specs.declared.keys.SpForm.TheVariants.{Closed}
+use Rattle.mask_states.specs.Place.{SpIs}
+use Rattle.local_rules.specs.Registers.{forgetting}
+use Rattle.local_rules.specs.Local.{row_of}
+use Rattle.edge_rules.specs.Edges.{raw_of}
+use Rattle.edge_rules.specs.Families.{Family, IsSound}
+use Rattle.edge_rules.specs.Frames.{Frame, Runs}
+use Rattle.clear_laws.specs.Held.{is_push, pushes_register, is_guarded_push}
+use Rattle.clear_laws.proofs.Memory.{IsPushedAt, inside_if_live, live_comes, live_above}
+use Rattle.clear_laws.proofs.Ports.{ports_fit}
+use Rattle.clear_laws.proofs.Effects.{IsWhole, Does, nothing, to_port, by_aim, pushing, entering as enters, does}
+use Rattle.clear_laws.proofs.Rows.{IsRow, row_unless_added}
+
+-- ---- what a step that is done did
+
+done_is : (x n : State) → Done x ≡ Done n → x ≡ n
+done_is x n e = cc
+
+flags_done : (pc : ℕ) (a b c : Option ℕ) (x n : State) → flagged_or (flag_by pc a b c) x ≡ Done n → x ≡ n
+flags_done pc (Some a) b c x n e = absurd (cc)
+flags_done pc None (Some b) c x n e = absurd (cc)
+flags_done pc None None (Some c) x n e = absurd (cc)
+flags_done pc None None None x n e = done_is x n e
+
+if_done : (t : Bool) (a b : Answer) (n : State) → ((k : State) → b ≢ Done k) → (if t then a else b) ≡ Done n → a ≡ Done n
+if_done true a b n other e = e
+if_done false a b n other e = absurd (other n e)
+
+-- an instruction's effect
+pub record Went (words : List ℕ) (m n : State) (b1 b2 : ℕ) : Type 0 where
+  pub instr : Instr
+  pub is : instruction_at words m.pc ≡ Some instr
+  pub leads : after m (not (is_scratch words m.pc)) (effect_of words m instr b1 b2) ≡ n
+
+module _ (words : List ℕ) (A : List Entry) (m n : State) where
+  went_by : (b1 b2 : ℕ) (x : Option Instr) → instruction_at words m.pc ≡ x → go words A m x b1 b2 ≡ Done n → Went words m n b1 b2
+  went_by b1 b2 None is e = absurd (cc)
+  went_by b1 b2 (Some instr) is e =
+      let effect = effect_of words m instr b1 b2 in
+      record {
+        instr = instr;
+        is = is;
+        leads =
+            flags_done m.pc (live_write m.memory (effect.stores ++ effect.pushes)) (protected_write words A m.pc instr effect) (unlisted_transfer A m.pc instr effect)
+            (after m (not (is_scratch words m.pc)) effect) n
+            (if_done (all_inside m.device effect.pushes || is_unlisted (unlisted_transfer A m.pc instr effect)) _ (Overflow m.pc) n (λ k wrong. cc) e);
+      }
+
+  went : (b1 b2 : ℕ) → step words A m (Go b1 b2) ≡ Done n → Went words m n b1 b2
+  went b1 b2 e = went_by b1 b2 (instruction_at words m.pc) refl e
+
+  took : (v : ℕ) (clears : Bool) → step words A m (Take v clears) ≡ Done n → after m true (entering m v clears) ≡ n
+  took v clears e =
+      let effect = entering m v clears in
+      let legal = if_done (may_take m v clears) (take m effect) Illegal n (λ k wrong. cc) e in
+      flags_done m.pc (live_write m.memory effect.pushes) None None (after m true effect) n
+      (if_done (all_inside m.device effect.pushes) _ (Overflow m.pc) n (λ k wrong. cc) legal)
+
+-- ---- what comes to be live
+
+-- Whether this byte was pushed: at the stack pointer or below it, by a node with a whole one. An instruction is a guarded push of it, or
+-- has no successor in its frame.
+pub record Fresh (words : List ℕ) (A : List Entry) (g : Frame) (n : State) (c : Choice) (a : ℕ) : Type 0 where
+  pub offset : ℕ
+  pub closed : g.node.key.sp ≡ Closed offset
+  pub low : a + offset ≤ g.origin.base
+  pub whole : n.is_open ≡ false
+  pub which : (b1 b2 : ℕ) → c ≡ Go b1 b2
+      → ((is_guarded_push words g.node.key.pc ≡ true) × (a + offset ≡ g.origin.base)) ⊎ ((raw_of words A g.node).moves ≡ [])
+
+abbrev pub Comes : List ℕ → List Entry → Frame → State → State → Choice → Type 0
+Comes words A g m n c = (a : ℕ) → is_live n.memory a ≡ true → (is_live m.memory a ≡ true) ⊎ Fresh words A g n c a
+
+-- no byte at or below a whole stack pointer is live
+abbrev pub IsAbove : State → Type 0
+IsAbove n = n.is_open ≡ false → (a : ℕ) → is_live n.memory a ≡ true → n.sp < a
+
+above_by : (memory : Memory) (sp : ℕ) (stores pushes : List Write) (a : ℕ) (guarded is_open : Bool) → is_open ≡ false
+    → is_live (memory_after memory guarded is_open sp stores pushes) a ≡ true → sp < a
+above_by memory sp stores pushes a guarded true e h = absurd (cc)
+above_by memory sp stores pushes a guarded false e h = live_above memory sp stores pushes a guarded h
+
+above_after : (m : State) (guarded : Bool) (e : Effect) → IsAbove (after m guarded e)
+above_after m guarded e whole a h = above_by m.memory _ e.stores e.pushes a guarded _ whole h
+
+-- a byte of the way back lies at the stack pointer or below
+way_low : (sp back base offset a : ℕ) → sp + offset ≡ base → a < 2304 → IsPushedAt (way_back sp back) a → a + offset ≤ base
+way_low sp back base offset a at inside (inl e) = omega arith
+way_low sp back base offset a at inside (inr (inl e)) = omega arith
+way_low sp back base offset a at inside (inr (inr e)) = absurd e
+
+guarded_by : (words : List ℕ) (pc pc' : ℕ) (instr : Instr) → pc ≡ pc' → instruction_at words pc ≡ Some instr → is_push instr ≡ true → not (is_scratch words pc) ≡ true
+    → is_guarded_push words pc' ≡ true
+guarded_by words pc pc' instr same is push guarded =
+    subst (λ p. is_guarded_push words p ≡ true) same (ap₂ (λ a b. a && b) (ap pushes_register is ∙ push) guarded)
+
+pub whole_sp : (base : ℕ) (is_open : Bool) (sp offset : ℕ) (form : SpForm) → form ≡ Closed offset → SpIs base is_open sp form → sp + offset ≡ base
+whole_sp base is_open sp offset form e h = (subst (SpIs base is_open sp) e h).1
+
+is_false : (b : Bool) → not b ≡ true → b ≡ false
+is_false true e = absurd (cc)
+is_false false e = refl
+
+module _ (words : List ℕ) (A : List Entry) (f : Family) (sound : IsSound words A f) (m n : State) (few : length n.memory.live ≤ 2048) (g : Frame) (gs : List Frame)
+    (runs : Runs words A f m g gs) where
+  at_sp : (offset : ℕ) → g.node.key.sp ≡ Closed offset → m.sp + offset ≡ g.origin.base
+  at_sp offset e = whole_sp g.origin.base m.is_open m.sp offset g.node.key.sp e runs.running.place.sp
+
+  low_live : (a : ℕ) → is_live n.memory a ≡ true → a < 2304
+  low_live a live = omega (arith, inside_if_live n.memory.live a live, few)
+
+  module _ (b1 b2 : ℕ) (w : Went words m n b1 b2) where
+    abbrev k : NodeKey
+    k = g.node.key
+
+    abbrev effect : Effect
+    effect = effect_of words m w.instr b1 b2
+
+    abbrev scratch : Bool
+    scratch = is_scratch words k.pc
+
+    abbrev state : AbsState
+    state = forgetting (written w.instr) g.node.state
+
+    here : instruction_at words k.pc ≡ Some w.instr
+    here = subst (λ p. instruction_at words p ≡ Some w.instr) runs.running.place.pc w.is
+
+    row : adds_low w.instr ≡ false → IsRow words A k g.node.state w.instr
+    row = row_unless_added words A k g.node.state w.instr here (sound.faultless g.node runs.present)
+
+    -- a guarded instruction's row is that of one that isn't scratch
+    still : adds_low w.instr ≡ false → not (is_scratch words m.pc) ≡ true → (row_of (device_of words) words A false k state w.instr).moves ≡ []
+        → (raw_of words A g.node).moves ≡ []
+    still plain guarded none =
+        (row plain).moves
+        ∙ ap (λ b. (row_of (device_of words) words A b k state w.instr).moves) (is_false scratch (subst (λ p. not (is_scratch words p) ≡ true) runs.running.place.pc guarded)) ∙ none
+
+    open_is : (after m (not (is_scratch words m.pc)) effect).is_open ≡ n.is_open
+    open_is = ap (λ (x : State). x.is_open) w.leads
+
+    whole : effect.is_open ≡ false → effect.stores ≡ [] → n.is_open ≡ false
+    whole closed none = sym open_is ∙ ap₂ open_after closed none
+
+    fresh : (a : ℕ) → a < 2304 → not (is_scratch words m.pc) ≡ true → IsPushedAt effect.pushes a
+        → Does (device_of words) m g.origin.base k g.node.state w.instr effect (row_of (device_of words) words A scratch k state w.instr) (row_of (device_of words) words A false k state w.instr)
+        → Fresh words A g n (Go b1 b2) a
+    fresh a inside guarded at (nothing stores pushes) = absurd (subst (λ ws. IsPushedAt ws a) pushes at)
+    fresh a inside guarded at (to_port b byte low plain stores pushes) = absurd (subst (λ ws. IsPushedAt ws a) pushes at)
+    fresh a inside guarded at (by_aim b byte aim is aimed stores pushes) = absurd (subst (λ ws. IsPushedAt ws a) pushes at)
+    fresh a inside guarded at (pushing byte push plain closes closed stores pushes) =
+        let form = closes (row plain).faultless in
+        let sp = at_sp form.0 form.1 in
+        let top : a ≡ m.sp = ⊎_elim (λ e. e) (λ no. absurd no) (subst (λ ws. IsPushedAt ws a) pushes at) in
+        record {
+          offset = form.0;
+          closed = form.1;
+          low = omega (arith, top, sp);
+          whole = whole closed stores;
+          which = λ c1 c2 e. inl (guarded_by words m.pc k.pc w.instr runs.running.place.pc w.is push guarded, omega (arith, top, sp));
+        }
+    fresh a inside guarded at (enters back none plain closes closed stores pushes) =
+        let form = closes (row plain).faultless in
+        record {
+          offset = form.0;
+          closed = form.1;
+          low = way_low m.sp back g.origin.base form.0 a (at_sp form.0 form.1) inside (subst (λ ws. IsPushedAt ws a) pushes at);
+          whole = whole closed stores;
+          which = λ c1 c2 e. inr (still plain guarded none);
+        }
+
+    comes_going : Comes words A g m n (Go b1 b2)
+    comes_going a live =
+        let guarded = not (is_scratch words m.pc) in
+        let was = subst (λ (x : State). is_live x.memory a ≡ true) (sym w.leads) live in
+        ⊎_elim (λ l. inl l)
+        (λ p. inr (fresh a (low_live a live) p.0 p.1
+        (does words A m g.origin k g.node.state state runs.running scratch b1 b2 (device_of words) runs.device w.instr (ports_fit words m.pc w.instr w.is))))
+        (live_comes m.memory (sp_after effect.sp effect.stores) effect.stores effect.pushes a guarded (open_after effect.is_open effect.stores) was)
+
+  pub comes_by_go : (b1 b2 : ℕ) → step words A m (Go b1 b2) ≡ Done n → Comes words A g m n (Go b1 b2)
+  comes_by_go b1 b2 e = comes_going b1 b2 (went words A m n b1 b2 e)
+
+  pub comes_by_take : (v : ℕ) (clears : Bool) → step words A m (Take v clears) ≡ Done n → IsWhole g.node.key.sp → Comes words A g m n (Take v clears)
+  comes_by_take v clears e form a live =
+      let leads = took words A m n v clears e in
+      let effect = entering m v clears in
+      let was = subst (λ (x : State). is_live x.memory a ≡ true) (sym leads) live in
+      ⊎_elim (λ l. inl l)
+      (λ p. inr (record {
+        offset = form.0;
+        closed = form.1;
+        low = way_low m.sp m.pc g.origin.base form.0 a (at_sp form.0 form.1) (low_live a live) p.1;
+        whole = sym (ap (λ (x : State). x.is_open) leads);
+        which = λ c1 c2 wrong. absurd (cc);
+      }))
+      (live_comes m.memory effect.sp effect.stores effect.pushes a true effect.is_open was)
+
+  pub is_above : (c : Choice) → step words A m c ≡ Done n → IsAbove n
+  is_above (Go b1 b2) e = let w = went words A m n b1 b2 e in subst IsAbove w.leads (above_after m (not (is_scratch words m.pc)) (effect_of words m w.instr b1 b2))
+  is_above (Take v clears) e = subst IsAbove (took words A m n v clears e) (above_after m true (entering m v clears))

@@ -1,0 +1,257 @@
+-- A test tells the clear nodes.
+use Rattle.std.proofs.Common.{◌≡◌, refl, sym, ap, ◌∙◌, subst, ℕ, zero, suc, ◌+◌, ◌<◌, ◌≤◌, ◌==◌, Bool, true, false, not, ◌&&◌, ◌||◌, nat_lt, nat_le, List, Option, Some, None, ◌⊎◌, inl, inr, ⊎_elim, arith, eqb-true}
+use Rattle.std.proofs.lemmas.Bool.{cases_lt}
+use Rattle.std.proofs.lemmas.Bool.Decides.{nat_tests}
+use Rattle.avr_model.specs.declared.assumption.Entry.{Entry}
+use Rattle.avr_model.specs.declared.device.Device.{Device}
+use Rattle.avr_model.specs.declared.instruction.Instr.{Instr}
+use Rattle.avr_model.specs.Assumptions.{jump_line, lists}
+use Rattle.avr_model.specs.Bits.{all_below}
+use Rattle.avr_model.specs.Devices.{ramend, wrapped, device_of}
+use Rattle.avr_model.specs.Sites.{instruction_at}
+use Rattle.avr_model.specs.State.{BELOW}
+use Rattle.avr_model.specs.Step.{is_indirect}
+use Rattle.abs_state.specs.declared.state.AbsState.{AbsState}
+use Rattle.mask_states.specs.Keys.{offset_of}
+use Rattle.local_rules.specs.declared.local.Node.{Node}
+use Rattle.edge_rules.specs.Families.{Family}
+use Rattle.clear_laws.specs.Held.{MayHold}
+use Rattle.clear_laws.specs.Aims.{Span, Reach, Aim, aim_of}
+use Rattle.clear_laws.specs.Aims.reach as reach
+use Rattle.clear_laws.specs.Clear.{IsHarmless, no_address, under_stack, above_memory, one_register, free_slot, IsClear, is_flagged_address, permits_pair, AreTargetsListed, is_span_harmless, is_reach_harmless, is_slot_harmless, is_aim_harmless, is_target_listed, are_targets_listed, is_transfer_listed, is_clear_by}
+use Rattle.clear_laws.specs.Laws.{ClearNodesAreTold}
+
+less : (a b : ℕ) → nat_lt a b ≡ true → a < b
+less a b h = grind (arith, nat_tests)
+
+at_most : (a b : ℕ) → nat_le a b ≡ true → a ≤ b
+at_most a b h = grind (arith, nat_tests)
+
+is_less : (a b : ℕ) → a < b → nat_lt a b ≡ true
+is_less a b h = grind (arith, nat_tests)
+
+is_most : (a b : ℕ) → a ≤ b → nat_le a b ≡ true
+is_most a b h = grind (arith, nat_tests)
+
+is_same : (a : ℕ) → (a == a) ≡ true
+is_same a = grind (arith, nat_tests)
+
+all_three : (a b c : Bool) → a ≡ true → b ≡ true → c ≡ false → (a && b && not c) ≡ true
+all_three a b c h g k = grind arith
+
+and_true : (a b : Bool) → a ≡ true → b ≡ true → (a && b) ≡ true
+and_true a b h g = grind arith
+
+-- either of three
+first_of : (a b c : Bool) → a ≡ true → (a || b || c) ≡ true
+first_of a b c h = grind arith
+
+second_of : (a b c : Bool) → b ≡ true → (a || b || c) ≡ true
+second_of a b c h = grind arith
+
+third_of : (a b c : Bool) → c ≡ true → (a || b || c) ≡ true
+third_of a b c h = grind arith
+
+either : (a b : Bool) → (a || b) ≡ true → (a ≡ true) ⊎ (b ≡ true)
+either true b h = inl refl
+either false b h = inr h
+
+both : (a b : Bool) → (a && b) ≡ true → (a ≡ true) × (b ≡ true)
+both true b h = (refl, h)
+both false b h = absurd (cc)
+
+or_left : (a b : Bool) → a ≡ true → (a || b) ≡ true
+or_left a b h = grind arith
+
+or_right : (a b : Bool) → b ≡ true → (a || b) ≡ true
+or_right a b h = grind arith
+
+not_true : (b : Bool) → not b ≡ true → b ≡ false
+not_true b h = grind arith
+
+is_not : (b : Bool) → (b ≡ true → ⊥) → not b ≡ true
+is_not true h = absurd (h refl)
+is_not false h = refl
+
+-- ---- transfers
+
+pub below_each : (p : ℕ → Bool) (n k : ℕ) → all_below n p ≡ true → k < n → p k ≡ true
+unfolding all_below
+below_each p zero k h lt = absurd (omega (arith, lt))
+below_each p (suc n) k h lt =
+    let parts = both (all_below n p) (p n) h in
+    ⊎_elim (λ smaller. below_each p n k parts.0 smaller) (λ over. let same : n ≡ k = omega (arith, lt, over) in ap p (sym same) ∙ parts.1) (cases_lt k n)
+
+pub each_below : (p : ℕ → Bool) (n : ℕ) → ((k : ℕ) → k < n → p k ≡ true) → all_below n p ≡ true
+unfolding all_below
+each_below p zero h = refl
+each_below p (suc n) h = and_true (all_below n p) (p n) (each_below p n (λ k lt. h k (omega (arith, lt)))) (h n (omega arith))
+
+passes : (a b : Bool) → a ≡ true → (not a || b) ≡ true → b ≡ true
+passes a b h g = grind arith
+
+may_pass : (a b : Bool) → (a ≡ true → b ≡ true) → (not a || b) ≡ true
+may_pass true b h = or_right false b (h refl)
+may_pass false b h = refl
+
+module _ (device : Device) (s : AbsState) where
+  targets_listed : (line : Option (List ℕ)) → are_targets_listed device s line ≡ true → AreTargetsListed device s line
+  targets_listed None h = tt
+  targets_listed (Some listed) h =
+      λ z small permitted. passes (permits_pair s 30 z) (lists listed (wrapped device z)) permitted (below_each (is_target_listed device s listed) 65536 z h small)
+
+  targets_told : (line : Option (List ℕ)) → AreTargetsListed device s line → are_targets_listed device s line ≡ true
+  targets_told None h = refl
+  targets_told (Some listed) h =
+      each_below (is_target_listed device s listed) 65536 (λ z small. may_pass (permits_pair s 30 z) (lists listed (wrapped device z)) (λ permitted. h z small permitted))
+
+-- ---- stores
+
+abbrev to_span : ℕ → ℕ → Span
+to_span first last = record { first = first; last = last }
+
+one_span : (span : Span) → span.first ≡ span.last → span ≡ record { first = span.first; last = span.first }
+one_span span e = ap (λ (last : ℕ). to_span span.first last) (sym e)
+
+module _ (words : List ℕ) (A : List Entry) (f : Family) (n : Node) (held : ℕ → Bool) where
+  -- what isn't told to be held isn't, and what is told is
+  abbrev Frees : Type 0
+  Frees = (d : ℕ) → d < offset_of n.key.sp → held d ≡ false → MayHold words A f.nodes n.key d → ⊥
+
+  abbrev Holds : Type 0
+  Holds = (d : ℕ) → d < offset_of n.key.sp → held d ≡ true → MayHold words A f.nodes n.key d
+
+  abbrev top : ℕ
+  top = ramend (device_of words)
+
+  module _ (instr : Instr) (aim : Aim) where
+    module _ (span : Span) where
+      abbrev under : Bool
+      under = nat_lt BELOW span.first && nat_le (span.last + f.bound) top
+
+      abbrev over : Bool
+      over = nat_lt top span.first
+
+      abbrev single : Bool
+      single = (span.first == span.last) && nat_le span.first BELOW && not (is_flagged_address words A n.key.pc instr span.first)
+
+      by_span : aim.reach ≡ reach.Within span → is_span_harmless words A f.bound n.key.pc instr span ≡ true → IsHarmless words A f n instr aim
+      by_span is h = ⊎_elim (λ first. ⊎_elim by_under by_over (either under over first)) by_single (either (under || over) single h)
+        where
+          by_under : under ≡ true → IsHarmless words A f n instr aim
+          by_under t =
+              let parts = both (nat_lt BELOW span.first) (nat_le (span.last + f.bound) top) t in
+              under_stack span is (less BELOW span.first parts.0) (at_most (span.last + f.bound) top parts.1)
+
+          by_over : over ≡ true → IsHarmless words A f n instr aim
+          by_over t = above_memory span is (less top span.first t)
+
+          by_single : single ≡ true → IsHarmless words A f n instr aim
+          by_single t =
+              let outer = both ((span.first == span.last) && nat_le span.first BELOW) (not (is_flagged_address words A n.key.pc instr span.first)) t in
+              let inner = both (span.first == span.last) (nat_le span.first BELOW) outer.0 in
+              let same : span.first ≡ span.last = eqb-true span.first span.last inner.0 in
+              one_register span.first (is ∙ ap reach.Within (one_span span same))
+              (at_most span.first BELOW inner.1) (not_true (is_flagged_address words A n.key.pc instr span.first) outer.1)
+
+    by_reach : (r : Reach) → aim.reach ≡ r → is_reach_harmless words A f.bound n.key.pc instr r ≡ true → IsHarmless words A f n instr aim
+    by_reach reach.Nothing is h = no_address is
+    by_reach (reach.Within span) is h = by_span span is h
+    by_reach reach.Beyond is h = absurd (cc)
+
+    by_slot : Frees → (s : Option ℕ) → aim.slot ≡ s → is_slot_harmless (offset_of n.key.sp) held s ≡ true → IsHarmless words A f n instr aim
+    by_slot frees None is h = absurd (cc)
+    by_slot frees (Some d) is h =
+        let parts = both (nat_lt d (offset_of n.key.sp)) (not (held d)) h in
+        let lt = less d (offset_of n.key.sp) parts.0 in
+        free_slot d is lt (frees d lt (not_true (held d) parts.1))
+
+    harmless : Frees → is_aim_harmless words A f.bound n.key instr held (Some aim) ≡ true → IsHarmless words A f n instr aim
+    harmless frees h =
+        ⊎_elim (by_reach aim.reach refl) (by_slot frees aim.slot refl)
+        (either (is_reach_harmless words A f.bound n.key.pc instr aim.reach) (is_slot_harmless (offset_of n.key.sp) held aim.slot) h)
+
+    reach_told : (r : Reach) → aim.reach ≡ r → is_reach_harmless words A f.bound n.key.pc instr r ≡ true → is_aim_harmless words A f.bound n.key instr held (Some aim) ≡ true
+    reach_told r is h =
+        or_left (is_reach_harmless words A f.bound n.key.pc instr aim.reach) (is_slot_harmless (offset_of n.key.sp) held aim.slot)
+        (ap (is_reach_harmless words A f.bound n.key.pc instr) is ∙ h)
+
+    told : Holds → IsHarmless words A f n instr aim → is_aim_harmless words A f.bound n.key instr held (Some aim) ≡ true
+    told holds (no_address is) = reach_told reach.Nothing is refl
+    told holds (under_stack span is low high) =
+        reach_told (reach.Within span) is
+        (first_of (under span) (over span) (single span) (and_true (nat_lt BELOW span.first) (nat_le (span.last + f.bound) top) (is_less BELOW span.first low) (is_most (span.last + f.bound) top high)))
+    told holds (above_memory span is above) = reach_told (reach.Within span) is (second_of (under span) (over span) (single span) (is_less top span.first above))
+    told holds (one_register a is low free) =
+        let span : Span = record { first = a; last = a } in
+        reach_told (reach.Within span) is
+        (third_of (under span) (over span) (single span) (all_three (a == a) (nat_le a BELOW) (is_flagged_address words A n.key.pc instr a) (is_same a) (is_most a BELOW low) free))
+    told holds (free_slot d is lt none) =
+        or_right (is_reach_harmless words A f.bound n.key.pc instr aim.reach) (is_slot_harmless (offset_of n.key.sp) held aim.slot)
+        (ap (is_slot_harmless (offset_of n.key.sp) held) is
+        ∙ and_true (nat_lt d (offset_of n.key.sp)) (not (held d)) (is_less d (offset_of n.key.sp) lt) (is_not (held d) (λ h. none (holds d lt h))))
+
+  aim_same : (x y : Aim) → Some x ≡ Some y → x ≡ y
+  aim_same x y e = cc
+
+  instr_same : (x y : Instr) → Some x ≡ Some y → x ≡ y
+  instr_same x y e = cc
+
+  -- ---- nodes
+
+  aim_clear : Frees → (instr : Instr) (x : Option Aim) → aim_of (device_of words) n.key n.state instr ≡ x → is_aim_harmless words A f.bound n.key instr held x ≡ true
+      → (aim : Aim) → aim_of (device_of words) n.key n.state instr ≡ Some aim → IsHarmless words A f n instr aim
+  aim_clear frees instr None is h aim same = absurd (let no : None ≡ Some aim = sym is ∙ same in cc)
+  aim_clear frees instr (Some x) is h aim same = let e : x ≡ aim = aim_same x aim (sym is ∙ same) in subst (IsHarmless words A f n instr) e (harmless instr x frees h)
+
+  aim_told : Holds → (instr : Instr) (x : Option Aim) → aim_of (device_of words) n.key n.state instr ≡ x
+      → ((aim : Aim) → aim_of (device_of words) n.key n.state instr ≡ Some aim → IsHarmless words A f n instr aim) → is_aim_harmless words A f.bound n.key instr held x ≡ true
+  aim_told holds instr None is h = refl
+  aim_told holds instr (Some aim) is h = told instr aim holds (h aim is)
+
+  module _ (x : Instr) (is : instruction_at words n.key.pc ≡ Some x) where
+    abbrev stores_harmless : Bool
+    stores_harmless = is_aim_harmless words A f.bound n.key x held (aim_of (device_of words) n.key n.state x)
+
+    abbrev transfers_listed : Bool
+    transfers_listed = is_transfer_listed words A n.key.pc n.state x
+
+    clear_at : Frees → (stores_harmless && transfers_listed) ≡ true → IsClear words A f n
+    clear_at frees h =
+        let parts = both stores_harmless transfers_listed h in
+        record {
+          store = λ instr aim at same.
+              let e : x ≡ instr = instr_same x instr (sym is ∙ at) in
+              aim_clear frees instr (aim_of (device_of words) n.key n.state instr) refl
+              (subst (λ y. is_aim_harmless words A f.bound n.key y held (aim_of (device_of words) n.key n.state y) ≡ true) e parts.0) aim same;
+          transfer = λ instr at indirect.
+              let e : x ≡ instr = instr_same x instr (sym is ∙ at) in
+              targets_listed (device_of words) n.state (jump_line A n.key.pc)
+              (passes (is_indirect instr) (are_targets_listed (device_of words) n.state (jump_line A n.key.pc)) indirect
+              (subst (λ y. is_transfer_listed words A n.key.pc n.state y ≡ true) e parts.1));
+        }
+
+    told_at : Holds → IsClear words A f n → (stores_harmless && transfers_listed) ≡ true
+    told_at holds clear =
+        and_true stores_harmless transfers_listed (aim_told holds x (aim_of (device_of words) n.key n.state x) refl (λ aim. clear.store x aim is))
+        (may_pass (is_indirect x) (are_targets_listed (device_of words) n.state (jump_line A n.key.pc))
+        (λ indirect. targets_told (device_of words) n.state (jump_line A n.key.pc) (clear.transfer x is indirect)))
+
+  clear_by : Frees → (x : Option Instr) → instruction_at words n.key.pc ≡ x → is_clear_by words A f.bound n.key n.state held x ≡ true → IsClear words A f n
+  clear_by frees None is h =
+      record {
+        store = λ instr aim at same. absurd (let no : None ≡ Some instr = sym is ∙ at in cc);
+        transfer = λ instr at indirect. absurd (let no : None ≡ Some instr = sym is ∙ at in cc);
+      }
+  clear_by frees (Some x) is h = clear_at x is frees h
+
+  told_by : Holds → (x : Option Instr) → instruction_at words n.key.pc ≡ x → IsClear words A f n → is_clear_by words A f.bound n.key n.state held x ≡ true
+  told_by holds None is h = refl
+  told_by holds (Some x) is h = told_at x is holds h
+
+pub clear_nodes_are_told : ClearNodesAreTold
+clear_nodes_are_told =
+    record {
+      clear = λ words A f n held frees h. clear_by words A f n held frees (instruction_at words n.key.pc) refl h;
+      told = λ words A f n held holds clear. told_by words A f n held holds (instruction_at words n.key.pc) refl clear;
+    }

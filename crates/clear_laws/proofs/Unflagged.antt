@@ -1,0 +1,391 @@
+-- No step of a machine whose node is clear is flagged, and another is flagged at the node's word.
+use Rattle.std.proofs.Common.{◌≡◌, ◌≢◌, refl, sym, ap, ap₂, ◌∙◌, subst, ℕ, ◌+◌, ◌-◌, ◌*◌, ◌%◌, ◌<◌, ◌≤◌, ◌==◌, Bool, true, false, not, ◌&&◌, ◌||◌, nat_le, if◌then◌else◌, List, [], ◌∷◌, ◌++◌, Option, Some, None, arith, eqb-true}
+use Rattle.std.specs.Int.{bit_at}
+use Rattle.std.specs.List.{list_any}
+use Rattle.std.proofs.lemmas.Bool.Decides.{nat_tests}
+use Rattle.std.proofs.lemmas.Nat.Bits.{bit_at-zero}
+use Rattle.avr_model.proofs.AllLaws.{devices_are_alike}
+use Rattle.avr_model.specs.declared.assumption.Entry.{Entry}
+use Rattle.avr_model.specs.declared.device.Device.{Device}
+use Rattle.avr_model.specs.declared.instruction.Instr.{Instr}
+use Rattle.avr_model.specs.declared.instruction.Instr.TheVariants as i
+use Rattle.avr_model.specs.declared.choice.Choice.{Choice}
+use Rattle.avr_model.specs.declared.choice.Choice.TheVariants.{Go, Take}
+use Rattle.avr_model.specs.declared.choice.Flag.{Flag}
+use Rattle.avr_model.specs.declared.effect.Effect.{Effect}
+use Rattle.avr_model.specs.declared.effect.Write.{Write}
+use Rattle.avr_model.specs.Assumptions.{jump_line, store_line, is_proved, lists}
+use Rattle.avr_model.specs.Devices.{ramend, wrapped, device_of}
+use Rattle.avr_model.specs.Image.{WORDS}
+use Rattle.avr_model.specs.Sites.{instruction_at, is_scratch, is_fixed}
+use Rattle.avr_model.specs.State.{State, Memory, is_live, i_flag, minus16, register, pair, low, high}
+use Rattle.avr_model.specs.Vectors.{Vector, vectors, has_enables, is_protected, is_enabled, WATCHDOG}
+use Rattle.avr_model.specs.Written.{written}
+use Rattle.avr_model.specs.Effects.{set, effect_of, way_back}
+use Rattle.avr_model.specs.Step.{Illegal, Overflow, Flagged, after, all_inside, live_write, unlisted, protected_write, unless_listed, unlisted_transfer, is_pointer_store, is_indirect, is_unlisted, flag_by, flagged_or, may_take, entering, take, go, step}
+use Rattle.bit_domain.specs.TriByte.{Has, has}
+use Rattle.bit_domain.proofs.AllLaws.{tests_tell_members}
+use Rattle.mask_states.specs.declared.keys.NodeKey.{NodeKey}
+use Rattle.mask_states.specs.declared.keys.SpForm.{SpForm}
+use Rattle.mask_states.specs.declared.keys.SpForm.TheVariants.{Closed, Open}
+use Rattle.mask_states.specs.Keys.{offset_of}
+use Rattle.abs_state.specs.declared.state.AbsState.{AbsState}
+use Rattle.abs_state.specs.Stands.{ByteStands}
+use Rattle.local_rules.specs.Registers.{value, bits, forgetting}
+use Rattle.local_rules.specs.Local.{row_of, is_hung}
+use Rattle.edge_rules.specs.Families.{Family, IsSound}
+use Rattle.edge_rules.specs.Frames.{Frame, Runs}
+use Rattle.clear_laws.specs.Aims.{Aim}
+use Rattle.clear_laws.specs.Clear.{IsClear, IsHarmless, no_address, under_stack, above_memory, one_register, free_slot, is_flagged_address, AreTargetsListed, word_of_flag}
+use Rattle.clear_laws.proofs.Memory.{above_if_live, inside_if_live}
+use Rattle.clear_laws.proofs.Ports.{ports_fit}
+use Rattle.clear_laws.proofs.Aims.{IsReached, IsAimed}
+use Rattle.clear_laws.proofs.Bases.{base_inside}
+use Rattle.clear_laws.proofs.Effects.{IsWhole, Does, nothing, to_port, by_aim, pushing, entering as enters, does}
+use Rattle.clear_laws.proofs.Rows.{row_unless_added, not_hung}
+use Rattle.clear_laws.proofs.Steps.{whole_sp}
+use Rattle.clear_laws.proofs.Kept.{Holding}
+
+-- ---- the three cases
+
+not_flagged : (t : Bool) (pc : ℕ) (a b c : Option ℕ) (x : State) (flag : Flag) → a ≡ None → b ≡ None → c ≡ None
+    → (if t then flagged_or (flag_by pc a b c) x else Overflow pc) ≢ Flagged flag
+not_flagged false pc a b c x flag ha hb hc = λ e. cc
+not_flagged true pc None None None x flag ha hb hc = λ e. cc
+not_flagged true pc (Some a) b c x flag ha hb hc = absurd (cc)
+not_flagged true pc None (Some b) c x flag ha hb hc = absurd (cc)
+not_flagged true pc None None (Some c) x flag ha hb hc = absurd (cc)
+
+never : (b : Bool) → (b ≡ true → ⊥) → b ≡ false
+never true h = absurd (h refl)
+never false h = refl
+
+-- ---- transfers
+
+both_true : (a b : Bool) → a ≡ true → b ≡ true → (a && b) ≡ true
+both_true a b h g = grind arith
+
+listed_none : (line : Option (List ℕ)) (target : ℕ) → ((listed : List ℕ) → line ≡ Some listed → lists listed target ≡ true) → unless_listed line target ≡ None
+listed_none None target h = refl
+listed_none (Some listed) target h = ap (λ b. if b then None else Some target) (h listed refl)
+
+z_small : (x y : ℕ) → x < 256 → y < 256 → x + 256 * y < 65536
+z_small x y h g = omega arith
+
+z_low : (x y : ℕ) → x < 256 → low (x + 256 * y) ≡ x
+z_low x y h = omega arith
+
+z_high : (x y : ℕ) → x < 256 → high (x + 256 * y) ≡ y
+z_high x y h = omega arith
+
+-- a permitted Z goes to a listed word
+goes_listed : (device : Device) (s : AbsState) (line : Option (List ℕ)) (x y : ℕ) → AreTargetsListed device s line → x < 256 → y < 256 → Has (bits s 30) x → Has (bits s 31) y
+    → unless_listed line (wrapped device ((x + 256 * y) % WORDS)) ≡ None
+goes_listed device s None x y all small small' low_has high_has = refl
+goes_listed device s (Some listed) x y all small small' low_has high_has =
+    let low_bits : has (bits s 30) (low (x + 256 * y)) ≡ true = ap (has (bits s 30)) (z_low x y small) ∙ (tests_tell_members.bytes (bits s 30) x).1 low_has in
+    let high_bits : has (bits s 31) (high (x + 256 * y)) ≡ true = ap (has (bits s 31)) (z_high x y small) ∙ (tests_tell_members.bytes (bits s 31) y).1 high_has in
+    let listed_there = all (x + 256 * y) (z_small x y small small') (both_true _ _ low_bits high_bits) in
+    ap (λ b. if b then None else Some (wrapped device ((x + 256 * y) % WORDS)))
+    (ap (lists listed) (devices_are_alike.of_14 device (x + 256 * y)) ∙ listed_there)
+
+-- ---- protected writes
+
+none_stored : (b : Bool) (listed : List ℕ) → (if b then unlisted listed [] else None) ≡ None
+none_stored true listed = refl
+none_stored false listed = refl
+
+protected_by : (stores fixed protected : Bool) (a : ℕ) → (stores && not fixed && protected) ≡ false
+    → (if stores && not fixed then (if protected then Some a else None) else None) ≡ None
+protected_by false fixed protected a h = refl
+protected_by true true protected a h = refl
+protected_by true false true a h = absurd (cc)
+protected_by true false false a h = refl
+
+module _ (words : List ℕ) (A : List Entry) (instr : Instr) (pc : ℕ) where
+  nothing_protected : (e : Effect) → e.stores ≡ [] → protected_write words A pc instr e ≡ None
+  unfolding protected_write
+  nothing_protected e none =
+      ap (λ ws. if is_pointer_store instr && not (is_fixed words pc || is_proved A pc) then unlisted (store_line A pc) ws else None) none
+      ∙ none_stored (is_pointer_store instr && not (is_fixed words pc || is_proved A pc)) (store_line A pc)
+
+  one_protected : (e : Effect) (a byte : ℕ) → e.stores ≡ set a byte → is_flagged_address words A pc instr a ≡ false → protected_write words A pc instr e ≡ None
+  unfolding protected_write
+  one_protected e a byte stores free =
+      ap (λ ws. if is_pointer_store instr && not (is_fixed words pc || is_proved A pc) then unlisted (store_line A pc) ws else None) stores
+      ∙ protected_by (is_pointer_store instr) (is_fixed words pc || is_proved A pc) (is_protected a && not (lists (store_line A pc) a)) a free
+
+-- all enable bits lie below SRAM
+abbrev all_low : List Vector → Bool
+all_low [] = true
+all_low (r ∷ rs) = nat_le r.address 255 && all_low rs
+
+none_high : (rs : List Vector) (a : ℕ) → 255 < a → all_low rs ≡ true → list_any (λ (r : Vector). r.address == a) rs ≡ false
+none_high [] a lt low = refl
+none_high (r ∷ rs) a lt low =
+    let first : (r.address == a) ≡ false = grind (arith, nat_tests) in
+    let rest = none_high rs a lt (grind arith) in
+    grind arith
+
+no_enables : (a : ℕ) → 255 < a → has_enables a ≡ false
+unfolding has_enables
+no_enables a lt = none_high vectors a lt refl
+
+unprotected : (a : ℕ) → 255 < a → is_protected a ≡ false
+unprotected a lt = let none = no_enables a lt in grind (arith, nat_tests)
+
+and_false : (a b c d : Bool) → c ≡ false → (a && b && (c && d)) ≡ false
+and_false a b c d h = grind arith
+
+-- ---- what a store writes
+
+-- a write to this address isn't flagged
+record IsFree (words : List ℕ) (A : List Entry) (memory : Memory) (pc : ℕ) (instr : Instr) (a : ℕ) : Type 0 where
+  dead : is_live memory a ≡ false
+  free : is_flagged_address words A pc instr a ≡ false
+
+both_ends : (a b : ℕ) → b ≤ a → a ≤ b → b ≡ a
+both_ends a b h g = omega arith
+
+no_write : (memory : Memory) (ws : List Write) → ws ≡ [] → live_write memory ws ≡ None
+unfolding live_write
+no_write memory ws e = ap (live_write memory) e
+
+one_by : (b : Bool) (a : ℕ) → b ≡ false → (if b then Some a else None) ≡ None
+one_by true a e = absurd (cc)
+one_by false a e = refl
+
+two_by : (b c : Bool) (x y : ℕ) → b ≡ false → c ≡ false → (if b then Some x else (if c then Some y else None)) ≡ None
+two_by true c x y e f = absurd (cc)
+two_by false true x y e f = absurd (cc)
+two_by false false x y e f = refl
+
+one_write : (memory : Memory) (a byte : ℕ) → is_live memory a ≡ false → live_write memory (set a byte) ≡ None
+unfolding live_write
+one_write memory a byte dead = one_by (is_live memory a) a dead
+
+two_writes : (memory : Memory) (sp back : ℕ) → is_live memory sp ≡ false → is_live memory (minus16 sp 1) ≡ false → live_write memory (way_back sp back) ≡ None
+unfolding live_write
+two_writes memory sp back first second = two_by (is_live memory sp) (is_live memory (minus16 sp 1)) sp (minus16 sp 1) first second
+
+-- ---- where an interrupt may come
+
+all_four : (a b c d : Bool) → (a && b && not c && d) ≡ true → (a ≡ true) × (b ≡ true) × (c ≡ false)
+all_four a b c d h = (grind arith, grind arith, grind arith)
+
+hangs : (a b c : Bool) → a ≡ true → b ≡ false → c ≡ false → (a && not b && not c) ≡ false → ⊥
+hangs a b c p q r h = grind arith
+
+and_last : (a b c : Bool) → (a && b && c) ≡ true → c ≡ true
+and_last a b c h = grind arith
+
+not_zero : (masks v : ℕ) → is_enabled masks v ≡ true → (masks == 0) ≡ false
+not_zero masks v h = by_test (masks == 0) refl
+  where
+    by_test : (b : Bool) → (masks == 0) ≡ b → b ≡ false
+    by_test false e = refl
+    by_test true e =
+        let none : masks ≡ 0 = eqb-true masks 0 e in
+        let bit : bit_at masks (v - 2) ≡ 1 = eqb-true (bit_at masks (v - 2)) 1 (and_last (nat_le 2 v) (nat_le v 26) _ h) in
+        let zero : bit_at masks (v - 2) ≡ 0 = ap (λ x. bit_at x (v - 2)) none ∙ bit_at-zero (v - 2) in
+        absurd (omega (arith, bit, zero))
+
+whole_where_taken : (k : NodeKey) (v : ℕ) (form : SpForm) → k.sp ≡ form → k.i ≡ true → k.delay ≡ false → is_enabled k.masks v ≡ true → is_hung k form ≡ false → IsWhole k.sp
+whole_where_taken k v (Closed offset) is i delay enabled hung = (offset, is)
+whole_where_taken k v (Open offset high) is i delay enabled hung = absurd (hangs k.i k.delay (k.masks == 0) i delay (not_zero k.masks v enabled) hung)
+
+module _ (words : List ℕ) (A : List Entry) (f : Family) (sound : IsSound words A f) (m : State) (g : Frame) (gs : List Frame) (runs : Runs words A f m g gs)
+    (holds : Holding words A f m.memory g gs) where
+  abbrev k : NodeKey
+  k = g.node.key
+
+  abbrev top : ℕ
+  top = ramend (device_of words)
+
+  inside : (a : ℕ) → is_live m.memory a ≡ true → a ≤ top
+  inside a live =
+      let same : ramend m.device ≡ top = ap ramend runs.device in
+      omega (arith, inside_if_live m.memory.live a live, runs.running.machine.count_live, same)
+
+  sp_at : (offset : ℕ) → k.sp ≡ Closed offset → m.sp + offset ≡ g.origin.base
+  sp_at offset e = whole_sp g.origin.base m.is_open m.sp offset k.sp e runs.running.place.sp
+
+  low_base : g.origin.base ≤ top
+  low_base = base_inside words A f m.memory gs k.inst g.origin runs.left
+
+  top_small : top ≤ 2303
+  top_small = omega (arith, devices_are_alike.most_bytes (device_of words))
+
+  -- the bytes at a whole stack pointer and below it aren't live
+  sp_dead : IsWhole k.sp → is_live m.memory m.sp ≡ false
+  sp_dead form = never (is_live m.memory m.sp) (λ live. omega (arith, holds.above m.sp live, sp_at form.0 form.1, ap offset_of form.1))
+
+  below_dead : IsWhole k.sp → is_live m.memory (minus16 m.sp 1) ≡ false
+  below_dead form =
+      never (is_live m.memory (minus16 m.sp 1))
+      (λ live.
+      omega (arith, holds.above (minus16 m.sp 1) live, sp_at form.0 form.1, ap offset_of form.1, above_if_live m.memory.live (minus16 m.sp 1) live, inside (minus16 m.sp 1) live, low_base, top_small))
+
+  -- above the first addresses of data space nothing is protected
+  high_free : (instr : Instr) (a : ℕ) → 255 < a → is_flagged_address words A k.pc instr a ≡ false
+  high_free instr a lt = and_false (is_pointer_store instr) (not (is_fixed words k.pc || is_proved A k.pc)) (is_protected a) (not (lists (store_line A k.pc) a)) (unprotected a lt)
+
+  -- a harmless store
+  harmless_free : (instr : Instr) (aim : Aim) (a : ℕ) → IsAimed g.origin.base aim a → IsHarmless words A f g.node instr aim → IsFree words A m.memory k.pc instr a
+  harmless_free instr aim a aimed (no_address is) = absurd (subst (λ r. IsReached r a) is aimed.reach)
+  harmless_free instr aim a aimed (under_stack span is low high) =
+      let within = subst (λ r. IsReached r a) is aimed.reach in
+      record {
+        dead = never (is_live m.memory a) (λ live. omega (arith, within.last, high, holds.above a live, holds.depth));
+        free = high_free instr a (omega (arith, within.first, low));
+      }
+  harmless_free instr aim a aimed (above_memory span is over) =
+      let within = subst (λ r. IsReached r a) is aimed.reach in
+      record {
+        dead = never (is_live m.memory a) (λ live. omega (arith, within.first, over, inside a live));
+        free = high_free instr a (omega (arith, within.first, over));
+      }
+  harmless_free instr aim a aimed (one_register b is low free) =
+      let within = subst (λ r. IsReached r a) is aimed.reach in
+      let same = both_ends a b within.first within.last in
+      record {
+        dead = never (is_live m.memory a) (λ live. omega (arith, same, low, above_if_live m.memory.live a live));
+        free = subst (λ x. is_flagged_address words A k.pc instr x ≡ false) same free;
+      }
+  harmless_free instr aim a aimed (free_slot d is lt none) =
+      let at : a ≡ g.origin.base - d = omega (arith, aimed.slot d is, lt, holds.depth, sound.small, low_base, top_small) in
+      record {
+        dead = never (is_live m.memory a) (λ live. none (holds.running d lt (subst (λ x. is_live m.memory x ≡ true) at live)));
+        free = high_free instr a (omega (arith, at, lt, holds.depth, sound.small, low_base));
+      }
+
+  module _ (clear : IsClear words A f g.node) (flag : Flag) where
+    module _ (b1 b2 : ℕ) (instr : Instr) (is : instruction_at words m.pc ≡ Some instr) where
+      abbrev effect : Effect
+      effect = effect_of words m instr b1 b2
+
+      record IsSafe : Type 0 where
+        live : live_write m.memory (effect.stores ++ effect.pushes) ≡ None
+        protected : protected_write words A m.pc instr effect ≡ None
+
+      abbrev state : AbsState
+      state = forgetting (written instr) g.node.state
+
+      here : instruction_at words k.pc ≡ Some instr
+      here = subst (λ p. instruction_at words p ≡ Some instr) runs.running.place.pc is
+
+      one_safe : (a byte : ℕ) → is_live m.memory a ≡ false → is_flagged_address words A m.pc instr a ≡ false → effect.stores ≡ set a byte → effect.pushes ≡ [] → IsSafe
+      one_safe a byte dead free stores pushes =
+          record {
+            live = ap₂ (λ ss ps. live_write m.memory (ss ++ ps)) stores pushes ∙ one_write m.memory a byte dead;
+            protected = one_protected words A instr m.pc effect a byte stores free;
+          }
+
+      safe : Does (device_of words) m g.origin.base k g.node.state instr effect (row_of (device_of words) words A (is_scratch words k.pc) k state instr)
+          (row_of (device_of words) words A false k state instr) → IsSafe
+      safe (nothing stores pushes) =
+          record {
+            live = no_write m.memory _ (ap₂ (λ (ss ps : List Write). ss ++ ps) stores pushes);
+            protected = nothing_protected words A instr m.pc effect stores;
+          }
+      safe (to_port a byte low plain stores pushes) =
+          one_safe a byte (never (is_live m.memory a) (λ live. omega (arith, low, above_if_live m.memory.live a live)))
+          (ap (λ b. b && not (is_fixed words m.pc || is_proved A m.pc) && (is_protected a && not (lists (store_line A m.pc) a))) plain) stores pushes
+      safe (by_aim a byte aim at aimed stores pushes) =
+          let free = harmless_free instr aim a aimed (clear.store instr aim here at) in
+          one_safe a byte free.dead (subst (λ p. is_flagged_address words A p instr a ≡ false) (sym runs.running.place.pc) free.free) stores pushes
+      safe (pushing byte push plain closes closed stores pushes) =
+          let form = closes (row_unless_added words A k g.node.state instr here (sound.faultless g.node runs.present) plain).faultless in
+          record {
+            live = ap₂ (λ ss ps. live_write m.memory (ss ++ ps)) stores pushes ∙ one_write m.memory m.sp byte (sp_dead form);
+            protected = nothing_protected words A instr m.pc effect stores;
+          }
+      safe (enters back none plain closes closed stores pushes) =
+          let form = closes (row_unless_added words A k g.node.state instr here (sound.faultless g.node runs.present) plain).faultless in
+          record {
+            live = ap₂ (λ ss ps. live_write m.memory (ss ++ ps)) stores pushes ∙ two_writes m.memory m.sp back (sp_dead form) (below_dead form);
+            protected = nothing_protected words A instr m.pc effect stores;
+          }
+
+      stands : (r : ℕ) → r < 32 → ByteStands g.origin (value g.node.state r) (register m r)
+      stands r lt = runs.running.stands.registers r lt
+
+      -- an indirect transfer's word is listed
+      z_listed : is_indirect instr ≡ true → unless_listed (jump_line A m.pc) (wrapped m.device (pair m 30 % WORDS)) ≡ None
+      z_listed indirect =
+          let all = clear.transfer instr here indirect in
+          subst (λ p. unless_listed (jump_line A p) (wrapped m.device (pair m 30 % WORDS)) ≡ None) (sym runs.running.place.pc)
+          (subst (λ device. unless_listed (jump_line A k.pc) (wrapped device (pair m 30 % WORDS)) ≡ None) (sym runs.device)
+          (goes_listed (device_of words) g.node.state (jump_line A k.pc) (register m 30) (register m 31) all
+          (stands 30 (omega arith)).small (stands 31 (omega arith)).small (stands 30 (omega arith)).bits (stands 31 (omega arith)).bits))
+
+    -- what goes to no indirect word isn't unlisted
+    no_transfer : (b1 b2 : ℕ) (instr : Instr) → instruction_at words m.pc ≡ Some instr → unlisted_transfer A m.pc instr (effect_of words m instr b1 b2) ≡ None
+    unfolding unlisted_transfer
+    no_transfer b1 b2 i.Ijmp is = z_listed b1 b2 i.Ijmp is refl
+    no_transfer b1 b2 i.Icall is = z_listed b1 b2 i.Icall is refl
+    no_transfer b1 b2 _ is = refl
+
+    not_going : (b1 b2 : ℕ) (instr : Instr) → instruction_at words m.pc ≡ Some instr → go words A m (Some instr) b1 b2 ≢ Flagged flag
+    not_going b1 b2 instr is =
+        let effect = effect_of words m instr b1 b2 in
+        let s =
+        safe b1 b2 instr is
+        (does words A m g.origin k g.node.state (forgetting (written instr) g.node.state) runs.running (is_scratch words k.pc) b1 b2 (device_of words) runs.device instr (ports_fit words m.pc instr is)) in
+        not_flagged (all_inside m.device effect.pushes || is_unlisted (unlisted_transfer A m.pc instr effect)) m.pc (live_write m.memory (effect.stores ++ effect.pushes))
+        (protected_write words A m.pc instr effect) (unlisted_transfer A m.pc instr effect) (after m (not (is_scratch words m.pc)) effect) flag
+        s.live s.protected (no_transfer b1 b2 instr is)
+
+    by_instruction : (b1 b2 : ℕ) (x : Option Instr) → instruction_at words m.pc ≡ x → go words A m x b1 b2 ≢ Flagged flag
+    by_instruction b1 b2 None is = λ e. cc
+    by_instruction b1 b2 (Some instr) is = not_going b1 b2 instr is
+
+    by_interrupt : (v : ℕ) (clears t : Bool) → may_take m v clears ≡ t → (if t then take m (entering m v clears) else Illegal) ≢ Flagged flag
+    by_interrupt v clears false legal = λ e. cc
+    by_interrupt v clears true legal =
+        let place = runs.running.place in
+        let all = all_four (is_enabled m.enables v) (i_flag m) m.delay (not clears || (v == WATCHDOG)) legal in
+        let form =
+        whole_where_taken k v k.sp refl (sym place.i ∙ all.1) (sym place.delay ∙ all.2) (ap (λ masks. is_enabled masks v) (sym place.enables) ∙ all.0)
+        (not_hung words A k g.node.state (sound.faultless g.node runs.present)) in
+        not_flagged (all_inside m.device (entering m v clears).pushes) m.pc (live_write m.memory (entering m v clears).pushes) None None (after m true (entering m v clears)) flag
+        (two_writes m.memory m.sp m.pc (sp_dead form) (below_dead form)) refl refl
+
+    pub not_flagged_here : (c : Choice) → step words A m c ≢ Flagged flag
+    not_flagged_here (Go b1 b2) = by_instruction b1 b2 (instruction_at words m.pc) refl
+    not_flagged_here (Take v clears) = by_interrupt v clears (may_take m v clears) refl
+
+-- ---- a flag names the word of its step
+
+named_by : (t : Bool) (pc : ℕ) (a b c : Option ℕ) (x : State) (flag : Flag) → (if t then flagged_or (flag_by pc a b c) x else Overflow pc) ≡ Flagged flag → word_of_flag flag ≡ pc
+named_by false pc a b c x flag e = absurd (cc)
+named_by true pc (Some a) b c x flag e = let is : _ ≡ flag = flag_same _ flag e in ap word_of_flag (sym is)
+  where
+    flag_same : (p q : Flag) → Flagged p ≡ Flagged q → p ≡ q
+    flag_same p q e = cc
+named_by true pc None (Some b) c x flag e = let is : _ ≡ flag = flag_same _ flag e in ap word_of_flag (sym is)
+  where
+    flag_same : (p q : Flag) → Flagged p ≡ Flagged q → p ≡ q
+    flag_same p q e = cc
+named_by true pc None None (Some c) x flag e = let is : _ ≡ flag = flag_same _ flag e in ap word_of_flag (sym is)
+  where
+    flag_same : (p q : Flag) → Flagged p ≡ Flagged q → p ≡ q
+    flag_same p q e = cc
+named_by true pc None None None x flag e = absurd (cc)
+
+module _ (words : List ℕ) (A : List Entry) (m : State) (flag : Flag) where
+  named_going : (b1 b2 : ℕ) (x : Option Instr) → go words A m x b1 b2 ≡ Flagged flag → word_of_flag flag ≡ m.pc
+  named_going b1 b2 None e = absurd (cc)
+  named_going b1 b2 (Some instr) e =
+      let effect = effect_of words m instr b1 b2 in
+      named_by (all_inside m.device effect.pushes || is_unlisted (unlisted_transfer A m.pc instr effect)) m.pc (live_write m.memory (effect.stores ++ effect.pushes))
+      (protected_write words A m.pc instr effect) (unlisted_transfer A m.pc instr effect) (after m (not (is_scratch words m.pc)) effect) flag e
+
+  named_taking : (v : ℕ) (clears t : Bool) → (if t then take m (entering m v clears) else Illegal) ≡ Flagged flag → word_of_flag flag ≡ m.pc
+  named_taking v clears false e = absurd (cc)
+  named_taking v clears true e =
+      named_by (all_inside m.device (entering m v clears).pushes) m.pc (live_write m.memory (entering m v clears).pushes) None None (after m true (entering m v clears)) flag e
+
+  pub flag_names : (c : Choice) → step words A m c ≡ Flagged flag → word_of_flag flag ≡ m.pc
+  flag_names (Go b1 b2) e = named_going b1 b2 (instruction_at words m.pc) e
+  flag_names (Take v clears) e = named_taking v clears (may_take m v clears) e

@@ -1,0 +1,127 @@
+-- Nodes at which no step can be flagged. Source: own.
+use Rattle.std.specs.Prelude.{ℕ, ⊤, ◌+◌, ◌≡◌, ◌≢◌, ◌<◌, ◌≤◌, ◌&&◌, ◌||◌, ◌==◌, Bool, true, false, not, nat_lt, nat_le, List, Option, Some, None, Contains}
+use Rattle.avr_model.specs.declared.assumption.Entry.{Entry}
+use Rattle.avr_model.specs.declared.choice.Choice.{Choice}
+use Rattle.avr_model.specs.declared.choice.Flag.{Flag}
+use Rattle.avr_model.specs.declared.choice.Flag.TheVariants.{Live, Protected, Transfer}
+use Rattle.avr_model.specs.declared.choice.Stop.TheVariants as stop
+use Rattle.avr_model.specs.declared.device.Device.{Device}
+use Rattle.avr_model.specs.declared.instruction.Instr.{Instr}
+use Rattle.avr_model.specs.Assumptions.{jump_line, store_line, is_proved, lists}
+use Rattle.avr_model.specs.Bits.{all_below}
+use Rattle.avr_model.specs.Devices.{ramend, wrapped, device_of}
+use Rattle.avr_model.specs.Sites.{instruction_at, is_fixed}
+use Rattle.avr_model.specs.State.{State, IsReset, BELOW, low, high}
+use Rattle.avr_model.specs.Step.{is_pointer_store, is_indirect}
+use Rattle.avr_model.specs.Run.{IsRun, stop_of}
+use Rattle.avr_model.specs.Vectors.{is_protected}
+use Rattle.bit_domain.specs.TriByte.{has}
+use Rattle.abs_state.specs.declared.state.AbsState.{AbsState}
+use Rattle.mask_states.specs.declared.keys.NodeKey.{NodeKey}
+use Rattle.mask_states.specs.Keys.{offset_of}
+use Rattle.local_rules.specs.declared.local.Node.{Node}
+use Rattle.local_rules.specs.Registers.{bits}
+use Rattle.edge_rules.specs.Families.{Family}
+use Rattle.clear_laws.specs.Aims.{Span, Reach, Aim, aim_of}
+use Rattle.clear_laws.specs.Aims.reach as reach
+use Rattle.clear_laws.specs.Held.{MayHold}
+
+-- ---- stores
+
+-- The address is flagged as protected: it is protected, this is `st` or `std`, the words before don't make the site fixed and no `prove`
+-- line does, and no `store` line of the site lists it.
+abbrev pub is_flagged_address : List ℕ → List Entry → ℕ → Instr → ℕ → Bool
+is_flagged_address words A pc instr a =
+    is_pointer_store instr && not (is_fixed words pc || is_proved A pc) && (is_protected a && not (lists (store_line A pc) a))
+
+-- A store with this aim writes no live byte and no flagged address: there is no address; all lie in SRAM below what the stack can reach; all
+-- lie above SRAM; there is one, below SRAM, that isn't flagged; or the address is a slot, below the offset, that may hold no live byte.
+pub data IsHarmless (words : List ℕ) (A : List Entry) (f : Family) (n : Node) (instr : Instr) (aim : Aim) : Type 0 where
+  no_address : aim.reach ≡ reach.Nothing → IsHarmless words A f n instr aim
+  under_stack : (span : Span) → aim.reach ≡ reach.Within span → BELOW < span.first → span.last + f.bound ≤ ramend (device_of words)
+      → IsHarmless words A f n instr aim
+  above_memory : (span : Span) → aim.reach ≡ reach.Within span → ramend (device_of words) < span.first → IsHarmless words A f n instr aim
+  one_register : (a : ℕ) → aim.reach ≡ reach.Within (record { first = a; last = a }) → a ≤ BELOW → is_flagged_address words A n.key.pc instr a ≡ false
+      → IsHarmless words A f n instr aim
+  free_slot : (d : ℕ) → aim.slot ≡ Some d → d < offset_of n.key.sp → (MayHold words A f.nodes n.key d → ⊥) → IsHarmless words A f n instr aim
+
+-- ---- transfers
+
+-- the bits of registers r and r + 1 permit this number
+abbrev pub permits_pair : AbsState → ℕ → ℕ → Bool
+permits_pair s r p = has (bits s r) (low p) && has (bits s (r + 1)) (high p)
+
+-- each word that Z may give, by what its bits permit, is listed, where there is a line
+abbrev pub AreTargetsListed : Device → AbsState → Option (List ℕ) → Type 0
+AreTargetsListed device s None = ⊤
+AreTargetsListed device s (Some listed) = (z : ℕ) → z < 65536 → permits_pair s 30 z ≡ true → lists listed (wrapped device z) ≡ true
+
+-- ---- nodes
+
+-- Where its instruction is a store, that is harmless; and where it is an indirect transfer, whose site has a `jump` line, the line lists all
+-- words to which it may go.
+pub record IsClear (words : List ℕ) (A : List Entry) (f : Family) (n : Node) : Type 0 where
+  pub store : (instr : Instr) (aim : Aim) → instruction_at words n.key.pc ≡ Some instr → aim_of (device_of words) n.key n.state instr ≡ Some aim
+      → IsHarmless words A f n instr aim
+  pub transfer : (instr : Instr) → instruction_at words n.key.pc ≡ Some instr → is_indirect instr ≡ true
+      → AreTargetsListed (device_of words) n.state (jump_line A n.key.pc)
+
+-- a node of the family at this word that isn't clear
+pub record MayBeFlagged (words : List ℕ) (A : List Entry) (f : Family) (pc : ℕ) : Type 0 where
+  pub node : Node
+  pub present : Contains f.nodes node
+  pub is : node.key.pc ≡ pc
+  pub unclear : IsClear words A f node → ⊥
+
+-- ---- the same as a test
+
+abbrev pub is_span_harmless : List ℕ → List Entry → ℕ → ℕ → Instr → Span → Bool
+is_span_harmless words A bound pc instr span =
+    (nat_lt BELOW span.first && nat_le (span.last + bound) (ramend (device_of words))) || nat_lt (ramend (device_of words)) span.first
+    || ((span.first == span.last) && nat_le span.first BELOW && not (is_flagged_address words A pc instr span.first))
+
+abbrev pub is_reach_harmless : List ℕ → List Entry → ℕ → ℕ → Instr → Reach → Bool
+is_reach_harmless words A bound pc instr reach.Nothing = true
+is_reach_harmless words A bound pc instr (reach.Within span) = is_span_harmless words A bound pc instr span
+is_reach_harmless words A bound pc instr reach.Beyond = false
+
+-- below an offset, where `held` tells the slots that may hold a live byte
+abbrev pub is_slot_harmless : ℕ → (ℕ → Bool) → Option ℕ → Bool
+is_slot_harmless offset held None = false
+is_slot_harmless offset held (Some d) = nat_lt d offset && not (held d)
+
+abbrev pub is_aim_harmless : List ℕ → List Entry → ℕ → NodeKey → Instr → (ℕ → Bool) → Option Aim → Bool
+is_aim_harmless words A bound k instr held None = true
+is_aim_harmless words A bound k instr held (Some aim) =
+    is_reach_harmless words A bound k.pc instr aim.reach || is_slot_harmless (offset_of k.sp) held aim.slot
+
+abbrev pub is_target_listed : Device → AbsState → List ℕ → ℕ → Bool
+is_target_listed device s listed z = not (permits_pair s 30 z) || lists listed (wrapped device z)
+
+abbrev pub are_targets_listed : Device → AbsState → Option (List ℕ) → Bool
+are_targets_listed device s None = true
+are_targets_listed device s (Some listed) = all_below 65536 (is_target_listed device s listed)
+
+abbrev pub is_transfer_listed : List ℕ → List Entry → ℕ → AbsState → Instr → Bool
+is_transfer_listed words A pc s instr = not (is_indirect instr) || are_targets_listed (device_of words) s (jump_line A pc)
+
+abbrev pub is_clear_by : List ℕ → List Entry → ℕ → NodeKey → AbsState → (ℕ → Bool) → Option Instr → Bool
+is_clear_by words A bound k s held None = true
+is_clear_by words A bound k s held (Some instr) =
+    is_aim_harmless words A bound k instr held (aim_of (device_of words) k s instr) && is_transfer_listed words A k.pc s instr
+
+abbrev pub is_clear : List ℕ → List Entry → ℕ → Node → (ℕ → Bool) → Bool
+is_clear words A bound n held = is_clear_by words A bound n.key n.state held (instruction_at words n.key.pc)
+
+-- ---- runs
+
+-- the word at which a step is flagged
+abbrev pub word_of_flag : Flag → ℕ
+word_of_flag (Live pc a) = pc
+word_of_flag (Protected pc a) = pc
+word_of_flag (Transfer pc target) = pc
+
+-- no run from reset is flagged
+abbrev pub NeverFlagged : List ℕ → List Entry → Type 0
+NeverFlagged words A =
+    (m : State) (choices : List Choice) (flag : Flag) → IsReset (device_of words) m → IsRun words A choices m → stop_of words A choices m ≢ stop.Flag flag

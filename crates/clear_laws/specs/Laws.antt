@@ -1,0 +1,37 @@
+-- Laws of flagged steps.
+use Rattle.std.specs.Prelude.{ℕ, ◌≡◌, ◌<◌, Bool, true, false, List, Contains}
+use Rattle.avr_model.specs.Devices.{device_of}
+use Rattle.avr_model.specs.declared.assumption.Entry.{Entry}
+use Rattle.avr_model.specs.declared.choice.Choice.{Choice}
+use Rattle.avr_model.specs.declared.choice.Flag.{Flag}
+use Rattle.avr_model.specs.declared.choice.Stop.TheVariants as stop
+use Rattle.avr_model.specs.State.{State, IsReset}
+use Rattle.avr_model.specs.Run.{IsRun, stop_of}
+use Rattle.mask_states.specs.declared.keys.NodeKey.{NodeKey}
+use Rattle.mask_states.specs.Keys.{offset_of}
+use Rattle.local_rules.specs.declared.local.Node.{Node}
+use Rattle.local_rules.specs.Machine.{AreWords}
+use Rattle.edge_rules.specs.Families.{Family, IsSound}
+use Rattle.clear_laws.specs.Held.{MayHold, IsClosed}
+use Rattle.clear_laws.specs.Clear.{IsClear, MayBeFlagged, NeverFlagged, word_of_flag, is_clear}
+
+-- A run from reset that ends flagged ends at a word of a node that may be flagged. So none does where each node is clear.
+pub record FlaggedRunsAreTold : Type 0 where
+  pub told : (words : List ℕ) (A : List Entry) (f : Family) (m : State) (choices : List Choice) (flag : Flag) → AreWords words → IsSound words A f
+      → IsReset (device_of words) m → IsRun words A choices m → stop_of words A choices m ≡ stop.Flag flag → MayBeFlagged words A f (word_of_flag flag)
+  pub never : (words : List ℕ) (A : List Entry) (f : Family) → AreWords words → IsSound words A f → ((n : Node) → Contains f.nodes n → IsClear words A f n)
+      → NeverFlagged words A
+
+-- The slots that may hold a live byte are in every map that has what the rules give, and lie below the node's offset.
+pub record HeldSlotsAreLeast : Type 0 where
+  pub least : (words : List ℕ) (A : List Entry) (nodes : List Node) (may : NodeKey → ℕ → Bool) (k : NodeKey) (d : ℕ)
+      → IsClosed words A nodes may → MayHold words A nodes k d → may k d ≡ true
+  pub below : (words : List ℕ) (A : List Entry) (nodes : List Node) (k : NodeKey) (d : ℕ) → MayHold words A nodes k d → d < offset_of k.sp
+
+-- A test tells the clear nodes by another that tells the slots which may hold a live byte: a node that passes is clear where the other tells
+-- all of them, and a clear one passes where it tells no more.
+pub record ClearNodesAreTold : Type 0 where
+  pub clear : (words : List ℕ) (A : List Entry) (f : Family) (n : Node) (held : ℕ → Bool)
+      → ((d : ℕ) → d < offset_of n.key.sp → held d ≡ false → MayHold words A f.nodes n.key d → ⊥) → is_clear words A f.bound n held ≡ true → IsClear words A f n
+  pub told : (words : List ℕ) (A : List Entry) (f : Family) (n : Node) (held : ℕ → Bool)
+      → ((d : ℕ) → d < offset_of n.key.sp → held d ≡ true → MayHold words A f.nodes n.key d) → IsClear words A f n → is_clear words A f.bound n held ≡ true

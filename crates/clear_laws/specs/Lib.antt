@@ -1,0 +1,4 @@
+pub mod Held
+pub mod Aims
+pub mod Clear
+pub mod Laws

@@ -1,0 +1,18 @@
+//! Laws of flagged steps, each as the contract of a function that does nothing.
+
+ghost use Rattle.clear_laws.specs.Laws.{FlaggedRunsAreTold, HeldSlotsAreLeast, ClearNodesAreTold};
+
+/// A run that ends flagged ends at a word of a node that may be flagged.
+pub fn flagged_runs_are_told()
+    ensures { FlaggedRunsAreTold }
+{}
+
+/// The slots that may hold a live byte are the least that the rules give.
+pub fn held_slots_are_least()
+    ensures { HeldSlotsAreLeast }
+{}
+
+/// Whether a node is clear can be told.
+pub fn clear_nodes_are_told()
+    ensures { ClearNodesAreTold }
+{}

@@ -1,0 +1,54 @@
+-- Two firmwares that store onto their own stack: over a free byte, and over one that was pushed.
+use Rattle.std.specs.Prelude.{ℕ, ◌≡◌, true, false, List, [], ◌∷◌, replicate, refl}
+use Rattle.avr_model.specs.declared.instruction.Instr.TheVariants as i
+use Rattle.avr_model.specs.Bits.{any_below, all_below}
+use Rattle.avr_model.specs.Devices.{device_of}
+use Rattle.avr_model.specs.Sites.{is_scratch, is_fixed}
+use Rattle.avr_model.specs.Table.{decoded}
+use Rattle.sp_domain.specs.declared.slots.Slot.TheVariants.{Free}
+use Rattle.abs_state.specs.declared.state.AbsState.{AbsState}
+use Rattle.mask_states.specs.declared.keys.SpForm.TheVariants.{Closed}
+use Rattle.mask_states.specs.Keys.{root_inst, entry_key}
+use Rattle.local_rules.specs.declared.local.Node.{Node}
+use Rattle.edge_rules.specs.Examples.{top}
+use Rattle.edge_rules.specs.Families.{Family}
+use Rattle.clear_laws.specs.Held.{is_guarded_push}
+use Rattle.clear_laws.specs.Clear.{is_clear}
+
+-- a call of the next word makes room for two bytes; `in r28, 0x3d`; `sts 0x08FE, r0`, onto the second; a jump to itself
+abbrev pub over_room : List ℕ
+over_room = 0xD000 ∷ 0xB7CD ∷ 0x9200 ∷ 0x08FE ∷ 0xCFFF ∷ replicate 16379 0xFFFF
+
+-- the same, where two registers are pushed
+abbrev pub over_pushed : List ℕ
+over_pushed = 0x920F ∷ 0x920F ∷ 0x9200 ∷ 0x08FE ∷ 0xCFFF ∷ replicate 16379 0xFFFF
+
+-- a node of the root with so many bytes on the stack, none of which is known
+abbrev pub with_bytes : ℕ → AbsState
+with_bytes n = record top { slots = replicate n Free }
+
+abbrev pub at_depth : ℕ → ℕ → Node
+at_depth pc n = record { key = record (entry_key root_inst) { pc = pc; sp = Closed n }; state = with_bytes n }
+
+abbrev pub family_of : List Node → Family
+family_of nodes = record { nodes = nodes; rank_of = λ inst. 0; need_of = λ inst. 2; bound = 2 }
+
+abbrev pub room_family : Family
+room_family = family_of (at_depth 0 0 ∷ at_depth 1 2 ∷ at_depth 2 2 ∷ at_depth 4 2 ∷ [])
+
+abbrev pub pushed_family : Family
+pushed_family = family_of (at_depth 0 0 ∷ at_depth 1 1 ∷ at_depth 2 2 ∷ at_depth 4 2 ∷ [])
+
+-- the store is clear where its slot may hold no live byte, and else it isn't
+pub clear_where_free : is_clear over_room [] 2 (at_depth 2 2) (λ d. false) ≡ true
+unfolding decoded is_fixed device_of
+clear_where_free = refl
+
+pub unclear_where_held : is_clear over_pushed [] 2 (at_depth 2 2) (λ d. true) ≡ false
+unfolding decoded is_fixed device_of
+unclear_where_held = refl
+
+-- `push` is guarded, and the call that makes room isn't
+pub push_is_guarded : is_guarded_push over_pushed 1 ≡ true
+unfolding is_scratch any_below all_below decoded device_of
+push_is_guarded = refl

@@ -1,0 +1,212 @@
+//! What has to hold of a node's slots, so that none of its steps can be flagged.
+
+ghost use Rattle.std.specs.Prelude.{◌≡◌, ◌≤◌, ℕ, Bool, Some};
+ghost use Rattle.avr_model.specs.Assumptions as assumed;
+ghost use Rattle.avr_model.specs.Devices.{device_of, size_of};
+ghost use Rattle.avr_model.specs.Sites.{instruction_at};
+ghost use Rattle.avr_model.specs.Step as steps;
+ghost use Rattle.clear_laws.specs.Clear.{is_flagged_address, is_span_harmless, is_reach_harmless, is_slot_harmless, is_aim_harmless, is_target_listed, are_targets_listed, is_transfer_listed, is_clear_by};
+ghost use Rattle.store_aims.specs.Needs.{meets};
+
+use crate::aims::aim;
+use abs_reads::pointers::has;
+use abs_rows::registers::pair;
+use abs_rows::transfer::base_register;
+use abs_state::AbsState;
+use avr_model::device::BELOW;
+use avr_model::instruction::{Base, Instr};
+use clear_laws::stores::{Aim, Reach, Span};
+use flash_image::Flash;
+use mask_states::NodeKey;
+use vector_table::{Assumptions, is_protected};
+
+/// What has to hold of a node's slots for it to be clear.
+#[derive(Clone, Copy)]
+pub enum Asks {
+    /// Nothing.
+    Nothing,
+    /// This slot, which is below the offset, may hold no live byte.
+    Free(u16),
+    /// It isn't clear, whatever holds of them.
+    Never,
+}
+
+fn is_pointer_store(instr: &Instr) -> bool
+    ensures { result ≡ steps.is_pointer_store instr.now }
+{
+    match instr {
+        Instr::Std(_, _, _) => true,
+        Instr::St(_, _) => true,
+        _ => false,
+    }
+}
+
+fn is_indirect(instr: &Instr) -> bool
+    ensures { result ≡ steps.is_indirect instr.now }
+{
+    match instr {
+        Instr::Ijmp => true,
+        Instr::Icall => true,
+        _ => false,
+    }
+}
+
+// Whether a list has this address.
+fn lists(items: &[u16], item: u16) -> bool
+    ensures { result ≡ assumed.lists items.now item }
+{
+    items.iter().any(|other| *other == item)
+}
+
+// Whether a write of this address at this word is flagged for a protected one.
+fn is_flagged_address(
+    flash: &Flash,
+    assumptions: &Assumptions,
+    pc: u16,
+    instr: &Instr,
+    address: u16,
+) -> bool
+    ensures { result ≡ is_flagged_address flash.now assumptions.now pc instr.now address }
+{
+    let is_store = is_pointer_store(instr);
+    let fixed = avr_decode::is_fixed(flash.words(), pc);
+    let proved = assumptions.proved(pc);
+    let protected = is_protected(address);
+    let listed = lists(assumptions.stores(pc), address);
+    is_store && !(fixed || proved) && (protected && !listed)
+}
+
+// Whether a store to one of these addresses writes neither a live byte nor a flagged address.
+fn is_span_harmless(
+    flash: &Flash,
+    assumptions: &Assumptions,
+    bound: u16,
+    pc: u16,
+    instr: &Instr,
+    span: Span,
+) -> bool
+    requires { bound ≤ size_of (device_of flash.now) }
+    ensures { result ≡ is_span_harmless flash.now assumptions.now bound pc instr.now span }
+{
+    let ramend = flash.device().ramend();
+    let flagged = is_flagged_address(flash, assumptions, pc, instr, span.first);
+    (BELOW < span.first && span.last <= ramend - bound)
+        || ramend < span.first
+        || (span.first == span.last && span.first <= BELOW && !flagged)
+}
+
+fn is_reach_harmless(
+    flash: &Flash,
+    assumptions: &Assumptions,
+    bound: u16,
+    pc: u16,
+    instr: &Instr,
+    reach: Reach,
+) -> bool
+    requires { bound ≤ size_of (device_of flash.now) }
+    ensures { result ≡ is_reach_harmless flash.now assumptions.now bound pc instr.now reach }
+{
+    match reach {
+        Reach::Nothing => true,
+        Reach::Within(span) => is_span_harmless(flash, assumptions, bound, pc, instr, span),
+        Reach::Beyond => false,
+    }
+}
+
+// What a store into a slot asks, whose addresses may harm.
+fn asks_of_slot(offset: u16, slot: Option<u16>) -> Asks
+    ensures { (held : ℕ → Bool) → is_slot_harmless offset held slot ≡ meets result held }
+{
+    match slot {
+        Some(slot) if slot < offset => Asks::Free(slot),
+        _ => Asks::Never,
+    }
+}
+
+// What a store asks.
+fn asks_of_aim(
+    flash: &Flash,
+    assumptions: &Assumptions,
+    bound: u16,
+    key: &NodeKey,
+    instr: &Instr,
+    aim: Option<Aim>,
+) -> Asks
+    requires { bound ≤ size_of (device_of flash.now) }
+    ensures { (held : ℕ → Bool) → is_aim_harmless flash.now assumptions.now bound key.now instr.now held aim ≡ meets result held }
+{
+    match aim {
+        None => Asks::Nothing,
+        Some(aim) => {
+            if is_reach_harmless(flash, assumptions, bound, key.pc, instr, aim.reach) {
+                Asks::Nothing
+            } else {
+                asks_of_slot(key.offset(), aim.slot)
+            }
+        }
+    }
+}
+
+// Whether a word is listed to which Z may lead with this number, if its bits permit that.
+fn is_target_listed(flash: &Flash, state: &AbsState, listed: &[u16], z: u16) -> bool
+    ensures { result ≡ is_target_listed (device_of flash.now) state.now listed.now z }
+{
+    let (low, high) = pair(state, base_register(Base::Z));
+    let permitted = has(low.bits, (z % 256) as u8) && has(high.bits, (z / 256) as u8);
+    !permitted || lists(listed, flash.device().wrap(z))
+}
+
+// Whether all words are listed to which Z may lead.
+fn are_targets_listed(flash: &Flash, state: &AbsState, listed: &[u16]) -> bool
+    ensures { result ≡ are_targets_listed (device_of flash.now) state.now (Some listed.now) }
+{
+    for z in 0..65536u32 {
+        if !is_target_listed(flash, state, listed, z as u16) {
+            return false;
+        }
+    }
+    true
+}
+
+// Whether an indirect transfer goes to listed words alone.
+fn is_transfer_listed(
+    flash: &Flash,
+    assumptions: &Assumptions,
+    pc: u16,
+    state: &AbsState,
+    instr: &Instr,
+) -> bool
+    ensures { result ≡ is_transfer_listed flash.now assumptions.now pc state.now instr.now }
+{
+    if !is_indirect(instr) {
+        return true;
+    }
+    match assumptions.jumps(pc) {
+        None => true,
+        Some(listed) => are_targets_listed(flash, state, listed),
+    }
+}
+
+/// What a node asks of its slots to be clear, where the stack takes at most this many bytes.
+pub fn asked_by(
+    flash: &Flash,
+    assumptions: &Assumptions,
+    bound: u16,
+    key: &NodeKey,
+    state: &AbsState,
+) -> Asks
+    requires { bound ≤ size_of (device_of flash.now) }
+    ensures { (held : ℕ → Bool) → is_clear_by flash.now assumptions.now bound key.now state.now held (instruction_at flash.now key.now.pc) ≡ meets result held }
+{
+    match avr_decode::instruction(flash.words(), usize::from(key.pc)) {
+        None => Asks::Nothing,
+        Some(instr) => {
+            let aim = aim(flash.device(), key, state, &instr);
+            if is_transfer_listed(flash, assumptions, key.pc, state, &instr) {
+                asks_of_aim(flash, assumptions, bound, key, &instr, aim)
+            } else {
+                Asks::Never
+            }
+        }
+    }
+}

@@ -1,0 +1,5 @@
+pub mod Places
+pub mod Held
+pub mod Asked
+pub mod One
+pub mod AllLaws

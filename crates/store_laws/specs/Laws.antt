@@ -1,0 +1,63 @@
+-- Laws of clear certificates.
+use Rattle.std.specs.Prelude.{ℕ, ◌≡◌, ◌↔◌, Bool, List, [], Some, Contains}
+use Rattle.std.specs.List.{slice_get}
+use Rattle.avr_model.specs.declared.assumption.Entry.{Entry}
+use Rattle.avr_model.specs.declared.choice.Choice.{Choice}
+use Rattle.avr_model.specs.declared.choice.Flag.{Flag}
+use Rattle.avr_model.specs.declared.choice.Stop.TheVariants as stop
+use Rattle.avr_model.specs.Devices.{device_of}
+use Rattle.avr_model.specs.State.{State, IsReset}
+use Rattle.avr_model.specs.Run.{IsRun, stop_of, Bounded}
+use Rattle.local_rules.specs.Machine.{AreWords}
+use Rattle.local_rules.specs.declared.local.Node.{Node}
+use Rattle.edge_rules.specs.Families.{Family}
+use Rattle.edge_rules.specs.Views.{AreShown}
+use Rattle.certificate.specs.Claims.{Claim, IsClaim}
+use Rattle.certificate.specs.Valid.{IsSound}
+use Rattle.clear_laws.specs.Clear.{IsClear, is_clear, NeverFlagged, word_of_flag}
+use Rattle.clear_laws.specs.Held.{MayHold}
+use Rattle.slot_reach.specs.declared.reach.Seed.{Seed}
+use Rattle.slot_reach.specs.Reach.{Reaches}
+use Rattle.store_aims.specs.declared.need.Asks.{Asks}
+use Rattle.store_aims.specs.Needs.{meets}
+use Rattle.store_laws.specs.Links.{AreLinks}
+use Rattle.store_laws.specs.Meets.{Meets}
+use Rattle.store_laws.specs.declared.verdict.ClearVerdict.{ClearVerdict}
+use Rattle.store_laws.specs.Verdict.{AreAllClear, IsClearVerdict, AreSites}
+
+-- a certificate has at most one verdict
+abbrev pub ClearVerdictsAreOne : Type 0
+ClearVerdictsAreOne = (words : List ℕ) (c : Claim) (v w : ClearVerdict) → IsClearVerdict words c v → IsClearVerdict words c w → v ≡ w
+
+-- no run from reset is flagged, and each keeps the bound: there is no premise on flags
+pub record IsBoundedAndClear (words : List ℕ) (bound : ℕ) : Type 0 where
+  pub bounded : Bounded words [] bound
+  pub never : NeverFlagged words []
+
+-- where all conditions hold without assumptions, and each node is clear
+abbrev pub ClearFirmwaresAreNeverFlagged : Type 0
+ClearFirmwaresAreNeverFlagged = (words : List ℕ) (c : Claim) → AreWords words → IsClaim c → IsSound words [] c → AreAllClear words [] c
+    → IsBoundedAndClear words c.bound
+
+-- each run from reset that ends flagged ends at one of these words
+abbrev pub EndFlaggedAt : List ℕ → List Entry → List ℕ → Type 0
+EndFlaggedAt words A sites =
+    (m : State) (choices : List Choice) (flag : Flag) → IsReset (device_of words) m → IsRun words A choices m → stop_of words A choices m ≡ stop.Flag flag
+    → Contains sites (word_of_flag flag)
+
+-- where all conditions hold, runs end flagged only at the words at which some node isn't clear
+abbrev pub FlaggedRunsEndAtSites : Type 0
+FlaggedRunsEndAtSites =
+    (words : List ℕ) (A : List Entry) (c : Claim) (sites : List ℕ) → AreWords words → IsClaim c → IsSound words A c → AreSites words A c sites
+    → EndFlaggedAt words A sites
+
+-- With links as they are, a slot spreads to just the nodes at which it may hold a live byte.
+abbrev pub SlotsSpreadAlongLinks : Type 0
+SlotsSpreadAlongLinks = (words : List ℕ) (A : List Entry) (nodes : List Node) (links : List (List ℕ)) (offsets : List ℕ) (seeds : List Seed)
+    → AreLinks words A nodes links offsets seeds → AreShown nodes → (at d : ℕ) (n : Node) → slice_get nodes at ≡ Some n
+    → Reaches links offsets seeds d at ↔ MayHold words A nodes n.key d
+
+-- Where a node asks this of its slots, it is clear exactly where that is met.
+abbrev pub AskingsTellClearNodes : Type 0
+AskingsTellClearNodes = (words : List ℕ) (A : List Entry) (f : Family) (n : Node) (a : Asks) → ((held : ℕ → Bool) → is_clear words A f.bound n held ≡ meets a held)
+    → Meets a (λ d. MayHold words A f.nodes n.key d) ↔ IsClear words A f n

@@ -1,0 +1,4 @@
+pub mod Links
+pub mod Meets
+pub mod Verdict
+pub mod Laws

@@ -1,0 +1,7 @@
+//! What is said of a certificate's nodes that may flag a step, and laws on the way there. Source: own.
+#![tactic(auto)]
+
+pub mod laws;
+pub mod verdict;
+
+pub use verdict::ClearVerdict;
