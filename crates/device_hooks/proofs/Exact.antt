@@ -1,0 +1,341 @@
+-- A setup's text: what is read is spelled so, what is spelled is read, and where nothing is read no setup can go on.
+use Rattle.std.proofs.Common.{ℕ, ◌+◌, ◌-◌, ◌<◌, ◌≤◌, ◌≡◌, List, [], ◌∷◌, ◌++◌, true, refl, ap, sym, ◌∙◌, arith, Option, Some, None, Result, Ok, Err, cond, length, ◌⊎◌, inl, inr, codes, map, lit<, lit≤, subst, append-nil}
+use Rattle.std.proofs.lemmas.Slice.Eq.{bytes_eq-Decides}
+use Rattle.std.specs.List.{AllByRecursion}
+use Rattle.std.specs.Str.{bytes_eq}
+use Rattle.sb_base.specs.Answers.{Answers}
+use Rattle.sb_base.specs.Digits.{hex_digits}
+use Rattle.sb_base.specs.Lines.{TextLine, Place, joined, lines_of, words_of, spaced}
+use Rattle.line_reading.specs.Reading.{hex_at, is_over, first_by, this_by, line_by}
+use Rattle.line_reading.specs.Words.{IsWord, whole, Passes, WordLaws}
+use Rattle.device_hooks.specs.declared.devices.Kind.{Kind}
+use Rattle.device_hooks.specs.declared.devices.Kind.TheVariants.{Timer, Bytes}
+use Rattle.device_hooks.specs.declared.devices.Source.{Source}
+use Rattle.device_hooks.specs.declared.devices.DevicesFault.{DevicesFault}
+use Rattle.device_hooks.specs.declared.devices.DevicesFault.TheVariants.{Malformed, Memory}
+use Rattle.device_hooks.specs.Spelling.{Setup, IsSource, IsSetup, most_sources, name_of, source_words, header, filling, ending, setup_lines, text_of}
+use Rattle.device_hooks.specs.Reading.{fill_in, fill_by, sources_from, if_last, setup_at, malformed, setup_in}
+use Rattle.device_hooks.specs.Exact.{IsReading, Begins, NoneGoesOn, IsDueUnlessMemory, ReadIsSpelled, SpelledIsRead, RefusedIsStuck, OneText}
+use Rattle.line_reading.proofs.AllLaws.{chosen, some_is, none_some, ok_is, err_ok, bind_some, no_words, TakesLine, line_takes, line_refuses, line_again, passes_none, passes_more, passes_split, nil_cons, cons_is, then_ok, then_err}
+use Rattle.device_hooks.proofs.Sources.{source_lines, sources_take, NoSource, sources_stuck, sources_again, are_words}
+
+abbrev header_by : List ℕ → Option (Unit {0})
+header_by text = this_by (codes "devices 1") text
+
+abbrev start : List ℕ → Place
+start text = record { at = 0; rest = lines_of text }
+
+-- ---- the first two lines
+
+header_is : (text : List ℕ) (u : Unit {0}) → header_by text ≡ Some u → text ≡ spaced header
+header_is text u e = elim (chosen (bytes_eq text (codes "devices 1")) _ _ (Some u) e) [
+  | inl h ↦ (bytes_eq-Decides text (codes "devices 1")).0 h.0
+  | inr h ↦ absurd (none_some u h.1)
+]
+
+header_again : header_by (spaced header) ≡ Some tt
+header_again = refl
+
+fill_end : (n b : ℕ) (ws : List (List ℕ)) → cond (is_over ws) (Some n) None ≡ Some b → (ws ≡ []) × (n ≡ b)
+fill_end n b ws e = elim (chosen (is_over ws) _ _ (Some b) e) [
+  | inl h ↦ (no_words ws h.0, some_is n b h.1)
+  | inr h ↦ absurd (none_some b h.1)
+]
+
+fill_words : WordLaws → (ws : List (List ℕ)) (b : ℕ) → fill_in ws ≡ Some b → (ws ≡ filling b) × (b < 256)
+unfolding fill_in
+fill_words k [] b e = absurd (none_some b e)
+fill_words k (w ∷ ws) b e = elim (chosen (bytes_eq w (codes "fill")) _ _ (Some b) e) [
+  | inl h ↦
+      let x = bind_some (hex_at 2 ws) _ b h.1 in
+      let t = k.hex_takes 2 x.0.0 ws x.0.1 x.1 in
+      let last = fill_end x.0.0 b x.0.1 x.2 in
+      let P : ℕ → Type 0 = λ y. (w ∷ ws ≡ filling y) × (y < 256) in
+      subst P last.1 (ap (λ y. y ∷ ws) ((bytes_eq-Decides w (codes "fill")).0 h.0) ∙ ap (λ y. codes "fill" ∷ y) (t.0 ∙ ap (λ y. hex_digits x.0.0 2 ∷ y) last.0), omega (arith, t.1))
+  | inr h ↦ absurd (none_some b h.1)
+]
+
+fill_takes : WordLaws → (text : List ℕ) (b : ℕ) → fill_by text ≡ Some b → (text ≡ spaced (filling b)) × (b < 256)
+fill_takes k text b e = let t = fill_words k (words_of text) b e in (sym (k.line_words text) ∙ ap spaced t.0, t.1)
+
+filling_words : WordLaws → (b : ℕ) → b < 256 → AllByRecursion IsWord (filling b)
+filling_words k b small = (((refl, (refl, (refl, (refl, tt)))), (refl, (refl, (refl, (refl, tt))))), (k.hex_word b 2 (omega (arith, small)), tt))
+
+filling_in : WordLaws → (b : ℕ) → b < 256 → fill_in (filling b) ≡ Some b
+unfolding fill_in
+filling_in k b small = let t = k.hex_taken 2 b [] (omega (arith, small)) in rw t refl
+
+fill_again : WordLaws → (b : ℕ) → b < 256 → fill_by (spaced (filling b)) ≡ Some b
+fill_again k b small = ap fill_in (k.words_stand (codes "fill") _ (filling_words k b small)) ∙ filling_in k b small
+
+as_words : {A : Type 0} (f : List ℕ → Option A) (p : Place) (x : A) (q : Place) (t : TakesLine f p x q) (ws : List (List ℕ)) → t.text ≡ spaced ws → Passes p (whole ws ∷ []) q
+as_words f p x q t ws e = let P : List ℕ → Type 0 = λ y. Passes p (record { text = y; whole = true } ∷ []) q in subst P e t.passes
+
+-- ---- words of all lines
+
+sources_words : WordLaws → (ss : List Source) → AllByRecursion IsSource ss → AllByRecursion (AllByRecursion IsWord) (source_lines ss)
+sources_words k [] fit = ((((refl, (refl, (refl, tt))), (refl, (refl, (refl, tt)))), tt), tt)
+sources_words k (s ∷ ss) fit = (are_words k s fit.0, sources_words k ss fit.1)
+
+setup_words : WordLaws → (setup : Setup) → IsSetup setup → AllByRecursion (AllByRecursion IsWord) (setup_lines setup)
+setup_words k setup h = (
+  ((((refl, (refl, (refl, (refl, (refl, (refl, (refl, tt))))))), (refl, (refl, (refl, (refl, (refl, (refl, (refl, tt)))))))), (((refl, tt), (refl, tt)), tt))),
+  (filling_words k setup.fill h.fill_is_byte, sources_words k setup.sources h.all),
+)
+
+-- ---- what is read is spelled so
+
+record Stands (p : Place) (setup : Setup) : Type 0 where
+  pub fits : IsSetup setup
+  pub end : Place
+  pub nothing : end.rest ≡ []
+  pub lines : Passes p (map whole (setup_lines setup)) end
+
+last_ok : (ls : List TextLine) (s setup : Setup) (p : Place) → if_last ls s p ≡ Ok setup → (ls ≡ []) × (s ≡ setup)
+last_ok [] s setup p e = (refl, ok_is s setup e)
+last_ok (l ∷ ls) s setup p e = absurd (err_ok p setup e)
+
+read_stands : WordLaws → (p : Place) (setup : Setup) → setup_at p ≡ Ok setup → Stands p setup
+unfolding setup_at
+read_stands k p setup e =
+    let h = then_ok (line_by header_by p) _ setup e in
+    let f = then_ok (line_by fill_by h.0.1) _ setup h.2 in
+    let r = then_ok (sources_from most_sources f.0.1.at f.0.1.rest) _ setup f.2 in
+    let last = last_ok r.0.1.rest (record { fill = f.0.0; sources = r.0.0 }) setup r.0.1 r.2 in
+    let first = line_takes header_by p h.0.0 h.0.1 h.1 in
+    let second = line_takes fill_by h.0.1 f.0.0 f.0.1 f.1 in
+    let byte = fill_takes k second.text f.0.0 second.read in
+    let sources = sources_take k most_sources f.0.1.at f.0.1.rest r.0.0 r.0.1 r.1 in
+    let top = as_words header_by p h.0.0 h.0.1 first header (header_is first.text h.0.0 first.read) in
+    let fill = as_words fill_by h.0.1 f.0.0 f.0.1 second (filling f.0.0) byte.0 in
+    subst (Stands p) last.1 (record {
+      fits = record { fill_is_byte = byte.1; count = sources.room; all = sources.fit };
+      end = r.0.1;
+      nothing = last.0;
+      lines = passes_more p h.0.1 r.0.1 (whole header ∷ []) (whole (filling f.0.0) ∷ map whole (source_lines r.0.0)) top
+          (passes_more h.0.1 f.0.1 r.0.1 (whole (filling f.0.0) ∷ []) (map whole (source_lines r.0.0)) fill sources.passes);
+    })
+
+malformed_ok : {A : Type 0} (d : Result A Place) (x : A) → malformed d ≡ Ok x → d ≡ Ok x
+malformed_ok (Ok y) x e = let same : y ≡ x = cc in rw same refl
+malformed_ok (Err q) x e = cc
+
+joined_none : (q : Place) → q.rest ≡ [] → joined q.rest ≡ []
+joined_none q e = ap joined e
+
+pub read_is_spelled : WordLaws → ReadIsSpelled
+unfolding setup_in
+read_is_spelled k text setup e =
+    let s = read_stands k (start text) setup (malformed_ok (setup_at (start text)) setup e) in
+    let t = k.lines_text (start text) (setup_lines setup) s.end s.lines in
+    record {
+      fits = s.fits;
+      bytes = sym (k.text_joined text) ∙ t.bytes ∙ ap (λ (xs : List ℕ). text_of setup ++ xs) (joined_none s.end s.nothing) ∙ append-nil (text_of setup);
+    }
+
+-- ---- what is spelled is read
+
+stands_read : WordLaws → (p : Place) (setup : Setup) (q : Place) → IsSetup setup → q.rest ≡ [] → Passes p (map whole (setup_lines setup)) q → setup_at p ≡ Ok setup
+unfolding setup_at
+stands_read k p setup q fits none lines =
+    let a = passes_split p q (whole header) (whole (filling setup.fill) ∷ map whole (source_lines setup.sources)) lines in
+    let b = passes_split a.0 q (whole (filling setup.fill)) (map whole (source_lines setup.sources)) a.2 in
+    let top = line_again header_by p a.0 (spaced header) tt header_again a.1 in
+    let fill = line_again fill_by a.0 b.0 (spaced (filling setup.fill)) setup.fill (fill_again k setup.fill fits.fill_is_byte) b.1 in
+    let sources = sources_again k most_sources b.0.at b.0.rest setup.sources q fits.all fits.count b.2 in
+    rw (top, fill, sources, none) refl
+
+pub spelled_is_read : WordLaws → SpelledIsRead
+unfolding setup_in
+spelled_is_read k text setup h =
+    let q : Place = record { at = 0 + length (text_of setup); rest = [] } in
+    let bytes : joined (lines_of text) ≡ text_of setup ++ [] = k.text_joined text ∙ h.bytes ∙ sym (append-nil (text_of setup)) in
+    let lines = k.text_lines (start text) (setup_lines setup) q (setup_words k setup h.fits) (k.are_lines text) tt (record { bytes = bytes; offset = refl }) in
+    ap malformed (stands_read k (start text) setup q h.fits refl lines)
+
+pub one_text : WordLaws → OneText
+one_text k a b fa fb e =
+    let ra = spelled_is_read k (text_of a) a (record { fits = fa; bytes = refl }) in
+    let rb = spelled_is_read k (text_of a) b (record { fits = fb; bytes = e }) in
+    let same : ◌≡◌ {A = Result Setup DevicesFault} (Ok a) (Ok b) = sym ra ∙ rb in
+    cc
+
+-- ---- a refusal
+
+-- a source for which a line is left
+record NextSource (left : ℕ) (ws : List (List ℕ)) : Type 0 where
+  pub source : Source
+  pub fits : IsSource source
+  pub room : 1 ≤ left
+  pub words : ws ≡ source_words source
+
+end_is_no_kind : (kind : Kind) → codes "end" ≡ name_of kind → ⊥
+end_is_no_kind Timer e = cc
+end_is_no_kind (Bytes bs) e = cc
+
+end_is_no_source : (s : Source) → ending ≡ source_words s → ⊥
+end_is_no_source s e = end_is_no_kind s.kind (cons_is _ _ _ _ e).0
+
+-- a line of other sources behind these sources is the end, or that of a source for which a line is left
+last_or_source : (left : ℕ) (sources others : List Source) (ws : List (List ℕ)) (more : List (List (List ℕ))) → length others ≤ left → AllByRecursion IsSource others
+    → source_lines others ≡ (map source_words sources ++ ws ∷ []) ++ more → (ws ≡ ending) ⊎ NextSource (left - length sources) ws
+last_or_source left [] [] ws more few fit e = inl (sym (cons_is ending ws [] more e).0)
+last_or_source left [] (s ∷ ss) ws more few fit e = inr (record { source = s; fits = fit.0; room = omega (arith, few); words = sym (cons_is (source_words s) ws (source_lines ss) more e).0 })
+last_or_source left (r ∷ rs) [] ws more few fit e = absurd (end_is_no_source r (cons_is ending (source_words r) [] ((map source_words rs ++ ws ∷ []) ++ more) e).0)
+last_or_source left (r ∷ rs) (s ∷ ss) ws more few fit e =
+    let c = cons_is (source_words s) (source_words r) (source_lines ss) ((map source_words rs ++ ws ∷ []) ++ more) e in
+    elim (last_or_source (left - 1) rs ss ws more (omega (arith, few)) fit.1 c.1) [
+      | inl h ↦ inl h
+      | inr h ↦ inr (record { source = h.source; fits = h.fits; room = omega (arith, h.room); words = h.words })
+    ]
+
+-- sources alone are no whole text
+no_end : (sources others : List Source) → source_lines others ≡ map source_words sources ++ [] → ⊥
+no_end [] [] e = nil_cons ending [] (sym e)
+no_end [] (s ∷ ss) e = nil_cons (source_words s) (source_lines ss) (sym e)
+no_end (r ∷ rs) [] e = end_is_no_source r (cons_is ending (source_words r) [] (map source_words rs ++ []) e).0
+no_end (r ∷ rs) (s ∷ ss) e = no_end rs ss (cons_is (source_words s) (source_words r) (source_lines ss) (map source_words rs ++ []) e).1
+
+-- nothing stands behind the last line
+no_more : (sources others : List Source) (ws : List (List ℕ)) (more : List (List (List ℕ))) → source_lines others ≡ (source_lines sources ++ ws ∷ []) ++ more → ⊥
+no_more [] [] ws more e = nil_cons ws more (cons_is ending ending [] (ws ∷ more) e).1
+no_more [] (s ∷ ss) ws more e = end_is_no_source s (sym (cons_is (source_words s) ending (source_lines ss) (ws ∷ more) e).0)
+no_more (r ∷ rs) [] ws more e = end_is_no_source r (cons_is ending (source_words r) [] ((source_lines rs ++ ws ∷ []) ++ more) e).0
+no_more (r ∷ rs) (s ∷ ss) ws more e = no_more rs ss ws more (cons_is (source_words s) (source_words r) (source_lines ss) ((source_lines rs ++ ws ∷ []) ++ more) e).1
+
+abbrev bare : ℕ → Setup
+bare b = record { fill = b; sources = [] }
+
+bare_fits : (b : ℕ) → b < 256 → IsSetup (bare b)
+bare_fits b small = record { fill_is_byte = small; count = lit≤ tt; all = tt }
+
+stop_header : (ls : List TextLine) → first_by header_by ls ≡ None → NoneGoesOn [] ls
+stop_header [] e = λ b. nil_cons _ _ (sym b.all)
+stop_header (l ∷ ls) e = λ ws more is b.
+    let c = cons_is header ws _ more b.all in
+    none_some tt (sym e ∙ ap (λ (x : TextLine). first_by header_by (x ∷ ls)) (is ∙ ap whole (sym c.0)) ∙ header_again)
+
+stop_fill : WordLaws → (ls : List TextLine) → first_by fill_by ls ≡ None → NoneGoesOn (header ∷ []) ls
+stop_fill k [] e = λ b. nil_cons _ _ (sym (cons_is header header _ [] b.all).1)
+stop_fill k (l ∷ ls) e = λ ws more is b.
+    let c = cons_is header header _ (ws ∷ more) b.all in
+    let d = cons_is (filling b.setup.fill) ws _ more c.1 in
+    none_some b.setup.fill (sym e ∙ ap (λ (x : TextLine). first_by fill_by (x ∷ ls)) (is ∙ ap whole (sym d.0)) ∙ fill_again k b.setup.fill b.fits.fill_is_byte)
+
+stop_sources : (fill : ℕ) (sources : List Source) (ls : List TextLine) → NoSource (most_sources - length sources) ls → NoneGoesOn (header ∷ filling fill ∷ map source_words sources) ls
+stop_sources fill sources [] none = λ b.
+    let c = cons_is header header _ (filling fill ∷ (map source_words sources ++ [])) b.all in
+    no_end sources b.setup.sources (cons_is (filling b.setup.fill) (filling fill) (source_lines b.setup.sources) (map source_words sources ++ []) c.1).1
+stop_sources fill sources (l ∷ ls) none = λ ws more is b.
+    let c = cons_is header header _ (filling fill ∷ ((map source_words sources ++ ws ∷ []) ++ more)) b.all in
+    let d = cons_is (filling b.setup.fill) (filling fill) (source_lines b.setup.sources) ((map source_words sources ++ ws ∷ []) ++ more) c.1 in
+    elim (last_or_source most_sources sources b.setup.sources ws more b.fits.count b.fits.all d.1) [
+      | inl h ↦ none.1 (is ∙ ap whole h)
+      | inr h ↦ none.0 h.source h.fits h.room (is ∙ ap whole h.words)
+    ]
+
+stop_end : (setup : Setup) (l : TextLine) (ls : List TextLine) → NoneGoesOn (setup_lines setup) (l ∷ ls)
+stop_end setup l ls = λ ws more is b.
+    let c = cons_is header header _ (filling setup.fill ∷ ((source_lines setup.sources ++ ws ∷ []) ++ more)) b.all in
+    let d = cons_is (filling b.setup.fill) (filling setup.fill) (source_lines b.setup.sources) ((source_lines setup.sources ++ ws ∷ []) ++ more) c.1 in
+    no_more setup.sources b.setup.sources ws more d.1
+
+-- where a text is refused, by place
+record StuckAt (p q : Place) : Type 0 where
+  pub before : List (List (List ℕ))
+  pub passed : Passes p (map whole before) q
+  pub more : List (List (List ℕ))
+  pub begins : Begins before more
+  pub stop : NoneGoesOn before q.rest
+
+header_stuck : (p q : Place) → line_by header_by p ≡ Err q → StuckAt p q
+header_stuck p q e =
+    let r = line_refuses header_by p q e in
+    subst (StuckAt p) r.1 (record {
+      before = [];
+      passed = passes_none p;
+      more = setup_lines (bare 0);
+      begins = record { setup = bare 0; fits = bare_fits 0 (lit< tt); all = refl };
+      stop = stop_header p.rest r.0;
+    })
+
+fill_stuck : WordLaws → (p h q : Place) → Passes p (whole header ∷ []) h → line_by fill_by h ≡ Err q → StuckAt p q
+fill_stuck k p h q top e =
+    let r = line_refuses fill_by h q e in
+    subst (StuckAt p) r.1 (record {
+      before = header ∷ [];
+      passed = top;
+      more = filling 0 ∷ ending ∷ [];
+      begins = record { setup = bare 0; fits = bare_fits 0 (lit< tt); all = refl };
+      stop = stop_fill k h.rest r.0;
+    })
+
+sources_are_stuck : WordLaws → (p h f q : Place) (b : ℕ) → Passes p (whole header ∷ []) h → Passes h (whole (filling b) ∷ []) f → b < 256 → sources_from most_sources f.at f.rest ≡ Err q → StuckAt p q
+sources_are_stuck k p h f q b top fill small e =
+    let stuck = sources_stuck k most_sources f.at f.rest q e in
+    record {
+      before = header ∷ filling b ∷ map source_words stuck.sources;
+      passed = passes_more p h q (whole header ∷ []) (whole (filling b) ∷ map whole (map source_words stuck.sources)) top
+          (passes_more h f q (whole (filling b) ∷ []) (map whole (map source_words stuck.sources)) fill stuck.passes);
+      more = ending ∷ [];
+      begins = record { setup = record { fill = b; sources = stuck.sources }; fits = record { fill_is_byte = small; count = stuck.room; all = stuck.fit }; all = refl };
+      stop = stop_sources b stuck.sources q.rest stuck.stop;
+    }
+
+end_stuck : WordLaws → (p h f r q : Place) (b : ℕ) (ss : List Source) → Passes p (whole header ∷ []) h → Passes h (whole (filling b) ∷ []) f → b < 256 → sources_from most_sources f.at f.rest ≡ Ok (ss, r)
+    → (rest : List TextLine) → r.rest ≡ rest → if_last rest (record { fill = b; sources = ss }) r ≡ Err q → StuckAt p q
+end_stuck k p h f r q b ss top fill small e [] is last = absurd (err_ok q (record { fill = b; sources = ss }) (sym last))
+end_stuck k p h f r q b ss top fill small e (l ∷ ls) is last =
+    let sources = sources_take k most_sources f.at f.rest ss r e in
+    let setup : Setup = record { fill = b; sources = ss } in
+    let same : r ≡ q = let bad : ◌≡◌ {A = Result Setup Place} (Err r) (Err q) = last in cc in
+    let stop : NoneGoesOn (setup_lines setup) r.rest = let P : List TextLine → Type 0 = λ xs. NoneGoesOn (setup_lines setup) xs in subst P (sym is) (stop_end setup l ls) in
+    subst (StuckAt p) same (record {
+      before = setup_lines setup;
+      passed = passes_more p h r (whole header ∷ []) (whole (filling b) ∷ map whole (source_lines ss)) top
+          (passes_more h f r (whole (filling b) ∷ []) (map whole (source_lines ss)) fill sources.passes);
+      more = [];
+      begins = record { setup = setup; fits = record { fill_is_byte = small; count = sources.room; all = sources.fit }; all = sym (append-nil (setup_lines setup)) };
+      stop = stop;
+    })
+
+refused_at : WordLaws → (p q : Place) → setup_at p ≡ Err q → StuckAt p q
+unfolding setup_at
+refused_at k p q e = elim (then_err (line_by header_by p) _ q e) [
+  | inl h ↦ header_stuck p q h
+  | inr h ↦
+      let first = line_takes header_by p h.0.0 h.0.1 h.1 in
+      let top = as_words header_by p h.0.0 h.0.1 first header (header_is first.text h.0.0 first.read) in
+      elim (then_err (line_by fill_by h.0.1) _ q h.2) [
+        | inl g ↦ fill_stuck k p h.0.1 q top g
+        | inr g ↦
+            let second = line_takes fill_by h.0.1 g.0.0 g.0.1 g.1 in
+            let byte = fill_takes k second.text g.0.0 second.read in
+            let fill = as_words fill_by h.0.1 g.0.0 g.0.1 second (filling g.0.0) byte.0 in
+            elim (then_err (sources_from most_sources g.0.1.at g.0.1.rest) _ q g.2) [
+              | inl s ↦ sources_are_stuck k p h.0.1 g.0.1 q g.0.0 top fill byte.1 s
+              | inr s ↦ end_stuck k p h.0.1 g.0.1 s.0.1 q g.0.0 s.0.0 top fill byte.1 s.1 s.0.1.rest refl s.2
+            ]
+      ]
+]
+
+malformed_err : (d : Result Setup Place) (at : ℕ) → malformed d ≡ Err (Malformed at) → (q : Place) × (d ≡ Err q) × (q.at ≡ at)
+malformed_err (Ok s) at e = cc
+malformed_err (Err q) at e = (q, refl, let same : Malformed q.at ≡ Malformed at = cc in cc)
+
+pub refused_is_stuck : WordLaws → RefusedIsStuck
+unfolding setup_in
+refused_is_stuck k text at e =
+    let q = malformed_err (setup_at (start text)) at e in
+    let s = refused_at k (start text) q.0 q.1 in
+    record { before = s.before; place = q.0; offset = q.2; passed = s.passed; more = s.more; begins = s.begins; stop = s.stop }
+
+-- ---- the call that reads
+
+pub due : ReadIsSpelled → RefusedIsStuck → (text : List ℕ) (r : Result Setup DevicesFault) → Answers (λ d. d) Memory r (setup_in text) → IsDueUnlessMemory text r
+due read refused text (Ok d) e = read text d e
+due read refused text (Err Memory) e = tt
+due read refused text (Err (Malformed at)) e = refused text at (e (λ bad. cc))
+
+pub answers_spelled : SpelledIsRead → (text : List ℕ) (r : Result Setup DevicesFault) (setup : Setup) → Answers (λ d. d) Memory r (setup_in text) → IsReading text setup → Answers (λ d. d) Memory r (Ok setup)
+answers_spelled law text r setup e h = let P : Result Setup DevicesFault → Type 0 = λ d. Answers (λ x. x) Memory r d in subst P (law text setup h) e

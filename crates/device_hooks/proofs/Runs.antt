@@ -1,0 +1,150 @@
+-- Runs that devices choose are runs of the machine.
+use Rattle.std.proofs.Common.{arith, zero, suc, ◌≡◌, ◌≢◌, refl, sym, ap, subst, ◌∙◌, ℕ, ◌<◌, ◌≤◌, ◌&&◌, Bool, true, false, if◌then◌else◌, inl, inr, ◌⊎◌, List, [], ◌∷◌, Option, Some, None, slice_get, slice_index_or, lit<}
+use Rattle.std.proofs.lemmas.List.Elements.{All-replicate}
+use Rattle.std.proofs.Math.ListN.{length-replicate}
+use Rattle.std.specs.List.{AllByRecursion}
+use Rattle.avr_model.specs.declared.choice.Choice.{Choice}
+use Rattle.avr_model.specs.declared.choice.Flag.{Flag}
+use Rattle.avr_model.specs.declared.choice.StepResult.TheVariants as said
+use Rattle.avr_model.specs.declared.assumption.Entry.{Entry}
+use Rattle.avr_model.specs.declared.device.Device.{Device}
+use Rattle.avr_model.specs.declared.instruction.Instr.{Instr}
+use Rattle.avr_model.specs.Devices.{size_of, device_of}
+use Rattle.avr_model.specs.Sites.{instruction_at}
+use Rattle.avr_model.specs.State.{State, IsReset, filled}
+use Rattle.avr_model.specs.Step.{Answer, Illegal, Undefined, Overflow, Flagged, Done, step, take, go, entering, flagged_or, may_take, result_of}
+use Rattle.avr_model.specs.Run.{HasBytes, IsRun, RunsOn, Bounded}
+use Rattle.stimulus.specs.Driving.{choices_on}
+use Rattle.device_hooks.specs.declared.devices.Kind.{Kind}
+use Rattle.device_hooks.specs.declared.devices.Kind.TheVariants.{Timer, Bytes}
+use Rattle.device_hooks.specs.declared.devices.Source.{Source}
+use Rattle.device_hooks.specs.Spelling.{Setup, IsKind, IsSource, IsSetup}
+use Rattle.device_hooks.specs.Due.{Progress, begun, is_of, is_due, is_ready_source, is_ready, first_ready, or_else, pick, choice_at, choice_on, answered, next_on, passed_at, input_after, taken_of}
+use Rattle.device_hooks.specs.Simulating.{picked, chosen, initial, simulated}
+use Rattle.device_hooks.specs.Laws.{IsRunFromReset, SimulationsAreRuns, SimulationsAreBounded}
+use Rattle.device_hooks.proofs.Ready.{first_is}
+use Rattle.line_reading.proofs.AllLaws.{none_some}
+
+-- ---- which choices aren't illegal
+
+inside_legal : (b : Bool) (o : Option Flag) (s : State) (pc : ℕ) → result_of (if b then flagged_or o s else Overflow pc) ≢ said.Illegal
+inside_legal true None s pc e = cc
+inside_legal true (Some flag) s pc e = cc
+inside_legal false o s pc e = cc
+
+go_legal : (words : List ℕ) (A : List Entry) (m : State) (o : Option Instr) (b1 b2 : ℕ) → result_of (go words A m o b1 b2) ≢ said.Illegal
+go_legal words A m None b1 b2 e = cc
+go_legal words A m (Some instr) b1 b2 e = inside_legal _ _ _ _ e
+
+take_legal : (m : State) (v : ℕ) (b : Bool) → b ≡ true → result_of (if b then take m (entering m v false) else Illegal) ≢ said.Illegal
+take_legal m v true is e = inside_legal _ _ _ _ e
+take_legal m v false is e = cc
+
+-- the source of the answer may be taken
+abbrev MayTake : State → Option Source → Type 0
+MayTake m None = Unit {0}
+MayTake m (Some s) = may_take m s.vector false ≡ true
+
+choice_legal : (words : List ℕ) (A : List Entry) (m : State) (o : Option Source) (p : Progress) → MayTake m o → result_of (step words A m (choice_at o p)) ≢ said.Illegal
+choice_legal words A m None p may = go_legal words A m (instruction_at words m.pc) p.input p.input
+choice_legal words A m (Some s) p may = take_legal m s.vector (may_take m s.vector false) may
+
+-- ---- what is picked may be taken
+
+last_of : (a b c : Bool) → (a && b && c) ≡ true → c ≡ true
+last_of true true c h = h
+last_of true false c h = cc
+last_of false b c h = cc
+
+ready_may : (m : State) (timers : Bool) (o : Option Source) (taken step : ℕ) → is_ready_source (λ v. may_take m v false) timers o taken step ≡ true → MayTake m o
+ready_may m timers None taken step e = tt
+ready_may m timers (Some s) taken step e = last_of (is_of timers s.kind) (is_due s taken step) (may_take m s.vector false) e
+
+either : (a b : Option ℕ) (n : ℕ) → or_else a b ≡ Some n → (a ≡ Some n) ⊎ (b ≡ Some n)
+either None b n e = inr e
+either (Some k) b n e = inl e
+
+first_may : (setup : Setup) (p : Progress) (m : State) (timers : Bool) (n : ℕ) → first_ready setup (λ v. may_take m v false) timers p.taken p.step ≡ Some n → MayTake m (slice_get setup.sources n)
+first_may setup p m timers n e =
+    ready_may m timers (slice_get setup.sources n) (slice_index_or p.taken n 0) p.step (first_is (is_ready setup (λ v. may_take m v false) timers p.taken p.step) 0 _ n e)
+
+picked_may : (setup : Setup) (p : Progress) (m : State) (a : Option ℕ) → picked setup p m ≡ a → MayTake m (answered setup a)
+picked_may setup p m None e = tt
+picked_may setup p m (Some n) e = elim (either _ _ n e) [
+  | inl h ↦ first_may setup p m true n h
+  | inr h ↦ first_may setup p m false n h
+]
+
+-- ---- input bytes are bytes
+
+bytes_at : (o : Option Source) (p : Progress) → p.input < 256 → HasBytes (choice_at o p)
+bytes_at None p small = (small, small)
+bytes_at (Some s) p small = tt
+
+index_small : (bytes : List ℕ) (n : ℕ) → AllByRecursion (λ b. b < 256) bytes → slice_index_or bytes n 0 < 256
+index_small [] n h = lit< tt
+index_small (b ∷ bs) zero h = h.0
+index_small (b ∷ bs) (suc n) h = index_small bs n h.1
+
+input_small : (kind : Kind) (n input : ℕ) → IsKind kind → input < 256 → input_after kind n input < 256
+input_small Timer n input h small = small
+input_small (Bytes bytes) n input h small = index_small bytes n h.2
+
+passed_small : (o : Option Source) (p : Progress) (n : ℕ) → ((s : Source) → o ≡ Some s → IsSource s) → p.input < 256 → (passed_at o p n).input < 256
+passed_small None p n h small = small
+passed_small (Some s) p n h small = input_small s.kind (taken_of p n) p.input (h s refl).kind small
+
+source_there : (sources : List Source) (n : ℕ) (s : Source) → AllByRecursion IsSource sources → slice_get sources n ≡ Some s → IsSource s
+source_there [] n s h e = absurd (none_some s e)
+source_there (x ∷ xs) zero s h e = let same : x ≡ s = cc in subst IsSource same h.0
+source_there (x ∷ xs) (suc n) s h e = source_there xs n s h.1 e
+
+next_small : (setup : Setup) (p : Progress) (a : Option ℕ) → IsSetup setup → p.input < 256 → (next_on setup p a).input < 256
+next_small setup p None h small = small
+next_small setup p (Some n) h small = passed_small (slice_get setup.sources n) p n (λ s e. source_there setup.sources n s h.all e) small
+
+-- ---- the run
+
+runs_on : (words : List ℕ) (A : List Entry) (a : Answer) (rest : State → List Choice) → result_of a ≢ said.Illegal → ((s : State) → IsRun words A (rest s) s) → RunsOn a (choices_on a rest) (IsRun words A (choices_on a rest))
+runs_on words A Illegal rest legal on = absurd (legal refl)
+runs_on words A (Undefined pc) rest legal on = refl
+runs_on words A (Overflow pc) rest legal on = refl
+runs_on words A (Flagged flag) rest legal on = refl
+runs_on words A (Done s) rest legal on = on s
+
+chosen_runs : (words : List ℕ) (A : List Entry) (setup : Setup) → IsSetup setup → (n : ℕ) (p : Progress) (m : State) → p.input < 256 → IsRun words A (chosen setup words A n p m) m
+chosen_runs words A setup h zero p m small = tt
+chosen_runs words A setup h (suc n) p m small =
+    let a = picked setup p m in (
+      bytes_at (answered setup a) p small,
+      runs_on words A (step words A m (choice_on setup p a)) (λ s. chosen setup words A n (next_on setup p a) s)
+          (choice_legal words A m (answered setup a) p (picked_may setup p m a refl))
+          (λ s. chosen_runs words A setup h n (next_on setup p a) s (next_small setup p a h small)),
+    )
+
+is_reset : (device : Device) (byte : ℕ) → byte < 256 → IsReset device (filled device byte)
+is_reset device byte h = record {
+  is = refl;
+  pc = refl;
+  sp = refl;
+  sreg = refl;
+  enables = refl;
+  closed = refl;
+  no_delay = refl;
+  none_live = refl;
+  count_registers = refl;
+  register_bytes = All-replicate (λ b. b < 256) 32 byte h;
+  count_bytes = length-replicate (size_of device) byte;
+  sram_bytes = All-replicate (λ b. b < 256) (size_of device) byte h;
+}
+
+pub simulations_are_runs : SimulationsAreRuns
+simulations_are_runs words A setup n h = record {
+  reset = is_reset (device_of words) setup.fill h.fill_is_byte;
+  run = chosen_runs words A setup h n (begun setup) (initial words setup) (lit< tt);
+}
+
+pub simulations_are_bounded : SimulationsAreBounded
+simulations_are_bounded words A setup n bound h bounded =
+    let r = simulations_are_runs words A setup n h in
+    bounded.depth (initial words setup) (simulated words A setup n) r.reset r.run

@@ -1,0 +1,10 @@
+pub mod Spelling
+pub mod Reading
+pub mod Exact
+pub mod Due
+pub mod Hooks
+pub mod Simulating
+pub mod Repeating
+pub mod Traces
+pub mod Midway
+pub mod Laws

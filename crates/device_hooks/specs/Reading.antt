@@ -1,0 +1,105 @@
+-- Reading a setup forward, line by line. A refusal tells the place of the first line at which no setup can go on, which is the
+-- end of the text where a line is missing.
+use Rattle.std.specs.Prelude.{ℕ, ◌+◌, ◌-◌, ◌&&◌, nat_le, List, [], ◌∷◌, ◌++◌, length, Option, Some, None, Result, Ok, Err, codes, if◌then◌else◌}
+use Rattle.std.specs.Option.{option_map}
+use Rattle.std.specs.Str.{bytes_eq}
+use Rattle.sb_base.specs.Lines.{TextLine, Place, size_of, lines_of, words_of}
+use Rattle.line_reading.specs.Reading.{◌>>=◌, hex_at, dec_at, is_over, then_at, first_by, this_by, line_by}
+use Rattle.device_hooks.specs.declared.reading.Times.{Times}
+use Rattle.device_hooks.specs.declared.devices.Kind.{Kind}
+use Rattle.device_hooks.specs.declared.devices.Kind.TheVariants.{Timer, Bytes}
+use Rattle.device_hooks.specs.declared.devices.Source.{Source}
+use Rattle.device_hooks.specs.declared.devices.DevicesFault.{DevicesFault}
+use Rattle.device_hooks.specs.declared.devices.DevicesFault.TheVariants.{Malformed}
+use Rattle.device_hooks.specs.Spelling.{Setup, most_sources, most_bytes, most_steps}
+
+-- ---- the words of a line
+
+-- a vector, a first step and a period
+unfoldable pub times_at : List (List ℕ) → Option (Times × List (List ℕ))
+times_at ws = do
+  v ← dec_at 26 ws
+  f ← dec_at most_steps v.1
+  p ← dec_at most_steps f.1
+  if nat_le 2 v.0 && nat_le 1 p.0 then Some (record { vector = v.0; first = f.0; period = p.0 }, p.1) else None
+
+-- all words, each a byte in two digits
+abbrev pub bytes_in : List (List ℕ) → Option (List ℕ)
+bytes_in [] = Some []
+bytes_in (w ∷ ws) = hex_at 2 (w ∷ ws) >>= λ b. option_map (λ bs. b.0 ∷ bs) (bytes_in ws)
+
+abbrev pub source_of : Times → Kind → Source
+source_of t kind = record { vector = t.vector; first = t.first; period = t.period; kind = kind }
+
+-- behind `timer`
+abbrev pub timer_in : List (List ℕ) → Option Source
+timer_in ws = times_at ws >>= λ t. if is_over t.1 then Some (source_of t.0 Timer) else None
+
+abbrev pub receiver_by : Times → List ℕ → Option Source
+receiver_by t bytes = if nat_le 1 (length bytes) && nat_le (length bytes) most_bytes then Some (source_of t (Bytes bytes)) else None
+
+-- behind `bytes`
+abbrev pub receiver_in : List (List ℕ) → Option Source
+receiver_in ws = times_at ws >>= λ t. bytes_in t.1 >>= receiver_by t.0
+
+unfoldable pub source_in : List (List ℕ) → Option Source
+source_in [] = None
+source_in (w ∷ ws) =
+    if bytes_eq w (codes "timer") then timer_in ws
+    else (if bytes_eq w (codes "bytes") then receiver_in ws else None)
+
+unfoldable pub fill_in : List (List ℕ) → Option ℕ
+fill_in [] = None
+fill_in (w ∷ ws) = if bytes_eq w (codes "fill") then (hex_at 2 ws >>= λ b. if is_over b.1 then Some b.0 else None) else None
+
+-- ---- lines
+
+abbrev pub fill_by : List ℕ → Option ℕ
+fill_by text = fill_in (words_of text)
+
+-- a source, with so many lines left for sources
+abbrev pub source_by : ℕ → List ℕ → Option Source
+source_by left text = if nat_le 1 left then source_in (words_of text) else None
+
+-- a source, or none at `end`
+unfoldable pub part_by : ℕ → List ℕ → Option (Option Source)
+part_by left text = if bytes_eq text (codes "end") then Some None else option_map Some (source_by left text)
+
+abbrev pub with_front : List Source → Result (List Source × Place) Place → Result (List Source × Place) Place
+with_front front due = then_at due (λ x. Ok (front ++ x.0, x.1))
+
+-- nothing, the end, or one source more and what follows it
+abbrev pub with_part : Option (Option Source) → Place → Place → (Source → Result (List Source × Place) Place) → Result (List Source × Place) Place
+with_part None here next following = Err here
+with_part (Some None) here next following = Ok ([], next)
+with_part (Some (Some s)) here next following = with_front (s ∷ []) (following s)
+
+-- the sources up to `end`, with so many lines left for them
+unfoldable pub sources_from : ℕ → ℕ → List TextLine → Result (List Source × Place) Place
+sources_from left at [] = Err (record { at = at; rest = [] })
+sources_from left at (l ∷ ls) =
+    with_part (first_by (part_by left) (l ∷ ls))
+    (record { at = at; rest = l ∷ ls })
+    (record { at = at + size_of l; rest = ls })
+    (λ s. sources_from (left - 1) (at + size_of l) ls)
+
+-- ---- the whole
+
+-- nothing may follow
+abbrev pub if_last : List TextLine → Setup → Place → Result Setup Place
+if_last [] setup p = Ok setup
+if_last (l ∷ ls) setup p = Err p
+
+unfoldable pub setup_at : Place → Result Setup Place
+setup_at p =
+    then_at (line_by (this_by (codes "devices 1")) p) (λ h.
+    then_at (line_by fill_by h.1) (λ f.
+    then_at (sources_from most_sources f.1.at f.1.rest) (λ s. if_last s.1.rest (record { fill = f.0; sources = s.0 }) s.1)))
+
+abbrev pub malformed : {A : Type 0} → Result A Place → Result A DevicesFault
+malformed (Ok x) = Ok x
+malformed (Err p) = Err (Malformed p.at)
+
+-- the setup of a text, or where the text is refused
+unfoldable pub setup_in : List ℕ → Result Setup DevicesFault
+setup_in text = malformed (setup_at (record { at = 0; rest = lines_of text }))

@@ -1,0 +1,36 @@
+-- What is told of a run that hooks choose.
+use Rattle.std.specs.Prelude.{ℕ, ◌≡◌, ◌-◌, ◌<◌, ◌+◌, List, [], ◌∷◌, ◌++◌, Option}
+use Rattle.avr_model.specs.declared.choice.Choice.{Choice}
+use Rattle.avr_model.specs.declared.assumption.Entry.{Entry}
+use Rattle.avr_model.specs.State.{State}
+use Rattle.avr_model.specs.Step.{Done, step}
+use Rattle.avr_model.specs.Run.{Machine, IsRun, HasBytes, moved_on, stop_of}
+use Rattle.stimulus.specs.Driving.{machine_after}
+use Rattle.device_hooks.specs.declared.trace.Trace.{Trace}
+use Rattle.device_hooks.specs.Spelling.{Setup}
+use Rattle.device_hooks.specs.Due.{Progress, begun, choice_on, next_on}
+use Rattle.device_hooks.specs.Hooks.{Answering}
+use Rattle.device_hooks.specs.Simulating.{Asked, Chooses}
+
+module _ (answers : Answering) (setup : Setup) (words : List ℕ) (A : List Entry) where
+  -- What is told of such a run of n choices: its choices, which are a run of the machine from its state, the machine's depth
+  -- at the end, and the stop that was met.
+  pub record IsTrace (n : ℕ) (m : Machine) (trace : Trace) (end : Machine) : Type 0 where
+    pub chooses : Chooses answers setup words A n (begun setup) m.state trace.choices
+    pub run : IsRun words A trace.choices m.state
+    pub machine : end ≡ machine_after words A trace.choices m
+    pub depth : trace.depth ≡ end.depth
+    pub stop : trace.stop ≡ stop_of words A trace.choices m.state
+
+  -- some first choices of such a run, each of which is done: they lead from what is known and the machine to these
+  abbrev pub Leads : ℕ → Progress → Machine → List Choice → Progress → Machine → Type 0
+  Leads n p m [] last end = (last ≡ p) × (end ≡ m)
+  Leads n p m (c ∷ cs) last end =
+      (0 < n) × HasBytes c × (answer : Option ℕ) × Asked answers p m.state answer × (c ≡ choice_on setup p answer)
+      × (s : State) × (step words A m.state c ≡ Done s) × Leads (n - 1) (next_on setup p answer) (moved_on m (Done s)) cs last end
+
+  -- the machine is where some first choices left it
+  pub record Halts (n : ℕ) (m end : Machine) : Type 0 where
+    pub choices : List Choice
+    pub last : Progress
+    pub leads : Leads n (begun setup) m choices last end

@@ -1,0 +1,206 @@
+//! The devices that are connected to a machine.
+
+ghost use Rattle.std.specs.Prelude.{◌≡◌, ◌<◌, length, Some, slice_get, IfOk, Ok};
+ghost use Rattle.std.specs.Option.{option_map};
+ghost use Rattle.sb_base.specs.Answers.{Answers};
+ghost use Rattle.device_hooks.specs.declared.devices.DevicesFault.TheVariants as fault;
+ghost use Rattle.device_hooks.specs.Spelling.{Setup};
+ghost use Rattle.device_hooks.specs.Reading.{setup_in};
+ghost use Rattle.device_hooks.specs.Exact.{IsReading, IsDueUnlessMemory};
+ghost use Rattle.device_hooks.specs.Due.{is_timer, is_of, is_left, is_due, input_after};
+
+use crate::laws::reading_is_exact;
+use crate::reading::read_setup;
+use avr_model::listed::Listed;
+use line_reading::Malformed;
+use std::alloc::{AllocError, Global};
+use std::marker::Model;
+use thiserror::Error;
+
+/// What kind of source asks for interrupts.
+#[derive(Drop)]
+pub enum Kind {
+    /// A timer, which asks again and again.
+    Timer,
+    /// A receiver, which asks once for each of its 1 to 64 bytes.
+    Bytes(Listed<u8>),
+}
+
+/// An interrupt source. Its request number n, counted from 0, stands from step `first` + n × `period` on until it is taken.
+#[derive(Drop)]
+pub struct Source {
+    /// The vector, 2 to 26.
+    pub vector: u8,
+    /// The step from which the first request stands, at most 16,777,216.
+    pub first: u32,
+    /// How many steps lie between two requests, 1 to 16,777,216.
+    pub period: u32,
+    /// Timer or receiver.
+    pub kind: Kind,
+}
+
+impl Source {
+    /// Whether it is a timer.
+    pub fn is_timer(&self) -> bool
+        ensures { result ≡ is_timer self.now.kind }
+    {
+        match self.kind {
+            Kind::Timer => true,
+            Kind::Bytes(_) => false,
+        }
+    }
+
+    /// Whether it is a timer, or where `timers` says no, whether it is a receiver.
+    pub(crate) fn is_of(&self, timers: bool) -> bool
+        ensures { result ≡ is_of timers self.now.kind }
+    {
+        match self.kind {
+            Kind::Timer => timers,
+            Kind::Bytes(_) => !timers,
+        }
+    }
+
+    /// Whether requests are left after so many.
+    fn is_left(&self, taken: u32) -> bool
+        ensures { result ≡ is_left self.now.kind taken }
+    {
+        match &self.kind {
+            Kind::Timer => true,
+            Kind::Bytes(bytes) => (taken as usize) < bytes.as_slice().len(),
+        }
+    }
+
+    /// The byte that instructions read after request number `n` was taken, where it was this one before: a receiver's byte `n`,
+    /// or 0 where it has none.
+    pub(crate) fn input_after(&self, n: u32, input: u8) -> u8
+        ensures { result ≡ input_after self.now.kind n input }
+    {
+        match &self.kind {
+            Kind::Timer => input,
+            Kind::Bytes(bytes) => bytes.as_slice().get(n as usize).copied().unwrap_or(0),
+        }
+    }
+
+    /// Whether a request stands at this step, where so many were taken before. No request is dropped.
+    pub fn is_due(&self, taken: u32, step: u32) -> bool
+        ensures { result ≡ is_due self.now taken step }
+    {
+        let request = u64::from(self.first) + u64::from(taken) * u64::from(self.period);
+        request <= u64::from(step) && self.is_left(taken)
+    }
+}
+
+/// A byte that fills registers and SRAM at reset, and up to 32 interrupt sources. Seen as these.
+#[derive(Drop)]
+pub struct Devices {
+    fill: u8,
+    sources: Vec<Source>,
+}
+
+impl Model for Devices {
+    ghost use Rattle.device_hooks.specs.Spelling.{Setup};
+
+    ghost Value = { Setup };
+
+    ghost view = { λ d. record { fill = d.fill; sources = d.sources.items } };
+}
+
+/// Why a text is that of no devices, or isn't read.
+#[derive(Clone, Copy, Debug, PartialEq, Eq, Drop, Error)]
+pub enum DevicesFault {
+    /// No devices' text goes on with the line at this offset; or a line is missing, and this is the text's length.
+    #[error("devices malformed at {0}")]
+    Malformed(usize),
+    /// Want of memory.
+    #[error("out of memory")]
+    Memory,
+}
+
+impl From<Malformed> for DevicesFault {
+    ghost use Rattle.std.specs.Prelude.{◌≡◌};
+    ghost use Rattle.device_hooks.specs.declared.devices.DevicesFault.{DevicesFault};
+    ghost use Rattle.device_hooks.specs.declared.devices.DevicesFault.TheVariants.{Malformed as MalformedAt};
+
+    ghost from_gives = { λ fault e. e ≡ MalformedAt fault.0 };
+
+    fn from(fault: Malformed) -> DevicesFault {
+        DevicesFault::Malformed(fault.0)
+    }
+}
+
+impl From<AllocError> for DevicesFault {
+    ghost use Rattle.std.specs.Prelude.{◌≡◌};
+    ghost use Rattle.device_hooks.specs.declared.devices.DevicesFault.TheVariants.{Memory};
+
+    ghost from_gives = { λ fault e. e ≡ Memory };
+
+    fn from(_fault: AllocError) -> DevicesFault {
+        DevicesFault::Memory
+    }
+}
+
+impl Devices {
+    pub(crate) fn new(fill: u8, sources: Vec<Source>) -> Devices
+        ensures { result ≡ record { fill = fill; sources = sources.items } }
+    {
+        Devices { fill, sources }
+    }
+
+    /// Reads the devices whose text this is.
+    ///
+    /// `Malformed` comes exactly where the text is that of none, with the offset of the first line at which none can go on, or
+    /// with the text's length where a line is missing. Source: own.
+    pub fn read(alloc: Global, text: &[u8]) -> Result<Devices, DevicesFault>
+        ensures exact { Answers (λ d. d) fault.Memory result (setup_in text.now) }
+        ensures told { IsDueUnlessMemory text.now result }
+        ensures spelled { (setup : Setup) → IsReading text.now setup → Answers (λ d. d) fault.Memory result (Ok setup) }
+    {
+        reading_is_exact();
+        read_setup(alloc, text)
+    }
+
+    /// The byte that registers and SRAM hold at first.
+    pub fn fill(&self) -> u8
+        ensures { result ≡ self.now.fill }
+    {
+        self.fill
+    }
+
+    /// How many sources there are.
+    pub fn count(&self) -> usize
+        ensures { result ≡ length self.now.sources }
+    {
+        self.sources.len()
+    }
+
+    /// The source of this number, counted from 0. None exactly where there is none.
+    pub fn source(&self, n: usize) -> Option<&Source>
+        ensures { option_map (λ s. s.now) result ≡ slice_get self.now.sources n }
+    {
+        self.sources.get(n)
+    }
+
+    /// The vector of source `n`.
+    pub fn vector(&self, n: usize) -> u8
+        requires { n < length self.now.sources }
+        ensures { option_map (λ s. s.vector) (slice_get self.now.sources n) ≡ Some result }
+    {
+        self.sources[n].vector
+    }
+
+    /// Whether source `n` is a timer.
+    pub fn is_timer(&self, n: usize) -> bool
+        requires { n < length self.now.sources }
+        ensures { option_map (λ s. is_timer s.kind) (slice_get self.now.sources n) ≡ Some result }
+    {
+        self.sources[n].is_timer()
+    }
+
+    /// Whether a request of source `n`, of which so many were taken, stands at this step.
+    pub fn due(&self, n: usize, taken: u32, step: u32) -> bool
+        requires { n < length self.now.sources }
+        ensures { option_map (λ s. is_due s taken step) (slice_get self.now.sources n) ≡ Some result }
+    {
+        self.sources[n].is_due(taken, step)
+    }
+}

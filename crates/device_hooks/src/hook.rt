@@ -1,0 +1,100 @@
+//! Hooks: closures that choose among interrupt sources.
+
+ghost use Rattle.std.specs.Prelude.{◌≡◌, ◌<◌, length, true, false};
+ghost use Rattle.device_hooks.specs.Spelling.{Setup};
+ghost use Rattle.device_hooks.specs.Hooks.{stands_in, MayAnswer, IsHook};
+ghost use Rattle.device_hooks.specs.Due.{is_ready, first_ready};
+
+use crate::devices::Devices;
+use avr_machine::{Choice, Menu};
+use std::marker::Model;
+
+/// When a hook is asked.
+#[derive(Clone, Copy)]
+pub struct Moment<'a> {
+    /// The number of steps so far.
+    pub step: u32,
+    /// How often each source was taken so far.
+    pub taken: &'a [u32],
+}
+
+/// A closure that chooses a source of some devices. It may be asked at every menu and every moment with a count for each
+/// source of these devices, and answers a source whose interrupt stands in the menu, or none: `new` asks for this, and each
+/// call of a hook asks for it again. Seen as the devices and the closure.
+#[derive(Drop)]
+pub struct Hook<'a, F> {
+    devices: &'a Devices,
+    f: F,
+}
+
+impl<'a, F> Model for Hook<'a, F> {
+    ghost use Rattle.device_hooks.specs.Spelling.{Setup};
+
+    ghost Value = { Setup × F };
+
+    ghost view = { λ h. (h.devices.now, h.f) };
+}
+
+impl<'a, F: Fn(&Moment<'_>, &Menu) -> Option<usize>> Hook<'a, F> {
+    /// The hook of this closure.
+    pub fn new(devices: &'a Devices, f: F) -> Hook<'a, F>
+        requires { IsHook F.Fn devices.now f }
+        ensures is { result ≡ (devices.now, f) }
+        ensures hook { IsHook F.Fn result.0 result.1 }
+    {
+        Hook { devices, f }
+    }
+
+    /// The closure's answer at this moment, to this menu.
+    pub fn ask(&self, moment: &Moment<'_>, menu: &Menu) -> Option<usize>
+        requires hook { IsHook F.Fn self.now.0 self.now.1 }
+        requires counts { length moment.now.taken.now ≡ length self.now.0.sources }
+        ensures { MayAnswer F.Fn self.now.1 moment.now.step moment.now.taken.now menu.now result }
+    {
+        (self.f)(moment, menu)
+    }
+}
+
+/// Whether source `n` is a timer, or else a receiver, is due and has its interrupt in the menu.
+fn is_ready(devices: &Devices, timers: bool, moment: &Moment<'_>, menu: &Menu, n: usize) -> bool
+    requires { n < length moment.now.taken.now }
+    ensures { result ≡ is_ready devices.now (stands_in menu.now) timers moment.now.taken.now moment.now.step n }
+{
+    let taken = moment.taken[n];
+    match devices.source(n) {
+        Some(source) => source.is_of(timers)
+            && source.is_due(taken, moment.step)
+            && menu.has(Choice::Take(source.vector, false)),
+        None => false,
+    }
+}
+
+/// The first source in the text's order that is a timer, or else a receiver, is due and has its interrupt in the menu.
+#[tactic(auto, using(crate::proofs::Ready::first_here, crate::proofs::Ready::first_later, crate::proofs::Ready::first_none))]
+fn first_due(devices: &Devices, timers: bool, moment: &Moment<'_>, menu: &Menu) -> Option<usize>
+    requires { length moment.now.taken.now ≡ length devices.now.sources }
+    ensures { result ≡ first_ready devices.now (stands_in menu.now) timers moment.now.taken.now moment.now.step }
+{
+    for n in 0..devices.count() {
+        if is_ready(devices, timers, moment, menu, n) {
+            return Some(n);
+        }
+    }
+    None
+}
+
+/// The first due timer whose interrupt stands in the menu.
+pub fn due_timer(devices: &Devices, moment: &Moment<'_>, menu: &Menu) -> Option<usize>
+    requires { length moment.now.taken.now ≡ length devices.now.sources }
+    ensures { result ≡ first_ready devices.now (stands_in menu.now) true moment.now.taken.now moment.now.step }
+{
+    first_due(devices, true, moment, menu)
+}
+
+/// The first due receiver whose interrupt stands in the menu.
+pub fn due_receiver(devices: &Devices, moment: &Moment<'_>, menu: &Menu) -> Option<usize>
+    requires { length moment.now.taken.now ≡ length devices.now.sources }
+    ensures { result ≡ first_ready devices.now (stands_in menu.now) false moment.now.taken.now moment.now.step }
+{
+    first_due(devices, false, moment, menu)
+}

@@ -1,0 +1,17 @@
+//! Device hooks: timers and receivers that choose what the machine does next, and the run that they choose.
+#![tactic(auto)]
+
+pub mod devices;
+pub mod hook;
+pub mod laws;
+mod progress;
+mod reading;
+mod simulating;
+mod trace;
+mod walk;
+
+pub use devices::{Devices, DevicesFault, Kind, Source};
+pub use hook::{Hook, Moment};
+pub use simulating::simulation;
+pub use trace::{Choices, Repeated, Trace};
+pub use walk::simulate;

@@ -1,0 +1,236 @@
+//! The reader of devices' texts.
+
+ghost use Rattle.std.specs.Prelude.{◌≡◌, ◌≤◌, ◌<◌, length, IfOk, IfSome};
+ghost use Rattle.std.specs.Option.{option_map};
+ghost use Rattle.sb_base.specs.Answers.{Answers};
+ghost use Rattle.sb_base.specs.Lines.{words_of};
+ghost use Rattle.line_reading.specs.Reading.{line_by, ReadsAt};
+ghost use Rattle.device_hooks.specs.declared.devices.DevicesFault.TheVariants as fault;
+ghost use Rattle.device_hooks.specs.Spelling.{most_sources};
+ghost use Rattle.device_hooks.specs.Reading.{times_at, bytes_in, timer_in, receiver_by, receiver_in, source_in, fill_by, part_by, sources_from, malformed, setup_at, setup_in};
+
+use crate::devices::{Devices, DevicesFault, Kind, Source};
+use avr_model::listed::Listed;
+use line_reading::{Malformed, dec_word, hex_word, is_over, peek_text, take_line, take_text};
+use sb_base::{LineReader, Words, read_hex};
+use std::alloc::{AllocError, Global};
+
+/// The most lines of sources.
+const MOST_SOURCES: u32 = 32;
+
+/// The most bytes of a receiver.
+const MOST_BYTES: usize = 64;
+
+/// The greatest first step and the greatest period.
+const MOST_STEPS: u64 = 16_777_216;
+
+/// When a source asks: its vector, first step and period.
+#[derive(Clone, Copy)]
+struct Times {
+    vector: u8,
+    first: u32,
+    period: u32,
+}
+
+/// The three numbers behind a source's kind.
+#[tactic(auto, unfolding(crate::specs::Reading::times_at))]
+fn times_of(words: &mut Words<'_>) -> Option<Times>
+    ensures { option_map (λ t. (t, words.new)) result ≡ times_at words.old }
+{
+    let vector = dec_word(words, 26)?;
+    let first = dec_word(words, MOST_STEPS)?;
+    let period = dec_word(words, MOST_STEPS)?;
+    if vector >= 2 && period >= 1 {
+        Some(Times {
+            vector: vector as u8,
+            first: first as u32,
+            period: period as u32,
+        })
+    } else {
+        None
+    }
+}
+
+/// The bytes of all words that are left, in two digits each. None where a word is no such byte.
+#[tactic(auto, using(crate::proofs::Bytes::bytes_more, crate::proofs::Bytes::no_byte, crate::proofs::Bytes::bytes_end))]
+fn bytes_of(alloc: Global, words: &mut Words<'_>) -> Result<Option<Vec<u8>>, AllocError>
+    ensures { IfOk result (λ o. option_map (λ v. v.items) o ≡ bytes_in words.old) }
+{
+    let mut bytes = Vec::new(alloc);
+    while let Some(word) = words.next() {
+        match read_hex(word, 2) {
+            Ok(number) => bytes.push(number as u8)?,
+            Err(_) => return Ok(None),
+        }
+    }
+    Ok(Some(bytes))
+}
+
+/// The words behind `timer`.
+fn timer_of(words: &mut Words<'_>) -> Option<Source>
+    ensures { result ≡ timer_in words.old }
+{
+    let times = times_of(words)?;
+    if is_over(words) {
+        Some(source(times, Kind::Timer))
+    } else {
+        None
+    }
+}
+
+/// The source with these times and bytes, of which it has 1 to 64.
+fn receiver_by(times: Times, bytes: Vec<u8>) -> Option<Source>
+    ensures { result ≡ receiver_by times bytes.items }
+{
+    if bytes.is_empty() || bytes.len() > MOST_BYTES {
+        None
+    } else {
+        Some(source(times, Kind::Bytes(Listed::new(bytes))))
+    }
+}
+
+fn source(times: Times, kind: Kind) -> Source
+    ensures { result ≡ record { vector = times.vector; first = times.first; period = times.period; kind = kind } }
+{
+    Source {
+        vector: times.vector,
+        first: times.first,
+        period: times.period,
+        kind,
+    }
+}
+
+/// The words behind `bytes`.
+fn receiver_of(alloc: Global, words: &mut Words<'_>) -> Result<Option<Source>, AllocError>
+    ensures { IfOk result (λ o. o ≡ receiver_in words.old) }
+{
+    let Some(times) = times_of(words) else {
+        return Ok(None);
+    };
+    match bytes_of(alloc, words)? {
+        Some(bytes) => Ok(receiver_by(times, bytes)),
+        None => Ok(None),
+    }
+}
+
+/// The source of a line.
+#[tactic(auto, unfolding(crate::specs::Reading::source_in))]
+fn source_of(alloc: Global, text: &[u8]) -> Result<Option<Source>, AllocError>
+    ensures { IfOk result (λ o. o ≡ source_in (words_of text.now)) }
+{
+    let mut words = Words::new(text);
+    let Some(kind) = words.next() else {
+        return Ok(None);
+    };
+    if kind == b"timer".as_slice() {
+        Ok(timer_of(&mut words))
+    } else if kind == b"bytes".as_slice() {
+        receiver_of(alloc, &mut words)
+    } else {
+        Ok(None)
+    }
+}
+
+/// The source of a line, or none where it is `end`. So many lines are left for sources.
+#[tactic(auto, unfolding(crate::specs::Reading::part_by))]
+fn part_of(alloc: Global, text: &[u8], left: u32) -> Result<Option<Option<Source>>, AllocError>
+    ensures exact { IfOk result (λ o. o ≡ part_by left text.now) }
+    ensures room { IfOk result (λ o. IfSome o (λ p. IfSome p (λ s. 1 ≤ left))) }
+{
+    if text == b"end".as_slice() {
+        return Ok(Some(None));
+    }
+    if left == 0 {
+        return Ok(None);
+    }
+    match source_of(alloc, text)? {
+        Some(source) => Ok(Some(Some(source))),
+        None => Ok(None),
+    }
+}
+
+/// The fill byte of a line.
+#[tactic(auto, unfolding(crate::specs::Reading::fill_in))]
+fn fill_of(text: &[u8]) -> Option<u8>
+    ensures { result ≡ fill_by text.now }
+{
+    let mut words = Words::new(text);
+    if words.next()? != b"fill".as_slice() {
+        return None;
+    }
+    let fill = hex_word(&mut words, 2)?;
+    if is_over(&mut words) {
+        Some(fill as u8)
+    } else {
+        None
+    }
+}
+
+/// Reads the line of the fill byte.
+#[tactic(auto, unfolding(line_reading::specs::Reading::line_by))]
+fn read_fill(reader: &mut LineReader<'_>) -> Result<u8, Malformed>
+    ensures { ReadsAt (λ b. b) reader.new result (line_by fill_by reader.old) }
+{
+    match peek_text(reader) {
+        Some(text) => take_line(reader, fill_of(text)),
+        None => Err(Malformed(reader.offset())),
+    }
+}
+
+/// Reads a source, or none where the line is `end`.
+#[tactic(auto, unfolding(line_reading::specs::Reading::line_by))]
+fn read_part(
+    alloc: Global,
+    reader: &mut LineReader<'_>,
+    left: u32,
+) -> Result<Option<Source>, DevicesFault>
+    ensures exact { Answers (λ o. (o, reader.new)) fault.Memory result (malformed (line_by (part_by left) reader.old)) }
+    ensures room { IfOk result (λ o. IfSome o (λ s. 1 ≤ left)) }
+    ensures shorter { IfOk result (λ _. length reader.new.rest < length reader.old.rest) }
+{
+    let Some(text) = peek_text(reader) else {
+        return Err(DevicesFault::Malformed(reader.offset()));
+    };
+    let found = part_of(alloc, text, left)?;
+    let part = take_line(reader, found)?;
+    Ok(part)
+}
+
+/// Reads the lines up to `end`.
+#[tactic(auto, using(crate::proofs::Loop::front_step, crate::proofs::Loop::front_end, crate::proofs::Loop::front_fault))]
+fn read_sources(alloc: Global, reader: &mut LineReader<'_>) -> Result<Vec<Source>, DevicesFault>
+    ensures { Answers (λ v. (v.items, reader.new)) fault.Memory result (malformed (sources_from most_sources reader.old.at reader.old.rest)) }
+{
+    let mut sources = Vec::new(alloc);
+    let mut left = MOST_SOURCES;
+    while let Some(source) = read_part(alloc, reader, left)? {
+        if sources.push(source).is_err() {
+            return Err(DevicesFault::Memory);
+        }
+        left -= 1;
+    }
+    Ok(sources)
+}
+
+/// Reads the lines of a setup, behind which there has to be nothing.
+#[tactic(auto, unfolding(crate::specs::Reading::setup_at))]
+fn read_lines(alloc: Global, reader: &mut LineReader<'_>) -> Result<Devices, DevicesFault>
+    ensures { Answers (λ d. d) fault.Memory result (malformed (setup_at reader.old)) }
+{
+    take_text(reader, b"devices 1")?;
+    let fill = read_fill(reader)?;
+    let sources = read_sources(alloc, reader)?;
+    match reader.peek() {
+        None => Ok(Devices::new(fill, sources)),
+        Some(line) => Err(DevicesFault::Malformed(line.at)),
+    }
+}
+
+/// Reads a text, all of it.
+#[tactic(auto, unfolding(crate::specs::Reading::setup_in))]
+pub(crate) fn read_setup(alloc: Global, text: &[u8]) -> Result<Devices, DevicesFault>
+    ensures { Answers (λ d. d) fault.Memory result (setup_in text.now) }
+{
+    let mut reader = LineReader::new(text);
+    read_lines(alloc, &mut reader)
+}

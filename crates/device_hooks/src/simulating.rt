@@ -1,0 +1,59 @@
+//! The run that devices choose by themselves.
+
+ghost use Rattle.std.specs.Prelude.{◌≡◌, ◌≤◌, ℕ, IfOk};
+ghost use Rattle.avr_model.specs.Run.{Bounded};
+ghost use Rattle.device_hooks.specs.Spelling.{most_steps};
+ghost use Rattle.device_hooks.specs.Simulating.{simulation_of};
+
+use crate::devices::Devices;
+use crate::hook::{Hook, Moment, due_receiver, due_timer};
+use crate::walk::walk;
+use avr_machine::{Machine, Menu};
+use flash_image::Flash;
+use std::alloc::{AllocError, Global};
+use stimulus::laws::depth_is_kept;
+use vector_table::Assumptions;
+use witness_replay::ReplayReport;
+
+/// Runs the machine of the flash's device from reset, with the devices' fill byte in its registers and SRAM, by what the devices
+/// ask for: at each step the interrupt of the first due timer that may be taken, else of the first such receiver, else an
+/// instruction. The run ends at its first stop, else after exactly `steps` choices, at most 16,777,216; it takes no memory for
+/// its choices. Where all runs have a bound, it has that bound.
+pub fn simulation(
+    alloc: Global,
+    devices: &Devices,
+    flash: &Flash,
+    assumptions: &Assumptions,
+    steps: u32,
+) -> Result<ReplayReport, AllocError>
+    requires few { steps ≤ most_steps }
+    ensures told { IfOk result (λ r. record { steps = r.steps; depth = r.depth; stop = r.stop } ≡ simulation_of flash.now assumptions.now devices.now steps) }
+    ensures bounded { (bound : ℕ) → Bounded flash.now assumptions.now bound → IfOk result (λ r. r.depth ≤ bound) }
+{
+    depth_is_kept();
+    let timers = Hook::new(
+        devices,
+        |moment: &Moment<'_>, menu: &Menu| due_timer(devices, moment, menu),
+    );
+    let receivers = Hook::new(
+        devices,
+        |moment: &Moment<'_>, menu: &Menu| due_receiver(devices, moment, menu),
+    );
+    let mut machine = Machine::start(flash.device(), devices.fill());
+    let walk = walk(
+        alloc,
+        devices,
+        &timers,
+        &receivers,
+        &mut machine,
+        flash,
+        assumptions,
+        steps,
+        false,
+    )?;
+    Ok(ReplayReport {
+        steps: walk.steps,
+        depth: machine.depth(),
+        stop: walk.stop,
+    })
+}

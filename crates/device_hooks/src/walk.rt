@@ -1,0 +1,170 @@
+//! Runs that hooks choose.
+
+ghost use Rattle.std.specs.Prelude.{◌≡◌, ◌≢◌, ◌≤◌, ◌<◌, length, true, IfOk, OnOk, OnErr};
+ghost use Rattle.avr_model.specs.declared.choice.StepResult.TheVariants as answer;
+ghost use Rattle.avr_model.specs.Devices.{device_of};
+ghost use Rattle.avr_model.specs.Step.{step, result_of};
+ghost use Rattle.avr_model.specs.Run.{HasBytes};
+ghost use Rattle.stimulus.specs.Driving.{stop_at};
+ghost use Rattle.device_hooks.specs.Spelling.{most_steps};
+ghost use Rattle.device_hooks.specs.Hooks.{MayAnswer, IsHook, Either};
+ghost use Rattle.device_hooks.specs.Traces.{IsTrace, Halts};
+ghost use Rattle.device_hooks.specs.Midway.{IsKnown, IsChosen, kept_on, Walks};
+
+use crate::devices::Devices;
+use crate::hook::{Hook, Moment};
+use crate::progress::Progress;
+use crate::trace::{Choices, Trace};
+use avr_machine::{Choice, Machine, Menu, Stop};
+use avr_model::choice::StepResult;
+use flash_image::Flash;
+use std::alloc::{AllocError, Global};
+use vector_table::Assumptions;
+
+/// What is told of a run.
+#[derive(Drop)]
+pub(crate) struct Walked {
+    /// Its choices, or none where they weren't to be kept.
+    pub(crate) choices: Choices,
+    /// Its done steps.
+    pub(crate) steps: u32,
+    /// The stop that was met, or `End`.
+    pub(crate) stop: Stop,
+}
+
+/// How the answer to a step ends a run, if it does.
+fn stop_at(answer: StepResult) -> Option<Stop>
+    ensures { result ≡ stop_at answer }
+{
+    match answer {
+        StepResult::Done | StepResult::Illegal => None,
+        StepResult::Undefined(pc) => Some(Stop::Undefined(pc)),
+        StepResult::Overflow(pc) => Some(Stop::Overflow(pc)),
+        StepResult::Flagged(flag) => Some(Stop::Flag(flag)),
+    }
+}
+
+/// The hooks' choice at this moment.
+fn choose<F: Fn(&Moment<'_>, &Menu) -> Option<usize>, G: Fn(&Moment<'_>, &Menu) -> Option<usize>>(
+    devices: &Devices,
+    timers: &Hook<'_, F>,
+    receivers: &Hook<'_, G>,
+    machine: &Machine,
+    progress: &mut Progress,
+) -> Choice
+    requires first { IsHook F.Fn timers.now.0 timers.now.1 }
+    requires second { IsHook G.Fn receivers.now.0 receivers.now.1 }
+    requires first_devices { timers.now.0 ≡ devices.now }
+    requires second_devices { receivers.now.0 ≡ devices.now }
+    requires known { IsKnown devices.now progress.old }
+    requires room { progress.old.step < most_steps }
+    ensures known { IsKnown devices.now progress.new }
+    ensures bytes { HasBytes result }
+    ensures chosen { IsChosen (Either (MayAnswer F.Fn timers.now.1) (MayAnswer G.Fn receivers.now.1)) devices.now progress.old machine.now.state result progress.new }
+    ensures legal { (words : _) (entries : _) → result_of (step words entries machine.now.state result) ≢ answer.Illegal }
+{
+    let answer = progress.answer(timers, receivers, &machine.menu());
+    let choice = progress.choice(devices, answer);
+    progress.pass(devices, answer);
+    choice
+}
+
+/// Puts the choice behind the others, if they are to be kept.
+fn keep(choices: &mut Choices, keeps: bool, choice: Choice) -> Result<(), AllocError>
+    requires few { keeps ≡ true → length choices.old < most_steps }
+    ensures { OnOk result (choices.new ≡ kept_on keeps choices.old choice) }
+{
+    if keeps {
+        choices.push(choice)?;
+    }
+    Ok(())
+}
+
+/// Steps the machine by the hooks' choices up to the first stop, else so many times, and tells the choices if `keeps` says so.
+pub(crate) fn walk<
+    F: Fn(&Moment<'_>, &Menu) -> Option<usize>,
+    G: Fn(&Moment<'_>, &Menu) -> Option<usize>,
+>(
+    alloc: Global,
+    devices: &Devices,
+    timers: &Hook<'_, F>,
+    receivers: &Hook<'_, G>,
+    machine: &mut Machine,
+    flash: &Flash,
+    assumptions: &Assumptions,
+    steps: u32,
+    keeps: bool,
+) -> Result<Walked, AllocError>
+    requires first { IsHook F.Fn timers.now.0 timers.now.1 }
+    requires second { IsHook G.Fn receivers.now.0 receivers.now.1 }
+    requires first_devices { timers.now.0 ≡ devices.now }
+    requires second_devices { receivers.now.0 ≡ devices.now }
+    requires few { steps ≤ most_steps }
+    ensures ok { IfOk result (λ walk. Walks (Either (MayAnswer F.Fn timers.now.1) (MayAnswer G.Fn receivers.now.1)) devices.now flash.now assumptions.now steps keeps machine.old walk machine.new) }
+    ensures err { OnErr result (Halts (Either (MayAnswer F.Fn timers.now.1) (MayAnswer G.Fn receivers.now.1)) devices.now flash.now assumptions.now steps machine.old machine.new) }
+{
+    let mut progress = Progress::begin(alloc, devices)?;
+    let mut choices = Choices::empty(alloc);
+    for step in 0..steps {
+        let choice = choose(devices, timers, receivers, machine, &mut progress);
+        keep(&mut choices, keeps, choice)?;
+        let answer = machine.step(flash, assumptions, choice);
+        if let Some(stop) = stop_at(answer) {
+            return Ok(Walked {
+                choices,
+                steps: step,
+                stop,
+            });
+        }
+    }
+    Ok(Walked {
+        choices,
+        steps,
+        stop: Stop::End,
+    })
+}
+
+/// Steps the machine by the hooks' answers: at each moment the interrupt of the source that the first hook answers, else of the
+/// one that the second answers, else an instruction with the byte that the devices give as its input. The run ends at its first
+/// stop, else after exactly `steps` choices, at most 16,777,216.
+///
+/// After want of memory the machine is where some first choices left it.
+pub fn simulate<
+    F: Fn(&Moment<'_>, &Menu) -> Option<usize>,
+    G: Fn(&Moment<'_>, &Menu) -> Option<usize>,
+>(
+    alloc: Global,
+    devices: &Devices,
+    timers: &Hook<'_, F>,
+    receivers: &Hook<'_, G>,
+    machine: &mut Machine,
+    flash: &Flash,
+    assumptions: &Assumptions,
+    steps: u32,
+) -> Result<Trace, AllocError>
+    requires first { IsHook F.Fn timers.now.0 timers.now.1 }
+    requires second { IsHook G.Fn receivers.now.0 receivers.now.1 }
+    requires first_devices { timers.now.0 ≡ devices.now }
+    requires second_devices { receivers.now.0 ≡ devices.now }
+    requires device { machine.old.state.device ≡ device_of flash.now }
+    requires few { steps ≤ most_steps }
+    ensures ok { IfOk result (λ trace. IsTrace (Either (MayAnswer F.Fn timers.now.1) (MayAnswer G.Fn receivers.now.1)) devices.now flash.now assumptions.now steps machine.old trace machine.new) }
+    ensures err { OnErr result (Halts (Either (MayAnswer F.Fn timers.now.1) (MayAnswer G.Fn receivers.now.1)) devices.now flash.now assumptions.now steps machine.old machine.new) }
+{
+    let walk = walk(
+        alloc,
+        devices,
+        timers,
+        receivers,
+        machine,
+        flash,
+        assumptions,
+        steps,
+        true,
+    )?;
+    Ok(Trace {
+        choices: walk.choices,
+        depth: machine.depth(),
+        stop: walk.stop,
+    })
+}
