@@ -7,7 +7,7 @@ use Rattle.clap.specs.Walk.{Names, Walk, idle, walked, walk, walk_from, nothing_
 use Rattle.clap.specs.Simple.{built, built_leaf, inherited, label_of, names_of, entered}
 use Rattle.clap.specs.Takes.{turn_passes, walk_passes, settle_passes, default_passes, is_valid, level_passes, entered_passes, built_takes}
 use Rattle.clap.proofs.OnLiterals.{clap_on_literals}
-use Rattle.clap_words.specs.Lines.{bare_app, check_app, analyse_app, run_app, report_app, demo_app, line_app}
+use Rattle.clap_words.specs.Lines.{bare_app, check_app, analyse_app, run_app, report_app, simulate_app, demo_app, line_app}
 
 -- a command as it is below the program
 abbrev pub below : App → Shape
@@ -94,6 +94,13 @@ named_report = record { stops = refl; found = refl; passes = refl; settles = ref
 
 pub report_level : (ws : List Text) → level_takes (below report_app) ws ≡ true → takes line_app (codes "report" ∷ ws) ≡ true
 report_level ws h = built_takes_named (built line_app) (codes "report") (below report_app) ws named_report h
+
+named_simulate : IsNamed (built line_app) (codes "simulate") (below simulate_app)
+unfolding clap_on_literals
+named_simulate = record { stops = refl; found = refl; passes = refl; settles = refl; defaults = refl; valid = refl }
+
+pub simulate_level : (ws : List Text) → level_takes (below simulate_app) ws ≡ true → takes line_app (codes "simulate" ∷ ws) ≡ true
+simulate_level ws h = built_takes_named (built line_app) (codes "simulate") (below simulate_app) ws named_simulate h
 
 named_demo : IsNamed (built line_app) (codes "demo") (below demo_app)
 unfolding clap_on_literals

@@ -11,9 +11,9 @@ use Rattle.clap.proofs.OnLiterals.{clap_on_literals}
 use Rattle.avr_model.specs.declared.device.Device.{Device as Chip}
 use Rattle.commands.specs.declared.line.Valued.{Valued}
 use Rattle.commands.specs.declared.line.Valued.TheVariants.{Assume, Steps, Device}
-use Rattle.commands.specs.Commands.{Command, Check, Run, Report, Demo, Line, empty_line, then_words, steps_in, size_in, device_in, on_device, with_one, with_two, analysed, check_of, analyse_of, run_of, report_of, demo_of, called, whole, command_of}
-use Rattle.clap_words.specs.Lines.{judging_app, analyse_app, report_app, demo_app, line_app, is_option, is_refused}
-use Rattle.clap_words.proofs.Levels.{below, level_takes, both_true, check_level, analyse_level, run_level, report_level, demo_level}
+use Rattle.commands.specs.Commands.{Command, Check, Run, Report, Demo, Line, empty_line, then_words, steps_in, choices_in, size_in, device_in, on_device, with_one, with_two, with_both, analysed, simulated, check_of, analyse_of, run_of, report_of, simulate_of, demo_of, called, whole, command_of}
+use Rattle.clap_words.specs.Lines.{judging_app, analyse_app, report_app, simulate_app, demo_app, line_app, is_option, is_refused}
+use Rattle.clap_words.proofs.Levels.{below, level_takes, both_true, check_level, analyse_level, run_level, report_level, simulate_level, demo_level}
 use Rattle.clap_words.proofs.Pieces.{Piece, Named, Given, Marked, option_name, spelled, value_of, all_words, AreFit, Cut, cut_words}
 use Rattle.clap_words.proofs.Steps.{level_goes}
 use Rattle.clap_words.proofs.Going.{IsOption, Allows, IsLevel, IsWanted, Shows, goes_on}
@@ -42,6 +42,9 @@ reporting = record { second = true; given = two_options; json = true }
 
 abbrev analysing : Allows
 analysing = record { second = false; given = all_options; json = false }
+
+abbrev simulating : Allows
+simulating = record { second = true; given = all_options; json = false }
 
 abbrev measuring : Allows
 measuring = record { second = false; given = no_options; json = false }
@@ -251,6 +254,70 @@ analyse_has =
       of_json = (refl, refl);
     }
 
+simulate_options : (v : Valued) → all_options v ≡ true → IsOption (below simulate_app) (option_name v)
+unfolding clap_on_literals
+simulate_options Assume e =
+    let a : Rule = option_of (below simulate_app) (codes "assume") in
+    record {
+      rule = a;
+      found = refl;
+      usable = record { how = reading_by a; found = refl; passes = λ word rows h. ap (once a (word ∷ [])) h; adds = λ word rows. refl };
+      takes = refl;
+      one = λ word. refl;
+    }
+simulate_options Steps e =
+    let a : Rule = option_of (below simulate_app) (codes "steps") in
+    record {
+      rule = a;
+      found = refl;
+      usable = record { how = reading_by a; found = refl; passes = λ word rows h. ap (once a (word ∷ [])) h; adds = λ word rows. refl };
+      takes = refl;
+      one = λ word. refl;
+    }
+simulate_options Device e =
+    let a : Rule = option_of (below simulate_app) (codes "device") in
+    record {
+      rule = a;
+      found = refl;
+      usable = record { how = reading_by a; found = refl; passes = λ word rows h. ap (once a (word ∷ [])) h; adds = λ word rows. refl };
+      takes = refl;
+      one = λ word. refl;
+    }
+
+simulate_has : IsLevel (below simulate_app) simulating (codes "firmware")
+unfolding clap_on_literals
+simulate_has =
+    let a : Rule = name_at (below simulate_app) 1 in
+    let b : Rule = name_at (below simulate_app) 2 in
+    record {
+      first = record {
+        rule = a;
+        found = refl;
+        usable = record { how = reading_by a; found = refl; passes = λ word rows h. ap (once a (word ∷ [])) h; adds = λ word rows. refl };
+        one = refl;
+        single = refl;
+        last = refl;
+        next = refl;
+      };
+      second = λ e. record {
+        rule = b;
+        found = refl;
+        usable = record { how = reading_by b; found = refl; passes = λ word rows h. ap (once b (word ∷ [])) h; adds = λ word rows. refl };
+        one = refl;
+        single = refl;
+        last = refl;
+        next = refl;
+      };
+      given = simulate_options;
+      json = λ e. absurd (no_value e);
+      defaults = refl;
+      valid = λ rows f t. both_true (is_given (codes "firmware") rows) _ f (both_true (is_given (codes "second") rows) _ (t refl) refl);
+      same = refl;
+      of_second = (refl, refl);
+      of_given = firmware_apart;
+      of_json = (refl, refl);
+    }
+
 demo_has : IsLevel (below demo_app) measuring (codes "size")
 unfolding clap_on_literals
 demo_has =
@@ -310,6 +377,15 @@ analyse_facts None second false (Some d) command x e = absurd (no_command x e)
 analyse_facts (Some f) (Some g) false (Some d) command x e = absurd (no_command x e)
 analyse_facts (Some f) None false (Some d) command x e = (refl, (refl, refl))
 
+simulate_facts : (first second : Option Text) (json : Bool) (device : Option Chip) (command : Chip → Text → Text → Option Command) (x : Command)
+    → cond json None (on_device device (λ d. with_both first second (command d))) ≡ Some x
+    → (is_some first ≡ true) × ((is_some second ≡ true) × (json ≡ false))
+simulate_facts first second true device command x e = absurd (no_command x e)
+simulate_facts first second false None command x e = absurd (no_command x e)
+simulate_facts None second false (Some d) command x e = absurd (no_command x e)
+simulate_facts (Some f) None false (Some d) command x e = absurd (no_command x e)
+simulate_facts (Some f) (Some g) false (Some d) command x e = (refl, (refl, refl))
+
 demo_facts : (first second assume steps device : Option Text) (json : Bool) (command : Text → Option Command) (x : Command)
     → cond (is_none assume && is_none device && (is_none steps && not json)) (with_one first second command) None ≡ Some x
     → (is_some first ≡ true) × ((is_some second ≡ false) × ((is_some assume ≡ false) × ((is_some steps ≡ false) × ((is_some device ≡ false) × (json ≡ false)))))
@@ -346,6 +422,11 @@ report_wanted l x e =
 analyse_wanted : (l : Line) (x : Command) → analyse_of l ≡ Some x → IsWanted analysing l
 analyse_wanted l x e =
     let k = analyse_facts l.first l.second l.json (device_in l.device) (λ device firmware. analysed device firmware l.assume (steps_in l.steps)) x e in
+    record { first = k.0; second = k.1.0; given = λ v h. refl; json = λ h. absurd (opposite l.json h k.1.1) }
+
+simulate_wanted : (l : Line) (x : Command) → simulate_of l ≡ Some x → IsWanted simulating l
+simulate_wanted l x e =
+    let k = simulate_facts l.first l.second l.json (device_in l.device) (λ device firmware devices. simulated device firmware devices l.assume (choices_in l.steps)) x e in
     record { first = k.0; second = k.1.0; given = λ v h. refl; json = λ h. absurd (opposite l.json h k.1.1) }
 
 demo_wanted : (l : Line) (x : Command) → demo_of l ≡ Some x → IsWanted measuring l
@@ -396,23 +477,20 @@ good name s w id level takes_at plain word words l waits e is n =
       free = ap₂ (λ (x y : Bool). x || y) plain (pieces_free c.pieces c.fit);
     })
 
+-- the command of the name that the word is, or one of those that follow
+either : {G : Type 0} (b : Bool) (first rest : Option Command) (x : Command) → (b ≡ true → first ≡ Some x → G) → (rest ≡ Some x → G) → cond b first rest ≡ Some x → G
+either true first rest x here later h = here refl h
+either false first rest x here later h = later h
+
 called_good : (word : List ℕ) (words : List (List ℕ)) (l : Line) (x : Command) → l.waits ≡ None → then_words (Some empty_line) words ≡ Some l → called word l ≡ Some x → IsGood (word ∷ words)
-called_good word words l x waits e h = by_check (bytes_eq word (codes "check")) refl h where
-  by_check : (b : Bool) → bytes_eq word (codes "check") ≡ b → cond b (check_of l) (cond (bytes_eq word (codes "analyse")) (analyse_of l) (cond (bytes_eq word (codes "run")) (run_of l) (cond (bytes_eq word (codes "report")) (report_of l) (cond (bytes_eq word (codes "demo")) (demo_of l) None)))) ≡ Some x → IsGood (word ∷ words)
-  by_check true is h = good (codes "check") (below (judging_app (codes "check"))) judging (codes "firmware") (judging_has (codes "check")) check_level refl word words l waits e is (check_wanted l x h)
-  by_check false is h = by_analyse (bytes_eq word (codes "analyse")) refl h where
-    by_analyse : (b : Bool) → bytes_eq word (codes "analyse") ≡ b → cond b (analyse_of l) (cond (bytes_eq word (codes "run")) (run_of l) (cond (bytes_eq word (codes "report")) (report_of l) (cond (bytes_eq word (codes "demo")) (demo_of l) None))) ≡ Some x → IsGood (word ∷ words)
-    by_analyse true is h = good (codes "analyse") (below analyse_app) analysing (codes "firmware") analyse_has analyse_level refl word words l waits e is (analyse_wanted l x h)
-    by_analyse false is h = by_run (bytes_eq word (codes "run")) refl h where
-      by_run : (b : Bool) → bytes_eq word (codes "run") ≡ b → cond b (run_of l) (cond (bytes_eq word (codes "report")) (report_of l) (cond (bytes_eq word (codes "demo")) (demo_of l) None)) ≡ Some x → IsGood (word ∷ words)
-      by_run true is h = good (codes "run") (below (judging_app (codes "run"))) judging (codes "firmware") (judging_has (codes "run")) run_level refl word words l waits e is (run_wanted l x h)
-      by_run false is h = by_report (bytes_eq word (codes "report")) refl h where
-        by_report : (b : Bool) → bytes_eq word (codes "report") ≡ b → cond b (report_of l) (cond (bytes_eq word (codes "demo")) (demo_of l) None) ≡ Some x → IsGood (word ∷ words)
-        by_report true is h = good (codes "report") (below report_app) reporting (codes "firmware") report_has report_level refl word words l waits e is (report_wanted l x h)
-        by_report false is h = by_demo (bytes_eq word (codes "demo")) refl h where
-          by_demo : (b : Bool) → bytes_eq word (codes "demo") ≡ b → cond b (demo_of l) None ≡ Some x → IsGood (word ∷ words)
-          by_demo true is h = good (codes "demo") (below demo_app) measuring (codes "size") demo_has demo_level refl word words l waits e is (demo_wanted l x h)
-          by_demo false is h = absurd (no_command x h)
+called_good word words l x waits e h =
+    either (bytes_eq word (codes "check")) (check_of l) _ x (λ is k. good (codes "check") (below (judging_app (codes "check"))) judging (codes "firmware") (judging_has (codes "check")) check_level refl word words l waits e is (check_wanted l x k))
+    (either (bytes_eq word (codes "analyse")) (analyse_of l) _ x (λ is k. good (codes "analyse") (below analyse_app) analysing (codes "firmware") analyse_has analyse_level refl word words l waits e is (analyse_wanted l x k))
+    (either (bytes_eq word (codes "run")) (run_of l) _ x (λ is k. good (codes "run") (below (judging_app (codes "run"))) judging (codes "firmware") (judging_has (codes "run")) run_level refl word words l waits e is (run_wanted l x k))
+    (either (bytes_eq word (codes "report")) (report_of l) _ x (λ is k. good (codes "report") (below report_app) reporting (codes "firmware") report_has report_level refl word words l waits e is (report_wanted l x k))
+    (either (bytes_eq word (codes "simulate")) (simulate_of l) _ x (λ is k. good (codes "simulate") (below simulate_app) simulating (codes "firmware") simulate_has simulate_level refl word words l waits e is (simulate_wanted l x k))
+    (either (bytes_eq word (codes "demo")) (demo_of l) _ x (λ is k. good (codes "demo") (below demo_app) measuring (codes "size") demo_has demo_level refl word words l waits e is (demo_wanted l x k))
+    (λ k. absurd (no_command x k))))))) h
 
 whole_good : (word : List ℕ) (words : List (List ℕ)) (o : Option Line) (x : Command) → then_words (Some empty_line) words ≡ o → whole word o ≡ Some x → IsGood (word ∷ words)
 whole_good word words None x e h = absurd (no_command x h)

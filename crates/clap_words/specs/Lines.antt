@@ -40,6 +40,9 @@ report_app = with_rule (judging_app (codes "report")) (flag_rule (codes "json"))
 abbrev pub analyse_app : App
 analyse_app = with_rule (on_device (with_rule (new_app (codes "analyse")) (name_rule (codes "firmware")))) (value_rule (codes "steps"))
 
+abbrev pub simulate_app : App
+simulate_app = with_rule (judging_app (codes "simulate")) (value_rule (codes "steps"))
+
 abbrev pub demo_app : App
 demo_app = with_rule (new_app (codes "demo")) (name_rule (codes "size"))
 
@@ -59,7 +62,7 @@ bare_app = record {
 -- the program with its commands
 abbrev pub line_app : App
 line_app =
-    with_subcommand (with_subcommand (with_subcommand (with_subcommand (with_subcommand bare_app check_app.top) analyse_app.top) run_app.top) report_app.top) demo_app.top
+    with_subcommand (with_subcommand (with_subcommand (with_subcommand (with_subcommand (with_subcommand bare_app check_app.top) analyse_app.top) run_app.top) report_app.top) simulate_app.top) demo_app.top
 
 -- ---- what is refused before
 

@@ -3,7 +3,7 @@
 ghost use Rattle.std.specs.Prelude.{◌≡◌, IfOk, false};
 ghost use Rattle.clap.specs.Words.{app_of, rule_of, with_rule, with_subcommand};
 ghost use Rattle.clap.specs.declared.builder.command.Command.TheViews.{out-Command as fields_of};
-ghost use Rattle.clap_words.specs.Lines.{name_rule, value_rule, flag_rule, on_device, judging_app, report_app, analyse_app, demo_app, bare_app, line_app};
+ghost use Rattle.clap_words.specs.Lines.{name_rule, value_rule, flag_rule, on_device, judging_app, report_app, analyse_app, simulate_app, demo_app, bare_app, line_app};
 
 use clap::{Arg, ArgAction, Command};
 use std::alloc::{AllocError, Global};
@@ -78,6 +78,14 @@ fn analyse<'a>(alloc: Global) -> Result<Command<'a>, AllocError>
     with_arg(on_device(alloc, command)?, value_arg(alloc, "steps"))
 }
 
+/// The command `simulate`, which may be held to a number of choices.
+fn simulate<'a>(alloc: Global) -> Result<Command<'a>, AllocError>
+    ensures app { IfOk result (λ c. app_of c ≡ simulate_app) }
+    ensures local { IfOk result (λ c. (fields_of c).has_globals ≡ false) }
+{
+    with_arg(judging(alloc, "simulate")?, value_arg(alloc, "steps"))
+}
+
 /// The command `demo`.
 fn demo<'a>(alloc: Global) -> Result<Command<'a>, AllocError>
     ensures app { IfOk result (λ c. app_of c ≡ demo_app) }
@@ -114,5 +122,6 @@ pub(crate) fn line_command<'a>(alloc: Global) -> Result<Command<'a>, AllocError>
     program = with_command(program, analyse(alloc)?)?;
     program = with_command(program, judging(alloc, "run")?)?;
     program = with_command(program, report(alloc)?)?;
+    program = with_command(program, simulate(alloc)?)?;
     with_command(program, demo(alloc)?)
 }

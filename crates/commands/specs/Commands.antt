@@ -10,13 +10,14 @@ use Rattle.commands.specs.declared.line.Valued.{Valued}
 use Rattle.commands.specs.declared.line.Valued.TheVariants as option
 
 -- what is to be done for a firmware of which device, with the names of the files: judge a certificate, write the least one within a
--- number of rounds if there is one, replay a schedule, judge a certificate and tell what it shows, and measure the analysis by the image
--- of a number
+-- number of rounds if there is one, replay a schedule, judge a certificate and tell what it shows, run with devices for a number of
+-- choices, and measure the analysis by the image of a number
 pub data Command : Type 0 where
   Check : (device : Device) (firmware certificate : List ℕ) (assume : Option (List ℕ)) → Command
   Analyse : (device : Device) (firmware : List ℕ) (assume : Option (List ℕ)) (steps : Option ℕ) → Command
   Run : (device : Device) (firmware schedule : List ℕ) (assume : Option (List ℕ)) → Command
   Report : (device : Device) (firmware certificate : List ℕ) (assume : Option (List ℕ)) (json : Bool) → Command
+  Simulate : (device : Device) (firmware devices : List ℕ) (assume : Option (List ℕ)) (steps : ℕ) → Command
   Demo : (size : ℕ) → Command
 
 -- the device that it is for; the image of `demo` is the ATmega328P's
@@ -25,6 +26,7 @@ device_for (Check device firmware certificate assume) = device
 device_for (Analyse device firmware assume steps) = device
 device_for (Run device firmware schedule assume) = device
 device_for (Report device firmware certificate assume json) = device
+device_for (Simulate device firmware devices assume steps) = device
 device_for (Demo size) = M328
 
 -- ---- files
@@ -49,6 +51,9 @@ name_of (Run device firmware schedule assume) Assumptions = assume
 name_of (Report device firmware certificate assume json) Firmware = Some firmware
 name_of (Report device firmware certificate assume json) Second = Some certificate
 name_of (Report device firmware certificate assume json) Assumptions = assume
+name_of (Simulate device firmware devices assume steps) Firmware = Some firmware
+name_of (Simulate device firmware devices assume steps) Second = Some devices
+name_of (Simulate device firmware devices assume steps) Assumptions = assume
 name_of (Demo size) role = None
 
 -- this is the name of the command's file of this role
@@ -149,6 +154,14 @@ abbrev pub steps_in : Option (List ℕ) → Option (Option ℕ)
 steps_in None = Some None
 steps_in (Some word) = option_map Some (decimal_in word 18446744073709551615)
 
+-- The choices of a simulated run are 200,000 where no number is said, and at most 16,777,216: a greater number counts as that one.
+abbrev pub choices_of : Option ℕ → ℕ
+choices_of None = 200000
+choices_of (Some n) = if nat_le n 16777216 then n else 16777216
+
+abbrev pub choices_in : Option (List ℕ) → Option ℕ
+choices_in word = option_map choices_of (steps_in word)
+
 -- the size of an image is 1 to 2,000
 abbrev pub positive : Option ℕ → Option ℕ
 positive None = None
@@ -193,6 +206,10 @@ abbrev pub with_two : Option (List ℕ) → Option (List ℕ) → (List ℕ → 
 with_two (Some firmware) (Some second) command = Some (command firmware second)
 with_two _ _ command = None
 
+abbrev pub with_both : Option (List ℕ) → Option (List ℕ) → (List ℕ → List ℕ → Option Command) → Option Command
+with_both (Some firmware) (Some second) command = command firmware second
+with_both _ _ command = None
+
 abbrev pub analysed : Device → List ℕ → Option (List ℕ) → Option (Option ℕ) → Option Command
 analysed device firmware assume None = None
 analysed device firmware assume (Some steps) = Some (Analyse device firmware assume steps)
@@ -225,6 +242,16 @@ report_of line =
     then on_device (device_in line.device) (λ device. with_two line.first line.second (λ firmware certificate. Report device firmware certificate line.assume line.json))
     else None
 
+abbrev pub simulated : Device → List ℕ → List ℕ → Option (List ℕ) → Option ℕ → Option Command
+simulated device firmware devices assume None = None
+simulated device firmware devices assume (Some steps) = Some (Simulate device firmware devices assume steps)
+
+abbrev pub simulate_of : Line → Option Command
+simulate_of line =
+    if line.json
+    then None
+    else on_device (device_in line.device) (λ device. with_both line.first line.second (λ firmware devices. simulated device firmware devices line.assume (choices_in line.steps)))
+
 abbrev pub demo_of : Line → Option Command
 demo_of line = if is_bare line then with_one line.first line.second (λ word. option_map Demo (size_in word)) else None
 
@@ -235,8 +262,9 @@ called word line =
     else (if bytes_eq word (codes "analyse") then analyse_of line
     else (if bytes_eq word (codes "run") then run_of line
     else (if bytes_eq word (codes "report") then report_of line
+    else (if bytes_eq word (codes "simulate") then simulate_of line
     else (if bytes_eq word (codes "demo") then demo_of line
-    else None))))
+    else None)))))
 
 -- no option waits for its value
 abbrev pub whole : List ℕ → Option Line → Option Command

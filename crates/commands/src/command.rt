@@ -2,11 +2,11 @@
 
 ghost use Rattle.std.specs.Prelude.{◌≡◌, map, None, Some};
 ghost use Rattle.std.specs.Option.{option_map};
-ghost use Rattle.commands.specs.Commands.{Firmware, Second, Assumptions, device_for, name_of, empty_line, then_words, steps_in, size_in, device_called, device_in, is_plain, is_bare, check_of, analyse_of, run_of, report_of, demo_of, called, whole, command_of};
+ghost use Rattle.commands.specs.Commands.{Firmware, Second, Assumptions, device_for, name_of, empty_line, then_words, steps_in, size_in, device_called, device_in, is_plain, is_bare, check_of, analyse_of, run_of, report_of, simulate_of, choices_of, choices_in, demo_of, called, whole, command_of};
 ghost use Rattle.commands.specs.Views.{text_of, line_of, command_seen};
 
 use crate::line::Line;
-use crate::size::Size;
+use crate::size::{Choices, Size};
 use avr_model::device::Device;
 use sb_base::read_dec;
 
@@ -42,6 +42,14 @@ pub enum Command<'a> {
         assume: Option<&'a str>,
         json: bool,
     },
+    /// Runs a firmware with timers and receivers, for at most so many choices.
+    Simulate {
+        device: Device,
+        firmware: &'a str,
+        devices: &'a str,
+        assume: Option<&'a str>,
+        steps: Choices,
+    },
     /// Measures the analysis by the image of this size.
     Demo {
         size: Size,
@@ -58,6 +66,7 @@ impl<'a> Command<'a> {
             Command::Analyse { device, .. } => device,
             Command::Run { device, .. } => device,
             Command::Report { device, .. } => device,
+            Command::Simulate { device, .. } => device,
             Command::Demo { .. } => Device::M328,
         }
     }
@@ -71,11 +80,12 @@ impl<'a> Command<'a> {
             Command::Analyse { firmware, .. } => Some(firmware),
             Command::Run { firmware, .. } => Some(firmware),
             Command::Report { firmware, .. } => Some(firmware),
+            Command::Simulate { firmware, .. } => Some(firmware),
             Command::Demo { .. } => None,
         }
     }
 
-    /// The name of the certificate or schedule, which is read next.
+    /// The name of the certificate, the schedule or the devices, which is read next.
     pub fn second(&self) -> Option<&'a str>
         ensures { name_of (command_seen self.now) Second ≡ text_of result }
     {
@@ -84,6 +94,7 @@ impl<'a> Command<'a> {
             Command::Analyse { .. } => None,
             Command::Run { schedule, .. } => Some(schedule),
             Command::Report { certificate, .. } => Some(certificate),
+            Command::Simulate { devices, .. } => Some(devices),
             Command::Demo { .. } => None,
         }
     }
@@ -97,6 +108,7 @@ impl<'a> Command<'a> {
             Command::Analyse { assume, .. } => assume,
             Command::Run { assume, .. } => assume,
             Command::Report { assume, .. } => assume,
+            Command::Simulate { assume, .. } => assume,
             Command::Demo { .. } => None,
         }
     }
@@ -127,6 +139,29 @@ fn steps_in(word: Option<&str>) -> Option<Option<u64>>
         },
         None => Some(None),
     }
+}
+
+/// The number of choices of a simulated run: 200,000 where none is said, and at most 16,777,216.
+fn choices_of(steps: Option<u64>) -> Choices
+    ensures { result ≡ choices_of steps }
+{
+    match steps {
+        Some(steps) => {
+            if steps <= 16_777_216 {
+                Choices::new(steps as u32)
+            } else {
+                Choices::new(16_777_216)
+            }
+        }
+        None => Choices::new(200_000),
+    }
+}
+
+/// The same of the word in which the number stands, if there is one.
+fn choices_in(word: Option<&str>) -> Option<Choices>
+    ensures { result ≡ choices_in (text_of word.entry) }
+{
+    Some(choices_of(steps_in(word)?))
 }
 
 /// The size of an image.
@@ -229,6 +264,21 @@ fn report_of<'a>(line: Line<'a>) -> Option<Command<'a>>
     })
 }
 
+fn simulate_of<'a>(line: Line<'a>) -> Option<Command<'a>>
+    ensures { option_map command_seen result ≡ simulate_of (line_of line.entry) }
+{
+    if line.json {
+        return None;
+    }
+    Some(Command::Simulate {
+        device: device_in(line.device)?,
+        firmware: line.first?,
+        devices: line.second?,
+        assume: line.assume,
+        steps: choices_in(line.steps)?,
+    })
+}
+
 fn demo_of<'a>(line: Line<'a>) -> Option<Command<'a>>
     ensures { option_map command_seen result ≡ demo_of (line_of line.entry) }
 {
@@ -252,6 +302,8 @@ fn called<'a>(word: &str, line: Line<'a>) -> Option<Command<'a>>
         run_of(line)
     } else if word == "report" {
         report_of(line)
+    } else if word == "simulate" {
+        simulate_of(line)
     } else if word == "demo" {
         demo_of(line)
     } else {

@@ -1,4 +1,4 @@
-//! The size of an image that the program makes.
+//! The size of an image that the program makes, and the length of a run that it simulates.
 
 ghost use Rattle.std.specs.Prelude.{◌≡◌, ◌≤◌, ℕ};
 
@@ -35,6 +35,40 @@ impl Size {
         ensures value { result ≡ self.now }
         ensures low { 1 ≤ result }
         ensures high { result ≤ 2000 }
+    {
+        self.count
+    }
+}
+
+/// How many choices a simulated run has unless a stop comes before: at most 16,777,216.
+#[derive(Clone, Copy, PartialEq, Eq)]
+pub struct Choices {
+    count: u32,
+}
+
+impl Model for Choices {
+    ghost Value = { ℕ };
+
+    ghost view = { λ a. a.count };
+
+    ghost invariant = { λ a. a.count ≤ 16777216 };
+
+    ghost inverse = { λ n. record { count = n } };
+}
+
+impl Choices {
+    /// So many choices.
+    pub fn new(count: u32) -> Choices
+        requires { count ≤ 16777216 }
+        ensures { result ≡ count }
+    {
+        Choices { count }
+    }
+
+    /// The number of choices.
+    pub fn get(self) -> u32
+        ensures value { result ≡ self }
+        ensures high { result ≤ 16777216 }
     {
         self.count
     }

@@ -1,5 +1,6 @@
 -- What status 0 of a command that judges a certificate says, and when it comes.
-use Rattle.std.proofs.Common.{◌≡◌, ◌≤◌, ◌*◌, ◌%◌, ◌==◌, ◌&&◌, nat_lt, ℕ, Bool, true, false, List, [], length, take, Option, Some, None, Result, Ok, Err, if◌then◌else◌, IsOkAnd, refl, sym, ap, ◌∙◌, subst, arith}
+use Rattle.std.proofs.Common.{◌≡◌, ◌≤◌, ◌*◌, ◌%◌, ◌==◌, ◌&&◌, nat_lt, ℕ, Bool, true, false, List, [], length, take, Option, Some, None, Result, Ok, Err, if◌then◌else◌, IsOkAnd, inl, inr, refl, sym, ap, ◌∙◌, subst, arith}
+use Rattle.std.specs.Prelude.{◌⊎◌}
 use Rattle.std.specs.Option.{option_map}
 use Rattle.std.proofs.lemmas.Bool.Decides.{nat_tests}
 use Rattle.avr_model.specs.declared.assumption.Entry.{Entry}
@@ -17,20 +18,21 @@ use Rattle.indirect_targets.specs.Reading.{entries_in}
 use Rattle.indirect_targets.specs.Exact.{IsDue, ReadingIsExact}
 use Rattle.witness_replay.specs.Spelling.{Plan}
 use Rattle.witness_replay.specs.Replay.{Report as Replayed, replay_of}
-use Rattle.certificate.specs.Claims.{Claim, IsCertificate}
+use Rattle.certificate.specs.Claims.{Claim, IsClaim, IsCertificate}
 use Rattle.certificate.specs.Valid.{IsSound, IsAttained, IsValid}
 use Rattle.cert_words.specs.Text.{text_of}
 use Rattle.cert_format.specs.declared.fault.CertFault.{CertFault}
 use Rattle.cert_format.specs.Reading.{certificate_in}
 use Rattle.cert_format.specs.Exact.{ReadIsSpelled, SpelledIsRead}
-use Rattle.cert_check.specs.Laws.{SoundCertificatesBoundEveryRun}
+use Rattle.cert_check.specs.Laws.{VerdictsAreOne, SoundCertificatesBoundEveryRun}
 use Rattle.cert_check.specs.Verdict.{IsVerdict}
+use Rattle.cert_check.specs.declared.verdict.Reason.{Reason}
 use Rattle.cert_check.specs.declared.verdict.Verdict.{Verdict}
 use Rattle.cert_check.specs.declared.verdict.Verdict.TheVariants.{Accepted, Rejected}
 use Rattle.replies.specs.Firmware.{IsImageBy, IsFirmware, words_by, firmware_words, fault_by, outside_fault, fault_or, firmware_fault}
 use Rattle.replies.specs.Texts.{elf_refused, raw_fault, firmware_outside, assumptions_refused, certificate_refused}
 use Rattle.replies.specs.Reading.{Seen, Unread, Whole, Long, Contents}
-use Rattle.replies.specs.Reply.{Reply, Refuses, WithFile, WithOptional, ImageBy, WithImage, ListBy, WithList, is_end, attains, AttainedBy, WitnessReply, VerdictReply, CertificateReply}
+use Rattle.replies.specs.Reply.{Reply, Refuses, WithFile, WithOptional, ImageBy, WithImage, ListBy, WithList, is_end, attains, AttainedBy, WitnessReply, VerdictReply, JudgedReply, CertificateReply}
 use Rattle.replies.specs.Headline.{IsSeen, AreRead, IsListOf, StandFor}
 use Rattle.replies.proofs.ElfWords.{one_elf, some_elf, no_refusal}
 
@@ -46,8 +48,11 @@ no_seven e = cc
 no_eight : ◌≡◌ {A = ℕ} 0 8 → ⊥
 no_eight e = cc
 
-no_one : ◌≡◌ {A = ℕ} 0 1 → ⊥
+pub no_one : ◌≡◌ {A = ℕ} 0 1 → ⊥
 no_one e = cc
+
+no_true : ◌≡◌ {A = Bool} true false → ⊥
+no_true e = cc
 
 -- ---- files
 
@@ -150,7 +155,7 @@ module _
 
 -- ---- the assumptions
 
-zero_refused : (n : ℕ) → (◌≡◌ {A = ℕ} 0 n → ⊥) → (o : Option (List ℕ)) (text : List ℕ) → Refuses n o 0 text → ⊥
+pub zero_refused : (n : ℕ) → (◌≡◌ {A = ℕ} 0 n → ⊥) → (o : Option (List ℕ)) (text : List ℕ) → Refuses n o 0 text → ⊥
 zero_refused n apart None text h = h
 zero_refused n apart (Some t) text h = apart h.0
 
@@ -199,56 +204,102 @@ pub attains_by : (bound : ℕ) (x : Result Replayed ℕ) → IsOkAnd x (λ r. (r
 attains_by bound (Err step) h = absurd h
 attains_by bound (Ok r) h = let d : (r.depth == bound) ≡ true = (let e = h.1 in grind (arith, nat_tests)) in rw (h.0, d) refl
 
--- the schedule attains the bound, and this is told
-pub record IsTold (words : List ℕ) (A : List Entry) (tells : List ℕ) (bound : ℕ) (w : Option Plan) (text : List ℕ) : Type 0 where
+-- the schedule attains the bound, and what follows is answered
+pub record IsTold (words : List ℕ) (A : List Entry) (next : Reply) (bound : ℕ) (w : Option Plan) (text : List ℕ) : Type 0 where
   pub attained : IsAttained words A bound w
-  pub says : text ≡ tells
+  pub says : next 0 text
 
-zero_attained : (words : List ℕ) (A : List Entry) (tells : List ℕ) (bound : ℕ) (plan : Plan) (attained : Bool) (text : List ℕ) → attains bound (replay_of words A plan) ≡ attained
-    → AttainedBy tells attained 0 text → IsTold words A tells bound (Some plan) text
-zero_attained words A tells bound plan true text e h = record { attained = attained_by bound (replay_of words A plan) e; says = h.1 }
-zero_attained words A tells bound plan false text e h = absurd (no_one h.0)
+zero_attained : (words : List ℕ) (A : List Entry) (next : Reply) (bound : ℕ) (plan : Plan) (attained : Bool) (text : List ℕ) → attains bound (replay_of words A plan) ≡ attained
+    → AttainedBy next attained 0 text → IsTold words A next bound (Some plan) text
+zero_attained words A next bound plan true text e h = record { attained = attained_by bound (replay_of words A plan) e; says = h }
+zero_attained words A next bound plan false text e h = absurd (no_one h.0)
 
-zero_witness : (words : List ℕ) (A : List Entry) (tells : List ℕ) (bound : ℕ) (w : Option Plan) (text : List ℕ) → WitnessReply words A tells bound w 0 text → IsTold words A tells bound w text
-zero_witness words A tells bound None text h = record { attained = tt; says = h.1 }
-zero_witness words A tells bound (Some plan) text h = zero_attained words A tells bound plan (attains bound (replay_of words A plan)) text refl h
+zero_witness : (words : List ℕ) (A : List Entry) (next : Reply) (bound : ℕ) (w : Option Plan) (text : List ℕ) → WitnessReply words A next bound w 0 text → IsTold words A next bound w text
+zero_witness words A next bound None text h = record { attained = tt; says = h }
+zero_witness words A next bound (Some plan) text h = zero_attained words A next bound plan (attains bound (replay_of words A plan)) text refl h
 
-witness_zero : (words : List ℕ) (A : List Entry) (tells : List ℕ) (bound : ℕ) (w : Option Plan) → IsAttained words A bound w → WitnessReply words A tells bound w 0 tells
-witness_zero words A tells bound None h = (refl, refl)
-witness_zero words A tells bound (Some plan) h = subst (λ b. AttainedBy tells b 0 tells) (sym (attains_by bound (replay_of words A plan) h)) (refl, refl)
+witness_zero : (words : List ℕ) (A : List Entry) (next : Reply) (bound : ℕ) (w : Option Plan) (status : ℕ) (text : List ℕ) → IsAttained words A bound w → next status text
+    → WitnessReply words A next bound w status text
+witness_zero words A next bound None status text h k = k
+witness_zero words A next bound (Some plan) status text h k = subst (λ b. AttainedBy next b status text) (sym (attains_by bound (replay_of words A plan) h)) k
 
 -- ---- the verdict and the certificate
 
--- the certificate is sound, its schedule attains its bound, and it is told
-pub record IsAccepted (words : List ℕ) (A : List Entry) (tells : Claim → List ℕ) (c : Claim) (text : List ℕ) : Type 0 where
+-- the certificate is sound, its schedule attains its bound, and what follows is answered
+pub record IsAccepted (words : List ℕ) (A : List Entry) (next : Claim → Reply) (c : Claim) (text : List ℕ) : Type 0 where
   pub sound : IsSound words A c
-  pub told : IsTold words A (tells c) c.bound c.witness text
+  pub told : IsTold words A (next c) c.bound c.witness text
 
-zero_verdict : (words : List ℕ) (A : List Entry) (tells : Claim → List ℕ) (c : Claim) (v : Verdict) (text : List ℕ) → IsVerdict words A c v → VerdictReply words A tells c v 0 text → IsAccepted words A tells c text
-zero_verdict words A tells c (Rejected reason) text is h = absurd (no_one h.0)
-zero_verdict words A tells c (Accepted bound) text is h =
-    record { sound = is.0; told = subst (λ b. IsTold words A (tells c) b c.witness text) is.1 (zero_witness words A (tells c) bound c.witness text h) }
+zero_verdict : (words : List ℕ) (A : List Entry) (next : Claim → Reply) (c : Claim) (v : Verdict) (text : List ℕ) → IsVerdict words A c v → VerdictReply words A next c v 0 text → IsAccepted words A next c text
+zero_verdict words A next c (Rejected reason) text is h = absurd (no_one h.0)
+zero_verdict words A next c (Accepted bound) text is h =
+    record { sound = is.0; told = subst (λ b. IsTold words A (next c) b c.witness text) is.1 (zero_witness words A (next c) bound c.witness text h) }
 
-zero_certificate : (words : List ℕ) (A : List Entry) (tells : Claim → List ℕ) (x : Result Claim CertFault) (text : List ℕ) → CertificateReply words A tells x 0 text
-    → (c : Claim) × (x ≡ Ok c) × IsAccepted words A tells c text
-zero_certificate words A tells (Err fault) text h = absurd (zero_refused 8 no_eight (certificate_refused fault) text h)
-zero_certificate words A tells (Ok c) text h = (c, refl, zero_verdict words A tells c h.verdict text h.is h.reply)
+zero_certificate : (words : List ℕ) (A : List Entry) (next : Claim → Reply) (x : Result Claim CertFault) (text : List ℕ) → CertificateReply words A next x 0 text
+    → (c : Claim) × (x ≡ Ok c) × IsAccepted words A next c text
+zero_certificate words A next (Err fault) text h = absurd (zero_refused 8 no_eight (certificate_refused fault) text h)
+zero_certificate words A next (Ok c) text h = (c, refl, zero_verdict words A next c h.verdict text h.is h.reply)
 
-certificate_zero : (words : List ℕ) (A : List Entry) (tells : Claim → List ℕ) (x : Result Claim CertFault) (c : Claim) → x ≡ Ok c → IsSound words A c → IsAttained words A c.bound c.witness
-    → CertificateReply words A tells x 0 (tells c)
-certificate_zero words A tells x c e sound attained =
-    subst (λ y. CertificateReply words A tells y 0 (tells c)) (sym e)
-    (record { verdict = Accepted c.bound; is = (sound, refl); reply = witness_zero words A (tells c) c.bound c.witness attained })
+certificate_zero : (words : List ℕ) (A : List Entry) (next : Claim → Reply) (x : Result Claim CertFault) (c : Claim) (status : ℕ) (text : List ℕ) → x ≡ Ok c → IsSound words A c → IsAttained words A c.bound c.witness
+    → next c status text → CertificateReply words A next x status text
+certificate_zero words A next x c status text e sound attained k =
+    subst (λ y. CertificateReply words A next y status text) (sym e)
+    (record { verdict = Accepted c.bound; is = (sound, refl); reply = witness_zero words A (next c) c.bound c.witness status text attained k })
+
+-- ---- where a verdict is given
+
+-- the certificate is valid and what follows is answered, or it isn't valid
+abbrev pub IsJudged : List ℕ → List Entry → (Claim → Reply) → Claim → Reply
+IsJudged words A next c status text = (IsValid words A c × next c status text) ⊎ ((IsValid words A c → ⊥) × (status ≡ 1))
+
+by_attained : (words : List ℕ) (A : List Entry) (next : Claim → Reply) (c : Claim) (plan : Plan) (attained : Bool) (status : ℕ) (text : List ℕ) → IsSound words A c → c.witness ≡ Some plan
+    → attains c.bound (replay_of words A plan) ≡ attained → AttainedBy (next c) attained status text → IsJudged words A next c status text
+by_attained words A next c plan true status text sound is e h =
+    inl (record { sound = sound; attained = subst (IsAttained words A c.bound) (sym is) (attained_by c.bound (replay_of words A plan) e) }, h)
+by_attained words A next c plan false status text sound is e h =
+    inr (λ v. no_true (sym (attains_by c.bound (replay_of words A plan) (subst (IsAttained words A c.bound) is v.attained)) ∙ e), h.0)
+
+by_witness : (words : List ℕ) (A : List Entry) (next : Claim → Reply) (c : Claim) (w : Option Plan) (status : ℕ) (text : List ℕ) → IsSound words A c → c.witness ≡ w
+    → WitnessReply words A (next c) c.bound w status text → IsJudged words A next c status text
+by_witness words A next c None status text sound is h = inl (record { sound = sound; attained = subst (IsAttained words A c.bound) (sym is) tt }, h)
+by_witness words A next c (Some plan) status text sound is h = by_attained words A next c plan (attains c.bound (replay_of words A plan)) status text sound is refl h
+
+rejected_apart : (reason : Reason) (bound : ℕ) → Rejected reason ≡ Accepted bound → ⊥
+rejected_apart reason bound e = cc
+
+by_verdict : VerdictsAreOne → (words : List ℕ) (A : List Entry) (next : Claim → Reply) (c : Claim) → IsClaim c → (v : Verdict) (status : ℕ) (text : List ℕ) → IsVerdict words A c v
+    → VerdictReply words A next c v status text → IsJudged words A next c status text
+by_verdict verdicts words A next c claim (Rejected reason) status text is h =
+    inr (λ v. rejected_apart reason c.bound (verdicts words A c (Rejected reason) (Accepted c.bound) claim is (v.sound, refl)), h.0)
+by_verdict verdicts words A next c claim (Accepted bound) status text is h =
+    by_witness words A next c c.witness status text is.0 refl (subst (λ b. WitnessReply words A (next c) b c.witness status text) is.1 h)
+
+-- ---- what follows files that were read
+
+pub file_read : (name : List ℕ) (seen : Seen) (bytes : List ℕ) (next : List ℕ → Reply) (status : ℕ) (text : List ℕ) → seen ≡ Whole bytes → WithFile name seen next status text → next bytes status text
+file_read name seen bytes next status text e h = subst (λ s. WithFile name s next status text) e h
+
+pub optional_read : (o : Option (List ℕ)) (seen : Seen) (list : Option (List ℕ)) (next : Option (List ℕ) → Reply) (status : ℕ) (text : List ℕ) → IsSeen o seen list → WithOptional o seen next status text → next list status text
+optional_read None seen list next status text e h = subst (λ l. next l status text) (sym e) h
+optional_read (Some name) seen None next status text e h = absurd e
+optional_read (Some name) seen (Some bytes) next status text e h = file_read name seen bytes (λ b. next (Some b)) status text e h
+
+fault_none : (o : Option (List ℕ)) (reply : Reply) (status : ℕ) (text : List ℕ) → o ≡ None → ImageBy o reply status text → reply status text
+fault_none o reply status text e h = subst (λ x. ImageBy x reply status text) e h
 
 -- ---- all
 
--- what a command that judges makes of the bytes of its files
-abbrev JudgeReply : Device → (List ℕ → Claim → List ℕ) → List ℕ → List ℕ → Option (List ℕ) → Reply
-JudgeReply device tells firmware second list = WithImage device firmware (λ words. WithList list (λ A. CertificateReply words A (tells firmware) (certificate_in second)))
+-- what is answered of a certificate that is accepted, for a firmware of these bytes with these words, under these assumptions
+abbrev pub Accepting : Type 1
+Accepting = List ℕ → List ℕ → List Entry → Claim → Reply
 
--- the answer of a command that judges the certificate of this name for the firmware of that one, where `tells` says what is told
-abbrev pub IsJudgement : Device → (List ℕ → Claim → List ℕ) → List ℕ → List ℕ → Option (List ℕ) → Contents → Reply
-IsJudgement device tells fw cert assume seen = WithFile fw seen.firmware (λ firmware. WithFile cert seen.second (λ s. WithOptional assume seen.assumptions (λ list. JudgeReply device tells firmware s list)))
+-- what a command that judges makes of the bytes of its files
+abbrev JudgeReply : Device → Accepting → List ℕ → List ℕ → Option (List ℕ) → Reply
+JudgeReply device next firmware second list = WithImage device firmware (λ words. WithList list (λ A. CertificateReply words A (next firmware words A) (certificate_in second)))
+
+-- the answer of a command that judges the certificate of this name for the firmware of that one, with what follows where it accepts
+abbrev pub IsJudgement : Device → Accepting → List ℕ → List ℕ → Option (List ℕ) → Contents → Reply
+IsJudgement device next fw cert assume seen = WithFile fw seen.firmware (λ firmware. WithFile cert seen.second (λ s. WithOptional assume seen.assumptions (λ list. JudgeReply device next firmware s list)))
 
 module _
     (one : (bytes words : List ℕ) → IsRawImage bytes words → words ≡ raw_words bytes)
@@ -259,7 +310,7 @@ module _
     (spelled : SpelledIsRead)
     (bounds : SoundCertificatesBoundEveryRun)
     (device : Device)
-    (tells : List ℕ → Claim → List ℕ) where
+    (next : Accepting) where
   -- what status 0 rests on
   record IsZero (assume : Option (List ℕ)) (seen : Contents) (text : List ℕ) : Type 0 where
     firmware : List ℕ
@@ -271,16 +322,16 @@ module _
     image : IsFirmware device firmware (firmware_words device firmware)
     assumptions : IsListOf list A
     is : certificate_in certificate ≡ Ok claim
-    accepted : IsAccepted (firmware_words device firmware) A (tells firmware) claim text
+    accepted : IsAccepted (firmware_words device firmware) A (next firmware (firmware_words device firmware) A) claim text
 
-  zero_judgement : (fw cert : List ℕ) (assume : Option (List ℕ)) (seen : Contents) (text : List ℕ) → IsJudgement device tells fw cert assume seen 0 text → IsZero assume seen text
+  zero_judgement : (fw cert : List ℕ) (assume : Option (List ℕ)) (seen : Contents) (text : List ℕ) → IsJudgement device next fw cert assume seen 0 text → IsZero assume seen text
   zero_judgement fw cert assume seen text h =
       let first = zero_file fw seen.firmware _ text h in
       let second = zero_file cert seen.second _ text first.2 in
-      let third = zero_optional assume seen.assumptions (λ list. JudgeReply device tells first.0 second.0 list) text second.2 in
-      let image = zero_image one images narrowing device first.0 (λ ws. WithList third.0 (λ B. CertificateReply ws B (tells first.0) (certificate_in second.0))) text third.2 in
-      let list = zero_list lists third.0 (λ B. CertificateReply (firmware_words device first.0) B (tells first.0) (certificate_in second.0)) text image.1 in
-      let judged = zero_certificate (firmware_words device first.0) list.0 (tells first.0) (certificate_in second.0) text list.2 in
+      let third = zero_optional assume seen.assumptions (λ list. JudgeReply device next first.0 second.0 list) text second.2 in
+      let image = zero_image one images narrowing device first.0 (λ ws. WithList third.0 (λ B. CertificateReply ws B (next first.0 ws B) (certificate_in second.0))) text third.2 in
+      let list = zero_list lists third.0 (λ B. CertificateReply (firmware_words device first.0) B (next first.0 (firmware_words device first.0) B) (certificate_in second.0)) text image.1 in
+      let judged = zero_certificate (firmware_words device first.0) list.0 (next first.0 (firmware_words device first.0) list.0) (certificate_in second.0) text list.2 in
       record {
         firmware = first.0;
         certificate = second.0;
@@ -304,11 +355,13 @@ module _
     pub claim : Claim
     pub A : List Entry
     pub stand : StandFor device firmware certificate list words claim A
+    pub fit : AreWords words
+    pub valid : IsValid words A claim
     pub bounded : Bounded words A claim.bound
-    pub told : text ≡ tells firmware claim
+    pub told : next firmware words A claim 0 text
 
   pub judgement_holds : (fw cert : List ℕ) (assume : Option (List ℕ)) (seen : Contents) (text : List ℕ) → ((firmware : List ℕ) → seen.firmware ≡ Whole firmware → AreWords (firmware_words device firmware))
-      → IsJudgement device tells fw cert assume seen 0 text → HoldsOf assume seen text
+      → IsJudgement device next fw cert assume seen 0 text → HoldsOf assume seen text
   judgement_holds fw cert assume seen text has h =
       let z = zero_judgement fw cert assume seen text h in
       let spelling = read z.certificate z.claim z.is in
@@ -321,46 +374,46 @@ module _
         claim = z.claim;
         A = z.A;
         stand = record { mean = record { image = z.image; assumptions = z.assumptions }; fits = spelling.1; bytes = spelling.0 };
+        fit = has z.firmware z.are_read.loaded.firmware_read;
+        valid = record { sound = z.accepted.sound; attained = z.accepted.told.attained };
         bounded = bounds (firmware_words device z.firmware) z.A z.claim (has z.firmware z.are_read.loaded.firmware_read) spelling.1.claim z.accepted.sound;
         told = z.accepted.told.says;
       }
 
   -- ---- exactness
 
-  pub same_whole : (seen : Seen) (a b : List ℕ) → seen ≡ Whole a → seen ≡ Whole b → a ≡ b
-  same_whole seen a b e f = let g : Whole a ≡ Whole b = sym e ∙ f in cc
+  pub image_read : (bytes words : List ℕ) (later : List ℕ → Reply) (status : ℕ) (text : List ℕ) → IsFirmware device bytes words → WithImage device bytes later status text → later words status text
+  image_read bytes words later status text firmware h =
+      subst (λ ws. later ws status text) (sym (words_of one images narrowing device bytes words firmware))
+      (fault_none (firmware_fault device bytes) (later (firmware_words device bytes)) status text (fault_of one images narrowing device bytes words firmware) h)
 
-  pub same_seen : (o : Option (List ℕ)) (seen : Seen) (a b : Option (List ℕ)) → IsSeen o seen a → IsSeen o seen b → a ≡ b
-  same_seen None seen a b e f = e ∙ sym f
-  same_seen (Some name) seen None b e f = absurd e
-  same_seen (Some name) seen (Some a) None e f = absurd f
-  same_seen (Some name) seen (Some a) (Some b) e f = ap Some (same_whole seen a b e f)
+  pub list_read : (list : Option (List ℕ)) (A : List Entry) (later : List Entry → Reply) (status : ℕ) (text : List ℕ) → IsListOf list A → WithList list later status text → later A status text
+  list_read None A later status text e h = subst (λ l. later l status text) (sym e) h
+  list_read (Some bytes) A later status text e h = subst (λ x. ListBy x later status text) (lists.due bytes (Ok A) e) h
 
-  same_claim : (text : List ℕ) (c d : Claim) → certificate_in text ≡ Ok c → IsCertificate d → text ≡ text_of d → c ≡ d
-  same_claim text c d e fits t = let f : ◌≡◌ {A = Result Claim CertFault} (Ok c) (Ok d) = sym e ∙ (ap certificate_in t ∙ spelled d fits) in cc
-
+  -- where all files read as values
   module _ (fw cert : List ℕ) (assume : Option (List ℕ)) (seen : Contents) (firmware certificate : List ℕ) (list : Option (List ℕ)) (words : List ℕ) (claim : Claim) (A : List Entry)
       (are : AreRead assume seen firmware certificate list) (stand : StandFor device firmware certificate list words claim A) where
-    valid_if : (text : List ℕ) → IsZero assume seen text → IsValid words A claim
-    valid_if text z =
-        let f : z.firmware ≡ firmware = same_whole seen.firmware z.firmware firmware z.are_read.loaded.firmware_read are.loaded.firmware_read in
-        let s : z.certificate ≡ certificate = same_whole seen.second z.certificate certificate z.are_read.second_read are.second_read in
-        let l : z.list ≡ list = same_seen assume seen.assumptions z.list list z.are_read.loaded.list_read are.loaded.list_read in
-        let ws : firmware_words device z.firmware ≡ words = ap (firmware_words device) f ∙ sym (words_of one images narrowing device firmware words stand.mean.image) in
-        let c : z.claim ≡ claim = same_claim z.certificate z.claim claim z.is stand.fits (s ∙ stand.bytes) in
-        let a : z.A ≡ A = same_list lists list z.A A (subst (λ o. IsListOf o z.A) l z.assumptions) stand.mean.assumptions in
-        let v : IsValid (firmware_words device z.firmware) z.A z.claim = record { sound = z.accepted.sound; attained = z.accepted.told.attained } in
-        subst (λ x. IsValid x A claim) ws (subst (λ x. IsValid (firmware_words device z.firmware) x claim) a (subst (λ x. IsValid (firmware_words device z.firmware) z.A x) c v))
+    -- the answer is by the verdict on the certificate
+    judged_so : (status : ℕ) (text : List ℕ) → IsJudgement device next fw cert assume seen status text → JudgedReply words A (next firmware words A) claim status text
+    judged_so status text h =
+        let first = file_read fw seen.firmware firmware _ status text are.loaded.firmware_read h in
+        let second = file_read cert seen.second certificate _ status text are.second_read first in
+        let third = optional_read assume seen.assumptions list (λ l. JudgeReply device next firmware certificate l) status text are.loaded.list_read second in
+        let image = image_read firmware words (λ ws. WithList list (λ B. CertificateReply ws B (next firmware ws B) (certificate_in certificate))) status text stand.mean.image third in
+        subst (λ x. CertificateReply words A (next firmware words A) x status text) (ap certificate_in stand.bytes ∙ spelled claim stand.fits)
+        (list_read list A (λ B. CertificateReply words B (next firmware words B) (certificate_in certificate)) status text stand.mean.assumptions image)
 
-    pub judged_valid : (text : List ℕ) → IsJudgement device tells fw cert assume seen 0 text → IsValid words A claim
-    judged_valid text h = valid_if text (zero_judgement fw cert assume seen text h)
+    -- the certificate is valid and what follows is answered, or it isn't valid
+    pub judged_by : VerdictsAreOne → (status : ℕ) (text : List ℕ) → IsJudgement device next fw cert assume seen status text → IsJudged words A (next firmware words A) claim status text
+    judged_by verdicts status text h =
+        let j = judged_so status text h in by_verdict verdicts words A (next firmware words A) claim stand.fits.claim j.verdict status text j.is j.reply
 
-    pub valid_judged : IsValid words A claim → IsJudgement device tells fw cert assume seen 0 (tells firmware claim)
-    valid_judged v =
-        let text = tells firmware claim in
-        file_zero fw seen.firmware firmware _ 0 text are.loaded.firmware_read
-        (file_zero cert seen.second certificate _ 0 text are.second_read
-        (optional_zero assume seen.assumptions list (λ l. JudgeReply device tells firmware certificate l) 0 text are.loaded.list_read
-        (image_zero one images narrowing device firmware words (λ ws. WithList list (λ B. CertificateReply ws B (tells firmware) (certificate_in certificate))) 0 text stand.mean.image
-        (list_zero lists list A (λ B. CertificateReply words B (tells firmware) (certificate_in certificate)) 0 text stand.mean.assumptions
-        (certificate_zero words A (tells firmware) (certificate_in certificate) claim (ap certificate_in stand.bytes ∙ spelled claim stand.fits) v.sound v.attained)))))
+    pub valid_judged : (status : ℕ) (text : List ℕ) → IsValid words A claim → next firmware words A claim status text → IsJudgement device next fw cert assume seen status text
+    valid_judged status text v says =
+        file_zero fw seen.firmware firmware _ status text are.loaded.firmware_read
+        (file_zero cert seen.second certificate _ status text are.second_read
+        (optional_zero assume seen.assumptions list (λ l. JudgeReply device next firmware certificate l) status text are.loaded.list_read
+        (image_zero one images narrowing device firmware words (λ ws. WithList list (λ B. CertificateReply ws B (next firmware ws B) (certificate_in certificate))) status text stand.mean.image
+        (list_zero lists list A (λ B. CertificateReply words B (next firmware words B) (certificate_in certificate)) status text stand.mean.assumptions
+        (certificate_zero words A (next firmware words A) (certificate_in certificate) claim status text (ap certificate_in stand.bytes ∙ spelled claim stand.fits) v.sound v.attained says)))))

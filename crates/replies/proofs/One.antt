@@ -1,5 +1,5 @@
 -- What was read has one answer.
-use Rattle.std.proofs.Common.{◌≡◌, ℕ, Bool, true, false, List, [], ◌∷◌, Option, Some, None, Result, Ok, Err, refl, sym, ◌∙◌, subst}
+use Rattle.std.proofs.Common.{◌≡◌, ℕ, Bool, true, false, List, [], ◌∷◌, Option, Some, None, Result, Ok, Err, refl, sym, ap, ◌∙◌, subst}
 use Rattle.avr_model.specs.declared.assumption.Entry.{Entry}
 use Rattle.sb_base.specs.Lines.{Place, TextLine}
 use Rattle.indirect_targets.specs.declared.fault.AssumeText.{AssumeText}
@@ -16,11 +16,15 @@ use Rattle.answer_laws.specs.Laws.{AnswersAreOne}
 use Rattle.witness_search.specs.Laws.{WaypointsAreOne}
 use Rattle.cert_check.specs.declared.verdict.Verdict.{Verdict}
 use Rattle.cert_check.specs.declared.verdict.Verdict.TheVariants.{Accepted, Rejected}
-use Rattle.commands.specs.Commands.{Command, Check, Analyse, Run, Report, Demo, Firmware, Second, Assumptions, device_for, name_of}
+use Rattle.device_hooks.specs.declared.devices.DevicesFault.{DevicesFault}
+use Rattle.device_hooks.specs.Spelling.{Setup}
+use Rattle.device_hooks.specs.Reading.{setup_in}
+use Rattle.device_hooks.specs.Simulating.{simulation_of}
+use Rattle.commands.specs.Commands.{Command, Check, Analyse, Run, Report, Simulate, Demo, Firmware, Second, Assumptions, device_for, name_of}
 use Rattle.replies.specs.Firmware.{firmware_words, firmware_fault}
-use Rattle.replies.specs.Texts.{too_long, assumptions_refused, certificate_refused, schedule_malformed, schedule_illegal, rejected, witness_rejected, run_text}
+use Rattle.replies.specs.Texts.{too_long, assumptions_refused, certificate_refused, schedule_malformed, schedule_illegal, devices_refused, rejected, witness_rejected, run_text}
 use Rattle.replies.specs.Reading.{Seen, Unread, Whole, Long}
-use Rattle.replies.specs.Reply.{Reply, Says, Refuses, WithFile, WithBytes, WithOptional, ImageBy, WithImage, ListBy, WithList, attains, AttainedBy, WitnessReply, VerdictReply, JudgedReply, CertificateReply, RunReply, EndsBefore, ScheduleReply, told_of, FlashReply, WorkReply}
+use Rattle.replies.specs.Reply.{Reply, Says, Refuses, WithFile, WithBytes, WithOptional, ImageBy, WithImage, ListBy, WithList, attains, AttainedBy, WitnessReply, VerdictReply, JudgedReply, CertificateReply, RunReply, EndsBefore, ScheduleReply, told_of, AcceptedReply, SimulateReply, FlashReply, WorkReply}
 use Rattle.replies.specs.Headline.{RepliesAreOne}
 use Rattle.replies.proofs.Analysing.{analyse_one, demo_one}
 
@@ -60,17 +64,21 @@ with_list_one : (list : Option (List ℕ)) (next : List Entry → Reply) → ((A
 with_list_one None next f = f []
 with_list_one (Some bytes) next f = list_one (entries_in bytes) next f
 
-attained_one : (tells : List ℕ) (attained : Bool) → IsOne (AttainedBy tells attained)
-attained_one tells true s t a b h k = says_one 0 tells s t a b h k
-attained_one tells false s t a b h k = says_one 1 witness_rejected s t a b h k
+attained_one : (next : Reply) (attained : Bool) → IsOne next → IsOne (AttainedBy next attained)
+attained_one next true f s t a b h k = f s t a b h k
+attained_one next false f s t a b h k = says_one 1 witness_rejected s t a b h k
 
-witness_one : (words : List ℕ) (A : List Entry) (tells : List ℕ) (bound : ℕ) (w : Option Plan) → IsOne (WitnessReply words A tells bound w)
-witness_one words A tells bound None s t a b h k = says_one 0 tells s t a b h k
-witness_one words A tells bound (Some plan) s t a b h k = attained_one tells (attains bound (replay_of words A plan)) s t a b h k
+witness_one : (words : List ℕ) (A : List Entry) (next : Reply) (bound : ℕ) (w : Option Plan) → IsOne next → IsOne (WitnessReply words A next bound w)
+witness_one words A next bound None f s t a b h k = f s t a b h k
+witness_one words A next bound (Some plan) f s t a b h k = attained_one next (attains bound (replay_of words A plan)) f s t a b h k
 
-verdict_one : (words : List ℕ) (A : List Entry) (tells : Claim → List ℕ) (c : Claim) (v : Verdict) → IsOne (VerdictReply words A tells c v)
-verdict_one words A tells c (Rejected reason) s t a b h k = says_one 1 (rejected reason) s t a b h k
-verdict_one words A tells c (Accepted bound) s t a b h k = witness_one words A (tells c) bound c.witness s t a b h k
+verdict_one : (words : List ℕ) (A : List Entry) (next : Claim → Reply) (c : Claim) (v : Verdict) → IsOne (next c) → IsOne (VerdictReply words A next c v)
+verdict_one words A next c (Rejected reason) f s t a b h k = says_one 1 (rejected reason) s t a b h k
+verdict_one words A next c (Accepted bound) f s t a b h k = witness_one words A (next c) bound c.witness f s t a b h k
+
+simulate_one : (words : List ℕ) (A : List Entry) (steps : ℕ) (x : Result Setup DevicesFault) → IsOne (SimulateReply words A steps x)
+simulate_one words A steps (Err fault) s t a b h k = refuses_one 14 (devices_refused fault) s t a b h k
+simulate_one words A steps (Ok setup) s t a b h k = says_one 0 (run_text (simulation_of words A setup steps)) s t a b h k
 
 run_one : (x : Result Replayed ℕ) → IsOne (RunReply x)
 run_one (Err step) s t a b h k = says_one 9 (schedule_illegal step) s t a b h k
@@ -86,23 +94,29 @@ schedule_one words A (Ok read) s t a b h k =
     ends_one read.1.rest read.1.at (RunReply (replay_of words A read.0)) (run_one (replay_of words A read.0)) s t a b h k
 
 module _ (read : ReadIsSpelled) (one : VerdictsAreOne) (answers : AnswersAreOne) (chains : WaypointsAreOne) where
-  judged_one : (words : List ℕ) (A : List Entry) (tells : Claim → List ℕ) (c : Claim) → IsClaim c → IsOne (JudgedReply words A tells c)
-  judged_one words A tells c claim s t a b h k =
+  judged_one : (words : List ℕ) (A : List Entry) (next : Claim → Reply) (c : Claim) → IsClaim c → IsOne (next c) → IsOne (JudgedReply words A next c)
+  judged_one words A next c claim f s t a b h k =
       let e = one words A c h.verdict k.verdict claim h.is k.is in
-      verdict_one words A tells c k.verdict s t a b (subst (λ v. VerdictReply words A tells c v s a) e h.reply) k.reply
+      verdict_one words A next c k.verdict f s t a b (subst (λ v. VerdictReply words A next c v s a) e h.reply) k.reply
 
-  certificate_one : (words : List ℕ) (A : List Entry) (tells : Claim → List ℕ) (x : Result Claim CertFault) → ((c : Claim) → x ≡ Ok c → IsClaim c) → IsOne (CertificateReply words A tells x)
-  certificate_one words A tells (Err fault) f s t a b h k = refuses_one 8 (certificate_refused fault) s t a b h k
-  certificate_one words A tells (Ok c) f s t a b h k = judged_one words A tells c (f c refl) s t a b h k
+  certificate_one : (words : List ℕ) (A : List Entry) (next : Claim → Reply) (x : Result Claim CertFault) → ((c : Claim) → x ≡ Ok c → IsClaim c) → ((c : Claim) → IsClaim c → IsOne (next c)) → IsOne (CertificateReply words A next x)
+  certificate_one words A next (Err fault) f g s t a b h k = refuses_one 8 (certificate_refused fault) s t a b h k
+  certificate_one words A next (Ok c) f g s t a b h k = judged_one words A next c (f c refl) (g c (f c refl)) s t a b h k
 
-  read_one : (words : List ℕ) (A : List Entry) (tells : Claim → List ℕ) (bytes : List ℕ) → IsOne (CertificateReply words A tells (certificate_in bytes))
-  read_one words A tells bytes = certificate_one words A tells (certificate_in bytes) (λ c e. (read bytes c e).1.claim)
+  read_one : (words : List ℕ) (A : List Entry) (next : Claim → Reply) (bytes : List ℕ) → ((c : Claim) → IsClaim c → IsOne (next c)) → IsOne (CertificateReply words A next (certificate_in bytes))
+  read_one words A next bytes g = certificate_one words A next (certificate_in bytes) (λ c e. (read bytes c e).1.claim) g
+
+  accepted_one : (command : Command) (firmware words : List ℕ) (A : List Entry) (c : Claim) → IsClaim c → IsOne (AcceptedReply command firmware words A c)
+  accepted_one command firmware words A c claim = says_one 0 (told_of command firmware c)
 
   flash_one : (command : Command) (firmware bytes words : List ℕ) (A : List Entry) → IsOne (FlashReply command firmware bytes words A)
-  flash_one (Check device fw cert assume) firmware bytes words A = read_one words A (told_of (Check device fw cert assume) firmware) bytes
+  flash_one (Check device fw cert assume) firmware bytes words A =
+      read_one words A (AcceptedReply (Check device fw cert assume) firmware words A) bytes (accepted_one (Check device fw cert assume) firmware words A)
   flash_one (Analyse device fw assume steps) firmware bytes words A = analyse_one answers chains words A steps
   flash_one (Run device fw schedule assume) firmware bytes words A = schedule_one words A (schedule_in _)
-  flash_one (Report device fw cert assume json) firmware bytes words A = read_one words A (told_of (Report device fw cert assume json) firmware) bytes
+  flash_one (Report device fw cert assume json) firmware bytes words A =
+      read_one words A (AcceptedReply (Report device fw cert assume json) firmware words A) bytes (accepted_one (Report device fw cert assume json) firmware words A)
+  flash_one (Simulate device fw devices assume steps) firmware bytes words A = simulate_one words A steps (setup_in bytes)
   flash_one (Demo size) firmware bytes words A = demo_one answers chains size
 
   on_flash_one : (command : Command) (firmware second : List ℕ) (list : Option (List ℕ)) → IsOne (WithImage (device_for command) firmware (λ words. WithList list (λ A. FlashReply command firmware second words A)))
@@ -115,6 +129,7 @@ module _ (read : ReadIsSpelled) (one : VerdictsAreOne) (answers : AnswersAreOne)
   work_one (Analyse device fw assume steps) firmware second list = on_flash_one (Analyse device fw assume steps) firmware second list
   work_one (Run device fw schedule assume) firmware second list = on_flash_one (Run device fw schedule assume) firmware second list
   work_one (Report device fw cert assume json) firmware second list = on_flash_one (Report device fw cert assume json) firmware second list
+  work_one (Simulate device fw devices assume steps) firmware second list = on_flash_one (Simulate device fw devices assume steps) firmware second list
   work_one (Demo size) firmware second list = demo_one answers chains size
 
   pub replies_are_one : RepliesAreOne

@@ -17,13 +17,16 @@ use Rattle.round_rules.specs.declared.refusal.Refusal.TheVariants.{Memory}
 use Rattle.round_rules.specs.Refusals.{GoesBeyond}
 use Rattle.round_rules.specs.Solutions.{IsAnswer, IsRefusal}
 use Rattle.demo_image.specs.Image.{demo_words}
-use Rattle.commands.specs.Commands.{Command, Check, Analyse, Run, Report, Demo, device_for}
+use Rattle.device_hooks.specs.Spelling.{Setup}
+use Rattle.device_hooks.specs.Exact.{IsReading as IsDevices}
+use Rattle.device_hooks.specs.Simulating.{simulation_of}
+use Rattle.commands.specs.Commands.{Command, Check, Analyse, Run, Report, Simulate, Demo, device_for}
 use Rattle.local_rules.specs.Machine.{AreWords}
 use Rattle.replies.specs.Firmware.{IsFirmware, firmware_words}
-use Rattle.replies.specs.Texts.{accepted, demo_text}
+use Rattle.replies.specs.Texts.{accepted, run_text, demo_text}
 use Rattle.replies.specs.Reading.{Seen, Whole, Contents}
 use Rattle.replies.specs.Analysis.{TrialsFind}
-use Rattle.replies.specs.Reply.{told_of, IsReply}
+use Rattle.replies.specs.Reply.{AcceptedReply, IsReply}
 
 -- these bytes were read of a file that a command may have
 abbrev pub IsSeen : Option (List ℕ) → Seen → Option (List ℕ) → Type 0
@@ -61,14 +64,14 @@ pub record StandFor (device : Device) (firmware certificate : List ℕ) (list : 
 
 -- The firmware's words on the command's device are such that no run of that machine from reset is deeper than the bound of the certificate with this text:
 -- whatever memory held, whatever interrupts are taken and whatever bytes are read, up to the first step that is flagged under the
--- assumptions of the assumption file. The text that is printed is what the command tells of this certificate, the bound among it.
+-- assumptions of the assumption file. The text that is printed is what the command answers of this certificate, the bound among it.
 pub record Holds (command : Command) (firmware certificate : List ℕ) (list : Option (List ℕ)) (text : List ℕ) : Type 0 where
   pub words : List ℕ
   pub claim : Claim
   pub assumptions : List Entry
   pub stand : StandFor (device_for command) firmware certificate list words claim assumptions
   pub bounded : Bounded words assumptions claim.bound
-  pub told : text ≡ told_of command firmware claim
+  pub told : AcceptedReply command firmware words assumptions claim 0 text
 
 -- bytes were read of all files of a command that judges a certificate, and the bound holds of them
 pub record HoldsAsRead (command : Command) (assume : Option (List ℕ)) (seen : Contents) (text : List ℕ) : Type 0 where
@@ -116,6 +119,27 @@ pub record IsLeastAsRead (device : Device) (assume : Option (List ℕ)) (seen : 
   pub certificate : IsLeastCertificate device firmware list text
   pub again : IsAcceptedAgain device assume seen text certificate.claim
 
+-- ---- a run that is simulated
+
+-- The text tells the run that the devices of this text choose. It is no deeper than the bound of any certificate that is valid for the same
+-- firmware and assumptions, which are those that `check` accepts.
+pub record IsSimulated (device : Device) (steps : ℕ) (firmware devices : List ℕ) (list : Option (List ℕ)) (text : List ℕ) : Type 0 where
+  pub words : List ℕ
+  pub setup : Setup
+  pub assumptions : List Entry
+  pub mean : Mean device firmware list words assumptions
+  pub reads : IsDevices devices setup
+  pub told : text ≡ run_text (simulation_of words assumptions setup steps)
+  pub within : (c : Claim) → IsClaim c → IsValid words assumptions c → (simulation_of words assumptions setup steps).depth ≤ c.bound
+
+-- bytes were read of all its files
+pub record IsSimulatedAsRead (device : Device) (assume : Option (List ℕ)) (steps : ℕ) (seen : Contents) (text : List ℕ) : Type 0 where
+  pub firmware : List ℕ
+  pub devices : List ℕ
+  pub list : Option (List ℕ)
+  pub read : AreRead assume seen firmware devices list
+  pub simulated : IsSimulated device steps firmware devices list text
+
 -- ---- the numbers of an image
 
 -- the text tells the size of the image and the numbers of the certificate at which its rounds end
@@ -127,22 +151,24 @@ pub record IsMeasured (size : ℕ) (text : List ℕ) : Type 0 where
 
 -- ---- what status 0 says
 
--- where a certificate is accepted, the bound holds; where one is written, it is the least; the numbers of an image are those of its rounds
+-- where a certificate is accepted, the bound holds; where one is written, it is the least; a simulated run keeps each bound that is accepted;
+-- the numbers of an image are those of its rounds
 abbrev pub Headline : Command → Contents → ℕ → List ℕ → Type 0
 Headline (Check device firmware certificate assume) seen status text = status ≡ 0 → HoldsAsRead (Check device firmware certificate assume) assume seen text
 Headline (Analyse device firmware assume steps) seen status text = status ≡ 0 → IsLeastAsRead device assume seen text
 Headline (Run device firmware schedule assume) seen status text = ⊤
 Headline (Report device firmware certificate assume json) seen status text =
     status ≡ 0 → HoldsAsRead (Report device firmware certificate assume json) assume seen text
+Headline (Simulate device firmware devices assume steps) seen status text = status ≡ 0 → IsSimulatedAsRead device assume steps seen text
 Headline (Demo size) seen status text = status ≡ 0 → IsMeasured size text
 
 -- ---- when the answers come
 
 -- Where the files of a command read as values, it accepts exactly where the certificate is valid for the firmware and the assumptions.
-abbrev pub AcceptsValid : Device → Option (List ℕ) → Contents → ℕ → Type 0
-AcceptsValid device assume seen status =
+abbrev pub AcceptsExactly : Command → Option (List ℕ) → Contents → ℕ → Type 0
+AcceptsExactly command assume seen status =
     (firmware certificate : List ℕ) (list : Option (List ℕ)) (words : List ℕ) (claim : Claim) (A : List Entry)
-    → AreRead assume seen firmware certificate list → StandFor device firmware certificate list words claim A → (status ≡ 0) ↔ IsValid words A claim
+    → AreRead assume seen firmware certificate list → StandFor (device_for command) firmware certificate list words claim A → (status ≡ 0) ↔ IsValid words A claim
 
 -- some certificate is valid for the words and the assumptions
 abbrev pub HasValid : List ℕ → List Entry → Type 0
@@ -162,11 +188,19 @@ AnswersRounds device assume steps seen status =
     (firmware : List ℕ) (list : Option (List ℕ)) (words : List ℕ) (A : List Entry)
     → AreLoaded assume seen firmware list → Mean device firmware list words A → SaysHowRoundsEnd words A steps status
 
+-- Where the files of a simulation read, and firmware and assumptions stand for values, it is refused exactly where the devices' text is that
+-- of none.
+abbrev pub AnswersDevices : Device → Option (List ℕ) → Contents → ℕ → Type 0
+AnswersDevices device assume seen status =
+    (firmware devices : List ℕ) (list : Option (List ℕ)) (words : List ℕ) (A : List Entry)
+    → AreRead assume seen firmware devices list → Mean device firmware list words A → (status ≡ 0) ↔ ((setup : Setup) × IsDevices devices setup)
+
 abbrev pub IsExact : Command → Contents → ℕ → Type 0
-IsExact (Check device firmware certificate assume) seen status = AcceptsValid device assume seen status
+IsExact (Check device firmware certificate assume) seen status = AcceptsExactly (Check device firmware certificate assume) assume seen status
 IsExact (Analyse device firmware assume steps) seen status = AnswersRounds device assume steps seen status
 IsExact (Run device firmware schedule assume) seen status = ⊤
-IsExact (Report device firmware certificate assume json) seen status = AcceptsValid device assume seen status
+IsExact (Report device firmware certificate assume json) seen status = AcceptsExactly (Report device firmware certificate assume json) assume seen status
+IsExact (Simulate device firmware devices assume steps) seen status = AnswersDevices device assume seen status
 IsExact (Demo size) seen status = SaysHowRoundsEnd (demo_words size) [] None status
 
 -- ---- laws

@@ -1,3 +1,4 @@
+pub mod Says
 pub mod Texts
 pub mod Firmware
 pub mod Reading

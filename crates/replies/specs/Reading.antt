@@ -1,7 +1,7 @@
 -- What is read of a command's files. Source: own.
 use Rattle.std.specs.Prelude.{ℕ, ◌≡◌, ◌≤◌, List, length, ⊤, Bool, true, false, Option, Some, None}
 use Rattle.sb_base.specs.Outside.{Held, Blamed, Gives, MayExceed, Blames}
-use Rattle.commands.specs.Commands.{Command, Run, Role, Firmware, Second, Assumptions, name_of, IsFileOf}
+use Rattle.commands.specs.Commands.{Command, Run, Simulate, Role, Firmware, Second, Assumptions, name_of, IsFileOf}
 
 -- what was read of a file: nothing so far, all its bytes, or that it is longer than its cap
 pub data Seen : Type 0 where
@@ -22,7 +22,7 @@ seen_of seen Assumptions = seen.assumptions
 
 -- ---- caps
 
--- the most bytes of a firmware or a schedule (16 MiB), of a certificate (192 MiB), and of an assumption file (1 MiB)
+-- the most bytes of a firmware or a schedule (16 MiB), of a certificate (192 MiB), of an assumption file and of devices (1 MiB)
 abbrev pub firmware_cap : ℕ
 firmware_cap = 16777216
 
@@ -35,8 +35,12 @@ certificate_cap = 201326592
 abbrev pub assumption_cap : ℕ
 assumption_cap = 1048576
 
+abbrev pub devices_cap : ℕ
+devices_cap = 1048576
+
 abbrev pub second_cap : Command → ℕ
 second_cap (Run device firmware schedule assume) = schedule_cap
+second_cap (Simulate device firmware devices assume steps) = devices_cap
 second_cap command = certificate_cap
 
 abbrev pub cap_of : Command → Role → ℕ

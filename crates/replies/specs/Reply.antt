@@ -19,28 +19,21 @@ use Rattle.flash_image.specs.Naming.{Named}
 use Rattle.reports.specs.Report.{plain_text}
 use Rattle.reports.specs.Json.{json_text}
 use Rattle.demo_image.specs.Image.{demo_words}
+use Rattle.device_hooks.specs.declared.devices.DevicesFault.{DevicesFault}
+use Rattle.device_hooks.specs.Spelling.{Setup}
+use Rattle.device_hooks.specs.Reading.{setup_in}
+use Rattle.device_hooks.specs.Simulating.{simulation_of}
 use Rattle.cert_format.specs.declared.fault.CertFault.{CertFault}
 use Rattle.cert_format.specs.Reading.{certificate_in}
 use Rattle.cert_check.specs.Verdict.{IsVerdict}
 use Rattle.cert_check.specs.declared.verdict.Verdict.{Verdict}
 use Rattle.cert_check.specs.declared.verdict.Verdict.TheVariants.{Accepted, Rejected}
-use Rattle.commands.specs.Commands.{Command, Analyse, Run, Report, Demo, Firmware, Second, Assumptions, device_for, name_of}
+use Rattle.commands.specs.Commands.{Command, Analyse, Run, Report, Simulate, Demo, Firmware, Second, Assumptions, device_for, name_of}
 use Rattle.replies.specs.Firmware.{firmware_words, firmware_fault, firmware_names, firmware_end}
-use Rattle.replies.specs.Texts.{too_long, assumptions_refused, certificate_refused, schedule_malformed, schedule_illegal, accepted, rejected, witness_rejected, run_text, why_not_text, why_not_status, demo_text}
+use Rattle.replies.specs.Texts.{too_long, assumptions_refused, certificate_refused, schedule_malformed, schedule_illegal, devices_refused, accepted, rejected, witness_rejected, run_text, why_not_text, why_not_status, demo_text}
 use Rattle.replies.specs.Reading.{Seen, Unread, Whole, Long, Contents}
 use Rattle.replies.specs.Analysis.{IsAnalysis}
-
--- which status and which text are the answer
-abbrev pub Reply : Type 1
-Reply = ℕ → List ℕ → Type 0
-
-abbrev pub Says : ℕ → List ℕ → Reply
-Says s t status text = (status ≡ s) × (text ≡ t)
-
--- this status with this text; a fault without a text is never answered
-abbrev pub Refuses : ℕ → Option (List ℕ) → Reply
-Refuses s None status text = ⊥
-Refuses s (Some t) status text = (status ≡ s) × (text ≡ t)
+pub use Rattle.replies.specs.Says.{Reply, Says, Refuses}
 
 -- ---- files
 
@@ -90,28 +83,29 @@ abbrev pub attains : ℕ → Result Replayed ℕ → Bool
 attains bound (Err step) = false
 attains bound (Ok r) = is_end r.stop && (r.depth == bound)
 
-abbrev pub AttainedBy : List ℕ → Bool → Reply
-AttainedBy tells true status text = Says 0 tells status text
-AttainedBy tells false status text = Says 1 witness_rejected status text
+-- what follows where it does
+abbrev pub AttainedBy : Reply → Bool → Reply
+AttainedBy next true status text = next status text
+AttainedBy next false status text = Says 1 witness_rejected status text
 
-abbrev pub WitnessReply : List ℕ → List Entry → List ℕ → ℕ → Option Plan → Reply
-WitnessReply words A tells bound None status text = Says 0 tells status text
-WitnessReply words A tells bound (Some plan) status text = AttainedBy tells (attains bound (replay_of words A plan)) status text
+abbrev pub WitnessReply : List ℕ → List Entry → Reply → ℕ → Option Plan → Reply
+WitnessReply words A next bound None status text = next status text
+WitnessReply words A next bound (Some plan) status text = AttainedBy next (attains bound (replay_of words A plan)) status text
 
-abbrev pub VerdictReply : List ℕ → List Entry → (Claim → List ℕ) → Claim → Verdict → Reply
-VerdictReply words A tells c (Rejected reason) status text = Says 1 (rejected reason) status text
-VerdictReply words A tells c (Accepted bound) status text = WitnessReply words A (tells c) bound c.witness status text
+abbrev pub VerdictReply : List ℕ → List Entry → (Claim → Reply) → Claim → Verdict → Reply
+VerdictReply words A next c (Rejected reason) status text = Says 1 (rejected reason) status text
+VerdictReply words A next c (Accepted bound) status text = WitnessReply words A (next c) bound c.witness status text
 
 -- by the verdict on a certificate
-pub record JudgedReply (words : List ℕ) (A : List Entry) (tells : Claim → List ℕ) (c : Claim) (status : ℕ) (text : List ℕ) : Type 0 where
+pub record JudgedReply (words : List ℕ) (A : List Entry) (next : Claim → Reply) (c : Claim) (status : ℕ) (text : List ℕ) : Type 0 where
   pub verdict : Verdict
   pub is : IsVerdict words A c verdict
-  pub reply : VerdictReply words A tells c verdict status text
+  pub reply : VerdictReply words A next c verdict status text
 
--- of a certificate that is read, and of one that is accepted: this is told of it then
-abbrev pub CertificateReply : List ℕ → List Entry → (Claim → List ℕ) → Result Claim CertFault → Reply
-CertificateReply words A tells (Err fault) status text = Refuses 8 (certificate_refused fault) status text
-CertificateReply words A tells (Ok c) status text = JudgedReply words A tells c status text
+-- of a certificate that is read, and what follows with one that is accepted
+abbrev pub CertificateReply : List ℕ → List Entry → (Claim → Reply) → Result Claim CertFault → Reply
+CertificateReply words A next (Err fault) status text = Refuses 8 (certificate_refused fault) status text
+CertificateReply words A next (Ok c) status text = JudgedReply words A next c status text
 
 abbrev pub report_by : Bool → Device → List Named → Option ℕ → Claim → List ℕ
 report_by true device names end c = json_text device c names end
@@ -121,6 +115,10 @@ report_by false device names end c = plain_text device c names end
 abbrev pub told_of : Command → List ℕ → Claim → List ℕ
 told_of (Report device firmware certificate assume json) bytes c = report_by json device (firmware_names bytes) (firmware_end bytes) c
 told_of command bytes c = accepted c.bound (is_some c.witness)
+
+-- what a command answers where it accepts a certificate, for a firmware of these bytes with these words, under these assumptions
+abbrev pub AcceptedReply : Command → List ℕ → List ℕ → List Entry → Claim → Reply
+AcceptedReply command bytes words A c = Says 0 (told_of command bytes c)
 
 -- ---- run
 
@@ -136,6 +134,13 @@ EndsBefore (l ∷ ls) at reply status text = Says 9 (schedule_malformed at) stat
 abbrev pub ScheduleReply : List ℕ → List Entry → Result (Plan × Place) ℕ → Reply
 ScheduleReply words A (Err at) status text = Says 9 (schedule_malformed at) status text
 ScheduleReply words A (Ok read) status text = EndsBefore read.1.rest read.1.at (RunReply (replay_of words A read.0)) status text
+
+-- ---- simulate
+
+-- of the text of devices that is read: what a replay tells, of the run that they choose
+abbrev pub SimulateReply : List ℕ → List Entry → ℕ → Result Setup DevicesFault → Reply
+SimulateReply words A steps (Err fault) status text = Refuses 14 (devices_refused fault) status text
+SimulateReply words A steps (Ok setup) status text = Says 0 (run_text (simulation_of words A setup steps)) status text
 
 -- ---- analyse and demo
 
@@ -166,12 +171,13 @@ DemoReply size status text = MeasuredReply size status text ⊎ WhyNotReply (dem
 
 -- ---- all
 
--- what is made of the words of a firmware of these bytes, and of the bytes of a certificate or schedule, under these assumptions
+-- what is made of the words of a firmware of these bytes, and of the bytes of its second file, under these assumptions
 abbrev pub FlashReply : Command → List ℕ → List ℕ → List ℕ → List Entry → Reply
 FlashReply (Analyse device name assume steps) firmware bytes words A = AnalyseReply words A steps
 FlashReply (Run device name schedule assume) firmware bytes words A = ScheduleReply words A (schedule_in (record { at = 0; rest = lines_of bytes }))
+FlashReply (Simulate device name devices assume steps) firmware bytes words A = SimulateReply words A steps (setup_in bytes)
 FlashReply (Demo size) firmware bytes words A = DemoReply size
-FlashReply command firmware bytes words A = CertificateReply words A (told_of command firmware) (certificate_in bytes)
+FlashReply command firmware bytes words A = CertificateReply words A (AcceptedReply command firmware words A) (certificate_in bytes)
 
 -- The firmware, the assumptions and the second file are looked at in this order. `demo` has none of them.
 abbrev pub WorkReply : Command → List ℕ → List ℕ → Option (List ℕ) → Reply

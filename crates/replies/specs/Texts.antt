@@ -21,6 +21,8 @@ use Rattle.certificate.specs.declared.limit.Limit.{Limit}
 use Rattle.certificate.specs.declared.limit.Limit.TheVariants as limit
 use Rattle.cert_format.specs.declared.fault.CertFault.{CertFault}
 use Rattle.cert_format.specs.declared.fault.CertFault.TheVariants as cert
+use Rattle.device_hooks.specs.declared.devices.DevicesFault.{DevicesFault}
+use Rattle.device_hooks.specs.declared.devices.DevicesFault.TheVariants as devices
 use Rattle.cert_check.specs.declared.verdict.Reason.{Reason}
 use Rattle.cert_check.specs.declared.verdict.Reason.TheVariants.{Root, Node, Edge, Rank, Need, Bound, Assumptions, Expansion}
 use Rattle.elf_load.specs.Elf.{ElfRefusal, Short, NotElf32Little, NotExecutable, NotAvr, EntrySize, SegmentOutside, Overlap}
@@ -98,6 +100,11 @@ schedule_malformed at = told (codes "schedule" ∷ codes "malformed" ∷ codes "
 
 abbrev pub schedule_illegal : ℕ → List ℕ
 schedule_illegal step = told (codes "schedule" ∷ codes "illegal" ∷ codes "step" ∷ decimal step ∷ [])
+
+-- the offset of the line of the devices' text that is refused; want of memory has no text
+abbrev pub devices_refused : DevicesFault → Option (List ℕ)
+devices_refused (devices.Malformed at) = Some (told (codes "devices" ∷ codes "malformed" ∷ codes "at" ∷ decimal at ∷ []))
+devices_refused devices.Memory = None
 
 -- attained where the certificate has a schedule
 abbrev pub witness_word : Bool → List ℕ

@@ -5,6 +5,7 @@ ghost use Rattle.replies.specs.Headline.{RepliesAreOne, AcceptingRepliesHold, Re
 use answer_laws::laws::answers_are_one;
 use cert_check::laws::{sound_certificates_bound_every_run, verdicts_are_one};
 use cert_format::laws::certificate_texts;
+use device_hooks::laws::{reading_is_exact as devices_are_exact, simulations_are_runs};
 use flash_image::laws::{narrowing_is_exact, raw_images_are_their_words};
 use indirect_targets::laws::reading_is_exact;
 use round_laws::laws::{rounds_are_least, solutions_are_valid};
@@ -12,8 +13,8 @@ use witness_replay::laws::replays_are_runs;
 use witness_search::laws::waypoints_are_one;
 
 /// What was read of a command's files has one answer. Where a certificate is accepted, the bound holds of what was read, and where one is
-/// written, it is the least one. Where the files read as values, a certificate is accepted exactly where it is valid, and the status of an
-/// analysis says how the rounds end.
+/// written, it is the least one; a run that devices choose keeps each bound that is accepted. Where the files read as values, a certificate
+/// is accepted exactly where it is valid, and the status of an analysis says how the rounds end.
 pub fn replies_are_claims()
     ensures one { RepliesAreOne }
     ensures holds { AcceptingRepliesHold }
@@ -30,4 +31,6 @@ pub fn replies_are_claims()
     rounds_are_least();
     solutions_are_valid();
     replays_are_runs();
+    devices_are_exact();
+    simulations_are_runs();
 }

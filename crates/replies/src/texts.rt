@@ -5,12 +5,13 @@ ghost use Rattle.std.specs.Option.{option_map};
 ghost use Rattle.elf_load.specs.Refusing.{refusal_of};
 ghost use Rattle.sb_base.specs.Digits.{hex_digits};
 ghost use Rattle.sb_base.specs.Writing.{with_words, with_end};
-ghost use Rattle.replies.specs.Texts.{told, usage, read_fault, too_long, raw_fault, elf_refused, firmware_outside, IsRefused, AreWritten, assumption_words, assumptions_refused, limit_word, certificate_words, certificate_refused, schedule_malformed, schedule_illegal, witness_word, accepted, reason_words, rejected, witness_rejected, stop_words, run_text};
+ghost use Rattle.replies.specs.Texts.{told, usage, read_fault, too_long, raw_fault, elf_refused, firmware_outside, IsRefused, AreWritten, assumption_words, assumptions_refused, limit_word, certificate_words, certificate_refused, schedule_malformed, schedule_illegal, devices_refused, witness_word, accepted, reason_words, rejected, witness_rejected, stop_words, run_text};
 
 use avr_model::choice::{Flag, Stop};
 use cert_check::Reason;
 use cert_format::{CertFault, Limit};
 use cert_writing::write_key;
+use device_hooks::DevicesFault;
 use elf_load::ElfFault;
 use indirect_targets::AssumeText;
 use sb_base::LineWriter;
@@ -224,6 +225,18 @@ pub fn schedule_illegal(alloc: Global, step: u32) -> Result<Vec<u8>, AllocError>
     ensures { IfOk result (λ v. v.items ≡ schedule_illegal step) }
 {
     three_words_and_number(alloc, b"schedule", b"illegal", b"step", u64::from(step))
+}
+
+/// The refusal of the text of devices; none for want of memory.
+pub fn devices_refused(alloc: Global, fault: &DevicesFault) -> Result<Vec<u8>, AllocError>
+    ensures { IfOk result (λ v. devices_refused fault.now ≡ Some v.items) }
+{
+    match *fault {
+        DevicesFault::Malformed(at) => {
+            three_words_and_number(alloc, b"devices", b"malformed", b"at", at as u64)
+        }
+        DevicesFault::Memory => Err(AllocError),
+    }
 }
 
 fn witness_word(attained: bool) -> &'static [u8]

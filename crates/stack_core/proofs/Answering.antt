@@ -19,12 +19,16 @@ use Rattle.round_rules.specs.declared.refusal.Refusal.TheVariants as refusal
 use Rattle.demo_image.specs.Image.{demo_words}
 use Rattle.cert_check.specs.declared.verdict.Verdict.{Verdict}
 use Rattle.cert_check.specs.declared.verdict.Verdict.TheVariants.{Accepted, Rejected}
-use Rattle.commands.specs.Commands.{Command, Check, Analyse, Run, Report, Demo, Firmware, Second, Assumptions, device_for, name_of}
+use Rattle.device_hooks.specs.declared.devices.DevicesFault.{DevicesFault}
+use Rattle.device_hooks.specs.Spelling.{Setup}
+use Rattle.device_hooks.specs.Reading.{setup_in}
+use Rattle.device_hooks.specs.Simulating.{simulation_of}
+use Rattle.commands.specs.Commands.{Command, Check, Analyse, Run, Report, Simulate, Demo, Firmware, Second, Assumptions, device_for, name_of}
 use Rattle.replies.specs.Firmware.{firmware_words, firmware_fault}
-use Rattle.replies.specs.Texts.{usage, read_fault, too_long, assumptions_refused, certificate_refused, why_not_status, why_not_text}
+use Rattle.replies.specs.Texts.{usage, read_fault, too_long, assumptions_refused, certificate_refused, devices_refused, why_not_status, why_not_text}
 use Rattle.replies.specs.Reading as read
 use Rattle.replies.specs.Reading.{Seen, Unread, Whole, Long, AllAgree}
-use Rattle.replies.specs.Reply.{Reply, Refuses, WithFile, WithBytes, WithOptional, ImageBy, WithImage, ListBy, WithList, attains, AttainedBy, WitnessReply, VerdictReply, CertificateReply, told_of, RunReply, EndsBefore, ScheduleReply, WhyNotReply, AnalyseReply, DemoReply, FlashReply, WorkReply, IsReply}
+use Rattle.replies.specs.Reply.{Reply, Refuses, WithFile, WithBytes, WithOptional, ImageBy, WithImage, ListBy, WithList, attains, AttainedBy, WitnessReply, VerdictReply, CertificateReply, AcceptedReply, RunReply, EndsBefore, ScheduleReply, WhyNotReply, AnalyseReply, SimulateReply, DemoReply, FlashReply, WorkReply, IsReply}
 use Rattle.replies.specs.Headline.{HasWords, ReadsWords, AcceptingRepliesHold, RepliesAreExact}
 use Rattle.stack_core.specs.declared.reply.Reply.{Reply as Answered}
 use Rattle.stack_core.specs.Reading.{GoTogether, whole_of, GoWith, seen_under, seen_whole, AreBytes, IsTooLong}
@@ -73,6 +77,9 @@ ten_plain = record { two = λ e. cc; three = λ e. cc; four = λ e. cc; twelve =
 eleven_plain : IsPlain 11
 eleven_plain = record { two = λ e. cc; three = λ e. cc; four = λ e. cc; twelve = λ e. cc }
 
+fourteen_plain : IsPlain 14
+fourteen_plain = record { two = λ e. cc; three = λ e. cc; four = λ e. cc; twelve = λ e. cc }
+
 refuses_apart : (n : ℕ) → IsPlain n → (o : Option (List ℕ)) → IsApart (Refuses n o)
 refuses_apart n p None s t h = absurd h
 refuses_apart n p (Some x) s t h = at n s p h.0
@@ -102,21 +109,28 @@ with_list_apart : (list : Option (List ℕ)) (next : List Entry → Reply) → (
 with_list_apart None next f = f []
 with_list_apart (Some bytes) next f = list_apart (entries_in bytes) next f
 
-attained_apart : (tells : List ℕ) (attained : Bool) → IsApart (AttainedBy tells attained)
-attained_apart tells true s t h = at 0 s zero_plain h.0
-attained_apart tells false s t h = at 1 s one_plain h.0
+attained_apart : (next : Reply) (attained : Bool) → IsApart next → IsApart (AttainedBy next attained)
+attained_apart next true f s t h = f s t h
+attained_apart next false f s t h = at 1 s one_plain h.0
 
-witness_apart : (words : List ℕ) (A : List Entry) (tells : List ℕ) (bound : ℕ) (w : Option Plan) → IsApart (WitnessReply words A tells bound w)
-witness_apart words A tells bound None s t h = at 0 s zero_plain h.0
-witness_apart words A tells bound (Some plan) s t h = attained_apart tells (attains bound (replay_of words A plan)) s t h
+witness_apart : (words : List ℕ) (A : List Entry) (next : Reply) (bound : ℕ) (w : Option Plan) → IsApart next → IsApart (WitnessReply words A next bound w)
+witness_apart words A next bound None f s t h = f s t h
+witness_apart words A next bound (Some plan) f s t h = attained_apart next (attains bound (replay_of words A plan)) f s t h
 
-verdict_apart : (words : List ℕ) (A : List Entry) (tells : Claim → List ℕ) (c : Claim) (v : Verdict) → IsApart (VerdictReply words A tells c v)
-verdict_apart words A tells c (Rejected reason) s t h = at 1 s one_plain h.0
-verdict_apart words A tells c (Accepted bound) s t h = witness_apart words A (tells c) bound c.witness s t h
+verdict_apart : (words : List ℕ) (A : List Entry) (next : Claim → Reply) (c : Claim) (v : Verdict) → IsApart (next c) → IsApart (VerdictReply words A next c v)
+verdict_apart words A next c (Rejected reason) f s t h = at 1 s one_plain h.0
+verdict_apart words A next c (Accepted bound) f s t h = witness_apart words A (next c) bound c.witness f s t h
 
-certificate_apart : (words : List ℕ) (A : List Entry) (tells : Claim → List ℕ) (x : Result Claim CertFault) → IsApart (CertificateReply words A tells x)
-certificate_apart words A tells (Err fault) s t h = refuses_apart 8 eight_plain (certificate_refused fault) s t h
-certificate_apart words A tells (Ok c) s t h = verdict_apart words A tells c h.verdict s t h.reply
+certificate_apart : (words : List ℕ) (A : List Entry) (next : Claim → Reply) (x : Result Claim CertFault) → ((c : Claim) → IsApart (next c)) → IsApart (CertificateReply words A next x)
+certificate_apart words A next (Err fault) f s t h = refuses_apart 8 eight_plain (certificate_refused fault) s t h
+certificate_apart words A next (Ok c) f s t h = verdict_apart words A next c h.verdict (f c) s t h.reply
+
+accepted_apart : (command : Command) (firmware words : List ℕ) (A : List Entry) (c : Claim) → IsApart (AcceptedReply command firmware words A c)
+accepted_apart command firmware words A c s t h = at 0 s zero_plain h.0
+
+simulate_apart : (words : List ℕ) (A : List Entry) (steps : ℕ) (x : Result Setup DevicesFault) → IsApart (SimulateReply words A steps x)
+simulate_apart words A steps (Err fault) s t h = refuses_apart 14 fourteen_plain (devices_refused fault) s t h
+simulate_apart words A steps (Ok setup) s t h = at 0 s zero_plain h.0
 
 why_not_plain : (r : Refusal) → IsPlain (why_not_status r)
 why_not_plain (refusal.UnresolvedJump pc) = ten_plain
@@ -154,10 +168,13 @@ schedule_apart words A (Err place) s t h = at 9 s nine_plain h.0
 schedule_apart words A (Ok r) s t h = ends_apart r.1.rest r.1.at (RunReply (replay_of words A r.0)) (run_apart (replay_of words A r.0)) s t h
 
 flash_apart : (c : Command) (firmware bytes words : List ℕ) (A : List Entry) → IsApart (FlashReply c firmware bytes words A)
-flash_apart (Check device f k a) firmware bytes words A = certificate_apart words A (told_of (Check device f k a) firmware) (certificate_in bytes)
+flash_apart (Check device f k a) firmware bytes words A =
+    certificate_apart words A (AcceptedReply (Check device f k a) firmware words A) (certificate_in bytes) (accepted_apart (Check device f k a) firmware words A)
 flash_apart (Analyse device f a steps) firmware bytes words A = analyse_apart words A steps
 flash_apart (Run device f k a) firmware bytes words A = schedule_apart words A (schedule_in _)
-flash_apart (Report device f k a json) firmware bytes words A = certificate_apart words A (told_of (Report device f k a json) firmware) (certificate_in bytes)
+flash_apart (Report device f k a json) firmware bytes words A =
+    certificate_apart words A (AcceptedReply (Report device f k a json) firmware words A) (certificate_in bytes) (accepted_apart (Report device f k a json) firmware words A)
+flash_apart (Simulate device f k a steps) firmware bytes words A = simulate_apart words A steps (setup_in bytes)
 flash_apart (Demo size) firmware bytes words A = demo_apart size
 
 on_image_apart : (c : Command) (firmware second : List ℕ) (list : Option (List ℕ)) → IsApart (WithImage (device_for c) firmware (λ words. WithList list (λ A. FlashReply c firmware second words A)))
@@ -170,6 +187,7 @@ work_apart (Check device f k a) firmware second list = on_image_apart (Check dev
 work_apart (Analyse device f a steps) firmware second list = on_image_apart (Analyse device f a steps) firmware second list
 work_apart (Run device f k a) firmware second list = on_image_apart (Run device f k a) firmware second list
 work_apart (Report device f k a json) firmware second list = on_image_apart (Report device f k a json) firmware second list
+work_apart (Simulate device f k a steps) firmware second list = on_image_apart (Simulate device f k a steps) firmware second list
 work_apart (Demo size) firmware second list = demo_apart size
 
 reply_apart : (c : Command) (seen : read.Contents) → IsApart (IsReply c seen)

@@ -1,11 +1,11 @@
 -- Answers to bytes that are held.
 use Rattle.std.proofs.Common.{◌≡◌, ◌≤◌, ◌<◌, ℕ, List, [], length, Option, Some, None, refl, sym, ap, ◌∙◌, subst, arith}
 use Rattle.sb_base.specs.Outside.{Held, Bytes, Gives, MayExceed}
-use Rattle.commands.specs.Commands.{Command, Analyse, Firmware, Second, Assumptions, device_for, name_of}
-use Rattle.replies.specs.Reading.{Seen, Unread, Whole, Long, Contents, firmware_cap, certificate_cap, assumption_cap, second_cap, Agrees, AgreesUnder, AllAgree}
+use Rattle.commands.specs.Commands.{Command, Analyse, Simulate, Firmware, Second, Assumptions, device_for, name_of}
+use Rattle.replies.specs.Reading.{Seen, Unread, Whole, Long, Contents, firmware_cap, certificate_cap, devices_cap, assumption_cap, second_cap, Agrees, AgreesUnder, AllAgree}
 use Rattle.replies.specs.Reply.{Reply, WithFile, WithBytes, WithOptional, WorkReply, IsReply}
-use Rattle.replies.specs.Headline.{IsSeen, AreRead, Holds, HoldsAsRead, IsLeastCertificate, Headline, AcceptsValid, IsExact}
-use Rattle.stack_core.specs.Answer.{IsAnswered, IsDue, IsWritten, AreHeld, Judges, checks, reports, HeldHeadline, IsHeldExact, HeldLeast, IsHeldEnd, WrittenAnswersHold}
+use Rattle.replies.specs.Headline.{IsSeen, AreRead, Holds, HoldsAsRead, IsLeastCertificate, IsSimulated, Headline, AcceptsExactly, IsExact}
+use Rattle.stack_core.specs.Answer.{IsAnswered, IsDue, IsWritten, AreHeld, Judges, checks, reports, HeldHeadline, IsHeldExact, HeldLeast, IsHeldEnd, HeldSimulated, AreHeldDevices, WrittenAnswersHold}
 
 held_is : (h : Held) (cap : ℕ) (s : Seen) (a b : List ℕ) → Agrees h cap s → s ≡ Whole a → h ≡ Bytes b → a ≡ b
 held_is h cap s a b agrees e is = let g : Agrees h cap (Whole a) = subst (Agrees h cap) e agrees in subst (λ x. Gives x a) is g.0
@@ -45,7 +45,7 @@ judged_headline : (judge : Command) (fw cert : List ℕ) (assume : Option (List 
 judged_headline _ _ _ _ seen status text (checks device fw cert assume) h zero = h zero
 judged_headline _ _ _ _ seen status text (reports device fw cert assume json) h zero = h zero
 
-judged_exact : (judge : Command) (fw cert : List ℕ) (assume : Option (List ℕ)) (seen : Contents) (status : ℕ) → Judges judge fw cert assume → IsExact judge seen status → AcceptsValid (device_for judge) assume seen status
+judged_exact : (judge : Command) (fw cert : List ℕ) (assume : Option (List ℕ)) (seen : Contents) (status : ℕ) → Judges judge fw cert assume → IsExact judge seen status → AcceptsExactly judge assume seen status
 judged_exact _ _ _ _ seen status (checks device fw cert assume) h = h
 judged_exact _ _ _ _ seen status (reports device fw cert assume json) h = h
 
@@ -76,10 +76,10 @@ written_headline o holds status before after w judge firmware certificate list j
     )
 
 -- bytes that are held were read, where the reply to what was read isn't that a file is too long
-are_read : (c : Command) (holds : List ℕ → Held) (seen : Contents) (fw cert : List ℕ) (assume : Option (List ℕ)) (firmware certificate : List ℕ) (list : Option (List ℕ)) (status : ℕ) (text : List ℕ)
-    → name_of c Firmware ≡ Some fw → name_of c Second ≡ Some cert → name_of c Assumptions ≡ assume → second_cap c ≡ certificate_cap → AllAgree c holds seen → IsReply c seen status text
-    → holds fw ≡ Bytes firmware → length firmware ≤ firmware_cap → holds cert ≡ Bytes certificate → length certificate ≤ certificate_cap → AreHeld holds assume list → AreRead assume seen firmware certificate list
-are_read c holds seen fw cert assume firmware certificate list status text names second third caps agree reply fh ff ch cf lh =
+are_read : (c : Command) (holds : List ℕ → Held) (seen : Contents) (fw cert : List ℕ) (assume : Option (List ℕ)) (firmware certificate : List ℕ) (list : Option (List ℕ)) (cap status : ℕ) (text : List ℕ)
+    → name_of c Firmware ≡ Some fw → name_of c Second ≡ Some cert → name_of c Assumptions ≡ assume → second_cap c ≡ cap → AllAgree c holds seen → IsReply c seen status text
+    → holds fw ≡ Bytes firmware → length firmware ≤ firmware_cap → holds cert ≡ Bytes certificate → length certificate ≤ cap → AreHeld holds assume list → AreRead assume seen firmware certificate list
+are_read c holds seen fw cert assume firmware certificate list cap status text names second third caps agree reply fh ff ch cf lh =
     let work : List ℕ → List ℕ → Option (List ℕ) → Reply = λ f s l. WorkReply c f s l in
     let whole : WithFile fw seen.firmware (λ f. WithFile cert seen.second (λ s. WithOptional assume seen.assumptions (λ l. work f s l))) status text =
     subst (λ a. WithFile fw seen.firmware (λ f. WithFile cert seen.second (λ s. WithOptional a seen.assumptions (λ l. work f s l))) status text) third
@@ -87,8 +87,8 @@ are_read c holds seen fw cert assume firmware certificate list status text names
     (subst (λ n. WithBytes n seen.firmware (λ f. WithBytes (name_of c Second) seen.second (λ s. WithOptional (name_of c Assumptions) seen.assumptions (λ l. work f s l))) status text) names reply)) in
     let first = file_held fw seen.firmware (holds fw) firmware_cap firmware (λ f. WithFile cert seen.second (λ s. WithOptional assume seen.assumptions (λ l. work f s l))) status text whole
     (agrees_as holds firmware_cap firmware_cap (name_of c Firmware) fw seen.firmware names refl (agree Firmware)) fh ff in
-    let next = file_held cert seen.second (holds cert) certificate_cap certificate (λ s. WithOptional assume seen.assumptions (λ l. work firmware s l)) status text first.1
-    (agrees_as holds (second_cap c) certificate_cap (name_of c Second) cert seen.second second caps (agree Second)) ch cf in
+    let next = file_held cert seen.second (holds cert) cap certificate (λ s. WithOptional assume seen.assumptions (λ l. work firmware s l)) status text first.1
+    (agrees_as holds (second_cap c) cap (name_of c Second) cert seen.second second caps (agree Second)) ch cf in
     let last = optional_held holds assume seen.assumptions list (λ l. work firmware certificate l) status text next.1 (subst (λ x. AgreesUnder holds assumption_cap x seen.assumptions) third (agree Assumptions)) lh in
     record { loaded = record { firmware_read = first.0; list_read = last }; second_read = next.0 }
 
@@ -97,7 +97,7 @@ written_exact o holds status before after w judge firmware certificate list word
     let d = due_to o judge holds status w.text j.named w.due in
     let names = judged_names judge j.firmware_name j.certificate_name j.assume j.judges in
     judged_exact judge j.firmware_name j.certificate_name j.assume d.seen status j.judges d.exact firmware certificate list words claim A
-    (are_read judge holds d.seen j.firmware_name j.certificate_name j.assume firmware certificate list status w.text names.0 names.1 names.2 names.3 d.agrees d.reply j.firmware_held j.firmware_fits j.certificate_held
+    (are_read judge holds d.seen j.firmware_name j.certificate_name j.assume firmware certificate list certificate_cap status w.text names.0 names.1 names.2 names.3 d.agrees d.reply j.firmware_held j.firmware_fits j.certificate_held
     j.certificate_fits j.list_held) stand
 
 -- ---- analyses
@@ -119,5 +119,28 @@ written_end o holds status before after w device steps firmware list words A a m
     let last = optional_held holds a.assume d.seen.assumptions list (λ l. WorkReply c firmware [] l) status w.text first.1 (d.agrees Assumptions) a.list_held in
     d.exact firmware list words A (record { firmware_read = first.0; list_read = last }) mean
 
+-- ---- simulations
+
+written_simulated : (o : Option Command) (holds : List ℕ → Held) (status : ℕ) (before after : Option (List ℕ)) → IsWritten o holds status before after → HeldSimulated o holds status before after
+written_simulated o holds status before after w device steps firmware devices list a zero =
+    let d = due_to o (Simulate device a.firmware_name a.devices_name a.assume steps) holds status w.text a.named w.due in
+    let h = d.headline zero in
+    let f : h.firmware ≡ firmware = held_is (holds a.firmware_name) firmware_cap d.seen.firmware h.firmware firmware (d.agrees Firmware) h.read.loaded.firmware_read a.firmware_held in
+    let k : h.devices ≡ devices = held_is (holds a.devices_name) devices_cap d.seen.second h.devices devices (d.agrees Second) h.read.second_read a.devices_held in
+    let l : h.list ≡ list = held_list holds a.assume d.seen.assumptions h.list list (d.agrees Assumptions) h.read.loaded.list_read a.list_held in (
+      w.text,
+      subst (λ x. IsSimulated device steps firmware devices x w.text) l
+          (subst (λ x. IsSimulated device steps firmware x h.list w.text) k (subst (λ x. IsSimulated device steps x h.devices h.list w.text) f h.simulated)),
+      w.grew,
+    )
+
+written_devices : (o : Option Command) (holds : List ℕ → Held) (status : ℕ) (before after : Option (List ℕ)) → IsWritten o holds status before after → AreHeldDevices o holds status
+written_devices o holds status before after w device steps firmware devices list words A a mean =
+    let c = Simulate device a.firmware_name a.devices_name a.assume steps in
+    let d = due_to o (Simulate device a.firmware_name a.devices_name a.assume steps) holds status w.text a.named w.due in
+    d.exact firmware devices list words A
+    (are_read c holds d.seen a.firmware_name a.devices_name a.assume firmware devices list devices_cap status w.text refl refl refl refl d.agrees d.reply a.firmware_held a.firmware_fits a.devices_held a.devices_fit a.list_held)
+    mean
+
 pub written_hold : WrittenAnswersHold
-written_hold = record { headline = written_headline; exact = written_exact; least = written_least; ends = written_end }
+written_hold = record { headline = written_headline; exact = written_exact; least = written_least; ends = written_end; simulated = written_simulated; devices = written_devices }

@@ -21,20 +21,27 @@ use Rattle.round_rules.specs.declared.refusal.Refusal.{Refusal}
 use Rattle.round_rules.specs.Solutions.{IsAnswer, IsWhyNot}
 use Rattle.reports.specs.Laws.{NamesThatSayTheSame}
 use Rattle.demo_image.specs.Image.{demo_words}
-use Rattle.commands.specs.Commands.{Command, Check, Analyse, Run, Report, Demo, device_for}
-use Rattle.certificate.specs.Valid.{IsAttained}
+use Rattle.device_hooks.specs.declared.devices.DevicesFault.{DevicesFault}
+use Rattle.device_hooks.specs.declared.devices.DevicesFault.TheVariants as devices
+use Rattle.device_hooks.specs.Spelling.{Setup}
+use Rattle.device_hooks.specs.Simulating.{simulation_of}
+use Rattle.commands.specs.Commands.{Command, Check, Analyse, Run, Report, Simulate, Demo, device_for}
+use Rattle.certificate.specs.Valid.{IsAttained, IsValid}
 use Rattle.cert_format.specs.declared.fault.CertFault.{CertFault}
 use Rattle.cert_format.specs.declared.fault.CertFault.TheVariants as fault
 use Rattle.cert_format.specs.Reading.{certificate_in}
 use Rattle.cert_check.specs.Verdict.{IsVerdict}
+use Rattle.cert_check.specs.declared.verdict.Reason.{Reason}
 use Rattle.cert_check.specs.declared.verdict.Verdict.{Verdict}
 use Rattle.cert_check.specs.declared.verdict.Verdict.TheVariants.{Accepted, Rejected}
 use Rattle.replies.specs.Firmware.{fault_by, words_by, names_by, end_by, outside_fault, fault_or, firmware_fault, firmware_words, firmware_names, firmware_end}
-use Rattle.replies.specs.Texts.{firmware_outside, why_not_status, why_not_text, demo_text, witness_rejected, schedule_illegal, run_text, assumptions_refused, certificate_refused}
-use Rattle.replies.specs.Reply.{Reply, Refuses, ImageBy, WithImage, ListBy, WithList, attains, AttainedBy, WitnessReply, VerdictReply, JudgedReply, CertificateReply, report_by, told_of, AnalyseReply, DemoReply, FlashReply, RunReply}
+use Rattle.replies.specs.Texts.{firmware_outside, why_not_status, why_not_text, demo_text, rejected, witness_rejected, schedule_illegal, run_text, devices_refused, assumptions_refused, certificate_refused}
+use Rattle.replies.specs.Reply.{Reply, Says, Refuses, ImageBy, WithImage, ListBy, WithList, attains, AttainedBy, WitnessReply, VerdictReply, JudgedReply, CertificateReply, report_by, AcceptedReply, AnalyseReply, SimulateReply, DemoReply, FlashReply, RunReply}
 use Rattle.replies.proofs.AllLaws.{attained_by, attains_by}
-use Rattle.stack_core.specs.Working.{GivesAs, GivesOn, NarrowedTo, LoadsOn, ReadsAs, ListsAs, IsWitnessedText, LoadedReply, ImageReply}
+use Rattle.stack_core.specs.Working.{GivesAs, GivesOn, NarrowedTo, LoadsOn, ReadsAs, ListsAs, IsWitnessedText, nothing, IsJudgedAs, LoadedReply, ImageReply}
 use Rattle.stack_core.specs.declared.reply.Reply.{Reply as Answered}
+use Rattle.stack_core.specs.declared.judging.Judged.{Judged}
+use Rattle.stack_core.specs.declared.judging.Judged.TheVariants as judged
 use Rattle.stack_core.specs.declared.loading.Image.{Image}
 use Rattle.stack_core.specs.declared.loading.Image.TheVariants.{Loaded as OnFlash, Refused}
 use Rattle.stack_core.specs.declared.loading.Listing.TheVariants.{Listed, Unlisted}
@@ -47,28 +54,43 @@ replayed_ok x r text e t = subst (λ y. RunReply y 0 text) e (refl, t)
 pub replayed_err : (x : Result Replayed ℕ) (step : ℕ) (text : List ℕ) → Err step ≡ x → text ≡ schedule_illegal step → RunReply x 9 text
 replayed_err x step text e t = subst (λ y. RunReply y 9 text) e (refl, t)
 
+-- ---- simulate
+
+pub simulated_reply : (words : List ℕ) (A : List Entry) (steps : ℕ) (x : Result Setup DevicesFault) (setup : Setup) (text : List ℕ) → x ≡ Ok setup → text ≡ run_text (simulation_of words A setup steps)
+    → SimulateReply words A steps x 0 text
+simulated_reply words A steps x setup text e t = subst (λ y. SimulateReply words A steps y 0 text) (sym e) (refl, t)
+
+unsimulated : (words : List ℕ) (A : List Entry) (steps : ℕ) (x : Result Setup DevicesFault) (f : DevicesFault) (text : List ℕ) → x ≡ Err f → devices_refused f ≡ Some text → SimulateReply words A steps x 14 text
+unsimulated words A steps x f text e t = subst (λ y. SimulateReply words A steps y 14 text) (sym e) (subst (λ o. Refuses 14 o 14 text) (sym t) (refl, refl))
+
+pub unsimulated_reply : (words : List ℕ) (A : List Entry) (steps : ℕ) (x : Result Setup DevicesFault) (f : DevicesFault) (text : List ℕ) → (f ≢ devices.Memory → x ≡ Err f) → devices_refused f ≡ Some text
+    → SimulateReply words A steps x 14 text
+unsimulated_reply words A steps x (devices.Malformed at) text e t = unsimulated words A steps x (devices.Malformed at) text (e (λ w. cc)) t
+unsimulated_reply words A steps x devices.Memory text e t = absurd (let wrong = t in cc)
+
 -- ---- a certificate's schedule
 
 not_true : (b : Bool) → (b ≡ true → ⊥) → b ≡ false
 not_true true h = absurd (h refl)
 not_true false h = refl
 
-by_attains : (tells : List ℕ) (attained : Bool) (text : List ℕ) → attained ≡ true → text ≡ tells → AttainedBy tells attained 0 text
-by_attains tells attained text e t = subst (λ b. AttainedBy tells b 0 text) (sym e) (refl, t)
+by_attains : (next : Reply) (attained : Bool) (status : ℕ) (text : List ℕ) → attained ≡ true → next status text → AttainedBy next attained status text
+by_attains next attained status text e t = subst (λ b. AttainedBy next b status text) (sym e) t
 
-by_missing : (tells : List ℕ) (attained : Bool) (text : List ℕ) → attained ≡ false → text ≡ witness_rejected → AttainedBy tells attained 1 text
-by_missing tells attained text e t = subst (λ b. AttainedBy tells b 1 text) (sym e) (refl, t)
+by_missing : (next : Reply) (attained : Bool) (text : List ℕ) → attained ≡ false → text ≡ witness_rejected → AttainedBy next attained 1 text
+by_missing next attained text e t = subst (λ b. AttainedBy next b 1 text) (sym e) (refl, t)
 
-pub attained_reply : (words : List ℕ) (A : List Entry) (tells : List ℕ) (bound : ℕ) (witness : Option Plan) (text : List ℕ) → IsAttained words A bound witness → text ≡ tells
-    → WitnessReply words A tells bound witness 0 text
-attained_reply words A tells bound None text a t = (refl, t)
-attained_reply words A tells bound (Some plan) text a t = by_attains tells (attains bound (replay_of words A plan)) text (attains_by bound (replay_of words A plan) a) t
+attained_reply : (words : List ℕ) (A : List Entry) (next : Reply) (bound : ℕ) (witness : Option Plan) (status : ℕ) (text : List ℕ) → IsAttained words A bound witness → next status text
+    → WitnessReply words A next bound witness status text
+attained_reply words A next bound None status text a t = t
+attained_reply words A next bound (Some plan) status text a t =
+    by_attains next (attains bound (replay_of words A plan)) status text (attains_by bound (replay_of words A plan) a) t
 
-pub missed_reply : (words : List ℕ) (A : List Entry) (tells : List ℕ) (bound : ℕ) (witness : Option Plan) (text : List ℕ) → (IsAttained words A bound witness → ⊥) → text ≡ witness_rejected
-    → WitnessReply words A tells bound witness 1 text
-missed_reply words A tells bound None text a t = absurd (a tt)
-missed_reply words A tells bound (Some plan) text a t =
-    by_missing tells (attains bound (replay_of words A plan)) text (not_true (attains bound (replay_of words A plan)) (λ h. a (attained_by bound (replay_of words A plan) h))) t
+missed_reply : (words : List ℕ) (A : List Entry) (next : Reply) (bound : ℕ) (witness : Option Plan) (text : List ℕ) → (IsAttained words A bound witness → ⊥) → text ≡ witness_rejected
+    → WitnessReply words A next bound witness 1 text
+missed_reply words A next bound None text a t = absurd (a tt)
+missed_reply words A next bound (Some plan) text a t =
+    by_missing next (attains bound (replay_of words A plan)) text (not_true (attains bound (replay_of words A plan)) (λ h. a (attained_by bound (replay_of words A plan) h))) t
 
 pub copied_is_some : (o : Option (Bor Plan)) (w : Option Plan) → option_copied o ≡ w → is_some o ≡ is_some w
 copied_is_some None None e = refl
@@ -78,27 +100,76 @@ copied_is_some (Some s) (Some p) e = refl
 
 -- ---- a verdict
 
-pub accepted_judged : (words : List ℕ) (A : List Entry) (tells : Claim → List ℕ) (c : Claim) (bound status : ℕ) (text : List ℕ) → IsVerdict words A c (Accepted bound)
-    → WitnessReply words A (tells c) c.bound c.witness status text → JudgedReply words A tells c status text
-accepted_judged words A tells c bound status text is h =
-    record { verdict = Accepted bound; is = is; reply = subst (λ b. WitnessReply words A (tells c) b c.witness status text) (sym is.1) h }
+-- a certificate that is accepted, and one that isn't for its schedule or for the verdict
+pub accepted_claim : (words : List ℕ) (A : List Entry) (c : Claim) (bound : ℕ) → IsVerdict words A c (Accepted bound) → IsAttained words A c.bound c.witness → IsJudgedAs words A (Ok c) (judged.Accepted c)
+accepted_claim words A c bound is a = (refl, record { sound = is.0; attained = a })
+
+pub missed_claim : (words : List ℕ) (A : List Entry) (c : Claim) (bound : ℕ) (r : Answered) → IsVerdict words A c (Accepted bound) → (IsAttained words A c.bound c.witness → ⊥) → r.status ≡ 1 → r.text.items ≡ witness_rejected
+    → IsJudgedAs words A (Ok c) (judged.Refused r)
+missed_claim words A c bound r is a s t = record {
+  verdict = Accepted bound;
+  is = is;
+  reply =
+      subst (λ n. WitnessReply words A (nothing c) bound c.witness n r.text.items) (sym s)
+      (subst (λ b. WitnessReply words A (nothing c) b c.witness 1 r.text.items) (sym is.1) (missed_reply words A (nothing c) c.bound c.witness r.text.items a t));
+}
+
+pub rejected_claim : (words : List ℕ) (A : List Entry) (c : Claim) (reason : Reason) (r : Answered) → IsVerdict words A c (Rejected reason) → r.status ≡ 1 → r.text.items ≡ rejected reason
+    → IsJudgedAs words A (Ok c) (judged.Refused r)
+rejected_claim words A c reason r is s t = record { verdict = Rejected reason; is = is; reply = (s, t) }
 
 -- ---- a certificate's text
 
-pub read_reply : (words : List ℕ) (A : List Entry) (tells : Claim → List ℕ) (bytes : List ℕ) (c : Claim) (status : ℕ) (text : List ℕ) → certificate_in bytes ≡ Ok c → JudgedReply words A tells c status text
-    → CertificateReply words A tells (certificate_in bytes) status text
-read_reply words A tells bytes c status text e h = subst (λ x. CertificateReply words A tells x status text) (sym e) h
+refused_as : (words : List ℕ) (A : List Entry) (next : Claim → Reply) (x : Result Claim CertFault) (f : CertFault) (text : List ℕ) → x ≡ Err f → certificate_refused f ≡ Some text
+    → CertificateReply words A next x 8 text
+refused_as words A next x f text e t = subst (λ y. CertificateReply words A next y 8 text) (sym e) (subst (λ o. Refuses 8 o 8 text) (sym t) (refl, refl))
 
-refused_as : (words : List ℕ) (A : List Entry) (tells : Claim → List ℕ) (x : Result Claim CertFault) (f : CertFault) (text : List ℕ) → x ≡ Err f → certificate_refused f ≡ Some text
-    → CertificateReply words A tells x 8 text
-refused_as words A tells x f text e t = subst (λ y. CertificateReply words A tells y 8 text) (sym e) (subst (λ o. Refuses 8 o 8 text) (sym t) (refl, refl))
+unread_reply : (words : List ℕ) (A : List Entry) (next : Claim → Reply) (x : Result Claim CertFault) (f : CertFault) (text : List ℕ) → (f ≢ fault.Memory → x ≡ Err f) → certificate_refused f ≡ Some text
+    → CertificateReply words A next x 8 text
+unread_reply words A next x (fault.Malformed at) text e t = refused_as words A next x (fault.Malformed at) text (e (λ w. cc)) t
+unread_reply words A next x (fault.Order at) text e t = refused_as words A next x (fault.Order at) text (e (λ w. cc)) t
+unread_reply words A next x (fault.Limit l) text e t = refused_as words A next x (fault.Limit l) text (e (λ w. cc)) t
+unread_reply words A next x fault.Memory text e t = absurd (let wrong = t in cc)
 
-pub unread_reply : (words : List ℕ) (A : List Entry) (tells : Claim → List ℕ) (x : Result Claim CertFault) (f : CertFault) (text : List ℕ) → (f ≢ fault.Memory → x ≡ Err f) → certificate_refused f ≡ Some text
-    → CertificateReply words A tells x 8 text
-unread_reply words A tells x (fault.Malformed at) text e t = refused_as words A tells x (fault.Malformed at) text (e (λ w. cc)) t
-unread_reply words A tells x (fault.Order at) text e t = refused_as words A tells x (fault.Order at) text (e (λ w. cc)) t
-unread_reply words A tells x (fault.Limit l) text e t = refused_as words A tells x (fault.Limit l) text (e (λ w. cc)) t
-unread_reply words A tells x fault.Memory text e t = absurd (let wrong = t in cc)
+-- a text that isn't read
+pub unread_claim : (words : List ℕ) (A : List Entry) (x : Result Claim CertFault) (f : CertFault) (r : Answered) → (f ≢ fault.Memory → x ≡ Err f) → r.status ≡ 8 → certificate_refused f ≡ Some r.text.items
+    → IsJudgedAs words A x (judged.Refused r)
+unread_claim words A x f r e s t = subst (λ n. CertificateReply words A nothing x n r.text.items) (sym s) (unread_reply words A nothing x f r.text.items e t)
+
+-- one that is
+pub read_claim : {E : Type 0} (words : List ℕ) (A : List Entry) (x : Result Claim CertFault) (c : Claim) (j : Result Judged E) → x ≡ Ok c → IfOk j (IsJudgedAs words A (Ok c)) → IfOk j (IsJudgedAs words A x)
+read_claim words A x c j e h = subst (λ y. IfOk j (IsJudgedAs words A y)) (sym e) h
+
+-- where an accepted certificate is answered alike, so is each text
+attained_alike : (next other : Reply) (attained : Bool) (status : ℕ) (text : List ℕ) → (next status text → other status text) → AttainedBy next attained status text → AttainedBy other attained status text
+attained_alike next other true status text f h = f h
+attained_alike next other false status text f h = h
+
+witness_alike : (words : List ℕ) (A : List Entry) (next other : Reply) (bound : ℕ) (w : Option Plan) (status : ℕ) (text : List ℕ) → (next status text → other status text)
+    → WitnessReply words A next bound w status text → WitnessReply words A other bound w status text
+witness_alike words A next other bound None status text f h = f h
+witness_alike words A next other bound (Some plan) status text f h = attained_alike next other (attains bound (replay_of words A plan)) status text f h
+
+verdict_alike : (words : List ℕ) (A : List Entry) (next other : Claim → Reply) (c : Claim) (v : Verdict) (status : ℕ) (text : List ℕ) → (next c status text → other c status text)
+    → VerdictReply words A next c v status text → VerdictReply words A other c v status text
+verdict_alike words A next other c (Rejected reason) status text f h = h
+verdict_alike words A next other c (Accepted bound) status text f h = witness_alike words A (next c) (other c) bound c.witness status text f h
+
+told_alike : (words : List ℕ) (A : List Entry) (next other : Claim → Reply) (x : Result Claim CertFault) (status : ℕ) (text : List ℕ) → ((c : Claim) → next c status text → other c status text)
+    → CertificateReply words A next x status text → CertificateReply words A other x status text
+told_alike words A next other (Err e) status text f h = h
+told_alike words A next other (Ok c) status text f h = record { verdict = h.verdict; is = h.is; reply = verdict_alike words A next other c h.verdict status text (f c) h.reply }
+
+-- what is answered of one that isn't accepted, whatever follows one that is
+pub refused_reply : (words : List ℕ) (A : List Entry) (next : Claim → Reply) (x : Result Claim CertFault) (r : Answered) → CertificateReply words A nothing x r.status r.text.items → CertificateReply words A next x r.status r.text.items
+refused_reply words A next x r h = told_alike words A nothing next x r.status r.text.items (λ c k. absurd k) h
+
+-- what follows an accepted certificate
+pub accepted_reply : (words : List ℕ) (A : List Entry) (next : Claim → Reply) (x : Result Claim CertFault) (c : Claim) (status : ℕ) (text : List ℕ) → (x ≡ Ok c) × IsValid words A c → next c status text
+    → CertificateReply words A next x status text
+accepted_reply words A next x c status text h k =
+    subst (λ y. CertificateReply words A next y status text) (sym h.0)
+    (record { verdict = Accepted c.bound; is = (h.1.sound, refl); reply = attained_reply words A (next c) c.bound c.witness status text h.1.attained k })
 
 -- ---- an analysis
 
@@ -157,8 +228,8 @@ unlisted_reply (Some bytes) r next h =
 by_fault : (o : Option (List ℕ)) (reply : Reply) (status : ℕ) (text : List ℕ) → o ≡ None → reply status text → ImageBy o reply status text
 by_fault o reply status text e m = subst (λ x. ImageBy x reply status text) (sym e) m
 
-pub refused_reply : (device : Device) (bytes : List ℕ) (r : Answered) (next : List ℕ → Reply) → (r.status ≡ 6) × (firmware_fault device bytes ≡ Some r.text.items) → WithImage device bytes next r.status r.text.items
-refused_reply device bytes r next h = subst (λ o. ImageBy o (next (firmware_words device bytes)) r.status r.text.items) (sym h.1) (h.0, refl)
+pub refused_image : (device : Device) (bytes : List ℕ) (r : Answered) (next : List ℕ → Reply) → (r.status ≡ 6) × (firmware_fault device bytes ≡ Some r.text.items) → WithImage device bytes next r.status r.text.items
+refused_image device bytes r next h = subst (λ o. ImageBy o (next (firmware_words device bytes)) r.status r.text.items) (sym h.1) (h.0, refl)
 
 -- a word outside is told
 pub outside_told : (device : Device) (all : List ℕ) (word : ℕ) (text : List ℕ) → NarrowingIsExact → length all ≡ WORDS → IsOutside device all word → text ≡ firmware_outside word → outside_fault device all ≡ Some text
@@ -182,17 +253,6 @@ loaded_on device bytes before (Refused r) narrowing g h = (
 pub refused_on : (device : Device) (bytes : List ℕ) (r : Answered) → (r.status ≡ 6) × (fault_by (is_elf bytes) bytes ≡ Some r.text.items) → LoadsOn device bytes (Refused r)
 refused_on device bytes r h = (h.0, ap (λ (o : Option (List ℕ)). fault_or o (outside_fault device (words_by (is_elf bytes) bytes))) h.1)
 
--- what is told of each certificate alike is answered alike
-verdict_alike : (words : List ℕ) (A : List Entry) (tells others : Claim → List ℕ) (c : Claim) (v : Verdict) (status : ℕ) (text : List ℕ) → ((d : Claim) → tells d ≡ others d)
-    → VerdictReply words A tells c v status text → VerdictReply words A others c v status text
-verdict_alike words A tells others c (Rejected reason) status text same h = h
-verdict_alike words A tells others c (Accepted bound) status text same h = subst (λ x. WitnessReply words A x bound c.witness status text) (same c) h
-
-told_alike : (words : List ℕ) (A : List Entry) (tells others : Claim → List ℕ) (x : Result Claim CertFault) (status : ℕ) (text : List ℕ) → ((c : Claim) → tells c ≡ others c)
-    → CertificateReply words A tells x status text → CertificateReply words A others x status text
-told_alike words A tells others (Err f) status text same h = h
-told_alike words A tells others (Ok c) status text same h = record { verdict = h.verdict; is = h.is; reply = verdict_alike words A tells others c h.verdict status text same h.reply }
-
 report_alike : (laws : NamesThatSayTheSame) (json : Bool) (device : Device) (names others : List Named) (end end' : Option ℕ) → SayTheSame names others → end ≡ end' → (c : Claim) → report_by json device names end c ≡ report_by json device others end' c
 report_alike laws true device names others end end' same e c = (laws device c names others end same).1 ∙ ap (λ x. report_by true device others x c) e
 report_alike laws false device names others end end' same e c = (laws device c names others end same).0 ∙ ap (λ x. report_by false device others x c) e
@@ -203,8 +263,9 @@ flash_alike laws (Check device name cert assume) firmware bytes loaded A status 
 flash_alike laws (Analyse device name assume steps) firmware bytes loaded A status text names end h = h
 flash_alike laws (Run device name schedule assume) firmware bytes loaded A status text names end h = h
 flash_alike laws (Report device name cert assume json) firmware bytes loaded A status text names end h =
-    told_alike loaded.flash A (report_by json device loaded.names loaded.static_end) (told_of (Report device name cert assume json) firmware) (certificate_in bytes) status text
-    (report_alike laws json device loaded.names (firmware_names firmware) loaded.static_end (firmware_end firmware) names end) h
+    told_alike loaded.flash A (λ c. Says 0 (report_by json device loaded.names loaded.static_end c)) (AcceptedReply (Report device name cert assume json) firmware loaded.flash A) (certificate_in bytes) status text
+    (λ c k. (k.0, k.1 ∙ report_alike laws json device loaded.names (firmware_names firmware) loaded.static_end (firmware_end firmware) names end c)) h
+flash_alike laws (Simulate device name devices assume steps) firmware bytes loaded A status text names end h = h
 flash_alike laws (Demo size) firmware bytes loaded A status text names end h = h
 
 list_alike : (x : Result (List Entry) AssumeText) (next other : List Entry → Reply) (status : ℕ) (text : List ℕ) → ((A : List Entry) → next A status text → other A status text) → ListBy x next status text → ListBy x other status text

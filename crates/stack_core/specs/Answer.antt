@@ -5,11 +5,13 @@ use Rattle.avr_model.specs.declared.device.Device.{Device}
 use Rattle.sb_base.specs.Outside.{Held, Bytes, Blamed, Rose, grown, GrewByPrefix}
 use Rattle.certificate.specs.Claims.{Claim}
 use Rattle.certificate.specs.Valid.{IsValid}
-use Rattle.commands.specs.Commands.{Command, Check, Analyse, Report, device_for}
+use Rattle.device_hooks.specs.Spelling.{Setup}
+use Rattle.device_hooks.specs.Exact.{IsReading as IsDevices}
+use Rattle.commands.specs.Commands.{Command, Check, Analyse, Report, Simulate, device_for}
 use Rattle.replies.specs.Texts.{usage, read_fault}
-use Rattle.replies.specs.Reading.{Contents, AllAgree, IsFirstFailed, firmware_cap, certificate_cap, assumption_cap}
+use Rattle.replies.specs.Reading.{Contents, AllAgree, IsFirstFailed, firmware_cap, certificate_cap, devices_cap, assumption_cap}
 use Rattle.replies.specs.Reply.{IsReply}
-use Rattle.replies.specs.Headline.{Mean, StandFor, Holds, IsLeastCertificate, SaysHowRoundsEnd, Headline, IsExact}
+use Rattle.replies.specs.Headline.{Mean, StandFor, Holds, IsLeastCertificate, IsSimulated, SaysHowRoundsEnd, Headline, IsExact}
 
 -- ---- the answer where no call failed and memory sufficed
 
@@ -86,7 +88,7 @@ pub data Judges : Command → (firmware certificate : List ℕ) (assume : Option
   checks : (device : Device) (firmware certificate : List ℕ) (assume : Option (List ℕ)) → Judges (Check device firmware certificate assume) firmware certificate assume
   reports : (device : Device) (firmware certificate : List ℕ) (assume : Option (List ℕ)) (json : Bool) → Judges (Report device firmware certificate assume json) firmware certificate assume
 
--- The words are this command, a check or a report, and these bytes are held under the names in them, within the caps.
+-- The words are this command, which judges, and these bytes are held under the names in them, within the caps.
 pub record IsJudging (command : Option Command) (judge : Command) (holds : List ℕ → Held) (firmware certificate : List ℕ) (list : Option (List ℕ)) : Type 0 where
   pub firmware_name : List ℕ
   pub certificate_name : List ℕ
@@ -132,6 +134,30 @@ IsHeldEnd command holds status =
     (device : Device) (steps : Option ℕ) (firmware : List ℕ) (list : Option (List ℕ)) (words : List ℕ) (A : List Entry)
     → IsAnalysing command device steps holds firmware list → Mean device firmware list words A → SaysHowRoundsEnd words A steps status
 
+-- The words are a simulation for this device of so many choices, and these bytes are held under the names in them, within the caps.
+pub record IsSimulating (command : Option Command) (device : Device) (steps : ℕ) (holds : List ℕ → Held) (firmware devices : List ℕ) (list : Option (List ℕ)) : Type 0 where
+  pub firmware_name : List ℕ
+  pub devices_name : List ℕ
+  pub assume : Option (List ℕ)
+  pub named : command ≡ Some (Simulate device firmware_name devices_name assume steps)
+  pub firmware_held : holds firmware_name ≡ Bytes firmware
+  pub firmware_fits : length firmware ≤ firmware_cap
+  pub devices_held : holds devices_name ≡ Bytes devices
+  pub devices_fit : length devices ≤ devices_cap
+  pub list_held : AreHeld holds assume list
+
+-- where a simulation of held bytes answers 0, it has told the run that the devices choose, which keeps each bound that `check` accepts
+abbrev pub HeldSimulated : Option Command → (List ℕ → Held) → ℕ → Option (List ℕ) → Option (List ℕ) → Type 0
+HeldSimulated command holds status before after =
+    (device : Device) (steps : ℕ) (firmware devices : List ℕ) (list : Option (List ℕ)) → IsSimulating command device steps holds firmware devices list → status ≡ 0
+    → (text : List ℕ) × IsSimulated device steps firmware devices list text × (after ≡ grown before text)
+
+-- where held firmware and assumptions read as values, it answers 0 exactly where the devices' text reads as such
+abbrev pub AreHeldDevices : Option Command → (List ℕ → Held) → ℕ → Type 0
+AreHeldDevices command holds status =
+    (device : Device) (steps : ℕ) (firmware devices : List ℕ) (list : Option (List ℕ)) (words : List ℕ) (A : List Entry)
+    → IsSimulating command device steps holds firmware devices list → Mean device firmware list words A → (status ≡ 0) ↔ ((setup : Setup) × IsDevices devices setup)
+
 -- ---- laws
 
 -- what holds of an answer whose text was written, over files that tell what they hold
@@ -142,3 +168,6 @@ pub record WrittenAnswersHold : Type 0 where
   pub least : (command : Option Command) (holds : List ℕ → Held) (status : ℕ) (before after : Option (List ℕ)) → IsWritten command holds status before after
       → HeldLeast command holds status before after
   pub ends : (command : Option Command) (holds : List ℕ → Held) (status : ℕ) (before after : Option (List ℕ)) → IsWritten command holds status before after → IsHeldEnd command holds status
+  pub simulated : (command : Option Command) (holds : List ℕ → Held) (status : ℕ) (before after : Option (List ℕ)) → IsWritten command holds status before after
+      → HeldSimulated command holds status before after
+  pub devices : (command : Option Command) (holds : List ℕ → Held) (status : ℕ) (before after : Option (List ℕ)) → IsWritten command holds status before after → AreHeldDevices command holds status

@@ -1,6 +1,5 @@
 -- What is made of a firmware and of an assumption file, and what is told.
-use Rattle.std.specs.Prelude.{ℕ, ◌≡◌, List, [], Bool, length, Option, Some, None, Ok, Err}
-use Rattle.std.specs.Option.{is_some}
+use Rattle.std.specs.Prelude.{ℕ, ◌≡◌, List, [], Bool, length, Option, Some, None, Result, Ok, Err}
 use Rattle.avr_model.specs.declared.assumption.Entry.{Entry}
 use Rattle.avr_model.specs.declared.device.Device.{Device}
 use Rattle.avr_model.specs.Image.{WORDS, IsNarrowed}
@@ -11,20 +10,22 @@ use Rattle.indirect_targets.specs.declared.fault.AssumeText.{AssumeText}
 use Rattle.indirect_targets.specs.Reading.{entries_in}
 use Rattle.witness_replay.specs.Spelling.{Plan}
 use Rattle.certificate.specs.Claims.{Claim}
-use Rattle.certificate.specs.Valid.{IsAttained}
+use Rattle.certificate.specs.Valid.{IsAttained, IsValid}
 use Rattle.cert_words.specs.Text.{text_of}
+use Rattle.cert_format.specs.declared.fault.CertFault.{CertFault}
 use Rattle.cert_format.specs.Reading.{certificate_in}
 use Rattle.commands.specs.Commands.{Command, Report, device_for}
-use Rattle.replies.specs.Texts.{accepted, assumptions_refused}
+use Rattle.replies.specs.Texts.{assumptions_refused}
 use Rattle.replies.specs.Firmware.{words_by, fault_by, names_by, end_by, outside_fault, firmware_words, firmware_fault, firmware_names, firmware_end}
 use Rattle.replies.specs.Analysis.{TrialsFind}
-use Rattle.replies.specs.Reply.{Reply, WithImage, WithList, report_by, CertificateReply, FlashReply}
+use Rattle.replies.specs.Reply.{Reply, Says, WithImage, WithList, report_by, CertificateReply, FlashReply}
 use Rattle.stack_core.specs.declared.loading.Image.{Image}
 use Rattle.stack_core.specs.declared.loading.Image.TheVariants.{Loaded, Refused}
 use Rattle.stack_core.specs.declared.loading.Listing.{Listing}
 use Rattle.stack_core.specs.declared.loading.Listing.TheVariants.{Listed, Unlisted}
-use Rattle.stack_core.specs.declared.judging.Telling.{Telling}
-use Rattle.stack_core.specs.declared.judging.Telling.TheVariants as telling
+use Rattle.stack_core.specs.declared.judging.Judged.{Judged}
+use Rattle.stack_core.specs.declared.judging.Judged.TheVariants.{Accepted}
+use Rattle.stack_core.specs.declared.judging.Judged.TheVariants as judged
 
 -- a firmware that was loaded into the greatest flash gives what the file's bytes give
 pub record GivesAs (elf : Bool) (bytes : List ℕ) (loaded : Firmware) : Type 0 where
@@ -71,10 +72,14 @@ ListsAs None (Listed A) = A ≡ []
 ListsAs None (Unlisted r) = ⊥
 ListsAs (Some bytes) listing = ReadsAs bytes listing
 
--- what is told of a certificate that is accepted
-abbrev pub tells_of : Telling → Claim → List ℕ
-tells_of telling.Verdict c = accepted c.bound (is_some c.witness)
-tells_of (telling.Report device loaded json) c = report_by json device loaded.now.names loaded.now.static_end c
+-- no answer
+abbrev pub nothing : Claim → Reply
+nothing c status text = ⊥
+
+-- a certificate that is valid, or what is answered of one that isn't, or that isn't read
+abbrev pub IsJudgedAs : List ℕ → List Entry → Result Claim CertFault → Judged → Type 0
+IsJudgedAs words A x (Accepted c) = (x ≡ Ok c) × IsValid words A c
+IsJudgedAs words A x (judged.Refused r) = CertificateReply words A nothing x r.status r.text.items
 
 -- the certificate is the first one with the schedule that the trials find, which attains its bound
 pub record IsWitnessed (words : List ℕ) (A : List Entry) (least c : Claim) : Type 0 where
@@ -91,7 +96,8 @@ pub record IsWitnessedText (words : List ℕ) (A : List Entry) (least : Claim) (
 
 -- what is answered for a firmware that was loaded, with the names and the static data that it was loaded with
 abbrev pub LoadedReply : Command → Firmware → List ℕ → List Entry → Reply
-LoadedReply (Report device name certificate assume json) loaded bytes A = CertificateReply loaded.flash A (report_by json device loaded.names loaded.static_end) (certificate_in bytes)
+LoadedReply (Report device name certificate assume json) loaded bytes A =
+    CertificateReply loaded.flash A (λ c. Says 0 (report_by json device loaded.names loaded.static_end c)) (certificate_in bytes)
 LoadedReply command loaded bytes A = FlashReply command [] bytes loaded.flash A
 
 abbrev pub ImageReply : Command → List ℕ → List ℕ → Option (List ℕ) → Reply

@@ -4,7 +4,7 @@ ghost use Rattle.std.specs.Prelude.{◌≡◌, ◌≢◌, ◌⊎◌, ◌↔◌, 
 ghost use Rattle.sb_base.specs.Outside.{Rose, grown};
 ghost use Rattle.commands.specs.Commands.{command_of};
 ghost use Rattle.replies.specs.Texts.{read_fault};
-ghost use Rattle.stack_core.specs.Answer.{IsWritten, IsReadFault, HeldHeadline, IsHeldExact, HeldLeast, IsHeldEnd, Cuts};
+ghost use Rattle.stack_core.specs.Answer.{IsWritten, IsReadFault, HeldHeadline, IsHeldExact, HeldLeast, IsHeldEnd, HeldSimulated, AreHeldDevices, Cuts};
 
 use crate::answer::answer;
 use crate::laws::written_answers_hold;
@@ -22,15 +22,20 @@ pub fn stackbound<F: Files, K: Sink>(
     // Where no call failed and memory sufficed, the answer is the one reply to the words and to what was read, and it is written. One that
     // accepts a certificate says that the bound holds, and one that writes a certificate that it is the least.
     ensures settled { result ≢ 3 → result ≢ 4 → result ≢ 12 → IsWritten (command_of (map (λ w. w.now) words.now)) (F.holds files.old) result (K.written out.old) (K.written out.new) }
-    // Where a check or a report of held bytes accepts, the bound holds of every run, and is told.
+    // Where a command that judges accepts held bytes, the bound holds of every run, and is told.
     ensures headline { HeldHeadline (command_of (map (λ w. w.now) words.now)) (F.holds files.old) result (K.written out.old) (K.written out.new) }
-    // Where held bytes read, a check or a report of them accepts exactly the valid certificates.
+    // Where held bytes read, it accepts exactly the valid certificates.
     ensures exact { result ≢ 3 → result ≢ 4 → result ≢ 12 → IsHeldExact (command_of (map (λ w. w.now) words.now)) (F.holds files.old) result }
     // Where an analysis of held bytes answers 0, it has written their least certificate, which is valid: no valid one has a smaller bound,
     // every run keeps its bound, and its schedule is a run that reaches it; it has none exactly where no trial reaches it.
     ensures least { HeldLeast (command_of (map (λ w. w.now) words.now)) (F.holds files.old) result (K.written out.old) (K.written out.new) }
     // Where held bytes read, the status of an analysis says how the rounds end, and without a budget whether some certificate is valid.
     ensures ends { result ≢ 3 → result ≢ 4 → result ≢ 12 → IsHeldEnd (command_of (map (λ w. w.now) words.now)) (F.holds files.old) result }
+    // Where a simulation of held bytes answers 0, it tells the run that the devices choose, and this is no deeper than the bound of any
+    // certificate that a check accepts for the same firmware and assumptions.
+    ensures simulated { HeldSimulated (command_of (map (λ w. w.now) words.now)) (F.holds files.old) result (K.written out.old) (K.written out.new) }
+    // Where held firmware and assumptions read, a simulation answers 0 exactly where its devices read.
+    ensures devices { result ≢ 3 → result ≢ 4 → result ≢ 12 → AreHeldDevices (command_of (map (λ w. w.now) words.now)) (F.holds files.old) result }
     // Words that are no command, and no others, are answered so.
     ensures usage { result ≢ 4 → result ≢ 12 → (result ≡ 2) ↔ (command_of (map (λ w. w.now) words.now) ≡ None) }
     // A read fault comes only where a read of a file of the command failed in this call; the first such is told.

@@ -1,11 +1,11 @@
-//! Certificates that are judged, for `check` and for `report`.
+//! Certificates that are judged, for all commands that do.
 
-ghost use Rattle.std.specs.Prelude.{◌≡◌, IfOk};
+ghost use Rattle.std.specs.Prelude.{◌≡◌, IfOk, Ok};
 ghost use Rattle.std.specs.Option.{is_some};
 ghost use Rattle.cert_format.specs.Reading.{certificate_in};
 ghost use Rattle.replies.specs.Texts.{accepted};
-ghost use Rattle.replies.specs.Reply.{report_by, WitnessReply, JudgedReply, CertificateReply};
-ghost use Rattle.stack_core.specs.Working.{tells_of};
+ghost use Rattle.replies.specs.Reply.{Says, report_by, CertificateReply};
+ghost use Rattle.stack_core.specs.Working.{IsJudgedAs};
 
 use crate::reply::Reply;
 use cert_check::{Verdict, is_attained, judge};
@@ -17,17 +17,11 @@ use reports::{report_json, report_text};
 use std::alloc::{AllocError, Global};
 use vector_table::Assumptions;
 
-/// What is told of a certificate that is accepted.
-#[derive(Clone, Copy)]
-pub enum Telling<'a> {
-    /// A line with its bound, and whether it has a schedule that attains the bound.
-    Verdict,
-    /// A report with the names and the static data of the firmware for a device, in lines or as JSON.
-    Report {
-        device: Device,
-        loaded: &'a Loaded,
-        json: bool,
-    },
+/// A certificate that is accepted, or what is answered of one that isn't.
+#[derive(Drop)]
+pub enum Judged {
+    Accepted(Certificate),
+    Refused(Reply),
 }
 
 /// The line of a verdict.
@@ -40,7 +34,7 @@ fn verdict_text(alloc: Global, certificate: &Certificate) -> Result<Vec<u8>, All
 }
 
 /// A report in lines or as JSON.
-fn report(
+fn report_of(
     alloc: Global,
     certificate: &Certificate,
     device: Device,
@@ -56,81 +50,85 @@ fn report(
     }
 }
 
-/// What is told of a certificate that is accepted.
-fn accepting(
-    alloc: Global,
-    telling: Telling<'_>,
-    certificate: &Certificate,
-) -> Result<Vec<u8>, AllocError>
-    ensures { IfOk result (λ v. v.items ≡ tells_of telling.entry certificate.now) }
-{
-    match telling {
-        Telling::Verdict => verdict_text(alloc, certificate),
-        Telling::Report {
-            device,
-            loaded,
-            json,
-        } => report(alloc, certificate, device, loaded, json),
-    }
-}
-
-/// What is answered of a certificate that is accepted but for its schedule.
-fn witnessed(
+/// A certificate that was read, if it is accepted.
+fn judge_claim(
     alloc: Global,
     flash: &Flash,
     assumptions: &Assumptions,
-    telling: Telling<'_>,
-    certificate: &Certificate,
-) -> Result<Reply, AllocError>
-    ensures { IfOk result (λ r. WitnessReply flash.now assumptions.now (tells_of telling.entry certificate.now) certificate.now.bound certificate.now.witness r.status r.text.items) }
+    certificate: Certificate,
+) -> Result<Judged, AllocError>
+    ensures { IfOk result (λ j. IsJudgedAs flash.now assumptions.now (Ok certificate) j) }
 {
-    if is_attained(flash, assumptions, certificate) {
-        Ok(Reply {
-            status: 0,
-            text: accepting(alloc, telling, certificate)?,
-        })
-    } else {
-        Ok(Reply {
-            status: 1,
-            text: texts::witness_rejected(alloc)?,
-        })
-    }
-}
-
-/// What is answered of a certificate that was read.
-fn judged(
-    alloc: Global,
-    flash: &Flash,
-    assumptions: &Assumptions,
-    telling: Telling<'_>,
-    certificate: &Certificate,
-) -> Result<Reply, AllocError>
-    ensures { IfOk result (λ r. JudgedReply flash.now assumptions.now (tells_of telling.entry) certificate.now r.status r.text.items) }
-{
-    match judge(alloc, flash, assumptions, certificate)? {
-        Verdict::Accepted(_) => witnessed(alloc, flash, assumptions, telling, certificate),
-        Verdict::Rejected(reason) => Ok(Reply {
+    match judge(alloc, flash, assumptions, &certificate)? {
+        Verdict::Accepted(_) => {
+            if is_attained(flash, assumptions, &certificate) {
+                Ok(Judged::Accepted(certificate))
+            } else {
+                Ok(Judged::Refused(Reply {
+                    status: 1,
+                    text: texts::witness_rejected(alloc)?,
+                }))
+            }
+        }
+        Verdict::Rejected(reason) => Ok(Judged::Refused(Reply {
             status: 1,
             text: texts::rejected(alloc, &reason)?,
-        }),
+        })),
     }
 }
 
-/// What is answered of the text of a certificate.
+/// The certificate of a text, if it is one that is accepted.
+pub fn judge_text(
+    alloc: Global,
+    flash: &Flash,
+    assumptions: &Assumptions,
+    text: &[u8],
+) -> Result<Judged, AllocError>
+    ensures { IfOk result (λ j. IsJudgedAs flash.now assumptions.now (certificate_in text.now) j) }
+{
+    match read_certificate(alloc, text) {
+        Ok(certificate) => judge_claim(alloc, flash, assumptions, certificate),
+        Err(fault) => Ok(Judged::Refused(Reply {
+            status: 8,
+            text: texts::certificate_refused(alloc, &fault)?,
+        })),
+    }
+}
+
+/// What `check` answers of the text of a certificate.
 pub fn check(
     alloc: Global,
     flash: &Flash,
     assumptions: &Assumptions,
-    telling: Telling<'_>,
     text: &[u8],
 ) -> Result<Reply, AllocError>
-    ensures { IfOk result (λ r. CertificateReply flash.now assumptions.now (tells_of telling.entry) (certificate_in text.now) r.status r.text.items) }
+    ensures { IfOk result (λ r. CertificateReply flash.now assumptions.now (λ c. Says 0 (accepted c.bound (is_some c.witness))) (certificate_in text.now) r.status r.text.items) }
 {
-    match read_certificate(alloc, text) {
-        Ok(certificate) => judged(alloc, flash, assumptions, telling, &certificate),
-        Err(fault) => Ok(Reply {
-            status: 8,
-            text: texts::certificate_refused(alloc, &fault)?,
+    match judge_text(alloc, flash, assumptions, text)? {
+        Judged::Accepted(certificate) => Ok(Reply {
+            status: 0,
+            text: verdict_text(alloc, &certificate)?,
         }),
+        Judged::Refused(reply) => Ok(reply),
+    }
+}
+
+/// What `report` answers of the text of a certificate, for a firmware that was loaded for this device.
+pub fn report(
+    alloc: Global,
+    assumptions: &Assumptions,
+    text: &[u8],
+    device: Device,
+    loaded: &Loaded,
+    json: bool,
+) -> Result<Reply, AllocError>
+    ensures { IfOk result (λ r. CertificateReply loaded.now.flash assumptions.now (λ c. Says 0 (report_by json device loaded.now.names loaded.now.static_end c)) (certificate_in text.now) r.status r.text.items) }
+{
+    match judge_text(alloc, &loaded.flash, assumptions, text)? {
+        Judged::Accepted(certificate) => Ok(Reply {
+            status: 0,
+            text: report_of(alloc, &certificate, device, loaded, json)?,
+        }),
+        Judged::Refused(reply) => Ok(reply),
     }
 }

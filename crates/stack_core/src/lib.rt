@@ -10,6 +10,7 @@ pub mod loading;
 pub mod reading;
 pub mod reply;
 pub mod running;
+pub mod simulating;
 pub mod work;
 
 pub use call::stackbound;

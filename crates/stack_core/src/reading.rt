@@ -18,6 +18,9 @@ const SCHEDULE_CAP: usize = 16_777_216;
 /// The most bytes of a certificate: 192 MiB.
 const CERTIFICATE_CAP: usize = 201_326_592;
 
+/// The most bytes of the text of devices: 1 MiB.
+const DEVICES_CAP: usize = 1_048_576;
+
 /// The most bytes of an assumption file: 1 MiB.
 const ASSUMPTION_CAP: usize = 1_048_576;
 
@@ -98,6 +101,7 @@ fn second_cap(command: &Command<'_>) -> usize
         Command::Analyse { .. } => CERTIFICATE_CAP,
         Command::Run { .. } => SCHEDULE_CAP,
         Command::Report { .. } => CERTIFICATE_CAP,
+        Command::Simulate { .. } => DEVICES_CAP,
         Command::Demo { .. } => CERTIFICATE_CAP,
     }
 }

@@ -11,10 +11,11 @@ ghost use Rattle.stack_core.specs.Reading.{bytes_of};
 ghost use Rattle.stack_core.specs.Working.{LoadedReply, ImageReply};
 
 use crate::analysing::{analyse, demo};
-use crate::judging::{Telling, check};
+use crate::judging::{check, report};
 use crate::loading::{Image, Listing, listed, loaded};
 use crate::reply::Reply;
 use crate::running::run;
+use crate::simulating::simulate;
 use commands::Command;
 use elf_load::Loaded;
 use reports::laws::same_names_give_same_reports;
@@ -38,17 +39,13 @@ fn on_flash(
 {
     let flash = &loaded.flash;
     match command {
-        Command::Check { .. } => check(alloc, flash, assumptions, Telling::Verdict, second),
+        Command::Check { .. } => check(alloc, flash, assumptions, second),
         Command::Analyse { steps, .. } => analyse(alloc, flash, assumptions, *steps),
         Command::Run { .. } => run(alloc, flash, assumptions, second),
         Command::Report { device, json, .. } => {
-            let telling = Telling::Report {
-                device: *device,
-                loaded,
-                json: *json,
-            };
-            check(alloc, flash, assumptions, telling, second)
+            report(alloc, assumptions, second, *device, loaded, *json)
         }
+        Command::Simulate { steps, .. } => simulate(alloc, flash, assumptions, *steps, second),
         Command::Demo { size } => demo(alloc, size),
     }
 }
@@ -107,6 +104,7 @@ pub fn work(
         Command::Analyse { .. } => on_image(alloc, command, firmware, second, list),
         Command::Run { .. } => on_image(alloc, command, firmware, second, list),
         Command::Report { .. } => on_image(alloc, command, firmware, second, list),
+        Command::Simulate { .. } => on_image(alloc, command, firmware, second, list),
         Command::Demo { size } => demo(alloc, size),
     }
 }

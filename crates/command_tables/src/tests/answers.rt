@@ -299,7 +299,7 @@ const INTERRUPT: &[u8] = &[
     0x03, 0xC0, 0, 0, 0x18, 0x95, 0, 0, 0xE8, 0x9A, 0x78, 0x94, 0xFF, 0xCF,
 ];
 
-const ROWS: [Row<'static>; 20] = [
+const ROWS: [Row<'static>; 22] = [
     Row {
         words: CHECK,
         firmware: LOOP,
@@ -470,6 +470,24 @@ const ROWS: [Row<'static>; 20] = [
         failing: (None, None),
         status: 9,
         printed: "schedule illegal step 0\n",
+    },
+    Row {
+        words: &["simulate", "FW", "SECOND", "--steps", "40"],
+        firmware: INTERRUPT,
+        second: "devices 1\nfill 00\ntimer 2 10 20\nend\n",
+        list: "",
+        failing: (None, None),
+        status: 0,
+        printed: "steps 40 depth 2 stop end\n",
+    },
+    Row {
+        words: &["simulate", "FW", "SECOND"],
+        firmware: LOOP,
+        second: "devices 1\nfill 00\ntimer 1 0 1\nend\n",
+        list: "",
+        failing: (None, None),
+        status: 14,
+        printed: "devices malformed at 18\n",
     },
     Row {
         words: RUN,

@@ -9,7 +9,7 @@ type Row = (&'static [&'static str], &'static str);
 
 const NONE: &str = "";
 
-const ROWS: [Row; 16] = [
+const ROWS: [Row; 20] = [
     (&["check", "a", "--assume", "c", "b"], "check"),
     (
         &["analyse", "--steps", "2", "a", "--assume", "c"],
@@ -17,6 +17,10 @@ const ROWS: [Row; 16] = [
     ),
     (&["run", "a", "b"], "run"),
     (&["report", "--json", "a", "--assume", "c", "b"], "report"),
+    (
+        &["simulate", "a", "--steps", "9", "b", "--assume", "c"],
+        "simulate",
+    ),
     (&["demo", "25"], "demo"),
     (&[], NONE),
     (&["help"], NONE),
@@ -28,6 +32,12 @@ const ROWS: [Row; 16] = [
     (&["report", "a", "b", "--json", "--json"], NONE),
     (&["analyse", "a", "--steps", "02"], NONE),
     (&["analyse", "-x"], NONE),
+    (&["simulate", "a"], NONE),
+    (&["simulate", "a", "b", "--json"], NONE),
+    (
+        &["simulate", "a", "b", "--steps", "18446744073709551616"],
+        NONE,
+    ),
     (&["demo", "2001"], NONE),
 ];
 
@@ -37,6 +47,7 @@ fn name_of(command: &Option<Command<'_>>) -> &'static str {
         Some(Command::Analyse { .. }) => "analyse",
         Some(Command::Run { .. }) => "run",
         Some(Command::Report { .. }) => "report",
+        Some(Command::Simulate { .. }) => "simulate",
         Some(Command::Demo { .. }) => "demo",
         None => NONE,
     }

@@ -1,5 +1,5 @@
 use Rattle.replies.proofs.One.{replies_are_one}
-use Rattle.replies.proofs.All.{replies_hold, replies_are_exact}
+use Rattle.replies.proofs.All.{DevicesAreExact, replies_hold, replies_are_exact}
 use Rattle.replies.proofs.laws.replies_are_claims.Goals as goal
 
 pub returns : goal.returns
@@ -15,8 +15,10 @@ returns c =
     let rounds = c.rounds_are_least.ensures in
     let solutions = c.solutions_are_valid.ensures in
     let runs = c.replays_are_runs.ensures.runs in
+    let devices : DevicesAreExact = record { read = c.reading_is_exact-2.ensures.read; spelled = c.reading_is_exact-2.ensures.spelled } in
+    let simulations = c.simulations_are_runs.ensures.bounded in
     record {
       one = replies_are_one texts.read verdicts answers chains;
-      holds = replies_hold raw.one raw.some narrowing lists texts.read texts.spelled verdicts bounds answers chains rounds solutions runs;
-      exact = replies_are_exact raw.one raw.some narrowing lists texts.read texts.spelled verdicts bounds answers chains rounds solutions runs;
+      holds = replies_hold raw.one raw.some narrowing lists texts.read texts.spelled verdicts bounds answers chains rounds solutions runs devices simulations;
+      exact = replies_are_exact raw.one raw.some narrowing lists texts.read texts.spelled verdicts bounds answers chains rounds solutions runs devices simulations;
     }

@@ -1,0 +1,14 @@
+-- A status, and the text that goes with it.
+use Rattle.std.specs.Prelude.{◌≡◌, ℕ, List, Option, Some, None}
+
+-- which status and which text are the answer
+abbrev pub Reply : Type 1
+Reply = ℕ → List ℕ → Type 0
+
+abbrev pub Says : ℕ → List ℕ → Reply
+Says s t status text = (status ≡ s) × (text ≡ t)
+
+-- this status with this text; a fault without a text is never answered
+abbrev pub Refuses : ℕ → Option (List ℕ) → Reply
+Refuses s None status text = ⊥
+Refuses s (Some t) status text = (status ≡ s) × (text ≡ t)
