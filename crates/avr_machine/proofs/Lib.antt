@@ -7,3 +7,5 @@ pub mod Remembering
 pub mod Moving
 pub mod Resetting
 pub mod Choosing
+pub mod Unheld
+pub mod Unpushed

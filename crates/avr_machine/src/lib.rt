@@ -5,6 +5,7 @@ mod applying;
 mod arithmetic;
 mod bits;
 mod effects;
+mod enables;
 mod flags;
 mod flow;
 mod live_bytes;

@@ -66,6 +66,7 @@ impl LiveBytes {
     }
 
     /// The first places are live no more.
+    #[inline(always)]
     pub fn clear(&mut self, count: usize)
         ensures { self.new ≡ replicate (min count (length self.old)) false ++ drop count self.old }
     {

@@ -72,6 +72,7 @@ impl Memory {
 
     /// Whether the byte at an address is live; none outside SRAM is.
     #[tactic(auto, unfolding(avr_model::specs::State::live_in))]
+    #[inline(always)]
     pub fn is_live(&self, address: u16) -> bool
         ensures { result ≡ is_live self.now address }
     {
@@ -119,6 +120,7 @@ impl Memory {
     }
 
     /// Addresses at most the stack pointer are live no more.
+    #[inline(always)]
     pub fn prune(&mut self, sp: u16)
         ensures { self.new ≡ record self.old { live = pruned sp self.old.live } }
     {
@@ -127,6 +129,7 @@ impl Memory {
 
     /// The address of the first write that goes onto a live byte.
     #[tactic(auto, unfolding(avr_model::specs::Step::live_write))]
+    #[inline(always)]
     pub fn live_write(&self, writes: &[Write]) -> Option<u16>
         ensures { result ≡ live_write self.now writes.now }
     {

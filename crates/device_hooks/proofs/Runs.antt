@@ -36,9 +36,9 @@ go_legal : (words : List ℕ) (A : List Entry) (m : State) (o : Option Instr) (b
 go_legal words A m None b1 b2 e = cc
 go_legal words A m (Some instr) b1 b2 e = inside_legal _ _ _ _ e
 
-take_legal : (m : State) (v : ℕ) (b : Bool) → b ≡ true → result_of (if b then take m (entering m v false) else Illegal) ≢ said.Illegal
-take_legal m v true is e = inside_legal _ _ _ _ e
-take_legal m v false is e = cc
+take_legal : (A : List Entry) (m : State) (v : ℕ) (b : Bool) → b ≡ true → result_of (if b then take A m (entering m v false) else Illegal) ≢ said.Illegal
+take_legal A m v true is e = inside_legal _ _ _ _ e
+take_legal A m v false is e = cc
 
 -- the source of the answer may be taken
 abbrev MayTake : State → Option Source → Type 0
@@ -47,7 +47,7 @@ MayTake m (Some s) = may_take m s.vector false ≡ true
 
 choice_legal : (words : List ℕ) (A : List Entry) (m : State) (o : Option Source) (p : Progress) → MayTake m o → result_of (step words A m (choice_at o p)) ≢ said.Illegal
 choice_legal words A m None p may = go_legal words A m (instruction_at words m.pc) p.input p.input
-choice_legal words A m (Some s) p may = take_legal m s.vector (may_take m s.vector false) may
+choice_legal words A m (Some s) p may = take_legal A m s.vector (may_take m s.vector false) may
 
 -- ---- what is picked may be taken
 
