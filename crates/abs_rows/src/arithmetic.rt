@@ -2,7 +2,7 @@
 //! here says so; all others have none. Source: own; bits and flags are those of `abs_alu`.
 
 ghost use Rattle.std.specs.Prelude.{◌≡◌, ◌==◌, ◌+◌, ◌<◌};
-ghost use Rattle.local_rules.specs.Registers.{sum_after, compare_after, difference_after, sub_after, sbc_after, logic_after, step_after, com_after, low_tag, borrow_tag, high_tag, or_nothing, less_than, less_alone, less_kept, carry_bit, unary_after, product_after, wide_after, down_by, pair_tags};
+ghost use Rattle.local_rules.specs.Registers.{sum_tagged, step_tagged, sum_after, compare_after, difference_after, sub_after, sbc_after, logic_after, step_after, com_after, low_tag, borrow_tag, high_tag, or_nothing, less_than, less_alone, less_kept, carry_bit, unary_after, product_after, wide_after, down_by, pair_tags};
 
 use crate::bits::CARRY;
 use crate::registers::{bits, pair, set, set_pair, value, with_bits, with_carry};
@@ -20,15 +20,29 @@ pub fn carry_bit(state: &AbsState) -> Tri
     state.flags.bits.bit(CARRY)
 }
 
+/// Register `d` plus a byte and a carry, with the tag of the result and that of the carry.
+pub(crate) fn sum_tagged(
+    state: &AbsState,
+    d: Register,
+    other: TriByte,
+    carry: Tri,
+    tags: (Tag, CarryTag),
+) -> Computed
+    ensures { result ≡ sum_tagged state.now d other carry tags.0 tags.1 }
+{
+    let (tag, says) = tags;
+    let (sum, flags) = abs_alu::add(bits(state, d), other, carry, state.flags.bits);
+    Computed {
+        registers: set(&state.registers, d, with_bits(tag, sum)),
+        flags: with_carry(flags, says),
+    }
+}
+
 /// Register `d` plus a byte and a carry.
 pub(crate) fn sum(state: &AbsState, d: Register, other: TriByte, carry: Tri) -> Computed
     ensures { result ≡ sum_after state.now d other carry }
 {
-    let (sum, flags) = abs_alu::add(bits(state, d), other, carry, state.flags.bits);
-    Computed {
-        registers: set(&state.registers, d, AbsByte::untagged(sum)),
-        flags: with_carry(flags, CarryTag::None),
-    }
+    sum_tagged(state, d, other, carry, (Tag::None, CarryTag::None))
 }
 
 /// A comparison: a difference that sets the flags alone, with what C says afterwards. With `keep_zero` Z is set only where it was.
@@ -65,7 +79,7 @@ fn less_alone(carry: CarryTag) -> CarryTag
 {
     match carry {
         CarryTag::Less(_, _) => carry,
-        CarryTag::None | CarryTag::Borrow(_, _) => CarryTag::None,
+        CarryTag::None | CarryTag::Borrow(_, _) | CarryTag::Sum(_, _) => CarryTag::None,
     }
 }
 
@@ -80,7 +94,7 @@ pub(crate) fn less_kept(a: Option<u8>, b: Option<u8>, carry: CarryTag) -> CarryT
 }
 
 /// A difference that goes to register `d`, with the tag of the result and that of the borrow.
-fn difference(
+pub(crate) fn difference(
     state: &AbsState,
     d: Register,
     operands: (TriByte, TriByte),
@@ -99,8 +113,8 @@ fn difference(
     }
 }
 
-// The tags of a low byte less a number, where it is known, and of the borrow.
-fn low_tags(tag: Tag, number: Option<u8>) -> (Tag, CarryTag)
+/// The tags of a low byte less a number, where it is known, and of the borrow.
+pub(crate) fn low_tags(tag: Tag, number: Option<u8>) -> (Tag, CarryTag)
     ensures tag { result.0 ≡ low_tag tag number }
     ensures borrow { result.1 ≡ borrow_tag tag number }
 {
@@ -190,15 +204,22 @@ pub(crate) fn logic(
     }
 }
 
+/// Register `d` plus 1 where `up`, else less 1, with the tag of the result.
+pub(crate) fn step_tagged(state: &AbsState, up: bool, d: Register, tag: Tag) -> Computed
+    ensures { result ≡ step_tagged state.now up d tag }
+{
+    let (result, flags) = abs_alu::step_one(up, bits(state, d), state.flags.bits);
+    Computed {
+        registers: set(&state.registers, d, with_bits(tag, result)),
+        flags: with_carry(flags, state.flags.carry),
+    }
+}
+
 /// Register `d` plus 1 where `up`, else less 1.
 pub(crate) fn step_one(state: &AbsState, up: bool, d: Register) -> Computed
     ensures { result ≡ step_after state.now up d }
 {
-    let (result, flags) = abs_alu::step_one(up, bits(state, d), state.flags.bits);
-    Computed {
-        registers: set(&state.registers, d, AbsByte::untagged(result)),
-        flags: with_carry(flags, state.flags.carry),
-    }
+    step_tagged(state, up, d, Tag::None)
 }
 
 /// Each bit of register `d` turned.

@@ -4,6 +4,8 @@ ghost use Rattle.std.specs.Prelude.{◌≡◌, ◌<◌, ◌*◌, ℕ, List, Bool
 ghost use Rattle.avr_model.specs.declared.device.Device.{Device};
 ghost use Rattle.avr_model.specs.declared.assumption.Entry.{Entry};
 ghost use Rattle.mask_states.specs.declared.keys.NodeKey.{NodeKey};
+ghost use Rattle.avr_model.specs.Assumptions.{is_frame};
+ghost use Rattle.local_rules.specs.FrameLines.{framed_binary, binary_at, immediate_at, unary_at};
 ghost use Rattle.local_rules.specs.Registers.{immediate_after, unary_after, binary_after, wide_after, going_by};
 ghost use Rattle.local_rules.specs.Local.{row_of};
 ghost use Rattle.abs_rows.specs.Sections.{other_row};
@@ -14,6 +16,7 @@ use crate::arithmetic::{
     step_one, sub, sum, wide,
 };
 use crate::bits::{bit_loaded, bit_stored, shift, swapped};
+use crate::frames::{framed_adc, framed_add, framed_step, framed_sub};
 use crate::registers::{bits, register_set, value};
 use crate::transfer::pair_copied;
 use abs_state::{AbsByte, AbsState};
@@ -22,7 +25,7 @@ use avr_model::operation::{Logic, Mul, Shift};
 use bit_domain::{Tri, TriByte};
 use local_rules::Computed;
 
-/// What is done to a register and a byte.
+// What is done to a register and a byte.
 fn immediate(state: &AbsState, op: ImmediateOp, d: Register, number: u8) -> Computed
     ensures { result ≡ immediate_after state.now op d number }
 {
@@ -38,7 +41,7 @@ fn immediate(state: &AbsState, op: ImmediateOp, d: Register, number: u8) -> Comp
     }
 }
 
-/// What is done to one register.
+// What is done to one register.
 fn unary(state: &AbsState, op: UnaryOp, d: Register) -> Computed
     ensures { result ≡ unary_after state.now op d }
 {
@@ -54,8 +57,8 @@ fn unary(state: &AbsState, op: UnaryOp, d: Register) -> Computed
     }
 }
 
-/// What is done to two registers: None of `cpse`, which skips.
-pub fn binary(state: &AbsState, op: BinaryOp, d: Register, r: Register) -> Option<Computed>
+// What is done to two registers: None of `cpse`, which skips.
+fn binary(state: &AbsState, op: BinaryOp, d: Register, r: Register) -> Option<Computed>
     ensures { result ≡ binary_after state.now op d r }
 {
     let (a, b) = (bits(state, d), bits(state, r));
@@ -84,6 +87,59 @@ pub fn binary(state: &AbsState, op: BinaryOp, d: Register, r: Register) -> Optio
     }
 }
 
+// What is done to two registers that are followed.
+fn framed_binary(state: &AbsState, op: BinaryOp, d: Register, r: Register) -> Option<Computed>
+    ensures { result ≡ framed_binary state.now op d r }
+{
+    match op {
+        BinaryOp::Add => Some(framed_add(state, d, r)),
+        BinaryOp::Adc => Some(framed_adc(state, d, r)),
+        BinaryOp::Sub => {
+            let b = bits(state, r);
+            Some(framed_sub(state, d, b, b.constant()))
+        }
+        _ => binary(state, op, d, r),
+    }
+}
+
+/// What is done to two registers, where `line` says whether the site has a `frame` line: None of `cpse`, which skips.
+pub fn binary_at(
+    state: &AbsState,
+    line: bool,
+    op: BinaryOp,
+    d: Register,
+    r: Register,
+) -> Option<Computed>
+    ensures { result ≡ binary_at line state.now op d r }
+{
+    if line && d != r {
+        framed_binary(state, op, d, r)
+    } else {
+        binary(state, op, d, r)
+    }
+}
+
+// What is done to a register and a byte, where `line` says whether the site has a `frame` line.
+fn immediate_at(state: &AbsState, line: bool, op: ImmediateOp, d: Register, number: u8) -> Computed
+    ensures { result ≡ immediate_at line state.now op d number }
+{
+    match op {
+        ImmediateOp::Subi if line => framed_sub(state, d, TriByte::of(number), Some(number)),
+        _ => immediate(state, op, d, number),
+    }
+}
+
+// What is done to one register, where `line` says whether the site has a `frame` line.
+fn unary_at(state: &AbsState, line: bool, op: UnaryOp, d: Register) -> Computed
+    ensures { result ≡ unary_at line state.now op d }
+{
+    match op {
+        UnaryOp::Inc if line => framed_step(state, true, d),
+        UnaryOp::Dec if line => framed_step(state, false, d),
+        _ => unary(state, op, d),
+    }
+}
+
 /// `adiw` where `up`, else `sbiw`.
 fn pair_and_number(state: &AbsState, up: bool, d: &HighPair, number: &Six) -> Computed
     ensures { result ≡ wide_after state.now up (2 * d.now) number.now }
@@ -91,10 +147,11 @@ fn pair_and_number(state: &AbsState, up: bool, d: &HighPair, number: &Six) -> Co
     wide(state, up, d.doubled(), number.get() as u8)
 }
 
-/// What an instruction computes that sets registers and flags alone: None of every other one, and of loads.
-pub fn computed_by(state: &AbsState, instr: &Instr) -> Option<Computed>
-    ensures value { result ≡ sections.computed_by state.now instr.now }
-    ensures row { (device : Device) (words : List ℕ) (A : List Entry) (scratch : Bool) (k : NodeKey) → row_of device words A scratch k state.now instr.now ≡ going_by device k state.now result (other_row device words A scratch k state.now instr.now) }
+/// What an instruction computes that sets registers and flags alone, where `line` says whether the site has a `frame` line: None of
+/// every other one, and of loads.
+pub fn computed_by(state: &AbsState, line: bool, instr: &Instr) -> Option<Computed>
+    ensures value { result ≡ sections.computed_by line state.now instr.now }
+    ensures row { (device : Device) (words : List ℕ) (A : List Entry) (scratch : Bool) (k : NodeKey) → line ≡ is_frame A k.pc → row_of device words A scratch k state.now instr.now ≡ going_by device k state.now result (other_row device words A scratch k state.now instr.now) }
 {
     match instr {
         Instr::Movw(d, r) => Some(pair_copied(state, d.doubled(), r.doubled())),
@@ -103,8 +160,14 @@ pub fn computed_by(state: &AbsState, instr: &Instr) -> Option<Computed>
         Instr::Fmul(d, r) => Some(product(state, Mul::Fmul, d.widened(), r.widened())),
         Instr::Fmuls(d, r) => Some(product(state, Mul::Fmuls, d.widened(), r.widened())),
         Instr::Fmulsu(d, r) => Some(product(state, Mul::Fmulsu, d.widened(), r.widened())),
-        Instr::Immediate(op, d, number) => Some(immediate(state, *op, d.widened(), *number)),
-        Instr::Unary(op, d) => Some(unary(state, *op, *d)),
+        Instr::Immediate(op, d, number) => Some(immediate_at(
+            state,
+            line,
+            *op,
+            d.widened(),
+            *number,
+        )),
+        Instr::Unary(op, d) => Some(unary_at(state, line, *op, *d)),
         Instr::Adiw(d, number) => Some(pair_and_number(state, true, d, number)),
         Instr::Sbiw(d, number) => Some(pair_and_number(state, false, d, number)),
         Instr::Bld(d, bit) => Some(bit_loaded(state, *d, *bit)),

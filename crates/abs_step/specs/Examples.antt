@@ -4,7 +4,7 @@ use Rattle.avr_model.specs.declared.assumption.Entry.TheVariants.{Jump, Store}
 use Rattle.avr_model.specs.Devices.{device_of}
 use Rattle.avr_model.specs.Bits.{any_below, all_below}
 use Rattle.avr_model.specs.Sites.{is_scratch, is_fixed, path_behind, is_loaded_behind, table_site, ijmp_from}
-use Rattle.avr_model.specs.Assumptions.{jump_line, store_line, is_proved}
+use Rattle.avr_model.specs.Assumptions.{jump_line, store_line, is_proved, is_freed, is_never, is_frame, is_fixed_site}
 use Rattle.avr_model.specs.Table.{decoded}
 use Rattle.avr_model.specs.Vectors.{row_of}
 use Rattle.bit_domain.specs.Packed.{packed}
@@ -34,7 +34,7 @@ use Rattle.local_rules.specs.Registers.{with_bits}
 use Rattle.local_rules.specs.Reads.{read_at}
 use Rattle.local_rules.specs.Writes.{written_at}
 use Rattle.local_rules.specs.Flow.{site}
-use Rattle.local_rules.specs.Local.{raw}
+use Rattle.local_rules.specs.Local.{raw, may_come}
 
 -- a firmware of one or two words, and erased words behind them
 abbrev firmware : ℕ → ℕ → List ℕ
@@ -78,14 +78,14 @@ faults r = r.faults
 
 -- `subi r28, 32` of the low byte of base - 5 leaves its borrow, which `sbci r29, 1` takes
 leaves_its_borrow : carries (raw (firmware 0x52C0 0xFFFF) [] (in_call (Closed 0)) (from_base 5 5)) ≡ carry.Borrow 5 32 ∷ []
-unfolding raw table_site ijmp_from is_scratch any_below all_below decoded device_of
+unfolding raw table_site ijmp_from is_scratch any_below all_below decoded device_of is_frame
 leaves_its_borrow = refl
 
 abbrev borrowing : AbsState
 borrowing = record (from_base 37 5) { flags = record root.flags { carry = carry.Borrow 5 32 } }
 
 takes_the_borrow : tags 29 (raw (firmware 0x40D1 0xFFFF) [] (in_call (Closed 0)) borrowing) ≡ tag.SpHi 293 ∷ []
-unfolding raw table_site ijmp_from is_scratch any_below all_below decoded device_of
+unfolding raw table_site ijmp_from is_scratch any_below all_below decoded device_of is_frame
 takes_the_borrow = refl
 
 -- `out 0x3f, r29` of the flags of the entry restores them
@@ -103,7 +103,7 @@ reads_a_slot = refl
 
 -- `st X, r16` of an unknown byte, X at 0x003D, where 0x003D and 0x005D are listed: it changes nothing, or the two enable bits
 stores_at_listed : enables (raw (firmware 0x930C 0xFFFF) (Store 0 (0x3D ∷ 0x5D ∷ []) ∷ []) (in_call (Closed 0)) (with_pair 26 (known 0x3D) (known 0))) ≡ 0 ∷ 0 ∷ 1 ∷ 2 ∷ 3 ∷ []
-unfolding raw table_site ijmp_from is_scratch is_fixed path_behind is_loaded_behind is_proved store_line any_below all_below decoded device_of written_at numbers_of enable_tri row_of packed permits_below
+unfolding raw table_site ijmp_from is_scratch is_fixed path_behind is_loaded_behind is_proved is_freed is_fixed_site store_line any_below all_below decoded device_of written_at numbers_of enable_tri row_of packed permits_below
 stores_at_listed = refl
 
 -- `ijmp` with Z at 5 goes to the one word of the line that Z permits
@@ -126,7 +126,7 @@ returns_from_interrupt = refl
 
 -- an interrupt may come while the stack pointer is half written
 hangs : faults (raw (firmware 0x0000 0xFFFF) [] (record (in_call (Open 0 (Tagged 2))) { masks = 32768 }) root) ≡ UntrackedSp 0 ∷ []
-unfolding raw table_site ijmp_from is_scratch any_below all_below decoded device_of
+unfolding raw table_site ijmp_from is_scratch any_below all_below decoded device_of may_come is_never
 hangs = refl
 
 -- of two depths the lower one is told

@@ -24,7 +24,7 @@ fn ends(carry: CarryTag, instr: &Instr) -> bool
 {
     match carry {
         CarryTag::Less(r, _) => sets(instr, u16::from(r)),
-        CarryTag::None | CarryTag::Borrow(_, _) => false,
+        CarryTag::None | CarryTag::Borrow(_, _) | CarryTag::Sum(_, _) => false,
     }
 }
 

@@ -87,7 +87,7 @@ pub fn local(
         state,
     };
     let found = in_sram(&site);
-    if is_hung(key) {
+    if is_hung(site.device, assumptions, key) {
         return Err(stopped(&found, NodeFault::UntrackedSp(key.pc)));
     }
     found

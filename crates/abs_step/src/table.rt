@@ -1,6 +1,7 @@
 //! The whole table: where an instruction leads, and what leaves its instance.
 
 ghost use Rattle.std.specs.Prelude.{◌≡◌, ◌<◌};
+ghost use Rattle.avr_model.specs.Assumptions.{is_frame};
 ghost use Rattle.avr_model.specs.Image.{WORDS};
 ghost use Rattle.abs_rows.specs.Sections as sections;
 ghost use Rattle.local_rules.specs.Local as rows;
@@ -13,7 +14,7 @@ use crate::flow::{
 };
 use abs_reads::flow::{are_equal, further, port, port_bit, register_bit};
 use abs_reads::pointers::step_before;
-use abs_rows::rows::{binary, computed_by};
+use abs_rows::rows::{binary_at, computed_by};
 use abs_rows::transfer::{base_register, pair_moved, pointer_moved, pointer_register};
 use abs_successors::bits::{bit_row, flag_row};
 use abs_successors::data_transfer::{known_write, load_row, lpm_row, read_row, store_row};
@@ -144,9 +145,10 @@ fn binary_row(
     r: Register,
 ) -> Result<(), NodeFault>
     requires word { site.now.key.now.pc < WORDS }
-    ensures { Adds nodes.old nodes.new result (rows.binary_row site.now.device site.now.flash.now site.now.key.now site.now.state.now op d r) }
+    ensures { Adds nodes.old nodes.new result (rows.binary_row site.now.device site.now.flash.now (is_frame site.now.assumptions.now site.now.key.now.pc) site.now.key.now site.now.state.now op d r) }
 {
-    match binary(site.state, op, d, r) {
+    let line = site.assumptions.frame(site.key.pc);
+    match binary_at(site.state, line, op, d, r) {
         Some(set) => setting(nodes, site, &set.registers, set.flags),
         None => skipping(nodes, site, are_equal(site.state, d, r)),
     }
@@ -181,7 +183,8 @@ pub(crate) fn row(
     requires word { site.now.key.now.pc < WORDS }
     ensures { Leads nodes.old nodes.new result (rows.row_of site.now.device site.now.flash.now site.now.assumptions.now scratch site.now.key.now site.now.state.now instr.now) }
 {
-    match computed_by(site.state, instr) {
+    let line = site.assumptions.frame(site.key.pc);
+    match computed_by(site.state, line, instr) {
         Some(set) => {
             let added = setting(nodes, site, &set.registers, set.flags);
             staying(site.alloc, added)

@@ -41,7 +41,7 @@ fn registers_where(state: &AbsState, carry: bool) -> Option<[AbsByte; 32]>
 {
     match state.flags.carry {
         CarryTag::Less(r, number) => cut(&state.registers, usize::from(r), carry, number),
-        CarryTag::None | CarryTag::Borrow(_, _) => Some(state.registers),
+        CarryTag::None | CarryTag::Borrow(_, _) | CarryTag::Sum(_, _) => Some(state.registers),
     }
 }
 

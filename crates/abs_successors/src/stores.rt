@@ -167,7 +167,7 @@ fn forgotten(carry: CarryTag, d: Register) -> CarryTag
                 carry
             }
         }
-        CarryTag::None | CarryTag::Borrow(_, _) => carry,
+        CarryTag::None | CarryTag::Borrow(_, _) | CarryTag::Sum(_, _) => carry,
     }
 }
 

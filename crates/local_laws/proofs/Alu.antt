@@ -43,7 +43,7 @@ use Rattle.abs_state.specs.Stands.{ByteStands, RegistersStand}
 use Rattle.abs_state.proofs.AllLaws.{bits_make_values}
 use Rattle.mask_states.specs.declared.keys.NodeKey.{NodeKey}
 use Rattle.local_rules.specs.Raw.{setting as node_setting}
-use Rattle.local_rules.specs.Registers.{value, bits, carry_bit, with_bits, set as node_set, set_pair as node_pair, with_carry, but_carry, low_tag, borrow_tag, high_tag, swapped, product_row, down_by, pair_tags, pair_moved, wide_row, going_with, sum_after, compare_after, difference_after, sub_after, sbc_after, logic_after, step_after, shift_after, com_after}
+use Rattle.local_rules.specs.Registers.{value, bits, carry_bit, with_bits, set as node_set, set_pair as node_pair, with_carry, but_carry, low_tag, borrow_tag, high_tag, swapped, product_row, down_by, pair_tags, pair_moved, wide_row, going_with, sum_tagged, sum_after, compare_after, difference_after, sub_after, sbc_after, logic_after, step_tagged, step_after, shift_after, com_after}
 use Rattle.local_rules.specs.Cover.{InFrame, Follows}
 use Rattle.local_laws.proofs.Bits.{with_flags_i, with_flags_carry, with_carry_and_zero_i, permits_flag, constant_is, has_known}
 use Rattle.local_laws.proofs.Bytes.{byte_in_list}
@@ -157,12 +157,17 @@ module _ (m : State) (o : Origin) (k : NodeKey) (s : AbsState) (at : InFrame m o
 
     -- ---- sums and differences
 
+    pub sum_tagged_covered : (d y : ℕ) (b : TriByte) (c : Bool) (t : Tri) (v : Tag) (w : CarryTag) → y < 256 → Has b y → Permits t (from_bool c)
+        → TagHolds o v (sum_of (register m d) y c % 256) → CarryHolds o w (nat_le 256 (sum_of (register m d) y c)) → NamesNone w
+        → Follows m o k guarded b1 b2 (sum_effect m d (register m d) y c) (going_with m.device k s (sum_tagged s d b t v w))
+    sum_tagged_covered d y b c t v w small has may tagged carries none =
+        answers d (sum_of (register m d) y c % 256) (flags_of_sum (register m d) y c m.sreg) (abs_add (bits s d) b t s.flags.bits) v w
+        (all_sums_cover.sums (bits s d) b s.flags.bits t (register m d) y m.sreg c (register_byte d) small (register_bits d) has flag_bits may)
+        (omega arith) (with_flags_i _ _ _ _ _ m.sreg) tagged (subst (CarryHolds o w) (sym (with_flags_carry _ _ _ _ _ m.sreg)) carries) none
+
     pub sum_covered : (d y : ℕ) (b : TriByte) (c : Bool) (t : Tri) → y < 256 → Has b y → Permits t (from_bool c)
         → Follows m o k guarded b1 b2 (sum_effect m d (register m d) y c) (going_with m.device k s (sum_after s d b t))
-    sum_covered d y b c t small has may =
-        answers d (sum_of (register m d) y c % 256) (flags_of_sum (register m d) y c m.sreg) (abs_add (bits s d) b t s.flags.bits) tag.None carry_tag.None
-        (all_sums_cover.sums (bits s d) b s.flags.bits t (register m d) y m.sreg c (register_byte d) small (register_bits d) has flag_bits may)
-        (omega arith) (with_flags_i _ _ _ _ _ m.sreg) tt tt tt
+    sum_covered d y b c t small has may = sum_tagged_covered d y b c t tag.None carry_tag.None small has may tt tt tt
 
     difference_covers : (x y : ℕ) (a b : TriByte) (c : Bool) (t : Tri) (keep_zero : Bool) → x < 256 → y < 256 → Has a x → Has b y → Permits t (from_bool c)
         → Covers (abs_sub a b t keep_zero s.flags.bits) (difference_of x y c) (flags_of_difference x y c keep_zero m.sreg)
@@ -193,7 +198,7 @@ module _ (m : State) (o : Origin) (k : NodeKey) (s : AbsState) (at : InFrame m o
         subst (λ n. TagHolds o (low_tag (value s d).tag (Some n)) (difference_of (register m d) y false)) (is l refl)
         (differences_are_true.low o (value s d).tag (register m d) y (register_byte d) small (register_stands m o k s at d).tag)
 
-    borrow_holds : (d y : ℕ) (number : Option ℕ) → y < 256 → ((l : ℕ) → number ≡ Some l → y ≡ l) → CarryHolds o (borrow_tag (value s d).tag number) (nat_lt (register m d) y)
+    pub borrow_holds : (d y : ℕ) (number : Option ℕ) → y < 256 → ((l : ℕ) → number ≡ Some l → y ≡ l) → CarryHolds o (borrow_tag (value s d).tag number) (nat_lt (register m d) y)
     borrow_holds d y None small is = tt
     borrow_holds d y (Some l) small is =
         subst (λ n. CarryHolds o (borrow_tag (value s d).tag (Some n)) (nat_lt (register m d) y)) (is l refl)
@@ -210,7 +215,7 @@ module _ (m : State) (o : Origin) (k : NodeKey) (s : AbsState) (at : InFrame m o
     pub carry_may : Permits (carry_bit s) (from_bool (carry m))
     carry_may = permits_flag s.flags.bits m.sreg 0 flag_bits
 
-    no_carry : (y : ℕ) → y + 0 ≡ y
+    pub no_carry : (y : ℕ) → y + 0 ≡ y
     no_carry y = omega arith
 
     pub sub_covered : (d y : ℕ) (b : TriByte) (number : Option ℕ) → y < 256 → Has b y → ((l : ℕ) → number ≡ Some l → y ≡ l)
@@ -283,12 +288,17 @@ module _ (m : State) (o : Origin) (k : NodeKey) (s : AbsState) (at : InFrame m o
         subst (λ n. Follows m o k guarded b1 b2 (setting m (set d n) (flags_of_result (carry m) false n m.sreg)) (going_with m.device k s (logic_after s logic.Eor d (byte_known 0) (byte_known 0) false))) none
         (logic_covered logic.Eor d 0 0 (byte_known 0) (byte_known 0) (omega arith) (omega arith) (has_known 0 (omega arith)) (has_known 0 (omega arith)) spare)
 
-    pub step_covered : (up : Bool) (d : ℕ) → Spares s.flags.carry d → Follows m o k guarded b1 b2 (step_effect m up d) (going_with m.device k s (step_after s up d))
-    step_covered up d spare =
-        keeps d (step_of up (register m d)) (flags_of_result (carry m) (step_overflows up (step_of up (register m d))) (step_of up (register m d)) m.sreg)
-        (abs_step_one up (bits s d) s.flags.bits)
-        (all_bitwise_cover.steps up (bits s d) s.flags.bits (register m d) m.sreg (register_byte d) (register_bits d) flag_bits) (step_small up (register m d))
+    pub step_tagged_covered : (up : Bool) (d : ℕ) (v : Tag) → TagHolds o v (step_of up (register m d)) → Spares s.flags.carry d
+        → Follows m o k guarded b1 b2 (step_effect m up d) (going_with m.device k s (step_tagged s up d v))
+    step_tagged_covered up d v tagged spare =
+        let answer = abs_step_one up (bits s d) s.flags.bits in
+        let covers = all_bitwise_cover.steps up (bits s d) s.flags.bits (register m d) m.sreg (register_byte d) (register_bits d) flag_bits in
+        kept d (step_of up (register m d)) (flags_of_result (carry m) (step_overflows up (step_of up (register m d))) (step_of up (register m d)) m.sreg)
+        (with_bits v answer.0) answer.1 (bits_make_values.stands o v answer.0 (step_of up (register m d)) (step_small up (register m d)) tagged covers.0) covers.1
         (result_i (carry m) _ (step_of up (register m d)) m.sreg) (result_carry (carry m) _ (step_of up (register m d)) m.sreg) spare
+
+    pub step_covered : (up : Bool) (d : ℕ) → Spares s.flags.carry d → Follows m o k guarded b1 b2 (step_effect m up d) (going_with m.device k s (step_after s up d))
+    step_covered up d spare = step_tagged_covered up d tag.None tt spare
 
     pub shift_covered : (op : Shift) (d : ℕ) → Follows m o k guarded b1 b2 (shift_effect m op d) (going_with m.device k s (shift_after s op d))
     shift_covered op d =

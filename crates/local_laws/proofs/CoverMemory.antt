@@ -1,5 +1,5 @@
 -- The rows that read or write data space or flash cover each step of the machine.
-use Rattle.std.proofs.Common.{◌≡◌, refl, sym, ◌∙◌, subst, ℕ, ◌<◌, Bool, true, false, not, ◌||◌, nat_lt, if◌then◌else◌, List, [], ◌∷◌, ◌++◌, length, Option, Some, None, slice_set, arith, length-set, ◌*◌}
+use Rattle.std.proofs.Common.{◌≡◌, refl, sym, ◌∙◌, subst, ℕ, ◌<◌, Bool, true, false, not, nat_lt, if◌then◌else◌, List, [], ◌∷◌, ◌++◌, length, Option, Some, None, slice_set, arith, length-set, ◌*◌}
 use Rattle.std.specs.Int.{from_bool}
 use Rattle.avr_model.specs.Devices.{words_of, device_of, wrapped}
 use Rattle.avr_model.specs.declared.assumption.Entry.{Entry}
@@ -10,10 +10,10 @@ use Rattle.avr_model.specs.declared.instruction.Pointer.{Pointer}
 use Rattle.avr_model.specs.declared.instruction.Pointer.TheVariants as pointer
 use Rattle.avr_model.specs.declared.effect.Write.{Write}
 use Rattle.avr_model.specs.declared.effect.Effect.{Effect}
-use Rattle.avr_model.specs.Assumptions.{store_line, is_proved}
+use Rattle.avr_model.specs.Assumptions.{store_line, is_fixed_site}
 use Rattle.avr_model.specs.Bits.{with_bit}
 use Rattle.avr_model.specs.Image.{byte_at}
-use Rattle.avr_model.specs.Sites.{is_fixed, base_register, pointer_register}
+use Rattle.avr_model.specs.Sites.{base_register, pointer_register}
 use Rattle.avr_model.specs.Sreg.{flag}
 use Rattle.avr_model.specs.Written.{moved_pair, written as registers_of}
 use Rattle.avr_model.specs.State.{State, register, pair, read, plus16}
@@ -88,11 +88,11 @@ at_unfixed true x e is = absurd (cc)
 at_unfixed false x e is = e
 
 site_unflagged : (words : List ℕ) (A : List Entry) (stores : List Write) (pc pc' : ℕ) → pc ≡ pc'
-    → (if not (is_fixed words pc || is_proved A pc) then unlisted (store_line A pc) stores else None) ≡ None
-    → (is_fixed words pc' || is_proved A pc') ≡ false → unlisted (store_line A pc') stores ≡ None
+    → (if not (is_fixed_site words A pc) then unlisted (store_line A pc) stores else None) ≡ None
+    → is_fixed_site words A pc' ≡ false → unlisted (store_line A pc') stores ≡ None
 site_unflagged words A stores pc pc' e none unfixed =
-    at_unfixed (is_fixed words pc' || is_proved A pc') (unlisted (store_line A pc') stores)
-    (subst (λ x. (if not (is_fixed words x || is_proved A x) then unlisted (store_line A x) stores else None) ≡ None) e none) unfixed
+    at_unfixed (is_fixed_site words A pc') (unlisted (store_line A pc') stores)
+    (subst (λ x. (if not (is_fixed_site words A x) then unlisted (store_line A x) stores else None) ≡ None) e none) unfixed
 
 -- ---- flash
 
@@ -113,12 +113,12 @@ bit_on false = refl
 
 -- what isn't flagged of the stores that go through a pointer
 std_unflagged : (words : List ℕ) (A : List Entry) (pc : ℕ) (b : Base) (q r : ℕ) (e : Effect) → protected_write words A pc (i.Std b q r) e ≡ None
-    → (if not (is_fixed words pc || is_proved A pc) then unlisted (store_line A pc) e.stores else None) ≡ None
+    → (if not (is_fixed_site words A pc) then unlisted (store_line A pc) e.stores else None) ≡ None
 unfolding protected_write
 std_unflagged words A pc b q r e h = h
 
 st_unflagged : (words : List ℕ) (A : List Entry) (pc : ℕ) (p : Pointer) (r : ℕ) (e : Effect) → protected_write words A pc (i.St p r) e ≡ None
-    → (if not (is_fixed words pc || is_proved A pc) then unlisted (store_line A pc) e.stores else None) ≡ None
+    → (if not (is_fixed_site words A pc) then unlisted (store_line A pc) e.stores else None) ≡ None
 unfolding protected_write
 st_unflagged words A pc p r e h = h
 
@@ -205,7 +205,7 @@ module _ (words : List ℕ) (A : List Entry) (m : State) (o : Origin) (k : NodeK
         (has_with (read_at m.device k s a).bits (read m a 0) b (if on then One else Zero) on (read_stands m o k s at a 0 (omega arith)).bits (bit_on on))) clean
 
     std_covered : (r up t : ℕ)
-        → ((is_fixed words k.pc || is_proved A k.pc) ≡ false → unlisted (store_line A k.pc) (set (plus16 (pair m r) up) (register m t)) ≡ None)
+        → (is_fixed_site words A k.pc ≡ false → unlisted (store_line A k.pc) (set (plus16 (pair m r) up) (register m t)) ≡ None)
         → (pointer_write m.device words A s r up (pointed s r up) k.pc (next m.device k) s (value s t)).faults ≡ []
         → Follows m o k (not scratch) b1 b2 (stored m on_next [] false (plus16 (pair m r) up) (register m t))
         (pointer_write m.device words A s r up (pointed s r up) k.pc (next m.device k) s (value s t))
@@ -215,7 +215,7 @@ module _ (words : List ℕ) (A : List Entry) (m : State) (o : Origin) (k : NodeK
         (value s t) (register_stands m o k s at t) at.node.formed.count_registers at.machine.count_registers members words A r up unflagged clean)
 
     st_covered : (p : Pointer) (t : ℕ) → SparesAll s.flags.carry (moved_pair p)
-        → ((is_fixed words k.pc || is_proved A k.pc) ≡ false → unlisted (store_line A k.pc) (set (address_of p (pair m (pointer_register p))) (register m t)) ≡ None)
+        → (is_fixed_site words A k.pc ≡ false → unlisted (store_line A k.pc) (set (address_of p (pair m (pointer_register p))) (register m t)) ≡ None)
         → (store_row m.device words A k s p t).faults ≡ []
         → Follows m o k (not scratch) b1 b2 (stored m on_next (moved p (pair m (pointer_register p))) false (address_of p (pair m (pointer_register p))) (register m t))
         (store_row m.device words A k s p t)
@@ -226,7 +226,7 @@ module _ (words : List ℕ) (A : List Entry) (m : State) (o : Origin) (k : NodeK
         (pointer_written m o k s at (not scratch) on_next (node_further m.device k 1) (goes_further m o k s at (not scratch) b1 b2 1) (moved p (pair m (pointer_register p))) (pointer_moved p s) (pointer_stands m o k s at p)
         (less_moved m.registers s.flags.carry (flag m.sreg 0) p (pair m (pointer_register p)) spares at.stands.less) (register m t) (register_byte m o k s at t) (value s t) (register_stands m o k s at t) (count_pointer s p ∙ at.node.formed.count_registers)
         (count_set m.registers (moved p (pair m (pointer_register p))) ∙ at.machine.count_registers) members words A (pointer_register p) (step_before p)
-        (subst (λ a. (is_fixed words k.pc || is_proved A k.pc) ≡ false → unlisted (store_line A k.pc) (set a (register m t)) ≡ None) (sym is) unflagged) clean))
+        (subst (λ a. is_fixed_site words A k.pc ≡ false → unlisted (store_line A k.pc) (set a (register m t)) ≡ None) (sym is) unflagged) clean))
 
   -- ---- the rows
 

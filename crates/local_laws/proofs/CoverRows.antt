@@ -1,5 +1,5 @@
 -- Each row that does not read or write data space is covered.
-use Rattle.std.proofs.Common.{◌≡◌, refl, ap, ℕ, ◌*◌, ◌<◌, ◌==◌, Bool, true, false, not, List, [], ◌∷◌, Some, None, arith}
+use Rattle.std.proofs.Common.{◌≡◌, refl, ap, ℕ, ◌*◌, ◌<◌, ◌==◌, Bool, true, false, not, if◌then◌else◌, List, [], ◌∷◌, Some, None, arith}
 use Rattle.std.specs.Prelude.{⊤}
 use Rattle.std.specs.Int.{from_bool}
 use Rattle.std.specs.Int.Bits.{or_self, and_self}
@@ -17,7 +17,7 @@ use Rattle.avr_model.specs.declared.instruction.UnaryOp.TheVariants as unary
 use Rattle.avr_model.specs.declared.operation.Logic.TheVariants as logic
 use Rattle.avr_model.specs.declared.operation.Shift.TheVariants as shift
 use Rattle.avr_model.specs.declared.operation.Mul.TheVariants as product
-use Rattle.avr_model.specs.Assumptions.{jump_line}
+use Rattle.avr_model.specs.Assumptions.{jump_line, is_frame}
 use Rattle.avr_model.specs.Sreg.{flag}
 use Rattle.avr_model.specs.Written.{set_by_binary, set_by_immediate, written}
 use Rattle.avr_model.specs.Text.{far}
@@ -37,12 +37,15 @@ use Rattle.abs_state.specs.Values.{known}
 use Rattle.abs_state.specs.Formed.{CarryIsUntagged}
 use Rattle.abs_state.proofs.AllLaws.{bits_make_values}
 use Rattle.mask_states.specs.declared.keys.NodeKey.{NodeKey}
-use Rattle.local_rules.specs.Raw.{further}
-use Rattle.local_rules.specs.Registers.{value, bits, carry_bit, less_than, less_kept, immediate_row, unary_row}
-use Rattle.local_rules.specs.Local.{binary_row, row_of}
+use Rattle.local_rules.specs.Raw.{Raw, further}
+use Rattle.local_rules.specs.Registers.{value, bits, carry_bit, less_than, less_kept, going_by, binary_after}
+use Rattle.local_rules.specs.FrameLines.{is_followed, framed_binary}
+use Rattle.local_rules.specs.Flow.{skipping as node_skipping}
+use Rattle.local_rules.specs.Local.{binary_row, immediate_row, unary_row, row_of}
 use Rattle.local_rules.specs.Cover.{InFrame, IsUnflagged, Follows}
 use Rattle.local_laws.proofs.Bits.{has_known, constant_is, permits_flag}
 use Rattle.local_laws.proofs.Frame.{first, register_stands}
+use Rattle.local_laws.proofs.FrameCover.{framed_add_covered, framed_adc_covered, framed_sub_covered, framed_step_covered}
 use Rattle.local_laws.proofs.Alu.{register_byte, register_bits, moves, carry_may, sum_covered, compare_covered, difference_covered, sub_covered, sbc_covered, sub_by, logic_covered, kept_covered, eor_by, step_covered, shift_covered, com_covered, swap_covered, product_covered, movw_covered, wide_covered}
 use Rattle.local_laws.proofs.Less.{Spares, SparesAll, compared, than_untagged, than_holds, alone_untagged, kept_is, kept_holds}
 use Rattle.local_laws.proofs.FlagRows.{flag_covered, bld_covered, bst_covered}
@@ -78,7 +81,7 @@ module _ (m : State) (o : Origin) (k : NodeKey) (s : AbsState) (at : InFrame m o
   number_is n l e = cc
 
   module _ (guarded : Bool) where
-    immediate_covered : (op : ImmediateOp) (d n : ℕ) → SparesAll s.flags.carry (set_by_immediate op d) → n < 256 → Follows m o k guarded b1 b2 (immediate_effect m op d n) (immediate_row m.device k s op d n)
+    immediate_covered : (op : ImmediateOp) (d n : ℕ) → SparesAll s.flags.carry (set_by_immediate op d) → n < 256 → Follows m o k guarded b1 b2 (immediate_effect m op d n) (immediate_row m.device false k s op d n)
     immediate_covered immediate.Cpi d n spares small =
         compare_covered m o k s at guarded b1 b2 (register m d) n (bits s d) (byte_known n) false Zero false (carry_tag.Less d n) (register_byte m o k s at d) small (register_bits m o k s at d)
         (has_known n small) refl tt (compared m.registers d n n refl)
@@ -90,7 +93,7 @@ module _ (m : State) (o : Origin) (k : NodeKey) (s : AbsState) (at : InFrame m o
         logic_covered m o k s at guarded b1 b2 logic.And d (register m d) n (bits s d) (byte_known n) (register_byte m o k s at d) small (register_bits m o k s at d) (has_known n small) spares.0
     immediate_covered immediate.Ldi d n spares small = moves m o k s at guarded b1 b2 d n (known n) (bits_make_values.stands o tag.None (byte_known n) n small tt (has_known n small)) spares.0
 
-    unary_covered : (op : UnaryOp) (d : ℕ) → Spares s.flags.carry d → Follows m o k guarded b1 b2 (unary_effect m op d) (unary_row m.device k s op d)
+    unary_covered : (op : UnaryOp) (d : ℕ) → Spares s.flags.carry d → Follows m o k guarded b1 b2 (unary_effect m op d) (unary_row m.device false k s op d)
     unary_covered unary.Com d spare = com_covered m o k s at guarded b1 b2 d
     unary_covered unary.Neg d spare =
         difference_covered m o k s at guarded b1 b2 d 0 (register m d) (byte_known 0) (bits s d) false Zero false tag.None carry_tag.None (omega arith) (register_byte m o k s at d)
@@ -102,7 +105,7 @@ module _ (m : State) (o : Origin) (k : NodeKey) (s : AbsState) (at : InFrame m o
     unary_covered unary.Ror d spare = shift_covered m o k s at guarded b1 b2 shift.Ror d
     unary_covered unary.Dec d spare = step_covered m o k s at guarded b1 b2 false d spare
 
-    binary_covered : (words : List ℕ) (op : BinaryOp) (d r : ℕ) → SparesAll s.flags.carry (set_by_binary op d) → Follows m o k guarded b1 b2 (binary_effect words m op d r) (binary_row m.device words k s op d r)
+    binary_covered : (words : List ℕ) (op : BinaryOp) (d r : ℕ) → SparesAll s.flags.carry (set_by_binary op d) → Follows m o k guarded b1 b2 (binary_effect words m op d r) (binary_row m.device words false k s op d r)
     binary_covered words binary.Cpc d r spares =
         compare_covered m o k s at guarded b1 b2 (register m d) (register m r) (bits s d) (bits s r) (carry m) (carry_bit s) true
         (less_kept (byte_constant (bits s d)) (byte_constant (bits s r)) s.flags.carry) (register_byte m o k s at d) (register_byte m o k s at r)
@@ -127,6 +130,54 @@ module _ (m : State) (o : Origin) (k : NodeKey) (s : AbsState) (at : InFrame m o
     binary_covered words binary.Or d r spares = kept_covered m o k s at guarded b1 b2 logic.Or or_self d r spares.0
     binary_covered words binary.Mov d r spares = moves m o k s at guarded b1 b2 d (register m r) (value s r) (register_stands m o k s at r) spares.0
     binary_covered words binary.Mul d r spares = product_covered m o k s at guarded b1 b2 product.Mul d r
+
+    -- ---- at a site with a `frame` line
+
+    framed_immediate_covered : (op : ImmediateOp) (d n : ℕ) → SparesAll s.flags.carry (set_by_immediate op d) → n < 256 → Follows m o k guarded b1 b2 (immediate_effect m op d n) (immediate_row m.device true k s op d n)
+    framed_immediate_covered immediate.Cpi d n spares small = immediate_covered immediate.Cpi d n spares small
+    framed_immediate_covered immediate.Sbci d n spares small = immediate_covered immediate.Sbci d n spares small
+    framed_immediate_covered immediate.Subi d n spares small = framed_sub_covered m o k s at guarded b1 b2 d n (byte_known n) (Some n) small (has_known n small) (number_is n)
+    framed_immediate_covered immediate.Ori d n spares small = immediate_covered immediate.Ori d n spares small
+    framed_immediate_covered immediate.Andi d n spares small = immediate_covered immediate.Andi d n spares small
+    framed_immediate_covered immediate.Ldi d n spares small = immediate_covered immediate.Ldi d n spares small
+
+    immediate_line_covered : (line : Bool) (op : ImmediateOp) (d n : ℕ) → SparesAll s.flags.carry (set_by_immediate op d) → n < 256 → Follows m o k guarded b1 b2 (immediate_effect m op d n) (immediate_row m.device line k s op d n)
+    immediate_line_covered true op d n spares small = framed_immediate_covered op d n spares small
+    immediate_line_covered false op d n spares small = immediate_covered op d n spares small
+
+    framed_unary_covered : (op : UnaryOp) (d : ℕ) → Spares s.flags.carry d → Follows m o k guarded b1 b2 (unary_effect m op d) (unary_row m.device true k s op d)
+    framed_unary_covered unary.Com d spare = unary_covered unary.Com d spare
+    framed_unary_covered unary.Neg d spare = unary_covered unary.Neg d spare
+    framed_unary_covered unary.Swap d spare = unary_covered unary.Swap d spare
+    framed_unary_covered unary.Inc d spare = framed_step_covered m o k s at guarded b1 b2 true d spare
+    framed_unary_covered unary.Asr d spare = unary_covered unary.Asr d spare
+    framed_unary_covered unary.Lsr d spare = unary_covered unary.Lsr d spare
+    framed_unary_covered unary.Ror d spare = unary_covered unary.Ror d spare
+    framed_unary_covered unary.Dec d spare = framed_step_covered m o k s at guarded b1 b2 false d spare
+
+    unary_line_covered : (line : Bool) (op : UnaryOp) (d : ℕ) → Spares s.flags.carry d → Follows m o k guarded b1 b2 (unary_effect m op d) (unary_row m.device line k s op d)
+    unary_line_covered true op d spare = framed_unary_covered op d spare
+    unary_line_covered false op d spare = unary_covered op d spare
+
+    -- what two registers lead to that are followed, or aren't
+    abbrev row_by : List ℕ → Bool → BinaryOp → ℕ → ℕ → Raw
+    row_by words framed op d r = going_by m.device k s (if framed then framed_binary s op d r else binary_after s op d r) (node_skipping m.device words k s (byte_equal (bits s d) (bits s r)))
+
+    binary_line_covered : (words : List ℕ) (framed : Bool) (op : BinaryOp) (d r : ℕ) → SparesAll s.flags.carry (set_by_binary op d) → Follows m o k guarded b1 b2 (binary_effect words m op d r) (row_by words framed op d r)
+    binary_line_covered words false op d r spares = binary_covered words op d r spares
+    binary_line_covered words true binary.Cpc d r spares = binary_covered words binary.Cpc d r spares
+    binary_line_covered words true binary.Sbc d r spares = binary_covered words binary.Sbc d r spares
+    binary_line_covered words true binary.Add d r spares = framed_add_covered m o k s at guarded b1 b2 d r
+    binary_line_covered words true binary.Cpse d r spares = binary_covered words binary.Cpse d r spares
+    binary_line_covered words true binary.Cp d r spares = binary_covered words binary.Cp d r spares
+    binary_line_covered words true binary.Sub d r spares =
+        framed_sub_covered m o k s at guarded b1 b2 d (register m r) (bits s r) (byte_constant (bits s r)) (register_byte m o k s at r) (register_bits m o k s at r) (register_number r)
+    binary_line_covered words true binary.Adc d r spares = framed_adc_covered m o k s at guarded b1 b2 d r
+    binary_line_covered words true binary.And d r spares = binary_covered words binary.And d r spares
+    binary_line_covered words true binary.Eor d r spares = binary_covered words binary.Eor d r spares
+    binary_line_covered words true binary.Or d r spares = binary_covered words binary.Or d r spares
+    binary_line_covered words true binary.Mov d r spares = binary_covered words binary.Mov d r spares
+    binary_line_covered words true binary.Mul d r spares = binary_covered words binary.Mul d r spares
 
 listed_word : (A : List Entry) (pc : ℕ) (e : Effect) → unlisted_transfer A pc i.Ijmp e ≡ None → unless_listed (jump_line A pc) e.pc ≡ None
 unfolding unlisted_transfer
@@ -160,8 +211,8 @@ module _ (m : State) (o : Origin) (k : NodeKey) (s : AbsState) (at : InFrame m o
   row_covered small (i.Fmul d r) spares sized rooms addressed none unflagged = product_covered m o k s at (not scratch) b1 b2 product.Fmul d r
   row_covered small (i.Fmuls d r) spares sized rooms addressed none unflagged = product_covered m o k s at (not scratch) b1 b2 product.Fmuls d r
   row_covered small (i.Fmulsu d r) spares sized rooms addressed none unflagged = product_covered m o k s at (not scratch) b1 b2 product.Fmulsu d r
-  row_covered small (i.Binary op d r) spares sized rooms addressed none unflagged = binary_covered m o k s at b1 b2 (not scratch) words op d r spares
-  row_covered small (i.Immediate op d n) spares sized rooms addressed none unflagged = immediate_covered m o k s at b1 b2 (not scratch) op d n spares sized
+  row_covered small (i.Binary op d r) spares sized rooms addressed none unflagged = binary_line_covered m o k s at b1 b2 (not scratch) words (is_followed (is_frame A k.pc) d r) op d r spares
+  row_covered small (i.Immediate op d n) spares sized rooms addressed none unflagged = immediate_line_covered m o k s at b1 b2 (not scratch) (is_frame A k.pc) op d n spares sized
   row_covered small (i.Ldd d b q) spares sized rooms addressed none unflagged = addressed tt none unflagged
   row_covered small (i.Std b q r) spares sized rooms addressed none unflagged = addressed tt none unflagged
   row_covered small (i.Lds d a) spares sized rooms addressed none unflagged = addressed tt none unflagged
@@ -172,7 +223,7 @@ module _ (m : State) (o : Origin) (k : NodeKey) (s : AbsState) (at : InFrame m o
   row_covered small (i.Sts a r) spares sized rooms addressed none unflagged = addressed tt none unflagged
   row_covered small (i.St p r) spares sized rooms addressed none unflagged = addressed tt none unflagged
   row_covered small (i.Push r) spares sized rooms addressed none unflagged = push_covered m o k s at scratch b1 b2 r none
-  row_covered small (i.Unary op d) spares sized rooms addressed none unflagged = unary_covered m o k s at b1 b2 (not scratch) op d spares.0
+  row_covered small (i.Unary op d) spares sized rooms addressed none unflagged = unary_line_covered m o k s at b1 b2 (not scratch) (is_frame A k.pc) op d spares.0
   row_covered small (i.Bset n) spares sized rooms addressed none unflagged = flag_covered m o k s at (not scratch) b1 b2 n true
   row_covered small (i.Bclr n) spares sized rooms addressed none unflagged = flag_covered m o k s at (not scratch) b1 b2 n false
   row_covered small i.Ijmp spares sized rooms addressed none unflagged = ijmp_covered m o k s at (not scratch) b1 b2 A (listed_word A m.pc (effect_of words m i.Ijmp b1 b2) unflagged.listed) none

@@ -97,7 +97,7 @@ module _ (words : List ℕ) (A : List Entry) (m : State) (o : Origin) (k : NodeK
   covered : Covers (raw words A k s)
   unfolding raw
   covered =
-      not_hung words A m o k s at b1 b2 small are (is_hung k k.sp) (instruction_at words m.pc) _
+      not_hung words A m o k s at b1 b2 small are (is_hung (device_of words) A k k.sp) (instruction_at words m.pc) _
       (not_deep words A m o k s at b1 b2 small are (nat_lt (size_of (device_of words)) (offset_of k.sp)) (offset_of k.sp) (instruction_at words m.pc) _
       (splitting_covered (split_site words A k.pc k.pick) refl))
 

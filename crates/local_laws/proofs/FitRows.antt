@@ -9,7 +9,7 @@ use Rattle.avr_model.specs.declared.device.Device.TheVariants.{M48, M88, M168, M
 use Rattle.avr_model.specs.declared.assumption.Entry.{Entry}
 use Rattle.avr_model.specs.declared.instruction.Instr.{Instr}
 use Rattle.avr_model.specs.declared.instruction.Instr.TheVariants as i
-use Rattle.avr_model.specs.Assumptions.{jump_line, lists}
+use Rattle.avr_model.specs.Assumptions.{jump_line, is_frame, lists}
 use Rattle.avr_model.specs.Text.{far, near}
 use Rattle.avr_model.specs.Sites.{is_scratch, base_register, pointer_register, instruction_at}
 use Rattle.avr_model.specs.Effects.{port}
@@ -31,7 +31,8 @@ use Rattle.local_rules.specs.declared.local.CallSite.{CallSite}
 use Rattle.local_rules.specs.declared.local.Exit.{Exit}
 use Rattle.local_rules.specs.Raw.{enters, fails, next, at_word, further, leaves_by, Raw, untracked_if, too_deep_if}
 use Rattle.local_rules.specs.declared.local.NodeFault.TheVariants.{UnresolvedJump}
-use Rattle.local_rules.specs.Registers.{forgetting, bits, value, binary_after}
+use Rattle.local_rules.specs.Registers.{forgetting, bits, value}
+use Rattle.local_rules.specs.FrameLines.{binary_at}
 use Rattle.avr_model.specs.Written.{written}
 use Rattle.local_rules.specs.Reads.{read_at, pointed, read_pointed}
 use Rattle.local_rules.specs.Flow.{flag_at, width, words_on, targets_by, targets_at, is_half_written, site, calling, indirect_call, relative_call, at_closed, returning, ret_exit, reti_exit, pushing, popping, making_room}
@@ -141,7 +142,7 @@ module _ (device : Device) (words : List ℕ) (A : List Entry) (k : NodeKey) (s 
   row_fits scratch (i.Fmuls d r) fits = quiet_fits A k _ (refl, refl)
   row_fits scratch (i.Fmulsu d r) fits = quiet_fits A k _ (refl, refl)
   row_fits scratch (i.Binary op d r) fits =
-      quiet_fits A k _ (going_by_quiet device k s (binary_after s op d r) _ (skipping_quiet device words k s (byte_equal (bits s d) (bits s r))))
+      quiet_fits A k _ (going_by_quiet device k s (binary_at (is_frame A k.pc) s op d r) _ (skipping_quiet device words k s (byte_equal (bits s d) (bits s r))))
   row_fits scratch (i.Immediate op d n) fits = quiet_fits A k _ (refl, refl)
   row_fits scratch (i.Unary op d) fits = quiet_fits A k _ (refl, refl)
   row_fits scratch (i.Adiw d n) fits = quiet_fits A k _ (refl, refl)
@@ -203,7 +204,7 @@ module _ (words : List ℕ) (A : List Entry) (k : NodeKey) (s : AbsState) where
   raw_fits : IsFit (device_of words) A k (raw words A k s)
   unfolding raw
   raw_fits =
-      untracked_fits A k (is_hung k k.sp) k.pc _
+      untracked_fits A k (is_hung (device_of words) A k k.sp) k.pc _
       (too_deep_fits A k (nat_lt (size_of (device_of words)) (offset_of k.sp)) k.pc (offset_of k.sp) _ (split_fits (split_site words A k.pc k.pick)))
 
   -- where there is no fault
@@ -227,7 +228,7 @@ module _ (words : List ℕ) (A : List Entry) (k : NodeKey) (s : AbsState) where
   lies_inside : (raw words A k s).faults ≡ [] → (k.pc < words_of (device_of words)) × (offset_of k.sp ≤ size_of (device_of words))
   unfolding raw
   lies_inside e =
-      let row = not_untracked (is_hung k k.sp) k.pc _ e in
+      let row = not_untracked (is_hung (device_of words) A k k.sp) k.pc _ e in
       let shallow = not_deep (nat_lt (size_of (device_of words)) (offset_of k.sp)) k.pc (offset_of k.sp) _ row in
       let small : offset_of k.sp ≤ size_of (device_of words) = grind (arith, nat_tests, shallow.0) in
       (ltb-true k.pc (words_of (device_of words)) (is_within (split_site words A k.pc k.pick) refl shallow.1), small)

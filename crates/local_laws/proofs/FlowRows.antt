@@ -113,6 +113,7 @@ module _ (m : State) (o : Origin) (k : NodeKey) (s : AbsState) (at : InFrame m o
       → (values : List AbsByte) × ((where_carry c s on ≡ Some (record s { registers = values })) × RegistersStand o values m.registers)
   cut_by carry_tag.None is lt h on e = (s.registers, (refl, at.stands.registers))
   cut_by (carry_tag.Borrow j l) is lt h on e = (s.registers, (refl, at.stands.registers))
+  cut_by (carry_tag.Sum j l) is lt h on e = (s.registers, (refl, at.stands.registers))
   cut_by (carry_tag.Less r n) is lt h on e =
       let part = part_stands o (value s r) (register m r) n on (at.stands.registers r lt) (sym e ∙ h) in
       let kept : slice_set m.registers r (register m r) ≡ m.registers = set_itself m.registers r in (

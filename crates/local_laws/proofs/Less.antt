@@ -26,6 +26,7 @@ use Rattle.abs_state.specs.Order.{IsStateWithin}
 use Rattle.abs_state.proofs.AllLaws.{states_are_ordered, values_say_less}
 use Rattle.mask_states.specs.declared.keys.NodeKey.{NodeKey}
 use Rattle.local_rules.specs.Registers.{borrow_tag, less_than, less_alone, less_kept, forgotten, forgetting}
+use Rattle.local_rules.specs.FrameLines.{sum_tag}
 use Rattle.local_rules.specs.Flow.{part_of}
 use Rattle.local_rules.specs.Cover.{InFrame}
 
@@ -35,6 +36,7 @@ use Rattle.local_rules.specs.Cover.{InFrame}
 abbrev pub Spares : CarryTag → ℕ → Type 0
 Spares carry.None d = ⊤
 Spares (carry.Borrow j l) d = ⊤
+Spares (carry.Sum j l) d = ⊤
 Spares (carry.Less r n) d = r ≢ d
 
 abbrev pub SparesAll : CarryTag → List ℕ → Type 0
@@ -45,6 +47,7 @@ SparesAll c (d ∷ ds) = Spares c d × SparesAll c ds
 pub less_set : (registers : List ℕ) (c : CarryTag) (b : Bool) (d x : ℕ) → Spares c d → LessHolds registers c b → LessHolds (slice_set registers d x) c b
 less_set registers carry.None b d x spare h = tt
 less_set registers (carry.Borrow j l) b d x spare h = tt
+less_set registers (carry.Sum j l) b d x spare h = tt
 less_set registers (carry.Less r n) b d x spare h =
     let same : slice_index (slice_set registers d x) r ≡ slice_index registers r = grind (arith, elements) in
     h ∙ ap (λ (y : ℕ). nat_lt y n) (sym same)
@@ -69,6 +72,7 @@ less_moved registers c b pointer.MinusX w spares h = less_two registers c b 26 2
 pub forgotten_is : (C : CarryTag → Type 0) (written : List ℕ) (c : CarryTag) → C c → C carry.None → C (forgotten written c)
 forgotten_is C written carry.None h none = none
 forgotten_is C written (carry.Borrow j l) h none = h
+forgotten_is C written (carry.Sum j l) h none = h
 forgotten_is C written (carry.Less r n) h none = by (list_any (λ d. d == r) written)
   where
     by : (b : Bool) → C (if b then carry.None else carry.Less r n)
@@ -83,6 +87,10 @@ borrow_spares : (j l : ℕ) (ds : List ℕ) → SparesAll (carry.Borrow j l) ds
 borrow_spares j l [] = tt
 borrow_spares j l (d ∷ ds) = (tt, borrow_spares j l ds)
 
+sum_spares : (j l : ℕ) (ds : List ℕ) → SparesAll (carry.Sum j l) ds
+sum_spares j l [] = tt
+sum_spares j l (d ∷ ds) = (tt, sum_spares j l ds)
+
 not_among : (r n : ℕ) (ds : List ℕ) → list_any (λ d. d == r) ds ≡ false → SparesAll (carry.Less r n) ds
 not_among r n [] e = tt
 not_among r n (d ∷ ds) e =
@@ -93,6 +101,7 @@ not_among r n (d ∷ ds) e =
 pub forgotten_spares : (written : List ℕ) (c : CarryTag) → SparesAll (forgotten written c) written
 forgotten_spares written carry.None = none_spares written
 forgotten_spares written (carry.Borrow j l) = borrow_spares j l written
+forgotten_spares written (carry.Sum j l) = sum_spares j l written
 forgotten_spares written (carry.Less r n) = by (list_any (λ d. d == r) written) refl
   where
     by : (b : Bool) → list_any (λ d. d == r) written ≡ b → SparesAll (if b then carry.None else carry.Less r n) written
@@ -108,6 +117,7 @@ same_forgotten written c d e = subst (λ (x : CarryTag). IsCarryWithin (forgotte
 pub forgotten_more : (written : List ℕ) (c d : CarryTag) → IsCarryWithin c d → IsCarryWithin (forgotten written c) (forgotten written d)
 forgotten_more written c carry.None le = tt
 forgotten_more written c (carry.Borrow j l) le = same_forgotten written c (carry.Borrow j l) le
+forgotten_more written c (carry.Sum j l) le = same_forgotten written c (carry.Sum j l) le
 forgotten_more written c (carry.Less r n) le = same_forgotten written c (carry.Less r n) le
 
 pub forgetting_less : (written : List ℕ) (s : AbsState) → IsStateWithin s (forgetting written s)
@@ -161,11 +171,13 @@ forgetting_at m o k s written at =
 abbrev pub NamesNone : CarryTag → Type 0
 NamesNone carry.None = ⊤
 NamesNone (carry.Borrow j l) = ⊤
+NamesNone (carry.Sum j l) = ⊤
 NamesNone (carry.Less r n) = ⊥
 
 pub less_of_none : (registers : List ℕ) (c : CarryTag) (b : Bool) → NamesNone c → LessHolds registers c b
 less_of_none registers carry.None b h = tt
 less_of_none registers (carry.Borrow j l) b h = tt
+less_of_none registers (carry.Sum j l) b h = tt
 less_of_none registers (carry.Less r n) b h = absurd h
 
 pub borrow_names_none : (t : Tag) (number : Option ℕ) → NamesNone (borrow_tag t number)
@@ -176,9 +188,18 @@ borrow_names_none tag.EntryFlags (Some l) = tt
 borrow_names_none (tag.SpLo j) (Some l) = tt
 borrow_names_none (tag.SpHi k) (Some l) = tt
 
+pub sum_names_none : (t : Tag) (number : Option ℕ) → NamesNone (sum_tag t number)
+sum_names_none t None = tt
+sum_names_none tag.None (Some l) = tt
+sum_names_none (tag.Entry r) (Some l) = tt
+sum_names_none tag.EntryFlags (Some l) = tt
+sum_names_none (tag.SpLo j) (Some l) = tt
+sum_names_none (tag.SpHi k) (Some l) = tt
+
 pub untagged_holds : (o : Origin) (c : CarryTag) (b : Bool) → CarryIsUntagged c → CarryHolds o c b
 untagged_holds o carry.None b h = tt
 untagged_holds o (carry.Borrow j l) b h = absurd h
+untagged_holds o (carry.Sum j l) b h = absurd h
 untagged_holds o (carry.Less r n) b h = tt
 
 -- ---- comparisons
@@ -201,11 +222,13 @@ than_holds registers d y (Some n) is = compared registers d y n (is n refl)
 pub alone_untagged : (c : CarryTag) → CarryIsUntagged (less_alone c)
 alone_untagged carry.None = tt
 alone_untagged (carry.Borrow j l) = tt
+alone_untagged (carry.Sum j l) = tt
 alone_untagged (carry.Less r n) = tt
 
 pub alone_less : (registers : List ℕ) (c : CarryTag) (b : Bool) → LessHolds registers c b → LessHolds registers (less_alone c) b
 alone_less registers carry.None b h = tt
 alone_less registers (carry.Borrow j l) b h = tt
+alone_less registers (carry.Sum j l) b h = tt
 alone_less registers (carry.Less r n) b h = h
 
 -- what holds of `Less` alone and of none holds of what is kept

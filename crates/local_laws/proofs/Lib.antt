@@ -39,4 +39,8 @@ pub mod Quiet
 pub mod Picks
 pub mod Ascending
 pub mod FitRows
+pub mod FrameTags
+pub mod FrameMonotone
+pub mod FrameCover
+pub mod Hung
 pub mod AllLaws

@@ -37,7 +37,8 @@ use Rattle.mask_states.specs.declared.keys.Kind.{Kind}
 use Rattle.mask_states.specs.declared.keys.Kind.TheVariants.{Root}
 use Rattle.mask_states.specs.Keys.{offset_of}
 use Rattle.local_rules.specs.Raw.{setting, next}
-use Rattle.local_rules.specs.Registers.{value, bits, carry_bit, set, set_pair, with_carry, but_carry, low_tag, borrow_tag, high_tag, or_nothing, less_than, less_alone, less_kept, swapped, product_row, down_by, pair_moved, wide_row, interrupts_row, tri_of_bool, carry_tag_at, flag_row, immediate_row, unary_row, going_with, sum_after, compare_after, difference_after, sub_after, sbc_after, logic_after, step_after, shift_after, com_after}
+use Rattle.local_rules.specs.Registers.{value, bits, carry_bit, set, set_pair, with_carry, but_carry, low_tag, borrow_tag, high_tag, or_nothing, less_than, less_alone, less_kept, swapped, product_row, down_by, pair_moved, wide_row, interrupts_row, tri_of_bool, carry_tag_at, flag_row, going_with, sum_tagged, sum_after, compare_after, difference_after, sub_after, sbc_after, logic_after, step_tagged, step_after, shift_after, com_after}
+use Rattle.local_rules.specs.Local.{immediate_row, unary_row}
 use Rattle.local_laws.proofs.MonotoneValues.{IsTagOf, IsLess, AreFlagsLess, AreRegistersLess, IsStateLess, Tells, none_of, if_tag_of, same_bits, bit_within, bits_less, if_less, untagged_less, known_same, registers_set}
 use Rattle.local_laws.proofs.Less.{kept_is}
 use Rattle.local_laws.proofs.MonotoneRaw.{IsKey, LeadsLess, one_less, setting_less, further_small}
@@ -60,7 +61,7 @@ low_tag_within t u f None le tells = tt
 low_tag_within t u f (Some l) le tells =
     subst (λ (x : Option ℕ). IsTagWithin (low_tag t x) (low_tag u (Some l))) (sym (tells l refl)) (tag_arithmetic_is_monotone.low_less t u l le)
 
-borrow_bytes : (kind : Kind) (t : Tag) (f : Option ℕ) → IsTagOf kind t → ((n : ℕ) → f ≡ Some n → n < 256) → HasBytes (borrow_tag t f)
+pub borrow_bytes : (kind : Kind) (t : Tag) (f : Option ℕ) → IsTagOf kind t → ((n : ℕ) → f ≡ Some n → n < 256) → HasBytes (borrow_tag t f)
 borrow_bytes kind t None h small = tt
 borrow_bytes kind tag.None (Some l) h small = tt
 borrow_bytes kind (tag.Entry r) (Some l) h small = tt
@@ -68,11 +69,11 @@ borrow_bytes kind tag.EntryFlags (Some l) h small = tt
 borrow_bytes kind (tag.SpLo j) (Some l) h small = (h.fits, small l refl)
 borrow_bytes kind (tag.SpHi k) (Some l) h small = tt
 
-no_borrow : (t : Tag) (f : Option ℕ) → t ≡ tag.None → CarryIsUntagged (borrow_tag t f)
+pub no_borrow : (t : Tag) (f : Option ℕ) → t ≡ tag.None → CarryIsUntagged (borrow_tag t f)
 no_borrow t None e = tt
 no_borrow t (Some l) e = subst (λ (u : Tag). CarryIsUntagged (borrow_of u l)) (sym e) tt
 
-borrow_names : (t : Tag) (f : Option ℕ) → CarryNamesRegister (borrow_tag t f)
+pub borrow_names : (t : Tag) (f : Option ℕ) → CarryNamesRegister (borrow_tag t f)
 borrow_names t None = tt
 borrow_names tag.None (Some l) = tt
 borrow_names (tag.Entry r) (Some l) = tt
@@ -105,6 +106,7 @@ than_within d f (Some n) tells = ap (less_than d) (tells n refl)
 alone_of : (c : CarryTag) → HasBytes c → CarryNamesRegister c → IsOfRegister (less_alone c)
 alone_of carry.None bytes names = no_tag
 alone_of (carry.Borrow j l) bytes names = no_tag
+alone_of (carry.Sum j l) bytes names = no_tag
 alone_of (carry.Less r n) bytes names = record { bytes = bytes; names = names; free = tt }
 
 pub kept_of : (f g : Option ℕ) (c : CarryTag) → HasBytes c → CarryNamesRegister c → IsOfRegister (less_kept f g c)
@@ -113,6 +115,7 @@ kept_of f g c bytes names = kept_is IsOfRegister f g c (alone_of c bytes names) 
 alone_within : (c d : CarryTag) → IsCarryWithin c d → IsCarryWithin (less_alone c) (less_alone d)
 alone_within c carry.None le = tt
 alone_within c (carry.Borrow j l) le = tt
+alone_within c (carry.Sum j l) le = tt
 alone_within c (carry.Less r n) le = ap less_alone le
 
 kept_same : (x y : ℕ) (c d : CarryTag) → IsCarryWithin c d → IsCarryWithin (less_kept (Some x) (Some y) c) (less_kept (Some x) (Some y) d)
@@ -128,7 +131,7 @@ kept_within f g (Some x) None c d h k le = tt
 kept_within f g (Some x) (Some y) c d h k le =
     subst₂ (λ (a b : Option ℕ). IsCarryWithin (less_kept a b c) (less_kept (Some x) (Some y) d)) (sym (h x refl)) (sym (k y refl)) (kept_same x y c d le)
 
-borrow_within : (t u : Tag) (f g : Option ℕ) → IsTagWithin t u → Tells f g → IsCarryWithin (borrow_tag t f) (borrow_tag u g)
+pub borrow_within : (t u : Tag) (f g : Option ℕ) → IsTagWithin t u → Tells f g → IsCarryWithin (borrow_tag t f) (borrow_tag u g)
 borrow_within t u f None le tells = tt
 borrow_within t u f (Some l) le tells =
     subst (λ (x : Option ℕ). IsCarryWithin (borrow_tag t x) (borrow_tag u (Some l))) (sym (tells l refl)) (tag_arithmetic_is_monotone.borrow t u l le)
@@ -139,6 +142,7 @@ high_less_of kind (tag.Entry r) m c h = none_of kind
 high_less_of kind tag.EntryFlags m c h = none_of kind
 high_less_of kind (tag.SpLo j) m c h = none_of kind
 high_less_of kind (tag.SpHi k) m carry.None h = none_of kind
+high_less_of kind (tag.SpHi k) m (carry.Sum j l) h = none_of kind
 high_less_of kind (tag.SpHi k) m (carry.Less r n) h = none_of kind
 high_less_of kind (tag.SpHi k) m (carry.Borrow j l) h =
     if_tag_of kind (j == k % 256) (high_of (k + l + 256 * m)) tag.None
@@ -246,10 +250,17 @@ module _ (device : Device) (k : NodeKey) (at : IsKey k) (s t : AbsState) (le : I
 
   -- ---- sums and differences
 
+  pub sum_tagged_less : (d : ℕ) (b b' : TriByte) (c c' : Tri) (x x' : Tag) (w w' : CarryTag) → IsWithin b b' → IsTriWithin c c'
+      → IsTagOf kind x → IsTagWithin x x' → HasBytes w → CarryNamesRegister w → (kind ≡ Root → CarryIsUntagged w) → IsCarryWithin w w'
+      → LeadsLess k.inst (going_with device k s (sum_tagged s d b c x w)) (going_with device k t (sum_tagged t d b' c' x' w'))
+  sum_tagged_less d b b' c c' x x' w w' over carries good tags bytes names none less =
+      let r = all_are_monotone.sums (bits s d) b s.flags.bits (bits t d) b' t.flags.bits c c' (reg_bits d) over flag_bits carries in
+      setting_one d _ _ _ _ (bits_less kind x x' _ _ good tags r.0)
+      (written_flags _ _ w w' r.1 (flags_7 _ _ _ _ _ s.flags.bits le.flags.bit_7) bytes names none less)
+
   pub sum_less : (d : ℕ) (b b' : TriByte) (c c' : Tri) → IsWithin b b' → IsTriWithin c c' → LeadsLess k.inst (going_with device k s (sum_after s d b c)) (going_with device k t (sum_after t d b' c'))
   sum_less d b b' c c' over carries =
-      let r = all_are_monotone.sums (bits s d) b s.flags.bits (bits t d) b' t.flags.bits c c' (reg_bits d) over flag_bits carries in
-      setting_one d _ _ _ _ (untagged_less kind _ _ r.0) (no_tag_flags _ _ r.1 (flags_7 _ _ _ _ _ s.flags.bits le.flags.bit_7))
+      sum_tagged_less d b b' c c' tag.None tag.None carry.None carry.None over carries (none_of kind) tt tt tt (λ root. tt) tt
 
   pub compare_less : (a a' b b' : TriByte) (w w' : Tri) (keep_zero : Bool) (c c' : CarryTag) → IsWithin a a' → IsWithin b b' → IsTriWithin w w' → IsOfRegister c → IsCarryWithin c c'
       → LeadsLess k.inst (going_with device k s (compare_after s a b w keep_zero c)) (going_with device k t (compare_after t a' b' w' keep_zero c'))
@@ -257,7 +268,7 @@ module _ (device : Device) (k : NodeKey) (at : IsKey k) (s t : AbsState) (le : I
       let r = all_are_monotone.differences a b s.flags.bits a' b' t.flags.bits w w' keep_zero over under flag_bits borrow in
       setting_flags _ _ (written_flags _ _ c c' r.1 (flags_7 _ _ _ _ _ s.flags.bits le.flags.bit_7) says.bytes says.names (λ root. says.free) less)
 
-  difference_less : (d : ℕ) (a a' b b' : TriByte) (w w' : Tri) (keep_zero : Bool) (x x' : Tag) (c c' : CarryTag) → IsWithin a a' → IsWithin b b' → IsTriWithin w w'
+  pub difference_less : (d : ℕ) (a a' b b' : TriByte) (w w' : Tri) (keep_zero : Bool) (x x' : Tag) (c c' : CarryTag) → IsWithin a a' → IsWithin b b' → IsTriWithin w w'
       → IsTagOf kind x → IsTagWithin x x' → HasBytes c → CarryNamesRegister c → (kind ≡ Root → CarryIsUntagged c) → IsCarryWithin c c'
       → LeadsLess k.inst (going_with device k s (difference_after s d a b w keep_zero x c)) (going_with device k t (difference_after t d a' b' w' keep_zero x' c'))
   difference_less d a a' b b' w w' keep_zero x x' c c' over under borrow good tags bytes names none carries =
@@ -293,10 +304,14 @@ module _ (device : Device) (k : NodeKey) (at : IsKey k) (s t : AbsState) (le : I
       let r = all_are_monotone.logics op a b s.flags.bits a' b' t.flags.bits over under flag_bits in
       setting_one d _ _ _ _ (if_less kind same _ _ _ _ (reg d) (untagged_less kind _ _ r.0)) (kept_flags _ _ r.1 (flags_7 _ _ _ _ _ s.flags.bits le.flags.bit_7))
 
-  step_less : (up : Bool) (d : ℕ) → LeadsLess k.inst (going_with device k s (step_after s up d)) (going_with device k t (step_after t up d))
-  step_less up d =
+  pub step_tagged_less : (up : Bool) (d : ℕ) (x x' : Tag) → IsTagOf kind x → IsTagWithin x x'
+      → LeadsLess k.inst (going_with device k s (step_tagged s up d x)) (going_with device k t (step_tagged t up d x'))
+  step_tagged_less up d x x' good tags =
       let r = all_are_monotone.steps up (bits s d) s.flags.bits (bits t d) t.flags.bits (reg_bits d) flag_bits in
-      setting_one d _ _ _ _ (untagged_less kind _ _ r.0) (kept_flags _ _ r.1 (flags_7 _ _ _ _ _ s.flags.bits le.flags.bit_7))
+      setting_one d _ _ _ _ (bits_less kind x x' _ _ good tags r.0) (kept_flags _ _ r.1 (flags_7 _ _ _ _ _ s.flags.bits le.flags.bit_7))
+
+  step_less : (up : Bool) (d : ℕ) → LeadsLess k.inst (going_with device k s (step_after s up d)) (going_with device k t (step_after t up d))
+  step_less up d = step_tagged_less up d tag.None tag.None (none_of kind) tt
 
   shift_less : (op : Shift) (d : ℕ) → LeadsLess k.inst (going_with device k s (shift_after s op d)) (going_with device k t (shift_after t op d))
   shift_less op d =
@@ -369,13 +384,13 @@ module _ (device : Device) (k : NodeKey) (at : IsKey k) (s t : AbsState) (le : I
 
   -- ---- by the operation
 
-  number_tells : (n : ℕ) → Tells (Some n) (Some n)
+  pub number_tells : (n : ℕ) → Tells (Some n) (Some n)
   number_tells n x e = e
 
-  number_small : (n : ℕ) → n < 256 → (x : ℕ) → Some n ≡ Some x → x < 256
+  pub number_small : (n : ℕ) → n < 256 → (x : ℕ) → Some n ≡ Some x → x < 256
   number_small n lt x e = let is : n ≡ x = cc in omega (arith, is)
 
-  pub immediate_less : (op : ImmediateOp) (d n : ℕ) → d < 32 → n < 256 → LeadsLess k.inst (immediate_row device k s op d n) (immediate_row device k t op d n)
+  pub immediate_less : (op : ImmediateOp) (d n : ℕ) → d < 32 → n < 256 → LeadsLess k.inst (immediate_row device false k s op d n) (immediate_row device false k t op d n)
   immediate_less immediate.Cpi d n low lt =
       compare_less (bits s d) (bits t d) (byte_known n) (byte_known n) Zero Zero false (carry.Less d n) (carry.Less d n) (reg_bits d) (same_bits (byte_known n)) (λ m p. p) (less_of d n low lt) refl
   immediate_less immediate.Sbci d n low lt = sbc_less d (byte_known n) (byte_known n) (Some n) (Some n) (same_bits (byte_known n)) (number_tells n)
@@ -387,7 +402,7 @@ module _ (device : Device) (k : NodeKey) (at : IsKey k) (s t : AbsState) (le : I
       logic_less logic.And d (bits s d) (bits t d) (byte_known n) (byte_known n) false (reg_bits d) (same_bits (byte_known n))
   immediate_less immediate.Ldi d n low lt = setting_register d (known n) (known n) (known_same kind n)
 
-  pub unary_less : (op : UnaryOp) (d : ℕ) → LeadsLess k.inst (unary_row device k s op d) (unary_row device k t op d)
+  pub unary_less : (op : UnaryOp) (d : ℕ) → LeadsLess k.inst (unary_row device false k s op d) (unary_row device false k t op d)
   unary_less unary.Com d = com_less d
   unary_less unary.Neg d =
       difference_less d (byte_known 0) (byte_known 0) (bits s d) (bits t d) Zero Zero false tag.None tag.None carry.None carry.None

@@ -317,6 +317,7 @@ module _ (device : Device) (k : NodeKey) (at : IsKey k) (s t : AbsState) (le : I
   uncut : (c : CarryTag) → CarryNamesRegister c → (on : Bool) (pc : ℕ) → pc < WORDS → LeadsLess k.inst (going_where k (where_carry c s on) pc) (turning_to k t pc)
   uncut carry.None names on pc lt = turning_less device k at s t le pc lt
   uncut (carry.Borrow j l) names on pc lt = turning_less device k at s t le pc lt
+  uncut (carry.Sum j l) names on pc lt = turning_less device k at s t le pc lt
   uncut (carry.Less r n) names on pc lt = by (part_of on (value s r) n) refl
     where
       back : record t { registers = set t r (value t r) } ≡ t
@@ -346,6 +347,7 @@ module _ (device : Device) (k : NodeKey) (at : IsKey k) (s t : AbsState) (le : I
       → LeadsLess k.inst (going_where k (where_carry c s on) pc) (going_where k (where_carry d t on) pc)
   where_less c carry.None names under on pc lt = uncut c names on pc lt
   where_less c (carry.Borrow j l) names under on pc lt = uncut c names on pc lt
+  where_less c (carry.Sum j l) names under on pc lt = uncut c names on pc lt
   where_less c (carry.Less r n) names under on pc lt =
       subst (λ (x : CarryTag). LeadsLess k.inst (going_where k (where_carry x s on) pc) (going_where k (where_carry (carry.Less r n) t on) pc)) (sym under) (both_cut r n on pc lt)
 

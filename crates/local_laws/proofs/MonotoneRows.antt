@@ -13,6 +13,7 @@ use Rattle.avr_model.specs.declared.instruction.Pointer.{Pointer}
 use Rattle.avr_model.specs.declared.instruction.Pointer.TheVariants as pointer
 use Rattle.avr_model.specs.declared.operation.Logic.TheVariants as logic
 use Rattle.avr_model.specs.declared.operation.Mul.TheVariants as product
+use Rattle.avr_model.specs.Assumptions.{is_frame}
 use Rattle.avr_model.specs.Text.{far, near}
 use Rattle.avr_model.specs.Sites.{is_scratch, base_register, pointer_register}
 use Rattle.avr_model.specs.Effects.{port}
@@ -30,13 +31,15 @@ use Rattle.mask_states.specs.declared.keys.Kind.{Kind}
 use Rattle.mask_states.specs.Keys.{offset_of}
 use Rattle.local_rules.specs.declared.local.NodeFault.TheVariants.{UnresolvedJump, Unsupported}
 use Rattle.local_rules.specs.Raw.{Raw, fails, all_of, at_word, next, further}
-use Rattle.local_rules.specs.Registers.{value, bits, carry_bit, set, less_than, less_kept, or_nothing, forgetting, pair_moved}
+use Rattle.local_rules.specs.Registers.{value, bits, carry_bit, set, less_than, less_kept, or_nothing, forgetting, pair_moved, going_by, binary_after}
+use Rattle.local_rules.specs.FrameLines.{is_followed, framed_binary}
 use Rattle.local_rules.specs.Reads.{read_at, pointed, pair_constant}
-use Rattle.local_rules.specs.Flow.{flag_at, ret_exit, reti_exit}
+use Rattle.local_rules.specs.Flow.{skipping, flag_at, ret_exit, reti_exit}
 use Rattle.local_rules.specs.Local.{binary_row, step_before, pointer_moved, bit_row, row_of, row_at, row_in, is_hung, fetched, may_be, below, picks, picking, picked, split_site, splitting, raw}
 use Rattle.local_laws.proofs.MonotoneValues.{AreRegistersLess, IsStateLess, any_bit_within, constant_is, constant_tells, untagged_less, registers_set, forgetting_both}
 use Rattle.local_laws.proofs.MonotoneRaw.{IsKey, LeadsLess, fails_less, untracked_less, too_deep_less, filtered_less, further_small, word_key, next_key, going_less, on_less, setting_less}
-use Rattle.local_laws.proofs.MonotoneAlu.{with_7, pair_set, reg, reg_bits, flag_bits, kept_flags, setting_flags, setting_register, sum_less, compare_less, sub_less, sbc_less, or_nothing_within, logic_less, than_of, than_within, kept_of, kept_within, product_less, pair_less, wide_less, flag_less as one_flag_less, immediate_less, unary_less}
+use Rattle.local_laws.proofs.MonotoneAlu.{with_7, pair_set, reg, reg_bits, flag_bits, kept_flags, setting_flags, setting_register, sum_less, compare_less, sub_less, sbc_less, or_nothing_within, logic_less, than_of, than_within, kept_of, kept_within, product_less, pair_less, wide_less, flag_less as one_flag_less}
+use Rattle.local_laws.proofs.FrameMonotone.{add_less, adc_less, framed_sub_less, immediate_line_less, unary_line_less}
 use Rattle.local_laws.proofs.MonotoneReads.{flash_less, read_less, constants, pointed_constants, pointer_read, loading_less}
 use Rattle.local_laws.proofs.MonotoneWrites.{write_less, pointer_less}
 use Rattle.local_laws.proofs.MonotoneFlow.{calling_less, branch_less, flag_less, skipping_less, flag_within, jump_less, indirect_less, push_less, relative_less, pop_less, return_less}
@@ -54,7 +57,7 @@ module _ (device : Device) (words : List ℕ) (A : List Entry) (k : NodeKey) (at
   register_bit : (r b : ℕ) → IsTriWithin (tri_at (bits s r) b) (tri_at (bits t r) b)
   register_bit r b = any_bit_within (bits s r) (bits t r) b (reg_bits device k at s t le r)
 
-  binary_less : (op : BinaryOp) (d r : ℕ) → d < 32 → LeadsLess k.inst (binary_row device words k s op d r) (binary_row device words k t op d r)
+  binary_less : (op : BinaryOp) (d r : ℕ) → d < 32 → LeadsLess k.inst (binary_row device words false k s op d r) (binary_row device words false k t op d r)
   binary_less binary.Cpc d r low =
       compare_less device k at s t le (bits s d) (bits t d) (bits s r) (bits t r) (carry_bit s) (carry_bit t) true
       (less_kept (byte_constant (bits s d)) (byte_constant (bits s r)) s.flags.carry) (less_kept (byte_constant (bits t d)) (byte_constant (bits t r)) t.flags.carry)
@@ -88,6 +91,27 @@ module _ (device : Device) (words : List ℕ) (A : List Entry) (k : NodeKey) (at
   binary_less binary.Mov d r low = setting_register device k at s t le d (value s r) (value t r) (reg device k at s t le r)
   binary_less binary.Mul d r low = product_less device k at s t le product.Mul d r
 
+  -- what two registers lead to that are followed, or aren't
+  abbrev row_by : Bool → AbsState → BinaryOp → ℕ → ℕ → Raw
+  row_by framed u op d r = going_by device k u (if framed then framed_binary u op d r else binary_after u op d r) (skipping device words k u (byte_equal (bits u d) (bits u r)))
+
+  binary_line_less : (framed : Bool) (op : BinaryOp) (d r : ℕ) → d < 32 → LeadsLess k.inst (row_by framed s op d r) (row_by framed t op d r)
+  binary_line_less false op d r low = binary_less op d r low
+  binary_line_less true binary.Cpc d r low = binary_less binary.Cpc d r low
+  binary_line_less true binary.Sbc d r low = binary_less binary.Sbc d r low
+  binary_line_less true binary.Add d r low = add_less device k at s t le d r
+  binary_line_less true binary.Cpse d r low = binary_less binary.Cpse d r low
+  binary_line_less true binary.Cp d r low = binary_less binary.Cp d r low
+  binary_line_less true binary.Sub d r low =
+      framed_sub_less device k at s t le d (bits s r) (bits t r) (byte_constant (bits s r)) (byte_constant (bits t r)) (reg_bits device k at s t le r)
+      (constant_tells (bits s r) (bits t r) (reg_bits device k at s t le r)) (λ n e. (constant_is (bits s r) n e).1)
+  binary_line_less true binary.Adc d r low = adc_less device k at s t le d r
+  binary_line_less true binary.And d r low = binary_less binary.And d r low
+  binary_line_less true binary.Eor d r low = binary_less binary.Eor d r low
+  binary_line_less true binary.Or d r low = binary_less binary.Or d r low
+  binary_line_less true binary.Mov d r low = binary_less binary.Mov d r low
+  binary_line_less true binary.Mul d r low = binary_less binary.Mul d r low
+
   -- ---- loads and stores
 
   moved_less : (p : Pointer) → AreRegistersLess kind (pointer_moved p s) (pointer_moved p t)
@@ -119,9 +143,9 @@ module _ (device : Device) (words : List ℕ) (A : List Entry) (k : NodeKey) (at
   row_less scratch (i.Fmul d r) fits = product_less device k at s t le product.Fmul d r
   row_less scratch (i.Fmuls d r) fits = product_less device k at s t le product.Fmuls d r
   row_less scratch (i.Fmulsu d r) fits = product_less device k at s t le product.Fmulsu d r
-  row_less scratch (i.Binary op d r) fits = binary_less op d r fits
-  row_less scratch (i.Immediate op d n) fits = immediate_less device k at s t le op d n fits.0 fits.1
-  row_less scratch (i.Unary op d) fits = unary_less device k at s t le op d
+  row_less scratch (i.Binary op d r) fits = binary_line_less (is_followed (is_frame A k.pc) d r) op d r fits
+  row_less scratch (i.Immediate op d n) fits = immediate_line_less device k at s t le (is_frame A k.pc) op d n fits.0 fits.1
+  row_less scratch (i.Unary op d) fits = unary_line_less device k at s t le (is_frame A k.pc) op d
   row_less scratch (i.Adiw d n) fits = wide_less device k at s t le true (2 * d) n
   row_less scratch (i.Sbiw d n) fits = wide_less device k at s t le false (2 * d) n
   row_less scratch (i.Bset n) fits = one_flag_less device k at s t le n true
@@ -237,5 +261,5 @@ module _ (words : List ℕ) (A : List Entry) (k : NodeKey) (at : IsKey k) (s t :
   pub raw_less : LeadsLess k.inst (raw words A k s) (raw words A k t)
   unfolding raw
   raw_less =
-      untracked_less k.inst (is_hung k k.sp) k.pc _ _
+      untracked_less k.inst (is_hung (device_of words) A k k.sp) k.pc _ _
       (too_deep_less k.inst (nat_lt (size_of (device_of words)) (offset_of k.sp)) k.pc (offset_of k.sp) _ _ (splitting_less (split_site words A k.pc k.pick)))

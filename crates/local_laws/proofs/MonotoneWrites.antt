@@ -1,5 +1,5 @@
 -- What a byte that is written changes: a greater state leads to more.
-use Rattle.std.proofs.Common.{◌≡◌, refl, sym, ap, subst, subst₂, ℕ, ◌+◌, ◌<◌, ◌≤◌, ◌==◌, ◌&&◌, ◌||◌, nat_lt, nat_le, ⊎_elim, Bool, true, false, List, map, filter, Option, Some, None, if◌then◌else◌, arith, [], ◌∷◌}
+use Rattle.std.proofs.Common.{◌≡◌, refl, sym, ap, subst, subst₂, ℕ, ◌+◌, ◌<◌, ◌≤◌, ◌==◌, ◌&&◌, nat_lt, nat_le, ⊎_elim, Bool, true, false, List, map, filter, Option, Some, None, if◌then◌else◌, arith, [], ◌∷◌}
 use Rattle.std.specs.Int.{bit_at}
 use Rattle.std.proofs.lemmas.Bool.{cases_lt}
 use Rattle.std.proofs.lemmas.Bool.Decides.{nat_tests}
@@ -8,8 +8,7 @@ use Rattle.avr_model.proofs.AllLaws.{devices_are_alike}
 use Rattle.avr_model.specs.Devices.{size_of}
 use Rattle.avr_model.specs.declared.device.Device.{Device}
 use Rattle.avr_model.specs.declared.assumption.Entry.{Entry}
-use Rattle.avr_model.specs.Assumptions.{store_line, is_proved}
-use Rattle.avr_model.specs.Sites.{is_fixed}
+use Rattle.avr_model.specs.Assumptions.{store_line, is_fixed_site}
 use Rattle.avr_model.specs.State.{SPL, SPH, SREG, low, high, minus16}
 use Rattle.bit_domain.specs.declared.bits.Tri.{Tri}
 use Rattle.bit_domain.specs.declared.bits.Tri.TheVariants.{Zero, One, Any}
@@ -229,5 +228,5 @@ module _ (device : Device) (k : NodeKey) (at : IsKey k) (s t : AbsState) (le : I
       → IsWithin (bits was_s r) (bits was_t r) → IsWithin (bits was_s (r + 1)) (bits was_t (r + 1))
       → LeadsLess k.inst (pointer_write device words A was_s r up p pc k s v) (pointer_write device words A was_t r up q pc k t w)
   pointer_less words A was_s was_t r up p q tells lo hi =
-      if_leads k.inst (is_fixed words pc || is_proved A pc) _ _ _ _ (fixed_less p.constant q.constant tells)
+      if_leads k.inst (is_fixed_site words A pc) _ _ _ _ (fixed_less p.constant q.constant tells)
       (listed_less (λ a. reaches was_s r up a) (λ a. reaches was_t r up a) (store_line A pc) (λ a. reaches_more was_s was_t r up a lo hi))

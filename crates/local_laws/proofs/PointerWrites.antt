@@ -7,8 +7,7 @@ use Rattle.std.specs.List.{filter}
 use Rattle.avr_model.specs.declared.assumption.Entry.{Entry}
 use Rattle.avr_model.specs.declared.effect.Write.{Write}
 use Rattle.avr_model.specs.declared.effect.Effect.{Effect}
-use Rattle.avr_model.specs.Assumptions.{store_line, is_proved, lists}
-use Rattle.avr_model.specs.Sites.{is_fixed}
+use Rattle.avr_model.specs.Assumptions.{store_line, is_fixed_site, lists}
 use Rattle.avr_model.specs.Sreg.{flag}
 use Rattle.avr_model.specs.State.{State, pair, SPL, SPH, SREG, low, high, plus16, minus16}
 use Rattle.avr_model.specs.Effects.{set}
@@ -153,12 +152,12 @@ module _ (m : State) (o : Origin) (k : NodeKey) (s : AbsState) (at : InFrame m o
 
   -- a byte that is stored through a pointer, where the store isn't flagged
   pub pointer_written : (words : List ℕ) (A : List Entry) (r up : ℕ)
-      → ((is_fixed words k.pc || is_proved A k.pc) ≡ false → unlisted (store_line A k.pc) (set (plus16 (pair m r) up) byte) ≡ None)
+      → (is_fixed_site words A k.pc ≡ false → unlisted (store_line A k.pc) (set (plus16 (pair m r) up) byte) ≡ None)
       → (pointer_write m.device words A s r up (pointed s r up) k.pc key state v).faults ≡ []
       → Reaches m o k guarded (effect (plus16 (pair m r) up)) (pointer_write m.device words A s r up (pointed s r up) k.pc key state v)
   pointer_written words A r up unflagged clean =
       let a : ℕ = plus16 (pair m r) up in
-      chosen m o k s at guarded pc pc' pc_is writes registers stand less false (effect a) (is_fixed words k.pc || is_proved A k.pc)
+      chosen m o k s at guarded pc pc' pc_is writes registers stand less false (effect a) (is_fixed_site words A k.pc)
       (fixed_write m.device (pointed s r up).constant k.pc key state v) (listed_writes m.device k.pc key state (filter (λ b. reaches s r up b) (store_line A k.pc)) v)
       (λ is rest. fixed_written a (pointed s r up).constant (number_is m o k s at r up) rest)
       (λ is rest. listed_by r up (store_line A k.pc) (is_protected a) refl (unflagged is) rest) clean

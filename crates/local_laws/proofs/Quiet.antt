@@ -1,11 +1,10 @@
 -- Local parts that neither call nor return.
-use Rattle.std.proofs.Common.{◌≡◌, refl, sym, ◌∙◌, subst, ℕ, zero, suc, ◌+◌, ◌==◌, Bool, true, false, ◌||◌, List, [], Option, Some, None, if◌then◌else◌, nat_lt, nat_le, Contains}
+use Rattle.std.proofs.Common.{◌≡◌, refl, sym, ◌∙◌, subst, ℕ, zero, suc, ◌+◌, ◌==◌, Bool, true, false, List, [], Option, Some, None, if◌then◌else◌, nat_lt, nat_le, Contains}
 use Rattle.std.specs.List.Sorted.{IsStrictlySortedBy}
 use Rattle.avr_model.specs.Devices.{size_of}
 use Rattle.avr_model.specs.declared.device.Device.{Device}
 use Rattle.avr_model.specs.declared.assumption.Entry.{Entry}
-use Rattle.avr_model.specs.Sites.{is_fixed}
-use Rattle.avr_model.specs.Assumptions.{is_proved}
+use Rattle.avr_model.specs.Assumptions.{is_fixed_site}
 use Rattle.avr_model.specs.State.{SPL, SPH, SREG}
 use Rattle.bit_domain.specs.declared.bits.Tri.{Tri}
 use Rattle.bit_domain.specs.declared.bits.Tri.TheVariants.{Zero, One, Any}
@@ -115,7 +114,7 @@ fixed_quiet device (Some a) pc k s v = written_quiet device pc k s false a v
 
 pub pointer_quiet : (device : Device) (words : List ℕ) (A : List Entry) (was : AbsState) (r up : ℕ) (p : Pointed) (pc : ℕ) (k : NodeKey) (s : AbsState) (v : AbsByte)
     → Quiet (pointer_write device words A was r up p pc k s v)
-pointer_quiet device words A was r up p pc k s v = if_quiet (is_fixed words pc || is_proved A pc) _ _ (fixed_quiet device p.constant pc k s v) (refl, refl)
+pointer_quiet device words A was r up p pc k s v = if_quiet (is_fixed_site words A pc) _ _ (fixed_quiet device p.constant pc k s v) (refl, refl)
 
 pub jumping_quiet : (targets : Option (List ℕ)) (k : NodeKey) (s : AbsState) → Quiet (jumping targets k s)
 jumping_quiet None k s = (refl, refl)

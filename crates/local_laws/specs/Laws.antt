@@ -1,25 +1,28 @@
 -- Laws of the local part of a node.
-use Rattle.std.specs.Prelude.{ℕ, Some, None, Ok, Bool, ◌≢◌, ◌≡◌, ◌<◌, List, [], ◌++◌, map, Contains, ◌≤◌}
+use Rattle.std.specs.Prelude.{ℕ, Some, None, Ok, Bool, true, false, ◌≢◌, ◌≡◌, ◌<◌, List, [], ◌++◌, map, Contains, ◌≤◌}
 use Rattle.std.specs.List.Sorted.{IsStrictlySortedBy}
 use Rattle.std.specs.Ordering.{nat_cmp}
 use Rattle.avr_model.specs.Devices.{device_of, words_of, size_of}
 use Rattle.avr_model.specs.declared.device.Device.{Device}
 use Rattle.avr_model.specs.declared.assumption.Entry.{Entry}
+use Rattle.avr_model.specs.Assumptions.{is_never}
 use Rattle.avr_model.specs.Sites.{instruction_at}
 use Rattle.avr_model.specs.State.{State, IsReset}
+use Rattle.avr_model.specs.Vectors.{is_enabled, vector_word}
 use Rattle.sp_domain.specs.Tags.{Origin}
 use Rattle.abs_state.specs.declared.state.AbsState.{AbsState}
 use Rattle.abs_state.specs.Order.{IsStateWithin}
 use Rattle.vector_table.specs.Entries.{AreEntries}
 use Rattle.mask_states.specs.declared.keys.NodeKey.{NodeKey}
-use Rattle.mask_states.specs.declared.keys.SpForm.TheVariants.{Closed}
+use Rattle.mask_states.specs.declared.keys.High.{High}
+use Rattle.mask_states.specs.declared.keys.SpForm.TheVariants.{Closed, Open}
 use Rattle.mask_states.specs.Keys.{offset_of}
 use Rattle.mask_states.specs.Order.{node_cmp}
 use Rattle.local_rules.specs.declared.local.CallSite.{CallSite}
 use Rattle.local_rules.specs.declared.local.Exit.{Exit}
 use Rattle.local_rules.specs.declared.local.Node.{Node}
 use Rattle.local_rules.specs.Raw.{Raw}
-use Rattle.local_rules.specs.Local.{raw, joined_onto, local}
+use Rattle.local_rules.specs.Local.{is_hung, raw, joined_onto, local}
 use Rattle.local_rules.specs.Cover.{InFrame, IsNode, IsCovered, IsWithinBase, IsStep}
 use Rattle.local_rules.specs.Machine.{IsMachine, AreWords, floor_of}
 use Rattle.local_rules.specs.declared.local.Local.{Local}
@@ -105,6 +108,11 @@ pub record MachinesStay : Type 0 where
 pub record LiveBytesStay : Type 0 where
   pub kept : (m : State) (guarded : Bool) (e : Effect) → IsMachine m → live_write m.memory (e.stores ++ e.pushes) ≡ None
       → Keeps m.memory (after m guarded e).memory (floor_of (after m guarded e).is_open (after m guarded e).sp)
+
+-- An open stack pointer is hung where some vector may come: it is enabled with I set and no delay due, and its word has no `never` line.
+pub record OpenPairsHang : Type 0 where
+  pub hung : (device : Device) (A : List Entry) (k : NodeKey) (v offset : ℕ) (high : High) → k.i ≡ true → k.delay ≡ false → is_enabled k.masks v ≡ true
+      → is_never A (vector_word device v) ≡ false → is_hung device A k (Open offset high) ≡ true
 
 -- The local part in the words of a step: where there is no fault, no step is undefined, and a step that is done is covered. No closed
 -- successor may lie deeper than the base.

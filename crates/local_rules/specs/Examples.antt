@@ -1,7 +1,7 @@
 -- Worked nodes: each line computes.
 use Rattle.std.specs.Prelude.{ℕ, ◌≡◌, Bool, true, false, List, [], ◌∷◌, length, Option, Some, None, map, replicate, refl, slice_set}
 use Rattle.avr_model.specs.declared.assumption.Entry.TheVariants.{Jump}
-use Rattle.avr_model.specs.Assumptions.{jump_line}
+use Rattle.avr_model.specs.Assumptions.{jump_line, is_frame}
 use Rattle.avr_model.specs.Bits.{any_below, all_below}
 use Rattle.avr_model.specs.Devices.{device_of}
 use Rattle.avr_model.specs.Sites.{is_scratch, table_site, ijmp_from}
@@ -130,7 +130,7 @@ unfolding raw table_site ijmp_from is_scratch any_below all_below decoded device
 branches_once = refl
 
 clears_all : tags 0 (raw (firmware 0x2400 0xFFFF) [] (in_call (Closed 2)) pushed) ≡ tag.None ∷ []
-unfolding raw table_site ijmp_from is_scratch any_below all_below decoded device_of
+unfolding raw table_site ijmp_from is_scratch any_below all_below decoded device_of is_frame
 clears_all = refl
 
 -- ---- what C says of a register
@@ -152,16 +152,16 @@ zeros = record compared { registers = slice_set (slice_set root.registers 1 (kno
 
 -- `cpi r16, 4`
 compares : carries (raw (firmware 0x3004 0xFFFF) [] (in_root (Closed 0)) root) ≡ carry.Less 16 4 ∷ []
-unfolding raw table_site ijmp_from is_scratch any_below all_below decoded device_of
+unfolding raw table_site ijmp_from is_scratch any_below all_below decoded device_of is_frame
 compares = refl
 
 -- `cp r16, r1` of a register that is known, and of r1 with one that isn't
 compares_known : carries (raw (firmware 0x1501 0xFFFF) [] (in_root (Closed 0)) zeros) ≡ carry.Less 16 0 ∷ []
-unfolding raw table_site ijmp_from is_scratch any_below all_below decoded device_of packed
+unfolding raw table_site ijmp_from is_scratch any_below all_below decoded device_of packed is_frame
 compares_known = refl
 
 compares_unknown : carries (raw (firmware 0x1610 0xFFFF) [] (in_root (Closed 0)) zeros) ≡ carry.None ∷ []
-unfolding raw table_site ijmp_from is_scratch any_below all_below decoded device_of packed
+unfolding raw table_site ijmp_from is_scratch any_below all_below decoded device_of packed is_frame
 compares_unknown = refl
 
 -- `brbc 0, .+2`: from 4 on two words further, and below 4 at the next one
@@ -183,11 +183,11 @@ leads_once = refl
 
 -- `inc r16` writes the register, `inc r17` another one, `sec` writes C
 forgets : carries (raw (firmware 0x9503 0xFFFF) [] (in_root (Closed 0)) compared) ≡ carry.None ∷ []
-unfolding raw table_site ijmp_from is_scratch any_below all_below decoded device_of
+unfolding raw table_site ijmp_from is_scratch any_below all_below decoded device_of is_frame
 forgets = refl
 
 remembers : carries (raw (firmware 0x9513 0xFFFF) [] (in_root (Closed 0)) compared) ≡ carry.Less 16 4 ∷ []
-unfolding raw table_site ijmp_from is_scratch any_below all_below decoded device_of
+unfolding raw table_site ijmp_from is_scratch any_below all_below decoded device_of is_frame
 remembers = refl
 
 sets_carry : carries (raw (firmware 0x9408 0xFFFF) [] (in_root (Closed 0)) compared) ≡ carry.None ∷ []
@@ -201,20 +201,20 @@ forgets_by_address = refl
 
 -- `cpc r1, r2` of two zeros keeps it, and of unknown bytes doesn't
 keeps_under_zeros : carries (raw (firmware 0x0412 0xFFFF) [] (in_root (Closed 0)) zeros) ≡ carry.Less 16 4 ∷ []
-unfolding raw table_site ijmp_from is_scratch any_below all_below decoded device_of packed
+unfolding raw table_site ijmp_from is_scratch any_below all_below decoded device_of packed is_frame
 keeps_under_zeros = refl
 
 ends_under_unknown : carries (raw (firmware 0x0412 0xFFFF) [] (in_root (Closed 0)) compared) ≡ carry.None ∷ []
-unfolding raw table_site ijmp_from is_scratch any_below all_below decoded device_of packed
+unfolding raw table_site ijmp_from is_scratch any_below all_below decoded device_of packed is_frame
 ends_under_unknown = refl
 
 -- `mov r0, r16` and `and r16, r16` keep the range
 copies_range : ranges 0 (raw (firmware 0x2E00 0xFFFF) [] (in_root (Closed 0)) compared_again) ≡ (1, 0, 3) ∷ []
-unfolding raw table_site ijmp_from is_scratch any_below all_below decoded device_of packed
+unfolding raw table_site ijmp_from is_scratch any_below all_below decoded device_of packed is_frame
 copies_range = refl
 
 keeps_range : ranges 16 (raw (firmware 0x2300 0xFFFF) [] (in_root (Closed 0)) compared_again) ≡ (1, 0, 3) ∷ []
-unfolding raw table_site ijmp_from is_scratch any_below all_below decoded device_of packed
+unfolding raw table_site ijmp_from is_scratch any_below all_below decoded device_of packed is_frame
 keeps_range = refl
 
 -- ---- on the smallest device, which has 2,048 words of flash, 512 bytes of SRAM and no `jmp`

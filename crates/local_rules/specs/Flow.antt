@@ -62,6 +62,7 @@ with_value s r (Some v) = Some (record s { registers = set s r v })
 abbrev pub where_carry : CarryTag → AbsState → Bool → Option AbsState
 where_carry carry.None s c = Some s
 where_carry (carry.Borrow j l) s c = Some s
+where_carry (carry.Sum j l) s c = Some s
 where_carry (carry.Less r n) s c = with_value s r (part_of c (value s r) n)
 
 abbrev pub going_where : NodeKey → Option AbsState → ℕ → Raw

@@ -7,13 +7,17 @@ use Rattle.avr_model.specs.declared.assumption.Entry.{Entry}
 use Rattle.avr_model.specs.declared.instruction.Instr.{Instr}
 use Rattle.avr_model.specs.declared.instruction.Instr.TheVariants as i
 use Rattle.avr_model.specs.declared.instruction.BinaryOp.{BinaryOp}
+use Rattle.avr_model.specs.declared.instruction.ImmediateOp.{ImmediateOp}
+use Rattle.avr_model.specs.declared.instruction.UnaryOp.{UnaryOp}
 use Rattle.avr_model.specs.declared.instruction.Pointer.{Pointer}
 use Rattle.avr_model.specs.declared.instruction.Pointer.TheVariants as pointer
 use Rattle.avr_model.specs.declared.operation.Mul.TheVariants as product
 use Rattle.avr_model.specs.Devices.{words_of, size_of, wrapped, device_of}
 use Rattle.avr_model.specs.Text.{far, near}
 use Rattle.avr_model.specs.Written.{written}
-use Rattle.avr_model.specs.Assumptions.{jump_line}
+use Rattle.avr_model.specs.Assumptions.{jump_line, is_never, is_frame}
+use Rattle.avr_model.specs.Bits.{any_below}
+use Rattle.avr_model.specs.Vectors.{is_enabled, vector_word}
 use Rattle.avr_model.specs.Sites.{instruction_at, is_scratch, table_site, base_register, pointer_register}
 use Rattle.avr_model.specs.Effects.{port}
 use Rattle.bit_domain.specs.declared.bits.Tri.TheVariants.{Zero, One}
@@ -35,7 +39,8 @@ use Rattle.local_rules.specs.declared.local.NodeFault.{NodeFault}
 use Rattle.local_rules.specs.declared.local.NodeFault.TheVariants.{UnresolvedJump, Unsupported}
 use Rattle.local_rules.specs.Faults.{least}
 use Rattle.local_rules.specs.Raw.{Raw, nowhere, fails, all_of, untracked_if, too_deep_if, at_word, next, further, going_to, going_on, setting}
-use Rattle.local_rules.specs.Registers.{value, bits, set, with_bits, going_with, going_by, forgetting, binary_after, pair_copied, bit_loaded, bit_stored, product_row, wide_row, pair_moved, flag_row, immediate_row, unary_row}
+use Rattle.local_rules.specs.Registers.{value, bits, set, with_bits, going_with, going_by, forgetting, pair_copied, bit_loaded, bit_stored, product_row, wide_row, pair_moved, flag_row}
+use Rattle.local_rules.specs.FrameLines.{binary_at, immediate_at, unary_at}
 use Rattle.local_rules.specs.Reads.{read_at, pointed, pair_constant, read_pointed, flash_value}
 use Rattle.local_rules.specs.Writes.{written_at, pointer_write}
 use Rattle.local_rules.specs.Flow.{branch, skipping, flag_at, flag_branch, targets_at, jumping, at_closed, pushing, popping, relative_call, calling, indirect_call, returning, ret_exit, reti_exit}
@@ -43,8 +48,14 @@ use Rattle.local_rules.specs.Flow.{branch, skipping, flag_at, flag_branch, targe
 -- ---- registers
 
 -- `cpse` skips where the registers are equal
-abbrev pub binary_row : Device → List ℕ → NodeKey → AbsState → BinaryOp → ℕ → ℕ → Raw
-binary_row device words k s op d r = going_by device k s (binary_after s op d r) (skipping device words k s (byte_equal (bits s d) (bits s r)))
+abbrev pub binary_row : Device → List ℕ → Bool → NodeKey → AbsState → BinaryOp → ℕ → ℕ → Raw
+binary_row device words line k s op d r = going_by device k s (binary_at line s op d r) (skipping device words k s (byte_equal (bits s d) (bits s r)))
+
+abbrev pub immediate_row : Device → Bool → NodeKey → AbsState → ImmediateOp → ℕ → ℕ → Raw
+immediate_row device line k s op d n = going_with device k s (immediate_at line s op d n)
+
+abbrev pub unary_row : Device → Bool → NodeKey → AbsState → UnaryOp → ℕ → Raw
+unary_row device line k s op d = going_with device k s (unary_at line s op d)
 
 -- ---- loads and stores
 
@@ -140,9 +151,9 @@ row_of device words A scratch k s (i.Mulsu d r) = product_row device k s product
 row_of device words A scratch k s (i.Fmul d r) = product_row device k s product.Fmul d r
 row_of device words A scratch k s (i.Fmuls d r) = product_row device k s product.Fmuls d r
 row_of device words A scratch k s (i.Fmulsu d r) = product_row device k s product.Fmulsu d r
-row_of device words A scratch k s (i.Binary op d r) = binary_row device words k s op d r
-row_of device words A scratch k s (i.Immediate op d n) = immediate_row device k s op d n
-row_of device words A scratch k s (i.Unary op d) = unary_row device k s op d
+row_of device words A scratch k s (i.Binary op d r) = binary_row device words (is_frame A k.pc) k s op d r
+row_of device words A scratch k s (i.Immediate op d n) = immediate_row device (is_frame A k.pc) k s op d n
+row_of device words A scratch k s (i.Unary op d) = unary_row device (is_frame A k.pc) k s op d
 row_of device words A scratch k s (i.Adiw d n) = wide_row device k s true (2 * d) n
 row_of device words A scratch k s (i.Sbiw d n) = wide_row device k s false (2 * d) n
 row_of device words A scratch k s (i.Bset n) = flag_row device k s n true
@@ -159,10 +170,14 @@ row_at device words A scratch k s (Some instr) = row_of device words A scratch k
 
 -- ---- the node
 
+-- some vector is enabled whose word has no `never` line
+unfoldable pub may_come : Device → List Entry → ℕ → Bool
+may_come device A masks = any_below 27 (λ v. is_enabled masks v && not (is_never A (vector_word device v)))
+
 -- an interrupt may come while the stack pointer is half written
-abbrev pub is_hung : NodeKey → SpForm → Bool
-is_hung k (Closed offset) = false
-is_hung k (Open offset h) = k.i && not k.delay && not (k.masks == 0)
+abbrev pub is_hung : Device → List Entry → NodeKey → SpForm → Bool
+is_hung device A k (Closed offset) = false
+is_hung device A k (Open offset h) = k.i && not k.delay && may_come device A k.masks
 
 -- the instruction of a node; behind the device's flash there is none
 abbrev pub fetched : Device → List ℕ → ℕ → Option Instr
@@ -217,7 +232,7 @@ row_in device words A k s = row_at device words A (is_scratch words k.pc) k s (f
 -- all that a node leads to, with all its faults, on the device of these words
 unfoldable pub raw : List ℕ → List Entry → NodeKey → AbsState → Raw
 raw words A k s =
-    untracked_if (is_hung k k.sp) k.pc
+    untracked_if (is_hung (device_of words) A k k.sp) k.pc
     (too_deep_if (nat_lt (size_of (device_of words)) (offset_of k.sp)) k.pc (offset_of k.sp)
     (splitting (split_site words A k.pc k.pick) (row_in (device_of words) words A) k s))
 

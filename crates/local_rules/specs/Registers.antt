@@ -61,6 +61,7 @@ set_pair registers r lo hi = slice_set (slice_set registers r lo) (r + 1) hi
 abbrev pub forgotten : List ℕ → CarryTag → CarryTag
 forgotten written carry.None = carry.None
 forgotten written (carry.Borrow j l) = carry.Borrow j l
+forgotten written (carry.Sum j l) = carry.Sum j l
 forgotten written (carry.Less r k) = if list_any (λ n. n == r) written then carry.None else carry.Less r k
 
 abbrev pub forgetting : List ℕ → AbsState → AbsState
@@ -92,10 +93,14 @@ register_set s d v = both_set (set s d v) s.flags
 
 -- ---- sums and differences
 
-abbrev pub sum_after : AbsState → ℕ → TriByte → Tri → Computed
-sum_after s d b c =
+-- a sum, with the tag of the result and that of the carry
+abbrev pub sum_tagged : AbsState → ℕ → TriByte → Tri → Tag → CarryTag → Computed
+sum_tagged s d b c t w =
     let r = abs_add (bits s d) b c s.flags.bits in
-    both_set (set s d (untagged r.0)) (with_carry r.1 carry.None)
+    both_set (set s d (with_bits t r.0)) (with_carry r.1 w)
+
+abbrev pub sum_after : AbsState → ℕ → TriByte → Tri → Computed
+sum_after s d b c = sum_tagged s d b c tag.None carry.None
 
 -- a comparison sets the flags alone, with what C says afterwards
 abbrev pub compare_after : AbsState → TriByte → TriByte → Tri → Bool → CarryTag → Computed
@@ -110,6 +115,7 @@ less_than d (Some n) = carry.Less d n
 abbrev pub less_alone : CarryTag → CarryTag
 less_alone carry.None = carry.None
 less_alone (carry.Borrow j l) = carry.None
+less_alone (carry.Sum j l) = carry.None
 less_alone (carry.Less r n) = carry.Less r n
 
 abbrev pub less_kept : Option ℕ → Option ℕ → CarryTag → CarryTag
@@ -154,10 +160,14 @@ logic_after s op d a b same =
     let r = abs_logic op a b s.flags.bits in
     both_set (set s d (if same then value s d else untagged r.0)) (but_carry s r.1)
 
-abbrev pub step_after : AbsState → Bool → ℕ → Computed
-step_after s up d =
+-- a register plus 1, or less 1, with the tag of the result
+abbrev pub step_tagged : AbsState → Bool → ℕ → Tag → Computed
+step_tagged s up d t =
     let r = abs_step_one up (bits s d) s.flags.bits in
-    both_set (set s d (untagged r.0)) (but_carry s r.1)
+    both_set (set s d (with_bits t r.0)) (but_carry s r.1)
+
+abbrev pub step_after : AbsState → Bool → ℕ → Computed
+step_after s up d = step_tagged s up d tag.None
 
 abbrev pub shift_after : AbsState → Shift → ℕ → Computed
 shift_after s op d =
@@ -248,9 +258,6 @@ immediate_after s immediate.Ori d n = logic_after s logic.Or d (bits s d) (byte_
 immediate_after s immediate.Andi d n = logic_after s logic.And d (bits s d) (byte_known n) false
 immediate_after s immediate.Ldi d n = register_set s d (known n)
 
-abbrev pub immediate_row : Device → NodeKey → AbsState → ImmediateOp → ℕ → ℕ → Raw
-immediate_row device k s op d n = going_with device k s (immediate_after s op d n)
-
 abbrev pub unary_after : AbsState → UnaryOp → ℕ → Computed
 unary_after s unary.Com d = com_after s d
 unary_after s unary.Neg d = difference_after s d (byte_known 0) (bits s d) Zero false tag.None carry.None
@@ -260,9 +267,6 @@ unary_after s unary.Asr d = shift_after s shift.Asr d
 unary_after s unary.Lsr d = shift_after s shift.Lsr d
 unary_after s unary.Ror d = shift_after s shift.Ror d
 unary_after s unary.Dec d = step_after s false d
-
-abbrev pub unary_row : Device → NodeKey → AbsState → UnaryOp → ℕ → Raw
-unary_row device k s op d = going_with device k s (unary_after s op d)
 
 -- all but `cpse`
 abbrev pub binary_after : AbsState → BinaryOp → ℕ → ℕ → Option Computed

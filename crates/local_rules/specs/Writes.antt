@@ -1,10 +1,9 @@
 -- What a byte that is written to data space changes. Source: own.
-use Rattle.std.specs.Prelude.{ℕ, ◌+◌, ◌*◌, ◌-◌, ◌%◌, ◌==◌, ◌&&◌, ◌||◌, Bool, true, false, not, nat_lt, nat_le, if◌then◌else◌, List, [], ◌∷◌, map, filter, Option, Some, None, slice_set}
+use Rattle.std.specs.Prelude.{ℕ, ◌+◌, ◌*◌, ◌-◌, ◌%◌, ◌==◌, ◌&&◌, Bool, true, false, not, nat_lt, nat_le, if◌then◌else◌, List, [], ◌∷◌, map, filter, Option, Some, None, slice_set}
 use Rattle.avr_model.specs.declared.device.Device.{Device}
 use Rattle.avr_model.specs.declared.assumption.Entry.{Entry}
 use Rattle.avr_model.specs.Devices.{size_of, ramend}
-use Rattle.avr_model.specs.Assumptions.{store_line, is_proved}
-use Rattle.avr_model.specs.Sites.{is_fixed}
+use Rattle.avr_model.specs.Assumptions.{store_line, is_fixed_site}
 use Rattle.avr_model.specs.State.{SPL, SPH, SREG, low, high, minus16}
 use Rattle.bit_domain.specs.declared.bits.Tri.{Tri}
 use Rattle.bit_domain.specs.declared.bits.Tri.TheVariants.{Zero, One, Any}
@@ -141,6 +140,6 @@ listed_writes device pc k s addresses v = all_of (one k s ∷ map (λ a. written
 -- A byte v is stored through registers r and r + 1 plus a number, as they were in the state `was`.
 abbrev pub pointer_write : Device → List ℕ → List Entry → AbsState → ℕ → ℕ → Pointed → ℕ → NodeKey → AbsState → AbsByte → Raw
 pointer_write device words A was r up p pc k s v =
-    if is_fixed words pc || is_proved A pc
+    if is_fixed_site words A pc
     then fixed_write device p.constant pc k s v
     else listed_writes device pc k s (filter (λ a. reaches was r up a) (store_line A pc)) v

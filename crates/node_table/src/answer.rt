@@ -68,6 +68,7 @@ fn show_flags(rt: &HostRuntime, state: &AbsState, before: &AbsState) -> io::Resu
         CarryTag::Borrow(j, k) if flags.carry != was.carry => {
             print!(rt; " carry=b{j:02X}{k:02X}")
         }
+        CarryTag::Sum(j, k) if flags.carry != was.carry => { print!(rt; " carry=s{j:02X}{k:02X}") }
         CarryTag::Less(r, number) if flags.carry != was.carry => {
             print!(rt; " carry=c{r:02X}{number:02X}")
         }

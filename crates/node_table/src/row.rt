@@ -132,14 +132,16 @@ fn slot(text: &str) -> Option<Slot<AbsByte>> {
     }
 }
 
-// `b`, and two digits each for the low byte of the base less which the number is, and what is subtracted; or `c`, and two digits each
-// for a register and the number that it is compared with.
+// `b` or `s`, and two digits each for the low byte of the base less which the number is, and what is subtracted or added; or `c`, and two
+// digits each for a register and the number that it is compared with.
 fn carry(text: &str) -> Option<CarryTag> {
     let (kind, both) = text.split_at_checked(1)?;
     let both = number(both)?;
     let (first, second) = ((both / 256) as u8, (both % 256) as u8);
     if kind == "b" {
         Some(CarryTag::Borrow(first, second))
+    } else if kind == "s" {
+        Some(CarryTag::Sum(first, second))
     } else if kind == "c" {
         Some(CarryTag::Less(first, second))
     } else {

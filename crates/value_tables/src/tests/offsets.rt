@@ -2,7 +2,10 @@
 
 ghost use Rattle.std.specs.Prelude.{◌≡◌, []};
 
-use sp_domain::{CarryTag, Slot, Slots, Tag, frame, move_pair, sub_high, sub_low};
+use sp_domain::{
+    CarryTag, Slot, Slots, Tag, add_byte, add_high, frame, move_high, move_pair, sub_byte,
+    sub_high, sub_low,
+};
 use std::alloc::{AllocError, Global};
 use std::test::Fail;
 
@@ -17,11 +20,14 @@ static TAGS: [Tag; 8] = [
     Tag::SpHi(258),
 ];
 
-static CARRY_TAGS: [CarryTag; 7] = [
+static CARRY_TAGS: [CarryTag; 10] = [
     CarryTag::None,
     CarryTag::Borrow(2, 0),
     CarryTag::Borrow(2, 1),
     CarryTag::Borrow(3, 0),
+    CarryTag::Sum(2, 0),
+    CarryTag::Sum(2, 1),
+    CarryTag::Sum(3, 0),
     CarryTag::Less(2, 0),
     CarryTag::Less(2, 1),
     CarryTag::Less(3, 0),
@@ -73,9 +79,17 @@ enum Row {
     Low(Tag, u8, Tag, CarryTag),
     // The tag of a high byte, what is subtracted, the tag of the borrow, and the tag of the difference.
     High(Tag, u8, CarryTag, Tag),
+    // The tag of a byte, what is added, and the tags of the sum and of the carry.
+    Add(Tag, u8, Tag, CarryTag),
+    // The tag of a byte, what is subtracted, and the tag of the difference.
+    Less(Tag, u8, Tag),
+    // The tag of a high byte, what is added, the tag of the carry, and the tag of the sum.
+    Raise(Tag, u8, CarryTag, Tag),
+    // The tag of a high byte, whether it moves up, how far, and the tag then.
+    Page(Tag, bool, u8, Tag),
 }
 
-static ROWS: [Row; 33] = [
+static ROWS: [Row; 51] = [
     Row::Frame(Tag::SpLo(2), Tag::SpHi(2), Some(2)),
     Row::Frame(Tag::SpLo(2), Tag::SpHi(258), Some(258)),
     Row::Frame(Tag::SpLo(255), Tag::SpHi(65535), Some(65535)),
@@ -147,6 +161,27 @@ static ROWS: [Row; 33] = [
     Row::High(Tag::SpLo(2), 1, CarryTag::Borrow(2, 0), Tag::None),
     Row::High(Tag::SpHi(258), 1, CarryTag::Borrow(2, 7), Tag::SpHi(521)),
     Row::High(Tag::SpHi(258), 0, CarryTag::Borrow(2, 0), Tag::SpHi(258)),
+    Row::High(Tag::SpHi(2), 1, CarryTag::Sum(2, 0), Tag::None),
+    // add r28, 32; adc r29, 0, which gives a frame back, and past a multiple of 256
+    Row::Add(Tag::SpLo(34), 32, Tag::SpLo(2), CarryTag::Sum(34, 32)),
+    Row::Raise(Tag::SpHi(34), 0, CarryTag::Sum(34, 32), Tag::SpHi(2)),
+    Row::Add(Tag::SpLo(4), 10, Tag::SpLo(250), CarryTag::Sum(4, 10)),
+    Row::Raise(Tag::SpHi(260), 0, CarryTag::Sum(4, 10), Tag::SpHi(250)),
+    Row::Raise(Tag::SpHi(258), 1, CarryTag::Sum(2, 7), Tag::SpHi(65531)),
+    // nothing is known without the carry of the low byte
+    Row::Raise(Tag::SpHi(34), 0, CarryTag::None, Tag::None),
+    Row::Raise(Tag::SpHi(34), 0, CarryTag::Sum(35, 32), Tag::None),
+    Row::Raise(Tag::SpHi(34), 0, CarryTag::Borrow(34, 32), Tag::None),
+    Row::Raise(Tag::SpLo(34), 0, CarryTag::Sum(34, 32), Tag::None),
+    // a high byte alone moves whole pages, and a low one leaves no carry behind
+    Row::Add(Tag::SpHi(258), 1, Tag::SpHi(2), CarryTag::None),
+    Row::Add(Tag::SpHi(2), 255, Tag::SpHi(258), CarryTag::None),
+    Row::Add(Tag::EntryFlags, 1, Tag::None, CarryTag::None),
+    Row::Less(Tag::SpHi(2), 1, Tag::SpHi(258)),
+    Row::Less(Tag::SpLo(250), 10, Tag::SpLo(4)),
+    Row::Page(Tag::SpHi(258), true, 1, Tag::SpHi(2)),
+    Row::Page(Tag::SpHi(2), true, 1, Tag::SpHi(65282)),
+    Row::Page(Tag::SpLo(2), false, 1, Tag::None),
 ];
 
 fn is_row(row: &Row) -> bool {
@@ -155,6 +190,10 @@ fn is_row(row: &Row) -> bool {
         Row::Move(lo, hi, down, low, high) => move_pair(lo, hi, down) == (low, high),
         Row::Low(t, k, less, carry) => sub_low(t, k) == (less, carry),
         Row::High(t, k, carry, less) => sub_high(t, k, carry) == less,
+        Row::Add(t, n, more, carry) => add_byte(t, n) == (more, carry),
+        Row::Less(t, n, less) => sub_byte(t, n) == less,
+        Row::Raise(t, n, carry, more) => add_high(t, n, carry) == more,
+        Row::Page(t, up, n, moved) => move_high(t, up, n) == moved,
     }
 }
 
@@ -182,12 +221,27 @@ fn is_difference(base: u16, k: u16, less: u16) -> bool {
     place == Some(u16::from_le_bytes([low, high]))
 }
 
+// Whether the base less k, and a number byte by byte, is where the tags say.
+fn is_sum(base: u16, k: u16, more: u16) -> bool {
+    let before = base.wrapping_sub(k).to_le_bytes();
+    let bytes = more.to_le_bytes();
+    let (low, carried) = before[0].overflowing_add(bytes[0]);
+    let high = before[1]
+        .wrapping_add(bytes[1])
+        .wrapping_add(u8::from(carried));
+    let (lo, carry) = add_byte(Tag::SpLo(k.to_le_bytes()[0]), bytes[0]);
+    let hi = add_high(Tag::SpHi(k), bytes[1], carry);
+    let place = frame(lo, hi).map(|j| base.wrapping_sub(j));
+    place == Some(u16::from_le_bytes([low, high]))
+}
+
 #[test]
 fn tags_say_what_the_bytes_are(rt: HostRuntime) {
     for &base in &WORDS {
         for &k in &WORDS {
             for &less in &WORDS {
-                assert!(rt; is_difference(base, k, less), "{base} {k} {less}");
+                let holds = is_difference(base, k, less) && is_sum(base, k, less);
+                assert!(rt; holds, "{base} {k} {less}");
             }
         }
     }

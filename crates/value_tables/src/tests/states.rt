@@ -69,7 +69,7 @@ enum Join {
     Flags(AbsFlags, AbsFlags, AbsFlags),
 }
 
-fn joins() -> [Join; 8] {
+fn joins() -> [Join; 9] {
     let low = tagged(Tag::SpLo(3), 0xff, 0x45);
     let any = AbsByte::unknown();
     let less = flags(false, 0x03, 0x01, CarryTag::Less(16, 4));
@@ -102,6 +102,11 @@ fn joins() -> [Join; 8] {
         Join::Flags(kept, changed, changed),
         Join::Flags(kept, untied, flags(true, 0x01, 0x01, CarryTag::None)),
         Join::Flags(less, same, same),
+        Join::Flags(
+            kept,
+            flags(true, 0x03, 0x01, CarryTag::Sum(3, 5)),
+            flags(true, 0x03, 0x01, CarryTag::None),
+        ),
         Join::Flags(
             less,
             flags(false, 0x03, 0x01, CarryTag::Less(16, 5)),
@@ -173,7 +178,7 @@ fn an_entry_tags_each_register(rt: HostRuntime) -> Result<(), Fail> {
 type Known = (AbsByte, AbsByte, AbsFlags);
 
 // A caller, an exit, and what is known after the return: none where no machine returns so.
-fn returns() -> [(Known, Known, Option<Known>); 9] {
+fn returns() -> [(Known, Known, Option<Known>); 10] {
     let any = AbsByte::unknown();
     let kept = flags(false, 0x01, 0x01, CarryTag::Borrow(3, 5));
     let entry = flags(true, 0x01, 0x01, CarryTag::Borrow(3, 5));
@@ -204,6 +209,12 @@ fn returns() -> [(Known, Known, Option<Known>); 9] {
             (any, any, entry),
             (any, any, changed),
             Some((any, any, flags(false, 0x01, 0x00, CarryTag::None))),
+        ),
+        // what a sum left in C is kept as what a difference left
+        (
+            (any, any, flags(true, 0x01, 0x01, CarryTag::Sum(3, 5))),
+            (any, any, tied),
+            Some((any, any, flags(true, 0x01, 0x01, CarryTag::Sum(3, 5)))),
         ),
         // bits that differ, of a byte and of the flags, and flags that may
         (
