@@ -27,7 +27,7 @@ use Rattle.local_laws.proofs.AllLaws.{none_in, here, there, first_or, in_map, ea
 use Rattle.edge_rules.specs.Edges.{IsFaultless, raw_of, Enters, by_call, by_interrupt, returned_key, IsEdge, moving, entering, returning, AreEdges}
 use Rattle.edge_rules.specs.declared.edge.Edge.{Edge}
 use Rattle.call_graph.specs.declared.ways.Way.{Way}
-use Rattle.call_graph.specs.Ways.{call_way, vector_way, at_vector, vectors_below, interrupts_if, ways_by, ways_of}
+use Rattle.call_graph.specs.Ways.{call_way, vector_way, may_enter, at_vector, vectors_below, interrupts_if, ways_by, ways_of}
 use Rattle.call_graph.specs.Laws.{LocalPartsAreEdges}
 use Rattle.call_graph.specs.Next.{gathered, local_edge, entry_edge, exit_in, returned_as, edge_back, returned_by, return_edges, return_if, returns_in, all_returns, edges_with, next_by, next_of}
 
@@ -83,26 +83,36 @@ exit_there words A n x f e = subst (λ fs. exit_in (settled (raw_of words A n) f
 enabled_bounds : (m v : ℕ) → is_enabled m v ≡ true → (2 ≤ v) × (v < 27)
 enabled_bounds m v e = (grind (arith, nat_tests), grind (arith, nat_tests))
 
-at_vector_in : (words : List ℕ) (k : NodeKey) (v : ℕ) (clears : Bool) → is_enabled k.masks v ≡ true → (not clears || (v == WATCHDOG)) ≡ true
-    → Contains (at_vector words k v) (vector_way words k v clears)
-at_vector_in words k v false on c =
+both : (i d : Bool) → i ≡ true → d ≡ false → (i && not d) ≡ true
+both true false ei ed = refl
+both true true ei ed = absurd cc
+both false d ei ed = absurd cc
+
+parts_of : (i d : Bool) → (i && not d) ≡ true → (i ≡ true) × (d ≡ false)
+parts_of true false e = (refl, refl)
+parts_of true true e = absurd cc
+parts_of false d e = absurd cc
+
+at_vector_in : (words : List ℕ) (A : List Entry) (k : NodeKey) (v : ℕ) (clears : Bool) → may_enter words A k v ≡ true → (not clears || (v == WATCHDOG)) ≡ true
+    → Contains (at_vector words A k v) (vector_way words k v clears)
+at_vector_in words A k v false on c =
     let rest = (if v == WATCHDOG then vector_way words k v true ∷ [] else []) in
     subst (λ b. Contains (if b then (vector_way words k v false ∷ rest) else []) (vector_way words k v false)) (sym on) (here (vector_way words k v false) rest)
-at_vector_in words k v true on c =
+at_vector_in words A k v true on c =
     subst (λ b. Contains (if b then (vector_way words k v false ∷ (if v == WATCHDOG then vector_way words k v true ∷ [] else [])) else []) (vector_way words k v true)) (sym on)
     (subst (λ b. Contains (vector_way words k v false ∷ (if b then vector_way words k v true ∷ [] else [])) (vector_way words k v true)) (sym c)
     (there (vector_way words k v false) (vector_way words k v true) (vector_way words k v true ∷ []) (here (vector_way words k v true) [])))
 
-vectors_in : (words : List ℕ) (k : NodeKey) (n v : ℕ) (clears : Bool) → 2 ≤ v → v < n + 2 → is_enabled k.masks v ≡ true → (not clears || (v == WATCHDOG)) ≡ true
-    → Contains (vectors_below words k n) (vector_way words k v clears)
+vectors_in : (words : List ℕ) (A : List Entry) (k : NodeKey) (n v : ℕ) (clears : Bool) → 2 ≤ v → v < n + 2 → may_enter words A k v ≡ true → (not clears || (v == WATCHDOG)) ≡ true
+    → Contains (vectors_below words A k n) (vector_way words k v clears)
 unfolding vectors_below
-vectors_in words k zero v clears low high on c = absurd (omega (arith, low, high))
-vectors_in words k (suc n) v clears low high on c =
+vectors_in words A k zero v clears low high on c = absurd (omega (arith, low, high))
+vectors_in words A k (suc n) v clears low high on c =
     ⊎_elim
-    (λ e. Contains-append_right (vectors_below words k n) (at_vector words k (n + 2)) (vector_way words k v clears)
-    (subst (λ u. Contains (at_vector words k u) (vector_way words k v clears)) e.1 (at_vector_in words k v clears on c)))
-    (λ ne. Contains-append_left (vectors_below words k n) (at_vector words k (n + 2)) (vector_way words k v clears)
-    (vectors_in words k n v clears low (let d = ne.1 in omega (arith, high, d)) on c))
+    (λ e. Contains-append_right (vectors_below words A k n) (at_vector words A k (n + 2)) (vector_way words k v clears)
+    (subst (λ u. Contains (at_vector words A k u) (vector_way words k v clears)) e.1 (at_vector_in words A k v clears on c)))
+    (λ ne. Contains-append_left (vectors_below words A k n) (at_vector words A k (n + 2)) (vector_way words k v clears)
+    (vectors_in words A k n v clears low (let d = ne.1 in omega (arith, high, d)) on c))
     (eqb_tells v (n + 2))
 
 module _ (words : List ℕ) (A : List Entry) (n : Node) (clean : IsFaultless words A n) where
@@ -111,55 +121,52 @@ module _ (words : List ℕ) (A : List Entry) (n : Node) (clean : IsFaultless wor
   IsWay w = Enters words A n w.kind w.inst w.back
 
   module _ (offset : ℕ) (sp : n.key.sp ≡ Closed offset) (i : n.key.i ≡ true) (delay : n.key.delay ≡ false) where
-    at_by : (v : ℕ) (b c : Bool) → is_enabled n.key.masks v ≡ b → (v == WATCHDOG) ≡ c → (w : Way)
+    at_by : (v : ℕ) (b c : Bool) → may_enter words A n.key v ≡ b → (v == WATCHDOG) ≡ c → (w : Way)
         → Contains (if b then (vector_way words n.key v false ∷ (if c then vector_way words n.key v true ∷ [] else [])) else []) w → IsWay w
     at_by v false c on is w h = absurd (none_in w h)
     at_by v true false on is w h =
-        subst IsWay (sym (only (vector_way words n.key v false) w h)) (by_interrupt offset v false clean sp i delay on refl)
+        let come = parts_of (is_enabled n.key.masks v) _ on in
+        subst IsWay (sym (only (vector_way words n.key v false) w h)) (by_interrupt offset v false clean sp i delay come.0 come.1 refl)
     at_by v true true on is w h =
-        ⊎_elim (λ e. subst IsWay (sym e) (by_interrupt offset v false clean sp i delay on refl))
-        (λ j. subst IsWay (sym (only (vector_way words n.key v true) w j)) (by_interrupt offset v true clean sp i delay on is))
+        let come = parts_of (is_enabled n.key.masks v) _ on in
+        ⊎_elim (λ e. subst IsWay (sym e) (by_interrupt offset v false clean sp i delay come.0 come.1 refl))
+        (λ j. subst IsWay (sym (only (vector_way words n.key v true) w j)) (by_interrupt offset v true clean sp i delay come.0 come.1 is))
         (first_or (vector_way words n.key v false) w (vector_way words n.key v true ∷ []) h)
 
-    vectors_from : (m : ℕ) (w : Way) → Contains (vectors_below words n.key m) w → IsWay w
+    vectors_from : (m : ℕ) (w : Way) → Contains (vectors_below words A n.key m) w → IsWay w
     unfolding vectors_below
     vectors_from zero w h = absurd (none_in w h)
     vectors_from (suc m) w h =
-        ⊎_elim (λ j. vectors_from m w j) (λ j. at_by (m + 2) (is_enabled n.key.masks (m + 2)) ((m + 2) == WATCHDOG) refl refl w j)
-        (Contains-append_cases (vectors_below words n.key m) (at_vector words n.key (m + 2)) w h)
+        ⊎_elim (λ j. vectors_from m w j) (λ j. at_by (m + 2) (may_enter words A n.key (m + 2)) ((m + 2) == WATCHDOG) refl refl w j)
+        (Contains-append_cases (vectors_below words A n.key m) (at_vector words A n.key (m + 2)) w h)
 
   interrupts_from : (offset : ℕ) → n.key.sp ≡ Closed offset → (i d : Bool) → n.key.i ≡ i → n.key.delay ≡ d → (w : Way)
-      → Contains (interrupts_if (i && not d) words n.key) w → IsWay w
+      → Contains (interrupts_if (i && not d) words A n.key) w → IsWay w
   interrupts_from offset sp false d ei ed w h = absurd (none_in w h)
   interrupts_from offset sp true true ei ed w h = absurd (none_in w h)
   interrupts_from offset sp true false ei ed w h = vectors_from offset sp ei ed 25 w h
 
-  ways_from : (sp : SpForm) → n.key.sp ≡ sp → (w : Way) → Contains (ways_by sp words n.key (raw_of words A n).calls) w → IsWay w
+  ways_from : (sp : SpForm) → n.key.sp ≡ sp → (w : Way) → Contains (ways_by sp words A n.key (raw_of words A n).calls) w → IsWay w
   ways_from (Closed offset) e w h =
       ⊎_elim (each_in_map (call_way n.key) IsWay (raw_of words A n).calls (λ site j. by_call offset site clean e j) w)
       (interrupts_from offset e n.key.i n.key.delay refl refl w)
-      (Contains-append_cases (map (call_way n.key) (raw_of words A n).calls) (interrupts_if (n.key.i && not n.key.delay) words n.key) w h)
+      (Contains-append_cases (map (call_way n.key) (raw_of words A n).calls) (interrupts_if (n.key.i && not n.key.delay) words A n.key) w h)
   ways_from (Open offset high) e w h = absurd (none_in w h)
 
-both : (i d : Bool) → i ≡ true → d ≡ false → (i && not d) ≡ true
-both true false ei ed = refl
-both true true ei ed = absurd cc
-both false d ei ed = absurd cc
-
 way_in : (words : List ℕ) (A : List Entry) (n : Node) (way : EdgeKind) (inst : InstKey) (back : ℕ) → Enters words A n way inst back
-    → Contains (ways_of words n.key (raw_of words A n).calls) (record { kind = way; inst = inst; back = back })
+    → Contains (ways_of words A n.key (raw_of words A n).calls) (record { kind = way; inst = inst; back = back })
 way_in words A n _ _ _ (by_call offset site clean sp has) =
     let calls = (raw_of words A n).calls in
-    subst (λ p. Contains (ways_by p words n.key calls) (call_way n.key site)) (sym sp)
-    (Contains-append_left (map (call_way n.key) calls) (interrupts_if (n.key.i && not n.key.delay) words n.key) (call_way n.key site) (in_map (call_way n.key) calls site has))
-way_in words A n _ _ _ (by_interrupt offset v clears clean sp i delay on c) =
+    subst (λ p. Contains (ways_by p words A n.key calls) (call_way n.key site)) (sym sp)
+    (Contains-append_left (map (call_way n.key) calls) (interrupts_if (n.key.i && not n.key.delay) words A n.key) (call_way n.key site) (in_map (call_way n.key) calls site has))
+way_in words A n _ _ _ (by_interrupt offset v clears clean sp i delay on allowed c) =
     let calls = (raw_of words A n).calls in
     let bounds = enabled_bounds n.key.masks v on in
     let w = vector_way words n.key v clears in
-    subst (λ p. Contains (ways_by p words n.key calls) w) (sym sp)
-    (Contains-append_right (map (call_way n.key) calls) (interrupts_if (n.key.i && not n.key.delay) words n.key) w
-    (subst (λ b. Contains (interrupts_if b words n.key) w) (sym (both n.key.i n.key.delay i delay))
-    (vectors_in words n.key 25 v clears bounds.0 bounds.1 on c)))
+    subst (λ p. Contains (ways_by p words A n.key calls) w) (sym sp)
+    (Contains-append_right (map (call_way n.key) calls) (interrupts_if (n.key.i && not n.key.delay) words A n.key) w
+    (subst (λ b. Contains (interrupts_if b words A n.key) w) (sym (both n.key.i n.key.delay i delay))
+    (vectors_in words A n.key 25 v clears bounds.0 bounds.1 (both (is_enabled n.key.masks v) _ on allowed) c)))
 
 -- ---- returns
 
@@ -203,10 +210,10 @@ module _ (words : List ℕ) (A : List Entry) (nodes : List Node) (n : Node) wher
       e j.1
 
   from_list : IsFaultless words A n → (e : Edge)
-      → Contains (edges_with words A nodes n.key n.state (ways_of words n.key (raw_of words A n).calls) (whole (raw_of words A n))) e → Is e
+      → Contains (edges_with words A nodes n.key n.state (ways_of words A n.key (raw_of words A n).calls) (whole (raw_of words A n))) e → Is e
   from_list clean e h =
       let r = raw_of words A n in
-      let ws = ways_of words n.key r.calls in
+      let ws = ways_of words A n.key r.calls in
       let way = ways_from words A n clean n.key.sp refl in
       let first = map local_edge (joined_onto [] r.moves) in
       let second = map (entry_edge n.state) ws in
@@ -218,15 +225,15 @@ module _ (words : List ℕ) (A : List Entry) (nodes : List Node) (n : Node) wher
       (Contains-append_cases second third e i))
       (Contains-append_cases first (second ++ third) e h)
 
-  to_list : (e : Edge) → Is e → Contains (edges_with words A nodes n.key n.state (ways_of words n.key (raw_of words A n).calls) (whole (raw_of words A n))) e
+  to_list : (e : Edge) → Is e → Contains (edges_with words A nodes n.key n.state (ways_of words A n.key (raw_of words A n).calls) (whole (raw_of words A n))) e
   to_list _ (moving to clean has) =
       let r = raw_of words A n in
-      let ws = ways_of words n.key r.calls in
+      let ws = ways_of words A n.key r.calls in
       Contains-append_left (map local_edge (joined_onto [] r.moves)) (map (entry_edge n.state) ws ++ all_returns words A n.key n.state nodes ws)
       (local_edge to) (in_map local_edge (joined_onto [] r.moves) to has)
   to_list _ (entering way inst back en) =
       let r = raw_of words A n in
-      let ws = ways_of words n.key r.calls in
+      let ws = ways_of words A n.key r.calls in
       let w : Way = record { kind = way; inst = inst; back = back } in
       Contains-append_right (map local_edge (joined_onto [] r.moves)) (map (entry_edge n.state) ws ++ all_returns words A n.key n.state nodes ws)
       (entry_edge n.state w)
@@ -234,7 +241,7 @@ module _ (words : List ℕ) (A : List Entry) (nodes : List Node) (n : Node) wher
       (in_map (entry_edge n.state) ws w (way_in words A n way inst back en)))
   to_list _ (returning way inst back leaver x after en present same clean exit ret) =
       let r = raw_of words A n in
-      let ws = ways_of words n.key r.calls in
+      let ws = ways_of words A n.key r.calls in
       let w : Way = record { kind = way; inst = inst; back = back } in
       let e = back_edge n.key w x after in
       let this : Contains (return_edges words A n.key n.state w leaver) e =
@@ -251,9 +258,9 @@ module _ (words : List ℕ) (A : List Entry) (nodes : List Node) (n : Node) wher
   exact_by all (Err f) is e = absurd cc
   exact_by all (Ok l) is e =
       let q = local_ok words A n l is in
-      let list : edges_with words A nodes n.key n.state (ways_of words n.key (raw_of words A n).calls) (whole (raw_of words A n)) ≡ all =
-      subst (λ m. edges_with words A nodes n.key n.state (ways_of words n.key m.calls) m ≡ all) q.1
-      (ok_same (edges_with words A nodes n.key n.state (ways_of words n.key l.calls) l) all (next_by words A nodes n.key n.state (Ok l)) refl e) in
+      let list : edges_with words A nodes n.key n.state (ways_of words A n.key (raw_of words A n).calls) (whole (raw_of words A n)) ≡ all =
+      subst (λ m. edges_with words A nodes n.key n.state (ways_of words A n.key m.calls) m ≡ all) q.1
+      (ok_same (edges_with words A nodes n.key n.state (ways_of words A n.key l.calls) l) all (next_by words A nodes n.key n.state (Ok l)) refl e) in
       subst (AreEdges words A nodes n) list (λ x. (from_list q.0 x, to_list x))
 
 -- ---- what an answer says
@@ -304,12 +311,12 @@ module _ (words : List ℕ) (A : List Entry) (n : Node) where
   leave_of : (l : Local) → local words A n.key n.state ≡ Ok l → l.exit ≡ (raw_of words A n).exit
   leave_of l e = ap (λ (m : Local). m.exit) (local_ok words A n l e).1
 
-  way_of : (l : Local) (w : Way) → local words A n.key n.state ≡ Ok l → Contains (ways_of words n.key l.calls) w ↔ Enters words A n w.kind w.inst w.back
+  way_of : (l : Local) (w : Way) → local words A n.key n.state ≡ Ok l → Contains (ways_of words A n.key l.calls) w ↔ Enters words A n w.kind w.inst w.back
   way_of l w e =
       let p = local_ok words A n l e in
       let calls : l.calls ≡ (raw_of words A n).calls = ap (λ (m : Local). m.calls) p.1 in (
-        λ h. ways_from words A n p.0 n.key.sp refl w (subst (λ cs. Contains (ways_of words n.key cs) w) calls h),
-        λ h. subst (λ cs. Contains (ways_of words n.key cs) w) (sym calls) (way_in words A n w.kind w.inst w.back h),
+        λ h. ways_from words A n p.0 n.key.sp refl w (subst (λ cs. Contains (ways_of words A n.key cs) w) calls h),
+        λ h. subst (λ cs. Contains (ways_of words A n.key cs) w) (sym calls) (way_in words A n w.kind w.inst w.back h),
       )
 
 pub local_parts_are_edges : LocalPartsAreEdges

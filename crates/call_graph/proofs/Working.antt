@@ -9,7 +9,7 @@ use Rattle.mask_states.specs.Order.{same_node}
 use Rattle.local_rules.specs.declared.local.Node.{Node}
 use Rattle.edge_rules.specs.declared.seeded.NodeForm.{NodeForm}
 use Rattle.edge_rules.specs.Expansion.{Seeds, AreSeeds, HasKeyAt, IsFilled, IsMissing}
-use Rattle.expansion_laws.specs.Working.{first_at, carried, worked, SoFar}
+use Rattle.expansion_laws.specs.Carrying.{first_at, carried, worked, SoFar}
 use Rattle.expansion_laws.proofs.AllLaws.{same_seed, one_more, missing, whole}
 use Rattle.edge_rules.specs.declared.seeded.Seed.{Seed}
 use Rattle.edge_rules.specs.declared.seeded.Seed.TheVariants as seed

@@ -49,4 +49,4 @@ pub record LocalPartsAreEdges : Type 0 where
   pub same : (words : List ℕ) (A : List Entry) (n : Node) (l : Local) → local words A n.key n.state ≡ Ok l → l.same ≡ joined_onto [] (raw_of words A n).moves
   pub exit : (words : List ℕ) (A : List Entry) (n : Node) (l : Local) → local words A n.key n.state ≡ Ok l → l.exit ≡ (raw_of words A n).exit
   pub ways : (words : List ℕ) (A : List Entry) (n : Node) (l : Local) (w : Way) → local words A n.key n.state ≡ Ok l
-      → Contains (ways_of words n.key l.calls) w ↔ Enters words A n w.kind w.inst w.back
+      → Contains (ways_of words A n.key l.calls) w ↔ Enters words A n w.kind w.inst w.back

@@ -71,7 +71,7 @@ abbrev pub edges_with : List ℕ → List Entry → List Node → NodeKey → Ab
 edges_with words A nodes k s ws l = map local_edge l.same ++ (map (entry_edge s) ws ++ all_returns words A k s nodes ws)
 
 abbrev pub next_by : List ℕ → List Entry → List Node → NodeKey → AbsState → Result Local NodeFault → Result (List Edge) NodeFault
-next_by words A nodes k s (Ok l) = Ok (edges_with words A nodes k s (ways_of words k l.calls) l)
+next_by words A nodes k s (Ok l) = Ok (edges_with words A nodes k s (ways_of words A k l.calls) l)
 next_by words A nodes k s (Err f) = Err f
 
 -- all edges from a node, or its fault

@@ -3,7 +3,7 @@
 ghost use Rattle.std.specs.Prelude.{◌≡◌, ℕ, length, Some, IfOk};
 ghost use Rattle.local_rules.specs.Cover.{IsNode};
 ghost use Rattle.edge_rules.specs.Expansion.{AreSeeds};
-ghost use Rattle.expansion_laws.specs.Working.{first_at, carried, worked};
+ghost use Rattle.expansion_laws.specs.Carrying.{first_at, carried, worked};
 ghost use Rattle.edge_rules.specs.Seeds.{form_of};
 ghost use Rattle.expansion_laws.specs.Laws.{AreAscending};
 ghost use Rattle.call_graph.specs.Gives.{Gives, AreNumbered, ComesFromBelow};

@@ -164,9 +164,9 @@ fn edges_of<V: View>(
 ) -> Result<Listed<Edge>, AllocError>
     requires shown { AreShown (V.nodes view.now) }
     requires given { AreKnown flash.now assumptions.now (V.nodes view.now) known.now }
-    ensures { IfOk result (λ edges. edges ≡ edges_with flash.now assumptions.now (V.nodes view.now) key.now state.now (ways_of flash.now key.now found.calls) found) }
+    ensures { IfOk result (λ edges. edges ≡ edges_with flash.now assumptions.now (V.nodes view.now) key.now state.now (ways_of flash.now assumptions.now key.now found.calls) found) }
 {
-    let all = ways(alloc, flash, key, found.calls.as_slice())?;
+    let all = ways(alloc, flash, assumptions, key, found.calls.as_slice())?;
     let mut edges = Listed::empty(alloc);
     add_moves(&mut edges, found.same.into_vec())?;
     add_entries(alloc, &mut edges, state, &all)?;

@@ -1,12 +1,13 @@
 //! The ways out of a node's frame into other instances.
 
 ghost use Rattle.std.specs.Prelude.{◌≡◌, ◌≤◌, ◌++◌, map, true, IfOk, OnOk, OnErr};
-ghost use Rattle.call_graph.specs.Ways.{call_way, vector_way, at_vector, vectors_below, ways_of};
+ghost use Rattle.call_graph.specs.Ways.{call_way, vector_way, may_enter, at_vector, vectors_below, ways_of};
 
 use flash_image::Flash;
 use local_rules::CallSite;
 use mask_states::{EdgeKind, InstKey, Kind, NodeKey, SpForm};
 use std::alloc::{AllocError, Global};
+use vector_table::Assumptions;
 
 /// A way into an instance: how, into which, and the word at which the entering node goes on afterwards. Source: own.
 #[derive(Clone, Copy)]
@@ -68,13 +69,28 @@ fn add_calls(ways: &mut Vec<Way>, key: &NodeKey, calls: &[CallSite]) -> Result<(
     Ok(())
 }
 
-// The ways of a vector's interrupt, if it is enabled.
-fn add_vector(ways: &mut Vec<Way>, flash: &Flash, key: &NodeKey, v: u8) -> Result<(), AllocError>
+// An interrupt is enabled, and its word has no `never` line.
+fn may_enter(flash: &Flash, assumptions: &Assumptions, key: &NodeKey, v: u8) -> bool
     requires low { 2 ≤ v }
     requires high { v ≤ 26 }
-    ensures { OnOk result (ways.new.items ≡ ways.old.items ++ at_vector flash.now key.now v) }
+    ensures { result ≡ may_enter flash.now assumptions.now key.now v }
 {
-    if key.masks.has(v) {
+    key.masks.has(v) && !assumptions.never(flash.device().vector_word(v))
+}
+
+// The ways of a vector's interrupt, if it may come.
+fn add_vector(
+    ways: &mut Vec<Way>,
+    flash: &Flash,
+    assumptions: &Assumptions,
+    key: &NodeKey,
+    v: u8,
+) -> Result<(), AllocError>
+    requires low { 2 ≤ v }
+    requires high { v ≤ 26 }
+    ensures { OnOk result (ways.new.items ≡ ways.old.items ++ at_vector flash.now assumptions.now key.now v) }
+{
+    if may_enter(flash, assumptions, key, v) {
         ways.push(vector_way(flash, key, v, false))?;
         if v == 7 {
             ways.push(vector_way(flash, key, v, true))?;
@@ -84,11 +100,16 @@ fn add_vector(ways: &mut Vec<Way>, flash: &Flash, key: &NodeKey, v: u8) -> Resul
 }
 
 // The ways of all interrupts.
-fn add_vectors(ways: &mut Vec<Way>, flash: &Flash, key: &NodeKey) -> Result<(), AllocError>
-    ensures { OnOk result (ways.new.items ≡ ways.old.items ++ vectors_below flash.now key.now 25) }
+fn add_vectors(
+    ways: &mut Vec<Way>,
+    flash: &Flash,
+    assumptions: &Assumptions,
+    key: &NodeKey,
+) -> Result<(), AllocError>
+    ensures { OnOk result (ways.new.items ≡ ways.old.items ++ vectors_below flash.now assumptions.now key.now 25) }
 {
     for n in 0..25u8 {
-        add_vector(ways, flash, key, n + 2)?;
+        add_vector(ways, flash, assumptions, key, n + 2)?;
     }
     Ok(())
 }
@@ -97,16 +118,17 @@ fn add_vectors(ways: &mut Vec<Way>, flash: &Flash, key: &NodeKey) -> Result<(), 
 pub fn ways(
     alloc: Global,
     flash: &Flash,
+    assumptions: &Assumptions,
     key: &NodeKey,
     calls: &[CallSite],
 ) -> Result<Vec<Way>, AllocError>
-    ensures { IfOk result (λ all. all.items ≡ ways_of flash.now key.now calls.now) }
+    ensures { IfOk result (λ all. all.items ≡ ways_of flash.now assumptions.now key.now calls.now) }
 {
     let mut all = Vec::new(alloc);
     if let SpForm::Closed(_) = key.sp {
         add_calls(&mut all, key, calls)?;
         if key.i && !key.delay {
-            add_vectors(&mut all, flash, key)?;
+            add_vectors(&mut all, flash, assumptions, key)?;
         }
     }
     Ok(all)

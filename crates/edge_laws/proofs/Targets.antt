@@ -73,7 +73,7 @@ entered_node words A n _ _ _ node (by_call offset site faultless form member) =
     let lead = (local_parts_fit.fit words A n.key n.state).calls site member in
     let few = devices_are_alike.most_words (device_of words) in
     (entry_node n.state (offset_of n.key.sp) (called_inst n.key site.entry) node.formed (λ kind. absurd (cc)) (omega (arith, lead.0, few)) node.masks, omega (arith, lead.1, few))
-entered_node words A n _ _ _ node (by_interrupt offset v clears faultless form i delay enabled clearable) = (
+entered_node words A n _ _ _ node (by_interrupt offset v clears faultless form i delay enabled allowed clearable) = (
   entry_node n.state (offset_of n.key.sp) (vector_inst words n.key v clears) node.formed (λ kind. absurd (cc)) (vector_small (device_of words) v (enabled_small n.key.masks v enabled))
       (enables_are_vectors.taken n.key.masks clears node.masks),
   node.word,

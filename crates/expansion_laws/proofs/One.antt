@@ -11,7 +11,7 @@ use Rattle.local_rules.specs.Local.{local}
 use Rattle.edge_rules.specs.declared.seeded.NodeForm.{NodeForm}
 use Rattle.edge_rules.specs.declared.seeded.NodeForm.TheVariants.{State, From}
 use Rattle.edge_rules.specs.Expansion.{Seeds, IsExpansion, own, along, AreSeeds, states_at}
-use Rattle.expansion_laws.specs.Working.{first_at}
+use Rattle.expansion_laws.specs.Carrying.{first_at}
 use Rattle.expansion_laws.specs.Laws.{ExpansionsAreOne, ExpansionsAreNodes, SuccessorsAreOne}
 use Rattle.expansion_laws.proofs.Lists.{as_list}
 use Rattle.expansion_laws.proofs.Successors.{only_first, successor_node}

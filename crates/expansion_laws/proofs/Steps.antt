@@ -12,7 +12,7 @@ use Rattle.local_rules.specs.Local.{local}
 use Rattle.edge_rules.specs.declared.seeded.NodeForm.{NodeForm}
 use Rattle.edge_rules.specs.declared.seeded.NodeForm.TheVariants.{State, From}
 use Rattle.edge_rules.specs.Expansion.{Seeds, IsExpansion, own, along, AreSeeds, states_at, IsFilled, IsMissing}
-use Rattle.expansion_laws.specs.Working.{first_at, picked, carried, worked, IsWorked, SoFar}
+use Rattle.expansion_laws.specs.Carrying.{first_at, picked, carried, worked, IsWorked, SoFar}
 use Rattle.expansion_laws.specs.Laws.{FilledOrMissing}
 use Rattle.expansion_laws.proofs.Lists.{get_push, get_inside, as_list, as_some, same_list, same_maps}
 use Rattle.expansion_laws.proofs.Successors.{only_first}

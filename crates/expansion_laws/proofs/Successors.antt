@@ -17,7 +17,7 @@ use Rattle.local_laws.specs.Laws.{AreNodes}
 use Rattle.local_rules.specs.Local.{raw, settled, joined_onto, local}
 use Rattle.local_laws.proofs.AllLaws.{here, there, joins_are_least, local_parts_are_nodes}
 use Rattle.edge_rules.specs.Expansion.{states_at}
-use Rattle.expansion_laws.specs.Working.{first_at}
+use Rattle.expansion_laws.specs.Carrying.{first_at}
 use Rattle.expansion_laws.proofs.Lists.{as_list}
 
 -- ---- in an ascending list

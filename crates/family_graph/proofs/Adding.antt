@@ -58,7 +58,7 @@ gathered f (z ∷ zs) y has =
 
 kind_enters : (words : List ℕ) (A : List Entry) (n : Node) (way : EdgeKind) (inst : InstKey) (back : ℕ) → Enters words A n way inst back → is_entry way ≡ true
 kind_enters words A n way inst back (by_call offset site f sp has) = refl
-kind_enters words A n way inst back (by_interrupt offset v clears f sp i delay on dog) = refl
+kind_enters words A n way inst back (by_interrupt offset v clears f sp i delay on allowed dog) = refl
 
 module _ (words : List ℕ) (A : List Entry) (nodes : List Node) (insts : List InstKey) (numbers : List ℕ) (are : AreNumbers nodes (length nodes) insts numbers)
     (peopled : IsPeopled words A nodes) (n : Node) (member : Contains nodes n) (at offset : ℕ) where

@@ -1,8 +1,6 @@
 -- Each choice is fine: an instruction or an interrupt.
-use Rattle.std.proofs.Common.{◌≡◌, ℕ, ◌-◌, ◌%◌, Bool, true, false, not, ◌&&◌, ◌||◌, ◌==◌, nat_le, if◌then◌else◌, List, [], ◌++◌, Option, Some, None, refl, sym, ap, ◌∙◌, subst, arith, eqb-true, Contains, ◌<◌, ◌≤◌}
-use Rattle.std.specs.Int.{bit_at}
+use Rattle.std.proofs.Common.{◌≡◌, ℕ, ◌%◌, Bool, true, false, not, ◌&&◌, ◌||◌, ◌==◌, if◌then◌else◌, List, [], ◌++◌, Option, Some, None, refl, sym, ap, ◌∙◌, subst, arith, Contains, ◌<◌, ◌≤◌}
 use Rattle.std.proofs.lemmas.Bool.Decides.{nat_tests}
-use Rattle.std.proofs.lemmas.Nat.Bits.{bit_at-zero}
 use Rattle.avr_model.specs.declared.device.Device.{Device}
 use Rattle.avr_model.specs.declared.device.Device.TheVariants.{M48, M88, M168, M328}
 use Rattle.avr_model.proofs.AllLaws.{devices_are_alike}
@@ -13,11 +11,12 @@ use Rattle.avr_model.specs.declared.choice.Choice.{Choice}
 use Rattle.avr_model.specs.declared.choice.Choice.TheVariants.{Go, Take}
 use Rattle.avr_model.specs.declared.effect.Effect.{Effect}
 use Rattle.avr_model.specs.Sreg.{flag}
+use Rattle.avr_model.specs.Assumptions.{is_never}
 use Rattle.avr_model.specs.Vectors.{is_enabled, vector_word, WATCHDOG}
 use Rattle.avr_model.specs.Sites.{instruction_at, is_scratch}
 use Rattle.avr_model.specs.State.{State, i_flag}
 use Rattle.avr_model.specs.Effects.{effect_of, way_back}
-use Rattle.avr_model.specs.Step.{Answer, Illegal, Undefined, Overflow, Flagged, Done, after, all_inside, live_write, protected_write, unlisted_transfer, may_take, enables_taken, entering, take, go, step}
+use Rattle.avr_model.specs.Step.{Answer, Illegal, Undefined, Overflow, Flagged, Done, after, all_inside, live_write, protected_write, unlisted_transfer, may_take, enables_taken, entering, never_target, take, go, step}
 use Rattle.avr_model.specs.Run.{HasBytes}
 use Rattle.mask_states.specs.declared.keys.NodeKey.{NodeKey}
 use Rattle.mask_states.specs.declared.keys.EdgeKind.TheVariants as kind
@@ -29,12 +28,12 @@ use Rattle.local_rules.specs.Raw.{Raw, untracked_if}
 use Rattle.local_rules.specs.Local.{raw, is_hung}
 use Rattle.local_rules.specs.Cover.{Follows, stays, calls, leaves, IsCovered}
 use Rattle.local_rules.specs.Machine.{IsMachine, AreWords}
-use Rattle.local_laws.proofs.AllLaws.{local_parts_fit}
+use Rattle.local_laws.proofs.AllLaws.{local_parts_fit, open_pairs_hang}
 use Rattle.local_laws.specs.Laws.{LocalPartsCover, MachinesStay, LiveBytesStay}
 use Rattle.edge_rules.specs.Edges.{raw_of, IsFaultless, Enters, by_call, by_interrupt, called_inst, vector_inst}
 use Rattle.edge_rules.specs.Families.{Family, IsSound}
 use Rattle.edge_rules.specs.Frames.{Frame, Runs, called, interrupted, IsFine}
-use Rattle.frame_laws.proofs.Answers.{IsFineFor, GoesOn, answer_fine, taken_fine, protected_is_store, store_pushes_nothing}
+use Rattle.frame_laws.proofs.Answers.{IsFineFor, GoesOn, answer_fine, protected_is_store, store_pushes_nothing}
 use Rattle.frame_laws.proofs.Steps.{Follow, frames_local, frames_enter, frames_return}
 
 -- ---- where an interrupt may come
@@ -44,34 +43,32 @@ not_hung true pc r h = absurd (cc)
 not_hung false pc r h = refl
 
 -- a node with no fault isn't hung
-faultless_not_hung : (words : List ℕ) (A : List Entry) (k : NodeKey) (s : AbsState) → (raw words A k s).faults ≡ [] → is_hung k k.sp ≡ false
+faultless_not_hung : (words : List ℕ) (A : List Entry) (k : NodeKey) (s : AbsState) → (raw words A k s).faults ≡ [] → is_hung (device_of words) A k k.sp ≡ false
 unfolding raw
-faultless_not_hung words A k s h = not_hung (is_hung k k.sp) k.pc _ h
+faultless_not_hung words A k s h = not_hung (is_hung (device_of words) A k k.sp) k.pc _ h
 
 all_four : (a b c d : Bool) → (a && b && not c && d) ≡ true → (a ≡ true) × (b ≡ true) × (c ≡ false) × (d ≡ true)
 all_four a b c d h = (grind arith, grind arith, grind arith, grind arith)
 
-hangs : (a b c : Bool) → a ≡ true → b ≡ false → c ≡ false → (a && not b && not c) ≡ false → ⊥
-hangs a b c p q r h = grind arith
+vector_small : (enables v : ℕ) → is_enabled enables v ≡ true → v ≤ 26
+vector_small enables v h = grind (arith, nat_tests)
 
-and_last : (a b c : Bool) → (a && b && c) ≡ true → c ≡ true
-and_last a b c h = grind arith
-
-not_zero : (masks v : ℕ) → is_enabled masks v ≡ true → (masks == 0) ≡ false
-not_zero masks v h = by_test (masks == 0) refl
-  where
-    by_test : (b : Bool) → (masks == 0) ≡ b → b ≡ false
-    by_test false e = refl
-    by_test true e =
-        let none : masks ≡ 0 = eqb-true masks 0 e in
-        let bit : bit_at masks (v - 2) ≡ 1 = eqb-true (bit_at masks (v - 2)) 1 (and_last (nat_le 2 v) (nat_le v 26) _ h) in
-        let zero : bit_at masks (v - 2) ≡ 0 = ap (λ x. bit_at x (v - 2)) none ∙ bit_at-zero (v - 2) in
-        absurd (omega (arith, bit, zero))
+true_not_false : (b : Bool) → b ≡ true → b ≡ false → ⊥
+true_not_false b e f = cc
 
 -- where an interrupt may come at a node with no fault, its stack pointer is whole
-closed_where_taken : (k : NodeKey) (v : ℕ) (form : SpForm) → k.sp ≡ form → k.i ≡ true → k.delay ≡ false → is_enabled k.masks v ≡ true → is_hung k form ≡ false → (offset : ℕ) × (k.sp ≡ Closed offset)
-closed_where_taken k v (Closed offset) is i delay enabled hung = (offset, is)
-closed_where_taken k v (Open offset high) is i delay enabled hung = absurd (hangs k.i k.delay (k.masks == 0) i delay (not_zero k.masks v enabled) hung)
+closed_where_taken : (device : Device) (A : List Entry) (k : NodeKey) (v : ℕ) (form : SpForm) → k.sp ≡ form → k.i ≡ true → k.delay ≡ false → is_enabled k.masks v ≡ true
+    → is_never A (vector_word device v) ≡ false → is_hung device A k form ≡ false → (offset : ℕ) × (k.sp ≡ Closed offset)
+closed_where_taken device A k v (Closed offset) is i delay enabled allowed hung = (offset, is)
+closed_where_taken device A k v (Open offset high) is i delay enabled allowed hung =
+    absurd (true_not_false (is_hung device A k (Open offset high)) (open_pairs_hang.hung device A k v offset high i delay enabled allowed) hung)
+
+not_never : (A : List Entry) (word : ℕ) → never_target A word ≡ None → is_never A word ≡ false
+not_never A word h = by_test (is_never A word) refl h
+  where
+    by_test : (b : Bool) → is_never A word ≡ b → (if b then Some word else None) ≡ None → b ≡ false
+    by_test false is h = refl
+    by_test true is h = absurd (cc)
 
 -- a vector's word is one of the device's
 vector_inside : (device : Device) (v : ℕ) → v ≤ 26 → vector_word device v < words_of device
@@ -79,9 +76,6 @@ vector_inside M48 v le = omega arith
 vector_inside M88 v le = omega arith
 vector_inside M168 v le = omega arith
 vector_inside M328 v le = omega arith
-
-vector_small : (enables v : ℕ) → is_enabled enables v ≡ true → v ≤ 26
-vector_small enables v h = grind (arith, nat_tests)
 
 -- I is cleared
 flag_cleared : (sreg : ℕ) → flag (sreg % 128) 7 ≡ false
@@ -145,7 +139,20 @@ module _ (cover : LocalPartsCover) (machines : MachinesStay) (live : LiveBytesSt
         devices_are_alike.same m.device (vector_word m.device v) (vector_inside m.device v (vector_small m.enables v enabled))
         ∙ ap (λ device. vector_word device v) runs.device
 
-    taken : (v : ℕ) (clears t : Bool) → may_take m v clears ≡ t → IsFineFor (Follow words A f (Take v clears) g gs) (if t then take m (entering m v clears) else Illegal)
+    -- the entry of an interrupt that may come
+    entered_by : (v : ℕ) (clears : Bool) → (offset : ℕ) × (g.node.key.sp ≡ Closed offset) → g.node.key.i ≡ true → g.node.key.delay ≡ false → is_enabled g.node.key.masks v ≡ true
+        → is_never A (vector_word (device_of words) v) ≡ false → (not clears || (v == WATCHDOG)) ≡ true → is_enabled m.enables v ≡ true
+        → GoesOn (Follow words A f (Take v clears) g gs) m true (entering m v clears)
+    entered_by v clears closed i delay enabled allowed clearable on =
+        let k = g.node.key in
+        let place = runs.running.place in
+        let enters : Enters words A g.node (kind.Interrupt v clears) (vector_inst words k v clears) k.pc = by_interrupt closed.0 v clears faultless closed.1 i delay enabled allowed clearable in
+        subst (λ pc. GoesOn (Follow words A f (Take v clears) g gs) m true (record (entering m v clears) { pushes = way_back m.sp pc })) (sym place.pc)
+        (frames_enter live words A f sound m g gs runs (kind.Interrupt v clears) (vector_inst words k v clears) k.pc closed.0 closed.1 enters
+        (vector_word m.device v) (m.sreg % 128) (enables_taken m.enables clears) (vector_is v on) (omega arith) (flag_cleared m.sreg) (ap (λ masks. enables_taken masks clears) place.enables)
+        (Take v clears) (λ state above. interrupted v clears state _ enters above))
+
+    taken : (v : ℕ) (clears t : Bool) → may_take m v clears ≡ t → IsFineFor (Follow words A f (Take v clears) g gs) (if t then take A m (entering m v clears) else Illegal)
     taken v clears false legal = tt
     taken v clears true legal =
         let k = g.node.key in
@@ -154,14 +161,13 @@ module _ (cover : LocalPartsCover) (machines : MachinesStay) (live : LiveBytesSt
         let enabled : is_enabled k.masks v ≡ true = ap (λ masks. is_enabled masks v) (sym place.enables) ∙ all.0 in
         let i : k.i ≡ true = sym place.i ∙ all.1 in
         let delay : k.delay ≡ false = sym place.delay ∙ all.2 in
-        let closed = closed_where_taken k v k.sp refl i delay enabled (faultless_not_hung words A k g.node.state faultless) in
-        let enters : Enters words A g.node (kind.Interrupt v clears) (vector_inst words k v clears) k.pc = by_interrupt closed.0 v clears faultless closed.1 i delay enabled all.3 in
-        let on : GoesOn (Follow words A f (Take v clears) g gs) m true (entering m v clears) =
-        subst (λ pc. GoesOn (Follow words A f (Take v clears) g gs) m true (record (entering m v clears) { pushes = way_back m.sp pc })) (sym place.pc)
-        (frames_enter live words A f sound m g gs runs (kind.Interrupt v clears) (vector_inst words k v clears) k.pc closed.0 closed.1 enters
-        (vector_word m.device v) (m.sreg % 128) (enables_taken m.enables clears) (vector_is v all.0) (omega arith) (flag_cleared m.sreg) (ap (λ masks. enables_taken masks clears) place.enables)
-        (Take v clears) (λ state above. interrupted v clears state _ enters above)) in
-        taken_fine (Follow words A f (Take v clears) g gs) m.pc (after m true (entering m v clears)) (all_inside m.device (entering m v clears).pushes) (live_write m.memory (entering m v clears).pushes) on.inside on.done
+        let e = entering m v clears in
+        let unlined : never_target A e.pc ≡ None → is_never A (vector_word (device_of words) v) ≡ false =
+        λ none. subst (λ (word : ℕ). is_never A word ≡ false) (vector_is v all.0) (not_never A e.pc none) in
+        let on : is_never A (vector_word (device_of words) v) ≡ false → GoesOn (Follow words A f (Take v clears) g gs) m true e =
+        λ allowed. entered_by v clears (closed_where_taken (device_of words) A k v k.sp refl i delay enabled allowed (faultless_not_hung words A k g.node.state faultless)) i delay enabled allowed all.3 all.0 in
+        answer_fine (Follow words A f (Take v clears) g gs) m.pc (after m true e) (all_inside m.device e.pushes) (live_write m.memory e.pushes) None (never_target A e.pc)
+        (λ none. (on (unlined none)).inside) (λ missed _ none. (on (unlined none)).done missed)
 
     owed : (c : Choice) → HasBytes c → IsFineFor (Follow words A f c g gs) (step words A m c)
     owed (Go b1 b2) bytes = goes b1 b2 (instruction_at words m.pc) (cover.covered words A m g.origin g.node.key g.node.state b1 b2 sized runs.device runs.running bytes.0 bytes.1)

@@ -17,7 +17,7 @@ use Rattle.edge_rules.specs.Frames.{Frame, IsLeft, AreLeft}
 
 pub not_root : {words : List ℕ} {A : List Entry} {n : Node} {way : EdgeKind} {inst : InstKey} {back : ℕ} → Enters words A n way inst back → inst.kind ≢ Root
 not_root (by_call offset site faultless form member) = λ e. cc
-not_root (by_interrupt offset v clears faultless form i delay enabled clearable) = λ e. cc
+not_root (by_interrupt offset v clears faultless form i delay enabled allowed clearable) = λ e. cc
 
 module _ (words : List ℕ) (A : List Entry) (f : Family) where
   -- the root's frame is the last

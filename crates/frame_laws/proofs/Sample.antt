@@ -96,15 +96,15 @@ call_enters : (P : InstKey → ℕ → Type 0) → P callee 1 → (way : EdgeKin
 call_enters P p _ _ _ (by_call offset s faultless form member) =
     let e : s ≡ site 2 1 = one_in (site 2 1) s (subst (λ (r : Raw). Contains r.calls s) call_leads member) in
     subst (λ (x : CallSite). P (called_inst at_call.key x.entry) x.back) (sym e) p
-call_enters P p _ _ _ (by_interrupt offset v clears faultless form i delay enabled clearable) = absurd (cc)
+call_enters P p _ _ _ (by_interrupt offset v clears faultless form i delay enabled allowed clearable) = absurd (cc)
 
 loop_enters : (way : EdgeKind) (inst : InstKey) (back : ℕ) → Enters sample [] at_loop way inst back → ⊥
 loop_enters _ _ _ (by_call offset s faultless form member) = none_in s (subst (λ (r : Raw). Contains r.calls s) loop_leads member)
-loop_enters _ _ _ (by_interrupt offset v clears faultless form i delay enabled clearable) = cc
+loop_enters _ _ _ (by_interrupt offset v clears faultless form i delay enabled allowed clearable) = cc
 
 return_enters : (way : EdgeKind) (inst : InstKey) (back : ℕ) → Enters sample [] at_return way inst back → ⊥
 return_enters _ _ _ (by_call offset s faultless form member) = none_in s (subst (λ (r : Raw). Contains r.calls s) return_leads member)
-return_enters _ _ _ (by_interrupt offset v clears faultless form i delay enabled clearable) = cc
+return_enters _ _ _ (by_interrupt offset v clears faultless form i delay enabled allowed clearable) = cc
 
 -- ---- edges
 

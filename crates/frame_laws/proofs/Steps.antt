@@ -57,7 +57,7 @@ Follow words A f c g gs n = IsMachine n → HasNext words A f c g gs n
 -- the word that an entry pushes is one of the device's
 back_inside : {words : List ℕ} {A : List Entry} {n : Node} {way : EdgeKind} {inst : InstKey} {back : ℕ} → Enters words A n way inst back → back < words_of (device_of words)
 back_inside {words = words} {A = A} {n = n} (by_call offset site faultless form member) = ((local_parts_fit.fit words A n.key n.state).calls site member).1
-back_inside {words = words} {A = A} {n = n} (by_interrupt offset v clears faultless form i delay enabled clearable) = (local_parts_fit.inside words A n.key n.state faultless).0
+back_inside {words = words} {A = A} {n = n} (by_interrupt offset v clears faultless form i delay enabled allowed clearable) = (local_parts_fit.inside words A n.key n.state faultless).0
 
 module _ (live : LiveBytesStay) (words : List ℕ) (A : List Entry) (f : Family) (sound : IsSound words A f) where
   module _ (m : State) (g : Frame) (gs : List Frame) (runs : Runs words A f m g gs) where

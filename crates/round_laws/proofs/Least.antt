@@ -137,7 +137,7 @@ vector_same v u e = cc
 enters_word : (words : List ℕ) (A : List Entry) (n : Node) (way : EdgeKind) (inst : InstKey) (back v : ℕ) → Enters words A n way inst back → inst.kind ≡ Vector v
     → inst.entry ≡ vector_word (device_of words) v
 enters_word words A n _ _ _ v (by_call offset site clean form member) e = absurd (cc)
-enters_word words A n _ _ _ v (by_interrupt offset u clears clean form i delay enabled clearable) e = ap (vector_word (device_of words)) (vector_same u v e)
+enters_word words A n _ _ _ v (by_interrupt offset u clears clean form i delay enabled allowed clearable) e = ap (vector_word (device_of words)) (vector_same u v e)
 
 pub entered_word : (words : List ℕ) (A : List Entry) (f : Family) (i j : InstKey) (v : ℕ) → Reaches words A f i j → j.kind ≡ Vector v → j.entry ≡ vector_word (device_of words) v
 entered_word words A f _ _ v (once i j offset e) kind = enters_word words A e.node e.way j e.back v e.enters kind

@@ -56,14 +56,14 @@ module _ (words : List ℕ) (A : List Entry) (f : Family) where
   }
 
   module _ (keys : List NodeKey) (k : NodeKey) (s : AbsState) (old new : Seen) (are : AreSeen words A f keys old) (has : get f k ≡ Some s) where
-    look_more : (x : Look) → x.key ≡ k → local words A k s ≡ Ok x.part → x.ways.items ≡ ways_of words k x.part.calls → new.looks.items ≡ old.looks.items ++ x ∷ []
+    look_more : (x : Look) → x.key ≡ k → local words A k s ≡ Ok x.part → x.ways.items ≡ ways_of words A k x.part.calls → new.looks.items ≡ old.looks.items ++ x ∷ []
         → new.worst ≡ old.worst → AreSeen words A f (keys ++ k ∷ []) new
     look_more x key leads entered looks worst =
         let this : IsLook words A f x = record {
           state = s;
           has = subst (λ (q : NodeKey). get f q ≡ Some s) (sym key) has;
           leads = subst (λ (q : NodeKey). local words A q s ≡ Ok x.part) (sym key) leads;
-          entered = subst (λ (q : NodeKey). x.ways.items ≡ ways_of words q x.part.calls) (sym key) entered;
+          entered = subst (λ (q : NodeKey). x.ways.items ≡ ways_of words A q x.part.calls) (sym key) entered;
         } in
         let member : (y : Look) → Contains (old.looks.items ++ x ∷ []) y → Contains new.looks.items y = λ y i. subst (λ (l : List Look). Contains l y) (sym looks) i in
         record {
@@ -101,7 +101,7 @@ module _ (words : List ℕ) (A : List Entry) (f : Family) where
     }
 
     pub seen_more : (found : Result Look NodeFault) → IfOk found (λ x. x.key ≡ k) → IfOk found (λ x. local words A k s ≡ Ok x.part)
-        → IfOk found (λ x. x.ways.items ≡ ways_of words k x.part.calls) → IfErr found (λ e. e ≢ Memory → local words A k s ≡ Err e) → IsSeenBesides found old new
+        → IfOk found (λ x. x.ways.items ≡ ways_of words A k x.part.calls) → IfErr found (λ e. e ≢ Memory → local words A k s ≡ Err e) → IsSeenBesides found old new
         → AreSeen words A f (keys ++ k ∷ []) new
     seen_more (Ok x) key leads entered fault b = look_more x key leads entered b.0 b.1
     seen_more (Err e) key leads entered fault b = fault_more e (fault b.real) b

@@ -18,7 +18,7 @@ pub record IsLook (words : List ℕ) (A : List Entry) (f : Family) (x : Look) : 
   pub state : AbsState
   pub has : get f x.key ≡ Some state
   pub leads : local words A x.key state ≡ Ok x.part
-  pub entered : x.ways.items ≡ ways_of words x.key x.part.calls
+  pub entered : x.ways.items ≡ ways_of words A x.key x.part.calls
 
 -- one of the looks is at this node
 pub record HasLook (xs : List Look) (k : NodeKey) : Type 0 where

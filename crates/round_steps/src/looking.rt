@@ -51,11 +51,11 @@ fn found_at(
     requires { IsNode key.now state.now }
     ensures key { IfOk result (λ x. x.key ≡ key.now) }
     ensures part { IfOk result (λ x. rows.local flash.now assumptions.now key.now state.now ≡ Ok x.part) }
-    ensures ways { IfOk result (λ x. x.ways.items ≡ ways_of flash.now key.now x.part.calls) }
+    ensures ways { IfOk result (λ x. x.ways.items ≡ ways_of flash.now assumptions.now key.now x.part.calls) }
     ensures fault { IfErr result (λ e. e ≢ Memory → rows.local flash.now assumptions.now key.now state.now ≡ Err e) }
 {
     let part = local(alloc, flash, assumptions, key, state)?;
-    match ways(alloc, flash, key, part.calls.as_slice()) {
+    match ways(alloc, flash, assumptions, key, part.calls.as_slice()) {
         Ok(ways) => Ok(Look {
             key: *key,
             part,

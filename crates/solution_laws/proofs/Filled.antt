@@ -57,7 +57,7 @@ record Moves (words : List ℕ) (A : List Entry) (n : Node) (e : Edge) : Type 0 
 moves : (words : List ℕ) (A : List Entry) (nodes : List Node) (n : Node) (e : Edge) → IsEdge words A nodes n e → e.kind ≡ kind.Local → Moves words A n e
 moves words A nodes n _ (moving to clean member) is = record { clean = clean; to = to; member = member; key = refl; state = refl }
 moves words A nodes n _ (entering _ inst back (by_call offset site clean form member)) is = absurd (cc)
-moves words A nodes n _ (entering _ inst back (by_interrupt offset v clears clean form i delay enabled clearable)) is = absurd (cc)
+moves words A nodes n _ (entering _ inst back (by_interrupt offset v clears clean form i delay enabled allowed clearable)) is = absurd (cc)
 moves words A nodes n _ (returning way inst back leaver x state enters present same clean exit it) is = absurd (cc)
 
 -- local edges of a node to one key are one

@@ -48,7 +48,7 @@ keys_long gs = length-map gs (λ g. g.key)
 -- only a node with a whole stack pointer enters an instance
 closed_at : (words : List ℕ) (A : List Entry) (n : Node) (way : EdgeKind) (inst : InstKey) (back : ℕ) → Enters words A n way inst back → (offset : ℕ) × (n.key.sp ≡ Closed offset)
 closed_at words A n _ _ _ (by_call offset site clean form member) = (offset, form)
-closed_at words A n _ _ _ (by_interrupt offset v clears clean form i delay enabled clearable) = (offset, form)
+closed_at words A n _ _ _ (by_interrupt offset v clears clean form i delay enabled allowed clearable) = (offset, form)
 
 module _ (words : List ℕ) (A : List Entry) (n : ℕ) (f : Family) (solved : IsSolved words A n f) where
   abbrev nodes : List Node
@@ -172,7 +172,7 @@ module _ (words : List ℕ) (A : List Entry) (n : ℕ) (f : Family) (solved : Is
     keyed : (i : ℕ) (g : GraphInst) (inst : InstKey) → slice_get gs i ≡ Some g → IsNumber keys i inst → g.key ≡ inst
     keyed i g inst e d = same_at keys i g.key inst (key_is gs i g e) d
 
-    pub graph_is : told.IsGraphOf words A f keys gs
+    pub graph_is : told.IsGraphOver words A f keys gs
     graph_is = record {
       is_graph = is_graph;
       inside = omega (arith, keys_long gs);

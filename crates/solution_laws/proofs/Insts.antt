@@ -70,7 +70,7 @@ entered_fits words A n way inst back node enters = let to = edges_lead_to_nodes.
   where
     by : (way : EdgeKind) (inst : InstKey) (back : ℕ) → Enters words A n way inst back → inst.entry < WORDS → inst.masks < 2 ^ 25 → fits inst ≡ true
     by _ _ _ (by_call offset site clean form member) word masks = call_fits _ _ word masks
-    by _ _ _ (by_interrupt offset v clears clean form i delay enabled clearable) word masks = vector_fits (device_of words) n.key.masks v _ enabled masks
+    by _ _ _ (by_interrupt offset v clears clean form i delay enabled allowed clearable) word masks = vector_fits (device_of words) n.key.masks v _ enabled masks
 
 -- the instance of an edge's target fits where the node's own does
 target_fits : (words : List ℕ) (A : List Entry) (nodes : List Node) (n : Node) (e : Edge) → IsNode n.key n.state → fits n.key.inst ≡ true → IsEdge words A nodes n e → fits e.to.inst ≡ true

@@ -25,7 +25,7 @@ use Rattle.edge_rules.specs.Views.{key_of}
 use Rattle.expansion_laws.proofs.AllLaws.{filled_or_missing}
 use Rattle.nesting_bound.specs.declared.graph.GraphInst.{GraphInst}
 use Rattle.family_graph.specs.Graphs.{insts_of}
-use Rattle.graph_laws.specs.Graphs.{IsGraphOf, valued}
+use Rattle.graph_laws.specs.Graphs.{IsGraphOver, valued}
 use Rattle.graph_laws.proofs.AllLaws.{graphs_tell, valued_at}
 use Rattle.certificate.specs.declared.instance.Inst.{Inst}
 use Rattle.certificate.specs.Insts.{fits_kind, IsInst, inst_keys, rank_in, need_in}
@@ -130,7 +130,7 @@ module _ (words : List ℕ) (A : List Entry) (n : ℕ) (f : Family) (insts : Lis
   need_is : (k : InstKey) → need_in insts k ≡ valued keys parts.needs k
   need_is k = needs_are gs parts.ranks parts.needs insts k parts.least.ranks_length parts.least.needs_length parts.insts_are
 
-  told : IsGraphOf words A f keys gs
+  told : IsGraphOver words A f keys gs
   told = graph_is words A n f solved gs parts.is_graph parts.of
 
   -- ---- ranks and needs

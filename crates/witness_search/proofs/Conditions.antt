@@ -6,6 +6,7 @@ use Rattle.std.specs.Int.{from_bool}
 use Rattle.std.specs.List.Sorted.{IsStrictlySortedBy}
 use Rattle.std.specs.Ordering.{ordering_then}
 use Rattle.std.proofs.lemmas.Option.{slice_get_within, slice_get_read, get_or_from_slice_get}
+use Rattle.std.proofs.lemmas.List.{length-map}
 use Rattle.std.proofs.lemmas.Map.Keys.{Less-from_sorted}
 use Rattle.avr_model.specs.declared.assumption.Entry.{Entry}
 use Rattle.abs_state.specs.Frames.{entered}
@@ -27,6 +28,9 @@ use Rattle.family_graph.specs.Graphs.{insts_of, IsPeopled, IsGraphOf}
 use Rattle.certificate.specs.Insts.{rank_in, need_in}
 use Rattle.certificate.specs.Claims.{Claim}
 use Rattle.certificate.specs.Valid.{MeetsConditions}
+use Rattle.nesting_bound.specs.declared.graph.Link.{Link}
+use Rattle.witness_search.specs.Chains.{IsDeepest}
+use Rattle.witness_search.specs.Laws.{DeepestChainsAreBounded}
 
 read : {X : Type 0} (xs : List X) (x : X) (h : Contains xs x) → slice_get xs h.0 ≡ Some x
 read xs x h = slice_get_read xs (length xs) h.0 x refl h.1 (sym h.2)
@@ -137,3 +141,17 @@ module _ (words : List ℕ) (A : List Entry) (c : Claim) (nodes : List Node) (me
         let r : key_at 0 ≡ root_inst = sym (key_is 0 root_inst root_first) in
         let root : slice_index needs 0 ≤ need_in c.instances root_inst = subst (λ (x : InstKey). slice_index needs 0 ≤ need_in c.instances x) r n in
         omega (arith, root, meets.bounded.enough)
+
+-- ---- the law
+
+pub chains_are_bounded : DeepestChainsAreBounded
+chains_are_bounded =
+    record {
+      need = λ words A c nodes need links meets d.
+          let inside : 0 < length (insts_of d.graph) = slice_get_within (insts_of d.graph) 0 root_inst (root_first words A c nodes meets d.graph d.family) in
+          let same : length (insts_of d.graph) ≡ length d.graph = length-map d.graph (λ g. g.key) in
+          let under = root_bound words A c nodes meets d.graph d.family d.ranks d.needs d.least (omega (arith, inside, same)) in
+          let root = d.root in
+          omega (arith, under, root);
+      root = λ words A c nodes meets graph family. root_first words A c nodes meets graph family;
+    }

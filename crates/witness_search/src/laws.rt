@@ -1,6 +1,6 @@
 //! Laws of the search, each as the contract of a function that does nothing but call others.
 
-ghost use Rattle.witness_search.specs.Laws.{DeepestChainsAreOne, WaypointsAreOne, TrialsAreShort};
+ghost use Rattle.witness_search.specs.Laws.{DeepestChainsAreOne, DeepestChainsAreBounded, WaypointsAreOne, TrialsAreShort};
 
 use expansion_laws::laws::filled_or_missing;
 use family_graph::laws::graphs_are_alike;
@@ -14,6 +14,11 @@ pub fn deepest_chains_are_one()
     answers_are_one();
     chains_are_one();
 }
+
+/// A certificate whose conditions hold of a family has a bound that the root's least need over the family doesn't pass.
+pub fn deepest_chains_are_bounded()
+    ensures { DeepestChainsAreBounded }
+{}
 
 /// A certificate has one list of waypoints, so that one schedule is due.
 pub fn waypoints_are_one()
