@@ -6,7 +6,7 @@ use Rattle.std.proofs.lemmas.Bool.Decides.{nat_tests}
 use Rattle.std.proofs.lemmas.List.{map-append}
 use Rattle.std.specs.Prelude.{Contains, ◌≢◌, codes}
 use Rattle.avr_model.specs.declared.assumption.Entry.{Entry}
-use Rattle.avr_model.specs.declared.assumption.Entry.TheVariants.{Jump, Store, Prove}
+use Rattle.avr_model.specs.declared.assumption.Entry.TheVariants.{Jump, Store, Prove, Free, Never, Frame}
 use Rattle.indirect_targets.specs.Reading.{entry_in}
 use Rattle.cert_format.specs.LineReading.{inst_in, node_in}
 use Rattle.sb_base.specs.Lines.{words_of, spaced}
@@ -86,6 +86,9 @@ entry_some : (e : Entry) → entry_words e ≢ []
 entry_some (Jump site words) h = cc
 entry_some (Store site words) h = cc
 entry_some (Prove site) h = cc
+entry_some (Free site) h = cc
+entry_some (Never site) h = cc
+entry_some (Frame site) h = cc
 
 pub entry_reads : WordLaws → EntryWords → Reads (λ at. entry_by) entry_words AnyEntry
 entry_reads k w at e few h = ap entry_in (stand_words k (entry_words e) (entry_some e) (entry_is_words k e h)) ∙ w.read e h

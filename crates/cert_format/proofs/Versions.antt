@@ -28,6 +28,7 @@ any_slot (Guarded v) = tt
 any_carry : (c : CarryTag) → CarryIsOf Two c
 any_carry carry.None = tt
 any_carry (carry.Borrow j l) = tt
+any_carry (carry.Sum j l) = tt
 any_carry (carry.Less r k) = tt
 
 any_form : (form : NodeForm) → FormIsOf Two form

@@ -35,7 +35,7 @@ use Rattle.certificate.specs.declared.version.Version.{Version}
 use Rattle.certificate.specs.declared.version.Version.TheVariants.{One, Two}
 use Rattle.certificate.specs.Versions.{ValueIsOf}
 use Rattle.cert_words.specs.Spelling.{bits_text, tag_text, range_text, value_word, entry_text, flags_word, carry_word, slot_word, high_text, form_word}
-use Rattle.cert_words.specs.Reading.{letter_at, digits_at, is_end, bits_at, register_at, tag_by, tag_at, ends_at, range_at, value_in, slot_in, entry_by, flags_in, borrow_in, less_in, carry_by, carry_in, offset_in, marked_in, high_in, high_size, open_in, form_in}
+use Rattle.cert_words.specs.Reading.{letter_at, digits_at, is_end, bits_at, register_at, tag_by, tag_at, ends_at, range_at, value_in, slot_in, entry_by, flags_in, bytes_in, borrow_in, sum_in, less_in, carry_by, carry_in, offset_in, marked_in, high_in, high_size, open_in, form_in}
 use Rattle.cert_words.specs.Fits.{IsTag, IsValue, AreFlags, IsCarry, IsSlot, IsHigh, IsForm}
 use Rattle.cert_words.specs.Laws.{ValueWords}
 use Rattle.cert_words.proofs.Pieces.{map_some, end_is, letter_take, tested, three, length_hex, digits_take, digits_again, bits_take, bits_again, register_take, register_again, offset_take, offset_again, marked_take, marked_again}
@@ -294,20 +294,34 @@ not_true : (b : Bool) → not b ≡ true → b ≡ false
 not_true true e = cc
 not_true false e = refl
 
-borrow_take : WordLaws → (bs : List ℕ) (c : CarryTag) → borrow_in bs ≡ Some c → (98 ∷ bs ≡ carry_word c) × ((version : Version) (root : Bool) → root ≡ false → IsCarry version root c)
-unfolding borrow_in
-borrow_take k bs c e =
-    let j = bind_some (digits_at 2 bs) _ c e in
-    let l = bind_some (digits_at 2 j.0.1) _ c j.2 in
-    let last = tested {A = CarryTag} (is_end l.0.1) (carry.Borrow j.0.0 l.0.0) c l.2 in
+bytes_take : WordLaws → (bs : List ℕ) (n : ℕ × ℕ) → bytes_in bs ≡ Some n → (bs ≡ hex_digits n.0 2 ++ hex_digits n.1 2) × ((n.0 < 256) × (n.1 < 256))
+unfolding bytes_in
+bytes_take k bs n e =
+    let j = bind_some (digits_at 2 bs) _ n e in
+    let l = bind_some (digits_at 2 j.0.1) _ n j.2 in
+    let last = tested {A = ℕ × ℕ} (is_end l.0.1) (j.0.0, l.0.0) n l.2 in
     let first = digits_take k 2 bs j.0 j.1 in
     let second = digits_take k 2 j.0.1 l.0 l.1 in
     let text = second.0 ∙ ap (λ (xs : List ℕ). hex_digits l.0.0 2 ++ xs) (end_is l.0.1 last.0) ∙ append-nil (hex_digits l.0.0 2) in
+    let P : ℕ × ℕ → Type 0 = λ y. (bs ≡ hex_digits y.0 2 ++ hex_digits y.1 2) × ((y.0 < 256) × (y.1 < 256)) in
+    subst P last.1 (first.0 ∙ ap (λ (xs : List ℕ). hex_digits j.0.0 2 ++ xs) text, (omega (arith, first.1), omega (arith, second.1)))
+
+no_root : {X : Type 0} (root : Bool) → root ≡ false → root ≡ true → X
+no_root root r t = absurd (false≢true (sym r ∙ t))
+
+borrow_take : WordLaws → (bs : List ℕ) (c : CarryTag) → borrow_in bs ≡ Some c → (98 ∷ bs ≡ carry_word c) × ((version : Version) (root : Bool) → root ≡ false → IsCarry version root c)
+borrow_take k bs c e =
+    let n = map_some (bytes_in bs) (λ n. carry.Borrow n.0 n.1) c e in
+    let t = bytes_take k bs n.0 n.1 in
     let P : CarryTag → Type 0 = λ y. (98 ∷ bs ≡ carry_word y) × ((version : Version) (root : Bool) → root ≡ false → IsCarry version root y) in
-    subst P last.1 (
-      ap (front 98) (first.0 ∙ ap (λ (xs : List ℕ). hex_digits j.0.0 2 ++ xs) text),
-      λ version root r. record { bytes = (omega (arith, first.1), omega (arith, second.1)); names = tt; untagged = λ t. absurd (false≢true (sym r ∙ t)); of_version = tt },
-    )
+    subst P n.2 (ap (front 98) t.0, λ version root r. record { bytes = t.1; names = tt; untagged = λ t. no_root root r t; of_version = tt })
+
+sum_take : WordLaws → (bs : List ℕ) (c : CarryTag) → sum_in bs ≡ Some c → (115 ∷ bs ≡ carry_word c) × ((root : Bool) → root ≡ false → IsCarry Two root c)
+sum_take k bs c e =
+    let n = map_some (bytes_in bs) (λ n. carry.Sum n.0 n.1) c e in
+    let t = bytes_take k bs n.0 n.1 in
+    let P : CarryTag → Type 0 = λ y. (115 ∷ bs ≡ carry_word y) × ((root : Bool) → root ≡ false → IsCarry Two root y) in
+    subst P n.2 (ap (front 115) t.0, λ root r. record { bytes = t.1; names = tt; untagged = λ t. no_root root r t; of_version = tt })
 
 less_take : WordLaws → (bs : List ℕ) (c : CarryTag) → less_in bs ≡ Some c → (99 ∷ bs ≡ carry_word c) × ((root : Bool) → IsCarry Two root c)
 unfolding less_in
@@ -330,6 +344,12 @@ borrow_by k version root letter bs c t e =
     let b = borrow_take k bs c e in
     (ap (λ (x : ℕ). x ∷ bs) (eqb-true letter 98 h.0) ∙ b.0, b.1 version root (not_true root h.1))
 
+sum_by : WordLaws → (root : Bool) (letter : ℕ) (bs : List ℕ) (c : CarryTag) → letter == 115 && not root ≡ true → sum_in bs ≡ Some c → (letter ∷ bs ≡ carry_word c) × IsCarry Two root c
+sum_by k root letter bs c t e =
+    let h = both (letter == 115) (not root) t in
+    let s = sum_take k bs c e in
+    (ap (λ (x : ℕ). x ∷ bs) (eqb-true letter 115 h.0) ∙ s.0, s.1 root (not_true root h.1))
+
 carry_by_take : WordLaws → (version : Version) (root : Bool) (letter : ℕ) (bs : List ℕ) (c : CarryTag) → carry_by version root letter bs ≡ Some c → (letter ∷ bs ≡ carry_word c) × IsCarry version root c
 unfolding carry_by
 carry_by_take k One root letter bs c e = elim (chosen (letter == 98 && not root) _ _ (Some c) e) [
@@ -338,9 +358,12 @@ carry_by_take k One root letter bs c e = elim (chosen (letter == 98 && not root)
 ]
 carry_by_take k Two root letter bs c e = elim (chosen (letter == 98 && not root) _ _ (Some c) e) [
   | inl h ↦ borrow_by k Two root letter bs c h.0 h.1
-  | inr h ↦ elim (chosen (letter == 99) _ _ (Some c) h.1) [
-    | inl g ↦ let l = less_take k bs c g.1 in (ap (λ (x : ℕ). x ∷ bs) (eqb-true letter 99 g.0) ∙ l.0, l.1 root)
-    | inr g ↦ absurd (none_some c g.1)
+  | inr h ↦ elim (chosen (letter == 115 && not root) _ _ (Some c) h.1) [
+    | inl s ↦ sum_by k root letter bs c s.0 s.1
+    | inr s ↦ elim (chosen (letter == 99) _ _ (Some c) s.1) [
+      | inl g ↦ let l = less_take k bs c g.1 in (ap (λ (x : ℕ). x ∷ bs) (eqb-true letter 99 g.0) ∙ l.0, l.1 root)
+      | inr g ↦ absurd (none_some c g.1)
+    ]
   ]
 ]
 
@@ -360,9 +383,13 @@ not_carried : (version : Version) (root : Bool) (j l : ℕ) → IsCarry version 
 not_carried version true j l h = absurd (h.untagged refl)
 not_carried version false j l h = refl
 
-borrow_again : WordLaws → (j l : ℕ) → j < 256 → l < 256 → borrow_in (hex_digits j 2 ++ hex_digits l 2) ≡ Some (carry.Borrow j l)
-unfolding borrow_in
-borrow_again k j l h g = rw (digits_again k 2 j (hex_digits l 2) (omega (arith, h)), digits_alone k 2 l (omega (arith, g))) refl
+not_summed : (version : Version) (root : Bool) (j l : ℕ) → IsCarry version root (carry.Sum j l) → root ≡ false
+not_summed version true j l h = absurd (h.untagged refl)
+not_summed version false j l h = refl
+
+bytes_again : WordLaws → (j l : ℕ) → j < 256 → l < 256 → bytes_in (hex_digits j 2 ++ hex_digits l 2) ≡ Some (j, l)
+unfolding bytes_in
+bytes_again k j l h g = rw (digits_again k 2 j (hex_digits l 2) (omega (arith, h)), digits_alone k 2 l (omega (arith, g))) refl
 
 less_again : WordLaws → (r n : ℕ) → r < 32 → n < 256 → less_in (hex_digits r 2 ++ hex_digits n 2) ≡ Some (carry.Less r n)
 unfolding less_in
@@ -370,8 +397,13 @@ less_again k r n h g = rw (register_again k r (hex_digits n 2) h, digits_alone k
 
 borrow_by_again : WordLaws → (version : Version) (root : Bool) (j l : ℕ) → root ≡ false → j < 256 → l < 256 → carry_by version root 98 (hex_digits j 2 ++ hex_digits l 2) ≡ Some (carry.Borrow j l)
 unfolding carry_by
-borrow_by_again k One root j l e h g = rw (e, borrow_again k j l h g) refl
-borrow_by_again k Two root j l e h g = rw (e, borrow_again k j l h g) refl
+borrow_by_again k One root j l e h g = rw (e, bytes_again k j l h g) refl
+borrow_by_again k Two root j l e h g = rw (e, bytes_again k j l h g) refl
+
+sum_by_again : WordLaws → (version : Version) (root : Bool) (j l : ℕ) → IsCarry version root (carry.Sum j l) → carry_by version root 115 (hex_digits j 2 ++ hex_digits l 2) ≡ Some (carry.Sum j l)
+unfolding carry_by
+sum_by_again k One root j l h = absurd h.of_version
+sum_by_again k Two root j l h = rw (not_summed Two root j l h, bytes_again k j l h.bytes.0 h.bytes.1) refl
 
 less_by_again : WordLaws → (version : Version) (root : Bool) (r n : ℕ) → IsCarry version root (carry.Less r n) → carry_by version root 99 (hex_digits r 2 ++ hex_digits n 2) ≡ Some (carry.Less r n)
 unfolding carry_by
@@ -382,6 +414,7 @@ carry_again : WordLaws → (version : Version) (root : Bool) (c : CarryTag) → 
 unfolding carry_in
 carry_again k version root carry.None h = refl
 carry_again k version root (carry.Borrow j l) h = borrow_by_again k version root j l (not_carried version root j l h) h.bytes.0 h.bytes.1
+carry_again k version root (carry.Sum j l) h = sum_by_again k version root j l h
 carry_again k version root (carry.Less r n) h = less_by_again k version root r n h
 
 -- ---- forms of the stack pointer
@@ -503,6 +536,9 @@ carry_is_word : WordLaws → (version : Version) (root : Bool) (c : CarryTag) �
 carry_is_word k version root carry.None h = ((refl, tt), (refl, tt))
 carry_is_word k version root (carry.Borrow j l) h =
     joined_word (codes "b") (hex_digits j 2 ++ hex_digits l 2) ((refl, tt), (refl, tt))
+    (joined_word (hex_digits j 2) (hex_digits l 2) (k.hex_word j 2 (omega (arith, h.bytes.0))) (k.hex_word l 2 (omega (arith, h.bytes.1))))
+carry_is_word k version root (carry.Sum j l) h =
+    joined_word (codes "s") (hex_digits j 2 ++ hex_digits l 2) ((refl, tt), (refl, tt))
     (joined_word (hex_digits j 2) (hex_digits l 2) (k.hex_word j 2 (omega (arith, h.bytes.0))) (k.hex_word l 2 (omega (arith, h.bytes.1))))
 carry_is_word k version root (carry.Less r n) h =
     joined_word (codes "c") (hex_digits r 2 ++ hex_digits n 2) ((refl, tt), (refl, tt))

@@ -110,11 +110,18 @@ flags_in root w = do
   b ← bits_at l.1
   if nat_lt b.0.known 128 && is_end b.1 then Some (e, b.0) else None
 
-unfoldable pub borrow_in : List ℕ → Option CarryTag
-borrow_in bs = do
+-- two bytes, behind which nothing stands
+unfoldable pub bytes_in : List ℕ → Option (ℕ × ℕ)
+bytes_in bs = do
   j ← digits_at 2 bs
   l ← digits_at 2 j.1
-  if is_end l.1 then Some (carry.Borrow j.0 l.0) else None
+  if is_end l.1 then Some (j.0, l.0) else None
+
+abbrev pub borrow_in : List ℕ → Option CarryTag
+borrow_in bs = option_map (λ n. carry.Borrow n.0 n.1) (bytes_in bs)
+
+abbrev pub sum_in : List ℕ → Option CarryTag
+sum_in bs = option_map (λ n. carry.Sum n.0 n.1) (bytes_in bs)
 
 unfoldable pub less_in : List ℕ → Option CarryTag
 less_in bs = do
@@ -122,10 +129,13 @@ less_in bs = do
   k ← digits_at 2 r.1
   if is_end k.1 then Some (carry.Less r.0 k.0) else None
 
--- what a letter and what follows it say: the root's frame has no borrow, and the first version nothing of a register
+-- what a letter and what follows it say: the root's frame has no borrow and no sum, and the first version no sum and nothing of a register
 unfoldable pub carry_by : Version → Bool → ℕ → List ℕ → Option CarryTag
 carry_by One root letter bs = if letter == 98 && not root then borrow_in bs else None
-carry_by Two root letter bs = if letter == 98 && not root then borrow_in bs else (if letter == 99 then less_in bs else None)
+carry_by Two root letter bs =
+    if letter == 98 && not root then borrow_in bs
+    else (if letter == 115 && not root then sum_in bs
+    else (if letter == 99 then less_in bs else None))
 
 unfoldable pub carry_in : Version → Bool → List ℕ → Option CarryTag
 carry_in version root w = if bytes_eq w (codes "-") then Some carry.None else (letter_at w >>= λ l. carry_by version root l.0 l.1)

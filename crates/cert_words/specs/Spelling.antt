@@ -47,6 +47,7 @@ flags_word entry bits = entry_text entry ++ bits_text bits
 abbrev pub carry_word : CarryTag → List ℕ
 carry_word carry.None = codes "-"
 carry_word (carry.Borrow j l) = codes "b" ++ hex_digits j 2 ++ hex_digits l 2
+carry_word (carry.Sum j l) = codes "s" ++ hex_digits j 2 ++ hex_digits l 2
 carry_word (carry.Less r k) = codes "c" ++ hex_digits r 2 ++ hex_digits k 2
 
 abbrev pub slot_word : Version → Slot AbsByte → List ℕ

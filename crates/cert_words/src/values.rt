@@ -4,8 +4,9 @@ ghost use Rattle.std.specs.Prelude.{◌≡◌, ◌≤◌, ◌<◌, ◌^◌, IfSo
 ghost use Rattle.std.specs.Option.{option_map};
 ghost use Rattle.avr_model.specs.State.{SIZE};
 ghost use Rattle.sp_domain.specs.declared.tags.Tag.TheVariants as tag;
+ghost use Rattle.sp_domain.specs.declared.tags.CarryTag.TheVariants as carry;
 ghost use Rattle.mask_states.specs.Keys.{offset_of};
-ghost use Rattle.cert_words.specs.Reading.{bits_at, register_at, tag_by, tag_at, ends_at, range_at, value_in, slot_in, entry_by, flags_in, borrow_in, less_in, carry_by, carry_in, offset_in, marked_in, high_in, high_size, open_in, form_in};
+ghost use Rattle.cert_words.specs.Reading.{bits_at, register_at, tag_by, tag_at, ends_at, range_at, value_in, slot_in, entry_by, flags_in, bytes_in, borrow_in, sum_in, less_in, carry_by, carry_in, offset_in, marked_in, high_in, high_size, open_in, form_in};
 
 use crate::letters::Letters;
 use abs_state::AbsByte;
@@ -171,18 +172,34 @@ pub(crate) fn flags_of(word: &[u8], root: bool) -> Option<(bool, TriByte)>
     }
 }
 
-/// The two numbers of a borrow.
-#[tactic(auto, unfolding(crate::specs::Reading::borrow_in))]
-fn borrow_of(letters: &mut Letters<'_>) -> Option<CarryTag>
-    ensures { result ≡ borrow_in letters.old }
+/// Two bytes, behind which nothing stands.
+#[tactic(auto, unfolding(crate::specs::Reading::bytes_in))]
+fn bytes_of(letters: &mut Letters<'_>) -> Option<(u8, u8)>
+    ensures { result ≡ bytes_in letters.old }
 {
     let first = letters.digits(2)? as u8;
     let second = letters.digits(2)? as u8;
     if letters.is_end() {
-        Some(CarryTag::Borrow(first, second))
+        Some((first, second))
     } else {
         None
     }
+}
+
+/// The two numbers of a borrow.
+fn borrow_of(letters: &mut Letters<'_>) -> Option<CarryTag>
+    ensures { result ≡ borrow_in letters.old }
+{
+    let (first, second) = bytes_of(letters)?;
+    Some(CarryTag::Borrow(first, second))
+}
+
+/// The two numbers of a sum.
+fn sum_of(letters: &mut Letters<'_>) -> Option<CarryTag>
+    ensures { result ≡ sum_in letters.old }
+{
+    let (first, second) = bytes_of(letters)?;
+    Some(CarryTag::Sum(first, second))
 }
 
 /// The register and the number that it is compared with.
@@ -215,6 +232,8 @@ fn carry_by(letter: u8, letters: &mut Letters<'_>, version: Version, root: bool)
         Version::Two => {
             if letter == b'b' && !root {
                 borrow_of(letters)
+            } else if letter == b's' && !root {
+                sum_of(letters)
             } else if letter == b'c' {
                 less_of(letters)
             } else {

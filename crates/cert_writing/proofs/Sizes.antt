@@ -12,7 +12,7 @@ use Rattle.line_reading.proofs.AllLaws.{both}
 use Rattle.sb_base.specs.Digits.{hex_digits}
 use Rattle.sb_base.specs.Lines.{spaced, line}
 use Rattle.avr_model.specs.declared.assumption.Entry.{Entry}
-use Rattle.avr_model.specs.declared.assumption.Entry.TheVariants.{Jump, Store, Prove}
+use Rattle.avr_model.specs.declared.assumption.Entry.TheVariants as entry
 use Rattle.vector_table.specs.Entries.{are_items, is_entry, ascends, is_word}
 use Rattle.sp_domain.specs.declared.tags.Tag.{Tag}
 use Rattle.sp_domain.specs.declared.tags.Tag.TheVariants as tag
@@ -126,6 +126,7 @@ pair_long a b = omega (arith, length-append (hex_digits a 2) (hex_digits b 2), l
 carry_short : (c : CarryTag) → length (carry_word c) ≤ 5
 carry_short carry.None = omega arith
 carry_short (carry.Borrow j l) = omega (arith, pair_long j l)
+carry_short (carry.Sum j l) = omega (arith, pair_long j l)
 carry_short (carry.Less r k) = omega (arith, pair_long r k)
 
 state_short : (version : Version) (s : AbsState) → taken (state_words version s) ≤ 14 * length s.registers + 12 + 14 * length s.slots
@@ -222,13 +223,16 @@ items_few is_item items e =
     grind (arith, nat_tests, c.1)
 
 entry_short : (e : Entry) → is_entry e ≡ true → taken (entry_words e) + 1 ≤ 400
-entry_short (Jump site words) e =
+entry_short (entry.Jump site words) e =
     let few = items_few is_word words (both (is_word site) (are_items is_word words) e).1 in
     omega (arith, numbers_long (site ∷ words), few)
-entry_short (Store site addresses) e =
+entry_short (entry.Store site addresses) e =
     let few = items_few is_protected addresses (both (is_word site) (are_items is_protected addresses) e).1 in
     omega (arith, numbers_long (site ∷ addresses), few)
-entry_short (Prove site) e = omega (arith, numbers_long (site ∷ []))
+entry_short (entry.Prove site) e = omega (arith, numbers_long (site ∷ []))
+entry_short (entry.Free site) e = omega (arith, numbers_long (site ∷ []))
+entry_short (entry.Never site) e = omega (arith, numbers_long (site ∷ []))
+entry_short (entry.Frame site) e = omega (arith, numbers_long (site ∷ []))
 
 entries_short : (es : List Entry) → AllByRecursion (λ e. is_entry e ≡ true) es → text entry_words es ≤ 400 * length es
 entries_short [] h = omega arith

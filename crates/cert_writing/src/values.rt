@@ -162,6 +162,11 @@ fn write_carry(out: &mut LineWriter, carry: CarryTag) -> Result<(), AllocError>
             let l = pair(second);
             out.word(&[b'b', j.0, j.1, l.0, l.1])
         }
+        CarryTag::Sum(first, second) => {
+            let j = pair(first);
+            let l = pair(second);
+            out.word(&[b's', j.0, j.1, l.0, l.1])
+        }
         CarryTag::Less(register, number) => {
             let r = pair(register);
             let n = pair(number);

@@ -1,4 +1,4 @@
--- What each version of a certificate's text can say. The first knows no ranges, no carry tag of a register and no picks. Source: own.
+-- What each version of a certificate's text can say. The first knows no ranges, no carry tag of a register or a sum, and no picks. Source: own.
 use Rattle.std.specs.Prelude.{ℕ, ◌≡◌, ⊤, Option, None}
 use Rattle.std.specs.List.{AllByRecursion}
 use Rattle.bit_domain.specs.Ranges.{set_of_bits}
@@ -25,15 +25,16 @@ abbrev pub SlotIsOf : Version → Slot AbsByte → Type 0
 SlotIsOf version Free = ⊤
 SlotIsOf version (Guarded v) = ValueIsOf version v
 
--- a carry tag of the first version isn't of a register
-abbrev pub HasRegisters : Version → Type 0
-HasRegisters One = ⊥
-HasRegisters Two = ⊤
+-- a carry tag of the first version isn't of a register, and not of a sum
+abbrev pub HasNewCarries : Version → Type 0
+HasNewCarries One = ⊥
+HasNewCarries Two = ⊤
 
 abbrev pub CarryIsOf : Version → CarryTag → Type 0
 CarryIsOf version carry.None = ⊤
 CarryIsOf version (carry.Borrow j l) = ⊤
-CarryIsOf version (carry.Less r k) = HasRegisters version
+CarryIsOf version (carry.Sum j l) = HasNewCarries version
+CarryIsOf version (carry.Less r k) = HasNewCarries version
 
 -- a node of the first version has no pick
 abbrev pub PickIsOf : Version → Option ℕ → Type 0

@@ -8,13 +8,13 @@ use Rattle.std.specs.Str.{bytes_eq}
 use Rattle.std.specs.Prelude.{nat_lt, nat_le, length}
 use Rattle.avr_model.specs.Vectors.{Vector, vectors, has_enables, is_protected}
 use Rattle.avr_model.specs.declared.assumption.Entry.{Entry}
-use Rattle.avr_model.specs.declared.assumption.Entry.TheVariants.{Jump, Store, Prove}
+use Rattle.avr_model.specs.declared.assumption.Entry.TheVariants.{Jump, Store, Prove, Free, Never, Frame}
 use Rattle.sb_base.specs.Digits.{hex_digits}
 use Rattle.line_reading.specs.Reading.{◌>>=◌, hex_at, is_over}
 use Rattle.line_reading.specs.Words.{IsWord, WordLaws}
 use Rattle.vector_table.specs.Entries.{is_entry, is_word, ascends}
 use Rattle.indirect_targets.specs.Exact.{EntryWords}
-use Rattle.indirect_targets.specs.Reading.{numbers_in, listed_in, alone_in, numbered_in, admitted, entry_in}
+use Rattle.indirect_targets.specs.Reading.{numbers_in, listed_in, alone_in, alone_by, numbered_in, admitted, entry_in}
 use Rattle.indirect_targets.specs.Spelling.{number_words, entry_words}
 
 -- ---- which way tests went
@@ -78,6 +78,9 @@ abbrev numbers : Entry → List ℕ
 numbers (Jump site words) = site ∷ words
 numbers (Store site addresses) = site ∷ addresses
 numbers (Prove site) = site ∷ []
+numbers (Free site) = site ∷ []
+numbers (Never site) = site ∷ []
+numbers (Frame site) = site ∷ []
 
 items_short : (p : ℕ → Bool) → ((n : ℕ) → p n ≡ true → n < 16 ^ 4) → (site : ℕ) (ns : List ℕ)
     → (is_word site && (nat_le 1 (length ns) && nat_le (length ns) 64 && ascends ns && list_all p ns)) ≡ true → AreShort (site ∷ ns)
@@ -90,6 +93,9 @@ entry_short : (e : Entry) → is_entry e ≡ true → AreShort (numbers e)
 entry_short (Jump site words) h = items_short is_word word_small site words h
 entry_short (Store site addresses) h = items_short is_protected protected_small site addresses h
 entry_short (Prove site) h = (word_small site h, tt)
+entry_short (Free site) h = (word_small site h, tt)
+entry_short (Never site) h = (word_small site h, tt)
+entry_short (Frame site) h = (word_small site h, tt)
 
 -- ---- numbers
 
@@ -136,6 +142,29 @@ alone_takes k ws site e =
 kind_is : (w : List ℕ) (ws vs : List (List ℕ)) (kind : List ℕ) → bytes_eq w kind ≡ true → ws ≡ vs → w ∷ ws ≡ kind ∷ vs
 kind_is w ws vs kind e f = rw ((bytes_eq-Decides w kind).0 e, f) refl
 
+-- the words of an entry of this kind, which names a site alone
+kind_takes : WordLaws → (kind : List ℕ) (make : ℕ → Entry) → ((site : ℕ) → entry_words (make site) ≡ kind ∷ number_words (site ∷ [])) → (w : List ℕ) (ws : List (List ℕ)) (e : Entry)
+    → bytes_eq w kind ≡ true → option_map make (alone_in ws) ≡ Some e → w ∷ ws ≡ entry_words e
+kind_takes k kind make words w ws e is read =
+    let s = map_some (alone_in ws) make e read in
+    kind_is w ws (number_words (s.0 ∷ [])) kind is (alone_takes k ws s.0 s.1) ∙ sym (words s.0) ∙ ap entry_words s.2
+
+alone_by_takes : WordLaws → (w : List ℕ) (ws : List (List ℕ)) (e : Entry) → alone_by w ws ≡ Some e → w ∷ ws ≡ entry_words e
+unfolding alone_by
+alone_by_takes k w ws e is = elim (chosen (bytes_eq w (codes "prove")) _ _ (Some e) is) [
+  | inl h ↦ kind_takes k (codes "prove") (λ s. Prove s) (λ s. refl) w ws e h.0 h.1
+  | inr other ↦ elim (chosen (bytes_eq w (codes "free")) _ _ (Some e) other.1) [
+    | inl h ↦ kind_takes k (codes "free") (λ s. Free s) (λ s. refl) w ws e h.0 h.1
+    | inr more ↦ elim (chosen (bytes_eq w (codes "never")) _ _ (Some e) more.1) [
+      | inl h ↦ kind_takes k (codes "never") (λ s. Never s) (λ s. refl) w ws e h.0 h.1
+      | inr last ↦ elim (chosen (bytes_eq w (codes "frame")) _ _ (Some e) last.1) [
+        | inl h ↦ kind_takes k (codes "frame") (λ s. Frame s) (λ s. refl) w ws e h.0 h.1
+        | inr none ↦ absurd (none_some e none.1)
+      ]
+    ]
+  ]
+]
+
 numbered_takes : WordLaws → (ws : List (List ℕ)) (e : Entry) → numbered_in ws ≡ Some e → ws ≡ entry_words e
 unfolding numbered_in
 numbered_takes k [] e is = absurd (none_some e is)
@@ -147,20 +176,18 @@ numbered_takes k (w ∷ ws) e is = elim (chosen (bytes_eq w (codes "jump")) _ _ 
     | inl store ↦
         let l = map_some (listed_in ws) _ e store.1 in
         kind_is w ws (number_words (l.0.0 ∷ l.0.1)) (codes "store") store.0 (listed_takes k ws l.0 l.1) ∙ ap entry_words l.2
-    | inr neither ↦ elim (chosen (bytes_eq w (codes "prove")) _ _ (Some e) neither.1) [
-      | inl proof ↦
-          let s = map_some (alone_in ws) _ e proof.1 in
-          kind_is w ws (number_words (s.0 ∷ [])) (codes "prove") proof.0 (alone_takes k ws s.0 s.1) ∙ ap entry_words s.2
-      | inr none ↦ absurd (none_some e none.1)
-    ]
+    | inr neither ↦ alone_by_takes k w ws e neither.1
   ]
 ]
 
 numbered_taken : WordLaws → (e : Entry) → is_entry e ≡ true → numbered_in (entry_words e) ≡ Some e
-unfolding numbered_in
+unfolding numbered_in alone_by
 numbered_taken k (Jump site words) h = ap (option_map (λ l. Jump l.0 l.1)) (listed_taken k site words (entry_short (Jump site words) h))
 numbered_taken k (Store site addresses) h = ap (option_map (λ l. Store l.0 l.1)) (listed_taken k site addresses (entry_short (Store site addresses) h))
 numbered_taken k (Prove site) h = ap (option_map (λ s. Prove s)) (alone_taken k site (word_small site h))
+numbered_taken k (Free site) h = ap (option_map (λ s. Free s)) (alone_taken k site (word_small site h))
+numbered_taken k (Never site) h = ap (option_map (λ s. Never s)) (alone_taken k site (word_small site h))
+numbered_taken k (Frame site) h = ap (option_map (λ s. Frame s)) (alone_taken k site (word_small site h))
 
 entry_taken : WordLaws → (e : Entry) → is_entry e ≡ true → entry_in (entry_words e) ≡ Some e
 unfolding entry_in
@@ -192,3 +219,8 @@ entry_is_words k (Store site addresses) h =
     (((refl, (refl, (refl, (refl, (refl, tt))))), (refl, (refl, (refl, (refl, (refl, tt)))))), are_words k (site ∷ addresses) (entry_short (Store site addresses) h))
 entry_is_words k (Prove site) h =
     (((refl, (refl, (refl, (refl, (refl, tt))))), (refl, (refl, (refl, (refl, (refl, tt)))))), are_words k (site ∷ []) (entry_short (Prove site) h))
+entry_is_words k (Free site) h = (((refl, (refl, (refl, (refl, tt)))), (refl, (refl, (refl, (refl, tt))))), are_words k (site ∷ []) (entry_short (Free site) h))
+entry_is_words k (Never site) h =
+    (((refl, (refl, (refl, (refl, (refl, tt))))), (refl, (refl, (refl, (refl, (refl, tt)))))), are_words k (site ∷ []) (entry_short (Never site) h))
+entry_is_words k (Frame site) h =
+    (((refl, (refl, (refl, (refl, (refl, tt))))), (refl, (refl, (refl, (refl, (refl, tt)))))), are_words k (site ∷ []) (entry_short (Frame site) h))

@@ -4,7 +4,7 @@ use Rattle.std.proofs.lemmas.Bool.{cases_Bool}
 use Rattle.std.proofs.lemmas.Bool.Decides.{nat_tests}
 use Rattle.std.proofs.lemmas.Grind.{flat_map-append}
 use Rattle.avr_model.specs.declared.assumption.Entry.{Entry}
-use Rattle.avr_model.specs.declared.assumption.Entry.TheVariants.{Jump, Store, Prove}
+use Rattle.avr_model.specs.declared.assumption.Entry.TheVariants.{Jump, Store, Prove, Free, Never, Frame}
 use Rattle.sb_base.specs.Answers.{Answers}
 use Rattle.sb_base.specs.Lines.{TextLine, lines_of, words_of, joined, bytes_of, spaced, Lacks}
 use Rattle.line_reading.specs.Reading.{then_at}
@@ -24,6 +24,9 @@ words_again : WordLaws → (e : Entry) → is_entry e ≡ true → words_of (spa
 words_again k (Jump site words) h = k.words_stand _ _ (entry_is_words k (Jump site words) h)
 words_again k (Store site addresses) h = k.words_stand _ _ (entry_is_words k (Store site addresses) h)
 words_again k (Prove site) h = k.words_stand _ _ (entry_is_words k (Prove site) h)
+words_again k (Free site) h = k.words_stand _ _ (entry_is_words k (Free site) h)
+words_again k (Never site) h = k.words_stand _ _ (entry_is_words k (Never site) h)
+words_again k (Frame site) h = k.words_stand _ _ (entry_is_words k (Frame site) h)
 
 -- the line of an entry is read as it
 line_taken : WordLaws → (e : Entry) → is_entry e ≡ true → entry_by (whole (entry_words e)) ≡ Some e

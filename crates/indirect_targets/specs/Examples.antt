@@ -3,7 +3,7 @@ use Rattle.std.specs.Prelude.{◌≡◌, ℕ, ◌==◌, List, [], ◌∷◌, ◌
 use Rattle.std.specs.List.{flat_map}
 use Rattle.avr_model.specs.Vectors.{has_enables}
 use Rattle.avr_model.specs.declared.assumption.Entry.{Entry}
-use Rattle.avr_model.specs.declared.assumption.Entry.TheVariants.{Jump, Store, Prove}
+use Rattle.avr_model.specs.declared.assumption.Entry.TheVariants.{Jump, Store, Prove, Free, Never, Frame}
 use Rattle.bit_domain.specs.declared.bits.Tri.TheVariants.{Zero, Any}
 use Rattle.bit_domain.specs.Numbers.{numbers_of, targets_of}
 use Rattle.bit_domain.specs.Packed.{packed}
@@ -11,24 +11,26 @@ use Rattle.bit_domain.specs.TriByte.{byte_of, byte_known, byte_any}
 use Rattle.sb_base.specs.Digits.{hex_digits}
 use Rattle.indirect_targets.specs.declared.fault.AssumeText.TheVariants.{Malformed, Order}
 use Rattle.indirect_targets.specs.Spelling.{text_of}
-use Rattle.indirect_targets.specs.Reading.{numbered_in, entry_in, next_by, with_line, entries_from, entries_in}
+use Rattle.indirect_targets.specs.Reading.{alone_by, numbered_in, entry_in, next_by, with_line, entries_from, entries_in}
 
 -- lines with their line feeds
 abbrev text : List (List ℕ) → List ℕ
 text ls = flat_map (λ l. l ++ 10 ∷ []) ls
 
 abbrev each_kind : List Entry
-each_kind = Jump 4 (5 ∷ 16383 ∷ []) ∷ Store 4 (0 ∷ 93 ∷ []) ∷ Prove 4 ∷ Prove 16383 ∷ []
+each_kind = Jump 4 (5 ∷ 16383 ∷ []) ∷ Store 4 (0 ∷ 93 ∷ []) ∷ Prove 4 ∷ Free 4 ∷ Never 4 ∷ Frame 4 ∷ Prove 16383 ∷ []
 
 abbrev each_text : List ℕ
-each_text = text (codes "jump 0004 0005 3FFF" ∷ codes "store 0004 0000 005D" ∷ codes "prove 0004" ∷ codes "prove 3FFF" ∷ [])
+each_text =
+    text (codes "jump 0004 0005 3FFF" ∷ codes "store 0004 0000 005D" ∷ codes "prove 0004" ∷ codes "free 0004" ∷ codes "never 0004" ∷ codes "frame 0004"
+    ∷ codes "prove 3FFF" ∷ [])
 
 spelled : text_of each_kind ≡ each_text
 unfolding hex_digits
 spelled = refl
 
 read : entries_in each_text ≡ Ok each_kind
-unfolding entries_from with_line next_by entry_in numbered_in has_enables
+unfolding entries_from with_line next_by entry_in numbered_in alone_by has_enables
 read = refl
 
 empty : entries_in [] ≡ Ok []
@@ -36,17 +38,30 @@ unfolding entries_from
 empty = refl
 
 twice : entries_in (text (codes "jump 0004 0005" ∷ codes "jump 0004 0005" ∷ [])) ≡ Err (Order 2)
-unfolding entries_from with_line next_by entry_in numbered_in
+unfolding entries_from with_line next_by entry_in numbered_in alone_by
 twice = refl
 
 -- the kinds at a site stand in their order
 kinds_turned : entries_in (text (codes "prove 0003" ∷ codes "store 0004 005D" ∷ codes "jump 0004 0005" ∷ [])) ≡ Err (Order 3)
-unfolding entries_from with_line next_by entry_in numbered_in has_enables
+unfolding entries_from with_line next_by entry_in numbered_in alone_by has_enables
 kinds_turned = refl
+
+frees_turned : entries_in (text (codes "free 0004" ∷ codes "prove 0004" ∷ [])) ≡ Err (Order 2)
+unfolding entries_from with_line next_by entry_in numbered_in alone_by
+frees_turned = refl
+
+frames_turned : entries_in (text (codes "frame 0004" ∷ codes "never 0004" ∷ [])) ≡ Err (Order 2)
+unfolding entries_from with_line next_by entry_in numbered_in alone_by
+frames_turned = refl
+
+-- a site stands alone
+more_than_a_site : entries_in (text (codes "free 0004 005D" ∷ [])) ≡ Err (Malformed 1)
+unfolding entries_from with_line next_by entry_in numbered_in alone_by
+more_than_a_site = refl
 
 -- of a line that isn't above the last and not of its form either, the form is told
 form_first : entries_in (text (codes "prove 0004" ∷ codes "prove 003" ∷ [])) ≡ Err (Malformed 2)
-unfolding entries_from with_line next_by entry_in numbered_in
+unfolding entries_from with_line next_by entry_in numbered_in alone_by
 form_first = refl
 
 unfinished : entries_in (codes "jump 0004 0005") ≡ Err (Malformed 1)
@@ -54,12 +69,12 @@ unfolding entries_from with_line next_by
 unfinished = refl
 
 no_item : entries_in (text (codes "jump 0004" ∷ [])) ≡ Err (Malformed 1)
-unfolding entries_from with_line next_by entry_in numbered_in
+unfolding entries_from with_line next_by entry_in numbered_in alone_by
 no_item = refl
 
 -- address 0020 isn't protected
 unprotected : entries_in (text (codes "store 0004 0020" ∷ [])) ≡ Err (Malformed 1)
-unfolding entries_from with_line next_by entry_in numbered_in has_enables
+unfolding entries_from with_line next_by entry_in numbered_in alone_by has_enables
 unprotected = refl
 
 -- the program counter has 14 bits: the two upper ones of the high byte don't count

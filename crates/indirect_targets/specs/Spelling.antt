@@ -2,7 +2,7 @@
 use Rattle.std.specs.Prelude.{ℕ, List, [], ◌∷◌, map, codes}
 use Rattle.std.specs.List.{flat_map}
 use Rattle.avr_model.specs.declared.assumption.Entry.{Entry}
-use Rattle.avr_model.specs.declared.assumption.Entry.TheVariants.{Jump, Store, Prove}
+use Rattle.avr_model.specs.declared.assumption.Entry.TheVariants.{Jump, Store, Prove, Free, Never, Frame}
 use Rattle.sb_base.specs.Digits.{hex_digits}
 use Rattle.sb_base.specs.Lines.{line}
 
@@ -15,6 +15,9 @@ abbrev pub entry_words : Entry → List (List ℕ)
 entry_words (Jump site words) = codes "jump" ∷ number_words (site ∷ words)
 entry_words (Store site addresses) = codes "store" ∷ number_words (site ∷ addresses)
 entry_words (Prove site) = codes "prove" ∷ number_words (site ∷ [])
+entry_words (Free site) = codes "free" ∷ number_words (site ∷ [])
+entry_words (Never site) = codes "never" ∷ number_words (site ∷ [])
+entry_words (Frame site) = codes "frame" ∷ number_words (site ∷ [])
 
 -- the line of an entry, with its line feed
 abbrev pub line_of : Entry → List ℕ

@@ -13,7 +13,7 @@ ghost use Rattle.vector_table.specs.Entries.{ascends, is_word, most_entries};
 ghost use Rattle.indirect_targets.specs.declared.fault.AssumeText.{AssumeText};
 ghost use Rattle.indirect_targets.specs.declared.fault.AssumeText.TheVariants as fault;
 ghost use Rattle.indirect_targets.specs.Exact.{IsDue, IsDueUnlessMemory};
-ghost use Rattle.indirect_targets.specs.Reading.{numbers_in, listed_in, alone_in, numbered_in, entry_in, next_by, placed, with_line, entries_in};
+ghost use Rattle.indirect_targets.specs.Reading.{numbers_in, listed_in, alone_in, alone_by, numbered_in, entry_in, next_by, placed, with_line, entries_in};
 
 use crate::fault::AssumeText;
 use crate::laws::reading_is_exact;
@@ -72,13 +72,31 @@ fn store_of(alloc: Global, words: &mut Words<'_>) -> Result<Option<Entry>, Alloc
     }
 }
 
-/// The words behind `prove`.
-fn prove_of(words: &mut Words<'_>) -> Option<Entry>
-    ensures { result ≡ option_map (λ site. entry.Prove site) (alone_in words.old) }
+/// A site behind which nothing stands.
+fn alone_of(words: &mut Words<'_>) -> Option<u16>
+    ensures { result ≡ alone_in words.old }
 {
     let site = hex_word(words, 4)?;
     if is_over(words) {
-        Some(Entry::Prove(site as u16))
+        Some(site as u16)
+    } else {
+        None
+    }
+}
+
+/// The entry of a kind that names a site alone.
+#[tactic(auto, unfolding(crate::specs::Reading::alone_by))]
+fn alone_by(kind: &[u8], words: &mut Words<'_>) -> Option<Entry>
+    ensures { result ≡ alone_by kind.now words.old }
+{
+    if kind == b"prove".as_slice() {
+        Some(Entry::Prove(alone_of(words)?))
+    } else if kind == b"free".as_slice() {
+        Some(Entry::Free(alone_of(words)?))
+    } else if kind == b"never".as_slice() {
+        Some(Entry::Never(alone_of(words)?))
+    } else if kind == b"frame".as_slice() {
+        Some(Entry::Frame(alone_of(words)?))
     } else {
         None
     }
@@ -97,10 +115,8 @@ fn numbered_of(alloc: Global, text: &[u8]) -> Result<Option<Entry>, AllocError>
         jump_of(alloc, &mut words)
     } else if kind == b"store".as_slice() {
         store_of(alloc, &mut words)
-    } else if kind == b"prove".as_slice() {
-        Ok(prove_of(&mut words))
     } else {
-        Ok(None)
+        Ok(alone_by(kind, &mut words))
     }
 }
 
@@ -153,7 +169,9 @@ fn is_entry(entry: &Entry) -> bool
             let addresses = addresses.as_slice();
             *site < WORDS && is_listable(addresses) && are_all_protected(addresses)
         }
-        Entry::Prove(site) => *site < WORDS,
+        Entry::Prove(site) | Entry::Free(site) | Entry::Never(site) | Entry::Frame(site) => {
+            *site < WORDS
+        }
     }
 }
 
@@ -243,10 +261,10 @@ fn read_lines(alloc: Global, text: &[u8]) -> Result<Assumptions, AssumeText>
 
 /// Reads the assumption list whose text this is.
 ///
-/// The text has a line for each entry: `jump SITE WORD ...`, `store SITE ADDRESS ...` or `prove SITE`, with word addresses and
-/// protected addresses in four upper-case hexadecimal digits, single spaces, and a line feed behind each line. Where it is
-/// the text of no list, the first line at which none can go on is told: `Malformed` where that line isn't of its form or is
-/// line 4,097, else `Order`. Source: own.
+/// The text has a line for each entry: `jump SITE WORD ...`, `store SITE ADDRESS ...`, `prove SITE`, `free SITE`, `never SITE` or
+/// `frame SITE`, with word addresses and protected addresses in four upper-case hexadecimal digits, single spaces, and a line feed
+/// behind each line. Where it is the text of no list, the first line at which none can go on is told: `Malformed` where that line
+/// isn't of its form or is line 4,097, else `Order`. Source: own.
 pub fn read(alloc: Global, text: &[u8]) -> Result<Assumptions, AssumeText>
     ensures exact { Answers (λ a. a) fault.Memory result (entries_in text.now) }
     ensures told { IsDueUnlessMemory text.now result }

@@ -47,6 +47,9 @@ fn write_entry_words(out: &mut LineWriter, entry: &Entry) -> Result<(), AllocErr
         Entry::Jump(site, words) => write_words(out, b"jump", *site, words.as_slice()),
         Entry::Store(site, addresses) => write_words(out, b"store", *site, addresses.as_slice()),
         Entry::Prove(site) => write_words(out, b"prove", *site, &[]),
+        Entry::Free(site) => write_words(out, b"free", *site, &[]),
+        Entry::Never(site) => write_words(out, b"never", *site, &[]),
+        Entry::Frame(site) => write_words(out, b"frame", *site, &[]),
     }
 }
 

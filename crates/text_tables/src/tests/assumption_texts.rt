@@ -7,7 +7,7 @@ use std::alloc::Global;
 use std::test::Fail;
 
 /// Each text with its number of entries, or the line at which it is refused and why.
-const TEXTS: [(&[u8], Result<usize, AssumeText>); 38] = [
+const TEXTS: [(&[u8], Result<usize, AssumeText>); 47] = [
     (b"", Ok(0)),
     (b"jump 0004 0005\n", Ok(1)),
     (b"store 0004 005D\n", Ok(1)),
@@ -17,6 +17,18 @@ const TEXTS: [(&[u8], Result<usize, AssumeText>); 38] = [
         Ok(3),
     ),
     (b"prove 0003\njump 0004 0005\nstore 0009 00C1\n", Ok(3)),
+    (
+        b"jump 0004 0005\nstore 0004 005D\nprove 0004\nfree 0004\nnever 0004\nframe 0004\nfree 3FFF\n",
+        Ok(7),
+    ),
+    (b"free 0004\nprove 0004\n", Err(AssumeText::Order(2))),
+    (b"never 0004\nfree 0004\n", Err(AssumeText::Order(2))),
+    (b"frame 0004\nnever 0004\n", Err(AssumeText::Order(2))),
+    (b"never 0004\nnever 0004\n", Err(AssumeText::Order(2))),
+    (b"free 0004 005D\n", Err(AssumeText::Malformed(1))),
+    (b"never\n", Err(AssumeText::Malformed(1))),
+    (b"frame 4000\n", Err(AssumeText::Malformed(1))),
+    (b"frames 0004\n", Err(AssumeText::Malformed(1))),
     (
         b"jump 0004 0005\njump 0004 0005\n",
         Err(AssumeText::Order(2)),

@@ -50,7 +50,7 @@ pub(crate) type Damage = (usize, Piece, CertFault);
 /// A piece without equal words.
 pub(crate) const NONE: &[u8] = b"";
 
-static DAMAGES: [Damage; 36] = [
+static DAMAGES: [Damage; 37] = [
     (
         0,
         (b"stackcert 3\n", NONE, 0, NONE),
@@ -190,6 +190,16 @@ static DAMAGES: [Damage; 36] = [
             b" e1F0F05",
             32,
             b" f7F00 c0301 . l03FFFE h0003FF08\n",
+        ),
+        CertFault::Malformed(13),
+    ),
+    (
+        13,
+        (
+            b"node 1 0010 0000001 1 0 o3,t0003",
+            b" e1F0F05",
+            32,
+            b" f7F00 s0301 . l03FFFE h0003FF08\n",
         ),
         CertFault::Malformed(13),
     ),

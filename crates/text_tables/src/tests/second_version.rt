@@ -7,18 +7,23 @@ use sp_domain::CarryTag;
 use std::alloc::{AllocError, Global};
 use std::test::Fail;
 
-/// A certificate with ranges, carry tags of both kinds, picks, and a vector of one word.
+/// A certificate with lines of each kind, ranges, carry tags of each kind, picks, and a vector of one word.
 static PIECES: [Piece; 18] = [
     (b"stackcert 2\n", b"", 0, b""),
     (b"bound 4\n", b"", 0, b""),
-    (b"assume 2\n", b"", 0, b""),
+    (b"assume 5\n", b"", 0, b""),
     (b"jump 0003 0004 0005\n", b"", 0, b""),
-    (b"prove 0004\n", b"", 0, b""),
+    (
+        b"prove 0004\nfree 0005\nnever 0006\nframe 0006\n",
+        b"",
+        0,
+        b"",
+    ),
     (b"instances 3\n", b"", 0, b""),
     (b"inst root 0000 0000000 0 rank 2 need 4\n", b"", 0, b""),
     (b"inst call 0010 0000001 1 rank 1 need 3\n", b"", 0, b""),
     (b"inst v2 0001 0000001 0 rank 0 need 2\n", b"", 0, b""),
-    (b"nodes 4\n", b"", 0, b""),
+    (b"nodes 5\n", b"", 0, b""),
     (
         b"node 0 0000 0000000 0 0 c0 -",
         b" -000000FF",
@@ -38,8 +43,13 @@ static PIECES: [Piece; 18] = [
         32,
         b" f7F00 b0301 . l03FFFEFEFE h0003FF080808\n",
     ),
-    (b"witness attained\n", b"", 0, b""),
-    (b"schedule 1\nfill 00\nend\n", b"", 0, b""),
+    (
+        b"node 1 0011 0000001 1 0 c0 -",
+        b" e1F0F051545",
+        32,
+        b" f7F00 s0301\n",
+    ),
+    (b"witness attained\nschedule 1\nfill 00\nend\n", b"", 0, b""),
     (b"end\n", b"", 0, b""),
     (b"", b"", 0, b""),
 ];
@@ -51,7 +61,7 @@ const WORD: &[u8] = b" -0F0505F5";
 const TAIL: &[u8] = b" -7F00 c1F80 -0F050606 .\n";
 
 /// What stands before, between and behind the values of the node with a pick, where it is refused.
-static NODES: [(&'static [u8], &'static [u8], &'static [u8]); 12] = [
+static NODES: [(&'static [u8], &'static [u8], &'static [u8]); 13] = [
     (b"node 0 0002 0000000 0 1 o2,k08 03F", WORD, TAIL),
     (b"node 0 0002 0000000 0 1 o2,k08 3f", WORD, TAIL),
     (b"node 0 0002 0000000 0 1 o2,k08", WORD, TAIL),
@@ -63,11 +73,12 @@ static NODES: [(&'static [u8], &'static [u8], &'static [u8]); 12] = [
     (HEAD, WORD, b" -7F00 c2080 -0F050606 .\n"),
     (HEAD, WORD, b" -7F00 c1F8 -0F050606 .\n"),
     (HEAD, WORD, b" -7F00 b0301 -0F050606 .\n"),
+    (HEAD, WORD, b" -7F00 s0301 -0F050606 .\n"),
     (HEAD, WORD, b" -7F00007F c1F80 -0F050606 .\n"),
 ];
 
 /// Other lines, and why the text is then refused.
-static DAMAGES: [Damage; 4] = [
+static DAMAGES: [Damage; 5] = [
     (
         8,
         (b"inst v2 0000 0000001 0 rank 0 need 2\n", NONE, 0, NONE),
@@ -82,6 +93,16 @@ static DAMAGES: [Damage; 4] = [
         11,
         (b"node 0 0000 0000000 0 0 c0 - from 0\n", NONE, 0, NONE),
         CertFault::Order(11),
+    ),
+    (
+        14,
+        (
+            b"node 1 0011 0000001 1 0 c0 -",
+            b" e1F0F051545",
+            32,
+            b" f7F00 s030\n",
+        ),
+        CertFault::Malformed(14),
     ),
     (17, (b"x", NONE, 0, NONE), CertFault::Malformed(17)),
 ];
