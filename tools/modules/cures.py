@@ -34,15 +34,15 @@ CURES = {
     "prologues": (
         "`refused 4 .. out 0x3E, r29` in `__epilogue_restores__`",
         "`-mcall-prologues`, with which avr-libc's printf family, `strtol`, `qsort`, `dtostrf` and time functions are built too",
-        "build without it, and do without these functions (`utoa` and `itoa` need none of it)"),
+        "`frame @frames`; or build without it, and do without these functions (`utoa` and `itoa` need none of it)"),
     "unhandled": (
         "`refused 4 .. out 0x3E, r29` in `__init`",
         "a vector that may be enabled has no handler: avr-libc's default for it begins the program anew, on the stack as it is",
-        "a handler for it, or for all that have none: `ISR(BADISR_vect) { for (;;) ; }`"),
+        "a handler for it, or for all that have none: `ISR(BADISR_vect) { for (;;) ; }`; where none of them ever comes, `never @unhandled`"),
     "high byte": (
         "`refused 4 .. out 0x3E, r29` behind `dec r29`, `inc r29` or `subi r29`",
         "a frame of 256, 512, .. bytes, which is moved by its high byte alone",
-        "a frame of another size: an array that is a byte smaller or greater, or a static one"),
+        "`frame @frames`; or a frame of another size: an array that is a byte smaller or greater, or a static one"),
     "sized": (
         "`refused 4 .. out 0x3E` elsewhere",
         "an array whose size is computed, or `alloca`",
@@ -74,17 +74,16 @@ CURES = {
     "array": (
         "`refused 8` in a loop",
         "a loop over a static array whose address is loaded just before its first store",
-        "`-fno-ivopts`"),
+        "`free FUNCTION N` for the store; or `-fno-ivopts`"),
     "copy": (
         "`refused 8` at `st X+, r0` or `st Z+, r0`",
         "a copy of a `struct` or of some bytes by a loop that the compiler writes in place of `memcpy`",
-        "`-fno-builtin-memcpy`"),
+        "`free FUNCTION N` for the store; or `-fno-builtin-memcpy`"),
     "proved": (
         "`refused 8` at a site with a `prove` line",
         "the pointer of the store isn't known",
         "a `store` line with the registers in place of the `prove` line"),
 }
-DEC_R29, INC_R29, SUBI_R29 = 0x95DA, 0x95D3, 0x50D0
 REFUSAL = re.compile(r"refused (\d) (\S+)(?: of (\d+))?(?: at ([0-9A-F]{4}))?(?: (.*))?$")
 
 
@@ -122,7 +121,7 @@ def of_stack_pointer(elf, word, name, text):
     if name == "__init":
         return "unhandled"
     before = [elf.word(at) for at in range(max(word - 4, 0), word)]
-    return "high byte" if any(opcode in (DEC_R29, INC_R29) or opcode & 0xF0F0 == SUBI_R29 for opcode in before) else "sized"
+    return "high byte" if any(opcodes.moves_high_byte(opcode) for opcode in before) else "sized"
 
 
 def of_opcode(text):

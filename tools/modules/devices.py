@@ -13,6 +13,11 @@ class Device:
     def vector_word(self, vector):
         return (vector - 1) * self.vector_words
 
+    def vector_at(self, word):
+        """The vector whose word this is; None where it is that of none."""
+        vector = word // self.vector_words + 1
+        return vector if vector in VECTORS and self.vector_word(vector) == word else None
+
 
 DEVICES = {it.name: it for it in (
     Device("atmega48pa", 2048, 0x02FF, 1),
@@ -20,6 +25,11 @@ DEVICES = {it.name: it for it in (
     Device("atmega168pa", 8192, 0x04FF, 2),
     Device("atmega328p", 16384, 0x08FF, 2),
 )}
+
+
+class Misuse(Exception):
+    """The words or the firmware aren't as a tool takes them."""
+
 
 # What a file may be linked for, and the device as which it is taken: chips of one family, alike in flash, SRAM, vectors and registers.
 LINKED_FOR = {
@@ -44,3 +54,19 @@ REGISTERS = {
     **{f"r{n}": n for n in range(32)},
 }
 NAME_OF = {address: name for name, address in REGISTERS.items()}
+
+
+def device_of(elf, path, asked):
+    """The device that the file was linked for, and the one as which it is taken."""
+    linked_for = elf.device()
+    if asked and asked not in DEVICES:
+        raise Misuse(f"--device is one of {', '.join(DEVICES)}")
+    if linked_for is None:
+        if not asked:
+            raise Misuse(f"{path} doesn't say for which device it was linked: give --device")
+        return None, DEVICES[asked]
+    if linked_for not in LINKED_FOR:
+        raise Misuse(f"{path} was linked for {linked_for}, and stackbound knows {', '.join(DEVICES)} alone")
+    if asked not in (None, LINKED_FOR[linked_for]):
+        raise Misuse(f"{path} was linked for {linked_for}, and not for {asked}")
+    return linked_for, DEVICES[LINKED_FOR[linked_for]]

@@ -1,6 +1,9 @@
-"""Sites in a function's code: its indirect transfers and its stores through pointers, found by their opcodes."""
+"""Sites in a function's code: its indirect transfers, its stores through pointers and what moves its frame, found by their opcodes."""
 
 IJMP, ICALL = 0x9409, 0x9509
+DEC_R29, INC_R29, SUBI_R29 = 0x95DA, 0x95D3, 0x50D0
+OUT_SPH_R29 = 0xBFDE
+FRAME_LOW, FRAME_HIGH = 28, 29  # the frame pointer
 
 
 def length(opcode):
@@ -17,6 +20,29 @@ def is_pointer_store(opcode):
     if opcode & 0xD200 == 0x8200:
         return True
     return opcode & 0xFE00 == 0x9200 and opcode & 15 in (0x1, 0x2, 0x9, 0xA, 0xC, 0xD, 0xE)
+
+
+def destination(opcode):
+    """The register that an `add`, `adc` or another instruction of this form writes."""
+    return (opcode >> 4) & 31
+
+
+def is_add(opcode):
+    return opcode & 0xFC00 == 0x0C00
+
+
+def is_adc(opcode):
+    return opcode & 0xFC00 == 0x1C00
+
+
+def is_frame_site(opcode):
+    """`add`, `adc`, `sub`, `subi`, `inc` or `dec`, for which a `frame` line may say something."""
+    return is_add(opcode) or is_adc(opcode) or opcode & 0xFC00 == 0x1800 or opcode & 0xF000 == 0x5000 or opcode & 0xFE0F in (0x9403, 0x940A)
+
+
+def moves_high_byte(opcode):
+    """`dec`, `inc` or `subi` of the frame pointer's high byte."""
+    return opcode in (DEC_R29, INC_R29) or opcode & 0xF0F0 == SUBI_R29
 
 
 def words_of(elf, symbol):

@@ -6,14 +6,10 @@ import os
 import cures
 from opcodes import jump_target
 from debug_lines import Lines
-from devices import DEVICES, LINKED_FOR, VECTORS
+from devices import VECTORS, device_of
 from elf import Elf
 from program import OK, REFUSED, NoProgram, Program
 from spec import assumptions
-
-
-class Misuse(Exception):
-    """The words or the firmware aren't as `stackcheck` takes them."""
 
 
 class Part:
@@ -44,6 +40,11 @@ class Outcome:
         symbol = self.elf.symbol_at(2 * target) if target is not None else None
         return f"{VECTORS[vector]} ({symbol.name})" if symbol else VECTORS[vector]
 
+    def place_of_line(self, kind, word):
+        """Where a line of an assumption file or of `premises` stands: a `never` line at a vector, each other one at its site."""
+        vector = self.device.vector_at(word) if kind == "never" else None
+        return self.handler(vector) if vector else self.place(word)
+
     def instance(self, kind, entry, name):
         """What an instance is called: its function, its vector, or the start."""
         if kind == "root":
@@ -52,22 +53,6 @@ class Outcome:
             return self.handler(int(kind[1:]))
         symbol = self.elf.symbol_at(2 * entry)
         return name or (symbol.name if symbol else f"{entry:04X}")
-
-
-def device_of(elf, path, asked):
-    """The device that the file was linked for, and the one as which it is taken."""
-    linked_for = elf.device()
-    if asked and asked not in DEVICES:
-        raise Misuse(f"--device is one of {', '.join(DEVICES)}")
-    if linked_for is None:
-        if not asked:
-            raise Misuse(f"{path} doesn't say for which device it was linked: give --device")
-        return None, DEVICES[asked]
-    if linked_for not in LINKED_FOR:
-        raise Misuse(f"{path} was linked for {linked_for}, and stackbound knows {', '.join(DEVICES)} alone")
-    if asked not in (None, LINKED_FOR[linked_for]):
-        raise Misuse(f"{path} was linked for {linked_for}, and not for {asked}")
-    return linked_for, DEVICES[LINKED_FOR[linked_for]]
 
 
 def refuse(outcome, text):
@@ -118,7 +103,9 @@ def tell_premises(outcome, program, certificate):
     outcome.rests_on.append("The bound holds of each run up to its first flagged step." if outcome.witness == "attained" else
                             "The bound holds of each run up to its first flagged step; no schedule shows that it is reached.")
     for line in outcome.assumed.splitlines():
-        outcome.rests_on.append(f"assumed: {line}, at {outcome.place(int(line.split()[1], 16))}")
+        kind, word = line.split()[:2]
+        if kind != "frame":  # which is no assumption
+            outcome.rests_on.append(f"assumed: {line}, at {outcome.place_of_line(kind, int(word, 16))}")
     lines = program.lines("premises", certificate)
     if lines is None:
         outcome.rests_on.append("This stackbound doesn't list the places where a step may be flagged; the tool `flagged` finds some.")
@@ -127,7 +114,8 @@ def tell_premises(outcome, program, certificate):
     outcome.rests_on.append(f"places where a step may be flagged: {len(outcome.places)}")
     for line in outcome.places:
         kind, word = line.split()[:2]
-        outcome.rests_on.append(f"  {line.partition(' in ')[0]}: {outcome.place(int(word, 16))}" if kind == "at" else f"  {line}")
+        is_placed = kind in ("at", "never")
+        outcome.rests_on.append(f"  {line.partition(' in ')[0]}: {outcome.place_of_line(kind, int(word, 16))}" if is_placed else f"  {line}")
 
 
 def judge(words, folder):
@@ -137,7 +125,7 @@ def judge(words, folder):
     assumed = None
     if words.spec:
         with open(words.spec, encoding="utf8") as file:
-            outcome.assumed = assumptions(elf, file.read())
+            outcome.assumed = assumptions(elf, file.read(), outcome.device)
         assumed = os.path.join(folder, "assumptions")
         with open(assumed, "w", encoding="ascii") as file:
             file.write(outcome.assumed)

@@ -3,11 +3,14 @@
 import struct
 
 import opcodes
-from devices import REGISTERS
+from devices import REGISTERS, VECTORS
 
-MOST_ITEMS = 64
-KINDS = {"jump": (opcodes.is_indirect, "indirect transfer"), "store": (opcodes.is_pointer_store, "pointer store"),
-         "prove": (opcodes.is_pointer_store, "pointer store")}
+MOST_ITEMS, MOST_LINES = 64, 4096
+NEAR = 4  # how many instructions before a write of the stack pointer its byte is moved, at most
+KINDS = ("jump", "store", "prove", "free", "never", "frame")  # as they stand at one site
+FORMS = {"jump": "FUNCTION N ..", "store": "FUNCTION N ..", "prove": "FUNCTION N", "free": "FUNCTION N", "never": "VECTOR", "frame": "FUNCTION"}
+SITES = {"jump": (opcodes.is_indirect, "indirect transfer")}
+STORES = opcodes.is_pointer_store, "pointer store"
 
 
 class SpecFault(Exception):
@@ -25,7 +28,7 @@ def function(elf, name):
 
 def site(elf, kind, name, number):
     """The word of the N-th site, counted from 1, of this kind in a function."""
-    test, what = KINDS[kind]
+    test, what = SITES.get(kind, STORES)
     found = opcodes.sites(elf, function(elf, name), test)
     if not number.isdecimal() or not 1 <= int(number) <= len(found):
         raise SpecFault(f"{name} has {len(found)} {what}{'' if len(found) == 1 else 's'}, and no number {number}")
@@ -109,36 +112,93 @@ def register(word):
     return address
 
 
-def read_line(elf, words):
-    """The kind, the site and the items of one line."""
+def is_unhandled(elf, device, vector):
+    """Whether a vector leads by jumps alone to where the program begins, as avr-libc's default does."""
+    word, passed = device.vector_word(vector), set()
+    while word and word not in passed:
+        passed.add(word)
+        word = opcodes.jump_target(elf, word)
+        word = word % device.words if word is not None else None
+    return word == 0
+
+
+def vectors(elf, device, name):
+    """The words of a vector by its name in avr-libc, or of each that has no handler."""
+    if device is None:
+        raise SpecFault("the file doesn't say for which device it was linked: give --device")
+    if name == "@unhandled":
+        found = {it for it in VECTORS if is_unhandled(elf, device, it)}
+        if not found:
+            raise SpecFault("each vector has a handler")
+    else:
+        found = {it for it in VECTORS if VECTORS[it] == name}
+        if not found:
+            raise SpecFault(f"{name} is no vector")
+    return {device.vector_word(it) for it in found}
+
+
+def frames_of(elf, symbol):
+    """The words of a function where `add` and `adc` give its frame back, and where the frame's high byte alone is moved."""
+    code = list(opcodes.words_of(elf, symbol))
+    for n, (word, opcode) in enumerate(code):
+        after = code[n + 1:n + 1 + NEAR]
+        if opcodes.is_add(opcode) and opcodes.destination(opcode) == opcodes.FRAME_LOW and after:
+            if opcodes.is_adc(after[0][1]) and opcodes.destination(after[0][1]) == opcodes.FRAME_HIGH:
+                yield from (word, after[0][0])
+        elif opcodes.moves_high_byte(opcode) and any(it == opcodes.OUT_SPH_R29 for _, it in after):
+            yield word
+
+
+def frames(elf, name):
+    """The words of the `frame` lines of a function, or of all that give a frame back in the firmware."""
+    if name == "@frames":
+        found = {word for symbol in elf.code for word in frames_of(elf, symbol)}
+        what = "the firmware has no frame that is given back by `add` and `adc`, or moved by its high byte alone"
+    else:
+        found = set(opcodes.sites(elf, function(elf, name), opcodes.is_frame_site))
+        what = f"{name} has no `add`, `adc`, `sub`, `subi`, `inc` or `dec`"
+    if not found:
+        raise SpecFault(what)
+    return found
+
+
+def read_line(elf, device, words):
+    """The kind, the sites and the items of one line."""
     kind, rest = words[0], words[1:]
-    if kind not in KINDS:
-        raise SpecFault(f"{kind} is none of jump, store and prove")
-    if len(rest) < 2 or (len(rest) == 2) != (kind == "prove"):
-        raise SpecFault(f"`{kind} FUNCTION N{'' if kind == 'prove' else ' ..'}` is wanted")
+    if kind not in FORMS:
+        raise SpecFault(f"{kind} is none of {', '.join(KINDS[:-1])} and {KINDS[-1]}")
+    form = FORMS[kind].split()
+    if len(rest) != len(form) if form[-1] != ".." else len(rest) < len(form):
+        raise SpecFault(f"`{kind} {FORMS[kind]}` is wanted")
+    if kind == "never":
+        return kind, vectors(elf, device, rest[0]), set()
+    if kind == "frame":
+        return kind, frames(elf, rest[0]), set()
     items = set()
     if kind == "jump":
         items = targets(elf, rest[2:])
     elif kind == "store":
         items = {register(word) for word in rest[2:]}
-    return site(elf, kind, rest[0], rest[1]), kind, items
+    return kind, {site(elf, kind, rest[0], rest[1])}, items
 
 
-def assumptions(elf, text):
-    """The text of the assumption file that a spec makes of this firmware. Lines on one site are one line."""
+def assumptions(elf, text, device=None):
+    """The text of the assumption file that a spec makes of this firmware; `never` lines ask for its device. Lines on one site are one line."""
     lines = {}
     for number, line in enumerate(text.splitlines(), start=1):
         words = line.partition("#")[0].split()
         if not words:
             continue
         try:
-            place, kind, items = read_line(elf, words)
+            kind, places, items = read_line(elf, device, words)
         except SpecFault as fault:
             raise SpecFault(f"line {number}: {fault}") from None
-        held = lines.setdefault((place, list(KINDS).index(kind)), set())
-        held |= items
-        if len(held) > MOST_ITEMS:
-            raise SpecFault(f"line {number}: a line of an assumption file has at most {MOST_ITEMS} words, and these are {len(held)}")
-    kinds = list(KINDS)
-    return "".join(" ".join([kinds[kind], f"{place:04X}", *(f"{it:04X}" for it in sorted(items))]) + "\n"
+        for place in places:
+            held = lines.setdefault((place, KINDS.index(kind)), set())
+            held |= items
+            if len(held) > MOST_ITEMS:
+                raise SpecFault(f"line {number}: a line of an assumption file has at most {MOST_ITEMS} words, and these are {len(held)}")
+    if len(lines) > MOST_LINES:
+        raise SpecFault(f"line {number}: an assumption file has at most {MOST_LINES} lines, and these are {len(lines)}")
+    return "".join(" ".join([KINDS[kind], f"{place:04X}", *(f"{it:04X}" for it in sorted(items))]) + "\n"
                    for (place, kind), items in sorted(lines.items()))
