@@ -53,7 +53,7 @@ pub record Holding (words : List ℕ) (A : List Entry) (f : Family) (memory : Me
 
 pub whole_where_entered : {words : List ℕ} {A : List Entry} {n : Node} {way : EdgeKind} {inst : InstKey} {back : ℕ} → Enters words A n way inst back → IsWhole n.key.sp
 whole_where_entered (by_call offset site faultless form member) = (offset, form)
-whole_where_entered (by_interrupt offset v clears faultless form i delay enabled clearable) = (offset, form)
+whole_where_entered (by_interrupt offset v clears faultless form i delay enabled allowed clearable) = (offset, form)
 
 nothing_moves : (moves : List Node) (to : Node) → moves ≡ [] → Contains (joined_onto [] moves) to → ⊥
 nothing_moves moves to e h = let from = joins_are_least.keys moves to h in none_in from.0 (subst (λ (l : List Node). Contains l from.0) e from.1.0)

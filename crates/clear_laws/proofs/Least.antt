@@ -72,7 +72,7 @@ first_of_two a b h = grind arith
 
 not_local : {words : List ℕ} {A : List Entry} {n : Node} {way : EdgeKind} {inst : InstKey} {back : ℕ} → Enters words A n way inst back → way ≡ kind.Local → ⊥
 not_local (by_call offset site faultless form member) = λ e. cc
-not_local (by_interrupt offset v clears faultless form i delay enabled clearable) = λ e. cc
+not_local (by_interrupt offset v clears faultless form i delay enabled allowed clearable) = λ e. cc
 
 module _ (words : List ℕ) (A : List Entry) (nodes : List Node) where
   pushed_below : (n : Node) (e : Edge) → is_guarded_push words n.key.pc ≡ true → IsEdge words A nodes n e → e.kind ≡ kind.Local → offset_of n.key.sp < offset_of e.to.sp

@@ -1,14 +1,14 @@
 -- A successor whose stack pointer is half written has the offset of the node that it comes from.
-use Rattle.std.proofs.Common.{◌≡◌, refl, sym, ap, ◌∙◌, ⊎_elim, ℕ, zero, suc, ◌+◌, ◌==◌, ◌||◌, Bool, true, false, List, [], ◌∷◌, map, length, filter, Option, Some, None, if◌then◌else◌, nat_lt, nat_le, Contains}
+use Rattle.std.proofs.Common.{◌≡◌, refl, sym, ap, ◌∙◌, ⊎_elim, ℕ, zero, suc, ◌+◌, ◌==◌, Bool, true, false, List, [], ◌∷◌, map, length, filter, Option, Some, None, if◌then◌else◌, nat_lt, nat_le, Contains}
 use Rattle.std.proofs.lemmas.List.Elements.{Contains-append_cases}
 use Rattle.avr_model.specs.declared.assumption.Entry.{Entry}
 use Rattle.avr_model.specs.declared.device.Device.{Device}
 use Rattle.avr_model.specs.declared.instruction.Instr.{Instr}
 use Rattle.avr_model.specs.declared.instruction.Instr.TheVariants as i
-use Rattle.avr_model.specs.Assumptions.{store_line, is_proved}
+use Rattle.avr_model.specs.Assumptions.{store_line, is_frame, is_fixed_site}
 use Rattle.avr_model.specs.Devices.{size_of, wrapped, device_of}
 use Rattle.avr_model.specs.Text.{far, near}
-use Rattle.avr_model.specs.Sites.{is_scratch, is_fixed, base_register, pointer_register}
+use Rattle.avr_model.specs.Sites.{is_scratch, base_register, pointer_register}
 use Rattle.avr_model.specs.State.{SPL, SPH, SREG}
 use Rattle.avr_model.specs.Effects.{port}
 use Rattle.avr_model.specs.Written.{written}
@@ -33,10 +33,11 @@ use Rattle.local_rules.specs.declared.local.NodeFault.TheVariants.{UnresolvedJum
 use Rattle.local_rules.specs.declared.computed.Computed.{Computed}
 use Rattle.local_rules.specs.declared.pointers.Pointed.{Pointed}
 use Rattle.local_rules.specs.Raw.{Raw, one, next, at_word, off_table, further, untracked_if, too_deep_if, all_of, fails}
-use Rattle.local_rules.specs.Registers.{bits, value, binary_after, interrupts_row, flag_row, going_by, going_with, flag_after, forgetting, carry_bit}
+use Rattle.local_rules.specs.Registers.{bits, value, interrupts_row, flag_row, going_by, going_with, flag_after, forgetting, carry_bit}
 use Rattle.local_rules.specs.Reads.{read_at, pointed, read_pointed}
 use Rattle.local_rules.specs.Writes.{opening, closing, high_part, closing_offset, sreg_written, flags_written, masks_written, written_at, fixed_write, reaches, pointer_write}
 use Rattle.local_rules.specs.Flow.{branch, skipping, flag_at, where_carry, going_where, carry_branch, flag_branch, targets_at, is_half_written, jumping, calling, indirect_call, relative_call, at_closed, if_room, returning, ret_exit, reti_exit, pushing, popping, making_room}
+use Rattle.local_rules.specs.FrameLines.{binary_at}
 use Rattle.local_rules.specs.Local.{step_before, pointer_moved, loading, row_of, row_at, row_in, is_hung, fetched, picks, picking, picked, split_site, splitting, raw}
 use Rattle.local_laws.proofs.AllLaws.{none_in, each_of, each_in_map}
 
@@ -162,7 +163,7 @@ module _ (device : Device) (k : NodeKey) where
     pointer_keeps : (words : List ℕ) (A : List Entry) (was : AbsState) (r up : ℕ) (p : Pointed) (pc : ℕ) (s : AbsState) (v : AbsByte)
         → AllKeep (pointer_write device words A was r up p pc key s v)
     pointer_keeps words A was r up p pc s v =
-        by_test (is_fixed words pc || is_proved A pc) _ _ (fixed_keeps p.constant pc s v)
+        by_test (is_fixed_site words A pc) _ _ (fixed_keeps p.constant pc s v)
         (one_and_all (one key s) (λ a. written_at device pc key s false a v) (still key s kept) (λ a. written_keeps pc s false a v)
         (filter (λ a. reaches was r up a) (store_line A pc)))
 
@@ -225,7 +226,7 @@ module _ (device : Device) (k : NodeKey) where
     row_keeps scratch (i.Fmul d r) = still _ _ refl
     row_keeps scratch (i.Fmuls d r) = still _ _ refl
     row_keeps scratch (i.Fmulsu d r) = still _ _ refl
-    row_keeps scratch (i.Binary op d r) = going_by_keeps s (binary_after s op d r) _ (skipping_keeps words s (byte_equal (bits s d) (bits s r)))
+    row_keeps scratch (i.Binary op d r) = going_by_keeps s (binary_at (is_frame A k.pc) s op d r) _ (skipping_keeps words s (byte_equal (bits s d) (bits s r)))
     row_keeps scratch (i.Immediate op d n) = still _ _ refl
     row_keeps scratch (i.Unary op d) = still _ _ refl
     row_keeps scratch (i.Adiw d n) = still _ _ refl
@@ -297,5 +298,5 @@ module _ (words : List ℕ) (A : List Entry) (k : NodeKey) (s : AbsState) where
   pub open_moves_keep : AllKeep (device_of words) k (raw words A k s)
   unfolding raw
   open_moves_keep =
-      untracked_keeps (device_of words) k (is_hung k k.sp) k.pc _
+      untracked_keeps (device_of words) k (is_hung (device_of words) A k k.sp) k.pc _
       (deep_keeps (device_of words) k (nat_lt (size_of (device_of words)) (offset_of k.sp)) k.pc (offset_of k.sp) _ (splitting_keeps (split_site words A k.pc k.pick)))

@@ -60,16 +60,16 @@ module _ (words : List ℕ) (A : List Entry) (k : NodeKey) (s : AbsState) where
   device = device_of words
 
   abbrev outside : Raw → Raw
-  outside r = untracked_if (is_hung k k.sp) k.pc (too_deep_if (nat_lt (size_of device) (offset_of k.sp)) k.pc (offset_of k.sp) r)
+  outside r = untracked_if (is_hung device A k k.sp) k.pc (too_deep_if (nat_lt (size_of device) (offset_of k.sp)) k.pc (offset_of k.sp) r)
 
   raw_is : (site : Option ℕ) → split_site words A k.pc k.pick ≡ site → raw words A k s ≡ outside (splitting site (row_in device words A) k s)
   unfolding raw
   raw_is site e = ap (λ site. outside (splitting site (row_in device words A) k s)) e
 
   -- a node without a fault isn't half written where an interrupt may come
-  pub not_hung : (raw words A k s).faults ≡ [] → is_hung k k.sp ≡ false
+  pub not_hung : (raw words A k s).faults ≡ [] → is_hung device A k k.sp ≡ false
   unfolding raw
-  not_hung h = (outer_faultless (is_hung k k.sp) (nat_lt (size_of device) (offset_of k.sp)) k.pc (offset_of k.sp) _ h).0
+  not_hung h = (outer_faultless (is_hung device A k k.sp) (nat_lt (size_of device) (offset_of k.sp)) k.pc (offset_of k.sp) _ h).0
 
   module _ (instr : Instr) (is : instruction_at words k.pc ≡ Some instr) (clean : (raw words A k s).faults ≡ []) where
     there : fetched device words k.pc ≡ Some instr
@@ -85,10 +85,10 @@ module _ (words : List ℕ) (A : List Entry) (k : NodeKey) (s : AbsState) where
         inl (record {
           faultless =
               ap (λ (r : Raw). r.faults) (sym row_is)
-              ∙ (outer_faultless (is_hung k k.sp) (nat_lt (size_of device) (offset_of k.sp)) k.pc (offset_of k.sp) (row_in device words A k s) (ap (λ (r : Raw). r.faults) (sym same) ∙ clean)).1;
+              ∙ (outer_faultless (is_hung device A k k.sp) (nat_lt (size_of device) (offset_of k.sp)) k.pc (offset_of k.sp) (row_in device words A k s) (ap (λ (r : Raw). r.faults) (sym same) ∙ clean)).1;
           moves =
               ap (λ (r : Raw). r.moves) same
-              ∙ outer_moves (is_hung k k.sp) (nat_lt (size_of device) (offset_of k.sp)) k.pc (offset_of k.sp) (row_in device words A k s) ∙ ap (λ (r : Raw). r.moves) row_is;
+              ∙ outer_moves (is_hung device A k k.sp) (nat_lt (size_of device) (offset_of k.sp)) k.pc (offset_of k.sp) (row_in device words A k s) ∙ ap (λ (r : Raw). r.moves) row_is;
         })
     by_site (Some jump) e = inr (ap (is_some_that adds_low) (sym is) ∙ splits_at words A k.pc k.pick jump e)
 

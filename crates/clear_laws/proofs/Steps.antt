@@ -11,7 +11,7 @@ use Rattle.avr_model.specs.Sites.{instruction_at, is_scratch, adds_low}
 use Rattle.avr_model.specs.Written.{written}
 use Rattle.avr_model.specs.State.{State, Memory, is_live}
 use Rattle.avr_model.specs.Effects.{effect_of, way_back}
-use Rattle.avr_model.specs.Step.{Answer, Illegal, Overflow, Done, after, all_inside, live_write, protected_write, unlisted_transfer, is_unlisted, flag_by, flagged_or, memory_after, open_after, sp_after, may_take, entering, take, go, step}
+use Rattle.avr_model.specs.Step.{Answer, Illegal, Overflow, Done, after, all_inside, live_write, protected_write, unlisted_transfer, is_unlisted, flag_by, flagged_or, memory_after, open_after, sp_after, may_take, entering, never_target, take, go, step}
 use Rattle.abs_state.specs.declared.state.AbsState.{AbsState}
 use Rattle.mask_states.specs.declared.keys.NodeKey.{NodeKey}
 use Rattle.mask_states.specs.declared.keys.SpForm.{SpForm}
@@ -69,9 +69,9 @@ module _ (words : List ℕ) (A : List Entry) (m n : State) where
   took : (v : ℕ) (clears : Bool) → step words A m (Take v clears) ≡ Done n → after m true (entering m v clears) ≡ n
   took v clears e =
       let effect = entering m v clears in
-      let legal = if_done (may_take m v clears) (take m effect) Illegal n (λ k wrong. cc) e in
-      flags_done m.pc (live_write m.memory effect.pushes) None None (after m true effect) n
-      (if_done (all_inside m.device effect.pushes) _ (Overflow m.pc) n (λ k wrong. cc) legal)
+      let legal = if_done (may_take m v clears) (take A m effect) Illegal n (λ k wrong. cc) e in
+      flags_done m.pc (live_write m.memory effect.pushes) None (never_target A effect.pc) (after m true effect) n
+      (if_done (all_inside m.device effect.pushes || is_unlisted (never_target A effect.pc)) _ (Overflow m.pc) n (λ k wrong. cc) legal)
 
 -- ---- what comes to be live
 

@@ -1,12 +1,11 @@
 -- No step of a machine whose node is clear is flagged, and another is flagged at the node's word.
-use Rattle.std.proofs.Common.{◌≡◌, ◌≢◌, refl, sym, ap, ap₂, ◌∙◌, subst, ℕ, ◌+◌, ◌-◌, ◌*◌, ◌%◌, ◌<◌, ◌≤◌, ◌==◌, Bool, true, false, not, ◌&&◌, ◌||◌, nat_le, if◌then◌else◌, List, [], ◌∷◌, ◌++◌, Option, Some, None, arith, eqb-true}
-use Rattle.std.specs.Int.{bit_at}
+use Rattle.std.proofs.Common.{◌≡◌, ◌≢◌, refl, sym, ap, ap₂, ◌∙◌, subst, ℕ, ◌+◌, ◌-◌, ◌*◌, ◌%◌, ◌<◌, ◌≤◌, ◌==◌, Bool, true, false, not, ◌&&◌, ◌||◌, nat_le, ◌⊎◌, inl, inr, if◌then◌else◌, List, [], ◌∷◌, ◌++◌, Option, Some, None, arith}
 use Rattle.std.specs.List.{list_any}
 use Rattle.std.proofs.lemmas.Bool.Decides.{nat_tests}
-use Rattle.std.proofs.lemmas.Nat.Bits.{bit_at-zero}
 use Rattle.avr_model.proofs.AllLaws.{devices_are_alike}
 use Rattle.avr_model.specs.declared.assumption.Entry.{Entry}
 use Rattle.avr_model.specs.declared.device.Device.{Device}
+use Rattle.avr_model.specs.declared.device.Device.TheVariants.{M48, M88, M168, M328}
 use Rattle.avr_model.specs.declared.instruction.Instr.{Instr}
 use Rattle.avr_model.specs.declared.instruction.Instr.TheVariants as i
 use Rattle.avr_model.specs.declared.choice.Choice.{Choice}
@@ -14,15 +13,15 @@ use Rattle.avr_model.specs.declared.choice.Choice.TheVariants.{Go, Take}
 use Rattle.avr_model.specs.declared.choice.Flag.{Flag}
 use Rattle.avr_model.specs.declared.effect.Effect.{Effect}
 use Rattle.avr_model.specs.declared.effect.Write.{Write}
-use Rattle.avr_model.specs.Assumptions.{jump_line, store_line, is_proved, lists}
-use Rattle.avr_model.specs.Devices.{ramend, wrapped, device_of}
+use Rattle.avr_model.specs.Assumptions.{jump_line, store_line, is_never, is_fixed_site, lists}
+use Rattle.avr_model.specs.Devices.{words_of, ramend, wrapped, device_of}
 use Rattle.avr_model.specs.Image.{WORDS}
-use Rattle.avr_model.specs.Sites.{instruction_at, is_scratch, is_fixed}
+use Rattle.avr_model.specs.Sites.{instruction_at, is_scratch}
 use Rattle.avr_model.specs.State.{State, Memory, is_live, i_flag, minus16, register, pair, low, high}
-use Rattle.avr_model.specs.Vectors.{Vector, vectors, has_enables, is_protected, is_enabled, WATCHDOG}
+use Rattle.avr_model.specs.Vectors.{Vector, vectors, has_enables, is_protected, is_enabled, vector_word, WATCHDOG}
 use Rattle.avr_model.specs.Written.{written}
 use Rattle.avr_model.specs.Effects.{set, effect_of, way_back}
-use Rattle.avr_model.specs.Step.{Illegal, Overflow, Flagged, after, all_inside, live_write, unlisted, protected_write, unless_listed, unlisted_transfer, is_pointer_store, is_indirect, is_unlisted, flag_by, flagged_or, may_take, entering, take, go, step}
+use Rattle.avr_model.specs.Step.{Illegal, Overflow, Flagged, after, all_inside, live_write, unlisted, protected_write, unless_listed, unlisted_transfer, is_pointer_store, is_indirect, is_unlisted, flag_by, flagged_or, may_take, entering, never_target, take, go, step}
 use Rattle.bit_domain.specs.TriByte.{Has, has}
 use Rattle.bit_domain.proofs.AllLaws.{tests_tell_members}
 use Rattle.mask_states.specs.declared.keys.NodeKey.{NodeKey}
@@ -33,6 +32,7 @@ use Rattle.abs_state.specs.declared.state.AbsState.{AbsState}
 use Rattle.abs_state.specs.Stands.{ByteStands}
 use Rattle.local_rules.specs.Registers.{value, bits, forgetting}
 use Rattle.local_rules.specs.Local.{row_of, is_hung}
+use Rattle.local_laws.proofs.AllLaws.{open_pairs_hang}
 use Rattle.edge_rules.specs.Families.{Family, IsSound}
 use Rattle.edge_rules.specs.Frames.{Frame, Runs}
 use Rattle.clear_laws.specs.Aims.{Aim}
@@ -106,14 +106,14 @@ module _ (words : List ℕ) (A : List Entry) (instr : Instr) (pc : ℕ) where
   nothing_protected : (e : Effect) → e.stores ≡ [] → protected_write words A pc instr e ≡ None
   unfolding protected_write
   nothing_protected e none =
-      ap (λ ws. if is_pointer_store instr && not (is_fixed words pc || is_proved A pc) then unlisted (store_line A pc) ws else None) none
-      ∙ none_stored (is_pointer_store instr && not (is_fixed words pc || is_proved A pc)) (store_line A pc)
+      ap (λ ws. if is_pointer_store instr && not (is_fixed_site words A pc) then unlisted (store_line A pc) ws else None) none
+      ∙ none_stored (is_pointer_store instr && not (is_fixed_site words A pc)) (store_line A pc)
 
   one_protected : (e : Effect) (a byte : ℕ) → e.stores ≡ set a byte → is_flagged_address words A pc instr a ≡ false → protected_write words A pc instr e ≡ None
   unfolding protected_write
   one_protected e a byte stores free =
-      ap (λ ws. if is_pointer_store instr && not (is_fixed words pc || is_proved A pc) then unlisted (store_line A pc) ws else None) stores
-      ∙ protected_by (is_pointer_store instr) (is_fixed words pc || is_proved A pc) (is_protected a && not (lists (store_line A pc) a)) a free
+      ap (λ ws. if is_pointer_store instr && not (is_fixed_site words A pc) then unlisted (store_line A pc) ws else None) stores
+      ∙ protected_by (is_pointer_store instr) (is_fixed_site words A pc) (is_protected a && not (lists (store_line A pc) a)) a free
 
 -- all enable bits lie below SRAM
 abbrev all_low : List Vector → Bool
@@ -173,26 +173,24 @@ two_writes memory sp back first second = two_by (is_live memory sp) (is_live mem
 all_four : (a b c d : Bool) → (a && b && not c && d) ≡ true → (a ≡ true) × (b ≡ true) × (c ≡ false)
 all_four a b c d h = (grind arith, grind arith, grind arith)
 
-hangs : (a b c : Bool) → a ≡ true → b ≡ false → c ≡ false → (a && not b && not c) ≡ false → ⊥
-hangs a b c p q r h = grind arith
+vector_small : (enables v : ℕ) → is_enabled enables v ≡ true → v ≤ 26
+vector_small enables v h = grind (arith, nat_tests)
 
-and_last : (a b c : Bool) → (a && b && c) ≡ true → c ≡ true
-and_last a b c h = grind arith
+-- a vector's word is one of the device's
+vector_inside : (device : Device) (v : ℕ) → v ≤ 26 → vector_word device v < words_of device
+vector_inside M48 v le = omega arith
+vector_inside M88 v le = omega arith
+vector_inside M168 v le = omega arith
+vector_inside M328 v le = omega arith
 
-not_zero : (masks v : ℕ) → is_enabled masks v ≡ true → (masks == 0) ≡ false
-not_zero masks v h = by_test (masks == 0) refl
-  where
-    by_test : (b : Bool) → (masks == 0) ≡ b → b ≡ false
-    by_test false e = refl
-    by_test true e =
-        let none : masks ≡ 0 = eqb-true masks 0 e in
-        let bit : bit_at masks (v - 2) ≡ 1 = eqb-true (bit_at masks (v - 2)) 1 (and_last (nat_le 2 v) (nat_le v 26) _ h) in
-        let zero : bit_at masks (v - 2) ≡ 0 = ap (λ x. bit_at x (v - 2)) none ∙ bit_at-zero (v - 2) in
-        absurd (omega (arith, bit, zero))
+true_not_false : (b : Bool) → b ≡ true → b ≡ false → ⊥
+true_not_false b e f = cc
 
-whole_where_taken : (k : NodeKey) (v : ℕ) (form : SpForm) → k.sp ≡ form → k.i ≡ true → k.delay ≡ false → is_enabled k.masks v ≡ true → is_hung k form ≡ false → IsWhole k.sp
-whole_where_taken k v (Closed offset) is i delay enabled hung = (offset, is)
-whole_where_taken k v (Open offset high) is i delay enabled hung = absurd (hangs k.i k.delay (k.masks == 0) i delay (not_zero k.masks v enabled) hung)
+whole_where_taken : (device : Device) (A : List Entry) (k : NodeKey) (v : ℕ) (form : SpForm) → k.sp ≡ form → k.i ≡ true → k.delay ≡ false → is_enabled k.masks v ≡ true
+    → is_never A (vector_word device v) ≡ false → is_hung device A k form ≡ false → IsWhole k.sp
+whole_where_taken device A k v (Closed offset) is i delay enabled allowed hung = (offset, is)
+whole_where_taken device A k v (Open offset high) is i delay enabled allowed hung =
+    absurd (true_not_false (is_hung device A k (Open offset high)) (open_pairs_hang.hung device A k v offset high i delay enabled allowed) hung)
 
 module _ (words : List ℕ) (A : List Entry) (f : Family) (sound : IsSound words A f) (m : State) (g : Frame) (gs : List Frame) (runs : Runs words A f m g gs)
     (holds : Holding words A f m.memory g gs) where
@@ -226,9 +224,15 @@ module _ (words : List ℕ) (A : List Entry) (f : Family) (sound : IsSound words
       (λ live.
       omega (arith, holds.above (minus16 m.sp 1) live, sp_at form.0 form.1, ap offset_of form.1, above_if_live m.memory.live (minus16 m.sp 1) live, inside (minus16 m.sp 1) live, low_base, top_small))
 
+  -- the word at which a vector is entered
+  vector_is : (v : ℕ) → is_enabled m.enables v ≡ true → wrapped m.device (vector_word m.device v) ≡ vector_word (device_of words) v
+  vector_is v enabled =
+      devices_are_alike.same m.device (vector_word m.device v) (vector_inside m.device v (vector_small m.enables v enabled))
+      ∙ ap (λ device. vector_word device v) runs.device
+
   -- above the first addresses of data space nothing is protected
   high_free : (instr : Instr) (a : ℕ) → 255 < a → is_flagged_address words A k.pc instr a ≡ false
-  high_free instr a lt = and_false (is_pointer_store instr) (not (is_fixed words k.pc || is_proved A k.pc)) (is_protected a) (not (lists (store_line A k.pc) a)) (unprotected a lt)
+  high_free instr a lt = and_false (is_pointer_store instr) (not (is_fixed_site words A k.pc)) (is_protected a) (not (lists (store_line A k.pc) a)) (unprotected a lt)
 
   -- a harmless store
   harmless_free : (instr : Instr) (aim : Aim) (a : ℕ) → IsAimed g.origin.base aim a → IsHarmless words A f g.node instr aim → IsFree words A m.memory k.pc instr a
@@ -290,7 +294,7 @@ module _ (words : List ℕ) (A : List Entry) (f : Family) (sound : IsSound words
           }
       safe (to_port a byte low plain stores pushes) =
           one_safe a byte (never (is_live m.memory a) (λ live. omega (arith, low, above_if_live m.memory.live a live)))
-          (ap (λ b. b && not (is_fixed words m.pc || is_proved A m.pc) && (is_protected a && not (lists (store_line A m.pc) a))) plain) stores pushes
+          (ap (λ b. b && not (is_fixed_site words A m.pc) && (is_protected a && not (lists (store_line A m.pc) a))) plain) stores pushes
       safe (by_aim a byte aim at aimed stores pushes) =
           let free = harmless_free instr aim a aimed (clear.store instr aim here at) in
           one_safe a byte free.dead (subst (λ p. is_flagged_address words A p instr a ≡ false) (sym runs.running.place.pc) free.free) stores pushes
@@ -340,20 +344,51 @@ module _ (words : List ℕ) (A : List Entry) (f : Family) (sound : IsSound words
     by_instruction b1 b2 None is = λ e. cc
     by_instruction b1 b2 (Some instr) is = not_going b1 b2 instr is
 
-    by_interrupt : (v : ℕ) (clears t : Bool) → may_take m v clears ≡ t → (if t then take m (entering m v clears) else Illegal) ≢ Flagged flag
-    by_interrupt v clears false legal = λ e. cc
-    by_interrupt v clears true legal =
+    by_interrupt : (v : ℕ) (clears t : Bool) → is_never A (vector_word (device_of words) v) ≡ false → may_take m v clears ≡ t → (if t then take A m (entering m v clears) else Illegal) ≢ Flagged flag
+    by_interrupt v clears false allowed legal = λ e. cc
+    by_interrupt v clears true allowed legal =
         let place = runs.running.place in
         let all = all_four (is_enabled m.enables v) (i_flag m) m.delay (not clears || (v == WATCHDOG)) legal in
         let form =
-        whole_where_taken k v k.sp refl (sym place.i ∙ all.1) (sym place.delay ∙ all.2) (ap (λ masks. is_enabled masks v) (sym place.enables) ∙ all.0)
-        (not_hung words A k g.node.state (sound.faultless g.node runs.present)) in
-        not_flagged (all_inside m.device (entering m v clears).pushes) m.pc (live_write m.memory (entering m v clears).pushes) None None (after m true (entering m v clears)) flag
-        (two_writes m.memory m.sp m.pc (sp_dead form) (below_dead form)) refl refl
+        whole_where_taken (device_of words) A k v k.sp refl (sym place.i ∙ all.1) (sym place.delay ∙ all.2) (ap (λ masks. is_enabled masks v) (sym place.enables) ∙ all.0)
+        allowed (not_hung words A k g.node.state (sound.faultless g.node runs.present)) in
+        let e = entering m v clears in
+        not_flagged (all_inside m.device e.pushes || is_unlisted (never_target A e.pc)) m.pc (live_write m.memory e.pushes) None (never_target A e.pc) (after m true (entering m v clears)) flag
+        (two_writes m.memory m.sp m.pc (sp_dead form) (below_dead form)) refl
+        (ap (λ (b : Bool). if b then Some e.pc else None) (ap (is_never A) (vector_is v all.0) ∙ allowed))
 
-    pub not_flagged_here : (c : Choice) → step words A m c ≢ Flagged flag
-    not_flagged_here (Go b1 b2) = by_instruction b1 b2 (instruction_at words m.pc) refl
-    not_flagged_here (Take v clears) = by_interrupt v clears (may_take m v clears) refl
+  -- the choice takes a vector whose word has a `never` line
+  pub record IsTaken (c : Choice) : Type 0 where
+    pub vector : ℕ
+    pub clears : Bool
+    pub is : c ≡ Take vector clears
+    pub i : k.i ≡ true
+    pub delay : k.delay ≡ false
+    pub enabled : is_enabled k.masks vector ≡ true
+    pub never : is_never A (vector_word (device_of words) vector) ≡ true
+
+  taken_here : (v : ℕ) (clears : Bool) (flag : Flag) (t b : Bool) → may_take m v clears ≡ t → is_never A (vector_word (device_of words) v) ≡ b
+      → (if t then take A m (entering m v clears) else Illegal) ≡ Flagged flag → (IsClear words A f g.node → ⊥) ⊎ IsTaken (Take v clears)
+  taken_here v clears flag false b legal line e = absurd (cc)
+  taken_here v clears flag true false legal line e = inl (λ clear. by_interrupt clear flag v clears true line legal e)
+  taken_here v clears flag true true legal line e =
+      let place = runs.running.place in
+      let all = all_four (is_enabled m.enables v) (i_flag m) m.delay (not clears || (v == WATCHDOG)) legal in
+      inr
+      (record {
+        vector = v;
+        clears = clears;
+        is = refl;
+        i = sym place.i ∙ all.1;
+        delay = sym place.delay ∙ all.2;
+        enabled = ap (λ masks. is_enabled masks v) (sym place.enables) ∙ all.0;
+        never = line;
+      })
+
+  -- a step is flagged only at a node that isn't clear, or where it takes such a vector
+  pub flagged_here : (c : Choice) (flag : Flag) → step words A m c ≡ Flagged flag → (IsClear words A f g.node → ⊥) ⊎ IsTaken c
+  flagged_here (Go b1 b2) flag e = inl (λ clear. by_instruction clear flag b1 b2 (instruction_at words m.pc) refl e)
+  flagged_here (Take v clears) flag e = taken_here v clears flag (may_take m v clears) (is_never A (vector_word (device_of words) v)) refl refl e
 
 -- ---- a flag names the word of its step
 
@@ -381,10 +416,11 @@ module _ (words : List ℕ) (A : List Entry) (m : State) (flag : Flag) where
       named_by (all_inside m.device effect.pushes || is_unlisted (unlisted_transfer A m.pc instr effect)) m.pc (live_write m.memory (effect.stores ++ effect.pushes))
       (protected_write words A m.pc instr effect) (unlisted_transfer A m.pc instr effect) (after m (not (is_scratch words m.pc)) effect) flag e
 
-  named_taking : (v : ℕ) (clears t : Bool) → (if t then take m (entering m v clears) else Illegal) ≡ Flagged flag → word_of_flag flag ≡ m.pc
+  named_taking : (v : ℕ) (clears t : Bool) → (if t then take A m (entering m v clears) else Illegal) ≡ Flagged flag → word_of_flag flag ≡ m.pc
   named_taking v clears false e = absurd (cc)
   named_taking v clears true e =
-      named_by (all_inside m.device (entering m v clears).pushes) m.pc (live_write m.memory (entering m v clears).pushes) None None (after m true (entering m v clears)) flag e
+      let effect = entering m v clears in
+      named_by (all_inside m.device effect.pushes || is_unlisted (never_target A effect.pc)) m.pc (live_write m.memory effect.pushes) None (never_target A effect.pc) (after m true effect) flag e
 
   pub flag_names : (c : Choice) → step words A m c ≡ Flagged flag → word_of_flag flag ≡ m.pc
   flag_names (Go b1 b2) e = named_going b1 b2 (instruction_at words m.pc) e

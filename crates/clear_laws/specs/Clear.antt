@@ -1,20 +1,21 @@
 -- Nodes at which no step can be flagged. Source: own.
-use Rattle.std.specs.Prelude.{ℕ, ⊤, ◌+◌, ◌≡◌, ◌≢◌, ◌<◌, ◌≤◌, ◌&&◌, ◌||◌, ◌==◌, Bool, true, false, not, nat_lt, nat_le, List, Option, Some, None, Contains}
+use Rattle.std.specs.Prelude.{ℕ, ⊤, ◌+◌, ◌++◌, ◌∷◌, ◌≡◌, ◌≢◌, ◌<◌, ◌≤◌, ◌&&◌, ◌||◌, ◌==◌, Bool, true, false, not, nat_lt, nat_le, List, Option, Some, None, Contains}
 use Rattle.avr_model.specs.declared.assumption.Entry.{Entry}
 use Rattle.avr_model.specs.declared.choice.Choice.{Choice}
+use Rattle.avr_model.specs.declared.choice.Choice.TheVariants.{Take}
 use Rattle.avr_model.specs.declared.choice.Flag.{Flag}
 use Rattle.avr_model.specs.declared.choice.Flag.TheVariants.{Live, Protected, Transfer}
 use Rattle.avr_model.specs.declared.choice.Stop.TheVariants as stop
 use Rattle.avr_model.specs.declared.device.Device.{Device}
 use Rattle.avr_model.specs.declared.instruction.Instr.{Instr}
-use Rattle.avr_model.specs.Assumptions.{jump_line, store_line, is_proved, lists}
+use Rattle.avr_model.specs.Assumptions.{jump_line, store_line, is_never, is_fixed_site, lists}
 use Rattle.avr_model.specs.Bits.{all_below}
 use Rattle.avr_model.specs.Devices.{ramend, wrapped, device_of}
-use Rattle.avr_model.specs.Sites.{instruction_at, is_fixed}
+use Rattle.avr_model.specs.Sites.{instruction_at}
 use Rattle.avr_model.specs.State.{State, IsReset, BELOW, low, high}
 use Rattle.avr_model.specs.Step.{is_pointer_store, is_indirect}
 use Rattle.avr_model.specs.Run.{IsRun, stop_of}
-use Rattle.avr_model.specs.Vectors.{is_protected}
+use Rattle.avr_model.specs.Vectors.{is_protected, is_enabled, vector_word}
 use Rattle.bit_domain.specs.TriByte.{has}
 use Rattle.abs_state.specs.declared.state.AbsState.{AbsState}
 use Rattle.mask_states.specs.declared.keys.NodeKey.{NodeKey}
@@ -28,11 +29,10 @@ use Rattle.clear_laws.specs.Held.{MayHold}
 
 -- ---- stores
 
--- The address is flagged as protected: it is protected, this is `st` or `std`, the words before don't make the site fixed and no `prove`
--- line does, and no `store` line of the site lists it.
+-- The address is flagged as protected: it is protected, this is `st` or `std`, the site isn't fixed, and no `store` line of the site lists it.
 abbrev pub is_flagged_address : List ℕ → List Entry → ℕ → Instr → ℕ → Bool
 is_flagged_address words A pc instr a =
-    is_pointer_store instr && not (is_fixed words pc || is_proved A pc) && (is_protected a && not (lists (store_line A pc) a))
+    is_pointer_store instr && not (is_fixed_site words A pc) && (is_protected a && not (lists (store_line A pc) a))
 
 -- A store with this aim writes no live byte and no flagged address: there is no address; all lie in SRAM below what the stack can reach; all
 -- lie above SRAM; there is one, below SRAM, that isn't flagged; or the address is a slot, below the offset, that may hold no live byte.
@@ -72,6 +72,29 @@ pub record MayBeFlagged (words : List ℕ) (A : List Entry) (f : Family) (pc : �
   pub present : Contains f.nodes node
   pub is : node.key.pc ≡ pc
   pub unclear : IsClear words A f node → ⊥
+
+-- The word has a `never` line, and at one of these nodes a vector may be taken that is entered there: it is enabled, with I set and no delay.
+-- The step is flagged.
+pub record MayBeTaken (words : List ℕ) (A : List Entry) (nodes : List Node) (word : ℕ) : Type 0 where
+  pub never : is_never A word ≡ true
+  pub node : Node
+  pub present : Contains nodes node
+  pub i : node.key.i ≡ true
+  pub delay : node.key.delay ≡ false
+  pub vector : ℕ
+  pub enabled : is_enabled node.key.masks vector ≡ true
+  pub is : vector_word (device_of words) vector ≡ word
+
+-- The run stops where it takes a vector that is entered at such a word. The flag is a live byte's where the entry would write one: the stack
+-- pointer may be half written.
+pub record EndsByTake (words : List ℕ) (A : List Entry) (nodes : List Node) (m : State) (choices : List Choice) : Type 0 where
+  pub before : List Choice
+  pub vector : ℕ
+  pub clears : Bool
+  pub rest : List Choice
+  pub are : choices ≡ before ++ Take vector clears ∷ rest
+  pub passes : stop_of words A before m ≡ stop.End
+  pub taken : MayBeTaken words A nodes (vector_word (device_of words) vector)
 
 -- ---- the same as a test
 

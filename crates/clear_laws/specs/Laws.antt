@@ -1,5 +1,5 @@
 -- Laws of flagged steps.
-use Rattle.std.specs.Prelude.{ℕ, ◌≡◌, ◌<◌, Bool, true, false, List, Contains}
+use Rattle.std.specs.Prelude.{ℕ, ◌⊎◌, ◌≡◌, ◌<◌, Bool, true, false, List, Contains}
 use Rattle.avr_model.specs.Devices.{device_of}
 use Rattle.avr_model.specs.declared.assumption.Entry.{Entry}
 use Rattle.avr_model.specs.declared.choice.Choice.{Choice}
@@ -13,14 +13,16 @@ use Rattle.local_rules.specs.declared.local.Node.{Node}
 use Rattle.local_rules.specs.Machine.{AreWords}
 use Rattle.edge_rules.specs.Families.{Family, IsSound}
 use Rattle.clear_laws.specs.Held.{MayHold, IsClosed}
-use Rattle.clear_laws.specs.Clear.{IsClear, MayBeFlagged, NeverFlagged, word_of_flag, is_clear}
+use Rattle.clear_laws.specs.Clear.{IsClear, MayBeFlagged, MayBeTaken, EndsByTake, NeverFlagged, word_of_flag, is_clear}
 
--- A run from reset that ends flagged ends at a word of a node that may be flagged. So none does where each node is clear.
+-- A run from reset that ends flagged ends at a word of a node that may be flagged, or takes a vector whose word has a `never` line. So none
+-- does where each node is clear and no such vector may be taken.
 pub record FlaggedRunsAreTold : Type 0 where
   pub told : (words : List ℕ) (A : List Entry) (f : Family) (m : State) (choices : List Choice) (flag : Flag) → AreWords words → IsSound words A f
-      → IsReset (device_of words) m → IsRun words A choices m → stop_of words A choices m ≡ stop.Flag flag → MayBeFlagged words A f (word_of_flag flag)
+      → IsReset (device_of words) m → IsRun words A choices m → stop_of words A choices m ≡ stop.Flag flag
+      → MayBeFlagged words A f (word_of_flag flag) ⊎ EndsByTake words A f.nodes m choices
   pub never : (words : List ℕ) (A : List Entry) (f : Family) → AreWords words → IsSound words A f → ((n : Node) → Contains f.nodes n → IsClear words A f n)
-      → NeverFlagged words A
+      → ((word : ℕ) → MayBeTaken words A f.nodes word → ⊥) → NeverFlagged words A
 
 -- The slots that may hold a live byte are in every map that has what the rules give, and lie below the node's offset.
 pub record HeldSlotsAreLeast : Type 0 where

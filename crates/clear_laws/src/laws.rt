@@ -2,7 +2,7 @@
 
 ghost use Rattle.clear_laws.specs.Laws.{FlaggedRunsAreTold, HeldSlotsAreLeast, ClearNodesAreTold};
 
-/// A run that ends flagged ends at a word of a node that may be flagged.
+/// A run that ends flagged ends at a word of a node that may be flagged, or where it takes a vector that is never entered.
 pub fn flagged_runs_are_told()
     ensures { FlaggedRunsAreTold }
 {}

@@ -145,7 +145,7 @@ four P a b c d =
 module _ (n : Node) (i_off : n.key.i ≡ false) (to : Node) (leads : raw_of over_room [] n ≡ one to.key to.state) where
   no_entry : (way : EdgeKind) (inst : InstKey) (back : ℕ) → Enters over_room [] n way inst back → ⊥
   no_entry _ _ _ (by_call offset s faultless form member) = none_in s (subst (λ (r : Raw). Contains r.calls s) leads member)
-  no_entry _ _ _ (by_interrupt offset v clears faultless form i delay enabled clearable) = absurd (let no : true ≡ false = sym i ∙ i_off in cc)
+  no_entry _ _ _ (by_interrupt offset v clears faultless form i delay enabled allowed clearable) = absurd (let no : true ≡ false = sym i ∙ i_off in cc)
 
   faultless : IsFaultless over_room [] n
   faultless = ap (λ (r : Raw). r.faults) leads

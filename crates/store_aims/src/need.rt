@@ -58,6 +58,15 @@ fn lists(items: &[u16], item: u16) -> bool
     items.iter().any(|other| *other == item)
 }
 
+// Whether the site counts as fixed.
+#[tactic(auto, unfolding(avr_model::specs::Assumptions::is_fixed_site))]
+fn is_fixed_site(flash: &Flash, assumptions: &Assumptions, pc: u16) -> bool
+    ensures { result ≡ assumed.is_fixed_site flash.now assumptions.now pc }
+{
+    // What is assumed comes first: to look for a load before the site takes longer.
+    assumptions.proved(pc) || !assumptions.freed(pc) && avr_decode::is_fixed(flash.words(), pc)
+}
+
 // Whether a write of this address at this word is flagged for a protected one.
 fn is_flagged_address(
     flash: &Flash,
@@ -69,11 +78,10 @@ fn is_flagged_address(
     ensures { result ≡ is_flagged_address flash.now assumptions.now pc instr.now address }
 {
     let is_store = is_pointer_store(instr);
-    let fixed = avr_decode::is_fixed(flash.words(), pc);
-    let proved = assumptions.proved(pc);
+    let fixed = is_fixed_site(flash, assumptions, pc);
     let protected = is_protected(address);
     let listed = lists(assumptions.stores(pc), address);
-    is_store && !(fixed || proved) && (protected && !listed)
+    is_store && !fixed && (protected && !listed)
 }
 
 // Whether a store to one of these addresses writes neither a live byte nor a flagged address.

@@ -1,11 +1,13 @@
 -- Laws of clear certificates.
-use Rattle.std.specs.Prelude.{ℕ, ◌≡◌, ◌↔◌, Bool, List, [], Some, Contains}
+use Rattle.std.specs.Prelude.{ℕ, ◌≡◌, ◌↔◌, ◌⊎◌, ◌++◌, ◌∷◌, Bool, List, [], Some, Contains}
 use Rattle.std.specs.List.{slice_get}
 use Rattle.avr_model.specs.declared.assumption.Entry.{Entry}
 use Rattle.avr_model.specs.declared.choice.Choice.{Choice}
+use Rattle.avr_model.specs.declared.choice.Choice.TheVariants.{Take}
 use Rattle.avr_model.specs.declared.choice.Flag.{Flag}
 use Rattle.avr_model.specs.declared.choice.Stop.TheVariants as stop
 use Rattle.avr_model.specs.Devices.{device_of}
+use Rattle.avr_model.specs.Vectors.{vector_word}
 use Rattle.avr_model.specs.State.{State, IsReset}
 use Rattle.avr_model.specs.Run.{IsRun, stop_of, Bounded}
 use Rattle.local_rules.specs.Machine.{AreWords}
@@ -23,7 +25,7 @@ use Rattle.store_aims.specs.Needs.{meets}
 use Rattle.store_laws.specs.Links.{AreLinks}
 use Rattle.store_laws.specs.Meets.{Meets}
 use Rattle.store_laws.specs.declared.verdict.ClearVerdict.{ClearVerdict}
-use Rattle.store_laws.specs.Verdict.{AreAllClear, IsClearVerdict, AreSites}
+use Rattle.store_laws.specs.Verdict.{AreAllClear, IsClearVerdict, AreSites, AreNevers}
 
 -- a certificate has at most one verdict
 abbrev pub ClearVerdictsAreOne : Type 0
@@ -39,17 +41,27 @@ abbrev pub ClearFirmwaresAreNeverFlagged : Type 0
 ClearFirmwaresAreNeverFlagged = (words : List ℕ) (c : Claim) → AreWords words → IsClaim c → IsSound words [] c → AreAllClear words [] c
     → IsBoundedAndClear words c.bound
 
--- each run from reset that ends flagged ends at one of these words
-abbrev pub EndFlaggedAt : List ℕ → List Entry → List ℕ → Type 0
-EndFlaggedAt words A sites =
-    (m : State) (choices : List Choice) (flag : Flag) → IsReset (device_of words) m → IsRun words A choices m → stop_of words A choices m ≡ stop.Flag flag
-    → Contains sites (word_of_flag flag)
+-- the run stops where it takes a vector that is entered at one of these words
+pub record EndsByTakeAt (words : List ℕ) (A : List Entry) (nevers : List ℕ) (m : State) (choices : List Choice) : Type 0 where
+  pub before : List Choice
+  pub vector : ℕ
+  pub clears : Bool
+  pub rest : List Choice
+  pub are : choices ≡ before ++ Take vector clears ∷ rest
+  pub passes : stop_of words A before m ≡ stop.End
+  pub word : Contains nevers (vector_word (device_of words) vector)
 
--- where all conditions hold, runs end flagged only at the words at which some node isn't clear
+-- each run from reset that ends flagged ends at one of the first words, or by taking a vector that is entered at one of the others
+abbrev pub EndFlaggedAt : List ℕ → List Entry → List ℕ → List ℕ → Type 0
+EndFlaggedAt words A sites nevers =
+    (m : State) (choices : List Choice) (flag : Flag) → IsReset (device_of words) m → IsRun words A choices m → stop_of words A choices m ≡ stop.Flag flag
+    → Contains sites (word_of_flag flag) ⊎ EndsByTakeAt words A nevers m choices
+
+-- where all conditions hold, runs end flagged only at the words at which some node isn't clear, and by taking a vector that is never entered
 abbrev pub FlaggedRunsEndAtSites : Type 0
 FlaggedRunsEndAtSites =
-    (words : List ℕ) (A : List Entry) (c : Claim) (sites : List ℕ) → AreWords words → IsClaim c → IsSound words A c → AreSites words A c sites
-    → EndFlaggedAt words A sites
+    (words : List ℕ) (A : List Entry) (c : Claim) (sites nevers : List ℕ) → AreWords words → IsClaim c → IsSound words A c → AreSites words A c sites
+    → AreNevers words A c nevers → EndFlaggedAt words A sites nevers
 
 -- With links as they are, a slot spreads to just the nodes at which it may hold a live byte.
 abbrev pub SlotsSpreadAlongLinks : Type 0

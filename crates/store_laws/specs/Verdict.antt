@@ -8,7 +8,7 @@ use Rattle.local_rules.specs.declared.local.Node.{Node}
 use Rattle.edge_rules.specs.Expansion.{IsFilled}
 use Rattle.certificate.specs.Claims.{Claim}
 use Rattle.certificate.specs.Valid.{family_of}
-use Rattle.clear_laws.specs.Clear.{IsClear, MayBeFlagged}
+use Rattle.clear_laws.specs.Clear.{IsClear, MayBeFlagged, MayBeTaken}
 use Rattle.store_laws.specs.declared.verdict.ClearVerdict.{ClearVerdict}
 use Rattle.store_laws.specs.declared.verdict.ClearVerdict.TheVariants.{Clear, Unclear}
 
@@ -39,3 +39,11 @@ pub record AreSites (words : List ℕ) (A : List Entry) (c : Claim) (sites : Lis
   pub expanded : IsFilled words A c.nodes nodes
   pub ascending : IsStrictlySortedBy nat_cmp sites
   pub exact : (pc : ℕ) → Contains sites pc ↔ MayBeFlagged words A (family_of c nodes) pc
+
+-- These are all words with a `never` line at which some node so expanded may take a vector, each once, in ascending order. Taking it is
+-- flagged.
+pub record AreNevers (words : List ℕ) (A : List Entry) (c : Claim) (nevers : List ℕ) : Type 0 where
+  pub nodes : List Node
+  pub expanded : IsFilled words A c.nodes nodes
+  pub ascending : IsStrictlySortedBy nat_cmp nevers
+  pub exact : (word : ℕ) → Contains nevers word ↔ MayBeTaken words A nodes word

@@ -12,7 +12,7 @@ pub fn clear_firmwares_are_never_flagged()
     ensures { ClearFirmwaresAreNeverFlagged }
 {}
 
-/// A run that ends flagged ends at a word at which some node isn't clear.
+/// A run that ends flagged ends at a word at which some node isn't clear, or by taking a vector that is never entered.
 pub fn flagged_runs_end_at_sites()
     ensures { FlaggedRunsEndAtSites }
 {}
