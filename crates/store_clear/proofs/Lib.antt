@@ -1,0 +1,10 @@
+pub mod Lists
+pub mod Spread
+pub mod Askings
+pub mod Settled
+pub mod Told
+pub mod Marked
+pub mod Taken
+pub mod Sites
+pub mod One
+pub mod AllLaws

@@ -1,0 +1,5 @@
+use Rattle.store_clear.specs.Takes.{IsMarked, IsTakenAt}
+use Rattle.store_clear.proofs.takes.mark_takes.Given as goal
+
+abbrev pub invariant-loop-at : goal.invariant-loop-at
+invariant-loop-at l = IsMarked (IsTakenAt l.flash l.assumptions l.nodes l.at) l.fn.marks l.marks

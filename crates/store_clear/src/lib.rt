@@ -1,0 +1,14 @@
+//! Which nodes of a certificate may flag a step: the least of them, and all words at which one lies. Source: own.
+#![tactic(auto)]
+
+mod asking;
+pub mod clearing;
+pub mod laws;
+mod settling;
+mod spreading;
+mod takes;
+mod telling;
+mod words;
+
+pub use clearing::{clear_sites, flagged_sites, never_takes};
+pub use store_laws::ClearVerdict;

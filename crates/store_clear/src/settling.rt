@@ -1,0 +1,73 @@
+//! Whether nodes get what they ask of their slots.
+
+ghost use Rattle.std.specs.Prelude.{◌≡◌, ◌<◌, length, OnOk};
+ghost use Rattle.slot_reach.specs.Reach.{AreInside};
+ghost use Rattle.store_clear.specs.Settling.{settled, AreMarkedOff, IsSettled, IsSettledAt, AreSettled};
+
+use crate::spreading::Frames;
+use slot_reach::reached;
+use std::alloc::{AllocError, Global};
+use store_aims::Asks;
+
+// What is left of what a node asks, where this tells whether the slot may hold a live byte there.
+fn settled(asks: Asks, slot: u16, held: bool) -> Asks
+    ensures { result ≡ settled asks slot held }
+{
+    match asks {
+        Asks::Free(other) if other == slot => { if held { Asks::Never } else { Asks::Nothing } }
+        _ => asks,
+    }
+}
+
+// What is left of what all nodes ask, where these marks tell where the slot may hold a live byte.
+fn mark_off(asks: &mut [Asks], slot: u16, marks: &[bool])
+    requires { length marks.now ≡ length asks.old }
+    ensures { AreMarkedOff slot marks.now (length asks.old) asks.old asks.new }
+{
+    for at in 0..asks.len() {
+        asks[at] = settled(asks[at], slot, marks[at]);
+    }
+}
+
+// The same for one slot along these edges.
+fn settle_slot(
+    alloc: Global,
+    frames: &Frames,
+    asks: &mut [Asks],
+    slot: u16,
+) -> Result<(), AllocError>
+    requires inside { AreInside frames.now.links frames.now.offsets frames.now.seeds }
+    requires same { length asks.old ≡ length frames.now.offsets }
+    ensures { OnOk result (IsSettled frames.now.links frames.now.offsets frames.now.seeds slot asks.old asks.new) }
+{
+    let links = frames.links.as_slice();
+    let offsets = frames.offsets.as_slice();
+    let marks = reached(alloc, links, offsets, frames.seeds.as_slice(), slot)?;
+    mark_off(asks, slot, &marks);
+    Ok(())
+}
+
+// The same for the slot for which the node of this number asks, if it asks for one.
+fn settle_at(alloc: Global, frames: &Frames, asks: &mut [Asks], at: usize) -> Result<(), AllocError>
+    requires inside { AreInside frames.now.links frames.now.offsets frames.now.seeds }
+    requires same { length asks.old ≡ length frames.now.offsets }
+    requires place { at < length asks.old }
+    ensures { OnOk result (IsSettledAt frames.now.links frames.now.offsets frames.now.seeds at asks.old asks.new) }
+{
+    match asks[at] {
+        Asks::Free(slot) => settle_slot(alloc, frames, asks, slot),
+        _ => Ok(()),
+    }
+}
+
+/// Settles what all nodes ask: none asks for a slot any more. The marks of a slot are worked out once for all nodes that ask for it.
+pub(crate) fn settle(alloc: Global, frames: &Frames, asks: &mut [Asks]) -> Result<(), AllocError>
+    requires inside { AreInside frames.now.links frames.now.offsets frames.now.seeds }
+    requires same { length asks.old ≡ length frames.now.offsets }
+    ensures { OnOk result (AreSettled frames.now.links frames.now.offsets frames.now.seeds (length asks.old) asks.old asks.new) }
+{
+    for at in 0..asks.len() {
+        settle_at(alloc, frames, asks, at)?;
+    }
+    Ok(())
+}
