@@ -23,7 +23,7 @@ use Rattle.cert_check.specs.declared.verdict.Reason.TheVariants as reason
 use Rattle.cert_check.specs.declared.verdict.Verdict.{Verdict}
 use Rattle.cert_check.specs.declared.verdict.Verdict.TheVariants.{Accepted, Rejected}
 use Rattle.cert_check.specs.Verdict.{InstEnters, IsFirstRank, IsFirstNeed}
-use Rattle.cert_check.specs.Working.{AreInstances, place_in, rank_of, rank_at, need_of, need_at, Asks, offset, entry, IsAsked, AreDemands, AllBelong, IsLeast, Pair, MeetsRank, LowRank, PairBelow, lesser_pair, MeetsNeed, LowNeed, NumberBelow, lesser_number, IsMost, more_asked, RanksFall, AllMet, IsWeighed, Decides}
+use Rattle.cert_check.specs.Demands.{AreInstances, place_in, rank_of, rank_at, need_of, need_at, Asks, offset, entry, IsAsked, AreDemands, AllBelong, IsLeast, Pair, MeetsRank, LowRank, PairBelow, lesser_pair, MeetsNeed, LowNeed, NumberBelow, lesser_number, IsMost, more_asked, RanksFall, AllMet, IsWeighed, Decides}
 use Rattle.cert_check.proofs.Lists.{one_at, only, IsLesser}
 use Rattle.cert_check.proofs.Insts.{HasPlace, place_is, placed, rank_there, need_there}
 use Rattle.cert_check.proofs.Demands.{entered_belongs}

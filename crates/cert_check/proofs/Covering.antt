@@ -18,7 +18,7 @@ use Rattle.local_rules.specs.Cover.{IsNode}
 use Rattle.local_laws.proofs.AllLaws.{none_in, first_or}
 use Rattle.edge_rules.specs.Families.{IsCovered}
 use Rattle.edge_rules.specs.Views.{AreShown, key_of, state_of, place_of}
-use Rattle.cert_check.specs.Working.{GapAt, Lands, KeyBelow, lesser_key}
+use Rattle.cert_check.specs.Demands.{GapAt, Lands, KeyBelow, lesser_key}
 use Rattle.cert_check.proofs.Lists.{contains_at, IsLesser}
 
 -- ---- by key

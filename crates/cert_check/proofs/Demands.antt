@@ -18,7 +18,7 @@ use Rattle.certificate.specs.declared.instance.Inst.{Inst}
 use Rattle.certificate.specs.Insts.{inst_keys}
 use Rattle.certificate.specs.Valid.{AllLand}
 use Rattle.cert_check.specs.declared.demand.Demand.{Demand}
-use Rattle.cert_check.specs.Working.{AreInstances, place_in, need_at, is_entry, offset_demand, entry_demand, demands_of, Asks, offset, entry, AreDemands, AllBelong, IsInside, AreInside}
+use Rattle.cert_check.specs.Demands.{AreInstances, place_in, need_at, is_entry, offset_demand, entry_demand, demands_of, Asks, offset, entry, AreDemands, AllBelong, IsInside, AreInside}
 use Rattle.cert_check.proofs.Lists.{only, flat_in, each_flat}
 use Rattle.cert_check.proofs.Insts.{placed}
 
@@ -53,7 +53,7 @@ module _ (words : List ℕ) (A : List Entry) (insts : List Inst) (n : Node) wher
 
   is_way : (way : EdgeKind) (inst : InstKey) (back : ℕ) → Enters words A n way inst back → is_entry way ≡ true
   is_way _ _ _ (by_call o site clean form has) = refl
-  is_way _ _ _ (by_interrupt o v clears clean form i delay enabled clearable) = refl
+  is_way _ _ _ (by_interrupt o v clears clean form i delay enabled allowed clearable) = refl
 
   module _ (nodes : List Node) (edges : List Edge) (are : AreEdges words A nodes n edges) where
     pub listed_asks : (d : Demand) → Contains (demands_of insts n.key edges) d → Asks words A insts n d

@@ -15,7 +15,7 @@ use Rattle.mask_states.proofs.AllLaws.{keys_are_ordered}
 use Rattle.local_laws.proofs.AllLaws.{none_in, here, there, first_or}
 use Rattle.certificate.specs.declared.instance.Inst.{Inst}
 use Rattle.certificate.specs.Insts.{IsInst, inst_keys, rank_in, need_in}
-use Rattle.cert_check.specs.Working.{AreInstances, place_in, rank_at, need_at}
+use Rattle.cert_check.specs.Demands.{AreInstances, place_in, rank_at, need_at}
 
 lt_is : (o : Ordering) → is_lt o ≡ true → o ≡ Less
 lt_is Less e = refl

@@ -29,7 +29,7 @@ use Rattle.cert_check.specs.declared.verdict.Verdict.{Verdict}
 use Rattle.cert_check.specs.declared.verdict.Verdict.TheVariants.{Accepted, Rejected}
 use Rattle.cert_check.specs.Verdict.{InstEnters, IsFirstFault, IsFirstGap, IsFirstRank, IsFirstNeed, IsRejected, IsReason, IsVerdict}
 use Rattle.cert_check.specs.Laws.{VerdictsAreOne, SoundCertificatesBoundEveryRun}
-use Rattle.cert_check.specs.Working.{AreInstances, Decides, need_at, rank_at, rank_of, need_of}
+use Rattle.cert_check.specs.Demands.{AreInstances, Decides, need_at, rank_at, rank_of, need_of}
 use Rattle.cert_check.proofs.Lists.{contains_at, one_at}
 use Rattle.cert_check.proofs.Insts.{place_is, rank_there, need_there}
 use Rattle.cert_check.proofs.Covering.{key_antisymmetric}

@@ -18,7 +18,7 @@ use Rattle.certificate.specs.Insts.{inst_keys}
 use Rattle.certificate.specs.Valid.{AllLand}
 use Rattle.cert_check.specs.declared.demand.Demand.{Demand}
 use Rattle.cert_check.specs.Verdict.{IsFirstGap}
-use Rattle.cert_check.specs.Working.{IsLeast, Lands, GapAt, KeyBelow, AreTargets, demands_of, Asks, AreDemands, AllBelong, IsMidway}
+use Rattle.cert_check.specs.Demands.{IsLeast, Lands, GapAt, KeyBelow, AreTargets, demands_of, Asks, AreDemands, AllBelong, IsMidway}
 use Rattle.cert_check.proofs.Lists.{place_of, contains_at, one_at}
 use Rattle.cert_check.proofs.Demands.{listed_asks, asked_listed, landed_belongs}
 

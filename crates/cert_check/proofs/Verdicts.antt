@@ -22,7 +22,7 @@ use Rattle.certificate.specs.Claims.{Claim, IsClaim, Belongs, node_keys}
 use Rattle.certificate.specs.Valid.{reset_node}
 use Rattle.cert_check.specs.declared.demand.Demand.{Demand}
 use Rattle.cert_check.specs.Verdict.{IsFirstFault}
-use Rattle.cert_check.specs.Working.{AllBelong, AreInside, IsLeast, MeetsRank, LowRank, PairBelow, MeetsNeed, LowNeed, NumberBelow}
+use Rattle.cert_check.specs.Demands.{AllBelong, AreInside, IsLeast, MeetsRank, LowRank, PairBelow, MeetsNeed, LowNeed, NumberBelow}
 use Rattle.cert_check.proofs.Lists.{place_of}
 
 pub if_ok : {X E : Type 0} (P Q : X → Type 0) (r : Result X E) → ((x : X) → P x → Q x) → IfOk r P → IfOk r Q

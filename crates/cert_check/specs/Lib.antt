@@ -1,3 +1,3 @@
 pub mod Verdict
 pub mod Laws
-pub mod Working
+pub mod Demands

@@ -5,7 +5,7 @@ ghost use Rattle.avr_model.specs.State.{SIZE};
 ghost use Rattle.std.specs.List.{flat_map};
 ghost use Rattle.edge_rules.specs.declared.edge.Edge as edge_type;
 ghost use Rattle.certificate.specs.Insts.{inst_keys};
-ghost use Rattle.cert_check.specs.Working.{AreInstances, place_in, rank_at, need_at, is_entry, offset_demand, entry_demand, demands_of};
+ghost use Rattle.cert_check.specs.Demands.{AreInstances, place_in, rank_at, need_at, is_entry, offset_demand, entry_demand, demands_of};
 
 use certificate::Inst;
 use edge_rules::Edge;

@@ -2,7 +2,7 @@
 
 ghost use Rattle.std.specs.Prelude.{IfOk};
 ghost use Rattle.call_graph.specs.Exits.{AreExits};
-ghost use Rattle.cert_check.specs.Working.{AreInstances, AllBelong, IsFound};
+ghost use Rattle.cert_check.specs.Demands.{AreInstances, AllBelong, IsFound};
 
 use crate::demand::{Demand, add_demands};
 use crate::landing::gap_in;

@@ -10,7 +10,7 @@ ghost use Rattle.certificate.specs.Claims.{IsClaim};
 ghost use Rattle.certificate.specs.Valid.{reset_node, IsSound};
 ghost use Rattle.cert_check.specs.declared.verdict.Reason as reason_type;
 ghost use Rattle.cert_check.specs.Verdict.{IsVerdict, IsReason};
-ghost use Rattle.cert_check.specs.Working.{Decides};
+ghost use Rattle.cert_check.specs.Demands.{Decides};
 
 use crate::gathering::{Found, gather};
 use crate::landing::is_covered;

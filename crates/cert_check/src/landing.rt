@@ -3,7 +3,7 @@
 ghost use Rattle.std.specs.Prelude.{ℕ, ◌≡◌, ◌↔◌, IsTrue, Some};
 ghost use Rattle.local_rules.specs.Cover.{IsNode};
 ghost use Rattle.edge_rules.specs.Families.{IsCovered};
-ghost use Rattle.cert_check.specs.Working.{IsLeast, IsNoted, Lands, GapAt, KeyBelow, lesser_key, AreTargets};
+ghost use Rattle.cert_check.specs.Demands.{IsLeast, IsNoted, Lands, GapAt, KeyBelow, lesser_key, AreTargets};
 
 use abs_state::AbsState;
 use call_graph::{Filled, View};

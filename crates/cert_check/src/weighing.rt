@@ -6,7 +6,7 @@ ghost use Rattle.mask_states.specs.Keys.{root_inst};
 ghost use Rattle.vector_table.specs.Entries.{AreEntries};
 ghost use Rattle.certificate.specs.Claims.{IsClaim};
 ghost use Rattle.certificate.specs.Insts.{inst_keys};
-ghost use Rattle.cert_check.specs.Working.{AreInstances, AreInside, IsInside, IsLeast, IsNoted, MeetsRank, LowRank, PairBelow, lesser_pair, MeetsNeed, LowNeed, NumberBelow, lesser_number, IsMost, more_asked, IsWeighed};
+ghost use Rattle.cert_check.specs.Demands.{AreInstances, AreInside, IsInside, IsLeast, IsNoted, MeetsRank, LowRank, PairBelow, lesser_pair, MeetsNeed, LowNeed, NumberBelow, lesser_number, IsMost, more_asked, IsWeighed};
 
 use crate::demand::{Demand, need_at, number_of, rank_at};
 use crate::verdict::{Reason, Verdict};

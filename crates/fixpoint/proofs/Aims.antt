@@ -31,7 +31,7 @@ use Rattle.round_steps.specs.declared.noting.Notes.{Notes}
 use Rattle.round_steps.specs.Looks.{IsLook, HasLook, AreSeen}
 use Rattle.round_steps.specs.Notings.{caller, leaver}
 use Rattle.round_steps.specs.Targets.{entry_node, if_any, way_of, back_from, back_at, backs_in, all_backs, onward_from, onward_at, onwards_if, targets_with, targets_of, all_targets}
-use Rattle.fixpoint.specs.Turns.{IsOwn, own_move, own_entry, ComesBack, comes_back, AreKnown, Turn}
+use Rattle.fixpoint.specs.Progress.{IsOwn, own_move, own_entry, ComesBack, comes_back, AreKnown, Turn}
 use Rattle.fixpoint.proofs.Looked.{seen_node, look_clean, look_same, look_exit, look_way, look_node, looked}
 
 -- ---- lists

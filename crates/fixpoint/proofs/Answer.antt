@@ -8,7 +8,7 @@ use Rattle.round_rules.specs.declared.refusal.Refusal.TheVariants as refusal
 use Rattle.round_rules.specs.Families.{Family}
 use Rattle.round_rules.specs.Solutions.{IsShown, IsSolution, IsAnswer, IsRefusal, IsWhyNot}
 use Rattle.round_laws.proofs.AllLaws.{rounds_are_least, solutions_are_valid}
-use Rattle.fixpoint.specs.Turns.{IsFound}
+use Rattle.fixpoint.specs.Progress.{IsFound}
 
 module _ (words : List ℕ) (A : List Entry) where
   pub is_answer : (steps : Option ℕ) (f : Family) (c : Claim) → IsFound words A steps f → IsSolution words A f c → IsAnswer words A steps c

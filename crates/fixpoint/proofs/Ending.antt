@@ -27,7 +27,7 @@ use Rattle.round_laws.proofs.AllLaws.{rounds_are_joins, rounds_are_least, comes_
 use Rattle.round_steps.specs.declared.noting.Notes.{Notes}
 use Rattle.round_steps.specs.Notings.{blank}
 use Rattle.round_steps.specs.Joins.{AreNew, KeptBut}
-use Rattle.fixpoint.specs.Turns.{Turn, IsLeft, Progress, IsSpent, IsFound}
+use Rattle.fixpoint.specs.Progress.{Turn, IsLeft, Progress, IsSpent, IsFound}
 use Rattle.fixpoint.specs.Tests.{IsStopped, IsReady}
 use Rattle.fixpoint.proofs.Next.{next_turn, first_turn, not_closed, unchanged, closed_then}
 

@@ -15,7 +15,7 @@ use Rattle.round_steps.specs.declared.looking.Seen.{Seen}
 use Rattle.round_steps.specs.declared.noting.Notes.{Notes}
 use Rattle.round_steps.specs.Looks.{IsLook, HasLook, AreSeen}
 use Rattle.round_steps.specs.Notings.{AnyHas, caller, leaver, CallsAt, LeavesAt, InstAt, SpotAt, EntersAt, AreNoted}
-use Rattle.fixpoint.specs.Turns.{IsCaller, IsLeaver, AreTrue, IsKnown, AreKnown, Turn}
+use Rattle.fixpoint.specs.Progress.{IsCaller, IsLeaver, AreTrue, IsKnown, AreKnown, Turn}
 use Rattle.fixpoint.proofs.Looked.{seen_node, look_exit, look_way, look_node, none_faulty, looked}
 
 module _ (words : List ℕ) (A : List Entry) (f : Family) (old new : Notes) (xs : List Look) (noted : AreNoted old xs new) where

@@ -17,7 +17,7 @@ use Rattle.round_steps.specs.declared.looking.Look.{Look}
 use Rattle.round_steps.specs.declared.looking.Seen.{Seen}
 use Rattle.round_steps.specs.declared.noting.Notes.{Notes}
 use Rattle.round_steps.specs.Looks.{IsLook, HasLook, AreSeen}
-use Rattle.fixpoint.specs.Turns.{Turn}
+use Rattle.fixpoint.specs.Progress.{Turn}
 
 some_fault : (x y : NodeFault) (o : Option NodeFault) → o ≡ Some x → o ≡ Some y → x ≡ y
 some_fault x y o a b = cc

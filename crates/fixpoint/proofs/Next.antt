@@ -24,7 +24,7 @@ use Rattle.round_laws.proofs.AllLaws.{families_are_their_nodes, node_exact}
 use Rattle.round_steps.specs.declared.noting.Notes.{Notes}
 use Rattle.round_steps.specs.Notings.{blank}
 use Rattle.round_steps.specs.Joins.{KeptBut}
-use Rattle.fixpoint.specs.Turns.{IsCaller, IsLeaver, AreTrue, AreKnown, Turn}
+use Rattle.fixpoint.specs.Progress.{IsCaller, IsLeaver, AreTrue, AreKnown, Turn}
 use Rattle.fixpoint.proofs.Aims.{own_aim, back_aim}
 
 pub there_or_not : (xs : List NodeKey) (k : NodeKey) → Contains xs k ⊎ (Contains xs k → ⊥)

@@ -9,8 +9,8 @@ use Rattle.local_rules.specs.declared.local.Node.{Node}
 use Rattle.local_rules.specs.declared.local.NodeFault.{NodeFault}
 use Rattle.local_laws.specs.Laws.{AreNodes}
 use Rattle.instance_nesting.specs.Nestings.{Noted, AreOnce, AreAlike, TellsAll, Tells}
-use Rattle.instance_nesting.specs.declared.weight.Weight.{Weight}
-use Rattle.instance_nesting.specs.declared.weight.Weight.TheVariants as weight
+use Rattle.instance_nesting.specs.declared.verdict.NestingVerdict.{NestingVerdict}
+use Rattle.instance_nesting.specs.declared.verdict.NestingVerdict.TheVariants as verdicts
 use Rattle.instance_nesting.proofs.AllLaws.{nestings_are_small}
 use Rattle.round_rules.specs.declared.refusal.Refusal.{Refusal}
 use Rattle.round_rules.specs.declared.refusal.Refusal.TheVariants.{Memory}
@@ -24,8 +24,8 @@ use Rattle.round_steps.specs.Looks.{AreSeen}
 use Rattle.round_steps.specs.Notings.{AreNoted}
 use Rattle.round_steps.specs.Targets.{all_targets}
 use Rattle.round_steps.specs.Gathers.{AreBeyond}
-use Rattle.fixpoint.specs.Turns.{AreKnown, Turn}
-use Rattle.fixpoint.specs.Tests.{IsTooLarge, weight_refusal, IsTold, IsStopped, IsReady}
+use Rattle.fixpoint.specs.Progress.{AreKnown, Turn}
+use Rattle.fixpoint.specs.Tests.{IsTooLarge, nesting_refusal, IsTold, IsStopped, IsReady}
 use Rattle.fixpoint.proofs.Looked.{seen_node, least_fault}
 use Rattle.fixpoint.proofs.Known.{all_known, nesting_is}
 use Rattle.fixpoint.proofs.Aims.{round_is}
@@ -55,18 +55,18 @@ module _ (words : List ℕ) (A : List Entry) where
     pub few_insts : AreOnce notes.nesting.insts → length notes.nesting.insts ≤ 65536
     few_insts once = omega (arith, nestings_are_small words A f notes.nesting (nesting_is words A f notes known) once, fits.few_nodes)
 
-    told_by : (w : Weight) (r : Refusal) → Tells words A f w → r ≡ weight_refusal w → r ≢ Memory → IsStopped words A f r
-    told_by weight.Light r t is real = absurd (real is)
-    told_by (weight.ReEntry v word) r t is real = record { test = re_entry v word; holds = (fits, known.faultless, t); is = is }
-    told_by (weight.Recursion word) r t is real = record { test = recursion word; holds = (fits, known.faultless, t); is = is }
-    told_by (weight.TooDeep d) r t is real = record { test = too_deep d; holds = (fits, known.faultless, t.0, t.1, t.2); is = is }
+    told_by : (w : NestingVerdict) (r : Refusal) → Tells words A f w → r ≡ nesting_refusal w → r ≢ Memory → IsStopped words A f r
+    told_by verdicts.Nests r t is real = absurd (real is)
+    told_by (verdicts.ReEntry v word) r t is real = record { test = re_entry v word; holds = (fits, known.faultless, t); is = is }
+    told_by (verdicts.Recursion word) r t is real = record { test = recursion word; holds = (fits, known.faultless, t); is = is }
+    told_by (verdicts.TooDeep d) r t is real = record { test = too_deep d; holds = (fits, known.faultless, t.0, t.1, t.2); is = is }
 
     pub told_stops : (r : Refusal) → HasInst f root_inst → (r ≢ Memory → IsTold (size_of (device_of words)) notes.nesting r) → r ≢ Memory → IsStopped words A f r
-    told_stops r root told real = let t = told real in told_by t.weight r (t.tells words A f refl root (nesting_is words A f notes known)) t.is real
+    told_stops r root told real = let t = told real in told_by t.verdict r (t.tells words A f refl root (nesting_is words A f notes known)) t.is real
 
-    light_passes : HasInst f root_inst → TellsAll (size_of (device_of words)) notes.nesting weight.Light → Passes words A f
-    light_passes root light =
-        let t = light words A f refl root (nesting_is words A f notes known) in
+    nests_passes : HasInst f root_inst → TellsAll (size_of (device_of words)) notes.nesting verdicts.Nests → Passes words A f
+    nests_passes root nests =
+        let t = nests words A f refl root (nesting_is words A f notes known) in
         record { fits = fits; faultless = known.faultless; acyclic = t.0; shallow = t.1 }
 
     alike_known : (nesting : Noted) → AreAlike notes.nesting nesting → AreKnown words A f (record { callers = notes.callers; leavers = notes.leavers; nesting = nesting })
@@ -99,15 +99,15 @@ module _ (words : List ℕ) (A : List Entry) where
 
   -- the nodes that come next
   pub is_ready : (f : Family) (work : List NodeKey) (old mid : Notes) (nesting : Noted) (seen : Seen) (nodes : List Node) → AreFormed f → HasInst f root_inst → FitsLimits f
-      → Turn words A f work old → AreSeen words A f work seen → seen.worst ≡ None → AreKnown words A f mid → TellsAll (size_of (device_of words)) mid.nesting weight.Light
+      → Turn words A f work old → AreSeen words A f work seen → seen.worst ≡ None → AreKnown words A f mid → TellsAll (size_of (device_of words)) mid.nesting verdicts.Nests
       → AreAlike mid.nesting nesting → AreOnce nesting.insts
       → AreBeyond f (all_targets f (record { callers = mid.callers; leavers = mid.leavers; nesting = nesting }) seen.looks.items) nodes
       → IsReady words A f (record { callers = mid.callers; leavers = mid.leavers; nesting = nesting }) nodes
-  is_ready f work old mid nesting seen nodes formed root fits turn are none known light alike once beyond =
+  is_ready f work old mid nesting seen nodes formed root fits turn are none known nests alike once beyond =
       let notes : Notes = record { callers = mid.callers; leavers = mid.leavers; nesting = nesting } in
       let k = alike_known f mid fits known nesting alike in
       record {
-        passes = light_passes f mid fits known root light;
+        passes = nests_passes f mid fits known root nests;
         round = round_beyond words A f (all_targets f notes seen.looks.items) nodes (round_is words A f formed work old notes seen turn are none k) beyond;
         fresh = beyond.beyond;
         apart = beyond.apart;

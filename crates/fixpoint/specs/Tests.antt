@@ -4,8 +4,8 @@ use Rattle.avr_model.specs.declared.assumption.Entry.{Entry}
 use Rattle.certificate.specs.declared.limit.Limit.{Limit}
 use Rattle.local_rules.specs.declared.local.Node.{Node}
 use Rattle.instance_nesting.specs.Nestings.{Noted, AreOnce, TellsAll}
-use Rattle.instance_nesting.specs.declared.weight.Weight.{Weight}
-use Rattle.instance_nesting.specs.declared.weight.Weight.TheVariants as weight
+use Rattle.instance_nesting.specs.declared.verdict.NestingVerdict.{NestingVerdict}
+use Rattle.instance_nesting.specs.declared.verdict.NestingVerdict.TheVariants as verdicts
 use Rattle.round_rules.specs.declared.refusal.Refusal.{Refusal}
 use Rattle.round_rules.specs.declared.refusal.Refusal.TheVariants.{TooLarge, ReEntry, Recursion, TooDeep, Memory}
 use Rattle.round_rules.specs.Families.{Family}
@@ -14,7 +14,7 @@ use Rattle.round_rules.specs.Refusals.{Test, IsOver, FirstHolds, refusal_of}
 use Rattle.round_laws.specs.Steps.{IsRoundOf, AreApart}
 use Rattle.round_steps.specs.declared.noting.Notes.{Notes}
 use Rattle.round_steps.specs.Joins.{AreNew}
-use Rattle.fixpoint.specs.Turns.{AreKnown}
+use Rattle.fixpoint.specs.Progress.{AreKnown}
 
 -- the refusal says which limit the family is above
 pub record IsTooLarge (f : Family) (r : Refusal) : Type 0 where
@@ -22,17 +22,17 @@ pub record IsTooLarge (f : Family) (r : Refusal) : Type 0 where
   pub over : IsOver f limit
   pub is : r ≡ TooLarge limit
 
-abbrev pub weight_refusal : Weight → Refusal
-weight_refusal weight.Light = Memory
-weight_refusal (weight.ReEntry v word) = ReEntry v word
-weight_refusal (weight.Recursion word) = Recursion word
-weight_refusal (weight.TooDeep need) = TooDeep 0 need
+abbrev pub nesting_refusal : NestingVerdict → Refusal
+nesting_refusal verdicts.Nests = Memory
+nesting_refusal (verdicts.ReEntry v word) = ReEntry v word
+nesting_refusal (verdicts.Recursion word) = Recursion word
+nesting_refusal (verdicts.TooDeep need) = TooDeep 0 need
 
 -- the refusal says what the nesting tells of a device whose SRAM has so many bytes
 pub record IsTold (size : ℕ) (n : Noted) (r : Refusal) : Type 0 where
-  pub weight : Weight
-  pub tells : TellsAll size n weight
-  pub is : r ≡ weight_refusal weight
+  pub verdict : NestingVerdict
+  pub tells : TellsAll size n verdict
+  pub is : r ≡ nesting_refusal verdict
 
 -- the refusal is of the first test that holds
 pub record IsStopped (words : List ℕ) (A : List Entry) (f : Family) (r : Refusal) : Type 0 where

@@ -8,7 +8,7 @@ ghost use Rattle.round_rules.specs.Families.{AreFormed, HasInst, cells};
 ghost use Rattle.round_rules.specs.Rounds.{first};
 ghost use Rattle.round_rules.specs.Solutions.{IsWhyNot};
 ghost use Rattle.round_steps.specs.Joins.{KeptBut};
-ghost use Rattle.fixpoint.specs.Turns.{Turn, IsLeft, IsSpent, IsFound};
+ghost use Rattle.fixpoint.specs.Progress.{Turn, IsLeft, IsSpent, IsFound};
 ghost use Rattle.fixpoint.specs.Tests.{IsStopped, IsReady};
 
 use crate::testing::{check_nesting, check_size, refusal_of};

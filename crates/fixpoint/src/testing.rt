@@ -4,7 +4,7 @@ ghost use Rattle.std.specs.Prelude.{◌≡◌, ◌≢◌, ◌≤◌, length, IfO
 ghost use Rattle.std.specs.FinMap.{len};
 ghost use Rattle.avr_model.specs.Devices.{device_of, size_of};
 ghost use Rattle.instance_nesting.specs.Nestings.{AreAlike, AreOnce, TellsAll};
-ghost use Rattle.instance_nesting.specs.declared.weight.Weight.TheVariants.{Light};
+ghost use Rattle.instance_nesting.specs.declared.verdict.NestingVerdict.TheVariants.{Nests};
 ghost use Rattle.round_rules.specs.declared.refusal.Refusal.TheVariants.{Memory};
 ghost use Rattle.round_rules.specs.Families.{cells, FitsLimits};
 ghost use Rattle.round_rules.specs.Refusals.{fault_refusal};
@@ -13,7 +13,7 @@ ghost use Rattle.fixpoint.specs.Tests.{IsTooLarge, IsTold};
 use certificate::Limit;
 use family_table::Table;
 use flash_image::Flash;
-use instance_nesting::{Nesting, Weight};
+use instance_nesting::{Nesting, NestingVerdict};
 use local_rules::NodeFault;
 use round_rules::Refusal;
 
@@ -49,15 +49,15 @@ pub fn refusal_of(fault: NodeFault) -> Refusal
 // No instance reaches itself, and the root needs no more bytes than the device's SRAM has.
 pub fn check_nesting(flash: &Flash, nesting: &mut Nesting) -> Result<(), Refusal>
     requires { length nesting.old.insts ≤ 65536 }
-    ensures light { OnOk result (TellsAll (size_of (device_of flash.now)) nesting.old Light) }
+    ensures nests { OnOk result (TellsAll (size_of (device_of flash.now)) nesting.old Nests) }
     ensures told { IfErr result (λ r. r ≢ Memory → IsTold (size_of (device_of flash.now)) nesting.old r) }
     ensures same { AreAlike nesting.old nesting.new }
     ensures once { AreOnce nesting.new.insts }
 {
-    match nesting.weigh(flash.device().size())? {
-        Weight::Light => Ok(()),
-        Weight::ReEntry(vector, word) => Err(Refusal::ReEntry(vector, word)),
-        Weight::Recursion(word) => Err(Refusal::Recursion(word)),
-        Weight::TooDeep(need) => Err(Refusal::TooDeep(0, need)),
+    match nesting.judge(flash.device().size())? {
+        NestingVerdict::Nests => Ok(()),
+        NestingVerdict::ReEntry(vector, word) => Err(Refusal::ReEntry(vector, word)),
+        NestingVerdict::Recursion(word) => Err(Refusal::Recursion(word)),
+        NestingVerdict::TooDeep(need) => Err(Refusal::TooDeep(0, need)),
     }
 }

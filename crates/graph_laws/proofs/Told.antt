@@ -18,7 +18,7 @@ use Rattle.nesting_bound.specs.Cycle.{IsNamed, IsNoLater, group_of, number_of}
 use Rattle.round_rules.specs.Refusals.{IsReEntry, IsRecursion}
 use Rattle.round_rules.specs.Families.{Family, Has, HasInst}
 use Rattle.round_rules.specs.Rounds.{Entering, Reaches, once, more, IsAcyclic, AreRanks, AreNeeds, IsRootNeed}
-use Rattle.graph_laws.specs.Graphs.{IsNumber, StandsFor, HasEntered, IsEntered, IsGraphOf, valued, GraphsTell}
+use Rattle.graph_laws.specs.Graphs.{IsNumber, StandsFor, HasEntered, IsEntered, IsGraphOver, valued, GraphsTell}
 
 within : {X : Type 0} (xs : List X) (i : ℕ) (x : X) → slice_get xs i ≡ Some x → i < length xs
 within [] i x e = absurd (none-some x e)
@@ -101,7 +101,7 @@ by_entry Root entry never = (refl, refl)
 by_entry Call entry never = (refl, refl)
 by_entry (Vector v) entry never = absurd (never v refl)
 
-module _ (words : List ℕ) (A : List Entry) (f : Family) (keys : List InstKey) (gs : List GraphInst) (is : IsGraphOf words A f keys gs) where
+module _ (words : List ℕ) (A : List Entry) (f : Family) (keys : List InstKey) (gs : List GraphInst) (is : IsGraphOver words A f keys gs) where
   -- an instance that enters another has a node, and so a number
   from_number : (i j : InstKey) (offset : ℕ) → Entering words A f i j offset → (n : ℕ) × IsNumber keys n i
   from_number i j offset e = is.numbered i (e.node, e.has, e.same)

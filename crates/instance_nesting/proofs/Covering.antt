@@ -12,7 +12,7 @@ use Rattle.round_rules.specs.Families.{Family}
 use Rattle.round_rules.specs.Rounds.{Entering, Reaches, AreRanks}
 use Rattle.round_rules.specs.Rounds as rounds
 use Rattle.instance_nesting.specs.declared.allowances.Allowance.{Allowance}
-use Rattle.instance_nesting.specs.declared.weight.Weight.TheVariants.{Light}
+use Rattle.instance_nesting.specs.declared.verdict.NestingVerdict.TheVariants.{Nests}
 use Rattle.instance_nesting.specs.Nestings.{Spot, Entrance, Noted, TellsAll}
 use Rattle.instance_nesting.specs.Drawn.{AreApart, HasMore}
 use Rattle.instance_nesting.specs.Covers.{Granted, allowed, Allows, AllowsRoot, AllowsSpot, AllowsEntrance, Covers, AreKept, IsKept}
@@ -78,7 +78,7 @@ module _ (covered : Bool) (gs : Granted) (others : List InstKey) (spots : List S
     covers = λ t. covers_entrance gs new spots entrances more x keeps (held t).1 has_more (kept.covers (held t).0);
   }
 
--- ---- what is covered is light
+-- ---- what is covered nests
 
 falls : (words : List ℕ) (A : List Entry) (f : Family) (rank : InstKey → ℕ) → AreRanks words A f rank → (i j : InstKey) → Reaches words A f i j → rank j < rank i
 falls words A f rank are _ _ (rounds.once i j offset e) = are i j offset e
@@ -92,8 +92,8 @@ abbrev need_in : Option Allowance → ℕ
 need_in None = 0
 need_in (Some a) = a.need
 
-pub light : (size : ℕ) (gs : Granted) (n : Noted) → AllowsRoot gs size → Covers gs n.spots n.entrances → TellsAll size n Light
-light size gs n root covers words A f sized there nesting = (
+pub nests : (size : ℕ) (gs : Granted) (n : Noted) → AllowsRoot gs size → Covers gs n.spots n.entrances → TellsAll size n Nests
+nests size gs n root covers words A f sized there nesting = (
   λ i reaches. let lt = falls words A f rank are_ranks i i reaches in omega (arith, lt),
   record {
     need = need;

@@ -15,10 +15,10 @@ use Rattle.nesting_bound.specs.Cycle.{IsNamed, group_of}
 use Rattle.nesting_bound.specs.Least.{IsLeast}
 use Rattle.round_rules.specs.Families.{Family, Has, HasInst}
 use Rattle.round_rules.specs.Rounds.{Entering}
-use Rattle.graph_laws.specs.Graphs.{GraphsTell, IsGraphOf, IsNumber, StandsFor, IsEntered, HasEntered, IsPlaceOf as IsPlaceIn, HasNode}
-use Rattle.instance_nesting.specs.declared.weight.Weight.TheVariants.{Light, ReEntry, Recursion, TooDeep}
+use Rattle.graph_laws.specs.Graphs.{GraphsTell, IsGraphOver, IsNumber, StandsFor, IsEntered, HasEntered, IsPlaceOf as IsPlaceIn, HasNode}
+use Rattle.instance_nesting.specs.declared.verdict.NestingVerdict.TheVariants.{Nests, ReEntry, Recursion, TooDeep}
 use Rattle.instance_nesting.specs.Nestings.{Noted, AreOnce, IsNestingOf, TellsAll}
-use Rattle.instance_nesting.specs.declared.weight.Weight.{Weight}
+use Rattle.instance_nesting.specs.declared.verdict.NestingVerdict.{NestingVerdict}
 use Rattle.instance_nesting.specs.Drawn.{number_of, IsDrawn, GraphTells}
 use Rattle.instance_nesting.proofs.Numbers.{there, stands, numbered}
 
@@ -71,7 +71,7 @@ module _ (n : Noted) (others : List InstKey) (gs : List GraphInst) (drawn : IsDr
         ((nesting.spots (record { inst = node.key.inst; offset = offset })).1 (record { node = node; has = has; of = refl; closed = closed })) in
         record { number = number_of keys node.key.inst; place = x.place; has = x.has; of = number_is node.key.inst (node, has, refl); at = sym x.at }
 
-    pub is_graph_of : IsGraphOf words A f keys gs
+    pub is_graph_of : IsGraphOver words A f keys gs
     is_graph_of = record {
       is_graph = drawn.is_graph;
       inside = omega (arith, drawn.count);
@@ -85,14 +85,14 @@ module _ (n : Noted) (others : List InstKey) (gs : List GraphInst) (drawn : IsDr
       all_places = all_places;
     }
 
-  pub tells_all : (size : ℕ) (w : Weight) → GraphTells size gs w → TellsAll size n w
+  pub tells_all : (size : ℕ) (w : NestingVerdict) → GraphTells size gs w → TellsAll size n w
   tells_all size w tells words A f sized root nesting = tells words A f keys sized (is_graph_of words A f nesting)
 
 -- ---- from the graph
 
 module _ (tell : GraphsTell) (gs : List GraphInst) where
   module _ (at : ℕ) (g : GraphInst) (is : slice_get gs at ≡ Some g) (named : IsNamed gs at) where
-    number : (words : List ℕ) (A : List Entry) (f : Family) (keys : List InstKey) → IsGraphOf words A f keys gs → IsNumber keys at g.key
+    number : (words : List ℕ) (A : List Entry) (f : Family) (keys : List InstKey) → IsGraphOver words A f keys gs → IsNumber keys at g.key
     number words A f keys of =
         let k = there keys at (tell.named words A f keys gs at of named) in
         k.1 ∙ ap (λ (x : InstKey). Some x) (sym (of.keyed at g k.0 is k.1))
@@ -104,8 +104,8 @@ module _ (tell : GraphsTell) (gs : List GraphInst) where
     recursion one size words A f keys sized of = tell.recursion words A f keys gs at g.key of named (number words A f keys of) one
 
   module _ (ranks needs : List ℕ) (least : IsLeast gs ranks needs) (acyclic : (i : ℕ) → graph.Reaches gs i i → ⊥) where
-    pub light : (size : ℕ) → slice_index needs 0 ≤ size → GraphTells size gs Light
-    light size le words A f keys sized of =
+    pub nests : (size : ℕ) → slice_index needs 0 ≤ size → GraphTells size gs Nests
+    nests size le words A f keys sized of =
         let root = tell.root words A f keys gs ranks needs of least in
         (tell.acyclic words A f keys gs of acyclic, record { need = root.need; are = root.are; small = omega (arith, root.is, le, sized) })
 

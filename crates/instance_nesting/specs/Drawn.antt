@@ -11,9 +11,9 @@ use Rattle.nesting_bound.specs.declared.graph.GraphInst.{GraphInst}
 use Rattle.nesting_bound.specs.declared.graph.Place.{Place}
 use Rattle.nesting_bound.specs.Graph.{IsGraph, Enters, HasPlace}
 use Rattle.round_rules.specs.Families.{Family}
-use Rattle.graph_laws.specs.Graphs.{IsGraphOf}
+use Rattle.graph_laws.specs.Graphs.{IsGraphOver}
 use Rattle.instance_nesting.specs.Nestings.{Spot, Entrance, AreOnce, Tells}
-use Rattle.instance_nesting.specs.declared.weight.Weight.{Weight}
+use Rattle.instance_nesting.specs.declared.verdict.NestingVerdict.{NestingVerdict}
 
 -- the instances of a nesting, where the root is kept apart from the others
 abbrev pub insts_of : Bool → List InstKey → List InstKey
@@ -87,7 +87,7 @@ pub record IsDrawn (keys : List InstKey) (spots : List Spot) (entrances : List E
   pub edges : (i : ℕ) (e : Entered) → Enters gs i e → IsEdgeOf keys entrances i e
   pub all_edges : (x : Entrance) → Contains entrances x → HasEdge keys gs x
 
--- the weight is told by the graph, of each family of which it is the graph and whose device's SRAM has so many bytes
-abbrev pub GraphTells : ℕ → List GraphInst → Weight → Type 0
+-- the verdict is told by the graph, of each family of which it is the graph and whose device's SRAM has so many bytes
+abbrev pub GraphTells : ℕ → List GraphInst → NestingVerdict → Type 0
 GraphTells size gs w =
-    (words : List ℕ) (A : List Entry) (f : Family) (keys : List InstKey) → size_of (device_of words) ≡ size → IsGraphOf words A f keys gs → Tells words A f w
+    (words : List ℕ) (A : List Entry) (f : Family) (keys : List InstKey) → size_of (device_of words) ≡ size → IsGraphOver words A f keys gs → Tells words A f w

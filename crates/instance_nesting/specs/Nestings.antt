@@ -11,8 +11,8 @@ use Rattle.local_rules.specs.declared.local.Node.{Node}
 use Rattle.round_rules.specs.Families.{Family, Has, HasInst}
 use Rattle.round_rules.specs.Rounds.{Entering, IsAcyclic, IsRootNeed, IsShallow}
 use Rattle.round_rules.specs.Refusals.{IsReEntry, IsRecursion}
-use Rattle.instance_nesting.specs.declared.weight.Weight.{Weight}
-use Rattle.instance_nesting.specs.declared.weight.Weight.TheVariants.{Light, ReEntry, Recursion, TooDeep}
+use Rattle.instance_nesting.specs.declared.verdict.NestingVerdict.{NestingVerdict}
+use Rattle.instance_nesting.specs.declared.verdict.NestingVerdict.TheVariants.{Nests, ReEntry, Recursion, TooDeep}
 
 -- ---- what is noted
 
@@ -76,14 +76,14 @@ pub record IsNestingOf (words : List ℕ) (A : List Entry) (f : Family) (n : Not
 
 -- ---- what it tells
 
-abbrev pub Tells : List ℕ → List Entry → Family → Weight → Type 0
-Tells words A f Light = IsAcyclic words A f × IsShallow words A f
+abbrev pub Tells : List ℕ → List Entry → Family → NestingVerdict → Type 0
+Tells words A f Nests = IsAcyclic words A f × IsShallow words A f
 Tells words A f (ReEntry v word) = IsReEntry words A f v word
 Tells words A f (Recursion word) = IsRecursion words A f word
 Tells words A f (TooDeep d) = IsAcyclic words A f × IsRootNeed words A f d × (size_of (device_of words) < d)
 
 -- of each family of which it is the nesting, in which the root has a node, and whose device's SRAM has so many bytes
-abbrev pub TellsAll : ℕ → Noted → Weight → Type 0
+abbrev pub TellsAll : ℕ → Noted → NestingVerdict → Type 0
 TellsAll size n w =
     (words : List ℕ) (A : List Entry) (f : Family) → size_of (device_of words) ≡ size → HasInst f root_inst → IsNestingOf words A f n → Tells words A f w
 

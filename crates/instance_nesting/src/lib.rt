@@ -3,11 +3,11 @@
 
 mod allowances;
 mod drawing;
+mod judging;
 pub mod laws;
 pub mod nesting;
 mod notes;
-mod weighing;
-pub mod weight;
+pub mod verdict;
 
 pub use nesting::Nesting;
-pub use weight::Weight;
+pub use verdict::NestingVerdict;

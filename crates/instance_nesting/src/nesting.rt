@@ -8,9 +8,9 @@ ghost use Rattle.instance_nesting.specs.Drawn.{insts_of, AreApart, HasMore};
 
 use crate::allowances::Allowances;
 use crate::drawing::drawn;
+use crate::judging::{Judged, judge_graph};
 use crate::notes::{NotedEntrance, NotedInst, NotedSpot};
-use crate::weighing::{Weighed, weigh_graph};
-use crate::weight::Weight;
+use crate::verdict::NestingVerdict;
 use indexmap::IndexSet;
 use mask_states::{InstKey, NodeKey, SpForm};
 use std::alloc::{AllocError, Global};
@@ -141,17 +141,17 @@ impl Nesting {
 
     /// What the nesting tells of the family on a device whose SRAM has so many bytes. What was noted stays. Where the root has no node,
     /// nothing is told.
-    pub fn weigh(&mut self, size: u16) -> Result<Weight, AllocError>
+    pub fn judge(&mut self, size: u16) -> Result<NestingVerdict, AllocError>
         requires { length self.old.insts ≤ 65536 }
         ensures tells { IfOk result (λ w. TellsAll size self.old w) }
         ensures same { AreAlike self.old self.new }
         ensures once { AreOnce self.new.insts }
     {
         if self.covered && self.allowances.allow_root(size) {
-            return Ok(Weight::Light);
+            return Ok(NestingVerdict::Nests);
         }
         if !self.has_root {
-            return Ok(Weight::Light);
+            return Ok(NestingVerdict::Nests);
         }
         let graph = drawn(
             self.alloc,
@@ -159,7 +159,7 @@ impl Nesting {
             self.spots.as_slice(),
             self.entrances.as_slice(),
         )?;
-        let Weighed { weight, composed } = weigh_graph(self.alloc, &graph, size)?;
+        let Judged { verdict, composed } = judge_graph(self.alloc, &graph, size)?;
         match composed {
             Some(composed) => {
                 let allowances = Allowances::over(
@@ -171,9 +171,9 @@ impl Nesting {
                 )?;
                 self.covered = allowances.cover(&self.spots, &self.entrances);
                 self.allowances = allowances;
-                Ok(weight)
+                Ok(verdict)
             }
-            None => Ok(weight),
+            None => Ok(verdict),
         }
     }
 }

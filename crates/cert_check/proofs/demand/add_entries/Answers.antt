@@ -1,4 +1,4 @@
-use Rattle.cert_check.specs.Working.{entry_demand}
+use Rattle.cert_check.specs.Demands.{entry_demand}
 use Rattle.cert_check.proofs.Gathered.{gathered_more}
 use Rattle.cert_check.proofs.Lists.{read_in}
 use Rattle.cert_check.proofs.demand.add_entries.Goals as goal

@@ -1,6 +1,6 @@
 use Rattle.std.proofs.Common.{◌≡◌, ◌++◌, take}
 use Rattle.std.specs.List.{flat_map}
-use Rattle.cert_check.specs.Working.{entry_demand}
+use Rattle.cert_check.specs.Demands.{entry_demand}
 use Rattle.cert_check.proofs.demand.add_entries.Given as goal
 
 abbrev pub invariant-loop-at : goal.invariant-loop-at

@@ -1,7 +1,7 @@
 use Rattle.std.proofs.Common.{◌≡◌, ◌++◌, sym, subst, ◌<◌, ◌≤◌, length, None, Contains, arith}
 use Rattle.expansion_laws.proofs.AllLaws.{get_inside}
 use Rattle.edge_rules.specs.Edges.{AreEdges}
-use Rattle.cert_check.specs.Working.{IsLeast, Lands, GapAt, KeyBelow, demands_of}
+use Rattle.cert_check.specs.Demands.{IsLeast, Lands, GapAt, KeyBelow, demands_of}
 use Rattle.cert_check.proofs.Passing.{key_belongs, targets, gap_first, targets_belong, goes_on, ends}
 use Rattle.cert_check.proofs.gathering.gather.Goals as goal
 

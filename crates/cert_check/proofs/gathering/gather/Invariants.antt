@@ -1,4 +1,4 @@
-use Rattle.cert_check.specs.Working.{IsMidway}
+use Rattle.cert_check.specs.Demands.{IsMidway}
 use Rattle.cert_check.proofs.gathering.gather.Given as goal
 
 abbrev pub invariant-loop-at : goal.invariant-loop-at

@@ -2,7 +2,7 @@ use Rattle.std.proofs.Common.{sym, subst, arith}
 use Rattle.certificate.specs.Valid.{AllLand, reset_node}
 use Rattle.cert_check.specs.declared.gathering.Found.TheVariants.{All}
 use Rattle.cert_check.specs.Verdict.{IsFirstGap}
-use Rattle.cert_check.specs.Working.{AllBelong, AreDemands, AreInside, IsFound, IsWeighed}
+use Rattle.cert_check.specs.Demands.{AllBelong, AreDemands, AreInside, IsFound, IsWeighed}
 use Rattle.cert_check.proofs.Demands.{landed_belongs, all_inside}
 use Rattle.cert_check.proofs.Asking.{decided}
 use Rattle.cert_check.proofs.One.{are_instances}

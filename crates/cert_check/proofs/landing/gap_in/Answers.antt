@@ -1,4 +1,4 @@
-use Rattle.cert_check.specs.Working.{Lands, GapAt, KeyBelow, lesser_key}
+use Rattle.cert_check.specs.Demands.{Lands, GapAt, KeyBelow, lesser_key}
 use Rattle.cert_check.proofs.Lists.{read_in, least_more, least_all}
 use Rattle.cert_check.proofs.Covering.{lesser_keys}
 use Rattle.cert_check.proofs.landing.gap_in.Goals as goal

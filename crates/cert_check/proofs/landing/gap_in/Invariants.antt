@@ -1,5 +1,5 @@
 use Rattle.std.proofs.Common.{take}
-use Rattle.cert_check.specs.Working.{IsLeast, Lands, GapAt, KeyBelow}
+use Rattle.cert_check.specs.Demands.{IsLeast, Lands, GapAt, KeyBelow}
 use Rattle.cert_check.proofs.landing.gap_in.Given as goal
 
 abbrev pub invariant-loop-at : goal.invariant-loop-at

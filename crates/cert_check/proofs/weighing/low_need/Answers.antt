@@ -1,5 +1,5 @@
 use Rattle.std.proofs.Common.{refl, get_or}
-use Rattle.cert_check.specs.Working.{MeetsNeed, LowNeed, NumberBelow, lesser_number}
+use Rattle.cert_check.specs.Demands.{MeetsNeed, LowNeed, NumberBelow, lesser_number}
 use Rattle.cert_check.proofs.Lists.{read_in, least_more, least_all}
 use Rattle.cert_check.proofs.Asking.{lesser_numbers, no_demand}
 use Rattle.cert_check.proofs.weighing.low_need.Goals as goal

@@ -1,5 +1,5 @@
 use Rattle.std.proofs.Common.{take}
-use Rattle.cert_check.specs.Working.{IsLeast, MeetsNeed, LowNeed, NumberBelow}
+use Rattle.cert_check.specs.Demands.{IsLeast, MeetsNeed, LowNeed, NumberBelow}
 use Rattle.cert_check.proofs.weighing.low_need.Given as goal
 
 abbrev pub invariant-loop-at : goal.invariant-loop-at

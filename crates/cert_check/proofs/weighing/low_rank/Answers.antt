@@ -1,5 +1,5 @@
 use Rattle.std.proofs.Common.{refl, get_or}
-use Rattle.cert_check.specs.Working.{MeetsRank, LowRank, PairBelow, lesser_pair}
+use Rattle.cert_check.specs.Demands.{MeetsRank, LowRank, PairBelow, lesser_pair}
 use Rattle.cert_check.proofs.Lists.{read_in, least_more, least_all}
 use Rattle.cert_check.proofs.Asking.{lesser_pairs, no_demand}
 use Rattle.cert_check.proofs.weighing.low_rank.Goals as goal

@@ -1,5 +1,5 @@
 use Rattle.std.proofs.Common.{take}
-use Rattle.cert_check.specs.Working.{IsLeast, MeetsRank, LowRank, PairBelow}
+use Rattle.cert_check.specs.Demands.{IsLeast, MeetsRank, LowRank, PairBelow}
 use Rattle.cert_check.proofs.weighing.low_rank.Given as goal
 
 abbrev pub invariant-loop-at : goal.invariant-loop-at

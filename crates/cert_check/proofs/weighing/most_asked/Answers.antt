@@ -1,5 +1,5 @@
 use Rattle.std.proofs.Common.{sym, subst, take, ◌+◌}
-use Rattle.cert_check.specs.Working.{IsMost}
+use Rattle.cert_check.specs.Demands.{IsMost}
 use Rattle.cert_check.proofs.Asking.{most_more, no_demand}
 use Rattle.cert_check.proofs.weighing.most_asked.Goals as goal
 

@@ -1,7 +1,7 @@
 use Rattle.std.proofs.Common.{◌≡◌, sym, ap, ◌∙◌, subst, Some, arith}
 use Rattle.mask_states.specs.Keys.{root_inst}
 use Rattle.certificate.specs.Insts.{need_in}
-use Rattle.cert_check.specs.Working.{AreInside, IsLeast, MeetsRank, LowRank, PairBelow, MeetsNeed, LowNeed, NumberBelow, RanksFall, AllMet, need_at}
+use Rattle.cert_check.specs.Demands.{AreInside, IsLeast, MeetsRank, LowRank, PairBelow, MeetsNeed, LowNeed, NumberBelow, RanksFall, AllMet, need_at}
 use Rattle.cert_check.proofs.Insts.{need_there}
 use Rattle.cert_check.proofs.Verdicts.{inst_fits, need_fits}
 use Rattle.cert_check.proofs.weighing.weigh.Goals as goal

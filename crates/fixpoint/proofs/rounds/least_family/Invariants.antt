@@ -1,6 +1,6 @@
 use Rattle.std.proofs.Common.{◌-◌}
 use Rattle.round_laws.specs.Steps.{weight}
-use Rattle.fixpoint.specs.Turns.{Progress}
+use Rattle.fixpoint.specs.Progress.{Progress}
 use Rattle.fixpoint.proofs.rounds.least_family.Given as goal
 
 abbrev pub invariant-rounds : goal.invariant-rounds

@@ -48,6 +48,6 @@ returns c = record {
       c.in_ok-nodes.nodes.items c.requires.formed c.requires.root c.in_ok-check_size.ensures.fits c.requires.turn c.in_ok-seen.ensures c.in_default.is
       (noted_known c.args.flash.now c.args.assumptions.now c.args.table.now c.args.work.now c.args.notes.now c.note_all.new.self c.in_ok-seen.seen c.deref.result.now c.requires.turn
       c.in_ok-seen.ensures c.in_default.is c.deref.ensures.value c.in_ok-note_all.ensures.noted)
-      c.in_ok-check_nesting.ensures.light c.in_ok-check_nesting.ensures.same c.in_ok-check_nesting.ensures.once c.in_ok-nodes.ensures;
+      c.in_ok-check_nesting.ensures.nests c.in_ok-check_nesting.ensures.same c.in_ok-check_nesting.ensures.once c.in_ok-nodes.ensures;
   stopped = tt;
 }

@@ -1,8 +1,8 @@
 use Rattle.std.proofs.Common.{subst, List, arith}
 use Rattle.nesting_bound.specs.declared.graph.GraphInst.{GraphInst}
 use Rattle.instance_nesting.specs.Drawn.{GraphTells}
-use Rattle.instance_nesting.proofs.Telling.{light}
-use Rattle.instance_nesting.proofs.weighing.weigh_graph.Goals as goal
+use Rattle.instance_nesting.proofs.Telling.{nests}
+use Rattle.instance_nesting.proofs.judging.judge_graph.Goals as goal
 
 pub returns-in-Err-Cycle : goal.returns-in-Err-Cycle
 returns-in-Err-Cycle c = subst (λ (gs : List GraphInst). GraphTells c.args.size gs c.named.result) c.as_slice.ensures (c.named.ensures c.args.size)
@@ -10,5 +10,5 @@ returns-in-Err-Cycle c = subst (λ (gs : List GraphInst). GraphTells c.args.size
 pub returns : goal.returns
 returns c =
     let least = c.in-Ok.ensures in
-    light c.graphs_tell.ensures c.args.graph.now.instances c.in-Ok.composed.ranks c.in-Ok.composed.needs least.ok least.acyclic c.args.size
+    nests c.graphs_tell.ensures c.args.graph.now.instances c.in-Ok.composed.ranks c.in-Ok.composed.needs least.ok least.acyclic c.args.size
     (omega (arith, c.need-need.ensures))

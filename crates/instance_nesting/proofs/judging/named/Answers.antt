@@ -2,7 +2,7 @@ use Rattle.std.proofs.Common.{◌≡◌, ap, ⊎_elim, slice_index_or}
 use Rattle.nesting_bound.specs.declared.graph.GraphInst.{GraphInst}
 use Rattle.nesting_bound.specs.Cycle.{group_of}
 use Rattle.instance_nesting.proofs.Telling.{re_entry, recursion, named_is}
-use Rattle.instance_nesting.proofs.weighing.named.Goals as goal
+use Rattle.instance_nesting.proofs.judging.named.Goals as goal
 
 pub returns-in-Vector : goal.returns-in-Vector
 returns-in-Vector c =
