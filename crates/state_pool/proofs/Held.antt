@@ -14,10 +14,10 @@ use Rattle.state_pool.specs.Numbers.{number_at}
 use Rattle.state_pool.specs.Places.{numbered}
 use Rattle.state_pool.proofs.Cases.{cases_eq, none_of}
 
-same_number : (n : ℕ) → eq_by_cmp nat_cmp n n ≡ true
+pub same_number : (n : ℕ) → eq_by_cmp nat_cmp n n ≡ true
 same_number n = (eq_by_cmp_equiv nat_cmp_total).refl n
 
-other_number : (q n : ℕ) → q ≢ n → eq_by_cmp nat_cmp q n ≡ false
+pub other_number : (q n : ℕ) → q ≢ n → eq_by_cmp nat_cmp q n ≡ false
 other_number q n ne = by (nat_cmp q n) refl
   where
     by : (r : Ordering) → nat_cmp q n ≡ r → eq_by_cmp nat_cmp q n ≡ false

@@ -5,4 +5,5 @@ pub mod Swaps
 pub mod Held
 pub mod Kept
 pub mod Undone
+pub mod Counted
 pub mod AllLaws

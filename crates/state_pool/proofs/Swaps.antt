@@ -34,7 +34,7 @@ inverse_swapped ns ps i j a li lj =
     let long : length (swap ns i j) ≡ n = length-swap ns i j in
     record {
       count = length-swap ps a' b' ∙ a.count ∙ sym long;
-      few = subst (λ m. m ≤ 65537) (sym long) a.few;
+      few = subst (λ m. m ≤ 4294967295) (sym long) a.few;
       low = λ x l. subst (λ m. number_at (swap ns i j) x < m) (sym long)
           (swapped_low (number_at ns) (number_at (swap ns i j)) i j x n s.0 s.1 (s.2 x) (a.low i li) (a.low j lj) (a.low x (subst (λ m. x < m) long l)));
       back = λ x l.

@@ -5,3 +5,4 @@ pub mod Uses
 pub mod Numbers
 pub mod Places
 pub mod Laws
+pub mod Counts

@@ -9,12 +9,12 @@ number_at numbers place = slice_index_or numbers place 0
 pub record AreNumbers (numbers : List ℕ) : Type 0 where
   pub low : (i : ℕ) → i < length numbers → number_at numbers i < length numbers
   pub once : (i j : ℕ) → i < length numbers → j < length numbers → number_at numbers i ≡ number_at numbers j → i ≡ j
-  pub few : length numbers ≤ 65537
+  pub few : length numbers ≤ 4294967295
 
 -- each of the two lists has at a number the place of that number in the other
 pub record AreInverse (numbers places : List ℕ) : Type 0 where
   pub count : length places ≡ length numbers
-  pub few : length numbers ≤ 65537
+  pub few : length numbers ≤ 4294967295
   pub low : (i : ℕ) → i < length numbers → number_at numbers i < length numbers
   pub back : (i : ℕ) → i < length numbers → number_at places (number_at numbers i) ≡ i
   pub place_low : (n : ℕ) → n < length numbers → number_at places n < length numbers

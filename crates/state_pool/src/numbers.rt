@@ -63,7 +63,7 @@ impl Numbers {
 
     /// A number for a place: the one that it has, or another where the places end before it.
     pub fn reach(&mut self, place: usize) -> Result<(), AllocError>
-        requires { (place ≤ length self.old) × (place < 65537) }
+        requires { (place ≤ length self.old) × (place < 4294967295) }
         ensures ok { OnOk result (IsReached self.old place self.new) }
         ensures err { OnErr result (self.new ≡ self.old) }
         ensures once { AreNumbers self.new }
@@ -76,7 +76,7 @@ impl Numbers {
 
     // Another number at the last place.
     fn add(&mut self) -> Result<(), AllocError>
-        requires { length self.old < 65537 }
+        requires { length self.old < 4294967295 }
         ensures ok { OnOk result (self.new ≡ self.old ++ length self.old ∷ []) }
         ensures err { OnErr result (self.new ≡ self.old) }
         ensures once { AreNumbers self.new }

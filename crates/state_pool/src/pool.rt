@@ -95,8 +95,8 @@ impl Pool {
 
     /// Uses a state once more, and gives its number: that of an equal state, or a new one. Gives the state back for want of memory.
     pub fn intern(&mut self, state: AbsState) -> Result<u32, AbsState>
-        requires few { len self.old < 65537 }
-        requires counts { AreBelow 65536 self.old }
+        requires few { len self.old < 4294967295 }
+        requires counts { AreBelow 4294967295 self.old }
         ensures ok { IfOk result (λ number. IsInterned self.old state number self.new) }
         ensures back { IfErr result (λ s. s ≡ state) }
         ensures err { OnErr result (self.new ≡ self.old) }
@@ -114,7 +114,7 @@ impl Pool {
 
     // Adds a state that isn't there.
     fn admit(&mut self, shared: Shared) -> Result<u32, AbsState>
-        requires few { len self.old < 65537 }
+        requires few { len self.old < 4294967295 }
         requires absent { IsAbsent self.old shared }
         ensures ok { IfOk result (λ number. IsInterned self.old shared number self.new) }
         ensures back { IfErr result (λ s. s ≡ shared) }
