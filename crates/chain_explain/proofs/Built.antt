@@ -13,7 +13,7 @@ use Rattle.call_graph.specs.declared.exit_list.Leaving.TheVariants.{All, Fault}
 use Rattle.nesting_bound.specs.declared.graph.Link.{Link}
 use Rattle.chain_explain.specs.declared.explanation.Part.{Part}
 use Rattle.chain_explain.specs.Explanation.{IsPart, AreParts}
-use Rattle.chain_explain.specs.Working.{all_of, moves_of, AreStepsOf, AreSteps, IsPortion, AreThere}
+use Rattle.chain_explain.specs.Moves.{all_of, moves_of, AreStepsOf, AreSteps, IsPortion, AreThere}
 use Rattle.chain_explain.proofs.Lists.{one_at}
 
 front_at : {X : Type 0} (xs ys : List X) (i : ℕ) (d : X) → i < length xs → get_or (xs ++ ys) i d ≡ get_or xs i d

@@ -25,7 +25,7 @@ use Rattle.chain_explain.specs.declared.explanation.Part.{Part}
 use Rattle.chain_explain.specs.Walks.{IsWay}
 use Rattle.chain_explain.specs.Explanation.{adds_by, IsPart, AreParts, Explains}
 use Rattle.chain_explain.specs.Told.{sum_of, IsPlace, Ends, EntersNext, GoOn, Nest}
-use Rattle.chain_explain.specs.Working.{AreThere}
+use Rattle.chain_explain.specs.Moves.{AreThere}
 use Rattle.chain_explain.proofs.Lists.{one_at}
 
 module _ (words : List ℕ) (A : List Entry) (nodes reached : List Node) (gs : List GraphInst) (needs : List ℕ) (family : IsGraphOf words A reached gs) where

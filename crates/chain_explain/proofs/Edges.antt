@@ -20,7 +20,7 @@ use Rattle.shortest_walk.specs.Graph as walk
 use Rattle.shortest_walk.specs.Graph.{Leads, IsGraph}
 use Rattle.chain_explain.specs.Reached.{IsReached, at_reset, by_edge}
 use Rattle.chain_explain.specs.Walks.{is_move, MovesTo}
-use Rattle.chain_explain.specs.Working.{listed, to_of, is_inside, move_of, AreSteps, AreMoves}
+use Rattle.chain_explain.specs.Moves.{listed, to_of, is_inside, move_of, AreSteps, AreMoves}
 use Rattle.chain_explain.proofs.Lists.{number_of, contains_at, one_at, get_at, only, flat_in, each_flat, none_past}
 use Rattle.chain_explain.proofs.Numbers.{found_at, same_number, is_found}
 
@@ -66,7 +66,7 @@ module _ (words : List ℕ) (A : List Entry) (nodes : List Node) (shown : AreSho
     where
       never : (way : EdgeKind) (inst : InstKey) (back : ℕ) → Enters words A n way inst back → is_move way ≡ true → ⊥
       never _ _ _ (by_call offset site clean closed has) m = cc
-      never _ _ _ (by_interrupt offset v clears clean closed i d enabled may) m = cc
+      never _ _ _ (by_interrupt offset v clears clean closed i d enabled allowed may) m = cc
   stays n _ has (returning way inst back leaver x state enters present at clean exit is) moves = refl
 
   module _ (all moves : List (List ℕ)) (steps : AreSteps words A nodes (length nodes) all moves) where

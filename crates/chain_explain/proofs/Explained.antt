@@ -11,12 +11,16 @@ use Rattle.certificate.specs.Claims.{Claim}
 use Rattle.certificate.specs.Valid.{IsSound, MeetsConditions}
 use Rattle.reach_laws.specs.Laws.{RoundsAreReached}
 use Rattle.witness_search.specs.Chains.{IsDeepest, BeginsAtRoot}
+use Rattle.witness_search.specs.Laws.{DeepestChainsAreBounded}
 use Rattle.chain_explain.specs.declared.explanation.Explanation.{Explanation}
 use Rattle.chain_explain.specs.declared.explanation.Part.{Part}
 use Rattle.chain_explain.specs.Reached.{AreReached}
 use Rattle.chain_explain.specs.Explanation.{AreParts, Explains, IsExplanation}
 use Rattle.chain_explain.specs.Told.{sum_of, Nest, IsOfRounds}
+use Rattle.chain_explain.specs.Laws.{ExplanationsTell}
 use Rattle.chain_explain.proofs.Chains as chains
+use Rattle.chain_explain.proofs.Conditions.{meets_reached}
+use Rattle.chain_explain.proofs.Stepped.{reset_has}
 use Rattle.chain_explain.proofs.Rounds.{least_is_bound}
 
 module _ (words : List ℕ) (A : List Entry) (c : Claim) (nodes : List Node) (filled : IsFilled words A c.nodes nodes) (reached : List Node) (are : AreReached words A nodes reached)
@@ -50,3 +54,16 @@ module _ (words : List ℕ) (A : List Entry) (c : Claim) (nodes : List Node) (fi
 -- the expansion of a certificate whose conditions hold meets them
 pub meets_as : FilledOrMissing → (words : List ℕ) (A : List Entry) (c : Claim) (nodes : List Node) → IsSound words A c → IsFilled words A c.nodes nodes → MeetsConditions words A c nodes
 meets_as law words A c nodes sound filled = subst (MeetsConditions words A c) (law.one words A c.nodes sound.nodes nodes sound.expanded filled) sound.meets
+
+pub tells : FilledOrMissing → RoundsAreReached → DeepestChainsAreBounded → ExplanationsTell
+tells filled rounds chains_bounded words A c x sound is =
+    let meets = meets_as filled words A c is.nodes sound is.filled in
+    let over = meets_reached words A is.nodes is.explains.reached is.explains.are_reached c meets in
+    let root : BeginsAtRoot words A is.explains.reached = chains_bounded.root words A c is.explains.reached over in
+    let under : x.least ≤ c.bound = chains_bounded.need words A c is.explains.reached x.least is.explains.links over is.explains.deepest in
+    record {
+      sums = chains.sums words A is.nodes x is.explains;
+      bounded = under;
+      least = λ of. least_is_bound filled rounds words A c is.nodes x is.filled (reset_has is.nodes meets.reset) is.explains root under of;
+      nests = chains.nests words A is.nodes x is.explains c is.filled root;
+    }

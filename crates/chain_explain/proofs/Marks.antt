@@ -16,7 +16,7 @@ use Rattle.edge_rules.specs.Views.{AreShown, key_of}
 use Rattle.shortest_walk.specs.Graph as walk
 use Rattle.shortest_walk.specs.Graph.{AreMarks}
 use Rattle.chain_explain.specs.Reached.{IsReached, AreReached}
-use Rattle.chain_explain.specs.Working.{kept_by, AreSteps}
+use Rattle.chain_explain.specs.Moves.{kept_by, AreSteps}
 use Rattle.chain_explain.proofs.Lists.{number_of, contains_at, one_at}
 use Rattle.chain_explain.proofs.Edges.{reached_down, reached_up}
 

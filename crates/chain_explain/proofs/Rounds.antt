@@ -136,7 +136,7 @@ module _ (words : List ℕ) (A : List Entry) (f : Family) (n : ℕ) (solved : Is
 
     closed_by : (m : Node) (way : EdgeKind) (inst : InstKey) (back : ℕ) → Enters words A m way inst back → (offset : ℕ) × (m.key.sp ≡ Closed offset)
     closed_by m _ _ _ (by_call offset site clean closed has) = (offset, closed)
-    closed_by m _ _ _ (by_interrupt offset v clears clean closed i d enabled may) = (offset, closed)
+    closed_by m _ _ _ (by_interrupt offset v clears clean closed i d enabled allowed may) = (offset, closed)
 
     suffice : AreNeeds words A f need
     suffice =

@@ -9,7 +9,7 @@ use Rattle.std.proofs.lemmas.List.{length-map}
 use Rattle.local_laws.proofs.AllLaws.{none_in, here, there, first_or, in_map, each_in_map}
 use Rattle.shortest_walk.specs.Graph.{Leads, IsGraph, IsReached, at_start, by_edge}
 use Rattle.shortest_walk.specs.Walk.{GoesOn, IsWalk, IsShortest, IsFirstOfShortest}
-use Rattle.chain_explain.specs.Working.{IsPortion}
+use Rattle.chain_explain.specs.Moves.{IsPortion}
 use Rattle.chain_explain.proofs.Lists.{only, none_past}
 
 -- the number in the whole graph

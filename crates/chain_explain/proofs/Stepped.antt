@@ -16,7 +16,7 @@ use Rattle.edge_rules.specs.Families.{IsCovered}
 use Rattle.edge_rules.specs.Views.{key_of, state_of, place_of}
 use Rattle.certificate.specs.Valid.{reset_node}
 use Rattle.chain_explain.specs.Walks.{pc_of, pc_at}
-use Rattle.chain_explain.specs.Working.{listed, to_of, is_inside, move_of, kept_by}
+use Rattle.chain_explain.specs.Moves.{listed, to_of, is_inside, move_of, kept_by}
 
 -- ---- one edge
 

@@ -21,7 +21,7 @@ use Rattle.shortest_walk.specs.Walk.{IsFirstOfShortest}
 use Rattle.chain_explain.specs.Reached.{IsReached, at_reset, by_edge}
 use Rattle.chain_explain.specs.Walks as walks
 use Rattle.chain_explain.specs.Walks.{is_move, MovesTo, Begins, IsStart, pc_at, IsWay}
-use Rattle.chain_explain.specs.Working.{IsPortion, AreMoves}
+use Rattle.chain_explain.specs.Moves.{IsPortion, AreMoves}
 use Rattle.chain_explain.proofs.Lists.{number_of, contains_at, one_at, only}
 use Rattle.chain_explain.proofs.Numbers.{FoundAt, found_at, same_number, none_has}
 use Rattle.chain_explain.proofs.Edges.{stays}

@@ -3,4 +3,4 @@ pub mod Walks
 pub mod Explanation
 pub mod Told
 pub mod Laws
-pub mod Working
+pub mod Moves

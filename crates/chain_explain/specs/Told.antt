@@ -1,5 +1,5 @@
 -- What an explanation tells.
-use Rattle.std.specs.Prelude.{ℕ, ◌+◌, ◌≡◌, List, [], ◌∷◌, Option, Contains, slice_get, Some}
+use Rattle.std.specs.Prelude.{ℕ, ◌+◌, ◌≡◌, ◌≤◌, List, [], ◌∷◌, Option, Contains, slice_get, Some}
 use Rattle.std.specs.List.{sum_by}
 use Rattle.avr_model.specs.declared.assumption.Entry.{Entry}
 use Rattle.mask_states.specs.declared.keys.EdgeKind.{EdgeKind}
@@ -10,6 +10,7 @@ use Rattle.edge_rules.specs.Edges.{Enters}
 use Rattle.edge_rules.specs.Expansion.{IsFilled}
 use Rattle.certificate.specs.Claims.{Claim}
 use Rattle.round_rules.specs.Solutions.{IsAnswer}
+use Rattle.chain_explain.specs.declared.explanation.Explanation.{Explanation}
 use Rattle.chain_explain.specs.declared.explanation.Part.{Part}
 use Rattle.chain_explain.specs.Walks.{IsWay}
 
@@ -64,3 +65,11 @@ pub record IsOfRounds (words : List ℕ) (A : List Entry) (c : Claim) : Type 0 w
   pub answer : IsAnswer words A steps least
   pub nodes : c.nodes ≡ least.nodes
   pub bound : c.bound ≡ least.bound
+
+-- What the explanation of a certificate tells: its parts nest from the root on and add up to its number, which is at most the bound, and the
+-- bound itself where the rounds end with this certificate.
+pub record Tells (words : List ℕ) (A : List Entry) (c : Claim) (x : Explanation) : Type 0 where
+  pub sums : sum_of x.parts ≡ x.least
+  pub bounded : x.least ≤ c.bound
+  pub least : IsOfRounds words A c → x.least ≡ c.bound
+  pub nests : Nest words A c x.parts

@@ -1,9 +1,10 @@
 //! Laws of explanations, each as the contract of a function that does nothing but call others.
 
-ghost use Rattle.chain_explain.specs.Laws.{ExplanationsAreOne};
+ghost use Rattle.chain_explain.specs.Laws.{ExplanationsAreOne, ExplanationsTell};
 
 use expansion_laws::laws::filled_or_missing;
-use witness_search::laws::deepest_chains_are_one;
+use reach_laws::laws::rounds_are_reached;
+use witness_search::laws::{deepest_chains_are_bounded, deepest_chains_are_one};
 
 /// A certificate has at most one explanation.
 pub fn explanations_are_one()
@@ -11,4 +12,14 @@ pub fn explanations_are_one()
 {
     filled_or_missing();
     deepest_chains_are_one();
+}
+
+/// The parts of an explanation nest from the root on and add up to its number, which is at most the bound of the certificate, and the
+/// bound itself where the rounds end with this certificate.
+pub fn explanations_tell()
+    ensures { ExplanationsTell }
+{
+    filled_or_missing();
+    rounds_are_reached();
+    deepest_chains_are_bounded();
 }

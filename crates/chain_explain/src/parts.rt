@@ -5,7 +5,7 @@ ghost use Rattle.avr_model.specs.State.{SIZE};
 ghost use Rattle.mask_states.specs.Keys.{offset_of};
 ghost use Rattle.chain_explain.specs.Explanation.{adds_by, IsPart, AreParts};
 ghost use Rattle.chain_explain.specs.Reached.{AreReached};
-ghost use Rattle.chain_explain.specs.Working.{AreMoves, AreThere};
+ghost use Rattle.chain_explain.specs.Moves.{AreMoves, AreThere};
 
 use crate::explanation::Part;
 use crate::way::way;

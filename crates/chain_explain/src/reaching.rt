@@ -4,7 +4,7 @@ ghost use Rattle.std.specs.Prelude.{◌≡◌, ◌≤◌, Contains, length, IfOk
 ghost use Rattle.edge_rules.specs.Families.{IsCovered};
 ghost use Rattle.certificate.specs.Valid.{reset_node, AllLand};
 ghost use Rattle.chain_explain.specs.Reached.{AreReached};
-ghost use Rattle.chain_explain.specs.Working.{AreSteps, kept_by};
+ghost use Rattle.chain_explain.specs.Moves.{AreSteps, kept_by};
 
 use crate::numbering::number_of;
 use avr_model::listed::Listed;

@@ -4,7 +4,7 @@ ghost use Rattle.std.specs.Prelude.{◌≡◌, ◌++◌, ◌<◌, ◌≤◌, Con
 ghost use Rattle.local_rules.specs.declared.local.Node.{Node};
 ghost use Rattle.edge_rules.specs.Edges.{IsFaultless};
 ghost use Rattle.call_graph.specs.Exits.{AreExits};
-ghost use Rattle.chain_explain.specs.Working.{is_inside, to_of, move_of, all_of, moves_of, AreStepsOf, AreSteps};
+ghost use Rattle.chain_explain.specs.Moves.{is_inside, to_of, move_of, all_of, moves_of, AreStepsOf, AreSteps};
 
 use avr_model::listed::Listed;
 use call_graph::laws::exits_are_exact;

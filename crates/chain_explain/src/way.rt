@@ -5,7 +5,7 @@ ghost use Rattle.local_rules.specs.declared.local.Node.{Node};
 ghost use Rattle.local_laws.specs.Laws.{HasKey};
 ghost use Rattle.chain_explain.specs.Reached.{IsReached};
 ghost use Rattle.chain_explain.specs.Walks.{pc_at, IsWay};
-ghost use Rattle.chain_explain.specs.Working.{AreMoves, IsPortion};
+ghost use Rattle.chain_explain.specs.Moves.{AreMoves, IsPortion};
 
 use crate::numbering::number_of;
 use avr_model::listed::Listed;

@@ -7,7 +7,7 @@ use Rattle.clap.specs.Walk.{Names, Walk, idle, walked, walk, walk_from, nothing_
 use Rattle.clap.specs.Simple.{built, built_leaf, inherited, label_of, names_of, entered}
 use Rattle.clap.specs.Takes.{turn_passes, walk_passes, settle_passes, default_passes, is_valid, level_passes, entered_passes, built_takes}
 use Rattle.clap.proofs.OnLiterals.{clap_on_literals}
-use Rattle.clap_words.specs.Lines.{bare_app, check_app, analyse_app, run_app, report_app, simulate_app, demo_app, line_app}
+use Rattle.clap_words.specs.Lines.{bare_app, check_app, analyse_app, run_app, report_app, explain_app, clear_app, premises_app, simulate_app, demo_app, line_app}
 
 -- a command as it is below the program
 abbrev pub below : App → Shape
@@ -94,6 +94,27 @@ named_report = record { stops = refl; found = refl; passes = refl; settles = ref
 
 pub report_level : (ws : List Text) → level_takes (below report_app) ws ≡ true → takes line_app (codes "report" ∷ ws) ≡ true
 report_level ws h = built_takes_named (built line_app) (codes "report") (below report_app) ws named_report h
+
+named_explain : IsNamed (built line_app) (codes "explain") (below explain_app)
+unfolding clap_on_literals
+named_explain = record { stops = refl; found = refl; passes = refl; settles = refl; defaults = refl; valid = refl }
+
+pub explain_level : (ws : List Text) → level_takes (below explain_app) ws ≡ true → takes line_app (codes "explain" ∷ ws) ≡ true
+explain_level ws h = built_takes_named (built line_app) (codes "explain") (below explain_app) ws named_explain h
+
+named_clear : IsNamed (built line_app) (codes "clear") (below clear_app)
+unfolding clap_on_literals
+named_clear = record { stops = refl; found = refl; passes = refl; settles = refl; defaults = refl; valid = refl }
+
+pub clear_level : (ws : List Text) → level_takes (below clear_app) ws ≡ true → takes line_app (codes "clear" ∷ ws) ≡ true
+clear_level ws h = built_takes_named (built line_app) (codes "clear") (below clear_app) ws named_clear h
+
+named_premises : IsNamed (built line_app) (codes "premises") (below premises_app)
+unfolding clap_on_literals
+named_premises = record { stops = refl; found = refl; passes = refl; settles = refl; defaults = refl; valid = refl }
+
+pub premises_level : (ws : List Text) → level_takes (below premises_app) ws ≡ true → takes line_app (codes "premises" ∷ ws) ≡ true
+premises_level ws h = built_takes_named (built line_app) (codes "premises") (below premises_app) ws named_premises h
 
 named_simulate : IsNamed (built line_app) (codes "simulate") (below simulate_app)
 unfolding clap_on_literals

@@ -11,9 +11,9 @@ use Rattle.clap.proofs.OnLiterals.{clap_on_literals}
 use Rattle.avr_model.specs.declared.device.Device.{Device as Chip}
 use Rattle.commands.specs.declared.line.Valued.{Valued}
 use Rattle.commands.specs.declared.line.Valued.TheVariants.{Assume, Steps, Device}
-use Rattle.commands.specs.Commands.{Command, Check, Run, Report, Demo, Line, empty_line, then_words, steps_in, choices_in, size_in, device_in, on_device, with_one, with_two, with_both, analysed, simulated, check_of, analyse_of, run_of, report_of, simulate_of, demo_of, called, whole, command_of}
-use Rattle.clap_words.specs.Lines.{judging_app, analyse_app, report_app, simulate_app, demo_app, line_app, is_option, is_refused}
-use Rattle.clap_words.proofs.Levels.{below, level_takes, both_true, check_level, analyse_level, run_level, report_level, simulate_level, demo_level}
+use Rattle.commands.specs.Commands.{Command, Check, Run, Report, Explain, Clear, Premises, Demo, Line, empty_line, then_words, steps_in, choices_in, size_in, device_in, on_device, with_one, with_two, with_both, analysed, simulated, check_of, analyse_of, run_of, report_of, explain_of, clear_of, premises_of, simulate_of, demo_of, called, whole, command_of}
+use Rattle.clap_words.specs.Lines.{judging_app, analyse_app, report_app, clear_app, simulate_app, demo_app, line_app, is_option, is_refused}
+use Rattle.clap_words.proofs.Levels.{below, level_takes, both_true, check_level, analyse_level, run_level, report_level, explain_level, clear_level, premises_level, simulate_level, demo_level}
 use Rattle.clap_words.proofs.Pieces.{Piece, Named, Given, Marked, option_name, spelled, value_of, all_words, AreFit, Cut, cut_words}
 use Rattle.clap_words.proofs.Steps.{level_goes}
 use Rattle.clap_words.proofs.Going.{IsOption, Allows, IsLevel, IsWanted, Shows, goes_on}
@@ -27,6 +27,11 @@ abbrev two_options : Valued → Bool
 two_options Assume = true
 two_options Steps = false
 two_options Device = true
+
+abbrev device_option : Valued → Bool
+device_option Assume = false
+device_option Steps = false
+device_option Device = true
 
 abbrev all_options : Valued → Bool
 all_options _ = true
@@ -45,6 +50,9 @@ analysing = record { second = false; given = all_options; json = false }
 
 abbrev simulating : Allows
 simulating = record { second = true; given = all_options; json = false }
+
+abbrev clearing : Allows
+clearing = record { second = true; given = device_option; json = false }
 
 abbrev measuring : Allows
 measuring = record { second = false; given = no_options; json = false }
@@ -318,6 +326,54 @@ simulate_has =
       of_json = (refl, refl);
     }
 
+clear_options : (v : Valued) → device_option v ≡ true → IsOption (below clear_app) (option_name v)
+unfolding clap_on_literals
+clear_options Assume e = absurd (no_value e)
+clear_options Steps e = absurd (no_value e)
+clear_options Device e =
+    let a : Rule = option_of (below clear_app) (codes "device") in
+    record {
+      rule = a;
+      found = refl;
+      usable = record { how = reading_by a; found = refl; passes = λ word rows h. ap (once a (word ∷ [])) h; adds = λ word rows. refl };
+      takes = refl;
+      one = λ word. refl;
+    }
+
+clear_has : IsLevel (below clear_app) clearing (codes "firmware")
+unfolding clap_on_literals
+clear_has =
+    let a : Rule = name_at (below clear_app) 1 in
+    let b : Rule = name_at (below clear_app) 2 in
+    record {
+      first = record {
+        rule = a;
+        found = refl;
+        usable = record { how = reading_by a; found = refl; passes = λ word rows h. ap (once a (word ∷ [])) h; adds = λ word rows. refl };
+        one = refl;
+        single = refl;
+        last = refl;
+        next = refl;
+      };
+      second = λ e. record {
+        rule = b;
+        found = refl;
+        usable = record { how = reading_by b; found = refl; passes = λ word rows h. ap (once b (word ∷ [])) h; adds = λ word rows. refl };
+        one = refl;
+        single = refl;
+        last = refl;
+        next = refl;
+      };
+      given = clear_options;
+      json = λ e. absurd (no_value e);
+      defaults = refl;
+      valid = λ rows f t. both_true (is_given (codes "firmware") rows) _ f (both_true (is_given (codes "second") rows) _ (t refl) refl);
+      same = refl;
+      of_second = (refl, refl);
+      of_given = firmware_apart;
+      of_json = (refl, refl);
+    }
+
 demo_has : IsLevel (below demo_app) measuring (codes "size")
 unfolding clap_on_literals
 demo_has =
@@ -368,6 +424,17 @@ report_facts None second None (Some d) command x e = absurd (no_command x e)
 report_facts (Some f) None None (Some d) command x e = absurd (no_command x e)
 report_facts (Some f) (Some g) None (Some d) command x e = (refl, (refl, refl))
 
+clear_facts : (first second assume steps : Option Text) (json : Bool) (device : Option Chip) (command : Chip → Text → Text → Command) (x : Command)
+    → cond (is_none assume && (is_none steps && not json)) (on_device device (λ d. with_two first second (command d))) None ≡ Some x
+    → (is_some first ≡ true) × ((is_some second ≡ true) × ((is_some assume ≡ false) × ((is_some steps ≡ false) × (json ≡ false))))
+clear_facts first second (Some a) steps json device command x e = absurd (no_command x e)
+clear_facts first second None (Some t) json device command x e = absurd (no_command x e)
+clear_facts first second None None true device command x e = absurd (no_command x e)
+clear_facts first second None None false None command x e = absurd (no_command x e)
+clear_facts None second None None false (Some d) command x e = absurd (no_command x e)
+clear_facts (Some f) None None None false (Some d) command x e = absurd (no_command x e)
+clear_facts (Some f) (Some g) None None false (Some d) command x e = (refl, (refl, (refl, (refl, refl))))
+
 analyse_facts : (first second : Option Text) (json : Bool) (device : Option Chip) (command : Chip → Text → Option Command) (x : Command)
     → cond json None (on_device device (λ d. with_one first second (command d))) ≡ Some x
     → (is_some first ≡ true) × ((is_some second ≡ false) × (json ≡ false))
@@ -413,6 +480,21 @@ check_wanted l x e = plain_wanted l (λ device firmware certificate. Check devic
 
 run_wanted : (l : Line) (x : Command) → run_of l ≡ Some x → IsWanted judging l
 run_wanted l x e = plain_wanted l (λ device firmware schedule. Run device firmware schedule l.assume) x e
+
+explain_wanted : (l : Line) (x : Command) → explain_of l ≡ Some x → IsWanted judging l
+explain_wanted l x e = plain_wanted l (λ device firmware certificate. Explain device firmware certificate l.assume) x e
+
+premises_wanted : (l : Line) (x : Command) → premises_of l ≡ Some x → IsWanted judging l
+premises_wanted l x e = plain_wanted l (λ device firmware certificate. Premises device firmware certificate l.assume) x e
+
+clear_wanted : (l : Line) (x : Command) → clear_of l ≡ Some x → IsWanted clearing l
+clear_wanted l x e =
+    let k = clear_facts l.first l.second l.assume l.steps l.json (device_in l.device) (λ device firmware certificate. Clear device firmware certificate) x e in
+    record { first = k.0; second = k.1.0; given = given_by k.1.1.0 k.1.1.1.0; json = λ h. absurd (opposite l.json h k.1.1.1.1) } where
+      given_by : is_some l.assume ≡ false → is_some l.steps ≡ false → (v : Valued) → is_some (value_of v l) ≡ true → device_option v ≡ true
+      given_by a s Assume h = absurd (opposite (is_some l.assume) h a)
+      given_by a s Steps h = absurd (opposite (is_some l.steps) h s)
+      given_by a s Device h = refl
 
 report_wanted : (l : Line) (x : Command) → report_of l ≡ Some x → IsWanted reporting l
 report_wanted l x e =
@@ -488,9 +570,12 @@ called_good word words l x waits e h =
     (either (bytes_eq word (codes "analyse")) (analyse_of l) _ x (λ is k. good (codes "analyse") (below analyse_app) analysing (codes "firmware") analyse_has analyse_level refl word words l waits e is (analyse_wanted l x k))
     (either (bytes_eq word (codes "run")) (run_of l) _ x (λ is k. good (codes "run") (below (judging_app (codes "run"))) judging (codes "firmware") (judging_has (codes "run")) run_level refl word words l waits e is (run_wanted l x k))
     (either (bytes_eq word (codes "report")) (report_of l) _ x (λ is k. good (codes "report") (below report_app) reporting (codes "firmware") report_has report_level refl word words l waits e is (report_wanted l x k))
+    (either (bytes_eq word (codes "explain")) (explain_of l) _ x (λ is k. good (codes "explain") (below (judging_app (codes "explain"))) judging (codes "firmware") (judging_has (codes "explain")) explain_level refl word words l waits e is (explain_wanted l x k))
+    (either (bytes_eq word (codes "clear")) (clear_of l) _ x (λ is k. good (codes "clear") (below clear_app) clearing (codes "firmware") clear_has clear_level refl word words l waits e is (clear_wanted l x k))
+    (either (bytes_eq word (codes "premises")) (premises_of l) _ x (λ is k. good (codes "premises") (below (judging_app (codes "premises"))) judging (codes "firmware") (judging_has (codes "premises")) premises_level refl word words l waits e is (premises_wanted l x k))
     (either (bytes_eq word (codes "simulate")) (simulate_of l) _ x (λ is k. good (codes "simulate") (below simulate_app) simulating (codes "firmware") simulate_has simulate_level refl word words l waits e is (simulate_wanted l x k))
     (either (bytes_eq word (codes "demo")) (demo_of l) _ x (λ is k. good (codes "demo") (below demo_app) measuring (codes "size") demo_has demo_level refl word words l waits e is (demo_wanted l x k))
-    (λ k. absurd (no_command x k))))))) h
+    (λ k. absurd (no_command x k)))))))))) h
 
 whole_good : (word : List ℕ) (words : List (List ℕ)) (o : Option Line) (x : Command) → then_words (Some empty_line) words ≡ o → whole word o ≡ Some x → IsGood (word ∷ words)
 whole_good word words None x e h = absurd (no_command x h)

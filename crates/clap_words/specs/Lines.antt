@@ -25,8 +25,12 @@ abbrev pub on_device : App → App
 on_device app = with_rule (with_rule app (value_rule (codes "assume"))) (value_rule (codes "device"))
 
 -- a firmware and a second file
+abbrev pub pair_app : Text → App
+pair_app name = with_rule (with_rule (new_app name) (name_rule (codes "firmware"))) (name_rule (codes "second"))
+
+-- and these options
 abbrev pub judging_app : Text → App
-judging_app name = on_device (with_rule (with_rule (new_app name) (name_rule (codes "firmware"))) (name_rule (codes "second")))
+judging_app name = on_device (pair_app name)
 
 abbrev pub check_app : App
 check_app = judging_app (codes "check")
@@ -36,6 +40,16 @@ run_app = judging_app (codes "run")
 
 abbrev pub report_app : App
 report_app = with_rule (judging_app (codes "report")) (flag_rule (codes "json"))
+
+abbrev pub explain_app : App
+explain_app = judging_app (codes "explain")
+
+-- it has no assumption file
+abbrev pub clear_app : App
+clear_app = with_rule (pair_app (codes "clear")) (value_rule (codes "device"))
+
+abbrev pub premises_app : App
+premises_app = judging_app (codes "premises")
 
 abbrev pub analyse_app : App
 analyse_app = with_rule (on_device (with_rule (new_app (codes "analyse")) (name_rule (codes "firmware")))) (value_rule (codes "steps"))
@@ -62,7 +76,7 @@ bare_app = record {
 -- the program with its commands
 abbrev pub line_app : App
 line_app =
-    with_subcommand (with_subcommand (with_subcommand (with_subcommand (with_subcommand (with_subcommand bare_app check_app.top) analyse_app.top) run_app.top) report_app.top) simulate_app.top) demo_app.top
+    with_subcommand (with_subcommand (with_subcommand (with_subcommand (with_subcommand (with_subcommand (with_subcommand (with_subcommand (with_subcommand bare_app check_app.top) analyse_app.top) run_app.top) report_app.top) explain_app.top) clear_app.top) premises_app.top) simulate_app.top) demo_app.top
 
 -- ---- what is refused before
 

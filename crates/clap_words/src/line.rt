@@ -3,7 +3,7 @@
 ghost use Rattle.std.specs.Prelude.{◌≡◌, IfOk, false};
 ghost use Rattle.clap.specs.Words.{app_of, rule_of, with_rule, with_subcommand};
 ghost use Rattle.clap.specs.declared.builder.command.Command.TheViews.{out-Command as fields_of};
-ghost use Rattle.clap_words.specs.Lines.{name_rule, value_rule, flag_rule, on_device, judging_app, report_app, analyse_app, simulate_app, demo_app, bare_app, line_app};
+ghost use Rattle.clap_words.specs.Lines.{name_rule, value_rule, flag_rule, on_device, pair_app, judging_app, report_app, analyse_app, clear_app, simulate_app, demo_app, bare_app, line_app};
 
 use clap::{Arg, ArgAction, Command};
 use std::alloc::{AllocError, Global};
@@ -53,12 +53,28 @@ fn on_device<'a>(alloc: Global, command: Command<'a>) -> Result<Command<'a>, All
 }
 
 /// A command with a firmware and a second file.
+fn pair<'a>(alloc: Global, name: &'a str) -> Result<Command<'a>, AllocError>
+    ensures app { IfOk result (λ c. app_of c ≡ pair_app name.entry.now) }
+    ensures local { IfOk result (λ c. (fields_of c).has_globals ≡ false) }
+{
+    let command = with_arg(Command::new(alloc, name), name_arg(alloc, "firmware"))?;
+    with_arg(command, name_arg(alloc, "second"))
+}
+
+/// One with the options of all that work on a firmware.
 fn judging<'a>(alloc: Global, name: &'a str) -> Result<Command<'a>, AllocError>
     ensures app { IfOk result (λ c. app_of c ≡ judging_app name.entry.now) }
     ensures local { IfOk result (λ c. (fields_of c).has_globals ≡ false) }
 {
-    let command = with_arg(Command::new(alloc, name), name_arg(alloc, "firmware"))?;
-    on_device(alloc, with_arg(command, name_arg(alloc, "second"))?)
+    on_device(alloc, pair(alloc, name)?)
+}
+
+/// The command `clear`, which has no assumption file.
+fn clear<'a>(alloc: Global) -> Result<Command<'a>, AllocError>
+    ensures app { IfOk result (λ c. app_of c ≡ clear_app) }
+    ensures local { IfOk result (λ c. (fields_of c).has_globals ≡ false) }
+{
+    with_arg(pair(alloc, "clear")?, value_arg(alloc, "device"))
 }
 
 /// The command `report`, which may give JSON.
@@ -122,6 +138,9 @@ pub(crate) fn line_command<'a>(alloc: Global) -> Result<Command<'a>, AllocError>
     program = with_command(program, analyse(alloc)?)?;
     program = with_command(program, judging(alloc, "run")?)?;
     program = with_command(program, report(alloc)?)?;
+    program = with_command(program, judging(alloc, "explain")?)?;
+    program = with_command(program, clear(alloc)?)?;
+    program = with_command(program, judging(alloc, "premises")?)?;
     program = with_command(program, simulate(alloc)?)?;
     with_command(program, demo(alloc)?)
 }

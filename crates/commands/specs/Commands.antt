@@ -10,13 +10,16 @@ use Rattle.commands.specs.declared.line.Valued.{Valued}
 use Rattle.commands.specs.declared.line.Valued.TheVariants as option
 
 -- what is to be done for a firmware of which device, with the names of the files: judge a certificate, write the least one within a
--- number of rounds if there is one, replay a schedule, judge a certificate and tell what it shows, run with devices for a number of
--- choices, and measure the analysis by the image of a number
+-- number of rounds if there is one, replay a schedule, judge a certificate and tell what it shows, where the bytes of its bound go, whether
+-- no step can be flagged, or where one may be, run with devices for a number of choices, and measure the analysis by the image of a number
 pub data Command : Type 0 where
   Check : (device : Device) (firmware certificate : List ℕ) (assume : Option (List ℕ)) → Command
   Analyse : (device : Device) (firmware : List ℕ) (assume : Option (List ℕ)) (steps : Option ℕ) → Command
   Run : (device : Device) (firmware schedule : List ℕ) (assume : Option (List ℕ)) → Command
   Report : (device : Device) (firmware certificate : List ℕ) (assume : Option (List ℕ)) (json : Bool) → Command
+  Explain : (device : Device) (firmware certificate : List ℕ) (assume : Option (List ℕ)) → Command
+  Clear : (device : Device) (firmware certificate : List ℕ) → Command
+  Premises : (device : Device) (firmware certificate : List ℕ) (assume : Option (List ℕ)) → Command
   Simulate : (device : Device) (firmware devices : List ℕ) (assume : Option (List ℕ)) (steps : ℕ) → Command
   Demo : (size : ℕ) → Command
 
@@ -26,6 +29,9 @@ device_for (Check device firmware certificate assume) = device
 device_for (Analyse device firmware assume steps) = device
 device_for (Run device firmware schedule assume) = device
 device_for (Report device firmware certificate assume json) = device
+device_for (Explain device firmware certificate assume) = device
+device_for (Clear device firmware certificate) = device
+device_for (Premises device firmware certificate assume) = device
 device_for (Simulate device firmware devices assume steps) = device
 device_for (Demo size) = M328
 
@@ -51,6 +57,15 @@ name_of (Run device firmware schedule assume) Assumptions = assume
 name_of (Report device firmware certificate assume json) Firmware = Some firmware
 name_of (Report device firmware certificate assume json) Second = Some certificate
 name_of (Report device firmware certificate assume json) Assumptions = assume
+name_of (Explain device firmware certificate assume) Firmware = Some firmware
+name_of (Explain device firmware certificate assume) Second = Some certificate
+name_of (Explain device firmware certificate assume) Assumptions = assume
+name_of (Clear device firmware certificate) Firmware = Some firmware
+name_of (Clear device firmware certificate) Second = Some certificate
+name_of (Clear device firmware certificate) Assumptions = None
+name_of (Premises device firmware certificate assume) Firmware = Some firmware
+name_of (Premises device firmware certificate assume) Second = Some certificate
+name_of (Premises device firmware certificate assume) Assumptions = assume
 name_of (Simulate device firmware devices assume steps) Firmware = Some firmware
 name_of (Simulate device firmware devices assume steps) Second = Some devices
 name_of (Simulate device firmware devices assume steps) Assumptions = assume
@@ -242,6 +257,24 @@ report_of line =
     then on_device (device_in line.device) (λ device. with_two line.first line.second (λ firmware certificate. Report device firmware certificate line.assume line.json))
     else None
 
+abbrev pub explain_of : Line → Option Command
+explain_of line =
+    if is_plain line
+    then on_device (device_in line.device) (λ device. with_two line.first line.second (λ firmware certificate. Explain device firmware certificate line.assume))
+    else None
+
+abbrev pub clear_of : Line → Option Command
+clear_of line =
+    if is_none line.assume && is_plain line
+    then on_device (device_in line.device) (λ device. with_two line.first line.second (λ firmware certificate. Clear device firmware certificate))
+    else None
+
+abbrev pub premises_of : Line → Option Command
+premises_of line =
+    if is_plain line
+    then on_device (device_in line.device) (λ device. with_two line.first line.second (λ firmware certificate. Premises device firmware certificate line.assume))
+    else None
+
 abbrev pub simulated : Device → List ℕ → List ℕ → Option (List ℕ) → Option ℕ → Option Command
 simulated device firmware devices assume None = None
 simulated device firmware devices assume (Some steps) = Some (Simulate device firmware devices assume steps)
@@ -262,9 +295,12 @@ called word line =
     else (if bytes_eq word (codes "analyse") then analyse_of line
     else (if bytes_eq word (codes "run") then run_of line
     else (if bytes_eq word (codes "report") then report_of line
+    else (if bytes_eq word (codes "explain") then explain_of line
+    else (if bytes_eq word (codes "clear") then clear_of line
+    else (if bytes_eq word (codes "premises") then premises_of line
     else (if bytes_eq word (codes "simulate") then simulate_of line
     else (if bytes_eq word (codes "demo") then demo_of line
-    else None)))))
+    else None))))))))
 
 -- no option waits for its value
 abbrev pub whole : List ℕ → Option Line → Option Command

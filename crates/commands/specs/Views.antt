@@ -4,7 +4,7 @@ use Rattle.std.specs.Borrow.{Bor}
 use Rattle.commands.specs.declared.line.Line.{Line as Words}
 use Rattle.commands.specs.declared.command.Command.{Command as Owned}
 use Rattle.commands.specs.declared.command.Command.TheVariants as owned
-use Rattle.commands.specs.Commands.{Command, Check, Analyse, Run, Report, Simulate, Demo, Line}
+use Rattle.commands.specs.Commands.{Command, Check, Analyse, Run, Report, Explain, Clear, Premises, Simulate, Demo, Line}
 
 abbrev pub text_of : Option (Bor (List ℕ)) → Option (List ℕ)
 text_of None = None
@@ -18,5 +18,8 @@ command_seen (owned.Check device firmware certificate assume) = Check device fir
 command_seen (owned.Analyse device firmware assume steps) = Analyse device firmware.now (text_of assume) steps
 command_seen (owned.Run device firmware schedule assume) = Run device firmware.now schedule.now (text_of assume)
 command_seen (owned.Report device firmware certificate assume json) = Report device firmware.now certificate.now (text_of assume) json
+command_seen (owned.Explain device firmware certificate assume) = Explain device firmware.now certificate.now (text_of assume)
+command_seen (owned.Clear device firmware certificate) = Clear device firmware.now certificate.now
+command_seen (owned.Premises device firmware certificate assume) = Premises device firmware.now certificate.now (text_of assume)
 command_seen (owned.Simulate device firmware devices assume steps) = Simulate device firmware.now devices.now (text_of assume) steps
 command_seen (owned.Demo size) = Demo size

@@ -2,7 +2,7 @@
 
 ghost use Rattle.std.specs.Prelude.{◌≡◌, map, None, Some};
 ghost use Rattle.std.specs.Option.{option_map};
-ghost use Rattle.commands.specs.Commands.{Firmware, Second, Assumptions, device_for, name_of, empty_line, then_words, steps_in, size_in, device_called, device_in, is_plain, is_bare, check_of, analyse_of, run_of, report_of, simulate_of, choices_of, choices_in, demo_of, called, whole, command_of};
+ghost use Rattle.commands.specs.Commands.{Firmware, Second, Assumptions, device_for, name_of, empty_line, then_words, steps_in, size_in, device_called, device_in, is_plain, is_bare, check_of, analyse_of, run_of, report_of, explain_of, clear_of, premises_of, simulate_of, choices_of, choices_in, demo_of, called, whole, command_of};
 ghost use Rattle.commands.specs.Views.{text_of, line_of, command_seen};
 
 use crate::line::Line;
@@ -42,6 +42,26 @@ pub enum Command<'a> {
         assume: Option<&'a str>,
         json: bool,
     },
+    /// Judges a certificate for a firmware, and tells where the bytes of its bound go.
+    Explain {
+        device: Device,
+        firmware: &'a str,
+        certificate: &'a str,
+        assume: Option<&'a str>,
+    },
+    /// Judges a certificate for a firmware, and tells whether no step can be flagged. It has no assumption file.
+    Clear {
+        device: Device,
+        firmware: &'a str,
+        certificate: &'a str,
+    },
+    /// Judges a certificate for a firmware, and tells where a step may be flagged.
+    Premises {
+        device: Device,
+        firmware: &'a str,
+        certificate: &'a str,
+        assume: Option<&'a str>,
+    },
     /// Runs a firmware with timers and receivers, for at most so many choices.
     Simulate {
         device: Device,
@@ -66,6 +86,9 @@ impl<'a> Command<'a> {
             Command::Analyse { device, .. } => device,
             Command::Run { device, .. } => device,
             Command::Report { device, .. } => device,
+            Command::Explain { device, .. } => device,
+            Command::Clear { device, .. } => device,
+            Command::Premises { device, .. } => device,
             Command::Simulate { device, .. } => device,
             Command::Demo { .. } => Device::M328,
         }
@@ -80,6 +103,9 @@ impl<'a> Command<'a> {
             Command::Analyse { firmware, .. } => Some(firmware),
             Command::Run { firmware, .. } => Some(firmware),
             Command::Report { firmware, .. } => Some(firmware),
+            Command::Explain { firmware, .. } => Some(firmware),
+            Command::Clear { firmware, .. } => Some(firmware),
+            Command::Premises { firmware, .. } => Some(firmware),
             Command::Simulate { firmware, .. } => Some(firmware),
             Command::Demo { .. } => None,
         }
@@ -94,6 +120,9 @@ impl<'a> Command<'a> {
             Command::Analyse { .. } => None,
             Command::Run { schedule, .. } => Some(schedule),
             Command::Report { certificate, .. } => Some(certificate),
+            Command::Explain { certificate, .. } => Some(certificate),
+            Command::Clear { certificate, .. } => Some(certificate),
+            Command::Premises { certificate, .. } => Some(certificate),
             Command::Simulate { devices, .. } => Some(devices),
             Command::Demo { .. } => None,
         }
@@ -108,6 +137,9 @@ impl<'a> Command<'a> {
             Command::Analyse { assume, .. } => assume,
             Command::Run { assume, .. } => assume,
             Command::Report { assume, .. } => assume,
+            Command::Explain { assume, .. } => assume,
+            Command::Clear { .. } => None,
+            Command::Premises { assume, .. } => assume,
             Command::Simulate { assume, .. } => assume,
             Command::Demo { .. } => None,
         }
@@ -264,6 +296,47 @@ fn report_of<'a>(line: Line<'a>) -> Option<Command<'a>>
     })
 }
 
+fn explain_of<'a>(line: Line<'a>) -> Option<Command<'a>>
+    ensures { option_map command_seen result ≡ explain_of (line_of line.entry) }
+{
+    if !is_plain(&line) {
+        return None;
+    }
+    Some(Command::Explain {
+        device: device_in(line.device)?,
+        firmware: line.first?,
+        certificate: line.second?,
+        assume: line.assume,
+    })
+}
+
+fn clear_of<'a>(line: Line<'a>) -> Option<Command<'a>>
+    ensures { option_map command_seen result ≡ clear_of (line_of line.entry) }
+{
+    if line.assume.is_some() || !is_plain(&line) {
+        return None;
+    }
+    Some(Command::Clear {
+        device: device_in(line.device)?,
+        firmware: line.first?,
+        certificate: line.second?,
+    })
+}
+
+fn premises_of<'a>(line: Line<'a>) -> Option<Command<'a>>
+    ensures { option_map command_seen result ≡ premises_of (line_of line.entry) }
+{
+    if !is_plain(&line) {
+        return None;
+    }
+    Some(Command::Premises {
+        device: device_in(line.device)?,
+        firmware: line.first?,
+        certificate: line.second?,
+        assume: line.assume,
+    })
+}
+
 fn simulate_of<'a>(line: Line<'a>) -> Option<Command<'a>>
     ensures { option_map command_seen result ≡ simulate_of (line_of line.entry) }
 {
@@ -302,6 +375,12 @@ fn called<'a>(word: &str, line: Line<'a>) -> Option<Command<'a>>
         run_of(line)
     } else if word == "report" {
         report_of(line)
+    } else if word == "explain" {
+        explain_of(line)
+    } else if word == "clear" {
+        clear_of(line)
+    } else if word == "premises" {
+        premises_of(line)
     } else if word == "simulate" {
         simulate_of(line)
     } else if word == "demo" {

@@ -1,6 +1,7 @@
 //! The tables, by what they are about, and the nodes that two of them plan.
 
 mod edges;
+mod explaining;
 mod forms;
 mod nesting;
 mod notes;

@@ -1,9 +1,13 @@
 -- What the answers say, by command.
-use Rattle.std.proofs.Common.{◌≡◌, ◌≤◌, ◌*◌, ◌%◌, inl, inr, ℕ, List, [], length, Option, Some, None, Result, Ok, Err, refl, sym, ◌∙◌, subst}
-use Rattle.std.specs.Prelude.{◌↔◌}
+use Rattle.std.proofs.Common.{◌≡◌, ◌≤◌, ◌*◌, ◌%◌, inl, inr, ℕ, List, [], length, Option, Some, None, Result, Ok, Err, refl, sym, ◌∙◌, subst, arith}
+use Rattle.std.specs.Prelude.{◌↔◌, ◌⊎◌, Contains}
 use Rattle.std.specs.Option.{is_some}
 use Rattle.avr_model.specs.declared.assumption.Entry.{Entry}
+use Rattle.avr_model.specs.declared.choice.Choice.{Choice}
 use Rattle.avr_model.specs.declared.device.Device.{Device}
+use Rattle.avr_model.specs.Devices.{device_of}
+use Rattle.avr_model.specs.State.{State}
+use Rattle.avr_model.specs.Vectors.{vector_word}
 use Rattle.avr_model.specs.Image.{WORDS, IsRawImage, raw_words}
 use Rattle.flash_image.specs.Narrowing.{NarrowingIsExact}
 use Rattle.indirect_targets.specs.Exact.{ReadingIsExact}
@@ -16,29 +20,49 @@ use Rattle.round_laws.specs.Laws.{RoundsAreLeast, SolutionsAreValid}
 use Rattle.answer_laws.specs.Laws.{AnswersAreOne}
 use Rattle.witness_search.specs.Laws.{WaypointsAreOne}
 use Rattle.demo_image.specs.Image.{demo_words}
-use Rattle.certificate.specs.Valid.{IsValid}
+use Rattle.certificate.specs.Valid.{IsSound, IsValid}
 use Rattle.device_hooks.specs.declared.devices.DevicesFault.{DevicesFault}
 use Rattle.device_hooks.specs.Spelling.{Setup}
 use Rattle.device_hooks.specs.Reading.{setup_in}
 use Rattle.device_hooks.specs.Exact.{IsReading as IsDevices, ReadIsSpelled as DevicesAreSpelled, SpelledIsRead as DevicesAreRead}
 use Rattle.device_hooks.specs.Simulating.{simulation_of}
 use Rattle.device_hooks.specs.Laws.{SimulationsAreBounded}
-use Rattle.commands.specs.Commands.{Command, Check, Analyse, Run, Report, Simulate, Demo, device_for}
+use Rattle.chain_explain.specs.Laws.{ExplanationsTell}
+use Rattle.clear_laws.specs.Clear.{word_of_flag}
+use Rattle.store_laws.specs.declared.verdict.ClearVerdict.{ClearVerdict}
+use Rattle.store_laws.specs.declared.verdict.ClearVerdict.TheVariants as clear
+use Rattle.store_laws.specs.Verdict.{AreAllClear, IsFirstUnclear, IsClearVerdict, AreSites}
+use Rattle.store_laws.specs.Laws.{ClearVerdictsAreOne, ClearFirmwaresAreNeverFlagged, FlaggedRunsEndAtSites, EndsByTakeAt}
+use Rattle.store_clear.specs.Laws.{ClearWhereNoSites}
+use Rattle.commands.specs.Commands.{Command, Check, Analyse, Run, Report, Explain, Clear, Premises, Simulate, Demo, device_for}
 use Rattle.replies.specs.Firmware.{IsFirmware, firmware_words}
 use Rattle.replies.specs.Texts.{devices_refused, accepted, run_text}
 use Rattle.replies.specs.Reading.{Whole, Contents}
-use Rattle.replies.specs.Reply.{Reply, WithOptional, WithImage, WithList, AcceptedReply, AnalyseReply, SimulateReply, DemoReply, IsReply}
-use Rattle.replies.specs.Headline.{AreLoaded, AreRead, IsListOf, StandFor, HoldsAsRead, IsLeastAsRead, IsSimulatedAsRead, IsMeasured, AnswersRounds, AnswersDevices, AcceptingRepliesHold, RepliesAreExact}
+use Rattle.replies.specs.Reply.{Reply, WithOptional, WithImage, WithList, ClearSays, ClearReply, AcceptedReply, AnalyseReply, SimulateReply, DemoReply, IsReply}
+use Rattle.replies.specs.Headline.{AreLoaded, AreRead, IsListOf, StandFor, Shows, HoldsAsRead, IsLeastAsRead, IsSimulatedAsRead, IsMeasured, SaysWhether, AcceptsExactly, AnswersRounds, AnswersDevices, AcceptingRepliesHold, RepliesAreExact}
 use Rattle.replies.proofs.Accepting.{zero_file, zero_optional, zero_image, zero_list, zero_refused, no_one, IsJudged, file_read, optional_read, Accepting, IsJudgement, HoldsOf, judgement_holds, image_read, list_read, judged_by, valid_judged}
 use Rattle.replies.proofs.Least.{analysis_best, best_bounds, Ends, analyse_ends, says_ends, not_written}
 
 no_fourteen : ◌≡◌ {A = ℕ} 0 14 → ⊥
 no_fourteen e = cc
 
+no_thirteen : ◌≡◌ {A = ℕ} 0 13 → ⊥
+no_thirteen e = cc
+
+one_thirteen : ◌≡◌ {A = ℕ} 1 13 → ⊥
+one_thirteen e = cc
+
 -- what is read of the text of devices is spelled so, and what is spelled is read
 pub record DevicesAreExact : Type 0 where
   pub read : DevicesAreSpelled
   pub spelled : DevicesAreRead
+
+-- which certificates are clear, and where runs may be flagged under others
+pub record ClearIsTold : Type 0 where
+  pub one : ClearVerdictsAreOne
+  pub never : ClearFirmwaresAreNeverFlagged
+  pub ends : FlaggedRunsEndAtSites
+  pub empty : ClearWhereNoSites
 
 module _
     (raw : (bytes words : List ℕ) → IsRawImage bytes words → words ≡ raw_words bytes)
@@ -55,36 +79,139 @@ module _
     (solutions : SolutionsAreValid)
     (runs : ReplaysAreRuns)
     (devices : DevicesAreExact)
-    (simulations : SimulationsAreBounded) where
+    (simulations : SimulationsAreBounded)
+    (explanations : ExplanationsTell)
+    (told_clear : ClearIsTold) where
   -- ---- commands that judge
 
   abbrev check_next : Device → List ℕ → List ℕ → Option (List ℕ) → List ℕ → List ℕ → List Entry → Claim → Reply
   check_next device fw cert assume = AcceptedReply (Check device fw cert assume)
 
   holds_as : (command : Command) (assume : Option (List ℕ)) (seen : Contents) (text : List ℕ) (h : HoldsOf raw images narrowing lists read spelled bounds (device_for command) (AcceptedReply command) assume seen text)
-      → HoldsAsRead command assume seen text
-  holds_as command assume seen text h =
+      → Shows command h.firmware h.words h.A h.claim text → HoldsAsRead command assume seen text
+  holds_as command assume seen text h shows =
       record {
         firmware = h.firmware;
         certificate = h.certificate;
         list = h.list;
         read = h.are_read;
-        holds = record { words = h.words; claim = h.claim; assumptions = h.A; stand = h.stand; bounded = h.bounded; told = h.told };
+        holds = record { words = h.words; claim = h.claim; assumptions = h.A; stand = h.stand; bounded = h.bounded; told = h.told; shows = shows };
       }
 
+  explained_as : (device : Device) (fw cert : List ℕ) (assume : Option (List ℕ)) (seen : Contents) (text : List ℕ)
+      → HoldsOf raw images narrowing lists read spelled bounds device (AcceptedReply (Explain device fw cert assume)) assume seen text → HoldsAsRead (Explain device fw cert assume) assume seen text
+  explained_as device fw cert assume seen text h =
+      holds_as (Explain device fw cert assume) assume seen text h
+      (record {
+        explanation = h.told.explanation;
+        is = h.told.is;
+        tells = explanations h.words h.A h.claim h.told.explanation h.valid.sound h.told.is;
+        told = h.told.says.1;
+      })
+
   -- a command that answers 0 where a certificate is valid
+  record SaysValid (words : List ℕ) (A : List Entry) (c : Claim) (status : ℕ) : Type 0 where
+    accepted : (status ≡ 0) ↔ IsValid words A c
+    unclear : status ≡ 13 → ⊥
+    rejected : (status ≡ 1) ↔ (IsValid words A c → ⊥)
+
   accepts_by : (words : List ℕ) (A : List Entry) (next : Claim → Reply) (c : Claim) (status : ℕ) (text : List ℕ) → ((s : ℕ) (t : List ℕ) → next c s t → s ≡ 0) → IsJudged words A next c status text
-      → (status ≡ 0) ↔ IsValid words A c
-  accepts_by words A next c status text zero (inl h) = (λ e. h.0, λ v. zero status text h.1)
-  accepts_by words A next c status text zero (inr h) = (λ e. absurd (no_one (sym e ∙ h.1)), λ v. absurd (h.0 v))
+      → SaysValid words A c status
+  accepts_by words A next c status text zero (inl h) =
+      let z = zero status text h.1 in
+      record { accepted = (λ e. h.0, λ v. z); unclear = λ e. no_thirteen (sym z ∙ e); rejected = (λ e. absurd (no_one (sym z ∙ e)), λ n. absurd (n h.0)) }
+  accepts_by words A next c status text zero (inr h) =
+      record { accepted = (λ e. absurd (no_one (sym e ∙ h.1)), λ v. absurd (h.0 v)); unclear = λ e. one_thirteen (sym h.1 ∙ e); rejected = (λ e. h.0, λ n. h.1) }
 
   accepts_valid : (command : Command) (fw cert : List ℕ) (assume : Option (List ℕ)) (seen : Contents) (status : ℕ) (text : List ℕ)
-      → ((bytes words : List ℕ) (A : List Entry) (c : Claim) (s : ℕ) (t : List ℕ) → AcceptedReply command bytes words A c s t → s ≡ 0) → IsJudgement (device_for command) (AcceptedReply command) fw cert assume seen status text
-      → (firmware certificate : List ℕ) (list : Option (List ℕ)) (words : List ℕ) (claim : Claim) (A : List Entry)
-      → AreRead assume seen firmware certificate list → StandFor (device_for command) firmware certificate list words claim A → (status ≡ 0) ↔ IsValid words A claim
-  accepts_valid command fw cert assume seen status text zero h firmware certificate list words claim A are stand =
-      accepts_by words A (AcceptedReply command firmware words A) claim status text (zero firmware words A claim)
-      (judged_by raw images narrowing lists read spelled bounds (device_for command) (AcceptedReply command) fw cert assume seen firmware certificate list words claim A are stand verdicts status text h)
+      → ((bytes words : List ℕ) (A : List Entry) (c : Claim) (s : ℕ) (t : List ℕ) → AcceptedReply command bytes words A c s t → s ≡ 0)
+      → ((words : List ℕ) (A : List Entry) (c : Claim) (s : ℕ) → SaysValid words A c s → SaysWhether command words A c s)
+      → IsJudgement (device_for command) (AcceptedReply command) fw cert assume seen status text → AcceptsExactly command assume seen status
+  accepts_valid command fw cert assume seen status text zero says h firmware certificate list words claim A are stand =
+      says words A claim status
+      (accepts_by words A (AcceptedReply command firmware words A) claim status text (zero firmware words A claim)
+      (judged_by raw images narrowing lists read spelled bounds (device_for command) (AcceptedReply command) fw cert assume seen firmware certificate list words claim A are stand verdicts status text h))
+
+  -- ---- clear and premises
+
+  none_apart : (node pc : ℕ) → ◌≡◌ {A = ClearVerdict} clear.Clear (clear.Unclear node pc) → ⊥
+  none_apart node pc e = cc
+
+  clear_by : (words : List ℕ) (c : Claim) (status : ℕ) (text : List ℕ) (v : ClearVerdict) → IsClearVerdict words c v → ClearSays words c v status text → IsValid words [] c
+      → (device : Device) (fw cert : List ℕ) → SaysWhether (Clear device fw cert) words [] c status
+  clear_by words c status text clear.Clear is says valid device fw cert =
+      record {
+        accepted = (λ e. (valid, is), λ a. says.0);
+        unclear = (
+          λ e. absurd (no_thirteen (sym says.0 ∙ e)),
+          λ b. absurd (none_apart b.1.0 b.1.1 (told_clear.one words c clear.Clear (clear.Unclear b.1.0 b.1.1) is b.1.2)),
+        );
+        rejected = (λ e. absurd (no_one (sym says.0 ∙ e)), λ n. absurd (n valid));
+      }
+  clear_by words c status text (clear.Unclear node pc) is says valid device fw cert =
+      record {
+        accepted = (λ e. absurd (no_thirteen (sym e ∙ says.0)), λ a. absurd (none_apart node pc (told_clear.one words c clear.Clear (clear.Unclear node pc) a.1 is)));
+        unclear = (λ e. (valid, (node, pc, is)), λ b. says.0);
+        rejected = (λ e. absurd (one_thirteen (sym e ∙ says.0)), λ n. absurd (n valid));
+      }
+
+  clear_says : (words : List ℕ) (c : Claim) (status : ℕ) (text : List ℕ) (device : Device) (fw cert : List ℕ) → IsJudged words [] (ClearReply words) c status text → SaysWhether (Clear device fw cert) words [] c status
+  clear_says words c status text device fw cert (inl h) = clear_by words c status text h.1.verdict h.1.is h.1.says h.0 device fw cert
+  clear_says words c status text device fw cert (inr h) =
+      record {
+        accepted = (λ e. absurd (no_one (sym e ∙ h.1)), λ a. absurd (h.0 a.0));
+        unclear = (λ e. absurd (one_thirteen (sym h.1 ∙ e)), λ b. absurd (h.0 b.0));
+        rejected = (λ e. h.0, λ n. h.1);
+      }
+
+  no_list : (list : Option (List ℕ)) (A : List Entry) → list ≡ None → IsListOf list A → [] ≡ A
+  no_list None A e h = sym h
+  no_list (Some bytes) A e h = absurd (let wrong = e in cc)
+
+  clear_read : (device : Device) (fw cert : List ℕ) (seen : Contents) (status : ℕ) (text : List ℕ) → IsJudgement device (AcceptedReply (Clear device fw cert)) fw cert None seen status text
+      → AcceptsExactly (Clear device fw cert) None seen status
+  clear_read device fw cert seen status text h firmware certificate list words claim A are stand =
+      let empty : [] ≡ A = no_list list A are.loaded.list_read stand.mean.assumptions in
+      let judged = judged_by raw images narrowing lists read spelled bounds device (AcceptedReply (Clear device fw cert)) fw cert None seen firmware certificate list words claim A are stand verdicts status text h in
+      subst (λ B. SaysWhether (Clear device fw cert) words B claim status) empty
+      (clear_says words claim status text device fw cert (subst (λ B. IsJudged words B (ClearReply words) claim status text) (sym empty) judged))
+
+  all_clear : (words : List ℕ) (c : Claim) (text : List ℕ) (v : ClearVerdict) → IsClearVerdict words c v → ClearSays words c v 0 text → AreAllClear words [] c
+  all_clear words c text clear.Clear is says = is
+  all_clear words c text (clear.Unclear node pc) is says = absurd (no_thirteen says.0)
+
+  clear_as : (device : Device) (fw cert : List ℕ) (seen : Contents) (text : List ℕ)
+      → HoldsOf raw images narrowing lists read spelled bounds device (AcceptedReply (Clear device fw cert)) None seen text → HoldsAsRead (Clear device fw cert) None seen text
+  clear_as device fw cert seen text h =
+      let empty : [] ≡ h.A = no_list h.list h.A h.are_read.loaded.list_read h.stand.mean.assumptions in
+      holds_as (Clear device fw cert) None seen text h
+      (told_clear.never h.words h.claim h.fit h.stand.fits.claim (subst (λ B. IsSound h.words B h.claim) (sym empty) h.valid.sound) (all_clear h.words h.claim text h.told.verdict h.told.is h.told.says))
+
+  no_site : {X : Type 0} (x : X) → Contains [] x → ⊥
+  no_site x h = absurd (omega (arith, h.1))
+
+  none_ends : (words : List ℕ) (A : List Entry) (m : State) (choices : List Choice) (word : ℕ) → Contains [] word ⊎ EndsByTakeAt words A [] m choices → ⊥
+  none_ends words A m choices word (inl h) = no_site word h
+  none_ends words A m choices word (inr h) = no_site (vector_word (device_of words) h.vector) h.word
+
+  premises_as : (device : Device) (fw cert : List ℕ) (assume : Option (List ℕ)) (seen : Contents) (text : List ℕ)
+      → HoldsOf raw images narrowing lists read spelled bounds device (AcceptedReply (Premises device fw cert assume)) assume seen text → HoldsAsRead (Premises device fw cert assume) assume seen text
+  premises_as device fw cert assume seen text h =
+      let ends = told_clear.ends h.words h.A h.claim h.told.sites h.told.nevers h.fit h.stand.fits.claim h.valid.sound h.told.are h.told.are_nevers in
+      holds_as (Premises device fw cert assume) assume seen text h
+      (record {
+        sites = h.told.sites;
+        nevers = h.told.nevers;
+        are = h.told.are;
+        are_nevers = h.told.are_nevers;
+        ends = ends;
+        none_flagged = λ no_sites no_nevers m choices flag reset run stops.
+            none_ends h.words h.A m choices (word_of_flag flag)
+            (subst (λ (xs : List ℕ). Contains xs (word_of_flag flag) ⊎ EndsByTakeAt h.words h.A [] m choices) no_sites
+            (subst (λ (xs : List ℕ). Contains h.told.sites (word_of_flag flag) ⊎ EndsByTakeAt h.words h.A xs m choices) no_nevers (ends m choices flag reset run stops)));
+        as_clear = λ none verdict is. told_clear.empty h.words h.claim verdict h.told.sites is (subst (λ B. AreSites h.words B h.claim h.told.sites) none h.told.are);
+        told = h.told.says.1;
+      })
 
   no_reply : Accepting
   no_reply bytes words A c status text = ⊥
@@ -205,22 +332,36 @@ module _
   pub replies_hold : AcceptingRepliesHold
   replies_hold (Check device fw cert assume) seen status text h has =
       λ zero. holds_as (Check device fw cert assume) assume seen text
-      (judgement_holds raw images narrowing lists read spelled bounds device (AcceptedReply (Check device fw cert assume)) fw cert assume seen text (has zero) (subst (λ s. IsReply (Check device fw cert assume) seen s text) zero h))
+      (judgement_holds raw images narrowing lists read spelled bounds device (AcceptedReply (Check device fw cert assume)) fw cert assume seen text (has zero) (subst (λ s. IsReply (Check device fw cert assume) seen s text) zero h)) tt
   replies_hold (Analyse device fw assume steps) seen status text h has =
       λ zero. zero_analysis device fw assume steps seen text (has zero) (subst (λ s. IsReply (Analyse device fw assume steps) seen s text) zero h)
   replies_hold (Run device fw schedule assume) seen status text h has = tt
   replies_hold (Report device fw cert assume json) seen status text h has =
       λ zero. holds_as (Report device fw cert assume json) assume seen text
-      (judgement_holds raw images narrowing lists read spelled bounds device (AcceptedReply (Report device fw cert assume json)) fw cert assume seen text (has zero) (subst (λ s. IsReply (Report device fw cert assume json) seen s text) zero h))
+      (judgement_holds raw images narrowing lists read spelled bounds device (AcceptedReply (Report device fw cert assume json)) fw cert assume seen text (has zero) (subst (λ s. IsReply (Report device fw cert assume json) seen s text) zero h)) tt
+  replies_hold (Explain device fw cert assume) seen status text h has =
+      λ zero. explained_as device fw cert assume seen text
+      (judgement_holds raw images narrowing lists read spelled bounds device (AcceptedReply (Explain device fw cert assume)) fw cert assume seen text (has zero) (subst (λ s. IsReply (Explain device fw cert assume) seen s text) zero h))
+  replies_hold (Clear device fw cert) seen status text h has =
+      λ zero. clear_as device fw cert seen text
+      (judgement_holds raw images narrowing lists read spelled bounds device (AcceptedReply (Clear device fw cert)) fw cert None seen text (has zero) (subst (λ s. IsReply (Clear device fw cert) seen s text) zero h))
+  replies_hold (Premises device fw cert assume) seen status text h has =
+      λ zero. premises_as device fw cert assume seen text
+      (judgement_holds raw images narrowing lists read spelled bounds device (AcceptedReply (Premises device fw cert assume)) fw cert assume seen text (has zero) (subst (λ s. IsReply (Premises device fw cert assume) seen s text) zero h))
   replies_hold (Simulate device fw dev assume steps) seen status text h has =
       λ zero. zero_simulation device fw dev assume steps seen text (has zero) (subst (λ s. IsReply (Simulate device fw dev assume steps) seen s text) zero h)
   replies_hold (Demo size) seen status text h has = λ zero. measured size text (subst (λ s. IsReply (Demo size) seen s text) zero h)
 
   pub replies_are_exact : RepliesAreExact
-  replies_are_exact (Check device fw cert assume) seen status text h = accepts_valid (Check device fw cert assume) fw cert assume seen status text (λ bytes ws B c s t k. k.0) h
+  replies_are_exact (Check device fw cert assume) seen status text h = accepts_valid (Check device fw cert assume) fw cert assume seen status text (λ bytes ws B c s t k. k.0) (λ ws B c s k. record { accepted = k.accepted; unclear = (k.unclear, λ b. absurd b); rejected = k.rejected }) h
   replies_are_exact (Analyse device fw assume steps) seen status text h = analysis_read device fw assume steps seen status text h
   replies_are_exact (Run device fw schedule assume) seen status text h = tt
   replies_are_exact (Report device fw cert assume json) seen status text h =
-      accepts_valid (Report device fw cert assume json) fw cert assume seen status text (λ bytes ws B c s t k. k.0) h
+      accepts_valid (Report device fw cert assume json) fw cert assume seen status text (λ bytes ws B c s t k. k.0) (λ ws B c s k. record { accepted = k.accepted; unclear = (k.unclear, λ b. absurd b); rejected = k.rejected }) h
+  replies_are_exact (Explain device fw cert assume) seen status text h =
+      accepts_valid (Explain device fw cert assume) fw cert assume seen status text (λ bytes ws B c s t k. k.says.0) (λ ws B c s k. record { accepted = k.accepted; unclear = (k.unclear, λ b. absurd b); rejected = k.rejected }) h
+  replies_are_exact (Clear device fw cert) seen status text h = clear_read device fw cert seen status text h
+  replies_are_exact (Premises device fw cert assume) seen status text h =
+      accepts_valid (Premises device fw cert assume) fw cert assume seen status text (λ bytes ws B c s t k. k.says.0) (λ ws B c s k. record { accepted = k.accepted; unclear = (k.unclear, λ b. absurd b); rejected = k.rejected }) h
   replies_are_exact (Simulate device fw dev assume steps) seen status text h = simulation_read device fw dev assume steps seen status text h
   replies_are_exact (Demo size) seen status text h = says_ends answers rounds solutions bounds runs (demo_words size) [] None status text (demo_ends size status text h)

@@ -1,6 +1,7 @@
 pub mod ElfWords
 pub mod Trials
 pub mod Analysing
+pub mod Sites
 pub mod One
 pub mod Accepting
 pub mod Least

@@ -1,5 +1,5 @@
 -- What was read has one answer.
-use Rattle.std.proofs.Common.{◌≡◌, ℕ, Bool, true, false, List, [], ◌∷◌, Option, Some, None, Result, Ok, Err, refl, sym, ap, ◌∙◌, subst}
+use Rattle.std.proofs.Common.{◌≡◌, ℕ, Bool, true, false, List, [], ◌∷◌, Option, Some, None, Result, Ok, Err, refl, sym, ap, ap₂, ◌∙◌, subst}
 use Rattle.avr_model.specs.declared.assumption.Entry.{Entry}
 use Rattle.sb_base.specs.Lines.{Place, TextLine}
 use Rattle.indirect_targets.specs.declared.fault.AssumeText.{AssumeText}
@@ -16,15 +16,23 @@ use Rattle.answer_laws.specs.Laws.{AnswersAreOne}
 use Rattle.witness_search.specs.Laws.{WaypointsAreOne}
 use Rattle.cert_check.specs.declared.verdict.Verdict.{Verdict}
 use Rattle.cert_check.specs.declared.verdict.Verdict.TheVariants.{Accepted, Rejected}
+use Rattle.flash_image.specs.Naming.{Named}
+use Rattle.chain_explain.specs.Laws.{ExplanationsAreOne}
+use Rattle.reports.specs.Explained.{explanation_text}
+use Rattle.store_laws.specs.declared.verdict.ClearVerdict.{ClearVerdict}
+use Rattle.store_laws.specs.declared.verdict.ClearVerdict.TheVariants as clear
+use Rattle.store_laws.specs.Laws.{ClearVerdictsAreOne}
+use Rattle.store_clear.specs.Laws.{SitesAreOne, NeversAreOne}
 use Rattle.device_hooks.specs.declared.devices.DevicesFault.{DevicesFault}
 use Rattle.device_hooks.specs.Spelling.{Setup}
 use Rattle.device_hooks.specs.Reading.{setup_in}
 use Rattle.device_hooks.specs.Simulating.{simulation_of}
-use Rattle.commands.specs.Commands.{Command, Check, Analyse, Run, Report, Simulate, Demo, Firmware, Second, Assumptions, device_for, name_of}
-use Rattle.replies.specs.Firmware.{firmware_words, firmware_fault}
+use Rattle.commands.specs.Commands.{Command, Check, Analyse, Run, Report, Explain, Clear, Premises, Simulate, Demo, Firmware, Second, Assumptions, device_for, name_of}
+use Rattle.replies.specs.Firmware.{firmware_words, firmware_fault, firmware_names}
 use Rattle.replies.specs.Texts.{too_long, assumptions_refused, certificate_refused, schedule_malformed, schedule_illegal, devices_refused, rejected, witness_rejected, run_text}
+use Rattle.replies.specs.Places.{clear_text, unclear_text, premises_text}
 use Rattle.replies.specs.Reading.{Seen, Unread, Whole, Long}
-use Rattle.replies.specs.Reply.{Reply, Says, Refuses, WithFile, WithBytes, WithOptional, ImageBy, WithImage, ListBy, WithList, attains, AttainedBy, WitnessReply, VerdictReply, JudgedReply, CertificateReply, RunReply, EndsBefore, ScheduleReply, told_of, AcceptedReply, SimulateReply, FlashReply, WorkReply}
+use Rattle.replies.specs.Reply.{Reply, Says, Refuses, WithFile, WithBytes, WithOptional, ImageBy, WithImage, ListBy, WithList, attains, AttainedBy, WitnessReply, VerdictReply, JudgedReply, CertificateReply, RunReply, EndsBefore, ScheduleReply, told_of, ExplainReply, ClearSays, ClearReply, PremisesReply, AcceptedReply, SimulateReply, FlashReply, WorkReply}
 use Rattle.replies.specs.Headline.{RepliesAreOne}
 use Rattle.replies.proofs.Analysing.{analyse_one, demo_one}
 
@@ -93,7 +101,8 @@ schedule_one words A (Err at) s t a b h k = says_one 9 (schedule_malformed at) s
 schedule_one words A (Ok read) s t a b h k =
     ends_one read.1.rest read.1.at (RunReply (replay_of words A read.0)) (run_one (replay_of words A read.0)) s t a b h k
 
-module _ (read : ReadIsSpelled) (one : VerdictsAreOne) (answers : AnswersAreOne) (chains : WaypointsAreOne) where
+module _ (read : ReadIsSpelled) (one : VerdictsAreOne) (answers : AnswersAreOne) (chains : WaypointsAreOne) (explanations : ExplanationsAreOne)
+    (clears : ClearVerdictsAreOne) (places : SitesAreOne) (takes : NeversAreOne) where
   judged_one : (words : List ℕ) (A : List Entry) (next : Claim → Reply) (c : Claim) → IsClaim c → IsOne (next c) → IsOne (JudgedReply words A next c)
   judged_one words A next c claim f s t a b h k =
       let e = one words A c h.verdict k.verdict claim h.is k.is in
@@ -106,16 +115,37 @@ module _ (read : ReadIsSpelled) (one : VerdictsAreOne) (answers : AnswersAreOne)
   read_one : (words : List ℕ) (A : List Entry) (next : Claim → Reply) (bytes : List ℕ) → ((c : Claim) → IsClaim c → IsOne (next c)) → IsOne (CertificateReply words A next (certificate_in bytes))
   read_one words A next bytes g = certificate_one words A next (certificate_in bytes) (λ c e. (read bytes c e).1.claim) g
 
-  accepted_one : (command : Command) (firmware words : List ℕ) (A : List Entry) (c : Claim) → IsClaim c → IsOne (AcceptedReply command firmware words A c)
-  accepted_one command firmware words A c claim = says_one 0 (told_of command firmware c)
+  explain_one : (names : List Named) (words : List ℕ) (A : List Entry) (c : Claim) → IsClaim c → IsOne (ExplainReply names words A c)
+  explain_one names words A c claim s t a b h k =
+      let e = explanations words A c h.explanation k.explanation claim h.is k.is in
+      (h.says.0 ∙ sym k.says.0, h.says.1 ∙ (ap (explanation_text c.bound names) e ∙ sym k.says.1))
+
+  clear_says_one : (words : List ℕ) (c : Claim) (v : ClearVerdict) → IsOne (ClearSays words c v)
+  clear_says_one words c clear.Clear s t a b h k = says_one 0 (clear_text c.bound) s t a b h k
+  clear_says_one words c (clear.Unclear node pc) s t a b h k = says_one 13 (unclear_text words node pc) s t a b h k
+
+  clear_one : (words : List ℕ) (c : Claim) → IsClaim c → IsOne (ClearReply words c)
+  clear_one words c claim s t a b h k =
+      let e = clears words c h.verdict k.verdict h.is k.is in clear_says_one words c k.verdict s t a b (subst (λ v. ClearSays words c v s a) e h.says) k.says
+
+  premises_one : (names : List Named) (words : List ℕ) (A : List Entry) (c : Claim) → IsClaim c → IsOne (PremisesReply names words A c)
+  premises_one names words A c claim s t a b h k =
+      let e = places words A c h.sites k.sites h.are k.are in
+      let f = takes words A c h.nevers k.nevers h.are_nevers k.are_nevers in
+      (h.says.0 ∙ sym k.says.0, h.says.1 ∙ (ap₂ (premises_text words names c.bound) e f ∙ sym k.says.1))
 
   flash_one : (command : Command) (firmware bytes words : List ℕ) (A : List Entry) → IsOne (FlashReply command firmware bytes words A)
   flash_one (Check device fw cert assume) firmware bytes words A =
-      read_one words A (AcceptedReply (Check device fw cert assume) firmware words A) bytes (accepted_one (Check device fw cert assume) firmware words A)
+      read_one words A (AcceptedReply (Check device fw cert assume) firmware words A) bytes (λ c claim. says_one 0 (told_of (Check device fw cert assume) firmware c))
   flash_one (Analyse device fw assume steps) firmware bytes words A = analyse_one answers chains words A steps
   flash_one (Run device fw schedule assume) firmware bytes words A = schedule_one words A (schedule_in _)
   flash_one (Report device fw cert assume json) firmware bytes words A =
-      read_one words A (AcceptedReply (Report device fw cert assume json) firmware words A) bytes (accepted_one (Report device fw cert assume json) firmware words A)
+      read_one words A (AcceptedReply (Report device fw cert assume json) firmware words A) bytes (λ c claim. says_one 0 (told_of (Report device fw cert assume json) firmware c))
+  flash_one (Explain device fw cert assume) firmware bytes words A =
+      read_one words A (AcceptedReply (Explain device fw cert assume) firmware words A) bytes (explain_one (firmware_names firmware) words A)
+  flash_one (Clear device fw cert) firmware bytes words A = read_one words [] (ClearReply words) bytes (clear_one words)
+  flash_one (Premises device fw cert assume) firmware bytes words A =
+      read_one words A (AcceptedReply (Premises device fw cert assume) firmware words A) bytes (premises_one (firmware_names firmware) words A)
   flash_one (Simulate device fw devices assume steps) firmware bytes words A = simulate_one words A steps (setup_in bytes)
   flash_one (Demo size) firmware bytes words A = demo_one answers chains size
 
@@ -129,6 +159,9 @@ module _ (read : ReadIsSpelled) (one : VerdictsAreOne) (answers : AnswersAreOne)
   work_one (Analyse device fw assume steps) firmware second list = on_flash_one (Analyse device fw assume steps) firmware second list
   work_one (Run device fw schedule assume) firmware second list = on_flash_one (Run device fw schedule assume) firmware second list
   work_one (Report device fw cert assume json) firmware second list = on_flash_one (Report device fw cert assume json) firmware second list
+  work_one (Explain device fw cert assume) firmware second list = on_flash_one (Explain device fw cert assume) firmware second list
+  work_one (Clear device fw cert) firmware second list = on_flash_one (Clear device fw cert) firmware second list
+  work_one (Premises device fw cert assume) firmware second list = on_flash_one (Premises device fw cert assume) firmware second list
   work_one (Simulate device fw devices assume steps) firmware second list = on_flash_one (Simulate device fw devices assume steps) firmware second list
   work_one (Demo size) firmware second list = demo_one answers chains size
 

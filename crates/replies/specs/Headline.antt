@@ -16,14 +16,25 @@ use Rattle.round_rules.specs.declared.refusal.Refusal.{Refusal}
 use Rattle.round_rules.specs.declared.refusal.Refusal.TheVariants.{Memory}
 use Rattle.round_rules.specs.Refusals.{GoesBeyond}
 use Rattle.round_rules.specs.Solutions.{IsAnswer, IsRefusal}
+use Rattle.flash_image.specs.Naming.{Named, SayTheSame}
+use Rattle.chain_explain.specs.declared.explanation.Explanation.{Explanation}
+use Rattle.chain_explain.specs.Explanation.{IsExplanation}
+use Rattle.chain_explain.specs.Told.{Tells}
+use Rattle.reports.specs.Explained.{explanation_text}
+use Rattle.clear_laws.specs.Clear.{NeverFlagged}
+use Rattle.store_laws.specs.Laws.{IsBoundedAndClear, EndFlaggedAt}
+use Rattle.store_laws.specs.declared.verdict.ClearVerdict.{ClearVerdict}
+use Rattle.store_laws.specs.declared.verdict.ClearVerdict.TheVariants.{Clear as AllClear}
+use Rattle.store_laws.specs.Verdict.{AreAllClear, IsFirstUnclear, IsClearVerdict, AreSites, AreNevers}
 use Rattle.demo_image.specs.Image.{demo_words}
 use Rattle.device_hooks.specs.Spelling.{Setup}
 use Rattle.device_hooks.specs.Exact.{IsReading as IsDevices}
 use Rattle.device_hooks.specs.Simulating.{simulation_of}
-use Rattle.commands.specs.Commands.{Command, Check, Analyse, Run, Report, Simulate, Demo, device_for}
+use Rattle.commands.specs.Commands.{Command, Check, Analyse, Run, Report, Explain, Clear, Premises, Simulate, Demo, device_for}
 use Rattle.local_rules.specs.Machine.{AreWords}
-use Rattle.replies.specs.Firmware.{IsFirmware, firmware_words}
+use Rattle.replies.specs.Firmware.{IsFirmware, firmware_words, firmware_names}
 use Rattle.replies.specs.Texts.{accepted, run_text, demo_text}
+use Rattle.replies.specs.Places.{premises_text}
 use Rattle.replies.specs.Reading.{Seen, Whole, Contents}
 use Rattle.replies.specs.Analysis.{TrialsFind}
 use Rattle.replies.specs.Reply.{AcceptedReply, IsReply}
@@ -62,9 +73,37 @@ pub record StandFor (device : Device) (firmware certificate : List ℕ) (list : 
 
 -- ---- a certificate that is accepted
 
+-- The text is that of the certificate's explanation, with these names of words, and this tells where the bytes of the bound go.
+pub record IsExplained (names : List Named) (words : List ℕ) (A : List Entry) (c : Claim) (text : List ℕ) : Type 0 where
+  pub explanation : Explanation
+  pub is : IsExplanation words A c explanation
+  pub tells : Tells words A c explanation
+  pub told : text ≡ explanation_text c.bound names explanation
+
+-- The text tells, with these names, the words at which some node isn't clear, and those of vectors that may be taken though they have `never`
+-- lines: each run from reset that ends flagged ends at one of the first, or by taking a vector at one of the others, so that none is flagged
+-- where there are none. Without assumptions there are none exactly where `clear` accepts the certificate.
+pub record TellsFlagged (names : List Named) (words : List ℕ) (A : List Entry) (c : Claim) (text : List ℕ) : Type 0 where
+  pub sites : List ℕ
+  pub nevers : List ℕ
+  pub are : AreSites words A c sites
+  pub are_nevers : AreNevers words A c nevers
+  pub ends : EndFlaggedAt words A sites nevers
+  pub none_flagged : sites ≡ [] → nevers ≡ [] → NeverFlagged words A
+  pub as_clear : A ≡ [] → (verdict : ClearVerdict) → IsClearVerdict words c verdict → (verdict ≡ AllClear) ↔ (sites ≡ [])
+  pub told : text ≡ premises_text words names c.bound sites nevers
+
+-- what is said of an accepted certificate besides that its bound holds, for a firmware of these bytes with these words, by a text
+abbrev pub Shows : Command → List ℕ → List ℕ → List Entry → Claim → List ℕ → Type 0
+Shows (Explain device firmware certificate assume) bytes words A c text = IsExplained (firmware_names bytes) words A c text
+Shows (Clear device firmware certificate) bytes words A c text = IsBoundedAndClear words c.bound
+Shows (Premises device firmware certificate assume) bytes words A c text = TellsFlagged (firmware_names bytes) words A c text
+Shows command bytes words A c text = ⊤
+
 -- The firmware's words on the command's device are such that no run of that machine from reset is deeper than the bound of the certificate with this text:
 -- whatever memory held, whatever interrupts are taken and whatever bytes are read, up to the first step that is flagged under the
--- assumptions of the assumption file. The text that is printed is what the command answers of this certificate, the bound among it.
+-- assumptions of the assumption file. The text that is printed is what the command answers of this certificate, the bound among it, and
+-- shows what else it says.
 pub record Holds (command : Command) (firmware certificate : List ℕ) (list : Option (List ℕ)) (text : List ℕ) : Type 0 where
   pub words : List ℕ
   pub claim : Claim
@@ -72,6 +111,7 @@ pub record Holds (command : Command) (firmware certificate : List ℕ) (list : O
   pub stand : StandFor (device_for command) firmware certificate list words claim assumptions
   pub bounded : Bounded words assumptions claim.bound
   pub told : AcceptedReply command firmware words assumptions claim 0 text
+  pub shows : Shows command firmware words assumptions claim text
 
 -- bytes were read of all files of a command that judges a certificate, and the bound holds of them
 pub record HoldsAsRead (command : Command) (assume : Option (List ℕ)) (seen : Contents) (text : List ℕ) : Type 0 where
@@ -151,7 +191,8 @@ pub record IsMeasured (size : ℕ) (text : List ℕ) : Type 0 where
 
 -- ---- what status 0 says
 
--- where a certificate is accepted, the bound holds; where one is written, it is the least; a simulated run keeps each bound that is accepted;
+-- where a certificate is accepted, the bound holds, an explanation tells where its bytes go, no step is flagged where all nodes are clear, and
+-- steps are flagged only at the words that are told; where one is written, it is the least; a simulated run keeps each bound that is accepted;
 -- the numbers of an image are those of its rounds
 abbrev pub Headline : Command → Contents → ℕ → List ℕ → Type 0
 Headline (Check device firmware certificate assume) seen status text = status ≡ 0 → HoldsAsRead (Check device firmware certificate assume) assume seen text
@@ -159,16 +200,35 @@ Headline (Analyse device firmware assume steps) seen status text = status ≡ 0 
 Headline (Run device firmware schedule assume) seen status text = ⊤
 Headline (Report device firmware certificate assume json) seen status text =
     status ≡ 0 → HoldsAsRead (Report device firmware certificate assume json) assume seen text
+Headline (Explain device firmware certificate assume) seen status text = status ≡ 0 → HoldsAsRead (Explain device firmware certificate assume) assume seen text
+Headline (Clear device firmware certificate) seen status text = status ≡ 0 → HoldsAsRead (Clear device firmware certificate) None seen text
+Headline (Premises device firmware certificate assume) seen status text = status ≡ 0 → HoldsAsRead (Premises device firmware certificate assume) assume seen text
 Headline (Simulate device firmware devices assume steps) seen status text = status ≡ 0 → IsSimulatedAsRead device assume steps seen text
 Headline (Demo size) seen status text = status ≡ 0 → IsMeasured size text
 
 -- ---- when the answers come
 
--- Where the files of a command read as values, it accepts exactly where the certificate is valid for the firmware and the assumptions.
+-- when a command accepts a certificate, for these words under these assumptions: it is valid, and for `clear` all nodes are clear
+abbrev pub Accepts : Command → List ℕ → List Entry → Claim → Type 0
+Accepts (Clear device firmware certificate) words A c = IsValid words A c × AreAllClear words A c
+Accepts command words A c = IsValid words A c
+
+-- when it says that a node isn't clear
+abbrev pub Blames : Command → List ℕ → List Entry → Claim → Type 0
+Blames (Clear device firmware certificate) words A c = IsValid words A c × ((node pc : ℕ) × IsFirstUnclear words A c node pc)
+Blames command words A c = ⊥
+
+-- the status says whether the certificate is accepted, whether a node isn't clear, and whether it isn't valid
+pub record SaysWhether (command : Command) (words : List ℕ) (A : List Entry) (c : Claim) (status : ℕ) : Type 0 where
+  pub accepted : (status ≡ 0) ↔ Accepts command words A c
+  pub unclear : (status ≡ 13) ↔ Blames command words A c
+  pub rejected : (status ≡ 1) ↔ (IsValid words A c → ⊥)
+
+-- the same of the files of a command, where they read as values
 abbrev pub AcceptsExactly : Command → Option (List ℕ) → Contents → ℕ → Type 0
 AcceptsExactly command assume seen status =
     (firmware certificate : List ℕ) (list : Option (List ℕ)) (words : List ℕ) (claim : Claim) (A : List Entry)
-    → AreRead assume seen firmware certificate list → StandFor (device_for command) firmware certificate list words claim A → (status ≡ 0) ↔ IsValid words A claim
+    → AreRead assume seen firmware certificate list → StandFor (device_for command) firmware certificate list words claim A → SaysWhether command words A claim status
 
 -- some certificate is valid for the words and the assumptions
 abbrev pub HasValid : List ℕ → List Entry → Type 0
@@ -200,6 +260,9 @@ IsExact (Check device firmware certificate assume) seen status = AcceptsExactly 
 IsExact (Analyse device firmware assume steps) seen status = AnswersRounds device assume steps seen status
 IsExact (Run device firmware schedule assume) seen status = ⊤
 IsExact (Report device firmware certificate assume json) seen status = AcceptsExactly (Report device firmware certificate assume json) assume seen status
+IsExact (Explain device firmware certificate assume) seen status = AcceptsExactly (Explain device firmware certificate assume) assume seen status
+IsExact (Clear device firmware certificate) seen status = AcceptsExactly (Clear device firmware certificate) None seen status
+IsExact (Premises device firmware certificate assume) seen status = AcceptsExactly (Premises device firmware certificate assume) assume seen status
 IsExact (Simulate device firmware devices assume steps) seen status = AnswersDevices device assume seen status
 IsExact (Demo size) seen status = SaysHowRoundsEnd (demo_words size) [] None status
 
@@ -224,3 +287,9 @@ AcceptingRepliesHold =
 
 abbrev pub RepliesAreExact : Type 0
 RepliesAreExact = (command : Command) (seen : Contents) (status : ℕ) (text : List ℕ) → IsReply command seen status text → IsExact command seen status
+
+-- names that say the same give the same texts of words at which a step may be flagged
+abbrev pub PlacesSayTheSame : Type 0
+PlacesSayTheSame =
+    (words : List ℕ) (names others : List Named) (bound : ℕ) (sites nevers : List ℕ) → SayTheSame names others
+    → premises_text words names bound sites nevers ≡ premises_text words others bound sites nevers

@@ -1,5 +1,6 @@
 pub mod Says
 pub mod Texts
+pub mod Places
 pub mod Firmware
 pub mod Reading
 pub mod Analysis

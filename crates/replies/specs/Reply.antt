@@ -18,6 +18,12 @@ use Rattle.round_rules.specs.Solutions.{IsAnswer, IsWhyNot}
 use Rattle.flash_image.specs.Naming.{Named}
 use Rattle.reports.specs.Report.{plain_text}
 use Rattle.reports.specs.Json.{json_text}
+use Rattle.chain_explain.specs.declared.explanation.Explanation.{Explanation}
+use Rattle.chain_explain.specs.Explanation.{IsExplanation}
+use Rattle.reports.specs.Explained.{explanation_text}
+use Rattle.store_laws.specs.declared.verdict.ClearVerdict.{ClearVerdict}
+use Rattle.store_laws.specs.declared.verdict.ClearVerdict.TheVariants as clear
+use Rattle.store_laws.specs.Verdict.{IsClearVerdict, AreSites, AreNevers}
 use Rattle.demo_image.specs.Image.{demo_words}
 use Rattle.device_hooks.specs.declared.devices.DevicesFault.{DevicesFault}
 use Rattle.device_hooks.specs.Spelling.{Setup}
@@ -28,9 +34,10 @@ use Rattle.cert_format.specs.Reading.{certificate_in}
 use Rattle.cert_check.specs.Verdict.{IsVerdict}
 use Rattle.cert_check.specs.declared.verdict.Verdict.{Verdict}
 use Rattle.cert_check.specs.declared.verdict.Verdict.TheVariants.{Accepted, Rejected}
-use Rattle.commands.specs.Commands.{Command, Analyse, Run, Report, Simulate, Demo, Firmware, Second, Assumptions, device_for, name_of}
+use Rattle.commands.specs.Commands.{Command, Analyse, Run, Report, Explain, Clear, Premises, Simulate, Demo, Firmware, Second, Assumptions, device_for, name_of}
 use Rattle.replies.specs.Firmware.{firmware_words, firmware_fault, firmware_names, firmware_end}
 use Rattle.replies.specs.Texts.{too_long, assumptions_refused, certificate_refused, schedule_malformed, schedule_illegal, devices_refused, accepted, rejected, witness_rejected, run_text, why_not_text, why_not_status, demo_text}
+use Rattle.replies.specs.Places.{clear_text, unclear_text, premises_text}
 use Rattle.replies.specs.Reading.{Seen, Unread, Whole, Long, Contents}
 use Rattle.replies.specs.Analysis.{IsAnalysis}
 pub use Rattle.replies.specs.Says.{Reply, Says, Refuses}
@@ -72,7 +79,7 @@ abbrev pub WithList : Option (List ℕ) → (List Entry → Reply) → Reply
 WithList None next = next []
 WithList (Some bytes) next = ListBy (entries_in bytes) next
 
--- ---- check and report
+-- ---- commands that judge
 
 abbrev pub is_end : Stop → Bool
 is_end stop.End = true
@@ -116,8 +123,36 @@ abbrev pub told_of : Command → List ℕ → Claim → List ℕ
 told_of (Report device firmware certificate assume json) bytes c = report_by json device (firmware_names bytes) (firmware_end bytes) c
 told_of command bytes c = accepted c.bound (is_some c.witness)
 
+-- the explanation of a certificate is told, with these names of words
+pub record ExplainReply (names : List Named) (words : List ℕ) (A : List Entry) (c : Claim) (status : ℕ) (text : List ℕ) : Type 0 where
+  pub explanation : Explanation
+  pub is : IsExplanation words A c explanation
+  pub says : Says 0 (explanation_text c.bound names explanation) status text
+
+-- all nodes of a certificate are clear, or the least that isn't is told
+abbrev pub ClearSays : List ℕ → Claim → ClearVerdict → Reply
+ClearSays words c clear.Clear status text = Says 0 (clear_text c.bound) status text
+ClearSays words c (clear.Unclear node pc) status text = Says 13 (unclear_text words node pc) status text
+
+pub record ClearReply (words : List ℕ) (c : Claim) (status : ℕ) (text : List ℕ) : Type 0 where
+  pub verdict : ClearVerdict
+  pub is : IsClearVerdict words c verdict
+  pub says : ClearSays words c verdict status text
+
+-- All words at which some node of a certificate isn't clear are told, with these names of words, and those of vectors that may be taken
+-- though they have `never` lines.
+pub record PremisesReply (names : List Named) (words : List ℕ) (A : List Entry) (c : Claim) (status : ℕ) (text : List ℕ) : Type 0 where
+  pub sites : List ℕ
+  pub nevers : List ℕ
+  pub are : AreSites words A c sites
+  pub are_nevers : AreNevers words A c nevers
+  pub says : Says 0 (premises_text words names c.bound sites nevers) status text
+
 -- what a command answers where it accepts a certificate, for a firmware of these bytes with these words, under these assumptions
 abbrev pub AcceptedReply : Command → List ℕ → List ℕ → List Entry → Claim → Reply
+AcceptedReply (Explain device firmware certificate assume) bytes words A c = ExplainReply (firmware_names bytes) words A c
+AcceptedReply (Clear device firmware certificate) bytes words A c = ClearReply words c
+AcceptedReply (Premises device firmware certificate assume) bytes words A c = PremisesReply (firmware_names bytes) words A c
 AcceptedReply command bytes words A c = Says 0 (told_of command bytes c)
 
 -- ---- run
@@ -171,12 +206,13 @@ DemoReply size status text = MeasuredReply size status text ⊎ WhyNotReply (dem
 
 -- ---- all
 
--- what is made of the words of a firmware of these bytes, and of the bytes of its second file, under these assumptions
+-- What is made of the words of a firmware of these bytes, and of the bytes of its second file, under these assumptions. `clear` has none.
 abbrev pub FlashReply : Command → List ℕ → List ℕ → List ℕ → List Entry → Reply
 FlashReply (Analyse device name assume steps) firmware bytes words A = AnalyseReply words A steps
 FlashReply (Run device name schedule assume) firmware bytes words A = ScheduleReply words A (schedule_in (record { at = 0; rest = lines_of bytes }))
 FlashReply (Simulate device name devices assume steps) firmware bytes words A = SimulateReply words A steps (setup_in bytes)
 FlashReply (Demo size) firmware bytes words A = DemoReply size
+FlashReply (Clear device name certificate) firmware bytes words A = CertificateReply words [] (ClearReply words) (certificate_in bytes)
 FlashReply command firmware bytes words A = CertificateReply words A (AcceptedReply command firmware words A) (certificate_in bytes)
 
 -- The firmware, the assumptions and the second file are looked at in this order. `demo` has none of them.

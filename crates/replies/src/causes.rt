@@ -15,7 +15,7 @@ use sb_base::LineWriter;
 use std::alloc::{AllocError, Global};
 
 /// The text of the instruction at a word, or the word in digits where it is none on the device.
-fn put_instruction(
+pub(crate) fn put_instruction(
     alloc: Global,
     line: &mut LineWriter,
     flash: &Flash,

@@ -3,4 +3,5 @@
 
 pub mod causes;
 pub mod laws;
+pub mod places;
 pub mod texts;

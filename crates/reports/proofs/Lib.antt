@@ -1,3 +1,4 @@
-mod Lines
+pub mod Lines
 mod Plain
 mod Same
+pub mod AllLaws

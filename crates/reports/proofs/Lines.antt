@@ -1,10 +1,11 @@
 -- Lines that are written one after the other.
-use Rattle.std.proofs.Common.{ℕ, ◌+◌, ◌<◌, ◌≡◌, List, [], ◌∷◌, ◌++◌, length, map, take, get_or, Option, false, ap, sym, ◌∙◌, append_assoc, append-nil, codes}
+use Rattle.std.proofs.Common.{ℕ, ◌+◌, ◌<◌, ◌≡◌, List, [], ◌∷◌, ◌++◌, length, map, take, get_or, slice_get, Option, Some, false, ap, sym, refl, ◌∙◌, append_assoc, append-nil, codes}
 use Rattle.std.proofs.lemmas.List.{map-append, take_more}
+use Rattle.std.proofs.lemmas.Option.{slice_get_within, get_or_from_slice_get}
 use Rattle.std.proofs.lemmas.Grind.{flat_map-append}
 use Rattle.std.specs.List.{flat_map}
 use Rattle.sb_base.specs.Lines.{line}
-use Rattle.sb_base.specs.Writing.{Written, with_words, with_end}
+use Rattle.sb_base.specs.Writing.{Written, with_word, with_words, with_end}
 use Rattle.line_reading.specs.Appending.{with_text, AppendingLaws}
 use Rattle.avr_model.specs.declared.device.Device.{Device}
 use Rattle.certificate.specs.Claims.{Claim}
@@ -14,11 +15,62 @@ use Rattle.reports.specs.Report.{witness_line, static_line, heading}
 abbrev pub text : {A : Type 0} → (A → List (List ℕ)) → List A → List ℕ
 text words xs = flat_map line (map words xs)
 
-more_text : (w v u : Written) (a b : List ℕ) → v ≡ with_text w a → u ≡ with_text v b → u ≡ with_text w (a ++ b)
+pub more_text : (w v u : Written) (a b : List ℕ) → v ≡ with_text w a → u ≡ with_text v b → u ≡ with_text w (a ++ b)
 more_text w v u a b e f = f ∙ ap (λ (x : Written). with_text x b) e ∙ ap (λ (xs : List ℕ). record { bytes = xs; begun = false }) (append_assoc w.bytes a b)
 
 pub none_begun : (w v : Written) (a : List ℕ) → v ≡ with_text w a → v.begun ≡ false
 none_begun w v a e = ap (λ (x : Written). x.begun) e
+
+-- ---- texts one behind the other
+
+texts_next : {A : Type 0} (f : A → List ℕ) (xs : List A) (i : ℕ) (x : A) → i < length xs → flat_map f (take (i + 1) xs) ≡ flat_map f (take i xs) ++ f (get_or xs i x)
+texts_next {A} f xs i x lt =
+    ap (flat_map f) (take_more xs i x lt)
+    ∙ flat_map-append f (take i xs) (get_or xs i x ∷ [])
+    ∙ ap (λ (ys : List ℕ). flat_map f (take i xs) ++ ys) (append-nil (f (get_or xs i x)))
+
+pub text_after : {A : Type 0} (f : A → List ℕ) (w v u : Written) (xs : List A) (i : ℕ) (x : A) → slice_get xs i ≡ Some x → v ≡ with_text w (flat_map f (take i xs)) → u ≡ with_text v (f x)
+    → u ≡ with_text w (flat_map f (take (i + 1) xs))
+text_after {A} f w v u xs i x at e g =
+    more_text w v u (flat_map f (take i xs)) (f x) e g
+    ∙ ap (λ (y : A). with_text w (flat_map f (take i xs) ++ f y)) (sym (get_or_from_slice_get xs i x x at))
+    ∙ ap (with_text w) (sym (texts_next f xs i x (slice_get_within xs i x at)))
+
+-- two lines
+pub two_lines : AppendingLaws → (w v u : Written) (a b : List (List ℕ)) → w.begun ≡ false → v ≡ with_end (with_words w a) → u ≡ with_end (with_words v b) → u ≡ with_text w (line a ++ line b)
+two_lines k w v u a b n e f =
+    let first : v ≡ with_text w (line a) = k.line w v a n e in
+    more_text w v u (line a) (line b) first (k.line v u b (none_begun w v (line a) first) f)
+
+-- a line, and what follows it, from the beginning
+pub line_and_text : AppendingLaws → (w v u : Written) (a : List (List ℕ)) (more bytes : List ℕ) → w ≡ record { bytes = []; begun = false } → v ≡ with_end (with_words w a) → u ≡ with_text v more → bytes ≡ u.bytes
+    → bytes ≡ line a ++ more
+line_and_text k w v u a more bytes n e f g =
+    let first : v ≡ with_text w (line a) = k.line w v a (ap (λ (x : Written). x.begun) n) e in
+    g ∙ (ap (λ (x : Written). x.bytes) (more_text w v u (line a) more first f) ∙ ap (λ (x : Written). x.bytes ++ (line a ++ more)) n)
+
+-- one more word
+words_more : (w : Written) (a : List (List ℕ)) (x : List ℕ) → with_words w (a ++ x ∷ []) ≡ with_word (with_words w a) x
+words_more w [] x = refl
+words_more w (y ∷ a) x = words_more (with_word w y) a x
+
+pub word_next : (f : ℕ → List ℕ) (w v u : Written) (xs : List ℕ) (i : ℕ) → i < length xs → v ≡ with_words w (map f (take i xs)) → u ≡ with_word v (f (get_or xs i 0))
+    → u ≡ with_words w (map f (take (i + 1) xs))
+word_next f w v u xs i lt e g =
+    g
+    ∙ ap (λ (y : Written). with_word y (f (get_or xs i 0))) e
+    ∙ sym (words_more w (map f (take i xs)) (f (get_or xs i 0)))
+    ∙ ap (with_words w) (sym (ap (map f) (take_more xs i 0 lt) ∙ map-append f (take i xs) (get_or xs i 0 ∷ [])))
+
+-- a line for each number
+pub numbers_next : (words : ℕ → List (List ℕ)) → AppendingLaws → (w v u : Written) (xs : List ℕ) (i : ℕ) → i < length xs → w.begun ≡ false → v ≡ with_text w (flat_map (λ x. line (words x)) (take i xs))
+    → u ≡ with_end (with_words v (words (get_or xs i 0))) → u ≡ with_text w (flat_map (λ x. line (words x)) (take (i + 1) xs))
+numbers_next words k w v u xs i lt none e g =
+    more_text w v u (flat_map (λ x. line (words x)) (take i xs)) (line (words (get_or xs i 0))) e
+    (k.line v u (words (get_or xs i 0)) (none_begun w v (flat_map (λ x. line (words x)) (take i xs)) e) g)
+    ∙ ap (with_text w) (sym (texts_next (λ x. line (words x)) xs i 0 lt))
+
+-- ---- lines of items
 
 text_next : {A : Type 0} (words : A → List (List ℕ)) (xs : List A) (i : ℕ) (x : A) → i < length xs → text words (take (i + 1) xs) ≡ text words (take i xs) ++ line (words (get_or xs i x))
 text_next {A} words xs i x lt =

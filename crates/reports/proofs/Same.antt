@@ -1,12 +1,16 @@
 -- The laws of reports.
-use Rattle.std.proofs.Common.{◌≡◌, List, [], ◌∷◌, map, refl, ap}
+use Rattle.std.proofs.Common.{◌≡◌, ℕ, List, [], ◌∷◌, ◌++◌, map, refl, ap, ap₂}
+use Rattle.std.specs.List.{flat_map}
 use Rattle.std.proofs.lemmas.Str.{IsUtf8-from_ascii, utf8_lossy-IsUtf8}
 use Rattle.serde_json.specs.Data.{string}
+use Rattle.sb_base.specs.Lines.{line}
 use Rattle.flash_image.specs.Naming.{Named, SayTheSame}
 use Rattle.certificate.specs.declared.instance.Inst.{Inst}
+use Rattle.chain_explain.specs.declared.explanation.Part.{Part}
 use Rattle.reports.specs.Report.{inst_line}
 use Rattle.reports.specs.Json.{inst_data}
-use Rattle.reports.specs.Laws.{NamesThatSayTheSame, AsciiNamesStay}
+use Rattle.reports.specs.Explained.{explain_line, part_text}
+use Rattle.reports.specs.Laws.{NamesThatSayTheSame, ExplanationsSayTheSame, AsciiNamesStay}
 
 same_line : (names others : List Named) (x : Inst) → SayTheSame names others → inst_line names x ≡ inst_line others x
 same_line names others x same = rw (same x.key.entry) refl
@@ -25,6 +29,16 @@ same_items names others (x ∷ xs) same = rw (same_data names others x same, sam
 pub same_reports : NamesThatSayTheSame
 same_reports device c names others static_end same =
     (rw (same_lines names others c.instances same) refl, rw (same_items names others c.instances same) refl)
+
+same_part : (names others : List Named) (p : Part) → SayTheSame names others → part_text names p ≡ part_text others p
+same_part names others p same = rw (same p.inst.entry) refl
+
+same_parts : (names others : List Named) (ps : List Part) → SayTheSame names others → flat_map (part_text names) ps ≡ flat_map (part_text others) ps
+same_parts names others [] same = refl
+same_parts names others (p ∷ ps) same = ap₂ (λ (xs ys : List ℕ). xs ++ ys) (same_part names others p same) (same_parts names others ps same)
+
+pub same_explanations : ExplanationsSayTheSame
+same_explanations bound names others x same = ap (λ (ys : List ℕ). line (explain_line bound x) ++ ys) (same_parts names others x.parts same)
 
 pub ascii_names_stay : AsciiNamesStay
 ascii_names_stay name h = ap string (utf8_lossy-IsUtf8 name (IsUtf8-from_ascii name h))

@@ -1,4 +1,5 @@
 pub mod Report
+pub mod Explained
 pub mod Json
 pub mod Laws
 pub mod Examples

@@ -1,10 +1,11 @@
 //! Laws of reports, each as the contract of a function that does nothing.
 
-ghost use Rattle.reports.specs.Laws.{NamesThatSayTheSame, AsciiNamesStay};
+ghost use Rattle.reports.specs.Laws.{NamesThatSayTheSame, ExplanationsSayTheSame, AsciiNamesStay};
 
-/// Names that say the same give the same reports.
+/// Names that say the same give the same reports, and the same texts of explanations.
 pub fn same_names_give_same_reports()
-    ensures { NamesThatSayTheSame }
+    ensures reports { NamesThatSayTheSame }
+    ensures explanations { ExplanationsSayTheSame }
 {}
 
 /// Names of ASCII characters stand in JSON as they are.

@@ -1,11 +1,13 @@
-//! Reports of a certificate: its bound, whether the stack fits beside static data, and what each instance needs, by name.
-//! Source: own.
+//! Reports of a certificate: its bound, whether the stack fits beside static data, and what each instance needs, by name; and the text
+//! of its explanation. Source: own.
 #![tactic(auto)]
 
+mod explained;
 mod json;
 pub mod laws;
 mod room;
 mod text;
 
+pub use explained::explanation_text;
 pub use json::report_json;
 pub use text::report_text;

@@ -19,16 +19,18 @@ use Rattle.round_rules.specs.declared.refusal.Refusal.TheVariants as refusal
 use Rattle.demo_image.specs.Image.{demo_words}
 use Rattle.cert_check.specs.declared.verdict.Verdict.{Verdict}
 use Rattle.cert_check.specs.declared.verdict.Verdict.TheVariants.{Accepted, Rejected}
+use Rattle.store_laws.specs.declared.verdict.ClearVerdict.{ClearVerdict}
+use Rattle.store_laws.specs.declared.verdict.ClearVerdict.TheVariants as clear
 use Rattle.device_hooks.specs.declared.devices.DevicesFault.{DevicesFault}
 use Rattle.device_hooks.specs.Spelling.{Setup}
 use Rattle.device_hooks.specs.Reading.{setup_in}
 use Rattle.device_hooks.specs.Simulating.{simulation_of}
-use Rattle.commands.specs.Commands.{Command, Check, Analyse, Run, Report, Simulate, Demo, Firmware, Second, Assumptions, device_for, name_of}
+use Rattle.commands.specs.Commands.{Command, Check, Analyse, Run, Report, Explain, Clear, Premises, Simulate, Demo, Firmware, Second, Assumptions, device_for, name_of}
 use Rattle.replies.specs.Firmware.{firmware_words, firmware_fault}
 use Rattle.replies.specs.Texts.{usage, read_fault, too_long, assumptions_refused, certificate_refused, devices_refused, why_not_status, why_not_text}
 use Rattle.replies.specs.Reading as read
 use Rattle.replies.specs.Reading.{Seen, Unread, Whole, Long, AllAgree}
-use Rattle.replies.specs.Reply.{Reply, Refuses, WithFile, WithBytes, WithOptional, ImageBy, WithImage, ListBy, WithList, attains, AttainedBy, WitnessReply, VerdictReply, CertificateReply, AcceptedReply, RunReply, EndsBefore, ScheduleReply, WhyNotReply, AnalyseReply, SimulateReply, DemoReply, FlashReply, WorkReply, IsReply}
+use Rattle.replies.specs.Reply.{Reply, Says, Refuses, WithFile, WithBytes, WithOptional, ImageBy, WithImage, ListBy, WithList, attains, AttainedBy, WitnessReply, VerdictReply, CertificateReply, told_of, ClearSays, ClearReply, AcceptedReply, RunReply, EndsBefore, ScheduleReply, WhyNotReply, AnalyseReply, SimulateReply, DemoReply, FlashReply, WorkReply, IsReply}
 use Rattle.replies.specs.Headline.{HasWords, ReadsWords, AcceptingRepliesHold, RepliesAreExact}
 use Rattle.stack_core.specs.declared.reply.Reply.{Reply as Answered}
 use Rattle.stack_core.specs.Reading.{GoTogether, whole_of, GoWith, seen_under, seen_whole, AreBytes, IsTooLong}
@@ -76,6 +78,9 @@ ten_plain = record { two = λ e. cc; three = λ e. cc; four = λ e. cc; twelve =
 
 eleven_plain : IsPlain 11
 eleven_plain = record { two = λ e. cc; three = λ e. cc; four = λ e. cc; twelve = λ e. cc }
+
+thirteen_plain : IsPlain 13
+thirteen_plain = record { two = λ e. cc; three = λ e. cc; four = λ e. cc; twelve = λ e. cc }
 
 fourteen_plain : IsPlain 14
 fourteen_plain = record { two = λ e. cc; three = λ e. cc; four = λ e. cc; twelve = λ e. cc }
@@ -125,8 +130,12 @@ certificate_apart : (words : List ℕ) (A : List Entry) (next : Claim → Reply)
 certificate_apart words A next (Err fault) f s t h = refuses_apart 8 eight_plain (certificate_refused fault) s t h
 certificate_apart words A next (Ok c) f s t h = verdict_apart words A next c h.verdict (f c) s t h.reply
 
-accepted_apart : (command : Command) (firmware words : List ℕ) (A : List Entry) (c : Claim) → IsApart (AcceptedReply command firmware words A c)
-accepted_apart command firmware words A c s t h = at 0 s zero_plain h.0
+accepted_apart : (text : Claim → List ℕ) (c : Claim) → IsApart (Says 0 (text c))
+accepted_apart text c s t h = at 0 s zero_plain h.0
+
+clear_apart : (words : List ℕ) (c : Claim) (v : ClearVerdict) → IsApart (ClearSays words c v)
+clear_apart words c clear.Clear s t h = at 0 s zero_plain h.0
+clear_apart words c (clear.Unclear node pc) s t h = at 13 s thirteen_plain h.0
 
 simulate_apart : (words : List ℕ) (A : List Entry) (steps : ℕ) (x : Result Setup DevicesFault) → IsApart (SimulateReply words A steps x)
 simulate_apart words A steps (Err fault) s t h = refuses_apart 14 fourteen_plain (devices_refused fault) s t h
@@ -169,11 +178,16 @@ schedule_apart words A (Ok r) s t h = ends_apart r.1.rest r.1.at (RunReply (repl
 
 flash_apart : (c : Command) (firmware bytes words : List ℕ) (A : List Entry) → IsApart (FlashReply c firmware bytes words A)
 flash_apart (Check device f k a) firmware bytes words A =
-    certificate_apart words A (AcceptedReply (Check device f k a) firmware words A) (certificate_in bytes) (accepted_apart (Check device f k a) firmware words A)
+    certificate_apart words A (AcceptedReply (Check device f k a) firmware words A) (certificate_in bytes) (accepted_apart (told_of (Check device f k a) firmware))
 flash_apart (Analyse device f a steps) firmware bytes words A = analyse_apart words A steps
 flash_apart (Run device f k a) firmware bytes words A = schedule_apart words A (schedule_in _)
 flash_apart (Report device f k a json) firmware bytes words A =
-    certificate_apart words A (AcceptedReply (Report device f k a json) firmware words A) (certificate_in bytes) (accepted_apart (Report device f k a json) firmware words A)
+    certificate_apart words A (AcceptedReply (Report device f k a json) firmware words A) (certificate_in bytes) (accepted_apart (told_of (Report device f k a json) firmware))
+flash_apart (Explain device f k a) firmware bytes words A =
+    certificate_apart words A (AcceptedReply (Explain device f k a) firmware words A) (certificate_in bytes) (λ c s t h. at 0 s zero_plain h.says.0)
+flash_apart (Clear device f k) firmware bytes words A = certificate_apart words [] (ClearReply words) (certificate_in bytes) (λ c s t h. clear_apart words c h.verdict s t h.says)
+flash_apart (Premises device f k a) firmware bytes words A =
+    certificate_apart words A (AcceptedReply (Premises device f k a) firmware words A) (certificate_in bytes) (λ c s t h. at 0 s zero_plain h.says.0)
 flash_apart (Simulate device f k a steps) firmware bytes words A = simulate_apart words A steps (setup_in bytes)
 flash_apart (Demo size) firmware bytes words A = demo_apart size
 
@@ -187,6 +201,9 @@ work_apart (Check device f k a) firmware second list = on_image_apart (Check dev
 work_apart (Analyse device f a steps) firmware second list = on_image_apart (Analyse device f a steps) firmware second list
 work_apart (Run device f k a) firmware second list = on_image_apart (Run device f k a) firmware second list
 work_apart (Report device f k a json) firmware second list = on_image_apart (Report device f k a json) firmware second list
+work_apart (Explain device f k a) firmware second list = on_image_apart (Explain device f k a) firmware second list
+work_apart (Clear device f k) firmware second list = on_image_apart (Clear device f k) firmware second list
+work_apart (Premises device f k a) firmware second list = on_image_apart (Premises device f k a) firmware second list
 work_apart (Simulate device f k a steps) firmware second list = on_image_apart (Simulate device f k a steps) firmware second list
 work_apart (Demo size) firmware second list = demo_apart size
 

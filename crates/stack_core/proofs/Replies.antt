@@ -15,17 +15,18 @@ use Rattle.witness_replay.specs.Replay.{Report as Replayed, replay_of}
 use Rattle.flash_image.specs.Naming.{Named, SayTheSame}
 use Rattle.flash_image.specs.Narrowing.{NarrowingIsExact}
 use Rattle.elf_load.specs.Elf.{is_elf}
+use Rattle.local_rules.specs.Machine.{AreWords}
 use Rattle.elf_load.specs.declared.Loaded.{Loaded}
 use Rattle.certificate.specs.Claims.{Claim, IsClaim}
 use Rattle.round_rules.specs.declared.refusal.Refusal.{Refusal}
 use Rattle.round_rules.specs.Solutions.{IsAnswer, IsWhyNot}
-use Rattle.reports.specs.Laws.{NamesThatSayTheSame}
+use Rattle.reports.specs.Laws.{NamesThatSayTheSame, ExplanationsSayTheSame}
 use Rattle.demo_image.specs.Image.{demo_words}
 use Rattle.device_hooks.specs.declared.devices.DevicesFault.{DevicesFault}
 use Rattle.device_hooks.specs.declared.devices.DevicesFault.TheVariants as devices
 use Rattle.device_hooks.specs.Spelling.{Setup}
 use Rattle.device_hooks.specs.Simulating.{simulation_of}
-use Rattle.commands.specs.Commands.{Command, Check, Analyse, Run, Report, Simulate, Demo, device_for}
+use Rattle.commands.specs.Commands.{Command, Check, Analyse, Run, Report, Explain, Clear, Premises, Simulate, Demo, device_for}
 use Rattle.certificate.specs.Valid.{IsAttained, IsValid}
 use Rattle.cert_format.specs.declared.fault.CertFault.{CertFault}
 use Rattle.cert_format.specs.declared.fault.CertFault.TheVariants as fault
@@ -36,9 +37,10 @@ use Rattle.cert_check.specs.declared.verdict.Verdict.{Verdict}
 use Rattle.cert_check.specs.declared.verdict.Verdict.TheVariants.{Accepted, Rejected}
 use Rattle.replies.specs.Firmware.{fault_by, words_by, names_by, end_by, outside_fault, fault_or, firmware_fault, firmware_words, firmware_names, firmware_end}
 use Rattle.replies.specs.Texts.{firmware_outside, why_not_status, why_not_text, demo_text, rejected, witness_rejected, schedule_illegal, run_text, devices_refused, assumptions_refused, certificate_refused}
-use Rattle.replies.specs.Reply.{Reply, Says, Refuses, ImageBy, WithImage, ListBy, WithList, attains, AttainedBy, WitnessReply, VerdictReply, JudgedReply, CertificateReply, report_by, AcceptedReply, AnalyseReply, SimulateReply, DemoReply, FlashReply, RunReply}
+use Rattle.replies.specs.Reply.{Reply, Says, Refuses, ImageBy, WithImage, ListBy, WithList, attains, AttainedBy, WitnessReply, VerdictReply, JudgedReply, CertificateReply, report_by, ExplainReply, PremisesReply, AcceptedReply, AnalyseReply, SimulateReply, DemoReply, FlashReply, RunReply}
+use Rattle.replies.specs.Headline.{HasWords, PlacesSayTheSame}
 use Rattle.replies.proofs.AllLaws.{attained_by, attains_by}
-use Rattle.stack_core.specs.Working.{GivesAs, GivesOn, NarrowedTo, LoadsOn, ReadsAs, ListsAs, IsWitnessedText, nothing, IsJudgedAs, LoadedReply, ImageReply}
+use Rattle.stack_core.specs.Answering.{GivesAs, GivesOn, NarrowedTo, LoadsOn, ReadsAs, ListsAs, IsWitnessedText, nothing, IsJudgedAs, LoadedReply, ImageReply}
 use Rattle.stack_core.specs.declared.reply.Reply.{Reply as Answered}
 use Rattle.stack_core.specs.declared.judging.Judged.{Judged}
 use Rattle.stack_core.specs.declared.judging.Judged.TheVariants as judged
@@ -171,6 +173,12 @@ accepted_reply words A next x c status text h k =
     subst (λ y. CertificateReply words A next y status text) (sym h.0)
     (record { verdict = Accepted c.bound; is = (h.1.sound, refl); reply = attained_reply words A (next c) c.bound c.witness status text h.1.attained k })
 
+-- the same of a result
+pub accepted_result : {E : Type 0} (words : List ℕ) (A : List Entry) (next : Claim → Reply) (x : Result Claim CertFault) (c : Claim) (r : Result Answered E) → (x ≡ Ok c) × IsValid words A c
+    → IfOk r (λ a. next c a.status a.text.items) → IfOk r (λ a. CertificateReply words A next x a.status a.text.items)
+accepted_result words A next x c (Err e) h k = tt
+accepted_result words A next x c (Ok a) h k = accepted_reply words A next x c a.status a.text.items h k
+
 -- ---- an analysis
 
 pub refused_by : (n : ℕ) (o : Option (List ℕ)) (status : ℕ) (text : List ℕ) → status ≡ n → o ≡ Some text → Refuses n o status text
@@ -206,6 +214,24 @@ pub measured_result : {E : Type 0} (size : ℕ) (words : List ℕ) (A : List Ent
     → IfOk x (λ r. (r.status ≡ 0) × (r.text.items ≡ demo_text size c)) → IfOk x (λ r. IsClaim c) → IfOk x (λ r. DemoReply size r.status r.text.items)
 measured_result size words A c (Err e) w a answer h claim = tt
 measured_result size words A c (Ok r) w a answer h claim = subst (λ s. DemoReply size s r.text.items) (sym h.0) (measured_reply size words A c r.text.items w a answer claim h.1)
+
+-- ---- the words of a firmware
+
+has_words : (command : Command) (firmware : List ℕ) → AreWords (firmware_words (device_for command) firmware) → HasWords command firmware
+has_words (Check device name cert assume) firmware h = h
+has_words (Analyse device name assume steps) firmware h = h
+has_words (Run device name schedule assume) firmware h = h
+has_words (Report device name cert assume json) firmware h = h
+has_words (Explain device name cert assume) firmware h = h
+has_words (Clear device name cert) firmware h = h
+has_words (Premises device name cert assume) firmware h = h
+has_words (Simulate device name devices assume steps) firmware h = h
+has_words (Demo size) firmware h = tt
+
+pub result_has_words : {E : Type 0} (x : Result Answered E) (command : Command) (firmware : List ℕ) → IfOk x (λ r. r.status ≡ 0 → AreWords (firmware_words (device_for command) firmware))
+    → IfOk x (λ r. r.status ≡ 0 → HasWords command firmware)
+result_has_words (Err e) command firmware h = tt
+result_has_words (Ok r) command firmware h = λ zero. has_words command firmware (h zero)
 
 -- ---- an assumption file
 
@@ -257,16 +283,39 @@ report_alike : (laws : NamesThatSayTheSame) (json : Bool) (device : Device) (nam
 report_alike laws true device names others end end' same e c = (laws device c names others end same).1 ∙ ap (λ x. report_by true device others x c) e
 report_alike laws false device names others end end' same e c = (laws device c names others end same).0 ∙ ap (λ x. report_by false device others x c) e
 
-flash_alike : (laws : NamesThatSayTheSame) (command : Command) (firmware bytes : List ℕ) (loaded : Loaded) (A : List Entry) (status : ℕ) (text : List ℕ) → SayTheSame loaded.names (firmware_names firmware)
+explain_alike : ExplanationsSayTheSame → (names others : List Named) (words : List ℕ) (A : List Entry) → SayTheSame names others → (c : Claim) (status : ℕ) (text : List ℕ)
+    → ExplainReply names words A c status text → ExplainReply others words A c status text
+explain_alike texts names others words A same c status text h =
+    record { explanation = h.explanation; is = h.is; says = (h.says.0, h.says.1 ∙ texts c.bound names others h.explanation same) }
+
+premises_alike : PlacesSayTheSame → (names others : List Named) (words : List ℕ) (A : List Entry) → SayTheSame names others → (c : Claim) (status : ℕ) (text : List ℕ)
+    → PremisesReply names words A c status text → PremisesReply others words A c status text
+premises_alike places names others words A same c status text h =
+    record {
+      sites = h.sites;
+      nevers = h.nevers;
+      are = h.are;
+      are_nevers = h.are_nevers;
+      says = (h.says.0, h.says.1 ∙ places words names others c.bound h.sites h.nevers same);
+    }
+
+flash_alike : (laws : NamesThatSayTheSame) (texts : ExplanationsSayTheSame) (places : PlacesSayTheSame) (command : Command) (firmware bytes : List ℕ) (loaded : Loaded) (A : List Entry) (status : ℕ) (text : List ℕ) → SayTheSame loaded.names (firmware_names firmware)
     → loaded.static_end ≡ firmware_end firmware → LoadedReply command loaded bytes A status text → FlashReply command firmware bytes loaded.flash A status text
-flash_alike laws (Check device name cert assume) firmware bytes loaded A status text names end h = h
-flash_alike laws (Analyse device name assume steps) firmware bytes loaded A status text names end h = h
-flash_alike laws (Run device name schedule assume) firmware bytes loaded A status text names end h = h
-flash_alike laws (Report device name cert assume json) firmware bytes loaded A status text names end h =
+flash_alike laws texts places (Check device name cert assume) firmware bytes loaded A status text names end h = h
+flash_alike laws texts places (Analyse device name assume steps) firmware bytes loaded A status text names end h = h
+flash_alike laws texts places (Run device name schedule assume) firmware bytes loaded A status text names end h = h
+flash_alike laws texts places (Report device name cert assume json) firmware bytes loaded A status text names end h =
     told_alike loaded.flash A (λ c. Says 0 (report_by json device loaded.names loaded.static_end c)) (AcceptedReply (Report device name cert assume json) firmware loaded.flash A) (certificate_in bytes) status text
     (λ c k. (k.0, k.1 ∙ report_alike laws json device loaded.names (firmware_names firmware) loaded.static_end (firmware_end firmware) names end c)) h
-flash_alike laws (Simulate device name devices assume steps) firmware bytes loaded A status text names end h = h
-flash_alike laws (Demo size) firmware bytes loaded A status text names end h = h
+flash_alike laws texts places (Explain device name cert assume) firmware bytes loaded A status text names end h =
+    told_alike loaded.flash A (ExplainReply loaded.names loaded.flash A) (AcceptedReply (Explain device name cert assume) firmware loaded.flash A) (certificate_in bytes) status text
+    (λ c k. explain_alike texts loaded.names (firmware_names firmware) loaded.flash A names c status text k) h
+flash_alike laws texts places (Clear device name cert) firmware bytes loaded A status text names end h = h
+flash_alike laws texts places (Premises device name cert assume) firmware bytes loaded A status text names end h =
+    told_alike loaded.flash A (PremisesReply loaded.names loaded.flash A) (AcceptedReply (Premises device name cert assume) firmware loaded.flash A) (certificate_in bytes) status text
+    (λ c k. premises_alike places loaded.names (firmware_names firmware) loaded.flash A names c status text k) h
+flash_alike laws texts places (Simulate device name devices assume steps) firmware bytes loaded A status text names end h = h
+flash_alike laws texts places (Demo size) firmware bytes loaded A status text names end h = h
 
 list_alike : (x : Result (List Entry) AssumeText) (next other : List Entry → Reply) (status : ℕ) (text : List ℕ) → ((A : List Entry) → next A status text → other A status text) → ListBy x next status text → ListBy x other status text
 list_alike (Ok A) next other status text f h = f A h
@@ -276,10 +325,10 @@ next_alike : (list : Option (List ℕ)) (next other : List Entry → Reply) (sta
 next_alike None next other status text f h = f [] h
 next_alike (Some bytes) next other status text f h = list_alike (entries_in bytes) next other status text f h
 
-pub loaded_reply : (laws : NamesThatSayTheSame) (command : Command) (firmware second : List ℕ) (list : Option (List ℕ)) (loaded : Loaded) (status : ℕ) (text : List ℕ) → GivesOn (device_for command) firmware loaded
+pub loaded_reply : (laws : NamesThatSayTheSame) (texts : ExplanationsSayTheSame) (places : PlacesSayTheSame) (command : Command) (firmware second : List ℕ) (list : Option (List ℕ)) (loaded : Loaded) (status : ℕ) (text : List ℕ) → GivesOn (device_for command) firmware loaded
     → WithList list (λ A. LoadedReply command loaded second A) status text → ImageReply command firmware second list status text
-loaded_reply laws command firmware second list loaded status text g h =
+loaded_reply laws texts places command firmware second list loaded status text g h =
     let there : WithList list (λ A. FlashReply command firmware second loaded.flash A) status text =
-    next_alike list (λ A. LoadedReply command loaded second A) (λ A. FlashReply command firmware second loaded.flash A) status text (λ A k. flash_alike laws command firmware second loaded A status text g.names g.static_end k) h in
+    next_alike list (λ A. LoadedReply command loaded second A) (λ A. FlashReply command firmware second loaded.flash A) status text (λ A k. flash_alike laws texts places command firmware second loaded A status text g.names g.static_end k) h in
     by_fault (firmware_fault (device_for command) firmware) (WithList list (λ A. FlashReply command firmware second (firmware_words (device_for command) firmware) A)) status text g.loads
     (subst (λ ws. WithList list (λ A. FlashReply command firmware second ws A) status text) g.words there)

@@ -4,14 +4,13 @@ use Rattle.avr_model.specs.declared.assumption.Entry.{Entry}
 use Rattle.avr_model.specs.declared.device.Device.{Device}
 use Rattle.sb_base.specs.Outside.{Held, Bytes, Blamed, Rose, grown, GrewByPrefix}
 use Rattle.certificate.specs.Claims.{Claim}
-use Rattle.certificate.specs.Valid.{IsValid}
 use Rattle.device_hooks.specs.Spelling.{Setup}
 use Rattle.device_hooks.specs.Exact.{IsReading as IsDevices}
-use Rattle.commands.specs.Commands.{Command, Check, Analyse, Report, Simulate, device_for}
+use Rattle.commands.specs.Commands.{Command, Check, Analyse, Report, Explain, Clear, Premises, Simulate, device_for}
 use Rattle.replies.specs.Texts.{usage, read_fault}
 use Rattle.replies.specs.Reading.{Contents, AllAgree, IsFirstFailed, firmware_cap, certificate_cap, devices_cap, assumption_cap}
 use Rattle.replies.specs.Reply.{IsReply}
-use Rattle.replies.specs.Headline.{Mean, StandFor, Holds, IsLeastCertificate, IsSimulated, SaysHowRoundsEnd, Headline, IsExact}
+use Rattle.replies.specs.Headline.{Mean, StandFor, Holds, IsLeastCertificate, IsSimulated, SaysWhether, SaysHowRoundsEnd, Headline, IsExact}
 
 -- ---- the answer where no call failed and memory sufficed
 
@@ -87,6 +86,9 @@ AreHeld holds (Some name) (Some bytes) = (holds name ≡ Bytes bytes) × (length
 pub data Judges : Command → (firmware certificate : List ℕ) (assume : Option (List ℕ)) → Type 0 where
   checks : (device : Device) (firmware certificate : List ℕ) (assume : Option (List ℕ)) → Judges (Check device firmware certificate assume) firmware certificate assume
   reports : (device : Device) (firmware certificate : List ℕ) (assume : Option (List ℕ)) (json : Bool) → Judges (Report device firmware certificate assume json) firmware certificate assume
+  clears : (device : Device) (firmware certificate : List ℕ) → Judges (Clear device firmware certificate) firmware certificate None
+  lists_premises : (device : Device) (firmware certificate : List ℕ) (assume : Option (List ℕ)) → Judges (Premises device firmware certificate assume) firmware certificate assume
+  explains : (device : Device) (firmware certificate : List ℕ) (assume : Option (List ℕ)) → Judges (Explain device firmware certificate assume) firmware certificate assume
 
 -- The words are this command, which judges, and these bytes are held under the names in them, within the caps.
 pub record IsJudging (command : Option Command) (judge : Command) (holds : List ℕ → Held) (firmware certificate : List ℕ) (list : Option (List ℕ)) : Type 0 where
@@ -107,11 +109,11 @@ HeldHeadline command holds status before after =
     (judge : Command) (firmware certificate : List ℕ) (list : Option (List ℕ)) → IsJudging command judge holds firmware certificate list → status ≡ 0
     → (text : List ℕ) × Holds judge firmware certificate list text × (after ≡ grown before text)
 
--- where held bytes read as values, it accepts exactly where the certificate is valid
+-- where held bytes read as values, it accepts exactly where the certificate is valid, and for `clear` all nodes are clear
 abbrev pub IsHeldExact : Option Command → (List ℕ → Held) → ℕ → Type 0
 IsHeldExact command holds status =
     (judge : Command) (firmware certificate : List ℕ) (list : Option (List ℕ)) (words : List ℕ) (claim : Claim) (A : List Entry)
-    → IsJudging command judge holds firmware certificate list → StandFor (device_for judge) firmware certificate list words claim A → (status ≡ 0) ↔ IsValid words A claim
+    → IsJudging command judge holds firmware certificate list → StandFor (device_for judge) firmware certificate list words claim A → SaysWhether judge words A claim status
 
 -- The words are an analysis for this device with this budget, and these bytes are held under the names in them, within the caps.
 pub record IsAnalysing (command : Option Command) (device : Device) (steps : Option ℕ) (holds : List ℕ → Held) (firmware : List ℕ) (list : Option (List ℕ)) : Type 0 where

@@ -7,7 +7,7 @@ ghost use Rattle.round_rules.specs.Solutions.{IsAnswer, IsWhyNot};
 ghost use Rattle.demo_image.specs.Image.{demo_words};
 ghost use Rattle.replies.specs.Texts.{why_not_status, why_not_text, demo_text};
 ghost use Rattle.replies.specs.Reply.{Refuses, AnalyseReply, DemoReply};
-ghost use Rattle.stack_core.specs.Working.{IsWitnessed, IsWitnessedText};
+ghost use Rattle.stack_core.specs.Answering.{IsWitnessed, IsWitnessedText};
 
 use crate::reply::Reply;
 use cert_check::{Verdict, judge};

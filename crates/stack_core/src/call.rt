@@ -22,9 +22,13 @@ pub fn stackbound<F: Files, K: Sink>(
     // Where no call failed and memory sufficed, the answer is the one reply to the words and to what was read, and it is written. One that
     // accepts a certificate says that the bound holds, and one that writes a certificate that it is the least.
     ensures settled { result ≢ 3 → result ≢ 4 → result ≢ 12 → IsWritten (command_of (map (λ w. w.now) words.now)) (F.holds files.old) result (K.written out.old) (K.written out.new) }
-    // Where a command that judges accepts held bytes, the bound holds of every run, and is told.
+    // Where a command that judges accepts held bytes, the bound holds of every run, and is told. An explanation is the one that there is of the
+    // certificate: its links nest from the root on, add up to at most the bound, and to the bound of a certificate with which the rounds end.
+    // Where `clear` answers 0, no run from reset is flagged, and each keeps the bound. The words that `premises` tells are all at which a run
+    // from reset can end flagged.
     ensures headline { HeldHeadline (command_of (map (λ w. w.now) words.now)) (F.holds files.old) result (K.written out.old) (K.written out.new) }
-    // Where held bytes read, it accepts exactly the valid certificates.
+    // Where held bytes read, it accepts exactly the valid certificates, `clear` those of them whose nodes are all clear; it says that a
+    // node isn't clear exactly where that is so, and rejects exactly where the certificate isn't valid.
     ensures exact { result ≢ 3 → result ≢ 4 → result ≢ 12 → IsHeldExact (command_of (map (λ w. w.now) words.now)) (F.holds files.old) result }
     // Where an analysis of held bytes answers 0, it has written their least certificate, which is valid: no valid one has a smaller bound,
     // every run keeps its bound, and its schedule is a run that reaches it; it has none exactly where no trial reaches it.

@@ -5,7 +5,7 @@ ghost use Rattle.std.specs.Option.{is_some};
 ghost use Rattle.cert_format.specs.Reading.{certificate_in};
 ghost use Rattle.replies.specs.Texts.{accepted};
 ghost use Rattle.replies.specs.Reply.{Says, report_by, CertificateReply};
-ghost use Rattle.stack_core.specs.Working.{IsJudgedAs};
+ghost use Rattle.stack_core.specs.Answering.{IsJudgedAs};
 
 use crate::reply::Reply;
 use cert_check::{Verdict, is_attained, judge};

@@ -4,6 +4,8 @@
 pub mod analysing;
 pub mod answer;
 pub mod call;
+pub mod clearing;
+pub mod explaining;
 pub mod judging;
 pub mod laws;
 pub mod loading;

@@ -101,6 +101,9 @@ fn second_cap(command: &Command<'_>) -> usize
         Command::Analyse { .. } => CERTIFICATE_CAP,
         Command::Run { .. } => SCHEDULE_CAP,
         Command::Report { .. } => CERTIFICATE_CAP,
+        Command::Explain { .. } => CERTIFICATE_CAP,
+        Command::Clear { .. } => CERTIFICATE_CAP,
+        Command::Premises { .. } => CERTIFICATE_CAP,
         Command::Simulate { .. } => DEVICES_CAP,
         Command::Demo { .. } => CERTIFICATE_CAP,
     }

@@ -8,9 +8,11 @@ ghost use Rattle.replies.specs.Firmware.{firmware_words};
 ghost use Rattle.replies.specs.Reply.{WithImage, WithList, FlashReply, WorkReply};
 ghost use Rattle.replies.specs.Headline.{HasWords};
 ghost use Rattle.stack_core.specs.Reading.{bytes_of};
-ghost use Rattle.stack_core.specs.Working.{LoadedReply, ImageReply};
+ghost use Rattle.stack_core.specs.Answering.{LoadedReply, ImageReply};
 
 use crate::analysing::{analyse, demo};
+use crate::clearing::{clear, premises};
+use crate::explaining::explain;
 use crate::judging::{check, report};
 use crate::loading::{Image, Listing, listed, loaded};
 use crate::reply::Reply;
@@ -18,6 +20,7 @@ use crate::running::run;
 use crate::simulating::simulate;
 use commands::Command;
 use elf_load::Loaded;
+use replies::laws::same_names_give_same_places;
 use reports::laws::same_names_give_same_reports;
 use std::alloc::{AllocError, Global};
 use vector_table::Assumptions;
@@ -45,6 +48,9 @@ fn on_flash(
         Command::Report { device, json, .. } => {
             report(alloc, assumptions, second, *device, loaded, *json)
         }
+        Command::Explain { .. } => explain(alloc, assumptions, second, loaded),
+        Command::Clear { .. } => clear(alloc, flash, second),
+        Command::Premises { .. } => premises(alloc, assumptions, second, loaded),
         Command::Simulate { steps, .. } => simulate(alloc, flash, assumptions, *steps, second),
         Command::Demo { size } => demo(alloc, size),
     }
@@ -78,6 +84,7 @@ fn on_image(
     ensures words { IfOk result (λ r. r.status ≡ 0 → AreWords (firmware_words (device_for (command_seen command.now)) firmware.now)) }
 {
     same_names_give_same_reports();
+    same_names_give_same_places();
     match loaded(alloc, command.device(), firmware)? {
         Image::Loaded(loaded) => {
             have_16_bits(loaded.flash.words());
@@ -104,6 +111,9 @@ pub fn work(
         Command::Analyse { .. } => on_image(alloc, command, firmware, second, list),
         Command::Run { .. } => on_image(alloc, command, firmware, second, list),
         Command::Report { .. } => on_image(alloc, command, firmware, second, list),
+        Command::Explain { .. } => on_image(alloc, command, firmware, second, list),
+        Command::Clear { .. } => on_image(alloc, command, firmware, second, list),
+        Command::Premises { .. } => on_image(alloc, command, firmware, second, list),
         Command::Simulate { .. } => on_image(alloc, command, firmware, second, list),
         Command::Demo { size } => demo(alloc, size),
     }

@@ -94,6 +94,9 @@ const LOOP: &[u8] = &[0xFF, 0xCF];
 
 const PUSH_AND_POP: &[u8] = &[0x0F, 0x92, 0x0F, 0x90, 0xFD, 0xCF];
 
+/// `st X, r0`, and a loop.
+const STORE: &[u8] = &[0x0C, 0x92, 0xFF, 0xCF];
+
 const NODES: &[(u16, u16)] = &[(0, 0), (1, 1), (2, 0)];
 
 /// Words, a firmware, a certificate over it (form, bound, need, nodes, end), and what is said.
@@ -124,7 +127,7 @@ fn is_judged(alloc: Global, row: &Judged) -> Result<bool, AllocError> {
     is_row(alloc, &row)
 }
 
-const JUDGED: [Judged; 13] = [
+const JUDGED: [Judged; 19] = [
     Judged {
         words: CHECK,
         firmware: LOOP,
@@ -246,6 +249,74 @@ const JUDGED: [Judged; 13] = [
         status: 1,
         printed: "rejected 8 witness\n",
     },
+    // the bound is greater than what the links add up to
+    Judged {
+        words: EXPLAIN,
+        firmware: PUSH_AND_POP,
+        form: FIRST_FORM,
+        bound: 2048,
+        need: 9,
+        nodes: NODES,
+        ending: OPEN,
+        status: 0,
+        printed: "explain bound 2048 least 1\nlink root 0000 0000000 0 - at 0001 adds 1\npath 0000 0001\n",
+    },
+    Judged {
+        words: EXPLAIN,
+        firmware: PUSH_AND_POP,
+        form: FIRST_FORM,
+        bound: 1,
+        need: 1,
+        nodes: NODES,
+        ending: NO_STEP,
+        status: 1,
+        printed: "rejected 8 witness\n",
+    },
+    Judged {
+        words: CLEAR,
+        firmware: PUSH_AND_POP,
+        form: FIRST_FORM,
+        bound: 1,
+        need: 1,
+        nodes: NODES,
+        ending: ATTAINED,
+        status: 0,
+        printed: "clear bound 1\n",
+    },
+    // a store through a pointer of which nothing is known
+    Judged {
+        words: CLEAR,
+        firmware: STORE,
+        form: FIRST_FORM,
+        bound: 0,
+        need: 0,
+        nodes: &[(0, 0), (1, 0)],
+        ending: OPEN,
+        status: 13,
+        printed: "unclear node 0 at 0000 st X, r0\n",
+    },
+    Judged {
+        words: PREMISES,
+        firmware: STORE,
+        form: FIRST_FORM,
+        bound: 0,
+        need: 0,
+        nodes: &[(0, 0), (1, 0)],
+        ending: OPEN,
+        status: 0,
+        printed: "bound 0 places 1\nat 0000 st X, r0 in -\n",
+    },
+    Judged {
+        words: CLEAR,
+        firmware: STORE,
+        form: FIRST_FORM,
+        bound: 0,
+        need: 0,
+        nodes: &[(0, 0)],
+        ending: OPEN,
+        status: 1,
+        printed: "rejected 3 node 0 to root 0000 0000000 0 0001 0000000 0 0 c0 -\n",
+    },
     Judged {
         words: CHECK,
         firmware: PUSH_AND_POP,
@@ -287,6 +358,12 @@ const REPORT: &[&str] = &["report", "FW", "SECOND"];
 
 const REPORT_AS_JSON: &[&str] = &["report", "FW", "SECOND", "--json"];
 
+const EXPLAIN: &[&str] = &["explain", "FW", "SECOND"];
+
+const CLEAR: &[&str] = &["clear", "FW", "SECOND"];
+
+const PREMISES: &[&str] = &["premises", "FW", "SECOND"];
+
 const RUN: &[&str] = &["run", "FW", "SECOND"];
 
 const ANALYSE: &[&str] = &["analyse", "FW"];
@@ -299,7 +376,7 @@ const INTERRUPT: &[u8] = &[
     0x03, 0xC0, 0, 0, 0x18, 0x95, 0, 0, 0xE8, 0x9A, 0x78, 0x94, 0xFF, 0xCF,
 ];
 
-const ROWS: [Row<'static>; 22] = [
+const ROWS: [Row<'static>; 20] = [
     Row {
         words: CHECK,
         firmware: LOOP,
@@ -308,15 +385,6 @@ const ROWS: [Row<'static>; 22] = [
         failing: (Some(0), None),
         status: 3,
         printed: "read fault FW\n",
-    },
-    Row {
-        words: CHECK,
-        firmware: LOOP,
-        second: "",
-        list: "",
-        failing: (Some(1), None),
-        status: 3,
-        printed: "read fault SECOND\n",
     },
     Row {
         words: WITH_LIST,
@@ -443,15 +511,6 @@ const ROWS: [Row<'static>; 22] = [
         failing: (None, None),
         status: 8,
         printed: "certificate order at 40\n",
-    },
-    Row {
-        words: CHECK,
-        firmware: LOOP,
-        second: "stackcert 1\nbound 0\nassume 0\ninstances 0\nnodes 65537\n",
-        list: "",
-        failing: (None, None),
-        status: 8,
-        printed: "certificate limit nodes\n",
     },
     Row {
         words: RUN,

@@ -20,6 +20,8 @@ struct Case {
     second_end: usize,
     /// How many lines LIST has, each of a word that is proved.
     lines: u16,
+    /// The number of the read that fails.
+    failing_read: Option<u32>,
     /// The first put takes nothing.
     takes_nothing: bool,
     status: u8,
@@ -79,6 +81,7 @@ const SOUND: Case = Case {
     second: OF_LOOP,
     second_end: 359,
     lines: 0,
+    failing_read: None,
     takes_nothing: false,
     status: 0,
     printed: "accepted bound 0 attained\n",
@@ -102,9 +105,15 @@ const UNREAD_SCHEDULE: Case = Case {
     ..SOUND
 };
 
-const CASES: [Case; 19] = [
+const CASES: [Case; 21] = [
     SOUND,
     SOUND_ELF,
+    Case {
+        failing_read: Some(1),
+        status: 3,
+        printed: "read fault SECOND\n",
+        ..SOUND
+    },
     Case {
         takes_nothing: true,
         status: 4,
@@ -182,6 +191,11 @@ const CASES: [Case; 19] = [
         ..UNREAD
     },
     Case {
+        second: &["stackcert 1\nbound 0\nassume 0\ninstances 0\nnodes 65537\n"],
+        printed: "certificate limit nodes\n",
+        ..UNREAD
+    },
+    Case {
         firmware: CALL,
         firmware_end: 6,
         second: OF_CALL,
@@ -248,6 +262,9 @@ fn is_answered(alloc: Global, case: &Case) -> Result<bool, AllocError> {
     files.add("FW", firmware.as_slice())?;
     files.add("SECOND", second.as_slice())?;
     files.add("LIST", list.as_bytes())?;
+    if let Some(call) = case.failing_read {
+        files.fail(call)?;
+    }
     let mut out = MemSink::new(alloc);
     if case.takes_nothing {
         out.short(0, 0)?;

@@ -9,7 +9,7 @@ type Row = (&'static [&'static str], &'static str);
 
 const NONE: &str = "";
 
-const ROWS: [Row; 20] = [
+const ROWS: [Row; 27] = [
     (&["check", "a", "--assume", "c", "b"], "check"),
     (
         &["analyse", "--steps", "2", "a", "--assume", "c"],
@@ -17,6 +17,20 @@ const ROWS: [Row; 20] = [
     ),
     (&["run", "a", "b"], "run"),
     (&["report", "--json", "a", "--assume", "c", "b"], "report"),
+    (
+        &[
+            "explain",
+            "a",
+            "b",
+            "--device",
+            "atmega48pa",
+            "--assume",
+            "c",
+        ],
+        "explain",
+    ),
+    (&["clear", "a", "--device", "atmega88pa", "b"], "clear"),
+    (&["premises", "a", "b", "--assume", "c"], "premises"),
     (
         &["simulate", "a", "--steps", "9", "b", "--assume", "c"],
         "simulate",
@@ -32,6 +46,10 @@ const ROWS: [Row; 20] = [
     (&["report", "a", "b", "--json", "--json"], NONE),
     (&["analyse", "a", "--steps", "02"], NONE),
     (&["analyse", "-x"], NONE),
+    (&["explain", "a"], NONE),
+    (&["explain", "a", "b", "--json"], NONE),
+    (&["clear", "a", "b", "--assume", "c"], NONE),
+    (&["premises", "a", "b", "--steps", "1"], NONE),
     (&["simulate", "a"], NONE),
     (&["simulate", "a", "b", "--json"], NONE),
     (
@@ -47,6 +65,9 @@ fn name_of(command: &Option<Command<'_>>) -> &'static str {
         Some(Command::Analyse { .. }) => "analyse",
         Some(Command::Run { .. }) => "run",
         Some(Command::Report { .. }) => "report",
+        Some(Command::Explain { .. }) => "explain",
+        Some(Command::Clear { .. }) => "clear",
+        Some(Command::Premises { .. }) => "premises",
         Some(Command::Simulate { .. }) => "simulate",
         Some(Command::Demo { .. }) => "demo",
         None => NONE,

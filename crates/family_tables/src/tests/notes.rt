@@ -1,4 +1,4 @@
-//! Worked nestings: what each tells as one finds it by hand, whether it is weighed once at the end or after each note.
+//! Worked nestings: what each tells as one finds it by hand, whether it is judged once at the end or after each note.
 
 ghost use Rattle.std.specs.Prelude.{◌≤◌};
 ghost use Rattle.avr_model.specs.State.{SIZE};
@@ -6,7 +6,7 @@ ghost use Rattle.mask_states.specs.Keys.{offset_of};
 
 use crate::tests::nesting::key;
 use avr_model::device::SIZE;
-use instance_nesting::{Nesting, Weight};
+use instance_nesting::{Nesting, NestingVerdict};
 use mask_states::{NodeKey, SpForm};
 use std::alloc::{AllocError, Global};
 
@@ -42,30 +42,30 @@ fn take(nesting: &mut Nesting, note: Note) -> Result<(), AllocError> {
     }
 }
 
-/// What the notes tell where SRAM has so many bytes, where the nesting is weighed besides after each note if `often`.
-fn weight(
+/// What the notes tell where SRAM has so many bytes, where the nesting is judged besides after each note if `often`.
+fn verdict(
     alloc: Global,
     size: u16,
     notes: &[Note],
     often: bool,
-) -> Result<Option<Weight>, AllocError> {
+) -> Result<Option<NestingVerdict>, AllocError> {
     let mut nesting = Nesting::new(alloc);
     for note in notes {
         take(&mut nesting, *note)?;
         if often && nesting.count() <= 65_536 {
-            nesting.weigh(size)?;
+            nesting.judge(size)?;
         }
     }
     if nesting.count() > 65_536 {
         return Ok(None);
     }
-    Ok(Some(nesting.weigh(size)?))
+    Ok(Some(nesting.judge(size)?))
 }
 
-fn is_row(alloc: Global, size: u16, notes: &[Note], wanted: Weight) -> bool {
+fn is_row(alloc: Global, size: u16, notes: &[Note], wanted: NestingVerdict) -> bool {
     for often in [false, true] {
-        match weight(alloc, size, notes, often) {
-            Ok(Some(weight)) if weight == wanted => {}
+        match verdict(alloc, size, notes, often) {
+            Ok(Some(verdict)) if verdict == wanted => {}
             _ => return false,
         }
     }
@@ -92,13 +92,13 @@ fn nestings_tell_what_is_found_by_hand(rt: HostRuntime) {
     let handler = (5, 10);
     let later = (9, 18);
     let chain = chain();
-    let rows: [(u16, &[Note], Weight); 16] = [
-        (SIZE, &[Note::Node(ROOT, 0)], Weight::Light),
-        (SIZE, &chain, Weight::Light),
+    let rows: [(u16, &[Note], NestingVerdict); 16] = [
+        (SIZE, &[Note::Node(ROOT, 0)], NestingVerdict::Nests),
+        (SIZE, &chain, NestingVerdict::Nests),
         // a need of exactly what the least SRAM has, and one more; then of the greatest
-        (512, &[Note::Node(ROOT, 512)], Weight::Light),
-        (512, &[Note::Node(ROOT, 513)], Weight::TooDeep(513)),
-        (SIZE, &[Note::Node(ROOT, 2_048)], Weight::Light),
+        (512, &[Note::Node(ROOT, 512)], NestingVerdict::Nests),
+        (512, &[Note::Node(ROOT, 513)], NestingVerdict::TooDeep(513)),
+        (SIZE, &[Note::Node(ROOT, 2_048)], NestingVerdict::Nests),
         (
             SIZE,
             &[
@@ -106,7 +106,7 @@ fn nestings_tell_what_is_found_by_hand(rt: HostRuntime) {
                 Note::Entrance(ROOT, 46, function),
                 Note::Node(function, 2_000),
             ],
-            Weight::Light,
+            NestingVerdict::Nests,
         ),
         (
             SIZE,
@@ -115,13 +115,13 @@ fn nestings_tell_what_is_found_by_hand(rt: HostRuntime) {
                 Note::Entrance(ROOT, 46, function),
                 Note::Node(function, 2_001),
             ],
-            Weight::TooDeep(2_049),
+            NestingVerdict::TooDeep(2_049),
         ),
         // an instance that is entered and has no node needs nothing
         (
             SIZE,
             &[Note::Node(ROOT, 0), Note::Entrance(ROOT, 2_046, function)],
-            Weight::Light,
+            NestingVerdict::Nests,
         ),
         (
             SIZE,
@@ -130,7 +130,7 @@ fn nestings_tell_what_is_found_by_hand(rt: HostRuntime) {
                 Note::Entrance(ROOT, 2_047, function),
                 Note::Entrance(ROOT, 0, handler),
             ],
-            Weight::TooDeep(2_049),
+            NestingVerdict::TooDeep(2_049),
         ),
         // a handler below a function below the root, with the way back to each
         (
@@ -142,7 +142,7 @@ fn nestings_tell_what_is_found_by_hand(rt: HostRuntime) {
                 Note::Entrance(function, 1_000, handler),
                 Note::Node(handler, 45),
             ],
-            Weight::TooDeep(2_049),
+            NestingVerdict::TooDeep(2_049),
         ),
         // two instances enter a third, each of them at its own depth
         (
@@ -155,7 +155,7 @@ fn nestings_tell_what_is_found_by_hand(rt: HostRuntime) {
                 Note::Entrance(function, 1_500, leaf),
                 Note::Node(leaf, 46),
             ],
-            Weight::Light,
+            NestingVerdict::Nests,
         ),
         // a function that enters itself, and one that does by another
         (
@@ -166,7 +166,7 @@ fn nestings_tell_what_is_found_by_hand(rt: HostRuntime) {
                 Note::Node(function, 0),
                 Note::Entrance(function, 0, function),
             ],
-            Weight::Recursion(40),
+            NestingVerdict::Recursion(40),
         ),
         (
             SIZE,
@@ -178,7 +178,7 @@ fn nestings_tell_what_is_found_by_hand(rt: HostRuntime) {
                 Note::Node(leaf, 0),
                 Note::Entrance(leaf, 0, function),
             ],
-            Weight::Recursion(30),
+            NestingVerdict::Recursion(30),
         ),
         // two handlers that enter each other: the lesser vector
         (
@@ -191,7 +191,7 @@ fn nestings_tell_what_is_found_by_hand(rt: HostRuntime) {
                 Note::Node(handler, 0),
                 Note::Entrance(handler, 0, later),
             ],
-            Weight::ReEntry(5, 10),
+            NestingVerdict::ReEntry(5, 10),
         ),
         // a handler is named before a function
         (
@@ -205,7 +205,7 @@ fn nestings_tell_what_is_found_by_hand(rt: HostRuntime) {
                 Note::Node(later, 0),
                 Note::Entrance(later, 0, later),
             ],
-            Weight::ReEntry(9, 18),
+            NestingVerdict::ReEntry(9, 18),
         ),
         // a cycle is told before the depth, also where the root is noted last
         (
@@ -216,7 +216,7 @@ fn nestings_tell_what_is_found_by_hand(rt: HostRuntime) {
                 Note::Entrance(ROOT, 2_048, function),
                 Note::Node(ROOT, 0),
             ],
-            Weight::Recursion(40),
+            NestingVerdict::Recursion(40),
         ),
     ];
     for (at, (size, notes, wanted)) in rows.iter().enumerate() {

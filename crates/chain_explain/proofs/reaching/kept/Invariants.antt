@@ -1,5 +1,5 @@
 use Rattle.std.proofs.Common.{◌≡◌, ◌++◌, drop}
-use Rattle.chain_explain.specs.Working.{kept_by}
+use Rattle.chain_explain.specs.Moves.{kept_by}
 use Rattle.chain_explain.proofs.reaching.kept.Given as goal
 
 abbrev pub invariant-loop-at : goal.invariant-loop-at

@@ -3,7 +3,7 @@ use Rattle.mask_states.specs.Keys.{root_inst, entry_key}
 use Rattle.local_rules.specs.declared.local.Node.{Node}
 use Rattle.local_laws.specs.Laws.{HasKey}
 use Rattle.chain_explain.specs.Reached.{AreReached}
-use Rattle.chain_explain.specs.Working.{kept_by}
+use Rattle.chain_explain.specs.Moves.{kept_by}
 use Rattle.chain_explain.proofs.Lists.{only}
 use Rattle.chain_explain.proofs.Numbers.{found_at, inside_at}
 use Rattle.chain_explain.proofs.Edges.{is_graph}

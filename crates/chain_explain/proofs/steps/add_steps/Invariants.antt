@@ -1,5 +1,5 @@
 use Rattle.std.proofs.Common.{◌≡◌, ◌++◌, take}
-use Rattle.chain_explain.specs.Working.{all_of, moves_of}
+use Rattle.chain_explain.specs.Moves.{all_of, moves_of}
 use Rattle.chain_explain.proofs.steps.add_steps.Given as goal
 
 abbrev pub invariant-loop-edge : goal.invariant-loop-edge

@@ -1,6 +1,6 @@
 use Rattle.std.proofs.Common.{◌≡◌, ◌+◌, ◌<◌, ◌++◌, ◌∷◌, [], ◌∙◌, ap, sym, subst, arith, length, List, ℕ}
 use Rattle.mask_states.specs.declared.keys.NodeKey.{NodeKey}
-use Rattle.chain_explain.specs.Working.{all_of, moves_of, AreSteps}
+use Rattle.chain_explain.specs.Moves.{all_of, moves_of, AreSteps}
 use Rattle.chain_explain.proofs.Lists.{get_at}
 use Rattle.chain_explain.proofs.Stepped.{node_at}
 use Rattle.chain_explain.proofs.Built.{steps_more}

@@ -1,4 +1,4 @@
-use Rattle.chain_explain.specs.Working.{AreSteps}
+use Rattle.chain_explain.specs.Moves.{AreSteps}
 use Rattle.chain_explain.proofs.steps.steps_with.Given as goal
 
 abbrev pub invariant-loop-at : goal.invariant-loop-at

@@ -1,5 +1,5 @@
 use Rattle.std.proofs.Common.{◌-◌}
-use Rattle.chain_explain.specs.Working.{IsPortion}
+use Rattle.chain_explain.specs.Moves.{IsPortion}
 use Rattle.chain_explain.proofs.way.portion.Given as goal
 
 abbrev pub invariant-loop-at : goal.invariant-loop-at

@@ -10,5 +10,8 @@ returns c =
     let second = c.in_ok-program-2.ensures ∙ ap₂ add first c.in_ok-analyse.ensures.app in
     let third = c.in_ok-program-3.ensures ∙ ap₂ add second c.in_ok-judging-2.ensures.app in
     let fourth = c.in_ok-program-4.ensures ∙ ap₂ add third c.in_ok-report.ensures.app in
-    let fifth = c.in_ok-program-5.ensures ∙ ap₂ add fourth c.in_ok-simulate.ensures.app in
-    IfOk-weaker c.with_command-6.result _ _ (λ x h. h ∙ ap₂ add fifth c.in_ok-demo.ensures.app) c.with_command-6.ensures
+    let fifth = c.in_ok-program-5.ensures ∙ ap₂ add fourth c.in_ok-judging-3.ensures.app in
+    let sixth = c.in_ok-program-6.ensures ∙ ap₂ add fifth c.in_ok-clear.ensures.app in
+    let seventh = c.in_ok-program-7.ensures ∙ ap₂ add sixth c.in_ok-judging-4.ensures.app in
+    let eighth = c.in_ok-program-8.ensures ∙ ap₂ add seventh c.in_ok-simulate.ensures.app in
+    IfOk-weaker c.with_command-9.result _ _ (λ x h. h ∙ ap₂ add eighth c.in_ok-demo.ensures.app) c.with_command-9.ensures

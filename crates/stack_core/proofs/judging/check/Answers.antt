@@ -3,7 +3,7 @@ use Rattle.std.specs.Option.{is_some}
 use Rattle.cert_format.specs.Reading.{certificate_in}
 use Rattle.replies.specs.Texts.{accepted}
 use Rattle.replies.specs.Reply.{Says}
-use Rattle.stack_core.specs.Working.{IsJudgedAs}
+use Rattle.stack_core.specs.Answering.{IsJudgedAs}
 use Rattle.stack_core.proofs.Replies.{accepted_reply}
 use Rattle.stack_core.proofs.judging.check.Goals as goal
 

@@ -1,7 +1,7 @@
 use Rattle.std.proofs.Common.{refl, subst}
 use Rattle.cert_format.specs.Reading.{certificate_in}
 use Rattle.replies.specs.Reply.{Says, report_by}
-use Rattle.stack_core.specs.Working.{IsJudgedAs}
+use Rattle.stack_core.specs.Answering.{IsJudgedAs}
 use Rattle.stack_core.proofs.Replies.{accepted_reply}
 use Rattle.stack_core.proofs.judging.report.Goals as goal
 

@@ -14,11 +14,11 @@ use Rattle.certificate.specs.Valid.{IsAttained, IsValid}
 use Rattle.cert_words.specs.Text.{text_of}
 use Rattle.cert_format.specs.declared.fault.CertFault.{CertFault}
 use Rattle.cert_format.specs.Reading.{certificate_in}
-use Rattle.commands.specs.Commands.{Command, Report, device_for}
+use Rattle.commands.specs.Commands.{Command, Report, Explain, Premises, device_for}
 use Rattle.replies.specs.Texts.{assumptions_refused}
 use Rattle.replies.specs.Firmware.{words_by, fault_by, names_by, end_by, outside_fault, firmware_words, firmware_fault, firmware_names, firmware_end}
 use Rattle.replies.specs.Analysis.{TrialsFind}
-use Rattle.replies.specs.Reply.{Reply, Says, WithImage, WithList, report_by, CertificateReply, FlashReply}
+use Rattle.replies.specs.Reply.{Reply, Says, WithImage, WithList, report_by, ExplainReply, PremisesReply, CertificateReply, FlashReply}
 use Rattle.stack_core.specs.declared.loading.Image.{Image}
 use Rattle.stack_core.specs.declared.loading.Image.TheVariants.{Loaded, Refused}
 use Rattle.stack_core.specs.declared.loading.Listing.{Listing}
@@ -98,6 +98,8 @@ pub record IsWitnessedText (words : List ℕ) (A : List Entry) (least : Claim) (
 abbrev pub LoadedReply : Command → Firmware → List ℕ → List Entry → Reply
 LoadedReply (Report device name certificate assume json) loaded bytes A =
     CertificateReply loaded.flash A (λ c. Says 0 (report_by json device loaded.names loaded.static_end c)) (certificate_in bytes)
+LoadedReply (Explain device name certificate assume) loaded bytes A = CertificateReply loaded.flash A (ExplainReply loaded.names loaded.flash A) (certificate_in bytes)
+LoadedReply (Premises device name certificate assume) loaded bytes A = CertificateReply loaded.flash A (PremisesReply loaded.names loaded.flash A) (certificate_in bytes)
 LoadedReply command loaded bytes A = FlashReply command [] bytes loaded.flash A
 
 abbrev pub ImageReply : Command → List ℕ → List ℕ → Option (List ℕ) → Reply

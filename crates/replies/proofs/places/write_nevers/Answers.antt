@@ -1,0 +1,8 @@
+use Rattle.replies.specs.Places.{never_line}
+use Rattle.reports.proofs.AllLaws.{numbers_next}
+use Rattle.replies.proofs.places.write_nevers.Goals as goal
+
+pub loop-word-preserved : goal.loop-word-preserved
+loop-word-preserved c =
+    numbers_next never_line c.appending_laws.ensures c.args.out.now c.loop-word.out c.write_never.new.out c.args.nevers.now c.loop-word.word-index c.loop-word-test.true c.requires c.loop-word.invariant
+    c.in_ok-write_never.ensures

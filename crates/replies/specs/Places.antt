@@ -1,0 +1,53 @@
+-- What is told of the words at which a step may be flagged. Source: own.
+use Rattle.std.specs.Prelude.{ℕ, zero, suc, ◌+◌, List, [], ◌∷◌, ◌++◌, length, codes, decimal, Option, Some, None}
+use Rattle.std.specs.List.{flat_map}
+use Rattle.sb_base.specs.Digits.{hex_digits}
+use Rattle.sb_base.specs.Lines.{line}
+use Rattle.flash_image.specs.Naming.{Named, least_name}
+use Rattle.reports.specs.Report.{name_word}
+use Rattle.replies.specs.Texts.{told, instruction_told}
+
+-- no node may flag a step
+abbrev pub clear_text : ℕ → List ℕ
+clear_text bound = told (codes "clear" ∷ codes "bound" ∷ decimal bound ∷ [])
+
+-- a word, and the instruction there
+abbrev pub place_words : List ℕ → ℕ → List (List ℕ)
+place_words words pc = codes "at" ∷ hex_digits pc 4 ∷ instruction_told words pc
+
+-- the number of the least node that may, and its place
+abbrev pub unclear_text : List ℕ → ℕ → ℕ → List ℕ
+unclear_text words node pc = told (codes "unclear" ∷ codes "node" ∷ decimal node ∷ place_words words pc)
+
+-- ---- all words at which one may be flagged
+
+abbrev pub name_or : Option (List ℕ) → Option (List ℕ) → Option (List ℕ)
+name_or None other = other
+name_or (Some name) other = Some name
+
+-- the name of the greatest word that has one, of this word and those before it
+unfoldable pub name_up_to : List Named → ℕ → Option (List ℕ)
+name_up_to names zero = least_name names zero
+name_up_to names (suc pc) = name_or (least_name names (suc pc)) (name_up_to names pc)
+
+-- a word, the instruction there, and the name under which it stands
+abbrev pub place_line : List ℕ → List Named → ℕ → List (List ℕ)
+place_line words names pc = place_words words pc ++ codes "in" ∷ name_word (name_up_to names pc) ∷ []
+
+abbrev pub place_text : List ℕ → List Named → ℕ → List ℕ
+place_text words names pc = line (place_line words names pc)
+
+-- a word at which a vector is entered that may be taken, though it is said that it never is
+abbrev pub never_line : ℕ → List (List ℕ)
+never_line word = codes "never" ∷ hex_digits word 4 ∷ []
+
+abbrev pub never_text : ℕ → List ℕ
+never_text word = line (never_line word)
+
+-- the bound of the certificate, and how many such words there are of both kinds
+abbrev pub count_line : ℕ → ℕ → List (List ℕ)
+count_line bound count = codes "bound" ∷ decimal bound ∷ codes "places" ∷ decimal count ∷ []
+
+abbrev pub premises_text : List ℕ → List Named → ℕ → List ℕ → List ℕ → List ℕ
+premises_text words names bound sites nevers =
+    line (count_line bound (length sites + length nevers)) ++ (flat_map (place_text words names) sites ++ flat_map never_text nevers)

@@ -1,0 +1,33 @@
+-- The text of an explanation: where the bytes of a bound go, as lines of words. Source: own.
+use Rattle.std.specs.Prelude.{ℕ, List, [], ◌∷◌, ◌++◌, map, codes, decimal}
+use Rattle.std.specs.List.{flat_map}
+use Rattle.sb_base.specs.Digits.{hex_digits}
+use Rattle.sb_base.specs.Lines.{line}
+use Rattle.flash_image.specs.Naming.{Named, least_name}
+use Rattle.cert_words.specs.KeySpelling.{inst_key_words}
+use Rattle.chain_explain.specs.declared.explanation.Explanation.{Explanation}
+use Rattle.chain_explain.specs.declared.explanation.Part.{Part}
+use Rattle.reports.specs.Report.{name_word}
+
+-- the bound of the certificate, and what the links add up to
+abbrev pub explain_line : ℕ → Explanation → List (List ℕ)
+explain_line bound x = codes "explain" ∷ codes "bound" ∷ decimal bound ∷ codes "least" ∷ decimal x.least ∷ []
+
+-- a link: its instance, the name of the entry, the word of its place, and the bytes that it adds
+abbrev pub link_line : List Named → Part → List (List ℕ)
+link_line names part =
+    codes "link" ∷ inst_key_words part.inst ++ name_word (least_name names part.inst.entry) ∷ codes "at" ∷ hex_digits part.pc 4 ∷ codes "adds" ∷ decimal part.adds ∷ []
+
+abbrev pub word_text : ℕ → List ℕ
+word_text word = hex_digits word 4
+
+-- the words of the way to its place
+abbrev pub path_line : Part → List (List ℕ)
+path_line part = codes "path" ∷ map word_text part.walk
+
+abbrev pub part_text : List Named → Part → List ℕ
+part_text names part = line (link_line names part) ++ line (path_line part)
+
+-- the text of an explanation of a certificate with this bound
+abbrev pub explanation_text : ℕ → List Named → Explanation → List ℕ
+explanation_text bound names x = line (explain_line bound x) ++ flat_map (part_text names) x.parts

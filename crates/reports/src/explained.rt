@@ -1,0 +1,114 @@
+//! The text of an explanation.
+
+ghost use Rattle.std.specs.Prelude.{◌≡◌, ◌<◌, map, length, IfOk, OnOk, false};
+ghost use Rattle.std.specs.List.{flat_map};
+ghost use Rattle.sb_base.specs.Lines.{line};
+ghost use Rattle.sb_base.specs.Writing.{with_words, with_end};
+ghost use Rattle.line_reading.specs.Appending.{with_text};
+ghost use Rattle.reports.specs.Explained.{word_text, explain_line, link_line, path_line, part_text, explanation_text};
+
+use crate::text::write_name;
+use cert_writing::write_inst_key;
+use chain_explain::{Explanation, Part};
+use flash_image::Names;
+use line_reading::laws::appending_laws;
+use sb_base::LineWriter;
+use std::alloc::{AllocError, Global};
+
+/// Writes the line of a link.
+fn write_link(
+    out: &mut LineWriter,
+    alloc: Global,
+    names: &Names,
+    part: &Part,
+) -> Result<(), AllocError>
+    ensures { OnOk result (out.new ≡ with_end (with_words out.old (link_line names.now part.now))) }
+{
+    out.word(b"link")?;
+    write_inst_key(out, alloc, &part.inst)?;
+    write_name(out, names, part.inst.entry)?;
+    out.word(b"at")?;
+    out.hex(u32::from(part.pc), 4)?;
+    out.word(b"adds")?;
+    out.dec(u64::from(part.adds))?;
+    out.end_line()
+}
+
+/// Writes word addresses.
+fn write_words(out: &mut LineWriter, words: &[u16]) -> Result<(), AllocError>
+    ensures { OnOk result (out.new ≡ with_words out.old (map word_text words.now)) }
+{
+    for word in words {
+        out.hex(u32::from(*word), 4)?;
+    }
+    Ok(())
+}
+
+/// Writes the line of the way to a link's place.
+fn write_path(out: &mut LineWriter, part: &Part) -> Result<(), AllocError>
+    ensures { OnOk result (out.new ≡ with_end (with_words out.old (path_line part.now))) }
+{
+    out.word(b"path")?;
+    write_words(out, part.walk.as_slice())?;
+    out.end_line()
+}
+
+/// Writes the two lines of a link.
+fn write_part(
+    out: &mut LineWriter,
+    alloc: Global,
+    names: &Names,
+    part: &Part,
+) -> Result<(), AllocError>
+    requires { out.old.begun ≡ false }
+    ensures { OnOk result (out.new ≡ with_text out.old (part_text names.now part.now)) }
+{
+    appending_laws();
+    write_link(out, alloc, names, part)?;
+    write_path(out, part)
+}
+
+/// Writes the lines of all links.
+fn write_parts(
+    out: &mut LineWriter,
+    alloc: Global,
+    names: &Names,
+    explanation: &Explanation,
+) -> Result<(), AllocError>
+    requires { out.old.begun ≡ false }
+    ensures { OnOk result (out.new ≡ with_text out.old (flat_map (part_text names.now) explanation.now.parts)) }
+{
+    for at in 0..explanation.count() {
+        write_part(out, alloc, names, explanation.part(at))?;
+    }
+    Ok(())
+}
+
+/// Writes the first line.
+fn write_sum(out: &mut LineWriter, bound: u16, explanation: &Explanation) -> Result<(), AllocError>
+    ensures { OnOk result (out.new ≡ with_end (with_words out.old (explain_line bound explanation.now))) }
+{
+    out.word(b"explain")?;
+    out.word(b"bound")?;
+    out.dec(u64::from(bound))?;
+    out.word(b"least")?;
+    out.dec(u64::from(explanation.least()))?;
+    out.end_line()
+}
+
+/// The explanation of a certificate with this bound as lines: what its links add up to, and for each link the instance with the name of its
+/// entry, the word of the place, the bytes that it adds, and the words of a shortest way to the place.
+pub fn explanation_text(
+    alloc: Global,
+    bound: u16,
+    names: &Names,
+    explanation: &Explanation,
+) -> Result<Vec<u8>, AllocError>
+    ensures { IfOk result (λ v. v.items ≡ explanation_text bound names.now explanation.now) }
+{
+    appending_laws();
+    let mut out = LineWriter::new(alloc);
+    write_sum(&mut out, bound, explanation)?;
+    write_parts(&mut out, alloc, names, explanation)?;
+    Ok(out.finish())
+}

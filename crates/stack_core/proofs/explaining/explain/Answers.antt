@@ -1,0 +1,14 @@
+use Rattle.std.proofs.Common.{subst}
+use Rattle.cert_format.specs.Reading.{certificate_in}
+use Rattle.replies.specs.Reply.{ExplainReply}
+use Rattle.stack_core.specs.Answering.{IsJudgedAs}
+use Rattle.stack_core.proofs.Replies.{accepted_result}
+use Rattle.stack_core.proofs.explaining.explain.Goals as goal
+
+pub explained-requires : goal.explained-requires
+explained-requires c = (subst (IsJudgedAs c.args.loaded.now.flash c.args.assumptions.now (certificate_in c.args.text.now)) c.in-Accepted.is c.in_ok-certificate.ensures).1.sound
+
+pub returns-in-Accepted : goal.returns-in-Accepted
+returns-in-Accepted c =
+    accepted_result c.args.loaded.now.flash c.args.assumptions.now (ExplainReply c.args.loaded.now.names c.args.loaded.now.flash c.args.assumptions.now) (certificate_in c.args.text.now) c.in-Accepted.certificate c.explained.result
+    (subst (IsJudgedAs c.args.loaded.now.flash c.args.assumptions.now (certificate_in c.args.text.now)) c.in-Accepted.is c.in_ok-certificate.ensures) c.explained.ensures
