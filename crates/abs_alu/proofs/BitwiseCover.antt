@@ -19,7 +19,7 @@ use Rattle.abs_alu.specs.Bitwise.{logic_bits, step_bits, step_limit, top_bit, sh
 use Rattle.abs_alu.specs.Laws.{BitwiseCovers}
 use Rattle.abs_alu.proofs.FlagCover.{below_eight, below_two, xor_is, bit_is, has_known, kept_covers, top_covers, result_covers}
 
-logic_small : (op : Logic) (x y : ℕ) → x < 256 → y < 256 → logic_of op x y < 256
+pub logic_small : (op : Logic) (x y : ℕ) → x < 256 → y < 256 → logic_of op x y < 256
 logic_small And x y hx hy = omega (arith, and_le_l x y)
 logic_small Or x y hx hy = or_lt 8 x y hx hy
 logic_small Eor x y hx hy = xor_lt 8 x y hx hy
@@ -37,7 +37,7 @@ step_has false a x small has =
     let e : (256 + x - (1 + 0)) % 256 ≡ (x + 255) % 256 = omega arith in
     subst (Has (step_bits false a)) e (sums_cover.differences a (byte_known 1) Zero x 1 0 small (omega arith) (omega arith) has (has_known 1 (omega arith)) refl).bits
 
-step_small : (up : Bool) (x : ℕ) → step_of up x < 256
+pub step_small : (up : Bool) (x : ℕ) → step_of up x < 256
 step_small true x = omega arith
 step_small false x = omega arith
 
@@ -45,7 +45,7 @@ limit_covers : (up : Bool) (r : TriByte) (x : ℕ) → x < 256 → Has r x → P
 limit_covers true r x small has = logic_covers.tests r (byte_known 0x80) x 0x80 small (omega arith) has (has_known 0x80 (omega arith))
 limit_covers false r x small has = logic_covers.tests r (byte_known 0x7F) x 0x7F small (omega arith) has (has_known 0x7F (omega arith))
 
-top_small : (op : Shift) (x w : ℕ) → x < 256 → top_of op x w < 2
+pub top_small : (op : Shift) (x w : ℕ) → x < 256 → top_of op x w < 2
 top_small Lsr x w h = omega arith
 top_small Ror x w h = below_two (flag w 0)
 top_small Asr x w h = omega arith

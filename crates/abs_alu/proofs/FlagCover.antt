@@ -2,6 +2,8 @@
 use Rattle.std.proofs.Common.{◌≡◌, refl, subst, ℕ, zero, suc, ◌+◌, ◌%◌, ◌<◌, arith, min, Bool, true, false, eqb, leb, ◌&&◌}
 use Rattle.std.proofs.lemmas.Nat.Bits.{bit_at-lt}
 use Rattle.std.specs.Int.{bit_at, from_bool}
+use Rattle.avr_alu.proofs.SumFlags.{top}
+use Rattle.bit_domain.proofs.Members.{bits_within}
 use Rattle.avr_model.specs.Sreg.{with_flags, flag, xor}
 use Rattle.avr_model.specs.Bitwise.{flags_of_result}
 use Rattle.bit_domain.specs.declared.bits.Tri.{Tri}
@@ -35,9 +37,6 @@ bit_is (suc (suc n)) h = absurd (omega arith)
 
 pub flag_is : (w i : ℕ) → bit_at w i ≡ from_bool (flag w i)
 flag_is w i = bit_is (bit_at w i) (bit_at-lt w i)
-
-pub top_is : (r : ℕ) → r < 256 → bit_at r 7 ≡ from_bool (leb 128 r)
-top_is r h = grind arith
 
 -- what holds of each of the numbers below 8 holds below 8
 pub below_eight : (P : ℕ → Type 0) → P 0 → P 1 → P 2 → P 3 → P 4 → P 5 → P 6 → P 7 → (i : ℕ) → i < 8 → P i
@@ -82,16 +81,13 @@ flags_cover c z n v h s bc bz bn bv bh w pc pz pn pv ph has =
     (subst (Permits (tri_at s 6)) e6 (has 6 (omega arith)))
     (subst (Permits (tri_at s 7)) e7 (has 7 (omega arith))))
 
-pub at_bits : (s s' : TriByte) → IsWithin s s' → (i : ℕ) → i < 8 → IsTriWithin (tri_at s i) (tri_at s' i)
-at_bits s s' = (bytes_are_sets.within s s').0
-
 pub flags_within : (c z n v h c' z' n' v' h' : Tri) (s s' : TriByte)
     → IsTriWithin c c' → IsTriWithin z z' → IsTriWithin n n' → IsTriWithin v v' → IsTriWithin h h' → IsWithin s s'
     → IsWithin (tri_flags c z n v h s) (tri_flags c' z' n' v' h' s')
 flags_within c z n v h c' z' n' v' h' s s' wc wz wn wv wh ws =
     bytes_are_sets.built_within (flag_bit c z n v h s) (flag_bit c' z' n' v' h' s')
     (below_eight (λ i. IsTriWithin (flag_bit c z n v h s i) (flag_bit c' z' n' v' h' s' i)) wc wz wn wv
-    (bits_cover.xors_within n v n' v' wn wv) wh (at_bits s s' ws 6 (omega arith)) (at_bits s s' ws 7 (omega arith)))
+    (bits_cover.xors_within n v n' v' wn wv) wh (bits_within s s' ws 6 (omega arith)) (bits_within s s' ws 7 (omega arith)))
 
 -- a known byte
 pub has_known : (n : ℕ) → n < 256 → Has (byte_known n) n
@@ -107,7 +103,7 @@ pub zero_within : (r r' : TriByte) → IsWithin r r' → IsTriWithin (tri_zero r
 zero_within r r' w = logic_is_monotone.tests r (byte_known 0) r' (byte_known 0) w (same_within (byte_known 0))
 
 pub top_covers : (r : TriByte) (x : ℕ) → x < 256 → Has r x → Permits (tri_at r 7) (from_bool (leb 128 x))
-top_covers r x small has = subst (Permits (tri_at r 7)) (top_is x small) (has 7 (omega arith))
+top_covers r x small has = subst (Permits (tri_at r 7)) (top x small) (has 7 (omega arith))
 
 pub kept_covers : (s : TriByte) (w i : ℕ) → i < 8 → Has s w → Permits (tri_at s i) (from_bool (flag w i))
 kept_covers s w i h has = subst (Permits (tri_at s i)) (flag_is w i) (has i h)
@@ -122,4 +118,4 @@ pub result_within : (c v c' v' : Tri) (r s r' s' : TriByte) → IsTriWithin c c'
     → IsWithin (result_flags c v r s) (result_flags c' v' r' s')
 result_within c v c' v' r s r' s' wc wv wr ws =
     flags_within c (tri_zero r) (tri_at r 7) v (tri_at s 5) c' (tri_zero r') (tri_at r' 7) v' (tri_at s' 5) s s'
-    wc (zero_within r r' wr) (at_bits r r' wr 7 (omega arith)) wv (at_bits s s' ws 5 (omega arith)) ws
+    wc (zero_within r r' wr) (bits_within r r' wr 7 (omega arith)) wv (bits_within s s' ws 5 (omega arith)) ws

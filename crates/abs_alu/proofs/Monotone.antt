@@ -1,5 +1,6 @@
 -- Operands that stand for more have answers that stand for more.
 use Rattle.std.proofs.Common.{ℕ, ◌+◌, arith, Bool, true, false, eqb, cond}
+use Rattle.bit_domain.proofs.Members.{bits_within}
 use Rattle.avr_model.specs.declared.operation.Logic.{Logic}
 use Rattle.avr_model.specs.declared.operation.Logic.TheVariants.{And, Or, Eor}
 use Rattle.avr_model.specs.declared.operation.Shift.{Shift}
@@ -18,18 +19,18 @@ use Rattle.abs_alu.specs.Sums.{sum_flags, zero_after}
 use Rattle.abs_alu.specs.Bitwise.{logic_bits, step_bits, step_limit, top_bit, shift_bits}
 use Rattle.abs_alu.specs.Words.{word_answer, abs_wide}
 use Rattle.abs_alu.specs.Laws.{OperationsAreMonotone, IsPairWithin, IsAnswerWithin}
-use Rattle.abs_alu.proofs.FlagCover.{below_eight, at_bits, flags_within, result_within, zero_within, same_within}
+use Rattle.abs_alu.proofs.FlagCover.{below_eight, flags_within, result_within, zero_within, same_within}
 use Rattle.abs_alu.proofs.ProductCover.{products_within}
 
 sum_flags_within : (m n : Sum) (z z' : Tri) (s s' : TriByte) → IsSumWithin m n → IsTriWithin z z' → IsWithin s s'
     → IsWithin (sum_flags m z s) (sum_flags n z' s')
 sum_flags_within m n z z' s s' w wz ws =
     flags_within m.out z (tri_at m.bits 7) (tri_xor m.into_top m.out) m.half n.out z' (tri_at n.bits 7) (tri_xor n.into_top n.out) n.half s s'
-    w.out wz (at_bits m.bits n.bits w.bits 7 (omega arith)) (bits_cover.xors_within m.into_top m.out n.into_top n.out w.into_top w.out) w.half ws
+    w.out wz (bits_within m.bits n.bits w.bits 7 (omega arith)) (bits_cover.xors_within m.into_top m.out n.into_top n.out w.into_top w.out) w.half ws
 
 zero_after_within : (keep_zero : Bool) (r r' s s' : TriByte) → IsWithin r r' → IsWithin s s' → IsTriWithin (zero_after keep_zero r s) (zero_after keep_zero r' s')
 zero_after_within true r r' s s' wr ws =
-    bits_cover.ands_within (tri_zero r) (tri_at s 1) (tri_zero r') (tri_at s' 1) (zero_within r r' wr) (at_bits s s' ws 1 (omega arith))
+    bits_cover.ands_within (tri_zero r) (tri_at s 1) (tri_zero r') (tri_at s' 1) (zero_within r r' wr) (bits_within s s' ws 1 (omega arith))
 zero_after_within false r r' s s' wr ws = zero_within r r' wr
 
 logic_within : (op : Logic) (a b a' b' : TriByte) → IsWithin a a' → IsWithin b b' → IsWithin (logic_bits op a b) (logic_bits op a' b')
@@ -46,16 +47,16 @@ step_within false a a' w = (sums_are_monotone.differences a (byte_known 1) a' (b
 
 top_within : (op : Shift) (a s a' s' : TriByte) → IsWithin a a' → IsWithin s s' → IsTriWithin (top_bit op a s) (top_bit op a' s')
 top_within Lsr a s a' s' wa ws = λ n p. p
-top_within Ror a s a' s' wa ws = at_bits s s' ws 0 (omega arith)
-top_within Asr a s a' s' wa ws = at_bits a a' wa 7 (omega arith)
+top_within Ror a s a' s' wa ws = bits_within s s' ws 0 (omega arith)
+top_within Asr a s a' s' wa ws = bits_within a a' wa 7 (omega arith)
 
 shift_within : (a a' : TriByte) (top top' : Tri) → IsWithin a a' → IsTriWithin top top' → IsWithin (shift_bits a top) (shift_bits a' top')
 shift_within a a' top top' wa wt =
     let f : ℕ → Tri = λ i. cond (eqb i 7) top (tri_at a (i + 1)) in
     let g : ℕ → Tri = λ i. cond (eqb i 7) top' (tri_at a' (i + 1)) in
     bytes_are_sets.built_within f g (below_eight (λ i. IsTriWithin (f i) (g i))
-    (at_bits a a' wa 1 (omega arith)) (at_bits a a' wa 2 (omega arith)) (at_bits a a' wa 3 (omega arith)) (at_bits a a' wa 4 (omega arith))
-    (at_bits a a' wa 5 (omega arith)) (at_bits a a' wa 6 (omega arith)) (at_bits a a' wa 7 (omega arith)) wt)
+    (bits_within a a' wa 1 (omega arith)) (bits_within a a' wa 2 (omega arith)) (bits_within a a' wa 3 (omega arith)) (bits_within a a' wa 4 (omega arith))
+    (bits_within a a' wa 5 (omega arith)) (bits_within a a' wa 6 (omega arith)) (bits_within a a' wa 7 (omega arith)) wt)
 
 word_within : (low high low' high' : Sum) (s s' : TriByte) → IsSumWithin low low' → IsSumWithin high high' → IsWithin s s'
     → IsAnswerWithin (word_answer low high s) (word_answer low' high' s')
@@ -65,9 +66,9 @@ word_within low high low' high' s s' wl wh ws = (
       high'.out (tri_and (tri_zero low'.bits) (tri_zero high'.bits)) (tri_at high'.bits 7) (tri_xor high'.into_top high'.out) (tri_at s' 5) s s'
       wh.out
       (bits_cover.ands_within (tri_zero low.bits) (tri_zero high.bits) (tri_zero low'.bits) (tri_zero high'.bits) (zero_within low.bits low'.bits wl.bits) (zero_within high.bits high'.bits wh.bits))
-      (at_bits high.bits high'.bits wh.bits 7 (omega arith))
+      (bits_within high.bits high'.bits wh.bits 7 (omega arith))
       (bits_cover.xors_within high.into_top high.out high'.into_top high'.out wh.into_top wh.out)
-      (at_bits s s' ws 5 (omega arith)) ws,
+      (bits_within s s' ws 5 (omega arith)) ws,
 )
 
 wide_within : (up : Bool) (a a' : TriByte × TriByte) (k : ℕ) (s s' : TriByte) → IsPairWithin a a' → IsWithin s s'
@@ -99,7 +100,7 @@ all_are_monotone = record {
       (w.bits, sum_flags_within m n (zero_after keep_zero m.bits s) (zero_after keep_zero n.bits s') s s' w (zero_after_within keep_zero m.bits n.bits s s' w.bits ws) ws);
   logics = λ op a b s a' b' s' wa wb ws.
       let r = logic_within op a b a' b' wa wb in
-      (r, result_within (tri_at s 0) Zero (tri_at s' 0) Zero (logic_bits op a b) s (logic_bits op a' b') s' (at_bits s s' ws 0 (omega arith)) (λ n p. p) r ws);
+      (r, result_within (tri_at s 0) Zero (tri_at s' 0) Zero (logic_bits op a b) s (logic_bits op a' b') s' (bits_within s s' ws 0 (omega arith)) (λ n p. p) r ws);
   coms = λ a s a' s' wa ws.
       let r = logic_is_monotone.nots a a' wa in
       (r, result_within One Zero One Zero (byte_not a) s (byte_not a') s' (λ n p. p) (λ n p. p) r ws);
@@ -108,16 +109,16 @@ all_are_monotone = record {
       let limit = byte_known (step_limit up) in (
         r,
         result_within (tri_at s 0) (byte_equal (step_bits up a) limit) (tri_at s' 0) (byte_equal (step_bits up a') limit) (step_bits up a) s (step_bits up a') s'
-            (at_bits s s' ws 0 (omega arith)) (logic_is_monotone.tests (step_bits up a) limit (step_bits up a') limit r (same_within limit)) r ws,
+            (bits_within s s' ws 0 (omega arith)) (logic_is_monotone.tests (step_bits up a) limit (step_bits up a') limit r (same_within limit)) r ws,
       );
   shifts = λ op a s a' s' wa ws.
       let bits = shift_bits a (top_bit op a s) in
       let bits' = shift_bits a' (top_bit op a' s') in
       let r = shift_within a a' (top_bit op a s) (top_bit op a' s') wa (top_within op a s a' s' wa ws) in
-      let carry = at_bits a a' wa 0 (omega arith) in (
+      let carry = bits_within a a' wa 0 (omega arith) in (
         r,
         result_within (tri_at a 0) (tri_xor (tri_at bits 7) (tri_at a 0)) (tri_at a' 0) (tri_xor (tri_at bits' 7) (tri_at a' 0)) bits s bits' s'
-            carry (bits_cover.xors_within (tri_at bits 7) (tri_at a 0) (tri_at bits' 7) (tri_at a' 0) (at_bits bits bits' r 7 (omega arith)) carry) r ws,
+            carry (bits_cover.xors_within (tri_at bits 7) (tri_at a 0) (tri_at bits' 7) (tri_at a' 0) (bits_within bits bits' r 7 (omega arith)) carry) r ws,
       );
   products = products_within;
   words = wide_within;

@@ -1,11 +1,12 @@
 -- Products with their flags stand for the machine's.
-use Rattle.std.proofs.Common.{◌≡◌, ◌∙◌, subst, sym, ap, refl, ℕ, zero, suc, ◌+◌, ◌*◌, ◌/◌, ◌%◌, ◌<◌, ◌≤◌, ◌≢◌, arith, Bool, true, false, eqb, leb, cond, Option, Some, None, inl, inr}
+use Rattle.std.proofs.Common.{◌≡◌, ◌∙◌, subst, sym, ap, refl, ℕ, zero, suc, ◌+◌, ◌*◌, ◌/◌, ◌%◌, ◌<◌, ◌≢◌, arith, Bool, true, false, eqb, leb, cond, Option, Some, None, inl, inr}
 use Rattle.std.proofs.lemmas.Bool.{cases_eq, eq-eqb, ne_eqb, cond-true, cond-false}
 use Rattle.std.proofs.lemmas.Nat.Bits.{bit_at-suc, bit_at_lowest}
 use Rattle.std.specs.Int.{bit_at, from_bool, cast_unsigned, cast_signed, w8, w16}
-use Rattle.std.specs.Prelude.{ℤ, pos, ◌*ℤ◌, FitsSigned, unsigned_abs}
+use Rattle.std.specs.Prelude.{ℤ, pos, ◌*ℤ◌, FitsSigned}
 use Rattle.std.proofs.lemmas.Int.{ints, fits_signed_mul}
-use Rattle.std.proofs.Math.Nat.{mul-le-mul}
+use Rattle.basics.specs.Numbers.{product_of_bytes}
+use Rattle.avr_alu.proofs.Products.{abs_signed}
 use Rattle.avr_model.specs.declared.operation.Mul.{Mul}
 use Rattle.avr_model.specs.declared.operation.Mul.TheVariants.{Mul as Mul', Muls, Mulsu, Fmul, Fmuls, Fmulsu}
 use Rattle.avr_model.specs.Sreg.{with_carry_and_zero}
@@ -99,36 +100,26 @@ constant_within t u n w h =
     subst (Has t) (first ∙ sym (constant_member u n x small h has)) m.1) in
     ap byte_constant same ∙ h
 
-abs_signed : (x : ℕ) → x < 256 → unsigned_abs (cast_signed w8 x) ≤ 128
-abs_signed x h = grind (arith, ints)
-
-fits_small : (z : ℤ) → FitsSigned w16 z → cast_unsigned w16 z < 65536
+pub fits_small : (z : ℤ) → FitsSigned w16 z → cast_unsigned w16 z < 65536
 fits_small z h = grind (arith, ints)
 
-unsigned_small : (x y : ℕ) → x < 256 → y < 256 → x * y < 65536
-unsigned_small x y hx hy =
-    let first : x ≤ 255 = omega arith in
-    let second : y ≤ 255 = omega arith in
-    let le : x * y ≤ 255 * 255 = mul-le-mul first second in
-    omega arith
-
-signed_small : (x y : ℕ) → x < 256 → y < 256 → cast_unsigned w16 (cast_signed w8 x *ℤ cast_signed w8 y) < 65536
+pub signed_small : (x y : ℕ) → x < 256 → y < 256 → cast_unsigned w16 (cast_signed w8 x *ℤ cast_signed w8 y) < 65536
 signed_small x y hx hy =
     fits_small (cast_signed w8 x *ℤ cast_signed w8 y) (fits_signed_mul w16 (cast_signed w8 x) (cast_signed w8 y) 128 128 (abs_signed x hx) (abs_signed y hy) (omega arith))
 
-mixed_small : (x y : ℕ) → x < 256 → y < 256 → cast_unsigned w16 (cast_signed w8 x *ℤ pos y) < 65536
+pub mixed_small : (x y : ℕ) → x < 256 → y < 256 → cast_unsigned w16 (cast_signed w8 x *ℤ pos y) < 65536
 mixed_small x y hx hy =
     fits_small (cast_signed w8 x *ℤ pos y) (fits_signed_mul w16 (cast_signed w8 x) (pos y) 128 255 (abs_signed x hx) (omega arith) (omega arith))
 
-word_small : (op : Mul) (x y : ℕ) → x < 256 → y < 256 → word_of op x y < 65536
-word_small Mul' x y hx hy = unsigned_small x y hx hy
+pub word_small : (op : Mul) (x y : ℕ) → x < 256 → y < 256 → word_of op x y < 65536
+word_small Mul' x y hx hy = product_of_bytes x y hx hy
 word_small Muls x y hx hy = signed_small x y hx hy
 word_small Mulsu x y hx hy = mixed_small x y hx hy
-word_small Fmul x y hx hy = unsigned_small x y hx hy
+word_small Fmul x y hx hy = product_of_bytes x y hx hy
 word_small Fmuls x y hx hy = signed_small x y hx hy
 word_small Fmulsu x y hx hy = mixed_small x y hx hy
 
-result_small : (op : Mul) (x y : ℕ) → x < 256 → y < 256 → result_of op x y < 65536
+pub result_small : (op : Mul) (x y : ℕ) → x < 256 → y < 256 → result_of op x y < 65536
 result_small op x y hx hy = go (is_fractional op) where
   go : (doubled : Bool) → cond doubled (2 * word_of op x y % 65536) (word_of op x y) < 65536
   go true = omega arith

@@ -45,7 +45,7 @@ pub cleared : byte_of (λ i. tri_of (bit_at 0x7F i) (bit_at 0 i)) ≡ clear_flag
 unfolding packed
 cleared = bytes_are_their_bits.from_fields (byte_of (λ i. tri_of (bit_at 0x7F i) (bit_at 0 i))) clear_flags refl refl
 
-any_stands : (o : Origin) (x : ℕ) → x < 256 → ByteStands o unknown x
+pub any_stands : (o : Origin) (x : ℕ) → x < 256 → ByteStands o unknown x
 any_stands o x small = bits_make_values.stands o tag.None byte_any x small tt (bytes_are_sets.built (λ _. Any) x (λ i k. tt))
 
 pub reset_stands : ResetStands

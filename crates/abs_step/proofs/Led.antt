@@ -1,11 +1,10 @@
 -- What leaves the instance.
-use Rattle.std.proofs.Common.{◌≡◌, sym, ap, List, [], Option, None}
+use Rattle.std.proofs.Common.{◌≡◌, sym, ap, List, [], Option}
 use Rattle.local_rules.specs.declared.local.Node.{Node}
 use Rattle.local_rules.specs.declared.local.CallSite.{CallSite}
 use Rattle.local_rules.specs.declared.local.Exit.{Exit}
 use Rattle.local_rules.specs.Raw.{Raw}
 use Rattle.local_rules.specs.Local.{joined_onto}
-use Rattle.abs_successors.specs.Adding.{IsAdded}
 use Rattle.abs_step.specs.Leading.{IsLed}
 
 pub led : (nodes : List Node) (calls : List CallSite) (exit : Option Exit) (r : Raw)
@@ -16,12 +15,4 @@ led nodes calls exit r e = record {
   nodes = sym (ap (λ (r : Raw). joined_onto nodes r.moves) e);
   calls = sym (ap (λ (r : Raw). r.calls) e);
   exit = sym (ap (λ (r : Raw). r.exit) e);
-}
-
-pub added_led : (old new : List Node) (r : Raw) → IsAdded old new r → IsLed old new (record { calls = []; exit = None }) r
-added_led old new r h = record {
-  faults = ap (λ (r : Raw). r.faults) h.moves;
-  nodes = h.nodes;
-  calls = sym (ap (λ (r : Raw). r.calls) h.moves);
-  exit = sym (ap (λ (r : Raw). r.exit) h.moves);
 }

@@ -5,8 +5,9 @@ use Rattle.local_rules.specs.declared.local.Node.{Node}
 use Rattle.local_rules.specs.declared.local.NodeFault.{NodeFault}
 use Rattle.local_rules.specs.Raw.{Raw, all_of}
 use Rattle.local_rules.specs.Local.{joined_onto, below}
-use Rattle.abs_successors.specs.Adding.{first_fault, with_another, IsAdded, IsGathered}
-use Rattle.abs_successors.proofs.AllLaws.{map_more, joined_all, all_more, gathered_added}
+use Rattle.abs_step.specs.Adding.{first_fault, with_another, IsAdded, IsGathered}
+use Rattle.abs_step.proofs.Added.{map_more}
+use Rattle.abs_step.proofs.Gathered.{joined_all, all_more, gathered_added}
 use Rattle.abs_step.specs.declared.flow.Outside.{Outside}
 use Rattle.abs_step.specs.Leading.{IsLed}
 

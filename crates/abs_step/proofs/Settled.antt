@@ -1,19 +1,11 @@
 -- The one answer for a node.
-use Rattle.std.proofs.Common.{◌≡◌, refl, sym, ap, ◌∙◌, List, [], ◌∷◌, Some, Ok, Err}
+use Rattle.std.proofs.Common.{◌≡◌, refl, List, [], ◌∷◌, Some, Ok, Err}
 use Rattle.local_rules.specs.declared.local.Local.{Local}
-use Rattle.local_rules.specs.declared.local.Node.{Node}
 use Rattle.local_rules.specs.declared.local.NodeFault.{NodeFault}
-use Rattle.abs_step.specs.declared.flow.Outside.{Outside}
 use Rattle.local_rules.specs.Raw.{Raw}
 use Rattle.local_rules.specs.Local.{settled}
-use Rattle.abs_successors.specs.Adding.{first_fault, first_of}
-use Rattle.abs_step.specs.Leading.{IsLed}
-use Rattle.abs_successors.proofs.AllLaws.{first_more}
-
-pub led_settled : (new : List Node) (o : Outside) (r : Raw) → IsLed [] new o r
-    → settled r r.faults ≡ Ok (record { same = new; calls = o.calls; exit = o.exit })
-led_settled new o r h =
-    ap (settled r) h.faults ∙ sym (λ i. Ok (record { same = h.nodes i; calls = h.calls i; exit = h.exit i }))
+use Rattle.abs_step.specs.Adding.{first_fault, first_of}
+use Rattle.abs_step.proofs.Gathered.{first_more}
 
 fault_settled : (r : Raw) (fs : List NodeFault) (f : NodeFault) → first_fault fs ≡ Some f → settled r fs ≡ Err f
 fault_settled r [] f e = cc
@@ -29,9 +21,6 @@ none_settled r (f ∷ fs) l e = cc
 settled_first : (r : Raw) (fs : List NodeFault) (f : NodeFault) → settled r fs ≡ Err f → first_fault fs ≡ Some f
 settled_first r [] f e = cc
 settled_first r (g ∷ gs) f e = cc
-
-pub stopped_alone : (r : Raw) (l : Local) (f : NodeFault) → settled r r.faults ≡ Ok l → settled (record r { faults = f ∷ r.faults }) (f ∷ r.faults) ≡ Err f
-stopped_alone r l f e = ap (λ fs. settled (record r { faults = f ∷ fs }) (f ∷ fs)) (none_settled r r.faults l e)
 
 pub stopped_too : (r : Raw) (f g : NodeFault) → settled r r.faults ≡ Err g
     → settled (record r { faults = f ∷ r.faults }) (f ∷ r.faults) ≡ Err (first_of (Some f) g)

@@ -8,7 +8,7 @@ use Rattle.local_rules.specs.declared.local.NodeFault.{NodeFault}
 use Rattle.local_rules.specs.declared.local.NodeFault.TheVariants.{UnresolvedJump, Memory}
 use Rattle.local_rules.specs.Raw.{Raw}
 use Rattle.local_rules.specs.Local.{joined_onto, settled}
-use Rattle.abs_successors.specs.Adding.{first_fault}
+use Rattle.abs_step.specs.Adding.{first_fault}
 use Rattle.abs_step.specs.declared.flow.Outside.{Outside}
 
 -- the words to which an indirect transfer at pc may lead, or that they are too many

@@ -9,10 +9,10 @@ ghost use Rattle.local_rules.specs.Local as rows;
 ghost use Rattle.abs_step.specs.Leading.{Leads};
 
 use crate::flow::Outside;
+use crate::site::Site;
+use crate::successors::changed;
 use crate::table::row;
 use abs_state::AbsFlags;
-use abs_successors::site::Site;
-use abs_successors::successors::changed;
 use avr_decode::sets;
 use avr_model::instruction::Instr;
 use local_rules::local::{NodeFault, Nodes};

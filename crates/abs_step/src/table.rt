@@ -5,23 +5,23 @@ ghost use Rattle.avr_model.specs.Assumptions.{is_frame};
 ghost use Rattle.avr_model.specs.Image.{WORDS};
 ghost use Rattle.abs_rows.specs.Sections as sections;
 ghost use Rattle.local_rules.specs.Local as rows;
-ghost use Rattle.abs_successors.specs.Adding.{Adds};
+ghost use Rattle.abs_step.specs.Adding.{Adds};
 ghost use Rattle.abs_step.specs.Leading.{Leads};
 
+use crate::bits::{bit_row, flag_row};
+use crate::data_transfer::{known_write, load_row, lpm_row, read_row, store_row};
 use crate::flow::{
     Outside, branch_where_clear, branch_where_set, calling, indirect_call, jumping, relative_call,
     returning, skipping, staying,
 };
+use crate::pointer_stores::pointer_write;
+use crate::site::Site;
+use crate::stack::{pop_row, push_row};
+use crate::successors::{going_to, setting};
 use abs_reads::flow::{are_equal, further, port, port_bit, register_bit};
 use abs_reads::pointers::step_before;
 use abs_rows::rows::{binary_at, computed_by};
 use abs_rows::transfer::{base_register, pair_moved, pointer_moved, pointer_register};
-use abs_successors::bits::{bit_row, flag_row};
-use abs_successors::data_transfer::{known_write, load_row, lpm_row, read_row, store_row};
-use abs_successors::pointer_stores::pointer_write;
-use abs_successors::site::Site;
-use abs_successors::stack::{pop_row, push_row};
-use abs_successors::successors::{going_to, setting};
 use avr_decode::{far, near};
 use avr_model::instruction::{Base, BinaryOp, Instr, Register};
 use local_rules::local::{Exit, NodeFault, Nodes};

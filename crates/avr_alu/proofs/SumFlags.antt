@@ -9,7 +9,7 @@ use Rattle.avr_model.specs.Sums.{overflows, sum_of, signed_sum_of, flags_of_sum,
 use Rattle.avr_alu.proofs.BitTests.{some_bit}
 
 -- bit 7 of a byte
-top : (r : ℕ) → r < 256 → bit_at r 7 ≡ from_bool (leb 128 r)
+pub top : (r : ℕ) → r < 256 → bit_at r 7 ≡ from_bool (leb 128 r)
 top r h = grind arith
 
 -- ---- sums

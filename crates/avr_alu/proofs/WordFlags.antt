@@ -13,10 +13,6 @@ use Rattle.avr_alu.proofs.BitTests.{some_bit}
 top : (r : ℕ) → r < 2 ^ 16 → bit_at r 15 ≡ from_bool (leb 32768 r)
 top r h = grind arith
 
--- the bits of x that y has not
-abbrev pub drops : ℕ → ℕ → ℕ
-drops x y = bit_and (65535 - x) y
-
 dropped : (x y : ℕ) → x < 2 ^ 16 → bit_at (bit_and (65535 - x) y) 15 ≡ min (1 - bit_at x 15) (bit_at y 15)
 dropped x y h = bit_at_and (65535 - x) y 15 ∙ ap (λ (n : ℕ). min n (bit_at y 15)) (bit_at_not w16 x 15 h (omega arith))
 

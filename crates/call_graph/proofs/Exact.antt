@@ -5,6 +5,9 @@ use Rattle.sb_base.specs.Answers.{Answers}
 use Rattle.local_rules.specs.declared.local.NodeFault.TheVariants.{Memory}
 use Rattle.std.proofs.lemmas.List.Elements.{Contains-append_left, Contains-append_right, Contains-append_cases}
 use Rattle.std.proofs.lemmas.Bool.Decides.{nat_tests, eqb_tells}
+use Rattle.basics.specs.Items.{only_one_in, none_in, first_in, further_in, first_or_further}
+use Rattle.basics.specs.Booleans.{and_not}
+use Rattle.edge_laws.proofs.AllLaws.{part_of as whole}
 use Rattle.avr_model.specs.declared.assumption.Entry.{Entry}
 use Rattle.avr_model.specs.Vectors.{is_enabled, WATCHDOG}
 use Rattle.abs_state.specs.declared.state.AbsState.{AbsState}
@@ -23,7 +26,7 @@ use Rattle.local_rules.specs.declared.local.Exit.{Exit}
 use Rattle.local_rules.specs.declared.local.NodeFault.{NodeFault}
 use Rattle.local_rules.specs.Raw.{Raw}
 use Rattle.local_rules.specs.Local.{local, settled, joined_onto}
-use Rattle.local_laws.proofs.AllLaws.{none_in, here, there, first_or, in_map, each_in_map}
+use Rattle.local_laws.proofs.AllLaws.{in_map, each_in_map}
 use Rattle.edge_rules.specs.Edges.{IsFaultless, raw_of, Enters, by_call, by_interrupt, returned_key, IsEdge, moving, entering, returning, AreEdges}
 use Rattle.edge_rules.specs.declared.edge.Edge.{Edge}
 use Rattle.call_graph.specs.declared.ways.Way.{Way}
@@ -33,28 +36,22 @@ use Rattle.call_graph.specs.Next.{gathered, local_edge, entry_edge, exit_in, ret
 
 -- ---- lists
 
-only : {X : Type 0} (y x : X) → Contains (y ∷ []) x → x ≡ y
-only y x h = ⊎_elim (λ e. e) (λ i. absurd (none_in x i)) (first_or y x [] h)
-
-gathered_in : {X Y : Type 0} (f : X → List Y) (xs : List X) (x : X) (y : Y) → Contains xs x → Contains (f x) y → Contains (gathered f xs) y
+pub gathered_in : {X Y : Type 0} (f : X → List Y) (xs : List X) (x : X) (y : Y) → Contains xs x → Contains (f x) y → Contains (gathered f xs) y
 gathered_in f [] x y h i = absurd (none_in x h)
 gathered_in f (z ∷ zs) x y h i =
     ⊎_elim (λ e. Contains-append_left (f z) (gathered f zs) y (subst (λ v. Contains (f v) y) e i))
-    (λ j. Contains-append_right (f z) (gathered f zs) y (gathered_in f zs x y j i)) (first_or z x zs h)
+    (λ j. Contains-append_right (f z) (gathered f zs) y (gathered_in f zs x y j i)) (first_or_further z x zs h)
 
-each_gathered : {X Y : Type 0} (f : X → List Y) (P : Y → Type 0) (xs : List X) → ((x : X) (y : Y) → Contains xs x → Contains (f x) y → P y)
+pub each_gathered : {X Y : Type 0} (f : X → List Y) (P : Y → Type 0) (xs : List X) → ((x : X) (y : Y) → Contains xs x → Contains (f x) y → P y)
     → (y : Y) → Contains (gathered f xs) y → P y
 each_gathered f P [] h y i = absurd (none_in y i)
 each_gathered f P (x ∷ xs) h y i =
-    ⊎_elim (λ j. h x y (here x xs) j) (each_gathered f P xs (λ z w j l. h z w (there x z xs j) l) y) (Contains-append_cases (f x) (gathered f xs) y i)
+    ⊎_elim (λ j. h x y (first_in x xs) j) (each_gathered f P xs (λ z w j l. h z w (further_in x z xs j) l) y) (Contains-append_cases (f x) (gathered f xs) y i)
 
 -- ---- the local part
 
 ok_same : (x y : List Edge) (r : Result (List Edge) NodeFault) → r ≡ Ok x → r ≡ Ok y → x ≡ y
 ok_same x y r e f = cc
-
-abbrev whole : Raw → Local
-whole r = record { same = joined_onto [] r.moves; calls = r.calls; exit = r.exit }
 
 settled_ok : (r : Raw) (fs : List NodeFault) (l : Local) → settled r fs ≡ Ok l → (fs ≡ []) × (l ≡ whole r)
 settled_ok r [] l e = (refl, cc)
@@ -83,11 +80,6 @@ exit_there words A n x f e = subst (λ fs. exit_in (settled (raw_of words A n) f
 enabled_bounds : (m v : ℕ) → is_enabled m v ≡ true → (2 ≤ v) × (v < 27)
 enabled_bounds m v e = (grind (arith, nat_tests), grind (arith, nat_tests))
 
-both : (i d : Bool) → i ≡ true → d ≡ false → (i && not d) ≡ true
-both true false ei ed = refl
-both true true ei ed = absurd cc
-both false d ei ed = absurd cc
-
 parts_of : (i d : Bool) → (i && not d) ≡ true → (i ≡ true) × (d ≡ false)
 parts_of true false e = (refl, refl)
 parts_of true true e = absurd cc
@@ -97,11 +89,11 @@ at_vector_in : (words : List ℕ) (A : List Entry) (k : NodeKey) (v : ℕ) (clea
     → Contains (at_vector words A k v) (vector_way words k v clears)
 at_vector_in words A k v false on c =
     let rest = (if v == WATCHDOG then vector_way words k v true ∷ [] else []) in
-    subst (λ b. Contains (if b then (vector_way words k v false ∷ rest) else []) (vector_way words k v false)) (sym on) (here (vector_way words k v false) rest)
+    subst (λ b. Contains (if b then (vector_way words k v false ∷ rest) else []) (vector_way words k v false)) (sym on) (first_in (vector_way words k v false) rest)
 at_vector_in words A k v true on c =
     subst (λ b. Contains (if b then (vector_way words k v false ∷ (if v == WATCHDOG then vector_way words k v true ∷ [] else [])) else []) (vector_way words k v true)) (sym on)
     (subst (λ b. Contains (vector_way words k v false ∷ (if b then vector_way words k v true ∷ [] else [])) (vector_way words k v true)) (sym c)
-    (there (vector_way words k v false) (vector_way words k v true) (vector_way words k v true ∷ []) (here (vector_way words k v true) [])))
+    (further_in (vector_way words k v false) (vector_way words k v true) (vector_way words k v true ∷ []) (first_in (vector_way words k v true) [])))
 
 vectors_in : (words : List ℕ) (A : List Entry) (k : NodeKey) (n v : ℕ) (clears : Bool) → 2 ≤ v → v < n + 2 → may_enter words A k v ≡ true → (not clears || (v == WATCHDOG)) ≡ true
     → Contains (vectors_below words A k n) (vector_way words k v clears)
@@ -126,12 +118,12 @@ module _ (words : List ℕ) (A : List Entry) (n : Node) (clean : IsFaultless wor
     at_by v false c on is w h = absurd (none_in w h)
     at_by v true false on is w h =
         let come = parts_of (is_enabled n.key.masks v) _ on in
-        subst IsWay (sym (only (vector_way words n.key v false) w h)) (by_interrupt offset v false clean sp i delay come.0 come.1 refl)
+        subst IsWay (sym (only_one_in (vector_way words n.key v false) w h)) (by_interrupt offset v false clean sp i delay come.0 come.1 refl)
     at_by v true true on is w h =
         let come = parts_of (is_enabled n.key.masks v) _ on in
         ⊎_elim (λ e. subst IsWay (sym e) (by_interrupt offset v false clean sp i delay come.0 come.1 refl))
-        (λ j. subst IsWay (sym (only (vector_way words n.key v true) w j)) (by_interrupt offset v true clean sp i delay come.0 come.1 is))
-        (first_or (vector_way words n.key v false) w (vector_way words n.key v true ∷ []) h)
+        (λ j. subst IsWay (sym (only_one_in (vector_way words n.key v true) w j)) (by_interrupt offset v true clean sp i delay come.0 come.1 is))
+        (first_or_further (vector_way words n.key v false) w (vector_way words n.key v true ∷ []) h)
 
     vectors_from : (m : ℕ) (w : Way) → Contains (vectors_below words A n.key m) w → IsWay w
     unfolding vectors_below
@@ -165,8 +157,8 @@ way_in words A n _ _ _ (by_interrupt offset v clears clean sp i delay on allowed
     let w = vector_way words n.key v clears in
     subst (λ p. Contains (ways_by p words A n.key calls) w) (sym sp)
     (Contains-append_right (map (call_way n.key) calls) (interrupts_if (n.key.i && not n.key.delay) words A n.key) w
-    (subst (λ b. Contains (interrupts_if b words A n.key) w) (sym (both n.key.i n.key.delay i delay))
-    (vectors_in words A n.key 25 v clears bounds.0 bounds.1 (both (is_enabled n.key.masks v) _ on allowed) c)))
+    (subst (λ b. Contains (interrupts_if b words A n.key) w) (sym (and_not n.key.i n.key.delay i delay))
+    (vectors_in words A n.key 25 v clears bounds.0 bounds.1 (and_not (is_enabled n.key.masks v) _ on allowed) c)))
 
 -- ---- returns
 
@@ -182,15 +174,15 @@ back_from k s w t P (Some x) h e i = from (returned s t) refl i
   where
     from : (p : Option AbsState) → returned s t ≡ p → Contains (edge_back (returned_as k w x p)) e → P e
     from None is j = absurd (none_in e j)
-    from (Some after) is j = subst P (sym (only (back_edge k w x after) e j)) (h x after refl is)
+    from (Some after) is j = subst P (sym (only_one_in (back_edge k w x after) e j)) (h x after refl is)
 
 back_in : (k : NodeKey) (s : AbsState) (w : Way) (t : AbsState) (o : Option Exit) (x : Exit) (after : AbsState) → o ≡ Some x → returned s t ≡ Some after
     → Contains (returned_by k s w o t) (back_edge k w x after)
 back_in k s w t o x after eo is =
     subst (λ q. Contains (returned_by k s w q t) (back_edge k w x after)) (sym eo)
-    (subst (λ p. Contains (edge_back (returned_as k w x p)) (back_edge k w x after)) (sym is) (here (back_edge k w x after) []))
+    (subst (λ p. Contains (edge_back (returned_as k w x p)) (back_edge k w x after)) (sym is) (first_in (back_edge k w x after) []))
 
-if_from : {X : Type 0} (b : Bool) (xs : List X) (x : X) → Contains (if b then xs else []) x → (b ≡ true) × Contains xs x
+pub if_from : {X : Type 0} (b : Bool) (xs : List X) (x : X) → Contains (if b then xs else []) x → (b ≡ true) × Contains xs x
 if_from true xs x h = (refl, h)
 if_from false xs x h = absurd (none_in x h)
 

@@ -1,17 +1,12 @@
 -- What each of a list gives.
-use Rattle.std.proofs.Common.{◌≡◌, refl, sym, ◌∙◌, ap, ℕ, zero, suc, ◌<◌, ◌≤◌, List, [], ◌∷◌, ◌++◌, take, Some, None, slice_get, append_assoc, arith}
+use Rattle.std.proofs.Common.{◌≡◌, refl, sym, ◌∙◌, ap, ℕ, zero, suc, ◌<◌, ◌≤◌, List, [], ◌∷◌, ◌++◌, take, Some, slice_get, append_assoc, arith}
 use Rattle.std.proofs.lemmas.List.{append-nil}
+use Rattle.std.proofs.lemmas.Option.{same_Some, none-some}
 use Rattle.call_graph.specs.Next.{gathered}
 
-pub some_is : {X : Type 0} (x y : X) → Some x ≡ Some y → x ≡ y
-some_is x y e = cc
-
-pub none_is : {X : Type 0} (y : X) → None ≡ Some y → ⊥
-none_is y e = cc
-
 pub one_more : {X Y : Type 0} (f : X → List Y) (xs : List X) (at : ℕ) (x : X) → slice_get xs at ≡ Some x → gathered f (take (suc at) xs) ≡ gathered f (take at xs) ++ f x
-one_more f [] at x e = absurd (none_is x e)
-one_more f (y ∷ ys) zero x e = rw (some_is y x e) (append-nil (f x))
+one_more f [] at x e = absurd (none-some x e)
+one_more f (y ∷ ys) zero x e = rw (same_Some y x e) (append-nil (f x))
 one_more f (y ∷ ys) (suc at) x e = ap (λ l. f y ++ l) (one_more f ys at x e) ∙ sym (append_assoc (f y) (gathered f (take at ys)) (f x))
 
 -- those that give nothing may be left out

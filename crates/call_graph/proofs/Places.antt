@@ -1,27 +1,23 @@
 -- Where a key and an instance's nodes are in a list that ascends.
-use Rattle.std.proofs.Common.{◌≡◌, refl, sym, ap, ◌∙◌, subst, ℕ, zero, suc, ◌+◌, ◌<◌, ◌≤◌, ◌⊎◌, inl, inr, ⊎_elim, Bool, true, false, List, [], ◌∷◌, length, map, Some, None, slice_get, get_or, arith}
-use Rattle.std.specs.List.{AllByRecursion, position_from}
-use Rattle.std.specs.List.Sorted.{IsStrictlySortedBy, IsPartitionedBy, IsPartitionPoint}
+use Rattle.std.proofs.Common.{◌≡◌, refl, sym, ap, ◌∙◌, subst, ℕ, zero, suc, ◌+◌, ◌<◌, ◌≤◌, ◌⊎◌, inl, inr, ⊎_elim, Bool, true, false, List, [], ◌∷◌, length, Some, None, slice_get, get_or, arith}
+use Rattle.std.specs.List.{position_from}
+use Rattle.std.specs.List.Sorted.{IsPartitionedBy, IsPartitionPoint}
 use Rattle.std.specs.Ordering.{is_lt, is_le}
 use Rattle.std.specs.declared.cmp.Ordering.{Ordering}
 use Rattle.std.specs.declared.cmp.Ordering.TheVariants.{Less, Equal, Greater}
-use Rattle.std.proofs.lemmas.Option.{slice_get_within, get_or_from_slice_get, slice_get-get_or}
+use Rattle.std.proofs.lemmas.Option.{slice_get_within, get_or_from_slice_get, slice_get-get_or, same_Some, none-some}
 use Rattle.std.proofs.lemmas.Bool.Decides.{eqb_tells}
+use Rattle.basics.specs.Booleans.{less_by_test, never_both}
+use Rattle.basics.specs.Lists.{get_inside}
+use Rattle.edge_rules.specs.Places.{pair}
 use Rattle.mask_states.specs.declared.keys.InstKey.{InstKey}
 use Rattle.mask_states.specs.declared.keys.NodeKey.{NodeKey}
 use Rattle.mask_states.specs.Order.{inst_cmp, node_cmp, same_node}
 use Rattle.mask_states.proofs.AllLaws.{keys_are_ordered, nodes_go_by_instance}
 use Rattle.local_rules.specs.declared.local.Node.{Node}
-use Rattle.edge_rules.specs.Views.{AreShown, IsSpan, key_of, place_of}
-use Rattle.expansion_laws.proofs.AllLaws.{get_inside}
-use Rattle.call_graph.proofs.Gathered.{some_is, none_is}
+use Rattle.edge_rules.specs.Views.{AreShown, IsSpan, place_of}
 
 -- ---- orderings
-
-lt_is : (o : Ordering) → is_lt o ≡ true → o ≡ Less
-lt_is Less e = refl
-lt_is Equal e = absurd (cc)
-lt_is Greater e = absurd (cc)
 
 between_is : (o : Ordering) → is_lt o ≡ false → is_le o ≡ true → o ≡ Equal
 between_is Less e h = absurd (cc)
@@ -33,9 +29,6 @@ not_both Less e h = cc
 not_both Equal e h = cc
 not_both Greater e h = cc
 
-pub differs : (b : Bool) → b ≡ true → b ≡ false → ⊥
-differs b e h = cc
-
 -- ---- lists
 
 either : (a b : ℕ) → (a ≤ b) ⊎ (b < a)
@@ -43,25 +36,10 @@ either zero b = inl (omega arith)
 either (suc a) zero = inr (omega arith)
 either (suc a) (suc b) = ⊎_elim (λ h. inl (omega (arith, h))) (λ h. inr (omega (arith, h))) (either a b)
 
-all_at : (P : NodeKey → Type 0) (xs : List Node) (j : ℕ) (b : Node) → AllByRecursion P (map key_of xs) → slice_get xs j ≡ Some b → P b.key
-all_at P [] j b h e = absurd (none_is b e)
-all_at P (x ∷ xs) zero b h e = subst (λ (n : Node). P n.key) (some_is x b e) h.0
-all_at P (x ∷ xs) (suc j) b h e = all_at P xs j b h.1 e
-
-pair : (xs : List Node) (i j : ℕ) (a b : Node) → IsStrictlySortedBy node_cmp (map key_of xs) → slice_get xs i ≡ Some a → slice_get xs j ≡ Some b → i < j
-    → node_cmp a.key b.key ≡ Less
-unfolding IsStrictlySortedBy
-pair [] i j a b s ea eb lt = absurd (none_is a ea)
-pair (x ∷ xs) zero zero a b s ea eb lt = absurd (omega (arith, lt))
-pair (x ∷ xs) zero (suc j) a b s ea eb lt =
-    subst (λ (n : Node). node_cmp n.key b.key ≡ Less) (some_is x a ea) (all_at (λ k. node_cmp x.key k ≡ Less) xs j b s.0 eb)
-pair (x ∷ xs) (suc i) zero a b s ea eb lt = absurd (omega (arith, lt))
-pair (x ∷ xs) (suc i) (suc j) a b s ea eb lt = pair xs i j a b s.1 ea eb (omega (arith, lt))
-
 found_at : (t : Node → Bool) (xs : List Node) (s i : ℕ) (x : Node) → slice_get xs i ≡ Some x → t x ≡ true
     → ((j : ℕ) (y : Node) → j < i → slice_get xs j ≡ Some y → t y ≡ false) → position_from t s xs ≡ Some (s + i)
-found_at t [] s i x e is h = absurd (none_is x e)
-found_at t (y ∷ ys) s zero x e is h = rw (ap t (some_is y x e) ∙ is) (ap (λ n. Some n) (omega arith))
+found_at t [] s i x e is h = absurd (none-some x e)
+found_at t (y ∷ ys) s zero x e is h = rw (ap t (same_Some y x e) ∙ is) (ap (λ n. Some n) (omega arith))
 found_at t (y ∷ ys) s (suc i) x e is h =
     rw (h 0 y (omega arith) refl)
     (found_at t ys (s + 1) i x e is (λ j z lt g. h (suc j) z (omega (arith, lt)) g) ∙ ap (λ n. Some n) (omega arith))
@@ -96,7 +74,7 @@ is_below_key k n = is_lt (node_cmp n.key k)
 pub parted_by_key : (nodes : List Node) (k : NodeKey) → AreShown nodes → IsPartitionedBy (is_below_key k) nodes
 parted_by_key nodes k shown =
     parted_by (is_below_key k) nodes shown
-    (λ a b lt up. ap is_lt (keys_are_ordered.nodes.trans a.key b.key k lt (lt_is (node_cmp b.key k) up)))
+    (λ a b lt up. ap is_lt (keys_are_ordered.nodes.trans a.key b.key k lt (less_by_test (node_cmp b.key k) up)))
 
 not_same_by : (k : NodeKey) (n : Node) (b : Bool) → same_node k n.key ≡ b → (k ≡ n.key → ⊥) → b ≡ false
 not_same_by k n true e h = absurd (h ((keys_are_ordered.same_nodes k n.key).0 e))
@@ -113,7 +91,7 @@ module _ (nodes : List Node) (k : NodeKey) (at : ℕ) (shown : AreShown nodes)
   lower : (j : ℕ) (y : Node) → j < at → slice_get nodes j ≡ Some y → same_node k y.key ≡ false
   lower j y lt e =
       not_same k y
-      (λ same. differs (is_below_key k y) (before (is_below_key k) nodes at point j y e lt) (subst (λ x. is_lt (node_cmp x k) ≡ false) same (itself k)))
+      (λ same. never_both (is_below_key k y) (before (is_below_key k) nodes at point j y e lt) (subst (λ x. is_lt (node_cmp x k) ≡ false) same (itself k)))
 
   pub place_there : (n : Node) → slice_get nodes at ≡ Some n → n.key ≡ k → Some at ≡ place_of k nodes
   place_there n e same =
@@ -128,8 +106,8 @@ module _ (nodes : List Node) (k : NodeKey) (at : ℕ) (shown : AreShown nodes)
   later n e other j y le g =
       not_same k y
       (λ same. ⊎_elim
-      (λ q. other (ap (λ (m : Node). m.key) (some_is n y (sym e ∙ (ap (slice_get nodes) q.1 ∙ g))) ∙ sym same))
-      (λ q. differs (is_below_key k n)
+      (λ q. other (ap (λ (m : Node). m.key) (same_Some n y (sym e ∙ (ap (slice_get nodes) q.1 ∙ g))) ∙ sym same))
+      (λ q. never_both (is_below_key k n)
       (ap is_lt (subst (λ x. node_cmp n.key x ≡ Less) (sym same) (pair nodes at j n y shown.ascending e g (let d = q.1 in omega (arith, le, d)))))
       (from_on (is_below_key k) nodes at point at n e (omega arith)))
       (eqb_tells at j))
@@ -154,7 +132,7 @@ le_by a b c Greater lt e up = absurd (cc)
 pub parted_below : (nodes : List Node) (inst : InstKey) → AreShown nodes → IsPartitionedBy (is_below_inst inst) nodes
 parted_below nodes inst shown =
     parted_by (is_below_inst inst) nodes shown
-    (λ a b lt up. ⊎_elim (λ h. ap is_lt (keys_are_ordered.insts.trans a.key.inst b.key.inst inst h (lt_is (inst_cmp b.key.inst inst) up)))
+    (λ a b lt up. ⊎_elim (λ h. ap is_lt (keys_are_ordered.insts.trans a.key.inst b.key.inst inst h (less_by_test (inst_cmp b.key.inst inst) up)))
     (λ same. subst (λ x. is_lt (inst_cmp x inst) ≡ true) (sym same) up) (nodes_go_by_instance.rises a.key b.key lt))
 
 pub parted_through : (nodes : List Node) (inst : InstKey) → AreShown nodes → IsPartitionedBy (is_through_inst inst) nodes
@@ -181,8 +159,8 @@ module _ (nodes : List Node) (inst : InstKey) (low high : ℕ) (low_bound : low 
     inside = high_bound;
     exact = λ at n e. (
       λ same. (
-        ⊎_elim (λ h. h) (λ lt. absurd (differs (is_below_inst inst n) (before (is_below_inst inst) nodes low first at n e lt) (ap is_lt (equal n same)))) (either low at),
-        ⊎_elim (λ h. absurd (differs (is_through_inst inst n) (ap is_le (equal n same)) (from_on (is_through_inst inst) nodes high last at n e h))) (λ h. h) (either high at),
+        ⊎_elim (λ h. h) (λ lt. absurd (never_both (is_below_inst inst n) (before (is_below_inst inst) nodes low first at n e lt) (ap is_lt (equal n same)))) (either low at),
+        ⊎_elim (λ h. absurd (never_both (is_through_inst inst n) (ap is_le (equal n same)) (from_on (is_through_inst inst) nodes high last at n e h))) (λ h. h) (either high at),
       ),
       λ p. (keys_are_ordered.equal_insts n.key.inst inst).0
           (between_is (inst_cmp n.key.inst inst) (from_on (is_below_inst inst) nodes low first at n e p.0) (before (is_through_inst inst) nodes high last at n e p.1)),

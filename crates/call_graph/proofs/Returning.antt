@@ -1,7 +1,11 @@
 -- How the nodes of a family return.
-use Rattle.std.proofs.Common.{◌≡◌, refl, sym, ap, ◌∙◌, subst, ℕ, zero, suc, ◌+◌, ◌<◌, ◌⊎◌, inl, inr, ⊎_elim, List, [], ◌∷◌, ◌++◌, length, Option, Some, Result, Ok, Err, slice_get, length-append, arith}
+use Rattle.std.proofs.Common.{◌≡◌, refl, sym, ap, ◌∙◌, subst, ℕ, zero, suc, ◌+◌, ◌<◌, ⊎_elim, List, [], ◌∷◌, ◌++◌, length, Option, Some, Result, Ok, Err, slice_get, length-append, arith}
 use Rattle.std.specs.Prelude.{◌↔◌}
-use Rattle.std.proofs.lemmas.Option.{slice_get_read, slice_get_within}
+use Rattle.std.proofs.lemmas.Option.{slice_get_read, slice_get_within, same_Some, none-some}
+use Rattle.basics.specs.Numbers.{before_or_last, same_if_neither}
+use Rattle.basics.specs.Lists.{get_pushed, get_inside}
+use Rattle.basics.specs.Items.{contained_at}
+use Rattle.edge_rules.specs.Families.{AreFaultless}
 use Rattle.avr_model.specs.declared.assumption.Entry.{Entry}
 use Rattle.local_rules.specs.declared.local.Node.{Node}
 use Rattle.local_rules.specs.declared.local.Local.{Local}
@@ -10,37 +14,19 @@ use Rattle.local_rules.specs.declared.local.NodeFault.{NodeFault}
 use Rattle.local_rules.specs.Raw.{Raw}
 use Rattle.local_rules.specs.Local.{local, settled}
 use Rattle.edge_rules.specs.Edges.{IsFaultless, raw_of}
-use Rattle.expansion_laws.proofs.AllLaws.{get_inside, same_list}
+use Rattle.edge_laws.proofs.ExpansionLaws.{same_list}
 use Rattle.call_graph.specs.declared.exit_list.Leaving.{Leaving}
 use Rattle.call_graph.specs.declared.exit_list.Leaving.TheVariants.{All, Fault}
 use Rattle.call_graph.specs.Next.{exit_in}
 use Rattle.call_graph.specs.Exits.{AreExits, IsFirstFault, GivesExits, exit_or, AreKnown, ExitsSoFar}
-use Rattle.call_graph.specs.Laws.{AreFaultless, ExitsAreExact}
-use Rattle.call_graph.proofs.Gathered.{some_is, none_is}
-use Rattle.call_graph.proofs.Shown.{contains_at}
+use Rattle.call_graph.specs.Laws.{ExitsAreExact}
 
 -- ---- lists
 
-last_or : (i at : ℕ) → i < at + 1 → (i < at) ⊎ (i ≡ at)
-last_or zero zero lt = inr refl
-last_or zero (suc at) lt = inl (omega arith)
-last_or (suc i) zero lt = absurd (omega (arith, lt))
-last_or (suc i) (suc at) lt = ⊎_elim (λ h. inl (omega (arith, h))) (λ e. inr (ap suc e)) (last_or i at (omega (arith, lt)))
-
 kept : {X : Type 0} (xs : List X) (y : X) (i : ℕ) (x : X) → slice_get xs i ≡ Some x → slice_get (xs ++ y ∷ []) i ≡ Some x
-kept [] y i x e = absurd (none_is x e)
+kept [] y i x e = absurd (none-some x e)
 kept (z ∷ zs) y zero x e = e
 kept (z ∷ zs) y (suc i) x e = kept zs y i x e
-
-pushed : {X : Type 0} (xs : List X) (y : X) → slice_get (xs ++ y ∷ []) (length xs) ≡ Some y
-pushed [] y = refl
-pushed (x ∷ xs) y = pushed xs y
-
-order : (i j : ℕ) → (i < j → ⊥) → (j < i → ⊥) → i ≡ j
-order zero zero f g = refl
-order zero (suc j) f g = absurd (f (omega arith))
-order (suc i) zero f g = absurd (g (omega arith))
-order (suc i) (suc j) f g = ap suc (order i j (λ h. f (omega (arith, h))) (λ h. g (omega (arith, h))))
 
 fault_is : (f g : NodeFault) (o : Result Local NodeFault) → o ≡ Err f → o ≡ Err g → f ≡ g
 fault_is f g o a b = cc
@@ -76,11 +62,11 @@ module _ (words : List ℕ) (A : List Entry) where
 
   module _ (nodes : List Node) where
     pub none_known : AreKnown words A nodes []
-    none_known at n x there e = absurd (none_is x e)
+    none_known at n x there e = absurd (none-some x e)
 
     pub all_known : (exits : List (Option Exit)) → AreExits words A nodes exits → AreKnown words A nodes exits
     all_known exits e at n x there is =
-        some_is x (raw_of words A n).exit (sym is ∙ e.each at n there) ∙ sym (exit_is n (e.faultless n (contains_at nodes at n there)))
+        same_Some x (raw_of words A n).exit (sym is ∙ e.each at n there) ∙ sym (exit_is n (e.faultless n (contained_at nodes at n there)))
 
     -- ---- one node more
 
@@ -96,16 +82,16 @@ module _ (words : List ℕ) (A : List Entry) where
           is = exit_ok n x ok
 
           this : (i : ℕ) (m : Node) → i ≡ at → slice_get nodes i ≡ Some m → n ≡ m
-          this i m same e = some_is n m (sym there ∙ (ap (slice_get nodes) (sym same) ∙ e))
+          this i m same e = same_Some n m (sym there ∙ (ap (slice_get nodes) (sym same) ∙ e))
 
           more : ExitsSoFar words A nodes (at + 1) (done ++ x ∷ [])
           more = record {
             count = omega (arith, length-append done (x ∷ []), so.count);
-            clean = λ i m lt e. ⊎_elim (λ below. so.clean i m below e) (λ same. subst (IsFaultless words A) (this i m same e) is.0) (last_or i at lt);
+            clean = λ i m lt e. ⊎_elim (λ below. so.clean i m below e) (λ same. subst (IsFaultless words A) (this i m same e) is.0) (before_or_last i at lt);
             each = λ i m lt e. ⊎_elim (λ below. kept done x i (raw_of words A m).exit (so.each i m below e))
                 (λ same. subst (λ (k : Node). slice_get (done ++ x ∷ []) i ≡ Some (raw_of words A k).exit) (this i m same e)
-                (subst (λ j. slice_get (done ++ x ∷ []) j ≡ Some (raw_of words A n).exit) (so.count ∙ sym same) (pushed done x ∙ ap (λ y. Some y) (sym is.1))))
-                (last_or i at lt);
+                (subst (λ j. slice_get (done ++ x ∷ []) j ≡ Some (raw_of words A n).exit) (so.count ∙ sym same) (get_pushed done x ∙ ap (λ y. Some y) (sym is.1))))
+                (before_or_last i at lt);
           }
 
       pub first_fault : (f : NodeFault) → exit_or (local words A n.key n.state) ≡ Err f → IsFirstFault words A nodes at f
@@ -121,17 +107,17 @@ module _ (words : List ℕ) (A : List Entry) where
     -- ---- there is one answer
 
     apart : (exits : AreFaultless words A nodes) (at : ℕ) (f : NodeFault) → IsFirstFault words A nodes at f → ⊥
-    apart clean at f m = clean_or_fault m.node f (clean m.node (contains_at nodes at m.node m.present)) m.fault
+    apart clean at f m = clean_or_fault m.node f (clean m.node (contained_at nodes at m.node m.present)) m.fault
 
     not_before : (i j : ℕ) (f g : NodeFault) → IsFirstFault words A nodes i f → IsFirstFault words A nodes j g → i < j → ⊥
     not_before i j f g a b lt = clean_or_fault a.node f (b.before i a.node lt a.present) a.fault
 
     one_place : (i j : ℕ) (f g : NodeFault) → IsFirstFault words A nodes i f → IsFirstFault words A nodes j g → i ≡ j
-    one_place i j f g a b = order i j (not_before i j f g a b) (not_before j i g f b a)
+    one_place i j f g a b = same_if_neither i j (not_before i j f g a b) (not_before j i g f b a)
 
     one_fault : (i j : ℕ) (f g : NodeFault) → IsFirstFault words A nodes i f → IsFirstFault words A nodes j g → f ≡ g
     one_fault i j f g a b =
-        let n : a.node ≡ b.node = some_is a.node b.node (sym a.present ∙ (ap (slice_get nodes) (one_place i j f g a b) ∙ b.present)) in
+        let n : a.node ≡ b.node = same_Some a.node b.node (sym a.present ∙ (ap (slice_get nodes) (one_place i j f g a b) ∙ b.present)) in
         fault_is f g (local words A a.node.key a.node.state) a.fault ((λ x. local words A (n x).key (n x).state) ∙ b.fault)
 
     one_exits : (a b : List (Option Exit)) → AreExits words A nodes a → AreExits words A nodes b → a ≡ b
@@ -139,7 +125,7 @@ module _ (words : List ℕ) (A : List Entry) where
         same_list a b (p.count ∙ sym q.count)
         (λ i x y e f. let inside = slice_get_within a i x e in
         let n = get_inside nodes i (omega (arith, inside, p.count)) in
-        some_is x y (sym e ∙ (p.each i n.0 n.1 ∙ (sym (q.each i n.0 n.1) ∙ f))))
+        same_Some x y (sym e ∙ (p.each i n.0 n.1 ∙ (sym (q.each i n.0 n.1) ∙ f))))
 
     exact_whole : (answer : Leaving) → GivesExits words A nodes answer → ((exits : List (Option Exit)) × (answer ≡ All exits)) ↔ AreFaultless words A nodes
     exact_whole (All exits) g = (λ x. g.faultless, λ clean. (exits, refl))

@@ -1,7 +1,10 @@
 -- What a view shows, and the part of it that an instance has.
-use Rattle.std.proofs.Common.{◌≡◌, refl, sym, ◌∙◌, ap, subst, ℕ, zero, suc, ◌+◌, ◌<◌, ◌≤◌, Bool, true, false, List, [], ◌∷◌, ◌++◌, length, take, Option, Some, None, slice_get, Contains, append_assoc, add-one, arith}
+use Rattle.std.proofs.Common.{◌≡◌, refl, sym, ◌∙◌, ap, subst, ℕ, suc, ◌+◌, ◌<◌, ◌≤◌, Bool, true, false, List, [], ◌++◌, take, Option, Some, None, slice_get, append_assoc, add-one, arith}
 use Rattle.std.proofs.lemmas.List.{append-nil}
 use Rattle.std.specs.Option.{option_map}
+use Rattle.basics.specs.Items.{contained_at}
+use Rattle.basics.specs.Lists.{get_inside}
+use Rattle.std.proofs.lemmas.Option.{same_Some, none-some}
 use Rattle.avr_model.specs.declared.assumption.Entry.{Entry}
 use Rattle.abs_state.specs.declared.state.AbsState.{AbsState}
 use Rattle.mask_states.specs.declared.keys.NodeKey.{NodeKey}
@@ -9,28 +12,17 @@ use Rattle.mask_states.specs.Order.{same_inst}
 use Rattle.mask_states.proofs.AllLaws.{keys_are_ordered}
 use Rattle.local_rules.specs.declared.local.Node.{Node}
 use Rattle.local_rules.specs.Cover.{IsNode}
-use Rattle.local_laws.proofs.AllLaws.{here, there}
 use Rattle.edge_rules.specs.declared.edge.Edge.{Edge}
 use Rattle.call_graph.specs.declared.ways.Way.{Way}
 use Rattle.edge_rules.specs.Views.{AreShown, IsSpan, key_of, state_of}
 use Rattle.call_graph.specs.Next.{gathered, return_edges, return_if, returns_in}
-use Rattle.call_graph.proofs.Gathered.{some_is, none_is, one_more, none_before, none_after}
-
-pub contains_at : {X : Type 0} (xs : List X) (at : ℕ) (x : X) → slice_get xs at ≡ Some x → Contains xs x
-contains_at [] at x e = absurd (none_is x e)
-contains_at (y ∷ ys) zero x e = subst (Contains (y ∷ ys)) (some_is y x e) (here y ys)
-contains_at (y ∷ ys) (suc at) x e = there y x ys (contains_at ys at x e)
-
-pub there_is : {X : Type 0} (xs : List X) (at : ℕ) → at < length xs → (x : X) × (slice_get xs at ≡ Some x)
-there_is [] at lt = absurd (omega (arith, lt))
-there_is (y ∷ ys) zero lt = (y, refl)
-there_is (y ∷ ys) (suc at) lt = there_is ys at (omega (arith, lt))
+use Rattle.call_graph.proofs.Gathered.{one_more, none_before, none_after}
 
 node_by : (nodes : List Node) (at : ℕ) (k : NodeKey) (s : AbsState) (o : Option Node) → AreShown nodes → slice_get nodes at ≡ o
     → option_map key_of o ≡ Some k → option_map state_of o ≡ Some s → IsNode k s
-node_by nodes at k s None shown e ek es = absurd (none_is k ek)
+node_by nodes at k s None shown e ek es = absurd (none-some k ek)
 node_by nodes at k s (Some n) shown e ek es =
-    subst (λ l. IsNode l s) (some_is n.key k ek) (subst (λ t. IsNode n.key t) (some_is n.state s es) (shown.all n (contains_at nodes at n e)))
+    subst (λ l. IsNode l s) (same_Some n.key k ek) (subst (λ t. IsNode n.key t) (same_Some n.state s es) (shown.all n (contained_at nodes at n e)))
 
 pub node_there : (nodes : List Node) (at : ℕ) (k : NodeKey) (s : AbsState) → AreShown nodes
     → option_map key_of (slice_get nodes at) ≡ Some k → option_map state_of (slice_get nodes at) ≡ Some s → IsNode k s
@@ -38,8 +30,8 @@ node_there nodes at k s shown ek es = node_by nodes at k s (slice_get nodes at) 
 
 state_by : (nodes : List Node) (at : ℕ) (s : AbsState) (o : Option Node) → AreShown nodes → slice_get nodes at ≡ o → option_map state_of o ≡ Some s
     → (k : NodeKey) × IsNode k s
-state_by nodes at s None shown e es = absurd (none_is s es)
-state_by nodes at s (Some n) shown e es = (n.key, subst (IsNode n.key) (some_is n.state s es) (shown.all n (contains_at nodes at n e)))
+state_by nodes at s None shown e es = absurd (none-some s es)
+state_by nodes at s (Some n) shown e es = (n.key, subst (IsNode n.key) (same_Some n.state s es) (shown.all n (contained_at nodes at n e)))
 
 pub state_there : (nodes : List Node) (at : ℕ) (s : AbsState) → AreShown nodes → option_map state_of (slice_get nodes at) ≡ Some s → (k : NodeKey) × IsNode k s
 state_there nodes at s shown es = state_by nodes at s (slice_get nodes at) shown refl es
@@ -70,7 +62,7 @@ pub returned_more : (words : List ℕ) (A : List Entry) (k : NodeKey) (s : AbsSt
     → ((n : Node) → slice_get nodes at ≡ Some n → new ≡ now ++ return_edges words A k s w n)
     → new ≡ old ++ returns_in words A k s (take (at + 1) nodes) w
 returned_more words A k s nodes w low high at old now new span above below e h =
-    let found = there_is nodes at (omega (arith, below, span.inside)) in
+    let found = get_inside nodes at (omega (arith, below, span.inside)) in
     let n = found.0 in
     let f = return_if words A k s w in
     let gives : return_edges words A k s w n ≡ f n = sym (same_gives words A k s w n ((span.exact at n found.1).1 (above, below))) in

@@ -9,12 +9,12 @@ use Rattle.mask_states.specs.Order.{same_node}
 use Rattle.local_rules.specs.declared.local.Node.{Node}
 use Rattle.edge_rules.specs.declared.seeded.NodeForm.{NodeForm}
 use Rattle.edge_rules.specs.Expansion.{Seeds, AreSeeds, HasKeyAt, IsFilled, IsMissing}
-use Rattle.expansion_laws.specs.Carrying.{first_at, carried, worked, SoFar}
-use Rattle.expansion_laws.proofs.AllLaws.{same_seed, one_more, missing, whole}
+use Rattle.edge_laws.specs.Carrying.{first_at, carried, worked, SoFar}
+use Rattle.edge_laws.proofs.ExpansionLaws.{same_seed, one_more, missing, whole}
 use Rattle.edge_rules.specs.declared.seeded.Seed.{Seed}
 use Rattle.edge_rules.specs.declared.seeded.Seed.TheVariants as seed
 use Rattle.edge_rules.specs.Seeds.{form_of, HasFormAt}
-use Rattle.call_graph.specs.Gives.{AreNumbered, ComesFromBelow}
+use Rattle.call_graph.specs.Expanding.{AreNumbered, ComesFromBelow}
 
 pub from_at : (done : List Node) (x : Seed) (m : ℕ) (n : Node) → x ≡ seed.From m → ComesFromBelow (form_of x) (length done) → n ≡ slice_index_or done m n
     → slice_get done m ≡ Some n

@@ -1,5 +1,6 @@
 -- Laws of answers.
 use Rattle.std.specs.Prelude.{ℕ, ◌≡◌, ◌↔◌, ◌<◌, List, [], length, Option, Ok, Contains}
+use Rattle.edge_rules.specs.Families.{AreFaultless}
 use Rattle.avr_model.specs.declared.assumption.Entry.{Entry}
 use Rattle.abs_state.specs.declared.state.AbsState.{AbsState}
 use Rattle.local_rules.specs.declared.local.Node.{Node}
@@ -13,7 +14,7 @@ use Rattle.call_graph.specs.declared.filled.Expanded.{Expanded}
 use Rattle.call_graph.specs.declared.filled.Expanded.TheVariants.{Whole, Missing}
 use Rattle.call_graph.specs.declared.exit_list.Leaving.{Leaving}
 use Rattle.call_graph.specs.declared.exit_list.Leaving.TheVariants.{All, Fault}
-use Rattle.call_graph.specs.Gives.{Gives}
+use Rattle.call_graph.specs.Expanding.{IsExpanded}
 use Rattle.call_graph.specs.Exits.{GivesExits, IsFirstFault}
 use Rattle.call_graph.specs.declared.ways.Way.{Way}
 use Rattle.call_graph.specs.Ways.{ways_of}
@@ -24,15 +25,11 @@ HasAll words A nodes = (at : ℕ) → at < length nodes → (s : AbsState) × Is
 
 -- All states are given exactly where each node has one, the least node without one exactly where there is one, and there is one answer.
 pub record AnswersAreExact : Type 0 where
-  pub whole : (words : List ℕ) (A : List Entry) (nodes : Seeds) (answer : Expanded) → Gives words A nodes answer
+  pub whole : (words : List ℕ) (A : List Entry) (nodes : Seeds) (answer : Expanded) → IsExpanded words A nodes answer
       → ((filled : List Node) × (answer ≡ Whole filled)) ↔ HasAll words A nodes
-  pub missing : (words : List ℕ) (A : List Entry) (nodes : Seeds) (answer : Expanded) (at : ℕ) → Gives words A nodes answer
+  pub missing : (words : List ℕ) (A : List Entry) (nodes : Seeds) (answer : Expanded) (at : ℕ) → IsExpanded words A nodes answer
       → (answer ≡ Missing at) ↔ IsMissing words A nodes at
-  pub one : (words : List ℕ) (A : List Entry) (nodes : Seeds) (a b : Expanded) → Gives words A nodes a → Gives words A nodes b → a ≡ b
-
--- no node has a fault
-abbrev pub AreFaultless : List ℕ → List Entry → List Node → Type 0
-AreFaultless words A nodes = (n : Node) → Contains nodes n → IsFaultless words A n
+  pub one : (words : List ℕ) (A : List Entry) (nodes : Seeds) (a b : Expanded) → IsExpanded words A nodes a → IsExpanded words A nodes b → a ≡ b
 
 -- Exits are given exactly where no node has a fault, the first fault exactly where there is one, and there is one answer.
 pub record ExitsAreExact : Type 0 where

@@ -1,5 +1,5 @@
 pub mod Ways
 pub mod Next
 pub mod Exits
-pub mod Gives
+pub mod Expanding
 pub mod Laws

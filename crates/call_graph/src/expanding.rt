@@ -3,10 +3,10 @@
 ghost use Rattle.std.specs.Prelude.{◌≡◌, ℕ, length, Some, IfOk};
 ghost use Rattle.local_rules.specs.Cover.{IsNode};
 ghost use Rattle.edge_rules.specs.Expansion.{AreSeeds};
-ghost use Rattle.expansion_laws.specs.Carrying.{first_at, carried, worked};
+ghost use Rattle.edge_laws.specs.Carrying.{first_at, carried, worked};
 ghost use Rattle.edge_rules.specs.Seeds.{form_of};
-ghost use Rattle.expansion_laws.specs.Laws.{AreAscending};
-ghost use Rattle.call_graph.specs.Gives.{Gives, AreNumbered, ComesFromBelow};
+ghost use Rattle.edge_laws.specs.Expansions.{AreAscending};
+ghost use Rattle.call_graph.specs.Expanding.{IsExpanded, AreNumbered, ComesFromBelow};
 
 use crate::filled::{Expanded, Filled};
 use abs_state::AbsState;
@@ -76,7 +76,7 @@ pub fn expand<S: Seeded>(
 ) -> Result<Expanded, AllocError>
     requires seeds { AreSeeds (S.nodes nodes.now) }
     requires ascending { AreAscending (S.nodes nodes.now) }
-    ensures { IfOk result (λ answer. Gives flash.now assumptions.now (S.nodes nodes.now) answer) }
+    ensures { IfOk result (λ answer. IsExpanded flash.now assumptions.now (S.nodes nodes.now) answer) }
 {
     let mut done = Vec::new(alloc);
     for at in 0..nodes.count() {

@@ -2,29 +2,30 @@
 use Rattle.std.proofs.Common.{◌≡◌, refl, sym, ap, ◌∙◌, subst, ℕ, ◌+◌, ◌<◌, ◌≤◌, ◌==◌, ◌&&◌, ◌||◌, nat_lt, nat_le, ◌⊎◌, inl, inr, ⊎_elim, Bool, true, false, cond, List, [], ◌∷◌, ◌++◌, length, take, get_or, Some, None, slice_get, Contains, arith}
 use Rattle.std.proofs.lemmas.Bool.{cases_lt}
 use Rattle.std.proofs.lemmas.Bool.Decides.{nat_tests}
-use Rattle.std.proofs.lemmas.List.{take_more, take_all}
+use Rattle.std.proofs.lemmas.List.{take_more}
 use Rattle.std.proofs.lemmas.List.Elements.{Contains-append_left, Contains-append_right, Contains-append_cases}
 use Rattle.std.proofs.lemmas.Option.{same_Some}
+use Rattle.basics.specs.Lists.{one_at}
+use Rattle.basics.specs.Items.{only_one_in, first_in}
 use Rattle.avr_model.specs.declared.assumption.Entry.{Entry}
 use Rattle.mask_states.specs.declared.keys.EdgeKind.{EdgeKind}
 use Rattle.mask_states.specs.declared.keys.InstKey.{InstKey}
 use Rattle.mask_states.specs.declared.keys.SpForm.TheVariants.{Closed}
 use Rattle.mask_states.specs.Keys.{offset_of}
 use Rattle.local_rules.specs.declared.local.Node.{Node}
-use Rattle.local_laws.proofs.AllLaws.{none_in, here}
 use Rattle.edge_rules.specs.Edges.{Enters}
-use Rattle.edge_rules.specs.Families.{IsCovered}
+use Rattle.edge_rules.specs.Families.{IsCovered, AreFaultless}
 use Rattle.certificate.specs.declared.instance.Inst.{Inst}
 use Rattle.certificate.specs.Insts.{rank_in, need_in}
 use Rattle.certificate.specs.Claims.{Claim}
-use Rattle.certificate.specs.Valid.{reset_node, AreFaultless, AllLand, AreRanked, Suffices, NeedsSuffice}
+use Rattle.certificate.specs.Valid.{reset_node, AllLand, AreRanked, Suffices, NeedsSuffice}
 use Rattle.cert_check.specs.declared.demand.Demand.{Demand}
 use Rattle.cert_check.specs.declared.verdict.Reason.TheVariants as reason
 use Rattle.cert_check.specs.declared.verdict.Verdict.{Verdict}
 use Rattle.cert_check.specs.declared.verdict.Verdict.TheVariants.{Accepted, Rejected}
 use Rattle.cert_check.specs.Verdict.{InstEnters, IsFirstRank, IsFirstNeed}
 use Rattle.cert_check.specs.Demands.{AreInstances, place_in, rank_of, rank_at, need_of, need_at, Asks, offset, entry, IsAsked, AreDemands, AllBelong, IsLeast, Pair, MeetsRank, LowRank, PairBelow, lesser_pair, MeetsNeed, LowNeed, NumberBelow, lesser_number, IsMost, more_asked, RanksFall, AllMet, IsWeighed, Decides}
-use Rattle.cert_check.proofs.Lists.{one_at, only, IsLesser}
+use Rattle.cert_check.proofs.Lists.{IsLesser}
 use Rattle.cert_check.proofs.Insts.{HasPlace, place_is, placed, rank_there, need_there}
 use Rattle.cert_check.proofs.Demands.{entered_belongs}
 
@@ -127,18 +128,15 @@ most_after : (ds : List Demand) (d : Demand) (j old : ℕ) → IsMost ds j old �
 most_after ds d j old h = record {
   above = λ e i is.
       ⊎_elim (λ a. let le = h.above e a is in omega (arith, le, grows old j d))
-      (λ b. let same : e ≡ d = only d e b in
+      (λ b. let same : e ≡ d = only_one_in d e b in
       subst (λ (x : Demand). x.bytes ≤ more_asked old j d) (sym same) (reaches old j d (subst (λ (x : Demand). x.inst ≡ j) same is)))
       (Contains-append_cases ds (d ∷ []) e i);
   attained =
       ⊎_elim
       (λ same. ⊎_elim (λ z. inl (same ∙ z))
       (λ w. inr (w.0, (Contains-append_left ds (d ∷ []) w.0 w.1.0, w.1.1, w.1.2 ∙ sym same))) h.attained)
-      (λ w. inr (d, (Contains-append_right ds (d ∷ []) d (here d []), w.0, w.1))) (chosen old j d);
+      (λ w. inr (d, (Contains-append_right ds (d ∷ []) d (first_in d []), w.0, w.1))) (chosen old j d);
 }
-
-pub most_none : (ds : List Demand) (j : ℕ) → IsMost (take 0 ds) j 0
-most_none ds j = record { above = λ d h is. absurd (none_in d h); attained = inl refl }
 
 pub most_more : (ds : List Demand) (at : ℕ) (d : Demand) (j old : ℕ) → at < length ds → IsMost (take at ds) j old
     → IsMost (take (at + 1) ds) j (more_asked old j (get_or ds at d))
@@ -148,9 +146,6 @@ most_more ds at d j old lt h =
 -- what is read past the end
 abbrev pub no_demand : Demand
 no_demand = record { inst = 0; into = None; bytes = 0 }
-
-pub most_all : (ds : List Demand) (at j most : ℕ) → length ds ≤ at → IsMost (take at ds) j most → IsMost ds j most
-most_all ds at j most le h = subst (λ l. IsMost l j most) (take_all at ds le) h
 
 -- ---- what demands say
 

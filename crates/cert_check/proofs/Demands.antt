@@ -3,6 +3,7 @@ use Rattle.std.proofs.Common.{◌≡◌, refl, sym, subst, ℕ, ◌+◌, ◌<◌
 use Rattle.std.specs.List.{flat_map}
 use Rattle.std.proofs.lemmas.List.Elements.{Contains-append_left, Contains-append_right, Contains-append_cases}
 use Rattle.std.proofs.lemmas.Option.{slice_get_within}
+use Rattle.basics.specs.Items.{only_one_in, contained_in_join, each_of_join, none_in, first_in}
 use Rattle.avr_model.specs.declared.assumption.Entry.{Entry}
 use Rattle.mask_states.specs.declared.keys.EdgeKind.{EdgeKind}
 use Rattle.mask_states.specs.declared.keys.InstKey.{InstKey}
@@ -10,7 +11,6 @@ use Rattle.mask_states.specs.declared.keys.SpForm.{SpForm}
 use Rattle.mask_states.specs.declared.keys.SpForm.TheVariants.{Closed, Open}
 use Rattle.mask_states.specs.Keys.{offset_of}
 use Rattle.local_rules.specs.declared.local.Node.{Node}
-use Rattle.local_laws.proofs.AllLaws.{none_in, here}
 use Rattle.edge_rules.specs.declared.edge.Edge.{Edge}
 use Rattle.edge_rules.specs.Edges.{Enters, by_call, by_interrupt, IsEdge, moving, entering, returning, AreEdges}
 use Rattle.edge_rules.specs.Families.{IsCovered}
@@ -19,12 +19,11 @@ use Rattle.certificate.specs.Insts.{inst_keys}
 use Rattle.certificate.specs.Valid.{AllLand}
 use Rattle.cert_check.specs.declared.demand.Demand.{Demand}
 use Rattle.cert_check.specs.Demands.{AreInstances, place_in, need_at, is_entry, offset_demand, entry_demand, demands_of, Asks, offset, entry, AreDemands, AllBelong, IsInside, AreInside}
-use Rattle.cert_check.proofs.Lists.{only, flat_in, each_flat}
 use Rattle.cert_check.proofs.Insts.{placed}
 
 module _ (words : List ℕ) (A : List Entry) (insts : List Inst) (n : Node) where
   from_offset : (form : SpForm) → n.key.sp ≡ form → (d : Demand) → Contains (offset_demand (place_in insts n.key.inst) form) d → Asks words A insts n d
-  from_offset (Closed o) e d h = subst (Asks words A insts n) (sym (only (record { inst = place_in insts n.key.inst; into = None; bytes = o }) d h)) (offset o e)
+  from_offset (Closed o) e d h = subst (Asks words A insts n) (sym (only_one_in (record { inst = place_in insts n.key.inst; into = None; bytes = o }) d h)) (offset o e)
   from_offset (Open o high) e d h = absurd (none_in d h)
 
   -- an edge into another instance is a way into it
@@ -48,7 +47,7 @@ module _ (words : List ℕ) (A : List Entry) (insts : List Inst) (n : Node) wher
       let asks : Asks words A insts n (record { inst = place_in insts n.key.inst; into = Some (place_in insts e.to.inst); bytes = offset_of n.key.sp + 2 + need_at insts (place_in insts e.to.inst) }) =
       subst (λ (x : InstKey). Asks words A insts n (record { inst = place_in insts n.key.inst; into = Some (place_in insts x); bytes = offset_of n.key.sp + 2 + need_at insts (place_in insts x) }))
       (sym w.same) (entry w.way w.inst w.back w.enters) in
-      subst (Asks words A insts n) (sym (only _ d h)) asks
+      subst (Asks words A insts n) (sym (only_one_in _ d h)) asks
   entry_by e false way d h = absurd (none_in d h)
 
   is_way : (way : EdgeKind) (inst : InstKey) (back : ℕ) → Enters words A n way inst back → is_entry way ≡ true
@@ -60,7 +59,7 @@ module _ (words : List ℕ) (A : List Entry) (insts : List Inst) (n : Node) wher
     listed_asks d h =
         let f = entry_demand insts (place_in insts n.key.inst) (offset_of n.key.sp) in
         ⊎_elim (from_offset n.key.sp refl d)
-        (each_flat f (Asks words A insts n) edges (λ e x i j. entry_by e (is_entry e.kind) (way_in nodes e ((are e).0 i)) x j) d)
+        (each_of_join f (Asks words A insts n) edges (λ e x i j. entry_by e (is_entry e.kind) (way_in nodes e ((are e).0 i)) x j) d)
         (Contains-append_cases (offset_demand (place_in insts n.key.inst) n.key.sp) (flat_map f edges) d h)
 
     pub asked_listed : (d : Demand) → Asks words A insts n d → Contains (demands_of insts n.key edges) d
@@ -68,12 +67,12 @@ module _ (words : List ℕ) (A : List Entry) (insts : List Inst) (n : Node) wher
         let d : Demand = record { inst = place_in insts n.key.inst; into = None; bytes = o } in
         let f = entry_demand insts (place_in insts n.key.inst) (offset_of n.key.sp) in
         Contains-append_left (offset_demand (place_in insts n.key.inst) n.key.sp) (flat_map f edges) d
-        (subst (λ form. Contains (offset_demand (place_in insts n.key.inst) form) d) (sym e) (here d []))
+        (subst (λ form. Contains (offset_demand (place_in insts n.key.inst) form) d) (sym e) (first_in d []))
     asked_listed _ (entry way inst back enters) =
         let d : Demand = record { inst = place_in insts n.key.inst; into = Some (place_in insts inst); bytes = offset_of n.key.sp + 2 + need_at insts (place_in insts inst) } in
         let f = entry_demand insts (place_in insts n.key.inst) (offset_of n.key.sp) in
         Contains-append_right (offset_demand (place_in insts n.key.inst) n.key.sp) (flat_map f edges) d
-        (flat_in f edges _ d ((are _).1 (entering way inst back enters)) (rw (is_way way inst back enters) (here d [])))
+        (contained_in_join f edges _ d ((are _).1 (entering way inst back enters)) (rw (is_way way inst back enters) (first_in d [])))
 
 -- where an edge lands, its node's instance is there
 pub landed_belongs : (insts : List Inst) (nodes : List Node) (n : Node) → AllBelong insts nodes → IsCovered nodes n → Contains (inst_keys insts) n.key.inst

@@ -1,29 +1,20 @@
 -- Instances by their numbers.
-use Rattle.std.proofs.Common.{◌≡◌, refl, sym, ap, subst, ℕ, zero, suc, ◌<◌, ◌≤◌, ⊎_elim, Bool, true, false, cond, List, [], ◌∷◌, length, get_or, Some, slice_get, Contains, arith}
+use Rattle.std.proofs.Common.{◌≡◌, refl, sym, ap, subst, ℕ, zero, suc, ◌<◌, ⊎_elim, Bool, true, false, cond, List, [], ◌∷◌, length, get_or, Some, slice_get, Contains, arith}
 use Rattle.std.specs.List.{AllByRecursion}
 use Rattle.std.specs.List.Sorted.{IsStrictlySortedBy, IsPartitionedBy, IsPartitionPoint}
 use Rattle.std.specs.Ordering.{is_lt}
-use Rattle.std.specs.declared.cmp.Ordering.{Ordering}
-use Rattle.std.specs.declared.cmp.Ordering.TheVariants.{Less, Equal, Greater}
+use Rattle.std.specs.declared.cmp.Ordering.TheVariants.{Less}
 use Rattle.std.proofs.lemmas.Bool.{cases_lt}
 use Rattle.std.proofs.lemmas.Bool.Decides.{eqb_tells}
 use Rattle.std.proofs.lemmas.Option.{none-some, same_Some, slice_get_within, get_or_from_slice_get, slice_get-get_or}
-use Rattle.avr_model.specs.State.{SIZE}
+use Rattle.basics.specs.Booleans.{less_by_test, never_both}
+use Rattle.basics.specs.Items.{none_in, first_in, further_in, first_or_further}
 use Rattle.mask_states.specs.declared.keys.InstKey.{InstKey}
 use Rattle.mask_states.specs.Order.{inst_cmp, same_inst}
 use Rattle.mask_states.proofs.AllLaws.{keys_are_ordered}
-use Rattle.local_laws.proofs.AllLaws.{none_in, here, there, first_or}
 use Rattle.certificate.specs.declared.instance.Inst.{Inst}
-use Rattle.certificate.specs.Insts.{IsInst, inst_keys, rank_in, need_in}
+use Rattle.certificate.specs.Insts.{inst_keys, rank_in, need_in}
 use Rattle.cert_check.specs.Demands.{AreInstances, place_in, rank_at, need_at}
-
-lt_is : (o : Ordering) → is_lt o ≡ true → o ≡ Less
-lt_is Less e = refl
-lt_is Equal e = absurd (cc)
-lt_is Greater e = absurd (cc)
-
-differs : (b : Bool) → b ≡ true → b ≡ false → ⊥
-differs b e h = cc
 
 not_itself : (a b : InstKey) → inst_cmp a b ≡ Less → a ≡ b → ⊥
 not_itself a b lt e = let same = (keys_are_ordered.equal_insts a b).1 e in cc
@@ -61,12 +52,12 @@ place_there [] key h = absurd (none_in key h)
 place_there (x ∷ xs) key h =
     ⊎_elim (λ e. (0, record { inst = x; is = refl; same = sym e }))
     (λ i. let w = place_there xs key i in (suc w.0, record { inst = w.1.inst; is = w.1.is; same = w.1.same }))
-    (first_or x.key key (inst_keys xs) h)
+    (first_or_further x.key key (inst_keys xs) h)
 
 key_at : (xs : List Inst) (j : ℕ) (x : Inst) → slice_get xs j ≡ Some x → Contains (inst_keys xs) x.key
 key_at [] j x e = absurd (none-some x e)
-key_at (y ∷ ys) zero x e = subst (λ (z : Inst). Contains (inst_keys (y ∷ ys)) z.key) (same_Some y x e) (here y.key (inst_keys ys))
-key_at (y ∷ ys) (suc j) x e = there y.key x.key (inst_keys ys) (key_at ys j x e)
+key_at (y ∷ ys) zero x e = subst (λ (z : Inst). Contains (inst_keys (y ∷ ys)) z.key) (same_Some y x e) (first_in y.key (inst_keys ys))
+key_at (y ∷ ys) (suc j) x e = further_in y.key x.key (inst_keys ys) (key_at ys j x e)
 
 other_by : (a b : InstKey) (t : Bool) → same_inst a b ≡ t → (a ≡ b → ⊥) → t ≡ false
 other_by a b true e h = absurd (h ((keys_are_ordered.same_insts a b).0 e))
@@ -107,9 +98,6 @@ need_there (x ∷ xs) key = by (need_there xs key) (same_inst x.key key)
     by e true = refl
     by e false = e
 
-pub small_need : (xs : List Inst) (j : ℕ) (x : Inst) → AreInstances xs → slice_get xs j ≡ Some x → x.need ≤ SIZE
-small_need xs j x are e = (each_at IsInst xs j x are.fit e).need
-
 -- ---- the search
 
 abbrev pub is_below_key : InstKey → Inst → Bool
@@ -120,7 +108,7 @@ parted xs k are = λ i j d le lt up.
     ⊎_elim (λ e. subst (λ n. is_below_key k (get_or xs n d) ≡ true) (sym e.1) up)
     (λ ne. ap is_lt (keys_are_ordered.insts.trans (get_or xs i d).key (get_or xs j d).key k
     (pair xs i j (get_or xs i d) (get_or xs j d) are.ascend (slice_get-get_or xs i d (omega (arith, le, lt))) (slice_get-get_or xs j d lt)
-    (let d = ne.1 in omega (arith, le, d))) (lt_is (inst_cmp (get_or xs j d).key k) up)))
+    (let d = ne.1 in omega (arith, le, d))) (less_by_test (inst_cmp (get_or xs j d).key k) up)))
     (eqb_tells i j)
 
 module _ (xs : List Inst) (k : InstKey) (at : ℕ) (are : AreInstances xs)
@@ -128,7 +116,7 @@ module _ (xs : List Inst) (k : InstKey) (at : ℕ) (are : AreInstances xs)
   not_before : (j : ℕ) → HasPlace xs k j → j < at → ⊥
   not_before j p lt =
       let up = subst (λ m. is_below_key k m ≡ true) (get_or_from_slice_get xs j p.inst p.inst p.is) (point.0 j p.inst (omega arith) lt) in
-      not_itself p.inst.key k (lt_is (inst_cmp p.inst.key k) up) p.same
+      not_itself p.inst.key k (less_by_test (inst_cmp p.inst.key k) up) p.same
 
   not_behind : (j : ℕ) → HasPlace xs k j → at < j → ⊥
   not_behind j p lt =
@@ -136,7 +124,7 @@ module _ (xs : List Inst) (k : InstKey) (at : ℕ) (are : AreInstances xs)
       let y = get_or xs at p.inst in
       let down : is_below_key k y ≡ false = point.1 at p.inst (omega arith) inside in
       let less : inst_cmp y.key p.inst.key ≡ Less = pair xs at j y p.inst are.ascend (slice_get-get_or xs at p.inst inside) p.is lt in
-      differs (is_below_key k y) (ap is_lt (subst (λ z. inst_cmp y.key z ≡ Less) p.same less)) down
+      never_both (is_below_key k y) (ap is_lt (subst (λ z. inst_cmp y.key z ≡ Less) p.same less)) down
 
   pub found : (at ≡ place_in xs k) × (at < length xs)
   found =

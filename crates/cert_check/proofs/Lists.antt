@@ -1,40 +1,13 @@
 -- Items of lists, and the least of what they offer.
-use Rattle.std.proofs.Common.{◌≡◌, refl, sym, ap, ◌∙◌, subst, ℕ, zero, suc, ◌+◌, ◌<◌, ◌≤◌, ◌⊎◌, inl, inr, ⊎_elim, List, [], ◌∷◌, ◌++◌, length, take, get_or, Option, Some, None, slice_get, Contains}
-use Rattle.std.specs.List.{flat_map}
+use Rattle.std.proofs.Common.{◌≡◌, sym, ap, ◌∙◌, subst, ℕ, ◌+◌, ◌<◌, ◌≤◌, ◌⊎◌, inl, inr, ⊎_elim, List, [], ◌∷◌, ◌++◌, length, take, get_or, Option, Some, None, Contains}
 use Rattle.std.proofs.lemmas.List.{take_more, take_all}
 use Rattle.std.proofs.lemmas.List.Elements.{Contains-append_left, Contains-append_right, Contains-append_cases}
-use Rattle.std.proofs.lemmas.Option.{none-some, same_Some, slice_get_read, slice_get-get_or}
-use Rattle.local_laws.proofs.AllLaws.{none_in, here, there, first_or}
+use Rattle.std.proofs.lemmas.Option.{slice_get-get_or}
+use Rattle.basics.specs.Items.{contained_at, only_one_in, none_in, first_in}
 use Rattle.cert_check.specs.Demands.{IsLeast, IsNoted}
 
-pub place_of : {X : Type 0} (xs : List X) (x : X) → Contains xs x → (i : ℕ) × (slice_get xs i ≡ Some x)
-place_of xs x h = (h.0, slice_get_read xs (length xs) h.0 x refl h.1 (sym h.2))
-
-pub contains_at : {X : Type 0} (xs : List X) (at : ℕ) (x : X) → slice_get xs at ≡ Some x → Contains xs x
-contains_at [] at x e = absurd (none-some x e)
-contains_at (y ∷ ys) zero x e = subst (Contains (y ∷ ys)) (same_Some y x e) (here y ys)
-contains_at (y ∷ ys) (suc at) x e = there y x ys (contains_at ys at x e)
-
 pub read_in : {X : Type 0} (xs : List X) (at : ℕ) (d x : X) → at < length xs → x ≡ get_or xs at d → Contains xs x
-read_in xs at d x lt is = contains_at xs at x (slice_get-get_or xs at d lt ∙ ap (λ y. Some y) (sym is))
-
-pub one_at : {X : Type 0} (xs : List X) (at : ℕ) (x y : X) → slice_get xs at ≡ Some x → slice_get xs at ≡ Some y → x ≡ y
-one_at xs at x y e f = same_Some x y (sym e ∙ f)
-
-pub only : {X : Type 0} (y x : X) → Contains (y ∷ []) x → x ≡ y
-only y x h = ⊎_elim (λ e. e) (λ i. absurd (none_in x i)) (first_or y x [] h)
-
-pub flat_in : {X Y : Type 0} (f : X → List Y) (xs : List X) (x : X) (y : Y) → Contains xs x → Contains (f x) y → Contains (flat_map f xs) y
-flat_in f [] x y h i = absurd (none_in x h)
-flat_in f (z ∷ zs) x y h i =
-    ⊎_elim (λ e. Contains-append_left (f z) (flat_map f zs) y (subst (λ v. Contains (f v) y) e i))
-    (λ j. Contains-append_right (f z) (flat_map f zs) y (flat_in f zs x y j i)) (first_or z x zs h)
-
-pub each_flat : {X Y : Type 0} (f : X → List Y) (P : Y → Type 0) (xs : List X) → ((x : X) (y : Y) → Contains xs x → Contains (f x) y → P y)
-    → (y : Y) → Contains (flat_map f xs) y → P y
-each_flat f P [] h y i = absurd (none_in y i)
-each_flat f P (x ∷ xs) h y i =
-    ⊎_elim (λ j. h x y (here x xs) j) (each_flat f P xs (λ z w j l. h z w (there x z xs j) l) y) (Contains-append_cases (f x) (flat_map f xs) y i)
+read_in xs at d x lt is = contained_at xs at x (slice_get-get_or xs at d lt ∙ ap (λ y. Some y) (sym is))
 
 -- ---- the least
 
@@ -52,15 +25,15 @@ module _ {X K : Type 0} (clear : X → Type 0) (offers : X → K → Type 0) (be
     (laws : IsLesser clear offers below lesser) where
   still : (xs : List X) (x : X) (old : Option K) → IsLeast clear offers below xs old → clear x → IsLeast clear offers below (xs ++ x ∷ []) old
   still xs x None h ok = λ y i.
-      ⊎_elim (λ j. h y j) (λ j. subst clear (sym (only x y j)) ok) (Contains-append_cases xs (x ∷ []) y i)
+      ⊎_elim (λ j. h y j) (λ j. subst clear (sym (only_one_in x y j)) ok) (Contains-append_cases xs (x ∷ []) y i)
   still xs x (Some b) h ok = (
     (h.0.0, (Contains-append_left xs (x ∷ []) h.0.0 h.0.1.0, h.0.1.1)),
-    λ y m i o. ⊎_elim (λ j. h.1 y m j o) (λ j. absurd (laws.apart x m ok (subst (λ z. offers z m) (only x y j) o)))
+    λ y m i o. ⊎_elim (λ j. h.1 y m j o) (λ j. absurd (laws.apart x m ok (subst (λ z. offers z m) (only_one_in x y j) o)))
         (Contains-append_cases xs (x ∷ []) y i),
   )
 
   last : (xs : List X) (x : X) → Contains (xs ++ x ∷ []) x
-  last xs x = Contains-append_right xs (x ∷ []) x (here x [])
+  last xs x = Contains-append_right xs (x ∷ []) x (first_in x [])
 
   lesser_of : (xs : List X) (x : X) (b k v : K) → IsLeast clear offers below xs (Some b) → offers x k → (v ≡ b) ⊎ (v ≡ k)
       → (y : X) × (Contains (xs ++ x ∷ []) y × offers y v)
@@ -74,13 +47,13 @@ module _ {X K : Type 0} (clear : X → Type 0) (offers : X → K → Type 0) (be
     (x, (last xs x, subst (offers x) (sym (laws.first k)) o)),
     λ y m i p. ⊎_elim (λ j. absurd (laws.apart y m (h y j) p))
         (λ j. subst (λ z. below z m) (sym (laws.first k))
-        (subst (λ z. below z m) (one m (subst (λ z. offers z m) (only x y j) p)) (laws.same m)))
+        (subst (λ z. below z m) (one m (subst (λ z. offers z m) (only_one_in x y j) p)) (laws.same m)))
         (Contains-append_cases xs (x ∷ []) y i),
   )
   lower xs x (Some b) k h o one = (
     lesser_of xs x b k (lesser (Some b) k) h o (laws.either b k),
     λ y m i p. ⊎_elim (λ j. laws.along (lesser (Some b) k) b m (laws.left b k) (h.1 y m j p))
-        (λ j. subst (below (lesser (Some b) k)) (sym (one m (subst (λ z. offers z m) (only x y j) p))) (laws.right b k))
+        (λ j. subst (below (lesser (Some b) k)) (sym (one m (subst (λ z. offers z m) (only_one_in x y j) p))) (laws.right b k))
         (Contains-append_cases xs (x ∷ []) y i),
   )
 

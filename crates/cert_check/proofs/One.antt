@@ -1,7 +1,10 @@
 -- A certificate has one verdict.
 use Rattle.std.proofs.Common.{◌≡◌, refl, sym, ap, ◌∙◌, subst, ℕ, ◌<◌, ◌≤◌, ◌⊎◌, inl, inr, ⊎_elim, List, [], ◌∷◌, Some, Result, Err, slice_get, arith}
 use Rattle.std.specs.Prelude.{◌↔◌}
-use Rattle.std.proofs.lemmas.Bool.{cases_lt}
+use Rattle.basics.specs.Numbers.{same_if_neither}
+use Rattle.basics.specs.Items.{contained_at}
+use Rattle.basics.specs.Lists.{one_at}
+use Rattle.edge_rules.specs.Families.{AreFaultless}
 use Rattle.avr_model.specs.declared.assumption.Entry.{Entry}
 use Rattle.avr_model.specs.Run.{Bounded}
 use Rattle.mask_states.specs.declared.keys.NodeKey.{NodeKey}
@@ -16,12 +19,12 @@ use Rattle.local_rules.specs.Local.{local, settled}
 use Rattle.local_rules.specs.Machine.{AreWords}
 use Rattle.edge_rules.specs.Edges.{IsFaultless, IsEdge, raw_of}
 use Rattle.edge_rules.specs.Expansion.{IsFilled, IsMissing}
-use Rattle.expansion_laws.proofs.AllLaws.{filled_or_missing}
+use Rattle.edge_laws.proofs.ExpansionLaws.{filled_or_missing}
 use Rattle.frame_laws.proofs.AllLaws.{sound_families_bound_every_run}
 use Rattle.certificate.specs.declared.instance.Inst.{Inst}
 use Rattle.certificate.specs.Insts.{rank_in, need_in}
 use Rattle.certificate.specs.Claims.{Claim, IsClaim}
-use Rattle.certificate.specs.Valid.{AreFaultless, AllLand, AreRanked, Suffices, NeedsSuffice, IsSound, family_of}
+use Rattle.certificate.specs.Valid.{AllLand, AreRanked, Suffices, NeedsSuffice, IsSound, family_of}
 use Rattle.certificate.proofs.AllLaws.{conditions_make_families_sound}
 use Rattle.cert_check.specs.declared.verdict.Reason.{Reason}
 use Rattle.cert_check.specs.declared.verdict.Reason.TheVariants as reason
@@ -30,7 +33,6 @@ use Rattle.cert_check.specs.declared.verdict.Verdict.TheVariants.{Accepted, Reje
 use Rattle.cert_check.specs.Verdict.{InstEnters, IsFirstFault, IsFirstGap, IsFirstRank, IsFirstNeed, IsRejected, IsReason, IsVerdict}
 use Rattle.cert_check.specs.Laws.{VerdictsAreOne, SoundCertificatesBoundEveryRun}
 use Rattle.cert_check.specs.Demands.{AreInstances, Decides, need_at, rank_at, rank_of, need_of}
-use Rattle.cert_check.proofs.Lists.{contains_at, one_at}
 use Rattle.cert_check.proofs.Insts.{place_is, rank_there, need_there}
 use Rattle.cert_check.proofs.Covering.{key_antisymmetric}
 
@@ -52,9 +54,6 @@ err_same r f g a b = cc
 
 -- ---- of two numbers the least
 
-least_of : (i j : ℕ) → (i < j → ⊥) → (j < i → ⊥) → i ≡ j
-least_of i j a b = ⊎_elim (λ lt. absurd (a lt)) (λ le. ⊎_elim (λ lt. absurd (b lt)) (λ ge. omega (arith, le, ge)) (cases_lt j i)) (cases_lt i j)
-
 module _ (words : List ℕ) (A : List Entry) (c : Claim) (claim : IsClaim c) (nodes : List Node) where
   rank_is : (j : ℕ) (x : Inst) → slice_get c.instances j ≡ Some x → rank_in c.instances x.key ≡ x.rank
   rank_is j x e =
@@ -69,10 +68,10 @@ module _ (words : List ℕ) (A : List Entry) (c : Claim) (claim : IsClaim c) (no
   -- ---- a reason excludes the condition that it tells of
 
   not_clean : (j cause : ℕ) → IsFirstFault words A nodes j cause → AreFaultless words A nodes → ⊥
-  not_clean j cause h clean = fault_counts words A h.node h.fault h.has (clean h.node (contains_at nodes j h.node h.is))
+  not_clean j cause h clean = fault_counts words A h.node h.fault h.has (clean h.node (contained_at nodes j h.node h.is))
 
   not_landed : (j : ℕ) (to : NodeKey) → IsFirstGap words A nodes j to → AllLand words A nodes → ⊥
-  not_landed j to h land = h.gap (land h.node h.edge (contains_at nodes j h.node h.is) h.from)
+  not_landed j to h land = h.gap (land h.node h.edge (contained_at nodes j h.node h.is) h.from)
 
   not_ranked : (j l : ℕ) → IsFirstRank words A c nodes j l → AreRanked words A c nodes → ⊥
   not_ranked j l h ranks =
@@ -92,7 +91,7 @@ module _ (words : List ℕ) (A : List Entry) (c : Claim) (claim : IsClaim c) (no
 
   one_fault : (i j a b : ℕ) → IsFirstFault words A nodes i a → IsFirstFault words A nodes j b → Rejected (reason.Node i a) ≡ Rejected (reason.Node j b)
   one_fault i j a b g h =
-      let same : i ≡ j = least_of i j (fault_before i j a b g h) (fault_before j i b a h g) in
+      let same : i ≡ j = same_if_neither i j (fault_before i j a b g h) (fault_before j i b a h g) in
       let node : g.node ≡ h.node = one_at nodes j g.node h.node (subst (λ k. slice_get nodes k ≡ Some g.node) same g.is) h.is in
       let fault : g.fault ≡ h.fault = err_same (local words A h.node.key h.node.state) g.fault h.fault (subst (λ (n : Node). local words A n.key n.state ≡ Err g.fault) node g.has) h.has in
       let cause : a ≡ b = sym g.which ∙ (ap cause_of fault ∙ h.which) in
@@ -103,7 +102,7 @@ module _ (words : List ℕ) (A : List Entry) (c : Claim) (claim : IsClaim c) (no
 
   one_gap : (i j : ℕ) (k l : NodeKey) → IsFirstGap words A nodes i k → IsFirstGap words A nodes j l → Rejected (reason.Edge i k) ≡ Rejected (reason.Edge j l)
   one_gap i j k l g h =
-      let same : i ≡ j = least_of i j (gap_before i j k l g h) (gap_before j i l k h g) in
+      let same : i ≡ j = same_if_neither i j (gap_before i j k l g h) (gap_before j i l k h g) in
       let node : g.node ≡ h.node = one_at nodes j g.node h.node (subst (λ m. slice_get nodes m ≡ Some g.node) same g.is) h.is in
       let key : k ≡ l = key_antisymmetric k l
       (λ e. g.least h.edge (subst (λ n. IsEdge words A nodes n h.edge) (sym node) h.from) h.gap (ap (λ z. node_cmp k z) h.leads ∙ e))
@@ -115,7 +114,7 @@ module _ (words : List ℕ) (A : List Entry) (c : Claim) (claim : IsClaim c) (no
 
   one_rank : (i j k l : ℕ) → IsFirstRank words A c nodes i k → IsFirstRank words A c nodes j l → Rejected (reason.Rank i k) ≡ Rejected (reason.Rank j l)
   one_rank i j k l g h =
-      let same : i ≡ j = least_of i j (rank_before i j k l g h) (rank_before j i l k h g) in
+      let same : i ≡ j = same_if_neither i j (rank_before i j k l g h) (rank_before j i l k h g) in
       let from : g.from ≡ h.from = one_at c.instances j g.from h.from (subst (λ m. slice_get c.instances m ≡ Some g.from) same g.is) h.is in
       let up = g.least l h.into h.there (subst (λ x. InstEnters words A nodes x h.into) (sym from) h.enters) (subst (λ (x : Inst). x.rank ≤ h.into.rank) (sym from) h.low) in
       let down = h.least k g.into g.there (subst (λ x. InstEnters words A nodes x g.into) from g.enters) (subst (λ (x : Inst). x.rank ≤ g.into.rank) from g.low) in
@@ -127,7 +126,7 @@ module _ (words : List ℕ) (A : List Entry) (c : Claim) (claim : IsClaim c) (no
 
   one_need : (i j k l : ℕ) → IsFirstNeed words A c nodes i k → IsFirstNeed words A c nodes j l → Rejected (reason.Need i k) ≡ Rejected (reason.Need j l)
   one_need i j k l g h =
-      let same : i ≡ j = least_of i j (need_before i j k l g h) (need_before j i l k h g) in
+      let same : i ≡ j = same_if_neither i j (need_before i j k l g h) (need_before j i l k h g) in
       let inst : g.inst ≡ h.inst = one_at c.instances j g.inst h.inst (subst (λ m. slice_get c.instances m ≡ Some g.inst) same g.is) h.is in
       let up = g.least l (subst (λ (x : Inst). Suffices words A c nodes x.key l) (sym inst) h.enough) in
       let down = h.least k (subst (λ (x : Inst). Suffices words A c nodes x.key k) inst g.enough) in

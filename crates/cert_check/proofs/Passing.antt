@@ -4,10 +4,11 @@ use Rattle.std.specs.Option.{option_map}
 use Rattle.std.proofs.lemmas.Bool.{cases_lt}
 use Rattle.std.proofs.lemmas.List.Elements.{Contains-append_left, Contains-append_right, Contains-append_cases}
 use Rattle.std.proofs.lemmas.Option.{none-some, same_Some, slice_get_within}
+use Rattle.basics.specs.Items.{place_of_contained, contained_at, none_in}
+use Rattle.basics.specs.Lists.{one_at}
 use Rattle.avr_model.specs.declared.assumption.Entry.{Entry}
 use Rattle.mask_states.specs.declared.keys.NodeKey.{NodeKey}
 use Rattle.local_rules.specs.declared.local.Node.{Node}
-use Rattle.local_laws.proofs.AllLaws.{none_in}
 use Rattle.edge_rules.specs.declared.edge.Edge.{Edge}
 use Rattle.edge_rules.specs.Edges.{IsEdge, AreEdges, target}
 use Rattle.edge_rules.specs.Families.{IsCovered}
@@ -18,8 +19,7 @@ use Rattle.certificate.specs.Insts.{inst_keys}
 use Rattle.certificate.specs.Valid.{AllLand}
 use Rattle.cert_check.specs.declared.demand.Demand.{Demand}
 use Rattle.cert_check.specs.Verdict.{IsFirstGap}
-use Rattle.cert_check.specs.Demands.{IsLeast, Lands, GapAt, KeyBelow, AreTargets, demands_of, Asks, AreDemands, AllBelong, IsMidway}
-use Rattle.cert_check.proofs.Lists.{place_of, contains_at, one_at}
+use Rattle.cert_check.specs.Demands.{IsLeast, LeadsToNode, GapAt, KeyBelow, AreTargets, demands_of, Asks, AreDemands, AllBelong, IsMidway}
 use Rattle.cert_check.proofs.Demands.{listed_asks, asked_listed, landed_belongs}
 
 key_is : (nodes : List Node) (at : ℕ) (n : Node) (k : NodeKey) → slice_get nodes at ≡ Some n → option_map key_of (slice_get nodes at) ≡ Some k → n.key ≡ k
@@ -36,9 +36,9 @@ module _ (words : List ℕ) (A : List Entry) (insts : List Inst) (nodes : List N
   module _ (at : ℕ) (demands : List Demand) (mid : IsMidway words A insts nodes at demands) (n : Node) (is : slice_get nodes at ≡ Some n) (edges : List Edge)
       (are : AreEdges words A nodes n edges) where
     pub targets : AreShown nodes → AreTargets edges
-    targets shown = λ e h. edges_lead_to_nodes.edges words A nodes n e shown.all (contains_at nodes at n is) ((are e).0 h)
+    targets shown = λ e h. edges_lead_to_nodes.edges words A nodes n e shown.all (contained_at nodes at n is) ((are e).0 h)
 
-    pub gap_first : (to : NodeKey) → IsLeast (Lands nodes) (GapAt nodes) KeyBelow edges (Some to) → IsFirstGap words A nodes at to
+    pub gap_first : (to : NodeKey) → IsLeast (LeadsToNode nodes) (GapAt nodes) KeyBelow edges (Some to) → IsFirstGap words A nodes at to
     gap_first to h = record {
       node = n;
       is = is;
@@ -50,11 +50,11 @@ module _ (words : List ℕ) (A : List Entry) (insts : List Inst) (nodes : List N
       earlier = λ i m e im lt ie. mid.land i m e im lt ie;
     }
 
-    pub targets_belong : AllBelong insts nodes → IsLeast (Lands nodes) (GapAt nodes) KeyBelow edges None → (e : Edge) → Contains edges e
+    pub targets_belong : AllBelong insts nodes → IsLeast (LeadsToNode nodes) (GapAt nodes) KeyBelow edges None → (e : Edge) → Contains edges e
         → Contains (inst_keys insts) e.to.inst
     targets_belong belong clear = λ e h. landed_belongs insts nodes (target e) belong (clear e h)
 
-    land_here : IsLeast (Lands nodes) (GapAt nodes) KeyBelow edges None → (i : ℕ) (m : Node) (e : Edge) → slice_get nodes i ≡ Some m → i < at + 1
+    land_here : IsLeast (LeadsToNode nodes) (GapAt nodes) KeyBelow edges None → (i : ℕ) (m : Node) (e : Edge) → slice_get nodes i ≡ Some m → i < at + 1
         → IsEdge words A nodes m e → IsCovered nodes (target e)
     land_here clear i m e im lt ie =
         ⊎_elim (λ below. mid.land i m e im below ie)
@@ -74,14 +74,14 @@ module _ (words : List ℕ) (A : List Entry) (insts : List Inst) (nodes : List N
         (asked_listed words A insts n nodes edges are d (subst (λ x. Asks words A insts x d) mn asks)))
         (cases_lt i at))
 
-    pub goes_on : (k : NodeKey) (new : List Demand) → option_map key_of (slice_get nodes at) ≡ Some k → IsLeast (Lands nodes) (GapAt nodes) KeyBelow edges None
+    pub goes_on : (k : NodeKey) (new : List Demand) → option_map key_of (slice_get nodes at) ≡ Some k → IsLeast (LeadsToNode nodes) (GapAt nodes) KeyBelow edges None
         → new ≡ demands ++ demands_of insts k edges → IsMidway words A insts nodes (at + 1) new
     goes_on k new key clear e =
         let f : new ≡ demands ++ demands_of insts n.key edges = subst (λ x. new ≡ demands ++ demands_of insts x edges) (sym (key_is nodes at n k is key)) e in
         record {
           land = land_here clear;
           asked = λ d h. ⊎_elim (mid.asked d)
-              (λ i. record { node = n; present = contains_at nodes at n is; asks = listed_asks words A insts n nodes edges are d i })
+              (λ i. record { node = n; present = contained_at nodes at n is; asks = listed_asks words A insts n nodes edges are d i })
               (Contains-append_cases demands (demands_of insts n.key edges) d (subst (λ l. Contains l d) f h));
           listed = listed_here new f;
         }
@@ -89,11 +89,11 @@ module _ (words : List ℕ) (A : List Entry) (insts : List Inst) (nodes : List N
   module _ (at : ℕ) (demands : List Demand) (mid : IsMidway words A insts nodes at demands) (full : length nodes ≤ at) where
     pub ends : AllLand words A nodes × AreDemands words A insts nodes demands
     ends = (
-      λ n e h ie. let w = place_of nodes n h in
+      λ n e h ie. let w = place_of_contained nodes n h in
           mid.land w.0 n e w.1 (let lt = slice_get_within nodes w.0 n w.1 in omega (arith, lt, full)) ie,
       λ d. (
         mid.asked d,
-        λ a. let w = place_of nodes a.node a.present in
+        λ a. let w = place_of_contained nodes a.node a.present in
             mid.listed w.0 a.node d w.1 (let lt = slice_get_within nodes w.0 a.node w.1 in omega (arith, lt, full)) a.asks,
       ),
     )
@@ -104,4 +104,4 @@ key_belongs insts nodes at k belong e = by (slice_get nodes at) refl e
   where
     by : (o : Option Node) → slice_get nodes at ≡ o → option_map key_of o ≡ Some k → Contains (inst_keys insts) k.inst
     by None is e = absurd (none-some k e)
-    by (Some n) is e = subst (λ (x : NodeKey). Contains (inst_keys insts) x.inst) (same_Some n.key k e) (belong n (contains_at nodes at n is))
+    by (Some n) is e = subst (λ (x : NodeKey). Contains (inst_keys insts) x.inst) (same_Some n.key k e) (belong n (contained_at nodes at n is))

@@ -2,6 +2,7 @@
 use Rattle.std.proofs.Common.{◌≡◌, sym, ap, ◌∙◌, subst, ℕ, zero, suc, ◌<◌, ◌≤◌, List, [], ◌∷◌, length, Some, Result, Ok, Err, slice_get, IfOk, arith}
 use Rattle.std.specs.List.{AllByRecursion}
 use Rattle.std.proofs.lemmas.Option.{none-some, same_Some, slice_get_within}
+use Rattle.basics.specs.Items.{place_of_contained}
 use Rattle.avr_model.specs.declared.assumption.Entry.{Entry}
 use Rattle.abs_state.specs.declared.state.AbsState.{AbsState}
 use Rattle.abs_state.specs.Values.{root}
@@ -23,7 +24,6 @@ use Rattle.certificate.specs.Valid.{reset_node}
 use Rattle.cert_check.specs.declared.demand.Demand.{Demand}
 use Rattle.cert_check.specs.Verdict.{IsFirstFault}
 use Rattle.cert_check.specs.Demands.{AllBelong, AreInside, IsLeast, MeetsRank, LowRank, PairBelow, MeetsNeed, LowNeed, NumberBelow}
-use Rattle.cert_check.proofs.Lists.{place_of}
 
 pub if_ok : {X E : Type 0} (P Q : X → Type 0) (r : Result X E) → ((x : X) → P x → Q x) → IfOk r P → IfOk r Q
 if_ok P Q (Ok x) f h = f x h
@@ -55,7 +55,7 @@ module _ (words : List ℕ) (A : List Entry) (c : Claim) (nodes : List Node) (cl
 
   pub nodes_belong : AllBelong c.instances nodes
   nodes_belong n h =
-      let w = place_of nodes n h in
+      let w = place_of_contained nodes n h in
       let e = filled.keys w.0 n w.1 in
       key_at (Belongs c.instances) c.nodes w.0 n.key e.0 claim.nodes_belong e.1
 

@@ -44,8 +44,8 @@ IsNoted {X} {K} clear offers lesser old x new =
 
 -- ---- edges that don't land
 
-abbrev pub Lands : List Node → Edge → Type 0
-Lands nodes e = IsCovered nodes (target e)
+abbrev pub LeadsToNode : List Node → Edge → Type 0
+LeadsToNode nodes e = IsCovered nodes (target e)
 
 -- an edge that doesn't land offers its key
 abbrev pub GapAt : List Node → Edge → NodeKey → Type 0

@@ -14,11 +14,11 @@ use Rattle.local_rules.specs.Local.{local}
 use Rattle.edge_rules.specs.declared.edge.Edge.{Edge}
 use Rattle.edge_rules.specs.Edges.{IsFaultless, Enters, IsEdge, target}
 use Rattle.edge_rules.specs.Expansion.{IsFilled, IsMissing}
-use Rattle.edge_rules.specs.Families.{IsCovered}
+use Rattle.edge_rules.specs.Families.{IsCovered, AreFaultless}
 use Rattle.certificate.specs.declared.instance.Inst.{Inst}
 use Rattle.certificate.specs.Insts.{need_in}
 use Rattle.certificate.specs.Claims.{Claim}
-use Rattle.certificate.specs.Valid.{reset_node, AreFaultless, AllLand, AreRanked, Suffices, NeedsSuffice, IsBounded, IsSound}
+use Rattle.certificate.specs.Valid.{reset_node, AllLand, AreRanked, Suffices, NeedsSuffice, IsBounded, IsSound}
 use Rattle.cert_check.specs.declared.verdict.Reason.{Reason}
 use Rattle.cert_check.specs.declared.verdict.Reason.TheVariants as reason
 use Rattle.cert_check.specs.declared.verdict.Verdict.{Verdict}

@@ -3,7 +3,7 @@
 ghost use Rattle.std.specs.Prelude.{ℕ, ◌≡◌, ◌↔◌, IsTrue, Some};
 ghost use Rattle.local_rules.specs.Cover.{IsNode};
 ghost use Rattle.edge_rules.specs.Families.{IsCovered};
-ghost use Rattle.cert_check.specs.Demands.{IsLeast, IsNoted, Lands, GapAt, KeyBelow, lesser_key, AreTargets};
+ghost use Rattle.cert_check.specs.Demands.{IsLeast, IsNoted, LeadsToNode, GapAt, KeyBelow, lesser_key, AreTargets};
 
 use abs_state::AbsState;
 use call_graph::{Filled, View};
@@ -38,7 +38,7 @@ fn lesser(least: Option<NodeKey>, key: &NodeKey) -> NodeKey
 // The least key after one edge more.
 fn noted_gap(nodes: &Filled, least: Option<NodeKey>, edge: &Edge) -> Option<NodeKey>
     requires { IsNode edge.now.to edge.now.state }
-    ensures { IsNoted (Lands nodes.now) (GapAt nodes.now) lesser_key least edge.now result }
+    ensures { IsNoted (LeadsToNode nodes.now) (GapAt nodes.now) lesser_key least edge.now result }
 {
     if is_covered(nodes, &edge.to, &edge.state) {
         least
@@ -50,7 +50,7 @@ fn noted_gap(nodes: &Filled, least: Option<NodeKey>, edge: &Edge) -> Option<Node
 // The least key to which an edge leads that doesn't land.
 pub(crate) fn gap_in(nodes: &Filled, edges: &[Edge]) -> Option<NodeKey>
     requires { AreTargets edges.now }
-    ensures { IsLeast (Lands nodes.now) (GapAt nodes.now) KeyBelow edges.now result }
+    ensures { IsLeast (LeadsToNode nodes.now) (GapAt nodes.now) KeyBelow edges.now result }
 {
     let mut least = None;
     for at in 0..edges.len() {

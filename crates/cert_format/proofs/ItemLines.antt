@@ -3,6 +3,9 @@ use Rattle.std.proofs.Common.{ℕ, ◌<◌, ◌≤◌, ◌≡◌, List, [], ◌�
 use Rattle.std.specs.List.{AllByRecursion}
 use Rattle.std.specs.Fmt.{decimal}
 use Rattle.std.proofs.lemmas.List.{append-nil}
+use Rattle.std.proofs.lemmas.Option.{cond_some}
+use Rattle.local_rules.specs.Cover.{IsKey}
+use Rattle.indirect_targets.proofs.AllLaws.{map_some}
 use Rattle.avr_model.specs.State.{SIZE}
 use Rattle.line_reading.specs.Reading.{dec_at, word_at, is_over}
 use Rattle.line_reading.specs.Words.{IsWord, WordLaws}
@@ -15,18 +18,18 @@ use Rattle.edge_rules.specs.declared.seeded.NodeForm.TheVariants.{State, From}
 use Rattle.certificate.specs.declared.instance.Inst.{Inst}
 use Rattle.certificate.specs.declared.version.Version.{Version}
 use Rattle.certificate.specs.Insts.{IsInst}
-use Rattle.certificate.specs.Claims.{IsKey, FitsAt}
+use Rattle.certificate.specs.Claims.{FitsAt}
 use Rattle.certificate.specs.Versions.{NodeIsOf}
 use Rattle.cert_words.specs.KeySpelling.{inst_key_words, place_words, form_words}
 use Rattle.cert_words.specs.Text.{inst_words, node_words_at}
 use Rattle.cert_words.specs.KeyReading.{is_root, inst_key_at, form_at}
 use Rattle.cert_words.specs.KeyLaws.{KeyWords}
-use Rattle.cert_words.proofs.AllLaws.{map_some, tested, word_take, dec_take, joined_words, cons}
+use Rattle.cert_words.proofs.AllLaws.{word_take, dec_take, joined_words, cons}
 use Rattle.cert_format.specs.LineReading.{inst_in, place_at, whole_key_at, node_in}
 use Rattle.cert_format.specs.LineLaws.{InstLines, IsInstanceOf, IsNodeLine, NodeLines}
 
 over_end : {A : Type 0} (x y : A) (ws : List (List ℕ)) → cond (is_over ws) (Some x) None ≡ Some y → (ws ≡ []) × (x ≡ y)
-over_end x y ws e = let t = tested (is_over ws) x y e in (no_words ws t.0, t.1)
+over_end x y ws e = let t = cond_some (is_over ws) x y e in (no_words ws t.0, t.1)
 
 -- ---- instances
 

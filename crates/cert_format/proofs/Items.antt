@@ -1,5 +1,7 @@
 -- One line more of a list.
 use Rattle.std.proofs.Common.{ℕ, suc, ◌+◌, ◌-◌, ◌<◌, ◌≤◌, ◌≡◌, List, [], ◌∷◌, ◌++◌, length, refl, ap, sym, ◌∙◌, arith, Option, Result, Ok, Err}
+use Rattle.basics.specs.Numbers.{one_of_the_rest}
+use Rattle.std.proofs.lemmas.List.{length_push}
 use Rattle.sb_base.specs.Lines.{Place}
 use Rattle.line_reading.specs.Reading.{then_at, line_by}
 use Rattle.mask_states.specs.Keys.{offset_of}
@@ -9,15 +11,12 @@ use Rattle.edge_rules.specs.Expansion.{Seeds}
 use Rattle.cert_format.specs.declared.fault.CertFault.{CertFault}
 use Rattle.certificate.specs.Claims.{cells_of, node_keys}
 use Rattle.cert_format.specs.Reading.{formed, with_item, longer_at, items_from}
-use Rattle.cert_format.proofs.Lists.{ok_is, then_ok, unless_ok, longer}
+use Rattle.cert_format.proofs.Lists.{ok_is, then_ok, unless_ok}
 
 pub cells_more : (ns : Seeds) (n : NodeKey × NodeForm) → cells_of (node_keys (ns ++ n ∷ [])) ≡ cells_of (node_keys ns) + (1 + offset_of n.0.sp)
 unfolding cells_of
 cells_more [] n = omega arith
 cells_more (m ∷ ns) n = omega (arith, cells_more ns n)
-
-left_to : (count i : ℕ) → i < count → count - i ≡ suc (count - (i + 1))
-left_to count i h = omega arith
 
 one_line : {A : Type 0} (by : ℕ → List ℕ → Option A) (refused : List A → A → ℕ → Option CertFault) (xs : List A) (n : ℕ) (p : Place) (d : Result (List A × Place) CertFault) → longer_at by refused xs p ≡ d
     → items_from by refused xs (suc n) p ≡ then_at d (λ x. items_from by refused x.0 n x.1)
@@ -26,7 +25,7 @@ one_line by refused xs n p d e = rw e refl
 
 more : {A : Type 0} (by : ℕ → List ℕ → Option A) (refused : List A → A → ℕ → Option CertFault) (xs : List A) (count i : ℕ) (p : Place) (d : Result (List A × Place) CertFault) → i < count → longer_at by refused xs p ≡ d
     → items_from by refused xs (count - i) p ≡ then_at d (λ x. items_from by refused x.0 (count - (i + 1)) x.1)
-more by refused xs count i p d h e = rw (left_to count i h) (one_line by refused xs (count - (i + 1)) p d e)
+more by refused xs count i p d h e = rw (one_of_the_rest count i h) (one_line by refused xs (count - (i + 1)) p d e)
 
 -- a line that is read
 pub item_more : {A : Type 0} (by : ℕ → List ℕ → Option A) (refused : List A → A → ℕ → Option CertFault) (xs ys : List A) (count i : ℕ) (p q : Place) (all : Result (List A × Place) CertFault) → i < count
@@ -41,7 +40,7 @@ item_longer {A} by refused xs ys p q e =
     let zs = then_ok (with_item refused xs x.0.0 p.at) _ (ys, q) x.2 in
     let none = unless_ok (refused xs x.0.0 p.at) (xs ++ x.0.0 ∷ []) zs.0 zs.1 in
     let pair = ok_is {A = List A × Place} (zs.0, x.0.1) (ys, q) zs.2 in
-    sym (ap length (none.1 ∙ ap (λ (y : List A × Place). y.0) pair)) ∙ longer xs x.0.0
+    sym (ap length (none.1 ∙ ap (λ (y : List A × Place). y.0) pair)) ∙ length_push xs x.0.0
 
 -- a line that is refused
 pub item_fault : {A : Type 0} (by : ℕ → List ℕ → Option A) (refused : List A → A → ℕ → Option CertFault) (xs : List A) (count i : ℕ) (p : Place) (f : CertFault) (all : Result (List A × Place) CertFault) → i < count

@@ -6,12 +6,15 @@ use Rattle.std.specs.List.Sorted.{IsStrictlySortedBy}
 use Rattle.std.specs.Cmp.{IsTotalOrder}
 use Rattle.std.specs.Ordering.{is_lt}
 use Rattle.std.specs.declared.cmp.Ordering.{Ordering}
-use Rattle.std.specs.declared.cmp.Ordering.TheVariants.{Less, Equal, Greater}
-use Rattle.std.proofs.lemmas.List.{append-nil}
+use Rattle.std.specs.declared.cmp.Ordering.TheVariants.{Less}
+use Rattle.std.proofs.lemmas.List.{append-nil, length_push}
+use Rattle.basics.specs.Booleans.{less_by_test}
+use Rattle.basics.specs.Items.{all_pushed}
+use Rattle.witness_replay.proofs.Exact.{as_words}
 use Rattle.sb_base.specs.Lines.{TextLine, Place, spaced}
 use Rattle.line_reading.specs.Reading.{then_at, line_by}
 use Rattle.line_reading.specs.Words.{whole, Passes}
-use Rattle.line_reading.proofs.AllLaws.{TakesLine, line_takes, line_again, passes_none, passes_more, passes_split, passes_end}
+use Rattle.line_reading.proofs.AllLaws.{line_takes, line_again, passes_none, passes_more, passes_split, passes_end}
 use Rattle.cert_format.specs.declared.fault.CertFault.{CertFault}
 use Rattle.cert_format.specs.Reading.{formed, unless, with_item, longer_at, items_from}
 
@@ -59,9 +62,6 @@ AllFrom P at (x ∷ xs) = P at x × AllFrom P (at + 1) xs
 
 abbrev pub lines : {A : Type 0} → (A → List (List ℕ)) → List A → List TextLine
 lines words xs = map whole (map words xs)
-
-pub as_words : {A : Type 0} (f : List ℕ → Option A) (p : Place) (x : A) (q : Place) (t : TakesLine f p x q) (ws : List (List ℕ)) → t.text ≡ spaced ws → Passes p (whole ws ∷ []) q
-as_words f p x q t ws e = let P : List ℕ → Type 0 = λ y. Passes p (record { text = y; whole = true } ∷ []) q in subst P e t.passes
 
 pub record LongerRead {A : Type 0} (words : A → List (List ℕ)) (P : ℕ → A → Type 0) (refused : List A → A → ℕ → Option CertFault) (xs : List A) (p : Place) (z : List A × Place) : Type 0 where
   pub item : A
@@ -136,12 +136,9 @@ items_again {A} by words P refused reads xs (y ∷ ys) (suc n) p q few a e h =
 
 -- ---- what a whole list keeps
 
-pub longer : {A : Type 0} (xs : List A) (x : A) → length (xs ++ x ∷ []) ≡ length xs + 1
-longer xs x = length-append xs (x ∷ [])
-
 pub admitted_all : {A : Type 0} (P : ℕ → A → Type 0) (refused : List A → A → ℕ → Option CertFault) (xs ys : List A) → Admitted P refused xs ys → AllFrom P (length xs) ys
 admitted_all P refused xs [] h = tt
-admitted_all P refused xs (y ∷ ys) h = (h.0, let Q : ℕ → Type 0 = λ n. AllFrom P n ys in subst Q (longer xs y) (admitted_all P refused (xs ++ y ∷ []) ys h.2))
+admitted_all P refused xs (y ∷ ys) h = (h.0, let Q : ℕ → Type 0 = λ n. AllFrom P n ys in subst Q (length_push xs y) (admitted_all P refused (xs ++ y ∷ []) ys h.2))
 
 pub kept_by : {A : Type 0} (P : ℕ → A → Type 0) (refused : List A → A → ℕ → Option CertFault) (Q : List A → Type 0) → ((xs : List A) (x : A) → Q xs → P (length xs) x → ((at : ℕ) → refused xs x at ≡ None) → Q (xs ++ x ∷ []))
     → (xs ys : List A) → Q xs → Admitted P refused xs ys → Q (xs ++ ys)
@@ -153,7 +150,7 @@ pub admitted_by : {A : Type 0} (P : ℕ → A → Type 0) (refused : List A → 
 admitted_by P refused Q step xs [] q h = tt
 admitted_by P refused Q step xs (y ∷ ys) q h =
     let R : ℕ → Type 0 = λ n. AllFrom P n ys in
-    (h.0, (λ at. step xs y ys q at), admitted_by P refused Q step (xs ++ y ∷ []) ys (subst Q (sym (append_assoc xs (y ∷ []) ys)) q) (subst R (sym (longer xs y)) h.1))
+    (h.0, (λ at. step xs y ys q at), admitted_by P refused Q step (xs ++ y ∷ []) ys (subst Q (sym (append_assoc xs (y ∷ []) ys)) q) (subst R (sym (length_push xs y)) h.1))
 
 -- items of which each fits whatever its number
 pub all_of_any : {A : Type 0} (P : A → Type 0) (at : ℕ) (xs : List A) → AllFrom (λ n. P) at xs → AllByRecursion P xs
@@ -171,25 +168,16 @@ is_after c [] k = true
 is_after c (x ∷ []) k = is_lt (c x k)
 is_after c (x ∷ y ∷ ys) k = is_after c (y ∷ ys) k
 
-less_is : (o : Ordering) → is_lt o ≡ true → o ≡ Less
-less_is Less e = refl
-less_is Equal e = cc
-less_is Greater e = cc
-
-all_push : {A : Type 0} (P : A → Type 0) (xs : List A) (x : A) → AllByRecursion P xs → P x → AllByRecursion P (xs ++ x ∷ [])
-all_push P [] x h p = (p, tt)
-all_push P (y ∷ ys) x h p = (h.0, all_push P ys x h.1 p)
-
 below_last : {K : Type 0} (c : K → K → Ordering) → IsTotalOrder c → (x : K) (ks : List K) (k : K) → IsStrictlySortedBy c (x ∷ ks) → is_after c (x ∷ ks) k ≡ true → c x k ≡ Less
 unfolding IsStrictlySortedBy
-below_last c o x [] k h e = less_is (c x k) e
+below_last c o x [] k h e = less_by_test (c x k) e
 below_last c o x (y ∷ ys) k h e = o.trans x y k h.0.0 (below_last c o y ys k h.1 e)
 
 pub sorted_push : {K : Type 0} (c : K → K → Ordering) → IsTotalOrder c → (ks : List K) (k : K) → IsStrictlySortedBy c ks → is_after c ks k ≡ true → IsStrictlySortedBy c (ks ++ k ∷ [])
 unfolding IsStrictlySortedBy
 sorted_push c o [] k h e = (tt, tt)
-sorted_push c o (x ∷ []) k h e = ((less_is (c x k) e, tt), (tt, tt))
-sorted_push c o (x ∷ y ∷ ys) k h e = (all_push (λ z. c x z ≡ Less) (y ∷ ys) k h.0 (below_last c o x (y ∷ ys) k h e), sorted_push c o (y ∷ ys) k h.1 e)
+sorted_push c o (x ∷ []) k h e = ((less_by_test (c x k) e, tt), (tt, tt))
+sorted_push c o (x ∷ y ∷ ys) k h e = (all_pushed (λ z. c x z ≡ Less) (y ∷ ys) k h.0 (below_last c o x (y ∷ ys) k h e), sorted_push c o (y ∷ ys) k h.1 e)
 
 pub sorted_at : {K : Type 0} (c : K → K → Ordering) (ks : List K) (k : K) (more : List K) → IsStrictlySortedBy c (ks ++ k ∷ more) → is_after c ks k ≡ true
 unfolding IsStrictlySortedBy

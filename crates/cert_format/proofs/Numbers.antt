@@ -1,16 +1,16 @@
 -- How many nodes a line says that there are: any canonical decimal, of which one may be too great.
-use Rattle.std.proofs.Common.{ℕ, ◌<◌, ◌≤◌, ◌≡◌, ◌==◌, List, [], ◌∷◌, length, codes, Bool, true, false, refl, ap, sym, ◌∙◌, arith, Option, Some, None, Ok, Err, inl, inr, nat_lt, cond, not, get_or, lit<}
+use Rattle.std.proofs.Common.{ℕ, ◌<◌, ◌≡◌, ◌==◌, List, [], ◌∷◌, length, codes, Bool, true, false, refl, ap, ◌∙◌, arith, Option, Some, None, Ok, Err, inl, inr, nat_lt, cond, not, lit<}
 use Rattle.std.specs.Prelude.{◌≢◌}
-use Rattle.std.specs.List.{position, position_or_len, AllByRecursion, All}
-use Rattle.std.proofs.lemmas.List.Elements.{recursion_from_All}
-use Rattle.std.proofs.lemmas.List.Sums.{fails_before_first}
+use Rattle.std.specs.List.{position, AllByRecursion}
 use Rattle.std.proofs.lemmas.Bool.Decides.{nat_tests}
+use Rattle.basics.specs.Lists.{all_pass_if_none_fails, chosen}
+use Rattle.std.proofs.lemmas.Option.{none-some}
 use Rattle.sb_base.specs.Digits.{is_dec, number_from, has_extra_zero, dec_answer, unless_bad, capped}
 use Rattle.sb_base.specs.declared.digits.DigitFault.TheVariants.{WrongLength, BadDigit, TooGreat}
 use Rattle.sb_base.specs.Lines.{Lacks}
 use Rattle.line_reading.specs.Reading.{word_at, is_over}
 use Rattle.line_reading.specs.Words.{IsWord}
-use Rattle.line_reading.proofs.AllLaws.{chosen, none_some, bind_some, no_words}
+use Rattle.line_reading.proofs.AllLaws.{bind_some, no_words}
 use Rattle.certificate.specs.Claims.{most_nodes}
 use Rattle.cert_words.proofs.AllLaws.{word_take}
 use Rattle.cert_format.specs.Reading.{counted, count_at, count_in}
@@ -27,28 +27,13 @@ length_some : (w : List ℕ) → (length w == 0) ≡ false → w ≢ []
 length_some [] e = cc
 length_some (b ∷ bs) e = cons_some b bs
 
--- no byte is other than a digit exactly where all are digits
-not_false : (b : Bool) → not b ≡ false → b ≡ true
-not_false true e = refl
-not_false false e = cc
-
-fails_none : (p : ℕ → Bool) (xs : List ℕ) → length xs ≤ position_or_len (λ b. not (p b)) xs → All (λ b. p b ≡ true) xs
-fails_none p xs h = λ k d l. not_false (p (get_or xs k d)) (fails_before_first (λ b. not (p b)) xs k d (omega arith))
-
-none_fails : (p : ℕ → Bool) (xs : List ℕ) → position (λ b. not (p b)) xs ≡ None → AllByRecursion (λ b. p b ≡ true) xs
-none_fails p xs e =
-    recursion_from_All (λ b. p b ≡ true) xs (elim (chosen (nat_lt (position_or_len (λ b. not (p b)) xs) (length xs)) _ _ None e) [
-      | inl h ↦ absurd (none_some _ (sym h.1))
-      | inr h ↦ fails_none p xs (grind (arith, nat_tests, h.0))
-    ])
-
 digits_lack : (c : ℕ) (w : List ℕ) → c < 48 → AllByRecursion (λ b. is_dec b ≡ true) w → Lacks c w
 digits_lack c [] low h = tt
 digits_lack c (b ∷ bs) low h = (grind (arith, nat_tests, low, h.0), digits_lack c bs low h.1)
 
 -- no space and no line feed is in a decimal
 pub decimal_word : (w : List ℕ) → IsDecimal w → IsWord w
-decimal_word w h = let all = none_fails is_dec w h.digits in (digits_lack 32 w (lit< tt) all, digits_lack 10 w (lit< tt) all)
+decimal_word w h = let all = all_pass_if_none_fails is_dec w h.digits in (digits_lack 32 w (lit< tt) all, digits_lack 10 w (lit< tt) all)
 
 capped_counts : (b : Bool) (n : ℕ) → (x : Option ℕ) × (counted (cond b (Err TooGreat) (Ok n)) ≡ Some x)
 capped_counts true n = (None, refl)
@@ -101,10 +86,10 @@ great : (w : List ℕ) → counted (dec_answer w most_nodes) ≡ Some None → T
 great w e = great_by w (length w == 0) (has_extra_zero w) refl refl e
 
 many_at : (ws : List (List ℕ)) → count_at ws ≡ Some None → (w : List ℕ) × (ws ≡ w ∷ []) × TooManyNodes w
-many_at [] e = absurd (none_some None e)
+many_at [] e = absurd (none-some None e)
 many_at (w ∷ ws) e = elim (chosen (is_over ws) _ _ (Some None) e) [
   | inl h ↦ (w, ap (λ (xs : List (List ℕ)). w ∷ xs) (no_words ws h.0), great w h.1)
-  | inr h ↦ absurd (none_some None h.1)
+  | inr h ↦ absurd (none-some None h.1)
 ]
 
 pub too_many : (ws : List (List ℕ)) → count_in ws ≡ Some None → AreNodes (λ w. most_nodes < number_from 10 0 w) ws

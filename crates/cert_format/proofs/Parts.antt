@@ -6,6 +6,10 @@ use Rattle.std.specs.Fmt.{decimal}
 use Rattle.std.specs.Str.{bytes_eq}
 use Rattle.std.proofs.lemmas.List.{map-append}
 use Rattle.std.proofs.lemmas.Slice.Eq.{bytes_eq-Decides}
+use Rattle.std.proofs.lemmas.Bool.{not-true, and_parts}
+use Rattle.basics.specs.Lists.{chosen}
+use Rattle.std.proofs.lemmas.Option.{same_Some, none-some, cond_some}
+use Rattle.witness_replay.proofs.Exact.{as_words}
 use Rattle.avr_model.specs.State.{SIZE}
 use Rattle.sb_base.specs.Digits.{dec_answer}
 use Rattle.sb_base.specs.declared.digits.DigitFault.{DigitFault}
@@ -13,7 +17,7 @@ use Rattle.sb_base.specs.declared.digits.DigitFault.TheVariants.{WrongLength, Ba
 use Rattle.sb_base.specs.Lines.{TextLine, Place, Lacks, lines_of, words_of, spaced, line}
 use Rattle.line_reading.specs.Reading.{dec_at, word_at, is_over, number_and, this_by, line_by}
 use Rattle.line_reading.specs.Words.{IsWord, whole, sizes, Passes, WordLaws}
-use Rattle.line_reading.proofs.AllLaws.{chosen, some_is, none_some, bind_some, both, no_words, line_takes, line_again, passes_more, passes_split, sizes_append}
+use Rattle.line_reading.proofs.AllLaws.{bind_some, no_words, line_takes, line_again, passes_more, passes_split, sizes_append}
 use Rattle.witness_replay.specs.Spelling.{Plan, IsSchedule, schedule_lines, text_of as schedule_text}
 use Rattle.witness_replay.specs.Reading.{schedule_at}
 use Rattle.witness_replay.specs.Exact.{TextIsReading, ReadIsSpelled as ScheduleIsSpelled, SpelledIsRead as ScheduleIsRead}
@@ -24,8 +28,8 @@ use Rattle.certificate.specs.declared.version.Version.{Version}
 use Rattle.certificate.specs.declared.version.Version.TheVariants.{One, Two}
 use Rattle.cert_words.specs.Text.{numbered, version_line, heading, open_line, attained_line, witness_lines, end_line}
 use Rattle.cert_format.specs.Reading.{formed, numbered_in, numbered_by, counted, count_at, count_in, count_by, limited, version_by, ending_by, items_from, heading_at, plan_if, witness_at, if_last, end_at}
-use Rattle.cert_words.proofs.AllLaws.{tested, same_text, word_take, dec_take}
-use Rattle.cert_format.proofs.Lists.{ok_is, err_ok, then_ok, formed_ok, Admitted, Steady, Spells, Reads, as_words, items_take, items_again}
+use Rattle.cert_words.proofs.AllLaws.{same_text, word_take, dec_take, number_of}
+use Rattle.cert_format.proofs.Lists.{ok_is, err_ok, then_ok, formed_ok, Admitted, Steady, Spells, Reads, items_take, items_again}
 
 -- ---- places
 
@@ -64,19 +68,15 @@ abbrev pub are_plain : List (List ℕ) → Bool
 are_plain [] = true
 are_plain (w ∷ ws) = (lacks 32 w && lacks 10 w) && are_plain ws
 
-not_true : (b : Bool) → not b ≡ true → b ≡ false
-not_true true e = cc
-not_true false e = refl
-
 lacks_by : (c : ℕ) (w : List ℕ) → lacks c w ≡ true → Lacks c w
 lacks_by c [] e = tt
-lacks_by c (b ∷ bs) e = let t = both (not (b == c)) (lacks c bs) e in (not_true (b == c) t.0, lacks_by c bs t.1)
+lacks_by c (b ∷ bs) e = let t = and_parts (not (b == c)) (lacks c bs) e in (not-true (b == c) t.0, lacks_by c bs t.1)
 
 pub plain : (ws : List (List ℕ)) → are_plain ws ≡ true → AllByRecursion IsWord ws
 plain [] e = tt
 plain (w ∷ ws) e =
-    let t = both (lacks 32 w && lacks 10 w) (are_plain ws) e in
-    let h = both (lacks 32 w) (lacks 10 w) t.0 in
+    let t = and_parts (lacks 32 w && lacks 10 w) (are_plain ws) e in
+    let h = and_parts (lacks 32 w) (lacks 10 w) t.0 in
     ((lacks_by 32 w h.0, lacks_by 10 w h.1), plain ws t.1)
 
 pub numbered_plain : WordLaws → (name : List ℕ) (n : ℕ) → IsWord name → n < 2 ^ 64 → AllByRecursion IsWord (numbered name n)
@@ -85,7 +85,7 @@ numbered_plain k name n h room = (h, (k.dec_word n room, tt))
 -- ---- one line
 
 this_is : (text t : List ℕ) (u : Unit {0}) → this_by text t ≡ Some u → t ≡ text
-this_is text t u e = (bytes_eq-Decides t text).0 (tested (bytes_eq t text) tt u e).0
+this_is text t u e = (bytes_eq-Decides t text).0 (cond_some (bytes_eq t text) tt u e).0
 
 pub this_again : (text : List ℕ) → this_by text text ≡ Some tt
 this_again text = rw (same_text text) refl
@@ -103,7 +103,7 @@ unfolding numbered_in
 numbered_take k name most n ws room e =
     let w = bind_some (word_at name ws) _ n e in
     let d = bind_some (dec_at most w.0.1) _ n w.2 in
-    let last = tested (is_over d.0.1) d.0.0 n d.2 in
+    let last = cond_some (is_over d.0.1) d.0.0 n d.2 in
     let t = dec_take k most w.0.1 d.0 room d.1 in
     let P : ℕ → Type 0 = λ y. (ws ≡ numbered name y) × (y ≤ most) in
     subst P last.1 (word_take name ws w.0 w.1 ∙ ap (λ (xs : List (List ℕ)). name ∷ xs) (t.0 ∙ ap (λ (xs : List (List ℕ)). decimal d.0.0 ∷ xs) (no_words d.0.1 last.0)), t.1)
@@ -131,17 +131,13 @@ counted_is (Err TooGreat) n e = cc
 counted_is (Err (WrongLength m)) n e = cc
 counted_is (Err (BadDigit m)) n e = cc
 
-answer_is : (r : Result ℕ DigitFault) (n : ℕ) → number_and r [] ≡ Some (n, []) → r ≡ Ok n
-answer_is (Ok m) n e = let same = some_is {A = ℕ × List (List ℕ)} (m, []) (n, []) e in ap (λ (y : ℕ × List (List ℕ)). Ok y.0) same
-answer_is (Err f) n e = absurd (none_some {A = ℕ × List (List ℕ)} (n, []) e)
-
 count_at_take : WordLaws → (ws : List (List ℕ)) (n : ℕ) → count_at ws ≡ Some (Some n) → (ws ≡ decimal n ∷ []) × (n ≤ most_nodes)
-count_at_take k [] n e = absurd (none_some (Some n) e)
+count_at_take k [] n e = absurd (none-some (Some n) e)
 count_at_take k (w ∷ ws) n e = elim (chosen (is_over ws) _ _ (Some (Some n)) e) [
   | inl h ↦
       let t = k.dec_takes most_nodes n (w ∷ []) [] (lit< tt) (ap (λ (r : Result ℕ DigitFault). number_and r []) (counted_is (dec_answer w most_nodes) n h.1)) in
       (ap (λ (xs : List (List ℕ)). w ∷ xs) (no_words ws h.0) ∙ t.0, t.1)
-  | inr h ↦ absurd (none_some (Some n) h.1)
+  | inr h ↦ absurd (none-some (Some n) h.1)
 ]
 
 count_take : WordLaws → (ws : List (List ℕ)) (n : ℕ) → count_in ws ≡ Some (Some n) → (ws ≡ numbered (codes "nodes") n) × (n ≤ most_nodes)
@@ -153,7 +149,7 @@ count_take k ws n e =
 
 count_again : WordLaws → (n : ℕ) → n ≤ most_nodes → count_in (numbered (codes "nodes") n) ≡ Some (Some n)
 unfolding count_in
-count_again k n h = let t = answer_is (dec_answer (decimal n) most_nodes) n (k.dec_taken most_nodes n [] (lit< tt) h) in rw t refl
+count_again k n h = let t = number_of (dec_answer (decimal n) most_nodes) n (k.dec_taken most_nodes n [] (lit< tt) h) in rw t refl
 
 limited_ok : (d : Result (Option ℕ × Place) CertFault) (z : ℕ × Place) → limited d ≡ Ok z → d ≡ Ok (Some z.0, z.1)
 limited_ok (Ok (Some n, q)) z e = ap (λ (y : ℕ × Place). Ok (Some y.0, y.1)) (ok_is {A = ℕ × Place} (n, q) z e)
@@ -200,8 +196,8 @@ unfolding version_by
 version_is t version e =
     let P : Version → Type 0 = λ x. t ≡ spaced (version_line x) in
     elim (chosen (bytes_eq t (spaced (version_line One))) _ _ (Some version) e) [
-      | inl h ↦ subst P (some_is One version h.1) ((bytes_eq-Decides t (spaced (version_line One))).0 h.0)
-      | inr h ↦ let g = tested (bytes_eq t (spaced (version_line Two))) Two version h.1 in subst P g.1 ((bytes_eq-Decides t (spaced (version_line Two))).0 g.0)
+      | inl h ↦ subst P (same_Some One version h.1) ((bytes_eq-Decides t (spaced (version_line One))).0 h.0)
+      | inr h ↦ let g = cond_some (bytes_eq t (spaced (version_line Two))) Two version h.1 in subst P g.1 ((bytes_eq-Decides t (spaced (version_line Two))).0 g.0)
     ]
 
 pub version_again : (version : Version) → version_by (spaced (version_line version)) ≡ Some version
@@ -247,8 +243,8 @@ unfolding ending_by
 ending_is t b e =
     let P : Bool → Type 0 = λ x. t ≡ spaced (ending_words x) in
     elim (chosen (bytes_eq t (spaced open_line)) _ _ (Some b) e) [
-      | inl h ↦ subst P (some_is false b h.1) ((bytes_eq-Decides t (spaced open_line)).0 h.0)
-      | inr h ↦ let g = tested (bytes_eq t (spaced attained_line)) true b h.1 in subst P g.1 ((bytes_eq-Decides t (spaced attained_line)).0 g.0)
+      | inl h ↦ subst P (same_Some false b h.1) ((bytes_eq-Decides t (spaced open_line)).0 h.0)
+      | inr h ↦ let g = cond_some (bytes_eq t (spaced attained_line)) true b h.1 in subst P g.1 ((bytes_eq-Decides t (spaced attained_line)).0 g.0)
     ]
 
 pub ending_again : (b : Bool) → ending_by (spaced (ending_words b)) ≡ Some b

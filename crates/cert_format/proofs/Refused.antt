@@ -7,13 +7,15 @@ use Rattle.std.specs.Fmt.{decimal}
 use Rattle.std.proofs.lemmas.Bool.Decides.{nat_tests}
 use Rattle.std.proofs.lemmas.Bool.{false≢true}
 use Rattle.std.proofs.lemmas.List.{map-append}
+use Rattle.std.proofs.lemmas.Option.{none-some, same_Some}
+use Rattle.witness_replay.proofs.Exact.{as_words}
 use Rattle.avr_model.specs.declared.assumption.Entry.{Entry}
 use Rattle.avr_model.specs.State.{SIZE}
 use Rattle.sb_base.specs.Answers.{Answers}
 use Rattle.sb_base.specs.Lines.{TextLine, Place, words_of, spaced}
 use Rattle.line_reading.specs.Reading.{first_by, this_by, line_by}
 use Rattle.line_reading.specs.Words.{IsWord, whole, Passes, WordLaws}
-use Rattle.line_reading.proofs.AllLaws.{passes_none, passes_more, line_takes, none_some, some_is}
+use Rattle.line_reading.proofs.AllLaws.{passes_none, passes_more, line_takes}
 use Rattle.vector_table.specs.Entries.{AreEntries, is_above_last, most_entries}
 use Rattle.indirect_targets.specs.Spelling.{entry_words}
 use Rattle.indirect_targets.proofs.AllLaws.{none_are_entries}
@@ -39,7 +41,7 @@ use Rattle.certificate.specs.declared.limit.Limit.TheVariants as limit
 use Rattle.cert_format.specs.Reading.{entry_by, inst_by, node_by, numbered_in, numbered_by, count_in, count_by, version_by, ending_by, formed, limited, last_in, is_inst_above, is_node_above, refused_entry, refused_inst, refused_node, heading_at, entries_at, insts_at, nodes_at, plan_if, witness_at, if_last, end_at, claim_at, claim_alone, certificate_in}
 use Rattle.cert_format.specs.Refusals.{Part, Begin, Bound, Assume, AnEntry, Instances, AnInst, Nodes, ANode, Ending, End, Nothing, Stands, IsNext, IsNumbered, AreNodes, IsLow, IsTooMuch, IsStopped, IsRefused, IsDue, IsDueUnlessMemory, ReadIsDue, start}
 use Rattle.cert_format.proofs.Numbers.{decimal_word, nodes_count, too_many}
-use Rattle.cert_format.proofs.Lists.{err_ok, formed_ok, AllFrom, all_of_any, admitted_all, as_words, sorted_at, sorted_push, lines}
+use Rattle.cert_format.proofs.Lists.{err_ok, formed_ok, AllFrom, all_of_any, admitted_all, sorted_at, sorted_push, lines}
 use Rattle.cert_format.proofs.Items.{cells_more}
 use Rattle.cert_format.proofs.Kept.{AnyEntry, entry_steady, entries_kept, entry_spells, entry_reads, AnyInst, inst_steady, insts_kept, inst_spells, inst_reads, inst_above_is, FitsNode, node_steady, NodesKeep, nodes_kept, node_spells, node_reads, node_above_is, keys_append}
 use Rattle.cert_format.proofs.Parts.{Stand, stand_more, plain, numbered_again, numbered_plain, number_take, nodes_take, this_again, this_take, version_again, version_take, heading_take, witness_part, ending_again, ending_words, ending_is}
@@ -119,8 +121,8 @@ behind words name front p a m q n xs h count items =
     stand_more p a q front (numbered name n ∷ map words xs) h (passes_more a m q (whole (numbered name n) ∷ []) (map whole (map words xs)) count items)
 
 low_by : (b : Bool) (f g : CertFault) → cond b None (Some f) ≡ Some g → (b ≡ false) × (g ≡ f)
-low_by true f g e = absurd (none_some g e)
-low_by false f g e = (refl, sym (some_is f g e))
+low_by true f g e = absurd (none-some g e)
+low_by false f g e = (refl, sym (same_Some f g e))
 
 -- why an item is refused
 entry_low : (es : List Entry) (e : Entry) (at : ℕ) (g : CertFault) → refused_entry es e at ≡ Some g → (is_above_last es e ≡ false) × (g ≡ fault.Order at)
@@ -198,9 +200,9 @@ insts_stops b version p a d n es g small he h k e =
 -- ---- nodes
 
 node_low_by : (a b : Bool) (l f g : CertFault) → cond a (cond b None (Some l)) (Some f) ≡ Some g → ((a ≡ false) × (g ≡ f)) ⊎ ((a ≡ true) × (b ≡ false) × (g ≡ l))
-node_low_by true true l f g e = absurd (none_some g e)
-node_low_by true false l f g e = inr (refl, refl, sym (some_is l g e))
-node_low_by false b l f g e = inl (refl, sym (some_is f g e))
+node_low_by true true l f g e = absurd (none-some g e)
+node_low_by true false l f g e = inr (refl, refl, sym (same_Some l g e))
+node_low_by false b l f g e = inl (refl, sym (same_Some f g e))
 
 nodes_not_ascending : (ns : Seeds) (n : NodeKey × NodeForm) → is_node_above (last_in ns) n.0 ≡ false → IsStrictlySortedBy node_cmp (node_keys (ns ++ n ∷ [])) → ⊥
 nodes_not_ascending ns n low h =

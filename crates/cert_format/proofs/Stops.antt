@@ -1,14 +1,17 @@
 -- Where nothing is read, the refusal is due.
 use Rattle.std.proofs.Common.{ℕ, zero, suc, ◌<◌, ◌≡◌, List, [], ◌∷◌, ◌++◌, length, refl, ap, sym, ◌∙◌, arith, Option, Some, None, Result, Ok, Err, ◌⊎◌, inl, inr, subst, append-nil, append_assoc}
+use Rattle.basics.specs.Lists.{nil_not_cons, same_head}
+use Rattle.std.proofs.lemmas.Option.{none-some}
+use Rattle.witness_replay.proofs.Exact.{as_words}
 use Rattle.sb_base.specs.Lines.{TextLine, Place, spaced}
 use Rattle.line_reading.specs.Reading.{then_at, first_by, line_by}
 use Rattle.line_reading.specs.Words.{whole, Passes}
-use Rattle.line_reading.proofs.AllLaws.{none_some, line_takes, line_refuses, passes_none, passes_more}
+use Rattle.line_reading.proofs.AllLaws.{line_takes, line_refuses, passes_none, passes_more}
 use Rattle.cert_format.specs.declared.fault.CertFault.{CertFault}
 use Rattle.cert_format.specs.declared.fault.CertFault.TheVariants as fault
 use Rattle.cert_format.specs.Reading.{formed, unless, with_item, longer_at, items_from}
 use Rattle.cert_format.specs.Refusals.{IsNext}
-use Rattle.cert_format.proofs.Lists.{err_ok, formed_ok, Admitted, Steady, Spells, lines, as_words, longer_take}
+use Rattle.cert_format.proofs.Lists.{err_ok, formed_ok, Admitted, Steady, Spells, lines, longer_take}
 
 -- ---- results
 
@@ -33,17 +36,11 @@ line_stop f p g e =
 -- words that a reading reads aren't those of a line that it doesn't
 pub not_next : {A : Type 0} (f : List ℕ → Option A) (ls : List TextLine) (ws : List (List ℕ)) (x : A) → first_by f ls ≡ None → IsNext ls ws → f (spaced ws) ≡ Some x → ⊥
 not_next f [] ws x none next e = next
-not_next f (l ∷ ls) ws x none next e = none_some x (sym none ∙ ap (λ (y : TextLine). first_by f (y ∷ ls)) next ∙ e)
-
-nil_is : {A : Type 0} (x : A) (xs : List A) → [] ≡ x ∷ xs → ⊥
-nil_is x xs e = cc
-
-cons_first : {A : Type 0} (x y : A) (xs ys : List A) → x ∷ xs ≡ y ∷ ys → x ≡ y
-cons_first x y xs ys e = cc
+not_next f (l ∷ ls) ws x none next e = none-some x (sym none ∙ ap (λ (y : TextLine). first_by f (y ∷ ls)) next ∙ e)
 
 passes_next : (p : Place) (ws : List (List ℕ)) (q : Place) (ls : List TextLine) → ls ≡ p.rest → Passes p (whole ws ∷ []) q → IsNext ls ws
-passes_next p ws q [] is h = absurd (nil_is (whole ws) q.rest (is ∙ h.lines))
-passes_next p ws q (l ∷ ls) is h = cons_first l (whole ws) ls q.rest (is ∙ h.lines)
+passes_next p ws q [] is h = absurd (nil_not_cons (whole ws) q.rest (is ∙ h.lines))
+passes_next p ws q (l ∷ ls) is h = same_head l (whole ws) ls q.rest (is ∙ h.lines)
 
 -- the line that is passed is the next one
 pub is_next : (p : Place) (ws : List (List ℕ)) (q : Place) → Passes p (whole ws ∷ []) q → IsNext p.rest ws

@@ -6,13 +6,15 @@ use Rattle.std.specs.Fmt.{decimal}
 use Rattle.std.proofs.lemmas.Bool.Decides.{nat_tests}
 use Rattle.std.proofs.lemmas.List.{append-nil}
 use Rattle.std.proofs.lemmas.Slice.Eq.{bytes_eq-Decides}
+use Rattle.std.proofs.lemmas.Option.{cond_some, same_Some as some_is, none-some}
+use Rattle.basics.specs.Lists.{same_head_and_tail}
+use Rattle.indirect_targets.proofs.AllLaws.{map_some}
 use Rattle.sb_base.specs.Digits.{hex_digits}
 use Rattle.line_reading.specs.Reading.{hex_at, dec_at, word_at}
 use Rattle.line_reading.specs.Words.{IsWord, WordLaws}
-use Rattle.line_reading.proofs.AllLaws.{some_is, none_some, bind_some, cons_is}
+use Rattle.line_reading.proofs.AllLaws.{bind_some}
 use Rattle.witness_replay.specs.Spelling.{bit}
 use Rattle.cert_words.specs.KeyReading.{word_by, words_from, masks_at, flag_at}
-use Rattle.cert_words.proofs.Pieces.{map_some, tested}
 
 pub same_text : (t : List ℕ) → bytes_eq t t ≡ true
 same_text t = (bytes_eq-Decides t t).1 refl
@@ -20,13 +22,10 @@ same_text t = (bytes_eq-Decides t t).1 refl
 -- ---- words that have to stand there
 
 pub word_take : (t : List ℕ) (ws : List (List ℕ)) (z : Unit {0} × List (List ℕ)) → word_at t ws ≡ Some z → ws ≡ t ∷ z.1
-word_take t [] z e = absurd (none_some z e)
+word_take t [] z e = absurd (none-some z e)
 word_take t (w ∷ ws) z e =
-    let h = tested {A = Unit {0} × List (List ℕ)} (bytes_eq w t) (tt, ws) z e in
+    let h = cond_some {A = Unit {0} × List (List ℕ)} (bytes_eq w t) (tt, ws) z e in
     ap₂ (λ (x : List ℕ) (xs : List (List ℕ)). x ∷ xs) ((bytes_eq-Decides w t).0 h.0) (ap (λ (y : Unit {0} × List (List ℕ)). y.1) h.1)
-
-pub word_again : (t : List ℕ) (rest : List (List ℕ)) → word_at t (t ∷ rest) ≡ Some (tt, rest)
-word_again t rest = rw (same_text t) refl
 
 -- ---- numbers
 
@@ -40,7 +39,7 @@ pub masks_take : WordLaws → (ws : List (List ℕ)) (z : ℕ × List (List ℕ)
 unfolding masks_at
 masks_take k ws z e =
     let m = bind_some (hex_at 7 ws) _ z e in
-    let last = tested (nat_lt m.0.0 (2 ^ 25)) m.0 z m.2 in
+    let last = cond_some (nat_lt m.0.0 (2 ^ 25)) m.0 z m.2 in
     let low : m.0.0 < 2 ^ 25 = grind (arith, nat_tests, last.0) in
     let P : ℕ × List (List ℕ) → Type 0 = λ y. (ws ≡ hex_digits y.0 7 ∷ y.1) × (y.0 < 2 ^ 25) in
     subst P last.1 ((hex_take k 7 ws m.0 m.1).0, low)
@@ -52,8 +51,8 @@ masks_again k m rest h =
     rw (k.hex_taken 7 m rest (omega (arith, h)), low) refl
 
 bit_is : WordLaws → (n : ℕ) → n ≤ 1 → decimal n ≡ bit (n == 1)
-bit_is k zero h = sym (cons_is (codes "0") (decimal 0) [] [] (k.dec_takes 1 0 (codes "0" ∷ []) [] (lit< tt) refl).0).0
-bit_is k (suc zero) h = sym (cons_is (codes "1") (decimal 1) [] [] (k.dec_takes 1 1 (codes "1" ∷ []) [] (lit< tt) refl).0).0
+bit_is k zero h = sym (same_head_and_tail (codes "0") (decimal 0) [] [] (k.dec_takes 1 0 (codes "0" ∷ []) [] (lit< tt) refl).0).0
+bit_is k (suc zero) h = sym (same_head_and_tail (codes "1") (decimal 1) [] [] (k.dec_takes 1 1 (codes "1" ∷ []) [] (lit< tt) refl).0).0
 bit_is k (suc (suc n)) h = absurd (omega (arith, h))
 
 pub flag_take : WordLaws → (ws : List (List ℕ)) (z : Bool × List (List ℕ)) → flag_at ws ≡ Some z → ws ≡ bit z.0 ∷ z.1
@@ -67,14 +66,10 @@ pub flag_again : WordLaws → (b : Bool) (rest : List (List ℕ)) → flag_at (b
 flag_again k true rest = refl
 flag_again k false rest = refl
 
-pub bit_word : (b : Bool) → IsWord (bit b)
-bit_word true = ((refl, tt), (refl, tt))
-bit_word false = ((refl, tt), (refl, tt))
-
 -- ---- words by themselves
 
 pub word_by_take : {A : Type 0} (f : List ℕ → Option A) (ws : List (List ℕ)) (z : A × List (List ℕ)) → word_by f ws ≡ Some z → (w : List ℕ) × (ws ≡ w ∷ z.1) × (f w ≡ Some z.0)
-word_by_take {A} f [] z e = absurd (none_some z e)
+word_by_take {A} f [] z e = absurd (none-some z e)
 word_by_take {A} f (w ∷ ws) z e =
     let x = map_some (f w) (λ x. (x, ws)) z e in
     (w, ap (λ (y : A × List (List ℕ)). w ∷ y.1) x.2, x.1 ∙ ap (λ (y : A × List (List ℕ)). Some y.0) x.2)

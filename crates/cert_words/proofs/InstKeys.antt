@@ -3,13 +3,17 @@ use Rattle.std.proofs.Common.{ℕ, ◌*◌, ◌-◌, ◌<◌, ◌≤◌, ◌≡�
 use Rattle.std.specs.List.{AllByRecursion}
 use Rattle.std.specs.Str.{bytes_eq}
 use Rattle.std.specs.Fmt.{decimal}
-use Rattle.std.proofs.lemmas.Bool.{eqb-true}
+use Rattle.std.proofs.lemmas.Bool.{eqb-true, and_parts}
 use Rattle.std.proofs.lemmas.Bool.Decides.{nat_tests}
 use Rattle.std.proofs.lemmas.Slice.Eq.{bytes_eq-Decides}
+use Rattle.std.proofs.lemmas.Option.{cond_some, same_Some, none-some}
+use Rattle.basics.specs.Lists.{chosen, same_head_and_tail}
+use Rattle.witness_replay.proofs.Runs.{bit_word}
+use Rattle.indirect_targets.proofs.AllLaws.{map_some}
 use Rattle.sb_base.specs.Digits.{hex_digits}
 use Rattle.line_reading.specs.Reading.{hex_at, dec_at}
 use Rattle.line_reading.specs.Words.{IsWord, WordLaws}
-use Rattle.line_reading.proofs.AllLaws.{chosen, some_is, none_some, bind_some, both, cons_is}
+use Rattle.line_reading.proofs.AllLaws.{bind_some}
 use Rattle.witness_replay.specs.Spelling.{bit}
 use Rattle.mask_states.specs.declared.keys.Kind.{Kind}
 use Rattle.mask_states.specs.declared.keys.Kind.TheVariants.{Root, Call, Vector}
@@ -19,9 +23,9 @@ use Rattle.cert_words.specs.KeySpelling.{kind_word, inst_key_words}
 use Rattle.cert_words.specs.Reading.{letter_at}
 use Rattle.cert_words.specs.KeyReading.{word_by, masks_at, flag_at, vector_in, kind_in, inst_key_at}
 use Rattle.cert_words.specs.KeyLaws.{IsInstKey, InstKeyWords}
-use Rattle.cert_words.proofs.Pieces.{map_some, tested, letter_take}
+use Rattle.cert_words.proofs.Pieces.{letter_take}
 use Rattle.cert_words.proofs.Words.{joined_word}
-use Rattle.cert_words.proofs.Fields.{hex_take, dec_take, masks_take, masks_again, flag_take, flag_again, bit_word, word_by_take}
+use Rattle.cert_words.proofs.Fields.{hex_take, dec_take, masks_take, masks_again, flag_take, flag_again, word_by_take}
 
 abbrev pub cons : List ℕ → List (List ℕ) → List (List ℕ)
 cons w ws = w ∷ ws
@@ -37,8 +41,8 @@ vector_take k w kd e =
           let n = map_some (dec_at 26 (l.0.1 ∷ [])) (λ x. Vector x.0) kd h.1 in
           let t = dec_take k 26 (l.0.1 ∷ []) n.0 (lit< tt) n.1 in
           let P : Kind → Type 0 = λ y. w ≡ kind_word y in
-          subst P n.2 (letter_take w l.0 l.1 ∙ ap₂ (λ (x : ℕ) (xs : List ℕ). x ∷ xs) (eqb-true l.0.0 118 h.0) (cons_is l.0.1 (decimal n.0.0) [] n.0.1 t.0).0)
-      | inr h ↦ absurd (none_some kd h.1)
+          subst P n.2 (letter_take w l.0 l.1 ∙ ap₂ (λ (x : ℕ) (xs : List ℕ). x ∷ xs) (eqb-true l.0.0 118 h.0) (same_head_and_tail l.0.1 (decimal n.0.0) [] n.0.1 t.0).0)
+      | inr h ↦ absurd (none-some kd h.1)
     ]
 
 kind_take : WordLaws → (w : List ℕ) (kd : Kind) → kind_in w ≡ Some kd → w ≡ kind_word kd
@@ -46,9 +50,9 @@ unfolding kind_in
 kind_take k w kd e =
     let P : Kind → Type 0 = λ y. w ≡ kind_word y in
     elim (chosen (bytes_eq w (codes "root")) _ _ (Some kd) e) [
-      | inl h ↦ subst P (some_is Root kd h.1) ((bytes_eq-Decides w (codes "root")).0 h.0)
+      | inl h ↦ subst P (same_Some Root kd h.1) ((bytes_eq-Decides w (codes "root")).0 h.0)
       | inr h ↦ elim (chosen (bytes_eq w (codes "call")) _ _ (Some kd) h.1) [
-        | inl g ↦ subst P (some_is Call kd g.1) ((bytes_eq-Decides w (codes "call")).0 g.0)
+        | inl g ↦ subst P (same_Some Call kd g.1) ((bytes_eq-Decides w (codes "call")).0 g.0)
         | inr g ↦ vector_take k w kd g.1
       ]
     ]
@@ -82,9 +86,9 @@ vector_low v entry most e = elim (either (entry == 2 * (v - 1)) (entry == v - 1)
 
 vector_fits : (v entry masks : ℕ) (i : Bool) → fits_kind (Vector v) entry masks i ≡ true → (v ≤ 26) × (entry < 65536)
 vector_fits v entry masks i e =
-    let a = both (nat_le 2 v && nat_le v 26 && is_vector_word v entry) (not i) e in
-    let b = both (nat_le 2 v && nat_le v 26) (is_vector_word v entry) a.0 in
-    let c = both (nat_le 2 v) (nat_le v 26) b.0 in
+    let a = and_parts (nat_le 2 v && nat_le v 26 && is_vector_word v entry) (not i) e in
+    let b = and_parts (nat_le 2 v && nat_le v 26) (is_vector_word v entry) a.0 in
+    let c = and_parts (nat_le 2 v) (nat_le v 26) b.0 in
     let most : v ≤ 26 = grind (arith, nat_tests, c.1) in
     (most, vector_low v entry most b.1)
 
@@ -95,8 +99,8 @@ numbered (Vector v) entry masks i e = (vector_fits v entry masks i e).0
 
 small_entry : (kd : Kind) (entry masks : ℕ) (i : Bool) → fits_kind kd entry masks i ≡ true → entry < 65536
 small_entry Root entry masks i e =
-    let a = both ((entry == 0) && (masks == 0)) (not i) e in
-    let none = eqb-true entry 0 (both (entry == 0) (masks == 0) a.0).0 in
+    let a = and_parts ((entry == 0) && (masks == 0)) (not i) e in
+    let none = eqb-true entry 0 (and_parts (entry == 0) (masks == 0) a.0).0 in
     omega (arith, none)
 small_entry Call entry masks i e = grind (arith, nat_tests, e)
 small_entry (Vector v) entry masks i e = (vector_fits v entry masks i e).1
@@ -115,7 +119,7 @@ key_take k ws z e =
     let m = bind_some (masks_at en.0.1) _ z en.2 in
     let i = bind_some (flag_at m.0.1) _ z m.2 in
     let key : InstKey = record { kind = kd.0.0; entry = en.0.0; masks = m.0.0; i = i.0.0 } in
-    let last = tested {A = InstKey × List (List ℕ)} (fits_kind kd.0.0 en.0.0 m.0.0 i.0.0) (key, i.0.1) z i.2 in
+    let last = cond_some {A = InstKey × List (List ℕ)} (fits_kind kd.0.0 en.0.0 m.0.0 i.0.0) (key, i.0.1) z i.2 in
     let w = word_by_take kind_in ws kd.0 kd.1 in
     let masks = masks_take k en.0.1 m.0 m.1 in
     let P : InstKey × List (List ℕ) → Type 0 = λ y. IsKeyRead ws y in

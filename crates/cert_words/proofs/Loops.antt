@@ -2,11 +2,9 @@
 use Rattle.std.proofs.Common.{ℕ, suc, ◌+◌, ◌-◌, ◌<◌, ◌≤◌, ◌≡◌, List, [], ◌∷◌, ◌++◌, length, length-append, take, refl, ap, sym, ◌∙◌, arith, Option, Some, None}
 use Rattle.std.proofs.lemmas.List.{append-nil}
 use Rattle.std.proofs.Math.Seq.{take-append_seam}
+use Rattle.basics.specs.Numbers.{one_of_the_rest}
 use Rattle.line_reading.specs.Reading.{◌>>=◌}
 use Rattle.cert_words.specs.KeyReading.{word_by, words_from}
-
-left_to : (count i : ℕ) → i < count → count - i ≡ suc (count - (i + 1))
-left_to count i h = omega arith
 
 one_word : {A : Type 0} (f : List ℕ → Option A) (front : List A) (n : ℕ) (ws : List (List ℕ)) (d : Option (A × List (List ℕ))) → word_by f ws ≡ d
     → words_from f front (suc n) ws ≡ (d >>= λ x. words_from f (front ++ x.0 ∷ []) n x.1)
@@ -15,7 +13,7 @@ one_word f front n ws d e = rw e refl
 
 more : {A : Type 0} (f : List ℕ → Option A) (front : List A) (count i : ℕ) (ws : List (List ℕ)) (d : Option (A × List (List ℕ))) → i < count → word_by f ws ≡ d
     → words_from f front (count - i) ws ≡ (d >>= λ x. words_from f (front ++ x.0 ∷ []) (count - (i + 1)) x.1)
-more f front count i ws d h e = rw (left_to count i h) (one_word f front (count - (i + 1)) ws d e)
+more f front count i ws d h e = rw (one_of_the_rest count i h) (one_word f front (count - (i + 1)) ws d e)
 
 -- a word that is read
 pub word_more : {A : Type 0} (f : List ℕ → Option A) (front longer : List A) (count i : ℕ) (ws rest : List (List ℕ)) (x : A) (all : Option (List A × List (List ℕ))) → i < count

@@ -4,12 +4,16 @@ use Rattle.std.specs.List.{AllByRecursion}
 use Rattle.std.specs.Str.{bytes_eq}
 use Rattle.std.proofs.lemmas.Bool.Decides.{nat_tests}
 use Rattle.std.proofs.lemmas.Slice.Eq.{bytes_eq-Decides}
+use Rattle.std.proofs.lemmas.Option.{cond_some, same_Some as some_is}
+use Rattle.basics.specs.Lists.{chosen, same_head_and_tail}
+use Rattle.witness_replay.proofs.Runs.{bit_word}
+use Rattle.indirect_targets.proofs.AllLaws.{map_some}
 use Rattle.avr_model.specs.Image.{WORDS}
 use Rattle.avr_model.specs.State.{SIZE}
 use Rattle.sb_base.specs.Digits.{hex_digits}
 use Rattle.line_reading.specs.Reading.{hex_at}
 use Rattle.line_reading.specs.Words.{IsWord, WordLaws}
-use Rattle.line_reading.proofs.AllLaws.{chosen, some_is, bind_some, cons_is}
+use Rattle.line_reading.proofs.AllLaws.{bind_some}
 use Rattle.witness_replay.specs.Spelling.{bit}
 use Rattle.mask_states.specs.declared.keys.Kind.{Kind}
 use Rattle.mask_states.specs.declared.keys.Kind.TheVariants.{Root, Call, Vector}
@@ -20,8 +24,7 @@ use Rattle.mask_states.specs.declared.keys.High.TheVariants as high
 use Rattle.mask_states.specs.declared.keys.SpForm.{SpForm}
 use Rattle.mask_states.specs.declared.keys.SpForm.TheVariants.{Closed, Open}
 use Rattle.mask_states.specs.Keys.{offset_of, PickFits}
-use Rattle.local_rules.specs.Cover.{FormFitsKind}
-use Rattle.certificate.specs.Claims.{IsKey}
+use Rattle.local_rules.specs.Cover.{FormFitsKind, IsKey}
 use Rattle.certificate.specs.declared.version.Version.{Version}
 use Rattle.certificate.specs.declared.version.Version.TheVariants.{One, Two}
 use Rattle.certificate.specs.Versions.{PickIsOf}
@@ -32,8 +35,8 @@ use Rattle.cert_words.specs.KeyReading.{word_by, masks_at, flag_at, is_root, pic
 use Rattle.cert_words.specs.Fits.{IsHigh, IsForm}
 use Rattle.cert_words.specs.Laws.{ValueWords}
 use Rattle.cert_words.specs.KeyLaws.{IsPlace, PlaceWords}
-use Rattle.cert_words.proofs.Pieces.{map_some, tested, length_hex}
-use Rattle.cert_words.proofs.Fields.{hex_take, masks_take, masks_again, flag_take, flag_again, bit_word, word_by_take}
+use Rattle.cert_words.proofs.Pieces.{length_hex}
+use Rattle.cert_words.proofs.Fields.{hex_take, masks_take, masks_again, flag_take, flag_again, word_by_take}
 use Rattle.cert_words.proofs.InstKeys.{cons}
 
 form_offset : (root : Bool) (f : SpForm) → IsForm root f → offset_of f ≤ SIZE
@@ -82,7 +85,7 @@ pick_take k w pick e =
       | inr h ↦
           let n = map_some (hex_at 2 (w ∷ [])) (λ x. Some x.0) pick h.1 in
           let d = hex_take k 2 (w ∷ []) n.0 n.1 in
-          subst P n.2 ((cons_is w (hex_digits n.0.0 2) [] n.0.1 d.0).0, omega (arith, d.1))
+          subst P n.2 ((same_head_and_tail w (hex_digits n.0.0 2) [] n.0.1 d.0).0, omega (arith, d.1))
     ]
 
 pick_again : WordLaws → (pick : Option ℕ) → PickFits pick → pick_in (pick_word pick) ≡ Some pick
@@ -128,7 +131,7 @@ key_take k v version inst ws z e =
     let f = bind_some (word_by (form_in (is_root inst.kind)) d.0.1) _ z d.2 in
     let p = bind_some (pick_at version f.0.1) _ z f.2 in
     let key : NodeKey = record { inst = inst; pc = pc.0.0; masks = m.0.0; i = i.0.0; delay = d.0.0; sp = f.0.0; pick = p.0.0 } in
-    let last = tested {A = NodeKey × List (List ℕ)} (nat_lt pc.0.0 WORDS) (key, p.0.1) z p.2 in
+    let last = cond_some {A = NodeKey × List (List ℕ)} (nat_lt pc.0.0 WORDS) (key, p.0.1) z p.2 in
     let w = word_by_take (form_in (is_root inst.kind)) d.0.1 f.0 f.1 in
     let form = v.spelled.form (is_root inst.kind) w.0 f.0.0 w.2 in
     let pick = pick_at_take k version f.0.1 p.0 p.1 in

@@ -1,5 +1,5 @@
 -- The pieces of a word: what is read is spelled so, and what is spelled is read.
-use Rattle.std.proofs.Common.{ℕ, zero, suc, ◌/◌, ◌%◌, ◌<◌, ◌≤◌, ◌^◌, ◌≡◌, ◌==◌, ◌&&◌, inl, inr, List, [], ◌∷◌, ◌++◌, length, take, drop, Bool, true, false, refl, ap, ap₂, sym, ◌∙◌, arith, Option, Some, None, Result, Ok, Err, cond, nat_lt, subst, lit<, append_assoc, length-append, option_map}
+use Rattle.std.proofs.Common.{ℕ, zero, suc, ◌/◌, ◌%◌, ◌<◌, ◌≤◌, ◌^◌, ◌≡◌, ◌==◌, ◌&&◌, inl, inr, List, [], ◌∷◌, ◌++◌, length, take, drop, Bool, true, false, refl, ap, ap₂, sym, ◌∙◌, arith, Some, Result, Ok, Err, nat_lt, subst, lit<, append_assoc, length-append}
 use Rattle.std.proofs.lemmas.Bool.{eqb-true, eq-eqb}
 use Rattle.std.proofs.lemmas.Bool.Decides.{nat_tests}
 use Rattle.std.proofs.lemmas.List.{take-append-drop, append-nil}
@@ -11,20 +11,17 @@ use Rattle.sb_base.specs.Digits.{hex_digits, hex_digit, hex_answer}
 use Rattle.sb_base.specs.declared.digits.DigitFault.{DigitFault}
 use Rattle.line_reading.specs.Reading.{number_and, dec_at}
 use Rattle.line_reading.specs.Words.{WordLaws}
-use Rattle.line_reading.proofs.AllLaws.{chosen, some_is, none_some, bind_some, cons_is}
+use Rattle.line_reading.proofs.AllLaws.{bind_some}
 use Rattle.std.specs.Fmt.{decimal}
+use Rattle.basics.specs.Numbers.{equals_itself}
+use Rattle.std.proofs.lemmas.Option.{cond_some, same_Some, none-some}
+use Rattle.basics.specs.Lists.{chosen, same_head_and_tail}
+use Rattle.indirect_targets.proofs.AllLaws.{map_some}
 use Rattle.bit_domain.specs.declared.bytes.TriByte.{TriByte}
 use Rattle.bit_domain.specs.TriByte.{tri_of}
 use Rattle.bit_domain.specs.Laws.{BytesAreTheirBits, BytesAreSets}
 use Rattle.cert_words.specs.Spelling.{bits_text}
 use Rattle.cert_words.specs.Reading.{letter_at, number_before, digits_at, is_end, tri_byte, bits_at, register_at, offset_in, marked_in}
-
-pub map_some : {A B : Type 0} (o : Option A) (f : A → B) (y : B) → option_map f o ≡ Some y → (x : A) × (o ≡ Some x) × (f x ≡ y)
-map_some None f y e = absurd (none_some y e)
-map_some (Some x) f y e = (x, refl, some_is (f x) y e)
-
-pub same_number : (a : ℕ) → (a == a) ≡ true
-same_number a = eq-eqb a a refl
 
 -- ---- the end and one byte
 
@@ -33,15 +30,8 @@ end_is [] e = refl
 end_is (b ∷ bs) e = cc
 
 pub letter_take : (bs : List ℕ) (z : ℕ × List ℕ) → letter_at bs ≡ Some z → bs ≡ z.0 ∷ z.1
-letter_take [] z e = absurd (none_some z e)
-letter_take (b ∷ bs) z e = let same = some_is {A = ℕ × List ℕ} (b, bs) z e in ap (λ (y : ℕ × List ℕ). y.0 ∷ y.1) same
-
--- a test at the end of a reading
-pub tested : {A : Type 0} (b : Bool) (x y : A) → cond b (Some x) None ≡ Some y → (b ≡ true) × (x ≡ y)
-tested b x y e = elim (chosen b (Some x) None (Some y) e) [
-  | inl h ↦ (h.0, some_is x y h.1)
-  | inr h ↦ absurd (none_some y h.1)
-]
+letter_take [] z e = absurd (none-some z e)
+letter_take (b ∷ bs) z e = let same = same_Some {A = ℕ × List ℕ} (b, bs) z e in ap (λ (y : ℕ × List ℕ). y.0 ∷ y.1) same
 
 pub three : (a b c : Bool) → (a && b && c) ≡ true → (a ≡ true) × (b ≡ true) × (c ≡ true)
 three true true c e = (refl, refl, e)
@@ -56,21 +46,21 @@ length_hex n zero = refl
 length_hex n (suc k) = length-append (hex_digits (n / 16) k) (hex_digit (n % 16) ∷ []) ∙ omega (arith, length_hex (n / 16) k)
 
 number_is : (r : Result ℕ DigitFault) (bs : List ℕ) (z : ℕ × List ℕ) → number_before r bs ≡ Some z → (r ≡ Ok z.0) × (bs ≡ z.1)
-number_is (Ok n) bs z e = let same = some_is {A = ℕ × List ℕ} (n, bs) z e in (ap (λ (y : ℕ × List ℕ). Ok y.0) same, ap (λ (y : ℕ × List ℕ). y.1) same)
-number_is (Err f) bs z e = absurd (none_some z e)
+number_is (Ok n) bs z e = let same = same_Some {A = ℕ × List ℕ} (n, bs) z e in (ap (λ (y : ℕ × List ℕ). Ok y.0) same, ap (λ (y : ℕ × List ℕ). y.1) same)
+number_is (Err f) bs z e = absurd (none-some z e)
 
-number_of : (r : Result ℕ DigitFault) (n : ℕ) → number_and r [] ≡ Some (n, []) → r ≡ Ok n
-number_of (Ok m) n e = let same = some_is {A = ℕ × List (List ℕ)} (m, []) (n, []) e in ap (λ (y : ℕ × List (List ℕ)). Ok y.0) same
-number_of (Err f) n e = absurd (none_some {A = ℕ × List (List ℕ)} (n, []) e)
+pub number_of : (r : Result ℕ DigitFault) (n : ℕ) → number_and r [] ≡ Some (n, []) → r ≡ Ok n
+number_of (Ok m) n e = let same = same_Some {A = ℕ × List (List ℕ)} (m, []) (n, []) e in ap (λ (y : ℕ × List (List ℕ)). Ok y.0) same
+number_of (Err f) n e = absurd (none-some {A = ℕ × List (List ℕ)} (n, []) e)
 
 pub digits_take : WordLaws → (count : ℕ) (bs : List ℕ) (z : ℕ × List ℕ) → digits_at count bs ≡ Some z → (bs ≡ hex_digits z.0 count ++ z.1) × (z.0 < 16 ^ count)
 unfolding digits_at
 digits_take k count bs z e = elim (chosen (nat_lt (length bs) count) _ _ (Some z) e) [
-  | inl h ↦ absurd (none_some z h.1)
+  | inl h ↦ absurd (none-some z h.1)
   | inr h ↦
       let t = number_is (hex_answer (take count bs) count) (drop count bs) z h.1 in
       let w = k.hex_takes count z.0 (take count bs ∷ []) [] (ap (λ (r : Result ℕ DigitFault). number_and r []) t.0) in
-      (sym (take-append-drop count bs) ∙ ap₂ (λ (xs ys : List ℕ). xs ++ ys) (cons_is (take count bs) (hex_digits z.0 count) [] [] w.0).0 t.1, w.1)
+      (sym (take-append-drop count bs) ∙ ap₂ (λ (xs ys : List ℕ). xs ++ ys) (same_head_and_tail (take count bs) (hex_digits z.0 count) [] [] w.0).0 t.1, w.1)
 ]
 
 pub digits_again : WordLaws → (count n : ℕ) (rest : List ℕ) → n < 16 ^ count → digits_at count (hex_digits n count ++ rest) ≡ Some (n, rest)
@@ -103,7 +93,7 @@ unfolding bits_at
 bits_take k b bs z e =
     let n = bind_some (digits_at 2 bs) _ z e in
     let v = bind_some (digits_at 2 n.0.1) _ z n.2 in
-    let last = tested {A = TriByte × List ℕ} (bit_and v.0.0 n.0.0 == v.0.0) (tri_byte n.0.0 v.0.0, v.0.1) z v.2 in
+    let last = cond_some {A = TriByte × List ℕ} (bit_and v.0.0 n.0.0 == v.0.0) (tri_byte n.0.0 v.0.0, v.0.1) z v.2 in
     let inside = eqb-true (bit_and v.0.0 n.0.0) v.0.0 last.0 in
     let first = digits_take k 2 bs n.0 n.1 in
     let second = digits_take k 2 n.0.1 v.0 v.1 in
@@ -129,7 +119,7 @@ pub register_take : WordLaws → (bs : List ℕ) (z : ℕ × List ℕ) → regis
 unfolding register_at
 register_take k bs z e =
     let r = bind_some (digits_at 2 bs) _ z e in
-    let last = tested (nat_lt r.0.0 32) r.0 z r.2 in
+    let last = cond_some (nat_lt r.0.0 32) r.0 z r.2 in
     let low : r.0.0 < 32 = grind (arith, nat_tests, last.0) in
     let P : ℕ × List ℕ → Type 0 = λ y. (bs ≡ hex_digits y.0 2 ++ y.1) × (y.0 < 32) in
     subst P last.1 ((digits_take k 2 bs r.0 r.1).0, low)
@@ -147,7 +137,7 @@ offset_take k bs n e =
     let d = map_some (dec_at SIZE (bs ∷ [])) (λ x. x.0) n e in
     let t = k.dec_takes SIZE d.0.0 (bs ∷ []) d.0.1 (lit< tt) d.1 in
     let P : ℕ → Type 0 = λ y. (bs ≡ decimal y) × (y ≤ SIZE) in
-    subst P d.2 ((cons_is bs (decimal d.0.0) [] d.0.1 t.0).0, t.1)
+    subst P d.2 ((same_head_and_tail bs (decimal d.0.0) [] d.0.1 t.0).0, t.1)
 
 pub offset_again : WordLaws → (n : ℕ) → n ≤ SIZE → offset_in (decimal n) ≡ Some n
 offset_again k n h = rw (k.dec_taken SIZE n [] (lit< tt) h) refl
@@ -158,7 +148,7 @@ marked_take k mark digits bs n e =
     let c = bind_some (letter_at bs) _ n e in
     let m = bind_some (letter_at c.0.1) _ n c.2 in
     let d = bind_some (digits_at digits m.0.1) _ n m.2 in
-    let last = tested (c.0.0 == 44 && m.0.0 == mark && is_end d.0.1) d.0.0 n d.2 in
+    let last = cond_some (c.0.0 == 44 && m.0.0 == mark && is_end d.0.1) d.0.0 n d.2 in
     let t = three (c.0.0 == 44) (m.0.0 == mark) (is_end d.0.1) last.0 in
     let number = digits_take k digits m.0.1 d.0 d.1 in
     let whole : m.0.1 ≡ hex_digits d.0.0 digits = number.0 ∙ ap (λ (xs : List ℕ). hex_digits d.0.0 digits ++ xs) (end_is d.0.1 t.2) ∙ append-nil (hex_digits d.0.0 digits) in
@@ -174,4 +164,4 @@ marked_again k mark digits n h =
     let number = digits_again k digits n [] h in
     let none = append-nil (hex_digits n digits) in
     let d : digits_at digits (hex_digits n digits) ≡ Some (n, []) = ap (digits_at digits) (sym none) ∙ number in
-    rw (d, same_number mark) refl
+    rw (d, equals_itself mark) refl

@@ -1,15 +1,18 @@
 -- The form of a node: what is read is spelled so, and what is spelled is read.
-use Rattle.std.proofs.Common.{ℕ, zero, suc, ◌<◌, ◌≤◌, ◌≡◌, inl, inr, List, [], ◌∷◌, ◌++◌, length, length-append, map, codes, get_or, Bool, true, false, refl, ap, ap₂, sym, ◌∙◌, arith, Some, nat_lt, subst, lit<, append_assoc}
+use Rattle.std.proofs.Common.{ℕ, ◌<◌, ◌≤◌, ◌≡◌, inl, inr, List, [], ◌∷◌, ◌++◌, length, length-append, map, codes, Bool, true, false, refl, ap, ap₂, sym, ◌∙◌, arith, Some, nat_lt, subst, lit<, append_assoc}
 use Rattle.std.specs.List.{AllByRecursion}
 use Rattle.std.specs.Str.{bytes_eq}
 use Rattle.std.proofs.lemmas.Bool.Decides.{nat_tests}
-use Rattle.std.proofs.lemmas.List.{append-nil}
+use Rattle.std.proofs.lemmas.List.{append-nil, get_or_default}
 use Rattle.std.proofs.lemmas.List.Elements.{All-from_recursion, recursion_from_All}
 use Rattle.std.proofs.lemmas.Slice.Eq.{bytes_eq-Decides}
+use Rattle.std.proofs.lemmas.Option.{cond_some, same_Some as some_is, none-some}
+use Rattle.basics.specs.Lists.{chosen}
+use Rattle.indirect_targets.proofs.AllLaws.{map_some}
 use Rattle.sb_base.specs.Digits.{hex_digits}
 use Rattle.line_reading.specs.Reading.{◌>>=◌, dec_at}
 use Rattle.line_reading.specs.Words.{IsWord, WordLaws}
-use Rattle.line_reading.proofs.AllLaws.{chosen, some_is, none_some, bind_some}
+use Rattle.line_reading.proofs.AllLaws.{bind_some}
 use Rattle.sp_domain.specs.declared.tags.Tag.{Tag}
 use Rattle.sp_domain.specs.declared.tags.Tag.TheVariants as tag
 use Rattle.sp_domain.specs.declared.slots.Slot.{Slot}
@@ -24,10 +27,10 @@ use Rattle.mask_states.specs.declared.keys.Kind.{Kind}
 use Rattle.mask_states.specs.declared.keys.Kind.TheVariants.{Root, Call, Vector}
 use Rattle.mask_states.specs.declared.keys.NodeKey.{NodeKey}
 use Rattle.mask_states.specs.Keys.{offset_of}
-use Rattle.local_rules.specs.Cover.{SlotFits, TagsFit, IsNode}
+use Rattle.local_rules.specs.Cover.{SlotFits, TagsFit, IsNode, IsKey}
 use Rattle.edge_rules.specs.declared.seeded.NodeForm.{NodeForm}
 use Rattle.edge_rules.specs.declared.seeded.NodeForm.TheVariants.{State, From}
-use Rattle.certificate.specs.Claims.{IsKey, FitsAt}
+use Rattle.certificate.specs.Claims.{FitsAt}
 use Rattle.certificate.specs.declared.version.Version.{Version}
 use Rattle.certificate.specs.Versions.{ValueIsOf, SlotIsOf, StateIsOf, FormIsOf}
 use Rattle.cert_words.specs.Spelling.{value_word, flags_word, carry_word, slot_word, tag_text, bits_text, range_text}
@@ -37,7 +40,7 @@ use Rattle.cert_words.specs.KeyReading.{word_by, words_from, is_root, flags_at, 
 use Rattle.cert_words.specs.Fits.{IsValue, AreFlags, IsCarry, IsSlot}
 use Rattle.cert_words.specs.Laws.{ValueWords}
 use Rattle.cert_words.specs.KeyLaws.{FormWords}
-use Rattle.cert_words.proofs.Pieces.{map_some, tested, length_hex}
+use Rattle.cert_words.proofs.Pieces.{length_hex}
 use Rattle.cert_words.proofs.Fields.{dec_take, word_by_take, words_take, words_again, words_plain, joined_words}
 use Rattle.cert_words.proofs.InstKeys.{cons}
 
@@ -50,11 +53,6 @@ pub record HasParts (version : Version) (root : Bool) (offset : ℕ) (s : AbsSta
   pub carry_fits : IsCarry version root s.flags.carry
   pub count_slots : length s.slots ≡ offset
   pub slots : AllByRecursion (λ t. IsSlot version root t) s.slots
-
-same_at : {A : Type 0} (xs : List A) (i : ℕ) (d e : A) → i < length xs → get_or xs i d ≡ get_or xs i e
-same_at [] i d e h = absurd (omega (arith, h))
-same_at (x ∷ xs) zero d e h = refl
-same_at (x ∷ xs) (suc i) d e h = same_at xs i d e (omega (arith, h))
 
 slot_names : (version : Version) (root : Bool) (t : Slot AbsByte) → IsSlot version root t → SlotNamesRegister t
 slot_names version root Free h = tt
@@ -135,14 +133,14 @@ parts_by version root offset s f t c u o =
       registers = recursion_from_All (λ (v : AbsByte). IsValue version root v) s.registers (λ r d l.
           let low : r < 32 = omega (arith, f.count_registers, l) in
           let P : AbsByte → Type 0 = λ v. IsValue version root v in
-          subst P (same_at s.registers r unknown d l)
+          subst P (get_or_default s.registers r unknown d l)
           (record { fits_tag = record { names = f.registers r low; fits = t.registers r low; none = λ e. (u e).registers r low }; range = f.ranges r low; of_version = vs r unknown l }));
       flags = record { bit_7 = f.bit_7; none = λ e. (u e).entry };
       carry_fits = c;
       count_slots = f.count_slots;
       slots = recursion_from_All (λ (x : Slot AbsByte). IsSlot version root x) s.slots (λ i d l.
           let P : Slot AbsByte → Type 0 = λ x. IsSlot version root x in
-          subst P (same_at s.slots i Free d l) (slot_is version root (slot_at s.slots i) (f.slots i l) (t.slots i l) (λ e. (u e).slots i l) (f.slot_ranges i l) (ts i Free l)));
+          subst P (get_or_default s.slots i Free d l) (slot_is version root (slot_at s.slots i) (f.slots i l) (t.slots i l) (λ e. (u e).slots i l) (f.slot_ranges i l) (ts i Free l)));
     }
 
 -- ---- the state's words
@@ -279,7 +277,7 @@ from_take : WordLaws → (version : Version) (at : ℕ) (key : NodeKey) (w : Lis
 unfolding from_behind
 from_take k version at key w ws z h is e =
     let m = bind_some (dec_at 65535 ws) _ z e in
-    let last = tested {A = NodeForm × List (List ℕ)} (nat_lt m.0.0 at) (From m.0.0, m.0.1) z m.2 in
+    let last = cond_some {A = NodeForm × List (List ℕ)} (nat_lt m.0.0 at) (From m.0.0, m.0.1) z m.2 in
     let t = dec_take k 65535 ws m.0 (lit< tt) m.1 in
     let low : m.0.0 < at = grind (arith, nat_tests, last.0) in
     let P : NodeForm × List (List ℕ) → Type 0 = λ y. FormRead version at key (w ∷ ws) y in
@@ -301,7 +299,7 @@ form_state v version at key w ws z h e =
 
 form_take : WordLaws → ValueWords → (version : Version) (at : ℕ) (key : NodeKey) (ws : List (List ℕ)) (z : NodeForm × List (List ℕ)) → IsKey key → form_at version (is_root key.inst.kind) (offset_of key.sp) at ws ≡ Some z → FormRead version at key ws z
 unfolding form_at
-form_take k v version at key [] z h e = absurd (none_some z e)
+form_take k v version at key [] z h e = absurd (none-some z e)
 form_take k v version at key (w ∷ ws) z h e = elim (chosen (bytes_eq w (codes "from")) _ _ (Some z) e) [
   | inl g ↦ from_take k version at key w ws z h ((bytes_eq-Decides w (codes "from")).0 g.0) g.1
   | inr g ↦ form_state v version at key w ws z h g.1

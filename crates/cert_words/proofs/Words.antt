@@ -1,6 +1,6 @@
 -- The words of values, slots, flags, carry tags and forms: what is read is spelled so, and what is spelled is read.
 use Rattle.std.proofs.Common.{ℕ, ◌-◌, ◌%◌, ◌<◌, ◌≤◌, ◌^◌, ◌≡◌, ◌==◌, ◌&&◌, not, nat_le, inl, inr, List, [], ◌∷◌, ◌++◌, length, take, drop, codes, Bool, true, false, refl, ap, ap₂, sym, ◌∙◌, arith, Some, cond, nat_lt, subst, length-append, append_assoc}
-use Rattle.std.proofs.lemmas.Bool.{eqb-true, false≢true}
+use Rattle.std.proofs.lemmas.Bool.{eqb-true, false≢true, not-true, and_parts}
 use Rattle.std.proofs.lemmas.Bool.Decides.{nat_tests}
 use Rattle.std.proofs.lemmas.List.{take-append-drop, append-nil}
 use Rattle.std.proofs.lemmas.Slice.Eq.{bytes_eq-Decides}
@@ -8,11 +8,14 @@ use Rattle.std.proofs.Math.Seq.{take-append_seam, drop-append_seam}
 use Rattle.std.specs.Int.{bit_at}
 use Rattle.std.specs.Str.{bytes_eq}
 use Rattle.std.specs.Fmt.{decimal}
+use Rattle.std.proofs.lemmas.Option.{cond_some, same_Some as some_is, none-some}
+use Rattle.basics.specs.Lists.{chosen}
+use Rattle.basics.specs.Numbers.{at_most_from_test, test_from_at_most}
+use Rattle.indirect_targets.proofs.AllLaws.{map_some}
 use Rattle.avr_model.specs.State.{SIZE}
 use Rattle.sb_base.specs.Digits.{hex_digits}
-use Rattle.sb_base.specs.Lines.{Lacks}
 use Rattle.line_reading.specs.Words.{WordLaws, IsWord}
-use Rattle.line_reading.proofs.AllLaws.{chosen, some_is, none_some, bind_some, both}
+use Rattle.line_reading.proofs.AllLaws.{bind_some, lacks_append}
 use Rattle.bit_domain.specs.declared.bits.Tri.TheVariants as tri
 use Rattle.bit_domain.specs.declared.bytes.TriByte.{TriByte}
 use Rattle.bit_domain.specs.TriByte.{tri_of, tri_at}
@@ -38,7 +41,7 @@ use Rattle.cert_words.specs.Spelling.{bits_text, tag_text, range_text, value_wor
 use Rattle.cert_words.specs.Reading.{letter_at, digits_at, is_end, bits_at, register_at, tag_by, tag_at, ends_at, range_at, value_in, slot_in, entry_by, flags_in, bytes_in, borrow_in, sum_in, less_in, carry_by, carry_in, offset_in, marked_in, high_in, high_size, open_in, form_in}
 use Rattle.cert_words.specs.Fits.{IsTag, IsValue, AreFlags, IsCarry, IsSlot, IsHigh, IsForm}
 use Rattle.cert_words.specs.Laws.{ValueWords}
-use Rattle.cert_words.proofs.Pieces.{map_some, end_is, letter_take, tested, three, length_hex, digits_take, digits_again, bits_take, bits_again, register_take, register_again, offset_take, offset_again, marked_take, marked_again}
+use Rattle.cert_words.proofs.Pieces.{end_is, letter_take, three, length_hex, digits_take, digits_again, bits_take, bits_again, register_take, register_again, offset_take, offset_again, marked_take, marked_again}
 
 abbrev front : ℕ → List ℕ → List ℕ
 front x xs = x ∷ xs
@@ -71,7 +74,7 @@ tag_by_take k letter bs z e =
                 let j = map_some (digits_at 4 bs) (λ x. (tag.SpHi x.0, x.1)) z a.1 in
                 let d = digits_take k 4 bs j.0 j.1 in
                 subst P j.2 (record { text = ap₂ front (eqb-true letter 104 a.0) d.0; names = tt; fits = omega (arith, d.1) })
-            | inr a ↦ absurd (none_some z a.1)
+            | inr a ↦ absurd (none-some z a.1)
           ]
         ]
       ]
@@ -89,7 +92,7 @@ tag_take k root bs z e =
     elim (chosen (l.0.0 == 45) _ _ (Some z) l.2) [
       | inl h ↦ subst P (some_is {A = Tag × List ℕ} (tag.None, l.0.1) z h.1) (first ∙ ap (λ (x : ℕ). x ∷ l.0.1) (eqb-true l.0.0 45 h.0), record { names = tt; fits = tt; none = λ _. refl })
       | inr h ↦ elim (chosen root _ _ (Some z) h.1) [
-        | inl g ↦ absurd (none_some z g.1)
+        | inl g ↦ absurd (none-some z g.1)
         | inr g ↦ let t = tag_by_take k l.0.0 l.0.1 z g.1 in (first ∙ t.text, record { names = t.names; fits = t.fits; none = not_root z.0 root g.0 })
       ]
     ]
@@ -108,12 +111,6 @@ tag_again k root (tag.SpHi j) rest h = rw (not_in_root root (tag.SpHi j) (λ e. 
 
 -- ---- ranges
 
-at_most : (a b : ℕ) → nat_le a b ≡ true → a ≤ b
-at_most a b h = grind (arith, nat_tests, h)
-
-is_at_most : (a b : ℕ) → a ≤ b → nat_le a b ≡ true
-is_at_most a b h = grind (arith, nat_tests, h)
-
 digits_alone : WordLaws → (count n : ℕ) → n < 16 ^ count → digits_at count (hex_digits n count) ≡ Some (n, [])
 digits_alone k count n h = ap (digits_at count) (sym (append-nil (hex_digits n count))) ∙ digits_again k count n [] h
 
@@ -128,16 +125,16 @@ unfolding ends_at
 ends_take k bits bs z e =
     let l = bind_some (digits_at 2 bs) _ z e in
     let h = bind_some (digits_at 2 l.0.1) _ z l.2 in
-    let last = tested {A = (ℕ × ℕ) × List ℕ} (nat_le (least_of bits) l.0.0 && nat_le l.0.0 h.0.0 && nat_le h.0.0 (most_of bits)) ((l.0.0, h.0.0), h.0.1) z h.2 in
+    let last = cond_some {A = (ℕ × ℕ) × List ℕ} (nat_le (least_of bits) l.0.0 && nat_le l.0.0 h.0.0 && nat_le h.0.0 (most_of bits)) ((l.0.0, h.0.0), h.0.1) z h.2 in
     let t = three (nat_le (least_of bits) l.0.0) (nat_le l.0.0 h.0.0) (nat_le h.0.0 (most_of bits)) last.0 in
     let first = digits_take k 2 bs l.0 l.1 in
     let second = digits_take k 2 l.0.1 h.0 h.1 in
     let P : (ℕ × ℕ) × List ℕ → Type 0 = λ y. EndsRead bits bs y in
     subst P last.1 (record {
       text = first.0 ∙ ap (λ (xs : List ℕ). hex_digits l.0.0 2 ++ xs) second.0;
-      low = at_most (least_of bits) l.0.0 t.0;
-      ordered = at_most l.0.0 h.0.0 t.1;
-      high = at_most h.0.0 (most_of bits) t.2;
+      low = at_most_from_test (least_of bits) l.0.0 t.0;
+      ordered = at_most_from_test l.0.0 h.0.0 t.1;
+      high = at_most_from_test h.0.0 (most_of bits) t.2;
     })
 
 two_digits : (x most : ℕ) → x ≤ most → most < 256 → x < 16 ^ 2
@@ -148,7 +145,7 @@ unfolding ends_at
 ends_again k r bits low high least ordered most =
     let last = two_digits high (most_of bits) most (r.most bits) in
     let first : low < 16 ^ 2 = omega (arith, ordered, last) in
-    rw (digits_again k 2 low (hex_digits high 2) first, digits_alone k 2 high last, is_at_most (least_of bits) low least, is_at_most low high ordered, is_at_most high (most_of bits) most) refl
+    rw (digits_again k 2 low (hex_digits high 2) first, digits_alone k 2 high last, test_from_at_most (least_of bits) low least, test_from_at_most low high ordered, test_from_at_most high (most_of bits) most) refl
 
 -- the value of these parts
 abbrev value_of : Tag → TriByte → ℕ × ℕ → AbsByte
@@ -179,7 +176,7 @@ value_take k b r version root w v e =
     let t = bind_some (tag_at root w) _ v e in
     let n = bind_some (bits_at t.0.1) _ v t.2 in
     let g = bind_some (range_at version n.0.0 n.0.1) _ v n.2 in
-    let last = tested {A = AbsByte} (is_end g.0.1) (value_of t.0.0 n.0.0 g.0.0) v g.2 in
+    let last = cond_some {A = AbsByte} (is_end g.0.1) (value_of t.0.0 n.0.0 g.0.0) v g.2 in
     let first = tag_take k root w t.0 t.1 in
     let range = range_take k r version t.0.0 n.0.0 n.0.1 g.0 g.1 in
     let ends : List ℕ = range_text version (value_of t.0.0 n.0.0 g.0.0) in
@@ -228,8 +225,8 @@ entry_take root letter entry e =
     elim (chosen (letter == 45) _ _ (Some entry) e) [
       | inl h ↦ subst P (some_is false entry h.1) (ap (λ (x : ℕ). x ∷ []) (eqb-true letter 45 h.0), λ _. refl)
       | inr h ↦ elim (chosen root _ _ (Some entry) h.1) [
-        | inl g ↦ absurd (none_some entry g.1)
-        | inr g ↦ let t = tested (letter == 102) true entry g.1 in subst P t.1 (ap (λ (x : ℕ). x ∷ []) (eqb-true letter 102 t.0), λ r. absurd (false≢true (sym g.0 ∙ r)))
+        | inl g ↦ absurd (none-some entry g.1)
+        | inr g ↦ let t = cond_some (letter == 102) true entry g.1 in subst P t.1 (ap (λ (x : ℕ). x ∷ []) (eqb-true letter 102 t.0), λ r. absurd (false≢true (sym g.0 ∙ r)))
       ]
     ]
 
@@ -267,8 +264,8 @@ flags_take k b root w entry bits e =
     let l = bind_some (letter_at w) _ z e in
     let n = bind_some (entry_by root l.0.0) _ z l.2 in
     let t = bind_some (bits_at l.0.1) _ z n.2 in
-    let last = tested {A = Bool × TriByte} (nat_lt t.0.0.known 128 && is_end t.0.1) (n.0, t.0.0) z t.2 in
-    let tests = both (nat_lt t.0.0.known 128) (is_end t.0.1) last.0 in
+    let last = cond_some {A = Bool × TriByte} (nat_lt t.0.0.known 128 && is_end t.0.1) (n.0, t.0.0) z t.2 in
+    let tests = and_parts (nat_lt t.0.0.known 128) (is_end t.0.1) last.0 in
     let first = entry_take root l.0.0 n.0 n.1 in
     let text = bits_take k b l.0.1 t.0 t.1 ∙ ap (λ (xs : List ℕ). bits_text t.0.0 ++ xs) (end_is t.0.1 tests.1) ∙ append-nil (bits_text t.0.0) in
     let P : Bool × TriByte → Type 0 = λ y. (w ≡ flags_word y.0 y.1) × AreFlags root y.0 y.1 in
@@ -290,16 +287,12 @@ flags_again k b s root entry bits h =
 
 -- ---- carry tags
 
-not_true : (b : Bool) → not b ≡ true → b ≡ false
-not_true true e = cc
-not_true false e = refl
-
 bytes_take : WordLaws → (bs : List ℕ) (n : ℕ × ℕ) → bytes_in bs ≡ Some n → (bs ≡ hex_digits n.0 2 ++ hex_digits n.1 2) × ((n.0 < 256) × (n.1 < 256))
 unfolding bytes_in
 bytes_take k bs n e =
     let j = bind_some (digits_at 2 bs) _ n e in
     let l = bind_some (digits_at 2 j.0.1) _ n j.2 in
-    let last = tested {A = ℕ × ℕ} (is_end l.0.1) (j.0.0, l.0.0) n l.2 in
+    let last = cond_some {A = ℕ × ℕ} (is_end l.0.1) (j.0.0, l.0.0) n l.2 in
     let first = digits_take k 2 bs j.0 j.1 in
     let second = digits_take k 2 j.0.1 l.0 l.1 in
     let text = second.0 ∙ ap (λ (xs : List ℕ). hex_digits l.0.0 2 ++ xs) (end_is l.0.1 last.0) ∙ append-nil (hex_digits l.0.0 2) in
@@ -328,7 +321,7 @@ unfolding less_in
 less_take k bs c e =
     let r = bind_some (register_at bs) _ c e in
     let n = bind_some (digits_at 2 r.0.1) _ c r.2 in
-    let last = tested {A = CarryTag} (is_end n.0.1) (carry.Less r.0.0 n.0.0) c n.2 in
+    let last = cond_some {A = CarryTag} (is_end n.0.1) (carry.Less r.0.0 n.0.0) c n.2 in
     let first = register_take k bs r.0 r.1 in
     let second = digits_take k 2 r.0.1 n.0 n.1 in
     let text = second.0 ∙ ap (λ (xs : List ℕ). hex_digits n.0.0 2 ++ xs) (end_is n.0.1 last.0) ∙ append-nil (hex_digits n.0.0 2) in
@@ -340,21 +333,21 @@ less_take k bs c e =
 
 borrow_by : WordLaws → (version : Version) (root : Bool) (letter : ℕ) (bs : List ℕ) (c : CarryTag) → letter == 98 && not root ≡ true → borrow_in bs ≡ Some c → (letter ∷ bs ≡ carry_word c) × IsCarry version root c
 borrow_by k version root letter bs c t e =
-    let h = both (letter == 98) (not root) t in
+    let h = and_parts (letter == 98) (not root) t in
     let b = borrow_take k bs c e in
-    (ap (λ (x : ℕ). x ∷ bs) (eqb-true letter 98 h.0) ∙ b.0, b.1 version root (not_true root h.1))
+    (ap (λ (x : ℕ). x ∷ bs) (eqb-true letter 98 h.0) ∙ b.0, b.1 version root (not-true root h.1))
 
 sum_by : WordLaws → (root : Bool) (letter : ℕ) (bs : List ℕ) (c : CarryTag) → letter == 115 && not root ≡ true → sum_in bs ≡ Some c → (letter ∷ bs ≡ carry_word c) × IsCarry Two root c
 sum_by k root letter bs c t e =
-    let h = both (letter == 115) (not root) t in
+    let h = and_parts (letter == 115) (not root) t in
     let s = sum_take k bs c e in
-    (ap (λ (x : ℕ). x ∷ bs) (eqb-true letter 115 h.0) ∙ s.0, s.1 root (not_true root h.1))
+    (ap (λ (x : ℕ). x ∷ bs) (eqb-true letter 115 h.0) ∙ s.0, s.1 root (not-true root h.1))
 
 carry_by_take : WordLaws → (version : Version) (root : Bool) (letter : ℕ) (bs : List ℕ) (c : CarryTag) → carry_by version root letter bs ≡ Some c → (letter ∷ bs ≡ carry_word c) × IsCarry version root c
 unfolding carry_by
 carry_by_take k One root letter bs c e = elim (chosen (letter == 98 && not root) _ _ (Some c) e) [
   | inl h ↦ borrow_by k One root letter bs c h.0 h.1
-  | inr h ↦ absurd (none_some c h.1)
+  | inr h ↦ absurd (none-some c h.1)
 ]
 carry_by_take k Two root letter bs c e = elim (chosen (letter == 98 && not root) _ _ (Some c) e) [
   | inl h ↦ borrow_by k Two root letter bs c h.0 h.1
@@ -362,7 +355,7 @@ carry_by_take k Two root letter bs c e = elim (chosen (letter == 98 && not root)
     | inl s ↦ sum_by k root letter bs c s.0 s.1
     | inr s ↦ elim (chosen (letter == 99) _ _ (Some c) s.1) [
       | inl g ↦ let l = less_take k bs c g.1 in (ap (λ (x : ℕ). x ∷ bs) (eqb-true letter 99 g.0) ∙ l.0, l.1 root)
-      | inr g ↦ absurd (none_some c g.1)
+      | inr g ↦ absurd (none-some c g.1)
     ]
   ]
 ]
@@ -446,7 +439,7 @@ high_length false (high.Tag j) h = omega (arith, length_hex j 4)
 open_take : WordLaws → (root : Bool) (bs : List ℕ) (f : SpForm) → open_in root bs ≡ Some f → (111 ∷ bs ≡ form_word f) × IsForm root f
 unfolding open_in
 open_take k root bs f e = elim (chosen (nat_lt (length bs) (high_size root)) _ _ (Some f) e) [
-  | inl h ↦ absurd (none_some f h.1)
+  | inl h ↦ absurd (none-some f h.1)
   | inr h ↦
       let i = length bs - high_size root in
       let n = bind_some (offset_in (take i bs)) _ f h.1 in
@@ -483,7 +476,7 @@ form_take k root w f e =
           subst P n.2 (first ∙ ap₂ front (eqb-true l.0.0 99 h.0) number.0, number.1)
       | inr h ↦ elim (chosen (l.0.0 == 111) _ _ (Some f) h.1) [
         | inl g ↦ let t = open_take k root l.0.1 f g.1 in (first ∙ ap (λ (x : ℕ). x ∷ l.0.1) (eqb-true l.0.0 111 g.0) ∙ t.0, t.1)
-        | inr g ↦ absurd (none_some f g.1)
+        | inr g ↦ absurd (none-some f g.1)
       ]
     ]
 
@@ -494,12 +487,8 @@ form_again k root (Open offset h) g = rw (open_again k root offset h g.0 g.1) re
 
 -- ---- no space and no line feed
 
-lacks_both : (c : ℕ) (a b : List ℕ) → Lacks c a → Lacks c b → Lacks c (a ++ b)
-lacks_both c [] b h g = g
-lacks_both c (x ∷ a) b h g = (h.0, lacks_both c a b h.1 g)
-
 pub joined_word : (a b : List ℕ) → IsWord a → IsWord b → IsWord (a ++ b)
-joined_word a b h g = (lacks_both 32 a b h.0 g.0, lacks_both 10 a b h.1 g.1)
+joined_word a b h g = (lacks_append 32 a b h.0 g.0, lacks_append 10 a b h.1 g.1)
 
 bits_word : WordLaws → BytesAreSets → (t : TriByte) → IsWord (bits_text t)
 bits_word k s t =

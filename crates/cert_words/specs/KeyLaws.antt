@@ -1,13 +1,14 @@
 -- The words of keys and of forms of nodes: what is read is spelled so, and what is spelled is read.
 use Rattle.std.specs.Prelude.{ℕ, ◌≡◌, ◌<◌, ◌≤◌, ◌^◌, ◌++◌, true, List, [], Some}
 use Rattle.std.specs.List.{AllByRecursion}
+use Rattle.local_rules.specs.Cover.{IsKey}
 use Rattle.line_reading.specs.Words.{IsWord}
 use Rattle.mask_states.specs.declared.keys.InstKey.{InstKey}
 use Rattle.mask_states.specs.declared.keys.NodeKey.{NodeKey}
 use Rattle.mask_states.specs.Keys.{offset_of}
 use Rattle.edge_rules.specs.declared.seeded.NodeForm.{NodeForm}
 use Rattle.certificate.specs.Insts.{fits_kind}
-use Rattle.certificate.specs.Claims.{IsKey, FitsAt}
+use Rattle.certificate.specs.Claims.{FitsAt}
 use Rattle.certificate.specs.declared.version.Version.{Version}
 use Rattle.certificate.specs.Versions.{PickIsOf, FormIsOf}
 use Rattle.cert_words.specs.KeySpelling.{inst_key_words, place_words, form_words}

@@ -5,8 +5,7 @@ use Rattle.std.specs.Option.{unwrap_or}
 use Rattle.std.specs.List.{AllByRecursion}
 use Rattle.std.specs.List.Sorted.{IsStrictlySortedBy}
 use Rattle.std.proofs.lemmas.Bool.Decides.{nat_tests}
-use Rattle.std.proofs.lemmas.Option.{slice_get_within, slice_get_read}
-use Rattle.line_reading.proofs.AllLaws.{some_is}
+use Rattle.std.proofs.lemmas.Option.{slice_get_within, slice_get_read, same_Some}
 use Rattle.mask_states.specs.declared.keys.InstKey.{InstKey}
 use Rattle.mask_states.specs.declared.keys.NodeKey.{NodeKey}
 use Rattle.mask_states.specs.Order.{inst_cmp}
@@ -27,7 +26,7 @@ none_by : (insts : List Inst) (key : InstKey) (from j i : ℕ) (x : Inst) (t : B
 none_by insts key from j i x true before here other low lt e at = before i low (grind (arith, nat_tests, e)) at
 none_by insts key from j i x false before here other low lt e at =
     let same : i ≡ j = grind (arith, nat_tests, e, lt) in
-    other (ap (λ (y : Inst). y.key) (some_is x at.0 (sym here ∙ ap (slice_get insts) (sym same) ∙ at.1)) ∙ at.2)
+    other (ap (λ (y : Inst). y.key) (same_Some x at.0 (sym here ∙ ap (slice_get insts) (sym same) ∙ at.1)) ∙ at.2)
 
 -- one instance more has another key
 pub none_more : (insts : List Inst) (key : InstKey) (from j : ℕ) (x : Inst) → NoneBefore insts key from j → j < length insts → x ≡ get_or insts j x → ((get_or insts j x).key ≡ key → ⊥) → NoneBefore insts key from (j + 1)

@@ -8,7 +8,7 @@ use Rattle.std.proofs.lemmas.Fmt.{length-decimal-le}
 use Rattle.std.proofs.lemmas.Grind.{flat_map-append}
 use Rattle.std.proofs.lemmas.List.{length-replicate}
 use Rattle.std.proofs.lemmas.List.Elements.{recursion_from_All}
-use Rattle.line_reading.proofs.AllLaws.{both}
+use Rattle.std.proofs.lemmas.Bool.{and_parts}
 use Rattle.sb_base.specs.Digits.{hex_digits}
 use Rattle.sb_base.specs.Lines.{spaced, line}
 use Rattle.avr_model.specs.declared.assumption.Entry.{Entry}
@@ -192,9 +192,9 @@ kind_short : (kind : Kind) (entry masks : ℕ) (i : Bool) → fits_kind kind ent
 kind_short Root entry masks i e = omega arith
 kind_short Call entry masks i e = omega arith
 kind_short (Vector v) entry masks i e =
-    let a = both (nat_le 2 v && nat_le v 26 && is_vector_word v entry) (not i) e in
-    let b = both (nat_le 2 v && nat_le v 26) (is_vector_word v entry) a.0 in
-    let c = both (nat_le 2 v) (nat_le v 26) b.0 in
+    let a = and_parts (nat_le 2 v && nat_le v 26 && is_vector_word v entry) (not i) e in
+    let b = and_parts (nat_le 2 v && nat_le v 26) (is_vector_word v entry) a.0 in
+    let c = and_parts (nat_le 2 v) (nat_le v 26) b.0 in
     let most : v ≤ 26 = grind (arith, nat_tests, c.1) in
     omega (arith, number_short v (omega (arith, most)))
 
@@ -217,17 +217,17 @@ numbers_long (n ∷ ns) = omega (arith, length_hex n 4, numbers_long ns)
 
 items_few : (is_item : ℕ → Bool) (items : List ℕ) → are_items is_item items ≡ true → length items ≤ 64
 items_few is_item items e =
-    let a = both (nat_le 1 (length items) && nat_le (length items) 64 && ascends items) (list_all is_item items) e in
-    let b = both (nat_le 1 (length items) && nat_le (length items) 64) (ascends items) a.0 in
-    let c = both (nat_le 1 (length items)) (nat_le (length items) 64) b.0 in
+    let a = and_parts (nat_le 1 (length items) && nat_le (length items) 64 && ascends items) (list_all is_item items) e in
+    let b = and_parts (nat_le 1 (length items) && nat_le (length items) 64) (ascends items) a.0 in
+    let c = and_parts (nat_le 1 (length items)) (nat_le (length items) 64) b.0 in
     grind (arith, nat_tests, c.1)
 
 entry_short : (e : Entry) → is_entry e ≡ true → taken (entry_words e) + 1 ≤ 400
 entry_short (entry.Jump site words) e =
-    let few = items_few is_word words (both (is_word site) (are_items is_word words) e).1 in
+    let few = items_few is_word words (and_parts (is_word site) (are_items is_word words) e).1 in
     omega (arith, numbers_long (site ∷ words), few)
 entry_short (entry.Store site addresses) e =
-    let few = items_few is_protected addresses (both (is_word site) (are_items is_protected addresses) e).1 in
+    let few = items_few is_protected addresses (and_parts (is_word site) (are_items is_protected addresses) e).1 in
     omega (arith, numbers_long (site ∷ addresses), few)
 entry_short (entry.Prove site) e = omega (arith, numbers_long (site ∷ []))
 entry_short (entry.Free site) e = omega (arith, numbers_long (site ∷ []))

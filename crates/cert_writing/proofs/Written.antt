@@ -1,8 +1,10 @@
 -- What is written, digit by digit, word by word and line by line.
-use Rattle.std.proofs.Common.{ℕ, ◌+◌, ◌/◌, ◌%◌, ◌<◌, ◌≡◌, List, [], ◌∷◌, ◌++◌, length, map, take, get_or, Bool, false, refl, ap, ap₂, sym, ◌∙◌, arith, append_assoc, append-nil, codes, Some, None}
-use Rattle.std.proofs.lemmas.List.{map-append, take_more, take_all}
+use Rattle.std.proofs.Common.{ℕ, ◌+◌, ◌/◌, ◌%◌, ◌<◌, ◌≡◌, List, [], ◌∷◌, ◌++◌, length, map, take, get_or, refl, ap, ap₂, sym, ◌∙◌, arith, append-nil, codes, Some, None}
+use Rattle.std.proofs.lemmas.List.{map-append, take_more}
 use Rattle.std.proofs.lemmas.Grind.{flat_map-append}
 use Rattle.std.specs.List.{flat_map}
+use Rattle.indirect_targets.proofs.AllLaws.{none_begun, words_append}
+use Rattle.witness_replay.proofs.Parts.{more_text}
 use Rattle.sb_base.specs.Digits.{hex_digit, hex_digits}
 use Rattle.sb_base.specs.Lines.{line}
 use Rattle.sb_base.specs.Writing.{Written, with_word, with_words, with_end}
@@ -42,10 +44,6 @@ spelled v ts bs rs t b r = sym (ap₂ (λ (xs ys : List ℕ). xs ++ ys) t (ap₂
 
 -- ---- words
 
-pub words_append : (w : Written) (xs ys : List (List ℕ)) → with_words w (xs ++ ys) ≡ with_words (with_words w xs) ys
-words_append w [] ys = refl
-words_append w (x ∷ xs) ys = words_append (with_word w x) xs ys
-
 pub words_next : {A : Type 0} (word : A → List ℕ) (w v u : Written) (xs : List A) (i : ℕ) (x : A) → i < length xs → x ≡ get_or xs i x → v ≡ with_words w (map word (take i xs)) → u ≡ with_word v (word x)
     → u ≡ with_words w (map word (take (i + 1) xs))
 words_next {A} word w v u xs i x lt is e f =
@@ -55,24 +53,12 @@ words_next {A} word w v u xs i x lt is e f =
     ∙ ap (with_words w) (sym (map-append word (take i xs) (get_or xs i x ∷ [])))
     ∙ ap (λ (ys : List A). with_words w (map word ys)) (sym (take_more xs i x lt))
 
-pub words_done : {A : Type 0} (word : A → List ℕ) (w v : Written) (xs : List A) (i : ℕ) → i ≡ length xs → v ≡ with_words w (map word (take i xs)) → v ≡ with_words w (map word xs)
-words_done {A} word w v xs i e f = f ∙ ap (λ (ys : List A). with_words w (map word ys)) (take_all i xs (omega (arith, e)))
-
 -- ---- lines
 
 abbrev pub text : {A : Type 0} → (A → List (List ℕ)) → List A → List ℕ
 text words xs = flat_map line (map words xs)
 
-pub more_text : (w v u : Written) (a b : List ℕ) → v ≡ with_text w a → u ≡ with_text v b → u ≡ with_text w (a ++ b)
-more_text w v u a b e f = f ∙ ap (λ (x : Written). with_text x b) e ∙ ap (λ (xs : List ℕ). record { bytes = xs; begun = false }) (append_assoc w.bytes a b)
-
-pub none_begun : (w v : Written) (a : List ℕ) → v ≡ with_text w a → v.begun ≡ false
-none_begun w v a e = ap (λ (x : Written). x.begun) e
-
-pub no_text : (w : Written) → w.begun ≡ false → w ≡ with_text w []
-no_text w e = ap (λ (b : Bool). record { bytes = w.bytes; begun = b }) e ∙ ap (λ (xs : List ℕ). record { bytes = xs; begun = false }) (sym (append-nil w.bytes))
-
-text_next : {A : Type 0} (words : A → List (List ℕ)) (xs : List A) (i : ℕ) (x : A) → i < length xs → text words (take (i + 1) xs) ≡ text words (take i xs) ++ line (words (get_or xs i x))
+pub text_next : {A : Type 0} (words : A → List (List ℕ)) (xs : List A) (i : ℕ) (x : A) → i < length xs → text words (take (i + 1) xs) ≡ text words (take i xs) ++ line (words (get_or xs i x))
 text_next {A} words xs i x lt =
     ap (text words) (take_more xs i x lt)
     ∙ ap (flat_map line) (map-append words (take i xs) (get_or xs i x ∷ []))
@@ -85,9 +71,6 @@ lines_next {A} words k w v u xs i x lt is e f =
     more_text w v u (text words (take i xs)) (line (words x)) e (k.line v u (words x) (none_begun w v (text words (take i xs)) e) f)
     ∙ ap (λ (y : A). with_text w (text words (take i xs) ++ line (words y))) is
     ∙ ap (with_text w) (sym (text_next words xs i x lt))
-
-pub lines_done : {A : Type 0} (words : A → List (List ℕ)) (w v : Written) (xs : List A) (i : ℕ) → i ≡ length xs → v ≡ with_text w (text words (take i xs)) → v ≡ with_text w (text words xs)
-lines_done {A} words w v xs i e f = f ∙ ap (λ (ys : List A). with_text w (text words ys)) (take_all i xs (omega (arith, e)))
 
 -- ---- states
 

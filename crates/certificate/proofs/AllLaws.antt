@@ -1,2 +1,2 @@
 -- Crates above cite this crate's proofs from here.
-pub use Rattle.certificate.proofs.Sound.{conditions_make_families_sound, claims_are_seeds}
+pub use Rattle.certificate.proofs.Sound.{conditions_make_families_sound, claims_are_seeds, number_of}

@@ -18,7 +18,7 @@ fits_at at zero (x ∷ es) k form h e =
     subst (λ (y : NodeKey × NodeForm). FitsAt (at + 0) y.0 y.1) same here
 fits_at at (suc i) (x ∷ es) k form h e = subst (λ n. FitsAt n k form) (omega (arith)) (fits_at (at + 1) i es k form h.1 e)
 
-number_of : (ns : List Node) (n : Node) → Contains ns n → (at : ℕ) × (slice_get ns at ≡ Some n)
+pub number_of : (ns : List Node) (n : Node) → Contains ns n → (at : ℕ) × (slice_get ns at ≡ Some n)
 number_of ns n h = (h.0, slice_get_read ns (length ns) h.0 n refl h.1 (sym h.2))
 
 pub claims_are_seeds : ClaimsAreSeeds

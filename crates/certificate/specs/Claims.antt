@@ -1,15 +1,14 @@
 -- What a certificate claims, and what its type keeps. Source: own.
-use Rattle.std.specs.Prelude.{ℕ, ◌+◌, ◌≤◌, ◌<◌, ◌^◌, ⊤, List, [], ◌∷◌, map, length, Option, Contains, IfSome}
+use Rattle.std.specs.Prelude.{ℕ, ◌+◌, ◌≤◌, ◌<◌, ⊤, List, [], ◌∷◌, map, length, Option, Contains, IfSome}
 use Rattle.std.specs.List.{AllByRecursion}
 use Rattle.std.specs.List.Sorted.{IsStrictlySortedBy}
 use Rattle.avr_model.specs.declared.assumption.Entry.{Entry}
-use Rattle.avr_model.specs.Image.{WORDS}
 use Rattle.avr_model.specs.State.{SIZE}
 use Rattle.vector_table.specs.Entries.{AreEntries}
 use Rattle.mask_states.specs.declared.keys.NodeKey.{NodeKey}
-use Rattle.mask_states.specs.Keys.{offset_of, PickFits}
+use Rattle.mask_states.specs.Keys.{offset_of}
 use Rattle.mask_states.specs.Order.{inst_cmp, node_cmp}
-use Rattle.local_rules.specs.Cover.{IsNode, FormFits}
+use Rattle.local_rules.specs.Cover.{IsNode, IsKey}
 use Rattle.edge_rules.specs.declared.seeded.NodeForm.{NodeForm}
 use Rattle.edge_rules.specs.declared.seeded.NodeForm.TheVariants.{State, From}
 use Rattle.edge_rules.specs.Expansion.{Seeds}
@@ -49,15 +48,6 @@ cells_of [] = 0
 cells_of (k ∷ ks) = 1 + offset_of k.sp + cells_of ks
 
 -- ---- what the type keeps
-
--- A key by itself: a word address, at most as many bytes as SRAM has, 25 enable bits, a form that its instance's kind may have, and a byte
--- where one is picked.
-pub record IsKey (k : NodeKey) : Type 0 where
-  pub word : k.pc < WORDS
-  pub small : offset_of k.sp ≤ SIZE
-  pub masks : k.masks < 2 ^ 25
-  pub fits : FormFits k
-  pub pick : PickFits k.pick
 
 -- the node of this number: its state is one that the analysis works with, or it comes from an earlier node
 abbrev pub FitsAt : ℕ → NodeKey → NodeForm → Type 0

@@ -10,9 +10,9 @@ use Rattle.mask_states.specs.declared.keys.SpForm.TheVariants.{Closed}
 use Rattle.mask_states.specs.Keys.{root_inst, entry_key, offset_of}
 use Rattle.local_rules.specs.declared.local.Node.{Node}
 use Rattle.edge_rules.specs.declared.edge.Edge.{Edge}
-use Rattle.edge_rules.specs.Edges.{IsFaultless, Enters, IsEdge, target}
+use Rattle.edge_rules.specs.Edges.{Enters, IsEdge, target}
 use Rattle.edge_rules.specs.Expansion.{IsFilled}
-use Rattle.edge_rules.specs.Families.{Family, IsCovered}
+use Rattle.edge_rules.specs.Families.{Family, IsCovered, AreFaultless}
 use Rattle.witness_replay.specs.Spelling.{Plan}
 use Rattle.witness_replay.specs.Replay.{replay_of}
 use Rattle.certificate.specs.Insts.{rank_in, need_in}
@@ -24,9 +24,7 @@ reset_node = record { key = entry_key root_inst; state = root }
 
 -- ---- the conditions on the nodes of a certificate with their states, by the numbers of the reasons that tell that one fails
 
--- 2: no node has a fault
-abbrev pub AreFaultless : List ℕ → List Entry → List Node → Type 0
-AreFaultless words A nodes = (n : Node) → Contains nodes n → IsFaultless words A n
+-- 2: no node has a fault: `AreFaultless`, with the definition of families
 
 -- 3: each edge lands at a node that is there, with a state at least its own
 abbrev pub AllLand : List ℕ → List Entry → List Node → Type 0

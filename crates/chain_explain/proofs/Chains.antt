@@ -3,6 +3,7 @@ use Rattle.std.proofs.Common.{◌≡◌, refl, sym, ap, ◌∙◌, subst, ℕ, z
 use Rattle.std.specs.Prelude.{◌↔◌}
 use Rattle.std.proofs.lemmas.List.Sums.{sum_by-cons}
 use Rattle.std.proofs.lemmas.Option.{same_Some, slice_get_within}
+use Rattle.basics.specs.Lists.{one_at}
 use Rattle.avr_model.specs.declared.assumption.Entry.{Entry}
 use Rattle.mask_states.specs.declared.keys.InstKey.{InstKey}
 use Rattle.mask_states.specs.declared.keys.EdgeKind.{EdgeKind}
@@ -26,7 +27,6 @@ use Rattle.chain_explain.specs.Walks.{IsWay}
 use Rattle.chain_explain.specs.Explanation.{adds_by, IsPart, AreParts, Explains}
 use Rattle.chain_explain.specs.Told.{sum_of, IsPlace, Ends, EntersNext, GoOn, Nest}
 use Rattle.chain_explain.specs.Moves.{AreThere}
-use Rattle.chain_explain.proofs.Lists.{one_at}
 
 module _ (words : List ℕ) (A : List Entry) (nodes reached : List Node) (gs : List GraphInst) (needs : List ℕ) (family : IsGraphOf words A reached gs) where
   -- each link's node is one of them

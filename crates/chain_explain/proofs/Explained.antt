@@ -1,15 +1,15 @@
 -- What is put together is the explanation.
 use Rattle.std.proofs.Common.{◌≡◌, sym, ap, ◌∙◌, subst, ℕ, ◌≤◌, List}
+use Rattle.witness_search.proofs.Answered.{meets_as}
 use Rattle.avr_model.specs.declared.assumption.Entry.{Entry}
 use Rattle.mask_states.specs.Keys.{root_inst, entry_key}
 use Rattle.local_rules.specs.declared.local.Node.{Node}
 use Rattle.local_laws.specs.Laws.{HasKey}
 use Rattle.edge_rules.specs.Expansion.{IsFilled}
-use Rattle.expansion_laws.specs.Laws.{FilledOrMissing}
+use Rattle.edge_laws.specs.Expansions.{FilledOrMissing}
 use Rattle.nesting_bound.specs.declared.graph.Link.{Link}
 use Rattle.certificate.specs.Claims.{Claim}
-use Rattle.certificate.specs.Valid.{IsSound, MeetsConditions}
-use Rattle.reach_laws.specs.Laws.{RoundsAreReached}
+use Rattle.round_laws.specs.Reached.{RoundsAreReached}
 use Rattle.witness_search.specs.Chains.{IsDeepest, BeginsAtRoot}
 use Rattle.witness_search.specs.Laws.{DeepestChainsAreBounded}
 use Rattle.chain_explain.specs.declared.explanation.Explanation.{Explanation}
@@ -50,10 +50,6 @@ module _ (words : List ℕ) (A : List Entry) (c : Claim) (nodes : List Node) (fi
 
   pub least : FilledOrMissing → RoundsAreReached → HasKey nodes (entry_key root_inst) → need ≤ c.bound → IsOfRounds words A c → need ≡ c.bound
   least one law reset under of = least_is_bound one law words A c nodes told filled reset explains root under of
-
--- the expansion of a certificate whose conditions hold meets them
-pub meets_as : FilledOrMissing → (words : List ℕ) (A : List Entry) (c : Claim) (nodes : List Node) → IsSound words A c → IsFilled words A c.nodes nodes → MeetsConditions words A c nodes
-meets_as law words A c nodes sound filled = subst (MeetsConditions words A c) (law.one words A c.nodes sound.nodes nodes sound.expanded filled) sound.meets
 
 pub tells : FilledOrMissing → RoundsAreReached → DeepestChainsAreBounded → ExplanationsTell
 tells filled rounds chains_bounded words A c x sound is =

@@ -1,4 +1,3 @@
-pub mod Lists
 pub mod Numbers
 pub mod Edges
 pub mod Built

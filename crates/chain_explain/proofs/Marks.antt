@@ -1,23 +1,23 @@
 -- The marked nodes are those that are reached.
-use Rattle.std.proofs.Common.{◌≡◌, refl, sym, ap, ◌∙◌, subst, ℕ, zero, suc, ◌+◌, ◌<◌, ◌≤◌, ◌⊎◌, ⊎_elim, Bool, true, false, List, [], ◌∷◌, ◌++◌, length, map, get_or, drop, Some, slice_get, Contains, arith}
-use Rattle.std.specs.Prelude.{◌↔◌, if◌then◌else◌}
+use Rattle.std.proofs.Common.{◌≡◌, refl, sym, ap, ◌∙◌, subst, ℕ, zero, suc, ◌+◌, ◌≤◌, ◌⊎◌, ⊎_elim, Bool, true, false, List, [], ◌∷◌, ◌++◌, length, map, get_or, drop, Some, slice_get, Contains, arith}
+use Rattle.std.specs.Prelude.{if◌then◌else◌}
 use Rattle.std.specs.List.{AllByRecursion}
 use Rattle.std.specs.List.Sorted.{IsStrictlySortedBy}
 use Rattle.std.specs.declared.cmp.Ordering.TheVariants.{Less}
 use Rattle.std.proofs.lemmas.List.{append_assoc}
 use Rattle.std.proofs.lemmas.Option.{none-some, same_Some}
+use Rattle.basics.specs.Items.{place_of_contained, contained_at, none_in, first_in, further_in, first_or_further}
+use Rattle.basics.specs.Lists.{one_at}
 use Rattle.avr_model.specs.declared.assumption.Entry.{Entry}
 use Rattle.mask_states.specs.declared.keys.NodeKey.{NodeKey}
 use Rattle.mask_states.specs.Keys.{root_inst, entry_key}
 use Rattle.mask_states.specs.Order.{node_cmp}
 use Rattle.local_rules.specs.declared.local.Node.{Node}
-use Rattle.local_laws.proofs.AllLaws.{none_in, here, there, first_or}
 use Rattle.edge_rules.specs.Views.{AreShown, key_of}
 use Rattle.shortest_walk.specs.Graph as walk
 use Rattle.shortest_walk.specs.Graph.{AreMarks}
 use Rattle.chain_explain.specs.Reached.{IsReached, AreReached}
 use Rattle.chain_explain.specs.Moves.{kept_by, AreSteps}
-use Rattle.chain_explain.proofs.Lists.{number_of, contains_at, one_at}
 use Rattle.chain_explain.proofs.Edges.{reached_down, reached_up}
 
 -- the node has a number that is marked
@@ -33,15 +33,15 @@ pub kept_marked : (marks : List Bool) (nodes : List Node) (n : Node) → Contain
 kept_marked [] nodes n h = absurd (none_in n h)
 kept_marked (mark ∷ marks) [] n h = absurd (none_in n h)
 kept_marked (true ∷ marks) (x ∷ nodes) n h =
-    ⊎_elim (λ e. record { number = 0; at = ap (λ (y : Node). Some y) (sym e); mark = refl }) (λ i. later true marks x nodes n (kept_marked marks nodes n i)) (first_or x n (kept_by marks nodes) h)
+    ⊎_elim (λ e. record { number = 0; at = ap (λ (y : Node). Some y) (sym e); mark = refl }) (λ i. later true marks x nodes n (kept_marked marks nodes n i)) (first_or_further x n (kept_by marks nodes) h)
 kept_marked (false ∷ marks) (x ∷ nodes) n h = later false marks x nodes n (kept_marked marks nodes n h)
 
 kept_at : (marks : List Bool) (nodes : List Node) (i : ℕ) (n : Node) → slice_get nodes i ≡ Some n → get_or marks i false ≡ true → Contains (kept_by marks nodes) n
 kept_at [] nodes i n e m = absurd cc
 kept_at (mark ∷ marks) [] i n e m = absurd (none-some n e)
-kept_at (true ∷ marks) (x ∷ nodes) zero n e m = subst (Contains (x ∷ kept_by marks nodes)) (same_Some x n e) (here x (kept_by marks nodes))
+kept_at (true ∷ marks) (x ∷ nodes) zero n e m = subst (Contains (x ∷ kept_by marks nodes)) (same_Some x n e) (first_in x (kept_by marks nodes))
 kept_at (false ∷ marks) (x ∷ nodes) zero n e m = absurd cc
-kept_at (true ∷ marks) (x ∷ nodes) (suc i) n e m = there x n (kept_by marks nodes) (kept_at marks nodes i n e m)
+kept_at (true ∷ marks) (x ∷ nodes) (suc i) n e m = further_in x n (kept_by marks nodes) (kept_at marks nodes i n e m)
 kept_at (false ∷ marks) (x ∷ nodes) (suc i) n e m = kept_at marks nodes i n e m
 
 all_kept : (P : NodeKey → Type 0) (marks : List Bool) (nodes : List Node) → AllByRecursion P (map key_of nodes) → AllByRecursion P (map key_of (kept_by marks nodes))
@@ -62,7 +62,7 @@ kept_shown marks nodes kept e shown =
     subst AreShown (sym e)
     record {
       ascending = kept_ascend marks nodes shown.ascending;
-      all = λ n h. let m = kept_marked marks nodes n h in shown.all n (contains_at nodes m.number n m.at);
+      all = λ n h. let m = kept_marked marks nodes n h in shown.all n (contained_at nodes m.number n m.at);
     }
 
 pub kept_few : (marks : List Bool) (nodes : List Node) → length (kept_by marks nodes) ≤ length nodes
@@ -72,9 +72,6 @@ kept_few (true ∷ marks) (x ∷ nodes) = let few = kept_few marks nodes in omeg
 kept_few (false ∷ marks) (x ∷ nodes) = let few = kept_few marks nodes in omega (arith, few)
 
 -- ---- the loop
-
-pub kept_start : (marks : List Bool) (nodes : List Node) → kept_by marks nodes ≡ [] ++ kept_by (drop 0 marks) (drop 0 nodes)
-kept_start marks nodes = refl
 
 drop_at : {X : Type 0} (xs : List X) (i : ℕ) (x : X) → slice_get xs i ≡ Some x → drop i xs ≡ x ∷ drop (suc i) xs
 drop_at [] i x e = absurd (none-some x e)
@@ -108,11 +105,11 @@ module _ (words : List ℕ) (A : List Entry) (nodes : List Node) (shown : AreSho
   kept_reached n h =
       let m = kept_marked marks nodes n h in
       let r = reached_down words A nodes shown all moves steps root reset at is m.number ((marked.exact m.number).0 m.mark) in
-      (contains_at nodes m.number n m.at, subst (λ (x : Node). IsReached words A nodes x.key) (one_at nodes m.number r.0 n r.1.0 m.at) r.1.1)
+      (contained_at nodes m.number n m.at, subst (λ (x : Node). IsReached words A nodes x.key) (one_at nodes m.number r.0 n r.1.0 m.at) r.1.1)
 
   reached_kept : (n : Node) → Contains nodes n × IsReached words A nodes n.key → Contains (kept_by marks nodes) n
   reached_kept n h =
-      let p = number_of nodes n h.0 in
+      let p = place_of_contained nodes n h.0 in
       kept_at marks nodes p.0 n p.1 ((marked.exact p.0).1 (reached_up words A nodes shown all moves steps root reset at is n.key h.1 p.0 n p.1 refl))
 
   pub are_reached : (kept : List Node) → kept ≡ kept_by marks nodes → AreReached words A nodes kept

@@ -1,9 +1,11 @@
 -- A certificate has at most one explanation.
 use Rattle.std.proofs.Common.{◌≡◌, refl, sym, ap, ◌∙◌, subst, ℕ, zero, suc, ◌+◌, ◌<◌, ◌≤◌, ◌⊎◌, ⊎_elim, List, [], ◌∷◌, length, map, Some, slice_get, Contains, nat_cmp, arith}
 use Rattle.std.specs.Prelude.{◌↔◌}
-use Rattle.std.specs.List.{AllByRecursion}
 use Rattle.std.specs.List.Sorted.{IsStrictlySortedBy}
 use Rattle.std.specs.declared.cmp.Ordering.TheVariants.{Less}
+use Rattle.basics.specs.Lists.{one_at}
+use Rattle.basics.specs.Items.{none_in, first_in, further_in, first_or_further}
+use Rattle.edge_rules.specs.Places.{all_of}
 use Rattle.avr_model.specs.declared.assumption.Entry.{Entry}
 use Rattle.mask_states.specs.declared.keys.InstKey.{InstKey}
 use Rattle.mask_states.specs.declared.keys.NodeKey.{NodeKey}
@@ -11,10 +13,9 @@ use Rattle.mask_states.specs.Keys.{offset_of}
 use Rattle.mask_states.specs.Order.{node_cmp}
 use Rattle.mask_states.proofs.AllLaws.{keys_are_ordered}
 use Rattle.local_rules.specs.declared.local.Node.{Node}
-use Rattle.local_laws.proofs.AllLaws.{none_in, here, there, first_or}
 use Rattle.edge_rules.specs.Views.{key_of}
-use Rattle.expansion_laws.specs.Laws.{FilledOrMissing}
-use Rattle.expansion_laws.proofs.AllLaws.{filled_lists_are_shown}
+use Rattle.edge_laws.specs.Expansions.{FilledOrMissing}
+use Rattle.edge_laws.proofs.ExpansionLaws.{filled_lists_are_shown}
 use Rattle.nesting_bound.specs.declared.graph.Link.{Link}
 use Rattle.certificate.specs.Claims.{Claim, IsClaim}
 use Rattle.shortest_walk.specs.Graph.{Leads}
@@ -28,7 +29,6 @@ use Rattle.chain_explain.specs.Reached.{AreReached}
 use Rattle.chain_explain.specs.Walks.{IsWay, pc_at}
 use Rattle.chain_explain.specs.Explanation.{IsPart, AreParts, Explains, IsExplanation, adds_by}
 use Rattle.chain_explain.specs.Laws.{ExplanationsAreOne}
-use Rattle.chain_explain.proofs.Lists.{one_at}
 use Rattle.chain_explain.proofs.Numbers.{same_number}
 
 -- ---- walks go by where nodes lead, and by which starts there are
@@ -60,10 +60,6 @@ module _ (graph other : List (List ℕ)) (leads : (i j : ℕ) → Leads graph i 
 
 -- ---- lists of nodes in one order
 
-all_of : (P : NodeKey → Type 0) (xs : List Node) (n : Node) → AllByRecursion P (map key_of xs) → Contains xs n → P n.key
-all_of P [] n h i = absurd (none_in n i)
-all_of P (x ∷ xs) n h i = ⊎_elim (λ e. subst (λ (z : Node). P z.key) (sym e) h.0) (all_of P xs n h.1) (first_or x n xs i)
-
 not_both : (a b : NodeKey) → node_cmp a b ≡ Less → node_cmp b a ≡ Less → ⊥
 not_both a b ab ba =
     let both = keys_are_ordered.nodes.trans a b a ab ba in
@@ -75,18 +71,18 @@ same_nodes : (xs ys : List Node) → IsStrictlySortedBy node_cmp (map key_of xs)
     → ((n : Node) → Contains ys n → Contains xs n) → xs ≡ ys
 unfolding IsStrictlySortedBy
 same_nodes [] [] s t up down = refl
-same_nodes [] (y ∷ ys) s t up down = absurd (none_in y (down y (here y ys)))
-same_nodes (x ∷ xs) [] s t up down = absurd (none_in x (up x (here x xs)))
+same_nodes [] (y ∷ ys) s t up down = absurd (none_in y (down y (first_in y ys)))
+same_nodes (x ∷ xs) [] s t up down = absurd (none_in x (up x (first_in x xs)))
 same_nodes (x ∷ xs) (y ∷ ys) s t up down =
     let head : x ≡ y =
     ⊎_elim (λ e. e)
     (λ i. ⊎_elim (λ e. sym e)
     (λ j. absurd (not_both y.key x.key (all_of (λ k. node_cmp y.key k ≡ Less) ys x t.0 i) (all_of (λ k. node_cmp x.key k ≡ Less) xs y s.0 j)))
-    (first_or x y xs (down y (here y ys))))
-    (first_or y x ys (up x (here x xs))) in
+    (first_or_further x y xs (down y (first_in y ys))))
+    (first_or_further y x ys (up x (first_in x xs))) in
     let tail : xs ≡ ys = same_nodes xs ys s.1 t.1
-    (λ n i. ⊎_elim (λ e. absurd (not_itself x n e head (all_of (λ k. node_cmp x.key k ≡ Less) xs n s.0 i))) (λ j. j) (first_or y n ys (up n (there x n xs i))))
-    (λ n i. ⊎_elim (λ e. absurd (itself y n e head (all_of (λ k. node_cmp y.key k ≡ Less) ys n t.0 i))) (λ j. j) (first_or x n xs (down n (there y n ys i)))) in
+    (λ n i. ⊎_elim (λ e. absurd (not_itself x n e head (all_of (λ k. node_cmp x.key k ≡ Less) xs n s.0 i))) (λ j. j) (first_or_further y n ys (up n (further_in x n xs i))))
+    (λ n i. ⊎_elim (λ e. absurd (itself y n e head (all_of (λ k. node_cmp y.key k ≡ Less) ys n t.0 i))) (λ j. j) (first_or_further x n xs (down n (further_in y n ys i)))) in
     λ k. head k ∷ tail k
   where
     less_itself : (k : NodeKey) → node_cmp k k ≡ Less → ⊥

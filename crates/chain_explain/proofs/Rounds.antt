@@ -6,6 +6,7 @@ use Rattle.std.specs.List.Sorted.{IsStrictlySortedBy}
 use Rattle.std.proofs.lemmas.List.{length-map}
 use Rattle.std.specs.declared.cmp.Ordering.TheVariants.{Less, Equal}
 use Rattle.std.proofs.lemmas.Option.{none-some, same_Some, slice_get_within}
+use Rattle.basics.specs.Items.{place_of_contained, none_in, first_in, further_in, first_or_further}
 use Rattle.avr_model.specs.declared.assumption.Entry.{Entry}
 use Rattle.abs_state.specs.Frames.{entered}
 use Rattle.mask_states.specs.declared.keys.InstKey.{InstKey}
@@ -18,12 +19,11 @@ use Rattle.mask_states.specs.Order.{inst_cmp, node_cmp, same_inst, same_node}
 use Rattle.mask_states.proofs.AllLaws.{keys_are_ordered}
 use Rattle.local_rules.specs.declared.local.Node.{Node}
 use Rattle.local_laws.specs.Laws.{HasKey}
-use Rattle.local_laws.proofs.AllLaws.{none_in, here, there, first_or}
 use Rattle.edge_rules.specs.declared.edge.Edge.{Edge}
 use Rattle.edge_rules.specs.Edges.{Enters, by_call, by_interrupt, IsEdge, entering, target}
 use Rattle.edge_rules.specs.Views.{AreShown, key_of}
 use Rattle.edge_rules.specs.Expansion.{IsFilled}
-use Rattle.expansion_laws.specs.Laws.{FilledOrMissing}
+use Rattle.edge_laws.specs.Expansions.{FilledOrMissing}
 use Rattle.nesting_bound.specs.declared.graph.Entered.{Entered}
 use Rattle.nesting_bound.specs.declared.graph.GraphInst.{GraphInst}
 use Rattle.nesting_bound.specs.declared.graph.Place.{Place}
@@ -35,13 +35,12 @@ use Rattle.round_rules.specs.Families.{Family, nodes_of, Has, HasInst, HasNoFaul
 use Rattle.round_rules.specs.Rounds.{Entering, AreNeeds, Comes}
 use Rattle.round_rules.specs.Refusals.{IsSolved}
 use Rattle.round_laws.proofs.AllLaws.{has_member, member_has}
-use Rattle.reach_laws.specs.Laws.{IsKept, RoundsAreReached}
+use Rattle.round_laws.specs.Reached.{IsKept, RoundsAreReached}
 use Rattle.witness_search.specs.Chains.{BeginsAtRoot}
 use Rattle.chain_explain.specs.declared.explanation.Explanation.{Explanation}
 use Rattle.chain_explain.specs.Reached.{IsReached, AreReached, at_reset, by_edge}
 use Rattle.chain_explain.specs.Explanation.{Explains}
 use Rattle.chain_explain.specs.Told.{IsOfRounds}
-use Rattle.chain_explain.proofs.Lists.{number_of, contains_at, one_at, get_at}
 
 -- ---- whether a node of the list has the key
 
@@ -54,8 +53,8 @@ held_has [] k h = absurd cc
 held_has (n ∷ nodes) k h = by (held_has nodes k) (same_node n.key k) refl h
   where
     by : (is_held nodes k ≡ true → HasKey nodes k) → (b : Bool) → same_node n.key k ≡ b → cond b true (is_held nodes k) ≡ true → HasKey (n ∷ nodes) k
-    by rest true is e = (n, (here n nodes, (keys_are_ordered.same_nodes n.key k).0 is))
-    by rest false is e = let w = rest e in (w.0, (there n w.0 nodes w.1.0, w.1.1))
+    by rest true is e = (n, (first_in n nodes, (keys_are_ordered.same_nodes n.key k).0 is))
+    by rest false is e = let w = rest e in (w.0, (further_in n w.0 nodes w.1.0, w.1.1))
 
 has_held : (nodes : List Node) (k : NodeKey) → HasKey nodes k → is_held nodes k ≡ true
 has_held [] k h = absurd (none_in h.0 h.1.0)
@@ -65,7 +64,7 @@ has_held (n ∷ nodes) k h = by (has_held nodes k) (same_node n.key k) refl
     by rest true is = refl
     by rest false is =
         ⊎_elim (λ e. absurd (let up = (keys_are_ordered.same_nodes n.key k).1 (ap key_of (sym e) ∙ h.1.1) in cc)) (λ i. rest (h.0, (i, h.1.1)))
-        (first_or n h.0 nodes h.1.0)
+        (first_or_further n h.0 nodes h.1.0)
 
 -- ---- the value of an instance by its number, and 0 where it has none
 
@@ -132,7 +131,7 @@ module _ (words : List ℕ) (A : List Entry) (f : Family) (n : ℕ) (solved : Is
     need_at i inst e = valued_at (insts_of gs) needs i inst family.ascending (least.needs_length ∙ sym (length-map gs (λ g. g.key))) e
 
     number : (m : Node) → Has f m → (i : ℕ) × (slice_get (insts_of gs) i ≡ Some m.key.inst)
-    number m has = number_of (insts_of gs) m.key.inst ((family.insts m.key.inst).1 (m, all_reached m has, refl))
+    number m has = place_of_contained (insts_of gs) m.key.inst ((family.insts m.key.inst).1 (m, all_reached m has, refl))
 
     closed_by : (m : Node) (way : EdgeKind) (inst : InstKey) (back : ℕ) → Enters words A m way inst back → (offset : ℕ) × (m.key.sp ≡ Closed offset)
     closed_by m _ _ _ (by_call offset site clean closed has) = (offset, closed)
@@ -143,7 +142,7 @@ module _ (words : List ℕ) (A : List Entry) (f : Family) (n : ℕ) (solved : Is
         record {
           offsets = λ m offset has closed.
               let i = number m has in
-              let at = number_of reached m (all_reached m has) in
+              let at = place_of_contained reached m (all_reached m has) in
               let p : Place = record { node = at.0; offset = offset } in
               let placed = (family.places i.0 p).1 (record { inst = m.key.inst; is = i.1; place = record { node = m; at = at.1; same = refl; closed = closed } }) in
               let enough = least.are_needs.offsets i.0 p placed in
@@ -151,11 +150,11 @@ module _ (words : List ℕ) (A : List Entry) (f : Family) (n : ℕ) (solved : Is
               omega (arith, enough, e);
           entered = λ a b offset e.
               let i = number e.node e.has in
-              let at = number_of reached e.node (all_reached e.node e.has) in
+              let at = place_of_contained reached e.node (all_reached e.node e.has) in
               let c = closed_by e.node e.way b e.back e.enters in
               let to = lands_at e.node (record { kind = e.way; to = entry_key b; state = entered e.node.state }) e.has (entering e.way b e.back e.enters) in
               let j : (x : ℕ) × (slice_get (insts_of gs) x ≡ Some b) =
-              number_of (insts_of gs) b ((family.insts b).1 (to.0, all_reached to.0 (has_member f to.0 to.1.0), ap (λ (k : NodeKey). k.inst) to.1.1)) in
+              place_of_contained (insts_of gs) b ((family.insts b).1 (to.0, all_reached to.0 (has_member f to.0 to.1.0), ap (λ (k : NodeKey). k.inst) to.1.1)) in
               let edge : Entered = record { node = at.0; offset = c.0; kind = e.way; into = j.0 } in
               let enters = (family.entered i.0 edge).1 (record {
                 inst = e.node.key.inst;

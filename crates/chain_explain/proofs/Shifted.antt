@@ -6,11 +6,11 @@ use Rattle.std.specs.Ordering.{ordering_then}
 use Rattle.std.specs.declared.cmp.Ordering.{Ordering}
 use Rattle.std.specs.declared.cmp.Ordering.TheVariants.{Less, Equal, Greater}
 use Rattle.std.proofs.lemmas.List.{length-map}
-use Rattle.local_laws.proofs.AllLaws.{none_in, here, there, first_or, in_map, each_in_map}
+use Rattle.basics.specs.Items.{only_one_in, inside_if_contained, none_in, first_in, first_or_further}
+use Rattle.local_laws.proofs.AllLaws.{in_map, each_in_map}
 use Rattle.shortest_walk.specs.Graph.{Leads, IsGraph, IsReached, at_start, by_edge}
 use Rattle.shortest_walk.specs.Walk.{GoesOn, IsWalk, IsShortest, IsFirstOfShortest}
 use Rattle.chain_explain.specs.Moves.{IsPortion}
-use Rattle.chain_explain.proofs.Lists.{only, none_past}
 
 -- the number in the whole graph
 abbrev pub lifted : ℕ → ℕ → ℕ
@@ -41,7 +41,7 @@ pub record IsApart (graph : List (List ℕ)) (low high : ℕ) : Type 0 where
 module _ (graph portion : List (List ℕ)) (low high : ℕ) (apart : IsApart graph low high) (is : IsPortion graph low (high - low) portion) where
   leads_up : (i j : ℕ) → Leads portion i j → Leads graph (low + i) (low + j)
   leads_up i j h =
-      let lt : i < high - low = let w = none_past portion i j h in let c = is.count_is in omega (arith, w, c) in
+      let lt : i < high - low = let w = inside_if_contained portion i j h in let c = is.count_is in omega (arith, w, c) in
       let h' = subst (λ (xs : List ℕ). Contains xs j) (is.each i lt) h in
       each_in_map (λ x. x - low) (λ y. Leads graph (low + i) (low + y)) (get_or graph (low + i) [])
       (λ x has.
@@ -58,7 +58,7 @@ module _ (graph portion : List (List ℕ)) (low high : ℕ) (apart : IsApart gra
       record {
         few = let c = is.count_is in let a = apart.inside in let b = apart.few in omega (arith, c, a, b);
         within = λ i j h.
-            let w = none_past portion i j h in
+            let w = inside_if_contained portion i j h in
             let c = is.count_is in
             let b = apart.below (low + i) (low + j) (omega arith) (omega (arith, w, c)) (leads_up i j h) in
             omega (arith, b, c);
@@ -94,7 +94,7 @@ module _ (graph portion : List (List ℕ)) (low high : ℕ) (apart : IsApart gra
           first = low + w.first;
           rest = map (lifted low) w.rest;
           are = ap (map (lifted low)) w.are;
-          begins = subst (λ (x : ℕ). Contains ((low + start) ∷ []) (low + x)) (sym (only start w.first w.begins)) (here (low + start) []);
+          begins = subst (λ (x : ℕ). Contains ((low + start) ∷ []) (low + x)) (sym (only_one_in start w.first w.begins)) (first_in (low + start) []);
           goes = goes_up target w.first w.rest w.goes;
         }
 
@@ -106,12 +106,12 @@ module _ (graph portion : List (List ℕ)) (low high : ℕ) (apart : IsApart gra
 
     walk_down : (nodes : List ℕ) → IsWalk graph ((low + start) ∷ []) (low + target) nodes → LoweredWalk nodes
     walk_down nodes w =
-        let begins : w.first ≡ low + start = only (low + start) w.first w.begins in
+        let begins : w.first ≡ low + start = only_one_in (low + start) w.first w.begins in
         let l = goes_down target start w.rest within (subst (λ (x : ℕ). GoesOn graph (low + target) x w.rest) begins w.goes) in
         record {
           own = start ∷ l.own;
           are = w.are ∙ (λ k. begins k ∷ l.are k);
-          walk = record { first = start; rest = l.own; are = refl; begins = here start []; goes = l.goes };
+          walk = record { first = start; rest = l.own; are = refl; begins = first_in start []; goes = l.goes };
         }
 
     shortest_down : (nodes : List ℕ) (l : LoweredWalk nodes) → IsShortest graph ((low + start) ∷ []) (low + target) nodes → IsShortest portion (start ∷ []) target l.own
@@ -152,7 +152,7 @@ module _ (graph portion : List (List ℕ)) (low high : ℕ) (apart : IsApart gra
       pub reached : IsReached portion (start ∷ []) own
 
     pub reached_below : (i : ℕ) → IsReached graph ((low + start) ∷ []) i → ReachedBelow i
-    reached_below i (at_start _ h) = record { own = start; is_own = only (low + start) i h; inside = within; reached = at_start start (here start []) }
+    reached_below i (at_start _ h) = record { own = start; is_own = only_one_in (low + start) i h; inside = within; reached = at_start start (first_in start []) }
     reached_below j (by_edge i _ r leads) =
         let b = reached_below i r in
         let at : Leads graph (low + b.own) j = subst (λ (x : ℕ). Leads graph x j) b.is_own leads in
@@ -171,9 +171,9 @@ module _ (graph portion : List (List ℕ)) (low high : ℕ) (apart : IsApart gra
 inside_on : (graph : List (List ℕ)) (target i : ℕ) (rest : List ℕ) → IsGraph graph → GoesOn graph target i rest → (j : ℕ) → Contains rest j → j < length graph
 inside_on graph target i [] is goes j h = absurd (none_in j h)
 inside_on graph target i (k ∷ rest) is goes j h =
-    ⊎_elim (λ e. subst (λ x. x < length graph) (sym e) (is.within i k goes.0)) (inside_on graph target k rest is goes.1 j) (first_or k j rest h)
+    ⊎_elim (λ e. subst (λ x. x < length graph) (sym e) (is.within i k goes.0)) (inside_on graph target k rest is goes.1 j) (first_or_further k j rest h)
 
 pub walk_inside : (graph : List (List ℕ)) (start target : ℕ) (nodes : List ℕ) → IsGraph graph → start < length graph → IsWalk graph (start ∷ []) target nodes → (j : ℕ) → Contains nodes j → j < length graph
 walk_inside graph start target nodes is lt w j h =
-    ⊎_elim (λ e. subst (λ x. x < length graph) (sym (e ∙ only start w.first w.begins)) lt) (inside_on graph target w.first w.rest is w.goes j)
-    (first_or w.first j w.rest (subst (λ xs. Contains xs j) w.are h))
+    ⊎_elim (λ e. subst (λ x. x < length graph) (sym (e ∙ only_one_in start w.first w.begins)) lt) (inside_on graph target w.first w.rest is w.goes j)
+    (first_or_further w.first j w.rest (subst (λ xs. Contains xs j) w.are h))

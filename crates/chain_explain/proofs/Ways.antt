@@ -2,6 +2,8 @@
 use Rattle.std.proofs.Common.{◌≡◌, refl, sym, ap, ◌∙◌, subst, ℕ, zero, suc, ◌+◌, ◌-◌, ◌<◌, ◌≤◌, ◌⊎◌, ⊎_elim, Bool, true, false, List, [], ◌∷◌, length, map, get_or, Option, Some, None, slice_get, Contains, arith}
 use Rattle.std.specs.Prelude.{◌↔◌}
 use Rattle.std.proofs.lemmas.Option.{slice_get_within}
+use Rattle.basics.specs.Items.{place_of_contained, only_one_in, first_in}
+use Rattle.edge_rules.specs.Places.{FoundAt, found_at}
 use Rattle.avr_model.specs.declared.assumption.Entry.{Entry}
 use Rattle.abs_state.specs.Frames.{entered}
 use Rattle.mask_states.specs.declared.keys.InstKey.{InstKey}
@@ -11,7 +13,6 @@ use Rattle.mask_states.specs.declared.keys.EdgeKind.TheVariants as kind
 use Rattle.mask_states.specs.Keys.{root_inst, entry_key}
 use Rattle.local_rules.specs.declared.local.Node.{Node}
 use Rattle.local_laws.specs.Laws.{HasKey}
-use Rattle.local_laws.proofs.AllLaws.{here}
 use Rattle.edge_rules.specs.declared.edge.Edge.{Edge}
 use Rattle.edge_rules.specs.Edges.{Enters, IsEdge, moving, entering, returning}
 use Rattle.edge_rules.specs.Views.{AreShown, IsSpan, place_of}
@@ -22,8 +23,7 @@ use Rattle.chain_explain.specs.Reached.{IsReached, at_reset, by_edge}
 use Rattle.chain_explain.specs.Walks as walks
 use Rattle.chain_explain.specs.Walks.{is_move, MovesTo, Begins, IsStart, pc_at, IsWay}
 use Rattle.chain_explain.specs.Moves.{IsPortion, AreMoves}
-use Rattle.chain_explain.proofs.Lists.{number_of, contains_at, one_at, only}
-use Rattle.chain_explain.proofs.Numbers.{FoundAt, found_at, same_number, none_has}
+use Rattle.chain_explain.proofs.Numbers.{same_number, none_has}
 use Rattle.chain_explain.proofs.Edges.{stays}
 use Rattle.chain_explain.proofs.Shifted.{lifted, IsApart, first_up, reached_below, ReachedBelow}
 use Rattle.chain_explain.proofs.Shifted as shifted
@@ -63,13 +63,13 @@ module _ (words : List ℕ) (A : List Entry) (nodes : List Node) (shown : AreSho
 
     pub moves_reach : (k : NodeKey) → IsReached words A nodes k → (i start : ℕ) (n first : Node) → slice_get nodes i ≡ Some n → n.key ≡ k → slice_get nodes start ≡ Some first
         → first.key ≡ entry_key k.inst → walk.IsReached moves (start ∷ []) i
-    moves_reach _ at_reset i start n first e same f is = walk.at_start i (subst (Contains (start ∷ [])) (same_number nodes shown.ascending start i first n f e (is ∙ sym same)) (here start []))
+    moves_reach _ at_reset i start n first e same f is = walk.at_start i (subst (Contains (start ∷ [])) (same_number nodes shown.ascending start i first n f e (is ∙ sym same)) (first_in start []))
     moves_reach _ (by_edge m edge has r is_edge) i start n first e same f is =
         onward (λ p at begins. moves_reach m.key r p start m first at refl f begins) edge is_edge same is
       where
         move : ((p : ℕ) → slice_get nodes p ≡ Some m → first.key ≡ entry_key m.key.inst → walk.IsReached moves (start ∷ []) p) → (d : Edge) → IsEdge words A nodes m d → is_move d.kind ≡ true → n.key ≡ d.to → first.key ≡ entry_key d.to.inst → walk.IsReached moves (start ∷ []) i
         move before d is_d moves_d to begins =
-            let p = number_of nodes m has in
+            let p = place_of_contained nodes m has in
             let stay = stays words A nodes shown m d has is_d moves_d in
             walk.by_edge p.0 i (before p.0 p.1 (begins ∙ ap entry_key stay))
             ((are.exact p.0 i).1
@@ -89,7 +89,7 @@ module _ (words : List ℕ) (A : List Entry) (nodes : List Node) (shown : AreSho
         onward before _ (moving to clean member) to_is begins =
             move before (record { kind = kind.Local; to = to.key; state = to.state }) (moving to clean member) refl to_is begins
         onward before _ (entering way inst back enters) to_is begins =
-            walk.at_start i (subst (Contains (start ∷ [])) (same_number nodes shown.ascending start i first n f e (begins ∙ sym to_is)) (here start []))
+            walk.at_start i (subst (Contains (start ∷ [])) (same_number nodes shown.ascending start i first n f e (begins ∙ sym to_is)) (first_in start []))
         onward before _ (returning way inst back leaver x state enters present at clean exit is_state) to_is begins =
             move before _ (returning way inst back leaver x state enters present at clean exit is_state) refl to_is begins
 
@@ -170,14 +170,14 @@ module _ (words : List ℕ) (A : List Entry) (nodes : List Node) (shown : AreSho
               starts_at i h =
                   record {
                     node = first.node;
-                    at = subst (λ (x : ℕ). slice_get nodes x ≡ Some first.node) (sym (only start i h)) first.is;
+                    at = subst (λ (x : ℕ). slice_get nodes x ≡ Some first.node) (sym (only_one_in start i h)) first.is;
                     begins = subst (Begins words A nodes k.inst) (sym first.same) (begins_of k reached);
                   }
 
               at_starts : (i : ℕ) → IsStart words A nodes k.inst i → Contains (start ∷ []) i
               at_starts i s =
                   let e = same_number nodes shown.ascending start i first.node s.node first.is s.at (first.same ∙ sym (only_entry k.inst s.node.key s.begins)) in
-                  subst (Contains (start ∷ [])) e (here start [])
+                  subst (Contains (start ∷ [])) e (first_in start [])
 
           -- of each number of the key
           pub is_way_to : (numbers words' : List ℕ) → IsFirstOfShortest graph ((start - low) ∷ []) (target - low) numbers → words' ≡ map (λ i. pc_at nodes (low + i)) numbers

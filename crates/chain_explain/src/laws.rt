@@ -2,8 +2,8 @@
 
 ghost use Rattle.chain_explain.specs.Laws.{ExplanationsAreOne, ExplanationsTell};
 
-use expansion_laws::laws::filled_or_missing;
-use reach_laws::laws::rounds_are_reached;
+use edge_laws::expansions::filled_or_missing;
+use round_laws::reaching::rounds_are_reached;
 use witness_search::laws::{deepest_chains_are_bounded, deepest_chains_are_one};
 
 /// A certificate has at most one explanation.

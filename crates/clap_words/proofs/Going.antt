@@ -3,6 +3,9 @@ use Rattle.std.proofs.Common.{◌≡◌, ℕ, suc, ◌||◌, ◌&&◌, not, nat_
 use Rattle.std.specs.List.{list_all}
 use Rattle.std.specs.Option.{option_map_or}
 use Rattle.std.specs.Str.{bytes_eq}
+use Rattle.basics.specs.Booleans.{or_with_false, or_with_true, and_with_false}
+use Rattle.std.proofs.lemmas.Bool.{and_from}
+use Rattle.std.proofs.lemmas.Option.{none-some}
 use Rattle.clap.specs.declared.parser.matches.ValueSource.TheVariants.{CommandLine}
 use Rattle.clap.specs.declared.builder.value_parser.Reading.{Reading}
 use Rattle.clap.specs.Words.{Shape, Text, Rule}
@@ -11,8 +14,7 @@ use Rattle.clap.specs.Takes.{use_passes, settle_passes, react_passes, positional
 use Rattle.commands.specs.declared.line.Valued.{Valued}
 use Rattle.commands.specs.declared.line.Valued.TheVariants.{Assume, Steps, Device}
 use Rattle.commands.specs.Commands.{Line, named, waiting, with_value, with_json}
-use Rattle.clap_words.proofs.Levels.{both_true}
-use Rattle.clap_words.proofs.Pieces.{Piece, Named, Given, Marked, option_name, all_added, value_of, valued, gets, marks, same_value, Stays, stays, some_is, no_line}
+use Rattle.clap_words.proofs.Pieces.{Piece, Named, Given, Marked, option_name, all_added, value_of, valued, gets, marks, same_value, Stays, stays, some_is}
 use Rattle.clap_words.proofs.Steps.{goes, final, begun, name_goes, value_goes, option_goes, flag_goes}
 use Rattle.clap_words.proofs.Rows.{is_explicit, new_row, has_row_end, explicit_end, is_given_here, finally_given}
 
@@ -99,23 +101,11 @@ pub record Shows (id : Text) (line : Line) (rows : List Row) : Type 0 where
   pub explicit : list_all is_explicit rows ≡ true
   pub order : is_some line.second ≡ true → is_some line.first ≡ true
 
-or_false : (a : Bool) → (a || false) ≡ a
-or_false true = refl
-or_false false = refl
-
-or_true : (a : Bool) → (a || true) ≡ true
-or_true true = refl
-or_true false = refl
-
-and_false : (a : Bool) → (a && false) ≡ false
-and_false true = refl
-and_false false = refl
-
 keeps : (id : Text) (r : Row) (rows : List Row) (b : Bool) → has_row id rows ≡ b → bytes_eq r.id id ≡ false → has_row id (rows ++ r ∷ []) ≡ b
-keeps id r rows b h e = has_row_end id r rows ∙ ap₂ (λ (x y : Bool). x || y) h e ∙ or_false b
+keeps id r rows b h e = has_row_end id r rows ∙ ap₂ (λ (x y : Bool). x || y) h e ∙ or_with_false b
 
 gains : (id : Text) (r : Row) (rows : List Row) → bytes_eq r.id id ≡ true → has_row id (rows ++ r ∷ []) ≡ true
-gains id r rows e = has_row_end id r rows ∙ ap (λ (y : Bool). has_row id rows || y) e ∙ or_true (has_row id rows)
+gains id r rows e = has_row_end id r rows ∙ ap (λ (y : Bool). has_row id rows || y) e ∙ or_with_true (has_row id rows)
 
 abbrev with_first : Line → Text → Line
 with_first line word = record line { first = Some word }
@@ -235,13 +225,13 @@ module _ (s : Shape) (w : Allows) (id : Text) (level : IsLevel s w id) where
   name_goes_on i name word p h later e free go =
       let held : positional_held s.rules p.rule word h ≡ kept p.rule word h =
       ap (λ (t : Bool). pushed p.rule.id word (cond (is_pending p.rule h.pending && t) h (settled s.rules h))) p.single
-      ∙ ap (λ (t : Bool). pushed p.rule.id word (cond t h (settled s.rules h))) (and_false (is_pending p.rule h.pending)) in
+      ∙ ap (λ (t : Bool). pushed p.rule.id word (cond t h (settled s.rules h))) (and_with_false (is_pending p.rule h.pending)) in
       let passes : positional_passes s.rules s.args_override_self p.rule h ≡ true =
-      ap (λ (t : Bool). (is_pending p.rule h.pending && takes_several p.rule) || t) e ∙ or_true (is_pending p.rule h.pending && takes_several p.rule) in
+      ap (λ (t : Bool). (is_pending p.rule h.pending && takes_several p.rule) || t) e ∙ or_with_true (is_pending p.rule h.pending && takes_several p.rule) in
       ap (λ (o : Option Rule). name_goes s h i word o later) p.found
-      ∙ both_true (positional_passes s.rules s.args_override_self p.rule h) _ passes
-      (both_true (not (is_multiple p.rule)) _ (ap not p.one)
-      (both_true (not p.rule.trailing_var_arg) _ (ap not p.last)
+      ∙ and_from (positional_passes s.rules s.args_override_self p.rule h) _ passes
+      (and_from (not (is_multiple p.rule)) _ (ap not p.one)
+      (and_from (not p.rule.trailing_var_arg) _ (ap not p.last)
       (ap₂ later held p.next ∙ go (kept p.rule word h) (value_settles p.rule name word h p.usable free) (value_rows p.rule name word h p.usable free))))
 
   option_goes_on : (name word : Text) (p : IsOption s name) (h : Held) (later : Held → Bool) → settles s h ≡ true → has_row name (rows_at s h) ≡ false
@@ -249,10 +239,10 @@ module _ (s : Shape) (w : Allows) (id : Text) (level : IsLevel s w id) where
       → option_goes s h word (arg_by_long s.rules name) later ≡ true
   option_goes_on name word p h later e free go =
       ap (λ (o : Option Rule). option_goes s h word o later) p.found
-      ∙ both_true (takes_values p.rule) _ p.takes
-      (both_true (settles s h) _ e
+      ∙ and_from (takes_values p.rule) _ p.takes
+      (and_from (settles s h) _ e
       (ap (λ (o : Option Rule). value_goes (begun s.rules p.rule h) p.rule.id word o later) p.usable.found
-      ∙ both_true (not (nat_lt (pending_count p.rule (Some (p.rule.id, word ∷ []))) (most_values p.rule))) _ (p.one word)
+      ∙ and_from (not (nat_lt (pending_count p.rule (Some (p.rule.id, word ∷ []))) (most_values p.rule))) _ (p.one word)
       (go (kept p.rule word h) (value_settles p.rule name word h p.usable free) (value_rows p.rule name word h p.usable free))))
 
   flag_goes_on : (name : Text) (p : IsFlag s name) (h : Held) (later : Held → Bool) → settles s h ≡ true → has_row name (rows_at s h) ≡ false
@@ -260,8 +250,8 @@ module _ (s : Shape) (w : Allows) (id : Text) (level : IsLevel s w id) where
       → flag_goes s h (arg_by_long s.rules name) later ≡ true
   flag_goes_on name p h later e free go =
       ap (λ (o : Option Rule). flag_goes s h o later) p.found
-      ∙ both_true (not (takes_values p.rule)) _ (ap not p.takes)
-      (both_true (react_passes s.rules s.args_override_self p.rule [] h) _ (both_true (settles s h) _ e (p.passes (rows_at s h) free))
+      ∙ and_from (not (takes_values p.rule)) _ (ap not p.takes)
+      (and_from (react_passes s.rules s.args_override_self p.rule [] h) _ (and_from (settles s h) _ e (p.passes (rows_at s h) free))
       (go (reacted s.rules p.rule [] h) refl (p.adds (rows_at s h) ∙ new_row name p.how CommandLine p.values (rows_at s h) free)))
 
   -- ---- all pieces
@@ -274,8 +264,8 @@ module _ (s : Shape) (w : Allows) (id : Text) (level : IsLevel s w id) where
 
   ends : (line : Line) (h : Held) → settles s h ≡ true → Shows id line (rows_at s h) → IsWanted w line → final s h ≡ true
   ends line h e k n =
-      both_true (settles s h) _ e
-      (both_true (list_all default_passes s.rules) _ level.defaults
+      and_from (settles s h) _ e
+      (and_from (list_all default_passes s.rules) _ level.defaults
       (level.valid (finished s.rules h) (finally_given id s.rules (rows_at s h) (is_given_here id (rows_at s h) k.explicit (k.first ∙ n.first)))
       (λ t. finally_given (codes "second") s.rules (rows_at s h) (is_given_here (codes "second") (rows_at s h) k.explicit (k.second ∙ n.second ∙ t)))))
 
@@ -299,14 +289,14 @@ module _ (s : Shape) (w : Allows) (id : Text) (level : IsLevel s w id) where
       name_goes_on 2 (codes "second") (b ∷ bs) p h (λ k j. goes s k j ps) e (k.second ∙ ap is_some is_t)
       (λ m me mr. ap (λ (o : Option Text). goes s m (position o (Some (b ∷ bs))) ps) (sym is_f)
       ∙ go (with_second line (b ∷ bs)) l m me (subst (Shows id (with_second line (b ∷ bs))) (sym mr) (shows_second line (b ∷ bs) (rows_at s h) p.usable.how (ap is_some is_f) k)) all n)
-  name_goes_by ps go b bs line l h (Some x) (Some y) is_f is_t e k all n = absurd (no_line l all)
+  name_goes_by ps go b bs line l h (Some x) (Some y) is_f is_t e k all n = absurd (none-some l all)
 
   given_goes : (ps : List Piece) → Goes ps → (v : Valued) (b : ℕ) (bs : List ℕ) (line l : Line) (h : Held) → settles s h ≡ true → Shows id line (rows_at s h)
       → all_added (with_value v (waiting line v) (b ∷ bs)) ps ≡ Some l → IsWanted w l → goes s h (position line.first line.second) (Given v b bs ∷ ps) ≡ true
   unfolding Goes goes
   given_goes ps go v b bs line l h e k all n = by (with_value v (waiting line v) (b ∷ bs)) refl all where
     by : (o : Option Line) → with_value v (waiting line v) (b ∷ bs) ≡ o → all_added o ps ≡ Some l → goes s h (position line.first line.second) (Given v b bs ∷ ps) ≡ true
-    by None is all = absurd (no_line l all)
+    by None is all = absurd (none-some l all)
     by (Some next) is all =
         let is_next : next ≡ valued v line (b ∷ bs) = (gets v line next (b ∷ bs) is).is in
         let on : all_added (Some (valued v line (b ∷ bs))) ps ≡ Some l = subst (λ (x : Line). all_added (Some x) ps ≡ Some l) is_next all in
@@ -325,7 +315,7 @@ module _ (s : Shape) (w : Allows) (id : Text) (level : IsLevel s w id) where
   unfolding Goes goes
   marked_goes ps go line l h e k all n = by (with_json line) refl all where
     by : (o : Option Line) → with_json line ≡ o → all_added o ps ≡ Some l → goes s h (position line.first line.second) (Marked ∷ ps) ≡ true
-    by None is all = absurd (no_line l all)
+    by None is all = absurd (none-some l all)
     by (Some next) is all =
         let on : all_added (Some (with_flag line)) ps ≡ Some l = subst (λ (x : Line). all_added (Some x) ps ≡ Some l) (marks line next is).is all in
         let p : IsFlag s (codes "json") = level.json (n.json ((stays ps (with_flag line) l on).json refl)) in

@@ -2,6 +2,7 @@
 use Rattle.std.proofs.Common.{◌≡◌, ◌&&◌, List, [], ◌∷◌, ◌++◌, Bool, true, false, Some, refl, ap, sym, ◌∙◌, codes, append_assoc, append-nil, is_some}
 use Rattle.std.specs.Prelude.{find, fold}
 use Rattle.std.specs.List.{list_all}
+use Rattle.std.proofs.lemmas.Bool.{and_from}
 use Rattle.clap.specs.Words.{App, Shape, Text, Rule, takes}
 use Rattle.clap.specs.Walk.{Names, Walk, idle, walked, walk, walk_from, nothing_held, finished, answers_to}
 use Rattle.clap.specs.Simple.{built, built_leaf, inherited, label_of, names_of, entered}
@@ -16,10 +17,6 @@ below app = built_leaf (inherited bare_app.top app.top)
 -- its own level takes the words
 abbrev pub level_takes : Shape → List Text → Bool
 level_takes s ws = level_passes s [] nothing_held ws false
-
-pub both_true : (a b : Bool) → a ≡ true → b ≡ true → (a && b) ≡ true
-both_true true b e f = f
-both_true false b e f = e
 
 -- the walk that stopped at a command
 abbrev stopped_at : Text → List Text → Walk
@@ -57,15 +54,15 @@ built_takes_named a name s ws k h =
     let ends : walk a.top.rules (names_of a) nothing_held (name ∷ ws) ≡ stopped_at name ws =
     ap (λ (w : Walk). fold (walked a.top.rules (names_of a)) w ws) k.stops ∙ stopped_walk a.top.rules (names_of a) name [] ws in
     let walks : walk_passes a.top (names_of a) (walk_from nothing_held) (name ∷ ws) ≡ true =
-    both_true (turn_passes a.top (names_of a) (walk_from nothing_held) name) _ k.passes
+    and_from (turn_passes a.top (names_of a) (walk_from nothing_held) name) _ k.passes
     (ap (λ (w : Walk). walk_passes a.top (names_of a) w ws) k.stops ∙ stopped_passes a.top (names_of a) name [] ws) in
     let enters : entered_passes a (Some (name, ws)) ≡ true = rw k.found h in
     let valid : is_valid a.top (finished a.top.rules nothing_held) (is_some (entered a (Some (name, ws)))) ≡ true = rw k.found k.valid in
     ap (after a (name ∷ ws)) ends
-    ∙ both_true (entered_passes a (Some (name, ws))) _ enters
-    (both_true (walk_passes a.top (names_of a) (walk_from nothing_held) (name ∷ ws)) _ walks
-    (both_true (settle_passes a.top.rules a.top.args_override_self nothing_held) _ k.settles
-    (both_true (list_all default_passes a.top.rules) _ k.defaults valid)))
+    ∙ and_from (entered_passes a (Some (name, ws))) _ enters
+    (and_from (walk_passes a.top (names_of a) (walk_from nothing_held) (name ∷ ws)) _ walks
+    (and_from (settle_passes a.top.rules a.top.args_override_self nothing_held) _ k.settles
+    (and_from (list_all default_passes a.top.rules) _ k.defaults valid)))
 
 named_check : IsNamed (built line_app) (codes "check") (below check_app)
 unfolding clap_on_literals

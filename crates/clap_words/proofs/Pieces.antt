@@ -3,9 +3,10 @@ use Rattle.std.proofs.Common.{◌≡◌, ℕ, ◌==◌, List, [], ◌∷◌, ◌
 use Rattle.std.specs.Prelude.{⊤}
 use Rattle.std.specs.Str.{bytes_eq}
 use Rattle.std.proofs.lemmas.Slice.Eq.{bytes_eq-Decides}
+use Rattle.std.proofs.lemmas.Option.{none-some}
 use Rattle.commands.specs.declared.line.Valued.{Valued}
 use Rattle.commands.specs.declared.line.Valued.TheVariants.{Assume, Steps, Device}
-use Rattle.commands.specs.Commands.{Command, Line, is_name, once, with_assume, with_steps, with_device, with_value, with_json, named, waiting, with_free, placed, then_words}
+use Rattle.commands.specs.Commands.{Line, is_name, once, with_assume, with_steps, with_device, with_value, with_json, named, waiting, with_free, placed, then_words}
 
 -- a name, an option with its value, and the option without one; texts by their first byte
 pub data Piece : Type 0 where
@@ -55,9 +56,6 @@ all_added (Some line) (p ∷ ps) = all_added (added line p) ps
 
 -- ---- what a piece adds
 
-pub no_line : (l : Line) → ◌≡◌ {A = Option Line} None (Some l) → ⊥
-no_line l e = cc
-
 pub some_is : (a b : Line) → ◌≡◌ {A = Option Line} (Some a) (Some b) → a ≡ b
 some_is a b e = cc
 
@@ -81,15 +79,15 @@ pub gets : (v : Valued) (line next : Line) (word : List ℕ) → with_value v (w
 gets Assume line next word e = by line.assume refl e where
   by : (o : Option (List ℕ)) → line.assume ≡ o → with_assume (waiting line Assume) (once o word) ≡ Some next → Gets Assume line next word
   by None is e = record { had = is; is = sym (some_is (valued Assume line word) next e) }
-  by (Some x) is e = absurd (no_line next e)
+  by (Some x) is e = absurd (none-some next e)
 gets Steps line next word e = by line.steps refl e where
   by : (o : Option (List ℕ)) → line.steps ≡ o → with_steps (waiting line Steps) (once o word) ≡ Some next → Gets Steps line next word
   by None is e = record { had = is; is = sym (some_is (valued Steps line word) next e) }
-  by (Some x) is e = absurd (no_line next e)
+  by (Some x) is e = absurd (none-some next e)
 gets Device line next word e = by line.device refl e where
   by : (o : Option (List ℕ)) → line.device ≡ o → with_device (waiting line Device) (once o word) ≡ Some next → Gets Device line next word
   by None is e = record { had = is; is = sym (some_is (valued Device line word) next e) }
-  by (Some x) is e = absurd (no_line next e)
+  by (Some x) is e = absurd (none-some next e)
 
 pub record Marks (line next : Line) : Type 0 where
   pub had : line.json ≡ false
@@ -98,7 +96,7 @@ pub record Marks (line next : Line) : Type 0 where
 pub marks : (line next : Line) → with_json line ≡ Some next → Marks line next
 marks line next e = by line.json refl e where
   by : (b : Bool) → line.json ≡ b → cond b None (Some (record line { json = true })) ≡ Some next → Marks line next
-  by true is e = absurd (no_line next e)
+  by true is e = absurd (none-some next e)
   by false is e = record { had = is; is = sym (some_is (record line { json = true }) next e) }
 
 -- no option waits on a line, and none does after a piece
@@ -110,7 +108,7 @@ value_rests Device line word = refl
 named_rests : (first second : Option (List ℕ)) (line next : Line) (word : List ℕ) → named first second line word ≡ Some next → line.waits ≡ None → next.waits ≡ None
 named_rests None second line next word e h = ap (λ (x : Line). x.waits) (sym (some_is (record line { first = Some word }) next e)) ∙ h
 named_rests (Some x) None line next word e h = ap (λ (x : Line). x.waits) (sym (some_is (record line { second = Some word }) next e)) ∙ h
-named_rests (Some x) (Some y) line next word e h = absurd (no_line next e)
+named_rests (Some x) (Some y) line next word e h = absurd (none-some next e)
 
 added_rests : (line next : Line) (p : Piece) → added line p ≡ Some next → line.waits ≡ None → next.waits ≡ None
 added_rests line next (Named b bs) e h = named_rests line.first line.second line next (b ∷ bs) e h
@@ -131,10 +129,6 @@ none_words (w ∷ ws) l e = cc
 
 none_waits : {v : Valued} → ◌≡◌ {A = Option Valued} (Some v) None → ⊥
 none_waits e = cc
-
-pub is_false : (b : Bool) → not b ≡ true → b ≡ false
-is_false true e = cc
-is_false false e = refl
 
 is_text : (w t : List ℕ) → bytes_eq w t ≡ true → w ≡ t
 is_text w t h = (bytes_eq-Decides w t).0 h
@@ -270,7 +264,7 @@ named_stays (Some x) None line next word f s e = subst (Stays line) (some_is (re
   given = λ v h. ap is_some (same_value v line (record line { second = Some word }) refl refl refl) ∙ h;
   json = λ h. h;
 })
-named_stays (Some x) (Some y) line next word f s e = absurd (no_line next e)
+named_stays (Some x) (Some y) line next word f s e = absurd (none-some next e)
 
 marked_stays : (line : Line) → Stays line (record line { json = true })
 marked_stays line = record {
@@ -297,5 +291,5 @@ pub stays : (ps : List Piece) (line l : Line) → all_added (Some line) ps ≡ S
 stays [] line l e = subst (Stays line) (some_is line l e) (itself line)
 stays (p ∷ ps) line l e = by (λ next. stays ps next l) (added line p) refl e where
   by : ((next : Line) → all_added (Some next) ps ≡ Some l → Stays next l) → (o : Option Line) → added line p ≡ o → all_added o ps ≡ Some l → Stays line l
-  by later None is e = absurd (no_line l e)
+  by later None is e = absurd (none-some l e)
   by later (Some next) is e = through line next l (stays_one line p next is) (later next e)

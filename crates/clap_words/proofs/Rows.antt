@@ -4,6 +4,8 @@ use Rattle.std.specs.Prelude.{find, fold}
 use Rattle.std.specs.List.{list_any, list_all}
 use Rattle.std.specs.Option.{option_map_or}
 use Rattle.std.specs.Str.{bytes_eq}
+use Rattle.std.proofs.lemmas.Bool.{or_parts, and_parts}
+use Rattle.basics.specs.Booleans.{or_with_false}
 use Rattle.clap.specs.declared.parser.matches.ValueSource.{ValueSource}
 use Rattle.clap.specs.declared.parser.matches.ValueSource.TheVariants.{DefaultValue}
 use Rattle.clap.specs.declared.builder.value_parser.Reading.{Reading}
@@ -16,14 +18,10 @@ use Rattle.clap.specs.Takes.{is_given}
 abbrev pub is_explicit : Row → Bool
 is_explicit r = explicit_source r.source
 
-not_here : (a b : Bool) → (a || b) ≡ false → (a ≡ false) × (b ≡ false)
-not_here true b e = absurd (cc)
-not_here false b e = (refl, e)
-
 missing_row : (id : Text) (change : Row → List Row) (missing rows : List Row) → has_row id rows ≡ false → at_row id change missing rows ≡ rows ++ missing
 missing_row id change missing [] h = refl
 missing_row id change missing (r ∷ rs) h =
-    let k : (bytes_eq r.id id ≡ false) × (has_row id rs ≡ false) = not_here (bytes_eq r.id id) (has_row id rs) h in
+    let k : (bytes_eq r.id id ≡ false) × (has_row id rs ≡ false) = or_parts (bytes_eq r.id id) (has_row id rs) h in
     ap (λ (b : Bool). cond b (change r ++ rs) (r ∷ at_row id change missing rs)) k.0 ∙ ap (λ (xs : List Row). r ∷ xs) (missing_row id change missing rs k.1)
 
 -- values of an argument that has none are a row at the end
@@ -37,30 +35,22 @@ either_true : (a b c : Bool) → (a || (b || c)) ≡ ((a || b) || c)
 either_true true b c = refl
 either_true false b c = refl
 
-or_false : (a : Bool) → (a || false) ≡ a
-or_false true = refl
-or_false false = refl
-
 pub has_row_end : (id : Text) (r : Row) (rows : List Row) → has_row id (rows ++ r ∷ []) ≡ (has_row id rows || bytes_eq r.id id)
-has_row_end id r [] = or_false (bytes_eq r.id id)
+has_row_end id r [] = or_with_false (bytes_eq r.id id)
 has_row_end id r (q ∷ qs) = ap (λ (b : Bool). bytes_eq q.id id || b) (has_row_end id r qs) ∙ either_true (bytes_eq q.id id) (has_row id qs) (bytes_eq r.id id)
-
-and_both : (a b : Bool) → (a && b) ≡ true → (a ≡ true) × (b ≡ true)
-and_both true b e = (refl, e)
-and_both false b e = absurd (cc)
 
 pub explicit_end : (r : Row) (rows : List Row) → list_all is_explicit rows ≡ true → is_explicit r ≡ true → list_all is_explicit (rows ++ r ∷ []) ≡ true
 explicit_end r [] h k = ap (λ (b : Bool). b && true) k
 explicit_end r (q ∷ qs) h k =
-    let p : (is_explicit q ≡ true) × (list_all is_explicit qs ≡ true) = and_both (is_explicit q) (list_all is_explicit qs) h in
+    let p : (is_explicit q ≡ true) × (list_all is_explicit qs ≡ true) = and_parts (is_explicit q) (list_all is_explicit qs) h in
     ap (λ (b : Bool). b && list_all is_explicit (qs ++ r ∷ [])) p.0 ∙ explicit_end r qs p.1 k
 
 -- an argument with a row of the command line is given
 pub is_given_here : (id : Text) (rows : List Row) → list_all is_explicit rows ≡ true → has_row id rows ≡ true → is_given id rows ≡ true
 is_given_here id [] h k = absurd (cc)
-is_given_here id (r ∷ rs) h k = by (is_given_here id rs (and_both (is_explicit r) (list_all is_explicit rs) h).1) (bytes_eq r.id id) refl k where
+is_given_here id (r ∷ rs) h k = by (is_given_here id rs (and_parts (is_explicit r) (list_all is_explicit rs) h).1) (bytes_eq r.id id) refl k where
   p : (is_explicit r ≡ true) × (list_all is_explicit rs ≡ true)
-  p = and_both (is_explicit r) (list_all is_explicit rs) h
+  p = and_parts (is_explicit r) (list_all is_explicit rs) h
 
   by : (has_row id rs ≡ true → is_given id rs ≡ true) → (b : Bool) → bytes_eq r.id id ≡ b → (b || has_row id rs) ≡ true → is_given id (r ∷ rs) ≡ true
   by later true is k = ap (λ (b : Bool). option_map_or is_explicit (cond b (Some r) (find (λ r. bytes_eq r.id id) rs)) false) is ∙ p.0

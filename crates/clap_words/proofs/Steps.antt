@@ -4,11 +4,12 @@ use Rattle.std.specs.Prelude.{fold, if◌then◌else◌}
 use Rattle.std.specs.List.{list_all}
 use Rattle.std.specs.Option.{option_map_or}
 use Rattle.std.specs.Str.{bytes_eq}
+use Rattle.std.proofs.lemmas.Bool.{and_parts, not-true, and_from}
 use Rattle.clap.specs.Lexer.{long_of, short_of}
 use Rattle.clap.specs.Words.{Shape, Text, Rule}
 use Rattle.clap.specs.Walk.{Held, Waiting, Walk, Step, idle, option, positional, trailing, value, walked, walk_from, nothing_held, finished, long_or_other, short_or_plain, long_met, option_met, flag_met, after_flag, after_step, to_positional, positional_held, next_position, is_multiple, arg_by_index, arg_by_long, arg_by_id, takes_values, most_values, Outcome, settled, reacted, pushed, pending_count, option_word}
 use Rattle.clap.specs.Takes.{turn_passes, walk_passes, step_passes, positional_passes, flag_word_passes, bundle_passes, long_passes, option_passes, react_passes, settle_passes, default_passes, is_valid}
-use Rattle.clap_words.proofs.Levels.{level_takes, both_true}
+use Rattle.clap_words.proofs.Levels.{level_takes}
 use Rattle.commands.specs.declared.line.Valued.{Valued}
 use Rattle.commands.specs.declared.line.Valued.TheVariants.{Assume, Steps, Device}
 use Rattle.clap_words.proofs.Pieces.{Piece, Named, Given, Marked, option_name, spelled, all_words, AreFit}
@@ -62,7 +63,7 @@ record Taken (s : Shape) (w : Walk) (ws : List Text) : Type 0 where
 step : (s : Shape) (w after_word : Walk) (word : Text) (ws : List Text) → turn_passes s [] w word ≡ true → walked s.rules [] w word ≡ after_word → Taken s after_word ws → Taken s w (word ∷ ws)
 unfolding walk_passes
 step s w after_word word ws turn e k = record {
-  passes = both_true (turn_passes s [] w word) _ turn (ap (λ (x : Walk). walk_passes s [] x ws) e ∙ k.passes);
+  passes = and_from (turn_passes s [] w word) _ turn (ap (λ (x : Walk). walk_passes s [] x ws) e ∙ k.passes);
   ends = ap (λ (x : Walk). final s (fold (walked s.rules []) x ws).held) e ∙ k.ends;
 }
 
@@ -131,14 +132,6 @@ value_walked s h id i b bs n =
 
 -- ---- options
 
-split : (a b : Bool) → (a && b) ≡ true → (a ≡ true) × (b ≡ true)
-split true b e = (refl, e)
-split false b e = absurd (cc)
-
-is_not : (b : Bool) → not b ≡ true → b ≡ false
-is_not true e = absurd (cc)
-is_not false e = refl
-
 abbrev long_turn : Shape → Held → ℕ → Text → Option Rule → Bool
 long_turn s h i word a =
     long_passes s.rules s.args_override_self a None h
@@ -159,7 +152,7 @@ option_turn s h i word name a d l is v p =
     ∙ ap (long_turn s h i word) is
     ∙ ap (λ (t : Bool). (if t then option_passes s.rules s.args_override_self a None h else (not false && react_passes s.rules s.args_override_self a [] h))
     && step_passes s i (after_flag s.rules idle word (by_values s h a t).0 (by_values s h a t).1).0 (after_flag s.rules idle word (by_values s h a t).0 (by_values s h a t).1).1) v
-    ∙ both_true (settle_passes s.rules s.args_override_self h) true p refl
+    ∙ and_from (settle_passes s.rules s.args_override_self h) true p refl
 
 option_walked : (s : Shape) (h : Held) (i : ℕ) (word name : Text) (a : Rule) → bytes_eq word dashes ≡ false → long_of word ≡ Some (name, None) → arg_by_long s.rules name ≡ Some a
     → takes_values a ≡ true → walked s.rules [] (at h idle i) word ≡ at (begun s.rules a h) (option a.id) i
@@ -177,7 +170,7 @@ flag_turn s h i word name a d l is v p =
     ∙ ap (long_turn s h i word) is
     ∙ ap (λ (t : Bool). (if t then option_passes s.rules s.args_override_self a None h else (not false && react_passes s.rules s.args_override_self a [] h))
     && step_passes s i (after_flag s.rules idle word (by_values s h a t).0 (by_values s h a t).1).0 (after_flag s.rules idle word (by_values s h a t).0 (by_values s h a t).1).1) v
-    ∙ both_true (react_passes s.rules s.args_override_self a [] h) true p refl
+    ∙ and_from (react_passes s.rules s.args_override_self a [] h) true p refl
 
 flag_walked : (s : Shape) (h : Held) (i : ℕ) (word name : Text) (a : Rule) → bytes_eq word dashes ≡ false → long_of word ≡ Some (name, None) → arg_by_long s.rules name ≡ Some a
     → takes_values a ≡ false → walked s.rules [] (at h idle i) word ≡ at (reacted s.rules a [] h) idle i
@@ -195,14 +188,14 @@ take_name s h i b bs ws go later n e = by (arg_by_index s.rules i) refl e where
   by : (o : Option Rule) → arg_by_index s.rules i ≡ o → name_goes s h i (b ∷ bs) o go ≡ true → Taken s (at h idle i) ((b ∷ bs) ∷ ws)
   by None is e = absurd (cc)
   by (Some a) is e =
-      let p = split (positional_passes s.rules s.args_override_self a h) _ e in
-      let q = split (not (is_multiple a)) _ p.1 in
-      let r = split (not a.trailing_var_arg) _ q.1 in
+      let p = and_parts (positional_passes s.rules s.args_override_self a h) _ e in
+      let q = and_parts (not (is_multiple a)) _ p.1 in
+      let r = and_parts (not a.trailing_var_arg) _ q.1 in
       step s (at h idle i) (at (positional_held s.rules a (b ∷ bs) h) idle (next_position a i)) (b ∷ bs) ws
       (name_turn s h i b bs n ∙ ap (λ (o : Option Rule). option_map_or (λ a. positional_passes s.rules s.args_override_self a h) o false) is ∙ p.0)
       (name_walked s h i b bs n ∙ ap (λ (o : Option Rule). to_positional s.rules o (b ∷ bs) (at h idle i) h) is
       ∙ ap₂ (λ (m t : Bool). record { held = positional_held s.rules a (b ∷ bs) h; waiting = if m then positional else idle; position = next_position a i; is_trailing = false || t; stopped = None })
-      (is_not (is_multiple a) q.0) (is_not a.trailing_var_arg r.0))
+      (not-true (is_multiple a) q.0) (not-true a.trailing_var_arg r.0))
       (later (positional_held s.rules a (b ∷ bs) h) (next_position a i) r.1)
 
 take_value : (s : Shape) (h : Held) (id : Text) (i b : ℕ) (bs : List ℕ) (ws : List Text) (go : Held → Bool) → ((k : Held) → go k ≡ true → Taken s (at k idle i) ws) → (b == 45) ≡ false
@@ -211,10 +204,10 @@ take_value s h id i b bs ws go later n e = by (arg_by_id s.rules id) refl e wher
   by : (o : Option Rule) → arg_by_id s.rules id ≡ o → value_goes h id (b ∷ bs) o go ≡ true → Taken s (at h (option id) i) ((b ∷ bs) ∷ ws)
   by None is e = absurd (cc)
   by (Some a) is e =
-      let p = split (not (nat_lt (pending_count a (pushed id (b ∷ bs) h).pending) (most_values a))) _ e in
+      let p = and_parts (not (nat_lt (pending_count a (pushed id (b ∷ bs) h).pending) (most_values a))) _ e in
       step s (at h (option id) i) (at (pushed id (b ∷ bs) h) idle i) (b ∷ bs) ws (value_turn s h id i b bs n)
       (value_walked s h id i b bs n ∙ ap (λ (o : Option Rule). at (option_word o id (b ∷ bs) h).0 (option_word o id (b ∷ bs) h).1 i) is
-      ∙ ap (λ (t : Bool). at (pushed id (b ∷ bs) h) (if t then option id else idle) i) (is_not (nat_lt (pending_count a (pushed id (b ∷ bs) h).pending) (most_values a)) p.0))
+      ∙ ap (λ (t : Bool). at (pushed id (b ∷ bs) h) (if t then option id else idle) i) (not-true (nat_lt (pending_count a (pushed id (b ∷ bs) h).pending) (most_values a)) p.0))
       (later (pushed id (b ∷ bs) h) p.1)
 
 take_option : (s : Shape) (h : Held) (word name : Text) (i b : ℕ) (bs : List ℕ) (ws : List Text) (go : Held → Bool) → ((k : Held) → go k ≡ true → Taken s (at k idle i) ws) → (b == 45) ≡ false
@@ -223,8 +216,8 @@ take_option s h word name i b bs ws go later n d l e = by (arg_by_long s.rules n
   by : (o : Option Rule) → arg_by_long s.rules name ≡ o → option_goes s h (b ∷ bs) o go ≡ true → Taken s (at h idle i) (word ∷ (b ∷ bs) ∷ ws)
   by None is e = absurd (cc)
   by (Some a) is e =
-      let p = split (takes_values a) _ e in
-      let q = split (settle_passes s.rules s.args_override_self h) _ p.1 in
+      let p = and_parts (takes_values a) _ e in
+      let q = and_parts (settle_passes s.rules s.args_override_self h) _ p.1 in
       step s (at h idle i) (at (begun s.rules a h) (option a.id) i) word ((b ∷ bs) ∷ ws) (option_turn s h i word name a d l is p.0 q.0) (option_walked s h i word name a d l is p.0)
       (take_value s (begun s.rules a h) a.id i b bs ws go later n q.1)
 
@@ -234,9 +227,9 @@ take_flag s h word name i ws go later d l e = by (arg_by_long s.rules name) refl
   by : (o : Option Rule) → arg_by_long s.rules name ≡ o → flag_goes s h o go ≡ true → Taken s (at h idle i) (word ∷ ws)
   by None is e = absurd (cc)
   by (Some a) is e =
-      let p = split (not (takes_values a)) _ e in
-      let q = split (react_passes s.rules s.args_override_self a [] h) _ p.1 in
-      step s (at h idle i) (at (reacted s.rules a [] h) idle i) word ws (flag_turn s h i word name a d l is (is_not (takes_values a) p.0) q.0) (flag_walked s h i word name a d l is (is_not (takes_values a) p.0))
+      let p = and_parts (not (takes_values a)) _ e in
+      let q = and_parts (react_passes s.rules s.args_override_self a [] h) _ p.1 in
+      step s (at h idle i) (at (reacted s.rules a [] h) idle i) word ws (flag_turn s h i word name a d l is (not-true (takes_values a) p.0) q.0) (flag_walked s h i word name a d l is (not-true (takes_values a) p.0))
       (later (reacted s.rules a [] h) q.1)
 
 -- how an option is read
@@ -260,4 +253,4 @@ take_pieces s h i (Given v b bs ∷ ps) fit e =
 take_pieces s h i (Marked ∷ ps) fit e = take_flag s h (codes "--json") (codes "json") i (all_words ps) (λ k. goes s k i ps) (λ k. take_pieces s k i ps fit.1) refl refl e
 
 pub level_goes : (s : Shape) (ps : List Piece) → AreFit ps → goes s nothing_held 1 ps ≡ true → level_takes s (all_words ps) ≡ true
-level_goes s ps fit e = let k = take_pieces s nothing_held 1 ps fit e in both_true (walk_passes s [] (walk_from nothing_held) (all_words ps)) _ k.passes k.ends
+level_goes s ps fit e = let k = take_pieces s nothing_held 1 ps fit e in and_from (walk_passes s [] (walk_from nothing_held) (all_words ps)) _ k.passes k.ends

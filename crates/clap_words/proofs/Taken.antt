@@ -4,6 +4,9 @@ use Rattle.std.specs.Option.{option_map}
 use Rattle.std.specs.List.{list_any}
 use Rattle.std.specs.Str.{bytes_eq}
 use Rattle.std.proofs.lemmas.Slice.Eq.{bytes_eq-Decides}
+use Rattle.std.proofs.lemmas.Option.{none-some}
+use Rattle.basics.specs.Booleans.{never_both}
+use Rattle.std.proofs.lemmas.Bool.{and_from}
 use Rattle.clap.specs.Words.{Shape, Text, Rule, new_rule, takes}
 use Rattle.clap.specs.Walk.{Row, nothing_held, arg_by_index, arg_by_long, reading_by, values_or_missing}
 use Rattle.clap.specs.Takes.{values_pass, is_given}
@@ -13,13 +16,10 @@ use Rattle.commands.specs.declared.line.Valued.{Valued}
 use Rattle.commands.specs.declared.line.Valued.TheVariants.{Assume, Steps, Device}
 use Rattle.commands.specs.Commands.{Command, Check, Run, Report, Explain, Clear, Premises, Demo, Line, empty_line, then_words, steps_in, choices_in, size_in, device_in, on_device, with_one, with_two, with_both, analysed, simulated, check_of, analyse_of, run_of, report_of, explain_of, clear_of, premises_of, simulate_of, demo_of, called, whole, command_of}
 use Rattle.clap_words.specs.Lines.{judging_app, analyse_app, report_app, clear_app, simulate_app, demo_app, line_app, is_option, is_refused}
-use Rattle.clap_words.proofs.Levels.{below, level_takes, both_true, check_level, analyse_level, run_level, report_level, explain_level, clear_level, premises_level, simulate_level, demo_level}
+use Rattle.clap_words.proofs.Levels.{below, level_takes, check_level, analyse_level, run_level, report_level, explain_level, clear_level, premises_level, simulate_level, demo_level}
 use Rattle.clap_words.proofs.Pieces.{Piece, Named, Given, Marked, option_name, spelled, value_of, all_words, AreFit, Cut, cut_words}
 use Rattle.clap_words.proofs.Steps.{level_goes}
 use Rattle.clap_words.proofs.Going.{IsOption, Allows, IsLevel, IsWanted, Shows, goes_on}
-
-no_command : (x : Command) → ◌≡◌ {A = Option Command} None (Some x) → ⊥
-no_command x e = cc
 
 -- ---- what each command has
 
@@ -135,7 +135,7 @@ judging_has n =
       given = judging_options n;
       json = λ e. absurd (no_value e);
       defaults = refl;
-      valid = λ rows f t. both_true (is_given (codes "firmware") rows) _ f (both_true (is_given (codes "second") rows) _ (t refl) refl);
+      valid = λ rows f t. and_from (is_given (codes "firmware") rows) _ f (and_from (is_given (codes "second") rows) _ (t refl) refl);
       same = refl;
       of_second = (refl, refl);
       of_given = firmware_apart;
@@ -200,7 +200,7 @@ report_has =
         adds = λ rows. refl;
       };
       defaults = refl;
-      valid = λ rows f t. both_true (is_given (codes "firmware") rows) _ f (both_true (is_given (codes "second") rows) _ (t refl) refl);
+      valid = λ rows f t. and_from (is_given (codes "firmware") rows) _ f (and_from (is_given (codes "second") rows) _ (t refl) refl);
       same = refl;
       of_second = (refl, refl);
       of_given = firmware_apart;
@@ -255,7 +255,7 @@ analyse_has =
       given = analyse_options;
       json = λ e. absurd (no_value e);
       defaults = refl;
-      valid = λ rows f t. both_true (is_given (codes "firmware") rows) _ f refl;
+      valid = λ rows f t. and_from (is_given (codes "firmware") rows) _ f refl;
       same = refl;
       of_second = (refl, refl);
       of_given = firmware_apart;
@@ -319,7 +319,7 @@ simulate_has =
       given = simulate_options;
       json = λ e. absurd (no_value e);
       defaults = refl;
-      valid = λ rows f t. both_true (is_given (codes "firmware") rows) _ f (both_true (is_given (codes "second") rows) _ (t refl) refl);
+      valid = λ rows f t. and_from (is_given (codes "firmware") rows) _ f (and_from (is_given (codes "second") rows) _ (t refl) refl);
       same = refl;
       of_second = (refl, refl);
       of_given = firmware_apart;
@@ -367,7 +367,7 @@ clear_has =
       given = clear_options;
       json = λ e. absurd (no_value e);
       defaults = refl;
-      valid = λ rows f t. both_true (is_given (codes "firmware") rows) _ f (both_true (is_given (codes "second") rows) _ (t refl) refl);
+      valid = λ rows f t. and_from (is_given (codes "firmware") rows) _ f (and_from (is_given (codes "second") rows) _ (t refl) refl);
       same = refl;
       of_second = (refl, refl);
       of_given = firmware_apart;
@@ -392,7 +392,7 @@ demo_has =
       given = λ v e. absurd (no_value e);
       json = λ e. absurd (no_value e);
       defaults = refl;
-      valid = λ rows f t. both_true (is_given (codes "size") rows) _ f refl;
+      valid = λ rows f t. and_from (is_given (codes "size") rows) _ f refl;
       same = refl;
       of_second = (refl, refl);
       of_given = size_apart;
@@ -401,79 +401,75 @@ demo_has =
 
 -- ---- a line that is a command has what it wants
 
-opposite : (b : Bool) → b ≡ true → b ≡ false → ⊥
-opposite true h e = cc
-opposite false h e = cc
-
 plain_facts : (first second steps : Option Text) (json : Bool) (device : Option Chip) (command : Chip → Text → Text → Command) (x : Command)
     → cond (is_none steps && not json) (on_device device (λ d. with_two first second (command d))) None ≡ Some x
     → (is_some first ≡ true) × ((is_some second ≡ true) × ((is_some steps ≡ false) × (json ≡ false)))
-plain_facts first second (Some t) json device command x e = absurd (no_command x e)
-plain_facts first second None true device command x e = absurd (no_command x e)
-plain_facts first second None false None command x e = absurd (no_command x e)
-plain_facts None second None false (Some d) command x e = absurd (no_command x e)
-plain_facts (Some f) None None false (Some d) command x e = absurd (no_command x e)
+plain_facts first second (Some t) json device command x e = absurd (none-some x e)
+plain_facts first second None true device command x e = absurd (none-some x e)
+plain_facts first second None false None command x e = absurd (none-some x e)
+plain_facts None second None false (Some d) command x e = absurd (none-some x e)
+plain_facts (Some f) None None false (Some d) command x e = absurd (none-some x e)
 plain_facts (Some f) (Some g) None false (Some d) command x e = (refl, (refl, (refl, refl)))
 
 report_facts : (first second steps : Option Text) (device : Option Chip) (command : Chip → Text → Text → Command) (x : Command)
     → cond (is_none steps) (on_device device (λ d. with_two first second (command d))) None ≡ Some x
     → (is_some first ≡ true) × ((is_some second ≡ true) × (is_some steps ≡ false))
-report_facts first second (Some t) device command x e = absurd (no_command x e)
-report_facts first second None None command x e = absurd (no_command x e)
-report_facts None second None (Some d) command x e = absurd (no_command x e)
-report_facts (Some f) None None (Some d) command x e = absurd (no_command x e)
+report_facts first second (Some t) device command x e = absurd (none-some x e)
+report_facts first second None None command x e = absurd (none-some x e)
+report_facts None second None (Some d) command x e = absurd (none-some x e)
+report_facts (Some f) None None (Some d) command x e = absurd (none-some x e)
 report_facts (Some f) (Some g) None (Some d) command x e = (refl, (refl, refl))
 
 clear_facts : (first second assume steps : Option Text) (json : Bool) (device : Option Chip) (command : Chip → Text → Text → Command) (x : Command)
     → cond (is_none assume && (is_none steps && not json)) (on_device device (λ d. with_two first second (command d))) None ≡ Some x
     → (is_some first ≡ true) × ((is_some second ≡ true) × ((is_some assume ≡ false) × ((is_some steps ≡ false) × (json ≡ false))))
-clear_facts first second (Some a) steps json device command x e = absurd (no_command x e)
-clear_facts first second None (Some t) json device command x e = absurd (no_command x e)
-clear_facts first second None None true device command x e = absurd (no_command x e)
-clear_facts first second None None false None command x e = absurd (no_command x e)
-clear_facts None second None None false (Some d) command x e = absurd (no_command x e)
-clear_facts (Some f) None None None false (Some d) command x e = absurd (no_command x e)
+clear_facts first second (Some a) steps json device command x e = absurd (none-some x e)
+clear_facts first second None (Some t) json device command x e = absurd (none-some x e)
+clear_facts first second None None true device command x e = absurd (none-some x e)
+clear_facts first second None None false None command x e = absurd (none-some x e)
+clear_facts None second None None false (Some d) command x e = absurd (none-some x e)
+clear_facts (Some f) None None None false (Some d) command x e = absurd (none-some x e)
 clear_facts (Some f) (Some g) None None false (Some d) command x e = (refl, (refl, (refl, (refl, refl))))
 
 analyse_facts : (first second : Option Text) (json : Bool) (device : Option Chip) (command : Chip → Text → Option Command) (x : Command)
     → cond json None (on_device device (λ d. with_one first second (command d))) ≡ Some x
     → (is_some first ≡ true) × ((is_some second ≡ false) × (json ≡ false))
-analyse_facts first second true device command x e = absurd (no_command x e)
-analyse_facts first second false None command x e = absurd (no_command x e)
-analyse_facts None second false (Some d) command x e = absurd (no_command x e)
-analyse_facts (Some f) (Some g) false (Some d) command x e = absurd (no_command x e)
+analyse_facts first second true device command x e = absurd (none-some x e)
+analyse_facts first second false None command x e = absurd (none-some x e)
+analyse_facts None second false (Some d) command x e = absurd (none-some x e)
+analyse_facts (Some f) (Some g) false (Some d) command x e = absurd (none-some x e)
 analyse_facts (Some f) None false (Some d) command x e = (refl, (refl, refl))
 
 simulate_facts : (first second : Option Text) (json : Bool) (device : Option Chip) (command : Chip → Text → Text → Option Command) (x : Command)
     → cond json None (on_device device (λ d. with_both first second (command d))) ≡ Some x
     → (is_some first ≡ true) × ((is_some second ≡ true) × (json ≡ false))
-simulate_facts first second true device command x e = absurd (no_command x e)
-simulate_facts first second false None command x e = absurd (no_command x e)
-simulate_facts None second false (Some d) command x e = absurd (no_command x e)
-simulate_facts (Some f) None false (Some d) command x e = absurd (no_command x e)
+simulate_facts first second true device command x e = absurd (none-some x e)
+simulate_facts first second false None command x e = absurd (none-some x e)
+simulate_facts None second false (Some d) command x e = absurd (none-some x e)
+simulate_facts (Some f) None false (Some d) command x e = absurd (none-some x e)
 simulate_facts (Some f) (Some g) false (Some d) command x e = (refl, (refl, refl))
 
 demo_facts : (first second assume steps device : Option Text) (json : Bool) (command : Text → Option Command) (x : Command)
     → cond (is_none assume && is_none device && (is_none steps && not json)) (with_one first second command) None ≡ Some x
     → (is_some first ≡ true) × ((is_some second ≡ false) × ((is_some assume ≡ false) × ((is_some steps ≡ false) × ((is_some device ≡ false) × (json ≡ false)))))
-demo_facts first second (Some a) steps device json command x e = absurd (no_command x e)
-demo_facts first second None steps (Some d) json command x e = absurd (no_command x e)
-demo_facts first second None (Some t) None json command x e = absurd (no_command x e)
-demo_facts first second None None None true command x e = absurd (no_command x e)
-demo_facts None second None None None false command x e = absurd (no_command x e)
-demo_facts (Some f) (Some g) None None None false command x e = absurd (no_command x e)
+demo_facts first second (Some a) steps device json command x e = absurd (none-some x e)
+demo_facts first second None steps (Some d) json command x e = absurd (none-some x e)
+demo_facts first second None (Some t) None json command x e = absurd (none-some x e)
+demo_facts first second None None None true command x e = absurd (none-some x e)
+demo_facts None second None None None false command x e = absurd (none-some x e)
+demo_facts (Some f) (Some g) None None None false command x e = absurd (none-some x e)
 demo_facts (Some f) None None None None false command x e = (refl, (refl, (refl, (refl, (refl, refl)))))
 
 no_steps : (l : Line) → is_some l.steps ≡ false → (v : Valued) → is_some (value_of v l) ≡ true → two_options v ≡ true
 no_steps l e Assume h = refl
-no_steps l e Steps h = absurd (opposite (is_some l.steps) h e)
+no_steps l e Steps h = absurd (never_both (is_some l.steps) h e)
 no_steps l e Device h = refl
 
 plain_wanted : (l : Line) (command : Chip → Text → Text → Command) (x : Command)
     → cond (is_none l.steps && not l.json) (on_device (device_in l.device) (λ d. with_two l.first l.second (command d))) None ≡ Some x → IsWanted judging l
 plain_wanted l command x e =
     let k = plain_facts l.first l.second l.steps l.json (device_in l.device) command x e in
-    record { first = k.0; second = k.1.0; given = no_steps l k.1.1.0; json = λ h. absurd (opposite l.json h k.1.1.1) }
+    record { first = k.0; second = k.1.0; given = no_steps l k.1.1.0; json = λ h. absurd (never_both l.json h k.1.1.1) }
 
 check_wanted : (l : Line) (x : Command) → check_of l ≡ Some x → IsWanted judging l
 check_wanted l x e = plain_wanted l (λ device firmware certificate. Check device firmware certificate l.assume) x e
@@ -490,10 +486,10 @@ premises_wanted l x e = plain_wanted l (λ device firmware certificate. Premises
 clear_wanted : (l : Line) (x : Command) → clear_of l ≡ Some x → IsWanted clearing l
 clear_wanted l x e =
     let k = clear_facts l.first l.second l.assume l.steps l.json (device_in l.device) (λ device firmware certificate. Clear device firmware certificate) x e in
-    record { first = k.0; second = k.1.0; given = given_by k.1.1.0 k.1.1.1.0; json = λ h. absurd (opposite l.json h k.1.1.1.1) } where
+    record { first = k.0; second = k.1.0; given = given_by k.1.1.0 k.1.1.1.0; json = λ h. absurd (never_both l.json h k.1.1.1.1) } where
       given_by : is_some l.assume ≡ false → is_some l.steps ≡ false → (v : Valued) → is_some (value_of v l) ≡ true → device_option v ≡ true
-      given_by a s Assume h = absurd (opposite (is_some l.assume) h a)
-      given_by a s Steps h = absurd (opposite (is_some l.steps) h s)
+      given_by a s Assume h = absurd (never_both (is_some l.assume) h a)
+      given_by a s Steps h = absurd (never_both (is_some l.steps) h s)
       given_by a s Device h = refl
 
 report_wanted : (l : Line) (x : Command) → report_of l ≡ Some x → IsWanted reporting l
@@ -504,22 +500,22 @@ report_wanted l x e =
 analyse_wanted : (l : Line) (x : Command) → analyse_of l ≡ Some x → IsWanted analysing l
 analyse_wanted l x e =
     let k = analyse_facts l.first l.second l.json (device_in l.device) (λ device firmware. analysed device firmware l.assume (steps_in l.steps)) x e in
-    record { first = k.0; second = k.1.0; given = λ v h. refl; json = λ h. absurd (opposite l.json h k.1.1) }
+    record { first = k.0; second = k.1.0; given = λ v h. refl; json = λ h. absurd (never_both l.json h k.1.1) }
 
 simulate_wanted : (l : Line) (x : Command) → simulate_of l ≡ Some x → IsWanted simulating l
 simulate_wanted l x e =
     let k = simulate_facts l.first l.second l.json (device_in l.device) (λ device firmware devices. simulated device firmware devices l.assume (choices_in l.steps)) x e in
-    record { first = k.0; second = k.1.0; given = λ v h. refl; json = λ h. absurd (opposite l.json h k.1.1) }
+    record { first = k.0; second = k.1.0; given = λ v h. refl; json = λ h. absurd (never_both l.json h k.1.1) }
 
 demo_wanted : (l : Line) (x : Command) → demo_of l ≡ Some x → IsWanted measuring l
 demo_wanted l x e =
     let k = demo_facts l.first l.second l.assume l.steps l.device l.json (λ word. option_map Demo (size_in word)) x e in
     let none : (v : Valued) → is_some (value_of v l) ≡ true → no_options v ≡ true = none_by k.1.1.0 k.1.1.1.0 k.1.1.1.1.0 in
-    record { first = k.0; second = k.1.0; given = none; json = λ h. absurd (opposite l.json h k.1.1.1.1.1) } where
+    record { first = k.0; second = k.1.0; given = none; json = λ h. absurd (never_both l.json h k.1.1.1.1.1) } where
       none_by : is_some l.assume ≡ false → is_some l.steps ≡ false → is_some l.device ≡ false → (v : Valued) → is_some (value_of v l) ≡ true → no_options v ≡ true
-      none_by a s d Assume h = absurd (opposite (is_some l.assume) h a)
-      none_by a s d Steps h = absurd (opposite (is_some l.steps) h s)
-      none_by a s d Device h = absurd (opposite (is_some l.device) h d)
+      none_by a s d Assume h = absurd (never_both (is_some l.assume) h a)
+      none_by a s d Steps h = absurd (never_both (is_some l.steps) h s)
+      none_by a s d Device h = absurd (never_both (is_some l.device) h d)
 
 -- ---- all
 
@@ -575,17 +571,17 @@ called_good word words l x waits e h =
     (either (bytes_eq word (codes "premises")) (premises_of l) _ x (λ is k. good (codes "premises") (below (judging_app (codes "premises"))) judging (codes "firmware") (judging_has (codes "premises")) premises_level refl word words l waits e is (premises_wanted l x k))
     (either (bytes_eq word (codes "simulate")) (simulate_of l) _ x (λ is k. good (codes "simulate") (below simulate_app) simulating (codes "firmware") simulate_has simulate_level refl word words l waits e is (simulate_wanted l x k))
     (either (bytes_eq word (codes "demo")) (demo_of l) _ x (λ is k. good (codes "demo") (below demo_app) measuring (codes "size") demo_has demo_level refl word words l waits e is (demo_wanted l x k))
-    (λ k. absurd (no_command x k)))))))))) h
+    (λ k. absurd (none-some x k)))))))))) h
 
 whole_good : (word : List ℕ) (words : List (List ℕ)) (o : Option Line) (x : Command) → then_words (Some empty_line) words ≡ o → whole word o ≡ Some x → IsGood (word ∷ words)
-whole_good word words None x e h = absurd (no_command x h)
+whole_good word words None x e h = absurd (none-some x h)
 whole_good word words (Some l) x e h = by l.waits refl h where
   by : (v : Option Valued) → l.waits ≡ v → cond (is_none v) (called word l) None ≡ Some x → IsGood (word ∷ words)
   by None is h = called_good word words l x is e h
-  by (Some v) is h = absurd (no_command x h)
+  by (Some v) is h = absurd (none-some x h)
 
 good_words : (ws : List (List ℕ)) (x : Command) → command_of ws ≡ Some x → IsGood ws
-good_words [] x h = absurd (no_command x h)
+good_words [] x h = absurd (none-some x h)
 good_words (word ∷ words) x h = whole_good word words (then_words (Some empty_line) words) x refl h
 
 -- words that clap doesn't take are no command

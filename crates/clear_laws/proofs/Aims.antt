@@ -1,8 +1,11 @@
 -- Where a store's byte goes: to an address that its aim reaches, and at its slot.
-use Rattle.std.proofs.Common.{◌≡◌, ◌∙◌, refl, sym, ap, subst, ℕ, zero, suc, ◌+◌, ◌-◌, ◌*◌, ◌<◌, ◌≤◌, ◌&&◌, ◌==◌, ⊎_elim, Bool, true, false, nat_lt, nat_le, if◌then◌else◌, Option, Some, None, arith, eqb-true}
+use Rattle.std.proofs.Common.{◌≡◌, ◌∙◌, refl, sym, ap, subst, ℕ, zero, suc, ◌+◌, ◌-◌, ◌*◌, ◌<◌, ◌≤◌, ◌&&◌, ⊎_elim, Bool, true, false, nat_lt, nat_le, if◌then◌else◌, Option, Some, None, arith}
 use Rattle.std.specs.Prelude.{⊤}
 use Rattle.std.proofs.lemmas.Bool.{cases_lt}
 use Rattle.std.proofs.lemmas.Bool.Decides.{nat_tests}
+use Rattle.basics.specs.Booleans.{all_three}
+use Rattle.std.proofs.lemmas.Option.{same_Some}
+use Rattle.local_laws.proofs.AllLaws.{constant_is, lowered_is, raised_is, word_is}
 use Rattle.avr_model.specs.declared.device.Device.{Device}
 use Rattle.avr_model.specs.declared.instruction.Base.{Base}
 use Rattle.avr_model.specs.declared.instruction.Base.TheVariants as base_of
@@ -13,9 +16,8 @@ use Rattle.avr_model.proofs.AllLaws.{devices_are_alike}
 use Rattle.avr_model.specs.Sites.{base_register, pointer_register}
 use Rattle.avr_model.specs.State.{State, register, pair, low, high, plus16, minus16}
 use Rattle.avr_model.specs.Effects as effects
-use Rattle.bit_domain.specs.declared.bytes.TriByte.{TriByte}
-use Rattle.bit_domain.specs.TriByte.{Has, byte_constant}
-use Rattle.bit_domain.proofs.AllLaws.{bytes_are_sets, tests_tell_members}
+use Rattle.bit_domain.specs.TriByte.{byte_constant}
+use Rattle.bit_domain.proofs.AllLaws.{tests_tell_members}
 use Rattle.sp_domain.specs.Tags.{Origin, TagHolds, frame_of}
 use Rattle.sp_domain.specs.Laws.{PairHolds}
 use Rattle.sp_domain.proofs.AllLaws.{pairs_are_true}
@@ -27,7 +29,7 @@ use Rattle.mask_states.specs.declared.keys.Kind.{Kind}
 use Rattle.mask_states.specs.declared.keys.Kind.TheVariants.{Root, Call, Vector}
 use Rattle.local_rules.specs.declared.pointers.Pointed.{Pointed}
 use Rattle.local_rules.specs.Registers.{value, bits}
-use Rattle.local_rules.specs.Reads.{word_of, pair_constant, pointed, raised as number_raised, lowered as number_lowered}
+use Rattle.local_rules.specs.Reads.{pair_constant, pointed}
 use Rattle.local_rules.specs.Local.{step_before, may_be}
 use Rattle.local_rules.specs.Cover.{InFrame}
 use Rattle.clear_laws.specs.Aims.{Span, Reach, Aim, or_number, least_below, greatest_below, first_byte, last_byte, spanning, pair_span, raised, lowered, pointer_reach, slot_at_number, slot_aimed, at_number}
@@ -83,9 +85,6 @@ greatest_at p (suc n) x lt h = by (greatest_at p n x) (p n) refl
         (λ over. let same : n ≡ x = omega (arith, lt, over) in absurd (let no : false ≡ true = sym is ∙ ap p same ∙ h in cc)) (cases_lt x n)
 
 -- ---- a byte between its least and its greatest
-
-all_three : (a b c : Bool) → a ≡ true → b ≡ true → c ≡ true → ((a && b) && c) ≡ true
-all_three a b c h g k = grind arith
 
 may_stand : (o : Origin) (v : AbsByte) (x : ℕ) → ByteStands o v x → may_be v x ≡ true
 may_stand o v x stands =
@@ -152,42 +151,6 @@ one_less p h = omega arith
 
 -- ---- what a pointer gives
 
-constant_is : (t : TriByte) (x b : ℕ) → byte_constant t ≡ Some b → x < 256 → Has t x → x ≡ b
-constant_is t x b e small has = by (t.known == 255) refl e
-  where
-    by : (c : Bool) → (t.known == 255) ≡ c → (if c then Some t.value else None) ≡ Some b → x ≡ b
-    by false is e = absurd (cc)
-    by true is e =
-        let value : t.value ≡ b = cc in
-        let known = bytes_are_sets.constant t (eqb-true t.known 255 is) in
-        let member = bytes_are_sets.member t in
-        (bytes_are_sets.known t.value x member.0 small).0 (subst (λ (u : TriByte). Has u x) known has) ∙ value
-
-word_is : (lo hi : Option ℕ) (x y c : ℕ) → ((b : ℕ) → lo ≡ Some b → x ≡ b) → ((b : ℕ) → hi ≡ Some b → y ≡ b) → word_of lo hi ≡ Some c → x + 256 * y ≡ c
-word_is None hi x y c low_is high_is e = absurd (cc)
-word_is (Some b) None x y c low_is high_is e = absurd (cc)
-word_is (Some b) (Some d) x y c low_is high_is e =
-    let sum : b + 256 * d ≡ c = cc in
-    omega (arith, low_is b refl, high_is d refl)
-
-number_by : (c : Option ℕ) (p up a : ℕ) → ((x : ℕ) → c ≡ Some x → p ≡ x) → number_raised up c ≡ Some a → plus16 p up ≡ a
-number_by None p up a is e = absurd (cc)
-number_by (Some x) p up a is e =
-    let sum : plus16 x up ≡ a = cc in
-    ap (λ y. plus16 y up) (is x refl) ∙ sum
-
-lowered_number : (base j up : ℕ) → plus16 (minus16 base j) up ≡ minus16 base (minus16 j up)
-lowered_number base j up = omega arith
-
-frame_by : (f : Option ℕ) (base p up d : ℕ) → ((j : ℕ) → f ≡ Some j → p ≡ minus16 base j) → number_lowered up f ≡ Some d → plus16 p up ≡ minus16 base d
-frame_by None base p up d is e = absurd (cc)
-frame_by (Some j) base p up d is e =
-    let difference : minus16 j up ≡ d = cc in
-    ap (λ y. plus16 y up) (is j refl) ∙ lowered_number base j up ∙ ap (minus16 base) difference
-
-number_some : (a b : ℕ) → Some a ≡ Some b → a ≡ b
-number_some a b e = cc
-
 -- the slot at a number, where the base is the top of SRAM
 fold : (r base a d x : ℕ) → r < 65536 → base ≡ r → x ≤ r → r - x ≡ d → a ≡ x → a ≡ minus16 base d
 fold r base a d x small top fits slot same = omega arith
@@ -201,7 +164,7 @@ number_slot device None base a d top is e = absurd (cc)
 number_slot device (Some x) base a d top is e = by (nat_le x (ramend device)) refl e
   where
     by : (b : Bool) → nat_le x (ramend device) ≡ b → (if b then Some (ramend device - x) else None) ≡ Some d → a ≡ minus16 base d
-    by true at e = fold (ramend device) base a d x (top_small device) top (grind (arith, nat_tests)) (number_some _ d e) (is x refl)
+    by true at e = fold (ramend device) base a d x (top_small device) top (grind (arith, nat_tests)) (same_Some _ d e) (is x refl)
     by false at e = absurd (cc)
 
 base_small : (b : Base) → base_register b + 1 < 32
@@ -250,11 +213,11 @@ module _ (m : State) (o : Origin) (k : NodeKey) (s : AbsState) (at : InFrame m o
         (λ b is. constant_is (bits s (r + 1)) (register m (r + 1)) b is (stands (r + 1) there).small (stands (r + 1) there).bits) e
 
     number_is : (up a : ℕ) → (pointed s r up).constant ≡ Some a → plus16 (pair m r) up ≡ a
-    number_is up a e = number_by (pair_constant s r) (pair m r) up a constant_there e
+    number_is up a e = raised_is (pair_constant s r) (pair m r) up a constant_there e
 
     frame_is : (up d : ℕ) → (pointed s r up).frame ≡ Some d → plus16 (pair m r) up ≡ minus16 o.base d
     frame_is up d e =
-        frame_by (frame_of (value s r).tag (value s (r + 1)).tag) o.base (pair m r) up d
+        lowered_is (frame_of (value s r).tag (value s (r + 1)).tag) o.base (pair m r) up d
         (λ j is. pairs_are_true.frame o (value s r).tag (value s (r + 1)).tag (pair m r) j pair_small pair_holds is) e
 
   -- the slot at an address
@@ -308,5 +271,5 @@ module _ (m : State) (o : Origin) (k : NodeKey) (s : AbsState) (at : InFrame m o
   direct a =
       record {
         reach = record { first = omega arith; last = omega arith };
-        slot = λ d e. slot_is k.inst.kind refl (at_number a) a d (λ x is. number_some a x is) (λ x is. absurd (cc)) e;
+        slot = λ d e. slot_is k.inst.kind refl (at_number a) a d (λ x is. same_Some a x is) (λ x is. absurd (cc)) e;
       }

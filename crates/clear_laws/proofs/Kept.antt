@@ -1,6 +1,7 @@
 -- Every live byte lies in a slot at which its frame's node may hold one, or in the way back to a frame; each step keeps this.
 use Rattle.std.proofs.Common.{◌≡◌, refl, sym, ap, ◌∙◌, subst, ℕ, ◌+◌, ◌-◌, ◌<◌, ◌≤◌, Bool, true, false, List, [], ◌∷◌, length, Some, ⊎_elim, Contains, arith}
 use Rattle.std.specs.Prelude.{⊤}
+use Rattle.basics.specs.Items.{none_in}
 use Rattle.avr_model.proofs.AllLaws.{devices_are_alike}
 use Rattle.avr_model.specs.Devices.{ramend, device_of}
 use Rattle.avr_model.specs.declared.assumption.Entry.{Entry}
@@ -24,13 +25,12 @@ use Rattle.local_rules.specs.declared.local.Node.{Node}
 use Rattle.local_rules.specs.declared.local.Exit.{Exit}
 use Rattle.local_rules.specs.Local.{joined_onto}
 use Rattle.local_rules.specs.Machine.{IsMachine}
-use Rattle.local_laws.proofs.AllLaws.{joins_are_least, none_in}
+use Rattle.local_laws.proofs.AllLaws.{joins_are_least, above_if_live}
 use Rattle.edge_rules.specs.declared.edge.Edge.{Edge}
 use Rattle.edge_rules.specs.Edges.{raw_of, IsFaultless, Enters, by_call, by_interrupt, returned_key, IsEdge, moving, returning}
 use Rattle.edge_rules.specs.Families.{Family, IsSound}
 use Rattle.edge_rules.specs.Frames.{Frame, AreLeft, Runs, Change, moved, called, returned_to, interrupted}
 use Rattle.clear_laws.specs.Held.{MayHold, kept, pushed}
-use Rattle.clear_laws.proofs.Memory.{above_if_live}
 use Rattle.clear_laws.proofs.Bases.{within}
 use Rattle.clear_laws.proofs.Opens.{open_moves_keep}
 use Rattle.clear_laws.proofs.Effects.{IsWhole}

@@ -1,5 +1,7 @@
 -- The slots that may hold a live byte are the least map with its rules.
-use Rattle.std.proofs.Common.{◌≡◌, refl, subst, ℕ, ◌+◌, ◌<◌, Bool, true, false, ◌&&◌, if◌then◌else◌, nat_le, List, [], Option, Some, None, Contains, arith}
+use Rattle.std.proofs.Common.{◌≡◌, refl, subst, ℕ, ◌+◌, ◌<◌, Bool, true, false, if◌then◌else◌, nat_le, List, [], Option, Some, None, Contains, arith}
+use Rattle.basics.specs.Booleans.{left_of_and}
+use Rattle.basics.specs.Items.{none_in}
 use Rattle.avr_model.specs.declared.assumption.Entry.{Entry}
 use Rattle.avr_model.specs.declared.device.Device.{Device}
 use Rattle.avr_model.specs.declared.instruction.Instr.{Instr}
@@ -20,7 +22,7 @@ use Rattle.local_rules.specs.Raw.{Raw, one}
 use Rattle.local_rules.specs.Registers.{forgetting}
 use Rattle.local_rules.specs.Flow.{at_closed, pushing}
 use Rattle.local_rules.specs.Local.{row_of}
-use Rattle.local_laws.proofs.AllLaws.{joins_are_least, none_in, each_of}
+use Rattle.local_laws.proofs.AllLaws.{joins_are_least, each_of}
 use Rattle.edge_rules.specs.declared.edge.Edge.{Edge}
 use Rattle.edge_rules.specs.Edges.{raw_of, IsFaultless, IsEdge, moving, entering, returning, Enters, by_call, by_interrupt}
 use Rattle.clear_laws.specs.Held.{MayHold, kept, pushed, IsClosed, is_push, pushes_register, is_guarded_push}
@@ -67,9 +69,6 @@ raw_above words A n (Some instr) is push clean =
     row_above (device_of words) words A (is_scratch words n.key.pc) n.key (forgetting (written instr) n.state) instr push to
     (subst (λ (l : List Node). Contains l to) row.moves member)
 
-first_of_two : (a b : Bool) → (a && b) ≡ true → a ≡ true
-first_of_two a b h = grind arith
-
 not_local : {words : List ℕ} {A : List Entry} {n : Node} {way : EdgeKind} {inst : InstKey} {back : ℕ} → Enters words A n way inst back → way ≡ kind.Local → ⊥
 not_local (by_call offset site faultless form member) = λ e. cc
 not_local (by_interrupt offset v clears faultless form i delay enabled allowed clearable) = λ e. cc
@@ -79,7 +78,7 @@ module _ (words : List ℕ) (A : List Entry) (nodes : List Node) where
   pushed_below n _ push (moving to faultless member) is =
       let from = joins_are_least.keys (raw_of words A n).moves to member in
       subst (λ (k : NodeKey). offset_of n.key.sp < offset_of k.sp) from.1.1
-      (raw_above words A n (instruction_at words n.key.pc) refl (first_of_two _ _ push) faultless from.0 from.1.0)
+      (raw_above words A n (instruction_at words n.key.pc) refl (left_of_and _ _ push) faultless from.0 from.1.0)
   pushed_below n _ push (entering way inst back enters) is = absurd (not_local enters is)
   pushed_below n _ push (returning way inst back leaver x state enters present same faultless exit after) is = absurd (cc)
 

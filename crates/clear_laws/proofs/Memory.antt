@@ -13,11 +13,6 @@ abbrev pub IsPushedAt : List Write → ℕ → Type 0
 IsPushedAt [] a = ⊥
 IsPushedAt (w ∷ ws) a = (a ≡ w.address) ⊎ IsPushedAt ws a
 
--- an address whose byte is live is one of SRAM
-pub above_if_live : (live : List Bool) (a : ℕ) → live_in live a ≡ true → BELOW < a
-unfolding live_in
-above_if_live live a h = grind (arith, nat_tests)
-
 pub inside_if_live : (live : List Bool) (a : ℕ) → live_in live a ≡ true → a < 256 + length live
 unfolding live_in
 inside_if_live live a h =

@@ -1,6 +1,7 @@
 -- A successor whose stack pointer is half written has the offset of the node that it comes from.
 use Rattle.std.proofs.Common.{◌≡◌, refl, sym, ap, ◌∙◌, ⊎_elim, ℕ, zero, suc, ◌+◌, ◌==◌, Bool, true, false, List, [], ◌∷◌, map, length, filter, Option, Some, None, if◌then◌else◌, nat_lt, nat_le, Contains}
 use Rattle.std.proofs.lemmas.List.Elements.{Contains-append_cases}
+use Rattle.basics.specs.Items.{none_in}
 use Rattle.avr_model.specs.declared.assumption.Entry.{Entry}
 use Rattle.avr_model.specs.declared.device.Device.{Device}
 use Rattle.avr_model.specs.declared.instruction.Instr.{Instr}
@@ -39,7 +40,7 @@ use Rattle.local_rules.specs.Writes.{opening, closing, high_part, closing_offset
 use Rattle.local_rules.specs.Flow.{branch, skipping, flag_at, where_carry, going_where, carry_branch, flag_branch, targets_at, is_half_written, jumping, calling, indirect_call, relative_call, at_closed, if_room, returning, ret_exit, reti_exit, pushing, popping, making_room}
 use Rattle.local_rules.specs.FrameLines.{binary_at}
 use Rattle.local_rules.specs.Local.{step_before, pointer_moved, loading, row_of, row_at, row_in, is_hung, fetched, picks, picking, picked, split_site, splitting, raw}
-use Rattle.local_laws.proofs.AllLaws.{none_in, each_of, each_in_map}
+use Rattle.local_laws.proofs.AllLaws.{each_of, each_in_map}
 
 module _ (device : Device) (k : NodeKey) where
   -- half written, the stack pointer's offset is that of the node k

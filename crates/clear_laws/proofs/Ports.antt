@@ -1,8 +1,7 @@
 -- The numbers of I/O registers that instructions name are below 64.
-use Rattle.std.proofs.Common.{◌≡◌, refl, subst, ℕ, ◌+◌, ◌*◌, ◌<◌, ◌==◌, ◌&&◌, not, Bool, true, false, List, [], ◌∷◌, length, Option, Some, None, if◌then◌else◌, arith}
+use Rattle.std.proofs.Common.{◌≡◌, refl, subst, ℕ, ◌+◌, ◌<◌, ◌&&◌, not, Bool, true, false, List, [], ◌∷◌, Option, Some, None, if◌then◌else◌, arith}
 use Rattle.std.specs.Prelude.{⊤}
-use Rattle.std.specs.Int.{bit_at}
-use Rattle.std.proofs.lemmas.Nat.Bits.{bit_at-lt}
+use Rattle.local_laws.proofs.AllLaws.{bound_of, letter_below}
 use Rattle.avr_model.specs.declared.device.Device.{Device}
 use Rattle.avr_model.specs.declared.instruction.Instr.{Instr}
 use Rattle.avr_model.specs.declared.instruction.Instr.TheVariants as i
@@ -17,21 +16,6 @@ PortFits (i.Out a r) = a < 64
 PortFits (i.Cbi a b) = a < 64
 PortFits (i.Sbi a b) = a < 64
 PortFits instr = ⊤
-
--- what the number is below: twice as much for each place
-abbrev bound_of : ℕ → ℕ → List ℕ → ℕ
-bound_of c below [] = below
-bound_of c below (x ∷ p) = bound_of c (if x == c then below * 2 else below) p
-
-place_below : (b : Bool) (sofar bit below : ℕ) → bit < 2 → sofar < below → (if b then sofar * 2 + bit else sofar) < (if b then below * 2 else below)
-place_below true sofar bit below small lt = omega arith
-place_below false sofar bit below small lt = lt
-
-letter_below : (c : ℕ) (p : List ℕ) (w sofar below : ℕ) → sofar < below → letter c sofar p w < bound_of c below p
-letter_below c [] w sofar below lt = lt
-letter_below c (x ∷ p) w sofar below lt =
-    letter_below c p w (if x == c then sofar * 2 + bit_at w (length p) else sofar) (if x == c then below * 2 else below)
-    (place_below (x == c) sofar (bit_at w (length p)) below (bit_at-lt w (length p)) lt)
 
 -- a number in five or six places
 small : (p : List ℕ) (w n : ℕ) → bound_of 65 1 p ≡ n → letter 65 0 p w < n

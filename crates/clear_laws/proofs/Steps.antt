@@ -1,5 +1,8 @@
 -- What a step that is done makes live: the bytes that a guarded push or an entry pushes, at the stack pointer and below.
-use Rattle.std.proofs.Common.{◌≡◌, ◌≢◌, refl, sym, ap, ap₂, ◌∙◌, subst, ℕ, ◌+◌, ◌<◌, ◌≤◌, Bool, true, false, not, ◌&&◌, ◌||◌, if◌then◌else◌, List, [], ◌++◌, length, Option, Some, None, ◌⊎◌, inl, inr, ⊎_elim, arith}
+use Rattle.std.proofs.Common.{◌≡◌, refl, sym, ap, ap₂, ◌∙◌, subst, ℕ, ◌+◌, ◌<◌, ◌≤◌, Bool, true, false, not, ◌&&◌, ◌||◌, List, [], ◌++◌, length, Option, Some, None, ◌⊎◌, inl, inr, ⊎_elim, arith}
+use Rattle.std.proofs.lemmas.Bool.{not-true}
+use Rattle.frame_laws.proofs.AllLaws.{if_done}
+use Rattle.local_laws.proofs.AllLaws.{done_is}
 use Rattle.avr_model.specs.declared.assumption.Entry.{Entry}
 use Rattle.avr_model.specs.declared.instruction.Instr.{Instr}
 use Rattle.avr_model.specs.declared.choice.Choice.{Choice}
@@ -11,7 +14,7 @@ use Rattle.avr_model.specs.Sites.{instruction_at, is_scratch, adds_low}
 use Rattle.avr_model.specs.Written.{written}
 use Rattle.avr_model.specs.State.{State, Memory, is_live}
 use Rattle.avr_model.specs.Effects.{effect_of, way_back}
-use Rattle.avr_model.specs.Step.{Answer, Illegal, Overflow, Done, after, all_inside, live_write, protected_write, unlisted_transfer, is_unlisted, flag_by, flagged_or, memory_after, open_after, sp_after, may_take, entering, never_target, take, go, step}
+use Rattle.avr_model.specs.Step.{Illegal, Overflow, Done, after, all_inside, live_write, protected_write, unlisted_transfer, is_unlisted, flag_by, flagged_or, memory_after, open_after, sp_after, may_take, entering, never_target, take, go, step}
 use Rattle.abs_state.specs.declared.state.AbsState.{AbsState}
 use Rattle.mask_states.specs.declared.keys.NodeKey.{NodeKey}
 use Rattle.mask_states.specs.declared.keys.SpForm.{SpForm}
@@ -30,18 +33,11 @@ use Rattle.clear_laws.proofs.Rows.{IsRow, row_unless_added}
 
 -- ---- what a step that is done did
 
-done_is : (x n : State) → Done x ≡ Done n → x ≡ n
-done_is x n e = cc
-
 flags_done : (pc : ℕ) (a b c : Option ℕ) (x n : State) → flagged_or (flag_by pc a b c) x ≡ Done n → x ≡ n
 flags_done pc (Some a) b c x n e = absurd (cc)
 flags_done pc None (Some b) c x n e = absurd (cc)
 flags_done pc None None (Some c) x n e = absurd (cc)
 flags_done pc None None None x n e = done_is x n e
-
-if_done : (t : Bool) (a b : Answer) (n : State) → ((k : State) → b ≢ Done k) → (if t then a else b) ≡ Done n → a ≡ Done n
-if_done true a b n other e = e
-if_done false a b n other e = absurd (other n e)
 
 -- an instruction's effect
 pub record Went (words : List ℕ) (m n : State) (b1 b2 : ℕ) : Type 0 where
@@ -114,10 +110,6 @@ guarded_by words pc pc' instr same is push guarded =
 pub whole_sp : (base : ℕ) (is_open : Bool) (sp offset : ℕ) (form : SpForm) → form ≡ Closed offset → SpIs base is_open sp form → sp + offset ≡ base
 whole_sp base is_open sp offset form e h = (subst (SpIs base is_open sp) e h).1
 
-is_false : (b : Bool) → not b ≡ true → b ≡ false
-is_false true e = absurd (cc)
-is_false false e = refl
-
 module _ (words : List ℕ) (A : List Entry) (f : Family) (sound : IsSound words A f) (m n : State) (few : length n.memory.live ≤ 2048) (g : Frame) (gs : List Frame)
     (runs : Runs words A f m g gs) where
   at_sp : (offset : ℕ) → g.node.key.sp ≡ Closed offset → m.sp + offset ≡ g.origin.base
@@ -150,7 +142,7 @@ module _ (words : List ℕ) (A : List Entry) (f : Family) (sound : IsSound words
         → (raw_of words A g.node).moves ≡ []
     still plain guarded none =
         (row plain).moves
-        ∙ ap (λ b. (row_of (device_of words) words A b k state w.instr).moves) (is_false scratch (subst (λ p. not (is_scratch words p) ≡ true) runs.running.place.pc guarded)) ∙ none
+        ∙ ap (λ b. (row_of (device_of words) words A b k state w.instr).moves) (not-true scratch (subst (λ p. not (is_scratch words p) ≡ true) runs.running.place.pc guarded)) ∙ none
 
     open_is : (after m (not (is_scratch words m.pc)) effect).is_open ≡ n.is_open
     open_is = ap (λ (x : State). x.is_open) w.leads

@@ -1,7 +1,9 @@
 -- A test tells the clear nodes.
-use Rattle.std.proofs.Common.{◌≡◌, refl, sym, ap, ◌∙◌, subst, ℕ, zero, suc, ◌+◌, ◌<◌, ◌≤◌, ◌==◌, Bool, true, false, not, ◌&&◌, ◌||◌, nat_lt, nat_le, List, Option, Some, None, ◌⊎◌, inl, inr, ⊎_elim, arith, eqb-true}
-use Rattle.std.proofs.lemmas.Bool.{cases_lt}
-use Rattle.std.proofs.lemmas.Bool.Decides.{nat_tests}
+use Rattle.std.proofs.Common.{◌≡◌, refl, sym, ap, ◌∙◌, subst, ℕ, zero, suc, ◌+◌, ◌<◌, ◌==◌, Bool, true, false, not, ◌&&◌, ◌||◌, nat_lt, nat_le, List, Option, Some, None, ⊎_elim, arith, eqb-true}
+use Rattle.std.proofs.lemmas.Bool.{cases_lt, and_from, or_cases, and_parts, or_left, or_right, not-true}
+use Rattle.basics.specs.Numbers.{less_from_test, equals_itself, at_most_from_test, test_from_less, test_from_at_most}
+use Rattle.basics.specs.Booleans.{not_from_never}
+use Rattle.std.proofs.lemmas.Option.{same_Some}
 use Rattle.avr_model.specs.declared.assumption.Entry.{Entry}
 use Rattle.avr_model.specs.declared.device.Device.{Device}
 use Rattle.avr_model.specs.declared.instruction.Instr.{Instr}
@@ -21,26 +23,8 @@ use Rattle.clear_laws.specs.Aims.reach as reach
 use Rattle.clear_laws.specs.Clear.{IsHarmless, no_address, under_stack, above_memory, one_register, free_slot, IsClear, is_flagged_address, permits_pair, AreTargetsListed, is_span_harmless, is_reach_harmless, is_slot_harmless, is_aim_harmless, is_target_listed, are_targets_listed, is_transfer_listed, is_clear_by}
 use Rattle.clear_laws.specs.Laws.{ClearNodesAreTold}
 
-less : (a b : ℕ) → nat_lt a b ≡ true → a < b
-less a b h = grind (arith, nat_tests)
-
-at_most : (a b : ℕ) → nat_le a b ≡ true → a ≤ b
-at_most a b h = grind (arith, nat_tests)
-
-is_less : (a b : ℕ) → a < b → nat_lt a b ≡ true
-is_less a b h = grind (arith, nat_tests)
-
-is_most : (a b : ℕ) → a ≤ b → nat_le a b ≡ true
-is_most a b h = grind (arith, nat_tests)
-
-is_same : (a : ℕ) → (a == a) ≡ true
-is_same a = grind (arith, nat_tests)
-
 all_three : (a b c : Bool) → a ≡ true → b ≡ true → c ≡ false → (a && b && not c) ≡ true
 all_three a b c h g k = grind arith
-
-and_true : (a b : Bool) → a ≡ true → b ≡ true → (a && b) ≡ true
-and_true a b h g = grind arith
 
 -- either of three
 first_of : (a b c : Bool) → a ≡ true → (a || b || c) ≡ true
@@ -52,40 +36,19 @@ second_of a b c h = grind arith
 third_of : (a b c : Bool) → c ≡ true → (a || b || c) ≡ true
 third_of a b c h = grind arith
 
-either : (a b : Bool) → (a || b) ≡ true → (a ≡ true) ⊎ (b ≡ true)
-either true b h = inl refl
-either false b h = inr h
-
-both : (a b : Bool) → (a && b) ≡ true → (a ≡ true) × (b ≡ true)
-both true b h = (refl, h)
-both false b h = absurd (cc)
-
-or_left : (a b : Bool) → a ≡ true → (a || b) ≡ true
-or_left a b h = grind arith
-
-or_right : (a b : Bool) → b ≡ true → (a || b) ≡ true
-or_right a b h = grind arith
-
-not_true : (b : Bool) → not b ≡ true → b ≡ false
-not_true b h = grind arith
-
-is_not : (b : Bool) → (b ≡ true → ⊥) → not b ≡ true
-is_not true h = absurd (h refl)
-is_not false h = refl
-
 -- ---- transfers
 
 pub below_each : (p : ℕ → Bool) (n k : ℕ) → all_below n p ≡ true → k < n → p k ≡ true
 unfolding all_below
 below_each p zero k h lt = absurd (omega (arith, lt))
 below_each p (suc n) k h lt =
-    let parts = both (all_below n p) (p n) h in
+    let parts = and_parts (all_below n p) (p n) h in
     ⊎_elim (λ smaller. below_each p n k parts.0 smaller) (λ over. let same : n ≡ k = omega (arith, lt, over) in ap p (sym same) ∙ parts.1) (cases_lt k n)
 
 pub each_below : (p : ℕ → Bool) (n : ℕ) → ((k : ℕ) → k < n → p k ≡ true) → all_below n p ≡ true
 unfolding all_below
 each_below p zero h = refl
-each_below p (suc n) h = and_true (all_below n p) (p n) (each_below p n (λ k lt. h k (omega (arith, lt)))) (h n (omega arith))
+each_below p (suc n) h = and_from (all_below n p) (p n) (each_below p n (λ k lt. h k (omega (arith, lt)))) (h n (omega arith))
 
 passes : (a b : Bool) → a ≡ true → (not a || b) ≡ true → b ≡ true
 passes a b h g = grind arith
@@ -136,23 +99,23 @@ module _ (words : List ℕ) (A : List Entry) (f : Family) (n : Node) (held : ℕ
       single = (span.first == span.last) && nat_le span.first BELOW && not (is_flagged_address words A n.key.pc instr span.first)
 
       by_span : aim.reach ≡ reach.Within span → is_span_harmless words A f.bound n.key.pc instr span ≡ true → IsHarmless words A f n instr aim
-      by_span is h = ⊎_elim (λ first. ⊎_elim by_under by_over (either under over first)) by_single (either (under || over) single h)
+      by_span is h = ⊎_elim (λ first. ⊎_elim by_under by_over (or_cases under over first)) by_single (or_cases (under || over) single h)
         where
           by_under : under ≡ true → IsHarmless words A f n instr aim
           by_under t =
-              let parts = both (nat_lt BELOW span.first) (nat_le (span.last + f.bound) top) t in
-              under_stack span is (less BELOW span.first parts.0) (at_most (span.last + f.bound) top parts.1)
+              let parts = and_parts (nat_lt BELOW span.first) (nat_le (span.last + f.bound) top) t in
+              under_stack span is (less_from_test BELOW span.first parts.0) (at_most_from_test (span.last + f.bound) top parts.1)
 
           by_over : over ≡ true → IsHarmless words A f n instr aim
-          by_over t = above_memory span is (less top span.first t)
+          by_over t = above_memory span is (less_from_test top span.first t)
 
           by_single : single ≡ true → IsHarmless words A f n instr aim
           by_single t =
-              let outer = both ((span.first == span.last) && nat_le span.first BELOW) (not (is_flagged_address words A n.key.pc instr span.first)) t in
-              let inner = both (span.first == span.last) (nat_le span.first BELOW) outer.0 in
+              let outer = and_parts ((span.first == span.last) && nat_le span.first BELOW) (not (is_flagged_address words A n.key.pc instr span.first)) t in
+              let inner = and_parts (span.first == span.last) (nat_le span.first BELOW) outer.0 in
               let same : span.first ≡ span.last = eqb-true span.first span.last inner.0 in
               one_register span.first (is ∙ ap reach.Within (one_span span same))
-              (at_most span.first BELOW inner.1) (not_true (is_flagged_address words A n.key.pc instr span.first) outer.1)
+              (at_most_from_test span.first BELOW inner.1) (not-true (is_flagged_address words A n.key.pc instr span.first) outer.1)
 
     by_reach : (r : Reach) → aim.reach ≡ r → is_reach_harmless words A f.bound n.key.pc instr r ≡ true → IsHarmless words A f n instr aim
     by_reach reach.Nothing is h = no_address is
@@ -162,14 +125,14 @@ module _ (words : List ℕ) (A : List Entry) (f : Family) (n : Node) (held : ℕ
     by_slot : Frees → (s : Option ℕ) → aim.slot ≡ s → is_slot_harmless (offset_of n.key.sp) held s ≡ true → IsHarmless words A f n instr aim
     by_slot frees None is h = absurd (cc)
     by_slot frees (Some d) is h =
-        let parts = both (nat_lt d (offset_of n.key.sp)) (not (held d)) h in
-        let lt = less d (offset_of n.key.sp) parts.0 in
-        free_slot d is lt (frees d lt (not_true (held d) parts.1))
+        let parts = and_parts (nat_lt d (offset_of n.key.sp)) (not (held d)) h in
+        let lt = less_from_test d (offset_of n.key.sp) parts.0 in
+        free_slot d is lt (frees d lt (not-true (held d) parts.1))
 
     harmless : Frees → is_aim_harmless words A f.bound n.key instr held (Some aim) ≡ true → IsHarmless words A f n instr aim
     harmless frees h =
         ⊎_elim (by_reach aim.reach refl) (by_slot frees aim.slot refl)
-        (either (is_reach_harmless words A f.bound n.key.pc instr aim.reach) (is_slot_harmless (offset_of n.key.sp) held aim.slot) h)
+        (or_cases (is_reach_harmless words A f.bound n.key.pc instr aim.reach) (is_slot_harmless (offset_of n.key.sp) held aim.slot) h)
 
     reach_told : (r : Reach) → aim.reach ≡ r → is_reach_harmless words A f.bound n.key.pc instr r ≡ true → is_aim_harmless words A f.bound n.key instr held (Some aim) ≡ true
     reach_told r is h =
@@ -180,29 +143,23 @@ module _ (words : List ℕ) (A : List Entry) (f : Family) (n : Node) (held : ℕ
     told holds (no_address is) = reach_told reach.Nothing is refl
     told holds (under_stack span is low high) =
         reach_told (reach.Within span) is
-        (first_of (under span) (over span) (single span) (and_true (nat_lt BELOW span.first) (nat_le (span.last + f.bound) top) (is_less BELOW span.first low) (is_most (span.last + f.bound) top high)))
-    told holds (above_memory span is above) = reach_told (reach.Within span) is (second_of (under span) (over span) (single span) (is_less top span.first above))
+        (first_of (under span) (over span) (single span) (and_from (nat_lt BELOW span.first) (nat_le (span.last + f.bound) top) (test_from_less BELOW span.first low) (test_from_at_most (span.last + f.bound) top high)))
+    told holds (above_memory span is above) = reach_told (reach.Within span) is (second_of (under span) (over span) (single span) (test_from_less top span.first above))
     told holds (one_register a is low free) =
         let span : Span = record { first = a; last = a } in
         reach_told (reach.Within span) is
-        (third_of (under span) (over span) (single span) (all_three (a == a) (nat_le a BELOW) (is_flagged_address words A n.key.pc instr a) (is_same a) (is_most a BELOW low) free))
+        (third_of (under span) (over span) (single span) (all_three (a == a) (nat_le a BELOW) (is_flagged_address words A n.key.pc instr a) (equals_itself a) (test_from_at_most a BELOW low) free))
     told holds (free_slot d is lt none) =
         or_right (is_reach_harmless words A f.bound n.key.pc instr aim.reach) (is_slot_harmless (offset_of n.key.sp) held aim.slot)
         (ap (is_slot_harmless (offset_of n.key.sp) held) is
-        ∙ and_true (nat_lt d (offset_of n.key.sp)) (not (held d)) (is_less d (offset_of n.key.sp) lt) (is_not (held d) (λ h. none (holds d lt h))))
-
-  aim_same : (x y : Aim) → Some x ≡ Some y → x ≡ y
-  aim_same x y e = cc
-
-  instr_same : (x y : Instr) → Some x ≡ Some y → x ≡ y
-  instr_same x y e = cc
+        ∙ and_from (nat_lt d (offset_of n.key.sp)) (not (held d)) (test_from_less d (offset_of n.key.sp) lt) (not_from_never (held d) (λ h. none (holds d lt h))))
 
   -- ---- nodes
 
   aim_clear : Frees → (instr : Instr) (x : Option Aim) → aim_of (device_of words) n.key n.state instr ≡ x → is_aim_harmless words A f.bound n.key instr held x ≡ true
       → (aim : Aim) → aim_of (device_of words) n.key n.state instr ≡ Some aim → IsHarmless words A f n instr aim
   aim_clear frees instr None is h aim same = absurd (let no : None ≡ Some aim = sym is ∙ same in cc)
-  aim_clear frees instr (Some x) is h aim same = let e : x ≡ aim = aim_same x aim (sym is ∙ same) in subst (IsHarmless words A f n instr) e (harmless instr x frees h)
+  aim_clear frees instr (Some x) is h aim same = let e : x ≡ aim = same_Some x aim (sym is ∙ same) in subst (IsHarmless words A f n instr) e (harmless instr x frees h)
 
   aim_told : Holds → (instr : Instr) (x : Option Aim) → aim_of (device_of words) n.key n.state instr ≡ x
       → ((aim : Aim) → aim_of (device_of words) n.key n.state instr ≡ Some aim → IsHarmless words A f n instr aim) → is_aim_harmless words A f.bound n.key instr held x ≡ true
@@ -218,14 +175,14 @@ module _ (words : List ℕ) (A : List Entry) (f : Family) (n : Node) (held : ℕ
 
     clear_at : Frees → (stores_harmless && transfers_listed) ≡ true → IsClear words A f n
     clear_at frees h =
-        let parts = both stores_harmless transfers_listed h in
+        let parts = and_parts stores_harmless transfers_listed h in
         record {
           store = λ instr aim at same.
-              let e : x ≡ instr = instr_same x instr (sym is ∙ at) in
+              let e : x ≡ instr = same_Some x instr (sym is ∙ at) in
               aim_clear frees instr (aim_of (device_of words) n.key n.state instr) refl
               (subst (λ y. is_aim_harmless words A f.bound n.key y held (aim_of (device_of words) n.key n.state y) ≡ true) e parts.0) aim same;
           transfer = λ instr at indirect.
-              let e : x ≡ instr = instr_same x instr (sym is ∙ at) in
+              let e : x ≡ instr = same_Some x instr (sym is ∙ at) in
               targets_listed (device_of words) n.state (jump_line A n.key.pc)
               (passes (is_indirect instr) (are_targets_listed (device_of words) n.state (jump_line A n.key.pc)) indirect
               (subst (λ y. is_transfer_listed words A n.key.pc n.state y ≡ true) e parts.1));
@@ -233,7 +190,7 @@ module _ (words : List ℕ) (A : List Entry) (f : Family) (n : Node) (held : ℕ
 
     told_at : Holds → IsClear words A f n → (stores_harmless && transfers_listed) ≡ true
     told_at holds clear =
-        and_true stores_harmless transfers_listed (aim_told holds x (aim_of (device_of words) n.key n.state x) refl (λ aim. clear.store x aim is))
+        and_from stores_harmless transfers_listed (aim_told holds x (aim_of (device_of words) n.key n.state x) refl (λ aim. clear.store x aim is))
         (may_pass (is_indirect x) (are_targets_listed (device_of words) n.state (jump_line A n.key.pc))
         (λ indirect. targets_told (device_of words) n.state (jump_line A n.key.pc) (clear.transfer x is indirect)))
 

@@ -2,10 +2,12 @@
 use Rattle.std.proofs.Common.{◌≡◌, ◌≢◌, refl, sym, ap, ap₂, ◌∙◌, subst, ℕ, ◌+◌, ◌-◌, ◌*◌, ◌%◌, ◌<◌, ◌≤◌, ◌==◌, Bool, true, false, not, ◌&&◌, ◌||◌, nat_le, ◌⊎◌, inl, inr, if◌then◌else◌, List, [], ◌∷◌, ◌++◌, Option, Some, None, arith}
 use Rattle.std.specs.List.{list_any}
 use Rattle.std.proofs.lemmas.Bool.Decides.{nat_tests}
+use Rattle.std.proofs.lemmas.Bool.{false_from_ne_true as never, and_from}
+use Rattle.basics.specs.Booleans.{never_both}
+use Rattle.frame_laws.proofs.AllLaws.{vector_inside, vector_small}
 use Rattle.avr_model.proofs.AllLaws.{devices_are_alike}
 use Rattle.avr_model.specs.declared.assumption.Entry.{Entry}
 use Rattle.avr_model.specs.declared.device.Device.{Device}
-use Rattle.avr_model.specs.declared.device.Device.TheVariants.{M48, M88, M168, M328}
 use Rattle.avr_model.specs.declared.instruction.Instr.{Instr}
 use Rattle.avr_model.specs.declared.instruction.Instr.TheVariants as i
 use Rattle.avr_model.specs.declared.choice.Choice.{Choice}
@@ -14,7 +16,7 @@ use Rattle.avr_model.specs.declared.choice.Flag.{Flag}
 use Rattle.avr_model.specs.declared.effect.Effect.{Effect}
 use Rattle.avr_model.specs.declared.effect.Write.{Write}
 use Rattle.avr_model.specs.Assumptions.{jump_line, store_line, is_never, is_fixed_site, lists}
-use Rattle.avr_model.specs.Devices.{words_of, ramend, wrapped, device_of}
+use Rattle.avr_model.specs.Devices.{ramend, wrapped, device_of}
 use Rattle.avr_model.specs.Image.{WORDS}
 use Rattle.avr_model.specs.Sites.{instruction_at, is_scratch}
 use Rattle.avr_model.specs.State.{State, Memory, is_live, i_flag, minus16, register, pair, low, high}
@@ -32,12 +34,12 @@ use Rattle.abs_state.specs.declared.state.AbsState.{AbsState}
 use Rattle.abs_state.specs.Stands.{ByteStands}
 use Rattle.local_rules.specs.Registers.{value, bits, forgetting}
 use Rattle.local_rules.specs.Local.{row_of, is_hung}
-use Rattle.local_laws.proofs.AllLaws.{open_pairs_hang}
+use Rattle.local_laws.proofs.AllLaws.{open_pairs_hang, above_if_live}
 use Rattle.edge_rules.specs.Families.{Family, IsSound}
 use Rattle.edge_rules.specs.Frames.{Frame, Runs}
 use Rattle.clear_laws.specs.Aims.{Aim}
 use Rattle.clear_laws.specs.Clear.{IsClear, IsHarmless, no_address, under_stack, above_memory, one_register, free_slot, is_flagged_address, AreTargetsListed, word_of_flag}
-use Rattle.clear_laws.proofs.Memory.{above_if_live, inside_if_live}
+use Rattle.clear_laws.proofs.Memory.{inside_if_live}
 use Rattle.clear_laws.proofs.Ports.{ports_fit}
 use Rattle.clear_laws.proofs.Aims.{IsReached, IsAimed}
 use Rattle.clear_laws.proofs.Bases.{base_inside}
@@ -56,18 +58,7 @@ not_flagged true pc (Some a) b c x flag ha hb hc = absurd (cc)
 not_flagged true pc None (Some b) c x flag ha hb hc = absurd (cc)
 not_flagged true pc None None (Some c) x flag ha hb hc = absurd (cc)
 
-never : (b : Bool) → (b ≡ true → ⊥) → b ≡ false
-never true h = absurd (h refl)
-never false h = refl
-
 -- ---- transfers
-
-both_true : (a b : Bool) → a ≡ true → b ≡ true → (a && b) ≡ true
-both_true a b h g = grind arith
-
-listed_none : (line : Option (List ℕ)) (target : ℕ) → ((listed : List ℕ) → line ≡ Some listed → lists listed target ≡ true) → unless_listed line target ≡ None
-listed_none None target h = refl
-listed_none (Some listed) target h = ap (λ b. if b then None else Some target) (h listed refl)
 
 z_small : (x y : ℕ) → x < 256 → y < 256 → x + 256 * y < 65536
 z_small x y h g = omega arith
@@ -85,7 +76,7 @@ goes_listed device s None x y all small small' low_has high_has = refl
 goes_listed device s (Some listed) x y all small small' low_has high_has =
     let low_bits : has (bits s 30) (low (x + 256 * y)) ≡ true = ap (has (bits s 30)) (z_low x y small) ∙ (tests_tell_members.bytes (bits s 30) x).1 low_has in
     let high_bits : has (bits s 31) (high (x + 256 * y)) ≡ true = ap (has (bits s 31)) (z_high x y small) ∙ (tests_tell_members.bytes (bits s 31) y).1 high_has in
-    let listed_there = all (x + 256 * y) (z_small x y small small') (both_true _ _ low_bits high_bits) in
+    let listed_there = all (x + 256 * y) (z_small x y small small') (and_from _ _ low_bits high_bits) in
     ap (λ b. if b then None else Some (wrapped device ((x + 256 * y) % WORDS)))
     (ap (lists listed) (devices_are_alike.of_14 device (x + 256 * y)) ∙ listed_there)
 
@@ -173,24 +164,11 @@ two_writes memory sp back first second = two_by (is_live memory sp) (is_live mem
 all_four : (a b c d : Bool) → (a && b && not c && d) ≡ true → (a ≡ true) × (b ≡ true) × (c ≡ false)
 all_four a b c d h = (grind arith, grind arith, grind arith)
 
-vector_small : (enables v : ℕ) → is_enabled enables v ≡ true → v ≤ 26
-vector_small enables v h = grind (arith, nat_tests)
-
--- a vector's word is one of the device's
-vector_inside : (device : Device) (v : ℕ) → v ≤ 26 → vector_word device v < words_of device
-vector_inside M48 v le = omega arith
-vector_inside M88 v le = omega arith
-vector_inside M168 v le = omega arith
-vector_inside M328 v le = omega arith
-
-true_not_false : (b : Bool) → b ≡ true → b ≡ false → ⊥
-true_not_false b e f = cc
-
 whole_where_taken : (device : Device) (A : List Entry) (k : NodeKey) (v : ℕ) (form : SpForm) → k.sp ≡ form → k.i ≡ true → k.delay ≡ false → is_enabled k.masks v ≡ true
     → is_never A (vector_word device v) ≡ false → is_hung device A k form ≡ false → IsWhole k.sp
 whole_where_taken device A k v (Closed offset) is i delay enabled allowed hung = (offset, is)
 whole_where_taken device A k v (Open offset high) is i delay enabled allowed hung =
-    absurd (true_not_false (is_hung device A k (Open offset high)) (open_pairs_hang.hung device A k v offset high i delay enabled allowed) hung)
+    absurd (never_both (is_hung device A k (Open offset high)) (open_pairs_hang.hung device A k v offset high i delay enabled allowed) hung)
 
 module _ (words : List ℕ) (A : List Entry) (f : Family) (sound : IsSound words A f) (m : State) (g : Frame) (gs : List Frame) (runs : Runs words A f m g gs)
     (holds : Holding words A f m.memory g gs) where

@@ -2,6 +2,7 @@
 use Rattle.std.proofs.Common.{◌≡◌, refl, sym, ap, ◌∙◌, subst, ℕ, ◌<◌, ◌≤◌, false, true, [], ◌∷◌, length, Some, ⊎_elim, Contains, arith, get_or-set_other, get_or-set_same}
 use Rattle.std.proofs.lemmas.Bool.{cases_eq}
 use Rattle.std.proofs.lemmas.List.{get_or-replicate, length-replicate}
+use Rattle.basics.specs.Items.{none_in, first_or_further, first_in}
 use Rattle.avr_model.specs.declared.instruction.Instr.TheVariants as i
 use Rattle.avr_model.specs.Bits.{any_below, all_below}
 use Rattle.avr_model.specs.Devices.{size_of, device_of}
@@ -34,7 +35,7 @@ use Rattle.local_rules.specs.Reads.{read_at}
 use Rattle.local_rules.specs.Writes.{written_at}
 use Rattle.local_rules.specs.Local.{raw, placed, joined_onto}
 use Rattle.local_rules.specs.Cover.{IsNode}
-use Rattle.local_laws.proofs.AllLaws.{none_in, each_of, first_or, here}
+use Rattle.local_laws.proofs.AllLaws.{each_of}
 use Rattle.edge_rules.specs.declared.edge.Edge.{Edge}
 use Rattle.edge_rules.specs.Edges.{raw_of, IsFaultless, Enters, by_call, by_interrupt, IsEdge, moving, entering, returning, target}
 use Rattle.edge_rules.specs.Families.{IsCovered, IsSound}
@@ -153,7 +154,7 @@ module _ (n : Node) (i_off : n.key.i ≡ false) (to : Node) (leads : raw_of over
   the_move : (x : Node) → Contains (joined_onto [] (raw_of over_room [] n).moves) x → x ≡ to
   unfolding joined_onto placed
   the_move x member =
-      ⊎_elim (λ e. e) (λ h. absurd (none_in x h)) (first_or to x [] (subst (λ (r : Raw). Contains (joined_onto [] r.moves) x) leads member))
+      ⊎_elim (λ e. e) (λ h. absurd (none_in x h)) (first_or_further to x [] (subst (λ (r : Raw). Contains (joined_onto [] r.moves) x) leads member))
 
   edge_covered : IsCovered room_family.nodes to → (e : Edge) → IsEdge over_room [] room_family.nodes n e → IsCovered room_family.nodes (target e)
   edge_covered covered _ (moving x f member) = subst (IsCovered room_family.nodes) (sym (the_move x member)) covered
@@ -237,7 +238,7 @@ unfolding joined_onto placed
 held_there =
     let to : Node = record { key = (at_depth 2 2).key; state = record (with_bytes 1) { slots = Free ∷ Guarded (value (with_bytes 1) 0) ∷ [] } } in
     pushed (at_depth 1 1) _ (1, omega arith, refl)
-    (moving to (ap (λ (r : Raw). r.faults) push_leads) (subst (λ (r : Raw). Contains (joined_onto [] r.moves) to) (sym push_leads) (here to []))) refl push_is_guarded
+    (moving to (ap (λ (r : Raw). r.faults) push_leads) (subst (λ (r : Raw). Contains (joined_onto [] r.moves) to) (sym push_leads) (first_in to []))) refl push_is_guarded
 
 at_store : instruction_at over_pushed 2 ≡ Some (i.Sts 0x08FE 0)
 unfolding decoded device_of

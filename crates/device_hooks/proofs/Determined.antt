@@ -1,9 +1,10 @@
 -- The run that devices choose by themselves is one list of choices.
-use Rattle.std.proofs.Common.{arith, suc, zero, ◌≡◌, refl, sym, ap, subst, ◌∙◌, ℕ, ◌<◌, ◌≤◌, ◌-◌, ◌&&◌, ◌||◌, ◌==◌, not, max, length, inl, inr, Bool, true, false, List, [], ◌∷◌, Option, Some, None, slice_get, slice_set}
+use Rattle.std.proofs.Common.{arith, suc, zero, ◌≡◌, refl, sym, ap, subst, ◌∙◌, ℕ, ◌<◌, ◌≤◌, ◌-◌, ◌&&◌, ◌||◌, ◌==◌, not, length, inl, inr, Bool, true, false, List, [], ◌∷◌, Option, Some, None, slice_get, slice_set}
 use Rattle.std.proofs.lemmas.List.{length-set}
 use Rattle.std.proofs.Math.ListN.{length-replicate}
 use Rattle.std.specs.Borrow.{Bor}
 use Rattle.std.specs.Fn.{Shared}
+use Rattle.basics.specs.Numbers.{most_from_start}
 use Rattle.witness_replay.specs.Replay.{Report, steps_of}
 use Rattle.device_hooks.specs.declared.hook.Moment.{Moment}
 use Rattle.device_hooks.specs.declared.walk.Walked.{Walked}
@@ -122,17 +123,11 @@ module _ (answers : Answering) (setup : Setup) (words : List ℕ) (A : List Entr
 
 -- ---- the depth
 
-from_none : (d : ℕ) → max 0 d ≡ d
-from_none d = grind arith
-
-from_start : (n d : ℕ) → max (n - n) d ≡ d
-from_start n d = let none : n - n ≡ 0 = omega arith in ap (λ (x : ℕ). max x d) none ∙ from_none d
-
 -- from reset the machine's depth is that of the run
 pub depth_from_reset : DepthIsKept → (words : List ℕ) (A : List Entry) (fill : ℕ) (cs : List Choice) (end : Machine) → IsRun words A cs (filled (device_of words) fill) → end ≡ machine_after words A cs (starting (filled (device_of words) fill))
     → end.depth ≡ depth_of words A cs (filled (device_of words) fill)
 depth_from_reset law words A fill cs end run after =
-    ap (λ (x : Machine). x.depth) after ∙ law words A cs (starting (filled (device_of words) fill)) (omega arith) run ∙ from_start (ramend (device_of words)) (depth_of words A cs (filled (device_of words) fill))
+    ap (λ (x : Machine). x.depth) after ∙ law words A cs (starting (filled (device_of words) fill)) (omega arith) run ∙ most_from_start (ramend (device_of words)) (depth_of words A cs (filled (device_of words) fill))
 
 module _ {F : Type 0} (g : Shared F (Bor Moment × (Bor Menu × Unit {0})) (Option ℕ)) (f : F) (setup : Setup) (timers : Bool)
     (answers : (moment : Bor Moment) (menu : Bor Menu) (answer : Option ℕ) → length moment.now.taken.now ≡ length setup.sources → g.post f (moment, (menu, tt)) answer

@@ -1,22 +1,26 @@
 -- A setup's text: what is read is spelled so, what is spelled is read, and where nothing is read no setup can go on.
-use Rattle.std.proofs.Common.{ℕ, ◌+◌, ◌-◌, ◌<◌, ◌≤◌, ◌≡◌, List, [], ◌∷◌, ◌++◌, true, refl, ap, sym, ◌∙◌, arith, Option, Some, None, Result, Ok, Err, cond, length, ◌⊎◌, inl, inr, codes, map, lit<, lit≤, subst, append-nil}
+use Rattle.std.proofs.Common.{ℕ, ◌+◌, ◌-◌, ◌<◌, ◌≤◌, ◌≡◌, List, [], ◌∷◌, ◌++◌, refl, ap, sym, ◌∙◌, arith, Option, Some, None, Result, Ok, Err, length, ◌⊎◌, inl, inr, codes, map, lit<, lit≤, subst, append-nil}
 use Rattle.std.proofs.lemmas.Slice.Eq.{bytes_eq-Decides}
 use Rattle.std.specs.List.{AllByRecursion}
 use Rattle.std.specs.Str.{bytes_eq}
+use Rattle.basics.specs.Lists.{chosen, nil_not_cons, same_head_and_tail}
+use Rattle.std.proofs.lemmas.Option.{none-some}
+use Rattle.witness_replay.specs.Reading.{fill_by}
+use Rattle.witness_replay.specs.Spelling.{filling}
+use Rattle.witness_replay.proofs.Exact.{as_words, fill_again, fill_takes, filling_words}
 use Rattle.sb_base.specs.Answers.{Answers}
-use Rattle.sb_base.specs.Digits.{hex_digits}
-use Rattle.sb_base.specs.Lines.{TextLine, Place, joined, lines_of, words_of, spaced}
-use Rattle.line_reading.specs.Reading.{hex_at, is_over, first_by, this_by, line_by}
+use Rattle.sb_base.specs.Lines.{TextLine, Place, joined, lines_of, spaced}
+use Rattle.line_reading.specs.Reading.{first_by, this_by, line_by}
 use Rattle.line_reading.specs.Words.{IsWord, whole, Passes, WordLaws}
 use Rattle.device_hooks.specs.declared.devices.Kind.{Kind}
 use Rattle.device_hooks.specs.declared.devices.Kind.TheVariants.{Timer, Bytes}
 use Rattle.device_hooks.specs.declared.devices.Source.{Source}
 use Rattle.device_hooks.specs.declared.devices.DevicesFault.{DevicesFault}
 use Rattle.device_hooks.specs.declared.devices.DevicesFault.TheVariants.{Malformed, Memory}
-use Rattle.device_hooks.specs.Spelling.{Setup, IsSource, IsSetup, most_sources, name_of, source_words, header, filling, ending, setup_lines, text_of}
-use Rattle.device_hooks.specs.Reading.{fill_in, fill_by, sources_from, if_last, setup_at, malformed, setup_in}
+use Rattle.device_hooks.specs.Spelling.{Setup, IsSource, IsSetup, most_sources, name_of, source_words, header, ending, setup_lines, text_of}
+use Rattle.device_hooks.specs.Reading.{sources_from, if_last, setup_at, malformed, setup_in}
 use Rattle.device_hooks.specs.Exact.{IsReading, Begins, NoneGoesOn, IsDueUnlessMemory, ReadIsSpelled, SpelledIsRead, RefusedIsStuck, OneText}
-use Rattle.line_reading.proofs.AllLaws.{chosen, some_is, none_some, ok_is, err_ok, bind_some, no_words, TakesLine, line_takes, line_refuses, line_again, passes_none, passes_more, passes_split, nil_cons, cons_is, then_ok, then_err}
+use Rattle.line_reading.proofs.AllLaws.{ok_is, err_ok, line_takes, line_refuses, line_again, passes_none, passes_more, passes_split, then_ok, then_err}
 use Rattle.device_hooks.proofs.Sources.{source_lines, sources_take, NoSource, sources_stuck, sources_again, are_words}
 
 abbrev header_by : List ℕ → Option (Unit {0})
@@ -30,46 +34,11 @@ start text = record { at = 0; rest = lines_of text }
 header_is : (text : List ℕ) (u : Unit {0}) → header_by text ≡ Some u → text ≡ spaced header
 header_is text u e = elim (chosen (bytes_eq text (codes "devices 1")) _ _ (Some u) e) [
   | inl h ↦ (bytes_eq-Decides text (codes "devices 1")).0 h.0
-  | inr h ↦ absurd (none_some u h.1)
+  | inr h ↦ absurd (none-some u h.1)
 ]
 
 header_again : header_by (spaced header) ≡ Some tt
 header_again = refl
-
-fill_end : (n b : ℕ) (ws : List (List ℕ)) → cond (is_over ws) (Some n) None ≡ Some b → (ws ≡ []) × (n ≡ b)
-fill_end n b ws e = elim (chosen (is_over ws) _ _ (Some b) e) [
-  | inl h ↦ (no_words ws h.0, some_is n b h.1)
-  | inr h ↦ absurd (none_some b h.1)
-]
-
-fill_words : WordLaws → (ws : List (List ℕ)) (b : ℕ) → fill_in ws ≡ Some b → (ws ≡ filling b) × (b < 256)
-unfolding fill_in
-fill_words k [] b e = absurd (none_some b e)
-fill_words k (w ∷ ws) b e = elim (chosen (bytes_eq w (codes "fill")) _ _ (Some b) e) [
-  | inl h ↦
-      let x = bind_some (hex_at 2 ws) _ b h.1 in
-      let t = k.hex_takes 2 x.0.0 ws x.0.1 x.1 in
-      let last = fill_end x.0.0 b x.0.1 x.2 in
-      let P : ℕ → Type 0 = λ y. (w ∷ ws ≡ filling y) × (y < 256) in
-      subst P last.1 (ap (λ y. y ∷ ws) ((bytes_eq-Decides w (codes "fill")).0 h.0) ∙ ap (λ y. codes "fill" ∷ y) (t.0 ∙ ap (λ y. hex_digits x.0.0 2 ∷ y) last.0), omega (arith, t.1))
-  | inr h ↦ absurd (none_some b h.1)
-]
-
-fill_takes : WordLaws → (text : List ℕ) (b : ℕ) → fill_by text ≡ Some b → (text ≡ spaced (filling b)) × (b < 256)
-fill_takes k text b e = let t = fill_words k (words_of text) b e in (sym (k.line_words text) ∙ ap spaced t.0, t.1)
-
-filling_words : WordLaws → (b : ℕ) → b < 256 → AllByRecursion IsWord (filling b)
-filling_words k b small = (((refl, (refl, (refl, (refl, tt)))), (refl, (refl, (refl, (refl, tt))))), (k.hex_word b 2 (omega (arith, small)), tt))
-
-filling_in : WordLaws → (b : ℕ) → b < 256 → fill_in (filling b) ≡ Some b
-unfolding fill_in
-filling_in k b small = let t = k.hex_taken 2 b [] (omega (arith, small)) in rw t refl
-
-fill_again : WordLaws → (b : ℕ) → b < 256 → fill_by (spaced (filling b)) ≡ Some b
-fill_again k b small = ap fill_in (k.words_stand (codes "fill") _ (filling_words k b small)) ∙ filling_in k b small
-
-as_words : {A : Type 0} (f : List ℕ → Option A) (p : Place) (x : A) (q : Place) (t : TakesLine f p x q) (ws : List (List ℕ)) → t.text ≡ spaced ws → Passes p (whole ws ∷ []) q
-as_words f p x q t ws e = let P : List ℕ → Type 0 = λ y. Passes p (record { text = y; whole = true } ∷ []) q in subst P e t.passes
 
 -- ---- words of all lines
 
@@ -116,7 +85,7 @@ read_stands k p setup e =
           (passes_more h.0.1 f.0.1 r.0.1 (whole (filling f.0.0) ∷ []) (map whole (source_lines r.0.0)) fill sources.passes);
     })
 
-malformed_ok : {A : Type 0} (d : Result A Place) (x : A) → malformed d ≡ Ok x → d ≡ Ok x
+pub malformed_ok : {A : Type 0} (d : Result A Place) (x : A) → malformed d ≡ Ok x → d ≡ Ok x
 malformed_ok (Ok y) x e = let same : y ≡ x = cc in rw same refl
 malformed_ok (Err q) x e = cc
 
@@ -174,16 +143,16 @@ end_is_no_kind Timer e = cc
 end_is_no_kind (Bytes bs) e = cc
 
 end_is_no_source : (s : Source) → ending ≡ source_words s → ⊥
-end_is_no_source s e = end_is_no_kind s.kind (cons_is _ _ _ _ e).0
+end_is_no_source s e = end_is_no_kind s.kind (same_head_and_tail _ _ _ _ e).0
 
 -- a line of other sources behind these sources is the end, or that of a source for which a line is left
 last_or_source : (left : ℕ) (sources others : List Source) (ws : List (List ℕ)) (more : List (List (List ℕ))) → length others ≤ left → AllByRecursion IsSource others
     → source_lines others ≡ (map source_words sources ++ ws ∷ []) ++ more → (ws ≡ ending) ⊎ NextSource (left - length sources) ws
-last_or_source left [] [] ws more few fit e = inl (sym (cons_is ending ws [] more e).0)
-last_or_source left [] (s ∷ ss) ws more few fit e = inr (record { source = s; fits = fit.0; room = omega (arith, few); words = sym (cons_is (source_words s) ws (source_lines ss) more e).0 })
-last_or_source left (r ∷ rs) [] ws more few fit e = absurd (end_is_no_source r (cons_is ending (source_words r) [] ((map source_words rs ++ ws ∷ []) ++ more) e).0)
+last_or_source left [] [] ws more few fit e = inl (sym (same_head_and_tail ending ws [] more e).0)
+last_or_source left [] (s ∷ ss) ws more few fit e = inr (record { source = s; fits = fit.0; room = omega (arith, few); words = sym (same_head_and_tail (source_words s) ws (source_lines ss) more e).0 })
+last_or_source left (r ∷ rs) [] ws more few fit e = absurd (end_is_no_source r (same_head_and_tail ending (source_words r) [] ((map source_words rs ++ ws ∷ []) ++ more) e).0)
 last_or_source left (r ∷ rs) (s ∷ ss) ws more few fit e =
-    let c = cons_is (source_words s) (source_words r) (source_lines ss) ((map source_words rs ++ ws ∷ []) ++ more) e in
+    let c = same_head_and_tail (source_words s) (source_words r) (source_lines ss) ((map source_words rs ++ ws ∷ []) ++ more) e in
     elim (last_or_source (left - 1) rs ss ws more (omega (arith, few)) fit.1 c.1) [
       | inl h ↦ inl h
       | inr h ↦ inr (record { source = h.source; fits = h.fits; room = omega (arith, h.room); words = h.words })
@@ -191,17 +160,17 @@ last_or_source left (r ∷ rs) (s ∷ ss) ws more few fit e =
 
 -- sources alone are no whole text
 no_end : (sources others : List Source) → source_lines others ≡ map source_words sources ++ [] → ⊥
-no_end [] [] e = nil_cons ending [] (sym e)
-no_end [] (s ∷ ss) e = nil_cons (source_words s) (source_lines ss) (sym e)
-no_end (r ∷ rs) [] e = end_is_no_source r (cons_is ending (source_words r) [] (map source_words rs ++ []) e).0
-no_end (r ∷ rs) (s ∷ ss) e = no_end rs ss (cons_is (source_words s) (source_words r) (source_lines ss) (map source_words rs ++ []) e).1
+no_end [] [] e = nil_not_cons ending [] (sym e)
+no_end [] (s ∷ ss) e = nil_not_cons (source_words s) (source_lines ss) (sym e)
+no_end (r ∷ rs) [] e = end_is_no_source r (same_head_and_tail ending (source_words r) [] (map source_words rs ++ []) e).0
+no_end (r ∷ rs) (s ∷ ss) e = no_end rs ss (same_head_and_tail (source_words s) (source_words r) (source_lines ss) (map source_words rs ++ []) e).1
 
 -- nothing stands behind the last line
 no_more : (sources others : List Source) (ws : List (List ℕ)) (more : List (List (List ℕ))) → source_lines others ≡ (source_lines sources ++ ws ∷ []) ++ more → ⊥
-no_more [] [] ws more e = nil_cons ws more (cons_is ending ending [] (ws ∷ more) e).1
-no_more [] (s ∷ ss) ws more e = end_is_no_source s (sym (cons_is (source_words s) ending (source_lines ss) (ws ∷ more) e).0)
-no_more (r ∷ rs) [] ws more e = end_is_no_source r (cons_is ending (source_words r) [] ((source_lines rs ++ ws ∷ []) ++ more) e).0
-no_more (r ∷ rs) (s ∷ ss) ws more e = no_more rs ss ws more (cons_is (source_words s) (source_words r) (source_lines ss) ((source_lines rs ++ ws ∷ []) ++ more) e).1
+no_more [] [] ws more e = nil_not_cons ws more (same_head_and_tail ending ending [] (ws ∷ more) e).1
+no_more [] (s ∷ ss) ws more e = end_is_no_source s (sym (same_head_and_tail (source_words s) ending (source_lines ss) (ws ∷ more) e).0)
+no_more (r ∷ rs) [] ws more e = end_is_no_source r (same_head_and_tail ending (source_words r) [] ((source_lines rs ++ ws ∷ []) ++ more) e).0
+no_more (r ∷ rs) (s ∷ ss) ws more e = no_more rs ss ws more (same_head_and_tail (source_words s) (source_words r) (source_lines ss) ((source_lines rs ++ ws ∷ []) ++ more) e).1
 
 abbrev bare : ℕ → Setup
 bare b = record { fill = b; sources = [] }
@@ -210,25 +179,25 @@ bare_fits : (b : ℕ) → b < 256 → IsSetup (bare b)
 bare_fits b small = record { fill_is_byte = small; count = lit≤ tt; all = tt }
 
 stop_header : (ls : List TextLine) → first_by header_by ls ≡ None → NoneGoesOn [] ls
-stop_header [] e = λ b. nil_cons _ _ (sym b.all)
+stop_header [] e = λ b. nil_not_cons _ _ (sym b.all)
 stop_header (l ∷ ls) e = λ ws more is b.
-    let c = cons_is header ws _ more b.all in
-    none_some tt (sym e ∙ ap (λ (x : TextLine). first_by header_by (x ∷ ls)) (is ∙ ap whole (sym c.0)) ∙ header_again)
+    let c = same_head_and_tail header ws _ more b.all in
+    none-some tt (sym e ∙ ap (λ (x : TextLine). first_by header_by (x ∷ ls)) (is ∙ ap whole (sym c.0)) ∙ header_again)
 
 stop_fill : WordLaws → (ls : List TextLine) → first_by fill_by ls ≡ None → NoneGoesOn (header ∷ []) ls
-stop_fill k [] e = λ b. nil_cons _ _ (sym (cons_is header header _ [] b.all).1)
+stop_fill k [] e = λ b. nil_not_cons _ _ (sym (same_head_and_tail header header _ [] b.all).1)
 stop_fill k (l ∷ ls) e = λ ws more is b.
-    let c = cons_is header header _ (ws ∷ more) b.all in
-    let d = cons_is (filling b.setup.fill) ws _ more c.1 in
-    none_some b.setup.fill (sym e ∙ ap (λ (x : TextLine). first_by fill_by (x ∷ ls)) (is ∙ ap whole (sym d.0)) ∙ fill_again k b.setup.fill b.fits.fill_is_byte)
+    let c = same_head_and_tail header header _ (ws ∷ more) b.all in
+    let d = same_head_and_tail (filling b.setup.fill) ws _ more c.1 in
+    none-some b.setup.fill (sym e ∙ ap (λ (x : TextLine). first_by fill_by (x ∷ ls)) (is ∙ ap whole (sym d.0)) ∙ fill_again k b.setup.fill b.fits.fill_is_byte)
 
 stop_sources : (fill : ℕ) (sources : List Source) (ls : List TextLine) → NoSource (most_sources - length sources) ls → NoneGoesOn (header ∷ filling fill ∷ map source_words sources) ls
 stop_sources fill sources [] none = λ b.
-    let c = cons_is header header _ (filling fill ∷ (map source_words sources ++ [])) b.all in
-    no_end sources b.setup.sources (cons_is (filling b.setup.fill) (filling fill) (source_lines b.setup.sources) (map source_words sources ++ []) c.1).1
+    let c = same_head_and_tail header header _ (filling fill ∷ (map source_words sources ++ [])) b.all in
+    no_end sources b.setup.sources (same_head_and_tail (filling b.setup.fill) (filling fill) (source_lines b.setup.sources) (map source_words sources ++ []) c.1).1
 stop_sources fill sources (l ∷ ls) none = λ ws more is b.
-    let c = cons_is header header _ (filling fill ∷ ((map source_words sources ++ ws ∷ []) ++ more)) b.all in
-    let d = cons_is (filling b.setup.fill) (filling fill) (source_lines b.setup.sources) ((map source_words sources ++ ws ∷ []) ++ more) c.1 in
+    let c = same_head_and_tail header header _ (filling fill ∷ ((map source_words sources ++ ws ∷ []) ++ more)) b.all in
+    let d = same_head_and_tail (filling b.setup.fill) (filling fill) (source_lines b.setup.sources) ((map source_words sources ++ ws ∷ []) ++ more) c.1 in
     elim (last_or_source most_sources sources b.setup.sources ws more b.fits.count b.fits.all d.1) [
       | inl h ↦ none.1 (is ∙ ap whole h)
       | inr h ↦ none.0 h.source h.fits h.room (is ∙ ap whole h.words)
@@ -236,8 +205,8 @@ stop_sources fill sources (l ∷ ls) none = λ ws more is b.
 
 stop_end : (setup : Setup) (l : TextLine) (ls : List TextLine) → NoneGoesOn (setup_lines setup) (l ∷ ls)
 stop_end setup l ls = λ ws more is b.
-    let c = cons_is header header _ (filling setup.fill ∷ ((source_lines setup.sources ++ ws ∷ []) ++ more)) b.all in
-    let d = cons_is (filling b.setup.fill) (filling setup.fill) (source_lines b.setup.sources) ((source_lines setup.sources ++ ws ∷ []) ++ more) c.1 in
+    let c = same_head_and_tail header header _ (filling setup.fill ∷ ((source_lines setup.sources ++ ws ∷ []) ++ more)) b.all in
+    let d = same_head_and_tail (filling b.setup.fill) (filling setup.fill) (source_lines b.setup.sources) ((source_lines setup.sources ++ ws ∷ []) ++ more) c.1 in
     no_more setup.sources b.setup.sources ws more d.1
 
 -- where a text is refused, by place

@@ -1,6 +1,9 @@
 -- Runs that go on step by step.
-use Rattle.std.proofs.Common.{arith, suc, ◌≡◌, ◌≢◌, refl, sym, ap, subst, ◌∙◌, ℕ, ◌<◌, ◌≤◌, ◌-◌, ◌+◌, ◌++◌, length, Bool, true, List, [], ◌∷◌, Option, Some, None}
+use Rattle.std.proofs.Common.{arith, suc, ◌≡◌, ◌≢◌, refl, sym, ap, subst, ◌∙◌, ℕ, ◌<◌, ◌≤◌, ◌-◌, ◌+◌, ◌++◌, length, Bool, true, List, [], ◌∷◌, Some, None}
 use Rattle.std.proofs.lemmas.List.{append-nil, length-append}
+use Rattle.std.proofs.lemmas.Option.{none-some, same_Some}
+use Rattle.basics.specs.Numbers.{less_none, less_one_more}
+use Rattle.stimulus.proofs.AllLaws.{done_of}
 use Rattle.avr_model.specs.declared.choice.Choice.{Choice}
 use Rattle.avr_model.specs.declared.choice.Stop.{Stop}
 use Rattle.avr_model.specs.declared.choice.Stop.TheVariants as stop
@@ -19,20 +22,6 @@ use Rattle.device_hooks.specs.Traces.{Leads}
 use Rattle.device_hooks.proofs.Determined.{next_step}
 use Rattle.device_hooks.specs.Midway.{IsChosen, kept_on, Walks}
 
-none_some : {X : Type 0} (x : X) → ◌≡◌ {A = Option X} None (Some x) → ⊥
-none_some x e = cc
-
-some_is : {X : Type 0} (x y : X) → Some x ≡ Some y → x ≡ y
-some_is x y e = cc
-
--- where a legal step has no stop, it is done
-done_of : (a : Answer) → result_of a ≢ said.Illegal → stop_at (result_of a) ≡ None → (s : State) × (a ≡ Done s)
-done_of Illegal legal none = absurd (legal refl)
-done_of (Undefined pc) legal none = absurd (none_some (stop.Undefined pc) (sym none))
-done_of (Overflow pc) legal none = absurd (none_some (stop.Overflow pc) (sym none))
-done_of (Flagged flag) legal none = absurd (none_some (stop.Flag flag) (sym none))
-done_of (Done s) legal none = (s, refl)
-
 -- what a stop makes of the run, of the machine and of the relations over them
 record Stopped (a : Answer) (end : Stop) : Type 1 where
   pub goes : (on : State → Type 0) (rest : Type 0) → rest → GoesOn a on rest
@@ -42,11 +31,11 @@ record Stopped (a : Answer) (end : Stop) : Type 1 where
   pub states : (on : State → List State) → states_on a on ≡ []
 
 stopped : (a : Answer) (end : Stop) → stop_at (result_of a) ≡ Some end → Stopped a end
-stopped Illegal end is = absurd (none_some end is)
-stopped (Done s) end is = absurd (none_some end is)
-stopped (Undefined pc) end is = record { goes = λ on rest h. h; runs = λ on. refl; moved = λ m. refl; stop = λ on. sym (some_is _ _ is); states = λ on. refl }
-stopped (Overflow pc) end is = record { goes = λ on rest h. h; runs = λ on. refl; moved = λ m. refl; stop = λ on. sym (some_is _ _ is); states = λ on. refl }
-stopped (Flagged flag) end is = record { goes = λ on rest h. h; runs = λ on. refl; moved = λ m. refl; stop = λ on. sym (some_is _ _ is); states = λ on. refl }
+stopped Illegal end is = absurd (none-some end is)
+stopped (Done s) end is = absurd (none-some end is)
+stopped (Undefined pc) end is = record { goes = λ on rest h. h; runs = λ on. refl; moved = λ m. refl; stop = λ on. sym (same_Some _ _ is); states = λ on. refl }
+stopped (Overflow pc) end is = record { goes = λ on rest h. h; runs = λ on. refl; moved = λ m. refl; stop = λ on. sym (same_Some _ _ is); states = λ on. refl }
+stopped (Flagged flag) end is = record { goes = λ on rest h. h; runs = λ on. refl; moved = λ m. refl; stop = λ on. sym (same_Some _ _ is); states = λ on. refl }
 
 -- a run has at least one state
 states_some : (words : List ℕ) (A : List Entry) (cs : List Choice) (m : State) → 1 ≤ length (states_of words A cs m)
@@ -72,26 +61,20 @@ module _ (answers : Answering) (setup : Setup) (words : List ℕ) (A : List Entr
     pub steps_are : steps ≡ steps_of words A cs m.state
     pub stop_is : stop ≡ stop_of words A cs m.state
 
-  none_less : (n : ℕ) → n - 0 ≡ n
-  none_less n = omega arith
-
-  less : (n k : ℕ) → n - suc k ≡ n - 1 - k
-  less n k = omega arith
-
   -- some first choices, and then more
   leads_joined : (n : ℕ) (p : Progress) (m : Machine) (cs more : List Choice) (mid : Progress) (at : Machine) (last : Progress) (end : Machine) → Led n p m cs mid at → Led (n - length cs) mid at more last end → Led n p m (cs ++ more) last end
-  leads_joined n p m [] more mid at last end h k = subst (λ (x : Progress). Led n x m more last end) h.0 (subst (λ (x : Machine). Led n mid x more last end) h.1 (subst (λ (x : ℕ). Led x mid at more last end) (none_less n) k))
+  leads_joined n p m [] more mid at last end h k = subst (λ (x : Progress). Led n x m more last end) h.0 (subst (λ (x : Machine). Led n mid x more last end) h.1 (subst (λ (x : ℕ). Led x mid at more last end) (less_none n) k))
   leads_joined n p m (c ∷ cs) more mid at last end h k =
-      (h.0, h.1, h.2, h.3, h.4, h.5, h.6, leads_joined (n - 1) (next_on setup p h.2) (moved_on m (Done h.5)) cs more mid at last end h.7 (subst (λ (x : ℕ). Led x mid at more last end) (less n (length cs)) k))
+      (h.0, h.1, h.2, h.3, h.4, h.5, h.6, leads_joined (n - 1) (next_on setup p h.2) (moved_on m (Done h.5)) cs more mid at last end h.7 (subst (λ (x : ℕ). Led x mid at more last end) (less_one_more n (length cs)) k))
 
   -- some first choices, and then a whole run
   whole_joined : (n : ℕ) (p : Progress) (m : Machine) (cs more : List Choice) (mid : Progress) (at end : Machine) (steps : ℕ) (stop : Stop) → Led n p m cs mid at → Whole (n - length cs) mid at more end steps stop → Whole n p m (cs ++ more) end (length cs + steps) stop
   whole_joined n p m [] more mid at end steps stop h k =
-      let here = subst (λ (x : Progress). Whole n x m more end steps stop) h.0 (subst (λ (x : Machine). Whole n mid x more end steps stop) h.1 (subst (λ (x : ℕ). Whole x mid at more end steps stop) (none_less n) k)) in
+      let here = subst (λ (x : Progress). Whole n x m more end steps stop) h.0 (subst (λ (x : Machine). Whole n mid x more end steps stop) h.1 (subst (λ (x : ℕ). Whole x mid at more end steps stop) (less_none n) k)) in
       let same : steps ≡ 0 + steps = omega arith in
       subst (λ (x : ℕ). Whole n p m more end x stop) same here
   whole_joined n p m (c ∷ cs) more mid at end steps stop h k =
-      let rest = whole_joined (n - 1) (next_on setup p h.2) (moved_on m (Done h.5)) cs more mid at end steps stop h.7 (subst (λ (x : ℕ). Whole x mid at more end steps stop) (less n (length cs)) k) in
+      let rest = whole_joined (n - 1) (next_on setup p h.2) (moved_on m (Done h.5)) cs more mid at end steps stop h.7 (subst (λ (x : ℕ). Whole x mid at more end steps stop) (less_one_more n (length cs)) k) in
       let on : State → Type 0 = λ s. Chooses answers setup words A (n - 1) (next_on setup p h.2) s (cs ++ more) in
       record {
         chooses = (h.0, h.2, h.3, h.4, subst (λ (a : Answer). GoesOn a on (cs ++ more ≡ [])) (sym h.6) rest.chooses);

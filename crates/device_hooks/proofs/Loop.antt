@@ -1,6 +1,8 @@
 -- One line more of a setup.
 use Rattle.std.proofs.Common.{ℕ, ◌+◌, ◌-◌, ◌≡◌, List, [], ◌∷◌, ◌++◌, refl, ap, sym, ◌∙◌, Option, Some, None, Result, Ok, Err, append_assoc}
 use Rattle.std.proofs.lemmas.List.{append-nil}
+use Rattle.line_reading.proofs.AllLaws.{ok_is}
+use Rattle.device_hooks.proofs.Exact.{malformed_ok}
 use Rattle.sb_base.specs.Lines.{TextLine, Place, size_of}
 use Rattle.line_reading.specs.Reading.{first_by, line_by, taken}
 use Rattle.device_hooks.specs.declared.devices.Source.{Source}
@@ -11,9 +13,6 @@ use Rattle.device_hooks.specs.Reading.{part_by, sources_from, with_front, with_p
 with_front-twice : (xs ys : List Source) (d : Result (List Source × Place) Place) → with_front xs (with_front ys d) ≡ with_front (xs ++ ys) d
 with_front-twice xs ys (Ok x) = ap (λ zs. Ok (zs, x.1)) (sym (append_assoc xs ys x.0))
 with_front-twice xs ys (Err q) = refl
-
-ok_is : {A : Type 0} (x y : A) → ◌≡◌ {A = Result A Place} (Ok x) (Ok y) → x ≡ y
-ok_is x y e = cc
 
 ok_part : (o p : Option Source) (here q : Place) → ◌≡◌ {A = Result (Option Source × Place) Place} (Ok (o, here)) (Ok (p, q)) → (o ≡ p) × (here ≡ q)
 ok_part o p here q e =
@@ -57,10 +56,6 @@ no_line : (left at : ℕ) (ls : List TextLine) (q : Place) → line_by (part_by 
 unfolding sources_from line_by rest_from
 no_line left at [] q e = let same : record { at = at; rest = [] } ≡ q = cc in rw same refl
 no_line left at (l ∷ ls) q e = no_part left (first_by (part_by left) (l ∷ ls)) (record { at = at; rest = l ∷ ls }) (record { at = at + size_of l; rest = ls }) q e
-
-malformed_ok : {A : Type 0} (d : Result A Place) (x : A) → malformed d ≡ Ok x → d ≡ Ok x
-malformed_ok (Ok y) x e = let same : y ≡ x = cc in rw same refl
-malformed_ok (Err q) x e = cc
 
 malformed_err : {A : Type 0} (d : Result A Place) (e : DevicesFault) → malformed d ≡ Err e → (q : Place) × (d ≡ Err q) × (Malformed q.at ≡ e)
 malformed_err (Ok y) e is = cc

@@ -6,9 +6,11 @@ use Rattle.device_hooks.specs.declared.devices.Source.{Source}
 use Rattle.device_hooks.specs.Spelling.{Setup}
 use Rattle.device_hooks.specs.Due.{is_of, is_due, is_ready_source, is_ready, first_from, first_ready}
 use Rattle.std.proofs.lemmas.Bool.{false≢true}
+use Rattle.basics.specs.Booleans.{last_of_three}
+use Rattle.basics.specs.Lists.{chosen}
+use Rattle.std.proofs.lemmas.Option.{same_Some, none-some}
 use Rattle.avr_machine.specs.declared.menu.Menu.{Menu}
 use Rattle.device_hooks.specs.Hooks.{stands_in, IsTakable}
-use Rattle.line_reading.proofs.AllLaws.{chosen, some_is, none_some, both}
 
 one_more : (ready : ℕ → Bool) (n left : ℕ) → 0 < left → first_from ready n left ≡ first_from ready n (suc (left - 1))
 one_more ready n left some = let same : left ≡ suc (left - 1) = omega (arith, some) in ap (first_from ready n) same
@@ -29,9 +31,9 @@ first_none ready n count all e end = let none : count - n ≡ 0 = omega (arith, 
 -- ---- what holds of the first
 
 pub first_is : (ready : ℕ → Bool) (at n k : ℕ) → first_from ready at n ≡ Some k → ready k ≡ true
-first_is ready at zero k e = absurd (none_some k e)
+first_is ready at zero k e = absurd (none-some k e)
 first_is ready at (suc n) k e = elim (chosen (ready at) _ _ (Some k) e) [
-  | inl h ↦ ap ready (sym (some_is at k h.1)) ∙ h.0
+  | inl h ↦ ap ready (sym (same_Some at k h.1)) ∙ h.0
   | inr h ↦ first_is ready (at + 1) n k h.1
 ]
 
@@ -44,14 +46,9 @@ pub ready_same : (may other : ℕ → Bool) (timers : Bool) (o : Option Source) 
 ready_same may other timers None taken step same = refl
 ready_same may other timers (Some s) taken step same = ap (λ (b : Bool). is_of timers s.kind && is_due s taken step && b) (same s.vector)
 
-last_of : (a b c : Bool) → (a && b && c) ≡ true → c ≡ true
-last_of true true c h = h
-last_of true false c h = cc
-last_of false b c h = cc
-
 takable_if : (setup : Setup) (menu : Menu) (timers : Bool) (n taken step : ℕ) (o : Option Source) → slice_get setup.sources n ≡ o → is_ready_source (stands_in menu) timers o taken step ≡ true → IsTakable setup menu n
 takable_if setup menu timers n taken step None is e = absurd (false≢true e)
-takable_if setup menu timers n taken step (Some s) is e = record { source = s; there = is; stands = last_of (is_of timers s.kind) (is_due s taken step) (stands_in menu s.vector) e }
+takable_if setup menu timers n taken step (Some s) is e = record { source = s; there = is; stands = last_of_three (is_of timers s.kind) (is_due s taken step) (stands_in menu s.vector) e }
 
 -- a source that is ready may be taken
 pub ready_takable : (setup : Setup) (menu : Menu) (timers : Bool) (n taken step : ℕ) → is_ready_source (stands_in menu) timers (slice_get setup.sources n) taken step ≡ true → IsTakable setup menu n

@@ -1,18 +1,17 @@
 -- Runs that devices choose are runs of the machine.
-use Rattle.std.proofs.Common.{arith, zero, suc, ◌≡◌, ◌≢◌, refl, sym, ap, subst, ◌∙◌, ℕ, ◌<◌, ◌≤◌, ◌&&◌, Bool, true, false, if◌then◌else◌, inl, inr, ◌⊎◌, List, [], ◌∷◌, Option, Some, None, slice_get, slice_index_or, lit<}
-use Rattle.std.proofs.lemmas.List.Elements.{All-replicate}
-use Rattle.std.proofs.Math.ListN.{length-replicate}
+use Rattle.std.proofs.Common.{arith, zero, suc, ◌≡◌, ◌≢◌, refl, sym, ap, subst, ◌∙◌, ℕ, ◌<◌, ◌≤◌, Bool, true, false, if◌then◌else◌, inl, inr, ◌⊎◌, List, [], ◌∷◌, Option, Some, None, slice_get, slice_index_or, lit<}
 use Rattle.std.specs.List.{AllByRecursion}
+use Rattle.basics.specs.Booleans.{last_of_three}
+use Rattle.std.proofs.lemmas.Option.{none-some}
+use Rattle.witness_replay.proofs.Reached.{is_reset}
+use Rattle.avr_machine.proofs.Choosing.{go_is_legal, either_is_legal}
 use Rattle.avr_model.specs.declared.choice.Choice.{Choice}
-use Rattle.avr_model.specs.declared.choice.Flag.{Flag}
 use Rattle.avr_model.specs.declared.choice.StepResult.TheVariants as said
 use Rattle.avr_model.specs.declared.assumption.Entry.{Entry}
-use Rattle.avr_model.specs.declared.device.Device.{Device}
-use Rattle.avr_model.specs.declared.instruction.Instr.{Instr}
-use Rattle.avr_model.specs.Devices.{size_of, device_of}
+use Rattle.avr_model.specs.Devices.{device_of}
 use Rattle.avr_model.specs.Sites.{instruction_at}
-use Rattle.avr_model.specs.State.{State, IsReset, filled}
-use Rattle.avr_model.specs.Step.{Answer, Illegal, Undefined, Overflow, Flagged, Done, step, take, go, entering, flagged_or, may_take, result_of}
+use Rattle.avr_model.specs.State.{State}
+use Rattle.avr_model.specs.Step.{Answer, Illegal, Undefined, Overflow, Flagged, Done, step, take, entering, may_take, result_of}
 use Rattle.avr_model.specs.Run.{HasBytes, IsRun, RunsOn, Bounded}
 use Rattle.stimulus.specs.Driving.{choices_on}
 use Rattle.device_hooks.specs.declared.devices.Kind.{Kind}
@@ -23,21 +22,11 @@ use Rattle.device_hooks.specs.Due.{Progress, begun, is_of, is_due, is_ready_sour
 use Rattle.device_hooks.specs.Simulating.{picked, chosen, initial, simulated}
 use Rattle.device_hooks.specs.Laws.{IsRunFromReset, SimulationsAreRuns, SimulationsAreBounded}
 use Rattle.device_hooks.proofs.Ready.{first_is}
-use Rattle.line_reading.proofs.AllLaws.{none_some}
 
 -- ---- which choices aren't illegal
 
-inside_legal : (b : Bool) (o : Option Flag) (s : State) (pc : ℕ) → result_of (if b then flagged_or o s else Overflow pc) ≢ said.Illegal
-inside_legal true None s pc e = cc
-inside_legal true (Some flag) s pc e = cc
-inside_legal false o s pc e = cc
-
-go_legal : (words : List ℕ) (A : List Entry) (m : State) (o : Option Instr) (b1 b2 : ℕ) → result_of (go words A m o b1 b2) ≢ said.Illegal
-go_legal words A m None b1 b2 e = cc
-go_legal words A m (Some instr) b1 b2 e = inside_legal _ _ _ _ e
-
 take_legal : (A : List Entry) (m : State) (v : ℕ) (b : Bool) → b ≡ true → result_of (if b then take A m (entering m v false) else Illegal) ≢ said.Illegal
-take_legal A m v true is e = inside_legal _ _ _ _ e
+take_legal A m v true is e = either_is_legal _ _ _ _ e
 take_legal A m v false is e = cc
 
 -- the source of the answer may be taken
@@ -46,19 +35,14 @@ MayTake m None = Unit {0}
 MayTake m (Some s) = may_take m s.vector false ≡ true
 
 choice_legal : (words : List ℕ) (A : List Entry) (m : State) (o : Option Source) (p : Progress) → MayTake m o → result_of (step words A m (choice_at o p)) ≢ said.Illegal
-choice_legal words A m None p may = go_legal words A m (instruction_at words m.pc) p.input p.input
+choice_legal words A m None p may = go_is_legal words A m (instruction_at words m.pc) p.input p.input
 choice_legal words A m (Some s) p may = take_legal A m s.vector (may_take m s.vector false) may
 
 -- ---- what is picked may be taken
 
-last_of : (a b c : Bool) → (a && b && c) ≡ true → c ≡ true
-last_of true true c h = h
-last_of true false c h = cc
-last_of false b c h = cc
-
 ready_may : (m : State) (timers : Bool) (o : Option Source) (taken step : ℕ) → is_ready_source (λ v. may_take m v false) timers o taken step ≡ true → MayTake m o
 ready_may m timers None taken step e = tt
-ready_may m timers (Some s) taken step e = last_of (is_of timers s.kind) (is_due s taken step) (may_take m s.vector false) e
+ready_may m timers (Some s) taken step e = last_of_three (is_of timers s.kind) (is_due s taken step) (may_take m s.vector false) e
 
 either : (a b : Option ℕ) (n : ℕ) → or_else a b ≡ Some n → (a ≡ Some n) ⊎ (b ≡ Some n)
 either None b n e = inr e
@@ -95,7 +79,7 @@ passed_small None p n h small = small
 passed_small (Some s) p n h small = input_small s.kind (taken_of p n) p.input (h s refl).kind small
 
 source_there : (sources : List Source) (n : ℕ) (s : Source) → AllByRecursion IsSource sources → slice_get sources n ≡ Some s → IsSource s
-source_there [] n s h e = absurd (none_some s e)
+source_there [] n s h e = absurd (none-some s e)
 source_there (x ∷ xs) zero s h e = let same : x ≡ s = cc in subst IsSource same h.0
 source_there (x ∷ xs) (suc n) s h e = source_there xs n s h.1 e
 
@@ -121,22 +105,6 @@ chosen_runs words A setup h (suc n) p m small =
           (choice_legal words A m (answered setup a) p (picked_may setup p m a refl))
           (λ s. chosen_runs words A setup h n (next_on setup p a) s (next_small setup p a h small)),
     )
-
-is_reset : (device : Device) (byte : ℕ) → byte < 256 → IsReset device (filled device byte)
-is_reset device byte h = record {
-  is = refl;
-  pc = refl;
-  sp = refl;
-  sreg = refl;
-  enables = refl;
-  closed = refl;
-  no_delay = refl;
-  none_live = refl;
-  count_registers = refl;
-  register_bytes = All-replicate (λ b. b < 256) 32 byte h;
-  count_bytes = length-replicate (size_of device) byte;
-  sram_bytes = All-replicate (λ b. b < 256) (size_of device) byte h;
-}
 
 pub simulations_are_runs : SimulationsAreRuns
 simulations_are_runs words A setup n h = record {

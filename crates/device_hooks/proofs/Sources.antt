@@ -5,6 +5,10 @@ use Rattle.std.proofs.lemmas.Slice.Eq.{bytes_eq-Decides}
 use Rattle.std.specs.List.{AllByRecursion}
 use Rattle.std.specs.Fmt.{decimal}
 use Rattle.std.specs.Str.{bytes_eq}
+use Rattle.basics.specs.Lists.{chosen, nil_not_cons, same_head_and_tail}
+use Rattle.std.proofs.lemmas.Option.{same_Some as some_is, none-some}
+use Rattle.std.proofs.lemmas.Bool.{and_parts}
+use Rattle.witness_replay.proofs.Runs.{map_none}
 use Rattle.sb_base.specs.Digits.{hex_digits}
 use Rattle.sb_base.specs.Lines.{TextLine, Place, size_of, words_of, spaced}
 use Rattle.line_reading.specs.Reading.{hex_at, dec_at, is_over, first_by}
@@ -15,7 +19,7 @@ use Rattle.device_hooks.specs.declared.devices.Kind.TheVariants.{Timer, Bytes}
 use Rattle.device_hooks.specs.declared.devices.Source.{Source}
 use Rattle.device_hooks.specs.Spelling.{most_bytes, most_steps, IsSource, source_words, ending}
 use Rattle.device_hooks.specs.Reading.{times_at, bytes_in, source_of, timer_in, receiver_by, receiver_in, source_in, source_by, part_by, with_front, with_part, sources_from}
-use Rattle.line_reading.proofs.AllLaws.{chosen, some_is, none_some, ok_is, err_ok, err_is, bind_some, both, no_words, first_some, passes_none, passes_one, passes_more, passes_tail, passes_end, nil_cons, cons_is}
+use Rattle.line_reading.proofs.AllLaws.{ok_is, err_ok, err_is, bind_some, no_words, first_some, passes_none, passes_one, passes_more, passes_tail, passes_end}
 
 -- ---- the words of a source
 
@@ -36,8 +40,8 @@ record IsTimesRead (ws : List (List ℕ)) (t : Times) (rest : List (List ℕ)) :
 times_end : (v f p : ℕ) (ws : List (List ℕ)) (y : Times × List (List ℕ)) → cond (nat_le 2 v && nat_le 1 p) (Some (record { vector = v; first = f; period = p }, ws)) None ≡ Some y
     → (2 ≤ v) × (1 ≤ p) × ((record { vector = v; first = f; period = p }, ws) ≡ y)
 times_end v f p ws y e = elim (chosen (nat_le 2 v && nat_le 1 p) _ _ (Some y) e) [
-  | inl h ↦ let t = both (nat_le 2 v) (nat_le 1 p) h.0 in (grind (arith, nat_tests, t.0), grind (arith, nat_tests, t.1), some_is {A = Times × List (List ℕ)} (record { vector = v; first = f; period = p }, ws) y h.1)
-  | inr h ↦ absurd (none_some y h.1)
+  | inl h ↦ let t = and_parts (nat_le 2 v) (nat_le 1 p) h.0 in (grind (arith, nat_tests, t.0), grind (arith, nat_tests, t.1), some_is {A = Times × List (List ℕ)} (record { vector = v; first = f; period = p }, ws) y h.1)
+  | inr h ↦ absurd (none-some y h.1)
 ]
 
 times_takes : WordLaws → (ws : List (List ℕ)) (y : Times × List (List ℕ)) → times_at ws ≡ Some y → IsTimesRead ws y.0 y.1
@@ -73,7 +77,7 @@ bytes_words bs = map (λ b. hex_digits b 2) bs
 
 mapped : {A B : Type 0} (f : A → B) (o : Option A) (y : B) → option_map f o ≡ Some y → (x : A) × (o ≡ Some x) × (f x ≡ y)
 mapped f (Some x) y e = (x, refl, some_is (f x) y e)
-mapped f None y e = absurd (none_some y e)
+mapped f None y e = absurd (none-some y e)
 
 record AreBytesRead (ws : List (List ℕ)) (bs : List ℕ) : Type 0 where
   pub words : ws ≡ bytes_words bs
@@ -85,7 +89,7 @@ bytes_take k (w ∷ ws) bs e =
     let b = bind_some (hex_at 2 (w ∷ ws)) _ bs e in
     let m = mapped (λ xs. b.0.0 ∷ xs) (bytes_in ws) bs b.2 in
     let t = k.hex_takes 2 b.0.0 (w ∷ ws) b.0.1 b.1 in
-    let c = cons_is w (hex_digits b.0.0 2) ws b.0.1 t.0 in
+    let c = same_head_and_tail w (hex_digits b.0.0 2) ws b.0.1 t.0 in
     let more = bytes_take k ws m.0 m.1 in
     let P : List ℕ → Type 0 = λ x. AreBytesRead (w ∷ ws) x in
     subst P m.2 (record { words = ap (λ x. x ∷ ws) c.0 ∙ ap (λ x. hex_digits b.0.0 2 ∷ x) more.words; small = (omega (arith, t.1), more.small) })
@@ -121,15 +125,15 @@ timer_takes k ws s e =
             words = ap (λ x. codes "timer" ∷ x) (read.words ∙ ap (times_words t.0.0) (no_words t.0.1 h.0));
             fits = fits_timer t.0.0 read.fit;
           })
-      | inr h ↦ absurd (none_some s h.1)
+      | inr h ↦ absurd (none-some s h.1)
     ]
 
 receiver_end : (t : Times) (bs : List ℕ) (s : Source) → receiver_by t bs ≡ Some s → (1 ≤ length bs) × (length bs ≤ most_bytes) × (source_of t (Bytes bs) ≡ s)
 receiver_end t bs s e = elim (chosen (nat_le 1 (length bs) && nat_le (length bs) most_bytes) _ _ (Some s) e) [
   | inl h ↦
-      let b = both (nat_le 1 (length bs)) (nat_le (length bs) most_bytes) h.0 in
+      let b = and_parts (nat_le 1 (length bs)) (nat_le (length bs) most_bytes) h.0 in
       (grind (arith, nat_tests, b.0), grind (arith, nat_tests, b.1), some_is (source_of t (Bytes bs)) s h.1)
-  | inr h ↦ absurd (none_some s h.1)
+  | inr h ↦ absurd (none-some s h.1)
 ]
 
 receiver_takes : WordLaws → (ws : List (List ℕ)) (s : Source) → receiver_in ws ≡ Some s → IsSourceRead (codes "bytes" ∷ ws) s
@@ -150,12 +154,12 @@ headed w v ws s e h = record { words = ap (λ x. x ∷ ws) e ∙ h.words; fits =
 
 source_takes : WordLaws → (ws : List (List ℕ)) (s : Source) → source_in ws ≡ Some s → IsSourceRead ws s
 unfolding source_in
-source_takes k [] s e = absurd (none_some s e)
+source_takes k [] s e = absurd (none-some s e)
 source_takes k (w ∷ ws) s e = elim (chosen (bytes_eq w (codes "timer")) _ _ (Some s) e) [
   | inl h ↦ headed w (codes "timer") ws s ((bytes_eq-Decides w (codes "timer")).0 h.0) (timer_takes k ws s h.1)
   | inr h ↦ elim (chosen (bytes_eq w (codes "bytes")) _ _ (Some s) h.1) [
     | inl g ↦ headed w (codes "bytes") ws s ((bytes_eq-Decides w (codes "bytes")).0 g.0) (receiver_takes k ws s g.1)
-    | inr g ↦ absurd (none_some s g.1)
+    | inr g ↦ absurd (none-some s g.1)
   ]
 ]
 
@@ -195,14 +199,10 @@ pub record IsSourceLine (left : ℕ) (text : List ℕ) (s : Source) : Type 0 whe
   pub fits : IsSource s
   pub room : 1 ≤ left
 
-map_none : {A : Type 0} (o : Option A) → ◌≡◌ {A = Option (Option A)} (option_map Some o) (Some None) → ⊥
-map_none {A} (Some y) e = none_some y (sym (some_is (Some y) None e))
-map_none {A} None e = none_some {A = Option A} None e
-
 pub part_source : WordLaws → (left : ℕ) (text : List ℕ) (s : Source) → part_by left text ≡ Some (Some s) → IsSourceLine left text s
 unfolding part_by
 part_source k left text s e = elim (chosen (bytes_eq text (codes "end")) _ _ (Some (Some s)) e) [
-  | inl g ↦ absurd (none_some s (some_is None (Some s) g.1))
+  | inl g ↦ absurd (none-some s (some_is None (Some s) g.1))
   | inr g ↦
       let m = mapped Some (source_by left text) (Some s) g.1 in
       elim (chosen (nat_le 1 left) _ _ (Some m.0) m.1) [
@@ -210,7 +210,7 @@ part_source k left text s e = elim (chosen (bytes_eq text (codes "end")) _ _ (So
             let t = source_takes k (words_of text) m.0 h.1 in
             let P : Source → Type 0 = λ x. IsSourceLine left text x in
             subst P (some_is m.0 s m.2) (record { line = sym (k.line_words text) ∙ ap spaced t.words; fits = t.fits; room = grind (arith, nat_tests, h.0) })
-        | inr h ↦ absurd (none_some m.0 h.1)
+        | inr h ↦ absurd (none-some m.0 h.1)
       ]
 ]
 
@@ -303,16 +303,13 @@ pub record SourcesStuck (left at : ℕ) (ls : List TextLine) (q : Place) : Type 
 
 none_come : WordLaws → (left : ℕ) (l : TextLine) (ls : List TextLine) → first_by (part_by left) (l ∷ ls) ≡ None → NoSource (left - 0) (l ∷ ls)
 none_come k left l ls e = (
-  λ s fits room is. none_some (Some s) (sym e ∙ ap (λ (x : TextLine). first_by (part_by left) (x ∷ ls)) is ∙ part_again k left s fits (omega (arith, room))),
-  λ is. none_some None (sym e ∙ ap (λ (x : TextLine). first_by (part_by left) (x ∷ ls)) is ∙ end_again left),
+  λ s fits room is. none-some (Some s) (sym e ∙ ap (λ (x : TextLine). first_by (part_by left) (x ∷ ls)) is ∙ part_again k left s fits (omega (arith, room))),
+  λ is. none-some None (sym e ∙ ap (λ (x : TextLine). first_by (part_by left) (x ∷ ls)) is ∙ end_again left),
 )
 
 front_err : (s : Source) (d : Result (List Source × Place) Place) (q : Place) → with_front (s ∷ []) d ≡ Err q → d ≡ Err q
 front_err s (Ok y) q e = absurd (err_ok {A = List Source × Place} q (s ∷ y.0, y.1) (sym e))
 front_err s (Err at) q e = e
-
-left_less : (left n : ℕ) → left - 1 - n ≡ left - (n + 1)
-left_less left n = omega arith
 
 one_stuck : WordLaws → (left at : ℕ) (l : TextLine) (ls : List TextLine) (q : Place) (d : Option (Option Source)) → first_by (part_by left) (l ∷ ls) ≡ d
     → (sources_from (left - 1) (at + size_of l) ls ≡ Err q → SourcesStuck (left - 1) (at + size_of l) ls q)
@@ -352,8 +349,8 @@ sources_stuck k left at (l ∷ ls) q e =
 pub sources_again : WordLaws → (left at : ℕ) (ls : List TextLine) (ss : List Source) (q : Place) → AllByRecursion IsSource ss → length ss ≤ left
     → Passes (record { at = at; rest = ls }) (map whole (source_lines ss)) q → sources_from left at ls ≡ Ok (ss, q)
 unfolding sources_from
-sources_again k left at [] [] q fit room h = absurd (nil_cons (whole ending) q.rest h.lines)
-sources_again k left at [] (s ∷ ss) q fit room h = absurd (nil_cons (whole (source_words s)) (map whole (source_lines ss) ++ q.rest) h.lines)
+sources_again k left at [] [] q fit room h = absurd (nil_not_cons (whole ending) q.rest h.lines)
+sources_again k left at [] (s ∷ ss) q fit room h = absurd (nil_not_cons (whole (source_words s)) (map whole (source_lines ss) ++ q.rest) h.lines)
 sources_again k left at (l ∷ ls) [] q fit room h =
     let t = passes_tail at l (whole ending) ls [] q h in
     let read : first_by (part_by left) (l ∷ ls) ≡ Some None = ap (λ (x : TextLine). first_by (part_by left) (x ∷ ls)) t.0 ∙ end_again left in

@@ -3,6 +3,7 @@
 use Rattle.std.specs.Prelude.{ℕ, ◌+◌, ◌-◌, ◌&&◌, nat_le, List, [], ◌∷◌, ◌++◌, length, Option, Some, None, Result, Ok, Err, codes, if◌then◌else◌}
 use Rattle.std.specs.Option.{option_map}
 use Rattle.std.specs.Str.{bytes_eq}
+use Rattle.witness_replay.specs.Reading.{fill_by}
 use Rattle.sb_base.specs.Lines.{TextLine, Place, size_of, lines_of, words_of}
 use Rattle.line_reading.specs.Reading.{◌>>=◌, hex_at, dec_at, is_over, then_at, first_by, this_by, line_by}
 use Rattle.device_hooks.specs.declared.reading.Times.{Times}
@@ -48,14 +49,7 @@ source_in (w ∷ ws) =
     if bytes_eq w (codes "timer") then timer_in ws
     else (if bytes_eq w (codes "bytes") then receiver_in ws else None)
 
-unfoldable pub fill_in : List (List ℕ) → Option ℕ
-fill_in [] = None
-fill_in (w ∷ ws) = if bytes_eq w (codes "fill") then (hex_at 2 ws >>= λ b. if is_over b.1 then Some b.0 else None) else None
-
 -- ---- lines
-
-abbrev pub fill_by : List ℕ → Option ℕ
-fill_by text = fill_in (words_of text)
 
 -- a source, with so many lines left for sources
 abbrev pub source_by : ℕ → List ℕ → Option Source

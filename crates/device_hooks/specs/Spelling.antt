@@ -2,6 +2,7 @@
 use Rattle.std.specs.Prelude.{ℕ, ◌≤◌, ◌<◌, List, [], ◌∷◌, ◌++◌, map, length, codes, ⊤}
 use Rattle.std.specs.List.{AllByRecursion, flat_map}
 use Rattle.std.specs.Fmt.{decimal}
+use Rattle.witness_replay.specs.Spelling.{filling}
 use Rattle.sb_base.specs.Digits.{hex_digits}
 use Rattle.sb_base.specs.Lines.{line}
 use Rattle.device_hooks.specs.declared.devices.Kind.{Kind}
@@ -60,9 +61,6 @@ source_words s = name_of s.kind ∷ decimal s.vector ∷ decimal s.first ∷ dec
 
 abbrev pub header : List (List ℕ)
 header = codes "devices" ∷ codes "1" ∷ []
-
-abbrev pub filling : ℕ → List (List ℕ)
-filling b = codes "fill" ∷ hex_digits b 2 ∷ []
 
 abbrev pub ending : List (List ℕ)
 ending = codes "end" ∷ []

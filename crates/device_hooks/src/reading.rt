@@ -2,12 +2,13 @@
 
 ghost use Rattle.std.specs.Prelude.{◌≡◌, ◌≤◌, ◌<◌, length, IfOk, IfSome};
 ghost use Rattle.std.specs.Option.{option_map};
+ghost use Rattle.witness_replay.specs.Reading.{fill_by};
 ghost use Rattle.sb_base.specs.Answers.{Answers};
 ghost use Rattle.sb_base.specs.Lines.{words_of};
 ghost use Rattle.line_reading.specs.Reading.{line_by, ReadsAt};
 ghost use Rattle.device_hooks.specs.declared.devices.DevicesFault.TheVariants as fault;
 ghost use Rattle.device_hooks.specs.Spelling.{most_sources};
-ghost use Rattle.device_hooks.specs.Reading.{times_at, bytes_in, timer_in, receiver_by, receiver_in, source_in, fill_by, part_by, sources_from, malformed, setup_at, setup_in};
+ghost use Rattle.device_hooks.specs.Reading.{times_at, bytes_in, timer_in, receiver_by, receiver_in, source_in, part_by, sources_from, malformed, setup_at, setup_in};
 
 use crate::devices::{Devices, DevicesFault, Kind, Source};
 use avr_model::listed::Listed;
@@ -150,7 +151,7 @@ fn part_of(alloc: Global, text: &[u8], left: u32) -> Result<Option<Option<Source
 }
 
 /// The fill byte of a line.
-#[tactic(auto, unfolding(crate::specs::Reading::fill_in))]
+#[tactic(auto, unfolding(witness_replay::specs::Reading::fill_in))]
 fn fill_of(text: &[u8]) -> Option<u8>
     ensures { result ≡ fill_by text.now }
 {

@@ -61,7 +61,7 @@ entry_node s offset inst formed other word masks = record {
 enabled_small : (enables v : ℕ) → is_enabled enables v ≡ true → v ≤ 26
 enabled_small enables v e = grind (arith, nat_tests)
 
-vector_small : (device : Device) (v : ℕ) → v ≤ 26 → vector_word device v < WORDS
+pub vector_small : (device : Device) (v : ℕ) → v ≤ 26 → vector_word device v < WORDS
 vector_small M48 v h = omega arith
 vector_small M88 v h = omega arith
 vector_small M168 v h = omega arith

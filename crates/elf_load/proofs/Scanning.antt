@@ -3,26 +3,18 @@ use Rattle.std.proofs.Common.{◌≡◌, ◌∙◌, sym, ap, subst, refl, arith,
 use Rattle.std.specs.Prelude.{if◌then◌else◌, ◌&&◌, ◌==◌, min}
 use Rattle.std.specs.List.{list_all}
 use Rattle.std.proofs.Math.Seq.{take_all}
-use Rattle.std.proofs.lemmas.Bool.{cases_order}
+use Rattle.std.proofs.lemmas.Bool.{cases_order, false_from_ne_true, and_parts, cond-true, cond-false}
 use Rattle.std.proofs.lemmas.List.{drop_more, take-append-drop, length-take-le}
+use Rattle.basics.specs.Booleans.{and_with_false}
 use Rattle.elf_load.specs.Elf.{name_before_zero, named_of, with_byte, is_name_byte}
-use Rattle.elf_load.proofs.Conditions.{when_true, when_false}
 use Rattle.elf_load.proofs.Naming.{counts, too_long}
 
 -- none of the first n bytes is zero
 abbrev pub HasNoZero : List ℕ → ℕ → Type 0
 HasNoZero bytes n = (k : ℕ) → 0 ≤ k → k < n → (get_or bytes k 0 == 0) ≡ true → ⊥
 
-not_true : (t : Bool) → (t ≡ true → ⊥) → t ≡ false
-not_true true h = absurd (h refl)
-not_true false h = refl
-
-both_true : (t u : Bool) → (t && u) ≡ true → (t ≡ true) × (u ≡ true)
-both_true true u e = (refl, e)
-both_true false u e = cc
-
 first_other : (b : ℕ) (bs : List ℕ) (n : ℕ) → 0 < n → HasNoZero (b ∷ bs) n → (b == 0) ≡ false
-first_other b bs n lt none = not_true (b == 0) (none 0 (omega arith) lt)
+first_other b bs n lt none = false_from_ne_true (b == 0) (none 0 (omega arith) lt)
 
 others : (b : ℕ) (bs : List ℕ) (n : ℕ) → HasNoZero (b ∷ bs) (suc n) → HasNoZero bs n
 others b bs n none k low lt e = none (suc k) (omega arith) (omega arith) e
@@ -36,10 +28,10 @@ no_zero b e = ne_eqb b 0 (λ z. no_name_byte (subst (λ (x : ℕ). is_name_byte 
 ended : (front rest : List ℕ) (n : ℕ) → n < length front → list_all is_name_byte (take n front) ≡ true → (get_or front n 0 == 0) ≡ true → name_before_zero (front ++ rest) ≡ Some (take n (front ++ rest))
 unfolding name_before_zero
 ended [] rest n lt all zeroed = absurd (omega (arith, lt))
-ended (b ∷ bs) rest zero lt all zeroed = when_true (b == 0) _ _ zeroed
+ended (b ∷ bs) rest zero lt all zeroed = cond-true (b == 0) _ _ zeroed
 ended (b ∷ bs) rest (suc n) lt all zeroed =
-    let both = both_true (is_name_byte b) (list_all is_name_byte (take n bs)) all in
-    when_false (b == 0) _ _ (no_zero b both.0) ∙ when_true (is_name_byte b) _ _ both.0 ∙ ap (with_byte b) (ended bs rest n (omega (arith, lt)) both.1 zeroed)
+    let both = and_parts (is_name_byte b) (list_all is_name_byte (take n bs)) all in
+    cond-false (b == 0) _ _ (no_zero b both.0) ∙ cond-true (is_name_byte b) _ _ both.0 ∙ ap (with_byte b) (ended bs rest n (omega (arith, lt)) both.1 zeroed)
 
 spoiled_after : (t u : Bool) (b : ℕ) (o : Option (List ℕ)) → (t && u) ≡ false → (u ≡ false → o ≡ None) → (if t then with_byte b o else None) ≡ None
 spoiled_after true u b o e h = ap (with_byte b) (h e)
@@ -51,7 +43,7 @@ spoiled [] rest zero le none all = cc
 spoiled [] rest (suc n) le none all = absurd (omega (arith, le))
 spoiled (b ∷ bs) rest zero le none all = cc
 spoiled (b ∷ bs) rest (suc n) le none all =
-    when_false (b == 0) _ _ (first_other b bs (suc n) (omega arith) none)
+    cond-false (b == 0) _ _ (first_other b bs (suc n) (omega arith) none)
     ∙ spoiled_after (is_name_byte b) (list_all is_name_byte (take n bs)) b (name_before_zero (bs ++ rest)) all (λ e. spoiled bs rest n (omega (arith, le)) (others b bs n none) e)
 
 none_after : (t : Bool) (b : ℕ) (o : Option (List ℕ)) → o ≡ None → (if t then with_byte b o else None) ≡ None
@@ -62,7 +54,7 @@ endless : (bytes : List ℕ) → HasNoZero bytes (length bytes) → name_before_
 unfolding name_before_zero
 endless [] none = refl
 endless (b ∷ bs) none =
-    when_false (b == 0) _ _ (first_other b bs (length (b ∷ bs)) (omega arith) none) ∙ none_after (is_name_byte b) b (name_before_zero bs) (endless bs (others b bs (length bs) none))
+    cond-false (b == 0) _ _ (first_other b bs (length (b ∷ bs)) (omega arith) none) ∙ none_after (is_name_byte b) b (name_before_zero bs) (endless bs (others b bs (length bs) none))
 
 longer : (t : Bool) (b : ℕ) (o : Option (List ℕ)) (name : List ℕ) (n : ℕ) → ((rest : List ℕ) → o ≡ Some rest → n ≤ length rest) → (if t then with_byte b o else None) ≡ Some name → suc n ≤ length name
 longer true b None name n h e = cc
@@ -76,7 +68,7 @@ unfolding name_before_zero
 reaches_past [] rest none name e = omega arith
 reaches_past (b ∷ bs) rest none name e =
     longer (is_name_byte b) b (name_before_zero (bs ++ rest)) name (length bs) (reaches_past bs rest (others b bs (length bs) none))
-    (sym (when_false (b == 0) _ _ (first_other b bs (length (b ∷ bs)) (omega arith) none)) ∙ e)
+    (sym (cond-false (b == 0) _ _ (first_other b bs (length (b ∷ bs)) (omega arith) none)) ∙ e)
 
 none_fits : (n : ℕ) (o : Option (List ℕ)) → 1024 < n → ((name : List ℕ) → o ≡ Some name → n ≤ length name) → named_of o ≡ None
 none_fits n None lt h = refl
@@ -133,11 +125,7 @@ pub still_all : (fine : Bool) (bytes : List ℕ) (i : ℕ) (all : Bool) → i < 
 still_all fine bytes i all lt one e =
     ap (λ (t : Bool). fine && (t && list_all is_name_byte (drop (i + 1) bytes))) (sym one) ∙ ap (λ (l : List ℕ). fine && list_all is_name_byte l) (sym (drop_more bytes i 0 lt)) ∙ e
 
-and_false : (t : Bool) → (t && false) ≡ false
-and_false true = refl
-and_false false = refl
-
 pub not_all : (fine : Bool) (bytes : List ℕ) (i : ℕ) (all : Bool) → i < length bytes → is_name_byte (get_or bytes i 0) ≡ false → (fine && list_all is_name_byte (drop i bytes)) ≡ all
     → (false && list_all is_name_byte (drop (i + 1) bytes)) ≡ all
 not_all fine bytes i all lt one e =
-    sym (and_false fine) ∙ ap (λ (t : Bool). fine && (t && list_all is_name_byte (drop (i + 1) bytes))) (sym one) ∙ ap (λ (l : List ℕ). fine && list_all is_name_byte l) (sym (drop_more bytes i 0 lt)) ∙ e
+    sym (and_with_false fine) ∙ ap (λ (t : Bool). fine && (t && list_all is_name_byte (drop (i + 1) bytes))) (sym one) ∙ ap (λ (l : List ℕ). fine && list_all is_name_byte l) (sym (drop_more bytes i 0 lt)) ∙ e

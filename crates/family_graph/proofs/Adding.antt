@@ -3,6 +3,9 @@ use Rattle.std.proofs.Common.{arith, refl, sym, ap, subst, ◌∙◌, ◌≡◌,
 use Rattle.std.specs.Prelude.{◌↔◌}
 use Rattle.std.specs.List.{flat_map}
 use Rattle.std.proofs.lemmas.List.Elements.{Contains-append_left, Contains-append_right, Contains-append_cases}
+use Rattle.basics.specs.Items.{contained_in_join, contained_at, only_one_in as only, none_in}
+use Rattle.basics.specs.Lists.{one_at}
+use Rattle.basics.specs.Numbers.{before_or_last}
 use Rattle.avr_model.specs.declared.assumption.Entry.{Entry}
 use Rattle.abs_state.specs.Frames.{entered}
 use Rattle.mask_states.specs.declared.keys.EdgeKind.{EdgeKind}
@@ -19,7 +22,7 @@ use Rattle.nesting_bound.specs.declared.graph.GraphInst.{GraphInst}
 use Rattle.nesting_bound.specs.declared.graph.Place.{Place}
 use Rattle.family_graph.specs.Graphs.{HasInst, IsPeopled}
 use Rattle.family_graph.specs.Numbers.{number_in, AreNumbers, is_entry, entry_if, entries_of, AddsAt, IsPlaceBetween, IsEntryBetween, IsInstOf}
-use Rattle.family_graph.proofs.Lists.{same_at, contained, only, itself, nothing, before_or}
+use Rattle.family_graph.proofs.Lists.{itself}
 use Rattle.family_graph.proofs.Insts.{number_is, number_there}
 
 open_closed : (o h : ℕ) (high : _) → Open o high ≡ Closed h → ⊥
@@ -40,16 +43,8 @@ entry_is e at offset into a b c =
 
 -- ---- members of a list that is gathered
 
-pub gathers : {X Y : Type 0} (f : X → List Y) (xs : List X) (x : X) (y : Y) → Contains xs x → Contains (f x) y → Contains (flat_map f xs) y
-gathers f [] x y has here = absurd (nothing x has)
-gathers f (z ∷ zs) x y has here =
-    elim (Contains-append_cases (z ∷ []) zs x has) [
-      | inl this ↦ Contains-append_left (f z) (flat_map f zs) y (subst (λ (w : _). Contains (f w) y) (only z x this) here)
-      | inr more ↦ Contains-append_right (f z) (flat_map f zs) y (gathers f zs x y more here)
-    ]
-
 pub gathered : {X Y : Type 0} (f : X → List Y) (xs : List X) (y : Y) → Contains (flat_map f xs) y → (x : X) × Contains xs x × Contains (f x) y
-gathered f [] y has = absurd (nothing y has)
+gathered f [] y has = absurd (none_in y has)
 gathered f (z ∷ zs) y has =
     elim (Contains-append_cases (f z) (flat_map f zs) y has) [
       | inl here ↦ (z, Contains-append_left (z ∷ []) zs z (itself z), here)
@@ -85,12 +80,12 @@ module _ (words : List ℕ) (A : List Entry) (nodes : List Node) (insts : List I
         back = back;
         enters = enters;
       })
-  from_way way inst back false e enters has = absurd (nothing e has)
+  from_way way inst back false e enters has = absurd (none_in e has)
 
   from_edge : (edge : Edge) (e : Entered) → IsEdge words A nodes n edge → Contains (entry_if insts at offset edge) e → IsEntryAt e
-  from_edge edge e (moving to f has) h = absurd (nothing e h)
+  from_edge edge e (moving to f has) h = absurd (none_in e h)
   from_edge edge e (entering way inst back enters) h = from_way way inst back (is_entry way) e enters h
-  from_edge edge e (returning way inst back leaver x state enters has same f exit after) h = absurd (nothing e h)
+  from_edge edge e (returning way inst back leaver x state enters has same f exit after) h = absurd (none_in e h)
 
   to_way : (way : EdgeKind) (inst : InstKey) (b : Bool) → b ≡ true → Contains (if b then made way inst ∷ [] else []) (made way inst)
   to_way way inst true is = itself (made way inst)
@@ -102,7 +97,7 @@ module _ (words : List ℕ) (A : List Entry) (nodes : List Node) (insts : List I
     λ is.
         let edge : Edge = record { kind = e.kind; to = entry_key is.into; state = entered n.state } in
         let same : made e.kind is.into ≡ e = entry_is e at offset (number_in insts is.into) is.node is.offset_is (sym (number_is insts e.into is.into are.ascending is.leads)) in
-        gathers (entry_if insts at offset) edges edge e ((all edge).1 (entering e.kind is.into is.back is.enters))
+        contained_in_join (entry_if insts at offset) edges edge e ((all edge).1 (entering e.kind is.into is.back is.enters))
         (subst (Contains (entry_if insts at offset edge)) same (to_way e.kind is.into (is_entry e.kind) (kind_enters words A n e.kind is.into is.back is.enters))),
   )
 
@@ -114,10 +109,10 @@ module _ (words : List ℕ) (A : List Entry) (nodes : List Node) (insts : List I
 
   newer_place : (p : Place) → IsPlaceBetween nodes low (at + 1) p → (IsPlaceBetween nodes low at p) ⊎ ((p.node ≡ at) × (n.key.sp ≡ Closed p.offset))
   newer_place p h =
-      elim (before_or p.node at h.below) [
+      elim (before_or_last p.node at h.below) [
         | inl less ↦ inl (record { above = h.above; below = less; node = h.node; at = h.at; closed = h.closed })
         | inr same ↦
-            let k : h.node ≡ n = same_at nodes at h.node n (subst (λ (i : ℕ). slice_get nodes i ≡ Some h.node) same h.at) here in
+            let k : h.node ≡ n = one_at nodes at h.node n (subst (λ (i : ℕ). slice_get nodes i ≡ Some h.node) same h.at) here in
             inr (same, subst (λ (m : Node). m.key.sp ≡ Closed p.offset) k h.closed)
       ]
 
@@ -149,14 +144,14 @@ module _ (words : List ℕ) (A : List Entry) (nodes : List Node) (insts : List I
 
   module _ (numbers : List ℕ) (are : AreNumbers nodes (length nodes) insts numbers) (peopled : IsPeopled words A nodes) where
     abbrev At : ℕ → Entered → Type 0
-    At offset e = IsEntryAt words A nodes insts numbers are peopled n (contained nodes at n here) at offset e
+    At offset e = IsEntryAt words A nodes insts numbers are peopled n (contained_at nodes at n here) at offset e
 
     newer_entry : (e : Entered) → IsEntryBetween words A nodes insts low (at + 1) e → (IsEntryBetween words A nodes insts low at e) ⊎ ((n.key.sp ≡ Closed e.offset) × At e.offset e)
     newer_entry e h =
-        elim (before_or e.node at h.below) [
+        elim (before_or_last e.node at h.below) [
           | inl less ↦ inl (record { above = h.above; below = less; node = h.node; at = h.at; closed = h.closed; into = h.into; leads = h.leads; back = h.back; enters = h.enters })
           | inr same ↦
-              let k : h.node ≡ n = same_at nodes at h.node n (subst (λ (i : ℕ). slice_get nodes i ≡ Some h.node) same h.at) here in
+              let k : h.node ≡ n = one_at nodes at h.node n (subst (λ (i : ℕ). slice_get nodes i ≡ Some h.node) same h.at) here in
               inr (
                 subst (λ (m : Node). m.key.sp ≡ Closed e.offset) k h.closed,
                 record { node = same; offset_is = refl; into = h.into; leads = h.leads; back = h.back; enters = subst (λ (m : Node). Enters words A m e.kind h.into h.back) k h.enters },
@@ -187,7 +182,7 @@ module _ (words : List ℕ) (A : List Entry) (nodes : List Node) (insts : List I
       ],
     )
     entries_more (Closed o) is ps ps' es es' adds inv e =
-        let l = listed words A nodes insts numbers are peopled n (contained nodes at n here) at o adds.1.0 adds.1.1 e in (
+        let l = listed words A nodes insts numbers are peopled n (contained_at nodes at n here) at o adds.1.0 adds.1.1 e in (
           λ has. elim (Contains-append_cases es (entries_of insts at o adds.1.0) e (subst (λ (xs : List Entered). Contains xs e) adds.1.2 has)) [
             | inl old ↦ wider_entry e ((inv e).0 old)
             | inr this ↦ older_entry o is e (l.0 this)

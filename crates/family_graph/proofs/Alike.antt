@@ -8,7 +8,8 @@ use Rattle.std.specs.Ordering.{nat_cmp}
 use Rattle.std.specs.declared.cmp.Ordering.{Ordering}
 use Rattle.std.specs.declared.cmp.Ordering.TheVariants.{Less, Equal}
 use Rattle.std.proofs.lemmas.Option.{slice_get-map}
-use Rattle.std.proofs.lemmas.List.Elements.{Contains-append_left, Contains-append_right, Contains-append_cases}
+use Rattle.std.proofs.lemmas.List.Elements.{Contains-append_cases}
+use Rattle.basics.specs.Items.{first_in, further_in, get_contained, only_one_in, none_in, all_at}
 use Rattle.avr_model.specs.declared.assumption.Entry.{Entry}
 use Rattle.mask_states.specs.declared.keys.InstKey.{InstKey}
 use Rattle.mask_states.specs.Order.{inst_cmp}
@@ -23,55 +24,48 @@ use Rattle.nesting_bound.specs.Chain.{kind_numbers, IsChainFrom, ends, goes, edg
 use Rattle.nesting_bound.specs.Least.{IsLeast}
 use Rattle.family_graph.specs.Graphs.{insts_of, HasPlaceOf, HasEntryOf, IsGraphOf}
 use Rattle.family_graph.specs.Laws.{GraphsAreAlike}
-use Rattle.family_graph.proofs.Lists.{read, only, itself, nothing, all_get}
 use Rattle.family_graph.proofs.Graphs.{keys_long}
 
 -- ---- ascending lists with the same members are the same
 
-front : {X : Type 0} (x : X) (xs : List X) → Contains (x ∷ xs) x
-front x xs = Contains-append_left (x ∷ []) xs x (itself x)
-
-behind : {X : Type 0} (x y : X) (xs : List X) → Contains xs y → Contains (x ∷ xs) y
-behind x y xs h = Contains-append_right (x ∷ []) xs y h
-
 less_all : (P : InstKey → Type 0) (xs : List InstKey) (y : InstKey) → AllByRecursion P xs → Contains xs y → P y
-less_all P xs y all has = all_get P xs has.0 y all (read xs y has)
+less_all P xs y all has = all_at P xs has.0 y all (get_contained xs y has)
 
-not_less : (x : InstKey) → inst_cmp x x ≡ Less → ⊥
+pub not_less : (x : InstKey) → inst_cmp x x ≡ Less → ⊥
 not_less x e = let q : inst_cmp x x ≡ Equal = (keys_are_ordered.equal_insts x x).1 refl in cc
 
-both_ways : (x y : InstKey) → inst_cmp x y ≡ Less → inst_cmp y x ≡ Less → ⊥
+pub both_ways : (x y : InstKey) → inst_cmp x y ≡ Less → inst_cmp y x ≡ Less → ⊥
 both_ways x y a b = not_less x (keys_are_ordered.insts.trans x y x a b)
 
 -- the least of two such lists is one
-heads : (x y : InstKey) (xs ys : List InstKey) → AllByRecursion (λ z. inst_cmp x z ≡ Less) xs → AllByRecursion (λ z. inst_cmp y z ≡ Less) ys → Contains (y ∷ ys) x → Contains (x ∷ xs) y → x ≡ y
+pub heads : (x y : InstKey) (xs ys : List InstKey) → AllByRecursion (λ z. inst_cmp x z ≡ Less) xs → AllByRecursion (λ z. inst_cmp y z ≡ Less) ys → Contains (y ∷ ys) x → Contains (x ∷ xs) y → x ≡ y
 heads x y xs ys hx hy in_y in_x =
     elim (Contains-append_cases (y ∷ []) ys x in_y) [
-      | inl this ↦ only y x this
+      | inl this ↦ only_one_in y x this
       | inr more ↦ elim (Contains-append_cases (x ∷ []) xs y in_x) [
-        | inl this ↦ sym (only x y this)
+        | inl this ↦ sym (only_one_in x y this)
         | inr other ↦ absurd (both_ways x y (less_all (λ z. inst_cmp x z ≡ Less) xs y hx other) (less_all (λ z. inst_cmp y z ≡ Less) ys x hy more))
       ]
     ]
 
-tails : (x y : InstKey) (xs ys : List InstKey) → x ≡ y → AllByRecursion (λ z. inst_cmp x z ≡ Less) xs → (k : InstKey) → Contains xs k → Contains (y ∷ ys) k → Contains ys k
+pub tails : (x y : InstKey) (xs ys : List InstKey) → x ≡ y → AllByRecursion (λ z. inst_cmp x z ≡ Less) xs → (k : InstKey) → Contains xs k → Contains (y ∷ ys) k → Contains ys k
 tails x y xs ys same hx k has there =
     elim (Contains-append_cases (y ∷ []) ys k there) [
-      | inl this ↦ absurd (not_less x (subst (λ (z : InstKey). inst_cmp x z ≡ Less) (only y k this ∙ sym same) (less_all (λ z. inst_cmp x z ≡ Less) xs k hx has)))
+      | inl this ↦ absurd (not_less x (subst (λ (z : InstKey). inst_cmp x z ≡ Less) (only_one_in y k this ∙ sym same) (less_all (λ z. inst_cmp x z ≡ Less) xs k hx has)))
       | inr more ↦ more
     ]
 
-same_lists : (xs ys : List InstKey) → IsStrictlySortedBy inst_cmp xs → IsStrictlySortedBy inst_cmp ys → ((k : InstKey) → Contains xs k → Contains ys k) → ((k : InstKey) → Contains ys k → Contains xs k) → xs ≡ ys
+pub same_lists : (xs ys : List InstKey) → IsStrictlySortedBy inst_cmp xs → IsStrictlySortedBy inst_cmp ys → ((k : InstKey) → Contains xs k → Contains ys k) → ((k : InstKey) → Contains ys k → Contains xs k) → xs ≡ ys
 unfolding IsStrictlySortedBy
 same_lists [] [] hx hy to from = refl
-same_lists [] (y ∷ ys) hx hy to from = absurd (nothing y (from y (front y ys)))
-same_lists (x ∷ xs) [] hx hy to from = absurd (nothing x (to x (front x xs)))
+same_lists [] (y ∷ ys) hx hy to from = absurd (none_in y (from y (first_in y ys)))
+same_lists (x ∷ xs) [] hx hy to from = absurd (none_in x (to x (first_in x xs)))
 same_lists (x ∷ xs) (y ∷ ys) hx hy to from =
-    let e : x ≡ y = heads x y xs ys hx.0 hy.0 (to x (front x xs)) (from y (front y ys)) in
+    let e : x ≡ y = heads x y xs ys hx.0 hy.0 (to x (first_in x xs)) (from y (first_in y ys)) in
     let rest : xs ≡ ys =
     same_lists xs ys hx.1 hy.1
-    (λ k h. tails x y xs ys e hx.0 k h (to k (behind x k xs h)))
-    (λ k h. tails y x ys xs (sym e) hy.0 k h (from k (behind y k ys h))) in
+    (λ k h. tails x y xs ys e hx.0 k h (to k (further_in x k xs h)))
+    (λ k h. tails y x ys xs (sym e) hy.0 k h (from k (further_in y k ys h))) in
     cc
 
 -- ---- two graphs

@@ -3,7 +3,10 @@ use Rattle.std.proofs.Common.{arith, refl, sym, ap, subst, ◌∙◌, ◌≡◌,
 use Rattle.std.specs.Prelude.{◌↔◌}
 use Rattle.std.specs.Option.{option_map}
 use Rattle.std.specs.List.Sorted.{IsStrictlySortedBy}
-use Rattle.std.proofs.lemmas.Option.{slice_get_within, slice_get-map}
+use Rattle.std.proofs.lemmas.Option.{slice_get_within, slice_get-map, same_Some}
+use Rattle.basics.specs.Lists.{one_at, get_pushed}
+use Rattle.basics.specs.Items.{contained_at, get_contained}
+use Rattle.basics.specs.Numbers.{before_or_last}
 use Rattle.avr_model.specs.declared.assumption.Entry.{Entry}
 use Rattle.mask_states.specs.declared.keys.InstKey.{InstKey}
 use Rattle.mask_states.specs.declared.keys.SpForm.TheVariants.{Closed}
@@ -21,7 +24,7 @@ use Rattle.nesting_bound.specs.declared.graph.Place.{Place}
 use Rattle.nesting_bound.specs.Graph as graph
 use Rattle.family_graph.specs.Graphs.{insts_of, HasInst, HasPlaceOf, HasEntryOf, IsGraphOf}
 use Rattle.family_graph.specs.Numbers.{AreNumbers, IsInstOf, AreInsts}
-use Rattle.family_graph.proofs.Lists.{some_is, same_at, get_left, get_behind, contained, read, before_or}
+use Rattle.family_graph.proofs.Lists.{get_left}
 
 pub keys_long : (gs : List GraphInst) → length (insts_of gs) ≡ length gs
 keys_long [] = refl
@@ -33,7 +36,7 @@ lists_same [] [] e h = refl
 lists_same [] (y ∷ ys) e h = absurd (omega (arith, e))
 lists_same (x ∷ xs) [] e h = absurd (omega (arith, e))
 lists_same (x ∷ xs) (y ∷ ys) e h =
-    let first : x ≡ y = some_is x y (h 0 y refl) in
+    let first : x ≡ y = same_Some x y (h 0 y refl) in
     let rest = lists_same xs ys (omega (arith, e)) (λ i z g. h (suc i) z g) in
     cc
 
@@ -41,18 +44,15 @@ module _ (words : List ℕ) (A : List Entry) (nodes : List Node) (insts : List I
   abbrev pub Made : ℕ → List GraphInst → Type 0
   Made i gs = AreInsts words A nodes insts i gs
 
-  pub none_made : Made 0 []
-  none_made = record { count_is = refl; each = λ j inst lt is. absurd (omega (arith, lt)) }
-
   pub made_more : (i : ℕ) (gs : List GraphInst) (inst : InstKey) (g : GraphInst) → Made i gs → slice_get insts i ≡ Some inst → IsInstOf words A nodes insts inst g → Made (i + 1) (gs ++ g ∷ [])
   made_more i gs inst g made is of =
       record {
         count_is = omega (arith, length-append gs (g ∷ []), made.count_is);
-        each = λ j k lt e. elim (before_or j i lt) [
+        each = λ j k lt e. elim (before_or_last j i lt) [
           | inl less ↦ let m = made.each j k less e in (m.0, get_left gs (g ∷ []) j m.0 m.1, m.2)
           | inr same ↦
-              let this : inst ≡ k = same_at insts i inst k is (subst (λ (x : ℕ). slice_get insts x ≡ Some k) same e) in
-              (g, subst (λ (x : ℕ). slice_get (gs ++ g ∷ []) x ≡ Some g) (sym (same ∙ sym made.count_is)) (get_behind gs g), subst (λ (x : InstKey). IsInstOf words A nodes insts x g) this of)
+              let this : inst ≡ k = one_at insts i inst k is (subst (λ (x : ℕ). slice_get insts x ≡ Some k) same e) in
+              (g, subst (λ (x : ℕ). slice_get (gs ++ g ∷ []) x ≡ Some g) (sym (same ∙ sym made.count_is)) (get_pushed gs g), subst (λ (x : InstKey). IsInstOf words A nodes insts x g) this of)
         ];
       }
 
@@ -68,7 +68,7 @@ module _ (words : List ℕ) (A : List Entry) (nodes : List Node) (insts : List I
     inst_at : (i : ℕ) (g : GraphInst) (inst : InstKey) → slice_get gs i ≡ Some g → slice_get insts i ≡ Some inst → IsInstOf words A nodes insts inst g
     inst_at i g inst is e =
         let m = made.each i inst (slice_get_within insts i inst e) e in
-        subst (IsInstOf words A nodes insts inst) (same_at gs i m.0 g m.1 is) m.2
+        subst (IsInstOf words A nodes insts inst) (one_at gs i m.0 g m.1 is) m.2
 
     place_of : (i : ℕ) (p : Place) → graph.HasPlace gs i p ↔ HasPlaceOf nodes insts i p
     place_of i p = (
@@ -96,7 +96,7 @@ module _ (words : List ℕ) (A : List Entry) (nodes : List Node) (insts : List I
       are.used inst,
       λ h.
           let k = h.1.0 in
-          subst (Contains insts) h.2 (contained insts _ h.0.key.inst (are.named k h.0 h.1.1 (read nodes h.0 h.1))),
+          subst (Contains insts) h.2 (contained_at insts _ h.0.key.inst (are.named k h.0 h.1.1 (get_contained nodes h.0 h.1))),
     )
 
     pub graph_is : IsGraphOf words A nodes gs
@@ -116,12 +116,12 @@ first_of (n ∷ ns) h = (n, refl)
 
 module _ (words : List ℕ) (A : List Entry) (nodes : List Node) (shown : AreShown nodes) (gs : List GraphInst) (is : IsGraphOf words A nodes gs) where
   small : (n : Node) (at offset : ℕ) → slice_get nodes at ≡ Some n → n.key.sp ≡ Closed offset → offset ≤ 2048
-  small n at offset here closed = subst (λ (x : ℕ). x ≤ 2048) (ap offset_of closed) (shown.all n (contained nodes at n here)).small
+  small n at offset here closed = subst (λ (x : ℕ). x ≤ 2048) (ap offset_of closed) (shown.all n (contained_at nodes at n here)).small
 
   some_inst : 0 < length nodes → 0 < length (insts_of gs)
   some_inst some =
       let n = first_of nodes some in
-      let has = (is.insts n.0.key.inst).1 (n.0, contained nodes 0 n.0 n.1, refl) in
+      let has = (is.insts n.0.key.inst).1 (n.0, contained_at nodes 0 n.0 n.1, refl) in
       omega (arith, has.1)
 
   pub composable : 0 < length nodes → length gs ≤ 65537 → graph.IsGraph gs

@@ -1,35 +1,40 @@
 -- Instances by their numbers.
-use Rattle.std.proofs.Common.{arith, refl, sym, ap, subst, ◌∙◌, ◌≡◌, ℕ, zero, suc, ◌+◌, ◌-◌, ◌<◌, ◌≤◌, inl, inr, Bool, false, true, List, [], ◌∷◌, ◌++◌, length, length-append, map, Option, Some, None, get_or, slice_get, slice_index, IsTrue}
-use Rattle.std.proofs.lemmas.Option.{slice_get_within, slice_get-get_or, slice_get-map}
+use Rattle.std.proofs.Common.{arith, refl, sym, ap, subst, ◌∙◌, ◌≡◌, ℕ, zero, suc, ◌+◌, ◌-◌, ◌<◌, ◌≤◌, inl, inr, Bool, false, true, List, [], ◌∷◌, ◌++◌, length, length-append, Option, Some, None, get_or, slice_get, slice_index, IsTrue}
+use Rattle.std.proofs.lemmas.Option.{slice_get_within, slice_get-get_or, none-some, same_Some}
 use Rattle.std.specs.Option.{option_map}
 use Rattle.std.proofs.lemmas.List.Elements.{Contains-append_cases}
 use Rattle.std.specs.List.Sorted.{IsStrictlySortedBy}
 use Rattle.std.specs.Ordering.{is_eq}
 use Rattle.std.specs.declared.cmp.Ordering.TheVariants.{Less}
 use Rattle.std.specs.Prelude.{◌↔◌}
+use Rattle.std.proofs.lemmas.Bool.{both_ways}
+use Rattle.basics.specs.Lists.{one_at, get_pushed}
+use Rattle.basics.specs.Items.{contained_at, get_contained, only_one_in, all_at, all_pushed}
+use Rattle.basics.specs.Numbers.{before_or_last}
+use Rattle.edge_rules.specs.Places.{pair}
 use Rattle.mask_states.specs.declared.keys.InstKey.{InstKey}
 use Rattle.mask_states.specs.declared.keys.NodeKey.{NodeKey}
-use Rattle.mask_states.specs.Order.{inst_cmp, node_cmp, same_inst}
+use Rattle.mask_states.specs.Order.{inst_cmp, same_inst}
 use Rattle.mask_states.proofs.AllLaws.{keys_are_ordered, nodes_go_by_instance}
 use Rattle.local_rules.specs.declared.local.Node.{Node}
 use Rattle.edge_rules.specs.Views.{AreShown, IsSpan, key_of}
 use Rattle.family_graph.specs.Graphs.{HasInst}
 use Rattle.family_graph.specs.Numbers.{number_in, EndsWith, Grows, stays, adds, AreNumbers}
-use Rattle.family_graph.proofs.Lists.{none_is, some_is, same_at, get_left, get_behind, index_left, index_behind, contained, read, only, all_get, all_push, all_last, before_or}
+use Rattle.family_graph.proofs.Lists.{get_left, index_left, index_behind, all_last}
 
 -- ---- an instance's number
 
-less_differs : (a b : InstKey) → inst_cmp a b ≡ Less → same_inst a b ≡ false
+pub less_differs : (a b : InstKey) → inst_cmp a b ≡ Less → same_inst a b ≡ false
 unfolding same_inst
 less_differs a b e = ap is_eq e
 
 -- an instance's number is where it stands
 pub number_is : (xs : List InstKey) (i : ℕ) (x : InstKey) → IsStrictlySortedBy inst_cmp xs → slice_get xs i ≡ Some x → number_in xs x ≡ i
 unfolding IsStrictlySortedBy
-number_is [] i x h e = absurd (none_is x e)
-number_is (y ∷ ys) zero x h e = let same : same_inst y x ≡ true = (keys_are_ordered.same_insts y x).1 (some_is y x e) in rw same refl
+number_is [] i x h e = absurd (none-some x e)
+number_is (y ∷ ys) zero x h e = let same : same_inst y x ≡ true = (keys_are_ordered.same_insts y x).1 (same_Some y x e) in rw same refl
 number_is (y ∷ ys) (suc i) x h e =
-    let other = less_differs y x (all_get (λ z. inst_cmp y z ≡ Less) ys i x h.0 e) in
+    let other = less_differs y x (all_at (λ z. inst_cmp y z ≡ Less) ys i x h.0 e) in
     let more = number_is ys i x h.1 e in
     rw (other, more) (omega arith)
 
@@ -40,7 +45,7 @@ sorted_behind : (front : List InstKey) (last inst : InstKey) → IsStrictlySorte
 unfolding IsStrictlySortedBy
 sorted_behind [] last inst h less = ((less, tt), (tt, tt))
 sorted_behind (x ∷ xs) last inst h less = (
-  all_push (λ z. inst_cmp x z ≡ Less) (xs ++ last ∷ []) inst h.0 (keys_are_ordered.insts.trans x last inst (all_last (λ z. inst_cmp x z ≡ Less) xs last h.0) less),
+  all_pushed (λ z. inst_cmp x z ≡ Less) (xs ++ last ∷ []) inst h.0 (keys_are_ordered.insts.trans x last inst (all_last (λ z. inst_cmp x z ≡ Less) xs last h.0) less),
   sorted_behind xs last inst h.1 less,
 )
 
@@ -57,17 +62,6 @@ sorted_one inst = (tt, tt)
 pub sorted_none : IsStrictlySortedBy inst_cmp []
 unfolding IsStrictlySortedBy
 sorted_none = tt
-
-pair : (xs : List Node) (i j : ℕ) (a b : Node) → IsStrictlySortedBy node_cmp (map key_of xs) → slice_get xs i ≡ Some a → slice_get xs j ≡ Some b → i < j
-    → node_cmp a.key b.key ≡ Less
-unfolding IsStrictlySortedBy
-pair [] i j a b s ea eb lt = absurd (none_is a ea)
-pair (x ∷ xs) zero zero a b s ea eb lt = absurd (omega (arith, lt))
-pair (x ∷ xs) zero (suc j) a b s ea eb lt =
-    subst (λ (n : Node). node_cmp n.key b.key ≡ Less) (some_is x a ea)
-    (all_get (λ k. node_cmp x.key k ≡ Less) (map key_of xs) j b.key s.0 (slice_get-map key_of xs j ∙ ap (option_map key_of) eb))
-pair (x ∷ xs) (suc i) zero a b s ea eb lt = absurd (omega (arith, lt))
-pair (x ∷ xs) (suc i) (suc j) a b s ea eb lt = pair xs i j a b s.1 ea eb (omega (arith, lt))
 
 module _ (nodes : List Node) where
   pub none_numbered : AreNumbers nodes 0 [] []
@@ -87,27 +81,27 @@ module _ (nodes : List Node) where
         → ((i : ℕ) (k : InstKey) → slice_get insts i ≡ Some k → slice_get insts' i ≡ Some k) → slice_get insts' number ≡ Some n.key.inst
         → (j : ℕ) (m : Node) → j < at + 1 → slice_get nodes j ≡ Some m → slice_get insts' (slice_index (numbers ++ number ∷ []) j) ≡ Some m.key.inst
     named_more insts insts' numbers number are kept new j m lt is =
-        elim (before_or j at lt) [
+        elim (before_or_last j at lt) [
           | inl less ↦
               let within : j < length numbers = omega (arith, are.all) in
               subst (λ (i : ℕ). slice_get insts' i ≡ Some m.key.inst) (sym (index_left numbers (number ∷ []) j within))
               (kept (slice_index numbers j) m.key.inst (are.named j m less is))
           | inr same ↦
               let e : slice_index (numbers ++ number ∷ []) j ≡ number = ap (slice_index (numbers ++ number ∷ [])) (same ∙ sym are.all) ∙ index_behind numbers number in
-              let k : n ≡ m = same_at nodes at n m here (subst (λ (i : ℕ). slice_get nodes i ≡ Some m) same is) in
+              let k : n ≡ m = one_at nodes at n m here (subst (λ (i : ℕ). slice_get nodes i ≡ Some m) same is) in
               subst (λ (i : ℕ). slice_get insts' i ≡ Some m.key.inst) (sym e) (subst (λ (x : Node). slice_get insts' number ≡ Some x.key.inst) k new)
         ]
 
     last_more : (insts : List InstKey) → EndsWith insts n.key.inst → (m : Node) → 0 < at + 1 → slice_get nodes (at + 1 - 1) ≡ Some m → EndsWith insts m.key.inst
     last_more insts ends m some is =
         let e : at + 1 - 1 ≡ at = omega arith in
-        subst (λ (x : Node). EndsWith insts x.key.inst) (same_at nodes at n m here (subst (λ (i : ℕ). slice_get nodes i ≡ Some m) e is)) ends
+        subst (λ (x : Node). EndsWith insts x.key.inst) (one_at nodes at n m here (subst (λ (i : ℕ). slice_get nodes i ≡ Some m) e is)) ends
 
     end_at : (insts : List InstKey) (number : ℕ) (ends : EndsWith insts n.key.inst) → number + 1 ≡ length insts → slice_get insts number ≡ Some n.key.inst
     end_at insts number ends is =
         let e : number ≡ length ends.front = omega (arith, ap length ends.is, length-append ends.front (n.key.inst ∷ [])) in
         subst (λ (xs : List InstKey). slice_get xs number ≡ Some n.key.inst) (sym ends.is)
-        (subst (λ (i : ℕ). slice_get (ends.front ++ n.key.inst ∷ []) i ≡ Some n.key.inst) (sym e) (get_behind ends.front n.key.inst))
+        (subst (λ (i : ℕ). slice_get (ends.front ++ n.key.inst ∷ []) i ≡ Some n.key.inst) (sym e) (get_pushed ends.front n.key.inst))
 
     short : (insts : List InstKey) → length insts ≤ 0 → insts ≡ []
     short [] h = refl
@@ -146,10 +140,10 @@ module _ (nodes : List Node) where
           ascending = ascends_at at refl shown insts numbers are new;
           used = λ k has. elim (Contains-append_cases insts (n.key.inst ∷ []) k has) [
             | inl old ↦ are.used k old
-            | inr this ↦ (n, contained nodes at n here, sym (only n.key.inst k this))
+            | inr this ↦ (n, contained_at nodes at n here, sym (only_one_in n.key.inst k this))
           ];
           named = named_more insts (insts ++ n.key.inst ∷ []) numbers number are (λ i k g. get_left insts (n.key.inst ∷ []) i k g)
-              (subst (λ (i : ℕ). slice_get (insts ++ n.key.inst ∷ []) i ≡ Some n.key.inst) (sym e) (get_behind insts n.key.inst));
+              (subst (λ (i : ℕ). slice_get (insts ++ n.key.inst ∷ []) i ≡ Some n.key.inst) (sym e) (get_pushed insts n.key.inst));
           last = last_more (insts ++ n.key.inst ∷ []) (record { front = insts; is = refl });
         }
 
@@ -158,7 +152,7 @@ module _ (nodes : List Node) where
       → HasInst nodes inst → (low < length numbers) × (slice_index numbers low ≡ number_in insts inst)
   number_at insts numbers inst low high are span has =
       let k = has.1.0 in
-      let there = read nodes has.0 has.1 in
+      let there = get_contained nodes has.0 has.1 in
       let between = (span.exact k has.0 there).0 has.2 in
       let inside : low < length nodes = omega (arith, between.0, between.1, span.inside) in
       let a = get_or nodes low has.0 in
@@ -173,15 +167,15 @@ pub number_there : (nodes : List Node) (insts : List InstKey) (numbers : List �
     → slice_get insts (number_in insts inst) ≡ Some inst
 number_there nodes insts numbers inst are has =
     let k = has.1.0 in
-    let there = are.named k has.0 has.1.1 (read nodes has.0 has.1) in
+    let there = are.named k has.0 has.1.1 (get_contained nodes has.0 has.1) in
     let here : slice_get insts (slice_index numbers k) ≡ Some inst = subst (λ (x : InstKey). slice_get insts (slice_index numbers k) ≡ Some x) has.2 there in
     subst (λ (i : ℕ). slice_get insts i ≡ Some inst) (sym (number_is insts (slice_index numbers k) inst are.ascending here)) here
 
 -- ---- a node by its number
 
 pub node_of : (o : Option Node) (k : NodeKey) → option_map key_of o ≡ Some k → (n : Node) × (o ≡ Some n) × (n.key ≡ k)
-node_of None k e = absurd (none_is k e)
-node_of (Some n) k e = (n, refl, some_is n.key k e)
+node_of None k e = absurd (none-some k e)
+node_of (Some n) k e = (n, refl, same_Some n.key k e)
 
 -- ---- the code's steps
 
@@ -201,9 +195,6 @@ pub grows_kept : (insts insts' d : List InstKey) (inst : InstKey) (b : Bool) →
 grows_kept insts insts' d inst b same ends is kept =
     subst (Grows insts inst) (sym kept) (stays (subst (λ (xs : List InstKey). EndsWith xs inst) same (ends.0 is)))
 
-differ : (b : Bool) → b ≡ false → b ≡ true → ⊥
-differ b x y = cc
-
 pub grows_added : (insts insts' d : List InstKey) (inst : InstKey) (b : Bool) → d ≡ insts → (IsTrue b ↔ EndsWith d inst) → b ≡ false → insts' ≡ insts ++ inst ∷ [] → Grows insts inst insts'
 grows_added insts insts' d inst b same ends is added =
-    subst (Grows insts inst) (sym added) (adds (λ h. differ b is (ends.1 (subst (λ (xs : List InstKey). EndsWith xs inst) (sym same) h))))
+    subst (Grows insts inst) (sym added) (adds (λ h. both_ways b is (ends.1 (subst (λ (xs : List InstKey). EndsWith xs inst) (sym same) h))))

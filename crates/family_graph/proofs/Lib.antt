@@ -1,5 +1,5 @@
 mod Lists
-mod Insts
+pub mod Insts
 mod Adding
-mod Graphs
-mod Alike
+pub mod Graphs
+pub mod Alike

@@ -1,5 +1,5 @@
 -- Numbers of instances, and places and edges node by node.
-use Rattle.std.specs.Prelude.{ℕ, ◌+◌, ◌-◌, ◌≡◌, ◌<◌, ◌≤◌, ◌↔◌, Bool, true, false, if◌then◌else◌, List, [], ◌∷◌, ◌++◌, length, Option, Some, None, Contains, slice_get, slice_index}
+use Rattle.std.specs.Prelude.{ℕ, ◌+◌, ◌-◌, ◌≡◌, ◌<◌, ◌≤◌, ◌↔◌, Bool, true, false, if◌then◌else◌, List, [], ◌∷◌, ◌++◌, length, Some, Contains, slice_get, slice_index}
 use Rattle.std.specs.List.{flat_map}
 use Rattle.std.specs.List.Sorted.{IsStrictlySortedBy}
 use Rattle.avr_model.specs.declared.assumption.Entry.{Entry}
@@ -18,11 +18,6 @@ use Rattle.nesting_bound.specs.declared.graph.Place.{Place}
 use Rattle.family_graph.specs.Graphs.{HasInst, IsPlaceOf, IsEntryOf}
 
 -- ---- numbers
-
--- the last instance is this one
-abbrev pub is_last : Option InstKey → InstKey → Bool
-is_last None inst = false
-is_last (Some last) inst = same_inst last inst
 
 -- the number of the first instance of this key, and how many there are where it is none of them
 abbrev pub number_in : List InstKey → InstKey → ℕ

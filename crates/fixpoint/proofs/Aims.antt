@@ -1,7 +1,9 @@
 -- The targets of a round's looks are a round of the family.
-use Rattle.std.proofs.Common.{◌≡◌, refl, sym, ap, ◌∙◌, subst, ℕ, ◌⊎◌, inl, inr, ⊎_elim, List, [], ◌∷◌, ◌++◌, map, Option, Some, None, Contains}
+use Rattle.std.proofs.Common.{◌≡◌, refl, sym, ap, ◌∙◌, subst, ℕ, ◌⊎◌, inl, inr, ⊎_elim, List, [], ◌++◌, map, Option, Some, None, Contains}
 use Rattle.std.proofs.lemmas.List.Elements.{Contains-append_left, Contains-append_right, Contains-append_cases}
 use Rattle.std.specs.FinMap.{get}
+use Rattle.basics.specs.Items.{only_one_in, none_in, first_in, further_in as there}
+use Rattle.call_graph.proofs.AllLaws.{each_gathered, gathered_in}
 use Rattle.avr_model.specs.declared.assumption.Entry.{Entry}
 use Rattle.abs_state.specs.declared.state.AbsState.{AbsState}
 use Rattle.abs_state.specs.Frames.{entered, returned}
@@ -13,13 +15,13 @@ use Rattle.mask_states.specs.Keys.{entry_key}
 use Rattle.local_rules.specs.declared.local.Exit.{Exit}
 use Rattle.local_rules.specs.declared.local.Node.{Node}
 use Rattle.local_rules.specs.Cover.{IsNode}
-use Rattle.local_laws.proofs.AllLaws.{none_in, here, there, first_or, in_map, each_in_map}
+use Rattle.local_laws.proofs.AllLaws.{in_map, each_in_map}
 use Rattle.edge_rules.specs.declared.edge.Edge.{Edge}
 use Rattle.edge_rules.specs.Edges.{IsFaultless, raw_of, returned_key, IsEdge, moving, entering, returning, target}
 use Rattle.edge_rules.specs.Families.{IsCovered}
 use Rattle.edge_laws.proofs.AllLaws.{edges_lead_to_nodes}
 use Rattle.call_graph.specs.declared.ways.Way.{Way}
-use Rattle.call_graph.specs.Next.{gathered, returned_as}
+use Rattle.call_graph.specs.Next.{returned_as}
 use Rattle.family_table.specs.declared.crossings.Crossing.{Crossing}
 use Rattle.family_table.specs.Crossings.{crossings_at, IsCrossing}
 use Rattle.round_rules.specs.Families.{Family, nodes_of, Has, Lands, AreFormed}
@@ -35,21 +37,6 @@ use Rattle.fixpoint.specs.Progress.{IsOwn, own_move, own_entry, ComesBack, comes
 use Rattle.fixpoint.proofs.Looked.{seen_node, look_clean, look_same, look_exit, look_way, look_node, looked}
 
 -- ---- lists
-
-gathered_in : {X Y : Type 0} (f : X → List Y) (xs : List X) (x : X) (y : Y) → Contains xs x → Contains (f x) y → Contains (gathered f xs) y
-gathered_in f [] x y h i = absurd (none_in x h)
-gathered_in f (z ∷ zs) x y h i =
-    ⊎_elim (λ e. Contains-append_left (f z) (gathered f zs) y (subst (λ w. Contains (f w) y) e i))
-    (λ j. Contains-append_right (f z) (gathered f zs) y (gathered_in f zs x y j i)) (first_or z x zs h)
-
-each_gathered : {X Y : Type 0} (f : X → List Y) (P : Y → Type 0) (xs : List X) → ((x : X) (y : Y) → Contains xs x → Contains (f x) y → P y)
-    → (y : Y) → Contains (gathered f xs) y → P y
-each_gathered f P [] h y i = absurd (none_in y i)
-each_gathered f P (x ∷ xs) h y i =
-    ⊎_elim (λ j. h x y (here x xs) j) (each_gathered f P xs (λ z w j l. h z w (there x z xs j) l) y) (Contains-append_cases (f x) (gathered f xs) y i)
-
-only : {X : Type 0} (y x : X) → Contains (y ∷ []) x → x ≡ y
-only y x h = ⊎_elim (λ e. e) (λ i. absurd (none_in x i)) (first_or y x [] h)
 
 module _ (words : List ℕ) (A : List Entry) where
   -- ---- edges
@@ -95,12 +82,12 @@ module _ (words : List ℕ) (A : List Entry) where
   returned_in : (k : NodeKey) (w : Way) (x : Exit) (o : Option AbsState) (after : AbsState) → o ≡ Some after
       → Contains (if_any (returned_as k w x o)) (record { key = returned_key w.kind k w.back x; state = after })
   returned_in k w x o after e =
-      subst (λ (p : Option AbsState). Contains (if_any (returned_as k w x p)) (record { key = returned_key w.kind k w.back x; state = after })) (sym e) (here _ [])
+      subst (λ (p : Option AbsState). Contains (if_any (returned_as k w x p)) (record { key = returned_key w.kind k w.back x; state = after })) (sym e) (first_in _ [])
 
   returned_from : (k : NodeKey) (w : Way) (x : Exit) (P : Node → Type 0) (o : Option AbsState)
       → ((after : AbsState) → o ≡ Some after → P (record { key = returned_key w.kind k w.back x; state = after })) → (to : Node) → Contains (if_any (returned_as k w x o)) to → P to
   returned_from k w x P None h to i = absurd (none_in to i)
-  returned_from k w x P (Some after) h to i = subst P (sym (only (record { key = returned_key w.kind k w.back x; state = after }) to i)) (h after refl)
+  returned_from k w x P (Some after) h to i = subst P (sym (only_one_in (record { key = returned_key w.kind k w.back x; state = after }) to i)) (h after refl)
 
   module _ (f : Family) (notes : Notes) (known : AreKnown words A f notes) (x : Look) (is : IsLook words A f x) where
     abbrev n : Node

@@ -1,7 +1,8 @@
 -- How the rounds begin, go on and end.
 use Rattle.std.proofs.Common.{◌≡◌, ◌≢◌, refl, sym, ap, ◌∙◌, subst, ℕ, suc, ◌+◌, ◌-◌, ◌<◌, ◌≤◌, Bool, true, false, ◌==◌, List, [], ◌∷◌, ◌++◌, length, map, Option, Some, None, add-one, arith}
-use Rattle.std.proofs.lemmas.Bool.Decides.{nat_tests}
 use Rattle.std.specs.FinMap.{get, insert, empty, entries, get-empty, len-entries, len-empty}
+use Rattle.basics.specs.Numbers.{zero_from_test}
+use Rattle.basics.specs.Items.{none_in}
 use Rattle.avr_model.specs.declared.assumption.Entry.{Entry}
 use Rattle.abs_state.specs.declared.state.AbsState.{AbsState}
 use Rattle.abs_state.specs.Values.{root}
@@ -12,7 +13,7 @@ use Rattle.mask_states.specs.Order.{node_cmp}
 use Rattle.local_rules.specs.declared.local.Node.{Node}
 use Rattle.local_rules.specs.declared.local.NodeFault.TheVariants as fault
 use Rattle.local_laws.specs.Laws.{AreNodes}
-use Rattle.local_laws.proofs.AllLaws.{none_in, each_of}
+use Rattle.local_laws.proofs.AllLaws.{each_of}
 use Rattle.edge_laws.specs.Laws.{with_state}
 use Rattle.edge_laws.proofs.AllLaws.{edges_lead_to_nodes}
 use Rattle.certificate.specs.Claims.{cells_of}
@@ -52,12 +53,9 @@ pushed_root items before k inst s is none key at state =
 
 -- ---- whether something changed
 
-zero_if : (b : Bool) (n : ℕ) → b ≡ (n == 0) → b ≡ true → n ≡ 0
-zero_if b n is e = grind (arith, nat_tests)
-
 pub none_if : (l : List NodeKey) (b : Bool) (n : ℕ) → b ≡ (n == 0) → n ≡ length l → b ≡ true → l ≡ []
 none_if [] b n is all e = refl
-none_if (k ∷ ks) b n is all e = absurd (let z = zero_if b n is e in omega (arith, z, all))
+none_if (k ∷ ks) b n is all e = absurd (let z = zero_from_test b n is e in omega (arith, z, all))
 
 pub some_if : (l : List NodeKey) (b : Bool) (n : ℕ) → b ≡ (n == 0) → n ≡ length l → b ≡ false → l ≢ []
 some_if l b n is all e none = absurd (let same : n ≡ 0 = all ∙ ap length none in let never : true ≡ false = ap (λ m. m == 0) (sym same) ∙ sym is ∙ e in cc)
@@ -121,9 +119,6 @@ module _ (words : List ℕ) (A : List Entry) where
   refused_by steps n f (refusal.TooDeep pc d) within comes refused stopped = refused (λ e. let never = e in cc)
   refused_by steps n f (refusal.TooLarge limit) within comes refused stopped = refused (λ e. let never = e in cc)
   refused_by steps n f (refusal.UnknownPointer pc) within comes refused stopped = refused (λ e. let never = e in cc)
-
-  pub why_memory : (steps : Option ℕ) (r : Refusal) → r ≡ refusal.Memory → IsWhyNot words A steps r
-  why_memory steps r e = subst (IsWhyNot words A steps) (sym e) tt
 
   module _ (steps left : Option ℕ) (f : Family) (count : ℕ) (work : List NodeKey) (notes : Notes) (p : Progress words A steps left f count work notes) where
     within : IsWithin steps p.number

@@ -1,7 +1,9 @@
 -- What was found at the nodes of a round's list tells the faults of the whole family.
-use Rattle.std.proofs.Common.{◌≡◌, sym, ap, ◌∙◌, subst, ℕ, ⊎_elim, List, [], Option, Some, None, Err, Contains}
+use Rattle.std.proofs.Common.{◌≡◌, sym, ap, ◌∙◌, subst, ℕ, ⊎_elim, List, [], Some, None, Err, Contains}
 use Rattle.std.specs.Prelude.{◌↔◌}
 use Rattle.std.specs.FinMap.{get}
+use Rattle.std.proofs.lemmas.Option.{same_Some}
+use Rattle.round_steps.proofs.Seeing.{some_fault}
 use Rattle.avr_model.specs.declared.assumption.Entry.{Entry}
 use Rattle.mask_states.specs.declared.keys.NodeKey.{NodeKey}
 use Rattle.local_rules.specs.declared.local.Node.{Node}
@@ -12,15 +14,12 @@ use Rattle.call_graph.specs.declared.ways.Way.{Way}
 use Rattle.call_graph.proofs.AllLaws.{local_parts_are_edges}
 use Rattle.round_rules.specs.Families.{Family, Has, HasNoFault}
 use Rattle.round_rules.specs.Refusals.{FaultAt, IsNoLater, IsLeastFault}
-use Rattle.round_laws.proofs.AllLaws.{some_same, never_both}
+use Rattle.round_laws.proofs.AllLaws.{never_both}
 use Rattle.round_steps.specs.declared.looking.Look.{Look}
 use Rattle.round_steps.specs.declared.looking.Seen.{Seen}
 use Rattle.round_steps.specs.declared.noting.Notes.{Notes}
 use Rattle.round_steps.specs.Looks.{IsLook, HasLook, AreSeen}
 use Rattle.fixpoint.specs.Progress.{Turn}
-
-some_fault : (x y : NodeFault) (o : Option NodeFault) → o ≡ Some x → o ≡ Some y → x ≡ y
-some_fault x y o a b = cc
 
 module _ (words : List ℕ) (A : List Entry) where
   -- a look and its node
@@ -45,7 +44,7 @@ module _ (words : List ℕ) (A : List Entry) where
     -- a node of the look's key is the look's
     pub look_node : (n : Node) → Has f n → x.key ≡ n.key → seen_node ≡ n
     look_node n has at =
-        let state : is.state ≡ n.state = some_same is.state n.state (sym is.has ∙ ap (get f) at ∙ has) in
+        let state : is.state ≡ n.state = same_Some is.state n.state (sym is.has ∙ ap (get f) at ∙ has) in
         λ i. record { key = at i; state = state i }
 
   -- a node of the list was looked at, or has a fault

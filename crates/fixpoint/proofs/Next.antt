@@ -1,6 +1,7 @@
 -- From a round to the next.
 use Rattle.std.proofs.Common.{◌≡◌, refl, sym, ap, ◌∙◌, subst, ℕ, ◌<◌, ◌⊎◌, inl, inr, ⊎_elim, Bool, true, false, List, [], ◌∷◌, Contains, arith}
 use Rattle.std.specs.FinMap.{empty, get-empty, same_map}
+use Rattle.basics.specs.Items.{none_in, first_in, further_in as there, first_or_further}
 use Rattle.avr_model.specs.declared.assumption.Entry.{Entry}
 use Rattle.abs_state.specs.declared.state.AbsState.{AbsState}
 use Rattle.abs_state.proofs.AllLaws.{states_are_ordered}
@@ -11,7 +12,6 @@ use Rattle.mask_states.specs.Total.{node_total}
 use Rattle.mask_states.proofs.AllLaws.{keys_are_ordered}
 use Rattle.local_rules.specs.declared.local.Node.{Node}
 use Rattle.local_laws.proofs.AllLaws.{local_parts_are_monotone}
-use Rattle.local_laws.proofs.AllLaws.{none_in, here, there, first_or}
 use Rattle.edge_rules.specs.Edges.{IsFaultless, raw_of}
 use Rattle.edge_laws.specs.Laws.{with_state}
 use Rattle.edge_laws.proofs.AllLaws.{edges_grow}
@@ -32,9 +32,9 @@ there_or_not [] k = inr (none_in k)
 there_or_not (x ∷ xs) k = by (there_or_not xs k) (same_node k x) refl
   where
     by : Contains xs k ⊎ (Contains xs k → ⊥) → (b : Bool) → same_node k x ≡ b → Contains (x ∷ xs) k ⊎ (Contains (x ∷ xs) k → ⊥)
-    by rest true e = inl (subst (Contains (x ∷ xs)) (sym ((keys_are_ordered.same_nodes k x).0 e)) (here x xs))
+    by rest true e = inl (subst (Contains (x ∷ xs)) (sym ((keys_are_ordered.same_nodes k x).0 e)) (first_in x xs))
     by rest false e = ⊎_elim (λ i. inl (there x k xs i))
-        (λ no. inr (λ i. ⊎_elim (λ is. let t = (keys_are_ordered.same_nodes k x).1 is in absurd (cc)) no (first_or x k xs i))) rest
+        (λ no. inr (λ i. ⊎_elim (λ is. let t = (keys_are_ordered.same_nodes k x).1 is in absurd (cc)) no (first_or_further x k xs i))) rest
 
 module _ (words : List ℕ) (A : List Entry) where
   -- ---- what is noted stays so in a greater family without faults

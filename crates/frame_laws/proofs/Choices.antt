@@ -1,6 +1,7 @@
 -- Each choice is fine: an instruction or an interrupt.
 use Rattle.std.proofs.Common.{◌≡◌, ℕ, ◌%◌, Bool, true, false, not, ◌&&◌, ◌||◌, ◌==◌, if◌then◌else◌, List, [], ◌++◌, Option, Some, None, refl, sym, ap, ◌∙◌, subst, arith, Contains, ◌<◌, ◌≤◌}
 use Rattle.std.proofs.lemmas.Bool.Decides.{nat_tests}
+use Rattle.basics.specs.Booleans.{never_both}
 use Rattle.avr_model.specs.declared.device.Device.{Device}
 use Rattle.avr_model.specs.declared.device.Device.TheVariants.{M48, M88, M168, M328}
 use Rattle.avr_model.proofs.AllLaws.{devices_are_alike}
@@ -26,7 +27,7 @@ use Rattle.abs_state.specs.declared.state.AbsState.{AbsState}
 use Rattle.local_rules.specs.declared.local.CallSite.{CallSite}
 use Rattle.local_rules.specs.Raw.{Raw, untracked_if}
 use Rattle.local_rules.specs.Local.{raw, is_hung}
-use Rattle.local_rules.specs.Cover.{Follows, stays, calls, leaves, IsCovered}
+use Rattle.local_rules.specs.Cover.{Follows, stays, calls, leaves, CoversStep}
 use Rattle.local_rules.specs.Machine.{IsMachine, AreWords}
 use Rattle.local_laws.proofs.AllLaws.{local_parts_fit, open_pairs_hang}
 use Rattle.local_laws.specs.Laws.{LocalPartsCover, MachinesStay, LiveBytesStay}
@@ -50,18 +51,15 @@ faultless_not_hung words A k s h = not_hung (is_hung (device_of words) A k k.sp)
 all_four : (a b c d : Bool) → (a && b && not c && d) ≡ true → (a ≡ true) × (b ≡ true) × (c ≡ false) × (d ≡ true)
 all_four a b c d h = (grind arith, grind arith, grind arith, grind arith)
 
-vector_small : (enables v : ℕ) → is_enabled enables v ≡ true → v ≤ 26
+pub vector_small : (enables v : ℕ) → is_enabled enables v ≡ true → v ≤ 26
 vector_small enables v h = grind (arith, nat_tests)
-
-true_not_false : (b : Bool) → b ≡ true → b ≡ false → ⊥
-true_not_false b e f = cc
 
 -- where an interrupt may come at a node with no fault, its stack pointer is whole
 closed_where_taken : (device : Device) (A : List Entry) (k : NodeKey) (v : ℕ) (form : SpForm) → k.sp ≡ form → k.i ≡ true → k.delay ≡ false → is_enabled k.masks v ≡ true
     → is_never A (vector_word device v) ≡ false → is_hung device A k form ≡ false → (offset : ℕ) × (k.sp ≡ Closed offset)
 closed_where_taken device A k v (Closed offset) is i delay enabled allowed hung = (offset, is)
 closed_where_taken device A k v (Open offset high) is i delay enabled allowed hung =
-    absurd (true_not_false (is_hung device A k (Open offset high)) (open_pairs_hang.hung device A k v offset high i delay enabled allowed) hung)
+    absurd (never_both (is_hung device A k (Open offset high)) (open_pairs_hang.hung device A k v offset high i delay enabled allowed) hung)
 
 not_never : (A : List Entry) (word : ℕ) → never_target A word ≡ None → is_never A word ≡ false
 not_never A word h = by_test (is_never A word) refl h
@@ -71,7 +69,7 @@ not_never A word h = by_test (is_never A word) refl h
     by_test true is h = absurd (cc)
 
 -- a vector's word is one of the device's
-vector_inside : (device : Device) (v : ℕ) → v ≤ 26 → vector_word device v < words_of device
+pub vector_inside : (device : Device) (v : ℕ) → v ≤ 26 → vector_word device v < words_of device
 vector_inside M48 v le = omega arith
 vector_inside M88 v le = omega arith
 vector_inside M168 v le = omega arith
@@ -114,7 +112,7 @@ module _ (cover : LocalPartsCover) (machines : MachinesStay) (live : LiveBytesSt
       follows_on guarded e (leaves x exit kind form is) = frames_return live words A f sound m g gs runs b1 b2 guarded e x faultless exit form is kind
 
       -- an instruction with its effect
-      answers : (instr : Instr) → IsCovered words A m g.origin g.node.key b1 b2 (Some instr) (raw_of words A g.node) → IsFineFor (Follow words A f (Go b1 b2) g gs) (go words A m (Some instr) b1 b2)
+      answers : (instr : Instr) → CoversStep words A m g.origin g.node.key b1 b2 (Some instr) (raw_of words A g.node) → IsFineFor (Follow words A f (Go b1 b2) g gs) (go words A m (Some instr) b1 b2)
       answers instr covered =
           let e = effect_of words m instr b1 b2 in
           let guarded = not (is_scratch words m.pc) in
@@ -130,7 +128,7 @@ module _ (cover : LocalPartsCover) (machines : MachinesStay) (live : LiveBytesSt
           inside_by None is none some = none is
           inside_by (Some a) is none some = some a is
 
-      goes : (o : Option Instr) → IsCovered words A m g.origin g.node.key b1 b2 o (raw_of words A g.node) → IsFineFor (Follow words A f (Go b1 b2) g gs) (go words A m o b1 b2)
+      goes : (o : Option Instr) → CoversStep words A m g.origin g.node.key b1 b2 o (raw_of words A g.node) → IsFineFor (Follow words A f (Go b1 b2) g gs) (go words A m o b1 b2)
       goes None covered = absurd (covered faultless)
       goes (Some instr) covered = answers instr covered
 

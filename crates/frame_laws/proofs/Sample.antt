@@ -1,6 +1,8 @@
 -- The family of the worked firmware is sound: the definitions are met where there is a call.
 use Rattle.std.proofs.Common.{◌≡◌, ℕ, zero, suc, ◌+◌, ◌<◌, ◌≤◌, ◌⊎◌, inl, inr, ⊎_elim, List, [], ◌∷◌, Option, Some, None, slice_index_or, refl, sym, ap, ◌∙◌, subst, arith, Contains}
 use Rattle.std.proofs.lemmas.List.{get_or-replicate}
+use Rattle.basics.specs.Items.{none_in, only_one_in}
+use Rattle.std.proofs.lemmas.Option.{same_Some}
 use Rattle.avr_model.specs.Devices.{size_of, device_of}
 use Rattle.bit_domain.specs.declared.bits.Tri.TheVariants.{Any}
 use Rattle.bit_domain.specs.TriByte.{IsWithin, byte_any}
@@ -77,24 +79,11 @@ each : (P : Node → Type 0) → P at_call → P at_loop → P at_return → (n 
 each P a b c n h =
     ⊎_elim (λ e. subst P (sym e) a) (λ r. ⊎_elim (λ e. subst P (sym e) b) (λ e. subst P (sym e) c) r) (three_at at_call at_loop at_return n h.0 h.1 h.2)
 
-none_in : {X : Type 0} (x : X) → Contains [] x → ⊥
-none_in x h = omega (arith, h.1)
-
-one_at : {X : Type 0} (x n : X) (k : ℕ) → k < 1 → slice_index_or (x ∷ []) k n ≡ n → n ≡ x
-one_at x n zero lt e = sym e
-one_at x n (suc k) lt e = absurd (omega arith)
-
-one_in : {X : Type 0} (x y : X) → Contains (x ∷ []) y → y ≡ x
-one_in x y h = one_at x y h.0 h.1 h.2
-
-some_is : {X : Type 0} (x y : X) → Some x ≡ Some y → x ≡ y
-some_is x y e = cc
-
 -- ---- entries
 
 call_enters : (P : InstKey → ℕ → Type 0) → P callee 1 → (way : EdgeKind) (inst : InstKey) (back : ℕ) → Enters sample [] at_call way inst back → P inst back
 call_enters P p _ _ _ (by_call offset s faultless form member) =
-    let e : s ≡ site 2 1 = one_in (site 2 1) s (subst (λ (r : Raw). Contains r.calls s) call_leads member) in
+    let e : s ≡ site 2 1 = only_one_in (site 2 1) s (subst (λ (r : Raw). Contains r.calls s) call_leads member) in
     subst (λ (x : CallSite). P (called_inst at_call.key x.entry) x.back) (sym e) p
 call_enters P p _ _ _ (by_interrupt offset v clears faultless form i delay enabled allowed clearable) = absurd (cc)
 
@@ -127,7 +116,7 @@ return_covered way inst back inst_is back_is =
     (λ same x s exit is. absurd (let k = ap (λ (i : InstKey). i.kind) (same ∙ inst_is) in cc))
     (λ same x s exit is. absurd (let k = ap (λ (i : InstKey). i.kind) (same ∙ inst_is) in cc))
     (λ same x s exit is.
-    let this : plain_exit ≡ x = some_is _ x (sym (ap (λ (r : Raw). r.exit) return_leads) ∙ exit) in
+    let this : plain_exit ≡ x = same_Some _ x (sym (ap (λ (r : Raw). r.exit) return_leads) ∙ exit) in
     let formed = returns_are_true.formed top (entered top) s 0 top_formed (entries_are_true.formed top 0 top_formed) is in
     subst (λ (p : Option ℕ). IsCovered family.nodes (record { key = record (returned_key way at_call.key back x) { pick = p }; state = s })) (sym (no_pick way))
     (subst (λ b. IsCovered family.nodes (record { key = returned_key kind.Call at_call.key b x; state = s })) (sym back_is)
@@ -139,7 +128,7 @@ no_moves to r none member = none_in to (subst (λ (ns : List Node). Contains (jo
 
 one_move : (to : Node) → Contains (joined_onto [] (raw_of sample [] at_loop).moves) to → to ≡ at_loop
 unfolding joined_onto placed
-one_move to member = one_in at_loop to (subst (λ (r : Raw). Contains (joined_onto [] r.moves) to) loop_leads member)
+one_move to member = only_one_in at_loop to (subst (λ (r : Raw). Contains (joined_onto [] r.moves) to) loop_leads member)
 
 call_edges : (e : Edge) → IsEdge sample [] family.nodes at_call e → IsCovered family.nodes (target e)
 call_edges _ (moving to faultless member) = absurd (no_moves to (raw_of sample [] at_call) (ap (λ (r : Raw). r.moves) call_leads) member)

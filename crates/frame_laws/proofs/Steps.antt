@@ -28,7 +28,7 @@ use Rattle.mask_states.specs.Keys.{entry_key, offset_of}
 use Rattle.mask_states.specs.Place.{SpIs}
 use Rattle.local_rules.specs.declared.local.Node.{Node}
 use Rattle.local_rules.specs.declared.local.Exit.{Exit}
-use Rattle.local_rules.specs.Cover.{IsWithinBase, HasRoom, Lands, IsReturn}
+use Rattle.local_rules.specs.Cover.{IsWithinBase, HasRoom, ArrivesAt, IsReturn}
 use Rattle.local_rules.specs.Machine.{IsMachine, floor_of}
 use Rattle.local_laws.specs.Laws.{LiveBytesStay}
 use Rattle.local_laws.proofs.AllLaws.{joins_are_least, local_parts_are_nodes, local_parts_fit}
@@ -96,7 +96,7 @@ module _ (live : LiveBytesStay) (words : List ℕ) (A : List Entry) (f : Family)
     base_at base (Open offset high) room = tt
 
     module _ (b1 b2 : ℕ) (guarded : Bool) (e : Effect) where
-      pub frames_local : (to : Node) → IsFaultless words A g.node → Contains (raw_of words A g.node).moves to → to.key.inst ≡ g.node.key.inst → Lands m g.origin guarded e to
+      pub frames_local : (to : Node) → IsFaultless words A g.node → Contains (raw_of words A g.node).moves to → to.key.inst ≡ g.node.key.inst → ArrivesAt m g.origin guarded e to
           → GoesOn (Follow words A f (Go b1 b2) g gs) m guarded e
       frames_local to faultless member inst lands =
           let moves = (raw_of words A g.node).moves in

@@ -1,11 +1,14 @@
 -- Entries and their words: what is written is read, and what is read was written.
-use Rattle.std.proofs.Common.{◌≡◌, ◌<◌, ◌^◌, ℕ, List, [], ◌∷◌, Bool, true, false, refl, ap, sym, ◌∙◌, arith, Option, Some, None, cond, ◌⊎◌, inl, inr, codes, option_map, ltb-true, eqb, ◌&&◌, ◌||◌}
+use Rattle.std.proofs.Common.{◌≡◌, ◌<◌, ◌^◌, ℕ, List, [], ◌∷◌, Bool, true, false, refl, ap, sym, ◌∙◌, arith, Option, Some, None, cond, inl, inr, codes, option_map, ltb-true, eqb, ◌&&◌, ◌||◌}
 use Rattle.std.specs.List.{AllByRecursion, list_all, list_any}
 use Rattle.std.proofs.lemmas.Bool.{and_parts, cases_Bool}
 use Rattle.std.proofs.lemmas.Bool.Decides.{nat_tests}
 use Rattle.std.proofs.lemmas.Slice.Eq.{bytes_eq-Decides}
 use Rattle.std.specs.Str.{bytes_eq}
 use Rattle.std.specs.Prelude.{nat_lt, nat_le, length}
+use Rattle.basics.specs.Lists.{chosen, same_tail}
+use Rattle.std.proofs.lemmas.Option.{same_Some, none-some}
+use Rattle.line_reading.proofs.AllLaws.{bind_some, no_words}
 use Rattle.avr_model.specs.Vectors.{Vector, vectors, has_enables, is_protected}
 use Rattle.avr_model.specs.declared.assumption.Entry.{Entry}
 use Rattle.avr_model.specs.declared.assumption.Entry.TheVariants.{Jump, Store, Prove, Free, Never, Frame}
@@ -19,30 +22,9 @@ use Rattle.indirect_targets.specs.Spelling.{number_words, entry_words}
 
 -- ---- which way tests went
 
-pub chosen : {X : Type 0} (b : Bool) (x y z : X) → cond b x y ≡ z → ((b ≡ true) × (x ≡ z)) ⊎ ((b ≡ false) × (y ≡ z))
-chosen true x y z e = inl (refl, e)
-chosen false x y z e = inr (refl, e)
-
-pub some_is : {A : Type 0} (x y : A) → Some x ≡ Some y → x ≡ y
-some_is x y e = cc
-
-pub none_some : {A : Type 0} (x : A) → ◌≡◌ {A = Option A} None (Some x) → ⊥
-none_some x e = cc
-
-bind_some : {A B : Type 0} (o : Option A) (f : A → Option B) (y : B) → (o >>= f) ≡ Some y → (x : A) × (o ≡ Some x) × (f x ≡ Some y)
-bind_some None f y e = absurd (none_some y e)
-bind_some (Some x) f y e = (x, refl, e)
-
-map_some : {A B : Type 0} (o : Option A) (f : A → B) (y : B) → option_map f o ≡ Some y → (x : A) × (o ≡ Some x) × (f x ≡ y)
-map_some None f y e = absurd (none_some y e)
-map_some (Some x) f y e = (x, refl, some_is (f x) y e)
-
-no_words : (ws : List (List ℕ)) → is_over ws ≡ true → ws ≡ []
-no_words [] e = refl
-no_words (w ∷ ws) e = cc
-
-tail_is : {A : Type 0} (x y : A) (xs ys : List A) → x ∷ xs ≡ y ∷ ys → xs ≡ ys
-tail_is x y xs ys e = cc
+pub map_some : {A B : Type 0} (o : Option A) (f : A → B) (y : B) → option_map f o ≡ Some y → (x : A) × (o ≡ Some x) × (f x ≡ y)
+map_some None f y e = absurd (none-some y e)
+map_some (Some x) f y e = (x, refl, same_Some (f x) y e)
 
 -- ---- the numbers of an entry fit four digits
 
@@ -104,12 +86,12 @@ numbers_taken k [] h = refl
 numbers_taken k (n ∷ ns) h = rw (k.hex_taken 4 n (number_words ns) h.0, numbers_taken k ns h.1) refl
 
 numbers_takes : WordLaws → (ws : List (List ℕ)) (ns : List ℕ) → numbers_in ws ≡ Some ns → ws ≡ number_words ns
-numbers_takes k [] ns e = ap number_words (some_is [] ns e)
+numbers_takes k [] ns e = ap number_words (same_Some [] ns e)
 numbers_takes k (w ∷ ws) ns e =
     let n = bind_some (hex_at 4 (w ∷ ws)) _ ns e in
     let rest = map_some (numbers_in ws) _ ns n.2 in
     let t = k.hex_takes 4 n.0.0 (w ∷ ws) n.0.1 n.1 in
-    let same = tail_is w (hex_digits n.0.0 4) ws n.0.1 t.0 in
+    let same = same_tail w (hex_digits n.0.0 4) ws n.0.1 t.0 in
     t.0 ∙ ap (λ (v : List (List ℕ)). hex_digits n.0.0 4 ∷ v) (sym same ∙ numbers_takes k ws rest.0 rest.1) ∙ ap number_words rest.2
 
 listed_taken : WordLaws → (site : ℕ) (ns : List ℕ) → AreShort (site ∷ ns) → listed_in (number_words (site ∷ ns)) ≡ Some (site, ns)
@@ -133,8 +115,8 @@ alone_takes k ws site e =
     elim (chosen (is_over s.0.1) _ _ (Some site) s.2) [
       | inl h ↦
           t.0 ∙ ap (λ (v : List (List ℕ)). hex_digits s.0.0 4 ∷ v) (no_words s.0.1 h.0)
-          ∙ ap (λ (n : ℕ). number_words (n ∷ [])) (some_is s.0.0 site h.1)
-      | inr h ↦ absurd (none_some site h.1)
+          ∙ ap (λ (n : ℕ). number_words (n ∷ [])) (same_Some s.0.0 site h.1)
+      | inr h ↦ absurd (none-some site h.1)
     ]
 
 -- ---- entries
@@ -159,7 +141,7 @@ alone_by_takes k w ws e is = elim (chosen (bytes_eq w (codes "prove")) _ _ (Some
       | inl h ↦ kind_takes k (codes "never") (λ s. Never s) (λ s. refl) w ws e h.0 h.1
       | inr last ↦ elim (chosen (bytes_eq w (codes "frame")) _ _ (Some e) last.1) [
         | inl h ↦ kind_takes k (codes "frame") (λ s. Frame s) (λ s. refl) w ws e h.0 h.1
-        | inr none ↦ absurd (none_some e none.1)
+        | inr none ↦ absurd (none-some e none.1)
       ]
     ]
   ]
@@ -167,7 +149,7 @@ alone_by_takes k w ws e is = elim (chosen (bytes_eq w (codes "prove")) _ _ (Some
 
 numbered_takes : WordLaws → (ws : List (List ℕ)) (e : Entry) → numbered_in ws ≡ Some e → ws ≡ entry_words e
 unfolding numbered_in
-numbered_takes k [] e is = absurd (none_some e is)
+numbered_takes k [] e is = absurd (none-some e is)
 numbered_takes k (w ∷ ws) e is = elim (chosen (bytes_eq w (codes "jump")) _ _ (Some e) is) [
   | inl jump ↦
       let l = map_some (listed_in ws) _ e jump.1 in
@@ -199,9 +181,9 @@ entry_takes k ws e is =
     let n = bind_some (numbered_in ws) admitted e is in
     elim (chosen (is_entry n.0) _ _ (Some e) n.2) [
       | inl h ↦
-          let same = some_is n.0 e h.1 in
+          let same = same_Some n.0 e h.1 in
           (numbered_takes k ws n.0 n.1 ∙ ap entry_words same, ap is_entry (sym same) ∙ h.0)
-      | inr h ↦ absurd (none_some e h.1)
+      | inr h ↦ absurd (none-some e h.1)
     ]
 
 pub entry_laws : WordLaws → EntryWords

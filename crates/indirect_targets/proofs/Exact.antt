@@ -3,6 +3,9 @@ use Rattle.std.proofs.Common.{◌≡◌, ◌≢◌, ◌+◌, ◌<◌, ◌≤◌,
 use Rattle.std.proofs.lemmas.Bool.{cases_Bool}
 use Rattle.std.proofs.lemmas.Bool.Decides.{nat_tests}
 use Rattle.std.proofs.lemmas.Grind.{flat_map-append}
+use Rattle.basics.specs.Lists.{nil_not_cons, same_head_and_tail, chosen}
+use Rattle.std.proofs.lemmas.Option.{same_Some, none-some}
+use Rattle.sb_base.proofs.Splitting.{lines_at, joined_lines}
 use Rattle.avr_model.specs.declared.assumption.Entry.{Entry}
 use Rattle.avr_model.specs.declared.assumption.Entry.TheVariants.{Jump, Store, Prove, Free, Never, Frame}
 use Rattle.sb_base.specs.Answers.{Answers}
@@ -15,8 +18,8 @@ use Rattle.indirect_targets.specs.declared.fault.AssumeText.TheVariants.{Malform
 use Rattle.indirect_targets.specs.Exact.{StandsAt, BeginsWithNone, IsDue, IsDueUnlessMemory, ReadIsDue, DueIsRead, RefusedIsStuck, OneText}
 use Rattle.indirect_targets.specs.Reading.{entry_in, entry_by, next_by, placed, with_line, entries_from, entries_in}
 use Rattle.indirect_targets.specs.Spelling.{entry_words, line_of, text_of}
-use Rattle.indirect_targets.proofs.Entries.{chosen, some_is, none_some, entry_laws, entry_is_words}
-use Rattle.indirect_targets.proofs.Lists.{Follows, follows, pushed, none_are_entries, lines_at, joined_lines}
+use Rattle.indirect_targets.proofs.Entries.{entry_laws, entry_is_words}
+use Rattle.indirect_targets.proofs.Lists.{Follows, follows, pushed, none_are_entries}
 
 -- ---- one line
 
@@ -39,7 +42,7 @@ line_takes k l e is = elim (chosen l.whole _ _ (Some e) is) [
       let t = (entry_laws k).spelled (words_of l.text) e h.1 in
       let text : l.text ≡ spaced (entry_words e) = sym (k.line_words l.text) ∙ ap spaced t.0 in
       (rw (← text) (ap (λ (w : Bool). record { text = l.text; whole = w }) h.0), t.1)
-  | inr h ↦ absurd (none_some e h.1)
+  | inr h ↦ absurd (none-some e h.1)
 ]
 
 lacks_end : WordLaws → (e : Entry) → is_entry e ≡ true → Lacks 10 (spaced (entry_words e))
@@ -48,12 +51,6 @@ lacks_end k e h = (k.lines_stand (entry_words e ∷ []) [] (entry_is_words k e h
 -- a text that begins with the line of an entry
 first_line : WordLaws → (e : Entry) (rest : List ℕ) → is_entry e ≡ true → lines_of (line_of e ++ rest) ≡ whole (entry_words e) ∷ lines_of rest
 first_line k e rest h = ap lines_of (append_assoc (spaced (entry_words e)) (10 ∷ []) rest) ∙ lines_at (spaced (entry_words e)) rest (lacks_end k e h)
-
-nil_cons : {A : Type 0} (x : A) (xs : List A) → [] ≡ x ∷ xs → ⊥
-nil_cons x xs e = cc
-
-head_is : {A : Type 0} (x y : A) (xs ys : List A) → x ∷ xs ≡ y ∷ ys → (x ≡ y) × (xs ≡ ys)
-head_is x y xs ys e = (cc, cc)
 
 -- a text whose first line is read begins with the line of that entry
 begins : WordLaws → (here : List ℕ) (l : TextLine) (ls : List TextLine) (e : Entry) → lines_of here ≡ l ∷ ls → entry_by l ≡ Some e → here ≡ line_of e ++ joined ls
@@ -75,7 +72,7 @@ next_some : (count : ℕ) (l : TextLine) (e : Entry) → next_by count l ≡ Som
 unfolding next_by
 next_some count l e is = elim (chosen (ltb count most_entries) _ _ (Some e) is) [
   | inl h ↦ (ltb-true count most_entries h.0, h.1)
-  | inr h ↦ absurd (none_some e h.1)
+  | inr h ↦ absurd (none-some e h.1)
 ]
 
 none_stops : WordLaws → (count : ℕ) (here : List ℕ) (l : TextLine) (ls : List TextLine) → lines_of here ≡ l ∷ ls → count ≤ most_entries → next_by count l ≡ None
@@ -83,8 +80,8 @@ none_stops : WordLaws → (count : ℕ) (here : List ℕ) (l : TextLine) (ls : L
 none_stops k count here l ls lines few none = elim (cases_Bool (ltb count most_entries)) [
   | inl room ↦ inr (λ e rest h same.
       let lt = ltb-true count most_entries room in
-      let first = head_is l (whole (entry_words e)) ls (lines_of rest) (sym lines ∙ ap lines_of same ∙ first_line k e rest h) in
-      none_some e (sym none ∙ next_with_room count l lt ∙ ap entry_by first.0 ∙ line_taken k e h))
+      let first = same_head_and_tail l (whole (entry_words e)) ls (lines_of rest) (sym lines ∙ ap lines_of same ∙ first_line k e rest h) in
+      none-some e (sym none ∙ next_with_room count l lt ∙ ap entry_by first.0 ∙ line_taken k e h))
   | inr full ↦ let le = ltb-false count most_entries full in inl (omega arith)
 ]
 
@@ -106,12 +103,12 @@ text_pushed es e rest =
     ∙ append_assoc (text_of es) (line_of e) rest
 
 not_empty : (here : List ℕ) (l : TextLine) (ls : List TextLine) → lines_of here ≡ l ∷ ls → here ≢ []
-not_empty here l ls lines = λ e. nil_cons l ls (sym (ap lines_of e) ∙ lines)
+not_empty here l ls lines = λ e. nil_not_cons l ls (sym (ap lines_of e) ∙ lines)
 
 rest_lines : WordLaws → (here : List ℕ) (l : TextLine) (ls : List TextLine) (e : Entry) → lines_of here ≡ l ∷ ls → entry_by l ≡ Some e → lines_of (joined ls) ≡ ls
 rest_lines k here l ls e lines is =
     let t = line_takes k l e is in
-    sym (head_is l (whole (entry_words e)) ls (lines_of (joined ls)) (sym lines ∙ ap lines_of (begins k here l ls e lines is) ∙ first_line k e (joined ls) t.1)).1
+    sym (same_head_and_tail l (whole (entry_words e)) ls (lines_of (joined ls)) (sym lines ∙ ap lines_of (begins k here l ls e lines is) ∙ first_line k e (joined ls) t.1)).1
 
 -- reading on through these lines gives what is due
 abbrev ReadsFrom : List TextLine → Type 0
@@ -221,8 +218,8 @@ full_or_none before here (inr none) e more rest fits = none e rest (follows befo
 -- a text begins with the line of one entry at most
 one_entry : WordLaws → (a b : Entry) (xs ys : List ℕ) → is_entry a ≡ true → is_entry b ≡ true → line_of a ++ xs ≡ line_of b ++ ys → a ≡ b
 one_entry k a b xs ys fa fb e =
-    let lines = head_is (whole (entry_words a)) (whole (entry_words b)) (lines_of xs) (lines_of ys) (sym (first_line k a xs fa) ∙ ap lines_of e ∙ first_line k b ys fb) in
-    some_is a b (sym (line_taken k a fa) ∙ ap entry_by lines.0 ∙ line_taken k b fb)
+    let lines = same_head_and_tail (whole (entry_words a)) (whole (entry_words b)) (lines_of xs) (lines_of ys) (sym (first_line k a xs fa) ∙ ap lines_of e ∙ first_line k b ys fb) in
+    same_Some a b (sym (line_taken k a fa) ∙ ap entry_by lines.0 ∙ line_taken k b fb)
 
 low_and_above : (before : List Entry) (a b : Entry) → is_above_last before a ≡ false → is_above_last before b ≡ true → a ≡ b → ⊥
 low_and_above before a b low up e = let bad : true ≡ false = sym up ∙ ap (is_above_last before) (sym e) ∙ low in cc

@@ -1,8 +1,8 @@
 -- Lists of numbers: that they ascend, and how they are read.
-use Rattle.std.proofs.Common.{◌≡◌, ℕ, zero, suc, ◌<◌, arith, Bool, true, false, ◌&&◌, List, [], ◌∷◌, ◌++◌, length, get_or, add-one, refl, ap, sym, subst, ◌∙◌, append_assoc, Option, Some, None, Ok, Err, option_map}
+use Rattle.std.proofs.Common.{◌≡◌, ℕ, zero, suc, ◌<◌, arith, Bool, true, false, List, [], ◌∷◌, ◌++◌, length, get_or, add-one, refl, ap, sym, subst, ◌∙◌, append_assoc, Option, Some, None, Ok, Err, option_map}
 use Rattle.std.specs.List.{IsAllAdjacentAnswer}
 use Rattle.std.specs.Prelude.{nat_lt}
-use Rattle.std.proofs.lemmas.Bool.{and_from}
+use Rattle.std.proofs.lemmas.Bool.{and_from, and_right}
 use Rattle.std.proofs.lemmas.List.{append-nil}
 use Rattle.sb_base.specs.declared.digits.DigitFault.{DigitFault}
 use Rattle.sb_base.specs.Digits.{hex_answer}
@@ -16,15 +16,11 @@ each_below [] h = refl
 each_below (x ∷ []) h = refl
 each_below (x ∷ y ∷ ys) h = and_from (nat_lt x y) (ascends (y ∷ ys)) (h 0 0 (omega arith)) (each_below (y ∷ ys) (λ k d lt. h (suc k) d (omega arith)))
 
-and_false : (a b : Bool) → b ≡ false → (a && b) ≡ false
-and_false true b e = e
-and_false false b e = refl
-
 one_not_below : (xs : List ℕ) (k d : ℕ) → suc k < length xs → nat_lt (get_or xs k d) (get_or xs (suc k) d) ≡ false → ascends xs ≡ false
 one_not_below [] k d lt e = absurd (omega arith)
 one_not_below (x ∷ []) k d lt e = absurd (omega arith)
 one_not_below (x ∷ y ∷ ys) zero d lt e = rw e refl
-one_not_below (x ∷ y ∷ ys) (suc k) d lt e = and_false (nat_lt x y) (ascends (y ∷ ys)) (one_not_below (y ∷ ys) k d (omega arith) e)
+one_not_below (x ∷ y ∷ ys) (suc k) d lt e = and_right (nat_lt x y) (ascends (y ∷ ys)) (one_not_below (y ∷ ys) k d (omega arith) e)
 
 -- what the test of all neighbours answers
 pub ascends_answer : (xs : List ℕ) (r : Bool) → IsAllAdjacentAnswer (λ x y b. b ≡ nat_lt x y) xs r → r ≡ ascends xs

@@ -15,7 +15,7 @@ on_err (Err e) P p = p
 
 -- ---- words
 
-words_append : (w : Written) (xs ys : List (List ℕ)) → with_words w (xs ++ ys) ≡ with_words (with_words w xs) ys
+pub words_append : (w : Written) (xs ys : List (List ℕ)) → with_words w (xs ++ ys) ≡ with_words (with_words w xs) ys
 words_append w [] ys = refl
 words_append w (x ∷ xs) ys = words_append (with_word w x) xs ys
 
@@ -55,7 +55,7 @@ text_next es i d lt =
 text_split : (es : List Entry) (i : ℕ) → text_of es ≡ text_of (take i es) ++ text_of (drop i es)
 text_split es i = ap text_of (sym (take-append-drop i es)) ∙ flat_map-append line_of (take i es) (drop i es)
 
-none_begun : (w v : Written) (a : List ℕ) → v ≡ with_text w a → v.begun ≡ false
+pub none_begun : (w v : Written) (a : List ℕ) → v ≡ with_text w a → v.begun ≡ false
 none_begun w v a e = ap (λ (x : Written). x.begun) e
 
 part_behind : AppendingLaws → (w v : Written) (a b after : List ℕ) → v ≡ with_text w a → AppendedPart v.bytes b after → AppendedPart w.bytes (a ++ b) after

@@ -1,21 +1,16 @@
 -- What is allowed covers what is noted.
-use Rattle.std.proofs.Common.{◌≡◌, refl, sym, ap, ◌∙◌, subst, ⊎_elim, Bool, true, false, cond, Option, Some, None, List, ◌∷◌, [], ◌++◌, take, get_or, ℕ, ◌+◌, ◌<◌, ◌≤◌, length, Contains, arith}
-use Rattle.std.specs.Map.{lookup}
-use Rattle.std.proofs.lemmas.List.{take_more, take_all}
-use Rattle.std.proofs.lemmas.List.Elements.{Contains-push_cases}
-use Rattle.avr_model.specs.declared.assumption.Entry.{Entry}
+use Rattle.std.proofs.Common.{◌≡◌, refl, sym, ap, ◌∙◌, subst, ⊎_elim, Bool, true, false, cond, Option, Some, None, List, ℕ, ◌+◌, ◌<◌, ◌≤◌, arith}
+use Rattle.round_laws.proofs.AllLaws.{reached_lower}
 use Rattle.mask_states.specs.declared.keys.InstKey.{InstKey}
-use Rattle.mask_states.specs.Keys.{root_inst}
 use Rattle.mask_states.specs.Order.{same_inst}
 use Rattle.mask_states.proofs.AllLaws.{keys_are_ordered}
-use Rattle.round_rules.specs.Families.{Family}
-use Rattle.round_rules.specs.Rounds.{Entering, Reaches, AreRanks}
+use Rattle.round_rules.specs.Rounds.{Entering, AreRanks}
 use Rattle.round_rules.specs.Rounds as rounds
 use Rattle.instance_nesting.specs.declared.allowances.Allowance.{Allowance}
 use Rattle.instance_nesting.specs.declared.verdict.NestingVerdict.TheVariants.{Nests}
 use Rattle.instance_nesting.specs.Nestings.{Spot, Entrance, Noted, TellsAll}
 use Rattle.instance_nesting.specs.Drawn.{AreApart, HasMore}
-use Rattle.instance_nesting.specs.Covers.{Granted, allowed, Allows, AllowsRoot, AllowsSpot, AllowsEntrance, Covers, AreKept, IsKept}
+use Rattle.instance_nesting.specs.Covers.{Granted, allowed, AllowsRoot, AllowsSpot, AllowsEntrance, Covers, AreKept, IsKept}
 
 -- ---- one allowance more
 
@@ -28,20 +23,7 @@ one_kept gs new k most none up inst there is = by (same_inst k inst) refl
     by true e = absurd (let same : k ≡ inst = (keys_are_ordered.same_insts k inst).0 e in let never : None ≡ Some there = none ∙ ap (allowed gs) same ∙ is in cc)
     by false e = up inst ∙ ap (λ b. cond b (Some most) (allowed gs inst)) e ∙ is
 
--- ---- all of a list
-
-pub all_more : {X : Type 0} (P : X → Type 0) (xs : List X) (i : ℕ) (d : X) → i < length xs → ((x : X) → Contains (take i xs) x → P x) → P (get_or xs i d)
-    → (x : X) → Contains (take (i + 1) xs) x → P x
-all_more P xs i d lt each this x h =
-    ⊎_elim (each x) (λ same. subst P same this) (Contains-push_cases (take i xs) (get_or xs i d) x (subst (λ (l : List _). Contains l x) (take_more xs i d lt) h))
-
-pub all_taken : {X : Type 0} (P : X → Type 0) (xs : List X) (i : ℕ) → length xs ≤ i → ((x : X) → Contains (take i xs) x → P x) → (x : X) → Contains xs x → P x
-all_taken P xs i le each x h = each x (subst (λ (l : List _). Contains l x) (sym (take_all i xs le)) h)
-
 -- ---- what a nesting keeps
-
-pub kept_apart : (gs : Granted) (others : List InstKey) (spots : List Spot) (entrances : List Entrance) → AreApart others → IsKept false gs others spots entrances
-kept_apart gs others spots entrances apart = record { apart = apart; covers = λ t. absurd (cc) }
 
 pub kept_inst : (covered : Bool) (gs : Granted) (others more : List InstKey) (spots : List Spot) (entrances : List Entrance) → IsKept covered gs others spots entrances → AreApart more
     → IsKept covered gs more spots entrances
@@ -80,10 +62,6 @@ module _ (covered : Bool) (gs : Granted) (others : List InstKey) (spots : List S
 
 -- ---- what is covered nests
 
-falls : (words : List ℕ) (A : List Entry) (f : Family) (rank : InstKey → ℕ) → AreRanks words A f rank → (i j : InstKey) → Reaches words A f i j → rank j < rank i
-falls words A f rank are _ _ (rounds.once i j offset e) = are i j offset e
-falls words A f rank are _ _ (rounds.more i j k offset e rest) = omega (arith, are i j offset e, falls words A f rank are j k rest)
-
 abbrev rank_in : Option Allowance → ℕ
 rank_in None = 0
 rank_in (Some a) = a.rank
@@ -94,7 +72,7 @@ need_in (Some a) = a.need
 
 pub nests : (size : ℕ) (gs : Granted) (n : Noted) → AllowsRoot gs size → Covers gs n.spots n.entrances → TellsAll size n Nests
 nests size gs n root covers words A f sized there nesting = (
-  λ i reaches. let lt = falls words A f rank are_ranks i i reaches in omega (arith, lt),
+  λ i reaches. let lt = reached_lower words A f rank are_ranks i i reaches in omega (arith, lt),
   record {
     need = need;
     are = record {

@@ -3,9 +3,9 @@ use Rattle.std.proofs.Common.{◌≡◌, refl, sym, ap, ◌∙◌, subst, inl, i
 use Rattle.std.specs.List.{IsDistinct, AllByRecursion, list_any}
 use Rattle.std.proofs.lemmas.List.Elements.{Contains-push_cases, Contains-push, Contains-append_left}
 use Rattle.std.proofs.lemmas.Option.{none-some, same_Some}
+use Rattle.basics.specs.Items.{first_in, further_in, first_or_further}
 use Rattle.indexmap.specs.IndexSet.{insert_key}
 use Rattle.indexmap.proofs.CallerLemmas.{Contains-list_any}
-use Rattle.local_laws.proofs.AllLaws.{here, there, first_or}
 use Rattle.mask_states.specs.declared.keys.InstKey.{InstKey}
 use Rattle.mask_states.specs.declared.keys.NodeKey.{NodeKey}
 use Rattle.mask_states.specs.declared.keys.SpForm.TheVariants.{Closed}
@@ -31,20 +31,20 @@ module _ {K : Type 0} (eq : K → K → Bool) (exact : (x y : K) → eq x y ≡ 
 -- ---- instances
 
 pub root_more : (has_root : Bool) (others : List InstKey) (inst : InstKey) → inst ≡ root_inst → HasMore (insts_of has_root others) inst (root_inst ∷ others)
-root_more true others inst is x = (λ h. inl h, ⊎_elim (λ h. h) (λ same. subst (Contains (root_inst ∷ others)) (sym (same ∙ is)) (here root_inst others)))
+root_more true others inst is x = (λ h. inl h, ⊎_elim (λ h. h) (λ same. subst (Contains (root_inst ∷ others)) (sym (same ∙ is)) (first_in root_inst others)))
 root_more false others inst is x = (
-  λ h. ⊎_elim (λ same. inr (same ∙ sym is)) (λ old. inl old) (first_or root_inst x others h),
-  ⊎_elim (λ h. there root_inst x others h) (λ same. subst (Contains (root_inst ∷ others)) (sym (same ∙ is)) (here root_inst others)),
+  λ h. ⊎_elim (λ same. inr (same ∙ sym is)) (λ old. inl old) (first_or_further root_inst x others h),
+  ⊎_elim (λ h. further_in root_inst x others h) (λ same. subst (Contains (root_inst ∷ others)) (sym (same ∙ is)) (first_in root_inst others)),
 )
 
 pub other_more : (has_root : Bool) (others new : List InstKey) (inst : InstKey) → HasMore others inst new → HasMore (insts_of has_root others) inst (insts_of has_root new)
 other_more false others new inst more x = more x
 other_more true others new inst more x = (
-  λ h. ⊎_elim (λ same. inl (subst (Contains (root_inst ∷ others)) (sym same) (here root_inst others)))
-      (λ m. ⊎_elim (λ old. inl (there root_inst x others old)) (λ same. inr same) ((more x).0 m)) (first_or root_inst x new h),
+  λ h. ⊎_elim (λ same. inl (subst (Contains (root_inst ∷ others)) (sym same) (first_in root_inst others)))
+      (λ m. ⊎_elim (λ old. inl (further_in root_inst x others old)) (λ same. inr same) ((more x).0 m)) (first_or_further root_inst x new h),
   ⊎_elim
-      (λ h. ⊎_elim (λ same. subst (Contains (root_inst ∷ new)) (sym same) (here root_inst new)) (λ old. there root_inst x new ((more x).1 (inl old))) (first_or root_inst x others h))
-      (λ same. there root_inst x new ((more x).1 (inr same))),
+      (λ h. ⊎_elim (λ same. subst (Contains (root_inst ∷ new)) (sym same) (first_in root_inst new)) (λ old. further_in root_inst x new ((more x).1 (inl old))) (first_or_further root_inst x others h))
+      (λ same. further_in root_inst x new ((more x).1 (inr same))),
 )
 
 other_than : (x : InstKey) (keys : List InstKey) (j : ℕ) (inst : InstKey) → AllByRecursion (λ y. same_inst x y ≡ false) keys → slice_get keys j ≡ Some inst → x ≡ inst → ⊥
@@ -68,8 +68,8 @@ apart_more others new inst apart other more distinct = record {
 
 at_member : (keys : List InstKey) (i : ℕ) (inst : InstKey) → slice_get keys i ≡ Some inst → Contains keys inst
 at_member [] i inst e = absurd (none-some inst e)
-at_member (k ∷ ks) zero inst e = subst (Contains (k ∷ ks)) (same_Some k inst e) (here k ks)
-at_member (k ∷ ks) (suc i) inst e = there k inst ks (at_member ks i inst e)
+at_member (k ∷ ks) zero inst e = subst (Contains (k ∷ ks)) (same_Some k inst e) (first_in k ks)
+at_member (k ∷ ks) (suc i) inst e = further_in k inst ks (at_member ks i inst e)
 
 pub insts_once : (has_root : Bool) (others : List InstKey) → AreApart others → AreOnce (insts_of has_root others)
 insts_once false others apart = apart.once

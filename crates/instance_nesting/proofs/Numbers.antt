@@ -8,7 +8,7 @@ use Rattle.mask_states.specs.declared.keys.InstKey.{InstKey}
 use Rattle.mask_states.specs.Order.{same_inst}
 use Rattle.mask_states.specs.Keys.{root_inst}
 use Rattle.mask_states.proofs.AllLaws.{keys_are_ordered}
-use Rattle.graph_laws.specs.Graphs.{StandsFor, IsNumber}
+use Rattle.round_laws.specs.Graphs.{StandsFor, IsNumber}
 use Rattle.instance_nesting.specs.Drawn.{number_of}
 
 found_at : (inst : InstKey) (keys : List InstKey) → number_of keys inst < length keys → slice_get keys (number_of keys inst) ≡ Some inst
@@ -81,10 +81,6 @@ position_behind inst keys e = by (nat_lt (number_of keys inst) (length keys)) re
     by : (b : Bool) → nat_lt (number_of keys inst) (length keys) ≡ b → cond b (Some (number_of keys inst)) None ≡ None → length keys ≤ number_of keys inst
     by true t e = absurd (cc)
     by false t e = grind (arith, nat_tests)
-
--- the root has the number 0
-pub root_number : (inst : InstKey) (others : List InstKey) → same_inst inst root_inst ≡ true → 0 ≡ number_of (root_inst ∷ others) inst
-root_number inst others t = ap (λ b. cond (not b) (1 + number_of others inst) 0) (sym t)
 
 behind_root : (inst : InstKey) (others : List InstKey) → same_inst inst root_inst ≡ false → 1 + number_of others inst ≡ number_of (root_inst ∷ others) inst
 behind_root inst others t = ap (λ b. cond (not b) (1 + number_of others inst) 0) (sym t)

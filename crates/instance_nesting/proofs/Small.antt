@@ -5,13 +5,14 @@ use Rattle.std.specs.Bool.{Decides}
 use Rattle.std.specs.Set.{is_member}
 use Rattle.std.specs.FinMap.{entries, len, len-entries}
 use Rattle.std.proofs.lemmas.Map.Made.{is_member-Decides, length-le_from_is_member}
+use Rattle.basics.specs.Items.{first_in, further_in}
 use Rattle.avr_model.specs.declared.assumption.Entry.{Entry}
 use Rattle.mask_states.specs.declared.keys.InstKey.{InstKey}
 use Rattle.mask_states.specs.Order.{same_inst}
 use Rattle.mask_states.specs.Total.{inst_equivalence}
 use Rattle.mask_states.proofs.AllLaws.{keys_are_ordered}
 use Rattle.local_rules.specs.declared.local.Node.{Node}
-use Rattle.local_laws.proofs.AllLaws.{here, there, in_map}
+use Rattle.local_laws.proofs.AllLaws.{in_map}
 use Rattle.round_rules.specs.Families.{Family, node_of, nodes_of}
 use Rattle.round_laws.proofs.AllLaws.{families_are_their_nodes}
 use Rattle.instance_nesting.specs.Nestings.{Noted, AreOnce, IsNestingOf, NestingsAreSmall}
@@ -26,10 +27,10 @@ mapped_length f (x ∷ xs) = omega (arith, mapped_length f xs)
 
 none_later : (k : InstKey) (ks : List InstKey) → ((inst : InstKey) → Contains ks inst → k ≡ inst → ⊥) → AllByRecursion (λ y. same_inst k y ≡ false) ks
 none_later k [] none = tt
-none_later k (y ∷ ys) none = (by (same_inst k y) refl, none_later k ys (λ inst h. none inst (there y inst ys h)))
+none_later k (y ∷ ys) none = (by (same_inst k y) refl, none_later k ys (λ inst h. none inst (further_in y inst ys h)))
   where
     by : (b : Bool) → same_inst k y ≡ b → same_inst k y ≡ false
-    by true t = absurd (none y (here y ys) ((keys_are_ordered.same_insts k y).0 t))
+    by true t = absurd (none y (first_in y ys) ((keys_are_ordered.same_insts k y).0 t))
     by false t = t
 
 none_twice : (keys : List InstKey) → AreOnce keys → IsDistinct same_inst keys

@@ -3,8 +3,8 @@ use Rattle.std.proofs.Common.{◌≡◌, refl, sym, ap, ◌∙◌, subst, ⊎_el
 use Rattle.std.proofs.lemmas.List.{take_more, take_all, take-append-le}
 use Rattle.std.proofs.lemmas.List.Elements.{Contains-push_cases, Contains-push, Contains-append_left}
 use Rattle.std.proofs.lemmas.Option.{none-some, same_Some}
+use Rattle.basics.specs.Items.{none_in}
 use Rattle.mask_states.specs.declared.keys.InstKey.{InstKey}
-use Rattle.local_laws.proofs.AllLaws.{none_in}
 use Rattle.nesting_bound.specs.declared.graph.Entered.{Entered}
 use Rattle.nesting_bound.specs.declared.graph.GraphInst.{GraphInst}
 use Rattle.nesting_bound.specs.declared.graph.Place.{Place}
@@ -146,9 +146,6 @@ pub spots_take : (keys : List InstKey) (spots : List Spot) (i : ℕ) (s : Spot) 
     → IsDrawn keys (take i spots ++ s ∷ []) [] gs → IsDrawn keys (take (i + 1) spots) [] gs
 spots_take keys spots i s gs lt is drawn =
     subst (λ l. IsDrawn keys l [] gs) (ap (λ (x : Spot). take i spots ++ x ∷ []) is ∙ sym (take_more spots i s lt)) drawn
-
-pub spots_all : (keys : List InstKey) (spots : List Spot) (i : ℕ) (gs : List GraphInst) → length spots ≤ i → IsDrawn keys (take i spots) [] gs → IsDrawn keys spots [] gs
-spots_all keys spots i gs le drawn = subst (λ l. IsDrawn keys l [] gs) (take_all i spots le) drawn
 
 pub entrances_take : (keys : List InstKey) (spots : List Spot) (es : List Entrance) (i : ℕ) (x : Entrance) (gs : List GraphInst) → i < length es → x ≡ get_or es i x
     → IsDrawn keys spots (take i es ++ x ∷ []) gs → IsDrawn keys spots (take (i + 1) es) gs

@@ -15,7 +15,7 @@ use Rattle.nesting_bound.specs.Cycle.{IsNamed, group_of}
 use Rattle.nesting_bound.specs.Least.{IsLeast}
 use Rattle.round_rules.specs.Families.{Family, Has, HasInst}
 use Rattle.round_rules.specs.Rounds.{Entering}
-use Rattle.graph_laws.specs.Graphs.{GraphsTell, IsGraphOver, IsNumber, StandsFor, IsEntered, HasEntered, IsPlaceOf as IsPlaceIn, HasNode}
+use Rattle.round_laws.specs.Graphs.{GraphsTell, IsGraphOver, IsNumber, StandsFor, IsEntered, HasEntered, IsPlaceOf as IsPlaceIn, HasNode}
 use Rattle.instance_nesting.specs.declared.verdict.NestingVerdict.TheVariants.{Nests, ReEntry, Recursion, TooDeep}
 use Rattle.instance_nesting.specs.Nestings.{Noted, AreOnce, IsNestingOf, TellsAll}
 use Rattle.instance_nesting.specs.declared.verdict.NestingVerdict.{NestingVerdict}

@@ -11,7 +11,7 @@ use Rattle.nesting_bound.specs.declared.graph.GraphInst.{GraphInst}
 use Rattle.nesting_bound.specs.declared.graph.Place.{Place}
 use Rattle.nesting_bound.specs.Graph.{IsGraph, Enters, HasPlace}
 use Rattle.round_rules.specs.Families.{Family}
-use Rattle.graph_laws.specs.Graphs.{IsGraphOver}
+use Rattle.round_laws.specs.Graphs.{IsGraphOver}
 use Rattle.instance_nesting.specs.Nestings.{Spot, Entrance, AreOnce, Tells}
 use Rattle.instance_nesting.specs.declared.verdict.NestingVerdict.{NestingVerdict}
 

@@ -1,10 +1,11 @@
 -- When two notes are the same, and what of a note is fed to a hasher.
 use Rattle.std.specs.Prelude.{ℕ, ◌≡◌, List, ◌++◌, Bool, ◌&&◌, true, nat_eq, IsTrue}
-use Rattle.std.proofs.Common.{refl, ap, false}
+use Rattle.std.proofs.Common.{ap}
 use Rattle.std.proofs.lemmas.Bool.Decides.{Decides-eqb}
 use Rattle.std.specs.Cmp.{IsEquivalence, IsPartialEquivalence, partial_equiv_from_equiv}
 use Rattle.std.specs.Hash as fed
 use Rattle.std.proofs.lemmas.Cmp.{nat_eq_equiv, on_equiv, and_equiv}
+use Rattle.std.proofs.lemmas.Bool.{and_parts}
 use Rattle.mask_states.specs.declared.keys.InstKey.{InstKey}
 use Rattle.mask_states.specs.Order.{same_inst}
 use Rattle.mask_states.specs.Total.{inst_equivalence}
@@ -53,16 +54,12 @@ entrance_hash e = inst_hash e.from ++ inst_hash e.into ++ fed.u16 e.offset
 
 -- ---- the same is equal
 
-both : (a b : Bool) → (a && b) ≡ true → (a ≡ true) × (b ≡ true)
-both true b h = (refl, h)
-both false b h = absurd (cc)
-
 inst_is : (a b : InstKey) → same_inst a b ≡ true → a ≡ b
 inst_is a b h = (keys_are_ordered.same_insts a b).0 h
 
 pub spot_is : (a b : Spot) → same_spot a b ≡ true → a ≡ b
 spot_is a b h =
-    let p = both (same_inst a.inst b.inst) (nat_eq a.offset b.offset) h in
+    let p = and_parts (same_inst a.inst b.inst) (nat_eq a.offset b.offset) h in
     let inst = inst_is a.inst b.inst p.0 in
     let offset = (Decides-eqb a.offset b.offset).0 p.1 in
     λ i. record { inst = inst i; offset = offset i }
@@ -72,8 +69,8 @@ spot_alike a b h = ap spot_hash (spot_is a b h)
 
 pub entrance_is : (a b : Entrance) → same_entrance a b ≡ true → a ≡ b
 entrance_is a b h =
-    let p = both (same_inst a.from b.from) (same_inst a.into b.into && nat_eq a.offset b.offset) h in
-    let q = both (same_inst a.into b.into) (nat_eq a.offset b.offset) p.1 in
+    let p = and_parts (same_inst a.from b.from) (same_inst a.into b.into && nat_eq a.offset b.offset) h in
+    let q = and_parts (same_inst a.into b.into) (nat_eq a.offset b.offset) p.1 in
     let from = inst_is a.from b.from p.0 in
     let into = inst_is a.into b.into q.0 in
     let offset = (Decides-eqb a.offset b.offset).0 q.1 in

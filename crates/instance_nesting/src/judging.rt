@@ -6,9 +6,9 @@ ghost use Rattle.nesting_bound.specs.Cycle.{IsNamed};
 ghost use Rattle.instance_nesting.specs.Drawn.{GraphTells};
 
 use crate::verdict::NestingVerdict;
-use graph_laws::laws::graphs_tell;
 use mask_states::{InstKey, Kind};
 use nesting_bound::{ComposeFault, Composed, Graph, GraphInst, compose};
+use round_laws::graphs::graphs_tell;
 use std::alloc::{AllocError, Global};
 
 // How an instance that reaches itself is named.

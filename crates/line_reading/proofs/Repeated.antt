@@ -1,12 +1,10 @@
 -- The same word, many times.
-use Rattle.std.proofs.Common.{ℕ, ◌+◌, ◌-◌, ◌<◌, ◌≡◌, List, refl, sym, ◌∙◌, arith, suc, replicate, Option, Some, None}
+use Rattle.std.proofs.Common.{ℕ, ◌+◌, ◌-◌, ◌<◌, ◌≡◌, List, refl, sym, ◌∙◌, arith, replicate, Option, Some, None}
+use Rattle.basics.specs.Numbers.{one_of_the_rest}
 use Rattle.line_reading.specs.Reading.{◌>>=◌, word_at, these_at}
 
-left_to : (count i : ℕ) → i < count → count - i ≡ suc (count - (i + 1))
-left_to count i h = omega arith
-
 next_of : (count i : ℕ) (text : List ℕ) (ws : List (List ℕ)) (d : Option (Unit {0} × List (List ℕ))) → i < count → word_at text ws ≡ d → these_at (replicate (count - i) text) ws ≡ (d >>= λ r. these_at (replicate (count - (i + 1)) text) r.1)
-next_of count i text ws d h e = rw (left_to count i h, e) refl
+next_of count i text ws d h e = rw (one_of_the_rest count i h, e) refl
 
 -- one of them
 pub one_more : (count i : ℕ) (text : List ℕ) (ws rest : List (List ℕ)) (u : Unit {0}) (all : Option (Unit {0} × List (List ℕ))) → i < count → Some (u, rest) ≡ word_at text ws

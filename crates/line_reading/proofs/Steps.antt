@@ -1,18 +1,10 @@
 -- Which way tests and steps of a reading went.
-use Rattle.std.proofs.Common.{◌≡◌, ◌+◌, ℕ, List, [], ◌∷◌, ◌++◌, Bool, true, false, refl, ap, sym, ◌∙◌, arith, Option, Some, None, Result, Ok, Err, cond, ◌⊎◌, inl, inr, append_assoc, ◌&&◌}
+use Rattle.std.proofs.Common.{◌≡◌, ◌+◌, ℕ, List, [], ◌∷◌, ◌++◌, Bool, true, refl, ap, sym, ◌∙◌, arith, Option, Some, None, Result, Ok, Err, cond, ◌⊎◌, inl, inr, append_assoc}
+use Rattle.basics.specs.Lists.{chosen, nil_not_cons, same_head_and_tail}
+use Rattle.std.proofs.lemmas.Option.{same_Some, none-some}
 use Rattle.sb_base.specs.Lines.{TextLine, Place, size_of}
 use Rattle.line_reading.specs.Reading.{◌>>=◌, is_over, then_at, first_by, line_by, taken, passed}
 use Rattle.line_reading.specs.Words.{sizes, Passes}
-
-pub chosen : {X : Type 0} (b : Bool) (x y z : X) → cond b x y ≡ z → ((b ≡ true) × (x ≡ z)) ⊎ ((b ≡ false) × (y ≡ z))
-chosen true x y z e = inl (refl, e)
-chosen false x y z e = inr (refl, e)
-
-pub some_is : {A : Type 0} (x y : A) → Some x ≡ Some y → x ≡ y
-some_is x y e = cc
-
-pub none_some : {A : Type 0} (x : A) → ◌≡◌ {A = Option A} None (Some x) → ⊥
-none_some x e = cc
 
 pub ok_is : {A : Type 0} (x y : A) → ◌≡◌ {A = Result A Place} (Ok x) (Ok y) → x ≡ y
 ok_is x y e = cc
@@ -24,12 +16,8 @@ pub err_is : {A : Type 0} (q r : Place) → ◌≡◌ {A = Result A Place} (Err 
 err_is q r e = cc
 
 pub bind_some : {A B : Type 0} (o : Option A) (f : A → Option B) (y : B) → (o >>= f) ≡ Some y → (x : A) × (o ≡ Some x) × (f x ≡ Some y)
-bind_some None f y e = absurd (none_some y e)
+bind_some None f y e = absurd (none-some y e)
 bind_some (Some x) f y e = (x, refl, e)
-
-pub both : (a b : Bool) → (a && b) ≡ true → (a ≡ true) × (b ≡ true)
-both true b e = (refl, e)
-both false b e = cc
 
 pub no_words : (ws : List (List ℕ)) → is_over ws ≡ true → ws ≡ []
 no_words [] e = refl
@@ -42,8 +30,8 @@ pub first_some : {A : Type 0} (f : List ℕ → Option A) (l : TextLine) (ls : L
 first_some f l ls x e =
     let step = bind_some (cond l.whole (Some l.text) None) f x e in
     elim (chosen l.whole (Some l.text) None (Some step.0) step.1) [
-      | inl h ↦ (ap (λ (w : Bool). record { text = l.text; whole = w }) h.0, ap f (some_is l.text step.0 h.1) ∙ step.2)
-      | inr h ↦ absurd (none_some step.0 h.1)
+      | inl h ↦ (ap (λ (w : Bool). record { text = l.text; whole = w }) h.0, ap f (same_Some l.text step.0 h.1) ∙ step.2)
+      | inr h ↦ absurd (none-some step.0 h.1)
     ]
 
 pub sizes_append : (xs ys : List TextLine) → sizes (xs ++ ys) ≡ sizes xs + sizes ys
@@ -78,7 +66,7 @@ taken_err {A} (Some y) here next q e = absurd (err_ok {A = A × Place} q (y, nex
 
 line_takes_at : {A : Type 0} (f : List ℕ → Option A) (at : ℕ) (ls : List TextLine) (x : A) (q : Place) → line_by f (record { at = at; rest = ls }) ≡ Ok (x, q) → TakesLine f (record { at = at; rest = ls }) x q
 unfolding line_by
-line_takes_at f at [] x q e = let bad = taken_ok None (record { at = at; rest = [] }) (record { at = at; rest = [] }) x q e in absurd (none_some x bad.0)
+line_takes_at f at [] x q e = let bad = taken_ok None (record { at = at; rest = [] }) (record { at = at; rest = [] }) x q e in absurd (none-some x bad.0)
 line_takes_at f at (l ∷ ls) x q e =
     let t = taken_ok (first_by f (l ∷ ls)) (record { at = at; rest = l ∷ ls }) (record { at = at + size_of l; rest = ls }) x q e in
     let one = first_some f l ls x t.0 in
@@ -91,19 +79,12 @@ pub line_refuses : {A : Type 0} (f : List ℕ → Option A) (p q : Place) → li
 unfolding line_by
 line_refuses f p q e = taken_err (first_by f p.rest) p (passed p) q e
 
--- a line that is spelled is read
-pub nil_cons : {A : Type 0} (x : A) (xs : List A) → [] ≡ x ∷ xs → ⊥
-nil_cons x xs e = cc
-
-pub cons_is : {A : Type 0} (x y : A) (xs ys : List A) → x ∷ xs ≡ y ∷ ys → (x ≡ y) × (xs ≡ ys)
-cons_is x y xs ys e = (cc, cc)
-
 pub same_place : (a b : ℕ) (xs ys : List TextLine) → a ≡ b → xs ≡ ys → ◌≡◌ {A = Place} (record { at = a; rest = xs }) (record { at = b; rest = ys })
 same_place a b xs ys e f = rw (e, f) refl
 
 pub passes_tail : (at : ℕ) (l m : TextLine) (ls ms : List TextLine) (q : Place) → Passes (record { at = at; rest = l ∷ ls }) (m ∷ ms) q → (l ≡ m) × Passes (record { at = at + size_of l; rest = ls }) ms q
 passes_tail at l m ls ms q h =
-    let c = cons_is l m ls (ms ++ q.rest) h.lines in
+    let c = same_head_and_tail l m ls (ms ++ q.rest) h.lines in
     (c.0, record { lines = c.1; offset = rw c.0 (omega (arith, h.offset)) })
 
 pub passes_end : (p q : Place) → Passes p [] q → p ≡ q
@@ -112,7 +93,7 @@ passes_end p q h = same_place p.at q.at p.rest q.rest (omega (arith, h.offset)) 
 line_again_at : {A : Type 0} (f : List ℕ → Option A) (at : ℕ) (ls : List TextLine) (q : Place) (text : List ℕ) (x : A) → f text ≡ Some x
     → Passes (record { at = at; rest = ls }) (record { text = text; whole = true } ∷ []) q → line_by f (record { at = at; rest = ls }) ≡ Ok (x, q)
 unfolding line_by
-line_again_at {A} f at [] q text x e h = absurd (nil_cons (record { text = text; whole = true }) q.rest h.lines)
+line_again_at {A} f at [] q text x e h = absurd (nil_not_cons (record { text = text; whole = true }) q.rest h.lines)
 line_again_at {A} f at (l ∷ ls) q text x e h =
     let t = passes_tail at l (record { text = text; whole = true }) ls [] q h in
     let read : first_by f (l ∷ ls) ≡ Some x = ap (λ (y : TextLine). first_by f (y ∷ ls)) t.0 ∙ e in

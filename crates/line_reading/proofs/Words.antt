@@ -1,44 +1,19 @@
 -- What is written is read, and what is read was written.
-use Rattle.std.proofs.Common.{ℕ, ◌+◌, ◌*◌, ◌^◌, ◌<◌, ◌≤◌, ◌≡◌, ◌==◌, List, [], ◌∷◌, ◌++◌, length, length-append, append_assoc, map, Bool, true, false, not, refl, ap, sym, ◌∙◌, arith, get_or, Err, Ok, Result, Option, Some, None, inl, inr, nat_lt, add-one}
+use Rattle.std.proofs.Common.{ℕ, ◌+◌, ◌*◌, ◌^◌, ◌<◌, ◌≤◌, ◌≡◌, ◌==◌, List, [], ◌∷◌, ◌++◌, length, length-append, append_assoc, map, Bool, true, false, not, refl, ap, sym, ◌∙◌, arith, Err, Ok, Result, Option, Some, inl, inr, nat_lt, add-one}
 use Rattle.std.proofs.Math.Nat.{pow-suc}
 use Rattle.std.proofs.lemmas.Bool.Decides.{nat_tests}
-use Rattle.std.proofs.lemmas.List.Elements.{recursion_from_All}
-use Rattle.std.proofs.lemmas.List.Sums.{fails_before_first}
 use Rattle.std.proofs.lemmas.List.Splits.{join_with_byte-slice_split}
-use Rattle.std.specs.List.{position, position_or_len, AllByRecursion, All, flat_map}
+use Rattle.std.specs.List.{position, AllByRecursion, flat_map}
 use Rattle.std.specs.Fmt.{decimal}
+use Rattle.basics.specs.Lists.{all_pass_if_none_fails, chosen}
+use Rattle.sb_base.proofs.Spelling.{not_ok, same_number, unless_bad_ok}
 use Rattle.sb_base.specs.declared.digits.DigitFault.{DigitFault}
 use Rattle.sb_base.specs.declared.digits.DigitFault.TheVariants.{WrongLength, BadDigit, TooGreat}
-use Rattle.sb_base.specs.Digits.{is_dec, is_hex, digit_of, number_from, hex_answer, dec_answer, unless_bad, capped, has_extra_zero, hex_digits}
+use Rattle.sb_base.specs.Digits.{is_dec, is_hex, digit_of, number_from, hex_answer, dec_answer, capped, has_extra_zero, hex_digits}
 use Rattle.sb_base.specs.Lines.{TextLine, lines_of, joined, line, spaced, Lacks, IsEnded}
 use Rattle.sb_base.specs.Spelling.{HexIsRead, HexIsSpelled, DecimalIsRead, DecimalIsSpelled, WordsAreRead, LinesAreRead}
 use Rattle.line_reading.specs.Reading.{number_and}
-use Rattle.line_reading.proofs.Steps.{chosen, none_some}
 use Rattle.line_reading.specs.Words.{IsWord, whole, HexTakes, HexIsTaken, HexIsWord, DecTakes, DecIsTaken, DecIsWord, WordsStand, LineIsWords, LinesStand, sizes, LinesAreText, TextIsLines}
-
-not_false : (b : Bool) → not b ≡ false → b ≡ true
-not_false true e = refl
-not_false false e = cc
-
-not_ok : (f : DigitFault) (n : ℕ) → ◌≡◌ {A = Result ℕ DigitFault} (Err f) (Ok n) → ⊥
-not_ok f n e = cc
-
-same_number : (a b : ℕ) → ◌≡◌ {A = Result ℕ DigitFault} (Ok a) (Ok b) → a ≡ b
-same_number a b e = cc
-
-unless_bad_ok : (o : Option ℕ) (r : Result ℕ DigitFault) (n : ℕ) → unless_bad o r ≡ Ok n → (o ≡ None) × (r ≡ Ok n)
-unless_bad_ok None r n e = (refl, e)
-unless_bad_ok (Some at) r n e = cc
-
-fails_none : (p : ℕ → Bool) (xs : List ℕ) → length xs ≤ position_or_len (λ b. not (p b)) xs → All (λ b. p b ≡ true) xs
-fails_none p xs h = λ k d l. not_false (p (get_or xs k d)) (fails_before_first (λ b. not (p b)) xs k d (omega arith))
-
-none_fails : (p : ℕ → Bool) (xs : List ℕ) → position (λ b. not (p b)) xs ≡ None → AllByRecursion (λ b. p b ≡ true) xs
-none_fails p xs e =
-    recursion_from_All (λ b. p b ≡ true) xs (elim (chosen (nat_lt (position_or_len (λ b. not (p b)) xs) (length xs)) _ _ None e) [
-      | inl h ↦ absurd (none_some _ (sym h.1))
-      | inr h ↦ fails_none p xs (grind (arith, nat_tests, h.0))
-    ])
 
 -- ---- what a number that is read says of its digits
 
@@ -51,7 +26,7 @@ hex_text : (w : List ℕ) (n k : ℕ) → hex_answer w k ≡ Ok n → IsHexText 
 hex_text w n k e = elim (chosen (length w == k) _ _ (Ok n) e) [
   | inl h ↦
       let r = unless_bad_ok (position (λ b. not (is_hex b)) w) (Ok (number_from 16 0 w)) n h.1 in
-      record { size = grind (arith, nat_tests, h.0); digits = none_fails is_hex w r.0; value = same_number (number_from 16 0 w) n r.1 }
+      record { size = grind (arith, nat_tests, h.0); digits = all_pass_if_none_fails is_hex w r.0; value = same_number (number_from 16 0 w) n r.1 }
   | inr h ↦ absurd (not_ok (WrongLength (length w)) n h.1)
 ]
 
@@ -83,7 +58,7 @@ dec_text w n most e = elim (chosen (length w == 0) _ _ (Ok n) e) [
     | inl g ↦ absurd (not_ok (BadDigit 0) n g.1)
     | inr g ↦
         let r = unless_bad_ok (position (λ b. not (is_dec b)) w) (capped (number_from 10 0 w) most) n g.1 in
-        (none_fails is_dec w r.0, capped_ok (number_from 10 0 w) n most r.1)
+        (all_pass_if_none_fails is_dec w r.0, capped_ok (number_from 10 0 w) n most r.1)
   ]
 ]
 
@@ -148,7 +123,7 @@ words_stand read w ws h = read w ws (lack_spaces (w ∷ ws) h)
 pub line_is_words : LineIsWords
 line_is_words text = join_with_byte-slice_split 32 text
 
-lacks_append : (c : ℕ) (xs ys : List ℕ) → Lacks c xs → Lacks c ys → Lacks c (xs ++ ys)
+pub lacks_append : (c : ℕ) (xs ys : List ℕ) → Lacks c xs → Lacks c ys → Lacks c (xs ++ ys)
 lacks_append c [] ys h k = k
 lacks_append c (x ∷ xs) ys h k = (h.0, lacks_append c xs ys h.1 k)
 

@@ -27,7 +27,7 @@ use Rattle.abs_alu.specs.Sums.{abs_add, abs_sub}
 use Rattle.abs_alu.specs.Bitwise.{abs_logic, abs_com, abs_step_one, abs_shift}
 use Rattle.abs_alu.specs.Product.{abs_mul}
 use Rattle.abs_alu.specs.Words.{abs_wide}
-use Rattle.abs_alu.proofs.AllLaws.{all_sums_cover, all_bitwise_cover, all_products_cover, all_words_cover}
+use Rattle.abs_alu.proofs.AllLaws.{all_sums_cover, all_bitwise_cover, all_products_cover, all_words_cover, step_small, has_known, logic_small, result_small}
 use Rattle.sp_domain.specs.declared.tags.Tag.{Tag}
 use Rattle.sp_domain.specs.declared.tags.Tag.TheVariants as tag
 use Rattle.sp_domain.specs.declared.tags.CarryTag.{CarryTag}
@@ -45,9 +45,9 @@ use Rattle.mask_states.specs.declared.keys.NodeKey.{NodeKey}
 use Rattle.local_rules.specs.Raw.{setting as node_setting}
 use Rattle.local_rules.specs.Registers.{value, bits, carry_bit, with_bits, set as node_set, set_pair as node_pair, with_carry, but_carry, low_tag, borrow_tag, high_tag, swapped, product_row, down_by, pair_tags, pair_moved, wide_row, going_with, sum_tagged, sum_after, compare_after, difference_after, sub_after, sbc_after, logic_after, step_tagged, step_after, shift_after, com_after}
 use Rattle.local_rules.specs.Cover.{InFrame, Follows}
-use Rattle.local_laws.proofs.Bits.{with_flags_i, with_flags_carry, with_carry_and_zero_i, permits_flag, constant_is, has_known}
+use Rattle.local_laws.proofs.Bits.{with_flags_i, with_flags_carry, with_carry_and_zero_i, permits_flag, constant_is}
 use Rattle.local_laws.proofs.Bytes.{byte_in_list}
-use Rattle.local_laws.proofs.EffectSizes.{logic_small, shift_small, result_small, wide_small}
+use Rattle.local_laws.proofs.EffectSizes.{shift_small, wide_small}
 use Rattle.local_laws.proofs.Frame.{register_stands, set_one, set_two, sets}
 use Rattle.local_laws.proofs.Less.{Spares, SparesAll, NamesNone, less_set, less_two, less_of_none, borrow_names_none, untagged_holds}
 
@@ -87,10 +87,6 @@ wide_i false w n s = with_flags_i _ _ _ _ _ s
 
 difference_small : (x y : ℕ) (c : Bool) → difference_of x y c < 256
 difference_small x y c = omega arith
-
-step_small : (up : Bool) (x : ℕ) → step_of up x < 256
-step_small true x = omega arith
-step_small false x = omega arith
 
 swapped_bit : (x i : ℕ) → x < 256 → i < 8 → bit_at x ((i + 4) % 8) ≡ bit_at (x % 16 * 16 + x / 16) i
 swapped_bit x zero small lt = omega arith

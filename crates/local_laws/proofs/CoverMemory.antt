@@ -24,7 +24,7 @@ use Rattle.bit_domain.specs.Tri.{Permits, tri_not}
 use Rattle.bit_domain.specs.TriByte.{tri_at, byte_with}
 use Rattle.sp_domain.specs.declared.tags.Tag.TheVariants as tag
 use Rattle.sp_domain.specs.Tags.{Origin, LessHolds}
-use Rattle.abs_state.proofs.AllLaws.{bits_make_values}
+use Rattle.abs_state.proofs.AllLaws.{bits_make_values, any_stands}
 use Rattle.abs_state.specs.declared.values.AbsByte.{AbsByte}
 use Rattle.abs_state.specs.declared.state.AbsState.{AbsState}
 use Rattle.abs_state.specs.Values.{untagged, known, unknown}
@@ -41,7 +41,7 @@ use Rattle.local_laws.proofs.Alu.{register_byte}
 use Rattle.local_laws.proofs.EffectSizes.{byte_at_small, flash_small}
 use Rattle.local_laws.proofs.Less.{Spares, SparesAll, less_set, less_two, less_moved}
 use Rattle.local_laws.proofs.Bits.{with_bit_small, has_with, permits_flag}
-use Rattle.local_laws.proofs.Frame.{nothing_stands, set_stands, register_stands, set_one, same_frame, only, sets}
+use Rattle.local_laws.proofs.Frame.{set_stands, register_stands, set_one, same_frame, only, sets}
 use Rattle.local_laws.proofs.FlowRows.{not_may, further_is, goes_further, skip_covered}
 use Rattle.local_laws.proofs.CoverRows.{NamesAddress, RowIsCovered}
 use Rattle.local_laws.proofs.ReadValues.{known_stands, read_stands}
@@ -98,10 +98,10 @@ site_unflagged words A stores pc pc' e none unfixed =
 
 flash_by : (o : Origin) (b : Bool) (x input : ℕ) → x < 256 → input < 256 → ByteStands o (if b then known x else unknown) (if b then x else input)
 flash_by o true x input small lt = known_stands o x small
-flash_by o false x input small lt = nothing_stands o input lt
+flash_by o false x input small lt = any_stands o input lt
 
 flash_stands : (o : Origin) (words : List ℕ) (c : Option ℕ) (z input : ℕ) → AreWords words → input < 256 → ((x : ℕ) → c ≡ Some x → z ≡ x) → ByteStands o (flash_value words c) (flash_read words z input)
-flash_stands o words None z input are lt is = nothing_stands o (flash_read words z input) (flash_small words z input are lt)
+flash_stands o words None z input are lt is = any_stands o (flash_read words z input) (flash_small words z input are lt)
 flash_stands o words (Some x) z input are lt is =
     subst (λ y. ByteStands o (flash_value words (Some x)) (flash_read words y input)) (sym (is x refl)) (flash_by o (nat_lt x (2 * words_of (device_of words))) (byte_at words x) input (byte_at_small words x are) lt)
 

@@ -3,6 +3,10 @@ use Rattle.std.proofs.Common.{◌≡◌, refl, ap, ℕ, ◌*◌, ◌<◌, ◌==�
 use Rattle.std.specs.Prelude.{⊤}
 use Rattle.std.specs.Int.{from_bool}
 use Rattle.std.specs.Int.Bits.{or_self, and_self}
+use Rattle.std.proofs.lemmas.Option.{same_Some}
+use Rattle.basics.specs.Booleans.{not_from_never}
+use Rattle.basics.specs.Items.{first_in}
+use Rattle.abs_alu.proofs.AllLaws.{has_known}
 use Rattle.avr_model.specs.Devices.{wrapped}
 use Rattle.avr_model.specs.declared.assumption.Entry.{Entry}
 use Rattle.avr_model.specs.declared.effect.Effect.{Effect}
@@ -43,8 +47,8 @@ use Rattle.local_rules.specs.FrameLines.{is_followed, framed_binary}
 use Rattle.local_rules.specs.Flow.{skipping as node_skipping}
 use Rattle.local_rules.specs.Local.{binary_row, immediate_row, unary_row, row_of}
 use Rattle.local_rules.specs.Cover.{InFrame, IsUnflagged, Follows}
-use Rattle.local_laws.proofs.Bits.{has_known, constant_is, permits_flag}
-use Rattle.local_laws.proofs.Frame.{first, register_stands}
+use Rattle.local_laws.proofs.Bits.{constant_is, permits_flag}
+use Rattle.local_laws.proofs.Frame.{register_stands}
 use Rattle.local_laws.proofs.FrameCover.{framed_add_covered, framed_adc_covered, framed_sub_covered, framed_step_covered}
 use Rattle.local_laws.proofs.Alu.{register_byte, register_bits, moves, carry_may, sum_covered, compare_covered, difference_covered, sub_covered, sbc_covered, sub_by, logic_covered, kept_covered, eor_by, step_covered, shift_covered, com_covered, swap_covered, product_covered, movw_covered, wide_covered}
 use Rattle.local_laws.proofs.Less.{Spares, SparesAll, compared, than_untagged, than_holds, alone_untagged, kept_is, kept_holds}
@@ -77,16 +81,13 @@ module _ (m : State) (o : Origin) (k : NodeKey) (s : AbsState) (at : InFrame m o
   register_number : (r l : ℕ) → byte_constant (bits s r) ≡ Some l → register m r ≡ l
   register_number r l some = constant_is (bits s r) (register m r) l some (register_byte m o k s at r) (register_bits m o k s at r)
 
-  number_is : (n l : ℕ) → Some n ≡ Some l → n ≡ l
-  number_is n l e = cc
-
   module _ (guarded : Bool) where
     immediate_covered : (op : ImmediateOp) (d n : ℕ) → SparesAll s.flags.carry (set_by_immediate op d) → n < 256 → Follows m o k guarded b1 b2 (immediate_effect m op d n) (immediate_row m.device false k s op d n)
     immediate_covered immediate.Cpi d n spares small =
         compare_covered m o k s at guarded b1 b2 (register m d) n (bits s d) (byte_known n) false Zero false (carry_tag.Less d n) (register_byte m o k s at d) small (register_bits m o k s at d)
         (has_known n small) refl tt (compared m.registers d n n refl)
-    immediate_covered immediate.Sbci d n spares small = sbc_covered m o k s at guarded b1 b2 d n (byte_known n) (Some n) small (has_known n small) (number_is n)
-    immediate_covered immediate.Subi d n spares small = sub_covered m o k s at guarded b1 b2 d n (byte_known n) (Some n) small (has_known n small) (number_is n)
+    immediate_covered immediate.Sbci d n spares small = sbc_covered m o k s at guarded b1 b2 d n (byte_known n) (Some n) small (has_known n small) (same_Some n)
+    immediate_covered immediate.Subi d n spares small = sub_covered m o k s at guarded b1 b2 d n (byte_known n) (Some n) small (has_known n small) (same_Some n)
     immediate_covered immediate.Ori d n spares small =
         logic_covered m o k s at guarded b1 b2 logic.Or d (register m d) n (bits s d) (byte_known n) (register_byte m o k s at d) small (register_bits m o k s at d) (has_known n small) spares.0
     immediate_covered immediate.Andi d n spares small =
@@ -136,7 +137,7 @@ module _ (m : State) (o : Origin) (k : NodeKey) (s : AbsState) (at : InFrame m o
     framed_immediate_covered : (op : ImmediateOp) (d n : ℕ) → SparesAll s.flags.carry (set_by_immediate op d) → n < 256 → Follows m o k guarded b1 b2 (immediate_effect m op d n) (immediate_row m.device true k s op d n)
     framed_immediate_covered immediate.Cpi d n spares small = immediate_covered immediate.Cpi d n spares small
     framed_immediate_covered immediate.Sbci d n spares small = immediate_covered immediate.Sbci d n spares small
-    framed_immediate_covered immediate.Subi d n spares small = framed_sub_covered m o k s at guarded b1 b2 d n (byte_known n) (Some n) small (has_known n small) (number_is n)
+    framed_immediate_covered immediate.Subi d n spares small = framed_sub_covered m o k s at guarded b1 b2 d n (byte_known n) (Some n) small (has_known n small) (same_Some n)
     framed_immediate_covered immediate.Ori d n spares small = immediate_covered immediate.Ori d n spares small
     framed_immediate_covered immediate.Andi d n spares small = immediate_covered immediate.Andi d n spares small
     framed_immediate_covered immediate.Ldi d n spares small = immediate_covered immediate.Ldi d n spares small
@@ -187,11 +188,6 @@ listed_call : (A : List Entry) (pc : ℕ) (e : Effect) → unlisted_transfer A p
 unfolding unlisted_transfer
 listed_call A pc e h = h
 
--- a row that can't be of a compiler's small frame is guarded
-guards : (scratch : Bool) → (scratch ≡ true → ⊥) → not scratch ≡ true
-guards true h = absurd (h refl)
-guards false h = refl
-
 module _ (m : State) (o : Origin) (k : NodeKey) (s : AbsState) (at : InFrame m o k s) (b1 b2 : ℕ) (words : List ℕ) (A : List Entry) (scratch : Bool) where
   bit_may : (r b : ℕ) → Permits (tri_at (bits s r) b) (from_bool (flag (register m r) b))
   bit_may r b = permits_flag (bits s r) (register m r) b (register_bits m o k s at r)
@@ -227,7 +223,7 @@ module _ (m : State) (o : Origin) (k : NodeKey) (s : AbsState) (at : InFrame m o
   row_covered small (i.Bset n) spares sized rooms addressed none unflagged = flag_covered m o k s at (not scratch) b1 b2 n true
   row_covered small (i.Bclr n) spares sized rooms addressed none unflagged = flag_covered m o k s at (not scratch) b1 b2 n false
   row_covered small i.Ijmp spares sized rooms addressed none unflagged = ijmp_covered m o k s at (not scratch) b1 b2 A (listed_word A m.pc (effect_of words m i.Ijmp b1 b2) unflagged.listed) none
-  row_covered small i.Icall spares sized rooms addressed none unflagged = icall_covered m o k s at (not scratch) b1 b2 A (guards scratch rooms) (listed_call A m.pc (effect_of words m i.Icall b1 b2) unflagged.listed) none
+  row_covered small i.Icall spares sized rooms addressed none unflagged = icall_covered m o k s at (not scratch) b1 b2 A (not_from_never scratch rooms) (listed_call A m.pc (effect_of words m i.Icall b1 b2) unflagged.listed) none
   row_covered small i.Ret spares sized rooms addressed none unflagged = ret_covered m o k s at (not scratch) b1 b2 none
   row_covered small i.Reti spares sized rooms addressed none unflagged = reti_covered m o k s at (not scratch) b1 b2 none
   row_covered small i.Sleep spares sized rooms addressed none unflagged = going_covered m o k s at (not scratch) b1 b2 _ (further m.device k 1) (goes_further m o k s at (not scratch) b1 b2 1)
@@ -235,7 +231,7 @@ module _ (m : State) (o : Origin) (k : NodeKey) (s : AbsState) (at : InFrame m o
   row_covered small i.Wdr spares sized rooms addressed none unflagged = going_covered m o k s at (not scratch) b1 b2 _ (further m.device k 1) (goes_further m o k s at (not scratch) b1 b2 1)
   row_covered small i.Lpm spares sized rooms addressed none unflagged = addressed tt none unflagged
   row_covered small (i.Jmp t) spares sized rooms addressed none unflagged = going_covered m o k s at (not scratch) b1 b2 t (wrapped m.device t) refl
-  row_covered small (i.Call t) spares sized rooms addressed none unflagged = call_covered m o k s at (not scratch) b1 b2 t (wrapped m.device t) _ (further m.device k 2) (wrapped m.device t ∷ []) (guards scratch rooms) refl (further_is m o k s at (not scratch) b1 b2 2) (first (wrapped m.device t) []) none
+  row_covered small (i.Call t) spares sized rooms addressed none unflagged = call_covered m o k s at (not scratch) b1 b2 t (wrapped m.device t) _ (further m.device k 2) (wrapped m.device t ∷ []) (not_from_never scratch rooms) refl (further_is m o k s at (not scratch) b1 b2 2) (first_in (wrapped m.device t) []) none
   row_covered small (i.Adiw d n) spares sized rooms addressed none unflagged = wide_covered m o k s at (not scratch) b1 b2 true (2 * d) n sized
   row_covered small (i.Sbiw d n) spares sized rooms addressed none unflagged = wide_covered m o k s at (not scratch) b1 b2 false (2 * d) n sized
   row_covered small (i.Cbi a b) spares sized rooms addressed none unflagged = addressed tt none unflagged

@@ -15,7 +15,7 @@ use Rattle.local_rules.specs.Raw.{Raw, fails, all_of, untracked_if, too_deep_if}
 use Rattle.local_rules.specs.Local.{row_at, row_in, is_hung, fetched, picks, picking, picked, split_site, splitting, raw}
 use Rattle.local_rules.specs.Registers.{forgetting}
 use Rattle.local_rules.specs.Machine.{AreWords}
-use Rattle.local_rules.specs.Cover.{InFrame, IsCovered}
+use Rattle.local_rules.specs.Cover.{InFrame, CoversStep}
 use Rattle.local_laws.proofs.Less.{forgetting_at, forgotten_spares}
 use Rattle.local_laws.specs.Laws.{LocalPartsCover}
 use Rattle.local_laws.proofs.CoverMemory.{addressed_covered}
@@ -29,18 +29,18 @@ use Rattle.local_laws.proofs.Picks.{splits_at, at_quiet, in_picks, picked_at, al
 module _ (words : List ℕ) (A : List Entry) (m : State) (o : Origin) (k : NodeKey) (s : AbsState) (at : InFrame m o k s) (b1 b2 : ℕ) (small : b1 < 256)
     (are : AreWords words) where
   -- where the stack pointer isn't half written while an interrupt may come, and the frame isn't deeper than SRAM, the row decides
-  not_hung : (hung : Bool) (instr : Option Instr) (r : Raw) → IsCovered words A m o k b1 b2 instr r → IsCovered words A m o k b1 b2 instr (untracked_if hung k.pc r)
+  not_hung : (hung : Bool) (instr : Option Instr) (r : Raw) → CoversStep words A m o k b1 b2 instr r → CoversStep words A m o k b1 b2 instr (untracked_if hung k.pc r)
   not_hung true None r h = λ clean. absurd (let e = clean in cc)
   not_hung true (Some instr) r h = λ clean. absurd (let e = clean in cc)
   not_hung false instr r h = h
 
-  not_deep : (deep : Bool) (offset : ℕ) (instr : Option Instr) (r : Raw) → IsCovered words A m o k b1 b2 instr r
-      → IsCovered words A m o k b1 b2 instr (too_deep_if deep k.pc offset r)
+  not_deep : (deep : Bool) (offset : ℕ) (instr : Option Instr) (r : Raw) → CoversStep words A m o k b1 b2 instr r
+      → CoversStep words A m o k b1 b2 instr (too_deep_if deep k.pc offset r)
   not_deep true offset None r h = λ clean. absurd (let e = clean in cc)
   not_deep true offset (Some instr) r h = λ clean. absurd (let e = clean in cc)
   not_deep false offset instr r h = h
 
-  at_instruction : (instr : Option Instr) → instruction_at words m.pc ≡ instr → IsCovered words A m o k b1 b2 instr (row_at m.device words A (is_scratch words m.pc) k s instr)
+  at_instruction : (instr : Option Instr) → instruction_at words m.pc ≡ instr → CoversStep words A m o k b1 b2 instr (row_at m.device words A (is_scratch words m.pc) k s instr)
   at_instruction None e = λ clean. absurd (let e = clean in cc)
   at_instruction (Some instr) e =
       let t = forgetting (written instr) s in
@@ -56,7 +56,7 @@ module _ (words : List ℕ) (A : List Entry) (m : State) (o : Origin) (k : NodeK
 
   -- the local part covers the machine's instruction
   abbrev Covering : Raw → Type 0
-  Covering r = IsCovered words A m o k b1 b2 (instruction_at words m.pc) r
+  Covering r = CoversStep words A m o k b1 b2 (instruction_at words m.pc) r
 
   -- what the row says of the node, where the machine's word and device are those of the node
   row_in_covered : m.device ≡ device_of words → Covering (row_in (device_of words) words A k s)
@@ -68,9 +68,9 @@ module _ (words : List ℕ) (A : List Entry) (m : State) (o : Origin) (k : NodeK
 module _ (words : List ℕ) (A : List Entry) (m : State) (o : Origin) (k : NodeKey) (s : AbsState) (at : InFrame m o k s) (b1 b2 : ℕ) (small : b1 < 256)
     (are : AreWords words) (told : m.device ≡ device_of words) where
   abbrev Covers : Raw → Type 0
-  Covers r = IsCovered words A m o k b1 b2 (instruction_at words m.pc) r
+  Covers r = CoversStep words A m o k b1 b2 (instruction_at words m.pc) r
 
-  unresolved : (jump : ℕ) (instr : Option Instr) → IsCovered words A m o k b1 b2 instr (fails (UnresolvedJump jump))
+  unresolved : (jump : ℕ) (instr : Option Instr) → CoversStep words A m o k b1 b2 instr (fails (UnresolvedJump jump))
   unresolved jump None = λ clean. absurd (let e = clean in cc)
   unresolved jump (Some instr) = λ clean. absurd (let e = clean in cc)
 

@@ -1,10 +1,6 @@
 -- The numbers of every row's effect fit: bytes are bytes, and words are words.
-use Rattle.std.proofs.Common.{ℕ, ◌+◌, ◌-◌, ◌*◌, ◌/◌, ◌%◌, ◌<◌, ◌≤◌, ◌==◌, Bool, true, false, not, nat_lt, nat_le, if◌then◌else◌, List, [], ◌++◌, slice_index, arith}
-use Rattle.std.specs.Prelude.{ℤ, pos, ◌*ℤ◌, FitsSigned, unsigned_abs}
-use Rattle.std.specs.Int.{from_bool, cast_unsigned, cast_signed, w8, w16}
-use Rattle.std.proofs.lemmas.Int.{ints, fits_signed_mul}
-use Rattle.std.proofs.Math.Nat.{mul-le-mul}
-use Rattle.std.proofs.lemmas.Nat.{and_le_l, or_lt, xor_lt}
+use Rattle.std.proofs.Common.{ℕ, ◌+◌, ◌-◌, ◌*◌, ◌/◌, ◌%◌, ◌<◌, ◌==◌, Bool, true, false, not, nat_lt, nat_le, if◌then◌else◌, List, [], ◌++◌, slice_index, arith}
+use Rattle.abs_alu.proofs.AllLaws.{logic_small, result_small, top_small}
 use Rattle.avr_model.proofs.AllLaws.{devices_are_alike}
 use Rattle.avr_model.specs.Devices.{words_of, device_of, wrapped}
 use Rattle.avr_model.specs.declared.effect.Write.{Write}
@@ -24,9 +20,9 @@ use Rattle.avr_model.specs.declared.operation.Shift.{Shift}
 use Rattle.avr_model.specs.declared.operation.Shift.TheVariants as shift
 use Rattle.avr_model.specs.declared.operation.Mul.{Mul}
 use Rattle.avr_model.specs.declared.operation.Mul.TheVariants as product
-use Rattle.avr_model.specs.Bitwise.{logic_of, shift_of, top_of, flags_of_result}
+use Rattle.avr_model.specs.Bitwise.{logic_of, shift_of, flags_of_result}
 use Rattle.avr_model.specs.Image.{byte_at}
-use Rattle.avr_model.specs.Product.{word_of, result_of, is_fractional, flags_of_product}
+use Rattle.avr_model.specs.Product.{result_of, flags_of_product}
 use Rattle.avr_model.specs.Sreg.{flag}
 use Rattle.avr_model.specs.Wide.{wide_of, flags_of_wide}
 use Rattle.avr_model.specs.State.{State, register, pair, plus16, minus16}
@@ -40,57 +36,8 @@ use Rattle.local_laws.proofs.Machine.{IsEffect, read_small}
 
 -- ---- numbers
 
-pub logic_small : (op : Logic) (a b : ℕ) → a < 256 → b < 256 → logic_of op a b < 256
-logic_small logic.And a b h g = omega (arith, and_le_l a b)
-logic_small logic.Or a b h g = or_lt 8 a b h g
-logic_small logic.Eor a b h g = xor_lt 8 a b h g
-
-top_small : (op : Shift) (a s : ℕ) → a < 256 → top_of op a s < 2
-top_small shift.Lsr a s h = omega arith
-top_small shift.Ror a s h = from_bool_small (flag s 0)
-  where
-    from_bool_small : (b : Bool) → from_bool b < 2
-    from_bool_small true = omega arith
-    from_bool_small false = omega arith
-top_small shift.Asr a s h = omega arith
-
 pub shift_small : (op : Shift) (a s : ℕ) → a < 256 → shift_of op a s < 256
 shift_small op a s h = omega (arith, top_small op a s h)
-
--- a product of two bytes has 16 bits
-signed_byte : (a : ℕ) → a < 256 → unsigned_abs (cast_signed w8 a) ≤ 128
-signed_byte a h = grind (arith, ints)
-
-cast_small : (z : ℤ) → FitsSigned w16 z → cast_unsigned w16 z < 65536
-cast_small z h = grind (arith, ints)
-
-unsigned_small : (a b : ℕ) → a < 256 → b < 256 → a * b < 65536
-unsigned_small a b h g =
-    let first : a ≤ 255 = omega arith in
-    let second : b ≤ 255 = omega arith in
-    let le : a * b ≤ 255 * 255 = mul-le-mul first second in
-    omega arith
-
-signed_small : (a b : ℕ) → a < 256 → b < 256 → cast_unsigned w16 (cast_signed w8 a *ℤ cast_signed w8 b) < 65536
-signed_small a b h g = cast_small _ (fits_signed_mul w16 (cast_signed w8 a) (cast_signed w8 b) 128 128 (signed_byte a h) (signed_byte b g) (omega arith))
-
-mixed_small : (a b : ℕ) → a < 256 → b < 256 → cast_unsigned w16 (cast_signed w8 a *ℤ pos b) < 65536
-mixed_small a b h g = cast_small _ (fits_signed_mul w16 (cast_signed w8 a) (pos b) 128 255 (signed_byte a h) (omega arith) (omega arith))
-
-word_small : (op : Mul) (a b : ℕ) → a < 256 → b < 256 → word_of op a b < 65536
-word_small product.Mul a b h g = unsigned_small a b h g
-word_small product.Muls a b h g = signed_small a b h g
-word_small product.Mulsu a b h g = mixed_small a b h g
-word_small product.Fmul a b h g = unsigned_small a b h g
-word_small product.Fmuls a b h g = signed_small a b h g
-word_small product.Fmulsu a b h g = mixed_small a b h g
-
-pub result_small : (op : Mul) (a b : ℕ) → a < 256 → b < 256 → result_of op a b < 65536
-result_small op a b h g = by_kind (is_fractional op)
-  where
-    by_kind : (twice : Bool) → (if twice then 2 * word_of op a b % 65536 else word_of op a b) < 65536
-    by_kind true = omega arith
-    by_kind false = word_small op a b h g
 
 pub wide_small : (up : Bool) (a k : ℕ) → wide_of up a k < 65536
 wide_small true a k = omega arith

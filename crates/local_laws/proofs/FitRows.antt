@@ -2,6 +2,8 @@
 use Rattle.std.proofs.Common.{◌≡◌, refl, sym, subst, ℕ, zero, suc, ◌<◌, ◌==◌, Bool, true, false, List, [], ◌∷◌, map, filter, length, Option, Some, None, if◌then◌else◌, nat_le, Contains, arith, nat_lt, ◌^◌, ◌≤◌, ltb-true, ◌+◌}
 use Rattle.std.proofs.lemmas.Bool.Decides.{nat_tests}
 use Rattle.std.proofs.lemmas.Map.Views.{Contains-from_any}
+use Rattle.std.proofs.lemmas.Option.{same_Some}
+use Rattle.basics.specs.Items.{none_in}
 use Rattle.avr_model.proofs.AllLaws.{devices_are_alike}
 use Rattle.avr_model.specs.Devices.{size_of, wrapped, device_of, words_of}
 use Rattle.avr_model.specs.declared.device.Device.{Device}
@@ -37,7 +39,7 @@ use Rattle.avr_model.specs.Written.{written}
 use Rattle.local_rules.specs.Reads.{read_at, pointed, read_pointed}
 use Rattle.local_rules.specs.Flow.{flag_at, width, words_on, targets_by, targets_at, is_half_written, site, calling, indirect_call, relative_call, at_closed, returning, ret_exit, reti_exit, pushing, popping, making_room}
 use Rattle.local_rules.specs.Local.{step_before, pointer_moved, row_of, row_at, row_in, is_hung, fetched, picks, split_site, splitting, raw}
-use Rattle.local_laws.proofs.Members.{none_in, each_of, each_in_map, filter_passes}
+use Rattle.local_laws.proofs.Members.{each_of, each_in_map, filter_passes}
 use Rattle.local_laws.specs.Laws.{LocalPartsFit}
 use Rattle.local_laws.proofs.MonotoneFields.{InstrFits, fetched_fits}
 use Rattle.local_laws.proofs.MonotoneRaw.{no_calls, no_exit}
@@ -101,12 +103,9 @@ relative_fits device A false k s target small = one_call device A k (further dev
 
 -- ---- returns
 
-exit_is : (x y : Exit) → Some x ≡ Some y → x ≡ y
-exit_is x y e = cc
-
 leaving : (device : Device) (A : List Entry) (k : NodeKey) (x : Exit) → k.sp ≡ Closed 0 → x.masks ≡ k.masks → IsFit device A k (leaves_by x)
 leaving device A k x at masks = record {
-  words = record { calls = λ site h. absurd (none_in site h); exit = λ y e. (at, subst (λ (z : Exit). z.masks ≡ k.masks) (exit_is x y e) masks) };
+  words = record { calls = λ site h. absurd (none_in site h); exit = λ y e. (at, subst (λ (z : Exit). z.masks ≡ k.masks) (same_Some x y e) masks) };
   ascending = λ entries. none_ascend;
 }
 

@@ -1,5 +1,5 @@
 -- Rows that set one flag or one bit.
-use Rattle.std.proofs.Common.{◌≡◌, refl, sym, ◌∙◌, ap, subst, ℕ, ◌%◌, ◌≢◌, ◌==◌, Bool, true, false, not, ◌&&◌, if◌then◌else◌, [], arith}
+use Rattle.std.proofs.Common.{◌≡◌, refl, sym, ap, subst, ℕ, ◌%◌, ◌≢◌, ◌==◌, Bool, true, false, not, ◌&&◌, if◌then◌else◌, [], arith}
 use Rattle.std.specs.Int.{from_bool}
 use Rattle.std.proofs.lemmas.Bool.Decides.{nat_tests}
 use Rattle.avr_model.specs.Bits.{with_bit}
@@ -13,14 +13,14 @@ use Rattle.sp_domain.specs.declared.tags.CarryTag.TheVariants as carry_tag
 use Rattle.sp_domain.specs.Tags.{Origin, CarryHolds, LessHolds}
 use Rattle.abs_state.specs.declared.state.AbsState.{AbsState}
 use Rattle.abs_state.specs.Values.{untagged}
-use Rattle.abs_state.specs.Stands.{FlagsStand, EntryHolds}
+use Rattle.abs_state.specs.Stands.{FlagsStand}
 use Rattle.mask_states.specs.declared.keys.NodeKey.{NodeKey}
 use Rattle.local_rules.specs.Raw.{next, setting as node_setting}
 use Rattle.local_rules.specs.Registers.{bits, set as node_set, with_carry, interrupts_row, tri_of_bool, carry_tag_at, flag_row}
 use Rattle.local_rules.specs.Cover.{InFrame, Follows}
-use Rattle.abs_state.proofs.AllLaws.{bits_make_values}
+use Rattle.abs_state.proofs.AllLaws.{bits_make_values, entry_same, has_flags}
 use Rattle.local_laws.proofs.Less.{Spares}
-use Rattle.local_laws.proofs.Bits.{with_bit_small, with_bit_7_low, with_bit_other, with_bit_same, has_with, has_flags, permits_flag}
+use Rattle.local_laws.proofs.Bits.{with_bit_small, with_bit_7_low, with_bit_other, with_bit_same, has_with, permits_flag}
 use Rattle.local_laws.proofs.Frame.{only, same_frame, sets, next_is}
 use Rattle.local_laws.proofs.Alu.{register_bits, moves}
 
@@ -28,16 +28,12 @@ tri_may : (on : Bool) → Permits (tri_of_bool on) (from_bool on)
 tri_may true = refl
 tri_may false = refl
 
-same_entry : (o : Origin) (entry : Bool) (x y : ℕ) → y % 128 ≡ x % 128 → EntryHolds o entry x → EntryHolds o entry y
-same_entry o true x y e h = e ∙ h
-same_entry o false x y e h = tt
-
 module _ (m : State) (o : Origin) (k : NodeKey) (s : AbsState) (at : InFrame m o k s) where
   -- I is in the key alone
   pub flags_but_i : (sreg : ℕ) → sreg % 128 ≡ m.sreg % 128 → flag sreg 0 ≡ flag m.sreg 0 → FlagsStand o s.flags sreg
   flags_but_i sreg same carry =
       record {
-        entry = same_entry o s.flags.entry m.sreg sreg same at.stands.flags.entry;
+        entry = entry_same o s.flags.entry m.sreg sreg same at.stands.flags.entry;
         bits = has_flags s.flags.bits m.sreg sreg at.node.formed.bit_7 (sym same) at.stands.flags.bits;
         carry = subst (CarryHolds o s.flags.carry) (sym carry) at.stands.flags.carry;
       }

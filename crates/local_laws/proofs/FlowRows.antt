@@ -33,13 +33,14 @@ use Rattle.local_rules.specs.declared.local.Node.{Node}
 use Rattle.local_rules.specs.Raw.{Raw, moves_to, all_of, untracked_if, at_word, off_table, turning_to, going_to as node_going_to, further as node_further}
 use Rattle.local_rules.specs.Registers.{value, bits, set, carry_bit}
 use Rattle.local_rules.specs.Flow.{branch, skipping as node_skipping, flag_at, with_value, where_carry, going_where, carry_branch, flag_branch, words_on, targets_by, jumping, is_half_written, at_closed, calling as node_calling, indirect_call, site, returning as node_returning, ret_exit, reti_exit}
-use Rattle.local_rules.specs.Cover.{InFrame, Lands, Follows, stays, calls, leaves, IsReturn}
+use Rattle.local_rules.specs.Cover.{InFrame, ArrivesAt, Follows, stays, calls, leaves, IsReturn}
 use Rattle.local_laws.proofs.Bits.{permits_flag, with_bit_same, with_bit_7_low}
 use Rattle.std.proofs.lemmas.List.Elements.{Contains-append_left, Contains-append_right}
+use Rattle.basics.specs.Items.{first_in}
 use Rattle.avr_model.proofs.AllLaws.{devices_are_alike}
 use Rattle.avr_model.specs.Devices.{wrapped}
 use Rattle.local_laws.proofs.Less.{part_stands}
-use Rattle.local_laws.proofs.Frame.{first, second, set_one, only, goes_to, turns_to, goes_cut}
+use Rattle.local_laws.proofs.Frame.{second, set_one, only, goes_to, turns_to, goes_cut}
 use Rattle.local_laws.proofs.Alu.{register_byte, register_bits}
 use Rattle.local_laws.proofs.Targets.{in_map, word_permitted, targets_have}
 
@@ -83,7 +84,7 @@ module _ (m : State) (o : Origin) (k : NodeKey) (s : AbsState) (at : InFrame m o
       stays (record { key = off_table k taken'; state = s }) (second (record { key = off_table k other'; state = s }) (record { key = off_table k taken'; state = s }) []) refl
       (turns_to m o k s at guarded taken taken' is)
   branch_by Any false taken taken' other other' is is' may =
-      stays (record { key = off_table k other'; state = s }) (first (record { key = off_table k other'; state = s }) (record { key = off_table k taken'; state = s } ∷ [])) refl
+      stays (record { key = off_table k other'; state = s }) (first_in (record { key = off_table k other'; state = s }) (record { key = off_table k taken'; state = s } ∷ [])) refl
       (turns_to m o k s at guarded other other' is')
 
   flag_may : (n : ℕ) → Permits (flag_at k s n) (from_bool (flag m.sreg n))
@@ -125,27 +126,27 @@ module _ (m : State) (o : Origin) (k : NodeKey) (s : AbsState) (at : InFrame m o
       )
 
   goes_where : (on : Bool) → flag m.sreg 0 ≡ on → (pc pc' : ℕ) → wrapped m.device pc ≡ pc'
-      → (to : Node) × ((going_where k (where_carry s.flags.carry s on) pc' ≡ moves_to (to ∷ [])) × ((to.key.inst ≡ k.inst) × Lands m o guarded (going_to m pc) to))
+      → (to : Node) × ((going_where k (where_carry s.flags.carry s on) pc' ≡ moves_to (to ∷ [])) × ((to.key.inst ≡ k.inst) × ArrivesAt m o guarded (going_to m pc) to))
   goes_where on e pc pc' is =
       let cut = cut_by s.flags.carry refl at.node.formed.carry at.stands.less on e in (
         record { key = off_table k pc'; state = record s { registers = cut.0 } },
         (ap (λ (t : Option AbsState). going_where k t pc') cut.1.0, (refl, goes_cut m o k s at guarded pc pc' cut.0 is cut.1.1)),
       )
 
-  follows_one : (e : Effect) (r : Raw) → (to : Node) × ((r ≡ moves_to (to ∷ [])) × ((to.key.inst ≡ k.inst) × Lands m o guarded e to)) → Follows m o k guarded b1 b2 e r
+  follows_one : (e : Effect) (r : Raw) → (to : Node) × ((r ≡ moves_to (to ∷ [])) × ((to.key.inst ≡ k.inst) × ArrivesAt m o guarded e to)) → Follows m o k guarded b1 b2 e r
   follows_one e r h = subst (Follows m o k guarded b1 b2 e) (sym h.1.0) (only m o k s at guarded b1 b2 e h.0 h.1.1.0 h.1.1.1)
 
-  follows_first : (e : Effect) (r q : Raw) → (to : Node) × ((r ≡ moves_to (to ∷ [])) × ((to.key.inst ≡ k.inst) × Lands m o guarded e to))
+  follows_first : (e : Effect) (r q : Raw) → (to : Node) × ((r ≡ moves_to (to ∷ [])) × ((to.key.inst ≡ k.inst) × ArrivesAt m o guarded e to))
       → Follows m o k guarded b1 b2 e (all_of (r ∷ q ∷ []))
   follows_first e r q h =
       subst (λ (x : Raw). Follows m o k guarded b1 b2 e (all_of (x ∷ q ∷ []))) (sym h.1.0)
-      (stays h.0 (Contains-append_left (h.0 ∷ []) (all_of (q ∷ [])).moves h.0 (first h.0 [])) h.1.1.0 h.1.1.1)
+      (stays h.0 (Contains-append_left (h.0 ∷ []) (all_of (q ∷ [])).moves h.0 (first_in h.0 [])) h.1.1.0 h.1.1.1)
 
-  follows_second : (e : Effect) (r q : Raw) → (to : Node) × ((q ≡ moves_to (to ∷ [])) × ((to.key.inst ≡ k.inst) × Lands m o guarded e to))
+  follows_second : (e : Effect) (r q : Raw) → (to : Node) × ((q ≡ moves_to (to ∷ [])) × ((to.key.inst ≡ k.inst) × ArrivesAt m o guarded e to))
       → Follows m o k guarded b1 b2 e (all_of (r ∷ q ∷ []))
   follows_second e r q h =
       subst (λ (x : Raw). Follows m o k guarded b1 b2 e (all_of (r ∷ x ∷ []))) (sym h.1.0)
-      (stays h.0 (Contains-append_right r.moves (h.0 ∷ []) h.0 (first h.0 [])) h.1.1.0 h.1.1.1)
+      (stays h.0 (Contains-append_right r.moves (h.0 ∷ []) h.0 (first_in h.0 [])) h.1.1.0 h.1.1.1)
 
   carry_by : (t : Tri) (on : Bool) → flag m.sreg 0 ≡ on → (set' set'' clear clear' : ℕ) → wrapped m.device set' ≡ set'' → wrapped m.device clear ≡ clear' → Permits t (from_bool on)
       → Follows m o k guarded b1 b2 (going_to m (if on then set' else clear)) (carry_branch t k s set'' clear')

@@ -4,6 +4,7 @@ use Rattle.std.proofs.lemmas.Grind.{elements}
 use Rattle.std.proofs.lemmas.Bool.{cases_lt, cases_eq}
 use Rattle.std.proofs.lemmas.Bool.Decides.{nat_tests}
 use Rattle.std.proofs.lemmas.List.{get_or_past}
+use Rattle.basics.specs.Items.{first_in}
 use Rattle.avr_model.proofs.AllLaws.{devices_are_alike}
 use Rattle.avr_model.specs.Devices.{wrapped}
 use Rattle.avr_model.specs.declared.effect.Write.{Write}
@@ -12,9 +13,6 @@ use Rattle.avr_model.specs.Sreg.{flag}
 use Rattle.avr_model.specs.State.{State, Memory, register, is_live, live_in}
 use Rattle.avr_model.specs.Effects.{going_to, setting, further}
 use Rattle.avr_model.specs.Step.{after, with_registers, registers_after, sreg_after, sp_after, open_after, enables_after, all_inside}
-use Rattle.bit_domain.specs.TriByte.{Has, byte_any}
-use Rattle.bit_domain.specs.declared.bits.Tri.TheVariants.{Any}
-use Rattle.bit_domain.proofs.AllLaws.{bytes_are_sets}
 use Rattle.sp_domain.specs.declared.slots.Slot.{Slot}
 use Rattle.sp_domain.specs.declared.slots.Slot.TheVariants.{Free, Guarded}
 use Rattle.sp_domain.specs.declared.tags.Tag.TheVariants as tag
@@ -26,7 +24,7 @@ use Rattle.abs_state.specs.declared.state.AbsState.{AbsState}
 use Rattle.abs_state.specs.Values.{value_at, unknown}
 use Rattle.abs_state.specs.Stands.{ByteStands, FlagsStand, RegistersStand, SlotStands, SlotsStand}
 use Rattle.abs_state.specs.Laws.{Keeps}
-use Rattle.abs_state.proofs.AllLaws.{bits_make_values}
+use Rattle.abs_state.proofs.AllLaws.{any_stands}
 use Rattle.mask_states.specs.declared.keys.NodeKey.{NodeKey}
 use Rattle.mask_states.specs.declared.keys.SpForm.{SpForm}
 use Rattle.mask_states.specs.declared.keys.SpForm.TheVariants.{Closed, Open}
@@ -36,20 +34,11 @@ use Rattle.local_rules.specs.declared.local.Node.{Node}
 use Rattle.local_rules.specs.Raw.{moves_to, next, at_word, off_table, setting as node_setting, further as node_further}
 use Rattle.local_rules.specs.Registers.{value}
 use Rattle.local_rules.specs.Machine.{floor_of}
-use Rattle.local_rules.specs.Cover.{InFrame, Lands, Follows, stays}
+use Rattle.local_rules.specs.Cover.{InFrame, ArrivesAt, Follows, stays}
 use Rattle.local_laws.proofs.Bytes.{byte_in_list}
-
-pub first : {A : Type 0} (x : A) (xs : List A) → Contains (x ∷ xs) x
-first x xs = (0, omega arith, refl)
 
 pub second : {A : Type 0} (x y : A) (xs : List A) → Contains (x ∷ y ∷ xs) y
 second x y xs = (1, omega arith, refl)
-
-pub has_any : (x : ℕ) → Has byte_any x
-has_any x = bytes_are_sets.built (λ i. Any) x (λ i lt. tt)
-
-pub nothing_stands : (o : Origin) (x : ℕ) → x < 256 → ByteStands o unknown x
-nothing_stands o x small = bits_make_values.stands o tag.None byte_any x small tt (has_any x)
 
 -- ---- registers
 
@@ -92,7 +81,7 @@ module _ (m : State) (o : Origin) (k : NodeKey) (s : AbsState) (at : InFrame m o
   register_stands r =
       ⊎_elim
       (λ lt. at.stands.registers r lt)
-      (λ over. subst (λ v. ByteStands o v (register m r)) (sym (get_or_past s.registers r unknown (omega (arith, at.node.formed.count_registers)))) (nothing_stands o (register m r) (byte_in_list m.registers r at.machine.register_bytes)))
+      (λ over. subst (λ v. ByteStands o v (register m r)) (sym (get_or_past s.registers r unknown (omega (arith, at.node.formed.count_registers)))) (any_stands o (register m r) (byte_in_list m.registers r at.machine.register_bytes)))
       (cases_lt r 32)
 
   pub set_one : (d : ℕ) (v : AbsByte) (x : ℕ) → ByteStands o v x → RegistersStand o (slice_set s.registers d v) (slice_set m.registers d x)
@@ -120,7 +109,7 @@ module _ (m : State) (o : Origin) (k : NodeKey) (s : AbsState) (at : InFrame m o
       → RegistersStand o to.state.registers (registers_after (with_registers m.registers e.registers) e.stores)
       → FlagsStand o to.state.flags (sreg_after e.sreg e.stores)
       → LessHolds (registers_after (with_registers m.registers e.registers) e.stores) to.state.flags.carry (flag (sreg_after e.sreg e.stores) 0)
-      → Lands m o guarded e to
+      → ArrivesAt m o guarded e to
   same_frame guarded e to pushes sp slots sp_is open_is pc enables i delay registers flags less =
       record {
         inside = λ room. ap (all_inside m.device) pushes;
@@ -140,9 +129,9 @@ module _ (m : State) (o : Origin) (k : NodeKey) (s : AbsState) (at : InFrame m o
       floor = ap₂ floor_of open_is sp_is
 
   -- the only successor
-  pub only : (guarded : Bool) (b1 b2 : ℕ) (e : Effect) (to : Node) → to.key.inst ≡ k.inst → Lands m o guarded e to
+  pub only : (guarded : Bool) (b1 b2 : ℕ) (e : Effect) (to : Node) → to.key.inst ≡ k.inst → ArrivesAt m o guarded e to
       → Follows m o k guarded b1 b2 e (moves_to (to ∷ []))
-  only guarded b1 b2 e to inst lands = stays to (first to []) inst lands
+  only guarded b1 b2 e to inst lands = stays to (first_in to []) inst lands
 
   -- a row that sets registers and flags and goes on
   pub sets : (guarded : Bool) (b1 b2 : ℕ) (writes : List Write) (sreg : ℕ) (registers : List AbsByte) (flags : AbsFlags) → flag sreg 7 ≡ flag m.sreg 7
@@ -154,18 +143,18 @@ module _ (m : State) (o : Origin) (k : NodeKey) (s : AbsState) (at : InFrame m o
       (same_frame guarded (setting m writes sreg) (record { key = next m.device k; state = record s { registers = registers; flags = flags } }) refl refl refl refl refl next_is at.place.enables (i ∙ at.place.i) refl h g less)
 
   -- a row that goes to a word, modulo the number of words, and changes nothing else
-  pub goes_to : (guarded : Bool) (pc pc' : ℕ) → wrapped m.device pc ≡ pc' → Lands m o guarded (going_to m pc) (record { key = at_word k pc'; state = s })
+  pub goes_to : (guarded : Bool) (pc pc' : ℕ) → wrapped m.device pc ≡ pc' → ArrivesAt m o guarded (going_to m pc) (record { key = at_word k pc'; state = s })
   goes_to guarded pc pc' is =
       same_frame guarded (going_to m pc) (record { key = at_word k pc'; state = s }) refl refl refl refl refl is at.place.enables at.place.i refl at.stands.registers at.stands.flags at.stands.less
 
   -- the same off a jump table
-  pub turns_to : (guarded : Bool) (pc pc' : ℕ) → wrapped m.device pc ≡ pc' → Lands m o guarded (going_to m pc) (record { key = off_table k pc'; state = s })
+  pub turns_to : (guarded : Bool) (pc pc' : ℕ) → wrapped m.device pc ≡ pc' → ArrivesAt m o guarded (going_to m pc) (record { key = off_table k pc'; state = s })
   turns_to guarded pc pc' is =
       same_frame guarded (going_to m pc) (record { key = off_table k pc'; state = s }) refl refl refl refl refl is at.place.enables at.place.i refl at.stands.registers at.stands.flags at.stands.less
 
   -- the same where some registers' ranges are cut
   pub goes_cut : (guarded : Bool) (pc pc' : ℕ) (values : List AbsByte) → wrapped m.device pc ≡ pc' → RegistersStand o values m.registers
-      → Lands m o guarded (going_to m pc) (record { key = off_table k pc'; state = record s { registers = values } })
+      → ArrivesAt m o guarded (going_to m pc) (record { key = off_table k pc'; state = record s { registers = values } })
   goes_cut guarded pc pc' values is stand =
       same_frame guarded (going_to m pc) (record { key = off_table k pc'; state = record s { registers = values } }) refl refl refl refl refl is at.place.enables at.place.i refl stand
       at.stands.flags at.stands.less

@@ -1,5 +1,7 @@
 -- What is computed at a site with a `frame` line: a greater state gives more.
 use Rattle.std.proofs.Common.{◌≡◌, ℕ, ◌<◌, Bool, true, false, Option, Some}
+use Rattle.local_rules.specs.Cover.{IsKey}
+use Rattle.abs_alu.proofs.AllLaws.{same_within}
 use Rattle.avr_model.specs.declared.device.Device.{Device}
 use Rattle.avr_model.specs.declared.instruction.ImmediateOp.{ImmediateOp}
 use Rattle.avr_model.specs.declared.instruction.ImmediateOp.TheVariants as immediate
@@ -18,8 +20,8 @@ use Rattle.mask_states.specs.Keys.{offset_of}
 use Rattle.local_rules.specs.Registers.{value, bits, carry_bit, borrow_tag, going_with}
 use Rattle.local_rules.specs.FrameLines.{followed, added, more_tag, sum_tag, high_more_tag, less_tag, tag_followed, number_added, framed_add, framed_adc, framed_sub, framed_step}
 use Rattle.local_rules.specs.Local.{immediate_row, unary_row}
-use Rattle.local_laws.proofs.MonotoneValues.{IsStateLess, Tells, any_bit_within, same_bits, constant_is, constant_tells}
-use Rattle.local_laws.proofs.MonotoneRaw.{IsKey, LeadsLess}
+use Rattle.local_laws.proofs.MonotoneValues.{IsStateLess, Tells, any_bit_within, constant_is, constant_tells}
+use Rattle.local_laws.proofs.MonotoneRaw.{LeadsLess}
 use Rattle.local_laws.proofs.MonotoneAlu.{reg, reg_bits, flag_bits, borrow_bytes, no_borrow, borrow_names, borrow_within, number_tells, number_small, sum_tagged_less, difference_less, step_tagged_less, immediate_less, unary_less}
 use Rattle.local_laws.proofs.FrameTags.{high_moved_of, more_of, less_of, high_of_sum, sum_bytes, no_sum, sum_names, more_within, less_within, sum_within, high_within}
 
@@ -76,7 +78,7 @@ module _ (device : Device) (k : NodeKey) (at : IsKey k) (s t : AbsState) (le : I
   framed_immediate_less immediate.Cpi d n low lt = immediate_less device k at s t le immediate.Cpi d n low lt
   framed_immediate_less immediate.Sbci d n low lt = immediate_less device k at s t le immediate.Sbci d n low lt
   framed_immediate_less immediate.Subi d n low lt =
-      framed_sub_less d (byte_known n) (byte_known n) (Some n) (Some n) (same_bits (byte_known n)) (number_tells device k at s t le n) (number_small device k at s t le n lt)
+      framed_sub_less d (byte_known n) (byte_known n) (Some n) (Some n) (same_within (byte_known n)) (number_tells device k at s t le n) (number_small device k at s t le n lt)
   framed_immediate_less immediate.Ori d n low lt = immediate_less device k at s t le immediate.Ori d n low lt
   framed_immediate_less immediate.Andi d n low lt = immediate_less device k at s t le immediate.Andi d n low lt
   framed_immediate_less immediate.Ldi d n low lt = immediate_less device k at s t le immediate.Ldi d n low lt

@@ -5,6 +5,8 @@ use Rattle.std.specs.List.Sorted.{IsStrictlySortedBy}
 use Rattle.std.specs.Ordering.{ordering_reverse}
 use Rattle.std.specs.declared.cmp.Ordering.{Ordering}
 use Rattle.std.specs.declared.cmp.Ordering.TheVariants.{Less, Equal, Greater}
+use Rattle.basics.specs.Items.{none_in, first_in, further_in, first_or_further}
+use Rattle.local_rules.proofs.Placing.{joined}
 use Rattle.abs_state.specs.declared.state.AbsState.{AbsState}
 use Rattle.abs_state.specs.Order.{IsStateWithin, IsLeastAbove, state_join}
 use Rattle.abs_state.specs.Formed.{IsFormed}
@@ -18,13 +20,9 @@ use Rattle.local_rules.specs.Local.{place_by, placed, joined_onto}
 use Rattle.local_rules.specs.Cover.{IsNode}
 use Rattle.local_rules.specs.Order.{IsBelowOne}
 use Rattle.local_laws.specs.Laws.{HasKey, AreNodes, JoinsAreLeast}
-use Rattle.local_laws.proofs.Members.{none_in, here, there, first_or, each_of}
+use Rattle.local_laws.proofs.Members.{each_of}
 
 -- ---- two nodes of one key
-
--- the join of two nodes, which has the key of the first
-abbrev joined : Node → Node → Node
-joined m n = record { key = m.key; state = state_join m.state n.state }
 
 formed_at : (m n : Node) → n.key ≡ m.key → IsNode n.key n.state → IsFormed n.state (offset_of m.key.sp)
 formed_at m n e h = subst (λ (k : NodeKey). IsFormed n.state (offset_of k.sp)) e h.formed
@@ -57,17 +55,17 @@ module _ (P : Node → Type 0) (join : (m n : Node) → n.key ≡ m.key → P m 
   placed_each : (n : Node) (ms : List Node) → P n → ((m : Node) → Contains ms m → P m) → (x : Node) → Contains (placed n ms) x → P x
   unfolding placed
   placed_each n [] h hs = each_of P n [] h hs
-  placed_each n (m ∷ ms) h hs = by (placed_each n ms h (λ x i. hs x (there m x ms i))) (node_cmp n.key m.key) refl
+  placed_each n (m ∷ ms) h hs = by (placed_each n ms h (λ x i. hs x (further_in m x ms i))) (node_cmp n.key m.key) refl
     where
       by : ((x : Node) → Contains (placed n ms) x → P x) → (o : Ordering) → node_cmp n.key m.key ≡ o → (x : Node) → Contains (place_by o n m ms (placed n ms)) x → P x
       by rest Less e = each_of P n (m ∷ ms) h hs
-      by rest Equal e = each_of P (joined m n) ms (join m n ((keys_are_ordered.equal_nodes n.key m.key).0 e) (hs m (here m ms)) h) (λ x i. hs x (there m x ms i))
-      by rest Greater e = each_of P m (placed n ms) (hs m (here m ms)) rest
+      by rest Equal e = each_of P (joined m n) ms (join m n ((keys_are_ordered.equal_nodes n.key m.key).0 e) (hs m (first_in m ms)) h) (λ x i. hs x (further_in m x ms i))
+      by rest Greater e = each_of P m (placed n ms) (hs m (first_in m ms)) rest
 
   joined_each : (done ns : List Node) → ((m : Node) → Contains done m → P m) → ((n : Node) → Contains ns n → P n) → (x : Node) → Contains (joined_onto done ns) x → P x
   unfolding joined_onto
   joined_each done [] h hs = h
-  joined_each done (n ∷ ns) h hs = joined_each (placed n done) ns (placed_each n done (hs n (here n ns)) h) (λ x i. hs x (there n x ns i))
+  joined_each done (n ∷ ns) h hs = joined_each (placed n done) ns (placed_each n done (hs n (first_in n ns)) h) (λ x i. hs x (further_in n x ns i))
 
 joined_nodes : (done ns : List Node) → AreNodes done → AreNodes ns → AreNodes (joined_onto done ns)
 joined_nodes = joined_each (λ (n : Node). IsNode n.key n.state) joined_node
@@ -78,48 +76,48 @@ below_itself : (x : Node) (xs : List Node) → Contains xs x → IsBelowOne xs x
 below_itself x xs i = record { state = x.state; present = i; above = states_are_ordered.same x.state }
 
 below_more : (m x : Node) (xs : List Node) → IsBelowOne xs x → IsBelowOne (m ∷ xs) x
-below_more m x xs b = record { state = b.state; present = there m (record { key = x.key; state = b.state }) xs b.present; above = b.above }
+below_more m x xs b = record { state = b.state; present = further_in m (record { key = x.key; state = b.state }) xs b.present; above = b.above }
 
 placed_below : (n : Node) (ms : List Node) → IsNode n.key n.state → AreNodes ms → (x : Node) → (x ≡ n) ⊎ Contains ms x → IsBelowOne (placed n ms) x
 unfolding placed
-placed_below n [] h hs x = ⊎_elim (λ e. subst (IsBelowOne (n ∷ [])) (sym e) (below_itself n (n ∷ []) (here n []))) (λ i. absurd (none_in x i))
-placed_below n (m ∷ ms) h hs x = by (placed_below n ms h (λ x i. hs x (there m x ms i))) (node_cmp n.key m.key) refl
+placed_below n [] h hs x = ⊎_elim (λ e. subst (IsBelowOne (n ∷ [])) (sym e) (below_itself n (n ∷ []) (first_in n []))) (λ i. absurd (none_in x i))
+placed_below n (m ∷ ms) h hs x = by (placed_below n ms h (λ x i. hs x (further_in m x ms i))) (node_cmp n.key m.key) refl
   where
     by_equal : n.key ≡ m.key → (x ≡ n) ⊎ Contains (m ∷ ms) x → IsBelowOne (joined m n ∷ ms) x
     by_equal e =
-        let above = joined_least m n e (hs m (here m ms)) h in
+        let above = joined_least m n e (hs m (first_in m ms)) h in
         let second : IsBelowOne (joined m n ∷ ms) n =
         record {
           state = state_join m.state n.state;
-          present = subst (λ (k : NodeKey). Contains (joined m n ∷ ms) (record { key = k; state = state_join m.state n.state })) (sym e) (here (joined m n) ms);
+          present = subst (λ (k : NodeKey). Contains (joined m n ∷ ms) (record { key = k; state = state_join m.state n.state })) (sym e) (first_in (joined m n) ms);
           above = above.second;
         } in
-        let first : IsBelowOne (joined m n ∷ ms) m = record { state = state_join m.state n.state; present = here (joined m n) ms; above = above.first } in
+        let first : IsBelowOne (joined m n ∷ ms) m = record { state = state_join m.state n.state; present = first_in (joined m n) ms; above = above.first } in
         ⊎_elim (λ e. subst (IsBelowOne (joined m n ∷ ms)) (sym e) second)
         (each_of (IsBelowOne (joined m n ∷ ms)) m ms first (λ x i. below_more (joined m n) x ms (below_itself x ms i)) x)
 
     by : ((y : Node) → (y ≡ n) ⊎ Contains ms y → IsBelowOne (placed n ms) y) → (o : Ordering) → node_cmp n.key m.key ≡ o → (x ≡ n) ⊎ Contains (m ∷ ms) x
         → IsBelowOne (place_by o n m ms (placed n ms)) x
     by rest Less e =
-        ⊎_elim (λ e. subst (IsBelowOne (n ∷ m ∷ ms)) (sym e) (below_itself n (n ∷ m ∷ ms) (here n (m ∷ ms))))
-        (λ i. below_itself x (n ∷ m ∷ ms) (there n x (m ∷ ms) i))
+        ⊎_elim (λ e. subst (IsBelowOne (n ∷ m ∷ ms)) (sym e) (below_itself n (n ∷ m ∷ ms) (first_in n (m ∷ ms))))
+        (λ i. below_itself x (n ∷ m ∷ ms) (further_in n x (m ∷ ms) i))
     by rest Equal e = by_equal ((keys_are_ordered.equal_nodes n.key m.key).0 e)
     by rest Greater e =
         ⊎_elim (λ e. below_more m x (placed n ms) (rest x (inl e)))
-        (each_of (IsBelowOne (m ∷ placed n ms)) m ms (below_itself m (m ∷ placed n ms) (here m (placed n ms))) (λ y i. below_more m y (placed n ms) (rest y (inr i))) x)
+        (each_of (IsBelowOne (m ∷ placed n ms)) m ms (below_itself m (m ∷ placed n ms) (first_in m (placed n ms))) (λ y i. below_more m y (placed n ms) (rest y (inr i))) x)
 
 joined_below : (done ns : List Node) → AreNodes done → AreNodes ns → (x : Node) → Contains done x ⊎ Contains ns x → IsBelowOne (joined_onto done ns) x
 unfolding joined_onto
 joined_below done [] h hs x = ⊎_elim (below_itself x done) (λ i. absurd (none_in x i))
 joined_below done (n ∷ ns) h hs x =
-    let done_nodes = placed_each (λ (n : Node). IsNode n.key n.state) joined_node n done (hs n (here n ns)) h in
-    let rest = joined_below (placed n done) ns done_nodes (λ x i. hs x (there n x ns i)) in
-    ⊎_elim (λ i. later rest (inr i)) (λ i. ⊎_elim (λ e. later rest (inl e)) (λ j. rest x (inr j)) (first_or n x ns i))
+    let done_nodes = placed_each (λ (n : Node). IsNode n.key n.state) joined_node n done (hs n (first_in n ns)) h in
+    let rest = joined_below (placed n done) ns done_nodes (λ x i. hs x (further_in n x ns i)) in
+    ⊎_elim (λ i. later rest (inr i)) (λ i. ⊎_elim (λ e. later rest (inl e)) (λ j. rest x (inr j)) (first_or_further n x ns i))
   where
     later : ((y : Node) → Contains (placed n done) y ⊎ Contains ns y → IsBelowOne (joined_onto (placed n done) ns) y) → (x ≡ n) ⊎ Contains done x
         → IsBelowOne (joined_onto (placed n done) ns) x
     later rest i =
-        let one = placed_below n done (hs n (here n ns)) h x i in
+        let one = placed_below n done (hs n (first_in n ns)) h x i in
         let above = rest (record { key = x.key; state = one.state }) (inl one.present) in
         record { state = above.state; present = above.present; above = states_are_ordered.through x.state one.state above.state one.above above.above }
 

@@ -86,11 +86,11 @@ after_stays m guarded e h fits =
 
 -- ---- bytes that are read
 
-io_value : (v : Option ℕ) (enables free : ℕ) → free < 2 → io_bit v enables free < 2
+pub io_value : (v : Option ℕ) (enables free : ℕ) → free < 2 → io_bit v enables free < 2
 io_value None enables free h = h
 io_value (Some v) enables free h = bit_at-lt enables (v - 2)
 
-io_small : (enables a input : ℕ) → io_byte enables a input < 256
+pub io_small : (enables a input : ℕ) → io_byte enables a input < 256
 unfolding io_byte
 io_small enables a input = numbers_are_their_bits.below 8 _ (λ b lt. io_value _ enables (bit_at input b) (bit_at-lt input b))
 

@@ -1,6 +1,7 @@
 -- Instructions that work on registers and flags alone: a greater state gives more.
 use Rattle.std.proofs.Common.{◌≡◌, ◌≢◌, refl, sym, ap, ◌∙◌, subst, subst₂, ℕ, ◌+◌, ◌*◌, ◌%◌, ◌<◌, ◌==◌, Bool, true, false, not, List, Option, Some, None, if◌then◌else◌, slice_set, cond, eqb, arith}
 use Rattle.std.proofs.lemmas.Bool.Decides.{nat_tests}
+use Rattle.local_rules.specs.Cover.{IsKey}
 use Rattle.avr_model.specs.declared.device.Device.{Device}
 use Rattle.avr_model.specs.declared.instruction.ImmediateOp.{ImmediateOp}
 use Rattle.avr_model.specs.declared.instruction.ImmediateOp.TheVariants as immediate
@@ -26,7 +27,7 @@ use Rattle.sp_domain.proofs.AllLaws.{tag_arithmetic_is_monotone}
 use Rattle.abs_alu.specs.Flags.{tri_flags, flag_bit}
 use Rattle.abs_alu.specs.Product.{product_of_constants}
 use Rattle.abs_alu.specs.Words.{abs_wide}
-use Rattle.abs_alu.proofs.AllLaws.{all_are_monotone}
+use Rattle.abs_alu.proofs.AllLaws.{all_are_monotone, same_within}
 use Rattle.abs_state.specs.declared.values.AbsByte.{AbsByte}
 use Rattle.abs_state.specs.declared.values.AbsFlags.{AbsFlags}
 use Rattle.abs_state.specs.declared.state.AbsState.{AbsState}
@@ -39,9 +40,9 @@ use Rattle.mask_states.specs.Keys.{offset_of}
 use Rattle.local_rules.specs.Raw.{setting, next}
 use Rattle.local_rules.specs.Registers.{value, bits, carry_bit, set, set_pair, with_carry, but_carry, low_tag, borrow_tag, high_tag, or_nothing, less_than, less_alone, less_kept, swapped, product_row, down_by, pair_moved, wide_row, interrupts_row, tri_of_bool, carry_tag_at, flag_row, going_with, sum_tagged, sum_after, compare_after, difference_after, sub_after, sbc_after, logic_after, step_tagged, step_after, shift_after, com_after}
 use Rattle.local_rules.specs.Local.{immediate_row, unary_row}
-use Rattle.local_laws.proofs.MonotoneValues.{IsTagOf, IsLess, AreFlagsLess, AreRegistersLess, IsStateLess, Tells, none_of, if_tag_of, same_bits, bit_within, bits_less, if_less, untagged_less, known_same, registers_set}
+use Rattle.local_laws.proofs.MonotoneValues.{IsTagOf, IsLess, AreFlagsLess, AreRegistersLess, IsStateLess, Tells, none_of, if_tag_of, bit_within, bits_less, if_less, untagged_less, known_same, registers_set}
 use Rattle.local_laws.proofs.Less.{kept_is}
-use Rattle.local_laws.proofs.MonotoneRaw.{IsKey, LeadsLess, one_less, setting_less, further_small}
+use Rattle.local_laws.proofs.MonotoneRaw.{LeadsLess, one_less, setting_less, further_small}
 
 -- ---- tags
 
@@ -295,7 +296,7 @@ module _ (device : Device) (k : NodeKey) (at : IsKey k) (s t : AbsState) (le : I
       tt tt (λ root. tt) tt
 
   pub or_nothing_within : (d r : ℕ) (b c : TriByte) → IsWithin b c → IsWithin (or_nothing d r b) (or_nothing d r c)
-  or_nothing_within d r b c h = if_within (d == r) (byte_known 0) (byte_known 0) b c (same_bits (byte_known 0)) h
+  or_nothing_within d r b c h = if_within (d == r) (byte_known 0) (byte_known 0) b c (same_within (byte_known 0)) h
 
   -- ---- bit by bit
 
@@ -392,21 +393,21 @@ module _ (device : Device) (k : NodeKey) (at : IsKey k) (s t : AbsState) (le : I
 
   pub immediate_less : (op : ImmediateOp) (d n : ℕ) → d < 32 → n < 256 → LeadsLess k.inst (immediate_row device false k s op d n) (immediate_row device false k t op d n)
   immediate_less immediate.Cpi d n low lt =
-      compare_less (bits s d) (bits t d) (byte_known n) (byte_known n) Zero Zero false (carry.Less d n) (carry.Less d n) (reg_bits d) (same_bits (byte_known n)) (λ m p. p) (less_of d n low lt) refl
-  immediate_less immediate.Sbci d n low lt = sbc_less d (byte_known n) (byte_known n) (Some n) (Some n) (same_bits (byte_known n)) (number_tells n)
+      compare_less (bits s d) (bits t d) (byte_known n) (byte_known n) Zero Zero false (carry.Less d n) (carry.Less d n) (reg_bits d) (same_within (byte_known n)) (λ m p. p) (less_of d n low lt) refl
+  immediate_less immediate.Sbci d n low lt = sbc_less d (byte_known n) (byte_known n) (Some n) (Some n) (same_within (byte_known n)) (number_tells n)
   immediate_less immediate.Subi d n low lt =
-      sub_less d (bits s d) (bits t d) (byte_known n) (byte_known n) (Some n) (Some n) (reg_bits d) (same_bits (byte_known n)) (number_tells n) (number_small n lt)
+      sub_less d (bits s d) (bits t d) (byte_known n) (byte_known n) (Some n) (Some n) (reg_bits d) (same_within (byte_known n)) (number_tells n) (number_small n lt)
   immediate_less immediate.Ori d n low lt =
-      logic_less logic.Or d (bits s d) (bits t d) (byte_known n) (byte_known n) false (reg_bits d) (same_bits (byte_known n))
+      logic_less logic.Or d (bits s d) (bits t d) (byte_known n) (byte_known n) false (reg_bits d) (same_within (byte_known n))
   immediate_less immediate.Andi d n low lt =
-      logic_less logic.And d (bits s d) (bits t d) (byte_known n) (byte_known n) false (reg_bits d) (same_bits (byte_known n))
+      logic_less logic.And d (bits s d) (bits t d) (byte_known n) (byte_known n) false (reg_bits d) (same_within (byte_known n))
   immediate_less immediate.Ldi d n low lt = setting_register d (known n) (known n) (known_same kind n)
 
   pub unary_less : (op : UnaryOp) (d : ℕ) → LeadsLess k.inst (unary_row device false k s op d) (unary_row device false k t op d)
   unary_less unary.Com d = com_less d
   unary_less unary.Neg d =
       difference_less d (byte_known 0) (byte_known 0) (bits s d) (bits t d) Zero Zero false tag.None tag.None carry.None carry.None
-      (same_bits (byte_known 0)) (reg_bits d) (λ m p. p) (none_of kind) tt tt tt (λ root. tt) tt
+      (same_within (byte_known 0)) (reg_bits d) (λ m p. p) (none_of kind) tt tt tt (λ root. tt) tt
   unary_less unary.Swap d =
       setting_register d (untagged (swapped (bits s d))) (untagged (swapped (bits t d))) (untagged_less kind _ _ (swapped_within (bits s d) (bits t d) (reg_bits d)))
   unary_less unary.Inc d = step_less true d

@@ -24,15 +24,15 @@ InstrFits instr = ⊤
 -- ---- what is in the places of a letter
 
 -- what the number is below: twice as much for each place
-abbrev bound_of : ℕ → ℕ → List ℕ → ℕ
+abbrev pub bound_of : ℕ → ℕ → List ℕ → ℕ
 bound_of c below [] = below
 bound_of c below (x ∷ p) = bound_of c (if x == c then below * 2 else below) p
 
-place_below : (b : Bool) (sofar bit below : ℕ) → bit < 2 → sofar < below → (if b then sofar * 2 + bit else sofar) < (if b then below * 2 else below)
+pub place_below : (b : Bool) (sofar bit below : ℕ) → bit < 2 → sofar < below → (if b then sofar * 2 + bit else sofar) < (if b then below * 2 else below)
 place_below true sofar bit below small lt = omega arith
 place_below false sofar bit below small lt = lt
 
-letter_below : (c : ℕ) (p : List ℕ) (w sofar below : ℕ) → sofar < below → letter c sofar p w < bound_of c below p
+pub letter_below : (c : ℕ) (p : List ℕ) (w sofar below : ℕ) → sofar < below → letter c sofar p w < bound_of c below p
 letter_below c [] w sofar below lt = lt
 letter_below c (x ∷ p) w sofar below lt =
     letter_below c p w (if x == c then sofar * 2 + bit_at w (length p) else sofar) (if x == c then below * 2 else below)

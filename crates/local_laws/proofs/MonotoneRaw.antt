@@ -1,10 +1,11 @@
 -- A lesser and a greater node: what the lesser leads to is a node, and below what the greater leads to.
-use Rattle.std.proofs.Common.{◌≡◌, refl, sym, subst, ℕ, ◌^◌, ◌<◌, ◌≤◌, ⊎_elim, Bool, true, false, cond, List, [], ◌∷◌, ◌++◌, map, filter, None, if◌then◌else◌, Contains, arith, ◌+◌}
+use Rattle.std.proofs.Common.{◌≡◌, refl, sym, subst, ℕ, ◌<◌, ⊎_elim, Bool, true, false, cond, List, [], ◌∷◌, ◌++◌, map, filter, None, if◌then◌else◌, Contains, arith, ◌+◌}
 use Rattle.std.proofs.lemmas.List.Elements.{Contains-append_left, Contains-append_right, Contains-append_cases}
+use Rattle.basics.specs.Items.{none_in, first_in, further_in}
+use Rattle.basics.specs.Lists.{both_empty}
 use Rattle.avr_model.proofs.AllLaws.{devices_are_alike}
 use Rattle.avr_model.specs.declared.device.Device.{Device}
 use Rattle.avr_model.specs.Image.{WORDS}
-use Rattle.avr_model.specs.State.{SIZE}
 use Rattle.bit_domain.specs.declared.bits.Tri.{Tri}
 use Rattle.bit_domain.specs.declared.bits.Tri.TheVariants.{Zero, One, Any}
 use Rattle.bit_domain.specs.Tri.{IsTriWithin}
@@ -13,27 +14,19 @@ use Rattle.abs_state.specs.declared.values.AbsFlags.{AbsFlags}
 use Rattle.abs_state.specs.declared.state.AbsState.{AbsState}
 use Rattle.mask_states.specs.declared.keys.NodeKey.{NodeKey}
 use Rattle.mask_states.specs.declared.keys.InstKey.{InstKey}
-use Rattle.mask_states.specs.Keys.{offset_of, PickFits}
+use Rattle.mask_states.specs.Keys.{offset_of}
 use Rattle.local_rules.specs.declared.local.Node.{Node}
 use Rattle.local_rules.specs.declared.local.CallSite.{CallSite}
 use Rattle.local_rules.specs.declared.local.Exit.{Exit}
 use Rattle.local_rules.specs.declared.local.NodeFault.{NodeFault}
 use Rattle.local_rules.specs.declared.local.NodeFault.TheVariants.{UntrackedSp, TooDeep}
 use Rattle.local_rules.specs.Raw.{Raw, nowhere, moves_to, one, fails, enters, leaves_by, untracked_if, too_deep_if, all_of, at_word, off_table, next, further, going_to, turning_to, going_on, setting}
-use Rattle.local_rules.specs.Cover.{FormFits, IsNode}
+use Rattle.local_rules.specs.Cover.{IsNode, IsKey}
 use Rattle.local_rules.specs.Order.{IsBelowOne}
-use Rattle.local_laws.proofs.Members.{none_in, here, there, each_of, in_map, each_in_map, not_empty, empty_both}
+use Rattle.local_laws.proofs.Members.{each_of, in_map, each_in_map, not_empty}
 use Rattle.local_laws.proofs.MonotoneValues.{AreFlagsLess, AreRegistersLess, IsStateLess, less_within, less_node}
 
 -- ---- definitions
-
--- a key of a node that the analysis works with
-pub record IsKey (k : NodeKey) : Type 0 where
-  pub word : k.pc < WORDS
-  pub small : offset_of k.sp ≤ SIZE
-  pub masks : k.masks < 2 ^ 25
-  pub fits : FormFits k
-  pub pick : PickFits k.pick
 
 -- the node is one that the analysis works with, in this instance, and one of these is above it
 pub record IsMet (inst : InstKey) (nodes : List Node) (to : Node) : Type 0 where
@@ -118,10 +111,10 @@ choose Any x y = x ∷ y ∷ []
 pub choose_more : {A : Type 0} (t u : Tri) (x y z : A) → IsTriWithin t u → Contains (choose t x y) z → Contains (choose u x y) z
 choose_more Zero Zero x y z le h = h
 choose_more Zero One x y z le h = absurd (omega (arith, le 0 refl))
-choose_more Zero Any x y z le h = each_of (Contains (x ∷ y ∷ [])) x [] (here x (y ∷ [])) (λ w i. absurd (none_in w i)) z h
+choose_more Zero Any x y z le h = each_of (Contains (x ∷ y ∷ [])) x [] (first_in x (y ∷ [])) (λ w i. absurd (none_in w i)) z h
 choose_more One Zero x y z le h = absurd (omega (arith, le 1 refl))
 choose_more One One x y z le h = h
-choose_more One Any x y z le h = there x z (y ∷ []) h
+choose_more One Any x y z le h = further_in x z (y ∷ []) h
 choose_more Any Zero x y z le h = absurd (omega (arith, le 1 tt))
 choose_more Any One x y z le h = absurd (omega (arith, le 0 tt))
 choose_more Any Any x y z le h = h
@@ -163,13 +156,13 @@ met_right inst xs ys to h =
 
 pub above_first : (inst : InstKey) (nodes : List Node) (q : Raw) (qs : List Raw) → LeadsLess inst (moves_to nodes) q → LeadsLess inst (moves_to nodes) (all_of (q ∷ qs))
 above_first inst nodes q qs h e =
-    let none = empty_both q.faults (all_of qs).faults e in
+    let none = both_empty q.faults (all_of qs).faults e in
     let a = h none.0 in
     record { faultless = refl; moves = λ to i. met_left inst q.moves (all_of qs).moves to (a.moves to i); calls = λ site i. i; exit = refl }
 
 pub above_rest : (inst : InstKey) (nodes : List Node) (q : Raw) (qs : List Raw) → LeadsLess inst (moves_to nodes) (all_of qs) → LeadsLess inst (moves_to nodes) (all_of (q ∷ qs))
 above_rest inst nodes q qs h e =
-    let none = empty_both q.faults (all_of qs).faults e in
+    let none = both_empty q.faults (all_of qs).faults e in
     let a = h none.1 in
     record { faultless = refl; moves = λ to i. met_right inst q.moves (all_of qs).moves to (a.moves to i); calls = λ site i. i; exit = refl }
 
@@ -186,7 +179,7 @@ no_exit (r ∷ rs) = refl
 
 pub both_less : (inst : InstKey) (p q : Raw) (ps qs : List Raw) → LeadsLess inst p q → LeadsLess inst (all_of ps) (all_of qs) → LeadsLess inst (all_of (p ∷ ps)) (all_of (q ∷ qs))
 both_less inst p q ps qs first rest e =
-    let none = empty_both q.faults (all_of qs).faults e in
+    let none = both_empty q.faults (all_of qs).faults e in
     let a = first none.0 in
     let b = rest none.1 in
     record {
@@ -202,7 +195,7 @@ both_less inst p q ps qs first rest e =
 -- one more of the greater
 pub more_less : (inst : InstKey) (q : Raw) (ps qs : List Raw) → LeadsLess inst (all_of ps) (all_of qs) → LeadsLess inst (all_of ps) (all_of (q ∷ qs))
 more_less inst q ps qs rest e =
-    let none = empty_both q.faults (all_of qs).faults e in
+    let none = both_empty q.faults (all_of qs).faults e in
     let b = rest none.1 in
     record {
       faultless = b.faultless;
@@ -217,11 +210,11 @@ pub filtered_less : {A : Type 0} (inst : InstKey) (f g : A → Raw) (p q : A →
     → LeadsLess inst (all_of (map f (filter p xs))) (all_of (map g (filter q xs)))
 filtered_less inst f g p q [] each more = none_less inst
 filtered_less {A = A} inst f g p q (x ∷ xs) each more =
-    by (filtered_less inst f g p q xs (λ y i. each y (there x y xs i)) (λ y i. more y (there x y xs i))) (p x) (q x) (more x (here x xs))
+    by (filtered_less inst f g p q xs (λ y i. each y (further_in x y xs i)) (λ y i. more y (further_in x y xs i))) (p x) (q x) (more x (first_in x xs))
   where
     by : LeadsLess inst (all_of (map f (filter p xs))) (all_of (map g (filter q xs))) → (a b : Bool) → (a ≡ true → b ≡ true)
         → LeadsLess inst (all_of (map f (cond a (x ∷ filter p xs) (filter p xs)))) (all_of (map g (cond b (x ∷ filter q xs) (filter q xs))))
-    by rest true true k = both_less inst (f x) (g x) (map f (filter p xs)) (map g (filter q xs)) (each x (here x xs)) rest
+    by rest true true k = both_less inst (f x) (g x) (map f (filter p xs)) (map g (filter q xs)) (each x (first_in x xs)) rest
     by rest true false k = let e : false ≡ true = k refl in absurd (cc)
     by rest false true k = more_less inst (g x) (map f (filter p xs)) (map g (filter q xs)) rest
     by rest false false k = rest

@@ -1,6 +1,8 @@
 -- What is known of a byte that is read: a greater state tells less.
 use Rattle.std.proofs.Common.{◌≡◌, refl, sym, ap, ◌∙◌, subst, subst₂, ℕ, ◌+◌, ◌-◌, ◌==◌, nat_lt, nat_le, Bool, true, false, List, [], Option, Some, None, length, if◌then◌else◌, slice_set, arith, ◌*◌}
 use Rattle.std.specs.Int.{from_bool}
+use Rattle.local_rules.specs.Cover.{IsKey}
+use Rattle.abs_alu.proofs.AllLaws.{same_within}
 use Rattle.avr_model.specs.Devices.{words_of, ramend, device_of}
 use Rattle.avr_model.specs.declared.device.Device.{Device}
 use Rattle.avr_model.specs.Image.{byte_at}
@@ -20,7 +22,7 @@ use Rattle.abs_state.specs.declared.values.AbsByte.{AbsByte}
 use Rattle.abs_state.specs.declared.state.AbsState.{AbsState}
 use Rattle.abs_state.specs.Values.{untagged, unknown, known, valued, set_of}
 use Rattle.abs_state.specs.Formed.{ByteFits}
-use Rattle.abs_state.proofs.AllLaws.{bits_make_values}
+use Rattle.abs_state.proofs.AllLaws.{bits_make_values, tag_met}
 use Rattle.abs_state.specs.Frames.{with_tag}
 use Rattle.mask_states.specs.declared.keys.NodeKey.{NodeKey}
 use Rattle.mask_states.specs.declared.keys.Kind.{Kind}
@@ -31,8 +33,8 @@ use Rattle.mask_states.specs.Keys.{offset_of}
 use Rattle.local_rules.specs.Registers.{value, bits, with_bits}
 use Rattle.local_rules.specs.Reads.{closed_low, closed_high, sp_low, sp_high, flags_tag, sreg_value, io_bits, value_of, slot_read, read_at, word_of, pair_constant, raised, lowered, pointed, read_number, read_constant, read_both, read_frame, read_pointed, flash_value}
 use Rattle.local_rules.specs.Local.{loading}
-use Rattle.local_laws.proofs.MonotoneValues.{IsTagOf, IsLess, AreFlagsLess, AreRegistersLess, IsSlotLess, IsStateLess, Tells, tells_by, none_of, same_bits, below_any, constant_tells, value_same, bits_less, untagged_less, unknown_same, range_less, known_same, below_unknown, if_less, registers_set}
-use Rattle.local_laws.proofs.MonotoneRaw.{IsKey, LeadsLess, nowhere_less, setting_less}
+use Rattle.local_laws.proofs.MonotoneValues.{IsTagOf, IsLess, AreFlagsLess, AreRegistersLess, IsSlotLess, IsStateLess, Tells, tells_by, none_of, below_any, constant_tells, value_same, bits_less, untagged_less, unknown_same, range_less, known_same, below_unknown, if_less, registers_set}
+use Rattle.local_laws.proofs.MonotoneRaw.{LeadsLess, nowhere_less, setting_less}
 use Rattle.local_laws.proofs.MonotoneAlu.{reg, reg_bits}
 
 -- ---- the stack pointer and the status register
@@ -97,10 +99,6 @@ IsReadLess kind x y = (v : AbsByte) → x ≡ Some v → (w : AbsByte) × ((y �
 read_some : (kind : Kind) (v w : AbsByte) → IsLess kind v w → IsReadLess kind (Some v) (Some w)
 read_some kind v w h x e = let is : v ≡ x = cc in (w, (refl, subst (λ (y : AbsByte). IsLess kind y w) is h))
 
-tagged_some : (t : Tag) (m : Option ByteSet) (v : AbsByte) → with_tag t m ≡ Some v → (b : ByteSet) × ((m ≡ Some b) × (v ≡ valued t b))
-tagged_some t None v e = cc
-tagged_some t (Some b) v e = (b, (refl, cc))
-
 -- the bits and the range of a value are those of another, or less
 sets_within : (kind : Kind) (v w : AbsByte) → IsLess kind v w → IsSetWithin (set_of v) (set_of w)
 sets_within kind v w h = record { bits = h.within.bits; low = h.within.low; high = h.within.high }
@@ -112,7 +110,7 @@ sets_through s t u a b = record { bits = λ x small has. b.bits x small (a.bits 
 meet_under : (kind : Kind) (u v w : AbsByte) → IsTagOf kind v.tag → IsTagWithin v.tag w.tag
     → ((m : ByteSet) → set_meet (set_of u) (set_of v) ≡ Some m → IsSetWithin m (set_of w)) → IsReadLess kind (with_tag v.tag (set_meet (set_of u) (set_of v))) (Some w)
 meet_under kind u v w good tags under x e =
-    let at = tagged_some v.tag (set_meet (set_of u) (set_of v)) x e in
+    let at = tag_met v.tag (set_meet (set_of u) (set_of v)) x e in
     let le = under at.0 at.1.0 in (
       w,
       (
@@ -128,7 +126,7 @@ meet_under kind u v w good tags under x e =
 meet_both : (kind : Kind) (u u' v w : AbsByte) → IsLess kind v w → IsLess kind u u'
     → IsReadLess kind (with_tag v.tag (set_meet (set_of u) (set_of v))) (with_tag w.tag (set_meet (set_of u') (set_of w)))
 meet_both kind u u' v w h le x e =
-    let at = tagged_some v.tag (set_meet (set_of u) (set_of v)) x e in
+    let at = tag_met v.tag (set_meet (set_of u) (set_of v)) x e in
     let more = ranges_hold.more (set_of u) (set_of v) (set_of u') (set_of w) at.0 (sets_within kind u u' le) (sets_within kind v w h) at.1.0 in (
       valued w.tag more.0,
       (
@@ -187,7 +185,7 @@ module _ (device : Device) (k : NodeKey) (at : IsKey k) (s t : AbsState) (le : I
       (if_less kind (a == SPL) _ _ _ _ (sp_low_less device kind k.sp)
       (if_less kind (a == SPH) _ _ _ _ (sp_high_less device kind k.sp)
       (if_less kind (a == SREG) _ _ _ _ (sreg_less k s t le.flags)
-      (if_less kind (nat_le a BELOW) _ _ _ _ (untagged_less kind (io_bits k.masks a) (io_bits k.masks a) (same_bits (io_bits k.masks a)))
+      (if_less kind (nat_le a BELOW) _ _ _ _ (untagged_less kind (io_bits k.masks a) (io_bits k.masks a) (same_within (io_bits k.masks a)))
       (slot_less device kind s t a slot)))))
 
   pub constants : (r : ℕ) → Tells (pair_constant s r) (pair_constant t r)

@@ -1,6 +1,8 @@
 -- The table of instructions, row by row: a greater state leads to more.
 use Rattle.std.proofs.Common.{◌≡◌, refl, ℕ, ◌+◌, ◌*◌, ◌<◌, ◌≤◌, ◌==◌, Bool, true, false, List, [], ◌∷◌, length, map, Option, Some, None, if◌then◌else◌, Contains, arith, nat_lt, nat_le}
 use Rattle.std.proofs.lemmas.Bool.Decides.{nat_tests}
+use Rattle.basics.specs.Booleans.{all_three}
+use Rattle.local_rules.specs.Cover.{IsKey}
 use Rattle.avr_model.proofs.AllLaws.{devices_are_alike}
 use Rattle.avr_model.specs.Devices.{size_of, wrapped, device_of}
 use Rattle.avr_model.specs.declared.device.Device.{Device}
@@ -37,14 +39,14 @@ use Rattle.local_rules.specs.Reads.{read_at, pointed, pair_constant}
 use Rattle.local_rules.specs.Flow.{skipping, flag_at, ret_exit, reti_exit}
 use Rattle.local_rules.specs.Local.{binary_row, step_before, pointer_moved, bit_row, row_of, row_at, row_in, is_hung, fetched, may_be, below, picks, picking, picked, split_site, splitting, raw}
 use Rattle.local_laws.proofs.MonotoneValues.{AreRegistersLess, IsStateLess, any_bit_within, constant_is, constant_tells, untagged_less, registers_set, forgetting_both}
-use Rattle.local_laws.proofs.MonotoneRaw.{IsKey, LeadsLess, fails_less, untracked_less, too_deep_less, filtered_less, further_small, word_key, next_key, going_less, on_less, setting_less}
+use Rattle.local_laws.proofs.MonotoneRaw.{LeadsLess, fails_less, untracked_less, too_deep_less, filtered_less, further_small, word_key, next_key, going_less, on_less, setting_less}
 use Rattle.local_laws.proofs.MonotoneAlu.{with_7, pair_set, reg, reg_bits, flag_bits, kept_flags, setting_flags, setting_register, sum_less, compare_less, sub_less, sbc_less, or_nothing_within, logic_less, than_of, than_within, kept_of, kept_within, product_less, pair_less, wide_less, flag_less as one_flag_less}
 use Rattle.local_laws.proofs.FrameMonotone.{add_less, adc_less, framed_sub_less, immediate_line_less, unary_line_less}
 use Rattle.local_laws.proofs.MonotoneReads.{flash_less, read_less, constants, pointed_constants, pointer_read, loading_less}
 use Rattle.local_laws.proofs.MonotoneWrites.{write_less, pointer_less}
 use Rattle.local_laws.proofs.MonotoneFlow.{calling_less, branch_less, flag_less, skipping_less, flag_within, jump_less, indirect_less, push_less, relative_less, pop_less, return_less}
 use Rattle.local_laws.proofs.Members.{fewer}
-use Rattle.local_laws.proofs.Picks.{below_small, picked_less, may_by}
+use Rattle.local_laws.proofs.Picks.{below_small, picked_less}
 use Rattle.local_laws.proofs.MonotoneFields.{InstrFits, fetched_fits}
 
 module _ (device : Device) (words : List ℕ) (A : List Entry) (k : NodeKey) (at : IsKey k) (s t : AbsState) (le : IsStateLess k.inst.kind (offset_of k.sp) s t) where
@@ -236,7 +238,7 @@ module _ (words : List ℕ) (A : List Entry) (k : NodeKey) (at : IsKey k) (s t :
       let has_it : has v.bits byte ≡ true = grind arith in
       let low : nat_le w.low byte ≡ true = grind (arith, nat_tests, within.low) in
       let high : nat_le byte w.high ≡ true = grind (arith, nat_tests, within.high) in
-      may_by (has w.bits byte) _ _ ((tests_tell_members.bytes w.bits byte).1 (within.bits byte (below_small 256 byte i) ((tests_tell_members.bytes v.bits byte).0 has_it))) low high
+      all_three (has w.bits byte) _ _ ((tests_tell_members.bytes w.bits byte).1 (within.bits byte (below_small 256 byte i) ((tests_tell_members.bytes v.bits byte).0 has_it))) low high
 
   picked_row_less : (byte : ℕ) → Contains (below 256) byte → LeadsLess k.inst (row_picked s byte) (row_picked t byte)
   picked_row_less byte i =

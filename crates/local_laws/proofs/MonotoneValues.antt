@@ -7,6 +7,7 @@ use Rattle.std.proofs.lemmas.Bool.{cases_lt, cases_eq}
 use Rattle.std.proofs.lemmas.Bool.Decides.{nat_tests}
 use Rattle.std.proofs.lemmas.Grind.{elements}
 use Rattle.std.proofs.lemmas.List.{get_or_past}
+use Rattle.abs_alu.proofs.AllLaws.{same_within}
 use Rattle.avr_model.specs.State.{SIZE}
 use Rattle.bit_domain.specs.declared.bits.Tri.TheVariants.{Any}
 use Rattle.bit_domain.specs.declared.bytes.TriByte.{TriByte}
@@ -108,9 +109,6 @@ if_tag_of kind false t u h k = k
 
 -- ---- bits
 
-pub same_bits : (b : TriByte) → IsWithin b b
-same_bits b = λ x small has. has
-
 pub below_any : (b : TriByte) → IsWithin b byte_any
 below_any b = λ x small has. bytes_are_sets.built (λ _. Any) x (λ i lt. tt)
 
@@ -161,7 +159,7 @@ pub untagged_less : (kind : Kind) (b c : TriByte) → IsWithin b c → IsLess ki
 untagged_less kind b c le = bits_less kind tag.None tag.None b c (none_of kind) tt le
 
 pub unknown_same : (kind : Kind) → IsLess kind unknown unknown
-unknown_same kind = untagged_less kind byte_any byte_any (same_bits byte_any)
+unknown_same kind = untagged_less kind byte_any byte_any (same_within byte_any)
 
 -- bits and range without the tag
 pub range_less : (kind : Kind) (v w : AbsByte) → IsLess kind v w → IsLess kind (valued tag.None (set_of v)) (valued tag.None (set_of w))
@@ -169,7 +167,7 @@ range_less kind v w h =
     record { within = record { tag = tt; bits = h.within.bits; low = h.within.low; high = h.within.high }; good = none_of kind; ranged = h.ranged }
 
 pub known_same : (kind : Kind) (n : ℕ) → IsLess kind (known n) (known n)
-known_same kind n = untagged_less kind (byte_known n) (byte_known n) (same_bits (byte_known n))
+known_same kind n = untagged_less kind (byte_known n) (byte_known n) (same_within (byte_known n))
 
 pub below_unknown : (kind : Kind) (v : AbsByte) → IsTagOf kind v.tag → ByteFits v → IsLess kind v unknown
 below_unknown kind v h fit =

@@ -41,9 +41,9 @@ use Rattle.local_rules.specs.Registers.{bits}
 use Rattle.local_rules.specs.declared.pointers.Pointed.{Pointed}
 use Rattle.local_rules.specs.Writes.{known_high, tagged_high, high_part, opening, root_closing, frame_closing, closing_offset, closing, is_entry_flags, flags_written, with_i, sreg_written, masks_written, register_written, written_at, reaches, fixed_write, listed_writes, pointer_write}
 use Rattle.abs_state.specs.Formed.{TagFits}
-use Rattle.local_rules.specs.Cover.{HighFitsKind}
+use Rattle.local_rules.specs.Cover.{HighFitsKind, IsKey}
 use Rattle.local_laws.proofs.MonotoneValues.{IsTagOf, IsLess, AreFlagsLess, AreSlotsLess, IsSlotLess, IsStateLess, Tells, tells_by, tag_tells, free_less, constant_is, constant_tells, bit_within, bits_less, registers_set, forgetting_both}
-use Rattle.local_laws.proofs.MonotoneRaw.{IsKey, IsPlace, LeadsLess, nodes_at, fails_less, if_leads, several_less, one_less, choose, choose_more, both_less, filtered_less}
+use Rattle.local_laws.proofs.MonotoneRaw.{IsPlace, LeadsLess, nodes_at, fails_less, if_leads, several_less, one_less, choose, choose_more, both_less, filtered_less}
 
 -- ---- the high byte of the stack pointer
 

@@ -4,6 +4,10 @@ use Rattle.std.proofs.Common.{◌≡◌, refl, sym, subst, ℕ, zero, suc, ◌+�
 use Rattle.std.proofs.lemmas.Bool.{cases_lt, cases_eq}
 use Rattle.std.proofs.lemmas.Bool.Decides.{nat_tests}
 use Rattle.std.proofs.lemmas.List.Elements.{Contains-append_left, Contains-append_right, Contains-append_cases}
+use Rattle.basics.specs.Booleans.{all_three}
+use Rattle.basics.specs.Items.{none_in, first_in, first_or_further}
+use Rattle.basics.specs.Lists.{both_empty}
+use Rattle.abs_alu.proofs.AllLaws.{same_within}
 use Rattle.avr_model.specs.Devices.{words_of, device_of, wrapped}
 use Rattle.avr_model.specs.declared.device.Device.{Device}
 use Rattle.avr_model.specs.declared.assumption.Entry.{Entry}
@@ -28,13 +32,12 @@ use Rattle.mask_states.specs.Keys.{offset_of}
 use Rattle.local_rules.specs.Raw.{Raw, all_of}
 use Rattle.local_rules.specs.Registers.{value, forgetting}
 use Rattle.local_rules.specs.Local.{row_of, row_at, fetched, may_be, below, picks, picking, picked, unlined, split_site}
-use Rattle.local_rules.specs.Cover.{InFrame, Follows, stays, calls, leaves, IsCovered}
+use Rattle.local_rules.specs.Cover.{InFrame, Follows, stays, calls, leaves, CoversStep}
 use Rattle.local_laws.proofs.Bytes.{byte_in_list}
-use Rattle.local_laws.proofs.Members.{none_in, here, first_or, empty_both}
 use Rattle.local_laws.proofs.Targets.{in_filter}
 use Rattle.local_laws.proofs.WriteValues.{Reaches}
-use Rattle.local_laws.proofs.PointerWrites.{both_hold, by_first, by_rest}
-use Rattle.local_laws.proofs.MonotoneValues.{IsLess, IsStateLess, set_same, set_other, registers_set, bits_less, same_bits, node_less, less_node}
+use Rattle.local_laws.proofs.PointerWrites.{by_first, by_rest}
+use Rattle.local_laws.proofs.MonotoneValues.{IsLess, IsStateLess, set_same, set_other, registers_set, bits_less, node_less, less_node}
 use Rattle.local_laws.proofs.Quiet.{Quiet}
 
 -- ---- the site
@@ -126,7 +129,7 @@ in_below zero x lt = absurd (omega (arith, lt))
 in_below (suc n) x lt =
     ⊎_elim
     (λ less. Contains-append_left (below n) (n ∷ []) x (in_below n x less))
-    (λ over. let is : n ≡ x = omega (arith, lt, over) in Contains-append_right (below n) (n ∷ []) x (subst (Contains (n ∷ [])) is (here n [])))
+    (λ over. let is : n ≡ x = omega (arith, lt, over) in Contains-append_right (below n) (n ∷ []) x (subst (Contains (n ∷ [])) is (first_in n [])))
     (cases_lt x n)
 
 pub below_small : (n x : ℕ) → Contains (below n) x → x < n
@@ -135,7 +138,7 @@ below_small zero x h = absurd (none_in x h)
 below_small (suc n) x h =
     ⊎_elim
     (λ before. let lt = below_small n x before in omega (arith, lt))
-    (λ last. ⊎_elim (λ e. omega (arith, e)) (λ none. absurd (none_in x none)) (first_or n x [] last))
+    (λ last. ⊎_elim (λ e. omega (arith, e)) (λ none. absurd (none_in x none)) (first_or_further n x [] last))
     (Contains-append_cases (below n) (n ∷ []) x h)
 
 -- with the same byte picked, the lesser state stays below the greater
@@ -144,7 +147,7 @@ picked_less kind offset byte s t le =
     let at : IsLess kind (value s 30) (value t 30) = le.registers.each 30 in
     record {
       registers = registers_set kind s.registers t.registers le.registers 30 _ _
-          (bits_less kind (value s 30).tag (value t 30).tag (byte_known byte) (byte_known byte) at.good at.within.tag (same_bits (byte_known byte)));
+          (bits_less kind (value s 30).tag (value t 30).tag (byte_known byte) (byte_known byte) at.good at.within.tag (same_within (byte_known byte)));
       flags = le.flags;
       slots = le.slots;
     }
@@ -159,9 +162,6 @@ itself_stands o values registers d v lt h old r small =
     (cases_eq r d)
 
 -- ---- the machine is at one of them
-
-pub may_by : (bits low high : Bool) → bits ≡ true → low ≡ true → high ≡ true → ((bits && low) && high) ≡ true
-may_by bits low high a b c = both_hold (bits && low) high (both_hold bits low a b) c
 
 module _ (m : State) (o : Origin) (k : NodeKey) (s : AbsState) (at : InFrame m o k s) where
   -- the byte that r30 has
@@ -178,7 +178,7 @@ module _ (m : State) (o : Origin) (k : NodeKey) (s : AbsState) (at : InFrame m o
   in_picks =
       let low : nat_le (value s 30).low byte ≡ true = grind (arith, nat_tests, byte_stands.low) in
       let high : nat_le byte (value s 30).high ≡ true = grind (arith, nat_tests, byte_stands.high) in
-      in_filter (may_be (value s 30)) byte (below 256) (may_by _ _ _ ((tests_tell_members.bytes (value s 30).bits byte).1 byte_stands.bits) low high) (in_below 256 byte byte_small)
+      in_filter (may_be (value s 30)) byte (below 256) (all_three _ _ _ ((tests_tell_members.bytes (value s 30).bits byte).1 byte_stands.bits) low high) (in_below 256 byte byte_small)
 
   picked_stands : ByteStands o (with_bits (value s 30).tag (byte_known byte)) byte
   picked_stands = bits_make_values.stands o (value s 30).tag (byte_known byte) byte byte_small byte_stands.tag ((bytes_are_sets.known byte byte byte_small byte_small).1 refl)
@@ -207,8 +207,8 @@ module _ (m : State) (o : Origin) (k : NodeKey) (s : AbsState) (at : InFrame m o
 faultless_in : (f : ℕ → Raw) (xs : List ℕ) (x : ℕ) → Contains xs x → (all_of (map f xs)).faults ≡ [] → (f x).faults ≡ []
 faultless_in f [] x h clean = absurd (none_in x h)
 faultless_in f (y ∷ ys) x h clean =
-    let none = empty_both (f y).faults (all_of (map f ys)).faults clean in
-    ⊎_elim (λ e. subst (λ (z : ℕ). (f z).faults ≡ []) (sym e) none.0) (λ rest. faultless_in f ys x rest none.1) (first_or y x ys h)
+    let none = both_empty (f y).faults (all_of (map f ys)).faults clean in
+    ⊎_elim (λ e. subst (λ (z : ℕ). (f z).faults ≡ []) (sym e) none.0) (λ rest. faultless_in f ys x rest none.1) (first_or_further y x ys h)
 
 module _ (m : State) (o : Origin) (k : NodeKey) (guarded : Bool) (e : Effect) where
   reached_in : (f : ℕ → Raw) (xs : List ℕ) (x : ℕ) → Contains xs x → Reaches m o k guarded e (f x) → Reaches m o k guarded e (all_of (map f xs))
@@ -217,7 +217,7 @@ module _ (m : State) (o : Origin) (k : NodeKey) (guarded : Bool) (e : Effect) wh
       ⊎_elim
       (λ same. by_first m o k guarded e (f y) (map f ys) (subst (λ (z : ℕ). Reaches m o k guarded e (f z)) same reached))
       (λ rest. by_rest m o k guarded e (f y) (map f ys) (reached_in f ys x rest reached))
-      (first_or y x ys h)
+      (first_or_further y x ys h)
 
   -- where nothing is called or left, what follows is reached
   reached_by : (byte b1 b2 : ℕ) (r : Raw) → Quiet r → Follows m o (picking k byte) guarded b1 b2 e r → Reaches m o k guarded e r
@@ -227,7 +227,7 @@ module _ (m : State) (o : Origin) (k : NodeKey) (guarded : Bool) (e : Effect) wh
 
 -- what one that is picked covers, all cover
 pub all_covered : (words : List ℕ) (A : List Entry) (m : State) (o : Origin) (k : NodeKey) (b1 b2 : ℕ) (f : ℕ → Raw) (xs : List ℕ) (x : ℕ) → Contains xs x → Quiet (f x)
-    → (instr : Option Instr) → IsCovered words A m o (picking k x) b1 b2 instr (f x) → IsCovered words A m o k b1 b2 instr (all_of (map f xs))
+    → (instr : Option Instr) → CoversStep words A m o (picking k x) b1 b2 instr (f x) → CoversStep words A m o k b1 b2 instr (all_of (map f xs))
 all_covered words A m o k b1 b2 f xs x h quiet None covered = λ clean. covered (faultless_in f xs x h clean)
 all_covered words A m o k b1 b2 f xs x h quiet (Some instr) covered = λ clean unflagged.
     let guarded : Bool = not (is_scratch words m.pc) in

@@ -21,7 +21,7 @@ use Rattle.abs_state.specs.declared.values.AbsByte.{AbsByte}
 use Rattle.abs_state.specs.declared.state.AbsState.{AbsState}
 use Rattle.abs_state.specs.Values.{untagged, valued, set_of}
 use Rattle.abs_state.specs.Frames.{with_tag}
-use Rattle.abs_state.proofs.AllLaws.{bits_make_values}
+use Rattle.abs_state.proofs.AllLaws.{bits_make_values, any_stands}
 use Rattle.abs_state.specs.Stands.{ByteStands, RegistersStand}
 use Rattle.mask_states.specs.declared.keys.NodeKey.{NodeKey}
 use Rattle.local_rules.specs.Registers.{value, bits, down_by, pair_tags, pair_moved}
@@ -31,7 +31,7 @@ use Rattle.local_rules.specs.Cover.{InFrame}
 use Rattle.local_laws.proofs.Alu.{register_byte}
 use Rattle.local_laws.proofs.Bits.{constant_is}
 use Rattle.local_laws.proofs.EffectSizes.{wide_small}
-use Rattle.local_laws.proofs.Frame.{nothing_stands, register_stands, set_two}
+use Rattle.local_laws.proofs.Frame.{register_stands, set_two}
 use Rattle.local_laws.proofs.Memory.{inside_if_live}
 use Rattle.local_laws.proofs.ReadValues.{untagged_stands, range_stands, read_small, inside_numbers, live_read, slot_at_stands, read_stands}
 
@@ -42,23 +42,23 @@ IsRead o (Some v) x = ByteStands o v x
 
 -- ---- what a pointer gives
 
-word_is : (lo hi : Option ℕ) (x y c : ℕ) → ((b : ℕ) → lo ≡ Some b → x ≡ b) → ((b : ℕ) → hi ≡ Some b → y ≡ b) → word_of lo hi ≡ Some c → x + 256 * y ≡ c
+pub word_is : (lo hi : Option ℕ) (x y c : ℕ) → ((b : ℕ) → lo ≡ Some b → x ≡ b) → ((b : ℕ) → hi ≡ Some b → y ≡ b) → word_of lo hi ≡ Some c → x + 256 * y ≡ c
 word_is None hi x y c low_is high_is e = absurd (cc)
 word_is (Some b) None x y c low_is high_is e = absurd (cc)
 word_is (Some b) (Some d) x y c low_is high_is e =
     let sum : b + 256 * d ≡ c = cc in
     omega (arith, low_is b refl, high_is d refl)
 
-raised_is : (c : Option ℕ) (p up a : ℕ) → ((x : ℕ) → c ≡ Some x → p ≡ x) → raised up c ≡ Some a → plus16 p up ≡ a
+pub raised_is : (c : Option ℕ) (p up a : ℕ) → ((x : ℕ) → c ≡ Some x → p ≡ x) → raised up c ≡ Some a → plus16 p up ≡ a
 raised_is None p up a is e = absurd (cc)
 raised_is (Some x) p up a is e =
     let sum : plus16 x up ≡ a = cc in
     ap (λ y. plus16 y up) (is x refl) ∙ sum
 
-lowered_number : (base j up : ℕ) → plus16 (minus16 base j) up ≡ minus16 base (minus16 j up)
+pub lowered_number : (base j up : ℕ) → plus16 (minus16 base j) up ≡ minus16 base (minus16 j up)
 lowered_number base j up = omega arith
 
-lowered_is : (f : Option ℕ) (base p up d : ℕ) → ((j : ℕ) → f ≡ Some j → p ≡ minus16 base j) → lowered up f ≡ Some d → plus16 p up ≡ minus16 base d
+pub lowered_is : (f : Option ℕ) (base p up d : ℕ) → ((j : ℕ) → f ≡ Some j → p ≡ minus16 base j) → lowered up f ≡ Some d → plus16 p up ≡ minus16 base d
 lowered_is None base p up d is e = absurd (cc)
 lowered_is (Some j) base p up d is e =
     let difference : minus16 j up ≡ d = cc in
@@ -118,7 +118,7 @@ module _ (m : State) (o : Origin) (k : NodeKey) (s : AbsState) (at : InFrame m o
         by false = range_stands o (read_at m.device k s a) (read m a input) (read_stands m o k s at a input small)
 
     constant_stands : (c : Option ℕ) → ((x : ℕ) → c ≡ Some x → a ≡ x) → ByteStands o (read_constant m.device k s c) (read m a input)
-    constant_stands None is = nothing_stands o (read m a input) (read_small m o k s at a input small)
+    constant_stands None is = any_stands o (read m a input) (read_small m o k s at a input small)
     constant_stands (Some x) is =
         subst (λ b. ByteStands o (read_constant m.device k s (Some b)) (read m a input)) (is x refl) number_stands
 

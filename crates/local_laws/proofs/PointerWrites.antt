@@ -1,9 +1,10 @@
 -- A byte that is stored through a pointer: what the rows say covers what the machine does.
-use Rattle.std.proofs.Common.{◌≡◌, refl, sym, ◌∙◌, ap, subst, ℕ, ◌+◌, ◌<◌, Bool, true, false, not, ◌&&◌, ◌||◌, nat_lt, nat_le, if◌then◌else◌, ◌==◌, List, [], ◌∷◌, ◌++◌, length, map, Option, Some, None, arith, eqb-true}
-use Rattle.std.proofs.lemmas.Bool.{or_parts}
+use Rattle.std.proofs.Common.{◌≡◌, refl, sym, ◌∙◌, ap, subst, ℕ, ◌+◌, ◌<◌, Bool, true, false, not, ◌&&◌, ◌||◌, nat_lt, nat_le, if◌then◌else◌, ◌==◌, List, [], ◌∷◌, length, map, Option, Some, None, arith, eqb-true}
+use Rattle.std.proofs.lemmas.Bool.{or_parts, and_from}
 use Rattle.std.proofs.lemmas.Bool.Decides.{nat_tests}
 use Rattle.std.proofs.lemmas.List.Elements.{Contains-append_left, Contains-append_right}
 use Rattle.std.specs.List.{filter}
+use Rattle.basics.specs.Lists.{both_empty}
 use Rattle.avr_model.specs.declared.assumption.Entry.{Entry}
 use Rattle.avr_model.specs.declared.effect.Write.{Write}
 use Rattle.avr_model.specs.declared.effect.Effect.{Effect}
@@ -31,9 +32,6 @@ use Rattle.local_laws.proofs.PointerReads.{pair_small, low_is, high_is, number_i
 use Rattle.local_laws.proofs.SplitMembers.{AreWritten}
 use Rattle.local_laws.proofs.WriteValues.{stored, Reaches, enables_kept, chosen, only, elsewhere, changes_none, less_still, written}
 
-pub both_hold : (a b : Bool) → a ≡ true → b ≡ true → (a && b) ≡ true
-both_hold a b h g = grind arith
-
 back_to : (w up : ℕ) → w < 65536 → w ≡ minus16 (plus16 w up) up
 back_to w up lt = omega arith
 
@@ -57,10 +55,6 @@ elsewhere_is a h =
     record { beyond = inner.0; not_low = outside.0; not_high = outside.1.0; not_sreg = outside.1.1; no_enables = outer.1 }
 
 -- ---- all of several
-
-both_empty : {A : Type 0} (xs ys : List A) → xs ++ ys ≡ [] → (xs ≡ []) × (ys ≡ [])
-both_empty [] ys h = (refl, h)
-both_empty (x ∷ xs) ys h = absurd (cc)
 
 module _ (m : State) (o : Origin) (k : NodeKey) (guarded : Bool) (e : Effect) where
   pub by_first : (r : Raw) (rs : List Raw) → Reaches m o k guarded e r → Reaches m o k guarded e (all_of (r ∷ rs))
@@ -132,7 +126,7 @@ module _ (m : State) (o : Origin) (k : NodeKey) (s : AbsState) (at : InFrame m o
   reached : (r up : ℕ) → reaches s r up (plus16 (pair m r) up) ≡ true
   reached r up =
       let back : pair m r ≡ minus16 (plus16 (pair m r) up) up = back_to (pair m r) up (pair_small m o k s at r) in
-      both_hold _ _
+      and_from _ _
       ((tests_tell_members.bytes (bits s r) _).1 (subst (Has (bits s r)) (low_is m o k s at r ∙ ap low back) (register_stands m o k s at r).bits))
       ((tests_tell_members.bytes (bits s (r + 1)) _).1 (subst (Has (bits s (r + 1))) (high_is m o k s at r ∙ ap high back) (register_stands m o k s at (r + 1)).bits))
 

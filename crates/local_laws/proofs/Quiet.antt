@@ -1,6 +1,7 @@
 -- Local parts that neither call nor return.
 use Rattle.std.proofs.Common.{◌≡◌, refl, sym, ◌∙◌, subst, ℕ, zero, suc, ◌+◌, ◌==◌, Bool, true, false, List, [], Option, Some, None, if◌then◌else◌, nat_lt, nat_le, Contains}
 use Rattle.std.specs.List.Sorted.{IsStrictlySortedBy}
+use Rattle.basics.specs.Items.{none_in}
 use Rattle.avr_model.specs.Devices.{size_of}
 use Rattle.avr_model.specs.declared.device.Device.{Device}
 use Rattle.avr_model.specs.declared.assumption.Entry.{Entry}
@@ -24,7 +25,6 @@ use Rattle.local_rules.specs.declared.pointers.Pointed.{Pointed}
 use Rattle.local_rules.specs.Writes.{opening, closing, sreg_written, written_at, fixed_write, pointer_write, high_part, closing_offset, flags_written}
 use Rattle.local_rules.specs.Flow.{branch, where_carry, going_where, carry_branch, flag_branch, skipping, jumping, at_closed, pushing, popping, making_room}
 use Rattle.local_rules.specs.Local.{loading}
-use Rattle.local_laws.proofs.Members.{none_in}
 use Rattle.local_laws.specs.Laws.{LeadsToWords, AscendByEntry}
 
 abbrev pub Quiet : Raw → Type 0

@@ -1,11 +1,13 @@
 -- What is known of a byte that is read stands for the byte that the machine reads.
-use Rattle.std.proofs.Common.{◌≡◌, refl, sym, ◌∙◌, ap, subst, ℕ, zero, suc, ◌+◌, ◌-◌, ◌%◌, ◌<◌, ◌≤◌, ⊎_elim, Bool, true, false, if◌then◌else◌, ◌==◌, nat_le, length, Option, Some, None, arith, leb-true}
+use Rattle.std.proofs.Common.{◌≡◌, refl, sym, ◌∙◌, ap, subst, ℕ, ◌+◌, ◌-◌, ◌%◌, ◌<◌, ◌≤◌, ⊎_elim, Bool, true, false, if◌then◌else◌, ◌==◌, nat_le, length, Option, Some, None, arith, leb-true}
 use Rattle.std.proofs.lemmas.Bool.{cases_lt}
 use Rattle.std.proofs.lemmas.Bool.Decides.{nat_tests}
 use Rattle.std.proofs.lemmas.Nat.Bits.{bit_at-lt}
 use Rattle.std.proofs.lemmas.List.{get_or_past}
 use Rattle.std.proofs.lemmas.List.Elements.{All-get_or}
 use Rattle.std.specs.Int.{bit_at, from_bool}
+use Rattle.abs_alu.proofs.AllLaws.{any_has}
+use Rattle.local_laws.proofs.Machine.{io_value, io_small}
 use Rattle.avr_model.specs.Devices.{ramend}
 use Rattle.avr_model.specs.declared.device.Device.{Device}
 use Rattle.avr_model.specs.Sreg.{flag}
@@ -14,7 +16,7 @@ use Rattle.avr_model.specs.State.{State, register, read, io_byte, io_bit, sram_a
 use Rattle.vector_table.proofs.AllLaws.{numbers_are_their_bits}
 use Rattle.bit_domain.specs.Tri.{Permits, tri_bit}
 use Rattle.bit_domain.specs.TriByte.{Has, byte_any, byte_known, byte_with}
-use Rattle.bit_domain.proofs.AllLaws.{bytes_are_sets, writes_cover}
+use Rattle.bit_domain.proofs.AllLaws.{bytes_are_sets, writes_cover, permits-tri_bit}
 use Rattle.sp_domain.specs.declared.tags.Tag.TheVariants as tag
 use Rattle.sp_domain.specs.declared.slots.Slot.{Slot}
 use Rattle.sp_domain.specs.declared.slots.Slot.TheVariants.{Free, Guarded}
@@ -23,7 +25,7 @@ use Rattle.sp_domain.specs.Slots.{slot_at}
 use Rattle.abs_state.specs.declared.values.AbsByte.{AbsByte}
 use Rattle.abs_state.specs.declared.state.AbsState.{AbsState}
 use Rattle.abs_state.specs.Values.{untagged, unknown, known, valued, set_of}
-use Rattle.abs_state.proofs.AllLaws.{bits_make_values}
+use Rattle.abs_state.proofs.AllLaws.{bits_make_values, any_stands}
 use Rattle.abs_state.specs.Stands.{ByteStands, EntryHolds, SlotStands}
 use Rattle.mask_states.specs.declared.keys.NodeKey.{NodeKey}
 use Rattle.mask_states.specs.declared.keys.Kind.{Kind}
@@ -34,20 +36,15 @@ use Rattle.mask_states.specs.Place.{SpIs}
 use Rattle.local_rules.specs.Registers.{with_bits}
 use Rattle.local_rules.specs.Reads.{sp_low, sp_high, flags_tag, sreg_value, io_tri, io_bits, value_of, slot_read, read_at}
 use Rattle.local_rules.specs.Cover.{InFrame}
-use Rattle.local_laws.proofs.Frame.{nothing_stands, has_any, register_stands}
+use Rattle.local_laws.proofs.Frame.{register_stands}
 use Rattle.local_laws.proofs.Alu.{register_byte}
 use Rattle.local_laws.proofs.Memory.{inside_if_live}
 
 -- ---- bits that are known
 
-pub bit_permits : (n : ℕ) → n < 2 → Permits (tri_bit n) n
-bit_permits zero lt = refl
-bit_permits (suc zero) lt = refl
-bit_permits (suc (suc n)) lt = absurd (omega arith)
-
 pub known_stands : (o : Origin) (x : ℕ) → x < 256 → ByteStands o (known x) x
 known_stands o x small =
-    bits_make_values.stands o tag.None (byte_known x) x small tt (bytes_are_sets.built (λ i. tri_bit (bit_at x i)) x (λ i lt. bit_permits (bit_at x i) (bit_at-lt x i)))
+    bits_make_values.stands o tag.None (byte_known x) x small tt (bytes_are_sets.built (λ i. tri_bit (bit_at x i)) x (λ i lt. permits-tri_bit (bit_at x i) (bit_at-lt x i)))
 
 pub untagged_stands : (o : Origin) (v : AbsByte) (x : ℕ) → ByteStands o v x → ByteStands o (untagged v.bits) x
 untagged_stands o v x h = bits_make_values.stands o tag.None v.bits x h.small tt h.bits
@@ -70,14 +67,14 @@ high_byte base offset = omega arith
 module _ (device : Device) (o : Origin) (word : o.base < 65536) (is_open : Bool) (sp : ℕ) (small : sp < 65536) where
   tagged_low : (offset : ℕ) → sp + offset ≡ o.base → ByteStands o (with_bits (low_of offset) byte_any) (low sp)
   tagged_low offset e =
-      bits_make_values.stands o (low_of offset) byte_any (low sp) (omega arith) (ap low (in_frame o.base offset sp word e) ∙ low_byte o.base offset) (has_any (low sp))
+      bits_make_values.stands o (low_of offset) byte_any (low sp) (omega arith) (ap low (in_frame o.base offset sp word e) ∙ low_byte o.base offset) (any_has (low sp))
 
   tagged_high : (offset : ℕ) → sp + offset ≡ o.base → ByteStands o (with_bits (high_of offset) byte_any) (high sp)
   tagged_high offset e =
-      bits_make_values.stands o (high_of offset) byte_any (high sp) (omega (arith, small)) (ap high (in_frame o.base offset sp word e) ∙ high_byte o.base offset) (has_any (high sp))
+      bits_make_values.stands o (high_of offset) byte_any (high sp) (omega (arith, small)) (ap high (in_frame o.base offset sp word e) ∙ high_byte o.base offset) (any_has (high sp))
 
   pub low_stands : (kind : Kind) (form : SpForm) → (kind ≡ Root → o.base ≡ ramend device) → SpIs o.base is_open sp form → ByteStands o (sp_low device kind form) (low sp)
-  low_stands kind (Open offset h) root is = nothing_stands o (low sp) (omega arith)
+  low_stands kind (Open offset h) root is = any_stands o (low sp) (omega arith)
   low_stands Root (Closed offset) root is =
       let e : sp ≡ ramend device - offset = omega (arith, root refl, is.1) in
       subst (λ x. ByteStands o (known (low x)) (low sp)) e (known_stands o (low sp) (omega arith))
@@ -85,7 +82,7 @@ module _ (device : Device) (o : Origin) (word : o.base < 65536) (is_open : Bool)
   low_stands (Vector v) (Closed offset) root is = tagged_low offset is.1
 
   pub high_stands : (kind : Kind) (form : SpForm) → (kind ≡ Root → o.base ≡ ramend device) → SpIs o.base is_open sp form → ByteStands o (sp_high device kind form) (high sp)
-  high_stands kind (Open offset h) root is = nothing_stands o (high sp) (omega (arith, small))
+  high_stands kind (Open offset h) root is = any_stands o (high sp) (omega (arith, small))
   high_stands Root (Closed offset) root is =
       let e : sp ≡ ramend device - offset = omega (arith, root refl, is.1) in
       subst (λ x. ByteStands o (known (high x)) (high sp)) e (known_stands o (high sp) (omega (arith, small)))
@@ -102,29 +99,21 @@ flag_permits : (sreg n : ℕ) (on : Bool) → flag sreg n ≡ on → Permits (tr
 flag_permits sreg n on e =
     let bit : bit_at sreg n < 2 = bit_at-lt sreg n in
     let is : bit_at sreg n ≡ from_bool on = grind (arith, nat_tests) in
-    subst (λ x. Permits (tri_bit x) (bit_at sreg n)) is (bit_permits (bit_at sreg n) bit)
+    subst (λ x. Permits (tri_bit x) (bit_at sreg n)) is (permits-tri_bit (bit_at sreg n) bit)
 
 -- ---- I/O
 
 io_permits : (v : Option ℕ) (masks free : ℕ) → Permits (io_tri v masks) (io_bit v masks free)
 io_permits None masks free = tt
-io_permits (Some v) masks free = bit_permits (bit_at masks (v - 2)) (bit_at-lt masks (v - 2))
-
-io_bit_below : (v : Option ℕ) (masks free : ℕ) → free < 2 → io_bit v masks free < 2
-io_bit_below None masks free lt = lt
-io_bit_below (Some v) masks free lt = bit_at-lt masks (v - 2)
+io_permits (Some v) masks free = permits-tri_bit (bit_at masks (v - 2)) (bit_at-lt masks (v - 2))
 
 io_has : (masks a input : ℕ) → Has (io_bits masks a) (io_byte masks a input)
 unfolding io_byte
 io_has masks a input =
     bytes_are_sets.built (λ b. io_tri (enable_of a b) masks) (io_byte masks a input) (λ b lt.
     subst (Permits (io_tri (enable_of a b) masks))
-    (sym (numbers_are_their_bits.bits 8 (λ j. io_bit (enable_of a j) masks (bit_at input j)) (λ j h. io_bit_below (enable_of a j) masks (bit_at input j) (bit_at-lt input j)) b lt))
+    (sym (numbers_are_their_bits.bits 8 (λ j. io_bit (enable_of a j) masks (bit_at input j)) (λ j h. io_value (enable_of a j) masks (bit_at input j) (bit_at-lt input j)) b lt))
     (io_permits (enable_of a b) masks (bit_at input b)))
-
-io_small : (masks a input : ℕ) → io_byte masks a input < 256
-unfolding io_byte
-io_small masks a input = numbers_are_their_bits.below 8 (λ j. io_bit (enable_of a j) masks (bit_at input j)) (λ j h. io_bit_below (enable_of a j) masks (bit_at input j) (bit_at-lt input j))
 
 -- ---- SRAM
 
@@ -142,7 +131,7 @@ small_by_test false x y h g = g
 
 test_only : (o : Origin) (b : Bool) (v : AbsByte) (x : ℕ) → x < 256 → (b ≡ true → ByteStands o v x) → ByteStands o (if b then v else unknown) x
 test_only o true v x small h = h refl
-test_only o false v x small h = nothing_stands o x small
+test_only o false v x small h = any_stands o x small
 
 module _ (m : State) (o : Origin) (k : NodeKey) (s : AbsState) (at : InFrame m o k s) where
   byte_small : (a : ℕ) → byte_in m.memory.bytes a < 256
@@ -182,7 +171,7 @@ module _ (m : State) (o : Origin) (k : NodeKey) (s : AbsState) (at : InFrame m o
       grind (arith, nat_tests)
 
   slot_stands : (a x : ℕ) (slot : Slot AbsByte) → x < 256 → (is_live m.memory a ≡ true → x ≡ sram_at m a) → SlotStands o m.memory a slot → ByteStands o (value_of slot) x
-  slot_stands a x Free small is h = nothing_stands o x small
+  slot_stands a x Free small is h = any_stands o x small
   slot_stands a x (Guarded v) small is h = subst (ByteStands o v) (sym (is h.0)) h.1
 
   -- the slot at base - d, where there is one
@@ -190,7 +179,7 @@ module _ (m : State) (o : Origin) (k : NodeKey) (s : AbsState) (at : InFrame m o
   slot_at_stands d x small is =
       ⊎_elim
       (λ lt. slot_stands (o.base - d) x (slot_at s.slots d) small is (at.stands.slots d lt))
-      (λ over. subst (λ slot. ByteStands o (value_of slot) x) (sym (get_or_past s.slots d Free over)) (nothing_stands o x small))
+      (λ over. subst (λ slot. ByteStands o (value_of slot) x) (sym (get_or_past s.slots d Free over)) (any_stands o x small))
       (cases_lt d (length s.slots))
 
   sram_or_input : (a input : ℕ) → is_live m.memory a ≡ true → (if is_sram m.device a then sram_at m a else input) ≡ sram_at m a
@@ -210,8 +199,8 @@ module _ (m : State) (o : Origin) (k : NodeKey) (s : AbsState) (at : InFrame m o
 
   kind_slot : (kind : Kind) (a input : ℕ) → input < 256 → (kind ≡ Root → o.base ≡ ramend m.device) → ByteStands o (slot_read m.device kind s a) (if is_sram m.device a then sram_at m a else input)
   kind_slot Root a input lt root = root_slot a input lt (root refl)
-  kind_slot Call a input lt root = nothing_stands o (if is_sram m.device a then sram_at m a else input) (slot_small a input lt)
-  kind_slot (Vector v) a input lt root = nothing_stands o (if is_sram m.device a then sram_at m a else input) (slot_small a input lt)
+  kind_slot Call a input lt root = any_stands o (if is_sram m.device a then sram_at m a else input) (slot_small a input lt)
+  kind_slot (Vector v) a input lt root = any_stands o (if is_sram m.device a then sram_at m a else input) (slot_small a input lt)
 
   -- what a read of a known address gives
   pub read_stands : (a input : ℕ) → input < 256 → ByteStands o (read_at m.device k s a) (read m a input)

@@ -2,6 +2,7 @@
 use Rattle.std.proofs.Common.{◌≡◌, refl, sym, ap, ◌∙◌, subst, ℕ, zero, suc, ◌+◌, ◌-◌, ◌<◌, ◌≤◌, ◌==◌, ◌&&◌, Bool, true, false, not, nat_lt, nat_le, if◌then◌else◌, [], ◌∷◌, ◌++◌, take, length, arith, length-take, ap₂}
 use Rattle.std.proofs.lemmas.Bool.Decides.{nat_tests}
 use Rattle.std.proofs.lemmas.List.{append_assoc}
+use Rattle.basics.specs.Items.{first_in}
 use Rattle.avr_model.proofs.AllLaws.{devices_are_alike}
 use Rattle.avr_model.specs.Devices.{size_of, ramend, wrapped}
 use Rattle.avr_model.specs.declared.device.Device.{Device}
@@ -18,7 +19,7 @@ use Rattle.abs_state.specs.declared.values.AbsByte.{AbsByte}
 use Rattle.abs_state.specs.declared.state.AbsState.{AbsState}
 use Rattle.abs_state.specs.Stands.{ByteStands, SlotStands, SlotsStand}
 use Rattle.abs_state.specs.Laws.{Keeps}
-use Rattle.abs_state.proofs.AllLaws.{slots_follow}
+use Rattle.abs_state.proofs.AllLaws.{slots_follow, any_stands}
 use Rattle.mask_states.specs.declared.keys.NodeKey.{NodeKey}
 use Rattle.mask_states.specs.declared.keys.SpForm.TheVariants.{Closed}
 use Rattle.mask_states.specs.Keys.{offset_of}
@@ -29,7 +30,7 @@ use Rattle.local_rules.specs.Registers.{value, set as node_set}
 use Rattle.local_rules.specs.Reads.{value_of}
 use Rattle.local_rules.specs.Flow.{if_room, pushed_slot, pushing, popping, making_room, at_closed, relative_call}
 use Rattle.local_rules.specs.Cover.{InFrame, Follows}
-use Rattle.local_laws.proofs.Frame.{first, only, register_stands, set_one, next_is, nothing_stands}
+use Rattle.local_laws.proofs.Frame.{only, register_stands, set_one, next_is}
 use Rattle.local_laws.proofs.Memory.{inside_if_live, pushed_byte, pushed_live}
 use Rattle.local_laws.proofs.Less.{Spares, less_set}
 use Rattle.local_laws.proofs.ReadValues.{read_small}
@@ -66,7 +67,7 @@ live_read m a input count live = in_sram m.device a _ _ _ _ _ (sram_at m a) inpu
 -- what is known of a slot's byte
 slot_read : (m : State) (o : Origin) (a input : ℕ) (slot : Slot AbsByte) → length m.memory.live ≡ size_of m.device → read m a input < 256 → SlotStands o m.memory a slot
     → ByteStands o (value_of slot) (read m a input)
-slot_read m o a input Free count small h = nothing_stands o (read m a input) small
+slot_read m o a input Free count small h = any_stands o (read m a input) small
 slot_read m o a input (Guarded v) count small h = subst (ByteStands o v) (sym (live_read m a input count h.0)) h.1
 
 module _ (m : State) (o : Origin) (k : NodeKey) (s : AbsState) (at : InFrame m o k s) where
@@ -180,7 +181,7 @@ module _ (m : State) (o : Origin) (k : NodeKey) (s : AbsState) (at : InFrame m o
         closed m o k s at (not scratch) b1 b2 k.sp k.pc (calling m target (further m 1)) (making_room m.device k s target') none (λ offset form free. roomier target target' offset is form free)
     rcall_by false target target' small is none =
         call_covered m o k s at (not scratch) b1 b2 target target' (further m 1) (node_further m.device k 1) (target' ∷ []) (ap not (sym small)) is
-        (further_is m o k s at (not scratch) b1 b2 1) (first target' []) none
+        (further_is m o k s at (not scratch) b1 b2 1) (first_in target' []) none
 
     pub rcall_covered : (target target' : ℕ) → wrapped m.device target ≡ target' → (relative_call m.device scratch k s target').faults ≡ []
         → Follows m o k (not scratch) b1 b2 (calling m target (further m 1)) (relative_call m.device scratch k s target')

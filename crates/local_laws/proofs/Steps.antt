@@ -1,5 +1,6 @@
 -- The local part in the words of a step.
 use Rattle.std.proofs.Common.{◌≡◌, ◌≢◌, refl, sym, ap₂, subst, ℕ, ◌<◌, ◌||◌, Bool, true, false, not, if◌then◌else◌, List, [], ◌∷◌, ◌++◌, Option, Some, None, Ok, Contains}
+use Rattle.local_laws.proofs.Stays.{done_is}
 use Rattle.avr_model.specs.declared.assumption.Entry.{Entry}
 use Rattle.avr_model.specs.declared.choice.Flag.{Flag}
 use Rattle.avr_model.specs.declared.effect.Effect.{Effect}
@@ -17,7 +18,7 @@ use Rattle.local_rules.specs.declared.local.NodeFault.{NodeFault}
 use Rattle.local_rules.specs.declared.local.Local.{Local}
 use Rattle.local_rules.specs.Raw.{Raw}
 use Rattle.local_rules.specs.Local.{raw, joined_onto, settled, local}
-use Rattle.local_rules.specs.Cover.{InFrame, IsWithinBase, IsCovered, Lands, Follows, stays, calls, leaves, IsStep}
+use Rattle.local_rules.specs.Cover.{InFrame, IsWithinBase, CoversStep, ArrivesAt, Follows, stays, calls, leaves, IsStep}
 use Rattle.local_laws.specs.Laws.{JoinsAreLeast, LocalPartsAreNodes, AreNodes, StepsAreCovered}
 use Rattle.local_laws.proofs.Covered.{local_parts_cover}
 use Rattle.local_laws.proofs.Memory.{live_bytes_stay}
@@ -37,9 +38,6 @@ unfolding local
 local_is words A k s l e = settled_is (raw words A k s) (raw words A k s).faults l e
 
 -- ---- a step that is done
-
-done_is : (m n : State) → Done m ≡ Done n → m ≡ n
-done_is m n e = cc
 
 -- no flag stands, and the state is the one after the effect
 flags_none : (pc : ℕ) (live protected listed : Option ℕ) (m n : State) → flagged_or (flag_by pc live protected listed) m ≡ Done n
@@ -68,7 +66,7 @@ some_defined true flags m at pc e = flagged_defined flags m pc e
 some_defined false flags m at pc e = cc
 
 module _ (words : List ℕ) (A : List Entry) (m : State) (o : Origin) (k : NodeKey) (s : AbsState) (b1 b2 : ℕ) (at : InFrame m o k s) (small1 : b1 < 256) (small2 : b2 < 256) where
-  is_defined : (r : Raw) (found : Option Instr) (pc : ℕ) → IsCovered words A m o k b1 b2 found r → r.faults ≡ [] → go words A m found b1 b2 ≢ Undefined pc
+  is_defined : (r : Raw) (found : Option Instr) (pc : ℕ) → CoversStep words A m o k b1 b2 found r → r.faults ≡ [] → go words A m found b1 b2 ≢ Undefined pc
   is_defined r None pc covered none e = covered none
   is_defined r (Some instr) pc covered none e = some_defined _ _ _ m.pc pc e
 
@@ -78,7 +76,7 @@ module _ (words : List ℕ) (A : List Entry) (m : State) (o : Origin) (k : NodeK
     are_nodes to member = (nodes.nodes words A k s to at.node none member).1
 
     -- a raw successor lies below a joined one, which the machine is at too
-    lands_joined : (guarded : Bool) (e : Effect) (to : Node) → Contains (raw words A k s).moves to → to.key.inst ≡ k.inst → Lands m o guarded e to
+    lands_joined : (guarded : Bool) (e : Effect) (to : Node) → Contains (raw words A k s).moves to → to.key.inst ≡ k.inst → ArrivesAt m o guarded e to
         → live_write m.memory (e.stores ++ e.pushes) ≡ None → all_inside m.device e.pushes ≡ true → IsStep m o k b1 b2 (joined (raw words A k s)) (after m guarded e)
     lands_joined guarded e to member inst lands unhit inside =
         let above = joins.above (raw words A k s).moves to are_nodes member in
@@ -93,7 +91,7 @@ module _ (words : List ℕ) (A : List Entry) (m : State) (o : Origin) (k : NodeK
     follows_steps guarded e unhit inside (calls offset site member form guards is) = calls offset site member form (ap₂ (after m) guards is)
     follows_steps guarded e unhit inside (leaves x exit kind form returns) = leaves x guarded e exit kind form returns refl
 
-    go_steps : (n : State) (found : Option Instr) → IsCovered words A m o k b1 b2 found (raw words A k s) → go words A m found b1 b2 ≡ Done n
+    go_steps : (n : State) (found : Option Instr) → CoversStep words A m o k b1 b2 found (raw words A k s) → go words A m found b1 b2 ≡ Done n
         → IsStep m o k b1 b2 (joined (raw words A k s)) n
     go_steps n None covered e = absurd (covered none)
     go_steps n (Some instr) covered e =

@@ -5,6 +5,7 @@ use Rattle.std.proofs.lemmas.Bool.Decides.{nat_tests}
 use Rattle.std.proofs.lemmas.Nat.Bits.{bit_at-lt, same_from_bits_below}
 use Rattle.std.specs.Int.{bit_at}
 use Rattle.std.specs.List.{list_any}
+use Rattle.basics.specs.Items.{first_in}
 use Rattle.avr_model.specs.Devices.{size_of}
 use Rattle.avr_model.specs.declared.effect.Write.{Write}
 use Rattle.avr_model.specs.declared.effect.Effect.{Effect}
@@ -40,8 +41,8 @@ use Rattle.local_rules.specs.declared.local.Node.{Node}
 use Rattle.local_rules.specs.declared.local.NodeFault.TheVariants.{TooDeep}
 use Rattle.local_rules.specs.Raw.{Raw, at_word, one, fails}
 use Rattle.local_rules.specs.Writes.{high_part, opening, closing_offset, closing, is_entry_flags, flags_written, with_i, sreg_written, masks_written, register_written as node_written, written_at}
-use Rattle.local_rules.specs.Cover.{InFrame, Lands}
-use Rattle.local_laws.proofs.Frame.{first, second, set_stands, slot_kept, above_floor, same_frame}
+use Rattle.local_rules.specs.Cover.{InFrame, ArrivesAt}
+use Rattle.local_laws.proofs.Frame.{second, set_stands, slot_kept, above_floor, same_frame}
 use Rattle.local_rules.specs.Registers.{with_bits, forgotten}
 use Rattle.local_laws.proofs.Less.{less_set, forgotten_less, forgotten_spares}
 use Rattle.local_laws.proofs.Targets.{in_map}
@@ -68,7 +69,7 @@ pub record Reaches (m : State) (o : Origin) (k : NodeKey) (guarded : Bool) (e : 
   pub to : Node
   pub present : Contains r.moves to
   pub inst : to.key.inst ≡ k.inst
-  pub lands : Lands m o guarded e to
+  pub lands : ArrivesAt m o guarded e to
 
 -- ---- enable bits
 
@@ -158,8 +159,8 @@ module _ (m : State) (o : Origin) (k : NodeKey) (s : AbsState) (at : InFrame m o
   abbrev state : AbsState
   state = record s { registers = registers }
 
-  pub only : (e : Effect) (to : Node) → to.key.inst ≡ k.inst → Lands m o guarded e to → Reaches m o k guarded e (record { moves = to ∷ []; calls = []; exit = None; faults = [] })
-  only e to inst lands = record { to = to; present = first to []; inst = inst; lands = lands }
+  pub only : (e : Effect) (to : Node) → to.key.inst ≡ k.inst → ArrivesAt m o guarded e to → Reaches m o k guarded e (record { moves = to ∷ []; calls = []; exit = None; faults = [] })
+  only e to inst lands = record { to = to; present = first_in to []; inst = inst; lands = lands }
 
   pub chosen : (e : Effect) (b : Bool) (r q : Raw) → (b ≡ true → r.faults ≡ [] → Reaches m o k guarded e r) → (b ≡ false → q.faults ≡ [] → Reaches m o k guarded e q)
       → (if b then r else q).faults ≡ [] → Reaches m o k guarded e (if b then r else q)
@@ -171,7 +172,7 @@ module _ (m : State) (o : Origin) (k : NodeKey) (s : AbsState) (at : InFrame m o
       → written_enables m.enables a byte ≡ masks
       → RegistersStand o values (registers_after (with_registers m.registers writes) (set a byte))
       → LessHolds (registers_after (with_registers m.registers writes) (set a byte)) c (flag m.sreg 0)
-      → Lands m o guarded (stored m pc writes is_out a byte)
+      → ArrivesAt m o guarded (stored m pc writes is_out a byte)
       (record { key = record key { masks = masks }; state = record s { registers = values; flags = record s.flags { carry = c } } })
   elsewhere a byte masks values c over not_low not_high not_sreg enables values_stand still =
       let flags = values_say_less.flags o s.flags (record s.flags { carry = c }) m.sreg (record { entry = λ e. e; bits = λ x small has. has; carry = over }) at.stands.flags in
@@ -196,7 +197,7 @@ module _ (m : State) (o : Origin) (k : NodeKey) (s : AbsState) (at : InFrame m o
   module _ (byte : ℕ) (small : byte < 256) (v : AbsByte) (stands : ByteStands o v byte) (count_values : length registers ≡ 32)
       (count : length (with_registers m.registers writes) ≡ 32) where
     register_written : (a : ℕ) → nat_lt a 0x20 ≡ true → (a == SPL) ≡ false → (a == SPH) ≡ false → (a == SREG) ≡ false
-        → Lands m o guarded (stored m pc writes is_out a byte) (record { key = key; state = node_written state a v })
+        → ArrivesAt m o guarded (stored m pc writes is_out a byte) (record { key = key; state = node_written state a v })
     register_written a here not_low not_high not_sreg =
         let lt : a < 0x20 = ltb-true a 0x20 here in
         let w : AbsByte = with_bits v.tag v.bits in
@@ -212,7 +213,7 @@ module _ (m : State) (o : Origin) (k : NodeKey) (s : AbsState) (at : InFrame m o
     -- ---- SPL
 
     closed_lands : (n : ℕ) → closing_offset m.device k.inst.kind k.sp v ≡ Some n
-        → Lands m o guarded (stored m pc writes is_out SPL byte) (record { key = record key { sp = Closed n }; state = record state { slots = resized n s.slots } })
+        → ArrivesAt m o guarded (stored m pc writes is_out SPL byte) (record { key = record key { sp = Closed n }; state = record state { slots = resized n s.slots } })
     closed_lands n e =
         let at_base : n ≤ o.base → 256 * high m.sp + byte + n ≡ o.base = closes m.device o at.base_word m.is_open m.sp byte n small v stands k.inst.kind k.sp e at.place.sp at.root in
         record {
@@ -244,7 +245,7 @@ module _ (m : State) (o : Origin) (k : NodeKey) (s : AbsState) (at : InFrame m o
     -- ---- SPH
 
     opened_lands : (h : High) → high_part k.inst.kind v ≡ Some h
-        → Lands m o guarded (stored m pc writes is_out SPH byte) (record { key = record key { sp = Open (offset_of k.sp) h }; state = state })
+        → ArrivesAt m o guarded (stored m pc writes is_out SPH byte) (record { key = record key { sp = Open (offset_of k.sp) h }; state = state })
     opened_lands h e =
         let place = opened o k.inst.kind v byte h m.is_open m.sp k.sp at.base_word small e stands at.place.sp in
         record {
@@ -275,7 +276,7 @@ module _ (m : State) (o : Origin) (k : NodeKey) (s : AbsState) (at : InFrame m o
     abbrev flagged : AbsState
     flagged = record state { flags = flags_written v }
 
-    sreg_lands : (on : Bool) → flag byte 7 ≡ on → Lands m o guarded (stored m pc writes is_out SREG byte) (record { key = with_i key is_out on; state = flagged })
+    sreg_lands : (on : Bool) → flag byte 7 ≡ on → ArrivesAt m o guarded (stored m pc writes is_out SREG byte) (record { key = with_i key is_out on; state = flagged })
     sreg_lands on is =
         same_frame m o k s at guarded (stored m pc writes is_out SREG byte) (record { key = with_i key is_out on; state = flagged }) refl refl refl refl refl pc_is
         (enables_kept m.enables SREG byte at.machine.enable_bits sreg_holds_none ∙ at.place.enables) is
@@ -303,7 +304,7 @@ module _ (m : State) (o : Origin) (k : NodeKey) (s : AbsState) (at : InFrame m o
         either false is =
             record {
               to = record { key = with_i key is_out false; state = flagged };
-              present = first (record { key = with_i key is_out false; state = flagged }) (record { key = with_i key is_out true; state = flagged } ∷ []);
+              present = first_in (record { key = with_i key is_out false; state = flagged }) (record { key = with_i key is_out true; state = flagged } ∷ []);
               inst = refl;
               lands = sreg_lands false is;
             }

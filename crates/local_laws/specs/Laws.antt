@@ -23,7 +23,7 @@ use Rattle.local_rules.specs.declared.local.Exit.{Exit}
 use Rattle.local_rules.specs.declared.local.Node.{Node}
 use Rattle.local_rules.specs.Raw.{Raw}
 use Rattle.local_rules.specs.Local.{is_hung, raw, joined_onto, local}
-use Rattle.local_rules.specs.Cover.{InFrame, IsNode, IsCovered, IsWithinBase, IsStep}
+use Rattle.local_rules.specs.Cover.{InFrame, IsNode, CoversStep, IsWithinBase, IsStep}
 use Rattle.local_rules.specs.Machine.{IsMachine, AreWords, floor_of}
 use Rattle.local_rules.specs.declared.local.Local.{Local}
 use Rattle.abs_state.specs.Laws.{Keeps}
@@ -37,7 +37,7 @@ use Rattle.local_rules.specs.Order.{IsBelowOne, IsBelow}
 -- The local part of a node covers each step of the machine there, with the flash of its own device, whose words have 16 bits.
 pub record LocalPartsCover : Type 0 where
   pub covered : (words : List ℕ) (A : List Entry) (m : State) (o : Origin) (k : NodeKey) (s : AbsState) (b1 b2 : ℕ) → AreWords words → m.device ≡ device_of words
-      → InFrame m o k s → b1 < 256 → b2 < 256 → IsCovered words A m o k b1 b2 (instruction_at words m.pc) (raw words A k s)
+      → InFrame m o k s → b1 < 256 → b2 < 256 → CoversStep words A m o k b1 b2 (instruction_at words m.pc) (raw words A k s)
 
 -- each joined successor is below one of its key, the calls are among those, and the return is the same
 pub record IsLocalWithin (l m : Local) : Type 0 where

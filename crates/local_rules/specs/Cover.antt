@@ -51,6 +51,15 @@ FormFitsKind kind (Open offset h) = HighFitsKind kind h
 abbrev pub FormFits : NodeKey → Type 0
 FormFits k = FormFitsKind k.inst.kind k.sp
 
+-- A key by itself: a word address, at most as many bytes as SRAM has, 25 enable bits, a form that its instance's kind may have, and a byte
+-- where one is picked.
+pub record IsKey (k : NodeKey) : Type 0 where
+  pub word : k.pc < WORDS
+  pub small : offset_of k.sp ≤ SIZE
+  pub masks : k.masks < 2 ^ 25
+  pub fits : FormFits k
+  pub pick : PickFits k.pick
+
 -- The key and the state of a node: a word address, at most as many bytes as the greatest SRAM has, a byte where one is picked, a state that is
 -- formed for this offset, tags whose numbers fit, bytes in its carry tag, and no byte tagged in the root.
 pub record IsNode (k : NodeKey) (s : AbsState) : Type 0 where
@@ -93,7 +102,7 @@ pub record IsUnflagged (words : List ℕ) (A : List Entry) (m : State) (instr : 
   pub listed : unlisted_transfer A m.pc instr e ≡ None
 
 -- after the effect the machine is at the node, in a frame with this origin, and the node's state stands for it
-pub record Lands (m : State) (o : Origin) (guarded : Bool) (e : Effect) (to : Node) : Type 0 where
+pub record ArrivesAt (m : State) (o : Origin) (guarded : Bool) (e : Effect) (to : Node) : Type 0 where
   pub inside : HasRoom m.device o.base to.key.sp → all_inside m.device e.pushes ≡ true
   pub place : IsWithinBase o.base to.key.sp → AtNode o.base (after m guarded e) to.key
   pub registers : RegistersStand o to.state.registers (after m guarded e).registers
@@ -118,16 +127,16 @@ pub record IsReturn (m : State) (b1 b2 : ℕ) (x : Exit) (e : Effect) : Type 0 w
 
 -- the effect is covered: by a node of the same instance, by a call, or by the return
 pub data Follows (m : State) (o : Origin) (k : NodeKey) (guarded : Bool) (b1 b2 : ℕ) (e : Effect) (r : Raw) : Type 0 where
-  stays : (to : Node) → Contains r.moves to → to.key.inst ≡ k.inst → Lands m o guarded e to → Follows m o k guarded b1 b2 e r
+  stays : (to : Node) → Contains r.moves to → to.key.inst ≡ k.inst → ArrivesAt m o guarded e to → Follows m o k guarded b1 b2 e r
   calls : (offset : ℕ) (site : CallSite) → Contains r.calls site → k.sp ≡ Closed offset → guarded ≡ true → e ≡ calling m site.entry site.back
       → Follows m o k guarded b1 b2 e r
   leaves : (x : Exit) → r.exit ≡ Some x → k.inst.kind ≢ Root → k.sp ≡ Closed 0 → IsReturn m b1 b2 x e → Follows m o k guarded b1 b2 e r
 
 -- Where the local part has no fault, there is an instruction, and its effect is covered unless it is flagged for a protected address or an
 -- unlisted word.
-abbrev pub IsCovered : List ℕ → List Entry → State → Origin → NodeKey → ℕ → ℕ → Option Instr → Raw → Type 0
-IsCovered words A m o k b1 b2 None r = r.faults ≡ [] → ⊥
-IsCovered words A m o k b1 b2 (Some instr) r =
+abbrev pub CoversStep : List ℕ → List Entry → State → Origin → NodeKey → ℕ → ℕ → Option Instr → Raw → Type 0
+CoversStep words A m o k b1 b2 None r = r.faults ≡ [] → ⊥
+CoversStep words A m o k b1 b2 (Some instr) r =
     r.faults ≡ [] → IsUnflagged words A m instr (effect_of words m instr b1 b2)
     → Follows m o k (not (is_scratch words m.pc)) b1 b2 (effect_of words m instr b1 b2) r
 

@@ -19,12 +19,12 @@ use Rattle.mask_states.specs.contracts.keys.SpFormOrd.TheImpl as forms
 use Rattle.mask_states.specs.Keys.{kind_numbers, high_numbers, form_numbers, pick_numbers, inst_numbers, node_numbers}
 use Rattle.mask_states.specs.Order.{numbers_cmp, inst_cmp, node_cmp}
 
-then_assoc : (a b c : Ordering) → ordering_then a (ordering_then b c) ≡ ordering_then (ordering_then a b) c
+pub then_assoc : (a b c : Ordering) → ordering_then a (ordering_then b c) ≡ ordering_then (ordering_then a b) c
 then_assoc Less b c = refl
 then_assoc Equal b c = refl
 then_assoc Greater b c = refl
 
-then_equal : (a : Ordering) → ordering_then a Equal ≡ a
+pub then_equal : (a : Ordering) → ordering_then a Equal ≡ a
 then_equal Less = refl
 then_equal Equal = refl
 then_equal Greater = refl
@@ -74,7 +74,7 @@ pick_order None (Some w) = refl
 pick_order (Some v) None = refl
 pick_order (Some v) (Some w) = sym (then_equal (nat_cmp v w))
 
-bool_order : (a b : Bool) → bool_cmp a b ≡ nat_cmp (from_bool a) (from_bool b)
+pub bool_order : (a b : Bool) → bool_cmp a b ≡ nat_cmp (from_bool a) (from_bool b)
 bool_order true true = refl
 bool_order true false = refl
 bool_order false true = refl

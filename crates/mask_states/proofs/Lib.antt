@@ -1,5 +1,5 @@
 pub mod Chains
-pub mod Same
+pub mod SameKeys
 pub mod Bits
 pub mod Rows
 pub mod Few

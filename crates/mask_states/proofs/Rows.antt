@@ -2,7 +2,7 @@
 use Rattle.std.proofs.Common.{◌≡◌, ◌∙◌, sym, ap, refl, inl, inr, ℕ, ◌<◌, ◌≤◌, arith, Bool, true, false, cond, eqb, ◌&&◌, List, [], ◌∷◌, Option, Some, None, option_map, find, nat_lt, nat_le, eqb-true}
 use Rattle.std.specs.List.{list_all, list_any}
 use Rattle.std.proofs.lemmas.Bool.{cases_Bool, and_parts, or_parts}
-use Rattle.std.proofs.lemmas.Bool.Decides.{nat_tests}
+use Rattle.basics.specs.Numbers.{less_from_test, at_most_from_test}
 use Rattle.avr_model.specs.Vectors.{Vector, vectors, row_of}
 use Rattle.vector_table.specs.declared.rows.Row.{Row}
 use Rattle.vector_table.specs.Rows.{row_by, row_at}
@@ -71,12 +71,6 @@ is_placed (Some s) address bit h =
     let both = and_parts (eqb s.address address) (eqb s.bit bit) h in
     (s, (refl, eqb-true s.address address both.0, eqb-true s.bit bit both.1))
 
-small : (x y : ℕ) → nat_lt x y ≡ true → x < y
-small x y h = grind (arith, nat_tests)
-
-at_most : (x y : ℕ) → nat_le x y ≡ true → x ≤ y
-at_most x y h = grind (arith, nat_tests)
-
 -- the tests from the second, third, fourth and fifth on
 abbrev tests : Vector → Bool × Bool × Bool × Bool
 tests r =
@@ -94,9 +88,9 @@ good r h =
     let highs = and_parts (nat_le r.number 26) rest.2 lows.1 in
     let places = and_parts (numbered (find (at_place r.address r.bit) vectors) r.number) rest.3 highs.1 in
     record {
-      bit = small r.bit 8 bits.0;
-      low = at_most 2 r.number lows.0;
-      high = at_most r.number 26 highs.0;
+      bit = less_from_test r.bit 8 bits.0;
+      low = at_most_from_test 2 r.number lows.0;
+      high = at_most_from_test r.number 26 highs.0;
       found = is_numbered (find (at_place r.address r.bit) vectors) r.number places.0;
       row = is_placed (find (λ s. eqb s.number r.number) vectors) r.address r.bit places.1;
     }

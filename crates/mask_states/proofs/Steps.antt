@@ -6,7 +6,7 @@ use Rattle.std.proofs.lemmas.Bool.{cases_Bool, cases_eq, and_parts}
 use Rattle.std.proofs.lemmas.List.{map-append, length-map}
 use Rattle.std.proofs.lemmas.List.Elements.{All-weaker, All-contains_itself, recursion_from_All}
 use Rattle.std.proofs.lemmas.Nat.{div_below, pow-add, pow_pos}
-use Rattle.std.proofs.lemmas.Nat.Bits.{bit_at-lt, bit_at_and}
+use Rattle.std.proofs.lemmas.Nat.Bits.{bit_at-lt}
 use Rattle.std.proofs.Math.Nat.{mul-le-mul_right}
 use Rattle.avr_model.specs.Vectors.{Vector, with_enable, row_of, written_enable, written_enables}
 use Rattle.bit_domain.specs.declared.bits.Tri.{Tri}
@@ -15,7 +15,7 @@ use Rattle.bit_domain.specs.declared.bytes.TriByte.{TriByte}
 use Rattle.bit_domain.specs.Tri.{tri_bit}
 use Rattle.bit_domain.specs.TriByte.{tri_of, tri_at}
 use Rattle.bit_domain.specs.Numbers.{with_top, numbers_of, one_if_any, count_unknown}
-use Rattle.bit_domain.proofs.AllLaws.{numbers_are_permitted}
+use Rattle.bit_domain.proofs.AllLaws.{numbers_are_permitted, value_in_known}
 use Rattle.mask_states.specs.Splits.{enable_in, enable_tri, splits, is_any, is_unknown}
 use Rattle.vector_table.proofs.AllLaws.{enables_are_vectors}
 use Rattle.mask_states.proofs.Bits.{enabled_is_sum, from_bit, from_bit_is, from_next, bit_of_sum}
@@ -41,9 +41,6 @@ unknown_bit k v h = elim (cases_Bool (eqb k 0)) [
   | inr some ↦ absurd (let turned : is_any (tri_of k v) ≡ false = rw some (value_any v) in cc)
 ]
 
-value_le_known : (t : TriByte) (i : ℕ) → bit_at t.value i ≤ bit_at t.known i
-value_le_known t i = let both = sym (ap (λ (x : ℕ). bit_at x i) t.inside) ∙ bit_at_and t.value t.known i in omega arith
-
 known_row : (o : Option Vector) (address : ℕ) (value : TriByte) (old : ℕ) → is_unknown o address value ≡ false
     → enable_in o address value old ≡ tri_bit (written_enable o address value.value old)
 known_row None address value old h = refl
@@ -60,7 +57,7 @@ unknown_row None address value old h = absurd (cc)
 unknown_row (Some r) address value old h =
     let parts = and_parts (eqb r.address address) (is_any (tri_at value r.bit)) h in
     let unknown = unknown_bit (bit_at value.known r.bit) (bit_at value.value r.bit) parts.1 in
-    let none : bit_at value.value r.bit ≡ 0 = omega (arith, value_le_known value r.bit) in
+    let none : bit_at value.value r.bit ≡ 0 = omega (arith, value_in_known value r.bit) in
     (rw parts.0 unknown.0, rw parts.0 none)
 
 -- ---- lists

@@ -10,7 +10,7 @@ use Rattle.bit_domain.specs.declared.bytes.TriByte.{TriByte}
 use Rattle.bit_domain.specs.Tri.{Permits, tri_bit}
 use Rattle.bit_domain.specs.TriByte.{tri_at, Has, IsWithin}
 use Rattle.bit_domain.specs.Numbers.{IsPermitted}
-use Rattle.bit_domain.proofs.AllLaws.{numbers_are_permitted, bytes_are_sets}
+use Rattle.bit_domain.proofs.AllLaws.{numbers_are_permitted, bytes_are_sets, permits-tri_bit}
 use Rattle.mask_states.specs.Splits.{enable_in, enable_tri, splits, IsWritten}
 use Rattle.mask_states.specs.Laws.{SplitsAreWrites}
 use Rattle.vector_table.proofs.AllLaws.{numbers_are_their_bits, enables_are_vectors}
@@ -19,11 +19,6 @@ use Rattle.mask_states.proofs.Few.{few_splits}
 use Rattle.mask_states.proofs.Steps.{left, left_first, left_all, left_known}
 
 -- ---- known bits
-
-permits_itself : (b : ℕ) → b < 2 → Permits (tri_bit b) b
-permits_itself zero h = refl
-permits_itself (suc zero) h = refl
-permits_itself (suc (suc b)) h = absurd (omega arith)
 
 permits_alone : (b c : ℕ) → b < 2 → Permits (tri_bit b) c → c ≡ b
 permits_alone zero c h p = p
@@ -34,10 +29,10 @@ permits_alone (suc (suc b)) c h p = absurd (omega arith)
 
 permits_written : (address : ℕ) (value : TriByte) (byte k old : ℕ) (o : Option Vector) → row_of (k + 2) ≡ o → Has value byte → old < 2
     → Permits (enable_in o address value old) (written_enable o address byte old)
-permits_written address value byte k old None row has small = permits_itself old small
+permits_written address value byte k old None row has small = permits-tri_bit old small
 permits_written address value byte k old (Some r) row has small = elim (cases_Bool (eqb r.address address)) [
   | inl here ↦ rw here (has r.bit (let whole = row_good (k + 2) r row in whole.0.bit))
-  | inr other ↦ rw other (permits_itself old small)
+  | inr other ↦ rw other (permits-tri_bit old small)
 ]
 
 from_written : (m address : ℕ) (value : TriByte) (n : ℕ) → IsWritten m address value n → IsPermitted (enable_tri m address value) 25 n

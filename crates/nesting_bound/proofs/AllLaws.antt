@@ -9,7 +9,7 @@ use Rattle.nesting_bound.specs.Chain.{IsChainFrom, ends, goes, IsFirst, IsDeepPl
 use Rattle.nesting_bound.specs.Cycle.{IsNamed, group_of, number_of}
 use Rattle.nesting_bound.specs.Graph.{Reaches, once, more, AreNeeds}
 use Rattle.nesting_bound.specs.Laws.{Nests, here, deeper, RanksRuleOutCycles, NeedsBoundNesting, AnswersAreOne, EndsAt, ChainsReachTheNeed, ChainsAreOne}
-use Rattle.nesting_bound.proofs.Same.{edges_same}
+use Rattle.nesting_bound.proofs.SameEdges.{edges_same}
 use Rattle.nesting_bound.proofs.Walk.{no_cycle}
 
 pub ranks_rule_out_cycles : RanksRuleOutCycles

@@ -1,6 +1,8 @@
 -- A table with all found has the least ranks and needs; a table that is stuck has a cycle.
-use Rattle.std.proofs.Common.{◌≡◌, ◌≢◌, ℕ, zero, suc, ◌+◌, ◌<◌, Option, Some, None, List, [], ◌∷◌, ◌++◌, map, take, length, get_or, slice_get, slice_index, refl, sym, ap, ◌∙◌, subst, arith, ◌⊎◌, ⊎_elim}
+use Rattle.std.proofs.Common.{◌≡◌, ◌≢◌, ℕ, zero, suc, ◌+◌, ◌<◌, Option, Some, None, List, [], ◌∷◌, ◌++◌, map, take, length, get_or, slice_index, refl, sym, ap, ◌∙◌, subst, arith, ⊎_elim}
 use Rattle.std.proofs.lemmas.List.{take_more, take_all, map-append}
+use Rattle.std.proofs.lemmas.Option.{slice_get_within}
+use Rattle.basics.specs.Numbers.{before_or_last}
 use Rattle.nesting_bound.specs.declared.graph.GraphInst.{GraphInst}
 use Rattle.nesting_bound.specs.declared.found.Found.{Found}
 use Rattle.nesting_bound.specs.Graph.{IsGraph, Reaches, once, more}
@@ -21,14 +23,9 @@ found_there : (o : Option Found) → o ≢ None → (x : Found) × (o ≡ Some x
 found_there None ne = absurd (ne refl)
 found_there (Some x) ne = (x, refl)
 
-pub get_inside : {X : Type 0} (xs : List X) (i : ℕ) (x : X) → slice_get xs i ≡ Some x → i < length xs
-get_inside [] i x e = absurd (let e' = e in cc)
-get_inside (y ∷ xs) zero x e = omega arith
-get_inside (y ∷ xs) (suc i) x e = omega (arith, get_inside xs i x e)
-
 reaches_inside : (gs : List GraphInst) (i j : ℕ) → Reaches gs i j → i < length gs
-reaches_inside gs i j (once _ e enters) = get_inside gs i enters.inst enters.is
-reaches_inside gs i j (more _ _ e enters rest) = get_inside gs i enters.inst enters.is
+reaches_inside gs i j (once _ e enters) = slice_get_within gs i enters.inst enters.is
+reaches_inside gs i j (more _ _ e enters rest) = slice_get_within gs i enters.inst enters.is
 
 module _ (gs : List GraphInst) (table : List (Option Found)) (sound : IsSound gs table) where
   module _ (all : (i : ℕ) → i < length table → at table i ≢ None) where
@@ -50,15 +47,15 @@ module _ (gs : List GraphInst) (table : List (Option Found)) (sound : IsSound gs
               ranks_length = map_length rank_of table ∙ sound.same;
               needs_length = map_length need_of table ∙ sound.same;
               are_ranks = λ i e enters.
-                  let x = found i (get_inside gs i enters.inst enters.is) in
+                  let x = found i (slice_get_within gs i enters.inst enters.is) in
                   let y = (sound.settled i x.0 x.1).entered e enters in
                   omega (arith, rank_at i x.0 x.1, rank_at e.into y.0 y.1, y.2);
               are_needs = record {
                 offsets = λ i o h.
-                    let x = found i (get_inside gs i h.inst h.is) in
+                    let x = found i (slice_get_within gs i h.inst h.is) in
                     omega (arith, need_at i x.0 x.1, (sound.settled i x.0 x.1).offsets o h);
                 entered = λ i e enters.
-                    let x = found i (get_inside gs i enters.inst enters.is) in
+                    let x = found i (slice_get_within gs i enters.inst enters.is) in
                     let y = (sound.settled i x.0 x.1).entered e enters in
                     omega (arith, need_at i x.0 x.1, need_at e.into y.0 y.1, y.3);
               };
@@ -95,9 +92,6 @@ module _ (gs : List GraphInst) (table : List (Option Found)) (sound : IsSound gs
 not_none : (o : Option Found) (x : Found) → o ≡ Some x → o ≢ None
 not_none o x is none = cc
 
-less_or_is : (j i : ℕ) → j < i + 1 → (j < i) ⊎ (j ≡ i)
-less_or_is j i lt = grind arith
-
 mapped_more : (f : Option Found → ℕ) (table : List (Option Found)) (i : ℕ) (x : Found) (numbers new : List ℕ) → i < length table → at table i ≡ Some x → numbers ≡ map f (take i table) → new ≡ numbers ++ f (Some x) ∷ [] → new ≡ map f (take (i + 1) table)
 mapped_more f table i x numbers new lt is old e =
     e ∙ ap (λ ns. ns ++ f (Some x) ∷ []) old ∙ ap (λ o. map f (take i table) ++ f o ∷ []) (sym is)
@@ -105,7 +99,7 @@ mapped_more f table i x numbers new lt is old e =
 
 pub found_more : (table : List (Option Found)) (i : ℕ) (x : Found) (ranks needs ranks' needs' : List ℕ) → i < length table → at table i ≡ Some x → ranks' ≡ ranks ++ x.rank ∷ [] → needs' ≡ needs ++ x.need ∷ [] → AreFound table i ranks needs → AreFound table (i + 1) ranks' needs'
 found_more table i x ranks needs ranks' needs' lt is er en found = record {
-  all = λ j h. ⊎_elim (λ less. found.all j less) (λ same. subst (λ k. at table k ≢ None) (sym same) (not_none (at table i) x is)) (less_or_is j i h);
+  all = λ j h. ⊎_elim (λ less. found.all j less) (λ same. subst (λ k. at table k ≢ None) (sym same) (not_none (at table i) x is)) (before_or_last j i h);
   ranks_are = mapped_more rank_of table i x ranks ranks' lt is found.ranks_are er;
   needs_are = mapped_more need_of table i x needs needs' lt is found.needs_are en;
 }

@@ -8,5 +8,5 @@ pub mod Order
 pub mod Deep
 pub mod Onward
 pub mod Tested
-pub mod Same
+pub mod SameEdges
 pub mod AllLaws

@@ -1,16 +1,17 @@
 -- Marking what is reached.
-use Rattle.std.proofs.Common.{◌≡◌, ℕ, zero, suc, ◌+◌, ◌<◌, Bool, true, false, Some, List, [], ◌∷◌, ◌++◌, length, get_or, set, take, replicate, slice_get, refl, sym, ap, ◌∙◌, subst, arith, inl, inr, ⊎_elim, get_or-set_other, get_or-set_same, length-append}
+use Rattle.std.proofs.Common.{◌≡◌, ℕ, zero, suc, ◌+◌, ◌<◌, Bool, true, false, Some, List, [], ◌∷◌, ◌++◌, length, get_or, set, take, slice_get, refl, sym, ap, ◌∙◌, subst, arith, inl, inr, ⊎_elim, get_or-set_other, get_or-set_same, length-append}
 use Rattle.std.specs.List.{Contains}
 use Rattle.std.proofs.lemmas.Bool.{cases_eq}
 use Rattle.std.proofs.lemmas.List.{take_more, length-set}
 use Rattle.std.proofs.lemmas.List.Sums.{sum_by-set}
 use Rattle.std.proofs.lemmas.List.Elements.{Contains-push_cases, Contains-push, Contains-append_left}
+use Rattle.basics.specs.Items.{none_within}
 use Rattle.nesting_bound.specs.declared.graph.GraphInst.{GraphInst}
 use Rattle.nesting_bound.specs.declared.graph.Entered.{Entered}
 use Rattle.nesting_bound.specs.Graph.{Enters, Reaches, once, more, IsGraph}
 use Rattle.nesting_bound.specs.Reach.{marked, one_if_new, IsMarked, IsSpread}
 use Rattle.nesting_bound.proofs.Walk.{reaches_on}
-use Rattle.nesting_bound.proofs.Table.{nothing_within, more_within}
+use Rattle.nesting_bound.proofs.Table.{more_within}
 
 only_one : (e x : Entered) → Contains (e ∷ []) x → e ≡ x
 only_one e x (zero, lt, is) = is
@@ -49,7 +50,7 @@ spread_none seen stack =
       same = refl;
       kept = λ j h. h;
       stack_kept = λ j h. h;
-      all = λ x h. absurd (nothing_within h);
+      all = λ x h. absurd (none_within h);
       only = λ j h. inl h;
       stack_only = λ j h. inl h;
       less = omega arith;
@@ -94,7 +95,7 @@ marked_first gs from inst old new stack is size none s =
     record {
       same = s.same ∙ size;
       reached = λ j h. ⊎_elim (λ m. absurd (let e = none j in cc)) (λ p. subst (Reaches gs from) p.2 (once from p.0 (it_enters gs from inst p.0 is p.1))) (s.only j h);
-      stacked = λ j h. ⊎_elim (λ h. absurd (nothing_within h)) (λ m. m) (s.stack_only j h);
+      stacked = λ j h. ⊎_elim (λ h. absurd (none_within h)) (λ m. m) (s.stack_only j h);
       first = λ e enters. s.all e (of_inst gs from inst e is enters);
       rest = λ j e h enters. ⊎_elim (λ m. absurd (let e' = none j in cc)) (λ p. inl p.3) (s.only j h);
     }
@@ -126,13 +127,8 @@ all_marked gs from seen m j (once _ e enters) = m.first e enters
 all_marked gs from seen m j (more _ _ e enters rest) = on e.into j (m.first e enters) rest
   where
     on : (i k : ℕ) → marked seen i ≡ true → Reaches gs i k → marked seen k ≡ true
-    on i k h (once _ d en) = ⊎_elim (λ h. absurd (nothing_within h)) (λ o. o) (m.rest i d h en)
-    on i k h (more _ _ d en r) = on d.into k (⊎_elim (λ h. absurd (nothing_within h)) (λ o. o) (m.rest i d h en)) r
-
-pub none_marked : (n j : ℕ) → marked (replicate n false) j ≡ false
-none_marked zero j = refl
-none_marked (suc n) zero = refl
-none_marked (suc n) (suc j) = none_marked n j
+    on i k h (once _ d en) = ⊎_elim (λ h. absurd (none_within h)) (λ o. o) (m.rest i d h en)
+    on i k h (more _ _ d en r) = on d.into k (⊎_elim (λ h. absurd (none_within h)) (λ o. o) (m.rest i d h en)) r
 
 pub marked_inside : (seen : List Bool) (j : ℕ) → marked seen j ≡ true → j < length seen
 marked_inside [] j e = absurd (let e' = e in cc)
@@ -150,6 +146,3 @@ place_inside gs from place seen stack rest m e =
 pub nothing_left : (gs : List GraphInst) (from : ℕ) (seen : List Bool) (stack : List ℕ) → length stack ≡ 0 → IsMarked gs from seen stack → IsMarked gs from seen []
 nothing_left gs from seen [] e m = m
 nothing_left gs from seen (x ∷ stack) e m = absurd (omega arith)
-
-pub not_both : (b : Bool) → b ≡ false → b ≡ true → ⊥
-not_both b e e' = cc

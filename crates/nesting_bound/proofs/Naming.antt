@@ -2,6 +2,8 @@
 use Rattle.std.specs.Option.{is_some}
 use Rattle.std.specs.List.{Contains}
 use Rattle.std.proofs.Common.{true, ◌≡◌, ◌≢◌, ◌∙◌, ℕ, zero, suc, ◌+◌, ◌<◌, ◌≤◌, Option, Some, None, List, length, replicate, slice_get, slice_index, refl, sym, ap, subst, arith, ◌⊎◌, ⊎_elim, inr}
+use Rattle.std.proofs.lemmas.Option.{slice_get_within}
+use Rattle.basics.specs.Numbers.{before_or_last}
 use Rattle.nesting_bound.specs.declared.found.Found.{Found}
 use Rattle.nesting_bound.specs.declared.graph.Entered.{Entered}
 use Rattle.nesting_bound.specs.declared.graph.GraphInst.{GraphInst}
@@ -9,9 +11,8 @@ use Rattle.nesting_bound.specs.Cycle.{group_of, number_of, IsNoLater, IsNamed}
 use Rattle.nesting_bound.specs.Graph.{Enters, Reaches, once, more}
 use Rattle.nesting_bound.specs.Search.{AreLayers, IsNamedOf, IsNamedBelow}
 use Rattle.nesting_bound.specs.Table.{at, IsSound}
-use Rattle.nesting_bound.proofs.Least.{get_inside}
 use Rattle.nesting_bound.proofs.Table.{same_found}
-use Rattle.nesting_bound.proofs.Tested.{edge_of, less_or_is}
+use Rattle.nesting_bound.proofs.Tested.{edge_of}
 
 -- what a settled instance reaches is settled, at a lower rank
 lower : (gs : List GraphInst) (table : List (Option Found)) → IsSound gs table → (i j : ℕ) → Reaches gs i j → (x : Found) → at table i ≡ Some x → (y : Found) × (at table j ≡ Some y) × (y.rank < x.rank)
@@ -55,18 +56,15 @@ layers_more gs numbers i number here es is same at down before k e lt h =
     ⊎_elim
     (λ less. before k e less h)
     (λ on. subst (λ m. slice_index numbers e.into ≤ slice_index numbers m) (sym on) (omega (arith, at, down e (subst (λ xs. Contains xs e) (sym same) (edge_of gs i here is k e on h)))))
-    (less_or_is k i lt)
+    (before_or_last k i lt)
 
 pub layers_upto : (gs : List GraphInst) (numbers : List ℕ) (i : ℕ) → length gs ≤ i → AreLayersBelow gs numbers i → AreLayers gs numbers
-layers_upto gs numbers i le all k e h = all k e (omega (arith, le, get_inside gs k h.inst h.is)) h
+layers_upto gs numbers i le all k e h = all k e (omega (arith, le, slice_get_within gs k h.inst h.is)) h
 
 none_above : (n i : ℕ) → slice_index (replicate n 0) i ≡ 0
 none_above zero i = refl
 none_above (suc n) zero = refl
 none_above (suc n) (suc i) = none_above n i
-
-pub one_layer : (gs : List GraphInst) (n : ℕ) → AreLayers gs (replicate n 0)
-one_layer gs n i e h = omega (arith, none_above n e.into, none_above n i)
 
 -- ---- the order of names
 onward : (g g' g'' n n' n'' i j k : ℕ) → (g < g') ⊎ ((g ≡ g') × ((n < n') ⊎ ((n ≡ n') × (i ≤ j)))) → (g' < g'') ⊎ ((g' ≡ g'') × ((n' < n'') ⊎ ((n' ≡ n'') × (j ≤ k)))) → (g < g'') ⊎ ((g ≡ g'') × ((n < n'') ⊎ ((n ≡ n'') × (i ≤ k))))
@@ -89,7 +87,7 @@ module _ (gs : List GraphInst) (i : ℕ) (x : GraphInst) (here : slice_get gs i 
           subst (λ y. IsNoLater y.key i c.key j) ea (⊎_elim
           (λ less. onward (group_of x.key.kind) (group_of b.key.kind) (group_of c.key.kind) (number_of x.key.kind x.key.entry) (number_of b.key.kind b.key.entry) (number_of c.key.kind c.key.entry) i at j le (named.first j b c less r there is_c))
           (λ same. subst (λ k. IsNoLater x.key i c.key k) (sym same) (subst (λ y. IsNoLater x.key i y.key i) (same_at j c same is_c) (itself (group_of x.key.kind) (number_of x.key.kind x.key.entry) i)))
-          (less_or_is j i lt));
+          (before_or_last j i lt));
     }
 
 pub named_at : (gs : List GraphInst) (n at : ℕ) (best : Option ℕ) → best ≡ Some at → IsNamedBelow gs n best → IsNamedOf gs n at
@@ -98,5 +96,5 @@ named_at gs n at best is named = subst (IsNamedBelow gs n) is named
 pub named_all : (gs : List GraphInst) (at : ℕ) → IsNamedOf gs (length gs) at → IsNamed gs at
 named_all gs at named = record {
   reaches = named.reaches;
-  first = λ j a b r is_a is_b. named.first j a b (get_inside gs j b is_b) r is_a is_b;
+  first = λ j a b r is_a is_b. named.first j a b (slice_get_within gs j b is_b) r is_a is_b;
 }

@@ -3,25 +3,16 @@ use Rattle.std.proofs.Common.{◌≡◌, ◌≢◌, ◌∙◌, sym, ap, refl, �
 use Rattle.std.specs.Cmp.{IsTotalOrder}
 use Rattle.std.specs.Cmp.Lexicographic.{slice_cmp}
 use Rattle.std.specs.Int.{from_bool}
-use Rattle.std.specs.Ordering.{nat_cmp, bool_cmp, ordering_then, ordering_reverse, is_lt}
+use Rattle.std.specs.Ordering.{nat_cmp, ordering_then, ordering_reverse, is_lt}
 use Rattle.std.specs.declared.cmp.Ordering.{Ordering}
 use Rattle.std.proofs.lemmas.Cmp.{on_total, nat_list_cmp_total}
+use Rattle.mask_states.proofs.AllLaws.{bool_order, then_assoc, then_equal}
 use Rattle.mask_states.specs.declared.keys.EdgeKind.{EdgeKind}
 use Rattle.mask_states.specs.declared.keys.EdgeKind.TheVariants.{Local, Call, Interrupt, Return}
 use Rattle.mask_states.specs.contracts.keys.EdgeKindOrd.TheImpl as kinds
 use Rattle.nesting_bound.specs.declared.graph.Entered.{Entered}
 use Rattle.nesting_bound.specs.declared.graph.GraphInst.{GraphInst}
 use Rattle.nesting_bound.specs.Chain.{kind_numbers, entry_of, turn_of, edge_cmp, IsEdgeUpTo}
-
-then_assoc : (a b c : Ordering) → ordering_then a (ordering_then b c) ≡ ordering_then (ordering_then a b) c
-then_assoc Less b c = refl
-then_assoc Equal b c = refl
-then_assoc Greater b c = refl
-
-then_equal : (a : Ordering) → ordering_then a Equal ≡ a
-then_equal Less = refl
-then_equal Equal = refl
-then_equal Greater = refl
 
 -- lists of one length decide before what follows them
 cmp_append : (xs ys us vs : List ℕ) → length xs ≡ length ys
@@ -31,12 +22,6 @@ cmp_append [] (y ∷ ys) us vs e = absurd (omega arith)
 cmp_append (x ∷ xs) [] us vs e = absurd (omega arith)
 cmp_append (x ∷ xs) (y ∷ ys) us vs e =
     ap (ordering_then (nat_cmp x y)) (cmp_append xs ys us vs (omega arith)) ∙ then_assoc (nat_cmp x y) (slice_cmp nat_cmp xs ys) (slice_cmp nat_cmp us vs)
-
-bool_order : (a b : Bool) → bool_cmp a b ≡ nat_cmp (from_bool a) (from_bool b)
-bool_order true true = refl
-bool_order true false = refl
-bool_order false true = refl
-bool_order false false = refl
 
 kind_order : (a b : EdgeKind) → kinds.ghosts.cmp a b ≡ slice_cmp nat_cmp (kind_numbers a) (kind_numbers b)
 kind_order Local Local = refl

@@ -1,18 +1,19 @@
 -- A table of what was found: one instance more.
-use Rattle.std.proofs.Common.{◌≡◌, ◌≢◌, ◌||◌, ℕ, zero, suc, ◌+◌, ◌*◌, ◌<◌, ◌≤◌, Bool, true, false, Option, Some, None, List, [], ◌∷◌, length, get_or, set, take, max, replicate, slice_get, refl, sym, ap, ◌∙◌, subst, arith, ◌⊎◌, ⊎_elim, get_or-set_other, get_or-set_same}
+use Rattle.std.proofs.Common.{◌≡◌, ◌≢◌, ℕ, zero, suc, ◌+◌, ◌*◌, ◌<◌, ◌≤◌, true, false, Option, Some, None, List, [], ◌∷◌, length, get_or, set, take, max, replicate, slice_get, refl, sym, ap, ◌∙◌, subst, arith, ◌⊎◌, ⊎_elim, get_or-set_other, get_or-set_same}
 use Rattle.std.specs.List.{Contains}
 use Rattle.std.specs.Option.{is_some}
 use Rattle.std.proofs.lemmas.Bool.{cases_eq}
-use Rattle.std.proofs.lemmas.List.{take_more, length-set, length-replicate}
+use Rattle.std.proofs.lemmas.List.{take_more, length-set}
 use Rattle.std.proofs.lemmas.List.Sums.{sum_by-set, sum_by-cons}
 use Rattle.std.proofs.lemmas.List.Elements.{Contains-push_cases, Contains-push, Contains-append_left}
+use Rattle.basics.specs.Items.{none_within}
 use Rattle.nesting_bound.specs.declared.graph.GraphInst.{GraphInst}
 use Rattle.nesting_bound.specs.declared.graph.Place.{Place}
 use Rattle.nesting_bound.specs.declared.graph.Entered.{Entered}
 use Rattle.mask_states.specs.declared.keys.EdgeKind.TheVariants.{Local}
 use Rattle.nesting_bound.specs.declared.found.Found.{Found}
 use Rattle.nesting_bound.specs.Graph.{Enters, HasPlace, IsGraph}
-use Rattle.nesting_bound.specs.Table.{at, IsOver, raised, one_if_found, one_if_missing, count_found, count_missing, IsSmall, IsSettled, IsSound, IsStuck, IsVisit, ArePassed}
+use Rattle.nesting_bound.specs.Table.{at, IsOver, raised, one_if_found, one_if_missing, count_found, count_missing, IsSmall, IsSettled, IsSound, IsStuck, IsVisit}
 
 -- stand-ins for an element that is not there
 abbrev pub no_entry : Entered
@@ -20,9 +21,6 @@ no_entry = record { node = 0; offset = 0; kind = Local; into = 0 }
 
 abbrev pub no_place : Place
 no_place = record { node = 0; offset = 0 }
-
-pub nothing_within : {X : Type 0} {x : X} → Contains [] x → ⊥
-nothing_within h = absurd (let lt = h.1 in omega arith)
 
 pub more_within : {X : Type 0} (xs : List X) (i : ℕ) (d k : X) → i < length xs → Contains (take (i + 1) xs) k → Contains (take i xs) k ⊎ (get_or xs i d ≡ k)
 more_within xs i d k lt h = Contains-push_cases (take i xs) (get_or xs i d) k (subst (λ ys. Contains ys k) (take_more xs i d lt) h)
@@ -34,7 +32,7 @@ same_found x y o e e' = cc
 pub over_none : (offsets : List Place) (table : List (Option Found)) (g : ℕ) → ((p : Place) → Contains offsets p → p.offset ≤ g) → ((m : ℕ) → ((p : Place) → Contains offsets p → p.offset ≤ m) → g ≤ m) → IsOver [] offsets table (record { rank = 0; need = g })
 over_none offsets table g above least =
     record {
-      entered = λ e h. absurd (nothing_within h);
+      entered = λ e h. absurd (none_within h);
       above = above;
       rank_least = λ m h. omega arith;
       need_least = λ m h h'. least m h;
@@ -193,54 +191,11 @@ no_visit gs table i sound stuck =
     }
 
 -- ---- a pass over all
-pub passed_none : (gs : List GraphInst) (table : List (Option Found)) → IsSound gs table → ArePassed gs table 0 false table
-passed_none gs table sound =
-    record {
-      sound = sound;
-      fewer = λ e. absurd (let e' = e in cc);
-      kept = λ e. refl;
-      stuck = λ e j lt. absurd (omega arith);
-    }
-
-pub passed_more : (gs : List GraphInst) (old table new : List (Option Found)) (i : ℕ) (grew grown all : Bool) → all ≡ (grew || grown) → ArePassed gs old i grew table → IsVisit gs table i grown new → ArePassed gs old (i + 1) all new
-passed_more gs old table new i true grown all e passed visit =
-    let all_true : all ≡ true = e in
-    record {
-      sound = visit.sound;
-      fewer = λ _. fewer grown visit.kept visit.fewer;
-      kept = λ stays. absurd (let e' = all_true in cc);
-      stuck = λ stays. absurd (let e' = all_true in cc);
-    }
-  where
-    fewer : (b : Bool) → (b ≡ false → new ≡ table) → (b ≡ true → count_missing new < count_missing table) → count_missing new < count_missing old
-    fewer false kept less = subst (λ t. count_missing t < count_missing old) (sym (kept refl)) (passed.fewer refl)
-    fewer true kept less = omega (arith, less refl, passed.fewer refl)
-passed_more gs old table new i false grown all e passed visit =
-    let same_old : table ≡ old = passed.kept refl in
-    record {
-      sound = visit.sound;
-      fewer = λ grows. subst (λ t. count_missing new < count_missing t) same_old (visit.fewer (sym e ∙ grows));
-      kept = λ stays. visit.kept (sym e ∙ stays) ∙ same_old;
-      stuck = λ stays j lt none.
-          let same_new = visit.kept (sym e ∙ stays) in
-          ⊎_elim (λ before. subst (λ t. IsStuck gs t j) (sym same_new) (passed.stuck refl j before (sym (ap (λ t. at t j) same_new) ∙ none))) (λ is. subst (IsStuck gs new) (sym is) (visit.stuck (sym e ∙ stays) (sym (ap (at new) is) ∙ none))) (less_or_is j i lt);
-    }
-  where
-    less_or_is : (j i : ℕ) → j < i + 1 → (j < i) ⊎ (j ≡ i)
-    less_or_is j i lt = grind arith
 
 pub none_found : (n i : ℕ) → at (replicate n None) i ≡ None
 none_found zero i = refl
 none_found (suc n) zero = refl
 none_found (suc n) (suc i) = none_found n i
-
-pub sound_none : (gs : List GraphInst) (n : ℕ) → n ≡ length gs → IsSound gs (replicate n None)
-sound_none gs n e =
-    record {
-      same = length-replicate n None ∙ e;
-      settled = λ i x is. absurd (let e' = none_found n i in cc);
-      small = λ i x is. absurd (let e' = none_found n i in cc);
-    }
 
 pub none_here : (o : Option Found) → is_some o ≡ false → o ≡ None
 none_here None e = refl

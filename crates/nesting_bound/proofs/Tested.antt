@@ -1,22 +1,15 @@
 -- Tests over all places and edges of a graph.
-use Rattle.std.proofs.Common.{◌≡◌, ℕ, ◌+◌, ◌<◌, ◌≤◌, Bool, true, false, Some, List, [], ◌∷◌, length, get_or, take, refl, sym, ap, ◌∙◌, subst, arith, slice_get, ◌⊎◌, ⊎_elim}
+use Rattle.std.proofs.Common.{◌≡◌, ℕ, ◌+◌, ◌<◌, ◌≤◌, Bool, true, false, Some, List, [], ◌∷◌, length, refl, sym, ap, ◌∙◌, subst, arith, slice_get, ⊎_elim}
 use Rattle.std.specs.List.{Contains}
 use Rattle.std.specs.Prelude.{◌==◌, not}
 use Rattle.std.proofs.lemmas.Bool.Decides.{nat_tests}
-use Rattle.std.proofs.lemmas.List.{take_all}
+use Rattle.basics.specs.Numbers.{before_or_last}
+use Rattle.std.proofs.lemmas.Option.{slice_get_within}
 use Rattle.nesting_bound.specs.declared.graph.Entered.{Entered}
 use Rattle.nesting_bound.specs.declared.graph.GraphInst.{GraphInst}
 use Rattle.nesting_bound.specs.declared.graph.Place.{Place}
 use Rattle.nesting_bound.specs.Chain.{HasSome, HavePlaces}
 use Rattle.nesting_bound.specs.Graph.{Enters, HasPlace, IsGraph}
-use Rattle.nesting_bound.proofs.Table.{more_within}
-use Rattle.nesting_bound.proofs.Least.{get_inside}
-
-pub all_more : {X : Type 0} (P : X → Type 0) (xs : List X) (i : ℕ) (d : X) → i < length xs → ((x : X) → Contains (take i xs) x → P x) → P (get_or xs i d) → (x : X) → Contains (take (i + 1) xs) x → P x
-all_more P xs i d lt all one x h = ⊎_elim (all x) (λ same. subst P same one) (more_within xs i d x lt h)
-
-pub all_taken : {X : Type 0} (P : X → Type 0) (xs : List X) (i : ℕ) → length xs ≤ i → ((x : X) → Contains (take i xs) x → P x) → (x : X) → Contains xs x → P x
-all_taken P xs i le all x h = all x (subst (λ ys. Contains ys x) (sym (take_all i xs le)) h)
 
 -- ---- one instance
 pub some_place : (gs : List GraphInst) (i : ℕ) (here : GraphInst) (ps : List Place) → slice_get gs i ≡ Some here → ps ≡ here.offsets → (0 < length ps) → HasSome gs i
@@ -35,12 +28,6 @@ pub record AreComposable (gs : List GraphInst) (i : ℕ) : Type 0 where
   pub places : (k : ℕ) (p : Place) → k < i → HasPlace gs k p → p.offset ≤ 2048
   pub edges : (k : ℕ) (e : Entered) → k < i → Enters gs k e → (e.offset ≤ 2048) × (e.into < length gs)
 
-pub composable_none : (gs : List GraphInst) → AreComposable gs 0
-composable_none gs = record { places = λ k p lt. absurd (omega arith); edges = λ k e lt. absurd (omega arith) }
-
-pub less_or_is : (k i : ℕ) → k < i + 1 → (k < i) ⊎ (k ≡ i)
-less_or_is k i lt = grind arith
-
 module _ (gs : List GraphInst) (i : ℕ) (here : GraphInst) (is : slice_get gs i ≡ Some here) where
   place_of : (k : ℕ) (p : Place) → k ≡ i → HasPlace gs k p → Contains here.offsets p
   place_of k p same h = let inst : h.inst ≡ here = let a = subst (λ m. slice_get gs m ≡ Some h.inst) same h.is in cc in subst (λ x. Contains x.offsets p) inst h.has
@@ -50,8 +37,8 @@ module _ (gs : List GraphInst) (i : ℕ) (here : GraphInst) (is : slice_get gs i
 
   pub composable_more : (ps : List Place) (es : List Entered) → ps ≡ here.offsets → es ≡ here.entered → ((p : Place) → Contains ps p → p.offset ≤ 2048) → ((e : Entered) → Contains es e → (e.offset ≤ 2048) × (e.into < length gs)) → AreComposable gs i → AreComposable gs (i + 1)
   composable_more ps es same_ps same_es low inside before = record {
-    places = λ k p lt h. ⊎_elim (λ less. before.places k p less h) (λ same. low p (subst (λ xs. Contains xs p) (sym same_ps) (place_of k p same h))) (less_or_is k i lt);
-    edges = λ k e lt h. ⊎_elim (λ less. before.edges k e less h) (λ same. inside e (subst (λ xs. Contains xs e) (sym same_es) (edge_of k e same h))) (less_or_is k i lt);
+    places = λ k p lt h. ⊎_elim (λ less. before.places k p less h) (λ same. low p (subst (λ xs. Contains xs p) (sym same_ps) (place_of k p same h))) (before_or_last k i lt);
+    edges = λ k e lt h. ⊎_elim (λ less. before.edges k e less h) (λ same. inside e (subst (λ xs. Contains xs e) (sym same_es) (edge_of k e same h))) (before_or_last k i lt);
   }
 
   pub not_low : (ps : List Place) → ps ≡ here.offsets → (p : Place) → Contains ps p → 2048 < p.offset → IsGraph gs → ⊥
@@ -65,7 +52,7 @@ module _ (gs : List GraphInst) (i : ℕ) (here : GraphInst) (is : slice_get gs i
       never (graph.places i e en, graph.within i e en)
 
   pub places_more : (es : List Entered) → es ≡ here.entered → ((e : Entered) → Contains es e → HasSome gs e.into) → ((k : ℕ) (e : Entered) → k < i → Enters gs k e → HasSome gs e.into) → (k : ℕ) (e : Entered) → k < i + 1 → Enters gs k e → HasSome gs e.into
-  places_more es same all before k e lt h = ⊎_elim (λ less. before k e less h) (λ at. all e (subst (λ xs. Contains xs e) (sym same) (edge_of k e at h))) (less_or_is k i lt)
+  places_more es same all before k e lt h = ⊎_elim (λ less. before k e less h) (λ at. all e (subst (λ xs. Contains xs e) (sym same) (edge_of k e at h))) (before_or_last k i lt)
 
   pub not_to_places : (es : List Entered) → es ≡ here.entered → (e : Entered) → Contains es e → (HasSome gs e.into → ⊥) → HavePlaces gs → ⊥
   not_to_places es same e h never places = never (places.entered i e (record { inst = here; is = is; has = subst (λ xs. Contains xs e) same h }))
@@ -80,10 +67,10 @@ composable_upto gs i' some few le all = record {
 }
   where
     inside : (k : ℕ) (x : GraphInst) → slice_get gs k ≡ Some x → k < i'
-    inside k x is = omega (arith, le, get_inside gs k x is)
+    inside k x is = omega (arith, le, slice_get_within gs k x is)
 
 pub places_upto : (gs : List GraphInst) (i : ℕ) → HasSome gs 0 → length gs ≤ i → ((k : ℕ) (e : Entered) → k < i → Enters gs k e → HasSome gs e.into) → HavePlaces gs
-places_upto gs i root le all = record { root = root; entered = λ k e h. all k e (omega (arith, le, get_inside gs k h.inst h.is)) h }
+places_upto gs i root le all = record { root = root; entered = λ k e h. all k e (omega (arith, le, slice_get_within gs k h.inst h.is)) h }
 
 pub not_empty : (n : ℕ) (b : Bool) → b ≡ (n == 0) → not b ≡ true → 0 < n
 not_empty n b e h = grind (arith, nat_tests)

@@ -1,2 +1,2 @@
 -- Crates above cite this crate's lemmas from here.
-pub use Rattle.reports.proofs.Lines.{more_text, line_and_text, numbers_next}
+pub use Rattle.reports.proofs.Lines.{line_and_text, numbers_next}

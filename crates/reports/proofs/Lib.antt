@@ -1,4 +1,4 @@
 pub mod Lines
 mod Plain
-mod Same
+mod SameReports
 pub mod AllLaws

@@ -4,6 +4,8 @@ use Rattle.std.specs.declared.cmp.Ordering.TheVariants.{Less, Equal, Greater}
 use Rattle.std.specs.Ordering.{is_eq}
 use Rattle.std.specs.FinMap.{get, insert, entries, get-entries, entries-insert, same_map}
 use Rattle.std.specs.FinMap.Entries.{find, put, by_order}
+use Rattle.basics.specs.Items.{none_in, first_in, further_in as there}
+use Rattle.std.proofs.lemmas.Option.{same_Some}
 use Rattle.avr_model.specs.declared.assumption.Entry.{Entry}
 use Rattle.abs_state.specs.declared.state.AbsState.{AbsState}
 use Rattle.abs_state.specs.Order.{IsStateWithin, IsLeastAbove, state_join}
@@ -17,7 +19,7 @@ use Rattle.local_rules.specs.declared.local.Node.{Node}
 use Rattle.local_rules.specs.Cover.{IsNode}
 use Rattle.local_laws.specs.Laws.{AreNodes}
 use Rattle.local_rules.specs.Local.{place_by, placed, joined_onto}
-use Rattle.local_laws.proofs.AllLaws.{joins_are_least, none_in, here, there, each_of}
+use Rattle.local_laws.proofs.AllLaws.{joins_are_least, each_of}
 use Rattle.edge_rules.specs.declared.edge.Edge.{Edge}
 use Rattle.edge_rules.specs.Edges.{IsEdge, target}
 use Rattle.edge_rules.specs.Families.{IsCovered}
@@ -29,7 +31,7 @@ use Rattle.certificate.specs.Claims.{cells_of}
 use Rattle.round_rules.specs.Rounds.{IsNext}
 use Rattle.round_laws.specs.Steps.{joined_with, raised, raised_all, IsRoundOf, AreJoined, weight_of, weight}
 use Rattle.round_laws.specs.Laws.{RoundsAreJoins}
-use Rattle.round_laws.proofs.Keys.{node_exact, at_keys, get_same, get_other, some_same}
+use Rattle.round_laws.proofs.Keys.{node_exact, at_keys, get_same, get_other}
 use Rattle.round_laws.proofs.Nodes.{has_member, member_has}
 use Rattle.round_laws.proofs.Least.{lands_up, formed_nodes}
 
@@ -43,7 +45,7 @@ join_node k s t a b =
     let j : Node = record { key = k; state = state_join s t } in
     let are : AreNodes (m ∷ n ∷ []) = each_of (λ x. IsNode x.key x.state) m (n ∷ []) a (each_of (λ x. IsNode x.key x.state) n [] b (λ x i. absurd (none_in x i))) in
     let is : joined_onto [] (m ∷ n ∷ []) ≡ j ∷ [] = ap (λ o. place_by o n m [] (placed n [])) ((keys_are_ordered.equal_nodes k k).1 refl) in
-    joins_are_least.nodes (m ∷ n ∷ []) are j (subst (λ (l : List Node). Contains l j) (sym is) (here j []))
+    joins_are_least.nodes (m ∷ n ∷ []) are j (subst (λ (l : List Node). Contains l j) (sym is) (first_in j []))
 
 join_least : (k : NodeKey) (s t : AbsState) → IsNode k s → IsNode k t → IsLeastAbove s t (state_join s t)
 join_least k s t a b = states_are_ordered.join s t a.formed.count_registers b.formed.count_registers (a.formed.count_slots ∙ sym b.formed.count_slots)
@@ -69,7 +71,7 @@ module _ (f : Family) (n : Node) (formed : AreFormed f) (node : IsNode n.key n.s
       let j = join_least n.key t n.state at node in
       record {
         good = join_node n.key t n.state at node;
-        old = λ s is. subst (λ x. IsStateWithin x (state_join t n.state)) (some_same t s (sym e ∙ is)) j.first;
+        old = λ s is. subst (λ x. IsStateWithin x (state_join t n.state)) (same_Some t s (sym e ∙ is)) j.first;
         new = j.second;
         least = λ u olds new. j.least u (olds t e) new;
       }
@@ -83,7 +85,7 @@ module _ (f : Family) (n : Node) (formed : AreFormed f) (node : IsNode n.key n.s
   raised_formed : AreFormed (raised f n)
   raised_formed m has =
       at_keys (λ q. (s : AbsState) → get (raised f n) q ≡ Some s → IsNode q s) n.key m.key
-      (λ s e. subst (IsNode n.key) (some_same v s (sym (get_same f n.key v) ∙ e)) is_put.good)
+      (λ s e. subst (IsNode n.key) (same_Some v s (sym (get_same f n.key v) ∙ e)) is_put.good)
       (λ ne s e. formed (record { key = m.key; state = s }) (sym (get_other f n.key v m.key ne) ∙ e)) m.state has
 
   raised_above : Below f (raised f n)
@@ -99,9 +101,9 @@ module _ (f : Family) (n : Node) (formed : AreFormed f) (node : IsNode n.key n.s
   raised_least h up lands m has =
       at_keys (λ q. (s : AbsState) → get (raised f n) q ≡ Some s → Lands h (record { key = q; state = s })) n.key m.key
       (λ s e.
-      let is = some_same v s (sym (get_same f n.key v) ∙ e) in
+      let is = same_Some v s (sym (get_same f n.key v) ∙ e) in
       let over : (t : AbsState) → get f n.key ≡ Some t → IsStateWithin t lands.at = λ t there.
-      let l = up (with_state n t) there in subst (IsStateWithin t) (some_same l.at lands.at (sym l.is ∙ lands.is)) l.above in
+      let l = up (with_state n t) there in subst (IsStateWithin t) (same_Some l.at lands.at (sym l.is ∙ lands.is)) l.above in
       record { at = lands.at; is = lands.is; above = subst (λ x. IsStateWithin x lands.at) is (is_put.least lands.at over lands.above) })
       (λ ne s e. up (record { key = m.key; state = s }) (sym (get_other f n.key v m.key ne) ∙ e)) m.state has
 
@@ -118,13 +120,13 @@ all_joined [] f formed nodes = record {
   least = λ h up lands. up;
 }
 all_joined (n ∷ ns) f formed nodes =
-    let node = nodes n (here n ns) in
+    let node = nodes n (first_in n ns) in
     let rest = all_joined ns (raised f n) (raised_formed f n formed node) (λ to i. nodes to (there n to ns i)) in
     record {
       formed = rest.formed;
       above = λ m has. lands_up (raised f n) (raised_all (raised f n) ns) m rest.above (raised_above f n formed node m has);
       lands = each_of (Lands (raised_all (raised f n) ns)) n ns (lands_up (raised f n) (raised_all (raised f n) ns) n rest.above (raised_lands f n formed node)) rest.lands;
-      least = λ h up lands. rest.least h (raised_least f n formed node h up (lands n (here n ns))) (λ to i. lands to (there n to ns i));
+      least = λ h up lands. rest.least h (raised_least f n formed node h up (lands n (first_in n ns))) (λ to i. lands to (there n to ns i));
     }
 
 covered_up : (g : Family) (ns : List Node) (to : Node) → ((x : Node) → Contains ns x → Lands g x) → IsCovered ns to → Lands g to
@@ -145,10 +147,10 @@ next_is words A f ns formed round =
 
 -- ---- how far up
 
-found_here : (k : NodeKey) (e : NodeKey × AbsState) (es : List (NodeKey × AbsState)) → node_cmp k e.0 ≡ Equal → find node_cmp k (e ∷ es) ≡ Some e.1
+pub found_here : (k : NodeKey) (e : NodeKey × AbsState) (es : List (NodeKey × AbsState)) → node_cmp k e.0 ≡ Equal → find node_cmp k (e ∷ es) ≡ Some e.1
 found_here k e es p = ap (λ r. cond (is_eq r) (Some e.1) (find node_cmp k es)) p
 
-found_later : (k : NodeKey) (e : NodeKey × AbsState) (es : List (NodeKey × AbsState)) → node_cmp k e.0 ≡ Greater → find node_cmp k (e ∷ es) ≡ find node_cmp k es
+pub found_later : (k : NodeKey) (e : NodeKey × AbsState) (es : List (NodeKey × AbsState)) → node_cmp k e.0 ≡ Greater → find node_cmp k (e ∷ es) ≡ find node_cmp k es
 found_later k e es p = ap (λ r. cond (is_eq r) (Some e.1) (find node_cmp k es)) p
 
 weight_more : (k : NodeKey) (v : AbsState) (es : List (NodeKey × AbsState)) → ((u : AbsState) → find node_cmp k es ≡ Some u → state_rank u < state_rank v)
@@ -165,7 +167,7 @@ insert_more : (f : Family) (k : NodeKey) (v : AbsState) → ((u : AbsState) → 
 insert_more f k v up =
     subst (λ es. weight f < weight_of es) (sym (entries-insert node_total f k v)) (weight_more k v (entries f) (λ u is. up u (get-entries f k ∙ is)))
 
-insert_again : (f : Family) (k : NodeKey) (v : AbsState) → get f k ≡ Some v → insert f k v ≡ f
+pub insert_again : (f : Family) (k : NodeKey) (v : AbsState) → get f k ≡ Some v → insert f k v ≡ f
 insert_again f k v is =
     same_map node_total node_exact (insert f k v) f
     (λ q. at_keys (λ q. get (insert f k v) q ≡ get f q) k q (get_same f k v ∙ sym is) (λ ne. get_other f k v q ne))
@@ -179,14 +181,14 @@ raised_rises f n formed node = by (get f n.key) refl
         let at = formed (with_state n t) e in
         let j = join_node n.key t n.state at node in
         ⊎_elim (λ same. inl (ap (insert f n.key) (sym same) ∙ insert_again f n.key t e))
-        (λ lt. inr (insert_more f n.key (state_join t n.state) (λ u is. subst (λ x. state_rank x < state_rank (state_join t n.state)) (some_same t u (sym e ∙ is)) lt)))
+        (λ lt. inr (insert_more f n.key (state_join t n.state) (λ u is. subst (λ x. state_rank x < state_rank (state_join t n.state)) (same_Some t u (sym e ∙ is)) lt)))
         (states_rise.rises t (state_join t n.state) (offset_of n.key.sp) at.formed j.formed (join_least n.key t n.state at node).first)
 
 weight_high : (es : List (NodeKey × AbsState)) → ((n : Node) → Contains (map node_of es) n → IsNode n.key n.state) → weight_of es ≤ 8459 * cells_of (map (λ (x : NodeKey × AbsState). x.0) es)
 unfolding cells_of
 weight_high [] nodes = omega arith
 weight_high (e ∷ es) nodes =
-    let node = nodes (node_of e) (here (node_of e) (map node_of es)) in
+    let node = nodes (node_of e) (first_in (node_of e) (map node_of es)) in
     omega (arith, states_rise.high e.1 (offset_of e.0.sp) node.formed, weight_high es (λ n i. nodes n (there (node_of e) n (map node_of es) i)))
 
 pub rounds_are_joins : RoundsAreJoins

@@ -37,6 +37,3 @@ get_same f k v = got f k v k ∙ ap (λ b. cond b (Some v) (get f k)) (same_is k
 
 pub get_other : (f : Family) (k : NodeKey) (v : AbsState) (q : NodeKey) → q ≢ k → get (insert f k v) q ≡ get f q
 get_other f k v q ne = got f k v q ∙ ap (λ b. cond b (Some v) (get f q)) (other_is q k ne)
-
-pub some_same : (a b : AbsState) → Some a ≡ Some b → a ≡ b
-some_same a b e = cc

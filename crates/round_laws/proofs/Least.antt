@@ -1,6 +1,7 @@
 -- The rounds come to one family at each number, and it lies below each valid one.
 use Rattle.std.proofs.Common.{◌≡◌, sym, ap, ◌∙◌, subst, ℕ, zero, suc, ◌+◌, ◌<◌, ◌≤◌, List, Some, Contains, arith}
 use Rattle.std.specs.FinMap.{get, empty, get-empty}
+use Rattle.std.proofs.lemmas.Option.{same_Some}
 use Rattle.avr_model.specs.declared.assumption.Entry.{Entry}
 use Rattle.avr_model.specs.Devices.{device_of}
 use Rattle.abs_state.specs.declared.state.AbsState.{AbsState}
@@ -24,7 +25,7 @@ use Rattle.edge_laws.proofs.AllLaws.{edges_lead_to_nodes, edges_grow}
 use Rattle.round_rules.specs.Families.{Family, nodes_of, Has, Lands, Below, AreFormed, HasNoFault, LandIn}
 use Rattle.round_rules.specs.Rounds.{Reaches, once, more, AreRanks, AreNeeds, first, IsNext, Comes}
 use Rattle.round_laws.specs.Laws.{IsValidFamily}
-use Rattle.round_laws.proofs.Keys.{at_keys, get_same, get_other, some_same}
+use Rattle.round_laws.proofs.Keys.{at_keys, get_same, get_other}
 use Rattle.round_laws.proofs.Nodes.{has_member, member_has, families_are_their_nodes}
 
 -- ---- families
@@ -47,7 +48,7 @@ formed_nodes f formed n i = formed n (has_member f n i)
 pub first_has : (P : NodeKey → AbsState → Type 0) → P (entry_key root_inst) root → (n : Node) → Has first n → P n.key n.state
 first_has P h n =
     at_keys (λ q. (s : AbsState) → get first q ≡ Some s → P q s) (entry_key root_inst) n.key
-    (λ s e. subst (P (entry_key root_inst)) (some_same root s (sym (get_same empty (entry_key root_inst) root) ∙ e)) h)
+    (λ s e. subst (P (entry_key root_inst)) (same_Some root s (sym (get_same empty (entry_key root_inst) root) ∙ e)) h)
     (λ ne s e. absurd (let never = sym (get-empty node_cmp n.key) ∙ sym (get_other empty (entry_key root_inst) root n.key ne) ∙ e in cc)) n.state
 
 module _ (words : List ℕ) (A : List Entry) where

@@ -9,3 +9,7 @@ pub mod Stands
 pub mod Ends
 pub mod Joins
 pub mod AllLaws
+pub mod Reached
+pub mod ReachLaws
+pub mod Told
+pub mod GraphLaws

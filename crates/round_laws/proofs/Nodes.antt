@@ -1,12 +1,14 @@
 -- The nodes of a family are what it has at their keys.
 use Rattle.std.proofs.Common.{◌≡◌, refl, sym, ap, ◌∙◌, subst, Bool, true, false, cond, ⊎_elim, List, [], ◌∷◌, map, Option, Some, None, Contains}
 use Rattle.std.specs.List.{AllByRecursion}
-use Rattle.std.specs.Prelude.{T, ◌&&◌}
-use Rattle.std.specs.declared.cmp.Ordering.{Ordering}
-use Rattle.std.specs.declared.cmp.Ordering.TheVariants.{Less, Equal, Greater}
-use Rattle.std.specs.Ordering.{eq_by_cmp, is_eq, is_lt}
+use Rattle.std.specs.Prelude.{T}
+use Rattle.std.specs.declared.cmp.Ordering.TheVariants.{Less}
+use Rattle.std.specs.Ordering.{eq_by_cmp, is_eq}
 use Rattle.std.specs.FinMap.{get, entries, entries_sorted, get-entries, same_map}
 use Rattle.std.specs.FinMap.Entries.{find, is_sorted, below_all}
+use Rattle.basics.specs.Booleans.{split_tests as both, less_if_so}
+use Rattle.basics.specs.Items.{none_in, first_in, further_in, first_or_further}
+use Rattle.std.proofs.lemmas.Option.{same_Some}
 use Rattle.abs_state.specs.declared.state.AbsState.{AbsState}
 use Rattle.abs_state.proofs.AllLaws.{states_are_ordered}
 use Rattle.mask_states.specs.declared.keys.NodeKey.{NodeKey}
@@ -14,11 +16,11 @@ use Rattle.mask_states.specs.Order.{node_cmp}
 use Rattle.mask_states.specs.Total.{node_total, node_equal}
 use Rattle.mask_states.proofs.AllLaws.{keys_are_ordered}
 use Rattle.local_rules.specs.declared.local.Node.{Node}
-use Rattle.local_laws.proofs.AllLaws.{none_in, here, there, first_or, each_of}
+use Rattle.local_laws.proofs.AllLaws.{each_of}
 use Rattle.round_rules.specs.Families.{Family, node_of, nodes_of, Has, Below, AreFormed}
 use Rattle.round_laws.specs.Steps.{AreApart}
 use Rattle.round_laws.specs.Laws.{FamiliesAreTheirNodes}
-use Rattle.round_laws.proofs.Keys.{node_exact, some_same}
+use Rattle.round_laws.proofs.Keys.{node_exact}
 
 pub tied : (k : NodeKey) → eq_by_cmp node_cmp k k ≡ true
 tied k = sym (node_equal k k) ∙ (keys_are_ordered.same_nodes k k).1 refl
@@ -34,28 +36,19 @@ found_in k s (x ∷ xs) e = by (found_in k s xs) (eq_by_cmp node_cmp k x.0) refl
         → cond b (Some x.1) (find node_cmp k xs) ≡ Some s → Contains (node_of x ∷ map node_of xs) (record { key = k; state = s })
     by rest true t e =
         let key = key_is k x.0 t in
-        let state = some_same x.1 s e in
+        let state = same_Some x.1 s e in
         let same : node_of x ≡ record { key = k; state = s } = λ i. record { key = sym key i; state = state i } in
-        subst (Contains (node_of x ∷ map node_of xs)) same (here (node_of x) (map node_of xs))
-    by rest false t e = there (node_of x) (record { key = k; state = s }) (map node_of xs) (rest e)
+        subst (Contains (node_of x ∷ map node_of xs)) same (first_in (node_of x) (map node_of xs))
+    by rest false t e = further_in (node_of x) (record { key = k; state = s }) (map node_of xs) (rest e)
 
 -- ---- in order
-
-both : (a b : Bool) → T (a && b) → T a × T b
-both true b p = (tt, p)
-both false b p = absurd p
-
-is_less : (r : Ordering) → T (is_lt r) → r ≡ Less
-is_less Less p = refl
-is_less Equal p = absurd p
-is_less Greater p = absurd p
 
 abbrev IsAbove : NodeKey → List (NodeKey × AbsState) → Type 0
 IsAbove x = AllByRecursion (λ e. node_cmp x e.0 ≡ Less)
 
 all_above : (x : NodeKey) (es : List (NodeKey × AbsState)) → T (below_all node_cmp x es) → IsAbove x es
 all_above x [] h = tt
-all_above x (e ∷ es) h = let p = both _ _ h in (is_less _ p.0, all_above x es p.1)
+all_above x (e ∷ es) h = let p = both _ _ h in (less_if_so _ p.0, all_above x es p.1)
 
 member_above : (x : NodeKey) (es : List (NodeKey × AbsState)) (n : Node) → IsAbove x es → Contains (map node_of es) n → node_cmp x n.key ≡ Less
 member_above x [] n a i = absurd (none_in n i)
@@ -86,7 +79,7 @@ found (e ∷ es) n sorted i =
     let later : Contains (map node_of es) n → find node_cmp n.key (e ∷ es) ≡ Some n.state = λ j.
     let rest = found es n p.1 j in
     ap (λ b. cond b (Some e.1) (find node_cmp n.key es)) (apart e.0 es n.key n.state p.0 rest) ∙ rest in
-    ⊎_elim first later (first_or (node_of e) n (map node_of es) i)
+    ⊎_elim first later (first_or_further (node_of e) n (map node_of es) i)
 
 pub sorted_parts : (e : NodeKey × AbsState) (es : List (NodeKey × AbsState)) → T (is_sorted node_cmp (e ∷ es)) → T (below_all node_cmp e.0 es) × T (is_sorted node_cmp es)
 sorted_parts e es h = both _ _ h
@@ -119,8 +112,8 @@ below_same f g a b up down = same_map node_total node_exact f g (λ q. by q (get
         let m : Node = record { key = q; state = t } in
         let l = up n e in
         let k = down m d in
-        let le = subst (Rattle.abs_state.specs.Order.IsStateWithin s) (some_same l.at t (sym l.is ∙ d)) l.above in
-        let ge = subst (Rattle.abs_state.specs.Order.IsStateWithin t) (some_same k.at s (sym k.is ∙ e)) k.above in
+        let le = subst (Rattle.abs_state.specs.Order.IsStateWithin s) (same_Some l.at t (sym l.is ∙ d)) l.above in
+        let ge = subst (Rattle.abs_state.specs.Order.IsStateWithin t) (same_Some k.at s (sym k.is ∙ e)) k.above in
         ap Some (states_are_ordered.both s t (a n e).formed.count_registers (b m d).formed.count_registers le ge)
 
 pub families_are_their_nodes : FamiliesAreTheirNodes

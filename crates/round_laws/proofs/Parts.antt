@@ -1,17 +1,13 @@
 -- Nodes without faults, by their local parts.
 use Rattle.std.proofs.Common.{◌≡◌, refl, sym, ap, ◌∙◌, subst, ℕ, List, [], ◌∷◌, Result, Ok, Err}
+use Rattle.edge_laws.proofs.AllLaws.{part_of}
 use Rattle.avr_model.specs.declared.assumption.Entry.{Entry}
 use Rattle.abs_state.specs.declared.state.AbsState.{AbsState}
 use Rattle.mask_states.specs.declared.keys.NodeKey.{NodeKey}
 use Rattle.local_rules.specs.declared.local.Local.{Local}
 use Rattle.local_rules.specs.declared.local.NodeFault.{NodeFault}
-use Rattle.local_rules.specs.Raw.{Raw}
 use Rattle.local_rules.specs.Faults.{least}
-use Rattle.local_rules.specs.Local.{raw, local, settled, joined_onto}
-
--- what a node without faults leads to
-abbrev pub part_of : Raw → Local
-part_of r = record { same = joined_onto [] r.moves; calls = r.calls; exit = r.exit }
+use Rattle.local_rules.specs.Local.{raw, local, settled}
 
 pub ok_of : (words : List ℕ) (A : List Entry) (k : NodeKey) (s : AbsState) → (raw words A k s).faults ≡ [] → local words A k s ≡ Ok (part_of (raw words A k s))
 unfolding local

@@ -1,13 +1,14 @@
 -- The family that a certificate stands for.
-use Rattle.std.proofs.Common.{◌≡◌, refl, sym, ap, ap₂, ◌∙◌, subst, ℕ, zero, suc, ◌+◌, ◌<◌, ◌≤◌, Bool, true, false, List, [], ◌∷◌, map, length, Some, None, slice_get, Contains, arith}
-use Rattle.std.specs.Prelude.{T, ◌&&◌}
+use Rattle.std.proofs.Common.{◌≡◌, refl, sym, ap, ap₂, ◌∙◌, subst, ℕ, zero, suc, ◌+◌, ◌<◌, ◌≤◌, List, [], ◌∷◌, map, length, Some, None, slice_get, Contains, arith}
+use Rattle.std.specs.Prelude.{T}
 use Rattle.std.specs.List.{AllByRecursion}
 use Rattle.std.specs.List.Sorted.{IsStrictlySortedBy}
-use Rattle.std.specs.declared.cmp.Ordering.{Ordering}
 use Rattle.std.specs.declared.cmp.Ordering.TheVariants.{Less}
 use Rattle.std.specs.Ordering.{is_lt}
 use Rattle.std.specs.FinMap.{entries, from_sorted, entries-from_sorted, len, len-entries}
 use Rattle.std.specs.FinMap.Entries.{is_sorted, below_all}
+use Rattle.std.proofs.lemmas.Option.{same_Some}
+use Rattle.basics.specs.Booleans.{join_tests, so_if_less}
 use Rattle.avr_model.specs.declared.assumption.Entry.{Entry}
 use Rattle.abs_state.specs.declared.state.AbsState.{AbsState}
 use Rattle.mask_states.specs.declared.keys.NodeKey.{NodeKey}
@@ -29,33 +30,23 @@ pair_of n = (n.key, n.state)
 abbrev keys_at : List Node → List NodeKey
 keys_at ns = map (λ (n : Node). n.key) ns
 
-same_some : {X : Type 0} (a b : X) → Some a ≡ Some b → a ≡ b
-same_some a b e = cc
-
 same_keys : (ns : List Node) (es : Seeds) → length ns ≡ length es → ((at : ℕ) (n : Node) → slice_get ns at ≡ Some n → HasKeyAt es at n.key) → keys_at ns ≡ node_keys es
 same_keys [] [] e h = refl
 same_keys [] (x ∷ es) e h = absurd (omega arith)
 same_keys (n ∷ ns) [] e h = absurd (omega arith)
 same_keys (n ∷ ns) (x ∷ es) e h =
     let first = h zero n refl in
-    let key : x.0 ≡ n.key = ap (λ (p : NodeKey × NodeForm). p.0) (same_some x (n.key, first.0) first.1) in
+    let key : x.0 ≡ n.key = ap (λ (p : NodeKey × NodeForm). p.0) (same_Some x (n.key, first.0) first.1) in
     ap₂ (λ (k : NodeKey) (l : List NodeKey). k ∷ l) (sym key) (same_keys ns es (omega (arith, e)) (λ at m is. h (suc at) m is))
-
-both : (a b : Bool) → T a → T b → T (a && b)
-both true b p q = q
-both false b p q = p
-
-less_is : (r : Ordering) → r ≡ Less → T (is_lt r)
-less_is r e = subst (λ (x : Ordering). T (is_lt x)) (sym e) tt
 
 below_of : (k : NodeKey) (ns : List Node) → AllByRecursion (λ y. node_cmp k y ≡ Less) (keys_at ns) → T (below_all node_cmp k (map pair_of ns))
 below_of k [] h = tt
-below_of k (n ∷ ns) h = both (is_lt (node_cmp k n.key)) _ (less_is (node_cmp k n.key) h.0) (below_of k ns h.1)
+below_of k (n ∷ ns) h = join_tests (is_lt (node_cmp k n.key)) _ (so_if_less (node_cmp k n.key) h.0) (below_of k ns h.1)
 
 sorted_of : (ns : List Node) → IsStrictlySortedBy node_cmp (keys_at ns) → T (is_sorted node_cmp (map pair_of ns))
 unfolding IsStrictlySortedBy
 sorted_of [] h = tt
-sorted_of (n ∷ ns) h = both (below_all node_cmp n.key (map pair_of ns)) _ (below_of n.key ns h.0) (sorted_of ns h.1)
+sorted_of (n ∷ ns) h = join_tests (below_all node_cmp n.key (map pair_of ns)) _ (below_of n.key ns h.0) (sorted_of ns h.1)
 
 nodes_back : (ns : List Node) → map node_of (map pair_of ns) ≡ ns
 nodes_back [] = refl

@@ -1,4 +1,6 @@
-//! The laws of the rounds that come to the least family.
+//! The laws of the rounds that come to the least family, of what they reach, and of the graph of a family's instances.
 #![tactic(auto)]
 
+pub mod graphs;
 pub mod laws;
+pub mod reaching;

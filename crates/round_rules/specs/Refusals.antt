@@ -8,7 +8,7 @@ use Rattle.mask_states.specs.declared.keys.Kind.TheVariants.{Vector}
 use Rattle.local_rules.specs.declared.local.Node.{Node}
 use Rattle.local_rules.specs.declared.local.NodeFault.{NodeFault}
 use Rattle.local_rules.specs.declared.local.NodeFault.TheVariants as fault
-use Rattle.local_rules.specs.Faults.{cause_of, depth_of}
+use Rattle.local_rules.specs.Faults.{cause_of, fault_offset}
 use Rattle.local_rules.specs.Local.{local}
 use Rattle.certificate.specs.declared.limit.Limit.{Limit}
 use Rattle.certificate.specs.declared.limit.Limit.TheVariants.{Nodes, Cells}
@@ -43,7 +43,7 @@ pub record FaultAt (words : List ℕ) (A : List Entry) (f : Family) (x : NodeFau
 -- by cause, then word, then offset
 abbrev pub IsNoLater : NodeFault → NodeFault → Type 0
 IsNoLater x y =
-    (cause_of x < cause_of y) ⊎ ((cause_of x ≡ cause_of y) × ((word_of x < word_of y) ⊎ ((word_of x ≡ word_of y) × (depth_of x ≤ depth_of y))))
+    (cause_of x < cause_of y) ⊎ ((cause_of x ≡ cause_of y) × ((word_of x < word_of y) ⊎ ((word_of x ≡ word_of y) × (fault_offset x ≤ fault_offset y))))
 
 -- the least fault of all nodes
 abbrev pub IsLeastFault : List ℕ → List Entry → Family → NodeFault → Type 0

@@ -1,13 +1,12 @@
 -- One text for each number.
-use Rattle.std.proofs.Common.{ℕ, ◌+◌, ◌*◌, ◌/◌, ◌%◌, ◌^◌, ◌<◌, ◌≤◌, ◌≡◌, ◌==◌, List, [], ◌∷◌, ◌++◌, length, length-append, append_assoc, append-nil, Bool, true, false, not, refl, ap, sym, ◌∙◌, arith, suc, zero, get_or, Err, Ok, Result, Option, Some, None, cond, ◌⊎◌, inl, inr, nat_lt, lit<, add-one, subst}
+use Rattle.std.proofs.Common.{ℕ, ◌+◌, ◌*◌, ◌/◌, ◌%◌, ◌^◌, ◌<◌, ◌≤◌, ◌≡◌, ◌==◌, List, [], ◌∷◌, ◌++◌, length, length-append, append_assoc, append-nil, Bool, true, false, not, refl, ap, sym, ◌∙◌, arith, suc, zero, Err, Ok, Result, Option, Some, None, inl, inr, nat_lt, lit<, add-one, subst}
 use Rattle.std.proofs.Math.Nat.{pow-suc}
 use Rattle.std.proofs.lemmas.Bool.Decides.{nat_tests}
 use Rattle.std.proofs.lemmas.Str.Parse.{IsNumeralModel, numerals_by_fold}
 use Rattle.std.proofs.lemmas.Fmt.{decimal-digits_value, digits_decimal, digits_value-decimal, decimal_nonempty, first_decimal, decimal_digit}
-use Rattle.std.proofs.lemmas.List.Elements.{recursion_from_All}
-use Rattle.std.proofs.lemmas.List.Sums.{fails_before_first}
-use Rattle.std.specs.List.{position, position_or_len, AllByRecursion, All}
+use Rattle.std.specs.List.{position, position_or_len, AllByRecursion}
 use Rattle.std.specs.Fmt.{decimal}
+use Rattle.basics.specs.Lists.{chosen, all_pass_if_none_fails}
 use Rattle.sb_base.specs.declared.digits.DigitFault.{DigitFault}
 use Rattle.sb_base.specs.declared.digits.DigitFault.TheVariants.{WrongLength, BadDigit, TooGreat}
 use Rattle.sb_base.specs.Digits.{is_dec, is_hex, digit_of, number_from, hex_answer, dec_answer, unless_bad, capped, has_extra_zero, hex_digit, hex_digits}
@@ -23,34 +22,11 @@ hex_digits_suc n k = refl
 pub hex_digits_more : (n k : ℕ) → hex_digits n (k + 1) ≡ hex_digits (n / 16) k ++ hex_digit (n % 16) ∷ []
 hex_digits_more n k = rw (add-one k) (hex_digits_suc n k)
 
--- which way a test went
-chosen : {X : Type 0} (b : Bool) (x y z : X) → cond b x y ≡ z → ((b ≡ true) × (x ≡ z)) ⊎ ((b ≡ false) × (y ≡ z))
-chosen true x y z e = inl (refl, e)
-chosen false x y z e = inr (refl, e)
-
-not_false : (b : Bool) → not b ≡ false → b ≡ true
-not_false true e = refl
-not_false false e = cc
-
-some_none : (n : ℕ) → Some n ≡ None → ⊥
-some_none n e = cc
-
-not_ok : (f : DigitFault) (n : ℕ) → ◌≡◌ {A = Result ℕ DigitFault} (Err f) (Ok n) → ⊥
+pub not_ok : (f : DigitFault) (n : ℕ) → ◌≡◌ {A = Result ℕ DigitFault} (Err f) (Ok n) → ⊥
 not_ok f n e = cc
 
-same_number : (a b : ℕ) → ◌≡◌ {A = Result ℕ DigitFault} (Ok a) (Ok b) → a ≡ b
+pub same_number : (a b : ℕ) → ◌≡◌ {A = Result ℕ DigitFault} (Ok a) (Ok b) → a ≡ b
 same_number a b e = cc
-
--- no byte is bad exactly where all pass
-fails_none : (p : ℕ → Bool) (xs : List ℕ) → length xs ≤ position_or_len (λ b. not (p b)) xs → All (λ b. p b ≡ true) xs
-fails_none p xs h = λ k d l. not_false (p (get_or xs k d)) (fails_before_first (λ b. not (p b)) xs k d (omega arith))
-
-none_fails : (p : ℕ → Bool) (xs : List ℕ) → position (λ b. not (p b)) xs ≡ None → AllByRecursion (λ b. p b ≡ true) xs
-none_fails p xs e =
-    recursion_from_All (λ b. p b ≡ true) xs (elim (chosen (nat_lt (position_or_len (λ b. not (p b)) xs) (length xs)) _ _ None e) [
-      | inl h ↦ absurd (some_none _ h.1)
-      | inr h ↦ fails_none p xs (grind (arith, nat_tests, h.0))
-    ])
 
 all_pass : (p : ℕ → Bool) (xs : List ℕ) → AllByRecursion (λ b. p b ≡ true) xs → position_or_len (λ b. not (p b)) xs ≡ length xs
 all_pass p [] h = refl
@@ -59,7 +35,7 @@ all_pass p (x ∷ xs) h = rw (h.0, all_pass p xs h.1) (omega arith)
 no_place : (p : ℕ → Bool) (xs : List ℕ) → AllByRecursion (λ b. p b ≡ true) xs → position (λ b. not (p b)) xs ≡ None
 no_place p xs h = let e = all_pass p xs h in let t : nat_lt (position_or_len (λ b. not (p b)) xs) (length xs) ≡ false = grind (arith, nat_tests, e) in rw t refl
 
-unless_bad_ok : (o : Option ℕ) (r : Result ℕ DigitFault) (n : ℕ) → unless_bad o r ≡ Ok n → (o ≡ None) × (r ≡ Ok n)
+pub unless_bad_ok : (o : Option ℕ) (r : Result ℕ DigitFault) (n : ℕ) → unless_bad o r ≡ Ok n → (o ≡ None) × (r ≡ Ok n)
 unless_bad_ok None r n e = (refl, e)
 unless_bad_ok (Some at) r n e = cc
 
@@ -118,7 +94,7 @@ spelled_from (b ∷ bs) n j k h e =
 hex_facts : (w : List ℕ) (k n : ℕ) → hex_answer w k ≡ Ok n → (length w ≡ k) × AllByRecursion (λ b. is_hex b ≡ true) w × (number_from 16 0 w ≡ n)
 hex_facts w k n e = elim (chosen (length w == k) _ _ (Ok n) e) [
   | inl h ↦ let r = unless_bad_ok (position (λ b. not (is_hex b)) w) (Ok (number_from 16 0 w)) n h.1 in
-      (grind (arith, nat_tests, h.0), none_fails is_hex w r.0, same_number (number_from 16 0 w) n r.1)
+      (grind (arith, nat_tests, h.0), all_pass_if_none_fails is_hex w r.0, same_number (number_from 16 0 w) n r.1)
   | inr h ↦ absurd (not_ok (WrongLength (length w)) n h.1)
 ]
 
@@ -171,6 +147,6 @@ dec_is_spelled w n most room e = elim (chosen (length w == 0) _ _ (Ok n) e) [
     | inr g ↦
         let r = unless_bad_ok (position (λ b. not (is_dec b)) w) (capped (number_from 10 0 w) most) n g.1 in
         let c = capped_ok (number_from 10 0 w) n most r.1 in
-        canonical w n most room h.0 g.0 (none_fails is_dec w r.0) c.0 c.1
+        canonical w n most room h.0 g.0 (all_pass_if_none_fails is_dec w r.0) c.0 c.1
   ]
 ]

@@ -26,7 +26,7 @@ pub words_none : (xs : List ℕ) → Lacks 32 xs → words_of xs ≡ xs ∷ []
 words_none xs h = slice_split_none _ xs (All-from_recursion _ xs h)
 
 -- one more byte at the front of the first line is one more at the front of the text
-joined_onto : (b : ℕ) (ls : List TextLine) → joined (onto_line b ls) ≡ b ∷ joined ls
+pub joined_onto : (b : ℕ) (ls : List TextLine) → joined (onto_line b ls) ≡ b ∷ joined ls
 joined_onto b [] = refl
 joined_onto b (l ∷ ls) = elim l.whole as (λ w. (if w then (b ∷ l.text) ++ 10 ∷ [] else b ∷ l.text) ++ joined ls ≡ b ∷ ((if w then l.text ++ 10 ∷ [] else l.text) ++ joined ls)) [ true ↦ refl | false ↦ refl ]
 

@@ -1,15 +1,13 @@
 -- Marking what is reached.
-use Rattle.std.proofs.Common.{◌≡◌, ap₂, ℕ, zero, suc, ◌+◌, ◌<◌, Bool, true, false, List, [], ◌∷◌, ◌++◌, length, get_or, set, take, drop, replicate, refl, sym, ap, ◌∙◌, subst, arith, inl, inr, ⊎_elim, get_or-set_other, get_or-set_same, length-append, ◌⊎◌}
+use Rattle.std.proofs.Common.{◌≡◌, ℕ, zero, suc, ◌+◌, ◌<◌, Bool, true, false, List, [], ◌∷◌, ◌++◌, length, get_or, set, take, drop, replicate, refl, sym, ap, ◌∙◌, subst, arith, inl, inr, ⊎_elim, get_or-set_other, get_or-set_same, length-append, ◌⊎◌}
 use Rattle.std.specs.List.{Contains}
 use Rattle.std.proofs.lemmas.Bool.{cases_eq}
 use Rattle.std.proofs.lemmas.List.{take_more, length-set}
 use Rattle.std.proofs.lemmas.List.Sums.{sum_by-set}
 use Rattle.std.proofs.lemmas.List.Elements.{Contains-push_cases, Contains-push, Contains-append_left}
+use Rattle.basics.specs.Items.{none_in}
 use Rattle.slot_reach.specs.declared.reach.Seed.{Seed}
 use Rattle.slot_reach.specs.Reach.{links_of, offset_at, is_on, Reaches, begins, along, AreReached, one_if_new, IsOne, IsSeed, IsNext, IsSpread, IsSpreading}
-
-pub nothing_in : {X : Type 0} (x : X) → Contains [] x → ⊥
-nothing_in x h = omega (arith, h.1)
 
 -- ---- one node
 
@@ -133,7 +131,7 @@ module _ (links : List (List ℕ)) (offsets : List ℕ) (seeds : List Seed) (slo
       record {
         same = s.same ∙ size;
         reached = λ j h. ⊎_elim (λ m. absurd (let e = none j in cc)) (λ p. begins j p.0) (s.only j h);
-        stacked = λ j h. ⊎_elim (λ h. absurd (nothing_in j h)) (λ m. m) (s.stack_only j h);
+        stacked = λ j h. ⊎_elim (λ h. absurd (none_in j h)) (λ m. m) (s.stack_only j h);
         first = λ j h. s.all j h;
         rest = λ j t h l lt. ⊎_elim (λ m. absurd (let e = none j in cc)) (λ p. inl p.1) (s.only j h);
       }
@@ -164,7 +162,7 @@ module _ (links : List (List ℕ)) (offsets : List ℕ) (seeds : List Seed) (slo
 
   all_on : (seen : List Bool) → IsSpreading links offsets seeds slot seen [] → (j : ℕ) → Reaches links offsets seeds slot j → is_on seen j ≡ true
   all_on seen m _ (begins j h) = m.first j h
-  all_on seen m _ (along k t from l lt) = ⊎_elim (λ h. absurd (nothing_in k h)) (λ o. o) (m.rest k t (all_on seen m k from) l lt)
+  all_on seen m _ (along k t from l lt) = ⊎_elim (λ h. absurd (none_in k h)) (λ o. o) (m.rest k t (all_on seen m k from) l lt)
 
   pub are_reached : (seen : List Bool) → IsSpreading links offsets seeds slot seen [] → AreReached links offsets seeds slot seen
   are_reached seen m = record { count = m.same; exact = λ k. (m.reached k, all_on seen m k) }
@@ -189,16 +187,6 @@ none_on (suc n) zero = refl
 none_on (suc n) (suc j) = none_on n j
 
 -- ---- by a test
-
-pub seed_marked : (s : Seed) (slot : ℕ) (a b : List Bool) (sa sb : List ℕ) → s.slot ≡ slot → IsSpread (IsOne s.node) a sa b sb → IsSpread (IsSeed s slot) a sa b sb
-seed_marked s slot a b sa sb same =
-    spread_as (IsOne s.node) (IsSeed s slot) a b sa sb (λ j e. seed_is s slot j same e) (λ j e. sym (ap (λ (x : Seed). x.node) e))
-  where
-    seed_is : (s : Seed) (slot j : ℕ) → s.slot ≡ slot → j ≡ s.node → s ≡ record { node = j; slot = slot }
-    seed_is s slot j same e = ap₂ (λ x y. record { node = x; slot = y }) (sym e) same
-
-pub seed_passed : (s : Seed) (slot : ℕ) (seen : List Bool) (stack : List ℕ) → (s.slot ≡ slot → ⊥) → IsSpread (IsSeed s slot) seen stack seen stack
-seed_passed s slot seen stack other = spread_none (IsSeed s slot) seen stack (λ j e. other (ap (λ (x : Seed). x.slot) e))
 
 pub next_marked : (offsets : List ℕ) (slot node : ℕ) (a b : List Bool) (sa sb : List ℕ) → slot < offset_at offsets node → IsSpread (IsOne node) a sa b sb
     → IsSpread (IsNext offsets slot node) a sa b sb

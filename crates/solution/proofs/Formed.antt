@@ -1,8 +1,11 @@
 -- The forms of the nodes of a family, by how edges lead to them.
-use Rattle.std.proofs.Common.{◌≡◌, refl, sym, ap, ap₂, ◌∙◌, subst, ℕ, zero, suc, ◌+◌, Bool, true, false, cond, nat_lt, List, [], ◌∷◌, ◌++◌, length, Some, slice_get, replicate, length-append, Result, Ok, Err, IfOk, Vec, Global, arith}
+use Rattle.std.proofs.Common.{◌≡◌, refl, sym, ap, ap₂, ◌∙◌, subst, ℕ, zero, suc, ◌+◌, Bool, true, false, cond, nat_lt, List, [], ◌∷◌, ◌++◌, length, Some, slice_get, replicate, length-append, Result, IfOk, Vec, Global, arith}
 use Rattle.std.proofs.lemmas.Bool.Decides.{nat_tests}
 use Rattle.std.proofs.lemmas.List.{get_or-replicate, length-replicate}
 use Rattle.std.proofs.lemmas.Option.{none-some, same_Some, slice_get_within}
+use Rattle.std.proofs.lemmas.Result.{IfOk-weaker}
+use Rattle.basics.specs.Items.{get_contained}
+use Rattle.basics.specs.Lists.{one_at}
 use Rattle.avr_model.specs.declared.assumption.Entry.{Entry}
 use Rattle.mask_states.specs.declared.keys.NodeKey.{NodeKey}
 use Rattle.local_rules.specs.declared.local.Node.{Node}
@@ -13,7 +16,7 @@ use Rattle.edge_rules.specs.Expansion.{Seeds}
 use Rattle.edge_rules.specs.Views.{AreShown}
 use Rattle.round_rules.specs.Sparse.{IsOnlyFrom}
 use Rattle.solution_laws.specs.Parts.{IsForm, AreForms}
-use Rattle.solution_laws.proofs.AllLaws.{lone_edges_tell, read, same_at}
+use Rattle.solution_laws.proofs.AllLaws.{lone_edges_tell}
 use Rattle.solution.specs.declared.leading.Lead.{Lead}
 use Rattle.solution.specs.declared.leading.Lead.TheVariants.{Nothing, Only, More}
 use Rattle.solution.specs.Leads.{lead_at, LeadsTo, IsLead, AreLeads, form_by, forms_from}
@@ -38,8 +41,8 @@ module _ (words : List ℕ) (A : List Entry) (nodes : List Node) (shown : AreSho
         leads = l.leads;
         moves = local;
         only = λ other e i is leads.
-            let p = h.1 i.0 e (record { node = other; below = i.1; at = read nodes other i; is = is; leads = leads }) in
-            let node = same_at nodes m other l.node (subst (λ (j : ℕ). slice_get nodes j ≡ Some other) p.0 (read nodes other i)) l.at in
+            let p = h.1 i.0 e (record { node = other; below = i.1; at = get_contained nodes other i; is = is; leads = leads }) in
+            let node = one_at nodes m other l.node (subst (λ (j : ℕ). slice_get nodes j ≡ Some other) p.0 (get_contained nodes other i)) l.at in
             (node, lone_edges_tell.one words A nodes l.node e h.0.0 (subst (λ (x : Node). IsEdge words A nodes x e) node is) l.is p.1 local (leads ∙ sym l.leads));
       }
 
@@ -117,13 +120,9 @@ forms_pushed leads done n forms pushed at form are long is form_is all =
       omega (arith, ap length all, length-append forms ((n.key, form) ∷ []), length-append done (n ∷ []), long),
     )
 
-held : {V E : Type 0} (r : Result V E) (P Q : V → Type 0) → ((v : V) → P v → Q v) → IfOk r P → IfOk r Q
-held (Ok v) P Q h p = h v p
-held (Err e) P Q h p = tt
-
 pub forms_hold : {E : Type 0} (r : Result (Vec (NodeKey × NodeForm) Global) E) (words : List ℕ) (A : List Entry) (nodes listed : List Node) (leads slice : List Lead) → AreShown nodes
     → AreLeads words A nodes (length nodes) leads → slice ≡ leads → listed ≡ nodes → IfOk r (λ forms. forms.items ≡ forms_from 0 slice listed)
     → IfOk r (λ forms. AreForms words A nodes forms.items)
 forms_hold r words A nodes listed leads slice shown are same all h =
-    held r (λ forms. forms.items ≡ forms_from 0 slice listed) (λ forms. AreForms words A nodes forms.items)
+    IfOk-weaker r (λ forms. forms.items ≡ forms_from 0 slice listed) (λ forms. AreForms words A nodes forms.items)
     (λ forms e. subst (AreForms words A nodes) (sym (e ∙ ap₂ (λ (l : List Lead) (ns : List Node). forms_from 0 l ns) same all)) (forms_are words A nodes shown leads are)) h

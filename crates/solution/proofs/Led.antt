@@ -3,6 +3,9 @@ use Rattle.std.proofs.Common.{◌≡◌, ◌≢◌, refl, sym, ap, ap₂, ◌∙
 use Rattle.std.proofs.lemmas.Bool.{cases_lt}
 use Rattle.std.proofs.lemmas.Grind.{common_steps}
 use Rattle.std.proofs.lemmas.Bool.Decides.{nat_tests}
+use Rattle.basics.specs.Numbers.{equals_itself}
+use Rattle.basics.specs.Items.{none_in, first_in, further_in, first_or_further, contained_at}
+use Rattle.basics.specs.Lists.{one_at}
 use Rattle.avr_model.specs.declared.assumption.Entry.{Entry}
 use Rattle.mask_states.specs.declared.keys.EdgeKind.{EdgeKind}
 use Rattle.mask_states.specs.declared.keys.EdgeKind.TheVariants.{Local, Call, Interrupt, Return}
@@ -10,11 +13,10 @@ use Rattle.mask_states.specs.declared.keys.NodeKey.{NodeKey}
 use Rattle.mask_states.specs.Order.{same_node}
 use Rattle.mask_states.proofs.AllLaws.{keys_are_ordered}
 use Rattle.local_rules.specs.declared.local.Node.{Node}
-use Rattle.local_laws.proofs.AllLaws.{none_in, here, there, first_or}
 use Rattle.edge_rules.specs.declared.edge.Edge.{Edge}
 use Rattle.edge_rules.specs.Edges.{IsEdge, AreEdges}
 use Rattle.edge_rules.specs.Views.{AreShown}
-use Rattle.solution_laws.proofs.AllLaws.{contained, same_at, node_once}
+use Rattle.solution_laws.proofs.AllLaws.{node_once}
 use Rattle.solution.specs.declared.leading.Lead.{Lead}
 use Rattle.solution.specs.declared.leading.Lead.TheVariants.{Nothing, Only, More}
 use Rattle.solution.specs.Leads.{moved, led, lead_at, noted, LeadsTo, IsLead, AreLeads}
@@ -28,12 +30,12 @@ kinds_to k (e ∷ es) = cond (same_node e.to k) (e.kind ∷ kinds_to k es) (kind
 
 in_kinds : (k : NodeKey) (es : List Edge) (e : Edge) → e.to ≡ k → Contains es e → Contains (kinds_to k es) e.kind
 in_kinds k [] e to i = absurd (none_in e i)
-in_kinds k (x ∷ xs) e to i = by (in_kinds k xs e to) (same_node x.to k) refl (first_or x e xs i)
+in_kinds k (x ∷ xs) e to i = by (in_kinds k xs e to) (same_node x.to k) refl (first_or_further x e xs i)
   where
     by : (Contains xs e → Contains (kinds_to k xs) e.kind) → (b : Bool) → same_node x.to k ≡ b → (e ≡ x) ⊎ Contains xs e
         → Contains (cond b (x.kind ∷ kinds_to k xs) (kinds_to k xs)) e.kind
-    by rest true t (inl same) = subst (λ (y : Edge). Contains (x.kind ∷ kinds_to k xs) y.kind) (sym same) (here x.kind (kinds_to k xs))
-    by rest true t (inr j) = there x.kind e.kind (kinds_to k xs) (rest j)
+    by rest true t (inl same) = subst (λ (y : Edge). Contains (x.kind ∷ kinds_to k xs) y.kind) (sym same) (first_in x.kind (kinds_to k xs))
+    by rest true t (inr j) = further_in x.kind e.kind (kinds_to k xs) (rest j)
     by rest false t (inl same) = absurd (let h = (keys_are_ordered.same_nodes x.to k).1 (sym (ap (λ (y : Edge). y.to) same) ∙ to) in cc)
     by rest false t (inr j) = rest j
 
@@ -44,7 +46,7 @@ record OfKind (k : NodeKey) (es : List Edge) (x : EdgeKind) : Type 0 where
   kind : edge.kind ≡ x
 
 further : (k : NodeKey) (e : Edge) (es : List Edge) (x : EdgeKind) → OfKind k es x → OfKind k (e ∷ es) x
-further k e es x h = record { edge = h.edge; member = there e h.edge es h.member; to = h.to; kind = h.kind }
+further k e es x h = record { edge = h.edge; member = further_in e h.edge es h.member; to = h.to; kind = h.kind }
 
 of_kind : (k : NodeKey) (es : List Edge) (x : EdgeKind) → Contains (kinds_to k es) x → OfKind k es x
 of_kind k [] x i = absurd (none_in x i)
@@ -52,8 +54,8 @@ of_kind k (e ∷ es) x i = by (of_kind k es x) (same_node e.to k) refl i
   where
     by : (Contains (kinds_to k es) x → OfKind k es x) → (b : Bool) → same_node e.to k ≡ b → Contains (cond b (e.kind ∷ kinds_to k es) (kinds_to k es)) x → OfKind k (e ∷ es) x
     by rest true t i =
-        elim (first_or e.kind x (kinds_to k es) i) [
-          | inl same ↦ record { edge = e; member = here e es; to = (keys_are_ordered.same_nodes e.to k).0 t; kind = sym same }
+        elim (first_or_further e.kind x (kinds_to k es) i) [
+          | inl same ↦ record { edge = e; member = first_in e es; to = (keys_are_ordered.same_nodes e.to k).0 t; kind = sym same }
           | inr j ↦ further k e es x (rest j)
         ]
     by rest false t i = further k e es x (rest i)
@@ -83,9 +85,9 @@ scan [] = inl (λ x i. absurd (none_in x i))
 scan (y ∷ ys) = by (is_local y) (scan ys)
   where
     by : (y ≡ Local) ⊎ (y ≢ Local) → AllLocal ys ⊎ HasOther ys → AllLocal (y ∷ ys) ⊎ HasOther (y ∷ ys)
-    by (inl e) (inl all) = inl (λ x i. elim (first_or y x ys i) [ inl same ↦ same ∙ e | inr j ↦ all x j ])
-    by (inl e) (inr h) = inr (record { kind = h.kind; member = there y h.kind ys h.member; is = h.is })
-    by (inr ne) rest = inr (record { kind = y; member = here y ys; is = ne })
+    by (inl e) (inl all) = inl (λ x i. elim (first_or_further y x ys i) [ inl same ↦ same ∙ e | inr j ↦ all x j ])
+    by (inl e) (inr h) = inr (record { kind = h.kind; member = further_in y h.kind ys h.member; is = h.is })
+    by (inr ne) rest = inr (record { kind = y; member = first_in y ys; is = ne })
 
 more_stays : (at : ℕ) (x : EdgeKind) → led More at x ≡ More
 more_stays at Local = refl
@@ -106,13 +108,10 @@ spoils lead at Return ne = refl
 other : (at : ℕ) (lead : Lead) (xs : List EdgeKind) (x : EdgeKind) → x ≢ Local → Contains xs x → run at lead xs ≡ More
 other at lead [] x ne i = absurd (none_in x i)
 other at lead (y ∷ ys) x ne i =
-    elim (first_or y x ys i) [
+    elim (first_or_further y x ys i) [
       | inl same ↦ ap (λ (l : Lead). run at l ys) (spoils lead at y (λ e. ne (same ∙ e))) ∙ stays at ys
       | inr j ↦ other at (led lead at y) ys x ne j
     ]
-
-self_is : (at : ℕ) → (at == at) ≡ true
-self_is at = grind (arith, nat_tests)
 
 unlike : (m at : ℕ) → m < at → (m == at) ≡ false
 unlike m at lt = grind (arith, nat_tests)
@@ -123,15 +122,15 @@ local_led lead at x e = ap (led lead at) e
 again : (at : ℕ) (xs : List EdgeKind) → AllLocal xs → run at (Only at) xs ≡ Only at
 again at [] all = refl
 again at (x ∷ xs) all =
-    let first : led (Only at) at x ≡ Only at = local_led (Only at) at x (all x (here x xs)) ∙ ap (λ b. cond b (Only at) More) (self_is at) in
-    ap (λ (l : Lead). run at l xs) first ∙ again at xs (λ y j. all y (there x y xs j))
+    let first : led (Only at) at x ≡ Only at = local_led (Only at) at x (all x (first_in x xs)) ∙ ap (λ b. cond b (Only at) More) (equals_itself at) in
+    ap (λ (l : Lead). run at l xs) first ∙ again at xs (λ y j. all y (further_in x y xs j))
 
 fresh : (at : ℕ) (x : EdgeKind) (xs : List EdgeKind) → AllLocal (x ∷ xs) → run at Nothing (x ∷ xs) ≡ Only at
-fresh at x xs all = ap (λ (l : Lead). run at l xs) (local_led Nothing at x (all x (here x xs))) ∙ again at xs (λ y j. all y (there x y xs j))
+fresh at x xs all = ap (λ (l : Lead). run at l xs) (local_led Nothing at x (all x (first_in x xs))) ∙ again at xs (λ y j. all y (further_in x y xs j))
 
 second : (at m : ℕ) (x : EdgeKind) (xs : List EdgeKind) → m < at → AllLocal (x ∷ xs) → run at (Only m) (x ∷ xs) ≡ More
 second at m x xs lt all =
-    let first : led (Only m) at x ≡ More = local_led (Only m) at x (all x (here x xs)) ∙ ap (λ b. cond b (Only m) More) (unlike m at lt) in
+    let first : led (Only m) at x ≡ More = local_led (Only m) at x (all x (first_in x xs)) ∙ ap (λ b. cond b (Only m) More) (unlike m at lt) in
     ap (λ (l : Lead). run at l xs) first ∙ stays at xs
 
 -- ---- the edges of one node
@@ -144,7 +143,7 @@ module _ (words : List ℕ) (A : List Entry) (nodes : List Node) (shown : AreSho
 
   kind_of : (e : Edge) → LeadsTo words A nodes (at + 1) k at e → Contains (kinds_to k edges) e.kind
   kind_of e l =
-      let same = same_at nodes at l.node n l.at is_at in
+      let same = one_at nodes at l.node n l.at is_at in
       in_kinds k edges e l.leads ((exact e).1 (subst (λ (x : Node). IsEdge words A nodes x e) same l.is))
 
   earlier : (i : ℕ) (e : Edge) → i < at → LeadsTo words A nodes (at + 1) k i e → LeadsTo words A nodes at k i e
@@ -155,12 +154,12 @@ module _ (words : List ℕ) (A : List Entry) (nodes : List Node) (shown : AreSho
 
   split : (P : ℕ → Edge → Type 0) → ((i : ℕ) (e : Edge) → LeadsTo words A nodes at k i e → P i e) → ((e : Edge) → LeadsTo words A nodes (at + 1) k at e → P at e)
       → (i : ℕ) (e : Edge) → LeadsTo words A nodes (at + 1) k i e → P i e
-  split P before here i e l =
+  split P before first_in i e l =
       elim (cases_lt i at) [
         | inl lt ↦ before i e (earlier i e lt l)
         | inr ge ↦
             let same : i ≡ at = let lt = l.below in omega (arith, lt, ge) in
-            subst (λ (j : ℕ). P j e) (sym same) (here e (subst (λ (j : ℕ). LeadsTo words A nodes (at + 1) k j e) same l))
+            subst (λ (j : ℕ). P j e) (sym same) (first_in e (subst (λ (j : ℕ). LeadsTo words A nodes (at + 1) k j e) same l))
       ]
 
   abbrev Before : Lead → Type 0
@@ -182,24 +181,24 @@ module _ (words : List ℕ) (A : List Entry) (nodes : List Node) (shown : AreSho
   spoiled : (x : EdgeKind) → x ≢ Local → Contains (kinds_to k edges) x → After More
   spoiled x ne i m o =
       let h = of_kind k edges x i in
-      let same = (o.only n h.edge (contained nodes at n is_at) ((exact h.edge).0 h.member) h.to).1 in
+      let same = (o.only n h.edge (contained_at nodes at n is_at) ((exact h.edge).0 h.member) h.to).1 in
       ne (sym h.kind ∙ ap (λ (e : Edge). e.kind) same ∙ o.moves)
 
   -- local ones do
   with_local : (x : EdgeKind) (xs : List EdgeKind) → kinds_to k edges ≡ x ∷ xs → AllLocal (x ∷ xs) → (lead : Lead) → Before lead → After (run at lead (x ∷ xs))
   with_local x xs are all Nothing h =
-      let f = of_kind k edges x (subst (λ (l : List EdgeKind). Contains l x) (sym are) (here x xs)) in
+      let f = of_kind k edges x (subst (λ (l : List EdgeKind). Contains l x) (sym are) (first_in x xs)) in
       subst After (sym (fresh at x xs all)) (
         (f.edge, own x f),
         split (λ i e. (i ≡ at) × (e.kind ≡ Local)) (λ i e l. absurd (h i e l)) (λ e l. (refl, all e.kind (subst (λ (l : List EdgeKind). Contains l e.kind) are (kind_of e l)))),
       )
   with_local x xs are all (Only m) h =
-      let f = of_kind k edges x (subst (λ (l : List EdgeKind). Contains l x) (sym are) (here x xs)) in
+      let f = of_kind k edges x (subst (λ (l : List EdgeKind). Contains l x) (sym are) (first_in x xs)) in
       let l = h.0.1 in
       subst After (sym (second at m x xs l.below all))
       (λ j o.
-      let a = (o.only l.node h.0.0 (contained nodes m l.node l.at) l.is l.leads).0 in
-      let b = (o.only n f.edge (contained nodes at n is_at) ((exact f.edge).0 f.member) f.to).0 in
+      let a = (o.only l.node h.0.0 (contained_at nodes m l.node l.at) l.is l.leads).0 in
+      let b = (o.only n f.edge (contained_at nodes at n is_at) ((exact f.edge).0 f.member) f.to).0 in
       let same : m ≡ at = node_once nodes m at n shown.ascending (l.at ∙ ap Some (a ∙ sym b)) is_at in
       let lt = l.below in
       omega (arith, lt, same))

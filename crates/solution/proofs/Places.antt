@@ -4,7 +4,8 @@ use Rattle.std.proofs.lemmas.Bool.{cases_order}
 use Rattle.std.proofs.lemmas.List.{get_or-set_same, get_or-set_other, length-set}
 use Rattle.std.proofs.lemmas.Option.{none-some, same_Some, slice_get_within}
 use Rattle.std.specs.List.{position_from}
-use Rattle.std.specs.declared.cmp.Ordering.TheVariants.{Less, Equal}
+use Rattle.std.specs.declared.cmp.Ordering.TheVariants.{Less}
+use Rattle.edge_laws.proofs.AllLaws.{not_below_itself}
 use Rattle.mask_states.specs.declared.keys.NodeKey.{NodeKey}
 use Rattle.mask_states.specs.Order.{node_cmp, same_node}
 use Rattle.mask_states.proofs.AllLaws.{keys_are_ordered}
@@ -59,16 +60,13 @@ node_there nodes k q e =
 pub place_within : (nodes : List Node) (k : NodeKey) (q : ℕ) → place_of k nodes ≡ Some q → q < length nodes
 place_within nodes k q e = let n = node_there nodes k q e in slice_get_within nodes q n.node n.is
 
-itself : (k : NodeKey) → node_cmp k k ≡ Less → ⊥
-itself k e = let h : Less ≡ Equal = sym e ∙ (keys_are_ordered.equal_nodes k k).1 refl in cc
-
 -- nodes of one key have one number
 one_place : (nodes : List Node) → AreShown nodes → (p q : ℕ) (m n : Node) → slice_get nodes p ≡ Some m → slice_get nodes q ≡ Some n → m.key ≡ n.key → p ≡ q
 one_place nodes shown p q m n a b e =
     elim (cases_order p q) [
       | inl same ↦ same
-      | inr (inl lt) ↦ absurd (itself n.key (subst (λ (k : NodeKey). node_cmp k n.key ≡ Less) e (node_before nodes p q m n shown.ascending a b lt)))
-      | inr (inr gt) ↦ absurd (itself n.key (subst (λ (k : NodeKey). node_cmp n.key k ≡ Less) e (node_before nodes q p n m shown.ascending b a gt)))
+      | inr (inl lt) ↦ absurd (not_below_itself n.key (subst (λ (k : NodeKey). node_cmp k n.key ≡ Less) e (node_before nodes p q m n shown.ascending a b lt)))
+      | inr (inr gt) ↦ absurd (not_below_itself n.key (subst (λ (k : NodeKey). node_cmp n.key k ≡ Less) e (node_before nodes q p n m shown.ascending b a gt)))
     ]
 
 -- ---- an edge that is noted

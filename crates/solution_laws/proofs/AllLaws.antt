@@ -2,5 +2,4 @@
 pub use Rattle.solution_laws.proofs.Filled.{lone_edges_tell}
 pub use Rattle.solution_laws.proofs.Graphs.{solved_families_are_shown, graphs_are_acyclic}
 pub use Rattle.solution_laws.proofs.Made.{solutions_are_made}
-pub use Rattle.solution_laws.proofs.Lists.{contained, read, get_at, same_at}
 pub use Rattle.solution_laws.proofs.Order.{node_once, node_before}

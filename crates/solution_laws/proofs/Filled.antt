@@ -2,6 +2,9 @@
 use Rattle.std.proofs.Common.{◌≡◌, ◌≢◌, refl, sym, ap, ◌∙◌, subst, ℕ, zero, suc, ◌<◌, ◌≤◌, ◌⊎◌, inl, inr, Bool, true, false, if◌then◌else◌, List, [], ◌∷◌, length, Some, Contains, slice_get, arith}
 use Rattle.std.proofs.lemmas.Option.{same_Some, slice_get_within}
 use Rattle.std.specs.declared.cmp.Ordering.TheVariants.{Less}
+use Rattle.basics.specs.Items.{none_in, first_in, further_in, first_or_further, contained_at, only_one_in as only}
+use Rattle.basics.specs.Lists.{get_inside}
+use Rattle.edge_laws.proofs.AllLaws.{part_of}
 use Rattle.avr_model.specs.declared.assumption.Entry.{Entry}
 use Rattle.abs_state.specs.declared.state.AbsState.{AbsState}
 use Rattle.mask_states.specs.declared.keys.NodeKey.{NodeKey}
@@ -11,18 +14,16 @@ use Rattle.mask_states.specs.Order.{node_cmp, same_node}
 use Rattle.mask_states.proofs.AllLaws.{keys_are_ordered}
 use Rattle.local_rules.specs.declared.local.Node.{Node}
 use Rattle.local_rules.specs.Local.{joined_onto}
-use Rattle.local_laws.proofs.AllLaws.{none_in, here, there, first_or}
 use Rattle.edge_rules.specs.declared.edge.Edge.{Edge}
 use Rattle.edge_rules.specs.declared.seeded.NodeForm.{NodeForm}
 use Rattle.edge_rules.specs.declared.seeded.NodeForm.TheVariants.{State, From}
 use Rattle.edge_rules.specs.Edges.{IsFaultless, raw_of, IsEdge, by_call, by_interrupt, moving, entering, returning}
 use Rattle.edge_rules.specs.Expansion.{Seeds, states_at, IsExpansion, own, along, IsFilled}
-use Rattle.expansion_laws.proofs.AllLaws.{successors_are_one}
-use Rattle.solution_laws.proofs.Lists.{contained, only, get_at}
+use Rattle.edge_laws.proofs.ExpansionLaws.{successors_are_one}
 use Rattle.round_rules.specs.Families.{Family, nodes_of}
 use Rattle.round_rules.specs.Refusals.{IsSolved}
 use Rattle.round_rules.specs.Sparse.{IsOnlyFrom, AreSparse}
-use Rattle.round_laws.proofs.AllLaws.{has_member, part_of, ok_of}
+use Rattle.round_laws.proofs.AllLaws.{has_member, ok_of}
 use Rattle.solution_laws.specs.Laws.{LoneEdgesTell}
 use Rattle.solution_laws.specs.Parts.{IsForm, AreForms}
 use Rattle.solution_laws.proofs.Order.{ascending, node_before, node_once, root_node_first}
@@ -32,12 +33,12 @@ use Rattle.solution_laws.proofs.Lone.{formed, lone}
 
 in_states : (k : NodeKey) (ns : List Node) (x : Node) → x.key ≡ k → Contains ns x → Contains (states_at k ns) x.state
 in_states k [] x same i = absurd (none_in x i)
-in_states k (n ∷ ns) x same i = by (in_states k ns x same) (same_node n.key k) refl (first_or n x ns i)
+in_states k (n ∷ ns) x same i = by (in_states k ns x same) (same_node n.key k) refl (first_or_further n x ns i)
   where
     by : (Contains ns x → Contains (states_at k ns) x.state) → (b : Bool) → same_node n.key k ≡ b → (x ≡ n) ⊎ Contains ns x
         → Contains (if b then n.state ∷ states_at k ns else states_at k ns) x.state
-    by rest true t (inl e) = subst (λ (y : Node). Contains (n.state ∷ states_at k ns) y.state) (sym e) (here n.state (states_at k ns))
-    by rest true t (inr j) = there n.state x.state (states_at k ns) (rest j)
+    by rest true t (inl e) = subst (λ (y : Node). Contains (n.state ∷ states_at k ns) y.state) (sym e) (first_in n.state (states_at k ns))
+    by rest true t (inr j) = further_in n.state x.state (states_at k ns) (rest j)
     by rest false t (inl e) = absurd (let h = (keys_are_ordered.same_nodes n.key k).1 (sym (ap (λ (y : Node). y.key) e) ∙ same) in cc)
     by rest false t (inr j) = rest j
 
@@ -83,11 +84,11 @@ module _ (words : List ℕ) (A : List Entry) (n : ℕ) (f : Family) (solved : Is
   -- a node behind another isn't the root's after reset
   not_root : (m at : ℕ) (x : Node) → m < at → slice_get nodes at ≡ Some x → x.key ≢ entry_key root_inst
   not_root m at x lt e is =
-      let y = get_at nodes m (omega (arith, lt, slice_get_within nodes at x e)) in
+      let y = get_inside nodes m (omega (arith, lt, slice_get_within nodes at x e)) in
       root_node_first y.0.key (subst (λ (k : NodeKey). node_cmp y.0.key k ≡ Less) is (node_before nodes m at y.0 x (ascending f) y.1 e lt))
 
   state_is : (m at : ℕ) (x : Node) → m < at → slice_get nodes at ≡ Some x → (only : IsOnlyFrom words A nodes x.key m) → only.edge.state ≡ x.state
-  state_is m at x lt e only = lone words A n f solved x.key m x.state only (not_root m at x lt e) (has_member f x (contained nodes at x e))
+  state_is m at x lt e only = lone words A n f solved x.key m x.state only (not_root m at x lt e) (has_member f x (contained_at nodes at x e))
 
   one_state : (k : NodeKey) (m : ℕ) (only : IsOnlyFrom words A nodes k m)
       → states_at k (joined_onto [] (raw_of words A only.node).moves) ≡ only.edge.state ∷ []
@@ -121,7 +122,7 @@ module _ (words : List ℕ) (A : List Entry) (n : ℕ) (f : Family) (solved : Is
     count = sym forms.count;
     keys = λ at x e. let h = forms.each at x e in (h.0, h.1.0);
     states = λ at x e. expands (suc at) at x (omega arith) e;
-    formed = λ at x e. formed words A n f solved x (has_member f x (contained nodes at x e));
+    formed = λ at x e. formed words A n f solved x (has_member f x (contained_at nodes at x e));
   }
 
 -- ---- which are left out
@@ -130,7 +131,7 @@ module _ (words : List ℕ) (A : List Entry) (f : Family) (seeds : Seeds) (forms
   -- the number is that of the edge's origin
   one_from : (k : NodeKey) (m j : ℕ) → IsOnlyFrom words A (nodes_of f) k m → IsOnlyFrom words A (nodes_of f) k j → m ≡ j
   one_from k m j a b =
-      let same = (a.only b.node b.edge (contained (nodes_of f) j b.node b.at) b.is b.leads).0 in
+      let same = (a.only b.node b.edge (contained_at (nodes_of f) j b.node b.at) b.is b.leads).0 in
       node_once (nodes_of f) m j a.node (ascending f) a.at (b.at ∙ ap Some same)
 
   from_is : (at m : ℕ) (x : Node) (form : NodeForm) → IsForm words A (nodes_of f) at x form → (m < at) × IsOnlyFrom words A (nodes_of f) x.key m → form ≡ From m
@@ -146,7 +147,7 @@ module _ (words : List ℕ) (A : List Entry) (f : Family) (seeds : Seeds) (forms
 
   pub sparse : AreSparse words A (nodes_of f) seeds
   sparse at m k form e =
-      let x = get_at (nodes_of f) at (omega (arith, forms.count, slice_get_within seeds at (k, form) e)) in
+      let x = get_inside (nodes_of f) at (omega (arith, forms.count, slice_get_within seeds at (k, form) e)) in
       let h = forms.each at x.0 x.1 in
       let p = same_pair (x.0.key, h.0) (k, form) (sym h.1.0 ∙ e) in
       let is : IsForm words A (nodes_of f) at x.0 form = subst (IsForm words A (nodes_of f) at x.0) p.1 h.1.1 in (

@@ -3,6 +3,9 @@ use Rattle.std.proofs.Common.{◌≡◌, refl, sym, ap, ◌∙◌, subst, ℕ, z
 use Rattle.std.proofs.lemmas.List.{length-map}
 use Rattle.std.proofs.lemmas.Option.{none-some, same_Some}
 use Rattle.std.specs.FinMap.{entries, len-entries}
+use Rattle.basics.specs.Lists.{one_at, get_inside}
+use Rattle.basics.specs.Items.{contained_at, get_contained}
+use Rattle.family_graph.proofs.Graphs.{keys_long}
 use Rattle.avr_model.specs.declared.assumption.Entry.{Entry}
 use Rattle.abs_state.specs.Frames.{entered}
 use Rattle.mask_states.specs.declared.keys.EdgeKind.{EdgeKind}
@@ -23,16 +26,15 @@ use Rattle.nesting_bound.specs.declared.graph.Place.{Place}
 use Rattle.nesting_bound.specs.Graph as graph
 use Rattle.nesting_bound.specs.Cycle.{IsNamed, group_of}
 use Rattle.family_graph.specs.Graphs.{insts_of, IsPeopled, IsGraphOf}
-use Rattle.graph_laws.specs.Graphs as told
-use Rattle.graph_laws.specs.Graphs.{IsNumber}
-use Rattle.graph_laws.proofs.AllLaws.{graphs_tell}
+use Rattle.round_laws.specs.Graphs as told
+use Rattle.round_laws.specs.Graphs.{IsNumber}
+use Rattle.round_laws.proofs.GraphLaws.{graphs_tell}
 use Rattle.certificate.specs.Valid.{reset_node}
 use Rattle.round_rules.specs.Families.{Family, node_of, nodes_of, Has, HasInst}
 use Rattle.round_rules.specs.Rounds.{Entering}
 use Rattle.round_rules.specs.Refusals.{IsSolved}
 use Rattle.round_laws.proofs.AllLaws.{has_member, member_has, formed_nodes, comes_root}
 use Rattle.solution_laws.specs.Laws.{SolvedFamiliesAreShown, GraphsAreAcyclic}
-use Rattle.solution_laws.proofs.Lists.{same_at, contained, read, get_at}
 use Rattle.solution_laws.proofs.Order.{ascending, before, inst_once, root_inst_first}
 use Rattle.solution_laws.proofs.Lone.{formed}
 
@@ -41,9 +43,6 @@ pub key_is : (gs : List GraphInst) (i : ℕ) (g : GraphInst) → slice_get gs i 
 key_is [] i g e = absurd (none-some g e)
 key_is (x ∷ xs) zero g e = ap Some (ap (λ (y : GraphInst). y.key) (same_Some x g e))
 key_is (x ∷ xs) (suc i) g e = key_is xs i g e
-
-pub keys_long : (gs : List GraphInst) → length (insts_of gs) ≡ length gs
-keys_long gs = length-map gs (λ g. g.key)
 
 -- only a node with a whole stack pointer enters an instance
 closed_at : (words : List ℕ) (A : List Entry) (n : Node) (way : EdgeKind) (inst : InstKey) (back : ℕ) → Enters words A n way inst back → (offset : ℕ) × (n.key.sp ≡ Closed offset)
@@ -82,7 +81,7 @@ module _ (words : List ℕ) (A : List Entry) (n : ℕ) (f : Family) (solved : Is
     keys = insts_of gs
 
     number_in : (inst : InstKey) → Contains keys inst → (i : ℕ) × IsNumber keys i inst
-    number_in inst h = (h.0, read keys inst h)
+    number_in inst h = (h.0, get_contained keys inst h)
 
     pub numbered : (inst : InstKey) → HasInst f inst → (i : ℕ) × IsNumber keys i inst
     numbered inst h = number_in inst ((of.insts inst).1 (h.0, member_has f h.0 h.1, h.2))
@@ -95,7 +94,7 @@ module _ (words : List ℕ) (A : List Entry) (n : ℕ) (f : Family) (solved : Is
         by : (i : ℕ) → IsNumber keys i root_inst → IsNumber keys 0 root_inst
         by zero e = e
         by (suc i) e =
-            let x = get_at keys 0 (let g = is_graph.some in omega (arith, g, keys_long gs)) in
+            let x = get_inside keys 0 (let g = is_graph.some in omega (arith, g, keys_long gs)) in
             absurd (root_inst_first x.0 (before inst_cmp keys 0 (suc i) x.0 root_inst of.ascending x.1 e (omega arith)))
 
     -- ---- entries
@@ -110,7 +109,7 @@ module _ (words : List ℕ) (A : List Entry) (n : ℕ) (f : Family) (solved : Is
           to = inl x.leads;
           entering = record {
             node = x.entry.node;
-            has = has_member f x.entry.node (contained nodes e.node x.entry.node x.entry.at);
+            has = has_member f x.entry.node (contained_at nodes e.node x.entry.node x.entry.at);
             same = x.entry.same;
             at = ap offset_of x.entry.closed;
             way = e.kind;
@@ -135,7 +134,7 @@ module _ (words : List ℕ) (A : List Entry) (n : ℕ) (f : Family) (solved : Is
             is = from.1;
             into = j;
             leads = to.1;
-            entry = record { node = e.node; at = read nodes e.node member; same = e.same; closed = c.1 ∙ ap Closed same; back = e.back; enters = e.enters };
+            entry = record { node = e.node; at = get_contained nodes e.node member; same = e.same; closed = c.1 ∙ ap Closed same; back = e.back; enters = e.enters };
           };
           from = from.1;
           to = inl to.1;
@@ -149,7 +148,7 @@ module _ (words : List ℕ) (A : List Entry) (n : ℕ) (f : Family) (solved : Is
         let x = (of.places i p).0 h in
         record {
           node = x.place.node;
-          has = has_member f x.place.node (contained nodes p.node x.place.node x.place.at);
+          has = has_member f x.place.node (contained_at nodes p.node x.place.node x.place.at);
           closed = x.place.closed;
           of = subst (λ (k : InstKey). IsNumber keys i k) (sym x.place.same) x.is;
         }
@@ -162,7 +161,7 @@ module _ (words : List ℕ) (A : List Entry) (n : ℕ) (f : Family) (solved : Is
         record {
           number = number.0;
           place = p;
-          has = (of.places number.0 p).1 record { inst = m.key.inst; is = number.1; place = record { node = m; at = read nodes m member; same = refl; closed = closed } };
+          has = (of.places number.0 p).1 record { inst = m.key.inst; is = number.1; place = record { node = m; at = get_contained nodes m member; same = refl; closed = closed } };
           of = number.1;
           at = refl;
         }
@@ -170,7 +169,7 @@ module _ (words : List ℕ) (A : List Entry) (n : ℕ) (f : Family) (solved : Is
     -- ---- the graph
 
     keyed : (i : ℕ) (g : GraphInst) (inst : InstKey) → slice_get gs i ≡ Some g → IsNumber keys i inst → g.key ≡ inst
-    keyed i g inst e d = same_at keys i g.key inst (key_is gs i g e) d
+    keyed i g inst e d = one_at keys i g.key inst (key_is gs i g e) d
 
     pub graph_is : told.IsGraphOver words A f keys gs
     graph_is = record {
@@ -188,7 +187,7 @@ module _ (words : List ℕ) (A : List Entry) (n : ℕ) (f : Family) (solved : Is
 
     acyclic : (at : ℕ) → IsNamed gs at → ⊥
     acyclic at named =
-        let inst = get_at keys at (graphs_tell.named words A f keys gs at graph_is named) in
+        let inst = get_inside keys at (graphs_tell.named words A f keys gs at graph_is named) in
         by inst.0 inst.1 inst.0.kind refl
       where
         recursive : (inst : InstKey) → IsNumber keys at inst → group_of inst.kind ≡ 1 → ⊥

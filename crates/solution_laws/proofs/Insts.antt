@@ -1,9 +1,11 @@
 -- The instances of a solved family are ones that may stand in a certificate.
-use Rattle.std.proofs.Common.{◌≡◌, refl, sym, ap, ◌∙◌, subst, ℕ, ◌^◌, ◌<◌, Bool, true, false, cond, ◌==◌, ◌&&◌, ◌||◌, ◌-◌, ◌*◌, not, nat_lt, List, Some, None, arith}
+use Rattle.std.proofs.Common.{◌≡◌, refl, sym, ap, ◌∙◌, subst, ℕ, ◌^◌, ◌<◌, Bool, true, false, cond, ◌==◌, ◌&&◌, ◌-◌, ◌*◌, not, nat_lt, List, Some, None, arith}
 use Rattle.std.specs.Prelude.{nat_le}
 use Rattle.std.proofs.lemmas.Bool.Decides.{nat_tests}
 use Rattle.std.specs.FinMap.{get, retain_keys, get-retain_keys}
 use Rattle.std.specs.declared.cmp.Ordering.TheVariants.{Equal}
+use Rattle.basics.specs.Numbers.{equals_itself}
+use Rattle.std.proofs.lemmas.Bool.{or_left, or_right}
 use Rattle.avr_model.specs.declared.assumption.Entry.{Entry}
 use Rattle.avr_model.specs.Image.{WORDS}
 use Rattle.avr_model.specs.declared.device.Device.{Device}
@@ -38,23 +40,12 @@ fits k = fits_kind k.kind k.entry k.masks k.i && nat_lt k.masks (2 ^ 25)
 call_fits : (entry masks : ℕ) → entry < WORDS → masks < 2 ^ 25 → (nat_lt entry WORDS && nat_lt masks (2 ^ 25)) ≡ true
 call_fits entry masks a b = grind (arith, nat_tests)
 
-eq_self : (n : ℕ) → (n == n) ≡ true
-eq_self n = grind (arith, nat_tests)
-
-or_first : (a b : Bool) → a ≡ true → (a || b) ≡ true
-or_first true b e = refl
-or_first false b e = absurd (cc)
-
-or_second : (a b : Bool) → b ≡ true → (a || b) ≡ true
-or_second true b e = refl
-or_second false b e = e
-
 -- a vector's word on each device is one that an entry may be
 vector_is : (device : Device) (v : ℕ) → is_vector_word v (vector_word device v) ≡ true
-vector_is M48 v = or_second (v - 1 == 2 * (v - 1)) (v - 1 == v - 1) (eq_self (v - 1))
-vector_is M88 v = or_second (v - 1 == 2 * (v - 1)) (v - 1 == v - 1) (eq_self (v - 1))
-vector_is M168 v = or_first (2 * (v - 1) == 2 * (v - 1)) (2 * (v - 1) == v - 1) (eq_self (2 * (v - 1)))
-vector_is M328 v = or_first (2 * (v - 1) == 2 * (v - 1)) (2 * (v - 1) == v - 1) (eq_self (2 * (v - 1)))
+vector_is M48 v = or_right (v - 1 == 2 * (v - 1)) (v - 1 == v - 1) (equals_itself (v - 1))
+vector_is M88 v = or_right (v - 1 == 2 * (v - 1)) (v - 1 == v - 1) (equals_itself (v - 1))
+vector_is M168 v = or_left (2 * (v - 1) == 2 * (v - 1)) (2 * (v - 1) == v - 1) (equals_itself (2 * (v - 1)))
+vector_is M328 v = or_left (2 * (v - 1) == 2 * (v - 1)) (2 * (v - 1) == v - 1) (equals_itself (2 * (v - 1)))
 
 fits_if : (enables v masks : ℕ) (is : Bool) → is_enabled enables v ≡ true → masks < 2 ^ 25 → is ≡ true
     → (nat_le 2 v && nat_le v 26 && is && not false) && nat_lt masks (2 ^ 25) ≡ true

@@ -7,3 +7,7 @@ pub mod Insts
 pub mod Ranks
 pub mod Made
 pub mod AllLaws
+pub mod Sorted
+pub mod Parts
+pub mod One
+pub mod AnswerLaws

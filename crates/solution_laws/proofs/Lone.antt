@@ -1,6 +1,8 @@
 -- The state of a node to which one edge alone leads.
 use Rattle.std.proofs.Common.{◌≡◌, ◌≢◌, refl, sym, ap, ◌∙◌, subst, ℕ, zero, suc, List, Some, Contains}
 use Rattle.std.specs.FinMap.{get, insert}
+use Rattle.basics.specs.Items.{contained_at}
+use Rattle.std.proofs.lemmas.Option.{same_Some}
 use Rattle.avr_model.specs.declared.assumption.Entry.{Entry}
 use Rattle.abs_state.specs.declared.state.AbsState.{AbsState}
 use Rattle.abs_state.specs.Order.{IsStateWithin}
@@ -14,12 +16,11 @@ use Rattle.edge_rules.specs.Edges.{target}
 use Rattle.edge_laws.specs.Laws.{with_state}
 use Rattle.edge_laws.proofs.AllLaws.{edges_lead_to_nodes, edges_grow}
 use Rattle.certificate.specs.Valid.{reset_node}
-use Rattle.solution_laws.proofs.Lists.{contained}
 use Rattle.round_rules.specs.Families.{Family, nodes_of, Has, Lands, Below, AreFormed, HasNoFault, LandIn, IsClosed}
 use Rattle.round_rules.specs.Rounds.{Comes}
 use Rattle.round_rules.specs.Refusals.{IsSolved}
 use Rattle.round_rules.specs.Sparse.{IsOnlyFrom}
-use Rattle.round_laws.proofs.AllLaws.{at_keys, get_same, get_other, some_same, has_member, member_has, lands_covered, formed_nodes, first_has, comes_formed, comes_root}
+use Rattle.round_laws.proofs.AllLaws.{at_keys, get_same, get_other, has_member, member_has, lands_covered, formed_nodes, first_has, comes_formed, comes_root}
 
 module _ (words : List ℕ) (A : List Entry) where
   -- where an edge of a greater family lands, that of the lesser does
@@ -47,7 +48,7 @@ module _ (words : List ℕ) (A : List Entry) where
       s = only.edge.state
 
       from_member : Contains (nodes_of f) only.node
-      from_member = contained (nodes_of f) m only.node only.at
+      from_member = contained_at (nodes_of f) m only.node only.at
 
       s_node : IsNode k s
       s_node = subst (λ (q : NodeKey). IsNode q s) only.leads (edges_lead_to_nodes.edges words A (nodes_of f) only.node only.edge (formed_nodes f formed) from_member only.is)
@@ -55,7 +56,7 @@ module _ (words : List ℕ) (A : List Entry) where
       s_within : IsStateWithin s t
       s_within =
           let l = solved.closed only.node only.edge (has_member f only.node from_member) only.is in
-          subst (IsStateWithin s) (some_same l.at t (sym l.is ∙ ap (get f) only.leads ∙ is)) l.above
+          subst (IsStateWithin s) (same_Some l.at t (sym l.is ∙ ap (get f) only.leads ∙ is)) l.above
 
       -- the family with the edge's state in place of the node's
       abbrev h : Family
@@ -63,7 +64,7 @@ module _ (words : List ℕ) (A : List Entry) where
 
       each : (P : NodeKey → AbsState → Type 0) → P k s → ((q : NodeKey) (v : AbsState) → get f q ≡ Some v → P q v) → (x : Node) → Has h x → P x.key x.state
       each P here others x has =
-          at_keys (λ q. (v : AbsState) → get h q ≡ Some v → P q v) k x.key (λ v e. subst (P k) (some_same s v (sym (get_same f k s) ∙ e)) here)
+          at_keys (λ q. (v : AbsState) → get h q ≡ Some v → P q v) k x.key (λ v e. subst (P k) (same_Some s v (sym (get_same f k s) ∙ e)) here)
           (λ ne v e. others x.key v (sym (get_other f k s x.key ne) ∙ e)) x.state has
 
       h_formed : AreFormed h
@@ -101,5 +102,5 @@ module _ (words : List ℕ) (A : List Entry) where
       pub lone : s ≡ t
       lone =
           let l = rounds_below h h_formed h_clean h_closed h_root n f solved.comes (record { key = k; state = t }) is in
-          let ge = subst (IsStateWithin t) (some_same l.at s (sym l.is ∙ get_same f k s)) l.above in
+          let ge = subst (IsStateWithin t) (same_Some l.at s (sym l.is ∙ get_same f k s)) l.above in
           states_are_ordered.both s t s_node.formed.count_registers (formed (record { key = k; state = t }) is).formed.count_registers s_within ge

@@ -7,6 +7,10 @@ use Rattle.std.specs.Prelude.{◌↔◌}
 use Rattle.std.specs.FinMap.{entries}
 use Rattle.std.specs.List.{AllByRecursion}
 use Rattle.std.specs.List.Sorted.{IsStrictlySortedBy}
+use Rattle.basics.specs.Items.{contained_at}
+use Rattle.basics.specs.Lists.{get_inside, one_at}
+use Rattle.local_laws.proofs.AllLaws.{node_key}
+use Rattle.family_graph.proofs.Graphs.{keys_long}
 use Rattle.avr_model.specs.declared.assumption.Entry.{Entry}
 use Rattle.avr_model.specs.Devices.{device_of, size_of}
 use Rattle.avr_model.proofs.AllLaws.{devices_are_alike}
@@ -22,14 +26,14 @@ use Rattle.edge_rules.specs.declared.seeded.NodeForm.{NodeForm}
 use Rattle.edge_rules.specs.declared.seeded.NodeForm.TheVariants.{State, From}
 use Rattle.edge_rules.specs.Expansion.{Seeds, IsFilled}
 use Rattle.edge_rules.specs.Views.{key_of}
-use Rattle.expansion_laws.proofs.AllLaws.{filled_or_missing}
+use Rattle.edge_laws.proofs.ExpansionLaws.{filled_or_missing}
 use Rattle.nesting_bound.specs.declared.graph.GraphInst.{GraphInst}
 use Rattle.family_graph.specs.Graphs.{insts_of}
-use Rattle.graph_laws.specs.Graphs.{IsGraphOver, valued}
-use Rattle.graph_laws.proofs.AllLaws.{graphs_tell, valued_at}
+use Rattle.round_laws.specs.Graphs.{IsGraphOver, valued}
+use Rattle.round_laws.proofs.GraphLaws.{graphs_tell, valued_at}
 use Rattle.certificate.specs.declared.instance.Inst.{Inst}
 use Rattle.certificate.specs.Insts.{fits_kind, IsInst, inst_keys, rank_in, need_in}
-use Rattle.certificate.specs.Claims.{node_keys, cells_of, IsKey, FitsAt, AreFrom, Belongs, IsClaim}
+use Rattle.certificate.specs.Claims.{node_keys, cells_of, FitsAt, AreFrom, Belongs, IsClaim}
 use Rattle.round_rules.specs.Families.{Family, node_of, nodes_of, HasInst}
 use Rattle.round_rules.specs.Rounds.{AreRanks, AreNeeds, IsRootNeed}
 use Rattle.round_rules.specs.Refusals.{IsSolved}
@@ -37,11 +41,11 @@ use Rattle.round_rules.specs.Solutions.{IsSolution}
 use Rattle.round_laws.proofs.AllLaws.{rounds_are_least, has_member, member_has}
 use Rattle.solution_laws.specs.Laws.{SolutionsAreMade}
 use Rattle.solution_laws.specs.Parts.{IsForm, AreInsts, AreParts, claim_of}
-use Rattle.solution_laws.proofs.Lists.{contained, get_at, same_at, all_of}
+use Rattle.solution_laws.proofs.Lists.{all_of}
 use Rattle.solution_laws.proofs.Order.{key_at, ascending}
 use Rattle.solution_laws.proofs.Lone.{formed}
 use Rattle.solution_laws.proofs.Filled.{filled, sparse}
-use Rattle.solution_laws.proofs.Graphs.{key_is, keys_long, few, graph_is}
+use Rattle.solution_laws.proofs.Graphs.{key_is, few, graph_is}
 use Rattle.solution_laws.proofs.Insts.{insts_fit}
 use Rattle.solution_laws.proofs.Ranks.{few_ranks, few_insts}
 
@@ -104,9 +108,6 @@ from_all (e ∷ es) start h =
 keys_of_nodes : (es : List (NodeKey × AbsState)) → map key_of (map node_of es) ≡ map (λ (e : NodeKey × AbsState). e.0) es
 keys_of_nodes [] = refl
 keys_of_nodes (e ∷ es) = ap (λ (l : List NodeKey). e.0 ∷ l) (keys_of_nodes es)
-
-key_of_node : (k : NodeKey) (s : AbsState) → IsNode k s → IsKey k
-key_of_node k s node = record { word = node.word; small = node.small; masks = node.masks; fits = node.fits; pick = node.pick }
 
 fits_both : (a : Bool) (masks : ℕ) → (a && nat_lt masks (2 ^ 25)) ≡ true → (a ≡ true) × (masks < 2 ^ 25)
 fits_both true masks e = (refl, grind (arith, nat_tests))
@@ -185,15 +186,15 @@ module _ (words : List ℕ) (A : List Entry) (n : ℕ) (f : Family) (insts : Lis
 
   inst_at : (i : ℕ) (x : Inst) → slice_get insts i ≡ Some x → (g : GraphInst) × ((slice_get gs i ≡ Some g) × (x ≡ inst_of g (slice_index parts.ranks i) (slice_index parts.needs i)))
   inst_at i x e =
-      let g = get_at gs i (omega (arith, slice_get_within insts i x e, parts.insts_are.count)) in
-      (g.0, (g.1, same_at insts i x (inst_of g.0 (slice_index parts.ranks i) (slice_index parts.needs i)) e (parts.insts_are.each i g.0 g.1)))
+      let g = get_inside gs i (omega (arith, slice_get_within insts i x e, parts.insts_are.count)) in
+      (g.0, (g.1, one_at insts i x (inst_of g.0 (slice_index parts.ranks i) (slice_index parts.needs i)) e (parts.insts_are.each i g.0 g.1)))
 
   is_inst : (i : ℕ) (x : Inst) → slice_get insts i ≡ Some x → IsInst x
   is_inst i x e =
       let g = inst_at i x e in
       let lt = slice_get_within gs i g.0 g.1.0 in
       let is = key_is gs i g.0 g.1.0 in
-      let has = (has_inst g.0.key).0 (subst (λ (l : List InstKey). Contains l g.0.key) (sym are_keys) (contained keys i g.0.key is)) in
+      let has = (has_inst g.0.key).0 (subst (λ (l : List InstKey). Contains l g.0.key) (sym are_keys) (contained_at keys i g.0.key is)) in
       let fit = fits_both (fits_kind g.0.key.kind g.0.key.entry g.0.key.masks g.0.key.i) g.0.key.masks (insts_fit words A n f solved g.0.key has) in
       let low = few_ranks gs parts.is_graph parts.ranks parts.needs parts.least i lt in
       let under = rounds_are_least.under_root words A n f (valued keys parts.needs) solved.comes solved.passes.faultless valued_needs g.0.key has in
@@ -216,20 +217,20 @@ module _ (words : List ℕ) (A : List Entry) (n : ℕ) (f : Family) (insts : Lis
 
   form_fits : (at : ℕ) (m : Node) (form : NodeForm) → IsNode m.key m.state → IsForm words A (nodes_of f) at m form → FitsAt at m.key form
   form_fits at m (State s) node h = subst (IsNode m.key) (sym h.0) node
-  form_fits at m (From j) node h = (key_of_node m.key m.state node, h.0)
+  form_fits at m (From j) node h = (node_key m.key m.state node, h.0)
 
   fits_at : (at : ℕ) (e : NodeKey × NodeForm) → slice_get seeds at ≡ Some e → FitsAt at e.0 e.1
   fits_at at e is =
-      let m = get_at (nodes_of f) at (omega (arith, slice_get_within seeds at e is, parts.forms.count)) in
+      let m = get_inside (nodes_of f) at (omega (arith, slice_get_within seeds at e is, parts.forms.count)) in
       let h = parts.forms.each at m.0 m.1 in
-      let node = formed words A n f solved m.0 (has_member f m.0 (contained (nodes_of f) at m.0 m.1)) in
-      subst (λ (x : NodeKey × NodeForm). FitsAt at x.0 x.1) (same_at seeds at (m.0.key, h.0) e h.1.0 is) (form_fits at m.0 h.0 node h.1.1)
+      let node = formed words A n f solved m.0 (has_member f m.0 (contained_at (nodes_of f) at m.0 m.1)) in
+      subst (λ (x : NodeKey × NodeForm). FitsAt at x.0 x.1) (one_at seeds at (m.0.key, h.0) e h.1.0 is) (form_fits at m.0 h.0 node h.1.1)
 
   belongs : (i : ℕ) (k : NodeKey) → slice_get (map key_of (nodes_of f)) i ≡ Some k → Belongs insts k
   belongs i k e =
-      let m = get_at (nodes_of f) i (omega (arith, slice_get_within (map key_of (nodes_of f)) i k e, length-map (nodes_of f) key_of)) in
-      let same = same_at (map key_of (nodes_of f)) i m.0.key k (key_at (nodes_of f) i m.0 m.1) e in
-      (has_inst k.inst).1 (m.0, has_member f m.0 (contained (nodes_of f) i m.0 m.1), ap (λ (q : NodeKey). q.inst) same)
+      let m = get_inside (nodes_of f) i (omega (arith, slice_get_within (map key_of (nodes_of f)) i k e, length-map (nodes_of f) key_of)) in
+      let same = one_at (map key_of (nodes_of f)) i m.0.key k (key_at (nodes_of f) i m.0 m.1) e in
+      (has_inst k.inst).1 (m.0, has_member f m.0 (contained_at (nodes_of f) i m.0 m.1), ap (λ (q : NodeKey). q.inst) same)
 
   pub claim : AreEntries A → IsClaim (claim_of (slice_index parts.needs 0) A insts seeds)
   claim entries_fit = record {

@@ -3,7 +3,7 @@ use Rattle.std.proofs.Common.{◌≡◌, refl, sym, ap, ◌∙◌, subst, ℕ, z
 use Rattle.std.proofs.lemmas.Bool.{cases_order}
 use Rattle.std.proofs.lemmas.Bool.Decides.{nat_tests}
 use Rattle.std.proofs.lemmas.Option.{none-some, same_Some}
-use Rattle.std.specs.Prelude.{T, ◌&&◌}
+use Rattle.std.specs.Prelude.{T}
 use Rattle.std.specs.List.{AllByRecursion}
 use Rattle.std.specs.List.Sorted.{IsStrictlySortedBy}
 use Rattle.std.specs.Int.{from_bool}
@@ -13,27 +13,21 @@ use Rattle.std.specs.declared.cmp.Ordering.{Ordering}
 use Rattle.std.specs.declared.cmp.Ordering.TheVariants.{Less, Equal, Greater}
 use Rattle.std.specs.FinMap.{entries, entries_sorted}
 use Rattle.std.specs.FinMap.Entries.{is_sorted, below_all}
+use Rattle.basics.specs.Items.{all_at}
+use Rattle.basics.specs.Booleans.{less_if_so, split_tests}
+use Rattle.edge_laws.proofs.AllLaws.{not_below_itself}
+use Rattle.family_graph.proofs.Alike.{not_less}
 use Rattle.abs_state.specs.declared.state.AbsState.{AbsState}
-use Rattle.mask_states.specs.declared.keys.High.TheVariants.{Known, Tag}
 use Rattle.mask_states.specs.declared.keys.InstKey.{InstKey}
-use Rattle.mask_states.specs.declared.keys.Kind.{Kind}
-use Rattle.mask_states.specs.declared.keys.Kind.TheVariants.{Root, Call, Vector}
 use Rattle.mask_states.specs.declared.keys.NodeKey.{NodeKey}
-use Rattle.mask_states.specs.declared.keys.SpForm.{SpForm}
-use Rattle.mask_states.specs.declared.keys.SpForm.TheVariants.{Closed, Open}
-use Rattle.mask_states.specs.Keys.{root_inst, entry_key, kind_numbers, form_numbers, pick_numbers, inst_numbers, node_numbers}
+use Rattle.mask_states.specs.Keys.{root_inst, entry_key, form_numbers, pick_numbers, inst_numbers, node_numbers}
 use Rattle.mask_states.specs.Order.{inst_cmp, node_cmp}
-use Rattle.mask_states.proofs.AllLaws.{keys_are_ordered}
+use Rattle.mask_states.proofs.AllLaws.{keys_are_ordered, form_length, inst_length}
 use Rattle.local_rules.specs.declared.local.Node.{Node}
 use Rattle.edge_rules.specs.Views.{key_of}
 use Rattle.round_rules.specs.Families.{Family, node_of, nodes_of}
 
 -- ---- ascending lists
-
-all_at : {K : Type 0} (P : K → Type 0) (xs : List K) (j : ℕ) (b : K) → AllByRecursion P xs → slice_get xs j ≡ Some b → P b
-all_at P [] j b h e = absurd (none-some b e)
-all_at P (x ∷ xs) zero b h e = subst P (same_Some x b e) h.0
-all_at P (x ∷ xs) (suc j) b h e = all_at P xs j b h.1 e
 
 pub before : {K : Type 0} (R : K → K → Ordering) (xs : List K) (i j : ℕ) (a b : K) → IsStrictlySortedBy R xs → slice_get xs i ≡ Some a → slice_get xs j ≡ Some b → i < j
     → R a b ≡ Less
@@ -44,18 +38,12 @@ before R (x ∷ xs) zero (suc j) a b s ea eb lt = subst (λ y. R y b ≡ Less) (
 before R (x ∷ xs) (suc i) zero a b s ea eb lt = absurd (omega (arith, lt))
 before R (x ∷ xs) (suc i) (suc j) a b s ea eb lt = before R xs i j a b s.1 ea eb (omega (arith, lt))
 
-inst_itself : (k : InstKey) → inst_cmp k k ≡ Less → ⊥
-inst_itself k e = let h : Less ≡ Equal = sym e ∙ (keys_are_ordered.equal_insts k k).1 refl in cc
-
-node_itself : (k : NodeKey) → node_cmp k k ≡ Less → ⊥
-node_itself k e = let h : Less ≡ Equal = sym e ∙ (keys_are_ordered.equal_nodes k k).1 refl in cc
-
 pub inst_once : (xs : List InstKey) (i j : ℕ) (k : InstKey) → IsStrictlySortedBy inst_cmp xs → slice_get xs i ≡ Some k → slice_get xs j ≡ Some k → i ≡ j
 inst_once xs i j k s a b =
     elim (cases_order i j) [
       | inl same ↦ same
-      | inr (inl lt) ↦ absurd (inst_itself k (before inst_cmp xs i j k k s a b lt))
-      | inr (inr gt) ↦ absurd (inst_itself k (before inst_cmp xs j i k k s b a gt))
+      | inr (inl lt) ↦ absurd (not_less k (before inst_cmp xs i j k k s a b lt))
+      | inr (inr gt) ↦ absurd (not_less k (before inst_cmp xs j i k k s b a gt))
     ]
 
 -- ---- nodes in the order of their keys
@@ -74,38 +62,29 @@ node_before nodes i j a b s ea eb lt = before node_cmp (map key_of nodes) i j a.
 pub number_before : (nodes : List Node) (i j : ℕ) (a b : Node) → Ascend nodes → slice_get nodes i ≡ Some a → slice_get nodes j ≡ Some b → node_cmp a.key b.key ≡ Less → i < j
 number_before nodes i j a b s ea eb less =
     elim (cases_order i j) [
-      | inl same ↦ absurd (node_itself a.key (subst (λ (n : Node). node_cmp a.key n.key ≡ Less) (same_Some b a (sym eb ∙ ap (slice_get nodes) (sym same) ∙ ea)) less))
+      | inl same ↦ absurd (not_below_itself a.key (subst (λ (n : Node). node_cmp a.key n.key ≡ Less) (same_Some b a (sym eb ∙ ap (slice_get nodes) (sym same) ∙ ea)) less))
       | inr (inl lt) ↦ lt
-      | inr (inr gt) ↦ absurd (node_itself a.key (keys_are_ordered.nodes.trans a.key b.key a.key less (node_before nodes j i b a s eb ea gt)))
+      | inr (inr gt) ↦ absurd (not_below_itself a.key (keys_are_ordered.nodes.trans a.key b.key a.key less (node_before nodes j i b a s eb ea gt)))
     ]
 
 pub node_once : (nodes : List Node) (i j : ℕ) (n : Node) → Ascend nodes → slice_get nodes i ≡ Some n → slice_get nodes j ≡ Some n → i ≡ j
 node_once nodes i j n s a b =
     elim (cases_order i j) [
       | inl same ↦ same
-      | inr (inl lt) ↦ absurd (node_itself n.key (node_before nodes i j n n s a b lt))
-      | inr (inr gt) ↦ absurd (node_itself n.key (node_before nodes j i n n s b a gt))
+      | inr (inl lt) ↦ absurd (not_below_itself n.key (node_before nodes i j n n s a b lt))
+      | inr (inr gt) ↦ absurd (not_below_itself n.key (node_before nodes j i n n s b a gt))
     ]
 
 -- ---- the nodes of a family
 
-less_is : (r : Ordering) → T (is_lt r) → r ≡ Less
-less_is Less p = refl
-less_is Equal p = absurd p
-less_is Greater p = absurd p
-
-both : (a b : Bool) → T (a && b) → T a × T b
-both true b p = (tt, p)
-both false b p = absurd p
-
 above_of : (k : NodeKey) (es : List (NodeKey × AbsState)) → T (below_all node_cmp k es) → AllByRecursion (λ y. node_cmp k y ≡ Less) (map key_of (map node_of es))
 above_of k [] h = tt
-above_of k (e ∷ es) h = let p = both (is_lt (node_cmp k e.0)) _ h in (less_is (node_cmp k e.0) p.0, above_of k es p.1)
+above_of k (e ∷ es) h = let p = split_tests (is_lt (node_cmp k e.0)) _ h in (less_if_so (node_cmp k e.0) p.0, above_of k es p.1)
 
 sorted_of : (es : List (NodeKey × AbsState)) → T (is_sorted node_cmp es) → Ascend (map node_of es)
 unfolding IsStrictlySortedBy
 sorted_of [] h = tt
-sorted_of (e ∷ es) h = let p = both (below_all node_cmp e.0 es) _ h in (above_of e.0 es p.0, sorted_of es p.1)
+sorted_of (e ∷ es) h = let p = split_tests (below_all node_cmp e.0 es) _ h in (above_of e.0 es p.0, sorted_of es p.1)
 
 pub ascending : (f : Family) → Ascend (nodes_of f)
 ascending f = sorted_of (entries f) (entries_sorted f)
@@ -128,23 +107,9 @@ least (x ∷ xs) (suc n) e = by (least xs n) (nat_lt x 0) (x == 0) refl refl e
     by rest false true t u h = omega (arith, rest h)
     by rest false false t u h = cc
 
-kind_length : (k : Kind) → length (kind_numbers k) ≡ 2
-kind_length Root = refl
-kind_length Call = refl
-kind_length (Vector v) = refl
-
-form_length : (s : SpForm) → length (form_numbers s) ≡ 4
-form_length (Closed offset) = refl
-form_length (Open offset (Known byte)) = refl
-form_length (Open offset (Tag k)) = refl
-
 pick_length : (p : Option ℕ) → length (pick_numbers p) ≡ 2
 pick_length None = refl
 pick_length (Some byte) = refl
-
-inst_length : (k : InstKey) → length (inst_numbers k) ≡ 5
-unfolding inst_numbers
-inst_length k = omega (arith, length-append (kind_numbers k.kind) (k.entry ∷ k.masks ∷ from_bool k.i ∷ []), kind_length k.kind)
 
 node_length : (k : NodeKey) → length (node_numbers k) ≡ 15
 unfolding node_numbers

@@ -12,7 +12,8 @@ use Rattle.nesting_bound.specs.Least.{IsLeast}
 use Rattle.family_graph.specs.Graphs.{HasInst}
 use Rattle.std.specs.Prelude.{Contains}
 use Rattle.std.specs.List.Sorted.{IsStrictlySortedBy}
-use Rattle.solution_laws.proofs.Lists.{contained, read, get_at}
+use Rattle.basics.specs.Items.{contained_at, get_contained}
+use Rattle.basics.specs.Lists.{get_inside}
 use Rattle.solution_laws.proofs.Order.{Ascend, before, number_before}
 
 -- ---- ranks
@@ -60,12 +61,12 @@ module _ (nodes : List Node) (ascend : Ascend nodes) (insts : List InstKey) (sor
   no_lower : (i : ℕ) (inst : InstKey) → slice_get insts i ≡ Some inst → (p : ℕ) (n : Node) → slice_get nodes p ≡ Some n → n.key.inst ≡ inst → i ≤ p
   no_lower zero inst e p n is of = omega arith
   no_lower (suc i) inst e p n is of =
-      let x = get_at insts i (let lt = slice_get_within insts (suc i) inst e in omega (arith, lt)) in
-      let m = used x.0 (contained insts i x.0 x.1) in
-      let le = no_lower i x.0 x.1 m.1.0 m.0 (read nodes m.0 m.1) m.2 in
+      let x = get_inside insts i (let lt = slice_get_within insts (suc i) inst e in omega (arith, lt)) in
+      let m = used x.0 (contained_at insts i x.0 x.1) in
+      let le = no_lower i x.0 x.1 m.1.0 m.0 (get_contained nodes m.0 m.1) m.2 in
       let less = before inst_cmp insts i (suc i) x.0 inst sorted x.1 e (omega arith) in
       let first = nodes_go_by_instance.first m.0.key n.key (subst (λ (k : InstKey). inst_cmp k n.key.inst ≡ Less) (sym m.2) (subst (λ (k : InstKey). inst_cmp x.0 k ≡ Less) (sym of) less)) in
-      let lt = number_before nodes m.1.0 p m.0 n ascend (read nodes m.0 m.1) is first in
+      let lt = number_before nodes m.1.0 p m.0 n ascend (get_contained nodes m.0 m.1) is first in
       omega (arith, le, lt)
 
   pub few_insts : length insts ≤ length nodes
@@ -74,8 +75,8 @@ module _ (nodes : List Node) (ascend : Ascend nodes) (insts : List InstKey) (sor
       by : (count : ℕ) → length insts ≡ count → length insts ≤ length nodes
       by zero e = omega (arith, e)
       by (suc i) e =
-          let x = get_at insts i (omega (arith, e)) in
-          let m = used x.0 (contained insts i x.0 x.1) in
-          let le = no_lower i x.0 x.1 m.1.0 m.0 (read nodes m.0 m.1) m.2 in
+          let x = get_inside insts i (omega (arith, e)) in
+          let m = used x.0 (contained_at insts i x.0 x.1) in
+          let le = no_lower i x.0 x.1 m.1.0 m.0 (get_contained nodes m.0 m.1) m.2 in
           let lt = m.1.1 in
           omega (arith, e, le, lt)

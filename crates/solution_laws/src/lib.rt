@@ -1,4 +1,5 @@
-//! The laws of the certificates of solved families.
+//! The laws of the certificates of solved families, and that the analysis has one answer.
 #![tactic(auto)]
 
+pub mod answers;
 pub mod laws;

@@ -3,9 +3,8 @@ use Rattle.std.proofs.Common.{◌≡◌, ◌≢◌, inl, inr, ℕ, Bool, true, f
 use Rattle.std.specs.Prelude.{IfOk, MatchResult}
 use Rattle.std.proofs.lemmas.List.{append-nil}
 use Rattle.avr_model.specs.declared.assumption.Entry.{Entry}
-use Rattle.local_rules.specs.Machine.{AreWords}
 use Rattle.sb_base.specs.Lines.{Place, TextLine}
-use Rattle.sb_base.specs.Outside.{Held, Blamed, grown, GrewByPrefix}
+use Rattle.sb_base.specs.Outside.{Held, Blamed, grown}
 use Rattle.indirect_targets.specs.declared.fault.AssumeText.{AssumeText}
 use Rattle.indirect_targets.specs.Reading.{entries_in}
 use Rattle.witness_replay.specs.Spelling.{Plan}
@@ -24,18 +23,17 @@ use Rattle.store_laws.specs.declared.verdict.ClearVerdict.TheVariants as clear
 use Rattle.device_hooks.specs.declared.devices.DevicesFault.{DevicesFault}
 use Rattle.device_hooks.specs.Spelling.{Setup}
 use Rattle.device_hooks.specs.Reading.{setup_in}
-use Rattle.device_hooks.specs.Simulating.{simulation_of}
 use Rattle.commands.specs.Commands.{Command, Check, Analyse, Run, Report, Explain, Clear, Premises, Simulate, Demo, Firmware, Second, Assumptions, device_for, name_of}
 use Rattle.replies.specs.Firmware.{firmware_words, firmware_fault}
-use Rattle.replies.specs.Texts.{usage, read_fault, too_long, assumptions_refused, certificate_refused, devices_refused, why_not_status, why_not_text}
+use Rattle.replies.specs.Texts.{read_fault, assumptions_refused, certificate_refused, devices_refused, why_not_status, why_not_text}
 use Rattle.replies.specs.Reading as read
-use Rattle.replies.specs.Reading.{Seen, Unread, Whole, Long, AllAgree}
+use Rattle.replies.specs.Reading.{Seen, Unread, Whole, Long}
 use Rattle.replies.specs.Reply.{Reply, Says, Refuses, WithFile, WithBytes, WithOptional, ImageBy, WithImage, ListBy, WithList, attains, AttainedBy, WitnessReply, VerdictReply, CertificateReply, told_of, ClearSays, ClearReply, AcceptedReply, RunReply, EndsBefore, ScheduleReply, WhyNotReply, AnalyseReply, SimulateReply, DemoReply, FlashReply, WorkReply, IsReply}
 use Rattle.replies.specs.Headline.{HasWords, ReadsWords, AcceptingRepliesHold, RepliesAreExact}
 use Rattle.stack_core.specs.declared.reply.Reply.{Reply as Answered}
-use Rattle.stack_core.specs.Reading.{GoTogether, whole_of, GoWith, seen_under, seen_whole, AreBytes, IsTooLong}
+use Rattle.stack_core.specs.Reading.{seen_under, seen_whole, AreBytes}
 use Rattle.stack_core.proofs.Gathering.{whole_reply}
-use Rattle.stack_core.specs.Answer.{IsAnswered, IsWritten, IsReadFault, IsSettled, IsAnswer, IsCutOff, Cuts}
+use Rattle.stack_core.specs.Answer.{IsAnswered, IsWritten, IsReadFault, IsSettled, IsAnswer, IsCutOff}
 
 -- ---- no reply has a status that isn't the reply's
 
@@ -256,50 +254,15 @@ module _ (hold : AcceptingRepliesHold) (exact : RepliesAreExact) where
   worked_result c holds before after blamed firmware second list (Ok r) read work words = worked c holds before after blamed firmware second list r.status r.text.items read work words
   worked_result c holds before after blamed firmware second list (Err e) read work words = inl read.1
 
-  pub stopped_long : (c : Command) (holds : List ℕ → Held) (before after : ℕ) (blamed : Blamed) (name : List ℕ) (status : ℕ) (text : List ℕ)
-      → IsTooLong c holds name × (after ≡ before) → status ≡ 5 → text ≡ too_long name → IsAnswer (Some c) holds before after blamed status text
-  stopped_long c holds before after blamed name status text long five told =
-      let l = long.0 in
-      let reply : IsReply c l.seen status text = subst (λ s. IsReply c l.seen s text) (sym five) (subst (IsReply c l.seen 5) (sym told) l.reply) in
-      let never : status ≡ 0 → ReadsWords c l.seen = λ zero. absurd (let wrong : ◌≡◌ {A = ℕ} 0 5 = sym zero ∙ five in cc) in
-      inl (settle c holds before after status text long.1
-      (record {
-        seen = l.seen;
-        agrees = l.agrees;
-        reply = reply;
-        headline = hold c l.seen status text reply never;
-        exact = exact c l.seen status text reply;
-      }))
-
 pub failed : (o : Option Command) (holds : List ℕ → Held) (before after : ℕ) (blamed : Blamed) (name : List ℕ) (status : ℕ) (text : List ℕ)
     → IsReadFault o holds before after blamed name → status ≡ 3 → text ≡ read_fault name → IsAnswer o holds before after blamed status text
 failed o holds before after blamed name status text fault three told = inr (record { three = three; name = name; fault = fault; text_is = told })
-
-pub no_command : (holds : List ℕ → Held) (before : ℕ) (blamed : Blamed) (status : ℕ) (text : List ℕ) → status ≡ 2 → text ≡ usage → IsAnswer None holds before before blamed status text
-no_command holds before blamed status text two told =
-    inl (record {
-      quiet = refl;
-      due = (two, told);
-      usage_alone = (λ e. refl, λ e. two);
-      read = λ e. let wrong : ◌≡◌ {A = ℕ} 2 3 = sym two ∙ e in cc;
-      write = λ e. let wrong : ◌≡◌ {A = ℕ} 2 4 = sym two ∙ e in cc;
-      ample = λ e. let wrong : ◌≡◌ {A = ℕ} 2 12 = sym two ∙ e in cc;
-    })
 
 -- ---- where memory is wanting
 
 grown-none : (o : Option (List ℕ)) → o ≡ grown o []
 grown-none None = refl
 grown-none (Some bytes) = ap Some (sym (append-nil bytes))
-
-pub nothing_cut : (o : Option Command) (holds : List ℕ → Held) (before after : ℕ) (blamed : Blamed) (old : Option (List ℕ)) → IsCutOff o holds before after blamed → Cuts o holds before after blamed old old
-nothing_cut o holds before after blamed old (inl quiet) = inl (quiet, inl refl)
-nothing_cut o holds before after blamed old (inr fault) = inr (fault.0, fault.1, (0, grown-none old))
-
-pub answer_cut : (o : Option Command) (holds : List ℕ → Held) (before after : ℕ) (blamed : Blamed) (status : ℕ) (text : List ℕ) (old new : Option (List ℕ)) → IsAnswer o holds before after blamed status text
-    → GrewByPrefix old new text → Cuts o holds before after blamed old new
-answer_cut o holds before after blamed status text old new (inl s) grew = inl (s.quiet, inr (status, text, s.due, grew))
-answer_cut o holds before after blamed status text old new (inr t) grew = inr (t.name, t.fault, subst (GrewByPrefix old new) t.text_is grew)
 
 -- ---- where the whole text was written
 

@@ -1,124 +1,70 @@
 -- Replies by what is known of their parts.
-use Rattle.std.proofs.Common.{◌≡◌, ◌≢◌, inl, inr, ℕ, Bool, true, false, List, [], length, take, Option, Some, None, Result, Ok, Err, refl, sym, ap, ◌∙◌, subst}
+use Rattle.std.proofs.Common.{◌≡◌, ◌≢◌, inl, ℕ, Bool, true, false, List, [], take, Option, Some, None, Result, Ok, Err, refl, sym, ap, ◌∙◌, subst}
 use Rattle.std.specs.Option.{option_copied, option_map, is_some}
 use Rattle.std.specs.Prelude.{IfOk}
+use Rattle.std.proofs.lemmas.Bool.{false_from_ne_true}
 use denote.Ref.{Bor}
 use Rattle.avr_model.specs.declared.assumption.Entry.{Entry}
 use Rattle.avr_model.specs.declared.device.Device.{Device}
 use Rattle.avr_model.specs.Devices.{words_of}
-use Rattle.avr_model.specs.Image.{WORDS, IsOutside}
 use Rattle.indirect_targets.specs.declared.fault.AssumeText.{AssumeText}
 use Rattle.indirect_targets.specs.declared.fault.AssumeText.TheVariants as assume
 use Rattle.indirect_targets.specs.Reading.{entries_in}
 use Rattle.witness_replay.specs.Spelling.{Plan}
-use Rattle.witness_replay.specs.Replay.{Report as Replayed, replay_of}
+use Rattle.witness_replay.specs.Replay.{replay_of}
 use Rattle.flash_image.specs.Naming.{Named, SayTheSame}
 use Rattle.flash_image.specs.Narrowing.{NarrowingIsExact}
 use Rattle.elf_load.specs.Elf.{is_elf}
 use Rattle.local_rules.specs.Machine.{AreWords}
 use Rattle.elf_load.specs.declared.Loaded.{Loaded}
 use Rattle.certificate.specs.Claims.{Claim, IsClaim}
-use Rattle.round_rules.specs.declared.refusal.Refusal.{Refusal}
-use Rattle.round_rules.specs.Solutions.{IsAnswer, IsWhyNot}
+use Rattle.round_rules.specs.Solutions.{IsAnswer}
 use Rattle.reports.specs.Laws.{NamesThatSayTheSame, ExplanationsSayTheSame}
 use Rattle.demo_image.specs.Image.{demo_words}
 use Rattle.device_hooks.specs.declared.devices.DevicesFault.{DevicesFault}
 use Rattle.device_hooks.specs.declared.devices.DevicesFault.TheVariants as devices
 use Rattle.device_hooks.specs.Spelling.{Setup}
-use Rattle.device_hooks.specs.Simulating.{simulation_of}
 use Rattle.commands.specs.Commands.{Command, Check, Analyse, Run, Report, Explain, Clear, Premises, Simulate, Demo, device_for}
 use Rattle.certificate.specs.Valid.{IsAttained, IsValid}
 use Rattle.cert_format.specs.declared.fault.CertFault.{CertFault}
 use Rattle.cert_format.specs.declared.fault.CertFault.TheVariants as fault
 use Rattle.cert_format.specs.Reading.{certificate_in}
-use Rattle.cert_check.specs.Verdict.{IsVerdict}
-use Rattle.cert_check.specs.declared.verdict.Reason.{Reason}
 use Rattle.cert_check.specs.declared.verdict.Verdict.{Verdict}
 use Rattle.cert_check.specs.declared.verdict.Verdict.TheVariants.{Accepted, Rejected}
-use Rattle.replies.specs.Firmware.{fault_by, words_by, names_by, end_by, outside_fault, fault_or, firmware_fault, firmware_words, firmware_names, firmware_end}
-use Rattle.replies.specs.Texts.{firmware_outside, why_not_status, why_not_text, demo_text, rejected, witness_rejected, schedule_illegal, run_text, devices_refused, assumptions_refused, certificate_refused}
-use Rattle.replies.specs.Reply.{Reply, Says, Refuses, ImageBy, WithImage, ListBy, WithList, attains, AttainedBy, WitnessReply, VerdictReply, JudgedReply, CertificateReply, report_by, ExplainReply, PremisesReply, AcceptedReply, AnalyseReply, SimulateReply, DemoReply, FlashReply, RunReply}
+use Rattle.replies.specs.Firmware.{words_by, outside_fault, fault_or, firmware_fault, firmware_words, firmware_names, firmware_end}
+use Rattle.replies.specs.Texts.{firmware_outside, demo_text, witness_rejected, devices_refused, assumptions_refused, certificate_refused}
+use Rattle.replies.specs.Reply.{Reply, Says, Refuses, ListBy, WithList, attains, AttainedBy, WitnessReply, VerdictReply, CertificateReply, report_by, ExplainReply, PremisesReply, AcceptedReply, SimulateReply, DemoReply, FlashReply}
 use Rattle.replies.specs.Headline.{HasWords, PlacesSayTheSame}
-use Rattle.replies.proofs.AllLaws.{attained_by, attains_by}
-use Rattle.stack_core.specs.Answering.{GivesAs, GivesOn, NarrowedTo, LoadsOn, ReadsAs, ListsAs, IsWitnessedText, nothing, IsJudgedAs, LoadedReply, ImageReply}
+use Rattle.replies.proofs.AllLaws.{attained_by, witness_zero, by_none}
+use Rattle.stack_core.specs.Answering.{GivesAs, GivesOn, NarrowedTo, LoadsOn, ReadsAs, IsJudgedAs, LoadedReply, ImageReply}
 use Rattle.stack_core.specs.declared.reply.Reply.{Reply as Answered}
 use Rattle.stack_core.specs.declared.judging.Judged.{Judged}
 use Rattle.stack_core.specs.declared.judging.Judged.TheVariants as judged
 use Rattle.stack_core.specs.declared.loading.Image.{Image}
 use Rattle.stack_core.specs.declared.loading.Image.TheVariants.{Loaded as OnFlash, Refused}
-use Rattle.stack_core.specs.declared.loading.Listing.TheVariants.{Listed, Unlisted}
-
--- ---- run
-
-pub replayed_ok : (x : Result Replayed ℕ) (r : Replayed) (text : List ℕ) → Ok r ≡ x → text ≡ run_text r → RunReply x 0 text
-replayed_ok x r text e t = subst (λ y. RunReply y 0 text) e (refl, t)
-
-pub replayed_err : (x : Result Replayed ℕ) (step : ℕ) (text : List ℕ) → Err step ≡ x → text ≡ schedule_illegal step → RunReply x 9 text
-replayed_err x step text e t = subst (λ y. RunReply y 9 text) e (refl, t)
+use Rattle.stack_core.specs.declared.loading.Listing.TheVariants.{Unlisted}
 
 -- ---- simulate
-
-pub simulated_reply : (words : List ℕ) (A : List Entry) (steps : ℕ) (x : Result Setup DevicesFault) (setup : Setup) (text : List ℕ) → x ≡ Ok setup → text ≡ run_text (simulation_of words A setup steps)
-    → SimulateReply words A steps x 0 text
-simulated_reply words A steps x setup text e t = subst (λ y. SimulateReply words A steps y 0 text) (sym e) (refl, t)
 
 unsimulated : (words : List ℕ) (A : List Entry) (steps : ℕ) (x : Result Setup DevicesFault) (f : DevicesFault) (text : List ℕ) → x ≡ Err f → devices_refused f ≡ Some text → SimulateReply words A steps x 14 text
 unsimulated words A steps x f text e t = subst (λ y. SimulateReply words A steps y 14 text) (sym e) (subst (λ o. Refuses 14 o 14 text) (sym t) (refl, refl))
 
-pub unsimulated_reply : (words : List ℕ) (A : List Entry) (steps : ℕ) (x : Result Setup DevicesFault) (f : DevicesFault) (text : List ℕ) → (f ≢ devices.Memory → x ≡ Err f) → devices_refused f ≡ Some text
-    → SimulateReply words A steps x 14 text
-unsimulated_reply words A steps x (devices.Malformed at) text e t = unsimulated words A steps x (devices.Malformed at) text (e (λ w. cc)) t
-unsimulated_reply words A steps x devices.Memory text e t = absurd (let wrong = t in cc)
-
 -- ---- a certificate's schedule
-
-not_true : (b : Bool) → (b ≡ true → ⊥) → b ≡ false
-not_true true h = absurd (h refl)
-not_true false h = refl
-
-by_attains : (next : Reply) (attained : Bool) (status : ℕ) (text : List ℕ) → attained ≡ true → next status text → AttainedBy next attained status text
-by_attains next attained status text e t = subst (λ b. AttainedBy next b status text) (sym e) t
 
 by_missing : (next : Reply) (attained : Bool) (text : List ℕ) → attained ≡ false → text ≡ witness_rejected → AttainedBy next attained 1 text
 by_missing next attained text e t = subst (λ b. AttainedBy next b 1 text) (sym e) (refl, t)
-
-attained_reply : (words : List ℕ) (A : List Entry) (next : Reply) (bound : ℕ) (witness : Option Plan) (status : ℕ) (text : List ℕ) → IsAttained words A bound witness → next status text
-    → WitnessReply words A next bound witness status text
-attained_reply words A next bound None status text a t = t
-attained_reply words A next bound (Some plan) status text a t =
-    by_attains next (attains bound (replay_of words A plan)) status text (attains_by bound (replay_of words A plan) a) t
 
 missed_reply : (words : List ℕ) (A : List Entry) (next : Reply) (bound : ℕ) (witness : Option Plan) (text : List ℕ) → (IsAttained words A bound witness → ⊥) → text ≡ witness_rejected
     → WitnessReply words A next bound witness 1 text
 missed_reply words A next bound None text a t = absurd (a tt)
 missed_reply words A next bound (Some plan) text a t =
-    by_missing next (attains bound (replay_of words A plan)) text (not_true (attains bound (replay_of words A plan)) (λ h. a (attained_by bound (replay_of words A plan) h))) t
+    by_missing next (attains bound (replay_of words A plan)) text (false_from_ne_true (attains bound (replay_of words A plan)) (λ h. a (attained_by bound (replay_of words A plan) h))) t
 
 pub copied_is_some : (o : Option (Bor Plan)) (w : Option Plan) → option_copied o ≡ w → is_some o ≡ is_some w
 copied_is_some None None e = refl
 copied_is_some None (Some p) e = absurd (let wrong = e in cc)
 copied_is_some (Some s) None e = absurd (let wrong = e in cc)
 copied_is_some (Some s) (Some p) e = refl
-
--- ---- a verdict
-
--- a certificate that is accepted, and one that isn't for its schedule or for the verdict
-pub accepted_claim : (words : List ℕ) (A : List Entry) (c : Claim) (bound : ℕ) → IsVerdict words A c (Accepted bound) → IsAttained words A c.bound c.witness → IsJudgedAs words A (Ok c) (judged.Accepted c)
-accepted_claim words A c bound is a = (refl, record { sound = is.0; attained = a })
-
-pub missed_claim : (words : List ℕ) (A : List Entry) (c : Claim) (bound : ℕ) (r : Answered) → IsVerdict words A c (Accepted bound) → (IsAttained words A c.bound c.witness → ⊥) → r.status ≡ 1 → r.text.items ≡ witness_rejected
-    → IsJudgedAs words A (Ok c) (judged.Refused r)
-missed_claim words A c bound r is a s t = record {
-  verdict = Accepted bound;
-  is = is;
-  reply =
-      subst (λ n. WitnessReply words A (nothing c) bound c.witness n r.text.items) (sym s)
-      (subst (λ b. WitnessReply words A (nothing c) b c.witness 1 r.text.items) (sym is.1) (missed_reply words A (nothing c) c.bound c.witness r.text.items a t));
-}
-
-pub rejected_claim : (words : List ℕ) (A : List Entry) (c : Claim) (reason : Reason) (r : Answered) → IsVerdict words A c (Rejected reason) → r.status ≡ 1 → r.text.items ≡ rejected reason
-    → IsJudgedAs words A (Ok c) (judged.Refused r)
-rejected_claim words A c reason r is s t = record { verdict = Rejected reason; is = is; reply = (s, t) }
 
 -- ---- a certificate's text
 
@@ -132,11 +78,6 @@ unread_reply words A next x (fault.Malformed at) text e t = refused_as words A n
 unread_reply words A next x (fault.Order at) text e t = refused_as words A next x (fault.Order at) text (e (λ w. cc)) t
 unread_reply words A next x (fault.Limit l) text e t = refused_as words A next x (fault.Limit l) text (e (λ w. cc)) t
 unread_reply words A next x fault.Memory text e t = absurd (let wrong = t in cc)
-
--- a text that isn't read
-pub unread_claim : (words : List ℕ) (A : List Entry) (x : Result Claim CertFault) (f : CertFault) (r : Answered) → (f ≢ fault.Memory → x ≡ Err f) → r.status ≡ 8 → certificate_refused f ≡ Some r.text.items
-    → IsJudgedAs words A x (judged.Refused r)
-unread_claim words A x f r e s t = subst (λ n. CertificateReply words A nothing x n r.text.items) (sym s) (unread_reply words A nothing x f r.text.items e t)
 
 -- one that is
 pub read_claim : {E : Type 0} (words : List ℕ) (A : List Entry) (x : Result Claim CertFault) (c : Claim) (j : Result Judged E) → x ≡ Ok c → IfOk j (IsJudgedAs words A (Ok c)) → IfOk j (IsJudgedAs words A x)
@@ -162,16 +103,12 @@ told_alike : (words : List ℕ) (A : List Entry) (next other : Claim → Reply) 
 told_alike words A next other (Err e) status text f h = h
 told_alike words A next other (Ok c) status text f h = record { verdict = h.verdict; is = h.is; reply = verdict_alike words A next other c h.verdict status text (f c) h.reply }
 
--- what is answered of one that isn't accepted, whatever follows one that is
-pub refused_reply : (words : List ℕ) (A : List Entry) (next : Claim → Reply) (x : Result Claim CertFault) (r : Answered) → CertificateReply words A nothing x r.status r.text.items → CertificateReply words A next x r.status r.text.items
-refused_reply words A next x r h = told_alike words A nothing next x r.status r.text.items (λ c k. absurd k) h
-
 -- what follows an accepted certificate
 pub accepted_reply : (words : List ℕ) (A : List Entry) (next : Claim → Reply) (x : Result Claim CertFault) (c : Claim) (status : ℕ) (text : List ℕ) → (x ≡ Ok c) × IsValid words A c → next c status text
     → CertificateReply words A next x status text
 accepted_reply words A next x c status text h k =
     subst (λ y. CertificateReply words A next y status text) (sym h.0)
-    (record { verdict = Accepted c.bound; is = (h.1.sound, refl); reply = attained_reply words A (next c) c.bound c.witness status text h.1.attained k })
+    (record { verdict = Accepted c.bound; is = (h.1.sound, refl); reply = witness_zero words A (next c) c.bound c.witness status text h.1.attained k })
 
 -- the same of a result
 pub accepted_result : {E : Type 0} (words : List ℕ) (A : List Entry) (next : Claim → Reply) (x : Result Claim CertFault) (c : Claim) (r : Result Answered E) → (x ≡ Ok c) × IsValid words A c
@@ -184,36 +121,9 @@ accepted_result words A next x c (Ok a) h k = accepted_reply words A next x c a.
 pub refused_by : (n : ℕ) (o : Option (List ℕ)) (status : ℕ) (text : List ℕ) → status ≡ n → o ≡ Some text → Refuses n o status text
 refused_by n o status text s t = subst (λ x. Refuses n x status text) (sym t) (s, refl)
 
-pub solved_reply : (words : List ℕ) (A : List Entry) (steps : Option ℕ) (least : Claim) (text : List ℕ) → IsAnswer words A steps least → IsClaim least → IsWitnessedText words A least text → AnalyseReply words A steps 0 text
-solved_reply words A steps least text answer claim h =
-    let w = h.witnessed in
-    inl (record {
-      claim = h.claim;
-      analysis = record { least = least; claim = claim; answer = answer; found = w.found; trials = w.trials; attained = w.attained; is = w.is };
-      says = (refl, h.is);
-    })
-
-pub why_not_reply : (words : List ℕ) (A : List Entry) (steps : Option ℕ) (r : Refusal) (status : ℕ) (text : List ℕ) → IsWhyNot words A steps r → Refuses (why_not_status r) (why_not_text words r) status text
-    → AnalyseReply words A steps status text
-why_not_reply words A steps r status text why says = inr (record { refusal = r; why = why; says = says })
-
 pub measured_reply : (size : ℕ) (words : List ℕ) (A : List Entry) (c : Claim) (text : List ℕ) → words ≡ demo_words size → A ≡ [] → IsAnswer words A None c → IsClaim c → text ≡ demo_text size c → DemoReply size 0 text
 measured_reply size words A c text w a answer claim t =
     inl (record { claim = c; fits = claim; answer = subst (λ x. IsAnswer x [] None c) w (subst (λ x. IsAnswer words x None c) a answer); says = (refl, t) })
-
-pub unmeasured_reply : (size : ℕ) (words : List ℕ) (A : List Entry) (r : Refusal) (status : ℕ) (text : List ℕ) → words ≡ demo_words size → A ≡ [] → IsWhyNot words A None r
-    → Refuses (why_not_status r) (why_not_text words r) status text → DemoReply size status text
-unmeasured_reply size words A r status text w a why says =
-    inr (record {
-      refusal = r;
-      why = subst (λ x. IsWhyNot x [] None r) w (subst (λ x. IsWhyNot words x None r) a why);
-      says = subst (λ x. Refuses (why_not_status r) (why_not_text x r) status text) w says;
-    })
-
-pub measured_result : {E : Type 0} (size : ℕ) (words : List ℕ) (A : List Entry) (c : Claim) (x : Result Answered E) → words ≡ demo_words size → A ≡ [] → IsAnswer words A None c
-    → IfOk x (λ r. (r.status ≡ 0) × (r.text.items ≡ demo_text size c)) → IfOk x (λ r. IsClaim c) → IfOk x (λ r. DemoReply size r.status r.text.items)
-measured_result size words A c (Err e) w a answer h claim = tt
-measured_result size words A c (Ok r) w a answer h claim = subst (λ s. DemoReply size s r.text.items) (sym h.0) (measured_reply size words A c r.text.items w a answer claim h.1)
 
 -- ---- the words of a firmware
 
@@ -240,26 +150,7 @@ unlisted bytes (assume.Malformed line) r e s t = (assume.Malformed line, e (λ w
 unlisted bytes (assume.Order line) r e s t = (assume.Order line, e (λ w. cc), s, t)
 unlisted bytes assume.Memory r e s t = absurd (let wrong = t in cc)
 
-pub listed_reply : (list : Option (List ℕ)) (A : List Entry) (next : List Entry → Reply) (status : ℕ) (text : List ℕ) → ListsAs list (Listed A) → next A status text → WithList list next status text
-listed_reply None A next status text e h = subst (λ l. next l status text) e h
-listed_reply (Some bytes) A next status text e h = subst (λ x. ListBy x next status text) (sym e) h
-
-pub unlisted_reply : (list : Option (List ℕ)) (r : Answered) (next : List Entry → Reply) → ListsAs list (Unlisted r) → WithList list next r.status r.text.items
-unlisted_reply None r next h = absurd h
-unlisted_reply (Some bytes) r next h =
-    subst (λ x. ListBy x next r.status r.text.items) (sym h.1) (subst (λ o. Refuses 7 o r.status r.text.items) (sym h.3) (h.2, refl))
-
 -- ---- a firmware
-
-by_fault : (o : Option (List ℕ)) (reply : Reply) (status : ℕ) (text : List ℕ) → o ≡ None → reply status text → ImageBy o reply status text
-by_fault o reply status text e m = subst (λ x. ImageBy x reply status text) (sym e) m
-
-pub refused_image : (device : Device) (bytes : List ℕ) (r : Answered) (next : List ℕ → Reply) → (r.status ≡ 6) × (firmware_fault device bytes ≡ Some r.text.items) → WithImage device bytes next r.status r.text.items
-refused_image device bytes r next h = subst (λ o. ImageBy o (next (firmware_words device bytes)) r.status r.text.items) (sym h.1) (h.0, refl)
-
--- a word outside is told
-pub outside_told : (device : Device) (all : List ℕ) (word : ℕ) (text : List ℕ) → NarrowingIsExact → length all ≡ WORDS → IsOutside device all word → text ≡ firmware_outside word → outside_fault device all ≡ Some text
-outside_told device all word text narrowing size o t = ap (option_map firmware_outside) (narrowing.outside device all word size o) ∙ ap Some (sym t)
 
 -- what the greatest flash holds, on a device
 pub loaded_on : (device : Device) (bytes : List ℕ) (before : Loaded) (image : Image) → NarrowingIsExact → GivesAs (is_elf bytes) bytes before → NarrowedTo device before image → LoadsOn device bytes image
@@ -274,10 +165,6 @@ loaded_on device bytes before (Refused r) narrowing g h = (
   h.0,
   ap (λ (o : Option (List ℕ)). fault_or o (outside_fault device (words_by (is_elf bytes) bytes))) g.loads ∙ ap (outside_fault device) (sym g.words) ∙ h.1,
 )
-
--- a file that is refused before is refused for every device
-pub refused_on : (device : Device) (bytes : List ℕ) (r : Answered) → (r.status ≡ 6) × (fault_by (is_elf bytes) bytes ≡ Some r.text.items) → LoadsOn device bytes (Refused r)
-refused_on device bytes r h = (h.0, ap (λ (o : Option (List ℕ)). fault_or o (outside_fault device (words_by (is_elf bytes) bytes))) h.1)
 
 report_alike : (laws : NamesThatSayTheSame) (json : Bool) (device : Device) (names others : List Named) (end end' : Option ℕ) → SayTheSame names others → end ≡ end' → (c : Claim) → report_by json device names end c ≡ report_by json device others end' c
 report_alike laws true device names others end end' same e c = (laws device c names others end same).1 ∙ ap (λ x. report_by true device others x c) e
@@ -330,5 +217,5 @@ pub loaded_reply : (laws : NamesThatSayTheSame) (texts : ExplanationsSayTheSame)
 loaded_reply laws texts places command firmware second list loaded status text g h =
     let there : WithList list (λ A. FlashReply command firmware second loaded.flash A) status text =
     next_alike list (λ A. LoadedReply command loaded second A) (λ A. FlashReply command firmware second loaded.flash A) status text (λ A k. flash_alike laws texts places command firmware second loaded A status text g.names g.static_end k) h in
-    by_fault (firmware_fault (device_for command) firmware) (WithList list (λ A. FlashReply command firmware second (firmware_words (device_for command) firmware) A)) status text g.loads
+    by_none (firmware_fault (device_for command) firmware) (WithList list (λ A. FlashReply command firmware second (firmware_words (device_for command) firmware) A)) status text g.loads
     (subst (λ ws. WithList list (λ A. FlashReply command firmware second ws A) status text) g.words there)

@@ -1,6 +1,6 @@
 -- The least and the greatest number that passes a test, and all below one, found one after the other.
 use Rattle.std.proofs.Common.{◌≡◌, refl, sym, ap, ◌∙◌, subst, ℕ, zero, suc, ◌+◌, ◌-◌, ◌<◌, ◌≤◌, ◌&&◌, ⊎_elim, Bool, true, false, if◌then◌else◌, Option, Some, None, arith}
-use Rattle.std.proofs.lemmas.Bool.{cases_lt}
+use Rattle.std.proofs.lemmas.Bool.{cases_lt, and_right}
 use Rattle.avr_model.specs.Bits.{all_below}
 use Rattle.clear_laws.specs.Aims.{or_number, least_below, greatest_below}
 
@@ -60,12 +60,9 @@ all_next p n = refl
 pub all_more : (p : ℕ → Bool) (n : ℕ) → all_below n p ≡ true → p n ≡ true → all_below (n + 1) p ≡ true
 all_more p n before here = ap (λ x. all_below x p) (sym (next_is n)) ∙ all_next p n ∙ ap (λ b. b && p n) before ∙ here
 
-both_false : (a b : Bool) → b ≡ false → (a && b) ≡ false
-both_false a b h = grind arith
-
 pub all_fails : (p : ℕ → Bool) (n m : ℕ) → n < m → p n ≡ false → all_below m p ≡ false
 unfolding all_below
 all_fails p n zero lt fails = absurd (omega (arith, lt))
 all_fails p n (suc m) lt fails =
     ⊎_elim (λ less. ap (λ b. b && p m) (all_fails p n m less fails))
-    (λ over. let same : n ≡ m = omega (arith, lt, over) in subst (λ x. (all_below x p && p x) ≡ false) same (both_false (all_below n p) (p n) fails)) (cases_lt n m)
+    (λ over. let same : n ≡ m = omega (arith, lt, over) in subst (λ x. (all_below x p && p x) ≡ false) same (and_right (all_below n p) (p n) fails)) (cases_lt n m)

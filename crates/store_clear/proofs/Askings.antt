@@ -2,6 +2,9 @@
 use Rattle.std.proofs.Common.{◌≡◌, refl, sym, ap, ◌∙◌, subst, ℕ, ◌+◌, ◌<◌, ⊎_elim, Bool, List, [], ◌∷◌, ◌++◌, get_or, Some, slice_get, arith}
 use Rattle.std.specs.Option.{option_map}
 use Rattle.std.proofs.lemmas.Option.{same_Some}
+use Rattle.basics.specs.Lists.{one_at, get_or_front, get_or_pushed}
+use Rattle.std.proofs.lemmas.List.{length_push}
+use Rattle.basics.specs.Numbers.{before_or_last}
 use Rattle.avr_model.specs.declared.assumption.Entry.{Entry}
 use Rattle.avr_model.specs.Sites.{instruction_at}
 use Rattle.abs_state.specs.declared.state.AbsState.{AbsState}
@@ -13,7 +16,6 @@ use Rattle.store_aims.specs.declared.need.Asks.{Asks}
 use Rattle.store_aims.specs.declared.need.Asks.TheVariants.{Nothing}
 use Rattle.store_aims.specs.Needs.{meets}
 use Rattle.store_clear.specs.Settling.{ask_at, AreAskedTo}
-use Rattle.store_clear.proofs.Lists.{one_at, front_at, last_at, pushed, cases}
 
 module _ (nodes : List Node) (at : ℕ) (n : Node) (is : slice_get nodes at ≡ Some n) where
   -- what is read by the number of a node
@@ -40,15 +42,15 @@ module _ (words : List ℕ) (A : List Entry) (bound : ℕ) (nodes : List Node) w
       → AreAskedTo words A bound nodes (at + 1) (asks ++ a ∷ [])
   asked_more at asks n a m is told =
       record {
-        count_is = pushed asks a ∙ ap (λ x. x + 1) m.count_is;
-        each = λ i x lt e. ⊎_elim (old i x e) (new i x e) (cases i at lt);
+        count_is = length_push asks a ∙ ap (λ x. x + 1) m.count_is;
+        each = λ i x lt e. ⊎_elim (old i x e) (new i x e) (before_or_last i at lt);
       }
     where
       old : (i : ℕ) (x : Node) → slice_get nodes i ≡ Some x → i < at → Asking x (ask_at (asks ++ a ∷ []) i)
-      old i x e lt = subst (Asking x) (sym (front_at asks (a ∷ []) i Nothing (subst (λ k. i < k) (sym m.count_is) lt))) (m.each i x lt e)
+      old i x e lt = subst (Asking x) (sym (get_or_front asks (a ∷ []) i Nothing (subst (λ k. i < k) (sym m.count_is) lt))) (m.each i x lt e)
 
       new : (i : ℕ) (x : Node) → slice_get nodes i ≡ Some x → i ≡ at → Asking x (ask_at (asks ++ a ∷ []) i)
       new i x e same =
           let one : n ≡ x = one_at nodes at n x is (subst (λ k. slice_get nodes k ≡ Some x) same e) in
-          let last : a ≡ ask_at (asks ++ a ∷ []) i = sym (ap (λ k. get_or (asks ++ a ∷ []) k Nothing) (same ∙ sym m.count_is) ∙ last_at asks a Nothing) in
+          let last : a ≡ ask_at (asks ++ a ∷ []) i = sym (ap (λ k. get_or (asks ++ a ∷ []) k Nothing) (same ∙ sym m.count_is) ∙ get_or_pushed asks a Nothing) in
           subst (Asking x) last (subst (λ (y : Node). Asking y a) one told)

@@ -1,5 +1,5 @@
 -- Words that are marked, and the numbers of what is marked.
-use Rattle.std.proofs.Common.{◌≡◌, refl, sym, ap, ◌∙◌, subst, ℕ, zero, suc, ◌+◌, ◌<◌, ◌⊎◌, inl, inr, ⊎_elim, Bool, true, false, List, [], ◌∷◌, length, set, replicate, get_or-set_other, get_or-set_same, Option, Some, None, slice_get, Contains, arith}
+use Rattle.std.proofs.Common.{◌≡◌, refl, sym, ap, ◌∙◌, subst, ℕ, zero, suc, ◌+◌, ◌<◌, ◌⊎◌, inl, inr, ⊎_elim, Bool, true, false, List, [], ◌∷◌, length, set, get_or-set_other, get_or-set_same, Option, Some, None, slice_get, Contains, arith}
 use Rattle.std.specs.Prelude.{if◌then◌else◌}
 use Rattle.std.specs.Option.{option_map}
 use Rattle.std.specs.List.{AllByRecursion}
@@ -10,15 +10,16 @@ use Rattle.std.proofs.lemmas.Bool.{cases_eq}
 use Rattle.std.proofs.lemmas.Bool.Decides.{nat_tests}
 use Rattle.std.proofs.lemmas.List.{length-set}
 use Rattle.std.proofs.lemmas.Option.{none-some, same_Some}
+use Rattle.basics.specs.Items.{none_in, first_in, further_in, first_or_further, contained_at}
+use Rattle.basics.specs.Lists.{one_at}
+use Rattle.basics.specs.Numbers.{before_or_last}
 use Rattle.avr_model.specs.Image.{WORDS}
 use Rattle.mask_states.specs.declared.keys.NodeKey.{NodeKey}
 use Rattle.local_rules.specs.declared.local.Node.{Node}
 use Rattle.edge_rules.specs.Views.{AreShown, key_of}
-use Rattle.local_laws.proofs.AllLaws.{none_in, here, there, first_or}
 use Rattle.slot_reach.specs.Reach.{is_on}
 use Rattle.store_aims.specs.declared.need.Asks.{Asks}
 use Rattle.store_clear.specs.Settling.{ask_at, passes, IsWordOf, marked_by, AreWordsMarked, places_from}
-use Rattle.store_clear.proofs.Lists.{one_at, contains_at, cases}
 
 -- ---- words
 
@@ -50,7 +51,7 @@ module _ (nodes : List Node) (asks : List Asks) where
           (cases_eq pc n.key.pc)
 
       up : (pc : ℕ) → (is_on old pc ≡ true) ⊎ IsWordOf nodes asks (at + 1) pc → is_on (set mid n.key.pc true) pc ≡ true
-      up pc h = ⊎_elim (λ o. kept pc ((m.exact pc).1 (inl o))) (λ w. by w (cases w.at at w.below)) h
+      up pc h = ⊎_elim (λ o. kept pc ((m.exact pc).1 (inl o))) (λ w. by w (before_or_last w.at at w.below)) h
         where
           by : (w : IsWordOf nodes asks (at + 1) pc) → (w.at < at) ⊎ (w.at ≡ at) → is_on (set mid n.key.pc true) pc ≡ true
           by w (inl l) = kept pc ((m.exact pc).1 (inr (record { at = w.at; node = w.node; below = l; is = w.is; fails = w.fails; word = w.word })))
@@ -62,7 +63,7 @@ module _ (nodes : List Node) (asks : List Asks) where
   words_passed at old mid is m = record { same = m.same; exact = λ pc. (λ h. ⊎_elim (λ o. inl o) (λ w. inr (weaker at pc w)) ((m.exact pc).0 h), up pc) }
     where
       up : (pc : ℕ) → (is_on old pc ≡ true) ⊎ IsWordOf nodes asks (at + 1) pc → is_on mid pc ≡ true
-      up pc h = ⊎_elim (λ o. (m.exact pc).1 (inl o)) (λ w. by w (cases w.at at w.below)) h
+      up pc h = ⊎_elim (λ o. (m.exact pc).1 (inl o)) (λ w. by w (before_or_last w.at at w.below)) h
         where
           by : (w : IsWordOf nodes asks (at + 1) pc) → (w.at < at) ⊎ (w.at ≡ at) → is_on mid pc ≡ true
           by w (inl l) = (m.exact pc).1 (inr (record { at = w.at; node = w.node; below = l; is = w.is; fails = w.fails; word = w.word }))
@@ -77,32 +78,27 @@ module _ (nodes : List Node) (asks : List Asks) where
       by true e = words_passed at old mid (ap passes (sym same) ∙ e) m
       by false e = words_marked at n old mid is (ap passes (sym same) ∙ e) (subst (λ (x : NodeKey). x.pc < length mid) (sym key) lt) m
 
-pub none_on : (n j : ℕ) → is_on (replicate n false) j ≡ false
-none_on zero j = refl
-none_on (suc n) zero = refl
-none_on (suc n) (suc j) = none_on n j
-
 -- ---- the numbers of what is marked
 
 pub placed : (n : ℕ) (marks : List Bool) (x : ℕ) → Contains (places_from n marks) x → (i : ℕ) × ((x ≡ n + i) × (is_on marks i ≡ true))
 placed n [] x h = absurd (none_in x h)
 placed n (true ∷ marks) x h =
     ⊎_elim (λ e. (0, (let same = e in omega (arith, same), refl)))
-    (λ i. let w = placed (n + 1) marks x i in (suc w.0, (let e = w.1.0 in omega (arith, e), w.1.1))) (first_or n x (places_from (n + 1) marks) h)
+    (λ i. let w = placed (n + 1) marks x i in (suc w.0, (let e = w.1.0 in omega (arith, e), w.1.1))) (first_or_further n x (places_from (n + 1) marks) h)
 placed n (false ∷ marks) x h = let w = placed (n + 1) marks x h in (suc w.0, (let e = w.1.0 in omega (arith, e), w.1.1))
 
 pub placing : (n : ℕ) (marks : List Bool) (i : ℕ) → is_on marks i ≡ true → Contains (places_from n marks) (n + i)
 placing n [] i e = absurd (let no : false ≡ true = e in cc)
-placing n (true ∷ marks) zero e = subst (Contains (n ∷ places_from (n + 1) marks)) (let same : n ≡ n + 0 = omega arith in same) (here n (places_from (n + 1) marks))
+placing n (true ∷ marks) zero e = subst (Contains (n ∷ places_from (n + 1) marks)) (let same : n ≡ n + 0 = omega arith in same) (first_in n (places_from (n + 1) marks))
 placing n (false ∷ marks) zero e = absurd (let no : false ≡ true = e in cc)
 placing n (true ∷ marks) (suc i) e =
-    there n (n + suc i) (places_from (n + 1) marks)
+    further_in n (n + suc i) (places_from (n + 1) marks)
     (subst (Contains (places_from (n + 1) marks)) (let same : n + 1 + i ≡ n + suc i = omega arith in same) (placing (n + 1) marks i e))
 placing n (false ∷ marks) (suc i) e = subst (Contains (places_from (n + 1) marks)) (let same : n + 1 + i ≡ n + suc i = omega arith in same) (placing (n + 1) marks i e)
 
 all_by : (P : ℕ → Type 0) (xs : List ℕ) → ((x : ℕ) → Contains xs x → P x) → AllByRecursion P xs
 all_by P [] h = tt
-all_by P (x ∷ xs) h = (h x (here x xs), all_by P xs (λ y i. h y (there x y xs i)))
+all_by P (x ∷ xs) h = (h x (first_in x xs), all_by P xs (λ y i. h y (further_in x y xs i)))
 
 less : (x y : ℕ) → x < y → nat_cmp x y ≡ Less
 less x y h = grind (arith, nat_tests)
@@ -125,6 +121,6 @@ word_within nodes shown at k e marks size = by (slice_get nodes at) refl e
     by : (o : Option Node) → slice_get nodes at ≡ o → option_map key_of o ≡ Some k → k.pc < length marks
     by None is h = absurd (none-some k h)
     by (Some n) is h =
-        let word = (shown.all n (contains_at nodes at n is)).word in
+        let word = (shown.all n (contained_at nodes at n is)).word in
         let same : n.key.pc ≡ k.pc = ap (λ (x : NodeKey). x.pc) (same_Some n.key k h) in
         omega (arith, word, same, size)

@@ -5,24 +5,23 @@ use Rattle.std.specs.List.Sorted.{IsStrictlySortedBy}
 use Rattle.std.specs.Ordering.{nat_cmp}
 use Rattle.std.specs.declared.cmp.Ordering.TheVariants.{Less}
 use Rattle.std.proofs.lemmas.Bool.Decides.{nat_tests}
+use Rattle.basics.specs.Items.{none_in, first_in, further_in, first_or_further, contained_at}
 use Rattle.avr_model.specs.declared.assumption.Entry.{Entry}
 use Rattle.local_rules.specs.declared.local.Node.{Node}
-use Rattle.local_laws.proofs.AllLaws.{none_in, here, there, first_or}
-use Rattle.expansion_laws.proofs.AllLaws.{filled_or_missing}
+use Rattle.edge_laws.proofs.ExpansionLaws.{filled_or_missing}
 use Rattle.certificate.specs.Claims.{Claim}
 use Rattle.certificate.specs.Valid.{family_of}
 use Rattle.clear_laws.specs.Clear.{MayBeFlagged, MayBeTaken}
 use Rattle.store_laws.specs.declared.verdict.ClearVerdict.TheVariants.{Clear, Unclear}
 use Rattle.store_laws.specs.Verdict.{IsFirstUnclear, AreSites, AreNevers}
 use Rattle.store_clear.specs.Laws.{SitesAreOne, NeversAreOne, ClearWhereNoSites}
-use Rattle.store_clear.proofs.Lists.{contains_at}
 use Rattle.store_clear.proofs.Sites.{none_where_clear}
 
 -- ---- ascending lists with the same members are the same
 
 of_all : (P : ℕ → Type 0) (xs : List ℕ) (x : ℕ) → AllByRecursion P xs → Contains xs x → P x
 of_all P [] x all h = absurd (none_in x h)
-of_all P (y ∷ ys) x all h = ⊎_elim (λ e. subst P (sym e) all.0) (λ i. of_all P ys x all.1 i) (first_or y x ys h)
+of_all P (y ∷ ys) x all h = ⊎_elim (λ e. subst P (sym e) all.0) (λ i. of_all P ys x all.1 i) (first_or_further y x ys h)
 
 from_less : (x y : ℕ) → nat_cmp x y ≡ Less → x < y
 from_less x y e = grind (arith, nat_tests)
@@ -36,23 +35,23 @@ heads x y xs ys above_x above_y in_y in_x =
     let a = from_less y x (of_all (λ z. nat_cmp y z ≡ Less) ys x above_y more) in
     let b = from_less x y (of_all (λ z. nat_cmp x z ≡ Less) xs y above_x other) in
     absurd (omega (arith, a, b)))
-    (first_or x y xs in_x))
-    (first_or y x ys in_y)
+    (first_or_further x y xs in_x))
+    (first_or_further y x ys in_y)
 
 tails : (x y : ℕ) (xs ys : List ℕ) → x ≡ y → AllByRecursion (λ z. nat_cmp x z ≡ Less) xs → (k : ℕ) → Contains xs k → Contains (y ∷ ys) k → Contains ys k
 tails x y xs ys same above k has there_k =
-    ⊎_elim (λ e. absurd (let lt = from_less x k (of_all (λ z. nat_cmp x z ≡ Less) xs k above has) in omega (arith, lt, e, same))) (λ more. more) (first_or y k ys there_k)
+    ⊎_elim (λ e. absurd (let lt = from_less x k (of_all (λ z. nat_cmp x z ≡ Less) xs k above has) in omega (arith, lt, e, same))) (λ more. more) (first_or_further y k ys there_k)
 
 same_lists : (xs ys : List ℕ) → IsStrictlySortedBy nat_cmp xs → IsStrictlySortedBy nat_cmp ys → ((k : ℕ) → Contains xs k → Contains ys k)
     → ((k : ℕ) → Contains ys k → Contains xs k) → xs ≡ ys
 unfolding IsStrictlySortedBy
 same_lists [] [] hx hy to from = refl
-same_lists [] (y ∷ ys) hx hy to from = absurd (none_in y (from y (here y ys)))
-same_lists (x ∷ xs) [] hx hy to from = absurd (none_in x (to x (here x xs)))
+same_lists [] (y ∷ ys) hx hy to from = absurd (none_in y (from y (first_in y ys)))
+same_lists (x ∷ xs) [] hx hy to from = absurd (none_in x (to x (first_in x xs)))
 same_lists (x ∷ xs) (y ∷ ys) hx hy to from =
-    let e : x ≡ y = heads x y xs ys hx.0 hy.0 (to x (here x xs)) (from y (here y ys)) in
+    let e : x ≡ y = heads x y xs ys hx.0 hy.0 (to x (first_in x xs)) (from y (first_in y ys)) in
     let rest : xs ≡ ys =
-    same_lists xs ys hx.1 hy.1 (λ k h. tails x y xs ys e hx.0 k h (to k (there x k xs h))) (λ k h. tails y x ys xs (sym e) hy.0 k h (from k (there y k ys h))) in
+    same_lists xs ys hx.1 hy.1 (λ k h. tails x y xs ys e hx.0 k h (to k (further_in x k xs h))) (λ k h. tails y x ys xs (sym e) hy.0 k h (from k (further_in y k ys h))) in
     cc
 
 -- ---- the laws
@@ -77,7 +76,7 @@ listed : (words : List ℕ) (c : Claim) (j pc : ℕ) (sites : List ℕ) → IsFi
 listed words c j pc sites first are =
     let same = filled_or_missing.one words [] c.nodes first.nodes are.nodes first.expanded are.expanded in
     let m : MayBeFlagged words [] (family_of c first.nodes) pc =
-    record { node = first.node; present = contains_at first.nodes j first.node first.is; is = first.word; unclear = first.unclear } in
+    record { node = first.node; present = contained_at first.nodes j first.node first.is; is = first.word; unclear = first.unclear } in
     (are.exact pc).1 (subst (λ (nodes : List Node). MayBeFlagged words [] (family_of c nodes) pc) same m)
 
 pub clear_where_no_sites : ClearWhereNoSites

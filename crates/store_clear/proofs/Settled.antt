@@ -2,14 +2,13 @@
 use Rattle.std.proofs.Common.{◌≡◌, ◌≢◌, refl, sym, ap, ◌∙◌, subst, ℕ, ◌+◌, ◌<◌, ◌≤◌, ⊎_elim, ◌==◌, Bool, true, false, List, length, set, Result, Ok, Err, OnOk, get_or-set_other, get_or-set_same, eqb-true, arith}
 use Rattle.std.specs.Prelude.{◌↔◌, if◌then◌else◌}
 use Rattle.std.proofs.lemmas.Bool.{cases_lt}
-use Rattle.std.proofs.lemmas.Bool.Decides.{nat_tests}
 use Rattle.std.proofs.lemmas.List.{get_or_past, length-set}
+use Rattle.basics.specs.Numbers.{equals_itself, before_or_last}
 use Rattle.slot_reach.specs.declared.reach.Seed.{Seed}
 use Rattle.slot_reach.specs.Reach.{is_on, Reaches, AreInside, AreReached}
 use Rattle.store_aims.specs.declared.need.Asks.{Asks}
 use Rattle.store_aims.specs.declared.need.Asks.TheVariants.{Nothing, Free, Never}
 use Rattle.store_clear.specs.Settling.{ask_at, settled, AreMarkedOff, IsDone, IsMet, IsSettled, IsSettledAt, AreSettled}
-use Rattle.store_clear.proofs.Lists.{cases}
 
 -- ---- one after the other
 
@@ -21,7 +20,7 @@ pub marked_more : (slot : ℕ) (marks : List Bool) (at : ℕ) (old mid : List As
 marked_more slot marks at old mid a m lt is =
     record {
       same = length-set mid at a ∙ m.same;
-      done = λ i less. ⊎_elim (λ l. other i (omega (arith, l)) ∙ m.done i l) (λ e. here i e) (cases i at less);
+      done = λ i less. ⊎_elim (λ l. other i (omega (arith, l)) ∙ m.done i l) (λ e. here i e) (before_or_last i at less);
       rest = λ i le. other i (omega (arith, le)) ∙ m.rest i (omega (arith, le));
     }
   where
@@ -38,9 +37,6 @@ marked_more slot marks at old mid a m lt is =
 
 same_as : (d x : ℕ) → (d == x) ≡ true → d ≡ x
 same_as d x h = eqb-true d x h
-
-itself : (d : ℕ) → (d == d) ≡ true
-itself d = grind (arith, nat_tests)
 
 module _ (links : List (List ℕ)) (offsets : List ℕ) (seeds : List Seed) (slot : ℕ) (marks : List Bool) (reached : AreReached links offsets seeds slot marks) where
   Asked : ℕ → Asks → Type 0
@@ -75,7 +71,7 @@ module _ (links : List (List ℕ)) (offsets : List ℕ) (seeds : List Seed) (slo
   done_kept i Never h = tt
 
   done_here : (i : ℕ) → IsDone (settled (Free slot) slot (is_on marks i))
-  done_here i = subst (λ (b : Bool). IsDone (if b then (if is_on marks i then Never else Nothing) else Free slot)) (sym (itself slot)) (done_if (is_on marks i))
+  done_here i = subst (λ (b : Bool). IsDone (if b then (if is_on marks i then Never else Nothing) else Free slot)) (sym (equals_itself slot)) (done_if (is_on marks i))
 
   pub is_settled : (old new : List Asks) → AreMarkedOff slot marks (length old) old new → IsSettled links offsets seeds slot old new
   is_settled old new m =
@@ -112,7 +108,7 @@ module _ (links : List (List ℕ)) (offsets : List ℕ) (seeds : List Seed) wher
       record {
         same = one.same ∙ so.same;
         met = λ i. (λ h. (so.met i).0 ((one.met i).0 h), λ h. (one.met i).1 ((so.met i).1 h));
-        done = λ i lt. ⊎_elim (λ l. one.kept i (so.done i l)) (λ e. subst (λ k. IsDone (ask_at new k)) (sym e) one.done) (cases i at lt);
+        done = λ i lt. ⊎_elim (λ l. one.kept i (so.done i l)) (λ e. subst (λ k. IsDone (ask_at new k)) (sym e) one.done) (before_or_last i at lt);
       }
 
 -- ---- the same lists behind references

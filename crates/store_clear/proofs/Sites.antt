@@ -3,14 +3,18 @@ use Rattle.std.proofs.Common.{◌≡◌, refl, sym, ap, ◌∙◌, subst, ℕ, �
 use Rattle.std.specs.Prelude.{◌↔◌}
 use Rattle.std.specs.Option.{option_map}
 use Rattle.std.proofs.lemmas.Option.{slice_get_within}
+use Rattle.basics.specs.Booleans.{never_both}
+use Rattle.basics.specs.Items.{none_in, first_in, place_of_contained, contained_at}
+use Rattle.basics.specs.Lists.{get_inside}
+use Rattle.basics.specs.Numbers.{before_or_last}
+use Rattle.slot_reach.proofs.Marks.{none_on}
 use Rattle.avr_model.specs.declared.assumption.Entry.{Entry}
 use Rattle.avr_model.specs.Devices.{device_of}
 use Rattle.avr_model.specs.Vectors.{vector_word}
 use Rattle.mask_states.specs.declared.keys.NodeKey.{NodeKey}
 use Rattle.local_rules.specs.declared.local.Node.{Node}
-use Rattle.local_laws.proofs.AllLaws.{none_in, here}
 use Rattle.edge_rules.specs.Views.{key_of}
-use Rattle.expansion_laws.proofs.AllLaws.{filled_or_missing}
+use Rattle.edge_laws.proofs.ExpansionLaws.{filled_or_missing}
 use Rattle.certificate.specs.Claims.{Claim}
 use Rattle.certificate.specs.Valid.{family_of}
 use Rattle.clear_laws.specs.Clear.{IsClear, MayBeFlagged, NeverFlagged, word_of_flag}
@@ -22,12 +26,8 @@ use Rattle.store_laws.specs.Laws.{EndFlaggedAt, EndsByTakeAt}
 use Rattle.store_laws.specs.Verdict.{AreAllClear, IsFirstUnclear, IsClearVerdict, AreSites}
 use Rattle.store_laws.proofs.AllLaws.{clear_verdicts_are_one}
 use Rattle.store_clear.specs.Settling.{ask_at, passes, ArePassing, IsFirstAt, IsTold, IsWordOf, AreWordsMarked, places_of}
-use Rattle.store_clear.proofs.Lists.{number_of, contains_at, get_at, cases}
 use Rattle.store_clear.proofs.Askings.{key_is}
-use Rattle.store_clear.proofs.Marked.{none_on, placed, placing, ascending}
-
-differ : (b : Bool) → b ≡ true → b ≡ false → ⊥
-differ b t f = let no : true ≡ false = sym t ∙ f in cc
+use Rattle.store_clear.proofs.Marked.{placed, placing, ascending}
 
 -- ---- the verdict
 
@@ -41,7 +41,7 @@ module _ (words : List ℕ) (A : List Entry) (c : Claim) (nodes : List Node) (as
         nodes = nodes;
         expanded = is.filled;
         clear = λ n has.
-            let p = number_of nodes n has in
+            let p = place_of_contained nodes n has in
             let lt = slice_get_within nodes p.0 n p.1 in
             clear_at p.0 n p.1 (passing p.0 (let same = is.told.count in omega (arith, lt, same)));
       }
@@ -49,14 +49,14 @@ module _ (words : List ℕ) (A : List Entry) (c : Claim) (nodes : List Node) (as
   pub first_unclear : (at : ℕ) (k : NodeKey) → IsFirstAt asks at → option_map key_of (slice_get nodes at) ≡ Some k → IsFirstUnclear words A c at k.pc
   first_unclear at k first key =
       let lt : at < length nodes = let l = first.inside in let same = is.told.count in omega (arith, l, same) in
-      let n = get_at nodes at lt in
+      let n = get_inside nodes at lt in
       record {
         nodes = nodes;
         expanded = is.filled;
         node = n.0;
         is = n.1;
         word = ap (λ (x : NodeKey). x.pc) (key_is nodes at n.0 n.1 k key);
-        unclear = λ clear. differ (passes (ask_at asks at)) ((is.told.each at n.0 n.1).1 clear) first.is;
+        unclear = λ clear. never_both (passes (ask_at asks at)) ((is.told.each at n.0 n.1).1 clear) first.is;
         earlier = λ i m e l. clear_at i m e (first.earlier i l);
       }
 
@@ -67,15 +67,15 @@ module _ (words : List ℕ) (A : List Entry) (c : Claim) (nodes : List Node) (as
     flagged_down pc h =
         let w = placed 0 new pc h in
         let on : is_on new pc ≡ true = subst (λ x. is_on new x ≡ true) (let e = w.1.0 in omega (arith, e)) w.1.1 in
-        ⊎_elim (λ o. absurd (differ (is_on old pc) o (ap (λ (bs : List Bool). is_on bs pc) none ∙ none_on many pc))) (by pc) ((marked.exact pc).0 on)
+        ⊎_elim (λ o. absurd (never_both (is_on old pc) o (ap (λ (bs : List Bool). is_on bs pc) none ∙ none_on many pc))) (by pc) ((marked.exact pc).0 on)
       where
         by : (pc : ℕ) → IsWordOf nodes asks (length asks) pc → MayBeFlagged words A (family_of c nodes) pc
         by pc w =
             record {
               node = w.node;
-              present = contains_at nodes w.at w.node w.is;
+              present = contained_at nodes w.at w.node w.is;
               is = w.word;
-              unclear = λ clear. differ (passes (ask_at asks w.at)) ((is.told.each w.at w.node w.is).1 clear) w.fails;
+              unclear = λ clear. never_both (passes (ask_at asks w.at)) ((is.told.each w.at w.node w.is).1 clear) w.fails;
             }
 
     listed_at : (at : ℕ) (n : Node) → slice_get nodes at ≡ Some n → passes (ask_at asks at) ≡ false → Contains (places_of new) n.key.pc
@@ -90,7 +90,7 @@ module _ (words : List ℕ) (A : List Entry) (c : Claim) (nodes : List Node) (as
     clear_or_listed n has given = by (passes (ask_at asks p.0)) refl
       where
         p : (i : ℕ) × (slice_get nodes i ≡ Some n)
-        p = number_of nodes n has
+        p = place_of_contained nodes n has
 
         by : (b : Bool) → passes (ask_at asks p.0) ≡ b → IsClear words A (family_of c nodes) n
         by true e = clear_at p.0 n p.1 e
@@ -100,7 +100,7 @@ module _ (words : List ℕ) (A : List Entry) (c : Claim) (nodes : List Node) (as
     flagged_up pc m = by (passes (ask_at asks p.0)) refl
       where
         p : (i : ℕ) × (slice_get nodes i ≡ Some m.node)
-        p = number_of nodes m.node m.present
+        p = place_of_contained nodes m.node m.present
 
         by : (b : Bool) → passes (ask_at asks p.0) ≡ b → Contains (places_of new) pc
         by true e = absurd (m.unclear (clear_at p.0 m.node p.1 e))
@@ -142,7 +142,7 @@ pub none_where_clear : (words : List ℕ) (A : List Entry) (c : Claim) (sites : 
 none_where_clear words A c [] are all = refl
 none_where_clear words A c (pc ∷ sites) are all =
     let same = filled_or_missing.one words A c.nodes all.nodes are.nodes all.expanded are.expanded in
-    let m = (are.exact pc).0 (here pc sites) in
+    let m = (are.exact pc).0 (first_in pc sites) in
     absurd (m.unclear (subst (λ (nodes : List Node). (n : Node) → Contains nodes n → IsClear words A (family_of c nodes) n) same all.clear m.node m.present))
 
 -- where all are read behind references
@@ -172,7 +172,7 @@ never_flagged words A sites law e m choices flag reset run ends =
 -- ---- one after the other
 
 pub passing_more : (asks : List Asks) (at : ℕ) → ArePassing asks at → passes (ask_at asks at) ≡ true → ArePassing asks (at + 1)
-passing_more asks at so is i lt = ⊎_elim (λ l. so i l) (λ e. subst (λ k. passes (ask_at asks k) ≡ true) (sym e) is) (cases i at lt)
+passing_more asks at so is i lt = ⊎_elim (λ l. so i l) (λ e. subst (λ k. passes (ask_at asks k) ≡ true) (sym e) is) (before_or_last i at lt)
 
 pub passing_all : (asks : List Asks) (at : ℕ) → ArePassing asks at → length asks ≤ at → ArePassing asks (length asks)
 passing_all asks at so le i lt = so i (omega (arith, lt, le))

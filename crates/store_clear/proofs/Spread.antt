@@ -1,9 +1,13 @@
 -- What is gathered of edges is where slots spread.
 use Rattle.std.proofs.Common.{◌≡◌, refl, sym, ap, ◌∙◌, subst, ℕ, zero, suc, ◌+◌, ◌<◌, ◌≤◌, ⊎_elim, true, List, [], ◌∷◌, ◌++◌, length, get_or, take, Option, Some, None, slice_get, Contains, arith}
 use Rattle.std.specs.Prelude.{◌↔◌}
-use Rattle.std.proofs.lemmas.List.{length-map, take_all}
+use Rattle.std.proofs.lemmas.List.{length-map, take_all, length_push}
 use Rattle.std.proofs.lemmas.List.Elements.{Contains-append_left, Contains-append_right, Contains-append_cases}
 use Rattle.std.proofs.lemmas.Option.{none-some, same_Some, slice_get_within}
+use Rattle.basics.specs.Items.{none_in, first_in, only_one_in, contained_in_join, each_of_join, inside_if_contained}
+use Rattle.basics.specs.Lists.{one_at, get_inside, get_or_front, get_or_pushed}
+use Rattle.basics.specs.Numbers.{before_or_last}
+use Rattle.call_graph.proofs.AllLaws.{if_from}
 use Rattle.avr_model.specs.declared.assumption.Entry.{Entry}
 use Rattle.mask_states.specs.declared.keys.EdgeKind.{EdgeKind}
 use Rattle.mask_states.specs.declared.keys.EdgeKind.TheVariants as kind
@@ -11,7 +15,6 @@ use Rattle.mask_states.specs.declared.keys.NodeKey.{NodeKey}
 use Rattle.mask_states.specs.Keys.{offset_of}
 use Rattle.mask_states.specs.Order.{same_node}
 use Rattle.local_rules.specs.declared.local.Node.{Node}
-use Rattle.local_laws.proofs.AllLaws.{none_in, here}
 use Rattle.edge_rules.specs.declared.edge.Edge.{Edge}
 use Rattle.edge_rules.specs.Edges.{IsEdge, AreEdges}
 use Rattle.edge_rules.specs.Views.{place_of}
@@ -20,7 +23,7 @@ use Rattle.slot_reach.specs.declared.reach.Seed.{Seed}
 use Rattle.slot_reach.specs.Reach.{links_of}
 use Rattle.store_laws.specs.Links.{IsTarget, IsSeed, IsPushed, offsets_of}
 use Rattle.store_clear.specs.Settling.{stays, is_local, listed, seeded, link_of, seed_of, links_by, seeds_by, pushed_by, SeedComesBelow, AreLinksTo, SpreadsAlong}
-use Rattle.store_clear.proofs.Lists.{one_at, get_at, only, flat_in, each_flat, none_past, front_at, last_at, pushed, cases, chosen, chosen_in, position_within}
+use Rattle.store_clear.proofs.Lists.{chosen_in, position_within}
 
 -- ---- one edge
 
@@ -44,25 +47,25 @@ local_is kind.Return e = absurd cc
 
 listed_is : (o : Option ℕ) (t : ℕ) → Contains (listed o) t → o ≡ Some t
 listed_is None t h = absurd (none_in t h)
-listed_is (Some i) t h = ap (λ (x : ℕ). Some x) (sym (only i t h))
+listed_is (Some i) t h = ap (λ (x : ℕ). Some x) (sym (only_one_in i t h))
 
 is_listed : (o : Option ℕ) (t : ℕ) → o ≡ Some t → Contains (listed o) t
-is_listed o t e = subst (λ (p : Option ℕ). Contains (listed p) t) (sym e) (here t [])
+is_listed o t e = subst (λ (p : Option ℕ). Contains (listed p) t) (sym e) (first_in t [])
 
 seeded_is : (slot : ℕ) (o : Option ℕ) (s : Seed) → Contains (seeded slot o) s → (o ≡ Some s.node) × (s.slot ≡ slot)
 seeded_is slot None s h = absurd (none_in s h)
 seeded_is slot (Some i) s h =
-    let e = only (record { node = i; slot = slot }) s h in
+    let e = only_one_in (record { node = i; slot = slot }) s h in
     (ap (λ (x : Seed). Some x.node) (sym e), ap (λ (x : Seed). x.slot) e)
 
 is_seeded : (slot : ℕ) (o : Option ℕ) (s : Seed) → o ≡ Some s.node → s.slot ≡ slot → Contains (seeded slot o) s
 is_seeded slot o s e same =
-    subst (λ (p : Option ℕ). Contains (seeded slot p) s) (sym e) (subst (λ (x : ℕ). Contains (record { node = s.node; slot = x } ∷ []) s) same (here s []))
+    subst (λ (p : Option ℕ). Contains (seeded slot p) s) (sym e) (subst (λ (x : ℕ). Contains (record { node = s.node; slot = x } ∷ []) s) same (first_in s []))
 
 module _ (nodes : List Node) where
   pub link_to : (e : Edge) (t : ℕ) → Contains (link_of nodes e) t → IsTarget nodes e t
   link_to e t h =
-      let c = chosen (stays e.kind) (listed (place_of e.to nodes)) t h in
+      let c = if_from (stays e.kind) (listed (place_of e.to nodes)) t h in
       (stays_in e.kind c.0, listed_is (place_of e.to nodes) t c.1)
 
   pub to_link : (e : Edge) (t : ℕ) → IsTarget nodes e t → Contains (link_of nodes e) t
@@ -70,7 +73,7 @@ module _ (nodes : List Node) where
 
   pub seed_to : (slot : ℕ) (e : Edge) (s : Seed) → Contains (seed_of nodes slot e) s → IsSeed nodes slot e s
   seed_to slot e s h =
-      let c = chosen (is_local e.kind) (seeded slot (place_of e.to nodes)) s h in
+      let c = if_from (is_local e.kind) (seeded slot (place_of e.to nodes)) s h in
       let w = seeded_is slot (place_of e.to nodes) s c.1 in
       (local_is e.kind c.0, w.0, w.1)
 
@@ -97,15 +100,15 @@ module _ (words : List ℕ) (A : List Entry) (nodes : List Node) where
   module _ (n : Node) (edges : List Edge) (are : AreEdges words A nodes n edges) where
     linked_by : (to : List ℕ) → to ≡ links_by nodes edges → (t : ℕ) → Contains to t ↔ Linked n t
     linked_by to is t = (
-      λ h. each_flat (link_of nodes) (Linked n) edges (λ e u has at. (e, ((are e).0 has, link_to nodes e u at))) t (subst (λ (xs : List ℕ). Contains xs t) is h),
-      λ l. subst (λ (xs : List ℕ). Contains xs t) (sym is) (flat_in (link_of nodes) edges l.0 t ((are l.0).1 l.1.0) (to_link nodes l.0 t l.1.1)),
+      λ h. each_of_join (link_of nodes) (Linked n) edges (λ e u has at. (e, ((are e).0 has, link_to nodes e u at))) t (subst (λ (xs : List ℕ). Contains xs t) is h),
+      λ l. subst (λ (xs : List ℕ). Contains xs t) (sym is) (contained_in_join (link_of nodes) edges l.0 t ((are l.0).1 l.1.0) (to_link nodes l.0 t l.1.1)),
     )
 
     -- the seeds of the node of this number are those that it adds
     seeds_down : (at : ℕ) → slice_get nodes at ≡ Some n → (s : Seed) → Contains (pushed_by words nodes n.key edges) s → SeedComesBelow words A nodes (at + 1) s
     seeds_down at is s h =
-        let c = chosen (is_guarded_push words n.key.pc) (seeds_by nodes (offset_of n.key.sp) edges) s h in
-        each_flat (seed_of nodes (offset_of n.key.sp)) (SeedComesBelow words A nodes (at + 1)) edges
+        let c = if_from (is_guarded_push words n.key.pc) (seeds_by nodes (offset_of n.key.sp) edges) s h in
+        each_of_join (seed_of nodes (offset_of n.key.sp)) (SeedComesBelow words A nodes (at + 1)) edges
         (λ e u has on. (
           record { at = at; node = n; edge = e; is = is; from = (are e).0 has; lands = (c.0, seed_to nodes (offset_of n.key.sp) e u on) },
           omega arith,
@@ -115,26 +118,26 @@ module _ (words : List ℕ) (A : List Entry) (nodes : List Node) where
     seeds_up : (s : Seed) (e : Edge) → IsEdge words A nodes n e → IsPushed words nodes n.key e s → Contains (pushed_by words nodes n.key edges) s
     seeds_up s e is lands =
         chosen_in (is_guarded_push words n.key.pc) (seeds_by nodes (offset_of n.key.sp) edges) s lands.0
-        (flat_in (seed_of nodes (offset_of n.key.sp)) edges e s ((are e).1 is) (to_seed nodes (offset_of n.key.sp) e s lands.1))
+        (contained_in_join (seed_of nodes (offset_of n.key.sp)) edges e s ((are e).1 is) (to_seed nodes (offset_of n.key.sp) e s lands.1))
 
     pub links_more : (at : ℕ) (links : List (List ℕ)) (seeds : List Seed) (to : List ℕ) (more : List Seed) → AreLinksTo words A nodes at links seeds → slice_get nodes at ≡ Some n
         → to ≡ links_by nodes edges → more ≡ seeds ++ pushed_by words nodes n.key edges → AreLinksTo words A nodes (at + 1) (links ++ to ∷ []) more
     links_more at links seeds to more l is to_is more_is =
         record {
-          count_is = pushed links to ∙ ap (λ x. x + 1) l.count_is;
-          link = λ i m t lt e. ⊎_elim (old i m t e) (new i m t e) (cases i at lt);
+          count_is = length_push links to ∙ ap (λ x. x + 1) l.count_is;
+          link = λ i m t lt e. ⊎_elim (old i m t e) (new i m t e) (before_or_last i at lt);
           seed = λ s. (down s, up s);
         }
       where
         old : (i : ℕ) (m : Node) (t : ℕ) → slice_get nodes i ≡ Some m → i < at → Contains (links_of (links ++ to ∷ []) i) t ↔ Linked m t
         old i m t e lt =
-            subst (λ (xs : List ℕ). Contains xs t ↔ Linked m t) (sym (front_at links (to ∷ []) i [] (subst (λ k. i < k) (sym l.count_is) lt))) (l.link i m t lt e)
+            subst (λ (xs : List ℕ). Contains xs t ↔ Linked m t) (sym (get_or_front links (to ∷ []) i [] (subst (λ k. i < k) (sym l.count_is) lt))) (l.link i m t lt e)
 
         new : (i : ℕ) (m : Node) (t : ℕ) → slice_get nodes i ≡ Some m → i ≡ at → Contains (links_of (links ++ to ∷ []) i) t ↔ Linked m t
         new i m t e same =
             let one : n ≡ m = one_at nodes at n m is (subst (λ k. slice_get nodes k ≡ Some m) same e) in
             let last : to ≡ links_of (links ++ to ∷ []) i =
-            sym (ap (λ k. get_or (links ++ to ∷ []) k []) (same ∙ sym l.count_is) ∙ last_at links to []) in
+            sym (ap (λ k. get_or (links ++ to ∷ []) k []) (same ∙ sym l.count_is) ∙ get_or_pushed links to []) in
             subst (λ (xs : List ℕ). Contains xs t ↔ Linked m t) last (subst (λ (x : Node). Contains to t ↔ Linked x t) one (linked_by to to_is t))
 
         weaker : (s : Seed) → SeedComesBelow words A nodes at s → SeedComesBelow words A nodes (at + 1) s
@@ -153,7 +156,7 @@ module _ (words : List ℕ) (A : List Entry) (nodes : List Node) where
             let one : c.0.node ≡ n = one_at nodes at c.0.node n (subst (λ k. slice_get nodes k ≡ Some c.0.node) same c.0.is) is in
             Contains-append_right seeds (pushed_by words nodes n.key edges) s
             (seeds_up s c.0.edge (subst (λ (x : Node). IsEdge words A nodes x c.0.edge) one c.0.from) (subst (λ (x : Node). IsPushed words nodes x.key c.0.edge s) one c.0.lands)))
-            (cases c.0.at at c.1))
+            (before_or_last c.0.at at c.1))
 
   -- ---- all nodes
 
@@ -170,8 +173,8 @@ module _ (words : List ℕ) (A : List Entry) (nodes : List Node) where
         inside = record {
           same = l.count_is ∙ sym many;
           links_lead = λ k t h.
-              let lt : k < length nodes = let w = none_past links k t h in let c = l.count_is in omega (arith, w, c) in
-              let n = get_at nodes k lt in
+              let lt : k < length nodes = let w = inside_if_contained links k t h in let c = l.count_is in omega (arith, w, c) in
+              let n = get_inside nodes k lt in
               let e = (l.link k n.0 t lt n.1).0 h in
               let in_nodes = inside_at nodes e.0.to t e.1.1.1 in
               subst (λ x. t < x) (sym many) in_nodes;

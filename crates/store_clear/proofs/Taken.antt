@@ -1,13 +1,16 @@
 -- Words of vectors, as they are marked.
 use Rattle.std.proofs.Common.{◌≡◌, refl, sym, ap, ◌∙◌, subst, ℕ, ◌+◌, ◌<◌, ◌≤◌, ◌⊎◌, inl, inr, ⊎_elim, ◌&&◌, Bool, true, false, not, List, length, set, replicate, get_or-set_other, get_or-set_same, Some, slice_get, Contains, arith}
 use Rattle.std.specs.Prelude.{if◌then◌else◌}
-use Rattle.std.proofs.lemmas.Bool.{cases_eq}
+use Rattle.std.proofs.lemmas.Bool.{cases_eq, and_parts, and_from, not-true}
 use Rattle.std.proofs.lemmas.Bool.Decides.{nat_tests}
 use Rattle.std.proofs.lemmas.List.{length-set}
 use Rattle.std.proofs.lemmas.Option.{slice_get_within}
+use Rattle.basics.specs.Items.{place_of_contained, contained_at}
+use Rattle.basics.specs.Lists.{one_at}
+use Rattle.basics.specs.Numbers.{before_or_last}
+use Rattle.slot_reach.proofs.Marks.{none_on}
+use Rattle.edge_laws.proofs.AllLaws.{vector_small}
 use Rattle.avr_model.specs.declared.assumption.Entry.{Entry}
-use Rattle.avr_model.specs.declared.device.Device.{Device}
-use Rattle.avr_model.specs.declared.device.Device.TheVariants.{M48, M88, M168, M328}
 use Rattle.avr_model.specs.Assumptions.{is_never}
 use Rattle.avr_model.specs.Devices.{device_of}
 use Rattle.avr_model.specs.Image.{WORDS}
@@ -21,8 +24,7 @@ use Rattle.slot_reach.specs.Reach.{is_on}
 use Rattle.store_laws.specs.Verdict.{AreNevers}
 use Rattle.store_clear.specs.Settling.{places_of}
 use Rattle.store_clear.specs.Takes.{IsMarked, is_take, taken_by, IsTakenBelow, IsTakenFrom, IsTakenAt}
-use Rattle.store_clear.proofs.Lists.{number_of, contains_at, one_at, cases}
-use Rattle.store_clear.proofs.Marked.{none_on, placed, placing, ascending}
+use Rattle.store_clear.proofs.Marked.{placed, placing, ascending}
 
 -- ---- marks
 
@@ -61,12 +63,6 @@ marks_as P Q a b to from m =
 
 -- ---- the vectors of a node
 
-pub word_inside : (device : Device) (v : ℕ) → v ≤ 26 → vector_word device v < WORDS
-word_inside M48 v le = omega (arith, le)
-word_inside M88 v le = omega (arith, le)
-word_inside M168 v le = omega (arith, le)
-word_inside M328 v le = omega (arith, le)
-
 module _ (words : List ℕ) (A : List Entry) (k : NodeKey) where
   abbrev This : ℕ → ℕ → Type 0
   This v w = (is_take words A k v ≡ true) × (vector_word (device_of words) v ≡ w)
@@ -75,7 +71,7 @@ module _ (words : List ℕ) (A : List Entry) (k : NodeKey) where
   vector_marked v old new le all is = subst (IsMarked (This v) old) (sym is) (by (is_take words A k v) refl)
     where
       lt : vector_word (device_of words) v < length old
-      lt = let inside = word_inside (device_of words) v le in omega (arith, inside, all)
+      lt = let inside = vector_small (device_of words) v le in omega (arith, inside, all)
 
       by : (b : Bool) → is_take words A k v ≡ b → IsMarked (This v) old (if b then set old (vector_word (device_of words) v) true else old)
       by true e = marks_as (λ w. w ≡ vector_word (device_of words) v) (This v) old _ (λ w same. (e, sym same)) (λ w t. sym t.1) (marks_one (vector_word (device_of words) v) old lt)
@@ -101,7 +97,7 @@ module _ (words : List ℕ) (A : List Entry) (k : NodeKey) where
       (λ w t. record { vector = n + 2; below = omega arith; take = t.0; is = t.1 })
       (λ w t. ⊎_elim (λ lt. inl (record { vector = t.vector; below = lt; take = t.take; is = t.is }))
       (λ e. inr (subst (λ v. is_take words A k v ≡ true) e t.take, subst (λ v. vector_word (device_of words) v ≡ w) e t.is))
-      (cases t.vector (n + 2) (let lt = t.below in omega (arith, lt))))
+      (before_or_last t.vector (n + 2) (let lt = t.below in omega (arith, lt))))
       so (vector_marked (n + 2) mid new le all is)
 
 -- ---- all nodes
@@ -124,21 +120,9 @@ module _ (words : List ℕ) (A : List Entry) (nodes : List Node) where
           (λ e.
           let same : t.node ≡ n = one_at nodes at t.node n (subst (λ i. slice_get nodes i ≡ Some t.node) e t.is) is in
           inr (subst (λ (x : NodeKey). IsTakenFrom words A x w) (ap (λ (x : Node). x.key) same ∙ key) t.taken))
-          (cases t.at at t.below)
+          (before_or_last t.at at t.below)
 
 -- ---- the list
-
-both_true : (a b : Bool) → (a && b) ≡ true → (a ≡ true) × (b ≡ true)
-both_true true true e = (refl, refl)
-both_true true false e = absurd (let no : false ≡ true = e in cc)
-both_true false b e = absurd (let no : false ≡ true = e in cc)
-
-true_both : (a b : Bool) → a ≡ true → b ≡ true → (a && b) ≡ true
-true_both a b e f = subst (λ (x : Bool). (x && b) ≡ true) (sym e) f
-
-not_true : (b : Bool) → not b ≡ true → b ≡ false
-not_true true e = absurd (let no : false ≡ true = e in cc)
-not_true false e = refl
 
 module _ (words : List ℕ) (A : List Entry) (c : Claim) (nodes : List Node) (filled : IsFilled words A c.nodes nodes) (old new : List Bool) (many : ℕ) (none : old ≡ replicate many false)
     (marked : IsMarked (IsTakenAt words A nodes (length nodes)) old new) where
@@ -150,14 +134,14 @@ module _ (words : List ℕ) (A : List Entry) (c : Claim) (nodes : List Node) (fi
     where
       taken : (w : ℕ) → IsTakenAt words A nodes (length nodes) w → MayBeTaken words A nodes w
       taken w t =
-          let may = both_true t.node.key.i (not t.node.key.delay) t.taken.0 in
-          let take = both_true (is_enabled t.node.key.masks t.taken.1.vector) (is_never A (vector_word (device_of words) t.taken.1.vector)) t.taken.1.take in
+          let may = and_parts t.node.key.i (not t.node.key.delay) t.taken.0 in
+          let take = and_parts (is_enabled t.node.key.masks t.taken.1.vector) (is_never A (vector_word (device_of words) t.taken.1.vector)) t.taken.1.take in
           record {
             never = subst (λ x. is_never A x ≡ true) t.taken.1.is take.1;
             node = t.node;
-            present = contains_at nodes t.at t.node t.is;
+            present = contained_at nodes t.at t.node t.is;
             i = may.0;
-            delay = not_true t.node.key.delay may.1;
+            delay = not-true t.node.key.delay may.1;
             vector = t.taken.1.vector;
             enabled = take.0;
             is = t.taken.1.is;
@@ -165,7 +149,7 @@ module _ (words : List ℕ) (A : List Entry) (c : Claim) (nodes : List Node) (fi
 
   up : (w : ℕ) → MayBeTaken words A nodes w → Contains (places_of new) w
   up w m =
-      let p = number_of nodes m.node m.present in
+      let p = place_of_contained nodes m.node m.present in
       let on =
       (marked.exact w).1
       (inr (record {
@@ -174,11 +158,11 @@ module _ (words : List ℕ) (A : List Entry) (c : Claim) (nodes : List Node) (fi
         below = slice_get_within nodes p.0 m.node p.1;
         is = p.1;
         taken = (
-          true_both m.node.key.i (not m.node.key.delay) m.i (ap not m.delay),
+          and_from m.node.key.i (not m.node.key.delay) m.i (ap not m.delay),
           record {
             vector = m.vector;
             below = below m.vector m.enabled;
-            take = true_both (is_enabled m.node.key.masks m.vector) (is_never A (vector_word (device_of words) m.vector)) m.enabled (subst (λ x. is_never A x ≡ true) (sym m.is) m.never);
+            take = and_from (is_enabled m.node.key.masks m.vector) (is_never A (vector_word (device_of words) m.vector)) m.enabled (subst (λ x. is_never A x ≡ true) (sym m.is) m.never);
             is = m.is;
           },
         );

@@ -9,7 +9,7 @@ use Rattle.local_rules.specs.declared.local.NodeFault.{NodeFault}
 use Rattle.edge_rules.specs.Edges.{IsFaultless}
 use Rattle.edge_rules.specs.Expansion.{IsFilled}
 use Rattle.edge_rules.specs.Views.{AreShown}
-use Rattle.expansion_laws.specs.Laws.{FilledOrMissing}
+use Rattle.edge_laws.specs.Expansions.{FilledOrMissing}
 use Rattle.call_graph.specs.declared.exit_list.Leaving.TheVariants.{All, Fault}
 use Rattle.certificate.specs.Claims.{Claim}
 use Rattle.certificate.specs.Valid.{family_of, IsSound}

@@ -17,7 +17,7 @@ use call_graph::laws::exits_are_exact;
 use call_graph::{Expanded, Filled, Leaving, View, exits, expand};
 use certificate::Certificate;
 use certificate::laws::claims_are_seeds;
-use expansion_laws::laws::filled_or_missing;
+use edge_laws::expansions::filled_or_missing;
 use flash_image::Flash;
 use local_rules::Exit;
 use std::alloc::{AllocError, Global};

@@ -1,6 +1,7 @@
 -- What nodes ask is met exactly where they are clear.
-use Rattle.std.proofs.Common.{◌≡◌, refl, sym, ap, ◌∙◌, subst, ℕ, ◌==◌, Bool, true, false, not, List, arith, eqb-true}
-use Rattle.std.proofs.lemmas.Bool.Decides.{nat_tests}
+use Rattle.std.proofs.Common.{◌≡◌, refl, sym, ap, ◌∙◌, subst, ℕ, ◌==◌, Bool, true, false, not, List, eqb-true}
+use Rattle.std.proofs.lemmas.Bool.{both_ways, not-false}
+use Rattle.basics.specs.Numbers.{equals_itself}
 use Rattle.avr_model.specs.declared.assumption.Entry.{Entry}
 use Rattle.local_rules.specs.declared.local.Node.{Node}
 use Rattle.edge_rules.specs.Families.{Family}
@@ -13,18 +14,8 @@ use Rattle.store_aims.specs.Needs.{meets}
 use Rattle.store_laws.specs.Laws.{AskingsTellClearNodes}
 use Rattle.store_laws.specs.Meets.{Meets}
 
-differ : (b : Bool) → b ≡ false → b ≡ true → ⊥
-differ b h g = absurd (let no : false ≡ true = sym h ∙ g in cc)
-
 same_as : (d x : ℕ) → (x == d) ≡ true → x ≡ d
 same_as d x h = eqb-true x d h
-
-itself : (d : ℕ) → (d == d) ≡ true
-itself d = grind (arith, nat_tests)
-
-not_false : (b : Bool) → not b ≡ false → b ≡ true
-not_false true h = refl
-not_false false h = absurd (cc)
 
 -- ---- one node
 
@@ -39,8 +30,8 @@ module _ (words : List ℕ) (A : List Entry) (f : Family) (n : Node) where
   clear_where_met Nothing told met = clear_nodes_are_told.clear words A f n (λ d. true) (λ d lt none may. absurd (cc)) (told (λ d. true))
   clear_where_met (Free slot) told met =
       clear_nodes_are_told.clear words A f n (λ d. not (d == slot))
-      (λ d lt none may. met (subst Holding (same_as slot d (not_false (d == slot) none)) may))
-      (told (λ d. not (d == slot)) ∙ ap (λ b. not (not b)) (itself slot))
+      (λ d lt none may. met (subst Holding (same_as slot d (not-false (d == slot) none)) may))
+      (told (λ d. not (d == slot)) ∙ ap (λ b. not (not b)) (equals_itself slot))
   clear_where_met Never told met = absurd met
 
   met_where_clear : (a : Asks) → Asked a → IsClear words A f n → Meets a Holding
@@ -48,10 +39,10 @@ module _ (words : List ℕ) (A : List Entry) (f : Family) (n : Node) where
   met_where_clear (Free slot) told clear =
       λ may.
       let passes = clear_nodes_are_told.told words A f n (λ d. d == slot) (λ d lt is. subst Holding (sym (same_as slot d is)) may) clear in
-      differ (not (slot == slot)) (ap not (itself slot)) (sym (told (λ d. d == slot)) ∙ passes)
+      both_ways (not (slot == slot)) (ap not (equals_itself slot)) (sym (told (λ d. d == slot)) ∙ passes)
   met_where_clear Never told clear =
       let passes = clear_nodes_are_told.told words A f n (λ d. false) (λ d lt is. absurd (cc)) clear in
-      differ false refl (sym (told (λ d. false)) ∙ passes)
+      both_ways false refl (sym (told (λ d. false)) ∙ passes)
 
 pub askings_tell_clear_nodes : AskingsTellClearNodes
 askings_tell_clear_nodes words A f n a asked = (clear_where_met words A f n a asked, met_where_clear words A f n a asked)

@@ -5,21 +5,21 @@ use Rattle.std.proofs.lemmas.Bool.{cases_lt}
 use Rattle.std.proofs.lemmas.List.{get_or_past}
 use Rattle.std.proofs.lemmas.Option.{none-some, same_Some, slice_get_within}
 use Rattle.std.proofs.Common.{⊎_elim}
+use Rattle.basics.specs.Items.{none_in}
+use Rattle.basics.specs.Lists.{get_inside}
+use Rattle.edge_rules.specs.Places.{found_at}
+use Rattle.certificate.proofs.AllLaws.{number_of}
 use Rattle.avr_model.specs.declared.assumption.Entry.{Entry}
 use Rattle.mask_states.specs.declared.keys.NodeKey.{NodeKey}
 use Rattle.mask_states.specs.Keys.{offset_of}
 use Rattle.local_rules.specs.declared.local.Node.{Node}
 use Rattle.edge_rules.specs.Views.{AreShown, place_of}
-use Rattle.expansion_laws.proofs.AllLaws.{get_inside}
 use Rattle.clear_laws.specs.Held.{MayHold, kept, pushed}
 use Rattle.slot_reach.specs.Reach.{links_of, offset_at, Reaches, begins, along}
 use Rattle.slot_reach.specs.declared.reach.Seed.{Seed}
 use Rattle.store_laws.specs.Links.{offsets_of, AreLinks}
 use Rattle.store_laws.specs.Laws.{SlotsSpreadAlongLinks}
-use Rattle.store_laws.proofs.Places.{contains_at, number_of, same_node_at, found_at, own_number}
-
-nothing_in : (t : ℕ) → Contains [] t → ⊥
-nothing_in t h = omega (arith, h.1)
+use Rattle.store_laws.proofs.Places.{contains_at, same_node_at, own_number}
 
 offset_there : (nodes : List Node) (at : ℕ) (n : Node) → slice_get nodes at ≡ Some n → offset_at (offsets_of nodes) at ≡ offset_of n.key.sp
 offset_there [] at n e = absurd (none-some n e)
@@ -37,7 +37,7 @@ module _ (words : List ℕ) (A : List Entry) (nodes : List Node) (links : List (
   leads_inside : (k t : ℕ) → Contains (links_of links k) t → k < length nodes
   leads_inside k t h =
       ⊎_elim (λ lt. omega (arith, lt, are.count))
-      (λ past. absurd (nothing_in t (subst (λ (xs : List ℕ). Contains xs t) (get_or_past links k [] past) h))) (cases_lt k (length links))
+      (λ past. absurd (none_in t (subst (λ (xs : List ℕ). Contains xs t) (get_or_past links k [] past) h))) (cases_lt k (length links))
 
   reaches_holds : (d k : ℕ) → Reaching d k → (n : Node) → slice_get nodes k ≡ Some n → MayHold words A nodes n.key d
   reaches_holds d _ (begins k h) n is =

@@ -7,7 +7,7 @@ use Rattle.avr_model.specs.Assumptions.{is_never}
 use Rattle.avr_model.specs.Devices.{device_of}
 use Rattle.avr_model.specs.Vectors.{vector_word}
 use Rattle.local_rules.specs.declared.local.Node.{Node}
-use Rattle.expansion_laws.proofs.AllLaws.{filled_or_missing}
+use Rattle.edge_laws.proofs.ExpansionLaws.{filled_or_missing}
 use Rattle.frame_laws.proofs.AllLaws.{sound_families_bound_every_run}
 use Rattle.clear_laws.specs.Clear.{IsClear, MayBeFlagged, MayBeTaken, EndsByTake, word_of_flag}
 use Rattle.clear_laws.proofs.AllLaws.{flagged_runs_are_told}

@@ -7,7 +7,7 @@ use Rattle.avr_model.specs.declared.assumption.Entry.{Entry}
 use Rattle.mask_states.specs.declared.keys.EdgeKind.{EdgeKind}
 use Rattle.local_rules.specs.declared.local.Node.{Node}
 use Rattle.edge_rules.specs.Expansion.{IsFilled}
-use Rattle.expansion_laws.specs.Laws.{FilledOrMissing}
+use Rattle.edge_laws.specs.Expansions.{FilledOrMissing}
 use Rattle.nesting_bound.specs.declared.graph.Link.{Link}
 use Rattle.witness_replay.specs.Spelling.{Plan}
 use Rattle.certificate.specs.Claims.{Claim}

@@ -5,9 +5,10 @@ use Rattle.std.specs.Cmp.Lexicographic.{slice_cmp}
 use Rattle.std.specs.Int.{from_bool}
 use Rattle.std.specs.List.Sorted.{IsStrictlySortedBy}
 use Rattle.std.specs.Ordering.{ordering_then}
-use Rattle.std.proofs.lemmas.Option.{slice_get_within, slice_get_read, get_or_from_slice_get}
+use Rattle.std.proofs.lemmas.Option.{slice_get_within, get_or_from_slice_get}
 use Rattle.std.proofs.lemmas.List.{length-map}
 use Rattle.std.proofs.lemmas.Map.Keys.{Less-from_sorted}
+use Rattle.basics.specs.Items.{get_contained}
 use Rattle.avr_model.specs.declared.assumption.Entry.{Entry}
 use Rattle.abs_state.specs.Frames.{entered}
 use Rattle.mask_states.specs.declared.keys.EdgeKind.{EdgeKind}
@@ -31,9 +32,6 @@ use Rattle.certificate.specs.Valid.{MeetsConditions}
 use Rattle.nesting_bound.specs.declared.graph.Link.{Link}
 use Rattle.witness_search.specs.Chains.{IsDeepest}
 use Rattle.witness_search.specs.Laws.{DeepestChainsAreBounded}
-
-read : {X : Type 0} (xs : List X) (x : X) (h : Contains xs x) → slice_get xs h.0 ≡ Some x
-read xs x h = slice_get_read xs (length xs) h.0 x refl h.1 (sym h.2)
 
 member_of : (nodes : List Node) (n : Node) (at : ℕ) → slice_get nodes at ≡ Some n → Contains nodes n
 member_of nodes n at e = (at, slice_get_within nodes at n e, get_or_from_slice_get nodes at n n e)
@@ -119,12 +117,12 @@ module _ (words : List ℕ) (A : List Entry) (c : Claim) (nodes : List Node) (me
     place_at inst i e s covered =
         let n : Node = record { key = entry_key inst; state = covered.state } in
         let p : Place = record { node = covered.present.0; offset = 0 } in
-        (p, (is.places i p).1 (record { inst = inst; is = e; place = record { node = n; at = read nodes n covered.present; same = refl; closed = refl } }))
+        (p, (is.places i p).1 (record { inst = inst; is = e; place = record { node = n; at = get_contained nodes n covered.present; same = refl; closed = refl } }))
 
     pub root_first : slice_get (insts_of gs) 0 ≡ Some root_inst
     root_first =
         let has = (is.insts root_inst).1 (record { key = entry_key root_inst; state = meets.reset.state }, meets.reset.present, refl) in
-        root_at (insts_of gs) has.0 has.1 is.ascending (read (insts_of gs) root_inst has)
+        root_at (insts_of gs) has.0 has.1 is.ascending (get_contained (insts_of gs) root_inst has)
 
     pub places : HavePlaces gs
     places =

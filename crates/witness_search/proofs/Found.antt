@@ -1,7 +1,9 @@
 -- What a trial finds, and the first of them.
 use Rattle.std.proofs.lemmas.List.Elements.{Contains-append_cases}
 use Rattle.std.proofs.lemmas.List.{take_more}
-use Rattle.std.proofs.Common.{arith, add-one, suc, zero, refl, sym, ap, subst, ◌∙◌, ◌≡◌, ◌≢◌, ◌≤◌, ◌<◌, ◌+◌, ℕ, slice_index_or, List, [], ◌∷◌, ◌++◌, length, Option, Some, Contains, IsOkAnd, inl, inr, take, drop}
+use Rattle.std.proofs.Common.{arith, add-one, suc, zero, refl, sym, ap, subst, ◌∙◌, ◌≡◌, ◌≢◌, ◌≤◌, ◌<◌, ◌+◌, ℕ, slice_index_or, List, [], ◌∷◌, ◌++◌, length, Option, Some, IsOkAnd, inl, inr, take, drop}
+use Rattle.basics.specs.Items.{only_one_in}
+use Rattle.basics.specs.Numbers.{most_from_start}
 use Rattle.avr_model.specs.declared.choice.Choice.{Choice}
 use Rattle.avr_model.specs.declared.choice.Stop.TheVariants as stop
 use Rattle.avr_model.specs.declared.assumption.Entry.{Entry}
@@ -15,15 +17,7 @@ use Rattle.witness_search.specs.declared.waypoint.Waypoint.{Waypoint}
 use Rattle.witness_search.specs.Waypoints.{pick_due, due_left}
 use Rattle.witness_search.specs.Trials.{fills, most_steps, trial_by, trial_of, Succeeds, NoneSucceeds, IsTried, IsFound, Attains}
 use Rattle.witness_search.specs.Laws.{TrialsAreShort}
-use Rattle.witness_search.proofs.Depths.{from_start}
 use Rattle.witness_search.proofs.Runs.{few, ends_well, run_legal}
-
-only_at : (x y k : ℕ) → k < length (x ∷ []) → slice_index_or (x ∷ []) k y ≡ y → y ≡ x
-only_at x y zero within is = sym is
-only_at x y (suc k) within is = absurd (omega (arith, within))
-
-only : (x y : ℕ) → Contains (x ∷ []) y → y ≡ x
-only x y h = only_at x y h.0 h.1 h.2
 
 steps_are : most_steps ≡ 200000
 unfolding most_steps
@@ -52,7 +46,7 @@ module _ (law : DepthIsKept) (words : List ℕ) (A : List Entry) where
       subst (λ (xs : List Choice). IsRun words A xs (filled (device_of words) fill) → depth_of words A xs (filled (device_of words) fill) ≡ bound → stop_of words A xs (filled (device_of words) fill) ≡ stop.End)
       (sym is)
       (λ run deep.
-      let e = law words A (trial_by steps words A points bound fill) (starting (filled (device_of words) fill)) (omega arith) run ∙ from_start (ramend (device_of words)) (depth_of words A (trial_by steps words A points bound fill) (filled (device_of words) fill)) ∙ deep in
+      let e = law words A (trial_by steps words A points bound fill) (starting (filled (device_of words) fill)) (omega arith) run ∙ most_from_start (ramend (device_of words)) (depth_of words A (trial_by steps words A points bound fill) (filled (device_of words) fill)) ∙ deep in
       ends_well (pick_due fill) due_left words A bound steps points (starting (filled (device_of words) fill)) (omega (arith, e)))
 
   replays : (bound : ℕ) (cs : List Choice) (m : State) → IsRun words A cs m → depth_of words A cs m ≡ bound → stop_of words A cs m ≡ stop.End
@@ -96,7 +90,7 @@ module _ (words : List ℕ) (A : List Entry) (points : List Waypoint) (bound : �
   pub none_more : (before : List ℕ) (fill : ℕ) → NoneSucceeds words A points bound before → (Succeeds words A points bound fill → ⊥)
       → NoneSucceeds words A points bound (before ++ fill ∷ [])
   none_more before fill none failed t has reached =
-      elim (Contains-append_cases before (fill ∷ []) t has) [ inl old ↦ none t old reached | inr new ↦ failed (subst (Succeeds words A points bound) (only fill t new) reached) ]
+      elim (Contains-append_cases before (fill ∷ []) t has) [ inl old ↦ none t old reached | inr new ↦ failed (subst (Succeeds words A points bound) (only_one_in fill t new) reached) ]
 
   pub first : (before after : List ℕ) (fill : ℕ) (plan : Plan) → fills ≡ before ++ fill ∷ after → NoneSucceeds words A points bound before
       → IsTried words A points bound fill (Some plan) → IsFound words A points bound (Some plan)

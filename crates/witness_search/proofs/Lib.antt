@@ -4,4 +4,4 @@ mod Runs
 mod Found
 mod Conditions
 mod One
-mod Answered
+pub mod Answered

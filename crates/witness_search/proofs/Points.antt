@@ -1,5 +1,6 @@
 -- What is taken of waypoints by a menu is what is picked by its state.
 use Rattle.std.proofs.Common.{◌≡◌, refl, ap, ◌∙◌, ℕ, ◌+◌, ◌==◌, ◌&&◌, ◌||◌, not, Bool, true, false, if◌then◌else◌, IsTrue, List, [], ◌∷◌}
+use Rattle.basics.specs.Booleans.{last_of_four}
 use Rattle.avr_model.specs.declared.choice.Choice.TheVariants.{Go}
 use Rattle.avr_model.specs.Vectors.{is_enabled, WATCHDOG}
 use Rattle.avr_model.specs.State.{State, i_flag}
@@ -10,14 +11,8 @@ use Rattle.stimulus.specs.Driving.{IsMenuOf}
 use Rattle.witness_search.specs.declared.waypoint.Waypoint.{Waypoint}
 use Rattle.witness_search.specs.Waypoints.{interrupt_of, is_due, taken, left_after, due_at, pick_due, due_left}
 
-last_of : (a b c d : Bool) → (a && b && c && d) ≡ true → d ≡ true
-last_of true true true d h = h
-last_of true true false d h = cc
-last_of true false c d h = cc
-last_of false b c d h = cc
-
 stands_if : (menu : Menu) (fill : ℕ) (w : Waypoint) (b : Bool) → is_due w menu ≡ b → IsTrue (has_choice menu (if b then interrupt_of w else Go fill fill))
-stands_if menu fill w true is = last_of (menu.pc == w.pc) (menu.masks == w.masks) (menu.sp + w.depth == w.end) (has_choice menu (interrupt_of w)) is
+stands_if menu fill w true is = last_of_four (menu.pc == w.pc) (menu.masks == w.masks) (menu.sp + w.depth == w.end) (has_choice menu (interrupt_of w)) is
 stands_if menu fill w false is = refl
 
 -- what is taken stands in the menu

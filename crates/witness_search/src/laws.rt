@@ -2,7 +2,7 @@
 
 ghost use Rattle.witness_search.specs.Laws.{DeepestChainsAreOne, DeepestChainsAreBounded, WaypointsAreOne, TrialsAreShort};
 
-use expansion_laws::laws::filled_or_missing;
+use edge_laws::expansions::filled_or_missing;
 use family_graph::laws::graphs_are_alike;
 use nesting_bound::laws::{answers_are_one, chains_are_one};
 

@@ -12,7 +12,7 @@ use crate::waypoint::Waypoint;
 use call_graph::{Expanded, expand};
 use certificate::Certificate;
 use certificate::laws::claims_are_seeds;
-use expansion_laws::laws::filled_or_missing;
+use edge_laws::expansions::filled_or_missing;
 use flash_image::Flash;
 use std::alloc::{AllocError, Global};
 use vector_table::Assumptions;

@@ -1,6 +1,6 @@
 use Rattle.std.proofs.Common.{ap, arith}
 use Rattle.local_rules.specs.Raw.{off_table}
-use Rattle.abs_successors.proofs.AllLaws.{none_added, more_added}
+use Rattle.abs_step.proofs.Added.{none_added, more_added}
 use Rattle.abs_step.proofs.flow.add_words.Goals as goal
 
 pub loop-at-init : goal.loop-at-init

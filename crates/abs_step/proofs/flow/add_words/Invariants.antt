@@ -1,6 +1,6 @@
 use Rattle.std.proofs.Common.{map, take}
 use Rattle.local_rules.specs.Raw.{moves_to, off_table}
-use Rattle.abs_successors.specs.Adding.{IsAdded}
+use Rattle.abs_step.specs.Adding.{IsAdded}
 use Rattle.abs_step.proofs.flow.add_words.Given as goal
 
 abbrev pub invariant-loop-at : goal.invariant-loop-at

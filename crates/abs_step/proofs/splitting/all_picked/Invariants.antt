@@ -1,7 +1,7 @@
 use Rattle.std.proofs.Common.{map, take}
 use Rattle.local_rules.specs.Raw.{all_of}
 use Rattle.local_rules.specs.Local.{row_in, picking, picked}
-use Rattle.abs_successors.specs.Adding.{IsGathered}
+use Rattle.abs_step.specs.Adding.{IsGathered}
 use Rattle.abs_step.proofs.splitting.all_picked.Given as goal
 
 abbrev pub invariant-loop-at : goal.invariant-loop-at

@@ -3,8 +3,8 @@ use Rattle.local_rules.specs.declared.local.Node.{Node}
 use Rattle.local_rules.specs.declared.local.NodeFault.{NodeFault}
 use Rattle.local_rules.specs.Raw.{Raw}
 use Rattle.local_rules.specs.Local.{row_in, picking, picked}
-use Rattle.abs_successors.specs.Adding.{IsGathered, with_another}
-use Rattle.abs_successors.proofs.AllLaws.{gathered_fault, not_memory}
+use Rattle.abs_step.specs.Adding.{IsGathered, with_another}
+use Rattle.abs_step.proofs.Gathered.{gathered_fault, not_memory}
 use Rattle.abs_step.proofs.Picked.{gathered_led}
 use Rattle.abs_step.proofs.splitting.picked_too.Goals as goal
 use Rattle.abs_step.proofs.splitting.picked_too.Goals.{in-Ok, in-Err+else-cause-eq0}

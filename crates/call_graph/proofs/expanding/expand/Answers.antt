@@ -1,6 +1,6 @@
 use Rattle.std.proofs.Common.{◌≡◌, refl, length, arith}
 use Rattle.edge_rules.specs.Seeds.{form_of}
-use Rattle.expansion_laws.proofs.AllLaws.{filled_lists_are_shown}
+use Rattle.edge_laws.proofs.ExpansionLaws.{filled_lists_are_shown}
 use Rattle.call_graph.proofs.Working.{numbered, gives_missing, gives_more, gives_whole}
 use Rattle.call_graph.proofs.expanding.expand.Goals as goal
 

@@ -1,4 +1,4 @@
-use Rattle.expansion_laws.specs.Carrying.{SoFar}
+use Rattle.edge_laws.specs.Carrying.{SoFar}
 use Rattle.call_graph.proofs.expanding.expand.Given as goal
 
 abbrev pub invariant-loop-at : goal.invariant-loop-at

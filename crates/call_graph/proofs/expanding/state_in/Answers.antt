@@ -2,7 +2,7 @@ use Rattle.std.proofs.Common.{◌∙◌, sym, ap, length}
 use Rattle.std.proofs.lemmas.List.{map-id}
 use Rattle.std.proofs.lemmas.Iterator.Adapters.{YieldsList-from_vec}
 use Rattle.std.proofs.lemmas.Iterator.Consumers.{YieldsList-so_far, YieldsList-turn}
-use Rattle.expansion_laws.specs.Carrying.{first_at}
+use Rattle.edge_laws.specs.Carrying.{first_at}
 use Rattle.call_graph.proofs.Working.{none_more, found_first}
 use Rattle.call_graph.proofs.expanding.state_in.Goals as goal
 

@@ -1,5 +1,5 @@
 use Rattle.std.proofs.Common.{◌≡◌, None}
-use Rattle.expansion_laws.specs.Carrying.{first_at}
+use Rattle.edge_laws.specs.Carrying.{first_at}
 use Rattle.call_graph.proofs.expanding.state_in.Given as goal
 
 abbrev pub invariant-loop-node : goal.invariant-loop-node

@@ -1,8 +1,9 @@
 use Rattle.std.proofs.Common.{length, refl, sym, ap, ◌∙◌, rules}
 use Rattle.std.proofs.lemmas.Option.{slice_get_read}
 use Rattle.std.proofs.lemmas.List.Sorted.{IsPartitionPoint-from_clause}
+use Rattle.basics.specs.Booleans.{never_both}
 use Rattle.local_rules.specs.declared.local.Node.{Node}
-use Rattle.call_graph.proofs.Places.{differs, is_below_key, parted_by_key, place_there, place_none, place_past}
+use Rattle.call_graph.proofs.Places.{is_below_key, parted_by_key, place_there, place_none, place_past}
 use Rattle.call_graph.proofs.filled.place_of.Goals.{else-at-nodes-via-then-at-nodes+else-eq, else-at-nodes-via-else-at-nodes}
 use Rattle.call_graph.proofs.filled.place_of.Goals as goal
 
@@ -24,6 +25,6 @@ returns c =
     elim c.else-at-nodes.branch [
       | else-at-nodes-via-then-at-nodes+else-eq w ↦
           (let there = slice_get_read nodes (length nodes) at w.index-nodes-at.result refl w.if-at-nodes.true w.index-nodes-at.is in
-          place_none nodes k at c.requires point w.index-nodes-at.result there (λ same. differs w.eq.result (w.eq.ensures.same.1 (ap (λ (n : Node). n.key) (sym w.index-nodes-at.is) ∙ same)) w.if-eq.false))
+          place_none nodes k at c.requires point w.index-nodes-at.result there (λ same. never_both w.eq.result (w.eq.ensures.same.1 (ap (λ (n : Node). n.key) (sym w.index-nodes-at.is) ∙ same)) w.if-eq.false))
       | else-at-nodes-via-else-at-nodes w ↦ place_past nodes k at c.requires point w.if-at-nodes.false
     ]

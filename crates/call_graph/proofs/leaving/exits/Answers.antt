@@ -1,5 +1,5 @@
 use Rattle.std.proofs.Common.{rules, ◌≡◌, sym, subst, ◌<◌, length, arith}
-use Rattle.expansion_laws.proofs.AllLaws.{get_inside}
+use Rattle.basics.specs.Lists.{get_inside}
 use Rattle.call_graph.specs.Exits.{AreExits}
 use Rattle.call_graph.proofs.Returning.{one_more, first_fault, whole}
 use Rattle.call_graph.proofs.leaving.exits.Goals as goal

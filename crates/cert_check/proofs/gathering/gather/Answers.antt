@@ -1,7 +1,7 @@
 use Rattle.std.proofs.Common.{◌≡◌, ◌++◌, sym, subst, ◌<◌, ◌≤◌, length, None, Contains, arith}
-use Rattle.expansion_laws.proofs.AllLaws.{get_inside}
+use Rattle.basics.specs.Lists.{get_inside}
 use Rattle.edge_rules.specs.Edges.{AreEdges}
-use Rattle.cert_check.specs.Demands.{IsLeast, Lands, GapAt, KeyBelow, demands_of}
+use Rattle.cert_check.specs.Demands.{IsLeast, LeadsToNode, GapAt, KeyBelow, demands_of}
 use Rattle.cert_check.proofs.Passing.{key_belongs, targets, gap_first, targets_belong, goes_on, ends}
 use Rattle.cert_check.proofs.gathering.gather.Goals as goal
 
@@ -35,8 +35,8 @@ add_demands-requires-clause-there c =
     let inside : c.loop-at.at < length nodes = omega (arith, c.loop-at-test.true, c.count-at-end.ensures.count) in
     let n = get_inside nodes c.loop-at.at inside in
     let are : AreEdges c.args.flash.now c.args.assumptions.now nodes n.0 c.in_ok-edges.edges = c.in_ok-edges.ensures n.0 n.1 in
-    let clear : IsLeast (Lands nodes) (GapAt nodes) KeyBelow c.in_ok-edges.edges None =
-    subst (λ l. IsLeast (Lands nodes) (GapAt nodes) KeyBelow l None) c.as_slice.ensures c.in_default.ensures in
+    let clear : IsLeast (LeadsToNode nodes) (GapAt nodes) KeyBelow c.in_ok-edges.edges None =
+    subst (λ l. IsLeast (LeadsToNode nodes) (GapAt nodes) KeyBelow l None) c.as_slice.ensures c.in_default.ensures in
     let all = targets_belong c.args.flash.now c.args.assumptions.now c.args.instances.now nodes c.loop-at.at c.loop-at.demands.items c.loop-at.invariant n.0 n.1
     c.in_ok-edges.edges are c.requires.belong clear in
     λ e h. all e (subst (λ l. Contains l e) c.as_slice-in-loop-at.ensures h)
@@ -48,8 +48,8 @@ loop-at-preserved c =
     let n = get_inside nodes c.loop-at.at inside in
     let edges = c.in_ok-edges.edges in
     let are : AreEdges c.args.flash.now c.args.assumptions.now nodes n.0 edges = c.in_ok-edges.ensures n.0 n.1 in
-    let clear : IsLeast (Lands nodes) (GapAt nodes) KeyBelow edges None =
-    subst (λ l. IsLeast (Lands nodes) (GapAt nodes) KeyBelow l None) c.as_slice.ensures c.in_default.ensures in
+    let clear : IsLeast (LeadsToNode nodes) (GapAt nodes) KeyBelow edges None =
+    subst (λ l. IsLeast (LeadsToNode nodes) (GapAt nodes) KeyBelow l None) c.as_slice.ensures c.in_default.ensures in
     let more : c.add_demands.new.demands.items ≡ c.loop-at.demands.items ++ demands_of c.args.instances.now c.key.result.now edges =
     subst (λ l. c.add_demands.new.demands.items ≡ c.loop-at.demands.items ++ demands_of c.args.instances.now c.key.result.now l) c.as_slice-in-loop-at.ensures
     c.in_ok-add_demands.ensures in

@@ -1,7 +1,7 @@
 use Rattle.std.proofs.Common.{arith, subst}
+use Rattle.witness_search.proofs.Answered.{meets_as}
 use Rattle.edge_rules.specs.Expansion.{IsFilled, IsMissing}
-use Rattle.call_graph.specs.Gives.{Gives}
-use Rattle.chain_explain.proofs.Explained.{meets_as}
+use Rattle.call_graph.specs.Expanding.{IsExpanded}
 use Rattle.chain_explain.proofs.explaining.explain.Goals as goal
 
 pub expand-requires-clause-seeds : goal.expand-requires-clause-seeds
@@ -13,19 +13,19 @@ expand-requires-clause-ascending c = c.nodes-nodes.ensures.kept.nodes_ascend
 pub explained-requires-clause-few : goal.explained-requires-clause-few
 explained-requires-clause-few c =
     let filled : IsFilled c.args.flash.now c.args.assumptions.now c.args.certificate.now.nodes c.in-Whole.nodes =
-    subst (Gives c.args.flash.now c.args.assumptions.now c.args.certificate.now.nodes) c.in-Whole.is c.in_ok-nodes.ensures in
+    subst (IsExpanded c.args.flash.now c.args.assumptions.now c.args.certificate.now.nodes) c.in-Whole.is c.in_ok-nodes.ensures in
     omega (arith, filled.count, c.nodes-nodes.ensures.kept.few_nodes)
 
 pub explained-requires-clause-filled : goal.explained-requires-clause-filled
-explained-requires-clause-filled c = subst (Gives c.args.flash.now c.args.assumptions.now c.args.certificate.now.nodes) c.in-Whole.is c.in_ok-nodes.ensures
+explained-requires-clause-filled c = subst (IsExpanded c.args.flash.now c.args.assumptions.now c.args.certificate.now.nodes) c.in-Whole.is c.in_ok-nodes.ensures
 
 pub explained-requires-clause-meets : goal.explained-requires-clause-meets
 explained-requires-clause-meets c =
     meets_as c.filled_or_missing.ensures c.args.flash.now c.args.assumptions.now c.args.certificate.now c.in-Whole.nodes c.requires
-    (subst (Gives c.args.flash.now c.args.assumptions.now c.args.certificate.now.nodes) c.in-Whole.is c.in_ok-nodes.ensures)
+    (subst (IsExpanded c.args.flash.now c.args.assumptions.now c.args.certificate.now.nodes) c.in-Whole.is c.in_ok-nodes.ensures)
 
 pub unreachable-requires : goal.unreachable-requires
 unreachable-requires c =
     let missing : IsMissing c.args.flash.now c.args.assumptions.now c.args.certificate.now.nodes c.in-Missing.field-0 =
-    subst (Gives c.args.flash.now c.args.assumptions.now c.args.certificate.now.nodes) c.in-Missing.is c.in_ok-nodes.ensures in
+    subst (IsExpanded c.args.flash.now c.args.assumptions.now c.args.certificate.now.nodes) c.in-Missing.is c.in_ok-nodes.ensures in
     c.filled_or_missing.ensures.apart c.args.flash.now c.args.assumptions.now c.args.certificate.now.nodes c.requires.nodes c.in-Missing.field-0 c.requires.expanded missing

@@ -1,4 +1,5 @@
 use Rattle.std.proofs.Common.{◌≡◌, sym, ap, ◌∙◌, subst, ℕ, ◌≤◌, arith, slice_get, Some}
+use Rattle.basics.specs.Items.{place_of_contained, contained_at}
 use Rattle.avr_model.specs.State.{SIZE}
 use Rattle.mask_states.specs.declared.keys.InstKey.{InstKey}
 use Rattle.mask_states.specs.declared.keys.NodeKey.{NodeKey}
@@ -6,33 +7,32 @@ use Rattle.mask_states.specs.Keys.{offset_of}
 use Rattle.chain_explain.specs.Explanation.{adds_by}
 use Rattle.chain_explain.specs.Reached.{IsReached}
 use Rattle.chain_explain.specs.Walks.{IsWay}
-use Rattle.chain_explain.proofs.Lists.{number_of, contains_at}
 use Rattle.chain_explain.proofs.Stepped.{key_there}
 use Rattle.chain_explain.proofs.parts.part.Goals as goal
 
 pub way-requires-clause-there : goal.way-requires-clause-there
 way-requires-clause-there c =
     let w = key_there c.args.reached.now c.args.link.now.node c.key-key.result.now c.key-key.ensures in
-    let of = (c.requires.reached.exact w.0).0 (contains_at c.args.reached.now c.args.link.now.node w.0 w.1.0) in
+    let of = (c.requires.reached.exact w.0).0 (contained_at c.args.reached.now c.args.link.now.node w.0 w.1.0) in
     (w.0, (of.0, w.1.1))
 
 pub way-requires-clause-reached : goal.way-requires-clause-reached
 way-requires-clause-reached c =
     let w = key_there c.args.reached.now c.args.link.now.node c.key-key.result.now c.key-key.ensures in
-    let of = (c.requires.reached.exact w.0).0 (contains_at c.args.reached.now c.args.link.now.node w.0 w.1.0) in
+    let of = (c.requires.reached.exact w.0).0 (contained_at c.args.reached.now c.args.link.now.node w.0 w.1.0) in
     subst (IsReached c.args.flash.now c.args.assumptions.now c.args.nodes.now) w.1.1 of.1
 
 pub adds-requires : goal.adds-requires
 adds-requires c =
     let w = key_there c.args.reached.now c.args.link.now.node c.key-key.result.now c.key-key.ensures in
-    let of = (c.requires.reached.exact w.0).0 (contains_at c.args.reached.now c.args.link.now.node w.0 w.1.0) in
+    let of = (c.requires.reached.exact w.0).0 (contained_at c.args.reached.now c.args.link.now.node w.0 w.1.0) in
     subst (λ (k : NodeKey). offset_of k.sp ≤ SIZE) w.1.1 (c.count-count.ensures.shown.all w.0 of.0).small
 
 pub returns : goal.returns
 returns c =
     let w = key_there c.args.reached.now c.args.link.now.node c.key-key.result.now c.key-key.ensures in
-    let of = (c.requires.reached.exact w.0).0 (contains_at c.args.reached.now c.args.link.now.node w.0 w.1.0) in
-    let at = number_of c.args.nodes.now w.0 of.0 in
+    let of = (c.requires.reached.exact w.0).0 (contained_at c.args.reached.now c.args.link.now.node w.0 w.1.0) in
+    let at = place_of_contained c.args.nodes.now w.0 of.0 in
     let inst : c.key-key.result.now.inst ≡ w.0.key.inst = ap (λ (k : NodeKey). k.inst) (sym w.1.1) in
     record {
       node = w.0;

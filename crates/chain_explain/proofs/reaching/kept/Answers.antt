@@ -1,6 +1,6 @@
 use Rattle.std.proofs.Common.{◌≡◌, ◌+◌, ◌<◌, ◌++◌, ◌∷◌, [], ◌∙◌, ap, sym, arith, length, true, false, append-nil, Vec, Global}
+use Rattle.basics.specs.Lists.{get_inside}
 use Rattle.local_rules.specs.declared.local.Node.{Node}
-use Rattle.chain_explain.proofs.Lists.{get_at}
 use Rattle.chain_explain.proofs.Marks.{kept_next}
 use Rattle.chain_explain.proofs.Stepped.{node_is, read_at}
 use Rattle.chain_explain.proofs.reaching.kept.Goals as goal
@@ -12,7 +12,7 @@ loop-at-preserved c =
     let at = c.loop-at.at in
     let lt : at < length nodes = omega (arith, c.loop-at-test.true, c.count-at-end.ensures.count) in
     let lt_marks : at < length c.args.marks.now = omega (arith, lt, c.requires) in
-    let n = get_at nodes at lt in
+    let n = get_inside nodes at lt in
     elim c.if-marks-at.branch [
       | then-marks-at+in_ok-copy+in_ok-push w ↦
           kept_next c.args.marks.now nodes c.loop-at.kept.items c.if-marks-at.kept.items at true n.0 (read_at c.args.marks.now at true _ lt_marks w.if-marks-at.true) n.1 c.loop-at.invariant

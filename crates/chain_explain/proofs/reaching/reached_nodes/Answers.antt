@@ -1,11 +1,12 @@
 use Rattle.std.proofs.Common.{◌≡◌, ◌<◌, ◌∙◌, ap, sym, subst, arith, length, List, ℕ, Bool}
+use Rattle.basics.specs.Items.{only_one_in}
+use Rattle.edge_rules.specs.Places.{found_at}
 use Rattle.mask_states.specs.Keys.{root_inst, entry_key}
 use Rattle.local_rules.specs.declared.local.Node.{Node}
 use Rattle.local_laws.specs.Laws.{HasKey}
 use Rattle.chain_explain.specs.Reached.{AreReached}
 use Rattle.chain_explain.specs.Moves.{kept_by}
-use Rattle.chain_explain.proofs.Lists.{only}
-use Rattle.chain_explain.proofs.Numbers.{found_at, inside_at}
+use Rattle.chain_explain.proofs.Numbers.{inside_at}
 use Rattle.chain_explain.proofs.Edges.{is_graph}
 use Rattle.chain_explain.proofs.Marks.{kept_shown, kept_few, are_reached}
 use Rattle.chain_explain.proofs.Stepped.{reset_has}
@@ -26,7 +27,7 @@ reached-requires-clause-graph c =
 pub reached-requires-clause-starts : goal.reached-requires-clause-starts
 reached-requires-clause-starts c = λ i h.
     let lt = inside_at c.entry.result c.args.nodes.now c.number_of-root.result c.number_of-root.ensures in
-    let same = only c.number_of-root.result i h in
+    let same = only_one_in c.number_of-root.result i h in
     let all = c.requires.steps.all_count in
     omega (arith, lt, same, all)
 

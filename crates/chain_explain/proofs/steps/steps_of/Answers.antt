@@ -1,5 +1,5 @@
 use Rattle.std.proofs.Common.{sym, ◌∙◌}
-use Rattle.chain_explain.proofs.Built.{all_or_fault}
+use Rattle.family_graph.proofs.Graphs.{all_or_fault}
 use Rattle.chain_explain.proofs.steps.steps_of.Goals as goal
 
 pub unreachable-requires : goal.unreachable-requires

@@ -1,7 +1,7 @@
 use Rattle.std.proofs.Common.{◌≡◌, ◌+◌, ◌<◌, ◌++◌, ◌∷◌, [], ◌∙◌, ap, sym, subst, arith, length, List, ℕ}
+use Rattle.basics.specs.Lists.{get_inside}
 use Rattle.mask_states.specs.declared.keys.NodeKey.{NodeKey}
 use Rattle.chain_explain.specs.Moves.{all_of, moves_of, AreSteps}
-use Rattle.chain_explain.proofs.Lists.{get_at}
 use Rattle.chain_explain.proofs.Stepped.{node_at}
 use Rattle.chain_explain.proofs.Built.{steps_more}
 use Rattle.chain_explain.proofs.steps.steps_with.Goals as goal
@@ -10,7 +10,7 @@ pub loop-at-preserved : goal.loop-at-preserved
 loop-at-preserved c =
     let nodes = c.args.nodes.now in
     let lt : c.loop-at.at < length nodes = omega (arith, c.loop-at-test.true, c.count-at-end.ensures.count) in
-    let n = get_at nodes c.loop-at.at lt in
+    let n = get_inside nodes c.loop-at.at lt in
     let edges = c.in_ok-edges.edges in
     let to : c.add_steps.new.all ≡ all_of nodes edges =
     c.in_ok-add_steps.ensures.all ∙ (ap (λ (xs : List ℕ). xs ++ all_of nodes c.as_slice.result.now) c.empty-to.ensures ∙ ap (all_of nodes) c.as_slice.ensures) in

@@ -1,6 +1,6 @@
 use Rattle.std.proofs.Common.{◌≤◌, arith, get_or, slice_index}
+use Rattle.basics.specs.Items.{all_up_to, all_taken}
 use Rattle.nesting_bound.specs.declared.graph.Entered.{Entered}
-use Rattle.nesting_bound.proofs.Tested.{all_more, all_taken}
 use Rattle.nesting_bound.proofs.Table.{no_entry}
 use Rattle.nesting_bound.proofs.cycle.lead_down.Goals as goal
 
@@ -8,7 +8,7 @@ pub loop-entered-preserved : goal.loop-entered-preserved
 loop-entered-preserved c =
     let e : Entered = get_or c.args.edges.now c.loop-entered.entered-index no_entry in
     let low : slice_index c.args.numbers.now e.into ≤ c.args.number = omega arith in
-    all_more (λ x. slice_index c.args.numbers.now x.into ≤ c.args.number) c.args.edges.now c.loop-entered.entered-index no_entry c.loop-entered-test.true c.loop-entered.invariant low
+    all_up_to (λ x. slice_index c.args.numbers.now x.into ≤ c.args.number) c.args.edges.now c.loop-entered.entered-index no_entry c.loop-entered-test.true c.loop-entered.invariant low
 
 pub returns : goal.returns
 returns c = λ _. all_taken (λ x. slice_index c.args.numbers.now x.into ≤ c.args.number) c.args.edges.now c.loop-entered.entered-index c.loop-entered-test.false c.loop-entered.invariant

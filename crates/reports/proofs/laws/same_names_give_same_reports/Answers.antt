@@ -1,4 +1,4 @@
-use Rattle.reports.proofs.Same.{same_reports, same_explanations}
+use Rattle.reports.proofs.SameReports.{same_reports, same_explanations}
 use Rattle.reports.proofs.laws.same_names_give_same_reports.Goals as goal
 
 pub returns-clause-reports : goal.returns-clause-reports

@@ -1,5 +1,5 @@
+use Rattle.cert_writing.proofs.Written.{lines_next}
 use Rattle.reports.specs.Report.{inst_line}
-use Rattle.reports.proofs.Lines.{lines_next}
 use Rattle.reports.proofs.text.write_insts.Goals as goal
 
 pub loop-inst-preserved : goal.loop-inst-preserved

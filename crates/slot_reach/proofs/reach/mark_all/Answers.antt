@@ -1,14 +1,15 @@
 use Rattle.std.proofs.Common.{◌<◌, refl, sym, subst, take, get_or}
 use Rattle.std.specs.List.{Contains}
 use Rattle.std.proofs.lemmas.List.Elements.{Contains-get_or}
+use Rattle.basics.specs.Items.{none_in}
 use Rattle.slot_reach.specs.Reach.{offset_at}
-use Rattle.slot_reach.proofs.Marks.{nothing_in, spread_none, links_more}
+use Rattle.slot_reach.proofs.Marks.{spread_none, links_more}
 use Rattle.slot_reach.proofs.reach.mark_all.Goals as goal
 
 pub loop-at-init : goal.loop-at-init
 loop-at-init c =
     spread_none (λ j. Contains (take 0 c.args.links.now) j × (c.args.slot < offset_at c.args.offsets.now j)) c.args.seen.now c.args.stack.now.items
-    (λ j h. nothing_in j h.0)
+    (λ j h. none_in j h.0)
 
 pub mark_next-requires-clause-inside : goal.mark_next-requires-clause-inside
 mark_next-requires-clause-inside c =

@@ -1,11 +1,12 @@
 use Rattle.std.proofs.Common.{◌<◌, refl, sym, subst, take, get_or}
 use Rattle.std.specs.List.{Contains}
 use Rattle.std.proofs.lemmas.List.Elements.{Contains-get_or}
-use Rattle.slot_reach.proofs.Marks.{nothing_in, spread_none, no_seed, seeds_more}
+use Rattle.basics.specs.Items.{none_in}
+use Rattle.slot_reach.proofs.Marks.{spread_none, no_seed, seeds_more}
 use Rattle.slot_reach.proofs.reach.mark_seeds.Goals as goal
 
 pub loop-at-init : goal.loop-at-init
-loop-at-init c = spread_none (λ j. Contains (take 0 c.args.seeds.now) (record { node = j; slot = c.args.slot })) c.args.seen.now c.args.stack.now.items (λ j h. nothing_in _ h)
+loop-at-init c = spread_none (λ j. Contains (take 0 c.args.seeds.now) (record { node = j; slot = c.args.slot })) c.args.seen.now c.args.stack.now.items (λ j h. none_in _ h)
 
 pub mark_seed-requires : goal.mark_seed-requires
 mark_seed-requires c =

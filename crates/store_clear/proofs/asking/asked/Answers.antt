@@ -1,7 +1,7 @@
 use Rattle.std.proofs.Common.{◌≡◌, ◌+◌, ◌<◌, sym, subst, arith, length, List}
+use Rattle.basics.specs.Lists.{get_inside}
 use Rattle.store_aims.specs.declared.need.Asks.{Asks}
 use Rattle.store_clear.specs.Settling.{AreAskedTo}
-use Rattle.store_clear.proofs.Lists.{get_at}
 use Rattle.store_clear.proofs.Askings.{key_is, state_is, asking_is, asked_none, asked_more}
 use Rattle.store_clear.proofs.asking.asked.Goals as goal
 
@@ -15,7 +15,7 @@ loop-at-preserved c =
     let nodes = c.args.nodes.now in
     let at = c.loop-at.at in
     let lt : at < length nodes = omega (arith, c.loop-at-test.true, c.count-at-end.ensures.count) in
-    let n = get_at nodes at lt in
+    let n = get_inside nodes at lt in
     let asks =
     asking_is c.args.flash.now c.args.assumptions.now c.args.bound nodes n.0 c.key-key.result.now c.state-state.result.now c.asked_by.result
     (key_is nodes at n.0 n.1 c.key-key.result.now c.key-key.ensures) (state_is nodes at n.0 n.1 c.state-state.result.now c.state-state.ensures) c.asked_by.ensures in

@@ -1,9 +1,9 @@
 use Rattle.std.proofs.Common.{◌≡◌, ◌+◌, ◌<◌, ◌++◌, [], ◌∙◌, ap, sym, subst, arith, length, List, ℕ}
+use Rattle.basics.specs.Lists.{get_inside}
 use Rattle.mask_states.specs.declared.keys.NodeKey.{NodeKey}
 use Rattle.edge_rules.specs.declared.edge.Edge.{Edge}
 use Rattle.slot_reach.specs.declared.reach.Seed.{Seed}
 use Rattle.store_clear.specs.Settling.{links_by, pushed_by, AreLinksTo}
-use Rattle.store_clear.proofs.Lists.{get_at}
 use Rattle.store_clear.proofs.Askings.{key_is}
 use Rattle.store_clear.proofs.Spread.{links_none, links_more, spreads}
 use Rattle.store_clear.proofs.spreading.frames_of.Goals as goal
@@ -19,7 +19,7 @@ loop-at-preserved c =
     let nodes = c.args.nodes.now in
     let at = c.loop-at.at in
     let lt : at < length nodes = omega (arith, c.loop-at-test.true, c.count-at-end.ensures.count) in
-    let n = get_at nodes at lt in
+    let n = get_inside nodes at lt in
     let edges = c.in_ok-edges.edges in
     let to : c.add_links.new.to ≡ links_by nodes edges =
     c.in_ok-add_links.ensures ∙ (ap (λ (xs : List ℕ). xs ++ links_by nodes c.as_slice.result.now) c.empty-to.ensures ∙ ap (links_by nodes) c.as_slice.ensures) in

@@ -1,6 +1,6 @@
 use Rattle.std.proofs.Common.{◌≡◌, ◌<◌, length, subst, arith}
+use Rattle.basics.specs.Lists.{get_inside}
 use Rattle.store_clear.specs.Takes.{IsMarked, IsTakenAt}
-use Rattle.store_clear.proofs.Lists.{get_at}
 use Rattle.store_clear.proofs.Askings.{key_is}
 use Rattle.store_clear.proofs.Taken.{takes_none, takes_more}
 use Rattle.store_clear.proofs.takes.mark_takes.Goals as goal
@@ -13,7 +13,7 @@ loop-at-preserved c =
     let nodes = c.args.nodes.now in
     let at = c.loop-at.at in
     let lt : at < length nodes = omega (arith, c.loop-at-test.true, c.count-at-end.ensures.count) in
-    let n = get_at nodes at lt in
+    let n = get_inside nodes at lt in
     takes_more c.args.flash.now c.args.assumptions.now nodes at n.0 c.key.result.now c.args.marks.now c.loop-at.marks c.mark_node.new.marks n.1
     (key_is nodes at n.0 n.1 c.key.result.now c.key.ensures) c.loop-at.invariant c.mark_node.ensures
 

@@ -1,5 +1,5 @@
 use Rattle.std.proofs.Common.{◌<◌, arith, length, refl}
-use Rattle.store_clear.proofs.Lists.{get_at}
+use Rattle.basics.specs.Lists.{get_inside}
 use Rattle.store_clear.proofs.Askings.{key_is}
 use Rattle.store_clear.proofs.Marked.{words_none, words_more, word_within}
 use Rattle.store_clear.proofs.words.mark_words.Goals as goal
@@ -17,7 +17,7 @@ loop-at-preserved c =
     let nodes = c.args.nodes.now in
     let at = c.loop-at.at in
     let lt : at < length nodes = omega (arith, c.requires.same, c.loop-at-test.true) in
-    let n = get_at nodes at lt in
+    let n = get_inside nodes at lt in
     let within = word_within nodes c.count-count.ensures.shown at c.key.result.now c.key.ensures c.loop-at.marks (omega (arith, c.loop-at.invariant.same, c.requires.all)) in
     words_more nodes c.args.asks.now at n.0 c.key.result.now c.args.marks.now c.loop-at.marks c.mark_word.new.marks _ n.1 (key_is nodes at n.0 n.1 c.key.result.now c.key.ensures) refl within
     c.mark_word.ensures c.loop-at.invariant

@@ -1,7 +1,7 @@
 use Rattle.std.proofs.Common.{arith, subst}
 use Rattle.std.proofs.lemmas.Result.{IfOk-weaker}
 use Rattle.edge_rules.specs.Expansion.{IsFilled, IsMissing}
-use Rattle.call_graph.specs.Gives.{Gives}
+use Rattle.call_graph.specs.Expanding.{IsExpanded}
 use Rattle.witness_search.proofs.Answered.{meets_as, waypoints_as}
 use Rattle.witness_search.proofs.searching.waypoints_of.Goals as goal
 
@@ -14,23 +14,23 @@ expand-requires-clause-ascending c = c.nodes-nodes.ensures.kept.nodes_ascend
 pub waypoints-requires-clause-few : goal.waypoints-requires-clause-few
 waypoints-requires-clause-few c =
     let filled : IsFilled c.args.flash.now c.args.assumptions.now c.args.certificate.now.nodes c.in-Whole.nodes =
-    subst (Gives c.args.flash.now c.args.assumptions.now c.args.certificate.now.nodes) c.in-Whole.is c.in_ok-nodes.ensures in
+    subst (IsExpanded c.args.flash.now c.args.assumptions.now c.args.certificate.now.nodes) c.in-Whole.is c.in_ok-nodes.ensures in
     omega (arith, filled.count, c.nodes-nodes.ensures.kept.few_nodes)
 
 pub waypoints-requires-clause-meets : goal.waypoints-requires-clause-meets
 waypoints-requires-clause-meets c =
     meets_as c.filled_or_missing.ensures c.args.flash.now c.args.assumptions.now c.args.certificate.now c.in-Whole.nodes c.requires
-    (subst (Gives c.args.flash.now c.args.assumptions.now c.args.certificate.now.nodes) c.in-Whole.is c.in_ok-nodes.ensures)
+    (subst (IsExpanded c.args.flash.now c.args.assumptions.now c.args.certificate.now.nodes) c.in-Whole.is c.in_ok-nodes.ensures)
 
 pub unreachable-requires : goal.unreachable-requires
 unreachable-requires c =
     let missing : IsMissing c.args.flash.now c.args.assumptions.now c.args.certificate.now.nodes c.in-Missing.field-0 =
-    subst (Gives c.args.flash.now c.args.assumptions.now c.args.certificate.now.nodes) c.in-Missing.is c.in_ok-nodes.ensures in
+    subst (IsExpanded c.args.flash.now c.args.assumptions.now c.args.certificate.now.nodes) c.in-Missing.is c.in_ok-nodes.ensures in
     c.filled_or_missing.ensures.apart c.args.flash.now c.args.assumptions.now c.args.certificate.now.nodes c.requires.nodes c.in-Missing.field-0 c.requires.expanded missing
 
 pub returns : goal.returns
 returns c =
     IfOk-weaker c.waypoints.result _ _
     (λ points e. waypoints_as c.args.flash.now c.args.assumptions.now c.args.certificate.now c.in-Whole.nodes points.items
-    (subst (Gives c.args.flash.now c.args.assumptions.now c.args.certificate.now.nodes) c.in-Whole.is c.in_ok-nodes.ensures) e)
+    (subst (IsExpanded c.args.flash.now c.args.assumptions.now c.args.certificate.now.nodes) c.in-Whole.is c.in_ok-nodes.ensures) e)
     c.waypoints.ensures

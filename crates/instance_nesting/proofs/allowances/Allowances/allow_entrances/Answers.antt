@@ -1,11 +1,11 @@
 use Rattle.std.proofs.Common.{subst}
+use Rattle.basics.specs.Items.{all_up_to, all_taken}
 use Rattle.instance_nesting.specs.Covers.{AllowsEntrance}
-use Rattle.instance_nesting.proofs.Covering.{all_more, all_taken}
 use Rattle.instance_nesting.proofs.allowances.Allowances.allow_entrances.Goals as goal
 
 pub loop-entrance-preserved : goal.loop-entrance-preserved
 loop-entrance-preserved c =
-    all_more (AllowsEntrance c.args.self.now.map.entries) c.args.entrances.now c.loop-entrance.entrance-index c.entrance-item.result c.loop-entrance-test.true c.loop-entrance.invariant
+    all_up_to (AllowsEntrance c.args.self.now.map.entries) c.args.entrances.now c.loop-entrance.entrance-index c.entrance-item.result c.loop-entrance-test.true c.loop-entrance.invariant
     (subst (AllowsEntrance c.args.self.now.map.entries) c.entrance-item.is (c.allow_entrance.ensures c.if-not-allow_entrance.false))
 
 pub returns : goal.returns

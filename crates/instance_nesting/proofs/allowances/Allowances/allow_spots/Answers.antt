@@ -1,11 +1,11 @@
 use Rattle.std.proofs.Common.{subst}
+use Rattle.basics.specs.Items.{all_up_to, all_taken}
 use Rattle.instance_nesting.specs.Covers.{AllowsSpot}
-use Rattle.instance_nesting.proofs.Covering.{all_more, all_taken}
 use Rattle.instance_nesting.proofs.allowances.Allowances.allow_spots.Goals as goal
 
 pub loop-spot-preserved : goal.loop-spot-preserved
 loop-spot-preserved c =
-    all_more (AllowsSpot c.args.self.now.map.entries) c.args.spots.now c.loop-spot.spot-index c.spot-item.result c.loop-spot-test.true c.loop-spot.invariant
+    all_up_to (AllowsSpot c.args.self.now.map.entries) c.args.spots.now c.loop-spot.spot-index c.spot-item.result c.loop-spot-test.true c.loop-spot.invariant
     (subst (AllowsSpot c.args.self.now.map.entries) c.spot-item.is (c.allow_spot.ensures c.if-not-allow_spot.false))
 
 pub returns : goal.returns

@@ -1,7 +1,7 @@
 use Rattle.std.proofs.Common.{subst, Bool, IsTrue}
 use Rattle.std.specs.Prelude.{◌≡◌, ◌↔◌}
 use Rattle.mask_states.specs.Order.{same_inst}
-use Rattle.mask_states.proofs.Same.{inst_same_is}
+use Rattle.mask_states.proofs.SameKeys.{inst_same_is}
 use Rattle.mask_states.proofs.keys.InstKeyPartialEq.eq.Goals as goal
 
 pub returns-clause-test : goal.returns-clause-test

@@ -1,7 +1,7 @@
 use Rattle.std.proofs.Common.{subst, Bool, IsTrue}
 use Rattle.std.specs.Prelude.{◌≡◌, ◌↔◌}
 use Rattle.mask_states.specs.Order.{same_node}
-use Rattle.mask_states.proofs.Same.{node_same_is}
+use Rattle.mask_states.proofs.SameKeys.{node_same_is}
 use Rattle.mask_states.proofs.keys.NodeKeyPartialEq.eq.Goals as goal
 
 pub returns-clause-test : goal.returns-clause-test

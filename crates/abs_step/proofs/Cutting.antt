@@ -1,0 +1,39 @@
+-- Branches on C: two that are added, and the states of the registers that were cut.
+use Rattle.std.proofs.Common.{◌≡◌, refl, sym, ap, ◌∙◌, ℕ, Bool, List, [], ◌∷◌, ◌++◌, Option, Some, None, append-nil}
+use Rattle.sp_domain.specs.declared.tags.CarryTag.{CarryTag}
+use Rattle.sp_domain.specs.declared.tags.CarryTag.TheVariants as carry
+use Rattle.abs_state.specs.declared.values.AbsByte.{AbsByte}
+use Rattle.abs_state.specs.declared.state.AbsState.{AbsState}
+use Rattle.local_rules.specs.declared.local.Node.{Node}
+use Rattle.local_rules.specs.Raw.{Raw, all_of}
+use Rattle.local_rules.specs.Local.{joined_onto}
+use Rattle.local_rules.specs.Flow.{part_of, with_value, where_carry}
+use Rattle.local_rules.specs.Registers.{value}
+use Rattle.abs_step.specs.Adding.{IsAdded}
+use Rattle.abs_step.specs.Cuts.{with_part, registers_where}
+use Rattle.abs_step.proofs.Gathered.{joined_all}
+
+pub both_added : (old mid new : List Node) (r q : Raw) → IsAdded old mid r → IsAdded mid new q → IsAdded old new (all_of (r ∷ q ∷ []))
+both_added old mid new r q p s =
+    let none_r : r.faults ≡ [] = ap (λ (x : Raw). x.faults) p.moves in
+    let none_q : q.faults ≡ [] = ap (λ (x : Raw). x.faults) s.moves in
+    record {
+      moves = λ i. record { moves = r.moves ++ (q.moves ++ []); calls = []; exit = None; faults = none_r i ++ (none_q i ++ []) };
+      nodes = s.nodes ∙ ap (λ (ns : List Node). joined_onto ns q.moves) p.nodes ∙ sym (joined_all old r.moves q.moves)
+          ∙ ap (λ (ms : List Node). joined_onto old (r.moves ++ ms)) (sym (append-nil q.moves));
+    }
+
+-- the state with these registers, if there are such
+abbrev pub state_where : AbsState → Option (List AbsByte) → Option AbsState
+state_where s None = None
+state_where s (Some registers) = Some (record s { registers = registers })
+
+cut_state : (s : AbsState) (r : ℕ) (v : Option AbsByte) → state_where s (with_part s.registers r v) ≡ with_value s r v
+cut_state s r None = refl
+cut_state s r (Some v) = refl
+
+pub states_where : (c : CarryTag) (s : AbsState) (on : Bool) → state_where s (registers_where c s.registers on) ≡ where_carry c s on
+states_where carry.None s on = refl
+states_where (carry.Borrow j l) s on = refl
+states_where (carry.Sum j l) s on = refl
+states_where (carry.Less r n) s on = cut_state s r (part_of on (value s r) n)

@@ -1,0 +1,69 @@
+//! Bits of I/O, and the flags by their numbers.
+
+ghost use Rattle.std.specs.Prelude.{◌≡◌};
+ghost use Rattle.local_rules.specs.Registers as registers;
+ghost use Rattle.local_rules.specs.Local as rows;
+ghost use Rattle.abs_step.specs.Adding.{Adds};
+
+use crate::site::Site;
+use crate::stores::{Write, written_at};
+use crate::successors::{add_copy, next, setting};
+use abs_reads::reads::read_at;
+use abs_rows::bits::flag;
+use abs_state::AbsByte;
+use avr_model::instruction::Bit;
+use bit_domain::Tri;
+use local_rules::local::{NodeFault, Nodes};
+use mask_states::NodeKey;
+
+/// One bit of an I/O address is turned on or off.
+pub fn bit_row(
+    nodes: &mut Nodes,
+    site: &Site<'_>,
+    address: u16,
+    bit: Bit,
+    on: bool,
+) -> Result<(), NodeFault>
+    ensures { Adds nodes.old nodes.new result (rows.bit_row site.now.device site.now.key.now site.now.state.now address bit on) }
+{
+    let bits = read_at(site.device, site.key, site.state, address)
+        .bits
+        .with(bit.get() as u8, if on { Tri::One } else { Tri::Zero });
+    let write = Write {
+        device: site.device,
+        pc: site.key.pc,
+        key: next(site.device, site.key),
+        state: site.state,
+        value: AbsByte::untagged(bits),
+    };
+    let added = written_at(nodes, site.alloc, &write, false, address)?;
+    Ok(added)
+}
+
+/// `bset` of flag `n` where `on`, else `bclr`. I is in the key.
+pub fn flag_row(nodes: &mut Nodes, site: &Site<'_>, n: Bit, on: bool) -> Result<(), NodeFault>
+    ensures { Adds nodes.old nodes.new result (registers.flag_row site.now.device site.now.key.now site.now.state.now n on) }
+{
+    match flag(site.state, n, on) {
+        Some(set) => setting(nodes, site, &set.registers, set.flags),
+        None => interrupts_row(nodes, site, on),
+    }
+}
+
+// `sei` where `on`, after which one more instruction executes before any interrupt, else `cli`.
+fn interrupts_row(nodes: &mut Nodes, site: &Site<'_>, on: bool) -> Result<(), NodeFault>
+    ensures { Adds nodes.old nodes.new result (registers.interrupts_row site.now.device site.now.key.now site.now.state.now on) }
+{
+    let delay = on && !site.key.i;
+    let added = add_copy(
+        nodes,
+        site.alloc,
+        NodeKey {
+            i: on,
+            delay,
+            ..next(site.device, site.key)
+        },
+        site.state,
+    )?;
+    Ok(added)
+}

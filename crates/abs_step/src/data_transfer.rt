@@ -1,0 +1,126 @@
+//! Data transfer: loads, stores, bytes of flash, and I/O.
+
+ghost use Rattle.std.specs.Prelude.{◌≡◌, slice_set};
+ghost use Rattle.local_rules.specs.Writes.{written_at};
+ghost use Rattle.local_rules.specs.Registers as registers;
+ghost use Rattle.local_rules.specs.Raw as raw;
+ghost use Rattle.local_rules.specs.Reads as reads;
+ghost use Rattle.local_rules.specs.Local as rows;
+ghost use Rattle.abs_step.specs.Adding.{Adds};
+
+use crate::pointer_stores::pointer_write;
+use crate::site::Site;
+use crate::stores::{Write, written_at};
+use crate::successors::{add, at_word, changed, setting};
+use abs_reads::pointers::{flash_value, pair_constant, point, read_pointed, step_before};
+use abs_reads::reads::read_at;
+use abs_rows::registers::{set, value};
+use abs_rows::transfer::{base_register, pointer_moved, pointer_register};
+use abs_state::AbsByte;
+use avr_model::instruction::{Base, LowRegister, Pointer, Register};
+use local_rules::local::{NodeFault, Nodes};
+
+// Register `d` of these gets what was read. There is no successor where nothing can be read.
+fn loading(
+    nodes: &mut Nodes,
+    site: &Site<'_>,
+    registers: &[AbsByte; 32],
+    d: Register,
+    read: Option<AbsByte>,
+) -> Result<(), NodeFault>
+    ensures { Adds nodes.old nodes.new result (rows.loading site.now.device site.now.key.now site.now.state.now registers.now d read) }
+{
+    match read {
+        Some(value) => {
+            let registers = set(registers, d, value);
+            setting(nodes, site, &registers, site.state.flags)
+        }
+        None => Ok(()),
+    }
+}
+
+/// `ld` and `ldd`: register `d` of these gets what registers `r` and `r + 1` plus a number point to.
+pub fn load_row(
+    nodes: &mut Nodes,
+    site: &Site<'_>,
+    registers: &[AbsByte; 32],
+    d: Register,
+    r: LowRegister,
+    up: u16,
+) -> Result<(), NodeFault>
+    ensures { Adds nodes.old nodes.new result (rows.loading site.now.device site.now.key.now site.now.state.now registers.now d (reads.read_pointed site.now.device site.now.key.now site.now.state.now (reads.pointed site.now.state.now r up))) }
+{
+    let read = read_pointed(site.device, site.key, site.state, point(site.state, r, up));
+    let added = loading(nodes, site, registers, d, read)?;
+    Ok(added)
+}
+
+/// `in` and `lds`: register `d` gets what is known of an address, and the machine goes on at this word.
+pub fn read_row(
+    nodes: &mut Nodes,
+    site: &Site<'_>,
+    pc: u16,
+    d: Register,
+    address: u16,
+) -> Result<(), NodeFault>
+    ensures { Adds nodes.old nodes.new result (raw.going_to site.now.key.now (record site.now.state.now { registers = registers.set site.now.state.now d (reads.read_at site.now.device site.now.key.now site.now.state.now address) }) pc) }
+{
+    let read = read_at(site.device, site.key, site.state, address);
+    let registers = set(&site.state.registers, d, read);
+    let after = changed(site.alloc, site.state, &registers, site.state.flags)?;
+    let added = add(nodes, at_word(site.key, pc), after)?;
+    Ok(added)
+}
+
+/// `lpm`: register `d` of these gets a byte of flash.
+pub fn lpm_row(
+    nodes: &mut Nodes,
+    site: &Site<'_>,
+    registers: &[AbsByte; 32],
+    d: Register,
+) -> Result<(), NodeFault>
+    ensures { Adds nodes.old nodes.new result (raw.setting site.now.device site.now.key.now site.now.state.now (slice_set registers.now d (reads.flash_value site.now.flash.now (reads.pair_constant site.now.state.now 30))) site.now.state.now.flags) }
+{
+    let z = pair_constant(site.state, base_register(Base::Z));
+    let registers = set(registers, d, flash_value(site.flash, z));
+    let added = setting(nodes, site, &registers, site.state.flags)?;
+    Ok(added)
+}
+
+/// `st`: through a pointer that may move.
+pub fn store_row(
+    nodes: &mut Nodes,
+    site: &Site<'_>,
+    pointer: Pointer,
+    r: Register,
+) -> Result<(), NodeFault>
+    ensures { Adds nodes.old nodes.new result (rows.store_row site.now.device site.now.flash.now site.now.assumptions.now site.now.key.now site.now.state.now pointer r) }
+{
+    let registers = pointer_moved(pointer, site.state);
+    let after = changed(site.alloc, site.state, &registers, site.state.flags)?;
+    let (base, up) = (pointer_register(pointer), step_before(pointer));
+    let added = pointer_write(nodes, site, base, up, r, &after)?;
+    Ok(added)
+}
+
+/// `out` and `sts`: register `r` is written to a known address, and the machine goes on at this word.
+pub fn known_write(
+    nodes: &mut Nodes,
+    site: &Site<'_>,
+    pc: u16,
+    is_out: bool,
+    address: u16,
+    r: Register,
+) -> Result<(), NodeFault>
+    ensures { Adds nodes.old nodes.new result (written_at site.now.device site.now.key.now.pc (raw.at_word site.now.key.now pc) site.now.state.now is_out address (registers.value site.now.state.now r)) }
+{
+    let write = Write {
+        device: site.device,
+        pc: site.key.pc,
+        key: at_word(site.key, pc),
+        state: site.state,
+        value: value(site.state, r),
+    };
+    let added = written_at(nodes, site.alloc, &write, is_out, address)?;
+    Ok(added)
+}

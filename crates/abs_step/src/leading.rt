@@ -1,0 +1,94 @@
+//! The local part of a node: all successors in its instance, its calls and its return, or its one fault.
+
+ghost use Rattle.std.specs.Prelude.{◌≡◌, ◌<◌, ◌∷◌, nat_lt, length, Err};
+ghost use Rattle.avr_model.specs.Devices.{size_of};
+ghost use Rattle.avr_model.specs.Image.{WORDS};
+ghost use Rattle.mask_states.specs.Keys.{offset_of};
+ghost use Rattle.local_rules.specs.declared.local.NodeFault.TheVariants.{Memory};
+ghost use Rattle.local_rules.specs.Raw.{Raw, too_deep_if};
+ghost use Rattle.local_rules.specs.Local as rows;
+ghost use Rattle.sb_base.specs.Answers.{Answers};
+ghost use Rattle.abs_step.specs.Leading.{Settles};
+
+use crate::site::Site;
+use crate::splitting::splitting;
+use abs_reads::stack_pointer::is_hung;
+use abs_state::AbsState;
+use flash_image::Flash;
+use local_rules::local::{Local, NodeFault, Nodes};
+use mask_states::NodeKey;
+use std::alloc::Global;
+use vector_table::Assumptions;
+
+// What the node leads to, where it splits too.
+fn led(site: &Site<'_>) -> Result<Local, NodeFault>
+    requires word { site.now.key.now.pc < WORDS }
+    ensures { Settles result (rows.splitting (rows.split_site site.now.flash.now site.now.assumptions.now site.now.key.now.pc site.now.key.now.pick) (rows.row_in site.now.device site.now.flash.now site.now.assumptions.now) site.now.key.now site.now.state.now) }
+{
+    let mut same = Nodes::new(site.alloc);
+    let outside = splitting(&mut same, site)?;
+    Ok(Local {
+        same,
+        calls: outside.calls,
+        exit: outside.exit,
+    })
+}
+
+// The fault that counts where the node has this one besides.
+fn stopped(found: &Result<Local, NodeFault>, besides: NodeFault) -> NodeFault
+    ensures { (r : Raw) → Settles found.now r → Settles (Err result) (record r { faults = besides ∷ r.faults }) }
+{
+    match found {
+        Ok(_) => besides,
+        Err(fault) => {
+            let cause = fault.cause();
+            if cause == 0 {
+                return NodeFault::Memory;
+            }
+            besides.lesser(*fault)
+        }
+    }
+}
+
+// The same, and that the frame lies in the device's SRAM.
+fn in_sram(site: &Site<'_>) -> Result<Local, NodeFault>
+    requires word { site.now.key.now.pc < WORDS }
+    ensures { Settles result (too_deep_if (nat_lt (size_of site.now.device) (offset_of site.now.key.now.sp)) site.now.key.now.pc (offset_of site.now.key.now.sp) (rows.splitting (rows.split_site site.now.flash.now site.now.assumptions.now site.now.key.now.pc site.now.key.now.pick) (rows.row_in site.now.device site.now.flash.now site.now.assumptions.now) site.now.key.now site.now.state.now)) }
+{
+    let found = led(site);
+    let offset = site.key.offset();
+    if offset > site.device.size() {
+        let deep = NodeFault::TooDeep(site.key.pc, u32::from(offset));
+        return Err(stopped(&found, deep));
+    }
+    found
+}
+
+/// Where a node leads in its own frame: the successors in its instance, joined where they have one key, its calls and its
+/// return, or the one of its faults that counts. `Memory` is no fault of the node.
+#[tactic(auto, unfolding(local_rules::specs::Local::local, local_rules::specs::Local::raw))]
+pub fn local(
+    alloc: Global,
+    flash: &Flash,
+    assumptions: &Assumptions,
+    key: &NodeKey,
+    state: &AbsState,
+) -> Result<Local, NodeFault>
+    requires word { key.now.pc < WORDS }
+    requires sized { length state.now.slots ≡ offset_of key.now.sp }
+    ensures { Answers (λ l. l) Memory result (rows.local flash.now assumptions.now key.now state.now) }
+{
+    let site = Site {
+        alloc,
+        device: flash.device(),
+        flash,
+        assumptions,
+        key,
+        state,
+    };
+    let found = in_sram(&site);
+    if is_hung(site.device, assumptions, key) {
+        return Err(stopped(&found, NodeFault::UntrackedSp(key.pc)));
+    }
+    found
+}

@@ -1,0 +1,120 @@
+//! Stores through a pointer.
+
+ghost use Rattle.std.specs.Prelude.{◌≡◌, List, Some, false, filter, length, IfOk, IfErr};
+ghost use Rattle.avr_model.specs.Assumptions.{is_fixed_site};
+ghost use Rattle.mask_states.specs.Keys.{offset_of};
+ghost use Rattle.local_rules.specs.declared.local.Node.{Node};
+ghost use Rattle.local_rules.specs.declared.local.NodeFault.TheVariants.{Memory};
+ghost use Rattle.local_rules.specs.Raw.{Raw, next};
+ghost use Rattle.local_rules.specs.Registers.{value};
+ghost use Rattle.local_rules.specs.Reads.{pointed};
+ghost use Rattle.local_rules.specs.Writes as writes;
+ghost use Rattle.abs_step.specs.Adding.{Adds, IsGathered, with_another, first_of};
+
+use crate::site::Site;
+use crate::stores::{Write, written_at};
+use crate::successors::{add_copy, next};
+use abs_reads::pointers::{point, reaches};
+use abs_rows::registers::value;
+use abs_state::AbsState;
+use avr_model::instruction::{LowRegister, Register};
+use flash_image::Flash;
+use local_rules::local::{NodeFault, Nodes};
+use std::alloc::Global;
+use vector_table::Assumptions;
+
+/// The one that counts of a fault so far and another.
+pub fn first(fault: Option<NodeFault>, found: NodeFault) -> NodeFault
+    ensures { result ≡ first_of fault found }
+{
+    match fault {
+        Some(fault) => fault.lesser(found),
+        None => found,
+    }
+}
+
+// The byte is stored at an address, too, where a fault was found so far or not.
+fn stored_too(
+    nodes: &mut Nodes,
+    alloc: Global,
+    write: &Write<'_>,
+    address: u16,
+    fault: Option<NodeFault>,
+) -> Result<Option<NodeFault>, NodeFault>
+    ensures ok { IfOk result (λ next. (old : List Node) (r : Raw) → IsGathered old nodes.old fault r → IsGathered old nodes.new next (with_another r (writes.written_at write.now.device write.now.pc write.now.key write.now.state.now false address write.now.value))) }
+    ensures err { IfErr result (λ e. e ≡ Memory) }
+{
+    match written_at(nodes, alloc, write, false, address) {
+        Ok(()) => Ok(fault),
+        Err(found) => {
+            let cause = found.cause();
+            if cause == 0 {
+                return Err(NodeFault::Memory);
+            }
+            Ok(Some(first(fault, found)))
+        }
+    }
+}
+
+// At an unfixed site: one successor in which the byte changes nothing that is known, and those of each listed address that can be met.
+fn listed_writes(
+    nodes: &mut Nodes,
+    site: &Site<'_>,
+    write: &Write<'_>,
+    r: LowRegister,
+    up: u16,
+    addresses: &[u16],
+) -> Result<(), NodeFault>
+    ensures { Adds nodes.old nodes.new result (writes.listed_writes write.now.device write.now.pc write.now.key write.now.state.now (filter (λ a. writes.reaches site.now.state.now r up a) addresses.now) write.now.value) }
+{
+    add_copy(nodes, site.alloc, write.key, write.state)?;
+    let mut fault: Option<NodeFault> = None;
+    for at in 0..addresses.len() {
+        if reaches(site.state, r, up, addresses[at]) {
+            fault = stored_too(nodes, site.alloc, write, addresses[at], fault)?;
+        }
+    }
+    match fault {
+        Some(fault) => Err(fault),
+        None => Ok(()),
+    }
+}
+
+// Whether the address of the store at this word has to be known.
+#[tactic(auto, unfolding(avr_model::specs::Assumptions::is_fixed_site))]
+fn is_fixed_site(flash: &Flash, assumptions: &Assumptions, pc: u16) -> bool
+    ensures { result ≡ is_fixed_site flash.now assumptions.now pc }
+{
+    // What is assumed comes first: to look for a load before the store takes longer.
+    assumptions.proved(pc) || !assumptions.freed(pc) && avr_decode::is_fixed(flash.words(), pc)
+}
+
+/// Register `source` is stored through registers `r` and `r + 1` plus a number, as they are before the instruction.
+pub fn pointer_write(
+    nodes: &mut Nodes,
+    site: &Site<'_>,
+    r: LowRegister,
+    up: u16,
+    source: Register,
+    after: &AbsState,
+) -> Result<(), NodeFault>
+    requires { length after.now.slots ≡ offset_of site.now.key.now.sp }
+    ensures { Adds nodes.old nodes.new result (writes.pointer_write site.now.device site.now.flash.now site.now.assumptions.now site.now.state.now r up (pointed site.now.state.now r up) site.now.key.now.pc (next site.now.device site.now.key.now) after.now (value site.now.state.now source)) }
+{
+    let write = Write {
+        device: site.device,
+        pc: site.key.pc,
+        key: next(site.device, site.key),
+        state: after,
+        value: value(site.state, source),
+    };
+    if is_fixed_site(site.flash, site.assumptions, site.key.pc) {
+        match point(site.state, r, up).constant {
+            Some(address) => written_at(nodes, site.alloc, &write, false, address),
+            None => Err(NodeFault::UnknownPointer(site.key.pc)),
+        }
+    } else {
+        let addresses = site.assumptions.stores(site.key.pc);
+        listed_writes(nodes, site, &write, r, up, addresses)
+    }
+}

@@ -1,0 +1,126 @@
+//! Bytes that are pushed and popped, and calls that make room.
+
+ghost use Rattle.std.specs.Prelude.{◌≡◌, ◌<◌, ◌++◌, ◌∷◌, [], suc, length, IfOk, IfErr};
+ghost use Rattle.local_rules.specs.declared.local.NodeFault.TheVariants.{Memory};
+ghost use Rattle.local_rules.specs.Flow as flow;
+ghost use Rattle.abs_step.specs.Adding.{Adds};
+
+use crate::site::Site;
+use crate::stores::with_slots;
+use crate::successors::{add, at_word, copied, next};
+use abs_reads::reads::slot_value;
+use abs_rows::registers::{set, value};
+use abs_state::{AbsByte, AbsState};
+use avr_model::instruction::Register;
+use local_rules::local::{NodeFault, Nodes};
+use mask_states::{NodeKey, SpForm};
+use sp_domain::Slot;
+use std::alloc::Global;
+
+// A scratch push makes a free slot, and any other a guarded one.
+fn pushed_slot(scratch: bool, value: AbsByte) -> Slot<AbsByte>
+    ensures { result ≡ flow.pushed_slot scratch value }
+{
+    if scratch {
+        Slot::Free
+    } else {
+        Slot::Guarded(value)
+    }
+}
+
+// The state with another slot.
+fn with_slot(alloc: Global, state: &AbsState, slot: Slot<AbsByte>) -> Result<AbsState, NodeFault>
+    requires { length state.now.slots < 65535 }
+    ensures ok { IfOk result (λ s. s ≡ record state.now { slots = state.now.slots ++ slot ∷ [] }) }
+    ensures err { IfErr result (λ e. e ≡ Memory) }
+{
+    let mut after = copied(alloc, state)?;
+    match after.slots.push(slot) {
+        Ok(()) => Ok(after),
+        Err(_) => Err(NodeFault::Memory),
+    }
+}
+
+/// `push`: register `r` goes to another slot.
+pub fn push_row(
+    nodes: &mut Nodes,
+    site: &Site<'_>,
+    scratch: bool,
+    r: Register,
+) -> Result<(), NodeFault>
+    ensures { Adds nodes.old nodes.new result (flow.at_closed site.now.key.now.sp site.now.key.now.pc (flow.pushing site.now.device scratch site.now.key.now site.now.state.now r)) }
+{
+    match site.key.sp {
+        SpForm::Closed(offset) => {
+            if offset >= site.device.size() {
+                return Err(NodeFault::TooDeep(site.key.pc, u32::from(offset) + 1));
+            }
+            let slot = pushed_slot(scratch, value(site.state, r));
+            let after = with_slot(site.alloc, site.state, slot)?;
+            let sp = SpForm::Closed(offset + 1);
+            add(
+                nodes,
+                NodeKey {
+                    sp,
+                    ..next(site.device, site.key)
+                },
+                after,
+            )
+        }
+        SpForm::Open(_, _) => Err(NodeFault::UntrackedSp(site.key.pc)),
+    }
+}
+
+// The byte in slot n, which is the last, is popped into register `d`.
+fn pop_from(nodes: &mut Nodes, site: &Site<'_>, d: Register, n: u16) -> Result<(), NodeFault>
+    requires { length site.now.state.now.slots ≡ suc n }
+    ensures { Adds nodes.old nodes.new result (flow.popping site.now.device site.now.key.now site.now.state.now d (suc n)) }
+{
+    let mut after = with_slots(site.alloc, site.state, n)?;
+    after.registers = set(&site.state.registers, d, slot_value(site.state, n));
+    let sp = SpForm::Closed(n);
+    let added = add(
+        nodes,
+        NodeKey {
+            sp,
+            ..next(site.device, site.key)
+        },
+        after,
+    )?;
+    Ok(added)
+}
+
+/// `pop`: register `d` gets the byte in the last slot, which goes.
+pub fn pop_row(nodes: &mut Nodes, site: &Site<'_>, d: Register) -> Result<(), NodeFault>
+    ensures { Adds nodes.old nodes.new result (flow.at_closed site.now.key.now.sp site.now.key.now.pc (flow.popping site.now.device site.now.key.now site.now.state.now d)) }
+{
+    match site.key.sp {
+        SpForm::Closed(offset) => {
+            if offset == 0 {
+                return Err(NodeFault::UntrackedSp(site.key.pc));
+            }
+            pop_from(nodes, site, d, offset - 1)
+        }
+        SpForm::Open(_, _) => Err(NodeFault::UntrackedSp(site.key.pc)),
+    }
+}
+
+/// A call of the next word makes room for two bytes, and stays in its frame.
+pub fn room_row(nodes: &mut Nodes, site: &Site<'_>, target: u16) -> Result<(), NodeFault>
+    ensures { Adds nodes.old nodes.new result (flow.at_closed site.now.key.now.sp site.now.key.now.pc (flow.making_room site.now.device site.now.key.now site.now.state.now target)) }
+{
+    match site.key.sp {
+        SpForm::Closed(offset) => {
+            let deep = u32::from(offset) + 2;
+            if deep > u32::from(site.device.size()) {
+                return Err(NodeFault::TooDeep(site.key.pc, deep));
+            }
+            let one = with_slot(site.alloc, site.state, Slot::Free)?;
+            let two = with_slot(site.alloc, &one, Slot::Free)?;
+            let sp = SpForm::Closed(offset + 2);
+            let after = at_word(site.key, target);
+            add(nodes, NodeKey { sp, ..after }, two)
+        }
+        SpForm::Open(_, _) => Err(NodeFault::UntrackedSp(site.key.pc)),
+    }
+}

@@ -1,0 +1,232 @@
+//! Writes to data space: what a byte changes that is written to a known address.
+
+ghost use Rattle.std.specs.Prelude.{◌≡◌, ◌∷◌, [], length, map, IfOk, IfErr};
+ghost use Rattle.bit_domain.specs.TriByte.{tri_at};
+ghost use Rattle.sp_domain.specs.Slots.{resized};
+ghost use Rattle.mask_states.specs.Keys.{offset_of};
+ghost use Rattle.local_rules.specs.declared.local.NodeFault.TheVariants.{Memory};
+ghost use Rattle.local_rules.specs.Raw.{one, moves_to};
+ghost use Rattle.local_rules.specs.Registers.{forgotten};
+ghost use Rattle.local_rules.specs.Writes as writes;
+ghost use Rattle.abs_step.specs.Adding.{Adds};
+
+use crate::successors::{add, add_copy, add_two, changed, copied};
+use abs_reads::stack_pointer::{closing_offset, high_part};
+use abs_rows::bits::I;
+use abs_rows::registers::{set, with_bits};
+use abs_rows::status::flags_written;
+use abs_state::{AbsByte, AbsFlags, AbsState};
+use avr_model::device::{Device, REGISTERS_END, SPH, SPL, SREG};
+use avr_model::instruction::Register;
+use bit_domain::Tri;
+use local_rules::local::{NodeFault, Nodes};
+use mask_states::{High, NodeKey, SpForm, split};
+use sp_domain::CarryTag;
+use std::alloc::Global;
+use vector_table::Masks;
+
+/// What is written: the device, the byte, the word of the instruction, and the node that the machine is at after it otherwise.
+#[derive(Drop)]
+pub struct Write<'a> {
+    /// The device.
+    pub device: Device,
+    /// The word of the instruction.
+    pub pc: u16,
+    /// The key after it.
+    pub key: NodeKey,
+    /// The state after it.
+    pub state: &'a AbsState,
+    /// The byte.
+    pub value: AbsByte,
+    ghost sized: { length state.now.slots ≡ offset_of key.sp },
+}
+
+// A write of the high byte of the stack pointer.
+fn opening(
+    nodes: &mut Nodes,
+    alloc: Global,
+    high: Option<High>,
+    write: &Write<'_>,
+) -> Result<(), NodeFault>
+    ensures { Adds nodes.old nodes.new result (writes.opening high write.now.key write.now.state.now write.now.pc) }
+{
+    let key = write.key;
+    match high {
+        Some(high) => {
+            let sp = SpForm::Open(key.sp.offset(), high);
+            add_copy(nodes, alloc, NodeKey { sp, ..key }, write.state)
+        }
+        None => Err(NodeFault::UntrackedSp(write.pc)),
+    }
+}
+
+/// The state with so many slots.
+pub fn with_slots(alloc: Global, state: &AbsState, count: u16) -> Result<AbsState, NodeFault>
+    ensures ok { IfOk result (λ s. s ≡ record state.now { slots = resized count state.now.slots }) }
+    ensures err { IfErr result (λ e. e ≡ Memory) }
+{
+    let mut after = copied(alloc, state)?;
+    match after.slots.resize(count) {
+        Ok(()) => Ok(after),
+        Err(_) => Err(NodeFault::Memory),
+    }
+}
+
+// A write of its low byte.
+fn closing(
+    nodes: &mut Nodes,
+    alloc: Global,
+    offset: Option<u16>,
+    write: &Write<'_>,
+) -> Result<(), NodeFault>
+    ensures { Adds nodes.old nodes.new result (writes.closing write.now.device offset write.now.key write.now.state.now write.now.pc) }
+{
+    match offset {
+        Some(n) => {
+            if n > write.device.size() {
+                return Err(NodeFault::TooDeep(write.pc, u32::from(n)));
+            }
+            let after = with_slots(alloc, write.state, n)?;
+            let sp = SpForm::Closed(n);
+            add(nodes, NodeKey { sp, ..write.key }, after)
+        }
+        None => Err(NodeFault::UntrackedSp(write.pc)),
+    }
+}
+
+// The key with this I.
+fn with_i(key: &NodeKey, is_out: bool, on: bool) -> NodeKey
+    ensures { result ≡ writes.with_i key.now is_out on }
+{
+    NodeKey {
+        i: on,
+        delay: is_out && on && !key.i,
+        ..*key
+    }
+}
+
+// A write of the status register: one successor for each value of I that is permitted.
+fn sreg_written(
+    nodes: &mut Nodes,
+    alloc: Global,
+    i: Tri,
+    key: &NodeKey,
+    state: &AbsState,
+    is_out: bool,
+) -> Result<(), NodeFault>
+    requires { length state.now.slots ≡ offset_of key.now.sp }
+    ensures { Adds nodes.old nodes.new result (writes.sreg_written i key.now state.now is_out) }
+{
+    let off = with_i(key, is_out, false);
+    let on = with_i(key, is_out, true);
+    match i {
+        Tri::Zero => add_copy(nodes, alloc, off, state),
+        Tri::One => add_copy(nodes, alloc, on, state),
+        Tri::Any => add_two(nodes, alloc, off, on, state),
+    }
+}
+
+// One successor for each of these enable bits.
+fn add_masks(
+    nodes: &mut Nodes,
+    alloc: Global,
+    write: &Write<'_>,
+    all: &[Masks],
+) -> Result<(), NodeFault>
+    ensures { Adds nodes.old nodes.new result (moves_to (map (λ m. record { key = record write.now.key { masks = m }; state = write.now.state.now }) all.now)) }
+{
+    for at in 0..all.len() {
+        let masks = all[at];
+        add_copy(nodes, alloc, NodeKey { masks, ..write.key }, write.state)?;
+    }
+    Ok(())
+}
+
+// One successor for each value of the enable bits that is permitted.
+fn masks_written(
+    nodes: &mut Nodes,
+    alloc: Global,
+    write: &Write<'_>,
+    address: u16,
+) -> Result<(), NodeFault>
+    ensures { Adds nodes.old nodes.new result (writes.masks_written write.now.key write.now.state.now address write.now.value) }
+{
+    let splits = split(write.key.masks, address, &write.value.bits);
+    add_masks(nodes, alloc, write, splits.as_slice())
+}
+
+// What C says of a register ends where that register is written.
+fn forgotten(carry: CarryTag, d: Register) -> CarryTag
+    ensures { result ≡ forgotten (d ∷ []) carry }
+{
+    match carry {
+        CarryTag::Less(r, _) => {
+            if d.get() == u16::from(r) {
+                CarryTag::None
+            } else {
+                carry
+            }
+        }
+        CarryTag::None | CarryTag::Borrow(_, _) | CarryTag::Sum(_, _) => carry,
+    }
+}
+
+// A write of a register by its address: it gets the byte's bits and tag.
+fn register_written(
+    nodes: &mut Nodes,
+    alloc: Global,
+    write: &Write<'_>,
+    d: Register,
+) -> Result<(), NodeFault>
+    ensures { Adds nodes.old nodes.new result (one write.now.key (writes.register_written write.now.state.now d write.now.value)) }
+{
+    let state = write.state;
+    let value = with_bits(write.value.tag, write.value.bits);
+    let registers = set(&state.registers, d, value);
+    let flags = AbsFlags {
+        carry: forgotten(state.flags.carry, d),
+        ..state.flags
+    };
+    let after = changed(alloc, state, &registers, flags)?;
+    let added = add(nodes, write.key, after)?;
+    Ok(added)
+}
+
+// A write of the status register by its address.
+fn flags_set(
+    nodes: &mut Nodes,
+    alloc: Global,
+    write: &Write<'_>,
+    is_out: bool,
+) -> Result<(), NodeFault>
+    ensures { Adds nodes.old nodes.new result (writes.sreg_written (tri_at write.now.value.bits 7) write.now.key (record write.now.state.now { flags = writes.flags_written write.now.value }) is_out) }
+{
+    let (state, value) = (write.state, write.value);
+    let after = changed(alloc, state, &state.registers, flags_written(value))?;
+    let added = sreg_written(nodes, alloc, value.bits.bit(I), &write.key, &after, is_out)?;
+    Ok(added)
+}
+
+/// A byte is written to a known address, by `out` or otherwise.
+#[tactic(auto, unfolding(local_rules::specs::Writes::written_at))]
+pub fn written_at(
+    nodes: &mut Nodes,
+    alloc: Global,
+    write: &Write<'_>,
+    is_out: bool,
+    address: u16,
+) -> Result<(), NodeFault>
+    ensures { Adds nodes.old nodes.new result (writes.written_at write.now.device write.now.pc write.now.key write.now.state.now is_out address write.now.value) }
+{
+    let (inst, sp) = (&write.key.inst, write.key.sp);
+    match address {
+        0..REGISTERS_END => register_written(nodes, alloc, write, Register::new(address)),
+        SPL => {
+            let offset = closing_offset(write.device, inst.kind, sp, write.value);
+            closing(nodes, alloc, offset, write)
+        }
+        SPH => opening(nodes, alloc, high_part(inst.kind, write.value), write),
+        SREG => flags_set(nodes, alloc, write, is_out),
+        _ => masks_written(nodes, alloc, write, address),
+    }
+}

@@ -1,0 +1,174 @@
+//! Successors in the same instance, which are put into a list of nodes.
+
+ghost use Rattle.std.specs.Prelude.{◌≡◌, ◌<◌, ◌∷◌, [], length, IfOk, IfErr};
+ghost use Rattle.mask_states.specs.Keys.{offset_of};
+ghost use Rattle.local_rules.specs.declared.local.NodeFault.TheVariants.{Memory};
+ghost use Rattle.local_rules.specs.Raw.{one, moves_to};
+ghost use Rattle.local_rules.specs.Raw as raw;
+ghost use Rattle.local_rules.specs.Flow as flow;
+ghost use Rattle.abs_step.specs.Adding.{Adds};
+
+use crate::site::Site;
+use abs_reads::flow::further;
+use abs_state::{AbsByte, AbsFlags, AbsState};
+use avr_model::device::Device;
+use bit_domain::Tri;
+use local_rules::local::{Node, NodeFault, Nodes};
+use mask_states::NodeKey;
+use std::alloc::Global;
+
+/// The state again.
+pub fn copied(alloc: Global, state: &AbsState) -> Result<AbsState, NodeFault>
+    ensures ok { IfOk result (λ s. s ≡ state.now) }
+    ensures err { IfErr result (λ e. e ≡ Memory) }
+{
+    match state.copy(alloc) {
+        Ok(copy) => Ok(copy),
+        Err(_) => Err(NodeFault::Memory),
+    }
+}
+
+/// The state with other registers and flags.
+pub fn changed(
+    alloc: Global,
+    state: &AbsState,
+    registers: &[AbsByte; 32],
+    flags: AbsFlags,
+) -> Result<AbsState, NodeFault>
+    ensures ok { IfOk result (λ s. s ≡ record state.now { registers = registers.now; flags = flags }) }
+    ensures err { IfErr result (λ e. e ≡ Memory) }
+{
+    match state.slots.copy(alloc) {
+        Ok(slots) => Ok(AbsState {
+            registers: *registers,
+            flags,
+            slots,
+        }),
+        Err(_) => Err(NodeFault::Memory),
+    }
+}
+
+/// The key at another word of the same instance.
+pub fn at_word(key: &NodeKey, pc: u16) -> NodeKey
+    ensures { result ≡ raw.at_word key.now pc }
+{
+    NodeKey {
+        pc,
+        delay: false,
+        ..*key
+    }
+}
+
+/// The same behind an indirect transfer, a branch or a skip, where no entry of a jump table is picked any more.
+pub fn off_table(key: &NodeKey, pc: u16) -> NodeKey
+    ensures { result ≡ raw.off_table key.now pc }
+{
+    NodeKey {
+        pc,
+        delay: false,
+        pick: None,
+        ..*key
+    }
+}
+
+/// The key at the next word.
+pub fn next(device: Device, key: &NodeKey) -> NodeKey
+    ensures { result ≡ raw.next device key.now }
+{
+    at_word(key, further(device, key, 1))
+}
+
+/// One node.
+#[tactic(auto, using(crate::proofs::Added::adding))]
+pub fn add(nodes: &mut Nodes, key: NodeKey, state: AbsState) -> Result<(), NodeFault>
+    requires { length state.slots ≡ offset_of key.sp }
+    ensures { Adds nodes.old nodes.new result (one key state) }
+{
+    match nodes.place(Node { key, state }) {
+        Ok(()) => Ok(()),
+        Err(_) => Err(NodeFault::Memory),
+    }
+}
+
+/// One node with this state.
+pub fn add_copy(
+    nodes: &mut Nodes,
+    alloc: Global,
+    key: NodeKey,
+    state: &AbsState,
+) -> Result<(), NodeFault>
+    requires { length state.now.slots ≡ offset_of key.sp }
+    ensures { Adds nodes.old nodes.new result (one key state.now) }
+{
+    let copy = copied(alloc, state)?;
+    let added = add(nodes, key, copy)?;
+    Ok(added)
+}
+
+/// Two nodes with this state.
+pub fn add_two(
+    nodes: &mut Nodes,
+    alloc: Global,
+    first: NodeKey,
+    second: NodeKey,
+    state: &AbsState,
+) -> Result<(), NodeFault>
+    requires first { length state.now.slots ≡ offset_of first.sp }
+    requires second { length state.now.slots ≡ offset_of second.sp }
+    ensures { Adds nodes.old nodes.new result (moves_to (record { key = first; state = state.now } ∷ record { key = second; state = state.now } ∷ [])) }
+{
+    add_copy(nodes, alloc, first, state)?;
+    let added = add_copy(nodes, alloc, second, state)?;
+    Ok(added)
+}
+
+/// Going on at another word.
+pub fn going_to(nodes: &mut Nodes, site: &Site<'_>, pc: u16) -> Result<(), NodeFault>
+    ensures { Adds nodes.old nodes.new result (raw.going_to site.now.key.now site.now.state.now pc) }
+{
+    add_copy(nodes, site.alloc, at_word(site.key, pc), site.state)
+}
+
+// Going on at another word, off a jump table.
+fn turning_to(nodes: &mut Nodes, site: &Site<'_>, pc: u16) -> Result<(), NodeFault>
+    ensures { Adds nodes.old nodes.new result (raw.turning_to site.now.key.now site.now.state.now pc) }
+{
+    add_copy(nodes, site.alloc, off_table(site.key, pc), site.state)
+}
+
+/// Going on at the next word with these registers and flags.
+pub fn setting(
+    nodes: &mut Nodes,
+    site: &Site<'_>,
+    registers: &[AbsByte; 32],
+    flags: AbsFlags,
+) -> Result<(), NodeFault>
+    ensures { Adds nodes.old nodes.new result (raw.setting site.now.device site.now.key.now site.now.state.now registers.now flags) }
+{
+    let after = changed(site.alloc, site.state, registers, flags)?;
+    let added = add(nodes, next(site.device, site.key), after)?;
+    Ok(added)
+}
+
+/// One successor where the condition is known, else two.
+pub fn branch(
+    nodes: &mut Nodes,
+    site: &Site<'_>,
+    condition: Tri,
+    taken: u16,
+    other: u16,
+) -> Result<(), NodeFault>
+    ensures { Adds nodes.old nodes.new result (flow.branch condition site.now.key.now site.now.state.now taken other) }
+{
+    match condition {
+        Tri::One => turning_to(nodes, site, taken),
+        Tri::Zero => turning_to(nodes, site, other),
+        Tri::Any => add_two(
+            nodes,
+            site.alloc,
+            off_table(site.key, other),
+            off_table(site.key, taken),
+            site.state,
+        ),
+    }
+}

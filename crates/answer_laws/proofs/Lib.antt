@@ -1,4 +1,0 @@
-pub mod Sorted
-pub mod Parts
-pub mod One
-pub mod AllLaws

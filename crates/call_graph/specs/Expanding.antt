@@ -1,0 +1,25 @@
+-- What an expansion answers.
+use Rattle.std.specs.Prelude.{ℕ, ◌≡◌, ◌<◌, ⊤, List, Some}
+use Rattle.std.specs.List.{slice_get}
+use Rattle.avr_model.specs.declared.assumption.Entry.{Entry}
+use Rattle.local_rules.specs.declared.local.Node.{Node}
+use Rattle.local_rules.specs.Cover.{IsNode}
+use Rattle.edge_rules.specs.declared.seeded.NodeForm.{NodeForm}
+use Rattle.edge_rules.specs.declared.seeded.NodeForm.TheVariants as form
+use Rattle.edge_rules.specs.Expansion.{Seeds, IsFilled, IsMissing}
+use Rattle.call_graph.specs.declared.filled.Expanded.{Expanded}
+use Rattle.call_graph.specs.declared.filled.Expanded.TheVariants.{Whole, Missing}
+
+-- all expansions, or the least node that has none
+abbrev pub IsExpanded : List ℕ → List Entry → Seeds → Expanded → Type 0
+IsExpanded words A nodes (Whole filled) = IsFilled words A nodes filled
+IsExpanded words A nodes (Missing at) = IsMissing words A nodes at
+
+-- each of them is a node that the analysis works with
+abbrev pub AreNumbered : List Node → Type 0
+AreNumbered nodes = (i : ℕ) (n : Node) → slice_get nodes i ≡ Some n → IsNode n.key n.state
+
+-- a node that comes from another comes from one of the first
+abbrev pub ComesFromBelow : NodeForm → ℕ → Type 0
+ComesFromBelow (form.State s) count = ⊤
+ComesFromBelow (form.From m) count = m < count

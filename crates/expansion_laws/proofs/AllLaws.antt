@@ -1,6 +1,0 @@
--- The laws, each under the name of the public function that carries it. Crates above cite them from here.
-pub use Rattle.expansion_laws.proofs.One.{expansions_are_one, expansions_are_nodes, successors_are_one, same_seed}
-pub use Rattle.expansion_laws.proofs.Steps.{filled_or_missing, one_more, missing, whole}
-pub use Rattle.expansion_laws.proofs.Follow.{expansions_follow}
-pub use Rattle.expansion_laws.proofs.Shown.{filled_lists_are_shown}
-pub use Rattle.expansion_laws.proofs.Lists.{get_inside, get_push, same_list}

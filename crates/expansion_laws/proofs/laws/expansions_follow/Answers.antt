@@ -1,5 +1,0 @@
-use Rattle.expansion_laws.proofs.AllLaws as all
-use Rattle.expansion_laws.proofs.laws.expansions_follow.Goals as goal
-
-pub returns : goal.returns
-returns c = all.expansions_follow

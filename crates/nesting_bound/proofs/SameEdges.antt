@@ -1,0 +1,61 @@
+-- Edges with the same numbers and the same depth are the same.
+use Rattle.std.proofs.Common.{◌≡◌, ◌≢◌, ◌∙◌, sym, ap, refl, ℕ, ◌+◌, List, [], ◌∷◌, ◌++◌, arith, Less, Equal, Greater, slice_get, slice_index}
+use Rattle.std.specs.Cmp.Lexicographic.{slice_cmp}
+use Rattle.std.specs.Ordering.{nat_cmp, ordering_reverse}
+use Rattle.std.specs.declared.cmp.Ordering.{Ordering}
+use Rattle.std.proofs.lemmas.Cmp.{ranked}
+use Rattle.basics.specs.Lists.{number_at_same, same_parts}
+use Rattle.mask_states.proofs.AllLaws.{bool_same, both_equal}
+use Rattle.mask_states.specs.declared.keys.EdgeKind.{EdgeKind}
+use Rattle.mask_states.specs.declared.keys.EdgeKind.TheVariants.{Local, Call, Interrupt, Return}
+use Rattle.nesting_bound.specs.declared.graph.Entered.{Entered}
+use Rattle.nesting_bound.specs.declared.graph.GraphInst.{GraphInst}
+use Rattle.nesting_bound.specs.Chain.{kind_numbers, entry_of, turn_of, edge_cmp, IsEdgeUpTo}
+use Rattle.nesting_bound.proofs.Order.{kind_length, edge_total}
+
+kind_same : (a b : EdgeKind) → kind_numbers a ≡ kind_numbers b → a ≡ b
+kind_same Local Local e = refl
+kind_same Local Call e = absurd (let h = number_at_same 0 e in omega arith)
+kind_same Local (Interrupt w d) e = absurd (let h = number_at_same 0 e in omega arith)
+kind_same Local Return e = absurd (let h = number_at_same 0 e in omega arith)
+kind_same Call Local e = absurd (let h = number_at_same 0 e in omega arith)
+kind_same Call Call e = refl
+kind_same Call (Interrupt w d) e = absurd (let h = number_at_same 0 e in omega arith)
+kind_same Call Return e = absurd (let h = number_at_same 0 e in omega arith)
+kind_same (Interrupt v c) Local e = absurd (let h = number_at_same 0 e in omega arith)
+kind_same (Interrupt v c) Call e = absurd (let h = number_at_same 0 e in omega arith)
+kind_same (Interrupt v c) (Interrupt w d) e = let vs = number_at_same 1 e in let cs = bool_same c d (number_at_same 2 e) in λ i. Interrupt (vs i) (cs i)
+kind_same (Interrupt v c) Return e = absurd (let h = number_at_same 0 e in omega arith)
+kind_same Return Local e = absurd (let h = number_at_same 0 e in omega arith)
+kind_same Return Call e = absurd (let h = number_at_same 0 e in omega arith)
+kind_same Return (Interrupt w d) e = absurd (let h = number_at_same 0 e in omega arith)
+kind_same Return Return e = refl
+
+numbers_equal : (xs ys : List ℕ) → slice_cmp nat_cmp xs ys ≡ Equal → xs ≡ ys
+numbers_equal [] [] e = refl
+numbers_equal [] (y ∷ ys) e = absurd (cc)
+numbers_equal (x ∷ xs) [] e = absurd (cc)
+numbers_equal (x ∷ xs) (y ∷ ys) e =
+    let both = both_equal (nat_cmp x y) (slice_cmp nat_cmp xs ys) e in
+    let head : x ≡ y = ranked x y Equal (sym both.0) in
+    let tail = numbers_equal xs ys both.1 in
+    λ i. head i ∷ tail i
+
+neither : (o : Ordering) → o ≢ Less → ordering_reverse o ≢ Less → o ≡ Equal
+neither Less a b = absurd (a refl)
+neither Equal a b = refl
+neither Greater a b = absurd (b refl)
+
+-- two edges, neither of which is before the other, as deep as one another
+pub edges_same : (gs : List GraphInst) (needs : List ℕ) (a b : Entered) (n : ℕ) → IsEdgeUpTo gs a b → IsEdgeUpTo gs b a → a.offset + 2 + slice_index needs a.into ≡ n → b.offset + 2 + slice_index needs b.into ≡ n → a ≡ b
+unfolding edge_cmp turn_of
+edges_same gs needs a b n up down deep_a deep_b =
+    let equal : edge_cmp gs b a ≡ Equal = neither (edge_cmp gs b a) up (λ e. down ((edge_total gs).antisymm a b ∙ e)) in
+    let same = numbers_equal (turn_of gs b) (turn_of gs a) equal in
+    let tails : kind_numbers b.kind ++ entry_of (slice_get gs b.into) ∷ b.into ∷ [] ≡ kind_numbers a.kind ++ entry_of (slice_get gs a.into) ∷ a.into ∷ [] = cc in
+    let both = same_parts (kind_numbers b.kind) (kind_numbers a.kind) (entry_of (slice_get gs b.into) ∷ b.into ∷ []) (entry_of (slice_get gs a.into) ∷ a.into ∷ []) (kind_length b.kind ∙ sym (kind_length a.kind)) tails in
+    let nodes : b.node ≡ a.node = number_at_same 0 same in
+    let kinds = kind_same b.kind a.kind both.0 in
+    let into : b.into ≡ a.into = number_at_same 1 both.1 in
+    let offsets : b.offset ≡ a.offset = omega (arith, deep_a, deep_b, ap (slice_index needs) into) in
+    sym (λ j. record { node = nodes j; offset = offsets j; kind = kinds j; into = into j })
