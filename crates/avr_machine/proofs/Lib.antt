@@ -1,7 +1,6 @@
 pub mod ByteBits
 pub mod HeldBits
 pub mod Writing
-pub mod Wrapping
 pub mod Living
 pub mod Remembering
 pub mod Moving
@@ -9,3 +8,5 @@ pub mod Resetting
 pub mod Choosing
 pub mod Unheld
 pub mod Unpushed
+pub mod Quieting
+pub mod Loud

@@ -5,7 +5,7 @@ use borrow.Rule.Slice.PartMut.{put_mid, mid_of}
 use Rattle.std.proofs.lemmas.Slice.{take-put_mid, drop-put_mid}
 use Rattle.std.proofs.Math.ListN.{drop_of_length-le, length-replicate}
 use Rattle.std.proofs.Math.Seq.{take-append_seam, take-append-add, take-set-lt}
-use Rattle.std.proofs.lemmas.List.{length-take, length-take-le, length-drop, get_or-take, get_or_past, set_past, take-replicate, take-append-drop, take-append-le, take-set-le, drop-take, replicate-append-replicate}
+use Rattle.std.proofs.lemmas.List.{length-take, length-take-le, length-drop, get_or-take, get_or_past, take-replicate, take-append-drop, take-append-le, take-set-le, drop-take, replicate-append-replicate}
 
 -- no place below the floor is live
 abbrev pub IsClear : ℕ → List Bool → Type 0
@@ -35,9 +35,6 @@ clear_set flags floor place n x clear is =
 
 pub set_part : (flags : List Bool) (size place : ℕ) → place < size → take size (slice_set flags place true) ≡ slice_set (take size flags) place true
 set_part flags size place lt = take-set-lt size flags place true lt
-
-pub set_past_part : (flags : List Bool) (size place : ℕ) → size ≤ place → slice_set (take size flags) place true ≡ take size flags
-set_past_part flags size place le = set_past (take size flags) place true (let e = length-take size flags in omega (arith, le, e))
 
 -- the places below `end` are cleared, and the others kept
 abbrev pub IsCleared : ℕ → List Bool → List Bool → Type 0

@@ -1,10 +1,11 @@
 -- The first places of the arrays that hold SRAM.
-use Rattle.std.proofs.Common.{◌≡◌, ◌<◌, ◌≤◌, ◌-◌, ℕ, Bool, true, false, List, length, take, replicate, get_or, refl, sym, ap, subst, ◌∙◌, arith, ◌⊎◌, inl, inr}
+use Rattle.std.proofs.Common.{◌≡◌, ◌<◌, ◌≤◌, ◌-◌, ℕ, Bool, true, false, List, length, take, replicate, get_or, sym, ap, subst, ◌∙◌, arith, ◌⊎◌, inl, inr}
 use Rattle.std.specs.Prelude.{nat_lt, ◌&&◌, if◌then◌else◌, slice_index, slice_set}
 use Rattle.std.proofs.lemmas.List.{length-take, length-take-le, get_or-take, get_or_past, take_all, set_past, take-replicate}
 use Rattle.std.proofs.lemmas.Bool.{ltb-true}
 use Rattle.std.proofs.lemmas.Bool.Decides.{nat_tests}
 use Rattle.std.proofs.Math.Seq.{take-set-lt}
+use Rattle.basics.specs.Booleans.{left_of_and, right_of_and}
 use Rattle.avr_model.specs.declared.device.Device.{Device}
 use Rattle.avr_model.specs.declared.device.Device.TheVariants.{M328}
 use Rattle.avr_model.specs.Devices.{size_of}
@@ -50,22 +51,14 @@ pub new_parts : (device : Device) (size : ℕ) (bytes : List ℕ) (live : List B
     → seen size bytes live ≡ record { bytes = take (size_of device) bytes; live = replicate (size_of device) false }
 new_parts device size bytes live e f = ap (seen size bytes) f ∙ ap (λ (n : ℕ). seen n bytes (replicate n false)) e
 
-first_of_both : (a b : Bool) → (a && b) ≡ true → a ≡ true
-first_of_both true b e = refl
-first_of_both false b e = e
-
-second_of_both : (a b : Bool) → (a && b) ≡ true → b ≡ true
-second_of_both true b e = e
-second_of_both false b e = cc
-
 -- what is set within the first places, by address
 set_by_address : {A : Type 0} (n a place : ℕ) (xs : List A) (x : A) (k : ℕ) → k ≤ n → (nat_lt 255 a && nat_lt (a - 256) k) ≡ true → place ≡ a - 256
     → take n (slice_set xs place x) ≡ set_at (take n xs) a x
 unfolding set_at
 set_by_address n a place xs x k le test is =
     ap (λ p. take n (slice_set xs p x)) is
-    ∙ set_taken n (a - 256) xs x (let lt = ltb-true (a - 256) k (second_of_both (nat_lt 255 a) (nat_lt (a - 256) k) test) in omega (arith, lt, le))
-    ∙ sym (ap (λ (t : Bool). if t then slice_set (take n xs) (a - 256) x else take n xs) (first_of_both (nat_lt 255 a) (nat_lt (a - 256) k) test))
+    ∙ set_taken n (a - 256) xs x (let lt = ltb-true (a - 256) k (right_of_and (nat_lt 255 a) (nat_lt (a - 256) k) test) in omega (arith, lt, le))
+    ∙ sym (ap (λ (t : Bool). if t then slice_set (take n xs) (a - 256) x else take n xs) (left_of_and (nat_lt 255 a) (nat_lt (a - 256) k) test))
 
 pub byte_is_set : (n a place x : ℕ) (bytes : List ℕ) (live : List Bool) (m : Memory) → m ≡ seen n bytes live → (nat_lt 255 a && nat_lt (a - 256) (length m.bytes)) ≡ true → place ≡ a - 256
     → seen n (slice_set bytes place x) live ≡ record { bytes = set_at m.bytes a x; live = m.live }

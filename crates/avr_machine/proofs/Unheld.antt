@@ -1,12 +1,14 @@
 -- Addresses at which no enable bit stands.
-use Rattle.std.proofs.Common.{◌≡◌, ◌∙◌, sym, ap, subst, refl, ℕ, ◌+◌, ◌<◌, ◌^◌, ◌==◌, ◌&&◌, ◌||◌, not, Bool, true, false, if◌then◌else◌, List, [], ◌∷◌, Option, Some, None}
+use Rattle.std.proofs.Common.{◌≡◌, ◌∙◌, sym, ap, subst, refl, ℕ, ◌+◌, ◌<◌, ◌^◌, ◌==◌, not, Bool, true, false, if◌then◌else◌, List, [], ◌∷◌, Option, Some}
 use Rattle.std.proofs.lemmas.Nat.Bits.{bit_at-lt, same_from_bits_below}
 use Rattle.std.specs.Int.{bit_at}
 use Rattle.std.specs.List.{find, list_any}
-use Rattle.std.specs.Option.{option_map}
-use Rattle.avr_model.specs.Vectors.{Vector, vectors, row_of, enable_of, has_enables, written_enable, written_enables}
+use Rattle.std.proofs.lemmas.Bool.{or_parts}
+use Rattle.vector_table.specs.Laws.{AreBits}
+use Rattle.vector_table.proofs.AllLaws.{none_enabled}
+use Rattle.avr_model.specs.Vectors.{Vector, vectors, row_of, has_enables, written_enable, written_enables}
 use Rattle.avr_model.specs.State.{io_bit, io_byte}
-use Rattle.avr_machine.proofs.ByteBits.{AreBits, number_below, bit_of_number}
+use Rattle.avr_machine.proofs.ByteBits.{number_below, bit_of_number}
 use Rattle.avr_machine.proofs.HeldBits.{io_byte_by_bits}
 
 -- a test by a mask of the enable bits
@@ -16,28 +18,10 @@ by_mask true false e = refl
 by_mask false true e = refl
 by_mask false false e = cc
 
-neither : (a b : Bool) → (a || b) ≡ false → (a ≡ false) × (b ≡ false)
-neither true b e = cc
-neither false b e = (refl, e)
-
-not_here : (a c : Bool) (x y : Option Vector) → a ≡ false → (if a && c then x else y) ≡ y
-not_here true c x y e = cc
-not_here false c x y e = refl
-
-none_found : (address index : ℕ) (rs : List Vector) → list_any (λ r. r.address == address) rs ≡ false → find (λ r. (r.address == address) && (r.bit == index)) rs ≡ None
-none_found address index [] e = refl
-none_found address index (r ∷ rs) e =
-    let both = neither (r.address == address) (list_any (λ x. x.address == address) rs) e in
-    not_here (r.address == address) (r.bit == index) (Some r) (find (λ x. (x.address == address) && (x.bit == index)) rs) both.0 ∙ none_found address index rs both.1
-
-no_enable : (address index : ℕ) → has_enables address ≡ false → enable_of address index ≡ None
-unfolding has_enables enable_of
-no_enable address index e = ap (λ (o : Option Vector). option_map (λ r. r.number) o) (none_found address index vectors e)
-
 -- all bits of the byte there are free
 pub free_byte : (enables address input : ℕ) → input < 256 → has_enables address ≡ false → input ≡ io_byte enables address input
 free_byte enables address input small none =
-    io_byte_by_bits input address enables input small (λ k lt. ap (λ (o : Option ℕ). io_bit o enables (bit_at input k)) (sym (no_enable address k none)))
+    io_byte_by_bits input address enables input small (λ k lt. ap (λ (o : Option ℕ). io_bit o enables (bit_at input k)) (sym (none_enabled address k none)))
 
 kept_or : (b : Bool) (r : Vector) (rest : Option Vector) (address byte old : ℕ) → (r.address == address) ≡ false → written_enable rest address byte old ≡ old → written_enable (if b then Some r else rest) address byte old ≡ old
 kept_or true r rest address byte old other e = ap (λ (t : Bool). if t then bit_at byte r.bit else old) other
@@ -46,7 +30,7 @@ kept_or false r rest address byte old other e = e
 kept : (p : Vector → Bool) (rs : List Vector) (address byte old : ℕ) → list_any (λ r. r.address == address) rs ≡ false → written_enable (find p rs) address byte old ≡ old
 kept p [] address byte old e = refl
 kept p (r ∷ rs) address byte old e =
-    let both = neither (r.address == address) (list_any (λ x. x.address == address) rs) e in
+    let both = or_parts (r.address == address) (list_any (λ x. x.address == address) rs) e in
     kept_or (p r) r (find p rs) address byte old both.0 (kept p rs address byte old both.1)
 
 -- a byte that is stored there leaves the enable bits

@@ -14,7 +14,9 @@ mod memory;
 mod menu;
 mod pieces;
 mod processor;
+mod pushes;
 mod stepping;
+mod stores;
 mod transfers;
 
 pub use avr_alu::Sreg;

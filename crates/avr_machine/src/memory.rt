@@ -1,6 +1,6 @@
 //! SRAM: its bytes, and which of them are live.
 
-ghost use Rattle.std.specs.Prelude.{◌≡◌, ◌<◌, ◌≤◌, ◌+◌, ◌-◌, ◌&&◌, nat_lt, false, true, length, take, replicate};
+ghost use Rattle.std.specs.Prelude.{◌≡◌, ◌<◌, ◌≤◌, ◌+◌, ◌-◌, ◌&&◌, ◌∷◌, [], nat_lt, false, true, length, take, replicate};
 ghost use Rattle.avr_model.specs.Devices.{size_of};
 ghost use Rattle.avr_model.specs.State.{BELOW, is_sram, set_at, byte_in, is_live};
 ghost use Rattle.avr_model.specs.Step.{with_live, written, pruned, live_write};
@@ -125,6 +125,19 @@ impl Memory {
         ensures { self.new ≡ record self.old { live = pruned sp self.old.live } }
     {
         self.live.clear(usize::from(sp.saturating_sub(BELOW)));
+    }
+
+    /// The address of a write that goes onto a live byte.
+    #[tactic(auto, unfolding(avr_model::specs::Step::live_write))]
+    #[inline(always)]
+    pub fn live_at(&self, write: Write) -> Option<u16>
+        ensures { result ≡ live_write self.now (write ∷ []) }
+    {
+        if self.is_live(write.address) {
+            Some(write.address)
+        } else {
+            None
+        }
     }
 
     /// The address of the first write that goes onto a live byte.

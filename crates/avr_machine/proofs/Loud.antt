@@ -1,0 +1,157 @@
+-- Answers to instructions that store, push or go to a computed word, by rows.
+use Rattle.std.proofs.Common.{◌≡◌, ◌∙◌, sym, ap₂, refl, subst, ℕ, ◌%◌, true, false, List, None}
+use Rattle.avr_model.specs.declared.instruction.Instr.{Instr}
+use Rattle.avr_model.specs.declared.instruction.Instr.TheVariants as i
+use Rattle.avr_model.specs.declared.instruction.Base.{Base}
+use Rattle.avr_model.specs.declared.instruction.Pointer.{Pointer}
+use Rattle.avr_model.specs.declared.assumption.Entry.{Entry}
+use Rattle.avr_model.specs.Assumptions.{jump_line}
+use Rattle.avr_model.specs.Devices.{wrapped}
+use Rattle.avr_model.specs.Image.{WORDS}
+use Rattle.avr_model.specs.Sites.{base_register, pointer_register}
+use Rattle.avr_model.specs.State.{State, register, pair, plus16, minus16}
+use Rattle.avr_model.specs.Text.{far}
+use Rattle.avr_model.specs.Effects.{effect_of, storing, store_effect, further, out_effect, port, bit_effect, pointed, set, way_back, going_to}
+use Rattle.avr_model.specs.Step.{answer_to, unless_listed}
+use Rattle.avr_machine.specs.Quiet.{is_quiet, protected_at, store_answer, push_effect_to, push_answer, jump_answer}
+use Rattle.avr_machine.proofs.Quieting.{stored_answer, pushed_answer, jumped_answer, pointer_protected, none_protected, none_unlisted, indirect_unlisted}
+
+pub std_answer : (words : List ℕ) (entries : List Entry) (m : State) (instr : Instr) (b1 b2 : ℕ) (b : Base) (n r : ℕ) → instr ≡ i.Std b n r
+    → store_answer m (protected_at words entries m.pc (record { address = (plus16 (pair m (base_register b)) n); byte = register m r })) (storing m (plus16 (pair m (base_register b)) n) (register m r)) ≡ answer_to words entries m instr (effect_of words m instr b1 b2)
+std_answer words entries m instr b1 b2 b n r is =
+    subst (λ x. store_answer m (protected_at words entries m.pc (record { address = (plus16 (pair m (base_register b)) n); byte = register m r })) (storing m (plus16 (pair m (base_register b)) n) (register m r)) ≡ answer_to words entries m x (effect_of words m x b1 b2)) (sym is)
+    (stored_answer words entries m (i.Std b n r) (storing m (plus16 (pair m (base_register b)) n) (register m r)) (protected_at words entries m.pc (record { address = (plus16 (pair m (base_register b)) n); byte = register m r })) refl refl (pointer_protected words entries m.pc (i.Std b n r) (storing m (plus16 (pair m (base_register b)) n) (register m r)) _ refl refl))
+
+pub sts_answer : (words : List ℕ) (entries : List Entry) (m : State) (instr : Instr) (b1 b2 : ℕ) (k r : ℕ) → instr ≡ i.Sts k r
+    → store_answer m None (record (storing m k (register m r)) { pc = further m 2 }) ≡ answer_to words entries m instr (effect_of words m instr b1 b2)
+sts_answer words entries m instr b1 b2 k r is =
+    subst (λ x. store_answer m None (record (storing m k (register m r)) { pc = further m 2 }) ≡ answer_to words entries m x (effect_of words m x b1 b2)) (sym is)
+    (stored_answer words entries m (i.Sts k r) (record (storing m k (register m r)) { pc = further m 2 }) None refl refl (none_protected words entries m.pc (i.Sts k r) (record (storing m k (register m r)) { pc = further m 2 }) refl))
+
+pub st_answer : (words : List ℕ) (entries : List Entry) (m : State) (instr : Instr) (b1 b2 : ℕ) (p : Pointer) (r : ℕ) → instr ≡ i.St p r
+    → store_answer m (protected_at words entries m.pc (record { address = pointed p (pair m (pointer_register p)); byte = register m r })) (store_effect m p r) ≡ answer_to words entries m instr (effect_of words m instr b1 b2)
+st_answer words entries m instr b1 b2 p r is =
+    subst (λ x. store_answer m (protected_at words entries m.pc (record { address = pointed p (pair m (pointer_register p)); byte = register m r })) (store_effect m p r) ≡ answer_to words entries m x (effect_of words m x b1 b2)) (sym is)
+    (stored_answer words entries m (i.St p r) (store_effect m p r) (protected_at words entries m.pc (record { address = pointed p (pair m (pointer_register p)); byte = register m r })) refl refl (pointer_protected words entries m.pc (i.St p r) (store_effect m p r) _ refl refl))
+
+pub out_answer : (words : List ℕ) (entries : List Entry) (m : State) (instr : Instr) (b1 b2 : ℕ) (a r : ℕ) → instr ≡ i.Out a r
+    → store_answer m None (out_effect m (port a) (register m r)) ≡ answer_to words entries m instr (effect_of words m instr b1 b2)
+out_answer words entries m instr b1 b2 a r is =
+    subst (λ x. store_answer m None (out_effect m (port a) (register m r)) ≡ answer_to words entries m x (effect_of words m x b1 b2)) (sym is)
+    (stored_answer words entries m (i.Out a r) (out_effect m (port a) (register m r)) None refl refl (none_protected words entries m.pc (i.Out a r) (out_effect m (port a) (register m r)) refl))
+
+pub cbi_answer : (words : List ℕ) (entries : List Entry) (m : State) (instr : Instr) (b1 b2 : ℕ) (a b : ℕ) → instr ≡ i.Cbi a b
+    → store_answer m None (bit_effect m (port a) b false) ≡ answer_to words entries m instr (effect_of words m instr b1 b2)
+cbi_answer words entries m instr b1 b2 a b is =
+    subst (λ x. store_answer m None (bit_effect m (port a) b false) ≡ answer_to words entries m x (effect_of words m x b1 b2)) (sym is)
+    (stored_answer words entries m (i.Cbi a b) (bit_effect m (port a) b false) None refl refl (none_protected words entries m.pc (i.Cbi a b) (bit_effect m (port a) b false) refl))
+
+pub sbi_answer : (words : List ℕ) (entries : List Entry) (m : State) (instr : Instr) (b1 b2 : ℕ) (a b : ℕ) → instr ≡ i.Sbi a b
+    → store_answer m None (bit_effect m (port a) b true) ≡ answer_to words entries m instr (effect_of words m instr b1 b2)
+sbi_answer words entries m instr b1 b2 a b is =
+    subst (λ x. store_answer m None (bit_effect m (port a) b true) ≡ answer_to words entries m x (effect_of words m x b1 b2)) (sym is)
+    (stored_answer words entries m (i.Sbi a b) (bit_effect m (port a) b true) None refl refl (none_protected words entries m.pc (i.Sbi a b) (bit_effect m (port a) b true) refl))
+
+pub push_row : (words : List ℕ) (entries : List Entry) (m : State) (instr : Instr) (b1 b2 : ℕ) (r : ℕ) → instr ≡ i.Push r
+    → push_answer words m None (set m.sp (register m r)) (minus16 m.sp 1) (further m 1) ≡ answer_to words entries m instr (effect_of words m instr b1 b2)
+push_row words entries m instr b1 b2 r is =
+    subst (λ x. push_answer words m None (set m.sp (register m r)) (minus16 m.sp 1) (further m 1) ≡ answer_to words entries m x (effect_of words m x b1 b2)) (sym is)
+    (pushed_answer words entries m (i.Push r) (set m.sp (register m r)) (minus16 m.sp 1) (further m 1) None refl (none_unlisted entries m.pc (i.Push r) (push_effect_to m (set m.sp (register m r)) (minus16 m.sp 1) (further m 1)) refl))
+
+pub call_row : (words : List ℕ) (entries : List Entry) (m : State) (instr : Instr) (b1 b2 : ℕ) (k : ℕ) → instr ≡ i.Call k
+    → push_answer words m None (way_back m.sp (further m 2)) (minus16 m.sp 2) (k) ≡ answer_to words entries m instr (effect_of words m instr b1 b2)
+call_row words entries m instr b1 b2 k is =
+    subst (λ x. push_answer words m None (way_back m.sp (further m 2)) (minus16 m.sp 2) (k) ≡ answer_to words entries m x (effect_of words m x b1 b2)) (sym is)
+    (pushed_answer words entries m (i.Call k) (way_back m.sp (further m 2)) (minus16 m.sp 2) (k) None refl (none_unlisted entries m.pc (i.Call k) (push_effect_to m (way_back m.sp (further m 2)) (minus16 m.sp 2) (k)) refl))
+
+pub rcall_row : (words : List ℕ) (entries : List Entry) (m : State) (instr : Instr) (b1 b2 : ℕ) (k : ℕ) → instr ≡ i.Rcall k
+    → push_answer words m None (way_back m.sp (further m 1)) (minus16 m.sp 2) (far m.pc k) ≡ answer_to words entries m instr (effect_of words m instr b1 b2)
+rcall_row words entries m instr b1 b2 k is =
+    subst (λ x. push_answer words m None (way_back m.sp (further m 1)) (minus16 m.sp 2) (far m.pc k) ≡ answer_to words entries m x (effect_of words m x b1 b2)) (sym is)
+    (pushed_answer words entries m (i.Rcall k) (way_back m.sp (further m 1)) (minus16 m.sp 2) (far m.pc k) None refl (none_unlisted entries m.pc (i.Rcall k) (push_effect_to m (way_back m.sp (further m 1)) (minus16 m.sp 2) (far m.pc k)) refl))
+
+pub icall_row : (words : List ℕ) (entries : List Entry) (m : State) (instr : Instr) (b1 b2 : ℕ) → instr ≡ i.Icall
+    → push_answer words m (unless_listed (jump_line entries m.pc) (wrapped m.device (pair m 30 % WORDS))) (way_back m.sp (further m 1)) (minus16 m.sp 2) (pair m 30 % WORDS) ≡ answer_to words entries m instr (effect_of words m instr b1 b2)
+icall_row words entries m instr b1 b2 is =
+    subst (λ x. push_answer words m (unless_listed (jump_line entries m.pc) (wrapped m.device (pair m 30 % WORDS))) (way_back m.sp (further m 1)) (minus16 m.sp 2) (pair m 30 % WORDS) ≡ answer_to words entries m x (effect_of words m x b1 b2)) (sym is)
+    (pushed_answer words entries m i.Icall (way_back m.sp (further m 1)) (minus16 m.sp 2) (pair m 30 % WORDS) (unless_listed (jump_line entries m.pc) (wrapped m.device (pair m 30 % WORDS))) refl (indirect_unlisted entries m.pc i.Icall (push_effect_to m (way_back m.sp (further m 1)) (minus16 m.sp 2) (pair m 30 % WORDS)) refl))
+
+pub ijmp_row : (words : List ℕ) (entries : List Entry) (m : State) (instr : Instr) (b1 b2 : ℕ) → instr ≡ i.Ijmp
+    → jump_answer m (unless_listed (jump_line entries m.pc) (wrapped m.device (pair m 30 % WORDS))) (pair m 30 % WORDS) ≡ answer_to words entries m instr (effect_of words m instr b1 b2)
+ijmp_row words entries m instr b1 b2 is =
+    subst (λ x. jump_answer m (unless_listed (jump_line entries m.pc) (wrapped m.device (pair m 30 % WORDS))) (pair m 30 % WORDS) ≡ answer_to words entries m x (effect_of words m x b1 b2)) (sym is)
+    (jumped_answer words entries m i.Ijmp (pair m 30 % WORDS) (unless_listed (jump_line entries m.pc) (wrapped m.device (pair m 30 % WORDS))) refl (indirect_unlisted entries m.pc i.Ijmp (going_to m (pair m 30 % WORDS)) refl))
+
+-- a call whose words are given as what they are
+pub call_answer : (words : List ℕ) (entries : List Entry) (m : State) (instr : Instr) (b1 b2 : ℕ) (k back target : ℕ) → instr ≡ i.Call k → back ≡ further m 2 → target ≡ k
+    → push_answer words m None (way_back m.sp back) (minus16 m.sp 2) target ≡ answer_to words entries m instr (effect_of words m instr b1 b2)
+call_answer words entries m instr b1 b2 k back target is there to =
+    ap₂ (λ (back target : ℕ). push_answer words m None (way_back m.sp back) (minus16 m.sp 2) target) there to ∙ call_row words entries m instr b1 b2 k is
+
+pub rcall_answer : (words : List ℕ) (entries : List Entry) (m : State) (instr : Instr) (b1 b2 : ℕ) (k back target : ℕ) → instr ≡ i.Rcall k → back ≡ further m 1 → target ≡ far m.pc k
+    → push_answer words m None (way_back m.sp back) (minus16 m.sp 2) target ≡ answer_to words entries m instr (effect_of words m instr b1 b2)
+rcall_answer words entries m instr b1 b2 k back target is there to =
+    ap₂ (λ (back target : ℕ). push_answer words m None (way_back m.sp back) (minus16 m.sp 2) target) there to ∙ rcall_row words entries m instr b1 b2 k is
+
+-- no other instruction is left
+pub none_left : (instr : Instr) → is_quiet instr ≡ false
+    → ((b : Base) (n r : ℕ) → instr ≡ i.Std b n r → ⊥)
+    → ((k r : ℕ) → instr ≡ i.Sts k r → ⊥)
+    → ((p : Pointer) (r : ℕ) → instr ≡ i.St p r → ⊥)
+    → ((a r : ℕ) → instr ≡ i.Out a r → ⊥)
+    → ((a b : ℕ) → instr ≡ i.Cbi a b → ⊥)
+    → ((a b : ℕ) → instr ≡ i.Sbi a b → ⊥)
+    → ((r : ℕ) → instr ≡ i.Push r → ⊥)
+    → ((k : ℕ) → instr ≡ i.Call k → ⊥)
+    → ((k : ℕ) → instr ≡ i.Rcall k → ⊥)
+    → (instr ≡ i.Icall → ⊥)
+    → (instr ≡ i.Ijmp → ⊥)
+    → ⊥
+none_left (i.Movw d r) loud no_std no_sts no_st no_out no_cbi no_sbi no_push no_call no_rcall no_icall no_ijmp = absurd (cc)
+none_left (i.Muls d r) loud no_std no_sts no_st no_out no_cbi no_sbi no_push no_call no_rcall no_icall no_ijmp = absurd (cc)
+none_left (i.Mulsu d r) loud no_std no_sts no_st no_out no_cbi no_sbi no_push no_call no_rcall no_icall no_ijmp = absurd (cc)
+none_left (i.Fmul d r) loud no_std no_sts no_st no_out no_cbi no_sbi no_push no_call no_rcall no_icall no_ijmp = absurd (cc)
+none_left (i.Fmuls d r) loud no_std no_sts no_st no_out no_cbi no_sbi no_push no_call no_rcall no_icall no_ijmp = absurd (cc)
+none_left (i.Fmulsu d r) loud no_std no_sts no_st no_out no_cbi no_sbi no_push no_call no_rcall no_icall no_ijmp = absurd (cc)
+none_left (i.Immediate op d k) loud no_std no_sts no_st no_out no_cbi no_sbi no_push no_call no_rcall no_icall no_ijmp = absurd (cc)
+none_left (i.Unary op d) loud no_std no_sts no_st no_out no_cbi no_sbi no_push no_call no_rcall no_icall no_ijmp = absurd (cc)
+none_left (i.Adiw d k) loud no_std no_sts no_st no_out no_cbi no_sbi no_push no_call no_rcall no_icall no_ijmp = absurd (cc)
+none_left (i.Sbiw d k) loud no_std no_sts no_st no_out no_cbi no_sbi no_push no_call no_rcall no_icall no_ijmp = absurd (cc)
+none_left (i.Bset s) loud no_std no_sts no_st no_out no_cbi no_sbi no_push no_call no_rcall no_icall no_ijmp = absurd (cc)
+none_left (i.Bclr s) loud no_std no_sts no_st no_out no_cbi no_sbi no_push no_call no_rcall no_icall no_ijmp = absurd (cc)
+none_left (i.Bld d b) loud no_std no_sts no_st no_out no_cbi no_sbi no_push no_call no_rcall no_icall no_ijmp = absurd (cc)
+none_left (i.Bst d b) loud no_std no_sts no_st no_out no_cbi no_sbi no_push no_call no_rcall no_icall no_ijmp = absurd (cc)
+none_left (i.Ldd d b n) loud no_std no_sts no_st no_out no_cbi no_sbi no_push no_call no_rcall no_icall no_ijmp = absurd (cc)
+none_left (i.Lds d k) loud no_std no_sts no_st no_out no_cbi no_sbi no_push no_call no_rcall no_icall no_ijmp = absurd (cc)
+none_left (i.Ld d p) loud no_std no_sts no_st no_out no_cbi no_sbi no_push no_call no_rcall no_icall no_ijmp = absurd (cc)
+none_left (i.LpmZ d) loud no_std no_sts no_st no_out no_cbi no_sbi no_push no_call no_rcall no_icall no_ijmp = absurd (cc)
+none_left (i.LpmZPlus d) loud no_std no_sts no_st no_out no_cbi no_sbi no_push no_call no_rcall no_icall no_ijmp = absurd (cc)
+none_left i.Lpm loud no_std no_sts no_st no_out no_cbi no_sbi no_push no_call no_rcall no_icall no_ijmp = absurd (cc)
+none_left (i.Pop d) loud no_std no_sts no_st no_out no_cbi no_sbi no_push no_call no_rcall no_icall no_ijmp = absurd (cc)
+none_left (i.In d a) loud no_std no_sts no_st no_out no_cbi no_sbi no_push no_call no_rcall no_icall no_ijmp = absurd (cc)
+none_left i.Ret loud no_std no_sts no_st no_out no_cbi no_sbi no_push no_call no_rcall no_icall no_ijmp = absurd (cc)
+none_left i.Reti loud no_std no_sts no_st no_out no_cbi no_sbi no_push no_call no_rcall no_icall no_ijmp = absurd (cc)
+none_left (i.Jmp k) loud no_std no_sts no_st no_out no_cbi no_sbi no_push no_call no_rcall no_icall no_ijmp = absurd (cc)
+none_left (i.Rjmp k) loud no_std no_sts no_st no_out no_cbi no_sbi no_push no_call no_rcall no_icall no_ijmp = absurd (cc)
+none_left (i.Brbs s k) loud no_std no_sts no_st no_out no_cbi no_sbi no_push no_call no_rcall no_icall no_ijmp = absurd (cc)
+none_left (i.Brbc s k) loud no_std no_sts no_st no_out no_cbi no_sbi no_push no_call no_rcall no_icall no_ijmp = absurd (cc)
+none_left (i.Sbic a b) loud no_std no_sts no_st no_out no_cbi no_sbi no_push no_call no_rcall no_icall no_ijmp = absurd (cc)
+none_left (i.Sbis a b) loud no_std no_sts no_st no_out no_cbi no_sbi no_push no_call no_rcall no_icall no_ijmp = absurd (cc)
+none_left (i.Sbrc r b) loud no_std no_sts no_st no_out no_cbi no_sbi no_push no_call no_rcall no_icall no_ijmp = absurd (cc)
+none_left (i.Sbrs r b) loud no_std no_sts no_st no_out no_cbi no_sbi no_push no_call no_rcall no_icall no_ijmp = absurd (cc)
+none_left i.Nop loud no_std no_sts no_st no_out no_cbi no_sbi no_push no_call no_rcall no_icall no_ijmp = absurd (cc)
+none_left i.Sleep loud no_std no_sts no_st no_out no_cbi no_sbi no_push no_call no_rcall no_icall no_ijmp = absurd (cc)
+none_left i.Break loud no_std no_sts no_st no_out no_cbi no_sbi no_push no_call no_rcall no_icall no_ijmp = absurd (cc)
+none_left i.Wdr loud no_std no_sts no_st no_out no_cbi no_sbi no_push no_call no_rcall no_icall no_ijmp = absurd (cc)
+none_left (i.Binary op d r) loud no_std no_sts no_st no_out no_cbi no_sbi no_push no_call no_rcall no_icall no_ijmp = absurd (cc)
+none_left (i.Std b n r) loud no_std no_sts no_st no_out no_cbi no_sbi no_push no_call no_rcall no_icall no_ijmp = no_std b n r refl
+none_left (i.Sts k r) loud no_std no_sts no_st no_out no_cbi no_sbi no_push no_call no_rcall no_icall no_ijmp = no_sts k r refl
+none_left (i.St p r) loud no_std no_sts no_st no_out no_cbi no_sbi no_push no_call no_rcall no_icall no_ijmp = no_st p r refl
+none_left (i.Push r) loud no_std no_sts no_st no_out no_cbi no_sbi no_push no_call no_rcall no_icall no_ijmp = no_push r refl
+none_left (i.Out a r) loud no_std no_sts no_st no_out no_cbi no_sbi no_push no_call no_rcall no_icall no_ijmp = no_out a r refl
+none_left (i.Cbi a b) loud no_std no_sts no_st no_out no_cbi no_sbi no_push no_call no_rcall no_icall no_ijmp = no_cbi a b refl
+none_left (i.Sbi a b) loud no_std no_sts no_st no_out no_cbi no_sbi no_push no_call no_rcall no_icall no_ijmp = no_sbi a b refl
+none_left i.Ijmp loud no_std no_sts no_st no_out no_cbi no_sbi no_push no_call no_rcall no_icall no_ijmp = no_ijmp refl
+none_left i.Icall loud no_std no_sts no_st no_out no_cbi no_sbi no_push no_call no_rcall no_icall no_ijmp = no_icall refl
+none_left (i.Call k) loud no_std no_sts no_st no_out no_cbi no_sbi no_push no_call no_rcall no_icall no_ijmp = no_call k refl
+none_left (i.Rcall k) loud no_std no_sts no_st no_out no_cbi no_sbi no_push no_call no_rcall no_icall no_ijmp = no_rcall k refl

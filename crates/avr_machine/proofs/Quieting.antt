@@ -1,0 +1,273 @@
+-- Steps of instructions that neither store nor push, nor go to a computed word.
+use Rattle.std.proofs.Common.{◌≡◌, ◌∙◌, sym, ap, ap₂, refl, ℕ, true, false, ◌||◌, not, if◌then◌else◌, List, [], ◌∷◌, ◌++◌, length, Option, None}
+use Rattle.avr_model.specs.declared.instruction.Instr.{Instr}
+use Rattle.avr_model.specs.declared.instruction.Instr.TheVariants as i
+use Rattle.avr_model.specs.declared.instruction.BinaryOp.{BinaryOp}
+use Rattle.avr_model.specs.declared.instruction.BinaryOp.TheVariants as binary
+use Rattle.avr_model.specs.declared.instruction.ImmediateOp.{ImmediateOp}
+use Rattle.avr_model.specs.declared.instruction.ImmediateOp.TheVariants as immediate
+use Rattle.avr_model.specs.declared.instruction.UnaryOp.{UnaryOp}
+use Rattle.avr_model.specs.declared.instruction.UnaryOp.TheVariants as unary
+use Rattle.avr_model.specs.declared.assumption.Entry.{Entry}
+use Rattle.avr_model.specs.declared.choice.StepResult.TheVariants as result
+use Rattle.avr_model.specs.declared.effect.Write.{Write}
+use Rattle.avr_model.specs.declared.effect.Effect.{Effect}
+use Rattle.avr_model.specs.State.{State, Memory}
+use Rattle.avr_model.specs.Effects.{effect_of, going_to, binary_effect, immediate_effect, unary_effect}
+use Rattle.avr_model.specs.Step.{Done, Overflow, all_inside, is_unlisted, unless_listed, answer_to, after, flag_by, flagged_or, live_write, protected_write, unlisted_transfer, is_pointer_store, is_indirect, result_of, state_after}
+use Rattle.avr_model.specs.Sites.{is_scratch}
+use Rattle.avr_model.specs.Assumptions.{jump_line}
+use Rattle.avr_machine.specs.Quiet.{is_quiet, protected_at, store_answer, push_effect_to, push_answer, jump_answer}
+use Rattle.avr_machine.proofs.Unpushed.{unpushed_answer}
+
+-- an effect that neither stores nor pushes
+abbrev pub WritesNone : Effect → Type 0
+WritesNone e = (e.stores ≡ []) × (e.pushes ≡ [])
+
+binary_none : (words : List ℕ) (m : State) (op : BinaryOp) (d r : ℕ) → WritesNone (binary_effect words m op d r)
+binary_none words m binary.Cpc d r = (refl, refl)
+binary_none words m binary.Sbc d r = (refl, refl)
+binary_none words m binary.Add d r = (refl, refl)
+binary_none words m binary.Cpse d r = (refl, refl)
+binary_none words m binary.Cp d r = (refl, refl)
+binary_none words m binary.Sub d r = (refl, refl)
+binary_none words m binary.Adc d r = (refl, refl)
+binary_none words m binary.And d r = (refl, refl)
+binary_none words m binary.Eor d r = (refl, refl)
+binary_none words m binary.Or d r = (refl, refl)
+binary_none words m binary.Mov d r = (refl, refl)
+binary_none words m binary.Mul d r = (refl, refl)
+
+immediate_none : (m : State) (op : ImmediateOp) (d k : ℕ) → WritesNone (immediate_effect m op d k)
+immediate_none m immediate.Cpi d k = (refl, refl)
+immediate_none m immediate.Sbci d k = (refl, refl)
+immediate_none m immediate.Subi d k = (refl, refl)
+immediate_none m immediate.Ori d k = (refl, refl)
+immediate_none m immediate.Andi d k = (refl, refl)
+immediate_none m immediate.Ldi d k = (refl, refl)
+
+unary_none : (m : State) (op : UnaryOp) (d : ℕ) → WritesNone (unary_effect m op d)
+unary_none m unary.Com d = (refl, refl)
+unary_none m unary.Neg d = (refl, refl)
+unary_none m unary.Swap d = (refl, refl)
+unary_none m unary.Inc d = (refl, refl)
+unary_none m unary.Asr d = (refl, refl)
+unary_none m unary.Lsr d = (refl, refl)
+unary_none m unary.Ror d = (refl, refl)
+unary_none m unary.Dec d = (refl, refl)
+
+writes_none : (words : List ℕ) (m : State) (instr : Instr) (b1 b2 : ℕ) → is_quiet instr ≡ true → WritesNone (effect_of words m instr b1 b2)
+writes_none words m (i.Movw d r) b1 b2 q = (refl, refl)
+writes_none words m (i.Muls d r) b1 b2 q = (refl, refl)
+writes_none words m (i.Mulsu d r) b1 b2 q = (refl, refl)
+writes_none words m (i.Fmul d r) b1 b2 q = (refl, refl)
+writes_none words m (i.Fmuls d r) b1 b2 q = (refl, refl)
+writes_none words m (i.Fmulsu d r) b1 b2 q = (refl, refl)
+writes_none words m (i.Immediate op d k) b1 b2 q = immediate_none m op d k
+writes_none words m (i.Unary op d) b1 b2 q = unary_none m op d
+writes_none words m (i.Adiw d k) b1 b2 q = (refl, refl)
+writes_none words m (i.Sbiw d k) b1 b2 q = (refl, refl)
+writes_none words m (i.Bset s) b1 b2 q = (refl, refl)
+writes_none words m (i.Bclr s) b1 b2 q = (refl, refl)
+writes_none words m (i.Bld d b) b1 b2 q = (refl, refl)
+writes_none words m (i.Bst d b) b1 b2 q = (refl, refl)
+writes_none words m (i.Ldd d b n) b1 b2 q = (refl, refl)
+writes_none words m (i.Lds d k) b1 b2 q = (refl, refl)
+writes_none words m (i.Ld d p) b1 b2 q = (refl, refl)
+writes_none words m (i.LpmZ d) b1 b2 q = (refl, refl)
+writes_none words m (i.LpmZPlus d) b1 b2 q = (refl, refl)
+writes_none words m i.Lpm b1 b2 q = (refl, refl)
+writes_none words m (i.Pop d) b1 b2 q = (refl, refl)
+writes_none words m (i.In d a) b1 b2 q = (refl, refl)
+writes_none words m i.Ret b1 b2 q = (refl, refl)
+writes_none words m i.Reti b1 b2 q = (refl, refl)
+writes_none words m (i.Jmp k) b1 b2 q = (refl, refl)
+writes_none words m (i.Rjmp k) b1 b2 q = (refl, refl)
+writes_none words m (i.Brbs s k) b1 b2 q = (refl, refl)
+writes_none words m (i.Brbc s k) b1 b2 q = (refl, refl)
+writes_none words m (i.Sbic a b) b1 b2 q = (refl, refl)
+writes_none words m (i.Sbis a b) b1 b2 q = (refl, refl)
+writes_none words m (i.Sbrc r b) b1 b2 q = (refl, refl)
+writes_none words m (i.Sbrs r b) b1 b2 q = (refl, refl)
+writes_none words m i.Nop b1 b2 q = (refl, refl)
+writes_none words m i.Sleep b1 b2 q = (refl, refl)
+writes_none words m i.Break b1 b2 q = (refl, refl)
+writes_none words m i.Wdr b1 b2 q = (refl, refl)
+writes_none words m (i.Binary op d r) b1 b2 q = binary_none words m op d r
+writes_none words m (i.Std b n r) b1 b2 q = absurd (cc)
+writes_none words m (i.Sts k r) b1 b2 q = absurd (cc)
+writes_none words m (i.St p r) b1 b2 q = absurd (cc)
+writes_none words m (i.Push r) b1 b2 q = absurd (cc)
+writes_none words m (i.Out a r) b1 b2 q = absurd (cc)
+writes_none words m (i.Cbi a b) b1 b2 q = absurd (cc)
+writes_none words m (i.Sbi a b) b1 b2 q = absurd (cc)
+writes_none words m i.Ijmp b1 b2 q = absurd (cc)
+writes_none words m i.Icall b1 b2 q = absurd (cc)
+writes_none words m (i.Call k) b1 b2 q = absurd (cc)
+writes_none words m (i.Rcall k) b1 b2 q = absurd (cc)
+
+not_stored : (instr : Instr) → is_quiet instr ≡ true → is_pointer_store instr ≡ false
+not_stored (i.Movw d r) q = refl
+not_stored (i.Muls d r) q = refl
+not_stored (i.Mulsu d r) q = refl
+not_stored (i.Fmul d r) q = refl
+not_stored (i.Fmuls d r) q = refl
+not_stored (i.Fmulsu d r) q = refl
+not_stored (i.Immediate op d k) q = refl
+not_stored (i.Unary op d) q = refl
+not_stored (i.Adiw d k) q = refl
+not_stored (i.Sbiw d k) q = refl
+not_stored (i.Bset s) q = refl
+not_stored (i.Bclr s) q = refl
+not_stored (i.Bld d b) q = refl
+not_stored (i.Bst d b) q = refl
+not_stored (i.Ldd d b n) q = refl
+not_stored (i.Lds d k) q = refl
+not_stored (i.Ld d p) q = refl
+not_stored (i.LpmZ d) q = refl
+not_stored (i.LpmZPlus d) q = refl
+not_stored i.Lpm q = refl
+not_stored (i.Pop d) q = refl
+not_stored (i.In d a) q = refl
+not_stored i.Ret q = refl
+not_stored i.Reti q = refl
+not_stored (i.Jmp k) q = refl
+not_stored (i.Rjmp k) q = refl
+not_stored (i.Brbs s k) q = refl
+not_stored (i.Brbc s k) q = refl
+not_stored (i.Sbic a b) q = refl
+not_stored (i.Sbis a b) q = refl
+not_stored (i.Sbrc r b) q = refl
+not_stored (i.Sbrs r b) q = refl
+not_stored i.Nop q = refl
+not_stored i.Sleep q = refl
+not_stored i.Break q = refl
+not_stored i.Wdr q = refl
+not_stored (i.Binary op d r) q = refl
+not_stored (i.Std b n r) q = absurd (cc)
+not_stored (i.Sts k r) q = absurd (cc)
+not_stored (i.St p r) q = absurd (cc)
+not_stored (i.Push r) q = absurd (cc)
+not_stored (i.Out a r) q = absurd (cc)
+not_stored (i.Cbi a b) q = absurd (cc)
+not_stored (i.Sbi a b) q = absurd (cc)
+not_stored i.Ijmp q = absurd (cc)
+not_stored i.Icall q = absurd (cc)
+not_stored (i.Call k) q = absurd (cc)
+not_stored (i.Rcall k) q = absurd (cc)
+
+not_indirect : (instr : Instr) → is_quiet instr ≡ true → is_indirect instr ≡ false
+not_indirect (i.Movw d r) q = refl
+not_indirect (i.Muls d r) q = refl
+not_indirect (i.Mulsu d r) q = refl
+not_indirect (i.Fmul d r) q = refl
+not_indirect (i.Fmuls d r) q = refl
+not_indirect (i.Fmulsu d r) q = refl
+not_indirect (i.Immediate op d k) q = refl
+not_indirect (i.Unary op d) q = refl
+not_indirect (i.Adiw d k) q = refl
+not_indirect (i.Sbiw d k) q = refl
+not_indirect (i.Bset s) q = refl
+not_indirect (i.Bclr s) q = refl
+not_indirect (i.Bld d b) q = refl
+not_indirect (i.Bst d b) q = refl
+not_indirect (i.Ldd d b n) q = refl
+not_indirect (i.Lds d k) q = refl
+not_indirect (i.Ld d p) q = refl
+not_indirect (i.LpmZ d) q = refl
+not_indirect (i.LpmZPlus d) q = refl
+not_indirect i.Lpm q = refl
+not_indirect (i.Pop d) q = refl
+not_indirect (i.In d a) q = refl
+not_indirect i.Ret q = refl
+not_indirect i.Reti q = refl
+not_indirect (i.Jmp k) q = refl
+not_indirect (i.Rjmp k) q = refl
+not_indirect (i.Brbs s k) q = refl
+not_indirect (i.Brbc s k) q = refl
+not_indirect (i.Sbic a b) q = refl
+not_indirect (i.Sbis a b) q = refl
+not_indirect (i.Sbrc r b) q = refl
+not_indirect (i.Sbrs r b) q = refl
+not_indirect i.Nop q = refl
+not_indirect i.Sleep q = refl
+not_indirect i.Break q = refl
+not_indirect i.Wdr q = refl
+not_indirect (i.Binary op d r) q = refl
+not_indirect (i.Std b n r) q = absurd (cc)
+not_indirect (i.Sts k r) q = absurd (cc)
+not_indirect (i.St p r) q = absurd (cc)
+not_indirect (i.Push r) q = absurd (cc)
+not_indirect (i.Out a r) q = absurd (cc)
+not_indirect (i.Cbi a b) q = absurd (cc)
+not_indirect (i.Sbi a b) q = absurd (cc)
+not_indirect i.Ijmp q = absurd (cc)
+not_indirect i.Icall q = absurd (cc)
+not_indirect (i.Call k) q = absurd (cc)
+not_indirect (i.Rcall k) q = absurd (cc)
+
+none_live : (memory : Memory) (stores pushes : List Write) → stores ≡ [] → pushes ≡ [] → live_write memory (stores ++ pushes) ≡ None
+unfolding live_write
+none_live memory [] [] e f = refl
+none_live memory (w ∷ ws) pushes e f = absurd (cc)
+none_live memory [] (w ∷ ws) e f = absurd (cc)
+
+pub none_protected : (words : List ℕ) (entries : List Entry) (pc : ℕ) (instr : Instr) (e : Effect) → is_pointer_store instr ≡ false → protected_write words entries pc instr e ≡ None
+unfolding protected_write
+none_protected words entries pc instr e plain = simp (plain)
+
+pub none_unlisted : (entries : List Entry) (pc : ℕ) (instr : Instr) (e : Effect) → is_indirect instr ≡ false → unlisted_transfer entries pc instr e ≡ None
+unfolding unlisted_transfer
+none_unlisted entries pc instr e plain = simp (plain)
+
+quiet_answer : (words : List ℕ) (entries : List Entry) (m : State) (instr : Instr) (b1 b2 : ℕ) → is_quiet instr ≡ true
+    → answer_to words entries m instr (effect_of words m instr b1 b2) ≡ Done (after m false (effect_of words m instr b1 b2))
+quiet_answer words entries m instr b1 b2 q =
+    let e = effect_of words m instr b1 b2 in
+    let none = writes_none words m instr b1 b2 q in
+    sym (unpushed_answer words entries m instr e false (ap length none.1))
+    ∙ ap (λ (live : Option ℕ). flagged_or (flag_by m.pc live (protected_write words entries m.pc instr e) (unlisted_transfer entries m.pc instr e)) (after m false e)) (none_live m.memory e.stores e.pushes none.0 none.1)
+    ∙ ap₂ (λ (protected other : Option ℕ). flagged_or (flag_by m.pc None protected other) (after m false e)) (none_protected words entries m.pc instr e (not_stored instr q)) (none_unlisted entries m.pc instr e (not_indirect instr q))
+
+pub quiet_result : (words : List ℕ) (entries : List Entry) (m : State) (instr : Instr) (b1 b2 : ℕ) → is_quiet instr ≡ true
+    → result.Done ≡ result_of (answer_to words entries m instr (effect_of words m instr b1 b2))
+quiet_result words entries m instr b1 b2 q = sym (ap result_of (quiet_answer words entries m instr b1 b2 q))
+
+pub quiet_state : (words : List ℕ) (entries : List Entry) (m : State) (instr : Instr) (b1 b2 : ℕ) → is_quiet instr ≡ true
+    → after m false (effect_of words m instr b1 b2) ≡ state_after m (answer_to words entries m instr (effect_of words m instr b1 b2))
+quiet_state words entries m instr b1 b2 q = sym (ap (state_after m) (quiet_answer words entries m instr b1 b2 q))
+
+-- ---- stores
+
+pub stored_answer : (words : List ℕ) (entries : List Entry) (m : State) (instr : Instr) (e : Effect) (protected : Option ℕ) → e.pushes ≡ [] → is_indirect instr ≡ false
+    → protected_write words entries m.pc instr e ≡ protected → store_answer m protected e ≡ answer_to words entries m instr e
+stored_answer words entries m instr e protected none plain is =
+    ap (λ (pushes : List Write). flagged_or (flag_by m.pc (live_write m.memory (e.stores ++ pushes)) protected None) (after m false e)) (sym none)
+    ∙ ap₂ (λ (protected other : Option ℕ). flagged_or (flag_by m.pc (live_write m.memory (e.stores ++ e.pushes)) protected other) (after m false e)) (sym is) (sym (none_unlisted entries m.pc instr e plain))
+    ∙ unpushed_answer words entries m instr e false (ap length none)
+
+pub pointer_protected : (words : List ℕ) (entries : List Entry) (pc : ℕ) (instr : Instr) (e : Effect) (w : Write) → is_pointer_store instr ≡ true → e.stores ≡ w ∷ [] → protected_write words entries pc instr e ≡ protected_at words entries pc w
+unfolding protected_write
+pointer_protected words entries pc instr e w pointer one = simp (pointer, one)
+
+-- ---- pushes and computed jumps
+
+pub pushed_answer : (words : List ℕ) (entries : List Entry) (m : State) (instr : Instr) (pushes : List Write) (sp target : ℕ) (transfer : Option ℕ) → is_pointer_store instr ≡ false
+    → unlisted_transfer entries m.pc instr (push_effect_to m pushes sp target) ≡ transfer
+    → push_answer words m transfer pushes sp target ≡ answer_to words entries m instr (push_effect_to m pushes sp target)
+pushed_answer words entries m instr pushes sp target transfer plain is =
+    ap₂ (λ (protected other : Option ℕ). if all_inside m.device pushes || is_unlisted other
+    then flagged_or (flag_by m.pc (live_write m.memory pushes) protected other) (after m (not (is_scratch words m.pc)) (push_effect_to m pushes sp target))
+    else Overflow m.pc) (sym (none_protected words entries m.pc instr (push_effect_to m pushes sp target) plain)) (sym is)
+
+pub jumped_answer : (words : List ℕ) (entries : List Entry) (m : State) (instr : Instr) (target : ℕ) (transfer : Option ℕ) → is_pointer_store instr ≡ false
+    → unlisted_transfer entries m.pc instr (going_to m target) ≡ transfer
+    → jump_answer m transfer target ≡ answer_to words entries m instr (going_to m target)
+jumped_answer words entries m instr target transfer plain is =
+    ap (λ (live : Option ℕ). flagged_or (flag_by m.pc live None transfer) (after m false (going_to m target))) (sym (none_live m.memory [] [] refl refl))
+    ∙ ap₂ (λ (protected other : Option ℕ). flagged_or (flag_by m.pc (live_write m.memory []) protected other) (after m false (going_to m target))) (sym (none_protected words entries m.pc instr (going_to m target) plain)) (sym is)
+    ∙ unpushed_answer words entries m instr (going_to m target) false refl
+
+pub indirect_unlisted : (entries : List Entry) (pc : ℕ) (instr : Instr) (e : Effect) → is_indirect instr ≡ true → unlisted_transfer entries pc instr e ≡ unless_listed (jump_line entries pc) e.pc
+unfolding unlisted_transfer
+indirect_unlisted entries pc instr e indirect = simp (indirect)

@@ -1,0 +1,52 @@
+-- Instructions that neither store nor push, nor go to a computed word: their step is never flagged.
+use Rattle.std.specs.Prelude.{ℕ, ◌||◌, not, Bool, true, false, if◌then◌else◌, List, [], ◌∷◌, ◌++◌, Option, None}
+use Rattle.avr_model.specs.declared.instruction.Instr.{Instr}
+use Rattle.avr_model.specs.declared.instruction.Instr.TheVariants as i
+use Rattle.avr_model.specs.declared.effect.Effect.{Effect}
+use Rattle.avr_model.specs.State.{State}
+use Rattle.avr_model.specs.Sites.{is_scratch}
+use Rattle.avr_model.specs.declared.assumption.Entry.{Entry}
+use Rattle.avr_model.specs.declared.effect.Write.{Write}
+use Rattle.avr_model.specs.Assumptions.{store_line, is_fixed_site}
+use Rattle.avr_model.specs.Step.{Answer, Overflow, after, all_inside, is_unlisted, flagged_or, flag_by, live_write, unlisted}
+use Rattle.avr_model.specs.Effects.{going_to}
+
+-- of those that jump, call, return, branch and skip
+abbrev pub is_quiet_flow : Instr → Bool
+is_quiet_flow i.Ijmp = false
+is_quiet_flow i.Icall = false
+is_quiet_flow (i.Call k) = false
+is_quiet_flow (i.Rcall k) = false
+is_quiet_flow _ = true
+
+abbrev pub is_quiet : Instr → Bool
+is_quiet (i.Std b q r) = false
+is_quiet (i.Sts k r) = false
+is_quiet (i.St p r) = false
+is_quiet (i.Push r) = false
+is_quiet (i.Out a r) = false
+is_quiet (i.Cbi a b) = false
+is_quiet (i.Sbi a b) = false
+is_quiet instr = is_quiet_flow instr
+
+-- the protected address that a pointer store writes, where its site is neither fixed nor lists it
+abbrev pub protected_at : List ℕ → List Entry → ℕ → Write → Option ℕ
+protected_at words A pc w = if not (is_fixed_site words A pc) then unlisted (store_line A pc) (w ∷ []) else None
+
+-- the answer to an effect that pushes nothing and goes to no computed word
+abbrev pub store_answer : State → Option ℕ → Effect → Answer
+store_answer m protected e = flagged_or (flag_by m.pc (live_write m.memory (e.stores ++ [])) protected None) (after m false e)
+
+-- the answer to a push after which the machine goes on at a word
+abbrev pub push_effect_to : State → List Write → ℕ → ℕ → Effect
+push_effect_to m pushes sp target = record (going_to m target) { sp = sp; is_open = false; pushes = pushes }
+
+abbrev pub push_answer : List ℕ → State → Option ℕ → List Write → ℕ → ℕ → Answer
+push_answer words m transfer pushes sp target =
+    if all_inside m.device pushes || is_unlisted transfer
+    then flagged_or (flag_by m.pc (live_write m.memory pushes) None transfer) (after m (not (is_scratch words m.pc)) (push_effect_to m pushes sp target))
+    else Overflow m.pc
+
+-- the answer to a jump to a computed word
+abbrev pub jump_answer : State → Option ℕ → ℕ → Answer
+jump_answer m transfer target = flagged_or (flag_by m.pc None None transfer) (after m false (going_to m target))

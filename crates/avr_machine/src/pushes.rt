@@ -1,0 +1,174 @@
+//! The rows that push or go to a computed word, and the entry of an interrupt.
+
+ghost use Rattle.std.specs.Prelude.{◌≡◌, ◌<◌, ◌≤◌, ◌%◌, None};
+ghost use Rattle.avr_model.specs.Devices.{wrapped};
+ghost use Rattle.avr_model.specs.Image.{WORDS};
+ghost use Rattle.avr_model.specs.Assumptions.{jump_line};
+ghost use Rattle.avr_model.specs.State.{pair, register, minus16};
+ghost use Rattle.avr_model.specs.Effects.{set, way_back, further};
+ghost use Rattle.avr_model.specs.Step.{all_inside, unless_listed, after, entering, take, result_of, state_after};
+ghost use Rattle.avr_machine.specs.Quiet.{push_effect_to, push_answer, jump_answer};
+
+use crate::flags::{flag_by, never_target, unlisted_target};
+use crate::memory::is_sram;
+use crate::pieces::{set, way_back};
+use crate::processor::Processor;
+use crate::transfers::Z;
+use avr_alu::Sreg;
+use avr_decode::is_scratch;
+use avr_model::choice::StepResult;
+use avr_model::device::{Device, WORDS};
+use avr_model::effect::Write;
+use flash_image::Flash;
+use vector_table::Assumptions;
+
+/// Whether all writes go to a device's SRAM.
+#[inline(always)]
+fn all_inside(device: Device, writes: &[Write]) -> bool
+    ensures { result ≡ all_inside device writes.now }
+{
+    for write in writes {
+        if !is_sram(device, write.address) {
+            return false;
+        }
+    }
+    true
+}
+
+impl Processor {
+    /// Pushes bytes and goes on at a word. Where they are guarded the bytes become live.
+    #[tactic(auto, unfolding(avr_model::specs::Step::memory_after))]
+    #[inline(always)]
+    fn push_bytes(&mut self, pushes: &[Write], guarded: bool, sp: u16, target: u16)
+        ensures { self.new ≡ after self.old guarded (push_effect_to self.old pushes.now sp target) }
+    {
+        self.memory.set_bytes(pushes);
+        if guarded {
+            self.memory.guard(pushes);
+        }
+        self.sp = sp;
+        self.is_open = false;
+        self.go_to(target);
+    }
+
+    /// The answer to a push, after which the machine goes on at a word: overflow, but not at an unlisted indirect call; then
+    /// the flags; then it is done. A push is guarded unless it makes room for a compiler's small frame.
+    #[inline(always)]
+    fn push_step(
+        &mut self,
+        flash: &Flash,
+        transfer: Option<u16>,
+        pushes: &[Write],
+        sp: u16,
+        target: u16,
+    ) -> StepResult
+        ensures answer { result ≡ result_of (push_answer flash.now self.old transfer pushes.now sp target) }
+        ensures state { self.new ≡ state_after self.old (push_answer flash.now self.old transfer pushes.now sp target) }
+    {
+        if !all_inside(self.device, pushes) && transfer.is_none() {
+            return StepResult::Overflow(self.pc);
+        }
+        let live = self.memory.live_write(pushes);
+        match flag_by(self.pc, live, None, transfer) {
+            Some(flag) => StepResult::Flagged(flag),
+            None => {
+                let guarded = !is_scratch(flash.words(), self.pc);
+                self.push_bytes(pushes, guarded, sp, target);
+                StepResult::Done
+            }
+        }
+    }
+
+    /// `push`.
+    pub fn push(&mut self, flash: &Flash, r: u16) -> StepResult
+        requires { r < 32 }
+        ensures answer { result ≡ result_of (push_answer flash.now self.old None (set self.old.sp (register self.old r)) (minus16 self.old.sp 1) (further self.old 1)) }
+        ensures state { self.new ≡ state_after self.old (push_answer flash.now self.old None (set self.old.sp (register self.old r)) (minus16 self.old.sp 1) (further self.old 1)) }
+    {
+        let pushes = set(self.sp, self.register(r));
+        let sp = self.sp.wrapping_sub(1);
+        let next = self.further(1);
+        self.push_step(flash, None, pushes.as_slice(), sp, next)
+    }
+
+    /// A call of a word: the word `back` at which the caller goes on is pushed.
+    pub fn call(
+        &mut self,
+        flash: &Flash,
+        transfer: Option<u16>,
+        target: u16,
+        back: u16,
+    ) -> StepResult
+        ensures answer { result ≡ result_of (push_answer flash.now self.old transfer (way_back self.old.sp back) (minus16 self.old.sp 2) target) }
+        ensures state { self.new ≡ state_after self.old (push_answer flash.now self.old transfer (way_back self.old.sp back) (minus16 self.old.sp 2) target) }
+    {
+        let pushes = way_back(self.sp, back);
+        let sp = self.sp.wrapping_sub(2);
+        self.push_step(flash, transfer, pushes.as_slice(), sp, target)
+    }
+
+    /// The word in Z, modulo the words of the greatest flash, and the word that it is here where the site doesn't list it.
+    fn computed(&self, assumptions: &Assumptions) -> (u16, Option<u16>)
+        ensures target { result.0 ≡ pair self.now 30 % WORDS }
+        ensures unlisted { result.1 ≡ unless_listed (jump_line assumptions.now self.now.pc) (wrapped self.now.device (pair self.now 30 % WORDS)) }
+    {
+        let target = self.pair(Z) % WORDS;
+        (
+            target,
+            unlisted_target(assumptions, self.pc, self.device.wrap(target)),
+        )
+    }
+
+    /// `icall`.
+    pub fn call_computed(&mut self, flash: &Flash, assumptions: &Assumptions) -> StepResult
+        ensures answer { result ≡ result_of (push_answer flash.now self.old (unless_listed (jump_line assumptions.now self.old.pc) (wrapped self.old.device (pair self.old 30 % WORDS))) (way_back self.old.sp (further self.old 1)) (minus16 self.old.sp 2) (pair self.old 30 % WORDS)) }
+        ensures state { self.new ≡ state_after self.old (push_answer flash.now self.old (unless_listed (jump_line assumptions.now self.old.pc) (wrapped self.old.device (pair self.old 30 % WORDS))) (way_back self.old.sp (further self.old 1)) (minus16 self.old.sp 2) (pair self.old 30 % WORDS)) }
+    {
+        let (target, unlisted) = self.computed(assumptions);
+        let back = self.further(1);
+        self.call(flash, unlisted, target, back)
+    }
+
+    /// `ijmp`.
+    pub fn jump_computed(&mut self, assumptions: &Assumptions) -> StepResult
+        ensures answer { result ≡ result_of (jump_answer self.old (unless_listed (jump_line assumptions.now self.old.pc) (wrapped self.old.device (pair self.old 30 % WORDS))) (pair self.old 30 % WORDS)) }
+        ensures state { self.new ≡ state_after self.old (jump_answer self.old (unless_listed (jump_line assumptions.now self.old.pc) (wrapped self.old.device (pair self.old 30 % WORDS))) (pair self.old 30 % WORDS)) }
+    {
+        let (target, unlisted) = self.computed(assumptions);
+        match flag_by(self.pc, None, None, unlisted) {
+            Some(flag) => StepResult::Flagged(flag),
+            None => {
+                self.go_to(target);
+                StepResult::Done
+            }
+        }
+    }
+
+    /// Enters an interrupt that may be entered, unless the vector's word has a `never` line: the way back is pushed, and I is
+    /// cleared.
+    pub fn take(&mut self, assumptions: &Assumptions, vector: u8, clears: bool) -> StepResult
+        requires least { 2 ≤ vector }
+        requires most { vector ≤ 26 }
+        ensures answer { result ≡ result_of (take assumptions.now self.old (entering self.old vector clears)) }
+        ensures state { self.new ≡ state_after self.old (take assumptions.now self.old (entering self.old vector clears)) }
+    {
+        let target = self.device.vector_word(vector);
+        let pushes = way_back(self.sp, self.pc);
+        let never = never_target(assumptions, self.device.wrap(target));
+        if !all_inside(self.device, pushes.as_slice()) && never.is_none() {
+            return StepResult::Overflow(self.pc);
+        }
+        let live = self.memory.live_write(pushes.as_slice());
+        match flag_by(self.pc, live, None, never) {
+            Some(flag) => StepResult::Flagged(flag),
+            None => {
+                let sp = self.sp.wrapping_sub(2);
+                let enables = self.enables_taken(clears);
+                self.push_bytes(pushes.as_slice(), true, sp, target);
+                self.sreg = Sreg::from_bits_retain(self.sreg.bits() % 128);
+                self.enables = enables;
+                StepResult::Done
+            }
+        }
+    }
+}

@@ -1,0 +1,153 @@
+//! The rows that store.
+
+ghost use Rattle.std.specs.Prelude.{◌≡◌, ◌<◌, false, None};
+ghost use Rattle.avr_model.specs.Devices.{words_of, wrapped};
+ghost use Rattle.avr_model.specs.Sites.{base_register, pointer_register};
+ghost use Rattle.avr_model.specs.State.{pair, register, plus16};
+ghost use Rattle.avr_model.specs.Effects.{further, storing, store_effect, port, out_effect, delay_of_out, bit_effect, pointed};
+ghost use Rattle.avr_model.specs.Step.{result_of, state_after};
+ghost use Rattle.avr_machine.specs.Quiet.{protected_at, store_answer};
+
+use crate::arithmetic::I;
+use crate::bits::{has_bit, with_bit};
+use crate::flags::{flag_by, protected_at};
+use crate::processor::Processor;
+use crate::transfers::{pointed, port};
+use avr_decode::pointer_register;
+use avr_model::choice::StepResult;
+use avr_model::device::SREG;
+use avr_model::effect::Write;
+use avr_model::instruction::{Base, Pointer};
+use flash_image::Flash;
+use vector_table::Assumptions;
+
+impl Processor {
+    /// The next word.
+    fn next(&self) -> u16
+        ensures value { result ≡ wrapped self.now.device (further self.now 1) }
+        ensures inside { result < words_of self.now.device }
+    {
+        self.device.wrap(self.further(1))
+    }
+
+    /// Stores a byte at a data address, and goes on at a word, unless it goes onto a live byte or a protected address is told.
+    #[tactic(auto, unfolding(avr_model::specs::Step::memory_after))]
+    #[inline(always)]
+    fn store_step(
+        &mut self,
+        protected: Option<u16>,
+        write: Write,
+        next: u16,
+        delay: bool,
+    ) -> StepResult
+        requires { next < words_of self.old.device }
+        ensures answer { result ≡ result_of (store_answer self.old protected (record (storing self.old write.address write.byte) { pc = next; delay = delay })) }
+        ensures state { self.new ≡ state_after self.old (store_answer self.old protected (record (storing self.old write.address write.byte) { pc = next; delay = delay })) }
+    {
+        let live = self.memory.live_at(write);
+        match flag_by(self.pc, live, protected, None) {
+            Some(flag) => StepResult::Flagged(flag),
+            None => {
+                self.store(&write);
+                self.go_to(next);
+                self.pc = next;
+                self.delay = delay;
+                StepResult::Done
+            }
+        }
+    }
+
+    /// `std`.
+    pub fn store_displaced(
+        &mut self,
+        flash: &Flash,
+        assumptions: &Assumptions,
+        base: Base,
+        displacement: u16,
+        r: u16,
+    ) -> StepResult
+        requires { r < 32 }
+        ensures answer { result ≡ result_of (store_answer self.old (protected_at flash.now assumptions.now self.old.pc (record { address = plus16 (pair self.old (base_register base)) displacement; byte = register self.old r })) (storing self.old (plus16 (pair self.old (base_register base)) displacement) (register self.old r))) }
+        ensures state { self.new ≡ state_after self.old (store_answer self.old (protected_at flash.now assumptions.now self.old.pc (record { address = plus16 (pair self.old (base_register base)) displacement; byte = register self.old r })) (storing self.old (plus16 (pair self.old (base_register base)) displacement) (register self.old r))) }
+    {
+        let address = self.displaced(base, displacement);
+        let byte = self.register(r);
+        let protected = protected_at(flash, assumptions, self.pc, Write { address, byte });
+        let next = self.next();
+        self.store_step(protected, Write { address, byte }, next, false)
+    }
+
+    /// `sts`, an instruction of two words.
+    pub fn store_direct(&mut self, address: u16, r: u16) -> StepResult
+        requires { r < 32 }
+        ensures answer { result ≡ result_of (store_answer self.old None (record (storing self.old address (register self.old r)) { pc = further self.old 2 })) }
+        ensures state { self.new ≡ state_after self.old (store_answer self.old None (record (storing self.old address (register self.old r)) { pc = further self.old 2 })) }
+    {
+        let byte = self.register(r);
+        let next = self.further(2);
+        self.store_step(None, Write { address, byte }, next, false)
+    }
+
+    /// `st` through a pointer: the byte is read, then the pointer changes, then the byte is stored.
+    #[tactic(auto, unfolding(avr_model::specs::Step::memory_after))]
+    pub fn store_through(
+        &mut self,
+        flash: &Flash,
+        assumptions: &Assumptions,
+        pointer: Pointer,
+        r: u16,
+    ) -> StepResult
+        requires { r < 32 }
+        ensures answer { result ≡ result_of (store_answer self.old (protected_at flash.now assumptions.now self.old.pc (record { address = pointed pointer (pair self.old (pointer_register pointer)); byte = register self.old r })) (store_effect self.old pointer r)) }
+        ensures state { self.new ≡ state_after self.old (store_answer self.old (protected_at flash.now assumptions.now self.old.pc (record { address = pointed pointer (pair self.old (pointer_register pointer)); byte = register self.old r })) (store_effect self.old pointer r)) }
+    {
+        let at = self.pair(pointer_register(pointer));
+        let address = pointed(pointer, at);
+        let byte = self.register(r);
+        let protected = protected_at(flash, assumptions, self.pc, Write { address, byte });
+        let live = self.memory.live_at(Write { address, byte });
+        match flag_by(self.pc, live, protected, None) {
+            Some(flag) => StepResult::Flagged(flag),
+            None => {
+                self.move_pointer(pointer, at);
+                self.store(&Write { address, byte });
+                self.go_on();
+                StepResult::Done
+            }
+        }
+    }
+
+    /// `out`: one more instruction executes before any interrupt where it turns I on (own for `out`).
+    pub fn output(&mut self, address: u16, r: u16) -> StepResult
+        requires address { address < 64 }
+        requires r { r < 32 }
+        ensures answer { result ≡ result_of (store_answer self.old None (out_effect self.old (port address) (register self.old r))) }
+        ensures state { self.new ≡ state_after self.old (store_answer self.old None (out_effect self.old (port address) (register self.old r))) }
+    {
+        let address = port(address);
+        let byte = self.register(r);
+        let next = self.next();
+        let delay = self.is_turned_on(address, byte);
+        self.store_step(None, Write { address, byte }, next, delay)
+    }
+
+    /// Whether `out` of this byte turns I on.
+    fn is_turned_on(&self, address: u16, byte: u8) -> bool
+        ensures { result ≡ delay_of_out self.now address byte }
+    {
+        address == SREG && has_bit(byte, I) && !self.flag(I)
+    }
+
+    /// `sbi` where `on` holds, and else `cbi`: that bit alone changes, where it is held.
+    pub fn change_bit(&mut self, address: u16, index: u16, on: bool) -> StepResult
+        requires address { address < 64 }
+        requires index { index < 8 }
+        ensures answer { result ≡ result_of (store_answer self.old None (bit_effect self.old (port address) index on)) }
+        ensures state { self.new ≡ state_after self.old (store_answer self.old None (bit_effect self.old (port address) index on)) }
+    {
+        let address = port(address);
+        let byte = with_bit(self.read(address, 0), index, on);
+        let next = self.next();
+        self.store_step(None, Write { address, byte }, next, false)
+    }
+}
