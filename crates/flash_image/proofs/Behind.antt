@@ -4,6 +4,7 @@ use Rattle.std.specs.List.{position_from}
 use Rattle.std.proofs.lemmas.Bool.Decides.{nat_tests}
 use Rattle.std.proofs.lemmas.List.{get_or-drop, get_or-take, length-drop, length-take-le}
 use Rattle.std.proofs.lemmas.Grind.{same_number_lists}
+use Rattle.basics.specs.Numbers.{one_step_on}
 use Rattle.avr_model.specs.declared.device.Device.{Device}
 use Rattle.avr_model.specs.Devices.{words_of}
 use Rattle.avr_model.specs.Image.{WORDS, IsNarrowed, IsOutside}
@@ -20,9 +21,6 @@ all_erased (x ∷ xs) at f =
     ap (λ (w : ℕ). cond (is_written w) (Some at) (position_from is_written (at + 1) xs)) (f 0 (omega arith))
     ∙ all_erased xs (at + 1) (λ k lt. f (suc k) (omega (arith, lt)))
 
-further : (at k : ℕ) → at + 1 + k ≡ at + suc k
-further at k = omega arith
-
 first_written : (xs : List ℕ) (at k : ℕ) → k < length xs → slice_index xs k ≢ 0xFFFF → ((j : ℕ) → j < k → slice_index xs j ≡ 0xFFFF) → position_from is_written at xs ≡ Some (at + k)
 first_written [] at k lt n f = absurd (let wrong : k < 0 = lt in omega arith)
 first_written (x ∷ xs) at zero lt n f =
@@ -31,7 +29,7 @@ first_written (x ∷ xs) at zero lt n f =
 first_written (x ∷ xs) at (suc k) lt n f =
     ap (λ (w : ℕ). cond (is_written w) (Some at) (position_from is_written (at + 1) xs)) (f 0 (omega arith))
     ∙ first_written xs (at + 1) k (let less : suc k < suc (length xs) = lt in omega arith) n (λ j less. f (suc j) (omega (arith, less)))
-    ∙ ap Some (further at k)
+    ∙ ap Some (one_step_on at k)
 
 is_erased : (x : ℕ) → is_written x ≡ false → x ≡ 0xFFFF
 is_erased x e = grind (arith, nat_tests)
