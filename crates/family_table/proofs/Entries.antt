@@ -1,5 +1,5 @@
 -- A table of entries with distinct keys, read as a family.
-use Rattle.std.proofs.Common.{◌≡◌, ℕ, zero, suc, ◌+◌, ◌++◌, take, slice_get, Bool, true, false, cond, Some, None, Result, Ok, Err, List, [], ◌∷◌, length, slice_index_or, refl, sym, ap, ◌∙◌, subst, arith}
+use Rattle.std.proofs.Common.{◌≡◌, ℕ, suc, ◌+◌, Bool, true, false, cond, Some, None, Result, Ok, Err, List, [], ◌∷◌, length, slice_index_or, refl, sym, ap, ◌∙◌, subst, arith}
 use Rattle.std.specs.List.{AllByRecursion, IsDistinct}
 use Rattle.std.specs.Option.{is_some}
 use Rattle.std.specs.Map.{lookup, keys_of}
@@ -10,7 +10,7 @@ use Rattle.std.specs.List.Sorted.{IsSorted}
 use Rattle.std.specs.Prelude.{T, ◌&&◌}
 use Rattle.std.specs.FinMap.Entries.{is_sorted, below_all, same_entries}
 use Rattle.mask_states.proofs.AllLaws.{keys_are_ordered}
-use Rattle.std.specs.FinMap.{get, insert, from_entries, entries, keys, get-entries, entries_sorted, len, same_map, get-insert, get-from_entries, len-insert, len-empty}
+use Rattle.std.specs.FinMap.{get, insert, from_entries, entries, get-entries, entries_sorted, len, same_map, get-insert, get-from_entries, len-insert, len-empty}
 use Rattle.std.specs.FinMap.Entries.{find}
 use Rattle.abs_state.specs.declared.state.AbsState.{AbsState}
 use Rattle.mask_states.specs.declared.keys.NodeKey.{NodeKey}
@@ -20,6 +20,7 @@ use Rattle.abs_state.specs.Order.{state_join}
 use Rattle.local_rules.specs.declared.local.Node.{Node}
 use Rattle.family_table.specs.Families.{Family, joined_with, raised}
 use Rattle.std.specs.Prelude.{OnOk, OnErr}
+use Rattle.basics.specs.Booleans.{join_tests, less_if_so, so_if_less}
 use Rattle.mask_states.specs.Keys.{offset_of}
 use Rattle.family_table.specs.Sized.{AreSized}
 use Rattle.round_laws.proofs.AllLaws.{node_exact}
@@ -87,10 +88,6 @@ inserted_sized N (Err e) es es' f n is sized count found up same says = subst Ar
 pub table_same : (es es' : List (NodeKey × AbsState)) → ((q : NodeKey) → lookup (same_node q) es' ≡ lookup (same_node q) es) → from_entries {R = node_cmp} es' ≡ from_entries es
 table_same es es' same = same_map node_total node_exact (from_entries es') (from_entries es) (λ q. table_get es' q ∙ same q ∙ sym (table_get es q))
 
-both : (a b : Bool) → T a → T b → T (a && b)
-both true b p q = q
-both false b p q = p
-
 first : (a b : Bool) → T (a && b) → T a
 first true b p = tt
 first false b p = p
@@ -99,21 +96,11 @@ second : (a b : Bool) → T (a && b) → T b
 second true b p = p
 second false b p = absurd p
 
-is_less : (r : Ordering) → T (is_lt r) → r ≡ Less
-is_less Less p = refl
-is_less Equal p = absurd p
-is_less Greater p = absurd p
-
-less_is : (r : Ordering) → r ≡ Less → T (is_lt r)
-less_is Less p = tt
-less_is Equal p = absurd (cc)
-less_is Greater p = absurd (cc)
-
 below_through : (x y : NodeKey) (es : List (NodeKey × AbsState)) → node_cmp x y ≡ Less → T (below_all node_cmp y es) → T (below_all node_cmp x es)
 below_through x y [] less h = tt
 below_through x y (e ∷ es) less h =
-    both (is_lt (node_cmp x e.0)) (below_all node_cmp x es)
-    (less_is (node_cmp x e.0) (node_total.trans x y e.0 less (is_less (node_cmp y e.0) (first (is_lt (node_cmp y e.0)) (below_all node_cmp y es) h))))
+    join_tests (is_lt (node_cmp x e.0)) (below_all node_cmp x es)
+    (so_if_less (node_cmp x e.0) (node_total.trans x y e.0 less (less_if_so (node_cmp y e.0) (first (is_lt (node_cmp y e.0)) (below_all node_cmp y es) h))))
     (below_through x y es less (second (is_lt (node_cmp y e.0)) (below_all node_cmp y es) h))
 
 -- neighbours that are not equal, of which the second is not less
@@ -139,8 +126,8 @@ ascend (e ∷ []) sorted distinct = tt
 ascend (e ∷ f ∷ es) sorted distinct =
     let less = neighbours e.0 f.0 (sorted 0 e.0 (omega arith) (omega arith)) distinct.0.0 in
     let rest = ascend (f ∷ es) (λ k d low high. later e f es k d (sorted (suc k) d (omega arith) (omega arith))) distinct.1 in
-    both (below_all node_cmp e.0 (f ∷ es)) (is_sorted node_cmp (f ∷ es))
-    (both (is_lt (node_cmp e.0 f.0)) (below_all node_cmp e.0 es) (less_is (node_cmp e.0 f.0) less) (below_through e.0 f.0 es less (first (below_all node_cmp f.0 es) (is_sorted node_cmp es) rest)))
+    join_tests (below_all node_cmp e.0 (f ∷ es)) (is_sorted node_cmp (f ∷ es))
+    (join_tests (is_lt (node_cmp e.0 f.0)) (below_all node_cmp e.0 es) (so_if_less (node_cmp e.0 f.0) less) (below_through e.0 f.0 es less (first (below_all node_cmp f.0 es) (is_sorted node_cmp es) rest)))
     rest
 
 -- sorted entries are those of the family

@@ -1,13 +1,13 @@
 -- Families by what they have at each key.
 use Rattle.std.proofs.Common.{◌≡◌, ◌≢◌, ◌↔◌, sym, ap, ◌∙◌, subst, Bool, false, Some, None, length}
 use Rattle.std.specs.Prelude.{IsTrue}
-use Rattle.std.specs.FinMap.{get, insert, same_map}
+use Rattle.std.specs.FinMap.{get, insert}
+use Rattle.std.proofs.lemmas.Option.{same_Some}
 use Rattle.abs_state.specs.declared.state.AbsState.{AbsState}
 use Rattle.abs_state.specs.Order.{IsStateWithin}
 use Rattle.mask_states.specs.declared.keys.NodeKey.{NodeKey}
 use Rattle.mask_states.specs.Keys.{offset_of}
-use Rattle.mask_states.specs.Total.{node_total}
-use Rattle.round_laws.proofs.AllLaws.{node_exact, at_keys, get_same, get_other, some_same}
+use Rattle.round_laws.proofs.AllLaws.{at_keys, get_same, get_other, insert_again}
 use Rattle.local_rules.specs.declared.local.Node.{Node}
 use Rattle.family_table.specs.Families.{Family, Lands}
 use Rattle.family_table.specs.Sized.{AreSized}
@@ -17,7 +17,7 @@ use Rattle.family_table.specs.Sized.{AreSized}
 pub lands_if : (f : Family) (n : Node) (s : AbsState) → get f n.key ≡ Some s → (b : Bool) → IsTrue b ↔ IsStateWithin n.state s → IsTrue b ↔ Lands f n
 lands_if f n s is b within = (
   λ t. record { at = s; is = is; above = within.0 t },
-  λ l. within.1 (subst (IsStateWithin n.state) (some_same l.at s (sym l.is ∙ is)) l.above),
+  λ l. within.1 (subst (IsStateWithin n.state) (same_Some l.at s (sym l.is ∙ is)) l.above),
 )
 
 pub lands_never : (f : Family) (n : Node) → get f n.key ≡ None → IsTrue false ↔ Lands f n
@@ -28,19 +28,13 @@ lands_never f n none = (λ t. absurd (cc), λ l. absurd (let never = sym none �
 pub insert_sized : (f : Family) (k : NodeKey) (v : AbsState) → AreSized f → length v.slots ≡ offset_of k.sp → AreSized (insert f k v)
 insert_sized f k v sized count q s =
     at_keys (λ q. get (insert f k v) q ≡ Some s → length s.slots ≡ offset_of q.sp) k q
-    (λ is. subst (λ (x : AbsState). length x.slots ≡ offset_of k.sp) (some_same v s (sym (get_same f k v) ∙ is)) count)
+    (λ is. subst (λ (x : AbsState). length x.slots ≡ offset_of k.sp) (same_Some v s (sym (get_same f k v) ∙ is)) count)
     (λ ne is. sized q s (sym (get_other f k v q ne) ∙ is))
-
--- to insert what is there changes nothing
-pub insert_again : (f : Family) (k : NodeKey) (v : AbsState) → get f k ≡ Some v → insert f k v ≡ f
-insert_again f k v is =
-    same_map node_total node_exact (insert f k v) f
-    (λ q. at_keys (λ q. get (insert f k v) q ≡ get f q) k q (get_same f k v ∙ sym is) (λ ne. get_other f k v q ne))
 
 -- another state makes another family
 pub grew_if : (f : Family) (k : NodeKey) (s v : AbsState) → get f k ≡ Some s → (v ≢ s) ↔ (insert f k v ≢ f)
 grew_if f k s v is = (
-  (λ ne e. ne (some_same v s (sym (get_same f k v) ∙ ap (λ g. get g k) e ∙ is))),
+  (λ ne e. ne (same_Some v s (sym (get_same f k v) ∙ ap (λ g. get g k) e ∙ is))),
   (λ ne e. ne (ap (insert f k) e ∙ insert_again f k s is)),
 )
 

@@ -1,3 +1,5 @@
 pub mod Families
 pub mod Entries
+pub mod Shared
+pub mod Raised
 pub mod Groups

@@ -1,4 +1,5 @@
 pub mod Hashes
 pub mod Sized
+pub mod Shared
 pub mod Families
 pub mod Crossings

@@ -2,7 +2,10 @@
 #![tactic(auto)]
 
 pub mod crossings;
+pub mod gathered;
+mod place;
 pub mod table;
 
 pub use crossings::{Crossing, Crossings};
+pub use gathered::Gathered;
 pub use table::Table;

@@ -1,96 +1,37 @@
 //! The state of each node.
 
-ghost use Rattle.std.specs.Prelude.{◌≡◌, ◌≢◌, ◌↔◌, refl, length, IsTrue, IfOk, OnErr};
+ghost use Rattle.std.specs.Prelude.{◌≡◌, ◌≢◌, ◌<◌, ◌↔◌, length, IsTrue, IfOk, OnErr};
 ghost use Rattle.std.specs.Prelude.{map as list_map};
 ghost use Rattle.std.specs.Option.{option_copied};
 ghost use Rattle.std.specs.FinMap.{get, empty, len};
-ghost use Rattle.std.specs.Ordering.{as_partial_cmp};
-ghost use Rattle.mask_states.specs.Order.{same_node, node_cmp};
-ghost use Rattle.mask_states.specs.Total.{node_equivalence, node_partial, node_total, node_equal};
+ghost use Rattle.abs_state.specs.Order.{state_join};
 ghost use Rattle.mask_states.specs.Keys.{offset_of};
+ghost use Rattle.state_pool.specs.Uses.{AreBelow};
+ghost use Rattle.state_pool.specs.Counts.{state_at, count_at};
 ghost use Rattle.family_table.specs.Families.{Lands, raised, nodes_of, node_of};
-ghost use Rattle.family_table.specs.Hashes.{key_hash, alike};
+ghost use Rattle.family_table.specs.Shared.{stated, AreCounted, IsMoved};
 
+use crate::place::Place;
 use abs_state::AbsState;
 use indexmap::IndexMap;
 use local_rules::Node;
 use mask_states::NodeKey;
+use state_pool::Pool;
+use state_pool::laws::{counts_follow, releases_undo};
 use std::alloc::{AllocError, Global};
-use std::cmp::Ordering;
-use std::hash::{Hash, Hasher};
 use std::marker::Model;
 
-/// A node's key, to be hashed. Seen as the key.
-#[derive(Drop)]
-struct Place {
-    key: NodeKey,
-}
+// The most entries, and the most different states: as many as the pool counts.
+const MOST: usize = 4_294_967_294;
 
-impl Model for Place {
-    ghost use Rattle.mask_states.specs.declared.keys.NodeKey.{NodeKey};
-
-    ghost Value = { NodeKey };
-
-    ghost view = { λ p. p.key };
-}
-
-impl PartialEq for Place {
-    ghost eq = { same_node };
-
-    ghost laws = { node_equivalence.0 };
-
-    fn eq(&self, other: &Place) -> bool {
-        self.key == other.key
-    }
-}
-
-impl Eq for Place {
-    ghost laws = { node_equivalence.1 };
-}
-
-impl PartialOrd for Place {
-    ghost partial_cmp = { as_partial_cmp node_cmp };
-
-    ghost laws = { node_partial };
-
-    fn partial_cmp(&self, other: &Place) -> Option<Ordering> {
-        Some(self.key.cmp(&other.key))
-    }
-}
-
-impl Ord for Place {
-    ghost cmp = { node_cmp };
-
-    ghost total = { node_total };
-
-    ghost matches_partial_cmp = { λ a b. refl };
-
-    ghost matches_eq = { node_equal };
-
-    fn cmp(&self, other: &Place) -> Ordering {
-        self.key.cmp(&other.key)
-    }
-}
-
-impl Hash for Place {
-    ghost hash_input = { key_hash };
-
-    ghost respects_eq = { alike };
-
-    fn hash<H: Hasher>(&self, state: &mut H) {
-        self.key.inst.entry.hash(state);
-        self.key.inst.masks.bits().hash(state);
-        self.key.pc.hash(state);
-        self.key.masks.bits().hash(state);
-        self.key.offset().hash(state);
-    }
-}
-
-/// The state of each node, with the nodes numbered as they came. Seen as a map from their keys. Each state has as many slots as its
-/// key's offset says.
+/// The state of each node, with the nodes numbered as they came; equal states are kept once. Seen as a map from their keys. Each state
+/// has as many slots as its key's offset says.
 #[derive(Drop)]
 pub struct Table {
-    map: IndexMap<Place, AbsState>,
+    /// The number of each node's state.
+    map: IndexMap<Place, u32>,
+    /// The states, each with as many uses as nodes have it.
+    pool: Pool,
 }
 
 impl Model for Table {
@@ -101,15 +42,15 @@ impl Model for Table {
     ghost use Rattle.std.specs.Map.{keys_of};
     ghost use Rattle.mask_states.specs.Order.{node_cmp, same_node};
     ghost use Rattle.abs_state.specs.declared.state.AbsState.{AbsState};
-    ghost use Rattle.family_table.specs.Sized.{AreSized};
+    ghost use Rattle.family_table.specs.Shared.{stated, IsShared};
 
     ghost Value = { FinMap node_cmp AbsState };
 
     ghost coded = { code node_key.the_row.coded abs_state.the_row.coded };
 
-    ghost view = { λ t. from_entries t.map.entries };
+    ghost view = { λ t. from_entries (stated t.pool t.map.entries) };
 
-    ghost invariant = { λ t. AreSized (from_entries t.map.entries) × IsDistinct same_node (keys_of t.map.entries) };
+    ghost invariant = { λ t. IsShared t.pool t.map.entries };
 }
 
 impl Table {
@@ -119,6 +60,7 @@ impl Table {
     {
         Table {
             map: IndexMap::new(alloc),
+            pool: Pool::new(alloc),
         }
     }
 
@@ -133,7 +75,10 @@ impl Table {
     pub fn get(&self, key: &NodeKey) -> Option<&AbsState>
         ensures { option_copied result ≡ get self.now key.now }
     {
-        self.map.get(&Place { key: *key })
+        match self.map.get(&Place { key: *key }) {
+            Some(number) => Some(self.pool.get(*number)),
+            None => None,
+        }
     }
 
     /// Whether the node lands here: its key has a state that is at least its own.
@@ -142,24 +87,43 @@ impl Table {
         ensures { IsTrue result ↔ Lands self.now node.now }
     {
         match self.map.get(&Place { key: node.key }) {
-            Some(state) => node.state.le(state),
+            Some(number) => node.state.le(self.pool.get(*number)),
             None => false,
         }
     }
 
     /// Joins a state into that of its node, or adds the node. Gives whether the table is another then.
-    pub fn raise(&mut self, node: Node) -> Result<bool, AllocError>
+    pub fn raise(&mut self, alloc: Global, node: Node) -> Result<bool, AllocError>
         requires { length node.state.slots ≡ offset_of node.key.sp }
         ensures ok { IfOk result (λ grew. self.new ≡ raised self.old node) }
         ensures grew { IfOk result (λ grew. IsTrue grew ↔ (self.new ≢ self.old)) }
         ensures err { OnErr result (self.new ≡ self.old) }
     {
+        counts_follow();
+        releases_undo();
+        if self.map.len() > MOST || self.pool.len() > MOST {
+            return Err(AllocError);
+        }
         let place = Place { key: node.key };
-        match self.map.get_mut(&place) {
-            Some(state) => Ok(state.join_into(&node.state)),
+        match self.map.get(&place) {
+            Some(number) => {
+                let (number, grew) = joined(&mut self.pool, alloc, *number, &node.state)?;
+                match self.map.insert(place, number) {
+                    Ok(_) => Ok(grew),
+                    Err(_) => unreachable!(),
+                }
+            }
             None => {
-                self.map.insert(place, node.state)?;
-                Ok(true)
+                let Ok(number) = self.pool.intern(node.state) else {
+                    return Err(AllocError);
+                };
+                match self.map.insert(place, number) {
+                    Ok(_) => Ok(true),
+                    Err(_) => {
+                        self.pool.release(number);
+                        Err(AllocError)
+                    }
+                }
             }
         }
     }
@@ -170,18 +134,52 @@ impl Table {
     {
         let mut map = self.map;
         map.sort_keys()?;
-        let all = nodes_in(map, alloc)?;
+        let all = nodes_in(map, self.pool, alloc)?;
         Ok(all)
     }
 }
 
-// The nodes by their numbers.
-fn nodes_in(map: IndexMap<Place, AbsState>, alloc: Global) -> Result<Vec<Node>, AllocError>
-    ensures { IfOk result (λ all. all.items ≡ list_map node_of map.entries) }
+// Joins a state into that of a number, of which one use goes over to the number that the join has. Gives this number, and whether the join
+// is another state.
+fn joined(
+    pool: &mut Pool,
+    alloc: Global,
+    number: u32,
+    other: &AbsState,
+) -> Result<(u32, bool), AllocError>
+    requires few { len pool.old < 4294967295 }
+    requires counts { AreBelow 4294967295 pool.old }
+    requires there { 0 < count_at pool.old number }
+    requires slots { length (state_at pool.old number).slots ≡ length other.now.slots }
+    ensures moved { IfOk result (λ r. IsMoved pool.old number (state_join (state_at pool.old number) other.now) r.0 pool.new) }
+    ensures grew { IfOk result (λ r. IsTrue r.1 ↔ (state_join (state_at pool.old number) other.now ≢ state_at pool.old number)) }
+    ensures slots { IfOk result (λ r. length (state_at pool.new r.0).slots ≡ length other.now.slots) }
+    ensures err { OnErr result (pool.new ≡ pool.old) }
 {
+    counts_follow();
+    let mut state = pool.get(number).copy(alloc)?;
+    if !state.join_into(other) {
+        return Ok((number, false));
+    }
+    let Ok(next) = pool.intern(state) else {
+        return Err(AllocError);
+    };
+    pool.release(number);
+    Ok((next, true))
+}
+
+// The nodes by their numbers. A state goes out of the pool with the last node that has it, so that few are there twice.
+fn nodes_in(map: IndexMap<Place, u32>, pool: Pool, alloc: Global) -> Result<Vec<Node>, AllocError>
+    requires { AreCounted pool map.entries }
+    ensures { IfOk result (λ all. all.items ≡ list_map node_of (stated pool map.entries)) }
+{
+    counts_follow();
+    let mut pool = pool;
     let mut all = Vec::new(alloc);
-    for (place, state) in map {
+    for (place, number) in map {
         let key = place.key;
+        let state = pool.get(number).copy(alloc)?;
+        pool.release(number);
         all.push(Node { key, state })?;
     }
     Ok(all)

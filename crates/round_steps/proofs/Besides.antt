@@ -3,10 +3,10 @@ use Rattle.std.proofs.Common.{◌≡◌, sym, ap, ◌∙◌, subst, ℕ, ◌+◌
 use Rattle.std.specs.Prelude.{◌↔◌}
 use Rattle.std.proofs.lemmas.List.{take_more}
 use Rattle.std.proofs.lemmas.List.Elements.{Contains-append_left, Contains-push, Contains-push_cases}
+use Rattle.basics.specs.Items.{none_in}
 use Rattle.mask_states.specs.declared.keys.InstKey.{InstKey}
 use Rattle.mask_states.specs.declared.keys.NodeKey.{NodeKey}
 use Rattle.local_rules.specs.declared.local.Exit.{Exit}
-use Rattle.local_laws.proofs.AllLaws.{none_in}
 use Rattle.call_graph.specs.declared.ways.Way.{Way}
 use Rattle.family_table.specs.declared.crossings.Crossing.{Crossing}
 use Rattle.family_table.specs.Crossings.{Groups, IsAdded}

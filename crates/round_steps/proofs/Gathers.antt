@@ -3,6 +3,8 @@ use Rattle.std.proofs.Common.{◌≡◌, ◌≢◌, refl, sym, ap, ◌∙◌, su
 use Rattle.std.proofs.lemmas.List.{append-nil}
 use Rattle.std.proofs.lemmas.List.Elements.{Contains-append_left, Contains-push, Contains-push_cases}
 use Rattle.std.specs.FinMap.{get, empty, get-empty}
+use Rattle.basics.specs.Items.{none_in, first_in}
+use Rattle.std.proofs.lemmas.Option.{same_Some}
 use Rattle.abs_state.specs.declared.state.AbsState.{AbsState}
 use Rattle.abs_state.specs.Order.{IsStateWithin}
 use Rattle.abs_state.proofs.AllLaws.{states_are_ordered}
@@ -11,11 +13,11 @@ use Rattle.mask_states.specs.Order.{node_cmp}
 use Rattle.local_rules.specs.declared.local.Node.{Node}
 use Rattle.local_rules.specs.Cover.{IsNode}
 use Rattle.local_laws.specs.Laws.{AreNodes}
-use Rattle.local_laws.proofs.AllLaws.{none_in, here, each_of}
+use Rattle.local_laws.proofs.AllLaws.{each_of}
 use Rattle.call_graph.specs.Next.{gathered}
 use Rattle.round_rules.specs.Families.{Family, nodes_of, Has, Lands, AreFormed}
 use Rattle.round_laws.specs.Steps.{joined_with, raised, AreJoined}
-use Rattle.round_laws.proofs.AllLaws.{families_are_their_nodes, rounds_are_joins, lands_up, lands_covered, at_keys, get_same, get_other, some_same}
+use Rattle.round_laws.proofs.AllLaws.{families_are_their_nodes, rounds_are_joins, lands_up, lands_covered, at_keys, get_same, get_other}
 use Rattle.round_steps.specs.Gathers.{IsGathered, AreGathered, AreBeyond}
 
 nothing_there : (n : Node) → Has empty n → ⊥
@@ -47,13 +49,13 @@ module _ (f old : Family) (all : List Node) (n : Node) (node : IsNode n.key n.st
   joined = rounds_are_joins.joined old (n ∷ []) g.formed (each_of (λ m. IsNode m.key m.state) n [] node (λ m i. absurd (none_in m i)))
 
   landed : Lands (raised old n) n
-  landed = joined.lands n (here n [])
+  landed = joined.lands n (first_in n [])
 
   beyond_still : (Lands f n → ⊥) → (m : Node) → Has (raised old n) m → Lands f m → ⊥
   beyond_still never m has =
       at_keys (λ q. (s : AbsState) → get (raised old n) q ≡ Some s → Lands f (record { key = q; state = s }) → ⊥) n.key m.key
       (λ s e l.
-      never (lands_below f n (record { key = n.key; state = s }) refl (subst (IsStateWithin n.state) (some_same landed.at s (sym landed.is ∙ e)) landed.above) l))
+      never (lands_below f n (record { key = n.key; state = s }) refl (subst (IsStateWithin n.state) (same_Some landed.at s (sym landed.is ∙ e)) landed.above) l))
       (λ ne s e l. g.beyond (record { key = m.key; state = s }) (sym (get_other old n.key (joined_with (get old n.key) n.state) m.key ne) ∙ e) l) m.state has
 
   joins_in : (Lands f n → ⊥) → AreGathered f (all ++ n ∷ []) (raised old n)

@@ -1,10 +1,10 @@
 -- One node more is joined into a family.
-use Rattle.std.proofs.Common.{◌≡◌, ◌≢◌, ◌↔◌, refl, sym, ap, ◌∙◌, subst, ℕ, ◌+◌, ◌<◌, ◌≤◌, ⊎_elim, List, [], ◌∷◌, ◌++◌, length, map, Some, None, Result, Ok, Err, IfOk, Contains, cond, arith, length-append, append_assoc}
+use Rattle.std.proofs.Common.{◌≡◌, ◌≢◌, ◌↔◌, refl, sym, ap, ◌∙◌, subst, ℕ, ◌+◌, ◌<◌, ◌≤◌, ⊎_elim, List, [], ◌∷◌, ◌++◌, length, map, Some, None, Result, Ok, Err, IfOk, Contains, arith, length-append, append_assoc}
 use Rattle.std.specs.declared.cmp.Ordering.TheVariants.{Less, Equal, Greater}
-use Rattle.std.specs.Ordering.{is_eq}
 use Rattle.std.proofs.lemmas.List.Elements.{Contains-append_left, Contains-push}
 use Rattle.std.specs.FinMap.{get, insert, entries, get-entries, entries-insert}
 use Rattle.std.specs.FinMap.Entries.{find, put, by_order}
+use Rattle.basics.specs.Items.{none_in, first_in, further_in as there}
 use Rattle.abs_state.specs.declared.state.AbsState.{AbsState}
 use Rattle.mask_states.specs.declared.keys.NodeKey.{NodeKey}
 use Rattle.mask_states.specs.Keys.{offset_of}
@@ -13,23 +13,17 @@ use Rattle.mask_states.specs.Total.{node_total}
 use Rattle.local_rules.specs.declared.local.Node.{Node}
 use Rattle.local_rules.specs.Cover.{IsNode}
 use Rattle.local_laws.specs.Laws.{AreNodes}
-use Rattle.local_laws.proofs.AllLaws.{none_in, here, there, each_of}
+use Rattle.local_laws.proofs.AllLaws.{each_of}
 use Rattle.certificate.specs.Claims.{cells_of}
 use Rattle.round_rules.specs.Families.{Family, Lands, AreFormed, cells}
 use Rattle.round_laws.specs.Steps.{joined_with, raised, raised_all, AreApart, weight}
-use Rattle.round_laws.proofs.AllLaws.{rounds_are_joins, at_keys, get_same, get_other, same_cells}
+use Rattle.round_laws.proofs.AllLaws.{rounds_are_joins, at_keys, get_same, get_other, same_cells, found_here, found_later}
 use Rattle.round_steps.specs.Joins.{keys_of, AreNew, SoFar}
 
 -- ---- cells
 
 abbrev keys_in : List (NodeKey × AbsState) → List NodeKey
 keys_in es = map (λ (x : NodeKey × AbsState). x.0) es
-
-found_here : (k : NodeKey) (e : NodeKey × AbsState) (es : List (NodeKey × AbsState)) → node_cmp k e.0 ≡ Equal → find node_cmp k (e ∷ es) ≡ Some e.1
-found_here k e es p = ap (λ r. cond (is_eq r) (Some e.1) (find node_cmp k es)) p
-
-found_later : (k : NodeKey) (e : NodeKey × AbsState) (es : List (NodeKey × AbsState)) → node_cmp k e.0 ≡ Greater → find node_cmp k (e ∷ es) ≡ find node_cmp k es
-found_later k e es p = ap (λ r. cond (is_eq r) (Some e.1) (find node_cmp k es)) p
 
 put_cells : (k : NodeKey) (v : AbsState) (es : List (NodeKey × AbsState)) → find node_cmp k es ≡ None
     → cells_of (keys_in (put node_cmp k v es)) ≡ 1 + offset_of k.sp + cells_of (keys_in es)
@@ -79,17 +73,17 @@ none_yet f count all counted formed nodes fresh apart = record {
 
 module _ (f : Family) (all : List Node) (g : Family) (n : Node) (left : List Node) (changed : List NodeKey) (before : ℕ) (so : SoFar f all g before (n ∷ left) changed) where
   node : IsNode n.key n.state
-  node = so.nodes n (here n left)
+  node = so.nodes n (first_in n left)
 
   other : (k : NodeKey) → k ≢ n.key → get (raised g n) k ≡ get g k
   other k ne = get_other g n.key (joined_with (get g n.key) n.state) k ne
 
   -- the node raises the family
   higher : weight g < weight (raised g n)
-  higher = ⊎_elim (λ same. absurd (so.fresh n (here n left) (subst (λ h. Lands h n) same landed))) (λ lt. lt) (rounds_are_joins.rises g n so.formed node)
+  higher = ⊎_elim (λ same. absurd (so.fresh n (first_in n left) (subst (λ h. Lands h n) same landed))) (λ lt. lt) (rounds_are_joins.rises g n so.formed node)
     where
       landed : Lands (raised g n) n
-      landed = (rounds_are_joins.joined g (n ∷ []) so.formed (each_of (λ m. IsNode m.key m.state) n [] node (λ m i. absurd (none_in m i)))).lands n (here n [])
+      landed = (rounds_are_joins.joined g (n ∷ []) so.formed (each_of (λ m. IsNode m.key m.state) n [] node (λ m i. absurd (none_in m i)))).lands n (first_in n [])
 
   more_joined : (count : ℕ) → count ≡ cells (raised g n) → SoFar f all (raised g n) count left (changed ++ n.key ∷ [])
   more_joined count counted = record {

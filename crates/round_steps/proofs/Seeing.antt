@@ -1,15 +1,15 @@
 -- One node more is looked at.
-use Rattle.std.proofs.Common.{◌≡◌, ◌≢◌, refl, sym, ap, ◌∙◌, subst, ℕ, ◌<◌, ◌≤◌, ◌⊎◌, inl, inr, ⊎_elim, List, [], ◌∷◌, ◌++◌, Option, Some, None, Result, Ok, Err, IfOk, IfErr, Contains, arith}
+use Rattle.std.proofs.Common.{◌≡◌, ◌≢◌, sym, ap, ◌∙◌, subst, ℕ, ◌<◌, ◌≤◌, ◌⊎◌, inl, inr, ⊎_elim, List, [], ◌∷◌, ◌++◌, Option, Some, None, Result, Ok, Err, IfOk, IfErr, Contains, arith}
 use Rattle.std.proofs.lemmas.List.Elements.{Contains-append_left, Contains-push, Contains-push_cases}
 use Rattle.std.specs.FinMap.{get}
+use Rattle.basics.specs.Items.{none_in}
 use Rattle.avr_model.specs.declared.assumption.Entry.{Entry}
 use Rattle.abs_state.specs.declared.state.AbsState.{AbsState}
 use Rattle.mask_states.specs.declared.keys.NodeKey.{NodeKey}
 use Rattle.local_rules.specs.declared.local.NodeFault.{NodeFault}
 use Rattle.local_rules.specs.declared.local.NodeFault.TheVariants.{Memory}
 use Rattle.local_rules.specs.Local.{local}
-use Rattle.local_rules.specs.Faults.{depth_of}
-use Rattle.local_laws.proofs.AllLaws.{none_in}
+use Rattle.local_rules.specs.Faults.{fault_offset}
 use Rattle.call_graph.specs.Ways.{ways_of}
 use Rattle.round_rules.specs.Families.{Family}
 use Rattle.round_rules.specs.Refusals.{IsNoLater, word_of}
@@ -17,23 +17,20 @@ use Rattle.round_steps.specs.declared.looking.Look.{Look}
 use Rattle.round_steps.specs.declared.looking.Seen.{Seen}
 use Rattle.round_steps.specs.Looks.{IsLook, AreSeen, IsFaultSeen, IsSeenBesides}
 
-pub later_itself : (x : NodeFault) → IsNoLater x x
-later_itself x = inr (refl, inr (refl, omega arith))
-
 pub later_through : (x y z : NodeFault) → IsNoLater x y → IsNoLater y z → IsNoLater x z
 later_through x y z (inl a) (inl b) = inl (omega (arith, a, b))
 later_through x y z (inl a) (inr b) = inl (omega (arith, a, b.0))
 later_through x y z (inr a) (inl b) = inl (omega (arith, b, a.0))
 later_through x y z (inr a) (inr b) = inr (a.0 ∙ b.0, by a.1 b.1)
   where
-    by : (word_of x < word_of y) ⊎ ((word_of x ≡ word_of y) × (depth_of x ≤ depth_of y)) → (word_of y < word_of z) ⊎ ((word_of y ≡ word_of z) × (depth_of y ≤ depth_of z))
-        → (word_of x < word_of z) ⊎ ((word_of x ≡ word_of z) × (depth_of x ≤ depth_of z))
+    by : (word_of x < word_of y) ⊎ ((word_of x ≡ word_of y) × (fault_offset x ≤ fault_offset y)) → (word_of y < word_of z) ⊎ ((word_of y ≡ word_of z) × (fault_offset y ≤ fault_offset z))
+        → (word_of x < word_of z) ⊎ ((word_of x ≡ word_of z) × (fault_offset x ≤ fault_offset z))
     by (inl a) (inl b) = inl (omega (arith, a, b))
     by (inl a) (inr b) = inl (omega (arith, a, b.0))
     by (inr a) (inl b) = inl (omega (arith, b, a.0))
     by (inr a) (inr b) = inr (a.0 ∙ b.0, omega (arith, a.1, b.1))
 
-some_fault : (x y : NodeFault) (o : Option NodeFault) → o ≡ Some x → o ≡ Some y → x ≡ y
+pub some_fault : (x y : NodeFault) (o : Option NodeFault) → o ≡ Some x → o ≡ Some y → x ≡ y
 some_fault x y o a b = cc
 
 some_state : (x y : AbsState) (o : Option AbsState) → o ≡ Some x → o ≡ Some y → x ≡ y

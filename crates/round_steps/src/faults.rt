@@ -1,7 +1,7 @@
 //! The order in which faults count.
 
 ghost use Rattle.std.specs.Prelude.{◌≡◌, ◌⊎◌, true, false};
-ghost use Rattle.local_rules.specs.Faults.{depth_of};
+ghost use Rattle.local_rules.specs.Faults.{fault_offset};
 ghost use Rattle.round_rules.specs.Refusals.{word_of, IsNoLater};
 
 use local_rules::NodeFault;
@@ -22,7 +22,7 @@ fn word(fault: &NodeFault) -> u16
 
 // The offset of one that is too deep.
 fn depth(fault: &NodeFault) -> u32
-    ensures { result ≡ depth_of fault.now }
+    ensures { result ≡ fault_offset fault.now }
 {
     match *fault {
         NodeFault::TooDeep(_, offset) => offset,

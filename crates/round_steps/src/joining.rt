@@ -37,14 +37,19 @@ fn cells_with(table: &Table, counted: u64, key: &NodeKey) -> Result<u64, AllocEr
 }
 
 // Joins one node into the table, whose cells are counted.
-fn join_one(table: &mut Table, counted: &mut u64, node: Node) -> Result<(), AllocError>
+fn join_one(
+    alloc: Global,
+    table: &mut Table,
+    counted: &mut u64,
+    node: Node,
+) -> Result<(), AllocError>
     requires count { counted.old ≡ cells table.old }
     requires node { IsNode node.key node.state }
     ensures joined { OnOk result (table.new ≡ raised table.old node) }
     ensures count { OnOk result (counted.new ≡ cells table.new) }
 {
     let more = cells_with(table, *counted, &node.key)?;
-    table.raise(node)?;
+    table.raise(alloc, node)?;
     *counted = more;
     Ok(())
 }
@@ -72,7 +77,7 @@ pub fn join_all(
     let mut changed = Vec::new(alloc);
     for node in nodes {
         let key = node.key;
-        join_one(table, counted, node)?;
+        join_one(alloc, table, counted, node)?;
         changed.push(key)?;
     }
     Ok(changed)

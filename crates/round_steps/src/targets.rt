@@ -15,7 +15,7 @@ use crate::noting::Notes;
 use abs_state::AbsState;
 use call_graph::ways::Way;
 use call_graph::{Caller, returned};
-use family_table::{Crossing, Crossings, Table};
+use family_table::{Crossing, Crossings, Gathered, Table};
 use local_rules::{Exit, Node};
 use mask_states::{InstKey, NodeKey};
 use std::alloc::{AllocError, Global};
@@ -211,7 +211,7 @@ fn add_targets(
 }
 
 // Joins a node into those of its key that are gathered, unless it lands in the family.
-fn gather_one(next: &mut Table, table: &Table, node: Node) -> Result<(), AllocError>
+fn gather_one(next: &mut Gathered, table: &Table, node: Node) -> Result<(), AllocError>
     requires { IsNode node.key node.state }
     ensures { OnOk result (IsGathered table.now next.old node next.new) }
 {
@@ -222,7 +222,7 @@ fn gather_one(next: &mut Table, table: &Table, node: Node) -> Result<(), AllocEr
     Ok(())
 }
 
-fn gather(next: &mut Table, table: &Table, nodes: Vec<Node>) -> Result<(), AllocError>
+fn gather(next: &mut Gathered, table: &Table, nodes: Vec<Node>) -> Result<(), AllocError>
     requires { AreNodes nodes.items }
     ensures { (before : List node_type.Node) → AreGathered table.now before next.old → OnOk result (AreGathered table.now (before ++ nodes.items) next.new) }
 {
@@ -245,7 +245,7 @@ pub fn targets(
     requires nodes { AreNodes (all_targets table.now notes.now looks.items) }
     ensures { IfOk result (λ all. AreBeyond table.now (all_targets table.now notes.now looks.items) all.items) }
 {
-    let mut next = Table::new(alloc);
+    let mut next = Gathered::new(alloc);
     for x in looks {
         let mut nodes = Vec::new(alloc);
         add_targets(&mut nodes, alloc, table, notes, x)?;

@@ -10,7 +10,7 @@ use Rattle.std.proofs.lemmas.Option.{none-some, same_Some, slice_get_within, sli
 use Rattle.std.proofs.lemmas.List.Edits.{swapped_from_swap, length-swap}
 use Rattle.indexmap.specs.Layout.{set_value_at}
 use Rattle.abs_state.specs.declared.state.AbsState.{AbsState}
-use Rattle.state_pool.specs.Same.{same_state}
+use Rattle.state_pool.specs.SameState.{same_state}
 use Rattle.state_pool.specs.Equal.{same_state_decides}
 use Rattle.std.proofs.Common.{inl, inr, Result, Ok, Err}
 use Rattle.std.specs.Prelude.{if◌then◌else◌, OnOk, is_err, is_some, IfSome}

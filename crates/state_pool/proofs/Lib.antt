@@ -1,4 +1,4 @@
-pub mod Same
+pub mod SameStates
 pub mod Lists
 pub mod Cases
 pub mod Swaps

@@ -1,5 +1,5 @@
 -- A number that tells most states apart.
-use Rattle.std.specs.Prelude.{ℕ, ◌+◌, ◌*◌, ◌%◌, ◌^◌, List, fold}
+use Rattle.std.specs.Prelude.{ℕ, ◌+◌, ◌-◌, ◌*◌, ◌%◌, ◌^◌, List, length, drop, fold}
 use Rattle.std.specs.Hash as fed
 use Rattle.sp_domain.specs.declared.slots.Slot.{Slot}
 use Rattle.sp_domain.specs.declared.slots.Slot.TheVariants.{Free, Guarded}
@@ -25,9 +25,14 @@ mix_value digest v = mix digest (ends_of v)
 abbrev pub mix_slot : ℕ → Slot AbsByte → ℕ
 mix_slot digest s = mix digest (slot_ends s)
 
--- the flags' bits, the registers' ranges and the slots'
+-- of the slots the last ones, which differ most
+abbrev pub last_slots : List (Slot AbsByte) → List (Slot AbsByte)
+last_slots slots = drop (length slots - 64) slots
+
+-- the flags' bits, the registers' ranges, how many slots there are, and the ranges of the last ones
 abbrev pub digest_of : AbsState → ℕ
-digest_of s = fold mix_slot (fold mix_value (s.flags.bits.known + 256 * s.flags.bits.value) s.registers) s.slots
+digest_of s =
+    fold mix_slot (mix (fold mix_value (s.flags.bits.known + 256 * s.flags.bits.value) s.registers) (length s.slots)) (last_slots s.slots)
 
 -- what of a state is fed to a hasher
 abbrev pub state_hash : AbsState → List (List ℕ)

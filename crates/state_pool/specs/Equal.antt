@@ -1,34 +1,24 @@
 -- The test of states decides whether they are the same.
-use Rattle.std.proofs.Common.{◌≡◌, refl, ap, ◌∙◌, subst, Bool, true, false}
-use Rattle.std.specs.Prelude.{IsTrue, ◌&&◌}
+use Rattle.std.proofs.Common.{◌≡◌, refl, ap, ◌∙◌, subst, true}
+use Rattle.std.specs.Prelude.{IsTrue}
 use Rattle.std.specs.Bool.{Decides}
 use Rattle.std.specs.Cmp.{IsEquivalence, IsPartialEquivalence, partial_equiv_from_equiv, decided}
 use Rattle.std.proofs.lemmas.Bool.Decides.{Decides-eqb}
+use Rattle.basics.specs.Booleans.{left_of_and, right_of_and}
+use Rattle.std.proofs.lemmas.Bool.{and_from}
 use base.Stored.{Gv}
 use base.Stored.Gv.{gnil, gnum, gcons}
 use Rattle.abs_state.specs.contracts.state.AbsState as abs_state
 use Rattle.abs_state.specs.declared.state.AbsState.{AbsState}
-use Rattle.state_pool.specs.Same.{same_tree, same_state}
+use Rattle.state_pool.specs.SameState.{same_tree, same_state}
 use Rattle.state_pool.specs.Digest.{state_hash}
-
-first : (a b : Bool) → (a && b) ≡ true → a ≡ true
-first true b e = refl
-first false b e = e
-
-second : (a b : Bool) → (a && b) ≡ true → b ≡ true
-second true b e = e
-second false b e = absurd (cc)
-
-both : (a b : Bool) → a ≡ true → b ≡ true → (a && b) ≡ true
-both true b e f = f
-both false b e f = e
 
 same_tree_is : (a b : Gv) → same_tree a b ≡ true → a ≡ b
 unfolding same_tree
 same_tree_is gnil gnil e = refl
 same_tree_is (gnum n) (gnum m) e = ap gnum ((Decides-eqb n m).0 e)
 same_tree_is (gcons a b) (gcons c d) e =
-    ap (λ x. gcons x b) (same_tree_is a c (first (same_tree a c) (same_tree b d) e)) ∙ ap (gcons c) (same_tree_is b d (second (same_tree a c) (same_tree b d) e))
+    ap (λ x. gcons x b) (same_tree_is a c (left_of_and (same_tree a c) (same_tree b d) e)) ∙ ap (gcons c) (same_tree_is b d (right_of_and (same_tree a c) (same_tree b d) e))
 same_tree_is gnil (gnum m) e = absurd (cc)
 same_tree_is gnil (gcons c d) e = absurd (cc)
 same_tree_is (gnum n) gnil e = absurd (cc)
@@ -40,7 +30,7 @@ tree_is_same : (a : Gv) → same_tree a a ≡ true
 unfolding same_tree
 tree_is_same gnil = refl
 tree_is_same (gnum n) = (Decides-eqb n n).1 refl
-tree_is_same (gcons a b) = both (same_tree a a) (same_tree b b) (tree_is_same a) (tree_is_same b)
+tree_is_same (gcons a b) = and_from (same_tree a a) (same_tree b b) (tree_is_same a) (tree_is_same b)
 
 pub same_state_decides : (s t : AbsState) → Decides (same_state s t) (s ≡ t)
 unfolding same_state

@@ -1,4 +1,4 @@
-pub mod Same
+pub mod SameState
 pub mod Digest
 pub mod Equal
 pub mod Uses

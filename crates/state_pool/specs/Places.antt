@@ -3,7 +3,7 @@ use Rattle.std.specs.Prelude.{ℕ, ◌≡◌, ◌<◌, ◌≤◌, List, [], ◌�
 use Rattle.std.specs.List.{IsDistinct}
 use Rattle.std.specs.Map.{keys_of}
 use Rattle.abs_state.specs.declared.state.AbsState.{AbsState}
-use Rattle.state_pool.specs.Same.{same_state}
+use Rattle.state_pool.specs.SameState.{same_state}
 use Rattle.state_pool.specs.Numbers.{AreNumbers}
 
 -- each state and its count under the number of its place

@@ -1,7 +1,7 @@
 //! States as keys of a table.
 
 ghost use Rattle.std.specs.Prelude.{◌≡◌, ◌↔◌, IsTrue, fold};
-ghost use Rattle.state_pool.specs.Same.{same_state};
+ghost use Rattle.state_pool.specs.SameState.{same_state};
 ghost use Rattle.state_pool.specs.Digest.{mix, ends_of, slot_ends, mix_value, mix_slot, digest_of, state_hash};
 ghost use Rattle.state_pool.specs.Equal.{state_equivalence, fed_alike};
 
@@ -50,7 +50,7 @@ impl Hash for Shared {
 }
 
 // Whether both are the same.
-#[tactic(auto, using(crate::proofs::Same::state_is))]
+#[tactic(auto, using(crate::proofs::SameStates::state_is))]
 fn is_same(state: &AbsState, other: &AbsState) -> bool
     ensures { IsTrue result ↔ (state.now ≡ other.now) }
 {
@@ -65,7 +65,7 @@ fn have_same_registers(state: &AbsState, other: &AbsState) -> bool
         && are_same_values(&state.registers, &other.registers)
 }
 
-#[tactic(auto, using(crate::proofs::Same::same_flags))]
+#[tactic(auto, using(crate::proofs::SameStates::same_flags))]
 fn are_same_flags(flags: &AbsFlags, other: &AbsFlags) -> bool
     ensures { IsTrue result ↔ (flags.now ≡ other.now) }
 {
@@ -92,7 +92,7 @@ fn are_same_slots(slots: &[Slot<AbsByte>], others: &[Slot<AbsByte>]) -> bool
     true
 }
 
-#[tactic(auto, using(crate::proofs::Same::same_value))]
+#[tactic(auto, using(crate::proofs::SameStates::same_value))]
 fn is_same_slot(slot: &Slot<AbsByte>, other: &Slot<AbsByte>) -> bool
     ensures { IsTrue result ↔ (slot.now ≡ other.now) }
 {
@@ -103,16 +103,18 @@ fn is_same_slot(slot: &Slot<AbsByte>, other: &Slot<AbsByte>) -> bool
     }
 }
 
-// A number that tells most states apart: from the flags' bits, the registers' ranges and the slots'.
+// How many slots a digest goes over: of more the last ones, which differ most, so that it costs little beside a join.
+const TOLD: usize = 64;
+
+// A number that tells most states apart: from the flags' bits, the registers' ranges, how many slots there are, and the last ones' ranges.
 fn digest(state: &AbsState) -> u64
     ensures { result ≡ digest_of state.now }
 {
     let bits = state.flags.bits;
     let start = u64::from(bits.known) + 256 * u64::from(bits.value);
-    digest_slots(
-        digest_values(start, &state.registers),
-        state.slots.as_slice(),
-    )
+    let slots = state.slots.as_slice();
+    let told = mixed(digest_values(start, &state.registers), slots.len() as u64);
+    digest_slots(told, &slots[slots.len().saturating_sub(TOLD)..])
 }
 
 #[tactic(auto, using(crate::proofs::Lists::fold_take))]

@@ -2,7 +2,6 @@
 use Rattle.std.specs.Prelude.{◌≡◌, refl, nat_lt, if◌then◌else◌}
 use Rattle.std.specs.Int.{bit_at}
 use Rattle.bit_domain.specs.declared.bits.Tri.TheVariants.{Zero, Any}
-use Rattle.bit_domain.specs.declared.bytes.TriByte.{TriByte}
 use Rattle.bit_domain.specs.declared.sums.Sum.{Sum}
 use Rattle.bit_domain.specs.Tri.{tri_bit}
 use Rattle.bit_domain.specs.Packed.{packed}

@@ -4,5 +4,6 @@ mod abstract_arithmetic;
 mod arithmetic;
 mod keys;
 mod offsets;
+mod pools;
 mod states;
 mod three_valued;

@@ -10,20 +10,20 @@ use sp_domain::{CarryTag, Slot, Tag};
 use std::alloc::{AllocError, Global};
 use std::test::Fail;
 
-fn tagged(tag: Tag, known: u8, value: u8) -> AbsByte
+pub fn tagged(tag: Tag, known: u8, value: u8) -> AbsByte
     ensures { result.tag ≡ tag }
 {
     AbsByte::of_bits(tag, TriByte::new(known, value))
 }
 
-// A byte that lies in a range besides.
-fn ranged(value: AbsByte, low: u8, high: u8) -> AbsByte
+/// A byte that lies in a range besides.
+pub fn ranged(value: AbsByte, low: u8, high: u8) -> AbsByte
     ensures { result.tag ≡ value.tag }
 {
     AbsByte { low, high, ..value }
 }
 
-fn flags(entry: bool, known: u8, value: u8, carry: CarryTag) -> AbsFlags {
+pub fn flags(entry: bool, known: u8, value: u8, carry: CarryTag) -> AbsFlags {
     AbsFlags {
         entry,
         bits: TriByte::new(known, value),
@@ -45,8 +45,8 @@ fn state(alloc: Global, first: AbsByte, last: AbsByte, flags: AbsFlags) -> AbsSt
     state
 }
 
-// Whether two states have the same registers, flags and slots.
-fn is_same(state: &AbsState, wanted: &AbsState) -> bool {
+/// Whether two states have the same registers, flags and slots.
+pub fn is_same(state: &AbsState, wanted: &AbsState) -> bool {
     state.registers == wanted.registers
         && state.flags == wanted.flags
         && state.slots.as_slice() == wanted.slots.as_slice()
@@ -175,7 +175,7 @@ fn an_entry_tags_each_register(rt: HostRuntime) -> Result<(), Fail> {
 }
 
 /// What is known of registers 0 and 31, and of the flags.
-type Known = (AbsByte, AbsByte, AbsFlags);
+pub type Known = (AbsByte, AbsByte, AbsFlags);
 
 // A caller, an exit, and what is known after the return: none where no machine returns so.
 fn returns() -> [(Known, Known, Option<Known>); 10] {
@@ -251,8 +251,8 @@ fn is_named(value: AbsByte) -> bool
     }
 }
 
-// The state in which so much is known, with a slot.
-fn state_of(alloc: Global, known: &Known) -> Result<Option<AbsState>, AllocError>
+/// The state in which so much is known, with a slot.
+pub fn state_of(alloc: Global, known: &Known) -> Result<Option<AbsState>, AllocError>
     ensures { IfOk result (λ o. IfSome o (λ s. (length s.slots ≡ 1) × ((r : ℕ) → r < 32 → NamesRegister (value_at s.registers r).tag))) }
 {
     if !is_named(known.0) || !is_named(known.1) {

@@ -1,8 +1,8 @@
 use Rattle.std.proofs.Common.{sym, subst, List}
 use Rattle.std.specs.Vec.Iter.{into_iter_items}
+use Rattle.basics.specs.Items.{first_in}
 use Rattle.local_rules.specs.declared.local.Node.{Node}
 use Rattle.local_laws.specs.Laws.{AreNodes}
-use Rattle.local_laws.proofs.AllLaws.{here}
 use Rattle.round_laws.specs.Steps.{AreApart}
 use Rattle.round_steps.specs.Joins.{AreNew, SoFar}
 use Rattle.round_steps.proofs.Joins.{none_yet, one_more}
@@ -21,7 +21,7 @@ join_one-requires-clause-node c =
     let all = into_iter_items c.into_iter-node-iterator.result in
     let left = into_iter_items c.next.new.self in
     let so = subst (λ (l : List Node). SoFar c.args.table.now all c.loop-node.table c.loop-node.counted l c.loop-node.changed.items) c.in-Some.ensures.steps.0 c.loop-node.invariant in
-    so.nodes c.in-Some.node (here c.in-Some.node left)
+    so.nodes c.in-Some.node (first_in c.in-Some.node left)
 
 pub loop-node-preserved : goal.loop-node-preserved
 loop-node-preserved c =

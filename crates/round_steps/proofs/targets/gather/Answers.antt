@@ -3,9 +3,9 @@ use Rattle.std.proofs.lemmas.List.{append-nil, map-id}
 use Rattle.std.proofs.lemmas.Iterator.Adapters.{YieldsList-from_vec}
 use Rattle.std.proofs.lemmas.Iterator.Consumers.{YieldsList-end}
 use Rattle.std.specs.Vec.Iter.{into_iter_items}
+use Rattle.basics.specs.Items.{first_in, further_in}
 use Rattle.local_rules.specs.declared.local.Node.{Node}
 use Rattle.local_laws.specs.Laws.{AreNodes}
-use Rattle.local_laws.proofs.AllLaws.{here, there}
 use Rattle.round_steps.specs.Gathers.{AreGathered}
 use Rattle.round_steps.proofs.Gathers.{one_gathered}
 use Rattle.round_steps.proofs.targets.gather.Goals as goal
@@ -18,16 +18,16 @@ loop-node-init c = (
 
 pub gather_one-requires : goal.gather_one-requires
 gather_one-requires c =
-    subst AreNodes c.in-Some.ensures.steps.0 c.loop-node.invariant.0 c.in-Some.node (here c.in-Some.node (into_iter_items c.next.new.self))
+    subst AreNodes c.in-Some.ensures.steps.0 c.loop-node.invariant.0 c.in-Some.node (first_in c.in-Some.node (into_iter_items c.next.new.self))
 
 pub loop-node-preserved : goal.loop-node-preserved
 loop-node-preserved c =
     let left = into_iter_items c.next.new.self in
     let nodes = subst AreNodes c.in-Some.ensures.steps.0 c.loop-node.invariant.0 in (
-      λ n i. nodes n (there c.in-Some.node n left i),
+      λ n i. nodes n (further_in c.in-Some.node n left i),
       λ before are.
           subst (λ (l : List Node). AreGathered c.args.table.now l c.gather_one.new.next) (append_assoc before c.loop-node.yielded (c.in-Some.node ∷ []))
-          (one_gathered c.args.table.now c.loop-node.next (before ++ c.loop-node.yielded) c.in-Some.node (nodes c.in-Some.node (here c.in-Some.node left))
+          (one_gathered c.args.table.now c.loop-node.next (before ++ c.loop-node.yielded) c.in-Some.node (nodes c.in-Some.node (first_in c.in-Some.node left))
           (c.loop-node.invariant.1 before are) c.gather_one.new.next c.in_ok-gather_one.ensures),
     )
 

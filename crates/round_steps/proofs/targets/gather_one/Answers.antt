@@ -5,4 +5,4 @@ pub returns-then-covers : goal.returns-then-covers
 returns-then-covers c = inl (c.covers.ensures.0 c.if-covers.true, refl)
 
 pub returns : goal.returns
-returns c = inr (λ l. absurd (let t = c.covers.ensures.1 l in let f = c.if-covers.false in cc), c.in_ok-raise.ensures.ok)
+returns c = inr (λ l. absurd (let t = c.covers.ensures.1 l in let f = c.if-covers.false in cc), c.in_ok-raise.ensures)

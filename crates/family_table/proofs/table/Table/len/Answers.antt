@@ -1,7 +1,15 @@
-use Rattle.std.proofs.Common.{sym, ap, ◌∙◌}
+use Rattle.std.proofs.Common.{sym, ap, ◌∙◌, subst}
 use Rattle.std.specs.FinMap.{len}
+use Rattle.std.specs.List.{IsDistinct}
+use Rattle.mask_states.specs.Order.{same_node}
+use Rattle.family_table.specs.Shared.{stated}
 use Rattle.family_table.proofs.Entries.{table_len}
+use Rattle.family_table.proofs.Shared.{keys_stated, long_stated}
 use Rattle.family_table.proofs.table.Table.len.Goals as goal
 
 pub returns : goal.returns
-returns c = c.len.ensures.len ∙ sym (table_len c.self.inside.map.entries c.len.ensures.unique) ∙ ap len c.self.view_is
+returns c =
+    let pool = c.self.inside.pool in
+    let es = c.self.inside.map.entries in
+    c.len.ensures.len ∙ sym (long_stated pool es)
+    ∙ sym (table_len (stated pool es) (subst (IsDistinct same_node) (sym (keys_stated pool es)) c.len.ensures.unique)) ∙ ap len c.self.view_is

@@ -1,56 +1,91 @@
-use Rattle.std.proofs.Common.{refl, sym, ◌∙◌, subst}
-use Rattle.std.specs.Option.{IsSome}
+use Rattle.std.proofs.Common.{◌≡◌, ◌<◌, ℕ, refl, sym, ◌∙◌, subst, List, arith}
 use Rattle.std.specs.FinMap.{from_entries}
+use Rattle.abs_state.specs.Order.{state_join}
+use Rattle.mask_states.specs.declared.keys.NodeKey.{NodeKey}
 use Rattle.mask_states.specs.Order.{node_cmp}
-use Rattle.family_table.specs.Sized.{AreSized}
-use Rattle.family_table.proofs.Entries.{table_get, raised_there, raised_new, inserted_sized}
-use Rattle.family_table.proofs.Families.{insert_sized, grew_by, new_grew}
+use Rattle.state_pool.specs.Uses.{Uses}
+use Rattle.state_pool.specs.Counts.{state_at}
+use Rattle.family_table.specs.Shared.{IsShared, stated}
+use Rattle.family_table.proofs.Families.{grew_by, new_grew}
+use Rattle.family_table.proofs.Shared.{counts_below, times_found}
+use Rattle.family_table.proofs.Raised.{number_long, shared_there, shared_new}
 use Rattle.family_table.proofs.table.Table.raise.Goals as goal
 
-pub join_into-requires : goal.join_into-requires
-join_into-requires c =
-    c.self.invariant.0 c.args.node.key c.in-Some.state.now (table_get c.self.inside.map.entries c.args.node.key ∙ sym c.in-Some.ensures.value) ∙ sym c.requires
+pub joined-requires-clause-few : goal.joined-requires-clause-few
+joined-requires-clause-few c =
+    let most = c.if-len-gt-MOST-2.false in
+    let count = c.len-else-len-gt-MOST.ensures.count in
+    omega (arith, most, count)
 
-pub returns-in-Some-clause-ok : goal.returns-in-Some-clause-ok
-returns-in-Some-clause-ok c =
-    let w = c.join_into.new.self in
-    (raised_there c.self.inside.map.entries (c.get_mut.follows.lender w).entries c.args.self.now c.args.node c.in-Some.state.now w c.self.view_is c.in-Some.ensures.value
-    c.join_into.ensures.joined ((c.get_mut.follows.holds w).3 (subst IsSome c.in-Some.ensures.value refl)).0).1.1
+pub joined-requires-clause-counts : goal.joined-requires-clause-counts
+joined-requires-clause-counts c =
+    let most = c.if-len-gt-MOST.false in
+    let count = c.len.ensures.len in
+    counts_below c.self.inside.pool c.self.inside.map.entries 4294967295 c.self.invariant.counted (omega (arith, most, count))
 
-pub returns-in-Some-clause-grew : goal.returns-in-Some-clause-grew
-returns-in-Some-clause-grew c =
-    let w = c.join_into.new.self in
-    let new = raised_there c.self.inside.map.entries (c.get_mut.follows.lender w).entries c.args.self.now c.args.node c.in-Some.state.now w c.self.view_is c.in-Some.ensures.value
-    c.join_into.ensures.joined ((c.get_mut.follows.holds w).3 (subst IsSome c.in-Some.ensures.value refl)).0 in
-    grew_by c.args.self.now (from_entries {R = node_cmp} (c.get_mut.follows.lender w).entries) c.args.node.key c.in-Some.state.now w c.join_into.result new.0 new.1.0 c.join_into.ensures.grew
+pub joined-requires-clause-there : goal.joined-requires-clause-there
+joined-requires-clause-there c =
+    let n = c.in-Some.number.now in
+    subst (λ (m : ℕ). 0 < m) (sym (c.self.invariant.counted n)) (times_found c.args.node.key c.self.inside.map.entries n (sym c.in-Some.ensures.value))
 
-pub invariant_of-self : goal.invariant_of-self
-invariant_of-self c =
-    let w = c.join_into.new.self in
-    let new = raised_there c.self.inside.map.entries (c.get_mut.follows.lender w).entries c.args.self.now c.args.node c.in-Some.state.now w c.self.view_is c.in-Some.ensures.value
-    c.join_into.ensures.joined ((c.get_mut.follows.holds w).3 (subst IsSome c.in-Some.ensures.value refl)).0 in (
-      subst AreSized (sym new.1.0)
-          (insert_sized c.args.self.now c.args.node.key w (subst AreSized c.self.view_is c.self.invariant.0)
-          (sym c.join_into.ensures.least.second.count ∙ c.requires)),
-      (c.get_mut.follows.holds w).4,
-    )
+pub joined-requires-clause-slots : goal.joined-requires-clause-slots
+joined-requires-clause-slots c =
+    number_long c.self.inside.pool c.self.inside.map.entries c.args.node.key c.in-Some.number.now c.self.invariant c.in-Some.ensures.value ∙ sym c.requires
 
-pub returns-in_ok-insert-in-None-clause-ok : goal.returns-in_ok-insert-in-None-clause-ok
-returns-in_ok-insert-in-None-clause-ok c =
-    let up = rw c.get_mut.follows.holds-at-none at c.in_ok-insert-in-None.ensures.updates in
-    (raised_new c.self.inside.map.entries c.insert.new.self.entries c.args.self.now c.args.node c.self.view_is c.in-None.ensures.value up.0).1.1
+pub intern-requires-clause-counts : goal.intern-requires-clause-counts
+intern-requires-clause-counts c =
+    let most = c.if-len-gt-MOST.false in
+    let count = c.len.ensures.len in
+    counts_below c.self.inside.pool c.self.inside.map.entries 4294967295 c.self.invariant.counted (omega (arith, most, count))
 
-pub returns-in_ok-insert-in-None-clause-grew : goal.returns-in_ok-insert-in-None-clause-grew
-returns-in_ok-insert-in-None-clause-grew c =
-    let up = rw c.get_mut.follows.holds-at-none at c.in_ok-insert-in-None.ensures.updates in
-    let new = raised_new c.self.inside.map.entries c.insert.new.self.entries c.args.self.now c.args.node c.self.view_is c.in-None.ensures.value up.0 in
-    ((λ t e. new_grew c.args.self.now c.args.node.key c.args.node.state new.0 (sym new.1.0 ∙ e)), (λ ne. refl))
+pub invariant_of-self-in-Some-1 : goal.invariant_of-self-in-Some-1
+invariant_of-self-in-Some-1 c =
+    (shared_there c.self.inside.pool c.joined.new.pool c.self.inside.map.entries c.insert.new.self.entries c.args.self.now c.args.node c.in-Some.number.now
+    c.in_ok-number-in-Some.number c.self.view_is c.self.invariant c.in-Some.ensures.value c.in_ok-number-in-Some.ensures.moved c.in_ok-number-in-Some.ensures.slots
+    c.requires c.in-Ok.ensures.entries c.in-Ok.ensures.updates.0 c.insert.ensures.unique).shared
 
-pub invariant_of-self-in-None : goal.invariant_of-self-in-None
-invariant_of-self-in-None c =
-    let up = rw c.get_mut.follows.holds-at-none at c.insert.ensures.updates in
-    let same = rw c.get_mut.follows.holds-at-none at c.insert.ensures.err in (
-      inserted_sized _ c.insert.result c.self.inside.map.entries c.insert.new.self.entries c.args.self.now c.args.node c.self.view_is
-          (subst AreSized c.self.view_is c.self.invariant.0) c.requires c.in-None.ensures.value up same (λ u. u.0),
-      c.insert.ensures.unique,
-    )
+pub returns-in-Ok-clause-ok : goal.returns-in-Ok-clause-ok
+returns-in-Ok-clause-ok c =
+    (shared_there c.self.inside.pool c.joined.new.pool c.self.inside.map.entries c.insert.new.self.entries c.args.self.now c.args.node c.in-Some.number.now
+    c.in_ok-number-in-Some.number c.self.view_is c.self.invariant c.in-Some.ensures.value c.in_ok-number-in-Some.ensures.moved c.in_ok-number-in-Some.ensures.slots
+    c.requires c.in-Ok.ensures.entries c.in-Ok.ensures.updates.0 c.insert.ensures.unique).raised
+
+pub returns-in-Ok-clause-grew : goal.returns-in-Ok-clause-grew
+returns-in-Ok-clause-grew c =
+    let s = state_at c.self.inside.pool c.in-Some.number.now in
+    let all = shared_there c.self.inside.pool c.joined.new.pool c.self.inside.map.entries c.insert.new.self.entries c.args.self.now c.args.node c.in-Some.number.now
+    c.in_ok-number-in-Some.number c.self.view_is c.self.invariant c.in-Some.ensures.value c.in_ok-number-in-Some.ensures.moved c.in_ok-number-in-Some.ensures.slots
+    c.requires c.in-Ok.ensures.entries c.in-Ok.ensures.updates.0 c.insert.ensures.unique in
+    grew_by c.args.self.now (from_entries {R = node_cmp} (stated c.joined.new.pool c.insert.new.self.entries)) c.args.node.key s (state_join s c.args.node.state) c.in_ok-number-in-Some.grew
+    all.here all.put c.in_ok-number-in-Some.ensures.grew
+
+pub invariant_of-self-in-Ok-insert : goal.invariant_of-self-in-Ok-insert
+invariant_of-self-in-Ok-insert c =
+    (shared_new c.self.inside.pool c.intern.new.self c.self.inside.map.entries c.insert-in-None.new.self.entries c.args.self.now c.args.node c.in-Ok-intern.number
+    c.self.view_is c.self.invariant c.in-None.ensures.value
+    (c.counts_follow.ensures.interned c.self.inside.pool c.intern.new.self c.args.node.state c.in-Ok-intern.number c.in-Ok-intern.ensures.ok)
+    c.requires c.in-Ok-insert.ensures.entries c.in-Ok-insert.ensures.updates.0 c.insert-in-None.ensures.unique).shared
+
+pub returns-in-Ok-insert-clause-ok : goal.returns-in-Ok-insert-clause-ok
+returns-in-Ok-insert-clause-ok c =
+    (shared_new c.self.inside.pool c.intern.new.self c.self.inside.map.entries c.insert-in-None.new.self.entries c.args.self.now c.args.node c.in-Ok-intern.number
+    c.self.view_is c.self.invariant c.in-None.ensures.value
+    (c.counts_follow.ensures.interned c.self.inside.pool c.intern.new.self c.args.node.state c.in-Ok-intern.number c.in-Ok-intern.ensures.ok)
+    c.requires c.in-Ok-insert.ensures.entries c.in-Ok-insert.ensures.updates.0 c.insert-in-None.ensures.unique).raised
+
+pub returns-in-Ok-insert-clause-grew : goal.returns-in-Ok-insert-clause-grew
+returns-in-Ok-insert-clause-grew c =
+    let all = shared_new c.self.inside.pool c.intern.new.self c.self.inside.map.entries c.insert-in-None.new.self.entries c.args.self.now c.args.node c.in-Ok-intern.number
+    c.self.view_is c.self.invariant c.in-None.ensures.value
+    (c.counts_follow.ensures.interned c.self.inside.pool c.intern.new.self c.args.node.state c.in-Ok-intern.number c.in-Ok-intern.ensures.ok)
+    c.requires c.in-Ok-insert.ensures.entries c.in-Ok-insert.ensures.updates.0 c.insert-in-None.ensures.unique in
+    ((λ t e. new_grew c.args.self.now c.args.node.key c.args.node.state all.here (sym all.put ∙ e)), (λ ne. refl))
+
+pub invariant_of-self-in-Err-insert : goal.invariant_of-self-in-Err-insert
+invariant_of-self-in-Err-insert c =
+    let pool = c.self.inside.pool in
+    let back : c.release.new.self ≡ pool =
+    c.release.ensures
+    ∙ c.releases_undo.ensures.back pool c.intern.new.self c.args.node.state c.in-Ok-intern.number c.len-else-len-gt-MOST.ensures.used c.in-Ok-intern.ensures.ok in
+    subst (λ (p : Uses). IsShared p c.insert-in-None.new.self.entries) (sym back)
+    (subst (λ (es : List (NodeKey × ℕ)). IsShared pool es) (sym c.in-Err-insert.ensures.err) c.self.invariant)

@@ -1,6 +1,6 @@
 use Rattle.std.proofs.Common.{sym, ◌∙◌}
 use Rattle.std.proofs.lemmas.Bool.Decides.{same_from_decides}
-use Rattle.state_pool.specs.Same.{same_state}
+use Rattle.state_pool.specs.SameState.{same_state}
 use Rattle.state_pool.specs.Equal.{same_state_decides}
 use Rattle.state_pool.proofs.shared.SharedPartialEq.eq.Goals as goal
 
