@@ -1,8 +1,9 @@
 -- What status 0 of a command that judges a certificate says, and when it comes.
-use Rattle.std.proofs.Common.{◌≡◌, ◌≤◌, ◌*◌, ◌%◌, ◌==◌, ◌&&◌, nat_lt, ℕ, Bool, true, false, List, [], length, take, Option, Some, None, Result, Ok, Err, if◌then◌else◌, IsOkAnd, inl, inr, refl, sym, ap, ◌∙◌, subst, arith}
+use Rattle.std.proofs.Common.{◌≡◌, ◌≤◌, ◌*◌, ◌%◌, ◌==◌, nat_lt, ℕ, Bool, true, false, List, [], length, take, Option, Some, None, Result, Ok, Err, if◌then◌else◌, IsOkAnd, inl, inr, refl, sym, ap, ◌∙◌, subst, arith}
 use Rattle.std.specs.Prelude.{◌⊎◌}
 use Rattle.std.specs.Option.{option_map}
 use Rattle.std.proofs.lemmas.Bool.Decides.{nat_tests}
+use Rattle.basics.specs.Booleans.{left_of_and, right_of_and}
 use Rattle.avr_model.specs.declared.assumption.Entry.{Entry}
 use Rattle.avr_model.specs.declared.choice.Stop.{Stop}
 use Rattle.avr_model.specs.declared.choice.Stop.TheVariants as stop
@@ -79,7 +80,7 @@ zero_by : (o : Option (List ℕ)) (reply : Reply) (text : List ℕ) → ImageBy 
 zero_by None reply text h = (refl, h)
 zero_by (Some refusal) reply text h = absurd (no_six h.0)
 
-by_none : (o : Option (List ℕ)) (reply : Reply) (status : ℕ) (text : List ℕ) → o ≡ None → reply status text → ImageBy o reply status text
+pub by_none : (o : Option (List ℕ)) (reply : Reply) (status : ℕ) (text : List ℕ) → o ≡ None → reply status text → ImageBy o reply status text
 by_none None reply status text e h = h
 by_none (Some refusal) reply status text e h = absurd (let wrong = e in cc)
 
@@ -180,14 +181,6 @@ module _ (exact : ReadingIsExact) where
 
 -- ---- the schedule
 
-and_left : (a b : Bool) → (a && b) ≡ true → a ≡ true
-and_left true b h = refl
-and_left false b h = absurd (let wrong = h in cc)
-
-and_right : (a b : Bool) → (a && b) ≡ true → b ≡ true
-and_right true b h = h
-and_right false b h = absurd (let wrong = h in cc)
-
 is_end_end : (s : Stop) → is_end s ≡ true → s ≡ stop.End
 is_end_end stop.End h = refl
 is_end_end (stop.Flag f) h = absurd (let wrong = h in cc)
@@ -197,8 +190,8 @@ is_end_end (stop.Overflow pc) h = absurd (let wrong = h in cc)
 pub attained_by : (bound : ℕ) (x : Result Replayed ℕ) → attains bound x ≡ true → IsOkAnd x (λ r. (r.stop ≡ stop.End) × (r.depth ≡ bound))
 attained_by bound (Err step) h = absurd (let wrong = h in cc)
 attained_by bound (Ok r) h =
-    let d : (r.depth == bound) ≡ true = and_right (is_end r.stop) (r.depth == bound) h in
-    (is_end_end r.stop (and_left (is_end r.stop) (r.depth == bound) h), grind (arith, nat_tests))
+    let d : (r.depth == bound) ≡ true = right_of_and (is_end r.stop) (r.depth == bound) h in
+    (is_end_end r.stop (left_of_and (is_end r.stop) (r.depth == bound) h), grind (arith, nat_tests))
 
 pub attains_by : (bound : ℕ) (x : Result Replayed ℕ) → IsOkAnd x (λ r. (r.stop ≡ stop.End) × (r.depth ≡ bound)) → attains bound x ≡ true
 attains_by bound (Err step) h = absurd h
@@ -218,7 +211,7 @@ zero_witness : (words : List ℕ) (A : List Entry) (next : Reply) (bound : ℕ) 
 zero_witness words A next bound None text h = record { attained = tt; says = h }
 zero_witness words A next bound (Some plan) text h = zero_attained words A next bound plan (attains bound (replay_of words A plan)) text refl h
 
-witness_zero : (words : List ℕ) (A : List Entry) (next : Reply) (bound : ℕ) (w : Option Plan) (status : ℕ) (text : List ℕ) → IsAttained words A bound w → next status text
+pub witness_zero : (words : List ℕ) (A : List Entry) (next : Reply) (bound : ℕ) (w : Option Plan) (status : ℕ) (text : List ℕ) → IsAttained words A bound w → next status text
     → WitnessReply words A next bound w status text
 witness_zero words A next bound None status text h k = k
 witness_zero words A next bound (Some plan) status text h k = subst (λ b. AttainedBy next b status text) (sym (attains_by bound (replay_of words A plan) h)) k

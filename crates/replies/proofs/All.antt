@@ -1,7 +1,8 @@
 -- What the answers say, by command.
-use Rattle.std.proofs.Common.{◌≡◌, ◌≤◌, ◌*◌, ◌%◌, inl, inr, ℕ, List, [], length, Option, Some, None, Result, Ok, Err, refl, sym, ◌∙◌, subst, arith}
+use Rattle.std.proofs.Common.{◌≡◌, ◌≤◌, ◌*◌, ◌%◌, inl, inr, ℕ, List, [], length, Option, Some, None, Result, Ok, Err, refl, sym, ◌∙◌, subst}
 use Rattle.std.specs.Prelude.{◌↔◌, ◌⊎◌, Contains}
 use Rattle.std.specs.Option.{is_some}
+use Rattle.basics.specs.Items.{none_in}
 use Rattle.avr_model.specs.declared.assumption.Entry.{Entry}
 use Rattle.avr_model.specs.declared.choice.Choice.{Choice}
 use Rattle.avr_model.specs.declared.device.Device.{Device}
@@ -17,7 +18,7 @@ use Rattle.certificate.specs.Claims.{Claim}
 use Rattle.cert_format.specs.Exact.{ReadIsSpelled, SpelledIsRead}
 use Rattle.cert_check.specs.Laws.{VerdictsAreOne, SoundCertificatesBoundEveryRun}
 use Rattle.round_laws.specs.Laws.{RoundsAreLeast, SolutionsAreValid}
-use Rattle.answer_laws.specs.Laws.{AnswersAreOne}
+use Rattle.solution_laws.specs.Answers.{AnswersAreOne}
 use Rattle.witness_search.specs.Laws.{WaypointsAreOne}
 use Rattle.demo_image.specs.Image.{demo_words}
 use Rattle.certificate.specs.Valid.{IsSound, IsValid}
@@ -37,11 +38,11 @@ use Rattle.store_clear.specs.Laws.{ClearWhereNoSites}
 use Rattle.commands.specs.Commands.{Command, Check, Analyse, Run, Report, Explain, Clear, Premises, Simulate, Demo, device_for}
 use Rattle.replies.specs.Firmware.{IsFirmware, firmware_words}
 use Rattle.replies.specs.Texts.{devices_refused, accepted, run_text}
-use Rattle.replies.specs.Reading.{Whole, Contents}
+use Rattle.replies.specs.Reading.{Whole, Contents, certificate_cap}
 use Rattle.replies.specs.Reply.{Reply, WithOptional, WithImage, WithList, ClearSays, ClearReply, AcceptedReply, AnalyseReply, SimulateReply, DemoReply, IsReply}
 use Rattle.replies.specs.Headline.{AreLoaded, AreRead, IsListOf, StandFor, Shows, HoldsAsRead, IsLeastAsRead, IsSimulatedAsRead, IsMeasured, SaysWhether, AcceptsExactly, AnswersRounds, AnswersDevices, AcceptingRepliesHold, RepliesAreExact}
 use Rattle.replies.proofs.Accepting.{zero_file, zero_optional, zero_image, zero_list, zero_refused, no_one, IsJudged, file_read, optional_read, Accepting, IsJudgement, HoldsOf, judgement_holds, image_read, list_read, judged_by, valid_judged}
-use Rattle.replies.proofs.Least.{analysis_best, best_bounds, Ends, analyse_ends, says_ends, not_written}
+use Rattle.replies.proofs.Least.{AnalysesFit, analysis_best, best_bounds, Ends, analyse_ends, says_ends, not_written}
 
 no_fourteen : ◌≡◌ {A = ℕ} 0 14 → ⊥
 no_fourteen e = cc
@@ -78,6 +79,7 @@ module _
     (rounds : RoundsAreLeast)
     (solutions : SolutionsAreValid)
     (runs : ReplaysAreRuns)
+    (fit : AnalysesFit)
     (devices : DevicesAreExact)
     (simulations : SimulationsAreBounded)
     (explanations : ExplanationsTell)
@@ -187,12 +189,9 @@ module _
       holds_as (Clear device fw cert) None seen text h
       (told_clear.never h.words h.claim h.fit h.stand.fits.claim (subst (λ B. IsSound h.words B h.claim) (sym empty) h.valid.sound) (all_clear h.words h.claim text h.told.verdict h.told.is h.told.says))
 
-  no_site : {X : Type 0} (x : X) → Contains [] x → ⊥
-  no_site x h = absurd (omega (arith, h.1))
-
   none_ends : (words : List ℕ) (A : List Entry) (m : State) (choices : List Choice) (word : ℕ) → Contains [] word ⊎ EndsByTakeAt words A [] m choices → ⊥
-  none_ends words A m choices word (inl h) = no_site word h
-  none_ends words A m choices word (inr h) = no_site (vector_word (device_of words) h.vector) h.word
+  none_ends words A m choices word (inl h) = none_in word h
+  none_ends words A m choices word (inr h) = none_in (vector_word (device_of words) h.vector) h.word
 
   premises_as : (device : Device) (fw cert : List ℕ) (assume : Option (List ℕ)) (seen : Contents) (text : List ℕ)
       → HoldsOf raw images narrowing lists read spelled bounds device (AcceptedReply (Premises device fw cert assume)) assume seen text → HoldsAsRead (Premises device fw cert assume) assume seen text
@@ -241,6 +240,7 @@ module _
           bounded = best_bounds answers rounds solutions bounds runs (firmware_words device firmware) A steps h.claim has best;
           reached = best.reached;
           trials = best.trials;
+          short = subst (λ (t : List ℕ). length t ≤ certificate_cap) (sym h.says.1) (fit (firmware_words device firmware) A steps h.claim h.analysis best.fits);
         };
         again = λ fw cert.
             valid_judged raw images narrowing lists read spelled bounds device (check_next device fw cert assume) fw cert assume (record seen { second = Whole text }) firmware text list (firmware_words device firmware) h.claim A

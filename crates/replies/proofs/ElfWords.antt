@@ -2,9 +2,9 @@
 use Rattle.std.proofs.Common.{◌≡◌, ℕ, zero, suc, ◌+◌, ◌<◌, List, length, slice_index, Option, Some, None, refl, sym, ap, ◌∙◌, arith}
 use Rattle.std.specs.Option.{option_map}
 use Rattle.std.proofs.lemmas.Grind.{same_number_lists}
+use Rattle.basics.specs.Numbers.{one_step_on}
 use Rattle.avr_model.specs.Image.{WORDS}
 use Rattle.elf_load.specs.Elf.{ElfRefusal, elf_fault, IsElfImage}
-use Rattle.elf_load.specs.Refusing.{IsDue}
 use Rattle.replies.specs.Firmware.{tabulated, elf_word, elf_words}
 use Rattle.replies.specs.Texts.{elf_refused}
 
@@ -13,14 +13,11 @@ unfolding tabulated
 length_tabulated at zero f = refl
 length_tabulated at (suc n) f = let e = length_tabulated (at + 1) n f in omega (arith, e)
 
-place : (at k : ℕ) → at + 1 + k ≡ at + suc k
-place at k = omega arith
-
 tabulated_at : (at n : ℕ) (f : ℕ → ℕ) (k : ℕ) → k < n → slice_index (tabulated at n f) k ≡ f (at + k)
 unfolding tabulated
 tabulated_at at zero f k lt = absurd (let wrong : k < 0 = lt in omega arith)
 tabulated_at at (suc n) f zero lt = ap f (let e : at ≡ at + 0 = omega arith in e)
-tabulated_at at (suc n) f (suc k) lt = tabulated_at (at + 1) n f k (let less : suc k < suc n = lt in omega arith) ∙ ap f (place at k)
+tabulated_at at (suc n) f (suc k) lt = tabulated_at (at + 1) n f k (let less : suc k < suc n = lt in omega arith) ∙ ap f (one_step_on at k)
 
 from_zero : (a : ℕ) → 0 + a ≡ a
 from_zero a = omega arith
@@ -36,11 +33,6 @@ one_elf bytes words image =
 pub some_elf : (bytes : List ℕ) → elf_fault bytes ≡ None → IsElfImage bytes (elf_words bytes)
 some_elf bytes loads =
     record { loads = loads; size = length_tabulated 0 WORDS (elf_word bytes); each = λ a lt. word_in bytes a lt }
-
--- a refusal is told where it is due
-pub refused_text : (refusal due : Option ElfRefusal) (text : List ℕ) → IsDue refusal due → option_map elf_refused refusal ≡ Some text → option_map elf_refused due ≡ Some text
-refused_text None due text h e = absurd (let wrong = e in cc)
-refused_text (Some r) due text h e = ap (option_map elf_refused) h ∙ e
 
 no_text : (due : Option ElfRefusal) → option_map elf_refused due ≡ None → due ≡ None
 no_text None e = refl

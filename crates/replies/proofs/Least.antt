@@ -1,5 +1,5 @@
 -- What an analysis says that writes a certificate, and how its status says where the rounds end.
-use Rattle.std.proofs.Common.{◌≡◌, ◌≢◌, ◌≤◌, inl, inr, ◌⊎◌, ℕ, true, List, Option, Some, None, Result, Ok, Err, IfSome, IsOkAnd, refl, sym, ap, ◌∙◌, subst}
+use Rattle.std.proofs.Common.{◌≡◌, ◌≢◌, ◌≤◌, inl, inr, ◌⊎◌, ℕ, true, List, length, Option, Some, None, Result, Ok, Err, IfSome, IsOkAnd, refl, sym, ap, ◌∙◌, subst, arith}
 use Rattle.std.specs.Option.{is_some}
 use Rattle.avr_model.specs.declared.assumption.Entry.{Entry}
 use Rattle.avr_model.specs.declared.choice.Stop.TheVariants as stop
@@ -12,16 +12,20 @@ use Rattle.witness_replay.specs.Replay.{Report as Replayed, replay_of}
 use Rattle.witness_replay.specs.Runs.{ReplaysAreRuns}
 use Rattle.certificate.specs.Claims.{Claim, IsClaim, IsCertificate}
 use Rattle.certificate.specs.Valid.{IsSound, IsAttained, IsValid}
+use Rattle.cert_words.specs.Text.{text_of}
+use Rattle.cert_writing.specs.Sizes.{HasFewChoices, TextsFit}
 use Rattle.cert_check.specs.Laws.{SoundCertificatesBoundEveryRun}
 use Rattle.round_rules.specs.declared.refusal.Refusal.{Refusal}
 use Rattle.round_rules.specs.declared.refusal.Refusal.TheVariants as refusal
 use Rattle.round_rules.specs.Refusals.{Test, over, faulty, re_entry, recursion, too_deep, refusal_of, GoesBeyond}
 use Rattle.round_rules.specs.Solutions.{IsAnswer, IsRefusal, IsWhyNot}
 use Rattle.round_laws.specs.Laws.{RoundsAreLeast, SolutionsAreValid}
-use Rattle.answer_laws.specs.Laws.{AnswersAreOne}
+use Rattle.solution_laws.specs.Answers.{AnswersAreOne}
+use Rattle.witness_search.specs.Laws.{TrialsAreShort}
 use Rattle.witness_search.specs.Trials.{IsFound}
 use Rattle.witness_search.specs.declared.waypoint.Waypoint.{Waypoint}
 use Rattle.replies.specs.Texts.{why_not_status, why_not_text}
+use Rattle.replies.specs.Reading.{certificate_cap}
 use Rattle.replies.specs.Analysis.{TrialsFind, IsAnalysis}
 use Rattle.replies.specs.Reply.{Refuses, AnalyseReply, WhyNotReply}
 use Rattle.replies.specs.Headline.{IsReached, HasValid, SaysHowRoundsEnd}
@@ -64,6 +68,19 @@ sound_with words A c found h =
 schedule_found : (words : List ℕ) (A : List Entry) (points : List Waypoint) (bound : ℕ) (found : Option Plan) → IsFound words A points bound found → IfSome found IsSchedule
 schedule_found words A points bound None h = tt
 schedule_found words A points bound (Some plan) h = h.trial.fits
+
+-- ---- what is written fits a file that is read
+
+-- the text of the certificate of an analysis is no longer than that of a certificate may be
+abbrev pub AnalysesFit : Type 0
+AnalysesFit = (words : List ℕ) (A : List Entry) (steps : Option ℕ) (c : Claim) → IsAnalysis words A steps c → IsCertificate c → length (text_of c) ≤ certificate_cap
+
+few_found : TrialsAreShort → (words : List ℕ) (A : List Entry) (points : List Waypoint) (bound : ℕ) (found : Option Plan) → IsFound words A points bound found → IfSome found HasFewChoices
+few_found short words A points bound None h = tt
+few_found short words A points bound (Some plan) h = omega (arith, ap length h.trial.choices, short words A points bound plan.fill)
+
+pub analyses_fit : TextsFit → TrialsAreShort → AnalysesFit
+analyses_fit fit short words A steps c h is = fit c is (subst (λ (x : Claim). IfSome x.witness HasFewChoices) (sym h.is) (few_found short words A h.trials.points h.least.bound h.found h.trials.first))
 
 -- ---- a schedule that attains the bound is a run
 

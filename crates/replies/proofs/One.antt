@@ -12,7 +12,7 @@ use Rattle.cert_format.specs.declared.fault.CertFault.{CertFault}
 use Rattle.cert_format.specs.Reading.{certificate_in}
 use Rattle.cert_format.specs.Exact.{ReadIsSpelled}
 use Rattle.cert_check.specs.Laws.{VerdictsAreOne}
-use Rattle.answer_laws.specs.Laws.{AnswersAreOne}
+use Rattle.solution_laws.specs.Answers.{AnswersAreOne}
 use Rattle.witness_search.specs.Laws.{WaypointsAreOne}
 use Rattle.cert_check.specs.declared.verdict.Verdict.{Verdict}
 use Rattle.cert_check.specs.declared.verdict.Verdict.TheVariants.{Accepted, Rejected}

@@ -3,6 +3,7 @@ use Rattle.std.proofs.Common.{◌≡◌, ℕ, zero, suc, ◌+◌, length, ◌-�
 use Rattle.std.specs.List.{flat_map}
 use Rattle.std.specs.Prelude.{MatchOption}
 use Rattle.std.specs.Borrow.{Bor}
+use Rattle.indirect_targets.proofs.AllLaws.{words_append}
 use Rattle.sb_base.specs.Lines.{line}
 use Rattle.sb_base.specs.Writing.{Written, with_word, with_words, with_end}
 use Rattle.flash_image.specs.Naming.{Named, least_name, SayTheSame}
@@ -57,10 +58,6 @@ same_places words names others bound sites nevers same =
     ap (λ (ys : List ℕ). line (count_line bound (length sites + length nevers)) ++ (ys ++ flat_map never_text nevers)) (same_lines words names others sites same)
 
 -- ---- lines
-
-words_append : (w : Written) (xs ys : List (List ℕ)) → with_words w (xs ++ ys) ≡ with_words (with_words w xs) ys
-words_append w [] ys = refl
-words_append w (x ∷ xs) ys = words_append (with_word w x) xs ys
 
 pub place_written : (words : List ℕ) (names : List Named) (pc : ℕ) (w v u : Written) → v ≡ with_words w (place_words words pc)
     → u ≡ with_end (with_word (with_word v (codes "in")) (name_word (name_up_to names pc))) → u ≡ with_end (with_words w (place_line words names pc))

@@ -3,6 +3,7 @@ use Rattle.std.specs.Bool.{⊤}
 use Rattle.std.proofs.Common.{◌≡◌, ◌≢◌, ◌≤◌, ◌-◌, ◌==◌, ◌&&◌, not, ℕ, zero, suc, Bool, true, List, [], ◌∷◌, ◌++◌, replicate, Contains, Option, Some, None, refl, sym, ap, ◌∙◌, subst, arith}
 use Rattle.std.proofs.lemmas.Bool.Decides.{nat_tests}
 use Rattle.std.proofs.lemmas.List.Elements.{Contains-append_right}
+use Rattle.basics.specs.Items.{first_in, further_in}
 use Rattle.avr_model.specs.declared.assumption.Entry.{Entry}
 use Rattle.avr_model.specs.declared.choice.Choice.{Choice}
 use Rattle.avr_model.specs.declared.choice.Choice.TheVariants as choice
@@ -92,12 +93,6 @@ same_plan a b e f = ap (λ x. record { fill = x; runs = a.runs }) e ∙ ap (λ x
 
 -- ---- the first that succeeds
 
-here : (x : ℕ) (xs : List ℕ) → Contains (x ∷ xs) x
-here x xs = (0, omega arith, refl)
-
-later : (y x : ℕ) (xs : List ℕ) → Contains xs x → Contains (y ∷ xs) x
-later y x xs h = Contains-append_right (y ∷ []) xs x h
-
 num_heads : (a b : ℕ) (xs ys : List ℕ) → ◌≡◌ {A = List ℕ} (a ∷ xs) (b ∷ ys) → a ≡ b
 num_heads a b xs ys e = cc
 
@@ -113,13 +108,13 @@ module _ (words : List ℕ) (A : List Entry) (points : List Waypoint) (bound : �
 
   fill_one : (before after before' after' : List ℕ) (f g : ℕ) → before ++ f ∷ after ≡ before' ++ g ∷ after' → Fail before → Fail before' → Works f → Works g → f ≡ g
   fill_one [] after [] after' f g e h k x y = num_heads f g after after' e
-  fill_one [] after (b ∷ bs) after' f g e h k x y = absurd (k b (here b bs) (subst Works (num_heads f b after (bs ++ g ∷ after') e) x))
-  fill_one (b ∷ bs) after [] after' f g e h k x y = absurd (h b (here b bs) (subst Works (sym (num_heads b g (bs ++ f ∷ after) after' e)) y))
+  fill_one [] after (b ∷ bs) after' f g e h k x y = absurd (k b (first_in b bs) (subst Works (num_heads f b after (bs ++ g ∷ after') e) x))
+  fill_one (b ∷ bs) after [] after' f g e h k x y = absurd (h b (first_in b bs) (subst Works (sym (num_heads b g (bs ++ f ∷ after) after' e)) y))
   fill_one (b ∷ bs) after (c ∷ cs) after' f g e h k x y =
-      fill_one bs after cs after' f g (num_tails b c (bs ++ f ∷ after) (cs ++ g ∷ after') e) (λ t i. h t (later b t bs i)) (λ t i. k t (later c t cs i)) x y
+      fill_one bs after cs after' f g (num_tails b c (bs ++ f ∷ after) (cs ++ g ∷ after') e) (λ t i. h t (further_in b t bs i)) (λ t i. k t (further_in c t cs i)) x y
 
   in_fills : (plan : Plan) → IsFirst words A points bound plan → Contains fills plan.fill
-  in_fills plan h = subst (λ ts. Contains ts plan.fill) (sym h.order) (Contains-append_right h.before (plan.fill ∷ h.after) plan.fill (here plan.fill h.after))
+  in_fills plan h = subst (λ ts. Contains ts plan.fill) (sym h.order) (Contains-append_right h.before (plan.fill ∷ h.after) plan.fill (first_in plan.fill h.after))
 
   first_one : (a b : Plan) → IsFirst words A points bound a → IsFirst words A points bound b → a ≡ b
   first_one a b h k =

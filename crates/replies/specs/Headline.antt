@@ -1,5 +1,5 @@
 -- What the answers say of the bytes that were read, and when they are given.
-use Rattle.std.specs.Prelude.{◌≡◌, ◌≢◌, ◌↔◌, ◌≤◌, ⊤, true, ℕ, List, [], Option, Some, None}
+use Rattle.std.specs.Prelude.{◌≡◌, ◌≢◌, ◌↔◌, ◌≤◌, ⊤, true, ℕ, List, [], length, Option, Some, None}
 use Rattle.std.specs.Option.{is_some}
 use Rattle.avr_model.specs.declared.assumption.Entry.{Entry}
 use Rattle.avr_model.specs.declared.device.Device.{Device}
@@ -35,7 +35,7 @@ use Rattle.local_rules.specs.Machine.{AreWords}
 use Rattle.replies.specs.Firmware.{IsFirmware, firmware_words, firmware_names}
 use Rattle.replies.specs.Texts.{accepted, run_text, demo_text}
 use Rattle.replies.specs.Places.{premises_text}
-use Rattle.replies.specs.Reading.{Seen, Whole, Contents}
+use Rattle.replies.specs.Reading.{Seen, Whole, Contents, certificate_cap}
 use Rattle.replies.specs.Analysis.{TrialsFind}
 use Rattle.replies.specs.Reply.{AcceptedReply, IsReply}
 
@@ -134,7 +134,8 @@ pub record IsReached (words : List ℕ) (A : List Entry) (depth : ℕ) : Type 0 
 
 -- The text is that of a valid certificate for the firmware on the device and the assumptions. No valid one has a smaller bound, and no run of the
 -- machine is deeper than this one's. Where it has a schedule, the bound is reached, so that it is the worst case; it has one exactly where
--- one of the trials along its deepest chain is as deep as the bound.
+-- one of the trials along its deepest chain is as deep as the bound. The text is no longer than a certificate that is read may be, so that a file
+-- with it isn't refused as too long.
 pub record IsLeastCertificate (device : Device) (firmware : List ℕ) (list : Option (List ℕ)) (text : List ℕ) : Type 0 where
   pub words : List ℕ
   pub claim : Claim
@@ -145,6 +146,7 @@ pub record IsLeastCertificate (device : Device) (firmware : List ℕ) (list : Op
   pub bounded : Bounded words assumptions claim.bound
   pub reached : is_some claim.witness ≡ true → IsReached words assumptions claim.bound
   pub trials : TrialsFind words assumptions claim claim.witness
+  pub short : length text ≤ certificate_cap
 
 -- a `check` of this text, with the same device, firmware and assumptions, accepts it
 abbrev pub IsAcceptedAgain : Device → Option (List ℕ) → Contents → List ℕ → Claim → Type 0

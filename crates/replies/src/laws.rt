@@ -2,23 +2,24 @@
 
 ghost use Rattle.replies.specs.Headline.{RepliesAreOne, AcceptingRepliesHold, RepliesAreExact, PlacesSayTheSame};
 
-use answer_laws::laws::answers_are_one;
 use cert_check::laws::{sound_certificates_bound_every_run, verdicts_are_one};
 use cert_format::laws::certificate_texts;
+use cert_writing::laws::texts_fit;
 use chain_explain::laws::{explanations_are_one, explanations_tell};
 use device_hooks::laws::{reading_is_exact as devices_are_exact, simulations_are_runs};
 use flash_image::laws::{narrowing_is_exact, raw_images_are_their_words};
 use indirect_targets::laws::reading_is_exact;
 use round_laws::laws::{rounds_are_least, solutions_are_valid};
+use solution_laws::answers::answers_are_one;
 use store_clear::laws::{clear_where_no_sites, nevers_are_one, sites_are_one};
 use store_laws::laws::{
     clear_firmwares_are_never_flagged, clear_verdicts_are_one, flagged_runs_end_at_sites,
 };
 use witness_replay::laws::replays_are_runs;
-use witness_search::laws::waypoints_are_one;
+use witness_search::laws::{trials_are_short, waypoints_are_one};
 
 /// What was read of a command's files has one answer. Where a certificate is accepted, the bound holds of what was read, and where one is
-/// written, it is the least one; an explanation tells where the bytes of the bound go; where all nodes are clear,
+/// written, it is the least one, short enough to be read again; an explanation tells where the bytes of the bound go; where all nodes are clear,
 /// no run is flagged, and else runs are flagged at the words that are told alone; a run that devices choose keeps each bound that is accepted. Where the files read as values, a certificate
 /// is accepted exactly where it is valid, and the status of an analysis says how the rounds end.
 pub fn replies_are_claims()
@@ -34,6 +35,8 @@ pub fn replies_are_claims()
     sound_certificates_bound_every_run();
     answers_are_one();
     waypoints_are_one();
+    trials_are_short();
+    texts_fit();
     rounds_are_least();
     solutions_are_valid();
     replays_are_runs();

@@ -1,4 +1,5 @@
 use Rattle.replies.proofs.One.{replies_are_one}
+use Rattle.replies.proofs.Least.{AnalysesFit, analyses_fit}
 use Rattle.replies.proofs.All.{DevicesAreExact, ClearIsTold, replies_hold, replies_are_exact}
 use Rattle.replies.proofs.laws.replies_are_claims.Goals as goal
 
@@ -15,6 +16,7 @@ returns c =
     let rounds = c.rounds_are_least.ensures in
     let solutions = c.solutions_are_valid.ensures in
     let runs = c.replays_are_runs.ensures.runs in
+    let fit : AnalysesFit = analyses_fit c.texts_fit.ensures c.trials_are_short.ensures in
     let devices : DevicesAreExact = record { read = c.reading_is_exact-2.ensures.read; spelled = c.reading_is_exact-2.ensures.spelled } in
     let simulations = c.simulations_are_runs.ensures.bounded in
     let explanations = c.explanations_tell.ensures in
@@ -22,6 +24,6 @@ returns c =
     record { one = c.clear_verdicts_are_one.ensures; never = c.clear_firmwares_are_never_flagged.ensures; ends = c.flagged_runs_end_at_sites.ensures; empty = c.clear_where_no_sites.ensures } in
     record {
       one = replies_are_one texts.read verdicts answers chains c.explanations_are_one.ensures c.clear_verdicts_are_one.ensures c.sites_are_one.ensures c.nevers_are_one.ensures;
-      holds = replies_hold raw.one raw.some narrowing lists texts.read texts.spelled verdicts bounds answers chains rounds solutions runs devices simulations explanations told_clear;
-      exact = replies_are_exact raw.one raw.some narrowing lists texts.read texts.spelled verdicts bounds answers chains rounds solutions runs devices simulations explanations told_clear;
+      holds = replies_hold raw.one raw.some narrowing lists texts.read texts.spelled verdicts bounds answers chains rounds solutions runs fit devices simulations explanations told_clear;
+      exact = replies_are_exact raw.one raw.some narrowing lists texts.read texts.spelled verdicts bounds answers chains rounds solutions runs fit devices simulations explanations told_clear;
     }

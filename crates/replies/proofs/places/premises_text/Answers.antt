@@ -1,7 +1,8 @@
 use Rattle.std.proofs.Common.{◌+◌, ◌++◌, length}
 use Rattle.std.specs.List.{flat_map}
+use Rattle.witness_replay.proofs.Parts.{more_text}
 use Rattle.replies.specs.Places.{count_line, place_text, never_text}
-use Rattle.reports.proofs.AllLaws.{more_text, line_and_text}
+use Rattle.reports.proofs.AllLaws.{line_and_text}
 use Rattle.replies.proofs.places.premises_text.Goals as goal
 
 pub returns : goal.returns
