@@ -1,5 +1,5 @@
 -- Lists of nodes that are given by their states or by earlier ones, as they grow.
-use Rattle.std.proofs.Common.{◌≡◌, refl, sym, ap, subst, ℕ, zero, suc, ◌^◌, ◌<◌, ◌≤◌, ⊎_elim, [], ◌∷◌, ◌++◌, length, map, Some, None, slice_get, replicate, length-append, arith}
+use Rattle.std.proofs.Common.{◌≡◌, refl, sym, ap, subst, ℕ, suc, ◌^◌, ◌<◌, ◌≤◌, ⊎_elim, [], ◌∷◌, ◌++◌, length, map, Some, None, slice_get, length-append, arith}
 use Rattle.std.specs.List.{AllByRecursion}
 use Rattle.std.specs.List.Sorted.{IsStrictlySortedBy}
 use Rattle.std.specs.declared.cmp.Ordering.TheVariants.{Less}
@@ -7,24 +7,19 @@ use Rattle.std.proofs.lemmas.Option.{none-some}
 use Rattle.avr_model.specs.Image.{WORDS}
 use Rattle.avr_model.specs.State.{SIZE}
 use Rattle.abs_state.specs.declared.state.AbsState.{AbsState}
-use Rattle.abs_state.specs.Values.{root, value_at, unknown}
+use Rattle.abs_state.specs.Values.{root}
 use Rattle.abs_state.specs.Formed.{IsFormed}
-use Rattle.abs_state.proofs.AllLaws.{reset_stands}
+use Rattle.abs_state.proofs.AllLaws.{reset_stands, unknown_fits}
 use Rattle.mask_states.specs.declared.keys.NodeKey.{NodeKey}
 use Rattle.mask_states.specs.declared.keys.SpForm.TheVariants.{Closed}
 use Rattle.mask_states.specs.Keys.{offset_of, PickFits}
 use Rattle.mask_states.specs.Order.{node_cmp}
-use Rattle.local_rules.specs.Cover.{FormFitsKind, TagFits, IsNode}
+use Rattle.local_rules.specs.Cover.{FormFitsKind, IsNode}
 use Rattle.edge_rules.specs.declared.seeded.NodeForm.{NodeForm}
 use Rattle.edge_rules.specs.declared.seeded.NodeForm.TheVariants.{State, From}
 use Rattle.edge_rules.specs.Expansion.{Seeds, AreSeeds}
-use Rattle.expansion_laws.specs.Laws.{AreAscending}
-use Rattle.expansion_laws.proofs.AllLaws.{get_push}
-
-unknown_fits : (n r : ℕ) → TagFits (value_at (replicate n unknown) r).tag
-unknown_fits zero r = tt
-unknown_fits (suc n) zero = tt
-unknown_fits (suc n) (suc r) = unknown_fits n r
+use Rattle.edge_laws.specs.Expansions.{AreAscending}
+use Rattle.edge_laws.proofs.ExpansionLaws.{get_push}
 
 pub root_node : (k : NodeKey) → k.pc < WORDS → k.masks < 2 ^ 25 → k.sp ≡ Closed 0 → k.pick ≡ None → IsNode k root
 root_node k word masks closed unpicked = record {

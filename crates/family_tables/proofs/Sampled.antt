@@ -1,6 +1,7 @@
 -- The certificates of the tests keep what the type keeps.
 use Rattle.std.proofs.Common.{◌≡◌, refl, sym, subst, ℕ, ◌<◌, ◌≤◌, Bool, true, false, List, [], ◌∷◌, None, arith, rules}
 use Rattle.std.specs.List.Sorted.{IsStrictlySortedBy}
+use Rattle.basics.specs.Items.{first_in, further_in}
 use Rattle.avr_model.specs.State.{SIZE}
 use Rattle.avr_model.specs.declared.assumption.Entry.{Entry}
 use Rattle.abs_state.specs.Values.{root}
@@ -10,7 +11,6 @@ use Rattle.vector_table.specs.Entries.{AreEntries}
 use Rattle.mask_states.specs.Keys.{root_inst, entry_key, inst_numbers, node_numbers}
 use Rattle.mask_states.specs.Order.{inst_cmp, node_cmp}
 use Rattle.local_rules.specs.Cover.{IsNode}
-use Rattle.local_laws.proofs.AllLaws.{here, there}
 use Rattle.edge_rules.specs.Examples.{callee}
 use Rattle.edge_rules.specs.Expansion.{Seeds}
 use Rattle.edge_laws.proofs.AllLaws.{edges_lead_to_nodes}
@@ -66,7 +66,7 @@ module _ (bound rank need : ℕ) (from : Bool) (b : bound ≤ SIZE) (r : rank < 
     insts_ascend = ((refl, tt), (tt, tt));
     few_insts = omega arith;
     nodes_fit = (edges_lead_to_nodes.reset, (behind_fits from, (callee_is_node, tt)));
-    nodes_belong = (here root_inst (callee ∷ []), (here root_inst (callee ∷ []), (there root_inst callee (callee ∷ []) (here callee []), tt)));
+    nodes_belong = (first_in root_inst (callee ∷ []), (first_in root_inst (callee ∷ []), (further_in root_inst callee (callee ∷ []) (first_in callee []), tt)));
     nodes_ascend = ((refl, (refl, tt)), ((refl, tt), (tt, tt)));
     few_nodes = omega arith;
     few_cells = omega arith;

@@ -1,5 +1,6 @@
 //! The tables, by what they are about, and the nodes that two of them plan.
 
+mod clearing;
 mod edges;
 mod explaining;
 mod forms;

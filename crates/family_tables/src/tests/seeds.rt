@@ -7,7 +7,7 @@ ghost use Rattle.mask_states.specs.declared.keys.SpForm.TheVariants.{Closed};
 ghost use Rattle.mask_states.specs.Order.{node_cmp};
 ghost use Rattle.edge_rules.specs.declared.seeded.NodeForm as node_form;
 ghost use Rattle.edge_rules.specs.Expansion.{AreSeeds};
-ghost use Rattle.expansion_laws.specs.Laws.{AreAscending};
+ghost use Rattle.edge_laws.specs.Expansions.{AreAscending};
 
 use abs_state::AbsState;
 use avr_model::device::WORDS;

@@ -5,7 +5,7 @@ use Rattle.mask_states.specs.Order.{node_cmp}
 use Rattle.edge_rules.specs.declared.seeded.NodeForm.{NodeForm}
 use Rattle.edge_rules.specs.declared.seeded.NodeForm.TheVariants.{From}
 use Rattle.edge_rules.specs.Expansion.{Seeds, AreSeeds}
-use Rattle.expansion_laws.specs.Laws.{AreAscending}
+use Rattle.edge_laws.specs.Expansions.{AreAscending}
 use Rattle.family_tables.proofs.Growing.{with_from, pushed_ascending}
 use Rattle.family_tables.proofs.tests.seeds.add_from.Goals as goal
 

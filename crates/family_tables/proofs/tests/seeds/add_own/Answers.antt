@@ -6,7 +6,7 @@ use Rattle.mask_states.specs.Order.{node_cmp}
 use Rattle.edge_rules.specs.declared.seeded.NodeForm.{NodeForm}
 use Rattle.edge_rules.specs.declared.seeded.NodeForm.TheVariants.{State}
 use Rattle.edge_rules.specs.Expansion.{Seeds, AreSeeds}
-use Rattle.expansion_laws.specs.Laws.{AreAscending}
+use Rattle.edge_laws.specs.Expansions.{AreAscending}
 use Rattle.family_tables.proofs.Growing.{with_root, pushed_ascending}
 use Rattle.family_tables.proofs.tests.seeds.add_own.Goals as goal
 

@@ -1,6 +1,6 @@
 use Rattle.std.proofs.Common.{sym, subst}
 use Rattle.edge_rules.specs.Expansion.{Seeds, AreSeeds}
-use Rattle.expansion_laws.specs.Laws.{AreAscending}
+use Rattle.edge_laws.specs.Expansions.{AreAscending}
 use Rattle.family_tables.proofs.Growing.{none_given}
 use Rattle.family_tables.proofs.tests.seeds.seeds_of.Goals as goal
 

@@ -1,5 +1,5 @@
 use Rattle.edge_rules.specs.Expansion.{AreSeeds}
-use Rattle.expansion_laws.specs.Laws.{AreAscending}
+use Rattle.edge_laws.specs.Expansions.{AreAscending}
 use Rattle.family_tables.proofs.tests.seeds.seeds_of.Given as goal
 
 abbrev pub invariant-loop-at : goal.invariant-loop-at
