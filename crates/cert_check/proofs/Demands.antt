@@ -12,13 +12,13 @@ use Rattle.mask_states.specs.declared.keys.SpForm.TheVariants.{Closed, Open}
 use Rattle.mask_states.specs.Keys.{offset_of}
 use Rattle.local_rules.specs.declared.local.Node.{Node}
 use Rattle.edge_rules.specs.declared.edge.Edge.{Edge}
-use Rattle.edge_rules.specs.Edges.{Enters, by_call, by_interrupt, IsEdge, moving, entering, returning, AreEdges}
+use Rattle.edge_rules.specs.Edges.{is_entry, Enters, by_call, by_interrupt, IsEdge, moving, entering, returning, AreEdges}
 use Rattle.edge_rules.specs.Families.{IsCovered}
 use Rattle.certificate.specs.declared.instance.Inst.{Inst}
 use Rattle.certificate.specs.Insts.{inst_keys}
 use Rattle.certificate.specs.Valid.{AllLand}
 use Rattle.cert_check.specs.declared.demand.Demand.{Demand}
-use Rattle.cert_check.specs.Demands.{AreInstances, place_in, need_at, is_entry, offset_demand, entry_demand, demands_of, Asks, offset, entry, AreDemands, AllBelong, IsInside, AreInside}
+use Rattle.cert_check.specs.Demands.{AreInstances, place_in, need_at, offset_demand, entry_demand, demands_of, Asks, offset, entry, AreDemands, AllBelong, IsInside, AreInside}
 use Rattle.cert_check.proofs.Insts.{placed}
 
 module _ (words : List ℕ) (A : List Entry) (insts : List Inst) (n : Node) where

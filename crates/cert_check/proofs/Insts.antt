@@ -14,15 +14,11 @@ use Rattle.mask_states.specs.Order.{inst_cmp, same_inst}
 use Rattle.mask_states.proofs.AllLaws.{keys_are_ordered}
 use Rattle.certificate.specs.declared.instance.Inst.{Inst}
 use Rattle.certificate.specs.Insts.{inst_keys, rank_in, need_in}
+use Rattle.certificate.proofs.Instances.{key_has, key_at}
 use Rattle.cert_check.specs.Demands.{AreInstances, place_in, rank_at, need_at}
 
 not_itself : (a b : InstKey) → inst_cmp a b ≡ Less → a ≡ b → ⊥
 not_itself a b lt e = let same = (keys_are_ordered.equal_insts a b).1 e in cc
-
-all_at : (P : InstKey → Type 0) (xs : List Inst) (j : ℕ) (b : Inst) → AllByRecursion P (inst_keys xs) → slice_get xs j ≡ Some b → P b.key
-all_at P [] j b h e = absurd (none-some b e)
-all_at P (x ∷ xs) zero b h e = subst (λ (n : Inst). P n.key) (same_Some x b e) h.0
-all_at P (x ∷ xs) (suc j) b h e = all_at P xs j b h.1 e
 
 each_at : (P : Inst → Type 0) (xs : List Inst) (j : ℕ) (b : Inst) → AllByRecursion P xs → slice_get xs j ≡ Some b → P b
 each_at P [] j b h e = absurd (none-some b e)
@@ -35,7 +31,7 @@ unfolding IsStrictlySortedBy
 pair [] i j a b s ea eb lt = absurd (none-some a ea)
 pair (x ∷ xs) zero zero a b s ea eb lt = absurd (omega (arith, lt))
 pair (x ∷ xs) zero (suc j) a b s ea eb lt =
-    subst (λ (n : Inst). inst_cmp n.key b.key ≡ Less) (same_Some x a ea) (all_at (λ k. inst_cmp x.key k ≡ Less) xs j b s.0 eb)
+    subst (λ (n : Inst). inst_cmp n.key b.key ≡ Less) (same_Some x a ea) (key_has (λ k. inst_cmp x.key k ≡ Less) xs j b s.0 eb)
 pair (x ∷ xs) (suc i) zero a b s ea eb lt = absurd (omega (arith, lt))
 pair (x ∷ xs) (suc i) (suc j) a b s ea eb lt = pair xs i j a b s.1 ea eb (omega (arith, lt))
 
@@ -54,11 +50,6 @@ place_there (x ∷ xs) key h =
     (λ i. let w = place_there xs key i in (suc w.0, record { inst = w.1.inst; is = w.1.is; same = w.1.same }))
     (first_or_further x.key key (inst_keys xs) h)
 
-key_at : (xs : List Inst) (j : ℕ) (x : Inst) → slice_get xs j ≡ Some x → Contains (inst_keys xs) x.key
-key_at [] j x e = absurd (none-some x e)
-key_at (y ∷ ys) zero x e = subst (λ (z : Inst). Contains (inst_keys (y ∷ ys)) z.key) (same_Some y x e) (first_in y.key (inst_keys ys))
-key_at (y ∷ ys) (suc j) x e = further_in y.key x.key (inst_keys ys) (key_at ys j x e)
-
 other_by : (a b : InstKey) (t : Bool) → same_inst a b ≡ t → (a ≡ b → ⊥) → t ≡ false
 other_by a b true e h = absurd (h ((keys_are_ordered.same_insts a b).0 e))
 other_by a b false e h = refl
@@ -71,7 +62,7 @@ unfolding IsStrictlySortedBy
 place_at [] j x s e = absurd (none-some x e)
 place_at (y ∷ ys) zero x s e = rw ((keys_are_ordered.same_insts y.key x.key).1 (ap (λ (z : Inst). z.key) (same_Some y x e))) refl
 place_at (y ∷ ys) (suc j) x s e =
-    rw (other y.key x.key (not_itself y.key x.key (all_at (λ k. inst_cmp y.key k ≡ Less) ys j x s.0 e))) (ap suc (place_at ys j x s.1 e))
+    rw (other y.key x.key (not_itself y.key x.key (key_has (λ k. inst_cmp y.key k ≡ Less) ys j x s.0 e))) (ap suc (place_at ys j x s.1 e))
 
 pub place_is : (xs : List Inst) (key : InstKey) (j : ℕ) → AreInstances xs → HasPlace xs key j → place_in xs key ≡ j
 place_is xs key j are h = subst (λ k. place_in xs k ≡ j) h.same (place_at xs j h.inst are.ascend h.is)

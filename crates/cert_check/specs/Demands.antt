@@ -1,12 +1,11 @@
 -- What is worked out on the way to a verdict.
-use Rattle.std.specs.Prelude.{ℕ, suc, ◌+◌, ◌≡◌, ◌≢◌, ◌<◌, ◌≤◌, ◌↔◌, ◌⊎◌, ◌==◌, ◌&&◌, ◌||◌, nat_lt, nat_le, Bool, true, false, if◌then◌else◌, List, [], ◌∷◌, ◌++◌, length, Option, Some, None, Contains}
+use Rattle.std.specs.Prelude.{ℕ, suc, ◌+◌, ◌≡◌, ◌≢◌, ◌<◌, ◌≤◌, ◌↔◌, ◌⊎◌, ◌==◌, ◌&&◌, ◌||◌, nat_lt, nat_le, if◌then◌else◌, List, [], ◌∷◌, ◌++◌, length, Option, Some, None, Contains}
 use Rattle.std.specs.List.{slice_get, flat_map, AllByRecursion}
 use Rattle.std.specs.List.Sorted.{IsStrictlySortedBy}
 use Rattle.std.specs.Ordering.{is_le}
 use Rattle.std.specs.declared.cmp.Ordering.TheVariants.{Greater}
 use Rattle.avr_model.specs.declared.assumption.Entry.{Entry}
 use Rattle.mask_states.specs.declared.keys.EdgeKind.{EdgeKind}
-use Rattle.mask_states.specs.declared.keys.EdgeKind.TheVariants as kind
 use Rattle.mask_states.specs.declared.keys.InstKey.{InstKey}
 use Rattle.mask_states.specs.declared.keys.NodeKey.{NodeKey}
 use Rattle.mask_states.specs.declared.keys.SpForm.{SpForm}
@@ -16,7 +15,7 @@ use Rattle.mask_states.specs.Order.{inst_cmp, node_cmp, same_inst}
 use Rattle.local_rules.specs.declared.local.Node.{Node}
 use Rattle.local_rules.specs.Cover.{IsNode}
 use Rattle.edge_rules.specs.declared.edge.Edge.{Edge}
-use Rattle.edge_rules.specs.Edges.{Enters, IsEdge, target}
+use Rattle.edge_rules.specs.Edges.{is_entry, Enters, IsEdge, target}
 use Rattle.edge_rules.specs.Families.{IsCovered}
 use Rattle.certificate.specs.declared.instance.Inst.{Inst}
 use Rattle.certificate.specs.Insts.{IsInst, inst_keys, need_in}
@@ -90,13 +89,6 @@ abbrev pub need_at : List Inst → ℕ → ℕ
 need_at insts j = need_of (slice_get insts j)
 
 -- ---- what nodes ask of their instances
-
--- an edge leads into another instance
-abbrev pub is_entry : EdgeKind → Bool
-is_entry kind.Local = false
-is_entry kind.Call = true
-is_entry (kind.Interrupt v clears) = true
-is_entry kind.Return = false
 
 abbrev pub offset_demand : ℕ → SpForm → List Demand
 offset_demand j (Closed offset) = record { inst = j; into = None; bytes = offset } ∷ []

@@ -5,11 +5,12 @@ ghost use Rattle.avr_model.specs.State.{SIZE};
 ghost use Rattle.std.specs.List.{flat_map};
 ghost use Rattle.edge_rules.specs.declared.edge.Edge as edge_type;
 ghost use Rattle.certificate.specs.Insts.{inst_keys};
-ghost use Rattle.cert_check.specs.Demands.{AreInstances, place_in, rank_at, need_at, is_entry, offset_demand, entry_demand, demands_of};
+ghost use Rattle.cert_check.specs.Demands.{AreInstances, place_in, rank_at, need_at, offset_demand, entry_demand, demands_of};
 
 use certificate::Inst;
 use edge_rules::Edge;
-use mask_states::{EdgeKind, InstKey, NodeKey, SpForm};
+use edge_rules::edge::is_entry;
+use mask_states::{InstKey, NodeKey, SpForm};
 use std::alloc::AllocError;
 
 // What a node asks of its instance, by the numbers of instances.
@@ -49,15 +50,6 @@ pub(crate) fn number_of(instances: &[Inst], key: &InstKey) -> usize
     ensures inside { result < length instances.now }
 {
     instances.partition_point(|inst| inst.key.cmp(key).is_lt())
-}
-
-fn is_entry(kind: EdgeKind) -> bool
-    ensures { result ≡ is_entry kind }
-{
-    match kind {
-        EdgeKind::Call | EdgeKind::Interrupt(_, _) => true,
-        EdgeKind::Local | EdgeKind::Return => false,
-    }
 }
 
 // A closed offset.

@@ -35,7 +35,8 @@ use Rattle.cert_format.specs.LineLaws.{InstLines, NodeLines, IsInstanceOf}
 use Rattle.cert_format.specs.Reading.{entry_by, inst_by, node_by, last_in, is_inst_above, is_node_above, refused_entry, refused_inst, refused_node}
 use Rattle.cert_format.proofs.Items.{cells_more}
 use Rattle.cert_format.proofs.Lists.{Admitted, Steady, Spells, Reads, AllFrom, any_of_all, kept_by, admitted_by, is_after, sorted_push, sorted_at}
-use Rattle.cert_words.proofs.AllLaws.{place_unique, contains_at, has_place}
+use Rattle.certificate.proofs.Instances.{key_at}
+use Rattle.cert_words.proofs.AllLaws.{place_unique, has_place}
 use Rattle.std.proofs.lemmas.Option.{slice_get_within}
 
 -- ---- a test before a fault
@@ -217,7 +218,7 @@ node_spells k l o version insts ascend at text n e =
     let place : place_of n.0.inst insts ≡ t.place = ap (λ (key : InstKey). place_of key insts) (sym t.inst.same) ∙ own in
     let P : InstKey → Type 0 = λ key. Contains (inst_keys insts) key in (
       sym (k.line_words text) ∙ ap spaced (t.words ∙ ap (λ (i : ℕ). node_words_at version i n) (sym place)),
-      (t.fits, subst P t.inst.same (contains_at insts t.place t.inst.inst t.inst.there), t.of_version),
+      (t.fits, subst P t.inst.same (key_at insts t.place t.inst.inst t.inst.there), t.of_version),
     )
 
 pub node_reads : WordLaws → NodeLines → KeysAreOrdered → (version : Version) (insts : List Inst) → length insts ≤ most_instances → Reads (node_by version insts) (node_words version insts) (FitsNode version insts)

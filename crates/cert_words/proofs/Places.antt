@@ -13,6 +13,7 @@ use Rattle.mask_states.specs.Order.{inst_cmp, same_inst}
 use Rattle.mask_states.specs.Laws.{KeysAreOrdered}
 use Rattle.certificate.specs.declared.instance.Inst.{Inst}
 use Rattle.certificate.specs.Insts.{inst_keys}
+use Rattle.certificate.proofs.Instances.{key_has, key_at}
 use Rattle.cert_words.specs.Text.{place_of}
 
 equal_is : (o : Ordering) → is_eq o ≡ true → o ≡ Equal
@@ -32,25 +33,15 @@ less_differs : (a b : InstKey) → inst_cmp a b ≡ Less → same_inst a b ≡ f
 unfolding same_inst
 less_differs a b e = ap is_eq e
 
-all_get : (P : InstKey → Type 0) (xs : List Inst) (i : ℕ) (x : Inst) → AllByRecursion P (inst_keys xs) → slice_get xs i ≡ Some x → P x.key
-all_get P [] i x h e = absurd (none-some x e)
-all_get P (y ∷ ys) zero x h e = let Q : Inst → Type 0 = λ z. P z.key in subst Q (same_Some y x e) h.0
-all_get P (y ∷ ys) (suc i) x h e = all_get P ys i x h.1 e
-
 -- an instance's number is where it stands
 pub place_unique : KeysAreOrdered → (xs : List Inst) (i : ℕ) (x : Inst) → IsStrictlySortedBy inst_cmp (inst_keys xs) → slice_get xs i ≡ Some x → place_of x.key xs ≡ i
 unfolding IsStrictlySortedBy
 place_unique o [] i x h e = absurd (none-some x e)
 place_unique o (y ∷ ys) zero x h e = rw (same_if o y.key x.key (ap (λ (z : Inst). z.key) (same_Some y x e))) refl
 place_unique o (y ∷ ys) (suc i) x h e =
-    let other = less_differs y.key x.key (all_get (λ z. inst_cmp y.key z ≡ Less) ys i x h.0 e) in
+    let other = less_differs y.key x.key (key_has (λ z. inst_cmp y.key z ≡ Less) ys i x h.0 e) in
     let more = place_unique o ys i x h.1 e in
     rw (other, more) (omega arith)
-
-pub contains_at : (xs : List Inst) (i : ℕ) (x : Inst) → slice_get xs i ≡ Some x → Contains (inst_keys xs) x.key
-contains_at [] i x e = absurd (none-some x e)
-contains_at (y ∷ ys) zero x e = (0, omega arith, ap (λ (z : Inst). z.key) (same_Some y x e))
-contains_at (y ∷ ys) (suc i) x e = let t = contains_at ys i x e in (suc t.0, omega (arith, t.1), t.2)
 
 -- an instance that is there has a number
 pub record HasPlace (xs : List Inst) (key : InstKey) : Type 0 where

@@ -1,3 +1,4 @@
 pub mod Kept
 pub mod Sound
+pub mod Instances
 pub mod AllLaws

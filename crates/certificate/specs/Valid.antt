@@ -68,10 +68,14 @@ pub record IsSound (words : List ℕ) (A : List Entry) (c : Claim) : Type 0 wher
   pub expanded : IsFilled words A c.nodes nodes
   pub meets : MeetsConditions words A c nodes
 
--- 8: the schedule, if there is one, meets no illegal choice, ends without a stop, and its depth is the bound
+-- the schedule's replay meets no illegal choice, ends without a stop, and its depth is the bound
+abbrev pub Attains : List ℕ → List Entry → ℕ → Plan → Type 0
+Attains words A bound plan = IsOkAnd (replay_of words A plan) (λ r. (r.stop ≡ stop.End) × (r.depth ≡ bound))
+
+-- 8: the schedule, if there is one, attains the bound
 abbrev pub IsAttained : List ℕ → List Entry → ℕ → Option Plan → Type 0
 IsAttained words A bound None = ⊤
-IsAttained words A bound (Some plan) = IsOkAnd (replay_of words A plan) (λ r. (r.stop ≡ stop.End) × (r.depth ≡ bound))
+IsAttained words A bound (Some plan) = Attains words A bound plan
 
 -- The certificate is valid for the words of flash and the assumptions.
 pub record IsValid (words : List ℕ) (A : List Entry) (c : Claim) : Type 0 where

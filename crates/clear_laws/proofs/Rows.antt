@@ -13,20 +13,9 @@ use Rattle.local_rules.specs.Raw.{Raw, untracked_if, too_deep_if}
 use Rattle.local_rules.specs.Registers.{forgetting}
 use Rattle.local_rules.specs.Local.{raw, row_of, row_at, row_in, is_hung, fetched, unlined, split_site, splitting}
 use Rattle.local_laws.proofs.AllLaws.{local_parts_fit}
+use Rattle.local_laws.proofs.Picks.{unlined_some, site_adds}
 
 -- ---- the site of a table
-
-unlined_some : (A : List Entry) (x : Option ℕ) (jump : ℕ) → unlined A x ≡ Some jump → (y : ℕ) × (x ≡ Some y)
-unlined_some A None jump e = absurd (cc)
-unlined_some A (Some y) jump e = (y, refl)
-
-site_adds : (words : List ℕ) (a jump : ℕ) → table_site words a ≡ Some jump → is_some_that adds_low (instruction_at words a) ≡ true
-unfolding table_site
-site_adds words a jump e = by (is_some_that adds_low (instruction_at words a)) (is_some_that adds_high (instruction_at words (a + 1))) e
-  where
-    by : (low high : Bool) → (if low && high then ijmp_from words 16 (wrapped (device_of words) (a + 2)) else None) ≡ Some jump → low ≡ true
-    by true high e = refl
-    by false high e = absurd (cc)
 
 splits_at : (words : List ℕ) (A : List Entry) (pc : ℕ) (pick : Option ℕ) (jump : ℕ) → split_site words A pc pick ≡ Some jump
     → is_some_that adds_low (instruction_at words pc) ≡ true

@@ -4,6 +4,7 @@ use Rattle.std.proofs.lemmas.List.{append-nil, length-append}
 use Rattle.std.proofs.lemmas.Option.{none-some, same_Some}
 use Rattle.basics.specs.Numbers.{less_none, less_one_more}
 use Rattle.stimulus.proofs.AllLaws.{done_of}
+use Rattle.stimulus.proofs.Runs.{stopped}
 use Rattle.avr_model.specs.declared.choice.Choice.{Choice}
 use Rattle.avr_model.specs.declared.choice.Stop.{Stop}
 use Rattle.avr_model.specs.declared.choice.Stop.TheVariants as stop
@@ -21,21 +22,6 @@ use Rattle.device_hooks.specs.Simulating.{Asked, Chooses}
 use Rattle.device_hooks.specs.Traces.{Leads}
 use Rattle.device_hooks.proofs.Determined.{next_step}
 use Rattle.device_hooks.specs.Midway.{IsChosen, kept_on, Walks}
-
--- what a stop makes of the run, of the machine and of the relations over them
-record Stopped (a : Answer) (end : Stop) : Type 1 where
-  pub goes : (on : State → Type 0) (rest : Type 0) → rest → GoesOn a on rest
-  pub runs : (on : State → Type 0) → RunsOn a [] on
-  pub moved : (m : Machine) → moved_on m a ≡ m
-  pub stop : (on : State → Stop) → end ≡ stop_on a on
-  pub states : (on : State → List State) → states_on a on ≡ []
-
-stopped : (a : Answer) (end : Stop) → stop_at (result_of a) ≡ Some end → Stopped a end
-stopped Illegal end is = absurd (none-some end is)
-stopped (Done s) end is = absurd (none-some end is)
-stopped (Undefined pc) end is = record { goes = λ on rest h. h; runs = λ on. refl; moved = λ m. refl; stop = λ on. sym (same_Some _ _ is); states = λ on. refl }
-stopped (Overflow pc) end is = record { goes = λ on rest h. h; runs = λ on. refl; moved = λ m. refl; stop = λ on. sym (same_Some _ _ is); states = λ on. refl }
-stopped (Flagged flag) end is = record { goes = λ on rest h. h; runs = λ on. refl; moved = λ m. refl; stop = λ on. sym (same_Some _ _ is); states = λ on. refl }
 
 -- a run has at least one state
 states_some : (words : List ℕ) (A : List Entry) (cs : List Choice) (m : State) → 1 ≤ length (states_of words A cs m)

@@ -15,13 +15,13 @@ use Rattle.mask_states.specs.declared.keys.SpForm.TheVariants.{Closed, Open}
 use Rattle.mask_states.specs.Keys.{entry_key}
 use Rattle.local_rules.specs.declared.local.Node.{Node}
 use Rattle.edge_rules.specs.declared.edge.Edge.{Edge}
-use Rattle.edge_rules.specs.Edges.{Enters, by_call, by_interrupt, IsEdge, moving, entering, returning, AreEdges}
+use Rattle.edge_rules.specs.Edges.{is_entry, Enters, by_call, by_interrupt, IsEdge, moving, entering, returning, AreEdges}
 use Rattle.edge_rules.specs.Views.{IsSpan}
 use Rattle.nesting_bound.specs.declared.graph.Entered.{Entered}
 use Rattle.nesting_bound.specs.declared.graph.GraphInst.{GraphInst}
 use Rattle.nesting_bound.specs.declared.graph.Place.{Place}
 use Rattle.family_graph.specs.Graphs.{HasInst, IsPeopled}
-use Rattle.family_graph.specs.Numbers.{number_in, AreNumbers, is_entry, entry_if, entries_of, AddsAt, IsPlaceBetween, IsEntryBetween, IsInstOf}
+use Rattle.family_graph.specs.Numbers.{number_in, AreNumbers, entry_if, entries_of, AddsAt, IsPlaceBetween, IsEntryBetween, IsInstOf}
 use Rattle.family_graph.proofs.Lists.{itself}
 use Rattle.family_graph.proofs.Insts.{number_is, number_there}
 

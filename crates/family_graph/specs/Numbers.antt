@@ -1,17 +1,15 @@
 -- Numbers of instances, and places and edges node by node.
-use Rattle.std.specs.Prelude.{ℕ, ◌+◌, ◌-◌, ◌≡◌, ◌<◌, ◌≤◌, ◌↔◌, Bool, true, false, if◌then◌else◌, List, [], ◌∷◌, ◌++◌, length, Some, Contains, slice_get, slice_index}
+use Rattle.std.specs.Prelude.{ℕ, ◌+◌, ◌-◌, ◌≡◌, ◌<◌, ◌≤◌, ◌↔◌, if◌then◌else◌, List, [], ◌∷◌, ◌++◌, length, Some, Contains, slice_get, slice_index}
 use Rattle.std.specs.List.{flat_map}
 use Rattle.std.specs.List.Sorted.{IsStrictlySortedBy}
 use Rattle.avr_model.specs.declared.assumption.Entry.{Entry}
-use Rattle.mask_states.specs.declared.keys.EdgeKind.{EdgeKind}
-use Rattle.mask_states.specs.declared.keys.EdgeKind.TheVariants.{Local, Call, Interrupt, Return}
 use Rattle.mask_states.specs.declared.keys.InstKey.{InstKey}
 use Rattle.mask_states.specs.declared.keys.SpForm.{SpForm}
 use Rattle.mask_states.specs.declared.keys.SpForm.TheVariants.{Closed, Open}
 use Rattle.mask_states.specs.Order.{inst_cmp, same_inst}
 use Rattle.local_rules.specs.declared.local.Node.{Node}
 use Rattle.edge_rules.specs.declared.edge.Edge.{Edge}
-use Rattle.edge_rules.specs.Edges.{Enters, AreEdges}
+use Rattle.edge_rules.specs.Edges.{is_entry, Enters, AreEdges}
 use Rattle.nesting_bound.specs.declared.graph.Entered.{Entered}
 use Rattle.nesting_bound.specs.declared.graph.GraphInst.{GraphInst}
 use Rattle.nesting_bound.specs.declared.graph.Place.{Place}
@@ -44,12 +42,6 @@ pub record AreNumbers (nodes : List Node) (count : ℕ) (insts : List InstKey) (
   pub last : (n : Node) → 0 < count → slice_get nodes (count - 1) ≡ Some n → EndsWith insts n.key.inst
 
 -- ---- places and edges
-
-abbrev pub is_entry : EdgeKind → Bool
-is_entry Local = false
-is_entry Call = true
-is_entry (Interrupt v clears) = true
-is_entry Return = false
 
 -- an edge of the graph for one that enters an instance
 abbrev pub entry_if : List InstKey → ℕ → ℕ → Edge → List Entered

@@ -3,34 +3,25 @@
 ghost use Rattle.std.specs.Prelude.{◌≡◌, ◌++◌, ◌<◌, ◌≤◌, ℕ, List, length, Some, IfOk, OnOk, IsTrue, Contains, slice_get};
 ghost use Rattle.local_rules.specs.declared.local.Node.{Node};
 ghost use Rattle.edge_rules.specs.declared.edge.Edge.{Edge};
-ghost use Rattle.edge_rules.specs.Edges.{IsFaultless};
+ghost use Rattle.edge_rules.specs.Edges.{is_entry, IsFaultless};
 ghost use Rattle.edge_rules.specs.Views.{AreShown};
 ghost use Rattle.call_graph.specs.Exits.{AreExits};
 ghost use Rattle.nesting_bound.specs.Graph.{IsGraph};
 ghost use Rattle.family_graph.specs.Graphs.{HasInst, IsPeopled, IsGraphOf};
-ghost use Rattle.family_graph.specs.Numbers.{AreNumbers, is_entry, entry_if, entries_of, AddsAt, IsInstOf};
+ghost use Rattle.family_graph.specs.Numbers.{AreNumbers, entry_if, entries_of, AddsAt, IsInstOf};
 
 use crate::numbering::{Numbering, number_of, numbered};
 use avr_model::listed::Listed;
 use call_graph::laws::exits_are_exact;
 use call_graph::{Edge, Leaving, exits, next_with};
 use edge_rules::View;
+use edge_rules::edge::is_entry;
 use flash_image::Flash;
 use local_rules::Exit;
-use mask_states::{EdgeKind, SpForm};
+use mask_states::SpForm;
 use nesting_bound::{Entered, Graph, GraphInst, Place};
 use std::alloc::{AllocError, Global};
 use vector_table::Assumptions;
-
-// Whether an edge of this kind enters an instance.
-fn is_entry(kind: EdgeKind) -> bool
-    ensures { result ≡ is_entry kind }
-{
-    match kind {
-        EdgeKind::Call | EdgeKind::Interrupt(_, _) => true,
-        EdgeKind::Local | EdgeKind::Return => false,
-    }
-}
 
 // The edge of the graph for an edge from the node of this number, where it enters an instance.
 fn add_entry<V: View>(

@@ -3,8 +3,7 @@ use Rattle.std.proofs.Common.{◌≡◌, refl, ℕ, List, ◌++◌, ap, Bool, tr
 use Rattle.std.specs.Prelude.{IsTrue, ◌&&◌}
 use Rattle.std.specs.Hash as fed
 use Rattle.mask_states.specs.declared.keys.NodeKey.{NodeKey}
-use Rattle.mask_states.specs.declared.keys.InstKey.{InstKey}
-use Rattle.mask_states.specs.Order.{same_node, same_inst}
+use Rattle.mask_states.specs.Order.{same_node}
 use Rattle.mask_states.specs.Keys.{offset_of}
 use Rattle.mask_states.proofs.AllLaws.{keys_are_ordered}
 
@@ -23,10 +22,3 @@ first_alike a b more h = by (same_node a b) (λ t. alike a b t) h
     by : (same : Bool) → (IsTrue same → key_hash a ≡ key_hash b) → IsTrue (same && more) → key_hash a ≡ key_hash b
     by true then t = then refl
     by false then t = absurd (cc)
-
--- the same of instances
-abbrev pub inst_hash : InstKey → List (List ℕ)
-inst_hash k = fed.u16 k.entry ++ fed.u32 k.masks
-
-pub inst_alike : (a b : InstKey) → IsTrue (same_inst a b) → inst_hash a ≡ inst_hash b
-inst_alike a b h = ap inst_hash ((keys_are_ordered.same_insts a b).0 h)

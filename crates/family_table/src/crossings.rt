@@ -3,7 +3,9 @@
 ghost use Rattle.std.specs.Prelude.{◌≡◌, ◌∷◌, [], IfSome, IfNone, IfOk, OnOk};
 ghost use Rattle.mask_states.specs.Order.{same_inst};
 ghost use Rattle.mask_states.specs.Total.{inst_equivalence};
-ghost use Rattle.family_table.specs.Hashes.{key_hash, first_alike, inst_hash, inst_alike};
+ghost use Rattle.mask_states.specs.Hashes.{inst_hash};
+ghost use Rattle.mask_states.proofs.Hashes.{inst_alike};
+ghost use Rattle.family_table.specs.Hashes.{key_hash, first_alike};
 ghost use Rattle.family_table.specs.Crossings.{crossings_at, IsAdded, AreOnce};
 
 use indexmap::{IndexMap, IndexSet};

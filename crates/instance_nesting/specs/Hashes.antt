@@ -7,20 +7,11 @@ use Rattle.std.specs.Hash as fed
 use Rattle.std.proofs.lemmas.Cmp.{nat_eq_equiv, on_equiv, and_equiv}
 use Rattle.std.proofs.lemmas.Bool.{and_parts}
 use Rattle.mask_states.specs.declared.keys.InstKey.{InstKey}
+use Rattle.mask_states.specs.Hashes.{inst_hash}
 use Rattle.mask_states.specs.Order.{same_inst}
 use Rattle.mask_states.specs.Total.{inst_equivalence}
 use Rattle.mask_states.proofs.AllLaws.{keys_are_ordered}
 use Rattle.instance_nesting.specs.Nestings.{Spot, Entrance}
-
--- ---- of an instance
-
--- the words that tell most instances apart
-abbrev pub inst_hash : InstKey → List (List ℕ)
-inst_hash k = fed.u16 k.entry ++ fed.u32 k.masks
-
--- equal ones are fed alike
-pub inst_alike : (a b : InstKey) → IsTrue (same_inst a b) → inst_hash a ≡ inst_hash b
-inst_alike a b h = ap inst_hash ((keys_are_ordered.same_insts a b).0 h)
 
 -- ---- of a spot
 

@@ -4,7 +4,9 @@ ghost use Rattle.std.specs.Prelude.{◌≡◌, ◌≤◌};
 ghost use Rattle.avr_model.specs.State.{SIZE};
 ghost use Rattle.mask_states.specs.Order.{same_inst};
 ghost use Rattle.mask_states.specs.Total.{inst_equivalence};
-ghost use Rattle.instance_nesting.specs.Hashes.{same_spot, spots_equivalence, same_entrance, entrances_equivalence, inst_hash, inst_alike, spot_hash, spot_alike, entrance_hash, entrance_alike};
+ghost use Rattle.mask_states.specs.Hashes.{inst_hash};
+ghost use Rattle.mask_states.proofs.Hashes.{inst_alike};
+ghost use Rattle.instance_nesting.specs.Hashes.{same_spot, spots_equivalence, same_entrance, entrances_equivalence, spot_hash, spot_alike, entrance_hash, entrance_alike};
 
 use mask_states::InstKey;
 use std::hash::{Hash, Hasher};

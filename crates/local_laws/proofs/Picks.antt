@@ -42,11 +42,11 @@ use Rattle.local_laws.proofs.Quiet.{Quiet}
 
 -- ---- the site
 
-unlined_some : (A : List Entry) (x : Option ℕ) (jump : ℕ) → unlined A x ≡ Some jump → (y : ℕ) × (x ≡ Some y)
+pub unlined_some : (A : List Entry) (x : Option ℕ) (jump : ℕ) → unlined A x ≡ Some jump → (y : ℕ) × (x ≡ Some y)
 unlined_some A None jump e = absurd (cc)
 unlined_some A (Some y) jump e = (y, refl)
 
-site_adds : (words : List ℕ) (a jump : ℕ) → table_site words a ≡ Some jump → is_some_that adds_low (instruction_at words a) ≡ true
+pub site_adds : (words : List ℕ) (a jump : ℕ) → table_site words a ≡ Some jump → is_some_that adds_low (instruction_at words a) ≡ true
 unfolding table_site
 site_adds words a jump e = by (is_some_that adds_low (instruction_at words a)) (is_some_that adds_high (instruction_at words (a + 1))) e
   where

@@ -5,4 +5,5 @@ pub mod Rows
 pub mod Few
 pub mod Steps
 pub mod Written
+pub mod Hashes
 pub mod AllLaws

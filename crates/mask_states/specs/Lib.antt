@@ -5,3 +5,4 @@ pub mod Place
 pub mod Splits
 pub mod Laws
 pub mod Examples
+pub mod Hashes

@@ -11,10 +11,10 @@ use Rattle.edge_laws.specs.Expansions.{FilledOrMissing}
 use Rattle.nesting_bound.specs.declared.graph.Link.{Link}
 use Rattle.witness_replay.specs.Spelling.{Plan}
 use Rattle.certificate.specs.Claims.{Claim}
-use Rattle.certificate.specs.Valid.{IsSound, MeetsConditions, IsAttained}
+use Rattle.certificate.specs.Valid.{IsSound, MeetsConditions, Attains, IsAttained}
 use Rattle.witness_search.specs.declared.waypoint.Waypoint.{Waypoint}
 use Rattle.witness_search.specs.Chains.{interrupt_at, interrupt_of, interrupts_of, IsDeepest, AreInterrupts, AreWaypoints}
-use Rattle.witness_search.specs.Trials.{Attains, IsFound}
+use Rattle.witness_search.specs.Trials.{IsFound}
 
 pub attained_as : (words : List ℕ) (A : List Entry) (bound : ℕ) (found : Option Plan) → IfSome found (Attains words A bound) → IsAttained words A bound found
 attained_as words A bound None h = tt

@@ -13,9 +13,10 @@ use Rattle.avr_model.specs.Run.{IsRun, starting, depth_of, stop_of}
 use Rattle.stimulus.specs.Laws.{DepthIsKept}
 use Rattle.witness_replay.specs.Spelling.{Plan, IsSchedule, choices_of}
 use Rattle.witness_replay.specs.Replay.{replay_from, report_unless, steps_of}
+use Rattle.certificate.specs.Valid.{Attains}
 use Rattle.witness_search.specs.declared.waypoint.Waypoint.{Waypoint}
 use Rattle.witness_search.specs.Waypoints.{pick_due, due_left}
-use Rattle.witness_search.specs.Trials.{fills, most_steps, trial_by, trial_of, Succeeds, NoneSucceeds, IsTried, IsFound, Attains}
+use Rattle.witness_search.specs.Trials.{fills, most_steps, trial_by, trial_of, Succeeds, NoneSucceeds, IsTried, IsFound}
 use Rattle.witness_search.specs.Laws.{TrialsAreShort}
 use Rattle.witness_search.proofs.Runs.{few, ends_well, run_legal}
 

@@ -57,7 +57,3 @@ pub record IsFirst (words : List ℕ) (A : List Entry) (points : List Waypoint) 
 abbrev pub IsFound : List ℕ → List Entry → List Waypoint → ℕ → Option Plan → Type 0
 IsFound words A points bound None = NoneSucceeds words A points bound fills
 IsFound words A points bound (Some plan) = IsFirst words A points bound plan
-
--- the schedule's replay meets no illegal choice, ends without a stop, and its depth is the bound
-abbrev pub Attains : List ℕ → List Entry → ℕ → Plan → Type 0
-Attains words A bound plan = IsOkAnd (replay_of words A plan) (λ r. (r.stop ≡ stop.End) × (r.depth ≡ bound))

@@ -5,7 +5,8 @@ ghost use Rattle.avr_model.specs.Devices.{device_of};
 ghost use Rattle.avr_model.specs.State.{filled};
 ghost use Rattle.avr_model.specs.Run.{IsRun, depth_of};
 ghost use Rattle.witness_search.specs.Waypoints.{taken, left_after};
-ghost use Rattle.witness_search.specs.Trials.{trial_by, most_steps, Attains, IsTried, IsFound};
+ghost use Rattle.certificate.specs.Valid.{Attains};
+ghost use Rattle.witness_search.specs.Trials.{trial_by, most_steps, IsTried, IsFound};
 
 use crate::waypoint::{Waypoint, is_due};
 use avr_machine::{Choice, Machine, Menu};

@@ -1,5 +1,5 @@
 use Rattle.std.proofs.Common.{◌≡◌, true, sym}
-use Rattle.family_graph.specs.Numbers.{is_entry}
+use Rattle.edge_rules.specs.Edges.{is_entry}
 use Rattle.family_graph.proofs.building.add_entry.Goals as goal
 
 pub number_of-into-requires-clause-has : goal.number_of-into-requires-clause-has
