@@ -1,8 +1,8 @@
 -- What a pool keeps by places, and what becomes of it.
 use Rattle.std.proofs.Common.{◌≡◌, ◌≢◌, refl, sym, ap, ◌∙◌, subst, ℕ, zero, suc, ◌+◌, ◌-◌, ◌<◌, ◌≤◌, nat_lt, Bool, true, false, not, cond, Option, Some, None, List, [], ◌∷◌, ◌++◌, length, slice_get, take, slice_set, slice_index_or, length-append, arith}
 use Rattle.std.specs.List.{swap, swap_remove, IsDistinct, AllByRecursion, position_or_len}
-use Rattle.std.specs.Prelude.{position, IsSome}
-use Rattle.std.specs.Map.{keys_of}
+use Rattle.std.specs.Prelude.{IsSome}
+use Rattle.std.specs.Map.{lookup, keys_of}
 use Rattle.std.specs.Ordering.{nat_cmp}
 use Rattle.std.specs.FinMap.{get, insert, remove, len, from_entries}
 use Rattle.std.proofs.lemmas.Bool.Decides.{nat_tests}
@@ -15,7 +15,7 @@ use Rattle.state_pool.specs.Equal.{same_state_decides}
 use Rattle.std.proofs.Common.{inl, inr, Result, Ok, Err}
 use Rattle.std.specs.Prelude.{if◌then◌else◌, OnOk, is_err, is_some, IfSome}
 use Rattle.indexmap.specs.IndexMap.{insert_entry}
-use Rattle.state_pool.specs.Uses.{Uses, AreDistinct, AreUsed, IsAbsent, IsInterned, lowered, released}
+use Rattle.state_pool.specs.Uses.{Uses, AreDistinct, AreUsed, IsAbsent, IsInterned, lowered, released, last_state}
 use Rattle.state_pool.specs.Numbers.{number_at, AreNumbers, IsReached}
 use Rattle.state_pool.specs.Places.{numbered, AreKept}
 use Rattle.state_pool.proofs.Cases.{cases_eq, same_option, none_of}
@@ -89,48 +89,74 @@ distinct_uses ns es m k is n q s c d e f =
 pub used_uses : (ns : List ℕ) (es : Entries) (m : Uses) → AreKept ns es → uses_of ns es ≡ m → AreUsed m
 used_uses ns es m k is n s c e = let at = at_get ns es n (s, c) (ap (λ g. get g n) is ∙ e) in k.used at.place (s, c) at.entry
 
--- ---- the place of a state
+-- ---- a state that is put in
 
-found_key : (x : AbsState) (es : Entries) (s : AbsState) (c : ℕ) → position_or_len (same_state x) (keys_of es) < length (keys_of es)
-    → slice_get es (position_or_len (same_state x) (keys_of es)) ≡ Some (s, c) → x ≡ s
-found_key x [] s c lt e = absurd (omega arith)
-found_key x (f ∷ es) s c lt e = by (same_state x f.0) refl lt e (found_key x es s c)
+-- one that is there keeps its place, where the count that comes last stands
+put_there : (x : AbsState) (es : Entries) (c d n : ℕ) → lookup (same_state x) es ≡ Some c
+    → (slice_get es (position_or_len (same_state x) (keys_of es)) ≡ Some (x, c))
+    × (set_value_at (insert_entry same_state es x d) (position_or_len (same_state x) (keys_of es)) n ≡ set_value_at es (position_or_len (same_state x) (keys_of es)) n)
+put_there x [] c d n is = absurd (none-some c is)
+put_there x (f ∷ es) c d n is = by (same_state x f.0) refl is (put_there x es c d n)
   where
-    by : (b : Bool) → same_state x f.0 ≡ b → cond (not b) (1 + position_or_len (same_state x) (keys_of es)) 0 < length (keys_of (f ∷ es))
-        → slice_get (f ∷ es) (cond (not b) (1 + position_or_len (same_state x) (keys_of es)) 0) ≡ Some (s, c)
-        → (position_or_len (same_state x) (keys_of es) < length (keys_of es) → slice_get es (position_or_len (same_state x) (keys_of es)) ≡ Some (s, c) → x ≡ s) → x ≡ s
-    by true t lt e rest = (same_state_decides x f.0).0 t ∙ ap (λ (p : AbsState × ℕ). p.0) (same_Some f (s, c) e)
-    by false t lt e rest =
-        let one : 1 + position_or_len (same_state x) (keys_of es) ≡ suc (position_or_len (same_state x) (keys_of es)) = omega arith in
-        rest (omega (arith, lt)) (subst (λ (i : ℕ). slice_get (f ∷ es) i ≡ Some (s, c)) one e)
+    by : (b : Bool) → same_state x f.0 ≡ b → cond b (Some f.1) (lookup (same_state x) es) ≡ Some c
+        → (lookup (same_state x) es ≡ Some c
+        → (slice_get es (position_or_len (same_state x) (keys_of es)) ≡ Some (x, c))
+        × (set_value_at (insert_entry same_state es x d) (position_or_len (same_state x) (keys_of es)) n ≡ set_value_at es (position_or_len (same_state x) (keys_of es)) n))
+        → (slice_get (f ∷ es) (cond (not b) (1 + position_or_len (same_state x) (keys_of es)) 0) ≡ Some (x, c))
+        × (set_value_at (cond b ((f.0, d) ∷ es) (f ∷ insert_entry same_state es x d)) (cond (not b) (1 + position_or_len (same_state x) (keys_of es)) 0) n
+        ≡ set_value_at (f ∷ es) (cond (not b) (1 + position_or_len (same_state x) (keys_of es)) 0) n)
+    by true t is rest =
+        let key : f.0 ≡ x = sym ((same_state_decides x f.0).0 t) in
+        (ap (λ (y : AbsState). Some (y, f.1)) key ∙ ap (λ (m : ℕ). Some (x, m)) (same_Some f.1 c is), refl)
+    by false t is rest =
+        let one : suc (position_or_len (same_state x) (keys_of es)) ≡ 1 + position_or_len (same_state x) (keys_of es) = omega arith in
+        let h = rest is in (
+          subst (λ (i : ℕ). slice_get (f ∷ es) i ≡ Some (x, c)) one h.0,
+          subst (λ (i : ℕ). set_value_at (f ∷ insert_entry same_state es x d) i n ≡ set_value_at (f ∷ es) i n) one (ap (λ (l : Entries). f ∷ l) h.1),
+        )
 
-pub key_at : (x : AbsState) (es : Entries) (i : ℕ) (s : AbsState) (c : ℕ) → Some i ≡ position (same_state x) (keys_of es) → slice_get es i ≡ Some (s, c) → x ≡ s
-key_at x es i s c is e = by (nat_lt (position_or_len (same_state x) (keys_of es)) (length (keys_of es))) refl is
-  where
-    by : (b : Bool) → nat_lt (position_or_len (same_state x) (keys_of es)) (length (keys_of es)) ≡ b
-        → Some i ≡ cond b (Some (position_or_len (same_state x) (keys_of es))) None → x ≡ s
-    by true t is =
-        let same : i ≡ position_or_len (same_state x) (keys_of es) = same_Some i (position_or_len (same_state x) (keys_of es)) is in
-        found_key x es s c (grind (arith, nat_tests)) (subst (λ (i : ℕ). slice_get es i ≡ Some (s, c)) same e)
-    by false t is = absurd (none-some i (sym is))
+pub place_there : (es : Entries) (x : AbsState) (p c : ℕ) → p ≡ position_or_len (same_state x) (keys_of es) → Some c ≡ lookup (same_state x) es → slice_get es p ≡ Some (x, c)
+place_there es x p c place known = ap (slice_get es) place ∙ (put_there x es c 0 0 (sym known)).0
 
-no_key : (x : AbsState) (es : Entries) → length (keys_of es) ≤ position_or_len (same_state x) (keys_of es) → (j c : ℕ) → slice_get es j ≢ Some (x, c)
-no_key x [] le j c e = none-some (x, c) e
-no_key x (f ∷ es) le j c e = by (same_state x f.0) refl le (no_key x es) j e
-  where
-    by : (b : Bool) → same_state x f.0 ≡ b → length (keys_of (f ∷ es)) ≤ cond (not b) (1 + position_or_len (same_state x) (keys_of es)) 0
-        → (length (keys_of es) ≤ position_or_len (same_state x) (keys_of es) → (j c : ℕ) → slice_get es j ≢ Some (x, c)) → (j : ℕ) → slice_get (f ∷ es) j ≡ Some (x, c) → ⊥
-    by true t le rest j e = absurd (omega (arith, le))
-    by false t le rest zero e = let s = (same_state_decides x f.0).1 (sym (ap (λ (p : AbsState × ℕ). p.0) (same_Some f (x, c) e))) in absurd (cc)
-    by false t le rest (suc j) e = rest (omega (arith, le)) j c e
+pub set_there : (es mid new : Entries) (x : AbsState) (p c d n : ℕ) → p ≡ position_or_len (same_state x) (keys_of es) → Some c ≡ lookup (same_state x) es
+    → mid ≡ insert_entry same_state es x d → new ≡ set_value_at mid p n → new ≡ set_value_at es p n
+set_there es mid new x p c d n place known put set =
+    set ∙ ap (λ (l : Entries). set_value_at l p n) put ∙ ap (λ (i : ℕ). set_value_at (insert_entry same_state es x d) i n) place ∙ (put_there x es c d n (sym known)).1
+    ∙ ap (λ (i : ℕ). set_value_at es i n) (sym place)
 
-pub absent_at : (x : AbsState) (es : Entries) → None ≡ position (same_state x) (keys_of es) → (j c : ℕ) → slice_get es j ≢ Some (x, c)
-absent_at x es is = by (nat_lt (position_or_len (same_state x) (keys_of es)) (length (keys_of es))) refl is
+-- one that isn't there comes last
+record IsLast (es : Entries) (x : AbsState) (d : ℕ) : Type 0 where
+  away : (j c : ℕ) → slice_get es j ≢ Some (x, c)
+  put : insert_entry same_state es x d ≡ es ++ (x, d) ∷ []
+  place : position_or_len (same_state x) (keys_of es) ≡ length es
+
+put_last : (x : AbsState) (es : Entries) (d : ℕ) → lookup (same_state x) es ≡ None → IsLast es x d
+put_last x [] d is = record { away = λ j c e. none-some (x, c) e; put = refl; place = refl }
+put_last x (f ∷ es) d is = by (same_state x f.0) refl is (put_last x es d)
   where
-    by : (b : Bool) → nat_lt (position_or_len (same_state x) (keys_of es)) (length (keys_of es)) ≡ b
-        → None ≡ cond b (Some (position_or_len (same_state x) (keys_of es))) None → (j c : ℕ) → slice_get es j ≢ Some (x, c)
-    by true t is = absurd (none-some (position_or_len (same_state x) (keys_of es)) is)
-    by false t is = no_key x es (grind (arith, nat_tests))
+    away_by : same_state x f.0 ≡ false → IsLast es x d → (j c : ℕ) → slice_get (f ∷ es) j ≢ Some (x, c)
+    away_by t rest zero c e = let s = (same_state_decides x f.0).1 (sym (ap (λ (p : AbsState × ℕ). p.0) (same_Some f (x, c) e))) in absurd (cc)
+    away_by t rest (suc j) c e = rest.away j c e
+
+    by : (b : Bool) → same_state x f.0 ≡ b → cond b (Some f.1) (lookup (same_state x) es) ≡ None → (lookup (same_state x) es ≡ None → IsLast es x d) → IsLast (f ∷ es) x d
+    by true t is rest = absurd (none-some f.1 (sym is))
+    by false t is rest =
+        let h = rest is in
+        record {
+          away = away_by t h;
+          put = ap (λ (b : Bool). cond b ((f.0, d) ∷ es) (f ∷ insert_entry same_state es x d)) t ∙ ap (λ (l : Entries). f ∷ l) h.put;
+          place = ap (λ (b : Bool). cond (not b) (1 + position_or_len (same_state x) (keys_of es)) 0) t ∙ (let e = h.place in omega (arith, e));
+        }
+
+pub absent : (ns : List ℕ) (es : Entries) (m : Uses) (x : AbsState) → uses_of ns es ≡ m → None ≡ lookup (same_state x) es → IsAbsent m x
+absent ns es m x is none n count e =
+    let at = at_get ns es n (x, count) (ap (λ (f : Uses). get f n) is ∙ e) in (put_last x es 0 (sym none)).away at.place count at.entry
+
+pub place_last : (es : Entries) (x : AbsState) (p : ℕ) → p ≡ position_or_len (same_state x) (keys_of es) → None ≡ lookup (same_state x) es → p ≡ length es
+place_last es x p place none = place ∙ (put_last x es 0 (sym none)).place
+
+pub inserted_last : (es new : Entries) (x : AbsState) (d : ℕ) → None ≡ lookup (same_state x) es → new ≡ insert_entry same_state es x d → new ≡ es ++ (x, d) ∷ []
+inserted_last es new x d none put = put ∙ (put_last x es d (sym none)).put
 
 -- ---- another count
 
@@ -214,6 +240,10 @@ reached_long ns new n r le =
     cases_eq (length ns) n (n < length new)
     (λ e. let long : length new ≡ length ns + 1 = ap length (r.1 e) ∙ length-append ns (n ∷ []) in omega (arith, long, e))
     (λ ne. let lt : n < length ns = grind (arith, ne, le) in subst (λ (ms : List ℕ). n < length ms) (sym (r.0 lt)) lt)
+
+pub kept_reached : (ns ms : List ℕ) (es : Entries) → AreKept ns es → IsReached ns (length es) ms → AreNumbers ms → AreKept ms es
+kept_reached ns ms es k r numbers =
+    record { numbers = numbers; within = let room = reached_long ns ms (length es) r k.within in omega (arith, room); distinct = k.distinct; used = k.used }
 
 numbered_more : (ns : List ℕ) (n : ℕ) (es : Entries) → length es ≤ length ns → numbered (ns ++ n ∷ []) es ≡ numbered ns es
 numbered_more [] n [] le = refl
@@ -410,19 +440,13 @@ held_at ns es m i e k is entry =
     ap (λ (f : Uses). get f (number_at ns i)) (sym is)
     ∙ get_at ns es (number_at ns i) e k.within (apart ns es k) (record { place = i; low = slice_get_within es i e entry; number = refl; entry = entry })
 
-pub absent : (ns : List ℕ) (es : Entries) (m : Uses) (s : AbsState) → uses_of ns es ≡ m → None ≡ position (same_state s) (keys_of es) → IsAbsent m s
-absent ns es m s is none n count e =
-    let at = at_get ns es n (s, count) (ap (λ (f : Uses). get f n) is ∙ e) in absent_at s es none at.place count at.entry
-
-pub interned_again : (ns : List ℕ) (es new : Entries) (m : Uses) (n i : ℕ) (s x : AbsState) (c : ℕ) → AreKept ns es → uses_of ns es ≡ m → n ≡ number_at ns i
-    → Some i ≡ position (same_state s) (keys_of es) → slice_get es i ≡ Some (x, c) → new ≡ set_value_at es i (c + 1) → IsInterned m s n (uses_of ns new)
-interned_again ns es new m n i s x c k is number found entry set =
-    let same : x ≡ s = sym (key_at s es i x c found entry) in
-    let entry' : slice_get es i ≡ Some (s, c) = entry ∙ ap (λ (y : AbsState). Some (y, c)) same in
+pub interned_again : (ns : List ℕ) (es new : Entries) (m : Uses) (n i : ℕ) (s : AbsState) (c : ℕ) → AreKept ns es → uses_of ns es ≡ m → n ≡ number_at ns i
+    → slice_get es i ≡ Some (s, c) → new ≡ set_value_at es i (c + 1) → IsInterned m s n (uses_of ns new)
+interned_again ns es new m n i s c k is number entry set =
     inl (
       c,
-      ap (get m) number ∙ held_at ns es m i (s, c) k is entry',
-      uses_set ns es new i s c (c + 1) k (omega arith) set entry' ∙ ap (λ (f : Uses). insert f (number_at ns i) (s, c + 1)) is ∙ ap (λ q. insert m q (s, c + 1)) (sym number),
+      ap (get m) number ∙ held_at ns es m i (s, c) k is entry,
+      uses_set ns es new i s c (c + 1) k (omega arith) set entry ∙ ap (λ (f : Uses). insert f (number_at ns i) (s, c + 1)) is ∙ ap (λ q. insert m q (s, c + 1)) (sym number),
     )
 
 pub interned_new : (ns ms : List ℕ) (es new : Entries) (m : Uses) (n : ℕ) (s : AbsState) → AreKept ns es → uses_of ns es ≡ m → IsReached ns (length es) ms → AreNumbers ms
@@ -467,24 +491,30 @@ released_last ns ms es new m n p x c e k is number entry le swapped entries long
     ∙ ap (λ (f : Uses). remove f (number_at ns p)) is ∙ ap (remove m) number
     ∙ sym (ap (lowered m n) there ∙ lowered_last m n x c le)
 
+given_none : (m : Uses) (n : ℕ) (s : AbsState) (c : ℕ) → get m n ≡ Some (s, c) → 1 < c → last_state (get m n) ≡ None
+given_none m n s c there lt = ap last_state there ∙ test c (nat_lt 1 c) refl (Option AbsState) None (Some s) None (λ t. refl) (λ t. absurd (grind (arith, nat_tests, t, lt)))
+
+given_last : (m : Uses) (n : ℕ) (s : AbsState) (c : ℕ) → get m n ≡ Some (s, c) → c ≤ 1 → last_state (get m n) ≡ Some s
+given_last m n s c there le = ap last_state there ∙ test c (nat_lt 1 c) refl (Option AbsState) None (Some s) (Some s) (λ t. absurd (grind (arith, nat_tests, t, le))) (λ t. refl)
+
+-- what a release gives, by the entry at the number's place
+pub not_given : (ns : List ℕ) (es : Entries) (m : Uses) (n p : ℕ) (x : AbsState) (c : ℕ) → AreKept ns es → uses_of ns es ≡ m → number_at ns p ≡ n → slice_get es p ≡ Some (x, c) → 1 < c
+    → None ≡ last_state (get m n)
+not_given ns es m n p x c k is number entry lt = sym (given_none m n x c (sym (ap (get m) number) ∙ held_at ns es m p (x, c) k is entry) lt)
+
+pub given_there : (ns : List ℕ) (es : Entries) (m : Uses) (n p : ℕ) (x s : AbsState) (c d : ℕ) → AreKept ns es → uses_of ns es ≡ m → number_at ns p ≡ n → slice_get es p ≡ Some (x, c) → c ≤ 1
+    → Some (s, d) ≡ slice_get es p → Some s ≡ last_state (get m n)
+given_there ns es m n p x s c d k is number entry le taken =
+    ap Some (ap (λ (e : AbsState × ℕ). e.0) (same_Some (s, d) (x, c) (taken ∙ entry)))
+    ∙ sym (given_last m n x c (sym (ap (get m) number) ∙ held_at ns es m p (x, c) k is entry) le)
+
 -- a call that gave no error kept what it promises
-pub on_ok : {V E : Type 0} (r : Result V E) (P : Type 0) → OnOk r P → is_err r ≡ false → P
+on_ok : {V E : Type 0} (r : Result V E) (P : Type 0) → OnOk r P → is_err r ≡ false → P
 on_ok (Ok v) P h e = h
 on_ok (Err x) P h e = absurd (cc)
 
--- a state that no place has comes last
-insert_last : (es : Entries) (x : AbsState) (c : ℕ) → ((j d : ℕ) → slice_get es j ≢ Some (x, d)) → insert_entry same_state es x c ≡ es ++ (x, c) ∷ []
-insert_last [] x c away = refl
-insert_last (e ∷ es) x c away = by (same_state x e.0) refl (insert_last es x c (λ j d. away (suc j) d))
-  where
-    by : (b : Bool) → same_state x e.0 ≡ b → insert_entry same_state es x c ≡ es ++ (x, c) ∷ []
-        → (if b then (e.0, c) ∷ es else e ∷ insert_entry same_state es x c) ≡ e ∷ (es ++ (x, c) ∷ [])
-    by true t rest = absurd (away 0 e.1 (ap (λ (y : AbsState). Some (y, e.1)) (sym ((same_state_decides x e.0).0 t))))
-    by false t rest = ap (λ (l : Entries). e ∷ l) rest
-
-pub inserted_last : (ns : List ℕ) (es new : Entries) (m : Uses) (x : AbsState) (c : ℕ) → AreKept ns es → uses_of ns es ≡ m → IsAbsent m x → new ≡ insert_entry same_state es x c
-    → new ≡ es ++ (x, c) ∷ []
-inserted_last ns es new m x c k is away entries = entries ∙ insert_last es x c (λ j d e. away (number_at ns j) d (held_at ns es m j (x, d) k is e))
+pub reached_by : {V E : Type 0} (r : Result V E) (ns ms : List ℕ) (n m : ℕ) → OnOk r (IsReached ns n ms) → is_err r ≡ false → n ≡ m → IsReached ns m ms
+reached_by r ns ms n m ok e same = subst (λ (i : ℕ). IsReached ns i ms) same (on_ok r (IsReached ns n ms) ok e)
 
 -- ---- an entry that was taken out
 

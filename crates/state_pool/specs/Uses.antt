@@ -42,3 +42,8 @@ lowered pool n (Some held) = if nat_lt 1 held.1 then insert pool n (held.0, held
 -- a number's state is used once less, and goes where it was used once
 abbrev pub released : Uses → ℕ → Uses
 released pool n = lowered pool n (get pool n)
+
+-- the state that goes with a use, where it is the last
+abbrev pub last_state : Option (AbsState × ℕ) → Option AbsState
+last_state None = None
+last_state (Some held) = if nat_lt 1 held.1 then None else Some held.0

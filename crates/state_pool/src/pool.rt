@@ -5,7 +5,7 @@ ghost use Rattle.std.specs.FinMap.{get, empty, len};
 ghost use Rattle.indexmap.specs.IndexMap.{index_map_len};
 ghost use Rattle.indexmap.specs.Layout.{set_value_at};
 ghost use Rattle.abs_state.specs.declared.state.AbsState.{AbsState};
-ghost use Rattle.state_pool.specs.Uses.{IsInterned, IsAbsent, AreDistinct, AreUsed, AreBelow, IsHeld, released};
+ghost use Rattle.state_pool.specs.Uses.{IsInterned, IsAbsent, AreDistinct, AreUsed, AreBelow, IsHeld, released, last_state};
 
 use crate::numbers::Numbers;
 use crate::shared::Shared;
@@ -101,48 +101,37 @@ impl Pool {
         ensures back { IfErr result (λ s. s ≡ state) }
         ensures err { OnErr result (self.new ≡ self.old) }
     {
-        let shared = Shared { state };
-        match self.uses.get_index_of(&shared) {
-            Some(place) => {
-                let count = count_at(&self.uses, place);
+        if self.numbers.reach(self.uses.len()).is_err() {
+            return Err(state);
+        }
+        match self.uses.insert_full(Shared { state }, 1) {
+            Ok((place, Some(count))) => {
                 set_count(&mut self.uses, place, count + 1);
                 Ok(self.numbers.number(place))
             }
-            None => self.admit(shared),
+            Ok((place, None)) => Ok(self.numbers.number(place)),
+            Err(failed) => Err(failed.value.0.state),
         }
     }
 
-    // Adds a state that isn't there.
-    fn admit(&mut self, shared: Shared) -> Result<u32, AbsState>
-        requires few { len self.old < 4294967295 }
-        requires absent { IsAbsent self.old shared }
-        ensures ok { IfOk result (λ number. IsInterned self.old shared number self.new) }
-        ensures back { IfErr result (λ s. s ≡ shared) }
-        ensures err { OnErr result (self.new ≡ self.old) }
-    {
-        let place = self.uses.len();
-        if self.numbers.reach(place).is_err() {
-            return Err(shared.state);
-        }
-        match self.uses.insert(shared, 1) {
-            Ok(_) => {}
-            Err(failed) => return Err(failed.value.0.state),
-        }
-        Ok(self.numbers.number(place))
-    }
-
-    /// Uses the state of a number that is there once less. It goes where it was used once.
-    pub fn release(&mut self, number: u32)
+    /// Uses the state of a number that is there once less. It goes where it was used once, and is given then.
+    pub fn release(&mut self, number: u32) -> Option<AbsState>
         requires { IsSome (get self.old number) }
-        ensures { self.new ≡ released self.old number }
+        ensures pool { self.new ≡ released self.old number }
+        ensures given { result ≡ last_state (get self.old number) }
     {
         let place = self.numbers.place(number);
         let count = count_at(&self.uses, place);
         if count > 1 {
             set_count(&mut self.uses, place, count - 1);
+            None
         } else {
-            self.uses.swap_remove_index(place);
+            let taken = self.uses.swap_remove_index(place);
             self.numbers.swap(place, self.uses.len());
+            match taken {
+                Some((shared, _)) => Some(shared.state),
+                None => None,
+            }
         }
     }
 }

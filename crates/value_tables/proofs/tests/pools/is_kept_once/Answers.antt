@@ -52,7 +52,7 @@ get-requires-3 c =
     let law = c.counts_follow.ensures in
     let all = three_interned law c.new-pool.result c.interned.new.pool c.interned-2.new.pool c.interned-3.new.pool c.args.state.now c.args.other.now c.in_ok-one.one c.in_ok-same.same
     c.in_ok-next.next c.new-pool.ensures c.in_ok-one.ensures c.in_ok-same.ensures c.in_ok-next.ensures in
-    let two = one_released law c.interned-3.new.pool c.release.new.self c.in_ok-one.one (c.in_ok-next.next ∷ c.in_ok-same.same ∷ []) all c.release.ensures in
+    let two = one_released law c.interned-3.new.pool c.release.new.self c.in_ok-one.one (c.in_ok-next.next ∷ c.in_ok-same.same ∷ []) all c.release.ensures.pool in
     law.there c.release.new.self c.in_ok-same.same (last_used c.release.new.self c.in_ok-same.same (c.in_ok-next.next ∷ []) two)
 
 pub get-requires-4 : goal.get-requires-4
@@ -60,6 +60,6 @@ get-requires-4 c =
     let law = c.counts_follow.ensures in
     let all = three_interned law c.new-pool.result c.interned.new.pool c.interned-2.new.pool c.interned-3.new.pool c.args.state.now c.args.other.now c.in_ok-one.one c.in_ok-same.same
     c.in_ok-next.next c.new-pool.ensures c.in_ok-one.ensures c.in_ok-same.ensures c.in_ok-next.ensures in
-    let two = one_released law c.interned-3.new.pool c.release.new.self c.in_ok-one.one (c.in_ok-next.next ∷ c.in_ok-same.same ∷ []) all c.release.ensures in
-    let left = one_released law c.release.new.self c.release-2.new.self c.in_ok-same.same (c.in_ok-next.next ∷ []) two c.release-2.ensures in
+    let two = one_released law c.interned-3.new.pool c.release.new.self c.in_ok-one.one (c.in_ok-next.next ∷ c.in_ok-same.same ∷ []) all c.release.ensures.pool in
+    let left = one_released law c.release.new.self c.release-2.new.self c.in_ok-same.same (c.in_ok-next.next ∷ []) two c.release-2.ensures.pool in
     law.there c.release-2.new.self c.in_ok-next.next (first_used c.release-2.new.self c.in_ok-next.next [] left)
