@@ -1,4 +1,5 @@
 pub mod Families
+pub mod SameKeys
 pub mod Entries
 pub mod Shared
 pub mod Raised

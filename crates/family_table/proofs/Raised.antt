@@ -1,8 +1,8 @@
 -- A table whose nodes share states, with one node raised.
-use Rattle.std.proofs.Common.{◌≡◌, ◌≢◌, ◌↔◌, refl, sym, ap, ◌∙◌, subst, ℕ, Bool, false, cond, Option, Some, None, List, length}
-use Rattle.std.specs.Prelude.{IsTrue, IsSome}
+use Rattle.std.proofs.Common.{◌≡◌, ◌≢◌, ◌↔◌, refl, sym, ap, ◌∙◌, subst, ℕ, Bool, false, cond, Option, Some, None, List, length, Result, Ok, Err}
+use Rattle.std.specs.Prelude.{IsTrue, IsSome, OnErr}
 use Rattle.std.specs.List.{IsDistinct}
-use Rattle.std.specs.Map.{lookup, keys_of}
+use Rattle.std.specs.Map.{lookup, keys_of, set_value}
 use Rattle.std.specs.Option.{option_map}
 use Rattle.std.specs.FinMap.{get, insert, from_entries}
 use Rattle.indexmap.specs.IndexMap.{insert_entry}
@@ -39,7 +39,7 @@ number_long pool es k n shared found = shared.sized k (state_at pool n) (table_g
 
 pub shared_there : (pool new : Uses) (es new_es : Numbered) (f : Family) (node : Node) (n m : ℕ) → from_entries {R = node_cmp} (stated pool es) ≡ f → IsShared pool es
     → Some n ≡ lookup (same_node node.key) es → IsMoved pool n (state_join (state_at pool n) node.state) m new → length (state_at new m).slots ≡ length node.state.slots
-    → length node.state.slots ≡ offset_of node.key.sp → new_es ≡ insert_entry same_node es node.key m
+    → length node.state.slots ≡ offset_of node.key.sp → new_es ≡ set_value (same_node node.key) es m
     → ((q : NodeKey) → lookup (same_node q) new_es ≡ cond (same_node node.key q) (Some m) (lookup (same_node q) es)) → IsDistinct same_node (keys_of new_es)
     → IsRaised f node (Some (state_at pool n)) (state_join (state_at pool n) node.state) new new_es
 shared_there pool new es new_es f node n m is shared found moved long count entries up distinct =
@@ -101,3 +101,9 @@ joined_so a s t w other held copied joined = joined ∙ ap (λ (x : AbsState). s
 
 pub is_there : (pool : Uses) (n : ℕ) (s : AbsState) (count : ℕ) → IsHeld pool n s count → IsSome (get pool n)
 is_there pool n s count held = subst IsSome (sym held) refl
+
+-- ---- want of memory
+
+pub if_err : {V E : Type 0} (r : Result V E) (P : Type 0) → P → OnErr r P
+if_err (Ok v) P p = tt
+if_err (Err e) P p = p

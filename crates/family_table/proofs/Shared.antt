@@ -3,7 +3,7 @@ use Rattle.std.proofs.Common.{◌≡◌, ◌≢◌, refl, sym, ap, ◌∙◌, su
 use Rattle.std.specs.Prelude.{◌==◌}
 use Rattle.std.specs.List.{IsDistinct, sum_by}
 use Rattle.std.specs.List.Sorted.{IsPermutation}
-use Rattle.std.specs.Map.{lookup, keys_of}
+use Rattle.std.specs.Map.{lookup, keys_of, set_value}
 use Rattle.std.specs.Option.{option_map}
 use Rattle.std.specs.FinMap.{get, from_entries, entries}
 use Rattle.std.specs.List.Sorted.{IsSorted}
@@ -74,13 +74,13 @@ times_few n [] = omega arith
 times_few n (e ∷ es) = let one = at_most_one (n == e.1) in let rest = times_few n es in omega (arith, one, rest)
 
 -- a number more in the place of that which the key had
-pub times_there : (k : NodeKey) (n m x : ℕ) (es : Numbered) → lookup (same_node k) es ≡ Some n → times x (insert_entry same_node es k m) + share x n ≡ times x es + share x m
+pub times_there : (k : NodeKey) (n m x : ℕ) (es : Numbered) → lookup (same_node k) es ≡ Some n → times x (set_value (same_node k) es m) + share x n ≡ times x es + share x m
 times_there k n m x [] is = absurd (cc)
 times_there k n m x (e ∷ es) is = by (same_node k e.0) is (times_there k n m x es)
   where
     by : (b : Bool) → cond b (Some e.1) (lookup (same_node k) es) ≡ Some n
-        → (lookup (same_node k) es ≡ Some n → times x (insert_entry same_node es k m) + share x n ≡ times x es + share x m)
-        → times x (cond b ((e.0, m) ∷ es) (e ∷ insert_entry same_node es k m)) + share x n ≡ share x e.1 + times x es + share x m
+        → (lookup (same_node k) es ≡ Some n → times x (set_value (same_node k) es m) + share x n ≡ times x es + share x m)
+        → times x (cond b ((e.0, m) ∷ es) (e ∷ set_value (same_node k) es m)) + share x n ≡ share x e.1 + times x es + share x m
     by true t rest = let same : share x e.1 ≡ share x n = ap (share x) (same_Some e.1 n t) in omega (arith, same)
     by false t rest = let more = rest t in omega (arith, more)
 
@@ -137,7 +137,7 @@ up_stated old new es new_es k m s own kept before after up q =
 
 -- a use that goes over to another number
 pub counts_there : (old new : Uses) (es : Numbered) (k : NodeKey) (n m : ℕ) (s : AbsState) → IsMoved old n s m new → AreCounted old es → lookup (same_node k) es ≡ Some n
-    → AreCounted new (insert_entry same_node es k m)
+    → AreCounted new (set_value (same_node k) es m)
 counts_there old new es k n m s moved counted is x =
     let a = moved.counts x in
     let b = counted x in

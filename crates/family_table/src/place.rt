@@ -1,12 +1,12 @@
 //! Keys of nodes as keys of a table.
 
-ghost use Rattle.std.specs.Prelude.{refl};
+ghost use Rattle.std.specs.Prelude.{◌≡◌, ◌↔◌, IsTrue, refl};
 ghost use Rattle.std.specs.Ordering.{as_partial_cmp};
 ghost use Rattle.mask_states.specs.Order.{same_node, node_cmp};
 ghost use Rattle.mask_states.specs.Total.{node_equivalence, node_partial, node_total, node_equal};
 ghost use Rattle.family_table.specs.Hashes.{key_hash, alike};
 
-use mask_states::NodeKey;
+use mask_states::{InstKey, NodeKey};
 use std::cmp::Ordering;
 use std::hash::{Hash, Hasher};
 use std::marker::Model;
@@ -32,7 +32,7 @@ impl PartialEq for Place {
     ghost laws = { node_equivalence.0 };
 
     fn eq(&self, other: &Place) -> bool {
-        self.key == other.key
+        is_same(&self.key, &other.key)
     }
 }
 
@@ -76,4 +76,28 @@ impl Hash for Place {
         self.key.masks.bits().hash(state);
         self.key.offset().hash(state);
     }
+}
+
+// Whether two keys are the same. Most that are compared here are, or have another word, which comes first; no field is put in order.
+#[tactic(auto, using(crate::proofs::SameKeys::key_is))]
+fn is_same(key: &NodeKey, other: &NodeKey) -> bool
+    ensures { IsTrue result ↔ (key.now ≡ other.now) }
+{
+    key.pc == other.pc
+        && key.masks == other.masks
+        && key.i == other.i
+        && key.delay == other.delay
+        && key.sp == other.sp
+        && key.pick == other.pick
+        && is_same_inst(&key.inst, &other.inst)
+}
+
+#[tactic(auto, using(crate::proofs::SameKeys::inst_is))]
+fn is_same_inst(inst: &InstKey, other: &InstKey) -> bool
+    ensures { IsTrue result ↔ (inst.now ≡ other.now) }
+{
+    inst.entry == other.entry
+        && inst.masks == other.masks
+        && inst.i == other.i
+        && inst.kind == other.kind
 }

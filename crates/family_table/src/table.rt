@@ -7,7 +7,7 @@ ghost use Rattle.std.specs.FinMap.{get, empty, len};
 ghost use Rattle.abs_state.specs.Order.{state_join};
 ghost use Rattle.mask_states.specs.Keys.{offset_of};
 ghost use Rattle.state_pool.specs.Uses.{AreBelow};
-ghost use Rattle.state_pool.specs.Counts.{state_at, count_at};
+ghost use Rattle.state_pool.specs.Counts.{state_at, count_at, IsUsedLess};
 ghost use Rattle.family_table.specs.Families.{Lands, raised, nodes_of, node_of};
 ghost use Rattle.family_table.specs.Shared.{stated, AreCounted, IsMoved};
 
@@ -105,13 +105,11 @@ impl Table {
             return Err(AllocError);
         }
         let place = Place { key: node.key };
-        match self.map.get(&place) {
-            Some(number) => {
-                let (number, grew) = joined(&mut self.pool, alloc, *number, &node.state)?;
-                match self.map.insert(place, number) {
-                    Ok(_) => Ok(grew),
-                    Err(_) => unreachable!(),
-                }
+        match self.map.get_mut(&place) {
+            Some(held) => {
+                let (number, grew) = joined(&mut self.pool, alloc, *held, &node.state)?;
+                *held = number;
+                Ok(grew)
             }
             None => {
                 let Ok(number) = self.pool.intern(node.state) else {
@@ -168,18 +166,29 @@ fn joined(
     Ok((next, true))
 }
 
-// The nodes by their numbers. A state goes out of the pool with the last node that has it, so that few are there twice.
+// The state of a number, of which one use goes: with the last use the pool's own, and else a copy.
+fn taken(pool: &mut Pool, alloc: Global, number: u32) -> Result<AbsState, AllocError>
+    requires { 0 < count_at pool.old number }
+    ensures state { IfOk result (λ state. state ≡ state_at pool.old number) }
+    ensures less { IsUsedLess pool.old number pool.new }
+{
+    counts_follow();
+    match pool.release(number) {
+        Some(state) => Ok(state),
+        None => pool.get(number).copy(alloc),
+    }
+}
+
+// The nodes by their numbers.
 fn nodes_in(map: IndexMap<Place, u32>, pool: Pool, alloc: Global) -> Result<Vec<Node>, AllocError>
     requires { AreCounted pool map.entries }
     ensures { IfOk result (λ all. all.items ≡ list_map node_of (stated pool map.entries)) }
 {
-    counts_follow();
     let mut pool = pool;
-    let mut all = Vec::new(alloc);
+    let mut all = Vec::with_capacity(alloc, map.len())?;
     for (place, number) in map {
         let key = place.key;
-        let state = pool.get(number).copy(alloc)?;
-        pool.release(number);
+        let state = taken(&mut pool, alloc, number)?;
         all.push(Node { key, state })?;
     }
     Ok(all)

@@ -1,8 +1,9 @@
 -- One node more is joined into a family.
-use Rattle.std.proofs.Common.{◌≡◌, ◌≢◌, ◌↔◌, refl, sym, ap, ◌∙◌, subst, ℕ, ◌+◌, ◌<◌, ◌≤◌, ⊎_elim, List, [], ◌∷◌, ◌++◌, length, map, Some, None, Result, Ok, Err, IfOk, Contains, arith, length-append, append_assoc}
+use Rattle.std.proofs.Common.{◌≡◌, ◌≢◌, ◌↔◌, refl, sym, ap, ◌∙◌, subst, ℕ, ◌+◌, ◌<◌, ◌≤◌, ⊎_elim, List, [], ◌∷◌, ◌++◌, length, map, cond, Option, Some, None, Result, Ok, Err, IfOk, Contains, arith, length-append, append_assoc}
 use Rattle.std.specs.declared.cmp.Ordering.TheVariants.{Less, Equal, Greater}
 use Rattle.std.proofs.lemmas.List.Elements.{Contains-append_left, Contains-push}
-use Rattle.std.specs.FinMap.{get, insert, entries, get-entries, entries-insert}
+use Rattle.std.specs.FinMap.{get, insert, len, entries, get-entries, entries-insert, len-insert}
+use Rattle.std.specs.Option.{is_some}
 use Rattle.std.specs.FinMap.Entries.{find, put, by_order}
 use Rattle.basics.specs.Items.{none_in, first_in, further_in as there}
 use Rattle.abs_state.specs.declared.state.AbsState.{AbsState}
@@ -51,10 +52,36 @@ cells_kept f k t v is =
     (λ s e. (t, is)) (λ ne s e. (s, sym (get_other f k v q ne) ∙ e)) s e) in
     omega (arith, up, down)
 
-pub more_known : {E : Type 0} (f : Family) (k : NodeKey) (count : ℕ) (r : Result ℕ E) → count ≡ cells f → get f k ≡ None → IfOk r (λ more. more ≡ 1 + offset_of k.sp + count)
-    → IfOk r (λ more. (s : AbsState) → more ≡ cells (insert f k s))
-more_known f k count (Ok more) is none e = λ s. let new = cells_new f k s none in omega (arith, e, is, new)
-more_known f k count (Err e) is none h = tt
+-- a node that makes the family longer is a new one, and each other has the cells of one that is there
+pub cells_raised : (f : Family) (n : Node) → (len f < len (raised f n) → cells (raised f n) ≡ 1 + offset_of n.key.sp + cells f) × (len (raised f n) ≤ len f → cells (raised f n) ≡ cells f)
+cells_raised f n = by (get f n.key) refl
+  where
+    v : AbsState
+    v = joined_with (get f n.key) n.state
+
+    many : len (insert f n.key v) ≡ cond (is_some (get f n.key)) (len f) (len f + 1)
+    many = len-insert node_total f n.key v
+
+    by : (o : Option AbsState) → get f n.key ≡ o
+        → (len f < len (insert f n.key v) → cells (insert f n.key v) ≡ 1 + offset_of n.key.sp + cells f) × (len (insert f n.key v) ≤ len f → cells (insert f n.key v) ≡ cells f)
+    by None e =
+        let more : len (insert f n.key v) ≡ len f + 1 = many ∙ ap (λ (o : Option AbsState). cond (is_some o) (len f) (len f + 1)) e in
+        ((λ lt. cells_new f n.key v e), (λ le. absurd (omega (arith, le, more))))
+    by (Some t) e =
+        let as_many : len (insert f n.key v) ≡ len f = many ∙ ap (λ (o : Option AbsState). cond (is_some o) (len f) (len f + 1)) e in
+        ((λ lt. absurd (omega (arith, lt, as_many))), (λ le. cells_kept f n.key t v e))
+
+pub one_cell_more : (f g : Family) (n : Node) (count offset before now more : ℕ) → count ≡ cells f → offset ≡ offset_of n.key.sp → g ≡ raised f n → before ≡ len f → now ≡ len g → before < now
+    → more ≡ 1 + offset + count → more ≡ cells g
+one_cell_more f g n count offset before now more counted at is was become lt e =
+    let longer : len f < len (raised f n) = subst (λ (h : Family). len f < len h) is (omega (arith, was, become, lt)) in
+    let all = (cells_raised f n).0 longer in
+    (let t : more ≡ cells (raised f n) = omega (arith, e, at, counted, all) in t) ∙ ap cells (sym is)
+
+pub as_many_cells : (f g : Family) (n : Node) (count before now : ℕ) → count ≡ cells f → g ≡ raised f n → before ≡ len f → now ≡ len g → now ≤ before → count ≡ cells g
+as_many_cells f g n count before now counted is was become le =
+    let as_long : len (raised f n) ≤ len f = subst (λ (h : Family). len h ≤ len f) is (omega (arith, was, become, le)) in
+    counted ∙ sym ((cells_raised f n).1 as_long) ∙ ap cells (sym is)
 
 -- ---- joins
 

@@ -1,9 +1,6 @@
 //! Nodes joined into a family.
 
 ghost use Rattle.std.specs.Prelude.{ℕ, ◌≡◌, ◌+◌, ◌≤◌, length, IfOk, OnOk};
-ghost use Rattle.std.specs.FinMap.{insert};
-ghost use Rattle.abs_state.specs.declared.state.AbsState as state_type;
-ghost use Rattle.mask_states.specs.Keys.{offset_of};
 ghost use Rattle.local_rules.specs.Cover.{IsNode};
 ghost use Rattle.local_laws.specs.Laws.{AreNodes};
 ghost use Rattle.round_rules.specs.Families.{AreFormed, cells};
@@ -15,24 +12,13 @@ use local_rules::Node;
 use mask_states::NodeKey;
 use std::alloc::{AllocError, Global};
 
-// As many cells, with those of one node more.
-fn with_node(counted: u64, key: &NodeKey) -> Result<u64, AllocError>
-    ensures { IfOk result (λ more. more ≡ 1 + offset_of key.now.sp + counted) }
+// As many cells, with those of one node more at this offset.
+fn with_node(counted: u64, offset: u16) -> Result<u64, AllocError>
+    ensures { IfOk result (λ more. more ≡ 1 + offset + counted) }
 {
-    match counted.checked_add(1 + u64::from(key.offset())) {
+    match counted.checked_add(1 + u64::from(offset)) {
         Some(more) => Ok(more),
         None => Err(AllocError),
-    }
-}
-
-// How many cells there are with a node of this key.
-fn cells_with(table: &Table, counted: u64, key: &NodeKey) -> Result<u64, AllocError>
-    requires { counted ≡ cells table.now }
-    ensures { IfOk result (λ more. (s : state_type.AbsState) → more ≡ cells (insert table.now key.now s)) }
-{
-    match table.get(key) {
-        Some(_known) => Ok(counted),
-        None => with_node(counted, key),
     }
 }
 
@@ -48,9 +34,12 @@ fn join_one(
     ensures joined { OnOk result (table.new ≡ raised table.old node) }
     ensures count { OnOk result (counted.new ≡ cells table.new) }
 {
-    let more = cells_with(table, *counted, &node.key)?;
+    let offset = node.key.offset();
+    let before = table.len();
     table.raise(alloc, node)?;
-    *counted = more;
+    if before < table.len() {
+        *counted = with_node(*counted, offset)?;
+    }
     Ok(())
 }
 

@@ -20,16 +20,6 @@ use local_rules::{Exit, Node};
 use mask_states::{InstKey, NodeKey};
 use std::alloc::{AllocError, Global};
 
-// In the node's own frame.
-fn add_moves(targets: &mut Vec<Node>, nodes: Vec<Node>) -> Result<(), AllocError>
-    ensures { OnOk result (targets.new.items ≡ targets.old.items ++ nodes.items) }
-{
-    for node in nodes {
-        targets.push(node)?;
-    }
-    Ok(())
-}
-
 // Into other instances.
 fn add_entries(
     targets: &mut Vec<Node>,
@@ -207,7 +197,7 @@ fn add_targets(
         state,
         x.part.exit,
     )?;
-    add_moves(targets, x.part.same.into_vec())
+    targets.append(&mut x.part.same.into_vec())
 }
 
 // Joins a node into those of its key that are gathered, unless it lands in the family.

@@ -33,7 +33,7 @@ returns-clause-moved c =
     let joined : w ≡ state_join (state_at old n) c.args.other.now =
     joined_so (state_at old n) c.get.result.now c.in_ok-state.state w c.args.other.now (ap held_state c.get.ensures.1) c.in_ok-state.ensures c.join_into.ensures.joined in
     subst (λ (s : AbsState). IsMoved old n s c.in-Ok.next c.release.new.self) joined
-    (moved old mid c.release.new.self n c.in-Ok.next w c.requires.there more (subst (λ (m : Uses). IsUsedLess mid n m) (sym c.release.ensures) less))
+    (moved old mid c.release.new.self n c.in-Ok.next w c.requires.there more (subst (λ (m : Uses). IsUsedLess mid n m) (sym c.release.ensures.pool) less))
 
 pub returns-clause-slots : goal.returns-clause-slots
 returns-clause-slots c =
@@ -43,5 +43,5 @@ returns-clause-slots c =
     let w = c.join_into.new.self in
     let more = c.counts_follow.ensures.interned old mid w c.in-Ok.next c.in-Ok.ensures.ok in
     let less = c.counts_follow.ensures.released mid n (still_used old mid n c.in-Ok.next w c.requires.there more) in
-    let all = moved old mid c.release.new.self n c.in-Ok.next w c.requires.there more (subst (λ (m : Uses). IsUsedLess mid n m) (sym c.release.ensures) less) in
+    let all = moved old mid c.release.new.self n c.in-Ok.next w c.requires.there more (subst (λ (m : Uses). IsUsedLess mid n m) (sym c.release.ensures.pool) less) in
     ap (λ (s : AbsState). length s.slots) all.own ∙ sym c.join_into.ensures.least.second.count

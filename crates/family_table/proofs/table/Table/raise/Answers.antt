@@ -1,14 +1,16 @@
-use Rattle.std.proofs.Common.{◌≡◌, ◌<◌, ℕ, refl, sym, ◌∙◌, subst, List, arith}
+use Rattle.std.proofs.Common.{◌≡◌, ◌<◌, ℕ, refl, sym, ap, ◌∙◌, subst, List, arith}
 use Rattle.std.specs.FinMap.{from_entries}
+use Rattle.std.specs.Option.{IsSome}
+use Rattle.std.proofs.lemmas.Map.Steps.{set_value_same}
 use Rattle.abs_state.specs.Order.{state_join}
 use Rattle.mask_states.specs.declared.keys.NodeKey.{NodeKey}
-use Rattle.mask_states.specs.Order.{node_cmp}
+use Rattle.mask_states.specs.Order.{node_cmp, same_node}
 use Rattle.state_pool.specs.Uses.{Uses}
 use Rattle.state_pool.specs.Counts.{state_at}
 use Rattle.family_table.specs.Shared.{IsShared, stated}
 use Rattle.family_table.proofs.Families.{grew_by, new_grew}
 use Rattle.family_table.proofs.Shared.{counts_below, times_found}
-use Rattle.family_table.proofs.Raised.{number_long, shared_there, shared_new}
+use Rattle.family_table.proofs.Raised.{number_long, shared_there, shared_new, if_err}
 use Rattle.family_table.proofs.table.Table.raise.Goals as goal
 
 pub joined-requires-clause-few : goal.joined-requires-clause-few
@@ -25,12 +27,12 @@ joined-requires-clause-counts c =
 
 pub joined-requires-clause-there : goal.joined-requires-clause-there
 joined-requires-clause-there c =
-    let n = c.in-Some.number.now in
+    let n = c.in-Some.held.now in
     subst (λ (m : ℕ). 0 < m) (sym (c.self.invariant.counted n)) (times_found c.args.node.key c.self.inside.map.entries n (sym c.in-Some.ensures.value))
 
 pub joined-requires-clause-slots : goal.joined-requires-clause-slots
 joined-requires-clause-slots c =
-    number_long c.self.inside.pool c.self.inside.map.entries c.args.node.key c.in-Some.number.now c.self.invariant c.in-Some.ensures.value ∙ sym c.requires
+    number_long c.self.inside.pool c.self.inside.map.entries c.args.node.key c.in-Some.held.now c.self.invariant c.in-Some.ensures.value ∙ sym c.requires
 
 pub intern-requires-clause-counts : goal.intern-requires-clause-counts
 intern-requires-clause-counts c =
@@ -40,52 +42,71 @@ intern-requires-clause-counts c =
 
 pub invariant_of-self-in-Some-1 : goal.invariant_of-self-in-Some-1
 invariant_of-self-in-Some-1 c =
-    (shared_there c.self.inside.pool c.joined.new.pool c.self.inside.map.entries c.insert.new.self.entries c.args.self.now c.args.node c.in-Some.number.now
+    (shared_there c.self.inside.pool c.joined.new.pool c.self.inside.map.entries (c.get_mut.follows.lender c.in_ok-number-in-Some.number).entries c.args.self.now c.args.node c.in-Some.held.now
     c.in_ok-number-in-Some.number c.self.view_is c.self.invariant c.in-Some.ensures.value c.in_ok-number-in-Some.ensures.moved c.in_ok-number-in-Some.ensures.slots
-    c.requires c.in-Ok.ensures.entries c.in-Ok.ensures.updates.0 c.insert.ensures.unique).shared
+    c.requires (c.get_mut.follows.holds c.in_ok-number-in-Some.number).0 ((c.get_mut.follows.holds c.in_ok-number-in-Some.number).3 (subst IsSome c.in-Some.ensures.value refl)).0
+    (c.get_mut.follows.holds c.in_ok-number-in-Some.number).4).shared
 
-pub returns-in-Ok-clause-ok : goal.returns-in-Ok-clause-ok
-returns-in-Ok-clause-ok c =
-    (shared_there c.self.inside.pool c.joined.new.pool c.self.inside.map.entries c.insert.new.self.entries c.args.self.now c.args.node c.in-Some.number.now
+pub returns-in_ok-number-in-Some-clause-ok : goal.returns-in_ok-number-in-Some-clause-ok
+returns-in_ok-number-in-Some-clause-ok c =
+    (shared_there c.self.inside.pool c.joined.new.pool c.self.inside.map.entries (c.get_mut.follows.lender c.in_ok-number-in-Some.number).entries c.args.self.now c.args.node c.in-Some.held.now
     c.in_ok-number-in-Some.number c.self.view_is c.self.invariant c.in-Some.ensures.value c.in_ok-number-in-Some.ensures.moved c.in_ok-number-in-Some.ensures.slots
-    c.requires c.in-Ok.ensures.entries c.in-Ok.ensures.updates.0 c.insert.ensures.unique).raised
+    c.requires (c.get_mut.follows.holds c.in_ok-number-in-Some.number).0 ((c.get_mut.follows.holds c.in_ok-number-in-Some.number).3 (subst IsSome c.in-Some.ensures.value refl)).0
+    (c.get_mut.follows.holds c.in_ok-number-in-Some.number).4).raised
 
-pub returns-in-Ok-clause-grew : goal.returns-in-Ok-clause-grew
-returns-in-Ok-clause-grew c =
-    let s = state_at c.self.inside.pool c.in-Some.number.now in
-    let all = shared_there c.self.inside.pool c.joined.new.pool c.self.inside.map.entries c.insert.new.self.entries c.args.self.now c.args.node c.in-Some.number.now
+pub returns-in_ok-number-in-Some-clause-grew : goal.returns-in_ok-number-in-Some-clause-grew
+returns-in_ok-number-in-Some-clause-grew c =
+    let s = state_at c.self.inside.pool c.in-Some.held.now in
+    let all = shared_there c.self.inside.pool c.joined.new.pool c.self.inside.map.entries (c.get_mut.follows.lender c.in_ok-number-in-Some.number).entries c.args.self.now c.args.node c.in-Some.held.now
     c.in_ok-number-in-Some.number c.self.view_is c.self.invariant c.in-Some.ensures.value c.in_ok-number-in-Some.ensures.moved c.in_ok-number-in-Some.ensures.slots
-    c.requires c.in-Ok.ensures.entries c.in-Ok.ensures.updates.0 c.insert.ensures.unique in
-    grew_by c.args.self.now (from_entries {R = node_cmp} (stated c.joined.new.pool c.insert.new.self.entries)) c.args.node.key s (state_join s c.args.node.state) c.in_ok-number-in-Some.grew
-    all.here all.put c.in_ok-number-in-Some.ensures.grew
+    c.requires (c.get_mut.follows.holds c.in_ok-number-in-Some.number).0 ((c.get_mut.follows.holds c.in_ok-number-in-Some.number).3 (subst IsSome c.in-Some.ensures.value refl)).0
+    (c.get_mut.follows.holds c.in_ok-number-in-Some.number).4 in
+    grew_by c.args.self.now (from_entries {R = node_cmp} (stated c.joined.new.pool (c.get_mut.follows.lender c.in_ok-number-in-Some.number).entries)) c.args.node.key s (state_join s c.args.node.state)
+    c.in_ok-number-in-Some.grew all.here all.put c.in_ok-number-in-Some.ensures.grew
+
+pub invariant_of-self : goal.invariant_of-self
+invariant_of-self c =
+    let n = c.in-Some.held.now in
+    let same = (c.get_mut.follows.holds n).0 ∙ set_value_same (same_node c.args.node.key) c.self.inside.map.entries n (sym c.in-Some.ensures.value) in
+    subst (λ (p : Uses). IsShared p (c.get_mut.follows.lender n).entries) (sym c.in_err-number-in-Some.ensures.err)
+    (subst (λ (es : List (NodeKey × ℕ)). IsShared c.self.inside.pool es) (sym same) c.self.invariant)
+
+pub returns-in_err-number-in-Some-clause-err : goal.returns-in_err-number-in-Some-clause-err
+returns-in_err-number-in-Some-clause-err c =
+    let n = c.in-Some.held.now in
+    let same = (c.get_mut.follows.holds n).0 ∙ set_value_same (same_node c.args.node.key) c.self.inside.map.entries n (sym c.in-Some.ensures.value) in
+    if_err c.from_residual.result _
+    (ap (λ (p : Uses). from_entries {R = node_cmp} (stated p (c.get_mut.follows.lender n).entries)) c.in_err-number-in-Some.ensures.err
+    ∙ ap (λ (es : List (NodeKey × ℕ)). from_entries {R = node_cmp} (stated c.self.inside.pool es)) same
+    ∙ c.self.view_is)
 
 pub invariant_of-self-in-Ok-insert : goal.invariant_of-self-in-Ok-insert
 invariant_of-self-in-Ok-insert c =
-    (shared_new c.self.inside.pool c.intern.new.self c.self.inside.map.entries c.insert-in-None.new.self.entries c.args.self.now c.args.node c.in-Ok-intern.number
+    (shared_new c.self.inside.pool c.intern.new.self c.self.inside.map.entries c.insert.new.self.entries c.args.self.now c.args.node c.in-Ok.number
     c.self.view_is c.self.invariant c.in-None.ensures.value
-    (c.counts_follow.ensures.interned c.self.inside.pool c.intern.new.self c.args.node.state c.in-Ok-intern.number c.in-Ok-intern.ensures.ok)
-    c.requires c.in-Ok-insert.ensures.entries c.in-Ok-insert.ensures.updates.0 c.insert-in-None.ensures.unique).shared
+    (c.counts_follow.ensures.interned c.self.inside.pool c.intern.new.self c.args.node.state c.in-Ok.number c.in-Ok.ensures.ok)
+    c.requires (rw c.get_mut.follows.holds-at-none at c.in-Ok-insert.ensures.entries) (let up = rw c.get_mut.follows.holds-at-none at c.in-Ok-insert.ensures.updates in up.0) c.insert.ensures.unique).shared
 
 pub returns-in-Ok-insert-clause-ok : goal.returns-in-Ok-insert-clause-ok
 returns-in-Ok-insert-clause-ok c =
-    (shared_new c.self.inside.pool c.intern.new.self c.self.inside.map.entries c.insert-in-None.new.self.entries c.args.self.now c.args.node c.in-Ok-intern.number
+    (shared_new c.self.inside.pool c.intern.new.self c.self.inside.map.entries c.insert.new.self.entries c.args.self.now c.args.node c.in-Ok.number
     c.self.view_is c.self.invariant c.in-None.ensures.value
-    (c.counts_follow.ensures.interned c.self.inside.pool c.intern.new.self c.args.node.state c.in-Ok-intern.number c.in-Ok-intern.ensures.ok)
-    c.requires c.in-Ok-insert.ensures.entries c.in-Ok-insert.ensures.updates.0 c.insert-in-None.ensures.unique).raised
+    (c.counts_follow.ensures.interned c.self.inside.pool c.intern.new.self c.args.node.state c.in-Ok.number c.in-Ok.ensures.ok)
+    c.requires (rw c.get_mut.follows.holds-at-none at c.in-Ok-insert.ensures.entries) (let up = rw c.get_mut.follows.holds-at-none at c.in-Ok-insert.ensures.updates in up.0) c.insert.ensures.unique).raised
 
 pub returns-in-Ok-insert-clause-grew : goal.returns-in-Ok-insert-clause-grew
 returns-in-Ok-insert-clause-grew c =
-    let all = shared_new c.self.inside.pool c.intern.new.self c.self.inside.map.entries c.insert-in-None.new.self.entries c.args.self.now c.args.node c.in-Ok-intern.number
+    let all = shared_new c.self.inside.pool c.intern.new.self c.self.inside.map.entries c.insert.new.self.entries c.args.self.now c.args.node c.in-Ok.number
     c.self.view_is c.self.invariant c.in-None.ensures.value
-    (c.counts_follow.ensures.interned c.self.inside.pool c.intern.new.self c.args.node.state c.in-Ok-intern.number c.in-Ok-intern.ensures.ok)
-    c.requires c.in-Ok-insert.ensures.entries c.in-Ok-insert.ensures.updates.0 c.insert-in-None.ensures.unique in
+    (c.counts_follow.ensures.interned c.self.inside.pool c.intern.new.self c.args.node.state c.in-Ok.number c.in-Ok.ensures.ok)
+    c.requires (rw c.get_mut.follows.holds-at-none at c.in-Ok-insert.ensures.entries) (let up = rw c.get_mut.follows.holds-at-none at c.in-Ok-insert.ensures.updates in up.0) c.insert.ensures.unique in
     ((λ t e. new_grew c.args.self.now c.args.node.key c.args.node.state all.here (sym all.put ∙ e)), (λ ne. refl))
 
-pub invariant_of-self-in-Err-insert : goal.invariant_of-self-in-Err-insert
-invariant_of-self-in-Err-insert c =
+pub invariant_of-self-in-Err : goal.invariant_of-self-in-Err
+invariant_of-self-in-Err c =
     let pool = c.self.inside.pool in
     let back : c.release.new.self ≡ pool =
-    c.release.ensures
-    ∙ c.releases_undo.ensures.back pool c.intern.new.self c.args.node.state c.in-Ok-intern.number c.len-else-len-gt-MOST.ensures.used c.in-Ok-intern.ensures.ok in
-    subst (λ (p : Uses). IsShared p c.insert-in-None.new.self.entries) (sym back)
-    (subst (λ (es : List (NodeKey × ℕ)). IsShared pool es) (sym c.in-Err-insert.ensures.err) c.self.invariant)
+    c.release.ensures.pool
+    ∙ c.releases_undo.ensures.back pool c.intern.new.self c.args.node.state c.in-Ok.number c.len-else-len-gt-MOST.ensures.used c.in-Ok.ensures.ok in
+    subst (λ (p : Uses). IsShared p c.insert.new.self.entries) (sym back)
+    (subst (λ (es : List (NodeKey × ℕ)). IsShared pool es) (sym (rw c.get_mut.follows.holds-at-none at c.in-Err.ensures.err)) c.self.invariant)
