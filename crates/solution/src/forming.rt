@@ -44,7 +44,7 @@ fn formed(
     requires { length leads.now ≡ length nodes.items }
     ensures { IfOk result (λ forms. forms.items ≡ forms_from 0 leads.now nodes.items) }
 {
-    let mut forms = Vec::new(alloc);
+    let mut forms = Vec::with_capacity(alloc, nodes.len())?;
     for node in nodes {
         let at = forms.len();
         forms.push((node.key, form(leads, at, node.state)))?;
