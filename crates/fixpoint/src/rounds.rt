@@ -8,6 +8,7 @@ ghost use Rattle.round_rules.specs.Families.{AreFormed, HasInst, cells};
 ghost use Rattle.round_rules.specs.Rounds.{first};
 ghost use Rattle.round_rules.specs.Solutions.{IsWhyNot};
 ghost use Rattle.round_steps.specs.Joins.{KeptBut};
+ghost use Rattle.round_steps.specs.Notings.{blank};
 ghost use Rattle.fixpoint.specs.Progress.{Turn, IsLeft, IsSpent, IsFound};
 ghost use Rattle.fixpoint.specs.Tests.{IsStopped, IsReady};
 
@@ -80,6 +81,35 @@ fn spend(steps: Option<u64>, left: Option<u64>) -> Result<Option<u64>, Refusal>
     }
 }
 
+// The rounds, on a table and notes that are empty: the family at which they end, or why they end at none within the budget. Their caller owns
+// both, so that each early end here lets go of the work alone.
+fn go_on(
+    alloc: Global,
+    flash: &Flash,
+    assumptions: &Assumptions,
+    steps: Option<u64>,
+    table: &mut Table,
+    notes: &mut Notes,
+) -> Result<(), Refusal>
+    requires no_nodes { table.old ≡ empty }
+    requires no_notes { notes.old ≡ blank }
+    ensures found { OnOk result (IsFound flash.now assumptions.now steps table.new) }
+    ensures why_not { IfErr result (λ r. IsWhyNot flash.now assumptions.now steps r) }
+{
+    let mut counted = 0;
+    let mut work = start(alloc, table, &mut counted)?;
+    let mut left = steps;
+    'rounds: loop {
+        let nodes = next_nodes(alloc, flash, assumptions, table, counted, &work, notes)?;
+        let changed = join_all(alloc, table, &mut counted, nodes)?;
+        if changed.is_empty() {
+            return Ok(());
+        }
+        left = spend(steps, left)?;
+        work = changed;
+    }
+}
+
 /// The family at which the rounds end, or why they end at none within the budget.
 pub fn least_family(
     alloc: Global,
@@ -91,25 +121,7 @@ pub fn least_family(
     ensures why_not { IfErr result (λ r. IsWhyNot flash.now assumptions.now steps r) }
 {
     let mut table = Table::new(alloc);
-    let mut counted = 0;
-    let mut work = start(alloc, &mut table, &mut counted)?;
     let mut notes = Notes::new(alloc);
-    let mut left = steps;
-    'rounds: loop {
-        let nodes = next_nodes(
-            alloc,
-            flash,
-            assumptions,
-            &table,
-            counted,
-            &work,
-            &mut notes,
-        )?;
-        let changed = join_all(alloc, &mut table, &mut counted, nodes)?;
-        if changed.is_empty() {
-            return Ok(table);
-        }
-        left = spend(steps, left)?;
-        work = changed;
-    }
+    go_on(alloc, flash, assumptions, steps, &mut table, &mut notes)?;
+    Ok(table)
 }

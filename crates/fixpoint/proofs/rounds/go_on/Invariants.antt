@@ -1,7 +1,7 @@
 use Rattle.std.proofs.Common.{◌-◌}
 use Rattle.round_laws.specs.Steps.{weight}
 use Rattle.fixpoint.specs.Progress.{Progress}
-use Rattle.fixpoint.proofs.rounds.least_family.Given as goal
+use Rattle.fixpoint.proofs.rounds.go_on.Given as goal
 
 abbrev pub invariant-rounds : goal.invariant-rounds
 invariant-rounds l = Progress l.flash l.assumptions l.steps l.left l.table l.counted l.work.items l.notes
