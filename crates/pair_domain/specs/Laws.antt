@@ -1,0 +1,108 @@
+-- Laws of intervals, of the tags of flags and of facts: they are ordered, a join is the least above both, what says less holds where more
+-- holds, and none is above a height.
+use Rattle.std.specs.Prelude.{ℕ, ◌+◌, ◌*◌, ◌≡◌, ◌<◌, ◌≤◌, ◌↔◌, ◌⊎◌, Bool, List, length, Option, Some, None}
+use Rattle.bit_domain.specs.Ranges.{ByteSet, Holds, IsSetWithin}
+use Rattle.pair_domain.specs.declared.intervals.Interval.{Interval}
+use Rattle.pair_domain.specs.declared.tags.SumTag.{SumTag}
+use Rattle.pair_domain.specs.declared.tags.CompareTag.{CompareTag}
+use Rattle.pair_domain.specs.declared.tags.ZeroTag.{ZeroTag}
+use Rattle.pair_domain.specs.declared.facts.PairFacts.{PairFacts}
+use Rattle.pair_domain.specs.Intervals.{InInterval, IsIntervalWithin, whole, interval_join, interval_meet, hull}
+use Rattle.pair_domain.specs.Tags.{SumHolds, CompareHolds, ZeroHolds, IsSumWithin, IsCompareWithin, IsZeroWithin, IsNear, sum_join, compare_join, zero_join}
+use Rattle.pair_domain.specs.Facts.{nothing, FactsHold, AreFactsWithin, facts_join, IsLeastAbove, HasSixteen, IsKnownNear, KnownHolds, IsKnownWithin, known_join}
+use Rattle.pair_domain.specs.Rank.{FactsFit, KnownFits, facts_rank, facts_height, known_rank}
+
+-- `within` is a partial order on intervals, and a join is the least above both; a meet holds just what both hold, lies below both and says
+-- less where both say less
+pub record IntervalsAreOrdered : Type 0 where
+  pub same : (i : Interval) → IsIntervalWithin i i
+  pub through : (i j k : Interval) → IsIntervalWithin i j → IsIntervalWithin j k → IsIntervalWithin i k
+  pub both : (i j : Interval) → IsIntervalWithin i j → IsIntervalWithin j i → i ≡ j
+  pub first : (i j : Interval) → IsIntervalWithin i (interval_join i j)
+  pub second : (i j : Interval) → IsIntervalWithin j (interval_join i j)
+  pub least : (i j k : Interval) → IsIntervalWithin i k → IsIntervalWithin j k → IsIntervalWithin (interval_join i j) k
+  pub top : (i : Interval) → i.high < 65536 → IsIntervalWithin i whole
+
+-- A number that lies in both lies in the meet, which is there; the meet lies in both; where both say less it is there and says less.
+pub record IntervalsMeet : Type 0 where
+  pub meets : (i j : Interval) (x : ℕ) → InInterval i x → InInterval j x → (m : Interval) × ((interval_meet i j ≡ Some m) × InInterval m x)
+  pub under : (i j m : Interval) → interval_meet i j ≡ Some m → IsIntervalWithin m i × IsIntervalWithin m j
+  pub ordered : (i j m : Interval) → interval_meet i j ≡ Some m → m.low ≤ m.high
+  pub more : (i j i' j' m : Interval) → IsIntervalWithin i i' → IsIntervalWithin j j' → interval_meet i j ≡ Some m
+      → (m' : Interval) × ((interval_meet i' j' ≡ Some m') × IsIntervalWithin m m')
+  pub none : (i j : Interval) → i.low ≤ i.high → j.low ≤ j.high → interval_meet i j ≡ None ↔ ((x : ℕ) → InInterval i x → InInterval j x → ⊥)
+
+-- the number of a pair lies in the hull of its bytes, which says less where they do
+pub record HullsHold : Type 0 where
+  pub holds : (lo hi : ByteSet) (x y : ℕ) → Holds lo x → Holds hi y → InInterval (hull lo hi) (x + 256 * y)
+  pub more : (lo hi lo' hi' : ByteSet) → IsSetWithin lo lo' → IsSetWithin hi hi' → IsIntervalWithin (hull lo hi) (hull lo' hi')
+
+-- `within` is a partial order on tags of flags, and a join is the least above both
+pub record SumsAreOrdered : Type 0 where
+  pub same : (t : SumTag) → IsSumWithin t t
+  pub through : (t u v : SumTag) → IsSumWithin t u → IsSumWithin u v → IsSumWithin t v
+  pub both : (t u : SumTag) → IsSumWithin t u → IsSumWithin u t → t ≡ u
+  pub first : (t u : SumTag) → IsSumWithin t (sum_join t u)
+  pub second : (t u : SumTag) → IsSumWithin u (sum_join t u)
+  pub near : (t u : SumTag) → IsNear (sum_join t u)
+  pub least : (t u v : SumTag) → IsNear v → IsSumWithin t v → IsSumWithin u v → IsSumWithin (sum_join t u) v
+
+pub record ComparesAreOrdered : Type 0 where
+  pub same : (t : CompareTag) → IsCompareWithin t t
+  pub through : (t u v : CompareTag) → IsCompareWithin t u → IsCompareWithin u v → IsCompareWithin t v
+  pub both : (t u : CompareTag) → IsCompareWithin t u → IsCompareWithin u t → t ≡ u
+  pub first : (t u : CompareTag) → IsCompareWithin t (compare_join t u)
+  pub second : (t u : CompareTag) → IsCompareWithin u (compare_join t u)
+  pub least : (t u v : CompareTag) → IsCompareWithin t v → IsCompareWithin u v → IsCompareWithin (compare_join t u) v
+
+pub record ZerosAreOrdered : Type 0 where
+  pub same : (t : ZeroTag) → IsZeroWithin t t
+  pub through : (t u v : ZeroTag) → IsZeroWithin t u → IsZeroWithin u v → IsZeroWithin t v
+  pub both : (t u : ZeroTag) → IsZeroWithin t u → IsZeroWithin u t → t ≡ u
+  pub first : (t u : ZeroTag) → IsZeroWithin t (zero_join t u)
+  pub second : (t u : ZeroTag) → IsZeroWithin u (zero_join t u)
+  pub least : (t u v : ZeroTag) → IsZeroWithin t v → IsZeroWithin u v → IsZeroWithin (zero_join t u) v
+
+-- the same of facts, of sixteen pairs each; of these that fit, nothing is above all
+pub record FactsAreOrdered : Type 0 where
+  pub same : (f : PairFacts) → AreFactsWithin f f
+  pub through : (f g h : PairFacts) → AreFactsWithin f g → AreFactsWithin g h → AreFactsWithin f h
+  pub both : (f g : PairFacts) → length f.intervals ≡ 16 → length g.intervals ≡ 16 → AreFactsWithin f g → AreFactsWithin g f → f ≡ g
+  pub join : (f g : PairFacts) → length f.intervals ≡ 16 → length g.intervals ≡ 16 → IsLeastAbove f g (facts_join f g)
+  pub within : (f g : PairFacts) → length f.intervals ≡ 16 → length g.intervals ≡ 16 → IsNear f.sum → AreFactsWithin g f → facts_join f g ≡ f
+  pub joins : (f g f' g' : PairFacts) → length f.intervals ≡ 16 → length g.intervals ≡ 16 → length f'.intervals ≡ 16 → length g'.intervals ≡ 16
+      → AreFactsWithin f f' → AreFactsWithin g g' → AreFactsWithin (facts_join f g) (facts_join f' g')
+  pub top : (f : PairFacts) → FactsFit f → AreFactsWithin f nothing
+
+-- what holds still holds where less is said, and nothing always holds
+pub record FactsSayLess : Type 0 where
+  pub interval : (i j : Interval) (x : ℕ) → IsIntervalWithin i j → InInterval i x → InInterval j x
+  pub sum : (registers : List ℕ) (t u : SumTag) (c : Bool) → IsSumWithin t u → SumHolds registers t c → SumHolds registers u c
+  pub compare : (registers : List ℕ) (t u : CompareTag) (c z s : Bool) → IsCompareWithin t u → CompareHolds registers t c z s → CompareHolds registers u c z s
+  pub zero : (registers : List ℕ) (t u : ZeroTag) (z : Bool) → IsZeroWithin t u → ZeroHolds registers t z → ZeroHolds registers u z
+  pub facts : (f g : PairFacts) (registers : List ℕ) (c z s : Bool) → AreFactsWithin f g → FactsHold f registers c z s → FactsHold g registers c z s
+
+-- Of two facts of which the second says no more, they are the same or the second is further up; none is above the height; joins fit.
+pub record FactsRise : Type 0 where
+  pub rises : (f g : PairFacts) → FactsFit f → FactsFit g → AreFactsWithin f g → (f ≡ g) ⊎ (facts_rank f < facts_rank g)
+  pub high : (f : PairFacts) → FactsFit f → facts_rank f ≤ facts_height
+  pub joins_fit : (f g : PairFacts) → FactsFit f → FactsFit g → FactsFit (facts_join f g)
+  pub nothing_fits : FactsFit nothing
+
+-- The same of what is known where pairs are followed and where they aren't.
+pub record KnownIsOrdered : Type 0 where
+  pub same : (x : Option PairFacts) → IsKnownWithin x x
+  pub through : (x y w : Option PairFacts) → IsKnownWithin x y → IsKnownWithin y w → IsKnownWithin x w
+  pub both : (x y : Option PairFacts) → HasSixteen x → HasSixteen y → IsKnownWithin x y → IsKnownWithin y x → x ≡ y
+  pub first : (x y : Option PairFacts) → HasSixteen x → HasSixteen y → IsKnownWithin x (known_join x y)
+  pub second : (x y : Option PairFacts) → HasSixteen x → HasSixteen y → IsKnownWithin y (known_join x y)
+  pub least : (x y w : Option PairFacts) → HasSixteen x → HasSixteen y → IsKnownNear w → IsKnownWithin x w → IsKnownWithin y w → IsKnownWithin (known_join x y) w
+  pub within : (x y : Option PairFacts) → HasSixteen x → HasSixteen y → IsKnownNear x → IsKnownWithin y x → known_join x y ≡ x
+  pub near : (x y : Option PairFacts) → IsKnownNear (known_join x y)
+  pub sixteen : (x y : Option PairFacts) → HasSixteen x → HasSixteen y → HasSixteen (known_join x y)
+  pub less : (x y : Option PairFacts) (registers : List ℕ) (c z s : Bool) → IsKnownWithin x y → KnownHolds x registers c z s → KnownHolds y registers c z s
+  pub rises : (x y : Option PairFacts) → KnownFits x → KnownFits y → IsKnownWithin x y → (x ≡ y) ⊎ (known_rank x < known_rank y)
+  pub high : (x : Option PairFacts) → KnownFits x → known_rank x ≤ facts_height + 1
+  pub joins_fit : (x y : Option PairFacts) → KnownFits x → KnownFits y → KnownFits (known_join x y)
+  pub count : (x : Option PairFacts) → KnownFits x → HasSixteen x
+  pub kept : (x : Option PairFacts) → KnownFits x → IsKnownNear x

@@ -1,0 +1,15 @@
+pub mod Intervals
+pub mod Tags
+pub mod Facts
+pub mod Rank
+pub mod Narrow
+pub mod PairSets
+pub mod NarrowLaws
+pub mod Rows
+pub mod RowLaws
+pub mod Laws
+pub mod Compare
+pub mod CompareLaws
+pub mod Marks
+pub mod MarkLaws
+pub mod Examples
