@@ -1,8 +1,11 @@
 //! Stores whose pointer is loaded a few words before.
 
-ghost use Rattle.std.specs.Prelude.{◌≡◌, ◌<◌, ◌≤◌, ◌+◌, IfSome, if◌then◌else◌};
+ghost use Rattle.std.specs.Prelude.{◌≡◌, ◌<◌, ◌==◌, IfSome, if◌then◌else◌};
 ghost use Rattle.avr_model.specs.Devices.{IsFlash};
-ghost use Rattle.avr_model.specs.Sites.{leaves, is_ldi, sets, store_pointer, loads_pair, path, is_fixed};
+ghost use Rattle.avr_model.specs.Image.{word_at};
+ghost use Rattle.avr_model.specs.Sites.{leaves, sets, store_pointer, instruction_at, is_fixed};
+ghost use Rattle.avr_model.specs.Table.{length_of};
+ghost use Rattle.avr_decode.specs.Ways.{set_before, told_before, loads_both, may_load};
 
 use crate::decoding::length;
 use crate::pointers::{base_register, pointer_register};
@@ -39,18 +42,6 @@ pub fn sets(instr: &Instr, register: u16) -> bool
     register < 32 && (set >> register) & 1 == 1
 }
 
-/// Whether the last instruction that sets the register is `ldi`, where `before` says it of those before this one.
-fn is_loaded(before: bool, instr: &Instr, register: u16) -> bool
-    requires { register < 32 }
-    ensures { result ≡ (if sets register instr.now then is_ldi instr.now else before) }
-{
-    if sets(instr, register) {
-        matches!(*instr, Instr::Immediate(ImmediateOp::Ldi, _, _))
-    } else {
-        before
-    }
-}
-
 /// The lower register of the pointer through which `st` or `std` stores.
 fn store_pointer(instr: &Instr) -> Option<u16>
     ensures value { result ≡ store_pointer instr.now }
@@ -63,31 +54,73 @@ fn store_pointer(instr: &Instr) -> Option<u16>
     }
 }
 
-/// Whether decoding forward from `start` words before word `a` comes exactly to it, without an undefined word and without
-/// an instruction that leaves the way, and loads both registers of the pair from `register` up.
-fn loads_pair(words: &[u16], a: u16, register: u16, start: usize) -> bool
-    requires flash { IsFlash words.now }
-    requires register { register < 31 }
-    requires start { start ≤ 32 }
-    ensures { result ≡ loads_pair register (path words.now a start) }
+/// What a way to a store tells of the pair of registers that is its pointer: of each, whether the last instruction that sets
+/// it is `ldi`; none where none sets it.
+#[derive(Clone, Copy)]
+struct Told {
+    low: Option<bool>,
+    high: Option<bool>,
+}
+
+/// Whether the last instruction that sets the register is `ldi`, where `behind` says it of those behind this one.
+fn set_before(register: u16, instr: &Instr, behind: Option<bool>) -> Option<bool>
+    ensures { result ≡ set_before register instr.now behind }
 {
-    let mut left = start;
-    let mut low = false;
-    let mut high = false;
-    while left > 0 {
-        let at = a as usize + WORDS - left;
-        let Some(instr) = instruction(words, at) else {
-            return false;
-        };
-        let size = length(word(words, at)) as usize;
-        if leaves(&instr) || left < size {
-            return false;
-        }
-        low = is_loaded(low, &instr, register);
-        high = is_loaded(high, &instr, register + 1);
-        left -= size;
+    if behind.is_none() && sets(instr, register) {
+        Some(matches!(*instr, Instr::Immediate(ImmediateOp::Ldi, _, _)))
+    } else {
+        behind
     }
-    low && high
+}
+
+/// What the way from word `at` tells, where `one` and `two` are what those from one and from two words behind it tell; none
+/// where it meets an undefined word, leaves the way or doesn't come exactly to the store.
+fn told_from(
+    words: &[u16],
+    at: usize,
+    register: u16,
+    one: Option<Told>,
+    two: Option<Told>,
+) -> Option<Told>
+    requires flash { IsFlash words.now }
+    requires room { at < 131072 }
+    requires register { register < 31 }
+    ensures { result ≡ told_before register (instruction_at words.now at) (if length_of (word_at words.now at) == 1 then one else two) }
+{
+    let instr = instruction(words, at)?;
+    let rest = if length(word(words, at)) == 1 {
+        one
+    } else {
+        two
+    };
+    let told = rest?;
+    if leaves(&instr) {
+        return None;
+    }
+    Some(Told {
+        low: set_before(register, &instr, told.low),
+        high: set_before(register + 1, &instr, told.high),
+    })
+}
+
+/// Whether the way loads both registers.
+fn loads_both(told: Option<Told>) -> bool
+    ensures { result ≡ loads_both told }
+{
+    match told {
+        Some(told) => told.low.unwrap_or(false) && told.high.unwrap_or(false),
+        None => false,
+    }
+}
+
+/// Whether some way that goes on with this one may load both registers.
+fn may_load(told: Option<Told>) -> bool
+    ensures { result ≡ may_load told }
+{
+    match told {
+        Some(told) => told.low.unwrap_or(true) && told.high.unwrap_or(true),
+        None => false,
+    }
 }
 
 /// Whether word `a` is `st` or `std` and its pointer is sure to be loaded just before: from some word 1 to 32 words before
@@ -104,9 +137,21 @@ pub fn is_fixed(words: &[u16], a: u16) -> bool
     let Some(register) = store_pointer(&instr) else {
         return false;
     };
-    for start in 1..FARTHEST + 1 {
-        if loads_pair(words, a, register, start) {
+    // What the ways from one and from two words behind the next one tell: first those from the store itself and from behind it.
+    let mut one = Some(Told {
+        low: None,
+        high: None,
+    });
+    let mut two = None;
+    for distance in 1..FARTHEST + 1 {
+        let told = told_from(words, usize::from(a) + WORDS - distance, register, one, two);
+        if loads_both(told) {
             return true;
+        }
+        two = one;
+        one = told;
+        if !may_load(one) && !may_load(two) {
+            return false;
         }
     }
     false

@@ -1,7 +1,7 @@
 //! The command line as `clap` has it.
 
 ghost use Rattle.std.specs.Prelude.{◌≡◌, IfOk, false};
-ghost use Rattle.clap.specs.Words.{app_of, rule_of, with_rule, with_subcommand};
+ghost use Rattle.clap.specs.Words.{App, app_of, rule_of, with_rule, with_subcommand};
 ghost use Rattle.clap.specs.declared.builder.command.Command.TheViews.{out-Command as fields_of};
 ghost use Rattle.clap_words.specs.Lines.{name_rule, value_rule, flag_rule, on_device, pair_app, judging_app, report_app, analyse_app, clear_app, simulate_app, demo_app, bare_app, line_app};
 
@@ -122,25 +122,29 @@ fn bare<'a>(alloc: Global) -> Command<'a>
         .subcommand_required(true)
 }
 
-/// The program with another command.
-fn with_command<'a>(program: Command<'a>, command: Command<'a>) -> Result<Command<'a>, AllocError>
-    requires { (fields_of command).has_globals ≡ false }
-    ensures { IfOk result (λ c. app_of c ≡ with_subcommand (app_of program.entry) (app_of command.entry).top) }
+/// The program with another command, where both are there.
+fn with_command<'a>(
+    program: Result<Command<'a>, AllocError>,
+    command: Result<Command<'a>, AllocError>,
+) -> Result<Command<'a>, AllocError>
+    requires { IfOk command (λ x. (fields_of x).has_globals ≡ false) }
+    ensures { (a b : App) → IfOk program.entry (λ p. app_of p ≡ a) → IfOk command.entry (λ x. app_of x ≡ b) → IfOk result (λ c. app_of c ≡ with_subcommand a b.top) }
 {
-    program.subcommand(command)
+    let command = command?;
+    program?.subcommand(command)
 }
 
 /// The program with its commands.
 pub(crate) fn line_command<'a>(alloc: Global) -> Result<Command<'a>, AllocError>
     ensures { IfOk result (λ c. app_of c ≡ line_app) }
 {
-    let mut program = with_command(bare(alloc), judging(alloc, "check")?)?;
-    program = with_command(program, analyse(alloc)?)?;
-    program = with_command(program, judging(alloc, "run")?)?;
-    program = with_command(program, report(alloc)?)?;
-    program = with_command(program, judging(alloc, "explain")?)?;
-    program = with_command(program, clear(alloc)?)?;
-    program = with_command(program, judging(alloc, "premises")?)?;
-    program = with_command(program, simulate(alloc)?)?;
-    with_command(program, demo(alloc)?)
+    let mut program = with_command(Ok(bare(alloc)), judging(alloc, "check"));
+    program = with_command(program, analyse(alloc));
+    program = with_command(program, judging(alloc, "run"));
+    program = with_command(program, report(alloc));
+    program = with_command(program, judging(alloc, "explain"));
+    program = with_command(program, clear(alloc));
+    program = with_command(program, judging(alloc, "premises"));
+    program = with_command(program, simulate(alloc));
+    with_command(program, demo(alloc))
 }

@@ -1,17 +1,14 @@
-use Rattle.std.proofs.Common.{ap₂, ◌∙◌}
-use Rattle.std.proofs.lemmas.Result.{IfOk-weaker}
-use Rattle.clap.specs.Words.{App, with_subcommand}
+use Rattle.clap_words.specs.Lines.{bare_app, check_app, analyse_app, run_app, report_app, explain_app, clear_app, premises_app, simulate_app, demo_app}
 use Rattle.clap_words.proofs.line.line_command.Goals as goal
 
 pub returns : goal.returns
 returns c =
-    let add : App → App → App = λ a b. with_subcommand a b.top in
-    let first = c.in_ok-program.ensures ∙ ap₂ add c.bare.ensures.app c.in_ok-judging.ensures.app in
-    let second = c.in_ok-program-2.ensures ∙ ap₂ add first c.in_ok-analyse.ensures.app in
-    let third = c.in_ok-program-3.ensures ∙ ap₂ add second c.in_ok-judging-2.ensures.app in
-    let fourth = c.in_ok-program-4.ensures ∙ ap₂ add third c.in_ok-report.ensures.app in
-    let fifth = c.in_ok-program-5.ensures ∙ ap₂ add fourth c.in_ok-judging-3.ensures.app in
-    let sixth = c.in_ok-program-6.ensures ∙ ap₂ add fifth c.in_ok-clear.ensures.app in
-    let seventh = c.in_ok-program-7.ensures ∙ ap₂ add sixth c.in_ok-judging-4.ensures.app in
-    let eighth = c.in_ok-program-8.ensures ∙ ap₂ add seventh c.in_ok-simulate.ensures.app in
-    IfOk-weaker c.with_command-9.result _ _ (λ x h. h ∙ ap₂ add eighth c.in_ok-demo.ensures.app) c.with_command-9.ensures
+    let first = c.with_command-program.ensures _ _ c.bare.ensures.app c.judging.ensures.app in
+    let second = c.with_command-program-2.ensures _ _ first c.analyse.ensures.app in
+    let third = c.with_command-program-3.ensures _ _ second c.judging-2.ensures.app in
+    let fourth = c.with_command-program-4.ensures _ _ third c.report.ensures.app in
+    let fifth = c.with_command-program-5.ensures _ _ fourth c.judging-3.ensures.app in
+    let sixth = c.with_command-program-6.ensures _ _ fifth c.clear.ensures.app in
+    let seventh = c.with_command-program-7.ensures _ _ sixth c.judging-4.ensures.app in
+    let eighth = c.with_command-program-8.ensures _ _ seventh c.simulate.ensures.app in
+    c.with_command.ensures _ _ eighth c.demo.ensures.app
