@@ -12,7 +12,7 @@ use Rattle.clap.specs.Words.{Shape, Text, Rule}
 use Rattle.clap.specs.Walk.{Held, Row, has_row, without, with_values, used, used_by_id, settled, reacted, pushed, pending_count, most_values, takes_values, takes_several, is_multiple, is_pending, positional_held, next_position, arg_by_id, arg_by_index, arg_by_long, finished}
 use Rattle.clap.specs.Takes.{use_passes, settle_passes, react_passes, positional_passes, default_passes, is_valid, is_given}
 use Rattle.commands.specs.declared.line.Valued.{Valued}
-use Rattle.commands.specs.declared.line.Valued.TheVariants.{Assume, Steps, Device}
+use Rattle.commands.specs.declared.line.Valued.TheVariants.{Assume, Steps, Device, Trials}
 use Rattle.commands.specs.Commands.{Line, named, waiting, with_value, with_json}
 use Rattle.clap_words.proofs.Pieces.{Piece, Named, Given, Marked, option_name, all_added, value_of, valued, gets, marks, same_value, Stays, stays, some_is}
 use Rattle.clap_words.proofs.Steps.{goes, final, begun, name_goes, value_goes, option_goes, flag_goes}
@@ -121,7 +121,7 @@ module _ (s : Shape) (w : Allows) (id : Text) (level : IsLevel s w id) where
   shows_first line word rows how k = record {
     first = gains id (row id how (word ∷ [])) rows level.same;
     second = keeps (codes "second") (row id how (word ∷ [])) rows _ k.second level.of_second.0;
-    given = λ v. keeps (option_name v) (row id how (word ∷ [])) rows _ (k.given v) (level.of_given v).0 ∙ ap is_some (sym (same_value v line (with_first line word) refl refl refl));
+    given = λ v. keeps (option_name v) (row id how (word ∷ [])) rows _ (k.given v) (level.of_given v).0 ∙ ap is_some (sym (same_value v line (with_first line word) refl refl refl refl));
     json = keeps (codes "json") (row id how (word ∷ [])) rows _ k.json level.of_json.0;
     explicit = explicit_end (row id how (word ∷ [])) rows k.explicit refl;
     order = λ h. refl;
@@ -131,13 +131,14 @@ module _ (s : Shape) (w : Allows) (id : Text) (level : IsLevel s w id) where
   second_is_none Assume = refl
   second_is_none Steps = refl
   second_is_none Device = refl
+  second_is_none Trials = refl
 
   shows_second : (line : Line) (word : Text) (rows : List Row) (how : Reading) → is_some line.first ≡ true → Shows id line rows
       → Shows id (with_second line word) (rows ++ row (codes "second") how (word ∷ []) ∷ [])
   shows_second line word rows how there k = record {
     first = keeps id (row (codes "second") how (word ∷ [])) rows _ k.first level.of_second.1;
     second = gains (codes "second") (row (codes "second") how (word ∷ [])) rows refl;
-    given = λ v. keeps (option_name v) (row (codes "second") how (word ∷ [])) rows _ (k.given v) (second_is_none v) ∙ ap is_some (sym (same_value v line (with_second line word) refl refl refl));
+    given = λ v. keeps (option_name v) (row (codes "second") how (word ∷ [])) rows _ (k.given v) (second_is_none v) ∙ ap is_some (sym (same_value v line (with_second line word) refl refl refl refl));
     json = keeps (codes "json") (row (codes "second") how (word ∷ [])) rows _ k.json refl;
     explicit = explicit_end (row (codes "second") how (word ∷ [])) rows k.explicit refl;
     order = λ h. there;
@@ -147,12 +148,13 @@ module _ (s : Shape) (w : Allows) (id : Text) (level : IsLevel s w id) where
   json_is_none Assume = refl
   json_is_none Steps = refl
   json_is_none Device = refl
+  json_is_none Trials = refl
 
   shows_json : (line : Line) (rows : List Row) (how : Reading) (values : List Text) → Shows id line rows → Shows id (with_flag line) (rows ++ row (codes "json") how values ∷ [])
   shows_json line rows how values k = record {
     first = keeps id (row (codes "json") how values) rows _ k.first level.of_json.1;
     second = keeps (codes "second") (row (codes "json") how values) rows _ k.second refl;
-    given = λ v. keeps (option_name v) (row (codes "json") how values) rows _ (k.given v) (json_is_none v) ∙ ap is_some (sym (same_value v line (with_flag line) refl refl refl));
+    given = λ v. keeps (option_name v) (row (codes "json") how values) rows _ (k.given v) (json_is_none v) ∙ ap is_some (sym (same_value v line (with_flag line) refl refl refl refl));
     json = gains (codes "json") (row (codes "json") how values) rows refl;
     explicit = explicit_end (row (codes "json") how values) rows k.explicit refl;
     order = k.order;
@@ -164,37 +166,49 @@ module _ (s : Shape) (w : Allows) (id : Text) (level : IsLevel s w id) where
   one_more Assume Assume line word rows how k = gains (option_name Assume) (row (option_name Assume) how (word ∷ [])) rows refl
   one_more Assume Steps line word rows how k = keeps (option_name Steps) (row (option_name Assume) how (word ∷ [])) rows _ k refl
   one_more Assume Device line word rows how k = keeps (option_name Device) (row (option_name Assume) how (word ∷ [])) rows _ k refl
+  one_more Assume Trials line word rows how k = keeps (option_name Trials) (row (option_name Assume) how (word ∷ [])) rows _ k refl
   one_more Steps Assume line word rows how k = keeps (option_name Assume) (row (option_name Steps) how (word ∷ [])) rows _ k refl
   one_more Steps Steps line word rows how k = gains (option_name Steps) (row (option_name Steps) how (word ∷ [])) rows refl
   one_more Steps Device line word rows how k = keeps (option_name Device) (row (option_name Steps) how (word ∷ [])) rows _ k refl
+  one_more Steps Trials line word rows how k = keeps (option_name Trials) (row (option_name Steps) how (word ∷ [])) rows _ k refl
   one_more Device Assume line word rows how k = keeps (option_name Assume) (row (option_name Device) how (word ∷ [])) rows _ k refl
   one_more Device Steps line word rows how k = keeps (option_name Steps) (row (option_name Device) how (word ∷ [])) rows _ k refl
   one_more Device Device line word rows how k = gains (option_name Device) (row (option_name Device) how (word ∷ [])) rows refl
+  one_more Device Trials line word rows how k = keeps (option_name Trials) (row (option_name Device) how (word ∷ [])) rows _ k refl
+  one_more Trials Assume line word rows how k = keeps (option_name Assume) (row (option_name Trials) how (word ∷ [])) rows _ k refl
+  one_more Trials Steps line word rows how k = keeps (option_name Steps) (row (option_name Trials) how (word ∷ [])) rows _ k refl
+  one_more Trials Device line word rows how k = keeps (option_name Device) (row (option_name Trials) how (word ∷ [])) rows _ k refl
+  one_more Trials Trials line word rows how k = gains (option_name Trials) (row (option_name Trials) how (word ∷ [])) rows refl
 
   same_first : (v : Valued) (line : Line) (word : Text) → (valued v line word).first ≡ line.first
   same_first Assume line word = refl
   same_first Steps line word = refl
   same_first Device line word = refl
+  same_first Trials line word = refl
 
   same_second : (v : Valued) (line : Line) (word : Text) → (valued v line word).second ≡ line.second
   same_second Assume line word = refl
   same_second Steps line word = refl
   same_second Device line word = refl
+  same_second Trials line word = refl
 
   same_json : (v : Valued) (line : Line) (word : Text) → (valued v line word).json ≡ line.json
   same_json Assume line word = refl
   same_json Steps line word = refl
   same_json Device line word = refl
+  same_json Trials line word = refl
 
   none_is_second : (v : Valued) → bytes_eq (option_name v) (codes "second") ≡ false
   none_is_second Assume = refl
   none_is_second Steps = refl
   none_is_second Device = refl
+  none_is_second Trials = refl
 
   none_is_json : (v : Valued) → bytes_eq (option_name v) (codes "json") ≡ false
   none_is_json Assume = refl
   none_is_json Steps = refl
   none_is_json Device = refl
+  none_is_json Trials = refl
 
   shows_given : (v : Valued) (line : Line) (word : Text) (rows : List Row) (how : Reading) → Shows id line rows → Shows id (valued v line word) (rows ++ row (option_name v) how (word ∷ []) ∷ [])
   shows_given v line word rows how k = record {
@@ -309,6 +323,7 @@ module _ (s : Shape) (w : Allows) (id : Text) (level : IsLevel s w id) where
           has_it Assume = refl
           has_it Steps = refl
           has_it Device = refl
+          has_it Trials = refl
 
   marked_goes : (ps : List Piece) → Goes ps → (line l : Line) (h : Held) → settles s h ≡ true → Shows id line (rows_at s h)
       → all_added (with_json line) ps ≡ Some l → IsWanted w l → goes s h (position line.first line.second) (Marked ∷ ps) ≡ true

@@ -8,7 +8,7 @@ use Rattle.clap.specs.Walk.{Names, Walk, idle, walked, walk, walk_from, nothing_
 use Rattle.clap.specs.Simple.{built, built_leaf, inherited, label_of, names_of, entered}
 use Rattle.clap.specs.Takes.{turn_passes, walk_passes, settle_passes, default_passes, is_valid, level_passes, entered_passes, built_takes}
 use Rattle.clap.proofs.OnLiterals.{clap_on_literals}
-use Rattle.clap_words.specs.Lines.{bare_app, check_app, analyse_app, run_app, report_app, explain_app, clear_app, premises_app, simulate_app, demo_app, line_app}
+use Rattle.clap_words.specs.Lines.{bare_app, check_app, analyse_app, run_app, report_app, explain_app, clear_app, premises_app, attain_app, simulate_app, demo_app, line_app}
 
 -- a command as it is below the program
 abbrev pub below : App → Shape
@@ -112,6 +112,13 @@ named_premises = record { stops = refl; found = refl; passes = refl; settles = r
 
 pub premises_level : (ws : List Text) → level_takes (below premises_app) ws ≡ true → takes line_app (codes "premises" ∷ ws) ≡ true
 premises_level ws h = built_takes_named (built line_app) (codes "premises") (below premises_app) ws named_premises h
+
+named_attain : IsNamed (built line_app) (codes "attain") (below attain_app)
+unfolding clap_on_literals
+named_attain = record { stops = refl; found = refl; passes = refl; settles = refl; defaults = refl; valid = refl }
+
+pub attain_level : (ws : List Text) → level_takes (below attain_app) ws ≡ true → takes line_app (codes "attain" ∷ ws) ≡ true
+attain_level ws h = built_takes_named (built line_app) (codes "attain") (below attain_app) ws named_attain h
 
 named_simulate : IsNamed (built line_app) (codes "simulate") (below simulate_app)
 unfolding clap_on_literals

@@ -5,8 +5,8 @@ use Rattle.std.specs.Str.{bytes_eq}
 use Rattle.std.proofs.lemmas.Slice.Eq.{bytes_eq-Decides}
 use Rattle.std.proofs.lemmas.Option.{none-some}
 use Rattle.commands.specs.declared.line.Valued.{Valued}
-use Rattle.commands.specs.declared.line.Valued.TheVariants.{Assume, Steps, Device}
-use Rattle.commands.specs.Commands.{Line, is_name, once, with_assume, with_steps, with_device, with_value, with_json, named, waiting, with_free, placed, then_words}
+use Rattle.commands.specs.declared.line.Valued.TheVariants.{Assume, Steps, Device, Trials}
+use Rattle.commands.specs.Commands.{Line, is_name, once, with_assume, with_steps, with_device, with_trials, with_value, with_json, named, waiting, with_free, placed, then_words}
 
 -- a name, an option with its value, and the option without one; texts by their first byte
 pub data Piece : Type 0 where
@@ -19,11 +19,13 @@ abbrev pub option_name : Valued → List ℕ
 option_name Assume = codes "assume"
 option_name Steps = codes "steps"
 option_name Device = codes "device"
+option_name Trials = codes "trials"
 
 abbrev pub spelled : Valued → List ℕ
 spelled Assume = codes "--assume"
 spelled Steps = codes "--steps"
 spelled Device = codes "--device"
+spelled Trials = codes "--trials"
 
 abbrev pub words_of : Piece → List (List ℕ)
 words_of (Named b bs) = (b ∷ bs) ∷ []
@@ -64,11 +66,13 @@ abbrev pub value_of : Valued → Line → Option (List ℕ)
 value_of Assume line = line.assume
 value_of Steps line = line.steps
 value_of Device line = line.device
+value_of Trials line = line.trials
 
 abbrev pub valued : Valued → Line → List ℕ → Line
 valued Assume line word = record line { assume = Some word; waits = None }
 valued Steps line word = record line { steps = Some word; waits = None }
 valued Device line word = record line { device = Some word; waits = None }
+valued Trials line word = record line { trials = Some word; waits = None }
 
 -- an option that gets a value had none
 pub record Gets (v : Valued) (line next : Line) (word : List ℕ) : Type 0 where
@@ -88,6 +92,10 @@ gets Device line next word e = by line.device refl e where
   by : (o : Option (List ℕ)) → line.device ≡ o → with_device (waiting line Device) (once o word) ≡ Some next → Gets Device line next word
   by None is e = record { had = is; is = sym (some_is (valued Device line word) next e) }
   by (Some x) is e = absurd (none-some next e)
+gets Trials line next word e = by line.trials refl e where
+  by : (o : Option (List ℕ)) → line.trials ≡ o → with_trials (waiting line Trials) (once o word) ≡ Some next → Gets Trials line next word
+  by None is e = record { had = is; is = sym (some_is (valued Trials line word) next e) }
+  by (Some x) is e = absurd (none-some next e)
 
 pub record Marks (line next : Line) : Type 0 where
   pub had : line.json ≡ false
@@ -104,6 +112,7 @@ value_rests : (v : Valued) (line : Line) (word : List ℕ) → (valued v line wo
 value_rests Assume line word = refl
 value_rests Steps line word = refl
 value_rests Device line word = refl
+value_rests Trials line word = refl
 
 named_rests : (first second : Option (List ℕ)) (line next : Line) (word : List ℕ) → named first second line word ≡ Some next → line.waits ≡ None → next.waits ≡ None
 named_rests None second line next word e h = ap (λ (x : Line). x.waits) (sym (some_is (record line { first = Some word }) next e)) ∙ h
@@ -177,8 +186,11 @@ module _ (l : Line) (whole : l.waits ≡ None) (n : ℕ) (go : Cuts l n) where
   abbrev else_json : Line → List ℕ → Option Line
   else_json line w = cond (bytes_eq w (codes "--json")) (with_json line) (else_name line w)
 
+  abbrev else_trials : Line → List ℕ → Option Line
+  else_trials line w = cond (bytes_eq w (codes "--trials")) (Some (waiting line Trials)) (else_json line w)
+
   abbrev else_device : Line → List ℕ → Option Line
-  else_device line w = cond (bytes_eq w (codes "--device")) (Some (waiting line Device)) (else_json line w)
+  else_device line w = cond (bytes_eq w (codes "--device")) (Some (waiting line Device)) (else_trials line w)
 
   abbrev else_steps : Line → List ℕ → Option Line
   else_steps line w = cond (bytes_eq w (codes "--steps")) (Some (waiting line Steps)) (else_device line w)
@@ -189,11 +201,17 @@ module _ (l : Line) (whole : l.waits ≡ None) (n : ℕ) (go : Cuts l n) where
     by true is e = cut_piece Marked (w ∷ ws) ws line rests le (ap (λ (x : List ℕ). x ∷ ws) (is_text w (codes "--json") is)) tt e
     by false is e = cut_name w ws line rests le e
 
+  cut_trials : (w : List ℕ) (ws : List (List ℕ)) (line : Line) → line.waits ≡ None → length ws ≤ n → then_words (else_trials line w) ws ≡ Some l → Cut line (w ∷ ws) l
+  cut_trials w ws line rests le e = by (bytes_eq w (codes "--trials")) refl e where
+    by : (b : Bool) → bytes_eq w (codes "--trials") ≡ b → then_words (cond b (Some (waiting line Trials)) (else_json line w)) ws ≡ Some l → Cut line (w ∷ ws) l
+    by true is e = cut_given Trials w ws line rests le (is_text w (codes "--trials") is) e
+    by false is e = cut_json w ws line rests le e
+
   cut_device : (w : List ℕ) (ws : List (List ℕ)) (line : Line) → line.waits ≡ None → length ws ≤ n → then_words (else_device line w) ws ≡ Some l → Cut line (w ∷ ws) l
   cut_device w ws line rests le e = by (bytes_eq w (codes "--device")) refl e where
-    by : (b : Bool) → bytes_eq w (codes "--device") ≡ b → then_words (cond b (Some (waiting line Device)) (else_json line w)) ws ≡ Some l → Cut line (w ∷ ws) l
+    by : (b : Bool) → bytes_eq w (codes "--device") ≡ b → then_words (cond b (Some (waiting line Device)) (else_trials line w)) ws ≡ Some l → Cut line (w ∷ ws) l
     by true is e = cut_given Device w ws line rests le (is_text w (codes "--device") is) e
-    by false is e = cut_json w ws line rests le e
+    by false is e = cut_trials w ws line rests le e
 
   cut_steps : (w : List ℕ) (ws : List (List ℕ)) (line : Line) → line.waits ≡ None → length ws ≤ n → then_words (else_steps line w) ws ≡ Some l → Cut line (w ∷ ws) l
   cut_steps w ws line rests le e = by (bytes_eq w (codes "--steps")) refl e where
@@ -234,34 +252,43 @@ value_stays : (v u : Valued) (line : Line) (word : List ℕ) → is_some (value_
 value_stays Assume Assume line word h = refl
 value_stays Assume Steps line word h = h
 value_stays Assume Device line word h = h
+value_stays Assume Trials line word h = h
 value_stays Steps Assume line word h = h
 value_stays Steps Steps line word h = refl
 value_stays Steps Device line word h = h
+value_stays Steps Trials line word h = h
 value_stays Device Assume line word h = h
 value_stays Device Steps line word h = h
 value_stays Device Device line word h = refl
+value_stays Device Trials line word h = h
+value_stays Trials Assume line word h = h
+value_stays Trials Steps line word h = h
+value_stays Trials Device line word h = h
+value_stays Trials Trials line word h = refl
 
 others_stay : (v : Valued) (line : Line) (word : List ℕ) → Stays line (valued v line word)
 others_stay Assume line word = record { first = λ h. h; second = λ h. h; given = λ u h. value_stays Assume u line word h; json = λ h. h }
 others_stay Steps line word = record { first = λ h. h; second = λ h. h; given = λ u h. value_stays Steps u line word h; json = λ h. h }
 others_stay Device line word = record { first = λ h. h; second = λ h. h; given = λ u h. value_stays Device u line word h; json = λ h. h }
+others_stay Trials line word = record { first = λ h. h; second = λ h. h; given = λ u h. value_stays Trials u line word h; json = λ h. h }
 
-pub same_value : (u : Valued) (line next : Line) → next.assume ≡ line.assume → next.steps ≡ line.steps → next.device ≡ line.device → value_of u next ≡ value_of u line
-same_value Assume line next a s d = a
-same_value Steps line next a s d = s
-same_value Device line next a s d = d
+pub same_value : (u : Valued) (line next : Line) → next.assume ≡ line.assume → next.steps ≡ line.steps → next.device ≡ line.device → next.trials ≡ line.trials → value_of u next ≡ value_of u line
+same_value Assume line next a s d t = a
+same_value Steps line next a s d t = s
+same_value Device line next a s d t = d
+same_value Trials line next a s d t = t
 
 named_stays : (first second : Option (List ℕ)) (line next : Line) (word : List ℕ) → line.first ≡ first → line.second ≡ second → named first second line word ≡ Some next → Stays line next
 named_stays None second line next word f s e = subst (Stays line) (some_is (record line { first = Some word }) next e) (record {
   first = λ h. refl;
   second = λ h. h;
-  given = λ v h. ap is_some (same_value v line (record line { first = Some word }) refl refl refl) ∙ h;
+  given = λ v h. ap is_some (same_value v line (record line { first = Some word }) refl refl refl refl) ∙ h;
   json = λ h. h;
 })
 named_stays (Some x) None line next word f s e = subst (Stays line) (some_is (record line { second = Some word }) next e) (record {
   first = λ h. h;
   second = λ h. refl;
-  given = λ v h. ap is_some (same_value v line (record line { second = Some word }) refl refl refl) ∙ h;
+  given = λ v h. ap is_some (same_value v line (record line { second = Some word }) refl refl refl refl) ∙ h;
   json = λ h. h;
 })
 named_stays (Some x) (Some y) line next word f s e = absurd (none-some next e)
@@ -270,7 +297,7 @@ marked_stays : (line : Line) → Stays line (record line { json = true })
 marked_stays line = record {
   first = λ h. h;
   second = λ h. h;
-  given = λ v h. ap is_some (same_value v line (record line { json = true }) refl refl refl) ∙ h;
+  given = λ v h. ap is_some (same_value v line (record line { json = true }) refl refl refl refl) ∙ h;
   json = λ h. refl;
 }
 

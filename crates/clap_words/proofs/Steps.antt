@@ -11,7 +11,7 @@ use Rattle.clap.specs.Walk.{Held, Waiting, Walk, Step, idle, option, positional,
 use Rattle.clap.specs.Takes.{turn_passes, walk_passes, step_passes, positional_passes, flag_word_passes, bundle_passes, long_passes, option_passes, react_passes, settle_passes, default_passes, is_valid}
 use Rattle.clap_words.proofs.Levels.{level_takes}
 use Rattle.commands.specs.declared.line.Valued.{Valued}
-use Rattle.commands.specs.declared.line.Valued.TheVariants.{Assume, Steps, Device}
+use Rattle.commands.specs.declared.line.Valued.TheVariants.{Assume, Steps, Device, Trials}
 use Rattle.clap_words.proofs.Pieces.{Piece, Named, Given, Marked, option_name, spelled, all_words, AreFit}
 
 -- where the walk stands between two pieces
@@ -238,11 +238,13 @@ unfolding dashes
 no_option_dashes Assume = refl
 no_option_dashes Steps = refl
 no_option_dashes Device = refl
+no_option_dashes Trials = refl
 
 option_long : (v : Valued) → long_of (spelled v) ≡ Some (option_name v, None)
 option_long Assume = refl
 option_long Steps = refl
 option_long Device = refl
+option_long Trials = refl
 
 take_pieces : (s : Shape) (h : Held) (i : ℕ) (ps : List Piece) → AreFit ps → goes s h i ps ≡ true → Taken s (at h idle i) (all_words ps)
 unfolding goes walk_passes dashes

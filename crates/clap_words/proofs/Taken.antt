@@ -13,10 +13,10 @@ use Rattle.clap.specs.Takes.{values_pass, is_given}
 use Rattle.clap.proofs.OnLiterals.{clap_on_literals}
 use Rattle.avr_model.specs.declared.device.Device.{Device as Chip}
 use Rattle.commands.specs.declared.line.Valued.{Valued}
-use Rattle.commands.specs.declared.line.Valued.TheVariants.{Assume, Steps, Device}
-use Rattle.commands.specs.Commands.{Command, Check, Run, Report, Explain, Clear, Premises, Demo, Line, empty_line, then_words, steps_in, choices_in, size_in, device_in, on_device, with_one, with_two, with_both, analysed, simulated, check_of, analyse_of, run_of, report_of, explain_of, clear_of, premises_of, simulate_of, demo_of, called, whole, command_of}
-use Rattle.clap_words.specs.Lines.{judging_app, analyse_app, report_app, clear_app, simulate_app, demo_app, line_app, is_option, is_refused}
-use Rattle.clap_words.proofs.Levels.{below, level_takes, check_level, analyse_level, run_level, report_level, explain_level, clear_level, premises_level, simulate_level, demo_level}
+use Rattle.commands.specs.declared.line.Valued.TheVariants.{Assume, Steps, Device, Trials}
+use Rattle.commands.specs.Commands.{Command, Check, Run, Report, Explain, Clear, Premises, Demo, Line, empty_line, then_words, steps_in, choices_in, trials_in, size_in, device_in, on_device, with_one, with_two, with_both, analysed, attaining, simulated, check_of, analyse_of, run_of, report_of, explain_of, clear_of, premises_of, attain_of, simulate_of, demo_of, called, whole, command_of}
+use Rattle.clap_words.specs.Lines.{judging_app, analyse_app, report_app, clear_app, attain_app, simulate_app, demo_app, line_app, is_option, is_refused}
+use Rattle.clap_words.proofs.Levels.{below, level_takes, check_level, analyse_level, run_level, report_level, explain_level, clear_level, premises_level, attain_level, simulate_level, demo_level}
 use Rattle.clap_words.proofs.Pieces.{Piece, Named, Given, Marked, option_name, spelled, value_of, all_words, AreFit, Cut, cut_words}
 use Rattle.clap_words.proofs.Steps.{level_goes}
 use Rattle.clap_words.proofs.Going.{IsOption, Allows, IsLevel, IsWanted, Shows, goes_on}
@@ -27,14 +27,25 @@ abbrev two_options : Valued → Bool
 two_options Assume = true
 two_options Steps = false
 two_options Device = true
+two_options Trials = false
 
 abbrev device_option : Valued → Bool
 device_option Assume = false
 device_option Steps = false
 device_option Device = true
+device_option Trials = false
 
-abbrev all_options : Valued → Bool
-all_options _ = true
+abbrev step_options : Valued → Bool
+step_options Assume = true
+step_options Steps = true
+step_options Device = true
+step_options Trials = false
+
+abbrev trial_options : Valued → Bool
+trial_options Assume = true
+trial_options Steps = false
+trial_options Device = true
+trial_options Trials = true
 
 abbrev no_options : Valued → Bool
 no_options _ = false
@@ -46,10 +57,13 @@ abbrev reporting : Allows
 reporting = record { second = true; given = two_options; json = true }
 
 abbrev analysing : Allows
-analysing = record { second = false; given = all_options; json = false }
+analysing = record { second = false; given = step_options; json = false }
+
+abbrev attains : Allows
+attains = record { second = true; given = trial_options; json = false }
 
 abbrev simulating : Allows
-simulating = record { second = true; given = all_options; json = false }
+simulating = record { second = true; given = step_options; json = false }
 
 abbrev clearing : Allows
 clearing = record { second = true; given = device_option; json = false }
@@ -80,11 +94,13 @@ firmware_apart : (v : Valued) → (bytes_eq (codes "firmware") (option_name v) �
 firmware_apart Assume = (refl, refl)
 firmware_apart Steps = (refl, refl)
 firmware_apart Device = (refl, refl)
+firmware_apart Trials = (refl, refl)
 
 size_apart : (v : Valued) → (bytes_eq (codes "size") (option_name v) ≡ false) × (bytes_eq (option_name v) (codes "size") ≡ false)
 size_apart Assume = (refl, refl)
 size_apart Steps = (refl, refl)
 size_apart Device = (refl, refl)
+size_apart Trials = (refl, refl)
 
 judging_options : (n : Text) (v : Valued) → two_options v ≡ true → IsOption (below (judging_app n)) (option_name v)
 unfolding clap_on_literals
@@ -107,6 +123,7 @@ judging_options n Device e =
       takes = refl;
       one = λ word. refl;
     }
+judging_options n Trials e = absurd (no_value e)
 
 judging_has : (n : Text) → IsLevel (below (judging_app n)) judging (codes "firmware")
 unfolding clap_on_literals
@@ -163,6 +180,7 @@ report_options Device e =
       takes = refl;
       one = λ word. refl;
     }
+report_options Trials e = absurd (no_value e)
 
 report_has : IsLevel (below report_app) reporting (codes "firmware")
 unfolding clap_on_literals
@@ -207,7 +225,7 @@ report_has =
       of_json = (refl, refl);
     }
 
-analyse_options : (v : Valued) → all_options v ≡ true → IsOption (below analyse_app) (option_name v)
+analyse_options : (v : Valued) → step_options v ≡ true → IsOption (below analyse_app) (option_name v)
 unfolding clap_on_literals
 analyse_options Assume e =
     let a : Rule = option_of (below analyse_app) (codes "assume") in
@@ -236,6 +254,7 @@ analyse_options Device e =
       takes = refl;
       one = λ word. refl;
     }
+analyse_options Trials e = absurd (no_value e)
 
 analyse_has : IsLevel (below analyse_app) analysing (codes "firmware")
 unfolding clap_on_literals
@@ -262,7 +281,7 @@ analyse_has =
       of_json = (refl, refl);
     }
 
-simulate_options : (v : Valued) → all_options v ≡ true → IsOption (below simulate_app) (option_name v)
+simulate_options : (v : Valued) → step_options v ≡ true → IsOption (below simulate_app) (option_name v)
 unfolding clap_on_literals
 simulate_options Assume e =
     let a : Rule = option_of (below simulate_app) (codes "assume") in
@@ -291,6 +310,7 @@ simulate_options Device e =
       takes = refl;
       one = λ word. refl;
     }
+simulate_options Trials e = absurd (no_value e)
 
 simulate_has : IsLevel (below simulate_app) simulating (codes "firmware")
 unfolding clap_on_literals
@@ -326,6 +346,71 @@ simulate_has =
       of_json = (refl, refl);
     }
 
+attain_options : (v : Valued) → trial_options v ≡ true → IsOption (below attain_app) (option_name v)
+unfolding clap_on_literals
+attain_options Assume e =
+    let a : Rule = option_of (below attain_app) (codes "assume") in
+    record {
+      rule = a;
+      found = refl;
+      usable = record { how = reading_by a; found = refl; passes = λ word rows h. ap (once a (word ∷ [])) h; adds = λ word rows. refl };
+      takes = refl;
+      one = λ word. refl;
+    }
+attain_options Steps e = absurd (no_value e)
+attain_options Device e =
+    let a : Rule = option_of (below attain_app) (codes "device") in
+    record {
+      rule = a;
+      found = refl;
+      usable = record { how = reading_by a; found = refl; passes = λ word rows h. ap (once a (word ∷ [])) h; adds = λ word rows. refl };
+      takes = refl;
+      one = λ word. refl;
+    }
+attain_options Trials e =
+    let a : Rule = option_of (below attain_app) (codes "trials") in
+    record {
+      rule = a;
+      found = refl;
+      usable = record { how = reading_by a; found = refl; passes = λ word rows h. ap (once a (word ∷ [])) h; adds = λ word rows. refl };
+      takes = refl;
+      one = λ word. refl;
+    }
+
+attain_has : IsLevel (below attain_app) attains (codes "firmware")
+unfolding clap_on_literals
+attain_has =
+    let a : Rule = name_at (below attain_app) 1 in
+    let b : Rule = name_at (below attain_app) 2 in
+    record {
+      first = record {
+        rule = a;
+        found = refl;
+        usable = record { how = reading_by a; found = refl; passes = λ word rows h. ap (once a (word ∷ [])) h; adds = λ word rows. refl };
+        one = refl;
+        single = refl;
+        last = refl;
+        next = refl;
+      };
+      second = λ e. record {
+        rule = b;
+        found = refl;
+        usable = record { how = reading_by b; found = refl; passes = λ word rows h. ap (once b (word ∷ [])) h; adds = λ word rows. refl };
+        one = refl;
+        single = refl;
+        last = refl;
+        next = refl;
+      };
+      given = attain_options;
+      json = λ e. absurd (no_value e);
+      defaults = refl;
+      valid = λ rows f t. and_from (is_given (codes "firmware") rows) _ f (and_from (is_given (codes "second") rows) _ (t refl) refl);
+      same = refl;
+      of_second = (refl, refl);
+      of_given = firmware_apart;
+      of_json = (refl, refl);
+    }
+
 clear_options : (v : Valued) → device_option v ≡ true → IsOption (below clear_app) (option_name v)
 unfolding clap_on_literals
 clear_options Assume e = absurd (no_value e)
@@ -339,6 +424,7 @@ clear_options Device e =
       takes = refl;
       one = λ word. refl;
     }
+clear_options Trials e = absurd (no_value e)
 
 clear_has : IsLevel (below clear_app) clearing (codes "firmware")
 unfolding clap_on_literals
@@ -401,75 +487,89 @@ demo_has =
 
 -- ---- a line that is a command has what it wants
 
-plain_facts : (first second steps : Option Text) (json : Bool) (device : Option Chip) (command : Chip → Text → Text → Command) (x : Command)
-    → cond (is_none steps && not json) (on_device device (λ d. with_two first second (command d))) None ≡ Some x
-    → (is_some first ≡ true) × ((is_some second ≡ true) × ((is_some steps ≡ false) × (json ≡ false)))
-plain_facts first second (Some t) json device command x e = absurd (none-some x e)
-plain_facts first second None true device command x e = absurd (none-some x e)
-plain_facts first second None false None command x e = absurd (none-some x e)
-plain_facts None second None false (Some d) command x e = absurd (none-some x e)
-plain_facts (Some f) None None false (Some d) command x e = absurd (none-some x e)
-plain_facts (Some f) (Some g) None false (Some d) command x e = (refl, (refl, (refl, refl)))
+plain_facts : (first second steps trials : Option Text) (json : Bool) (device : Option Chip) (command : Chip → Text → Text → Command) (x : Command)
+    → cond (is_none steps && (is_none trials && not json)) (on_device device (λ d. with_two first second (command d))) None ≡ Some x
+    → (is_some first ≡ true) × ((is_some second ≡ true) × ((is_some steps ≡ false) × ((is_some trials ≡ false) × (json ≡ false))))
+plain_facts first second (Some t) trials json device command x e = absurd (none-some x e)
+plain_facts first second None (Some t) json device command x e = absurd (none-some x e)
+plain_facts first second None None true device command x e = absurd (none-some x e)
+plain_facts first second None None false None command x e = absurd (none-some x e)
+plain_facts None second None None false (Some d) command x e = absurd (none-some x e)
+plain_facts (Some f) None None None false (Some d) command x e = absurd (none-some x e)
+plain_facts (Some f) (Some g) None None false (Some d) command x e = (refl, (refl, (refl, (refl, refl))))
 
-report_facts : (first second steps : Option Text) (device : Option Chip) (command : Chip → Text → Text → Command) (x : Command)
-    → cond (is_none steps) (on_device device (λ d. with_two first second (command d))) None ≡ Some x
-    → (is_some first ≡ true) × ((is_some second ≡ true) × (is_some steps ≡ false))
-report_facts first second (Some t) device command x e = absurd (none-some x e)
-report_facts first second None None command x e = absurd (none-some x e)
-report_facts None second None (Some d) command x e = absurd (none-some x e)
-report_facts (Some f) None None (Some d) command x e = absurd (none-some x e)
-report_facts (Some f) (Some g) None (Some d) command x e = (refl, (refl, refl))
+report_facts : (first second steps trials : Option Text) (device : Option Chip) (command : Chip → Text → Text → Command) (x : Command)
+    → cond (is_none steps && is_none trials) (on_device device (λ d. with_two first second (command d))) None ≡ Some x
+    → (is_some first ≡ true) × ((is_some second ≡ true) × ((is_some steps ≡ false) × (is_some trials ≡ false)))
+report_facts first second (Some t) trials device command x e = absurd (none-some x e)
+report_facts first second None (Some t) device command x e = absurd (none-some x e)
+report_facts first second None None None command x e = absurd (none-some x e)
+report_facts None second None None (Some d) command x e = absurd (none-some x e)
+report_facts (Some f) None None None (Some d) command x e = absurd (none-some x e)
+report_facts (Some f) (Some g) None None (Some d) command x e = (refl, (refl, (refl, refl)))
 
-clear_facts : (first second assume steps : Option Text) (json : Bool) (device : Option Chip) (command : Chip → Text → Text → Command) (x : Command)
-    → cond (is_none assume && (is_none steps && not json)) (on_device device (λ d. with_two first second (command d))) None ≡ Some x
-    → (is_some first ≡ true) × ((is_some second ≡ true) × ((is_some assume ≡ false) × ((is_some steps ≡ false) × (json ≡ false))))
-clear_facts first second (Some a) steps json device command x e = absurd (none-some x e)
-clear_facts first second None (Some t) json device command x e = absurd (none-some x e)
-clear_facts first second None None true device command x e = absurd (none-some x e)
-clear_facts first second None None false None command x e = absurd (none-some x e)
-clear_facts None second None None false (Some d) command x e = absurd (none-some x e)
-clear_facts (Some f) None None None false (Some d) command x e = absurd (none-some x e)
-clear_facts (Some f) (Some g) None None false (Some d) command x e = (refl, (refl, (refl, (refl, refl))))
+clear_facts : (first second assume steps trials : Option Text) (json : Bool) (device : Option Chip) (command : Chip → Text → Text → Command) (x : Command)
+    → cond (is_none assume && (is_none steps && (is_none trials && not json))) (on_device device (λ d. with_two first second (command d))) None ≡ Some x
+    → (is_some first ≡ true) × ((is_some second ≡ true) × ((is_some assume ≡ false) × ((is_some steps ≡ false) × ((is_some trials ≡ false) × (json ≡ false)))))
+clear_facts first second (Some a) steps trials json device command x e = absurd (none-some x e)
+clear_facts first second None (Some t) trials json device command x e = absurd (none-some x e)
+clear_facts first second None None (Some t) json device command x e = absurd (none-some x e)
+clear_facts first second None None None true device command x e = absurd (none-some x e)
+clear_facts first second None None None false None command x e = absurd (none-some x e)
+clear_facts None second None None None false (Some d) command x e = absurd (none-some x e)
+clear_facts (Some f) None None None None false (Some d) command x e = absurd (none-some x e)
+clear_facts (Some f) (Some g) None None None false (Some d) command x e = (refl, (refl, (refl, (refl, (refl, refl)))))
 
-analyse_facts : (first second : Option Text) (json : Bool) (device : Option Chip) (command : Chip → Text → Option Command) (x : Command)
-    → cond json None (on_device device (λ d. with_one first second (command d))) ≡ Some x
-    → (is_some first ≡ true) × ((is_some second ≡ false) × (json ≡ false))
-analyse_facts first second true device command x e = absurd (none-some x e)
-analyse_facts first second false None command x e = absurd (none-some x e)
-analyse_facts None second false (Some d) command x e = absurd (none-some x e)
-analyse_facts (Some f) (Some g) false (Some d) command x e = absurd (none-some x e)
-analyse_facts (Some f) None false (Some d) command x e = (refl, (refl, refl))
+analyse_facts : (first second trials : Option Text) (json : Bool) (device : Option Chip) (command : Chip → Text → Option Command) (x : Command)
+    → cond (is_none trials && not json) (on_device device (λ d. with_one first second (command d))) None ≡ Some x
+    → (is_some first ≡ true) × ((is_some second ≡ false) × ((is_some trials ≡ false) × (json ≡ false)))
+analyse_facts first second (Some t) json device command x e = absurd (none-some x e)
+analyse_facts first second None true device command x e = absurd (none-some x e)
+analyse_facts first second None false None command x e = absurd (none-some x e)
+analyse_facts None second None false (Some d) command x e = absurd (none-some x e)
+analyse_facts (Some f) (Some g) None false (Some d) command x e = absurd (none-some x e)
+analyse_facts (Some f) None None false (Some d) command x e = (refl, (refl, (refl, refl)))
 
-simulate_facts : (first second : Option Text) (json : Bool) (device : Option Chip) (command : Chip → Text → Text → Option Command) (x : Command)
-    → cond json None (on_device device (λ d. with_both first second (command d))) ≡ Some x
-    → (is_some first ≡ true) × ((is_some second ≡ true) × (json ≡ false))
-simulate_facts first second true device command x e = absurd (none-some x e)
-simulate_facts first second false None command x e = absurd (none-some x e)
-simulate_facts None second false (Some d) command x e = absurd (none-some x e)
-simulate_facts (Some f) None false (Some d) command x e = absurd (none-some x e)
-simulate_facts (Some f) (Some g) false (Some d) command x e = (refl, (refl, refl))
+-- of a command with two names that has all options but this one and the one without a value
+both_facts : (first second other : Option Text) (json : Bool) (device : Option Chip) (command : Chip → Text → Text → Option Command) (x : Command)
+    → cond (is_none other && not json) (on_device device (λ d. with_both first second (command d))) None ≡ Some x
+    → (is_some first ≡ true) × ((is_some second ≡ true) × ((is_some other ≡ false) × (json ≡ false)))
+both_facts first second (Some t) json device command x e = absurd (none-some x e)
+both_facts first second None true device command x e = absurd (none-some x e)
+both_facts first second None false None command x e = absurd (none-some x e)
+both_facts None second None false (Some d) command x e = absurd (none-some x e)
+both_facts (Some f) None None false (Some d) command x e = absurd (none-some x e)
+both_facts (Some f) (Some g) None false (Some d) command x e = (refl, (refl, (refl, refl)))
 
-demo_facts : (first second assume steps device : Option Text) (json : Bool) (command : Text → Option Command) (x : Command)
-    → cond (is_none assume && is_none device && (is_none steps && not json)) (with_one first second command) None ≡ Some x
-    → (is_some first ≡ true) × ((is_some second ≡ false) × ((is_some assume ≡ false) × ((is_some steps ≡ false) × ((is_some device ≡ false) × (json ≡ false)))))
-demo_facts first second (Some a) steps device json command x e = absurd (none-some x e)
-demo_facts first second None steps (Some d) json command x e = absurd (none-some x e)
-demo_facts first second None (Some t) None json command x e = absurd (none-some x e)
-demo_facts first second None None None true command x e = absurd (none-some x e)
-demo_facts None second None None None false command x e = absurd (none-some x e)
-demo_facts (Some f) (Some g) None None None false command x e = absurd (none-some x e)
-demo_facts (Some f) None None None None false command x e = (refl, (refl, (refl, (refl, (refl, refl)))))
+demo_facts : (first second assume steps device trials : Option Text) (json : Bool) (command : Text → Option Command) (x : Command)
+    → cond (is_none assume && is_none device && (is_none steps && (is_none trials && not json))) (with_one first second command) None ≡ Some x
+    → (is_some first ≡ true) × ((is_some second ≡ false) × ((is_some assume ≡ false) × ((is_some steps ≡ false) × ((is_some device ≡ false) × ((is_some trials ≡ false) × (json ≡ false))))))
+demo_facts first second (Some a) steps device trials json command x e = absurd (none-some x e)
+demo_facts first second None steps (Some d) trials json command x e = absurd (none-some x e)
+demo_facts first second None (Some t) None trials json command x e = absurd (none-some x e)
+demo_facts first second None None None (Some t) json command x e = absurd (none-some x e)
+demo_facts first second None None None None true command x e = absurd (none-some x e)
+demo_facts None second None None None None false command x e = absurd (none-some x e)
+demo_facts (Some f) (Some g) None None None None false command x e = absurd (none-some x e)
+demo_facts (Some f) None None None None None false command x e = (refl, (refl, (refl, (refl, (refl, (refl, refl))))))
 
-no_steps : (l : Line) → is_some l.steps ≡ false → (v : Valued) → is_some (value_of v l) ≡ true → two_options v ≡ true
-no_steps l e Assume h = refl
-no_steps l e Steps h = absurd (never_both (is_some l.steps) h e)
-no_steps l e Device h = refl
+no_steps : (l : Line) → is_some l.steps ≡ false → is_some l.trials ≡ false → (v : Valued) → is_some (value_of v l) ≡ true → two_options v ≡ true
+no_steps l e f Assume h = refl
+no_steps l e f Steps h = absurd (never_both (is_some l.steps) h e)
+no_steps l e f Device h = refl
+no_steps l e f Trials h = absurd (never_both (is_some l.trials) h f)
+
+no_trials : (l : Line) → is_some l.trials ≡ false → (v : Valued) → is_some (value_of v l) ≡ true → step_options v ≡ true
+no_trials l f Assume h = refl
+no_trials l f Steps h = refl
+no_trials l f Device h = refl
+no_trials l f Trials h = absurd (never_both (is_some l.trials) h f)
 
 plain_wanted : (l : Line) (command : Chip → Text → Text → Command) (x : Command)
-    → cond (is_none l.steps && not l.json) (on_device (device_in l.device) (λ d. with_two l.first l.second (command d))) None ≡ Some x → IsWanted judging l
+    → cond (is_none l.steps && (is_none l.trials && not l.json)) (on_device (device_in l.device) (λ d. with_two l.first l.second (command d))) None ≡ Some x → IsWanted judging l
 plain_wanted l command x e =
-    let k = plain_facts l.first l.second l.steps l.json (device_in l.device) command x e in
-    record { first = k.0; second = k.1.0; given = no_steps l k.1.1.0; json = λ h. absurd (never_both l.json h k.1.1.1) }
+    let k = plain_facts l.first l.second l.steps l.trials l.json (device_in l.device) command x e in
+    record { first = k.0; second = k.1.0; given = no_steps l k.1.1.0 k.1.1.1.0; json = λ h. absurd (never_both l.json h k.1.1.1.1) }
 
 check_wanted : (l : Line) (x : Command) → check_of l ≡ Some x → IsWanted judging l
 check_wanted l x e = plain_wanted l (λ device firmware certificate. Check device firmware certificate l.assume) x e
@@ -485,37 +585,49 @@ premises_wanted l x e = plain_wanted l (λ device firmware certificate. Premises
 
 clear_wanted : (l : Line) (x : Command) → clear_of l ≡ Some x → IsWanted clearing l
 clear_wanted l x e =
-    let k = clear_facts l.first l.second l.assume l.steps l.json (device_in l.device) (λ device firmware certificate. Clear device firmware certificate) x e in
-    record { first = k.0; second = k.1.0; given = given_by k.1.1.0 k.1.1.1.0; json = λ h. absurd (never_both l.json h k.1.1.1.1) } where
-      given_by : is_some l.assume ≡ false → is_some l.steps ≡ false → (v : Valued) → is_some (value_of v l) ≡ true → device_option v ≡ true
-      given_by a s Assume h = absurd (never_both (is_some l.assume) h a)
-      given_by a s Steps h = absurd (never_both (is_some l.steps) h s)
-      given_by a s Device h = refl
+    let k = clear_facts l.first l.second l.assume l.steps l.trials l.json (device_in l.device) (λ device firmware certificate. Clear device firmware certificate) x e in
+    record { first = k.0; second = k.1.0; given = given_by k.1.1.0 k.1.1.1.0 k.1.1.1.1.0; json = λ h. absurd (never_both l.json h k.1.1.1.1.1) } where
+      given_by : is_some l.assume ≡ false → is_some l.steps ≡ false → is_some l.trials ≡ false → (v : Valued) → is_some (value_of v l) ≡ true → device_option v ≡ true
+      given_by a s t Assume h = absurd (never_both (is_some l.assume) h a)
+      given_by a s t Steps h = absurd (never_both (is_some l.steps) h s)
+      given_by a s t Device h = refl
+      given_by a s t Trials h = absurd (never_both (is_some l.trials) h t)
 
 report_wanted : (l : Line) (x : Command) → report_of l ≡ Some x → IsWanted reporting l
 report_wanted l x e =
-    let k = report_facts l.first l.second l.steps (device_in l.device) (λ device firmware certificate. Report device firmware certificate l.assume l.json) x e in
-    record { first = k.0; second = k.1.0; given = no_steps l k.1.1; json = λ h. refl }
+    let k = report_facts l.first l.second l.steps l.trials (device_in l.device) (λ device firmware certificate. Report device firmware certificate l.assume l.json) x e in
+    record { first = k.0; second = k.1.0; given = no_steps l k.1.1.0 k.1.1.1; json = λ h. refl }
 
 analyse_wanted : (l : Line) (x : Command) → analyse_of l ≡ Some x → IsWanted analysing l
 analyse_wanted l x e =
-    let k = analyse_facts l.first l.second l.json (device_in l.device) (λ device firmware. analysed device firmware l.assume (steps_in l.steps)) x e in
-    record { first = k.0; second = k.1.0; given = λ v h. refl; json = λ h. absurd (never_both l.json h k.1.1) }
+    let k = analyse_facts l.first l.second l.trials l.json (device_in l.device) (λ device firmware. analysed device firmware l.assume (steps_in l.steps)) x e in
+    record { first = k.0; second = k.1.0; given = no_trials l k.1.1.0; json = λ h. absurd (never_both l.json h k.1.1.1) }
+
+attain_wanted : (l : Line) (x : Command) → attain_of l ≡ Some x → IsWanted attains l
+attain_wanted l x e =
+    let k = both_facts l.first l.second l.steps l.json (device_in l.device) (λ device firmware certificate. attaining device firmware certificate l.assume (trials_in l.trials)) x e in
+    record { first = k.0; second = k.1.0; given = given_by k.1.1.0; json = λ h. absurd (never_both l.json h k.1.1.1) } where
+      given_by : is_some l.steps ≡ false → (v : Valued) → is_some (value_of v l) ≡ true → trial_options v ≡ true
+      given_by s Assume h = refl
+      given_by s Steps h = absurd (never_both (is_some l.steps) h s)
+      given_by s Device h = refl
+      given_by s Trials h = refl
 
 simulate_wanted : (l : Line) (x : Command) → simulate_of l ≡ Some x → IsWanted simulating l
 simulate_wanted l x e =
-    let k = simulate_facts l.first l.second l.json (device_in l.device) (λ device firmware devices. simulated device firmware devices l.assume (choices_in l.steps)) x e in
-    record { first = k.0; second = k.1.0; given = λ v h. refl; json = λ h. absurd (never_both l.json h k.1.1) }
+    let k = both_facts l.first l.second l.trials l.json (device_in l.device) (λ device firmware devices. simulated device firmware devices l.assume (choices_in l.steps)) x e in
+    record { first = k.0; second = k.1.0; given = no_trials l k.1.1.0; json = λ h. absurd (never_both l.json h k.1.1.1) }
 
 demo_wanted : (l : Line) (x : Command) → demo_of l ≡ Some x → IsWanted measuring l
 demo_wanted l x e =
-    let k = demo_facts l.first l.second l.assume l.steps l.device l.json (λ word. option_map Demo (size_in word)) x e in
-    let none : (v : Valued) → is_some (value_of v l) ≡ true → no_options v ≡ true = none_by k.1.1.0 k.1.1.1.0 k.1.1.1.1.0 in
-    record { first = k.0; second = k.1.0; given = none; json = λ h. absurd (never_both l.json h k.1.1.1.1.1) } where
-      none_by : is_some l.assume ≡ false → is_some l.steps ≡ false → is_some l.device ≡ false → (v : Valued) → is_some (value_of v l) ≡ true → no_options v ≡ true
-      none_by a s d Assume h = absurd (never_both (is_some l.assume) h a)
-      none_by a s d Steps h = absurd (never_both (is_some l.steps) h s)
-      none_by a s d Device h = absurd (never_both (is_some l.device) h d)
+    let k = demo_facts l.first l.second l.assume l.steps l.device l.trials l.json (λ word. option_map Demo (size_in word)) x e in
+    let none : (v : Valued) → is_some (value_of v l) ≡ true → no_options v ≡ true = none_by k.1.1.0 k.1.1.1.0 k.1.1.1.1.0 k.1.1.1.1.1.0 in
+    record { first = k.0; second = k.1.0; given = none; json = λ h. absurd (never_both l.json h k.1.1.1.1.1.1) } where
+      none_by : is_some l.assume ≡ false → is_some l.steps ≡ false → is_some l.device ≡ false → is_some l.trials ≡ false → (v : Valued) → is_some (value_of v l) ≡ true → no_options v ≡ true
+      none_by a s d t Assume h = absurd (never_both (is_some l.assume) h a)
+      none_by a s d t Steps h = absurd (never_both (is_some l.steps) h s)
+      none_by a s d t Device h = absurd (never_both (is_some l.device) h d)
+      none_by a s d t Trials h = absurd (never_both (is_some l.trials) h t)
 
 -- ---- all
 
@@ -531,6 +643,7 @@ option_free : (v : Valued) → is_refused (spelled v) ≡ false
 option_free Assume = refl
 option_free Steps = refl
 option_free Device = refl
+option_free Trials = refl
 
 pieces_free : (ps : List Piece) → AreFit ps → list_any is_refused (all_words ps) ≡ false
 pieces_free [] fit = refl
@@ -545,6 +658,7 @@ shows_nothing id = record { first = refl; second = refl; given = none; json = re
   none Assume = refl
   none Steps = refl
   none Device = refl
+  none Trials = refl
 
 good : (name : Text) (s : Shape) (w : Allows) (id : Text) → IsLevel s w id → ((ws : List Text) → level_takes s ws ≡ true → takes line_app (name ∷ ws) ≡ true)
     → is_refused name ≡ false → (word : Text) (words : List Text) (l : Line) → l.waits ≡ None → then_words (Some empty_line) words ≡ Some l → bytes_eq word name ≡ true → IsWanted w l → IsGood (word ∷ words)
@@ -569,9 +683,10 @@ called_good word words l x waits e h =
     (either (bytes_eq word (codes "explain")) (explain_of l) _ x (λ is k. good (codes "explain") (below (judging_app (codes "explain"))) judging (codes "firmware") (judging_has (codes "explain")) explain_level refl word words l waits e is (explain_wanted l x k))
     (either (bytes_eq word (codes "clear")) (clear_of l) _ x (λ is k. good (codes "clear") (below clear_app) clearing (codes "firmware") clear_has clear_level refl word words l waits e is (clear_wanted l x k))
     (either (bytes_eq word (codes "premises")) (premises_of l) _ x (λ is k. good (codes "premises") (below (judging_app (codes "premises"))) judging (codes "firmware") (judging_has (codes "premises")) premises_level refl word words l waits e is (premises_wanted l x k))
+    (either (bytes_eq word (codes "attain")) (attain_of l) _ x (λ is k. good (codes "attain") (below attain_app) attains (codes "firmware") attain_has attain_level refl word words l waits e is (attain_wanted l x k))
     (either (bytes_eq word (codes "simulate")) (simulate_of l) _ x (λ is k. good (codes "simulate") (below simulate_app) simulating (codes "firmware") simulate_has simulate_level refl word words l waits e is (simulate_wanted l x k))
     (either (bytes_eq word (codes "demo")) (demo_of l) _ x (λ is k. good (codes "demo") (below demo_app) measuring (codes "size") demo_has demo_level refl word words l waits e is (demo_wanted l x k))
-    (λ k. absurd (none-some x k)))))))))) h
+    (λ k. absurd (none-some x k))))))))))) h
 
 whole_good : (word : List ℕ) (words : List (List ℕ)) (o : Option Line) (x : Command) → then_words (Some empty_line) words ≡ o → whole word o ≡ Some x → IsGood (word ∷ words)
 whole_good word words None x e h = absurd (none-some x h)

@@ -54,8 +54,15 @@ premises_app = judging_app (codes "premises")
 abbrev pub analyse_app : App
 analyse_app = with_rule (on_device (with_rule (new_app (codes "analyse")) (name_rule (codes "firmware")))) (value_rule (codes "steps"))
 
+-- and another that takes the next word
+abbrev pub judging_with_app : Text → Text → App
+judging_with_app name id = with_rule (judging_app name) (value_rule id)
+
+abbrev pub attain_app : App
+attain_app = judging_with_app (codes "attain") (codes "trials")
+
 abbrev pub simulate_app : App
-simulate_app = with_rule (judging_app (codes "simulate")) (value_rule (codes "steps"))
+simulate_app = judging_with_app (codes "simulate") (codes "steps")
 
 abbrev pub demo_app : App
 demo_app = with_rule (new_app (codes "demo")) (name_rule (codes "size"))
@@ -76,13 +83,13 @@ bare_app = record {
 -- the program with its commands
 abbrev pub line_app : App
 line_app =
-    with_subcommand (with_subcommand (with_subcommand (with_subcommand (with_subcommand (with_subcommand (with_subcommand (with_subcommand (with_subcommand bare_app check_app.top) analyse_app.top) run_app.top) report_app.top) explain_app.top) clear_app.top) premises_app.top) simulate_app.top) demo_app.top
+    with_subcommand (with_subcommand (with_subcommand (with_subcommand (with_subcommand (with_subcommand (with_subcommand (with_subcommand (with_subcommand (with_subcommand bare_app check_app.top) analyse_app.top) run_app.top) report_app.top) explain_app.top) clear_app.top) premises_app.top) attain_app.top) simulate_app.top) demo_app.top
 
 -- ---- what is refused before
 
 abbrev pub is_option : Text → Bool
 is_option word =
-    bytes_eq word (codes "--assume") || (bytes_eq word (codes "--steps") || (bytes_eq word (codes "--device") || bytes_eq word (codes "--json")))
+    bytes_eq word (codes "--assume") || (bytes_eq word (codes "--steps") || (bytes_eq word (codes "--device") || (bytes_eq word (codes "--trials") || bytes_eq word (codes "--json"))))
 
 -- an empty word, or one that begins with `-` and is none of the options
 abbrev pub is_refused : Text → Bool

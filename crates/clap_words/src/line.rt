@@ -3,7 +3,7 @@
 ghost use Rattle.std.specs.Prelude.{◌≡◌, IfOk, false};
 ghost use Rattle.clap.specs.Words.{App, app_of, rule_of, with_rule, with_subcommand};
 ghost use Rattle.clap.specs.declared.builder.command.Command.TheViews.{out-Command as fields_of};
-ghost use Rattle.clap_words.specs.Lines.{name_rule, value_rule, flag_rule, on_device, pair_app, judging_app, report_app, analyse_app, clear_app, simulate_app, demo_app, bare_app, line_app};
+ghost use Rattle.clap_words.specs.Lines.{name_rule, value_rule, flag_rule, on_device, pair_app, judging_app, report_app, analyse_app, clear_app, judging_with_app, demo_app, bare_app, line_app};
 
 use clap::{Arg, ArgAction, Command};
 use std::alloc::{AllocError, Global};
@@ -94,12 +94,12 @@ fn analyse<'a>(alloc: Global) -> Result<Command<'a>, AllocError>
     with_arg(on_device(alloc, command)?, value_arg(alloc, "steps"))
 }
 
-/// The command `simulate`, which may be held to a number of choices.
-fn simulate<'a>(alloc: Global) -> Result<Command<'a>, AllocError>
-    ensures app { IfOk result (λ c. app_of c ≡ simulate_app) }
+/// One with these options and another that takes the next word.
+fn judging_with<'a>(alloc: Global, name: &'a str, id: &'a str) -> Result<Command<'a>, AllocError>
+    ensures app { IfOk result (λ c. app_of c ≡ judging_with_app name.entry.now id.entry.now) }
     ensures local { IfOk result (λ c. (fields_of c).has_globals ≡ false) }
 {
-    with_arg(judging(alloc, "simulate")?, value_arg(alloc, "steps"))
+    with_arg(judging(alloc, name)?, value_arg(alloc, id))
 }
 
 /// The command `demo`.
@@ -145,6 +145,7 @@ pub(crate) fn line_command<'a>(alloc: Global) -> Result<Command<'a>, AllocError>
     program = with_command(program, judging(alloc, "explain"));
     program = with_command(program, clear(alloc));
     program = with_command(program, judging(alloc, "premises"));
-    program = with_command(program, simulate(alloc));
+    program = with_command(program, judging_with(alloc, "attain", "trials"));
+    program = with_command(program, judging_with(alloc, "simulate", "steps"));
     with_command(program, demo(alloc))
 }

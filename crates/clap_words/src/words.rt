@@ -24,6 +24,7 @@ fn is_refused(word: &str) -> bool
                 && word != "--assume"
                 && word != "--steps"
                 && word != "--device"
+                && word != "--trials"
                 && word != "--json"
         }
     }

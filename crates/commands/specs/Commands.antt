@@ -11,7 +11,8 @@ use Rattle.commands.specs.declared.line.Valued.TheVariants as option
 
 -- what is to be done for a firmware of which device, with the names of the files: judge a certificate, write the least one within a
 -- number of rounds if there is one, replay a schedule, judge a certificate and tell what it shows, where the bytes of its bound go, whether
--- no step can be flagged, or where one may be, run with devices for a number of choices, and measure the analysis by the image of a number
+-- no step can be flagged, or where one may be, judge it and write it with the schedule that a number of trials finds, run with devices for a
+-- number of choices, and measure the analysis by the image of a number
 pub data Command : Type 0 where
   Check : (device : Device) (firmware certificate : List ℕ) (assume : Option (List ℕ)) → Command
   Analyse : (device : Device) (firmware : List ℕ) (assume : Option (List ℕ)) (steps : Option ℕ) → Command
@@ -20,6 +21,7 @@ pub data Command : Type 0 where
   Explain : (device : Device) (firmware certificate : List ℕ) (assume : Option (List ℕ)) → Command
   Clear : (device : Device) (firmware certificate : List ℕ) → Command
   Premises : (device : Device) (firmware certificate : List ℕ) (assume : Option (List ℕ)) → Command
+  Attain : (device : Device) (firmware certificate : List ℕ) (assume : Option (List ℕ)) (trials : ℕ) → Command
   Simulate : (device : Device) (firmware devices : List ℕ) (assume : Option (List ℕ)) (steps : ℕ) → Command
   Demo : (size : ℕ) → Command
 
@@ -32,6 +34,7 @@ device_for (Report device firmware certificate assume json) = device
 device_for (Explain device firmware certificate assume) = device
 device_for (Clear device firmware certificate) = device
 device_for (Premises device firmware certificate assume) = device
+device_for (Attain device firmware certificate assume trials) = device
 device_for (Simulate device firmware devices assume steps) = device
 device_for (Demo size) = M328
 
@@ -66,6 +69,9 @@ name_of (Clear device firmware certificate) Assumptions = None
 name_of (Premises device firmware certificate assume) Firmware = Some firmware
 name_of (Premises device firmware certificate assume) Second = Some certificate
 name_of (Premises device firmware certificate assume) Assumptions = assume
+name_of (Attain device firmware certificate assume trials) Firmware = Some firmware
+name_of (Attain device firmware certificate assume trials) Second = Some certificate
+name_of (Attain device firmware certificate assume trials) Assumptions = assume
 name_of (Simulate device firmware devices assume steps) Firmware = Some firmware
 name_of (Simulate device firmware devices assume steps) Second = Some devices
 name_of (Simulate device firmware devices assume steps) Assumptions = assume
@@ -90,11 +96,12 @@ pub record Line : Type 0 where
   pub assume : Option (List ℕ)
   pub steps : Option (List ℕ)
   pub device : Option (List ℕ)
+  pub trials : Option (List ℕ)
   pub json : Bool
   pub waits : Option Valued
 
 abbrev pub empty_line : Line
-empty_line = record { first = None; second = None; assume = None; steps = None; device = None; json = false; waits = None }
+empty_line = record { first = None; second = None; assume = None; steps = None; device = None; trials = None; json = false; waits = None }
 
 -- a value where there was none
 abbrev pub once : Option (List ℕ) → List ℕ → Option (Option (List ℕ))
@@ -113,11 +120,16 @@ abbrev pub with_device : Line → Option (Option (List ℕ)) → Option Line
 with_device line None = None
 with_device line (Some value) = Some (record line { device = value; waits = None })
 
+abbrev pub with_trials : Line → Option (Option (List ℕ)) → Option Line
+with_trials line None = None
+with_trials line (Some value) = Some (record line { trials = value; waits = None })
+
 -- the value of an option, which stands at most once
 abbrev pub with_value : Valued → Line → List ℕ → Option Line
 with_value option.Assume line word = with_assume line (once line.assume word)
 with_value option.Steps line word = with_steps line (once line.steps word)
 with_value option.Device line word = with_device line (once line.device word)
+with_value option.Trials line word = with_trials line (once line.trials word)
 
 -- the name behind those before, of which there are at most two
 abbrev pub named : Option (List ℕ) → Option (List ℕ) → Line → List ℕ → Option Line
@@ -137,8 +149,9 @@ with_free line word =
     if bytes_eq word (codes "--assume") then Some (waiting line option.Assume)
     else (if bytes_eq word (codes "--steps") then Some (waiting line option.Steps)
     else (if bytes_eq word (codes "--device") then Some (waiting line option.Device)
+    else (if bytes_eq word (codes "--trials") then Some (waiting line option.Trials)
     else (if bytes_eq word (codes "--json") then with_json line
-    else (if is_name word then named line.first line.second line word else None))))
+    else (if is_name word then named line.first line.second line word else None)))))
 
 abbrev pub placed : Option Valued → Line → List ℕ → Option Line
 placed None line word = with_free line word
@@ -177,6 +190,11 @@ choices_of (Some n) = if nat_le n 16777216 then n else 16777216
 abbrev pub choices_in : Option (List ℕ) → Option ℕ
 choices_in word = option_map choices_of (steps_in word)
 
+-- a number of trials is at most 65,536, and 64 where none is said
+abbrev pub trials_in : Option (List ℕ) → Option ℕ
+trials_in None = Some 64
+trials_in (Some word) = decimal_in word 65536
+
 -- the size of an image is 1 to 2,000
 abbrev pub positive : Option ℕ → Option ℕ
 positive None = None
@@ -203,9 +221,13 @@ device_in (Some word) = device_called word
 
 -- ---- commands
 
+-- no option is there but `--assume`, `--device` and `--steps`
+abbrev pub is_stepping : Line → Bool
+is_stepping line = is_none line.trials && not line.json
+
 -- no option is there but `--assume` and `--device`
 abbrev pub is_plain : Line → Bool
-is_plain line = is_none line.steps && not line.json
+is_plain line = is_none line.steps && is_stepping line
 
 -- no option is there
 abbrev pub is_bare : Line → Bool
@@ -241,9 +263,9 @@ check_of line =
 
 abbrev pub analyse_of : Line → Option Command
 analyse_of line =
-    if line.json
-    then None
-    else on_device (device_in line.device) (λ device. with_one line.first line.second (λ firmware. analysed device firmware line.assume (steps_in line.steps)))
+    if is_stepping line
+    then on_device (device_in line.device) (λ device. with_one line.first line.second (λ firmware. analysed device firmware line.assume (steps_in line.steps)))
+    else None
 
 abbrev pub run_of : Line → Option Command
 run_of line =
@@ -253,7 +275,7 @@ run_of line =
 
 abbrev pub report_of : Line → Option Command
 report_of line =
-    if is_none line.steps
+    if is_none line.steps && is_none line.trials
     then on_device (device_in line.device) (λ device. with_two line.first line.second (λ firmware certificate. Report device firmware certificate line.assume line.json))
     else None
 
@@ -275,15 +297,25 @@ premises_of line =
     then on_device (device_in line.device) (λ device. with_two line.first line.second (λ firmware certificate. Premises device firmware certificate line.assume))
     else None
 
+abbrev pub attaining : Device → List ℕ → List ℕ → Option (List ℕ) → Option ℕ → Option Command
+attaining device firmware certificate assume None = None
+attaining device firmware certificate assume (Some trials) = Some (Attain device firmware certificate assume trials)
+
+abbrev pub attain_of : Line → Option Command
+attain_of line =
+    if is_none line.steps && not line.json
+    then on_device (device_in line.device) (λ device. with_both line.first line.second (λ firmware certificate. attaining device firmware certificate line.assume (trials_in line.trials)))
+    else None
+
 abbrev pub simulated : Device → List ℕ → List ℕ → Option (List ℕ) → Option ℕ → Option Command
 simulated device firmware devices assume None = None
 simulated device firmware devices assume (Some steps) = Some (Simulate device firmware devices assume steps)
 
 abbrev pub simulate_of : Line → Option Command
 simulate_of line =
-    if line.json
-    then None
-    else on_device (device_in line.device) (λ device. with_both line.first line.second (λ firmware devices. simulated device firmware devices line.assume (choices_in line.steps)))
+    if is_stepping line
+    then on_device (device_in line.device) (λ device. with_both line.first line.second (λ firmware devices. simulated device firmware devices line.assume (choices_in line.steps)))
+    else None
 
 abbrev pub demo_of : Line → Option Command
 demo_of line = if is_bare line then with_one line.first line.second (λ word. option_map Demo (size_in word)) else None
@@ -298,17 +330,18 @@ called word line =
     else (if bytes_eq word (codes "explain") then explain_of line
     else (if bytes_eq word (codes "clear") then clear_of line
     else (if bytes_eq word (codes "premises") then premises_of line
+    else (if bytes_eq word (codes "attain") then attain_of line
     else (if bytes_eq word (codes "simulate") then simulate_of line
     else (if bytes_eq word (codes "demo") then demo_of line
-    else None))))))))
+    else None)))))))))
 
 -- no option waits for its value
 abbrev pub whole : List ℕ → Option Line → Option Command
 whole word None = None
 whole word (Some line) = if is_none line.waits then called word line else None
 
--- The command that the words are. The first is its name. Of the others, `--assume`, `--steps` and `--device` take the next word, each
--- option stands at most once and only where the command has it, and what is left are the names in order.
+-- The command that the words are. The first is its name. Of the others, `--assume`, `--steps`, `--device` and `--trials` take the next
+-- word, each option stands at most once and only where the command has it, and what is left are the names in order.
 abbrev pub command_of : List (List ℕ) → Option Command
 command_of [] = None
 command_of (word ∷ words) = whole word (then_words (Some empty_line) words)

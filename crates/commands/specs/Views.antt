@@ -4,14 +4,14 @@ use Rattle.std.specs.Borrow.{Bor}
 use Rattle.commands.specs.declared.line.Line.{Line as Words}
 use Rattle.commands.specs.declared.command.Command.{Command as Owned}
 use Rattle.commands.specs.declared.command.Command.TheVariants as owned
-use Rattle.commands.specs.Commands.{Command, Check, Analyse, Run, Report, Explain, Clear, Premises, Simulate, Demo, Line}
+use Rattle.commands.specs.Commands.{Command, Check, Analyse, Run, Report, Explain, Clear, Premises, Attain, Simulate, Demo, Line}
 
 abbrev pub text_of : Option (Bor (List ℕ)) → Option (List ℕ)
 text_of None = None
 text_of (Some text) = Some text.now
 
 abbrev pub line_of : Words → Line
-line_of l = record { first = text_of l.first; second = text_of l.second; assume = text_of l.assume; steps = text_of l.steps; device = text_of l.device; json = l.json; waits = l.waits }
+line_of l = record { first = text_of l.first; second = text_of l.second; assume = text_of l.assume; steps = text_of l.steps; device = text_of l.device; trials = text_of l.trials; json = l.json; waits = l.waits }
 
 abbrev pub command_seen : Owned → Command
 command_seen (owned.Check device firmware certificate assume) = Check device firmware.now certificate.now (text_of assume)
@@ -21,5 +21,6 @@ command_seen (owned.Report device firmware certificate assume json) = Report dev
 command_seen (owned.Explain device firmware certificate assume) = Explain device firmware.now certificate.now (text_of assume)
 command_seen (owned.Clear device firmware certificate) = Clear device firmware.now certificate.now
 command_seen (owned.Premises device firmware certificate assume) = Premises device firmware.now certificate.now (text_of assume)
+command_seen (owned.Attain device firmware certificate assume trials) = Attain device firmware.now certificate.now (text_of assume) trials
 command_seen (owned.Simulate device firmware devices assume steps) = Simulate device firmware.now devices.now (text_of assume) steps
 command_seen (owned.Demo size) = Demo size

@@ -2,7 +2,7 @@
 
 ghost use Rattle.std.specs.Prelude.{◌≡◌, map, None, Some};
 ghost use Rattle.std.specs.Option.{option_map};
-ghost use Rattle.commands.specs.Commands.{Firmware, Second, Assumptions, device_for, name_of, empty_line, then_words, steps_in, size_in, device_called, device_in, is_plain, is_bare, check_of, analyse_of, run_of, report_of, explain_of, clear_of, premises_of, simulate_of, choices_of, choices_in, demo_of, called, whole, command_of};
+ghost use Rattle.commands.specs.Commands.{Firmware, Second, Assumptions, device_for, name_of, empty_line, then_words, steps_in, size_in, device_called, device_in, is_stepping, is_plain, is_bare, check_of, analyse_of, run_of, report_of, explain_of, clear_of, premises_of, attain_of, simulate_of, choices_of, choices_in, trials_in, demo_of, called, whole, command_of};
 ghost use Rattle.commands.specs.Views.{text_of, line_of, command_seen};
 
 use crate::line::Line;
@@ -62,6 +62,14 @@ pub enum Command<'a> {
         certificate: &'a str,
         assume: Option<&'a str>,
     },
+    /// Judges a certificate for a firmware, and writes it, with the schedule that one of so many guided trials finds where it has none.
+    Attain {
+        device: Device,
+        firmware: &'a str,
+        certificate: &'a str,
+        assume: Option<&'a str>,
+        trials: u32,
+    },
     /// Runs a firmware with timers and receivers, for at most so many choices.
     Simulate {
         device: Device,
@@ -89,6 +97,7 @@ impl<'a> Command<'a> {
             Command::Explain { device, .. } => device,
             Command::Clear { device, .. } => device,
             Command::Premises { device, .. } => device,
+            Command::Attain { device, .. } => device,
             Command::Simulate { device, .. } => device,
             Command::Demo { .. } => Device::M328,
         }
@@ -106,6 +115,7 @@ impl<'a> Command<'a> {
             Command::Explain { firmware, .. } => Some(firmware),
             Command::Clear { firmware, .. } => Some(firmware),
             Command::Premises { firmware, .. } => Some(firmware),
+            Command::Attain { firmware, .. } => Some(firmware),
             Command::Simulate { firmware, .. } => Some(firmware),
             Command::Demo { .. } => None,
         }
@@ -123,6 +133,7 @@ impl<'a> Command<'a> {
             Command::Explain { certificate, .. } => Some(certificate),
             Command::Clear { certificate, .. } => Some(certificate),
             Command::Premises { certificate, .. } => Some(certificate),
+            Command::Attain { certificate, .. } => Some(certificate),
             Command::Simulate { devices, .. } => Some(devices),
             Command::Demo { .. } => None,
         }
@@ -140,17 +151,25 @@ impl<'a> Command<'a> {
             Command::Explain { assume, .. } => assume,
             Command::Clear { .. } => None,
             Command::Premises { assume, .. } => assume,
+            Command::Attain { assume, .. } => assume,
             Command::Simulate { assume, .. } => assume,
             Command::Demo { .. } => None,
         }
     }
 }
 
+/// Whether no option is there but `--assume`, `--device` and `--steps`.
+fn is_stepping(line: &Line<'_>) -> bool
+    ensures { result ≡ is_stepping (line_of line.now) }
+{
+    line.trials.is_none() && !line.json
+}
+
 /// Whether no option is there but `--assume` and `--device`.
 fn is_plain(line: &Line<'_>) -> bool
     ensures { result ≡ is_plain (line_of line.now) }
 {
-    line.steps.is_none() && !line.json
+    line.steps.is_none() && is_stepping(line)
 }
 
 /// Whether no option is there.
@@ -194,6 +213,19 @@ fn choices_in(word: Option<&str>) -> Option<Choices>
     ensures { result ≡ choices_in (text_of word.entry) }
 {
     Some(choices_of(steps_in(word)?))
+}
+
+/// The number of trials: 64 where none is said, and at most 65,536.
+fn trials_in(word: Option<&str>) -> Option<u32>
+    ensures { result ≡ trials_in (text_of word.entry) }
+{
+    match word {
+        Some(word) => match read_dec(word.as_bytes(), 65_536) {
+            Ok(trials) => Some(trials as u32),
+            Err(_) => None,
+        },
+        None => Some(64),
+    }
 }
 
 /// The size of an image.
@@ -256,7 +288,7 @@ fn check_of<'a>(line: Line<'a>) -> Option<Command<'a>>
 fn analyse_of<'a>(line: Line<'a>) -> Option<Command<'a>>
     ensures { option_map command_seen result ≡ analyse_of (line_of line.entry) }
 {
-    if line.json || line.second.is_some() {
+    if !is_stepping(&line) || line.second.is_some() {
         return None;
     }
     Some(Command::Analyse {
@@ -284,7 +316,7 @@ fn run_of<'a>(line: Line<'a>) -> Option<Command<'a>>
 fn report_of<'a>(line: Line<'a>) -> Option<Command<'a>>
     ensures { option_map command_seen result ≡ report_of (line_of line.entry) }
 {
-    if line.steps.is_some() {
+    if line.steps.is_some() || line.trials.is_some() {
         return None;
     }
     Some(Command::Report {
@@ -337,10 +369,25 @@ fn premises_of<'a>(line: Line<'a>) -> Option<Command<'a>>
     })
 }
 
+fn attain_of<'a>(line: Line<'a>) -> Option<Command<'a>>
+    ensures { option_map command_seen result ≡ attain_of (line_of line.entry) }
+{
+    if line.steps.is_some() || line.json {
+        return None;
+    }
+    Some(Command::Attain {
+        device: device_in(line.device)?,
+        firmware: line.first?,
+        certificate: line.second?,
+        assume: line.assume,
+        trials: trials_in(line.trials)?,
+    })
+}
+
 fn simulate_of<'a>(line: Line<'a>) -> Option<Command<'a>>
     ensures { option_map command_seen result ≡ simulate_of (line_of line.entry) }
 {
-    if line.json {
+    if !is_stepping(&line) {
         return None;
     }
     Some(Command::Simulate {
@@ -381,6 +428,8 @@ fn called<'a>(word: &str, line: Line<'a>) -> Option<Command<'a>>
         clear_of(line)
     } else if word == "premises" {
         premises_of(line)
+    } else if word == "attain" {
+        attain_of(line)
     } else if word == "simulate" {
         simulate_of(line)
     } else if word == "demo" {
@@ -390,7 +439,7 @@ fn called<'a>(word: &str, line: Line<'a>) -> Option<Command<'a>>
     }
 }
 
-/// The line with all these words more, if each can stand where it does. At most nine can.
+/// The line with all these words more, if each can stand where it does. At most eleven can.
 fn line_with<'a>(line: Line<'a>, words: &'a [&'a str]) -> Option<Line<'a>>
     ensures { option_map line_of result ≡ then_words (Some (line_of line.entry)) (map (λ w. w.now) words.now) }
 {
@@ -410,8 +459,8 @@ fn whole<'a>(word: &str, line: Line<'a>) -> Option<Command<'a>>
     }
 }
 
-/// The command that the words are, if they are one. The first is its name. Of the others, `--assume`, `--steps` and
-/// `--device` take the next word, each option stands at most once and only where the command has it, and what is left are
+/// The command that the words are, if they are one. The first is its name. Of the others, `--assume`, `--steps`, `--device`
+/// and `--trials` take the next word, each option stands at most once and only where the command has it, and what is left are
 /// the names in order.
 pub fn command_of<'a>(words: &'a [&'a str]) -> Option<Command<'a>>
     ensures { option_map command_seen result ≡ command_of (map (λ w. w.now) words.now) }

@@ -11,6 +11,7 @@ pub enum Valued {
     Assume,
     Steps,
     Device,
+    Trials,
 }
 
 /// The first two names in their order, the options with their values, and the option whose value is the next word.
@@ -21,6 +22,7 @@ pub struct Line<'a> {
     pub assume: Option<&'a str>,
     pub steps: Option<&'a str>,
     pub device: Option<&'a str>,
+    pub trials: Option<&'a str>,
     pub json: bool,
     pub waits: Option<Valued>,
 }
@@ -45,6 +47,7 @@ impl<'a> Line<'a> {
             assume: None,
             steps: None,
             device: None,
+            trials: None,
             json: false,
             waits: None,
         }
@@ -74,6 +77,14 @@ impl<'a> Line<'a> {
                 Some(_) => None,
                 None => Some(Line {
                     device: Some(word),
+                    waits: None,
+                    ..self
+                }),
+            },
+            Valued::Trials => match self.trials {
+                Some(_) => None,
+                None => Some(Line {
+                    trials: Some(word),
                     waits: None,
                     ..self
                 }),
@@ -127,6 +138,8 @@ impl<'a> Line<'a> {
             self.waiting(Valued::Steps)
         } else if word == "--device" {
             self.waiting(Valued::Device)
+        } else if word == "--trials" {
+            self.waiting(Valued::Trials)
         } else if word == "--json" {
             self.with_json()
         } else if is_name(word) {

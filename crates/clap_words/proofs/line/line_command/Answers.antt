@@ -1,4 +1,4 @@
-use Rattle.clap_words.specs.Lines.{bare_app, check_app, analyse_app, run_app, report_app, explain_app, clear_app, premises_app, simulate_app, demo_app}
+use Rattle.clap_words.specs.Lines.{bare_app, check_app, analyse_app, run_app, report_app, explain_app, clear_app, premises_app, attain_app, simulate_app, demo_app}
 use Rattle.clap_words.proofs.line.line_command.Goals as goal
 
 pub returns : goal.returns
@@ -10,5 +10,6 @@ returns c =
     let fifth = c.with_command-program-5.ensures _ _ fourth c.judging-3.ensures.app in
     let sixth = c.with_command-program-6.ensures _ _ fifth c.clear.ensures.app in
     let seventh = c.with_command-program-7.ensures _ _ sixth c.judging-4.ensures.app in
-    let eighth = c.with_command-program-8.ensures _ _ seventh c.simulate.ensures.app in
-    c.with_command.ensures _ _ eighth c.demo.ensures.app
+    let eighth = c.with_command-program-8.ensures _ _ seventh c.judging_with.ensures.app in
+    let ninth = c.with_command-program-9.ensures _ _ eighth c.judging_with-2.ensures.app in
+    c.with_command.ensures _ _ ninth c.demo.ensures.app
