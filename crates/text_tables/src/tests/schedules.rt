@@ -4,7 +4,7 @@
 use avr_model::choice::{Choice, Flag, Stop};
 use flash_image::Flash;
 use sb_base::{LineReader, LineWriter};
-use std::alloc::Global;
+use std::alloc::{AllocError, Global};
 use std::test::Fail;
 use vector_table::Assumptions;
 use witness_replay::{IllegalChoice, ReplayReport, Schedule, ScheduleFault, replay};
@@ -120,56 +120,85 @@ fn equal_choices_in_a_row_are_one_run(rt: HostRuntime) -> Result<(), Fail> {
     Ok(())
 }
 
-fn report(steps: u32, depth: u16, stop: Stop) -> Result<ReplayReport, IllegalChoice> {
-    Ok(ReplayReport { steps, depth, stop })
+const PUSH_AND_POP: &[u8] = &[0x0F, 0x92, 0x0F, 0x90, 0xFD, 0xCF];
+
+const INTERRUPTED: &[u8] = &[
+    0x03, 0xC0, 0x00, 0x00, 0x18, 0x95, 0x00, 0x00, 0xE8, 0x9A, 0x78, 0x94, 0xFF, 0xCF,
+];
+
+const OVERWRITING: &[u8] = &[0x01, 0xD0, 0xFF, 0xCF, 0x00, 0x93, 0xFE, 0x08, 0x08, 0x95];
+
+/// What a replay answers: steps, depth and stop, or the step of an illegal choice.
+type Replayed = Result<(u32, u16, Stop), u32>;
+
+/// A firmware's bytes, the lines of a schedule behind its fill, and what its replay answers.
+type Replay = (&'static [u8], &'static [u8], Replayed);
+
+static REPLAYS: [Replay; 8] = [
+    (PUSH_AND_POP, b"go 4 00 00\nend\n", Ok((4, 1, Stop::End))),
+    (PUSH_AND_POP, b"end\n", Ok((0, 0, Stop::End))),
+    (
+        INTERRUPTED,
+        b"go 4 00 00\ntake 2 0\nend\n",
+        Ok((5, 2, Stop::End)),
+    ),
+    (INTERRUPTED, b"take 2 0\nend\n", Err(0)),
+    (INTERRUPTED, b"go 3 00 00\ntake 2 0\nend\n", Err(3)),
+    (
+        OVERWRITING,
+        b"go 3 00 00\nend\n",
+        Ok((1, 2, Stop::Flag(Flag::Live(0x0002, 0x08FE)))),
+    ),
+    (
+        &[0x00, 0x00],
+        b"go 9 00 00\nend\n",
+        Ok((1, 0, Stop::Undefined(0x0001))),
+    ),
+    (
+        &[],
+        b"go 1 00 00\ntake 2 0\nend\n",
+        Ok((0, 0, Stop::Undefined(0x0000))),
+    ),
+];
+
+/// The schedule's text.
+fn text_of(alloc: Global, lines: &[u8]) -> Result<Vec<u8>, AllocError> {
+    let mut text = Vec::new(alloc);
+    text.extend_from_slice(b"schedule 1\nfill 00\n")?;
+    text.extend_from_slice(lines)?;
+    Ok(text)
+}
+
+fn is_answer(found: Result<ReplayReport, IllegalChoice>, due: Replayed) -> bool {
+    match (found, due) {
+        (Ok(found), Ok((steps, depth, stop))) => found == ReplayReport { steps, depth, stop },
+        (Err(IllegalChoice(found)), Err(due)) => found == due,
+        _ => false,
+    }
+}
+
+/// Whether the schedule of this text is answered so.
+fn is_replayed(
+    alloc: Global,
+    flash: &Flash,
+    text: &[u8],
+    due: Replayed,
+) -> Result<bool, ScheduleFault> {
+    let mut reader = LineReader::new(text);
+    let schedule = Schedule::read(alloc, &mut reader)?;
+    Ok(is_answer(replay(flash, &Assumptions::empty(alloc), &schedule), due))
+}
+
+fn is_replay(alloc: Global, row: &Replay) -> Result<bool, Fail> {
+    let flash = Flash::from_raw(alloc, row.0)?;
+    let text = text_of(alloc, row.1)?;
+    Ok(is_replayed(alloc, &flash, &text, row.2)?)
 }
 
 #[test]
 fn small_firmwares_are_replayed(rt: HostRuntime) -> Result<(), Fail> {
-    let push_and_pop = [0x0F, 0x92, 0x0F, 0x90, 0xFD, 0xCF];
-    let interrupted = [
-        0x03, 0xC0, 0x00, 0x00, 0x18, 0x95, 0x00, 0x00, 0xE8, 0x9A, 0x78, 0x94, 0xFF, 0xCF,
-    ];
-    let overwriting = [0x01, 0xD0, 0xFF, 0xCF, 0x00, 0x93, 0xFE, 0x08, 0x08, 0x95];
-    let rows: [(&[u8], &[u8], Result<ReplayReport, IllegalChoice>); 8] = [
-        (&push_and_pop, b"go 4 00 00\nend\n", report(4, 1, Stop::End)),
-        (&push_and_pop, b"end\n", report(0, 0, Stop::End)),
-        (
-            &interrupted,
-            b"go 4 00 00\ntake 2 0\nend\n",
-            report(5, 2, Stop::End),
-        ),
-        (&interrupted, b"take 2 0\nend\n", Err(IllegalChoice(0))),
-        (
-            &interrupted,
-            b"go 3 00 00\ntake 2 0\nend\n",
-            Err(IllegalChoice(3)),
-        ),
-        (
-            &overwriting,
-            b"go 3 00 00\nend\n",
-            report(1, 2, Stop::Flag(Flag::Live(0x0002, 0x08FE))),
-        ),
-        (
-            &[0x00, 0x00],
-            b"go 9 00 00\nend\n",
-            report(1, 0, Stop::Undefined(0x0001)),
-        ),
-        (
-            &[],
-            b"go 1 00 00\ntake 2 0\nend\n",
-            report(0, 0, Stop::Undefined(0x0000)),
-        ),
-    ];
-    let assumptions = Assumptions::empty(rt.alloc());
-    for (firmware, lines, due) in rows {
-        let flash = Flash::from_raw(rt.alloc(), firmware)?;
-        let mut text = Vec::new(rt.alloc());
-        text.extend_from_slice(b"schedule 1\nfill 00\n")?;
-        text.extend_from_slice(lines)?;
-        let mut reader = LineReader::new(&text);
-        let schedule = Schedule::read(rt.alloc(), &mut reader)?;
-        assert!(rt; replay(&flash, &assumptions, &schedule) == due);
+    for (at, row) in REPLAYS.iter().enumerate() {
+        assert!(rt; is_replay(rt.alloc(), row)?, "row {at}");
     }
     Ok(())
 }
