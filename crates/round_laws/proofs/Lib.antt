@@ -13,3 +13,5 @@ pub mod Reached
 pub mod ReachLaws
 pub mod Told
 pub mod GraphLaws
+pub mod Closed
+pub mod CloseLaws
