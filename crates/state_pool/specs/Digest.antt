@@ -1,38 +1,57 @@
 -- A number that tells most states apart.
-use Rattle.std.specs.Prelude.{ℕ, ◌+◌, ◌-◌, ◌*◌, ◌%◌, ◌^◌, List, length, drop, fold}
+use Rattle.std.specs.Prelude.{ℕ, Bool, ◌+◌, ◌*◌, ◌%◌, ◌^◌, cond, List, length, fold}
 use Rattle.std.specs.Hash as fed
 use Rattle.sp_domain.specs.declared.slots.Slot.{Slot}
 use Rattle.sp_domain.specs.declared.slots.Slot.TheVariants.{Free, Guarded}
+use Rattle.sp_domain.specs.declared.tags.Tag.{Tag}
+use Rattle.sp_domain.specs.declared.tags.Tag.TheVariants as tag
+use Rattle.sp_domain.specs.declared.tags.CarryTag.{CarryTag}
+use Rattle.sp_domain.specs.declared.tags.CarryTag.TheVariants as carry
 use Rattle.abs_state.specs.declared.values.AbsByte.{AbsByte}
+use Rattle.abs_state.specs.declared.values.AbsFlags.{AbsFlags}
 use Rattle.abs_state.specs.declared.state.AbsState.{AbsState}
 
 -- a number more, in 64 bits
 abbrev pub mix : ℕ → ℕ → ℕ
 mix digest number = (digest * 6364136223846793005 % 2 ^ 64 + number) % 2 ^ 64
 
--- both ends of a value's range
-abbrev pub ends_of : AbsByte → ℕ
-ends_of v = v.low + 256 * v.high
+-- the number that a tag names, and its kind
+abbrev pub tag_number : Tag → ℕ
+tag_number tag.None = 0
+tag_number (tag.Entry r) = 1 + 8 * r
+tag_number tag.EntryFlags = 2
+tag_number (tag.SpLo j) = 3 + 8 * j
+tag_number (tag.SpHi k) = 4 + 8 * k
 
--- a free slot has no ends
-abbrev pub slot_ends : Slot AbsByte → ℕ
-slot_ends Free = 65536
-slot_ends (Guarded v) = ends_of v
+-- the numbers that a carry tag names, and its kind
+abbrev pub carry_number : CarryTag → ℕ
+carry_number carry.None = 0
+carry_number (carry.Borrow j l) = 1 + 4 * (j + 256 * l)
+carry_number (carry.Sum j l) = 2 + 4 * (j + 256 * l)
+carry_number (carry.Less r k) = 3 + 4 * (r + 256 * k)
+
+-- all that a value says: its tag, both ends of its range, and its bits
+abbrev pub value_number : AbsByte → ℕ
+value_number v = tag_number v.tag + 2 ^ 19 * (v.low + 256 * v.high + 2 ^ 16 * (v.bits.known + 256 * v.bits.value))
+
+-- all that is said of the flags
+abbrev pub flags_number : AbsFlags → ℕ
+flags_number f = f.bits.known + 256 * f.bits.value + 2 ^ 16 * (cond f.entry 1 0 + 2 * carry_number f.carry)
+
+-- no value has a free slot's number
+abbrev pub slot_number : Slot AbsByte → ℕ
+slot_number Free = 2 ^ 51
+slot_number (Guarded v) = value_number v
 
 abbrev pub mix_value : ℕ → AbsByte → ℕ
-mix_value digest v = mix digest (ends_of v)
+mix_value digest v = mix digest (value_number v)
 
 abbrev pub mix_slot : ℕ → Slot AbsByte → ℕ
-mix_slot digest s = mix digest (slot_ends s)
+mix_slot digest s = mix digest (slot_number s)
 
--- of the slots the last ones, which differ most
-abbrev pub last_slots : List (Slot AbsByte) → List (Slot AbsByte)
-last_slots slots = drop (length slots - 64) slots
-
--- the flags' bits, the registers' ranges, how many slots there are, and the ranges of the last ones
+-- the flags, the registers, how many slots there are, and the slots
 abbrev pub digest_of : AbsState → ℕ
-digest_of s =
-    fold mix_slot (mix (fold mix_value (s.flags.bits.known + 256 * s.flags.bits.value) s.registers) (length s.slots)) (last_slots s.slots)
+digest_of s = fold mix_slot (mix (fold mix_value (flags_number s.flags) s.registers) (length s.slots)) s.slots
 
 -- what of a state is fed to a hasher
 abbrev pub state_hash : AbsState → List (List ℕ)

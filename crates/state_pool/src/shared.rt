@@ -1,12 +1,12 @@
 //! States as keys of a table.
 
-ghost use Rattle.std.specs.Prelude.{◌≡◌, ◌↔◌, IsTrue, fold};
+ghost use Rattle.std.specs.Prelude.{◌≡◌, ◌↔◌, ◌<◌, ◌+◌, ◌*◌, IsTrue, fold};
 ghost use Rattle.state_pool.specs.SameState.{same_state};
-ghost use Rattle.state_pool.specs.Digest.{mix, ends_of, slot_ends, mix_value, mix_slot, digest_of, state_hash};
+ghost use Rattle.state_pool.specs.Digest.{mix, tag_number, carry_number, value_number, flags_number, slot_number, mix_value, mix_slot, digest_of, state_hash};
 ghost use Rattle.state_pool.specs.Equal.{state_equivalence, fed_alike};
 
 use abs_state::{AbsByte, AbsFlags, AbsState};
-use sp_domain::Slot;
+use sp_domain::{CarryTag, Slot, Tag};
 use std::hash::{Hash, Hasher};
 use std::marker::Model;
 
@@ -103,18 +103,13 @@ fn is_same_slot(slot: &Slot<AbsByte>, other: &Slot<AbsByte>) -> bool
     }
 }
 
-// How many slots a digest goes over: of more the last ones, which differ most, so that it costs little beside a join.
-const TOLD: usize = 64;
-
-// A number that tells most states apart: from the flags' bits, the registers' ranges, how many slots there are, and the last ones' ranges.
+// A number that tells most states apart: from all that is said of the flags, the registers and the slots.
 fn digest(state: &AbsState) -> u64
     ensures { result ≡ digest_of state.now }
 {
-    let bits = state.flags.bits;
-    let start = u64::from(bits.known) + 256 * u64::from(bits.value);
     let slots = state.slots.as_slice();
-    let told = mixed(digest_values(start, &state.registers), slots.len() as u64);
-    digest_slots(told, &slots[slots.len().saturating_sub(TOLD)..])
+    let registers = digest_values(flags_number(&state.flags), &state.registers);
+    digest_slots(mixed(registers, slots.len() as u64), slots)
 }
 
 #[tactic(auto, using(crate::proofs::Lists::fold_take))]
@@ -123,7 +118,7 @@ fn digest_values(start: u64, values: &[AbsByte]) -> u64
 {
     let mut digest = start;
     for value in values {
-        digest = mixed(digest, ends(value));
+        digest = mixed(digest, value_number(value));
     }
     digest
 }
@@ -134,7 +129,7 @@ fn digest_slots(start: u64, slots: &[Slot<AbsByte>]) -> u64
 {
     let mut digest = start;
     for slot in slots {
-        digest = mixed(digest, ends_of_slot(slot));
+        digest = mixed(digest, slot_number(slot));
     }
     digest
 }
@@ -147,17 +142,58 @@ fn mixed(digest: u64, number: u64) -> u64
         .wrapping_add(number)
 }
 
-fn ends(value: &AbsByte) -> u64
-    ensures { result ≡ ends_of value.now }
+fn tag_number(tag: Tag) -> u64
+    ensures number { result ≡ tag_number tag }
+    ensures low { result < 524288 }
 {
-    u64::from(value.low) + 256 * u64::from(value.high)
+    match tag {
+        Tag::None => 0,
+        Tag::Entry(register) => 1 + 8 * u64::from(register),
+        Tag::EntryFlags => 2,
+        Tag::SpLo(below) => 3 + 8 * u64::from(below),
+        Tag::SpHi(below) => 4 + 8 * u64::from(below),
+    }
 }
 
-fn ends_of_slot(slot: &Slot<AbsByte>) -> u64
-    ensures { result ≡ slot_ends slot.now }
+fn carry_number(carry: CarryTag) -> u64
+    ensures number { result ≡ carry_number carry }
+    ensures low { result < 262144 }
+{
+    match carry {
+        CarryTag::None => 0,
+        CarryTag::Borrow(low, less) => 1 + 4 * pair_number(low, less),
+        CarryTag::Sum(low, more) => 2 + 4 * pair_number(low, more),
+        CarryTag::Less(register, below) => 3 + 4 * pair_number(register, below),
+    }
+}
+
+fn pair_number(low: u8, high: u8) -> u64
+    ensures number { result ≡ low + 256 * high }
+    ensures low { result < 65536 }
+{
+    u64::from(low) + 256 * u64::from(high)
+}
+
+fn value_number(value: &AbsByte) -> u64
+    ensures { result ≡ value_number value.now }
+{
+    let range = pair_number(value.low, value.high);
+    let bits = pair_number(value.bits.known, value.bits.value);
+    tag_number(value.tag) + 524_288 * (range + 65_536 * bits)
+}
+
+fn flags_number(flags: &AbsFlags) -> u64
+    ensures { result ≡ flags_number flags.now }
+{
+    let bits = pair_number(flags.bits.known, flags.bits.value);
+    bits + 65_536 * (u64::from(flags.entry) + 2 * carry_number(flags.carry))
+}
+
+fn slot_number(slot: &Slot<AbsByte>) -> u64
+    ensures { result ≡ slot_number slot.now }
 {
     match slot {
-        Slot::Free => 65_536,
-        Slot::Guarded(value) => ends(value),
+        Slot::Free => 2_251_799_813_685_248,
+        Slot::Guarded(value) => value_number(value),
     }
 }
