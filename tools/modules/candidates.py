@@ -1,0 +1,99 @@
+"""Where an indirect transfer may go: the functions whose address is taken somewhere, and the words of tables."""
+
+import copy
+
+import opcodes
+from devices import VECTORS
+from elf import Symbol
+from names import SpecFault
+from targets import addresses_loaded, constructors, tables, taken, words_in_data
+
+
+def or_none(make, elf):
+    try:
+        return make(elf)
+    except SpecFault:
+        return set()
+
+
+def start(elf):
+    """The word at which the program begins: where the first word of flash leads; None where it isn't a jump."""
+    return opcodes.jump_target(elf, 0)
+
+
+def is_start_up(elf, word):
+    """Whether a word lies in the first straight run of instructions of the program, where the stack pointer is set."""
+    at = start(elf)
+    for _ in range(12):
+        if at is None or at == word:
+            break
+        at += opcodes.length(elf.word(at))
+    return at == word
+
+
+def with_whole(elf):
+    """The file as it is; where it has no names, with one symbol for all code behind the vectors."""
+    if elf.code:
+        return elf
+    begin, other = 2 * (start(elf) or 0), copy.copy(elf)
+    other.code = [Symbol("", begin, elf.flash_end - begin, True, "")]
+    return other
+
+
+def code(elf):
+    """Yields lists of (word address, opcode): the instructions of each function, or all of them where none has a name."""
+    yield from (list(opcodes.words_of(elf, it)) for it in with_whole(elf).code if it.is_function or it.name.startswith("__"))
+
+
+def addressed(elf, device):
+    """The words of all functions whose address is taken. Where none has a name, a function is what begins behind the end of another, and no handler."""
+    if elf.code:
+        return taken(elf)
+    begins = {after for words in code(elf) for (_, opcode), (after, _) in zip(words, words[1:]) if opcodes.ends(opcode)}
+    handlers = {opcodes.jump_target(elf, device.vector_word(it)) for it in VECTORS}
+    whole = with_whole(elf)
+    return (begins - handlers) & {*addresses_loaded(whole), *words_in_data(whole)}
+
+
+def table_of_jumps(elf, site):
+    """The words of a table of `rjmp` that the `ijmp` at a word goes through, as far as they lead into its function; none where it has no such table."""
+    symbol, table = elf.symbol_at(2 * site), opcodes.pair_loaded(elf, site - 2)
+    if symbol is None or table is None or elf.word(site) != opcodes.IJMP:
+        return set()
+    (begin, end), found = elf.extent(symbol), set()
+    while (target := opcodes.jump_target(elf, table)) is not None and begin <= 2 * target < end:
+        found.add(table)
+        table += 1
+    return found
+
+
+def targets(elf, device, site):
+    """Where the indirect transfer at a word may go by all that the file tells; `exit` where it tells nothing."""
+    symbol = elf.symbol_at(2 * site)
+    if symbol and symbol.name == "__tablejump2__":
+        return or_none(constructors, elf) | or_none(tables, elf)
+    found = table_of_jumps(elf, site) or addressed(elf, device)
+    return found or {it.address // 2 for name in ("exit", "_exit") for it in elf.named(name)}
+
+
+def indirect(elf):
+    """The words of all calls and jumps through a pointer but those of `__tablejump2__` and of tables in their own function."""
+    for words in code(elf):
+        for at, opcode in words:
+            symbol = elf.symbol_at(2 * at) if opcodes.is_indirect(opcode) else None
+            if opcodes.is_indirect(opcode) and not (symbol and symbol.name == "__tablejump2__") and not table_of_jumps(elf, at):
+                yield at
+
+
+def reached(elf, word):
+    """The words at which functions begin that are entered from a function, at once or by others, by calls and jumps that name them; its own only if so."""
+    found, left = set(), [word]
+    while left:
+        symbol = elf.symbol_at(2 * left.pop())
+        for at, _ in opcodes.words_of(elf, symbol) if symbol else ():
+            for target in (opcodes.call_target(elf, at), opcodes.jump_target(elf, at)):
+                other = elf.symbol_at(2 * target) if target is not None else None
+                if other and (other.address != symbol.address or opcodes.call_target(elf, at) == symbol.address // 2) and other.address // 2 not in found:
+                    found.add(other.address // 2)
+                    left.append(other.address // 2)
+    return found
