@@ -13,7 +13,8 @@ from devices import VECTORS
 from elf import Symbol
 from lines import Lines
 from program import OK, REFUSED, NoProgram, Program
-from spec import frames_of, is_unhandled
+from sites import frames_of
+from spec import is_unhandled
 from trials import Trials, handled
 
 ROUNDS = 64

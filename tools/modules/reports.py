@@ -46,12 +46,18 @@ def prepare(outcome):
     outcome.grows_too_much = False
 
 
-def complete(outcome, words, spec_text, assumed, folder):
-    """Works out what is told beside a bound: spec_text is what was given, assumed the whole assumption file under which it was accepted."""
+def assumed(certificate):
+    """The assumption file under which a certificate was accepted."""
+    lines = certificate.splitlines()[2:]
+    return "".join(f"{it}\n" for it in lines[1:1 + int(lines[0].split()[1])])
+
+
+def complete(outcome, words, folder):
+    """Works out what is told beside a bound."""
     prepare(outcome)
     if outcome.refusal:
         return
-    spec = Spec(outcome.elf, spec_text, outcome.device)
+    spec = Spec(outcome.elf, outcome.spec, outcome.device)
     idle_lines.check(outcome, spec)
     outcome.graph = call_graph.Graph(outcome)
     outcome.table = call_graph.needs(outcome.graph)
@@ -60,14 +66,18 @@ def complete(outcome, words, spec_text, assumed, folder):
     outcome.unjudged = places.unjudged(outcome)
     if words.interrupts:
         vectors = [it for it in VECTORS if any(other.kind == f"v{it}" for other in outcome.graph.instances)]
-        outcome.costs = interrupts.costs(outcome, assumed, vectors, folder)
+        outcome.costs = interrupts.costs(outcome, assumed(outcome.certificate), vectors, folder)
     if words.diff:
         outcome.difference = needs.Difference(words.diff, outcome.bound, outcome.table)
         outcome.grows_too_much = words.grow is not None and outcome.difference.grown() > words.grow
 
 
 def told(outcome):
-    """What is printed of this behind the bound."""
+    """What is printed of this behind what the bound rests on."""
+    yield from places.told(outcome)
+    if outcome.chain:
+        yield "deepest chain:"
+        yield from (f"  {it.count} {it.text}" for it in outcome.chain)
     if outcome.costs is not None:
         yield from interrupts.told(outcome, outcome.costs)
     yield from needs.table(outcome.table)
