@@ -2,8 +2,9 @@
 
 import re
 
+import candidates
 import opcodes
-from spec import SpecFault, constructors, tables
+from spec import constructors, tables
 
 # By name: the text and where it stands, the usual cause, the cure.
 CURES = {
@@ -19,22 +20,42 @@ CURES = {
         "`refused 1` at another `icall` or `ijmp`",
         "a call of a function pointer or of a virtual function",
         "`jump FUNCTION N TARGET ..` with all its targets; `@vtable CLASS N` for a virtual function, once for each class"),
+    "stream": (
+        "`refused 1` in `fputc`, `fgetc`, `puts_P` or another function of stdio",
+        "a call of the put or get function of a stream",
+        "`jump FUNCTION N TARGET ..` with the functions that `FDEV_SETUP_STREAM` or `fdevopen` was given"),
+    "put": (
+        "`refused 2` at a function whose address is taken, and which calls itself",
+        "a put function of stdio that calls itself for `\\r`, as in avr-libc's own example",
+        "a second function that writes the byte, and is called for both"),
     "recursion": (
-        "`refused 2`",
+        "`refused 2` elsewhere",
         "a function that calls itself, at once or by others",
         "a loop in its place"),
     "merged": (
         "`refused 3` of a handler that calls a handler",
         "the compiler has merged handlers with equal bodies, and the `reti` of the one that is called lets interrupts in",
         "`-fno-ipa-icf`"),
+    "noblock": (
+        "`refused 3` of a handler that begins with `sei`",
+        "`ISR_NOBLOCK`, which lets its own vector in at once",
+        "`ISR(X_vect) { mask; sei(); ..; cli(); unmask }`: its own enable bit is cleared before interrupts are let in, and set behind `cli()`"),
     "re-entry": (
         "`refused 3` of another handler",
-        "it lets interrupts in (`sei`, `ISR_NOBLOCK`) while its own vector is enabled",
+        "it lets interrupts in (`sei`) while its own vector is enabled",
         "clear its own enable bit before; where that is done through a pointer that is constant, `prove FUNCTION N` for these stores"),
     "prologues": (
         "`refused 4 .. out 0x3E, r29` in `__epilogue_restores__`",
         "`-mcall-prologues`, with which avr-libc's printf family, `strtol`, `qsort`, `dtostrf` and time functions are built too",
         "`frame @frames`; or build without it, and do without these functions (`utoa` and `itoa` need none of it)"),
+    "division": (
+        "the same, with `frame @frames`",
+        "32-bit division (`__udivmodsi4`) or `sscanf` beside such a function: libgcc counts r1 down to 0, which isn't known as 0 behind the loop",
+        "`docs/examples/udivmodsi4.S` linked in, in place of libgcc's routine; or `sscanf` left out"),
+    "two tables": (
+        "`refused 2` or `4` behind `jump __tablejump2__ 1 @tables`",
+        "tables of `switch` in two functions: the line lets the one jump into the other",
+        "`-fno-jump-tables`"),
     "unhandled": (
         "`refused 4 .. out 0x3E, r29` in `__init`",
         "a vector that may be enabled has no handler: avr-libc's default for it begins the program anew, on the stack as it is",
@@ -47,6 +68,10 @@ CURES = {
         "`refused 4 .. out 0x3E` elsewhere",
         "an array whose size is computed, or `alloca`",
         "an array of constant size"),
+    "joined": (
+        "`refused 4`, `5` or `6` elsewhere, in a program with an `icall` or `ijmp` that has no `jump` line",
+        "a pointer that is one of some constants: their bits may join to a word that none of them is",
+        "`jump FUNCTION N TARGET ..` for each such transfer"),
     "unfollowed": (
         "`refused 4` at another instruction",
         "`setjmp` and `longjmp`, a context switch, or assembly that moves the stack pointer",
@@ -74,11 +99,11 @@ CURES = {
     "array": (
         "`refused 8` in a loop",
         "a loop over a static array whose address is loaded just before its first store",
-        "`free FUNCTION N` for the store; or `-fno-ivopts`"),
+        "`free FUNCTION N` for the store"),
     "copy": (
         "`refused 8` at `st X+, r0` or `st Z+, r0`",
         "a copy of a `struct` or of some bytes by a loop that the compiler writes in place of `memcpy`",
-        "`free FUNCTION N` for the store; or `-fno-builtin-memcpy`"),
+        "`free FUNCTION N` for the store; `-fno-builtin-memcpy` helps with some"),
     "proved": (
         "`refused 8` at a site with a `prove` line",
         "the pointer of the store isn't known",
@@ -87,22 +112,30 @@ CURES = {
 REFUSAL = re.compile(r"refused (\d) (\S+)(?: of (\d+))?(?: at ([0-9A-F]{4}))?(?: (.*))?$")
 
 
-def has(make, elf):
-    try:
-        return bool(make(elf))
-    except SpecFault:
-        return False
+STDIO = ("fputc", "fgetc", "fputs", "fputs_P", "puts", "puts_P", "fread", "fwrite", "ungetc")
+JUMPERS = ("setjmp", "longjmp")
 
 
 def of_jump(elf, name):
+    if name in STDIO:
+        return "stream"
     if name != "__tablejump2__":
         return "pointer"
-    return "constructors" if has(constructors, elf) and not has(tables, elf) else "tables"
+    return "constructors" if candidates.or_none(constructors, elf) and not candidates.or_none(tables, elf) else "tables"
+
+
+def of_recursion(elf, device, word):
+    """A function that calls itself by its name, and whose address is taken, is most likely the put function of a stream."""
+    symbol = elf.symbol_at(2 * word)
+    calls = [at for at, _ in opcodes.words_of(elf, symbol) if opcodes.call_target(elf, at) == word] if symbol else []
+    return "put" if calls and elf.named("fputc") and word in candidates.addressed(elf, device) else "recursion"
 
 
 def of_re_entry(elf, word):
-    """A handler that calls a handler was merged with it."""
+    """A handler that calls a handler was merged with it; one that begins with `sei` is an ISR_NOBLOCK."""
     target = opcodes.jump_target(elf, word)
+    if target is not None and elf.word(target) == opcodes.SEI:
+        return "noblock"
     symbol = elf.symbol_at(2 * target) if target is not None else None
     for at, _ in opcodes.words_of(elf, symbol) if symbol else ():
         called = opcodes.call_target(elf, at)
@@ -112,40 +145,58 @@ def of_re_entry(elf, word):
     return "re-entry"
 
 
-def of_stack_pointer(elf, word, name, text):
+def of_stack_pointer(elf, lines, word, name):
     """A write of the stack pointer is told by its function, and by what was done to r29 before."""
-    if not text.startswith("out 0x3E"):
-        return "unfollowed"
     if name == "__epilogue_restores__":
-        return "prologues"
-    if name == "__init":
+        begin, end = elf.extent(elf.symbol_at(2 * word))
+        return "division" if any(begin <= 2 * it < end for it in lines.sites("frame")) else "prologues"
+    if candidates.is_start_up(elf, word):
         return "unhandled"
     before = [elf.word(at) for at in range(max(word - 4, 0), word)]
     return "high byte" if any(opcodes.moves_high_byte(opcode) for opcode in before) else "sized"
 
 
-def of_opcode(text):
-    return {"opcode 95E8": "written flash", "opcode 940C": "device", "opcode 940E": "device"}.get(text, "unsupported")
+def is_joined(elf, lines):
+    """Whether some transfer through a pointer has no `jump` line."""
+    return any(not lines.has(it, "jump") for it in candidates.indirect(elf))
 
 
-def cure(elf, refusal, assumptions=""):
-    """The name of the row of CURES for a refusal, and the word that it names (None where it names none)."""
+def of_opcode(elf, lines, text):
+    known = {"opcode 95E8": "written flash", "opcode 940C": "device", "opcode 940E": "device"}.get(text)
+    return known or ("joined" if is_joined(elf, lines) else "unsupported")
+
+
+def goes_through_tables(elf, lines):
+    """Whether a `jump` line lets the tables of several functions be jumped through."""
+    sites = [it for it in lines.sites("jump") if (symbol := elf.symbol_at(2 * it)) and symbol.name == "__tablejump2__"]
+    owners = {symbol.address for site in sites for it in lines.of(site, "jump") & candidates.or_none(tables, elf) if (symbol := elf.symbol_at(2 * it))}
+    return len(owners) > 1
+
+
+def cure(elf, device, refusal, lines):
+    """The name of the row of CURES for a refusal under some lines, and the word that it names (None where it names none)."""
     number, _, _, place, text = REFUSAL.match(refusal).groups()
-    word = int(place, 16) if place else None
+    word, text = int(place, 16) if place else None, text or ""
     symbol = elf.symbol_at(2 * word) if place else None
-    name, text = symbol.name if symbol else "", text or ""
-    if number == "8" and f"prove {place}\n" in assumptions:
-        return "proved", word
-    return {
-        "1": lambda: of_jump(elf, name),
-        "2": lambda: "recursion",
-        "3": lambda: of_re_entry(elf, word),
-        "4": lambda: of_stack_pointer(elf, word, name, text),
-        "5": lambda: of_opcode(text),
-        "6": lambda: "deep",
-        "7": lambda: "masks",
-        "8": lambda: "copy" if text.endswith("+, r0") else "array",
-    }[number](), word
+    name = symbol.name if symbol else ""
+    if number == "1":
+        return of_jump(elf, name), word
+    if number == "3":
+        return of_re_entry(elf, word), word
+    if number == "5":
+        return of_opcode(elf, lines, text), word
+    if number == "7":
+        return "masks", word
+    if number == "8":
+        return "proved" if lines.has(word, "prove") else "copy" if text.endswith("+, r0") else "array", word
+    if number in "24" and not text.startswith("out 0x3E") and goes_through_tables(elf, lines):
+        return "two tables", word
+    if number == "2":
+        return of_recursion(elf, device, word), word
+    if number == "4" and text.startswith("out 0x3E"):
+        return of_stack_pointer(elf, lines, word, name), word
+    is_other = name not in JUMPERS and is_joined(elf, lines)
+    return "joined" if is_other and word else "deep" if number == "6" else "unfollowed", word
 
 
 def table():

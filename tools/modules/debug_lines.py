@@ -54,14 +54,19 @@ class Header:
         reader.take("B")
         self.base, self.span, self.special = reader.take("b"), reader.take("B"), reader.take("B")
         self.lengths = [reader.take("B") for _ in range(self.special - 1)]
-        while reader.text():
-            pass
+        self.folders = [""]
+        while folder := reader.text():
+            self.folders.append(folder)
         self.files = [""]
         while name := reader.text():
-            self.files.append(name)
-            for _ in range(3):
-                reader.number()
+            self.add_file(reader, name)
         reader.at = start
+
+    def add_file(self, reader, name):
+        folder = reader.number()
+        self.files.append(os.path.join(self.folders[folder] if folder < len(self.folders) else "", name))
+        for _ in range(2):
+            reader.number()
 
 
 class Place:
@@ -85,7 +90,7 @@ class Place:
         if kind == 2:
             self.address = int.from_bytes(reader.data[reader.at:after], "little")
         elif kind == 3:
-            self.head.files.append(reader.text())
+            self.head.add_file(reader, reader.text())
         reader.at = after
         return kind == 1
 
@@ -159,20 +164,45 @@ class Lines:
 
     def __init__(self, elf, path):
         self.path = path
-        self.rows = []
+        self.has_vectors = elf.all.get("__vectors") == 0
+        self.places = {}
         try:
-            self.rows += dwarf_rows(elf.section(".debug_line"))
-            self.rows += stab_rows(elf.section(".stab"), elf.section(".stabstr"), lambda at: elf.extent(elf.symbol_at(at))[1])
+            self.hold(dwarf_rows(elf.section(".debug_line")))
+            self.hold(stab_rows(elf.section(".stab"), elf.section(".stabstr"), lambda at: elf.extent(elf.symbol_at(at))[1]))
         except (struct.error, ValueError, IndexError):
             pass  # damaged debug information tells what was read so far
+        self.has_rows = bool(self.places)
         self.other = shutil.which("avr-addr2line")
+
+    def hold(self, rows):
+        """Holds the rows by byte address. A function that the linker has left out has rows from 0 on, where the vectors stand."""
+        left_out = None
+        for begin, end, file, line in rows:
+            left_out = end if self.has_vectors and begin in (0, left_out) else None
+            for address in range(begin, end if line and left_out is None else begin):
+                self.places.setdefault(address, (file, line))
+
+    def source(self, address):
+        """The path and the line of a byte address as the file tells them; None where nothing tells them."""
+        if self.has_rows or address in self.places or not self.other:
+            return self.places.get(address)
+        said = subprocess.run([self.other, "-e", self.path, hex(address)], capture_output=True, text=True).stdout.split(" (")[0].strip()
+        path, _, line = said.rpartition(":")
+        self.places[address] = (path, int(line)) if path and line.isdecimal() and "?" not in said else None
+        return self.places[address]
 
     def at(self, address):
         """`file:line` of a byte address, the file without its folders; None where nothing tells it."""
-        for begin, end, file, line in self.rows:
-            if begin <= address < end and line:
-                return f"{os.path.basename(file)}:{line}"
-        if not self.other or self.rows:
-            return None
-        said = subprocess.run([self.other, "-e", self.path, hex(address)], capture_output=True, text=True).stdout.split(" (")[0].strip()
-        return os.path.basename(said) if said and "?" not in said else None
+        found = self.source(address)
+        return f"{os.path.basename(found[0])}:{found[1]}" if found else None
+
+    def words(self, file, line):
+        """The words of the instructions of a line of a file, which is named with as much of its path as tells it; none without line tables."""
+        return sorted({at // 2 for at, it in self.places.items() if it and it[1] == line and ("/" + it[0]).endswith("/" + file)})
+
+
+def of(elf):
+    """The source lines of a file, which are read once."""
+    if elf.lines is None:
+        elf.lines = Lines(elf, elf.path)
+    return elf.lines

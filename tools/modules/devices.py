@@ -31,11 +31,11 @@ class Misuse(Exception):
     """The words or the firmware aren't as a tool takes them."""
 
 
-# What a file may be linked for, and the device as which it is taken: chips of one family, alike in flash, SRAM, vectors and registers.
+# What a file may be linked for, and the device as which it is taken: chips of one family, alike in flash, SRAM, vectors and registers. Those
+# without a letter, of the older process, are so too by avr-libc's <avr/io.h>; those of
+# letters PB have a vector more.
 LINKED_FOR = {
-    "atmega48p": "atmega48pa", "atmega48a": "atmega48pa", "atmega48pa": "atmega48pa",
-    "atmega88p": "atmega88pa", "atmega88a": "atmega88pa", "atmega88pa": "atmega88pa",
-    "atmega168p": "atmega168pa", "atmega168a": "atmega168pa", "atmega168pa": "atmega168pa",
+    **{f"atmega{size}{letters}": f"atmega{size}pa" for size in (48, 88, 168) for letters in ("", "a", "p", "pa")},
     "atmega328": "atmega328p", "atmega328p": "atmega328p",
 }
 

@@ -1,6 +1,7 @@
 """An ELF file of avr-gcc: flash, symbols, and the device that it was linked for."""
 
 import bisect
+import re
 import struct
 
 FLASH = 0x8000  # bytes
@@ -30,14 +31,31 @@ def text_at(data, offset):
     return data[offset:data.index(b"\0", offset)].decode("ascii", "replace")
 
 
+def what_else(data):
+    """What a file is, where it is no linked ELF file of an AVR; None where it is one."""
+    if data[:4] != b"\x7fELF":
+        if re.match(rb"\s*:[0-9A-Fa-f]{10}", data):
+            return "is a file of Intel HEX, which has no names and no sections: give the ELF file from which it was made"
+        if data[:7] == b"!<arch>":
+            return "is a library (.a) and no linked firmware: give the ELF file that the linker writes"
+        return "is no ELF file of an AVR"
+    kind, machine = struct.unpack_from("<HH", data, 16) if len(data) >= 52 else (0, 0)
+    if data[4:7] != b"\x01\x01\x01" or machine != 83:
+        return "is no ELF file of an AVR"
+    if kind == 1:
+        return "is an object file (.o) and not linked: give the ELF file that the linker writes"
+    return None if kind == 2 else "is no ELF file of an AVR"
+
+
 class Elf:
-    """`flash` has 32,768 bytes (FF where nothing is placed), `code` the symbols of code by address, `all` the addresses of all names."""
+    """`path` is the file's name, `flash` has 32,768 bytes (FF where nothing is placed), `code` the symbols of code by address, `all` the addresses of all names."""
 
     def __init__(self, path):
+        self.path, self.lines = path, None
         with open(path, "rb") as file:
             self.data = file.read()
-        if self.data[:7] != b"\x7fELF\x01\x01\x01" or len(self.data) < 52 or struct.unpack_from("<HH", self.data, 16) != (2, 83):
-            raise NoElf(f"{path} is no ELF file of an AVR")
+        if fault := what_else(self.data):
+            raise NoElf(f"{path} {fault}")
         try:
             self.read()
         except (struct.error, ValueError, IndexError):
@@ -82,7 +100,9 @@ class Elf:
                     if address < CODE_END and section != ABSOLUTE and kind in (0, FUNCTION) and not name.startswith((".", *BOUNDS)):
                         self.code.append(Symbol(name, address, size, kind == FUNCTION, file if info >> 4 == 0 else ""))
         self.code.sort(key=lambda it: (it.address, not it.is_function, it.name))
-        self.starts = sorted({it.address for it in self.code})
+        self.addresses = [it.address for it in self.code]
+        self.starts = sorted(set(self.addresses))
+        self.found_at = {}
 
     def extent(self, symbol):
         """The byte addresses from a symbol's begin to its end: its size where told, else up to the next symbol."""
@@ -93,7 +113,12 @@ class Elf:
 
     def symbol_at(self, address):
         """The symbol in whose extent a byte address lies: the innermost function with a size, else the last symbol before; or None."""
-        before = [it for it in self.code if it.address <= address]
+        if address not in self.found_at:
+            self.found_at[address] = self.find_at(address)
+        return self.found_at[address]
+
+    def find_at(self, address):
+        before = self.code[:bisect.bisect_right(self.addresses, address)]
         sized = [it for it in before if it.size and address < it.end()]
         if sized:
             last = sized[-1].address

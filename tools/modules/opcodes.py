@@ -1,6 +1,7 @@
 """Sites in a function's code: its indirect transfers, its stores through pointers and what moves its frame, found by their opcodes."""
 
 IJMP, ICALL = 0x9409, 0x9509
+SPM, SEI = 0x95E8, 0x9478
 DEC_R29, INC_R29, SUBI_R29 = 0x95DA, 0x95D3, 0x50D0
 OUT_SPH_R29 = 0xBFDE
 FRAME_LOW, FRAME_HIGH = 28, 29  # the frame pointer
@@ -43,6 +44,20 @@ def is_frame_site(opcode):
 def moves_high_byte(opcode):
     """`dec`, `inc` or `subi` of the frame pointer's high byte."""
     return opcode in (DEC_R29, INC_R29) or opcode & 0xF0F0 == SUBI_R29
+
+
+def is_ldi(opcode):
+    return opcode & 0xF000 == 0xE000
+
+
+def ldi(opcode):
+    """The register and the byte of an `ldi`."""
+    return 16 + (opcode >> 4 & 15), opcode & 15 | opcode >> 4 & 0xF0
+
+
+def ends(opcode):
+    """`ret`, `reti`, `ijmp`, `jmp` or `rjmp`: what the next word follows only by a jump or a call."""
+    return opcode in (0x9508, 0x9518, IJMP) or opcode & 0xFE0E == 0x940C or opcode & 0xF000 == 0xC000
 
 
 def words_of(elf, symbol):

@@ -8,8 +8,10 @@ from opcodes import jump_target
 from debug_lines import Lines
 from devices import VECTORS, device_of
 from elf import Elf
-from program import OK, REFUSED, NoProgram, Program
+from mending import Mending
+from program import OK, USAGE, NoProgram
 from spec import assumptions
+from telling import flagged, lines_for, others, written
 
 
 class Part:
@@ -25,8 +27,9 @@ class Outcome:
     def __init__(self, path, elf, linked_for, device):
         self.path, self.elf, self.linked_for, self.device = path, elf, linked_for, device
         self.lines = Lines(elf, path)
-        self.refusal = self.certificate = None
-        self.assumed, self.rests_on, self.chain, self.needs, self.places = "", [], [], [], None
+        self.refusal = self.certificate = self.flagged = self.seen = None
+        self.spec, self.assumed, self.written, self.cure_lines = "", "", [], []
+        self.rests_on, self.chain, self.needs, self.places = [], [], [], None
         self.keeps, self.rule = True, ""
 
     def place(self, word):
@@ -55,14 +58,17 @@ class Outcome:
         return name or (symbol.name if symbol else f"{entry:04X}")
 
 
-def refuse(outcome, text):
-    outcome.refusal = text
-    name, word = cures.cure(outcome.elf, text, outcome.assumed)
+def refuse(outcome, work):
+    """Tells a refusal: its places, cause and cure, and the lines of a spec that may cure it where this tool wrote none."""
+    outcome.refusal = work.refusal
+    name, word = cures.cure(outcome.elf, outcome.device, work.refusal, work.lines)
     _, outcome.cause, outcome.cure = cures.CURES[name]
     outcome.places_of_refusal = []
     if word is not None:
-        vector = cures.REFUSAL.match(text).group(3)
+        vector = cures.REFUSAL.match(work.refusal).group(3)
         outcome.places_of_refusal.append(f"{word:04X} " + (outcome.handler(int(vector)) if vector else outcome.place(word)))
+    outcome.places_of_refusal += others(outcome, work, name, word)
+    outcome.cure_lines = lines_for(outcome, work)
 
 
 def tell_bound(outcome, program, certificate, words):
@@ -98,6 +104,13 @@ def tell_chain(outcome, program, certificate):
             outcome.chain.append(Part(adds, f"{outcome.instance(kind, entry, None if name == '-' else name)} at {outcome.place(at)}"))
 
 
+def assumed_here(outcome):
+    """The lines that this tool wrote, with their places."""
+    if outcome.written:
+        yield f"lines of its own (--plain leaves them out, --write-spec FILE keeps them): {len(outcome.written)}"
+        yield from (f"assumed: {it}" for it in outcome.written)
+
+
 def tell_premises(outcome, program, certificate):
     """What the bound rests on: that no step is flagged before, the assumption file, and the places where one may be, where `premises` is."""
     outcome.rests_on.append("The bound holds of each run up to its first flagged step." if outcome.witness == "attained" else
@@ -106,43 +119,55 @@ def tell_premises(outcome, program, certificate):
         kind, word = line.split()[:2]
         if kind != "frame":  # which is no assumption
             outcome.rests_on.append(f"assumed: {line}, at {outcome.place_of_line(kind, int(word, 16))}")
+    outcome.rests_on += assumed_here(outcome)
     lines = program.lines("premises", certificate)
     if lines is None:
         outcome.rests_on.append("This stackbound doesn't list the places where a step may be flagged; the tool `flagged` finds some.")
         return
     outcome.places = lines[1:]
-    outcome.rests_on.append(f"places where a step may be flagged: {len(outcome.places)}")
-    for line in outcome.places:
-        kind, word = line.split()[:2]
-        is_placed = kind in ("at", "never")
-        outcome.rests_on.append(f"  {line.partition(' in ')[0]}: {outcome.place_of_line(kind, int(word, 16))}" if is_placed else f"  {line}")
+
+
+def accept(outcome, program, certificate, text):
+    """Writes a certificate and has it judged: only what is accepted is told."""
+    with open(certificate, "w", encoding="ascii") as file:
+        file.write(text)
+    status, said = program.call("check", certificate)
+    if status != OK or not said.startswith("accepted bound "):
+        raise NoProgram(f"check: status {status}: {said.strip()}")
+    outcome.certificate = text
+    return said.split()[3]
+
+
+def attain(outcome, program, certificate, witness):
+    """Has a schedule sought that goes as deep as the bound, where the certificate has none and the program has the command."""
+    status, text = program.call("attain", certificate) if witness == "open" else (USAGE, "")
+    if status == OK:
+        accept(outcome, program, certificate, text)
+    elif status != USAGE:
+        raise NoProgram(f"attain: status {status}: {text.strip()}")
 
 
 def judge(words, folder):
     """Analyses and judges the firmware of the command's words; files are made in the folder."""
     elf = Elf(words.firmware)
     outcome = Outcome(words.firmware, elf, *device_of(elf, words.firmware, words.device))
-    assumed = None
+    given = ""
     if words.spec:
         with open(words.spec, encoding="utf8") as file:
-            outcome.assumed = assumptions(elf, file.read(), outcome.device)
-        assumed = os.path.join(folder, "assumptions")
-        with open(assumed, "w", encoding="ascii") as file:
-            file.write(outcome.assumed)
-    program = Program(words.firmware, outcome.device.name, assumed)
-    status, text = program.call("analyse")
-    if status == REFUSED:
-        refuse(outcome, text.strip())
+            outcome.spec = file.read()
+        given = assumptions(elf, outcome.spec, outcome.device)
+    work = Mending(outcome, folder, given, words.trials)
+    work.run(words.plain)
+    outcome.assumed, outcome.seen, outcome.written = given, work.deepest, list(written(outcome, work.lines))
+    if work.refusal:
+        refuse(outcome, work)
         return outcome
-    if status != OK:
-        raise NoProgram(f"analyse: status {status}: {text.strip()}")
-    outcome.certificate = text
-    certificate = os.path.join(folder, "certificate")
-    with open(certificate, "w", encoding="ascii") as file:
-        file.write(text)
-    status, text = program.call("check", certificate)
-    if status != OK or not text.startswith("accepted bound "):
-        raise NoProgram(f"check: status {status}: {text.strip()}")
+    if work.stop:
+        outcome.flagged = flagged(outcome, work)
+    program, certificate = work.program(), os.path.join(folder, "certificate")
+    witness = accept(outcome, program, certificate, work.certificate)
+    if not words.no_attain:
+        attain(outcome, program, certificate, witness)
     tell_bound(outcome, program, certificate, words)
     tell_chain(outcome, program, certificate)
     tell_premises(outcome, program, certificate)

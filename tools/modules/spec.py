@@ -1,102 +1,32 @@
 """Reads a spec, whose lines name sites by functions, and makes the lines of an assumption file from it."""
 
-import struct
-
 import opcodes
+import sites
 from devices import REGISTERS, VECTORS
+from names import SpecFault, functions
+from sites import AT_LINE, SITES, STORES  # noqa: F401, for those who look for sites too
+from targets import constructors, tables, targets  # noqa: F401, for the table of cures
 
 MOST_ITEMS, MOST_LINES = 64, 4096
-NEAR = 4  # how many instructions before a write of the stack pointer its byte is moved, at most
 KINDS = ("jump", "store", "prove", "free", "never", "frame")  # as they stand at one site
-FORMS = {"jump": "FUNCTION N ..", "store": "FUNCTION N ..", "prove": "FUNCTION N", "free": "FUNCTION N", "never": "VECTOR", "frame": "FUNCTION"}
-SITES = {"jump": (opcodes.is_indirect, "indirect transfer")}
-STORES = opcodes.is_pointer_store, "pointer store"
+FORMS = {"jump": "FUNCTION N ..", "store": "FUNCTION N ..", "prove": "FUNCTION N", "free": "FUNCTION N", "never": "VECTOR", "frame": "FUNCTION",
+         "keeps": "FUNCTION:LINE"}
+AT_SITES = ("jump", "store", "prove", "free")  # those whose site may be told by a source line
+START_UP = "@startup"
 
 
-class SpecFault(Exception):
-    """A line of a spec that says nothing of this firmware; the text has the line's number."""
+class Line:
+    """A line for the assumption file: its number and text in the spec, its kind, the words at which it stands, and its items."""
+
+    def __init__(self, number, text, kind, places, items):
+        self.number, self.text, self.kind, self.places, self.items = number, text, kind, places, items
 
 
-def function(elf, name):
-    found = elf.named(name)
-    if not found:
-        raise SpecFault(f"there is no function {name}")
-    if len({it.address for it in found}) > 1:
-        raise SpecFault(f"several functions are called {name}: write FILE:{name}, with one of {', '.join(sorted(it.file or '-' for it in found))}")
-    return found[0]
+class Keep:
+    """A line that says of places that they were judged: those of a function, all or of one source line; and why they keep the bound."""
 
-
-def site(elf, kind, name, number):
-    """The word of the N-th site, counted from 1, of this kind in a function."""
-    test, what = SITES.get(kind, STORES)
-    found = opcodes.sites(elf, function(elf, name), test)
-    if not number.isdecimal() or not 1 <= int(number) <= len(found):
-        raise SpecFault(f"{name} has {len(found)} {what}{'' if len(found) == 1 else 's'}, and no number {number}")
-    return found[int(number) - 1]
-
-
-def constructors(elf):
-    """The words of the constructors of static objects, from the list that the start-up code walks through."""
-    begin, end = elf.all.get("__ctors_start", 0), elf.all.get("__ctors_end", 0)
-    if begin == end:
-        raise SpecFault("the firmware has no constructors")
-    return {elf.word(at // 2) for at in range(begin, end, 2)}
-
-
-def tables(elf):
-    """The words of all tables of `switch` that are jumped through by `__tablejump2__`, a table as far as its words lie in its function."""
-    helper = [it.address // 2 for it in elf.named("__tablejump2__")]
-    found = []
-    for symbol in elf.code:
-        for word, _ in opcodes.words_of(elf, symbol) if symbol.is_function else ():
-            table = opcodes.pair_loaded(elf, word)
-            if table is not None and opcodes.jump_target(elf, word + 2) in helper:
-                found.append((table, symbol))
-    if not found:
-        raise SpecFault("no function jumps through a table of __tablejump2__")
-    starts, targets = {table for table, _ in found}, set()
-    for table, symbol in found:
-        begin, end = elf.extent(symbol)
-        at = table
-        while begin <= 2 * elf.word(at) < end and (at == table or at not in starts):
-            targets.add(elf.word(at))
-            at += 1
-    return targets
-
-
-def virtual(elf, name, number):
-    """The word of the N-th virtual function, counted from 1, of a class by its table in the image of initialised data."""
-    parts = name.split("::")
-    mangled = "".join(f"{len(it)}{it}" for it in parts)
-    at = elf.all.get(f"_ZTV{mangled}" if len(parts) == 1 else f"_ZTVN{mangled}E")
-    if at is None:
-        raise SpecFault(f"there is no table of virtual functions of a class {name}")
-    if not number.isdecimal() or int(number) < 1:
-        raise SpecFault(f"{number} is no number of a virtual function: they count from 1")
-    data = elf.at_data_address(at + 4 + 2 * (int(number) - 1))
-    word = struct.unpack("<H", data)[0] if data else 0
-    if not word or not any(it.address == 2 * word for it in elf.code):
-        raise SpecFault(f"class {name} has no virtual function number {number}")
-    return word
-
-
-def targets(elf, words):
-    found, words = set(), list(words)
-    while words:
-        word = words.pop(0)
-        if word == "@constructors":
-            found |= constructors(elf)
-        elif word == "@tables":
-            found |= tables(elf)
-        elif word == "@vtable":
-            if len(words) < 2:
-                raise SpecFault("@vtable takes a class and a number")
-            found.add(virtual(elf, words.pop(0), words.pop(0)))
-        elif word.startswith("@"):
-            raise SpecFault(f"{word} is none of @constructors, @tables and @vtable")
-        else:
-            found.add(function(elf, word).address // 2)
-    return found
+    def __init__(self, number, name, line, why):
+        self.number, self.name, self.line, self.why = number, name, line, why
 
 
 def register(word):
@@ -137,68 +67,89 @@ def vectors(elf, device, name):
     return {device.vector_word(it) for it in found}
 
 
-def frames_of(elf, symbol):
-    """The words of a function where `add` and `adc` give its frame back, and where the frame's high byte alone is moved."""
-    code = list(opcodes.words_of(elf, symbol))
-    for n, (word, opcode) in enumerate(code):
-        after = code[n + 1:n + 1 + NEAR]
-        if opcodes.is_add(opcode) and opcodes.destination(opcode) == opcodes.FRAME_LOW and after:
-            if opcodes.is_adc(after[0][1]) and opcodes.destination(after[0][1]) == opcodes.FRAME_HIGH:
-                yield from (word, after[0][0])
-        elif opcodes.moves_high_byte(opcode) and any(it == opcodes.OUT_SPH_R29 for _, it in after):
-            yield word
+def sites_of(elf, kind, rest):
+    """The sites that the words behind a kind name, and the words behind these: FUNCTION N, FUNCTION *, FUNCTION:LINE or FILE:LINE."""
+    if AT_LINE.match(rest[0]):
+        return sites.at_line(elf, kind, rest[0]), rest[1:]
+    if rest[1] == "*":
+        return sites.each(elf, kind, rest[0]), rest[2:]
+    return sites.numbered(elf, kind, rest[0], rest[1]), rest[2:]
 
 
-def frames(elf, name):
-    """The words of the `frame` lines of a function, or of all that give a frame back in the firmware."""
-    if name == "@frames":
-        found = {word for symbol in elf.code for word in frames_of(elf, symbol)}
-        what = "the firmware has no frame that is given back by `add` and `adc`, or moved by its high byte alone"
-    else:
-        found = set(opcodes.sites(elf, function(elf, name), opcodes.is_frame_site))
-        what = f"{name} has no `add`, `adc`, `sub`, `subi`, `inc` or `dec`"
-    if not found:
-        raise SpecFault(what)
-    return found
+def is_of_form(kind, rest):
+    """Whether the words behind a kind are as many as its form has."""
+    form = FORMS[kind].split()
+    if kind in AT_SITES and rest and AT_LINE.match(rest[0]):
+        form.pop(0)
+    return len(rest) >= len(form) if form[-1] == ".." else len(rest) == len(form)
 
 
 def read_line(elf, device, words):
     """The kind, the sites and the items of one line."""
     kind, rest = words[0], words[1:]
     if kind not in FORMS:
-        raise SpecFault(f"{kind} is none of {', '.join(KINDS[:-1])} and {KINDS[-1]}")
-    form = FORMS[kind].split()
-    if len(rest) != len(form) if form[-1] != ".." else len(rest) < len(form):
+        raise SpecFault(f"{kind} is none of {', '.join(KINDS)} and keeps")
+    if not is_of_form(kind, rest):
         raise SpecFault(f"`{kind} {FORMS[kind]}` is wanted")
     if kind == "never":
         return kind, vectors(elf, device, rest[0]), set()
     if kind == "frame":
-        return kind, frames(elf, rest[0]), set()
-    items = set()
+        return kind, sites.frames(elf, rest[0]), set()
+    places, rest = sites_of(elf, kind, rest)
     if kind == "jump":
-        items = targets(elf, rest[2:])
-    elif kind == "store":
-        items = {register(word) for word in rest[2:]}
-    return kind, {site(elf, kind, rest[0], rest[1])}, items
+        return kind, places, targets(elf, rest)
+    return kind, places, {register(word) for word in rest}
+
+
+def read_keep(elf, number, words, why):
+    """A line `keeps`, whose function has to be there."""
+    rest = words[1:]
+    if not (len(rest) == 2 and rest[1] == "*" or len(rest) == 1 and (rest[0] == START_UP or AT_LINE.match(rest[0]))):
+        raise SpecFault(f"`keeps FUNCTION:LINE`, `keeps FUNCTION *` or `keeps {START_UP}` is wanted")
+    if not why:
+        raise SpecFault("a line `keeps` says behind # why the place keeps the bound")
+    name, line = (rest[0], None) if rest[-1] in ("*", START_UP) else AT_LINE.match(rest[0]).groups()
+    if line is not None:
+        sites.file_of(elf, name)
+    elif name != START_UP and name not in VECTORS.values():
+        functions(elf, name)
+    return Keep(number, name, int(line) if line else None, why)
+
+
+class Spec:
+    """`lines` for the assumption file, and `keeps`; `never` lines ask for the firmware's device."""
+
+    def __init__(self, elf, text, device=None):
+        self.lines, self.keeps = [], []
+        above = ""
+        for number, line in enumerate(text.splitlines(), start=1):
+            line, _, comment = line.partition("#")
+            words, comment = line.split(), comment.strip()
+            try:
+                if words[:1] == ["keeps"]:
+                    self.keeps.append(read_keep(elf, number, words, comment or above))
+                elif words:
+                    self.lines.append(Line(number, " ".join(words), *read_line(elf, device, words)))
+            except SpecFault as fault:
+                raise SpecFault(f"line {number}: {fault}") from None
+            above = comment if not words else ""
+
+    def text(self):
+        """The text of the assumption file. Lines on one site are one line."""
+        lines, number = {}, 0
+        for line in self.lines:
+            number = line.number
+            for place in line.places:
+                held = lines.setdefault((place, KINDS.index(line.kind)), set())
+                held |= line.items
+                if len(held) > MOST_ITEMS:
+                    raise SpecFault(f"line {number}: a line of an assumption file has at most {MOST_ITEMS} words, and these are {len(held)}")
+        if len(lines) > MOST_LINES:
+            raise SpecFault(f"line {number}: an assumption file has at most {MOST_LINES} lines, and these are {len(lines)}")
+        return "".join(" ".join([KINDS[kind], f"{place:04X}", *(f"{it:04X}" for it in sorted(items))]) + "\n"
+                       for (place, kind), items in sorted(lines.items()))
 
 
 def assumptions(elf, text, device=None):
-    """The text of the assumption file that a spec makes of this firmware; `never` lines ask for its device. Lines on one site are one line."""
-    lines = {}
-    for number, line in enumerate(text.splitlines(), start=1):
-        words = line.partition("#")[0].split()
-        if not words:
-            continue
-        try:
-            kind, places, items = read_line(elf, device, words)
-        except SpecFault as fault:
-            raise SpecFault(f"line {number}: {fault}") from None
-        for place in places:
-            held = lines.setdefault((place, KINDS.index(kind)), set())
-            held |= items
-            if len(held) > MOST_ITEMS:
-                raise SpecFault(f"line {number}: a line of an assumption file has at most {MOST_ITEMS} words, and these are {len(held)}")
-    if len(lines) > MOST_LINES:
-        raise SpecFault(f"line {number}: an assumption file has at most {MOST_LINES} lines, and these are {len(lines)}")
-    return "".join(" ".join([KINDS[kind], f"{place:04X}", *(f"{it:04X}" for it in sorted(items))]) + "\n"
-                   for (place, kind), items in sorted(lines.items()))
+    """The text of the assumption file that a spec makes of this firmware."""
+    return Spec(elf, text, device).text()

@@ -1,0 +1,91 @@
+"""The lines of an assumption file by site and kind, and the line of a spec that says the same by names."""
+
+import opcodes
+from devices import NAME_OF, VECTORS
+from spec import KINDS, MOST_ITEMS, SITES, STORES
+
+
+class Lines:
+    """Lines with their items. Those of a text are given: they never change, and what is added later stands at other sites or is of other kinds."""
+
+    def __init__(self, text=""):
+        self.items, self.given = {}, set()
+        for line in text.splitlines():
+            kind, site, *items = line.split()
+            self.items[int(site, 16), KINDS.index(kind)] = {int(it, 16) for it in items}
+        self.given = set(self.items)
+
+    def copy(self):
+        other = Lines()
+        other.items, other.given = {key: set(items) for key, items in self.items.items()}, set(self.given)
+        return other
+
+    def has(self, site, kind):
+        return (site, KINDS.index(kind)) in self.items
+
+    def is_given(self, site, kind):
+        return (site, KINDS.index(kind)) in self.given
+
+    def of(self, site, kind):
+        return self.items.get((site, KINDS.index(kind)), set())
+
+    def may_add(self, site, kind, items=()):
+        """Whether a line may be added or grow by these items: none that was given, and none that would grow too long."""
+        return not self.is_given(site, kind) and len(self.of(site, kind) | set(items)) <= MOST_ITEMS
+
+    def add(self, site, kind, items=()):
+        """Adds a line or its items; whether that says something new."""
+        key, is_new = (site, KINDS.index(kind)), not self.has(site, kind) or not set(items) <= self.of(site, kind)
+        self.items.setdefault(key, set()).update(items)
+        return is_new
+
+    def put(self, site, kind, items):
+        self.items[site, KINDS.index(kind)] = set(items)
+
+    def drop(self, site, kind):
+        del self.items[site, KINDS.index(kind)]
+
+    def sites(self, kind):
+        """The sites of all lines of a kind, in ascending order."""
+        return sorted(site for site, number in self.items if KINDS[number] == kind)
+
+    def written(self):
+        """Site and kind of each line that wasn't given, in ascending order."""
+        return [(site, KINDS[number]) for site, number in sorted(set(self.items) - self.given)]
+
+    def line(self, site, kind):
+        return " ".join([kind, f"{site:04X}", *(f"{it:04X}" for it in sorted(self.of(site, kind)))])
+
+    def text(self):
+        return "".join(self.line(site, KINDS[kind]) + "\n" for site, kind in sorted(self.items))
+
+
+def name_of(elf, symbol):
+    """The name by which a spec finds a symbol; None where several are called so in one file."""
+    if len({it.address for it in elf.named(symbol.name)}) == 1:
+        return symbol.name
+    name = f"{symbol.file}:{symbol.name}"
+    return name if symbol.file and len({it.address for it in elf.named(name)}) == 1 else None
+
+
+def item_of(elf, kind, item):
+    """A register or a function by its name; None where a function has none of its own, or where no function begins."""
+    if kind == "store":
+        return NAME_OF.get(item, f"0x{item:02X}")
+    symbol = elf.symbol_at(2 * item)
+    return name_of(elf, symbol) if symbol and symbol.address == 2 * item else None
+
+
+def spec_line(elf, device, kind, site, items=()):
+    """The line of a spec that makes this line of an assumption file; None where a function on it has no name of its own."""
+    if kind == "never":
+        return f"never {VECTORS[device.vector_at(site)]}"
+    symbol = elf.symbol_at(2 * site)
+    found = opcodes.sites(elf, symbol, SITES.get(kind, STORES)[0]) if symbol else []
+    name = name_of(elf, symbol) if symbol else None
+    words = [item_of(elf, kind, it) for it in sorted(items)]
+    if kind == "frame":
+        return f"frame {name}" if name else None
+    if site not in found or name is None or None in words:
+        return None
+    return " ".join([kind, name, str(found.index(site) + 1), *words])

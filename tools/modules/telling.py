@@ -1,0 +1,113 @@
+"""What is told of lines that `stackcheck` writes, of flagged steps, and of what no line cures."""
+
+import candidates
+import opcodes
+from devices import NAME_OF
+from lines import Lines, spec_line
+from spec import SpecFault, constructors, tables
+
+MOST_OTHERS = 8  # vectors that are tried behind the first that lets itself in
+
+
+class Written:
+    """A line that the tool wrote: its text for a spec (None where a function has no name of its own), its text by words, and where it stands."""
+
+    def __init__(self, spec, words, place):
+        self.spec, self.words, self.place = spec, words, place
+
+    def __str__(self):
+        return f"{self.spec or self.words}, {self.place}"
+
+
+def names_of_tables(elf, items):
+    """`@constructors` and `@tables` where they are these words; None else."""
+    known = {"@constructors": candidates.or_none(constructors, elf), "@tables": candidates.or_none(tables, elf)}
+    found = [name for name, words in known.items() if words and words <= items]
+    return " ".join(found) if found and set().union(*(known[it] for it in found)) == items else None
+
+
+def line_of_spec(outcome, kind, site, items):
+    """The line of a spec for a line of an assumption file; None where it has none."""
+    names = names_of_tables(outcome.elf, items) if kind == "jump" else None
+    line = spec_line(outcome.elf, outcome.device, kind, site, () if names else items)
+    return f"{line} {names}" if line and names else line
+
+
+def written(outcome, lines):
+    """The lines that weren't given: the `frame` lines as one."""
+    frames = [site for site, kind in lines.written() if kind == "frame"]
+    if frames:
+        yield Written("frame @frames", "", f"at {len(frames)} places; no bound rests on it")
+    for site, kind in lines.written():
+        if kind != "frame":
+            place = outcome.place_of_line(kind, site)
+            yield Written(line_of_spec(outcome, kind, site, lines.of(site, kind)), lines.line(site, kind), f"at {site:04X} {place}")
+
+
+def text_of_stop(outcome, stop):
+    """A flagged step: its kind, the word, the address or target, and the place."""
+    other = f" {stop.other:04X}" if stop.other is not None else ""
+    name = f" ({NAME_OF[stop.other]})" if stop.kind == "protected" else f" ({outcome.place(stop.other)})" if stop.kind == "transfer" else ""
+    return f"{stop.kind} {stop.word:04X}{other}{name} at {outcome.place(stop.word)}"
+
+
+def why_not(stop):
+    """Why no line admits a flagged step."""
+    return "no line admits it: " + ("a live byte of the stack is written" if stop.kind == "live" else "a `never` line names this vector")
+
+
+def line_that_admits(outcome, work, stop):
+    """The kind and the items of the line that admits a flagged step, whether or not a line was given there; None where there is none."""
+    free = work.copy()
+    free.lines.given = set()
+    kind = free.admit(stop)
+    return (kind, free.lines.of(stop.word, kind)) if kind else None
+
+
+def flagged(outcome, work):
+    """The one line that stands before a bound that says nothing of a run beyond a flagged step."""
+    stop, found = work.stop, line_that_admits(outcome, work, work.stop)
+    told = f"FLAGGED: a trial run ends with {text_of_stop(outcome, stop)}; the bound speaks of what comes before; "
+    if found is None:
+        return told + why_not(stop)
+    kind, items = found
+    line = Lines()
+    line.put(stop.word, kind, items)
+    return told + f"admitted by: {line_of_spec(outcome, kind, stop.word, items) or line.line(stop.word, kind)}"
+
+
+def lines_for(outcome, work):
+    """The lines of a spec that this tool would write for a refusal, with all candidates."""
+    more = work.copy()
+    more.lines.given = set(more.lines.items)
+    if not more.at_refusal(work.refusal):
+        return []
+    return [it.spec or it.words for it in written(outcome, more.lines)]
+
+
+def others(outcome, work, name, word):
+    """The other places of the same kind, as far as the file or the program tells them."""
+    elf = outcome.elf
+    if name in ("recursion", "put"):
+        found = [it.address // 2 for it in elf.code if it.is_function and it.address // 2 in candidates.reached(elf, it.address // 2)]
+    elif name == "written flash":
+        found = [at for words in candidates.code(elf) for at, opcode in words if opcode == opcodes.SPM]
+    elif name in ("re-entry", "noblock", "merged"):
+        return [f"{at:04X} {outcome.handler(vector)}" for at, vector in other_vectors(outcome, work)]
+    else:
+        return [f"{at:04X} {outcome.place(at)}: {note}" for at, note in work.notes]
+    return [f"{at:04X} {outcome.place(at)}" for at in sorted(set(found) - {word})]
+
+
+def other_vectors(outcome, work):
+    """Yields word and number of the vectors that let themselves in, beside the first: each with the ones before it left out."""
+    probe, text = work.copy(), work.refusal
+    for _ in range(MOST_OTHERS):
+        words = text.split()
+        if words[:3] != ["refused", "3", "re-entry"]:
+            return
+        probe.lines.add(int(words[6], 16), "never")
+        text = probe.analyse()[1].strip()
+        words = text.split()
+        if words[:3] == ["refused", "3", "re-entry"]:
+            yield int(words[6], 16), int(words[4])
