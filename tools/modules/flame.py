@@ -87,7 +87,7 @@ def touches(one, other):
 
 
 def paint(root):
-    """Gives each box a colour that none beside it has."""
+    """Gives each box a colour that none beside it has, and returns the first of each name."""
     parts = [(box, [(box.begin, end, row, row + rows) for row, rows, end in box.parts(top)]) for box, top in root.all()]
     colour_of = {}
     for number, (box, own) in enumerate(parts):
@@ -97,6 +97,7 @@ def paint(root):
         wanted = colour_of.get(box.name)
         box.colour = wanted if wanted in free else free[sum(box.name.encode()) % len(free)]
         colour_of.setdefault(box.name, box.colour)
+    return colour_of
 
 
 def outline(box, top, scale):
@@ -145,10 +146,14 @@ def axis(most, scale, height):
         yield f'<line x1="{x:.1f}" y1="{TOP - 6}" x2="{x:.1f}" y2="{height}" class="grid"/><text x="{x + 3:.1f}" y="12" class="axis">{at}</text>'
 
 
-def svg(graph):
-    """The drawing."""
+def painted(graph):
+    """The tree with its colours, and the colour of each name."""
     root = made(graph)
-    paint(root)
+    return root, paint(root)
+
+
+def svg(root):
+    """The drawing of a painted tree."""
     most = max(root.reach(), 1)
     scale, height = (WIDTH - MARGIN) / most, TOP + root.rows() * ROW + 6
     yield f'<svg viewBox="0 0 {WIDTH} {height}" xmlns="http://www.w3.org/2000/svg" role="img" aria-label="the tree of needs">'

@@ -63,28 +63,33 @@ def memory(outcome):
     yield from keys(parts)
 
 
-def chain_colours(outcome):
-    """A colour for each link of the chain, which none beside it has; handlers and what they enter in those of interrupts."""
-    handlers, is_in_handler = {it.name for it in outcome.table if it.is_handler}, False
-    for number, it in enumerate(outcome.chain):
-        is_in_handler = is_in_handler or it.text.partition(" at ")[0] in handlers
+def chain_colours(outcome, colours):
+    """A colour for each link of the chain: that of its box where the link before has another; of interrupts from the handler on."""
+    handlers, is_in_handler, last = {it.name for it in outcome.table if it.is_handler}, False, None
+    for it in outcome.chain:
+        name = it.text.partition(" at ")[0]
+        is_in_handler = is_in_handler or name in handlers
         palette = flame.INTERRUPTS if is_in_handler else flame.CALLS
-        yield palette[number % len(palette)]
+        last = next(it for it in (colours.get(name), *palette) if it and it != last)
+        yield last
 
 
-def chain(outcome):
+def chain(outcome, colours):
     yield "<h2>The deepest chain</h2>"
     if not outcome.chain:
         yield "<p>This stackbound has no command that tells the chain.</p>"
         return
-    parts = [(it.count, colour, it.text) for it, colour in zip(outcome.chain, chain_colours(outcome))]
+    parts = [(it.count, colour, it.text) for it, colour in zip(outcome.chain, chain_colours(outcome, colours))]
     yield from bar(parts)
     yield from keys(parts)
 
 
 def tree(outcome):
+    """The tree of needs, and the deepest chain of it in the same colours."""
+    root, colours = flame.painted(outcome.graph)
     yield "<h2>Where the bytes go<small>width: bytes of stack; blue and green: calls; orange and red: interrupts</small></h2>"
-    yield from flame.svg(outcome.graph)
+    yield from flame.svg(root)
+    yield from chain(outcome, colours)
 
 
 def needs_table(outcome):
@@ -154,7 +159,6 @@ def accepted(outcome):
            f"{outcome.room} bytes of room, {outcome.room - outcome.bound} left: {with_code(text)}</p>")
     yield from memory(outcome)
     yield from tree(outcome)
-    yield from chain(outcome)
     yield from needs_table(outcome)
     yield from changes(outcome)
     yield from places(outcome)
