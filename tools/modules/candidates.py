@@ -1,14 +1,12 @@
 """Where an indirect transfer may go: the functions whose address is taken somewhere, and the words of tables."""
 
-import struct
+import copy
 
 import opcodes
 from devices import VECTORS
-from elf import CODE_END
-from spec import SpecFault, constructors, tables
-
-NEAR = 6  # how many instructions lie between the two `ldi` of an address, at most
-OF_START = ("__vector", "__ctors", "__dtors", "__init", "__bad_interrupt", "__do_", "__stop_program", "_GLOBAL__", "_exit", "exit", "main")
+from elf import Symbol
+from names import SpecFault
+from targets import addresses_loaded, constructors, tables, taken, words_in_data
 
 
 def or_none(make, elf):
@@ -33,58 +31,28 @@ def is_start_up(elf, word):
     return at == word
 
 
+def with_whole(elf):
+    """The file as it is; where it has no names, with one symbol for all code behind the vectors."""
+    if elf.code:
+        return elf
+    begin, other = 2 * (start(elf) or 0), copy.copy(elf)
+    other.code = [Symbol("", begin, elf.flash_end - begin, True, "")]
+    return other
+
+
 def code(elf):
-    """Yields lists of (word address, opcode): the instructions of each function, or all behind the program's begin where none has a name."""
-    symbols = [it for it in elf.code if it.is_function or it.name.startswith("__")]
-    if symbols:
-        yield from (list(opcodes.words_of(elf, it)) for it in symbols)
-        return
-    at, found = start(elf) or 0, []
-    while 2 * at < elf.flash_end:
-        found.append((at, elf.word(at)))
-        at += opcodes.length(found[-1][1])
-    yield found
-
-
-def begins(elf):
-    """The words at which a function begins that may be called by its address: by their symbols, else behind what ends a function."""
-    named = {it.address // 2 for it in elf.code if it.is_function and not it.name.startswith(OF_START)}
-    if any(it.is_function for it in elf.code):
-        return named
-    found = set()
-    for words in code(elf):
-        found |= {after for (_, opcode), (after, _) in zip(words, words[1:]) if opcodes.ends(opcode)}
-    return found
-
-
-def loaded(words):
-    """Yields the numbers that pairs of `ldi` near each other load."""
-    last = {}
-    for number, (_, opcode) in enumerate(words):
-        if not opcodes.is_ldi(opcode):
-            continue
-        register, byte = opcodes.ldi(opcode)
-        last[register] = number, byte
-        other = last.get(register ^ 1)
-        if other and number - other[0] <= NEAR:
-            yield byte << 8 | other[1] if register & 1 else other[1] << 8 | byte
-
-
-def words_in(data):
-    """The words at all offsets of some bytes."""
-    return {struct.unpack_from("<H", data, at)[0] for at in range(len(data) - 1)}
+    """Yields lists of (word address, opcode): the instructions of each function, or all of them where none has a name."""
+    yield from (list(opcodes.words_of(elf, it)) for it in with_whole(elf).code if it.is_function or it.name.startswith("__"))
 
 
 def addressed(elf, device):
-    """The words of all functions whose address is loaded by code, or stands in initialised data or between vectors and start-up code."""
-    found = {it for words in code(elf) for it in loaded(words)}
-    for address, size, offset in elf.loaded:
-        if address >= CODE_END:
-            found |= words_in(elf.data[offset:offset + size])
-    begin, end = 2 * device.vector_word(max(VECTORS) + 1), 2 * (start(elf) or 0)
-    lists = elf.all.get("__ctors_start", end), elf.all.get("__ctors_end", end)
-    found |= words_in(bytes(elf.flash[begin:min(end, lists[0])])) | words_in(bytes(elf.flash[max(begin, lists[1]):end]))
-    return found & begins(elf)
+    """The words of all functions whose address is taken. Where none has a name, a function is what begins behind the end of another, and no handler."""
+    if elf.code:
+        return taken(elf)
+    begins = {after for words in code(elf) for (_, opcode), (after, _) in zip(words, words[1:]) if opcodes.ends(opcode)}
+    handlers = {opcodes.jump_target(elf, device.vector_word(it)) for it in VECTORS}
+    whole = with_whole(elf)
+    return (begins - handlers) & {*addresses_loaded(whole), *words_in_data(whole)}
 
 
 def table_of_jumps(elf, site):

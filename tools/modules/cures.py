@@ -4,7 +4,7 @@ import re
 
 import candidates
 import opcodes
-from spec import constructors, tables
+from targets import constructors, tables
 
 # By name: the text and where it stands, the usual cause, the cure.
 CURES = {

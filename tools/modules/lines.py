@@ -1,8 +1,12 @@
 """The lines of an assumption file by site and kind, and the line of a spec that says the same by names."""
 
+import re
+
 import opcodes
 from devices import NAME_OF, VECTORS
-from spec import KINDS, MOST_ITEMS, SITES, STORES
+from names import SpecFault, function, shown
+from sites import SITES, STORES
+from spec import KINDS, MOST_ITEMS, Spec
 
 
 class Lines:
@@ -60,12 +64,17 @@ class Lines:
         return "".join(self.line(site, KINDS[kind]) + "\n" for site, kind in sorted(self.items))
 
 
+def is_named(elf, name, symbol):
+    try:
+        return function(elf, name).address == symbol.address
+    except SpecFault:
+        return False
+
+
 def name_of(elf, symbol):
-    """The name by which a spec finds a symbol; None where several are called so in one file."""
-    if len({it.address for it in elf.named(symbol.name)}) == 1:
-        return symbol.name
-    name = f"{symbol.file}:{symbol.name}"
-    return name if symbol.file and len({it.address for it in elf.named(name)}) == 1 else None
+    """The name by which a spec finds a function; None where it has none of its own."""
+    names = (shown(symbol), symbol.name, f"{symbol.file}:{symbol.name}")
+    return next((it for it in names if not re.search(r"\s", it) and is_named(elf, it, symbol)), None)
 
 
 def item_of(elf, kind, item):
@@ -76,16 +85,21 @@ def item_of(elf, kind, item):
     return name_of(elf, symbol) if symbol and symbol.address == 2 * item else None
 
 
-def spec_line(elf, device, kind, site, items=()):
-    """The line of a spec that makes this line of an assumption file; None where a function on it has no name of its own."""
-    if kind == "never":
-        return f"never {VECTORS[device.vector_at(site)]}"
+def spec_line(elf, device, lines, site, kind, names=None):
+    """The line of a spec that makes this line of an assumption file, with the items by these names, else by their own; None where there is none."""
     symbol = elf.symbol_at(2 * site)
-    found = opcodes.sites(elf, symbol, SITES.get(kind, STORES)[0]) if symbol else []
-    name = name_of(elf, symbol) if symbol else None
-    words = [item_of(elf, kind, it) for it in sorted(items)]
-    if kind == "frame":
-        return f"frame {name}" if name else None
-    if site not in found or name is None or None in words:
+    if kind == "never":
+        text = f"never {VECTORS[device.vector_at(site)]}"
+    elif symbol:
+        words = [names] if names else [item_of(elf, kind, it) for it in sorted(lines.of(site, kind))]
+        found = opcodes.sites(elf, symbol, SITES.get(kind, STORES)[0])
+        name = name_of(elf, symbol)
+        if site not in found or name is None or None in words:
+            return None
+        text = " ".join([kind, name, str(found.index(site) + 1), *words])
+    else:
         return None
-    return " ".join([kind, name, str(found.index(site) + 1), *words])
+    try:
+        return text if Spec(elf, text, device).text() == lines.line(site, kind) + "\n" else None
+    except SpecFault:
+        return None

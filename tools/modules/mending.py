@@ -10,7 +10,6 @@ import os
 import candidates
 from cures import REFUSAL
 from devices import VECTORS
-from elf import Symbol
 from lines import Lines
 from program import OK, REFUSED, NoProgram, Program
 from sites import frames_of
@@ -159,8 +158,7 @@ class Mending(Analysis):
 
     def add_frames(self):
         """`frame` lines where a function gives its frame back in a way that isn't followed without them."""
-        whole = Symbol("", 2 * (candidates.start(self.elf) or 0), self.elf.flash_end - 2 * (candidates.start(self.elf) or 0), True, "")
-        found = {it for symbol in self.elf.code or [whole] for it in frames_of(self.elf, symbol)}
+        found = {it for symbol in candidates.with_whole(self.elf).code for it in frames_of(self.elf, symbol)}
         return any([self.lines.add(it, "frame") for it in sorted(found)])
 
     def trim(self):

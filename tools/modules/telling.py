@@ -4,7 +4,7 @@ import candidates
 import opcodes
 from devices import NAME_OF
 from lines import Lines, spec_line
-from spec import SpecFault, constructors, tables
+from targets import constructors, tables
 
 MOST_OTHERS = 8  # vectors that are tried behind the first that lets itself in
 
@@ -26,11 +26,10 @@ def names_of_tables(elf, items):
     return " ".join(found) if found and set().union(*(known[it] for it in found)) == items else None
 
 
-def line_of_spec(outcome, kind, site, items):
+def line_of_spec(outcome, lines, site, kind):
     """The line of a spec for a line of an assumption file; None where it has none."""
-    names = names_of_tables(outcome.elf, items) if kind == "jump" else None
-    line = spec_line(outcome.elf, outcome.device, kind, site, () if names else items)
-    return f"{line} {names}" if line and names else line
+    names = names_of_tables(outcome.elf, lines.of(site, kind)) if kind == "jump" else None
+    return spec_line(outcome.elf, outcome.device, lines, site, kind, names)
 
 
 def written(outcome, lines):
@@ -41,7 +40,7 @@ def written(outcome, lines):
     for site, kind in lines.written():
         if kind != "frame":
             place = outcome.place_of_line(kind, site)
-            yield Written(line_of_spec(outcome, kind, site, lines.of(site, kind)), lines.line(site, kind), f"at {site:04X} {place}")
+            yield Written(line_of_spec(outcome, lines, site, kind), lines.line(site, kind), f"at {site:04X} {place}")
 
 
 def text_of_stop(outcome, stop):
@@ -73,7 +72,7 @@ def flagged(outcome, work):
     kind, items = found
     line = Lines()
     line.put(stop.word, kind, items)
-    return told + f"admitted by: {line_of_spec(outcome, kind, stop.word, items) or line.line(stop.word, kind)}"
+    return told + f"admitted by: {line_of_spec(outcome, line, stop.word, kind) or line.line(stop.word, kind)}"
 
 
 def lines_for(outcome, work):
