@@ -59,7 +59,10 @@ class Words(argparse.ArgumentParser):
 def run(main):
     """Calls a tool's `main` and ends with its status; a closed pipe and an interrupt from the keyboard end without a trace of the calls."""
     try:
-        status = main()
+        try:
+            status = main()
+        except SystemExit as end:
+            status = end.code
         sys.stdout.flush()
     except BrokenPipeError:
         os.dup2(os.open(os.devnull, os.O_WRONLY), sys.stdout.fileno())

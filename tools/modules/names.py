@@ -39,28 +39,35 @@ def forms(name):
 
 
 def near(elf, name):
-    """What a name may have been meant for."""
-    known = sorted({shown(it) for it in elf.code if it.is_function and not it.name.startswith("__")} | {it.name for it in elf.code if it.is_function})
-    found = [it for it in difflib.get_close_matches(name, known, 3, 0.6)]
-    last = re.split(r"::|\(", name)[0 if "::" not in name else 1] or name
-    found += [it for it in known if it not in found and it.rpartition("::")[2] == last]
+    """What a name may have been meant for: names that are alike, in whole or in their last part."""
+    known = sorted({shown(it) for it in elf.code if it.is_function and not it.name.startswith("__")})
+    last_of = {it: re.split(r"::", re.sub(r"[(<].*", "", it))[-1] for it in known}
+    own = re.split(r"::", re.sub(r"[(<].*", "", name))[-1]
+    found = difflib.get_close_matches(name, known, 3, 0.6)
+    alike = difflib.get_close_matches(own, sorted(set(last_of.values())), 2, 0.7)
+    found += [it for it in known if last_of[it] in alike and it not in found]
     return f"; near: {', '.join(found[:4])}" if found else ""
 
 
+def of_cxx(elf, name):
+    """The symbols of C++ that are written so: in whole, without parameters, or by the last parts of their names."""
+    wanted = plain(name)
+    known = [(it, forms(base(it.name))) for it in elf.code if it.is_function and it.name.startswith("_Z")]
+    for place in range(4):
+        if found := [it for it, names in known if names and names[place] == wanted]:
+            return found
+    return [it for it, names in known if any(each.endswith("::" + wanted) for each in names[:3])]
+
+
 def named(elf, name):
-    """The symbols that a name means: those of this name and their clones, else those of C++ that are written so."""
+    """The symbols that a name means, and its clones: those of this name, else those of C++ that are written so."""
     found = elf.named(name)
     file, _, own = name.rpartition(":") if "::" not in name else ("", "", name)
     clones = [it for it in elf.code if it.name != own and base(it.name) == own and (not file or it.file in (file, ""))]
     if found or clones:
         return found, clones
-    wanted = plain(name)
-    known = [(it, forms(base(it.name))) for it in elf.code if it.is_function and it.name.startswith("_Z")]
-    for place in range(4):
-        found = [it for it, names in known if names and names[place] == wanted]
-        if found:
-            return [it for it in found if base(it.name) == it.name], [it for it in found if base(it.name) != it.name]
-    return [], []
+    found = of_cxx(elf, name)
+    return [it for it in found if base(it.name) == it.name], [it for it in found if base(it.name) != it.name]
 
 
 def functions(elf, name):

@@ -125,11 +125,6 @@ def tell_premises(outcome, program, certificate):
         outcome.rests_on.append("This stackbound doesn't list the places where a step may be flagged; the tool `flagged` finds some.")
         return
     outcome.places = lines[1:]
-    outcome.rests_on.append(f"places where a step may be flagged: {len(outcome.places)}")
-    for line in outcome.places:
-        kind, word = line.split()[:2]
-        is_placed = kind in ("at", "never")
-        outcome.rests_on.append(f"  {line.partition(' in ')[0]}: {outcome.place_of_line(kind, int(word, 16))}" if is_placed else f"  {line}")
 
 
 def accept(outcome, program, certificate, text):

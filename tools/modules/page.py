@@ -3,22 +3,31 @@
 import os
 from html import escape
 
+import flame
+import needs
+
 STYLE = """
-body { font: 15px/1.45 system-ui, sans-serif; color: #1d2430; background: #fff; max-width: 60rem; margin: 2rem auto; padding: 0 1rem; }
-h1 { font-size: 1.5rem; margin-bottom: 0.2rem; } h2 { font-size: 1.05rem; margin: 2rem 0 0.5rem; }
-.what { color: #5a6372; margin: 0 0 1rem; } .verdict { font-size: 1.25rem; padding: 0.7rem 1rem; border-left: 6px solid; border-radius: 3px; }
-.kept { border-color: #2e7d4f; background: #eaf6ee; } .deep { border-color: #b3261e; background: #fdecea; }
-.bar { display: flex; height: 2.6rem; border: 1px solid #8a93a1; } .bar div { min-width: 2px; overflow: hidden; }
+body { font: 15px/1.5 system-ui, "Segoe UI", Helvetica, Arial, sans-serif; color: #1d2430; background: #fff; max-width: 64rem; margin: 2rem auto; padding: 0 1.2rem; }
+h1 { font-size: 1.6rem; margin: 0; } h2 { font-size: 1.1rem; margin: 2.2rem 0 0.6rem; } h2 small { color: #5a6372; font-weight: 400; margin-left: 0.6rem; }
+.what { color: #5a6372; margin: 0.1rem 0 1.1rem; } .verdict { padding: 0.9rem 1.2rem; border-left: 7px solid; border-radius: 5px; margin: 0.6rem 0; }
+.verdict b { font-size: 1.5rem; margin-right: 0.3rem; } .green { border-color: #2e7d4f; background: #eaf6ee; }
+.amber { border-color: #c98a12; background: #fdf5e1; } .red { border-color: #b3261e; background: #fdecea; }
+.bar { display: flex; height: 2.4rem; border-radius: 4px; overflow: hidden; border: 1px solid #8a93a1; } .bar div { min-width: 2px; overflow: hidden; }
 .ends { display: flex; justify-content: space-between; color: #5a6372; font-size: 0.85rem; }
 .keys { display: flex; flex-wrap: wrap; gap: 0.3rem 1.5rem; margin: 0.5rem 0 0; padding: 0; list-style: none; }
-.keys i { display: inline-block; width: 0.9rem; height: 0.9rem; margin-right: 0.45rem; vertical-align: -0.1rem; border: 1px solid #8a93a1; }
-table { border-collapse: collapse; width: 100%; } td { padding: 0.2rem 0.6rem 0.2rem 0; vertical-align: middle; }
-td.count { text-align: right; width: 4rem; font-variant-numeric: tabular-nums; } td.name { width: 50%; overflow-wrap: anywhere; }
-td .length { height: 0.8rem; background: #3f6fb5; min-width: 1px; } code { font-size: 0.95em; background: #f1f3f6; padding: 0 0.25em; overflow-wrap: anywhere; }
+.keys i { display: inline-block; width: 0.9rem; height: 0.9rem; margin-right: 0.45rem; vertical-align: -0.1rem; border-radius: 2px; }
+svg { width: 100%; height: auto; display: block; font: 12px system-ui, "Segoe UI", Helvetica, Arial, sans-serif; } path { stroke: #fff; stroke-width: 1; }
+.in { fill: #fff; } .end { fill: #3b4453; } .axis { fill: #7a828e; font-size: 11px; } .grid { stroke: #e3e6ea; }
+table { border-collapse: collapse; width: 100%; } td, th { padding: 0.25rem 0.7rem 0.25rem 0; vertical-align: top; text-align: left; }
+tr + tr td { border-top: 1px solid #eef0f3; } th { font-weight: 600; color: #5a6372; font-size: 0.85rem; } td.name { overflow-wrap: anywhere; width: 34%; }
+.count { text-align: right; width: 4.5rem; font-variant-numeric: tabular-nums; } .lengths { width: 32%; padding-top: 0.55rem; }
+.lengths div { display: flex; height: 0.8rem; } .lengths i { display: block; } code { font: 0.9em ui-monospace, Menlo, Consolas, monospace; background: #f1f3f6; padding: 0.05em 0.3em; border-radius: 3px; overflow-wrap: anywhere; }
+.mark { width: 0.8rem; } .mark i { display: inline-block; width: 0.65rem; height: 0.65rem; border-radius: 50%; } .soft { color: #5a6372; }
 ul { padding-left: 1.2rem; margin: 0; } dt { font-weight: 600; margin-top: 0.6rem; } dd { margin: 0; }
 """
-COLOURS = ("#3f6fb5", "#d98032", "#4b9a6b", "#a85aa0", "#c2b23a", "#5aa3b8", "#b3534b", "#7a7f8a")
-STATIC, LEFT, BOTH = "#9aa4b2", "#f4f5f7", "#b3261e"
+STATIC, LEFT, BOTH, STACK = "#9aa4b2", "#eef1f5", "#b3261e", flame.CALLS[0]
+OWN, WITH_CALLS, WITH_INTERRUPTS = "#3f6fb5", "#9dbbe3", "#f0b27e"
+GREEN, AMBER = "#2e7d4f", "#d99a1e"
 
 
 def with_code(text):
@@ -45,56 +54,130 @@ def memory(outcome):
     device = outcome.device
     static, left = device.sram() - outcome.room, outcome.room - outcome.bound
     if left >= 0:
-        parts = [(static, STATIC, "static data"), (left, LEFT, "left"), (outcome.bound, COLOURS[0], "stack, at most")]
+        parts = [(static, STATIC, "static data"), (left, LEFT, "left"), (outcome.bound, STACK, "stack, at most")]
     else:
-        parts = [(static + left, STATIC, "static data alone"), (-left, BOTH, "static data and stack"), (outcome.room, COLOURS[0], "stack alone, at most")]
+        parts = [(static + left, STATIC, "static data alone"), (-left, BOTH, "static data and stack"), (outcome.room, STACK, "stack alone, at most")]
     yield "<h2>SRAM</h2>"
     yield from bar(parts)
     yield f'<div class="ends"><span>{device.first:04X}</span><span>{device.last:04X}</span></div>'
     yield from keys(parts)
 
 
-def chain(outcome):
+def chain_colours(outcome, colours):
+    """A colour for each link of the chain: that of its box where the link before has another; of interrupts from the handler on."""
+    handlers, is_in_handler, last = {it.name for it in outcome.table if it.is_handler}, False, None
+    for it in outcome.chain:
+        name = it.text.partition(" at ")[0]
+        is_in_handler = is_in_handler or name in handlers
+        palette = flame.INTERRUPTS if is_in_handler else flame.CALLS
+        last = next(it for it in (colours.get(name), *palette) if it and it != last)
+        yield last
+
+
+def chain(outcome, colours):
     yield "<h2>The deepest chain</h2>"
     if not outcome.chain:
         yield "<p>This stackbound has no command that tells the chain.</p>"
         return
-    parts = [(it.count, COLOURS[n % len(COLOURS)], it.text) for n, it in enumerate(outcome.chain)]
+    parts = [(it.count, colour, it.text) for it, colour in zip(outcome.chain, chain_colours(outcome, colours))]
     yield from bar(parts)
     yield from keys(parts)
 
 
-def needs(outcome):
-    most = max((it.count for it in outcome.needs), default=0) or 1
-    yield "<h2>What each function needs, with all that it enters</h2><table>"
-    for it in outcome.needs:
-        yield (f'<tr><td class="name">{escape(it.text)}</td><td class="count">{it.count}</td>'
-               f'<td><div class="length" style="width:{100 * it.count / most:.1f}%"></div></td></tr>')
+def tree(outcome):
+    """The tree of needs, and the deepest chain of it in the same colours."""
+    root, colours = flame.painted(outcome.graph)
+    yield "<h2>Where the bytes go<small>width: bytes of stack; blue and green: calls; orange and red: interrupts</small></h2>"
+    yield from flame.svg(root)
+    yield from chain(outcome, colours)
+
+
+def needs_table(outcome):
+    most = max((it.all for it in outcome.table), default=0) or 1
+    yield "<h2>What each function needs</h2><table><tr><th>function</th>"
+    yield "".join(f'<th class="count">{name}</th>' for name in needs.COLUMNS.split(", ")) + "<th></th></tr>"
+    for it in outcome.table:
+        lengths = "".join(f'<i style="width:{100 * count / most:.1f}%;background:{colour}"></i>' for count, colour in (
+            (it.own, OWN), (it.calls - it.own, WITH_CALLS), (it.all - it.calls, WITH_INTERRUPTS)) if count)
+        yield (f'<tr><td class="name">{escape(it.name)}</td>' + "".join(f'<td class="count">{count}</td>' for count in (it.own, it.calls, it.all))
+               + f'<td class="lengths"><div>{lengths}</div></td></tr>')
     yield "</table>"
 
 
+def place_row(it):
+    where = f"<b>{escape(it.where().rstrip(': '))}</b> in {escape(it.title)}" if it.source else escape(it.title)
+    code = f"<code>{escape(it.code)}</code>" if it.code else ""
+    why = f'<div class="soft">judged: {escape(it.judged.why)}</div>' if it.judged else ""
+    return (f'<tr><td class="mark"><i style="background:{GREEN if it.judged else AMBER}"></i></td><td class="name">{where}</td><td>{code}{why}</td>'
+            f'<td class="soft">{escape(it.count()) if it.words else ""}</td></tr>')
+
+
+def places(outcome):
+    """The places that must be judged, and those that were."""
+    if outcome.places is None:
+        return
+    yield f"<h2>Where a step may be flagged<small>{len(outcome.unjudged)} of {len(outcome.entries)} not judged</small></h2>"
+    if not outcome.entries:
+        yield "<p>Nowhere: the bound holds of every run.</p>"
+        return
+    yield "<table>"
+    yield from (place_row(it) for it in sorted(outcome.entries, key=lambda it: it.judged is not None))
+    yield "</table>"
+
+
+def changes(outcome):
+    """What each interrupt costs, and what grew, where that was asked for."""
+    if outcome.costs:
+        yield "<h2>What each interrupt costs</h2><table>"
+        yield from (f'<tr><td class="name">{escape(it.name)}</td><td>'
+                    + ("no bound without it" if it.without is None else f"{outcome.bound - it.without} bytes: {it.without} without it") + "</td></tr>" for it in outcome.costs)
+        yield "</table>"
+    if outcome.difference:
+        first, *rest = outcome.difference.told()
+        yield f"<h2>What changed</h2><p>{escape(first)}</p><ul>" + "".join(f"<li>{escape(it.strip())}</li>" for it in rest) + "</ul>"
+
+
+def verdict(outcome):
+    """The colour of a bound, and what is wrong with it."""
+    if getattr(outcome, "flagged", None):
+        return "red", f"this bound may say nothing: {outcome.flagged}"
+    if not outcome.keeps:
+        return "red", f"too deep ({outcome.rule})"
+    if outcome.grows_too_much:
+        return "red", f"it has grown by {outcome.difference.grown()} bytes"
+    if outcome.places is None:
+        return "amber", "fits; the places where a step may be flagged aren't listed"
+    if outcome.unjudged:
+        return "amber", f"fits, where the places below keep it: {len(outcome.unjudged)} of {len(outcome.entries)} aren't judged"
+    return "green", "fits, and each place where a step may be flagged was judged" if outcome.entries else "fits, in every run"
+
+
 def accepted(outcome):
-    state, word = ("kept", "fits") if outcome.keeps else ("deep", "too deep")
-    yield (f'<p class="verdict {state}"><b>{outcome.bound} bytes</b> at most ({outcome.witness}), {outcome.room} bytes of room, '
-           f"{outcome.room - outcome.bound} left: {word}{f' ({escape(outcome.rule)})' if outcome.rule else ''}</p>")
+    colour, text = verdict(outcome)
+    seen = getattr(outcome, "seen", None)
+    yield (f'<p class="verdict {colour}"><b>{outcome.bound} bytes</b> at most ({outcome.witness}){"" if seen is None else f", {seen} seen"}; '
+           f"{outcome.room} bytes of room, {outcome.room - outcome.bound} left: {with_code(text)}</p>")
     yield from memory(outcome)
-    yield from chain(outcome)
-    yield from needs(outcome)
+    yield from tree(outcome)
+    yield from needs_table(outcome)
+    yield from changes(outcome)
+    yield from places(outcome)
     yield "<h2>What the bound rests on</h2><ul>"
     yield from (f"<li>{with_code(line.strip())}</li>" for line in outcome.rests_on)
     yield "</ul>"
 
 
 def refused(outcome):
-    yield f'<p class="verdict deep">There is no bound: <code>{escape(outcome.refusal)}</code></p><dl>'
+    yield f'<p class="verdict red">There is no bound: <code>{escape(outcome.refusal)}</code></p><dl>'
     rows = [("Place", "; ".join(outcome.places_of_refusal) or "none"), ("Usual cause", outcome.cause), ("What helps", outcome.cure)]
+    rows += [("Lines for a spec", "; ".join(f"`{it}`" for it in outcome.cure_lines))] if getattr(outcome, "cure_lines", None) else []
     yield from (f"<dt>{name}</dt><dd>{with_code(text)}</dd>" for name, text in rows)
     yield "</dl>"
 
 
 def html(outcome):
     name = escape(os.path.basename(outcome.path))
-    taken = f", linked for {outcome.linked_for}" if outcome.linked_for else ""
+    taken = f", linked for {outcome.linked_for}" if outcome.linked_for not in (None, outcome.device.name) else ""
     return "\n".join([
         '<!DOCTYPE html>', f'<html lang="en"><head><meta charset="utf-8"><title>Stack of {name}</title>', f"<style>{STYLE}</style></head><body>",
         f"<h1>Stack of {name}</h1>", f'<p class="what">{escape(outcome.device.name)}{escape(taken)}</p>',

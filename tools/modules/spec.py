@@ -84,6 +84,15 @@ def is_of_form(kind, rest):
     return len(rest) >= len(form) if form[-1] == ".." else len(rest) == len(form)
 
 
+def words_of(line):
+    """The words of a line; a name of C++ may have spaces within its brackets."""
+    words, depth = [], 0
+    for word in line.split():
+        words.append(f"{words.pop()} {word}" if depth > 0 else word)
+        depth += sum(word.count(it) for it in "(<") - sum(word.count(it) for it in ")>")
+    return words
+
+
 def read_line(elf, device, words):
     """The kind, the sites and the items of one line."""
     kind, rest = words[0], words[1:]
@@ -124,7 +133,7 @@ class Spec:
         above = ""
         for number, line in enumerate(text.splitlines(), start=1):
             line, _, comment = line.partition("#")
-            words, comment = line.split(), comment.strip()
+            words, comment = words_of(line), comment.strip()
             try:
                 if words[:1] == ["keeps"]:
                     self.keeps.append(read_keep(elf, number, words, comment or above))

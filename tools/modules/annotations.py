@@ -1,0 +1,41 @@
+"""Lines that a workflow of GitHub shows at the source line which they name."""
+
+import re
+
+WORD = re.compile(r"\b([0-9A-F]{4})\b")
+
+
+def escaped(text):
+    return text.replace("%", "%25").replace("\r", "%0D").replace("\n", "%0A")
+
+
+def line(kind, text, place=None):
+    """`::error file=..,line=..::..`; place is a path and a line, or None."""
+    where = f" file={escaped(place[0]).replace(',', '%2C').replace(':', '%3A')},line={place[1]}" if place else ""
+    return f"::{kind}{where}::{escaped(text)}"
+
+
+def source(outcome, text):
+    """The path and line of the first word address of a text; None where it has none or nothing tells it."""
+    from places import readable
+    word = WORD.search(text)
+    found = outcome.lines.source(2 * int(word[1], 16)) if word else None
+    return (readable(found[0]), found[1]) if found else None
+
+
+def told(outcome, is_to_be_judged):
+    """What fails, each with its place, and the result."""
+    if outcome.refusal:
+        place = outcome.places_of_refusal[0] if outcome.places_of_refusal else ""
+        yield line("error", f"no bound of the stack: {outcome.refusal}; cause: {outcome.cause}; cure: {outcome.cure}", source(outcome, place))
+        return
+    flagged = getattr(outcome, "flagged", None)
+    if flagged:
+        yield line("error", flagged, source(outcome, flagged))
+    if not outcome.keeps:
+        yield line("error", f"the stack is too deep: {outcome.bound} bytes, and {outcome.rule}")
+    if outcome.grows_too_much:
+        yield line("error", f"the stack has grown from {outcome.difference.before} to {outcome.bound} bytes")
+    for it in outcome.unjudged if is_to_be_judged else ():
+        yield line("error", f"a step may be flagged here, and no line `keeps` judges it: {it.title}, {it.count()}", (it.path, it.source[1]) if it.source else None)
+    yield line("notice", f"stack: {outcome.bound} bytes at most ({outcome.witness}), {outcome.room - outcome.bound} left")

@@ -1,0 +1,19 @@
+"""The call graph with needs, as a text of Graphviz: calls as lines, interrupts as dashed ones."""
+
+
+def quoted(text):
+    return '"' + text.replace("\\", "\\\\").replace('"', '\\"') + '"'
+
+
+def edges(graph):
+    """The edges by names, each once: (from, to, whether it is an interrupt), in order."""
+    return sorted({(it.name, graph.instances[entry.other].name, entry.is_interrupt) for it in graph.instances for entry in it.entries.values()})
+
+
+def text(outcome, graph, found):
+    lines = ["digraph stack {", "  rankdir=LR;", '  node [shape=box, style=filled, fontname="Helvetica", fillcolor="#dce8f5"];']
+    for it in found:
+        colour = ', fillcolor="#f8dcc4"' if it.is_handler else ""
+        lines.append(f"  {quoted(it.name)} [label={quoted(f'{it.name}{chr(10)}{it.own} own, {it.calls} calls, {it.all} all')}{colour}];".replace("\n", "\\n"))
+    lines += [f"  {quoted(begin)} -> {quoted(end)}{' [style=dashed]' if is_interrupt else ''};" for begin, end, is_interrupt in edges(graph)]
+    return "\n".join([*lines, "}", ""])

@@ -1,0 +1,44 @@
+"""All that `stackcheck` prints, as one object of JSON."""
+
+import json
+
+from habits import version
+
+
+def place(it):
+    return {"source": it.path, "line": it.source[1] if it.source else None, "title": it.title, "text": it.code, "words": [f"{word:04X}" for word in it.words],
+            "judged": it.judged.why if it.judged else None}
+
+
+def versions(outcome):
+    return {"stackcheck": version(), "certificate": outcome.certificate.split("\n", 1)[0] if outcome.certificate else None}
+
+
+def common(outcome):
+    return {"firmware": outcome.path, "device": outcome.device.name, "linked_for": outcome.linked_for, "versions": versions(outcome),
+            "given": outcome.assumed.splitlines(),
+            "assumed": [{"spec": it.spec, "line": it.words, "place": it.place} for it in getattr(outcome, "written", [])]}
+
+
+def refused(outcome):
+    return {"bound": None, "refusal": {"text": outcome.refusal, "places": outcome.places_of_refusal, "cause": outcome.cause, "cure": outcome.cure,
+                                       "spec": getattr(outcome, "cure_lines", [])}, "needs": []}
+
+
+def accepted(outcome):
+    found = {
+        "bound": outcome.bound, "witness": outcome.witness, "seen": getattr(outcome, "seen", None), "flagged": getattr(outcome, "flagged", None),
+        "room": outcome.room, "margin": outcome.room - outcome.bound, "keeps": outcome.keeps, "rule": outcome.rule or None, "refusal": None,
+        "chain": [{"adds": it.count, "place": it.text} for it in outcome.chain],
+        "needs": [{"name": it.name, "own": it.own, "calls": it.calls, "interrupts": it.all, "handler": it.is_handler} for it in outcome.table],
+        "places": None if outcome.places is None else [place(it) for it in outcome.entries]}
+    if outcome.costs is not None:
+        found["interrupts"] = [{"name": it.name, "without": it.without} for it in outcome.costs]
+    if outcome.difference:
+        found["since"] = {"file": outcome.difference.path, "bound": outcome.difference.before,
+                          "changes": [{"name": it.name, "before": it.before, "now": it.now} for it in outcome.difference.changes]}
+    return found
+
+
+def text(outcome):
+    return json.dumps({**common(outcome), **(refused(outcome) if outcome.refusal else accepted(outcome))}, indent=1) + "\n"
