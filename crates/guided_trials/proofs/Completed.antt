@@ -1,0 +1,88 @@
+-- A certificate with the schedule that trials find.
+use Rattle.std.proofs.Common.{◌≡◌, ◌↔◌, ◌⊎◌, inl, inr, ⊎_elim, refl, sym, subst, ℕ, true, false, List, Option, Some, None, IfSome, Bor}
+use Rattle.std.specs.Option.{is_some, option_copied}
+use Rattle.avr_model.specs.declared.assumption.Entry.{Entry}
+use Rattle.avr_model.specs.Run.{Bounded}
+use Rattle.witness_replay.specs.Spelling.{Plan}
+use Rattle.certificate.specs.Claims.{Claim, IsClaim}
+use Rattle.certificate.specs.Valid.{IsSound, Attains, IsAttained, IsValid}
+use Rattle.guided_trials.specs.Guides.{guide_of}
+use Rattle.guided_trials.specs.Trials.{IsFound}
+use Rattle.guided_trials.specs.Attaining.{IsScheduled, IsCompleted, SomeSucceeds, AttainedWhere}
+
+-- ---- the same certificate with another schedule
+
+pub claim_with : (c : Claim) (found : Option Plan) → IsClaim c → IsClaim (record c { witness = found })
+claim_with c found h =
+    record {
+      bound_fits = h.bound_fits;
+      entries_fit = h.entries_fit;
+      insts_fit = h.insts_fit;
+      insts_ascend = h.insts_ascend;
+      few_insts = h.few_insts;
+      nodes_fit = h.nodes_fit;
+      nodes_belong = h.nodes_belong;
+      nodes_ascend = h.nodes_ascend;
+      few_nodes = h.few_nodes;
+      few_cells = h.few_cells;
+      of_version = h.of_version;
+    }
+
+pub sound_with : (words : List ℕ) (A : List Entry) (c : Claim) (found : Option Plan) → IsSound words A c → IsSound words A (record c { witness = found })
+sound_with words A c found h =
+    record {
+      nodes = h.nodes;
+      expanded = h.expanded;
+      meets = record {
+        reset = h.meets.reset;
+        faultless = h.meets.faultless;
+        edges = h.meets.edges;
+        ranks = h.meets.ranks;
+        needs = λ inst. record { offsets = (h.meets.needs inst).offsets; entered = (h.meets.needs inst).entered };
+        bounded = record { enough = h.meets.bounded.enough; small = h.meets.bounded.small };
+        assumptions = h.meets.assumptions;
+      };
+    }
+
+-- ---- what is answered
+
+pub copied_as : (o : Option (Bor Plan)) (w : Option Plan) → option_copied o ≡ w → is_some o ≡ is_some w
+copied_as None None e = refl
+copied_as None (Some p) e = absurd (let wrong = e in cc)
+copied_as (Some s) None e = absurd (let wrong = e in cc)
+copied_as (Some s) (Some p) e = refl
+
+pub none_as : (w : Option Plan) → is_some w ≡ false → w ≡ None
+none_as None e = refl
+none_as (Some p) e = absurd (let wrong = e in cc)
+
+module _ (words : List ℕ) (A : List Entry) (n : ℕ) (c : Claim) where
+  its_own : (w : Option Plan) → is_some w ≡ true → IsScheduled words A n c w w
+  its_own None e = absurd (let wrong = e in cc)
+  its_own (Some p) e = refl
+
+  pub as_it_is : is_some c.witness ≡ true → IsCompleted words A n c c
+  as_it_is e = record { same = refl; schedule = its_own c.witness e }
+
+  pub with_found : (d : Claim) (found : Option Plan) → c.witness ≡ None → IsFound words A (guide_of words A c) n found → d ≡ record c { witness = found } → IsCompleted words A n c d
+  with_found d found none h is =
+      subst (IsCompleted words A n c) (sym is)
+      (record { same = refl; schedule = subst (λ (w : Option Plan). IsScheduled words A n c w found) (sym none) h })
+
+  attained_by : (w found : Option Plan) → IsScheduled words A n c w found → (is_some found ≡ true) ↔ ((is_some w ≡ true) ⊎ SomeSucceeds words A n c)
+  attained_by None None h = (λ e. absurd (let wrong = e in cc), λ s. ⊎_elim (λ e. absurd (let wrong = e in cc)) (λ t. absurd (h t.0 t.1 t.2)) s)
+  attained_by None (Some plan) h = (λ e. inr (h.trial, h.among, h.succeeds), λ s. refl)
+  attained_by (Some p) None h = absurd (let wrong = h in cc)
+  attained_by (Some p) (Some q) h = (λ e. inl refl, λ s. refl)
+
+  pub attained_where : (d : Claim) → IsCompleted words A n c d → AttainedWhere words A n c d
+  attained_where d h = attained_by c.witness d.witness h.schedule
+
+  attains_if : (found : Option Plan) → IfSome found (λ plan. Bounded words A c.bound → Attains words A c.bound plan) → Bounded words A c.bound → IsAttained words A c.bound found
+  attains_if None h all = tt
+  attains_if (Some plan) h all = h all
+
+  pub valid_with : (d : Claim) (found : Option Plan) → IfSome found (λ plan. Bounded words A c.bound → Attains words A c.bound plan) → d ≡ record c { witness = found }
+      → Bounded words A c.bound → IsValid words A c → IsValid words A d
+  valid_with d found h is all valid =
+      subst (IsValid words A) (sym is) (record { sound = sound_with words A c found valid.sound; attained = attains_if found h all })

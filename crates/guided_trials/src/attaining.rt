@@ -1,0 +1,140 @@
+//! The guided trials of a certificate.
+
+ghost use Rattle.std.specs.Prelude.{◌≡◌, ◌≤◌, ◌<◌, ◌+◌, ◌++◌, ℕ, IfOk, IfSome, OnOk};
+ghost use Rattle.avr_model.specs.Run.{Bounded};
+ghost use Rattle.certificate.specs.Valid.{Attains, IsValid};
+ghost use Rattle.guided_trials.specs.Attaining.{IsCompleted, AttainedWhere};
+ghost use Rattle.guided_trials.specs.Guides as guides;
+ghost use Rattle.guided_trials.specs.Trials.{IsFound};
+
+use crate::guide::{Candidate, Guide};
+use crate::telling::telling;
+use crate::trial::first_trial;
+use avr_model::listed::Listed;
+use certificate::{Certificate, Inst};
+use flash_image::Flash;
+use mask_states::Kind;
+use std::alloc::{AllocError, Global};
+use vector_table::Assumptions;
+use witness_replay::Schedule;
+
+// The watchdog's vector.
+const WATCHDOG: u8 = 7;
+
+// Whether the instance is an entry of the vector.
+fn is_of(instance: &Inst, vector: u8) -> bool
+    ensures { result ≡ guides.is_of instance.now.key.kind vector }
+{
+    match instance.key.kind {
+        Kind::Vector(v) => v == vector,
+        Kind::Root | Kind::Call => false,
+    }
+}
+
+// The greatest need of the entries of a vector, 0 without one.
+fn need_of(instances: &[Inst], vector: u8) -> u32
+    ensures { result ≡ guides.need_of instances.now vector }
+{
+    let mut need = 0;
+    for instance in instances {
+        if is_of(instance, vector) {
+            need = need.max(instance.need);
+        }
+    }
+    need
+}
+
+// Appends the interrupts of a vector, 2 to 26.
+fn add_takes(
+    takes: &mut Listed<Candidate>,
+    flash: &Flash,
+    assumptions: &Assumptions,
+    instances: &[Inst],
+    vector: u8,
+) -> Result<(), AllocError>
+    requires least { 2 ≤ vector }
+    requires most { vector ≤ 26 }
+    ensures { OnOk result (takes.new ≡ takes.old ++ guides.takes_at flash.now assumptions.now instances.now vector) }
+{
+    if assumptions.never(flash.device().vector_word(vector)) {
+        return Ok(());
+    }
+    let need = need_of(instances, vector);
+    takes.push(Candidate {
+        vector,
+        clears: false,
+        need,
+    })?;
+    if vector == WATCHDOG {
+        takes.push(Candidate {
+            vector,
+            clears: true,
+            need,
+        })?;
+    }
+    Ok(())
+}
+
+// What leads the trials of a certificate.
+fn guide_of(
+    alloc: Global,
+    flash: &Flash,
+    assumptions: &Assumptions,
+    certificate: &Certificate,
+) -> Result<Guide, AllocError>
+    ensures { IfOk result (λ guide. guide ≡ guides.guide_of flash.now assumptions.now certificate.now) }
+{
+    let bytes = telling(alloc, flash)?;
+    let mut takes = Listed::empty(alloc);
+    for n in 0..25u8 {
+        add_takes(
+            &mut takes,
+            flash,
+            assumptions,
+            certificate.instances(),
+            n + 2,
+        )?;
+    }
+    Ok(Guide {
+        bytes,
+        takes,
+        bound: certificate.bound(),
+    })
+}
+
+// The schedule of the first of so many guided trials whose depth is the certificate's bound or more. None exactly where no trial's
+// is.
+fn found(
+    alloc: Global,
+    flash: &Flash,
+    assumptions: &Assumptions,
+    certificate: &Certificate,
+    trials: u32,
+) -> Result<Option<Schedule>, AllocError>
+    ensures first { IfOk result (IsFound flash.now assumptions.now (guides.guide_of flash.now assumptions.now certificate.now) trials) }
+    ensures attained { IfOk result (λ found. IfSome found (λ plan. Bounded flash.now assumptions.now certificate.now.bound → Attains flash.now assumptions.now certificate.now.bound plan)) }
+{
+    let guide = guide_of(alloc, flash, assumptions, certificate)?;
+    first_trial(alloc, flash, assumptions, &guide, trials)
+}
+
+/// The certificate with a schedule whose run is as deep as its bound, where it has none and one of so many guided trials shows one: that
+/// of the first such trial. All else stays as it is. Where the bound is one of all runs and the certificate is valid, so is what is
+/// answered: the replay of its schedule ends without a stop, and its depth is the bound. Source: own.
+pub fn attain(
+    alloc: Global,
+    flash: &Flash,
+    assumptions: &Assumptions,
+    certificate: Certificate,
+    trials: u32,
+) -> Result<Certificate, AllocError>
+    ensures completed { IfOk result (IsCompleted flash.now assumptions.now trials certificate) }
+    ensures attained { IfOk result (AttainedWhere flash.now assumptions.now trials certificate) }
+    ensures valid { IfOk result (λ c. Bounded flash.now assumptions.now certificate.bound → IsValid flash.now assumptions.now certificate → IsValid flash.now assumptions.now c) }
+{
+    if certificate.witness().is_some() {
+        return Ok(certificate);
+    }
+    let schedule = found(alloc, flash, assumptions, &certificate, trials)?;
+    Ok(certificate.with_witness(schedule))
+}

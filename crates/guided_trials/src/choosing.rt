@@ -1,0 +1,176 @@
+//! What a trial chooses at a moment.
+
+ghost use Rattle.std.specs.Prelude.{ℕ, ◌≡◌, ◌+◌, ◌%◌, ◌/◌, ◌==◌, ◌&&◌, length, slice_get};
+ghost use Rattle.std.specs.List.{filter, find};
+ghost use Rattle.guided_trials.specs.Numbers as numbers;
+ghost use Rattle.guided_trials.specs.Choosing as choosing;
+
+use crate::guide::{Candidate, Guide, Moment};
+use crate::numbers::{high, low, middle, next};
+use avr_decode::{Instr, instruction};
+use avr_machine::{Choice, Menu};
+use flash_image::Flash;
+
+// Whether the number is one at which trial `t` changes its byte.
+fn is_change(t: u32, number: u64) -> bool
+    ensures { result ≡ (numbers.low number % choosing.hold t == 0) }
+{
+    let low = low(number);
+    match t % 4 {
+        0 => true,
+        1 => low % 8 == 0,
+        2 => low % 64 == 0,
+        _ => low % 4096 == 0,
+    }
+}
+
+// Whether the number is one at which trial `t` takes an interrupt by chance.
+fn is_chance(t: u32, number: u64) -> bool
+    ensures { result ≡ (numbers.high number / 4 % choosing.rate t == 0) }
+{
+    let high = high(number) / 4;
+    match t / 4 % 4 {
+        0 => high % 64 == 0,
+        1 => high % 8 == 0,
+        2 => high % 512 == 0,
+        _ => high % 4096 == 0,
+    }
+}
+
+// Whether the instruction may read an input.
+fn is_input(instr: &Instr) -> bool
+    ensures { result ≡ choosing.is_input instr.now }
+{
+    match instr {
+        Instr::In(_, _) | Instr::Lds(_, _) | Instr::Ld(_, _) => true,
+        Instr::Ldd(_, _, _) | Instr::Sbic(_, _) | Instr::Sbis(_, _) => true,
+        _ => false,
+    }
+}
+
+// Whether the instruction at a word address may read an input.
+fn reads(flash: &Flash, pc: u16) -> bool
+    ensures { result ≡ choosing.reads flash.now pc }
+{
+    match instruction(flash.words(), usize::from(pc)) {
+        Some(instr) => is_input(&instr),
+        None => false,
+    }
+}
+
+/// The moment after this one, at a word address.
+pub fn after(flash: &Flash, guide: &Guide, t: u32, moment: Moment, pc: u16) -> Moment
+    ensures { result ≡ choosing.after flash.now guide.now t moment pc }
+{
+    let number = next(moment.number);
+    let byte = if is_change(t, number) && reads(flash, pc) {
+        guide.bytes.member(u32::from(middle(number)))
+    } else {
+        moment.byte
+    };
+    Moment { number, byte }
+}
+
+// By how much the stack pointer has fallen below its place at reset.
+fn fallen(flash: &Flash, sp: u16) -> u16
+    ensures { result ≡ choosing.fallen flash.now sp }
+{
+    flash.device().ramend().wrapping_sub(sp)
+}
+
+// Whether the interrupt stands in the menu.
+fn stands(menu: &Menu, candidate: &Candidate) -> bool
+    ensures { result ≡ choosing.stands menu.now candidate.now }
+{
+    menu.has(Choice::Take(candidate.vector, candidate.clears))
+}
+
+// Whether the stack is as deep as the bound with what the interrupt needs.
+fn is_wanted(guide: &Guide, depth: u16, candidate: &Candidate) -> bool
+    ensures { result ≡ choosing.is_wanted guide.now depth candidate.now }
+{
+    let need = candidate.need;
+    let back = u64::from(depth) + 2;
+    u64::from(guide.bound) <= back + u64::from(need)
+}
+
+// The first interrupt that stands in the menu and is wanted.
+fn wanted(guide: &Guide, menu: &Menu, depth: u16) -> Option<Candidate>
+    ensures { result ≡ find (λ k. choosing.stands menu.now k && choosing.is_wanted guide.now depth k) guide.now.takes }
+{
+    for candidate in guide.takes.as_slice() {
+        if stands(menu, candidate) && is_wanted(guide, depth, candidate) {
+            return Some(*candidate);
+        }
+    }
+    None
+}
+
+// How many interrupts stand in the menu.
+fn count(guide: &Guide, menu: &Menu) -> usize
+    ensures { result ≡ length (filter (choosing.stands menu.now) guide.now.takes) }
+{
+    let mut count = 0;
+    for candidate in guide.takes.as_slice() {
+        if stands(menu, candidate) {
+            count += 1;
+        }
+    }
+    count
+}
+
+// The interrupt of this number among those that stand in the menu.
+fn standing(guide: &Guide, menu: &Menu, number: usize) -> Option<Candidate>
+    ensures { result ≡ slice_get (filter (choosing.stands menu.now) guide.now.takes) number }
+{
+    let mut before = 0;
+    for candidate in guide.takes.as_slice() {
+        if stands(menu, candidate) {
+            if before == number {
+                return Some(*candidate);
+            }
+            before += 1;
+        }
+    }
+    None
+}
+
+// The interrupt that is taken by chance.
+fn by_chance(guide: &Guide, menu: &Menu, t: u32, number: u64) -> Option<Candidate>
+    ensures { result ≡ choosing.by_chance t number (filter (choosing.stands menu.now) guide.now.takes) }
+{
+    if !is_chance(t, number) {
+        return None;
+    }
+    let count = count(guide, menu);
+    if count == 0 {
+        return None;
+    }
+    standing(guide, menu, usize::from(middle(number)) % count)
+}
+
+// The interrupt that is taken.
+fn taken(flash: &Flash, guide: &Guide, t: u32, number: u64, menu: &Menu) -> Option<Candidate>
+    ensures { result ≡ choosing.taken t number (filter (choosing.stands menu.now) guide.now.takes) (find (λ k. choosing.stands menu.now k && choosing.is_wanted guide.now (choosing.fallen flash.now menu.now.sp) k) guide.now.takes) }
+{
+    if menu.takes.bits() == 0 {
+        return None;
+    }
+    if high(number) % 4 != 0 {
+        let wanted = wanted(guide, menu, fallen(flash, menu.sp));
+        if wanted.is_some() {
+            return wanted;
+        }
+    }
+    by_chance(guide, menu, t, number)
+}
+
+/// The choice from a menu; `now` is the moment that follows.
+pub fn chosen(flash: &Flash, guide: &Guide, t: u32, now: Moment, menu: &Menu) -> Choice
+    ensures { result ≡ choosing.choice_by flash.now guide.now t now.number now.byte menu.now.sp (choosing.stands menu.now) }
+{
+    match taken(flash, guide, t, now.number, menu) {
+        Some(candidate) => Choice::Take(candidate.vector, candidate.clears),
+        None => Choice::Go(now.byte, now.byte),
+    }
+}

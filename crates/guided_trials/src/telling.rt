@@ -1,0 +1,113 @@
+//! The bytes that a firmware's tests tell apart.
+
+ghost use Rattle.std.specs.Prelude.{◌≡◌, ◌<◌, ◌==◌, ◌||◌, ◌++◌, ◌∷◌, [], ℕ, false, if◌then◌else◌, slice_index_or, IfOk, OnOk};
+ghost use Rattle.avr_model.specs.Assumptions.{lists};
+ghost use Rattle.avr_model.specs.Devices.{IsFlash, device_of, words_of};
+ghost use Rattle.avr_model.specs.Sites.{instruction_at};
+ghost use Rattle.guided_trials.specs.Telling as spec;
+
+use crate::guide::ToldBytes;
+use avr_decode::{ImmediateOp, Instr, instruction};
+use avr_model::listed::Listed;
+use flash_image::Flash;
+use std::alloc::{AllocError, Global};
+
+// Marks the byte.
+fn mark(told: &mut [bool; 256], byte: u8)
+    ensures { (b : ℕ) → b < 256 → slice_index_or told.new b false ≡ (slice_index_or told.old b false || (byte == b)) }
+{
+    told[usize::from(byte)] = true;
+}
+
+// Marks the bytes that are always tried.
+fn mark_fills(told: &mut [bool; 256])
+    ensures { (b : ℕ) → b < 256 → slice_index_or told.new b false ≡ (slice_index_or told.old b false || lists spec.fills b) }
+{
+    mark(told, 0x00);
+    mark(told, 0xFF);
+    mark(told, 0x55);
+    mark(told, 0xAA);
+    mark(told, 0x01);
+    mark(told, 0x80);
+    mark(told, 0x7F);
+    mark(told, 0xFE);
+}
+
+// Marks a byte with bit `index` alone, and one with all but it.
+fn mark_bit(told: &mut [bool; 256], index: u16)
+    requires { index < 8 }
+    ensures { (b : ℕ) → b < 256 → slice_index_or told.new b false ≡ (slice_index_or told.old b false || lists (spec.of_bit index) b) }
+{
+    let byte = 1u8 << index;
+    mark(told, byte);
+    mark(told, 255 - byte);
+}
+
+// Marks what an instruction tells apart.
+fn mark_told(told: &mut [bool; 256], instr: &Instr)
+    ensures { (b : ℕ) → b < 256 → slice_index_or told.new b false ≡ (slice_index_or told.old b false || lists (spec.told instr.now) b) }
+{
+    match instr {
+        Instr::Immediate(ImmediateOp::Cpi, _, byte) => {
+            mark(told, *byte);
+            mark(told, byte.wrapping_sub(1));
+        }
+        Instr::Immediate(ImmediateOp::Subi, _, byte) => mark(told, *byte),
+        Instr::Sbrc(_, index) | Instr::Sbrs(_, index) => mark_bit(told, index.get()),
+        Instr::Sbic(_, index) | Instr::Sbis(_, index) => mark_bit(told, index.get()),
+        _ => {}
+    }
+}
+
+// Marks what the word at an address tells apart, where it is an instruction.
+fn mark_at(told: &mut [bool; 256], words: &[u16], at: usize)
+    requires flash { IsFlash words.now }
+    requires inside { at < words_of (device_of words.now) }
+    ensures { (b : ℕ) → b < 256 → slice_index_or told.new b false ≡ (slice_index_or told.old b false || lists (spec.told_if (instruction_at words.now at)) b) }
+{
+    if let Some(instr) = instruction(words, at) {
+        mark_told(told, &instr);
+    }
+}
+
+// Marks what the words of flash tell apart.
+fn mark_words(told: &mut [bool; 256], words: &[u16])
+    requires { IsFlash words.now }
+    ensures { (b : ℕ) → b < 256 → slice_index_or told.new b false ≡ (slice_index_or told.old b false || spec.is_told words.now (words_of (device_of words.now)) b) }
+{
+    for at in 0..words.len() {
+        mark_at(told, words, at);
+    }
+}
+
+// Appends the byte if it is marked.
+fn keep(bytes: &mut Vec<u8>, told: &[bool; 256], byte: u8) -> Result<(), AllocError>
+    ensures { OnOk result (bytes.new.items ≡ bytes.old.items ++ (if slice_index_or told.now byte false then byte ∷ [] else [])) }
+{
+    if told[usize::from(byte)] {
+        bytes.push(byte)?;
+    }
+    Ok(())
+}
+
+// The bytes that are marked, ascending.
+fn marked(alloc: Global, told: &[bool; 256]) -> Result<Vec<u8>, AllocError>
+    ensures { IfOk result (λ bytes. bytes.items ≡ spec.passing 256 (λ b. slice_index_or told.now b false)) }
+{
+    let mut bytes = Vec::new(alloc);
+    for byte in 0..256u16 {
+        keep(&mut bytes, told, byte as u8)?;
+    }
+    Ok(bytes)
+}
+
+/// The bytes that the trials give to inputs: eight of them always, and those that the words of flash tell apart; ascending.
+pub fn telling(alloc: Global, flash: &Flash) -> Result<ToldBytes, AllocError>
+    ensures { IfOk result (λ bytes. bytes ≡ spec.telling flash.now) }
+{
+    let mut told = [false; 256];
+    mark_fills(&mut told);
+    mark_words(&mut told, flash.words());
+    let bytes = marked(alloc, &told)?;
+    Ok(ToldBytes::new(Listed::new(bytes)))
+}

@@ -1,0 +1,108 @@
+//! Guided trials.
+
+ghost use Rattle.std.specs.Prelude.{◌≡◌, ◌≤◌, IfOk, IfSome};
+ghost use Rattle.avr_model.specs.Devices.{device_of};
+ghost use Rattle.avr_model.specs.State.{IsReset, filled};
+ghost use Rattle.avr_model.specs.Run.{IsRun, Bounded, depth_of};
+ghost use Rattle.certificate.specs.Valid.{Attains};
+ghost use Rattle.guided_trials.specs.Choosing as choosing;
+ghost use Rattle.guided_trials.specs.Trials.{most_choices, fill_of, trial_by, IsTried, IsFound};
+
+use crate::choosing::{after, chosen};
+use crate::guide::{Guide, Moment};
+use crate::numbers::first;
+use avr_machine::{Choice, Machine, Menu};
+use flash_image::Flash;
+use std::alloc::{AllocError, Global};
+use stimulus::laws::depth_is_kept;
+use stimulus::{Driver, Trace};
+use vector_table::Assumptions;
+use witness_replay::Schedule;
+
+// How many choices a trial has at most.
+fn most_choices() -> u32
+    ensures { result ≡ most_choices }
+{
+    200_000
+}
+
+// The byte that fills the memory at reset in trial `t`, and is its first input.
+fn fill_of(guide: &Guide, t: u32) -> u8
+    ensures { result ≡ fill_of guide.now t }
+{
+    guide.bytes.member(t)
+}
+
+// Trial `t`, until the depth is the bound or more, or a stop, or so many choices.
+fn attempt(
+    alloc: Global,
+    flash: &Flash,
+    assumptions: &Assumptions,
+    guide: &Guide,
+    t: u32,
+    steps: u32,
+) -> Result<Trace, AllocError>
+    ensures reset { IsReset (device_of flash.now) (filled (device_of flash.now) (fill_of guide.now t)) }
+    ensures choices { IfOk result (λ trace. trace.choices ≡ trial_by steps flash.now assumptions.now guide.now t) }
+    ensures run { IfOk result (λ trace. IsRun flash.now assumptions.now trace.choices (filled (device_of flash.now) (fill_of guide.now t))) }
+    ensures depth { IfOk result (λ trace. trace.depth ≡ depth_of flash.now assumptions.now trace.choices (filled (device_of flash.now) (fill_of guide.now t))) }
+{
+    depth_is_kept();
+    let fill = fill_of(guide, t);
+    let mut moment = Moment {
+        number: first(t),
+        byte: fill,
+    };
+    let mut machine = Machine::start(flash.device(), fill);
+    let mut driver = Driver::new(
+        move |menu: &Menu| -> Choice
+            ensures choice { result ≡ choosing.picked flash.entry.now guide.entry.now t moment.entry menu.now }
+            ensures left { moment.exit ≡ choosing.left_by flash.entry.now guide.entry.now t moment.entry menu.now }
+        {
+            moment = after(flash, guide, t, moment, menu.pc);
+            chosen(flash, guide, t, moment, menu)
+        },
+    );
+    driver.drive(alloc, &mut machine, flash, assumptions, guide.bound, steps)
+}
+
+// The schedule of trial `t`. None exactly where its depth is less than the bound.
+fn try_number(
+    alloc: Global,
+    flash: &Flash,
+    assumptions: &Assumptions,
+    guide: &Guide,
+    t: u32,
+) -> Result<Option<Schedule>, AllocError>
+    ensures tried { IfOk result (IsTried flash.now assumptions.now guide.now t) }
+    ensures attained { IfOk result (λ found. IfSome found (λ plan. Bounded flash.now assumptions.now guide.now.bound → Attains flash.now assumptions.now guide.now.bound plan)) }
+{
+    depth_is_kept();
+    let trace = attempt(alloc, flash, assumptions, guide, t, most_choices())?;
+    if trace.depth < guide.bound {
+        return Ok(None);
+    }
+    let fill = fill_of(guide, t);
+    let schedule = Schedule::from_trace(alloc, fill, trace.choices.as_slice())?;
+    Ok(Some(schedule))
+}
+
+/// The schedule of the first of so many trials whose depth is the bound or more. None exactly where no trial's is. Where the
+/// bound is one of all runs, the replay of the schedule ends without a stop, and its depth is the bound.
+pub fn first_trial(
+    alloc: Global,
+    flash: &Flash,
+    assumptions: &Assumptions,
+    guide: &Guide,
+    trials: u32,
+) -> Result<Option<Schedule>, AllocError>
+    ensures first { IfOk result (IsFound flash.now assumptions.now guide.now trials) }
+    ensures attained { IfOk result (λ found. IfSome found (λ plan. Bounded flash.now assumptions.now guide.now.bound → Attains flash.now assumptions.now guide.now.bound plan)) }
+{
+    for t in 0..trials {
+        if let Some(schedule) = try_number(alloc, flash, assumptions, guide, t)? {
+            return Ok(Some(schedule));
+        }
+    }
+    Ok(None)
+}
