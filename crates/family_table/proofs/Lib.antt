@@ -2,5 +2,6 @@ pub mod Families
 pub mod SameKeys
 pub mod Entries
 pub mod Shared
+pub mod Keys
 pub mod Raised
 pub mod Groups

@@ -1,6 +1,9 @@
 //! The state of each node.
 
-ghost use Rattle.std.specs.Prelude.{◌≡◌, ◌≢◌, ◌<◌, ◌↔◌, length, IsTrue, IfOk, OnErr};
+ghost use Rattle.std.specs.Prelude.{◌≡◌, ◌≢◌, ◌<◌, ◌↔◌, length, Contains, Some, IsTrue, IfOk, OnErr};
+ghost use Rattle.std.specs.Map.{keys_of};
+ghost use Rattle.mask_states.specs.declared.keys.NodeKey as node_key;
+ghost use Rattle.abs_state.specs.declared.state.AbsState as abs_state;
 ghost use Rattle.std.specs.Prelude.{map as list_map};
 ghost use Rattle.std.specs.Option.{option_copied};
 ghost use Rattle.std.specs.FinMap.{get, empty, len};
@@ -126,6 +129,13 @@ impl Table {
         }
     }
 
+    /// The keys of all nodes, as they came.
+    pub fn keys(&self, alloc: Global) -> Result<Vec<NodeKey>, AllocError>
+        ensures { IfOk result (λ all. (k : node_key.NodeKey) (s : abs_state.AbsState) → get self.now k ≡ Some s → Contains all.items k) }
+    {
+        keys_in(&self.map, alloc)
+    }
+
     /// The nodes, ascending by key.
     pub fn into_sorted(self, alloc: Global) -> Result<Vec<Node>, AllocError>
         ensures { IfOk result (λ all. all.items ≡ nodes_of self) }
@@ -177,6 +187,17 @@ fn taken(pool: &mut Pool, alloc: Global, number: u32) -> Result<AbsState, AllocE
         Some(state) => Ok(state),
         None => pool.get(number).copy(alloc),
     }
+}
+
+// The keys by their numbers.
+fn keys_in(map: &IndexMap<Place, u32>, alloc: Global) -> Result<Vec<NodeKey>, AllocError>
+    ensures { IfOk result (λ all. all.items ≡ keys_of map.now.entries) }
+{
+    let mut all = Vec::with_capacity(alloc, map.len())?;
+    for place in map.keys() {
+        all.push(place.key)?;
+    }
+    Ok(all)
 }
 
 // The nodes by their numbers.
