@@ -73,10 +73,11 @@ impl Choices {
         &self.runs
     }
 
-    /// Another choice behind the last, of which there are fewer than 16,777,216.
+    /// Another choice behind the last, of which there are fewer than 16,777,216. None is lost for want of memory.
     pub fn push(&mut self, choice: Choice) -> Result<(), AllocError>
         requires few { length self.old < most_steps }
         ensures ok { OnOk result (self.new ≡ self.old ++ choice ∷ []) }
+        ensures err { OnErr result (self.new ≡ self.old) }
     {
         let Some(last) = self.runs.pop() else {
             self.runs.push(Repeated { choice, count: 1 })?;
