@@ -18,16 +18,16 @@ type At = (u32, u16);
 type Edge = (u32, u16, u8, u32);
 
 /// How it was entered, its entry, its places and its edges.
-type Inst<'a> = (u8, u16, &'a [At], &'a [Edge]);
+type Inst = (u8, u16, &'static [At], &'static [Edge]);
 
 /// An instance, a node, the depth there, and how the next one is entered.
 type Step = (u32, u32, u16, u8);
 
 /// What `compose` and `chain` make of a graph.
 #[derive(Clone, Copy)]
-enum Wanted<'a> {
+enum Wanted {
     /// The ranks, the needs and the chain.
-    Least(&'a [u32], &'a [u32], &'a [Step]),
+    Least(&'static [u32], &'static [u32], &'static [Step]),
     /// The instance that is named.
     Cycle(u32),
     /// It is not composable.
@@ -145,158 +145,162 @@ fn is_cyclic(alloc: Global, graph: &Graph, at: u32) -> bool {
     }
 }
 
-fn is_row(alloc: Global, rows: &[Inst], wanted: &Wanted) -> Result<bool, AllocError> {
-    let graph = graph(alloc, rows)?;
-    match wanted {
+fn is_row(alloc: Global, row: &Row) -> Result<bool, AllocError> {
+    let graph = graph(alloc, row.0)?;
+    match row.1 {
         Wanted::Least(ranks, needs, steps) => has(alloc, &graph, ranks, needs, steps),
-        Wanted::Cycle(at) => Ok(is_cyclic(alloc, &graph, *at)),
+        Wanted::Cycle(at) => Ok(is_cyclic(alloc, &graph, at)),
         Wanted::Shapeless => Ok(!graph.is_composable()),
         Wanted::Placeless => Ok(graph.is_composable() && !graph.has_places()),
     }
 }
 
+/// Instances, and what is made of their graph.
+type Row = (&'static [Inst], Wanted);
+
+static ROWS: [Row; 15] = [
+    // a root alone ends at its least deepest node
+    (
+        &[(NONE, 0, &[(0, 0), (4, 3), (2, 3), (1, 1)], &[])],
+        Wanted::Least(&[0], &[3], &[(0, 2, 3, NONE)]),
+    ),
+    // a call takes two bytes
+    (
+        &[
+            (NONE, 0, &[(0, 0)], &[(0, 1, CALL, 1)]),
+            (CALL, 9, &[(1, 0)], &[]),
+        ],
+        Wanted::Least(&[1, 0], &[3, 0], &[(0, 0, 1, CALL), (1, 1, 3, NONE)]),
+    ),
+    // vectors 2 and 3 at one place, each of whose handlers lets the other in: four bytes, and not two
+    (
+        &[
+            (NONE, 0, &[(0, 0)], &[(0, 0, 2, 1), (0, 0, 3, 2)]),
+            (2, 2, &[(1, 0)], &[(1, 0, 3, 4)]),
+            (3, 4, &[(2, 0)], &[(2, 0, 2, 3)]),
+            (2, 2, &[(3, 0)], &[]),
+            (3, 4, &[(4, 0)], &[]),
+        ],
+        Wanted::Least(
+            &[2, 1, 1, 0, 0],
+            &[4, 2, 2, 0, 0],
+            &[(0, 0, 0, 2), (1, 1, 2, 3), (4, 4, 4, NONE)],
+        ),
+    ),
+    // of two functions that call themselves, that of the lesser entry is named
+    (
+        &[
+            (NONE, 0, &[(0, 0)], &[(0, 0, CALL, 1), (0, 0, CALL, 2)]),
+            (CALL, 9, &[(1, 0)], &[(1, 0, CALL, 1)]),
+            (CALL, 7, &[(2, 0)], &[(2, 0, CALL, 2)]),
+        ],
+        Wanted::Cycle(2),
+    ),
+    // A handler that lets itself in is named, although a function of a lesser entry calls itself; and the least number of
+    // two that are of one vector. The root, which reaches both and no one reaches, is not named.
+    (
+        &[
+            (NONE, 0, &[(0, 0)], &[(0, 0, CALL, 1), (0, 0, 3, 2)]),
+            (CALL, 1, &[(1, 0)], &[(1, 0, CALL, 1)]),
+            (3, 4, &[(2, 0)], &[(2, 0, 3, 3)]),
+            (3, 4, &[(3, 0)], &[(3, 0, 3, 2)]),
+        ],
+        Wanted::Cycle(2),
+    ),
+    // a handler and a function between two cycles reach themselves by neither
+    (
+        &[
+            (NONE, 0, &[(0, 0)], &[(0, 0, CALL, 1)]),
+            (CALL, 8, &[(1, 0)], &[(1, 0, CALL, 1), (1, 0, 2, 2)]),
+            (2, 2, &[(2, 0)], &[(2, 0, CALL, 3)]),
+            (CALL, 3, &[(3, 0)], &[(3, 0, CALL, 4)]),
+            (CALL, 7, &[(4, 0)], &[(4, 0, CALL, 5)]),
+            (CALL, 6, &[(5, 0)], &[(5, 0, CALL, 4)]),
+        ],
+        Wanted::Cycle(5),
+    ),
+    // two cycles with an instance in common, of which the later part was come to first
+    (
+        &[
+            (NONE, 0, &[(0, 0)], &[(0, 0, CALL, 3)]),
+            (CALL, 5, &[(1, 0)], &[(1, 0, CALL, 2)]),
+            (CALL, 6, &[(2, 0)], &[(2, 0, CALL, 3), (2, 0, CALL, 2)]),
+            (CALL, 9, &[(3, 0)], &[(3, 0, CALL, 4), (3, 0, CALL, 1)]),
+            (CALL, 8, &[(4, 0)], &[(4, 0, CALL, 3)]),
+        ],
+        Wanted::Cycle(1),
+    ),
+    // a chain whose numbers ascend, and one that an interrupt enters in its midst
+    (
+        &[
+            (NONE, 0, &[(0, 0)], &[(0, 0, CALL, 1)]),
+            (CALL, 5, &[(1, 1)], &[(1, 1, CALL, 2), (1, 1, 2, 4)]),
+            (CALL, 6, &[(2, 2)], &[(2, 2, CALL, 3)]),
+            (CALL, 7, &[(3, 3)], &[]),
+            (2, 2, &[(4, 1)], &[(4, 1, CALL, 2)]),
+        ],
+        Wanted::Least(
+            &[4, 3, 1, 0, 2],
+            &[15, 13, 7, 3, 10],
+            &[
+                (0, 0, 0, CALL),
+                (1, 1, 3, 2),
+                (4, 4, 6, CALL),
+                (2, 2, 10, CALL),
+                (3, 3, 15, NONE),
+            ],
+        ),
+    ),
+    // two calls of one function: the deeper place counts, and the chain goes by it
+    (
+        &[
+            (
+                NONE,
+                0,
+                &[(0, 1), (5, 2)],
+                &[(0, 1, CALL, 1), (5, 2, CALL, 1)],
+            ),
+            (CALL, 9, &[(7, 4), (6, 4)], &[]),
+        ],
+        Wanted::Least(&[1, 0], &[8, 4], &[(0, 5, 2, CALL), (1, 6, 8, NONE)]),
+    ),
+    // at one node, and as deep: a call before an interrupt, and of two calls that of the lesser target
+    (
+        &[
+            (
+                NONE,
+                0,
+                &[(0, 0)],
+                &[(0, 0, 2, 1), (0, 0, CALL, 2), (0, 0, CALL, 3)],
+            ),
+            (2, 2, &[(1, 0)], &[]),
+            (CALL, 9, &[(2, 0)], &[]),
+            (CALL, 7, &[(3, 0)], &[]),
+        ],
+        Wanted::Least(
+            &[1, 0, 0, 0],
+            &[2, 0, 0, 0],
+            &[(0, 0, 0, CALL), (3, 3, 2, NONE)],
+        ),
+    ),
+    // no instance; one that isn't there is entered; an offset too great, at a place and at an edge; no place
+    (&[], Wanted::Shapeless),
+    (
+        &[(NONE, 0, &[(0, 0)], &[(0, 0, CALL, 1)])],
+        Wanted::Shapeless,
+    ),
+    (&[(NONE, 0, &[(0, 2_049)], &[])], Wanted::Shapeless),
+    (
+        &[(NONE, 0, &[(0, 0)], &[(0, 2_049, CALL, 0)])],
+        Wanted::Shapeless,
+    ),
+    (&[(NONE, 0, &[], &[])], Wanted::Placeless),
+];
+
 #[test]
 fn worked_graphs(rt: HostRuntime) -> Result<(), AllocError> {
-    let rows: [(&[Inst], Wanted); 15] = [
-        // a root alone ends at its least deepest node
-        (
-            &[(NONE, 0, &[(0, 0), (4, 3), (2, 3), (1, 1)], &[])],
-            Wanted::Least(&[0], &[3], &[(0, 2, 3, NONE)]),
-        ),
-        // a call takes two bytes
-        (
-            &[
-                (NONE, 0, &[(0, 0)], &[(0, 1, CALL, 1)]),
-                (CALL, 9, &[(1, 0)], &[]),
-            ],
-            Wanted::Least(&[1, 0], &[3, 0], &[(0, 0, 1, CALL), (1, 1, 3, NONE)]),
-        ),
-        // vectors 2 and 3 at one place, each of whose handlers lets the other in: four bytes, and not two
-        (
-            &[
-                (NONE, 0, &[(0, 0)], &[(0, 0, 2, 1), (0, 0, 3, 2)]),
-                (2, 2, &[(1, 0)], &[(1, 0, 3, 4)]),
-                (3, 4, &[(2, 0)], &[(2, 0, 2, 3)]),
-                (2, 2, &[(3, 0)], &[]),
-                (3, 4, &[(4, 0)], &[]),
-            ],
-            Wanted::Least(
-                &[2, 1, 1, 0, 0],
-                &[4, 2, 2, 0, 0],
-                &[(0, 0, 0, 2), (1, 1, 2, 3), (4, 4, 4, NONE)],
-            ),
-        ),
-        // of two functions that call themselves, that of the lesser entry is named
-        (
-            &[
-                (NONE, 0, &[(0, 0)], &[(0, 0, CALL, 1), (0, 0, CALL, 2)]),
-                (CALL, 9, &[(1, 0)], &[(1, 0, CALL, 1)]),
-                (CALL, 7, &[(2, 0)], &[(2, 0, CALL, 2)]),
-            ],
-            Wanted::Cycle(2),
-        ),
-        // A handler that lets itself in is named, although a function of a lesser entry calls itself; and the least number of
-        // two that are of one vector. The root, which reaches both and no one reaches, is not named.
-        (
-            &[
-                (NONE, 0, &[(0, 0)], &[(0, 0, CALL, 1), (0, 0, 3, 2)]),
-                (CALL, 1, &[(1, 0)], &[(1, 0, CALL, 1)]),
-                (3, 4, &[(2, 0)], &[(2, 0, 3, 3)]),
-                (3, 4, &[(3, 0)], &[(3, 0, 3, 2)]),
-            ],
-            Wanted::Cycle(2),
-        ),
-        // a handler and a function between two cycles reach themselves by neither
-        (
-            &[
-                (NONE, 0, &[(0, 0)], &[(0, 0, CALL, 1)]),
-                (CALL, 8, &[(1, 0)], &[(1, 0, CALL, 1), (1, 0, 2, 2)]),
-                (2, 2, &[(2, 0)], &[(2, 0, CALL, 3)]),
-                (CALL, 3, &[(3, 0)], &[(3, 0, CALL, 4)]),
-                (CALL, 7, &[(4, 0)], &[(4, 0, CALL, 5)]),
-                (CALL, 6, &[(5, 0)], &[(5, 0, CALL, 4)]),
-            ],
-            Wanted::Cycle(5),
-        ),
-        // two cycles with an instance in common, of which the later part was come to first
-        (
-            &[
-                (NONE, 0, &[(0, 0)], &[(0, 0, CALL, 3)]),
-                (CALL, 5, &[(1, 0)], &[(1, 0, CALL, 2)]),
-                (CALL, 6, &[(2, 0)], &[(2, 0, CALL, 3), (2, 0, CALL, 2)]),
-                (CALL, 9, &[(3, 0)], &[(3, 0, CALL, 4), (3, 0, CALL, 1)]),
-                (CALL, 8, &[(4, 0)], &[(4, 0, CALL, 3)]),
-            ],
-            Wanted::Cycle(1),
-        ),
-        // a chain whose numbers ascend, and one that an interrupt enters in its midst
-        (
-            &[
-                (NONE, 0, &[(0, 0)], &[(0, 0, CALL, 1)]),
-                (CALL, 5, &[(1, 1)], &[(1, 1, CALL, 2), (1, 1, 2, 4)]),
-                (CALL, 6, &[(2, 2)], &[(2, 2, CALL, 3)]),
-                (CALL, 7, &[(3, 3)], &[]),
-                (2, 2, &[(4, 1)], &[(4, 1, CALL, 2)]),
-            ],
-            Wanted::Least(
-                &[4, 3, 1, 0, 2],
-                &[15, 13, 7, 3, 10],
-                &[
-                    (0, 0, 0, CALL),
-                    (1, 1, 3, 2),
-                    (4, 4, 6, CALL),
-                    (2, 2, 10, CALL),
-                    (3, 3, 15, NONE),
-                ],
-            ),
-        ),
-        // two calls of one function: the deeper place counts, and the chain goes by it
-        (
-            &[
-                (
-                    NONE,
-                    0,
-                    &[(0, 1), (5, 2)],
-                    &[(0, 1, CALL, 1), (5, 2, CALL, 1)],
-                ),
-                (CALL, 9, &[(7, 4), (6, 4)], &[]),
-            ],
-            Wanted::Least(&[1, 0], &[8, 4], &[(0, 5, 2, CALL), (1, 6, 8, NONE)]),
-        ),
-        // at one node, and as deep: a call before an interrupt, and of two calls that of the lesser target
-        (
-            &[
-                (
-                    NONE,
-                    0,
-                    &[(0, 0)],
-                    &[(0, 0, 2, 1), (0, 0, CALL, 2), (0, 0, CALL, 3)],
-                ),
-                (2, 2, &[(1, 0)], &[]),
-                (CALL, 9, &[(2, 0)], &[]),
-                (CALL, 7, &[(3, 0)], &[]),
-            ],
-            Wanted::Least(
-                &[1, 0, 0, 0],
-                &[2, 0, 0, 0],
-                &[(0, 0, 0, CALL), (3, 3, 2, NONE)],
-            ),
-        ),
-        // no instance; one that isn't there is entered; an offset too great, at a place and at an edge; no place
-        (&[], Wanted::Shapeless),
-        (
-            &[(NONE, 0, &[(0, 0)], &[(0, 0, CALL, 1)])],
-            Wanted::Shapeless,
-        ),
-        (&[(NONE, 0, &[(0, 2_049)], &[])], Wanted::Shapeless),
-        (
-            &[(NONE, 0, &[(0, 0)], &[(0, 2_049, CALL, 0)])],
-            Wanted::Shapeless,
-        ),
-        (&[(NONE, 0, &[], &[])], Wanted::Placeless),
-    ];
-    for (at, (instances, wanted)) in rows.iter().enumerate() {
-        assert!(rt; is_row(rt.alloc(), instances, wanted)?, "row {at}");
+    for (at, row) in ROWS.iter().enumerate() {
+        assert!(rt; is_row(rt.alloc(), row)?, "row {at}");
     }
     Ok(())
 }
