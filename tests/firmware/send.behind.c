@@ -22,3 +22,8 @@ int main(void)
     for (;;)
         send(&uart0, PINB);
 }
+ISR(BADISR_vect)
+{
+    for (;;)
+        ;
+}

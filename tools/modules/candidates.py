@@ -1,6 +1,7 @@
 """Where an indirect transfer may go: the functions whose address is taken somewhere, and the words of tables."""
 
 import copy
+import functools
 
 import opcodes
 from devices import VECTORS
@@ -85,15 +86,27 @@ def indirect(elf):
                 yield at
 
 
+@functools.lru_cache(maxsize=None)
+def entered(elf):
+    """For each function's first word those of the functions that it enters by calls and jumps that name them, itself where it calls itself."""
+    found = {}
+    for symbol in elf.code:
+        held = found.setdefault(symbol.address // 2, set())
+        for at, _ in opcodes.words_of(elf, symbol):
+            call, jump = opcodes.call_target(elf, at), opcodes.jump_target(elf, at)
+            other = elf.symbol_at(2 * (jump if call is None else call)) if call is not None or jump is not None else None
+            if other and (other.address != symbol.address or call == symbol.address // 2):
+                held.add(other.address // 2)
+    return found
+
+
 def reached(elf, word):
-    """The words at which functions begin that are entered from a function, at once or by others, by calls and jumps that name them; its own only if so."""
-    found, left = set(), [word]
+    """The first words of the functions that are entered from one, at once or by others; its own only where it is among them."""
+    graph, found = entered(elf), set()
+    left = list(graph.get(word, ()))
     while left:
-        symbol = elf.symbol_at(2 * left.pop())
-        for at, _ in opcodes.words_of(elf, symbol) if symbol else ():
-            for target in (opcodes.call_target(elf, at), opcodes.jump_target(elf, at)):
-                other = elf.symbol_at(2 * target) if target is not None else None
-                if other and (other.address != symbol.address or opcodes.call_target(elf, at) == symbol.address // 2) and other.address // 2 not in found:
-                    found.add(other.address // 2)
-                    left.append(other.address // 2)
+        at = left.pop()
+        if at not in found:
+            found.add(at)
+            left += graph.get(at, ())
     return found

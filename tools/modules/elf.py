@@ -51,7 +51,7 @@ class Elf:
     """`path` is the file's name, `flash` has 32,768 bytes (FF where nothing is placed), `code` the symbols of code by address, `all` the addresses of all names."""
 
     def __init__(self, path):
-        self.path, self.lines = path, None
+        self.path, self.lines, self.inlined = path, None, None
         with open(path, "rb") as file:
             self.data = file.read()
         if fault := what_else(self.data):

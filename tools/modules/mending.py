@@ -8,6 +8,7 @@ the vector of a `never` line is flagged there, and `premises` lists these places
 import os
 
 import candidates
+import opcodes
 from cures import REFUSAL
 from devices import VECTORS
 from lines import Lines
@@ -119,7 +120,7 @@ class Mending(Analysis):
             return True
         if number == "4" and self.add_frames():
             return True
-        return self.add_targets(candidates.indirect(self.elf)) or number == "2" and self.narrow()
+        return self.add_targets(candidates.indirect(self.elf)) or number == "2" and self.narrow() or number == "3" and self.add_proofs(word, text)
 
     def add_targets(self, sites):
         """A `jump` line with all that is known for each of these sites that has none."""
@@ -150,6 +151,25 @@ class Mending(Analysis):
 
     def add_free(self, site):
         return not self.lines.has(site, "prove") and self.lines.add(site, "free")
+
+    def add_proofs(self, vector, text):
+        """`prove` lines for the stores of a handler whose pointers the analysis knows then, where another answer comes of it than the refusal's text."""
+        symbol = self.elf.symbol_at(2 * (opcodes.jump_target(self.elf, vector) or 0))
+        sites = opcodes.sites(self.elf, symbol, opcodes.is_pointer_store) if symbol else []
+        sites = [it for it in sites if not any(self.lines.has(it, kind) for kind in ("store", "prove", "free"))]
+        proved, answer = self.lines.copy(), text
+        for site in sites:
+            proved.add(site, "prove")
+        for _ in sites:
+            answer = self.analyse(proved)[1].strip()
+            unknown = REFUSAL.match(answer)
+            if not unknown or unknown[1] != "8" or not proved.has(int(unknown[4], 16), "prove"):
+                break
+            proved.drop(int(unknown[4], 16), "prove")
+        if answer == text or not set(proved.items) - set(self.lines.items):
+            return False
+        self.lines = proved
+        return True
 
     def add_never(self):
         """A `never` line for each vector that leads to the compiler's default, which begins the program anew."""

@@ -68,7 +68,7 @@ def refuse(outcome, work):
         vector = cures.REFUSAL.match(work.refusal).group(3)
         outcome.places_of_refusal.append(f"{word:04X} " + (outcome.handler(int(vector)) if vector else outcome.place(word)))
     outcome.places_of_refusal += others(outcome, work, name, word)
-    outcome.cure_lines = lines_for(outcome, work)
+    outcome.cure_lines = lines_for(outcome, work, name)
 
 
 def tell_bound(outcome, program, certificate, words):

@@ -3,10 +3,9 @@
 import os
 
 import debug_lines
-import opcodes
 import sites
 from elf import CODE_END, SRAM
-from names import functions, shown
+from names import shown
 from spec import START_UP
 
 MOST_WORDS = 4  # word addresses that one entry prints
@@ -117,7 +116,7 @@ def words_of(elf, keep):
     """The words of which a line `keeps` speaks."""
     if keep.line is not None:
         return set(sites.words_of_line(elf, keep.name, keep.line))
-    return {word for symbol in functions(elf, keep.name) for word, _ in opcodes.words_of(elf, symbol)}
+    return sites.words_of(elf, keep.name)
 
 
 def is_of(elf, keep, place):

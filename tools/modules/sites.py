@@ -5,7 +5,8 @@ import re
 
 import debug_lines
 import opcodes
-from names import SpecFault, function, functions, named
+from inlined import copies
+from names import SpecFault, base, forms, function, functions, named, plain
 
 NEAR = 4  # how many instructions before a write of the stack pointer its byte is moved, at most
 AT_LINE = re.compile(r"(.+):(\d+)$")
@@ -13,8 +14,21 @@ SITES = {"jump": (opcodes.is_indirect, "indirect transfer")}
 STORES = opcodes.is_pointer_store, "pointer store"
 
 
-def all_of(elf, symbols, test):
-    return sorted({word for symbol in symbols for word in opcodes.sites(elf, symbol, test)})
+def copies_of(elf, name):
+    """The spans of byte addresses where a function's code stands within others, as the debug information tells."""
+    wanted = plain(name if "::" in name else name.rpartition(":")[2])
+    return [span for key, parts in copies(elf).items() if base(key) == wanted or wanted in forms(base(key)) for span in parts]
+
+
+def words_of(elf, name, test=lambda _: True):
+    """The words of the instructions of a function, its clones, and its code within others, for which a test holds."""
+    spans = copies_of(elf, name)
+    symbols = functions(elf, name) if not spans or any(named(elf, name)) else []
+    found = {word for symbol in symbols for word in opcodes.sites(elf, symbol, test)}
+    for begin, end in spans:
+        symbol = elf.symbol_at(begin)
+        found |= {word for word in opcodes.sites(elf, symbol, test) if begin <= 2 * word < end} if symbol else set()
+    return found
 
 
 def counted(count, what):
@@ -24,6 +38,8 @@ def counted(count, what):
 def numbered(elf, kind, name, number):
     """The word of the N-th site, counted from 1, of this kind in a function."""
     test, what = SITES.get(kind, STORES)
+    if copies_of(elf, name) and not any(named(elf, name)):
+        raise SpecFault(f"{name} stands within other functions alone: write `{name} *` in place of its number")
     found = opcodes.sites(elf, function(elf, name), test)
     if not number.isdecimal() or not 1 <= int(number) <= len(found):
         raise SpecFault(f"{name} has {counted(len(found), what)}, and no number {number}")
@@ -31,25 +47,26 @@ def numbered(elf, kind, name, number):
 
 
 def each(elf, kind, name):
-    """The words of all sites of this kind in a function and its clones."""
+    """The words of all sites of this kind in a function, its clones, and its code within others."""
     test, what = SITES.get(kind, STORES)
-    found = all_of(elf, functions(elf, name), test)
+    found = words_of(elf, name, test)
     if not found:
         raise SpecFault(f"{name} has no {what}")
-    return set(found)
+    return found
 
 
 def file_of(elf, name):
-    """The source file of a function or a file's own name; and the line where the function begins, where it tells one."""
+    """The source file of a function, or a file's own name."""
     own, clones = named(elf, name)
-    for symbol in [*own, *clones]:
-        if source := debug_lines.of(elf).source(symbol.address):
+    for address in [*(it.address for it in [*own, *clones]), *(begin for begin, _ in copies_of(elf, name))]:
+        if source := debug_lines.of(elf).source(address):
             return source[0]
     if own or clones:
         raise SpecFault(f"{name} has no line numbers: build it with -g, or write its name and *")
     if os.path.splitext(name)[1]:
         return name
-    functions(elf, name)
+    functions(elf, name)  # which tells near names
+    return name
 
 
 def words_of_line(elf, name, line):
@@ -89,7 +106,7 @@ def frames(elf, name):
         found = {word for symbol in elf.code for word in frames_of(elf, symbol)}
         what = "the firmware has no frame that is given back by `add` and `adc`, or moved by its high byte alone"
     else:
-        found = set(all_of(elf, functions(elf, name), opcodes.is_frame_site))
+        found = words_of(elf, name, opcodes.is_frame_site)
         what = f"{name} has no `add`, `adc`, `sub`, `subi`, `inc` or `dec`"
     if not found:
         raise SpecFault(what)

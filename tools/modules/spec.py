@@ -3,7 +3,7 @@
 import opcodes
 import sites
 from devices import REGISTERS, VECTORS
-from names import SpecFault, functions
+from names import SpecFault
 from sites import AT_LINE, SITES, STORES  # noqa: F401, for those who look for sites too
 from targets import constructors, tables, targets  # noqa: F401, for the table of cures
 
@@ -121,7 +121,7 @@ def read_keep(elf, number, words, why):
     if line is not None:
         sites.file_of(elf, name)
     elif name != START_UP and name not in VECTORS.values():
-        functions(elf, name)
+        sites.words_of(elf, name)
     return Keep(number, name, int(line) if line else None, why)
 
 

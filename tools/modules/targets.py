@@ -77,9 +77,7 @@ def words_in_data(elf):
             data = elf.data[offset:offset + size]
             yield from (struct.unpack_from("<H", data, at)[0] for at in range(len(data) - 1))
     code = min((it.address for it in elf.code if it.is_function or it.name == "__init"), default=0)
-    begin = next((it.end() for it in elf.code if it.name == "__vectors" and it.size), 0)
-    tables = sorted(at for name, at in elf.all.items() if 0 < at < CODE_END and name in ("__trampolines_end", "__ctors_start"))
-    for at in range(max(begin, 2), min([*tables, code]) if code else 0):
+    for at in range(elf.all.get("__trampolines_start", 2), elf.all.get("__ctors_start", code)):
         yield struct.unpack_from("<H", elf.flash, at)[0]
 
 

@@ -7,6 +7,7 @@ from lines import Lines, spec_line
 from targets import constructors, tables
 
 MOST_OTHERS = 8  # vectors that are tried behind the first that lets itself in
+BY_LINES = ("tables", "constructors", "pointer", "stream", "prologues", "high byte", "unhandled", "joined", "array", "copy")  # causes that lines cure
 
 
 class Written:
@@ -75,11 +76,11 @@ def flagged(outcome, work):
     return told + f"admitted by: {line_of_spec(outcome, line, stop.word, kind) or line.line(stop.word, kind)}"
 
 
-def lines_for(outcome, work):
-    """The lines of a spec that this tool would write for a refusal, with all candidates."""
+def lines_for(outcome, work, name):
+    """The lines of a spec that this tool would write for a refusal of this cause, with all candidates."""
     more = work.copy()
     more.lines.given = set(more.lines.items)
-    if not more.at_refusal(work.refusal):
+    if name not in BY_LINES or not more.at_refusal(work.refusal):
         return []
     return [it.spec or it.words for it in written(outcome, more.lines)]
 

@@ -14,7 +14,7 @@ FLAGGED = ("live", "protected", "transfer")
 BYTES = (0x00, 0xFF, 0x55, 0xAA, 0x01, 0x20)
 LONG = 60_000  # steps of a run
 MOST_TAKES = 40
-SECONDS, LEAST = 0.5, 4  # how long the runs behind a bound go on, and how many there are in any case
+SECONDS, LEAST, MOST = 0.5, 4, 12  # how long the runs behind a bound go on, and how many there are at least and at most
 DEVICE_LINES = 32
 PERIODS = ((0, 23), (50, 997), (1000, 9973))  # the first step at which a timer asks, and how many steps lie between two times
 
@@ -123,7 +123,7 @@ class Trials:
     def first_flagged(self, count=None, begin=0):
         """The number and the stop of the first of these runs that is flagged, from a number on: `count` of them, else as many as fit in the time."""
         number, end = begin, time.monotonic() + SECONDS
-        while number < count if count is not None else number < LEAST or time.monotonic() < end and number < len(BYTES) * len(PERIODS):
+        while number < count if count is not None else number < LEAST or time.monotonic() < end and number < MOST:
             if stop := self.short(number):
                 return number, stop
             number += 1
