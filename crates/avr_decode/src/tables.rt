@@ -1,6 +1,6 @@
 //! Sites where an index is added to a table's address and an `ijmp` follows.
 
-ghost use Rattle.std.specs.Prelude.{◌≡◌, ◌<◌, ◌≤◌};
+ghost use Rattle.std.specs.Prelude.{◌≡◌, ◌<◌, ◌≤◌, ◌+◌, ◌&&◌};
 ghost use Rattle.avr_model.specs.Devices.{IsFlash};
 ghost use Rattle.avr_model.specs.Image.{WORDS};
 ghost use Rattle.avr_model.specs.Sites.{adds_low, adds_high, is_some_that, instruction_at, is_ijmp, onward, ijmp_from, table_site};
@@ -15,33 +15,38 @@ use avr_model::instruction::{ImmediateOp, Instr};
 /// How many instructions lead from behind the sum to the `ijmp` at most, itself counted.
 const MOST: u8 = 16;
 
-// `subi` of r30 at word `a`, which adds to the low byte of Z.
-fn adds_low(words: &[u16], a: usize) -> bool
-    requires flash { IsFlash words.now }
-    requires room { a < 131072 }
-    ensures { result ≡ is_some_that adds_low (instruction_at words.now a) }
+/// `subi` of r30, which adds to the low byte of Z.
+pub fn adds_low(instr: &Instr) -> bool
+    ensures { result ≡ adds_low instr.now }
 {
-    match instruction(words, a) {
-        Some(instr) => match &instr {
-            Instr::Immediate(ImmediateOp::Subi, register, _) => register.get() == 30,
-            _ => false,
-        },
-        None => false,
+    match instr {
+        Instr::Immediate(ImmediateOp::Subi, register, _) => register.get() == 30,
+        _ => false,
     }
 }
 
-// `sbci` of r31 at word `a`, which adds to its high byte.
-fn adds_high(words: &[u16], a: usize) -> bool
-    requires flash { IsFlash words.now }
-    requires room { a < 131072 }
-    ensures { result ≡ is_some_that adds_high (instruction_at words.now a) }
+// `sbci` of r31, which adds to its high byte.
+fn adds_high(instr: &Instr) -> bool
+    ensures { result ≡ adds_high instr.now }
 {
-    match instruction(words, a) {
-        Some(instr) => match &instr {
-            Instr::Immediate(ImmediateOp::Sbci, register, _) => register.get() == 31,
-            _ => false,
+    match instr {
+        Instr::Immediate(ImmediateOp::Sbci, register, _) => register.get() == 31,
+        _ => false,
+    }
+}
+
+// Whether an index is added to a table's address by word `at` and the next one.
+fn adds(words: &[u16], at: usize) -> bool
+    requires flash { IsFlash words.now }
+    requires room { at < 65536 }
+    ensures { result ≡ (is_some_that adds_low (instruction_at words.now at) && is_some_that adds_high (instruction_at words.now (at + 1))) }
+{
+    match &instruction(words, at) {
+        Some(instr) if adds_low(instr) => match &instruction(words, at + 1) {
+            Some(next) => adds_high(next),
+            None => false,
         },
-        None => false,
+        _ => false,
     }
 }
 
@@ -96,7 +101,7 @@ pub fn table_site(words: &[u16], a: u16) -> Option<u16>
     ensures { result ≡ table_site words.now a }
 {
     let at = usize::from(a);
-    if adds_low(words, at) && adds_high(words, at + 1) {
+    if adds(words, at) {
         let from = Device::of_words(words).wrap(a % WORDS + 2);
         ijmp_from(words, MOST, from)
     } else {

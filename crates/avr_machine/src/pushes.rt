@@ -15,7 +15,6 @@ use crate::pieces::{set, way_back};
 use crate::processor::Processor;
 use crate::transfers::Z;
 use avr_alu::Sreg;
-use avr_decode::is_scratch;
 use avr_model::choice::StepResult;
 use avr_model::device::{Device, WORDS};
 use avr_model::effect::Write;
@@ -72,7 +71,7 @@ impl Processor {
         match flag_by(self.pc, live, None, transfer) {
             Some(flag) => StepResult::Flagged(flag),
             None => {
-                let guarded = !is_scratch(flash.words(), self.pc);
+                let guarded = !flash.is_scratch(self.pc);
                 self.push_bytes(pushes, guarded, sp, target);
                 StepResult::Done
             }

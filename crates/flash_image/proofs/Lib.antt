@@ -5,3 +5,4 @@ pub mod Least
 pub mod Rows
 mod RawWords
 mod Behind
+pub mod Said

@@ -6,6 +6,7 @@ ghost use Rattle.avr_model.specs.Devices.{words_of, device_of, IsFlash};
 ghost use Rattle.avr_model.specs.Image.{word_at, byte_at, IsRawImage, IsNarrowed, IsOutside, AreErased, FLASH_BYTES};
 ghost use Rattle.flash_image.specs.Placing.{placed};
 
+use avr_decode::Reading;
 use avr_model::device::{Device, WORDS};
 use std::alloc::{AllocError, Global};
 use std::marker::Model;
@@ -16,18 +17,21 @@ use thiserror::Error;
 #[derive(Drop)]
 pub struct Flash {
     device: Device,
-    words: Vec<u16>,
+    pub(crate) words: Vec<u16>,
+    // What the first words say, where that was worked out.
+    pub(crate) readings: Vec<Reading>,
 }
 
 impl Model for Flash {
     ghost use Rattle.std.specs.Prelude.{◌≡◌, ℕ, List};
     ghost use Rattle.avr_model.specs.Devices.{device_of, IsFlash};
+    ghost use Rattle.avr_decode.specs.Reading.{AreReadings};
 
     ghost Value = { List ℕ };
 
     ghost view = { λ f. f.words.items };
 
-    ghost invariant = { λ f. IsFlash f.words.items × (f.device ≡ device_of f.words.items) };
+    ghost invariant = { λ f. IsFlash f.words.items × (f.device ≡ device_of f.words.items) × AreReadings f.words.items f.readings.items };
 }
 
 /// Why a file is no raw image, or that there was no memory for it.
@@ -58,6 +62,7 @@ impl Flash {
         Ok(Flash {
             device: Device::M328,
             words,
+            readings: Vec::new(alloc),
         })
     }
 
@@ -115,6 +120,7 @@ impl Flash {
         if let Some(word) = self.first_outside(device) {
             return Err(Outside(word));
         }
+        self.readings.clear();
         self.words.truncate(usize::from(device.words()));
         self.device = device;
         Ok(self)
@@ -156,25 +162,36 @@ impl Flash {
         ensures device { device_of self.new ≡ M328 }
         ensures bytes { (z : ℕ) → z < FLASH_BYTES → byte_at self.new z ≡ placed at bytes.now self.old z }
     {
-        let _ = &self.words;
-        for (i, byte) in bytes.iter().enumerate() {
-            self.set_byte(at as usize + i, *byte);
-        }
+        self.readings.clear();
+        put_bytes(&mut self.words, usize::from(at), bytes);
     }
+}
 
-    /// Changes the byte at `z` alone.
-    fn set_byte(&mut self, z: usize, byte: u8)
-        requires device { length self.old ≡ WORDS }
-        requires fits { z < FLASH_BYTES }
-        ensures count { length self.new ≡ WORDS }
-        ensures there { byte_at self.new z ≡ byte }
-        ensures elsewhere { (k : ℕ) → k ≢ z → byte_at self.new k ≡ byte_at self.old k }
-    {
-        let word = self.words[z / 2];
-        self.words[z / 2] = if z % 2 == 0 {
-            word / 256 * 256 + byte as u16
-        } else {
-            byte as u16 * 256 + word % 256
-        };
+/// Puts bytes at the byte addresses from `at` on; every other byte stays as it was.
+fn put_bytes(words: &mut Vec<u16>, at: usize, bytes: &[u8])
+    requires size { length words.old.items ≡ WORDS }
+    requires fits { at + length bytes.now ≤ FLASH_BYTES }
+    ensures count { length words.new.items ≡ WORDS }
+    ensures bytes { (z : ℕ) → z < FLASH_BYTES → byte_at words.new.items z ≡ placed at bytes.now words.old.items z }
+{
+    let _ = &*words;
+    for (i, byte) in bytes.iter().enumerate() {
+        set_byte(words, at + i, *byte);
     }
+}
+
+/// Changes the byte at `z` alone.
+fn set_byte(words: &mut Vec<u16>, z: usize, byte: u8)
+    requires size { length words.old.items ≡ WORDS }
+    requires fits { z < FLASH_BYTES }
+    ensures count { length words.new.items ≡ WORDS }
+    ensures there { byte_at words.new.items z ≡ byte }
+    ensures elsewhere { (k : ℕ) → k ≢ z → byte_at words.new.items k ≡ byte_at words.old.items k }
+{
+    let word = words[z / 2];
+    words[z / 2] = if z % 2 == 0 {
+        word / 256 * 256 + byte as u16
+    } else {
+        byte as u16 * 256 + word % 256
+    };
 }

@@ -1,0 +1,2 @@
+-- What crates above may use.
+pub use Rattle.avr_decode.proofs.Readings.{none_read}

@@ -1,0 +1,10 @@
+use Rattle.std.proofs.Common.{◌≡◌, length}
+use Rattle.avr_decode.specs.Reading.{AreReadings}
+use Rattle.avr_decode.proofs.reading.Reading.all.Given as goal
+
+-- the words so far are read
+abbrev pub invariant-loop-a : goal.invariant-loop-a
+invariant-loop-a l = record {
+  count : length l.readings.items ≡ l.a;
+  read : AreReadings l.words l.readings.items;
+}

@@ -1,0 +1,64 @@
+//! What the words of flash say, each of which is decoded once.
+
+ghost use Rattle.std.specs.Prelude.{◌≡◌};
+ghost use Rattle.avr_model.specs.Sites.{instruction_at, is_fixed, is_scratch, table_site};
+
+use crate::image::Flash;
+use avr_decode::{Reading, adds_low};
+use avr_model::instruction::Instr;
+use std::alloc::Global;
+
+impl Flash {
+    /// Works out what the words say, so that none is decoded at each look. Without memory for that (12 bytes a word), each is
+    /// decoded as it is asked for.
+    pub fn decode(&mut self, alloc: Global)
+        ensures { self.new ≡ self.old }
+    {
+        if let Ok(readings) = Reading::all(alloc, &self.words) {
+            self.readings = readings;
+        }
+    }
+
+    /// The instruction at word `a`, which counts modulo the number of words; none where the word is undefined.
+    #[inline(always)]
+    pub fn instruction(&self, a: u16) -> Option<Instr>
+        ensures { result ≡ instruction_at self.now a }
+    {
+        match self.readings.get(usize::from(a)) {
+            Some(reading) => reading.instruction,
+            None => avr_decode::instruction(&self.words, usize::from(a)),
+        }
+    }
+
+    /// Whether word `a` is a store whose pointer is sure to be loaded just before.
+    pub fn is_fixed(&self, a: u16) -> bool
+        ensures { result ≡ is_fixed self.now a }
+    {
+        match self.readings.get(usize::from(a)) {
+            Some(reading) => reading.is_fixed,
+            None => avr_decode::is_fixed(&self.words, a),
+        }
+    }
+
+    /// Whether a push at word `a` makes room for a compiler's small frame.
+    #[inline(always)]
+    pub fn is_scratch(&self, a: u16) -> bool
+        ensures { result ≡ is_scratch self.now a }
+    {
+        match self.readings.get(usize::from(a)) {
+            Some(reading) => reading.is_scratch,
+            None => avr_decode::is_scratch(&self.words, a),
+        }
+    }
+
+    /// The word of the `ijmp` of the table site that begins at word `a`; none where none does.
+    #[tactic(auto, unfolding(avr_model::specs::Sites::table_site))]
+    pub fn table_site(&self, a: u16) -> Option<u16>
+        ensures { result ≡ table_site self.now a }
+    {
+        match &self.instruction(a) {
+            Some(instr) if adds_low(instr) => avr_decode::table_site(&self.words, a),
+            _ => None,
+        }
+    }
+}
