@@ -11,3 +11,5 @@ pub mod Sorted
 pub mod Parts
 pub mod One
 pub mod AnswerLaws
+pub mod Closed
+pub mod CloseLaws
