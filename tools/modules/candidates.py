@@ -78,11 +78,11 @@ def targets(elf, device, site):
 
 
 def indirect(elf):
-    """The words of all calls and jumps through a pointer but those of `__tablejump2__` and of tables in their own function."""
+    """The words of all calls and jumps through a pointer but those of the compiler's own helpers and of tables in their own function."""
     for words in code(elf):
         for at, opcode in words:
             symbol = elf.symbol_at(2 * at) if opcodes.is_indirect(opcode) else None
-            if opcodes.is_indirect(opcode) and not (symbol and symbol.name == "__tablejump2__") and not table_of_jumps(elf, at):
+            if opcodes.is_indirect(opcode) and not (symbol and symbol.name.startswith("__")) and not table_of_jumps(elf, at):
                 yield at
 
 

@@ -128,7 +128,7 @@ def of_recursion(elf, device, word):
     """A function that calls itself by its name, and whose address is taken, is most likely the put function of a stream."""
     symbol = elf.symbol_at(2 * word)
     calls = [at for at, _ in opcodes.words_of(elf, symbol) if opcodes.call_target(elf, at) == word] if symbol else []
-    return "put" if calls and elf.named("fputc") and word in candidates.addressed(elf, device) else "recursion"
+    return "put" if calls and any(elf.named(it) for it in STDIO) and word in candidates.addressed(elf, device) else "recursion"
 
 
 def of_re_entry(elf, word):

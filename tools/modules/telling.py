@@ -37,7 +37,7 @@ def written(outcome, lines):
     """The lines that weren't given: the `frame` lines as one."""
     frames = [site for site, kind in lines.written() if kind == "frame"]
     if frames:
-        yield Written("frame @frames", "", f"at {len(frames)} places; no bound rests on it")
+        yield Written("frame @frames", ", ".join(lines.line(it, "frame") for it in frames), f"at {len(frames)} places; no bound rests on it")
     for site, kind in lines.written():
         if kind != "frame":
             place = outcome.place_of_line(kind, site)
