@@ -156,4 +156,4 @@ def told(outcome):
     if judged:
         yield f"judged by the spec: {len(judged)}"
         yield from (f"{it}; {it.judged.why}" for it in judged)
-    yield from (f"line {it.number} of the spec judges no place: keeps {it.name}{'' if it.line is None else f':{it.line}'}" for it in outcome.idle_keeps)
+    yield from (f"line {it.number} of the spec judges no place: keeps {it.name}{it.end()}" for it in outcome.idle_keeps)

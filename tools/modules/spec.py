@@ -28,6 +28,10 @@ class Keep:
     def __init__(self, number, name, line, why):
         self.number, self.name, self.line, self.why = number, name, line, why
 
+    def end(self):
+        """What stands behind the name."""
+        return "" if self.name == START_UP else " *" if self.line is None else f":{self.line}"
+
 
 def register(word):
     """The data address of a protected register, by its name in avr-libc, r0 to r31, or 0x and digits."""
