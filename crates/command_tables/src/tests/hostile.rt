@@ -1,7 +1,6 @@
 //! Files and objects that fail or are damaged, each in one place: what is printed, and the status.
 
-use sb_base::{MemFiles, MemSink};
-use stack_core::stackbound;
+use crate::tests::answers::{Row, is_row, text_of};
 use std::alloc::{AllocError, Global};
 use std::test::Fail;
 
@@ -105,7 +104,7 @@ const UNREAD_SCHEDULE: Case = Case {
     ..SOUND
 };
 
-const CASES: [Case; 21] = [
+static CASES: [Case; 21] = [
     SOUND,
     SOUND_ELF,
     Case {
@@ -236,10 +235,7 @@ fn firmware_of(alloc: Global, case: &Case) -> Result<Vec<u8>, AllocError> {
 
 /// The bytes of the second file.
 fn second_of(alloc: Global, case: &Case) -> Result<Vec<u8>, AllocError> {
-    let mut bytes = Vec::new(alloc);
-    for piece in case.second {
-        bytes.extend_from_slice(piece.as_bytes())?;
-    }
+    let mut bytes = text_of(alloc, case.second)?;
     bytes.truncate(case.second_end);
     Ok(bytes)
 }
@@ -258,19 +254,18 @@ fn is_answered(alloc: Global, case: &Case) -> Result<bool, AllocError> {
     let firmware = firmware_of(alloc, case)?;
     let second = second_of(alloc, case)?;
     let list = list_of(alloc, case.lines)?;
-    let mut files = MemFiles::new(alloc);
-    files.add("FW", firmware.as_slice())?;
-    files.add("SECOND", second.as_slice())?;
-    files.add("LIST", list.as_bytes())?;
-    if let Some(call) = case.failing_read {
-        files.fail(call)?;
-    }
-    let mut out = MemSink::new(alloc);
-    if case.takes_nothing {
-        out.short(0, 0)?;
-    }
-    let status = stackbound(alloc, case.words, &mut files, &mut out);
-    Ok(status == case.status && out.written() == case.printed.as_bytes())
+    let row = Row {
+        words: case.words,
+        firmware: &firmware,
+        second: &second,
+        list: list.as_bytes(),
+        failing_read: case.failing_read,
+        failing_put: None,
+        short_puts: (u32::from(case.takes_nothing), 0),
+        status: case.status,
+        printed: case.printed,
+    };
+    is_row(alloc, &row)
 }
 
 #[test]
