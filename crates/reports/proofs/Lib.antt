@@ -1,4 +1,5 @@
 pub mod Lines
 mod Plain
+mod Texts
 mod SameReports
 pub mod AllLaws

@@ -16,7 +16,7 @@ use Rattle.reports.specs.Report.{witness_line, static_line, heading}
 
 -- ---- texts one behind the other
 
-texts_next : {A : Type 0} (f : A → List ℕ) (xs : List A) (i : ℕ) (x : A) → i < length xs → flat_map f (take (i + 1) xs) ≡ flat_map f (take i xs) ++ f (get_or xs i x)
+pub texts_next : {A : Type 0} (f : A → List ℕ) (xs : List A) (i : ℕ) (x : A) → i < length xs → flat_map f (take (i + 1) xs) ≡ flat_map f (take i xs) ++ f (get_or xs i x)
 texts_next {A} f xs i x lt =
     ap (flat_map f) (take_more xs i x lt)
     ∙ flat_map-append f (take i xs) (get_or xs i x ∷ [])

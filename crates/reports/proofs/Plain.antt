@@ -25,7 +25,7 @@ static_plain : (o : Option ℕ) → has_float (static_data o) ≡ false
 static_plain None = refl
 static_plain (Some end) = refl
 
-witness_plain : (o : Option Plan) → has_float (witness_data o) ≡ false
+pub witness_plain : (o : Option Plan) → has_float (witness_data o) ≡ false
 witness_plain None = refl
 witness_plain (Some plan) = refl
 

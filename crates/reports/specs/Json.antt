@@ -1,5 +1,6 @@
 -- What a report of a certificate tells, as one JSON object. Source: own; JSON is RFC 8259.
 use Rattle.std.specs.Prelude.{ℕ, List, [], ◌∷◌, ◌++◌, map, codes, Option, Some, None, if◌then◌else◌}
+use Rattle.std.specs.List.{flat_map}
 use Rattle.std.specs.Str.Lossy.{utf8_lossy}
 use Rattle.serde_json.specs.Data.{Data, null, number, unsigned, string, array, object, member, no_members}
 use Rattle.serde_json.specs.View.{items_of}
@@ -53,6 +54,15 @@ inst_data names x = object
 
 abbrev pub insts_data : List Named → List Inst → Data
 insts_data names insts = array (items_of (map (inst_data names) insts))
+
+-- the texts of instances behind another, with a comma before each
+abbrev pub others_text : List Named → List Inst → List ℕ
+others_text names insts = flat_map (λ x. 44 ∷ compact_text (inst_data names x)) insts
+
+-- the texts of instances, divided by commas
+abbrev pub insts_text : List Named → List Inst → List ℕ
+insts_text names [] = []
+insts_text names (x ∷ xs) = compact_text (inst_data names x) ++ others_text names xs
 
 -- A report of a certificate for a device: names are those of words of flash, and static data ends at this data address. Keys ascend.
 abbrev pub report_data : Device → Claim → List Named → Option ℕ → Data

@@ -1,12 +1,12 @@
 //! The report as JSON.
 
-ghost use Rattle.std.specs.Prelude.{◌≡◌, ◌++◌, IfOk, codes, decimal, string_bytes};
+ghost use Rattle.std.specs.Prelude.{◌≡◌, ◌++◌, IfOk, OnOk, codes, decimal, false, string_bytes};
 ghost use Rattle.serde_json.specs.Data.{string};
 ghost use Rattle.serde_json.specs.View.{view};
-ghost use Rattle.serde_json.specs.Written.{compact_text};
+ghost use Rattle.serde_json.specs.Written.{compact_text, has_float};
 ghost use Rattle.flash_image.specs.Naming.{least_name};
 ghost use Rattle.cert_words.specs.KeySpelling.{kind_word};
-ghost use Rattle.reports.specs.Json.{fits_data, room_data, static_data, witness_data, name_data, inst_data, insts_data, report_data, json_text};
+ghost use Rattle.reports.specs.Json.{fits_data, room_data, static_data, witness_data, name_data, inst_data, insts_text, json_text};
 
 use crate::room::{fits_word, room};
 use avr_model::device::Device;
@@ -112,52 +112,52 @@ fn inst_value(alloc: Global, names: &Names, inst: &Inst) -> Result<Value, AllocE
     json!(in alloc; {"enables": enables, "entry": entry, "i": i, "kind": kind, "name": name, "need": need})
 }
 
-/// The instances.
-fn insts_value(alloc: Global, names: &Names, insts: &[Inst]) -> Result<Value, AllocError>
-    ensures { IfOk result (λ v. view v ≡ insts_data names.now insts.now) }
+/// Writes what stands before a value, and the value.
+fn put(out: &mut Vec<u8>, alloc: Global, before: &[u8], value: &Value) -> Result<(), AllocError>
+    requires { has_float (view value.now) ≡ false }
+    ensures { OnOk result (out.new.items ≡ out.old.items ++ (before.now ++ compact_text (view value.now))) }
 {
-    let mut items = Vec::new(alloc);
-    for inst in insts {
-        items.push(inst_value(alloc, names, inst)?)?;
+    let text = value.to_string(alloc)?;
+    out.extend_from_slice(before)?;
+    out.extend_from_slice(text.as_bytes())?;
+    Ok(())
+}
+
+/// Writes an instance, whose value is dropped before the next is made.
+fn put_inst(
+    out: &mut Vec<u8>,
+    alloc: Global,
+    before: &[u8],
+    names: &Names,
+    inst: &Inst,
+) -> Result<(), AllocError>
+    ensures { OnOk result (out.new.items ≡ out.old.items ++ (before.now ++ compact_text (inst_data names.now inst.now))) }
+{
+    let value = inst_value(alloc, names, inst)?;
+    put(out, alloc, before, &value)
+}
+
+/// Writes the instances, divided by commas.
+fn put_insts(
+    out: &mut Vec<u8>,
+    alloc: Global,
+    names: &Names,
+    insts: &[Inst],
+) -> Result<(), AllocError>
+    ensures { OnOk result (out.new.items ≡ out.old.items ++ insts_text names.now insts.now) }
+{
+    let Some((first, others)) = insts.split_first() else {
+        return Ok(());
+    };
+    put_inst(out, alloc, b"", names, first)?;
+    for inst in others {
+        put_inst(out, alloc, b",", names, inst)?;
     }
-    Ok(Value::Array(items))
-}
-
-/// The report as a value.
-fn report_value(
-    alloc: Global,
-    device: Device,
-    certificate: &Certificate,
-    names: &Names,
-    static_end: Option<u16>,
-) -> Result<Value, AllocError>
-    ensures { IfOk result (λ v. view v ≡ report_data device certificate.now names.now static_end) }
-{
-    let bound = certificate.bound();
-    let fits = fits_value(alloc, device, bound, static_end)?;
-    let instances = insts_value(alloc, names, certificate.instances())?;
-    let room = room_value(device, static_end);
-    let end = static_value(static_end);
-    let witness = witness_value(alloc, certificate)?;
-    json!(in alloc; {"bound": bound, "fits": fits, "instances": instances, "room": room, "static": end, "witness": witness})
-}
-
-/// The text of a report's value.
-fn value_text(
-    alloc: Global,
-    device: Device,
-    certificate: &Certificate,
-    names: &Names,
-    static_end: Option<u16>,
-) -> Result<String, AllocError>
-    ensures { IfOk result (λ s. string_bytes s ≡ compact_text (report_data device certificate.now names.now static_end)) }
-{
-    let value = report_value(alloc, device, certificate, names, static_end)?;
-    value.to_string(alloc)
+    Ok(())
 }
 
 /// The report of a certificate as one JSON object without spaces, and a line feed. It tells what the lines tell; what isn't there
-/// is null.
+/// is null. Each part is written before the next is made, so that it takes little more memory than its text.
 pub fn report_json(
     alloc: Global,
     device: Device,
@@ -167,7 +167,22 @@ pub fn report_json(
 ) -> Result<Vec<u8>, AllocError>
     ensures { IfOk result (λ v. v.items ≡ json_text device certificate.now names.now static_end) }
 {
-    let mut text = value_text(alloc, device, certificate, names, static_end)?.into_bytes();
-    text.push(b'\n')?;
-    Ok(text)
+    let bound = certificate.bound();
+    let fits = fits_value(alloc, device, bound, static_end)?;
+    let witness = witness_value(alloc, certificate)?;
+    let mut out = Vec::new(alloc);
+    put(&mut out, alloc, b"{\"bound\":", &Value::from(bound))?;
+    put(&mut out, alloc, b",\"fits\":", &fits)?;
+    out.extend_from_slice(b",\"instances\":[")?;
+    put_insts(&mut out, alloc, names, certificate.instances())?;
+    put(
+        &mut out,
+        alloc,
+        b"],\"room\":",
+        &room_value(device, static_end),
+    )?;
+    put(&mut out, alloc, b",\"static\":", &static_value(static_end))?;
+    put(&mut out, alloc, b",\"witness\":", &witness)?;
+    out.extend_from_slice(b"}\n")?;
+    Ok(out)
 }
