@@ -1,7 +1,8 @@
 //! What is told of the words at which a step may be flagged.
 
-ghost use Rattle.std.specs.Prelude.{◌≡◌, IfOk, OnOk, MatchOption, Some, None, false};
+ghost use Rattle.std.specs.Prelude.{◌≡◌, ◌≤◌, IfOk, OnOk, false};
 ghost use Rattle.std.specs.List.{flat_map};
+ghost use Rattle.flash_image.specs.Naming.{least_name};
 ghost use Rattle.sb_base.specs.Writing.{with_word, with_words, with_end};
 ghost use Rattle.line_reading.specs.Appending.{with_text};
 ghost use Rattle.reports.specs.Report.{name_word};
@@ -47,25 +48,53 @@ pub fn unclear_text(alloc: Global, flash: &Flash, node: u32, pc: u16) -> Result<
     Ok(line.finish())
 }
 
-/// The name of the greatest word that has one, of this word and those before it.
-fn name_up_to(names: &Names, pc: u16) -> Option<&[u8]>
-    ensures { MatchOption result (name_up_to names.now pc ≡ None) (λ name. name_up_to names.now pc ≡ Some name.now) }
+/// A word, and the word whose name it stands under: the greatest that has one, of this word and those before it, or 0.
+#[derive(Clone, Copy)]
+struct Reached {
+    pc: u16,
+    named: u16,
+}
+
+/// Where to look from for the name of a word: from the last word, unless that is behind it.
+#[tactic(auto, using(crate::proofs::Sites::up_first))]
+fn before(names: &Names, last: Reached, pc: u16) -> Reached
+    requires { least_name names.now last.named ≡ name_up_to names.now last.pc }
+    ensures low { result.pc ≤ pc }
+    ensures named { least_name names.now result.named ≡ name_up_to names.now result.pc }
 {
+    if last.pc <= pc {
+        last
+    } else {
+        Reached { pc: 0, named: 0 }
+    }
+}
+
+/// Goes on from the last word to another. It looks at the words between them alone, so that all places together cost what flash has words.
+#[tactic(auto, using(crate::proofs::Sites::up_there))]
+fn reach(names: &Names, last: Reached, pc: u16) -> Reached
+    requires { least_name names.now last.named ≡ name_up_to names.now last.pc }
+    ensures pc { result.pc ≡ pc }
+    ensures named { least_name names.now result.named ≡ name_up_to names.now pc }
+{
+    let from = before(names, last, pc);
     let mut at = pc;
-    while at > 0 {
-        if let Some(name) = names.at(at) {
-            return Some(name);
+    while at > from.pc {
+        if let Some(_name) = names.at(at) {
+            return Reached { pc, named: at };
         }
         at -= 1;
     }
-    names.at(0)
+    Reached {
+        pc,
+        named: from.named,
+    }
 }
 
-/// Writes this name, or a hyphen where there is none.
-fn write_name(out: &mut LineWriter, names: &Names, pc: u16) -> Result<(), AllocError>
-    ensures { OnOk result (out.new ≡ with_word out.old (name_word (name_up_to names.now pc))) }
+/// Writes the name of a word, or a hyphen where it has none.
+fn write_name(out: &mut LineWriter, names: &Names, word: u16) -> Result<(), AllocError>
+    ensures { OnOk result (out.new ≡ with_word out.old (name_word (least_name names.now word))) }
 {
-    match name_up_to(names, pc) {
+    match names.at(word) {
         Some(name) => out.word(name),
         None => out.word(b"-"),
     }
@@ -77,17 +106,18 @@ fn write_place(
     alloc: Global,
     flash: &Flash,
     names: &Names,
-    pc: u16,
+    place: Reached,
 ) -> Result<(), AllocError>
-    ensures { OnOk result (out.new ≡ with_end (with_words out.old (place_line flash.now names.now pc))) }
+    requires { least_name names.now place.named ≡ name_up_to names.now place.pc }
+    ensures { OnOk result (out.new ≡ with_end (with_words out.old (place_line flash.now names.now place.pc))) }
 {
-    put_place(alloc, out, flash, pc)?;
+    put_place(alloc, out, flash, place.pc)?;
     out.word(b"in")?;
-    write_name(out, names, pc)?;
+    write_name(out, names, place.named)?;
     out.end_line()
 }
 
-/// Writes the lines of such words.
+/// Writes the lines of such words. Where they ascend, each goes on from the one before.
 fn write_places(
     out: &mut LineWriter,
     alloc: Global,
@@ -99,8 +129,10 @@ fn write_places(
     ensures { OnOk result (out.new ≡ with_text out.old (flat_map (place_text flash.now names.now) sites.now)) }
 {
     appending_laws();
+    let mut place = Reached { pc: 0, named: 0 };
     for site in sites {
-        write_place(out, alloc, flash, names, *site)?;
+        place = reach(names, place, *site);
+        write_place(out, alloc, flash, names, place)?;
     }
     Ok(())
 }
