@@ -35,13 +35,16 @@ use Rattle.store_laws.specs.declared.verdict.ClearVerdict.TheVariants as clear
 use Rattle.store_laws.specs.Verdict.{AreAllClear, IsFirstUnclear, IsClearVerdict, AreSites}
 use Rattle.store_laws.specs.Laws.{ClearVerdictsAreOne, ClearFirmwaresAreNeverFlagged, FlaggedRunsEndAtSites, EndsByTakeAt}
 use Rattle.store_clear.specs.Laws.{ClearWhereNoSites}
-use Rattle.commands.specs.Commands.{Command, Check, Analyse, Run, Report, Explain, Clear, Premises, Simulate, Demo, device_for}
+use Rattle.cert_writing.specs.Sizes.{TextsFit}
+use Rattle.guided_trials.specs.Laws.{TrialsAreLed}
+use Rattle.commands.specs.Commands.{Command, Check, Analyse, Run, Report, Explain, Clear, Premises, Attain, Simulate, Demo, device_for}
 use Rattle.replies.specs.Firmware.{IsFirmware, firmware_words}
 use Rattle.replies.specs.Texts.{devices_refused, accepted, run_text}
 use Rattle.replies.specs.Reading.{Whole, Contents, certificate_cap}
 use Rattle.replies.specs.Reply.{Reply, WithOptional, WithImage, WithList, ClearSays, ClearReply, AcceptedReply, AnalyseReply, SimulateReply, DemoReply, IsReply}
-use Rattle.replies.specs.Headline.{AreLoaded, AreRead, IsListOf, StandFor, Shows, HoldsAsRead, IsLeastAsRead, IsSimulatedAsRead, IsMeasured, SaysWhether, AcceptsExactly, AnswersRounds, AnswersDevices, AcceptingRepliesHold, RepliesAreExact}
+use Rattle.replies.specs.Headline.{AreLoaded, AreRead, IsListOf, StandFor, Shows, HoldsAsRead, IsLeastAsRead, IsAttainedAsRead, IsSimulatedAsRead, IsMeasured, SaysWhether, AcceptsExactly, AnswersRounds, AnswersDevices, AcceptingRepliesHold, RepliesAreExact}
 use Rattle.replies.proofs.Accepting.{zero_file, zero_optional, zero_image, zero_list, zero_refused, no_one, IsJudged, file_read, optional_read, Accepting, IsJudgement, HoldsOf, judgement_holds, image_read, list_read, judged_by, valid_judged}
+use Rattle.replies.proofs.Attaining.{written_attained}
 use Rattle.replies.proofs.Least.{AnalysesFit, analysis_best, best_bounds, Ends, analyse_ends, says_ends, not_written}
 
 no_fourteen : ◌≡◌ {A = ℕ} 0 14 → ⊥
@@ -83,7 +86,9 @@ module _
     (devices : DevicesAreExact)
     (simulations : SimulationsAreBounded)
     (explanations : ExplanationsTell)
-    (told_clear : ClearIsTold) where
+    (told_clear : ClearIsTold)
+    (led : TrialsAreLed)
+    (texts_fit : TextsFit) where
   -- ---- commands that judge
 
   abbrev check_next : Device → List ℕ → List ℕ → Option (List ℕ) → List ℕ → List ℕ → List Entry → Claim → Reply
@@ -110,6 +115,24 @@ module _
         tells = explanations h.words h.A h.claim h.told.explanation h.valid.sound h.told.is;
         told = h.told.says.1;
       })
+
+  attained_as : (device : Device) (fw cert : List ℕ) (assume : Option (List ℕ)) (trials : ℕ) (seen : Contents) (text : List ℕ)
+      → HoldsOf raw images narrowing lists read spelled bounds device (AcceptedReply (Attain device fw cert assume trials)) assume seen text → IsAttainedAsRead device fw cert assume trials seen text
+  attained_as device fw cert assume trials seen text h =
+      let shows = written_attained led texts_fit h.words h.A trials h.claim runs text h.told h.stand.fits h.valid in
+      let stand : StandFor device h.firmware text h.list h.words shows.claim h.A = record { mean = h.stand.mean; fits = shows.fits; bytes = shows.told } in
+      record {
+        holds = record {
+          firmware = h.firmware;
+          certificate = h.certificate;
+          list = h.list;
+          read = h.are_read;
+          holds = record { words = h.words; claim = h.claim; assumptions = h.A; stand = h.stand; bounded = h.bounded; told = h.told; shows = shows };
+        };
+        again = λ name other.
+            valid_judged raw images narrowing lists read spelled bounds device (check_next device name other assume) name other assume (record seen { second = Whole text }) h.firmware text h.list h.words shows.claim h.A
+            (record { loaded = record { firmware_read = h.are_read.loaded.firmware_read; list_read = h.are_read.loaded.list_read }; second_read = refl }) stand 0 (accepted shows.claim.bound (is_some shows.claim.witness)) shows.valid (refl, refl);
+      }
 
   -- a command that answers 0 where a certificate is valid
   record SaysValid (words : List ℕ) (A : List Entry) (c : Claim) (status : ℕ) : Type 0 where
@@ -348,6 +371,9 @@ module _
   replies_hold (Premises device fw cert assume) seen status text h has =
       λ zero. premises_as device fw cert assume seen text
       (judgement_holds raw images narrowing lists read spelled bounds device (AcceptedReply (Premises device fw cert assume)) fw cert assume seen text (has zero) (subst (λ s. IsReply (Premises device fw cert assume) seen s text) zero h))
+  replies_hold (Attain device fw cert assume trials) seen status text h has =
+      λ zero. attained_as device fw cert assume trials seen text
+      (judgement_holds raw images narrowing lists read spelled bounds device (AcceptedReply (Attain device fw cert assume trials)) fw cert assume seen text (has zero) (subst (λ s. IsReply (Attain device fw cert assume trials) seen s text) zero h))
   replies_hold (Simulate device fw dev assume steps) seen status text h has =
       λ zero. zero_simulation device fw dev assume steps seen text (has zero) (subst (λ s. IsReply (Simulate device fw dev assume steps) seen s text) zero h)
   replies_hold (Demo size) seen status text h has = λ zero. measured size text (subst (λ s. IsReply (Demo size) seen s text) zero h)
@@ -363,5 +389,7 @@ module _
   replies_are_exact (Clear device fw cert) seen status text h = clear_read device fw cert seen status text h
   replies_are_exact (Premises device fw cert assume) seen status text h =
       accepts_valid (Premises device fw cert assume) fw cert assume seen status text (λ bytes ws B c s t k. k.says.0) (λ ws B c s k. record { accepted = k.accepted; unclear = (k.unclear, λ b. absurd b); rejected = k.rejected }) h
+  replies_are_exact (Attain device fw cert assume trials) seen status text h =
+      accepts_valid (Attain device fw cert assume trials) fw cert assume seen status text (λ bytes ws B c s t k. k.says.0) (λ ws B c s k. record { accepted = k.accepted; unclear = (k.unclear, λ b. absurd b); rejected = k.rejected }) h
   replies_are_exact (Simulate device fw dev assume steps) seen status text h = simulation_read device fw dev assume steps seen status text h
   replies_are_exact (Demo size) seen status text h = says_ends answers rounds solutions bounds runs (demo_words size) [] None status text (demo_ends size status text h)

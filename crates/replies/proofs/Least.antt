@@ -24,46 +24,13 @@ use Rattle.solution_laws.specs.Answers.{AnswersAreOne}
 use Rattle.witness_search.specs.Laws.{TrialsAreShort}
 use Rattle.witness_search.specs.Trials.{IsFound}
 use Rattle.witness_search.specs.declared.waypoint.Waypoint.{Waypoint}
+use Rattle.guided_trials.proofs.AllLaws.{claim_with, sound_with}
 use Rattle.replies.specs.Texts.{why_not_status, why_not_text}
 use Rattle.replies.specs.Reading.{certificate_cap}
 use Rattle.replies.specs.Analysis.{TrialsFind, IsAnalysis}
 use Rattle.replies.specs.Reply.{Refuses, AnalyseReply, WhyNotReply}
 use Rattle.replies.specs.Headline.{IsReached, HasValid, SaysHowRoundsEnd}
 use Rattle.replies.proofs.Analysing.{no_memory}
-
--- ---- the same certificate with a schedule
-
-claim_with : (c : Claim) (found : Option Plan) → IsClaim c → IsClaim (record c { witness = found })
-claim_with c found h =
-    record {
-      bound_fits = h.bound_fits;
-      entries_fit = h.entries_fit;
-      insts_fit = h.insts_fit;
-      insts_ascend = h.insts_ascend;
-      few_insts = h.few_insts;
-      nodes_fit = h.nodes_fit;
-      nodes_belong = h.nodes_belong;
-      nodes_ascend = h.nodes_ascend;
-      few_nodes = h.few_nodes;
-      few_cells = h.few_cells;
-      of_version = h.of_version;
-    }
-
-sound_with : (words : List ℕ) (A : List Entry) (c : Claim) (found : Option Plan) → IsSound words A c → IsSound words A (record c { witness = found })
-sound_with words A c found h =
-    record {
-      nodes = h.nodes;
-      expanded = h.expanded;
-      meets = record {
-        reset = h.meets.reset;
-        faultless = h.meets.faultless;
-        edges = h.meets.edges;
-        ranks = h.meets.ranks;
-        needs = λ inst. record { offsets = (h.meets.needs inst).offsets; entered = (h.meets.needs inst).entered };
-        bounded = record { enough = h.meets.bounded.enough; small = h.meets.bounded.small };
-        assumptions = h.meets.assumptions;
-      };
-    }
 
 schedule_found : (words : List ℕ) (A : List Entry) (points : List Waypoint) (bound : ℕ) (found : Option Plan) → IsFound words A points bound found → IfSome found IsSchedule
 schedule_found words A points bound None h = tt

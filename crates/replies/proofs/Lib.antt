@@ -7,3 +7,4 @@ pub mod Accepting
 pub mod Least
 pub mod All
 pub mod AllLaws
+mod Attaining

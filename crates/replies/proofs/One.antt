@@ -27,7 +27,7 @@ use Rattle.device_hooks.specs.declared.devices.DevicesFault.{DevicesFault}
 use Rattle.device_hooks.specs.Spelling.{Setup}
 use Rattle.device_hooks.specs.Reading.{setup_in}
 use Rattle.device_hooks.specs.Simulating.{simulation_of}
-use Rattle.commands.specs.Commands.{Command, Check, Analyse, Run, Report, Explain, Clear, Premises, Simulate, Demo, Firmware, Second, Assumptions, device_for, name_of}
+use Rattle.commands.specs.Commands.{Command, Check, Analyse, Run, Report, Explain, Clear, Premises, Attain, Simulate, Demo, Firmware, Second, Assumptions, device_for, name_of}
 use Rattle.replies.specs.Firmware.{firmware_words, firmware_fault, firmware_names}
 use Rattle.replies.specs.Texts.{too_long, assumptions_refused, certificate_refused, schedule_malformed, schedule_illegal, devices_refused, rejected, witness_rejected, run_text}
 use Rattle.replies.specs.Places.{clear_text, unclear_text, premises_text}
@@ -35,6 +35,7 @@ use Rattle.replies.specs.Reading.{Seen, Unread, Whole, Long}
 use Rattle.replies.specs.Reply.{Reply, Says, Refuses, WithFile, WithBytes, WithOptional, ImageBy, WithImage, ListBy, WithList, attains, AttainedBy, WitnessReply, VerdictReply, JudgedReply, CertificateReply, RunReply, EndsBefore, ScheduleReply, told_of, ExplainReply, ClearSays, ClearReply, PremisesReply, AcceptedReply, SimulateReply, FlashReply, WorkReply}
 use Rattle.replies.specs.Headline.{RepliesAreOne}
 use Rattle.replies.proofs.Analysing.{analyse_one, demo_one}
+use Rattle.replies.proofs.Attaining.{attain_one}
 
 -- at most one status with one text is the answer
 abbrev IsOne : Reply → Type 0
@@ -146,6 +147,8 @@ module _ (read : ReadIsSpelled) (one : VerdictsAreOne) (answers : AnswersAreOne)
   flash_one (Clear device fw cert) firmware bytes words A = read_one words [] (ClearReply words) bytes (clear_one words)
   flash_one (Premises device fw cert assume) firmware bytes words A =
       read_one words A (AcceptedReply (Premises device fw cert assume) firmware words A) bytes (premises_one (firmware_names firmware) words A)
+  flash_one (Attain device fw cert assume trials) firmware bytes words A =
+      read_one words A (AcceptedReply (Attain device fw cert assume trials) firmware words A) bytes (λ c claim. attain_one words A trials c)
   flash_one (Simulate device fw devices assume steps) firmware bytes words A = simulate_one words A steps (setup_in bytes)
   flash_one (Demo size) firmware bytes words A = demo_one answers chains size
 
@@ -162,6 +165,7 @@ module _ (read : ReadIsSpelled) (one : VerdictsAreOne) (answers : AnswersAreOne)
   work_one (Explain device fw cert assume) firmware second list = on_flash_one (Explain device fw cert assume) firmware second list
   work_one (Clear device fw cert) firmware second list = on_flash_one (Clear device fw cert) firmware second list
   work_one (Premises device fw cert assume) firmware second list = on_flash_one (Premises device fw cert assume) firmware second list
+  work_one (Attain device fw cert assume trials) firmware second list = on_flash_one (Attain device fw cert assume trials) firmware second list
   work_one (Simulate device fw devices assume steps) firmware second list = on_flash_one (Simulate device fw devices assume steps) firmware second list
   work_one (Demo size) firmware second list = demo_one answers chains size
 

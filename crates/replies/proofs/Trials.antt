@@ -67,7 +67,7 @@ go_same n m a b c d rs qs e f g h = cc
 take_same : (v w : ℕ) (x y : Bool) (rs qs : List Run) → choice.Take v x ≡ choice.Take w y → rs ≡ qs → ◌≡◌ {A = List Run} (Take v x ∷ rs) (Take w y ∷ qs)
 take_same v w x y rs qs e h = cc
 
-same_runs : (before last : Option Run) (left most : ℕ) (rs qs : List Run) → AreRuns before left rs → AreRuns last most qs → choices_of rs ≡ choices_of qs → rs ≡ qs
+pub same_runs : (before last : Option Run) (left most : ℕ) (rs qs : List Run) → AreRuns before left rs → AreRuns last most qs → choices_of rs ≡ choices_of qs → rs ≡ qs
 same_runs before last left most [] [] h k e = refl
 same_runs before last left most [] (Go zero a b ∷ qs) h k e = no_count k.0.0
 same_runs before last left most [] (Go (suc n) a b ∷ qs) h k e = absurd (no_choice (choice.Go a b) _ e)
@@ -88,7 +88,7 @@ same_runs before last left most (Take v x ∷ rs) (Go (suc m) a b ∷ qs) h k e 
 same_runs before last left most (Take v x ∷ rs) (Take w y ∷ qs) h k e =
     take_same v w x y rs qs (heads (choice.Take v x) (choice.Take w y) _ _ e) (same_runs (Some (Take v x)) (Some (Take w y)) (left - 1) (most - 1) rs qs h.3 k.3 (tails (choice.Take v x) (choice.Take w y) _ _ e))
 
-same_plan : (a b : Plan) → a.fill ≡ b.fill → a.runs ≡ b.runs → a ≡ b
+pub same_plan : (a b : Plan) → a.fill ≡ b.fill → a.runs ≡ b.runs → a ≡ b
 same_plan a b e f = ap (λ x. record { fill = x; runs = a.runs }) e ∙ ap (λ x. record { fill = b.fill; runs = x }) f
 
 -- ---- the first that succeeds

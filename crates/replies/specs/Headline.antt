@@ -21,6 +21,7 @@ use Rattle.chain_explain.specs.declared.explanation.Explanation.{Explanation}
 use Rattle.chain_explain.specs.Explanation.{IsExplanation}
 use Rattle.chain_explain.specs.Told.{Tells}
 use Rattle.reports.specs.Explained.{explanation_text}
+use Rattle.guided_trials.specs.Attaining.{IsCompleted, AttainedWhere}
 use Rattle.clear_laws.specs.Clear.{NeverFlagged}
 use Rattle.store_laws.specs.Laws.{IsBoundedAndClear, EndFlaggedAt}
 use Rattle.store_laws.specs.declared.verdict.ClearVerdict.{ClearVerdict}
@@ -30,7 +31,7 @@ use Rattle.demo_image.specs.Image.{demo_words}
 use Rattle.device_hooks.specs.Spelling.{Setup}
 use Rattle.device_hooks.specs.Exact.{IsReading as IsDevices}
 use Rattle.device_hooks.specs.Simulating.{simulation_of}
-use Rattle.commands.specs.Commands.{Command, Check, Analyse, Run, Report, Explain, Clear, Premises, Simulate, Demo, device_for}
+use Rattle.commands.specs.Commands.{Command, Check, Analyse, Run, Report, Explain, Clear, Premises, Attain, Simulate, Demo, device_for}
 use Rattle.local_rules.specs.Machine.{AreWords}
 use Rattle.replies.specs.Firmware.{IsFirmware, firmware_words, firmware_names}
 use Rattle.replies.specs.Texts.{accepted, run_text, demo_text}
@@ -93,11 +94,35 @@ pub record TellsFlagged (names : List Named) (words : List ℕ) (A : List Entry)
   pub as_clear : A ≡ [] → (verdict : ClearVerdict) → IsClearVerdict words c verdict → (verdict ≡ AllClear) ↔ (sites ≡ [])
   pub told : text ≡ premises_text words names c.bound sites nevers
 
+-- some run of the machine from reset ends without a stop, exactly this deep
+pub record IsReached (words : List ℕ) (A : List Entry) (depth : ℕ) : Type 0 where
+  pub state : State
+  pub reset : IsReset (device_of words) state
+  pub choices : List Choice
+  pub run : IsRun words A choices state
+  pub ends : stop_of words A choices state ≡ End
+  pub deep : depth_of words A choices state ≡ depth
+
+-- The text is that of a certificate that is the accepted one but for its schedule, so that it has its bound, assumptions, instances and nodes,
+-- and that is valid for the same words and assumptions. It is attained exactly where the accepted one is, or where one of so many guided trials
+-- is as deep as the bound; its schedule is then that of the accepted one, or of the least such trial, and reaches the bound exactly. It is no
+-- longer than a certificate that is read may be, where the accepted one is no longer.
+pub record IsWrittenAttained (words : List ℕ) (A : List Entry) (trials : ℕ) (c : Claim) (text : List ℕ) : Type 0 where
+  pub claim : Claim
+  pub fits : IsCertificate claim
+  pub told : text ≡ text_of claim
+  pub completed : IsCompleted words A trials c claim
+  pub attained : AttainedWhere words A trials c claim
+  pub valid : IsValid words A claim
+  pub reached : is_some claim.witness ≡ true → IsReached words A claim.bound
+  pub short : length (text_of c) ≤ certificate_cap → length text ≤ certificate_cap
+
 -- what is said of an accepted certificate besides that its bound holds, for a firmware of these bytes with these words, by a text
 abbrev pub Shows : Command → List ℕ → List ℕ → List Entry → Claim → List ℕ → Type 0
 Shows (Explain device firmware certificate assume) bytes words A c text = IsExplained (firmware_names bytes) words A c text
 Shows (Clear device firmware certificate) bytes words A c text = IsBoundedAndClear words c.bound
 Shows (Premises device firmware certificate assume) bytes words A c text = TellsFlagged (firmware_names bytes) words A c text
+Shows (Attain device firmware certificate assume trials) bytes words A c text = IsWrittenAttained words A trials c text
 Shows command bytes words A c text = ⊤
 
 -- The firmware's words on the command's device are such that no run of that machine from reset is deeper than the bound of the certificate with this text:
@@ -122,15 +147,6 @@ pub record HoldsAsRead (command : Command) (assume : Option (List ℕ)) (seen : 
   pub holds : Holds command firmware certificate list text
 
 -- ---- a certificate that is written
-
--- some run of the machine from reset ends without a stop, exactly this deep
-pub record IsReached (words : List ℕ) (A : List Entry) (depth : ℕ) : Type 0 where
-  pub state : State
-  pub reset : IsReset (device_of words) state
-  pub choices : List Choice
-  pub run : IsRun words A choices state
-  pub ends : stop_of words A choices state ≡ End
-  pub deep : depth_of words A choices state ≡ depth
 
 -- The text is that of a valid certificate for the firmware on the device and the assumptions. No valid one has a smaller bound, and no run of the
 -- machine is deeper than this one's. Where it has a schedule, the bound is reached, so that it is the worst case; it has one exactly where
@@ -160,6 +176,11 @@ pub record IsLeastAsRead (device : Device) (assume : Option (List ℕ)) (seen : 
   pub read : AreLoaded assume seen firmware list
   pub certificate : IsLeastCertificate device firmware list text
   pub again : IsAcceptedAgain device assume seen text certificate.claim
+
+-- bytes were read of all files of `attain`, the bound holds of them, and `check` accepts what is written
+pub record IsAttainedAsRead (device : Device) (firmware certificate : List ℕ) (assume : Option (List ℕ)) (trials : ℕ) (seen : Contents) (text : List ℕ) : Type 0 where
+  pub holds : HoldsAsRead (Attain device firmware certificate assume trials) assume seen text
+  pub again : IsAcceptedAgain device assume seen text holds.holds.shows.claim
 
 -- ---- a run that is simulated
 
@@ -194,7 +215,8 @@ pub record IsMeasured (size : ℕ) (text : List ℕ) : Type 0 where
 -- ---- what status 0 says
 
 -- where a certificate is accepted, the bound holds, an explanation tells where its bytes go, no step is flagged where all nodes are clear, and
--- steps are flagged only at the words that are told; where one is written, it is the least; a simulated run keeps each bound that is accepted;
+-- steps are flagged only at the words that are told; where one is written, it is the least, or the accepted one with a schedule that reaches its
+-- bound; a simulated run keeps each bound that is accepted;
 -- the numbers of an image are those of its rounds
 abbrev pub Headline : Command → Contents → ℕ → List ℕ → Type 0
 Headline (Check device firmware certificate assume) seen status text = status ≡ 0 → HoldsAsRead (Check device firmware certificate assume) assume seen text
@@ -205,6 +227,7 @@ Headline (Report device firmware certificate assume json) seen status text =
 Headline (Explain device firmware certificate assume) seen status text = status ≡ 0 → HoldsAsRead (Explain device firmware certificate assume) assume seen text
 Headline (Clear device firmware certificate) seen status text = status ≡ 0 → HoldsAsRead (Clear device firmware certificate) None seen text
 Headline (Premises device firmware certificate assume) seen status text = status ≡ 0 → HoldsAsRead (Premises device firmware certificate assume) assume seen text
+Headline (Attain device firmware certificate assume trials) seen status text = status ≡ 0 → IsAttainedAsRead device firmware certificate assume trials seen text
 Headline (Simulate device firmware devices assume steps) seen status text = status ≡ 0 → IsSimulatedAsRead device assume steps seen text
 Headline (Demo size) seen status text = status ≡ 0 → IsMeasured size text
 
@@ -265,6 +288,7 @@ IsExact (Report device firmware certificate assume json) seen status = AcceptsEx
 IsExact (Explain device firmware certificate assume) seen status = AcceptsExactly (Explain device firmware certificate assume) assume seen status
 IsExact (Clear device firmware certificate) seen status = AcceptsExactly (Clear device firmware certificate) None seen status
 IsExact (Premises device firmware certificate assume) seen status = AcceptsExactly (Premises device firmware certificate assume) assume seen status
+IsExact (Attain device firmware certificate assume trials) seen status = AcceptsExactly (Attain device firmware certificate assume trials) assume seen status
 IsExact (Simulate device firmware devices assume steps) seen status = AnswersDevices device assume seen status
 IsExact (Demo size) seen status = SaysHowRoundsEnd (demo_words size) [] None status
 

@@ -12,6 +12,8 @@ use Rattle.witness_replay.specs.Spelling.{Plan}
 use Rattle.witness_replay.specs.Reading.{schedule_in}
 use Rattle.witness_replay.specs.Replay.{Report as Replayed, replay_of}
 use Rattle.certificate.specs.Claims.{Claim, IsClaim}
+use Rattle.certificate.specs.Valid.{IsAttained}
+use Rattle.guided_trials.specs.Attaining.{IsCompleted}
 use Rattle.cert_words.specs.Text.{text_of}
 use Rattle.round_rules.specs.declared.refusal.Refusal.{Refusal}
 use Rattle.round_rules.specs.Solutions.{IsAnswer, IsWhyNot}
@@ -34,7 +36,7 @@ use Rattle.cert_format.specs.Reading.{certificate_in}
 use Rattle.cert_check.specs.Verdict.{IsVerdict}
 use Rattle.cert_check.specs.declared.verdict.Verdict.{Verdict}
 use Rattle.cert_check.specs.declared.verdict.Verdict.TheVariants.{Accepted, Rejected}
-use Rattle.commands.specs.Commands.{Command, Analyse, Run, Report, Explain, Clear, Premises, Simulate, Demo, Firmware, Second, Assumptions, device_for, name_of}
+use Rattle.commands.specs.Commands.{Command, Analyse, Run, Report, Explain, Clear, Premises, Attain, Simulate, Demo, Firmware, Second, Assumptions, device_for, name_of}
 use Rattle.replies.specs.Firmware.{firmware_words, firmware_fault, firmware_names, firmware_end}
 use Rattle.replies.specs.Texts.{too_long, assumptions_refused, certificate_refused, schedule_malformed, schedule_illegal, devices_refused, accepted, rejected, witness_rejected, run_text, why_not_text, why_not_status, demo_text}
 use Rattle.replies.specs.Places.{clear_text, unclear_text, premises_text}
@@ -148,11 +150,20 @@ pub record PremisesReply (names : List Named) (words : List ℕ) (A : List Entry
   pub are_nevers : AreNevers words A c nevers
   pub says : Says 0 (premises_text words names c.bound sites nevers) status text
 
+-- The certificate is written, as it is where it has a schedule, and else with the one that so many guided trials find, which attains its
+-- bound.
+pub record AttainReply (words : List ℕ) (A : List Entry) (trials : ℕ) (c : Claim) (status : ℕ) (text : List ℕ) : Type 0 where
+  pub claim : Claim
+  pub completed : IsCompleted words A trials c claim
+  pub attained : IsAttained words A c.bound claim.witness
+  pub says : Says 0 (text_of claim) status text
+
 -- what a command answers where it accepts a certificate, for a firmware of these bytes with these words, under these assumptions
 abbrev pub AcceptedReply : Command → List ℕ → List ℕ → List Entry → Claim → Reply
 AcceptedReply (Explain device firmware certificate assume) bytes words A c = ExplainReply (firmware_names bytes) words A c
 AcceptedReply (Clear device firmware certificate) bytes words A c = ClearReply words c
 AcceptedReply (Premises device firmware certificate assume) bytes words A c = PremisesReply (firmware_names bytes) words A c
+AcceptedReply (Attain device firmware certificate assume trials) bytes words A c = AttainReply words A trials c
 AcceptedReply command bytes words A c = Says 0 (told_of command bytes c)
 
 -- ---- run

@@ -8,6 +8,7 @@ use cert_writing::laws::texts_fit;
 use chain_explain::laws::{explanations_are_one, explanations_tell};
 use device_hooks::laws::{reading_is_exact as devices_are_exact, simulations_are_runs};
 use flash_image::laws::{narrowing_is_exact, raw_images_are_their_words};
+use guided_trials::laws::trials_are_led;
 use indirect_targets::laws::reading_is_exact;
 use round_laws::laws::{rounds_are_least, solutions_are_valid};
 use solution_laws::answers::answers_are_one;
@@ -19,7 +20,7 @@ use witness_replay::laws::replays_are_runs;
 use witness_search::laws::{trials_are_short, waypoints_are_one};
 
 /// What was read of a command's files has one answer. Where a certificate is accepted, the bound holds of what was read, and where one is
-/// written, it is the least one, short enough to be read again; an explanation tells where the bytes of the bound go; where all nodes are clear,
+/// written, it is the least one, or the accepted one with a schedule that reaches its bound, short enough to be read again; an explanation tells where the bytes of the bound go; where all nodes are clear,
 /// no run is flagged, and else runs are flagged at the words that are told alone; a run that devices choose keeps each bound that is accepted. Where the files read as values, a certificate
 /// is accepted exactly where it is valid, and the status of an analysis says how the rounds end.
 pub fn replies_are_claims()
@@ -50,6 +51,7 @@ pub fn replies_are_claims()
     clear_firmwares_are_never_flagged();
     flagged_runs_end_at_sites();
     clear_where_no_sites();
+    trials_are_led();
 }
 
 /// Names that say the same give the same texts of words at which a step may be flagged.

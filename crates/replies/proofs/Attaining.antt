@@ -1,0 +1,95 @@
+-- What `attain` writes.
+use Rattle.std.proofs.Common.{◌≡◌, ◌≤◌, ◌<◌, ⊎_elim, refl, sym, ap, ◌∙◌, subst, arith, ℕ, true, List, length, Option, Some, None, IfSome}
+use Rattle.std.specs.Option.{is_some}
+use Rattle.basics.specs.Numbers.{same_if_neither}
+use Rattle.avr_model.specs.declared.assumption.Entry.{Entry}
+use Rattle.witness_replay.specs.Spelling.{Plan, IsSchedule, most_choices, choices_of}
+use Rattle.witness_replay.specs.Runs.{ReplaysAreRuns}
+use Rattle.certificate.specs.Claims.{Claim, IsCertificate}
+use Rattle.certificate.specs.Valid.{IsSound, IsAttained, IsValid}
+use Rattle.cert_words.specs.Text.{text_of}
+use Rattle.cert_writing.specs.Sizes.{HasFewChoices, TextsFit}
+use Rattle.guided_trials.specs.declared.guide.Guide.{Guide}
+use Rattle.guided_trials.specs.Guides.{guide_of}
+use Rattle.guided_trials.specs.Trials.{fill_of, trial_of, Succeeds, IsFirst, IsFound}
+use Rattle.guided_trials.specs.Attaining.{IsScheduled, IsCompleted, AttainedWhere}
+use Rattle.guided_trials.specs.Laws.{TrialsAreLed}
+use Rattle.guided_trials.proofs.AllLaws.{claim_with, sound_with, attained_where}
+use Rattle.replies.specs.Reading.{certificate_cap}
+use Rattle.replies.specs.Reply.{AttainReply}
+use Rattle.replies.specs.Headline.{IsReached, IsWrittenAttained}
+use Rattle.replies.proofs.Trials.{same_runs, same_plan}
+use Rattle.replies.proofs.Least.{reached}
+
+-- ---- what trials find is one
+
+module _ (words : List ℕ) (A : List Entry) (g : Guide) (n : ℕ) where
+  first_one : (a b : Plan) → IsFirst words A g n a → IsFirst words A g n b → a ≡ b
+  first_one a b h k =
+      let trial : h.trial ≡ k.trial = same_if_neither h.trial k.trial (λ lt. k.failed h.trial lt h.succeeds) (λ lt. h.failed k.trial lt k.succeeds) in
+      let fill : a.fill ≡ b.fill = h.schedule.fill ∙ ap (fill_of g) trial ∙ sym k.schedule.fill in
+      let choices : choices_of a.runs ≡ choices_of b.runs = h.schedule.choices ∙ ap (trial_of words A g) trial ∙ sym k.schedule.choices in
+      same_plan a b fill (same_runs None None most_choices most_choices a.runs b.runs h.schedule.fits.runs_fit k.schedule.fits.runs_fit choices)
+
+  found_one : (p q : Option Plan) → IsFound words A g n p → IsFound words A g n q → p ≡ q
+  found_one None None h k = refl
+  found_one None (Some b) h k = absurd (h k.trial k.among k.succeeds)
+  found_one (Some a) None h k = absurd (k h.trial h.among h.succeeds)
+  found_one (Some a) (Some b) h k = ap Some (first_one a b h k)
+
+module _ (words : List ℕ) (A : List Entry) (n : ℕ) (c : Claim) where
+  schedule_one : (w p q : Option Plan) → IsScheduled words A n c w p → IsScheduled words A n c w q → p ≡ q
+  schedule_one None p q h k = found_one words A (guide_of words A c) n p q h k
+  schedule_one (Some plan) p q h k = h ∙ sym k
+
+  completed_one : (d e : Claim) → IsCompleted words A n c d → IsCompleted words A n c e → d ≡ e
+  completed_one d e h k =
+      h.same ∙ ap (λ (w : Option Plan). record c { witness = w }) (schedule_one c.witness d.witness e.witness h.schedule k.schedule) ∙ sym k.same
+
+pub attain_one : (words : List ℕ) (A : List Entry) (n : ℕ) (c : Claim) (s t : ℕ) (a b : List ℕ) → AttainReply words A n c s a → AttainReply words A n c t b → (s ≡ t) × (a ≡ b)
+attain_one words A n c s t a b h k =
+    (h.says.0 ∙ sym k.says.0, h.says.1 ∙ ap text_of (completed_one words A n c h.claim k.claim h.completed k.completed) ∙ sym k.says.1)
+
+-- ---- what is said of it
+
+module _ (led : TrialsAreLed) (fit : TextsFit) (words : List ℕ) (A : List Entry) (n : ℕ) (c : Claim) where
+  schedule_fits : (w found : Option Plan) → IfSome w IsSchedule → IsScheduled words A n c w found → IfSome found IsSchedule
+  schedule_fits None None fits h = tt
+  schedule_fits None (Some plan) fits h = h.schedule.fits
+  schedule_fits (Some p) found fits h = subst (λ (w : Option Plan). IfSome w IsSchedule) (sym h) fits
+
+  few_found : (found : Option Plan) → IsFound words A (guide_of words A c) n found → IfSome found HasFewChoices
+  few_found None h = tt
+  few_found (Some plan) h = omega (arith, ap length h.schedule.choices, led.short words A (guide_of words A c) h.trial)
+
+  fits_as : (d : Claim) → IsCompleted words A n c d → IsCertificate c → IsCertificate d
+  fits_as d h is =
+      subst IsCertificate (sym h.same) (record { claim = claim_with c d.witness is.claim; schedule = schedule_fits c.witness d.witness is.schedule h.schedule })
+
+  itself : (d : Claim) (p : Plan) → c.witness ≡ Some p → d.witness ≡ Some p → d ≡ record c { witness = d.witness } → d ≡ c
+  itself d p own is same = same ∙ ap (λ (w : Option Plan). record c { witness = w }) (is ∙ sym own)
+
+  short_by : (d : Claim) (w : Option Plan) → c.witness ≡ w → IsScheduled words A n c w d.witness → d ≡ record c { witness = d.witness } → IsCertificate d
+      → length (text_of c) ≤ certificate_cap → length (text_of d) ≤ certificate_cap
+  short_by d None own h same is le = fit d is (few_found d.witness h)
+  short_by d (Some p) own h same is le = subst (λ (x : Claim). length (text_of x) ≤ certificate_cap) (sym (itself d p own h same)) le
+
+  valid_as : (d : Claim) → IsCompleted words A n c d → IsAttained words A c.bound d.witness → IsSound words A c → IsValid words A d
+  valid_as d h attained sound = subst (IsValid words A) (sym h.same) (record { sound = sound_with words A c d.witness sound; attained = attained })
+
+  bound_as : (d : Claim) → IsCompleted words A n c d → d.bound ≡ c.bound
+  bound_as d h = ap (λ (x : Claim). x.bound) h.same
+
+  pub written_attained : (runs : ReplaysAreRuns) (text : List ℕ) → AttainReply words A n c 0 text → IsCertificate c → IsValid words A c → IsWrittenAttained words A n c text
+  written_attained runs text h is valid =
+      let fits = fits_as h.claim h.completed is in
+      record {
+        claim = h.claim;
+        fits = fits;
+        told = h.says.1;
+        completed = h.completed;
+        attained = attained_where words A n c h.claim h.completed;
+        valid = valid_as h.claim h.completed h.attained valid.sound;
+        reached = λ e. subst (IsReached words A) (sym (bound_as h.claim h.completed)) (reached runs words A c.bound h.claim.witness fits.schedule h.attained e);
+        short = λ le. subst (λ (t : List ℕ). length t ≤ certificate_cap) (sym h.says.1) (short_by h.claim c.witness refl h.completed.schedule h.completed.same fits le);
+      }
