@@ -67,7 +67,7 @@ fn fetched(site: &Site<'_>) -> Option<Instr>
     if pc >= site.device.words() {
         return None;
     }
-    avr_decode::instruction(site.flash.words(), usize::from(pc))
+    site.flash.instruction(pc)
 }
 
 /// What the instruction at the node leads to.
@@ -75,7 +75,7 @@ pub(crate) fn at_instruction(nodes: &mut Nodes, site: &Site<'_>) -> Result<Outsi
     requires word { site.now.key.now.pc < WORDS }
     ensures { Leads nodes.old nodes.new result (rows.row_in site.now.device site.now.flash.now site.now.assumptions.now site.now.key.now site.now.state.now) }
 {
-    let scratch = avr_decode::is_scratch(site.flash.words(), site.key.pc);
+    let scratch = site.flash.is_scratch(site.key.pc);
     match fetched(site) {
         Some(instr) => row_forgetting(nodes, site, scratch, &instr),
         None => Err(NodeFault::Unsupported(site.key.pc)),

@@ -85,8 +85,7 @@ fn listed_writes(
 fn is_fixed_site(flash: &Flash, assumptions: &Assumptions, pc: u16) -> bool
     ensures { result ≡ is_fixed_site flash.now assumptions.now pc }
 {
-    // What is assumed comes first: to look for a load before the store takes longer.
-    assumptions.proved(pc) || !assumptions.freed(pc) && avr_decode::is_fixed(flash.words(), pc)
+    assumptions.proved(pc) || !assumptions.freed(pc) && flash.is_fixed(pc)
 }
 
 /// Register `source` is stored through registers `r` and `r + 1` plus a number, as they are before the instruction.

@@ -48,7 +48,7 @@ fn split_site(site: &Site<'_>) -> Option<u16>
             if site.key.pc >= site.flash.device().words() {
                 return None;
             }
-            let jump = avr_decode::table_site(site.flash.words(), site.key.pc);
+            let jump = site.flash.table_site(site.key.pc);
             unlined(site.assumptions, jump)
         }
     }

@@ -6,15 +6,14 @@ ghost use Rattle.avr_model.specs.Sites.{instruction_at, is_fixed, is_scratch, ta
 use crate::image::Flash;
 use avr_decode::{Reading, adds_low};
 use avr_model::instruction::Instr;
-use std::alloc::Global;
 
 impl Flash {
     /// Works out what the words say, so that none is decoded at each look. Without memory for that (12 bytes a word), each is
     /// decoded as it is asked for.
-    pub fn decode(&mut self, alloc: Global)
+    pub fn decode(&mut self)
         ensures { self.new ≡ self.old }
     {
-        if let Ok(readings) = Reading::all(alloc, &self.words) {
+        if let Ok(readings) = Reading::all(self.alloc, &self.words) {
             self.readings = readings;
         }
     }

@@ -16,6 +16,7 @@ use thiserror::Error;
 /// this number, and the low byte of a word comes first.
 #[derive(Drop)]
 pub struct Flash {
+    pub(crate) alloc: Global,
     device: Device,
     pub(crate) words: Vec<u16>,
     // What the first words say, where that was worked out.
@@ -60,6 +61,7 @@ impl Flash {
     {
         let words = vec![in alloc; 0xFFFFu16; COUNT]?;
         Ok(Flash {
+            alloc,
             device: Device::M328,
             words,
             readings: Vec::new(alloc),
@@ -111,7 +113,7 @@ impl Flash {
     }
 
     /// The ATmega328P's words on another device, which has fewer or as many: refused where a word behind that device's last
-    /// isn't FFFF, and the least such word is told. It takes no memory, and a refused flash is dropped.
+    /// isn't FFFF, and the least such word is told. What its words say is worked out then; a refused flash is dropped.
     pub fn narrow(mut self, device: Device) -> Result<Flash, Outside>
         requires { length self ≡ WORDS }
         ensures answer { MatchResult result (λ flash. IsNarrowed device self flash) (λ fault. IsOutside device self fault.0) }
@@ -123,6 +125,7 @@ impl Flash {
         self.readings.clear();
         self.words.truncate(usize::from(device.words()));
         self.device = device;
+        self.decode();
         Ok(self)
     }
 
