@@ -46,6 +46,7 @@ def code(elf):
     yield from (list(opcodes.words_of(elf, it)) for it in with_whole(elf).code if it.is_function or it.name.startswith("__"))
 
 
+@functools.lru_cache(maxsize=None)
 def addressed(elf, device):
     """The words of all functions whose address is taken. Where none has a name, a function is what begins behind the end of another, and no handler."""
     if elf.code:
@@ -72,9 +73,18 @@ def targets(elf, device, site):
     """Where the indirect transfer at a word may go by all that the file tells; `exit` where it tells nothing."""
     symbol = elf.symbol_at(2 * site)
     if symbol and symbol.name == "__tablejump2__":
-        return or_none(constructors, elf) | or_none(tables, elf)
+        begin, end = elf.all.get("__dtors_start", 0), elf.all.get("__dtors_end", 0)
+        return or_none(constructors, elf) | or_none(tables, elf) | {elf.word(at // 2) for at in range(begin, end, 2)}
     found = table_of_jumps(elf, site) or addressed(elf, device)
     return found or {it.address // 2 for name in ("exit", "_exit") for it in elf.named(name)}
+
+
+def may_be_entered(elf, site, word):
+    """Whether a transfer that a run made is one that a program means: to where a function begins, or within a table's function; not to reset."""
+    symbol, caller = elf.symbol_at(2 * word), elf.symbol_at(2 * site)
+    if symbol is None or caller is None:
+        return word != 0 and not elf.code
+    return symbol.address == 2 * word != 0 or caller.name == "__tablejump2__" or caller.address == symbol.address != 0
 
 
 def indirect(elf):

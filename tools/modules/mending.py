@@ -101,7 +101,7 @@ class Mending(Analysis):
 
     def at_stop(self):
         """Adds the line that admits the flagged step of a trial run; whether there is one."""
-        if self.stop is None:
+        if self.stop is None or self.stop.kind == "transfer" and not candidates.may_be_entered(self.elf, self.stop.word, self.stop.other):
             return False
         kind = self.admit(self.stop)
         if kind == "jump":

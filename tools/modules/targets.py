@@ -3,7 +3,7 @@
 import struct
 
 import opcodes
-from elf import CODE_END, SRAM
+from elf import SRAM
 from names import SpecFault, base, function
 
 NEAR = 4  # how many instructions the two halves of an address are apart, at most
