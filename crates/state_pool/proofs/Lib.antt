@@ -1,5 +1,6 @@
 pub mod SameStates
 pub mod Lists
+pub mod Passing
 pub mod Cases
 pub mod Swaps
 pub mod Held

@@ -1,5 +1,5 @@
 -- A number that tells most states apart.
-use Rattle.std.specs.Prelude.{ℕ, Bool, ◌+◌, ◌*◌, ◌%◌, ◌^◌, cond, List, length, fold}
+use Rattle.std.specs.Prelude.{ℕ, suc, ◌≡◌, ◌<◌, ◌+◌, ◌*◌, ◌%◌, ◌^◌, cond, List, [], ◌∷◌, length, fold}
 use Rattle.std.specs.Hash as fed
 use Rattle.sp_domain.specs.declared.slots.Slot.{Slot}
 use Rattle.sp_domain.specs.declared.slots.Slot.TheVariants.{Free, Guarded}
@@ -7,6 +7,7 @@ use Rattle.sp_domain.specs.declared.tags.Tag.{Tag}
 use Rattle.sp_domain.specs.declared.tags.Tag.TheVariants as tag
 use Rattle.sp_domain.specs.declared.tags.CarryTag.{CarryTag}
 use Rattle.sp_domain.specs.declared.tags.CarryTag.TheVariants as carry
+use Rattle.sp_domain.specs.Slots.{slot_at}
 use Rattle.abs_state.specs.declared.values.AbsByte.{AbsByte}
 use Rattle.abs_state.specs.declared.values.AbsFlags.{AbsFlags}
 use Rattle.abs_state.specs.declared.state.AbsState.{AbsState}
@@ -38,20 +39,26 @@ value_number v = tag_number v.tag + 2 ^ 19 * (v.low + 256 * v.high + 2 ^ 16 * (v
 abbrev pub flags_number : AbsFlags → ℕ
 flags_number f = f.bits.known + 256 * f.bits.value + 2 ^ 16 * (cond f.entry 1 0 + 2 * carry_number f.carry)
 
--- no value has a free slot's number
-abbrev pub slot_number : Slot AbsByte → ℕ
-slot_number Free = 2 ^ 51
-slot_number (Guarded v) = value_number v
-
 abbrev pub mix_value : ℕ → AbsByte → ℕ
 mix_value digest v = mix digest (value_number v)
 
-abbrev pub mix_slot : ℕ → Slot AbsByte → ℕ
-mix_slot digest s = mix digest (slot_number s)
+-- a guarded slot by its place and its value; a free one leaves the digest as it is
+abbrev pub mix_slot : ℕ → ℕ → Slot AbsByte → ℕ
+mix_slot digest d Free = digest
+mix_slot digest d (Guarded v) = mix ((digest + d) % 2 ^ 64) (value_number v)
+
+-- the slots that are at this place and behind it
+abbrev pub mix_slots : ℕ → ℕ → List (Slot AbsByte) → ℕ
+mix_slots digest d [] = digest
+mix_slots digest d (s ∷ ss) = mix_slots (mix_slot digest d s) (suc d) ss
+
+-- so many slots from a place on are free
+abbrev pub AreFree : List (Slot AbsByte) → ℕ → ℕ → Type 0
+AreFree slots at n = (e : ℕ) → e < n → slot_at slots (at + e) ≡ Free
 
 -- the flags, the registers, how many slots there are, and the slots
 abbrev pub digest_of : AbsState → ℕ
-digest_of s = fold mix_slot (mix (fold mix_value (flags_number s.flags) s.registers) (length s.slots)) s.slots
+digest_of s = mix_slots (mix (fold mix_value (flags_number s.flags) s.registers) (length s.slots)) 0 s.slots
 
 -- what of a state is fed to a hasher
 abbrev pub state_hash : AbsState → List (List ℕ)

@@ -1,8 +1,9 @@
 //! States as keys of a table.
 
-ghost use Rattle.std.specs.Prelude.{◌≡◌, ◌↔◌, ◌<◌, ◌+◌, ◌*◌, IsTrue, fold};
+ghost use Rattle.std.specs.Prelude.{◌≡◌, ◌↔◌, ◌<◌, ◌≤◌, ◌+◌, ◌*◌, IsTrue, length, fold};
+ghost use Rattle.sp_domain.specs.declared.slots.Slot.TheVariants.{Free};
 ghost use Rattle.state_pool.specs.SameState.{same_state};
-ghost use Rattle.state_pool.specs.Digest.{mix, tag_number, carry_number, value_number, flags_number, slot_number, mix_value, mix_slot, digest_of, state_hash};
+ghost use Rattle.state_pool.specs.Digest.{mix, tag_number, carry_number, value_number, flags_number, mix_value, mix_slot, mix_slots, AreFree, digest_of, state_hash};
 ghost use Rattle.state_pool.specs.Equal.{state_equivalence, fed_alike};
 
 use abs_state::{AbsByte, AbsFlags, AbsState};
@@ -123,15 +124,58 @@ fn digest_values(start: u64, values: &[AbsByte]) -> u64
     digest
 }
 
-#[tactic(auto, using(crate::proofs::Lists::fold_take))]
+// So many free slots are passed at once: most slots of a deep frame are free.
+const PASSED: usize = 8;
+
+#[tactic(auto, using(crate::proofs::Passing::step_on, crate::proofs::Passing::pass_on, crate::proofs::Passing::all_done))]
 fn digest_slots(start: u64, slots: &[Slot<AbsByte>]) -> u64
-    ensures { result ≡ fold mix_slot start slots.now }
+    ensures { result ≡ mix_slots start 0 slots.now }
 {
     let mut digest = start;
-    for slot in slots {
-        digest = mixed(digest, slot_number(slot));
+    let mut at = 0;
+    while at < slots.len() {
+        if are_free(slots, at) {
+            at += PASSED;
+        } else {
+            digest = with_slot(digest, at, &slots[at]);
+            at += 1;
+        }
     }
     digest
+}
+
+fn are_free(slots: &[Slot<AbsByte>], at: usize) -> bool
+    requires { at < length slots.now }
+    ensures there { IsTrue result → at + 8 ≤ length slots.now }
+    ensures free { IsTrue result → AreFree slots.now at 8 }
+{
+    if slots.len() - at < PASSED {
+        return false;
+    }
+    for d in 0..PASSED {
+        if !is_free(&slots[at + d]) {
+            return false;
+        }
+    }
+    true
+}
+
+fn is_free(slot: &Slot<AbsByte>) -> bool
+    ensures { IsTrue result → slot.now ≡ Free }
+{
+    match slot {
+        Slot::Free => true,
+        Slot::Guarded(_) => false,
+    }
+}
+
+fn with_slot(digest: u64, at: usize, slot: &Slot<AbsByte>) -> u64
+    ensures { result ≡ mix_slot digest at slot.now }
+{
+    match slot {
+        Slot::Free => digest,
+        Slot::Guarded(value) => mixed(digest.wrapping_add(at as u64), value_number(value)),
+    }
 }
 
 fn mixed(digest: u64, number: u64) -> u64
@@ -187,13 +231,4 @@ fn flags_number(flags: &AbsFlags) -> u64
 {
     let bits = pair_number(flags.bits.known, flags.bits.value);
     bits + 65_536 * (u64::from(flags.entry) + 2 * carry_number(flags.carry))
-}
-
-fn slot_number(slot: &Slot<AbsByte>) -> u64
-    ensures { result ≡ slot_number slot.now }
-{
-    match slot {
-        Slot::Free => 2_251_799_813_685_248,
-        Slot::Guarded(value) => value_number(value),
-    }
 }
