@@ -1,9 +1,9 @@
 //! Reports of one certificate, with and without a schedule, names and static data.
 
-use cert_format::read;
+use cert_format::{Certificate, read};
 use flash_image::{Device, Names};
 use reports::{report_json, report_text};
-use std::alloc::Global;
+use std::alloc::{AllocError, Global};
 use std::test::Fail;
 
 /// What is reported, on which device: the bound, whether the certificate has a schedule, the name of word 0040, and the end of static data.
@@ -18,7 +18,7 @@ struct Row {
     json: &'static str,
 }
 
-const ROWS: [Row; 5] = [
+static ROWS: [Row; 5] = [
     Row {
         device: Device::M328,
         bound: 9,
@@ -79,21 +79,40 @@ fn ending(attained: bool) -> &'static str {
     }
 }
 
-/// Whether both reports of the row's certificate are the row's.
-fn is_row(alloc: Global, row: &Row) -> Result<bool, Fail> {
+fn certificate_text(alloc: Global, row: &Row) -> Result<String, AllocError> {
     let bound = row.bound;
     let ending = ending(row.attained);
-    let certificate_text = format!(in alloc;
-        "stackcert 1\nbound {bound}\nassume 0\n{INSTANCES}nodes 0\n{ending}"
-    )?;
-    let certificate = read(alloc, certificate_text.as_bytes()).map_err(|_| "no certificate")?;
-    let mut names = Names::new(alloc);
-    if let Some(name) = row.name {
-        names.add(0x40, name.as_bytes())?;
+    format!(in alloc; "stackcert 1\nbound {bound}\nassume 0\n{INSTANCES}nodes 0\n{ending}")
+}
+
+fn add_name(names: &mut Names, row: &Row) -> Result<(), AllocError> {
+    match row.name {
+        Some(name) => names.add(0x40, name.as_bytes()),
+        None => Ok(()),
     }
-    let text = report_text(alloc, row.device, &certificate, &names, row.static_end)?;
-    let json = report_json(alloc, row.device, &certificate, &names, row.static_end)?;
+}
+
+/// Whether both reports of the certificate are the row's.
+fn are_reports(
+    alloc: Global,
+    row: &Row,
+    certificate: &Certificate,
+    names: &Names,
+) -> Result<bool, AllocError> {
+    let text = report_text(alloc, row.device, certificate, names, row.static_end)?;
+    let json = report_json(alloc, row.device, certificate, names, row.static_end)?;
     Ok(text.as_slice() == row.text.as_bytes() && json.as_slice() == row.json.as_bytes())
+}
+
+/// The same of the row's own certificate.
+fn is_row(alloc: Global, row: &Row) -> Result<bool, Fail> {
+    let text = certificate_text(alloc, row)?;
+    let certificate = read(alloc, text.as_bytes()).map_err(|_| "no certificate")?;
+    let mut names = Names::new(alloc);
+    match add_name(&mut names, row) {
+        Ok(()) => Ok(are_reports(alloc, row, &certificate, &names)?),
+        Err(fault) => Err(fault.into()),
+    }
 }
 
 #[test]

@@ -15,6 +15,14 @@ type Inst = (u8, u16);
 
 const ROOT: Inst = (0, 0);
 
+const FUNCTION: Inst = (1, 40);
+
+const LEAF: Inst = (1, 30);
+
+const HANDLER: Inst = (5, 10);
+
+const LATER: Inst = (9, 18);
+
 #[derive(Clone, Copy)]
 enum Note {
     /// A node of this instance at this offset.
@@ -42,6 +50,22 @@ fn take(nesting: &mut Nesting, note: Note) -> Result<(), AllocError> {
     }
 }
 
+/// Takes the notes, and judges the nesting after each of them if `often`.
+fn take_all(
+    nesting: &mut Nesting,
+    size: u16,
+    notes: &[Note],
+    often: bool,
+) -> Result<(), AllocError> {
+    for note in notes {
+        take(nesting, *note)?;
+        if often && nesting.count() <= 65_536 {
+            nesting.judge(size)?;
+        }
+    }
+    Ok(())
+}
+
 /// What the notes tell where SRAM has so many bytes, where the nesting is judged besides after each note if `often`.
 fn verdict(
     alloc: Global,
@@ -50,16 +74,14 @@ fn verdict(
     often: bool,
 ) -> Result<Option<NestingVerdict>, AllocError> {
     let mut nesting = Nesting::new(alloc);
-    for note in notes {
-        take(&mut nesting, *note)?;
-        if often && nesting.count() <= 65_536 {
-            nesting.judge(size)?;
-        }
-    }
+    let taken = take_all(&mut nesting, size, notes, often);
     if nesting.count() > 65_536 {
         return Ok(None);
     }
-    Ok(Some(nesting.judge(size)?))
+    match (taken, nesting.judge(size)) {
+        (Ok(()), Ok(verdict)) => Ok(Some(verdict)),
+        _ => Err(AllocError),
+    }
 }
 
 fn is_row(alloc: Global, size: u16, notes: &[Note], wanted: NestingVerdict) -> bool {
@@ -85,141 +107,144 @@ fn chain() -> [Note; 81] {
     notes
 }
 
+/// How many bytes SRAM has, the notes, and what they tell.
+type Row = (u16, &'static [Note], NestingVerdict);
+
+static ROWS: [Row; 15] = [
+    (SIZE, &[Note::Node(ROOT, 0)], NestingVerdict::Nests),
+    // a need of exactly what the least SRAM has, and one more; then of the greatest
+    (512, &[Note::Node(ROOT, 512)], NestingVerdict::Nests),
+    (512, &[Note::Node(ROOT, 513)], NestingVerdict::TooDeep(513)),
+    (SIZE, &[Note::Node(ROOT, 2_048)], NestingVerdict::Nests),
+    (
+        SIZE,
+        &[
+            Note::Node(ROOT, 0),
+            Note::Entrance(ROOT, 46, FUNCTION),
+            Note::Node(FUNCTION, 2_000),
+        ],
+        NestingVerdict::Nests,
+    ),
+    (
+        SIZE,
+        &[
+            Note::Node(ROOT, 0),
+            Note::Entrance(ROOT, 46, FUNCTION),
+            Note::Node(FUNCTION, 2_001),
+        ],
+        NestingVerdict::TooDeep(2_049),
+    ),
+    // an instance that is entered and has no node needs nothing
+    (
+        SIZE,
+        &[Note::Node(ROOT, 0), Note::Entrance(ROOT, 2_046, FUNCTION)],
+        NestingVerdict::Nests,
+    ),
+    (
+        SIZE,
+        &[
+            Note::Node(ROOT, 0),
+            Note::Entrance(ROOT, 2_047, FUNCTION),
+            Note::Entrance(ROOT, 0, HANDLER),
+        ],
+        NestingVerdict::TooDeep(2_049),
+    ),
+    // a handler below a function below the root, with the way back to each
+    (
+        SIZE,
+        &[
+            Note::Node(ROOT, 10),
+            Note::Entrance(ROOT, 1_000, FUNCTION),
+            Note::Node(FUNCTION, 0),
+            Note::Entrance(FUNCTION, 1_000, HANDLER),
+            Note::Node(HANDLER, 45),
+        ],
+        NestingVerdict::TooDeep(2_049),
+    ),
+    // two instances enter a third, each of them at its own depth
+    (
+        SIZE,
+        &[
+            Note::Node(ROOT, 0),
+            Note::Entrance(ROOT, 2_000, LEAF),
+            Note::Entrance(ROOT, 0, FUNCTION),
+            Note::Node(FUNCTION, 100),
+            Note::Entrance(FUNCTION, 1_500, LEAF),
+            Note::Node(LEAF, 46),
+        ],
+        NestingVerdict::Nests,
+    ),
+    // a function that enters itself, and one that does by another
+    (
+        SIZE,
+        &[
+            Note::Node(ROOT, 0),
+            Note::Entrance(ROOT, 0, FUNCTION),
+            Note::Node(FUNCTION, 0),
+            Note::Entrance(FUNCTION, 0, FUNCTION),
+        ],
+        NestingVerdict::Recursion(40),
+    ),
+    (
+        SIZE,
+        &[
+            Note::Node(ROOT, 0),
+            Note::Entrance(ROOT, 0, FUNCTION),
+            Note::Node(FUNCTION, 0),
+            Note::Entrance(FUNCTION, 0, LEAF),
+            Note::Node(LEAF, 0),
+            Note::Entrance(LEAF, 0, FUNCTION),
+        ],
+        NestingVerdict::Recursion(30),
+    ),
+    // two handlers that enter each other: the lesser vector
+    (
+        SIZE,
+        &[
+            Note::Node(ROOT, 0),
+            Note::Entrance(ROOT, 0, LATER),
+            Note::Node(LATER, 0),
+            Note::Entrance(LATER, 0, HANDLER),
+            Note::Node(HANDLER, 0),
+            Note::Entrance(HANDLER, 0, LATER),
+        ],
+        NestingVerdict::ReEntry(5, 10),
+    ),
+    // a handler is named before a function
+    (
+        SIZE,
+        &[
+            Note::Node(ROOT, 0),
+            Note::Entrance(ROOT, 0, LEAF),
+            Note::Node(LEAF, 0),
+            Note::Entrance(LEAF, 0, LEAF),
+            Note::Entrance(LEAF, 0, LATER),
+            Note::Node(LATER, 0),
+            Note::Entrance(LATER, 0, LATER),
+        ],
+        NestingVerdict::ReEntry(9, 18),
+    ),
+    // a cycle is told before the depth, also where the root is noted last
+    (
+        SIZE,
+        &[
+            Note::Node(FUNCTION, 2_048),
+            Note::Entrance(FUNCTION, 0, FUNCTION),
+            Note::Entrance(ROOT, 2_048, FUNCTION),
+            Note::Node(ROOT, 0),
+        ],
+        NestingVerdict::Recursion(40),
+    ),
+];
+
 #[test]
 fn nestings_tell_what_is_found_by_hand(rt: HostRuntime) {
-    let function = (1, 40);
-    let leaf = (1, 30);
-    let handler = (5, 10);
-    let later = (9, 18);
-    let chain = chain();
-    let rows: [(u16, &[Note], NestingVerdict); 16] = [
-        (SIZE, &[Note::Node(ROOT, 0)], NestingVerdict::Nests),
-        (SIZE, &chain, NestingVerdict::Nests),
-        // a need of exactly what the least SRAM has, and one more; then of the greatest
-        (512, &[Note::Node(ROOT, 512)], NestingVerdict::Nests),
-        (512, &[Note::Node(ROOT, 513)], NestingVerdict::TooDeep(513)),
-        (SIZE, &[Note::Node(ROOT, 2_048)], NestingVerdict::Nests),
-        (
-            SIZE,
-            &[
-                Note::Node(ROOT, 0),
-                Note::Entrance(ROOT, 46, function),
-                Note::Node(function, 2_000),
-            ],
-            NestingVerdict::Nests,
-        ),
-        (
-            SIZE,
-            &[
-                Note::Node(ROOT, 0),
-                Note::Entrance(ROOT, 46, function),
-                Note::Node(function, 2_001),
-            ],
-            NestingVerdict::TooDeep(2_049),
-        ),
-        // an instance that is entered and has no node needs nothing
-        (
-            SIZE,
-            &[Note::Node(ROOT, 0), Note::Entrance(ROOT, 2_046, function)],
-            NestingVerdict::Nests,
-        ),
-        (
-            SIZE,
-            &[
-                Note::Node(ROOT, 0),
-                Note::Entrance(ROOT, 2_047, function),
-                Note::Entrance(ROOT, 0, handler),
-            ],
-            NestingVerdict::TooDeep(2_049),
-        ),
-        // a handler below a function below the root, with the way back to each
-        (
-            SIZE,
-            &[
-                Note::Node(ROOT, 10),
-                Note::Entrance(ROOT, 1_000, function),
-                Note::Node(function, 0),
-                Note::Entrance(function, 1_000, handler),
-                Note::Node(handler, 45),
-            ],
-            NestingVerdict::TooDeep(2_049),
-        ),
-        // two instances enter a third, each of them at its own depth
-        (
-            SIZE,
-            &[
-                Note::Node(ROOT, 0),
-                Note::Entrance(ROOT, 2_000, leaf),
-                Note::Entrance(ROOT, 0, function),
-                Note::Node(function, 100),
-                Note::Entrance(function, 1_500, leaf),
-                Note::Node(leaf, 46),
-            ],
-            NestingVerdict::Nests,
-        ),
-        // a function that enters itself, and one that does by another
-        (
-            SIZE,
-            &[
-                Note::Node(ROOT, 0),
-                Note::Entrance(ROOT, 0, function),
-                Note::Node(function, 0),
-                Note::Entrance(function, 0, function),
-            ],
-            NestingVerdict::Recursion(40),
-        ),
-        (
-            SIZE,
-            &[
-                Note::Node(ROOT, 0),
-                Note::Entrance(ROOT, 0, function),
-                Note::Node(function, 0),
-                Note::Entrance(function, 0, leaf),
-                Note::Node(leaf, 0),
-                Note::Entrance(leaf, 0, function),
-            ],
-            NestingVerdict::Recursion(30),
-        ),
-        // two handlers that enter each other: the lesser vector
-        (
-            SIZE,
-            &[
-                Note::Node(ROOT, 0),
-                Note::Entrance(ROOT, 0, later),
-                Note::Node(later, 0),
-                Note::Entrance(later, 0, handler),
-                Note::Node(handler, 0),
-                Note::Entrance(handler, 0, later),
-            ],
-            NestingVerdict::ReEntry(5, 10),
-        ),
-        // a handler is named before a function
-        (
-            SIZE,
-            &[
-                Note::Node(ROOT, 0),
-                Note::Entrance(ROOT, 0, leaf),
-                Note::Node(leaf, 0),
-                Note::Entrance(leaf, 0, leaf),
-                Note::Entrance(leaf, 0, later),
-                Note::Node(later, 0),
-                Note::Entrance(later, 0, later),
-            ],
-            NestingVerdict::ReEntry(9, 18),
-        ),
-        // a cycle is told before the depth, also where the root is noted last
-        (
-            SIZE,
-            &[
-                Note::Node(function, 2_048),
-                Note::Entrance(function, 0, function),
-                Note::Entrance(ROOT, 2_048, function),
-                Note::Node(ROOT, 0),
-            ],
-            NestingVerdict::Recursion(40),
-        ),
-    ];
-    for (at, (size, notes, wanted)) in rows.iter().enumerate() {
+    for (at, (size, notes, wanted)) in ROWS.iter().enumerate() {
         assert!(rt; is_row(rt.alloc(), *size, notes, *wanted), "row {at}");
     }
+}
+
+#[test]
+fn forty_functions_below_each_other_nest(rt: HostRuntime) {
+    assert!(rt; is_row(rt.alloc(), SIZE, &chain(), NestingVerdict::Nests));
 }

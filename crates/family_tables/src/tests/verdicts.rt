@@ -44,20 +44,6 @@ struct Row {
     verdict: (u8, u32, u32),
 }
 
-/// A row on the greatest device, with neither an assumption nor a node that comes from another.
-const fn row_of(image: [u8; 6], bound: u16, rank: u16, need: u16, verdict: (u8, u32, u32)) -> Row {
-    Row {
-        device: Device::M328,
-        image,
-        assumed: false,
-        from: false,
-        bound,
-        rank,
-        need,
-        verdict,
-    }
-}
-
 fn told(verdict: &Verdict) -> (u8, u32, u32) {
     match verdict {
         Verdict::Accepted(bound) => (0, u32::from(*bound), 0),
@@ -179,40 +165,125 @@ fn is_row(alloc: Global, row: &Row) -> Result<bool, Fail> {
     Ok(verdict == row.verdict)
 }
 
+/// A row on the greatest device, with neither an assumption nor a node that comes from another.
+const PLAIN: Row = Row {
+    device: Device::M328,
+    image: CALL,
+    assumed: false,
+    from: false,
+    bound: 0,
+    rank: 0,
+    need: 0,
+    verdict: (0, 0, 0),
+};
+
+static ROWS: [Row; 13] = [
+    Row {
+        bound: 2,
+        rank: 1,
+        need: 2,
+        verdict: (0, 2, 0),
+        ..PLAIN
+    },
+    Row {
+        bound: 7,
+        rank: 9,
+        need: 3,
+        verdict: (0, 7, 0),
+        ..PLAIN
+    },
+    Row {
+        image: RUN_ON,
+        bound: 2,
+        rank: 0,
+        need: 1,
+        verdict: (3, 1, 2),
+        ..PLAIN
+    },
+    Row {
+        image: UNDEFINED,
+        bound: 2,
+        rank: 0,
+        need: 1,
+        verdict: (2, 2, 5),
+        ..PLAIN
+    },
+    Row {
+        bound: 1,
+        rank: 0,
+        need: 1,
+        verdict: (4, 0, 1),
+        ..PLAIN
+    },
+    Row {
+        bound: 0,
+        rank: 1,
+        need: 1,
+        verdict: (5, 0, 2),
+        ..PLAIN
+    },
+    Row {
+        bound: 1,
+        rank: 1,
+        need: 2,
+        verdict: (6, 2, 0),
+        ..PLAIN
+    },
+    Row {
+        image: NO_CALL,
+        bound: 0,
+        rank: 0,
+        need: 0,
+        verdict: (0, 0, 0),
+        ..PLAIN
+    },
+    // a bound of as many bytes as the least SRAM has, and of one more
+    Row {
+        device: Device::M48,
+        bound: 512,
+        rank: 1,
+        need: 2,
+        verdict: (0, 512, 0),
+        ..PLAIN
+    },
+    Row {
+        device: Device::M48,
+        bound: 513,
+        rank: 1,
+        need: 2,
+        verdict: (6, 2, 0),
+        ..PLAIN
+    },
+    Row {
+        assumed: true,
+        bound: 2,
+        rank: 1,
+        need: 2,
+        verdict: (7, 0, 0),
+        ..PLAIN
+    },
+    Row {
+        from: true,
+        bound: 0,
+        rank: 0,
+        need: 0,
+        verdict: (9, 1, 0),
+        ..PLAIN
+    },
+    Row {
+        image: NO_CALL,
+        from: true,
+        bound: 0,
+        rank: 0,
+        need: 0,
+        verdict: (0, 0, 0),
+        ..PLAIN
+    },
+];
+
 #[test]
 fn verdicts_are_those_worked_by_hand(rt: HostRuntime) -> Result<(), Fail> {
-    let rows = [
-        row_of(CALL, 2, 1, 2, (0, 2, 0)),
-        row_of(CALL, 7, 9, 3, (0, 7, 0)),
-        row_of(RUN_ON, 2, 0, 1, (3, 1, 2)),
-        row_of(UNDEFINED, 2, 0, 1, (2, 2, 5)),
-        row_of(CALL, 1, 0, 1, (4, 0, 1)),
-        row_of(CALL, 0, 1, 1, (5, 0, 2)),
-        row_of(CALL, 1, 1, 2, (6, 2, 0)),
-        row_of(NO_CALL, 0, 0, 0, (0, 0, 0)),
-        // a bound of as many bytes as the least SRAM has, and of one more
-        Row {
-            device: Device::M48,
-            ..row_of(CALL, 512, 1, 2, (0, 512, 0))
-        },
-        Row {
-            device: Device::M48,
-            ..row_of(CALL, 513, 1, 2, (6, 2, 0))
-        },
-        Row {
-            assumed: true,
-            ..row_of(CALL, 2, 1, 2, (7, 0, 0))
-        },
-        Row {
-            from: true,
-            ..row_of(CALL, 0, 0, 0, (9, 1, 0))
-        },
-        Row {
-            from: true,
-            ..row_of(NO_CALL, 0, 0, 0, (0, 0, 0))
-        },
-    ];
-    for (at, row) in rows.iter().enumerate() {
+    for (at, row) in ROWS.iter().enumerate() {
         assert!(rt; is_row(rt.alloc(), row)?, "row {at}");
     }
     Ok(())
