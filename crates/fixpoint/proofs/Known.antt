@@ -63,7 +63,7 @@ module _ (words : List ℕ) (A : List Entry) (f : Family) (old new : Notes) (xs 
 
     -- ---- each node is known
 
-    look_known : (n : Node) → Has f n → HasLook xs n.key → IsKnown words A new n
+    pub look_known : (n : Node) → Has f n → HasLook xs n.key → IsKnown words A new n
     look_known n has h =
         let is = looks h.look h.member in
         subst (IsKnown words A new) (look_node words A f h.look is n has h.at)

@@ -5,4 +5,7 @@ pub mod Beyond
 pub mod Next
 pub mod Ready
 pub mod Ending
+pub mod Cases
+pub mod Order
+pub mod Confirm
 pub mod Answer

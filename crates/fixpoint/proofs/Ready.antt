@@ -64,12 +64,12 @@ module _ (words : List ℕ) (A : List Entry) where
     pub told_stops : (r : Refusal) → HasInst f root_inst → (r ≢ Memory → IsTold (size_of (device_of words)) notes.nesting r) → r ≢ Memory → IsStopped words A f r
     told_stops r root told real = let t = told real in told_by t.verdict r (t.tells words A f refl root (nesting_is words A f notes known)) t.is real
 
-    nests_passes : HasInst f root_inst → TellsAll (size_of (device_of words)) notes.nesting verdicts.Nests → Passes words A f
+    pub nests_passes : HasInst f root_inst → TellsAll (size_of (device_of words)) notes.nesting verdicts.Nests → Passes words A f
     nests_passes root nests =
         let t = nests words A f refl root (nesting_is words A f notes known) in
         record { fits = fits; faultless = known.faultless; acyclic = t.0; shallow = t.1 }
 
-    alike_known : (nesting : Noted) → AreAlike notes.nesting nesting → AreKnown words A f (record { callers = notes.callers; leavers = notes.leavers; nesting = nesting })
+    pub alike_known : (nesting : Noted) → AreAlike notes.nesting nesting → AreKnown words A f (record { callers = notes.callers; leavers = notes.leavers; nesting = nesting })
     alike_known nesting alike = record {
       faultless = known.faultless;
       each = λ n has. let k = known.each n has in record {

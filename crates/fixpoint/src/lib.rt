@@ -1,6 +1,8 @@
 //! The least certificate of a firmware under assumptions, or why there is none. Source: own.
 #![tactic(auto)]
 
+mod confirming;
+pub mod ordering;
 pub mod rounds;
 pub mod solving;
 mod testing;

@@ -53,7 +53,11 @@ fn next_nodes(
 }
 
 // The first family: the root's node after reset.
-fn start(alloc: Global, table: &mut Table, counted: &mut u64) -> Result<Vec<NodeKey>, AllocError>
+pub(crate) fn start(
+    alloc: Global,
+    table: &mut Table,
+    counted: &mut u64,
+) -> Result<Vec<NodeKey>, AllocError>
     requires { table.old ≡ empty }
     ensures first { OnOk result (table.new ≡ first) }
     ensures count { OnOk result (counted.new ≡ cells table.new) }
@@ -81,13 +85,20 @@ fn spend(steps: Option<u64>, left: Option<u64>) -> Result<Option<u64>, Refusal>
     }
 }
 
-// The rounds, on a table and notes that are empty: the family at which they end, or why they end at none within the budget. Their caller owns
-// both, so that each early end here lets go of the work alone.
+// Whether the rounds are to be left, in a hurry: many of so many looks were at nodes that had been looked at before.
+fn is_late(hurry: bool, looks: usize, table: &Table) -> bool {
+    hurry && looks.saturating_sub(256) > table.len()
+}
+
+// The rounds, on a table and notes that are empty: the family at which they end, or why they end at none within the budget. In a hurry they
+// are left as for want of memory once they look at nodes again and again. Their caller owns both, so that each early end here lets go of the
+// work alone.
 fn go_on(
     alloc: Global,
     flash: &Flash,
     assumptions: &Assumptions,
     steps: Option<u64>,
+    hurry: bool,
     table: &mut Table,
     notes: &mut Notes,
 ) -> Result<(), Refusal>
@@ -99,7 +110,12 @@ fn go_on(
     let mut counted = 0;
     let mut work = start(alloc, table, &mut counted)?;
     let mut left = steps;
+    let mut looks = 0;
     'rounds: loop {
+        if is_late(hurry, looks, table) {
+            return Err(Refusal::Memory);
+        }
+        looks = looks.saturating_add(work.len());
         let nodes = next_nodes(alloc, flash, assumptions, table, counted, &work, notes)?;
         let changed = join_all(alloc, table, &mut counted, nodes)?;
         if changed.is_empty() {
@@ -110,18 +126,28 @@ fn go_on(
     }
 }
 
-/// The family at which the rounds end, or why they end at none within the budget.
+/// The family at which the rounds end, or why they end at none within the budget. In a hurry the rounds are left, as for want of memory, once
+/// they look at nodes again and again.
 pub fn least_family(
     alloc: Global,
     flash: &Flash,
     assumptions: &Assumptions,
     steps: Option<u64>,
+    hurry: bool,
 ) -> Result<Table, Refusal>
     ensures found { IfOk result (λ f. IsFound flash.now assumptions.now steps f) }
     ensures why_not { IfErr result (λ r. IsWhyNot flash.now assumptions.now steps r) }
 {
     let mut table = Table::new(alloc);
     let mut notes = Notes::new(alloc);
-    go_on(alloc, flash, assumptions, steps, &mut table, &mut notes)?;
+    go_on(
+        alloc,
+        flash,
+        assumptions,
+        steps,
+        hurry,
+        &mut table,
+        &mut notes,
+    )?;
     Ok(table)
 }

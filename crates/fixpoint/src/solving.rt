@@ -6,7 +6,7 @@ ghost use Rattle.certificate.specs.Valid.{IsValid};
 ghost use Rattle.round_rules.specs.declared.refusal.Refusal.TheVariants.{Memory};
 ghost use Rattle.round_rules.specs.Solutions.{IsAnswer, IsWhyNot, IsShown};
 
-use crate::rounds::least_family;
+use crate::ordering::found_family;
 use certificate::Certificate;
 use flash_image::Flash;
 use round_rules::Refusal;
@@ -30,7 +30,7 @@ pub fn solve(
     ensures why_not { IfErr result (λ r. IsWhyNot flash.now assumptions.now steps r) }
     ensures none { steps ≡ None → IfErr result (λ r. r ≢ Memory → (other : Claim) → IsShown flash.now assumptions.now other → ⊥) }
 {
-    let table = least_family(alloc, flash, assumptions, steps)?;
+    let table = found_family(alloc, flash, assumptions, steps)?;
     let certificate = certificate_of(alloc, flash, assumptions, table)?;
     // a look at its nodes tells the proof what every certificate keeps
     let _nodes = certificate.nodes();

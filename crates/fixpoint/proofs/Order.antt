@@ -1,0 +1,260 @@
+-- Nodes are looked at in whatever order: the family stays one that is made of the first by where its edges lead.
+use Rattle.std.proofs.Common.{◌≡◌, refl, sym, ap, ◌∙◌, subst, ℕ, ◌^◌, ◌+◌, ◌-◌, ◌*◌, ◌<◌, ◌≤◌, inl, inr, ⊎_elim, Bool, true, ◌==◌, List, [], ◌∷◌, length, Option, Some, None, Contains, arith}
+use Rattle.std.specs.FinMap.{get, empty}
+use Rattle.std.proofs.lemmas.Option.{same_Some}
+use Rattle.basics.specs.Items.{none_in}
+use Rattle.basics.specs.Numbers.{zero_from_test}
+use Rattle.call_graph.proofs.AllLaws.{each_gathered}
+use Rattle.avr_model.proofs.AllLaws.{devices_are_alike}
+use Rattle.avr_model.specs.Devices.{device_of}
+use Rattle.avr_model.specs.Image.{WORDS}
+use Rattle.avr_model.specs.declared.assumption.Entry.{Entry}
+use Rattle.abs_state.specs.declared.state.AbsState.{AbsState}
+use Rattle.abs_state.specs.Values.{root}
+use Rattle.abs_state.specs.Frames.{returned}
+use Rattle.abs_state.specs.Formed.{IsFormed}
+use Rattle.abs_state.proofs.AllLaws.{returns_are_true, tags_stay_fit, states_are_ordered}
+use Rattle.mask_states.specs.declared.keys.InstKey.{InstKey}
+use Rattle.mask_states.specs.declared.keys.NodeKey.{NodeKey}
+use Rattle.mask_states.specs.declared.keys.EdgeKind.{EdgeKind}
+use Rattle.mask_states.specs.declared.keys.EdgeKind.TheVariants as kind
+use Rattle.mask_states.specs.declared.keys.SpForm.TheVariants.{Closed}
+use Rattle.mask_states.specs.Keys.{root_inst, entry_key, offset_of, PickFits}
+use Rattle.local_rules.specs.declared.local.Exit.{Exit}
+use Rattle.local_rules.specs.declared.local.Node.{Node}
+use Rattle.local_rules.specs.Cover.{IsNode}
+use Rattle.local_laws.specs.Laws.{AreNodes}
+use Rattle.local_laws.proofs.AllLaws.{local_parts_fit, local_parts_are_monotone}
+use Rattle.edge_rules.specs.declared.edge.Edge.{Edge}
+use Rattle.edge_rules.specs.Edges.{IsFaultless, raw_of, Enters, by_call, by_interrupt, pick_back, returned_key, target}
+use Rattle.edge_laws.specs.Laws.{with_state}
+use Rattle.edge_laws.proofs.AllLaws.{edges_lead_to_nodes, edges_grow}
+use Rattle.call_graph.specs.declared.ways.Way.{Way}
+use Rattle.family_table.specs.declared.crossings.Crossing.{Crossing}
+use Rattle.family_table.specs.Crossings.{IsCrossing}
+use Rattle.instance_nesting.specs.Nestings.{Noted, AreOnce}
+use Rattle.round_rules.specs.Families.{Family, nodes_of, Has, HasInst, FitsLimits, Lands, Below, AreFormed, HasNoFault, LandIn, IsClosed, cells}
+use Rattle.round_rules.specs.Rounds.{first, Passes}
+use Rattle.round_laws.specs.Steps.{raised_all, weight}
+use Rattle.round_laws.proofs.AllLaws.{lands_up, formed_nodes, member_has, rounds_are_joins, get_same}
+use Rattle.round_steps.specs.declared.looking.Look.{Look}
+use Rattle.round_steps.specs.declared.noting.Notes.{Notes}
+use Rattle.round_steps.specs.Looks.{IsLook}
+use Rattle.round_steps.specs.Notings.{blank, AnyHas, caller, leaver, CallsAt, LeavesAt, AreNoted}
+use Rattle.round_steps.specs.Targets.{targets_of, all_targets}
+use Rattle.round_steps.specs.Gathers.{AreBeyond}
+use Rattle.round_laws.specs.Closed.{LandWithEdges, IsMade}
+use Rattle.fixpoint.specs.Order.{HasEntered, HasLeft, WereTrue, IsUnderWay}
+use Rattle.fixpoint.specs.OrderLaws.{OrdersEnd}
+use Rattle.fixpoint.specs.Progress.{IsOwn, comes_back, IsFound}
+use Rattle.fixpoint.proofs.Looked.{seen_node, look_clean, look_exit, look_way}
+use Rattle.fixpoint.proofs.Aims.{IsAim, own_aim, back_aim}
+use Rattle.fixpoint.proofs.Cases.{look_cases}
+use Rattle.round_laws.proofs.CloseLaws.{closed_families_end_rounds}
+use Rattle.solution_laws.proofs.CloseLaws.{closed_families_are_solved}
+
+-- where the test says so, there is none
+pub none_left : (l : List Node) (b : Bool) (n : ℕ) → b ≡ (n == 0) → n ≡ length l → b ≡ true → l ≡ []
+none_left [] b n is all e = refl
+none_left (x ∷ xs) b n is all e = absurd (let z = zero_from_test b n is e in omega (arith, z, all))
+
+-- ---- returns lead to nodes
+
+pick_fits : (way : EdgeKind) (pick : Option ℕ) → PickFits pick → PickFits (pick_back way pick)
+pick_fits kind.Local pick fits = tt
+pick_fits kind.Call pick fits = tt
+pick_fits (kind.Interrupt v clears) pick fits = fits
+pick_fits kind.Return pick fits = tt
+
+-- to a node from one at its base, by an exit that keeps the enable bits
+returned_node : (way : EdgeKind) (k l : NodeKey) (s t after : AbsState) (back : ℕ) (x : Exit) → IsNode k s → back < WORDS → IsNode l t → l.sp ≡ Closed 0 → x.masks ≡ l.masks
+    → returned s t ≡ Some after → IsNode (returned_key way k back x) after
+returned_node way k l s t after back x node word other sp masks is =
+    let base : IsFormed t 0 = subst (IsFormed t) (ap offset_of sp) other.formed in
+    record {
+      word = word;
+      small = node.small;
+      masks = subst (λ (m : ℕ). m < 2 ^ 25) (sym masks) other.masks;
+      fits = node.fits;
+      pick = pick_fits way k.pick node.pick;
+      formed = returns_are_true.formed s t after (offset_of k.sp) node.formed base is;
+      tags = tags_stay_fit.at_return s t after node.formed.count_registers node.tags is;
+      carry_bytes = tags_stay_fit.carry_at_return s t after node.carry_bytes is;
+      untagged = λ kind. returns_are_true.untagged s t after (offset_of k.sp) node.formed base (node.untagged kind) is;
+    }
+
+module _ (words : List ℕ) (A : List Entry) where
+  back_small : (n : Node) (way : EdgeKind) (inst : InstKey) (back : ℕ) → IsNode n.key n.state → Enters words A n way inst back → back < WORDS
+  back_small n _ _ _ node (by_call offset site faultless form member) =
+      let lead = (local_parts_fit.fit words A n.key n.state).calls site member in
+      let few = devices_are_alike.most_words (device_of words) in
+      omega (arith, lead.1, few)
+  back_small n _ _ _ node (by_interrupt offset v clears faultless form i delay enabled allowed clearable) = node.word
+
+  -- ---- what is noted
+
+  entered_up : (f g : Family) → Below f g → (inst : InstKey) (p : Crossing) → HasEntered words A f inst p → HasEntered words A g inst p
+  entered_up f g below inst p h = record { node = h.node; was = h.was; lands = lands_up f g h.node below h.lands; at = h.at; enters = h.enters }
+
+  left_up : (f g : Family) → Below f g → (inst : InstKey) (p : Crossing) → HasLeft words A f inst p → HasLeft words A g inst p
+  left_up f g below inst p h =
+      record { node = h.node; was = h.was; lands = lands_up f g h.node below h.lands; at = h.at; of = h.of; clean = h.clean; exit = h.exit }
+
+  were_up : (f g : Family) (notes : Notes) → Below f g → WereTrue words A f notes → WereTrue words A g notes
+  were_up f g notes below were =
+      record { callers = λ inst p i. entered_up f g below inst p (were.callers inst p i); leavers = λ inst p i. left_up f g below inst p (were.leavers inst p i) }
+
+  there : (f : Family) (n : Node) → Has f n → Lands f n
+  there f n has = record { at = n.state; is = has; above = states_are_ordered.same n.state }
+
+  module _ (f : Family) (formed : AreFormed f) (xs : List Look) (looks : (x : Look) → Contains xs x → IsLook words A f x) where
+    calls_were : (y : InstKey × Crossing) → AnyHas xs CallsAt y → HasEntered words A f y.0 y.1
+    calls_were y h =
+        let is = looks h.one h.member in
+        let w = h.has.one in
+        let n = seen_node words A f h.one is in
+        subst (λ (z : InstKey × Crossing). HasEntered words A f z.0 z.1) (sym h.has.has)
+        (record { node = n; was = formed n is.has; lands = there f n is.has; at = refl; enters = (look_way words A f h.one is w).0 h.has.member })
+
+    leaves_were : (y : InstKey × Crossing) → AnyHas xs LeavesAt y → HasLeft words A f y.0 y.1
+    leaves_were y h =
+        let is = looks h.one h.member in
+        let n = seen_node words A f h.one is in
+        subst (λ (z : InstKey × Crossing). HasLeft words A f z.0 z.1) (sym h.has.1)
+        (record {
+          node = n;
+          was = formed n is.has;
+          lands = there f n is.has;
+          at = refl;
+          of = refl;
+          clean = look_clean words A f h.one is;
+          exit = sym (look_exit words A f h.one is) ∙ h.has.0;
+        })
+
+    were_more : (old new : Notes) → WereTrue words A f old → AreNoted old xs new → WereTrue words A f new
+    were_more old new were noted = record {
+      callers = λ i p h. ⊎_elim (were.callers i p) (calls_were (i, p)) ((noted.callers (i, p)).0 h);
+      leavers = λ i p h. ⊎_elim (were.leavers i p) (leaves_were (i, p)) ((noted.leavers (i, p)).0 h);
+    }
+
+    -- ---- where looks lead
+
+    module _ (notes : Notes) (were : WereTrue words A f notes) where
+      abbrev ns : List Node
+      ns = all_targets f notes xs
+
+      are_nodes : AreNodes ns
+      are_nodes = each_gathered (targets_of f notes) (λ (to : Node). IsNode to.key to.state) xs (λ x to i j. of_look x (looks x i) to j)
+        where
+          of_look : (x : Look) (is : IsLook words A f x) (to : Node) → Contains (targets_of f notes x) to → IsNode to.key to.state
+          of_look x is =
+              let n = seen_node words A f x is in
+              look_cases words A f notes x is (λ (to : Node). IsNode to.key to.state)
+              (λ to own.
+              let a = own_aim words A f n to is.has own in
+              subst (λ (t : Node). IsNode t.key t.state) a.at
+              (edges_lead_to_nodes.edges words A (nodes_of f) a.from a.edge (formed_nodes f formed) (member_has f a.from a.has) a.is))
+              (λ w p t after enters j at r.
+              let h = were.leavers w.inst p j in
+              let left = (local_parts_fit.fit words A h.node.key h.node.state).exit p.exit h.exit in
+              returned_node w.kind x.key p.node is.state t after w.back p.exit (formed n is.has) (back_small n w.kind w.inst w.back (formed n is.has) enters)
+              (formed (record { key = p.node; state = t }) at) (subst (λ (k : NodeKey). k.sp ≡ Closed 0) h.at left.0)
+              (subst (λ (k : NodeKey). p.exit.masks ≡ k.masks) h.at left.1) r)
+              (λ e p t after exit j at r.
+              let h = were.callers x.key.inst p j in
+              let left = (local_parts_fit.fit words A x.key is.state).exit e exit in
+              returned_node p.kind p.node x.key t is.state after p.back e (formed (record { key = p.node; state = t }) at)
+              (back_small h.node p.kind x.key.inst p.back h.was h.enters) (formed n is.has) left.0 left.1 r)
+
+      -- where the family has no fault, an edge of it leads to each
+      module _ (clean : HasNoFault words A f) where
+        aims : (to : Node) → Contains ns to → IsAim words A f to
+        aims = each_gathered (targets_of f notes) (IsAim words A f) xs (λ x to i j. of_look x (looks x i) to j)
+          where
+            of_look : (x : Look) (is : IsLook words A f x) (to : Node) → Contains (targets_of f notes x) to → IsAim words A f to
+            of_look x is =
+                let n = seen_node words A f x is in
+                look_cases words A f notes x is (IsAim words A f)
+                (λ to own. own_aim words A f n to is.has own)
+                (λ w p t after enters j at r.
+                let h = were.leavers w.inst p j in
+                let l = h.lands in
+                let m = with_state h.node l.at in
+                let same : l.at ≡ t = same_Some l.at t (sym l.is ∙ ap (get f) h.at ∙ at) in
+                let within = (local_parts_are_monotone.below words A h.node.key h.node.state l.at h.was (formed m l.is) l.above).within (clean m l.is) in
+                back_aim words A f n m _ is.has l.is
+                (comes_back w.kind w.inst w.back p.exit after enters h.of (clean m l.is) (sym within.exit ∙ h.exit) (ap (returned is.state) same ∙ r)))
+                (λ e p t after exit j at r.
+                let h = were.callers x.key.inst p j in
+                let l = h.lands in
+                let c = with_state h.node l.at in
+                let same : l.at ≡ t = same_Some l.at t (sym l.is ∙ ap (get f) h.at ∙ at) in
+                let enters = edges_grow.enters words A h.node l.at p.kind x.key.inst p.back h.was (formed c l.is) l.above (clean c l.is) h.enters in
+                subst (λ (k : NodeKey). IsAim words A f (record { key = returned_key p.kind k p.back e; state = after })) h.at
+                (back_aim words A f c n _ l.is is.has
+                (comes_back p.kind x.key.inst p.back e after enters refl (look_clean words A f x is) exit (ap (λ (u : AbsState). returned u is.state) same ∙ r))))
+
+      land : (items : List Node) → AreBeyond f ns items → LandWithEdges words A f items
+      land items beyond clean h below lands = beyond.least h (λ to i. let a = aims clean to i in subst (Lands h) a.at (lands a.from a.edge a.has a.is))
+
+      more : (items : List Node) (count : ℕ) → IsMade words A f → AreOnce notes.nesting.insts → AreBeyond f ns items → count ≡ cells (raised_all f items)
+          → IsUnderWay words A (raised_all f items) count notes
+      more items count made once beyond counted = record {
+        made = closed_families_end_rounds.goes_on words A f items made beyond.nodes (land items beyond);
+        counted = counted;
+        were = were_up f (raised_all f items) notes (rounds_are_joins.joined f items formed beyond.nodes).above were;
+        once = once;
+      }
+
+  -- ---- begin and end
+
+  begins : (count : ℕ) → count ≡ cells first → IsUnderWay words A first count blank
+  begins count counted = record {
+    made = closed_families_end_rounds.begins words A;
+    counted = counted;
+    were = record { callers = λ i p h. absurd (none_in p h); leavers = λ i p h. absurd (none_in p h) };
+    once = λ i j inst a b. absurd (let never = a in cc);
+  }
+
+  ends : (f : Family) → IsMade words A f → IsClosed words A f → Passes words A f → IsFound words A None f
+  ends f made closed passes = let s = closed_families_are_solved.solved words A f made closed passes in record { number = s.0; within = tt; solved = s.1 }
+
+  -- ---- in the words of the code
+
+  pub way_first : (f : Family) (count : ℕ) (notes : Notes) → f ≡ first → count ≡ cells f → notes ≡ blank → IsUnderWay words A f count notes
+  way_first f count notes is counted none =
+      subst (IsUnderWay words A f count) (sym none)
+      (subst (λ (x : Family). IsUnderWay words A x count blank) (sym is) (begins count (counted ∙ ap cells is)))
+
+  -- whether instances nest may be asked on the way
+  pub way_asked : (f : Family) (count : ℕ) (notes : Notes) (nesting : Noted) → IsUnderWay words A f count notes → AreOnce nesting.insts
+      → IsUnderWay words A f count (record { callers = notes.callers; leavers = notes.leavers; nesting = nesting })
+  way_asked f count notes nesting way once = record {
+    made = way.made;
+    counted = way.counted;
+    were = record { callers = way.were.callers; leavers = way.were.leavers };
+    once = once;
+  }
+
+  pub made_root : (f : Family) → IsMade words A f → HasInst f root_inst
+  made_root f made =
+      let n : Node = record { key = entry_key root_inst; state = root } in
+      let l = made.above n (get_same empty (entry_key root_inst) root) in
+      (with_state n l.at, l.is, refl)
+
+  -- a look takes one that waits, and each that comes has raised the weight
+  pub falls_again : (f g : Family) (c h less now : ℕ) → AreFormed g → FitsLimits g → weight f + c ≤ weight g → less + 1 ≤ h → now ≡ less + c
+      → 2 * (70959235073 - weight g) + now < 2 * (70959235073 - weight f) + h
+  falls_again f g c h less now formed fits more one is =
+      let top = rounds_are_joins.high g formed in
+      let few = fits.few_cells in
+      omega (arith, top, few, more, one, is)
+
+pub orders_end : OrdersEnd
+orders_end = record {
+  begins = begins;
+  noted = λ words A f old new xs formed were looks noted. were_more words A f formed xs looks old new were noted;
+  nodes = λ words A f notes xs formed were looks. are_nodes words A f formed xs looks notes were;
+  goes_on = λ words A f count notes xs items made were once looks beyond counted. more words A f made.formed xs looks notes were items count made once beyond counted;
+  ends = ends;
+}

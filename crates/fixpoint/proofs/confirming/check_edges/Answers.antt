@@ -1,0 +1,15 @@
+use Rattle.std.proofs.Common.{arith}
+use Rattle.fixpoint.proofs.Order.{none_left}
+use Rattle.fixpoint.proofs.Confirm.{targets_are_nodes, edges_land}
+use Rattle.fixpoint.proofs.confirming.check_edges.Goals as goal
+
+pub targets-requires-clause-nodes : goal.targets-requires-clause-nodes
+targets-requires-clause-nodes c =
+    targets_are_nodes c.args.flash.now c.args.assumptions.now c.args.table.now c.requires.formed c.args.notes.now c.requires.known c.in_ok-seen.seen.looks.items
+    c.in_ok-seen.ensures.looks
+
+pub returns-then-is_empty : goal.returns-then-is_empty
+returns-then-is_empty c =
+    edges_land c.args.flash.now c.args.assumptions.now c.args.table.now c.requires.formed c.args.notes.now c.requires.known c.args.key.now c.in_ok-seen.seen
+    c.in_ok-nodes.nodes.items c.in_ok-seen.ensures c.in_ok-nodes.ensures
+    (none_left c.in_ok-nodes.nodes.items c.is_empty.result _ c.is_empty.ensures (omega (arith, c.in_ok-nodes.nodes.ok.0)) c.if-is_empty.true)

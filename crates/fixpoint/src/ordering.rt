@@ -1,0 +1,249 @@
+//! The least family, by looking at one node at a time, in whatever order.
+
+ghost use Rattle.std.specs.Prelude.{◌+◌, ◌≡◌, ◌<◌, ◌≤◌, length, None, IfOk, IfErr, OnOk, OnSome, true};
+ghost use Rattle.std.specs.FinMap.{empty};
+ghost use Rattle.std.specs.BinaryHeap.{heap_len};
+ghost use Rattle.instance_nesting.specs.Nestings.{AreOnce};
+ghost use Rattle.round_rules.specs.Families.{cells};
+ghost use Rattle.round_laws.specs.Closed.{IsMade};
+ghost use Rattle.round_rules.specs.Solutions.{IsWhyNot};
+ghost use Rattle.round_laws.specs.Steps.{weight};
+ghost use Rattle.round_steps.specs.Notings.{blank};
+ghost use Rattle.fixpoint.specs.Progress.{IsFound};
+ghost use Rattle.fixpoint.specs.Order.{IsUnderWay};
+ghost use Rattle.fixpoint.specs.OrderLaws.{OrdersEnd};
+
+use crate::confirming::confirm;
+use crate::rounds::{least_family, start};
+use crate::testing::{check_nesting, check_size, refusal_of};
+use family_table::Table;
+use flash_image::Flash;
+use instance_nesting::Nesting;
+use mask_states::NodeKey;
+use round_rules::Refusal;
+use round_steps::targets::targets;
+use round_steps::{Notes, join_all, look_all};
+use std::alloc::{AllocError, Global};
+use std::cmp::Reverse;
+use std::collections::BinaryHeap;
+use vector_table::Assumptions;
+
+/// Nodes may be looked at in whatever order.
+pub fn orders_end()
+    ensures { OrdersEnd }
+{}
+
+// Looks at one node, notes what is found there, and joins into the family where it leads. Gives the keys of what changed.
+fn look_on(
+    alloc: Global,
+    flash: &Flash,
+    assumptions: &Assumptions,
+    table: &mut Table,
+    counted: &mut u64,
+    notes: &mut Notes,
+    key: NodeKey,
+) -> Result<Vec<NodeKey>, Refusal>
+    requires way { IsUnderWay flash.now assumptions.now table.old counted.old notes.old }
+    ensures way { OnOk result (IsUnderWay flash.now assumptions.now table.new counted.new notes.new) }
+    ensures more { IfOk result (λ changed. weight table.old + length changed.items ≤ weight table.new) }
+{
+    let one = [key];
+    let seen = look_all(alloc, flash, assumptions, table, &one)?;
+    if let Some(fault) = seen.worst {
+        return Err(refusal_of(fault));
+    }
+    notes.note_all(alloc, &seen.looks)?;
+    let nodes = targets(alloc, table, notes, seen.looks)?;
+    let changed = join_all(alloc, table, counted, nodes)?;
+    Ok(changed)
+}
+
+/// A node that waits: its offset in the frame, its word, and its key. The greatest is the one of the least offset and word.
+type Due = (Reverse<u16>, Reverse<u16>, NodeKey);
+
+// A node that waits.
+fn due(key: NodeKey) -> Due {
+    (Reverse(key.offset()), Reverse(key.pc), key)
+}
+
+// These wait too.
+fn await_all(waiting: &mut BinaryHeap<Due>, keys: Vec<NodeKey>) -> Result<(), AllocError>
+    ensures { OnOk result (heap_len waiting.new ≡ heap_len waiting.old + length keys.items) }
+{
+    'keys: for key in keys {
+        waiting.push(due(key))?;
+    }
+    Ok(())
+}
+
+// Whether the first that waits has this key.
+fn is_first(waiting: &BinaryHeap<Due>, key: &NodeKey) -> bool
+    ensures { result ≡ true → 0 < heap_len waiting.now }
+{
+    match waiting.peek() {
+        Some((_, _, first)) => *first == *key,
+        None => false,
+    }
+}
+
+// The first that waits, which then waits no more, however often it was due.
+fn take_first(waiting: &mut BinaryHeap<Due>) -> Option<NodeKey>
+    ensures { OnSome result (heap_len waiting.new + 1 ≤ heap_len waiting.old) }
+{
+    let Some((_, _, key)) = waiting.pop() else {
+        return None;
+    };
+    'again: while is_first(waiting, &key) {
+        let _again = waiting.pop();
+    }
+    Some(key)
+}
+
+// Whether instances nest so far, each time that 64 nodes have come. A no says nothing of the family.
+fn ask_nesting(
+    flash: &Flash,
+    nesting: &mut Nesting,
+    nodes: usize,
+    due: &mut usize,
+) -> Result<(), Refusal>
+    requires { AreOnce nesting.old.insts }
+    ensures { OnOk result (AreOnce nesting.new.insts) }
+{
+    if nodes < *due {
+        return Ok(());
+    }
+    if nesting.count() > 65536 {
+        return Err(Refusal::Memory);
+    }
+    *due = nodes.saturating_add(64);
+    check_nesting(flash, nesting)
+}
+
+// Looks at nodes, the least offset and word first, until none waits. How instances nest is asked on the way, since the rounds are stopped
+// soon where they don't.
+fn walk(
+    alloc: Global,
+    flash: &Flash,
+    assumptions: &Assumptions,
+    table: &mut Table,
+    counted: &mut u64,
+    notes: &mut Notes,
+) -> Result<(), Refusal>
+    requires no_nodes { table.old ≡ empty }
+    requires no_notes { notes.old ≡ blank }
+    ensures { OnOk result (IsUnderWay flash.now assumptions.now table.new counted.new notes.new) }
+{
+    let mut waiting = BinaryHeap::new(alloc);
+    let first = start(alloc, table, counted)?;
+    await_all(&mut waiting, first)?;
+    let mut due = 64;
+    'looks: loop {
+        let Some(key) = take_first(&mut waiting) else {
+            return Ok(());
+        };
+        let changed = look_on(alloc, flash, assumptions, table, counted, notes, key)?;
+        check_size(table, *counted)?;
+        await_all(&mut waiting, changed)?;
+        ask_nesting(flash, &mut notes.nesting, table.len(), &mut due)?;
+    }
+}
+
+// Whether the rounds end at the family, with notes of its own, so that no early end lets go of them.
+fn is_end(
+    alloc: Global,
+    flash: &Flash,
+    assumptions: &Assumptions,
+    table: &Table,
+    counted: u64,
+) -> Result<(), Refusal>
+    requires made { IsMade flash.now assumptions.now table.now }
+    requires count { counted ≡ cells table.now }
+    ensures { OnOk result (IsFound flash.now assumptions.now None table.now) }
+{
+    let mut notes = Notes::new(alloc);
+    confirm(alloc, flash, assumptions, table, counted, &mut notes)
+}
+
+// The walk with notes of its own: the number of the family's cells.
+fn walked(
+    alloc: Global,
+    flash: &Flash,
+    assumptions: &Assumptions,
+    table: &mut Table,
+) -> Result<u64, Refusal>
+    requires { table.old ≡ empty }
+    ensures made { OnOk result (IsMade flash.now assumptions.now table.new) }
+    ensures count { IfOk result (λ counted. counted ≡ cells table.new) }
+{
+    let mut notes = Notes::new(alloc);
+    let mut counted = 0;
+    match walk(alloc, flash, assumptions, table, &mut counted, &mut notes) {
+        Ok(()) => Ok(counted),
+        Err(refusal) => Err(refusal),
+    }
+}
+
+/// The family at which the rounds end, found in another order. An error says nothing of it.
+pub fn ordered_family(
+    alloc: Global,
+    flash: &Flash,
+    assumptions: &Assumptions,
+) -> Result<Table, Refusal>
+    ensures { IfOk result (λ f. IsFound flash.now assumptions.now None f) }
+{
+    let mut table = Table::new(alloc);
+    let counted = walked(alloc, flash, assumptions, &mut table)?;
+    is_end(alloc, flash, assumptions, &table, counted)?;
+    Ok(table)
+}
+
+// The same, or what the rounds tell where the other order gives nothing.
+fn in_another_order(
+    alloc: Global,
+    flash: &Flash,
+    assumptions: &Assumptions,
+    steps: Option<u64>,
+) -> Result<Table, Refusal>
+    requires { steps ≡ None }
+    ensures found { IfOk result (λ f. IsFound flash.now assumptions.now steps f) }
+    ensures why_not { IfErr result (λ r. IsWhyNot flash.now assumptions.now steps r) }
+{
+    match ordered_family(alloc, flash, assumptions) {
+        Ok(table) => Ok(table),
+        Err(_) => least_family(alloc, flash, assumptions, steps, false),
+    }
+}
+
+// The same, by rounds where these don't look at nodes again and again.
+fn in_any_order(
+    alloc: Global,
+    flash: &Flash,
+    assumptions: &Assumptions,
+    steps: Option<u64>,
+) -> Result<Table, Refusal>
+    requires { steps ≡ None }
+    ensures found { IfOk result (λ f. IsFound flash.now assumptions.now steps f) }
+    ensures why_not { IfErr result (λ r. IsWhyNot flash.now assumptions.now steps r) }
+{
+    match least_family(alloc, flash, assumptions, steps, true) {
+        Err(Refusal::Memory) => in_another_order(alloc, flash, assumptions, steps),
+        told => told,
+    }
+}
+
+/// The family at which the rounds end, or why they end at none within the budget. With a budget the rounds alone tell this. Without one they
+/// begin in a hurry; where they are left, the other order is tried, and where that gives nothing, they go to their end.
+pub fn found_family(
+    alloc: Global,
+    flash: &Flash,
+    assumptions: &Assumptions,
+    steps: Option<u64>,
+) -> Result<Table, Refusal>
+    ensures found { IfOk result (λ f. IsFound flash.now assumptions.now steps f) }
+    ensures why_not { IfErr result (λ r. IsWhyNot flash.now assumptions.now steps r) }
+{
+    if steps.is_none() {
+        return in_any_order(alloc, flash, assumptions, steps);
+    }
+    least_family(alloc, flash, assumptions, steps, false)
+}
