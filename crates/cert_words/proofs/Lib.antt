@@ -7,3 +7,4 @@ pub mod NodeKeys
 pub mod States
 pub mod Places
 pub mod AllLaws
+pub mod Digits

@@ -1,7 +1,8 @@
 //! The bytes of a word, from its front.
 
-ghost use Rattle.std.specs.Prelude.{◌≡◌, ◌≤◌, ◌<◌, ◌^◌, IfSome};
+ghost use Rattle.std.specs.Prelude.{◌≡◌, ◌≤◌, ◌<◌, ◌^◌, Some, None, if◌then◌else◌, IfSome};
 ghost use Rattle.std.specs.Option.{option_map};
+ghost use Rattle.sb_base.specs.Digits.{is_hex, digit_of};
 ghost use Rattle.cert_words.specs.Reading.{letter_at, digits_at, is_end};
 
 use sb_base::read_hex;
@@ -19,6 +20,20 @@ impl<'a> Model for Letters<'a> {
     ghost Value = { List ℕ };
 
     ghost view = { λ l. l.rest.now };
+}
+
+/// The number that an upper-case hexadecimal digit stands for; none where the byte is no such digit.
+fn digit_of(byte: u8) -> Option<u8>
+    ensures value { result ≡ (if is_hex byte then Some (digit_of byte) else None) }
+    ensures small { IfSome result (λ n. n < 16) }
+{
+    if byte >= b'0' && byte <= b'9' {
+        Some(byte - b'0')
+    } else if byte >= b'A' && byte <= b'F' {
+        Some(byte - b'A' + 10)
+    } else {
+        None
+    }
 }
 
 impl<'a> Letters<'a> {
@@ -57,6 +72,23 @@ impl<'a> Letters<'a> {
             }
             Err(_) => None,
         }
+    }
+
+    /// The next two bytes, as a number in two upper-case hexadecimal digits.
+    #[tactic(auto, using(crate::proofs::Digits::no_letter, crate::proofs::Digits::one_letter, crate::proofs::Digits::two_letters))]
+    pub(crate) fn byte(&mut self) -> Option<u8>
+        ensures { option_map (λ n. (n, self.new)) result ≡ digits_at 2 self.old }
+    {
+        let Some((high, behind)) = self.rest.split_first() else {
+            return None;
+        };
+        let Some((low, rest)) = behind.split_first() else {
+            return None;
+        };
+        let high = digit_of(*high)?;
+        let low = digit_of(*low)?;
+        self.rest = rest;
+        Some(16 * high + low)
     }
 
     /// What is left, all of it.

@@ -25,8 +25,8 @@ const SIZE: u64 = device::SIZE as u64;
 fn bits_of(letters: &mut Letters<'_>) -> Option<TriByte>
     ensures { option_map (λ t. (t, letters.new)) result ≡ bits_at letters.old }
 {
-    let known = letters.digits(2)? as u8;
-    let value = letters.digits(2)? as u8;
+    let known = letters.byte()?;
+    let value = letters.byte()?;
     if value & known == value {
         Some(TriByte::new(known, value))
     } else {
@@ -39,12 +39,8 @@ fn bits_of(letters: &mut Letters<'_>) -> Option<TriByte>
 fn register_of(letters: &mut Letters<'_>) -> Option<u8>
     ensures { option_map (λ r. (r, letters.new)) result ≡ register_at letters.old }
 {
-    let register = letters.digits(2)?;
-    if register < 32 {
-        Some(register as u8)
-    } else {
-        None
-    }
+    let register = letters.byte()?;
+    if register < 32 { Some(register) } else { None }
 }
 
 /// The tag that a letter begins, which isn't that of none.
@@ -57,7 +53,7 @@ fn tag_of(letter: u8, letters: &mut Letters<'_>) -> Option<Tag>
     } else if letter == b'f' {
         Some(Tag::EntryFlags)
     } else if letter == b'l' {
-        Some(Tag::SpLo(letters.digits(2)? as u8))
+        Some(Tag::SpLo(letters.byte()?))
     } else if letter == b'h' {
         Some(Tag::SpHi(letters.digits(4)? as u16))
     } else {
@@ -85,8 +81,8 @@ fn any_tag_of(letters: &mut Letters<'_>, root: bool) -> Option<Tag>
 fn ends_of(letters: &mut Letters<'_>, bits: TriByte) -> Option<(u8, u8)>
     ensures { option_map (λ r. (r, letters.new)) result ≡ ends_at bits letters.old }
 {
-    let low = letters.digits(2)? as u8;
-    let high = letters.digits(2)? as u8;
+    let low = letters.byte()?;
+    let high = letters.byte()?;
     let all = Range::of_bits(bits);
     if all.low <= low && low <= high && high <= all.high {
         Some((low, high))
@@ -177,8 +173,8 @@ pub(crate) fn flags_of(word: &[u8], root: bool) -> Option<(bool, TriByte)>
 fn bytes_of(letters: &mut Letters<'_>) -> Option<(u8, u8)>
     ensures { result ≡ bytes_in letters.old }
 {
-    let first = letters.digits(2)? as u8;
-    let second = letters.digits(2)? as u8;
+    let first = letters.byte()?;
+    let second = letters.byte()?;
     if letters.is_end() {
         Some((first, second))
     } else {
@@ -208,7 +204,7 @@ fn less_of(letters: &mut Letters<'_>) -> Option<CarryTag>
     ensures { result ≡ less_in letters.old }
 {
     let register = register_of(letters)?;
-    let number = letters.digits(2)? as u8;
+    let number = letters.byte()?;
     if letters.is_end() {
         Some(CarryTag::Less(register, number))
     } else {

@@ -63,8 +63,7 @@ fn lists(items: &[u16], item: u16) -> bool
 fn is_fixed_site(flash: &Flash, assumptions: &Assumptions, pc: u16) -> bool
     ensures { result ≡ assumed.is_fixed_site flash.now assumptions.now pc }
 {
-    // What is assumed comes first: to look for a load before the site takes longer.
-    assumptions.proved(pc) || !assumptions.freed(pc) && avr_decode::is_fixed(flash.words(), pc)
+    assumptions.proved(pc) || !assumptions.freed(pc) && flash.is_fixed(pc)
 }
 
 // Whether a write of this address at this word is flagged for a protected one.
@@ -206,7 +205,7 @@ pub fn asked_by(
     requires { bound ≤ size_of (device_of flash.now) }
     ensures { (held : ℕ → Bool) → is_clear_by flash.now assumptions.now bound key.now state.now held (instruction_at flash.now key.now.pc) ≡ meets result held }
 {
-    match avr_decode::instruction(flash.words(), usize::from(key.pc)) {
+    match flash.instruction(key.pc) {
         None => Asks::Nothing,
         Some(instr) => {
             let aim = aim(flash.device(), key, state, &instr);
