@@ -22,7 +22,6 @@ use Rattle.round_rules.specs.Solutions.{IsAnswer}
 use Rattle.reports.specs.Laws.{NamesThatSayTheSame, ExplanationsSayTheSame}
 use Rattle.demo_image.specs.Image.{demo_words}
 use Rattle.device_hooks.specs.declared.devices.DevicesFault.{DevicesFault}
-use Rattle.device_hooks.specs.declared.devices.DevicesFault.TheVariants as devices
 use Rattle.device_hooks.specs.Spelling.{Setup}
 use Rattle.commands.specs.Commands.{Command, Check, Analyse, Run, Report, Explain, Clear, Premises, Attain, Simulate, Demo, device_for}
 use Rattle.certificate.specs.Valid.{IsAttained, IsValid}
@@ -41,7 +40,6 @@ use Rattle.replies.proofs.AllLaws.{attained_by, witness_zero, by_none}
 use Rattle.stack_core.specs.Answering.{GivesAs, GivesOn, NarrowedTo, LoadsOn, ReadsAs, IsJudgedAs, LoadedReply, ImageReply}
 use Rattle.stack_core.specs.declared.reply.Reply.{Reply as Answered}
 use Rattle.stack_core.specs.declared.judging.Judged.{Judged}
-use Rattle.stack_core.specs.declared.judging.Judged.TheVariants as judged
 use Rattle.stack_core.specs.declared.loading.Image.{Image}
 use Rattle.stack_core.specs.declared.loading.Image.TheVariants.{Loaded as OnFlash, Refused}
 use Rattle.stack_core.specs.declared.loading.Listing.TheVariants.{Unlisted}
