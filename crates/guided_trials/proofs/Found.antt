@@ -13,8 +13,9 @@ use Rattle.witness_replay.specs.Replay.{replay_from, report_unless, steps_of}
 use Rattle.certificate.specs.Valid.{Attains}
 use Rattle.guided_trials.specs.declared.guide.Guide.{Guide}
 use Rattle.guided_trials.specs.Choosing.{pick, left}
-use Rattle.guided_trials.specs.Trials.{most_choices, fill_of, start_of, trial_by, trial_of, Succeeds, NoneSucceeds, IsTried, IsFound}
-use Rattle.guided_trials.proofs.Runs.{few, ends_well, run_legal}
+use Rattle.trial_runs.specs.Length.{most_choices}
+use Rattle.guided_trials.specs.Trials.{fill_of, start_of, trial_by, trial_of, Succeeds, NoneSucceeds, IsTried, IsFound}
+use Rattle.trial_runs.proofs.AllLaws.{few, ends_well, run_legal}
 
 choices_are : most_choices ≡ 200000
 unfolding most_choices

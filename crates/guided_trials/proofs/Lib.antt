@@ -1,7 +1,5 @@
 pub mod AllLaws
-mod Depths
 mod Points
-mod Runs
 mod Found
 mod Marks
 mod Nothing

@@ -6,7 +6,7 @@ ghost use Rattle.avr_model.specs.State.{IsReset, filled};
 ghost use Rattle.avr_model.specs.Run.{IsRun, Bounded, depth_of};
 ghost use Rattle.certificate.specs.Valid.{Attains};
 ghost use Rattle.guided_trials.specs.Choosing as choosing;
-ghost use Rattle.guided_trials.specs.Trials.{most_choices, fill_of, trial_by, IsTried, IsFound};
+ghost use Rattle.guided_trials.specs.Trials.{fill_of, trial_by, IsTried, IsFound};
 
 use crate::choosing::{after, chosen};
 use crate::guide::{Guide, Moment};
@@ -16,15 +16,9 @@ use flash_image::Flash;
 use std::alloc::{AllocError, Global};
 use stimulus::laws::depth_is_kept;
 use stimulus::{Driver, Trace};
+use trial_runs::most_choices;
 use vector_table::Assumptions;
 use witness_replay::Schedule;
-
-// How many choices a trial has at most.
-fn most_choices() -> u32
-    ensures { result ≡ most_choices }
-{
-    200_000
-}
 
 // The byte that fills the memory at reset in trial `t`, and is its first input.
 fn fill_of(guide: &Guide, t: u32) -> u8

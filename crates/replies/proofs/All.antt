@@ -32,7 +32,7 @@ use Rattle.chain_explain.specs.Laws.{ExplanationsTell}
 use Rattle.clear_laws.specs.Clear.{word_of_flag}
 use Rattle.store_laws.specs.declared.verdict.ClearVerdict.{ClearVerdict}
 use Rattle.store_laws.specs.declared.verdict.ClearVerdict.TheVariants as clear
-use Rattle.store_laws.specs.Verdict.{AreAllClear, IsFirstUnclear, IsClearVerdict, AreSites}
+use Rattle.store_laws.specs.Verdict.{AreAllClear, IsClearVerdict, AreSites}
 use Rattle.store_laws.specs.Laws.{ClearVerdictsAreOne, ClearFirmwaresAreNeverFlagged, FlaggedRunsEndAtSites, EndsByTakeAt}
 use Rattle.store_clear.specs.Laws.{ClearWhereNoSites}
 use Rattle.cert_writing.specs.Sizes.{TextsFit}
@@ -42,7 +42,7 @@ use Rattle.replies.specs.Firmware.{IsFirmware, firmware_words}
 use Rattle.replies.specs.Texts.{devices_refused, accepted, run_text}
 use Rattle.replies.specs.Reading.{Whole, Contents, certificate_cap}
 use Rattle.replies.specs.Reply.{Reply, WithOptional, WithImage, WithList, ClearSays, ClearReply, AcceptedReply, AnalyseReply, SimulateReply, DemoReply, IsReply}
-use Rattle.replies.specs.Headline.{AreLoaded, AreRead, IsListOf, StandFor, Shows, HoldsAsRead, IsLeastAsRead, IsAttainedAsRead, IsSimulatedAsRead, IsMeasured, SaysWhether, AcceptsExactly, AnswersRounds, AnswersDevices, AcceptingRepliesHold, RepliesAreExact}
+use Rattle.replies.specs.Headline.{AreLoaded, IsListOf, StandFor, Shows, HoldsAsRead, IsLeastAsRead, IsAttainedAsRead, IsSimulatedAsRead, IsMeasured, SaysWhether, AcceptsExactly, AnswersRounds, AnswersDevices, AcceptingRepliesHold, RepliesAreExact}
 use Rattle.replies.proofs.Accepting.{zero_file, zero_optional, zero_image, zero_list, zero_refused, no_one, IsJudged, file_read, optional_read, Accepting, IsJudgement, HoldsOf, judgement_holds, image_read, list_read, judged_by, valid_judged}
 use Rattle.replies.proofs.Attaining.{written_attained}
 use Rattle.replies.proofs.Least.{AnalysesFit, analysis_best, best_bounds, Ends, analyse_ends, says_ends, not_written}

@@ -1,6 +1,5 @@
 -- What `attain` writes.
-use Rattle.std.proofs.Common.{◌≡◌, ◌≤◌, ◌<◌, ⊎_elim, refl, sym, ap, ◌∙◌, subst, arith, ℕ, true, List, length, Option, Some, None, IfSome}
-use Rattle.std.specs.Option.{is_some}
+use Rattle.std.proofs.Common.{◌≡◌, ◌≤◌, refl, sym, ap, ◌∙◌, subst, arith, ℕ, List, length, Option, Some, None, IfSome}
 use Rattle.basics.specs.Numbers.{same_if_neither}
 use Rattle.avr_model.specs.declared.assumption.Entry.{Entry}
 use Rattle.witness_replay.specs.Spelling.{Plan, IsSchedule, most_choices, choices_of}
@@ -11,8 +10,8 @@ use Rattle.cert_words.specs.Text.{text_of}
 use Rattle.cert_writing.specs.Sizes.{HasFewChoices, TextsFit}
 use Rattle.guided_trials.specs.declared.guide.Guide.{Guide}
 use Rattle.guided_trials.specs.Guides.{guide_of}
-use Rattle.guided_trials.specs.Trials.{fill_of, trial_of, Succeeds, IsFirst, IsFound}
-use Rattle.guided_trials.specs.Attaining.{IsScheduled, IsCompleted, AttainedWhere}
+use Rattle.guided_trials.specs.Trials.{fill_of, trial_of, IsFirst, IsFound}
+use Rattle.guided_trials.specs.Attaining.{IsScheduled, IsCompleted}
 use Rattle.guided_trials.specs.Laws.{TrialsAreLed}
 use Rattle.guided_trials.proofs.AllLaws.{claim_with, sound_with, attained_where}
 use Rattle.replies.specs.Reading.{certificate_cap}

@@ -11,7 +11,7 @@ use Rattle.witness_replay.specs.Spelling.{Plan, IsSchedule}
 use Rattle.witness_replay.specs.Replay.{Report as Replayed, replay_of}
 use Rattle.witness_replay.specs.Runs.{ReplaysAreRuns}
 use Rattle.certificate.specs.Claims.{Claim, IsClaim, IsCertificate}
-use Rattle.certificate.specs.Valid.{IsSound, IsAttained, IsValid}
+use Rattle.certificate.specs.Valid.{IsAttained, IsValid}
 use Rattle.cert_words.specs.Text.{text_of}
 use Rattle.cert_writing.specs.Sizes.{HasFewChoices, TextsFit}
 use Rattle.cert_check.specs.Laws.{SoundCertificatesBoundEveryRun}

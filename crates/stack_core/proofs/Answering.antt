@@ -23,7 +23,7 @@ use Rattle.store_laws.specs.declared.verdict.ClearVerdict.TheVariants as clear
 use Rattle.device_hooks.specs.declared.devices.DevicesFault.{DevicesFault}
 use Rattle.device_hooks.specs.Spelling.{Setup}
 use Rattle.device_hooks.specs.Reading.{setup_in}
-use Rattle.commands.specs.Commands.{Command, Check, Analyse, Run, Report, Explain, Clear, Premises, Simulate, Demo, Firmware, Second, Assumptions, device_for, name_of}
+use Rattle.commands.specs.Commands.{Command, Check, Analyse, Run, Report, Explain, Clear, Premises, Attain, Simulate, Demo, Firmware, Second, Assumptions, device_for, name_of}
 use Rattle.replies.specs.Firmware.{firmware_words, firmware_fault}
 use Rattle.replies.specs.Texts.{read_fault, assumptions_refused, certificate_refused, devices_refused, why_not_status, why_not_text}
 use Rattle.replies.specs.Reading as read
@@ -186,6 +186,8 @@ flash_apart (Explain device f k a) firmware bytes words A =
 flash_apart (Clear device f k) firmware bytes words A = certificate_apart words [] (ClearReply words) (certificate_in bytes) (λ c s t h. clear_apart words c h.verdict s t h.says)
 flash_apart (Premises device f k a) firmware bytes words A =
     certificate_apart words A (AcceptedReply (Premises device f k a) firmware words A) (certificate_in bytes) (λ c s t h. at 0 s zero_plain h.says.0)
+flash_apart (Attain device f k a trials) firmware bytes words A =
+    certificate_apart words A (AcceptedReply (Attain device f k a trials) firmware words A) (certificate_in bytes) (λ c s t h. at 0 s zero_plain h.says.0)
 flash_apart (Simulate device f k a steps) firmware bytes words A = simulate_apart words A steps (setup_in bytes)
 flash_apart (Demo size) firmware bytes words A = demo_apart size
 
@@ -202,6 +204,7 @@ work_apart (Report device f k a json) firmware second list = on_image_apart (Rep
 work_apart (Explain device f k a) firmware second list = on_image_apart (Explain device f k a) firmware second list
 work_apart (Clear device f k) firmware second list = on_image_apart (Clear device f k) firmware second list
 work_apart (Premises device f k a) firmware second list = on_image_apart (Premises device f k a) firmware second list
+work_apart (Attain device f k a trials) firmware second list = on_image_apart (Attain device f k a trials) firmware second list
 work_apart (Simulate device f k a steps) firmware second list = on_image_apart (Simulate device f k a steps) firmware second list
 work_apart (Demo size) firmware second list = demo_apart size
 

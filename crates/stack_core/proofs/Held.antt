@@ -5,7 +5,7 @@ use Rattle.commands.specs.Commands.{Command, Analyse, Simulate, Firmware, Second
 use Rattle.replies.specs.Reading.{Seen, Unread, Whole, Long, Contents, firmware_cap, certificate_cap, devices_cap, assumption_cap, second_cap, Agrees, AgreesUnder, AllAgree}
 use Rattle.replies.specs.Reply.{Reply, WithFile, WithBytes, WithOptional, WorkReply, IsReply}
 use Rattle.replies.specs.Headline.{IsSeen, AreRead, Holds, HoldsAsRead, IsLeastCertificate, IsSimulated, Headline, AcceptsExactly, IsExact}
-use Rattle.stack_core.specs.Answer.{IsAnswered, IsDue, IsWritten, AreHeld, Judges, checks, reports, explains, clears, lists_premises, HeldHeadline, IsHeldExact, HeldLeast, IsHeldEnd, HeldSimulated, AreHeldDevices, WrittenAnswersHold}
+use Rattle.stack_core.specs.Answer.{IsAnswered, IsDue, IsWritten, AreHeld, Judges, checks, reports, explains, clears, lists_premises, completes, HeldHeadline, IsHeldExact, HeldLeast, IsHeldEnd, HeldSimulated, AreHeldDevices, WrittenAnswersHold}
 
 held_is : (h : Held) (cap : ℕ) (s : Seen) (a b : List ℕ) → Agrees h cap s → s ≡ Whole a → h ≡ Bytes b → a ≡ b
 held_is h cap s a b agrees e is = let g : Agrees h cap (Whole a) = subst (Agrees h cap) e agrees in subst (λ x. Gives x a) is g.0
@@ -47,6 +47,7 @@ judged_headline _ _ _ _ seen status text (reports device fw cert assume json) h 
 judged_headline _ _ _ _ seen status text (explains device fw cert assume) h zero = h zero
 judged_headline _ _ _ _ seen status text (clears device fw cert) h zero = h zero
 judged_headline _ _ _ _ seen status text (lists_premises device fw cert assume) h zero = h zero
+judged_headline _ _ _ _ seen status text (completes device fw cert assume trials) h zero = (h zero).holds
 
 judged_exact : (judge : Command) (fw cert : List ℕ) (assume : Option (List ℕ)) (seen : Contents) (status : ℕ) → Judges judge fw cert assume → IsExact judge seen status → AcceptsExactly judge assume seen status
 judged_exact _ _ _ _ seen status (checks device fw cert assume) h = h
@@ -54,6 +55,7 @@ judged_exact _ _ _ _ seen status (reports device fw cert assume json) h = h
 judged_exact _ _ _ _ seen status (explains device fw cert assume) h = h
 judged_exact _ _ _ _ seen status (clears device fw cert) h = h
 judged_exact _ _ _ _ seen status (lists_premises device fw cert assume) h = h
+judged_exact _ _ _ _ seen status (completes device fw cert assume trials) h = h
 
 judged_names : (judge : Command) (fw cert : List ℕ) (assume : Option (List ℕ)) → Judges judge fw cert assume
     → (name_of judge Firmware ≡ Some fw) × (name_of judge Second ≡ Some cert) × (name_of judge Assumptions ≡ assume) × (second_cap judge ≡ certificate_cap)
@@ -62,6 +64,7 @@ judged_names _ _ _ _ (reports device fw cert assume json) = (refl, refl, refl, r
 judged_names _ _ _ _ (explains device fw cert assume) = (refl, refl, refl, refl)
 judged_names _ _ _ _ (clears device fw cert) = (refl, refl, refl, refl)
 judged_names _ _ _ _ (lists_premises device fw cert assume) = (refl, refl, refl, refl)
+judged_names _ _ _ _ (completes device fw cert assume trials) = (refl, refl, refl, refl)
 
 agrees_as : (holds : List ℕ → Held) (cap cap' : ℕ) (o : Option (List ℕ)) (name : List ℕ) (s : Seen) → o ≡ Some name → cap ≡ cap' → AgreesUnder holds cap o s → Agrees (holds name) cap' s
 agrees_as holds cap cap' o name s e caps h = subst (λ x. Agrees (holds name) x s) caps (subst (λ x. AgreesUnder holds cap x s) e h)

@@ -22,9 +22,8 @@ use Rattle.round_rules.specs.Solutions.{IsAnswer}
 use Rattle.reports.specs.Laws.{NamesThatSayTheSame, ExplanationsSayTheSame}
 use Rattle.demo_image.specs.Image.{demo_words}
 use Rattle.device_hooks.specs.declared.devices.DevicesFault.{DevicesFault}
-use Rattle.device_hooks.specs.declared.devices.DevicesFault.TheVariants as devices
 use Rattle.device_hooks.specs.Spelling.{Setup}
-use Rattle.commands.specs.Commands.{Command, Check, Analyse, Run, Report, Explain, Clear, Premises, Simulate, Demo, device_for}
+use Rattle.commands.specs.Commands.{Command, Check, Analyse, Run, Report, Explain, Clear, Premises, Attain, Simulate, Demo, device_for}
 use Rattle.certificate.specs.Valid.{IsAttained, IsValid}
 use Rattle.cert_format.specs.declared.fault.CertFault.{CertFault}
 use Rattle.cert_format.specs.declared.fault.CertFault.TheVariants as fault
@@ -33,13 +32,14 @@ use Rattle.cert_check.specs.declared.verdict.Verdict.{Verdict}
 use Rattle.cert_check.specs.declared.verdict.Verdict.TheVariants.{Accepted, Rejected}
 use Rattle.replies.specs.Firmware.{words_by, outside_fault, fault_or, firmware_fault, firmware_words, firmware_names, firmware_end}
 use Rattle.replies.specs.Texts.{firmware_outside, demo_text, witness_rejected, devices_refused, assumptions_refused, certificate_refused}
-use Rattle.replies.specs.Reply.{Reply, Says, Refuses, ListBy, WithList, attains, AttainedBy, WitnessReply, VerdictReply, CertificateReply, report_by, ExplainReply, PremisesReply, AcceptedReply, SimulateReply, DemoReply, FlashReply}
+use Rattle.replies.specs.Reply.{Reply, Says, Refuses, ListBy, WithList, attains, AttainedBy, WitnessReply, VerdictReply, CertificateReply, report_by, ExplainReply, PremisesReply, AttainReply, AcceptedReply, SimulateReply, DemoReply, FlashReply}
 use Rattle.replies.specs.Headline.{HasWords, PlacesSayTheSame}
+use Rattle.cert_words.specs.Text.{text_of}
+use Rattle.guided_trials.specs.Attaining.{IsCompleted}
 use Rattle.replies.proofs.AllLaws.{attained_by, witness_zero, by_none}
 use Rattle.stack_core.specs.Answering.{GivesAs, GivesOn, NarrowedTo, LoadsOn, ReadsAs, IsJudgedAs, LoadedReply, ImageReply}
 use Rattle.stack_core.specs.declared.reply.Reply.{Reply as Answered}
 use Rattle.stack_core.specs.declared.judging.Judged.{Judged}
-use Rattle.stack_core.specs.declared.judging.Judged.TheVariants as judged
 use Rattle.stack_core.specs.declared.loading.Image.{Image}
 use Rattle.stack_core.specs.declared.loading.Image.TheVariants.{Loaded as OnFlash, Refused}
 use Rattle.stack_core.specs.declared.loading.Listing.TheVariants.{Unlisted}
@@ -116,6 +116,12 @@ pub accepted_result : {E : Type 0} (words : List ℕ) (A : List Entry) (next : C
 accepted_result words A next x c (Err e) h k = tt
 accepted_result words A next x c (Ok a) h k = accepted_reply words A next x c a.status a.text.items h k
 
+-- ---- a certificate that is written with a schedule
+
+pub attain_reply : (words : List ℕ) (A : List Entry) (n : ℕ) (c d : Claim) (text : List ℕ) → IsCompleted words A n c d → IsValid words A d → text ≡ text_of d → AttainReply words A n c 0 text
+attain_reply words A n c d text h valid told =
+    record { claim = d; completed = h; attained = subst (λ (b : ℕ). IsAttained words A b d.witness) (ap (λ (x : Claim). x.bound) h.same) valid.attained; says = (refl, told) }
+
 -- ---- an analysis
 
 pub refused_by : (n : ℕ) (o : Option (List ℕ)) (status : ℕ) (text : List ℕ) → status ≡ n → o ≡ Some text → Refuses n o status text
@@ -135,6 +141,7 @@ has_words (Report device name cert assume json) firmware h = h
 has_words (Explain device name cert assume) firmware h = h
 has_words (Clear device name cert) firmware h = h
 has_words (Premises device name cert assume) firmware h = h
+has_words (Attain device name cert assume trials) firmware h = h
 has_words (Simulate device name devices assume steps) firmware h = h
 has_words (Demo size) firmware h = tt
 
@@ -201,6 +208,7 @@ flash_alike laws texts places (Clear device name cert) firmware bytes loaded A s
 flash_alike laws texts places (Premises device name cert assume) firmware bytes loaded A status text names end h =
     told_alike loaded.flash A (PremisesReply loaded.names loaded.flash A) (AcceptedReply (Premises device name cert assume) firmware loaded.flash A) (certificate_in bytes) status text
     (λ c k. premises_alike places loaded.names (firmware_names firmware) loaded.flash A names c status text k) h
+flash_alike laws texts places (Attain device name cert assume trials) firmware bytes loaded A status text names end h = h
 flash_alike laws texts places (Simulate device name devices assume steps) firmware bytes loaded A status text names end h = h
 flash_alike laws texts places (Demo size) firmware bytes loaded A status text names end h = h
 

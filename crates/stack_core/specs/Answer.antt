@@ -6,7 +6,7 @@ use Rattle.sb_base.specs.Outside.{Held, Bytes, Blamed, Rose, grown, GrewByPrefix
 use Rattle.certificate.specs.Claims.{Claim}
 use Rattle.device_hooks.specs.Spelling.{Setup}
 use Rattle.device_hooks.specs.Exact.{IsReading as IsDevices}
-use Rattle.commands.specs.Commands.{Command, Check, Analyse, Report, Explain, Clear, Premises, Simulate, device_for}
+use Rattle.commands.specs.Commands.{Command, Check, Analyse, Report, Explain, Clear, Premises, Attain, Simulate, device_for}
 use Rattle.replies.specs.Texts.{usage, read_fault}
 use Rattle.replies.specs.Reading.{Contents, AllAgree, IsFirstFailed, firmware_cap, certificate_cap, devices_cap, assumption_cap}
 use Rattle.replies.specs.Reply.{IsReply}
@@ -89,6 +89,7 @@ pub data Judges : Command → (firmware certificate : List ℕ) (assume : Option
   clears : (device : Device) (firmware certificate : List ℕ) → Judges (Clear device firmware certificate) firmware certificate None
   lists_premises : (device : Device) (firmware certificate : List ℕ) (assume : Option (List ℕ)) → Judges (Premises device firmware certificate assume) firmware certificate assume
   explains : (device : Device) (firmware certificate : List ℕ) (assume : Option (List ℕ)) → Judges (Explain device firmware certificate assume) firmware certificate assume
+  completes : (device : Device) (firmware certificate : List ℕ) (assume : Option (List ℕ)) (trials : ℕ) → Judges (Attain device firmware certificate assume trials) firmware certificate assume
 
 -- The words are this command, which judges, and these bytes are held under the names in them, within the caps.
 pub record IsJudging (command : Option Command) (judge : Command) (holds : List ℕ → Held) (firmware certificate : List ℕ) (list : Option (List ℕ)) : Type 0 where

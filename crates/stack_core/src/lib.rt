@@ -3,6 +3,7 @@
 
 pub mod analysing;
 pub mod answer;
+pub mod attaining;
 pub mod call;
 pub mod clearing;
 pub mod explaining;

@@ -104,6 +104,7 @@ fn second_cap(command: &Command<'_>) -> usize
         Command::Explain { .. } => CERTIFICATE_CAP,
         Command::Clear { .. } => CERTIFICATE_CAP,
         Command::Premises { .. } => CERTIFICATE_CAP,
+        Command::Attain { .. } => CERTIFICATE_CAP,
         Command::Simulate { .. } => DEVICES_CAP,
         Command::Demo { .. } => CERTIFICATE_CAP,
     }

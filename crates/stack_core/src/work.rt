@@ -11,9 +11,11 @@ ghost use Rattle.stack_core.specs.Reading.{bytes_of};
 ghost use Rattle.stack_core.specs.Answering.{LoadedReply, ImageReply};
 
 use crate::analysing::{analyse, demo};
+use crate::attaining::attain;
 use crate::clearing::{clear, premises};
 use crate::explaining::explain;
 use crate::judging::{check, report};
+use crate::laws::have_16_bits;
 use crate::loading::{Image, Listing, listed, loaded};
 use crate::reply::Reply;
 use crate::running::run;
@@ -24,11 +26,6 @@ use replies::laws::same_names_give_same_places;
 use reports::laws::same_names_give_same_reports;
 use std::alloc::{AllocError, Global};
 use vector_table::Assumptions;
-
-/// The words of a flash have 16 bits, as their type says.
-fn have_16_bits(words: &[u16])
-    ensures { AreWords words.now }
-{}
 
 /// What is answered for a firmware that was loaded and a list that was read.
 fn on_flash(
@@ -51,6 +48,7 @@ fn on_flash(
         Command::Explain { .. } => explain(alloc, assumptions, second, loaded),
         Command::Clear { .. } => clear(alloc, flash, second),
         Command::Premises { .. } => premises(alloc, assumptions, second, loaded),
+        Command::Attain { trials, .. } => attain(alloc, flash, assumptions, second, *trials),
         Command::Simulate { steps, .. } => simulate(alloc, flash, assumptions, *steps, second),
         Command::Demo { size } => demo(alloc, size),
     }
@@ -114,6 +112,7 @@ pub fn work(
         Command::Explain { .. } => on_image(alloc, command, firmware, second, list),
         Command::Clear { .. } => on_image(alloc, command, firmware, second, list),
         Command::Premises { .. } => on_image(alloc, command, firmware, second, list),
+        Command::Attain { .. } => on_image(alloc, command, firmware, second, list),
         Command::Simulate { .. } => on_image(alloc, command, firmware, second, list),
         Command::Demo { size } => demo(alloc, size),
     }

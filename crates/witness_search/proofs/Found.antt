@@ -16,27 +16,28 @@ use Rattle.witness_replay.specs.Replay.{replay_from, report_unless, steps_of}
 use Rattle.certificate.specs.Valid.{Attains}
 use Rattle.witness_search.specs.declared.waypoint.Waypoint.{Waypoint}
 use Rattle.witness_search.specs.Waypoints.{pick_due, due_left}
-use Rattle.witness_search.specs.Trials.{fills, most_steps, trial_by, trial_of, Succeeds, NoneSucceeds, IsTried, IsFound}
+use Rattle.trial_runs.specs.Length.{most_choices}
+use Rattle.witness_search.specs.Trials.{fills, trial_by, trial_of, Succeeds, NoneSucceeds, IsTried, IsFound}
 use Rattle.witness_search.specs.Laws.{TrialsAreShort}
-use Rattle.witness_search.proofs.Runs.{few, ends_well, run_legal}
+use Rattle.trial_runs.proofs.AllLaws.{few, ends_well, run_legal}
 
-steps_are : most_steps ≡ 200000
-unfolding most_steps
+steps_are : most_choices ≡ 200000
+unfolding most_choices
 steps_are = refl
 
 -- the trial with all its steps
-pub whole : (steps : ℕ) (words : List ℕ) (A : List Entry) (points : List Waypoint) (bound fill : ℕ) → steps ≡ most_steps
+pub whole : (steps : ℕ) (words : List ℕ) (A : List Entry) (points : List Waypoint) (bound fill : ℕ) → steps ≡ most_choices
     → trial_by steps words A points bound fill ≡ trial_of words A points bound fill
 unfolding trial_of
 whole steps words A points bound fill is = ap (λ (n : ℕ). trial_by n words A points bound fill) is
 
-pub few_choices : (steps : ℕ) (words : List ℕ) (A : List Entry) (points : List Waypoint) (bound fill : ℕ) (cs : List Choice) → steps ≡ most_steps
+pub few_choices : (steps : ℕ) (words : List ℕ) (A : List Entry) (points : List Waypoint) (bound fill : ℕ) (cs : List Choice) → steps ≡ most_choices
     → cs ≡ trial_by steps words A points bound fill → length cs ≤ 16777216
 few_choices steps words A points bound fill cs most is = omega (arith, few (pick_due fill) due_left words A bound steps points (starting (filled (device_of words) fill)), ap length is, most, steps_are)
 
 pub short : TrialsAreShort
 unfolding trial_of
-short words A points bound fill = omega (arith, few (pick_due fill) due_left words A bound most_steps points (starting (filled (device_of words) fill)), steps_are)
+short words A points bound fill = omega (arith, few (pick_due fill) due_left words A bound most_choices points (starting (filled (device_of words) fill)), steps_are)
 
 -- ---- a trial that reaches the bound
 
@@ -65,17 +66,17 @@ module _ (law : DepthIsKept) (words : List ℕ) (A : List Entry) where
       (replays bound cs (filled (device_of words) fill) run deep (stop_is steps points bound fill cs is run deep)))
 
 module _ (words : List ℕ) (A : List Entry) (points : List Waypoint) (bound : ℕ) where
-  pub succeeds : (steps fill : ℕ) (cs : List Choice) (depth : ℕ) → steps ≡ most_steps → cs ≡ trial_by steps words A points bound fill
+  pub succeeds : (steps fill : ℕ) (cs : List Choice) (depth : ℕ) → steps ≡ most_choices → cs ≡ trial_by steps words A points bound fill
       → depth ≡ depth_of words A cs (filled (device_of words) fill) → depth ≡ bound → Succeeds words A points bound fill
   succeeds steps fill cs depth most is deep reached =
       ap (λ (xs : List Choice). depth_of words A xs (filled (device_of words) fill)) (sym (is ∙ whole steps words A points bound fill most)) ∙ sym deep ∙ reached
 
-  pub fails : (steps fill : ℕ) (cs : List Choice) (depth : ℕ) → steps ≡ most_steps → cs ≡ trial_by steps words A points bound fill
+  pub fails : (steps fill : ℕ) (cs : List Choice) (depth : ℕ) → steps ≡ most_choices → cs ≡ trial_by steps words A points bound fill
       → depth ≡ depth_of words A cs (filled (device_of words) fill) → depth ≢ bound → Succeeds words A points bound fill → ⊥
   fails steps fill cs depth most is deep short h =
       short (deep ∙ ap (λ (xs : List Choice). depth_of words A xs (filled (device_of words) fill)) (is ∙ whole steps words A points bound fill most) ∙ h)
 
-  pub tried : (steps fill : ℕ) (cs : List Choice) (plan : Plan) → steps ≡ most_steps → cs ≡ trial_by steps words A points bound fill → Succeeds words A points bound fill
+  pub tried : (steps fill : ℕ) (cs : List Choice) (plan : Plan) → steps ≡ most_choices → cs ≡ trial_by steps words A points bound fill → Succeeds words A points bound fill
       → plan.fill ≡ fill → choices_of plan.runs ≡ cs → IsSchedule plan → IsTried words A points bound fill (Some plan)
   tried steps fill cs plan most is reached filling choices fits = (
     filling,

@@ -1,6 +1,4 @@
-mod Depths
 mod Points
-mod Runs
 mod Found
 mod Conditions
 mod One

@@ -9,6 +9,7 @@ use Rattle.avr_model.specs.Run.{starting, depth_of}
 use Rattle.stimulus.specs.Driving.{choices_by}
 use Rattle.witness_replay.specs.Spelling.{Plan, IsSchedule, choices_of}
 use Rattle.witness_replay.specs.Replay.{replay_of}
+use Rattle.trial_runs.specs.Length.{most_choices}
 use Rattle.witness_search.specs.declared.waypoint.Waypoint.{Waypoint}
 use Rattle.witness_search.specs.Waypoints.{pick_due, due_left}
 
@@ -16,16 +17,12 @@ use Rattle.witness_search.specs.Waypoints.{pick_due, due_left}
 abbrev pub fills : List ℕ
 fills = 0x00 ∷ 0xFF ∷ 0x55 ∷ 0xAA ∷ 0x01 ∷ 0x80 ∷ 0x7F ∷ 0xFE ∷ []
 
--- how many steps a trial has at most
-unfoldable pub most_steps : ℕ
-most_steps = 200000
-
 -- The choices of the trial with this fill byte: from reset, until the depth is the bound or more, or a stop, or after so many steps.
 abbrev pub trial_by : ℕ → List ℕ → List Entry → List Waypoint → ℕ → ℕ → List Choice
 trial_by steps words A points bound fill = choices_by (pick_due fill) due_left words A bound steps points (starting (filled (device_of words) fill))
 
 unfoldable pub trial_of : List ℕ → List Entry → List Waypoint → ℕ → ℕ → List Choice
-trial_of words A points bound fill = trial_by most_steps words A points bound fill
+trial_of words A points bound fill = trial_by most_choices words A points bound fill
 
 -- it succeeds where its depth is the bound
 abbrev pub Succeeds : List ℕ → List Entry → List Waypoint → ℕ → ℕ → Type 0

@@ -6,7 +6,7 @@ ghost use Rattle.avr_model.specs.State.{filled};
 ghost use Rattle.avr_model.specs.Run.{IsRun, depth_of};
 ghost use Rattle.witness_search.specs.Waypoints.{taken, left_after};
 ghost use Rattle.certificate.specs.Valid.{Attains};
-ghost use Rattle.witness_search.specs.Trials.{trial_by, most_steps, IsTried, IsFound};
+ghost use Rattle.witness_search.specs.Trials.{trial_by, IsTried, IsFound};
 
 use crate::waypoint::{Waypoint, is_due};
 use avr_machine::{Choice, Machine, Menu};
@@ -14,15 +14,9 @@ use flash_image::Flash;
 use std::alloc::{AllocError, Global};
 use stimulus::laws::depth_is_kept;
 use stimulus::{Driver, Trace};
+use trial_runs::most_choices;
 use vector_table::Assumptions;
 use witness_replay::Schedule;
-
-/// How many steps a trial has at most.
-fn most_steps() -> u32
-    ensures { result ≡ most_steps }
-{
-    200_000
-}
 
 /// The trial with this fill byte: the next waypoint's interrupt is taken where it is due, and every other choice is
 /// `Go(fill, fill)`, until the depth is the bound or more, or a stop, or so many steps.
@@ -72,7 +66,15 @@ fn try_fill(
     ensures attained { IfOk result (λ found. IfSome found (Attains flash.now assumptions.now bound)) }
 {
     depth_is_kept();
-    let trace = attempt(alloc, flash, assumptions, points, bound, fill, most_steps())?;
+    let trace = attempt(
+        alloc,
+        flash,
+        assumptions,
+        points,
+        bound,
+        fill,
+        most_choices(),
+    )?;
     if trace.depth != bound {
         return Ok(None);
     }

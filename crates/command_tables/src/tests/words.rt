@@ -68,6 +68,7 @@ fn name_of(command: &Option<Command<'_>>) -> &'static str {
         Some(Command::Explain { .. }) => "explain",
         Some(Command::Clear { .. }) => "clear",
         Some(Command::Premises { .. }) => "premises",
+        Some(Command::Attain { .. }) => "attain",
         Some(Command::Simulate { .. }) => "simulate",
         Some(Command::Demo { .. }) => "demo",
         None => NONE,

@@ -8,7 +8,7 @@ use Rattle.stimulus.specs.Driving.{choices_by}
 use Rattle.witness_search.specs.Waypoints.{taken, left_after, pick_due, due_left}
 use Rattle.witness_search.specs.contracts.trial.fn.attempt.new as closure
 use Rattle.witness_search.proofs.Points.{taken_stands, taken_is, left_is}
-use Rattle.witness_search.proofs.Depths.{depth_from_reset}
+use Rattle.trial_runs.proofs.AllLaws.{depth_from_reset}
 use Rattle.witness_search.proofs.trial.attempt.Goals as goal
 
 pub new-driver-requires : goal.new-driver-requires
