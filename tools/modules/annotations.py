@@ -2,6 +2,8 @@
 
 import re
 
+from places import readable
+
 WORD = re.compile(r"\b([0-9A-F]{4})\b")
 
 
@@ -17,7 +19,6 @@ def line(kind, text, place=None):
 
 def source(outcome, text):
     """The path and line of the first word address of a text; None where it has none or nothing tells it."""
-    from places import readable
     word = WORD.search(text)
     found = outcome.lines.source(2 * int(word[1], 16)) if word else None
     return (readable(found[0]), found[1]) if found else None
@@ -37,5 +38,6 @@ def told(outcome, is_to_be_judged):
     if outcome.grows_too_much:
         yield line("error", f"the stack has grown from {outcome.difference.before} to {outcome.bound} bytes")
     for it in outcome.unjudged if is_to_be_judged else ():
-        yield line("error", f"a step may be flagged here, and no line `keeps` judges it: {it.title}, {it.count()}", (it.path, it.source[1]) if it.source else None)
+        place = (it.path, it.source[1]) if it.source else None
+        yield line("error", f"a step may be flagged here, and no line `keeps` judges it: {it.title}, {it.count()}", place)
     yield line("notice", f"stack: {outcome.bound} bytes at most ({outcome.witness}), {outcome.room - outcome.bound} left")

@@ -4,10 +4,10 @@ from html import escape
 
 CALLS = ("#3f6fb5", "#5aa3b8", "#4b9a6b", "#7b86c4", "#8fb35c", "#2f8f8b", "#6b8fd6", "#86a79a")
 INTERRUPTS = ("#d98032", "#c9504a", "#d9a83c", "#b8607f", "#e0916f", "#a8703a")
-MORE = "#b4bac4"
+MORE = ("#b4bac4", "#98a1ae", "#c6ccd5")
 MOST_ROWS, MOST_CHILDREN = 40, 8
 WIDTH, MARGIN, ROW, TOP = 1000, 170, 24, 26  # the drawing's width, what is left at its right for labels, a row, the axis
-LETTER = 6.6
+LETTER = 7.2
 
 
 class Box:
@@ -15,6 +15,10 @@ class Box:
 
     def __init__(self, name, begin, end, kind):
         self.name, self.begin, self.end, self.kind, self.children, self.colour = name, begin, end, kind, [], None
+
+    def label(self):
+        """The name as a drawing has room for it: of a handler the vector alone."""
+        return self.name.partition(" (__")[0]
 
     def reach(self):
         return max([self.end, *(it.reach() for it in self.children)])
@@ -91,7 +95,7 @@ def paint(root):
     parts = [(box, [(box.begin, end, row, row + rows) for row, rows, end in box.parts(top)]) for box, top in root.all()]
     colour_of = {}
     for number, (box, own) in enumerate(parts):
-        palette = {"call": CALLS, "interrupt": INTERRUPTS, "more": (MORE,)}[box.kind]
+        palette = {"call": CALLS, "interrupt": INTERRUPTS, "more": MORE}[box.kind]
         beside = {it.colour for it, others in parts[:number] if any(touches(a, b) for a in own for b in others)}
         free = [it for it in palette if it not in beside] or palette
         wanted = colour_of.get(box.name)
@@ -114,16 +118,16 @@ def outline(box, top, scale):
 def label(box, top, scale):
     """The name within a box, along or upright, as far as there is room; beside it at the end of its row."""
     end = next(box.parts(top))[2]
-    left, width, long = box.begin * scale, (end - box.begin) * scale, len(box.name) * LETTER + 8
+    left, width, long = box.begin * scale, (end - box.begin) * scale, len(box.label()) * LETTER + 8
     y = TOP + top * ROW + 16
     if width >= long:
-        return f'<text x="{left + 5:.1f}" y="{y}" class="in">{escape(box.name)}</text>'
+        return f'<text x="{left + 5:.1f}" y="{y}" class="in">{escape(box.label())}</text>'
     whole = box.rows() * ROW
     if width >= 16 and whole >= long:
         middle = TOP + top * ROW + 6
-        return f'<text transform="translate({left + width / 2 - 4:.1f} {middle}) rotate(90)" class="in">{escape(box.name)}</text>'
+        return f'<text transform="translate({left + width / 2 - 4:.1f} {middle}) rotate(90)" class="in">{escape(box.label())}</text>'
     if width >= 5 * LETTER:
-        return f'<text x="{left + 5:.1f}" y="{y}" class="in">{escape(box.name[:int((width - 14) / LETTER)])}…</text>'
+        return f'<text x="{left + 5:.1f}" y="{y}" class="in">{escape(box.label()[:int((width - 14) / LETTER)])}…</text>'
     return ""
 
 
@@ -133,9 +137,9 @@ def ends(root, scale):
         if not box.has_own_row():
             continue
         *_, (row, _, end) = box.parts(top)
-        is_in = row == top and (end - box.begin) * scale >= len(box.name) * LETTER + 8
+        is_in = row == top and (end - box.begin) * scale >= len(box.label()) * LETTER + 8
         x = max(end * scale, box.begin * scale + 2) + 5
-        yield f'<text x="{x:.1f}" y="{TOP + row * ROW + 16}" class="end">{end}{"" if is_in else " " + escape(box.name)}</text>'
+        yield f'<text x="{x:.1f}" y="{TOP + row * ROW + 16}" class="end">{end}{"" if is_in else " " + escape(box.label())}</text>'
 
 
 def axis(most, scale, height):

@@ -118,4 +118,5 @@ def check(outcome, spec):
         for address in sorted(line.items):
             if not any(nodes.may_write(word, address) for word in line.places):
                 name = NAME_OF.get(address, f"0x{address:02X}")
-                raise SpecFault(f"line {line.number}: no store that `{line.text}` names may write {name}: it names another store than was meant, or none that runs")
+                raise SpecFault(f"line {line.number}: no store that `{line.text}` names may write {name}: it names another store than was meant, "
+                                "or one that never runs (where the compiler has put it into other functions, -gdwarf-2 tells)")

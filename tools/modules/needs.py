@@ -67,7 +67,8 @@ def read(path):
             held = json.load(file)
         except ValueError:
             raise Misuse(f"{path} is no file that --json wrote") from None
-    is_one = isinstance(held, dict) and isinstance(held.get("needs"), list) and all(isinstance(it, dict) and "name" in it and "interrupts" in it for it in held["needs"])
+    rows = held.get("needs") if isinstance(held, dict) else None
+    is_one = isinstance(rows, list) and all(isinstance(it, dict) and "name" in it and "interrupts" in it for it in rows)
     if not is_one:
         raise Misuse(f"{path} is no file that --json wrote")
     if not isinstance(held.get("bound"), int):

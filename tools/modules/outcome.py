@@ -29,7 +29,7 @@ class Outcome:
         self.lines = Lines(elf, path)
         self.refusal = self.certificate = self.flagged = self.seen = None
         self.spec, self.assumed, self.written, self.cure_lines = "", "", [], []
-        self.rests_on, self.chain, self.needs, self.places = [], [], [], None
+        self.rests_on, self.chain, self.places = [], [], None
         self.keeps, self.rule = True, ""
 
     def place(self, word):
@@ -88,11 +88,6 @@ def tell_bound(outcome, program, certificate, words):
         outcome.keeps, outcome.rule = outcome.bound <= words.limit, f"the limit is {words.limit} bytes"
     elif words.margin is not None:
         outcome.keeps, outcome.rule = margin >= words.margin, f"{words.margin} bytes are to be left"
-    greatest = {}
-    for it in report["instances"]:
-        name = outcome.instance(it["kind"], it["entry"], it["name"])
-        greatest[name] = max(it["need"], greatest.get(name, 0))
-    outcome.needs = [Part(need, name) for name, need in sorted(greatest.items(), key=lambda it: (-it[1], it[0]))]
 
 
 def tell_chain(outcome, program, certificate):

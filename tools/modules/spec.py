@@ -4,8 +4,8 @@ import opcodes
 import sites
 from devices import REGISTERS, VECTORS
 from names import SpecFault
-from sites import AT_LINE, SITES, STORES  # noqa: F401, for those who look for sites too
-from targets import constructors, tables, targets  # noqa: F401, for the table of cures
+from sites import AT_LINE
+from targets import targets
 
 MOST_ITEMS, MOST_LINES = 64, 4096
 KINDS = ("jump", "store", "prove", "free", "never", "frame")  # as they stand at one site
