@@ -11,7 +11,7 @@ use Rattle.mask_states.specs.Order.{inst_cmp, node_cmp}
 use Rattle.local_rules.specs.Cover.{IsNode, IsKey}
 use Rattle.edge_rules.specs.declared.seeded.NodeForm.{NodeForm}
 use Rattle.edge_rules.specs.declared.seeded.NodeForm.TheVariants.{State, From}
-use Rattle.edge_rules.specs.Expansion.{Seeds}
+use Rattle.edge_rules.specs.Expansion.{most_seeds, Seeds}
 use Rattle.witness_replay.specs.Spelling.{Plan, IsSchedule}
 use Rattle.certificate.specs.declared.instance.Inst.{Inst}
 use Rattle.certificate.specs.declared.version.Version.{Version}
@@ -34,7 +34,7 @@ abbrev pub most_instances : ℕ
 most_instances = 65536
 
 abbrev pub most_nodes : ℕ
-most_nodes = 65536
+most_nodes = most_seeds
 
 abbrev pub most_cells : ℕ
 most_cells = 8388608

@@ -3,6 +3,7 @@
 ghost use Rattle.std.specs.Prelude.{◌≡◌, ◌≢◌, ◌≤◌, length, IfOk, IfErr, OnOk};
 ghost use Rattle.std.specs.FinMap.{len};
 ghost use Rattle.avr_model.specs.Devices.{device_of, size_of};
+ghost use Rattle.certificate.specs.Claims.{most_nodes};
 ghost use Rattle.instance_nesting.specs.Nestings.{AreAlike, AreOnce, TellsAll};
 ghost use Rattle.instance_nesting.specs.declared.verdict.NestingVerdict.TheVariants.{Nests};
 ghost use Rattle.round_rules.specs.declared.refusal.Refusal.TheVariants.{Memory};
@@ -17,16 +18,21 @@ use instance_nesting::{Nesting, NestingVerdict};
 use local_rules::NodeFault;
 use round_rules::Refusal;
 
+// How many nodes and how many cells a certificate may have.
+const MOST_NODES: usize = 65_536;
+
+const MOST_CELLS: u64 = 8_388_608;
+
 // The nodes, then the cells, are within the limits.
 pub fn check_size(table: &Table, counted: u64) -> Result<(), Refusal>
     requires { counted ≡ cells table.now }
     ensures fits { OnOk result (FitsLimits table.now) }
     ensures over { IfErr result (λ r. IsTooLarge table.now r) }
 {
-    if table.len() > 65536 {
+    if table.len() > MOST_NODES {
         return Err(Refusal::TooLarge(Limit::Nodes));
     }
-    if counted > 8388608 {
+    if counted > MOST_CELLS {
         return Err(Refusal::TooLarge(Limit::Cells));
     }
     Ok(())
@@ -48,7 +54,7 @@ pub fn refusal_of(fault: NodeFault) -> Refusal
 
 // No instance reaches itself, and the root needs no more bytes than the device's SRAM has.
 pub fn check_nesting(flash: &Flash, nesting: &mut Nesting) -> Result<(), Refusal>
-    requires { length nesting.old.insts ≤ 65536 }
+    requires { length nesting.old.insts ≤ most_nodes }
     ensures nests { OnOk result (TellsAll (size_of (device_of flash.now)) nesting.old Nests) }
     ensures told { IfErr result (λ r. r ≢ Memory → IsTold (size_of (device_of flash.now)) nesting.old r) }
     ensures same { AreAlike nesting.old nesting.new }

@@ -6,7 +6,7 @@ use Rattle.std.specs.Cmp.{nat_cmp_total}
 use Rattle.std.specs.Ordering.{nat_cmp, eq_by_cmp}
 use Rattle.std.proofs.lemmas.Bool.Decides.{Decides-eqb, nat_tests}
 use Rattle.abs_state.specs.declared.state.AbsState.{AbsState}
-use Rattle.state_pool.specs.Uses.{Uses, IsInterned, lowered, released}
+use Rattle.state_pool.specs.Uses.{Uses, IsInterned, lowered}
 use Rattle.state_pool.specs.Counts.{held_state, held_count, state_at, count_at, one_if, share, IsUsedMore, IsUsedLess, CountsFollow}
 use Rattle.state_pool.proofs.Cases.{cases_eq}
 use Rattle.state_pool.proofs.Held.{same_number, other_number, get_here, get_there}

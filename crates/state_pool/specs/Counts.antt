@@ -3,7 +3,7 @@ use Rattle.std.specs.Prelude.{ℕ, Bool, ◌+◌, ◌≡◌, ◌<◌, ◌==◌, 
 use Rattle.std.specs.FinMap.{get}
 use Rattle.abs_state.specs.declared.state.AbsState.{AbsState}
 use Rattle.abs_state.specs.Values.{root}
-use Rattle.state_pool.specs.Uses.{Uses, IsHeld, IsInterned, released}
+use Rattle.state_pool.specs.Uses.{Uses, IsInterned, released}
 
 abbrev pub held_state : Option (AbsState × ℕ) → AbsState
 held_state None = root
