@@ -59,9 +59,9 @@ fn is_push(instr: &Instr) -> bool
 fn is_guarded_push(flash: &Flash, pc: u16) -> bool
     ensures { result ≡ held.is_guarded_push flash.now pc }
 {
-    match avr_decode::instruction(flash.words(), usize::from(pc)) {
+    match flash.instruction(pc) {
         None => false,
-        Some(instr) => is_push(&instr) && !avr_decode::is_scratch(flash.words(), pc),
+        Some(instr) => is_push(&instr) && !flash.is_scratch(pc),
     }
 }
 
