@@ -69,7 +69,7 @@ CURES = {
         "an array whose size is computed, or `alloca`",
         "an array of constant size"),
     "joined": (
-        "`refused 4`, `5` or `6` elsewhere, in a program with an `icall` or `ijmp` that has no `jump` line",
+        "`refused 2` of a function that calls itself by no name, `4`, `5` or `6` elsewhere, where an `icall` or `ijmp` has no `jump` line",
         "a pointer that is one of some constants: their bits may join to a word that none of them is",
         "`jump FUNCTION N TARGET ..` for each such transfer"),
     "unfollowed": (
@@ -191,6 +191,8 @@ def cure(elf, device, refusal, lines):
         return "proved" if lines.has(word, "prove") else "copy" if text.endswith("+, r0") else "array", word
     if number in "24" and not text.startswith("out 0x3E") and goes_through_tables(elf, lines):
         return "two tables", word
+    if number == "2" and word not in candidates.reached(elf, word) and is_joined(elf, lines):
+        return "joined", word
     if number == "2":
         return of_recursion(elf, device, word), word
     if number == "4" and text.startswith("out 0x3E"):
