@@ -163,7 +163,12 @@ def judge(words, folder):
     witness = accept(outcome, program, certificate, work.certificate)
     if not words.no_attain:
         attain(outcome, program, certificate, witness)
-    tell_bound(outcome, program, certificate, words)
-    tell_chain(outcome, program, certificate)
-    tell_premises(outcome, program, certificate)
+    for command in (("report", certificate, "--json"), ("explain", certificate), ("premises", certificate)):
+        program.begin(*command)
+    try:
+        tell_bound(outcome, program, certificate, words)
+        tell_chain(outcome, program, certificate)
+        tell_premises(outcome, program, certificate)
+    finally:
+        program.end()
     return outcome

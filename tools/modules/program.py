@@ -18,18 +18,39 @@ class Program:
     def __init__(self, firmware, device, assumptions=None):
         self.path = os.environ.get("STACKBOUND") or os.path.join(HERE, "..", "..", "stackbound")
         self.firmware, self.options = firmware, ["--device", device] + (["--assume", assumptions] if assumptions else [])
+        self.begun = {}
 
-    def call(self, command, *words):
-        """The status and the text of one command."""
+    def begin(self, *words):
+        """Lets a command run whose answer a later `call` asks for, so that several run side by side."""
         try:
             # a checkout's launcher would prove and build the program first, for an hour or more
             environment = {**os.environ, "STACKBOUND_BUILD": "no"}
-            said = subprocess.run([self.path, command, self.firmware, *words, *self.options], env=environment, stdin=subprocess.DEVNULL, stdout=subprocess.PIPE)
+            self.begun[words] = subprocess.Popen([self.path, words[0], self.firmware, *words[1:], *self.options],
+                                                 env=environment, stdin=subprocess.DEVNULL, stdout=subprocess.PIPE)
         except OSError as fault:
+            self.end()
             raise NoProgram(f"{self.path}: {fault.strerror}") from None
+
+    def end(self):
+        """Ends all that was begun and isn't asked for any more."""
+        for said in self.begun.values():
+            said.kill()
+            said.communicate()
+        self.begun.clear()
+
+    def call(self, *words):
+        """The status and the text of one command."""
+        if words not in self.begun:
+            self.begin(*words)
+        try:
+            text, _ = self.begun[words].communicate()
+        except BaseException:
+            self.end()
+            raise
+        said = self.begun.pop(words)
         if said.returncode == UNBUILT:
             raise NoProgram(f"{os.path.normpath(self.path)} has to be built first: call it once without words, or name another program in $STACKBOUND")
-        return said.returncode, said.stdout.decode("ascii", "replace")
+        return said.returncode, text.decode("ascii", "replace")
 
     def lines(self, command, *words):
         """The lines of a command that this program may not have yet: None where it answers `usage`."""
