@@ -9,13 +9,9 @@ ghost use Rattle.avr_decode.specs.Ways.{set_before, told_before, loads_both, may
 
 use crate::decoding::length;
 use crate::pointers::{base_register, pointer_register};
-use crate::program::{instruction, word};
+use crate::program::{WORDS, instruction, word};
 use crate::register_set::writes;
-use avr_model::device;
 use avr_model::instruction::{BinaryOp, ImmediateOp, Instr};
-
-/// The number of words of the greatest flash, and a multiple of every other's.
-const WORDS: usize = device::WORDS as usize;
 
 /// How many words before a store its pointer may be loaded at most.
 const FARTHEST: usize = 32;

@@ -6,3 +6,4 @@ pub mod Rows
 mod RawWords
 mod Behind
 pub mod Said
+pub mod Marked

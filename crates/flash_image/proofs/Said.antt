@@ -1,11 +1,11 @@
 -- What is kept of a word is what it says.
-use Rattle.std.proofs.Common.{◌≡◌, ◌<◌, ℕ, Bool, true, List, length, Some, nat_lt, slice_index_or, refl, sym, ap, ◌∙◌}
+use Rattle.std.proofs.Common.{◌≡◌, ℕ, true, List, length, nat_lt, slice_index_or, refl, sym, ap, ◌∙◌}
 use Rattle.std.proofs.lemmas.Option.{slice_get_read}
 use Rattle.std.specs.Prelude.{slice_get}
 use Rattle.basics.specs.Numbers.{less_from_test}
 use Rattle.avr_model.specs.Sites.{instruction_at}
 use Rattle.avr_decode.specs.declared.reading.Reading.{Reading}
-use Rattle.avr_decode.specs.Reading.{reading_at, AreReadings}
+use Rattle.avr_decode.specs.Reading.{AreReadings}
 
 pub said : (words : List ℕ) (readings kept : List Reading) (a n : ℕ) (r : Reading) → AreReadings words readings → kept ≡ readings → n ≡ a
     → true ≡ nat_lt n (length kept) → r ≡ slice_index_or kept n r → r.instruction ≡ instruction_at words a

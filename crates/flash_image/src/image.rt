@@ -17,22 +17,25 @@ use thiserror::Error;
 #[derive(Drop)]
 pub struct Flash {
     pub(crate) alloc: Global,
-    device: Device,
+    pub(crate) device: Device,
     pub(crate) words: Vec<u16>,
     // What the first words say, where that was worked out.
     pub(crate) readings: Vec<Reading>,
+    // The program's marks, where they were worked out.
+    pub(crate) mark_table: Vec<bool>,
 }
 
 impl Model for Flash {
     ghost use Rattle.std.specs.Prelude.{◌≡◌, ℕ, List};
     ghost use Rattle.avr_model.specs.Devices.{device_of, IsFlash};
     ghost use Rattle.avr_decode.specs.Reading.{AreReadings};
+    ghost use Rattle.flash_image.specs.Marked.{AreMarksKept};
 
     ghost Value = { List ℕ };
 
     ghost view = { λ f. f.words.items };
 
-    ghost invariant = { λ f. IsFlash f.words.items × (f.device ≡ device_of f.words.items) × AreReadings f.words.items f.readings.items };
+    ghost invariant = { λ f. IsFlash f.words.items × (f.device ≡ device_of f.words.items) × AreReadings f.words.items f.readings.items × AreMarksKept f.words.items f.mark_table.items };
 }
 
 /// Why a file is no raw image, or that there was no memory for it.
@@ -65,6 +68,7 @@ impl Flash {
             device: Device::M328,
             words,
             readings: Vec::new(alloc),
+            mark_table: Vec::new(alloc),
         })
     }
 
@@ -123,6 +127,7 @@ impl Flash {
             return Err(Outside(word));
         }
         self.readings.clear();
+        self.mark_table.clear();
         self.words.truncate(usize::from(device.words()));
         self.device = device;
         self.decode();
@@ -166,6 +171,7 @@ impl Flash {
         ensures bytes { (z : ℕ) → z < FLASH_BYTES → byte_at self.new z ≡ placed at bytes.now self.old z }
     {
         self.readings.clear();
+        self.mark_table.clear();
         put_bytes(&mut self.words, usize::from(at), bytes);
     }
 }

@@ -8,7 +8,7 @@ use Rattle.indirect_targets.proofs.Entries.{entry_laws}
 use Rattle.indirect_targets.proofs.Exact.{read_is_due, due_is_read}
 use Rattle.indirect_targets.proofs.Members.{members_give_targets}
 pub use Rattle.indirect_targets.proofs.Exact.{refused_is_stuck, one_text}
-pub use Rattle.indirect_targets.proofs.Entries.{entry_is_words, map_some}
+pub use Rattle.indirect_targets.proofs.Entries.{entry_is_words}
 pub use Rattle.indirect_targets.proofs.Lists.{pushed, none_are_entries, follows}
 pub use Rattle.indirect_targets.proofs.Parts.{no_lines, none_begun, words_append}
 

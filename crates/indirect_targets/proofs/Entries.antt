@@ -8,23 +8,17 @@ use Rattle.std.specs.Str.{bytes_eq}
 use Rattle.std.specs.Prelude.{nat_lt, nat_le, length}
 use Rattle.basics.specs.Lists.{chosen, same_tail}
 use Rattle.std.proofs.lemmas.Option.{same_Some, none-some}
-use Rattle.line_reading.proofs.AllLaws.{bind_some, no_words}
+use Rattle.line_reading.proofs.AllLaws.{map_some, bind_some, no_words}
 use Rattle.avr_model.specs.Vectors.{Vector, vectors, has_enables, is_protected}
 use Rattle.avr_model.specs.declared.assumption.Entry.{Entry}
-use Rattle.avr_model.specs.declared.assumption.Entry.TheVariants.{Jump, Store, Prove, Free, Never, Frame}
+use Rattle.avr_model.specs.declared.assumption.Entry.TheVariants.{Pairs, Jump, Store, Prove, Free, Never, Frame}
 use Rattle.sb_base.specs.Digits.{hex_digits}
 use Rattle.line_reading.specs.Reading.{◌>>=◌, hex_at, is_over}
 use Rattle.line_reading.specs.Words.{IsWord, WordLaws}
 use Rattle.vector_table.specs.Entries.{is_entry, is_word, ascends}
 use Rattle.indirect_targets.specs.Exact.{EntryWords}
-use Rattle.indirect_targets.specs.Reading.{numbers_in, listed_in, alone_in, alone_by, numbered_in, admitted, entry_in}
+use Rattle.indirect_targets.specs.Reading.{numbers_in, listed_in, alone_in, pairs_in, alone_by, numbered_in, admitted, entry_in}
 use Rattle.indirect_targets.specs.Spelling.{number_words, entry_words}
-
--- ---- which way tests went
-
-pub map_some : {A B : Type 0} (o : Option A) (f : A → B) (y : B) → option_map f o ≡ Some y → (x : A) × (o ≡ Some x) × (f x ≡ y)
-map_some None f y e = absurd (none-some y e)
-map_some (Some x) f y e = (x, refl, same_Some (f x) y e)
 
 -- ---- the numbers of an entry fit four digits
 
@@ -57,6 +51,7 @@ all_short p small (n ∷ ns) h = let b = and_parts (p n) (list_all p ns) h in (s
 
 -- the site and the items
 abbrev numbers : Entry → List ℕ
+numbers Pairs = []
 numbers (Jump site words) = site ∷ words
 numbers (Store site addresses) = site ∷ addresses
 numbers (Prove site) = site ∷ []
@@ -72,6 +67,7 @@ items_short p small site ns h =
     (word_small site site_and.0, all_short p small ns each.1)
 
 entry_short : (e : Entry) → is_entry e ≡ true → AreShort (numbers e)
+entry_short Pairs h = tt
 entry_short (Jump site words) h = items_short is_word word_small site words h
 entry_short (Store site addresses) h = items_short is_protected protected_small site addresses h
 entry_short (Prove site) h = (word_small site h, tt)
@@ -131,6 +127,12 @@ kind_takes k kind make words w ws e is read =
     let s = map_some (alone_in ws) make e read in
     kind_is w ws (number_words (s.0 ∷ [])) kind is (alone_takes k ws s.0 s.1) ∙ sym (words s.0) ∙ ap entry_words s.2
 
+pairs_takes : (w : List ℕ) (ws : List (List ℕ)) (e : Entry) → bytes_eq w (codes "pairs") ≡ true → pairs_in ws ≡ Some e → w ∷ ws ≡ entry_words e
+pairs_takes w ws e is read = elim (chosen (is_over ws) _ _ (Some e) read) [
+  | inl h ↦ kind_is w ws [] (codes "pairs") is (no_words ws h.0) ∙ ap entry_words (same_Some Pairs e h.1)
+  | inr h ↦ absurd (none-some e h.1)
+]
+
 alone_by_takes : WordLaws → (w : List ℕ) (ws : List (List ℕ)) (e : Entry) → alone_by w ws ≡ Some e → w ∷ ws ≡ entry_words e
 unfolding alone_by
 alone_by_takes k w ws e is = elim (chosen (bytes_eq w (codes "prove")) _ _ (Some e) is) [
@@ -150,20 +152,24 @@ alone_by_takes k w ws e is = elim (chosen (bytes_eq w (codes "prove")) _ _ (Some
 numbered_takes : WordLaws → (ws : List (List ℕ)) (e : Entry) → numbered_in ws ≡ Some e → ws ≡ entry_words e
 unfolding numbered_in
 numbered_takes k [] e is = absurd (none-some e is)
-numbered_takes k (w ∷ ws) e is = elim (chosen (bytes_eq w (codes "jump")) _ _ (Some e) is) [
-  | inl jump ↦
-      let l = map_some (listed_in ws) _ e jump.1 in
-      kind_is w ws (number_words (l.0.0 ∷ l.0.1)) (codes "jump") jump.0 (listed_takes k ws l.0 l.1) ∙ ap entry_words l.2
-  | inr other ↦ elim (chosen (bytes_eq w (codes "store")) _ _ (Some e) other.1) [
-    | inl store ↦
-        let l = map_some (listed_in ws) _ e store.1 in
-        kind_is w ws (number_words (l.0.0 ∷ l.0.1)) (codes "store") store.0 (listed_takes k ws l.0 l.1) ∙ ap entry_words l.2
-    | inr neither ↦ alone_by_takes k w ws e neither.1
+numbered_takes k (w ∷ ws) e is = elim (chosen (bytes_eq w (codes "pairs")) _ _ (Some e) is) [
+  | inl pairs ↦ pairs_takes w ws e pairs.0 pairs.1
+  | inr more ↦ elim (chosen (bytes_eq w (codes "jump")) _ _ (Some e) more.1) [
+    | inl jump ↦
+        let l = map_some (listed_in ws) _ e jump.1 in
+        kind_is w ws (number_words (l.0.0 ∷ l.0.1)) (codes "jump") jump.0 (listed_takes k ws l.0 l.1) ∙ ap entry_words l.2
+    | inr other ↦ elim (chosen (bytes_eq w (codes "store")) _ _ (Some e) other.1) [
+      | inl store ↦
+          let l = map_some (listed_in ws) _ e store.1 in
+          kind_is w ws (number_words (l.0.0 ∷ l.0.1)) (codes "store") store.0 (listed_takes k ws l.0 l.1) ∙ ap entry_words l.2
+      | inr neither ↦ alone_by_takes k w ws e neither.1
+    ]
   ]
 ]
 
 numbered_taken : WordLaws → (e : Entry) → is_entry e ≡ true → numbered_in (entry_words e) ≡ Some e
 unfolding numbered_in alone_by
+numbered_taken k Pairs h = refl
 numbered_taken k (Jump site words) h = ap (option_map (λ l. Jump l.0 l.1)) (listed_taken k site words (entry_short (Jump site words) h))
 numbered_taken k (Store site addresses) h = ap (option_map (λ l. Store l.0 l.1)) (listed_taken k site addresses (entry_short (Store site addresses) h))
 numbered_taken k (Prove site) h = ap (option_map (λ s. Prove s)) (alone_taken k site (word_small site h))
@@ -196,6 +202,7 @@ are_words k [] h = tt
 are_words k (n ∷ ns) h = (k.hex_word n 4 h.0, are_words k ns h.1)
 
 pub entry_is_words : WordLaws → (e : Entry) → is_entry e ≡ true → AllByRecursion IsWord (entry_words e)
+entry_is_words k Pairs h = (((refl, (refl, (refl, (refl, (refl, tt))))), (refl, (refl, (refl, (refl, (refl, tt)))))), tt)
 entry_is_words k (Jump site words) h = (((refl, (refl, (refl, (refl, tt)))), (refl, (refl, (refl, (refl, tt))))), are_words k (site ∷ words) (entry_short (Jump site words) h))
 entry_is_words k (Store site addresses) h =
     (((refl, (refl, (refl, (refl, (refl, tt))))), (refl, (refl, (refl, (refl, (refl, tt)))))), are_words k (site ∷ addresses) (entry_short (Store site addresses) h))

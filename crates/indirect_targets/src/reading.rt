@@ -13,7 +13,7 @@ ghost use Rattle.vector_table.specs.Entries.{ascends, is_word, most_entries};
 ghost use Rattle.indirect_targets.specs.declared.fault.AssumeText.{AssumeText};
 ghost use Rattle.indirect_targets.specs.declared.fault.AssumeText.TheVariants as fault;
 ghost use Rattle.indirect_targets.specs.Exact.{IsDue, IsDueUnlessMemory};
-ghost use Rattle.indirect_targets.specs.Reading.{numbers_in, listed_in, alone_in, alone_by, numbered_in, entry_in, next_by, placed, with_line, entries_in};
+ghost use Rattle.indirect_targets.specs.Reading.{numbers_in, listed_in, alone_in, pairs_in, alone_by, numbered_in, entry_in, next_by, placed, with_line, entries_in};
 
 use crate::fault::AssumeText;
 use crate::laws::reading_is_exact;
@@ -84,6 +84,17 @@ fn alone_of(words: &mut Words<'_>) -> Option<u16>
     }
 }
 
+/// The entry `pairs`, behind which nothing stands.
+fn pairs_of(words: &mut Words<'_>) -> Option<Entry>
+    ensures { result ≡ pairs_in words.old }
+{
+    if is_over(words) {
+        Some(Entry::Pairs)
+    } else {
+        None
+    }
+}
+
 /// The entry of a kind that names a site alone.
 #[tactic(auto, unfolding(crate::specs::Reading::alone_by))]
 fn alone_by(kind: &[u8], words: &mut Words<'_>) -> Option<Entry>
@@ -111,7 +122,9 @@ fn numbered_of(alloc: Global, text: &[u8]) -> Result<Option<Entry>, AllocError>
     let Some(kind) = words.next() else {
         return Ok(None);
     };
-    if kind == b"jump".as_slice() {
+    if kind == b"pairs".as_slice() {
+        Ok(pairs_of(&mut words))
+    } else if kind == b"jump".as_slice() {
         jump_of(alloc, &mut words)
     } else if kind == b"store".as_slice() {
         store_of(alloc, &mut words)
@@ -161,6 +174,7 @@ fn is_entry(entry: &Entry) -> bool
     ensures { result ≡ entries.is_entry entry.now }
 {
     match entry {
+        Entry::Pairs => true,
         Entry::Jump(site, words) => {
             let words = words.as_slice();
             *site < WORDS && is_listable(words) && are_all_words(words)
@@ -261,8 +275,8 @@ fn read_lines(alloc: Global, text: &[u8]) -> Result<Assumptions, AssumeText>
 
 /// Reads the assumption list whose text this is.
 ///
-/// The text has a line for each entry: `jump SITE WORD ...`, `store SITE ADDRESS ...`, `prove SITE`, `free SITE`, `never SITE` or
-/// `frame SITE`, with word addresses and protected addresses in four upper-case hexadecimal digits, single spaces, and a line feed
+/// The text has a line for each entry: `pairs`, `jump SITE WORD ...`, `store SITE ADDRESS ...`, `prove SITE`, `free SITE`,
+/// `never SITE` or `frame SITE`, with word addresses and protected addresses in four upper-case hexadecimal digits, single spaces, and a line feed
 /// behind each line. Where it is the text of no list, the first line at which none can go on is told: `Malformed` where that line
 /// isn't of its form or is line 4,097, else `Order`. Source: own.
 pub fn read(alloc: Global, text: &[u8]) -> Result<Assumptions, AssumeText>

@@ -44,6 +44,7 @@ fn write_entry_words(out: &mut LineWriter, entry: &Entry) -> Result<(), AllocErr
     ensures refused { OnErr result (WroteWords out.old (entry_words entry.now) out.new) }
 {
     match entry {
+        Entry::Pairs => out.word(b"pairs"),
         Entry::Jump(site, words) => write_words(out, b"jump", *site, words.as_slice()),
         Entry::Store(site, addresses) => write_words(out, b"store", *site, addresses.as_slice()),
         Entry::Prove(site) => write_words(out, b"prove", *site, &[]),

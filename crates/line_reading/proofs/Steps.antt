@@ -1,5 +1,5 @@
 -- Which way tests and steps of a reading went.
-use Rattle.std.proofs.Common.{◌≡◌, ◌+◌, ℕ, List, [], ◌∷◌, ◌++◌, Bool, true, refl, ap, sym, ◌∙◌, arith, Option, Some, None, Result, Ok, Err, cond, ◌⊎◌, inl, inr, append_assoc}
+use Rattle.std.proofs.Common.{◌≡◌, ◌+◌, ℕ, List, [], ◌∷◌, ◌++◌, Bool, true, refl, ap, sym, ◌∙◌, arith, Option, Some, None, option_map, Result, Ok, Err, cond, ◌⊎◌, inl, inr, append_assoc}
 use Rattle.basics.specs.Lists.{chosen, nil_not_cons, same_head_and_tail}
 use Rattle.std.proofs.lemmas.Option.{same_Some, none-some}
 use Rattle.sb_base.specs.Lines.{TextLine, Place, size_of}
@@ -14,6 +14,10 @@ err_ok q y e = cc
 
 pub err_is : {A : Type 0} (q r : Place) → ◌≡◌ {A = Result A Place} (Err q) (Err r) → q ≡ r
 err_is q r e = cc
+
+pub map_some : {A B : Type 0} (o : Option A) (f : A → B) (y : B) → option_map f o ≡ Some y → (x : A) × (o ≡ Some x) × (f x ≡ y)
+map_some None f y e = absurd (none-some y e)
+map_some (Some x) f y e = (x, refl, same_Some (f x) y e)
 
 pub bind_some : {A B : Type 0} (o : Option A) (f : A → Option B) (y : B) → (o >>= f) ≡ Some y → (x : A) × (o ≡ Some x) × (f x ≡ Some y)
 bind_some None f y e = absurd (none-some y e)

@@ -1,5 +1,6 @@
 -- Reading the words of a line, and lines. A reading gives a value and what is left, or nothing.
 use Rattle.std.specs.Prelude.{◌≡◌, ℕ, ◌+◌, List, [], ◌∷◌, Bool, true, false, Option, Some, None, Result, Ok, Err, take, drop, if◌then◌else◌}
+use Rattle.std.specs.Option.{option_map}
 use Rattle.std.specs.Str.{bytes_eq}
 use Rattle.sb_base.specs.Lines.{TextLine, Place, size_of}
 use Rattle.sb_base.specs.Digits.{hex_answer, dec_answer}
@@ -41,6 +42,11 @@ these_at (t ∷ ts) ws = word_at t ws >>= λ r. these_at ts r.1
 abbrev pub marked_at : ℕ → ℕ → List (List ℕ) → Option (ℕ × List (List ℕ))
 marked_at mark most [] = None
 marked_at mark most (w ∷ ws) = if bytes_eq (take 1 w) (mark ∷ []) then dec_at most (drop 1 w ∷ ws) else None
+
+-- the next word, read by itself
+abbrev pub word_by : {A : Type 0} → (List ℕ → Option A) → List (List ℕ) → Option (A × List (List ℕ))
+word_by f [] = None
+word_by f (w ∷ ws) = option_map (λ x. (x, ws)) (f w)
 
 -- no word is left
 abbrev pub is_over : List (List ℕ) → Bool

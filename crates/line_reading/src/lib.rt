@@ -3,11 +3,13 @@
 #![tactic(auto)]
 
 pub mod laws;
+pub mod letters;
 
 ghost use Rattle.std.specs.Prelude.{◌≡◌, ◌≤◌, ◌<◌, ◌^◌, IfSome, None, replicate};
 ghost use Rattle.std.specs.Option.{option_map};
 ghost use Rattle.line_reading.specs.Reading.{hex_at, dec_at, word_at, these_at, marked_at, is_over, text_in, first_by, this_by, taken, passed, line_by, ReadsAt};
 
+pub use letters::Letters;
 use sb_base::{LineReader, Words, read_dec, read_hex};
 
 /// The line at this offset isn't of its form, or is missing.

@@ -1,4 +1,4 @@
-use Rattle.std.proofs.Common.{ap, length, arith, ◌∙◌}
+use Rattle.std.proofs.Common.{ap, length, arith}
 use Rattle.avr_decode.proofs.Readings.{none_read, one_more_read}
 use Rattle.avr_decode.proofs.reading.Reading.all.Goals as goal
 

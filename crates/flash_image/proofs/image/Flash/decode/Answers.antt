@@ -3,4 +3,4 @@ use Rattle.avr_decode.specs.Reading.{AreReadings}
 use Rattle.flash_image.proofs.image.Flash.decode.Goals as goal
 
 pub invariant_of-self : goal.invariant_of-self
-invariant_of-self c = (c.self.invariant.0, c.self.invariant.1, subst (λ w. AreReadings w c.in-Ok.readings.items) c.deref.ensures.value c.in-Ok.ensures)
+invariant_of-self c = (c.self.invariant.0, c.self.invariant.1, subst (λ w. AreReadings w c.in-Ok.readings.items) c.deref.ensures.value c.in-Ok.ensures, c.self.invariant.3)

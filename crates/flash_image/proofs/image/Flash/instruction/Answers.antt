@@ -1,4 +1,4 @@
-use Rattle.std.proofs.Common.{sym, ap, ◌∙◌}
+use Rattle.std.proofs.Common.{ap, ◌∙◌}
 use Rattle.avr_model.specs.Sites.{instruction_at}
 use Rattle.flash_image.proofs.Said.{said}
 use Rattle.flash_image.proofs.image.Flash.instruction.Goals as goal

@@ -1,0 +1,47 @@
+//! Bytes that two instructions name of a pair of registers.
+
+ghost use Rattle.std.specs.Prelude.{◌≡◌};
+ghost use Rattle.avr_model.specs.Marks.{immediate_of, is_pair, other_side};
+
+use avr_model::instruction::{BinaryOp, ImmediateInstr, ImmediateOp, Instr};
+
+/// The instruction, where it is one of a register and a byte.
+pub fn immediate(instr: &Instr) -> Option<ImmediateInstr>
+    ensures { result ≡ immediate_of instr.now }
+{
+    match *instr {
+        Instr::Immediate(op, register, byte) => Some(ImmediateInstr {
+            op,
+            register: register.get(),
+            byte,
+        }),
+        _ => None,
+    }
+}
+
+/// Whether two registers are a pair, the low one first: an even register and the next one.
+pub fn is_pair(low: u16, high: u16) -> bool
+    ensures { result ≡ is_pair low high }
+{
+    low % 2 == 0 && high == low + 1
+}
+
+/// The register with which `cpc` compares the high register of a pair, behind a `cpi` of the low one; none where the two
+/// instructions aren't these.
+pub fn other_side(first: ImmediateInstr, next: &Instr) -> Option<u16>
+    ensures { result ≡ other_side first next.now }
+{
+    match *next {
+        Instr::Binary(op, high, side) => {
+            if matches!(first.op, ImmediateOp::Cpi)
+                && matches!(op, BinaryOp::Cpc)
+                && is_pair(first.register, high.get())
+            {
+                Some(side.get())
+            } else {
+                None
+            }
+        }
+        _ => None,
+    }
+}

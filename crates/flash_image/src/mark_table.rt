@@ -1,0 +1,111 @@
+//! Tables of marks: a truth for each number of 16 bits.
+
+ghost use Rattle.std.specs.Prelude.{◌≡◌, ◌+◌, ◌*◌, ◌<◌, ℕ, List, length};
+ghost use Rattle.avr_model.specs.Marks.{loaded_number, pair_number, added_number, usual_marks};
+ghost use Rattle.pair_domain.specs.Marks.{mark_below, mark_above, outward};
+ghost use Rattle.flash_image.specs.Marked.{marked, IsTable};
+
+use avr_decode::is_pair;
+use avr_model::instruction::{ImmediateInstr, ImmediateOp};
+use pair_domain::Interval;
+
+/// How many numbers have 16 bits.
+pub(crate) const NUMBERS: usize = 65536;
+
+/// The number of two bytes.
+pub(crate) fn number(low: u8, high: u8) -> u16
+    ensures { result ≡ 256 * high + low }
+{
+    256 * u16::from(high) + u16::from(low)
+}
+
+// Marks the number of both bytes, where the registers are a pair.
+fn mark_pair(table: &mut [bool; NUMBERS], low: ImmediateInstr, high: ImmediateInstr)
+    ensures { table.new ≡ marked table.old (pair_number low high) }
+{
+    if is_pair(low.register, high.register) {
+        table[usize::from(number(low.byte, high.byte))] = true;
+    }
+}
+
+/// Marks what two instructions load into a pair.
+#[tactic(auto, using(crate::proofs::Marked::marked_append))]
+pub(crate) fn mark_loaded(
+    table: &mut [bool; NUMBERS],
+    first: ImmediateInstr,
+    second: ImmediateInstr,
+)
+    ensures { table.new ≡ marked table.old (loaded_number first second) }
+{
+    if matches!(first.op, ImmediateOp::Ldi) && matches!(second.op, ImmediateOp::Ldi) {
+        mark_pair(table, first, second);
+        mark_pair(table, second, first);
+    }
+}
+
+/// Marks what two instructions add to a pair.
+pub(crate) fn mark_added(table: &mut [bool; NUMBERS], first: ImmediateInstr, second: ImmediateInstr)
+    ensures { table.new ≡ marked table.old (added_number first second) }
+{
+    if matches!(first.op, ImmediateOp::Subi)
+        && matches!(second.op, ImmediateOp::Sbci)
+        && is_pair(first.register, second.register)
+    {
+        table[usize::from(0u16.wrapping_sub(number(first.byte, second.byte)))] = true;
+    }
+}
+
+/// Marks what is a mark of every program.
+pub(crate) fn mark_usual(table: &mut [bool; NUMBERS])
+    ensures { table.new ≡ marked table.old usual_marks }
+{
+    table[0] = true;
+    table[0x7FFF] = true;
+    table[0x8000] = true;
+    table[0xFFFF] = true;
+    for page in 0..9 {
+        table[256 * page + 255] = true;
+        table[256 * page + 256] = true;
+    }
+}
+
+// The greatest mark up to `x`, and 0 where there is none.
+fn below(table: &[bool], x: u16) -> u16
+    requires { length table.now ≡ NUMBERS }
+    ensures { (ms : List ℕ) → IsTable ms table.now → result ≡ mark_below ms x }
+{
+    let mut at = x;
+    while !table[usize::from(at)] {
+        if at == 0 {
+            return 0;
+        }
+        at -= 1;
+    }
+    at
+}
+
+// The least mark from `x` on, and 65,535 where there is none.
+fn above(table: &[bool], x: u16) -> u16
+    requires { length table.now ≡ NUMBERS }
+    ensures { (ms : List ℕ) → IsTable ms table.now → result ≡ mark_above ms x }
+{
+    let mut at = x;
+    while !table[usize::from(at)] {
+        if at == 0xFFFF {
+            return 0xFFFF;
+        }
+        at += 1;
+    }
+    at
+}
+
+/// The interval, widened outwards to the nearest marks.
+pub(crate) fn widened(table: &[bool], interval: Interval) -> Interval
+    requires { length table.now ≡ NUMBERS }
+    ensures { (ms : List ℕ) → IsTable ms table.now → result ≡ outward ms interval }
+{
+    Interval {
+        low: below(table, interval.low),
+        high: above(table, interval.high),
+    }
+}

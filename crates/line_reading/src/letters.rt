@@ -1,0 +1,107 @@
+//! The bytes of a word, from its front.
+
+ghost use Rattle.std.specs.Prelude.{◌≡◌, ◌≤◌, ◌<◌, ◌^◌, Some, None, if◌then◌else◌, IfSome};
+ghost use Rattle.std.specs.Option.{option_map};
+ghost use Rattle.sb_base.specs.Digits.{is_hex, digit_of};
+ghost use Rattle.line_reading.specs.Letters.{letter_at, digits_at, is_end};
+
+use sb_base::read_hex;
+use std::marker::Model;
+
+/// The bytes of a word that are still to be read.
+#[derive(Drop)]
+pub struct Letters<'a> {
+    rest: &'a [u8],
+}
+
+impl<'a> Model for Letters<'a> {
+    ghost use Rattle.std.specs.Prelude.{List, ℕ};
+
+    ghost Value = { List ℕ };
+
+    ghost view = { λ l. l.rest.now };
+}
+
+/// The number that an upper-case hexadecimal digit stands for; none where the byte is no such digit.
+fn digit_of(byte: u8) -> Option<u8>
+    ensures value { result ≡ (if is_hex byte then Some (digit_of byte) else None) }
+    ensures small { IfSome result (λ n. n < 16) }
+{
+    if byte >= b'0' && byte <= b'9' {
+        Some(byte - b'0')
+    } else if byte >= b'A' && byte <= b'F' {
+        Some(byte - b'A' + 10)
+    } else {
+        None
+    }
+}
+
+impl<'a> Letters<'a> {
+    /// All bytes of a word.
+    pub fn new(word: &'a [u8]) -> Letters<'a>
+        ensures { result ≡ word.now }
+    {
+        Letters { rest: word }
+    }
+
+    /// The next byte.
+    pub fn next(&mut self) -> Option<u8>
+        ensures { option_map (λ b. (b, self.new)) result ≡ letter_at self.old }
+    {
+        let (first, rest) = self.rest.split_first()?;
+        self.rest = rest;
+        Some(*first)
+    }
+
+    /// The next bytes, as a number in so many upper-case hexadecimal digits.
+    #[tactic(auto, unfolding(crate::specs::Letters::digits_at))]
+    pub fn digits(&mut self, count: usize) -> Option<u32>
+        requires some { 1 ≤ count }
+        requires few { count ≤ 8 }
+        ensures exact { option_map (λ n. (n, self.new)) result ≡ digits_at count self.old }
+        ensures small { IfSome result (λ n. n < 16 ^ count) }
+    {
+        if self.rest.len() < count {
+            return None;
+        }
+        let (digits, rest) = self.rest.split_at(count);
+        match read_hex(digits, count) {
+            Ok(number) => {
+                self.rest = rest;
+                Some(number)
+            }
+            Err(_) => None,
+        }
+    }
+
+    /// The next two bytes, as a number in two upper-case hexadecimal digits.
+    #[tactic(auto, using(crate::proofs::Digits::no_letter, crate::proofs::Digits::one_letter, crate::proofs::Digits::two_letters))]
+    pub fn byte(&mut self) -> Option<u8>
+        ensures { option_map (λ n. (n, self.new)) result ≡ digits_at 2 self.old }
+    {
+        let Some((high, behind)) = self.rest.split_first() else {
+            return None;
+        };
+        let Some((low, rest)) = behind.split_first() else {
+            return None;
+        };
+        let high = digit_of(*high)?;
+        let low = digit_of(*low)?;
+        self.rest = rest;
+        Some(16 * high + low)
+    }
+
+    /// What is left, all of it.
+    pub fn rest(&self) -> &'a [u8]
+        ensures { result.now ≡ self.now }
+    {
+        self.rest
+    }
+
+    /// Whether nothing is left.
+    pub fn is_end(&self) -> bool
+        ensures { result ≡ is_end self.now }
+    {
+        self.rest.is_empty()
+    }
+}

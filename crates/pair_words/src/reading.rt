@@ -1,0 +1,272 @@
+//! The reader of the words on pairs.
+
+ghost use Rattle.std.specs.Prelude.{◌≡◌, ◌<◌, ◌+◌, IfSome};
+ghost use Rattle.std.specs.Option.{option_map};
+ghost use Rattle.line_reading.specs.Letters.{digits_at};
+ghost use Rattle.pair_domain.specs.Tags.{IsNear};
+ghost use Rattle.line_reading.specs.Reading.{word_by};
+ghost use Rattle.pair_words.specs.Reading.{register_at, pair_at, are_near, ends_in, sum_by, sum_in, side_at, compare_behind, compare_by, compare_in, alone, zero_by, zero_in, is_inside, inside_at, interval_at, intervals_at, intervals_in, facts_at};
+
+use line_reading::Letters;
+use pair_domain::{CompareTag, Interval, PairFacts, Side, SumTag, ZeroTag};
+use sb_base::Words;
+
+/// The number of a register, below 32, in two digits.
+#[tactic(auto, unfolding(crate::specs::Reading::register_at))]
+pub fn register_of(letters: &mut Letters<'_>) -> Option<u8>
+    ensures { option_map (λ r. (r, letters.new)) result ≡ register_at letters.old }
+{
+    let register = letters.byte()?;
+    if register < 32 { Some(register) } else { None }
+}
+
+/// The number of a pair, which is even.
+#[tactic(auto, unfolding(crate::specs::Reading::pair_at))]
+fn pair_of(letters: &mut Letters<'_>) -> Option<u8>
+    ensures { option_map (λ r. (r, letters.new)) result ≡ pair_at letters.old }
+{
+    let register = register_of(letters)?;
+    if register % 2 == 0 {
+        Some(register)
+    } else {
+        None
+    }
+}
+
+/// Whether ends are in order and less than 65,535 apart.
+fn are_near(low: u32, high: u32) -> bool
+    ensures { result ≡ are_near low high }
+{
+    low <= high && u64::from(high) < u64::from(low) + 65_535
+}
+
+/// A pair and two ends, behind which nothing stands.
+#[tactic(auto, unfolding(crate::specs::Reading::ends_in))]
+fn ends_of(letters: &mut Letters<'_>) -> Option<(u8, u32, u32)>
+    ensures exact { result ≡ ends_in letters.old }
+    ensures near { IfSome result (λ e. e.2 < e.1 + 65535) }
+{
+    let pair = pair_of(letters)?;
+    let low = letters.digits(5)?;
+    let high = letters.digits(5)?;
+    if are_near(low, high) && letters.is_end() {
+        Some((pair, low, high))
+    } else {
+        None
+    }
+}
+
+/// The sum tag that a letter begins, which isn't that of none.
+fn sum_by(letter: u8, letters: &mut Letters<'_>) -> Option<SumTag>
+    ensures exact { result ≡ sum_by letter letters.old }
+    ensures near { IfSome result IsNear }
+{
+    if letter == b'u' {
+        let (pair, low, high) = ends_of(letters)?;
+        Some(SumTag::Up(pair, low, high))
+    } else if letter == b'd' {
+        let (pair, low, high) = ends_of(letters)?;
+        Some(SumTag::Down(pair, low, high))
+    } else {
+        None
+    }
+}
+
+/// The sum tag of a word.
+#[tactic(auto, unfolding(crate::specs::Reading::sum_in))]
+fn sum_of(word: &[u8]) -> Option<SumTag>
+    ensures exact { result ≡ sum_in word.now }
+    ensures near { IfSome result IsNear }
+{
+    if word == b"-".as_slice() {
+        return Some(SumTag::None);
+    }
+    let mut letters = Letters::new(word);
+    let letter = letters.next()?;
+    sum_by(letter, &mut letters)
+}
+
+/// The right side of a comparison.
+#[tactic(auto, unfolding(crate::specs::Reading::side_at))]
+fn side_of(letters: &mut Letters<'_>) -> Option<Side>
+    ensures { option_map (λ s. (s, letters.new)) result ≡ side_at letters.old }
+{
+    let letter = letters.next()?;
+    if letter == b'k' {
+        Some(Side::Byte(letters.byte()?))
+    } else if letter == b'r' {
+        Some(Side::Register(register_of(letters)?))
+    } else {
+        None
+    }
+}
+
+/// The compare tag of this register and side, behind which nothing stands, or the register beside the side.
+#[tactic(auto, unfolding(crate::specs::Reading::compare_behind))]
+fn compare_behind(register: u8, side: Side, letters: &mut Letters<'_>) -> Option<CompareTag>
+    ensures { result ≡ compare_behind register side letters.old }
+{
+    if letters.is_end() {
+        return Some(CompareTag::Byte(register, side));
+    }
+    let beside = register_of(letters)?;
+    if register % 2 == 0 && letters.is_end() {
+        Some(CompareTag::Pair(register, side, beside))
+    } else {
+        None
+    }
+}
+
+/// The compare tag, which isn't that of none.
+#[tactic(auto, unfolding(crate::specs::Reading::compare_by))]
+fn compare_by(letters: &mut Letters<'_>) -> Option<CompareTag>
+    ensures { result ≡ compare_by letters.old }
+{
+    let register = register_of(letters)?;
+    let side = side_of(letters)?;
+    compare_behind(register, side, letters)
+}
+
+/// The compare tag of a word.
+#[tactic(auto, unfolding(crate::specs::Reading::compare_in))]
+fn compare_of(word: &[u8]) -> Option<CompareTag>
+    ensures { result ≡ compare_in word.now }
+{
+    if word == b"-".as_slice() {
+        return Some(CompareTag::None);
+    }
+    let mut letters = Letters::new(word);
+    compare_by(&mut letters)
+}
+
+/// The number, where nothing stands behind it.
+fn alone(number: Option<u8>, letters: &Letters<'_>) -> Option<u8>
+    ensures { result ≡ alone (option_map (λ r. (r, letters.now)) number) }
+{
+    let number = number?;
+    if letters.is_end() { Some(number) } else { None }
+}
+
+/// The zero tag that a letter begins, which isn't that of none.
+fn zero_by(letter: u8, letters: &mut Letters<'_>) -> Option<ZeroTag>
+    ensures { result ≡ zero_by letter letters.old }
+{
+    if letter == b'b' {
+        let register = register_of(letters);
+        Some(ZeroTag::Byte(alone(register, letters)?))
+    } else if letter == b'p' {
+        let pair = pair_of(letters);
+        Some(ZeroTag::Pair(alone(pair, letters)?))
+    } else {
+        None
+    }
+}
+
+/// The zero tag of a word.
+#[tactic(auto, unfolding(crate::specs::Reading::zero_in))]
+fn zero_of(word: &[u8]) -> Option<ZeroTag>
+    ensures { result ≡ zero_in word.now }
+{
+    if word == b"-".as_slice() {
+        return Some(ZeroTag::None);
+    }
+    let mut letters = Letters::new(word);
+    let letter = letters.next()?;
+    zero_by(letter, &mut letters)
+}
+
+/// Whether ends are in order and lie within the hull, and aren't its ends.
+fn is_inside(hull: Interval, low: u16, high: u16) -> bool
+    ensures { result ≡ is_inside hull low high }
+{
+    hull.low <= low && low <= high && high <= hull.high && !(low == hull.low && high == hull.high)
+}
+
+/// An interval that lies within the hull and isn't it.
+#[tactic(auto, unfolding(crate::specs::Reading::inside_at))]
+fn inside_of(letters: &mut Letters<'_>, hull: Interval) -> Option<Interval>
+    ensures { option_map (λ i. (i, letters.new)) result ≡ inside_at hull letters.old }
+{
+    let low = letters.digits(4)? as u16;
+    let high = letters.digits(4)? as u16;
+    if is_inside(hull, low, high) {
+        Some(Interval { low, high })
+    } else {
+        None
+    }
+}
+
+/// The number that stands next in two digits, which stay.
+fn next_pair(letters: &Letters<'_>) -> Option<u8>
+    ensures { result ≡ option_map (λ n. n.0) (digits_at 2 letters.now) }
+{
+    let mut ahead = Letters::new(letters.rest());
+    ahead.byte()
+}
+
+/// The interval of a pair with this hull: that behind its number where this stands next, else the hull.
+#[tactic(auto, unfolding(crate::specs::Reading::interval_at))]
+fn interval_of(letters: &mut Letters<'_>, pair: u8, hull: Interval) -> Option<Interval>
+    ensures { option_map (λ i. (i, letters.new)) result ≡ interval_at pair hull letters.old }
+{
+    match next_pair(letters) {
+        Some(next) if next == pair => {
+            letters.byte()?;
+            inside_of(letters, hull)
+        }
+        _ => Some(hull),
+    }
+}
+
+/// The intervals of all pairs with these hulls.
+fn intervals_behind(letters: &mut Letters<'_>, hulls: &[Interval; 16]) -> Option<[Interval; 16]>
+    ensures { option_map (λ is. (is, letters.new)) result ≡ intervals_at 0 hulls.now letters.old }
+{
+    let mut intervals = *hulls;
+    for n in 0..16 {
+        let Some(interval) = interval_of(letters, 2 * n as u8, hulls[n]) else {
+            return None;
+        };
+        intervals[n] = interval;
+    }
+    Some(intervals)
+}
+
+/// The intervals of a word.
+#[tactic(auto, unfolding(crate::specs::Reading::intervals_in))]
+fn intervals_of(word: &[u8], hulls: &[Interval; 16]) -> Option<[Interval; 16]>
+    ensures { result ≡ intervals_in hulls.now word.now }
+{
+    if word == b"-".as_slice() {
+        return Some(*hulls);
+    }
+    if word.is_empty() {
+        return None;
+    }
+    let mut letters = Letters::new(word);
+    let intervals = intervals_behind(&mut letters, hulls)?;
+    if letters.is_end() {
+        Some(intervals)
+    } else {
+        None
+    }
+}
+
+/// What is known of pairs by the next four words, where the bytes of the registers make up these hulls: sum tag, compare tag, zero tag
+/// and intervals. None exactly where they are those of nothing that these hulls admit.
+#[tactic(auto, unfolding(crate::specs::Reading::facts_at))]
+pub fn facts_of(words: &mut Words<'_>, hulls: &[Interval; 16]) -> Option<PairFacts>
+    ensures exact { option_map (λ f. (f, words.new)) result ≡ facts_at hulls.now words.old }
+    ensures near { IfSome result (λ f. IsNear f.sum) }
+{
+    let sum = sum_of(words.next()?)?;
+    let compare = compare_of(words.next()?)?;
+    let zero = zero_of(words.next()?)?;
+    let intervals = intervals_of(words.next()?, hulls)?;
+    Some(PairFacts {
+        intervals,
+        sum,
+        compare,
+        zero,
+    })
+}
