@@ -1,5 +1,5 @@
 -- The root's state at reset, and the states at entries.
-use Rattle.std.proofs.Common.{◌≡◌, refl, sym, ◌∙◌, ap, subst, ℕ, zero, suc, ◌+◌, ◌*◌, ◌/◌, ◌%◌, ◌^◌, ◌<◌, ◌==◌, Bool, true, false, if◌then◌else◌, List, [], ◌∷◌, length, slice_index, inl, inr, arith}
+use Rattle.std.proofs.Common.{◌≡◌, refl, sym, ◌∙◌, ap, subst, ℕ, zero, suc, ◌+◌, ◌*◌, ◌/◌, ◌%◌, ◌^◌, ◌<◌, ◌==◌, Bool, true, false, if◌then◌else◌, List, [], ◌∷◌, length, slice_index, inl, inr, arith, Option, Some, None}
 use Rattle.std.proofs.lemmas.List.{get_or-replicate}
 use Rattle.std.proofs.Math.ListN.{length-replicate}
 use Rattle.std.proofs.lemmas.Bool.{cases_eq}
@@ -13,6 +13,9 @@ use Rattle.bit_domain.specs.TriByte.{tri_of, tri_at, byte_of, Has}
 use Rattle.bit_domain.specs.Packed.{packed}
 use Rattle.bit_domain.proofs.AllLaws.{bytes_are_their_bits, bytes_are_sets}
 use Rattle.avr_model.specs.Devices.{ramend}
+use Rattle.pair_domain.specs.declared.facts.PairFacts.{PairFacts}
+use Rattle.pair_domain.specs.Facts.{is_followed, KnownHolds, IsKnownWithin}
+use Rattle.pair_domain.specs.Rank.{KnownFits}
 use Rattle.sp_domain.specs.declared.tags.Tag.TheVariants as tag
 use Rattle.abs_state.specs.declared.values.AbsByte.{AbsByte}
 use Rattle.abs_state.specs.declared.state.AbsState.{AbsState}
@@ -22,7 +25,7 @@ use Rattle.sp_domain.specs.Tags.{Origin}
 use Rattle.std.proofs.lemmas.List.Elements.{All-get_or}
 use Rattle.abs_state.specs.Stands.{ByteStands}
 use Rattle.abs_state.specs.Order.{IsByteWithin}
-use Rattle.abs_state.specs.Frames.{tagged_from, entered}
+use Rattle.abs_state.specs.Frames.{tagged_from, known_entered, entered}
 use Rattle.abs_state.specs.Formed.{NamesRegister, ByteFits}
 use Rattle.abs_state.specs.Laws.{ResetStands, EntriesAreTrue}
 use Rattle.abs_state.proofs.Ordered.{bits_make_values}
@@ -67,6 +70,7 @@ reset_stands = record {
     carry = tt;
     ranges = λ r h. subst ByteFits (sym (root_value r h)) (bits_make_values.fits tag.None byte_any);
     slot_ranges = λ d h. absurd (omega arith);
+    facts = tt;
   };
   untagged = record {
     registers = λ r h. ap (λ (v : AbsByte). v.tag) (root_value r h);
@@ -99,7 +103,7 @@ tagged_value vs r h =
     let e : 0 + r ≡ r = omega arith in
     value_at-tagged vs 0 r h ∙ ap (λ (k : ℕ). tagged (value_at vs r) k) e
 
-entered_value : (s : AbsState) (r : ℕ) → length s.registers ≡ 32 → r < 32 → value_at (entered s).registers r ≡ tagged (value_at s.registers r) r
+pub entered_value : (s : AbsState) (r : ℕ) → length s.registers ≡ 32 → r < 32 → value_at (entered s).registers r ≡ tagged (value_at s.registers r) r
 entered_value s r n h = tagged_value s.registers r (omega arith)
 
 -- the low k bits of a number are those of its remainder
@@ -119,6 +123,23 @@ has_flags t x y any e has i h = elim (cases_eq i 7) [
   | inr other ↦ subst (λ (n : ℕ). Permits (tri_at t i) n) (same_low_bit x y i (omega arith) e) (has i h)
 ]
 
+entered_facts_fit : (x : Option PairFacts) → KnownFits x → KnownFits (known_entered x)
+entered_facts_fit None a = tt
+entered_facts_fit (Some f) a = record { count = a.count; intervals = a.intervals; sum = tt; compare = tt; zero = tt }
+
+entered_facts_less : (x y : Option PairFacts) → IsKnownWithin x y → IsKnownWithin (known_entered x) (known_entered y)
+entered_facts_less x None le = tt
+entered_facts_less None (Some g) le = absurd le
+entered_facts_less (Some f) (Some g) le = record { intervals = le.intervals; sum = tt; compare = tt; zero = tt }
+
+entered_followed : (x : Option PairFacts) → is_followed (known_entered x) ≡ is_followed x
+entered_followed None = refl
+entered_followed (Some f) = refl
+
+entered_facts_hold : (x : Option PairFacts) (registers : List ℕ) (c z s c' z' s' : Bool) → KnownHolds x registers c z s → KnownHolds (known_entered x) registers c' z' s'
+entered_facts_hold None registers c z s c' z' s' h = tt
+entered_facts_hold (Some f) registers c z s c' z' s' h = record { intervals = h.intervals; sum = tt; compare = tt; zero = tt }
+
 pub entries_are_true : EntriesAreTrue
 entries_are_true = record {
   registers = λ o s registers sreg base n h r lt.
@@ -129,6 +150,8 @@ entries_are_true = record {
     bits = has_flags s.flags.bits sreg new formed.bit_7 (sym same) h.bits;
     carry = tt;
   };
+  facts = λ s. entered_facts_hold s.facts;
+  followed = λ s. entered_followed s.facts;
   formed = λ s offset formed. record {
     count_registers = length-tagged_from 0 s.registers ∙ formed.count_registers;
     registers = λ r h. subst (λ (v : AbsByte). NamesRegister v.tag) (sym (entered_value s r formed.count_registers h)) h;
@@ -138,6 +161,7 @@ entries_are_true = record {
     carry = tt;
     ranges = λ r h. subst ByteFits (sym (entered_value s r formed.count_registers h)) (formed.ranges r h);
     slot_ranges = λ d h. absurd (omega arith);
+    facts = entered_facts_fit s.facts formed.facts;
   };
   more = λ s t m n le. record {
     registers = λ r h.
@@ -146,5 +170,6 @@ entries_are_true = record {
     flags = record { entry = λ e. refl; bits = le.flags.bits; carry = tt };
     count = refl;
     slots = λ d h. absurd (omega arith);
+    facts = entered_facts_less s.facts t.facts le.facts;
   };
 }

@@ -1,6 +1,6 @@
 -- Laws of values and states: their order and join, that what stands still stands where less is said, and that entries and returns
 -- stand for what the machine does.
-use Rattle.std.specs.Prelude.{ℕ, ◌+◌, ◌-◌, ◌%◌, ◌≡◌, ◌<◌, ◌≤◌, ◌↔◌, ◌⊎◌, true, List, [], ◌∷◌, ◌++◌, length, take, Some, None}
+use Rattle.std.specs.Prelude.{ℕ, ◌+◌, ◌-◌, ◌%◌, ◌≡◌, ◌<◌, ◌≤◌, ◌↔◌, ◌⊎◌, ◌&&◌, Bool, true, List, [], ◌∷◌, ◌++◌, length, take, Option, Some, None}
 use Rattle.avr_model.specs.Sreg.{flag}
 use Rattle.avr_model.specs.declared.device.Device.{Device}
 use Rattle.avr_model.specs.Devices.{ramend}
@@ -11,14 +11,17 @@ use Rattle.sp_domain.specs.declared.slots.Slot.{Slot}
 use Rattle.sp_domain.specs.declared.tags.Tag.{Tag}
 use Rattle.sp_domain.specs.Tags.{Origin, TagHolds, LessHolds, HasBytes, IsTagWithin}
 use Rattle.sp_domain.specs.Slots.{slot_at, resized}
+use Rattle.pair_domain.specs.declared.facts.PairFacts.{PairFacts}
+use Rattle.pair_domain.specs.Facts.{KnownHolds, is_followed}
 use Rattle.abs_state.specs.declared.values.AbsByte.{AbsByte}
 use Rattle.abs_state.specs.declared.values.AbsFlags.{AbsFlags}
 use Rattle.abs_state.specs.declared.state.AbsState.{AbsState}
 use Rattle.abs_state.specs.Values.{with_bits, root}
 use Rattle.abs_state.specs.Stands.{ByteStands, FlagsStand, RegistersStand, SlotStands, SlotsStand, Stands}
 use Rattle.abs_state.specs.Order.{IsByteWithin, IsFlagsWithin, IsSlotWithin, IsStateWithin, value_join, flags_join, state_join, IsLeastAbove}
-use Rattle.abs_state.specs.Frames.{entered, returned, Conflict}
-use Rattle.abs_state.specs.Formed.{ByteFits, IsFormed, IsUntagged, TagsFit}
+use Rattle.abs_state.specs.Frames.{entered, bytes_returned, BytesConflict}
+use Rattle.abs_state.specs.PairsBack.{returned, Conflict}
+use Rattle.abs_state.specs.Formed.{ByteFits, IsWhole, IsFormed, IsUntagged, TagsFit}
 use Rattle.abs_state.specs.Rank.{state_rank, height_of}
 
 -- A value of a tag and bits has all bytes of the bits: it stands where both hold, says less where both do, and its range fits; and a join
@@ -47,23 +50,24 @@ pub record FlagsAreOrdered : Type 0 where
   pub second : (f g : AbsFlags) → IsFlagsWithin g (flags_join f g)
   pub least : (f g h : AbsFlags) → IsFlagsWithin f h → IsFlagsWithin g h → IsFlagsWithin (flags_join f g) h
 
--- The same of states; two of them have a join where they have as many slots. The states that are compared have 32 registers.
+-- The same of states; two of them have a join where they have as many slots. The states that are compared are whole.
 pub record StatesAreOrdered : Type 0 where
   pub same : (s : AbsState) → IsStateWithin s s
   pub through : (s t u : AbsState) → IsStateWithin s t → IsStateWithin t u → IsStateWithin s u
-  pub both : (s t : AbsState) → length s.registers ≡ 32 → length t.registers ≡ 32 → IsStateWithin s t → IsStateWithin t s → s ≡ t
-  pub join : (s t : AbsState) → length s.registers ≡ 32 → length t.registers ≡ 32 → length s.slots ≡ length t.slots → IsLeastAbove s t (state_join s t)
-  pub within : (s t : AbsState) → length s.registers ≡ 32 → length t.registers ≡ 32 → IsStateWithin t s → state_join s t ≡ s
+  pub both : (s t : AbsState) → IsWhole s → IsWhole t → IsStateWithin s t → IsStateWithin t s → s ≡ t
+  pub join : (s t : AbsState) → IsWhole s → IsWhole t → length s.slots ≡ length t.slots → IsLeastAbove s t (state_join s t)
+  pub within : (s t : AbsState) → IsWhole s → IsWhole t → IsStateWithin t s → state_join s t ≡ s
 
 -- what says less has a join that says less
 pub record JoinsAreMonotone : Type 0 where
   pub values : (v w v' w' : AbsByte) → IsByteWithin v v' → IsByteWithin w w' → IsByteWithin (value_join v w) (value_join v' w')
   pub flags : (f g f' g' : AbsFlags) → IsFlagsWithin f f' → IsFlagsWithin g g' → IsFlagsWithin (flags_join f g) (flags_join f' g')
-  pub states : (s t s' t' : AbsState) → length s.registers ≡ 32 → length t.registers ≡ 32 → length s'.registers ≡ 32 → length t'.registers ≡ 32
+  pub states : (s t s' t' : AbsState) → IsWhole s → IsWhole t → IsWhole s' → IsWhole t'
       → length s.slots ≡ length t.slots → IsStateWithin s s' → IsStateWithin t t' → IsStateWithin (state_join s t) (state_join s' t')
 
--- A join of states that the analysis works with is one, and a join of untagged states is untagged.
+-- Such a state is whole. A join of states that the analysis works with is one, and a join of untagged states is untagged.
 pub record JoinsAreFormed : Type 0 where
+  pub whole : (s : AbsState) (offset : ℕ) → IsFormed s offset → IsWhole s
   pub formed : (s t : AbsState) (offset : ℕ) → IsFormed s offset → IsFormed t offset → IsFormed (state_join s t) offset
   pub untagged : (s t : AbsState) (offset : ℕ) → IsFormed s offset → IsFormed t offset → IsUntagged s → IsUntagged t → IsUntagged (state_join s t)
 
@@ -104,6 +108,8 @@ pub record EntriesAreTrue : Type 0 where
       → RegistersStand (record { registers = registers; sreg = sreg; base = base }) (entered s).registers registers
   pub flags : (o : Origin) (s : AbsState) (offset : ℕ) (registers : List ℕ) (sreg new base : ℕ) → IsFormed s offset → new % 128 ≡ sreg % 128
       → FlagsStand o s.flags sreg → FlagsStand (record { registers = registers; sreg = sreg; base = base }) (entered s).flags new
+  pub facts : (s : AbsState) (registers : List ℕ) (c z n c' z' n' : Bool) → KnownHolds s.facts registers c z n → KnownHolds (entered s).facts registers c' z' n'
+  pub followed : (s : AbsState) → is_followed (entered s).facts ≡ is_followed s.facts
   pub formed : (s : AbsState) (offset : ℕ) → IsFormed s offset → IsFormed (entered s) 0
   pub more : (s t : AbsState) → length s.registers ≡ 32 → length t.registers ≡ 32 → IsStateWithin s t → IsStateWithin (entered s) (entered t)
 
@@ -112,6 +118,10 @@ pub record IsEnteredFrom (registers : List ℕ) (sreg : ℕ) (o : Origin) : Type
   pub registers_kept : o.registers ≡ registers
   pub flags_kept : o.sreg % 128 ≡ sreg % 128
 
+-- what is known of pairs holds of the registers and of C, Z and S
+abbrev pub HoldsAt : Option PairFacts → List ℕ → ℕ → Type 0
+HoldsAt x registers sreg = KnownHolds x registers (flag sreg 0) (flag sreg 1) (flag sreg 4)
+
 -- A caller's state that stood when it was left, and a callee's that stands at its exit, give one that stands after the return, in the
 -- caller's frame. A return may set I.
 pub record ReturnsAreTrue : Type 0 where
@@ -119,16 +129,36 @@ pub record ReturnsAreTrue : Type 0 where
       → IsFormed caller offset → IsFormed exit 0
       → RegistersStand o caller.registers left → FlagsStand o caller.flags left_sreg → LessHolds left caller.flags.carry (flag left_sreg 0)
       → SlotsStand o memory caller.slots
+      → HoldsAt caller.facts left left_sreg
       → IsEnteredFrom left left_sreg callee
-      → RegistersStand callee exit.registers registers → FlagsStand callee exit.flags sreg → new % 128 ≡ sreg % 128
+      → RegistersStand callee exit.registers registers → FlagsStand callee exit.flags sreg → HoldsAt exit.facts registers sreg → new % 128 ≡ sreg % 128
       → (t : AbsState) × (returned caller exit ≡ Some t) × RegistersStand o t.registers registers × FlagsStand o t.flags new
-      × LessHolds registers t.flags.carry (flag new 0) × SlotsStand o memory t.slots
+      × LessHolds registers t.flags.carry (flag new 0) × SlotsStand o memory t.slots × HoldsAt t.facts registers new
+  pub followed : (caller exit t : AbsState) → returned caller exit ≡ Some t → is_followed t.facts ≡ (is_followed caller.facts && is_followed exit.facts)
   pub formed : (caller exit t : AbsState) (offset : ℕ) → IsFormed caller offset → IsFormed exit 0 → returned caller exit ≡ Some t → IsFormed t offset
   pub untagged : (caller exit t : AbsState) (offset : ℕ) → IsFormed caller offset → IsFormed exit 0 → IsUntagged caller → returned caller exit ≡ Some t → IsUntagged t
   pub more : (caller caller' exit exit' t : AbsState) (offset : ℕ) → IsFormed caller offset → IsFormed caller' offset → IsFormed exit 0 → IsFormed exit' 0
       → IsStateWithin caller caller' → IsStateWithin exit exit' → returned caller exit ≡ Some t
       → (t' : AbsState) × (returned caller' exit' ≡ Some t') × IsStateWithin t t'
   pub none : (caller exit : AbsState) → length exit.registers ≡ 32 → returned caller exit ≡ None ↔ Conflict caller exit
+
+-- The same of bytes, flags and slots alone: a caller's state that stood when it was left, and a callee's that stands at its exit, give one that stands after the return, in the
+-- caller's frame. A return may set I.
+pub record BytesReturn : Type 0 where
+  pub stands : (o callee : Origin) (caller exit : AbsState) (offset : ℕ) (left registers : List ℕ) (left_sreg sreg new : ℕ) (memory : Memory)
+      → IsFormed caller offset → IsFormed exit 0
+      → RegistersStand o caller.registers left → FlagsStand o caller.flags left_sreg → LessHolds left caller.flags.carry (flag left_sreg 0)
+      → SlotsStand o memory caller.slots
+      → IsEnteredFrom left left_sreg callee
+      → RegistersStand callee exit.registers registers → FlagsStand callee exit.flags sreg → new % 128 ≡ sreg % 128
+      → (t : AbsState) × (bytes_returned caller exit ≡ Some t) × RegistersStand o t.registers registers × FlagsStand o t.flags new
+      × LessHolds registers t.flags.carry (flag new 0) × SlotsStand o memory t.slots
+  pub formed : (caller exit t : AbsState) (offset : ℕ) → IsFormed caller offset → IsFormed exit 0 → bytes_returned caller exit ≡ Some t → IsFormed t offset
+  pub untagged : (caller exit t : AbsState) (offset : ℕ) → IsFormed caller offset → IsFormed exit 0 → IsUntagged caller → bytes_returned caller exit ≡ Some t → IsUntagged t
+  pub more : (caller caller' exit exit' t : AbsState) (offset : ℕ) → IsFormed caller offset → IsFormed caller' offset → IsFormed exit 0 → IsFormed exit' 0
+      → IsStateWithin caller caller' → IsStateWithin exit exit' → bytes_returned caller exit ≡ Some t
+      → (t' : AbsState) × (bytes_returned caller' exit' ≡ Some t') × IsStateWithin t t'
+  pub none : (caller exit : AbsState) → length exit.registers ≡ 32 → bytes_returned caller exit ≡ None ↔ BytesConflict caller exit
 
 -- Of two states of which the second says no more, they are the same or the second is further up; none is above the height of its number of
 -- slots.

@@ -1,10 +1,11 @@
 -- What is known where pairs are followed and where they aren't.
-use Rattle.std.proofs.Common.{◌≡◌, refl, ap, ℕ, ◌+◌, ◌<◌, ◌≤◌, ◌⊎◌, inl, inr, ⊎_elim, Bool, List, Option, Some, None, arith}
+use Rattle.std.proofs.Common.{◌≡◌, refl, sym, ap, subst, ℕ, ◌+◌, ◌<◌, ◌≤◌, ◌⊎◌, inl, inr, ⊎_elim, Bool, List, Option, Some, None, arith}
 use Rattle.pair_domain.specs.declared.facts.PairFacts.{PairFacts}
 use Rattle.pair_domain.specs.declared.tags.SumTag.{SumTag}
 use Rattle.pair_domain.specs.declared.tags.SumTag.TheVariants as sum
-use Rattle.pair_domain.specs.Tags.{IsNear}
-use Rattle.pair_domain.specs.Facts.{HasSixteen, IsKnownNear, KnownHolds, IsKnownWithin, known_join}
+use Rattle.pair_domain.specs.Tags.{IsNear, sum_join}
+use Rattle.std.specs.Prelude.{◌&&◌}
+use Rattle.pair_domain.specs.Facts.{is_followed, HasSixteen, IsKnownNear, KnownHolds, IsKnownWithin, known_join}
 use Rattle.pair_domain.specs.Rank.{SumFits, KnownFits, facts_height, known_rank}
 use Rattle.pair_domain.specs.Laws.{KnownIsOrdered}
 use Rattle.pair_domain.proofs.Ordered.{sums_are_ordered}
@@ -21,11 +22,11 @@ through x None (Some h) a b = absurd b
 through None (Some g) (Some h) a b = absurd a
 through (Some f) (Some g) (Some h) a b = facts_are_ordered.through f g h a b
 
-both : (x y : Option PairFacts) → HasSixteen x → HasSixteen y → IsKnownWithin x y → IsKnownWithin y x → x ≡ y
-both None None m n a b = refl
-both None (Some g) m n a b = absurd a
-both (Some f) None m n a b = absurd b
-both (Some f) (Some g) m n a b = ap (λ (h : PairFacts). Some h) (facts_are_ordered.both f g m n a b)
+both : (x y : Option PairFacts) → HasSixteen x → HasSixteen y → IsKnownNear x → IsKnownNear y → IsKnownWithin x y → IsKnownWithin y x → x ≡ y
+both None None m n near near' a b = refl
+both None (Some g) m n near near' a b = absurd a
+both (Some f) None m n near near' a b = absurd b
+both (Some f) (Some g) m n near near' a b = ap (λ (h : PairFacts). Some h) (facts_are_ordered.both f g m n near near' a b)
 
 first : (x y : Option PairFacts) → HasSixteen x → HasSixteen y → IsKnownWithin x (known_join x y)
 first None y m n = tt
@@ -37,16 +38,20 @@ second None y m n = tt
 second (Some f) None m n = tt
 second (Some f) (Some g) m n = (facts_are_ordered.join f g m n).second
 
-least : (x y w : Option PairFacts) → HasSixteen x → HasSixteen y → IsKnownNear w → IsKnownWithin x w → IsKnownWithin y w → IsKnownWithin (known_join x y) w
-least x y None m n near a b = tt
-least None y (Some h) m n near a b = absurd a
-least (Some f) None (Some h) m n near a b = absurd b
-least (Some f) (Some g) (Some h) m n near a b = (facts_are_ordered.join f g m n).least h near a b
+least : (x y w : Option PairFacts) → HasSixteen x → HasSixteen y → IsKnownWithin x w → IsKnownWithin y w → IsKnownWithin (known_join x y) w
+least x y None m n a b = tt
+least None y (Some h) m n a b = absurd a
+least (Some f) None (Some h) m n a b = absurd b
+least (Some f) (Some g) (Some h) m n a b = (facts_are_ordered.join f g m n).least h a b
 
 within : (x y : Option PairFacts) → HasSixteen x → HasSixteen y → IsKnownNear x → IsKnownWithin y x → known_join x y ≡ x
 within None y m n near le = refl
 within (Some f) None m n near le = absurd le
 within (Some f) (Some g) m n near le = ap (λ (h : PairFacts). Some h) (facts_are_ordered.within f g m n near le)
+
+-- what is a join is kept
+pub near_joined : (t u v : SumTag) → v ≡ sum_join t u → IsNear v
+near_joined t u v e = subst IsNear (sym e) (sums_are_ordered.near t u)
 
 near : (x y : Option PairFacts) → IsKnownNear (known_join x y)
 near None y = tt
@@ -91,6 +96,11 @@ kept : (x : Option PairFacts) → KnownFits x → IsKnownNear x
 kept None a = tt
 kept (Some f) a = sum_kept f.sum a.sum
 
+followed : (x y : Option PairFacts) → is_followed (known_join x y) ≡ (is_followed x && is_followed y)
+followed None y = refl
+followed (Some f) None = refl
+followed (Some f) (Some g) = refl
+
 pub known_is_ordered : KnownIsOrdered
 known_is_ordered = record {
   same = same;
@@ -108,4 +118,5 @@ known_is_ordered = record {
   near = near;
   count = count;
   kept = kept;
+  followed = followed;
 }

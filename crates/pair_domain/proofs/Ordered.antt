@@ -1,8 +1,8 @@
 -- The order, the join and the meet of intervals and of the tags of flags.
-use Rattle.std.proofs.Common.{◌≡◌, refl, sym, ◌∙◌, subst, ℕ, ◌+◌, ◌<◌, ◌≤◌, max, min, arith, Bool, true, false, Some, None, List}
+use Rattle.std.proofs.Common.{◌≡◌, refl, sym, ◌∙◌, subst, ℕ, ◌+◌, ◌<◌, ◌≤◌, ◌⊎◌, inl, inr, ⊎_elim, max, min, arith, Bool, true, false, Some, None, List}
 use Rattle.std.specs.Prelude.{◌==◌, nat_le, nat_lt, if◌then◌else◌}
 use Rattle.std.specs.Int.{from_bool}
-use Rattle.std.proofs.lemmas.Bool.{eqb-true, eq-eqb, false≢true}
+use Rattle.std.proofs.lemmas.Bool.{eqb-true, eq-eqb, false≢true, cases_lt}
 use Rattle.std.proofs.lemmas.Bool.Decides.{nat_tests}
 use Rattle.pair_domain.specs.declared.intervals.Interval.{Interval}
 use Rattle.pair_domain.specs.declared.tags.SumTag.{SumTag}
@@ -12,7 +12,7 @@ use Rattle.pair_domain.specs.declared.tags.CompareTag.TheVariants as compare
 use Rattle.pair_domain.specs.declared.tags.ZeroTag.{ZeroTag}
 use Rattle.pair_domain.specs.declared.tags.ZeroTag.TheVariants as zero
 use Rattle.pair_domain.specs.Intervals.{InInterval, IsIntervalWithin, interval_if, interval_meet}
-use Rattle.pair_domain.specs.Tags.{pair_number, LiesUp, LiesDown, SumHolds, CompareHolds, ZeroHolds, AreEndsWithin, IsSumWithin, IsCompareWithin, IsZeroWithin, IsNear, up_if, up_from, down_if, down_from, sum_join}
+use Rattle.pair_domain.specs.Tags.{pair_number, LiesUp, LiesDown, AreNear, SumHolds, CompareHolds, ZeroHolds, AreEndsWithin, IsSumWithin, IsCompareWithin, IsZeroWithin, IsNear, up_if, up_from, down_if, down_from, sum_join}
 use Rattle.pair_domain.specs.Laws.{IntervalsAreOrdered, IntervalsMeet, HullsHold, SumsAreOrdered, ComparesAreOrdered, ZerosAreOrdered}
 
 -- ---- intervals
@@ -112,11 +112,11 @@ hulls_hold = record {
 
 -- a tag that is kept where the test of its ends holds
 up_above : (test : Bool) (r a b c d : ℕ) → c ≤ a → b ≤ d → IsSumWithin (sum.Up r a b) (up_if test r c d)
-up_above true r a b c d low high = record { pair = refl; low = low; high = high }
+up_above true r a b c d low high = λ near. record { pair = refl; low = low; high = high }
 up_above false r a b c d low high = tt
 
 down_above : (test : Bool) (r a b c d : ℕ) → c ≤ a → b ≤ d → IsSumWithin (sum.Down r a b) (down_if test r c d)
-down_above true r a b c d low high = record { pair = refl; low = low; high = high }
+down_above true r a b c d low high = λ near. record { pair = refl; low = low; high = high }
 down_above false r a b c d low high = tt
 
 up_near : (test : Bool) (r a b : ℕ) → (test ≡ true → b < a + 65535) → IsNear (up_if test r a b)
@@ -129,11 +129,11 @@ down_near false r a b near = tt
 
 -- ends that lie within kept ones are kept
 up_below : (test : Bool) (r a b c d : ℕ) → (test ≡ false → a + 65535 ≤ b) → c ≤ a → b ≤ d → d < c + 65535 → IsSumWithin (up_if test r a b) (sum.Up r c d)
-up_below true r a b c d wide low high near = record { pair = refl; low = low; high = high }
+up_below true r a b c d wide low high near = λ again. record { pair = refl; low = low; high = high }
 up_below false r a b c d wide low high near = absurd (omega (arith, wide refl, low, high, near))
 
 down_below : (test : Bool) (r a b c d : ℕ) → (test ≡ false → a + 65535 ≤ b) → c ≤ a → b ≤ d → d < c + 65535 → IsSumWithin (down_if test r a b) (sum.Down r c d)
-down_below true r a b c d wide low high near = record { pair = refl; low = low; high = high }
+down_below true r a b c d wide low high near = λ again. record { pair = refl; low = low; high = high }
 down_below false r a b c d wide low high near = absurd (omega (arith, wide refl, low, high, near))
 
 pub is_near : (a b : ℕ) → nat_lt b (a + 65535) ≡ true → b < a + 65535
@@ -143,13 +143,58 @@ is_wide : (a b : ℕ) → nat_lt b (a + 65535) ≡ false → a + 65535 ≤ b
 is_wide a b e = grind (arith, nat_tests, e)
 
 sum_same : (t : SumTag) → IsSumWithin t t
-sum_same = grind arith
+sum_same sum.None = tt
+sum_same (sum.Up r a b) = λ near. record { pair = refl; low = omega arith; high = omega arith }
+sum_same (sum.Down r a b) = λ near. record { pair = refl; low = omega arith; high = omega arith }
+
+-- ends within kept ones are kept
+still_near : (r a b s c d : ℕ) → AreEndsWithin r a b s c d → AreNear c d → AreNear a b
+still_near r a b s c d le near = omega (arith, le.low, le.high, near)
+
+ends_through : (r a b s c d k l h : ℕ) → AreEndsWithin r a b s c d → AreEndsWithin s c d k l h → AreEndsWithin r a b k l h
+ends_through r a b s c d k l h p q = record { pair = p.pair ∙ q.pair; low = omega (arith, p.low, q.low); high = omega (arith, p.high, q.high) }
 
 sum_through : (t u v : SumTag) → IsSumWithin t u → IsSumWithin u v → IsSumWithin t v
-sum_through = grind arith
+sum_through t u sum.None p q = tt
+sum_through sum.None sum.None (sum.Up k l h) p q = q
+sum_through (sum.Up r a b) sum.None (sum.Up k l h) p q = λ near. absurd (q near)
+sum_through (sum.Down r a b) sum.None (sum.Up k l h) p q = λ near. absurd (q near)
+sum_through sum.None (sum.Down s c d) (sum.Up k l h) p q = q
+sum_through (sum.Up r a b) (sum.Down s c d) (sum.Up k l h) p q = λ near. absurd (q near)
+sum_through (sum.Down r a b) (sum.Down s c d) (sum.Up k l h) p q = q
+sum_through sum.None (sum.Up s c d) (sum.Up k l h) p q = λ near. p (still_near s c d k l h (q near) near)
+sum_through (sum.Down r a b) (sum.Up s c d) (sum.Up k l h) p q = λ near. p (still_near s c d k l h (q near) near)
+sum_through (sum.Up r a b) (sum.Up s c d) (sum.Up k l h) p q = λ near. ends_through r a b s c d k l h (p (still_near s c d k l h (q near) near)) (q near)
+sum_through sum.None sum.None (sum.Down k l h) p q = q
+sum_through (sum.Up r a b) sum.None (sum.Down k l h) p q = λ near. absurd (q near)
+sum_through (sum.Down r a b) sum.None (sum.Down k l h) p q = λ near. absurd (q near)
+sum_through sum.None (sum.Up s c d) (sum.Down k l h) p q = q
+sum_through (sum.Up r a b) (sum.Up s c d) (sum.Down k l h) p q = q
+sum_through (sum.Down r a b) (sum.Up s c d) (sum.Down k l h) p q = λ near. absurd (q near)
+sum_through sum.None (sum.Down s c d) (sum.Down k l h) p q = λ near. p (still_near s c d k l h (q near) near)
+sum_through (sum.Up r a b) (sum.Down s c d) (sum.Down k l h) p q = λ near. p (still_near s c d k l h (q near) near)
+sum_through (sum.Down r a b) (sum.Down s c d) (sum.Down k l h) p q = λ near. ends_through r a b s c d k l h (p (still_near s c d k l h (q near) near)) (q near)
 
-sum_both : (t u : SumTag) → IsSumWithin t u → IsSumWithin u t → t ≡ u
-sum_both = grind arith
+sum_both : (t u : SumTag) → IsNear t → IsNear u → IsSumWithin t u → IsSumWithin u t → t ≡ u
+sum_both sum.None sum.None m n p q = refl
+sum_both sum.None (sum.Up s c d) m n p q = absurd (p n)
+sum_both sum.None (sum.Down s c d) m n p q = absurd (p n)
+sum_both (sum.Up r a b) sum.None m n p q = absurd (q m)
+sum_both (sum.Down r a b) sum.None m n p q = absurd (q m)
+sum_both (sum.Up r a b) (sum.Down s c d) m n p q = absurd (p n)
+sum_both (sum.Down r a b) (sum.Up s c d) m n p q = absurd (p n)
+sum_both (sum.Up r a b) (sum.Up s c d) m n p q =
+    let x = p n in
+    let y = q m in
+    let low : a ≡ c = omega (arith, x.low, y.low) in
+    let high : b ≡ d = omega (arith, x.high, y.high) in
+    λ i. sum.Up (x.pair i) (low i) (high i)
+sum_both (sum.Down r a b) (sum.Down s c d) m n p q =
+    let x = p n in
+    let y = q m in
+    let low : a ≡ c = omega (arith, x.low, y.low) in
+    let high : b ≡ d = omega (arith, x.high, y.high) in
+    λ i. sum.Down (x.pair i) (low i) (high i)
 
 -- tags of one kind, by the test of their pairs
 by_up : (test : Bool) (r a b s c d : ℕ) → (test ≡ true → r ≡ s) → IsSumWithin (sum.Up r a b) (if test then up_from r (min a c) (max b d) else sum.None)
@@ -224,18 +269,36 @@ least_down true r a b s c d k l h same near p q =
     (down_below (nat_lt (max b d) (min a c + 65535)) r (min a c) (max b d) l h (is_wide (min a c) (max b d)) (omega (arith, p.low, q.low)) (omega (arith, p.high, q.high)) near)
 least_down false r a b s c d k l h same near p q = absurd (false≢true (same (p.pair ∙ sym q.pair)))
 
-sum_least : (t u v : SumTag) → IsNear v → IsSumWithin t v → IsSumWithin u v → IsSumWithin (sum_join t u) v
-sum_least t u sum.None near a b = tt
-sum_least (sum.Up r a b) (sum.Up s c d) (sum.Up k l h) near p q = least_up (r == s) r a b s c d k l h (eq-eqb r s) near p q
-sum_least (sum.Down r a b) (sum.Down s c d) (sum.Down k l h) near p q = least_down (r == s) r a b s c d k l h (eq-eqb r s) near p q
-sum_least sum.None u (sum.Up k l h) near p q = absurd p
-sum_least sum.None u (sum.Down k l h) near p q = absurd p
-sum_least (sum.Up r a b) u (sum.Down k l h) near p q = absurd p
-sum_least (sum.Down r a b) u (sum.Up k l h) near p q = absurd p
-sum_least (sum.Up r a b) sum.None (sum.Up k l h) near p q = absurd q
-sum_least (sum.Up r a b) (sum.Down s c d) (sum.Up k l h) near p q = absurd q
-sum_least (sum.Down r a b) sum.None (sum.Down k l h) near p q = absurd q
-sum_least (sum.Down r a b) (sum.Up s c d) (sum.Down k l h) near p q = absurd q
+least_near : (t u v : SumTag) → IsNear v → IsSumWithin t v → IsSumWithin u v → IsSumWithin (sum_join t u) v
+least_near t u sum.None near a b = tt
+least_near (sum.Up r a b) (sum.Up s c d) (sum.Up k l h) near p q = least_up (r == s) r a b s c d k l h (eq-eqb r s) near (p near) (q near)
+least_near (sum.Down r a b) (sum.Down s c d) (sum.Down k l h) near p q = least_down (r == s) r a b s c d k l h (eq-eqb r s) near (p near) (q near)
+least_near sum.None u (sum.Up k l h) near p q = absurd (p near)
+least_near sum.None u (sum.Down k l h) near p q = absurd (p near)
+least_near (sum.Up r a b) u (sum.Down k l h) near p q = absurd (p near)
+least_near (sum.Down r a b) u (sum.Up k l h) near p q = absurd (p near)
+least_near (sum.Up r a b) sum.None (sum.Up k l h) near p q = absurd (q near)
+least_near (sum.Up r a b) (sum.Down s c d) (sum.Up k l h) near p q = absurd (q near)
+least_near (sum.Down r a b) sum.None (sum.Down k l h) near p q = absurd (q near)
+least_near (sum.Down r a b) (sum.Up s c d) (sum.Down k l h) near p q = absurd (q near)
+
+-- each tag is below one that says nothing
+wide_above : (t v : SumTag) → (IsNear v → ⊥) → IsSumWithin t v
+wide_above t sum.None wide = tt
+wide_above sum.None (sum.Up k l h) wide = wide
+wide_above (sum.Up r a b) (sum.Up k l h) wide = λ near. absurd (wide near)
+wide_above (sum.Down r a b) (sum.Up k l h) wide = wide
+wide_above sum.None (sum.Down k l h) wide = wide
+wide_above (sum.Up r a b) (sum.Down k l h) wide = wide
+wide_above (sum.Down r a b) (sum.Down k l h) wide = λ near. absurd (wide near)
+
+near_or_wide : (v : SumTag) → IsNear v ⊎ (IsNear v → ⊥)
+near_or_wide sum.None = inl tt
+near_or_wide (sum.Up k l h) = ⊎_elim (λ lt. inl lt) (λ over. inr (λ near. omega (arith, over, near))) (cases_lt h (l + 65535))
+near_or_wide (sum.Down k l h) = ⊎_elim (λ lt. inl lt) (λ over. inr (λ near. omega (arith, over, near))) (cases_lt h (l + 65535))
+
+sum_least : (t u v : SumTag) → IsSumWithin t v → IsSumWithin u v → IsSumWithin (sum_join t u) v
+sum_least t u v p q = ⊎_elim (λ near. least_near t u v near p q) (λ wide. wide_above (sum_join t u) v wide) (near_or_wide v)
 
 pub sums_are_ordered : SumsAreOrdered
 sums_are_ordered = record {
@@ -246,6 +309,7 @@ sums_are_ordered = record {
   second = sum_second;
   near = sum_near;
   least = sum_least;
+  wide = wide_above;
 }
 
 pub compares_are_ordered : ComparesAreOrdered
@@ -256,14 +320,18 @@ zeros_are_ordered = grind arith
 
 pub sum_less : (registers : List ℕ) (t u : SumTag) (c : Bool) → IsSumWithin t u → SumHolds registers t c → SumHolds registers u c
 sum_less registers t sum.None c le h = tt
-sum_less registers (sum.Up r a b) (sum.Up s d e) c le h =
-    subst (λ (k : ℕ). LiesUp d e (pair_number registers k) (from_bool c)) le.pair (record { low = omega (arith, le.low, h.low); high = omega (arith, le.high, h.high) })
-sum_less registers (sum.Down r a b) (sum.Down s d e) c le h =
-    subst (λ (k : ℕ). LiesDown d e (pair_number registers k) (from_bool c)) le.pair (record { low = omega (arith, le.low, h.low); high = omega (arith, le.high, h.high) })
-sum_less registers sum.None (sum.Up s d e) c le h = absurd le
-sum_less registers sum.None (sum.Down s d e) c le h = absurd le
-sum_less registers (sum.Up r a b) (sum.Down s d e) c le h = absurd le
-sum_less registers (sum.Down r a b) (sum.Up s d e) c le h = absurd le
+sum_less registers (sum.Up r a b) (sum.Up s d e) c le h = λ near.
+    let w = le near in
+    let held = h (still_near r a b s d e w near) in
+    subst (λ (k : ℕ). LiesUp d e (pair_number registers k) (from_bool c)) w.pair (record { low = omega (arith, w.low, held.low); high = omega (arith, w.high, held.high) })
+sum_less registers (sum.Down r a b) (sum.Down s d e) c le h = λ near.
+    let w = le near in
+    let held = h (still_near r a b s d e w near) in
+    subst (λ (k : ℕ). LiesDown d e (pair_number registers k) (from_bool c)) w.pair (record { low = omega (arith, w.low, held.low); high = omega (arith, w.high, held.high) })
+sum_less registers sum.None (sum.Up s d e) c le h = λ near. absurd (le near)
+sum_less registers sum.None (sum.Down s d e) c le h = λ near. absurd (le near)
+sum_less registers (sum.Up r a b) (sum.Down s d e) c le h = λ near. absurd (le near)
+sum_less registers (sum.Down r a b) (sum.Up s d e) c le h = λ near. absurd (le near)
 
 pub compare_less : (registers : List ℕ) (t u : CompareTag) (c z s : Bool) → IsCompareWithin t u → CompareHolds registers t c z s → CompareHolds registers u c z s
 compare_less registers t compare.None c z s le h = tt

@@ -56,18 +56,20 @@ interval_step i j fits le =
 up_of : ℕ → ℕ × ℕ → SumTag
 up_of r p = sum.Up r p.0 p.1
 
-sum_step : (t u : SumTag) → SumFits t → IsSumWithin t u → Step sum_rank t u
-sum_step sum.None sum.None fits le = inl refl
-sum_step (sum.Up r a b) sum.None fits le = inr (omega (arith, fits.near))
-sum_step (sum.Down r a b) sum.None fits le = inr (omega (arith, fits.near))
-sum_step (sum.Up r a b) (sum.Up s c d) fits le =
-    ⊎_elim (λ e. inl (λ i. sum.Up (le.pair i) (e i).0 (e i).1)) (λ lt. inr lt) (ends_step a b c d fits.ordered le.low le.high)
-sum_step (sum.Down r a b) (sum.Down s c d) fits le =
-    ⊎_elim (λ e. inl (λ i. sum.Down (le.pair i) (e i).0 (e i).1)) (λ lt. inr lt) (ends_step a b c d fits.ordered le.low le.high)
-sum_step sum.None (sum.Up s c d) fits le = absurd le
-sum_step sum.None (sum.Down s c d) fits le = absurd le
-sum_step (sum.Up r a b) (sum.Down s c d) fits le = absurd le
-sum_step (sum.Down r a b) (sum.Up s c d) fits le = absurd le
+sum_step : (t u : SumTag) → SumFits t → SumFits u → IsSumWithin t u → Step sum_rank t u
+sum_step sum.None sum.None fits more le = inl refl
+sum_step (sum.Up r a b) sum.None fits more le = inr (omega (arith, fits.near))
+sum_step (sum.Down r a b) sum.None fits more le = inr (omega (arith, fits.near))
+sum_step (sum.Up r a b) (sum.Up s c d) fits more le =
+    let w = le more.near in
+    ⊎_elim (λ e. inl (λ i. sum.Up (w.pair i) (e i).0 (e i).1)) (λ lt. inr lt) (ends_step a b c d fits.ordered w.low w.high)
+sum_step (sum.Down r a b) (sum.Down s c d) fits more le =
+    let w = le more.near in
+    ⊎_elim (λ e. inl (λ i. sum.Down (w.pair i) (e i).0 (e i).1)) (λ lt. inr lt) (ends_step a b c d fits.ordered w.low w.high)
+sum_step sum.None (sum.Up s c d) fits more le = absurd (le more.near)
+sum_step sum.None (sum.Down s c d) fits more le = absurd (le more.near)
+sum_step (sum.Up r a b) (sum.Down s c d) fits more le = absurd (le more.near)
+sum_step (sum.Down r a b) (sum.Up s c d) fits more le = absurd (le more.near)
 
 compare_step : (t u : CompareTag) → IsCompareWithin t u → Step compare_rank t u
 compare_step compare.None compare.None le = inl refl
@@ -111,7 +113,7 @@ facts_step f g a b le =
     f.intervals g.intervals f.sum g.sum
     (list_step f.intervals g.intervals (omega (arith, a.count, b.count)) (λ k lt.
     interval_step _ _ (a.intervals k (omega (arith, a.count))) (le.intervals k (omega (arith, a.count)))))
-    (sum_step f.sum g.sum a.sum le.sum))
+    (sum_step f.sum g.sum a.sum b.sum le.sum))
     (compare_step f.compare g.compare le.compare))
     (zero_step f.zero g.zero le.zero)
 

@@ -89,13 +89,13 @@ rows_are_true = record {
 up_less : (test test' : Bool) (r a b c d : ℕ) → nat_lt b (a + 65535) ≡ test → nat_lt d (c + 65535) ≡ test' → c ≤ a → b ≤ d
     → IsSumWithin (up_if test r a b) (up_if test' r c d)
 up_less test false r a b c d e e' low high = tt
-up_less true true r a b c d e e' low high = record { pair = refl; low = low; high = high }
+up_less true true r a b c d e e' low high = λ near. record { pair = refl; low = low; high = high }
 up_less false true r a b c d e e' low high = absurd (grind (arith, nat_tests, e, e', low, high))
 
 down_less : (test test' : Bool) (r a b c d : ℕ) → nat_lt b (a + 65535) ≡ test → nat_lt d (c + 65535) ≡ test' → c ≤ a → b ≤ d
     → IsSumWithin (down_if test r a b) (down_if test' r c d)
 down_less test false r a b c d e e' low high = tt
-down_less true true r a b c d e e' low high = record { pair = refl; low = low; high = high }
+down_less true true r a b c d e e' low high = λ near. record { pair = refl; low = low; high = high }
 down_less false true r a b c d e e' low high = absurd (grind (arith, nat_tests, e, e', low, high))
 
 pub rows_are_monotone : RowsAreMonotone

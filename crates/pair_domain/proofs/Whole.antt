@@ -28,11 +28,11 @@ facts_through f g h a b = record {
   zero = zeros_are_ordered.through f.zero g.zero h.zero a.zero b.zero;
 }
 
-pub facts_both : (f g : PairFacts) → length f.intervals ≡ 16 → length g.intervals ≡ 16 → AreFactsWithin f g → AreFactsWithin g f → f ≡ g
-facts_both f g m n a b =
+pub facts_both : (f g : PairFacts) → length f.intervals ≡ 16 → length g.intervals ≡ 16 → IsNear f.sum → IsNear g.sum → AreFactsWithin f g → AreFactsWithin g f → f ≡ g
+facts_both f g m n near near' a b =
     let p : f.intervals ≡ g.intervals = same_items whole f.intervals g.intervals (m ∙ sym n) (λ k h.
     intervals_are_ordered.both (interval_at f.intervals k) (interval_at g.intervals k) (a.intervals k (omega arith)) (b.intervals k (omega arith))) in
-    let q = sums_are_ordered.both f.sum g.sum a.sum b.sum in
+    let q = sums_are_ordered.both f.sum g.sum near near' a.sum b.sum in
     let r = compares_are_ordered.both f.compare g.compare a.compare b.compare in
     let s = zeros_are_ordered.both f.zero g.zero a.zero b.zero in
     λ i. record { intervals = p i; sum = q i; compare = r i; zero = s i }
@@ -54,11 +54,11 @@ facts_least f g m n =
         compare = compares_are_ordered.second f.compare g.compare;
         zero = zeros_are_ordered.second f.zero g.zero;
       };
-      least = λ v near a b. record {
+      least = λ v a b. record {
         intervals = λ k h.
             subst (λ (i : Interval). IsIntervalWithin i (interval_at v.intervals k)) (sym (is k h))
             (intervals_are_ordered.least (interval_at f.intervals k) (interval_at g.intervals k) (interval_at v.intervals k) (a.intervals k h) (b.intervals k h));
-        sum = sums_are_ordered.least f.sum g.sum v.sum near a.sum b.sum;
+        sum = sums_are_ordered.least f.sum g.sum v.sum a.sum b.sum;
         compare = compares_are_ordered.least f.compare g.compare v.compare a.compare b.compare;
         zero = zeros_are_ordered.least f.zero g.zero v.zero a.zero b.zero;
       };
@@ -70,7 +70,7 @@ count_joined f g m n = length-intervals_join f.intervals g.intervals (m ∙ sym 
 pub facts_within : (f g : PairFacts) → length f.intervals ≡ 16 → length g.intervals ≡ 16 → IsNear f.sum → AreFactsWithin g f → facts_join f g ≡ f
 facts_within f g m n near le =
     let join = facts_least f g m n in
-    facts_both (facts_join f g) f (count_joined f g m n) m (join.least f near (facts_same f) le) join.first
+    facts_both (facts_join f g) f (count_joined f g m n) m (sums_are_ordered.near f.sum g.sum) near (join.least f (facts_same f) le) join.first
 
 -- facts that are joined with some that aren't within them grow
 pub facts_grow : (f g : PairFacts) → length f.intervals ≡ 16 → length g.intervals ≡ 16 → (AreFactsWithin g f → ⊥) → facts_join f g ≡ f → ⊥
@@ -98,7 +98,7 @@ facts_are_ordered = record {
   within = facts_within;
   joins = λ f g f' g' m n m' n' a b.
       let above = facts_least f' g' m' n' in
-      (facts_least f g m n).least (facts_join f' g') (sums_are_ordered.near f'.sum g'.sum)
+      (facts_least f g m n).least (facts_join f' g')
       (facts_through f f' (facts_join f' g') a above.first)
       (facts_through g g' (facts_join f' g') b above.second);
   top = facts_top;

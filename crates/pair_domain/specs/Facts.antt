@@ -1,5 +1,5 @@
 -- What is known of all pairs and of the flags that speak of them. Source: own.
-use Rattle.std.specs.Prelude.{ℕ, ◌*◌, ◌≡◌, ◌<◌, ⊤, Bool, List, [], ◌∷◌, length, replicate, slice_index_or, Box, Option, Some, None}
+use Rattle.std.specs.Prelude.{ℕ, ◌*◌, ◌≡◌, ◌<◌, ⊤, Bool, true, false, List, [], ◌∷◌, length, replicate, slice_index_or, Box, Option, Some, None}
 use Rattle.std.specs.Global.{Global}
 use Rattle.pair_domain.specs.declared.intervals.Interval.{Interval}
 use Rattle.pair_domain.specs.declared.tags.SumTag.TheVariants as sum
@@ -58,11 +58,11 @@ facts_join f g =
       zero = zero_join f.zero g.zero;
     }
 
--- u is the least above f and g, of those whose sum tags are kept
+-- u is the least above f and g
 pub record IsLeastAbove (f g u : PairFacts) : Type 0 where
   pub first : AreFactsWithin f u
   pub second : AreFactsWithin g u
-  pub least : (v : PairFacts) → IsNear v.sum → AreFactsWithin f v → AreFactsWithin g v → AreFactsWithin u v
+  pub least : (v : PairFacts) → AreFactsWithin f v → AreFactsWithin g v → AreFactsWithin u v
 
 -- ---- where pairs are followed, and where they aren't
 
@@ -78,6 +78,20 @@ HasSixteen (Some f) = length f.intervals ≡ 16
 abbrev pub IsKnownNear : Option PairFacts → Type 0
 IsKnownNear None = ⊤
 IsKnownNear (Some f) = IsNear f.sum
+
+-- sixteen intervals, and a sum tag that is kept
+pub record IsKept (x : Option PairFacts) : Type 0 where
+  pub sixteen : HasSixteen x
+  pub near : IsKnownNear x
+
+abbrev pub is_followed : Option PairFacts → Bool
+is_followed None = false
+is_followed (Some f) = true
+
+-- these facts, where pairs are followed
+abbrev pub known_set : Option PairFacts → PairFacts → Option PairFacts
+known_set None g = None
+known_set (Some f) g = Some g
 
 -- none is above all
 abbrev pub IsKnownWithin : Option PairFacts → Option PairFacts → Type 0

@@ -1,6 +1,6 @@
 -- Laws of intervals, of the tags of flags and of facts: they are ordered, a join is the least above both, what says less holds where more
 -- holds, and none is above a height.
-use Rattle.std.specs.Prelude.{ℕ, ◌+◌, ◌*◌, ◌≡◌, ◌<◌, ◌≤◌, ◌↔◌, ◌⊎◌, Bool, List, length, Option, Some, None}
+use Rattle.std.specs.Prelude.{ℕ, ◌+◌, ◌*◌, ◌≡◌, ◌<◌, ◌≤◌, ◌↔◌, ◌⊎◌, ◌&&◌, Bool, List, length, Option, Some, None}
 use Rattle.bit_domain.specs.Ranges.{ByteSet, Holds, IsSetWithin}
 use Rattle.pair_domain.specs.declared.intervals.Interval.{Interval}
 use Rattle.pair_domain.specs.declared.tags.SumTag.{SumTag}
@@ -9,7 +9,7 @@ use Rattle.pair_domain.specs.declared.tags.ZeroTag.{ZeroTag}
 use Rattle.pair_domain.specs.declared.facts.PairFacts.{PairFacts}
 use Rattle.pair_domain.specs.Intervals.{InInterval, IsIntervalWithin, whole, interval_join, interval_meet, hull}
 use Rattle.pair_domain.specs.Tags.{SumHolds, CompareHolds, ZeroHolds, IsSumWithin, IsCompareWithin, IsZeroWithin, IsNear, sum_join, compare_join, zero_join}
-use Rattle.pair_domain.specs.Facts.{nothing, FactsHold, AreFactsWithin, facts_join, IsLeastAbove, HasSixteen, IsKnownNear, KnownHolds, IsKnownWithin, known_join}
+use Rattle.pair_domain.specs.Facts.{is_followed, nothing, FactsHold, AreFactsWithin, facts_join, IsLeastAbove, HasSixteen, IsKnownNear, KnownHolds, IsKnownWithin, known_join}
 use Rattle.pair_domain.specs.Rank.{FactsFit, KnownFits, facts_rank, facts_height, known_rank}
 
 -- `within` is a partial order on intervals, and a join is the least above both; a meet holds just what both hold, lies below both and says
@@ -37,15 +37,16 @@ pub record HullsHold : Type 0 where
   pub holds : (lo hi : ByteSet) (x y : ℕ) → Holds lo x → Holds hi y → InInterval (hull lo hi) (x + 256 * y)
   pub more : (lo hi lo' hi' : ByteSet) → IsSetWithin lo lo' → IsSetWithin hi hi' → IsIntervalWithin (hull lo hi) (hull lo' hi')
 
--- `within` is a partial order on tags of flags, and a join is the least above both
+-- `within` is a partial order on tags of flags, of sums on those that are kept, and a join is the least above both; what isn't kept is above all
 pub record SumsAreOrdered : Type 0 where
   pub same : (t : SumTag) → IsSumWithin t t
   pub through : (t u v : SumTag) → IsSumWithin t u → IsSumWithin u v → IsSumWithin t v
-  pub both : (t u : SumTag) → IsSumWithin t u → IsSumWithin u t → t ≡ u
+  pub both : (t u : SumTag) → IsNear t → IsNear u → IsSumWithin t u → IsSumWithin u t → t ≡ u
   pub first : (t u : SumTag) → IsSumWithin t (sum_join t u)
   pub second : (t u : SumTag) → IsSumWithin u (sum_join t u)
   pub near : (t u : SumTag) → IsNear (sum_join t u)
-  pub least : (t u v : SumTag) → IsNear v → IsSumWithin t v → IsSumWithin u v → IsSumWithin (sum_join t u) v
+  pub least : (t u v : SumTag) → IsSumWithin t v → IsSumWithin u v → IsSumWithin (sum_join t u) v
+  pub wide : (t v : SumTag) → (IsNear v → ⊥) → IsSumWithin t v
 
 pub record ComparesAreOrdered : Type 0 where
   pub same : (t : CompareTag) → IsCompareWithin t t
@@ -67,7 +68,7 @@ pub record ZerosAreOrdered : Type 0 where
 pub record FactsAreOrdered : Type 0 where
   pub same : (f : PairFacts) → AreFactsWithin f f
   pub through : (f g h : PairFacts) → AreFactsWithin f g → AreFactsWithin g h → AreFactsWithin f h
-  pub both : (f g : PairFacts) → length f.intervals ≡ 16 → length g.intervals ≡ 16 → AreFactsWithin f g → AreFactsWithin g f → f ≡ g
+  pub both : (f g : PairFacts) → length f.intervals ≡ 16 → length g.intervals ≡ 16 → IsNear f.sum → IsNear g.sum → AreFactsWithin f g → AreFactsWithin g f → f ≡ g
   pub join : (f g : PairFacts) → length f.intervals ≡ 16 → length g.intervals ≡ 16 → IsLeastAbove f g (facts_join f g)
   pub within : (f g : PairFacts) → length f.intervals ≡ 16 → length g.intervals ≡ 16 → IsNear f.sum → AreFactsWithin g f → facts_join f g ≡ f
   pub joins : (f g f' g' : PairFacts) → length f.intervals ≡ 16 → length g.intervals ≡ 16 → length f'.intervals ≡ 16 → length g'.intervals ≡ 16
@@ -93,10 +94,10 @@ pub record FactsRise : Type 0 where
 pub record KnownIsOrdered : Type 0 where
   pub same : (x : Option PairFacts) → IsKnownWithin x x
   pub through : (x y w : Option PairFacts) → IsKnownWithin x y → IsKnownWithin y w → IsKnownWithin x w
-  pub both : (x y : Option PairFacts) → HasSixteen x → HasSixteen y → IsKnownWithin x y → IsKnownWithin y x → x ≡ y
+  pub both : (x y : Option PairFacts) → HasSixteen x → HasSixteen y → IsKnownNear x → IsKnownNear y → IsKnownWithin x y → IsKnownWithin y x → x ≡ y
   pub first : (x y : Option PairFacts) → HasSixteen x → HasSixteen y → IsKnownWithin x (known_join x y)
   pub second : (x y : Option PairFacts) → HasSixteen x → HasSixteen y → IsKnownWithin y (known_join x y)
-  pub least : (x y w : Option PairFacts) → HasSixteen x → HasSixteen y → IsKnownNear w → IsKnownWithin x w → IsKnownWithin y w → IsKnownWithin (known_join x y) w
+  pub least : (x y w : Option PairFacts) → HasSixteen x → HasSixteen y → IsKnownWithin x w → IsKnownWithin y w → IsKnownWithin (known_join x y) w
   pub within : (x y : Option PairFacts) → HasSixteen x → HasSixteen y → IsKnownNear x → IsKnownWithin y x → known_join x y ≡ x
   pub near : (x y : Option PairFacts) → IsKnownNear (known_join x y)
   pub sixteen : (x y : Option PairFacts) → HasSixteen x → HasSixteen y → HasSixteen (known_join x y)
@@ -106,3 +107,4 @@ pub record KnownIsOrdered : Type 0 where
   pub joins_fit : (x y : Option PairFacts) → KnownFits x → KnownFits y → KnownFits (known_join x y)
   pub count : (x : Option PairFacts) → KnownFits x → HasSixteen x
   pub kept : (x : Option PairFacts) → KnownFits x → IsKnownNear x
+  pub followed : (x y : Option PairFacts) → is_followed (known_join x y) ≡ (is_followed x && is_followed y)

@@ -38,10 +38,15 @@ pub record LiesDown (a b w c : ℕ) : Type 0 where
   pub low : a + 256 * c ≤ w + 256
   pub high : w + 256 ≤ b + 256 * c
 
+-- only ends that are less than 65,535 apart are kept
+abbrev pub AreNear : ℕ → ℕ → Type 0
+AreNear a b = b < a + 65535
+
+-- a tag with other ends says nothing
 abbrev pub SumHolds : List ℕ → SumTag → Bool → Type 0
 SumHolds registers sum.None c = ⊤
-SumHolds registers (sum.Up r a b) c = LiesUp a b (pair_number registers r) (from_bool c)
-SumHolds registers (sum.Down r a b) c = LiesDown a b (pair_number registers r) (from_bool c)
+SumHolds registers (sum.Up r a b) c = AreNear a b → LiesUp a b (pair_number registers r) (from_bool c)
+SumHolds registers (sum.Down r a b) c = AreNear a b → LiesDown a b (pair_number registers r) (from_bool c)
 
 -- C, Z and S are those of a comparison of x with y
 pub record IsCompared (half x y : ℕ) (c z s : Bool) : Type 0 where
@@ -71,9 +76,10 @@ pub record AreEndsWithin (r a b s c d : ℕ) : Type 0 where
 -- the second says no more than the first
 abbrev pub IsSumWithin : SumTag → SumTag → Type 0
 IsSumWithin t sum.None = ⊤
-IsSumWithin (sum.Up r a b) (sum.Up s c d) = AreEndsWithin r a b s c d
-IsSumWithin (sum.Down r a b) (sum.Down s c d) = AreEndsWithin r a b s c d
-IsSumWithin t u = ⊥
+IsSumWithin (sum.Up r a b) (sum.Up s c d) = AreNear c d → AreEndsWithin r a b s c d
+IsSumWithin (sum.Down r a b) (sum.Down s c d) = AreNear c d → AreEndsWithin r a b s c d
+IsSumWithin t (sum.Up s c d) = AreNear c d → ⊥
+IsSumWithin t (sum.Down s c d) = AreNear c d → ⊥
 
 abbrev pub IsCompareWithin : CompareTag → CompareTag → Type 0
 IsCompareWithin t compare.None = ⊤
@@ -85,11 +91,11 @@ IsZeroWithin t zero.None = ⊤
 IsZeroWithin t (zero.Byte x) = t ≡ zero.Byte x
 IsZeroWithin t (zero.Pair r) = t ≡ zero.Pair r
 
--- only ends that are less than 65,535 apart are kept
+-- the tag is one that is kept
 abbrev pub IsNear : SumTag → Type 0
 IsNear sum.None = ⊤
-IsNear (sum.Up r a b) = b < a + 65535
-IsNear (sum.Down r a b) = b < a + 65535
+IsNear (sum.Up r a b) = AreNear a b
+IsNear (sum.Down r a b) = AreNear a b
 
 abbrev pub up_if : Bool → ℕ → ℕ → ℕ → SumTag
 up_if true r a b = sum.Up r a b

@@ -1,5 +1,5 @@
 -- States by their parts.
-use Rattle.std.proofs.Common.{◌≡◌, refl, ap, rules, Bool, true, false}
+use Rattle.std.proofs.Common.{◌≡◌, refl, ap, subst, rules, Bool, true, false, Option}
 use Rattle.std.specs.Prelude.{◌==◌}
 use Rattle.std.specs.Bool.{Decides, beq}
 use Rattle.std.proofs.lemmas.Bool.Decides.{Decides-eqb, Decides-and, Decides-like}
@@ -10,6 +10,9 @@ use Rattle.sp_domain.specs.declared.tags.Tag.{Tag}
 use Rattle.sp_domain.specs.declared.tags.CarryTag.{CarryTag}
 use Rattle.sp_domain.specs.contracts.tags.TagPartialEq.TheImpl as tags
 use Rattle.sp_domain.specs.contracts.tags.CarryTagPartialEq.TheImpl as carries
+use Rattle.pair_domain.specs.declared.facts.PairFacts.{PairFacts}
+use Rattle.pair_domain.specs.Facts.{IsKept, IsKnownWithin}
+use Rattle.pair_domain.proofs.AllLaws.{known_is_ordered}
 use Rattle.abs_state.specs.declared.values.AbsByte.{AbsByte}
 use Rattle.abs_state.specs.declared.values.AbsFlags.{AbsFlags}
 use Rattle.abs_state.specs.contracts.values.AbsBytePartialEq.TheImpl as values
@@ -50,5 +53,12 @@ same_flags f g =
     (Decides-and (beq f.entry g.entry) _ (same_bool f.entry g.entry)
     (Decides-and (bits.ghosts.eq f.bits g.bits) _ (same_bits f.bits g.bits) (same_carry f.carry g.carry)))
 
-pub state_is : (s t : AbsState) → s.registers ≡ t.registers → s.flags ≡ t.flags → s.slots ≡ t.slots → s ≡ t
-state_is s t registers flags slots i = record { registers = registers i; flags = flags i; slots = slots i }
+-- facts that say no less than each other are the same
+pub same_facts : (x y : Option PairFacts) → IsKept x → IsKept y → (IsKnownWithin x y × IsKnownWithin y x → x ≡ y) × (x ≡ y → IsKnownWithin x y × IsKnownWithin y x)
+same_facts x y a b = (
+  (λ le. known_is_ordered.both x y a.sixteen b.sixteen a.near b.near le.0 le.1),
+  (λ e. (subst (IsKnownWithin x) e (known_is_ordered.same x), subst (λ (w : Option PairFacts). IsKnownWithin w x) e (known_is_ordered.same x))),
+)
+
+pub state_is : (s t : AbsState) → s.registers ≡ t.registers → s.flags ≡ t.flags → s.slots ≡ t.slots → s.facts ≡ t.facts → s ≡ t
+state_is s t registers flags slots facts i = record { registers = registers i; flags = flags i; slots = slots i; facts = facts i }

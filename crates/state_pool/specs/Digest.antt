@@ -1,5 +1,5 @@
 -- A number that tells most states apart.
-use Rattle.std.specs.Prelude.{ℕ, suc, ◌≡◌, ◌<◌, ◌+◌, ◌*◌, ◌%◌, ◌^◌, cond, List, [], ◌∷◌, length, fold}
+use Rattle.std.specs.Prelude.{ℕ, suc, ◌≡◌, ◌<◌, ◌+◌, ◌*◌, ◌%◌, ◌^◌, cond, List, [], ◌∷◌, length, fold, Option, Some, None}
 use Rattle.std.specs.Hash as fed
 use Rattle.sp_domain.specs.declared.slots.Slot.{Slot}
 use Rattle.sp_domain.specs.declared.slots.Slot.TheVariants.{Free, Guarded}
@@ -8,6 +8,8 @@ use Rattle.sp_domain.specs.declared.tags.Tag.TheVariants as tag
 use Rattle.sp_domain.specs.declared.tags.CarryTag.{CarryTag}
 use Rattle.sp_domain.specs.declared.tags.CarryTag.TheVariants as carry
 use Rattle.sp_domain.specs.Slots.{slot_at}
+use Rattle.pair_domain.specs.declared.intervals.Interval.{Interval}
+use Rattle.pair_domain.specs.declared.facts.PairFacts.{PairFacts}
 use Rattle.abs_state.specs.declared.values.AbsByte.{AbsByte}
 use Rattle.abs_state.specs.declared.values.AbsFlags.{AbsFlags}
 use Rattle.abs_state.specs.declared.state.AbsState.{AbsState}
@@ -56,9 +58,17 @@ mix_slots digest d (s ∷ ss) = mix_slots (mix_slot digest d s) (suc d) ss
 abbrev pub AreFree : List (Slot AbsByte) → ℕ → ℕ → Type 0
 AreFree slots at n = (e : ℕ) → e < n → slot_at slots (at + e) ≡ Free
 
--- the flags, the registers, how many slots there are, and the slots
+-- the intervals of pairs, where these are followed
+abbrev pub mix_interval : ℕ → Interval → ℕ
+mix_interval digest i = mix digest (i.low + 2 ^ 16 * i.high)
+
+abbrev pub mix_facts : ℕ → Option PairFacts → ℕ
+mix_facts digest None = digest
+mix_facts digest (Some f) = fold mix_interval digest f.intervals
+
+-- the flags, the intervals, the registers, how many slots there are, and the slots
 abbrev pub digest_of : AbsState → ℕ
-digest_of s = mix_slots (mix (fold mix_value (flags_number s.flags) s.registers) (length s.slots)) 0 s.slots
+digest_of s = mix_slots (mix (fold mix_value (mix_facts (flags_number s.flags) s.facts) s.registers) (length s.slots)) 0 s.slots
 
 -- what of a state is fed to a hasher
 abbrev pub state_hash : AbsState → List (List ℕ)

@@ -1,12 +1,13 @@
 //! States as keys of a table.
 
-ghost use Rattle.std.specs.Prelude.{◌≡◌, ◌↔◌, ◌<◌, ◌≤◌, ◌+◌, ◌*◌, IsTrue, length, fold};
+ghost use Rattle.std.specs.Prelude.{◌≡◌, ◌↔◌, ◌<◌, ◌≤◌, ◌+◌, ◌*◌, ◌^◌, IsTrue, length, fold};
 ghost use Rattle.sp_domain.specs.declared.slots.Slot.TheVariants.{Free};
 ghost use Rattle.state_pool.specs.SameState.{same_state};
-ghost use Rattle.state_pool.specs.Digest.{mix, tag_number, carry_number, value_number, flags_number, mix_value, mix_slot, mix_slots, AreFree, digest_of, state_hash};
+ghost use Rattle.state_pool.specs.Digest.{mix, tag_number, carry_number, value_number, flags_number, mix_value, mix_interval, mix_facts, mix_slot, mix_slots, AreFree, digest_of, state_hash};
 ghost use Rattle.state_pool.specs.Equal.{state_equivalence, fed_alike};
 
 use abs_state::{AbsByte, AbsFlags, AbsState};
+use pair_domain::{Facts, Interval};
 use sp_domain::{CarryTag, Slot, Tag};
 use std::hash::{Hash, Hasher};
 use std::marker::Model;
@@ -56,7 +57,17 @@ fn is_same(state: &AbsState, other: &AbsState) -> bool
     ensures { IsTrue result ↔ (state.now ≡ other.now) }
 {
     have_same_registers(state, other)
+        && are_same_facts(&state.facts, &other.facts)
         && are_same_slots(state.slots.as_slice(), other.slots.as_slice())
+}
+
+// What is known of pairs is the same where neither says less.
+fn are_same_facts(facts: &Facts, other: &Facts) -> bool
+    ensures { IsTrue result ↔ (facts.now ≡ other.now) }
+{
+    facts.kept();
+    other.kept();
+    facts.le(other) && other.le(facts)
 }
 
 fn have_same_registers(state: &AbsState, other: &AbsState) -> bool
@@ -104,13 +115,41 @@ fn is_same_slot(slot: &Slot<AbsByte>, other: &Slot<AbsByte>) -> bool
     }
 }
 
-// A number that tells most states apart: from all that is said of the flags, the registers and the slots.
+// A number that tells most states apart: from all that is said of the flags, of intervals, the registers and the slots.
 fn digest(state: &AbsState) -> u64
     ensures { result ≡ digest_of state.now }
 {
     let slots = state.slots.as_slice();
-    let registers = digest_values(flags_number(&state.flags), &state.registers);
+    let facts = digest_facts(flags_number(&state.flags), &state.facts);
+    let registers = digest_values(facts, &state.registers);
     digest_slots(mixed(registers, slots.len() as u64), slots)
+}
+
+fn digest_facts(start: u64, facts: &Facts) -> u64
+    ensures { result ≡ mix_facts start facts.now }
+{
+    match facts.get() {
+        Some(known) => digest_intervals(start, &known.intervals),
+        None => start,
+    }
+}
+
+#[tactic(auto, using(crate::proofs::Lists::fold_take))]
+fn digest_intervals(start: u64, intervals: &[Interval]) -> u64
+    ensures { result ≡ fold mix_interval start intervals.now }
+{
+    let mut digest = start;
+    for interval in intervals {
+        digest = mixed(digest, interval_number(interval));
+    }
+    digest
+}
+
+// Both ends of an interval.
+fn interval_number(interval: &Interval) -> u64
+    ensures { result ≡ interval.now.low + 2 ^ 16 * interval.now.high }
+{
+    u64::from(interval.low) + (u64::from(interval.high) << 16)
 }
 
 #[tactic(auto, using(crate::proofs::Lists::fold_take))]

@@ -1,0 +1,169 @@
+//! Cuts of what is known of one pair of registers.
+
+ghost use Rattle.std.specs.Prelude.{◌≡◌, ◌<◌};
+ghost use Rattle.pair_domain.specs.PairSets.{cut_pair, narrow_low, narrow_high, low_within, narrow_pair};
+
+use crate::pairs::hull_of;
+use crate::state::AbsState;
+use crate::values::AbsByte;
+use pair_domain::{Interval, PairFacts};
+
+/// What is known of one pair of registers: of its low and its high byte, and of its number.
+#[derive(Clone, Copy, PartialEq, Eq)]
+pub struct PairBytes {
+    pub low: AbsByte,
+    pub high: AbsByte,
+    pub interval: Interval,
+}
+
+impl PairBytes {
+    ghost use Rattle.abs_state.specs.PairBytes.{sets, left_by};
+
+    /// The interval cut to the hull of the bytes; none where nothing is left.
+    pub fn cut(self) -> Option<PairBytes>
+        ensures { result ≡ left_by self (cut_pair (sets self)) }
+    {
+        let interval = self.interval.meet(hull_of(self.low, self.high))?;
+        Some(PairBytes { interval, ..self })
+    }
+
+    /// The low byte cut to those from `low` to `high`, and the interval.
+    pub fn narrow_low(self, low: u8, high: u8) -> Option<PairBytes>
+        ensures { result ≡ left_by self (narrow_low (sets self) low high) }
+    {
+        let low = self.low.narrow(low, high)?;
+        PairBytes { low, ..self }.cut()
+    }
+
+    /// The high byte cut to those from `low` to `high`, and the interval.
+    pub fn narrow_high(self, low: u8, high: u8) -> Option<PairBytes>
+        ensures { result ≡ left_by self (narrow_high (sets self) low high) }
+    {
+        let high = self.high.narrow(low, high)?;
+        PairBytes { high, ..self }.cut()
+    }
+
+    /// The pair cut to an interval, and its bytes to what this tells of them.
+    pub fn narrow(self, interval: Interval) -> Option<PairBytes>
+        ensures { result ≡ left_by self (narrow_pair (sets self) interval) }
+    {
+        let interval = self.interval.meet(interval)?;
+        let low = self.low.narrow_to(interval)?;
+        let high = self
+            .high
+            .narrow((interval.low / 256) as u8, (interval.high / 256) as u8)?;
+        PairBytes {
+            low,
+            high,
+            interval,
+        }
+        .cut()
+    }
+}
+
+impl AbsByte {
+    ghost use Rattle.abs_state.specs.Frames.{with_tag};
+    ghost use Rattle.abs_state.specs.Values.{set_of};
+
+    /// A low byte cut to those of an interval whose numbers have one high byte.
+    fn narrow_to(self, interval: Interval) -> Option<AbsByte>
+        ensures { result ≡ with_tag self.tag (low_within (set_of self) interval) }
+    {
+        if interval.low / 256 == interval.high / 256 {
+            self.narrow((interval.low % 256) as u8, (interval.high % 256) as u8)
+        } else {
+            Some(self)
+        }
+    }
+}
+
+impl AbsState {
+    ghost use Rattle.abs_state.specs.Cuts.{cut_state};
+    ghost use Rattle.abs_state.specs.PairBytes.{pair_at, with_bytes, put, left_in};
+
+    /// What is known of pair `2 * n`, where pairs are followed.
+    pub fn pair(&self, n: usize) -> Option<PairBytes>
+        requires { n < 16 }
+        ensures { result ≡ pair_at self.now n }
+    {
+        let facts = self.facts.get()?;
+        Some(PairBytes {
+            low: self.registers[2 * n],
+            high: self.registers[2 * n + 1],
+            interval: facts.intervals[n],
+        })
+    }
+
+    // Puts this in the place of pair `2 * n`.
+    fn set_pair(&mut self, n: usize, pair: PairBytes)
+        requires { n < 16 }
+        ensures { self.new ≡ with_bytes self.old n pair }
+    {
+        self.registers[2 * n] = pair.low;
+        self.registers[2 * n + 1] = pair.high;
+        self.facts.kept();
+        if let Some(facts) = self.facts.get() {
+            let mut intervals = facts.intervals;
+            intervals[n] = pair.interval;
+            self.facts.set(PairFacts { intervals, ..facts });
+        }
+    }
+
+    // Puts what is left in the place of pair `2 * n`. Gives whether something is.
+    fn put(&mut self, n: usize, left: Option<PairBytes>) -> bool
+        requires { n < 16 }
+        ensures { left_in result self.new ≡ put self.old n left }
+    {
+        match left {
+            Some(pair) => {
+                self.set_pair(n, pair);
+                true
+            }
+            None => false,
+        }
+    }
+
+    /// Cuts the interval of pair `2 * n` to the hull of its bytes. Gives whether something is left.
+    pub fn cut_pair(&mut self, n: usize) -> bool
+        requires { n < 16 }
+        ensures { left_in result self.new ≡ cut_state cut_pair self.old n }
+    {
+        match self.pair(n) {
+            Some(pair) => self.put(n, pair.cut()),
+            None => true,
+        }
+    }
+
+    /// Cuts register `2 * n` to the bytes from `low` to `high`. Gives whether something is left.
+    pub fn narrow_low(&mut self, n: usize, low: u8, high: u8) -> bool
+        requires { n < 16 }
+        ensures { left_in result self.new ≡ cut_state (λ p. narrow_low p low high) self.old n }
+    {
+        match self.pair(n) {
+            Some(pair) => self.put(n, pair.narrow_low(low, high)),
+            None => true,
+        }
+    }
+
+    /// Cuts register `2 * n + 1` to the bytes from `low` to `high`. Gives whether something is left.
+    pub fn narrow_high(&mut self, n: usize, low: u8, high: u8) -> bool
+        requires { n < 16 }
+        ensures { left_in result self.new ≡ cut_state (λ p. narrow_high p low high) self.old n }
+    {
+        match self.pair(n) {
+            Some(pair) => self.put(n, pair.narrow_high(low, high)),
+            None => true,
+        }
+    }
+
+    /// Cuts pair `2 * n` to an interval. Gives whether something is left.
+    pub fn narrow_pair(&mut self, n: usize, interval: Interval) -> bool
+        requires { n < 16 }
+        ensures { left_in result self.new ≡ cut_state (λ p. narrow_pair p interval) self.old n }
+    {
+        match self.pair(n) {
+            Some(pair) => self.put(n, pair.narrow(interval)),
+            None => true,
+        }
+    }
+}

@@ -1,0 +1,247 @@
+//! What is known of pairs at an entry and after a return.
+
+ghost use Rattle.std.specs.Prelude.{ℕ, ◌≡◌, ◌+◌, ◌%◌, ◌<◌, ◌==◌, ◌&&◌, IfOk, IfSome};
+ghost use Rattle.sp_domain.specs.declared.tags.Tag.TheVariants as tag;
+ghost use Rattle.sp_domain.specs.Tags.{is_same_tag};
+ghost use Rattle.pair_domain.specs.Intervals.{hull};
+ghost use Rattle.abs_state.specs.Values.{value_at, set_of};
+ghost use Rattle.abs_state.specs.Formed.{NamesRegister};
+ghost use Rattle.abs_state.specs.Frames.{known_entered};
+ghost use Rattle.pair_domain.specs.Facts.{interval_at};
+ghost use Rattle.pair_domain.specs.Tags.{IsNear};
+ghost use Rattle.abs_state.specs.PairsBack.{kept_pair, interval_kept, interval_back, collected, keeps, keeps_side, sum_after, compare_after, zero_after, facts_with, known_back};
+
+use crate::values::AbsByte;
+use pair_domain::{CompareTag, Facts, Interval, PairFacts, Side, SumTag, ZeroTag};
+use sp_domain::Tag;
+use std::alloc::{AllocError, Global};
+
+/// Intervals are kept at an entry, and the tags of flags end.
+pub fn facts_entered(facts: &Facts, alloc: Global) -> Result<Facts, AllocError>
+    ensures { IfOk result (λ f. f ≡ known_entered facts.now) }
+{
+    match facts.get() {
+        Some(known) => {
+            let intervals = known.intervals;
+            Facts::new(
+                alloc,
+                PairFacts {
+                    intervals,
+                    sum: SumTag::None,
+                    compare: CompareTag::None,
+                    zero: ZeroTag::None,
+                },
+            )
+        }
+        None => Ok(Facts::none()),
+    }
+}
+
+/// What is known of pairs after a return to a caller that knew this, from an exit that found that, with the registers after it. There is
+/// none where nothing is left of a pair.
+pub fn facts_returned(
+    alloc: Global,
+    caller: &Facts,
+    exit: &[AbsByte; 32],
+    entry: bool,
+    found: &Facts,
+    registers: &[AbsByte; 32],
+) -> Result<Option<Facts>, AllocError>
+    requires { (r : ℕ) → r < 32 → NamesRegister (value_at exit.now r).tag }
+    ensures { IfOk result (λ o. o ≡ known_back caller.now exit.now entry found.now registers.now) }
+{
+    caller.kept();
+    let (Some(known), Some(found)) = (caller.get(), found.get()) else {
+        return Ok(Some(Facts::none()));
+    };
+    match pairs_returned(&known, exit, entry, &found, registers) {
+        Some(facts) => {
+            let facts = Facts::new(alloc, facts)?;
+            Ok(Some(facts))
+        }
+        None => Ok(None),
+    }
+}
+
+// The same where both follow pairs.
+fn pairs_returned(
+    caller: &PairFacts,
+    exit: &[AbsByte; 32],
+    entry: bool,
+    found: &PairFacts,
+    registers: &[AbsByte; 32],
+) -> Option<PairFacts>
+    requires names { (r : ℕ) → r < 32 → NamesRegister (value_at exit.now r).tag }
+    requires near { IsNear caller.now.sum }
+    ensures facts { result ≡ facts_with caller.now exit.now entry (collected (interval_back caller.now.intervals exit.now found.now.intervals registers.now) 0 16) }
+    ensures near { IfSome result (λ f. IsNear f.sum) }
+{
+    let intervals = intervals_returned(&caller.intervals, exit, &found.intervals, registers)?;
+    if !entry {
+        return Some(PairFacts {
+            intervals,
+            sum: SumTag::None,
+            compare: CompareTag::None,
+            zero: ZeroTag::None,
+        });
+    }
+    Some(PairFacts {
+        intervals,
+        sum: sum_returned(caller.sum, exit),
+        compare: compare_returned(caller.compare, exit),
+        zero: zero_returned(caller.zero, exit),
+    })
+}
+
+// The interval of each pair after a return.
+fn intervals_returned(
+    caller: &[Interval; 16],
+    exit: &[AbsByte; 32],
+    found: &[Interval; 16],
+    registers: &[AbsByte; 32],
+) -> Option<[Interval; 16]>
+    requires { (r : ℕ) → r < 32 → NamesRegister (value_at exit.now r).tag }
+    ensures { result ≡ collected (interval_back caller.now exit.now found.now registers.now) 0 16 }
+{
+    let mut intervals = *found;
+    for n in 0..16 {
+        match interval_returned(caller, exit, found, registers, n) {
+            Some(interval) => intervals[n] = interval,
+            None => return None,
+        }
+    }
+    Some(intervals)
+}
+
+// That of pair `2 * n`: what was found and, of a pair that the callee kept, what the caller knew, cut to the registers after the return.
+fn interval_returned(
+    caller: &[Interval; 16],
+    exit: &[AbsByte; 32],
+    found: &[Interval; 16],
+    registers: &[AbsByte; 32],
+    n: usize,
+) -> Option<Interval>
+    requires names { (r : ℕ) → r < 32 → NamesRegister (value_at exit.now r).tag }
+    requires inside { n < 16 }
+    ensures { result ≡ interval_back caller.now exit.now found.now registers.now n }
+{
+    let kept = kept_pair(exit[2 * n].tag, exit[2 * n + 1].tag);
+    let interval = interval_kept(caller, kept, found[n])?;
+    interval.meet(hull_of(registers[2 * n], registers[2 * n + 1]))
+}
+
+// What was found, and what the caller knew of a pair that was kept.
+fn interval_kept(caller: &[Interval; 16], kept: Option<u8>, found: Interval) -> Option<Interval>
+    ensures { result ≡ interval_kept caller.now kept found }
+{
+    match kept {
+        Some(a) => known_interval(caller, a).meet(found),
+        None => Some(found),
+    }
+}
+
+// The interval of pair `2 * n`, and all numbers where there is no such pair.
+fn known_interval(intervals: &[Interval; 16], n: u8) -> Interval
+    ensures { result ≡ interval_at intervals.now n }
+{
+    let at = usize::from(n);
+    if at < 16 {
+        intervals[at]
+    } else {
+        Interval::whole()
+    }
+}
+
+// The pair of the entry that two registers of a pair hold.
+fn kept_pair(low: Tag, high: Tag) -> Option<u8>
+    ensures { result ≡ kept_pair low high }
+{
+    match (low, high) {
+        (Tag::Entry(a), Tag::Entry(b)) if is_pair(a, b) => Some(a / 2),
+        _ => None,
+    }
+}
+
+fn is_pair(a: u8, b: u8) -> bool
+    ensures { result ≡ ((a % 2 == 0) && (b == a + 1)) }
+{
+    a % 2 == 0 && u16::from(b) == u16::from(a) + 1
+}
+
+/// From the number of the least bytes to that of the greatest.
+pub fn hull_of(low: AbsByte, high: AbsByte) -> Interval
+    ensures { result ≡ hull (set_of low) (set_of high) }
+{
+    Interval {
+        low: 256 * u16::from(high.low) + u16::from(low.low),
+        high: 256 * u16::from(high.high) + u16::from(low.high),
+    }
+}
+
+// The caller's tags, where the callee kept each register that they speak of.
+fn sum_returned(caller: SumTag, exit: &[AbsByte; 32]) -> SumTag
+    requires { IsNear caller }
+    ensures tag { result ≡ sum_after exit.now caller }
+    ensures near { IsNear result }
+{
+    match caller {
+        SumTag::Up(r, a, b) if is_pair_kept(exit, r) => SumTag::Up(r, a, b),
+        SumTag::Down(r, a, b) if is_pair_kept(exit, r) => SumTag::Down(r, a, b),
+        _ => SumTag::None,
+    }
+}
+
+fn compare_returned(caller: CompareTag, exit: &[AbsByte; 32]) -> CompareTag
+    ensures { result ≡ compare_after exit.now caller }
+{
+    match caller {
+        CompareTag::Byte(x, y) if is_compared_kept(exit, x, y) => CompareTag::Byte(x, y),
+        CompareTag::Pair(r, y, p) if are_compared_kept(exit, r, y, p) => CompareTag::Pair(r, y, p),
+        _ => CompareTag::None,
+    }
+}
+
+fn zero_returned(caller: ZeroTag, exit: &[AbsByte; 32]) -> ZeroTag
+    ensures { result ≡ zero_after exit.now caller }
+{
+    match caller {
+        ZeroTag::Byte(x) if is_kept(exit, x) => ZeroTag::Byte(x),
+        ZeroTag::Pair(r) if is_pair_kept(exit, r) => ZeroTag::Pair(r),
+        _ => ZeroTag::None,
+    }
+}
+
+fn is_compared_kept(exit: &[AbsByte; 32], x: u8, y: Side) -> bool
+    ensures { result ≡ (keeps exit.now x && keeps_side exit.now y) }
+{
+    is_kept(exit, x) && is_side_kept(exit, y)
+}
+
+fn are_compared_kept(exit: &[AbsByte; 32], r: u8, y: Side, p: u8) -> bool
+    ensures { result ≡ (keeps exit.now r && keeps exit.now (r + 1) && keeps_side exit.now y && keeps exit.now p) }
+{
+    is_pair_kept(exit, r) && is_side_kept(exit, y) && is_kept(exit, p)
+}
+
+fn is_side_kept(exit: &[AbsByte; 32], y: Side) -> bool
+    ensures { result ≡ keeps_side exit.now y }
+{
+    match y {
+        Side::Byte(_) => true,
+        Side::Register(q) => is_kept(exit, q),
+    }
+}
+
+fn is_pair_kept(exit: &[AbsByte; 32], r: u8) -> bool
+    ensures { result ≡ (keeps exit.now r && keeps exit.now (r + 1)) }
+{
+    is_kept(exit, r) && r < 31 && is_kept(exit, r + 1)
+}
+
+/// Whether this register is one of the 32, and holds its own entry value.
+pub fn is_kept(registers: &[AbsByte; 32], r: u8) -> bool
+    ensures { result ≡ is_same_tag (value_at registers.now r).tag (tag.Entry r) }
+{
+    let at = usize::from(r);
+    at < 32 && registers[at].tag == Tag::Entry(r)
+}

@@ -1,0 +1,10 @@
+pub mod Steps
+pub mod Bytes
+pub mod Places
+pub mod Outcomes
+pub mod Compared
+pub mod Flags
+pub mod Registers
+pub mod Equals
+pub mod Picks
+pub mod AllLaws

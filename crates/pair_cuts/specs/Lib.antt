@@ -1,0 +1,5 @@
+pub mod Places
+pub mod Bytes
+pub mod Outcomes
+pub mod Cuts
+pub mod Examples

@@ -1,0 +1,181 @@
+//! What the outcome of a comparison tells of the intervals of its two sides.
+
+ghost use Rattle.std.specs.Prelude.{◌≡◌, ◌≤◌, ◌<◌};
+ghost use Rattle.pair_domain.specs.Intervals.{interval_from};
+ghost use Rattle.pair_domain.specs.Compare.{off, part_of, either, signed_greatest, signed_least, left_less, left_not_less};
+ghost use Rattle.pair_cuts.specs.Outcomes.{left_part, right_part, outcome_of};
+
+use pair_domain::Interval;
+
+/// The outcome of a comparison of a left side with a right one. Source: own.
+#[derive(Clone, Copy)]
+pub enum Outcome {
+    /// The left number is below the right one.
+    Below,
+    /// It isn't.
+    NotBelow,
+    /// The two are equal.
+    Equal,
+    /// They aren't.
+    NotEqual,
+    /// The left number is below the right one, both read as signed numbers.
+    Less,
+    /// It isn't.
+    NotLess,
+}
+
+// The numbers from `low` to `high`; none where there are none.
+fn interval_from(low: u32, high: u16) -> Option<Interval>
+    ensures { result ≡ interval_from low high }
+{
+    if low <= u32::from(high) {
+        Some(Interval {
+            low: low as u16,
+            high,
+        })
+    } else {
+        None
+    }
+}
+
+/// The numbers of `x` where they aren't those of `y`, which tells something where it has one member alone.
+pub(crate) fn off(x: Interval, y: Interval) -> Option<Interval>
+    ensures { result ≡ off x y }
+{
+    if y.low != y.high {
+        return Some(x);
+    }
+    let low = if x.low == y.low {
+        u32::from(y.low) + 1
+    } else {
+        u32::from(x.low)
+    };
+    let high = if x.high == y.low {
+        y.low.saturating_sub(1)
+    } else {
+        x.high
+    };
+    interval_from(low, high)
+}
+
+// The numbers of `x` from `low` on that are below `end`.
+fn part_of(x: Interval, low: u32, end: u32) -> Option<Interval>
+    ensures { result ≡ part_of x low end }
+{
+    if end == 0 {
+        return None;
+    }
+    let high = u32::from(x.high).min(end - 1);
+    interval_from(u32::from(x.low).max(low), high as u16)
+}
+
+// The least interval that holds both, where they are there.
+fn either(a: Option<Interval>, b: Option<Interval>) -> Option<Interval>
+    ensures { result ≡ either a b }
+{
+    match (a, b) {
+        (None, _) => b,
+        (Some(_), None) => a,
+        (Some(i), Some(j)) => Some(i.join(j)),
+    }
+}
+
+// The signed greatest number of an interval, where there are twice `half`.
+fn signed_greatest(half: u16, y: Interval) -> u16
+    requires { 0 < half }
+    ensures { result ≡ signed_greatest half y }
+{
+    if y.low < half {
+        y.high.min(half - 1)
+    } else {
+        y.high
+    }
+}
+
+// The signed least number.
+fn signed_least(half: u16, y: Interval) -> u16
+    ensures { result ≡ signed_least half y }
+{
+    if y.high < half {
+        y.low
+    } else {
+        y.low.max(half)
+    }
+}
+
+// The numbers of `x` that may be signed below one of `y`.
+fn left_less(half: u16, x: Interval, y: Interval) -> Option<Interval>
+    requires { 0 < half }
+    ensures { result ≡ left_less half x y }
+{
+    let greatest = signed_greatest(half, y);
+    if greatest < half {
+        let negative = part_of(x, u32::from(half), 2 * u32::from(half));
+        either(negative, part_of(x, 0, u32::from(greatest)))
+    } else {
+        part_of(x, u32::from(half), u32::from(greatest))
+    }
+}
+
+// Those that may not be.
+fn left_not_less(half: u16, x: Interval, y: Interval) -> Option<Interval>
+    ensures { result ≡ left_not_less half x y }
+{
+    let least = signed_least(half, y);
+    if least < half {
+        part_of(x, u32::from(least), u32::from(half))
+    } else {
+        let negative = part_of(x, u32::from(least), 2 * u32::from(half));
+        either(negative, part_of(x, 0, u32::from(half)))
+    }
+}
+
+impl Outcome {
+    /// The outcome that flag `n` tells where it is `on`; none of flags but C, Z and S.
+    pub(crate) fn of(n: u8, on: bool) -> Option<Outcome>
+        ensures { result ≡ outcome_of n on }
+    {
+        match (n, on) {
+            (0, true) => Some(Outcome::Below),
+            (0, false) => Some(Outcome::NotBelow),
+            (1, true) => Some(Outcome::Equal),
+            (1, false) => Some(Outcome::NotEqual),
+            (4, true) => Some(Outcome::Less),
+            (4, false) => Some(Outcome::NotLess),
+            _ => None,
+        }
+    }
+
+    /// What is left of the left interval, by both; of the signed numbers there are twice `half`, which isn't 0.
+    pub(crate) fn left(self, half: u16, x: Interval, y: Interval) -> Option<Interval>
+        requires { 0 < half }
+        ensures { result ≡ left_part self half x y }
+    {
+        match self {
+            Outcome::Below => {
+                if y.high == 0 {
+                    return None;
+                }
+                interval_from(u32::from(x.low), x.high.min(y.high - 1))
+            }
+            Outcome::NotBelow => interval_from(u32::from(x.low.max(y.low)), x.high),
+            Outcome::Equal => x.meet(y),
+            Outcome::NotEqual => off(x, y),
+            Outcome::Less => left_less(half, x, y),
+            Outcome::NotLess => left_not_less(half, x, y),
+        }
+    }
+
+    /// What is left of the right interval, by both.
+    pub(crate) fn right(self, x: Interval, y: Interval) -> Option<Interval>
+        ensures { result ≡ right_part self x y }
+    {
+        match self {
+            Outcome::Below => interval_from(u32::from(y.low).max(u32::from(x.low) + 1), y.high),
+            Outcome::NotBelow => interval_from(u32::from(y.low), y.high.min(x.high)),
+            Outcome::Equal => x.meet(y),
+            Outcome::NotEqual => off(y, x),
+            Outcome::Less | Outcome::NotLess => Some(y),
+        }
+    }
+}

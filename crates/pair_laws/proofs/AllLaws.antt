@@ -1,0 +1,17 @@
+-- The laws, each under the name of the public function that carries it. Crates above cite them from here.
+use Rattle.pair_laws.specs.Laws.{OperandsFit, ValuesAreCovered}
+use Rattle.pair_laws.proofs.Operands.{registers_there}
+use Rattle.pair_laws.proofs.Doubled.{doubled_is_covered}
+use Rattle.pair_laws.proofs.FlashJoin.{constant_covers, unknown_covers, pair_permits_it}
+pub use Rattle.pair_laws.proofs.Refined.{refined_holds, refined_is_ordered}
+
+pub operands_fit : OperandsFit
+operands_fit = record { fit = registers_there }
+
+pub values_are_covered : ValuesAreCovered
+values_are_covered = record {
+  doubled = λ bits flags carry. doubled_is_covered bits flags carry;
+  constant = constant_covers;
+  unknown = unknown_covers;
+  permits = pair_permits_it;
+}

@@ -1,0 +1,15 @@
+pub mod Operands
+pub mod Doubled
+pub mod FlashJoin
+pub mod Numbers
+pub mod Tellings
+pub mod ToldTrue
+pub mod ToldLess
+pub mod TagsTrue
+pub mod TagsOrder
+pub mod CutTold
+pub mod Hulls
+pub mod Retold
+pub mod InHulls
+pub mod Refined
+pub mod AllLaws

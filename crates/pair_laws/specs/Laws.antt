@@ -1,0 +1,100 @@
+-- Laws of what instructions do to what is known of pairs.
+use Rattle.std.specs.Prelude.{ℕ, ◌+◌, ◌*◌, ◌≡◌, ◌<◌, true, false, List, length, Some, slice_index}
+use Rattle.std.specs.List.{All}
+use Rattle.avr_model.specs.declared.instruction.Instr.{Instr}
+use Rattle.avr_model.specs.Sites.{instruction_at}
+use Rattle.avr_model.specs.State.{State}
+use Rattle.avr_model.specs.Effects.{effect_of}
+use Rattle.avr_model.specs.Step.{with_registers}
+use Rattle.avr_model.specs.Written.{written}
+use Rattle.bit_domain.specs.declared.bits.Tri.{Tri}
+use Rattle.bit_domain.specs.declared.bytes.TriByte.{TriByte}
+use Rattle.bit_domain.specs.TriByte.{byte_constant}
+use Rattle.sp_domain.specs.Tags.{Origin}
+use Rattle.sp_domain.specs.declared.tags.Tag.TheVariants as tag
+use Rattle.pair_domain.specs.PairSets.{PairSet, PairStands}
+use Rattle.abs_alu.specs.Sums.{abs_add}
+use Rattle.abs_state.specs.declared.state.AbsState.{AbsState}
+use Rattle.abs_state.specs.Values.{value_at, set_of, untagged, unknown, with_bits}
+use Rattle.abs_state.specs.Stands.{FlagsStand, RegistersStand}
+use Rattle.abs_state.specs.Order.{IsByteWithin, IsStateWithin}
+use Rattle.abs_state.specs.Formed.{IsFormed, IsUntagged, TagsFit}
+use Rattle.abs_state.specs.Laws.{HoldsAt}
+use Rattle.abs_state.specs.Ended.{is_one_of}
+use Rattle.abs_state.specs.Hulls.{IsInHulls}
+use Rattle.pair_rules.specs.Hulls.{ended_by}
+use Rattle.pair_rules.specs.Flash.{pair_permits}
+use Rattle.pair_rules.specs.Fits.{HasRegisters, flash_at, CoversFlash, IsPlain}
+use Rattle.pair_rules.specs.Refined.{refined}
+use Rattle.pair_rules.specs.Values.{doubled}
+
+abbrev pub AreBytes : List ℕ → Type 0
+AreBytes registers = (r : ℕ) → slice_index registers r < 256
+
+-- the registers and the status register behind an instruction, before a byte is stored
+abbrev pub registers_set : List ℕ → State → Instr → ℕ → ℕ → List ℕ
+registers_set words m instr b1 b2 = with_registers m.registers (effect_of words m instr b1 b2).registers
+
+abbrev pub sreg_set : List ℕ → State → Instr → ℕ → ℕ → ℕ
+sreg_set words m instr b1 b2 = (effect_of words m instr b1 b2).sreg
+
+-- ---- what laws of the rows ask for
+
+-- the registers of an instruction at a word of flash are there
+pub record OperandsFit : Type 0 where
+  pub fit : (words : List ℕ) (pc : ℕ) (instr : Instr) → instruction_at words pc ≡ Some instr → HasRegisters instr
+
+-- The sum of a byte with itself is above the doubled byte; what is read at a constant address, or isn't known, is above what is read at each
+-- number that the pair permits.
+pub record ValuesAreCovered : Type 0 where
+  pub doubled : (bits flags : TriByte) (carry : Tri) → IsByteWithin (untagged (doubled bits carry)) (with_bits tag.None (abs_add bits bits carry flags).0)
+  pub constant : (words : List ℕ) (p : PairSet) (x y : ℕ) → byte_constant p.low.bits ≡ Some x → byte_constant p.high.bits ≡ Some y
+      → CoversFlash words p (flash_at words (x + 256 * y))
+  pub unknown : (words : List ℕ) (p : PairSet) → CoversFlash words p unknown
+  pub permits : (p : PairSet) (x y : ℕ) → PairStands p x y → pair_permits p (x + 256 * y) ≡ true
+
+-- ---- refined states
+
+-- the state stands for the machine before the instruction
+pub record IsBefore (o : Origin) (s : AbsState) (m : State) : Type 0 where
+  pub count : length m.registers ≡ 32
+  pub bytes : AreBytes m.registers
+  pub registers : RegistersStand o s.registers m.registers
+  pub flags : FlagsStand o s.flags m.sreg
+  pub facts : HoldsAt s.facts m.registers m.sreg
+
+-- the plain state stands for what the instruction leaves, before a byte is stored
+pub record IsBehind (o : Origin) (t : AbsState) (rs : List ℕ) (sreg : ℕ) : Type 0 where
+  pub registers : RegistersStand o t.registers rs
+  pub facts : HoldsAt t.facts rs sreg
+
+-- the flags and the slots stay
+pub record IsLike (t u : AbsState) : Type 0 where
+  pub flags : u.flags ≡ t.flags
+  pub slots : u.slots ≡ t.slots
+
+-- A machine that the state before an instruction and the plain one behind it stand for is one that the refined one, which is there, stands for.
+pub record RefinedHolds : Type 0 where
+  pub holds : (marks words : List ℕ) (o : Origin) (m : State) (instr : Instr) (b1 b2 n k : ℕ) (s t : AbsState) → All (λ w. w < 65536) words
+      → HasRegisters instr → IsFormed s n → IsFormed t k → IsBefore o s m → IsBehind o t (registers_set words m instr b1 b2) (sreg_set words m instr b1 b2)
+      → (u : AbsState) × (refined marks words instr s t ≡ Some u) × IsBehind o u (registers_set words m instr b1 b2) (sreg_set words m instr b1 b2)
+
+-- It says more than the plain one, which it is like; where the two before it say more, so does it; and it is formed where the plain one is.
+pub record RefinedIsOrdered : Type 0 where
+  pub like : (marks words : List ℕ) (instr : Instr) (s t u : AbsState) → refined marks words instr s t ≡ Some u → IsLike t u
+  pub under : (marks words : List ℕ) (instr : Instr) (n k : ℕ) (s t u : AbsState) → HasRegisters instr → IsFormed s n → IsFormed t k
+      → IsPlain words instr s t → refined marks words instr s t ≡ Some u → IsStateWithin u t
+  pub more : (marks words : List ℕ) (instr : Instr) (n k : ℕ) (s s' t t' u : AbsState) → HasRegisters instr → IsFormed s n → IsFormed s' n → IsFormed t k
+      → IsFormed t' k → IsPlain words instr s t → IsPlain words instr s' t' → IsStateWithin s s' → IsStateWithin t t' → refined marks words instr s t ≡ Some u
+      → (u' : AbsState) × (refined marks words instr s' t' ≡ Some u') × IsStateWithin u u'
+  pub formed : (marks words : List ℕ) (instr : Instr) (n k : ℕ) (s t u : AbsState) → HasRegisters instr → IsFormed s n → IsFormed t k
+      → refined marks words instr s t ≡ Some u → IsFormed u k
+  pub tags : (marks words : List ℕ) (instr : Instr) (n k : ℕ) (s t u : AbsState) → HasRegisters instr → IsFormed s n → IsFormed t k → TagsFit t
+      → refined marks words instr s t ≡ Some u → TagsFit u
+  pub untagged : (marks words : List ℕ) (instr : Instr) (n k : ℕ) (s t u : AbsState) → HasRegisters instr → IsFormed s n → IsFormed t k → IsUntagged t
+      → refined marks words instr s t ≡ Some u → IsUntagged u
+  -- where the registers that aren't written have the sets that they had
+  pub hulls : (marks words : List ℕ) (instr : Instr) (n k : ℕ) (s t u : AbsState) → HasRegisters instr → IsFormed s n → IsFormed t k
+      → t.facts ≡ ended_by instr s.facts
+      → ((r : ℕ) → r < 32 → is_one_of (written instr) r ≡ false → set_of (value_at t.registers r) ≡ set_of (value_at s.registers r)) → IsInHulls s
+      → refined marks words instr s t ≡ Some u → IsInHulls u

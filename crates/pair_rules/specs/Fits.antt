@@ -1,0 +1,61 @@
+-- What laws ask of an instruction, and of what the plain rules leave. Source: own.
+use Rattle.std.specs.Prelude.{ℕ, ◌≡◌, ◌<◌, ⊤, true, if◌then◌else◌, List}
+use Rattle.avr_model.specs.declared.instruction.Instr.{Instr}
+use Rattle.avr_model.specs.declared.instruction.Instr.TheVariants as i
+use Rattle.avr_model.specs.declared.instruction.BinaryOp.{BinaryOp}
+use Rattle.avr_model.specs.declared.instruction.BinaryOp.TheVariants as binary
+use Rattle.bit_domain.specs.declared.bits.Tri.TheVariants.{Zero}
+use Rattle.bit_domain.specs.TriByte.{tri_at}
+use Rattle.pair_domain.specs.declared.facts.PairFacts.{PairFacts}
+use Rattle.pair_domain.specs.PairSets.{PairSet}
+use Rattle.abs_state.specs.declared.values.AbsByte.{AbsByte}
+use Rattle.abs_state.specs.declared.state.AbsState.{AbsState}
+use Rattle.abs_state.specs.Values.{value_at, unknown}
+use Rattle.abs_state.specs.Order.{IsByteWithin}
+use Rattle.pair_rules.specs.Hulls.{ended_by}
+use Rattle.pair_rules.specs.Flash.{pair_permits, flash_known, is_flash}
+use Rattle.pair_rules.specs.Values.{doubled_value, z_of}
+
+-- Registers are among the 32, pairs among the 16, and immediate numbers are bytes, as in each instruction of the table.
+abbrev pub HasRegisters : Instr → Type 0
+HasRegisters (i.Movw d r) = (d < 16) × (r < 16)
+HasRegisters (i.Binary op d r) = (d < 32) × (r < 32)
+HasRegisters (i.Immediate op d k) = (d < 32) × (k < 256)
+HasRegisters (i.Ldd d b q) = d < 32
+HasRegisters (i.Lds d a) = d < 32
+HasRegisters (i.Ld d p) = d < 32
+HasRegisters (i.LpmZ d) = d < 32
+HasRegisters (i.LpmZPlus d) = d < 32
+HasRegisters (i.Pop d) = d < 32
+HasRegisters (i.Unary op d) = d < 32
+HasRegisters (i.Adiw d k) = (d < 16) × (k < 256)
+HasRegisters (i.Sbiw d k) = (d < 16) × (k < 256)
+HasRegisters (i.In d a) = d < 32
+HasRegisters (i.Bld d b) = d < 32
+HasRegisters _ = ⊤
+
+-- what is known of a byte of flash, and of what is read behind it
+abbrev pub flash_at : List ℕ → ℕ → AbsByte
+flash_at words z = if is_flash words z then flash_known words z else unknown
+
+-- the value is above what is read at each number that the pair permits
+abbrev pub CoversFlash : List ℕ → PairSet → AbsByte → Type 0
+CoversFlash words p v = (z : ℕ) → z < 65536 → pair_permits p z ≡ true → IsByteWithin (flash_at words z) v
+
+abbrev pub CoversDoubled : AbsState → BinaryOp → ℕ → AbsByte → Type 0
+CoversDoubled s binary.Add d v = IsByteWithin (doubled_value s d Zero) v
+CoversDoubled s binary.Adc d v = IsByteWithin (doubled_value s d (tri_at s.flags.bits 0)) v
+CoversDoubled s _ d v = ⊤
+
+-- in t the register that is set is above what is told of its value
+abbrev pub CoversTold : List ℕ → AbsState → Instr → AbsState → Type 0
+CoversTold words s (i.Binary op d r) t = d ≡ r → CoversDoubled s op d (value_at t.registers d)
+CoversTold words s (i.LpmZ d) t = (f : PairFacts) → CoversFlash words (z_of s f) (value_at t.registers d)
+CoversTold words s (i.LpmZPlus d) t = (f : PairFacts) → CoversFlash words (z_of s f) (value_at t.registers d)
+CoversTold words s i.Lpm t = (f : PairFacts) → CoversFlash words (z_of s f) (value_at t.registers 0)
+CoversTold words s _ t = ⊤
+
+-- t is what the plain rules leave of s: its facts are those of s less what is written, and its values are above those that are told
+pub record IsPlain (words : List ℕ) (instr : Instr) (s t : AbsState) : Type 0 where
+  pub facts : t.facts ≡ ended_by instr s.facts
+  pub value : CoversTold words s instr t

@@ -1,0 +1,53 @@
+-- What an instruction leaves where pairs are followed: what the plain rules leave, refined by what it tells. Branches, skips and the
+-- pick of a jump table have cuts of their own, and aren't refined here. Source: own.
+use Rattle.std.specs.Prelude.{ℕ, List, Option, Some, None}
+use Rattle.avr_model.specs.declared.instruction.Instr.{Instr}
+use Rattle.avr_model.specs.Written.{written}
+use Rattle.pair_domain.specs.declared.intervals.Interval.{Interval}
+use Rattle.pair_domain.specs.declared.facts.PairFacts.{PairFacts}
+use Rattle.pair_domain.specs.Intervals.{interval_meet}
+use Rattle.pair_domain.specs.PairSets.{PairSet, with_interval, narrow_pair}
+use Rattle.pair_domain.specs.Marks.{outward}
+use Rattle.abs_state.specs.declared.state.AbsState.{AbsState}
+use Rattle.abs_state.specs.Cuts.{cut_state}
+use Rattle.pair_rules.specs.declared.told.Told.{Told}
+use Rattle.pair_rules.specs.declared.told.Told.TheVariants as told
+use Rattle.pair_rules.specs.Hulls.{all_hulled}
+use Rattle.pair_rules.specs.Told.{told_by}
+use Rattle.pair_rules.specs.Tags.{tagged}
+use Rattle.pair_rules.specs.Values.{retold}
+
+-- the interval is cut, and the bytes stay
+abbrev pub meet_pair : PairSet → Interval → Option PairSet
+meet_pair p j = with_interval p (interval_meet p.interval j)
+
+-- What is told cuts the state; there is none where nothing is left.
+abbrev pub cut_told : List ℕ → Told → AbsState → Option AbsState
+cut_told marks told.Nothing t = Some t
+cut_told marks (told.Kept n j) t = cut_state (λ p. meet_pair p j) t n
+cut_told marks (told.Computed n j) t = cut_state (λ p. narrow_pair p (outward marks j)) t n
+
+-- the intervals of the pairs that are written become their hulls
+abbrev pub with_hulls : List ℕ → AbsState → AbsState
+with_hulls rs t = record t { facts = all_hulled t.registers rs t.facts }
+
+abbrev pub with_tags : AbsState → PairFacts → Instr → AbsState → AbsState
+with_tags s f instr t = record t { facts = tagged s.registers f instr t.facts }
+
+-- values of which more is told, then hulls, then what is told, then tags
+abbrev pub tags_then : AbsState → PairFacts → Instr → Option AbsState → Option AbsState
+tags_then s f instr None = None
+tags_then s f instr (Some t) = Some (with_tags s f instr t)
+
+abbrev pub told_then : List ℕ → AbsState → PairFacts → Instr → Option AbsState → Option AbsState
+told_then marks s f instr None = None
+told_then marks s f instr (Some t) = tags_then s f instr (cut_told marks (told_by s.registers f instr) (with_hulls (written instr) t))
+
+abbrev pub refined_known : List ℕ → List ℕ → Instr → AbsState → AbsState → Option PairFacts → Option AbsState
+refined_known marks words instr s t None = Some t
+refined_known marks words instr s t (Some f) = told_then marks s f instr (retold words s f instr t)
+
+-- Of the state s before an instruction and what the plain rules leave of it, in which the facts on what it writes are ended. Of a store
+-- it is what is left before the byte is stored. There is none where the instruction tells that no machine gets there.
+abbrev pub refined : List ℕ → List ℕ → Instr → AbsState → AbsState → Option AbsState
+refined marks words instr s t = refined_known marks words instr s t s.facts

@@ -1,0 +1,59 @@
+-- Values of registers of which more is told where pairs are followed: of a byte that is doubled, and of a byte of flash. Source: own.
+use Rattle.std.specs.Prelude.{ℕ, ◌-◌, ◌==◌, Bool, if◌then◌else◌, List, Option, Some, None, slice_set}
+use Rattle.avr_model.specs.declared.instruction.Instr.{Instr}
+use Rattle.avr_model.specs.declared.instruction.Instr.TheVariants as i
+use Rattle.avr_model.specs.declared.instruction.BinaryOp.{BinaryOp}
+use Rattle.avr_model.specs.declared.instruction.BinaryOp.TheVariants as binary
+use Rattle.bit_domain.specs.declared.bits.Tri.{Tri}
+use Rattle.bit_domain.specs.declared.bits.Tri.TheVariants.{Zero}
+use Rattle.bit_domain.specs.declared.bytes.TriByte.{TriByte}
+use Rattle.bit_domain.specs.TriByte.{tri_at, byte_of}
+use Rattle.pair_domain.specs.declared.facts.PairFacts.{PairFacts}
+use Rattle.pair_domain.specs.PairSets.{PairSet}
+use Rattle.abs_state.specs.declared.values.AbsByte.{AbsByte}
+use Rattle.abs_state.specs.declared.state.AbsState.{AbsState}
+use Rattle.abs_state.specs.Values.{value_at, untagged}
+use Rattle.abs_state.specs.Cuts.{pair_of}
+use Rattle.pair_rules.specs.Flash.{pair_permits, few_in_flash, flash_joined}
+
+abbrev pub with_value : AbsState → ℕ → AbsByte → AbsState
+with_value t d v = record t { registers = slice_set t.registers d v }
+
+-- ---- a byte and itself, and a carry
+
+-- each bit one place up, with a new lowest bit
+abbrev pub doubled : TriByte → Tri → TriByte
+doubled b low = byte_of (λ k. if k == 0 then low else tri_at b (k - 1))
+
+-- what the two operations leave in their register where it is both operands
+abbrev pub doubled_value : AbsState → ℕ → Tri → AbsByte
+doubled_value s d low = untagged (doubled (value_at s.registers d).bits low)
+
+abbrev pub doubled_by : AbsState → BinaryOp → ℕ → AbsState → AbsState
+doubled_by s binary.Add d t = with_value t d (doubled_value s d Zero)
+doubled_by s binary.Adc d t = with_value t d (doubled_value s d (tri_at s.flags.bits 0))
+doubled_by s _ d t = t
+
+-- ---- bytes of flash
+
+-- there is none where no number is permitted
+abbrev pub with_joined : AbsState → ℕ → Option AbsByte → Option AbsState
+with_joined t d None = None
+with_joined t d (Some v) = Some (with_value t d v)
+
+-- where few numbers are permitted, and all in flash; else as in the plain rules
+abbrev pub flash_read : List ℕ → AbsState → ℕ → (ℕ → Bool) → Option AbsState
+flash_read words t d permits = if few_in_flash words permits then with_joined t d (flash_joined words permits) else Some t
+
+-- what is known of Z before
+abbrev pub z_of : AbsState → PairFacts → PairSet
+z_of s f = pair_of s.registers f.intervals 15
+
+-- ---- by the instruction: s is the state before it, and t what the plain rules leave
+
+abbrev pub retold : List ℕ → AbsState → PairFacts → Instr → AbsState → Option AbsState
+retold words s f (i.Binary op d r) t = Some (if d == r then doubled_by s op d t else t)
+retold words s f (i.LpmZ d) t = flash_read words t d (pair_permits (z_of s f))
+retold words s f (i.LpmZPlus d) t = flash_read words t d (pair_permits (z_of s f))
+retold words s f i.Lpm t = flash_read words t 0 (pair_permits (z_of s f))
+retold words s f _ t = Some t

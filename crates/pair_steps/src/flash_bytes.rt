@@ -1,0 +1,75 @@
+//! Bytes of flash at the numbers that a pair of registers may hold.
+
+ghost use Rattle.std.specs.Prelude.{◌≡◌, ◌*◌, ◌<◌, if◌then◌else◌, Some, None};
+ghost use Rattle.avr_model.specs.Devices.{words_of, device_of};
+ghost use Rattle.abs_state.specs.Values.{set_of};
+ghost use Rattle.abs_state.specs.PairBytes.{sets};
+ghost use Rattle.bit_domain.specs.TriByte as tri;
+ghost use Rattle.pair_rules.specs.Flash as bytes;
+
+use abs_state::{AbsByte, PairBytes};
+use bit_domain::TriByte;
+use flash_image::Flash;
+
+// Whether the bits are those of some value that this byte is.
+fn has(bits: TriByte, byte: u8) -> bool
+    ensures { result ≡ tri.has bits byte }
+{
+    bits.has(byte)
+}
+
+// Whether the bits permit the byte, and it lies in the range.
+fn permits_byte(value: AbsByte, byte: u8) -> bool
+    ensures { result ≡ bytes.set_permits (set_of value) byte }
+{
+    value.low <= byte && byte <= value.high && has(value.bits, byte)
+}
+
+/// Whether the number lies in the interval of the pair, and both bytes permit it.
+pub fn permits(pair: PairBytes, number: u16) -> bool
+    ensures { result ≡ bytes.pair_permits (sets pair) number }
+{
+    pair.interval.low <= number
+        && number <= pair.interval.high
+        && permits_byte(pair.low, (number % 256) as u8)
+        && permits_byte(pair.high, (number / 256) as u8)
+}
+
+// A value joined with those before it.
+fn joined_with(joined: Option<AbsByte>, value: AbsByte) -> AbsByte
+    ensures { result ≡ bytes.joined_with joined value }
+{
+    match joined {
+        Some(joined) => joined.join(value),
+        None => value,
+    }
+}
+
+// How many bytes the flash has.
+#[tactic(auto, using(avr_model::proofs::AllLaws::devices_are_alike))]
+fn flash_bytes(flash: &Flash) -> u16
+    ensures { result ≡ 2 * words_of (device_of flash.now) }
+{
+    2 * flash.device().words()
+}
+
+/// The join of the bytes of flash at the numbers that the pair permits, none where it permits none; and none at all where these are more
+/// than 64, or not all in flash.
+pub fn joined(flash: &Flash, pair: PairBytes) -> Option<Option<AbsByte>>
+    ensures { result ≡ (if bytes.few_in_flash flash.now (bytes.pair_permits (sets pair)) then Some (bytes.flash_joined flash.now (bytes.pair_permits (sets pair))) else None) }
+{
+    let end = flash_bytes(flash);
+    let mut count: u32 = 0;
+    let mut value: Option<AbsByte> = None;
+    for z in u32::from(pair.interval.low)..u32::from(pair.interval.high) + 1 {
+        let z = z as u16;
+        if permits(pair, z) {
+            if count == 64 || z >= end {
+                return None;
+            }
+            count += 1;
+            value = Some(joined_with(value, AbsByte::known(flash.byte(z))));
+        }
+    }
+    Some(value)
+}

@@ -1,0 +1,121 @@
+//! Values of registers of which more is told where pairs are followed.
+
+ghost use Rattle.std.specs.Prelude.{◌≡◌, ◌<◌, ◌-◌, ◌==◌, if◌then◌else◌};
+ghost use Rattle.bit_domain.specs.TriByte.{tri_at};
+ghost use Rattle.abs_state.specs.PairBytes.{left_in, sets};
+ghost use Rattle.pair_rules.specs.Flash as bytes;
+ghost use Rattle.pair_rules.specs.Values as values;
+
+use crate::flash_bytes::joined;
+use abs_state::{AbsByte, AbsState, PairBytes};
+use avr_model::instruction::{BinaryOp, Instr, Pair, Register};
+use bit_domain::{Tri, TriByte};
+use flash_image::Flash;
+use pair_domain::PairFacts;
+use pair_told::told::{interval_at, value_at};
+
+// Bit `k`, from 0 to 7, of the byte whose bits are one place up.
+fn doubled_bit(bits: TriByte, low: Tri, k: u8) -> Tri
+    requires { k < 8 }
+    ensures { result ≡ (if k == 0 then low else tri_at bits (k - 1)) }
+{
+    if k == 0 { low } else { bits.bit(k - 1) }
+}
+
+// Each bit one place up, with a new lowest bit.
+fn doubled(bits: TriByte, low: Tri) -> TriByte
+    ensures { result ≡ values.doubled bits low }
+{
+    let mut up = TriByte::any();
+    for k in 0..8u8 {
+        up = up.with(k, doubled_bit(bits, low, k));
+    }
+    up
+}
+
+// Register `d` has another value.
+fn set(state: &mut AbsState, d: Register, value: AbsByte)
+    ensures { state.new ≡ values.with_value state.old d value }
+{
+    state.registers[usize::from(d.get())] = value;
+}
+
+// What register `d` and itself, and a carry, are.
+fn doubled_value(before: &AbsState, d: Register, low: Tri) -> AbsByte
+    ensures { result ≡ values.doubled_value before.now d low }
+{
+    AbsByte::untagged(doubled(value_at(&before.registers, d).bits, low))
+}
+
+// Whether the two are the same register.
+fn is_same(d: Register, r: Register) -> bool
+    ensures { result ≡ (d == r) }
+{
+    d == r
+}
+
+// What the two operations leave where a register is both operands.
+fn double(before: &AbsState, op: BinaryOp, d: Register, after: &mut AbsState)
+    ensures { after.new ≡ values.doubled_by before.now op d after.old }
+{
+    match op {
+        BinaryOp::Add => set(after, d, doubled_value(before, d, Tri::Zero)),
+        BinaryOp::Adc => set(after, d, doubled_value(before, d, before.flags.bits.bit(0))),
+        _ => {}
+    }
+}
+
+// What is known of Z.
+fn z_of(before: &AbsState, facts: &PairFacts) -> PairBytes
+    ensures { sets result ≡ values.z_of before.now facts.now }
+{
+    PairBytes {
+        low: value_at(&before.registers, Register::new(30)),
+        high: value_at(&before.registers, Register::new(31)),
+        interval: interval_at(facts, Pair::new(15)),
+    }
+}
+
+// Register `d` is the join of the bytes of flash at the numbers that Z permits, where these are few; none where there are none.
+fn read_flash(
+    flash: &Flash,
+    before: &AbsState,
+    facts: &PairFacts,
+    d: Register,
+    after: &mut AbsState,
+) -> bool
+    ensures { left_in result after.new ≡ values.flash_read flash.now after.old d (bytes.pair_permits (values.z_of before.now facts.now)) }
+{
+    match joined(flash, z_of(before, facts)) {
+        Some(Some(value)) => {
+            set(after, d, value);
+            true
+        }
+        Some(None) => false,
+        None => true,
+    }
+}
+
+/// Sets the values of registers of which more is told, from the state and facts before the instruction. Gives whether a machine gets there.
+pub fn retell(
+    flash: &Flash,
+    before: &AbsState,
+    facts: &PairFacts,
+    instr: &Instr,
+    after: &mut AbsState,
+) -> bool
+    ensures { left_in result after.new ≡ values.retold flash.now before.now facts.now instr.now after.old }
+{
+    match instr {
+        Instr::Binary(op, d, r) => {
+            if is_same(*d, *r) {
+                double(before, *op, *d, after);
+            }
+            true
+        }
+        Instr::LpmZ(d) => read_flash(flash, before, facts, *d, after),
+        Instr::LpmZPlus(d) => read_flash(flash, before, facts, *d, after),
+        Instr::Lpm => read_flash(flash, before, facts, Register::new(0), after),
+        _ => true,
+    }
+}

@@ -1,0 +1,92 @@
+//! The hulls of pairs that an instruction writes.
+
+ghost use Rattle.std.specs.Prelude.{◌≡◌, ◌≤◌, ◌+◌, ◌*◌, ◌∷◌, []};
+ghost use Rattle.avr_model.specs.Written.{moved_pair, set_by_binary, set_by_immediate, written};
+ghost use Rattle.abs_state.specs.Ended.{written_hull};
+ghost use Rattle.pair_rules.specs.Hulls.{all_hulled};
+
+use abs_state::{AbsByte, hull_written};
+use avr_model::instruction::{BinaryOp, ImmediateOp, Instr, Pair, Pointer, Register};
+use pair_domain::Facts;
+
+// The interval of the pair of a register is the hull of its bytes.
+fn hull(facts: &mut Facts, registers: &[AbsByte; 32], r: Register)
+    ensures { facts.new ≡ written_hull registers.now r facts.old }
+{
+    hull_written(facts, registers, usize::from(r.get()));
+}
+
+// The same of both registers of a pair.
+fn hull_pair(facts: &mut Facts, registers: &[AbsByte; 32], n: Pair)
+    ensures { facts.new ≡ all_hulled registers.now (2 * n ∷ (2 * n + 1) ∷ []) facts.old }
+{
+    hull(facts, registers, n.doubled());
+    hull(facts, registers, Register::new(2 * n.get() + 1));
+}
+
+// The same of a pointer that moves.
+fn hull_pointer(facts: &mut Facts, registers: &[AbsByte; 32], pointer: Pointer)
+    ensures { facts.new ≡ all_hulled registers.now (moved_pair pointer) facts.old }
+{
+    match pointer {
+        Pointer::ZPlus | Pointer::MinusZ => hull_pair(facts, registers, Pair::new(15)),
+        Pointer::YPlus | Pointer::MinusY => hull_pair(facts, registers, Pair::new(14)),
+        Pointer::X => {}
+        Pointer::XPlus | Pointer::MinusX => hull_pair(facts, registers, Pair::new(13)),
+    }
+}
+
+fn hull_binary(facts: &mut Facts, registers: &[AbsByte; 32], op: BinaryOp, d: Register)
+    ensures { facts.new ≡ all_hulled registers.now (set_by_binary op d) facts.old }
+{
+    match op {
+        BinaryOp::Cpc | BinaryOp::Cpse | BinaryOp::Cp => {}
+        BinaryOp::Mul => hull_pair(facts, registers, Pair::new(0)),
+        _ => hull(facts, registers, d),
+    }
+}
+
+fn hull_immediate(facts: &mut Facts, registers: &[AbsByte; 32], op: ImmediateOp, d: Register)
+    ensures { facts.new ≡ all_hulled registers.now (set_by_immediate op d) facts.old }
+{
+    match op {
+        ImmediateOp::Cpi => {}
+        _ => hull(facts, registers, d),
+    }
+}
+
+/// The interval of each pair that the instruction writes other than through a data address is the hull of its bytes.
+pub fn hull_by(facts: &mut Facts, registers: &[AbsByte; 32], instr: &Instr)
+    ensures { facts.new ≡ all_hulled registers.now (written instr.now) facts.old }
+{
+    match instr {
+        Instr::Movw(d, _) => hull_pair(facts, registers, *d),
+        Instr::Muls(_, _) => hull_pair(facts, registers, Pair::new(0)),
+        Instr::Mulsu(_, _) => hull_pair(facts, registers, Pair::new(0)),
+        Instr::Fmul(_, _) => hull_pair(facts, registers, Pair::new(0)),
+        Instr::Fmuls(_, _) => hull_pair(facts, registers, Pair::new(0)),
+        Instr::Fmulsu(_, _) => hull_pair(facts, registers, Pair::new(0)),
+        Instr::Binary(op, d, _) => hull_binary(facts, registers, *op, *d),
+        Instr::Immediate(op, d, _) => hull_immediate(facts, registers, *op, d.widened()),
+        Instr::Ldd(d, _, _) => hull(facts, registers, *d),
+        Instr::Lds(d, _) => hull(facts, registers, *d),
+        Instr::Ld(d, pointer) => {
+            hull(facts, registers, *d);
+            hull_pointer(facts, registers, *pointer);
+        }
+        Instr::LpmZ(d) => hull(facts, registers, *d),
+        Instr::LpmZPlus(d) => {
+            hull(facts, registers, *d);
+            hull_pair(facts, registers, Pair::new(15));
+        }
+        Instr::Pop(d) => hull(facts, registers, *d),
+        Instr::St(pointer, _) => hull_pointer(facts, registers, *pointer),
+        Instr::Unary(_, d) => hull(facts, registers, *d),
+        Instr::Lpm => hull(facts, registers, Register::new(0)),
+        Instr::Adiw(d, _) => hull_pair(facts, registers, d.widened()),
+        Instr::Sbiw(d, _) => hull_pair(facts, registers, d.widened()),
+        Instr::In(d, _) => hull(facts, registers, *d),
+        Instr::Bld(d, _) => hull(facts, registers, *d),
+        _ => {}
+    }
+}
