@@ -6,21 +6,20 @@ use Rattle.abs_state.specs.declared.values.AbsByte.{AbsByte}
 use Rattle.abs_state.specs.declared.state.AbsState.{AbsState}
 use Rattle.local_rules.specs.declared.local.Node.{Node}
 use Rattle.local_rules.specs.Raw.{Raw, all_of}
-use Rattle.local_rules.specs.Local.{joined_onto}
 use Rattle.local_rules.specs.Flow.{part_of, with_value, where_carry}
 use Rattle.local_rules.specs.Registers.{value}
-use Rattle.abs_step.specs.Adding.{IsAdded}
+use Rattle.abs_step.specs.Adding.{Moving, with_nodes, IsAdded}
 use Rattle.abs_step.specs.Cuts.{with_part, registers_where}
-use Rattle.abs_step.proofs.Gathered.{joined_all}
+use Rattle.abs_step.proofs.Added.{with_all}
 
-pub both_added : (old mid new : List Node) (r q : Raw) → IsAdded old mid r → IsAdded mid new q → IsAdded old new (all_of (r ∷ q ∷ []))
+pub both_added : (old mid new : Moving) (r q : Raw) → IsAdded old mid r → IsAdded mid new q → IsAdded old new (all_of (r ∷ q ∷ []))
 both_added old mid new r q p s =
     let none_r : r.faults ≡ [] = ap (λ (x : Raw). x.faults) p.moves in
     let none_q : q.faults ≡ [] = ap (λ (x : Raw). x.faults) s.moves in
     record {
       moves = λ i. record { moves = r.moves ++ (q.moves ++ []); calls = []; exit = None; faults = none_r i ++ (none_q i ++ []) };
-      nodes = s.nodes ∙ ap (λ (ns : List Node). joined_onto ns q.moves) p.nodes ∙ sym (joined_all old r.moves q.moves)
-          ∙ ap (λ (ms : List Node). joined_onto old (r.moves ++ ms)) (sym (append-nil q.moves));
+      nodes = s.nodes ∙ ap (λ (m : Moving). with_nodes m q.moves) p.nodes ∙ sym (with_all old r.moves q.moves)
+          ∙ ap (λ (ms : List Node). with_nodes old (r.moves ++ ms)) (sym (append-nil q.moves));
     }
 
 -- the state with these registers, if there are such

@@ -2,13 +2,12 @@
 use Rattle.std.proofs.Common.{◌≡◌, ◌≢◌, refl, sym, ap, ◌∙◌, subst, ℕ, zero, suc, ◌+◌, ◌<◌, Bool, true, false, if◌then◌else◌, List, [], ◌∷◌, ◌++◌, length, map, filter, take, slice_index_or, Option, Some, None, arith}
 use Rattle.std.proofs.lemmas.Bool.Decides.{nat_tests}
 use Rattle.std.proofs.lemmas.List.{append-nil, append_assoc}
-use Rattle.local_rules.specs.declared.local.Node.{Node}
 use Rattle.local_rules.specs.declared.local.NodeFault.{NodeFault}
 use Rattle.local_rules.specs.declared.local.NodeFault.TheVariants.{Memory}
 use Rattle.local_rules.specs.Faults.{cause_of, is_less, least}
 use Rattle.local_rules.specs.Raw.{Raw, all_of}
-use Rattle.local_rules.specs.Local.{placed, joined_onto}
-use Rattle.abs_step.specs.Adding.{first_fault, first_of, with_another, IsAdded, IsGathered}
+use Rattle.abs_step.specs.Adding.{Moving, with_nodes, first_fault, first_of, with_another, IsAdded, IsGathered}
+use Rattle.abs_step.proofs.Added.{with_all}
 
 abbrev lesser : NodeFault → NodeFault → NodeFault
 lesser f g = first_of (Some f) g
@@ -60,26 +59,21 @@ not_memory f n e h m = h (e ∙ ap cause_of m)
 
 -- ---- one more
 
-pub joined_all : (old ns ms : List Node) → joined_onto old (ns ++ ms) ≡ joined_onto (joined_onto old ns) ms
-unfolding joined_onto
-joined_all old [] ms = refl
-joined_all old (n ∷ ns) ms = joined_all (placed n old) ns ms
-
-pub gathered_more : (old mid new : List Node) (fault : Option NodeFault) (r q : Raw) → IsGathered old mid fault r → IsAdded mid new q
+pub gathered_more : (old mid new : Moving) (fault : Option NodeFault) (r q : Raw) → IsGathered old mid fault r → IsAdded mid new q
     → IsGathered old new fault (with_another r q)
 gathered_more old mid new fault r q g h = record {
   fault = ap (λ fs. first_fault (r.faults ++ fs)) (ap (λ (q : Raw). q.faults) h.moves) ∙ ap first_fault (append-nil r.faults) ∙ g.fault;
-  nodes = λ none. h.nodes ∙ ap (λ ns. joined_onto ns q.moves) (g.nodes none) ∙ sym (joined_all old r.moves q.moves);
+  nodes = λ none. h.nodes ∙ ap (λ (m : Moving). with_nodes m q.moves) (g.nodes none) ∙ sym (with_all old r.moves q.moves);
 }
 
-pub gathered_fault : (old mid new : List Node) (fault : Option NodeFault) (found : NodeFault) (r q : Raw) → IsGathered old mid fault r
+pub gathered_fault : (old mid new : Moving) (fault : Option NodeFault) (found : NodeFault) (r q : Raw) → IsGathered old mid fault r
     → first_fault q.faults ≡ Some found → IsGathered old new (Some (first_of fault found)) (with_another r q)
 gathered_fault old mid new fault found r q g e = record {
   fault = first_more r.faults q.faults found e ∙ ap (λ o. Some (first_of o found)) g.fault;
   nodes = λ none. cc;
 }
 
-pub as_gathered : (old a b : List Node) (x y : Option NodeFault) (r : Raw) → a ≡ b → x ≡ y → IsGathered old b y r → IsGathered old a x r
+pub as_gathered : (old a b : Moving) (x y : Option NodeFault) (r : Raw) → a ≡ b → x ≡ y → IsGathered old b y r → IsGathered old a x r
 as_gathered old a b x y r d e h = record { fault = h.fault ∙ sym e; nodes = λ none. d ∙ h.nodes (sym e ∙ none) }
 
 -- ---- of a list
@@ -108,7 +102,7 @@ map_all : (f : ℕ → Raw) (xs ys : List ℕ) → map f (xs ++ ys) ≡ map f xs
 map_all f [] ys = refl
 map_all f (x ∷ xs) ys = ap (λ rs. f x ∷ rs) (map_all f xs ys)
 
-module _ (p : ℕ → Bool) (f : ℕ → Raw) (base : Raw) (xs : List ℕ) (at : ℕ) (old new : List Node) (fault : Option NodeFault) (lt : at < length xs) where
+module _ (p : ℕ → Bool) (f : ℕ → Raw) (base : Raw) (xs : List ℕ) (at : ℕ) (old new : Moving) (fault : Option NodeFault) (lt : at < length xs) where
   abbrev pub so_far : ℕ → Raw
   so_far n = all_of (base ∷ map f (filter p (take n xs)))
 
@@ -125,7 +119,7 @@ module _ (p : ℕ → Bool) (f : ℕ → Raw) (base : Raw) (xs : List ℕ) (at :
       ∙ ap (λ rs. all_of (base ∷ rs)) (sym (map_all f (filter p (take at xs)) (slice_index_or xs at 0 ∷ [])))
       ∙ ap (λ ns. all_of (base ∷ map f ns)) (sym (filter_more p xs at (at + 1) lt refl ∙ ap (λ (b : Bool). filter p (take at xs) ++ (if b then slice_index_or xs at 0 ∷ [] else [])) e))) h
 
-pub gathered_added : (old new : List Node) (base : Raw) (rs : List Raw) → IsGathered old new None (all_of (base ∷ rs)) → IsAdded old new (all_of (base ∷ rs))
+pub gathered_added : (old new : Moving) (base : Raw) (rs : List Raw) → IsGathered old new None (all_of (base ∷ rs)) → IsAdded old new (all_of (base ∷ rs))
 gathered_added old new base rs h =
     let none = no_faults (all_of (base ∷ rs)).faults h.fault in
     record { moves = λ i. record { moves = (all_of (base ∷ rs)).moves; calls = []; exit = None; faults = none i }; nodes = h.nodes refl }

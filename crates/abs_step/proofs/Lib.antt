@@ -5,3 +5,5 @@ pub mod Picked
 pub mod Added
 pub mod Gathered
 pub mod Cutting
+pub mod Slots
+pub mod Paired

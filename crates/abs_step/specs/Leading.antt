@@ -3,12 +3,11 @@ use Rattle.std.specs.Prelude.{ℕ, ◌≡◌, ◌≢◌, List, [], Option, Some,
 use Rattle.std.specs.Global.{Vec}
 use Rattle.sb_base.specs.Answers.{Answers}
 use Rattle.local_rules.specs.declared.local.Local.{Local}
-use Rattle.local_rules.specs.declared.local.Node.{Node}
 use Rattle.local_rules.specs.declared.local.NodeFault.{NodeFault}
 use Rattle.local_rules.specs.declared.local.NodeFault.TheVariants.{UnresolvedJump, Memory}
 use Rattle.local_rules.specs.Raw.{Raw}
-use Rattle.local_rules.specs.Local.{joined_onto, settled}
-use Rattle.abs_step.specs.Adding.{first_fault}
+use Rattle.local_rules.specs.Local.{settled}
+use Rattle.abs_step.specs.Adding.{Moving, with_nodes, first_fault}
 use Rattle.abs_step.specs.declared.flow.Outside.{Outside}
 
 -- the words to which an indirect transfer at pc may lead, or that they are too many
@@ -17,13 +16,13 @@ Finds (Ok words) due pc = due ≡ Some words.items
 Finds (Err f) due pc = f ≢ Memory → (due ≡ None) × (f ≡ UnresolvedJump pc)
 
 -- the list has got the nodes, and the calls and the return are told
-pub record IsLed (old new : List Node) (o : Outside) (r : Raw) : Type 0 where
+pub record IsLed (old new : Moving) (o : Outside) (r : Raw) : Type 0 where
   pub faults : r.faults ≡ []
-  pub nodes : new ≡ joined_onto old r.moves
+  pub nodes : new ≡ with_nodes old r.moves
   pub calls : o.calls ≡ r.calls
   pub exit : o.exit ≡ r.exit
 
-abbrev pub Leads : List Node → List Node → Result Outside NodeFault → Raw → Type 0
+abbrev pub Leads : Moving → Moving → Result Outside NodeFault → Raw → Type 0
 Leads old new (Ok o) r = IsLed old new o r
 Leads old new (Err f) r = f ≢ Memory → first_fault r.faults ≡ Some f
 

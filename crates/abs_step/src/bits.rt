@@ -5,6 +5,7 @@ ghost use Rattle.local_rules.specs.Registers as registers;
 ghost use Rattle.local_rules.specs.Local as rows;
 ghost use Rattle.abs_step.specs.Adding.{Adds};
 
+use crate::moves::Moves;
 use crate::site::Site;
 use crate::stores::{Write, written_at};
 use crate::successors::{add_copy, next, setting};
@@ -13,12 +14,12 @@ use abs_rows::bits::flag;
 use abs_state::AbsByte;
 use avr_model::instruction::Bit;
 use bit_domain::Tri;
-use local_rules::local::{NodeFault, Nodes};
+use local_rules::local::NodeFault;
 use mask_states::NodeKey;
 
 /// One bit of an I/O address is turned on or off.
 pub fn bit_row(
-    nodes: &mut Nodes,
+    nodes: &mut Moves<'_>,
     site: &Site<'_>,
     address: u16,
     bit: Bit,
@@ -41,7 +42,7 @@ pub fn bit_row(
 }
 
 /// `bset` of flag `n` where `on`, else `bclr`. I is in the key.
-pub fn flag_row(nodes: &mut Nodes, site: &Site<'_>, n: Bit, on: bool) -> Result<(), NodeFault>
+pub fn flag_row(nodes: &mut Moves<'_>, site: &Site<'_>, n: Bit, on: bool) -> Result<(), NodeFault>
     ensures { Adds nodes.old nodes.new result (registers.flag_row site.now.device site.now.key.now site.now.state.now n on) }
 {
     match flag(site.state, n, on) {
@@ -51,7 +52,7 @@ pub fn flag_row(nodes: &mut Nodes, site: &Site<'_>, n: Bit, on: bool) -> Result<
 }
 
 // `sei` where `on`, after which one more instruction executes before any interrupt, else `cli`.
-fn interrupts_row(nodes: &mut Nodes, site: &Site<'_>, on: bool) -> Result<(), NodeFault>
+fn interrupts_row(nodes: &mut Moves<'_>, site: &Site<'_>, on: bool) -> Result<(), NodeFault>
     ensures { Adds nodes.old nodes.new result (registers.interrupts_row site.now.device site.now.key.now site.now.state.now on) }
 {
     let delay = on && !site.key.i;

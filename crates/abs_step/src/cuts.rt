@@ -6,11 +6,12 @@ ghost use Rattle.local_rules.specs.Flow as flow;
 ghost use Rattle.abs_step.specs.Adding.{Adds};
 ghost use Rattle.abs_step.specs.Cuts.{registers_where};
 
+use crate::moves::Moves;
 use crate::site::Site;
-use crate::successors::{add, changed, off_table};
+use crate::successors::{changed, off_table};
 use abs_state::{AbsByte, AbsState};
 use bit_domain::Tri;
-use local_rules::local::{NodeFault, Nodes};
+use local_rules::local::NodeFault;
 use sp_domain::CarryTag;
 
 // What is left of a value that is below a number where `below`, else of one that isn't.
@@ -65,14 +66,19 @@ fn cut(registers: &[AbsByte; 32], r: usize, below: bool, number: u8) -> Option<[
 }
 
 // Going on at a word where C has this value, if it can.
-fn going_where(nodes: &mut Nodes, site: &Site<'_>, carry: bool, pc: u16) -> Result<(), NodeFault>
+fn going_where(
+    nodes: &mut Moves<'_>,
+    site: &Site<'_>,
+    carry: bool,
+    pc: u16,
+) -> Result<(), NodeFault>
     ensures added { Adds nodes.old nodes.new result (flow.going_where site.now.key.now (flow.where_carry site.now.state.now.flags.carry site.now.state.now carry) pc) }
     ensures err { IfErr result (λ e. e ≡ Memory) }
 {
     match registers_where(site.state, carry) {
         Some(registers) => {
             let after = changed(site.alloc, site.state, &registers, site.state.flags)?;
-            let added = add(nodes, off_table(site.key, pc), after)?;
+            let added = nodes.add(off_table(site.key, pc), after)?;
             Ok(added)
         }
         None => Ok(()),
@@ -81,7 +87,7 @@ fn going_where(nodes: &mut Nodes, site: &Site<'_>, carry: bool, pc: u16) -> Resu
 
 /// To one word where C is 1, and to the other where it is 0.
 pub fn carry_branch(
-    nodes: &mut Nodes,
+    nodes: &mut Moves<'_>,
     site: &Site<'_>,
     carry: Tri,
     set: u16,

@@ -8,21 +8,22 @@ ghost use Rattle.local_rules.specs.Reads as reads;
 ghost use Rattle.local_rules.specs.Local as rows;
 ghost use Rattle.abs_step.specs.Adding.{Adds};
 
+use crate::moves::Moves;
 use crate::pointer_stores::pointer_write;
 use crate::site::Site;
 use crate::stores::{Write, written_at};
-use crate::successors::{add, at_word, changed, setting};
+use crate::successors::{at_word, changed, setting};
 use abs_reads::pointers::{flash_value, pair_constant, point, read_pointed, step_before};
 use abs_reads::reads::read_at;
 use abs_rows::registers::{set, value};
 use abs_rows::transfer::{base_register, pointer_moved, pointer_register};
 use abs_state::AbsByte;
 use avr_model::instruction::{Base, LowRegister, Pointer, Register};
-use local_rules::local::{NodeFault, Nodes};
+use local_rules::local::NodeFault;
 
 // Register `d` of these gets what was read. There is no successor where nothing can be read.
 fn loading(
-    nodes: &mut Nodes,
+    nodes: &mut Moves<'_>,
     site: &Site<'_>,
     registers: &[AbsByte; 32],
     d: Register,
@@ -41,7 +42,7 @@ fn loading(
 
 /// `ld` and `ldd`: register `d` of these gets what registers `r` and `r + 1` plus a number point to.
 pub fn load_row(
-    nodes: &mut Nodes,
+    nodes: &mut Moves<'_>,
     site: &Site<'_>,
     registers: &[AbsByte; 32],
     d: Register,
@@ -57,7 +58,7 @@ pub fn load_row(
 
 /// `in` and `lds`: register `d` gets what is known of an address, and the machine goes on at this word.
 pub fn read_row(
-    nodes: &mut Nodes,
+    nodes: &mut Moves<'_>,
     site: &Site<'_>,
     pc: u16,
     d: Register,
@@ -68,13 +69,13 @@ pub fn read_row(
     let read = read_at(site.device, site.key, site.state, address);
     let registers = set(&site.state.registers, d, read);
     let after = changed(site.alloc, site.state, &registers, site.state.flags)?;
-    let added = add(nodes, at_word(site.key, pc), after)?;
+    let added = nodes.add(at_word(site.key, pc), after)?;
     Ok(added)
 }
 
 /// `lpm`: register `d` of these gets a byte of flash.
 pub fn lpm_row(
-    nodes: &mut Nodes,
+    nodes: &mut Moves<'_>,
     site: &Site<'_>,
     registers: &[AbsByte; 32],
     d: Register,
@@ -89,7 +90,7 @@ pub fn lpm_row(
 
 /// `st`: through a pointer that may move.
 pub fn store_row(
-    nodes: &mut Nodes,
+    nodes: &mut Moves<'_>,
     site: &Site<'_>,
     pointer: Pointer,
     r: Register,
@@ -105,7 +106,7 @@ pub fn store_row(
 
 /// `out` and `sts`: register `r` is written to a known address, and the machine goes on at this word.
 pub fn known_write(
-    nodes: &mut Nodes,
+    nodes: &mut Moves<'_>,
     site: &Site<'_>,
     pc: u16,
     is_out: bool,

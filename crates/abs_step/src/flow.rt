@@ -1,20 +1,20 @@
 //! Change of flow: jumps, skips, calls and returns.
 
-ghost use Rattle.std.specs.Prelude.{◌≡◌, ◌<◌, map, filter, None, IfOk, IfErr, List};
+ghost use Rattle.std.specs.Prelude.{◌≡◌, ◌<◌, map, filter, None, IfOk, IfErr};
 ghost use Rattle.avr_model.specs.Image.{WORDS};
 ghost use Rattle.avr_model.specs.Assumptions.{lists};
 ghost use Rattle.bit_domain.specs.Tri.{tri_not};
 ghost use Rattle.local_rules.specs.declared.local.NodeFault.TheVariants.{Memory};
 ghost use Rattle.local_rules.specs.Raw.{moves_to, Raw};
-ghost use Rattle.local_rules.specs.declared.local.Node.{Node};
 ghost use Rattle.local_rules.specs.Registers as registers;
 ghost use Rattle.local_rules.specs.Raw as raw;
 ghost use Rattle.local_rules.specs.Flow as flow;
 ghost use Rattle.local_rules.specs.Flow.{words_on};
-ghost use Rattle.abs_step.specs.Adding.{Adds};
+ghost use Rattle.abs_step.specs.Adding.{Moving, Adds};
 ghost use Rattle.abs_step.specs.Leading.{Finds, Leads};
 
 use crate::cuts::carry_branch;
+use crate::moves::Moves;
 use crate::site::Site;
 use crate::stack::room_row;
 use crate::successors::{add_copy, branch, off_table};
@@ -29,13 +29,13 @@ use avr_model::instruction::{Base, Bit};
 use avr_model::listed::Listed;
 use bit_domain::Tri;
 use indirect_targets::targets_on;
-use local_rules::local::{CallSite, Exit, NodeFault, Nodes};
+use local_rules::local::{CallSite, Exit, NodeFault};
 use mask_states::{Kind, NodeKey, SpForm};
 use std::alloc::Global;
 
 /// `brbs` of flag `n`. A branch on C cuts what C speaks of.
 pub(crate) fn branch_where_set(
-    nodes: &mut Nodes,
+    nodes: &mut Moves<'_>,
     site: &Site<'_>,
     n: Bit,
     taken: u16,
@@ -51,7 +51,7 @@ pub(crate) fn branch_where_set(
 
 /// `brbc` of flag `n`, which goes the other way.
 pub(crate) fn branch_where_clear(
-    nodes: &mut Nodes,
+    nodes: &mut Moves<'_>,
     site: &Site<'_>,
     n: Bit,
     taken: u16,
@@ -67,7 +67,11 @@ pub(crate) fn branch_where_clear(
 }
 
 /// Past the next instruction where the condition holds.
-pub(crate) fn skipping(nodes: &mut Nodes, site: &Site<'_>, condition: Tri) -> Result<(), NodeFault>
+pub(crate) fn skipping(
+    nodes: &mut Moves<'_>,
+    site: &Site<'_>,
+    condition: Tri,
+) -> Result<(), NodeFault>
     requires word { site.now.key.now.pc < WORDS }
     ensures { Adds nodes.old nodes.new result (flow.skipping site.now.device site.now.flash.now site.now.key.now site.now.state.now condition) }
 {
@@ -131,7 +135,7 @@ pub(crate) fn targets_at(site: &Site<'_>) -> Result<Vec<u16>, NodeFault>
 }
 
 // Going on at each of these words.
-fn add_words(nodes: &mut Nodes, site: &Site<'_>, words: &[u16]) -> Result<(), NodeFault>
+fn add_words(nodes: &mut Moves<'_>, site: &Site<'_>, words: &[u16]) -> Result<(), NodeFault>
     ensures { Adds nodes.old nodes.new result (moves_to (map (λ t. record { key = raw.off_table site.now.key.now t; state = site.now.state.now }) words.now)) }
 {
     for at in 0..words.len() {
@@ -146,7 +150,7 @@ fn add_words(nodes: &mut Nodes, site: &Site<'_>, words: &[u16]) -> Result<(), No
 }
 
 /// An indirect jump.
-pub(crate) fn jumping(nodes: &mut Nodes, site: &Site<'_>) -> Result<(), NodeFault>
+pub(crate) fn jumping(nodes: &mut Moves<'_>, site: &Site<'_>) -> Result<(), NodeFault>
     ensures { Adds nodes.old nodes.new result (flow.jumping (flow.targets_at site.now.device site.now.assumptions.now site.now.key.now site.now.state.now) site.now.key.now site.now.state.now) }
 {
     let words = targets_at(site)?;
@@ -165,7 +169,7 @@ pub struct Outside {
 
 /// Nothing leaves it where nodes were added.
 pub(crate) fn staying(alloc: Global, added: Result<(), NodeFault>) -> Result<Outside, NodeFault>
-    ensures { (old new : List Node) (r : Raw) → Adds old new added r → Leads old new result r }
+    ensures { (old new : Moving) (r : Raw) → Adds old new added r → Leads old new result r }
 {
     match added {
         Ok(()) => Ok(Outside {
@@ -198,7 +202,7 @@ pub(crate) fn calling(
     back: u16,
     entries: &[u16],
 ) -> Result<Outside, NodeFault>
-    ensures { (nodes : List Node) → Leads nodes nodes result (flow.calling key.now back entries.now) }
+    ensures { (nodes : Moving) → Leads nodes nodes result (flow.calling key.now back entries.now) }
 {
     match key.sp {
         SpForm::Closed(_) => {
@@ -211,7 +215,7 @@ pub(crate) fn calling(
 
 /// An indirect call.
 pub(crate) fn indirect_call(site: &Site<'_>) -> Result<Outside, NodeFault>
-    ensures { (nodes : List Node) → Leads nodes nodes result (flow.indirect_call site.now.device (flow.targets_at site.now.device site.now.assumptions.now site.now.key.now site.now.state.now) site.now.key.now) }
+    ensures { (nodes : Moving) → Leads nodes nodes result (flow.indirect_call site.now.device (flow.targets_at site.now.device site.now.assumptions.now site.now.key.now site.now.state.now) site.now.key.now) }
 {
     let entries = targets_at(site)?;
     let outside = calling(
@@ -231,7 +235,7 @@ fn returning_at(
     kind: Kind,
     offset: u16,
 ) -> Result<Outside, NodeFault>
-    ensures { (nodes : List Node) → Leads nodes nodes result (flow.returning exit pc kind offset) }
+    ensures { (nodes : Moving) → Leads nodes nodes result (flow.returning exit pc kind offset) }
 {
     match kind {
         Kind::Call | Kind::Vector(_) if offset == 0 => Ok(Outside {
@@ -244,7 +248,7 @@ fn returning_at(
 
 /// A return, where the stack pointer isn't half written.
 pub(crate) fn returning(site: &Site<'_>, exit: Exit) -> Result<Outside, NodeFault>
-    ensures { (nodes : List Node) → Leads nodes nodes result (flow.at_closed site.now.key.now.sp site.now.key.now.pc (flow.returning exit site.now.key.now.pc site.now.key.now.inst.kind)) }
+    ensures { (nodes : Moving) → Leads nodes nodes result (flow.at_closed site.now.key.now.sp site.now.key.now.pc (flow.returning exit site.now.key.now.pc site.now.key.now.inst.kind)) }
 {
     let (pc, kind) = (site.key.pc, site.key.inst.kind);
     match site.key.sp {
@@ -255,7 +259,7 @@ pub(crate) fn returning(site: &Site<'_>, exit: Exit) -> Result<Outside, NodeFaul
 
 /// `rcall`, which makes room in a compiler's small frame.
 pub(crate) fn relative_call(
-    nodes: &mut Nodes,
+    nodes: &mut Moves<'_>,
     site: &Site<'_>,
     scratch: bool,
     target: u16,

@@ -1,22 +1,59 @@
 //! What the instruction at a node leads to.
 
-ghost use Rattle.std.specs.Prelude.{◌≡◌, ◌<◌, if◌then◌else◌};
+ghost use Rattle.std.specs.Prelude.{◌≡◌, ◌<◌, false, if◌then◌else◌, IfOk, IfErr};
+ghost use Rattle.local_rules.specs.declared.local.NodeFault.TheVariants.{Memory};
 ghost use Rattle.avr_model.specs.Image.{WORDS};
 ghost use Rattle.avr_model.specs.Written.{written};
 ghost use Rattle.sp_domain.specs.declared.tags.CarryTag.TheVariants as tag;
 ghost use Rattle.local_rules.specs.Registers as registers;
 ghost use Rattle.local_rules.specs.Local as rows;
+ghost use Rattle.abs_step.specs.Adding.{plain};
 ghost use Rattle.abs_step.specs.Leading.{Leads};
 
 use crate::flow::Outside;
+use crate::moves::Moves;
+use crate::pairs::{paired_row, row_through};
 use crate::site::Site;
 use crate::successors::changed;
 use crate::table::row;
-use abs_state::AbsFlags;
-use avr_decode::sets;
+use abs_state::{AbsFlags, AbsState, end_facts};
+use avr_decode::{sets, writes};
 use avr_model::instruction::Instr;
 use local_rules::local::{NodeFault, Nodes};
+use pair_told::{sets_carry, sets_flags};
 use sp_domain::CarryTag;
+use std::alloc::Global;
+
+// Whether something that is known ends: what the carry says of a register that the instruction sets, or maybe something of pairs.
+fn is_ended(state: &AbsState, instr: &Instr) -> bool
+    ensures { result ≡ false → registers.before instr.now state.now ≡ state.now }
+{
+    ends(state.flags.carry, instr) || state.facts.is_followed()
+}
+
+/// The state with what still holds after the instruction.
+pub(crate) fn before(alloc: Global, state: &AbsState, instr: &Instr) -> Result<AbsState, NodeFault>
+    ensures ok { IfOk result (λ s. s ≡ registers.before instr.now state.now) }
+    ensures err { IfErr result (λ e. e ≡ Memory) }
+{
+    let carry = if ends(state.flags.carry, instr) {
+        CarryTag::None
+    } else {
+        state.flags.carry
+    };
+    let flags = AbsFlags {
+        carry,
+        ..state.flags
+    };
+    let mut left = changed(alloc, state, &state.registers, flags)?;
+    end_facts(
+        &mut left.facts,
+        writes(instr).bits,
+        sets_flags(instr),
+        sets_carry(instr),
+    );
+    Ok(left)
+}
 
 // Whether what the carry says of a register ends, since the instruction sets that.
 fn ends(carry: CarryTag, instr: &Instr) -> bool
@@ -28,33 +65,28 @@ fn ends(carry: CarryTag, instr: &Instr) -> bool
     }
 }
 
-// What the instruction leads to. A state is copied only where the carry says something of a register that is set.
-fn row_forgetting(
-    nodes: &mut Nodes,
+/// What the instruction leads to by the plain rules. A state is copied only where something that is known may end.
+pub(crate) fn row_forgetting(
+    nodes: &mut Moves<'_>,
     site: &Site<'_>,
     scratch: bool,
     instr: &Instr,
 ) -> Result<Outside, NodeFault>
     requires word { site.now.key.now.pc < WORDS }
-    ensures { Leads nodes.old nodes.new result (rows.row_of site.now.device site.now.flash.now site.now.assumptions.now scratch site.now.key.now (registers.forgetting (written instr.now) site.now.state.now) instr.now) }
+    ensures { Leads nodes.old nodes.new result (rows.row_of site.now.device site.now.flash.now site.now.assumptions.now scratch site.now.key.now (registers.before instr.now site.now.state.now) instr.now) }
 {
     let state = site.state;
-    if !ends(state.flags.carry, instr) {
+    if !is_ended(state, instr) {
         return row(nodes, site, scratch, instr);
     }
-    let carry = CarryTag::None;
-    let flags = AbsFlags {
-        carry,
-        ..state.flags
-    };
-    let after = changed(site.alloc, state, &state.registers, flags)?;
+    let left = before(site.alloc, state, instr)?;
     let forgetting = Site {
         alloc: site.alloc,
         device: site.device,
         flash: site.flash,
         assumptions: site.assumptions,
         key: site.key,
-        state: &after,
+        state: &left,
     };
     row(nodes, &forgetting, scratch, instr)
 }
@@ -70,14 +102,30 @@ fn fetched(site: &Site<'_>) -> Option<Instr>
     site.flash.instruction(pc)
 }
 
+// What the instruction leads to, by whether pairs are followed.
+fn row_by(
+    nodes: &mut Nodes,
+    site: &Site<'_>,
+    scratch: bool,
+    instr: &Instr,
+) -> Result<Outside, NodeFault>
+    requires word { site.now.key.now.pc < WORDS }
+    ensures { Leads (plain nodes.old) (plain nodes.new) result (rows.row_by site.now.state.now.facts site.now.device site.now.flash.now site.now.assumptions.now scratch site.now.key.now site.now.state.now instr.now) }
+{
+    if site.state.facts.is_followed() {
+        return paired_row(nodes, site, scratch, instr);
+    }
+    row_through(nodes, site, scratch, instr, false)
+}
+
 /// What the instruction at the node leads to.
 pub(crate) fn at_instruction(nodes: &mut Nodes, site: &Site<'_>) -> Result<Outside, NodeFault>
     requires word { site.now.key.now.pc < WORDS }
-    ensures { Leads nodes.old nodes.new result (rows.row_in site.now.device site.now.flash.now site.now.assumptions.now site.now.key.now site.now.state.now) }
+    ensures { Leads (plain nodes.old) (plain nodes.new) result (rows.row_in site.now.device site.now.flash.now site.now.assumptions.now site.now.key.now site.now.state.now) }
 {
     let scratch = site.flash.is_scratch(site.key.pc);
     match fetched(site) {
-        Some(instr) => row_forgetting(nodes, site, scratch, &instr),
+        Some(instr) => row_by(nodes, site, scratch, &instr),
         None => Err(NodeFault::Unsupported(site.key.pc)),
     }
 }

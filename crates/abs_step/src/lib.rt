@@ -7,6 +7,8 @@ mod data_transfer;
 mod flow;
 mod instruction;
 pub mod leading;
+mod moves;
+mod pairs;
 mod pointer_stores;
 mod site;
 mod splitting;

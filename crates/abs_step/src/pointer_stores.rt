@@ -1,16 +1,16 @@
 //! Stores through a pointer.
 
-ghost use Rattle.std.specs.Prelude.{◌≡◌, List, Some, false, filter, length, IfOk, IfErr};
+ghost use Rattle.std.specs.Prelude.{◌≡◌, Some, false, filter, length, IfOk, IfErr};
 ghost use Rattle.avr_model.specs.Assumptions.{is_fixed_site};
 ghost use Rattle.mask_states.specs.Keys.{offset_of};
-ghost use Rattle.local_rules.specs.declared.local.Node.{Node};
 ghost use Rattle.local_rules.specs.declared.local.NodeFault.TheVariants.{Memory};
 ghost use Rattle.local_rules.specs.Raw.{Raw, next};
 ghost use Rattle.local_rules.specs.Registers.{value};
 ghost use Rattle.local_rules.specs.Reads.{pointed};
 ghost use Rattle.local_rules.specs.Writes as writes;
-ghost use Rattle.abs_step.specs.Adding.{Adds, IsGathered, with_another, first_of};
+ghost use Rattle.abs_step.specs.Adding.{Moving, Adds, IsGathered, with_another, first_of};
 
+use crate::moves::Moves;
 use crate::site::Site;
 use crate::stores::{Write, written_at};
 use crate::successors::{add_copy, next};
@@ -19,7 +19,7 @@ use abs_rows::registers::value;
 use abs_state::AbsState;
 use avr_model::instruction::{LowRegister, Register};
 use flash_image::Flash;
-use local_rules::local::{NodeFault, Nodes};
+use local_rules::local::NodeFault;
 use std::alloc::Global;
 use vector_table::Assumptions;
 
@@ -35,13 +35,13 @@ pub fn first(fault: Option<NodeFault>, found: NodeFault) -> NodeFault
 
 // The byte is stored at an address, too, where a fault was found so far or not.
 fn stored_too(
-    nodes: &mut Nodes,
+    nodes: &mut Moves<'_>,
     alloc: Global,
     write: &Write<'_>,
     address: u16,
     fault: Option<NodeFault>,
 ) -> Result<Option<NodeFault>, NodeFault>
-    ensures ok { IfOk result (λ next. (old : List Node) (r : Raw) → IsGathered old nodes.old fault r → IsGathered old nodes.new next (with_another r (writes.written_at write.now.device write.now.pc write.now.key write.now.state.now false address write.now.value))) }
+    ensures ok { IfOk result (λ next. (old : Moving) (r : Raw) → IsGathered old nodes.old fault r → IsGathered old nodes.new next (with_another r (writes.written_at write.now.device write.now.pc write.now.key write.now.state.now false address write.now.value))) }
     ensures err { IfErr result (λ e. e ≡ Memory) }
 {
     match written_at(nodes, alloc, write, false, address) {
@@ -58,7 +58,7 @@ fn stored_too(
 
 // At an unfixed site: one successor in which the byte changes nothing that is known, and those of each listed address that can be met.
 fn listed_writes(
-    nodes: &mut Nodes,
+    nodes: &mut Moves<'_>,
     site: &Site<'_>,
     write: &Write<'_>,
     r: LowRegister,
@@ -90,7 +90,7 @@ fn is_fixed_site(flash: &Flash, assumptions: &Assumptions, pc: u16) -> bool
 
 /// Register `source` is stored through registers `r` and `r + 1` plus a number, as they are before the instruction.
 pub fn pointer_write(
-    nodes: &mut Nodes,
+    nodes: &mut Moves<'_>,
     site: &Site<'_>,
     r: LowRegister,
     up: u16,

@@ -1,26 +1,26 @@
 //! Jump tables: a node at a table site splits by the bytes that r30 may hold, so that the ways to the entries stay apart.
 
-ghost use Rattle.std.specs.Prelude.{◌≡◌, ◌<◌, List, Some, map, IfOk, IfErr};
+ghost use Rattle.std.specs.Prelude.{◌≡◌, ◌<◌, Some, map, IfOk, IfErr};
 ghost use Rattle.avr_model.specs.Image.{WORDS};
-ghost use Rattle.local_rules.specs.declared.local.Node.{Node};
 ghost use Rattle.local_rules.specs.declared.local.NodeFault.TheVariants.{Memory};
 ghost use Rattle.local_rules.specs.Raw.{Raw, all_of};
 ghost use Rattle.local_rules.specs.Local as rows;
-ghost use Rattle.abs_step.specs.Adding.{Adds, IsGathered, with_another};
+ghost use Rattle.abs_step.specs.Adding.{Moving, Adds, IsGathered, plain, with_another};
+ghost use Rattle.pair_cuts.specs.Cuts.{pick_cut};
 ghost use Rattle.abs_step.specs.Leading.{Leads};
 
 use crate::flow::{Outside, staying};
 use crate::instruction::at_instruction;
 use crate::pointer_stores::first;
 use crate::site::Site;
-use crate::successors::changed;
+use crate::successors::copied;
 use abs_reads::pointers::has;
-use abs_rows::registers::{set, value, with_bits};
+use abs_rows::registers::value;
 use abs_state::{AbsByte, AbsState};
 use avr_model::instruction::Register;
-use bit_domain::TriByte;
 use local_rules::local::{NodeFault, Nodes};
 use mask_states::NodeKey;
+use pair_cuts::pick_cut;
 use std::alloc::Global;
 use vector_table::Assumptions;
 
@@ -78,15 +78,16 @@ fn picks(alloc: Global, state: &AbsState) -> Result<Vec<u8>, NodeFault>
     Ok(picks)
 }
 
-// What the node leads to with this byte picked.
+// What the node leads to with this byte picked, where something is left of its state.
+#[tactic(auto, using(crate::proofs::Slots::pick_slots))]
 fn with_pick(nodes: &mut Nodes, site: &Site<'_>, byte: u8) -> Result<Outside, NodeFault>
     requires word { site.now.key.now.pc < WORDS }
-    ensures { Leads nodes.old nodes.new result (rows.row_in site.now.device site.now.flash.now site.now.assumptions.now (rows.picking site.now.key.now byte) (rows.picked site.now.state.now byte)) }
+    ensures { Leads (plain nodes.old) (plain nodes.new) result (rows.picked_row (rows.row_in site.now.device site.now.flash.now site.now.assumptions.now) (rows.picking site.now.key.now byte) (pick_cut byte site.now.state.now)) }
 {
-    let (state, r30) = (site.state, Register::new(30));
-    let index = with_bits(value(state, r30).tag, TriByte::of(byte));
-    let registers = set(&state.registers, r30, index);
-    let picked = changed(site.alloc, state, &registers, state.flags)?;
+    let mut picked = copied(site.alloc, site.state)?;
+    if !pick_cut(&mut picked, byte) {
+        return staying(site.alloc, Ok(()));
+    }
     let key = NodeKey {
         pick: Some(byte),
         ..*site.key
@@ -110,7 +111,7 @@ fn picked_too(
     fault: Option<NodeFault>,
 ) -> Result<Option<NodeFault>, NodeFault>
     requires word { site.now.key.now.pc < WORDS }
-    ensures ok { IfOk result (λ next. (old : List Node) (r : Raw) → IsGathered old nodes.old fault r → IsGathered old nodes.new next (with_another r (rows.row_in site.now.device site.now.flash.now site.now.assumptions.now (rows.picking site.now.key.now byte) (rows.picked site.now.state.now byte)))) }
+    ensures ok { IfOk result (λ next. (old : Moving) (r : Raw) → IsGathered old (plain nodes.old) fault r → IsGathered old (plain nodes.new) next (with_another r (rows.picked_row (rows.row_in site.now.device site.now.flash.now site.now.assumptions.now) (rows.picking site.now.key.now byte) (pick_cut byte site.now.state.now)))) }
     ensures err { IfErr result (λ e. e ≡ Memory) }
 {
     match with_pick(nodes, site, byte) {
@@ -128,7 +129,7 @@ fn picked_too(
 // What the node leads to with each of these bytes picked.
 fn all_picked(nodes: &mut Nodes, site: &Site<'_>, picks: &[u8]) -> Result<(), NodeFault>
     requires word { site.now.key.now.pc < WORDS }
-    ensures { Adds nodes.old nodes.new result (all_of (map (λ byte. rows.row_in site.now.device site.now.flash.now site.now.assumptions.now (rows.picking site.now.key.now byte) (rows.picked site.now.state.now byte)) picks.now)) }
+    ensures { Adds (plain nodes.old) (plain nodes.new) result (all_of (map (λ byte. rows.picked_row (rows.row_in site.now.device site.now.flash.now site.now.assumptions.now) (rows.picking site.now.key.now byte) (pick_cut byte site.now.state.now)) picks.now)) }
 {
     let mut fault: Option<NodeFault> = None;
     for at in 0..picks.len() {
@@ -143,7 +144,7 @@ fn all_picked(nodes: &mut Nodes, site: &Site<'_>, picks: &[u8]) -> Result<(), No
 // The node splits, where the bytes are few enough. `jump` is the word of its `ijmp`.
 fn split(nodes: &mut Nodes, site: &Site<'_>, jump: u16) -> Result<(), NodeFault>
     requires word { site.now.key.now.pc < WORDS }
-    ensures { Adds nodes.old nodes.new result (rows.splitting (Some jump) (rows.row_in site.now.device site.now.flash.now site.now.assumptions.now) site.now.key.now site.now.state.now) }
+    ensures { Adds (plain nodes.old) (plain nodes.new) result (rows.splitting (Some jump) (rows.row_in site.now.device site.now.flash.now site.now.assumptions.now) site.now.key.now site.now.state.now) }
 {
     let picks = picks(site.alloc, site.state)?;
     if picks.len() > MOST_PICKS {
@@ -155,7 +156,7 @@ fn split(nodes: &mut Nodes, site: &Site<'_>, jump: u16) -> Result<(), NodeFault>
 /// What the node leads to: where it splits, all that it would with each byte that r30 may hold.
 pub(crate) fn splitting(nodes: &mut Nodes, site: &Site<'_>) -> Result<Outside, NodeFault>
     requires word { site.now.key.now.pc < WORDS }
-    ensures { Leads nodes.old nodes.new result (rows.splitting (rows.split_site site.now.flash.now site.now.assumptions.now site.now.key.now.pc site.now.key.now.pick) (rows.row_in site.now.device site.now.flash.now site.now.assumptions.now) site.now.key.now site.now.state.now) }
+    ensures { Leads (plain nodes.old) (plain nodes.new) result (rows.splitting (rows.split_site site.now.flash.now site.now.assumptions.now site.now.key.now.pc site.now.key.now.pick) (rows.row_in site.now.device site.now.flash.now site.now.assumptions.now) site.now.key.now site.now.state.now) }
 {
     match split_site(site) {
         Some(jump) => staying(site.alloc, split(nodes, site, jump)),

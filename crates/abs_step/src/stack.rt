@@ -5,14 +5,15 @@ ghost use Rattle.local_rules.specs.declared.local.NodeFault.TheVariants.{Memory}
 ghost use Rattle.local_rules.specs.Flow as flow;
 ghost use Rattle.abs_step.specs.Adding.{Adds};
 
+use crate::moves::Moves;
 use crate::site::Site;
 use crate::stores::with_slots;
-use crate::successors::{add, at_word, copied, next};
+use crate::successors::{at_word, copied, next};
 use abs_reads::reads::slot_value;
 use abs_rows::registers::{set, value};
 use abs_state::{AbsByte, AbsState};
 use avr_model::instruction::Register;
-use local_rules::local::{NodeFault, Nodes};
+use local_rules::local::NodeFault;
 use mask_states::{NodeKey, SpForm};
 use sp_domain::Slot;
 use std::alloc::Global;
@@ -43,7 +44,7 @@ fn with_slot(alloc: Global, state: &AbsState, slot: Slot<AbsByte>) -> Result<Abs
 
 /// `push`: register `r` goes to another slot.
 pub fn push_row(
-    nodes: &mut Nodes,
+    nodes: &mut Moves<'_>,
     site: &Site<'_>,
     scratch: bool,
     r: Register,
@@ -58,8 +59,7 @@ pub fn push_row(
             let slot = pushed_slot(scratch, value(site.state, r));
             let after = with_slot(site.alloc, site.state, slot)?;
             let sp = SpForm::Closed(offset + 1);
-            add(
-                nodes,
+            nodes.add(
                 NodeKey {
                     sp,
                     ..next(site.device, site.key)
@@ -72,15 +72,14 @@ pub fn push_row(
 }
 
 // The byte in slot n, which is the last, is popped into register `d`.
-fn pop_from(nodes: &mut Nodes, site: &Site<'_>, d: Register, n: u16) -> Result<(), NodeFault>
+fn pop_from(nodes: &mut Moves<'_>, site: &Site<'_>, d: Register, n: u16) -> Result<(), NodeFault>
     requires { length site.now.state.now.slots ≡ suc n }
     ensures { Adds nodes.old nodes.new result (flow.popping site.now.device site.now.key.now site.now.state.now d (suc n)) }
 {
     let mut after = with_slots(site.alloc, site.state, n)?;
     after.registers = set(&site.state.registers, d, slot_value(site.state, n));
     let sp = SpForm::Closed(n);
-    let added = add(
-        nodes,
+    let added = nodes.add(
         NodeKey {
             sp,
             ..next(site.device, site.key)
@@ -91,7 +90,7 @@ fn pop_from(nodes: &mut Nodes, site: &Site<'_>, d: Register, n: u16) -> Result<(
 }
 
 /// `pop`: register `d` gets the byte in the last slot, which goes.
-pub fn pop_row(nodes: &mut Nodes, site: &Site<'_>, d: Register) -> Result<(), NodeFault>
+pub fn pop_row(nodes: &mut Moves<'_>, site: &Site<'_>, d: Register) -> Result<(), NodeFault>
     ensures { Adds nodes.old nodes.new result (flow.at_closed site.now.key.now.sp site.now.key.now.pc (flow.popping site.now.device site.now.key.now site.now.state.now d)) }
 {
     match site.key.sp {
@@ -106,7 +105,7 @@ pub fn pop_row(nodes: &mut Nodes, site: &Site<'_>, d: Register) -> Result<(), No
 }
 
 /// A call of the next word makes room for two bytes, and stays in its frame.
-pub fn room_row(nodes: &mut Nodes, site: &Site<'_>, target: u16) -> Result<(), NodeFault>
+pub fn room_row(nodes: &mut Moves<'_>, site: &Site<'_>, target: u16) -> Result<(), NodeFault>
     ensures { Adds nodes.old nodes.new result (flow.at_closed site.now.key.now.sp site.now.key.now.pc (flow.making_room site.now.device site.now.key.now site.now.state.now target)) }
 {
     match site.key.sp {
@@ -119,7 +118,7 @@ pub fn room_row(nodes: &mut Nodes, site: &Site<'_>, target: u16) -> Result<(), N
             let two = with_slot(site.alloc, &one, Slot::Free)?;
             let sp = SpForm::Closed(offset + 2);
             let after = at_word(site.key, target);
-            add(nodes, NodeKey { sp, ..after }, two)
+            nodes.add(NodeKey { sp, ..after }, two)
         }
         SpForm::Open(_, _) => Err(NodeFault::UntrackedSp(site.key.pc)),
     }

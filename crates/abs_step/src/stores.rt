@@ -1,6 +1,7 @@
 //! Writes to data space: what a byte changes that is written to a known address.
 
 ghost use Rattle.std.specs.Prelude.{◌≡◌, ◌∷◌, [], length, map, IfOk, IfErr};
+ghost use Rattle.avr_model.specs.Written.{bits_of};
 ghost use Rattle.bit_domain.specs.TriByte.{tri_at};
 ghost use Rattle.sp_domain.specs.Slots.{resized};
 ghost use Rattle.mask_states.specs.Keys.{offset_of};
@@ -10,16 +11,17 @@ ghost use Rattle.local_rules.specs.Registers.{forgotten};
 ghost use Rattle.local_rules.specs.Writes as writes;
 ghost use Rattle.abs_step.specs.Adding.{Adds};
 
-use crate::successors::{add, add_copy, add_two, changed, copied};
+use crate::moves::Moves;
+use crate::successors::{add_copy, add_two, changed, copied};
 use abs_reads::stack_pointer::{closing_offset, high_part};
 use abs_rows::bits::I;
 use abs_rows::registers::{set, with_bits};
 use abs_rows::status::flags_written;
-use abs_state::{AbsByte, AbsFlags, AbsState};
+use abs_state::{AbsByte, AbsFlags, AbsState, end_facts, hull_written};
 use avr_model::device::{Device, REGISTERS_END, SPH, SPL, SREG};
 use avr_model::instruction::Register;
 use bit_domain::Tri;
-use local_rules::local::{NodeFault, Nodes};
+use local_rules::local::NodeFault;
 use mask_states::{High, NodeKey, SpForm, split};
 use sp_domain::CarryTag;
 use std::alloc::Global;
@@ -43,7 +45,7 @@ pub struct Write<'a> {
 
 // A write of the high byte of the stack pointer.
 fn opening(
-    nodes: &mut Nodes,
+    nodes: &mut Moves<'_>,
     alloc: Global,
     high: Option<High>,
     write: &Write<'_>,
@@ -74,7 +76,7 @@ pub fn with_slots(alloc: Global, state: &AbsState, count: u16) -> Result<AbsStat
 
 // A write of its low byte.
 fn closing(
-    nodes: &mut Nodes,
+    nodes: &mut Moves<'_>,
     alloc: Global,
     offset: Option<u16>,
     write: &Write<'_>,
@@ -88,7 +90,7 @@ fn closing(
             }
             let after = with_slots(alloc, write.state, n)?;
             let sp = SpForm::Closed(n);
-            add(nodes, NodeKey { sp, ..write.key }, after)
+            nodes.add(NodeKey { sp, ..write.key }, after)
         }
         None => Err(NodeFault::UntrackedSp(write.pc)),
     }
@@ -107,7 +109,7 @@ fn with_i(key: &NodeKey, is_out: bool, on: bool) -> NodeKey
 
 // A write of the status register: one successor for each value of I that is permitted.
 fn sreg_written(
-    nodes: &mut Nodes,
+    nodes: &mut Moves<'_>,
     alloc: Global,
     i: Tri,
     key: &NodeKey,
@@ -128,7 +130,7 @@ fn sreg_written(
 
 // One successor for each of these enable bits.
 fn add_masks(
-    nodes: &mut Nodes,
+    nodes: &mut Moves<'_>,
     alloc: Global,
     write: &Write<'_>,
     all: &[Masks],
@@ -144,7 +146,7 @@ fn add_masks(
 
 // One successor for each value of the enable bits that is permitted.
 fn masks_written(
-    nodes: &mut Nodes,
+    nodes: &mut Moves<'_>,
     alloc: Global,
     write: &Write<'_>,
     address: u16,
@@ -173,7 +175,7 @@ fn forgotten(carry: CarryTag, d: Register) -> CarryTag
 
 // A write of a register by its address: it gets the byte's bits and tag.
 fn register_written(
-    nodes: &mut Nodes,
+    nodes: &mut Moves<'_>,
     alloc: Global,
     write: &Write<'_>,
     d: Register,
@@ -187,22 +189,32 @@ fn register_written(
         carry: forgotten(state.flags.carry, d),
         ..state.flags
     };
-    let after = changed(alloc, state, &registers, flags)?;
-    let added = add(nodes, write.key, after)?;
+    let mut after = changed(alloc, state, &registers, flags)?;
+    end_facts(&mut after.facts, set_of(d), false, false);
+    hull_written(&mut after.facts, &registers, usize::from(d.get()));
+    let added = nodes.add(write.key, after)?;
     Ok(added)
+}
+
+// The set of one register, as a bit.
+fn set_of(d: Register) -> u32
+    ensures { result ≡ bits_of (d ∷ []) }
+{
+    1u32 << d.get()
 }
 
 // A write of the status register by its address.
 fn flags_set(
-    nodes: &mut Nodes,
+    nodes: &mut Moves<'_>,
     alloc: Global,
     write: &Write<'_>,
     is_out: bool,
 ) -> Result<(), NodeFault>
-    ensures { Adds nodes.old nodes.new result (writes.sreg_written (tri_at write.now.value.bits 7) write.now.key (record write.now.state.now { flags = writes.flags_written write.now.value }) is_out) }
+    ensures { Adds nodes.old nodes.new result (writes.sreg_written (tri_at write.now.value.bits 7) write.now.key (writes.put_flags write.now.state.now (writes.flags_written write.now.value)) is_out) }
 {
     let (state, value) = (write.state, write.value);
-    let after = changed(alloc, state, &state.registers, flags_written(value))?;
+    let mut after = changed(alloc, state, &state.registers, flags_written(value))?;
+    end_facts(&mut after.facts, 0, true, true);
     let added = sreg_written(nodes, alloc, value.bits.bit(I), &write.key, &after, is_out)?;
     Ok(added)
 }
@@ -210,7 +222,7 @@ fn flags_set(
 /// A byte is written to a known address, by `out` or otherwise.
 #[tactic(auto, unfolding(local_rules::specs::Writes::written_at))]
 pub fn written_at(
-    nodes: &mut Nodes,
+    nodes: &mut Moves<'_>,
     alloc: Global,
     write: &Write<'_>,
     is_out: bool,

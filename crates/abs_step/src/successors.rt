@@ -8,12 +8,13 @@ ghost use Rattle.local_rules.specs.Raw as raw;
 ghost use Rattle.local_rules.specs.Flow as flow;
 ghost use Rattle.abs_step.specs.Adding.{Adds};
 
+use crate::moves::Moves;
 use crate::site::Site;
 use abs_reads::flow::further;
 use abs_state::{AbsByte, AbsFlags, AbsState};
 use avr_model::device::Device;
 use bit_domain::Tri;
-use local_rules::local::{Node, NodeFault, Nodes};
+use local_rules::local::NodeFault;
 use mask_states::NodeKey;
 use std::alloc::Global;
 
@@ -38,13 +39,14 @@ pub fn changed(
     ensures ok { IfOk result (λ s. s ≡ record state.now { registers = registers.now; flags = flags }) }
     ensures err { IfErr result (λ e. e ≡ Memory) }
 {
-    match state.slots.copy(alloc) {
-        Ok(slots) => Ok(AbsState {
+    match (state.slots.copy(alloc), state.facts.copy(alloc)) {
+        (Ok(slots), Ok(facts)) => Ok(AbsState {
             registers: *registers,
             flags,
             slots,
+            facts,
         }),
-        Err(_) => Err(NodeFault::Memory),
+        _ => Err(NodeFault::Memory),
     }
 }
 
@@ -78,21 +80,9 @@ pub fn next(device: Device, key: &NodeKey) -> NodeKey
     at_word(key, further(device, key, 1))
 }
 
-/// One node.
-#[tactic(auto, using(crate::proofs::Added::adding))]
-pub fn add(nodes: &mut Nodes, key: NodeKey, state: AbsState) -> Result<(), NodeFault>
-    requires { length state.slots ≡ offset_of key.sp }
-    ensures { Adds nodes.old nodes.new result (one key state) }
-{
-    match nodes.place(Node { key, state }) {
-        Ok(()) => Ok(()),
-        Err(_) => Err(NodeFault::Memory),
-    }
-}
-
 /// One node with this state.
 pub fn add_copy(
-    nodes: &mut Nodes,
+    nodes: &mut Moves<'_>,
     alloc: Global,
     key: NodeKey,
     state: &AbsState,
@@ -101,13 +91,13 @@ pub fn add_copy(
     ensures { Adds nodes.old nodes.new result (one key state.now) }
 {
     let copy = copied(alloc, state)?;
-    let added = add(nodes, key, copy)?;
+    let added = nodes.add(key, copy)?;
     Ok(added)
 }
 
 /// Two nodes with this state.
 pub fn add_two(
-    nodes: &mut Nodes,
+    nodes: &mut Moves<'_>,
     alloc: Global,
     first: NodeKey,
     second: NodeKey,
@@ -123,14 +113,14 @@ pub fn add_two(
 }
 
 /// Going on at another word.
-pub fn going_to(nodes: &mut Nodes, site: &Site<'_>, pc: u16) -> Result<(), NodeFault>
+pub fn going_to(nodes: &mut Moves<'_>, site: &Site<'_>, pc: u16) -> Result<(), NodeFault>
     ensures { Adds nodes.old nodes.new result (raw.going_to site.now.key.now site.now.state.now pc) }
 {
     add_copy(nodes, site.alloc, at_word(site.key, pc), site.state)
 }
 
 // Going on at another word, off a jump table.
-fn turning_to(nodes: &mut Nodes, site: &Site<'_>, pc: u16) -> Result<(), NodeFault>
+fn turning_to(nodes: &mut Moves<'_>, site: &Site<'_>, pc: u16) -> Result<(), NodeFault>
     ensures { Adds nodes.old nodes.new result (raw.turning_to site.now.key.now site.now.state.now pc) }
 {
     add_copy(nodes, site.alloc, off_table(site.key, pc), site.state)
@@ -138,7 +128,7 @@ fn turning_to(nodes: &mut Nodes, site: &Site<'_>, pc: u16) -> Result<(), NodeFau
 
 /// Going on at the next word with these registers and flags.
 pub fn setting(
-    nodes: &mut Nodes,
+    nodes: &mut Moves<'_>,
     site: &Site<'_>,
     registers: &[AbsByte; 32],
     flags: AbsFlags,
@@ -146,13 +136,13 @@ pub fn setting(
     ensures { Adds nodes.old nodes.new result (raw.setting site.now.device site.now.key.now site.now.state.now registers.now flags) }
 {
     let after = changed(site.alloc, site.state, registers, flags)?;
-    let added = add(nodes, next(site.device, site.key), after)?;
+    let added = nodes.add(next(site.device, site.key), after)?;
     Ok(added)
 }
 
 /// One successor where the condition is known, else two.
 pub fn branch(
-    nodes: &mut Nodes,
+    nodes: &mut Moves<'_>,
     site: &Site<'_>,
     condition: Tri,
     taken: u16,

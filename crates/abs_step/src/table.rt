@@ -14,6 +14,7 @@ use crate::flow::{
     Outside, branch_where_clear, branch_where_set, calling, indirect_call, jumping, relative_call,
     returning, skipping, staying,
 };
+use crate::moves::Moves;
 use crate::pointer_stores::pointer_write;
 use crate::site::Site;
 use crate::stack::{pop_row, push_row};
@@ -24,11 +25,11 @@ use abs_rows::rows::{binary_at, computed_by};
 use abs_rows::transfer::{base_register, pair_moved, pointer_moved, pointer_register};
 use avr_decode::{far, near};
 use avr_model::instruction::{Base, BinaryOp, Instr, Register};
-use local_rules::local::{Exit, NodeFault, Nodes};
+use local_rules::local::{Exit, NodeFault};
 
 // Flow, and what has no operand.
 fn flow_row(
-    nodes: &mut Nodes,
+    nodes: &mut Moves<'_>,
     site: &Site<'_>,
     scratch: bool,
     instr: &Instr,
@@ -82,7 +83,7 @@ fn flow_row(
 
 // Loads, stores and I/O.
 fn memory_row(
-    nodes: &mut Nodes,
+    nodes: &mut Moves<'_>,
     site: &Site<'_>,
     scratch: bool,
     instr: &Instr,
@@ -138,7 +139,7 @@ fn memory_row(
 
 // What is done to two registers. `cpse` alone skips, where they are equal.
 fn binary_row(
-    nodes: &mut Nodes,
+    nodes: &mut Moves<'_>,
     site: &Site<'_>,
     op: BinaryOp,
     d: Register,
@@ -156,7 +157,7 @@ fn binary_row(
 
 // The rows that may do more than set registers and flags.
 fn other_row(
-    nodes: &mut Nodes,
+    nodes: &mut Moves<'_>,
     site: &Site<'_>,
     scratch: bool,
     instr: &Instr,
@@ -175,7 +176,7 @@ fn other_row(
 
 /// Where an instruction leads: nodes are put into the list, and what leaves the instance is told.
 pub(crate) fn row(
-    nodes: &mut Nodes,
+    nodes: &mut Moves<'_>,
     site: &Site<'_>,
     scratch: bool,
     instr: &Instr,

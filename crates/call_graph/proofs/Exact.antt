@@ -11,7 +11,7 @@ use Rattle.edge_laws.proofs.AllLaws.{part_of as whole}
 use Rattle.avr_model.specs.declared.assumption.Entry.{Entry}
 use Rattle.avr_model.specs.Vectors.{is_enabled, WATCHDOG}
 use Rattle.abs_state.specs.declared.state.AbsState.{AbsState}
-use Rattle.abs_state.specs.Frames.{returned}
+use Rattle.abs_state.specs.PairsBack.{returned}
 use Rattle.mask_states.specs.declared.keys.NodeKey.{NodeKey}
 use Rattle.mask_states.specs.declared.keys.InstKey.{InstKey}
 use Rattle.mask_states.specs.declared.keys.EdgeKind.{EdgeKind}

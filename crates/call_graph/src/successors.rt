@@ -51,10 +51,11 @@ fn add_entries(
     ensures { OnOk result (edges.new ≡ edges.old ++ map (entry_edge state.now) ways.now) }
 {
     for at in 0..ways.len() {
+        let state = state.entered(alloc)?;
         edges.push(Edge {
             kind: ways[at].kind,
             to: NodeKey::entry(&ways[at].inst),
-            state: state.entered(alloc),
+            state,
         })?;
     }
     Ok(())

@@ -5,11 +5,10 @@ use Rattle.std.specs.Fmt.{decimal}
 use Rattle.std.proofs.lemmas.List.{append-nil}
 use Rattle.std.proofs.lemmas.Option.{cond_some}
 use Rattle.local_rules.specs.Cover.{IsKey}
-use Rattle.indirect_targets.proofs.AllLaws.{map_some}
 use Rattle.avr_model.specs.State.{SIZE}
 use Rattle.line_reading.specs.Reading.{dec_at, word_at, is_over}
 use Rattle.line_reading.specs.Words.{IsWord, WordLaws}
-use Rattle.line_reading.proofs.AllLaws.{bind_some, no_words}
+use Rattle.line_reading.proofs.AllLaws.{map_some, bind_some, no_words}
 use Rattle.mask_states.specs.declared.keys.InstKey.{InstKey}
 use Rattle.mask_states.specs.declared.keys.NodeKey.{NodeKey}
 use Rattle.mask_states.specs.Keys.{offset_of}

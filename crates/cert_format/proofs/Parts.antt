@@ -17,7 +17,7 @@ use Rattle.sb_base.specs.declared.digits.DigitFault.TheVariants.{WrongLength, Ba
 use Rattle.sb_base.specs.Lines.{TextLine, Place, Lacks, lines_of, words_of, spaced, line}
 use Rattle.line_reading.specs.Reading.{dec_at, word_at, is_over, number_and, this_by, line_by}
 use Rattle.line_reading.specs.Words.{IsWord, whole, sizes, Passes, WordLaws}
-use Rattle.line_reading.proofs.AllLaws.{bind_some, no_words, line_takes, line_again, passes_more, passes_split, sizes_append}
+use Rattle.line_reading.proofs.AllLaws.{bind_some, no_words, line_takes, line_again, passes_more, passes_split, sizes_append, number_of}
 use Rattle.witness_replay.specs.Spelling.{Plan, IsSchedule, schedule_lines, text_of as schedule_text}
 use Rattle.witness_replay.specs.Reading.{schedule_at}
 use Rattle.witness_replay.specs.Exact.{TextIsReading, ReadIsSpelled as ScheduleIsSpelled, SpelledIsRead as ScheduleIsRead}
@@ -28,7 +28,7 @@ use Rattle.certificate.specs.declared.version.Version.{Version}
 use Rattle.certificate.specs.declared.version.Version.TheVariants.{One, Two}
 use Rattle.cert_words.specs.Text.{numbered, version_line, heading, open_line, attained_line, witness_lines, end_line}
 use Rattle.cert_format.specs.Reading.{formed, numbered_in, numbered_by, counted, count_at, count_in, count_by, limited, version_by, ending_by, items_from, heading_at, plan_if, witness_at, if_last, end_at}
-use Rattle.cert_words.proofs.AllLaws.{same_text, word_take, dec_take, number_of}
+use Rattle.cert_words.proofs.AllLaws.{same_text, word_take, dec_take}
 use Rattle.cert_format.proofs.Lists.{ok_is, err_ok, then_ok, formed_ok, Admitted, Steady, Spells, Reads, items_take, items_again}
 
 -- ---- places

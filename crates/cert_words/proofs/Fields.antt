@@ -8,13 +8,12 @@ use Rattle.std.proofs.lemmas.List.{append-nil}
 use Rattle.std.proofs.lemmas.Slice.Eq.{bytes_eq-Decides}
 use Rattle.std.proofs.lemmas.Option.{cond_some, same_Some as some_is, none-some}
 use Rattle.basics.specs.Lists.{same_head_and_tail}
-use Rattle.indirect_targets.proofs.AllLaws.{map_some}
 use Rattle.sb_base.specs.Digits.{hex_digits}
-use Rattle.line_reading.specs.Reading.{hex_at, dec_at, word_at}
+use Rattle.line_reading.specs.Reading.{hex_at, dec_at, word_at, word_by}
 use Rattle.line_reading.specs.Words.{IsWord, WordLaws}
-use Rattle.line_reading.proofs.AllLaws.{bind_some}
+use Rattle.line_reading.proofs.AllLaws.{bind_some, map_some}
 use Rattle.witness_replay.specs.Spelling.{bit}
-use Rattle.cert_words.specs.KeyReading.{word_by, words_from, masks_at, flag_at}
+use Rattle.cert_words.specs.KeyReading.{words_from, masks_at, flag_at}
 
 pub same_text : (t : List ℕ) → bytes_eq t t ≡ true
 same_text t = (bytes_eq-Decides t t).1 refl

@@ -9,21 +9,19 @@ use Rattle.std.proofs.lemmas.Slice.Eq.{bytes_eq-Decides}
 use Rattle.std.proofs.lemmas.Option.{cond_some, same_Some, none-some}
 use Rattle.basics.specs.Lists.{chosen, same_head_and_tail}
 use Rattle.witness_replay.proofs.Runs.{bit_word}
-use Rattle.indirect_targets.proofs.AllLaws.{map_some}
 use Rattle.sb_base.specs.Digits.{hex_digits}
-use Rattle.line_reading.specs.Reading.{hex_at, dec_at}
+use Rattle.line_reading.specs.Letters.{letter_at}
+use Rattle.line_reading.specs.Reading.{hex_at, dec_at, word_by}
 use Rattle.line_reading.specs.Words.{IsWord, WordLaws}
-use Rattle.line_reading.proofs.AllLaws.{bind_some}
+use Rattle.line_reading.proofs.AllLaws.{bind_some, map_some, letter_take}
 use Rattle.witness_replay.specs.Spelling.{bit}
 use Rattle.mask_states.specs.declared.keys.Kind.{Kind}
 use Rattle.mask_states.specs.declared.keys.Kind.TheVariants.{Root, Call, Vector}
 use Rattle.mask_states.specs.declared.keys.InstKey.{InstKey}
 use Rattle.certificate.specs.Insts.{is_vector_word, fits_kind}
 use Rattle.cert_words.specs.KeySpelling.{kind_word, inst_key_words}
-use Rattle.cert_words.specs.Reading.{letter_at}
-use Rattle.cert_words.specs.KeyReading.{word_by, masks_at, flag_at, vector_in, kind_in, inst_key_at}
+use Rattle.cert_words.specs.KeyReading.{masks_at, flag_at, vector_in, kind_in, inst_key_at}
 use Rattle.cert_words.specs.KeyLaws.{IsInstKey, InstKeyWords}
-use Rattle.cert_words.proofs.Pieces.{letter_take}
 use Rattle.cert_words.proofs.Words.{joined_word}
 use Rattle.cert_words.proofs.Fields.{hex_take, dec_take, masks_take, masks_again, flag_take, flag_again, word_by_take}
 

@@ -7,4 +7,3 @@ pub mod NodeKeys
 pub mod States
 pub mod Places
 pub mod AllLaws
-pub mod Digits

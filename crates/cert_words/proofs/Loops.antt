@@ -3,8 +3,8 @@ use Rattle.std.proofs.Common.{ℕ, suc, ◌+◌, ◌-◌, ◌<◌, ◌≤◌, �
 use Rattle.std.proofs.lemmas.List.{append-nil}
 use Rattle.std.proofs.Math.Seq.{take-append_seam}
 use Rattle.basics.specs.Numbers.{one_of_the_rest}
-use Rattle.line_reading.specs.Reading.{◌>>=◌}
-use Rattle.cert_words.specs.KeyReading.{word_by, words_from}
+use Rattle.line_reading.specs.Reading.{◌>>=◌, word_by}
+use Rattle.cert_words.specs.KeyReading.{words_from}
 
 one_word : {A : Type 0} (f : List ℕ → Option A) (front : List A) (n : ℕ) (ws : List (List ℕ)) (d : Option (A × List (List ℕ))) → word_by f ws ≡ d
     → words_from f front (suc n) ws ≡ (d >>= λ x. words_from f (front ++ x.0 ∷ []) n x.1)

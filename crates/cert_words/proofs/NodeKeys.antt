@@ -7,13 +7,12 @@ use Rattle.std.proofs.lemmas.Slice.Eq.{bytes_eq-Decides}
 use Rattle.std.proofs.lemmas.Option.{cond_some, same_Some as some_is}
 use Rattle.basics.specs.Lists.{chosen, same_head_and_tail}
 use Rattle.witness_replay.proofs.Runs.{bit_word}
-use Rattle.indirect_targets.proofs.AllLaws.{map_some}
 use Rattle.avr_model.specs.Image.{WORDS}
 use Rattle.avr_model.specs.State.{SIZE}
 use Rattle.sb_base.specs.Digits.{hex_digits}
-use Rattle.line_reading.specs.Reading.{hex_at}
+use Rattle.line_reading.specs.Reading.{hex_at, word_by}
 use Rattle.line_reading.specs.Words.{IsWord, WordLaws}
-use Rattle.line_reading.proofs.AllLaws.{bind_some}
+use Rattle.line_reading.proofs.AllLaws.{bind_some, map_some, length_hex}
 use Rattle.witness_replay.specs.Spelling.{bit}
 use Rattle.mask_states.specs.declared.keys.Kind.{Kind}
 use Rattle.mask_states.specs.declared.keys.Kind.TheVariants.{Root, Call, Vector}
@@ -31,11 +30,10 @@ use Rattle.certificate.specs.Versions.{PickIsOf}
 use Rattle.cert_words.specs.Spelling.{form_word}
 use Rattle.cert_words.specs.KeySpelling.{pick_word, pick_words, place_words}
 use Rattle.cert_words.specs.Reading.{form_in}
-use Rattle.cert_words.specs.KeyReading.{word_by, masks_at, flag_at, is_root, pick_in, pick_at, node_key_at}
+use Rattle.cert_words.specs.KeyReading.{masks_at, flag_at, is_root, pick_in, pick_at, node_key_at}
 use Rattle.cert_words.specs.Fits.{IsHigh, IsForm}
 use Rattle.cert_words.specs.Laws.{ValueWords}
 use Rattle.cert_words.specs.KeyLaws.{IsPlace, PlaceWords}
-use Rattle.cert_words.proofs.Pieces.{length_hex}
 use Rattle.cert_words.proofs.Fields.{hex_take, masks_take, masks_again, flag_take, flag_again, word_by_take}
 use Rattle.cert_words.proofs.InstKeys.{cons}
 

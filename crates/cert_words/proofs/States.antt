@@ -1,5 +1,5 @@
 -- The form of a node: what is read is spelled so, and what is spelled is read.
-use Rattle.std.proofs.Common.{ℕ, ◌<◌, ◌≤◌, ◌≡◌, inl, inr, List, [], ◌∷◌, ◌++◌, length, length-append, map, codes, Bool, true, false, refl, ap, ap₂, sym, ◌∙◌, arith, Some, nat_lt, subst, lit<, append_assoc}
+use Rattle.std.proofs.Common.{ℕ, ◌<◌, ◌≤◌, ◌≡◌, inl, inr, List, [], ◌∷◌, ◌++◌, length, length-append, map, codes, Bool, true, false, refl, ap, ap₂, sym, ◌∙◌, arith, Option, Some, None, nat_lt, subst, lit<, append_assoc}
 use Rattle.std.specs.List.{AllByRecursion}
 use Rattle.std.specs.Str.{bytes_eq}
 use Rattle.std.proofs.lemmas.Bool.Decides.{nat_tests}
@@ -8,20 +8,23 @@ use Rattle.std.proofs.lemmas.List.Elements.{All-from_recursion, recursion_from_A
 use Rattle.std.proofs.lemmas.Slice.Eq.{bytes_eq-Decides}
 use Rattle.std.proofs.lemmas.Option.{cond_some, same_Some as some_is, none-some}
 use Rattle.basics.specs.Lists.{chosen}
-use Rattle.indirect_targets.proofs.AllLaws.{map_some}
 use Rattle.sb_base.specs.Digits.{hex_digits}
-use Rattle.line_reading.specs.Reading.{◌>>=◌, dec_at}
+use Rattle.line_reading.specs.Reading.{◌>>=◌, dec_at, word_by}
 use Rattle.line_reading.specs.Words.{IsWord, WordLaws}
-use Rattle.line_reading.proofs.AllLaws.{bind_some}
+use Rattle.line_reading.proofs.AllLaws.{bind_some, length_hex, map_some}
 use Rattle.sp_domain.specs.declared.tags.Tag.{Tag}
 use Rattle.sp_domain.specs.declared.tags.Tag.TheVariants as tag
 use Rattle.sp_domain.specs.declared.slots.Slot.{Slot}
 use Rattle.sp_domain.specs.declared.slots.Slot.TheVariants.{Free, Guarded}
 use Rattle.sp_domain.specs.Slots.{slot_at}
+use Rattle.pair_domain.specs.declared.facts.PairFacts.{PairFacts}
+use Rattle.pair_domain.specs.Facts.{is_followed}
+use Rattle.pair_domain.specs.Rank.{KnownFits}
 use Rattle.abs_state.specs.declared.values.AbsByte.{AbsByte}
 use Rattle.abs_state.specs.declared.values.AbsFlags.{AbsFlags}
 use Rattle.abs_state.specs.declared.state.AbsState.{AbsState}
 use Rattle.abs_state.specs.Values.{unknown}
+use Rattle.abs_state.specs.Hulls.{AreInHulls}
 use Rattle.abs_state.specs.Formed.{SlotNamesRegister, SlotByteFits, SlotIsUntagged, IsFormed, IsUntagged}
 use Rattle.mask_states.specs.declared.keys.Kind.{Kind}
 use Rattle.mask_states.specs.declared.keys.Kind.TheVariants.{Root, Call, Vector}
@@ -36,11 +39,10 @@ use Rattle.certificate.specs.Versions.{ValueIsOf, SlotIsOf, StateIsOf, FormIsOf}
 use Rattle.cert_words.specs.Spelling.{value_word, flags_word, carry_word, slot_word, tag_text, bits_text, range_text}
 use Rattle.cert_words.specs.KeySpelling.{state_words, form_words}
 use Rattle.cert_words.specs.Reading.{value_in, slot_in, flags_in, carry_in}
-use Rattle.cert_words.specs.KeyReading.{word_by, words_from, is_root, flags_at, state_behind, by_state, from_behind, form_at}
+use Rattle.cert_words.specs.KeyReading.{words_from, is_root, flags_at, state_behind, by_state, from_behind, form_at}
 use Rattle.cert_words.specs.Fits.{IsValue, AreFlags, IsCarry, IsSlot}
 use Rattle.cert_words.specs.Laws.{ValueWords}
 use Rattle.cert_words.specs.KeyLaws.{FormWords}
-use Rattle.cert_words.proofs.Pieces.{length_hex}
 use Rattle.cert_words.proofs.Fields.{dec_take, word_by_take, words_take, words_again, words_plain, joined_words}
 use Rattle.cert_words.proofs.InstKeys.{cons}
 
@@ -53,6 +55,7 @@ pub record HasParts (version : Version) (root : Bool) (offset : ℕ) (s : AbsSta
   pub carry_fits : IsCarry version root s.flags.carry
   pub count_slots : length s.slots ≡ offset
   pub slots : AllByRecursion (λ t. IsSlot version root t) s.slots
+  pub plain : s.facts ≡ None
 
 slot_names : (version : Version) (root : Bool) (t : Slot AbsByte) → IsSlot version root t → SlotNamesRegister t
 slot_names version root Free h = tt
@@ -95,6 +98,7 @@ formed_by version root offset s h =
       carry = h.carry_fits.names;
       ranges = λ r l. (rs r unknown (omega (arith, h.count_registers, l))).range;
       slot_ranges = λ d l. slot_range version root (slot_at s.slots d) (ss d Free l);
+      facts = subst KnownFits (sym h.plain) tt;
     }
 
 tags_by : (version : Version) (root : Bool) (offset : ℕ) (s : AbsState) → HasParts version root offset s → TagsFit s
@@ -124,8 +128,8 @@ of_version_by version root offset s h = record {
   slots = all_say (λ t. IsSlot version root t) (λ t. SlotIsOf version t) (slot_of_version version root) s.slots h.slots;
 }
 
-parts_by : (version : Version) (root : Bool) (offset : ℕ) (s : AbsState) → IsFormed s offset → TagsFit s → IsCarry version root s.flags.carry → (root ≡ true → IsUntagged s) → StateIsOf version s → HasParts version root offset s
-parts_by version root offset s f t c u o =
+parts_by : (version : Version) (root : Bool) (offset : ℕ) (s : AbsState) → IsFormed s offset → TagsFit s → IsCarry version root s.flags.carry → (root ≡ true → IsUntagged s) → s.facts ≡ None → StateIsOf version s → HasParts version root offset s
+parts_by version root offset s f t c u plain o =
     let vs = All-from_recursion (λ (v : AbsByte). ValueIsOf version v) s.registers o.registers in
     let ts = All-from_recursion (λ (x : Slot AbsByte). SlotIsOf version x) s.slots o.slots in
     record {
@@ -141,6 +145,7 @@ parts_by version root offset s f t c u o =
       slots = recursion_from_All (λ (x : Slot AbsByte). IsSlot version root x) s.slots (λ i d l.
           let P : Slot AbsByte → Type 0 = λ x. IsSlot version root x in
           subst P (get_or_default s.slots i Free d l) (slot_is version root (slot_at s.slots i) (f.slots i l) (t.slots i l) (λ e. (u e).slots i l) (f.slot_ranges i l) (ts i Free l)));
+      plain = plain;
     }
 
 -- ---- the state's words
@@ -184,17 +189,17 @@ state_take v version root offset first ws z h e =
     let count : length (first ∷ rs.items) ≡ 32 = omega (arith, rs.number) in
     let a = subst R (sym rs.all) (count, (h, rs.fit), ap (cons (value_word version first)) rs.words) in
     let b = subst S (sym ss.all) (ss.number, ss.fit, ss.words) in
-    subst P (some_is {A = AbsState × List (List ℕ)} (record { registers = r.0.0; flags = f.0.0; slots = s.0.0 }, s.0.1) z s.2) (record {
+    subst P (some_is {A = AbsState × List (List ℕ)} (record { registers = r.0.0; flags = f.0.0; slots = s.0.0; facts = None }, s.0.1) z s.2) (record {
       words = a.2 ∙ ap (λ (xs : List (List ℕ)). map (value_word version) r.0.0 ++ xs) (fs.0 ∙ ap (λ (xs : List (List ℕ)). flags_word f.0.0.entry f.0.0.bits ∷ carry_word f.0.0.carry ∷ xs) b.2)
           ∙ sym (append_assoc (map (value_word version) r.0.0) (flags_word f.0.0.entry f.0.0.bits ∷ carry_word f.0.0.carry ∷ map (slot_word version) s.0.0) s.0.1);
-      parts = record { count_registers = a.0; registers = a.1; flags = fs.1; carry_fits = fs.2; count_slots = b.0; slots = b.1 };
+      parts = record { count_registers = a.0; registers = a.1; flags = fs.1; carry_fits = fs.2; count_slots = b.0; slots = b.1; plain = refl };
     })
 
 abbrev behind_registers : Version → AbsFlags → List (Slot AbsByte) → List (List ℕ)
 behind_registers version f slots = flags_word f.entry f.bits ∷ carry_word f.carry ∷ map (slot_word version) slots
 
-state_again : ValueWords → (version : Version) (root : Bool) (offset : ℕ) (first : AbsByte) (more : List AbsByte) (f : AbsFlags) (slots : List (Slot AbsByte)) → HasParts version root offset (record { registers = first ∷ more; flags = f; slots = slots })
-    → state_behind version root offset first (map (value_word version) more ++ behind_registers version f slots) ≡ Some (record { registers = first ∷ more; flags = f; slots = slots }, [])
+state_again : ValueWords → (version : Version) (root : Bool) (offset : ℕ) (first : AbsByte) (more : List AbsByte) (f : AbsFlags) (slots : List (Slot AbsByte)) → HasParts version root offset (record { registers = first ∷ more; flags = f; slots = slots; facts = None })
+    → state_behind version root offset first (map (value_word version) more ++ behind_registers version f slots) ≡ Some (record { registers = first ∷ more; flags = f; slots = slots; facts = None }, [])
 unfolding state_behind
 state_again v version root offset first more f slots h =
     let rs =
@@ -234,13 +239,19 @@ node_kept version key s h parts = record {
   tags = tags_by version (is_root key.inst.kind) (offset_of key.sp) s parts;
   carry_bytes = parts.carry_fits.bytes;
   untagged = λ e. let P : Bool → Type 0 = λ r. HasParts version r (offset_of key.sp) s in untagged_by version (offset_of key.sp) s (subst P (root_kind key.inst.kind e) parts);
+  mode = ap is_followed parts.plain;
+  hulls = subst (AreInHulls s.registers) (sym parts.plain) tt;
 }
+
+not_followed : (x : Option PairFacts) → is_followed x ≡ false → x ≡ None
+not_followed None e = refl
+not_followed (Some f) e = absurd (cc)
 
 node_parts : (version : Version) (key : NodeKey) (s : AbsState) → IsNode key s → StateIsOf version s → HasParts version (is_root key.inst.kind) (offset_of key.sp) s
 node_parts version key s h o =
     let untagged : is_root key.inst.kind ≡ true → IsUntagged s = λ e. h.untagged (kind_root key.inst.kind e) in
     parts_by version (is_root key.inst.kind) (offset_of key.sp) s h.formed h.tags
-    (record { bytes = h.carry_bytes; names = h.formed.carry; untagged = λ e. (untagged e).carry; of_version = o.carry_tag }) untagged o
+    (record { bytes = h.carry_bytes; names = h.formed.carry; untagged = λ e. (untagged e).carry; of_version = o.carry_tag }) untagged (not_followed s.facts h.mode) o
 
 -- ---- where a state comes from
 
@@ -309,8 +320,8 @@ form_spelled : WordLaws → ValueWords → (version : Version) (at : ℕ) (key :
     → form_at version (is_root key.inst.kind) (offset_of key.sp) at ws ≡ Some (form, rest) → (ws ≡ form_words version form ++ rest) × FitsAt at key form × FormIsOf version form
 form_spelled k v version at key ws rest form h e = let t = form_take k v version at key ws (form, rest) h e in (t.words, t.fits, t.of_version)
 
-state_form : ValueWords → (version : Version) (root : Bool) (offset at : ℕ) (registers : List AbsByte) (f : AbsFlags) (slots : List (Slot AbsByte)) → HasParts version root offset (record { registers = registers; flags = f; slots = slots })
-    → form_at version root offset at (map (value_word version) registers ++ behind_registers version f slots) ≡ Some (State (record { registers = registers; flags = f; slots = slots }), [])
+state_form : ValueWords → (version : Version) (root : Bool) (offset at : ℕ) (registers : List AbsByte) (f : AbsFlags) (slots : List (Slot AbsByte)) → HasParts version root offset (record { registers = registers; flags = f; slots = slots; facts = None })
+    → form_at version root offset at (map (value_word version) registers ++ behind_registers version f slots) ≡ Some (State (record { registers = registers; flags = f; slots = slots; facts = None }), [])
 unfolding form_at
 state_form v version root offset at [] f slots h = absurd (omega (arith, h.count_registers))
 state_form v version root offset at (first ∷ more) f slots h =
@@ -321,7 +332,11 @@ state_form v version root offset at (first ∷ more) f slots h =
 form_again : WordLaws → ValueWords → (version : Version) (at : ℕ) (key : NodeKey) (form : NodeForm) → at ≤ 65536 → FitsAt at key form → FormIsOf version form
     → form_at version (is_root key.inst.kind) (offset_of key.sp) at (form_words version form) ≡ Some (form, [])
 unfolding form_at from_behind
-form_again k v version at key (State s) few h o = state_form v version (is_root key.inst.kind) (offset_of key.sp) at s.registers s.flags s.slots (node_parts version key s h o)
+form_again k v version at key (State s) few h o =
+    let parts = node_parts version key s h o in
+    let P : Option PairFacts → Type 0 = λ x. HasParts version (is_root key.inst.kind) (offset_of key.sp) (record s { facts = x }) in
+    state_form v version (is_root key.inst.kind) (offset_of key.sp) at s.registers s.flags s.slots (subst P parts.plain parts)
+    ∙ ap (λ (x : Option PairFacts). Some (State (record s { facts = x }), [])) (sym parts.plain)
 form_again k v version at key (From m) few h o =
     let d = k.dec_taken 65535 m [] (lit< tt) (omega (arith, few, h.1)) in
     let low : nat_lt m at ≡ true = grind (arith, nat_tests, h.1) in

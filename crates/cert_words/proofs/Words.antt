@@ -11,11 +11,11 @@ use Rattle.std.specs.Fmt.{decimal}
 use Rattle.std.proofs.lemmas.Option.{cond_some, same_Some as some_is, none-some}
 use Rattle.basics.specs.Lists.{chosen}
 use Rattle.basics.specs.Numbers.{at_most_from_test, test_from_at_most}
-use Rattle.indirect_targets.proofs.AllLaws.{map_some}
 use Rattle.avr_model.specs.State.{SIZE}
 use Rattle.sb_base.specs.Digits.{hex_digits}
+use Rattle.line_reading.specs.Letters.{letter_at, digits_at, is_end}
 use Rattle.line_reading.specs.Words.{WordLaws, IsWord}
-use Rattle.line_reading.proofs.AllLaws.{bind_some, lacks_append}
+use Rattle.line_reading.proofs.AllLaws.{bind_some, lacks_append, map_some, end_is, letter_take, length_hex, digits_take, digits_again}
 use Rattle.bit_domain.specs.declared.bits.Tri.TheVariants as tri
 use Rattle.bit_domain.specs.declared.bytes.TriByte.{TriByte}
 use Rattle.bit_domain.specs.TriByte.{tri_of, tri_at}
@@ -38,10 +38,10 @@ use Rattle.certificate.specs.declared.version.Version.{Version}
 use Rattle.certificate.specs.declared.version.Version.TheVariants.{One, Two}
 use Rattle.certificate.specs.Versions.{ValueIsOf}
 use Rattle.cert_words.specs.Spelling.{bits_text, tag_text, range_text, value_word, entry_text, flags_word, carry_word, slot_word, high_text, form_word}
-use Rattle.cert_words.specs.Reading.{letter_at, digits_at, is_end, bits_at, register_at, tag_by, tag_at, ends_at, range_at, value_in, slot_in, entry_by, flags_in, bytes_in, borrow_in, sum_in, less_in, carry_by, carry_in, offset_in, marked_in, high_in, high_size, open_in, form_in}
+use Rattle.cert_words.specs.Reading.{bits_at, register_at, tag_by, tag_at, ends_at, range_at, value_in, slot_in, entry_by, flags_in, bytes_in, borrow_in, sum_in, less_in, carry_by, carry_in, offset_in, marked_in, high_in, high_size, open_in, form_in}
 use Rattle.cert_words.specs.Fits.{IsTag, IsValue, AreFlags, IsCarry, IsSlot, IsHigh, IsForm}
 use Rattle.cert_words.specs.Laws.{ValueWords}
-use Rattle.cert_words.proofs.Pieces.{end_is, letter_take, three, length_hex, digits_take, digits_again, bits_take, bits_again, register_take, register_again, offset_take, offset_again, marked_take, marked_again}
+use Rattle.cert_words.proofs.Pieces.{three, bits_take, bits_again, register_take, register_again, offset_take, offset_again, marked_take, marked_again}
 
 abbrev front : ℕ → List ℕ → List ℕ
 front x xs = x ∷ xs

@@ -3,7 +3,8 @@ use Rattle.std.specs.Prelude.{ℕ, zero, suc, ◌==◌, ◌^◌, nat_lt, Bool, t
 use Rattle.std.specs.Option.{option_map}
 use Rattle.std.specs.Str.{bytes_eq}
 use Rattle.avr_model.specs.Image.{WORDS}
-use Rattle.line_reading.specs.Reading.{◌>>=◌, hex_at, dec_at}
+use Rattle.line_reading.specs.Reading.{◌>>=◌, hex_at, dec_at, word_by}
+use Rattle.line_reading.specs.Letters.{letter_at}
 use Rattle.mask_states.specs.declared.keys.Kind.{Kind}
 use Rattle.mask_states.specs.declared.keys.Kind.TheVariants.{Root, Call, Vector}
 use Rattle.mask_states.specs.declared.keys.InstKey.{InstKey}
@@ -16,14 +17,9 @@ use Rattle.edge_rules.specs.declared.seeded.NodeForm.TheVariants.{State, From}
 use Rattle.certificate.specs.Insts.{fits_kind}
 use Rattle.certificate.specs.declared.version.Version.{Version}
 use Rattle.certificate.specs.declared.version.Version.TheVariants.{One, Two}
-use Rattle.cert_words.specs.Reading.{letter_at, value_in, slot_in, flags_in, carry_in, form_in}
+use Rattle.cert_words.specs.Reading.{value_in, slot_in, flags_in, carry_in, form_in}
 
 -- ---- words
-
--- the next word, read by itself
-abbrev pub word_by : {A : Type 0} → (List ℕ → Option A) → List (List ℕ) → Option (A × List (List ℕ))
-word_by f [] = None
-word_by f (w ∷ ws) = option_map (λ x. (x, ws)) (f w)
 
 -- so many words behind these, each read by itself
 unfoldable pub words_from : {A : Type 0} → (List ℕ → Option A) → List A → ℕ → List (List ℕ) → Option (List A × List (List ℕ))
@@ -93,7 +89,7 @@ state_behind version root offset first ws = do
   r ← words_from (value_in version root) (first ∷ []) 31 ws
   f ← flags_at version root r.1
   s ← words_from (slot_in version root) [] offset f.1
-  Some (record { registers = r.0; flags = f.0; slots = s.0 }, s.1)
+  Some (record { registers = r.0; flags = f.0; slots = s.0; facts = None }, s.1)
 
 abbrev pub by_state : Option (AbsState × List (List ℕ)) → Option (NodeForm × List (List ℕ))
 by_state found = option_map (λ s. (State s.0, s.1)) found

@@ -1,4 +1,4 @@
--- Reading a word from its front: each reading gives a value and what stands behind it, or nothing. In the root's frame nothing is
+-- Reading words from their front: each reading gives a value and what stands behind it, or nothing. In the root's frame nothing is
 -- tagged.
 use Rattle.std.specs.Prelude.{ℕ, ◌-◌, ◌==◌, ◌&&◌, nat_lt, nat_le, not, Bool, true, false, List, [], ◌∷◌, length, take, drop, codes, Option, Some, None, Result, Ok, Err, if◌then◌else◌}
 use Rattle.std.specs.Option.{option_map}
@@ -6,9 +6,8 @@ use Rattle.std.specs.Int.{bit_at}
 use Rattle.std.specs.Int.RustNames.{bit_and}
 use Rattle.std.specs.Str.{bytes_eq}
 use Rattle.avr_model.specs.State.{SIZE}
-use Rattle.sb_base.specs.Digits.{hex_answer}
-use Rattle.sb_base.specs.declared.digits.DigitFault.{DigitFault}
 use Rattle.line_reading.specs.Reading.{◌>>=◌, dec_at}
+use Rattle.line_reading.specs.Letters.{letter_at, digits_at, is_end}
 use Rattle.bit_domain.specs.declared.bytes.TriByte.{TriByte}
 use Rattle.bit_domain.specs.TriByte.{byte_of, tri_of}
 use Rattle.bit_domain.specs.Ranges.{least_of, most_of}
@@ -25,26 +24,6 @@ use Rattle.mask_states.specs.declared.keys.SpForm.{SpForm}
 use Rattle.mask_states.specs.declared.keys.SpForm.TheVariants.{Closed, Open}
 use Rattle.certificate.specs.declared.version.Version.{Version}
 use Rattle.certificate.specs.declared.version.Version.TheVariants.{One, Two}
-
--- ---- pieces
-
--- the first byte
-abbrev pub letter_at : List ℕ → Option (ℕ × List ℕ)
-letter_at [] = None
-letter_at (b ∷ bs) = Some (b, bs)
-
-abbrev pub number_before : Result ℕ DigitFault → List ℕ → Option (ℕ × List ℕ)
-number_before (Ok n) bs = Some (n, bs)
-number_before (Err e) bs = None
-
--- a number in so many hexadecimal digits
-unfoldable pub digits_at : ℕ → List ℕ → Option (ℕ × List ℕ)
-digits_at count bs = if nat_lt (length bs) count then None else number_before (hex_answer (take count bs) count) (drop count bs)
-
--- nothing is left
-abbrev pub is_end : List ℕ → Bool
-is_end [] = true
-is_end (b ∷ bs) = false
 
 -- ---- values
 

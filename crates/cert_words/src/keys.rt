@@ -6,13 +6,13 @@ ghost use Rattle.avr_model.specs.State as model;
 ghost use Rattle.mask_states.specs.Keys.{offset_of};
 ghost use Rattle.certificate.specs.Insts.{is_vector_word, fits_kind};
 ghost use Rattle.cert_words.specs.Reading.{form_in};
-ghost use Rattle.cert_words.specs.KeyReading.{word_by, masks_at, flag_at, vector_in, kind_in, inst_key_at, is_root, pick_in, pick_at, node_key_at};
+ghost use Rattle.line_reading.specs.Reading.{word_by};
+ghost use Rattle.cert_words.specs.KeyReading.{masks_at, flag_at, vector_in, kind_in, inst_key_at, is_root, pick_in, pick_at, node_key_at};
 
-use crate::letters::Letters;
 use crate::values::form_of;
 use avr_model::device::WORDS;
 use certificate::Version;
-use line_reading::{dec_word, hex_word};
+use line_reading::{Letters, dec_word, hex_word};
 use mask_states::{InstKey, Kind, NodeKey, SpForm};
 use sb_base::{Words, read_dec, read_hex};
 use vector_table::Masks;

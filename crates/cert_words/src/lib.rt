@@ -4,7 +4,6 @@
 
 mod keys;
 pub mod laws;
-mod letters;
 mod state;
 mod values;
 

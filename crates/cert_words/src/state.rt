@@ -3,7 +3,8 @@
 ghost use Rattle.std.specs.Prelude.{◌≡◌, ◌∷◌, [], IfOk};
 ghost use Rattle.std.specs.Option.{option_map};
 ghost use Rattle.cert_words.specs.Reading.{value_in, slot_in, flags_in, carry_in};
-ghost use Rattle.cert_words.specs.KeyReading.{word_by, words_from, flags_at, state_behind, by_state, from_behind, form_at};
+ghost use Rattle.line_reading.specs.Reading.{word_by};
+ghost use Rattle.cert_words.specs.KeyReading.{words_from, flags_at, state_behind, by_state, from_behind, form_at};
 
 use crate::values::{carry_of, flags_of, slot_of, value_of};
 use abs_state::{AbsByte, AbsFlags, AbsState};
@@ -11,6 +12,7 @@ use bit_domain::TriByte;
 use certificate::Version;
 use edge_rules::NodeForm;
 use line_reading::dec_word;
+use pair_domain::Facts;
 use sb_base::Words;
 use sp_domain::{CarryTag, Slot, Slots};
 use std::alloc::{AllocError, Global};
@@ -103,6 +105,7 @@ fn state_of(
         registers,
         flags,
         slots,
+        facts: Facts::none(),
     }))
 }
 

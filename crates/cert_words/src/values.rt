@@ -8,11 +8,11 @@ ghost use Rattle.sp_domain.specs.declared.tags.CarryTag.TheVariants as carry;
 ghost use Rattle.mask_states.specs.Keys.{offset_of};
 ghost use Rattle.cert_words.specs.Reading.{bits_at, register_at, tag_by, tag_at, ends_at, range_at, value_in, slot_in, entry_by, flags_in, bytes_in, borrow_in, sum_in, less_in, carry_by, carry_in, offset_in, marked_in, high_in, high_size, open_in, form_in};
 
-use crate::letters::Letters;
 use abs_state::AbsByte;
 use avr_model::device;
 use bit_domain::{Range, TriByte};
 use certificate::Version;
+use line_reading::Letters;
 use mask_states::{High, SpForm};
 use sb_base::read_dec;
 use sp_domain::{CarryTag, Slot, Tag};

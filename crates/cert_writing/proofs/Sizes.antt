@@ -50,7 +50,7 @@ use Rattle.certificate.specs.Claims.{Claim, IsClaim, FitsAt, AreFrom, cells_of, 
 use Rattle.cert_words.specs.Spelling.{bits_text, tag_text, range_text, value_word, flags_word, carry_word, slot_word, high_text, form_word}
 use Rattle.cert_words.specs.KeySpelling.{kind_word, pick_word, pick_words, place_words, state_words, form_words}
 use Rattle.cert_words.specs.Text.{numbered, version_line, heading, entry_lines, inst_words, inst_lines, place_of, node_words, node_lines, attained_line, witness_lines, end_line, front_lines}
-use Rattle.cert_words.proofs.AllLaws.{length_hex}
+use Rattle.line_reading.proofs.AllLaws.{length_hex}
 use Rattle.cert_writing.specs.Sizes.{HasFewChoices, TextsFit}
 
 -- ---- lines
@@ -223,6 +223,7 @@ items_few is_item items e =
     grind (arith, nat_tests, c.1)
 
 entry_short : (e : Entry) → is_entry e ≡ true → taken (entry_words e) + 1 ≤ 400
+entry_short entry.Pairs e = omega arith
 entry_short (entry.Jump site words) e =
     let few = items_few is_word words (and_parts (is_word site) (are_items is_word words) e).1 in
     omega (arith, numbers_long (site ∷ words), few)

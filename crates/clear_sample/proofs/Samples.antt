@@ -84,6 +84,7 @@ module _ (n : ℕ) where
         carry = tt;
         ranges = reset_stands.formed.ranges;
         slot_ranges = all_free SlotByteFits tt;
+        facts = tt;
       }
 
   untagged : IsUntagged (with_bytes n)
@@ -107,6 +108,7 @@ module _ (n : ℕ) where
         flags = record { entry = λ e. absurd (cc); bits = λ x small has. bytes_are_sets.built (λ i. Any) x (λ i k. tt); carry = tt };
         count = same ∙ sym count;
         slots = λ d. all_free (IsSlotWithin (slot_at s.slots d)) tt d;
+        facts = tt;
       }
 
   itself_above : IsStateWithin (with_bytes n) (with_bytes n)
@@ -124,6 +126,8 @@ module _ (n : ℕ) where
         tags = record { registers = registers_fit; slots = all_free SlotFits tt };
         carry_bytes = tt;
         untagged = λ k. untagged;
+        mode = refl;
+        hulls = tt;
       }
 
 -- with register 28 known

@@ -1,6 +1,5 @@
 -- Two firmwares that store onto their own stack: over a free byte, and over one that was pushed.
 use Rattle.std.specs.Prelude.{ℕ, ◌≡◌, true, false, List, [], ◌∷◌, replicate, refl}
-use Rattle.avr_model.specs.declared.instruction.Instr.TheVariants as i
 use Rattle.avr_model.specs.Bits.{any_below, all_below}
 use Rattle.avr_model.specs.Devices.{device_of}
 use Rattle.avr_model.specs.Sites.{is_scratch, is_fixed}

@@ -1,5 +1,5 @@
 -- Edges between nodes that the analysis works with lead to such nodes.
-use Rattle.std.proofs.Common.{◌≡◌, ◌≢◌, sym, ap, subst, ℕ, ◌^◌, ◌<◌, ◌≤◌, true, List, Option, Some, Contains, arith}
+use Rattle.std.proofs.Common.{◌≡◌, ◌≢◌, refl, sym, ◌∙◌, ap, subst, ℕ, ◌^◌, ◌<◌, ◌≤◌, ◌&&◌, Bool, true, false, List, Option, Some, Contains, arith}
 use Rattle.std.proofs.lemmas.Bool.Decides.{nat_tests}
 use Rattle.avr_model.proofs.AllLaws.{devices_are_alike}
 use Rattle.avr_model.specs.Devices.{device_of}
@@ -8,12 +8,15 @@ use Rattle.avr_model.specs.declared.device.Device.TheVariants.{M48, M88, M168, M
 use Rattle.avr_model.specs.declared.assumption.Entry.{Entry}
 use Rattle.avr_model.specs.Image.{WORDS}
 use Rattle.avr_model.specs.Vectors.{is_enabled, vector_word}
+use Rattle.pair_domain.specs.Facts.{is_followed}
 use Rattle.abs_state.specs.declared.state.AbsState.{AbsState}
 use Rattle.abs_state.specs.Values.{root}
-use Rattle.abs_state.specs.Frames.{entered, returned}
+use Rattle.abs_state.specs.Frames.{entered}
+use Rattle.abs_state.specs.PairsBack.{returned}
 use Rattle.abs_state.specs.Formed.{IsFormed}
 use Rattle.vector_table.proofs.AllLaws.{enables_are_vectors}
-use Rattle.abs_state.proofs.AllLaws.{reset_stands, entries_are_true, returns_are_true, tags_stay_fit}
+use Rattle.abs_state.specs.Hulls.{IsInHulls}
+use Rattle.abs_state.proofs.AllLaws.{reset_stands, entries_are_true, returns_are_true, tags_stay_fit, hulls_hold_intervals}
 use Rattle.mask_states.specs.declared.keys.InstKey.{InstKey}
 use Rattle.mask_states.specs.declared.keys.NodeKey.{NodeKey}
 use Rattle.mask_states.specs.declared.keys.EdgeKind.{EdgeKind}
@@ -43,10 +46,13 @@ reset_node = record {
   tags = tags_stay_fit.at_reset;
   carry_bytes = tt;
   untagged = λ kind. reset_stands.untagged;
+  mode = refl;
+  hulls = hulls_hold_intervals.root;
 }
 
-entry_node : (s : AbsState) (offset : ℕ) (inst : InstKey) → IsFormed s offset → inst.kind ≢ Root → inst.entry < WORDS → inst.masks < 2 ^ 25 → IsNode (entry_key inst) (entered s)
-entry_node s offset inst formed other word masks = record {
+entry_node : (s : AbsState) (offset : ℕ) (inst : InstKey) → IsFormed s offset → is_followed s.facts ≡ false → IsInHulls s → inst.kind ≢ Root → inst.entry < WORDS → inst.masks < 2 ^ 25
+    → IsNode (entry_key inst) (entered s)
+entry_node s offset inst formed mode hulls other word masks = record {
   word = word;
   small = omega arith;
   masks = masks;
@@ -56,6 +62,8 @@ entry_node s offset inst formed other word masks = record {
   tags = (tags_stay_fit.at_entry s).0;
   carry_bytes = (tags_stay_fit.at_entry s).1;
   untagged = λ kind. absurd (other kind);
+  mode = entries_are_true.followed s ∙ mode;
+  hulls = hulls_hold_intervals.entered s formed.count_registers hulls;
 }
 
 enabled_small : (enables v : ℕ) → is_enabled enables v ≡ true → v ≤ 26
@@ -72,9 +80,9 @@ entered_node : (words : List ℕ) (A : List Entry) (n : Node) (way : EdgeKind) (
 entered_node words A n _ _ _ node (by_call offset site faultless form member) =
     let lead = (local_parts_fit.fit words A n.key n.state).calls site member in
     let few = devices_are_alike.most_words (device_of words) in
-    (entry_node n.state (offset_of n.key.sp) (called_inst n.key site.entry) node.formed (λ kind. absurd (cc)) (omega (arith, lead.0, few)) node.masks, omega (arith, lead.1, few))
+    (entry_node n.state (offset_of n.key.sp) (called_inst n.key site.entry) node.formed node.mode node.hulls (λ kind. absurd (cc)) (omega (arith, lead.0, few)) node.masks, omega (arith, lead.1, few))
 entered_node words A n _ _ _ node (by_interrupt offset v clears faultless form i delay enabled allowed clearable) = (
-  entry_node n.state (offset_of n.key.sp) (vector_inst words n.key v clears) node.formed (λ kind. absurd (cc)) (vector_small (device_of words) v (enabled_small n.key.masks v enabled))
+  entry_node n.state (offset_of n.key.sp) (vector_inst words n.key v clears) node.formed node.mode node.hulls (λ kind. absurd (cc)) (vector_small (device_of words) v (enabled_small n.key.masks v enabled))
       (enables_are_vectors.taken n.key.masks clears node.masks),
   node.word,
 )
@@ -105,6 +113,8 @@ returned_node words A way n leaver back x t node word other exit is =
       tags = tags_stay_fit.at_return n.state leaver.state t node.formed.count_registers node.tags is;
       carry_bytes = tags_stay_fit.carry_at_return n.state leaver.state t node.carry_bytes is;
       untagged = λ kind. returns_are_true.untagged n.state leaver.state t (offset_of n.key.sp) node.formed base (node.untagged kind) is;
+      mode = returns_are_true.followed n.state leaver.state t is ∙ ap (λ (f : Bool). f && is_followed leaver.state.facts) node.mode;
+      hulls = hulls_hold_intervals.returned n.state leaver.state t is;
     }
 
 -- ---- edges

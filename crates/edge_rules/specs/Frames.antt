@@ -13,7 +13,9 @@ use Rattle.sp_domain.specs.Tags.{Origin, LessHolds}
 use Rattle.sp_domain.specs.Slots.{slot_at}
 use Rattle.abs_state.specs.declared.state.AbsState.{AbsState}
 use Rattle.abs_state.specs.declared.values.AbsByte.{AbsByte}
-use Rattle.abs_state.specs.Frames.{entered, returned}
+use Rattle.abs_state.specs.Frames.{entered}
+use Rattle.abs_state.specs.PairsBack.{returned}
+use Rattle.abs_state.specs.Laws.{HoldsAt}
 use Rattle.abs_state.specs.Order.{IsStateWithin}
 use Rattle.abs_state.specs.Values.{root}
 use Rattle.abs_state.specs.Stands.{RegistersStand, FlagsStand, SlotsStand}
@@ -43,6 +45,7 @@ pub record IsLeft (words : List ℕ) (A : List Entry) (f : Family) (memory : Mem
   pub registers : RegistersStand g.origin g.node.state.registers o.registers
   pub flags : FlagsStand g.origin g.node.state.flags o.sreg
   pub less : LessHolds o.registers g.node.state.flags.carry (flag o.sreg 0)
+  pub facts : HoldsAt g.node.state.facts o.registers o.sreg
   pub slots : SlotsStand g.origin memory g.node.state.slots
   pub offset : ℕ
   pub closed : g.node.key.sp ≡ Closed offset

@@ -6,7 +6,8 @@ use Rattle.basics.specs.Items.{only_one_in, none_in, first_in, further_in as the
 use Rattle.call_graph.proofs.AllLaws.{each_gathered, gathered_in}
 use Rattle.avr_model.specs.declared.assumption.Entry.{Entry}
 use Rattle.abs_state.specs.declared.state.AbsState.{AbsState}
-use Rattle.abs_state.specs.Frames.{entered, returned}
+use Rattle.abs_state.specs.Frames.{entered}
+use Rattle.abs_state.specs.PairsBack.{returned}
 use Rattle.abs_state.proofs.AllLaws.{states_are_ordered}
 use Rattle.mask_states.specs.declared.keys.InstKey.{InstKey}
 use Rattle.mask_states.specs.declared.keys.NodeKey.{NodeKey}

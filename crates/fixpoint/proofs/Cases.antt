@@ -6,7 +6,7 @@ use Rattle.basics.specs.Items.{only_one_in, none_in}
 use Rattle.call_graph.proofs.AllLaws.{each_gathered}
 use Rattle.avr_model.specs.declared.assumption.Entry.{Entry}
 use Rattle.abs_state.specs.declared.state.AbsState.{AbsState}
-use Rattle.abs_state.specs.Frames.{returned}
+use Rattle.abs_state.specs.PairsBack.{returned}
 use Rattle.mask_states.specs.declared.keys.NodeKey.{NodeKey}
 use Rattle.local_rules.specs.declared.local.Exit.{Exit}
 use Rattle.local_rules.specs.declared.local.Node.{Node}

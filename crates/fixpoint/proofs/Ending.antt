@@ -175,7 +175,7 @@ module _ (words : List ℕ) (A : List Entry) where
             let s = spent p.number p.budget in
             subst (IsWhyNot words A steps) (sym s.0) (s.1, record { family = f; comes = p.comes; passes = ready.passes; more = still_open })
 
-        pub falls : 70959235073 - weight g < 70959235073 - weight f
+        pub falls : 9416690630657 - weight g < 9416690630657 - weight f
         falls =
             let top = rounds_are_joins.high f formed in
             let few = ready.passes.fits.few_cells in

@@ -1,5 +1,5 @@
 -- Nodes are looked at in whatever order: the family stays one that is made of the first by where its edges lead.
-use Rattle.std.proofs.Common.{◌≡◌, refl, sym, ap, ◌∙◌, subst, ℕ, ◌^◌, ◌+◌, ◌-◌, ◌*◌, ◌<◌, ◌≤◌, inl, inr, ⊎_elim, Bool, true, ◌==◌, List, [], ◌∷◌, length, Option, Some, None, Contains, arith}
+use Rattle.std.proofs.Common.{◌≡◌, refl, sym, ap, ◌∙◌, subst, ℕ, ◌^◌, ◌+◌, ◌-◌, ◌*◌, ◌<◌, ◌≤◌, inl, inr, ⊎_elim, Bool, true, false, ◌&&◌, ◌==◌, List, [], ◌∷◌, length, Option, Some, None, Contains, arith}
 use Rattle.std.specs.FinMap.{get, empty}
 use Rattle.std.proofs.lemmas.Option.{same_Some}
 use Rattle.basics.specs.Items.{none_in}
@@ -9,11 +9,12 @@ use Rattle.avr_model.proofs.AllLaws.{devices_are_alike}
 use Rattle.avr_model.specs.Devices.{device_of}
 use Rattle.avr_model.specs.Image.{WORDS}
 use Rattle.avr_model.specs.declared.assumption.Entry.{Entry}
+use Rattle.pair_domain.specs.Facts.{is_followed}
 use Rattle.abs_state.specs.declared.state.AbsState.{AbsState}
 use Rattle.abs_state.specs.Values.{root}
-use Rattle.abs_state.specs.Frames.{returned}
+use Rattle.abs_state.specs.PairsBack.{returned}
 use Rattle.abs_state.specs.Formed.{IsFormed}
-use Rattle.abs_state.proofs.AllLaws.{returns_are_true, tags_stay_fit, states_are_ordered}
+use Rattle.abs_state.proofs.AllLaws.{returns_are_true, tags_stay_fit, states_are_ordered, hulls_hold_intervals}
 use Rattle.mask_states.specs.declared.keys.InstKey.{InstKey}
 use Rattle.mask_states.specs.declared.keys.NodeKey.{NodeKey}
 use Rattle.mask_states.specs.declared.keys.EdgeKind.{EdgeKind}
@@ -81,6 +82,8 @@ returned_node way k l s t after back x node word other sp masks is =
       tags = tags_stay_fit.at_return s t after node.formed.count_registers node.tags is;
       carry_bytes = tags_stay_fit.carry_at_return s t after node.carry_bytes is;
       untagged = λ kind. returns_are_true.untagged s t after (offset_of k.sp) node.formed base (node.untagged kind) is;
+      mode = returns_are_true.followed s t after is ∙ ap (λ (f : Bool). f && is_followed t.facts) node.mode;
+      hulls = hulls_hold_intervals.returned s t after is;
     }
 
 module _ (words : List ℕ) (A : List Entry) where
@@ -244,7 +247,7 @@ module _ (words : List ℕ) (A : List Entry) where
 
   -- a look takes one that waits, and each that comes has raised the weight
   pub falls_again : (f g : Family) (c h less now : ℕ) → AreFormed g → FitsLimits g → weight f + c ≤ weight g → less + 1 ≤ h → now ≡ less + c
-      → 2 * (70959235073 - weight g) + now < 2 * (70959235073 - weight f) + h
+      → 2 * (9416690630657 - weight g) + now < 2 * (9416690630657 - weight f) + h
   falls_again f g c h less now formed fits more one is =
       let top = rounds_are_joins.high g formed in
       let few = fits.few_cells in

@@ -44,6 +44,7 @@ module _ (words : List ℕ) (A : List Entry) (f : Family) where
             registers = l.registers;
             flags = l.flags;
             less = l.less;
+            facts = l.facts;
             slots =
                 slots_follow.kept g.origin old new floor g.node.state.slots kept (omega (arith, l.place, ap offset_of l.closed, (sound.formed g.node l.present).formed.count_slots)) l.slots;
             offset = l.offset;

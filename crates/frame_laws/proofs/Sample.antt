@@ -12,7 +12,8 @@ use Rattle.abs_state.specs.declared.state.AbsState.{AbsState}
 use Rattle.abs_state.specs.Values.{root, unknown, value_at}
 use Rattle.abs_state.specs.Order.{IsByteWithin, IsStateWithin}
 use Rattle.abs_state.specs.Formed.{IsFormed, IsUntagged}
-use Rattle.abs_state.specs.Frames.{entered, returned}
+use Rattle.abs_state.specs.Frames.{entered}
+use Rattle.abs_state.specs.PairsBack.{returned}
 use Rattle.abs_state.proofs.AllLaws.{states_are_ordered, reset_stands, entries_are_true, returns_are_true, tags_stay_fit}
 use Rattle.mask_states.specs.declared.keys.InstKey.{InstKey}
 use Rattle.mask_states.specs.declared.keys.EdgeKind.{EdgeKind}
@@ -43,6 +44,7 @@ top_formed = record {
   carry = tt;
   ranges = reset_stands.formed.ranges;
   slot_ranges = λ d lt. absurd (omega arith);
+  facts = tt;
 }
 
 top_untagged : IsUntagged top
@@ -64,6 +66,7 @@ top_above s formed = record {
   flags = record { entry = λ e. cc; bits = λ x small has. bytes_are_sets.built (λ i. Any) x (λ i k. tt); carry = tt };
   count = formed.count_slots;
   slots = λ d lt. absurd (omega arith);
+  facts = tt;
 }
 
 -- ---- the three nodes
@@ -160,9 +163,9 @@ sample_small = omega arith
 pub the_sample_is_sound : IsSound sample [] family
 the_sample_is_sound = record {
   formed = each (λ n. IsNode n.key n.state)
-      record { word = omega arith; small = omega arith; masks = omega arith; fits = tt; pick = tt; formed = top_formed; tags = tags_stay_fit.less root top (top_above root reset_stands.formed) tags_stay_fit.at_reset; carry_bytes = tt; untagged = λ k. top_untagged }
-      record { word = omega arith; small = omega arith; masks = omega arith; fits = tt; pick = tt; formed = top_formed; tags = tags_stay_fit.less root top (top_above root reset_stands.formed) tags_stay_fit.at_reset; carry_bytes = tt; untagged = λ k. top_untagged }
-      record { word = omega arith; small = omega arith; masks = omega arith; fits = tt; pick = tt; formed = entries_are_true.formed top 0 top_formed; tags = (tags_stay_fit.at_entry top).0; carry_bytes = tt; untagged = λ k. absurd (cc) };
+      record { word = omega arith; small = omega arith; masks = omega arith; fits = tt; pick = tt; formed = top_formed; tags = tags_stay_fit.less root top (top_above root reset_stands.formed) tags_stay_fit.at_reset; carry_bytes = tt; untagged = λ k. top_untagged; mode = refl; hulls = tt }
+      record { word = omega arith; small = omega arith; masks = omega arith; fits = tt; pick = tt; formed = top_formed; tags = tags_stay_fit.less root top (top_above root reset_stands.formed) tags_stay_fit.at_reset; carry_bytes = tt; untagged = λ k. top_untagged; mode = refl; hulls = tt }
+      record { word = omega arith; small = omega arith; masks = omega arith; fits = tt; pick = tt; formed = entries_are_true.formed top 0 top_formed; tags = (tags_stay_fit.at_entry top).0; carry_bytes = tt; untagged = λ k. absurd (cc); mode = refl; hulls = tt };
   reset = record { state = top; present = (0, omega arith, refl); above = top_above root reset_stands.formed };
   faultless = each (λ n. IsFaultless sample [] n)
       (ap (λ (r : Raw). r.faults) call_leads) (ap (λ (r : Raw). r.faults) loop_leads) (ap (λ (r : Raw). r.faults) return_leads);

@@ -12,11 +12,12 @@ use Rattle.avr_model.specs.State.{State, Memory, minus16, plus16}
 use Rattle.avr_model.specs.Effects.{way_back, going_to}
 use Rattle.avr_model.specs.Step.{after, all_inside, live_write, registers_after, with_registers, sreg_after, sp_after, open_after, enables_after}
 use Rattle.sp_domain.specs.Tags.{Origin, LessHolds}
+use Rattle.pair_domain.proofs.AllLaws.{known_is_ordered}
 use Rattle.abs_state.specs.declared.state.AbsState.{AbsState}
 use Rattle.abs_state.specs.Stands.{RegistersStand, FlagsStand, Stands}
 use Rattle.abs_state.specs.Formed.{IsFormed}
 use Rattle.abs_state.specs.Frames.{entered}
-use Rattle.abs_state.specs.Laws.{Keeps}
+use Rattle.abs_state.specs.Laws.{Keeps, HoldsAt}
 use Rattle.abs_state.specs.Order.{IsStateWithin}
 use Rattle.abs_state.proofs.AllLaws.{states_are_ordered, values_say_less, slots_follow, entries_are_true, returns_are_true}
 use Rattle.mask_states.specs.declared.keys.InstKey.{InstKey}
@@ -49,6 +50,10 @@ floor_fits base true sp (Closed offset) h = absurd (let e = h.0 in cc)
 floor_fits base false sp (Closed offset) h = omega (arith, h.1)
 floor_fits base true sp (Open offset high) h = omega arith
 floor_fits base false sp (Open offset high) h = absurd (let e = h.0 in cc)
+
+-- what is known of pairs holds where less is said
+pub facts_less : (s t : AbsState) (m : State) → IsStateWithin s t → HoldsAt s.facts m.registers m.sreg → HoldsAt t.facts m.registers m.sreg
+facts_less s t m le h = known_is_ordered.less s.facts t.facts m.registers (flag m.sreg 0) (flag m.sreg 1) (flag m.sreg 4) le.facts h
 
 -- the machine has frames after this choice, if its state is a machine's
 abbrev pub Follow : List ℕ → List Entry → Family → Choice → Frame → List Frame → State → Type 0
@@ -128,6 +133,7 @@ module _ (live : LiveBytesStay) (words : List ℕ) (A : List Entry) (f : Family)
                       node = sound.formed node cov.present;
                       place = place;
                       stands = values_say_less.state g.origin to.state cov.state n (states_are_ordered.through to.state joined.state cov.state joined.above cov.above) stands;
+                      facts = facts_less to.state cov.state n (states_are_ordered.through to.state joined.state cov.state joined.above cov.above) lands.facts;
                       root = subst (λ (i : InstKey). i.kind ≡ Root → g.origin.base ≡ ramend m.device) (sym inst) runs.running.root;
                       base_word = runs.running.base_word;
                     };
@@ -167,6 +173,7 @@ module _ (live : LiveBytesStay) (words : List ℕ) (A : List Entry) (f : Family)
               registers = runs.running.stands.registers;
               flags = runs.running.stands.flags;
               less = runs.running.stands.less;
+              facts = runs.running.facts;
               slots = slots_follow.kept g.origin m.memory n (minus16 m.sp 2) g.node.state.slots kept (omega (arith, count_slots, ap offset_of form, room, top, few, sp)) runs.running.stands.slots;
               offset = offset;
               closed = form;
@@ -209,6 +216,9 @@ module _ (live : LiveBytesStay) (words : List ℕ) (A : List Entry) (f : Family)
                     node = sound.formed _ covered.present;
                     place = record { pc = to; enables = masks; i = i; delay = refl; sp = (refl, omega arith) };
                     stands = values_say_less.state entry_origin (entered g.node.state) covered.state n covered.above stands;
+                    facts =
+                        facts_less (entered g.node.state) covered.state n covered.above
+                        (entries_are_true.facts g.node.state m.registers (flag m.sreg 0) (flag m.sreg 1) (flag m.sreg 4) (flag n.sreg 0) (flag n.sreg 1) (flag n.sreg 4) runs.running.facts);
                     root = λ kind. absurd (not_root enters kind);
                     base_word = omega arith;
                   };
@@ -249,7 +259,8 @@ module _ (live : LiveBytesStay) (words : List ℕ) (A : List Entry) (f : Family)
           let kept = subst (Keeps m.memory n.memory) floor (kept_by guarded e miss) in
           let slots = slots_follow.kept h.origin m.memory n.memory (g.origin.base + 2) h.node.state.slots kept (omega (arith, was.place, ap offset_of was.closed, caller.formed.count_slots)) was.slots in
           let back = returns_are_true.stands h.origin g.origin h.node.state g.node.state (offset_of h.node.key.sp) g.origin.registers m.registers g.origin.sreg m.sreg e.sreg n.memory
-          caller.formed callee was.registers was.flags was.less slots (record { registers_kept = refl; flags_kept = refl }) runs.running.stands.registers runs.running.stands.flags is.flags in
+          caller.formed callee was.registers was.flags was.less slots was.facts (record { registers_kept = refl; flags_kept = refl }) runs.running.stands.registers runs.running.stands.flags
+          runs.running.facts is.flags in
           let edge = returning was.way g.node.key.inst was.back g.node x back.0 was.enters runs.present refl faultless exit back.1 in
           let cov = sound.edges h.node _ was.present edge in
           let key = returned_key was.way h.node.key was.back x in
@@ -280,6 +291,7 @@ module _ (live : LiveBytesStay) (words : List ℕ) (A : List Entry) (f : Family)
                   sp = subst (SpIs h.origin.base n.is_open n.sp) (sym was.closed) (still_closed, omega (arith, raised_sp, was.place, low_base, few, sp));
                 };
                 stands = values_say_less.state h.origin back.0 cov.state n cov.above stands;
+                facts = facts_less back.0 cov.state n cov.above (subst₂ (HoldsAt back.0.facts) (sym same_registers) (sym same_sreg) back.6);
                 root = λ kind. root_base words A f n.memory hs h.node.key.inst h.origin (left_kept words A f sound m.memory n.memory (g.origin.base + 2) kept hs h.node.key.inst h.origin (omega (arith, was.place)) left.1) kind ∙ ap ramend (sym runs.device);
                 base_word = omega (arith, base_inside words A f sound m.memory hs h.node.key.inst h.origin left.1, devices_are_alike.most_bytes (device_of words));
               };

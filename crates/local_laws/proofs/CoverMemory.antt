@@ -25,6 +25,8 @@ use Rattle.bit_domain.specs.TriByte.{tri_at, byte_with}
 use Rattle.sp_domain.specs.declared.tags.Tag.TheVariants as tag
 use Rattle.sp_domain.specs.Tags.{Origin, LessHolds}
 use Rattle.abs_state.proofs.AllLaws.{bits_make_values, any_stands}
+use Rattle.pair_domain.specs.declared.facts.PairFacts.{PairFacts}
+use Rattle.pair_domain.specs.Rank.{KnownFits}
 use Rattle.abs_state.specs.declared.values.AbsByte.{AbsByte}
 use Rattle.abs_state.specs.declared.state.AbsState.{AbsState}
 use Rattle.abs_state.specs.Values.{untagged, known, unknown}
@@ -34,8 +36,10 @@ use Rattle.local_rules.specs.Raw.{Raw, at_word, next, going_to as node_going_to,
 use Rattle.local_rules.specs.Registers.{value, set as node_set, pair_moved}
 use Rattle.local_rules.specs.Reads.{read_at, pair_constant, pointed, read_pointed, flash_value}
 use Rattle.local_rules.specs.Writes.{written_at, pointer_write}
-use Rattle.local_rules.specs.Local.{step_before, pointer_moved, loading, load_row, store_row, bit_row}
-use Rattle.local_rules.specs.Cover.{InFrame, Follows, stays}
+use Rattle.local_rules.specs.Local.{step_before, pointer_moved, loading, load_row, bit_row}
+use Rattle.local_rules.specs.Cover.{stays}
+use Rattle.local_laws.proofs.Bare.{InBareFrame}
+use Rattle.local_laws.proofs.Landing.{Follows}
 use Rattle.local_rules.specs.Machine.{AreWords}
 use Rattle.local_laws.proofs.Alu.{register_byte}
 use Rattle.local_laws.proofs.EffectSizes.{byte_at_small, flash_small}
@@ -122,12 +126,12 @@ st_unflagged : (words : List ℕ) (A : List Entry) (pc : ℕ) (p : Pointer) (r :
 unfolding protected_write
 st_unflagged words A pc p r e h = h
 
-module _ (words : List ℕ) (A : List Entry) (m : State) (o : Origin) (k : NodeKey) (s : AbsState) (at : InFrame m o k s) (scratch : Bool) (b1 b2 : ℕ) where
+module _ (words : List ℕ) (A : List Entry) (m : State) (o : Origin) (k : NodeKey) (s : AbsState) (at : InBareFrame m o k s) (scratch : Bool) (b1 b2 : ℕ) where
   -- ---- reads
 
   setting_covered : (writes : List Write) (registers : List AbsByte) → RegistersStand o registers (with_registers m.registers writes)
       → LessHolds (with_registers m.registers writes) s.flags.carry (flag m.sreg 0)
-      → Follows m o k (not scratch) b1 b2 (setting m writes m.sreg) (node_setting m.device k s registers s.flags)
+      → Follows m o s.facts k (not scratch) b1 b2 (setting m writes m.sreg) (node_setting m.device k s registers s.flags)
   setting_covered writes registers stand less = sets m o k s at (not scratch) b1 b2 writes m.sreg registers s.flags refl stand at.stands.flags less
 
   -- a register is set after others
@@ -140,18 +144,18 @@ module _ (words : List ℕ) (A : List Entry) (m : State) (o : Origin) (k : NodeK
   loading_covered : (writes : List Write) (registers : List AbsByte) (d x : ℕ) (v : Option AbsByte) → length registers ≡ 32
       → RegistersStand o registers (with_registers m.registers writes) → LessHolds (with_registers m.registers writes) s.flags.carry (flag m.sreg 0)
       → Spares s.flags.carry d → IsRead o v x
-      → Follows m o k (not scratch) b1 b2 (setting m (writes ++ set d x) m.sreg) (loading m.device k s registers d v)
+      → Follows m o s.facts k (not scratch) b1 b2 (setting m (writes ++ set d x) m.sreg) (loading m.device k s registers d v)
   loading_covered writes registers d x None count stand less spare h = absurd h
   loading_covered writes registers d x (Some v) count stand less spare h =
       setting_covered (writes ++ set d x) (slice_set registers d v) (after_set writes registers d x v count stand h)
       (subst (λ (xs : List ℕ). LessHolds xs s.flags.carry (flag m.sreg 0)) (added m.registers writes d x)
       (less_set (with_registers m.registers writes) s.flags.carry (flag m.sreg 0) d x spare less))
 
-  one_covered : (d x : ℕ) (v : AbsByte) → ByteStands o v x → Spares s.flags.carry d → Follows m o k (not scratch) b1 b2 (setting m (set d x) m.sreg) (node_setting m.device k s (node_set s d v) s.flags)
+  one_covered : (d x : ℕ) (v : AbsByte) → ByteStands o v x → Spares s.flags.carry d → Follows m o s.facts k (not scratch) b1 b2 (setting m (set d x) m.sreg) (node_setting m.device k s (node_set s d v) s.flags)
   one_covered d x v h spare =
       setting_covered (set d x) (node_set s d v) (set_one m o k s at d v x h) (less_set m.registers s.flags.carry (flag m.sreg 0) d x spare at.stands.less)
 
-  lds_covered : (d a : ℕ) → b1 < 256 → Spares s.flags.carry d → Follows m o k (not scratch) b1 b2 (record (setting m (set d (read m a b1)) m.sreg) { pc = further m 2 })
+  lds_covered : (d a : ℕ) → b1 < 256 → Spares s.flags.carry d → Follows m o s.facts k (not scratch) b1 b2 (record (setting m (set d (read m a b1)) m.sreg) { pc = further m 2 })
       (node_going_to k (record s { registers = node_set s d (read_at m.device k s a) }) (node_further m.device k 2))
   lds_covered d a small spare =
       only m o k s at (not scratch) b1 b2 (record (setting m (set d (read m a b1)) m.sreg) { pc = further m 2 })
@@ -159,10 +163,10 @@ module _ (words : List ℕ) (A : List Entry) (m : State) (o : Origin) (k : NodeK
       (same_frame m o k s at (not scratch) (record (setting m (set d (read m a b1)) m.sreg) { pc = further m 2 })
       (record { key = at_word k (node_further m.device k 2); state = record s { registers = node_set s d (read_at m.device k s a) } }) refl refl refl refl refl
       (further_is m o k s at (not scratch) b1 b2 2) at.place.enables at.place.i refl (set_one m o k s at d (read_at m.device k s a) (read m a b1) (read_stands m o k s at a b1 small)) at.stands.flags
-      (less_set m.registers s.flags.carry (flag m.sreg 0) d (read m a b1) spare at.stands.less))
+      (less_set m.registers s.flags.carry (flag m.sreg 0) d (read m a b1) spare at.stands.less) (λ held. held))
 
   load_covered : (d : ℕ) (p : Pointer) → b1 < 256 → SparesAll s.flags.carry (d ∷ moved_pair p)
-      → Follows m o k (not scratch) b1 b2
+      → Follows m o s.facts k (not scratch) b1 b2
       (setting m (moved p (pair m (pointer_register p)) ++ set d (read m (address_of p (pair m (pointer_register p))) b1)) m.sreg) (load_row m.device k s d p)
   load_covered d p small spares =
       loading_covered (moved p (pair m (pointer_register p))) (pointer_moved p s) d (read m (address_of p (pair m (pointer_register p))) b1)
@@ -181,24 +185,24 @@ module _ (words : List ℕ) (A : List Entry) (m : State) (o : Origin) (k : NodeK
   abbrev on_next : ℕ
   on_next = wrapped m.device (further m 1)
 
-  follows : (e : Effect) (r : Raw) → Reaches m o k (not scratch) e r → Follows m o k (not scratch) b1 b2 e r
-  follows e r h = stays h.to h.present h.inst h.lands
+  follows : (e : Effect) (r : Raw) → Reaches m o s.facts k (not scratch) e r → Follows m o s.facts k (not scratch) b1 b2 e r
+  follows e r h = record { leads = λ held. stays h.to h.present h.inst (h.at_node.lands held) }
 
   module _ (members : AreWritten) where
     known_covered : (pc n : ℕ) → pc ≡ node_further m.device k n → (is_out : Bool) (a byte : ℕ) (v : AbsByte) → byte < 256 → ByteStands o v byte
         → (written_at m.device k.pc (at_word k (node_further m.device k n)) s is_out a v).faults ≡ []
-        → Follows m o k (not scratch) b1 b2 (stored m pc [] is_out a byte) (written_at m.device k.pc (at_word k (node_further m.device k n)) s is_out a v)
+        → Follows m o s.facts k (not scratch) b1 b2 (stored m pc [] is_out a byte) (written_at m.device k.pc (at_word k (node_further m.device k n)) s is_out a v)
     known_covered pc n pc_is is_out a byte v small stands clean =
         follows (stored m pc [] is_out a byte) (written_at m.device k.pc (at_word k (node_further m.device k n)) s is_out a v)
-        (written m o k s at (not scratch) pc (node_further m.device k n) pc_is [] s.registers at.stands.registers at.stands.less is_out byte small v stands
+        (written m o k s at (not scratch) pc (node_further m.device k n) pc_is [] s.registers at.stands.registers at.stands.less s.facts at.node.formed.facts is_out byte small v stands
         at.node.formed.count_registers at.machine.count_registers members a clean)
 
     register_covered : (pc n : ℕ) → pc ≡ node_further m.device k n → (is_out : Bool) (a r : ℕ) → (written_at m.device k.pc (at_word k (node_further m.device k n)) s is_out a (value s r)).faults ≡ []
-        → Follows m o k (not scratch) b1 b2 (stored m pc [] is_out a (register m r)) (written_at m.device k.pc (at_word k (node_further m.device k n)) s is_out a (value s r))
+        → Follows m o s.facts k (not scratch) b1 b2 (stored m pc [] is_out a (register m r)) (written_at m.device k.pc (at_word k (node_further m.device k n)) s is_out a (value s r))
     register_covered pc n pc_is is_out a r clean = known_covered pc n pc_is is_out a (register m r) (value s r) (register_byte m o k s at r) (register_stands m o k s at r) clean
 
     bit_covered : (a b : ℕ) (on : Bool) → (bit_row m.device k s a b on).faults ≡ []
-        → Follows m o k (not scratch) b1 b2 (stored m on_next [] false a (with_bit (read m a 0) b on)) (bit_row m.device k s a b on)
+        → Follows m o s.facts k (not scratch) b1 b2 (stored m on_next [] false a (with_bit (read m a 0) b on)) (bit_row m.device k s a b on)
     bit_covered a b on clean =
         known_covered on_next 1 (goes_further m o k s at (not scratch) b1 b2 1) false a (with_bit (read m a 0) b on) (untagged (byte_with (read_at m.device k s a).bits b (if on then One else Zero))) (with_bit_small (read m a 0) b on)
         (bits_make_values.stands o tag.None (byte_with (read_at m.device k s a).bits b (if on then One else Zero)) (with_bit (read m a 0) b on) (with_bit_small (read m a 0) b on) tt
@@ -207,26 +211,37 @@ module _ (words : List ℕ) (A : List Entry) (m : State) (o : Origin) (k : NodeK
     std_covered : (r up t : ℕ)
         → (is_fixed_site words A k.pc ≡ false → unlisted (store_line A k.pc) (set (plus16 (pair m r) up) (register m t)) ≡ None)
         → (pointer_write m.device words A s r up (pointed s r up) k.pc (next m.device k) s (value s t)).faults ≡ []
-        → Follows m o k (not scratch) b1 b2 (stored m on_next [] false (plus16 (pair m r) up) (register m t))
+        → Follows m o s.facts k (not scratch) b1 b2 (stored m on_next [] false (plus16 (pair m r) up) (register m t))
         (pointer_write m.device words A s r up (pointed s r up) k.pc (next m.device k) s (value s t))
     std_covered r up t unflagged clean =
         follows (stored m on_next [] false (plus16 (pair m r) up) (register m t)) (pointer_write m.device words A s r up (pointed s r up) k.pc (next m.device k) s (value s t))
-        (pointer_written m o k s at (not scratch) on_next (node_further m.device k 1) (goes_further m o k s at (not scratch) b1 b2 1) [] s.registers at.stands.registers at.stands.less (register m t) (register_byte m o k s at t)
+        (pointer_written m o k s at (not scratch) on_next (node_further m.device k 1) (goes_further m o k s at (not scratch) b1 b2 1) [] s.registers at.stands.registers at.stands.less s.facts at.node.formed.facts (register m t) (register_byte m o k s at t)
         (value s t) (register_stands m o k s at t) at.node.formed.count_registers at.machine.count_registers members words A r up unflagged clean)
 
-    st_covered : (p : Pointer) (t : ℕ) → SparesAll s.flags.carry (moved_pair p)
-        → (is_fixed_site words A k.pc ≡ false → unlisted (store_line A k.pc) (set (address_of p (pair m (pointer_register p))) (register m t)) ≡ None)
-        → (store_row m.device words A k s p t).faults ≡ []
-        → Follows m o k (not scratch) b1 b2 (stored m on_next (moved p (pair m (pointer_register p))) false (address_of p (pair m (pointer_register p))) (register m t))
-        (store_row m.device words A k s p t)
-    st_covered p t spares unflagged clean =
+    -- the pointer has moved, and what was known of pairs before is this
+    pub st_covered : (p : Pointer) (t : ℕ) (registers : List AbsByte) (told : Option PairFacts) → SparesAll s.flags.carry (moved_pair p) → length registers ≡ 32 → KnownFits told
+        → RegistersStand o registers (with_registers m.registers (moved p (pair m (pointer_register p))))
+        → protected_write words A m.pc (i.St p t) (effect_of words m (i.St p t) b1 b2) ≡ None
+        → (pointer_write m.device words A s (pointer_register p) (step_before p) (pointed s (pointer_register p) (step_before p)) k.pc (next m.device k)
+        (record s { registers = registers; facts = told }) (value s t)).faults ≡ []
+        → Follows m o told k (not scratch) b1 b2 (effect_of words m (i.St p t) b1 b2)
+        (pointer_write m.device words A s (pointer_register p) (step_before p) (pointed s (pointer_register p) (step_before p)) k.pc (next m.device k)
+        (record s { registers = registers; facts = told }) (value s t))
+    st_covered p t registers told spares count fits stand unflagged clean =
+        let writes : List Write = moved p (pair m (pointer_register p)) in
+        let row : Raw =
+        pointer_write m.device words A s (pointer_register p) (step_before p) (pointed s (pointer_register p) (step_before p)) k.pc (next m.device k)
+        (record s { registers = registers; facts = told }) (value s t) in
         let is = address_is p (pair m (pointer_register p)) (pair_small m o k s at (pointer_register p)) in
-        subst (λ a. Follows m o k (not scratch) b1 b2 (stored m on_next (moved p (pair m (pointer_register p))) false a (register m t)) (store_row m.device words A k s p t)) is
-        (follows (stored m on_next (moved p (pair m (pointer_register p))) false (plus16 (pair m (pointer_register p)) (step_before p)) (register m t)) (store_row m.device words A k s p t)
-        (pointer_written m o k s at (not scratch) on_next (node_further m.device k 1) (goes_further m o k s at (not scratch) b1 b2 1) (moved p (pair m (pointer_register p))) (pointer_moved p s) (pointer_stands m o k s at p)
-        (less_moved m.registers s.flags.carry (flag m.sreg 0) p (pair m (pointer_register p)) spares at.stands.less) (register m t) (register_byte m o k s at t) (value s t) (register_stands m o k s at t) (count_pointer s p ∙ at.node.formed.count_registers)
-        (count_set m.registers (moved p (pair m (pointer_register p))) ∙ at.machine.count_registers) members words A (pointer_register p) (step_before p)
-        (subst (λ a. is_fixed_site words A k.pc ≡ false → unlisted (store_line A k.pc) (set a (register m t)) ≡ None) (sym is) unflagged) clean))
+        let free = site_unflagged words A (set (address_of p (pair m (pointer_register p))) (register m t)) m.pc k.pc at.place.pc
+        (st_unflagged words A m.pc p t (effect_of words m (i.St p t) b1 b2) unflagged) in
+        let reaches : Reaches m o told k (not scratch) (stored m on_next writes false (plus16 (pair m (pointer_register p)) (step_before p)) (register m t)) row =
+        pointer_written m o k s at (not scratch) on_next (node_further m.device k 1) (goes_further m o k s at (not scratch) b1 b2 1) writes registers stand
+        (less_moved m.registers s.flags.carry (flag m.sreg 0) p (pair m (pointer_register p)) spares at.stands.less) told fits (register m t) (register_byte m o k s at t) (value s t)
+        (register_stands m o k s at t) count (count_set m.registers writes ∙ at.machine.count_registers) members words A (pointer_register p) (step_before p)
+        (subst (λ a. is_fixed_site words A k.pc ≡ false → unlisted (store_line A k.pc) (set a (register m t)) ≡ None) (sym is) free) clean in
+        subst (λ a. Follows m o told k (not scratch) b1 b2 (stored m on_next writes false a (register m t)) row) is
+        (record { leads = λ held. stays reaches.to reaches.present reaches.inst (reaches.at_node.lands held) })
 
   -- ---- the rows
 
@@ -242,8 +257,8 @@ module _ (words : List ℕ) (A : List Entry) (m : State) (o : Origin) (k : NodeK
   addressed_covered members are small (i.Lds d a) spares is clean unflagged = lds_covered d a small spares.0
   addressed_covered members are small (i.Sts a r) spares is clean unflagged = register_covered members (further m 2) 2 (further_is m o k s at (not scratch) b1 b2 2) false a r clean
   addressed_covered members are small (i.Ld d p) spares is clean unflagged = load_covered d p small spares
-  addressed_covered members are small (i.St p r) spares is clean unflagged = st_covered members p r spares
-      (site_unflagged words A (set (address_of p (pair m (pointer_register p))) (register m r)) m.pc k.pc at.place.pc (st_unflagged words A m.pc p r (effect_of words m (i.St p r) b1 b2) unflagged.protected)) clean
+  addressed_covered members are small (i.St p r) spares is clean unflagged =
+      st_covered members p r (pointer_moved p s) s.facts spares (count_pointer s p ∙ at.node.formed.count_registers) at.node.formed.facts (pointer_stands m o k s at p) unflagged.protected clean
   addressed_covered members are small (i.LpmZ d) spares is clean unflagged = one_covered d _ _ (lpm_stands are small) spares.0
   addressed_covered members are small (i.LpmZPlus d) spares is clean unflagged =
       loading_covered (set_pair 30 (plus16 (pair m 30) 1)) (pair_moved s 30 true 1) d (flash_read words (pair m 30) b1) (Some (flash_value words (pair_constant s 30))) (count_moved s 30 true ∙ at.node.formed.count_registers)

@@ -12,22 +12,28 @@ use Rattle.mask_states.specs.declared.keys.NodeKey.{NodeKey}
 use Rattle.mask_states.specs.Keys.{offset_of}
 use Rattle.local_rules.specs.declared.local.NodeFault.TheVariants.{UnresolvedJump}
 use Rattle.local_rules.specs.Raw.{Raw, fails, all_of, untracked_if, too_deep_if}
-use Rattle.local_rules.specs.Local.{row_at, row_in, is_hung, fetched, picks, picking, picked, split_site, splitting, raw}
-use Rattle.local_rules.specs.Registers.{forgetting}
+use Rattle.local_rules.specs.Local.{row_at, row_in, row_by, plain_row, is_hung, fetched, picks, picking, picked_row, split_site, splitting, raw}
+use Rattle.abs_state.specs.FlagsSet.{sets_flags, sets_carry}
+use Rattle.local_rules.specs.Registers.{before}
 use Rattle.local_rules.specs.Machine.{AreWords}
-use Rattle.local_rules.specs.Cover.{InFrame, CoversStep}
+use Rattle.local_rules.specs.Cover.{CoversStep}
+use Rattle.local_laws.proofs.Bare.{InBareFrame, bare_frame}
+use Rattle.local_laws.proofs.PairedStep.{paired_covered}
+use Rattle.pair_domain.specs.declared.facts.PairFacts.{PairFacts}
+use Rattle.pair_cuts.specs.Cuts.{pick_cut}
 use Rattle.local_laws.proofs.Less.{forgetting_at, forgotten_spares}
 use Rattle.local_laws.specs.Laws.{LocalPartsCover}
 use Rattle.local_laws.proofs.CoverMemory.{addressed_covered}
 use Rattle.local_laws.proofs.CoverRows.{row_covered}
 use Rattle.local_laws.proofs.Sized.{sized_at}
+use Rattle.local_laws.proofs.Ends.{held}
 use Rattle.local_laws.proofs.SplitMembers.{are_written}
 use Rattle.local_laws.proofs.Targets.{scratch_makes_room}
 use Rattle.local_laws.proofs.Quiet.{Quiet}
 use Rattle.local_laws.proofs.Picks.{splits_at, at_quiet, in_picks, picked_at, all_covered}
 
-module _ (words : List ℕ) (A : List Entry) (m : State) (o : Origin) (k : NodeKey) (s : AbsState) (at : InFrame m o k s) (b1 b2 : ℕ) (small : b1 < 256)
-    (are : AreWords words) where
+module _ (words : List ℕ) (A : List Entry) (m : State) (o : Origin) (k : NodeKey) (s : AbsState) (at : InBareFrame m o k s) (b1 b2 : ℕ) (small : b1 < 256)
+    (other : b2 < 256) (are : AreWords words) where
   -- where the stack pointer isn't half written while an interrupt may come, and the frame isn't deeper than SRAM, the row decides
   not_hung : (hung : Bool) (instr : Option Instr) (r : Raw) → CoversStep words A m o k b1 b2 instr r → CoversStep words A m o k b1 b2 instr (untracked_if hung k.pc r)
   not_hung true None r h = λ clean. absurd (let e = clean in cc)
@@ -40,15 +46,25 @@ module _ (words : List ℕ) (A : List Entry) (m : State) (o : Origin) (k : NodeK
   not_deep true offset (Some instr) r h = λ clean. absurd (let e = clean in cc)
   not_deep false offset instr r h = h
 
+  plain_covered : (instr : Instr) → instruction_at words m.pc ≡ Some instr
+      → CoversStep words A m o k b1 b2 (Some instr) (plain_row m.device words A (is_scratch words m.pc) k s instr)
+  plain_covered instr e =
+      let t = before instr s in
+      let there = forgetting_at m o k s (written instr) (sets_flags instr) (sets_carry instr) at in
+      let spares = forgotten_spares (written instr) s.flags.carry in
+      let sized = sized_at words m.pc instr e in
+      let row =
+      row_covered m o k t there b1 b2 words A (is_scratch words m.pc) small instr spares sized (λ scratch. scratch_makes_room words m.pc instr scratch e)
+      (addressed_covered words A m o k t there (is_scratch words m.pc) b1 b2 are_written are small instr spares) in
+      λ clean unflagged. (row clean unflagged).leads (held words m o k s b1 b2 instr are small other sized at)
+
   at_instruction : (instr : Option Instr) → instruction_at words m.pc ≡ instr → CoversStep words A m o k b1 b2 instr (row_at m.device words A (is_scratch words m.pc) k s instr)
   at_instruction None e = λ clean. absurd (let e = clean in cc)
-  at_instruction (Some instr) e =
-      let t = forgetting (written instr) s in
-      let there = forgetting_at m o k s (written instr) at in
-      let spares = forgotten_spares (written instr) s.flags.carry in
-      row_covered m o k t there b1 b2 words A (is_scratch words m.pc) small instr spares (sized_at words m.pc instr e)
-      (λ scratch. scratch_makes_room words m.pc instr scratch e)
-      (addressed_covered words A m o k t there (is_scratch words m.pc) b1 b2 are_written are small instr spares)
+  at_instruction (Some instr) e = by s.facts refl
+    where
+      by : (f : Option PairFacts) → s.facts ≡ f → CoversStep words A m o k b1 b2 (Some instr) (row_by f m.device words A (is_scratch words m.pc) k s instr)
+      by None is = plain_covered instr e
+      by (Some f) is = paired_covered words A m o k s at b1 b2 small other are f is instr e (plain_covered instr e)
 
   -- the machine's word is one of its device's flash
   is_fetched : instruction_at words m.pc ≡ fetched m.device words m.pc
@@ -65,8 +81,8 @@ module _ (words : List ℕ) (A : List Entry) (m : State) (o : Origin) (k : NodeK
       subst (λ pc. Covering (row_at (device_of words) words A (is_scratch words pc) k s (fetched (device_of words) words pc))) at.place.pc
       (subst (λ device. Covering (row_at device words A (is_scratch words m.pc) k s (fetched device words m.pc))) told here)
 
-module _ (words : List ℕ) (A : List Entry) (m : State) (o : Origin) (k : NodeKey) (s : AbsState) (at : InFrame m o k s) (b1 b2 : ℕ) (small : b1 < 256)
-    (are : AreWords words) (told : m.device ≡ device_of words) where
+module _ (words : List ℕ) (A : List Entry) (m : State) (o : Origin) (k : NodeKey) (s : AbsState) (at : InBareFrame m o k s) (b1 b2 : ℕ) (small : b1 < 256)
+    (other : b2 < 256) (are : AreWords words) (told : m.device ≡ device_of words) where
   abbrev Covers : Raw → Type 0
   Covers r = CoversStep words A m o k b1 b2 (instruction_at words m.pc) r
 
@@ -76,30 +92,40 @@ module _ (words : List ℕ) (A : List Entry) (m : State) (o : Origin) (k : NodeK
 
   -- what the node leads to with one byte picked
   abbrev row_picked : ℕ → Raw
-  row_picked x = row_in (device_of words) words A (picking k x) (picked s x)
+  row_picked x = picked_row (row_in (device_of words) words A) (picking k x) (pick_cut x s)
 
   -- a node that splits is covered by what it leads to with the byte that r30 has
   splitting_covered : (site : Option ℕ) → split_site words A k.pc k.pick ≡ site → Covers (splitting site (row_in (device_of words) words A) k s)
-  splitting_covered None e = row_in_covered words A m o k s at b1 b2 small are told
+  splitting_covered None e = row_in_covered words A m o k s at b1 b2 small other are told
   splitting_covered (Some jump) e = by (nat_le (length (picks s)) 64)
     where
-      quiet : Quiet (row_picked (register m 30))
-      quiet =
-          at_quiet (device_of words) words A (is_scratch words k.pc) (picking k (register m 30)) (picked s (register m 30)) (fetched (device_of words) words k.pc)
-          (splits_at words A k.pc k.pick jump e).1
+      x : ℕ
+      x = register m 30
+
+      quiet : (cut : Option AbsState) → Quiet (picked_row (row_in (device_of words) words A) (picking k x) cut)
+      quiet None = (refl, refl)
+      quiet (Some t) =
+          at_quiet (device_of words) words A (is_scratch words k.pc) (picking k x) t (fetched (device_of words) words k.pc) (splits_at words A k.pc k.pick jump e).1
+
+      found : (t : AbsState) × (pick_cut x s ≡ Some t) × InBareFrame m o (picking k x) t
+      found = picked_at m o k s at
+
+      at_pick : CoversStep words A m o (picking k x) b1 b2 (instruction_at words m.pc) (row_picked x)
+      at_pick =
+          subst (λ (cut : Option AbsState). CoversStep words A m o (picking k x) b1 b2 (instruction_at words m.pc) (picked_row (row_in (device_of words) words A) (picking k x) cut)) (sym found.1)
+          (row_in_covered words A m o (picking k x) found.0 found.2 b1 b2 small other are told)
 
       by : (few : Bool) → Covers (if few then all_of (map row_picked (picks s)) else fails (UnresolvedJump jump))
       by true =
-          all_covered words A m o k b1 b2 row_picked (picks s) (register m 30) (in_picks m o k s at) quiet (instruction_at words m.pc)
-          (row_in_covered words A m o (picking k (register m 30)) (picked s (register m 30)) (picked_at m o k s at) b1 b2 small are told)
+          all_covered words A m o k b1 b2 row_picked (picks s) x (in_picks m o k s at) (quiet (pick_cut x s)) (instruction_at words m.pc) at_pick
       by false = unresolved jump (instruction_at words m.pc)
 
   covered : Covers (raw words A k s)
   unfolding raw
   covered =
-      not_hung words A m o k s at b1 b2 small are (is_hung (device_of words) A k k.sp) (instruction_at words m.pc) _
-      (not_deep words A m o k s at b1 b2 small are (nat_lt (size_of (device_of words)) (offset_of k.sp)) (offset_of k.sp) (instruction_at words m.pc) _
+      not_hung words A m o k s at b1 b2 small other are (is_hung (device_of words) A k k.sp) (instruction_at words m.pc) _
+      (not_deep words A m o k s at b1 b2 small other are (nat_lt (size_of (device_of words)) (offset_of k.sp)) (offset_of k.sp) (instruction_at words m.pc) _
       (splitting_covered (split_site words A k.pc k.pick) refl))
 
 pub local_parts_cover : LocalPartsCover
-local_parts_cover = record { covered = λ words A m o k s b1 b2 are told at small other. covered words A m o k s at b1 b2 small are told }
+local_parts_cover = record { covered = λ words A m o k s b1 b2 are told at small other. covered words A m o k s (bare_frame m o k s at) b1 b2 small other are told }

@@ -11,6 +11,10 @@ use Rattle.avr_model.specs.declared.device.Device.TheVariants.{M48, M88, M168, M
 use Rattle.avr_model.specs.declared.assumption.Entry.{Entry}
 use Rattle.avr_model.specs.declared.instruction.Instr.{Instr}
 use Rattle.avr_model.specs.declared.instruction.Instr.TheVariants as i
+use Rattle.avr_model.specs.declared.instruction.BinaryOp.{BinaryOp}
+use Rattle.avr_model.specs.declared.instruction.BinaryOp.TheVariants as binary
+use Rattle.avr_model.specs.declared.instruction.Pointer.{Pointer}
+use Rattle.pair_domain.specs.declared.facts.PairFacts.{PairFacts}
 use Rattle.avr_model.specs.Assumptions.{jump_line, is_frame, lists}
 use Rattle.avr_model.specs.Text.{far, near}
 use Rattle.avr_model.specs.Sites.{is_scratch, base_register, pointer_register, instruction_at}
@@ -33,12 +37,11 @@ use Rattle.local_rules.specs.declared.local.CallSite.{CallSite}
 use Rattle.local_rules.specs.declared.local.Exit.{Exit}
 use Rattle.local_rules.specs.Raw.{enters, fails, next, at_word, further, leaves_by, Raw, untracked_if, too_deep_if}
 use Rattle.local_rules.specs.declared.local.NodeFault.TheVariants.{UnresolvedJump}
-use Rattle.local_rules.specs.Registers.{forgetting, bits, value}
+use Rattle.local_rules.specs.Registers.{before, bits, value}
 use Rattle.local_rules.specs.FrameLines.{binary_at}
-use Rattle.avr_model.specs.Written.{written}
 use Rattle.local_rules.specs.Reads.{read_at, pointed, read_pointed}
 use Rattle.local_rules.specs.Flow.{flag_at, width, words_on, targets_by, targets_at, is_half_written, site, calling, indirect_call, relative_call, at_closed, returning, ret_exit, reti_exit, pushing, popping, making_room}
-use Rattle.local_rules.specs.Local.{step_before, pointer_moved, row_of, row_at, row_in, is_hung, fetched, picks, split_site, splitting, raw}
+use Rattle.local_rules.specs.Local.{step_before, pointer_moved, row_of, row_at, row_by, paired_row, paired_binary, refining, storing, row_in, is_hung, fetched, picks, split_site, splitting, raw}
 use Rattle.local_laws.proofs.Members.{each_of, each_in_map, filter_passes}
 use Rattle.local_laws.specs.Laws.{LocalPartsFit}
 use Rattle.local_laws.proofs.MonotoneFields.{InstrFits, fetched_fits}
@@ -190,10 +193,45 @@ module _ (device : Device) (words : List ℕ) (A : List Entry) (k : NodeKey) (s 
   row_fits scratch i.Break fits = quiet_fits A k _ (refl, refl)
   row_fits scratch i.Wdr fits = quiet_fits A k _ (refl, refl)
 
+-- ---- where pairs are followed
+
+-- other moves change nothing of calls and returns
+refining_fits : (device : Device) (words : List ℕ) (A : List Entry) (k : NodeKey) (s : AbsState) (instr : Instr) (r : Raw) → IsFit device A k r → IsFit device A k (refining words instr s r)
+refining_fits device words A k s instr r h = record { words = record { calls = h.words.calls; exit = h.words.exit }; ascending = h.ascending }
+
+module _ (device : Device) (words : List ℕ) (A : List Entry) (k : NodeKey) (s : AbsState) where
+  storing_fits : (p : Pointer) (r : ℕ) (moved : Option AbsState) → IsFit device A k (storing device words A k s p r moved)
+  storing_fits p r None = quiet_fits A k _ (refl, refl)
+  storing_fits p r (Some moved) =
+      quiet_fits A k _ (pointer_quiet device words A s (pointer_register p) (step_before p) (pointed s (pointer_register p) (step_before p)) k.pc (next device k) moved (value s r))
+
+  if_fits : (b : Bool) (p q : Raw) → IsFit device A k p → IsFit device A k q → IsFit device A k (if b then p else q)
+  if_fits true p q h g = h
+  if_fits false p q h g = g
+
+  paired_binary_fits : (op : BinaryOp) (d r : ℕ) (other : Raw) → IsFit device A k other → IsFit device A k (paired_binary device words op k s d r other)
+  paired_binary_fits binary.Cpse d r other h = quiet_fits A k _ (refl, refl)
+  paired_binary_fits op d r other h = h
+
+  paired_fits : (scratch : Bool) (instr : Instr) → InstrFits instr → IsFit device A k (paired_row device words A scratch k s instr)
+  paired_fits scratch (i.Brbs n t) fits = if_fits (nat_lt n 7) _ _ (quiet_fits A k _ (refl, refl)) (row_fits device words A k (before (i.Brbs n t) s) scratch (i.Brbs n t) fits)
+  paired_fits scratch (i.Brbc n t) fits = if_fits (nat_lt n 7) _ _ (quiet_fits A k _ (refl, refl)) (row_fits device words A k (before (i.Brbc n t) s) scratch (i.Brbc n t) fits)
+  paired_fits scratch (i.Sbrc r b) fits = quiet_fits A k _ (refl, refl)
+  paired_fits scratch (i.Sbrs r b) fits = quiet_fits A k _ (refl, refl)
+  paired_fits scratch (i.Binary op d r) fits =
+      paired_binary_fits op d r _
+      (refining_fits device words A k s (i.Binary op d r) _ (row_fits device words A k (before (i.Binary op d r) s) scratch (i.Binary op d r) fits))
+  paired_fits scratch (i.St p r) fits = storing_fits p r _
+  paired_fits scratch instr fits = refining_fits device words A k s instr _ (row_fits device words A k (before instr s) scratch instr fits)
+
 module _ (words : List ℕ) (A : List Entry) (k : NodeKey) (s : AbsState) where
   at_fits : (scratch : Bool) (x : Option Instr) → ((instr : Instr) → x ≡ Some instr → InstrFits instr) → IsFit (device_of words) A k (row_at (device_of words) words A scratch k s x)
   at_fits scratch None fits = quiet_fits A k _ (refl, refl)
-  at_fits scratch (Some instr) fits = row_fits (device_of words) words A k (forgetting (written instr) s) scratch instr (fits instr refl)
+  at_fits scratch (Some instr) fits = by s.facts
+    where
+      by : (f : Option PairFacts) → IsFit (device_of words) A k (row_by f (device_of words) words A scratch k s instr)
+      by None = row_fits (device_of words) words A k (before instr s) scratch instr (fits instr refl)
+      by (Some f) = paired_fits (device_of words) words A k s scratch instr (fits instr refl)
 
   -- a node that splits neither calls nor returns
   split_fits : (jump : Option ℕ) → IsFit (device_of words) A k (splitting jump (row_in (device_of words) words A) k s)

@@ -1,5 +1,5 @@
 -- What the rows share: successors that keep the stack pointer, registers that are read and set, and flags that are kept.
-use Rattle.std.proofs.Common.{◌≡◌, refl, sym, ◌∙◌, ap, ap₂, subst, subst₂, ℕ, ◌+◌, ◌-◌, ◌<◌, ⊎_elim, Bool, true, false, List, [], ◌∷◌, length, slice_index, slice_set, arith, Contains, length-set}
+use Rattle.std.proofs.Common.{◌≡◌, refl, sym, ◌∙◌, ap, ap₂, subst, subst₂, ℕ, ◌+◌, ◌-◌, ◌<◌, ⊎_elim, Bool, true, false, List, [], ◌∷◌, length, slice_index, slice_set, arith, Contains, length-set, Option}
 use Rattle.std.proofs.lemmas.Grind.{elements}
 use Rattle.std.proofs.lemmas.Bool.{cases_lt, cases_eq}
 use Rattle.std.proofs.lemmas.Bool.Decides.{nat_tests}
@@ -15,15 +15,15 @@ use Rattle.avr_model.specs.Effects.{going_to, setting, further}
 use Rattle.avr_model.specs.Step.{after, with_registers, registers_after, sreg_after, sp_after, open_after, enables_after, all_inside}
 use Rattle.sp_domain.specs.declared.slots.Slot.{Slot}
 use Rattle.sp_domain.specs.declared.slots.Slot.TheVariants.{Free, Guarded}
-use Rattle.sp_domain.specs.declared.tags.Tag.TheVariants as tag
 use Rattle.sp_domain.specs.Tags.{Origin, LessHolds}
 use Rattle.sp_domain.specs.Slots.{slot_at}
+use Rattle.pair_domain.specs.declared.facts.PairFacts.{PairFacts}
 use Rattle.abs_state.specs.declared.values.AbsByte.{AbsByte}
 use Rattle.abs_state.specs.declared.values.AbsFlags.{AbsFlags}
 use Rattle.abs_state.specs.declared.state.AbsState.{AbsState}
 use Rattle.abs_state.specs.Values.{value_at, unknown}
 use Rattle.abs_state.specs.Stands.{ByteStands, FlagsStand, RegistersStand, SlotStands, SlotsStand}
-use Rattle.abs_state.specs.Laws.{Keeps}
+use Rattle.abs_state.specs.Laws.{Keeps, HoldsAt}
 use Rattle.abs_state.proofs.AllLaws.{any_stands}
 use Rattle.mask_states.specs.declared.keys.NodeKey.{NodeKey}
 use Rattle.mask_states.specs.declared.keys.SpForm.{SpForm}
@@ -34,7 +34,9 @@ use Rattle.local_rules.specs.declared.local.Node.{Node}
 use Rattle.local_rules.specs.Raw.{moves_to, next, at_word, off_table, setting as node_setting, further as node_further}
 use Rattle.local_rules.specs.Registers.{value}
 use Rattle.local_rules.specs.Machine.{floor_of}
-use Rattle.local_rules.specs.Cover.{InFrame, ArrivesAt, Follows, stays}
+use Rattle.local_rules.specs.Cover.{stays}
+use Rattle.local_laws.proofs.Bare.{InBareFrame}
+use Rattle.local_laws.proofs.Landing.{Held, ArrivesAt, Follows}
 use Rattle.local_laws.proofs.Bytes.{byte_in_list}
 
 pub second : {A : Type 0} (x y : A) (xs : List A) → Contains (x ∷ y ∷ xs) y
@@ -76,7 +78,7 @@ above_floor base sp d memory true (Open offset high) h lt live = live_above_none
 
 -- ---- a node that the machine is at
 
-module _ (m : State) (o : Origin) (k : NodeKey) (s : AbsState) (at : InFrame m o k s) where
+module _ (m : State) (o : Origin) (k : NodeKey) (s : AbsState) (at : InBareFrame m o k s) where
   pub register_stands : (r : ℕ) → ByteStands o (value s r) (register m r)
   register_stands r =
       ⊎_elim
@@ -103,21 +105,25 @@ module _ (m : State) (o : Origin) (k : NodeKey) (s : AbsState) (at : InFrame m o
   next_is = devices_are_alike.twice m.device (m.pc + 1) ∙ ap (λ pc. wrapped m.device (pc + 1)) at.place.pc
 
   -- A successor at the same stack pointer, with the same slots, where nothing is pushed.
-  pub same_frame : (guarded : Bool) (e : Effect) (to : Node) → e.pushes ≡ [] → to.key.sp ≡ k.sp → to.state.slots ≡ s.slots
+  pub frame_kept : (told : Option PairFacts) (guarded : Bool) (e : Effect) (to : Node) → e.pushes ≡ [] → to.key.sp ≡ k.sp → to.state.slots ≡ s.slots
       → sp_after e.sp e.stores ≡ m.sp → open_after e.is_open e.stores ≡ m.is_open
       → e.pc ≡ to.key.pc → enables_after e.enables e.stores ≡ to.key.masks → flag (sreg_after e.sreg e.stores) 7 ≡ to.key.i → e.delay ≡ to.key.delay
       → RegistersStand o to.state.registers (registers_after (with_registers m.registers e.registers) e.stores)
       → FlagsStand o to.state.flags (sreg_after e.sreg e.stores)
       → LessHolds (registers_after (with_registers m.registers e.registers) e.stores) to.state.flags.carry (flag (sreg_after e.sreg e.stores) 0)
-      → ArrivesAt m o guarded e to
-  same_frame guarded e to pushes sp slots sp_is open_is pc enables i delay registers flags less =
+      → (Held m told e → HoldsAt to.state.facts (registers_after (with_registers m.registers e.registers) e.stores) (sreg_after e.sreg e.stores))
+      → ArrivesAt m o told guarded e to
+  frame_kept told guarded e to pushes sp slots sp_is open_is pc enables i delay registers flags less facts =
       record {
-        inside = λ room. ap (all_inside m.device) pushes;
-        place = λ within. record { pc = pc; enables = enables; i = i; delay = delay; sp = place };
-        registers = registers;
-        flags = flags;
-        less = less;
-        slots = λ within inside kept. subst (SlotsStand o (after m guarded e).memory) (sym slots) (slots_kept (after m guarded e).memory (subst (Keeps m.memory (after m guarded e).memory) floor kept));
+        lands = λ held. record {
+          inside = λ room. ap (all_inside m.device) pushes;
+          place = λ within. record { pc = pc; enables = enables; i = i; delay = delay; sp = place };
+          registers = registers;
+          flags = flags;
+          less = less;
+          facts = facts held;
+          slots = λ within inside kept. subst (SlotsStand o (after m guarded e).memory) (sym slots) (slots_kept (after m guarded e).memory (subst (Keeps m.memory (after m guarded e).memory) floor kept));
+        };
       }
     where
       place : SpIs o.base (open_after e.is_open e.stores) (sp_after e.sp e.stores) to.key.sp
@@ -128,33 +134,43 @@ module _ (m : State) (o : Origin) (k : NodeKey) (s : AbsState) (at : InFrame m o
       floor : floor_of (after m guarded e).is_open (after m guarded e).sp ≡ floor_of m.is_open m.sp
       floor = ap₂ floor_of open_is sp_is
 
+  pub same_frame : (guarded : Bool) (e : Effect) (to : Node) → e.pushes ≡ [] → to.key.sp ≡ k.sp → to.state.slots ≡ s.slots
+      → sp_after e.sp e.stores ≡ m.sp → open_after e.is_open e.stores ≡ m.is_open
+      → e.pc ≡ to.key.pc → enables_after e.enables e.stores ≡ to.key.masks → flag (sreg_after e.sreg e.stores) 7 ≡ to.key.i → e.delay ≡ to.key.delay
+      → RegistersStand o to.state.registers (registers_after (with_registers m.registers e.registers) e.stores)
+      → FlagsStand o to.state.flags (sreg_after e.sreg e.stores)
+      → LessHolds (registers_after (with_registers m.registers e.registers) e.stores) to.state.flags.carry (flag (sreg_after e.sreg e.stores) 0)
+      → (Held m s.facts e → HoldsAt to.state.facts (registers_after (with_registers m.registers e.registers) e.stores) (sreg_after e.sreg e.stores))
+      → ArrivesAt m o s.facts guarded e to
+  same_frame = frame_kept s.facts
+
   -- the only successor
-  pub only : (guarded : Bool) (b1 b2 : ℕ) (e : Effect) (to : Node) → to.key.inst ≡ k.inst → ArrivesAt m o guarded e to
-      → Follows m o k guarded b1 b2 e (moves_to (to ∷ []))
-  only guarded b1 b2 e to inst lands = stays to (first_in to []) inst lands
+  pub only : (guarded : Bool) (b1 b2 : ℕ) (e : Effect) (to : Node) → to.key.inst ≡ k.inst → ArrivesAt m o s.facts guarded e to
+      → Follows m o s.facts k guarded b1 b2 e (moves_to (to ∷ []))
+  only guarded b1 b2 e to inst at_node = record { leads = λ held. stays to (first_in to []) inst (at_node.lands held) }
 
   -- a row that sets registers and flags and goes on
   pub sets : (guarded : Bool) (b1 b2 : ℕ) (writes : List Write) (sreg : ℕ) (registers : List AbsByte) (flags : AbsFlags) → flag sreg 7 ≡ flag m.sreg 7
       → RegistersStand o registers (with_registers m.registers writes) → FlagsStand o flags sreg
       → LessHolds (with_registers m.registers writes) flags.carry (flag sreg 0)
-      → Follows m o k guarded b1 b2 (setting m writes sreg) (node_setting m.device k s registers flags)
+      → Follows m o s.facts k guarded b1 b2 (setting m writes sreg) (node_setting m.device k s registers flags)
   sets guarded b1 b2 writes sreg registers flags i h g less =
       only guarded b1 b2 _ _ refl
-      (same_frame guarded (setting m writes sreg) (record { key = next m.device k; state = record s { registers = registers; flags = flags } }) refl refl refl refl refl next_is at.place.enables (i ∙ at.place.i) refl h g less)
+      (same_frame guarded (setting m writes sreg) (record { key = next m.device k; state = record s { registers = registers; flags = flags } }) refl refl refl refl refl next_is at.place.enables (i ∙ at.place.i) refl h g less (λ held. held))
 
   -- a row that goes to a word, modulo the number of words, and changes nothing else
-  pub goes_to : (guarded : Bool) (pc pc' : ℕ) → wrapped m.device pc ≡ pc' → ArrivesAt m o guarded (going_to m pc) (record { key = at_word k pc'; state = s })
+  pub goes_to : (guarded : Bool) (pc pc' : ℕ) → wrapped m.device pc ≡ pc' → ArrivesAt m o s.facts guarded (going_to m pc) (record { key = at_word k pc'; state = s })
   goes_to guarded pc pc' is =
-      same_frame guarded (going_to m pc) (record { key = at_word k pc'; state = s }) refl refl refl refl refl is at.place.enables at.place.i refl at.stands.registers at.stands.flags at.stands.less
+      same_frame guarded (going_to m pc) (record { key = at_word k pc'; state = s }) refl refl refl refl refl is at.place.enables at.place.i refl at.stands.registers at.stands.flags at.stands.less (λ held. held)
 
   -- the same off a jump table
-  pub turns_to : (guarded : Bool) (pc pc' : ℕ) → wrapped m.device pc ≡ pc' → ArrivesAt m o guarded (going_to m pc) (record { key = off_table k pc'; state = s })
+  pub turns_to : (guarded : Bool) (pc pc' : ℕ) → wrapped m.device pc ≡ pc' → ArrivesAt m o s.facts guarded (going_to m pc) (record { key = off_table k pc'; state = s })
   turns_to guarded pc pc' is =
-      same_frame guarded (going_to m pc) (record { key = off_table k pc'; state = s }) refl refl refl refl refl is at.place.enables at.place.i refl at.stands.registers at.stands.flags at.stands.less
+      same_frame guarded (going_to m pc) (record { key = off_table k pc'; state = s }) refl refl refl refl refl is at.place.enables at.place.i refl at.stands.registers at.stands.flags at.stands.less (λ held. held)
 
   -- the same where some registers' ranges are cut
   pub goes_cut : (guarded : Bool) (pc pc' : ℕ) (values : List AbsByte) → wrapped m.device pc ≡ pc' → RegistersStand o values m.registers
-      → ArrivesAt m o guarded (going_to m pc) (record { key = off_table k pc'; state = record s { registers = values } })
+      → ArrivesAt m o s.facts guarded (going_to m pc) (record { key = off_table k pc'; state = record s { registers = values } })
   goes_cut guarded pc pc' values is stand =
       same_frame guarded (going_to m pc) (record { key = off_table k pc'; state = record s { registers = values } }) refl refl refl refl refl is at.place.enables at.place.i refl stand
-      at.stands.flags at.stands.less
+      at.stands.flags at.stands.less (λ held. held)

@@ -1,5 +1,5 @@
 -- Joined successors are the least above the raw ones, in ascending order.
-use Rattle.std.proofs.Common.{◌≡◌, refl, sym, ap, ◌∙◌, subst, ◌⊎◌, inl, inr, ⊎_elim, List, [], ◌∷◌, map, Contains}
+use Rattle.std.proofs.Common.{◌≡◌, refl, sym, ap, ap₂, ◌∙◌, subst, ◌&&◌, Bool, true, false, ◌⊎◌, inl, inr, ⊎_elim, List, [], ◌∷◌, map, Contains}
 use Rattle.std.specs.List.{AllByRecursion}
 use Rattle.std.specs.List.Sorted.{IsStrictlySortedBy}
 use Rattle.std.specs.Ordering.{ordering_reverse}
@@ -7,33 +7,38 @@ use Rattle.std.specs.declared.cmp.Ordering.{Ordering}
 use Rattle.std.specs.declared.cmp.Ordering.TheVariants.{Less, Equal, Greater}
 use Rattle.basics.specs.Items.{none_in, first_in, further_in, first_or_further}
 use Rattle.local_rules.proofs.Placing.{joined}
+use Rattle.pair_domain.proofs.AllLaws.{known_is_ordered}
 use Rattle.abs_state.specs.declared.state.AbsState.{AbsState}
 use Rattle.abs_state.specs.Order.{IsStateWithin, IsLeastAbove, state_join}
 use Rattle.abs_state.specs.Formed.{IsFormed}
-use Rattle.abs_state.proofs.AllLaws.{states_are_ordered, joins_are_formed, tags_stay_fit}
+use Rattle.abs_state.proofs.AllLaws.{states_are_ordered, joins_are_formed, tags_stay_fit, hulls_hold_intervals}
 use Rattle.mask_states.specs.declared.keys.NodeKey.{NodeKey}
 use Rattle.mask_states.specs.Keys.{offset_of}
 use Rattle.mask_states.specs.Order.{node_cmp}
 use Rattle.mask_states.proofs.AllLaws.{keys_are_ordered}
 use Rattle.local_rules.specs.declared.local.Node.{Node}
 use Rattle.local_rules.specs.Local.{place_by, placed, joined_onto}
-use Rattle.local_rules.specs.Cover.{IsNode}
+use Rattle.local_rules.specs.Cover.{IsNodeIn}
 use Rattle.local_rules.specs.Order.{IsBelowOne}
-use Rattle.local_laws.specs.Laws.{HasKey, AreNodes, JoinsAreLeast}
+use Rattle.local_laws.specs.Laws.{HasKey, AreNodesIn, JoinsAreLeast}
 use Rattle.local_laws.proofs.Members.{each_of}
 
 -- ---- two nodes of one key
 
-formed_at : (m n : Node) → n.key ≡ m.key → IsNode n.key n.state → IsFormed n.state (offset_of m.key.sp)
+and_self : (b : Bool) → b && b ≡ b
+and_self true = refl
+and_self false = refl
+
+formed_at : {followed : Bool} (m n : Node) → n.key ≡ m.key → IsNodeIn followed n.key n.state → IsFormed n.state (offset_of m.key.sp)
 formed_at m n e h = subst (λ (k : NodeKey). IsFormed n.state (offset_of k.sp)) e h.formed
 
-joined_least : (m n : Node) → n.key ≡ m.key → IsNode m.key m.state → IsNode n.key n.state → IsLeastAbove m.state n.state (state_join m.state n.state)
+joined_least : {followed : Bool} (m n : Node) → n.key ≡ m.key → IsNodeIn followed m.key m.state → IsNodeIn followed n.key n.state → IsLeastAbove m.state n.state (state_join m.state n.state)
 joined_least m n e a b =
     let f = formed_at m n e b in
-    states_are_ordered.join m.state n.state a.formed.count_registers f.count_registers (a.formed.count_slots ∙ sym f.count_slots)
+    states_are_ordered.join m.state n.state (joins_are_formed.whole m.state (offset_of m.key.sp) a.formed) (joins_are_formed.whole n.state (offset_of m.key.sp) f) (a.formed.count_slots ∙ sym f.count_slots)
 
-joined_node : (m n : Node) → n.key ≡ m.key → IsNode m.key m.state → IsNode n.key n.state → IsNode (joined m n).key (joined m n).state
-joined_node m n e a b =
+joined_node : {followed : Bool} (m n : Node) → n.key ≡ m.key → IsNodeIn followed m.key m.state → IsNodeIn followed n.key n.state → IsNodeIn followed (joined m n).key (joined m n).state
+joined_node {followed = followed} m n e a b =
     let le = (joined_least m n e a b).first in
     record {
       word = a.word;
@@ -47,6 +52,10 @@ joined_node m n e a b =
       untagged = λ root.
           joins_are_formed.untagged m.state n.state (offset_of m.key.sp) a.formed (formed_at m n e b) (a.untagged root)
           (b.untagged (ap (λ (k : NodeKey). k.inst.kind) e ∙ root));
+      mode = known_is_ordered.followed m.state.facts n.state.facts ∙ ap₂ (λ x y. x && y) a.mode b.mode ∙ and_self followed;
+      hulls =
+          hulls_hold_intervals.joins m.state n.state (joins_are_formed.whole m.state (offset_of m.key.sp) a.formed)
+          (joins_are_formed.whole n.state (offset_of m.key.sp) (formed_at m n e b)) a.hulls b.hulls;
     }
 
 -- ---- what holds of all nodes, and of joins, holds of the joined ones
@@ -67,8 +76,8 @@ module _ (P : Node → Type 0) (join : (m n : Node) → n.key ≡ m.key → P m 
   joined_each done [] h hs = h
   joined_each done (n ∷ ns) h hs = joined_each (placed n done) ns (placed_each n done (hs n (first_in n ns)) h) (λ x i. hs x (further_in n x ns i))
 
-joined_nodes : (done ns : List Node) → AreNodes done → AreNodes ns → AreNodes (joined_onto done ns)
-joined_nodes = joined_each (λ (n : Node). IsNode n.key n.state) joined_node
+joined_nodes : {followed : Bool} (done ns : List Node) → AreNodesIn followed done → AreNodesIn followed ns → AreNodesIn followed (joined_onto done ns)
+joined_nodes {followed = followed} = joined_each (λ (n : Node). IsNodeIn followed n.key n.state) (joined_node {followed = followed})
 
 -- ---- each is below the one of its key
 
@@ -78,7 +87,7 @@ below_itself x xs i = record { state = x.state; present = i; above = states_are_
 below_more : (m x : Node) (xs : List Node) → IsBelowOne xs x → IsBelowOne (m ∷ xs) x
 below_more m x xs b = record { state = b.state; present = further_in m (record { key = x.key; state = b.state }) xs b.present; above = b.above }
 
-placed_below : (n : Node) (ms : List Node) → IsNode n.key n.state → AreNodes ms → (x : Node) → (x ≡ n) ⊎ Contains ms x → IsBelowOne (placed n ms) x
+placed_below : {followed : Bool} (n : Node) (ms : List Node) → IsNodeIn followed n.key n.state → AreNodesIn followed ms → (x : Node) → (x ≡ n) ⊎ Contains ms x → IsBelowOne (placed n ms) x
 unfolding placed
 placed_below n [] h hs x = ⊎_elim (λ e. subst (IsBelowOne (n ∷ [])) (sym e) (below_itself n (n ∷ []) (first_in n []))) (λ i. absurd (none_in x i))
 placed_below n (m ∷ ms) h hs x = by (placed_below n ms h (λ x i. hs x (further_in m x ms i))) (node_cmp n.key m.key) refl
@@ -106,11 +115,11 @@ placed_below n (m ∷ ms) h hs x = by (placed_below n ms h (λ x i. hs x (furthe
         ⊎_elim (λ e. below_more m x (placed n ms) (rest x (inl e)))
         (each_of (IsBelowOne (m ∷ placed n ms)) m ms (below_itself m (m ∷ placed n ms) (first_in m (placed n ms))) (λ y i. below_more m y (placed n ms) (rest y (inr i))) x)
 
-joined_below : (done ns : List Node) → AreNodes done → AreNodes ns → (x : Node) → Contains done x ⊎ Contains ns x → IsBelowOne (joined_onto done ns) x
+joined_below : {followed : Bool} (done ns : List Node) → AreNodesIn followed done → AreNodesIn followed ns → (x : Node) → Contains done x ⊎ Contains ns x → IsBelowOne (joined_onto done ns) x
 unfolding joined_onto
 joined_below done [] h hs x = ⊎_elim (below_itself x done) (λ i. absurd (none_in x i))
-joined_below done (n ∷ ns) h hs x =
-    let done_nodes = placed_each (λ (n : Node). IsNode n.key n.state) joined_node n done (hs n (first_in n ns)) h in
+joined_below {followed = followed} done (n ∷ ns) h hs x =
+    let done_nodes = placed_each (λ (n : Node). IsNodeIn followed n.key n.state) (joined_node {followed = followed}) n done (hs n (first_in n ns)) h in
     let rest = joined_below (placed n done) ns done_nodes (λ x i. hs x (further_in n x ns i)) in
     ⊎_elim (λ i. later rest (inr i)) (λ i. ⊎_elim (λ e. later rest (inl e)) (λ j. rest x (inr j)) (first_or_further n x ns i))
   where
@@ -164,11 +173,11 @@ joined_keys : (nodes : List Node) (n : Node) → Contains (joined_onto [] nodes)
 joined_keys nodes =
     joined_each (λ (n : Node). HasKey nodes n.key) (λ m n e a b. a) [] nodes (λ n i. absurd (none_in n i)) (λ n i. (n, (i, refl)))
 
-abbrev IsUnder : Node → AbsState → Node → Type 0
-IsUnder n t x = IsNode x.key x.state × (x.key ≡ n.key → IsStateWithin x.state t)
+abbrev IsUnder : Bool → Node → AbsState → Node → Type 0
+IsUnder followed n t x = IsNodeIn followed x.key x.state × (x.key ≡ n.key → IsStateWithin x.state t)
 
-joined_under : (n : Node) (t : AbsState) (x y : Node) → y.key ≡ x.key → IsUnder n t x → IsUnder n t y → IsUnder n t (joined x y)
-joined_under n t x y e a b =
+joined_under : (followed : Bool) (n : Node) (t : AbsState) (x y : Node) → y.key ≡ x.key → IsUnder followed n t x → IsUnder followed n t y → IsUnder followed n t (joined x y)
+joined_under followed n t x y e a b =
     (joined_node x y e a.0 b.0, λ is. (joined_least x y e a.0 b.0).least t (a.1 is) (b.1 (e ∙ is)))
 
 pub all_joins_are_least : JoinsAreLeast
@@ -178,6 +187,6 @@ all_joins_are_least = record {
   nodes = λ nodes h. joined_nodes [] nodes (λ n i. absurd (none_in n i)) h;
   above = λ nodes n h i. joined_below [] nodes (λ n i. absurd (none_in n i)) h n (inr i);
   keys = joined_keys;
-  least = λ nodes n t h i over.
-      (joined_each (IsUnder n t) (joined_under n t) [] nodes (λ x i. absurd (none_in x i)) (λ x j. (h x j, over x j)) n i).1 refl;
+  least = λ {followed} nodes n t h i over.
+      (joined_each (IsUnder followed n t) (joined_under followed n t) [] nodes (λ x i. absurd (none_in x i)) (λ x j. (h x j, over x j)) n i).1 refl;
 }

@@ -8,6 +8,7 @@ use Rattle.std.proofs.lemmas.Bool.Decides.{nat_tests}
 use Rattle.std.proofs.lemmas.Grind.{elements}
 use Rattle.avr_model.specs.declared.instruction.Pointer.{Pointer}
 use Rattle.avr_model.specs.declared.instruction.Pointer.TheVariants as pointer
+use Rattle.avr_model.specs.Sreg.{flag}
 use Rattle.avr_model.specs.Written.{moved_pair}
 use Rattle.avr_model.specs.State.{State}
 use Rattle.avr_model.specs.Effects.{moved}
@@ -18,17 +19,20 @@ use Rattle.sp_domain.specs.declared.tags.CarryTag.{CarryTag}
 use Rattle.sp_domain.specs.declared.tags.CarryTag.TheVariants as carry
 use Rattle.sp_domain.specs.Tags.{Origin, CarryHolds, LessHolds, HasBytes, IsCarryWithin}
 use Rattle.sp_domain.proofs.AllLaws.{carries_are_ordered}
+use Rattle.pair_domain.specs.Rank.{KnownFits}
+use Rattle.pair_domain.proofs.AllLaws.{known_is_ordered}
 use Rattle.abs_state.specs.declared.values.AbsByte.{AbsByte}
 use Rattle.abs_state.specs.declared.state.AbsState.{AbsState}
 use Rattle.abs_state.specs.Formed.{CarryNamesRegister, CarryIsUntagged}
 use Rattle.abs_state.specs.Stands.{ByteStands}
 use Rattle.abs_state.specs.Order.{IsStateWithin}
-use Rattle.abs_state.proofs.AllLaws.{states_are_ordered, values_say_less}
+use Rattle.abs_state.specs.Ended.{is_one_of, ended}
+use Rattle.abs_state.proofs.AllLaws.{states_are_ordered, values_say_less, writes_end_facts}
 use Rattle.mask_states.specs.declared.keys.NodeKey.{NodeKey}
 use Rattle.local_rules.specs.Registers.{borrow_tag, less_than, less_alone, less_kept, forgotten, forgetting}
 use Rattle.local_rules.specs.FrameLines.{sum_tag}
 use Rattle.local_rules.specs.Flow.{part_of}
-use Rattle.local_rules.specs.Cover.{InFrame}
+use Rattle.local_laws.proofs.Bare.{InBareFrame}
 
 -- ---- registers that it doesn't speak of
 
@@ -120,19 +124,20 @@ forgotten_more written c (carry.Borrow j l) le = same_forgotten written c (carry
 forgotten_more written c (carry.Sum j l) le = same_forgotten written c (carry.Sum j l) le
 forgotten_more written c (carry.Less r n) le = same_forgotten written c (carry.Less r n) le
 
-pub forgetting_less : (written : List ℕ) (s : AbsState) → IsStateWithin s (forgetting written s)
-forgetting_less written s =
+pub forgetting_less : (written : List ℕ) (flags carry : Bool) (s : AbsState) → KnownFits s.facts → IsStateWithin s (forgetting written flags carry s)
+forgetting_less written flags carry s fits =
     let same = states_are_ordered.same s in
     record {
       registers = same.registers;
       flags = record { entry = same.flags.entry; bits = same.flags.bits; carry = forgotten_less written s.flags.carry };
       count = refl;
       slots = same.slots;
+      facts = writes_end_facts.less (is_one_of written) flags carry s.facts fits;
     }
 
 -- the machine is there too
-pub forgetting_at : (m : State) (o : Origin) (k : NodeKey) (s : AbsState) (written : List ℕ) → InFrame m o k s → InFrame m o k (forgetting written s)
-forgetting_at m o k s written at =
+pub forgetting_at : (m : State) (o : Origin) (k : NodeKey) (s : AbsState) (written : List ℕ) (flags carry : Bool) → InBareFrame m o k s → InBareFrame m o k (forgetting written flags carry s)
+forgetting_at m o k s written flags carry at =
     record {
       machine = at.machine;
       node = record {
@@ -150,6 +155,7 @@ forgetting_at m o k s written at =
           carry = forgotten_is CarryNamesRegister written s.flags.carry at.node.formed.carry tt;
           ranges = at.node.formed.ranges;
           slot_ranges = at.node.formed.slot_ranges;
+          facts = writes_end_facts.fits (is_one_of written) flags carry s.facts at.node.formed.facts;
         };
         tags = record { registers = at.node.tags.registers; slots = at.node.tags.slots };
         carry_bytes = forgotten_is HasBytes written s.flags.carry at.node.carry_bytes tt;
@@ -161,7 +167,10 @@ forgetting_at m o k s written at =
         };
       };
       place = at.place;
-      stands = values_say_less.state o s (forgetting written s) m (forgetting_less written s) at.stands;
+      stands = values_say_less.state o s (forgetting written flags carry s) m (forgetting_less written flags carry s at.node.formed.facts) at.stands;
+      facts =
+          known_is_ordered.less s.facts (ended (is_one_of written) flags carry s.facts) m.registers (flag m.sreg 0) (flag m.sreg 1) (flag m.sreg 4)
+          (writes_end_facts.less (is_one_of written) flags carry s.facts at.node.formed.facts) at.facts;
       root = at.root;
       base_word = at.base_word;
     }

@@ -1,6 +1,8 @@
+pub mod Bare
 pub mod Bytes
 pub mod Bits
 pub mod Less
+pub mod Landing
 pub mod Frame
 pub mod Memory
 pub mod Alu
@@ -20,6 +22,7 @@ pub mod SplitMembers
 pub mod WriteValues
 pub mod PointerWrites
 pub mod CoverMemory
+pub mod Ends
 pub mod Covered
 pub mod Steps
 pub mod Members
@@ -44,3 +47,11 @@ pub mod FrameMonotone
 pub mod FrameCover
 pub mod Hung
 pub mod AllLaws
+pub mod PlainRows
+pub mod PairedPlain
+pub mod PairedCover
+pub mod PairedStep
+pub mod PairedMonotone
+pub mod MonotoneSplits
+pub mod KeptNodes
+pub mod KeptRaw

@@ -28,14 +28,14 @@ pub record IsEffect (device : Device) (e : Effect) : Type 0 where
 -- ---- the state after such an effect
 
 -- 32 registers, each a byte
-record AreRegisters (registers : List ℕ) : Type 0 where
-  count : length registers ≡ 32
-  each : All (λ b. b < 256) registers
+pub record AreRegisters (registers : List ℕ) : Type 0 where
+  pub count : length registers ≡ 32
+  pub each : All (λ b. b < 256) registers
 
 set_register : (registers : List ℕ) (r b : ℕ) → b < 256 → AreRegisters registers → AreRegisters (slice_set registers r b)
 set_register registers r b small h = record { count = length-set registers r b ∙ h.count; each = All-set (λ x. x < 256) registers r b small h.each }
 
-with_stay : (ws : List Write) (registers : List ℕ) → AreByteWrites ws → AreRegisters registers → AreRegisters (with_registers registers ws)
+pub with_stay : (ws : List Write) (registers : List ℕ) → AreByteWrites ws → AreRegisters registers → AreRegisters (with_registers registers ws)
 with_stay [] registers small h = h
 with_stay (w ∷ ws) registers small h = with_stay ws (slice_set registers w.address w.byte) small.1 (set_register registers w.address w.byte small.0 h)
 

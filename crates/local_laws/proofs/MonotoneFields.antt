@@ -19,6 +19,8 @@ InstrFits (i.Jmp t) = t < WORDS
 InstrFits (i.Call t) = t < WORDS
 InstrFits (i.Immediate op d n) = (d < 32) × (n < 256)
 InstrFits (i.Binary op d r) = d < 32
+InstrFits (i.Sbrc r b) = (r < 32) × (b < 8)
+InstrFits (i.Sbrs r b) = (r < 32) × (b < 8)
 InstrFits instr = ⊤
 
 -- ---- what is in the places of a letter
@@ -51,6 +53,12 @@ all_registers p w e = subst (λ (n : ℕ). letter 100 0 p w < n) e (letter_below
 both : (p : List ℕ) (w : ℕ) → bound_of 100 1 p ≡ 16 → bound_of 75 1 p ≡ 256 → (16 + letter 100 0 p w < 32) × (letter 75 0 p w < 256)
 both p w d k = (sixteen p w d, eight p w k)
 
+bit_of_register : (p : List ℕ) (w : ℕ) → bound_of 114 1 p ≡ 32 → bound_of 98 1 p ≡ 8 → (letter 114 0 p w < 32) × (letter 98 0 p w < 8)
+bit_of_register p w r b = (
+  subst (λ (n : ℕ). letter 114 0 p w < n) r (letter_below 114 p w 0 1 (omega arith)),
+  subst (λ (n : ℕ). letter 98 0 p w < n) b (letter_below 98 p w 0 1 (omega arith)),
+)
+
 word_small : (n : ℕ) → n % 2 ^ 14 < WORDS
 word_small n = omega arith
 
@@ -80,8 +88,10 @@ table_fits w next =
     let of_or = all_registers (places "0010 10rd dddd rrrr") w refl in
     let of_mov = all_registers (places "0010 11rd dddd rrrr") w refl in
     let of_mul = all_registers (places "1001 11rd dddd rrrr") w refl in
+    let of_sbrc = bit_of_register (places "1111 110r rrrr 0bbb") w refl refl in
+    let of_sbrs = bit_of_register (places "1111 111r rrrr 0bbb") w refl refl in
     let jmp = word_small next in
-    assumption (cpi, sbci, subi, ori, andi, ldi, of_cpc, of_sbc, of_add, of_cpse, of_cp, of_sub, of_adc, of_and, of_eor, of_or, of_mov, of_mul, jmp)
+    assumption (cpi, sbci, subi, ori, andi, ldi, of_cpc, of_sbc, of_add, of_cpse, of_cp, of_sub, of_adc, of_and, of_eor, of_or, of_mov, of_mul, of_sbrc, of_sbrs, jmp)
 
 rows_fit : (rows : List Row) (w next : ℕ) (instr : Instr) → RowsFit rows w next → decoded_by rows w next ≡ Some instr → InstrFits instr
 rows_fit [] w next instr h e = cc
@@ -96,7 +106,7 @@ decoded_fits : (w next : ℕ) (instr : Instr) → decoded w next ≡ Some instr 
 unfolding decoded
 decoded_fits w next instr e = rows_fit table w next instr (table_fits w next) e
 
-instruction_fits : (words : List ℕ) (pc : ℕ) (instr : Instr) → instruction_at words pc ≡ Some instr → InstrFits instr
+pub instruction_fits : (words : List ℕ) (pc : ℕ) (instr : Instr) → instruction_at words pc ≡ Some instr → InstrFits instr
 instruction_fits words pc instr e = decoded_fits (word_at words pc) (word_at words (pc + 1)) instr (decoded_at words pc instr e)
 
 pub fetched_fits : (device : Device) (words : List ℕ) (pc : ℕ) (instr : Instr) → fetched device words pc ≡ Some instr → InstrFits instr

@@ -307,7 +307,7 @@ module _ (device : Device) (k : NodeKey) (at : IsKey k) (s t : AbsState) (le : I
 
   -- the lesser state with one register cut
   cut_state : (r : ℕ) (x w : AbsByte) → IsLess kind x w → IsStateLess kind (offset_of k.sp) (record s { registers = set s r x }) (record t { registers = set t r w })
-  cut_state r x w h = record { registers = registers_set kind s.registers t.registers le.registers r x w h; flags = le.flags; slots = le.slots }
+  cut_state r x w h = record { registers = registers_set kind s.registers t.registers le.registers r x w h; flags = le.flags; slots = le.slots; facts = le.facts }
 
   set_itself : (xs : List AbsByte) (r : ℕ) → r < length xs → slice_set xs r (value_at xs r) ≡ xs
   set_itself [] r lt = absurd (omega arith)
@@ -433,6 +433,7 @@ module _ (device : Device) (k : NodeKey) (at : IsKey k) (s t : AbsState) (le : I
         registers = le.registers;
         flags = le.flags;
         slots = pushed_less kind offset s.slots t.slots (slots_at offset e) _ _ (pushed_slot_less kind scratch (value s r) (value t r) (reg device k at s t le r));
+        facts = le.facts;
       })))
 
   room_row : (target : ℕ) → target < WORDS → LeadsLess k.inst (at_closed k.sp k.pc (making_room device k s target)) (at_closed k.sp k.pc (making_room device k t target))
@@ -441,7 +442,7 @@ module _ (device : Device) (k : NodeKey) (at : IsKey k) (s t : AbsState) (le : I
       (λ offset e. room_by k.inst (nat_le (offset + 2) (size_of device)) (offset + 2) k.pc _ _ (λ small.
       one_less (record (at_word k target) { sp = Closed (offset + 2) }) (record s { slots = s.slots ++ Free ∷ Free ∷ [] }) (record t { slots = t.slots ++ Free ∷ Free ∷ [] })
       (record { word = lt; small = room_small small; masks = at.masks; fits = tt; pick = at.pick })
-      (record { registers = le.registers; flags = le.flags; slots = room_less kind offset s.slots t.slots (slots_at offset e) })))
+      (record { registers = le.registers; flags = le.flags; slots = room_less kind offset s.slots t.slots (slots_at offset e); facts = le.facts })))
 
   pub relative_less : (scratch : Bool) (target : ℕ) → target < WORDS → LeadsLess k.inst (relative_call device scratch k s target) (relative_call device scratch k t target)
   relative_less true target lt = room_row target lt
@@ -457,6 +458,7 @@ module _ (device : Device) (k : NodeKey) (at : IsKey k) (s t : AbsState) (le : I
         registers = registers_set kind s.registers t.registers le.registers d _ _ (slot_value kind (slot_at s.slots n) (slot_at t.slots n) (le.slots.each n));
         flags = le.flags;
         slots = cut_less kind (suc n) s.slots t.slots (slots_at (suc n) e) n (omega arith);
+        facts = le.facts;
       })
 
   pub pop_less : (d : ℕ) → LeadsLess k.inst (at_closed k.sp k.pc (popping device k s d)) (at_closed k.sp k.pc (popping device k t d))

@@ -21,7 +21,8 @@ use Rattle.local_rules.specs.declared.local.Exit.{Exit}
 use Rattle.local_rules.specs.declared.local.NodeFault.{NodeFault}
 use Rattle.local_rules.specs.declared.local.NodeFault.TheVariants.{UntrackedSp, TooDeep}
 use Rattle.local_rules.specs.Raw.{Raw, nowhere, moves_to, one, fails, enters, leaves_by, untracked_if, too_deep_if, all_of, at_word, off_table, next, further, going_to, turning_to, going_on, setting}
-use Rattle.local_rules.specs.Cover.{IsNode, IsKey}
+use Rattle.local_rules.specs.Cover.{IsKey}
+use Rattle.local_laws.proofs.Bare.{IsBare}
 use Rattle.local_rules.specs.Order.{IsBelowOne}
 use Rattle.local_laws.proofs.Members.{each_of, in_map, each_in_map, not_empty}
 use Rattle.local_laws.proofs.MonotoneValues.{AreFlagsLess, AreRegistersLess, IsStateLess, less_within, less_node}
@@ -31,7 +32,7 @@ use Rattle.local_laws.proofs.MonotoneValues.{AreFlagsLess, AreRegistersLess, IsS
 -- the node is one that the analysis works with, in this instance, and one of these is above it
 pub record IsMet (inst : InstKey) (nodes : List Node) (to : Node) : Type 0 where
   pub same : to.key.inst ≡ inst
-  pub node : IsNode to.key to.state
+  pub node : IsBare to.key to.state
   pub below : IsBelowOne nodes to
 
 pub record Leads (inst : InstKey) (a b : Raw) : Type 0 where
@@ -72,7 +73,7 @@ pub record IsPlace (inst : InstKey) (offset : ℕ) (k : NodeKey) : Type 0 where
   pub same : k.inst ≡ inst
   pub at : offset_of k.sp ≡ offset
 
-place_node : (inst : InstKey) (offset : ℕ) (k : NodeKey) (s t : AbsState) → IsPlace inst offset k → IsStateLess inst.kind offset s t → IsNode k s
+place_node : (inst : InstKey) (offset : ℕ) (k : NodeKey) (s t : AbsState) → IsPlace inst offset k → IsStateLess inst.kind offset s t → IsBare k s
 place_node inst offset k s t at le =
     let same : IsStateLess k.inst.kind offset s t = subst (λ (i : InstKey). IsStateLess i.kind offset s t) (sym at.same) le in
     less_node k s t at.key.word at.key.small at.key.masks at.key.fits at.key.pick (subst (λ (n : ℕ). IsStateLess k.inst.kind n s t) (sym at.at) same)
@@ -249,4 +250,4 @@ module _ (device : Device) (k : NodeKey) (at : IsKey k) (s t : AbsState) (le : I
       → LeadsLess k.inst (setting device k s vs f) (setting device k t ws g)
   setting_less vs ws f g values flags =
       one_less (next device k) (record s { registers = vs; flags = f }) (record t { registers = ws; flags = g }) (next_key device k at)
-      (record { registers = values; flags = flags; slots = le.slots })
+      (record { registers = values; flags = flags; slots = le.slots; facts = le.facts })

@@ -1,10 +1,8 @@
 -- The table of instructions, row by row: a greater state leads to more.
-use Rattle.std.proofs.Common.{◌≡◌, refl, ℕ, ◌+◌, ◌*◌, ◌<◌, ◌≤◌, ◌==◌, Bool, true, false, List, [], ◌∷◌, length, map, Option, Some, None, if◌then◌else◌, Contains, arith, nat_lt, nat_le}
-use Rattle.std.proofs.lemmas.Bool.Decides.{nat_tests}
-use Rattle.basics.specs.Booleans.{all_three}
+use Rattle.std.proofs.Common.{ℕ, ◌+◌, ◌*◌, ◌<◌, ◌==◌, Bool, true, false, List, [], ◌∷◌, if◌then◌else◌, arith}
 use Rattle.local_rules.specs.Cover.{IsKey}
 use Rattle.avr_model.proofs.AllLaws.{devices_are_alike}
-use Rattle.avr_model.specs.Devices.{size_of, wrapped, device_of}
+use Rattle.avr_model.specs.Devices.{wrapped}
 use Rattle.avr_model.specs.declared.device.Device.{Device}
 use Rattle.avr_model.specs.declared.assumption.Entry.{Entry}
 use Rattle.avr_model.specs.declared.instruction.Instr.{Instr}
@@ -17,37 +15,31 @@ use Rattle.avr_model.specs.declared.operation.Logic.TheVariants as logic
 use Rattle.avr_model.specs.declared.operation.Mul.TheVariants as product
 use Rattle.avr_model.specs.Assumptions.{is_frame}
 use Rattle.avr_model.specs.Text.{far, near}
-use Rattle.avr_model.specs.Sites.{is_scratch, base_register, pointer_register}
+use Rattle.avr_model.specs.Sites.{base_register, pointer_register}
 use Rattle.avr_model.specs.Effects.{port}
-use Rattle.avr_model.specs.Written.{written}
 use Rattle.bit_domain.specs.declared.bits.Tri.TheVariants.{Zero, One}
 use Rattle.bit_domain.specs.Tri.{IsTriWithin, tri_not}
-use Rattle.bit_domain.specs.TriByte.{tri_at, has, byte_constant}
+use Rattle.bit_domain.specs.TriByte.{tri_at, byte_constant}
 use Rattle.bit_domain.specs.Logic.{byte_equal}
-use Rattle.bit_domain.proofs.AllLaws.{bits_cover, writes_cover, logic_is_monotone, tests_tell_members}
-use Rattle.abs_state.specs.declared.values.AbsByte.{AbsByte}
+use Rattle.bit_domain.proofs.AllLaws.{bits_cover, writes_cover, logic_is_monotone}
 use Rattle.abs_state.specs.declared.state.AbsState.{AbsState}
-use Rattle.abs_state.specs.Order.{IsByteWithin}
 use Rattle.mask_states.specs.declared.keys.NodeKey.{NodeKey}
 use Rattle.mask_states.specs.declared.keys.Kind.{Kind}
 use Rattle.mask_states.specs.Keys.{offset_of}
-use Rattle.local_rules.specs.declared.local.NodeFault.TheVariants.{UnresolvedJump, Unsupported}
-use Rattle.local_rules.specs.Raw.{Raw, fails, all_of, at_word, next, further}
-use Rattle.local_rules.specs.Registers.{value, bits, carry_bit, set, less_than, less_kept, or_nothing, forgetting, pair_moved, going_by, binary_after}
+use Rattle.local_rules.specs.Raw.{Raw, at_word, next, further}
+use Rattle.local_rules.specs.Registers.{value, bits, carry_bit, set, less_than, less_kept, or_nothing, pair_moved, going_by, binary_after}
 use Rattle.local_rules.specs.FrameLines.{is_followed, framed_binary}
 use Rattle.local_rules.specs.Reads.{read_at, pointed, pair_constant}
 use Rattle.local_rules.specs.Flow.{skipping, flag_at, ret_exit, reti_exit}
-use Rattle.local_rules.specs.Local.{binary_row, step_before, pointer_moved, bit_row, row_of, row_at, row_in, is_hung, fetched, may_be, below, picks, picking, picked, split_site, splitting, raw}
-use Rattle.local_laws.proofs.MonotoneValues.{AreRegistersLess, IsStateLess, any_bit_within, constant_is, constant_tells, untagged_less, registers_set, forgetting_both}
-use Rattle.local_laws.proofs.MonotoneRaw.{LeadsLess, fails_less, untracked_less, too_deep_less, filtered_less, further_small, word_key, next_key, going_less, on_less, setting_less}
+use Rattle.local_rules.specs.Local.{binary_row, step_before, pointer_moved, bit_row, row_of}
+use Rattle.local_laws.proofs.MonotoneValues.{AreRegistersLess, IsStateLess, any_bit_within, constant_is, constant_tells, untagged_less, registers_set}
+use Rattle.local_laws.proofs.MonotoneRaw.{LeadsLess, further_small, word_key, next_key, going_less, on_less, setting_less}
 use Rattle.local_laws.proofs.MonotoneAlu.{with_7, pair_set, reg, reg_bits, flag_bits, kept_flags, setting_flags, setting_register, sum_less, compare_less, sub_less, sbc_less, or_nothing_within, logic_less, than_of, than_within, kept_of, kept_within, product_less, pair_less, wide_less, flag_less as one_flag_less}
 use Rattle.local_laws.proofs.FrameMonotone.{add_less, adc_less, framed_sub_less, immediate_line_less, unary_line_less}
 use Rattle.local_laws.proofs.MonotoneReads.{flash_less, read_less, constants, pointed_constants, pointer_read, loading_less}
 use Rattle.local_laws.proofs.MonotoneWrites.{write_less, pointer_less}
 use Rattle.local_laws.proofs.MonotoneFlow.{calling_less, branch_less, flag_less, skipping_less, flag_within, jump_less, indirect_less, push_less, relative_less, pop_less, return_less}
-use Rattle.local_laws.proofs.Members.{fewer}
-use Rattle.local_laws.proofs.Picks.{below_small, picked_less}
-use Rattle.local_laws.proofs.MonotoneFields.{InstrFits, fetched_fits}
+use Rattle.local_laws.proofs.MonotoneFields.{InstrFits}
 
 module _ (device : Device) (words : List ℕ) (A : List Entry) (k : NodeKey) (at : IsKey k) (s t : AbsState) (le : IsStateLess k.inst.kind (offset_of k.sp) s t) where
   abbrev kind : Kind
@@ -116,7 +108,7 @@ module _ (device : Device) (words : List ℕ) (A : List Entry) (k : NodeKey) (at
 
   -- ---- loads and stores
 
-  moved_less : (p : Pointer) → AreRegistersLess kind (pointer_moved p s) (pointer_moved p t)
+  pub moved_less : (p : Pointer) → AreRegistersLess kind (pointer_moved p s) (pointer_moved p t)
   moved_less pointer.ZPlus = pair_less device k at s t le 30 true 1
   moved_less pointer.MinusZ = pair_less device k at s t le 30 false 1
   moved_less pointer.YPlus = pair_less device k at s t le 28 true 1
@@ -136,7 +128,7 @@ module _ (device : Device) (words : List ℕ) (A : List Entry) (k : NodeKey) (at
 
   -- ---- the whole table
 
-  row_less : (scratch : Bool) (instr : Instr) → InstrFits instr → LeadsLess k.inst (row_of device words A scratch k s instr) (row_of device words A scratch k t instr)
+  pub row_less : (scratch : Bool) (instr : Instr) → InstrFits instr → LeadsLess k.inst (row_of device words A scratch k s instr) (row_of device words A scratch k t instr)
   row_less scratch (i.Movw d r) fits =
       setting_less device k at s t le _ _ s.flags t.flags
       (pair_set kind s.registers t.registers (2 * d) _ _ _ _ le.registers (reg device k at s t le (2 * r)) (reg device k at s t le (2 * r + 1))) le.flags
@@ -168,7 +160,7 @@ module _ (device : Device) (words : List ℕ) (A : List Entry) (k : NodeKey) (at
       (reg_bits device k at s t le (base_register b)) (reg_bits device k at s t le (base_register b + 1))
   row_less scratch (i.Lds d a) fits =
       going_less device k at (record s { registers = set s d (read_at device k s a) }) (record t { registers = set t d (read_at device k t a) })
-      (record { registers = registers_set kind s.registers t.registers le.registers d _ _ (read_less device k at s t le a); flags = le.flags; slots = le.slots })
+      (record { registers = registers_set kind s.registers t.registers le.registers d _ _ (read_less device k at s t le a); flags = le.flags; slots = le.slots; facts = le.facts })
       (further device k 2) (further_small device k 2)
   row_less scratch (i.Sts a r) fits =
       write_less device (at_word k (further device k 2)) (word_key k (further device k 2) at (further_small device k 2)) s t le k.pc false a (value s r) (value t r) (reg device k at s t le r)
@@ -176,7 +168,7 @@ module _ (device : Device) (words : List ℕ) (A : List Entry) (k : NodeKey) (at
       loading_less device k at s t le (pointer_moved p s) (pointer_moved p t) d _ _ (moved_less p) (pointer_read device k at s t le (pointer_register p) (step_before p))
   row_less scratch (i.St p r) fits =
       pointer_less device (next device k) (next_key device k at) (record s { registers = pointer_moved p s }) (record t { registers = pointer_moved p t })
-      (record { registers = moved_less p; flags = le.flags; slots = le.slots }) k.pc (value s r) (value t r) (reg device k at s t le r) words A s t (pointer_register p) (step_before p)
+      (record { registers = moved_less p; flags = le.flags; slots = le.slots; facts = le.facts }) k.pc (value s r) (value t r) (reg device k at s t le r) words A s t (pointer_register p) (step_before p)
       (pointed s (pointer_register p) (step_before p)) (pointed t (pointer_register p) (step_before p)) (pointed_constants device k at s t le (pointer_register p) (step_before p))
       (reg_bits device k at s t le (pointer_register p)) (reg_bits device k at s t le (pointer_register p + 1))
   row_less scratch (i.LpmZ d) fits = setting_register device k at s t le d _ _ (flash_less kind words (pair_constant s 30) (pair_constant t 30) (constants device k at s t le 30))
@@ -214,54 +206,3 @@ module _ (device : Device) (words : List ℕ) (A : List Entry) (k : NodeKey) (at
   row_less scratch i.Sleep fits = on_less device k at s t le
   row_less scratch i.Break fits = on_less device k at s t le
   row_less scratch i.Wdr fits = on_less device k at s t le
-
-module _ (words : List ℕ) (A : List Entry) (k : NodeKey) (at : IsKey k) (s t : AbsState) (le : IsStateLess k.inst.kind (offset_of k.sp) s t) where
-  row_at_less : (scratch : Bool) (x : Option Instr) → ((instr : Instr) → x ≡ Some instr → InstrFits instr) → LeadsLess k.inst (row_at (device_of words) words A scratch k s x) (row_at (device_of words) words A scratch k t x)
-  row_at_less scratch None fits = fails_less k.inst (fails (Unsupported k.pc)) (Unsupported k.pc)
-  row_at_less scratch (Some instr) fits =
-      row_less (device_of words) words A k at (forgetting (written instr) s) (forgetting (written instr) t) (forgetting_both k.inst.kind (offset_of k.sp) (written instr) s t le) scratch instr (fits instr refl)
-
-  row_in_less : LeadsLess k.inst (row_in (device_of words) words A k s) (row_in (device_of words) words A k t)
-  row_in_less = row_at_less (is_scratch words k.pc) (fetched (device_of words) words k.pc) (fetched_fits (device_of words) words k.pc)
-
-module _ (words : List ℕ) (A : List Entry) (k : NodeKey) (at : IsKey k) (s t : AbsState) (le : IsStateLess k.inst.kind (offset_of k.sp) s t) where
-  -- what the node leads to with one byte picked
-  abbrev row_picked : AbsState → ℕ → Raw
-  row_picked state byte = row_in (device_of words) words A (picking k byte) (picked state byte)
-
-  -- the byte may be r30's in the greater state too
-  may_more : (byte : ℕ) → Contains (below 256) byte → may_be (value s 30) byte ≡ true → may_be (value t 30) byte ≡ true
-  may_more byte i may =
-      let v : AbsByte = value s 30 in
-      let w : AbsByte = value t 30 in
-      let within : IsByteWithin v w = (le.registers.each 30).within in
-      let has_it : has v.bits byte ≡ true = grind arith in
-      let low : nat_le w.low byte ≡ true = grind (arith, nat_tests, within.low) in
-      let high : nat_le byte w.high ≡ true = grind (arith, nat_tests, within.high) in
-      all_three (has w.bits byte) _ _ ((tests_tell_members.bytes w.bits byte).1 (within.bits byte (below_small 256 byte i) ((tests_tell_members.bytes v.bits byte).0 has_it))) low high
-
-  picked_row_less : (byte : ℕ) → Contains (below 256) byte → LeadsLess k.inst (row_picked s byte) (row_picked t byte)
-  picked_row_less byte i =
-      row_in_less words A (picking k byte) (record { word = at.word; small = at.small; masks = at.masks; fits = at.fits; pick = below_small 256 byte i })
-      (picked s byte) (picked t byte) (picked_less k.inst.kind (offset_of k.sp) byte s t le)
-
-  -- where the greater splits so does the lesser, in no more
-  splitting_less : (jump : Option ℕ) → LeadsLess k.inst (splitting jump (row_in (device_of words) words A) k s) (splitting jump (row_in (device_of words) words A) k t)
-  splitting_less None = row_in_less words A k at s t le
-  splitting_less (Some jump) = by (nat_le (length (picks s)) 64) (nat_le (length (picks t)) 64) (λ is. grind (arith, nat_tests, few))
-    where
-      few : length (picks s) ≤ length (picks t)
-      few = fewer (may_be (value s 30)) (may_be (value t 30)) (below 256) may_more
-
-      by : (a b : Bool) → (b ≡ true → a ≡ true)
-          → LeadsLess k.inst (if a then all_of (map (row_picked s) (picks s)) else fails (UnresolvedJump jump))
-          (if b then all_of (map (row_picked t) (picks t)) else fails (UnresolvedJump jump))
-      by a false h = fails_less k.inst _ (UnresolvedJump jump)
-      by true true h = filtered_less k.inst (row_picked s) (row_picked t) (may_be (value s 30)) (may_be (value t 30)) (below 256) picked_row_less may_more
-      by false true h = let no : false ≡ true = h refl in absurd (cc)
-
-  pub raw_less : LeadsLess k.inst (raw words A k s) (raw words A k t)
-  unfolding raw
-  raw_less =
-      untracked_less k.inst (is_hung (device_of words) A k k.sp) k.pc _ _
-      (too_deep_less k.inst (nat_lt (size_of (device_of words)) (offset_of k.sp)) k.pc (offset_of k.sp) _ _ (splitting_less (split_site words A k.pc k.pick)))

@@ -20,6 +20,12 @@ use Rattle.sp_domain.specs.declared.slots.Slot.{Slot}
 use Rattle.sp_domain.specs.declared.slots.Slot.TheVariants.{Free, Guarded}
 use Rattle.sp_domain.specs.Slots.{slot_at}
 use Rattle.sp_domain.specs.Tags.{HasBytes, IsTagWithin}
+use Rattle.pair_domain.specs.declared.facts.PairFacts.{PairFacts}
+use Rattle.pair_domain.specs.Facts.{IsKnownWithin, HasSixteen}
+use Rattle.pair_domain.proofs.AllLaws.{known_is_ordered}
+use Rattle.pair_domain.specs.Rank.{KnownFits}
+use Rattle.abs_state.specs.Ended.{is_one_of, ended}
+use Rattle.abs_state.proofs.AllLaws.{writes_end_facts}
 use Rattle.abs_state.specs.declared.values.AbsByte.{AbsByte}
 use Rattle.abs_state.specs.declared.values.AbsFlags.{AbsFlags}
 use Rattle.abs_state.specs.declared.state.AbsState.{AbsState}
@@ -33,7 +39,8 @@ use Rattle.mask_states.specs.declared.keys.Kind.TheVariants.{Root}
 use Rattle.mask_states.specs.Keys.{offset_of, PickFits}
 use Rattle.avr_model.specs.Image.{WORDS}
 use Rattle.local_rules.specs.Registers.{forgetting}
-use Rattle.local_rules.specs.Cover.{FormFits, IsNode}
+use Rattle.local_rules.specs.Cover.{FormFits}
+use Rattle.local_laws.proofs.Bare.{IsBare}
 use Rattle.local_laws.proofs.Less.{forgotten_is, forgotten_more}
 
 -- ---- definitions
@@ -76,10 +83,17 @@ pub record AreSlotsLess (kind : Kind) (offset : ℕ) (xs ys : List (Slot AbsByte
   pub others : length ys ≡ offset
   pub each : (d : ℕ) → IsSlotLess kind (slot_at xs d) (slot_at ys d)
 
+-- what is known of pairs is less, and fits
+pub record AreFactsLess (x y : Option PairFacts) : Type 0 where
+  pub within : IsKnownWithin x y
+  pub fits : KnownFits x
+  pub others : HasSixteen y
+
 pub record IsStateLess (kind : Kind) (offset : ℕ) (s t : AbsState) : Type 0 where
   pub registers : AreRegistersLess kind s.registers t.registers
   pub flags : AreFlagsLess kind s.flags t.flags
   pub slots : AreSlotsLess kind offset s.slots t.slots
+  pub facts : AreFactsLess s.facts t.facts
 
 -- where the second is there, the first is the same
 abbrev pub Tells : {A : Type 0} → Option A → Option A → Type 0
@@ -241,7 +255,7 @@ slot_untagged : (kind : Kind) (x : Slot AbsByte) → IsSlotOf kind x → kind �
 slot_untagged kind Free h root = tt
 slot_untagged kind (Guarded v) h root = h.0.none root
 
-pub node_less : (k : NodeKey) (s t : AbsState) → IsNode k s → IsNode k t → IsStateWithin s t → IsStateLess k.inst.kind (offset_of k.sp) s t
+pub node_less : (k : NodeKey) (s t : AbsState) → IsBare k s → IsBare k t → IsStateWithin s t → IsStateLess k.inst.kind (offset_of k.sp) s t
 node_less k s t a b le =
     record {
       registers = record {
@@ -273,6 +287,7 @@ node_less k s t a b le =
             (λ over. subst₂ (IsSlotLess k.inst.kind) (sym (get_or_past s.slots d Free (omega (arith, le.count)))) (sym (get_or_past t.slots d Free over)) (free_less k.inst.kind))
             (cases_lt d (length t.slots));
       };
+      facts = record { within = le.facts; fits = a.formed.facts; others = known_is_ordered.count t.facts b.formed.facts };
     }
 
 pub less_within : (kind : Kind) (offset : ℕ) (s t : AbsState) → IsStateLess kind offset s t → IsStateWithin s t
@@ -282,10 +297,11 @@ less_within kind offset s t h =
       flags = h.flags.within;
       count = h.slots.count ∙ sym h.slots.others;
       slots = λ d lt. (h.slots.each d).within;
+      facts = h.facts.within;
     }
 
 pub less_node : (k : NodeKey) (s t : AbsState) → k.pc < WORDS → offset_of k.sp ≤ SIZE → k.masks < 2 ^ 25 → FormFits k → PickFits k.pick → IsStateLess k.inst.kind (offset_of k.sp) s t
-    → IsNode k s
+    → IsBare k s
 less_node k s t word small masks fits pick h =
     record {
       word = word;
@@ -302,6 +318,7 @@ less_node k s t word small masks fits pick h =
         carry = h.flags.names;
         ranges = λ r lt. (h.registers.each r).ranged;
         slot_ranges = λ d lt. slot_ranged k.inst.kind (slot_at s.slots d) (h.slots.each d).good;
+        facts = h.facts.fits;
       };
       tags = record {
         registers = λ r lt. (h.registers.each r).good.fits;
@@ -318,8 +335,16 @@ less_node k s t word small masks fits pick h =
 
 -- ---- what C says of registers that are written is forgotten in both
 
-pub forgetting_both : (kind : Kind) (offset : ℕ) (written : List ℕ) (s t : AbsState) → IsStateLess kind offset s t → IsStateLess kind offset (forgetting written s) (forgetting written t)
-forgetting_both kind offset written s t h =
+pub ended_both : (written : ℕ → Bool) (flags carry : Bool) (x y : Option PairFacts) → AreFactsLess x y → AreFactsLess (ended written flags carry x) (ended written flags carry y)
+ended_both written flags carry x y h = record {
+  within = writes_end_facts.more written flags carry x y h.within;
+  fits = writes_end_facts.fits written flags carry x h.fits;
+  others = writes_end_facts.count written flags carry y h.others;
+}
+
+pub forgetting_both : (kind : Kind) (offset : ℕ) (written : List ℕ) (flags carry : Bool) (s t : AbsState) → IsStateLess kind offset s t
+    → IsStateLess kind offset (forgetting written flags carry s) (forgetting written flags carry t)
+forgetting_both kind offset written flags carry s t h =
     record {
       registers = h.registers;
       flags = record {
@@ -335,4 +360,5 @@ forgetting_both kind offset written s t h =
         no_carry = λ root. forgotten_is CarryIsUntagged written s.flags.carry (h.flags.no_carry root) tt;
       };
       slots = h.slots;
+      facts = ended_both (is_one_of written) flags carry s.facts t.facts h.facts;
     }

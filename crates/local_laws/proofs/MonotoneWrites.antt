@@ -25,6 +25,8 @@ use Rattle.sp_domain.specs.Tags.{IsTagWithin}
 use Rattle.sp_domain.proofs.AllLaws.{slots_are_lists}
 use Rattle.abs_state.specs.declared.values.AbsByte.{AbsByte}
 use Rattle.abs_state.specs.declared.state.AbsState.{AbsState}
+use Rattle.abs_state.proofs.AllLaws.{writes_end_facts}
+use Rattle.pair_domain.proofs.AllLaws.{known_is_ordered}
 use Rattle.mask_states.specs.declared.keys.NodeKey.{NodeKey}
 use Rattle.mask_states.specs.declared.keys.Kind.{Kind}
 use Rattle.mask_states.specs.declared.keys.Kind.TheVariants.{Root, Call, Vector}
@@ -39,10 +41,10 @@ use Rattle.local_rules.specs.declared.local.NodeFault.TheVariants.{UntrackedSp, 
 use Rattle.local_rules.specs.Raw.{moves_to, one, fails}
 use Rattle.local_rules.specs.Registers.{bits}
 use Rattle.local_rules.specs.declared.pointers.Pointed.{Pointed}
-use Rattle.local_rules.specs.Writes.{known_high, tagged_high, high_part, opening, root_closing, frame_closing, closing_offset, closing, is_entry_flags, flags_written, with_i, sreg_written, masks_written, register_written, written_at, reaches, fixed_write, listed_writes, pointer_write}
+use Rattle.local_rules.specs.Writes.{known_high, tagged_high, high_part, opening, root_closing, frame_closing, closing_offset, closing, is_entry_flags, flags_written, with_i, sreg_written, masks_written, hulled, register_written, put_flags, written_at, reaches, fixed_write, listed_writes, pointer_write}
 use Rattle.abs_state.specs.Formed.{TagFits}
 use Rattle.local_rules.specs.Cover.{HighFitsKind, IsKey}
-use Rattle.local_laws.proofs.MonotoneValues.{IsTagOf, IsLess, AreFlagsLess, AreSlotsLess, IsSlotLess, IsStateLess, Tells, tells_by, tag_tells, free_less, constant_is, constant_tells, bit_within, bits_less, registers_set, forgetting_both}
+use Rattle.local_laws.proofs.MonotoneValues.{IsTagOf, IsLess, AreFlagsLess, AreSlotsLess, IsSlotLess, IsStateLess, Tells, tells_by, tag_tells, free_less, constant_is, constant_tells, bit_within, bits_less, registers_set, ended_both, forgetting_both}
 use Rattle.local_laws.proofs.MonotoneRaw.{IsPlace, LeadsLess, nodes_at, fails_less, if_leads, several_less, one_less, choose, choose_more, both_less, filtered_less}
 
 -- ---- the high byte of the stack pointer
@@ -113,7 +115,7 @@ module _ (device : Device) (k : NodeKey) (at : IsKey k) (s t : AbsState) (le : I
   closing_by true n small =
       one_less (record k { sp = Closed n }) (record s { slots = resized n s.slots }) (record t { slots = resized n t.slots })
       (record { word = at.word; small = omega (arith, small refl, devices_are_alike.most_bytes device); masks = at.masks; fits = tt; pick = at.pick })
-      (record { registers = le.registers; flags = le.flags; slots = resized_less k.inst.kind (offset_of k.sp) s.slots t.slots le.slots n })
+      (record { registers = le.registers; flags = le.flags; slots = resized_less k.inst.kind (offset_of k.sp) s.slots t.slots le.slots n; facts = le.facts })
   closing_by false n small = fails_less k.inst (fails (TooDeep pc n)) (TooDeep pc n)
 
   closing_less : (f g : Option ℕ) → Tells f g → LeadsLess k.inst (closing device f k s pc) (closing device g k t pc)
@@ -161,6 +163,21 @@ sreg_less k at s t le is_out x y within =
     (several_less k.inst (offset_of k.sp) (with_i k is_out) s t (choose x false true) (choose y false true) (λ b. choose_more x y false true b within)
     (λ b i. i_place k is_out b at) le)
 
+-- of a pair that is written the interval is the hull of its bytes in both
+hulled_both : (kind : Kind) (offset a : ℕ) (s t : AbsState) → IsStateLess kind offset s t → IsStateLess kind offset (hulled a s) (hulled a t)
+hulled_both kind offset a s t h = record {
+  registers = h.registers;
+  flags = h.flags;
+  slots = h.slots;
+  facts = record {
+    within =
+        writes_end_facts.hull_more s.registers t.registers a s.facts t.facts (known_is_ordered.count s.facts h.facts.fits) h.facts.others (λ r lt. (h.registers.each r).within)
+        h.facts.within;
+    fits = writes_end_facts.hull_fits s.registers a s.facts (λ r lt. (h.registers.each r).ranged) h.facts.fits;
+    others = writes_end_facts.hull_count t.registers a t.facts h.facts.others;
+  };
+}
+
 -- ---- at an address
 
 module _ (device : Device) (k : NodeKey) (at : IsKey k) (s t : AbsState) (le : IsStateLess k.inst.kind (offset_of k.sp) s t) where
@@ -180,17 +197,19 @@ module _ (device : Device) (k : NodeKey) (at : IsKey k) (s t : AbsState) (le : I
   write_less pc is_out a v w h =
       if_leads k.inst (nat_lt a 0x20) _ _ _ _
       (one_less k (register_written s a v) (register_written t a w) at
-      (forgetting_both k.inst.kind (offset_of k.sp) (a ∷ []) _ _
+      (hulled_both k.inst.kind (offset_of k.sp) a _ _
+      (forgetting_both k.inst.kind (offset_of k.sp) (a ∷ []) false false _ _
       (record {
         registers = registers_set k.inst.kind s.registers t.registers le.registers a _ _ (bits_less k.inst.kind v.tag w.tag v.bits w.bits h.good h.within.tag h.within.bits);
         flags = le.flags;
         slots = le.slots;
-      })))
+        facts = le.facts;
+      }))))
       (if_leads k.inst (a == SPL) _ _ _ _ (closing_less device k at s t le pc _ _ (closing_tells device k.inst.kind k.sp v w h))
       (if_leads k.inst (a == SPH) _ _ _ _ (opening_less k at s t le pc _ _ (high_tells k.inst.kind v w h) (λ x. high_fits k.inst.kind v x h.good))
       (if_leads k.inst (a == SREG) _ _ _ _
-      (sreg_less k at (record s { flags = flags_written v }) (record t { flags = flags_written w })
-      (record { registers = le.registers; flags = written_flags k.inst.kind v w h; slots = le.slots }) is_out (tri_at v.bits 7) (tri_at w.bits 7)
+      (sreg_less k at (put_flags s (flags_written v)) (put_flags t (flags_written w))
+      (record { registers = le.registers; flags = written_flags k.inst.kind v w h; slots = le.slots; facts = ended_both (λ r. false) true true s.facts t.facts le.facts }) is_out (tri_at v.bits 7) (tri_at w.bits 7)
       (bit_within v.bits w.bits 7 (omega arith) h.within.bits))
       (masks_less a v w h))))
 

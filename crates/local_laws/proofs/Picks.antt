@@ -1,7 +1,7 @@
 -- Where a node splits: its instruction neither calls nor returns, the byte that r30 has is among the picks, and what the node leads to with
 -- that byte picked covers the step.
-use Rattle.std.proofs.Common.{◌≡◌, refl, sym, subst, ℕ, zero, suc, ◌+◌, ◌<◌, ⊎_elim, Bool, true, false, ◌&&◌, nat_lt, nat_le, if◌then◌else◌, not, List, [], ◌∷◌, length, map, Option, Some, None, Contains, slice_index, slice_set, arith}
-use Rattle.std.proofs.lemmas.Bool.{cases_lt, cases_eq}
+use Rattle.std.proofs.Common.{◌≡◌, refl, sym, subst, ℕ, zero, suc, ◌+◌, ◌<◌, ⊎_elim, Bool, true, false, ◌&&◌, nat_lt, nat_le, if◌then◌else◌, not, List, [], ◌∷◌, map, Option, Some, None, Contains, arith}
+use Rattle.std.proofs.lemmas.Bool.{cases_lt}
 use Rattle.std.proofs.lemmas.Bool.Decides.{nat_tests}
 use Rattle.std.proofs.lemmas.List.Elements.{Contains-append_left, Contains-append_right, Contains-append_cases}
 use Rattle.basics.specs.Booleans.{all_three}
@@ -17,27 +17,29 @@ use Rattle.avr_model.specs.declared.instruction.Instr.TheVariants as i
 use Rattle.avr_model.specs.Sites.{instruction_at, is_scratch, adds_low, adds_high, is_some_that, ijmp_from, table_site}
 use Rattle.avr_model.specs.Effects.{effect_of}
 use Rattle.avr_model.specs.State.{State, register}
-use Rattle.avr_model.specs.Written.{written}
 use Rattle.bit_domain.specs.TriByte.{byte_known}
-use Rattle.bit_domain.proofs.AllLaws.{bytes_are_sets, tests_tell_members}
+use Rattle.bit_domain.proofs.AllLaws.{tests_tell_members}
 use Rattle.sp_domain.specs.Tags.{Origin}
-use Rattle.abs_state.specs.declared.values.AbsByte.{AbsByte}
 use Rattle.abs_state.specs.declared.state.AbsState.{AbsState}
-use Rattle.abs_state.specs.Values.{with_bits}
-use Rattle.abs_state.specs.Stands.{ByteStands, RegistersStand}
-use Rattle.abs_state.proofs.AllLaws.{bits_make_values, states_are_ordered}
+use Rattle.abs_state.specs.Stands.{ByteStands}
+use Rattle.abs_state.proofs.AllLaws.{states_are_ordered}
 use Rattle.mask_states.specs.declared.keys.NodeKey.{NodeKey}
 use Rattle.mask_states.specs.declared.keys.Kind.{Kind}
 use Rattle.mask_states.specs.Keys.{offset_of}
 use Rattle.local_rules.specs.Raw.{Raw, all_of}
-use Rattle.local_rules.specs.Registers.{value, forgetting}
-use Rattle.local_rules.specs.Local.{row_of, row_at, fetched, may_be, below, picks, picking, picked, unlined, split_site}
-use Rattle.local_rules.specs.Cover.{InFrame, Follows, stays, calls, leaves, CoversStep}
+use Rattle.local_rules.specs.Registers.{value, before}
+use Rattle.local_rules.specs.Local.{row_of, row_at, fetched, may_be, below, picks, picking, paired_row, row_by, unlined, split_site}
+use Rattle.local_rules.specs.Cover.{Follows, stays, calls, leaves, CoversStep}
+use Rattle.local_laws.proofs.Bare.{IsBare, InBareFrame}
+use Rattle.local_laws.proofs.PairedCover.{left_bare}
+use Rattle.pair_cuts.specs.Cuts.{with_index, pick_cut}
+use Rattle.pair_cut_laws.proofs.AllLaws.{picks_are_cut}
+use Rattle.pair_domain.specs.declared.facts.PairFacts.{PairFacts}
 use Rattle.local_laws.proofs.Bytes.{byte_in_list}
 use Rattle.local_laws.proofs.Targets.{in_filter}
 use Rattle.local_laws.proofs.WriteValues.{Reaches}
 use Rattle.local_laws.proofs.PointerWrites.{by_first, by_rest}
-use Rattle.local_laws.proofs.MonotoneValues.{IsLess, IsStateLess, set_same, set_other, registers_set, bits_less, node_less, less_node}
+use Rattle.local_laws.proofs.MonotoneValues.{IsLess, IsStateLess, registers_set, bits_less, node_less, less_node}
 use Rattle.local_laws.proofs.Quiet.{Quiet}
 
 -- ---- the site
@@ -116,10 +118,19 @@ module _ (device : Device) (words : List ℕ) (A : List Entry) (scratch : Bool) 
   adds_quiet s i.Break e = absurd (cc)
   adds_quiet s i.Wdr e = absurd (cc)
 
+  -- so where pairs are followed
+  adds_paired : (s : AbsState) (x : Instr) → adds_low x ≡ true → Quiet (paired_row device words A scratch k s x)
+  adds_paired s (i.Immediate op d n) e = (refl, refl)
+  adds_paired s x e = absurd (cc)
+
   -- what adds to r30 neither calls nor returns
   pub at_quiet : (s : AbsState) (x : Option Instr) → is_some_that adds_low x ≡ true → Quiet (row_at device words A scratch k s x)
   at_quiet s None e = absurd (cc)
-  at_quiet s (Some x) e = adds_quiet (forgetting (written x) s) x e
+  at_quiet s (Some x) e = by s.facts
+    where
+      by : (f : Option PairFacts) → Quiet (row_by f device words A scratch k s x)
+      by None = adds_quiet (before x s) x e
+      by (Some f) = adds_paired s x e
 
 -- ---- the picks
 
@@ -142,7 +153,7 @@ below_small (suc n) x h =
     (Contains-append_cases (below n) (n ∷ []) x h)
 
 -- with the same byte picked, the lesser state stays below the greater
-pub picked_less : (kind : Kind) (offset byte : ℕ) (s t : AbsState) → IsStateLess kind offset s t → IsStateLess kind offset (picked s byte) (picked t byte)
+pub picked_less : (kind : Kind) (offset byte : ℕ) (s t : AbsState) → IsStateLess kind offset s t → IsStateLess kind offset (with_index byte s) (with_index byte t)
 picked_less kind offset byte s t le =
     let at : IsLess kind (value s 30) (value t 30) = le.registers.each 30 in
     record {
@@ -150,20 +161,12 @@ picked_less kind offset byte s t le =
           (bits_less kind (value s 30).tag (value t 30).tag (byte_known byte) (byte_known byte) at.good at.within.tag (same_within (byte_known byte)));
       flags = le.flags;
       slots = le.slots;
+      facts = le.facts;
     }
-
--- a register's value that stands for its byte may be set
-itself_stands : (o : Origin) (values : List AbsByte) (registers : List ℕ) (d : ℕ) (v : AbsByte) → d < length values
-    → ((r : ℕ) → r ≡ d → ByteStands o v (slice_index registers r)) → RegistersStand o values registers → RegistersStand o (slice_set values d v) registers
-itself_stands o values registers d v lt h old r small =
-    ⊎_elim
-    (λ same. subst (λ (w : AbsByte). ByteStands o w (slice_index registers r)) (sym (set_same values d r v same lt)) (h r same))
-    (λ other. subst (λ (w : AbsByte). ByteStands o w (slice_index registers r)) (sym (set_other values d r v other)) (old r small))
-    (cases_eq r d)
 
 -- ---- the machine is at one of them
 
-module _ (m : State) (o : Origin) (k : NodeKey) (s : AbsState) (at : InFrame m o k s) where
+module _ (m : State) (o : Origin) (k : NodeKey) (s : AbsState) (at : InBareFrame m o k s) where
   -- the byte that r30 has
   abbrev pub byte : ℕ
   byte = register m 30
@@ -180,27 +183,25 @@ module _ (m : State) (o : Origin) (k : NodeKey) (s : AbsState) (at : InFrame m o
       let high : nat_le byte (value s 30).high ≡ true = grind (arith, nat_tests, byte_stands.high) in
       in_filter (may_be (value s 30)) byte (below 256) (all_three _ _ _ ((tests_tell_members.bytes (value s 30).bits byte).1 byte_stands.bits) low high) (in_below 256 byte byte_small)
 
-  picked_stands : ByteStands o (with_bits (value s 30).tag (byte_known byte)) byte
-  picked_stands = bits_make_values.stands o (value s 30).tag (byte_known byte) byte byte_small byte_stands.tag ((bytes_are_sets.known byte byte byte_small byte_small).1 refl)
-
-  pub picked_at : InFrame m o (picking k byte) (picked s byte)
+  pub picked_at : (t : AbsState) × (pick_cut byte s ≡ Some t) × InBareFrame m o (picking k byte) t
   picked_at =
-      let less : IsStateLess k.inst.kind (offset_of k.sp) (picked s byte) (picked s byte) =
+      let less : IsStateLess k.inst.kind (offset_of k.sp) (with_index byte s) (with_index byte s) =
       picked_less k.inst.kind (offset_of k.sp) byte s s (node_less k s s at.node at.node (states_are_ordered.same s)) in
-      record {
-        machine = at.machine;
-        node = less_node (picking k byte) (picked s byte) (picked s byte) at.node.word at.node.small at.node.masks at.node.fits byte_small less;
-        place = record { pc = at.place.pc; enables = at.place.enables; i = at.place.i; delay = at.place.delay; sp = at.place.sp };
-        stands = record {
-          registers = itself_stands o s.registers m.registers 30 (with_bits (value s 30).tag (byte_known byte)) (omega (arith, at.node.formed.count_registers))
-              (λ r same. subst (λ (n : ℕ). ByteStands o (with_bits (value s 30).tag (byte_known byte)) (register m n)) (sym same) picked_stands) at.stands.registers;
-          flags = at.stands.flags;
-          less = at.stands.less;
-          slots = at.stands.slots;
-        };
-        root = at.root;
-        base_word = at.base_word;
-      }
+      let node : IsBare (picking k byte) (with_index byte s) =
+      less_node (picking k byte) (with_index byte s) (with_index byte s) at.node.word at.node.small at.node.masks at.node.fits byte_small less in
+      let found = picks_are_cut.keeps byte m byte_small refl o s (offset_of k.sp) at.node.formed (record { stands = at.stands; facts = at.facts }) in (
+        found.0,
+        found.1.0,
+        record {
+          machine = at.machine;
+          node = left_bare (picking k byte) (with_index byte s) found.0 node (picks_are_cut.leaves byte s found.0 (offset_of k.sp) at.node.formed found.1.0);
+          place = record { pc = at.place.pc; enables = at.place.enables; i = at.place.i; delay = at.place.delay; sp = at.place.sp };
+          stands = found.1.1.stands;
+          facts = found.1.1.facts;
+          root = at.root;
+          base_word = at.base_word;
+        },
+      )
 
 -- ---- what one of several reaches, all reach
 
@@ -211,17 +212,17 @@ faultless_in f (y ∷ ys) x h clean =
     ⊎_elim (λ e. subst (λ (z : ℕ). (f z).faults ≡ []) (sym e) none.0) (λ rest. faultless_in f ys x rest none.1) (first_or_further y x ys h)
 
 module _ (m : State) (o : Origin) (k : NodeKey) (guarded : Bool) (e : Effect) where
-  reached_in : (f : ℕ → Raw) (xs : List ℕ) (x : ℕ) → Contains xs x → Reaches m o k guarded e (f x) → Reaches m o k guarded e (all_of (map f xs))
+  reached_in : (f : ℕ → Raw) (xs : List ℕ) (x : ℕ) → Contains xs x → Reaches m o None k guarded e (f x) → Reaches m o None k guarded e (all_of (map f xs))
   reached_in f [] x h reached = absurd (none_in x h)
   reached_in f (y ∷ ys) x h reached =
       ⊎_elim
-      (λ same. by_first m o k guarded e (f y) (map f ys) (subst (λ (z : ℕ). Reaches m o k guarded e (f z)) same reached))
-      (λ rest. by_rest m o k guarded e (f y) (map f ys) (reached_in f ys x rest reached))
+      (λ same. by_first m o None k guarded e (f y) (map f ys) (subst (λ (z : ℕ). Reaches m o None k guarded e (f z)) same reached))
+      (λ rest. by_rest m o None k guarded e (f y) (map f ys) (reached_in f ys x rest reached))
       (first_or_further y x ys h)
 
   -- where nothing is called or left, what follows is reached
-  reached_by : (byte b1 b2 : ℕ) (r : Raw) → Quiet r → Follows m o (picking k byte) guarded b1 b2 e r → Reaches m o k guarded e r
-  reached_by byte b1 b2 r quiet (stays to present inst lands) = record { to = to; present = present; inst = inst; lands = lands }
+  reached_by : (byte b1 b2 : ℕ) (r : Raw) → Quiet r → Follows m o (picking k byte) guarded b1 b2 e r → Reaches m o None k guarded e r
+  reached_by byte b1 b2 r quiet (stays to present inst lands) = record { to = to; present = present; inst = inst; at_node = record { lands = λ held. lands } }
   reached_by byte b1 b2 r quiet (calls offset site present closed is made) = absurd (none_in site (subst (λ xs. Contains xs site) quiet.0 present))
   reached_by byte b1 b2 r quiet (leaves x is kind closed return) = absurd (let e = sym quiet.1 in let no = is in cc)
 
@@ -233,4 +234,4 @@ all_covered words A m o k b1 b2 f xs x h quiet (Some instr) covered = λ clean u
     let guarded : Bool = not (is_scratch words m.pc) in
     let e : Effect = effect_of words m instr b1 b2 in
     let found = reached_in m o k guarded e f xs x h (reached_by m o k guarded e x b1 b2 (f x) quiet (covered (faultless_in f xs x h clean) unflagged)) in
-    stays found.to found.present found.inst found.lands
+    stays found.to found.present found.inst (found.at_node.lands tt)

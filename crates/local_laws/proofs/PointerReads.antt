@@ -27,7 +27,7 @@ use Rattle.mask_states.specs.declared.keys.NodeKey.{NodeKey}
 use Rattle.local_rules.specs.Registers.{value, bits, down_by, pair_tags, pair_moved}
 use Rattle.local_rules.specs.Reads.{value_of, read_at, word_of, pair_constant, raised, lowered, pointed, read_number, read_constant, read_both, read_frame, read_pointed}
 use Rattle.local_rules.specs.Local.{pointer_moved}
-use Rattle.local_rules.specs.Cover.{InFrame}
+use Rattle.local_laws.proofs.Bare.{InBareFrame}
 use Rattle.local_laws.proofs.Alu.{register_byte}
 use Rattle.local_laws.proofs.Bits.{constant_is}
 use Rattle.local_laws.proofs.EffectSizes.{wide_small}
@@ -73,7 +73,7 @@ up_one w = omega arith
 down_one : (w : ℕ) → minus16 w (down_by false 1) ≡ wide_of false w 1
 down_one w = omega arith
 
-module _ (m : State) (o : Origin) (k : NodeKey) (s : AbsState) (at : InFrame m o k s) where
+module _ (m : State) (o : Origin) (k : NodeKey) (s : AbsState) (at : InBareFrame m o k s) where
   pub pair_small : (r : ℕ) → pair m r < 65536
   pair_small r = omega (arith, register_byte m o k s at r, register_byte m o k s at (r + 1))
 

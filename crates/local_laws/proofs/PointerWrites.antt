@@ -18,6 +18,8 @@ use Rattle.bit_domain.specs.TriByte.{Has}
 use Rattle.bit_domain.proofs.AllLaws.{tests_tell_members}
 use Rattle.sp_domain.specs.Tags.{Origin, LessHolds}
 use Rattle.sp_domain.proofs.AllLaws.{carries_are_ordered}
+use Rattle.pair_domain.specs.declared.facts.PairFacts.{PairFacts}
+use Rattle.pair_domain.specs.Rank.{KnownFits}
 use Rattle.abs_state.specs.declared.values.AbsByte.{AbsByte}
 use Rattle.abs_state.specs.declared.state.AbsState.{AbsState}
 use Rattle.abs_state.specs.Stands.{ByteStands, RegistersStand}
@@ -26,11 +28,11 @@ use Rattle.local_rules.specs.Raw.{Raw, at_word, one, all_of}
 use Rattle.local_rules.specs.Registers.{bits}
 use Rattle.local_rules.specs.Reads.{pointed}
 use Rattle.local_rules.specs.Writes.{written_at, reaches, fixed_write, listed_writes, pointer_write}
-use Rattle.local_rules.specs.Cover.{InFrame}
+use Rattle.local_laws.proofs.Bare.{InBareFrame}
 use Rattle.local_laws.proofs.Frame.{register_stands}
 use Rattle.local_laws.proofs.PointerReads.{pair_small, low_is, high_is, number_is}
 use Rattle.local_laws.proofs.SplitMembers.{AreWritten}
-use Rattle.local_laws.proofs.WriteValues.{stored, Reaches, enables_kept, chosen, only, elsewhere, changes_none, less_still, written}
+use Rattle.local_laws.proofs.WriteValues.{stored, Reaches, enables_kept, chosen, only, elsewhere, changes_none, less_still, facts_still, written}
 
 back_to : (w up : ℕ) → w < 65536 → w ≡ minus16 (plus16 w up) up
 back_to w up lt = omega arith
@@ -56,21 +58,21 @@ elsewhere_is a h =
 
 -- ---- all of several
 
-module _ (m : State) (o : Origin) (k : NodeKey) (guarded : Bool) (e : Effect) where
-  pub by_first : (r : Raw) (rs : List Raw) → Reaches m o k guarded e r → Reaches m o k guarded e (all_of (r ∷ rs))
-  by_first r rs h = record { to = h.to; present = Contains-append_left r.moves (all_of rs).moves h.to h.present; inst = h.inst; lands = h.lands }
+module _ (m : State) (o : Origin) (known : Option PairFacts) (k : NodeKey) (guarded : Bool) (e : Effect) where
+  pub by_first : (r : Raw) (rs : List Raw) → Reaches m o known k guarded e r → Reaches m o known k guarded e (all_of (r ∷ rs))
+  by_first r rs h = record { to = h.to; present = Contains-append_left r.moves (all_of rs).moves h.to h.present; inst = h.inst; at_node = h.at_node }
 
-  pub by_rest : (r : Raw) (rs : List Raw) → Reaches m o k guarded e (all_of rs) → Reaches m o k guarded e (all_of (r ∷ rs))
-  by_rest r rs h = record { to = h.to; present = Contains-append_right r.moves (all_of rs).moves h.to h.present; inst = h.inst; lands = h.lands }
+  pub by_rest : (r : Raw) (rs : List Raw) → Reaches m o known k guarded e (all_of rs) → Reaches m o known k guarded e (all_of (r ∷ rs))
+  by_rest r rs h = record { to = h.to; present = Contains-append_right r.moves (all_of rs).moves h.to h.present; inst = h.inst; at_node = h.at_node }
 
   -- one more item, which is kept or not, and is the address or not
   by_item : (f : ℕ → Raw) (p : ℕ → Bool) (a x : ℕ) (kept : List ℕ) (listed b c : Bool) → p x ≡ b → (x == a) ≡ c → (c || listed) ≡ true → p a ≡ true
-      → ((f a).faults ≡ [] → Reaches m o k guarded e (f a))
-      → (listed ≡ true → (all_of (map f kept)).faults ≡ [] → Reaches m o k guarded e (all_of (map f kept)))
-      → (all_of (map f (if b then x ∷ kept else kept))).faults ≡ [] → Reaches m o k guarded e (all_of (map f (if b then x ∷ kept else kept)))
+      → ((f a).faults ≡ [] → Reaches m o known k guarded e (f a))
+      → (listed ≡ true → (all_of (map f kept)).faults ≡ [] → Reaches m o known k guarded e (all_of (map f kept)))
+      → (all_of (map f (if b then x ∷ kept else kept))).faults ≡ [] → Reaches m o known k guarded e (all_of (map f (if b then x ∷ kept else kept)))
   by_item f p a x kept listed true true met same found may h rest clean =
       let empty = both_empty (f x).faults (all_of (map f kept)).faults clean in
-      by_first (f x) (map f kept) (subst (λ y. (f y).faults ≡ [] → Reaches m o k guarded e (f y)) (sym (eqb-true x a same)) h empty.0)
+      by_first (f x) (map f kept) (subst (λ y. (f y).faults ≡ [] → Reaches m o known k guarded e (f y)) (sym (eqb-true x a same)) h empty.0)
   by_item f p a x kept listed true false met other found may h rest clean =
       let empty = both_empty (f x).faults (all_of (map f kept)).faults clean in
       by_rest (f x) (map f kept) (rest found empty.1)
@@ -80,8 +82,8 @@ module _ (m : State) (o : Origin) (k : NodeKey) (guarded : Bool) (e : Effect) wh
   by_item f p a x kept listed false false unmet other found may h rest clean = rest found clean
 
   -- a listed address that can be met
-  by_listed : (f : ℕ → Raw) (p : ℕ → Bool) (a : ℕ) (xs : List ℕ) → lists xs a ≡ true → p a ≡ true → ((f a).faults ≡ [] → Reaches m o k guarded e (f a))
-      → (all_of (map f (filter p xs))).faults ≡ [] → Reaches m o k guarded e (all_of (map f (filter p xs)))
+  by_listed : (f : ℕ → Raw) (p : ℕ → Bool) (a : ℕ) (xs : List ℕ) → lists xs a ≡ true → p a ≡ true → ((f a).faults ≡ [] → Reaches m o known k guarded e (f a))
+      → (all_of (map f (filter p xs))).faults ≡ [] → Reaches m o known k guarded e (all_of (map f (filter p xs)))
   by_listed f p a [] listed may h clean = absurd (cc)
   by_listed f p a (x ∷ xs) listed may h clean =
       by_item f p a x (filter p xs) (lists xs a) (p x) (x == a) refl refl listed may h (λ found. by_listed f p a xs found may h) clean
@@ -92,36 +94,37 @@ is_listed true true a is none = refl
 is_listed true false a is none = absurd (cc)
 is_listed false listed a is none = absurd (cc)
 
-module _ (m : State) (o : Origin) (k : NodeKey) (s : AbsState) (at : InFrame m o k s) (guarded : Bool) (pc pc' : ℕ) (pc_is : pc ≡ pc') (writes : List Write)
+module _ (m : State) (o : Origin) (k : NodeKey) (s : AbsState) (at : InBareFrame m o k s) (guarded : Bool) (pc pc' : ℕ) (pc_is : pc ≡ pc') (writes : List Write)
     (registers : List AbsByte) (stand : RegistersStand o registers (with_registers m.registers writes))
-    (less : LessHolds (with_registers m.registers writes) s.flags.carry (flag m.sreg 0))
+    (less : LessHolds (with_registers m.registers writes) s.flags.carry (flag m.sreg 0)) (told : Option PairFacts) (told_fits : KnownFits told)
     (byte : ℕ) (small : byte < 256) (v : AbsByte) (stands : ByteStands o v byte) (count_values : length registers ≡ 32)
     (count : length (with_registers m.registers writes) ≡ 32) (members : AreWritten) where
   abbrev key : NodeKey
   key = at_word k pc'
 
   abbrev state : AbsState
-  state = record s { registers = registers }
+  state = record s { registers = registers; facts = told }
 
   abbrev effect : ℕ → Effect
   effect a = stored m pc writes false a byte
 
-  known_written : (a : ℕ) → (written_at m.device k.pc key state false a v).faults ≡ [] → Reaches m o k guarded (effect a) (written_at m.device k.pc key state false a v)
-  known_written = written m o k s at guarded pc pc' pc_is writes registers stand less false byte small v stands count_values count members
+  known_written : (a : ℕ) → (written_at m.device k.pc key state false a v).faults ≡ [] → Reaches m o told k guarded (effect a) (written_at m.device k.pc key state false a v)
+  known_written = written m o k s at guarded pc pc' pc_is writes registers stand less told told_fits false byte small v stands count_values count members
 
   fixed_written : (a : ℕ) (c : Option ℕ) → ((x : ℕ) → c ≡ Some x → a ≡ x) → (fixed_write m.device c k.pc key state v).faults ≡ []
-      → Reaches m o k guarded (effect a) (fixed_write m.device c k.pc key state v)
+      → Reaches m o told k guarded (effect a) (fixed_write m.device c k.pc key state v)
   fixed_written a None is clean = absurd (cc)
-  fixed_written a (Some x) is clean = subst (λ b. Reaches m o k guarded (effect b) (fixed_write m.device (Some x) k.pc key state v)) (sym (is x refl)) (known_written x clean)
+  fixed_written a (Some x) is clean = subst (λ b. Reaches m o told k guarded (effect b) (fixed_write m.device (Some x) k.pc key state v)) (sym (is x refl)) (known_written x clean)
 
-  nothing_written : (a : ℕ) → is_protected a ≡ false → Reaches m o k guarded (effect a) (one key state)
+  nothing_written : (a : ℕ) → is_protected a ≡ false → Reaches m o told k guarded (effect a) (one key state)
   nothing_written a free =
       let is = elsewhere_is a free in
-      only m o k s at guarded pc pc' pc_is writes registers stand less false (effect a) (record { key = key; state = state }) refl
-      (elsewhere m o k s at guarded pc pc' pc_is writes registers stand less false a byte k.masks registers s.flags.carry (carries_are_ordered.same s.flags.carry) is.not_low is.not_high is.not_sreg
+      only m o k s at guarded pc pc' pc_is writes registers stand less told told_fits false (effect a) (record { key = key; state = state }) refl
+      (elsewhere m o k s at guarded pc pc' pc_is writes registers stand less told told_fits false a byte k.masks registers s.flags.carry told (carries_are_ordered.same s.flags.carry) is.not_low is.not_high is.not_sreg
       (enables_kept m.enables a byte at.machine.enable_bits is.no_enables ∙ at.place.enables)
-      (changes_none m o k s at guarded pc pc' pc_is writes registers stand less false a byte is.beyond)
-      (less_still m o k s at guarded pc pc' pc_is writes registers stand less false a byte is.beyond))
+      (changes_none m o k s at guarded pc pc' pc_is writes registers stand less told told_fits false a byte is.beyond)
+      (less_still m o k s at guarded pc pc' pc_is writes registers stand less told told_fits false a byte is.beyond)
+      (facts_still m o k s at guarded pc pc' pc_is writes registers stand less told told_fits false a byte is.beyond is.not_sreg))
 
   reached : (r up : ℕ) → reaches s r up (plus16 (pair m r) up) ≡ true
   reached r up =
@@ -136,22 +139,22 @@ module _ (m : State) (o : Origin) (k : NodeKey) (s : AbsState) (at : InFrame m o
 
   listed_by : (r up : ℕ) (listed : List ℕ) (b : Bool) → is_protected (plus16 (pair m r) up) ≡ b → unlisted listed (set (plus16 (pair m r) up) byte) ≡ None
       → (listed_writes m.device k.pc key state (filter (λ a. reaches s r up a) listed) v).faults ≡ []
-      → Reaches m o k guarded (effect (plus16 (pair m r) up)) (listed_writes m.device k.pc key state (filter (λ a. reaches s r up a) listed) v)
-  listed_by r up listed false is unflagged clean = by_first m o k guarded (effect (plus16 (pair m r) up)) (one key state) (listed_ones r up listed) (nothing_written (plus16 (pair m r) up) is)
+      → Reaches m o told k guarded (effect (plus16 (pair m r) up)) (listed_writes m.device k.pc key state (filter (λ a. reaches s r up a) listed) v)
+  listed_by r up listed false is unflagged clean = by_first m o told k guarded (effect (plus16 (pair m r) up)) (one key state) (listed_ones r up listed) (nothing_written (plus16 (pair m r) up) is)
   listed_by r up listed true is unflagged clean =
       let a : ℕ = plus16 (pair m r) up in
-      by_rest m o k guarded (effect a) (one key state) (listed_ones r up listed)
-      (by_listed m o k guarded (effect a) (λ b. written_at m.device k.pc key state false b v) (λ b. reaches s r up b) a listed
+      by_rest m o told k guarded (effect a) (one key state) (listed_ones r up listed)
+      (by_listed m o told k guarded (effect a) (λ b. written_at m.device k.pc key state false b v) (λ b. reaches s r up b) a listed
       (is_listed (is_protected a) (lists listed a) a is unflagged) (reached r up) (known_written a) clean)
 
   -- a byte that is stored through a pointer, where the store isn't flagged
   pub pointer_written : (words : List ℕ) (A : List Entry) (r up : ℕ)
       → (is_fixed_site words A k.pc ≡ false → unlisted (store_line A k.pc) (set (plus16 (pair m r) up) byte) ≡ None)
       → (pointer_write m.device words A s r up (pointed s r up) k.pc key state v).faults ≡ []
-      → Reaches m o k guarded (effect (plus16 (pair m r) up)) (pointer_write m.device words A s r up (pointed s r up) k.pc key state v)
+      → Reaches m o told k guarded (effect (plus16 (pair m r) up)) (pointer_write m.device words A s r up (pointed s r up) k.pc key state v)
   pointer_written words A r up unflagged clean =
       let a : ℕ = plus16 (pair m r) up in
-      chosen m o k s at guarded pc pc' pc_is writes registers stand less false (effect a) (is_fixed_site words A k.pc)
+      chosen m o k s at guarded pc pc' pc_is writes registers stand less told told_fits false (effect a) (is_fixed_site words A k.pc)
       (fixed_write m.device (pointed s r up).constant k.pc key state v) (listed_writes m.device k.pc key state (filter (λ b. reaches s r up b) (store_line A k.pc)) v)
       (λ is rest. fixed_written a (pointed s r up).constant (number_is m o k s at r up) rest)
       (λ is rest. listed_by r up (store_line A k.pc) (is_protected a) refl (unflagged is) rest) clean

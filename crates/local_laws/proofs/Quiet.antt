@@ -22,7 +22,7 @@ use Rattle.local_rules.specs.Raw.{Raw, untracked_if, too_deep_if}
 use Rattle.local_rules.specs.Registers.{carry_bit, going_by, interrupts_row, flag_row}
 use Rattle.local_rules.specs.declared.computed.Computed.{Computed}
 use Rattle.local_rules.specs.declared.pointers.Pointed.{Pointed}
-use Rattle.local_rules.specs.Writes.{opening, closing, sreg_written, written_at, fixed_write, pointer_write, high_part, closing_offset, flags_written}
+use Rattle.local_rules.specs.Writes.{opening, closing, sreg_written, written_at, fixed_write, pointer_write, high_part, closing_offset, flags_written, put_flags}
 use Rattle.local_rules.specs.Flow.{branch, where_carry, going_where, carry_branch, flag_branch, skipping, jumping, at_closed, pushing, popping, making_room}
 use Rattle.local_rules.specs.Local.{loading}
 use Rattle.local_laws.specs.Laws.{LeadsToWords, AscendByEntry}
@@ -106,7 +106,7 @@ written_quiet device pc k s is_out a v =
     if_quiet (nat_lt a 0x20) _ _ (refl, refl)
     (if_quiet (a == SPL) _ _ (closing_quiet device (closing_offset device k.inst.kind k.sp v) k s pc)
     (if_quiet (a == SPH) _ _ (opening_quiet (high_part k.inst.kind v) k s pc)
-    (if_quiet (a == SREG) _ _ (sreg_quiet (tri_at v.bits 7) k (record s { flags = flags_written v }) is_out) (refl, refl))))
+    (if_quiet (a == SREG) _ _ (sreg_quiet (tri_at v.bits 7) k (put_flags s (flags_written v)) is_out) (refl, refl))))
 
 fixed_quiet : (device : Device) (a : Option ℕ) (pc : ℕ) (k : NodeKey) (s : AbsState) (v : AbsByte) → Quiet (fixed_write device a pc k s v)
 fixed_quiet device None pc k s v = (refl, refl)

@@ -35,7 +35,7 @@ use Rattle.mask_states.specs.declared.keys.SpForm.TheVariants.{Closed, Open}
 use Rattle.mask_states.specs.Place.{SpIs}
 use Rattle.local_rules.specs.Registers.{with_bits}
 use Rattle.local_rules.specs.Reads.{sp_low, sp_high, flags_tag, sreg_value, io_tri, io_bits, value_of, slot_read, read_at}
-use Rattle.local_rules.specs.Cover.{InFrame}
+use Rattle.local_laws.proofs.Bare.{InBareFrame}
 use Rattle.local_laws.proofs.Frame.{register_stands}
 use Rattle.local_laws.proofs.Alu.{register_byte}
 use Rattle.local_laws.proofs.Memory.{inside_if_live}
@@ -133,7 +133,7 @@ test_only : (o : Origin) (b : Bool) (v : AbsByte) (x : ℕ) → x < 256 → (b �
 test_only o true v x small h = h refl
 test_only o false v x small h = any_stands o x small
 
-module _ (m : State) (o : Origin) (k : NodeKey) (s : AbsState) (at : InFrame m o k s) where
+module _ (m : State) (o : Origin) (k : NodeKey) (s : AbsState) (at : InBareFrame m o k s) where
   byte_small : (a : ℕ) → byte_in m.memory.bytes a < 256
   unfolding byte_in
   byte_small a =

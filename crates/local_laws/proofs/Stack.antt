@@ -29,7 +29,8 @@ use Rattle.local_rules.specs.Raw.{Raw, fails, next, at_word, further as node_fur
 use Rattle.local_rules.specs.Registers.{value, set as node_set}
 use Rattle.local_rules.specs.Reads.{value_of}
 use Rattle.local_rules.specs.Flow.{if_room, pushed_slot, pushing, popping, making_room, at_closed, relative_call}
-use Rattle.local_rules.specs.Cover.{InFrame, Follows}
+use Rattle.local_laws.proofs.Bare.{InBareFrame}
+use Rattle.local_laws.proofs.Landing.{Follows}
 use Rattle.local_laws.proofs.Frame.{only, register_stands, set_one, next_is}
 use Rattle.local_laws.proofs.Memory.{inside_if_live, pushed_byte, pushed_live}
 use Rattle.local_laws.proofs.Less.{Spares, less_set}
@@ -70,7 +71,7 @@ slot_read : (m : State) (o : Origin) (a input : ℕ) (slot : Slot AbsByte) → l
 slot_read m o a input Free count small h = any_stands o (read m a input) small
 slot_read m o a input (Guarded v) count small h = subst (ByteStands o v) (sym (live_read m a input count h.0)) h.1
 
-module _ (m : State) (o : Origin) (k : NodeKey) (s : AbsState) (at : InFrame m o k s) where
+module _ (m : State) (o : Origin) (k : NodeKey) (s : AbsState) (at : InBareFrame m o k s) where
   sp_is : (offset : ℕ) → k.sp ≡ Closed offset → m.sp + offset ≡ o.base
   sp_is offset form = (subst (SpIs o.base m.is_open m.sp) form at.place.sp).1
 
@@ -83,16 +84,16 @@ module _ (m : State) (o : Origin) (k : NodeKey) (s : AbsState) (at : InFrame m o
 
   module _ (guarded : Bool) (b1 b2 : ℕ) where
     -- a row that has room
-    with_room : (n : ℕ) (r : Raw) (e : Effect) → (if_room m.device n k.pc r).faults ≡ [] → Follows m o k guarded b1 b2 e r → Follows m o k guarded b1 b2 e (if_room m.device n k.pc r)
+    with_room : (n : ℕ) (r : Raw) (e : Effect) → (if_room m.device n k.pc r).faults ≡ [] → Follows m o s.facts k guarded b1 b2 e r → Follows m o s.facts k guarded b1 b2 e (if_room m.device n k.pc r)
     with_room n r e none h = by_room (nat_le n (size_of m.device)) none
       where
-        by_room : (fits : Bool) → (if fits then r else fails (TooDeep k.pc n)).faults ≡ [] → Follows m o k guarded b1 b2 e (if fits then r else fails (TooDeep k.pc n))
+        by_room : (fits : Bool) → (if fits then r else fails (TooDeep k.pc n)).faults ≡ [] → Follows m o s.facts k guarded b1 b2 e (if fits then r else fails (TooDeep k.pc n))
         by_room true free = h
         by_room false wrong = absurd (cc)
 
     -- ---- pop
 
-    popped : (d offset : ℕ) → b1 < 256 → Spares s.flags.carry d → k.sp ≡ Closed offset → (popping m.device k s d offset).faults ≡ [] → Follows m o k guarded b1 b2 (pop_effect m d b1) (popping m.device k s d offset)
+    popped : (d offset : ℕ) → b1 < 256 → Spares s.flags.carry d → k.sp ≡ Closed offset → (popping m.device k s d offset).faults ≡ [] → Follows m o s.facts k guarded b1 b2 (pop_effect m d b1) (popping m.device k s d offset)
     popped d zero small spare form none = absurd (cc)
     popped d (suc n) small spare form none =
         let sp = sp_is (suc n) form in
@@ -101,19 +102,22 @@ module _ (m : State) (o : Origin) (k : NodeKey) (s : AbsState) (at : InFrame m o
         only m o k s at guarded b1 b2 (pop_effect m d b1)
         (record { key = record (next m.device k) { sp = Closed n }; state = record s { registers = node_set s d (value_of (slot_at s.slots n)); slots = take n s.slots } }) refl
         (record {
-          inside = λ room. refl;
-          place = λ within. record { pc = next_is m o k s at; enables = at.place.enables; i = at.place.i; delay = refl; sp = (refl, omega (arith, at.base_word)) };
-          registers = set_one m o k s at d (value_of (slot_at s.slots n)) (read m (plus16 m.sp 1) b1)
-              (slot_read m o (plus16 m.sp 1) b1 (slot_at s.slots n) at.machine.count_live (read_small m o k s at (plus16 m.sp 1) b1 small)
-              (subst (λ a. SlotStands o m.memory a (slot_at s.slots n)) address (at.stands.slots n (omega arith))));
-          flags = at.stands.flags;
-          less = less_set m.registers s.flags.carry (flag m.sreg 0) d (read m (plus16 m.sp 1) b1) spare at.stands.less;
-          slots = λ within inside kept.
-              slots_follow.kept o m.memory (after m guarded (pop_effect m d b1)).memory (plus16 m.sp 1) (take n s.slots) kept (omega (arith, at.base_word, length-take n s.slots))
-              (slots_follow.taken o m.memory s.slots n at.stands.slots);
+          lands = λ held. record {
+            inside = λ room. refl;
+            place = λ within. record { pc = next_is m o k s at; enables = at.place.enables; i = at.place.i; delay = refl; sp = (refl, omega (arith, at.base_word)) };
+            registers = set_one m o k s at d (value_of (slot_at s.slots n)) (read m (plus16 m.sp 1) b1)
+                (slot_read m o (plus16 m.sp 1) b1 (slot_at s.slots n) at.machine.count_live (read_small m o k s at (plus16 m.sp 1) b1 small)
+                (subst (λ a. SlotStands o m.memory a (slot_at s.slots n)) address (at.stands.slots n (omega arith))));
+            flags = at.stands.flags;
+            less = less_set m.registers s.flags.carry (flag m.sreg 0) d (read m (plus16 m.sp 1) b1) spare at.stands.less;
+            facts = held;
+            slots = λ within inside kept.
+                slots_follow.kept o m.memory (after m guarded (pop_effect m d b1)).memory (plus16 m.sp 1) (take n s.slots) kept (omega (arith, at.base_word, length-take n s.slots))
+                (slots_follow.taken o m.memory s.slots n at.stands.slots);
+          };
         })
 
-    pub pop_covered : (d : ℕ) → b1 < 256 → Spares s.flags.carry d → (at_closed k.sp k.pc (popping m.device k s d)).faults ≡ [] → Follows m o k guarded b1 b2 (pop_effect m d b1) (at_closed k.sp k.pc (popping m.device k s d))
+    pub pop_covered : (d : ℕ) → b1 < 256 → Spares s.flags.carry d → (at_closed k.sp k.pc (popping m.device k s d)).faults ≡ [] → Follows m o s.facts k guarded b1 b2 (pop_effect m d b1) (at_closed k.sp k.pc (popping m.device k s d))
     pop_covered d small spare none = closed m o k s at guarded b1 b2 k.sp k.pc (pop_effect m d b1) (popping m.device k s d) none (λ offset. popped d offset small spare)
 
   module _ (scratch : Bool) (b1 b2 : ℕ) where
@@ -127,7 +131,7 @@ module _ (m : State) (o : Origin) (k : NodeKey) (s : AbsState) (at : InFrame m o
       subst (ByteStands o (value s r)) (sym (pushed_byte m.device m.memory (minus16 m.sp 1) at.machine.count_bytes at.machine.count_live true m.sp (register m r) inside)) (register_stands m o k s at r),
     )
 
-    pushed : (r offset : ℕ) → k.sp ≡ Closed offset → (pushing m.device scratch k s r offset).faults ≡ [] → Follows m o k (not scratch) b1 b2 (push_effect m r) (pushing m.device scratch k s r offset)
+    pushed : (r offset : ℕ) → k.sp ≡ Closed offset → (pushing m.device scratch k s r offset).faults ≡ [] → Follows m o s.facts k (not scratch) b1 b2 (push_effect m r) (pushing m.device scratch k s r offset)
     pushed r offset form none =
         let sp = sp_is offset form in
         let slots = count offset form in
@@ -136,26 +140,29 @@ module _ (m : State) (o : Origin) (k : NodeKey) (s : AbsState) (at : InFrame m o
         (only m o k s at (not scratch) b1 b2 (push_effect m r)
         (record { key = record (next m.device k) { sp = Closed (offset + 1) }; state = record s { slots = s.slots ++ pushed_slot scratch (value s r) ∷ [] } }) refl
         (record {
-          inside = λ room. and_true (is_sram m.device m.sp) (inside_one m.device m.sp offset o.base sp room.0 room.1);
-          place = λ within. record { pc = next_is m o k s at; enables = at.place.enables; i = at.place.i; delay = refl; sp = (refl, omega (arith, at.machine.sp_word)) };
-          registers = at.stands.registers;
-          flags = at.stands.flags;
-          less = at.stands.less;
-          slots = λ within inside kept.
-              let here : m.sp ≡ o.base - length s.slots = omega (arith, at.machine.sp_word) in
-              let lt : minus16 m.sp 1 < m.sp = omega (arith, at.machine.sp_word) in
-              slots_follow.pushed o new s.slots (pushed_slot scratch (value s r)) (kept_below offset (minus16 m.sp 1) new form (omega (arith, at.machine.sp_word)) kept)
-              (subst (λ a. SlotStands o new a (pushed_slot scratch (value s r))) here (pushed_stands scratch r (first_true (is_sram m.device m.sp) inside) lt));
+          lands = λ held. record {
+            inside = λ room. and_true (is_sram m.device m.sp) (inside_one m.device m.sp offset o.base sp room.0 room.1);
+            place = λ within. record { pc = next_is m o k s at; enables = at.place.enables; i = at.place.i; delay = refl; sp = (refl, omega (arith, at.machine.sp_word)) };
+            registers = at.stands.registers;
+            flags = at.stands.flags;
+            less = at.stands.less;
+            facts = held;
+            slots = λ within inside kept.
+                let here : m.sp ≡ o.base - length s.slots = omega (arith, at.machine.sp_word) in
+                let lt : minus16 m.sp 1 < m.sp = omega (arith, at.machine.sp_word) in
+                slots_follow.pushed o new s.slots (pushed_slot scratch (value s r)) (kept_below offset (minus16 m.sp 1) new form (omega (arith, at.machine.sp_word)) kept)
+                (subst (λ a. SlotStands o new a (pushed_slot scratch (value s r))) here (pushed_stands scratch r (first_true (is_sram m.device m.sp) inside) lt));
+          };
         }))
 
     pub push_covered : (r : ℕ) → (at_closed k.sp k.pc (pushing m.device scratch k s r)).faults ≡ []
-        → Follows m o k (not scratch) b1 b2 (push_effect m r) (at_closed k.sp k.pc (pushing m.device scratch k s r))
+        → Follows m o s.facts k (not scratch) b1 b2 (push_effect m r) (at_closed k.sp k.pc (pushing m.device scratch k s r))
     push_covered r none = closed m o k s at (not scratch) b1 b2 k.sp k.pc (push_effect m r) (pushing m.device scratch k s r) none (pushed r)
 
     -- ---- calls
 
     roomier : (target target' offset : ℕ) → wrapped m.device target ≡ target' → k.sp ≡ Closed offset → (making_room m.device k s target' offset).faults ≡ []
-        → Follows m o k (not scratch) b1 b2 (calling m target (further m 1)) (making_room m.device k s target' offset)
+        → Follows m o s.facts k (not scratch) b1 b2 (calling m target (further m 1)) (making_room m.device k s target' offset)
     roomier target target' offset is form none =
         let sp = sp_is offset form in
         let slots = count offset form in
@@ -164,19 +171,22 @@ module _ (m : State) (o : Origin) (k : NodeKey) (s : AbsState) (at : InFrame m o
         (only m o k s at (not scratch) b1 b2 (calling m target (further m 1))
         (record { key = record (at_word k target') { sp = Closed (offset + 2) }; state = record s { slots = s.slots ++ Free ∷ Free ∷ [] } }) refl
         (record {
-          inside = λ room. inside_two m.device m.sp offset o.base (further m 1) sp room.0 room.1;
-          place = λ within. record { pc = is; enables = at.place.enables; i = at.place.i; delay = refl; sp = (refl, omega (arith, at.machine.sp_word)) };
-          registers = at.stands.registers;
-          flags = at.stands.flags;
-          less = at.stands.less;
-          slots = λ within inside kept.
-              subst (SlotsStand o new) (append_assoc s.slots (Free ∷ []) (Free ∷ []))
-              (slots_follow.pushed o new (s.slots ++ Free ∷ []) Free
-              (slots_follow.pushed o new s.slots Free (kept_below offset (minus16 m.sp 2) new form (omega (arith, at.machine.sp_word)) kept) tt) tt);
+          lands = λ held. record {
+            inside = λ room. inside_two m.device m.sp offset o.base (further m 1) sp room.0 room.1;
+            place = λ within. record { pc = is; enables = at.place.enables; i = at.place.i; delay = refl; sp = (refl, omega (arith, at.machine.sp_word)) };
+            registers = at.stands.registers;
+            flags = at.stands.flags;
+            less = at.stands.less;
+            facts = held;
+            slots = λ within inside kept.
+                subst (SlotsStand o new) (append_assoc s.slots (Free ∷ []) (Free ∷ []))
+                (slots_follow.pushed o new (s.slots ++ Free ∷ []) Free
+                (slots_follow.pushed o new s.slots Free (kept_below offset (minus16 m.sp 2) new form (omega (arith, at.machine.sp_word)) kept) tt) tt);
+          };
         }))
 
     rcall_by : (b : Bool) (target target' : ℕ) → b ≡ scratch → wrapped m.device target ≡ target' → (relative_call m.device b k s target').faults ≡ []
-        → Follows m o k (not scratch) b1 b2 (calling m target (further m 1)) (relative_call m.device b k s target')
+        → Follows m o s.facts k (not scratch) b1 b2 (calling m target (further m 1)) (relative_call m.device b k s target')
     rcall_by true target target' small is none =
         closed m o k s at (not scratch) b1 b2 k.sp k.pc (calling m target (further m 1)) (making_room m.device k s target') none (λ offset form free. roomier target target' offset is form free)
     rcall_by false target target' small is none =
@@ -184,5 +194,5 @@ module _ (m : State) (o : Origin) (k : NodeKey) (s : AbsState) (at : InFrame m o
         (further_is m o k s at (not scratch) b1 b2 1) (first_in target' []) none
 
     pub rcall_covered : (target target' : ℕ) → wrapped m.device target ≡ target' → (relative_call m.device scratch k s target').faults ≡ []
-        → Follows m o k (not scratch) b1 b2 (calling m target (further m 1)) (relative_call m.device scratch k s target')
+        → Follows m o s.facts k (not scratch) b1 b2 (calling m target (further m 1)) (relative_call m.device scratch k s target')
     rcall_covered target target' is none = rcall_by scratch target target' refl is none

@@ -6,11 +6,13 @@ use Rattle.avr_model.specs.declared.choice.Flag.{Flag}
 use Rattle.avr_model.specs.declared.effect.Effect.{Effect}
 use Rattle.avr_model.specs.declared.instruction.Instr.{Instr}
 use Rattle.avr_model.specs.Sites.{instruction_at, is_scratch}
+use Rattle.avr_model.specs.Sreg.{flag}
 use Rattle.avr_model.specs.State.{State}
 use Rattle.avr_model.specs.Effects.{effect_of}
 use Rattle.avr_model.specs.Step.{Answer, Undefined, Overflow, Done, after, all_inside, live_write, protected_write, unlisted_transfer, flag_by, flagged_or, is_unlisted, go}
 use Rattle.sp_domain.specs.Tags.{Origin}
 use Rattle.abs_state.specs.declared.state.AbsState.{AbsState}
+use Rattle.pair_domain.proofs.AllLaws.{known_is_ordered}
 use Rattle.abs_state.proofs.AllLaws.{values_say_less}
 use Rattle.mask_states.specs.declared.keys.NodeKey.{NodeKey}
 use Rattle.local_rules.specs.declared.local.Node.{Node}
@@ -18,8 +20,8 @@ use Rattle.local_rules.specs.declared.local.NodeFault.{NodeFault}
 use Rattle.local_rules.specs.declared.local.Local.{Local}
 use Rattle.local_rules.specs.Raw.{Raw}
 use Rattle.local_rules.specs.Local.{raw, joined_onto, settled, local}
-use Rattle.local_rules.specs.Cover.{InFrame, IsWithinBase, CoversStep, ArrivesAt, Follows, stays, calls, leaves, IsStep}
-use Rattle.local_laws.specs.Laws.{JoinsAreLeast, LocalPartsAreNodes, AreNodes, StepsAreCovered}
+use Rattle.local_rules.specs.Cover.{InFrameIn, IsWithinBase, CoversStep, ArrivesAt, Follows, stays, calls, leaves, IsStep}
+use Rattle.local_laws.specs.Laws.{JoinsAreLeast, LocalPartsAreNodes, AreNodesIn, StepsAreCovered}
 use Rattle.local_laws.proofs.Covered.{local_parts_cover}
 use Rattle.local_laws.proofs.Memory.{live_bytes_stay}
 
@@ -65,14 +67,14 @@ some_defined : (test : Bool) (flags : Option Flag) (m : State) (at pc : ℕ) →
 some_defined true flags m at pc e = flagged_defined flags m pc e
 some_defined false flags m at pc e = cc
 
-module _ (words : List ℕ) (A : List Entry) (m : State) (o : Origin) (k : NodeKey) (s : AbsState) (b1 b2 : ℕ) (at : InFrame m o k s) (small1 : b1 < 256) (small2 : b2 < 256) where
+module _ {followed : Bool} (words : List ℕ) (A : List Entry) (m : State) (o : Origin) (k : NodeKey) (s : AbsState) (b1 b2 : ℕ) (at : InFrameIn followed m o k s) (small1 : b1 < 256) (small2 : b2 < 256) where
   is_defined : (r : Raw) (found : Option Instr) (pc : ℕ) → CoversStep words A m o k b1 b2 found r → r.faults ≡ [] → go words A m found b1 b2 ≢ Undefined pc
   is_defined r None pc covered none e = covered none
   is_defined r (Some instr) pc covered none e = some_defined _ _ _ m.pc pc e
 
   module _ (joins : JoinsAreLeast) (nodes : LocalPartsAreNodes) (none : (raw words A k s).faults ≡ [])
       (within : (to : Node) → Contains (joined (raw words A k s)).same to → IsWithinBase o.base to.key.sp) where
-    are_nodes : AreNodes (raw words A k s).moves
+    are_nodes : AreNodesIn followed (raw words A k s).moves
     are_nodes to member = (nodes.nodes words A k s to at.node none member).1
 
     -- a raw successor lies below a joined one, which the machine is at too
@@ -82,8 +84,10 @@ module _ (words : List ℕ) (A : List Entry) (m : State) (o : Origin) (k : NodeK
         let above = joins.above (raw words A k s).moves to are_nodes member in
         let whole : IsWithinBase o.base to.key.sp = within (record { key = to.key; state = above.state }) above.present in
         let kept = live_bytes_stay.kept m guarded e at.machine unhit in
+        let n = after m guarded e in
         stays (record { key = to.key; state = above.state }) above.present inst (lands.place whole)
         (values_say_less.state o to.state above.state (after m guarded e) above.above (record { registers = lands.registers; flags = lands.flags; less = lands.less; slots = lands.slots whole inside kept }))
+        (known_is_ordered.less to.state.facts above.state.facts n.registers (flag n.sreg 0) (flag n.sreg 1) (flag n.sreg 4) above.above.facts lands.facts)
 
     follows_steps : (guarded : Bool) (e : Effect) → live_write m.memory (e.stores ++ e.pushes) ≡ None → all_inside m.device e.pushes ≡ true
         → Follows m o k guarded b1 b2 e (raw words A k s) → IsStep m o k b1 b2 (joined (raw words A k s)) (after m guarded e)

@@ -1,6 +1,7 @@
 -- A byte that is written to a known address: what the rows say covers what the machine does.
-use Rattle.std.proofs.Common.{◌≡◌, refl, sym, ◌∙◌, ap, ap₂, subst, ℕ, ◌+◌, ◌-◌, ◌*◌, ◌^◌, ◌<◌, ◌≤◌, Bool, true, false, not, ◌&&◌, nat_lt, nat_le, if◌then◌else◌, ◌==◌, List, [], ◌∷◌, length, Option, Some, None, slice_set, arith, Contains, eqb-true, ltb-true, ne_eqb, find}
+use Rattle.std.proofs.Common.{◌≡◌, refl, sym, ◌∙◌, ap, ap₂, subst, ℕ, ◌+◌, ◌-◌, ◌*◌, ◌^◌, ◌<◌, ◌≤◌, Bool, true, false, not, ◌&&◌, nat_lt, nat_le, if◌then◌else◌, ◌==◌, List, [], ◌∷◌, length, Option, Some, None, slice_set, slice_index, arith, Contains, eqb-true, eq-eqb, ltb-true, ne_eqb, find, ◌≢◌, subst₂}
 use Rattle.std.proofs.lemmas.Bool.{or_parts}
+use Rattle.std.proofs.lemmas.Grind.{elements}
 use Rattle.std.proofs.lemmas.Bool.Decides.{nat_tests}
 use Rattle.std.proofs.lemmas.Nat.Bits.{bit_at-lt, same_from_bits_below}
 use Rattle.std.specs.Int.{bit_at}
@@ -28,10 +29,15 @@ use Rattle.sp_domain.specs.declared.tags.CarryTag.{CarryTag}
 use Rattle.sp_domain.specs.Tags.{Origin, TagHolds, LessHolds, IsCarryWithin}
 use Rattle.sp_domain.proofs.AllLaws.{carries_are_ordered, tags_say_less}
 use Rattle.sp_domain.specs.Slots.{slot_at, resized}
+use Rattle.pair_domain.specs.Rank.{KnownFits}
 use Rattle.abs_state.specs.declared.values.AbsByte.{AbsByte}
 use Rattle.abs_state.specs.declared.state.AbsState.{AbsState}
+use Rattle.pair_domain.specs.declared.facts.PairFacts.{PairFacts}
+use Rattle.pair_domain.proofs.AllLaws.{known_is_ordered}
+use Rattle.abs_state.specs.Laws.{HoldsAt}
+use Rattle.abs_state.specs.Ended.{is_one_of, ended, written_hull}
 use Rattle.abs_state.specs.Stands.{ByteStands, EntryHolds, FlagsStand, RegistersStand}
-use Rattle.abs_state.proofs.AllLaws.{bits_make_values, values_say_less, slots_follow}
+use Rattle.abs_state.proofs.AllLaws.{bits_make_values, values_say_less, slots_follow, writes_end_facts}
 use Rattle.mask_states.specs.declared.keys.NodeKey.{NodeKey}
 use Rattle.mask_states.specs.declared.keys.High.{High}
 use Rattle.mask_states.specs.declared.keys.SpForm.TheVariants.{Closed, Open}
@@ -40,9 +46,10 @@ use Rattle.mask_states.specs.Splits.{splits}
 use Rattle.local_rules.specs.declared.local.Node.{Node}
 use Rattle.local_rules.specs.declared.local.NodeFault.TheVariants.{TooDeep}
 use Rattle.local_rules.specs.Raw.{Raw, at_word, one, fails}
-use Rattle.local_rules.specs.Writes.{high_part, opening, closing_offset, closing, is_entry_flags, flags_written, with_i, sreg_written, masks_written, register_written as node_written, written_at}
-use Rattle.local_rules.specs.Cover.{InFrame, ArrivesAt}
-use Rattle.local_laws.proofs.Frame.{second, set_stands, slot_kept, above_floor, same_frame}
+use Rattle.local_rules.specs.Writes.{high_part, opening, closing_offset, closing, is_entry_flags, flags_written, with_i, sreg_written, masks_written, register_written as node_written, put_flags, written_at}
+use Rattle.local_laws.proofs.Bare.{InBareFrame}
+use Rattle.local_laws.proofs.Landing.{ArrivesAt}
+use Rattle.local_laws.proofs.Frame.{second, set_stands, slot_kept, above_floor, frame_kept}
 use Rattle.local_rules.specs.Registers.{with_bits, forgotten}
 use Rattle.local_laws.proofs.Less.{less_set, forgotten_less, forgotten_spares}
 use Rattle.local_laws.proofs.Targets.{in_map}
@@ -65,11 +72,11 @@ stored m pc writes is_out a byte =
     }
 
 -- the effect leads to one of these nodes, in the same instance
-pub record Reaches (m : State) (o : Origin) (k : NodeKey) (guarded : Bool) (e : Effect) (r : Raw) : Type 0 where
+pub record Reaches (m : State) (o : Origin) (x : Option PairFacts) (k : NodeKey) (guarded : Bool) (e : Effect) (r : Raw) : Type 0 where
   pub to : Node
   pub present : Contains r.moves to
   pub inst : to.key.inst ≡ k.inst
-  pub lands : ArrivesAt m o guarded e to
+  pub at_node : ArrivesAt m o x guarded e to
 
 -- ---- enable bits
 
@@ -147,43 +154,55 @@ flags_stand o v x h =
       carry = tt;
     }
 
+is_chosen : {A : Type 0} (p : Bool) (x y : A) → p ≡ true → (if p then x else y) ≡ x
+is_chosen true x y h = refl
+is_chosen false x y h = absurd (cc)
+
+-- a register that isn't set stays
+set_other : (registers : List ℕ) (a byte r : ℕ) → is_one_of (a ∷ []) r ≡ false → slice_index (slice_set registers a byte) r ≡ slice_index registers r
+set_other registers a byte r e =
+    let other = (or_parts (a == r) false e).0 in
+    let apart : a ≢ r = λ same. (let hit : (a == r) ≡ true = eq-eqb a r same in absurd (let no = sym hit ∙ other in cc)) in
+    grind (arith, elements)
+
 not_same : (a b : ℕ) → nat_lt a 0x20 ≡ true → 0x1F < b → (a == b) ≡ false
 not_same a b here above = ne_eqb a b (λ same. let lt : a < 0x20 = ltb-true a 0x20 here in omega arith)
 
-module _ (m : State) (o : Origin) (k : NodeKey) (s : AbsState) (at : InFrame m o k s) (guarded : Bool) (pc pc' : ℕ) (pc_is : pc ≡ pc') (writes : List Write)
+module _ (m : State) (o : Origin) (k : NodeKey) (s : AbsState) (at : InBareFrame m o k s) (guarded : Bool) (pc pc' : ℕ) (pc_is : pc ≡ pc') (writes : List Write)
     (registers : List AbsByte) (stand : RegistersStand o registers (with_registers m.registers writes))
-    (less : LessHolds (with_registers m.registers writes) s.flags.carry (flag m.sreg 0)) (is_out : Bool) where
+    (less : LessHolds (with_registers m.registers writes) s.flags.carry (flag m.sreg 0)) (told : Option PairFacts) (told_fits : KnownFits told) (is_out : Bool) where
   abbrev key : NodeKey
   key = at_word k pc'
 
   abbrev state : AbsState
-  state = record s { registers = registers }
+  state = record s { registers = registers; facts = told }
 
-  pub only : (e : Effect) (to : Node) → to.key.inst ≡ k.inst → ArrivesAt m o guarded e to → Reaches m o k guarded e (record { moves = to ∷ []; calls = []; exit = None; faults = [] })
-  only e to inst lands = record { to = to; present = first_in to []; inst = inst; lands = lands }
+  pub only : (e : Effect) (to : Node) → to.key.inst ≡ k.inst → ArrivesAt m o told guarded e to → Reaches m o told k guarded e (record { moves = to ∷ []; calls = []; exit = None; faults = [] })
+  only e to inst lands = record { to = to; present = first_in to []; inst = inst; at_node = lands }
 
-  pub chosen : (e : Effect) (b : Bool) (r q : Raw) → (b ≡ true → r.faults ≡ [] → Reaches m o k guarded e r) → (b ≡ false → q.faults ≡ [] → Reaches m o k guarded e q)
-      → (if b then r else q).faults ≡ [] → Reaches m o k guarded e (if b then r else q)
+  pub chosen : (e : Effect) (b : Bool) (r q : Raw) → (b ≡ true → r.faults ≡ [] → Reaches m o told k guarded e r) → (b ≡ false → q.faults ≡ [] → Reaches m o told k guarded e q)
+      → (if b then r else q).faults ≡ [] → Reaches m o told k guarded e (if b then r else q)
   chosen e true r q h g clean = h refl clean
   chosen e false r q h g clean = g refl clean
 
   -- no byte of the stack pointer and not the status register
-  pub elsewhere : (a byte masks : ℕ) (values : List AbsByte) (c : CarryTag) → IsCarryWithin s.flags.carry c → (a == SPL) ≡ false → (a == SPH) ≡ false → (a == SREG) ≡ false
+  pub elsewhere : (a byte masks : ℕ) (values : List AbsByte) (c : CarryTag) (x : Option PairFacts) → IsCarryWithin s.flags.carry c → (a == SPL) ≡ false → (a == SPH) ≡ false → (a == SREG) ≡ false
       → written_enables m.enables a byte ≡ masks
       → RegistersStand o values (registers_after (with_registers m.registers writes) (set a byte))
       → LessHolds (registers_after (with_registers m.registers writes) (set a byte)) c (flag m.sreg 0)
-      → ArrivesAt m o guarded (stored m pc writes is_out a byte)
-      (record { key = record key { masks = masks }; state = record s { registers = values; flags = record s.flags { carry = c } } })
-  elsewhere a byte masks values c over not_low not_high not_sreg enables values_stand still =
+      → (HoldsAt told (with_registers m.registers writes) m.sreg → HoldsAt x (registers_after (with_registers m.registers writes) (set a byte)) (sreg_after m.sreg (set a byte)))
+      → ArrivesAt m o told guarded (stored m pc writes is_out a byte)
+      (record { key = record key { masks = masks }; state = record s { registers = values; flags = record s.flags { carry = c }; facts = x } })
+  elsewhere a byte masks values c x over not_low not_high not_sreg enables values_stand still known =
       let flags = values_say_less.flags o s.flags (record s.flags { carry = c }) m.sreg (record { entry = λ e. e; bits = λ x small has. has; carry = over }) at.stands.flags in
       let sreg : sreg_after m.sreg (set a byte) ≡ m.sreg = not_chosen (a == SREG) byte m.sreg not_sreg in
-      same_frame m o k s at guarded (stored m pc writes is_out a byte)
-      (record { key = record key { masks = masks }; state = record s { registers = values; flags = record s.flags { carry = c } } }) refl refl refl
+      frame_kept m o k s at told guarded (stored m pc writes is_out a byte)
+      (record { key = record key { masks = masks }; state = record s { registers = values; flags = record s.flags { carry = c }; facts = x } }) refl refl refl
       (neither (a == SPL) (a == SPH) (256 * high m.sp + byte) (256 * byte + low m.sp) m.sp not_low not_high)
       (neither (a == SPL) (a == SPH) false true m.is_open not_low not_high)
       pc_is enables (ap (λ x. flag x 7) sreg ∙ at.place.i) (no_delay is_out (a == SREG) (flag byte 7) (not (i_flag m)) not_sreg)
       values_stand (subst (FlagsStand o (record s.flags { carry = c })) (sym sreg) flags)
-      (subst (λ (x : ℕ). LessHolds (registers_after (with_registers m.registers writes) (set a byte)) c (flag x 0)) (sym sreg) still)
+      (subst (λ (x : ℕ). LessHolds (registers_after (with_registers m.registers writes) (set a byte)) c (flag x 0)) (sym sreg) still) known
 
   -- no register either
   pub changes_none : (a byte : ℕ) → nat_lt a 0x20 ≡ false → RegistersStand o registers (registers_after (with_registers m.registers writes) (set a byte))
@@ -194,49 +213,68 @@ module _ (m : State) (o : Origin) (k : NodeKey) (s : AbsState) (at : InFrame m o
       subst (λ (xs : List ℕ). LessHolds xs s.flags.carry (flag m.sreg 0))
       (sym (not_chosen (nat_lt a 0x20) (slice_set (with_registers m.registers writes) a byte) (with_registers m.registers writes) beyond)) less
 
+  pub facts_still : (a byte : ℕ) → nat_lt a 0x20 ≡ false → (a == SREG) ≡ false → HoldsAt told (with_registers m.registers writes) m.sreg
+      → HoldsAt told (registers_after (with_registers m.registers writes) (set a byte)) (sreg_after m.sreg (set a byte))
+  facts_still a byte beyond not_sreg held =
+      subst₂ (HoldsAt told) (sym (not_chosen (nat_lt a 0x20) (slice_set (with_registers m.registers writes) a byte) (with_registers m.registers writes) beyond))
+      (sym (not_chosen (a == SREG) byte m.sreg not_sreg)) held
+
   module _ (byte : ℕ) (small : byte < 256) (v : AbsByte) (stands : ByteStands o v byte) (count_values : length registers ≡ 32)
       (count : length (with_registers m.registers writes) ≡ 32) where
     register_written : (a : ℕ) → nat_lt a 0x20 ≡ true → (a == SPL) ≡ false → (a == SPH) ≡ false → (a == SREG) ≡ false
-        → ArrivesAt m o guarded (stored m pc writes is_out a byte) (record { key = key; state = node_written state a v })
+        → ArrivesAt m o told guarded (stored m pc writes is_out a byte) (record { key = key; state = node_written state a v })
     register_written a here not_low not_high not_sreg =
         let lt : a < 0x20 = ltb-true a 0x20 here in
         let w : AbsByte = with_bits v.tag v.bits in
         let c : CarryTag = forgotten (a ∷ []) s.flags.carry in
-        elsewhere a byte k.masks (slice_set registers a w) c (forgotten_less (a ∷ []) s.flags.carry) not_low not_high not_sreg
+        let old : List ℕ = with_registers m.registers writes in
+        let new : List ℕ = slice_set old a byte in
+        let new_stand : RegistersStand o (slice_set registers a w) new = set_stands o registers old a w byte count_values count (bits_make_values.stands o v.tag v.bits byte small stands.tag stands.bits) stand in
+        let left : Option PairFacts = ended (is_one_of (a ∷ [])) false false told in
+        let known : HoldsAt told old m.sreg → HoldsAt (written_hull (slice_set registers a w) a left) (registers_after old (set a byte)) (sreg_after m.sreg (set a byte)) = λ held.
+        subst₂ (HoldsAt (written_hull (slice_set registers a w) a left)) (sym (is_chosen (nat_lt a 0x20) new old here)) (sym (not_chosen (a == SREG) byte m.sreg not_sreg))
+        (writes_end_facts.hull_holds o (slice_set registers a w) new a left m.sreg (known_is_ordered.count left (writes_end_facts.fits (is_one_of (a ∷ [])) false false told told_fits)) new_stand
+        (writes_end_facts.holds (is_one_of (a ∷ [])) false false told old new m.sreg m.sreg
+        (record { kept = λ r other. set_other old a byte r other; bytes = λ r inside. (new_stand r inside).small })
+        (record { carry_kept = λ e. refl; others_kept = λ e. (refl, refl, refl) }) held)) in
+        elsewhere a byte k.masks (slice_set registers a w) c (written_hull (slice_set registers a w) a left) (forgotten_less (a ∷ []) s.flags.carry) not_low not_high not_sreg
         (enables_kept m.enables a byte at.machine.enable_bits (above_registers a lt) ∙ at.place.enables)
         (subst (λ t. RegistersStand o (slice_set registers a w) (if t then slice_set (with_registers m.registers writes) a byte else with_registers m.registers writes)) (sym here)
-        (set_stands o registers (with_registers m.registers writes) a w byte count_values count (bits_make_values.stands o v.tag v.bits byte small stands.tag stands.bits) stand))
+        new_stand)
         (subst (λ t. LessHolds (if t then slice_set (with_registers m.registers writes) a byte else with_registers m.registers writes) c (flag m.sreg 0)) (sym here)
         (less_set (with_registers m.registers writes) c (flag m.sreg 0) a byte (forgotten_spares (a ∷ []) s.flags.carry).0
-        (tags_say_less.less (with_registers m.registers writes) s.flags.carry c (flag m.sreg 0) (forgotten_less (a ∷ []) s.flags.carry) less)))
+        (tags_say_less.less (with_registers m.registers writes) s.flags.carry c (flag m.sreg 0) (forgotten_less (a ∷ []) s.flags.carry) less))) known
 
     -- ---- SPL
 
     closed_lands : (n : ℕ) → closing_offset m.device k.inst.kind k.sp v ≡ Some n
-        → ArrivesAt m o guarded (stored m pc writes is_out SPL byte) (record { key = record key { sp = Closed n }; state = record state { slots = resized n s.slots } })
+        → ArrivesAt m o told guarded (stored m pc writes is_out SPL byte) (record { key = record key { sp = Closed n }; state = record state { slots = resized n s.slots } })
     closed_lands n e =
         let at_base : n ≤ o.base → 256 * high m.sp + byte + n ≡ o.base = closes m.device o at.base_word m.is_open m.sp byte n small v stands k.inst.kind k.sp e at.place.sp at.root in
         record {
-          inside = λ room. refl;
-          place = λ within.
-              record {
-                pc = pc_is;
-                enables = enables_kept m.enables SPL byte at.machine.enable_bits spl_holds_none ∙ at.place.enables;
-                i = at.place.i;
-                delay = no_delay is_out false (flag byte 7) (not (i_flag m)) refl;
-                sp = (refl, at_base within);
-              };
-          registers = stand;
-          flags = at.stands.flags;
-          less = less;
-          slots = λ within inside kept.
-              slots_follow.resized o (after m guarded (stored m pc writes is_out SPL byte)).memory s.slots n (λ d lt below.
-              slot_kept o m.memory (after m guarded (stored m pc writes is_out SPL byte)).memory (256 * high m.sp + byte) (o.base - d) (slot_at s.slots d) kept
-              (λ live. omega (arith, at_base within)) (at.stands.slots d below));
+          lands = λ held. record {
+            inside = λ room. refl;
+            place = λ within.
+                record {
+                  pc = pc_is;
+                  enables = enables_kept m.enables SPL byte at.machine.enable_bits spl_holds_none ∙ at.place.enables;
+                  i = at.place.i;
+                  delay = no_delay is_out false (flag byte 7) (not (i_flag m)) refl;
+                  sp = (refl, at_base within);
+                };
+            registers = stand;
+            flags = at.stands.flags;
+            less = less;
+            facts = held;
+            slots = λ within inside kept.
+                slots_follow.resized o (after m guarded (stored m pc writes is_out SPL byte)).memory s.slots n (λ d lt below.
+                slot_kept o m.memory (after m guarded (stored m pc writes is_out SPL byte)).memory (256 * high m.sp + byte) (o.base - d) (slot_at s.slots d) kept
+                (λ live. omega (arith, at_base within)) (at.stands.slots d below));
+          };
         }
 
     closed_written : (n : Option ℕ) → closing_offset m.device k.inst.kind k.sp v ≡ n → (closing m.device n key state k.pc).faults ≡ []
-        → Reaches m o k guarded (stored m pc writes is_out SPL byte) (closing m.device n key state k.pc)
+        → Reaches m o told k guarded (stored m pc writes is_out SPL byte) (closing m.device n key state k.pc)
     closed_written None e clean = absurd (cc)
     closed_written (Some n) e clean =
         chosen (stored m pc writes is_out SPL byte) (nat_le n (size_of m.device)) (one (record key { sp = Closed n }) (record state { slots = resized n s.slots })) (fails (TooDeep k.pc n))
@@ -245,42 +283,47 @@ module _ (m : State) (o : Origin) (k : NodeKey) (s : AbsState) (at : InFrame m o
     -- ---- SPH
 
     opened_lands : (h : High) → high_part k.inst.kind v ≡ Some h
-        → ArrivesAt m o guarded (stored m pc writes is_out SPH byte) (record { key = record key { sp = Open (offset_of k.sp) h }; state = state })
+        → ArrivesAt m o told guarded (stored m pc writes is_out SPH byte) (record { key = record key { sp = Open (offset_of k.sp) h }; state = state })
     opened_lands h e =
         let place = opened o k.inst.kind v byte h m.is_open m.sp k.sp at.base_word small e stands at.place.sp in
         record {
-          inside = λ room. refl;
-          place = λ within.
-              record {
-                pc = pc_is;
-                enables = enables_kept m.enables SPH byte at.machine.enable_bits sph_holds_none ∙ at.place.enables;
-                i = at.place.i;
-                delay = no_delay is_out false (flag byte 7) (not (i_flag m)) refl;
-                sp = place;
-              };
-          registers = stand;
-          flags = at.stands.flags;
-          less = less;
-          slots = λ within inside kept d lt.
-              slot_kept o m.memory (after m guarded (stored m pc writes is_out SPH byte)).memory 0 (o.base - d) (slot_at s.slots d) kept
-              (above_floor o.base (256 * byte + low m.sp) d m.memory true (Open (offset_of k.sp) h) place (omega (arith, at.node.formed.count_slots))) (at.stands.slots d lt);
+          lands = λ held. record {
+            inside = λ room. refl;
+            place = λ within.
+                record {
+                  pc = pc_is;
+                  enables = enables_kept m.enables SPH byte at.machine.enable_bits sph_holds_none ∙ at.place.enables;
+                  i = at.place.i;
+                  delay = no_delay is_out false (flag byte 7) (not (i_flag m)) refl;
+                  sp = place;
+                };
+            registers = stand;
+            flags = at.stands.flags;
+            less = less;
+            facts = held;
+            slots = λ within inside kept d lt.
+                slot_kept o m.memory (after m guarded (stored m pc writes is_out SPH byte)).memory 0 (o.base - d) (slot_at s.slots d) kept
+                (above_floor o.base (256 * byte + low m.sp) d m.memory true (Open (offset_of k.sp) h) place (omega (arith, at.node.formed.count_slots))) (at.stands.slots d lt);
+          };
         }
 
     opened_written : (h : Option High) → high_part k.inst.kind v ≡ h → (opening h key state k.pc).faults ≡ []
-        → Reaches m o k guarded (stored m pc writes is_out SPH byte) (opening h key state k.pc)
+        → Reaches m o told k guarded (stored m pc writes is_out SPH byte) (opening h key state k.pc)
     opened_written None e clean = absurd (cc)
     opened_written (Some h) e clean = only (stored m pc writes is_out SPH byte) _ refl (opened_lands h e)
 
     -- ---- SREG
 
     abbrev flagged : AbsState
-    flagged = record state { flags = flags_written v }
+    flagged = put_flags state (flags_written v)
 
-    sreg_lands : (on : Bool) → flag byte 7 ≡ on → ArrivesAt m o guarded (stored m pc writes is_out SREG byte) (record { key = with_i key is_out on; state = flagged })
+    sreg_lands : (on : Bool) → flag byte 7 ≡ on → ArrivesAt m o told guarded (stored m pc writes is_out SREG byte) (record { key = with_i key is_out on; state = flagged })
     sreg_lands on is =
-        same_frame m o k s at guarded (stored m pc writes is_out SREG byte) (record { key = with_i key is_out on; state = flagged }) refl refl refl refl refl pc_is
+        frame_kept m o k s at told guarded (stored m pc writes is_out SREG byte) (record { key = with_i key is_out on; state = flagged }) refl refl refl refl refl pc_is
         (enables_kept m.enables SREG byte at.machine.enable_bits sreg_holds_none ∙ at.place.enables) is
         (delay_is is_out (flag byte 7) (i_flag m) on k.i is at.place.i) stand (flags_stand o v byte stands) tt
+        (λ held. writes_end_facts.holds (λ r. false) true true told (with_registers m.registers writes) (with_registers m.registers writes) m.sreg byte
+        (record { kept = λ r other. refl; bytes = λ r inside. (stand r inside).small }) (record { carry_kept = λ e. absurd (let no = e in cc); others_kept = λ e. absurd (let no = e in cc) }) held)
 
     flag_zero : bit_at byte 7 ≡ 0 → flag byte 7 ≡ false
     flag_zero e = ap (λ x. x == 1) e
@@ -288,31 +331,31 @@ module _ (m : State) (o : Origin) (k : NodeKey) (s : AbsState) (at : InFrame m o
     flag_one : bit_at byte 7 ≡ 1 → flag byte 7 ≡ true
     flag_one e = ap (λ x. x == 1) e
 
-    sreg_by : (t : Tri) → Permits t (bit_at byte 7) → Reaches m o k guarded (stored m pc writes is_out SREG byte) (sreg_written t key flagged is_out)
+    sreg_by : (t : Tri) → Permits t (bit_at byte 7) → Reaches m o told k guarded (stored m pc writes is_out SREG byte) (sreg_written t key flagged is_out)
     sreg_by Zero may = only (stored m pc writes is_out SREG byte) _ refl (sreg_lands false (flag_zero may))
     sreg_by One may = only (stored m pc writes is_out SREG byte) _ refl (sreg_lands true (flag_one may))
     sreg_by Any may = either (flag byte 7) refl
       where
-        either : (on : Bool) → flag byte 7 ≡ on → Reaches m o k guarded (stored m pc writes is_out SREG byte) (sreg_written Any key flagged is_out)
+        either : (on : Bool) → flag byte 7 ≡ on → Reaches m o told k guarded (stored m pc writes is_out SREG byte) (sreg_written Any key flagged is_out)
         either true is =
             record {
               to = record { key = with_i key is_out true; state = flagged };
               present = second (record { key = with_i key is_out false; state = flagged }) (record { key = with_i key is_out true; state = flagged }) [];
               inst = refl;
-              lands = sreg_lands true is;
+              at_node = sreg_lands true is;
             }
         either false is =
             record {
               to = record { key = with_i key is_out false; state = flagged };
               present = first_in (record { key = with_i key is_out false; state = flagged }) (record { key = with_i key is_out true; state = flagged } ∷ []);
               inst = refl;
-              lands = sreg_lands false is;
+              at_node = sreg_lands false is;
             }
 
     -- ---- enable bits, and all other addresses
 
     masks_lands : AreWritten → (a : ℕ) → nat_lt a 0x20 ≡ false → (a == SPL) ≡ false → (a == SPH) ≡ false → (a == SREG) ≡ false
-        → Reaches m o k guarded (stored m pc writes is_out a byte) (masks_written key state a v)
+        → Reaches m o told k guarded (stored m pc writes is_out a byte) (masks_written key state a v)
     masks_lands members a beyond not_low not_high not_sreg =
         let left : ℕ = written_enables k.masks a byte in
         record {
@@ -320,17 +363,17 @@ module _ (m : State) (o : Origin) (k : NodeKey) (s : AbsState) (at : InFrame m o
           present = in_map (λ masks. record { key = record key { masks = masks }; state = state }) left (splits k.masks a v.bits)
               (members k.masks a v.bits left record { byte = byte; small = small; member = stands.bits; left = refl });
           inst = refl;
-          lands = elsewhere a byte left registers s.flags.carry (carries_are_ordered.same s.flags.carry) not_low not_high not_sreg (ap (λ x. written_enables x a byte) at.place.enables)
-              (changes_none a byte beyond) (less_still a byte beyond);
+          at_node = elsewhere a byte left registers s.flags.carry told (carries_are_ordered.same s.flags.carry) not_low not_high not_sreg (ap (λ x. written_enables x a byte) at.place.enables)
+              (changes_none a byte beyond) (less_still a byte beyond) (facts_still a byte beyond not_sreg);
         }
 
-    at_address : (a b : ℕ) (r : Raw) → (a == b) ≡ true → Reaches m o k guarded (stored m pc writes is_out b byte) r
-        → Reaches m o k guarded (stored m pc writes is_out a byte) r
-    at_address a b r e h = subst (λ x. Reaches m o k guarded (stored m pc writes is_out x byte) r) (sym (eqb-true a b e)) h
+    at_address : (a b : ℕ) (r : Raw) → (a == b) ≡ true → Reaches m o told k guarded (stored m pc writes is_out b byte) r
+        → Reaches m o told k guarded (stored m pc writes is_out a byte) r
+    at_address a b r e h = subst (λ x. Reaches m o told k guarded (stored m pc writes is_out x byte) r) (sym (eqb-true a b e)) h
 
     -- a byte that is written to a known address
     pub written : AreWritten → (a : ℕ) → (written_at m.device k.pc key state is_out a v).faults ≡ []
-        → Reaches m o k guarded (stored m pc writes is_out a byte) (written_at m.device k.pc key state is_out a v)
+        → Reaches m o told k guarded (stored m pc writes is_out a byte) (written_at m.device k.pc key state is_out a v)
     unfolding written_at
     written members a clean =
         let e = stored m pc writes is_out a byte in

@@ -23,7 +23,7 @@ use Rattle.local_rules.specs.declared.local.Exit.{Exit}
 use Rattle.local_rules.specs.declared.local.Node.{Node}
 use Rattle.local_rules.specs.Raw.{Raw}
 use Rattle.local_rules.specs.Local.{is_hung, raw, joined_onto, local}
-use Rattle.local_rules.specs.Cover.{InFrame, IsNode, CoversStep, IsWithinBase, IsStep}
+use Rattle.local_rules.specs.Cover.{InFrameIn, IsNodeIn, CoversStep, IsWithinBase, IsStep}
 use Rattle.local_rules.specs.Machine.{IsMachine, AreWords, floor_of}
 use Rattle.local_rules.specs.declared.local.Local.{Local}
 use Rattle.abs_state.specs.Laws.{Keeps}
@@ -36,8 +36,8 @@ use Rattle.local_rules.specs.Order.{IsBelowOne, IsBelow}
 
 -- The local part of a node covers each step of the machine there, with the flash of its own device, whose words have 16 bits.
 pub record LocalPartsCover : Type 0 where
-  pub covered : (words : List ℕ) (A : List Entry) (m : State) (o : Origin) (k : NodeKey) (s : AbsState) (b1 b2 : ℕ) → AreWords words → m.device ≡ device_of words
-      → InFrame m o k s → b1 < 256 → b2 < 256 → CoversStep words A m o k b1 b2 (instruction_at words m.pc) (raw words A k s)
+  pub covered : {followed : Bool} (words : List ℕ) (A : List Entry) (m : State) (o : Origin) (k : NodeKey) (s : AbsState) (b1 b2 : ℕ) → AreWords words → m.device ≡ device_of words
+      → InFrameIn followed m o k s → b1 < 256 → b2 < 256 → CoversStep words A m o k b1 b2 (instruction_at words m.pc) (raw words A k s)
 
 -- each joined successor is below one of its key, the calls are among those, and the return is the same
 pub record IsLocalWithin (l m : Local) : Type 0 where
@@ -53,9 +53,9 @@ pub record LeadsWithin (words : List ℕ) (A : List Entry) (k : NodeKey) (s : Ab
 
 -- A greater state leads to more, also after successors of one key are joined.
 pub record LocalPartsAreMonotone : Type 0 where
-  pub below : (words : List ℕ) (A : List Entry) (k : NodeKey) (s t : AbsState) → IsNode k s → IsNode k t → IsStateWithin s t
+  pub below : {followed : Bool} (words : List ℕ) (A : List Entry) (k : NodeKey) (s t : AbsState) → IsNodeIn followed k s → IsNodeIn followed k t → IsStateWithin s t
       → IsBelow (raw words A k s) (raw words A k t)
-  pub joined : (words : List ℕ) (A : List Entry) (k : NodeKey) (s t : AbsState) (m : Local) → IsNode k s → IsNode k t → IsStateWithin s t
+  pub joined : {followed : Bool} (words : List ℕ) (A : List Entry) (k : NodeKey) (s t : AbsState) (m : Local) → IsNodeIn followed k s → IsNodeIn followed k t → IsStateWithin s t
       → local words A k t ≡ Ok m → LeadsWithin words A k s m
 
 -- Calls lead to words of the device's flash and go on at such. A return is at the frame's base, and keeps the enable bits.
@@ -77,25 +77,28 @@ pub record LocalPartsFit : Type 0 where
 
 -- Successors are nodes that the analysis works with, in the same instance.
 pub record LocalPartsAreNodes : Type 0 where
-  pub nodes : (words : List ℕ) (A : List Entry) (k : NodeKey) (s : AbsState) (to : Node) → IsNode k s → (raw words A k s).faults ≡ []
-      → Contains (raw words A k s).moves to → (to.key.inst ≡ k.inst) × IsNode to.key to.state
+  pub nodes : {followed : Bool} (words : List ℕ) (A : List Entry) (k : NodeKey) (s : AbsState) (to : Node) → IsNodeIn followed k s → (raw words A k s).faults ≡ []
+      → Contains (raw words A k s).moves to → (to.key.inst ≡ k.inst) × IsNodeIn followed to.key to.state
 
 -- one of these nodes has this key
 abbrev pub HasKey : List Node → NodeKey → Type 0
 HasKey nodes k = (n : Node) × (Contains nodes n × (n.key ≡ k))
 
 -- all of them are nodes that the analysis works with
+abbrev pub AreNodesIn : Bool → List Node → Type 0
+AreNodesIn followed nodes = (n : Node) → Contains nodes n → IsNodeIn followed n.key n.state
+
 abbrev pub AreNodes : List Node → Type 0
-AreNodes nodes = (n : Node) → Contains nodes n → IsNode n.key n.state
+AreNodes nodes = AreNodesIn false nodes
 
 -- Joined successors ascend strictly by key. Each raw one is below the one of its key, and a state above all raw ones of a key is above
 -- the joined one.
 pub record JoinsAreLeast : Type 0 where
   pub ascending : (nodes : List Node) → IsStrictlySortedBy node_cmp (map (λ n. n.key) (joined_onto [] nodes))
-  pub nodes : (nodes : List Node) → AreNodes nodes → AreNodes (joined_onto [] nodes)
-  pub above : (nodes : List Node) (n : Node) → AreNodes nodes → Contains nodes n → IsBelowOne (joined_onto [] nodes) n
+  pub nodes : {followed : Bool} (nodes : List Node) → AreNodesIn followed nodes → AreNodesIn followed (joined_onto [] nodes)
+  pub above : {followed : Bool} (nodes : List Node) (n : Node) → AreNodesIn followed nodes → Contains nodes n → IsBelowOne (joined_onto [] nodes) n
   pub keys : (nodes : List Node) (n : Node) → Contains (joined_onto [] nodes) n → HasKey nodes n.key
-  pub least : (nodes : List Node) (n : Node) (t : AbsState) → AreNodes nodes → Contains (joined_onto [] nodes) n
+  pub least : {followed : Bool} (nodes : List Node) (n : Node) (t : AbsState) → AreNodesIn followed nodes → Contains (joined_onto [] nodes) n
       → ((raw : Node) → Contains nodes raw → raw.key ≡ n.key → IsStateWithin raw.state t) → IsStateWithin n.state t
 
 -- A reset state is a machine's state, and each step that is done leads to one.
@@ -117,9 +120,9 @@ pub record OpenPairsHang : Type 0 where
 -- The local part in the words of a step: where there is no fault, no step is undefined, and a step that is done is covered. No closed
 -- successor may lie deeper than the base.
 pub record StepsAreCovered : Type 0 where
-  pub defined : (words : List ℕ) (A : List Entry) (m : State) (o : Origin) (k : NodeKey) (s : AbsState) (l : Local) (b1 b2 pc : ℕ)
-      → AreWords words → m.device ≡ device_of words → InFrame m o k s → b1 < 256 → b2 < 256 → local words A k s ≡ Ok l → step words A m (Go b1 b2) ≢ Undefined pc
-  pub done : (words : List ℕ) (A : List Entry) (m n : State) (o : Origin) (k : NodeKey) (s : AbsState) (l : Local) (b1 b2 : ℕ)
-      → AreWords words → m.device ≡ device_of words → InFrame m o k s → b1 < 256 → b2 < 256 → local words A k s ≡ Ok l
+  pub defined : {followed : Bool} (words : List ℕ) (A : List Entry) (m : State) (o : Origin) (k : NodeKey) (s : AbsState) (l : Local) (b1 b2 pc : ℕ)
+      → AreWords words → m.device ≡ device_of words → InFrameIn followed m o k s → b1 < 256 → b2 < 256 → local words A k s ≡ Ok l → step words A m (Go b1 b2) ≢ Undefined pc
+  pub done : {followed : Bool} (words : List ℕ) (A : List Entry) (m n : State) (o : Origin) (k : NodeKey) (s : AbsState) (l : Local) (b1 b2 : ℕ)
+      → AreWords words → m.device ≡ device_of words → InFrameIn followed m o k s → b1 < 256 → b2 < 256 → local words A k s ≡ Ok l
       → ((to : Node) → Contains l.same to → IsWithinBase o.base to.key.sp)
       → step words A m (Go b1 b2) ≡ Done n → IsStep m o k b1 b2 l n

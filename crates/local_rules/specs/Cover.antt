@@ -12,9 +12,11 @@ use Rattle.avr_model.specs.State.{State, SIZE, plus16}
 use Rattle.avr_model.specs.Effects.{effect_of, calling, popped_word}
 use Rattle.avr_model.specs.Step.{after, all_inside, protected_write, unlisted_transfer}
 use Rattle.sp_domain.specs.Tags.{Origin, LessHolds, HasBytes}
+use Rattle.pair_domain.specs.Facts.{is_followed}
 use Rattle.abs_state.specs.declared.state.AbsState.{AbsState}
 use Rattle.abs_state.specs.Stands.{RegistersStand, FlagsStand, SlotsStand, Stands}
-use Rattle.abs_state.specs.Laws.{Keeps}
+use Rattle.abs_state.specs.Laws.{Keeps, HoldsAt}
+use Rattle.abs_state.specs.Hulls.{IsInHulls}
 use Rattle.abs_state.specs.Formed.{IsFormed, IsUntagged}
 pub use Rattle.abs_state.specs.Formed.{TagFits, SlotFits, TagsFit}
 use Rattle.mask_states.specs.declared.keys.NodeKey.{NodeKey}
@@ -61,8 +63,9 @@ pub record IsKey (k : NodeKey) : Type 0 where
   pub pick : PickFits k.pick
 
 -- The key and the state of a node: a word address, at most as many bytes as the greatest SRAM has, a byte where one is picked, a state that is
--- formed for this offset, tags whose numbers fit, bytes in its carry tag, and no byte tagged in the root.
-pub record IsNode (k : NodeKey) (s : AbsState) : Type 0 where
+-- formed for this offset, tags whose numbers fit, bytes in its carry tag, and no byte tagged in the root. It follows pairs or doesn't, and each
+-- interval lies in the hull of its registers.
+pub record IsNodeIn (followed : Bool) (k : NodeKey) (s : AbsState) : Type 0 where
   pub word : k.pc < WORDS
   pub small : offset_of k.sp ≤ SIZE
   pub masks : k.masks < 2 ^ 25
@@ -72,17 +75,28 @@ pub record IsNode (k : NodeKey) (s : AbsState) : Type 0 where
   pub tags : TagsFit s
   pub carry_bytes : HasBytes s.flags.carry
   pub untagged : k.inst.kind ≡ Root → IsUntagged s
+  pub mode : is_followed s.facts ≡ followed
+  pub hulls : IsInHulls s
+
+-- where pairs aren't followed
+abbrev pub IsNode : NodeKey → AbsState → Type 0
+IsNode k s = IsNodeIn false k s
 
 -- ---- where the machine is
 
--- The machine is at the node, in a frame with this origin, and the state stands for it. The root's frame has the top of the device's SRAM as its base.
-pub record InFrame (m : State) (o : Origin) (k : NodeKey) (s : AbsState) : Type 0 where
+-- The machine is at the node, in a frame with this origin, the state stands for it, and what it says of pairs holds. The root's frame has the top
+-- of the device's SRAM as its base.
+pub record InFrameIn (followed : Bool) (m : State) (o : Origin) (k : NodeKey) (s : AbsState) : Type 0 where
   pub machine : IsMachine m
-  pub node : IsNode k s
+  pub node : IsNodeIn followed k s
   pub place : AtNode o.base m k
   pub stands : Stands o s m
+  pub facts : HoldsAt s.facts m.registers m.sreg
   pub root : k.inst.kind ≡ Root → o.base ≡ ramend m.device
   pub base_word : o.base < 65536
+
+abbrev pub InFrame : State → Origin → NodeKey → AbsState → Type 0
+InFrame m o k s = InFrameIn false m o k s
 
 -- a closed offset is at most the base, and then also leaves the stack pointer in SRAM
 abbrev pub IsWithinBase : ℕ → SpForm → Type 0
@@ -108,6 +122,7 @@ pub record ArrivesAt (m : State) (o : Origin) (guarded : Bool) (e : Effect) (to 
   pub registers : RegistersStand o to.state.registers (after m guarded e).registers
   pub flags : FlagsStand o to.state.flags (after m guarded e).sreg
   pub less : LessHolds (after m guarded e).registers to.state.flags.carry (flag (after m guarded e).sreg 0)
+  pub facts : HoldsAt to.state.facts (after m guarded e).registers (after m guarded e).sreg
   pub slots : IsWithinBase o.base to.key.sp → all_inside m.device e.pushes ≡ true
       → Keeps m.memory (after m guarded e).memory (floor_of (after m guarded e).is_open (after m guarded e).sp)
       → SlotsStand o (after m guarded e).memory to.state.slots
@@ -142,7 +157,8 @@ CoversStep words A m o k b1 b2 (Some instr) r =
 
 -- a step of the machine is one that the local part has
 pub data IsStep (m : State) (o : Origin) (k : NodeKey) (b1 b2 : ℕ) (l : Local) (n : State) : Type 0 where
-  stays : (to : Node) → Contains l.same to → to.key.inst ≡ k.inst → AtNode o.base n to.key → Stands o to.state n → IsStep m o k b1 b2 l n
+  stays : (to : Node) → Contains l.same to → to.key.inst ≡ k.inst → AtNode o.base n to.key → Stands o to.state n → HoldsAt to.state.facts n.registers n.sreg
+      → IsStep m o k b1 b2 l n
   calls : (offset : ℕ) (site : CallSite) → Contains l.calls site → k.sp ≡ Closed offset → n ≡ after m true (calling m site.entry site.back)
       → IsStep m o k b1 b2 l n
   leaves : (x : Exit) (guarded : Bool) (e : Effect) → l.exit ≡ Some x → k.inst.kind ≢ Root → k.sp ≡ Closed 0 → IsReturn m b1 b2 x e

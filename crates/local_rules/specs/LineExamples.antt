@@ -40,6 +40,7 @@ state_of lo hi n c = record {
   registers = slice_set (slice_set (slice_set (slice_set (entered root).registers 28 (with_bits lo byte_any)) 29 (with_bits hi byte_any)) 24 (known n)) 1 (known 0);
   flags = record { entry = false; bits = byte_any; carry = c };
   slots = Unguarded ∷ Unguarded ∷ [];
+  facts = None;
 }
 
 -- what one word leads to there, with and without the line

@@ -1,5 +1,5 @@
 -- Where a node leads in its own frame. Source: own.
-use Rattle.std.specs.Prelude.{ℕ, zero, suc, ◌*◌, ◌==◌, ◌&&◌, Bool, true, false, not, nat_lt, nat_le, if◌then◌else◌, List, [], ◌∷◌, ◌++◌, length, map, filter, Option, Some, None, Result, Ok, Err, slice_set}
+use Rattle.std.specs.Prelude.{ℕ, zero, suc, ◌+◌, ◌*◌, ◌==◌, ◌&&◌, Bool, true, false, not, nat_lt, nat_le, if◌then◌else◌, List, [], ◌∷◌, ◌++◌, length, map, filter, flat_map, Option, Some, None, Result, Ok, Err, slice_set}
 use Rattle.std.specs.declared.cmp.Ordering.{Ordering}
 use Rattle.std.specs.declared.cmp.Ordering.TheVariants.{Less, Equal, Greater}
 use Rattle.avr_model.specs.declared.device.Device.{Device}
@@ -7,13 +7,17 @@ use Rattle.avr_model.specs.declared.assumption.Entry.{Entry}
 use Rattle.avr_model.specs.declared.instruction.Instr.{Instr}
 use Rattle.avr_model.specs.declared.instruction.Instr.TheVariants as i
 use Rattle.avr_model.specs.declared.instruction.BinaryOp.{BinaryOp}
+use Rattle.avr_model.specs.declared.instruction.BinaryOp.TheVariants as binary
 use Rattle.avr_model.specs.declared.instruction.ImmediateOp.{ImmediateOp}
 use Rattle.avr_model.specs.declared.instruction.UnaryOp.{UnaryOp}
 use Rattle.avr_model.specs.declared.instruction.Pointer.{Pointer}
 use Rattle.avr_model.specs.declared.instruction.Pointer.TheVariants as pointer
 use Rattle.avr_model.specs.declared.operation.Mul.TheVariants as product
 use Rattle.avr_model.specs.Devices.{words_of, size_of, wrapped, device_of}
+use Rattle.avr_model.specs.Marks.{marks}
 use Rattle.avr_model.specs.Text.{far, near}
+use Rattle.avr_model.specs.Image.{word_at}
+use Rattle.avr_model.specs.Table.{length_of}
 use Rattle.avr_model.specs.Written.{written}
 use Rattle.avr_model.specs.Assumptions.{jump_line, is_never, is_frame}
 use Rattle.avr_model.specs.Bits.{any_below}
@@ -26,6 +30,7 @@ use Rattle.bit_domain.specs.TriByte.{tri_at, has, byte_known, byte_with}
 use Rattle.bit_domain.specs.Logic.{byte_equal}
 use Rattle.abs_state.specs.declared.values.AbsByte.{AbsByte}
 use Rattle.abs_state.specs.declared.state.AbsState.{AbsState}
+use Rattle.pair_domain.specs.declared.facts.PairFacts.{PairFacts}
 use Rattle.abs_state.specs.Values.{untagged}
 use Rattle.abs_state.specs.Order.{state_join}
 use Rattle.mask_states.specs.declared.keys.NodeKey.{NodeKey}
@@ -37,13 +42,15 @@ use Rattle.local_rules.specs.declared.local.Local.{Local}
 use Rattle.local_rules.specs.declared.local.Node.{Node}
 use Rattle.local_rules.specs.declared.local.NodeFault.{NodeFault}
 use Rattle.local_rules.specs.declared.local.NodeFault.TheVariants.{UnresolvedJump, Unsupported}
+use Rattle.pair_rules.specs.Refined.{refined}
+use Rattle.pair_cuts.specs.Cuts.{flag_cut, bit_cut, equal_cut, pick_cut}
 use Rattle.local_rules.specs.Faults.{least}
 use Rattle.local_rules.specs.Raw.{Raw, nowhere, fails, all_of, untracked_if, too_deep_if, at_word, next, further, going_to, going_on, setting}
-use Rattle.local_rules.specs.Registers.{value, bits, set, with_bits, going_with, going_by, forgetting, pair_copied, bit_loaded, bit_stored, product_row, wide_row, pair_moved, flag_row}
+use Rattle.local_rules.specs.Registers.{value, bits, set, with_bits, going_with, going_by, before, pair_copied, bit_loaded, bit_stored, product_row, wide_row, pair_moved, flag_row}
 use Rattle.local_rules.specs.FrameLines.{binary_at, immediate_at, unary_at}
 use Rattle.local_rules.specs.Reads.{read_at, pointed, pair_constant, read_pointed, flash_value}
 use Rattle.local_rules.specs.Writes.{written_at, pointer_write}
-use Rattle.local_rules.specs.Flow.{branch, skipping, flag_at, flag_branch, targets_at, jumping, at_closed, pushing, popping, relative_call, calling, indirect_call, returning, ret_exit, reti_exit}
+use Rattle.local_rules.specs.Flow.{branch, skipping, flag_at, flag_branch, going_where, targets_at, jumping, at_closed, pushing, popping, relative_call, calling, indirect_call, returning, ret_exit, reti_exit}
 
 -- ---- registers
 
@@ -163,10 +170,73 @@ row_of device words A scratch k s (i.Bst d b) = going_with device k s (bit_store
 row_of device words A scratch k s instr = memory_row device words A scratch k s instr
 
 -- No row reads what C says of a register but a branch on C and `cpc`, which set none: so it ends before the row where the instruction
--- sets that register.
+-- sets that register. What ends of what is known of pairs ends there too.
+abbrev pub plain_row : Device → List ℕ → List Entry → Bool → NodeKey → AbsState → Instr → Raw
+plain_row device words A scratch k s instr = row_of device words A scratch k (before instr s) instr
+
+-- ---- where pairs are followed
+
+-- to one word where flag n is 1, and to the other where it is 0
+abbrev pub cut_branch : ℕ → NodeKey → AbsState → ℕ → ℕ → Raw
+cut_branch n k s set clear = all_of (going_where k (flag_cut n false s) clear ∷ going_where k (flag_cut n true s) set ∷ [])
+
+-- past the next instruction with one state, and to it with the other
+abbrev pub cut_skip : Device → List ℕ → NodeKey → Option AbsState → Option AbsState → Raw
+cut_skip device words k skips stays =
+    all_of (going_where k stays (further device k 1) ∷ going_where k skips (further device k (1 + length_of (word_at words (k.pc + 1)))) ∷ [])
+
+abbrev pub node_where : NodeKey → Option AbsState → List Node
+node_where k None = []
+node_where k (Some s) = record { key = k; state = s } ∷ []
+
+-- what the plain rules lead to, refined by what the instruction tells; where nothing is left there is no successor
+abbrev pub refined_nodes : List ℕ → Instr → AbsState → List Node → List Node
+refined_nodes words instr s nodes = flat_map (λ (n : Node). node_where n.key (refined (marks words) words instr s n.state)) nodes
+
+abbrev pub refining : List ℕ → Instr → AbsState → Raw → Raw
+refining words instr s r = record r { moves = refined_nodes words instr s r.moves }
+
+-- The pointer moves first, and its pair is refined; then the byte is stored, which may be to a register of the pointer.
+abbrev pub storing : Device → List ℕ → List Entry → NodeKey → AbsState → Pointer → ℕ → Option AbsState → Raw
+storing device words A k s p r None = nowhere
+storing device words A k s p r (Some moved) =
+    pointer_write device words A s (pointer_register p) (step_before p) (pointed s (pointer_register p) (step_before p)) k.pc (next device k) moved (value s r)
+
+abbrev pub paired_store : Device → List ℕ → List Entry → NodeKey → AbsState → Pointer → ℕ → Raw
+paired_store device words A k s p r =
+    storing device words A k s p r
+    (refined (marks words) words (i.St p r) s (record (before (i.St p r) s) { registers = pointer_moved p s }))
+
+-- branches on flags 0 to 6
+abbrev pub paired_branch : ℕ → NodeKey → AbsState → ℕ → ℕ → Raw → Raw
+paired_branch n k s set clear other = if nat_lt n 7 then cut_branch n k s set clear else other
+
+-- `cpse` skips where the registers are equal
+abbrev pub paired_binary : Device → List ℕ → BinaryOp → NodeKey → AbsState → ℕ → ℕ → Raw → Raw
+paired_binary device words binary.Cpse k s d r other = cut_skip device words k (equal_cut d r true s) (equal_cut d r false s)
+paired_binary device words _ k s d r other = other
+
+-- Branches and skips cut the state by their outcome; every other row is the plain one, refined.
+abbrev pub paired_row : Device → List ℕ → List Entry → Bool → NodeKey → AbsState → Instr → Raw
+paired_row device words A scratch k s (i.Brbs n t) =
+    paired_branch n k s (wrapped device (near k.pc t)) (further device k 1) (plain_row device words A scratch k s (i.Brbs n t))
+paired_row device words A scratch k s (i.Brbc n t) =
+    paired_branch n k s (further device k 1) (wrapped device (near k.pc t)) (plain_row device words A scratch k s (i.Brbc n t))
+paired_row device words A scratch k s (i.Sbrc r b) = cut_skip device words k (bit_cut r b false s) (bit_cut r b true s)
+paired_row device words A scratch k s (i.Sbrs r b) = cut_skip device words k (bit_cut r b true s) (bit_cut r b false s)
+paired_row device words A scratch k s (i.Binary op d r) =
+    paired_binary device words op k s d r (refining words (i.Binary op d r) s (plain_row device words A scratch k s (i.Binary op d r)))
+paired_row device words A scratch k s (i.St p r) = paired_store device words A k s p r
+paired_row device words A scratch k s instr = refining words instr s (plain_row device words A scratch k s instr)
+
+-- by whether pairs are followed
+abbrev pub row_by : Option PairFacts → Device → List ℕ → List Entry → Bool → NodeKey → AbsState → Instr → Raw
+row_by None device words A scratch k s instr = plain_row device words A scratch k s instr
+row_by (Some f) device words A scratch k s instr = paired_row device words A scratch k s instr
+
 abbrev pub row_at : Device → List ℕ → List Entry → Bool → NodeKey → AbsState → Option Instr → Raw
 row_at device words A scratch k s None = fails (Unsupported k.pc)
-row_at device words A scratch k s (Some instr) = row_of device words A scratch k (forgetting (written instr) s) instr
+row_at device words A scratch k s (Some instr) = row_by s.facts device words A scratch k s instr
 
 -- ---- the node
 
@@ -198,12 +268,14 @@ below (suc n) = below n ++ n ∷ []
 abbrev pub picks : AbsState → List ℕ
 picks s = filter (may_be (value s 30)) (below 256)
 
--- the key and the state of one of them: r30 is this byte, with its tag as it was
+-- the key where one of them is picked
 abbrev pub picking : NodeKey → ℕ → NodeKey
 picking k byte = record k { pick = Some byte }
 
-abbrev pub picked : AbsState → ℕ → AbsState
-picked s byte = record s { registers = set s 30 (with_bits (value s 30).tag (byte_known byte)) }
+-- the row of the state in which r30 is this byte; none where nothing is left of the state
+abbrev pub picked_row : (NodeKey → AbsState → Raw) → NodeKey → Option AbsState → Raw
+picked_row row k None = nowhere
+picked_row row k (Some s) = row k s
 
 -- the word of the `ijmp`, where its site has no `jump` line
 abbrev pub unless_lined : Option (List ℕ) → ℕ → Option ℕ
@@ -223,7 +295,7 @@ split_site words A pc (Some byte) = None
 abbrev pub splitting : Option ℕ → (NodeKey → AbsState → Raw) → NodeKey → AbsState → Raw
 splitting None row k s = row k s
 splitting (Some jump) row k s =
-    if nat_le (length (picks s)) 64 then all_of (map (λ byte. row (picking k byte) (picked s byte)) (picks s)) else fails (UnresolvedJump jump)
+    if nat_le (length (picks s)) 64 then all_of (map (λ byte. picked_row row (picking k byte) (pick_cut byte s)) (picks s)) else fails (UnresolvedJump jump)
 
 -- what the instruction of a node leads to, on this device
 abbrev pub row_in : Device → List ℕ → List Entry → NodeKey → AbsState → Raw

@@ -3,6 +3,7 @@
 use Rattle.std.specs.Prelude.{ℕ, ◌+◌, ◌%◌, ◌==◌, Bool, true, false, not, if◌then◌else◌, List, Option, Some, None, slice_set}
 use Rattle.std.specs.List.{list_any}
 use Rattle.avr_model.specs.declared.device.Device.{Device}
+use Rattle.avr_model.specs.declared.instruction.Instr.{Instr}
 use Rattle.avr_model.specs.declared.instruction.BinaryOp.{BinaryOp}
 use Rattle.avr_model.specs.declared.instruction.BinaryOp.TheVariants as binary
 use Rattle.avr_model.specs.declared.instruction.ImmediateOp.{ImmediateOp}
@@ -16,6 +17,7 @@ use Rattle.avr_model.specs.declared.operation.Shift.TheVariants as shift
 use Rattle.avr_model.specs.declared.operation.Mul.{Mul}
 use Rattle.avr_model.specs.declared.operation.Mul.TheVariants as product
 use Rattle.avr_model.specs.State.{minus16}
+use Rattle.avr_model.specs.Written.{written}
 use Rattle.bit_domain.specs.declared.bits.Tri.{Tri}
 use Rattle.bit_domain.specs.declared.bits.Tri.TheVariants.{Zero, One}
 use Rattle.bit_domain.specs.declared.bytes.TriByte.{TriByte}
@@ -33,9 +35,11 @@ use Rattle.abs_state.specs.declared.values.AbsByte.{AbsByte}
 use Rattle.abs_state.specs.declared.values.AbsFlags.{AbsFlags}
 use Rattle.abs_state.specs.declared.state.AbsState.{AbsState}
 use Rattle.abs_state.specs.Values.{value_at, untagged, known}
+use Rattle.abs_state.specs.Ended.{is_one_of, ended}
 pub use Rattle.abs_state.specs.Values.{with_bits}
 use Rattle.mask_states.specs.declared.keys.NodeKey.{NodeKey}
 use Rattle.local_rules.specs.declared.computed.Computed.{Computed}
+use Rattle.abs_state.specs.FlagsSet.{sets_flags, sets_carry}
 use Rattle.local_rules.specs.Raw.{Raw, setting, next, one}
 
 -- ---- operands and results
@@ -64,8 +68,14 @@ forgotten written (carry.Borrow j l) = carry.Borrow j l
 forgotten written (carry.Sum j l) = carry.Sum j l
 forgotten written (carry.Less r k) = if list_any (λ n. n == r) written then carry.None else carry.Less r k
 
-abbrev pub forgetting : List ℕ → AbsState → AbsState
-forgetting written s = record s { flags = record s.flags { carry = forgotten written s.flags.carry } }
+-- What is known of pairs ends with it, and what the flags tell where they are written: some flag but I, and C.
+abbrev pub forgetting : List ℕ → Bool → Bool → AbsState → AbsState
+forgetting written flags carry s =
+    record s { flags = record s.flags { carry = forgotten written s.flags.carry }; facts = ended (is_one_of written) flags carry s.facts }
+
+-- what is known before an instruction is all that still holds after it
+abbrev pub before : Instr → AbsState → AbsState
+before instr s = forgetting (written instr) (sets_flags instr) (sets_carry instr) s
 
 -- Flags that are written, C among them. They are those of the frame's entry no more.
 abbrev pub with_carry : TriByte → CarryTag → AbsFlags

@@ -26,6 +26,7 @@ use Rattle.mask_states.specs.Keys.{offset_of}
 use Rattle.mask_states.specs.Splits.{splits}
 use Rattle.local_rules.specs.declared.local.NodeFault.TheVariants.{UntrackedSp, TooDeep, UnknownPointer}
 use Rattle.local_rules.specs.Raw.{Raw, moves_to, one, fails, all_of}
+use Rattle.abs_state.specs.Ended.{ended, written_hull}
 use Rattle.local_rules.specs.Registers.{bits, with_bits, forgetting}
 use Rattle.local_rules.specs.declared.pointers.Pointed.{Pointed}
 
@@ -108,9 +109,17 @@ sreg_written Any k s is_out =
 abbrev pub masks_written : NodeKey → AbsState → ℕ → AbsByte → Raw
 masks_written k s a v = moves_to (map (λ m. record { key = record k { masks = m }; state = s }) (splits k.masks a v.bits))
 
--- a register that is written by its address gets the byte's bits and tag, and what C says of it ends
+-- of a pair with a register that is written by its address the interval is the hull of what its bytes are then
+abbrev pub hulled : ℕ → AbsState → AbsState
+hulled a s = record s { facts = written_hull s.registers a s.facts }
+
+-- a register that is written by its address gets the byte's bits and tag, and what is known of its pair and what C says of it ends
 abbrev pub register_written : AbsState → ℕ → AbsByte → AbsState
-register_written s a v = forgetting (a ∷ []) (record s { registers = slice_set s.registers a (with_bits v.tag v.bits) })
+register_written s a v = hulled a (forgetting (a ∷ []) false false (record s { registers = slice_set s.registers a (with_bits v.tag v.bits) }))
+
+-- the flags are these, and what they told of pairs ends
+abbrev pub put_flags : AbsState → AbsFlags → AbsState
+put_flags s f = record s { flags = f; facts = ended (λ r. false) true true s.facts }
 
 -- What a byte does that is written to a known address, at the word pc, from a node whose key and state are what they are
 -- otherwise after the instruction.
@@ -119,7 +128,7 @@ written_at device pc k s is_out a v =
     if nat_lt a 0x20 then one k (register_written s a v)
     else (if a == SPL then closing device (closing_offset device k.inst.kind k.sp v) k s pc
     else (if a == SPH then opening (high_part k.inst.kind v) k s pc
-    else (if a == SREG then sreg_written (tri_at v.bits 7) k (record s { flags = flags_written v }) is_out
+    else (if a == SREG then sreg_written (tri_at v.bits 7) k (put_flags s (flags_written v)) is_out
     else masks_written k s a v)))
 
 -- ---- through a pointer

@@ -7,6 +7,7 @@ use avr_model::device::{Device, WORDS};
 use bit_domain::TriByte;
 use flash_image::Flash;
 use mask_states::{High, InstKey, Kind, NodeKey, SpForm};
+use pair_domain::Facts;
 use sp_domain::{CarryTag, Slot, Slots, Tag};
 use std::alloc::{AllocError, Global};
 use vector_table::Masks;
@@ -176,6 +177,7 @@ impl Row {
                     carry: CarryTag::None,
                 },
                 slots,
+                facts: Facts::none(),
             },
         })
     }

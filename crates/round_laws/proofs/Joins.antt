@@ -9,7 +9,7 @@ use Rattle.std.proofs.lemmas.Option.{same_Some}
 use Rattle.avr_model.specs.declared.assumption.Entry.{Entry}
 use Rattle.abs_state.specs.declared.state.AbsState.{AbsState}
 use Rattle.abs_state.specs.Order.{IsStateWithin, IsLeastAbove, state_join}
-use Rattle.abs_state.proofs.AllLaws.{states_are_ordered}
+use Rattle.abs_state.proofs.AllLaws.{states_are_ordered, joins_are_formed}
 use Rattle.mask_states.specs.declared.keys.NodeKey.{NodeKey}
 use Rattle.mask_states.specs.Keys.{offset_of}
 use Rattle.mask_states.specs.Order.{node_cmp}
@@ -48,7 +48,7 @@ join_node k s t a b =
     joins_are_least.nodes (m ∷ n ∷ []) are j (subst (λ (l : List Node). Contains l j) (sym is) (first_in j []))
 
 join_least : (k : NodeKey) (s t : AbsState) → IsNode k s → IsNode k t → IsLeastAbove s t (state_join s t)
-join_least k s t a b = states_are_ordered.join s t a.formed.count_registers b.formed.count_registers (a.formed.count_slots ∙ sym b.formed.count_slots)
+join_least k s t a b = states_are_ordered.join s t (joins_are_formed.whole s (offset_of k.sp) a.formed) (joins_are_formed.whole t (offset_of k.sp) b.formed) (a.formed.count_slots ∙ sym b.formed.count_slots)
 
 -- g is f with the node's state v at its key
 module _ (f : Family) (n : Node) (formed : AreFormed f) (node : IsNode n.key n.state) where
@@ -184,7 +184,7 @@ raised_rises f n formed node = by (get f n.key) refl
         (λ lt. inr (insert_more f n.key (state_join t n.state) (λ u is. subst (λ x. state_rank x < state_rank (state_join t n.state)) (same_Some t u (sym e ∙ is)) lt)))
         (states_rise.rises t (state_join t n.state) (offset_of n.key.sp) at.formed j.formed (join_least n.key t n.state at node).first)
 
-weight_high : (es : List (NodeKey × AbsState)) → ((n : Node) → Contains (map node_of es) n → IsNode n.key n.state) → weight_of es ≤ 8459 * cells_of (map (λ (x : NodeKey × AbsState). x.0) es)
+weight_high : (es : List (NodeKey × AbsState)) → ((n : Node) → Contains (map node_of es) n → IsNode n.key n.state) → weight_of es ≤ 1122557 * cells_of (map (λ (x : NodeKey × AbsState). x.0) es)
 unfolding cells_of
 weight_high [] nodes = omega arith
 weight_high (e ∷ es) nodes =

@@ -10,8 +10,9 @@ use Rattle.basics.specs.Booleans.{split_tests as both, less_if_so}
 use Rattle.basics.specs.Items.{none_in, first_in, further_in, first_or_further}
 use Rattle.std.proofs.lemmas.Option.{same_Some}
 use Rattle.abs_state.specs.declared.state.AbsState.{AbsState}
-use Rattle.abs_state.proofs.AllLaws.{states_are_ordered}
+use Rattle.abs_state.proofs.AllLaws.{states_are_ordered, joins_are_formed}
 use Rattle.mask_states.specs.declared.keys.NodeKey.{NodeKey}
+use Rattle.mask_states.specs.Keys.{offset_of}
 use Rattle.mask_states.specs.Order.{node_cmp}
 use Rattle.mask_states.specs.Total.{node_total, node_equal}
 use Rattle.mask_states.proofs.AllLaws.{keys_are_ordered}
@@ -114,7 +115,7 @@ below_same f g a b up down = same_map node_total node_exact f g (λ q. by q (get
         let k = down m d in
         let le = subst (Rattle.abs_state.specs.Order.IsStateWithin s) (same_Some l.at t (sym l.is ∙ d)) l.above in
         let ge = subst (Rattle.abs_state.specs.Order.IsStateWithin t) (same_Some k.at s (sym k.is ∙ e)) k.above in
-        ap Some (states_are_ordered.both s t (a n e).formed.count_registers (b m d).formed.count_registers le ge)
+        ap Some (states_are_ordered.both s t (joins_are_formed.whole s (offset_of q.sp) (a n e).formed) (joins_are_formed.whole t (offset_of q.sp) (b m d).formed) le ge)
 
 pub families_are_their_nodes : FamiliesAreTheirNodes
 families_are_their_nodes = record {

@@ -80,5 +80,5 @@ pub record RoundsAreJoins : Type 0 where
   pub next : (words : List ℕ) (A : List Entry) (f : Family) (ns : List Node) → AreFormed f → IsRoundOf words A f ns → IsNext words A f (raised_all f ns)
   pub joined : (f : Family) (ns : List Node) → AreFormed f → AreNodes ns → AreJoined f ns (raised_all f ns)
   pub rises : (f : Family) (n : Node) → AreFormed f → IsNode n.key n.state → (raised f n ≡ f) ⊎ (weight f < weight (raised f n))
-  pub high : (f : Family) → AreFormed f → weight f ≤ 8459 * cells f
+  pub high : (f : Family) → AreFormed f → weight f ≤ 1122557 * cells f
   pub formed : (f : Family) (n : Node) → AreFormed f → IsNode n.key n.state → AreFormed (raised f n)

@@ -30,9 +30,10 @@ fn add_entries(
     ensures { OnOk result (targets.new.items ≡ targets.old.items ++ map (entry_node state.now) ways.now) }
 {
     for at in 0..ways.len() {
+        let state = state.entered(alloc)?;
         targets.push(Node {
             key: NodeKey::entry(&ways[at].inst),
-            state: state.entered(alloc),
+            state,
         })?;
     }
     Ok(())

@@ -6,9 +6,9 @@ use Rattle.std.proofs.lemmas.Option.{same_Some}
 use Rattle.avr_model.specs.declared.assumption.Entry.{Entry}
 use Rattle.abs_state.specs.declared.state.AbsState.{AbsState}
 use Rattle.abs_state.specs.Order.{IsStateWithin}
-use Rattle.abs_state.proofs.AllLaws.{states_are_ordered}
+use Rattle.abs_state.proofs.AllLaws.{states_are_ordered, joins_are_formed}
 use Rattle.mask_states.specs.declared.keys.NodeKey.{NodeKey}
-use Rattle.mask_states.specs.Keys.{root_inst, entry_key}
+use Rattle.mask_states.specs.Keys.{root_inst, entry_key, offset_of}
 use Rattle.local_rules.specs.declared.local.Node.{Node}
 use Rattle.local_rules.specs.Cover.{IsNode}
 use Rattle.edge_rules.specs.declared.edge.Edge.{Edge}
@@ -103,4 +103,4 @@ module _ (words : List ℕ) (A : List Entry) where
       lone =
           let l = rounds_below h h_formed h_clean h_closed h_root n f solved.comes (record { key = k; state = t }) is in
           let ge = subst (IsStateWithin t) (same_Some l.at s (sym l.is ∙ get_same f k s)) l.above in
-          states_are_ordered.both s t s_node.formed.count_registers (formed (record { key = k; state = t }) is).formed.count_registers s_within ge
+          states_are_ordered.both s t (joins_are_formed.whole s (offset_of k.sp) s_node.formed) (joins_are_formed.whole t (offset_of k.sp) (formed (record { key = k; state = t }) is).formed) s_within ge

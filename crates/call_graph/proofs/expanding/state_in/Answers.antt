@@ -16,6 +16,10 @@ returns-then-eq c =
     found_first c.args.key.now c.args.nodes.items (length c.loop-node.yielded) c.in-Some.node
     (ap (first_at c.args.key.now) (sym first) ∙ c.loop-node.invariant) turn.0 turn.1 (sym c.eq.ensures.test ∙ c.if-eq.true)
 
+pub loop-node-preserved-else-eq : goal.loop-node-preserved-else-eq
+loop-node-preserved-else-eq c =
+    none_more c.args.key.now c.loop-node.yielded c.in-Some.node c.loop-node.invariant (sym c.eq.ensures.test ∙ c.if-eq.false)
+
 pub loop-node-preserved : goal.loop-node-preserved
 loop-node-preserved c =
     none_more c.args.key.now c.loop-node.yielded c.in-Some.node c.loop-node.invariant (sym c.eq.ensures.test ∙ c.if-eq.false)

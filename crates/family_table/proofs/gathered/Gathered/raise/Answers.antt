@@ -4,6 +4,7 @@ use Rattle.family_table.specs.Sized.{AreSized}
 use Rattle.family_table.proofs.Entries.{table_get, raised_there, raised_new, inserted_sized}
 use Rattle.family_table.proofs.Families.{insert_sized}
 use Rattle.family_table.proofs.gathered.Gathered.raise.Goals as goal
+use Rattle.family_table.proofs.gathered.Gathered.raise.Goals.{in-Some-1, in-None-2}
 
 pub join_into-requires : goal.join_into-requires
 join_into-requires c =
@@ -12,11 +13,23 @@ join_into-requires c =
 pub returns-in-Some : goal.returns-in-Some
 returns-in-Some c =
     let w = c.join_into.new.self in
-    (raised_there c.self.inside.map.entries (c.get_mut.follows.lender w).entries c.args.self.now c.args.node c.in-Some.state.now w c.self.view_is c.in-Some.ensures.value
-    c.join_into.ensures.joined ((c.get_mut.follows.holds w).3 (subst IsSome c.in-Some.ensures.value refl)).0).1.1
+    let joined = (raised_there c.self.inside.map.entries (c.get_mut.follows.lender w).entries c.args.self.now c.args.node c.in-Some.state.now w c.self.view_is c.in-Some.ensures.value
+    c.join_into.ensures.joined ((c.get_mut.follows.holds w).3 (subst IsSome c.in-Some.ensures.value refl)).0).1.1 in
+    elim c.match-node.branch [ in-Some-1 w ↦ w.self-is ∙ joined | in-None-2 w ↦ w.self-is ∙ joined ]
 
 pub invariant_of-self : goal.invariant_of-self
 invariant_of-self c =
+    let w = c.join_into.new.self in
+    let new = raised_there c.self.inside.map.entries (c.get_mut.follows.lender w).entries c.args.self.now c.args.node c.in-Some.state.now w c.self.view_is c.in-Some.ensures.value
+    c.join_into.ensures.joined ((c.get_mut.follows.holds w).3 (subst IsSome c.in-Some.ensures.value refl)).0 in (
+      subst AreSized (sym new.1.0)
+          (insert_sized c.args.self.now c.args.node.key w (subst AreSized c.self.view_is c.self.invariant.0)
+          (sym c.join_into.ensures.least.second.count ∙ c.requires)),
+      (c.get_mut.follows.holds w).4,
+    )
+
+pub invariant_of-self-in-Some-2 : goal.invariant_of-self-in-Some-2
+invariant_of-self-in-Some-2 c =
     let w = c.join_into.new.self in
     let new = raised_there c.self.inside.map.entries (c.get_mut.follows.lender w).entries c.args.self.now c.args.node c.in-Some.state.now w c.self.view_is c.in-Some.ensures.value
     c.join_into.ensures.joined ((c.get_mut.follows.holds w).3 (subst IsSome c.in-Some.ensures.value refl)).0 in (

@@ -1,7 +1,9 @@
-use Rattle.std.proofs.Common.{◌≡◌, ◌<◌, ℕ, refl, sym, ap, ◌∙◌, subst, List, arith}
-use Rattle.std.specs.FinMap.{from_entries}
+use Rattle.std.proofs.Common.{◌≡◌, ◌≢◌, ◌↔◌, ◌<◌, ℕ, refl, sym, ap, ◌∙◌, subst, List, arith}
+use Rattle.std.specs.FinMap.{FinMap, from_entries}
 use Rattle.std.specs.Option.{IsSome}
 use Rattle.std.proofs.lemmas.Map.Steps.{set_value_same}
+use Rattle.std.specs.Bool.{IsTrue}
+use Rattle.abs_state.specs.declared.state.AbsState.{AbsState}
 use Rattle.abs_state.specs.Order.{state_join}
 use Rattle.mask_states.specs.declared.keys.NodeKey.{NodeKey}
 use Rattle.mask_states.specs.Order.{node_cmp, same_node}
@@ -12,6 +14,7 @@ use Rattle.family_table.proofs.Families.{grew_by, new_grew}
 use Rattle.family_table.proofs.Shared.{counts_below, times_found}
 use Rattle.family_table.proofs.Raised.{number_long, shared_there, shared_new, if_err}
 use Rattle.family_table.proofs.table.Table.raise.Goals as goal
+use Rattle.family_table.proofs.table.Table.raise.Goals.{in-Some-3, in-None-4}
 
 pub joined-requires-clause-few : goal.joined-requires-clause-few
 joined-requires-clause-few c =
@@ -40,8 +43,15 @@ intern-requires-clause-counts c =
     let count = c.len.ensures.len in
     counts_below c.self.inside.pool c.self.inside.map.entries 4294967295 c.self.invariant.counted (omega (arith, most, count))
 
-pub invariant_of-self-in-Some-1 : goal.invariant_of-self-in-Some-1
-invariant_of-self-in-Some-1 c =
+pub invariant_of-self-in_ok-number-in-Some : goal.invariant_of-self-in_ok-number-in-Some
+invariant_of-self-in_ok-number-in-Some c =
+    (shared_there c.self.inside.pool c.joined.new.pool c.self.inside.map.entries (c.get_mut.follows.lender c.in_ok-number-in-Some.number).entries c.args.self.now c.args.node c.in-Some.held.now
+    c.in_ok-number-in-Some.number c.self.view_is c.self.invariant c.in-Some.ensures.value c.in_ok-number-in-Some.ensures.moved c.in_ok-number-in-Some.ensures.slots
+    c.requires (c.get_mut.follows.holds c.in_ok-number-in-Some.number).0 ((c.get_mut.follows.holds c.in_ok-number-in-Some.number).3 (subst IsSome c.in-Some.ensures.value refl)).0
+    (c.get_mut.follows.holds c.in_ok-number-in-Some.number).4).shared
+
+pub invariant_of-self-in_ok-number-in-Some-2 : goal.invariant_of-self-in_ok-number-in-Some-2
+invariant_of-self-in_ok-number-in-Some-2 c =
     (shared_there c.self.inside.pool c.joined.new.pool c.self.inside.map.entries (c.get_mut.follows.lender c.in_ok-number-in-Some.number).entries c.args.self.now c.args.node c.in-Some.held.now
     c.in_ok-number-in-Some.number c.self.view_is c.self.invariant c.in-Some.ensures.value c.in_ok-number-in-Some.ensures.moved c.in_ok-number-in-Some.ensures.slots
     c.requires (c.get_mut.follows.holds c.in_ok-number-in-Some.number).0 ((c.get_mut.follows.holds c.in_ok-number-in-Some.number).3 (subst IsSome c.in-Some.ensures.value refl)).0
@@ -49,10 +59,12 @@ invariant_of-self-in-Some-1 c =
 
 pub returns-in_ok-number-in-Some-clause-ok : goal.returns-in_ok-number-in-Some-clause-ok
 returns-in_ok-number-in-Some-clause-ok c =
+    let there =
     (shared_there c.self.inside.pool c.joined.new.pool c.self.inside.map.entries (c.get_mut.follows.lender c.in_ok-number-in-Some.number).entries c.args.self.now c.args.node c.in-Some.held.now
     c.in_ok-number-in-Some.number c.self.view_is c.self.invariant c.in-Some.ensures.value c.in_ok-number-in-Some.ensures.moved c.in_ok-number-in-Some.ensures.slots
     c.requires (c.get_mut.follows.holds c.in_ok-number-in-Some.number).0 ((c.get_mut.follows.holds c.in_ok-number-in-Some.number).3 (subst IsSome c.in-Some.ensures.value refl)).0
-    (c.get_mut.follows.holds c.in_ok-number-in-Some.number).4).raised
+    (c.get_mut.follows.holds c.in_ok-number-in-Some.number).4).raised in
+    elim c.match-node-3.branch [ in-Some-3 w ↦ w.self-is ∙ there | in-None-4 w ↦ w.self-is ∙ there ]
 
 pub returns-in_ok-number-in-Some-clause-grew : goal.returns-in_ok-number-in-Some-clause-grew
 returns-in_ok-number-in-Some-clause-grew c =
@@ -61,8 +73,11 @@ returns-in_ok-number-in-Some-clause-grew c =
     c.in_ok-number-in-Some.number c.self.view_is c.self.invariant c.in-Some.ensures.value c.in_ok-number-in-Some.ensures.moved c.in_ok-number-in-Some.ensures.slots
     c.requires (c.get_mut.follows.holds c.in_ok-number-in-Some.number).0 ((c.get_mut.follows.holds c.in_ok-number-in-Some.number).3 (subst IsSome c.in-Some.ensures.value refl)).0
     (c.get_mut.follows.holds c.in_ok-number-in-Some.number).4 in
-    grew_by c.args.self.now (from_entries {R = node_cmp} (stated c.joined.new.pool (c.get_mut.follows.lender c.in_ok-number-in-Some.number).entries)) c.args.node.key s (state_join s c.args.node.state)
-    c.in_ok-number-in-Some.grew all.here all.put c.in_ok-number-in-Some.ensures.grew
+    let left = from_entries {R = node_cmp} (stated c.joined.new.pool (c.get_mut.follows.lender c.in_ok-number-in-Some.number).entries) in
+    let same : c.match-node-3.self ≡ left = elim c.match-node-3.branch [ in-Some-3 w ↦ w.self-is | in-None-4 w ↦ w.self-is ] in
+    subst (λ (m : FinMap node_cmp AbsState). IsTrue c.in_ok-number-in-Some.grew ↔ (m ≢ c.args.self.now)) (sym same)
+    (grew_by c.args.self.now left c.args.node.key s (state_join s c.args.node.state)
+    c.in_ok-number-in-Some.grew all.here all.put c.in_ok-number-in-Some.ensures.grew)
 
 pub invariant_of-self : goal.invariant_of-self
 invariant_of-self c =

@@ -1,0 +1,14 @@
+use Rattle.std.proofs.Common.{sym, subst}
+use Rattle.abs_step.specs.Adding.{plain}
+use Rattle.abs_step.specs.Leading.{Leads}
+use Rattle.abs_step.proofs.Paired.{others_refined}
+use Rattle.abs_step.proofs.pairs.paired_row.Goals as goal
+
+pub returns-in_default : goal.returns-in_default
+returns-in_default c =
+    let site = c.args.site.now in
+    let is = c.in_default in
+    subst (Leads (plain c.args.nodes.now) (plain c.row_through-in_default.new.nodes) c.row_through-in_default.result)
+    (sym (others_refined site.device site.flash.now site.assumptions.now c.args.scratch site.key.now site.state.now c.args.instr.now
+    is.not-Binary is.not-St is.not-Brbs is.not-Brbc is.not-Sbrc is.not-Sbrs))
+    c.row_through-in_default.ensures

@@ -1,0 +1,93 @@
+//! The list into which an instruction's successors are put.
+
+ghost use Rattle.std.specs.Prelude.{◌≡◌, true, length};
+ghost use Rattle.mask_states.specs.Keys.{offset_of};
+ghost use Rattle.abs_state.specs.PairBytes.{left_in};
+ghost use Rattle.local_rules.specs.Raw.{one, moves_to};
+ghost use Rattle.local_rules.specs.Local.{node_where};
+ghost use Rattle.abs_step.specs.Adding.{Adds, plain, teller, left_by};
+
+use crate::site::Site;
+use abs_state::AbsState;
+use avr_model::instruction::Instr;
+use flash_image::Flash;
+use local_rules::local::{Node, NodeFault, Nodes};
+use mask_states::NodeKey;
+use pair_steps::refine;
+use std::marker::Model;
+
+/// The nodes so far. Before another is put among them, its state is refined by what the instruction tells, or it isn't; it is left out
+/// where nothing is left of its state. Seen as the nodes and what refines.
+#[derive(Drop)]
+pub struct Moves<'a> {
+    nodes: Nodes,
+    flash: &'a Flash,
+    instr: &'a Instr,
+    before: &'a AbsState,
+    refines: bool,
+}
+
+impl<'a> Model for Moves<'a> {
+    ghost use Rattle.abs_step.specs.Adding.{Moving, teller};
+
+    ghost Value = { Moving };
+
+    ghost view = { λ m. record { by = teller m.refines m.flash.now m.instr.now m.before.now; nodes = m.nodes } };
+}
+
+impl<'a> Moves<'a> {
+    /// These nodes; others are refined by what the instruction at the site tells, where `refines`.
+    pub fn new(nodes: Nodes, site: &Site<'a>, instr: &'a Instr, refines: bool) -> Moves<'a>
+        ensures { result ≡ record { by = teller refines site.now.flash.now instr.now site.now.state.now; nodes = nodes } }
+    {
+        Moves {
+            nodes,
+            flash: site.flash,
+            instr,
+            before: site.state,
+            refines,
+        }
+    }
+
+    /// The nodes.
+    pub fn into_nodes(self) -> Nodes
+        ensures { result ≡ self.entry.nodes }
+    {
+        self.nodes
+    }
+
+    // Refines a state. Gives whether something is left.
+    fn refine(&self, state: &mut AbsState) -> bool
+        ensures left { left_in result state.new ≡ left_by self.now.by state.old }
+        ensures slots { result ≡ true → state.new.slots ≡ state.old.slots }
+    {
+        if self.refines {
+            return refine(self.flash, self.instr, self.before, state);
+        }
+        true
+    }
+
+    /// One node.
+    pub fn add(&mut self, key: NodeKey, mut state: AbsState) -> Result<(), NodeFault>
+        requires { length state.slots ≡ offset_of key.sp }
+        ensures { Adds self.old self.new result (one key state) }
+    {
+        let left = self.refine(&mut state);
+        put(&mut self.nodes, key, left, state)
+    }
+}
+
+/// One node, where something is left of its state.
+#[tactic(auto, using(crate::proofs::Added::adding))]
+pub fn put(nodes: &mut Nodes, key: NodeKey, left: bool, state: AbsState) -> Result<(), NodeFault>
+    requires { left ≡ true → length state.slots ≡ offset_of key.sp }
+    ensures { Adds (plain nodes.old) (plain nodes.new) result (moves_to (node_where key (left_in left state))) }
+{
+    if !left {
+        return Ok(());
+    }
+    match nodes.place(Node { key, state }) {
+        Ok(()) => Ok(()),
+        Err(_) => Err(NodeFault::Memory),
+    }
+}

@@ -1,0 +1,208 @@
+//! Where pairs are followed: branches and skips cut the state by their outcome, and what other instructions leave is refined.
+
+ghost use Rattle.std.specs.Prelude.{◌≡◌, ◌<◌, ◌∷◌, [], true, not, Some, length};
+ghost use Rattle.mask_states.specs.Keys.{offset_of};
+ghost use Rattle.avr_model.specs.Image.{WORDS};
+ghost use Rattle.avr_model.specs.declared.instruction.Instr.TheVariants as i;
+ghost use Rattle.abs_state.specs.PairBytes.{left_in};
+ghost use Rattle.local_rules.specs.Raw.{all_of};
+ghost use Rattle.local_rules.specs.Flow as flow;
+ghost use Rattle.local_rules.specs.Local as rows;
+ghost use Rattle.abs_step.specs.Adding.{Adds, plain, refined_if};
+ghost use Rattle.abs_step.specs.Leading.{Leads};
+ghost use Rattle.abs_step.specs.Tests.{IsTest, cut_by};
+
+use crate::flow::{Outside, staying};
+use crate::instruction::{before, row_forgetting};
+use crate::moves::{Moves, put};
+use crate::pointer_stores::pointer_write;
+use crate::site::Site;
+use crate::successors::{copied, off_table};
+use abs_reads::flow::further;
+use abs_reads::pointers::step_before;
+use abs_rows::transfer::{pointer_moved, pointer_register};
+use abs_state::AbsState;
+use avr_decode::near;
+use avr_model::instruction::{BinaryOp, Instr, Pointer, Register};
+use local_rules::local::{NodeFault, Nodes};
+use pair_cuts::{bit_cut, equal_cut, flag_cut};
+use pair_steps::refine;
+use std::mem;
+
+/// A test whose outcome tells of the state.
+#[derive(Clone, Copy)]
+pub(crate) enum Test {
+    /// Whether this flag is 1.
+    Flag(u8),
+    /// Whether a register's bit is 1.
+    Bit(u8, u8),
+    /// Whether two registers are equal.
+    Equal(u8, u8),
+}
+
+// Cuts the state to where the test comes out so. Gives whether something is left.
+#[tactic(auto, using(crate::proofs::Slots::cut_slots))]
+fn cut(test: Test, on: bool, state: &mut AbsState) -> bool
+    requires { IsTest test }
+    ensures left { left_in result state.new ≡ cut_by test on state.old }
+    ensures slots { result ≡ true → state.new.slots ≡ state.old.slots }
+{
+    match test {
+        Test::Flag(n) => flag_cut(state, n, on),
+        Test::Bit(r, bit) => bit_cut(state, r, bit, on),
+        Test::Equal(d, r) => equal_cut(state, d, r, on),
+    }
+}
+
+// Going on at a word where the test comes out so, if it can.
+fn going_where(
+    nodes: &mut Nodes,
+    site: &Site<'_>,
+    test: Test,
+    on: bool,
+    pc: u16,
+) -> Result<(), NodeFault>
+    requires { IsTest test }
+    ensures { Adds (plain nodes.old) (plain nodes.new) result (flow.going_where site.now.key.now (cut_by test on site.now.state.now) pc) }
+{
+    let mut after = copied(site.alloc, site.state)?;
+    let left = cut(test, on, &mut after);
+    put(nodes, off_table(site.key, pc), left, after)
+}
+
+// To one word where the test comes out so, and then to another where it doesn't.
+fn both_ways(
+    nodes: &mut Nodes,
+    site: &Site<'_>,
+    test: Test,
+    on: bool,
+    pc: u16,
+    other: u16,
+) -> Result<(), NodeFault>
+    requires { IsTest test }
+    ensures { Adds (plain nodes.old) (plain nodes.new) result (all_of (flow.going_where site.now.key.now (cut_by test on site.now.state.now) pc ∷ flow.going_where site.now.key.now (cut_by test (not on) site.now.state.now) other ∷ [])) }
+{
+    going_where(nodes, site, test, on, pc)?;
+    let added = going_where(nodes, site, test, !on, other)?;
+    Ok(added)
+}
+
+// To the next instruction where the test comes out so, else past it.
+fn skip_unless(nodes: &mut Nodes, site: &Site<'_>, test: Test, on: bool) -> Result<(), NodeFault>
+    requires word { site.now.key.now.pc < WORDS }
+    requires test { IsTest test }
+    ensures { Adds (plain nodes.old) (plain nodes.new) result (rows.cut_skip site.now.device site.now.flash.now site.now.key.now (cut_by test (not on) site.now.state.now) (cut_by test on site.now.state.now)) }
+{
+    let length = avr_decode::length(site.flash.word(site.key.pc + 1));
+    let (past, next) = (
+        further(site.device, site.key, 1 + length),
+        further(site.device, site.key, 1),
+    );
+    let added = both_ways(nodes, site, test, on, next, past)?;
+    Ok(added)
+}
+
+// `st`: the pointer moves, and its pair is refined, before the byte is stored.
+#[tactic(auto, using(crate::proofs::Slots::told_slots))]
+fn store_row(
+    nodes: &mut Nodes,
+    site: &Site<'_>,
+    pointer: Pointer,
+    r: Register,
+) -> Result<(), NodeFault>
+    ensures { Adds (plain nodes.old) (plain nodes.new) result (rows.paired_store site.now.device site.now.flash.now site.now.assumptions.now site.now.key.now site.now.state.now pointer r) }
+{
+    let instr = Instr::St(pointer, r);
+    let mut moved = before(site.alloc, site.state, &instr)?;
+    moved.registers = pointer_moved(pointer, site.state);
+    if !refine(site.flash, &instr, site.state, &mut moved) {
+        return Ok(());
+    }
+    stored(nodes, site, &instr, pointer, r, &moved)
+}
+
+// The byte is stored.
+fn stored(
+    nodes: &mut Nodes,
+    site: &Site<'_>,
+    instr: &Instr,
+    pointer: Pointer,
+    r: Register,
+    moved: &AbsState,
+) -> Result<(), NodeFault>
+    requires { length moved.now.slots ≡ offset_of site.now.key.now.sp }
+    ensures { Adds (plain nodes.old) (plain nodes.new) result (rows.storing site.now.device site.now.flash.now site.now.assumptions.now site.now.key.now site.now.state.now pointer r (Some moved.now)) }
+{
+    let (base, up) = (pointer_register(pointer), step_before(pointer));
+    let so_far = mem::replace(nodes, Nodes::new(site.alloc));
+    let mut moves = Moves::new(so_far, site, instr, false);
+    let added = pointer_write(&mut moves, site, base, up, r, moved);
+    *nodes = moves.into_nodes();
+    added
+}
+
+/// What the instruction leads to by the plain rules, refined by what it tells, where `refines`.
+pub(crate) fn row_through(
+    nodes: &mut Nodes,
+    site: &Site<'_>,
+    scratch: bool,
+    instr: &Instr,
+    refines: bool,
+) -> Result<Outside, NodeFault>
+    requires word { site.now.key.now.pc < WORDS }
+    ensures { Leads (plain nodes.old) (plain nodes.new) result (refined_if refines site.now.flash.now instr.now site.now.state.now (rows.plain_row site.now.device site.now.flash.now site.now.assumptions.now scratch site.now.key.now site.now.state.now instr.now)) }
+{
+    let so_far = mem::replace(nodes, Nodes::new(site.alloc));
+    let mut moves = Moves::new(so_far, site, instr, refines);
+    let led = row_forgetting(&mut moves, site, scratch, instr);
+    *nodes = moves.into_nodes();
+    led
+}
+
+/// What an instruction leads to where pairs are followed.
+pub(crate) fn paired_row(
+    nodes: &mut Nodes,
+    site: &Site<'_>,
+    scratch: bool,
+    instr: &Instr,
+) -> Result<Outside, NodeFault>
+    requires word { site.now.key.now.pc < WORDS }
+    ensures { Leads (plain nodes.old) (plain nodes.new) result (rows.paired_row site.now.device site.now.flash.now site.now.assumptions.now scratch site.now.key.now site.now.state.now instr.now) }
+{
+    let (a, device, key) = (site.alloc, site.device, site.key);
+    match instr {
+        Instr::Brbs(n, t) => {
+            if n.get() >= 7 {
+                return row_through(nodes, site, scratch, instr, false);
+            }
+            let (taken, other) = (device.wrap(near(key.pc, t.get())), further(device, key, 1));
+            let test = Test::Flag(n.get() as u8);
+            staying(a, both_ways(nodes, site, test, false, other, taken))
+        }
+        Instr::Brbc(n, t) => {
+            if n.get() >= 7 {
+                return row_through(nodes, site, scratch, instr, false);
+            }
+            let (taken, other) = (device.wrap(near(key.pc, t.get())), further(device, key, 1));
+            let test = Test::Flag(n.get() as u8);
+            staying(a, both_ways(nodes, site, test, false, taken, other))
+        }
+        Instr::Sbrc(r, bit) => {
+            let test = Test::Bit(r.get() as u8, bit.get() as u8);
+            staying(a, skip_unless(nodes, site, test, true))
+        }
+        Instr::Sbrs(r, bit) => {
+            let test = Test::Bit(r.get() as u8, bit.get() as u8);
+            staying(a, skip_unless(nodes, site, test, false))
+        }
+        Instr::Binary(op, d, r) => match op {
+            BinaryOp::Cpse => {
+                let test = Test::Equal(d.get() as u8, r.get() as u8);
+                staying(a, skip_unless(nodes, site, test, false))
+            }
+            _ => row_through(nodes, site, scratch, instr, true),
+        },
+        Instr::St(p, r) => staying(a, store_row(nodes, site, *p, *r)),
+        _ => row_through(nodes, site, scratch, instr, true),
+    }
+}

@@ -1,0 +1,84 @@
+-- Nodes but for what they say of pairs: what the rows of the table ask for, and keep. A row ends some intervals before it writes.
+use Rattle.std.proofs.Common.{◌≡◌, ◌^◌, ◌<◌, ◌≤◌, Bool}
+use Rattle.avr_model.specs.Devices.{ramend}
+use Rattle.avr_model.specs.Image.{WORDS}
+use Rattle.avr_model.specs.State.{State, SIZE}
+use Rattle.sp_domain.specs.Tags.{Origin, HasBytes}
+use Rattle.pair_domain.specs.Facts.{is_followed}
+use Rattle.abs_state.specs.declared.state.AbsState.{AbsState}
+use Rattle.abs_state.specs.Formed.{IsFormed, IsUntagged, TagsFit}
+use Rattle.abs_state.specs.Hulls.{IsInHulls}
+use Rattle.abs_state.specs.Laws.{HoldsAt}
+use Rattle.abs_state.specs.Stands.{Stands}
+use Rattle.mask_states.specs.declared.keys.NodeKey.{NodeKey}
+use Rattle.mask_states.specs.declared.keys.Kind.TheVariants.{Root}
+use Rattle.mask_states.specs.Keys.{offset_of, PickFits}
+use Rattle.mask_states.specs.Place.{AtNode}
+use Rattle.local_rules.specs.Machine.{IsMachine}
+use Rattle.local_rules.specs.Cover.{FormFits, IsKey, IsNodeIn, InFrameIn}
+
+pub record IsBare (k : NodeKey) (s : AbsState) : Type 0 where
+  pub word : k.pc < WORDS
+  pub small : offset_of k.sp ≤ SIZE
+  pub masks : k.masks < 2 ^ 25
+  pub fits : FormFits k
+  pub pick : PickFits k.pick
+  pub formed : IsFormed s (offset_of k.sp)
+  pub tags : TagsFit s
+  pub carry_bytes : HasBytes s.flags.carry
+  pub untagged : k.inst.kind ≡ Root → IsUntagged s
+
+pub record InBareFrame (m : State) (o : Origin) (k : NodeKey) (s : AbsState) : Type 0 where
+  pub machine : IsMachine m
+  pub node : IsBare k s
+  pub place : AtNode o.base m k
+  pub stands : Stands o s m
+  pub facts : HoldsAt s.facts m.registers m.sreg
+  pub root : k.inst.kind ≡ Root → o.base ≡ ramend m.device
+  pub base_word : o.base < 65536
+
+pub bare : {followed : Bool} (k : NodeKey) (s : AbsState) → IsNodeIn followed k s → IsBare k s
+bare k s h =
+    record {
+      word = h.word;
+      small = h.small;
+      masks = h.masks;
+      fits = h.fits;
+      pick = h.pick;
+      formed = h.formed;
+      tags = h.tags;
+      carry_bytes = h.carry_bytes;
+      untagged = h.untagged;
+    }
+
+pub bare_frame : {followed : Bool} (m : State) (o : Origin) (k : NodeKey) (s : AbsState) → InFrameIn followed m o k s → InBareFrame m o k s
+bare_frame m o k s h =
+    record {
+      machine = h.machine;
+      node = bare k s h.node;
+      place = h.place;
+      stands = h.stands;
+      facts = h.facts;
+      root = h.root;
+      base_word = h.base_word;
+    }
+
+-- with what it says of pairs it is a node
+pub node_of : {followed : Bool} (k : NodeKey) (s : AbsState) → IsBare k s → is_followed s.facts ≡ followed → IsInHulls s → IsNodeIn followed k s
+node_of k s h mode hulls =
+    record {
+      word = h.word;
+      small = h.small;
+      masks = h.masks;
+      fits = h.fits;
+      pick = h.pick;
+      formed = h.formed;
+      tags = h.tags;
+      carry_bytes = h.carry_bytes;
+      untagged = h.untagged;
+      mode = mode;
+      hulls = hulls;
+    }
+
+pub bare_key : (k : NodeKey) (s : AbsState) → IsBare k s → IsKey k
+bare_key k s h = record { word = h.word; small = h.small; masks = h.masks; fits = h.fits; pick = h.pick }

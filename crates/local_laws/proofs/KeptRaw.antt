@@ -1,0 +1,292 @@
+-- All that a node leads to follows pairs where the node does, and its intervals lie in the hulls of their registers.
+use Rattle.std.proofs.Common.{◌≡◌, refl, sym, subst, ap, ◌∙◌, ℕ, ◌+◌, ◌<◌, ◌==◌, Bool, true, false, List, [], ◌∷◌, length, map, Option, Some, None, if◌then◌else◌, Contains, ⊎_elim, nat_lt, nat_le, ltb-true, eqb-true}
+use Rattle.std.proofs.lemmas.List.Elements.{Contains-append_cases}
+use Rattle.basics.specs.Items.{none_in, further_in, first_in}
+use Rattle.basics.specs.Lists.{both_empty}
+use Rattle.avr_model.specs.Devices.{size_of, wrapped, device_of}
+use Rattle.avr_model.specs.Image.{word_at}
+use Rattle.avr_model.specs.Marks.{marks}
+use Rattle.avr_model.specs.Table.{length_of}
+use Rattle.avr_model.specs.Text.{near}
+use Rattle.avr_model.specs.declared.device.Device.{Device}
+use Rattle.avr_model.specs.declared.assumption.Entry.{Entry}
+use Rattle.avr_model.specs.declared.instruction.Instr.{Instr}
+use Rattle.avr_model.specs.declared.instruction.Instr.TheVariants as i
+use Rattle.avr_model.specs.declared.instruction.BinaryOp.TheVariants as binary
+use Rattle.avr_model.specs.declared.instruction.Pointer.{Pointer}
+use Rattle.avr_model.specs.Assumptions.{is_frame}
+use Rattle.avr_model.specs.Effects.{port}
+use Rattle.avr_model.specs.Sites.{is_scratch, base_register, pointer_register}
+use Rattle.avr_model.specs.Written.{written}
+use Rattle.bit_domain.specs.Tri.{tri_not}
+use Rattle.bit_domain.specs.TriByte.{tri_at}
+use Rattle.bit_domain.specs.Logic.{byte_equal}
+use Rattle.pair_domain.specs.declared.facts.PairFacts.{PairFacts}
+use Rattle.pair_domain.specs.Facts.{HasSixteen, is_followed}
+use Rattle.pair_domain.proofs.AllLaws.{known_is_ordered}
+use Rattle.abs_state.specs.declared.state.AbsState.{AbsState}
+use Rattle.abs_state.specs.Values.{value_at, set_of}
+use Rattle.abs_state.specs.Ended.{is_one_of, ended}
+use Rattle.abs_state.specs.Formed.{IsFormed}
+use Rattle.abs_state.specs.FlagsSet.{sets_flags, sets_carry}
+use Rattle.abs_state.proofs.AllLaws.{states_are_ordered, writes_end_facts}
+use Rattle.pair_rules.specs.Fits.{HasRegisters, IsPlain}
+use Rattle.pair_rules.specs.Refined.{refined}
+use Rattle.pair_laws.proofs.AllLaws.{refined_is_ordered}
+use Rattle.pair_cuts.specs.Cuts.{flag_cut, bit_cut, equal_cut, pick_cut}
+use Rattle.pair_cut_laws.specs.Laws.{IsLeftOf}
+use Rattle.pair_cut_laws.proofs.AllLaws.{flags_are_cut, bits_are_cut, equals_are_cut}
+use Rattle.mask_states.specs.declared.keys.NodeKey.{NodeKey}
+use Rattle.mask_states.specs.Keys.{offset_of}
+use Rattle.local_rules.specs.declared.local.NodeFault.TheVariants.{UnresolvedJump}
+use Rattle.local_rules.specs.Raw.{Raw, fails, all_of, at_word, next, further, untracked_if, too_deep_if}
+use Rattle.local_rules.specs.Registers.{value, before, forgetting, going_by, binary_after}
+use Rattle.local_rules.specs.FrameLines.{framed_binary, is_followed as is_followed_by}
+use Rattle.local_rules.specs.Reads.{pointed}
+use Rattle.local_rules.specs.Flow.{going_where, flag_at, skipping}
+use Rattle.local_rules.specs.Local.{step_before, pointer_moved, plain_row, paired_row, row_by, row_at, row_in, refining, storing, is_hung, fetched, may_be, below, picks, picking, picked_row, split_site, splitting, raw}
+use Rattle.local_rules.specs.Cover.{IsNodeIn}
+use Rattle.local_laws.proofs.Bare.{IsBare, bare, bare_key}
+use Rattle.local_laws.proofs.KeptNodes.{IsKept, none_kept, forgetting_kept, AllKept, kept_none, kept_if, kept_both, kept_branch, kept_where, kept_written, kept_pointer, flag_branch_none}
+use Rattle.local_laws.proofs.Members.{filter_within}
+use Rattle.local_laws.proofs.MonotoneFields.{InstrFits, fetched_fits}
+use Rattle.local_laws.proofs.MonotoneRows.{row_less}
+use Rattle.local_laws.proofs.MonotoneSplits.{fetched_has, mode_within, picked_node}
+use Rattle.local_laws.proofs.MonotoneValues.{IsStateLess, node_less, forgetting_both}
+use Rattle.local_laws.proofs.PairedMonotone.{from_refined, moved_bare}
+use Rattle.local_laws.proofs.PairedPlain.{row_plain}
+use Rattle.local_laws.proofs.PairedStep.{IsStored, stored_same}
+use Rattle.local_laws.proofs.Picks.{below_small}
+use Rattle.local_laws.proofs.PlainRows.{IsRefined, row_leaves, pointer_set}
+
+-- ---- where pairs aren't followed
+
+module _ (device : Device) (words : List ℕ) (A : List Entry) (scratch : Bool) (k : NodeKey) (s : AbsState) (none : s.facts ≡ None) where
+  abbrev plain : Instr → Raw
+  plain instr = plain_row device words A scratch k s instr
+
+  none_before : (instr : Instr) → (before instr s).facts ≡ None
+  none_before instr = ap (ended (is_one_of (written instr)) (sets_flags instr) (sets_carry instr)) none
+
+  kept_before : (instr : Instr) → IsKept false (before instr s)
+  kept_before instr = none_kept (before instr s) (none_before instr)
+
+  sixteen : (instr : Instr) → HasSixteen (before instr s).facts
+  sixteen instr = subst HasSixteen (sym (none_before instr)) tt
+
+  refined_none : (instr : Instr) → IsRefined instr → AllKept false (plain instr)
+  refined_none instr is to j = none_kept to.state ((row_leaves device words A scratch k (before instr s) instr is to j).facts ∙ none_before instr)
+
+  -- `cpse` computes nothing, with a line or without
+  cpse_kept : (framed : Bool) (d r : ℕ) → AllKept false (going_by device k (before (i.Binary binary.Cpse d r) s)
+      (if framed then framed_binary (before (i.Binary binary.Cpse d r) s) binary.Cpse d r else binary_after (before (i.Binary binary.Cpse d r) s) binary.Cpse d r)
+      (skipping device words k (before (i.Binary binary.Cpse d r) s) (byte_equal (value_at s.registers d).bits (value_at s.registers r).bits)))
+  cpse_kept true d r = kept_branch false (byte_equal (value_at s.registers d).bits (value_at s.registers r).bits) k (before (i.Binary binary.Cpse d r) s) _ _ (kept_before (i.Binary binary.Cpse d r))
+  cpse_kept false d r = kept_branch false (byte_equal (value_at s.registers d).bits (value_at s.registers r).bits) k (before (i.Binary binary.Cpse d r) s) _ _ (kept_before (i.Binary binary.Cpse d r))
+
+  plain_kept : (instr : Instr) → AllKept false (plain instr)
+  plain_kept (i.Binary binary.Cpse d r) = cpse_kept (is_followed_by (is_frame A k.pc) d r) d r
+  plain_kept (i.Binary binary.Cpc d r) = refined_none (i.Binary binary.Cpc d r) tt
+  plain_kept (i.Binary binary.Sbc d r) = refined_none (i.Binary binary.Sbc d r) tt
+  plain_kept (i.Binary binary.Add d r) = refined_none (i.Binary binary.Add d r) tt
+  plain_kept (i.Binary binary.Cp d r) = refined_none (i.Binary binary.Cp d r) tt
+  plain_kept (i.Binary binary.Sub d r) = refined_none (i.Binary binary.Sub d r) tt
+  plain_kept (i.Binary binary.Adc d r) = refined_none (i.Binary binary.Adc d r) tt
+  plain_kept (i.Binary binary.And d r) = refined_none (i.Binary binary.And d r) tt
+  plain_kept (i.Binary binary.Eor d r) = refined_none (i.Binary binary.Eor d r) tt
+  plain_kept (i.Binary binary.Or d r) = refined_none (i.Binary binary.Or d r) tt
+  plain_kept (i.Binary binary.Mov d r) = refined_none (i.Binary binary.Mov d r) tt
+  plain_kept (i.Binary binary.Mul d r) = refined_none (i.Binary binary.Mul d r) tt
+  plain_kept (i.Std b q r) = kept_pointer false device words A (before (i.Std b q r) s) (base_register b) q (pointed (before (i.Std b q r) s) (base_register b) q) k.pc (next device k) (before (i.Std b q r) s) (value s r) (sixteen (i.Std b q r)) (kept_before (i.Std b q r))
+  plain_kept (i.St p r) =
+      kept_pointer false device words A (before (i.St p r) s) (pointer_register p) (step_before p) (pointed (before (i.St p r) s) (pointer_register p) (step_before p)) k.pc (next device k) (record (before (i.St p r) s) { registers = pointer_moved p (before (i.St p r) s) }) (value s r)
+      (sixteen (i.St p r)) (none_kept (record (before (i.St p r) s) { registers = pointer_moved p (before (i.St p r) s) }) (none_before (i.St p r)))
+  plain_kept (i.Sts a r) = kept_written false device k.pc (at_word k (further device k 2)) (before (i.Sts a r) s) false a (value s r) (sixteen (i.Sts a r)) (kept_before (i.Sts a r))
+  plain_kept (i.Out a r) = kept_written false device k.pc (next device k) (before (i.Out a r) s) true (port a) (value s r) (sixteen (i.Out a r)) (kept_before (i.Out a r))
+  plain_kept (i.Cbi a b) = kept_written false device k.pc (next device k) (before (i.Cbi a b) s) false (port a) _ (sixteen (i.Cbi a b)) (kept_before (i.Cbi a b))
+  plain_kept (i.Sbi a b) = kept_written false device k.pc (next device k) (before (i.Sbi a b) s) false (port a) _ (sixteen (i.Sbi a b)) (kept_before (i.Sbi a b))
+  plain_kept (i.Brbs n t) = flag_branch_none n k (before (i.Brbs n t) s) (wrapped device (near k.pc t)) (further device k 1) (flag_at k s n) (wrapped device (near k.pc t)) (further device k 1) (none_before (i.Brbs n t))
+  plain_kept (i.Brbc n t) = flag_branch_none n k (before (i.Brbc n t) s) (further device k 1) (wrapped device (near k.pc t)) (tri_not (flag_at k s n)) (wrapped device (near k.pc t)) (further device k 1) (none_before (i.Brbc n t))
+  plain_kept (i.Sbrc r b) = kept_branch false (tri_not (tri_at (value s r).bits b)) k (before (i.Sbrc r b) s) _ _ (kept_before (i.Sbrc r b))
+  plain_kept (i.Sbrs r b) = kept_branch false (tri_at (value s r).bits b) k (before (i.Sbrs r b) s) _ _ (kept_before (i.Sbrs r b))
+  plain_kept instr = refined_none instr tt
+
+-- ---- where they are
+
+module _ (device : Device) (words : List ℕ) (A : List Entry) (scratch : Bool) (k : NodeKey) (s : AbsState) (h : IsNodeIn true k s) (f : PairFacts) (known : s.facts ≡ Some f) where
+  abbrev row : Instr → Raw
+  row instr = plain_row device words A scratch k s instr
+
+  abbrev paired : Instr → Raw
+  paired instr = paired_row device words A scratch k s instr
+
+  low : IsBare k s
+  low = bare k s h
+
+  is_kept : IsKept true s
+  is_kept = record { mode = h.mode; hulls = h.hulls }
+
+  still : (flags carry : Bool) → IsKept true (forgetting [] flags carry s)
+  still flags carry = forgetting_kept true flags carry s is_kept
+
+  count : (instr : Instr) → HasSixteen (before instr s).facts
+  count instr = known_is_ordered.count (before instr s).facts (writes_end_facts.fits (is_one_of (written instr)) (sets_flags instr) (sets_carry instr) s.facts h.formed.facts)
+
+  -- a refined state says no less than the plain one, which follows pairs
+  refined_kept : (instr : Instr) (n : ℕ) (t u : AbsState) → HasRegisters instr → IsFormed t n → IsPlain words instr s t
+      → ((r : ℕ) → r < 32 → is_one_of (written instr) r ≡ false → set_of (value_at t.registers r) ≡ set_of (value_at s.registers r))
+      → refined (marks words) words instr s t ≡ Some u → IsKept true u
+  refined_kept instr n t u has formed plain others e =
+      let under = refined_is_ordered.under (marks words) words instr (offset_of k.sp) n s t u has h.formed formed plain e in
+      let mode : is_followed t.facts ≡ true = ap is_followed plain.facts ∙ writes_end_facts.followed (is_one_of (written instr)) (sets_flags instr) (sets_carry instr) s.facts ∙ h.mode in
+      record {
+        mode = mode_within u.facts t.facts under.facts mode;
+        hulls = refined_is_ordered.hulls (marks words) words instr (offset_of k.sp) n s t u has h.formed formed plain.facts others h.hulls e;
+      }
+
+  refining_kept : (instr : Instr) → InstrFits instr → HasRegisters instr → IsRefined instr → (row instr).faults ≡ [] → AllKept true (refining words instr s (row instr))
+  refining_kept instr fits has is clean x j =
+      let of = from_refined words instr s (row instr).moves (row instr).moves (λ n m. m) x j in
+      let le : IsStateLess k.inst.kind (offset_of k.sp) (before instr s) (before instr s) =
+      forgetting_both k.inst.kind (offset_of k.sp) (written instr) (sets_flags instr) (sets_carry instr) s s (node_less k s s low low (states_are_ordered.same s)) in
+      let met = (row_less device words A k (bare_key k s low) (before instr s) (before instr s) le scratch instr fits clean).moves of.to of.member in
+      let leaves = row_leaves device words A scratch k (before instr s) instr is of.to of.member in
+      refined_kept instr (offset_of of.to.key.sp) of.to.state x.state has met.node.formed (row_plain device words A scratch k s h.formed.count_registers instr is has of.to of.member)
+      (λ r lt other. ap set_of (leaves.others r other)) of.left
+
+  stored_kept : (instr : Instr) → IsStored instr → AllKept true (row instr) → AllKept true (refining words instr s (row instr))
+  stored_kept instr is all = subst (AllKept true) (sym (stored_same words s f instr is known (row instr))) all
+
+  -- ---- cuts
+
+  left_kept : (u : AbsState) → IsLeftOf s u (offset_of k.sp) → IsKept true u
+  left_kept u left = record { mode = mode_within u.facts s.facts left.within.facts h.mode; hulls = left.hulls h.hulls }
+
+  cut_kept : (n : ℕ) (b : Bool) → n < 7 → (pc : ℕ) → AllKept true (going_where k (flag_cut n b s) pc)
+  cut_kept n b lt pc = kept_where true k (flag_cut n b s) pc (λ u e. left_kept u (flags_are_cut.leaves n b lt s u (offset_of k.sp) h.formed e))
+
+  bit_kept : (r b : ℕ) (on : Bool) → r < 32 → b < 8 → (pc : ℕ) → AllKept true (going_where k (bit_cut r b on s) pc)
+  bit_kept r b on lt lt' pc = kept_where true k (bit_cut r b on s) pc (λ u e. left_kept u (bits_are_cut.leaves r b on lt lt' s u (offset_of k.sp) h.formed e))
+
+  equal_kept : (d r : ℕ) (b : Bool) → d < 32 → r < 32 → (pc : ℕ) → AllKept true (going_where k (equal_cut d r b s) pc)
+  equal_kept d r b lt lt' pc = kept_where true k (equal_cut d r b s) pc (λ u e. left_kept u (equals_are_cut.leaves d r b lt lt' s u (offset_of k.sp) h.formed e))
+
+  abbrev past : ℕ
+  past = further device k (1 + length_of (word_at words (k.pc + 1)))
+
+  -- flag 7 isn't C
+  high_flag : (n : ℕ) (low : Bool) (p q other : Raw) → nat_lt n 7 ≡ low → (n < 7 → AllKept true p) → AllKept true other
+      → AllKept true (if low then p else (if n == 0 then q else other))
+  high_flag n true p q other e cut all = cut (ltb-true n 7 e)
+  high_flag n false p q other e cut all = kept_if true (n == 0) q other (λ is. let zero : n ≡ 0 = eqb-true n 0 is in let never : nat_lt 0 7 ≡ false = subst (λ m. nat_lt m 7 ≡ false) zero e in absurd (cc)) (λ is. all)
+
+  -- ---- a store through a pointer
+
+  moved_kept : (p : Pointer) (r : ℕ) (x : Option AbsState) → refined (marks words) words (i.St p r) s (record (before (i.St p r) s) { registers = pointer_moved p s }) ≡ x
+      → AllKept true (storing device words A k s p r x)
+  moved_kept p r None e = kept_none true
+  moved_kept p r (Some u) e =
+      let t : AbsState = record (before (i.St p r) s) { registers = pointer_moved p s } in
+      let formed : IsFormed t (offset_of k.sp) = (moved_bare device words A k s s low low (states_are_ordered.same s) h.hulls f f known known p r s low).formed in
+      let kept = refined_kept (i.St p r) (offset_of k.sp) t u tt formed (record { facts = refl; value = tt }) (λ q lt other. ap set_of (pointer_set p s q other)) e in
+      let left = refined_is_ordered.formed (marks words) words (i.St p r) (offset_of k.sp) (offset_of k.sp) s t u tt h.formed formed e in
+      kept_pointer true device words A s (pointer_register p) (step_before p) (pointed s (pointer_register p) (step_before p)) k.pc (next device k) u (value s r)
+      (known_is_ordered.count u.facts left.facts) kept
+
+  -- ---- all rows
+
+  pub paired_kept : (instr : Instr) → InstrFits instr → HasRegisters instr → (paired instr).faults ≡ [] → AllKept true (paired instr)
+  paired_kept (i.Brbs n t) fits has clean =
+      high_flag n (nat_lt n 7) _ _ _ refl (λ lt. kept_both true (going_where k (flag_cut n false s) (further device k 1)) (going_where k (flag_cut n true s) (wrapped device (near k.pc t)))
+      (cut_kept n false lt (further device k 1)) (cut_kept n true lt (wrapped device (near k.pc t))))
+      (kept_branch true (flag_at k s n) k (before (i.Brbs n t) s) (wrapped device (near k.pc t)) (further device k 1) (still false false))
+  paired_kept (i.Brbc n t) fits has clean =
+      high_flag n (nat_lt n 7) _ _ _ refl (λ lt. kept_both true (going_where k (flag_cut n false s) (wrapped device (near k.pc t))) (going_where k (flag_cut n true s) (further device k 1))
+      (cut_kept n false lt (wrapped device (near k.pc t))) (cut_kept n true lt (further device k 1)))
+      (kept_branch true (tri_not (flag_at k s n)) k (before (i.Brbc n t) s) (wrapped device (near k.pc t)) (further device k 1) (still false false))
+  paired_kept (i.Sbrc r b) fits has clean =
+      kept_both true (going_where k (bit_cut r b true s) (further device k 1)) (going_where k (bit_cut r b false s) past) (bit_kept r b true fits.0 fits.1 (further device k 1)) (bit_kept r b false fits.0 fits.1 past)
+  paired_kept (i.Sbrs r b) fits has clean =
+      kept_both true (going_where k (bit_cut r b false s) (further device k 1)) (going_where k (bit_cut r b true s) past) (bit_kept r b false fits.0 fits.1 (further device k 1)) (bit_kept r b true fits.0 fits.1 past)
+  paired_kept (i.Binary binary.Cpse d r) fits has clean =
+      kept_both true (going_where k (equal_cut d r false s) (further device k 1)) (going_where k (equal_cut d r true s) past) (equal_kept d r false has.0 has.1 (further device k 1)) (equal_kept d r true has.0 has.1 past)
+  paired_kept (i.Binary binary.Cpc d r) fits has clean = refining_kept (i.Binary binary.Cpc d r) fits has tt clean
+  paired_kept (i.Binary binary.Sbc d r) fits has clean = refining_kept (i.Binary binary.Sbc d r) fits has tt clean
+  paired_kept (i.Binary binary.Add d r) fits has clean = refining_kept (i.Binary binary.Add d r) fits has tt clean
+  paired_kept (i.Binary binary.Cp d r) fits has clean = refining_kept (i.Binary binary.Cp d r) fits has tt clean
+  paired_kept (i.Binary binary.Sub d r) fits has clean = refining_kept (i.Binary binary.Sub d r) fits has tt clean
+  paired_kept (i.Binary binary.Adc d r) fits has clean = refining_kept (i.Binary binary.Adc d r) fits has tt clean
+  paired_kept (i.Binary binary.And d r) fits has clean = refining_kept (i.Binary binary.And d r) fits has tt clean
+  paired_kept (i.Binary binary.Eor d r) fits has clean = refining_kept (i.Binary binary.Eor d r) fits has tt clean
+  paired_kept (i.Binary binary.Or d r) fits has clean = refining_kept (i.Binary binary.Or d r) fits has tt clean
+  paired_kept (i.Binary binary.Mov d r) fits has clean = refining_kept (i.Binary binary.Mov d r) fits has tt clean
+  paired_kept (i.Binary binary.Mul d r) fits has clean = refining_kept (i.Binary binary.Mul d r) fits has tt clean
+  paired_kept (i.St p r) fits has clean = moved_kept p r _ refl
+  paired_kept (i.Std b q r) fits has clean =
+      stored_kept (i.Std b q r) tt (kept_pointer true device words A (before (i.Std b q r) s) (base_register b) q (pointed (before (i.Std b q r) s) (base_register b) q) k.pc (next device k) (before (i.Std b q r) s) (value s r) (count (i.Std b q r)) (still false false))
+  paired_kept (i.Sts a r) fits has clean = stored_kept (i.Sts a r) tt (kept_written true device k.pc (at_word k (further device k 2)) (before (i.Sts a r) s) false a (value s r) (count (i.Sts a r)) (still false false))
+  paired_kept (i.Out a r) fits has clean = stored_kept (i.Out a r) tt (kept_written true device k.pc (next device k) (before (i.Out a r) s) true (port a) (value s r) (count (i.Out a r)) (still false false))
+  paired_kept (i.Cbi a b) fits has clean = stored_kept (i.Cbi a b) tt (kept_written true device k.pc (next device k) (before (i.Cbi a b) s) false (port a) _ (count (i.Cbi a b)) (still false false))
+  paired_kept (i.Sbi a b) fits has clean = stored_kept (i.Sbi a b) tt (kept_written true device k.pc (next device k) (before (i.Sbi a b) s) false (port a) _ (count (i.Sbi a b)) (still false false))
+  paired_kept instr fits has clean = refining_kept instr fits has tt clean
+
+-- ---- the node
+
+module _ {followed : Bool} (words : List ℕ) (A : List Entry) (k : NodeKey) (s : AbsState) (h : IsNodeIn followed k s) where
+  by_mode : (device : Device) (scratch : Bool) (instr : Instr) → InstrFits instr → HasRegisters instr → (f : Option PairFacts) → s.facts ≡ f
+      → (row_by f device words A scratch k s instr).faults ≡ [] → AllKept followed (row_by f device words A scratch k s instr)
+  by_mode device scratch instr fits has None e clean =
+      let mode : false ≡ followed = ap is_followed (sym e) ∙ h.mode in
+      subst (λ (b : Bool). AllKept b (row_by None device words A scratch k s instr)) mode (plain_kept device words A scratch k s e instr)
+  by_mode device scratch instr fits has (Some f) e clean =
+      let mode : true ≡ followed = ap is_followed (sym e) ∙ h.mode in
+      subst (λ (b : Bool). AllKept b (row_by (Some f) device words A scratch k s instr)) mode
+      (paired_kept device words A scratch k s (subst (λ (b : Bool). IsNodeIn b k s) (sym mode) h) f e instr fits has clean)
+
+  at_kept : (device : Device) (scratch : Bool) (x : Option Instr) → ((instr : Instr) → x ≡ Some instr → InstrFits instr) → ((instr : Instr) → x ≡ Some instr → HasRegisters instr)
+      → (row_at device words A scratch k s x).faults ≡ [] → AllKept followed (row_at device words A scratch k s x)
+  at_kept device scratch None fits has clean = kept_none followed
+  at_kept device scratch (Some instr) fits has clean = by_mode device scratch instr (fits instr refl) (has instr refl) s.facts refl clean
+
+  in_kept : (row_in (device_of words) words A k s).faults ≡ [] → AllKept followed (row_in (device_of words) words A k s)
+  in_kept clean =
+      at_kept (device_of words) (is_scratch words k.pc) (fetched (device_of words) words k.pc) (fetched_fits (device_of words) words k.pc) (fetched_has (device_of words) words k.pc) clean
+
+module _ {followed : Bool} (words : List ℕ) (A : List Entry) (k : NodeKey) (s : AbsState) (h : IsNodeIn followed k s) where
+  abbrev row_picked : ℕ → Raw
+  row_picked byte = picked_row (row_in (device_of words) words A) (picking k byte) (pick_cut byte s)
+
+  picked_by : (byte : ℕ) → byte < 256 → (x : Option AbsState) → pick_cut byte s ≡ x → (picked_row (row_in (device_of words) words A) (picking k byte) x).faults ≡ []
+      → AllKept followed (picked_row (row_in (device_of words) words A) (picking k byte) x)
+  picked_by byte small None e clean = kept_none followed
+  picked_by byte small (Some u) e clean = in_kept words A (picking k byte) u (picked_node k byte small s h u e) clean
+
+  several_kept : (xs : List ℕ) → ((x : ℕ) → Contains xs x → x < 256) → (all_of (map row_picked xs)).faults ≡ [] → AllKept followed (all_of (map row_picked xs))
+  several_kept [] small clean to j = absurd (none_in to j)
+  several_kept (x ∷ xs) small clean to j =
+      let none = both_empty (row_picked x).faults (all_of (map row_picked xs)).faults clean in
+      ⊎_elim (picked_by x (small x (first_in x xs)) (pick_cut x s) refl none.0 to) (several_kept xs (λ y m. small y (further_in x y xs m)) none.1 to)
+      (Contains-append_cases (row_picked x).moves (all_of (map row_picked xs)).moves to j)
+
+  splitting_kept : (jump : Option ℕ) → (splitting jump (row_in (device_of words) words A) k s).faults ≡ [] → AllKept followed (splitting jump (row_in (device_of words) words A) k s)
+  splitting_kept None clean = in_kept words A k s h clean
+  splitting_kept (Some jump) clean = by (nat_le (length (picks s)) 64) clean
+    where
+      by : (few : Bool) → (if few then all_of (map row_picked (picks s)) else fails (UnresolvedJump jump)).faults ≡ []
+          → AllKept followed (if few then all_of (map row_picked (picks s)) else fails (UnresolvedJump jump))
+      by true clean = several_kept (picks s) (λ x m. below_small 256 x (filter_within (may_be (value s 30)) (below 256) x m)) clean
+      by false clean = kept_none followed
+
+  untracked_kept : (b : Bool) (pc : ℕ) (r : Raw) → (r.faults ≡ [] → AllKept followed r) → (untracked_if b pc r).faults ≡ [] → AllKept followed (untracked_if b pc r)
+  untracked_kept true pc r all clean = absurd (cc)
+  untracked_kept false pc r all clean = all clean
+
+  deep_kept : (b : Bool) (pc offset : ℕ) (r : Raw) → (r.faults ≡ [] → AllKept followed r) → (too_deep_if b pc offset r).faults ≡ [] → AllKept followed (too_deep_if b pc offset r)
+  deep_kept true pc offset r all clean = absurd (cc)
+  deep_kept false pc offset r all clean = all clean
+
+  pub raw_kept : (raw words A k s).faults ≡ [] → AllKept followed (raw words A k s)
+  unfolding raw
+  raw_kept clean =
+      untracked_kept (is_hung (device_of words) A k k.sp) k.pc _
+      (deep_kept (nat_lt (size_of (device_of words)) (offset_of k.sp)) k.pc (offset_of k.sp) _ (splitting_kept (split_site words A k.pc k.pick))) clean

@@ -1,0 +1,22 @@
+-- What a step leads to, where what was known of pairs holds once the instruction has set its registers and flags.
+use Rattle.std.proofs.Common.{ℕ, Bool, Option}
+use Rattle.avr_model.specs.declared.effect.Effect.{Effect}
+use Rattle.avr_model.specs.State.{State}
+use Rattle.avr_model.specs.Step.{with_registers}
+use Rattle.sp_domain.specs.Tags.{Origin}
+use Rattle.pair_domain.specs.declared.facts.PairFacts.{PairFacts}
+use Rattle.abs_state.specs.Laws.{HoldsAt}
+use Rattle.mask_states.specs.declared.keys.NodeKey.{NodeKey}
+use Rattle.local_rules.specs.declared.local.Node.{Node}
+use Rattle.local_rules.specs.Raw.{Raw}
+use Rattle.local_rules.specs.Cover as cover
+
+-- what is known of pairs holds before a byte is stored
+abbrev pub Held : State → Option PairFacts → Effect → Type 0
+Held m x e = HoldsAt x (with_registers m.registers e.registers) e.sreg
+
+pub record ArrivesAt (m : State) (o : Origin) (x : Option PairFacts) (guarded : Bool) (e : Effect) (to : Node) : Type 0 where
+  pub lands : Held m x e → cover.ArrivesAt m o guarded e to
+
+pub record Follows (m : State) (o : Origin) (x : Option PairFacts) (k : NodeKey) (guarded : Bool) (b1 b2 : ℕ) (e : Effect) (r : Raw) : Type 0 where
+  pub leads : Held m x e → cover.Follows m o k guarded b1 b2 e r
