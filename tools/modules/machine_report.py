@@ -5,9 +5,13 @@ import json
 from habits import version
 
 
+def cause(it):
+    return {"protected": [f"{address:04X}" for address in sorted(it.addresses)], "more": it.more, "live": it.live, "transfer": it.transfer}
+
+
 def place(it):
     return {"source": it.path, "line": it.source[1] if it.source else None, "title": it.title, "text": it.code, "words": [f"{word:04X}" for word in it.words],
-            "judged": it.judged.why if it.judged else None}
+            "may": cause(it.cause), "closed_by": it.closers, "judged": it.judged.why if it.judged else None}
 
 
 def versions(outcome):

@@ -3,6 +3,7 @@
 import json
 import os
 
+import causes
 import cures
 from opcodes import jump_target
 from debug_lines import Lines
@@ -29,7 +30,7 @@ class Outcome:
         self.lines = Lines(elf, path)
         self.refusal = self.certificate = self.flagged = self.seen = None
         self.spec, self.assumed, self.written, self.cure_lines = "", "", [], []
-        self.rests_on, self.chain, self.places = [], [], None
+        self.rests_on, self.chain, self.places, self.causes, self.closers = [], [], None, {}, {}
         self.keeps, self.rule = True, ""
 
     def place(self, word):
@@ -115,11 +116,13 @@ def tell_premises(outcome, program, certificate):
         if kind != "frame":  # which is no assumption
             outcome.rests_on.append(f"assumed: {line}, at {outcome.place_of_line(kind, int(word, 16))}")
     outcome.rests_on += assumed_here(outcome)
-    lines = program.lines("premises", certificate)
+    lines = program.lines("premises", certificate, "--why")
+    if lines is None:
+        lines = program.lines("premises", certificate)
     if lines is None:
         outcome.rests_on.append("This stackbound doesn't list the places where a step may be flagged; the tool `flagged` finds some.")
         return
-    outcome.places = lines[1:]
+    outcome.places, outcome.causes = lines[1:], causes.by_word(lines[1:])
 
 
 def accept(outcome, program, certificate, text):
@@ -163,7 +166,7 @@ def judge(words, folder):
     witness = accept(outcome, program, certificate, work.certificate)
     if not words.no_attain:
         attain(outcome, program, certificate, witness)
-    for command in (("report", certificate, "--json"), ("explain", certificate), ("premises", certificate)):
+    for command in (("report", certificate, "--json"), ("explain", certificate), ("premises", certificate, "--why")):
         program.begin(*command)
     try:
         tell_bound(outcome, program, certificate, words)
@@ -171,4 +174,5 @@ def judge(words, folder):
         tell_premises(outcome, program, certificate)
     finally:
         program.end()
+    outcome.closers = causes.closers(outcome, work, outcome.causes, folder)
     return outcome

@@ -107,7 +107,7 @@ def needs_table(outcome):
 def place_row(it):
     where = f"<b>{escape(it.where().rstrip(': '))}</b> in {escape(it.title)}" if it.source else escape(it.title)
     code = f"<code>{escape(it.code)}</code>" if it.code else ""
-    why = f'<div class="soft">judged: {escape(it.judged.why)}</div>' if it.judged else ""
+    why = f'<div class="soft">judged: {escape(it.judged.why)}</div>' if it.judged else "".join(f'<div class="soft">{with_code(told)}</div>' for told in it.why())
     return (f'<tr><td class="mark"><i style="background:{GREEN if it.judged else AMBER}"></i></td><td class="name">{where}</td><td>{code}{why}</td>'
             f'<td class="soft">{escape(it.count()) if it.words else ""}</td></tr>')
 

@@ -4,6 +4,7 @@ import os
 
 import debug_lines
 import sites
+from causes import Cause
 from elf import CODE_END, SRAM
 from names import shown
 from spec import START_UP
@@ -15,10 +16,12 @@ XL, XH = 26, 27
 
 
 class Place:
-    """One entry: `title` (what it is), its source (path and line, or None), the text of that line, its words, and the line that judges it."""
+    """One entry: `title` (what it is), its source (path and line, or None), the text of that line, its words, what may happen there with the lines of
+    a spec that close it, and the line that judges it."""
 
     def __init__(self, key, title, source=None):
         self.key, self.title, self.source, self.words, self.judged = key, title, source, [], None
+        self.cause, self.closers = Cause(), []
         self.path = readable(source[0]) if source else None
         self.code = line_of(self.path, source[1]) if source else None
 
@@ -29,6 +32,12 @@ class Place:
     def where(self):
         """`path:line: ` of a source place, and nothing of another."""
         return f"{self.path}:{self.source[1]}: " if self.source else ""
+
+    def why(self):
+        """Yields what may happen there, and the lines that close it."""
+        if self.cause:
+            yield str(self.cause)
+        yield from (f"closed by: {it}" for it in self.closers)
 
     def __str__(self):
         code = f"`{self.code}`, " if self.code else ""
@@ -97,6 +106,14 @@ def entry_of(outcome, word, found):
     return found.setdefault(name, Place(name, what))
 
 
+def put(outcome, entry, word):
+    """Notes a word and what may happen there in its entry."""
+    entry.words.append(word)
+    entry.cause.join(outcome.causes.get(word, Cause()))
+    if word in outcome.closers:
+        entry.closers.append(outcome.closers[word])
+
+
 def entries(outcome):
     """The entries of what `premises` lists, in the order of their first words."""
     found = {}
@@ -106,7 +123,7 @@ def entries(outcome):
             vector = outcome.handler(outcome.device.vector_at(int(word, 16)))
             found[vector] = Place(vector, f"{vector}: a `never` line says that it isn't entered")
         elif kind == "at":
-            entry_of(outcome, int(word, 16), found).words.append(int(word, 16))
+            put(outcome, entry_of(outcome, int(word, 16), found), int(word, 16))
         else:
             found[line] = Place(line, line)
     return list(found.values())
@@ -152,7 +169,9 @@ def told(outcome):
     left, judged = unjudged(outcome), [it for it in outcome.entries if it.judged]
     count = len(outcome.places)
     yield f"places where a step may be flagged: {count}" + (f", in {len(outcome.entries)} entries" if len(outcome.entries) > 1 else "")
-    yield from (str(it) for it in left)
+    for it in left:
+        yield str(it)
+        yield from (f"  {why}" for why in it.why())
     if judged:
         yield f"judged by the spec: {len(judged)}"
         yield from (f"{it}; {it.judged.why}" for it in judged)

@@ -13,8 +13,8 @@ use Rattle.clap.specs.Walk.{Held, Row, has_row, without, with_values, used, used
 use Rattle.clap.specs.Takes.{use_passes, settle_passes, react_passes, positional_passes, default_passes, is_valid, is_given}
 use Rattle.commands.specs.declared.line.Valued.{Valued}
 use Rattle.commands.specs.declared.line.Valued.TheVariants.{Assume, Steps, Device, Trials}
-use Rattle.commands.specs.Commands.{Line, named, waiting, with_value, with_json}
-use Rattle.clap_words.proofs.Pieces.{Piece, Named, Given, Marked, option_name, all_added, value_of, valued, gets, marks, same_value, Stays, stays, some_is}
+use Rattle.commands.specs.Commands.{Line, named, waiting, with_value}
+use Rattle.clap_words.proofs.Pieces.{Piece, Named, Given, Marked, Mark, Json, Why, option_name, mark_name, all_added, value_of, valued, is_marked, marked, with_mark, gets, marks, same_value, same_mark, same_marks, Stays, stays, some_is}
 use Rattle.clap_words.proofs.Steps.{goes, final, begun, name_goes, value_goes, option_goes, flag_goes}
 use Rattle.clap_words.proofs.Rows.{is_explicit, new_row, has_row_end, explicit_end, is_given_here, finally_given}
 
@@ -69,27 +69,27 @@ pub record IsFlag (s : Shape) (name : Text) : Type 0 where
 pub record Allows : Type 0 where
   pub second : Bool
   pub given : Valued → Bool
-  pub json : Bool
+  pub marked : Mark → Bool
 
 -- the level has them; the first name has this id
 pub record IsLevel (s : Shape) (w : Allows) (id : Text) : Type 0 where
   pub first : IsPositional s 1 id
   pub second : w.second ≡ true → IsPositional s 2 (codes "second")
   pub given : (v : Valued) → w.given v ≡ true → IsOption s (option_name v)
-  pub json : w.json ≡ true → IsFlag s (codes "json")
+  pub marked : (m : Mark) → w.marked m ≡ true → IsFlag s (mark_name m)
   pub defaults : list_all default_passes s.rules ≡ true
   pub valid : (rows : List Row) → is_given id rows ≡ true → (w.second ≡ true → is_given (codes "second") rows ≡ true) → is_valid s rows false ≡ true
   pub same : bytes_eq id id ≡ true
   pub of_second : (bytes_eq id (codes "second") ≡ false) × (bytes_eq (codes "second") id ≡ false)
   pub of_given : (v : Valued) → (bytes_eq id (option_name v) ≡ false) × (bytes_eq (option_name v) id ≡ false)
-  pub of_json : (bytes_eq id (codes "json") ≡ false) × (bytes_eq (codes "json") id ≡ false)
+  pub of_marked : (m : Mark) → (bytes_eq id (mark_name m) ≡ false) × (bytes_eq (mark_name m) id ≡ false)
 
 -- the line has what the command wants, and nothing else
 pub record IsWanted (w : Allows) (l : Line) : Type 0 where
   pub first : is_some l.first ≡ true
   pub second : is_some l.second ≡ w.second
   pub given : (v : Valued) → is_some (value_of v l) ≡ true → w.given v ≡ true
-  pub json : l.json ≡ true → w.json ≡ true
+  pub marked : (m : Mark) → is_marked m l ≡ true → w.marked m ≡ true
 
 -- ---- what is found is what stands on the line
 
@@ -97,7 +97,7 @@ pub record Shows (id : Text) (line : Line) (rows : List Row) : Type 0 where
   pub first : has_row id rows ≡ is_some line.first
   pub second : has_row (codes "second") rows ≡ is_some line.second
   pub given : (v : Valued) → has_row (option_name v) rows ≡ is_some (value_of v line)
-  pub json : has_row (codes "json") rows ≡ line.json
+  pub marked : (m : Mark) → has_row (mark_name m) rows ≡ is_marked m line
   pub explicit : list_all is_explicit rows ≡ true
   pub order : is_some line.second ≡ true → is_some line.first ≡ true
 
@@ -113,16 +113,13 @@ with_first line word = record line { first = Some word }
 abbrev with_second : Line → Text → Line
 with_second line word = record line { second = Some word }
 
-abbrev with_flag : Line → Line
-with_flag line = record line { json = true }
-
 module _ (s : Shape) (w : Allows) (id : Text) (level : IsLevel s w id) where
   shows_first : (line : Line) (word : Text) (rows : List Row) (how : Reading) → Shows id line rows → Shows id (with_first line word) (rows ++ row id how (word ∷ []) ∷ [])
   shows_first line word rows how k = record {
     first = gains id (row id how (word ∷ [])) rows level.same;
     second = keeps (codes "second") (row id how (word ∷ [])) rows _ k.second level.of_second.0;
     given = λ v. keeps (option_name v) (row id how (word ∷ [])) rows _ (k.given v) (level.of_given v).0 ∙ ap is_some (sym (same_value v line (with_first line word) refl refl refl refl));
-    json = keeps (codes "json") (row id how (word ∷ [])) rows _ k.json level.of_json.0;
+    marked = λ m. keeps (mark_name m) (row id how (word ∷ [])) rows _ (k.marked m) (level.of_marked m).0 ∙ sym (same_mark m line (with_first line word) refl refl);
     explicit = explicit_end (row id how (word ∷ [])) rows k.explicit refl;
     order = λ h. refl;
   }
@@ -133,31 +130,62 @@ module _ (s : Shape) (w : Allows) (id : Text) (level : IsLevel s w id) where
   second_is_none Device = refl
   second_is_none Trials = refl
 
+  second_is_no_mark : (m : Mark) → bytes_eq (codes "second") (mark_name m) ≡ false
+  second_is_no_mark Json = refl
+  second_is_no_mark Why = refl
+
   shows_second : (line : Line) (word : Text) (rows : List Row) (how : Reading) → is_some line.first ≡ true → Shows id line rows
       → Shows id (with_second line word) (rows ++ row (codes "second") how (word ∷ []) ∷ [])
   shows_second line word rows how there k = record {
     first = keeps id (row (codes "second") how (word ∷ [])) rows _ k.first level.of_second.1;
     second = gains (codes "second") (row (codes "second") how (word ∷ [])) rows refl;
     given = λ v. keeps (option_name v) (row (codes "second") how (word ∷ [])) rows _ (k.given v) (second_is_none v) ∙ ap is_some (sym (same_value v line (with_second line word) refl refl refl refl));
-    json = keeps (codes "json") (row (codes "second") how (word ∷ [])) rows _ k.json refl;
+    marked = λ m. keeps (mark_name m) (row (codes "second") how (word ∷ [])) rows _ (k.marked m) (second_is_no_mark m) ∙ sym (same_mark m line (with_second line word) refl refl);
     explicit = explicit_end (row (codes "second") how (word ∷ [])) rows k.explicit refl;
     order = λ h. there;
   }
 
-  json_is_none : (v : Valued) → bytes_eq (codes "json") (option_name v) ≡ false
-  json_is_none Assume = refl
-  json_is_none Steps = refl
-  json_is_none Device = refl
-  json_is_none Trials = refl
+  mark_is_none : (m : Mark) (v : Valued) → bytes_eq (mark_name m) (option_name v) ≡ false
+  mark_is_none Json Assume = refl
+  mark_is_none Json Steps = refl
+  mark_is_none Json Device = refl
+  mark_is_none Json Trials = refl
+  mark_is_none Why Assume = refl
+  mark_is_none Why Steps = refl
+  mark_is_none Why Device = refl
+  mark_is_none Why Trials = refl
 
-  shows_json : (line : Line) (rows : List Row) (how : Reading) (values : List Text) → Shows id line rows → Shows id (with_flag line) (rows ++ row (codes "json") how values ∷ [])
-  shows_json line rows how values k = record {
-    first = keeps id (row (codes "json") how values) rows _ k.first level.of_json.1;
-    second = keeps (codes "second") (row (codes "json") how values) rows _ k.second refl;
-    given = λ v. keeps (option_name v) (row (codes "json") how values) rows _ (k.given v) (json_is_none v) ∙ ap is_some (sym (same_value v line (with_flag line) refl refl refl refl));
-    json = gains (codes "json") (row (codes "json") how values) rows refl;
-    explicit = explicit_end (row (codes "json") how values) rows k.explicit refl;
-    order = k.order;
+  mark_is_no_second : (m : Mark) → bytes_eq (mark_name m) (codes "second") ≡ false
+  mark_is_no_second Json = refl
+  mark_is_no_second Why = refl
+
+  marked_first : (m : Mark) (line : Line) → (marked m line).first ≡ line.first
+  marked_first Json line = refl
+  marked_first Why line = refl
+
+  marked_second : (m : Mark) (line : Line) → (marked m line).second ≡ line.second
+  marked_second Json line = refl
+  marked_second Why line = refl
+
+  marked_value : (m : Mark) (v : Valued) (line : Line) → value_of v line ≡ value_of v (marked m line)
+  marked_value Json v line = sym (same_value v line (marked Json line) refl refl refl refl)
+  marked_value Why v line = sym (same_value v line (marked Why line) refl refl refl refl)
+
+  one_marked : (m k : Mark) (line : Line) (rows : List Row) (how : Reading) (values : List Text) → has_row (mark_name k) rows ≡ is_marked k line
+      → has_row (mark_name k) (rows ++ row (mark_name m) how values ∷ []) ≡ is_marked k (marked m line)
+  one_marked Json Json line rows how values h = gains (mark_name Json) (row (mark_name Json) how values) rows refl
+  one_marked Json Why line rows how values h = keeps (mark_name Why) (row (mark_name Json) how values) rows _ h refl
+  one_marked Why Json line rows how values h = keeps (mark_name Json) (row (mark_name Why) how values) rows _ h refl
+  one_marked Why Why line rows how values h = gains (mark_name Why) (row (mark_name Why) how values) rows refl
+
+  shows_marked : (m : Mark) (line : Line) (rows : List Row) (how : Reading) (values : List Text) → Shows id line rows → Shows id (marked m line) (rows ++ row (mark_name m) how values ∷ [])
+  shows_marked m line rows how values k = record {
+    first = keeps id (row (mark_name m) how values) rows _ k.first (level.of_marked m).1 ∙ ap is_some (sym (marked_first m line));
+    second = keeps (codes "second") (row (mark_name m) how values) rows _ k.second (mark_is_no_second m) ∙ ap is_some (sym (marked_second m line));
+    given = λ v. keeps (option_name v) (row (mark_name m) how values) rows _ (k.given v) (mark_is_none m v) ∙ ap is_some (marked_value m v line);
+    marked = λ n. one_marked m n line rows how values (k.marked n);
+    explicit = explicit_end (row (mark_name m) how values) rows k.explicit refl;
+    order = λ h. ap is_some (marked_first m line) ∙ k.order (ap is_some (sym (marked_second m line)) ∙ h);
   }
 
   -- of one option's row and another's
@@ -192,30 +220,28 @@ module _ (s : Shape) (w : Allows) (id : Text) (level : IsLevel s w id) where
   same_second Device line word = refl
   same_second Trials line word = refl
 
-  same_json : (v : Valued) (line : Line) (word : Text) → (valued v line word).json ≡ line.json
-  same_json Assume line word = refl
-  same_json Steps line word = refl
-  same_json Device line word = refl
-  same_json Trials line word = refl
-
   none_is_second : (v : Valued) → bytes_eq (option_name v) (codes "second") ≡ false
   none_is_second Assume = refl
   none_is_second Steps = refl
   none_is_second Device = refl
   none_is_second Trials = refl
 
-  none_is_json : (v : Valued) → bytes_eq (option_name v) (codes "json") ≡ false
-  none_is_json Assume = refl
-  none_is_json Steps = refl
-  none_is_json Device = refl
-  none_is_json Trials = refl
+  none_is_mark : (v : Valued) (m : Mark) → bytes_eq (option_name v) (mark_name m) ≡ false
+  none_is_mark Assume Json = refl
+  none_is_mark Assume Why = refl
+  none_is_mark Steps Json = refl
+  none_is_mark Steps Why = refl
+  none_is_mark Device Json = refl
+  none_is_mark Device Why = refl
+  none_is_mark Trials Json = refl
+  none_is_mark Trials Why = refl
 
   shows_given : (v : Valued) (line : Line) (word : Text) (rows : List Row) (how : Reading) → Shows id line rows → Shows id (valued v line word) (rows ++ row (option_name v) how (word ∷ []) ∷ [])
   shows_given v line word rows how k = record {
     first = keeps id (row (option_name v) how (word ∷ [])) rows _ k.first (level.of_given v).1 ∙ ap is_some (sym (same_first v line word));
     second = keeps (codes "second") (row (option_name v) how (word ∷ [])) rows _ k.second (none_is_second v) ∙ ap is_some (sym (same_second v line word));
     given = λ u. one_more v u line word rows how (k.given u);
-    json = keeps (codes "json") (row (option_name v) how (word ∷ [])) rows _ k.json (none_is_json v) ∙ sym (same_json v line word);
+    marked = λ m. keeps (mark_name m) (row (option_name v) how (word ∷ [])) rows _ (k.marked m) (none_is_mark v m) ∙ sym (same_marks v m line word);
     explicit = explicit_end (row (option_name v) how (word ∷ [])) rows k.explicit refl;
     order = λ h. ap is_some (same_first v line word) ∙ k.order (ap is_some (sym (same_second v line word)) ∙ h);
   }
@@ -325,21 +351,25 @@ module _ (s : Shape) (w : Allows) (id : Text) (level : IsLevel s w id) where
           has_it Device = refl
           has_it Trials = refl
 
-  marked_goes : (ps : List Piece) → Goes ps → (line l : Line) (h : Held) → settles s h ≡ true → Shows id line (rows_at s h)
-      → all_added (with_json line) ps ≡ Some l → IsWanted w l → goes s h (position line.first line.second) (Marked ∷ ps) ≡ true
+  marked_goes : (ps : List Piece) → Goes ps → (m : Mark) (line l : Line) (h : Held) → settles s h ≡ true → Shows id line (rows_at s h)
+      → all_added (with_mark m line) ps ≡ Some l → IsWanted w l → goes s h (position line.first line.second) (Marked m ∷ ps) ≡ true
   unfolding Goes goes
-  marked_goes ps go line l h e k all n = by (with_json line) refl all where
-    by : (o : Option Line) → with_json line ≡ o → all_added o ps ≡ Some l → goes s h (position line.first line.second) (Marked ∷ ps) ≡ true
+  marked_goes ps go m line l h e k all n = by (with_mark m line) refl all where
+    by : (o : Option Line) → with_mark m line ≡ o → all_added o ps ≡ Some l → goes s h (position line.first line.second) (Marked m ∷ ps) ≡ true
     by None is all = absurd (none-some l all)
     by (Some next) is all =
-        let on : all_added (Some (with_flag line)) ps ≡ Some l = subst (λ (x : Line). all_added (Some x) ps ≡ Some l) (marks line next is).is all in
-        let p : IsFlag s (codes "json") = level.json (n.json ((stays ps (with_flag line) l on).json refl)) in
-        flag_goes_on (codes "json") p h (λ k. goes s k (position line.first line.second) ps) e (k.json ∙ (marks line next is).had)
-        (λ m me mr. go (with_flag line) l m me (subst (Shows id (with_flag line)) (sym mr) (shows_json line (rows_at s h) p.how p.values k)) on n)
+        let on : all_added (Some (marked m line)) ps ≡ Some l = subst (λ (x : Line). all_added (Some x) ps ≡ Some l) (marks m line next is).is all in
+        let p : IsFlag s (mark_name m) = level.marked m (n.marked m ((stays ps (marked m line) l on).marked m (there m))) in
+        flag_goes_on (mark_name m) p h (λ k. goes s k (position line.first line.second) ps) e (k.marked m ∙ (marks m line next is).had)
+        (λ q me mr. ap₂ (λ (x y : Option Text). goes s q (position x y) ps) (sym (marked_first m line)) (sym (marked_second m line))
+        ∙ go (marked m line) l q me (subst (Shows id (marked m line)) (sym mr) (shows_marked m line (rows_at s h) p.how p.values k)) on n) where
+          there : (m : Mark) → is_marked m (marked m line) ≡ true
+          there Json = refl
+          there Why = refl
 
   pub goes_on : (ps : List Piece) (line l : Line) (h : Held) → settles s h ≡ true → Shows id line (rows_at s h) → all_added (Some line) ps ≡ Some l → IsWanted w l → goes s h (position line.first line.second) ps ≡ true
   unfolding Goes goes
   goes_on [] line l h e k all n = ends line h e k (subst (IsWanted w) (sym (some_is line l all)) n)
   goes_on (Named b bs ∷ ps) line l h e k all n = name_goes_by ps (goes_on ps) b bs line l h line.first line.second refl refl e k all n
   goes_on (Given v b bs ∷ ps) line l h e k all n = given_goes ps (goes_on ps) v b bs line l h e k all n
-  goes_on (Marked ∷ ps) line l h e k all n = marked_goes ps (goes_on ps) line l h e k all n
+  goes_on (Marked m ∷ ps) line l h e k all n = marked_goes ps (goes_on ps) m line l h e k all n

@@ -6,13 +6,18 @@ use Rattle.std.proofs.lemmas.Slice.Eq.{bytes_eq-Decides}
 use Rattle.std.proofs.lemmas.Option.{none-some}
 use Rattle.commands.specs.declared.line.Valued.{Valued}
 use Rattle.commands.specs.declared.line.Valued.TheVariants.{Assume, Steps, Device, Trials}
-use Rattle.commands.specs.Commands.{Line, is_name, once, with_assume, with_steps, with_device, with_trials, with_value, with_json, named, waiting, with_free, placed, then_words}
+use Rattle.commands.specs.Commands.{Line, is_name, once, with_assume, with_steps, with_device, with_trials, with_value, with_json, with_why, named, waiting, with_free, placed, then_words}
 
--- a name, an option with its value, and the option without one; texts by their first byte
+-- an option that takes no word
+pub data Mark : Type 0 where
+  Json : Mark
+  Why : Mark
+
+-- a name, an option with its value, and one without; texts by their first byte
 pub data Piece : Type 0 where
   Named : ℕ → List ℕ → Piece
   Given : Valued → ℕ → List ℕ → Piece
-  Marked : Piece
+  Marked : Mark → Piece
 
 -- the name of an option that takes the next word, and how it is written
 abbrev pub option_name : Valued → List ℕ
@@ -27,10 +32,19 @@ spelled Steps = codes "--steps"
 spelled Device = codes "--device"
 spelled Trials = codes "--trials"
 
+-- the same of one that takes none
+abbrev pub mark_name : Mark → List ℕ
+mark_name Json = codes "json"
+mark_name Why = codes "why"
+
+abbrev pub mark_spelled : Mark → List ℕ
+mark_spelled Json = codes "--json"
+mark_spelled Why = codes "--why"
+
 abbrev pub words_of : Piece → List (List ℕ)
 words_of (Named b bs) = (b ∷ bs) ∷ []
 words_of (Given v b bs) = spelled v ∷ (b ∷ bs) ∷ []
-words_of Marked = codes "--json" ∷ []
+words_of (Marked m) = mark_spelled m ∷ []
 
 abbrev pub all_words : List Piece → List (List ℕ)
 all_words [] = []
@@ -40,16 +54,20 @@ all_words (p ∷ ps) = words_of p ++ all_words ps
 abbrev pub IsFit : Piece → Type 0
 IsFit (Named b bs) = (b == 45) ≡ false
 IsFit (Given v b bs) = (b == 45) ≡ false
-IsFit Marked = ⊤
+IsFit (Marked m) = ⊤
 
 abbrev pub AreFit : List Piece → Type 0
 AreFit [] = ⊤
 AreFit (p ∷ ps) = IsFit p × AreFit ps
 
+abbrev pub with_mark : Mark → Line → Option Line
+with_mark Json line = with_json line
+with_mark Why line = with_why line
+
 abbrev pub added : Line → Piece → Option Line
 added line (Named b bs) = named line.first line.second line (b ∷ bs)
 added line (Given v b bs) = with_value v (waiting line v) (b ∷ bs)
-added line Marked = with_json line
+added line (Marked m) = with_mark m line
 
 abbrev pub all_added : Option Line → List Piece → Option Line
 all_added None ps = None
@@ -74,6 +92,15 @@ valued Steps line word = record line { steps = Some word; waits = None }
 valued Device line word = record line { device = Some word; waits = None }
 valued Trials line word = record line { trials = Some word; waits = None }
 
+-- whether an option is there, and the line with it
+abbrev pub is_marked : Mark → Line → Bool
+is_marked Json line = line.json
+is_marked Why line = line.why
+
+abbrev pub marked : Mark → Line → Line
+marked Json line = record line { json = true }
+marked Why line = record line { why = true }
+
 -- an option that gets a value had none
 pub record Gets (v : Valued) (line next : Line) (word : List ℕ) : Type 0 where
   pub had : value_of v line ≡ None
@@ -97,15 +124,21 @@ gets Trials line next word e = by line.trials refl e where
   by None is e = record { had = is; is = sym (some_is (valued Trials line word) next e) }
   by (Some x) is e = absurd (none-some next e)
 
-pub record Marks (line next : Line) : Type 0 where
-  pub had : line.json ≡ false
-  pub is : next ≡ record line { json = true }
+pub record Marks (m : Mark) (line next : Line) : Type 0 where
+  pub had : is_marked m line ≡ false
+  pub is : next ≡ marked m line
 
-pub marks : (line next : Line) → with_json line ≡ Some next → Marks line next
-marks line next e = by line.json refl e where
-  by : (b : Bool) → line.json ≡ b → cond b None (Some (record line { json = true })) ≡ Some next → Marks line next
-  by true is e = absurd (none-some next e)
-  by false is e = record { had = is; is = sym (some_is (record line { json = true }) next e) }
+marks_by : (m : Mark) (line next : Line) (b : Bool) → is_marked m line ≡ b → cond b None (Some (marked m line)) ≡ Some next → Marks m line next
+marks_by m line next true is e = absurd (none-some next e)
+marks_by m line next false is e = record { had = is; is = sym (some_is (marked m line) next e) }
+
+pub marks : (m : Mark) (line next : Line) → with_mark m line ≡ Some next → Marks m line next
+marks Json line next e = marks_by Json line next line.json refl e
+marks Why line next e = marks_by Why line next line.why refl e
+
+mark_rests : (m : Mark) (line : Line) → (marked m line).waits ≡ line.waits
+mark_rests Json line = refl
+mark_rests Why line = refl
 
 -- no option waits on a line, and none does after a piece
 value_rests : (v : Valued) (line : Line) (word : List ℕ) → (valued v line word).waits ≡ None
@@ -122,7 +155,7 @@ named_rests (Some x) (Some y) line next word e h = absurd (none-some next e)
 added_rests : (line next : Line) (p : Piece) → added line p ≡ Some next → line.waits ≡ None → next.waits ≡ None
 added_rests line next (Named b bs) e h = named_rests line.first line.second line next (b ∷ bs) e h
 added_rests line next (Given v b bs) e h = ap (λ (x : Line). x.waits) (gets v line next (b ∷ bs) e).is ∙ value_rests v line (b ∷ bs)
-added_rests line next Marked e h = ap (λ (x : Line). x.waits) (marks line next e).is ∙ h
+added_rests line next (Marked m) e h = ap (λ (x : Line). x.waits) (marks m line next e).is ∙ mark_rests m line ∙ h
 
 -- ---- cutting
 
@@ -183,8 +216,11 @@ module _ (l : Line) (whole : l.waits ≡ None) (n : ℕ) (go : Cuts l n) where
   abbrev else_name : Line → List ℕ → Option Line
   else_name line w = cond (is_name w) (named line.first line.second line w) None
 
+  abbrev else_why : Line → List ℕ → Option Line
+  else_why line w = cond (bytes_eq w (codes "--why")) (with_why line) (else_name line w)
+
   abbrev else_json : Line → List ℕ → Option Line
-  else_json line w = cond (bytes_eq w (codes "--json")) (with_json line) (else_name line w)
+  else_json line w = cond (bytes_eq w (codes "--json")) (with_json line) (else_why line w)
 
   abbrev else_trials : Line → List ℕ → Option Line
   else_trials line w = cond (bytes_eq w (codes "--trials")) (Some (waiting line Trials)) (else_json line w)
@@ -195,11 +231,17 @@ module _ (l : Line) (whole : l.waits ≡ None) (n : ℕ) (go : Cuts l n) where
   abbrev else_steps : Line → List ℕ → Option Line
   else_steps line w = cond (bytes_eq w (codes "--steps")) (Some (waiting line Steps)) (else_device line w)
 
+  cut_why : (w : List ℕ) (ws : List (List ℕ)) (line : Line) → line.waits ≡ None → length ws ≤ n → then_words (else_why line w) ws ≡ Some l → Cut line (w ∷ ws) l
+  cut_why w ws line rests le e = by (bytes_eq w (codes "--why")) refl e where
+    by : (b : Bool) → bytes_eq w (codes "--why") ≡ b → then_words (cond b (with_why line) (else_name line w)) ws ≡ Some l → Cut line (w ∷ ws) l
+    by true is e = cut_piece (Marked Why) (w ∷ ws) ws line rests le (ap (λ (x : List ℕ). x ∷ ws) (is_text w (codes "--why") is)) tt e
+    by false is e = cut_name w ws line rests le e
+
   cut_json : (w : List ℕ) (ws : List (List ℕ)) (line : Line) → line.waits ≡ None → length ws ≤ n → then_words (else_json line w) ws ≡ Some l → Cut line (w ∷ ws) l
   cut_json w ws line rests le e = by (bytes_eq w (codes "--json")) refl e where
-    by : (b : Bool) → bytes_eq w (codes "--json") ≡ b → then_words (cond b (with_json line) (else_name line w)) ws ≡ Some l → Cut line (w ∷ ws) l
-    by true is e = cut_piece Marked (w ∷ ws) ws line rests le (ap (λ (x : List ℕ). x ∷ ws) (is_text w (codes "--json") is)) tt e
-    by false is e = cut_name w ws line rests le e
+    by : (b : Bool) → bytes_eq w (codes "--json") ≡ b → then_words (cond b (with_json line) (else_why line w)) ws ≡ Some l → Cut line (w ∷ ws) l
+    by true is e = cut_piece (Marked Json) (w ∷ ws) ws line rests le (ap (λ (x : List ℕ). x ∷ ws) (is_text w (codes "--json") is)) tt e
+    by false is e = cut_why w ws line rests le e
 
   cut_trials : (w : List ℕ) (ws : List (List ℕ)) (line : Line) → line.waits ≡ None → length ws ≤ n → then_words (else_trials line w) ws ≡ Some l → Cut line (w ∷ ws) l
   cut_trials w ws line rests le e = by (bytes_eq w (codes "--trials")) refl e where
@@ -243,10 +285,10 @@ pub record Stays (line l : Line) : Type 0 where
   pub first : is_some line.first ≡ true → is_some l.first ≡ true
   pub second : is_some line.second ≡ true → is_some l.second ≡ true
   pub given : (v : Valued) → is_some (value_of v line) ≡ true → is_some (value_of v l) ≡ true
-  pub json : line.json ≡ true → l.json ≡ true
+  pub marked : (m : Mark) → is_marked m line ≡ true → is_marked m l ≡ true
 
 itself : (l : Line) → Stays l l
-itself l = record { first = λ h. h; second = λ h. h; given = λ v h. h; json = λ h. h }
+itself l = record { first = λ h. h; second = λ h. h; given = λ v h. h; marked = λ m h. h }
 
 value_stays : (v u : Valued) (line : Line) (word : List ℕ) → is_some (value_of u line) ≡ true → is_some (value_of u (valued v line word)) ≡ true
 value_stays Assume Assume line word h = refl
@@ -266,11 +308,24 @@ value_stays Trials Steps line word h = h
 value_stays Trials Device line word h = h
 value_stays Trials Trials line word h = refl
 
+pub same_marks : (v : Valued) (m : Mark) (line : Line) (word : List ℕ) → is_marked m (valued v line word) ≡ is_marked m line
+same_marks Assume Json line word = refl
+same_marks Assume Why line word = refl
+same_marks Steps Json line word = refl
+same_marks Steps Why line word = refl
+same_marks Device Json line word = refl
+same_marks Device Why line word = refl
+same_marks Trials Json line word = refl
+same_marks Trials Why line word = refl
+
+value_marks : (v : Valued) (m : Mark) (line : Line) (word : List ℕ) → is_marked m line ≡ true → is_marked m (valued v line word) ≡ true
+value_marks v m line word h = same_marks v m line word ∙ h
+
 others_stay : (v : Valued) (line : Line) (word : List ℕ) → Stays line (valued v line word)
-others_stay Assume line word = record { first = λ h. h; second = λ h. h; given = λ u h. value_stays Assume u line word h; json = λ h. h }
-others_stay Steps line word = record { first = λ h. h; second = λ h. h; given = λ u h. value_stays Steps u line word h; json = λ h. h }
-others_stay Device line word = record { first = λ h. h; second = λ h. h; given = λ u h. value_stays Device u line word h; json = λ h. h }
-others_stay Trials line word = record { first = λ h. h; second = λ h. h; given = λ u h. value_stays Trials u line word h; json = λ h. h }
+others_stay Assume line word = record { first = λ h. h; second = λ h. h; given = λ u h. value_stays Assume u line word h; marked = λ m h. value_marks Assume m line word h }
+others_stay Steps line word = record { first = λ h. h; second = λ h. h; given = λ u h. value_stays Steps u line word h; marked = λ m h. value_marks Steps m line word h }
+others_stay Device line word = record { first = λ h. h; second = λ h. h; given = λ u h. value_stays Device u line word h; marked = λ m h. value_marks Device m line word h }
+others_stay Trials line word = record { first = λ h. h; second = λ h. h; given = λ u h. value_stays Trials u line word h; marked = λ m h. value_marks Trials m line word h }
 
 pub same_value : (u : Valued) (line next : Line) → next.assume ≡ line.assume → next.steps ≡ line.steps → next.device ≡ line.device → next.trials ≡ line.trials → value_of u next ≡ value_of u line
 same_value Assume line next a s d t = a
@@ -278,40 +333,58 @@ same_value Steps line next a s d t = s
 same_value Device line next a s d t = d
 same_value Trials line next a s d t = t
 
+-- of lines that differ in a name
+pub same_mark : (m : Mark) (line next : Line) → next.json ≡ line.json → next.why ≡ line.why → is_marked m next ≡ is_marked m line
+same_mark Json line next j w = j
+same_mark Why line next j w = w
+
+-- an option that is there, and another
+both_marked : (m k : Mark) (line : Line) → is_marked k line ≡ true → is_marked k (marked m line) ≡ true
+both_marked Json Json line h = refl
+both_marked Json Why line h = h
+both_marked Why Json line h = h
+both_marked Why Why line h = refl
+
 named_stays : (first second : Option (List ℕ)) (line next : Line) (word : List ℕ) → line.first ≡ first → line.second ≡ second → named first second line word ≡ Some next → Stays line next
 named_stays None second line next word f s e = subst (Stays line) (some_is (record line { first = Some word }) next e) (record {
   first = λ h. refl;
   second = λ h. h;
   given = λ v h. ap is_some (same_value v line (record line { first = Some word }) refl refl refl refl) ∙ h;
-  json = λ h. h;
+  marked = λ m h. same_mark m line (record line { first = Some word }) refl refl ∙ h;
 })
 named_stays (Some x) None line next word f s e = subst (Stays line) (some_is (record line { second = Some word }) next e) (record {
   first = λ h. h;
   second = λ h. refl;
   given = λ v h. ap is_some (same_value v line (record line { second = Some word }) refl refl refl refl) ∙ h;
-  json = λ h. h;
+  marked = λ m h. same_mark m line (record line { second = Some word }) refl refl ∙ h;
 })
 named_stays (Some x) (Some y) line next word f s e = absurd (none-some next e)
 
-marked_stays : (line : Line) → Stays line (record line { json = true })
-marked_stays line = record {
+marked_stays : (m : Mark) (line : Line) → Stays line (marked m line)
+marked_stays Json line = record {
   first = λ h. h;
   second = λ h. h;
-  given = λ v h. ap is_some (same_value v line (record line { json = true }) refl refl refl refl) ∙ h;
-  json = λ h. refl;
+  given = λ v h. ap is_some (same_value v line (marked Json line) refl refl refl refl) ∙ h;
+  marked = λ k h. both_marked Json k line h;
+}
+marked_stays Why line = record {
+  first = λ h. h;
+  second = λ h. h;
+  given = λ v h. ap is_some (same_value v line (marked Why line) refl refl refl refl) ∙ h;
+  marked = λ k h. both_marked Why k line h;
 }
 
 stays_one : (line : Line) (p : Piece) (l : Line) → added line p ≡ Some l → Stays line l
 stays_one line (Named b bs) l e = named_stays line.first line.second line l (b ∷ bs) refl refl e
 stays_one line (Given v b bs) l e = subst (Stays line) (sym (gets v line l (b ∷ bs) e).is) (others_stay v line (b ∷ bs))
-stays_one line Marked l e = subst (Stays line) (sym (marks line l e).is) (marked_stays line)
+stays_one line (Marked m) l e = subst (Stays line) (sym (marks m line l e).is) (marked_stays m line)
 
 through : (a b c : Line) → Stays a b → Stays b c → Stays a c
 through a b c f g = record {
   first = λ h. g.first (f.first h);
   second = λ h. g.second (f.second h);
   given = λ v h. g.given v (f.given v h);
-  json = λ h. g.json (f.json h);
+  marked = λ m h. g.marked m (f.marked m h);
 }
 
 pub stays : (ps : List Piece) (line l : Line) → all_added (Some line) ps ≡ Some l → Stays line l

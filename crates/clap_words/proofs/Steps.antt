@@ -12,7 +12,7 @@ use Rattle.clap.specs.Takes.{turn_passes, walk_passes, step_passes, positional_p
 use Rattle.clap_words.proofs.Levels.{level_takes}
 use Rattle.commands.specs.declared.line.Valued.{Valued}
 use Rattle.commands.specs.declared.line.Valued.TheVariants.{Assume, Steps, Device, Trials}
-use Rattle.clap_words.proofs.Pieces.{Piece, Named, Given, Marked, option_name, spelled, all_words, AreFit}
+use Rattle.clap_words.proofs.Pieces.{Piece, Named, Given, Marked, Mark, Json, Why, option_name, spelled, mark_name, mark_spelled, all_words, AreFit}
 
 -- where the walk stands between two pieces
 abbrev at : Held → Waiting → ℕ → Walk
@@ -52,7 +52,7 @@ unfoldable pub goes : Shape → Held → ℕ → List Piece → Bool
 goes s h i [] = final s h
 goes s h i (Named b bs ∷ ps) = name_goes s h i (b ∷ bs) (arg_by_index s.rules i) (λ k j. goes s k j ps)
 goes s h i (Given v b bs ∷ ps) = option_goes s h (b ∷ bs) (arg_by_long s.rules (option_name v)) (λ k. goes s k i ps)
-goes s h i (Marked ∷ ps) = flag_goes s h (arg_by_long s.rules (codes "json")) (λ k. goes s k i ps)
+goes s h i (Marked m ∷ ps) = flag_goes s h (arg_by_long s.rules (mark_name m)) (λ k. goes s k i ps)
 
 -- ---- words
 
@@ -246,13 +246,23 @@ option_long Steps = refl
 option_long Device = refl
 option_long Trials = refl
 
+no_mark_dashes : (m : Mark) → bytes_eq (mark_spelled m) dashes ≡ false
+unfolding dashes
+no_mark_dashes Json = refl
+no_mark_dashes Why = refl
+
+mark_long : (m : Mark) → long_of (mark_spelled m) ≡ Some (mark_name m, None)
+mark_long Json = refl
+mark_long Why = refl
+
 take_pieces : (s : Shape) (h : Held) (i : ℕ) (ps : List Piece) → AreFit ps → goes s h i ps ≡ true → Taken s (at h idle i) (all_words ps)
 unfolding goes walk_passes dashes
 take_pieces s h i [] fit e = record { passes = refl; ends = e }
 take_pieces s h i (Named b bs ∷ ps) fit e = take_name s h i b bs (all_words ps) (λ k j. goes s k j ps) (λ k j. take_pieces s k j ps fit.1) fit.0 e
 take_pieces s h i (Given v b bs ∷ ps) fit e =
     take_option s h (spelled v) (option_name v) i b bs (all_words ps) (λ k. goes s k i ps) (λ k. take_pieces s k i ps fit.1) fit.0 (no_option_dashes v) (option_long v) e
-take_pieces s h i (Marked ∷ ps) fit e = take_flag s h (codes "--json") (codes "json") i (all_words ps) (λ k. goes s k i ps) (λ k. take_pieces s k i ps fit.1) refl refl e
+take_pieces s h i (Marked m ∷ ps) fit e =
+    take_flag s h (mark_spelled m) (mark_name m) i (all_words ps) (λ k. goes s k i ps) (λ k. take_pieces s k i ps fit.1) (no_mark_dashes m) (mark_long m) e
 
 pub level_goes : (s : Shape) (ps : List Piece) → AreFit ps → goes s nothing_held 1 ps ≡ true → level_takes s (all_words ps) ≡ true
 level_goes s ps fit e = let k = take_pieces s nothing_held 1 ps fit e in and_from (walk_passes s [] (walk_from nothing_held) (all_words ps)) _ k.passes k.ends

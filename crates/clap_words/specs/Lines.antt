@@ -38,8 +38,12 @@ check_app = judging_app (codes "check")
 abbrev pub run_app : App
 run_app = judging_app (codes "run")
 
+-- and one that takes none
+abbrev pub judging_flagged_app : Text → Text → App
+judging_flagged_app name id = with_rule (judging_app name) (flag_rule id)
+
 abbrev pub report_app : App
-report_app = with_rule (judging_app (codes "report")) (flag_rule (codes "json"))
+report_app = judging_flagged_app (codes "report") (codes "json")
 
 abbrev pub explain_app : App
 explain_app = judging_app (codes "explain")
@@ -49,7 +53,7 @@ abbrev pub clear_app : App
 clear_app = with_rule (pair_app (codes "clear")) (value_rule (codes "device"))
 
 abbrev pub premises_app : App
-premises_app = judging_app (codes "premises")
+premises_app = judging_flagged_app (codes "premises") (codes "why")
 
 abbrev pub analyse_app : App
 analyse_app = with_rule (on_device (with_rule (new_app (codes "analyse")) (name_rule (codes "firmware")))) (value_rule (codes "steps"))
@@ -87,9 +91,12 @@ line_app =
 
 -- ---- what is refused before
 
+-- it takes the next word
+abbrev pub is_valued : Text → Bool
+is_valued word = bytes_eq word (codes "--assume") || (bytes_eq word (codes "--steps") || (bytes_eq word (codes "--device") || bytes_eq word (codes "--trials")))
+
 abbrev pub is_option : Text → Bool
-is_option word =
-    bytes_eq word (codes "--assume") || (bytes_eq word (codes "--steps") || (bytes_eq word (codes "--device") || (bytes_eq word (codes "--trials") || bytes_eq word (codes "--json"))))
+is_option word = is_valued word || (bytes_eq word (codes "--json") || bytes_eq word (codes "--why"))
 
 -- an empty word, or one that begins with `-` and is none of the options
 abbrev pub is_refused : Text → Bool

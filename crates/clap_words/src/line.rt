@@ -3,7 +3,7 @@
 ghost use Rattle.std.specs.Prelude.{◌≡◌, IfOk, false};
 ghost use Rattle.clap.specs.Words.{App, app_of, rule_of, with_rule, with_subcommand};
 ghost use Rattle.clap.specs.declared.builder.command.Command.TheViews.{out-Command as fields_of};
-ghost use Rattle.clap_words.specs.Lines.{name_rule, value_rule, flag_rule, on_device, pair_app, judging_app, report_app, analyse_app, clear_app, judging_with_app, demo_app, bare_app, line_app};
+ghost use Rattle.clap_words.specs.Lines.{name_rule, value_rule, flag_rule, on_device, pair_app, judging_app, judging_flagged_app, analyse_app, clear_app, judging_with_app, demo_app, bare_app, line_app};
 
 use clap::{Arg, ArgAction, Command};
 use std::alloc::{AllocError, Global};
@@ -77,12 +77,12 @@ fn clear<'a>(alloc: Global) -> Result<Command<'a>, AllocError>
     with_arg(pair(alloc, "clear")?, value_arg(alloc, "device"))
 }
 
-/// The command `report`, which may give JSON.
-fn report<'a>(alloc: Global) -> Result<Command<'a>, AllocError>
-    ensures app { IfOk result (λ c. app_of c ≡ report_app) }
+/// One with these options and another that takes none.
+fn judging_flagged<'a>(alloc: Global, name: &'a str, id: &'a str) -> Result<Command<'a>, AllocError>
+    ensures app { IfOk result (λ c. app_of c ≡ judging_flagged_app name.entry.now id.entry.now) }
     ensures local { IfOk result (λ c. (fields_of c).has_globals ≡ false) }
 {
-    with_arg(judging(alloc, "report")?, flag_arg(alloc, "json"))
+    with_arg(judging(alloc, name)?, flag_arg(alloc, id))
 }
 
 /// The command `analyse`, which may be held to a number of rounds.
@@ -141,10 +141,10 @@ pub(crate) fn line_command<'a>(alloc: Global) -> Result<Command<'a>, AllocError>
     let mut program = with_command(Ok(bare(alloc)), judging(alloc, "check"));
     program = with_command(program, analyse(alloc));
     program = with_command(program, judging(alloc, "run"));
-    program = with_command(program, report(alloc));
+    program = with_command(program, judging_flagged(alloc, "report", "json"));
     program = with_command(program, judging(alloc, "explain"));
     program = with_command(program, clear(alloc));
-    program = with_command(program, judging(alloc, "premises"));
+    program = with_command(program, judging_flagged(alloc, "premises", "why"));
     program = with_command(program, judging_with(alloc, "attain", "trials"));
     program = with_command(program, judging_with(alloc, "simulate", "steps"));
     with_command(program, demo(alloc))

@@ -6,12 +6,26 @@ ghost use Rattle.std.specs.List.{list_any};
 ghost use Rattle.clap.specs.Words.{takes};
 ghost use Rattle.commands.specs.Commands.{command_of};
 ghost use Rattle.commands.specs.Views.{command_seen};
-ghost use Rattle.clap_words.specs.Lines.{is_refused, line_app};
+ghost use Rattle.clap_words.specs.Lines.{is_valued, is_option, is_refused, line_app};
 
 use crate::line::line_command;
 use clap::error::ErrorKind;
 use commands::Command;
 use std::alloc::{AllocError, Global};
+
+/// Whether the word is an option that takes the next word.
+fn is_valued(word: &str) -> bool
+    ensures { result ≡ is_valued word.now }
+{
+    word == "--assume" || word == "--steps" || word == "--device" || word == "--trials"
+}
+
+/// Whether the word is an option.
+fn is_option(word: &str) -> bool
+    ensures { result ≡ is_option word.now }
+{
+    is_valued(word) || word == "--json" || word == "--why"
+}
 
 /// Whether the word is empty, or begins with `-` and is none of the options.
 fn is_refused(word: &str) -> bool
@@ -19,14 +33,7 @@ fn is_refused(word: &str) -> bool
 {
     match word.as_bytes() {
         [] => true,
-        [first, ..] => {
-            *first == b'-'
-                && word != "--assume"
-                && word != "--steps"
-                && word != "--device"
-                && word != "--trials"
-                && word != "--json"
-        }
+        [first, ..] => *first == b'-' && !is_option(word),
     }
 }
 

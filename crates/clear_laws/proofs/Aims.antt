@@ -1,7 +1,7 @@
 -- Where a store's byte goes: to an address that its aim reaches, and at its slot.
 use Rattle.std.proofs.Common.{◌≡◌, ◌∙◌, refl, sym, ap, subst, ℕ, zero, suc, ◌+◌, ◌-◌, ◌*◌, ◌<◌, ◌≤◌, ◌&&◌, ⊎_elim, Bool, true, false, nat_lt, nat_le, if◌then◌else◌, Option, Some, None, arith}
 use Rattle.std.specs.Prelude.{⊤}
-use Rattle.std.proofs.lemmas.Bool.{cases_lt}
+use Rattle.std.proofs.lemmas.Bool.{cases_lt, and_from}
 use Rattle.std.proofs.lemmas.Bool.Decides.{nat_tests}
 use Rattle.basics.specs.Booleans.{all_three}
 use Rattle.std.proofs.lemmas.Option.{same_Some}
@@ -34,6 +34,7 @@ use Rattle.local_rules.specs.Local.{step_before, may_be}
 use Rattle.local_rules.specs.Cover.{InFrame}
 use Rattle.clear_laws.specs.Aims.{Span, Reach, Aim, or_number, least_below, greatest_below, first_byte, last_byte, spanning, pair_span, raised, lowered, pointer_reach, slot_at_number, slot_aimed, at_number}
 use Rattle.clear_laws.specs.Aims.reach as reach
+use Rattle.clear_laws.specs.Causes.{permits_number}
 
 -- ---- the least and the greatest number that passes a test
 
@@ -149,6 +150,16 @@ no_more p h = omega arith
 one_less : (p : ℕ) → p < 65536 → plus16 p 65535 ≡ minus16 p 1
 one_less p h = omega arith
 
+-- the address taken back is the pointer
+back_by : (p q : ℕ) → p < 65536 → minus16 (plus16 p q) q ≡ p
+back_by p q h = omega arith
+
+back_none : (p : ℕ) → p < 65536 → minus16 p 0 ≡ p
+back_none p h = omega arith
+
+back_one : (p : ℕ) → p < 65536 → minus16 (minus16 p 1) 65535 ≡ p
+back_one p h = omega arith
+
 -- ---- what a pointer gives
 
 -- the slot at a number, where the base is the top of SRAM
@@ -198,6 +209,14 @@ module _ (m : State) (o : Origin) (k : NodeKey) (s : AbsState) (at : InFrame m o
 
     high_is : register m (r + 1) ≡ high (pair m r)
     high_is = omega (arith, (stands r first_there).small)
+
+    pair_permitted : permits_number s r (pair m r) ≡ true
+    pair_permitted =
+        and_from _ _ (ap (may_be (value s r)) (sym low_is) ∙ may_stand o (value s r) (register m r) (stands r first_there))
+        (ap (may_be (value s (r + 1))) (sym high_is) ∙ may_stand o (value s (r + 1)) (register m (r + 1)) (stands (r + 1) there))
+
+    permitted_back : (p : ℕ) → p ≡ pair m r → permits_number s r p ≡ true
+    permitted_back p same = ap (permits_number s r) same ∙ pair_permitted
 
     pair_holds : PairHolds o (value s r).tag (value s (r + 1)).tag (pair m r)
     pair_holds =
@@ -273,3 +292,23 @@ module _ (m : State) (o : Origin) (k : NodeKey) (s : AbsState) (at : InFrame m o
         reach = record { first = omega arith; last = omega arith };
         slot = λ d e. slot_is k.inst.kind refl (at_number a) a d (λ x is. same_Some a x is) (λ x is. absurd (cc)) e;
       }
+
+  -- ---- and the pointer is permitted
+
+  pub displaced_permitted : (b : Base) (q : ℕ) → permits_number s (base_register b) (minus16 (plus16 (pair m (base_register b)) q) q) ≡ true
+  displaced_permitted b q = permitted_back (base_register b) (base_small b) _ (back_by (pair m (base_register b)) q (pair_small (base_register b) (base_small b)))
+
+  plain_permitted : (r : ℕ) → r + 1 < 32 → permits_number s r (minus16 (pair m r) 0) ≡ true
+  plain_permitted r there = permitted_back r there _ (back_none (pair m r) (pair_small r there))
+
+  before_permitted : (r : ℕ) → r + 1 < 32 → permits_number s r (minus16 (minus16 (pair m r) 1) 65535) ≡ true
+  before_permitted r there = permitted_back r there _ (back_one (pair m r) (pair_small r there))
+
+  pub pointer_permitted : (p : Pointer) → permits_number s (pointer_register p) (minus16 (effects.pointed p (pair m (pointer_register p))) (step_before p)) ≡ true
+  pointer_permitted pointer.ZPlus = plain_permitted 30 (omega arith)
+  pointer_permitted pointer.MinusZ = before_permitted 30 (omega arith)
+  pointer_permitted pointer.YPlus = plain_permitted 28 (omega arith)
+  pointer_permitted pointer.MinusY = before_permitted 28 (omega arith)
+  pointer_permitted pointer.X = plain_permitted 26 (omega arith)
+  pointer_permitted pointer.XPlus = plain_permitted 26 (omega arith)
+  pointer_permitted pointer.MinusX = before_permitted 26 (omega arith)

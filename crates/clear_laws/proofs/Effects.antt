@@ -29,20 +29,22 @@ use Rattle.local_rules.specs.Flow.{is_half_written, at_closed, indirect_call, re
 use Rattle.local_rules.specs.Local.{row_of}
 use Rattle.local_rules.specs.Cover.{InFrame}
 use Rattle.clear_laws.specs.Held.{is_push}
+use Rattle.basics.specs.Numbers.{equals_itself}
 use Rattle.clear_laws.specs.Aims.{Aim, aim_of}
+use Rattle.clear_laws.specs.Causes.{may_write}
 use Rattle.clear_laws.proofs.Ports.{PortFits}
-use Rattle.clear_laws.proofs.Aims.{IsAimed, displaced, by_pointer, direct}
+use Rattle.clear_laws.proofs.Aims.{IsAimed, displaced, by_pointer, direct, displaced_permitted, pointer_permitted}
 
 -- the stack pointer isn't half written
 abbrev pub IsWhole : SpForm → Type 0
 IsWhole sp = (offset : ℕ) × (sp ≡ Closed offset)
 
--- What an instruction stores and pushes: nothing; a byte in I/O, a byte where its aim says, a register's byte on the stack, or the way back
+-- What an instruction stores and pushes: nothing; a byte in I/O, a byte where its aim says and its pointer permits, a register's byte on the stack, or the way back
 -- of a call. It pushes only where a node with no fault has a whole stack pointer. A guarded call has no successor in its frame.
 pub data Does (device : Device) (m : State) (base : ℕ) (k : NodeKey) (s : AbsState) (instr : Instr) (e : Effect) (row guarded_row : Raw) : Type 0 where
   nothing : e.stores ≡ [] → e.pushes ≡ [] → Does device m base k s instr e row guarded_row
   to_port : (a byte : ℕ) → a ≤ BELOW → is_pointer_store instr ≡ false → e.stores ≡ set a byte → e.pushes ≡ [] → Does device m base k s instr e row guarded_row
-  by_aim : (a byte : ℕ) (aim : Aim) → aim_of device k s instr ≡ Some aim → IsAimed base aim a → e.stores ≡ set a byte → e.pushes ≡ []
+  by_aim : (a byte : ℕ) (aim : Aim) → aim_of device k s instr ≡ Some aim → IsAimed base aim a → may_write s instr a ≡ true → e.stores ≡ set a byte → e.pushes ≡ []
       → Does device m base k s instr e row guarded_row
   pushing : (byte : ℕ) → is_push instr ≡ true → adds_low instr ≡ false → (row.faults ≡ [] → IsWhole k.sp) → e.is_open ≡ false → e.stores ≡ []
       → e.pushes ≡ set m.sp byte → Does device m base k s instr e row guarded_row
@@ -142,11 +144,11 @@ module _ (words : List ℕ) (A : List Entry) (m : State) (o : Origin) (k : NodeK
   does_by (i.Bld d b) fits = nothing refl refl
   does_by (i.Bst d b) fits = nothing refl refl
   does_by (i.Ldd d b q) fits = nothing refl refl
-  does_by (i.Std b q r) fits = by_aim _ _ _ refl (displaced m o k s at b q) refl refl
+  does_by (i.Std b q r) fits = by_aim _ _ _ refl (displaced m o k s at b q) (displaced_permitted m o k s at b q) refl refl
   does_by (i.Lds d a) fits = nothing refl refl
-  does_by (i.Sts a r) fits = by_aim _ _ _ refl (direct m o k s at a) refl refl
+  does_by (i.Sts a r) fits = by_aim _ _ _ refl (direct m o k s at a) (equals_itself a) refl refl
   does_by (i.Ld d p) fits = nothing refl refl
-  does_by (i.St p r) fits = by_aim _ _ _ refl (by_pointer m o k s at p) refl refl
+  does_by (i.St p r) fits = by_aim _ _ _ refl (by_pointer m o k s at p) (pointer_permitted m o k s at p) refl refl
   does_by (i.LpmZ d) fits = nothing refl refl
   does_by (i.LpmZPlus d) fits = nothing refl refl
   does_by i.Lpm fits = nothing refl refl

@@ -1,15 +1,17 @@
 -- The slots that may hold a live byte are the least map with its rules.
 use Rattle.std.proofs.Common.{◌≡◌, refl, subst, ℕ, ◌+◌, ◌<◌, Bool, true, false, if◌then◌else◌, nat_le, List, [], Option, Some, None, Contains, arith}
 use Rattle.basics.specs.Booleans.{left_of_and}
-use Rattle.basics.specs.Items.{none_in}
+use Rattle.basics.specs.Items.{none_in, each_of_join}
 use Rattle.avr_model.specs.declared.assumption.Entry.{Entry}
 use Rattle.avr_model.specs.declared.device.Device.{Device}
 use Rattle.avr_model.specs.declared.instruction.Instr.{Instr}
 use Rattle.avr_model.specs.declared.instruction.Instr.TheVariants as i
 use Rattle.avr_model.specs.Devices.{size_of, device_of}
+use Rattle.avr_model.specs.Marks.{marks}
 use Rattle.avr_model.specs.Sites.{instruction_at, is_scratch, adds_low}
-use Rattle.avr_model.specs.Written.{written}
+use Rattle.pair_domain.specs.declared.facts.PairFacts.{PairFacts}
 use Rattle.abs_state.specs.declared.state.AbsState.{AbsState}
+use Rattle.pair_rules.specs.Refined.{refined}
 use Rattle.mask_states.specs.declared.keys.NodeKey.{NodeKey}
 use Rattle.mask_states.specs.declared.keys.InstKey.{InstKey}
 use Rattle.mask_states.specs.declared.keys.EdgeKind.{EdgeKind}
@@ -19,15 +21,15 @@ use Rattle.mask_states.specs.declared.keys.SpForm.TheVariants.{Closed, Open}
 use Rattle.mask_states.specs.Keys.{offset_of}
 use Rattle.local_rules.specs.declared.local.Node.{Node}
 use Rattle.local_rules.specs.Raw.{Raw, one}
-use Rattle.local_rules.specs.Registers.{forgetting}
+use Rattle.local_rules.specs.Registers.{before}
 use Rattle.local_rules.specs.Flow.{at_closed, pushing}
-use Rattle.local_rules.specs.Local.{row_of}
+use Rattle.local_rules.specs.Local.{row_of, row_by, node_where, refining}
 use Rattle.local_laws.proofs.AllLaws.{joins_are_least, each_of}
 use Rattle.edge_rules.specs.declared.edge.Edge.{Edge}
 use Rattle.edge_rules.specs.Edges.{raw_of, IsFaultless, IsEdge, moving, entering, returning, Enters, by_call, by_interrupt}
 use Rattle.clear_laws.specs.Held.{MayHold, kept, pushed, IsClosed, is_push, pushes_register, is_guarded_push}
 use Rattle.clear_laws.specs.Laws.{HeldSlotsAreLeast}
-use Rattle.clear_laws.proofs.Rows.{row_unless_added}
+use Rattle.clear_laws.proofs.Rows.{row_by_unless_added}
 
 module _ (words : List ℕ) (A : List Entry) (nodes : List Node) where
   least : (may : NodeKey → ℕ → Bool) → IsClosed words A nodes may → (k : NodeKey) (d : ℕ) → MayHold words A nodes k d → may k d ≡ true
@@ -60,13 +62,31 @@ row_above : (device : Device) (words : List ℕ) (A : List Entry) (scratch : Boo
 row_above device words A scratch k s (i.Push r) push = push_above device scratch k s r k.sp
 row_above device words A scratch k s _ push = absurd (cc)
 
+-- where pairs are followed, what is refined leads to the same keys
+where_above : (offset : ℕ) (k : NodeKey) (x : Option AbsState) → offset < offset_of k.sp → (to : Node) → Contains (node_where k x) to → offset < offset_of to.key.sp
+where_above offset k None lt to h = absurd (none_in to h)
+where_above offset k (Some s) lt to h = one_above offset k s lt to h
+
+refined_above : (words : List ℕ) (instr : Instr) (s : AbsState) (offset : ℕ) (r : Raw) → AllAbove offset r → AllAbove offset (refining words instr s r)
+refined_above words instr s offset r h =
+    each_of_join (λ (n : Node). node_where n.key (refined (marks words) words instr s n.state)) (λ (to : Node). offset < offset_of to.key.sp) r.moves
+    (λ n to i j. where_above offset n.key (refined (marks words) words instr s n.state) (h n i) to j)
+
+row_by_above : (device : Device) (words : List ℕ) (A : List Entry) (scratch : Bool) (k : NodeKey) (s : AbsState) (facts : Option PairFacts) (instr : Instr) → is_push instr ≡ true
+    → AllAbove (offset_of k.sp) (row_by facts device words A scratch k s instr)
+row_by_above device words A scratch k s None instr push = row_above device words A scratch k (before instr s) instr push
+row_by_above device words A scratch k s (Some f) (i.Push r) push =
+    refined_above words (i.Push r) s (offset_of k.sp) (row_of device words A scratch k (before (i.Push r) s) (i.Push r))
+    (row_above device words A scratch k (before (i.Push r) s) (i.Push r) push)
+row_by_above device words A scratch k s (Some f) _ push = absurd (cc)
+
 raw_above : (words : List ℕ) (A : List Entry) (n : Node) (x : Option Instr) → instruction_at words n.key.pc ≡ x → pushes_register x ≡ true → IsFaultless words A n
     → AllAbove (offset_of n.key.sp) (raw_of words A n)
 raw_above words A n None is push clean = absurd (cc)
 raw_above words A n (Some instr) is push clean =
     λ to member.
-    let row = row_unless_added words A n.key n.state instr is clean (push_adds_none instr push) in
-    row_above (device_of words) words A (is_scratch words n.key.pc) n.key (forgetting (written instr) n.state) instr push to
+    let row = row_by_unless_added words A n.key n.state instr is clean (push_adds_none instr push) in
+    row_by_above (device_of words) words A (is_scratch words n.key.pc) n.key n.state n.state.facts instr push to
     (subst (λ (l : List Node). Contains l to) row.moves member)
 
 not_local : {words : List ℕ} {A : List Entry} {n : Node} {way : EdgeKind} {inst : InstKey} {back : ℕ} → Enters words A n way inst back → way ≡ kind.Local → ⊥

@@ -8,7 +8,9 @@ pub mod Rows
 pub mod Steps
 pub mod Kept
 pub mod Unflagged
+pub mod Told
+pub mod Below
+pub mod Caused
 pub mod Runs
 pub mod Least
-pub mod Told
 pub mod AllLaws

@@ -1,5 +1,5 @@
 -- A successor whose stack pointer is half written has the offset of the node that it comes from.
-use Rattle.std.proofs.Common.{◌≡◌, refl, sym, ap, ◌∙◌, ⊎_elim, ℕ, zero, suc, ◌+◌, ◌==◌, Bool, true, false, List, [], ◌∷◌, map, length, filter, Option, Some, None, if◌then◌else◌, nat_lt, nat_le, Contains}
+use Rattle.std.proofs.Common.{◌≡◌, refl, sym, subst, ap, ◌∙◌, ⊎_elim, ℕ, zero, suc, ◌+◌, ◌==◌, Bool, true, false, List, [], ◌∷◌, map, length, filter, Option, Some, None, if◌then◌else◌, nat_lt, nat_le, Contains}
 use Rattle.std.proofs.lemmas.List.Elements.{Contains-append_cases}
 use Rattle.basics.specs.Items.{none_in}
 use Rattle.avr_model.specs.declared.assumption.Entry.{Entry}
@@ -12,14 +12,17 @@ use Rattle.avr_model.specs.Text.{far, near}
 use Rattle.avr_model.specs.Sites.{is_scratch, base_register, pointer_register}
 use Rattle.avr_model.specs.State.{SPL, SPH, SREG}
 use Rattle.avr_model.specs.Effects.{port}
-use Rattle.avr_model.specs.Written.{written}
 use Rattle.bit_domain.specs.declared.bits.Tri.{Tri}
 use Rattle.bit_domain.specs.declared.bits.Tri.TheVariants.{Zero, One, Any}
 use Rattle.bit_domain.specs.TriByte.{tri_at}
 use Rattle.bit_domain.specs.Tri.{tri_not}
 use Rattle.bit_domain.specs.Logic.{byte_equal}
+use Rattle.pair_domain.specs.declared.facts.PairFacts.{PairFacts}
+use Rattle.pair_domain.specs.PairSets as pairs
 use Rattle.abs_state.specs.declared.values.AbsByte.{AbsByte}
 use Rattle.abs_state.specs.declared.state.AbsState.{AbsState}
+use Rattle.abs_state.specs.Cuts.{cut_known}
+use Rattle.pair_cuts.specs.Cuts.{with_index, pick_cut}
 use Rattle.mask_states.specs.declared.keys.NodeKey.{NodeKey}
 use Rattle.mask_states.specs.declared.keys.Kind.{Kind}
 use Rattle.mask_states.specs.declared.keys.Kind.TheVariants.{Root, Call, Vector}
@@ -34,12 +37,12 @@ use Rattle.local_rules.specs.declared.local.NodeFault.TheVariants.{UnresolvedJum
 use Rattle.local_rules.specs.declared.computed.Computed.{Computed}
 use Rattle.local_rules.specs.declared.pointers.Pointed.{Pointed}
 use Rattle.local_rules.specs.Raw.{Raw, one, next, at_word, off_table, further, untracked_if, too_deep_if, all_of, fails}
-use Rattle.local_rules.specs.Registers.{bits, value, interrupts_row, flag_row, going_by, going_with, flag_after, forgetting, carry_bit}
+use Rattle.local_rules.specs.Registers.{bits, value, interrupts_row, flag_row, going_by, going_with, flag_after, before, carry_bit}
 use Rattle.local_rules.specs.Reads.{read_at, pointed, read_pointed}
-use Rattle.local_rules.specs.Writes.{opening, closing, high_part, closing_offset, sreg_written, flags_written, masks_written, written_at, fixed_write, reaches, pointer_write}
+use Rattle.local_rules.specs.Writes.{opening, closing, high_part, closing_offset, sreg_written, flags_written, put_flags, masks_written, written_at, fixed_write, reaches, pointer_write}
 use Rattle.local_rules.specs.Flow.{branch, skipping, flag_at, where_carry, going_where, carry_branch, flag_branch, targets_at, is_half_written, jumping, calling, indirect_call, relative_call, at_closed, if_room, returning, ret_exit, reti_exit, pushing, popping, making_room}
 use Rattle.local_rules.specs.FrameLines.{binary_at}
-use Rattle.local_rules.specs.Local.{step_before, pointer_moved, loading, row_of, row_at, row_in, is_hung, fetched, picks, picking, picked, split_site, splitting, raw}
+use Rattle.local_rules.specs.Local.{step_before, pointer_moved, loading, row_of, row_at, row_by, row_in, is_hung, fetched, picks, picking, picked_row, split_site, splitting, raw}
 use Rattle.local_laws.proofs.AllLaws.{each_of, each_in_map}
 
 module _ (device : Device) (k : NodeKey) where
@@ -155,7 +158,7 @@ module _ (device : Device) (k : NodeKey) where
         by_test (nat_lt a 0x20) _ _ (still _ _ kept)
         (by_test (a == SPL) _ _ (closing_keeps (closing_offset device key.inst.kind key.sp v) s pc)
         (by_test (a == SPH) _ _ (opening_keeps (high_part key.inst.kind v) s pc)
-        (by_test (a == SREG) _ _ (sreg_keeps (tri_at v.bits 7) (record s { flags = flags_written v }) is_out) (masks_keep s a v))))
+        (by_test (a == SREG) _ _ (sreg_keeps (tri_at v.bits 7) (put_flags s (flags_written v)) is_out) (masks_keep s a v))))
 
     fixed_keeps : (a : Option ℕ) (pc : ℕ) (s : AbsState) (v : AbsByte) → AllKeep (fixed_write device a pc key s v)
     fixed_keeps None pc s v = none
@@ -277,23 +280,30 @@ module _ (device : Device) (k : NodeKey) where
     row_keeps scratch i.Break = still _ _ refl
     row_keeps scratch i.Wdr = still _ _ refl
 
-  row_at_keeps : (words : List ℕ) (A : List Entry) (scratch : Bool) (s : AbsState) (x : Option Instr) → AllKeep (row_at device words A scratch k s x)
-  row_at_keeps words A scratch s None = none
-  row_at_keeps words A scratch s (Some instr) = row_keeps words A (forgetting (written instr) s) scratch instr
+  row_at_keeps : (words : List ℕ) (A : List Entry) (scratch : Bool) (s : AbsState) → s.facts ≡ None → (x : Option Instr) → AllKeep (row_at device words A scratch k s x)
+  row_at_keeps words A scratch s plain None = none
+  row_at_keeps words A scratch s plain (Some instr) =
+      subst (λ (f : Option PairFacts). AllKeep (row_by f device words A scratch k s instr)) (sym plain) (row_keeps words A (before instr s) scratch instr)
 
-  row_in_keeps : (words : List ℕ) (A : List Entry) (s : AbsState) → AllKeep (row_in device words A k s)
-  row_in_keeps words A s = row_at_keeps words A (is_scratch words k.pc) s (fetched device words k.pc)
+  row_in_keeps : (words : List ℕ) (A : List Entry) (s : AbsState) → s.facts ≡ None → AllKeep (row_in device words A k s)
+  row_in_keeps words A s plain = row_at_keeps words A (is_scratch words k.pc) s plain (fetched device words k.pc)
 
--- where one entry of a table is picked, the stack pointer is the same
-picked_keeps : (words : List ℕ) (A : List Entry) (k : NodeKey) (s : AbsState) (byte : ℕ) → AllKeep (device_of words) k (row_in (device_of words) words A (picking k byte) (picked s byte))
-picked_keeps words A k s byte = row_in_keeps (device_of words) (picking k byte) words A (picked s byte)
+-- where pairs aren't followed, a byte that is picked cuts nothing else
+pick_plain : (byte : ℕ) (s : AbsState) → s.facts ≡ None → pick_cut byte s ≡ Some (with_index byte s)
+pick_plain byte s plain = ap (λ (x : Option PairFacts). cut_known pairs.cut_pair (with_index byte s) 15 x) plain
 
-module _ (words : List ℕ) (A : List Entry) (k : NodeKey) (s : AbsState) where
+module _ (words : List ℕ) (A : List Entry) (k : NodeKey) (s : AbsState) (plain : s.facts ≡ None) where
+  -- where one entry of a table is picked, the stack pointer is the same
+  picked_keeps : (byte : ℕ) → AllKeep (device_of words) k (picked_row (row_in (device_of words) words A) (picking k byte) (pick_cut byte s))
+  picked_keeps byte =
+      subst (λ (x : Option AbsState). AllKeep (device_of words) k (picked_row (row_in (device_of words) words A) (picking k byte) x)) (sym (pick_plain byte s plain))
+      (row_in_keeps (device_of words) (picking k byte) words A (with_index byte s) plain)
+
   splitting_keeps : (site : Option ℕ) → AllKeep (device_of words) k (splitting site (row_in (device_of words) words A) k s)
-  splitting_keeps None = row_in_keeps (device_of words) k words A s
+  splitting_keeps None = row_in_keeps (device_of words) k words A s plain
   splitting_keeps (Some jump) =
       by_test (device_of words) k (nat_le (length (picks s)) 64) _ (fails (UnresolvedJump jump))
-      (all_keep (device_of words) k (λ byte. row_in (device_of words) words A (picking k byte) (picked s byte)) (λ byte. picked_keeps words A k s byte) (picks s))
+      (all_keep (device_of words) k (λ byte. picked_row (row_in (device_of words) words A) (picking k byte) (pick_cut byte s)) picked_keeps (picks s))
       (none (device_of words) k)
 
   pub open_moves_keep : AllKeep (device_of words) k (raw words A k s)

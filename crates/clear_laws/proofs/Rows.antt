@@ -1,17 +1,19 @@
 -- A node leads where its instruction's row says, but where it splits at a jump table, whose instruction adds to r30.
-use Rattle.std.proofs.Common.{◌≡◌, refl, sym, ap, ◌∙◌, ℕ, ◌+◌, Bool, true, false, ◌&&◌, if◌then◌else◌, nat_lt, List, [], Option, Some, None, ◌⊎◌, inl, inr, lt-ltb}
+use Rattle.std.proofs.Common.{◌≡◌, refl, sym, subst, ap, ◌∙◌, ℕ, Bool, true, false, if◌then◌else◌, nat_lt, List, [], Option, Some, None, ◌⊎◌, inl, inr, lt-ltb}
 use Rattle.avr_model.specs.declared.assumption.Entry.{Entry}
 use Rattle.avr_model.specs.declared.device.Device.{Device}
 use Rattle.avr_model.specs.declared.instruction.Instr.{Instr}
-use Rattle.avr_model.specs.Devices.{words_of, size_of, wrapped, device_of}
-use Rattle.avr_model.specs.Sites.{instruction_at, is_scratch, adds_low, adds_high, is_some_that, ijmp_from, table_site}
-use Rattle.avr_model.specs.Written.{written}
+use Rattle.avr_model.specs.Devices.{words_of, size_of, device_of}
+use Rattle.avr_model.specs.Sites.{instruction_at, is_scratch, adds_low, is_some_that, table_site}
+use Rattle.pair_domain.specs.declared.facts.PairFacts.{PairFacts}
+use Rattle.pair_domain.specs.Facts.{is_followed}
 use Rattle.abs_state.specs.declared.state.AbsState.{AbsState}
 use Rattle.mask_states.specs.declared.keys.NodeKey.{NodeKey}
 use Rattle.mask_states.specs.Keys.{offset_of}
 use Rattle.local_rules.specs.Raw.{Raw, untracked_if, too_deep_if}
-use Rattle.local_rules.specs.Registers.{forgetting}
-use Rattle.local_rules.specs.Local.{raw, row_of, row_at, row_in, is_hung, fetched, unlined, split_site, splitting}
+use Rattle.local_rules.specs.Registers.{before}
+use Rattle.local_rules.specs.Local.{raw, row_of, row_at, row_by, row_in, is_hung, fetched, unlined, split_site, splitting}
+use Rattle.local_rules.specs.Cover.{IsNode}
 use Rattle.local_laws.proofs.AllLaws.{local_parts_fit}
 use Rattle.local_laws.proofs.Picks.{unlined_some, site_adds}
 
@@ -39,10 +41,27 @@ outer_faultless true b pc offset r h = absurd (cc)
 outer_faultless false true pc offset r h = absurd (cc)
 outer_faultless false false pc offset r h = (refl, h)
 
--- what a node has by its instruction's row
-pub record IsRow (words : List ℕ) (A : List Entry) (k : NodeKey) (s : AbsState) (instr : Instr) : Type 0 where
-  pub faultless : (row_of (device_of words) words A (is_scratch words k.pc) k (forgetting (written instr) s) instr).faults ≡ []
-  pub moves : (raw words A k s).moves ≡ (row_of (device_of words) words A (is_scratch words k.pc) k (forgetting (written instr) s) instr).moves
+-- what a node has by a row that is its own
+pub record HasRow (words : List ℕ) (A : List Entry) (k : NodeKey) (s : AbsState) (r : Raw) : Type 0 where
+  pub faultless : r.faults ≡ []
+  pub moves : (raw words A k s).moves ≡ r.moves
+
+-- its instruction's row, whether it follows pairs or not
+abbrev pub IsRowBy : List ℕ → List Entry → NodeKey → AbsState → Instr → Option PairFacts → Type 0
+IsRowBy words A k s instr facts = HasRow words A k s (row_by facts (device_of words) words A (is_scratch words k.pc) k s instr)
+
+-- its instruction's plain row
+abbrev pub IsRow : List ℕ → List Entry → NodeKey → AbsState → Instr → Type 0
+IsRow words A k s instr = HasRow words A k s (row_of (device_of words) words A (is_scratch words k.pc) k (before instr s) instr)
+
+-- ---- a node that doesn't follow pairs
+
+not_followed : (facts : Option PairFacts) → is_followed facts ≡ false → facts ≡ None
+not_followed None e = refl
+not_followed (Some f) e = absurd (cc)
+
+pub plain_node : (k : NodeKey) (s : AbsState) → IsNode k s → s.facts ≡ None
+plain_node k s node = not_followed s.facts node.mode
 
 module _ (words : List ℕ) (A : List Entry) (k : NodeKey) (s : AbsState) where
   abbrev device : Device
@@ -65,10 +84,10 @@ module _ (words : List ℕ) (A : List Entry) (k : NodeKey) (s : AbsState) where
     there =
         ap (λ (b : Bool). if b then instruction_at words k.pc else None) (lt-ltb k.pc (words_of device) (local_parts_fit.inside words A k s clean).0) ∙ is
 
-    row_is : row_in device words A k s ≡ row_of device words A (is_scratch words k.pc) k (forgetting (written instr) s) instr
+    row_is : row_in device words A k s ≡ row_by s.facts device words A (is_scratch words k.pc) k s instr
     row_is = ap (row_at device words A (is_scratch words k.pc) k s) there
 
-    by_site : (site : Option ℕ) → split_site words A k.pc k.pick ≡ site → IsRow words A k s instr ⊎ (adds_low instr ≡ true)
+    by_site : (site : Option ℕ) → split_site words A k.pc k.pick ≡ site → IsRowBy words A k s instr s.facts ⊎ (adds_low instr ≡ true)
     by_site None e =
         let same = raw_is None e in
         inl (record {
@@ -82,9 +101,13 @@ module _ (words : List ℕ) (A : List Entry) (k : NodeKey) (s : AbsState) where
     by_site (Some jump) e = inr (ap (is_some_that adds_low) (sym is) ∙ splits_at words A k.pc k.pick jump e)
 
     -- what doesn't add to r30 has its row
-    pub row_unless_added : adds_low instr ≡ false → IsRow words A k s instr
-    row_unless_added other = by (by_site (split_site words A k.pc k.pick) refl)
+    pub row_by_unless_added : adds_low instr ≡ false → IsRowBy words A k s instr s.facts
+    row_by_unless_added other = by (by_site (split_site words A k.pc k.pick) refl)
       where
-        by : IsRow words A k s instr ⊎ (adds_low instr ≡ true) → IsRow words A k s instr
+        by : IsRowBy words A k s instr s.facts ⊎ (adds_low instr ≡ true) → IsRowBy words A k s instr s.facts
         by (inl row) = row
         by (inr adds) = absurd (let no : true ≡ false = sym adds ∙ other in cc)
+
+    -- which is the plain one where pairs aren't followed
+    pub row_unless_added : IsNode k s → adds_low instr ≡ false → IsRow words A k s instr
+    row_unless_added node other = subst (IsRowBy words A k s instr) (plain_node k s node) (row_by_unless_added other)

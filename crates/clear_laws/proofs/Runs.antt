@@ -13,9 +13,10 @@ use Rattle.edge_rules.specs.Families.{Family, IsSound}
 use Rattle.edge_rules.specs.Frames.{Frame, Runs, IsFine}
 use Rattle.frame_laws.proofs.AllLaws.{frames_start, frames_step}
 use Rattle.clear_laws.specs.Clear.{MayBeFlagged, EndsByTake, word_of_flag}
+use Rattle.clear_laws.specs.Causes.{MayFlag}
 use Rattle.clear_laws.specs.Laws.{FlaggedRunsAreTold}
 use Rattle.clear_laws.proofs.Kept.{Holding, step_holds}
-use Rattle.clear_laws.proofs.Unflagged.{flagged_here, flag_names}
+use Rattle.clear_laws.proofs.Caused.{caused_here, may_be_flagged}
 
 -- ---- reset
 
@@ -40,7 +41,7 @@ module _ (words : List ℕ) (A : List Entry) (f : Family) (sized : AreWords word
   -- what a run owes from a state on
   abbrev Told : List Choice → State → Type 0
   Told cs m = (g : Frame) (gs : List Frame) → Runs words A f m g gs → Holding words A f m.memory g gs → IsRun words A cs m → stop_of words A cs m ≡ stop.Flag flag
-      → MayBeFlagged words A f (word_of_flag flag) ⊎ EndsByTake words A f.nodes m cs
+      → MayFlag words A f flag ⊎ EndsByTake words A f.nodes m cs
 
   -- one choice more before a take
   later : (c : Choice) (cs : List Choice) (m n : State) → step words A m c ≡ Done n → EndsByTake words A f.nodes n cs → EndsByTake words A f.nodes m (c ∷ cs)
@@ -57,15 +58,10 @@ module _ (words : List ℕ) (A : List Entry) (f : Family) (sized : AreWords word
 
   -- what is flagged at a node
   at_node : (c : Choice) (cs : List Choice) (m : State) (g : Frame) (gs : List Frame) (runs : Runs words A f m g gs) (holds : Holding words A f m.memory g gs) → step words A m c ≡ Flagged flag
-      → MayBeFlagged words A f (word_of_flag flag) ⊎ EndsByTake words A f.nodes m (c ∷ cs)
+      → MayFlag words A f flag ⊎ EndsByTake words A f.nodes m (c ∷ cs)
   at_node c cs m g gs runs holds is =
       ⊎_elim
-      (λ unclear. inl (record {
-        node = g.node;
-        present = runs.present;
-        is = sym runs.running.place.pc ∙ sym (flag_names words A m flag c is);
-        unclear = unclear;
-      }))
+      (λ caused. inl caused)
       (λ taken. inr (record {
         before = [];
         vector = taken.vector;
@@ -75,11 +71,11 @@ module _ (words : List ℕ) (A : List Entry) (f : Family) (sized : AreWords word
         passes = refl;
         taken = record { never = taken.never; node = g.node; present = runs.present; i = taken.i; delay = taken.delay; vector = taken.vector; enabled = taken.enabled; is = refl };
       }))
-      (flagged_here words A f sound m g gs runs holds c flag is)
+      (caused_here words A f sound m g gs runs holds c flag is)
 
   by_answer : (c : Choice) (cs : List Choice) (m : State) (g : Frame) (gs : List Frame) → Runs words A f m g gs → Holding words A f m.memory g gs → ((n : State) → Told cs n)
       → (a : Answer) → step words A m c ≡ a → IsFine words A f c g gs a → RunsOn a cs (IsRun words A cs) → stop_on a (stop_of words A cs) ≡ stop.Flag flag
-      → MayBeFlagged words A f (word_of_flag flag) ⊎ EndsByTake words A f.nodes m (c ∷ cs)
+      → MayFlag words A f flag ⊎ EndsByTake words A f.nodes m (c ∷ cs)
   by_answer c cs m g gs runs holds on Illegal is fine run ends = absurd run
   by_answer c cs m g gs runs holds on (Undefined pc) is fine run ends = absurd fine
   by_answer c cs m g gs runs holds on (Overflow pc) is fine run ends = absurd fine
@@ -94,7 +90,7 @@ module _ (words : List ℕ) (A : List Entry) (f : Family) (sized : AreWords word
       by_answer c cs m g gs runs holds (told_from cs) (step words A m c) refl (frames_step.fine words A f m g gs c sized sound runs run.0) run.1 ends
 
   told : (m : State) (choices : List Choice) → IsReset (device_of words) m → IsRun words A choices m → stop_of words A choices m ≡ stop.Flag flag
-      → MayBeFlagged words A f (word_of_flag flag) ⊎ EndsByTake words A f.nodes m choices
+      → MayFlag words A f flag ⊎ EndsByTake words A f.nodes m choices
   told m choices reset run ends =
       let start = frames_start.starts words A f m sound.formed sound.reset reset in
       told_from choices m _ [] start.runs
@@ -109,8 +105,10 @@ module _ (words : List ℕ) (A : List Entry) (f : Family) (sized : AreWords word
 pub flagged_runs_are_told : FlaggedRunsAreTold
 flagged_runs_are_told =
     record {
-      told = λ words A f m choices flag sized sound reset run ends. told words A f sized sound flag m choices reset run ends;
+      caused = λ words A f m choices flag sized sound reset run ends. told words A f sized sound flag m choices reset run ends;
+      told = λ words A f m choices flag sized sound reset run ends.
+          ⊎_elim (λ c. inl (may_be_flagged words A f flag c)) (λ t. inr t) (told words A f sized sound flag m choices reset run ends);
       never = λ words A f sized sound clear free m choices flag reset run ends.
-          ⊎_elim (λ (at : MayBeFlagged words A f (word_of_flag flag)). at.unclear (clear at.node at.present))
+          ⊎_elim (λ c. let at = may_be_flagged words A f flag c in at.unclear (clear at.node at.present))
           (λ (at : EndsByTake words A f.nodes m choices). free _ at.taken) (told words A f sized sound flag m choices reset run ends);
     }

@@ -11,7 +11,6 @@ use Rattle.avr_model.specs.declared.effect.Effect.{Effect}
 use Rattle.avr_model.specs.declared.effect.Write.{Write}
 use Rattle.avr_model.specs.Devices.{device_of}
 use Rattle.avr_model.specs.Sites.{instruction_at, is_scratch, adds_low}
-use Rattle.avr_model.specs.Written.{written}
 use Rattle.avr_model.specs.State.{State, Memory, is_live}
 use Rattle.avr_model.specs.Effects.{effect_of, way_back}
 use Rattle.avr_model.specs.Step.{Illegal, Overflow, Done, after, all_inside, live_write, protected_write, unlisted_transfer, is_unlisted, flag_by, flagged_or, memory_after, open_after, sp_after, may_take, entering, never_target, take, go, step}
@@ -20,7 +19,7 @@ use Rattle.mask_states.specs.declared.keys.NodeKey.{NodeKey}
 use Rattle.mask_states.specs.declared.keys.SpForm.{SpForm}
 use Rattle.mask_states.specs.declared.keys.SpForm.TheVariants.{Closed}
 use Rattle.mask_states.specs.Place.{SpIs}
-use Rattle.local_rules.specs.Registers.{forgetting}
+use Rattle.local_rules.specs.Registers.{before}
 use Rattle.local_rules.specs.Local.{row_of}
 use Rattle.edge_rules.specs.Edges.{raw_of}
 use Rattle.edge_rules.specs.Families.{Family, IsSound}
@@ -129,13 +128,13 @@ module _ (words : List ℕ) (A : List Entry) (f : Family) (sound : IsSound words
     scratch = is_scratch words k.pc
 
     abbrev state : AbsState
-    state = forgetting (written w.instr) g.node.state
+    state = before w.instr g.node.state
 
     here : instruction_at words k.pc ≡ Some w.instr
     here = subst (λ p. instruction_at words p ≡ Some w.instr) runs.running.place.pc w.is
 
     row : adds_low w.instr ≡ false → IsRow words A k g.node.state w.instr
-    row = row_unless_added words A k g.node.state w.instr here (sound.faultless g.node runs.present)
+    row = row_unless_added words A k g.node.state w.instr here (sound.faultless g.node runs.present) (sound.formed g.node runs.present)
 
     -- a guarded instruction's row is that of one that isn't scratch
     still : adds_low w.instr ≡ false → not (is_scratch words m.pc) ≡ true → (row_of (device_of words) words A false k state w.instr).moves ≡ []
@@ -155,7 +154,7 @@ module _ (words : List ℕ) (A : List Entry) (f : Family) (sound : IsSound words
         → Fresh words A g n (Go b1 b2) a
     fresh a inside guarded at (nothing stores pushes) = absurd (subst (λ ws. IsPushedAt ws a) pushes at)
     fresh a inside guarded at (to_port b byte low plain stores pushes) = absurd (subst (λ ws. IsPushedAt ws a) pushes at)
-    fresh a inside guarded at (by_aim b byte aim is aimed stores pushes) = absurd (subst (λ ws. IsPushedAt ws a) pushes at)
+    fresh a inside guarded at (by_aim b byte aim is aimed may stores pushes) = absurd (subst (λ ws. IsPushedAt ws a) pushes at)
     fresh a inside guarded at (pushing byte push plain closes closed stores pushes) =
         let form = closes (row plain).faultless in
         let sp = at_sp form.0 form.1 in

@@ -1,5 +1,5 @@
--- No step of a machine whose node is clear is flagged, and another is flagged at the node's word.
-use Rattle.std.proofs.Common.{◌≡◌, ◌≢◌, refl, sym, ap, ap₂, ◌∙◌, subst, ℕ, ◌+◌, ◌-◌, ◌*◌, ◌%◌, ◌<◌, ◌≤◌, ◌==◌, Bool, true, false, not, ◌&&◌, ◌||◌, nat_le, ◌⊎◌, inl, inr, if◌then◌else◌, List, [], ◌∷◌, ◌++◌, Option, Some, None, arith}
+-- No step of a machine whose node is clear is flagged; and what each step writes.
+use Rattle.std.proofs.Common.{◌≡◌, ◌≢◌, refl, sym, ap, ap₂, ◌∙◌, subst, ℕ, ◌+◌, ◌-◌, ◌*◌, ◌%◌, ◌<◌, ◌≤◌, ◌==◌, Bool, true, false, not, ◌&&◌, ◌||◌, nat_le, ◌⊎◌, inl, inr, ⊎_elim, if◌then◌else◌, List, [], ◌∷◌, ◌++◌, Option, Some, None, arith}
 use Rattle.std.specs.List.{list_any}
 use Rattle.std.proofs.lemmas.Bool.Decides.{nat_tests}
 use Rattle.std.proofs.lemmas.Bool.{false_from_ne_true as never, and_from}
@@ -21,9 +21,8 @@ use Rattle.avr_model.specs.Image.{WORDS}
 use Rattle.avr_model.specs.Sites.{instruction_at, is_scratch}
 use Rattle.avr_model.specs.State.{State, Memory, is_live, i_flag, minus16, register, pair, low, high}
 use Rattle.avr_model.specs.Vectors.{Vector, vectors, has_enables, is_protected, is_enabled, vector_word, WATCHDOG}
-use Rattle.avr_model.specs.Written.{written}
 use Rattle.avr_model.specs.Effects.{set, effect_of, way_back}
-use Rattle.avr_model.specs.Step.{Illegal, Overflow, Flagged, after, all_inside, live_write, unlisted, protected_write, unless_listed, unlisted_transfer, is_pointer_store, is_indirect, is_unlisted, flag_by, flagged_or, may_take, entering, never_target, take, go, step}
+use Rattle.avr_model.specs.Step.{Illegal, Overflow, Flagged, after, all_inside, live_write, unlisted, protected_write, unless_listed, unlisted_transfer, is_pointer_store, is_indirect, is_unlisted, flag_by, flagged_or, may_take, entering, never_target, take, go}
 use Rattle.bit_domain.specs.TriByte.{Has, has}
 use Rattle.bit_domain.proofs.AllLaws.{tests_tell_members}
 use Rattle.mask_states.specs.declared.keys.NodeKey.{NodeKey}
@@ -32,13 +31,14 @@ use Rattle.mask_states.specs.declared.keys.SpForm.TheVariants.{Closed, Open}
 use Rattle.mask_states.specs.Keys.{offset_of}
 use Rattle.abs_state.specs.declared.state.AbsState.{AbsState}
 use Rattle.abs_state.specs.Stands.{ByteStands}
-use Rattle.local_rules.specs.Registers.{value, bits, forgetting}
+use Rattle.local_rules.specs.Registers.{value, bits, before}
 use Rattle.local_rules.specs.Local.{row_of, is_hung}
 use Rattle.local_laws.proofs.AllLaws.{open_pairs_hang, above_if_live}
 use Rattle.edge_rules.specs.Families.{Family, IsSound}
 use Rattle.edge_rules.specs.Frames.{Frame, Runs}
-use Rattle.clear_laws.specs.Aims.{Aim}
-use Rattle.clear_laws.specs.Clear.{IsClear, IsHarmless, no_address, under_stack, above_memory, one_register, free_slot, is_flagged_address, AreTargetsListed, word_of_flag}
+use Rattle.clear_laws.specs.Aims.{Aim, aim_of}
+use Rattle.clear_laws.specs.Clear.{IsClear, IsHarmless, no_address, under_stack, above_memory, one_register, free_slot, is_flagged_address, AreTargetsListed}
+use Rattle.clear_laws.specs.Causes.{may_write}
 use Rattle.clear_laws.proofs.Memory.{inside_if_live}
 use Rattle.clear_laws.proofs.Ports.{ports_fit}
 use Rattle.clear_laws.proofs.Aims.{IsReached, IsAimed}
@@ -122,7 +122,7 @@ no_enables : (a : ℕ) → 255 < a → has_enables a ≡ false
 unfolding has_enables
 no_enables a lt = none_high vectors a lt refl
 
-unprotected : (a : ℕ) → 255 < a → is_protected a ≡ false
+pub unprotected : (a : ℕ) → 255 < a → is_protected a ≡ false
 unprotected a lt = let none = no_enables a lt in grind (arith, nat_tests)
 
 and_false : (a b c d : Bool) → c ≡ false → (a && b && (c && d)) ≡ false
@@ -178,7 +178,7 @@ module _ (words : List ℕ) (A : List Entry) (f : Family) (sound : IsSound words
   abbrev top : ℕ
   top = ramend (device_of words)
 
-  inside : (a : ℕ) → is_live m.memory a ≡ true → a ≤ top
+  pub inside : (a : ℕ) → is_live m.memory a ≡ true → a ≤ top
   inside a live =
       let same : ramend m.device ≡ top = ap ramend runs.device in
       omega (arith, inside_if_live m.memory.live a live, runs.running.machine.count_live, same)
@@ -241,99 +241,125 @@ module _ (words : List ℕ) (A : List Entry) (f : Family) (sound : IsSound words
         free = high_free instr a (omega (arith, at, lt, holds.depth, sound.small, low_base));
       }
 
+  module _ (b1 b2 : ℕ) (instr : Instr) (is : instruction_at words m.pc ≡ Some instr) where
+    abbrev effect : Effect
+    effect = effect_of words m instr b1 b2
+
+    -- it writes no live byte, and no protected one
+    pub record IsSafe : Type 0 where
+      pub live : live_write m.memory (effect.stores ++ effect.pushes) ≡ None
+      pub protected : protected_write words A m.pc instr effect ≡ None
+
+    -- it stores one byte, where its aim says and its pointer permits
+    pub record IsStore : Type 0 where
+      pub address : ℕ
+      pub byte : ℕ
+      pub aim : Aim
+      pub at : aim_of (device_of words) k g.node.state instr ≡ Some aim
+      pub aimed : IsAimed g.origin.base aim address
+      pub may : may_write g.node.state instr address ≡ true
+      pub stores : effect.stores ≡ set address byte
+      pub pushes : effect.pushes ≡ []
+
+    abbrev state : AbsState
+    state = before instr g.node.state
+
+    here : instruction_at words k.pc ≡ Some instr
+    here = subst (λ p. instruction_at words p ≡ Some instr) runs.running.place.pc is
+
+    one_safe : (a byte : ℕ) → is_live m.memory a ≡ false → is_flagged_address words A m.pc instr a ≡ false → effect.stores ≡ set a byte → effect.pushes ≡ [] → IsSafe
+    one_safe a byte dead free stores pushes =
+        record {
+          live = ap₂ (λ ss ps. live_write m.memory (ss ++ ps)) stores pushes ∙ one_write m.memory a byte dead;
+          protected = one_protected words A instr m.pc effect a byte stores free;
+        }
+
+    sorted : Does (device_of words) m g.origin.base k g.node.state instr effect (row_of (device_of words) words A (is_scratch words k.pc) k state instr)
+        (row_of (device_of words) words A false k state instr) → IsSafe ⊎ IsStore
+    sorted (nothing stores pushes) =
+        inl
+        (record {
+          live = no_write m.memory _ (ap₂ (λ (ss ps : List Write). ss ++ ps) stores pushes);
+          protected = nothing_protected words A instr m.pc effect stores;
+        })
+    sorted (to_port a byte low plain stores pushes) =
+        inl
+        (one_safe a byte (never (is_live m.memory a) (λ live. omega (arith, low, above_if_live m.memory.live a live)))
+        (ap (λ b. b && not (is_fixed_site words A m.pc) && (is_protected a && not (lists (store_line A m.pc) a))) plain) stores pushes)
+    sorted (by_aim a byte aim at aimed may stores pushes) = inr (record { address = a; byte = byte; aim = aim; at = at; aimed = aimed; may = may; stores = stores; pushes = pushes })
+    sorted (pushing byte push plain closes closed stores pushes) =
+        let form = closes (row_unless_added words A k g.node.state instr here (sound.faultless g.node runs.present) (sound.formed g.node runs.present) plain).faultless in
+        inl
+        (record {
+          live = ap₂ (λ ss ps. live_write m.memory (ss ++ ps)) stores pushes ∙ one_write m.memory m.sp byte (sp_dead form);
+          protected = nothing_protected words A instr m.pc effect stores;
+        })
+    sorted (enters back none plain closes closed stores pushes) =
+        let form = closes (row_unless_added words A k g.node.state instr here (sound.faultless g.node runs.present) (sound.formed g.node runs.present) plain).faultless in
+        inl
+        (record {
+          live = ap₂ (λ ss ps. live_write m.memory (ss ++ ps)) stores pushes ∙ two_writes m.memory m.sp back (sp_dead form) (below_dead form);
+          protected = nothing_protected words A instr m.pc effect stores;
+        })
+
+    pub writes : IsSafe ⊎ IsStore
+    writes =
+        sorted
+        (does words A m g.origin k g.node.state (before instr g.node.state) runs.running (is_scratch words k.pc) b1 b2 (device_of words) runs.device instr (ports_fit words m.pc instr is))
+
+    safe : IsClear words A f g.node → IsSafe
+    safe clear = ⊎_elim (λ s. s) harmless writes
+      where
+        harmless : IsStore → IsSafe
+        harmless w =
+            let free = harmless_free instr w.aim w.address w.aimed (clear.store instr w.aim here w.at) in
+            one_safe w.address w.byte free.dead (subst (λ p. is_flagged_address words A p instr w.address ≡ false) (sym runs.running.place.pc) free.free) w.stores w.pushes
+
+    stands : (r : ℕ) → r < 32 → ByteStands g.origin (value g.node.state r) (register m r)
+    stands r lt = runs.running.stands.registers r lt
+
+    -- an indirect transfer's word is listed
+    z_listed : IsClear words A f g.node → is_indirect instr ≡ true → unless_listed (jump_line A m.pc) (wrapped m.device (pair m 30 % WORDS)) ≡ None
+    z_listed clear indirect =
+        let all = clear.transfer instr here indirect in
+        subst (λ p. unless_listed (jump_line A p) (wrapped m.device (pair m 30 % WORDS)) ≡ None) (sym runs.running.place.pc)
+        (subst (λ device. unless_listed (jump_line A k.pc) (wrapped device (pair m 30 % WORDS)) ≡ None) (sym runs.device)
+        (goes_listed (device_of words) g.node.state (jump_line A k.pc) (register m 30) (register m 31) all
+        (stands 30 (omega arith)).small (stands 31 (omega arith)).small (stands 30 (omega arith)).bits (stands 31 (omega arith)).bits))
+
   module _ (clear : IsClear words A f g.node) (flag : Flag) where
-    module _ (b1 b2 : ℕ) (instr : Instr) (is : instruction_at words m.pc ≡ Some instr) where
-      abbrev effect : Effect
-      effect = effect_of words m instr b1 b2
-
-      record IsSafe : Type 0 where
-        live : live_write m.memory (effect.stores ++ effect.pushes) ≡ None
-        protected : protected_write words A m.pc instr effect ≡ None
-
-      abbrev state : AbsState
-      state = forgetting (written instr) g.node.state
-
-      here : instruction_at words k.pc ≡ Some instr
-      here = subst (λ p. instruction_at words p ≡ Some instr) runs.running.place.pc is
-
-      one_safe : (a byte : ℕ) → is_live m.memory a ≡ false → is_flagged_address words A m.pc instr a ≡ false → effect.stores ≡ set a byte → effect.pushes ≡ [] → IsSafe
-      one_safe a byte dead free stores pushes =
-          record {
-            live = ap₂ (λ ss ps. live_write m.memory (ss ++ ps)) stores pushes ∙ one_write m.memory a byte dead;
-            protected = one_protected words A instr m.pc effect a byte stores free;
-          }
-
-      safe : Does (device_of words) m g.origin.base k g.node.state instr effect (row_of (device_of words) words A (is_scratch words k.pc) k state instr)
-          (row_of (device_of words) words A false k state instr) → IsSafe
-      safe (nothing stores pushes) =
-          record {
-            live = no_write m.memory _ (ap₂ (λ (ss ps : List Write). ss ++ ps) stores pushes);
-            protected = nothing_protected words A instr m.pc effect stores;
-          }
-      safe (to_port a byte low plain stores pushes) =
-          one_safe a byte (never (is_live m.memory a) (λ live. omega (arith, low, above_if_live m.memory.live a live)))
-          (ap (λ b. b && not (is_fixed_site words A m.pc) && (is_protected a && not (lists (store_line A m.pc) a))) plain) stores pushes
-      safe (by_aim a byte aim at aimed stores pushes) =
-          let free = harmless_free instr aim a aimed (clear.store instr aim here at) in
-          one_safe a byte free.dead (subst (λ p. is_flagged_address words A p instr a ≡ false) (sym runs.running.place.pc) free.free) stores pushes
-      safe (pushing byte push plain closes closed stores pushes) =
-          let form = closes (row_unless_added words A k g.node.state instr here (sound.faultless g.node runs.present) plain).faultless in
-          record {
-            live = ap₂ (λ ss ps. live_write m.memory (ss ++ ps)) stores pushes ∙ one_write m.memory m.sp byte (sp_dead form);
-            protected = nothing_protected words A instr m.pc effect stores;
-          }
-      safe (enters back none plain closes closed stores pushes) =
-          let form = closes (row_unless_added words A k g.node.state instr here (sound.faultless g.node runs.present) plain).faultless in
-          record {
-            live = ap₂ (λ ss ps. live_write m.memory (ss ++ ps)) stores pushes ∙ two_writes m.memory m.sp back (sp_dead form) (below_dead form);
-            protected = nothing_protected words A instr m.pc effect stores;
-          }
-
-      stands : (r : ℕ) → r < 32 → ByteStands g.origin (value g.node.state r) (register m r)
-      stands r lt = runs.running.stands.registers r lt
-
-      -- an indirect transfer's word is listed
-      z_listed : is_indirect instr ≡ true → unless_listed (jump_line A m.pc) (wrapped m.device (pair m 30 % WORDS)) ≡ None
-      z_listed indirect =
-          let all = clear.transfer instr here indirect in
-          subst (λ p. unless_listed (jump_line A p) (wrapped m.device (pair m 30 % WORDS)) ≡ None) (sym runs.running.place.pc)
-          (subst (λ device. unless_listed (jump_line A k.pc) (wrapped device (pair m 30 % WORDS)) ≡ None) (sym runs.device)
-          (goes_listed (device_of words) g.node.state (jump_line A k.pc) (register m 30) (register m 31) all
-          (stands 30 (omega arith)).small (stands 31 (omega arith)).small (stands 30 (omega arith)).bits (stands 31 (omega arith)).bits))
-
     -- what goes to no indirect word isn't unlisted
     no_transfer : (b1 b2 : ℕ) (instr : Instr) → instruction_at words m.pc ≡ Some instr → unlisted_transfer A m.pc instr (effect_of words m instr b1 b2) ≡ None
     unfolding unlisted_transfer
-    no_transfer b1 b2 i.Ijmp is = z_listed b1 b2 i.Ijmp is refl
-    no_transfer b1 b2 i.Icall is = z_listed b1 b2 i.Icall is refl
+    no_transfer b1 b2 i.Ijmp is = z_listed b1 b2 i.Ijmp is clear refl
+    no_transfer b1 b2 i.Icall is = z_listed b1 b2 i.Icall is clear refl
     no_transfer b1 b2 _ is = refl
 
     not_going : (b1 b2 : ℕ) (instr : Instr) → instruction_at words m.pc ≡ Some instr → go words A m (Some instr) b1 b2 ≢ Flagged flag
     not_going b1 b2 instr is =
         let effect = effect_of words m instr b1 b2 in
-        let s =
-        safe b1 b2 instr is
-        (does words A m g.origin k g.node.state (forgetting (written instr) g.node.state) runs.running (is_scratch words k.pc) b1 b2 (device_of words) runs.device instr (ports_fit words m.pc instr is)) in
+        let s = safe b1 b2 instr is clear in
         not_flagged (all_inside m.device effect.pushes || is_unlisted (unlisted_transfer A m.pc instr effect)) m.pc (live_write m.memory (effect.stores ++ effect.pushes))
         (protected_write words A m.pc instr effect) (unlisted_transfer A m.pc instr effect) (after m (not (is_scratch words m.pc)) effect) flag
         s.live s.protected (no_transfer b1 b2 instr is)
 
-    by_instruction : (b1 b2 : ℕ) (x : Option Instr) → instruction_at words m.pc ≡ x → go words A m x b1 b2 ≢ Flagged flag
+    pub by_instruction : (b1 b2 : ℕ) (x : Option Instr) → instruction_at words m.pc ≡ x → go words A m x b1 b2 ≢ Flagged flag
     by_instruction b1 b2 None is = λ e. cc
     by_instruction b1 b2 (Some instr) is = not_going b1 b2 instr is
 
-    by_interrupt : (v : ℕ) (clears t : Bool) → is_never A (vector_word (device_of words) v) ≡ false → may_take m v clears ≡ t → (if t then take A m (entering m v clears) else Illegal) ≢ Flagged flag
-    by_interrupt v clears false allowed legal = λ e. cc
-    by_interrupt v clears true allowed legal =
-        let place = runs.running.place in
-        let all = all_four (is_enabled m.enables v) (i_flag m) m.delay (not clears || (v == WATCHDOG)) legal in
-        let form =
-        whole_where_taken (device_of words) A k v k.sp refl (sym place.i ∙ all.1) (sym place.delay ∙ all.2) (ap (λ masks. is_enabled masks v) (sym place.enables) ∙ all.0)
-        allowed (not_hung words A k g.node.state (sound.faultless g.node runs.present)) in
-        let e = entering m v clears in
-        not_flagged (all_inside m.device e.pushes || is_unlisted (never_target A e.pc)) m.pc (live_write m.memory e.pushes) None (never_target A e.pc) (after m true (entering m v clears)) flag
-        (two_writes m.memory m.sp m.pc (sp_dead form) (below_dead form)) refl
-        (ap (λ (b : Bool). if b then Some e.pc else None) (ap (is_never A) (vector_is v all.0) ∙ allowed))
+  by_interrupt : (flag : Flag) (v : ℕ) (clears t : Bool) → is_never A (vector_word (device_of words) v) ≡ false → may_take m v clears ≡ t
+      → (if t then take A m (entering m v clears) else Illegal) ≢ Flagged flag
+  by_interrupt flag v clears false allowed legal = λ e. cc
+  by_interrupt flag v clears true allowed legal =
+      let place = runs.running.place in
+      let all = all_four (is_enabled m.enables v) (i_flag m) m.delay (not clears || (v == WATCHDOG)) legal in
+      let form =
+      whole_where_taken (device_of words) A k v k.sp refl (sym place.i ∙ all.1) (sym place.delay ∙ all.2) (ap (λ masks. is_enabled masks v) (sym place.enables) ∙ all.0)
+      allowed (not_hung words A k g.node.state (sound.faultless g.node runs.present)) in
+      let e = entering m v clears in
+      not_flagged (all_inside m.device e.pushes || is_unlisted (never_target A e.pc)) m.pc (live_write m.memory e.pushes) None (never_target A e.pc) (after m true (entering m v clears)) flag
+      (two_writes m.memory m.sp m.pc (sp_dead form) (below_dead form)) refl
+      (ap (λ (b : Bool). if b then Some e.pc else None) (ap (is_never A) (vector_is v all.0) ∙ allowed))
 
   -- the choice takes a vector whose word has a `never` line
   pub record IsTaken (c : Choice) : Type 0 where
@@ -345,15 +371,15 @@ module _ (words : List ℕ) (A : List Entry) (f : Family) (sound : IsSound words
     pub enabled : is_enabled k.masks vector ≡ true
     pub never : is_never A (vector_word (device_of words) vector) ≡ true
 
-  taken_here : (v : ℕ) (clears : Bool) (flag : Flag) (t b : Bool) → may_take m v clears ≡ t → is_never A (vector_word (device_of words) v) ≡ b
-      → (if t then take A m (entering m v clears) else Illegal) ≡ Flagged flag → (IsClear words A f g.node → ⊥) ⊎ IsTaken (Take v clears)
+  -- a take is flagged only where it is such a one
+  pub taken_here : (v : ℕ) (clears : Bool) (flag : Flag) (t b : Bool) → may_take m v clears ≡ t → is_never A (vector_word (device_of words) v) ≡ b
+      → (if t then take A m (entering m v clears) else Illegal) ≡ Flagged flag → IsTaken (Take v clears)
   taken_here v clears flag false b legal line e = absurd (cc)
-  taken_here v clears flag true false legal line e = inl (λ clear. by_interrupt clear flag v clears true line legal e)
+  taken_here v clears flag true false legal line e = absurd (by_interrupt flag v clears true line legal e)
   taken_here v clears flag true true legal line e =
       let place = runs.running.place in
       let all = all_four (is_enabled m.enables v) (i_flag m) m.delay (not clears || (v == WATCHDOG)) legal in
-      inr
-      (record {
+      record {
         vector = v;
         clears = clears;
         is = refl;
@@ -361,45 +387,4 @@ module _ (words : List ℕ) (A : List Entry) (f : Family) (sound : IsSound words
         delay = sym place.delay ∙ all.2;
         enabled = ap (λ masks. is_enabled masks v) (sym place.enables) ∙ all.0;
         never = line;
-      })
-
-  -- a step is flagged only at a node that isn't clear, or where it takes such a vector
-  pub flagged_here : (c : Choice) (flag : Flag) → step words A m c ≡ Flagged flag → (IsClear words A f g.node → ⊥) ⊎ IsTaken c
-  flagged_here (Go b1 b2) flag e = inl (λ clear. by_instruction clear flag b1 b2 (instruction_at words m.pc) refl e)
-  flagged_here (Take v clears) flag e = taken_here v clears flag (may_take m v clears) (is_never A (vector_word (device_of words) v)) refl refl e
-
--- ---- a flag names the word of its step
-
-named_by : (t : Bool) (pc : ℕ) (a b c : Option ℕ) (x : State) (flag : Flag) → (if t then flagged_or (flag_by pc a b c) x else Overflow pc) ≡ Flagged flag → word_of_flag flag ≡ pc
-named_by false pc a b c x flag e = absurd (cc)
-named_by true pc (Some a) b c x flag e = let is : _ ≡ flag = flag_same _ flag e in ap word_of_flag (sym is)
-  where
-    flag_same : (p q : Flag) → Flagged p ≡ Flagged q → p ≡ q
-    flag_same p q e = cc
-named_by true pc None (Some b) c x flag e = let is : _ ≡ flag = flag_same _ flag e in ap word_of_flag (sym is)
-  where
-    flag_same : (p q : Flag) → Flagged p ≡ Flagged q → p ≡ q
-    flag_same p q e = cc
-named_by true pc None None (Some c) x flag e = let is : _ ≡ flag = flag_same _ flag e in ap word_of_flag (sym is)
-  where
-    flag_same : (p q : Flag) → Flagged p ≡ Flagged q → p ≡ q
-    flag_same p q e = cc
-named_by true pc None None None x flag e = absurd (cc)
-
-module _ (words : List ℕ) (A : List Entry) (m : State) (flag : Flag) where
-  named_going : (b1 b2 : ℕ) (x : Option Instr) → go words A m x b1 b2 ≡ Flagged flag → word_of_flag flag ≡ m.pc
-  named_going b1 b2 None e = absurd (cc)
-  named_going b1 b2 (Some instr) e =
-      let effect = effect_of words m instr b1 b2 in
-      named_by (all_inside m.device effect.pushes || is_unlisted (unlisted_transfer A m.pc instr effect)) m.pc (live_write m.memory (effect.stores ++ effect.pushes))
-      (protected_write words A m.pc instr effect) (unlisted_transfer A m.pc instr effect) (after m (not (is_scratch words m.pc)) effect) flag e
-
-  named_taking : (v : ℕ) (clears t : Bool) → (if t then take A m (entering m v clears) else Illegal) ≡ Flagged flag → word_of_flag flag ≡ m.pc
-  named_taking v clears false e = absurd (cc)
-  named_taking v clears true e =
-      let effect = entering m v clears in
-      named_by (all_inside m.device effect.pushes || is_unlisted (never_target A effect.pc)) m.pc (live_write m.memory effect.pushes) None (never_target A effect.pc) (after m true effect) flag e
-
-  pub flag_names : (c : Choice) → step words A m c ≡ Flagged flag → word_of_flag flag ≡ m.pc
-  flag_names (Go b1 b2) e = named_going b1 b2 (instruction_at words m.pc) e
-  flag_names (Take v clears) e = named_taking v clears (may_take m v clears) e
+      }

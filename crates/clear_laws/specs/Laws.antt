@@ -1,5 +1,5 @@
 -- Laws of flagged steps.
-use Rattle.std.specs.Prelude.{ℕ, ◌⊎◌, ◌≡◌, ◌<◌, Bool, true, false, List, Contains}
+use Rattle.std.specs.Prelude.{ℕ, ◌⊎◌, ◌≡◌, ◌↔◌, ◌<◌, Bool, true, false, List, Contains}
 use Rattle.avr_model.specs.Devices.{device_of}
 use Rattle.avr_model.specs.declared.assumption.Entry.{Entry}
 use Rattle.avr_model.specs.declared.choice.Choice.{Choice}
@@ -14,10 +14,15 @@ use Rattle.local_rules.specs.Machine.{AreWords}
 use Rattle.edge_rules.specs.Families.{Family, IsSound}
 use Rattle.clear_laws.specs.Held.{MayHold, IsClosed}
 use Rattle.clear_laws.specs.Clear.{IsClear, MayBeFlagged, MayBeTaken, EndsByTake, NeverFlagged, word_of_flag, is_clear}
+use Rattle.clear_laws.specs.Causes.{HasCause, MayFlag}
 
 -- A run from reset that ends flagged ends at a word of a node that may be flagged, or takes a vector whose word has a `never` line. So none
--- does where each node is clear and no such vector may be taken.
+-- does where each node is clear and no such vector may be taken. What is flagged may happen at that word: the live byte may be written, this
+-- protected address, or the transfer goes to an unlisted word.
 pub record FlaggedRunsAreTold : Type 0 where
+  pub caused : (words : List ℕ) (A : List Entry) (f : Family) (m : State) (choices : List Choice) (flag : Flag) → AreWords words → IsSound words A f
+      → IsReset (device_of words) m → IsRun words A choices m → stop_of words A choices m ≡ stop.Flag flag
+      → MayFlag words A f flag ⊎ EndsByTake words A f.nodes m choices
   pub told : (words : List ℕ) (A : List Entry) (f : Family) (m : State) (choices : List Choice) (flag : Flag) → AreWords words → IsSound words A f
       → IsReset (device_of words) m → IsRun words A choices m → stop_of words A choices m ≡ stop.Flag flag
       → MayBeFlagged words A f (word_of_flag flag) ⊎ EndsByTake words A f.nodes m choices
@@ -37,3 +42,7 @@ pub record ClearNodesAreTold : Type 0 where
       → ((d : ℕ) → d < offset_of n.key.sp → held d ≡ false → MayHold words A f.nodes n.key d → ⊥) → is_clear words A f.bound n held ≡ true → IsClear words A f n
   pub told : (words : List ℕ) (A : List Entry) (f : Family) (n : Node) (held : ℕ → Bool)
       → ((d : ℕ) → d < offset_of n.key.sp → held d ≡ true → MayHold words A f.nodes n.key d) → IsClear words A f n → is_clear words A f.bound n held ≡ true
+
+-- Where a node may be flagged something may happen, and nothing elsewhere.
+abbrev pub PlacesHaveCauses : Type 0
+PlacesHaveCauses = (words : List ℕ) (A : List Entry) (f : Family) (pc : ℕ) → MayBeFlagged words A f pc ↔ HasCause words A f pc

@@ -1,4 +1,5 @@
 pub mod Held
 pub mod Aims
 pub mod Clear
+pub mod Causes
 pub mod Laws

@@ -1,8 +1,9 @@
 //! Laws of flagged steps, each as the contract of a function that does nothing.
 
-ghost use Rattle.clear_laws.specs.Laws.{FlaggedRunsAreTold, HeldSlotsAreLeast, ClearNodesAreTold};
+ghost use Rattle.clear_laws.specs.Laws.{FlaggedRunsAreTold, HeldSlotsAreLeast, ClearNodesAreTold, PlacesHaveCauses};
 
-/// A run that ends flagged ends at a word of a node that may be flagged, or where it takes a vector that is never entered.
+/// A run that ends flagged ends at a word of a node that may be flagged, at which just that may happen, or where it takes a vector that is
+/// never entered.
 pub fn flagged_runs_are_told()
     ensures { FlaggedRunsAreTold }
 {}
@@ -15,4 +16,9 @@ pub fn held_slots_are_least()
 /// Whether a node is clear can be told.
 pub fn clear_nodes_are_told()
     ensures { ClearNodesAreTold }
+{}
+
+/// Where a node may be flagged, and only there, something may happen.
+pub fn places_have_causes()
+    ensures { PlacesHaveCauses }
 {}

@@ -12,7 +12,7 @@ use Rattle.commands.specs.declared.line.Valued.TheVariants as option
 -- what is to be done for a firmware of which device, with the names of the files: judge a certificate, write the least one within a
 -- number of rounds if there is one, replay a schedule, judge a certificate and tell what it shows, where the bytes of its bound go, whether
 -- no step can be flagged, or where one may be, judge it and write it with the schedule that a number of trials finds, run with devices for a
--- number of choices, and measure the analysis by the image of a number
+-- number of choices, and measure the analysis by the image of a number. What may happen where a step may be flagged is told where it is asked.
 pub data Command : Type 0 where
   Check : (device : Device) (firmware certificate : List ℕ) (assume : Option (List ℕ)) → Command
   Analyse : (device : Device) (firmware : List ℕ) (assume : Option (List ℕ)) (steps : Option ℕ) → Command
@@ -20,7 +20,7 @@ pub data Command : Type 0 where
   Report : (device : Device) (firmware certificate : List ℕ) (assume : Option (List ℕ)) (json : Bool) → Command
   Explain : (device : Device) (firmware certificate : List ℕ) (assume : Option (List ℕ)) → Command
   Clear : (device : Device) (firmware certificate : List ℕ) → Command
-  Premises : (device : Device) (firmware certificate : List ℕ) (assume : Option (List ℕ)) → Command
+  Premises : (device : Device) (firmware certificate : List ℕ) (assume : Option (List ℕ)) (why : Bool) → Command
   Attain : (device : Device) (firmware certificate : List ℕ) (assume : Option (List ℕ)) (trials : ℕ) → Command
   Simulate : (device : Device) (firmware devices : List ℕ) (assume : Option (List ℕ)) (steps : ℕ) → Command
   Demo : (size : ℕ) → Command
@@ -33,7 +33,7 @@ device_for (Run device firmware schedule assume) = device
 device_for (Report device firmware certificate assume json) = device
 device_for (Explain device firmware certificate assume) = device
 device_for (Clear device firmware certificate) = device
-device_for (Premises device firmware certificate assume) = device
+device_for (Premises device firmware certificate assume why) = device
 device_for (Attain device firmware certificate assume trials) = device
 device_for (Simulate device firmware devices assume steps) = device
 device_for (Demo size) = M328
@@ -66,9 +66,9 @@ name_of (Explain device firmware certificate assume) Assumptions = assume
 name_of (Clear device firmware certificate) Firmware = Some firmware
 name_of (Clear device firmware certificate) Second = Some certificate
 name_of (Clear device firmware certificate) Assumptions = None
-name_of (Premises device firmware certificate assume) Firmware = Some firmware
-name_of (Premises device firmware certificate assume) Second = Some certificate
-name_of (Premises device firmware certificate assume) Assumptions = assume
+name_of (Premises device firmware certificate assume why) Firmware = Some firmware
+name_of (Premises device firmware certificate assume why) Second = Some certificate
+name_of (Premises device firmware certificate assume why) Assumptions = assume
 name_of (Attain device firmware certificate assume trials) Firmware = Some firmware
 name_of (Attain device firmware certificate assume trials) Second = Some certificate
 name_of (Attain device firmware certificate assume trials) Assumptions = assume
@@ -98,10 +98,11 @@ pub record Line : Type 0 where
   pub device : Option (List ℕ)
   pub trials : Option (List ℕ)
   pub json : Bool
+  pub why : Bool
   pub waits : Option Valued
 
 abbrev pub empty_line : Line
-empty_line = record { first = None; second = None; assume = None; steps = None; device = None; trials = None; json = false; waits = None }
+empty_line = record { first = None; second = None; assume = None; steps = None; device = None; trials = None; json = false; why = false; waits = None }
 
 -- a value where there was none
 abbrev pub once : Option (List ℕ) → List ℕ → Option (Option (List ℕ))
@@ -143,6 +144,9 @@ waiting line option = record line { waits = Some option }
 abbrev pub with_json : Line → Option Line
 with_json line = if line.json then None else Some (record line { json = true })
 
+abbrev pub with_why : Line → Option Line
+with_why line = if line.why then None else Some (record line { why = true })
+
 -- a word that is no option's value
 abbrev pub with_free : Line → List ℕ → Option Line
 with_free line word =
@@ -151,7 +155,8 @@ with_free line word =
     else (if bytes_eq word (codes "--device") then Some (waiting line option.Device)
     else (if bytes_eq word (codes "--trials") then Some (waiting line option.Trials)
     else (if bytes_eq word (codes "--json") then with_json line
-    else (if is_name word then named line.first line.second line word else None)))))
+    else (if bytes_eq word (codes "--why") then with_why line
+    else (if is_name word then named line.first line.second line word else None))))))
 
 abbrev pub placed : Option Valued → Line → List ℕ → Option Line
 placed None line word = with_free line word
@@ -223,7 +228,7 @@ device_in (Some word) = device_called word
 
 -- no option is there but `--assume`, `--device` and `--steps`
 abbrev pub is_stepping : Line → Bool
-is_stepping line = is_none line.trials && not line.json
+is_stepping line = is_none line.trials && (not line.json && not line.why)
 
 -- no option is there but `--assume` and `--device`
 abbrev pub is_plain : Line → Bool
@@ -275,7 +280,7 @@ run_of line =
 
 abbrev pub report_of : Line → Option Command
 report_of line =
-    if is_none line.steps && is_none line.trials
+    if is_none line.steps && (is_none line.trials && not line.why)
     then on_device (device_in line.device) (λ device. with_two line.first line.second (λ firmware certificate. Report device firmware certificate line.assume line.json))
     else None
 
@@ -293,8 +298,8 @@ clear_of line =
 
 abbrev pub premises_of : Line → Option Command
 premises_of line =
-    if is_plain line
-    then on_device (device_in line.device) (λ device. with_two line.first line.second (λ firmware certificate. Premises device firmware certificate line.assume))
+    if is_none line.steps && (is_none line.trials && not line.json)
+    then on_device (device_in line.device) (λ device. with_two line.first line.second (λ firmware certificate. Premises device firmware certificate line.assume line.why))
     else None
 
 abbrev pub attaining : Device → List ℕ → List ℕ → Option (List ℕ) → Option ℕ → Option Command
@@ -303,7 +308,7 @@ attaining device firmware certificate assume (Some trials) = Some (Attain device
 
 abbrev pub attain_of : Line → Option Command
 attain_of line =
-    if is_none line.steps && not line.json
+    if is_none line.steps && (not line.json && not line.why)
     then on_device (device_in line.device) (λ device. with_both line.first line.second (λ firmware certificate. attaining device firmware certificate line.assume (trials_in line.trials)))
     else None
 

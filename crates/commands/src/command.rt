@@ -55,12 +55,13 @@ pub enum Command<'a> {
         firmware: &'a str,
         certificate: &'a str,
     },
-    /// Judges a certificate for a firmware, and tells where a step may be flagged.
+    /// Judges a certificate for a firmware, and tells where a step may be flagged, also with what may happen there.
     Premises {
         device: Device,
         firmware: &'a str,
         certificate: &'a str,
         assume: Option<&'a str>,
+        why: bool,
     },
     /// Judges a certificate for a firmware, and writes it, with the schedule that one of so many guided trials finds where it has none.
     Attain {
@@ -162,7 +163,7 @@ impl<'a> Command<'a> {
 fn is_stepping(line: &Line<'_>) -> bool
     ensures { result ≡ is_stepping (line_of line.now) }
 {
-    line.trials.is_none() && !line.json
+    line.trials.is_none() && !line.json && !line.why
 }
 
 /// Whether no option is there but `--assume` and `--device`.
@@ -316,7 +317,7 @@ fn run_of<'a>(line: Line<'a>) -> Option<Command<'a>>
 fn report_of<'a>(line: Line<'a>) -> Option<Command<'a>>
     ensures { option_map command_seen result ≡ report_of (line_of line.entry) }
 {
-    if line.steps.is_some() || line.trials.is_some() {
+    if line.steps.is_some() || line.trials.is_some() || line.why {
         return None;
     }
     Some(Command::Report {
@@ -358,7 +359,7 @@ fn clear_of<'a>(line: Line<'a>) -> Option<Command<'a>>
 fn premises_of<'a>(line: Line<'a>) -> Option<Command<'a>>
     ensures { option_map command_seen result ≡ premises_of (line_of line.entry) }
 {
-    if !is_plain(&line) {
+    if line.steps.is_some() || line.trials.is_some() || line.json {
         return None;
     }
     Some(Command::Premises {
@@ -366,13 +367,14 @@ fn premises_of<'a>(line: Line<'a>) -> Option<Command<'a>>
         firmware: line.first?,
         certificate: line.second?,
         assume: line.assume,
+        why: line.why,
     })
 }
 
 fn attain_of<'a>(line: Line<'a>) -> Option<Command<'a>>
     ensures { option_map command_seen result ≡ attain_of (line_of line.entry) }
 {
-    if line.steps.is_some() || line.json {
+    if line.steps.is_some() || line.json || line.why {
         return None;
     }
     Some(Command::Attain {
@@ -439,7 +441,7 @@ fn called<'a>(word: &str, line: Line<'a>) -> Option<Command<'a>>
     }
 }
 
-/// The line with all these words more, if each can stand where it does. At most eleven can.
+/// The line with all these words more, if each can stand where it does. At most twelve can.
 fn line_with<'a>(line: Line<'a>, words: &'a [&'a str]) -> Option<Line<'a>>
     ensures { option_map line_of result ≡ then_words (Some (line_of line.entry)) (map (λ w. w.now) words.now) }
 {

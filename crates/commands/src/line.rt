@@ -2,7 +2,7 @@
 
 ghost use Rattle.std.specs.Prelude.{◌≡◌, Some};
 ghost use Rattle.std.specs.Option.{option_map};
-ghost use Rattle.commands.specs.Commands.{is_name, empty_line, once, with_value, named, waiting, with_json, with_free, placed, with_word};
+ghost use Rattle.commands.specs.Commands.{is_name, empty_line, once, with_value, named, waiting, with_json, with_why, with_free, placed, with_word};
 ghost use Rattle.commands.specs.Views.{text_of, line_of};
 
 /// An option that takes the next word.
@@ -24,6 +24,7 @@ pub struct Line<'a> {
     pub device: Option<&'a str>,
     pub trials: Option<&'a str>,
     pub json: bool,
+    pub why: bool,
     pub waits: Option<Valued>,
 }
 
@@ -49,6 +50,7 @@ impl<'a> Line<'a> {
             device: None,
             trials: None,
             json: false,
+            why: false,
             waits: None,
         }
     }
@@ -120,6 +122,16 @@ impl<'a> Line<'a> {
         }
     }
 
+    fn with_why(self) -> Option<Line<'a>>
+        ensures { option_map line_of result ≡ with_why (line_of self.entry) }
+    {
+        if self.why {
+            None
+        } else {
+            Some(Line { why: true, ..self })
+        }
+    }
+
     fn waiting(self, option: Valued) -> Option<Line<'a>>
         ensures { option_map line_of result ≡ Some (waiting (line_of self.entry) option) }
     {
@@ -142,6 +154,8 @@ impl<'a> Line<'a> {
             self.waiting(Valued::Trials)
         } else if word == "--json" {
             self.with_json()
+        } else if word == "--why" {
+            self.with_why()
         } else if is_name(word) {
             self.with_name(word)
         } else {

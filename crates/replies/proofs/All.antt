@@ -1,16 +1,18 @@
 -- What the answers say, by command.
-use Rattle.std.proofs.Common.{◌≡◌, ◌≤◌, ◌*◌, ◌%◌, inl, inr, ℕ, List, [], length, Option, Some, None, Result, Ok, Err, refl, sym, ◌∙◌, subst}
+use Rattle.std.proofs.Common.{◌≡◌, ◌≤◌, ◌*◌, ◌%◌, inl, inr, ℕ, Bool, true, false, List, [], ◌∷◌, map, length, Option, Some, None, Result, Ok, Err, refl, sym, ap, ◌∙◌, subst}
 use Rattle.std.specs.Prelude.{◌↔◌, ◌⊎◌, Contains}
 use Rattle.std.specs.Option.{is_some}
 use Rattle.basics.specs.Items.{none_in}
 use Rattle.avr_model.specs.declared.assumption.Entry.{Entry}
 use Rattle.avr_model.specs.declared.choice.Choice.{Choice}
+use Rattle.avr_model.specs.declared.choice.Flag.{Flag}
 use Rattle.avr_model.specs.declared.device.Device.{Device}
 use Rattle.avr_model.specs.Devices.{device_of}
 use Rattle.avr_model.specs.State.{State}
 use Rattle.avr_model.specs.Vectors.{vector_word}
 use Rattle.avr_model.specs.Image.{WORDS, IsRawImage, raw_words}
 use Rattle.flash_image.specs.Narrowing.{NarrowingIsExact}
+use Rattle.flash_image.specs.Naming.{Named}
 use Rattle.indirect_targets.specs.Exact.{ReadingIsExact}
 use Rattle.local_rules.specs.Machine.{AreWords}
 use Rattle.witness_replay.specs.Runs.{ReplaysAreRuns}
@@ -33,15 +35,17 @@ use Rattle.clear_laws.specs.Clear.{word_of_flag}
 use Rattle.store_laws.specs.declared.verdict.ClearVerdict.{ClearVerdict}
 use Rattle.store_laws.specs.declared.verdict.ClearVerdict.TheVariants as clear
 use Rattle.store_laws.specs.Verdict.{AreAllClear, IsClearVerdict, AreSites}
-use Rattle.store_laws.specs.Laws.{ClearVerdictsAreOne, ClearFirmwaresAreNeverFlagged, FlaggedRunsEndAtSites, EndsByTakeAt}
+use Rattle.store_laws.specs.declared.place.FlaggedPlace.{FlaggedPlace}
+use Rattle.store_laws.specs.Places.{word_of, AreToldOf}
+use Rattle.store_laws.specs.Laws.{ClearVerdictsAreOne, ClearFirmwaresAreNeverFlagged, FlaggedRunsEndAtSites, FlaggedRunsEndAtPlaces, EndsByTakeAt}
 use Rattle.store_clear.specs.Laws.{ClearWhereNoSites}
 use Rattle.cert_writing.specs.Sizes.{TextsFit}
 use Rattle.guided_trials.specs.Laws.{TrialsAreLed}
 use Rattle.commands.specs.Commands.{Command, Check, Analyse, Run, Report, Explain, Clear, Premises, Attain, Simulate, Demo, device_for}
-use Rattle.replies.specs.Firmware.{IsFirmware, firmware_words}
+use Rattle.replies.specs.Firmware.{IsFirmware, firmware_words, firmware_names}
 use Rattle.replies.specs.Texts.{devices_refused, accepted, run_text}
 use Rattle.replies.specs.Reading.{Whole, Contents, certificate_cap}
-use Rattle.replies.specs.Reply.{Reply, WithOptional, WithImage, WithList, ClearSays, ClearReply, AcceptedReply, AnalyseReply, SimulateReply, DemoReply, IsReply}
+use Rattle.replies.specs.Reply.{Reply, WithOptional, WithImage, WithList, ClearSays, ClearReply, PlacesReply, AcceptedReply, AnalyseReply, SimulateReply, DemoReply, IsReply}
 use Rattle.replies.specs.Headline.{AreLoaded, IsListOf, StandFor, Shows, HoldsAsRead, IsLeastAsRead, IsAttainedAsRead, IsSimulatedAsRead, IsMeasured, SaysWhether, AcceptsExactly, AnswersRounds, AnswersDevices, AcceptingRepliesHold, RepliesAreExact}
 use Rattle.replies.proofs.Accepting.{zero_file, zero_optional, zero_image, zero_list, zero_refused, no_one, IsJudged, file_read, optional_read, Accepting, IsJudgement, HoldsOf, judgement_holds, image_read, list_read, judged_by, valid_judged}
 use Rattle.replies.proofs.Attaining.{written_attained}
@@ -66,7 +70,13 @@ pub record ClearIsTold : Type 0 where
   pub one : ClearVerdictsAreOne
   pub never : ClearFirmwaresAreNeverFlagged
   pub ends : FlaggedRunsEndAtSites
+  pub places : FlaggedRunsEndAtPlaces
   pub empty : ClearWhereNoSites
+
+-- no words, no places
+no_words : (places : List FlaggedPlace) → map word_of places ≡ [] → places ≡ []
+no_words [] e = refl
+no_words (p ∷ ps) e = absurd (cc)
 
 module _
     (raw : (bytes words : List ℕ) → IsRawImage bytes words → words ≡ raw_words bytes)
@@ -217,10 +227,11 @@ module _
   none_ends words A m choices word (inr h) = none_in (vector_word (device_of words) h.vector) h.word
 
   premises_as : (device : Device) (fw cert : List ℕ) (assume : Option (List ℕ)) (seen : Contents) (text : List ℕ)
-      → HoldsOf raw images narrowing lists read spelled bounds device (AcceptedReply (Premises device fw cert assume)) assume seen text → HoldsAsRead (Premises device fw cert assume) assume seen text
+      → HoldsOf raw images narrowing lists read spelled bounds device (AcceptedReply (Premises device fw cert assume false)) assume seen text
+      → HoldsAsRead (Premises device fw cert assume false) assume seen text
   premises_as device fw cert assume seen text h =
       let ends = told_clear.ends h.words h.A h.claim h.told.sites h.told.nevers h.fit h.stand.fits.claim h.valid.sound h.told.are h.told.are_nevers in
-      holds_as (Premises device fw cert assume) assume seen text h
+      holds_as (Premises device fw cert assume false) assume seen text h
       (record {
         sites = h.told.sites;
         nevers = h.told.nevers;
@@ -234,6 +245,44 @@ module _
         as_clear = λ none verdict is. told_clear.empty h.words h.claim verdict h.told.sites is (subst (λ B. AreSites h.words B h.claim h.told.sites) none h.told.are);
         told = h.told.says.1;
       })
+
+  none_told : (words : List ℕ) (A : List Entry) (m : State) (choices : List Choice) (flag : Flag) (places : List FlaggedPlace) (nevers : List ℕ) → places ≡ [] → nevers ≡ []
+      → AreToldOf places flag ⊎ EndsByTakeAt words A nevers m choices → ⊥
+  none_told words A m choices flag places nevers no_places no_nevers (inl h) = none_in h.place (subst (λ (xs : List FlaggedPlace). Contains xs h.place) no_places h.present)
+  none_told words A m choices flag places nevers no_places no_nevers (inr h) =
+      none_in (vector_word (device_of words) h.vector) (subst (λ (xs : List ℕ). Contains xs (vector_word (device_of words) h.vector)) no_nevers h.word)
+
+  causes_as : (device : Device) (fw cert : List ℕ) (assume : Option (List ℕ)) (seen : Contents) (text : List ℕ)
+      → HoldsOf raw images narrowing lists read spelled bounds device (AcceptedReply (Premises device fw cert assume true)) assume seen text
+      → HoldsAsRead (Premises device fw cert assume true) assume seen text
+  causes_as device fw cert assume seen text h =
+      let ends = told_clear.places.ends h.words h.A h.claim h.told.places h.told.nevers h.fit h.stand.fits.claim h.valid.sound h.told.are h.told.are_nevers in
+      holds_as (Premises device fw cert assume true) assume seen text h
+      (record {
+        places = h.told.places;
+        nevers = h.told.nevers;
+        are = h.told.are;
+        are_nevers = h.told.are_nevers;
+        causes = told_clear.places.told h.words h.A h.claim h.told.places h.told.are;
+        ends = ends;
+        none_flagged = λ no_places no_nevers m choices flag reset run stops.
+            none_told h.words h.A m choices flag h.told.places h.told.nevers no_places no_nevers (ends m choices flag reset run stops);
+        as_clear = λ none verdict is.
+            let same =
+            told_clear.empty h.words h.claim verdict (map word_of h.told.places) is (subst (λ B. AreSites h.words B h.claim (map word_of h.told.places)) none h.told.are.sites) in
+            (λ e. no_words h.told.places (same.0 e), λ e. same.1 (ap (map word_of) e));
+        told = h.told.says.1;
+      })
+
+  places_zero : (why : Bool) (names : List Named) (words : List ℕ) (A : List Entry) (c : Claim) (status : ℕ) (text : List ℕ) → PlacesReply why names words A c status text → status ≡ 0
+  places_zero false names words A c status text k = k.says.0
+  places_zero true names words A c status text k = k.says.0
+
+  places_as : (why : Bool) (device : Device) (fw cert : List ℕ) (assume : Option (List ℕ)) (seen : Contents) (text : List ℕ)
+      → HoldsOf raw images narrowing lists read spelled bounds device (AcceptedReply (Premises device fw cert assume why)) assume seen text
+      → HoldsAsRead (Premises device fw cert assume why) assume seen text
+  places_as false device fw cert assume seen text h = premises_as device fw cert assume seen text h
+  places_as true device fw cert assume seen text h = causes_as device fw cert assume seen text h
 
   no_reply : Accepting
   no_reply bytes words A c status text = ⊥
@@ -368,9 +417,9 @@ module _
   replies_hold (Clear device fw cert) seen status text h has =
       λ zero. clear_as device fw cert seen text
       (judgement_holds raw images narrowing lists read spelled bounds device (AcceptedReply (Clear device fw cert)) fw cert None seen text (has zero) (subst (λ s. IsReply (Clear device fw cert) seen s text) zero h))
-  replies_hold (Premises device fw cert assume) seen status text h has =
-      λ zero. premises_as device fw cert assume seen text
-      (judgement_holds raw images narrowing lists read spelled bounds device (AcceptedReply (Premises device fw cert assume)) fw cert assume seen text (has zero) (subst (λ s. IsReply (Premises device fw cert assume) seen s text) zero h))
+  replies_hold (Premises device fw cert assume why) seen status text h has =
+      λ zero. places_as why device fw cert assume seen text
+      (judgement_holds raw images narrowing lists read spelled bounds device (AcceptedReply (Premises device fw cert assume why)) fw cert assume seen text (has zero) (subst (λ s. IsReply (Premises device fw cert assume why) seen s text) zero h))
   replies_hold (Attain device fw cert assume trials) seen status text h has =
       λ zero. attained_as device fw cert assume trials seen text
       (judgement_holds raw images narrowing lists read spelled bounds device (AcceptedReply (Attain device fw cert assume trials)) fw cert assume seen text (has zero) (subst (λ s. IsReply (Attain device fw cert assume trials) seen s text) zero h))
@@ -387,8 +436,8 @@ module _
   replies_are_exact (Explain device fw cert assume) seen status text h =
       accepts_valid (Explain device fw cert assume) fw cert assume seen status text (λ bytes ws B c s t k. k.says.0) (λ ws B c s k. record { accepted = k.accepted; unclear = (k.unclear, λ b. absurd b); rejected = k.rejected }) h
   replies_are_exact (Clear device fw cert) seen status text h = clear_read device fw cert seen status text h
-  replies_are_exact (Premises device fw cert assume) seen status text h =
-      accepts_valid (Premises device fw cert assume) fw cert assume seen status text (λ bytes ws B c s t k. k.says.0) (λ ws B c s k. record { accepted = k.accepted; unclear = (k.unclear, λ b. absurd b); rejected = k.rejected }) h
+  replies_are_exact (Premises device fw cert assume why) seen status text h =
+      accepts_valid (Premises device fw cert assume why) fw cert assume seen status text (λ bytes ws B c s t k. places_zero why (firmware_names bytes) ws B c s t k) (λ ws B c s k. record { accepted = k.accepted; unclear = (k.unclear, λ b. absurd b); rejected = k.rejected }) h
   replies_are_exact (Attain device fw cert assume trials) seen status text h =
       accepts_valid (Attain device fw cert assume trials) fw cert assume seen status text (λ bytes ws B c s t k. k.says.0) (λ ws B c s k. record { accepted = k.accepted; unclear = (k.unclear, λ b. absurd b); rejected = k.rejected }) h
   replies_are_exact (Simulate device fw dev assume steps) seen status text h = simulation_read device fw dev assume steps seen status text h

@@ -22,7 +22,7 @@ use Rattle.reports.specs.Explained.{explanation_text}
 use Rattle.store_laws.specs.declared.verdict.ClearVerdict.{ClearVerdict}
 use Rattle.store_laws.specs.declared.verdict.ClearVerdict.TheVariants as clear
 use Rattle.store_laws.specs.Laws.{ClearVerdictsAreOne}
-use Rattle.store_clear.specs.Laws.{SitesAreOne, NeversAreOne}
+use Rattle.store_clear.specs.Laws.{SitesAreOne, PlacesAreOne, NeversAreOne}
 use Rattle.device_hooks.specs.declared.devices.DevicesFault.{DevicesFault}
 use Rattle.device_hooks.specs.Spelling.{Setup}
 use Rattle.device_hooks.specs.Reading.{setup_in}
@@ -30,9 +30,9 @@ use Rattle.device_hooks.specs.Simulating.{simulation_of}
 use Rattle.commands.specs.Commands.{Command, Check, Analyse, Run, Report, Explain, Clear, Premises, Attain, Simulate, Demo, Firmware, Second, Assumptions, device_for, name_of}
 use Rattle.replies.specs.Firmware.{firmware_words, firmware_fault, firmware_names}
 use Rattle.replies.specs.Texts.{too_long, assumptions_refused, certificate_refused, schedule_malformed, schedule_illegal, devices_refused, rejected, witness_rejected, run_text}
-use Rattle.replies.specs.Places.{clear_text, unclear_text, premises_text}
+use Rattle.replies.specs.Places.{clear_text, unclear_text, premises_text, why_text}
 use Rattle.replies.specs.Reading.{Seen, Unread, Whole, Long}
-use Rattle.replies.specs.Reply.{Reply, Says, Refuses, WithFile, WithBytes, WithOptional, ImageBy, WithImage, ListBy, WithList, attains, AttainedBy, WitnessReply, VerdictReply, JudgedReply, CertificateReply, RunReply, EndsBefore, ScheduleReply, told_of, ExplainReply, ClearSays, ClearReply, PremisesReply, AcceptedReply, SimulateReply, FlashReply, WorkReply}
+use Rattle.replies.specs.Reply.{Reply, Says, Refuses, WithFile, WithBytes, WithOptional, ImageBy, WithImage, ListBy, WithList, attains, AttainedBy, WitnessReply, VerdictReply, JudgedReply, CertificateReply, RunReply, EndsBefore, ScheduleReply, told_of, ExplainReply, ClearSays, ClearReply, PremisesReply, WhyReply, PlacesReply, AcceptedReply, SimulateReply, FlashReply, WorkReply}
 use Rattle.replies.specs.Headline.{RepliesAreOne}
 use Rattle.replies.proofs.Analysing.{analyse_one, demo_one}
 use Rattle.replies.proofs.Attaining.{attain_one}
@@ -103,7 +103,7 @@ schedule_one words A (Ok read) s t a b h k =
     ends_one read.1.rest read.1.at (RunReply (replay_of words A read.0)) (run_one (replay_of words A read.0)) s t a b h k
 
 module _ (read : ReadIsSpelled) (one : VerdictsAreOne) (answers : AnswersAreOne) (chains : WaypointsAreOne) (explanations : ExplanationsAreOne)
-    (clears : ClearVerdictsAreOne) (places : SitesAreOne) (takes : NeversAreOne) where
+    (clears : ClearVerdictsAreOne) (sites : SitesAreOne) (places : PlacesAreOne) (takes : NeversAreOne) where
   judged_one : (words : List ℕ) (A : List Entry) (next : Claim → Reply) (c : Claim) → IsClaim c → IsOne (next c) → IsOne (JudgedReply words A next c)
   judged_one words A next c claim f s t a b h k =
       let e = one words A c h.verdict k.verdict claim h.is k.is in
@@ -131,9 +131,19 @@ module _ (read : ReadIsSpelled) (one : VerdictsAreOne) (answers : AnswersAreOne)
 
   premises_one : (names : List Named) (words : List ℕ) (A : List Entry) (c : Claim) → IsClaim c → IsOne (PremisesReply names words A c)
   premises_one names words A c claim s t a b h k =
-      let e = places words A c h.sites k.sites h.are k.are in
+      let e = sites words A c h.sites k.sites h.are k.are in
       let f = takes words A c h.nevers k.nevers h.are_nevers k.are_nevers in
       (h.says.0 ∙ sym k.says.0, h.says.1 ∙ (ap₂ (premises_text words names c.bound) e f ∙ sym k.says.1))
+
+  why_one : (names : List Named) (words : List ℕ) (A : List Entry) (c : Claim) → IsClaim c → IsOne (WhyReply names words A c)
+  why_one names words A c claim s t a b h k =
+      let e = places words A c h.places k.places h.are k.are in
+      let f = takes words A c h.nevers k.nevers h.are_nevers k.are_nevers in
+      (h.says.0 ∙ sym k.says.0, h.says.1 ∙ (ap₂ (why_text words names c.bound) e f ∙ sym k.says.1))
+
+  places_one : (why : Bool) (names : List Named) (words : List ℕ) (A : List Entry) (c : Claim) → IsClaim c → IsOne (PlacesReply why names words A c)
+  places_one false names words A c claim s t a b h k = premises_one names words A c claim s t a b h k
+  places_one true names words A c claim s t a b h k = why_one names words A c claim s t a b h k
 
   flash_one : (command : Command) (firmware bytes words : List ℕ) (A : List Entry) → IsOne (FlashReply command firmware bytes words A)
   flash_one (Check device fw cert assume) firmware bytes words A =
@@ -145,8 +155,8 @@ module _ (read : ReadIsSpelled) (one : VerdictsAreOne) (answers : AnswersAreOne)
   flash_one (Explain device fw cert assume) firmware bytes words A =
       read_one words A (AcceptedReply (Explain device fw cert assume) firmware words A) bytes (explain_one (firmware_names firmware) words A)
   flash_one (Clear device fw cert) firmware bytes words A = read_one words [] (ClearReply words) bytes (clear_one words)
-  flash_one (Premises device fw cert assume) firmware bytes words A =
-      read_one words A (AcceptedReply (Premises device fw cert assume) firmware words A) bytes (premises_one (firmware_names firmware) words A)
+  flash_one (Premises device fw cert assume why) firmware bytes words A =
+      read_one words A (AcceptedReply (Premises device fw cert assume why) firmware words A) bytes (places_one why (firmware_names firmware) words A)
   flash_one (Attain device fw cert assume trials) firmware bytes words A =
       read_one words A (AcceptedReply (Attain device fw cert assume trials) firmware words A) bytes (λ c claim. attain_one words A trials c)
   flash_one (Simulate device fw devices assume steps) firmware bytes words A = simulate_one words A steps (setup_in bytes)
@@ -164,7 +174,7 @@ module _ (read : ReadIsSpelled) (one : VerdictsAreOne) (answers : AnswersAreOne)
   work_one (Report device fw cert assume json) firmware second list = on_flash_one (Report device fw cert assume json) firmware second list
   work_one (Explain device fw cert assume) firmware second list = on_flash_one (Explain device fw cert assume) firmware second list
   work_one (Clear device fw cert) firmware second list = on_flash_one (Clear device fw cert) firmware second list
-  work_one (Premises device fw cert assume) firmware second list = on_flash_one (Premises device fw cert assume) firmware second list
+  work_one (Premises device fw cert assume why) firmware second list = on_flash_one (Premises device fw cert assume why) firmware second list
   work_one (Attain device fw cert assume trials) firmware second list = on_flash_one (Attain device fw cert assume trials) firmware second list
   work_one (Simulate device fw devices assume steps) firmware second list = on_flash_one (Simulate device fw devices assume steps) firmware second list
   work_one (Demo size) firmware second list = demo_one answers chains size

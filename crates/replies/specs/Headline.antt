@@ -1,5 +1,5 @@
 -- What the answers say of the bytes that were read, and when they are given.
-use Rattle.std.specs.Prelude.{◌≡◌, ◌≢◌, ◌↔◌, ◌≤◌, ⊤, true, ℕ, List, [], length, Option, Some, None}
+use Rattle.std.specs.Prelude.{◌≡◌, ◌≢◌, ◌↔◌, ◌≤◌, ⊤, Bool, true, false, ℕ, List, [], length, Option, Some, None}
 use Rattle.std.specs.Option.{is_some}
 use Rattle.avr_model.specs.declared.assumption.Entry.{Entry}
 use Rattle.avr_model.specs.declared.device.Device.{Device}
@@ -23,7 +23,9 @@ use Rattle.chain_explain.specs.Told.{Tells}
 use Rattle.reports.specs.Explained.{explanation_text}
 use Rattle.guided_trials.specs.Attaining.{IsCompleted, AttainedWhere}
 use Rattle.clear_laws.specs.Clear.{NeverFlagged}
-use Rattle.store_laws.specs.Laws.{IsBoundedAndClear, EndFlaggedAt}
+use Rattle.store_laws.specs.declared.place.FlaggedPlace.{FlaggedPlace}
+use Rattle.store_laws.specs.Places.{ArePlaces, AllTellCauses}
+use Rattle.store_laws.specs.Laws.{IsBoundedAndClear, EndFlaggedAt, EndFlaggedAsTold}
 use Rattle.store_laws.specs.declared.verdict.ClearVerdict.{ClearVerdict}
 use Rattle.store_laws.specs.declared.verdict.ClearVerdict.TheVariants.{Clear as AllClear}
 use Rattle.store_laws.specs.Verdict.{AreAllClear, IsFirstUnclear, IsClearVerdict, AreSites, AreNevers}
@@ -35,7 +37,7 @@ use Rattle.commands.specs.Commands.{Command, Check, Analyse, Run, Report, Explai
 use Rattle.local_rules.specs.Machine.{AreWords}
 use Rattle.replies.specs.Firmware.{IsFirmware, firmware_words, firmware_names}
 use Rattle.replies.specs.Texts.{accepted, run_text, demo_text}
-use Rattle.replies.specs.Places.{premises_text}
+use Rattle.replies.specs.Places.{premises_text, why_text}
 use Rattle.replies.specs.Reading.{Seen, Whole, Contents, certificate_cap}
 use Rattle.replies.specs.Analysis.{TrialsFind}
 use Rattle.replies.specs.Reply.{AcceptedReply, IsReply}
@@ -94,6 +96,24 @@ pub record TellsFlagged (names : List Named) (words : List ℕ) (A : List Entry)
   pub as_clear : A ≡ [] → (verdict : ClearVerdict) → IsClearVerdict words c verdict → (verdict ≡ AllClear) ↔ (sites ≡ [])
   pub told : text ≡ premises_text words names c.bound sites nevers
 
+-- The same with what may happen there, for each word something: each run from reset that ends flagged ends where just what is flagged is told of
+-- its word (this protected address, a pushed byte, or an unlisted word), or by taking a vector at one of the other words.
+pub record TellsCauses (names : List Named) (words : List ℕ) (A : List Entry) (c : Claim) (text : List ℕ) : Type 0 where
+  pub places : List FlaggedPlace
+  pub nevers : List ℕ
+  pub are : ArePlaces words A c places
+  pub are_nevers : AreNevers words A c nevers
+  pub causes : AllTellCauses places
+  pub ends : EndFlaggedAsTold words A places nevers
+  pub none_flagged : places ≡ [] → nevers ≡ [] → NeverFlagged words A
+  pub as_clear : A ≡ [] → (verdict : ClearVerdict) → IsClearVerdict words c verdict → (verdict ≡ AllClear) ↔ (places ≡ [])
+  pub told : text ≡ why_text words names c.bound places nevers
+
+-- by whether that is asked
+abbrev pub TellsPlaces : Bool → List Named → List ℕ → List Entry → Claim → List ℕ → Type 0
+TellsPlaces false names words A c text = TellsFlagged names words A c text
+TellsPlaces true names words A c text = TellsCauses names words A c text
+
 -- some run of the machine from reset ends without a stop, exactly this deep
 pub record IsReached (words : List ℕ) (A : List Entry) (depth : ℕ) : Type 0 where
   pub state : State
@@ -121,7 +141,7 @@ pub record IsWrittenAttained (words : List ℕ) (A : List Entry) (trials : ℕ) 
 abbrev pub Shows : Command → List ℕ → List ℕ → List Entry → Claim → List ℕ → Type 0
 Shows (Explain device firmware certificate assume) bytes words A c text = IsExplained (firmware_names bytes) words A c text
 Shows (Clear device firmware certificate) bytes words A c text = IsBoundedAndClear words c.bound
-Shows (Premises device firmware certificate assume) bytes words A c text = TellsFlagged (firmware_names bytes) words A c text
+Shows (Premises device firmware certificate assume why) bytes words A c text = TellsPlaces why (firmware_names bytes) words A c text
 Shows (Attain device firmware certificate assume trials) bytes words A c text = IsWrittenAttained words A trials c text
 Shows command bytes words A c text = ⊤
 
@@ -215,7 +235,7 @@ pub record IsMeasured (size : ℕ) (text : List ℕ) : Type 0 where
 -- ---- what status 0 says
 
 -- where a certificate is accepted, the bound holds, an explanation tells where its bytes go, no step is flagged where all nodes are clear, and
--- steps are flagged only at the words that are told; where one is written, it is the least, or the accepted one with a schedule that reaches its
+-- steps are flagged only at the words that are told, and as it is told; where one is written, it is the least, or the accepted one with a schedule that reaches its
 -- bound; a simulated run keeps each bound that is accepted;
 -- the numbers of an image are those of its rounds
 abbrev pub Headline : Command → Contents → ℕ → List ℕ → Type 0
@@ -226,7 +246,8 @@ Headline (Report device firmware certificate assume json) seen status text =
     status ≡ 0 → HoldsAsRead (Report device firmware certificate assume json) assume seen text
 Headline (Explain device firmware certificate assume) seen status text = status ≡ 0 → HoldsAsRead (Explain device firmware certificate assume) assume seen text
 Headline (Clear device firmware certificate) seen status text = status ≡ 0 → HoldsAsRead (Clear device firmware certificate) None seen text
-Headline (Premises device firmware certificate assume) seen status text = status ≡ 0 → HoldsAsRead (Premises device firmware certificate assume) assume seen text
+Headline (Premises device firmware certificate assume why) seen status text =
+    status ≡ 0 → HoldsAsRead (Premises device firmware certificate assume why) assume seen text
 Headline (Attain device firmware certificate assume trials) seen status text = status ≡ 0 → IsAttainedAsRead device firmware certificate assume trials seen text
 Headline (Simulate device firmware devices assume steps) seen status text = status ≡ 0 → IsSimulatedAsRead device assume steps seen text
 Headline (Demo size) seen status text = status ≡ 0 → IsMeasured size text
@@ -287,7 +308,7 @@ IsExact (Run device firmware schedule assume) seen status = ⊤
 IsExact (Report device firmware certificate assume json) seen status = AcceptsExactly (Report device firmware certificate assume json) assume seen status
 IsExact (Explain device firmware certificate assume) seen status = AcceptsExactly (Explain device firmware certificate assume) assume seen status
 IsExact (Clear device firmware certificate) seen status = AcceptsExactly (Clear device firmware certificate) None seen status
-IsExact (Premises device firmware certificate assume) seen status = AcceptsExactly (Premises device firmware certificate assume) assume seen status
+IsExact (Premises device firmware certificate assume why) seen status = AcceptsExactly (Premises device firmware certificate assume why) assume seen status
 IsExact (Attain device firmware certificate assume trials) seen status = AcceptsExactly (Attain device firmware certificate assume trials) assume seen status
 IsExact (Simulate device firmware devices assume steps) seen status = AnswersDevices device assume seen status
 IsExact (Demo size) seen status = SaysHowRoundsEnd (demo_words size) [] None status
@@ -319,3 +340,9 @@ abbrev pub PlacesSayTheSame : Type 0
 PlacesSayTheSame =
     (words : List ℕ) (names others : List Named) (bound : ℕ) (sites nevers : List ℕ) → SayTheSame names others
     → premises_text words names bound sites nevers ≡ premises_text words others bound sites nevers
+
+-- and the same texts of them with what may happen there
+abbrev pub CausesSayTheSame : Type 0
+CausesSayTheSame =
+    (words : List ℕ) (names others : List Named) (bound : ℕ) (places : List FlaggedPlace) (nevers : List ℕ) → SayTheSame names others
+    → why_text words names bound places nevers ≡ why_text words others bound places nevers

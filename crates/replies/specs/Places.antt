@@ -1,10 +1,12 @@
 -- What is told of the words at which a step may be flagged. Source: own.
-use Rattle.std.specs.Prelude.{ℕ, zero, suc, ◌+◌, List, [], ◌∷◌, ◌++◌, length, codes, decimal, Option, Some, None}
+use Rattle.std.specs.Prelude.{ℕ, zero, suc, ◌+◌, Bool, true, false, nat_lt, List, [], ◌∷◌, ◌++◌, length, map, take, codes, decimal, Option, Some, None}
 use Rattle.std.specs.List.{flat_map}
 use Rattle.sb_base.specs.Digits.{hex_digits}
 use Rattle.sb_base.specs.Lines.{line}
 use Rattle.flash_image.specs.Naming.{Named, least_name}
 use Rattle.reports.specs.Report.{name_word}
+use Rattle.reports.specs.Explained.{word_text}
+use Rattle.store_laws.specs.declared.place.FlaggedPlace.{FlaggedPlace}
 use Rattle.replies.specs.Texts.{told, instruction_told}
 
 -- no node may flag a step
@@ -51,3 +53,29 @@ count_line bound count = codes "bound" ∷ decimal bound ∷ codes "places" ∷ 
 abbrev pub premises_text : List ℕ → List Named → ℕ → List ℕ → List ℕ → List ℕ
 premises_text words names bound sites nevers =
     line (count_line bound (length sites + length nevers)) ++ (flat_map (place_text words names) sites ++ flat_map never_text nevers)
+
+-- ---- what may happen there
+
+abbrev pub word_where : Bool → List ℕ → List (List ℕ)
+word_where true word = word ∷ []
+word_where false word = []
+
+-- the first eight data addresses, and dots where there are more
+abbrev pub first_addresses : List ℕ → List (List ℕ)
+first_addresses addresses = map word_text (take 8 addresses) ++ word_where (nat_lt 8 (length addresses)) (codes "..")
+
+abbrev pub protected_words : List ℕ → List (List ℕ)
+protected_words [] = []
+protected_words (address ∷ addresses) = codes "protected" ∷ first_addresses (address ∷ addresses)
+
+-- the protected addresses that a store may write, whether it may write a pushed byte, and whether a transfer may go to an unlisted word
+abbrev pub cause_words : FlaggedPlace → List (List ℕ)
+cause_words place = protected_words place.protected ++ (word_where place.live (codes "live") ++ word_where place.transfer (codes "transfer"))
+
+-- a word with what may happen there
+abbrev pub why_line : List ℕ → List Named → FlaggedPlace → List (List ℕ)
+why_line words names place = place_line words names place.word ++ cause_words place
+
+abbrev pub why_text : List ℕ → List Named → ℕ → List FlaggedPlace → List ℕ → List ℕ
+why_text words names bound places nevers =
+    line (count_line bound (length places + length nevers)) ++ (flat_map line (map (why_line words names) places) ++ flat_map never_text nevers)

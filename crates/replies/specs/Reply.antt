@@ -26,6 +26,8 @@ use Rattle.reports.specs.Explained.{explanation_text}
 use Rattle.store_laws.specs.declared.verdict.ClearVerdict.{ClearVerdict}
 use Rattle.store_laws.specs.declared.verdict.ClearVerdict.TheVariants as clear
 use Rattle.store_laws.specs.Verdict.{IsClearVerdict, AreSites, AreNevers}
+use Rattle.store_laws.specs.declared.place.FlaggedPlace.{FlaggedPlace}
+use Rattle.store_laws.specs.Places.{ArePlaces}
 use Rattle.demo_image.specs.Image.{demo_words}
 use Rattle.device_hooks.specs.declared.devices.DevicesFault.{DevicesFault}
 use Rattle.device_hooks.specs.Spelling.{Setup}
@@ -39,7 +41,7 @@ use Rattle.cert_check.specs.declared.verdict.Verdict.TheVariants.{Accepted, Reje
 use Rattle.commands.specs.Commands.{Command, Analyse, Run, Report, Explain, Clear, Premises, Attain, Simulate, Demo, Firmware, Second, Assumptions, device_for, name_of}
 use Rattle.replies.specs.Firmware.{firmware_words, firmware_fault, firmware_names, firmware_end}
 use Rattle.replies.specs.Texts.{too_long, assumptions_refused, certificate_refused, schedule_malformed, schedule_illegal, devices_refused, accepted, rejected, witness_rejected, run_text, why_not_text, why_not_status, demo_text}
-use Rattle.replies.specs.Places.{clear_text, unclear_text, premises_text}
+use Rattle.replies.specs.Places.{clear_text, unclear_text, premises_text, why_text}
 use Rattle.replies.specs.Reading.{Seen, Unread, Whole, Long, Contents}
 use Rattle.replies.specs.Analysis.{IsAnalysis}
 pub use Rattle.replies.specs.Says.{Reply, Says, Refuses}
@@ -150,6 +152,19 @@ pub record PremisesReply (names : List Named) (words : List ℕ) (A : List Entry
   pub are_nevers : AreNevers words A c nevers
   pub says : Says 0 (premises_text words names c.bound sites nevers) status text
 
+-- the same with what may happen there
+pub record WhyReply (names : List Named) (words : List ℕ) (A : List Entry) (c : Claim) (status : ℕ) (text : List ℕ) : Type 0 where
+  pub places : List FlaggedPlace
+  pub nevers : List ℕ
+  pub are : ArePlaces words A c places
+  pub are_nevers : AreNevers words A c nevers
+  pub says : Says 0 (why_text words names c.bound places nevers) status text
+
+-- by whether that is asked
+abbrev pub PlacesReply : Bool → List Named → List ℕ → List Entry → Claim → Reply
+PlacesReply false names words A c status text = PremisesReply names words A c status text
+PlacesReply true names words A c status text = WhyReply names words A c status text
+
 -- The certificate is written, as it is where it has a schedule, and else with the one that so many guided trials find, which attains its
 -- bound.
 pub record AttainReply (words : List ℕ) (A : List Entry) (trials : ℕ) (c : Claim) (status : ℕ) (text : List ℕ) : Type 0 where
@@ -162,7 +177,7 @@ pub record AttainReply (words : List ℕ) (A : List Entry) (trials : ℕ) (c : C
 abbrev pub AcceptedReply : Command → List ℕ → List ℕ → List Entry → Claim → Reply
 AcceptedReply (Explain device firmware certificate assume) bytes words A c = ExplainReply (firmware_names bytes) words A c
 AcceptedReply (Clear device firmware certificate) bytes words A c = ClearReply words c
-AcceptedReply (Premises device firmware certificate assume) bytes words A c = PremisesReply (firmware_names bytes) words A c
+AcceptedReply (Premises device firmware certificate assume why) bytes words A c = PlacesReply why (firmware_names bytes) words A c
 AcceptedReply (Attain device firmware certificate assume trials) bytes words A c = AttainReply words A trials c
 AcceptedReply command bytes words A c = Says 0 (told_of command bytes c)
 

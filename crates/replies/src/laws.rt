@@ -1,6 +1,6 @@
 //! What is proved of the definitions alone, each as the contract of a function that does nothing.
 
-ghost use Rattle.replies.specs.Headline.{RepliesAreOne, AcceptingRepliesHold, RepliesAreExact, PlacesSayTheSame};
+ghost use Rattle.replies.specs.Headline.{RepliesAreOne, AcceptingRepliesHold, RepliesAreExact, PlacesSayTheSame, CausesSayTheSame};
 
 use cert_check::laws::{sound_certificates_bound_every_run, verdicts_are_one};
 use cert_format::laws::certificate_texts;
@@ -12,16 +12,17 @@ use guided_trials::laws::trials_are_led;
 use indirect_targets::laws::reading_is_exact;
 use round_laws::laws::{rounds_are_least, solutions_are_valid};
 use solution_laws::answers::answers_are_one;
-use store_clear::laws::{clear_where_no_sites, nevers_are_one, sites_are_one};
+use store_clear::laws::{clear_where_no_sites, nevers_are_one, places_are_one, sites_are_one};
 use store_laws::laws::{
-    clear_firmwares_are_never_flagged, clear_verdicts_are_one, flagged_runs_end_at_sites,
+    clear_firmwares_are_never_flagged, clear_verdicts_are_one, flagged_runs_end_at_places,
+    flagged_runs_end_at_sites,
 };
 use witness_replay::laws::replays_are_runs;
 use witness_search::laws::{trials_are_short, waypoints_are_one};
 
 /// What was read of a command's files has one answer. Where a certificate is accepted, the bound holds of what was read, and where one is
 /// written, it is the least one, or the accepted one with a schedule that reaches its bound, short enough to be read again; an explanation tells where the bytes of the bound go; where all nodes are clear,
-/// no run is flagged, and else runs are flagged at the words that are told alone; a run that devices choose keeps each bound that is accepted. Where the files read as values, a certificate
+/// no run is flagged, and else runs are flagged at the words that are told alone, and as it is told; a run that devices choose keeps each bound that is accepted. Where the files read as values, a certificate
 /// is accepted exactly where it is valid, and the status of an analysis says how the rounds end.
 pub fn replies_are_claims()
     ensures one { RepliesAreOne }
@@ -47,14 +48,17 @@ pub fn replies_are_claims()
     explanations_tell();
     clear_verdicts_are_one();
     sites_are_one();
+    places_are_one();
     nevers_are_one();
     clear_firmwares_are_never_flagged();
     flagged_runs_end_at_sites();
+    flagged_runs_end_at_places();
     clear_where_no_sites();
     trials_are_led();
 }
 
-/// Names that say the same give the same texts of words at which a step may be flagged.
+/// Names that say the same give the same texts of words at which a step may be flagged, without and with what may happen there.
 pub fn same_names_give_same_places()
-    ensures { PlacesSayTheSame }
+    ensures places { PlacesSayTheSame }
+    ensures causes { CausesSayTheSame }
 {}

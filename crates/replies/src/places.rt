@@ -1,18 +1,21 @@
 //! What is told of the words at which a step may be flagged.
 
-ghost use Rattle.std.specs.Prelude.{◌≡◌, ◌≤◌, IfOk, OnOk, false};
+ghost use Rattle.std.specs.Prelude.{◌≡◌, ◌≤◌, IfOk, OnOk, false, map, take};
 ghost use Rattle.std.specs.List.{flat_map};
 ghost use Rattle.flash_image.specs.Naming.{least_name};
+ghost use Rattle.sb_base.specs.Lines.{line};
 ghost use Rattle.sb_base.specs.Writing.{with_word, with_words, with_end};
 ghost use Rattle.line_reading.specs.Appending.{with_text};
 ghost use Rattle.reports.specs.Report.{name_word};
-ghost use Rattle.replies.specs.Places.{clear_text, place_words, unclear_text, name_up_to, place_line, place_text, never_line, never_text, count_line, premises_text};
+ghost use Rattle.replies.specs.Places.{clear_text, place_words, unclear_text, name_up_to, place_line, place_text, never_line, never_text, count_line, premises_text, protected_words, word_where, cause_words, why_line, why_text};
 
 use crate::causes::put_instruction;
 use flash_image::{Flash, Names};
 use line_reading::laws::appending_laws;
+use reports::write_words;
 use sb_base::LineWriter;
 use std::alloc::{AllocError, Global};
+use store_laws::FlaggedPlace;
 
 /// A firmware of which no step can be flagged, and the bound of its certificate.
 pub fn clear_text(alloc: Global, bound: u16) -> Result<Vec<u8>, AllocError>
@@ -100,7 +103,23 @@ fn write_name(out: &mut LineWriter, names: &Names, word: u16) -> Result<(), Allo
     }
 }
 
-/// Writes the line of a word at which a step may be flagged.
+/// Writes a word at which a step may be flagged, the instruction there, and the name under which it stands.
+fn put_named(
+    out: &mut LineWriter,
+    alloc: Global,
+    flash: &Flash,
+    names: &Names,
+    place: Reached,
+) -> Result<(), AllocError>
+    requires { least_name names.now place.named ≡ name_up_to names.now place.pc }
+    ensures { OnOk result (out.new ≡ with_words out.old (place_line flash.now names.now place.pc)) }
+{
+    put_place(alloc, out, flash, place.pc)?;
+    out.word(b"in")?;
+    write_name(out, names, place.named)
+}
+
+/// Writes the line of such a word.
 fn write_place(
     out: &mut LineWriter,
     alloc: Global,
@@ -111,9 +130,7 @@ fn write_place(
     requires { least_name names.now place.named ≡ name_up_to names.now place.pc }
     ensures { OnOk result (out.new ≡ with_end (with_words out.old (place_line flash.now names.now place.pc))) }
 {
-    put_place(alloc, out, flash, place.pc)?;
-    out.word(b"in")?;
-    write_name(out, names, place.named)?;
+    put_named(out, alloc, flash, names, place)?;
     out.end_line()
 }
 
@@ -185,6 +202,107 @@ pub fn premises_text(
     let mut out = LineWriter::new(alloc);
     write_count(&mut out, bound, sites.len() as u64 + nevers.len() as u64)?;
     write_places(&mut out, alloc, flash, names, sites)?;
+    write_nevers(&mut out, nevers)?;
+    Ok(out.finish())
+}
+
+/// Writes a word, where this holds.
+fn write_where(out: &mut LineWriter, holds: bool, word: &[u8]) -> Result<(), AllocError>
+    ensures { OnOk result (out.new ≡ with_words out.old (word_where holds word.now)) }
+{
+    if holds { out.word(word) } else { Ok(()) }
+}
+
+/// At most the first eight of them.
+#[tactic(auto, using(crate::proofs::Sites::few_first))]
+fn first_eight(addresses: &[u16]) -> &[u16]
+    ensures { result.now ≡ take 8 addresses.now }
+{
+    if addresses.len() <= 8 {
+        addresses
+    } else {
+        &addresses[..8]
+    }
+}
+
+/// Writes the protected addresses that a store may write, of which at most eight are shown.
+#[tactic(auto, using(crate::proofs::Sites::some_written, crate::proofs::Sites::none_protected))]
+fn write_protected(out: &mut LineWriter, addresses: &[u16]) -> Result<(), AllocError>
+    ensures { OnOk result (out.new ≡ with_words out.old (protected_words addresses.now)) }
+{
+    if addresses.is_empty() {
+        return Ok(());
+    }
+    let has_more = addresses.len() > 8;
+    out.word(b"protected")?;
+    write_words(out, first_eight(addresses))?;
+    write_where(out, has_more, b"..")
+}
+
+/// Writes what may happen at a word.
+#[tactic(auto, using(crate::proofs::Sites::three_written))]
+fn write_causes(out: &mut LineWriter, place: &FlaggedPlace) -> Result<(), AllocError>
+    ensures { OnOk result (out.new ≡ with_words out.old (cause_words place.now)) }
+{
+    write_protected(out, place.protected.as_slice())?;
+    write_where(out, place.live, b"live")?;
+    write_where(out, place.transfer, b"transfer")
+}
+
+/// Writes the line of a word at which a step may be flagged, with what may happen there.
+#[tactic(auto, using(crate::proofs::Sites::why_written))]
+fn write_why(
+    out: &mut LineWriter,
+    alloc: Global,
+    flash: &Flash,
+    names: &Names,
+    place: &FlaggedPlace,
+    reached: Reached,
+) -> Result<(), AllocError>
+    requires word { reached.pc ≡ place.now.word }
+    requires named { least_name names.now reached.named ≡ name_up_to names.now reached.pc }
+    ensures { OnOk result (out.new ≡ with_end (with_words out.old (why_line flash.now names.now place.now))) }
+{
+    put_named(out, alloc, flash, names, reached)?;
+    write_causes(out, place)?;
+    out.end_line()
+}
+
+/// Writes the lines of such words. Where they ascend, each goes on from the one before.
+fn write_whys(
+    out: &mut LineWriter,
+    alloc: Global,
+    flash: &Flash,
+    names: &Names,
+    places: &[FlaggedPlace],
+) -> Result<(), AllocError>
+    requires { out.old.begun ≡ false }
+    ensures { OnOk result (out.new ≡ with_text out.old (flat_map line (map (why_line flash.now names.now) places.now))) }
+{
+    appending_laws();
+    let mut reached = Reached { pc: 0, named: 0 };
+    for place in places {
+        reached = reach(names, reached, place.word);
+        write_why(out, alloc, flash, names, place, reached)?;
+    }
+    Ok(())
+}
+
+/// The same text as that of the words alone, with what may happen at each of them behind its name.
+pub fn why_text(
+    alloc: Global,
+    flash: &Flash,
+    names: &Names,
+    bound: u16,
+    places: &[FlaggedPlace],
+    nevers: &[u16],
+) -> Result<Vec<u8>, AllocError>
+    ensures { IfOk result (λ v. v.items ≡ why_text flash.now names.now bound places.now nevers.now) }
+{
+    appending_laws();
+    let mut out = LineWriter::new(alloc);
+    write_count(&mut out, bound, places.len() as u64 + nevers.len() as u64)?;
+    write_whys(&mut out, alloc, flash, names, places)?;
     write_nevers(&mut out, nevers)?;
     Ok(out.finish())
 }

@@ -34,8 +34,8 @@ fn write_link(
     out.end_line()
 }
 
-/// Writes word addresses.
-fn write_words(out: &mut LineWriter, words: &[u16]) -> Result<(), AllocError>
+/// Writes word addresses, or data addresses.
+pub fn write_words(out: &mut LineWriter, words: &[u16]) -> Result<(), AllocError>
     ensures { OnOk result (out.new ≡ with_words out.old (map word_text words.now)) }
 {
     for word in words {

@@ -184,8 +184,10 @@ flash_apart (Report device f k a json) firmware bytes words A =
 flash_apart (Explain device f k a) firmware bytes words A =
     certificate_apart words A (AcceptedReply (Explain device f k a) firmware words A) (certificate_in bytes) (λ c s t h. at 0 s zero_plain h.says.0)
 flash_apart (Clear device f k) firmware bytes words A = certificate_apart words [] (ClearReply words) (certificate_in bytes) (λ c s t h. clear_apart words c h.verdict s t h.says)
-flash_apart (Premises device f k a) firmware bytes words A =
-    certificate_apart words A (AcceptedReply (Premises device f k a) firmware words A) (certificate_in bytes) (λ c s t h. at 0 s zero_plain h.says.0)
+flash_apart (Premises device f k a false) firmware bytes words A =
+    certificate_apart words A (AcceptedReply (Premises device f k a false) firmware words A) (certificate_in bytes) (λ c s t h. at 0 s zero_plain h.says.0)
+flash_apart (Premises device f k a true) firmware bytes words A =
+    certificate_apart words A (AcceptedReply (Premises device f k a true) firmware words A) (certificate_in bytes) (λ c s t h. at 0 s zero_plain h.says.0)
 flash_apart (Attain device f k a trials) firmware bytes words A =
     certificate_apart words A (AcceptedReply (Attain device f k a trials) firmware words A) (certificate_in bytes) (λ c s t h. at 0 s zero_plain h.says.0)
 flash_apart (Simulate device f k a steps) firmware bytes words A = simulate_apart words A steps (setup_in bytes)
@@ -203,7 +205,7 @@ work_apart (Run device f k a) firmware second list = on_image_apart (Run device 
 work_apart (Report device f k a json) firmware second list = on_image_apart (Report device f k a json) firmware second list
 work_apart (Explain device f k a) firmware second list = on_image_apart (Explain device f k a) firmware second list
 work_apart (Clear device f k) firmware second list = on_image_apart (Clear device f k) firmware second list
-work_apart (Premises device f k a) firmware second list = on_image_apart (Premises device f k a) firmware second list
+work_apart (Premises device f k a why) firmware second list = on_image_apart (Premises device f k a why) firmware second list
 work_apart (Attain device f k a trials) firmware second list = on_image_apart (Attain device f k a trials) firmware second list
 work_apart (Simulate device f k a steps) firmware second list = on_image_apart (Simulate device f k a steps) firmware second list
 work_apart (Demo size) firmware second list = demo_apart size

@@ -46,7 +46,7 @@ judged_headline _ _ _ _ seen status text (checks device fw cert assume) h zero =
 judged_headline _ _ _ _ seen status text (reports device fw cert assume json) h zero = h zero
 judged_headline _ _ _ _ seen status text (explains device fw cert assume) h zero = h zero
 judged_headline _ _ _ _ seen status text (clears device fw cert) h zero = h zero
-judged_headline _ _ _ _ seen status text (lists_premises device fw cert assume) h zero = h zero
+judged_headline _ _ _ _ seen status text (lists_premises device fw cert assume why) h zero = h zero
 judged_headline _ _ _ _ seen status text (completes device fw cert assume trials) h zero = (h zero).holds
 
 judged_exact : (judge : Command) (fw cert : List ℕ) (assume : Option (List ℕ)) (seen : Contents) (status : ℕ) → Judges judge fw cert assume → IsExact judge seen status → AcceptsExactly judge assume seen status
@@ -54,7 +54,7 @@ judged_exact _ _ _ _ seen status (checks device fw cert assume) h = h
 judged_exact _ _ _ _ seen status (reports device fw cert assume json) h = h
 judged_exact _ _ _ _ seen status (explains device fw cert assume) h = h
 judged_exact _ _ _ _ seen status (clears device fw cert) h = h
-judged_exact _ _ _ _ seen status (lists_premises device fw cert assume) h = h
+judged_exact _ _ _ _ seen status (lists_premises device fw cert assume why) h = h
 judged_exact _ _ _ _ seen status (completes device fw cert assume trials) h = h
 
 judged_names : (judge : Command) (fw cert : List ℕ) (assume : Option (List ℕ)) → Judges judge fw cert assume
@@ -63,7 +63,7 @@ judged_names _ _ _ _ (checks device fw cert assume) = (refl, refl, refl, refl)
 judged_names _ _ _ _ (reports device fw cert assume json) = (refl, refl, refl, refl)
 judged_names _ _ _ _ (explains device fw cert assume) = (refl, refl, refl, refl)
 judged_names _ _ _ _ (clears device fw cert) = (refl, refl, refl, refl)
-judged_names _ _ _ _ (lists_premises device fw cert assume) = (refl, refl, refl, refl)
+judged_names _ _ _ _ (lists_premises device fw cert assume why) = (refl, refl, refl, refl)
 judged_names _ _ _ _ (completes device fw cert assume trials) = (refl, refl, refl, refl)
 
 agrees_as : (holds : List ℕ → Held) (cap cap' : ℕ) (o : Option (List ℕ)) (name : List ℕ) (s : Seen) → o ≡ Some name → cap ≡ cap' → AgreesUnder holds cap o s → Agrees (holds name) cap' s

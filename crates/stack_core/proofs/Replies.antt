@@ -32,8 +32,8 @@ use Rattle.cert_check.specs.declared.verdict.Verdict.{Verdict}
 use Rattle.cert_check.specs.declared.verdict.Verdict.TheVariants.{Accepted, Rejected}
 use Rattle.replies.specs.Firmware.{words_by, outside_fault, fault_or, firmware_fault, firmware_words, firmware_names, firmware_end}
 use Rattle.replies.specs.Texts.{firmware_outside, demo_text, witness_rejected, devices_refused, assumptions_refused, certificate_refused}
-use Rattle.replies.specs.Reply.{Reply, Says, Refuses, ListBy, WithList, attains, AttainedBy, WitnessReply, VerdictReply, CertificateReply, report_by, ExplainReply, PremisesReply, AttainReply, AcceptedReply, SimulateReply, DemoReply, FlashReply}
-use Rattle.replies.specs.Headline.{HasWords, PlacesSayTheSame}
+use Rattle.replies.specs.Reply.{Reply, Says, Refuses, ListBy, WithList, attains, AttainedBy, WitnessReply, VerdictReply, CertificateReply, report_by, ExplainReply, PremisesReply, WhyReply, PlacesReply, AttainReply, AcceptedReply, SimulateReply, DemoReply, FlashReply}
+use Rattle.replies.specs.Headline.{HasWords, PlacesSayTheSame, CausesSayTheSame}
 use Rattle.cert_words.specs.Text.{text_of}
 use Rattle.guided_trials.specs.Attaining.{IsCompleted}
 use Rattle.replies.proofs.AllLaws.{attained_by, witness_zero, by_none}
@@ -140,7 +140,7 @@ has_words (Run device name schedule assume) firmware h = h
 has_words (Report device name cert assume json) firmware h = h
 has_words (Explain device name cert assume) firmware h = h
 has_words (Clear device name cert) firmware h = h
-has_words (Premises device name cert assume) firmware h = h
+has_words (Premises device name cert assume why) firmware h = h
 has_words (Attain device name cert assume trials) firmware h = h
 has_words (Simulate device name devices assume steps) firmware h = h
 has_words (Demo size) firmware h = tt
@@ -193,24 +193,40 @@ premises_alike places names others words A same c status text h =
       says = (h.says.0, h.says.1 ∙ places words names others c.bound h.sites h.nevers same);
     }
 
-flash_alike : (laws : NamesThatSayTheSame) (texts : ExplanationsSayTheSame) (places : PlacesSayTheSame) (command : Command) (firmware bytes : List ℕ) (loaded : Loaded) (A : List Entry) (status : ℕ) (text : List ℕ) → SayTheSame loaded.names (firmware_names firmware)
+why_alike : CausesSayTheSame → (names others : List Named) (words : List ℕ) (A : List Entry) → SayTheSame names others → (c : Claim) (status : ℕ) (text : List ℕ)
+    → WhyReply names words A c status text → WhyReply others words A c status text
+why_alike causes names others words A same c status text h =
+    record {
+      places = h.places;
+      nevers = h.nevers;
+      are = h.are;
+      are_nevers = h.are_nevers;
+      says = (h.says.0, h.says.1 ∙ causes words names others c.bound h.places h.nevers same);
+    }
+
+places_alike : PlacesSayTheSame → CausesSayTheSame → (why : Bool) (names others : List Named) (words : List ℕ) (A : List Entry) → SayTheSame names others → (c : Claim) (status : ℕ) (text : List ℕ)
+    → PlacesReply why names words A c status text → PlacesReply why others words A c status text
+places_alike places causes false names others words A same c status text h = premises_alike places names others words A same c status text h
+places_alike places causes true names others words A same c status text h = why_alike causes names others words A same c status text h
+
+flash_alike : (laws : NamesThatSayTheSame) (texts : ExplanationsSayTheSame) (places : PlacesSayTheSame) (causes : CausesSayTheSame) (command : Command) (firmware bytes : List ℕ) (loaded : Loaded) (A : List Entry) (status : ℕ) (text : List ℕ) → SayTheSame loaded.names (firmware_names firmware)
     → loaded.static_end ≡ firmware_end firmware → LoadedReply command loaded bytes A status text → FlashReply command firmware bytes loaded.flash A status text
-flash_alike laws texts places (Check device name cert assume) firmware bytes loaded A status text names end h = h
-flash_alike laws texts places (Analyse device name assume steps) firmware bytes loaded A status text names end h = h
-flash_alike laws texts places (Run device name schedule assume) firmware bytes loaded A status text names end h = h
-flash_alike laws texts places (Report device name cert assume json) firmware bytes loaded A status text names end h =
+flash_alike laws texts places causes (Check device name cert assume) firmware bytes loaded A status text names end h = h
+flash_alike laws texts places causes (Analyse device name assume steps) firmware bytes loaded A status text names end h = h
+flash_alike laws texts places causes (Run device name schedule assume) firmware bytes loaded A status text names end h = h
+flash_alike laws texts places causes (Report device name cert assume json) firmware bytes loaded A status text names end h =
     told_alike loaded.flash A (λ c. Says 0 (report_by json device loaded.names loaded.static_end c)) (AcceptedReply (Report device name cert assume json) firmware loaded.flash A) (certificate_in bytes) status text
     (λ c k. (k.0, k.1 ∙ report_alike laws json device loaded.names (firmware_names firmware) loaded.static_end (firmware_end firmware) names end c)) h
-flash_alike laws texts places (Explain device name cert assume) firmware bytes loaded A status text names end h =
+flash_alike laws texts places causes (Explain device name cert assume) firmware bytes loaded A status text names end h =
     told_alike loaded.flash A (ExplainReply loaded.names loaded.flash A) (AcceptedReply (Explain device name cert assume) firmware loaded.flash A) (certificate_in bytes) status text
     (λ c k. explain_alike texts loaded.names (firmware_names firmware) loaded.flash A names c status text k) h
-flash_alike laws texts places (Clear device name cert) firmware bytes loaded A status text names end h = h
-flash_alike laws texts places (Premises device name cert assume) firmware bytes loaded A status text names end h =
-    told_alike loaded.flash A (PremisesReply loaded.names loaded.flash A) (AcceptedReply (Premises device name cert assume) firmware loaded.flash A) (certificate_in bytes) status text
-    (λ c k. premises_alike places loaded.names (firmware_names firmware) loaded.flash A names c status text k) h
-flash_alike laws texts places (Attain device name cert assume trials) firmware bytes loaded A status text names end h = h
-flash_alike laws texts places (Simulate device name devices assume steps) firmware bytes loaded A status text names end h = h
-flash_alike laws texts places (Demo size) firmware bytes loaded A status text names end h = h
+flash_alike laws texts places causes (Clear device name cert) firmware bytes loaded A status text names end h = h
+flash_alike laws texts places causes (Premises device name cert assume why) firmware bytes loaded A status text names end h =
+    told_alike loaded.flash A (PlacesReply why loaded.names loaded.flash A) (AcceptedReply (Premises device name cert assume why) firmware loaded.flash A) (certificate_in bytes) status text
+    (λ c k. places_alike places causes why loaded.names (firmware_names firmware) loaded.flash A names c status text k) h
+flash_alike laws texts places causes (Attain device name cert assume trials) firmware bytes loaded A status text names end h = h
+flash_alike laws texts places causes (Simulate device name devices assume steps) firmware bytes loaded A status text names end h = h
+flash_alike laws texts places causes (Demo size) firmware bytes loaded A status text names end h = h
 
 list_alike : (x : Result (List Entry) AssumeText) (next other : List Entry → Reply) (status : ℕ) (text : List ℕ) → ((A : List Entry) → next A status text → other A status text) → ListBy x next status text → ListBy x other status text
 list_alike (Ok A) next other status text f h = f A h
@@ -220,10 +236,10 @@ next_alike : (list : Option (List ℕ)) (next other : List Entry → Reply) (sta
 next_alike None next other status text f h = f [] h
 next_alike (Some bytes) next other status text f h = list_alike (entries_in bytes) next other status text f h
 
-pub loaded_reply : (laws : NamesThatSayTheSame) (texts : ExplanationsSayTheSame) (places : PlacesSayTheSame) (command : Command) (firmware second : List ℕ) (list : Option (List ℕ)) (loaded : Loaded) (status : ℕ) (text : List ℕ) → GivesOn (device_for command) firmware loaded
+pub loaded_reply : (laws : NamesThatSayTheSame) (texts : ExplanationsSayTheSame) (places : PlacesSayTheSame) (causes : CausesSayTheSame) (command : Command) (firmware second : List ℕ) (list : Option (List ℕ)) (loaded : Loaded) (status : ℕ) (text : List ℕ) → GivesOn (device_for command) firmware loaded
     → WithList list (λ A. LoadedReply command loaded second A) status text → ImageReply command firmware second list status text
-loaded_reply laws texts places command firmware second list loaded status text g h =
+loaded_reply laws texts places causes command firmware second list loaded status text g h =
     let there : WithList list (λ A. FlashReply command firmware second loaded.flash A) status text =
-    next_alike list (λ A. LoadedReply command loaded second A) (λ A. FlashReply command firmware second loaded.flash A) status text (λ A k. flash_alike laws texts places command firmware second loaded A status text g.names g.static_end k) h in
+    next_alike list (λ A. LoadedReply command loaded second A) (λ A. FlashReply command firmware second loaded.flash A) status text (λ A k. flash_alike laws texts places causes command firmware second loaded A status text g.names g.static_end k) h in
     by_none (firmware_fault (device_for command) firmware) (WithList list (λ A. FlashReply command firmware second (firmware_words (device_for command) firmware) A)) status text g.loads
     (subst (λ ws. WithList list (λ A. FlashReply command firmware second ws A) status text) g.words there)

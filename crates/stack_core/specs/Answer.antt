@@ -87,7 +87,7 @@ pub data Judges : Command → (firmware certificate : List ℕ) (assume : Option
   checks : (device : Device) (firmware certificate : List ℕ) (assume : Option (List ℕ)) → Judges (Check device firmware certificate assume) firmware certificate assume
   reports : (device : Device) (firmware certificate : List ℕ) (assume : Option (List ℕ)) (json : Bool) → Judges (Report device firmware certificate assume json) firmware certificate assume
   clears : (device : Device) (firmware certificate : List ℕ) → Judges (Clear device firmware certificate) firmware certificate None
-  lists_premises : (device : Device) (firmware certificate : List ℕ) (assume : Option (List ℕ)) → Judges (Premises device firmware certificate assume) firmware certificate assume
+  lists_premises : (device : Device) (firmware certificate : List ℕ) (assume : Option (List ℕ)) (why : Bool) → Judges (Premises device firmware certificate assume why) firmware certificate assume
   explains : (device : Device) (firmware certificate : List ℕ) (assume : Option (List ℕ)) → Judges (Explain device firmware certificate assume) firmware certificate assume
   completes : (device : Device) (firmware certificate : List ℕ) (assume : Option (List ℕ)) (trials : ℕ) → Judges (Attain device firmware certificate assume trials) firmware certificate assume
 

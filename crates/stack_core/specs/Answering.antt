@@ -18,7 +18,7 @@ use Rattle.commands.specs.Commands.{Command, Report, Explain, Premises, device_f
 use Rattle.replies.specs.Texts.{assumptions_refused}
 use Rattle.replies.specs.Firmware.{words_by, fault_by, names_by, end_by, outside_fault, firmware_words, firmware_fault, firmware_names, firmware_end}
 use Rattle.replies.specs.Analysis.{TrialsFind}
-use Rattle.replies.specs.Reply.{Reply, Says, WithImage, WithList, report_by, ExplainReply, PremisesReply, CertificateReply, FlashReply}
+use Rattle.replies.specs.Reply.{Reply, Says, WithImage, WithList, report_by, ExplainReply, PlacesReply, CertificateReply, FlashReply}
 use Rattle.stack_core.specs.declared.loading.Image.{Image}
 use Rattle.stack_core.specs.declared.loading.Image.TheVariants.{Loaded, Refused}
 use Rattle.stack_core.specs.declared.loading.Listing.{Listing}
@@ -99,7 +99,7 @@ abbrev pub LoadedReply : Command → Firmware → List ℕ → List Entry → Re
 LoadedReply (Report device name certificate assume json) loaded bytes A =
     CertificateReply loaded.flash A (λ c. Says 0 (report_by json device loaded.names loaded.static_end c)) (certificate_in bytes)
 LoadedReply (Explain device name certificate assume) loaded bytes A = CertificateReply loaded.flash A (ExplainReply loaded.names loaded.flash A) (certificate_in bytes)
-LoadedReply (Premises device name certificate assume) loaded bytes A = CertificateReply loaded.flash A (PremisesReply loaded.names loaded.flash A) (certificate_in bytes)
+LoadedReply (Premises device name certificate assume why) loaded bytes A = CertificateReply loaded.flash A (PlacesReply why loaded.names loaded.flash A) (certificate_in bytes)
 LoadedReply command loaded bytes A = FlashReply command [] bytes loaded.flash A
 
 abbrev pub ImageReply : Command → List ℕ → List ℕ → Option (List ℕ) → Reply

@@ -25,7 +25,8 @@ pub fn stackbound<F: Files, K: Sink>(
     // Where a command that judges accepts held bytes, the bound holds of every run, and is told. An explanation is the one that there is of the
     // certificate: its links nest from the root on, add up to at most the bound, and to the bound of a certificate with which the rounds end.
     // Where `clear` answers 0, no run from reset is flagged, and each keeps the bound. A run from reset that ends flagged ends at one of the
-    // words that `premises` tells, or takes a vector of a `never` line that it tells. What `attain` has written is the text of the accepted
+    // words that `premises` tells, or takes a vector of a `never` line that it tells; with `--why`, ends at a word of which it tells just what is
+    // flagged: this protected address, a pushed byte or an unlisted word; and it tells something of each word. What `attain` has written is the text of the accepted
     // certificate but for its schedule, and valid, so that `check` accepts it: it has a schedule exactly where that one had or some of the
     // trials is as deep as the bound, its own or that of the least such trial, and the schedule's run is exactly as deep.
     ensures headline { HeldHeadline (command_of (map (λ w. w.now) words.now)) (F.holds files.old) result (K.written out.old) (K.written out.new) }

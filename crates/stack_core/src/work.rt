@@ -47,7 +47,7 @@ fn on_flash(
         }
         Command::Explain { .. } => explain(alloc, assumptions, second, loaded),
         Command::Clear { .. } => clear(alloc, flash, second),
-        Command::Premises { .. } => premises(alloc, assumptions, second, loaded),
+        Command::Premises { why, .. } => premises(alloc, assumptions, second, loaded, *why),
         Command::Attain { trials, .. } => attain(alloc, flash, assumptions, second, *trials),
         Command::Simulate { steps, .. } => simulate(alloc, flash, assumptions, *steps, second),
         Command::Demo { size } => demo(alloc, size),

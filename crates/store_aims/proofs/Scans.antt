@@ -1,7 +1,7 @@
 -- The least and the greatest number that passes a test, and all below one, found one after the other.
-use Rattle.std.proofs.Common.{◌≡◌, refl, sym, ap, ◌∙◌, subst, ℕ, zero, suc, ◌+◌, ◌-◌, ◌<◌, ◌≤◌, ◌&&◌, ⊎_elim, Bool, true, false, if◌then◌else◌, Option, Some, None, arith}
+use Rattle.std.proofs.Common.{◌≡◌, refl, sym, ap, ap₂, ◌∙◌, subst, ℕ, zero, suc, ◌+◌, ◌-◌, ◌<◌, ◌≤◌, ◌&&◌, ◌||◌, ⊎_elim, Bool, true, false, if◌then◌else◌, Option, Some, None, arith}
 use Rattle.std.proofs.lemmas.Bool.{cases_lt, and_right}
-use Rattle.avr_model.specs.Bits.{all_below}
+use Rattle.avr_model.specs.Bits.{any_below, all_below}
 use Rattle.clear_laws.specs.Aims.{or_number, least_below, greatest_below}
 
 next_is : (n : ℕ) → suc n ≡ n + 1
@@ -66,3 +66,16 @@ all_fails p n zero lt fails = absurd (omega (arith, lt))
 all_fails p n (suc m) lt fails =
     ⊎_elim (λ less. ap (λ b. b && p m) (all_fails p n m less fails))
     (λ over. let same : n ≡ m = omega (arith, lt, over) in subst (λ x. (all_below x p && p x) ≡ false) same (and_right (all_below n p) (p n) fails)) (cases_lt n m)
+
+-- ---- any
+
+pub any_none : (p : ℕ → Bool) → any_below 0 p ≡ false
+unfolding any_below
+any_none p = refl
+
+any_next : (p : ℕ → Bool) (n : ℕ) → any_below (suc n) p ≡ (any_below n p || p n)
+unfolding any_below
+any_next p n = refl
+
+pub any_more : (p : ℕ → Bool) (n : ℕ) → any_below n p ≡ false → p n ≡ false → any_below (n + 1) p ≡ false
+any_more p n before here = ap (λ x. any_below x p) (sym (next_is n)) ∙ any_next p n ∙ ap₂ (λ a b. a || b) before here

@@ -14,8 +14,8 @@ use clear_laws::stores::{Aim, Reach, Span};
 use local_rules::Pointed;
 use mask_states::{Kind, NodeKey};
 
-// Whether the value may be this byte: its bits permit it, and it lies in the range.
-fn may_be(value: AbsByte, byte: u8) -> bool
+/// Whether the value may be this byte: its bits permit it, and it lies in the range.
+pub(crate) fn may_be(value: AbsByte, byte: u8) -> bool
     ensures { result ≡ rows.may_be value byte }
 {
     has(value.bits, byte) && value.low <= byte && byte <= value.high

@@ -41,7 +41,8 @@ fn is_pointer_store(instr: &Instr) -> bool
     }
 }
 
-fn is_indirect(instr: &Instr) -> bool
+/// Whether this is `ijmp` or `icall`.
+pub fn is_indirect(instr: &Instr) -> bool
     ensures { result ≡ steps.is_indirect instr.now }
 {
     match instr {
@@ -66,8 +67,8 @@ fn is_fixed_site(flash: &Flash, assumptions: &Assumptions, pc: u16) -> bool
     assumptions.proved(pc) || !assumptions.freed(pc) && flash.is_fixed(pc)
 }
 
-// Whether a write of this address at this word is flagged for a protected one.
-fn is_flagged_address(
+/// Whether a write of this address at this word is flagged for a protected one.
+pub(crate) fn is_flagged_address(
     flash: &Flash,
     assumptions: &Assumptions,
     pc: u16,

@@ -5,6 +5,7 @@ pub mod Settled
 pub mod Told
 pub mod Marked
 pub mod Taken
+pub mod Causing
 pub mod Sites
 pub mod One
 pub mod AllLaws

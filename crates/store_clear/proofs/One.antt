@@ -1,5 +1,6 @@
 -- There is one list of words at which a step may be flagged.
-use Rattle.std.proofs.Common.{◌≡◌, refl, sym, subst, ℕ, ◌<◌, ⊎_elim, List, [], ◌∷◌, Contains, arith}
+use Rattle.std.proofs.Common.{◌≡◌, refl, sym, ap, ap₂, ◌∙◌, subst, ℕ, ◌<◌, ⊎_elim, Bool, true, false, List, [], ◌∷◌, map, Contains, arith}
+use Rattle.std.specs.Prelude.{◌↔◌}
 use Rattle.std.specs.List.{AllByRecursion}
 use Rattle.std.specs.List.Sorted.{IsStrictlySortedBy}
 use Rattle.std.specs.Ordering.{nat_cmp}
@@ -7,14 +8,19 @@ use Rattle.std.specs.declared.cmp.Ordering.TheVariants.{Less}
 use Rattle.std.proofs.lemmas.Bool.Decides.{nat_tests}
 use Rattle.basics.specs.Items.{none_in, first_in, further_in, first_or_further, contained_at}
 use Rattle.avr_model.specs.declared.assumption.Entry.{Entry}
+use Rattle.basics.specs.Lists.{same_head_and_tail}
 use Rattle.local_rules.specs.declared.local.Node.{Node}
+use Rattle.edge_rules.specs.Families.{Family}
 use Rattle.edge_laws.proofs.ExpansionLaws.{filled_or_missing}
 use Rattle.certificate.specs.Claims.{Claim}
 use Rattle.certificate.specs.Valid.{family_of}
 use Rattle.clear_laws.specs.Clear.{MayBeFlagged, MayBeTaken}
+use Rattle.clear_laws.specs.Causes.{MayWriteLive, MayGoUnlisted}
 use Rattle.store_laws.specs.declared.verdict.ClearVerdict.TheVariants.{Clear, Unclear}
+use Rattle.store_laws.specs.declared.place.FlaggedPlace.{FlaggedPlace}
 use Rattle.store_laws.specs.Verdict.{IsFirstUnclear, AreSites, AreNevers}
-use Rattle.store_clear.specs.Laws.{SitesAreOne, NeversAreOne, ClearWhereNoSites}
+use Rattle.store_laws.specs.Places.{word_of, IsPlaceOf, ArePlaces}
+use Rattle.store_clear.specs.Laws.{SitesAreOne, PlacesAreOne, NeversAreOne, ClearWhereNoSites}
 use Rattle.store_clear.proofs.Sites.{none_where_clear}
 
 -- ---- ascending lists with the same members are the same
@@ -63,6 +69,44 @@ one_way words A c xs ys a b pc h =
 
 pub sites_are_one : SitesAreOne
 sites_are_one words A c xs ys a b = same_lists xs ys a.ascending b.ascending (one_way words A c xs ys a b) (one_way words A c ys xs b a)
+
+-- ---- what may happen at a word
+
+same_test : (P : Type 0) (a b : Bool) → (a ≡ true) ↔ P → (b ≡ true) ↔ P → a ≡ b
+same_test P true true h g = refl
+same_test P false false h g = refl
+same_test P true false h g = sym (g.1 (h.0 refl))
+same_test P false true h g = h.1 (g.0 refl)
+
+abbrev place_of : ℕ → List ℕ → Bool → Bool → FlaggedPlace
+place_of word protected live transfer = record { word = word; protected = protected; live = live; transfer = transfer }
+
+module _ (words : List ℕ) (A : List Entry) (f : Family) where
+  one_place : (x y : FlaggedPlace) → x.word ≡ y.word → IsPlaceOf words A f x → IsPlaceOf words A f y → x ≡ y
+  one_place x y e h k =
+      let here : IsPlaceOf words A f (place_of x.word y.protected y.live y.transfer) = subst (λ w. IsPlaceOf words A f (place_of w y.protected y.live y.transfer)) (sym e) k in
+      let protected : x.protected ≡ y.protected =
+      same_lists x.protected y.protected h.ascending here.ascending (λ a m. (here.protected a).1 ((h.protected a).0 m)) (λ a m. (h.protected a).1 ((here.protected a).0 m)) in
+      let live : x.live ≡ y.live = same_test (MayWriteLive words A f x.word) x.live y.live h.live here.live in
+      let transfer : x.transfer ≡ y.transfer = same_test (MayGoUnlisted words A f x.word) x.transfer y.transfer h.transfer here.transfer in
+      ap (λ w. place_of w x.protected x.live x.transfer) e ∙ ap (λ l. place_of y.word l x.live x.transfer) protected
+      ∙ ap (λ t. place_of y.word y.protected t x.transfer) live ∙ ap (λ t. place_of y.word y.protected y.live t) transfer
+
+  same_places : (xs ys : List FlaggedPlace) → map word_of xs ≡ map word_of ys → ((p : FlaggedPlace) → Contains xs p → IsPlaceOf words A f p)
+      → ((p : FlaggedPlace) → Contains ys p → IsPlaceOf words A f p) → xs ≡ ys
+  same_places [] [] e h k = refl
+  same_places [] (y ∷ ys) e h k = absurd (cc)
+  same_places (x ∷ xs) [] e h k = absurd (cc)
+  same_places (x ∷ xs) (y ∷ ys) e h k =
+      let both = same_head_and_tail x.word y.word (map word_of xs) (map word_of ys) e in
+      ap₂ (λ (p : FlaggedPlace) (ps : List FlaggedPlace). p ∷ ps) (one_place x y both.0 (h x (first_in x xs)) (k y (first_in y ys)))
+      (same_places xs ys both.1 (λ p m. h p (further_in x p xs m)) (λ p m. k p (further_in y p ys m)))
+
+pub places_are_one : PlacesAreOne
+places_are_one words A c xs ys a b =
+    let same = filled_or_missing.one words A c.nodes a.nodes b.nodes a.expanded b.expanded in
+    same_places words A (family_of c b.nodes) xs ys (sites_are_one words A c (map word_of xs) (map word_of ys) a.sites b.sites)
+    (subst (λ (nodes : List Node). (p : FlaggedPlace) → Contains xs p → IsPlaceOf words A (family_of c nodes) p) same a.each) b.each
 
 one_take : (words : List ℕ) (A : List Entry) (c : Claim) (xs ys : List ℕ) → AreNevers words A c xs → AreNevers words A c ys → (w : ℕ) → Contains xs w → Contains ys w
 one_take words A c xs ys a b w h =

@@ -31,7 +31,7 @@ use Rattle.store_clear.proofs.Marked.{placed, placing, ascending}
 pub marks_none : (P : ℕ → Type 0) (xs : List Bool) → ((w : ℕ) → P w → ⊥) → IsMarked P xs xs
 marks_none P xs none = record { same = refl; exact = λ w. (λ h. inl h, λ h. ⊎_elim (λ o. o) (λ p. absurd (none w p)) h) }
 
-marks_one : (at : ℕ) (xs : List Bool) → at < length xs → IsMarked (λ w. w ≡ at) xs (set xs at true)
+pub marks_one : (at : ℕ) (xs : List Bool) → at < length xs → IsMarked (λ w. w ≡ at) xs (set xs at true)
 marks_one at xs lt = record { same = length-set xs at true; exact = λ w. (down w, up w) }
   where
     on_here : (w : ℕ) → w ≡ at → is_on (set xs at true) w ≡ true
@@ -43,7 +43,7 @@ marks_one at xs lt = record { same = length-set xs at true; exact = λ w. (down 
     up : (w : ℕ) → (is_on xs w ≡ true) ⊎ (w ≡ at) → is_on (set xs at true) w ≡ true
     up w h = ⊎_elim (λ o. ⊎_elim (λ e. on_here w e) (λ ne. get_or-set_other xs at w true false ne ∙ o) (cases_eq w at)) (λ e. on_here w e) h
 
-marks_both : (P Q R : ℕ → Type 0) (a b c : List Bool) → ((w : ℕ) → P w → R w) → ((w : ℕ) → Q w → R w) → ((w : ℕ) → R w → P w ⊎ Q w) → IsMarked P a b → IsMarked Q b c → IsMarked R a c
+pub marks_both : (P Q R : ℕ → Type 0) (a b c : List Bool) → ((w : ℕ) → P w → R w) → ((w : ℕ) → Q w → R w) → ((w : ℕ) → R w → P w ⊎ Q w) → IsMarked P a b → IsMarked Q b c → IsMarked R a c
 marks_both P Q R a b c left right split m n =
     record {
       same = n.same ∙ m.same;
@@ -54,7 +54,7 @@ marks_both P Q R a b c left right split m n =
       );
     }
 
-marks_as : (P Q : ℕ → Type 0) (a b : List Bool) → ((w : ℕ) → P w → Q w) → ((w : ℕ) → Q w → P w) → IsMarked P a b → IsMarked Q a b
+pub marks_as : (P Q : ℕ → Type 0) (a b : List Bool) → ((w : ℕ) → P w → Q w) → ((w : ℕ) → Q w → P w) → IsMarked P a b → IsMarked Q a b
 marks_as P Q a b to from m =
     record {
       same = m.same;

@@ -4,11 +4,17 @@ use Rattle.avr_model.specs.declared.assumption.Entry.{Entry}
 use Rattle.certificate.specs.Claims.{Claim}
 use Rattle.store_laws.specs.declared.verdict.ClearVerdict.{ClearVerdict}
 use Rattle.store_laws.specs.declared.verdict.ClearVerdict.TheVariants.{Clear}
+use Rattle.store_laws.specs.declared.place.FlaggedPlace.{FlaggedPlace}
 use Rattle.store_laws.specs.Verdict.{IsClearVerdict, AreSites, AreNevers}
+use Rattle.store_laws.specs.Places.{ArePlaces}
 
 -- a certificate has at most one list of such words
 abbrev pub SitesAreOne : Type 0
 SitesAreOne = (words : List ℕ) (A : List Entry) (c : Claim) (xs ys : List ℕ) → AreSites words A c xs → AreSites words A c ys → xs ≡ ys
+
+-- and at most one of them with what may happen there
+abbrev pub PlacesAreOne : Type 0
+PlacesAreOne = (words : List ℕ) (A : List Entry) (c : Claim) (xs ys : List FlaggedPlace) → ArePlaces words A c xs → ArePlaces words A c ys → xs ≡ ys
 
 -- and at most one list of words of vectors that are assumed never to be taken and that some node may take
 abbrev pub NeversAreOne : Type 0

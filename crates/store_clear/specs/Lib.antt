@@ -1,3 +1,4 @@
 pub mod Settling
 pub mod Takes
+pub mod Causing
 pub mod Laws

@@ -5,19 +5,21 @@ ghost use Rattle.local_rules.specs.Machine.{AreWords};
 ghost use Rattle.certificate.specs.Valid.{IsSound};
 ghost use Rattle.clear_laws.specs.Clear.{NeverFlagged};
 ghost use Rattle.store_laws.specs.declared.verdict.ClearVerdict.TheVariants as verdicts;
-ghost use Rattle.store_laws.specs.Laws.{IsBoundedAndClear, EndFlaggedAt};
+ghost use Rattle.store_laws.specs.Laws.{IsBoundedAndClear, EndFlaggedAt, EndFlaggedAsTold};
+ghost use Rattle.store_laws.specs.Places.{ArePlaces, AllTellCauses};
 ghost use Rattle.store_laws.specs.Verdict.{AreAllClear, IsFirstUnclear, IsClearVerdict, AreSites, AreNevers};
 
+use crate::causes::places_at;
 use crate::takes::mark_takes;
 use crate::telling::{nodes_of, tell};
-use crate::words::{first_unclear, mark_words, places};
+use crate::words::{first_unclear, places, sites_of};
 use avr_model::device::WORDS;
 use avr_model::listed::Listed;
 use call_graph::View;
 use certificate::Certificate;
 use flash_image::Flash;
 use std::alloc::{AllocError, Global};
-use store_laws::ClearVerdict;
+use store_laws::{ClearVerdict, FlaggedPlace};
 use vector_table::Assumptions;
 
 // The words of a slice have 16 bits, as their type says.
@@ -68,10 +70,38 @@ pub fn flagged_sites(
     have_16_bits(flash.words());
     let _nodes = certificate.nodes();
     let told = tell(alloc, flash, assumptions, certificate)?;
-    let mut marks = vec![in alloc; false; usize::from(WORDS)]?;
-    mark_words(&told.nodes, &told.asks, marks.as_mut_slice());
-    let sites = places(alloc, &marks)?;
+    let sites = sites_of(alloc, &told)?;
     Ok(sites)
+}
+
+/// The same word addresses, each with what may happen there by some node that isn't clear: which protected addresses a store may write that
+/// are flagged, whether one may write a byte that was pushed, whether a transfer may go to an unlisted word; and something may happen at
+/// each. What a run from reset is flagged for is told of the word at which it ends, unless it takes a vector that is assumed never to be
+/// taken. The error is want of memory. Beside what the words cost, each of them costs a look at each node. Source: own.
+pub fn flagged_places(
+    alloc: Global,
+    flash: &Flash,
+    assumptions: &Assumptions,
+    certificate: &Certificate,
+) -> Result<Listed<FlaggedPlace>, AllocError>
+    requires { IsSound flash.now assumptions.now certificate.now }
+    ensures exact { IfOk result (λ list. ArePlaces flash.now assumptions.now certificate.now list) }
+    ensures told { IfOk result (λ list. (nevers : List ℕ) → AreNevers flash.now assumptions.now certificate.now nevers → EndFlaggedAsTold flash.now assumptions.now list nevers) }
+    ensures causes { IfOk result (λ list. AllTellCauses list) }
+{
+    have_16_bits(flash.words());
+    let _nodes = certificate.nodes();
+    let told = tell(alloc, flash, assumptions, certificate)?;
+    let sites = sites_of(alloc, &told)?;
+    let list = places_at(
+        alloc,
+        flash,
+        assumptions,
+        certificate,
+        &told,
+        sites.as_slice(),
+    )?;
+    Ok(list)
 }
 
 /// The word addresses of vectors that are assumed never to be taken and that some node of a certificate may take, ascending, each once,

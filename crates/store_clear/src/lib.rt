@@ -1,7 +1,8 @@
-//! Which nodes of a certificate may flag a step: the least of them, and all words at which one lies. Source: own.
+//! Which nodes of a certificate may flag a step: the least of them, and all words at which one lies, with what may happen there. Source: own.
 #![tactic(auto)]
 
 mod asking;
+mod causes;
 pub mod clearing;
 pub mod laws;
 mod settling;
@@ -10,5 +11,5 @@ mod takes;
 mod telling;
 mod words;
 
-pub use clearing::{clear_sites, flagged_sites, never_takes};
-pub use store_laws::ClearVerdict;
+pub use clearing::{clear_sites, flagged_places, flagged_sites, never_takes};
+pub use store_laws::{ClearVerdict, FlaggedPlace};

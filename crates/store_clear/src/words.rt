@@ -3,8 +3,10 @@
 ghost use Rattle.std.specs.Prelude.{◌≡◌, ◌<◌, ◌≤◌, length, IfOk};
 ghost use Rattle.avr_model.specs.Image.{WORDS};
 ghost use Rattle.store_clear.specs.Settling.{IsFirst, marked_by, AreWordsMarked, places_of};
+ghost use Rattle.store_clear.specs.Causing.{AreSitesTold};
 
-use crate::telling::passes;
+use crate::telling::{Told, passes};
+use avr_model::device::WORDS;
 use avr_model::listed::Listed;
 use call_graph::{Filled, View};
 use std::alloc::{AllocError, Global};
@@ -32,8 +34,8 @@ fn mark_word(word: u16, asks: Asks, marks: &mut [bool])
     }
 }
 
-/// Marks the words of the nodes that still ask something.
-pub(crate) fn mark_words(nodes: &Filled, asks: &[Asks], marks: &mut [bool])
+// Marks the words of the nodes that still ask something.
+fn mark_words(nodes: &Filled, asks: &[Asks], marks: &mut [bool])
     requires same { length asks.now ≡ length nodes.now }
     requires all { length marks.old ≡ WORDS }
     ensures { AreWordsMarked nodes.now asks.now (length asks.now) marks.old marks.new }
@@ -56,4 +58,15 @@ pub(crate) fn places(alloc: Global, marks: &[bool]) -> Result<Listed<u16>, Alloc
         }
     }
     Ok(places)
+}
+
+/// The words at which some node isn't clear, ascending, each once.
+pub(crate) fn sites_of(alloc: Global, told: &Told) -> Result<Listed<u16>, AllocError>
+    requires { length told.now.asks.items ≡ length told.now.nodes }
+    ensures { IfOk result (λ sites. AreSitesTold told.now.nodes told.now.asks.items sites) }
+{
+    let mut marks = vec![in alloc; false; usize::from(WORDS)]?;
+    mark_words(&told.nodes, &told.asks, marks.as_mut_slice());
+    let sites = places(alloc, &marks)?;
+    Ok(sites)
 }

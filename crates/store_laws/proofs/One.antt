@@ -1,22 +1,32 @@
 -- There is one verdict, and no run of a clear firmware is flagged.
-use Rattle.std.proofs.Common.{◌≡◌, refl, sym, ap, ap₂, ◌∙◌, subst, ℕ, ◌<◌, ⊎_elim, inl, inr, true, List, [], Some, slice_get, Contains, arith}
+use Rattle.std.proofs.Common.{◌≡◌, refl, sym, ap, ap₂, ◌∙◌, subst, ℕ, ◌<◌, ⊎_elim, inl, inr, true, List, [], ◌∷◌, map, Some, slice_get, Contains, arith}
+use Rattle.std.specs.Prelude.{◌↔◌}
 use Rattle.std.proofs.lemmas.Bool.{cases_lt}
 use Rattle.std.proofs.lemmas.Option.{same_Some}
+use Rattle.basics.specs.Items.{none_in, first_in, further_in, first_or_further}
 use Rattle.avr_model.specs.declared.assumption.Entry.{Entry}
+use Rattle.avr_model.specs.declared.choice.Choice.{Choice}
+use Rattle.avr_model.specs.declared.choice.Flag.{Flag}
+use Rattle.avr_model.specs.declared.choice.Flag.TheVariants.{Live, Protected, Transfer}
+use Rattle.avr_model.specs.State.{State}
 use Rattle.avr_model.specs.Assumptions.{is_never}
 use Rattle.avr_model.specs.Devices.{device_of}
 use Rattle.avr_model.specs.Vectors.{vector_word}
 use Rattle.local_rules.specs.declared.local.Node.{Node}
+use Rattle.edge_rules.specs.Expansion.{IsFilled}
 use Rattle.edge_laws.proofs.ExpansionLaws.{filled_or_missing}
 use Rattle.frame_laws.proofs.AllLaws.{sound_families_bound_every_run}
 use Rattle.clear_laws.specs.Clear.{IsClear, MayBeFlagged, MayBeTaken, EndsByTake, word_of_flag}
-use Rattle.clear_laws.proofs.AllLaws.{flagged_runs_are_told}
+use Rattle.clear_laws.specs.Causes.{MayWriteProtected, MayWriteLive, MayGoUnlisted, HasCause, MayFlag}
+use Rattle.clear_laws.proofs.AllLaws.{flagged_runs_are_told, places_have_causes, may_be_flagged}
 use Rattle.certificate.specs.Claims.{Claim}
 use Rattle.certificate.specs.Valid.{family_of}
 use Rattle.certificate.proofs.AllLaws.{conditions_make_families_sound}
 use Rattle.store_laws.specs.declared.verdict.ClearVerdict.TheVariants.{Clear, Unclear}
-use Rattle.store_laws.specs.Verdict.{AreAllClear, IsFirstUnclear}
-use Rattle.store_laws.specs.Laws.{ClearVerdictsAreOne, ClearFirmwaresAreNeverFlagged, FlaggedRunsEndAtSites}
+use Rattle.store_laws.specs.declared.place.FlaggedPlace.{FlaggedPlace}
+use Rattle.store_laws.specs.Verdict.{AreAllClear, IsFirstUnclear, AreNevers}
+use Rattle.store_laws.specs.Places.{word_of, IsPlaceOf, ArePlaces, TellsCause, AllTellCauses, AreToldOf}
+use Rattle.store_laws.specs.Laws.{ClearVerdictsAreOne, ClearFirmwaresAreNeverFlagged, EndsByTakeAt, FlaggedRunsEndAtSites, FlaggedRunsEndAtPlaces}
 use Rattle.store_laws.proofs.Places.{contains_at}
 
 module _ (words : List ℕ) (A : List Entry) (c : Claim) where
@@ -67,14 +77,12 @@ clear_firmwares_are_never_flagged words c sized claim sound all =
       never = flagged_runs_are_told.never words [] (family_of c sound.nodes) sized family clear (λ word taken. no_line word taken.never);
     }
 
-pub flagged_runs_end_at_sites : FlaggedRunsEndAtSites
-flagged_runs_end_at_sites words A c sites nevers sized claim sound are all m choices flag reset run ends =
-    let same = filled_or_missing.one words A c.nodes sound.nodes are.nodes sound.expanded are.expanded in
-    let alike = filled_or_missing.one words A c.nodes sound.nodes all.nodes sound.expanded all.expanded in
-    let family = conditions_make_families_sound words A c sound.nodes claim sound.expanded sound.meets in
-    ⊎_elim
-    (λ at. inl ((are.exact (word_of_flag flag)).1 (subst (λ (nodes : List Node). MayBeFlagged words A (family_of c nodes) (word_of_flag flag)) same at)))
-    (λ (at : EndsByTake words A sound.nodes m choices). inr (record {
+-- a take that a node may do is one of the words that are told
+take_at : (words : List ℕ) (A : List Entry) (c : Claim) (nodes : List Node) (nevers : List ℕ) (m : State) (choices : List Choice) → IsFilled words A c.nodes nodes
+    → AreNevers words A c nevers → EndsByTake words A nodes m choices → EndsByTakeAt words A nevers m choices
+take_at words A c nodes nevers m choices filled all at =
+    let alike = filled_or_missing.one words A c.nodes nodes all.nodes filled all.expanded in
+    record {
       before = at.before;
       vector = at.vector;
       clears = at.clears;
@@ -83,5 +91,72 @@ flagged_runs_end_at_sites words A c sites nevers sized claim sound are all m cho
       passes = at.passes;
       word = (all.exact (vector_word (device_of words) at.vector)).1
           (subst (λ (nodes : List Node). MayBeTaken words A nodes (vector_word (device_of words) at.vector)) alike at.taken);
-    }))
+    }
+
+pub flagged_runs_end_at_sites : FlaggedRunsEndAtSites
+flagged_runs_end_at_sites words A c sites nevers sized claim sound are all m choices flag reset run ends =
+    let same = filled_or_missing.one words A c.nodes sound.nodes are.nodes sound.expanded are.expanded in
+    let family = conditions_make_families_sound words A c sound.nodes claim sound.expanded sound.meets in
+    ⊎_elim
+    (λ at. inl ((are.exact (word_of_flag flag)).1 (subst (λ (nodes : List Node). MayBeFlagged words A (family_of c nodes) (word_of_flag flag)) same at)))
+    (λ at. inr (take_at words A c sound.nodes nevers m choices sound.expanded all at))
     (flagged_runs_are_told.told words A (family_of c sound.nodes) m choices flag sized family reset run ends)
+
+-- ---- with what may happen there
+
+in_words : (places : List FlaggedPlace) (place : FlaggedPlace) → Contains places place → Contains (map word_of places) place.word
+in_words [] place h = absurd (none_in place h)
+in_words (p ∷ ps) place h =
+    ⊎_elim (λ e. subst (λ (x : FlaggedPlace). Contains (p.word ∷ map word_of ps) x.word) (sym e) (first_in p.word (map word_of ps)))
+    (λ more. further_in p.word place.word (map word_of ps) (in_words ps place more)) (first_or_further p place ps h)
+
+place_in : (places : List FlaggedPlace) (pc : ℕ) → Contains (map word_of places) pc → (place : FlaggedPlace) × (Contains places place × (place.word ≡ pc))
+place_in [] pc h = absurd (none_in pc h)
+place_in (p ∷ ps) pc h =
+    ⊎_elim (λ e. (p, (first_in p ps, sym e))) (λ more. let q = place_in ps pc more in (q.0, (further_in p q.0 ps q.1.0, q.1.1)))
+    (first_or_further p.word pc (map word_of ps) h)
+
+module _ (words : List ℕ) (A : List Entry) (c : Claim) (places : List FlaggedPlace) (are : ArePlaces words A c places) where
+  -- the words are those of the same nodes
+  words_told : (pc : ℕ) → Contains (map word_of places) pc ↔ MayBeFlagged words A (family_of c are.nodes) pc
+  words_told pc =
+      let same = filled_or_missing.one words A c.nodes are.sites.nodes are.nodes are.sites.expanded are.expanded in
+      subst (λ (nodes : List Node). Contains (map word_of places) pc ↔ MayBeFlagged words A (family_of c nodes) pc) same (are.sites.exact pc)
+
+  some_cause : AllTellCauses places
+  some_cause place present = by ((places_have_causes words A (family_of c are.nodes) place.word).0 ((words_told place.word).0 (in_words places place present)))
+    where
+      is : IsPlaceOf words A (family_of c are.nodes) place
+      is = are.each place present
+
+      by : HasCause words A (family_of c are.nodes) place.word → TellsCause place
+      by (inl p) = inl (λ none. none_in p.0 (subst (λ (xs : List ℕ). Contains xs p.0) none ((is.protected p.0).1 p.1)))
+      by (inr (inl l)) = inr (inl (is.live.1 l))
+      by (inr (inr t)) = inr (inr (is.transfer.1 t))
+
+  told_by : (flag : Flag) → MayFlag words A (family_of c are.nodes) flag → AreToldOf places flag
+  told_by flag caused = by flag caused (place_in places (word_of_flag flag) ((words_told (word_of_flag flag)).1 (may_be_flagged words A (family_of c are.nodes) flag caused)))
+    where
+      by : (flag : Flag) → MayFlag words A (family_of c are.nodes) flag → (place : FlaggedPlace) × (Contains places place × (place.word ≡ word_of_flag flag)) → AreToldOf places flag
+      by (Live pc a) caused p =
+          record { place = p.0; present = p.1.0; told = (p.1.1, (are.each p.0 p.1.0).live.1 (subst (MayWriteLive words A (family_of c are.nodes)) (sym p.1.1) caused)) }
+      by (Protected pc a) caused p =
+          record {
+            place = p.0;
+            present = p.1.0;
+            told = (p.1.1, ((are.each p.0 p.1.0).protected a).1 (subst (λ w. MayWriteProtected words A (family_of c are.nodes) w a) (sym p.1.1) caused));
+          }
+      by (Transfer pc target) caused p =
+          record { place = p.0; present = p.1.0; told = (p.1.1, (are.each p.0 p.1.0).transfer.1 (subst (MayGoUnlisted words A (family_of c are.nodes)) (sym p.1.1) caused)) }
+
+pub flagged_runs_end_at_places : FlaggedRunsEndAtPlaces
+flagged_runs_end_at_places =
+    record {
+      ends = λ words A c places nevers sized claim sound are all m choices flag reset run ends.
+          let same = filled_or_missing.one words A c.nodes sound.nodes are.nodes sound.expanded are.expanded in
+          let family = conditions_make_families_sound words A c sound.nodes claim sound.expanded sound.meets in
+          ⊎_elim (λ caused. inl (told_by words A c places are flag (subst (λ (nodes : List Node). MayFlag words A (family_of c nodes) flag) same caused)))
+          (λ at. inr (take_at words A c sound.nodes nevers m choices sound.expanded all at))
+          (flagged_runs_are_told.caused words A (family_of c sound.nodes) m choices flag sized family reset run ends);
+      told = some_cause;
+    }

@@ -25,7 +25,9 @@ use Rattle.store_aims.specs.Needs.{meets}
 use Rattle.store_laws.specs.Links.{AreLinks}
 use Rattle.store_laws.specs.Meets.{Meets}
 use Rattle.store_laws.specs.declared.verdict.ClearVerdict.{ClearVerdict}
+use Rattle.store_laws.specs.declared.place.FlaggedPlace.{FlaggedPlace}
 use Rattle.store_laws.specs.Verdict.{AreAllClear, IsClearVerdict, AreSites, AreNevers}
+use Rattle.store_laws.specs.Places.{ArePlaces, AllTellCauses, AreToldOf}
 
 -- a certificate has at most one verdict
 abbrev pub ClearVerdictsAreOne : Type 0
@@ -62,6 +64,18 @@ abbrev pub FlaggedRunsEndAtSites : Type 0
 FlaggedRunsEndAtSites =
     (words : List ℕ) (A : List Entry) (c : Claim) (sites nevers : List ℕ) → AreWords words → IsClaim c → IsSound words A c → AreSites words A c sites
     → AreNevers words A c nevers → EndFlaggedAt words A sites nevers
+
+-- each run from reset that ends flagged ends where just that is told of its word, or by taking a vector that is entered at one of the others
+abbrev pub EndFlaggedAsTold : List ℕ → List Entry → List FlaggedPlace → List ℕ → Type 0
+EndFlaggedAsTold words A places nevers =
+    (m : State) (choices : List Choice) (flag : Flag) → IsReset (device_of words) m → IsRun words A choices m → stop_of words A choices m ≡ stop.Flag flag
+    → AreToldOf places flag ⊎ EndsByTakeAt words A nevers m choices
+
+-- where all conditions hold, runs end flagged only as it is told, and something is told of each word
+pub record FlaggedRunsEndAtPlaces : Type 0 where
+  pub ends : (words : List ℕ) (A : List Entry) (c : Claim) (places : List FlaggedPlace) (nevers : List ℕ) → AreWords words → IsClaim c → IsSound words A c
+      → ArePlaces words A c places → AreNevers words A c nevers → EndFlaggedAsTold words A places nevers
+  pub told : (words : List ℕ) (A : List Entry) (c : Claim) (places : List FlaggedPlace) → ArePlaces words A c places → AllTellCauses places
 
 -- With links as they are, a slot spreads to just the nodes at which it may hold a live byte.
 abbrev pub SlotsSpreadAlongLinks : Type 0

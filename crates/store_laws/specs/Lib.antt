@@ -1,4 +1,5 @@
 pub mod Links
 pub mod Meets
 pub mod Verdict
+pub mod Places
 pub mod Laws

@@ -2,6 +2,8 @@
 #![tactic(auto)]
 
 pub mod laws;
+pub mod place;
 pub mod verdict;
 
+pub use place::FlaggedPlace;
 pub use verdict::ClearVerdict;

@@ -1,14 +1,14 @@
 use Rattle.std.proofs.Common.{subst}
 use Rattle.cert_format.specs.Reading.{certificate_in}
-use Rattle.replies.specs.Reply.{PremisesReply}
+use Rattle.replies.specs.Reply.{PlacesReply}
 use Rattle.stack_core.specs.Answering.{IsJudgedAs}
 use Rattle.stack_core.proofs.Replies.{accepted_result}
 use Rattle.stack_core.proofs.clearing.premises.Goals as goal
 
-pub listed-requires : goal.listed-requires
-listed-requires c = (subst (IsJudgedAs c.args.loaded.now.flash c.args.assumptions.now (certificate_in c.args.text.now)) c.in-Accepted.is c.in_ok-certificate.ensures).1.sound
+pub told-requires : goal.told-requires
+told-requires c = (subst (IsJudgedAs c.args.loaded.now.flash c.args.assumptions.now (certificate_in c.args.text.now)) c.in-Accepted.is c.in_ok-certificate.ensures).1.sound
 
 pub returns-in-Accepted : goal.returns-in-Accepted
 returns-in-Accepted c =
-    accepted_result c.args.loaded.now.flash c.args.assumptions.now (PremisesReply c.args.loaded.now.names c.args.loaded.now.flash c.args.assumptions.now) (certificate_in c.args.text.now) c.in-Accepted.certificate c.listed.result
-    (subst (IsJudgedAs c.args.loaded.now.flash c.args.assumptions.now (certificate_in c.args.text.now)) c.in-Accepted.is c.in_ok-certificate.ensures) c.listed.ensures
+    accepted_result c.args.loaded.now.flash c.args.assumptions.now (PlacesReply c.args.why c.args.loaded.now.names c.args.loaded.now.flash c.args.assumptions.now) (certificate_in c.args.text.now) c.in-Accepted.certificate c.told.result
+    (subst (IsJudgedAs c.args.loaded.now.flash c.args.assumptions.now (certificate_in c.args.text.now)) c.in-Accepted.is c.in_ok-certificate.ensures) c.told.ensures

@@ -1,0 +1,227 @@
+-- What is flagged may happen at the node's word, and where a node may be flagged something may happen.
+use Rattle.std.proofs.Common.{◌≡◌, refl, sym, ap, ap₂, ◌∙◌, subst, ℕ, ◌+◌, ◌-◌, ◌<◌, ◌≤◌, Bool, true, false, not, ◌&&◌, ◌||◌, ◌⊎◌, inl, inr, ⊎_elim, if◌then◌else◌, List, [], ◌++◌, Option, Some, None, Contains, arith}
+use Rattle.std.specs.Prelude.{◌↔◌}
+use Rattle.std.proofs.lemmas.Bool.{and_from, or_left, or_right}
+use Rattle.basics.specs.Booleans.{not_from_never}
+use Rattle.avr_model.specs.declared.assumption.Entry.{Entry}
+use Rattle.avr_model.specs.declared.choice.Choice.{Choice}
+use Rattle.avr_model.specs.declared.choice.Choice.TheVariants.{Go, Take}
+use Rattle.avr_model.specs.declared.choice.Flag.{Flag}
+use Rattle.avr_model.specs.declared.choice.Flag.TheVariants.{Live, Protected, Transfer}
+use Rattle.avr_model.specs.declared.device.Device.{Device}
+use Rattle.avr_model.specs.declared.effect.Effect.{Effect}
+use Rattle.avr_model.specs.declared.instruction.Instr.{Instr}
+use Rattle.avr_model.specs.declared.instruction.Instr.TheVariants as i
+use Rattle.avr_model.specs.Assumptions.{store_line, is_never, is_fixed_site, lists}
+use Rattle.avr_model.specs.Devices.{ramend, device_of}
+use Rattle.avr_model.specs.Sites.{instruction_at, is_scratch}
+use Rattle.avr_model.specs.State.{State, is_live}
+use Rattle.avr_model.specs.Vectors.{is_protected, vector_word}
+use Rattle.avr_model.specs.Effects.{set, effect_of}
+use Rattle.avr_model.specs.Step.{Overflow, Flagged, after, all_inside, live_write, unlisted, protected_write, unless_listed, unlisted_transfer, is_pointer_store, is_indirect, is_unlisted, flag_by, flagged_or, may_take, go, step}
+use Rattle.abs_state.specs.declared.state.AbsState.{AbsState}
+use Rattle.mask_states.specs.declared.keys.NodeKey.{NodeKey}
+use Rattle.mask_states.specs.Keys.{offset_of}
+use Rattle.local_rules.specs.declared.local.Node.{Node}
+use Rattle.edge_rules.specs.Families.{Family, IsSound}
+use Rattle.edge_rules.specs.Frames.{Frame, Runs}
+use Rattle.clear_laws.specs.Aims.{Aim, aim_of}
+use Rattle.clear_laws.specs.Clear.{IsClear, MayBeFlagged, word_of_flag, is_clear_by, is_flagged_address, is_transfer_listed, is_aim_harmless}
+use Rattle.clear_laws.specs.Causes.{may_write, may_write_protected, may_write_some_protected, may_write_stack, may_write_live, IsCause, MayWriteProtected, MayWriteLive, MayGoUnlisted, HasCause, MayFlag}
+use Rattle.clear_laws.specs.Laws.{PlacesHaveCauses}
+use Rattle.clear_laws.proofs.Below.{any_found, found_below}
+use Rattle.clear_laws.proofs.Kept.{Holding}
+use Rattle.clear_laws.proofs.Told.{clear_nodes_are_told}
+use Rattle.clear_laws.proofs.Unflagged.{IsSafe, IsStore, writes, by_instruction, inside, IsTaken, taken_here}
+
+-- ---- which case a flag is of
+
+abbrev IsOf : ℕ → Option ℕ → Option ℕ → Option ℕ → Flag → Type 0
+IsOf pc live protected transfer (Live p x) = (pc ≡ p) × (live ≡ Some x)
+IsOf pc live protected transfer (Protected p x) = (pc ≡ p) × (protected ≡ Some x)
+IsOf pc live protected transfer (Transfer p x) = (pc ≡ p) × (transfer ≡ Some x)
+
+flag_same : (p q : Flag) → Flagged p ≡ Flagged q → p ≡ q
+flag_same p q e = cc
+
+flagged_by : (t : Bool) (pc : ℕ) (a b c : Option ℕ) (x : State) (flag : Flag) → (if t then flagged_or (flag_by pc a b c) x else Overflow pc) ≡ Flagged flag → IsOf pc a b c flag
+flagged_by false pc a b c x flag e = absurd (cc)
+flagged_by true pc (Some a) b c x flag e = subst (IsOf pc (Some a) b c) (flag_same (Live pc a) flag e) (refl, refl)
+flagged_by true pc None (Some b) c x flag e = subst (IsOf pc None (Some b) c) (flag_same (Protected pc b) flag e) (refl, refl)
+flagged_by true pc None None (Some c) x flag e = subst (IsOf pc None None (Some c)) (flag_same (Transfer pc c) flag e) (refl, refl)
+flagged_by true pc None None None x flag e = absurd (cc)
+
+-- ---- one write
+
+no_some : (o : Option ℕ) (x : ℕ) → o ≡ None → o ≡ Some x → ⊥
+no_some o x none some = let no : None ≡ Some x = sym none ∙ some in cc
+
+one_of : (b : Bool) (a x : ℕ) → (if b then Some a else None) ≡ Some x → (b ≡ true) × (a ≡ x)
+one_of true a x e = (refl, cc)
+one_of false a x e = absurd (cc)
+
+flagged_of : (stores fixed protected : Bool) (a x : ℕ) → (if stores && not fixed then (if protected then Some a else None) else None) ≡ Some x
+    → ((stores && not fixed && protected) ≡ true) × (a ≡ x)
+flagged_of false fixed protected a x e = absurd (cc)
+flagged_of true true protected a x e = absurd (cc)
+flagged_of true false false a x e = absurd (cc)
+flagged_of true false true a x e = (refl, cc)
+
+indirect_by : (b : Bool) (o : Option ℕ) (x : ℕ) → (if b then o else None) ≡ Some x → b ≡ true
+indirect_by true o x e = refl
+indirect_by false o x e = absurd (cc)
+
+-- ---- transfers
+
+-- an indirect transfer whose words are listed is clear
+aim_none : (device : Device) (k : NodeKey) (s : AbsState) (instr : Instr) → is_indirect instr ≡ true → aim_of device k s instr ≡ None
+aim_none device k s i.Ijmp e = refl
+aim_none device k s i.Icall e = refl
+aim_none device k s _ e = absurd (cc)
+
+module _ (words : List ℕ) (A : List Entry) (f : Family) (n : Node) where
+  clear_listed : (instr : Instr) → instruction_at words n.key.pc ≡ Some instr → is_indirect instr ≡ true → is_transfer_listed words A n.key.pc n.state instr ≡ true → IsClear words A f n
+  clear_listed instr is indirect listed =
+      clear_nodes_are_told.clear words A f n (λ d. true) (λ d lt none may. absurd (let no : true ≡ false = none in cc))
+      (ap (is_clear_by words A f.bound n.key n.state (λ d. true)) is
+      ∙ and_from (is_aim_harmless words A f.bound n.key instr (λ d. true) (aim_of (device_of words) n.key n.state instr)) (is_transfer_listed words A n.key.pc n.state instr)
+      (ap (is_aim_harmless words A f.bound n.key instr (λ d. true)) (aim_none (device_of words) n.key n.state instr indirect)) listed)
+
+  pub not_listed : (instr : Instr) → instruction_at words n.key.pc ≡ Some instr → is_indirect instr ≡ true → (IsClear words A f n → ⊥) → not (is_transfer_listed words A n.key.pc n.state instr) ≡ true
+  not_listed instr is indirect unclear = not_from_never (is_transfer_listed words A n.key.pc n.state instr) (λ listed. unclear (clear_listed instr is indirect listed))
+
+  clear_without : instruction_at words n.key.pc ≡ None → IsClear words A f n
+  clear_without is =
+      record {
+        store = λ instr aim at same. absurd (let no : None ≡ Some instr = sym is ∙ at in cc);
+        transfer = λ instr at indirect. absurd (let no : None ≡ Some instr = sym is ∙ at in cc);
+      }
+
+-- ---- a step that is flagged
+
+module _ (words : List ℕ) (A : List Entry) (f : Family) (sound : IsSound words A f) (m : State) (g : Frame) (gs : List Frame) (runs : Runs words A f m g gs)
+    (holds : Holding words A f m.memory g gs) where
+  abbrev top : ℕ
+  top = ramend (device_of words)
+
+  at_word : g.node.key.pc ≡ m.pc
+  at_word = sym runs.running.place.pc
+
+  cause : (test : AbsState → Instr → Bool) (instr : Instr) → instruction_at words m.pc ≡ Some instr → (IsClear words A f g.node → ⊥) → test g.node.state instr ≡ true → IsCause words A f m.pc test
+  cause test instr is unclear passes =
+      record { node = g.node; present = runs.present; is = at_word; unclear = unclear; instr = instr; instruction = is; passes = passes }
+
+  module _ (b1 b2 : ℕ) (instr : Instr) (is : instruction_at words m.pc ≡ Some instr) where
+    abbrev effect : Effect
+    effect = effect_of words m instr b1 b2
+
+    abbrev Safe : Type 0
+    Safe = IsSafe words A f sound m g gs runs holds b1 b2 instr is
+
+    abbrev Store : Type 0
+    Store = IsStore words A f sound m g gs runs holds b1 b2 instr is
+
+    -- where a live byte lies the stack can reach
+    live_reached : (x : ℕ) → is_live m.memory x ≡ true → may_write g.node.state instr x ≡ true → may_write_stack (device_of words) f.bound g.node.state instr ≡ true
+    live_reached x live may =
+        let le : x ≤ top = inside words A f sound m g gs runs holds x live in
+        let same : top - (top - x) ≡ x = omega (arith, le) in
+        any_found (λ d. may_write g.node.state instr (top - d)) (top - x) f.bound (omega (arith, le, holds.above x live, holds.depth)) (ap (may_write g.node.state instr) same ∙ may)
+
+    written_live : (x : ℕ) → live_write m.memory (effect.stores ++ effect.pushes) ≡ Some x → may_write_live words A f.bound m.pc g.node.state instr ≡ true
+    unfolding live_write
+    written_live x e = ⊎_elim (λ s. absurd (no_some _ x s.live e)) by_store (writes words A f sound m g gs runs holds b1 b2 instr is)
+      where
+        by_store : Store → may_write_live words A f.bound m.pc g.node.state instr ≡ true
+        by_store w =
+            let t = one_of (is_live m.memory w.address) w.address x (sym (ap₂ (λ ss ps. live_write m.memory (ss ++ ps)) w.stores w.pushes) ∙ e) in
+            or_left (may_write_stack (device_of words) f.bound g.node.state instr) _ (live_reached w.address t.0 w.may)
+
+    written_protected : (x : ℕ) → protected_write words A m.pc instr effect ≡ Some x → may_write_protected words A m.pc g.node.state instr x ≡ true
+    unfolding protected_write
+    written_protected x e = ⊎_elim (λ s. absurd (no_some _ x s.protected e)) by_store (writes words A f sound m g gs runs holds b1 b2 instr is)
+      where
+        by_store : Store → may_write_protected words A m.pc g.node.state instr x ≡ true
+        by_store w =
+            let t =
+            flagged_of (is_pointer_store instr) (is_fixed_site words A m.pc) (is_protected w.address && not (lists (store_line A m.pc) w.address)) w.address x
+            (sym (ap (λ ws. if is_pointer_store instr && not (is_fixed_site words A m.pc) then unlisted (store_line A m.pc) ws else None) w.stores) ∙ e) in
+            subst (λ a. may_write_protected words A m.pc g.node.state instr a ≡ true) t.1 (and_from (is_flagged_address words A m.pc instr w.address) _ t.0 w.may)
+
+    written_unlisted : (x : ℕ) → unlisted_transfer A m.pc instr effect ≡ Some x → (IsClear words A f g.node → ⊥) → not (is_transfer_listed words A m.pc g.node.state instr) ≡ true
+    unfolding unlisted_transfer
+    written_unlisted x e unclear =
+        subst (λ p. not (is_transfer_listed words A p g.node.state instr) ≡ true) at_word
+        (not_listed words A f g.node instr (subst (λ p. instruction_at words p ≡ Some instr) (sym at_word) is) (indirect_by (is_indirect instr) _ x e) unclear)
+
+    caused_by : (flag : Flag) → IsOf m.pc (live_write m.memory (effect.stores ++ effect.pushes)) (protected_write words A m.pc instr effect) (unlisted_transfer A m.pc instr effect) flag
+        → (IsClear words A f g.node → ⊥) → MayFlag words A f flag
+    caused_by (Live p x) h unclear =
+        subst (λ pc. IsCause words A f pc (may_write_live words A f.bound pc)) h.0 (cause (may_write_live words A f.bound m.pc) instr is unclear (written_live x h.1))
+    caused_by (Protected p x) h unclear =
+        subst (λ pc. IsCause words A f pc (λ s y. may_write_protected words A pc s y x)) h.0 (cause (λ s y. may_write_protected words A m.pc s y x) instr is unclear (written_protected x h.1))
+    caused_by (Transfer p x) h unclear =
+        subst (λ pc. IsCause words A f pc (λ s y. not (is_transfer_listed words A pc s y))) h.0
+        (cause (λ s y. not (is_transfer_listed words A m.pc s y)) instr is unclear (written_unlisted x h.1 unclear))
+
+  going : (b1 b2 : ℕ) (flag : Flag) (x : Option Instr) → instruction_at words m.pc ≡ x → go words A m x b1 b2 ≡ Flagged flag → MayFlag words A f flag
+  going b1 b2 flag None is e = absurd (cc)
+  going b1 b2 flag (Some instr) is e =
+      let effect = effect_of words m instr b1 b2 in
+      caused_by b1 b2 instr is flag
+      (flagged_by (all_inside m.device effect.pushes || is_unlisted (unlisted_transfer A m.pc instr effect)) m.pc (live_write m.memory (effect.stores ++ effect.pushes))
+      (protected_write words A m.pc instr effect) (unlisted_transfer A m.pc instr effect) (after m (not (is_scratch words m.pc)) effect) flag e)
+      (λ clear. by_instruction words A f sound m g gs runs holds clear flag b1 b2 (Some instr) is e)
+
+  -- a step is flagged only for what may happen there, or where it takes such a vector
+  pub caused_here : (c : Choice) (flag : Flag) → step words A m c ≡ Flagged flag → MayFlag words A f flag ⊎ IsTaken words A f sound m g gs runs holds c
+  caused_here (Go b1 b2) flag e = inl (going b1 b2 flag (instruction_at words m.pc) refl e)
+  caused_here (Take v clears) flag e =
+      inr (taken_here words A f sound m g gs runs holds v clears flag (may_take m v clears) (is_never A (vector_word (device_of words) v)) refl refl e)
+
+-- ---- words
+
+module _ (words : List ℕ) (A : List Entry) (f : Family) where
+  forgets : (pc : ℕ) (test : AbsState → Instr → Bool) → IsCause words A f pc test → MayBeFlagged words A f pc
+  forgets pc test c = record { node = c.node; present = c.present; is = c.is; unclear = c.unclear }
+
+  pub may_be_flagged : (flag : Flag) → MayFlag words A f flag → MayBeFlagged words A f (word_of_flag flag)
+  may_be_flagged (Live pc a) c = forgets pc (may_write_live words A f.bound pc) c
+  may_be_flagged (Protected pc a) c = forgets pc (λ s instr. may_write_protected words A pc s instr a) c
+  may_be_flagged (Transfer pc target) c = forgets pc (λ s instr. not (is_transfer_listed words A pc s instr)) c
+
+  module _ (pc : ℕ) (may : MayBeFlagged words A f pc) where
+    at_pc : (instr : Instr) → instruction_at words may.node.key.pc ≡ Some instr → instruction_at words pc ≡ Some instr
+    at_pc instr is = subst (λ p. instruction_at words p ≡ Some instr) may.is is
+
+    caused : (test : AbsState → Instr → Bool) (instr : Instr) → instruction_at words may.node.key.pc ≡ Some instr → test may.node.state instr ≡ true → IsCause words A f pc test
+    caused test instr is passes =
+        record { node = may.node; present = may.present; is = may.is; unclear = may.unclear; instr = instr; instruction = at_pc instr is; passes = passes }
+
+    -- a transfer, a protected address, or neither
+    by_tests : (instr : Instr) → instruction_at words may.node.key.pc ≡ Some instr → (t p : Bool) → is_indirect instr ≡ t → may_write_some_protected words A pc may.node.state instr ≡ p
+        → HasCause words A f pc
+    by_tests instr is true p indirect some =
+        inr (inr (caused (λ s y. not (is_transfer_listed words A pc s y)) instr is
+        (subst (λ q. not (is_transfer_listed words A q may.node.state instr) ≡ true) may.is (not_listed words A f may.node instr is indirect may.unclear))))
+    by_tests instr is false true indirect some =
+        let found = found_below (may_write_protected words A pc may.node.state instr) 256 some in
+        inl (found.0, caused (λ s y. may_write_protected words A pc s y found.0) instr is found.1.1)
+    by_tests instr is false false indirect some =
+        inr (inl (caused (may_write_live words A f.bound pc) instr is
+        (or_right (may_write_stack (device_of words) f.bound may.node.state instr) _ (ap₂ (λ a b. not (a || b)) indirect some))))
+
+    by_instr : (x : Option Instr) → instruction_at words may.node.key.pc ≡ x → HasCause words A f pc
+    by_instr None is = absurd (may.unclear (clear_without words A f may.node is))
+    by_instr (Some instr) is = by_tests instr is (is_indirect instr) (may_write_some_protected words A pc may.node.state instr) refl refl
+
+    pub has_cause : HasCause words A f pc
+    has_cause = by_instr (instruction_at words may.node.key.pc) refl
+
+  cause_there : (pc : ℕ) → HasCause words A f pc → MayBeFlagged words A f pc
+  cause_there pc (inl c) = forgets pc (λ s instr. may_write_protected words A pc s instr c.0) c.1
+  cause_there pc (inr (inl c)) = forgets pc (may_write_live words A f.bound pc) c
+  cause_there pc (inr (inr c)) = forgets pc (λ s instr. not (is_transfer_listed words A pc s instr)) c
+
+pub places_have_causes : PlacesHaveCauses
+places_have_causes words A f pc = (has_cause words A f pc, cause_there words A f pc)

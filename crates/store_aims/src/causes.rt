@@ -1,0 +1,104 @@
+//! What may happen where a node's step may be flagged.
+
+ghost use Rattle.std.specs.Prelude.{◌≡◌, ◌≤◌};
+ghost use Rattle.avr_model.specs.Devices.{device_of, size_of};
+ghost use Rattle.local_rules.specs.Local as rows;
+ghost use Rattle.clear_laws.specs.Causes.{permits_number, may_write, may_write_protected, may_write_some_protected, may_write_stack, may_write_live};
+
+use crate::aims::may_be;
+use crate::need::{is_flagged_address, is_indirect};
+use abs_reads::pointers::step_before;
+use abs_rows::registers::pair;
+use abs_rows::transfer::{base_register, pointer_register};
+use abs_state::AbsState;
+use avr_model::instruction::{Instr, LowRegister};
+use flash_image::Flash;
+use vector_table::Assumptions;
+
+// Whether bits and ranges permit that the registers hold this number.
+fn permits_number(state: &AbsState, r: LowRegister, number: u16) -> bool
+    ensures { result ≡ permits_number state.now r number }
+{
+    let (low, high) = pair(state, r);
+    may_be(low, (number % 256) as u8) && may_be(high, (number / 256) as u8)
+}
+
+// Whether a store's byte may go to this address.
+fn may_write(state: &AbsState, instr: &Instr, address: u16) -> bool
+    ensures { result ≡ may_write state.now instr.now address }
+{
+    match instr {
+        Instr::Std(base, q, _) => {
+            let number = address.wrapping_sub(q.get());
+            permits_number(state, base_register(*base), number)
+        }
+        Instr::St(pointer, _) => {
+            let number = address.wrapping_sub(step_before(*pointer));
+            permits_number(state, pointer_register(*pointer), number)
+        }
+        Instr::Sts(only, _) => *only == address,
+        _ => false,
+    }
+}
+
+/// Whether the byte of a store at this word may go to this data address, and a write of it is flagged as that of a protected one.
+pub fn may_write_protected(
+    flash: &Flash,
+    assumptions: &Assumptions,
+    pc: u16,
+    state: &AbsState,
+    instr: &Instr,
+    address: u16,
+) -> bool
+    ensures { result ≡ may_write_protected flash.now assumptions.now pc state.now instr.now address }
+{
+    is_flagged_address(flash, assumptions, pc, instr, address) && may_write(state, instr, address)
+}
+
+// The same of some address.
+fn may_write_some_protected(
+    flash: &Flash,
+    assumptions: &Assumptions,
+    pc: u16,
+    state: &AbsState,
+    instr: &Instr,
+) -> bool
+    ensures { result ≡ may_write_some_protected flash.now assumptions.now pc state.now instr.now }
+{
+    for address in 0..256u16 {
+        if may_write_protected(flash, assumptions, pc, state, instr, address) {
+            return true;
+        }
+    }
+    false
+}
+
+// Whether the byte of a store may go where the stack can reach by the bound.
+fn may_write_stack(flash: &Flash, bound: u16, state: &AbsState, instr: &Instr) -> bool
+    requires { bound ≤ size_of (device_of flash.now) }
+    ensures { result ≡ may_write_stack (device_of flash.now) bound state.now instr.now }
+{
+    let last = flash.device().ramend();
+    for depth in 0..bound {
+        if may_write(state, instr, last - depth) {
+            return true;
+        }
+    }
+    false
+}
+
+/// Whether a store at this word that isn't harmless may write a byte that was pushed, where the stack takes at most this many bytes.
+pub fn may_write_live(
+    flash: &Flash,
+    assumptions: &Assumptions,
+    bound: u16,
+    pc: u16,
+    state: &AbsState,
+    instr: &Instr,
+) -> bool
+    requires { bound ≤ size_of (device_of flash.now) }
+    ensures { result ≡ may_write_live flash.now assumptions.now bound pc state.now instr.now }
+{
+    may_write_stack(flash, bound, state, instr)
+        || !(is_indirect(instr) || may_write_some_protected(flash, assumptions, pc, state, instr))
+}
