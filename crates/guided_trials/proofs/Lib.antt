@@ -3,6 +3,7 @@ mod Points
 mod Found
 mod Marks
 mod Nothing
+mod Paces
 mod Starts
 mod Takes
 mod Led

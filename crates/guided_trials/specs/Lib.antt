@@ -1,5 +1,6 @@
 pub mod Numbers
 pub mod Telling
+pub mod Needs
 pub mod Guides
 pub mod Choosing
 pub mod Trials

@@ -7,7 +7,7 @@ ghost use Rattle.guided_trials.specs.Attaining.{IsCompleted, AttainedWhere};
 ghost use Rattle.guided_trials.specs.Guides as guides;
 ghost use Rattle.guided_trials.specs.Trials.{IsFound};
 
-use crate::guide::{Candidate, Guide};
+use crate::guide::{Candidate, Candidates, Guide};
 use crate::telling::telling;
 use crate::trial::first_trial;
 use avr_model::listed::Listed;
@@ -97,7 +97,7 @@ fn guide_of(
     }
     Ok(Guide {
         bytes,
-        takes,
+        takes: Candidates::new(takes),
         bound: certificate.bound(),
     })
 }

@@ -1,27 +1,33 @@
 //! What a trial chooses at a moment.
 
-ghost use Rattle.std.specs.Prelude.{ℕ, ◌≡◌, ◌+◌, ◌%◌, ◌/◌, ◌==◌, ◌&&◌, length, slice_get};
+ghost use Rattle.std.specs.Prelude.{ℕ, ◌≡◌, ◌+◌, ◌-◌, ◌%◌, ◌/◌, ◌==◌, ◌&&◌, length, slice_get};
 ghost use Rattle.std.specs.List.{filter, find};
 ghost use Rattle.guided_trials.specs.Numbers as numbers;
 ghost use Rattle.guided_trials.specs.Choosing as choosing;
 
 use crate::guide::{Candidate, Guide, Moment};
 use crate::numbers::{high, low, middle, next};
-use avr_decode::{Instr, instruction};
+use avr_decode::Instr;
 use avr_machine::{Choice, Menu};
 use flash_image::Flash;
+
+// One less than what trial `t` holds its byte for, which is a power of two.
+fn held_bits(t: u32) -> u16
+    ensures { result ≡ choosing.hold t - 1 }
+{
+    match t % 4 {
+        0 => 0,
+        1 => 7,
+        2 => 63,
+        _ => 4095,
+    }
+}
 
 // Whether the number is one at which trial `t` changes its byte.
 fn is_change(t: u32, number: u64) -> bool
     ensures { result ≡ (numbers.low number % choosing.hold t == 0) }
 {
-    let low = low(number);
-    match t % 4 {
-        0 => true,
-        1 => low % 8 == 0,
-        2 => low % 64 == 0,
-        _ => low % 4096 == 0,
-    }
+    low(number) & held_bits(t) == 0
 }
 
 // Whether the number is one at which trial `t` takes an interrupt by chance.
@@ -52,7 +58,7 @@ fn is_input(instr: &Instr) -> bool
 fn reads(flash: &Flash, pc: u16) -> bool
     ensures { result ≡ choosing.reads flash.now pc }
 {
-    match instruction(flash.words(), usize::from(pc)) {
+    match flash.instruction(pc) {
         Some(instr) => is_input(&instr),
         None => false,
     }
@@ -98,6 +104,9 @@ fn is_wanted(guide: &Guide, depth: u16, candidate: &Candidate) -> bool
 fn wanted(guide: &Guide, menu: &Menu, depth: u16) -> Option<Candidate>
     ensures { result ≡ find (λ k. choosing.stands menu.now k && choosing.is_wanted guide.now depth k) guide.now.takes }
 {
+    if !guide.takes.reach(guide.bound, depth) {
+        return None;
+    }
     for candidate in guide.takes.as_slice() {
         if stands(menu, candidate) && is_wanted(guide, depth, candidate) {
             return Some(*candidate);

@@ -1,7 +1,8 @@
 //! What leads a trial.
 
-ghost use Rattle.std.specs.Prelude.{◌≡◌, ◌≤◌, length};
+ghost use Rattle.std.specs.Prelude.{◌≡◌, ◌≤◌, ◌+◌, nat_le, length};
 ghost use Rattle.guided_trials.specs.Choosing.{member};
+ghost use Rattle.guided_trials.specs.Needs.{greatest};
 
 use avr_model::listed::Listed;
 use std::marker::Model;
@@ -51,13 +52,70 @@ pub struct Candidate {
     pub need: u32,
 }
 
+/// Interrupts that may be taken. Seen as their list.
+#[derive(Drop)]
+pub struct Candidates {
+    list: Listed<Candidate>,
+    // The greatest need of them all.
+    most: u32,
+}
+
+impl Model for Candidates {
+    ghost use Rattle.std.specs.Prelude.{◌≡◌, List};
+    ghost use Rattle.guided_trials.specs.declared.guide.Candidate.{Candidate};
+    ghost use Rattle.guided_trials.specs.Needs.{greatest};
+
+    ghost Value = { List Candidate };
+
+    ghost view = { λ c. c.list };
+
+    ghost invariant = { λ c. c.most ≡ greatest c.list };
+}
+
+// The greatest need of the interrupts, 0 without one.
+fn greatest_need(takes: &[Candidate]) -> u32
+    ensures { result ≡ greatest takes.now }
+{
+    let mut need = 0;
+    for candidate in takes {
+        need = need.max(candidate.need);
+    }
+    need
+}
+
+impl Candidates {
+    /// These interrupts.
+    pub fn new(list: Listed<Candidate>) -> Candidates
+        ensures { result ≡ list }
+    {
+        let most = greatest_need(list.as_slice());
+        Candidates { list, most }
+    }
+
+    /// The interrupts in their order.
+    pub fn as_slice(&self) -> &[Candidate]
+        ensures { result.now ≡ self.now }
+    {
+        self.list.as_slice()
+    }
+
+    /// Whether a stack of this depth is as deep as the bound with the way back and the greatest of their needs.
+    pub fn reach(&self, bound: u16, depth: u16) -> bool
+        ensures { result ≡ nat_le bound (depth + 2 + greatest self.now) }
+    {
+        let need = self.most;
+        let back = u64::from(depth) + 2;
+        u64::from(bound) <= back + u64::from(need)
+    }
+}
+
 /// What leads all trials of a certificate.
 #[derive(Drop)]
 pub struct Guide {
     /// The bytes that the firmware tells apart, ascending.
     pub bytes: ToldBytes,
     /// The interrupts, by vector.
-    pub takes: Listed<Candidate>,
+    pub takes: Candidates,
     /// The bound.
     pub bound: u16,
 }

@@ -27,7 +27,8 @@ fn fill_of(guide: &Guide, t: u32) -> u8
     guide.bytes.member(t)
 }
 
-// Trial `t`, until the depth is the bound or more, or a stop, or so many choices.
+// Trial `t`, until the depth is the bound or more, or a stop, or so many choices. It stands apart so that its loop is optimised alone.
+#[inline(never)]
 fn attempt(
     alloc: Global,
     flash: &Flash,
