@@ -32,6 +32,8 @@ root_node k word masks closed unpicked = record {
   tags = record { registers = λ r lt. unknown_fits 32 r; slots = λ d lt. absurd (omega arith) };
   carry_bytes = tt;
   untagged = λ kind. reset_stands.untagged;
+  mode = refl;
+  hulls = tt;
 }
 
 module _ (xs : Seeds) (k : NodeKey) (f : NodeForm) where

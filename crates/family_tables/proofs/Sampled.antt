@@ -35,6 +35,8 @@ behind_is_node =
       tags = r.tags;
       carry_bytes = r.carry_bytes;
       untagged = r.untagged;
+      mode = r.mode;
+      hulls = r.hulls;
     }
 
 callee_is_node : IsNode (entry_key callee) (entered root)
@@ -48,6 +50,8 @@ callee_is_node = record {
   tags = (tags_stay_fit.at_entry root).0;
   carry_bytes = (tags_stay_fit.at_entry root).1;
   untagged = λ e. absurd (cc);
+  mode = refl;
+  hulls = tt;
 }
 
 behind_fits : (from : Bool) → FitsAt 1 behind (form_by from)

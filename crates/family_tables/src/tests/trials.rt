@@ -1,8 +1,8 @@
 //! Trials of small firmwares.
 
-use crate::tests::solving::flash_of;
 use avr_machine::{Masks, Stop};
 use avr_model::device::Device;
+use flash_image::Flash;
 use std::alloc::Global;
 use std::test::Fail;
 use vector_table::Assumptions;
@@ -33,6 +33,15 @@ static ROWS: [Row; 5] = [
     // each trial stops at once
     ([E, E, E, E, E, E, E], 0, 1, None),
 ];
+
+/// Flash that begins with these words, and is erased from there on.
+fn flash_of(alloc: Global, words: &[u16]) -> Result<Flash, Fail> {
+    let mut bytes = Vec::new(alloc);
+    for word in words {
+        bytes.extend_from_slice(&word.to_le_bytes())?;
+    }
+    Ok(Flash::from_raw(alloc, &bytes)?)
+}
 
 fn is_row(alloc: Global, row: &Row) -> Result<bool, Fail> {
     let (words, depth, bound, due) = row;

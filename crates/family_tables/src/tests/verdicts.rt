@@ -94,7 +94,8 @@ fn nodes(alloc: Global, from: bool) -> Result<Vec<(NodeKey, NodeForm)>, AllocErr
     let reset = NodeKey::entry(&InstKey::root());
     let mut behind = reset;
     behind.pc = 1;
-    let inside = AbsState::root(alloc).entered(alloc);
+    let root = AbsState::root(alloc);
+    let inside = root.entered(alloc)?;
     let mut nodes = Vec::new(alloc);
     nodes.push((reset, NodeForm::State(AbsState::root(alloc))))?;
     nodes.push((behind, form(alloc, from)))?;

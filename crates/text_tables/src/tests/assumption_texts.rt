@@ -7,7 +7,7 @@ use std::alloc::Global;
 use std::test::Fail;
 
 /// Each text with its number of entries, or the line at which it is refused and why.
-const TEXTS: [(&[u8], Result<usize, AssumeText>); 47] = [
+const TEXTS: [(&[u8], Result<usize, AssumeText>); 54] = [
     (b"", Ok(0)),
     (b"jump 0004 0005\n", Ok(1)),
     (b"store 0004 005D\n", Ok(1)),
@@ -25,6 +25,13 @@ const TEXTS: [(&[u8], Result<usize, AssumeText>); 47] = [
     (b"never 0004\nfree 0004\n", Err(AssumeText::Order(2))),
     (b"frame 0004\nnever 0004\n", Err(AssumeText::Order(2))),
     (b"never 0004\nnever 0004\n", Err(AssumeText::Order(2))),
+    (b"pairs\n", Ok(1)),
+    (b"pairs\njump 0000 0005\nframe 0000\n", Ok(3)),
+    (b"pairs\npairs\n", Err(AssumeText::Order(2))),
+    (b"jump 0000 0005\npairs\n", Err(AssumeText::Order(2))),
+    (b"pairs 0000\n", Err(AssumeText::Malformed(1))),
+    (b"pairs \n", Err(AssumeText::Malformed(1))),
+    (b"pair\n", Err(AssumeText::Malformed(1))),
     (b"free 0004 005D\n", Err(AssumeText::Malformed(1))),
     (b"never\n", Err(AssumeText::Malformed(1))),
     (b"frame 4000\n", Err(AssumeText::Malformed(1))),

@@ -35,13 +35,13 @@ fn is_kept_once(alloc: Global, state: &AbsState, other: &AbsState) -> Result<boo
     let all = pool.len();
     let seen = is_same(pool.get(one), state);
     let seen_other = is_same(pool.get(next), other);
-    pool.release(one);
+    drop(pool.release(one));
     let used_once = pool.len();
     let still_seen = is_same(pool.get(same), state);
-    pool.release(same);
+    drop(pool.release(same));
     let left = pool.len();
     let left_seen = is_same(pool.get(next), other);
-    pool.release(next);
+    drop(pool.release(next));
     Ok(
         [same == one, next == one] == [true, false]
             && [seen, seen_other, still_seen, left_seen] == [true; 4]

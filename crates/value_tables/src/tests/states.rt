@@ -165,7 +165,7 @@ fn an_entry_tags_each_register(rt: HostRuntime) -> Result<(), Fail> {
         known,
     );
     caller.slots.push(Slot::Free)?;
-    let entered = caller.entered(alloc);
+    let entered = caller.entered(alloc)?;
     assert!(rt;
         are_entries(&entered, &caller)
             && entered.flags == flags(true, 0x01, 0x01, CarryTag::None)
