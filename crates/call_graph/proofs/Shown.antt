@@ -11,29 +11,32 @@ use Rattle.mask_states.specs.declared.keys.NodeKey.{NodeKey}
 use Rattle.mask_states.specs.Order.{same_inst}
 use Rattle.mask_states.proofs.AllLaws.{keys_are_ordered}
 use Rattle.local_rules.specs.declared.local.Node.{Node}
-use Rattle.local_rules.specs.Cover.{IsNode}
+use Rattle.local_rules.specs.Cover.{IsNodeIn}
 use Rattle.edge_rules.specs.declared.edge.Edge.{Edge}
 use Rattle.call_graph.specs.declared.ways.Way.{Way}
 use Rattle.edge_rules.specs.Views.{AreShown, IsSpan, key_of, state_of}
 use Rattle.call_graph.specs.Next.{gathered, return_edges, return_if, returns_in}
 use Rattle.call_graph.proofs.Gathered.{one_more, none_before, none_after}
 
-node_by : (nodes : List Node) (at : ℕ) (k : NodeKey) (s : AbsState) (o : Option Node) → AreShown nodes → slice_get nodes at ≡ o
-    → option_map key_of o ≡ Some k → option_map state_of o ≡ Some s → IsNode k s
+node_by : (nodes : List Node) (at : ℕ) (k : NodeKey) (s : AbsState) (o : Option Node) (shown : AreShown nodes) → slice_get nodes at ≡ o
+    → option_map key_of o ≡ Some k → option_map state_of o ≡ Some s → IsNodeIn shown.followed k s
 node_by nodes at k s None shown e ek es = absurd (none-some k ek)
 node_by nodes at k s (Some n) shown e ek es =
-    subst (λ l. IsNode l s) (same_Some n.key k ek) (subst (λ t. IsNode n.key t) (same_Some n.state s es) (shown.all n (contained_at nodes at n e)))
+    subst (λ l. IsNodeIn shown.followed l s) (same_Some n.key k ek)
+    (subst (λ t. IsNodeIn shown.followed n.key t) (same_Some n.state s es) (shown.all n (contained_at nodes at n e)))
 
-pub node_there : (nodes : List Node) (at : ℕ) (k : NodeKey) (s : AbsState) → AreShown nodes
-    → option_map key_of (slice_get nodes at) ≡ Some k → option_map state_of (slice_get nodes at) ≡ Some s → IsNode k s
+pub node_there : (nodes : List Node) (at : ℕ) (k : NodeKey) (s : AbsState) (shown : AreShown nodes)
+    → option_map key_of (slice_get nodes at) ≡ Some k → option_map state_of (slice_get nodes at) ≡ Some s → IsNodeIn shown.followed k s
 node_there nodes at k s shown ek es = node_by nodes at k s (slice_get nodes at) shown refl ek es
 
-state_by : (nodes : List Node) (at : ℕ) (s : AbsState) (o : Option Node) → AreShown nodes → slice_get nodes at ≡ o → option_map state_of o ≡ Some s
-    → (k : NodeKey) × IsNode k s
+state_by : (nodes : List Node) (at : ℕ) (s : AbsState) (o : Option Node) (shown : AreShown nodes) → slice_get nodes at ≡ o → option_map state_of o ≡ Some s
+    → (k : NodeKey) × IsNodeIn shown.followed k s
 state_by nodes at s None shown e es = absurd (none-some s es)
-state_by nodes at s (Some n) shown e es = (n.key, subst (IsNode n.key) (same_Some n.state s es) (shown.all n (contained_at nodes at n e)))
+state_by nodes at s (Some n) shown e es =
+    (n.key, subst (IsNodeIn shown.followed n.key) (same_Some n.state s es) (shown.all n (contained_at nodes at n e)))
 
-pub state_there : (nodes : List Node) (at : ℕ) (s : AbsState) → AreShown nodes → option_map state_of (slice_get nodes at) ≡ Some s → (k : NodeKey) × IsNode k s
+pub state_there : (nodes : List Node) (at : ℕ) (s : AbsState) (shown : AreShown nodes) → option_map state_of (slice_get nodes at) ≡ Some s
+    → (k : NodeKey) × IsNodeIn shown.followed k s
 state_there nodes at s shown es = state_by nodes at s (slice_get nodes at) shown refl es
 
 -- ---- the nodes of an instance

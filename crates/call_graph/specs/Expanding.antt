@@ -1,9 +1,9 @@
 -- What an expansion answers.
-use Rattle.std.specs.Prelude.{ℕ, ◌≡◌, ◌<◌, ⊤, List, Some}
+use Rattle.std.specs.Prelude.{ℕ, Bool, ◌≡◌, ◌<◌, ⊤, List, Some}
 use Rattle.std.specs.List.{slice_get}
 use Rattle.avr_model.specs.declared.assumption.Entry.{Entry}
 use Rattle.local_rules.specs.declared.local.Node.{Node}
-use Rattle.local_rules.specs.Cover.{IsNode}
+use Rattle.local_rules.specs.Cover.{IsNodeIn}
 use Rattle.edge_rules.specs.declared.seeded.NodeForm.{NodeForm}
 use Rattle.edge_rules.specs.declared.seeded.NodeForm.TheVariants as form
 use Rattle.edge_rules.specs.Expansion.{Seeds, IsFilled, IsMissing}
@@ -15,9 +15,9 @@ abbrev pub IsExpanded : List ℕ → List Entry → Seeds → Expanded → Type 
 IsExpanded words A nodes (Whole filled) = IsFilled words A nodes filled
 IsExpanded words A nodes (Missing at) = IsMissing words A nodes at
 
--- each of them is a node that the analysis works with
-abbrev pub AreNumbered : List Node → Type 0
-AreNumbered nodes = (i : ℕ) (n : Node) → slice_get nodes i ≡ Some n → IsNode n.key n.state
+-- each of them is a node that the analysis works with, where pairs are followed or where they aren't
+abbrev pub AreNumbered : Bool → List Node → Type 0
+AreNumbered followed nodes = (i : ℕ) (n : Node) → slice_get nodes i ≡ Some n → IsNodeIn followed n.key n.state
 
 -- a node that comes from another comes from one of the first
 abbrev pub ComesFromBelow : NodeForm → ℕ → Type 0

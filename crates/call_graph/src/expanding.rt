@@ -1,7 +1,8 @@
 //! The state of each node, worked out once, in the order of the nodes.
 
 ghost use Rattle.std.specs.Prelude.{◌≡◌, ℕ, length, Some, IfOk};
-ghost use Rattle.local_rules.specs.Cover.{IsNode};
+ghost use Rattle.avr_model.specs.Assumptions.{has_pairs};
+ghost use Rattle.local_rules.specs.Cover.{IsNodeIn};
 ghost use Rattle.edge_rules.specs.Expansion.{AreSeeds};
 ghost use Rattle.edge_laws.specs.Carrying.{first_at, carried, worked};
 ghost use Rattle.edge_rules.specs.Seeds.{form_of};
@@ -38,7 +39,7 @@ fn carry(
     from: &Node,
     key: &NodeKey,
 ) -> Result<Option<AbsState>, AllocError>
-    requires { IsNode from.now.key from.now.state }
+    requires { IsNodeIn (has_pairs assumptions.now) from.now.key from.now.state }
     ensures { IfOk result (λ found. found ≡ carried flash.now assumptions.now key.now (Some from.now)) }
 {
     match local(alloc, flash, assumptions, &from.key, &from.state) {
@@ -57,7 +58,7 @@ fn work(
     key: &NodeKey,
     seed: Seed<'_>,
 ) -> Result<Option<AbsState>, AllocError>
-    requires nodes { AreNumbered done.now }
+    requires nodes { AreNumbered (has_pairs assumptions.now) done.now }
     requires below { ComesFromBelow (form_of seed) (length done.now) }
     ensures { IfOk result (λ found. found ≡ worked flash.now assumptions.now done.now key.now (form_of seed.entry)) }
 {
@@ -74,7 +75,7 @@ pub fn expand<S: Seeded>(
     assumptions: &Assumptions,
     nodes: &S,
 ) -> Result<Expanded, AllocError>
-    requires seeds { AreSeeds (S.nodes nodes.now) }
+    requires seeds { AreSeeds (has_pairs assumptions.now) (S.nodes nodes.now) }
     requires ascending { AreAscending (S.nodes nodes.now) }
     ensures { IfOk result (λ answer. IsExpanded flash.now assumptions.now (S.nodes nodes.now) answer) }
 {

@@ -7,6 +7,7 @@ pub mod expanding;
 pub mod filled;
 pub mod laws;
 pub mod leaving;
+pub mod reset;
 pub mod successors;
 pub mod ways;
 
@@ -16,4 +17,5 @@ pub use exit_list::Leaving;
 pub use expanding::expand;
 pub use filled::{Expanded, Filled};
 pub use leaving::exits;
+pub use reset::root_of;
 pub use successors::{next, next_with};

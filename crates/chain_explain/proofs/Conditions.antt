@@ -33,7 +33,7 @@ module _ (words : List ℕ) (A : List Entry) (nodes reached : List Node) (are : 
   pub meets_reached : (c : Claim) → MeetsConditions words A c nodes → MeetsConditions words A c reached
   meets_reached c meets =
       record {
-        reset = covered_down reset_node meets.reset at_reset;
+        reset = covered_down (reset_node A) meets.reset at_reset;
         faultless = λ n h. meets.faultless n (of_family n h);
         edges = λ n e h is.
             let up = edge_up n e is in

@@ -123,7 +123,7 @@ module _ (words : List ℕ) (A : List Entry) (nodes : List Node) (shown : AreSho
         join : (a b : Bool) → a ≡ true → b ≡ true → (a && b) ≡ true
         join a b e f = subst (λ (x : Bool). (x && b) ≡ true) (sym e) f
 
-    pub are_moves : length nodes ≤ 65536 → AllLand words A nodes → IsCovered nodes reset_node → AreMoves words A nodes moves
+    pub are_moves : length nodes ≤ 65536 → AllLand words A nodes → IsCovered nodes (reset_node A) → AreMoves words A nodes moves
     are_moves few lands reset =
         record {
           few = few;

@@ -60,6 +60,6 @@ tells filled rounds chains_bounded words A c x sound is =
     record {
       sums = chains.sums words A is.nodes x is.explains;
       bounded = under;
-      least = λ of. least_is_bound filled rounds words A c is.nodes x is.filled (reset_has is.nodes meets.reset) is.explains root under of;
+      least = λ of. least_is_bound filled rounds words A c is.nodes x is.filled (reset_has A is.nodes meets.reset) is.explains root under of;
       nests = chains.nests words A is.nodes x is.explains c is.filled root;
     }

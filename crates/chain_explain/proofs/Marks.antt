@@ -61,6 +61,7 @@ pub kept_shown : (marks : List Bool) (nodes kept : List Node) → kept ≡ kept_
 kept_shown marks nodes kept e shown =
     subst AreShown (sym e)
     record {
+      followed = shown.followed;
       ascending = kept_ascend marks nodes shown.ascending;
       all = λ n h. let m = kept_marked marks nodes n h in shown.all n (contained_at nodes m.number n m.at);
     }

@@ -2,6 +2,7 @@
 use Rattle.std.proofs.Common.{◌≡◌, refl, sym, ap, ◌∙◌, ℕ, zero, suc, ◌+◌, ◌-◌, ◌<◌, List, [], ◌∷◌, ◌++◌, length, get_or, Option, Some, None, slice_get, arith}
 use Rattle.std.specs.Option.{option_map}
 use Rattle.std.proofs.lemmas.Option.{none-some, same_Some, slice_get-get_or}
+use Rattle.avr_model.specs.declared.assumption.Entry.{Entry}
 use Rattle.abs_state.specs.declared.state.AbsState.{AbsState}
 use Rattle.mask_states.specs.declared.keys.NodeKey.{NodeKey}
 use Rattle.mask_states.specs.Keys.{root_inst, entry_key}
@@ -21,8 +22,8 @@ module _ (nodes : List Node) (e : Edge) where
 
 -- ---- what is kept
 
-pub reset_has : (nodes : List Node) → IsCovered nodes reset_node → HasKey nodes (entry_key root_inst)
-reset_has nodes c = (record { key = entry_key root_inst; state = c.state }, (c.present, refl))
+pub reset_has : (A : List Entry) (nodes : List Node) → IsCovered nodes (reset_node A) → HasKey nodes (entry_key root_inst)
+reset_has A nodes c = (record { key = entry_key root_inst; state = c.state }, (c.present, refl))
 
 -- ---- keys that are read
 

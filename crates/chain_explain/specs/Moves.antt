@@ -57,7 +57,7 @@ pub record AreMoves (words : List ℕ) (A : List Entry) (nodes : List Node) (mov
   pub count : length moves ≡ length nodes
   pub exact : (i j : ℕ) → Leads moves i j ↔ MovesTo words A nodes i j
   pub lands : AllLand words A nodes
-  pub reset : IsCovered nodes reset_node
+  pub reset : IsCovered nodes (reset_node A)
 
 -- ---- what is marked
 

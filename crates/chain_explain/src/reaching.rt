@@ -45,7 +45,7 @@ pub(crate) fn reached_nodes(
     requires few { length nodes.now ≤ 65536 }
     requires steps { AreSteps flash.now assumptions.now nodes.now (length nodes.now) all.now moves.now }
     requires lands { AllLand flash.now assumptions.now nodes.now }
-    requires reset { IsCovered nodes.now reset_node }
+    requires reset { IsCovered nodes.now (reset_node assumptions.now) }
     ensures reached { IfOk result (λ reached. AreReached flash.now assumptions.now nodes.now reached) }
     ensures few { IfOk result (λ reached. length reached ≤ length nodes.now) }
 {

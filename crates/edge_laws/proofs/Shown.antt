@@ -3,6 +3,7 @@ use Rattle.std.proofs.Common.{refl, sym, subst, ℕ, List, length}
 use Rattle.std.specs.List.Sorted.{IsStrictlySortedBy}
 use Rattle.std.proofs.lemmas.Option.{slice_get_read}
 use Rattle.avr_model.specs.declared.assumption.Entry.{Entry}
+use Rattle.avr_model.specs.Assumptions.{has_pairs}
 use Rattle.mask_states.specs.Order.{node_cmp}
 use Rattle.local_rules.specs.declared.local.Node.{Node}
 use Rattle.edge_rules.specs.Views.{AreShown}
@@ -12,6 +13,7 @@ use Rattle.edge_laws.proofs.Steps.{filled_or_missing}
 
 shown : (words : List ℕ) (A : List Entry) (nodes : Seeds) (filled : List Node) → IsFilled words A nodes filled → AreAscending nodes → AreShown filled
 shown words A nodes filled f ascending = record {
+  followed = has_pairs A;
   ascending = subst (IsStrictlySortedBy node_cmp) (sym (filled_or_missing.keys words A nodes filled f)) ascending;
   all = λ n i. f.formed i.0 n (slice_get_read filled (length filled) i.0 n refl i.1 (sym i.2));
 }

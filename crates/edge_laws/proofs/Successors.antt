@@ -12,9 +12,9 @@ use Rattle.mask_states.proofs.AllLaws.{keys_are_ordered}
 use Rattle.local_rules.specs.declared.local.Local.{Local}
 use Rattle.local_rules.specs.declared.local.Node.{Node}
 use Rattle.local_rules.specs.declared.local.NodeFault.{NodeFault}
-use Rattle.local_rules.specs.Cover.{IsNode}
+use Rattle.local_rules.specs.Cover.{IsNodeIn}
 use Rattle.local_rules.specs.Raw.{Raw}
-use Rattle.local_laws.specs.Laws.{AreNodes}
+use Rattle.local_laws.specs.Laws.{AreNodesIn}
 use Rattle.local_rules.specs.Local.{raw, settled, joined_onto, local}
 use Rattle.local_laws.proofs.AllLaws.{joins_are_least, local_parts_are_nodes}
 use Rattle.edge_rules.specs.Expansion.{states_at}
@@ -50,15 +50,15 @@ firsts k (n ∷ ns) h = by (firsts k ns h.1) (same_node n.key k) refl
     by rest true e = ap (λ l. n.state ∷ l) (none_before k ns (subst (λ j. IsBefore j ns) ((keys_are_ordered.same_nodes n.key k).0 e) h.0))
     by rest false e = rest
 
-picked_node : (k : NodeKey) (ns : List Node) (t : AbsState) → AreNodes ns → states_at k ns ≡ t ∷ [] → IsNode k t
-picked_node k [] t h e = cc
-picked_node k (n ∷ ns) t h e = by (picked_node k ns t (λ x i. h x (further_in n x ns i))) (same_node n.key k) refl e
+picked_node : {followed : Bool} (k : NodeKey) (ns : List Node) (t : AbsState) → AreNodesIn followed ns → states_at k ns ≡ t ∷ [] → IsNodeIn followed k t
+picked_node {followed = followed} k [] t h e = cc
+picked_node {followed = followed} k (n ∷ ns) t h e = by (picked_node k ns t (λ x i. h x (further_in n x ns i))) (same_node n.key k) refl e
   where
-    by : (states_at k ns ≡ t ∷ [] → IsNode k t) → (b : Bool) → same_node n.key k ≡ b
-        → (if b then n.state ∷ states_at k ns else states_at k ns) ≡ t ∷ [] → IsNode k t
+    by : (states_at k ns ≡ t ∷ [] → IsNodeIn followed k t) → (b : Bool) → same_node n.key k ≡ b
+        → (if b then n.state ∷ states_at k ns else states_at k ns) ≡ t ∷ [] → IsNodeIn followed k t
     by rest true is e =
         let s : n.state ≡ t = cc in
-        subst (IsNode k) s (subst (λ x. IsNode x n.state) ((keys_are_ordered.same_nodes n.key k).0 is) (h n (first_in n ns)))
+        subst (IsNodeIn followed k) s (subst (λ x. IsNodeIn followed x n.state) ((keys_are_ordered.same_nodes n.key k).0 is) (h n (first_in n ns)))
     by rest false is e = rest e
 
 -- ---- of a node
@@ -78,8 +78,8 @@ module _ (words : List ℕ) (A : List Entry) (j : NodeKey) (s : AbsState) (l : L
   pub only_first : (k : NodeKey) → states_at k l.same ≡ as_list (first_at k l.same)
   only_first k = firsts k l.same (subst Ascend (sym local_same.1) (joins_are_least.ascending (raw words A j s).moves))
 
-  pub successor_node : (k : NodeKey) (t : AbsState) → IsNode j s → states_at k l.same ≡ t ∷ [] → IsNode k t
-  successor_node k t node =
+  pub successor_node : {followed : Bool} (k : NodeKey) (t : AbsState) → IsNodeIn followed j s → states_at k l.same ≡ t ∷ [] → IsNodeIn followed k t
+  successor_node {followed = followed} k t node =
       picked_node k l.same t
-      (subst AreNodes (sym local_same.1)
+      (subst (AreNodesIn followed) (sym local_same.1)
       (joins_are_least.nodes (raw words A j s).moves (λ to i. (local_parts_are_nodes.nodes words A j s to node local_same.0 i).1)))

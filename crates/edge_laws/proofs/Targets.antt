@@ -1,5 +1,5 @@
 -- Edges between nodes that the analysis works with lead to such nodes.
-use Rattle.std.proofs.Common.{◌≡◌, ◌≢◌, refl, sym, ◌∙◌, ap, subst, ℕ, ◌^◌, ◌<◌, ◌≤◌, ◌&&◌, Bool, true, false, List, Option, Some, Contains, arith}
+use Rattle.std.proofs.Common.{◌≡◌, ◌≢◌, refl, sym, ◌∙◌, ap, ap₂, subst, ℕ, ◌^◌, ◌<◌, ◌≤◌, ◌&&◌, Bool, true, false, List, Option, Some, Contains, arith}
 use Rattle.std.proofs.lemmas.Bool.Decides.{nat_tests}
 use Rattle.avr_model.proofs.AllLaws.{devices_are_alike}
 use Rattle.avr_model.specs.Devices.{device_of}
@@ -9,8 +9,9 @@ use Rattle.avr_model.specs.declared.assumption.Entry.{Entry}
 use Rattle.avr_model.specs.Image.{WORDS}
 use Rattle.avr_model.specs.Vectors.{is_enabled, vector_word}
 use Rattle.pair_domain.specs.Facts.{is_followed}
+use Rattle.pair_domain.proofs.AllLaws.{facts_rise}
 use Rattle.abs_state.specs.declared.state.AbsState.{AbsState}
-use Rattle.abs_state.specs.Values.{root}
+use Rattle.abs_state.specs.Values.{root, following_root}
 use Rattle.abs_state.specs.Frames.{entered}
 use Rattle.abs_state.specs.PairsBack.{returned}
 use Rattle.abs_state.specs.Formed.{IsFormed}
@@ -26,17 +27,49 @@ use Rattle.mask_states.specs.declared.keys.SpForm.TheVariants.{Closed}
 use Rattle.mask_states.specs.Keys.{root_inst, entry_key, offset_of, PickFits}
 use Rattle.local_rules.specs.declared.local.Node.{Node}
 use Rattle.local_rules.specs.declared.local.Exit.{Exit}
-use Rattle.local_rules.specs.Cover.{IsNode}
-use Rattle.local_laws.specs.Laws.{AreNodes}
+use Rattle.local_rules.specs.Cover.{IsNodeIn}
+use Rattle.local_laws.specs.Laws.{AreNodesIn}
 use Rattle.local_laws.proofs.AllLaws.{joins_are_least, local_parts_are_nodes, local_parts_fit}
 use Rattle.edge_rules.specs.declared.edge.Edge.{Edge}
 use Rattle.edge_rules.specs.Edges.{called_inst, vector_inst, pick_back, returned_key, raw_of, Enters, by_call, by_interrupt, IsEdge, moving, entering, returning, Leads, along_move, along_entry, along_return}
+use Rattle.edge_rules.specs.Roots.{root_by}
 use Rattle.edge_laws.specs.Laws.{EdgesLeadToNodes}
 
 -- ---- entries
 
-reset_node : IsNode (entry_key root_inst) root
-reset_node = record {
+following_root_formed : IsFormed following_root 0
+following_root_formed = record {
+  count_registers = reset_stands.formed.count_registers;
+  registers = reset_stands.formed.registers;
+  bit_7 = reset_stands.formed.bit_7;
+  count_slots = reset_stands.formed.count_slots;
+  slots = reset_stands.formed.slots;
+  carry = reset_stands.formed.carry;
+  ranges = reset_stands.formed.ranges;
+  slot_ranges = reset_stands.formed.slot_ranges;
+  facts = facts_rise.nothing_fits;
+}
+
+reset_node : (followed : Bool) → IsNodeIn followed (entry_key root_inst) (root_by followed)
+reset_node true = record {
+  word = omega arith;
+  small = omega arith;
+  masks = omega arith;
+  fits = tt;
+  pick = tt;
+  formed = following_root_formed;
+  tags = record { registers = tags_stay_fit.at_reset.registers; slots = tags_stay_fit.at_reset.slots };
+  carry_bytes = tt;
+  untagged = λ kind. record {
+    registers = reset_stands.untagged.registers;
+    entry = reset_stands.untagged.entry;
+    carry = reset_stands.untagged.carry;
+    slots = reset_stands.untagged.slots;
+  };
+  mode = refl;
+  hulls = hulls_hold_intervals.following_root;
+}
+reset_node false = record {
   word = omega arith;
   small = omega arith;
   masks = omega arith;
@@ -50,8 +83,8 @@ reset_node = record {
   hulls = hulls_hold_intervals.root;
 }
 
-entry_node : (s : AbsState) (offset : ℕ) (inst : InstKey) → IsFormed s offset → is_followed s.facts ≡ false → IsInHulls s → inst.kind ≢ Root → inst.entry < WORDS → inst.masks < 2 ^ 25
-    → IsNode (entry_key inst) (entered s)
+entry_node : {followed : Bool} (s : AbsState) (offset : ℕ) (inst : InstKey) → IsFormed s offset → is_followed s.facts ≡ followed → IsInHulls s → inst.kind ≢ Root → inst.entry < WORDS → inst.masks < 2 ^ 25
+    → IsNodeIn followed (entry_key inst) (entered s)
 entry_node s offset inst formed mode hulls other word masks = record {
   word = word;
   small = omega arith;
@@ -75,8 +108,8 @@ vector_small M88 v h = omega arith
 vector_small M168 v h = omega arith
 vector_small M328 v h = omega arith
 
-entered_node : (words : List ℕ) (A : List Entry) (n : Node) (way : EdgeKind) (inst : InstKey) (back : ℕ) → IsNode n.key n.state → Enters words A n way inst back
-    → IsNode (entry_key inst) (entered n.state) × (back < WORDS)
+entered_node : {followed : Bool} (words : List ℕ) (A : List Entry) (n : Node) (way : EdgeKind) (inst : InstKey) (back : ℕ) → IsNodeIn followed n.key n.state → Enters words A n way inst back
+    → IsNodeIn followed (entry_key inst) (entered n.state) × (back < WORDS)
 entered_node words A n _ _ _ node (by_call offset site faultless form member) =
     let lead = (local_parts_fit.fit words A n.key n.state).calls site member in
     let few = devices_are_alike.most_words (device_of words) in
@@ -89,7 +122,7 @@ entered_node words A n _ _ _ node (by_interrupt offset v clears faultless form i
 
 -- ---- returns
 
-pub at_base : (k : NodeKey) (s : AbsState) → IsNode k s → k.sp ≡ Closed 0 → IsFormed s 0
+pub at_base : {followed : Bool} (k : NodeKey) (s : AbsState) → IsNodeIn followed k s → k.sp ≡ Closed 0 → IsFormed s 0
 at_base k s node e = subst (IsFormed s) (ap offset_of e) node.formed
 
 pick_fits : (way : EdgeKind) (pick : Option ℕ) → PickFits pick → PickFits (pick_back way pick)
@@ -98,9 +131,13 @@ pick_fits kind.Call pick fits = tt
 pick_fits (kind.Interrupt v clears) pick fits = fits
 pick_fits kind.Return pick fits = tt
 
-returned_node : (words : List ℕ) (A : List Entry) (way : EdgeKind) (n leaver : Node) (back : ℕ) (x : Exit) (t : AbsState) → IsNode n.key n.state → back < WORDS
-    → IsNode leaver.key leaver.state → (raw_of words A leaver).exit ≡ Some x → returned n.state leaver.state ≡ Some t → IsNode (returned_key way n.key back x) t
-returned_node words A way n leaver back x t node word other exit is =
+both_same : (b : Bool) → (b && b) ≡ b
+both_same true = refl
+both_same false = refl
+
+returned_node : {followed : Bool} (words : List ℕ) (A : List Entry) (way : EdgeKind) (n leaver : Node) (back : ℕ) (x : Exit) (t : AbsState) → IsNodeIn followed n.key n.state → back < WORDS
+    → IsNodeIn followed leaver.key leaver.state → (raw_of words A leaver).exit ≡ Some x → returned n.state leaver.state ≡ Some t → IsNodeIn followed (returned_key way n.key back x) t
+returned_node {followed = followed} words A way n leaver back x t node word other exit is =
     let left = (local_parts_fit.fit words A leaver.key leaver.state).exit x exit in
     let base = at_base leaver.key leaver.state other left.0 in
     record {
@@ -113,21 +150,21 @@ returned_node words A way n leaver back x t node word other exit is =
       tags = tags_stay_fit.at_return n.state leaver.state t node.formed.count_registers node.tags is;
       carry_bytes = tags_stay_fit.carry_at_return n.state leaver.state t node.carry_bytes is;
       untagged = λ kind. returns_are_true.untagged n.state leaver.state t (offset_of n.key.sp) node.formed base (node.untagged kind) is;
-      mode = returns_are_true.followed n.state leaver.state t is ∙ ap (λ (f : Bool). f && is_followed leaver.state.facts) node.mode;
+      mode = returns_are_true.followed n.state leaver.state t is ∙ ap₂ (λ (f g : Bool). f && g) node.mode other.mode ∙ both_same followed;
       hulls = hulls_hold_intervals.returned n.state leaver.state t is;
     }
 
 -- ---- edges
 
-lead_node : (words : List ℕ) (A : List Entry) (nodes : List Node) (n to : Node) → AreNodes nodes → Contains nodes n → Leads words A nodes n to
-    → IsNode to.key to.state
+lead_node : {followed : Bool} (words : List ℕ) (A : List Entry) (nodes : List Node) (n to : Node) → AreNodesIn followed nodes → Contains nodes n → Leads words A nodes n to
+    → IsNodeIn followed to.key to.state
 lead_node words A nodes n _ are here (along_move to faultless member) = (local_parts_are_nodes.nodes words A n.key n.state to (are n here) faultless member).1
 lead_node words A nodes n _ are here (along_entry way inst back enters) = (entered_node words A n way inst back (are n here) enters).0
 lead_node words A nodes n _ are here (along_return way inst back leaver x state enters present same faultless exit is) =
     returned_node words A way n leaver back x state (are n here) (entered_node words A n way inst back (are n here) enters).1 (are leaver present) exit is
 
-edge_node : (words : List ℕ) (A : List Entry) (nodes : List Node) (n : Node) (e : Edge) → AreNodes nodes → Contains nodes n → IsEdge words A nodes n e
-    → IsNode e.to e.state
+edge_node : {followed : Bool} (words : List ℕ) (A : List Entry) (nodes : List Node) (n : Node) (e : Edge) → AreNodesIn followed nodes → Contains nodes n → IsEdge words A nodes n e
+    → IsNodeIn followed e.to e.state
 edge_node words A nodes n _ are here (moving to faultless member) =
     joins_are_least.nodes (raw_of words A n).moves (λ m i. (local_parts_are_nodes.nodes words A n.key n.state m (are n here) faultless i).1) to member
 edge_node words A nodes n _ are here (entering way inst back enters) = (entered_node words A n way inst back (are n here) enters).0

@@ -2,13 +2,14 @@
 use Rattle.std.specs.Prelude.{ℕ, ◌≡◌, List, [], ◌∷◌, length, if◌then◌else◌, Option, Some, None, Result, Ok, Err}
 use Rattle.std.specs.List.{slice_get}
 use Rattle.avr_model.specs.declared.assumption.Entry.{Entry}
+use Rattle.avr_model.specs.Assumptions.{has_pairs}
 use Rattle.abs_state.specs.declared.state.AbsState.{AbsState}
 use Rattle.mask_states.specs.declared.keys.NodeKey.{NodeKey}
 use Rattle.mask_states.specs.Order.{same_node}
 use Rattle.local_rules.specs.declared.local.Local.{Local}
 use Rattle.local_rules.specs.declared.local.Node.{Node}
 use Rattle.local_rules.specs.declared.local.NodeFault.{NodeFault}
-use Rattle.local_rules.specs.Cover.{IsNode}
+use Rattle.local_rules.specs.Cover.{IsNodeIn}
 use Rattle.local_rules.specs.Local.{local}
 use Rattle.edge_rules.specs.declared.seeded.NodeForm.{NodeForm}
 use Rattle.edge_rules.specs.declared.seeded.NodeForm.TheVariants.{State, From}
@@ -35,7 +36,7 @@ worked words A done k (From m) = carried words A k (slice_get done m)
 pub record IsWorked (words : List ℕ) (A : List Entry) (nodes : Seeds) (at : ℕ) (n : Node) : Type 0 where
   pub key : HasKeyAt nodes at n.key
   pub state : IsExpansion words A nodes at n.state
-  pub node : IsNode n.key n.state
+  pub node : IsNodeIn (has_pairs A) n.key n.state
 
 -- the first nodes, with their expansions
 pub record SoFar (words : List ℕ) (A : List Entry) (nodes : Seeds) (at : ℕ) (done : List Node) : Type 0 where

@@ -1,14 +1,15 @@
 -- Laws of expansions.
-use Rattle.std.specs.Prelude.{ℕ, ◌≡◌, ◌≤◌, ◌⊎◌, ◌↔◌, ◌<◌, List, [], ◌∷◌, length, map, Some, Ok}
+use Rattle.std.specs.Prelude.{ℕ, Bool, ◌≡◌, ◌≤◌, ◌⊎◌, ◌↔◌, ◌<◌, List, [], ◌∷◌, length, map, Some, Ok}
 use Rattle.std.specs.List.{slice_get}
 use Rattle.std.specs.List.Sorted.{IsStrictlySortedBy}
 use Rattle.avr_model.specs.declared.assumption.Entry.{Entry}
+use Rattle.avr_model.specs.Assumptions.{has_pairs}
 use Rattle.abs_state.specs.declared.state.AbsState.{AbsState}
 use Rattle.mask_states.specs.declared.keys.NodeKey.{NodeKey}
 use Rattle.mask_states.specs.Order.{node_cmp}
 use Rattle.local_rules.specs.declared.local.Local.{Local}
 use Rattle.local_rules.specs.declared.local.Node.{Node}
-use Rattle.local_rules.specs.Cover.{IsNode}
+use Rattle.local_rules.specs.Cover.{IsNodeIn}
 use Rattle.local_rules.specs.Local.{local}
 use Rattle.edge_rules.specs.declared.seeded.NodeForm.{NodeForm}
 use Rattle.edge_rules.specs.declared.seeded.NodeForm.TheVariants.{State, From}
@@ -21,8 +22,8 @@ pub record ExpansionsAreOne : Type 0 where
 
 -- expansions are nodes that the analysis works with, where the seeds are
 pub record ExpansionsAreNodes : Type 0 where
-  pub node : (words : List ℕ) (A : List Entry) (nodes : Seeds) (at : ℕ) (k : NodeKey) (form : NodeForm) (s : AbsState) → AreSeeds nodes
-      → slice_get nodes at ≡ Some (k, form) → IsExpansion words A nodes at s → IsNode k s
+  pub node : {followed : Bool} (words : List ℕ) (A : List Entry) (nodes : Seeds) (at : ℕ) (k : NodeKey) (form : NodeForm) (s : AbsState) → AreSeeds followed nodes
+      → slice_get nodes at ≡ Some (k, form) → IsExpansion words A nodes at s → IsNodeIn followed k s
 
 -- the node j of this state has no fault, and exactly one of its successors has the key k, with the state t
 abbrev pub HasSuccessor : List ℕ → List Entry → NodeKey → AbsState → NodeKey → AbsState → Type 0
@@ -42,7 +43,7 @@ pub record SuccessorsAreOne : Type 0 where
 
 -- Either all nodes have expansions, or there is a least one that has none; the filled list and the least number are determined.
 pub record FilledOrMissing : Type 0 where
-  pub decided : (words : List ℕ) (A : List Entry) (nodes : Seeds) → AreSeeds nodes → ((filled : List Node) × IsFilled words A nodes filled) ⊎ ((at : ℕ) × IsMissing words A nodes at)
+  pub decided : (words : List ℕ) (A : List Entry) (nodes : Seeds) → AreSeeds (has_pairs A) nodes → ((filled : List Node) × IsFilled words A nodes filled) ⊎ ((at : ℕ) × IsMissing words A nodes at)
   pub apart : (words : List ℕ) (A : List Entry) (nodes : Seeds) (filled : List Node) (at : ℕ) → IsFilled words A nodes filled → IsMissing words A nodes at → ⊥
   pub least : (words : List ℕ) (A : List Entry) (nodes : Seeds) (i j : ℕ) → IsMissing words A nodes i → IsMissing words A nodes j → i ≡ j
   pub keys : (words : List ℕ) (A : List Entry) (nodes : Seeds) (filled : List Node) → IsFilled words A nodes filled

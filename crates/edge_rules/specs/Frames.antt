@@ -2,6 +2,7 @@
 use Rattle.std.specs.Prelude.{ℕ, ◌+◌, ◌-◌, ◌≡◌, ◌<◌, ⊤, Bool, true, List, [], ◌∷◌, length, Some, Contains}
 use Rattle.avr_model.specs.Devices.{ramend, device_of}
 use Rattle.avr_model.specs.declared.assumption.Entry.{Entry}
+use Rattle.avr_model.specs.Assumptions.{has_pairs}
 use Rattle.avr_model.specs.declared.choice.Choice.{Choice}
 use Rattle.avr_model.specs.declared.choice.Choice.TheVariants.{Go, Take}
 use Rattle.avr_model.specs.Sreg.{flag}
@@ -17,7 +18,6 @@ use Rattle.abs_state.specs.Frames.{entered}
 use Rattle.abs_state.specs.PairsBack.{returned}
 use Rattle.abs_state.specs.Laws.{HoldsAt}
 use Rattle.abs_state.specs.Order.{IsStateWithin}
-use Rattle.abs_state.specs.Values.{root}
 use Rattle.abs_state.specs.Stands.{RegistersStand, FlagsStand, SlotsStand}
 use Rattle.mask_states.specs.declared.keys.InstKey.{InstKey}
 use Rattle.mask_states.specs.declared.keys.EdgeKind.{EdgeKind}
@@ -28,9 +28,10 @@ use Rattle.local_rules.specs.declared.local.Node.{Node}
 use Rattle.local_rules.specs.declared.local.CallSite.{CallSite}
 use Rattle.local_rules.specs.declared.local.Exit.{Exit}
 use Rattle.local_rules.specs.Local.{joined_onto}
-use Rattle.local_rules.specs.Cover.{InFrame}
+use Rattle.local_rules.specs.Cover.{InFrameIn}
 use Rattle.edge_rules.specs.Edges.{IsFaultless, raw_of, Enters, called_inst, vector_inst, returned_key}
 use Rattle.edge_rules.specs.Families.{Family}
+use Rattle.edge_rules.specs.Roots.{root_of}
 
 -- a node of the family, and the frame's origin: its registers and status register at the entry, and its base
 pub record Frame : Type 0 where
@@ -68,7 +69,7 @@ AreLeft words A f memory (g ∷ gs) inst o = IsLeft words A f memory g inst o ×
 pub record Runs (words : List ℕ) (A : List Entry) (f : Family) (m : State) (g : Frame) (gs : List Frame) : Type 0 where
   pub device : m.device ≡ device_of words
   pub present : Contains f.nodes g.node
-  pub running : InFrame m g.origin g.node.key g.node.state
+  pub running : InFrameIn (has_pairs A) m g.origin g.node.key g.node.state
   pub left : AreLeft words A f m.memory gs g.node.key.inst g.origin
 
 -- the machine has frames
@@ -79,7 +80,7 @@ HasFrames words A f m = (g : Frame) × (gs : List Frame) × Runs words A f m g g
 pub record HasRootFrame (words : List ℕ) (A : List Entry) (f : Family) (m : State) : Type 0 where
   pub state : AbsState
   pub runs : Runs words A f m (record { node = record { key = entry_key root_inst; state = state }; origin = record { registers = m.registers; sreg = m.sreg; base = ramend (device_of words) } }) []
-  pub above : IsStateWithin root state
+  pub above : IsStateWithin (root_of A) state
 
 -- ---- one step
 

@@ -5,6 +5,7 @@ use Rattle.std.specs.FinMap.{get}
 use Rattle.basics.specs.Items.{only_one_in, none_in, first_in, further_in as there}
 use Rattle.call_graph.proofs.AllLaws.{each_gathered, gathered_in}
 use Rattle.avr_model.specs.declared.assumption.Entry.{Entry}
+use Rattle.avr_model.specs.Assumptions.{has_pairs}
 use Rattle.abs_state.specs.declared.state.AbsState.{AbsState}
 use Rattle.abs_state.specs.Frames.{entered}
 use Rattle.abs_state.specs.PairsBack.{returned}
@@ -15,7 +16,7 @@ use Rattle.mask_states.specs.declared.keys.EdgeKind.TheVariants as kind
 use Rattle.mask_states.specs.Keys.{entry_key}
 use Rattle.local_rules.specs.declared.local.Exit.{Exit}
 use Rattle.local_rules.specs.declared.local.Node.{Node}
-use Rattle.local_rules.specs.Cover.{IsNode}
+use Rattle.local_rules.specs.Cover.{IsNodeIn}
 use Rattle.local_laws.proofs.AllLaws.{in_map, each_in_map}
 use Rattle.edge_rules.specs.declared.edge.Edge.{Edge}
 use Rattle.edge_rules.specs.Edges.{IsFaultless, raw_of, returned_key, IsEdge, moving, entering, returning, target}
@@ -212,7 +213,7 @@ module _ (words : List ℕ) (A : List Entry) where
 
   -- ---- the round
 
-  module _ (f : Family) (formed : AreFormed f) (work : List NodeKey) (old notes : Notes) (seen : Seen) (turn : Turn words A f work old)
+  module _ (f : Family) (formed : AreFormed (has_pairs A) f) (work : List NodeKey) (old notes : Notes) (seen : Seen) (turn : Turn words A f work old)
       (are : AreSeen words A f work seen) (none : seen.worst ≡ None) (known : AreKnown words A f notes) where
     abbrev xs : List Look
     xs = seen.looks.items
@@ -260,7 +261,7 @@ module _ (words : List ℕ) (A : List Entry) where
     pub round_is : IsRoundOf words A f ns
     round_is = record {
       formed = λ to i. let a = aims to i in
-          subst (λ (t : Node). IsNode t.key t.state) a.at
+          subst (λ (t : Node). IsNodeIn (has_pairs A) t.key t.state) a.at
           (edges_lead_to_nodes.edges words A (nodes_of f) a.from a.edge (λ n j. formed n ((families_are_their_nodes.members f n).0 j))
           ((families_are_their_nodes.members f a.from).1 a.has) a.is);
       all = λ n e has edge. ⊎_elim (own_lands n (target e) has) (λ b. back_lands n b.by (target e) has b.has b.comes) (edge_cases f n e edge);

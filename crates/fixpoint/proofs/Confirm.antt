@@ -3,12 +3,13 @@ use Rattle.std.proofs.Common.{◌≡◌, sym, ◌∙◌, subst, ℕ, ⊎_elim, L
 use Rattle.std.proofs.lemmas.List.Elements.{Contains-push_cases}
 use Rattle.basics.specs.Items.{none_in, first_in}
 use Rattle.avr_model.specs.declared.assumption.Entry.{Entry}
+use Rattle.avr_model.specs.Assumptions.{has_pairs}
 use Rattle.avr_model.specs.Devices.{device_of, size_of}
 use Rattle.mask_states.specs.declared.keys.NodeKey.{NodeKey}
 use Rattle.mask_states.specs.Keys.{root_inst}
 use Rattle.local_rules.specs.declared.local.Node.{Node}
-use Rattle.local_rules.specs.Cover.{IsNode}
-use Rattle.local_laws.specs.Laws.{AreNodes}
+use Rattle.local_rules.specs.Cover.{IsNodeIn}
+use Rattle.local_laws.specs.Laws.{AreNodesIn}
 use Rattle.edge_rules.specs.Edges.{IsFaultless, target}
 use Rattle.edge_laws.specs.Laws.{with_state}
 use Rattle.edge_laws.proofs.AllLaws.{edges_lead_to_nodes}
@@ -84,16 +85,16 @@ module _ (words : List ℕ) (A : List Entry) (f : Family) where
 
   -- ---- edges
 
-  module _ (formed : AreFormed f) (notes : Notes) (known : AreKnown words A f notes) where
-    pub targets_are_nodes : (xs : List Look) → ((x : Look) → Contains xs x → IsLook words A f x) → AreNodes (all_targets f notes xs)
+  module _ (formed : AreFormed (has_pairs A) f) (notes : Notes) (known : AreKnown words A f notes) where
+    pub targets_are_nodes : (xs : List Look) → ((x : Look) → Contains xs x → IsLook words A f x) → AreNodesIn (has_pairs A) (all_targets f notes xs)
     targets_are_nodes xs looks =
-        each_gathered (targets_of f notes) (λ (to : Node). IsNode to.key to.state) xs
+        each_gathered (targets_of f notes) (λ (to : Node). IsNodeIn (has_pairs A) to.key to.state) xs
         (λ x to i j. let a = look_aims words A f notes known x (looks x i) to j in
-        subst (λ (t : Node). IsNode t.key t.state) a.at
+        subst (λ (t : Node). IsNodeIn (has_pairs A) t.key t.state) a.at
         (edges_lead_to_nodes.edges words A (nodes_of f) a.from a.edge (formed_nodes f formed) (member_has f a.from a.has) a.is))
 
     pub edges_land : (k : NodeKey) (seen : Seen) (items : List Node) → AreSeen words A f (k ∷ []) seen
-        → AreBeyond f (all_targets f notes seen.looks.items) items → items ≡ [] → LandAt words A f (k ∷ [])
+        → AreBeyond (has_pairs A) f (all_targets f notes seen.looks.items) items → items ≡ [] → LandAt words A f (k ∷ [])
     edges_land k seen items are beyond none n e has i edge =
         ⊎_elim (λ h.
         let is = are.looks h.look h.member in

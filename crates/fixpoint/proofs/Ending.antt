@@ -4,16 +4,18 @@ use Rattle.std.specs.FinMap.{get, insert, empty, entries, get-empty, len-entries
 use Rattle.basics.specs.Numbers.{zero_from_test}
 use Rattle.basics.specs.Items.{none_in}
 use Rattle.avr_model.specs.declared.assumption.Entry.{Entry}
+use Rattle.avr_model.specs.Assumptions.{has_pairs}
 use Rattle.abs_state.specs.declared.state.AbsState.{AbsState}
-use Rattle.abs_state.specs.Values.{root}
 use Rattle.mask_states.specs.declared.keys.InstKey.{InstKey}
 use Rattle.mask_states.specs.declared.keys.NodeKey.{NodeKey}
 use Rattle.mask_states.specs.Keys.{root_inst, entry_key}
 use Rattle.mask_states.specs.Order.{node_cmp}
 use Rattle.local_rules.specs.declared.local.Node.{Node}
 use Rattle.local_rules.specs.declared.local.NodeFault.TheVariants as fault
-use Rattle.local_laws.specs.Laws.{AreNodes}
+use Rattle.local_rules.specs.Cover.{IsNodeIn}
+use Rattle.local_laws.specs.Laws.{AreNodesIn}
 use Rattle.local_laws.proofs.AllLaws.{each_of}
+use Rattle.edge_rules.specs.Roots.{root_of}
 use Rattle.edge_laws.specs.Laws.{with_state}
 use Rattle.edge_laws.proofs.AllLaws.{edges_lead_to_nodes}
 use Rattle.certificate.specs.Claims.{cells_of}
@@ -34,8 +36,8 @@ use Rattle.fixpoint.proofs.Next.{next_turn, first_turn, not_closed, unchanged, c
 
 -- ---- the first family
 
-abbrev root_node : Node
-root_node = record { key = entry_key root_inst; state = root }
+abbrev root_node : List Entry → Node
+root_node A = record { key = entry_key root_inst; state = root_of A }
 
 cells_none : (es : List (NodeKey × AbsState)) → length es ≡ 0 → cells_of (map (λ (x : NodeKey × AbsState). x.0) es) ≡ 0
 unfolding cells_of
@@ -45,9 +47,9 @@ cells_none (x ∷ es) e = absurd (omega (arith, e))
 pub no_cells : cells empty ≡ 0
 no_cells = cells_none (entries empty) (sym (len-entries (empty {R = node_cmp})) ∙ len-empty node_cmp AbsState)
 
-pub pushed_root : (items before : List Node) (k : NodeKey) (inst : InstKey) (s : AbsState) → items ≡ before ++ record { key = k; state = s } ∷ [] → before ≡ []
-    → k ≡ entry_key inst → inst ≡ root_inst → s ≡ root → items ≡ root_node ∷ []
-pushed_root items before k inst s is none key at state =
+pub pushed_root : (A : List Entry) (items before : List Node) (k : NodeKey) (inst : InstKey) (s : AbsState) → items ≡ before ++ record { key = k; state = s } ∷ [] → before ≡ []
+    → k ≡ entry_key inst → inst ≡ root_inst → s ≡ root_of A → items ≡ root_node A ∷ []
+pushed_root A items before k inst s is none key at state =
     is ∙ ap (λ (l : List Node). l ++ record { key = k; state = s } ∷ []) none ∙ ap (λ (q : NodeKey). record { key = q; state = s } ∷ []) (key ∙ ap entry_key at)
     ∙ ap (λ (t : AbsState). record { key = entry_key root_inst; state = t } ∷ []) state
 
@@ -60,22 +62,23 @@ none_if (k ∷ ks) b n is all e = absurd (let z = zero_from_test b n is e in ome
 pub some_if : (l : List NodeKey) (b : Bool) (n : ℕ) → b ≡ (n == 0) → n ≡ length l → b ≡ false → l ≢ []
 some_if l b n is all e none = absurd (let same : n ≡ 0 = all ∙ ap length none in let never : true ≡ false = ap (λ m. m == 0) (sym same) ∙ sym is ∙ e in cc)
 
-pub no_nodes : AreFormed empty
-no_nodes n has = absurd (let never = sym (get-empty {X = AbsState} node_cmp n.key) ∙ has in cc)
+pub no_nodes : (followed : Bool) → AreFormed followed empty
+no_nodes followed n has = absurd (let never = sym (get-empty {X = AbsState} node_cmp n.key) ∙ has in cc)
 
-pub root_nodes : (ns : List Node) → ns ≡ root_node ∷ [] → AreNodes ns
-root_nodes ns is =
-    subst AreNodes (sym is) (each_of (λ n. Rattle.local_rules.specs.Cover.IsNode n.key n.state) root_node [] edges_lead_to_nodes.reset (λ n i. absurd (none_in n i)))
+pub root_nodes : (A : List Entry) (ns : List Node) → ns ≡ root_node A ∷ [] → AreNodesIn (has_pairs A) ns
+root_nodes A ns is =
+    subst (AreNodesIn (has_pairs A)) (sym is)
+    (each_of (λ n. IsNodeIn (has_pairs A) n.key n.state) (root_node A) [] (edges_lead_to_nodes.reset (has_pairs A)) (λ n i. absurd (none_in n i)))
 
 pub root_fresh : (f : Family) (ns : List Node) → f ≡ empty → AreNew f ns
 root_fresh f ns is n i l =
     absurd (let never = sym (get-empty {X = AbsState} node_cmp n.key) ∙ sym (ap (λ (g : Family). get g n.key) is) ∙ l.is in cc)
 
-pub root_apart : (ns : List Node) → ns ≡ root_node ∷ [] → AreApart ns
-root_apart ns is = subst AreApart (sym is) (λ m i. absurd (none_in m i), tt)
+pub root_apart : (A : List Entry) (ns : List Node) → ns ≡ root_node A ∷ [] → AreApart ns
+root_apart A ns is = subst AreApart (sym is) (λ m i. absurd (none_in m i), tt)
 
-pub first_is : (ns : List Node) → ns ≡ root_node ∷ [] → raised_all empty ns ≡ first
-first_is ns is = ap (raised_all empty) is ∙ ap (λ o. insert empty (entry_key root_inst) (joined_with o root)) (get-empty {X = AbsState} node_cmp (entry_key root_inst))
+pub first_is : (A : List Entry) (ns : List Node) → ns ≡ root_node A ∷ [] → raised_all empty ns ≡ first A
+first_is A ns is = ap (raised_all empty) is ∙ ap (λ o. insert empty (entry_key root_inst) (joined_with o (root_of A))) (get-empty {X = AbsState} node_cmp (entry_key root_inst))
 
 -- ---- the budget
 
@@ -130,11 +133,11 @@ module _ (words : List ℕ) (A : List Entry) where
         (λ real. let s = stopped real in
         record { number = p.number; within = within; refused = record { test = s.test; ends = record { family = f; comes = p.comes; holds = s.holds }; is = s.is } }) stopped
 
-    pub formed : AreFormed f
+    pub formed : AreFormed (has_pairs A) f
     formed = rounds_are_least.formed words A p.number f p.comes
 
     pub rooted : HasInst f root_inst
-    rooted = let l = comes_root words A p.number f p.comes in (with_state root_node l.at, l.is, refl)
+    rooted = let l = comes_root words A p.number f p.comes in (with_state (root_node A) l.at, l.is, refl)
 
     -- ---- a round
 
@@ -182,7 +185,7 @@ module _ (words : List ℕ) (A : List Entry) where
             let lt = rises in
             omega (arith, top, few, lt)
 
-  pub progress_first : (steps : Option ℕ) (f : Family) (count : ℕ) (work : List NodeKey) (notes : Notes) → f ≡ first → count ≡ cells f → KeptBut empty f work → notes ≡ blank
+  pub progress_first : (steps : Option ℕ) (f : Family) (count : ℕ) (work : List NodeKey) (notes : Notes) → f ≡ first A → count ≡ cells f → KeptBut empty f work → notes ≡ blank
       → Progress words A steps steps f count work notes
   progress_first steps f count work notes is counted kept no_notes = record {
     number = 0;

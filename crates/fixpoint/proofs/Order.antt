@@ -1,5 +1,5 @@
 -- Nodes are looked at in whatever order: the family stays one that is made of the first by where its edges lead.
-use Rattle.std.proofs.Common.{◌≡◌, refl, sym, ap, ◌∙◌, subst, ℕ, ◌^◌, ◌+◌, ◌-◌, ◌*◌, ◌<◌, ◌≤◌, inl, inr, ⊎_elim, Bool, true, false, ◌&&◌, ◌==◌, List, [], ◌∷◌, length, Option, Some, None, Contains, arith}
+use Rattle.std.proofs.Common.{◌≡◌, refl, sym, ap, ap₂, ◌∙◌, subst, ℕ, ◌^◌, ◌+◌, ◌-◌, ◌*◌, ◌<◌, ◌≤◌, inl, inr, ⊎_elim, Bool, true, false, ◌&&◌, ◌==◌, List, [], ◌∷◌, length, Option, Some, None, Contains, arith}
 use Rattle.std.specs.FinMap.{get, empty}
 use Rattle.std.proofs.lemmas.Option.{same_Some}
 use Rattle.basics.specs.Items.{none_in}
@@ -9,9 +9,8 @@ use Rattle.avr_model.proofs.AllLaws.{devices_are_alike}
 use Rattle.avr_model.specs.Devices.{device_of}
 use Rattle.avr_model.specs.Image.{WORDS}
 use Rattle.avr_model.specs.declared.assumption.Entry.{Entry}
-use Rattle.pair_domain.specs.Facts.{is_followed}
+use Rattle.avr_model.specs.Assumptions.{has_pairs}
 use Rattle.abs_state.specs.declared.state.AbsState.{AbsState}
-use Rattle.abs_state.specs.Values.{root}
 use Rattle.abs_state.specs.PairsBack.{returned}
 use Rattle.abs_state.specs.Formed.{IsFormed}
 use Rattle.abs_state.proofs.AllLaws.{returns_are_true, tags_stay_fit, states_are_ordered, hulls_hold_intervals}
@@ -23,11 +22,12 @@ use Rattle.mask_states.specs.declared.keys.SpForm.TheVariants.{Closed}
 use Rattle.mask_states.specs.Keys.{root_inst, entry_key, offset_of, PickFits}
 use Rattle.local_rules.specs.declared.local.Exit.{Exit}
 use Rattle.local_rules.specs.declared.local.Node.{Node}
-use Rattle.local_rules.specs.Cover.{IsNode}
-use Rattle.local_laws.specs.Laws.{AreNodes}
+use Rattle.local_rules.specs.Cover.{IsNodeIn}
+use Rattle.local_laws.specs.Laws.{AreNodesIn}
 use Rattle.local_laws.proofs.AllLaws.{local_parts_fit, local_parts_are_monotone}
 use Rattle.edge_rules.specs.declared.edge.Edge.{Edge}
 use Rattle.edge_rules.specs.Edges.{IsFaultless, raw_of, Enters, by_call, by_interrupt, pick_back, returned_key, target}
+use Rattle.edge_rules.specs.Roots.{root_of}
 use Rattle.edge_laws.specs.Laws.{with_state}
 use Rattle.edge_laws.proofs.AllLaws.{edges_lead_to_nodes, edges_grow}
 use Rattle.call_graph.specs.declared.ways.Way.{Way}
@@ -67,10 +67,14 @@ pick_fits kind.Call pick fits = tt
 pick_fits (kind.Interrupt v clears) pick fits = fits
 pick_fits kind.Return pick fits = tt
 
+both_same : (b : Bool) → (b && b) ≡ b
+both_same true = refl
+both_same false = refl
+
 -- to a node from one at its base, by an exit that keeps the enable bits
-returned_node : (way : EdgeKind) (k l : NodeKey) (s t after : AbsState) (back : ℕ) (x : Exit) → IsNode k s → back < WORDS → IsNode l t → l.sp ≡ Closed 0 → x.masks ≡ l.masks
-    → returned s t ≡ Some after → IsNode (returned_key way k back x) after
-returned_node way k l s t after back x node word other sp masks is =
+returned_node : {followed : Bool} (way : EdgeKind) (k l : NodeKey) (s t after : AbsState) (back : ℕ) (x : Exit) → IsNodeIn followed k s → back < WORDS → IsNodeIn followed l t → l.sp ≡ Closed 0 → x.masks ≡ l.masks
+    → returned s t ≡ Some after → IsNodeIn followed (returned_key way k back x) after
+returned_node {followed} way k l s t after back x node word other sp masks is =
     let base : IsFormed t 0 = subst (IsFormed t) (ap offset_of sp) other.formed in
     record {
       word = word;
@@ -82,12 +86,12 @@ returned_node way k l s t after back x node word other sp masks is =
       tags = tags_stay_fit.at_return s t after node.formed.count_registers node.tags is;
       carry_bytes = tags_stay_fit.carry_at_return s t after node.carry_bytes is;
       untagged = λ kind. returns_are_true.untagged s t after (offset_of k.sp) node.formed base (node.untagged kind) is;
-      mode = returns_are_true.followed s t after is ∙ ap (λ (f : Bool). f && is_followed t.facts) node.mode;
+      mode = returns_are_true.followed s t after is ∙ ap₂ (λ (f g : Bool). f && g) node.mode other.mode ∙ both_same followed;
       hulls = hulls_hold_intervals.returned s t after is;
     }
 
 module _ (words : List ℕ) (A : List Entry) where
-  back_small : (n : Node) (way : EdgeKind) (inst : InstKey) (back : ℕ) → IsNode n.key n.state → Enters words A n way inst back → back < WORDS
+  back_small : (n : Node) (way : EdgeKind) (inst : InstKey) (back : ℕ) → IsNodeIn (has_pairs A) n.key n.state → Enters words A n way inst back → back < WORDS
   back_small n _ _ _ node (by_call offset site faultless form member) =
       let lead = (local_parts_fit.fit words A n.key n.state).calls site member in
       let few = devices_are_alike.most_words (device_of words) in
@@ -110,7 +114,7 @@ module _ (words : List ℕ) (A : List Entry) where
   there : (f : Family) (n : Node) → Has f n → Lands f n
   there f n has = record { at = n.state; is = has; above = states_are_ordered.same n.state }
 
-  module _ (f : Family) (formed : AreFormed f) (xs : List Look) (looks : (x : Look) → Contains xs x → IsLook words A f x) where
+  module _ (f : Family) (formed : AreFormed (has_pairs A) f) (xs : List Look) (looks : (x : Look) → Contains xs x → IsLook words A f x) where
     calls_were : (y : InstKey × Crossing) → AnyHas xs CallsAt y → HasEntered words A f y.0 y.1
     calls_were y h =
         let is = looks h.one h.member in
@@ -146,16 +150,16 @@ module _ (words : List ℕ) (A : List Entry) where
       abbrev ns : List Node
       ns = all_targets f notes xs
 
-      are_nodes : AreNodes ns
-      are_nodes = each_gathered (targets_of f notes) (λ (to : Node). IsNode to.key to.state) xs (λ x to i j. of_look x (looks x i) to j)
+      are_nodes : AreNodesIn (has_pairs A) ns
+      are_nodes = each_gathered (targets_of f notes) (λ (to : Node). IsNodeIn (has_pairs A) to.key to.state) xs (λ x to i j. of_look x (looks x i) to j)
         where
-          of_look : (x : Look) (is : IsLook words A f x) (to : Node) → Contains (targets_of f notes x) to → IsNode to.key to.state
+          of_look : (x : Look) (is : IsLook words A f x) (to : Node) → Contains (targets_of f notes x) to → IsNodeIn (has_pairs A) to.key to.state
           of_look x is =
               let n = seen_node words A f x is in
-              look_cases words A f notes x is (λ (to : Node). IsNode to.key to.state)
+              look_cases words A f notes x is (λ (to : Node). IsNodeIn (has_pairs A) to.key to.state)
               (λ to own.
               let a = own_aim words A f n to is.has own in
-              subst (λ (t : Node). IsNode t.key t.state) a.at
+              subst (λ (t : Node). IsNodeIn (has_pairs A) t.key t.state) a.at
               (edges_lead_to_nodes.edges words A (nodes_of f) a.from a.edge (formed_nodes f formed) (member_has f a.from a.has) a.is))
               (λ w p t after enters j at r.
               let h = were.leavers w.inst p j in
@@ -197,10 +201,10 @@ module _ (words : List ℕ) (A : List Entry) where
                 (back_aim words A f c n _ l.is is.has
                 (comes_back p.kind x.key.inst p.back e after enters refl (look_clean words A f x is) exit (ap (λ (u : AbsState). returned u is.state) same ∙ r))))
 
-      land : (items : List Node) → AreBeyond f ns items → LandWithEdges words A f items
+      land : (items : List Node) → AreBeyond (has_pairs A) f ns items → LandWithEdges words A f items
       land items beyond clean h below lands = beyond.least h (λ to i. let a = aims clean to i in subst (Lands h) a.at (lands a.from a.edge a.has a.is))
 
-      more : (items : List Node) (count : ℕ) → IsMade words A f → AreOnce notes.nesting.insts → AreBeyond f ns items → count ≡ cells (raised_all f items)
+      more : (items : List Node) (count : ℕ) → IsMade words A f → AreOnce notes.nesting.insts → AreBeyond (has_pairs A) f ns items → count ≡ cells (raised_all f items)
           → IsUnderWay words A (raised_all f items) count notes
       more items count made once beyond counted = record {
         made = closed_families_end_rounds.goes_on words A f items made beyond.nodes (land items beyond);
@@ -211,7 +215,7 @@ module _ (words : List ℕ) (A : List Entry) where
 
   -- ---- begin and end
 
-  begins : (count : ℕ) → count ≡ cells first → IsUnderWay words A first count blank
+  begins : (count : ℕ) → count ≡ cells (first A) → IsUnderWay words A (first A) count blank
   begins count counted = record {
     made = closed_families_end_rounds.begins words A;
     counted = counted;
@@ -224,7 +228,7 @@ module _ (words : List ℕ) (A : List Entry) where
 
   -- ---- in the words of the code
 
-  pub way_first : (f : Family) (count : ℕ) (notes : Notes) → f ≡ first → count ≡ cells f → notes ≡ blank → IsUnderWay words A f count notes
+  pub way_first : (f : Family) (count : ℕ) (notes : Notes) → f ≡ first A → count ≡ cells f → notes ≡ blank → IsUnderWay words A f count notes
   way_first f count notes is counted none =
       subst (IsUnderWay words A f count) (sym none)
       (subst (λ (x : Family). IsUnderWay words A x count blank) (sym is) (begins count (counted ∙ ap cells is)))
@@ -241,12 +245,12 @@ module _ (words : List ℕ) (A : List Entry) where
 
   pub made_root : (f : Family) → IsMade words A f → HasInst f root_inst
   made_root f made =
-      let n : Node = record { key = entry_key root_inst; state = root } in
-      let l = made.above n (get_same empty (entry_key root_inst) root) in
+      let n : Node = record { key = entry_key root_inst; state = root_of A } in
+      let l = made.above n (get_same empty (entry_key root_inst) (root_of A)) in
       (with_state n l.at, l.is, refl)
 
   -- a look takes one that waits, and each that comes has raised the weight
-  pub falls_again : (f g : Family) (c h less now : ℕ) → AreFormed g → FitsLimits g → weight f + c ≤ weight g → less + 1 ≤ h → now ≡ less + c
+  pub falls_again : (f g : Family) (c h less now : ℕ) → AreFormed (has_pairs A) g → FitsLimits g → weight f + c ≤ weight g → less + 1 ≤ h → now ≡ less + c
       → 2 * (9416690630657 - weight g) + now < 2 * (9416690630657 - weight f) + h
   falls_again f g c h less now formed fits more one is =
       let top = rounds_are_joins.high g formed in

@@ -2,12 +2,13 @@
 use Rattle.std.proofs.Common.{◌≡◌, ◌≢◌, refl, sym, subst, ℕ, ◌≤◌, List, Some, None, Result, Ok, Err, IfErr, Contains, length, arith}
 use Rattle.std.specs.Result.{IsErrAnd}
 use Rattle.avr_model.specs.declared.assumption.Entry.{Entry}
+use Rattle.avr_model.specs.Assumptions.{has_pairs}
 use Rattle.avr_model.specs.Devices.{device_of, size_of}
 use Rattle.mask_states.specs.declared.keys.NodeKey.{NodeKey}
 use Rattle.mask_states.specs.Keys.{root_inst, offset_of}
 use Rattle.local_rules.specs.declared.local.Node.{Node}
 use Rattle.local_rules.specs.declared.local.NodeFault.{NodeFault}
-use Rattle.local_laws.specs.Laws.{AreNodes}
+use Rattle.local_laws.specs.Laws.{AreNodesIn}
 use Rattle.instance_nesting.specs.Nestings.{Noted, AreOnce, AreAlike, TellsAll, Tells}
 use Rattle.instance_nesting.specs.declared.verdict.NestingVerdict.{NestingVerdict}
 use Rattle.instance_nesting.specs.declared.verdict.NestingVerdict.TheVariants as verdicts
@@ -45,7 +46,7 @@ module _ (words : List ℕ) (A : List Entry) where
   has_fault f work notes seen b r fits turn are worst is = record { test = faulty b; holds = (fits, least_fault words A f work notes seen turn are b worst); is = is }
 
   -- all looks are at offsets that nodes have
-  pub looks_fit : (f : Family) (work : List NodeKey) (seen : Seen) (looks : List Look) → AreFormed f → AreSeen words A f work seen → looks ≡ seen.looks.items
+  pub looks_fit : (f : Family) (work : List NodeKey) (seen : Seen) (looks : List Look) → AreFormed (has_pairs A) f → AreSeen words A f work seen → looks ≡ seen.looks.items
       → (x : Look) → Contains looks x → offset_of x.key.sp ≤ 2048
   looks_fit f work seen looks formed are same x i =
       let is = are.looks x (subst (λ (l : List Look). Contains l x) same i) in
@@ -89,19 +90,19 @@ module _ (words : List ℕ) (A : List Entry) where
     }
 
   -- all targets are nodes
-  pub targets_fit : (f : Family) (work : List NodeKey) (old mid : Notes) (nesting : Noted) (seen : Seen) (looks : List Look) → AreFormed f → FitsLimits f → Turn words A f work old
+  pub targets_fit : (f : Family) (work : List NodeKey) (old mid : Notes) (nesting : Noted) (seen : Seen) (looks : List Look) → AreFormed (has_pairs A) f → FitsLimits f → Turn words A f work old
       → AreSeen words A f work seen → seen.worst ≡ None → AreKnown words A f mid → AreAlike mid.nesting nesting → looks ≡ seen.looks.items
-      → AreNodes (all_targets f (record { callers = mid.callers; leavers = mid.leavers; nesting = nesting }) looks)
+      → AreNodesIn (has_pairs A) (all_targets f (record { callers = mid.callers; leavers = mid.leavers; nesting = nesting }) looks)
   targets_fit f work old mid nesting seen looks formed fits turn are none known alike same =
       let notes : Notes = record { callers = mid.callers; leavers = mid.leavers; nesting = nesting } in
-      subst (λ (xs : List Look). AreNodes (all_targets f notes xs)) (sym same)
+      subst (λ (xs : List Look). AreNodesIn (has_pairs A) (all_targets f notes xs)) (sym same)
       (round_is words A f formed work old notes seen turn are none (alike_known f mid fits known nesting alike)).formed
 
   -- the nodes that come next
-  pub is_ready : (f : Family) (work : List NodeKey) (old mid : Notes) (nesting : Noted) (seen : Seen) (nodes : List Node) → AreFormed f → HasInst f root_inst → FitsLimits f
+  pub is_ready : (f : Family) (work : List NodeKey) (old mid : Notes) (nesting : Noted) (seen : Seen) (nodes : List Node) → AreFormed (has_pairs A) f → HasInst f root_inst → FitsLimits f
       → Turn words A f work old → AreSeen words A f work seen → seen.worst ≡ None → AreKnown words A f mid → TellsAll (size_of (device_of words)) mid.nesting verdicts.Nests
       → AreAlike mid.nesting nesting → AreOnce nesting.insts
-      → AreBeyond f (all_targets f (record { callers = mid.callers; leavers = mid.leavers; nesting = nesting }) seen.looks.items) nodes
+      → AreBeyond (has_pairs A) f (all_targets f (record { callers = mid.callers; leavers = mid.leavers; nesting = nesting }) seen.looks.items) nodes
       → IsReady words A f (record { callers = mid.callers; leavers = mid.leavers; nesting = nesting }) nodes
   is_ready f work old mid nesting seen nodes formed root fits turn are none known nests alike once beyond =
       let notes : Notes = record { callers = mid.callers; leavers = mid.leavers; nesting = nesting } in

@@ -1,6 +1,7 @@
 //! Whether the rounds end at a family that was found in another order. Nodes are looked at one by one, so that little is held at a time.
 
 ghost use Rattle.std.specs.Prelude.{◌≡◌, ◌∷◌, ◌++◌, [], List, None, OnOk, IfOk};
+ghost use Rattle.avr_model.specs.Assumptions.{has_pairs};
 ghost use Rattle.mask_states.specs.declared.keys.NodeKey as key_type;
 ghost use Rattle.instance_nesting.specs.Nestings.{AreOnce};
 ghost use Rattle.round_rules.specs.Families.{AreFormed, cells};
@@ -28,7 +29,7 @@ fn look_at(
     table: &Table,
     key: &NodeKey,
 ) -> Result<Seen, AllocError>
-    requires { AreFormed table.now }
+    requires { AreFormed (has_pairs assumptions.now) table.now }
     ensures { IfOk result (λ seen. AreSeen flash.now assumptions.now table.now (key.now ∷ []) seen) }
 {
     let one = [*key];
@@ -44,7 +45,7 @@ fn note_one(
     notes: &mut Notes,
     key: &NodeKey,
 ) -> Result<(), Refusal>
-    requires formed { AreFormed table.now }
+    requires formed { AreFormed (has_pairs assumptions.now) table.now }
     requires once { AreOnce notes.old.nesting.insts }
     ensures known { (keys : List key_type.NodeKey) → AreKnownAt flash.now assumptions.now table.now keys notes.old → OnOk result (AreKnownAt flash.now assumptions.now table.now (keys ++ key.now ∷ []) notes.new) }
     ensures once { OnOk result (AreOnce notes.new.nesting.insts) }
@@ -66,7 +67,7 @@ fn note_each(
     notes: &mut Notes,
     keys: &[NodeKey],
 ) -> Result<(), Refusal>
-    requires formed { AreFormed table.now }
+    requires formed { AreFormed (has_pairs assumptions.now) table.now }
     requires no_notes { notes.old ≡ blank }
     ensures known { OnOk result (AreKnownAt flash.now assumptions.now table.now keys.now notes.new) }
     ensures once { OnOk result (AreOnce notes.new.nesting.insts) }
@@ -86,7 +87,7 @@ fn check_edges(
     notes: &Notes,
     key: &NodeKey,
 ) -> Result<(), Refusal>
-    requires formed { AreFormed table.now }
+    requires formed { AreFormed (has_pairs assumptions.now) table.now }
     requires known { AreKnown flash.now assumptions.now table.now notes.now }
     ensures { OnOk result (LandAt flash.now assumptions.now table.now (key.now ∷ [])) }
 {
@@ -107,7 +108,7 @@ fn check_all_edges(
     notes: &Notes,
     keys: &[NodeKey],
 ) -> Result<(), Refusal>
-    requires formed { AreFormed table.now }
+    requires formed { AreFormed (has_pairs assumptions.now) table.now }
     requires known { AreKnown flash.now assumptions.now table.now notes.now }
     ensures { OnOk result (LandAt flash.now assumptions.now table.now keys.now) }
 {

@@ -134,7 +134,7 @@ fn walk(
     ensures { OnOk result (IsUnderWay flash.now assumptions.now table.new counted.new notes.new) }
 {
     let mut waiting = BinaryHeap::new(alloc);
-    let first = start(alloc, table, counted)?;
+    let first = start(alloc, assumptions, table, counted)?;
     await_all(&mut waiting, first)?;
     let mut due = 64;
     'looks: loop {

@@ -2,6 +2,7 @@
 
 ghost use Rattle.std.specs.Prelude.{ℕ, ◌+◌, ◌≡◌, ◌≢◌, Some, IfOk, IfErr, OnOk};
 ghost use Rattle.std.specs.FinMap.{empty};
+ghost use Rattle.avr_model.specs.Assumptions.{has_pairs};
 ghost use Rattle.mask_states.specs.Keys.{root_inst};
 ghost use Rattle.round_rules.specs.declared.refusal.Refusal.TheVariants.{Memory};
 ghost use Rattle.round_rules.specs.Families.{AreFormed, HasInst, cells};
@@ -13,7 +14,7 @@ ghost use Rattle.fixpoint.specs.Progress.{Turn, IsLeft, IsSpent, IsFound};
 ghost use Rattle.fixpoint.specs.Tests.{IsStopped, IsReady};
 
 use crate::testing::{check_nesting, check_size, refusal_of};
-use abs_state::AbsState;
+use call_graph::root_of;
 use family_table::Table;
 use flash_image::Flash;
 use local_rules::Node;
@@ -35,7 +36,7 @@ fn next_nodes(
     notes: &mut Notes,
 ) -> Result<Vec<Node>, Refusal>
     requires count { counted ≡ cells table.now }
-    requires formed { AreFormed table.now }
+    requires formed { AreFormed (has_pairs assumptions.now) table.now }
     requires root { HasInst table.now root_inst }
     requires turn { Turn flash.now assumptions.now table.now work.now notes.old }
     ensures ready { IfOk result (λ nodes. IsReady flash.now assumptions.now table.now notes.new nodes.items) }
@@ -55,19 +56,21 @@ fn next_nodes(
 // The first family: the root's node after reset.
 pub(crate) fn start(
     alloc: Global,
+    assumptions: &Assumptions,
     table: &mut Table,
     counted: &mut u64,
 ) -> Result<Vec<NodeKey>, AllocError>
     requires { table.old ≡ empty }
-    ensures first { OnOk result (table.new ≡ first) }
+    ensures first { OnOk result (table.new ≡ first assumptions.now) }
     ensures count { OnOk result (counted.new ≡ cells table.new) }
     ensures kept { IfOk result (λ work. KeptBut empty table.new work.items) }
 {
     *counted = 0;
+    let state = root_of(alloc, assumptions)?;
     let mut nodes = Vec::new(alloc);
     nodes.push(Node {
         key: NodeKey::entry(&InstKey::root()),
-        state: AbsState::root(alloc),
+        state,
     })?;
     let work = join_all(alloc, table, counted, nodes)?;
     Ok(work)
@@ -108,7 +111,7 @@ fn go_on(
     ensures why_not { IfErr result (λ r. IsWhyNot flash.now assumptions.now steps r) }
 {
     let mut counted = 0;
-    let mut work = start(alloc, table, &mut counted)?;
+    let mut work = start(alloc, assumptions, table, &mut counted)?;
     let mut left = steps;
     let mut looks = 0;
     'rounds: loop {

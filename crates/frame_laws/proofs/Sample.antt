@@ -1,8 +1,9 @@
 -- The family of the worked firmware is sound: the definitions are met where there is a call.
-use Rattle.std.proofs.Common.{◌≡◌, ℕ, zero, suc, ◌+◌, ◌<◌, ◌≤◌, ◌⊎◌, inl, inr, ⊎_elim, List, [], ◌∷◌, Option, Some, None, slice_index_or, refl, sym, ap, ◌∙◌, subst, arith, Contains}
+use Rattle.std.proofs.Common.{◌≡◌, ℕ, zero, suc, ◌+◌, ◌<◌, ◌≤◌, ◌⊎◌, inl, inr, ⊎_elim, false, List, [], ◌∷◌, Option, Some, None, slice_index_or, refl, sym, ap, ◌∙◌, subst, arith, Contains}
 use Rattle.std.proofs.lemmas.List.{get_or-replicate}
 use Rattle.basics.specs.Items.{none_in, only_one_in}
 use Rattle.std.proofs.lemmas.Option.{same_Some}
+use Rattle.avr_model.specs.Assumptions.{has_pairs}
 use Rattle.avr_model.specs.Devices.{size_of, device_of}
 use Rattle.bit_domain.specs.declared.bits.Tri.TheVariants.{Any}
 use Rattle.bit_domain.specs.TriByte.{IsWithin, byte_any}
@@ -26,10 +27,11 @@ use Rattle.local_rules.specs.declared.local.Exit.{Exit}
 use Rattle.local_rules.specs.Raw.{Raw}
 use Rattle.local_rules.specs.Flow.{site}
 use Rattle.local_rules.specs.Local.{placed, joined_onto}
-use Rattle.local_rules.specs.Cover.{IsNode}
+use Rattle.local_rules.specs.Cover.{IsNodeIn}
 use Rattle.edge_rules.specs.declared.edge.Edge.{Edge}
 use Rattle.edge_rules.specs.Edges.{raw_of, IsFaultless, Enters, by_call, by_interrupt, IsEdge, moving, entering, returning, target, called_inst, pick_back, returned_key}
 use Rattle.edge_rules.specs.Families.{IsCovered, IsSound}
+use Rattle.edge_rules.specs.Roots.{root_by}
 use Rattle.edge_rules.specs.Examples.{sample, callee, top, at_call, at_loop, at_return, family, plain_exit, call_leads, loop_leads, return_leads}
 
 -- ---- states
@@ -155,6 +157,11 @@ return_edges _ (returning way inst back leaver x state enters present same fault
 offset_is : (offset : ℕ) → Closed 0 ≡ Closed offset → offset ≡ 0
 offset_is offset e = omega (arith, ap offset_of e)
 
+-- no line follows pairs
+no_pairs : has_pairs [] ≡ false
+unfolding has_pairs
+no_pairs = refl
+
 -- the worked firmware is one of the greatest device
 sample_small : 2 ≤ size_of (device_of sample)
 unfolding device_of
@@ -162,11 +169,11 @@ sample_small = omega arith
 
 pub the_sample_is_sound : IsSound sample [] family
 the_sample_is_sound = record {
-  formed = each (λ n. IsNode n.key n.state)
-      record { word = omega arith; small = omega arith; masks = omega arith; fits = tt; pick = tt; formed = top_formed; tags = tags_stay_fit.less root top (top_above root reset_stands.formed) tags_stay_fit.at_reset; carry_bytes = tt; untagged = λ k. top_untagged; mode = refl; hulls = tt }
-      record { word = omega arith; small = omega arith; masks = omega arith; fits = tt; pick = tt; formed = top_formed; tags = tags_stay_fit.less root top (top_above root reset_stands.formed) tags_stay_fit.at_reset; carry_bytes = tt; untagged = λ k. top_untagged; mode = refl; hulls = tt }
-      record { word = omega arith; small = omega arith; masks = omega arith; fits = tt; pick = tt; formed = entries_are_true.formed top 0 top_formed; tags = (tags_stay_fit.at_entry top).0; carry_bytes = tt; untagged = λ k. absurd (cc); mode = refl; hulls = tt };
-  reset = record { state = top; present = (0, omega arith, refl); above = top_above root reset_stands.formed };
+  formed = each (λ n. IsNodeIn (has_pairs []) n.key n.state)
+      record { word = omega arith; small = omega arith; masks = omega arith; fits = tt; pick = tt; formed = top_formed; tags = tags_stay_fit.less root top (top_above root reset_stands.formed) tags_stay_fit.at_reset; carry_bytes = tt; untagged = λ k. top_untagged; mode = sym no_pairs; hulls = tt }
+      record { word = omega arith; small = omega arith; masks = omega arith; fits = tt; pick = tt; formed = top_formed; tags = tags_stay_fit.less root top (top_above root reset_stands.formed) tags_stay_fit.at_reset; carry_bytes = tt; untagged = λ k. top_untagged; mode = sym no_pairs; hulls = tt }
+      record { word = omega arith; small = omega arith; masks = omega arith; fits = tt; pick = tt; formed = entries_are_true.formed top 0 top_formed; tags = (tags_stay_fit.at_entry top).0; carry_bytes = tt; untagged = λ k. absurd (cc); mode = sym no_pairs; hulls = tt };
+  reset = record { state = top; present = (0, omega arith, refl); above = subst (λ b. IsStateWithin (root_by b) top) (sym no_pairs) (top_above root reset_stands.formed) };
   faultless = each (λ n. IsFaultless sample [] n)
       (ap (λ (r : Raw). r.faults) call_leads) (ap (λ (r : Raw). r.faults) loop_leads) (ap (λ (r : Raw). r.faults) return_leads);
   edges = λ n e h. each (λ x. IsEdge sample [] family.nodes x e → IsCovered family.nodes (target e)) (call_edges e) (loop_edges e) (return_edges e) n h;

@@ -26,6 +26,7 @@ claim_with c found h =
       few_nodes = h.few_nodes;
       few_cells = h.few_cells;
       of_version = h.of_version;
+      of_list = h.of_list;
     }
 
 pub sound_with : (words : List ℕ) (A : List Entry) (c : Claim) (found : Option Plan) → IsSound words A c → IsSound words A (record c { witness = found })

@@ -1,25 +1,26 @@
 -- The rounds come to one family at each number, and it lies below each valid one.
-use Rattle.std.proofs.Common.{◌≡◌, sym, ap, ◌∙◌, subst, ℕ, zero, suc, ◌+◌, ◌<◌, ◌≤◌, List, Some, Contains, arith}
+use Rattle.std.proofs.Common.{◌≡◌, Bool, sym, ap, ◌∙◌, subst, ℕ, zero, suc, ◌+◌, ◌<◌, ◌≤◌, List, Some, Contains, arith}
 use Rattle.std.specs.FinMap.{get, empty, get-empty}
 use Rattle.std.proofs.lemmas.Option.{same_Some}
 use Rattle.avr_model.specs.declared.assumption.Entry.{Entry}
+use Rattle.avr_model.specs.Assumptions.{has_pairs}
 use Rattle.avr_model.specs.Devices.{device_of}
 use Rattle.abs_state.specs.declared.state.AbsState.{AbsState}
-use Rattle.abs_state.specs.Values.{root}
 use Rattle.abs_state.proofs.AllLaws.{states_are_ordered}
 use Rattle.mask_states.specs.declared.keys.InstKey.{InstKey}
 use Rattle.mask_states.specs.declared.keys.NodeKey.{NodeKey}
 use Rattle.mask_states.specs.Keys.{root_inst, entry_key}
 use Rattle.mask_states.specs.Order.{node_cmp}
 use Rattle.local_rules.specs.declared.local.Node.{Node}
-use Rattle.local_rules.specs.Cover.{IsNode}
-use Rattle.local_laws.specs.Laws.{AreNodes}
+use Rattle.local_rules.specs.Cover.{IsNodeIn}
+use Rattle.local_laws.specs.Laws.{AreNodesIn}
 use Rattle.mask_states.specs.declared.keys.EdgeKind.{EdgeKind}
 use Rattle.edge_rules.specs.declared.edge.Edge.{Edge}
 use Rattle.mask_states.specs.declared.keys.Kind.TheVariants.{Vector}
 use Rattle.avr_model.specs.Vectors.{vector_word}
 use Rattle.edge_rules.specs.Edges.{Enters, by_call, by_interrupt, IsEdge, target}
 use Rattle.edge_rules.specs.Families.{IsCovered}
+use Rattle.edge_rules.specs.Roots.{root_of}
 use Rattle.edge_laws.specs.Laws.{with_state}
 use Rattle.edge_laws.proofs.AllLaws.{edges_lead_to_nodes, edges_grow}
 use Rattle.round_rules.specs.Families.{Family, nodes_of, Has, Lands, Below, AreFormed, HasNoFault, LandIn}
@@ -41,19 +42,19 @@ lands_covered g n l = record { state = l.at; present = member_has g (with_state 
 covered_lands : (g : Family) (n : Node) → IsCovered (nodes_of g) n → Lands g n
 covered_lands g n c = record { at = c.state; is = has_member g (with_state n c.state) c.present; above = c.above }
 
-pub formed_nodes : (f : Family) → AreFormed f → AreNodes (nodes_of f)
+pub formed_nodes : {followed : Bool} (f : Family) → AreFormed followed f → AreNodesIn followed (nodes_of f)
 formed_nodes f formed n i = formed n (has_member f n i)
 
 -- what holds of the first family's one node holds of all its nodes
-pub first_has : (P : NodeKey → AbsState → Type 0) → P (entry_key root_inst) root → (n : Node) → Has first n → P n.key n.state
-first_has P h n =
-    at_keys (λ q. (s : AbsState) → get first q ≡ Some s → P q s) (entry_key root_inst) n.key
-    (λ s e. subst (P (entry_key root_inst)) (same_Some root s (sym (get_same empty (entry_key root_inst) root) ∙ e)) h)
-    (λ ne s e. absurd (let never = sym (get-empty node_cmp n.key) ∙ sym (get_other empty (entry_key root_inst) root n.key ne) ∙ e in cc)) n.state
+pub first_has : (A : List Entry) (P : NodeKey → AbsState → Type 0) → P (entry_key root_inst) (root_of A) → (n : Node) → Has (first A) n → P n.key n.state
+first_has A P h n =
+    at_keys (λ q. (s : AbsState) → get (first A) q ≡ Some s → P q s) (entry_key root_inst) n.key
+    (λ s e. subst (P (entry_key root_inst)) (same_Some (root_of A) s (sym (get_same empty (entry_key root_inst) (root_of A)) ∙ e)) h)
+    (λ ne s e. absurd (let never = sym (get-empty node_cmp n.key) ∙ sym (get_other empty (entry_key root_inst) (root_of A) n.key ne) ∙ e in cc)) n.state
 
 module _ (words : List ℕ) (A : List Entry) where
-  pub comes_formed : (n : ℕ) (f : Family) → Comes words A n f → AreFormed f
-  comes_formed zero f c = subst AreFormed (sym c) (λ n h. first_has IsNode edges_lead_to_nodes.reset n h)
+  pub comes_formed : (n : ℕ) (f : Family) → Comes words A n f → AreFormed (has_pairs A) f
+  comes_formed zero f c = subst (AreFormed (has_pairs A)) (sym c) (λ n h. first_has A (IsNodeIn (has_pairs A)) (edges_lead_to_nodes.reset (has_pairs A)) n h)
   comes_formed (suc n) f c = c.4.formed
 
   -- ---- one family at each number
@@ -68,14 +69,19 @@ module _ (words : List ℕ) (A : List Entry) where
       let e = comes_same n c.0 d.0 c.1 d.1 in
       next_same d.0 f g (subst (λ x. IsNext words A x f) e c.4) d.4
 
-  pub comes_root : (n : ℕ) (f : Family) → Comes words A n f → Lands f (record { key = entry_key root_inst; state = root })
-  comes_root zero f c = record { at = root; is = ap (λ x. get x (entry_key root_inst)) c ∙ get_same empty (entry_key root_inst) root; above = states_are_ordered.same root }
-  comes_root (suc n) f c = lands_up c.0 f (record { key = entry_key root_inst; state = root }) c.4.above (comes_root n c.0 c.1)
+  pub comes_root : (n : ℕ) (f : Family) → Comes words A n f → Lands f (record { key = entry_key root_inst; state = root_of A })
+  comes_root zero f c =
+      record {
+        at = root_of A;
+        is = ap (λ x. get x (entry_key root_inst)) c ∙ get_same empty (entry_key root_inst) (root_of A);
+        above = states_are_ordered.same (root_of A);
+      }
+  comes_root (suc n) f c = lands_up c.0 f (record { key = entry_key root_inst; state = root_of A }) c.4.above (comes_root n c.0 c.1)
 
   -- ---- below a valid family
 
   module _ (g : Family) (valid : IsValidFamily words A g) where
-    module _ (f : Family) (formed : AreFormed f) (below : Below f g) where
+    module _ (f : Family) (formed : AreFormed (has_pairs A) f) (below : Below f g) where
       covered : (n : Node) → Contains (nodes_of f) n → IsCovered (nodes_of g) n
       covered n i = lands_covered g n (below n (has_member f n i))
 
@@ -121,7 +127,7 @@ module _ (words : List ℕ) (A : List Entry) where
 
     pub comes_below : (n : ℕ) (f : Family) → Comes words A n f → Below f g
     comes_below zero f c =
-        subst (λ x. Below x g) (sym c) (λ n h. first_has (λ q s. Lands g (record { key = q; state = s })) (covered_lands g (record { key = entry_key root_inst; state = root }) valid.sound.reset) n h)
+        subst (λ x. Below x g) (sym c) (λ n h. first_has A (λ q s. Lands g (record { key = q; state = s })) (covered_lands g (record { key = entry_key root_inst; state = root_of A }) valid.sound.reset) n h)
     comes_below (suc n) f c = c.4.least g (comes_below n c.0 c.1) (edges_land c.0 (comes_formed n c.0 c.1) (comes_below n c.0 c.1))
 
 -- ---- ranks rule out cycles

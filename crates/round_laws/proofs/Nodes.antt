@@ -101,7 +101,7 @@ nodes_apart (e ∷ es) sorted =
 
 -- ---- the order of families
 
-below_same : (f g : Family) → AreFormed f → AreFormed g → Below f g → Below g f → f ≡ g
+below_same : {followed : Bool} (f g : Family) → AreFormed followed f → AreFormed followed g → Below f g → Below g f → f ≡ g
 below_same f g a b up down = same_map node_total node_exact f g (λ q. by q (get f q) (get g q) refl refl)
   where
     by : (q : NodeKey) (x y : Option AbsState) → get f q ≡ x → get g q ≡ y → x ≡ y

@@ -35,7 +35,7 @@ module _ (words : List ℕ) (A : List Entry) (holds : NodeKey → Bool) where
   lands_kept g n h l = record { at = l.at; is = kept_by g n.key h ∙ l.is; above = l.above }
 
   -- what is kept along the edges of a family without faults is kept along those of one below it
-  kept_down : (f g : Family) → AreFormed f → AreFormed g → Below f g → HasNoFault words A g → IsKept words A g holds → IsKept words A f holds
+  kept_down : {followed : Bool} (f g : Family) → AreFormed followed f → AreFormed followed g → Below f g → HasNoFault words A g → IsKept words A g holds → IsKept words A f holds
   kept_down f g low high below clean kept n e has h edge =
       let o = edges_grow.edges words A (nodes_of f) (nodes_of g) n e (formed_nodes f low) (formed_nodes g high) (λ m c. lands_covered g m (below m (has_member f m c)))
       (λ m c. clean m (has_member g m c)) (member_has f n has) edge in
@@ -51,7 +51,7 @@ module _ (words : List ℕ) (A : List Entry) (holds : NodeKey → Bool) where
 
   all_hold : (n : ℕ) (f : Family) → Comes words A n f → HasNoFault words A f → holds (entry_key root_inst) ≡ true → IsKept words A f holds
       → (m : Node) → Has f m → holds m.key ≡ true
-  all_hold zero f c clean root kept = λ m has. first_has (λ k s. holds k ≡ true) root m (subst (λ (x : Family). get x m.key ≡ Some m.state) c has)
+  all_hold zero f c clean root kept = λ m has. first_has A (λ k s. holds k ≡ true) root m (subst (λ (x : Family). get x m.key ≡ Some m.state) c has)
   all_hold (suc n) f c clean root kept =
       let formed = comes_formed words A n c.0 c.1 in
       let lower : IsKept words A c.0 holds = kept_down c.0 f formed c.4.formed c.4.above clean kept in

@@ -4,15 +4,14 @@ use Rattle.std.proofs.lemmas.Bool.Decides.{nat_tests}
 use Rattle.std.specs.declared.cmp.Ordering.TheVariants.{Equal}
 use Rattle.std.specs.FinMap.{get, retain_keys, get-retain_keys}
 use Rattle.avr_model.specs.declared.assumption.Entry.{Entry}
+use Rattle.avr_model.specs.Assumptions.{has_pairs}
 use Rattle.abs_state.specs.declared.state.AbsState.{AbsState}
-use Rattle.abs_state.specs.Values.{root}
 use Rattle.mask_states.specs.declared.keys.InstKey.{InstKey}
 use Rattle.mask_states.specs.declared.keys.EdgeKind.{EdgeKind}
 use Rattle.mask_states.specs.declared.keys.NodeKey.{NodeKey}
 use Rattle.mask_states.specs.Keys.{root_inst, entry_key}
 use Rattle.mask_states.specs.Order.{node_cmp}
 use Rattle.local_rules.specs.declared.local.Node.{Node}
-use Rattle.local_rules.specs.Cover.{IsNode}
 use Rattle.local_laws.proofs.AllLaws.{joins_are_least, local_parts_are_nodes}
 use Rattle.edge_rules.specs.declared.edge.Edge.{Edge}
 use Rattle.edge_rules.specs.Edges.{raw_of, Enters, IsEdge, moving, entering, returning, target}
@@ -25,7 +24,7 @@ use Rattle.round_laws.proofs.Least.{comes_formed, first_has}
 
 module _ (words : List ℕ) (A : List Entry) where
   -- needs of a family without faults are needs of one below it
-  needs_down : (f g : Family) (need : InstKey → ℕ) → AreFormed f → AreFormed g → Below f g → HasNoFault words A g → AreNeeds words A g need → AreNeeds words A f need
+  needs_down : {followed : Bool} (f g : Family) (need : InstKey → ℕ) → AreFormed followed f → AreFormed followed g → Below f g → HasNoFault words A g → AreNeeds words A g need → AreNeeds words A f need
   needs_down f g need low high below clean are = record {
     offsets = λ n offset has form. let l = below n has in are.offsets (with_state n l.at) offset l.is form;
     entered = λ i j offset e.
@@ -43,7 +42,7 @@ module _ (words : List ℕ) (A : List Entry) where
   }
 
   -- the instance of an edge's target is the node's own, or one that it enters
-  edge_inst : (P : InstKey → Type 0) (f : Family) (n : Node) (e : Edge) → AreFormed f → Has f n → P n.key.inst
+  edge_inst : {followed : Bool} (P : InstKey → Type 0) (f : Family) (n : Node) (e : Edge) → AreFormed followed f → Has f n → P n.key.inst
       → ((way : EdgeKind) (inst : InstKey) (back : ℕ) → Enters words A n way inst back → P inst) → IsEdge words A (nodes_of f) n e → P e.to.inst
   edge_inst P f n _ formed has own enter (moving to clean member) =
       let raw = joins_are_least.keys (raw_of words A n).moves to member in
@@ -78,7 +77,7 @@ module _ (words : List ℕ) (A : List Entry) where
     is_under_is : (k : NodeKey) → is_under k ≡ true → need k.inst ≤ need root_inst
     is_under_is k e = grind (arith, nat_tests)
 
-    next_under : (f g : Family) → AreFormed f → IsNext words A f g → HasNoFault words A g → AreNeeds words A f need
+    next_under : (f g : Family) → AreFormed (has_pairs A) f → IsNext words A f g → HasNoFault words A g → AreNeeds words A f need
         → ((n : Node) → Has f n → need n.key.inst ≤ need root_inst) → (n : Node) → Has g n → need n.key.inst ≤ need root_inst
     next_under f g formed next clean are low n has =
         let h = retain_keys g is_under in
@@ -93,7 +92,7 @@ module _ (words : List ℕ) (A : List Entry) where
 
     all_under : (n : ℕ) (f : Family) → Comes words A n f → HasNoFault words A f → AreNeeds words A f need → (m : Node) → Has f m → need m.key.inst ≤ need root_inst
     all_under zero f c clean are = λ m has.
-        first_has (λ k s. need k.inst ≤ need root_inst) (omega arith) m (subst (λ (x : Family). get x m.key ≡ Some m.state) c has)
+        first_has A (λ k s. need k.inst ≤ need root_inst) (omega arith) m (subst (λ (x : Family). get x m.key ≡ Some m.state) c has)
     all_under (suc n) f c clean are =
         let formed = comes_formed words A n c.0 c.1 in
         let needs = needs_down c.0 f need formed c.4.formed c.4.above clean are in

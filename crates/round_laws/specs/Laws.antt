@@ -1,13 +1,14 @@
 -- Laws of families and rounds.
-use Rattle.std.specs.Prelude.{ℕ, ◌*◌, ◌≡◌, ◌<◌, ◌≤◌, ◌↔◌, ◌⊎◌, List, Contains, Some}
+use Rattle.std.specs.Prelude.{ℕ, Bool, ◌*◌, ◌≡◌, ◌<◌, ◌≤◌, ◌↔◌, ◌⊎◌, List, Contains, Some}
 use Rattle.std.specs.FinMap.{get, len}
 use Rattle.avr_model.specs.declared.assumption.Entry.{Entry}
+use Rattle.avr_model.specs.Assumptions.{has_pairs}
 use Rattle.avr_model.specs.State.{SIZE}
 use Rattle.mask_states.specs.declared.keys.InstKey.{InstKey}
 use Rattle.mask_states.specs.Keys.{root_inst}
 use Rattle.local_rules.specs.declared.local.Node.{Node}
-use Rattle.local_rules.specs.Cover.{IsNode}
-use Rattle.local_laws.specs.Laws.{AreNodes}
+use Rattle.local_rules.specs.Cover.{IsNodeIn}
+use Rattle.local_laws.specs.Laws.{AreNodesIn}
 use Rattle.edge_rules.specs.Families.{Family as Shown, IsSound as IsSoundFamily}
 use Rattle.certificate.specs.Claims.{Claim, IsClaim}
 use Rattle.certificate.specs.Insts.{rank_in, need_in}
@@ -21,7 +22,7 @@ use Rattle.round_laws.specs.Steps.{raised, raised_all, IsRoundOf, AreJoined, Are
 
 pub record FamiliesAreTheirNodes : Type 0 where
   pub members : (f : Family) (n : Node) → Contains (nodes_of f) n ↔ Has f n
-  pub same : (f g : Family) → AreFormed f → AreFormed g → Below f g → Below g f → f ≡ g
+  pub same : {followed : Bool} (f g : Family) → AreFormed followed f → AreFormed followed g → Below f g → Below g f → f ≡ g
   pub apart : (f : Family) → AreApart (nodes_of f)
 
 -- a family that shows a bound, with ranks and needs
@@ -41,7 +42,7 @@ pub record StandsFor (words : List ℕ) (A : List Entry) (c : Claim) : Type 0 wh
 pub record RoundsAreLeast : Type 0 where
   -- one family for each number, of nodes that the analysis works with
   pub one : (words : List ℕ) (A : List Entry) (n : ℕ) (f g : Family) → Comes words A n f → Comes words A n g → f ≡ g
-  pub formed : (words : List ℕ) (A : List Entry) (n : ℕ) (f : Family) → Comes words A n f → AreFormed f
+  pub formed : (words : List ℕ) (A : List Entry) (n : ℕ) (f : Family) → Comes words A n f → AreFormed (has_pairs A) f
   -- below each valid one
   pub below : (words : List ℕ) (A : List Entry) (n : ℕ) (f g : Family) → IsValidFamily words A g → Comes words A n f → Below f g
   pub faultless : (words : List ℕ) (A : List Entry) (n : ℕ) (f g : Family) → IsValidFamily words A g → Comes words A n f → HasNoFault words A f
@@ -77,8 +78,8 @@ pub record SolutionsAreValid : Type 0 where
 -- What the code does is a round: nodes joined into the family one after the other make the next family. Each join leaves the family as it was
 -- or raises it, and it can't rise for ever.
 pub record RoundsAreJoins : Type 0 where
-  pub next : (words : List ℕ) (A : List Entry) (f : Family) (ns : List Node) → AreFormed f → IsRoundOf words A f ns → IsNext words A f (raised_all f ns)
-  pub joined : (f : Family) (ns : List Node) → AreFormed f → AreNodes ns → AreJoined f ns (raised_all f ns)
-  pub rises : (f : Family) (n : Node) → AreFormed f → IsNode n.key n.state → (raised f n ≡ f) ⊎ (weight f < weight (raised f n))
-  pub high : (f : Family) → AreFormed f → weight f ≤ 1122557 * cells f
-  pub formed : (f : Family) (n : Node) → AreFormed f → IsNode n.key n.state → AreFormed (raised f n)
+  pub next : (words : List ℕ) (A : List Entry) (f : Family) (ns : List Node) → AreFormed (has_pairs A) f → IsRoundOf words A f ns → IsNext words A f (raised_all f ns)
+  pub joined : {followed : Bool} (f : Family) (ns : List Node) → AreFormed followed f → AreNodesIn followed ns → AreJoined followed f ns (raised_all f ns)
+  pub rises : {followed : Bool} (f : Family) (n : Node) → AreFormed followed f → IsNodeIn followed n.key n.state → (raised f n ≡ f) ⊎ (weight f < weight (raised f n))
+  pub high : {followed : Bool} (f : Family) → AreFormed followed f → weight f ≤ 1122557 * cells f
+  pub formed : {followed : Bool} (f : Family) (n : Node) → AreFormed followed f → IsNodeIn followed n.key n.state → AreFormed followed (raised f n)

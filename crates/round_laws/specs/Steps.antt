@@ -1,12 +1,13 @@
 -- One round as a list of nodes that are joined into the family one after the other.
-use Rattle.std.specs.Prelude.{ℕ, ◌+◌, ◌≡◌, ◌⊎◌, ⊤, List, [], ◌∷◌, Option, Some, None, Contains}
+use Rattle.std.specs.Prelude.{ℕ, Bool, ◌+◌, ◌≡◌, ◌⊎◌, ⊤, List, [], ◌∷◌, Option, Some, None, Contains}
 use Rattle.std.specs.FinMap.{get, insert, entries}
 use Rattle.avr_model.specs.declared.assumption.Entry.{Entry}
+use Rattle.avr_model.specs.Assumptions.{has_pairs}
 use Rattle.abs_state.specs.declared.state.AbsState.{AbsState}
 use Rattle.abs_state.specs.Order.{state_join}
 use Rattle.mask_states.specs.declared.keys.NodeKey.{NodeKey}
 use Rattle.local_rules.specs.declared.local.Node.{Node}
-use Rattle.local_rules.specs.Cover.{IsNode}
+use Rattle.local_rules.specs.Cover.{IsNodeIn}
 use Rattle.edge_rules.specs.declared.edge.Edge.{Edge}
 use Rattle.edge_rules.specs.Edges.{IsEdge, target}
 use Rattle.edge_rules.specs.Families.{IsCovered}
@@ -29,13 +30,13 @@ raised_all f (n ∷ ns) = raised_all (raised f n) ns
 -- Nodes to be joined into f so that all its edges land: each edge lands already or is below one of them, and where all edges land, so do
 -- they.
 pub record IsRoundOf (words : List ℕ) (A : List Entry) (f : Family) (ns : List Node) : Type 0 where
-  pub formed : (to : Node) → Contains ns to → IsNode to.key to.state
+  pub formed : (to : Node) → Contains ns to → IsNodeIn (has_pairs A) to.key to.state
   pub all : (n : Node) (e : Edge) → Has f n → IsEdge words A (nodes_of f) n e → Lands f (target e) ⊎ IsCovered ns (target e)
   pub least : (h : Family) → Below f h → LandIn words A f h → (to : Node) → Contains ns to → Lands h to
 
 -- g is f with all of these nodes joined into it: the least family above f in which they land
-pub record AreJoined (f : Family) (ns : List Node) (g : Family) : Type 0 where
-  pub formed : AreFormed g
+pub record AreJoined (followed : Bool) (f : Family) (ns : List Node) (g : Family) : Type 0 where
+  pub formed : AreFormed followed g
   pub above : Below f g
   pub lands : (to : Node) → Contains ns to → Lands g to
   pub least : (h : Family) → Below f h → ((to : Node) → Contains ns to → Lands h to) → Below g h

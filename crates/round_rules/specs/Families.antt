@@ -1,5 +1,5 @@
 -- Families: the state of each node. Source: own.
-use Rattle.std.specs.Prelude.{ℕ, ◌≡◌, ◌≤◌, List, map, Some}
+use Rattle.std.specs.Prelude.{ℕ, Bool, ◌≡◌, ◌≤◌, List, map, Some}
 use Rattle.std.specs.FinMap.{FinMap, get, entries, keys, len}
 use Rattle.avr_model.specs.declared.assumption.Entry.{Entry}
 use Rattle.abs_state.specs.declared.state.AbsState.{AbsState}
@@ -8,7 +8,7 @@ use Rattle.mask_states.specs.declared.keys.InstKey.{InstKey}
 use Rattle.mask_states.specs.declared.keys.NodeKey.{NodeKey}
 use Rattle.mask_states.specs.Order.{node_cmp}
 use Rattle.local_rules.specs.declared.local.Node.{Node}
-use Rattle.local_rules.specs.Cover.{IsNode}
+use Rattle.local_rules.specs.Cover.{IsNodeIn}
 use Rattle.edge_rules.specs.declared.edge.Edge.{Edge}
 use Rattle.edge_rules.specs.Edges.{IsFaultless, IsEdge, target}
 use Rattle.certificate.specs.Claims.{cells_of, most_nodes, most_cells}
@@ -39,9 +39,9 @@ pub record Lands (f : Family) (n : Node) : Type 0 where
 abbrev pub Below : Family → Family → Type 0
 Below f g = (n : Node) → Has f n → Lands g n
 
--- its nodes are ones that the analysis works with
-abbrev pub AreFormed : Family → Type 0
-AreFormed f = (n : Node) → Has f n → IsNode n.key n.state
+-- its nodes are ones that the analysis works with, where pairs are followed or where they aren't
+abbrev pub AreFormed : Bool → Family → Type 0
+AreFormed followed f = (n : Node) → Has f n → IsNodeIn followed n.key n.state
 
 abbrev pub HasNoFault : List ℕ → List Entry → Family → Type 0
 HasNoFault words A f = (n : Node) → Has f n → IsFaultless words A n

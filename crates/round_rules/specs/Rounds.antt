@@ -2,14 +2,15 @@
 use Rattle.std.specs.Prelude.{ℕ, zero, suc, ◌+◌, ◌≡◌, ◌<◌, ◌≤◌, List}
 use Rattle.std.specs.FinMap.{insert, empty}
 use Rattle.avr_model.specs.declared.assumption.Entry.{Entry}
+use Rattle.avr_model.specs.Assumptions.{has_pairs}
 use Rattle.avr_model.specs.Devices.{device_of, size_of}
-use Rattle.abs_state.specs.Values.{root}
 use Rattle.mask_states.specs.declared.keys.InstKey.{InstKey}
 use Rattle.mask_states.specs.declared.keys.EdgeKind.{EdgeKind}
 use Rattle.mask_states.specs.declared.keys.SpForm.TheVariants.{Closed}
 use Rattle.mask_states.specs.Keys.{root_inst, entry_key, offset_of}
 use Rattle.local_rules.specs.declared.local.Node.{Node}
 use Rattle.edge_rules.specs.Edges.{Enters}
+use Rattle.edge_rules.specs.Roots.{root_of}
 use Rattle.round_rules.specs.Families.{Family, Has, Below, AreFormed, HasNoFault, LandIn, IsClosed, FitsLimits}
 
 -- ---- which instance enters which
@@ -57,12 +58,12 @@ pub record IsShallow (words : List ℕ) (A : List Entry) (f : Family) : Type 0 w
 
 -- ---- rounds
 
-abbrev pub first : Family
-first = insert empty (entry_key root_inst) root
+abbrev pub first : List Entry → Family
+first A = insert empty (entry_key root_inst) (root_of A)
 
 -- g is f joined with the targets of all its edges: the least family above f in which they land
 pub record IsNext (words : List ℕ) (A : List Entry) (f g : Family) : Type 0 where
-  pub formed : AreFormed g
+  pub formed : AreFormed (has_pairs A) g
   pub above : Below f g
   pub edges : LandIn words A f g
   pub least : (h : Family) → Below f h → LandIn words A f h → Below g h
@@ -76,5 +77,5 @@ pub record Passes (words : List ℕ) (A : List Entry) (f : Family) : Type 0 wher
 
 -- the rounds come to family n, which is this one
 abbrev pub Comes : List ℕ → List Entry → ℕ → Family → Type 0
-Comes words A zero f = f ≡ first
+Comes words A zero f = f ≡ first A
 Comes words A (suc n) g = (f : Family) × Comes words A n f × Passes words A f × (IsClosed words A f → ⊥) × IsNext words A f g

@@ -4,7 +4,7 @@ use Rattle.avr_model.specs.declared.assumption.Entry.{Entry}
 use Rattle.mask_states.specs.declared.keys.InstKey.{InstKey}
 use Rattle.mask_states.specs.Keys.{root_inst}
 use Rattle.edge_rules.specs.Expansion.{IsFilled}
-use Rattle.certificate.specs.declared.version.Version.TheVariants.{Two}
+use Rattle.certificate.specs.Versions.{written_version}
 use Rattle.certificate.specs.Claims.{Claim, IsClaim}
 use Rattle.certificate.specs.Insts.{inst_keys, rank_in, need_in}
 use Rattle.certificate.specs.Valid.{IsSound}
@@ -20,10 +20,10 @@ pub record IsShown (words : List ℕ) (A : List Entry) (c : Claim) : Type 0 wher
   pub claim : IsClaim c
   pub sound : IsSound words A c
 
--- The certificate of a solved family: it is of the second version, and has the family's nodes and their instances, least ranks and needs, and the root's need as bound.
+-- The certificate of a solved family: it is of the version that its assumptions ask for, and has the family's nodes and their instances, least ranks and needs, and the root's need as bound.
 -- A node's state is left out exactly where the one edge that leads to it gives it.
 pub record IsSolution (words : List ℕ) (A : List Entry) (f : Family) (c : Claim) : Type 0 where
-  pub version : c.version ≡ Two
+  pub version : c.version ≡ written_version A
   pub expands : IsFilled words A c.nodes (nodes_of f)
   pub sparse : AreSparse words A (nodes_of f) c.nodes
   pub instances : (inst : InstKey) → Contains (inst_keys c.instances) inst ↔ HasInst f inst

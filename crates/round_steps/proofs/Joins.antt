@@ -12,14 +12,13 @@ use Rattle.mask_states.specs.Keys.{offset_of}
 use Rattle.mask_states.specs.Order.{node_cmp}
 use Rattle.mask_states.specs.Total.{node_total}
 use Rattle.local_rules.specs.declared.local.Node.{Node}
-use Rattle.local_rules.specs.Cover.{IsNode}
-use Rattle.local_laws.specs.Laws.{AreNodes}
+use Rattle.local_rules.specs.Cover.{IsNodeIn}
 use Rattle.local_laws.proofs.AllLaws.{each_of}
 use Rattle.certificate.specs.Claims.{cells_of}
-use Rattle.round_rules.specs.Families.{Family, Lands, AreFormed, cells}
+use Rattle.round_rules.specs.Families.{Family, Lands, cells}
 use Rattle.round_laws.specs.Steps.{joined_with, raised, raised_all, AreApart, weight}
 use Rattle.round_laws.proofs.AllLaws.{rounds_are_joins, at_keys, get_same, get_other, same_cells, found_here, found_later}
-use Rattle.round_steps.specs.Joins.{keys_of, AreNew, SoFar}
+use Rattle.round_steps.specs.Joins.{keys_of, AreNew, FitTogether, SoFar}
 
 -- ---- cells
 
@@ -85,42 +84,48 @@ as_many_cells f g n count before now counted is was become le =
 
 -- ---- joins
 
-pub none_yet : (f : Family) (count : ℕ) (all : List Node) → count ≡ cells f → AreFormed f → AreNodes all → AreNew f all → AreApart all → SoFar f all f count all []
-none_yet f count all counted formed nodes fresh apart = record {
+pub none_yet : (f : Family) (count : ℕ) (all : List Node) → count ≡ cells f → FitTogether f all → AreNew f all → AreApart all → SoFar f all f count all []
+none_yet f count all counted fit fresh apart = record {
   joined = refl;
   counted = counted;
-  nodes = nodes;
   fresh = fresh;
   apart = apart;
-  formed = formed;
+  fit = fit;
+  formed = λ followed formed nodes. (formed, nodes);
   keys = refl;
   kept = λ k apart. refl;
   more = omega arith;
 }
 
 module _ (f : Family) (all : List Node) (g : Family) (n : Node) (left : List Node) (changed : List NodeKey) (before : ℕ) (so : SoFar f all g before (n ∷ left) changed) where
-  node : IsNode n.key n.state
-  node = so.nodes n (first_in n left)
+  node : IsNodeIn so.fit.followed n.key n.state
+  node = so.fit.nodes n (first_in n left)
 
   other : (k : NodeKey) → k ≢ n.key → get (raised g n) k ≡ get g k
   other k ne = get_other g n.key (joined_with (get g n.key) n.state) k ne
 
   -- the node raises the family
   higher : weight g < weight (raised g n)
-  higher = ⊎_elim (λ same. absurd (so.fresh n (first_in n left) (subst (λ h. Lands h n) same landed))) (λ lt. lt) (rounds_are_joins.rises g n so.formed node)
+  higher = ⊎_elim (λ same. absurd (so.fresh n (first_in n left) (subst (λ h. Lands h n) same landed))) (λ lt. lt) (rounds_are_joins.rises g n so.fit.formed node)
     where
       landed : Lands (raised g n) n
-      landed = (rounds_are_joins.joined g (n ∷ []) so.formed (each_of (λ m. IsNode m.key m.state) n [] node (λ m i. absurd (none_in m i)))).lands n (first_in n [])
+      landed = (rounds_are_joins.joined g (n ∷ []) so.fit.formed (each_of (λ m. IsNodeIn so.fit.followed m.key m.state) n [] node (λ m i. absurd (none_in m i)))).lands n (first_in n [])
 
   more_joined : (count : ℕ) → count ≡ cells (raised g n) → SoFar f all (raised g n) count left (changed ++ n.key ∷ [])
   more_joined count counted = record {
     joined = so.joined;
     counted = counted;
-    nodes = λ x i. so.nodes x (there n x left i);
     fresh = λ x i l.
         so.fresh x (there n x left i) (record { at = l.at; is = sym (other x.key (so.apart.0 x i)) ∙ l.is; above = l.above });
     apart = so.apart.1;
-    formed = rounds_are_joins.formed g n so.formed node;
+    fit = record {
+      followed = so.fit.followed;
+      formed = rounds_are_joins.formed g n so.fit.formed node;
+      nodes = λ x i. so.fit.nodes x (there n x left i);
+    };
+    formed = λ followed formed nodes.
+        let now = so.formed followed formed nodes in
+        (rounds_are_joins.formed g n now.0 (now.1 n (first_in n left)), λ x i. now.1 x (there n x left i));
     keys = append_assoc changed (n.key ∷ []) (keys_of left) ∙ so.keys;
     kept = λ k apart.
         other k (λ same. apart (subst (Contains (changed ++ n.key ∷ [])) (sym same) (Contains-push changed n.key)))

@@ -1,9 +1,9 @@
 -- What changes as nodes are joined into a family.
-use Rattle.std.specs.Prelude.{ℕ, ◌+◌, ◌≡◌, ◌≤◌, List, ◌++◌, map, length, Contains}
+use Rattle.std.specs.Prelude.{ℕ, Bool, ◌+◌, ◌≡◌, ◌≤◌, List, ◌++◌, map, length, Contains}
 use Rattle.std.specs.FinMap.{get}
 use Rattle.mask_states.specs.declared.keys.NodeKey.{NodeKey}
 use Rattle.local_rules.specs.declared.local.Node.{Node}
-use Rattle.local_laws.specs.Laws.{AreNodes}
+use Rattle.local_laws.specs.Laws.{AreNodesIn}
 use Rattle.round_rules.specs.Families.{Family, Lands, AreFormed, cells}
 use Rattle.round_laws.specs.Steps.{raised_all, AreApart, weight}
 
@@ -18,14 +18,20 @@ AreNew f ns = (n : Node) → Contains ns n → Lands f n → ⊥
 abbrev pub KeptBut : Family → Family → List NodeKey → Type 0
 KeptBut f g changed = (k : NodeKey) → (Contains changed k → ⊥) → get g k ≡ get f k
 
+-- the family's nodes and these are ones that the analysis works with: all of them follow pairs, or none does
+pub record FitTogether (f : Family) (ns : List Node) : Type 0 where
+  pub followed : Bool
+  pub formed : AreFormed followed f
+  pub nodes : AreNodesIn followed ns
+
 -- g is f with some of the nodes joined into it, and these are left
 pub record SoFar (f : Family) (all : List Node) (g : Family) (count : ℕ) (left : List Node) (changed : List NodeKey) : Type 0 where
   pub joined : raised_all g left ≡ raised_all f all
   pub counted : count ≡ cells g
-  pub nodes : AreNodes left
   pub fresh : AreNew g left
   pub apart : AreApart left
-  pub formed : AreFormed g
+  pub fit : FitTogether g left
+  pub formed : (followed : Bool) → AreFormed followed f → AreNodesIn followed all → AreFormed followed g × AreNodesIn followed left
   pub keys : changed ++ keys_of left ≡ keys_of all
   pub kept : KeptBut f g changed
   pub more : weight f + length changed ≤ weight g

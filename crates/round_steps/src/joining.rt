@@ -1,11 +1,11 @@
 //! Nodes joined into a family.
 
-ghost use Rattle.std.specs.Prelude.{ℕ, ◌≡◌, ◌+◌, ◌≤◌, length, IfOk, OnOk};
-ghost use Rattle.local_rules.specs.Cover.{IsNode};
-ghost use Rattle.local_laws.specs.Laws.{AreNodes};
+ghost use Rattle.std.specs.Prelude.{ℕ, Bool, ◌≡◌, ◌+◌, ◌≤◌, length, IfOk, OnOk};
+ghost use Rattle.local_laws.specs.Laws.{AreNodesIn};
+ghost use Rattle.edge_rules.specs.Views.{IsOwnNode};
 ghost use Rattle.round_rules.specs.Families.{AreFormed, cells};
 ghost use Rattle.round_laws.specs.Steps.{raised, raised_all, AreApart, weight};
-ghost use Rattle.round_steps.specs.Joins.{keys_of, AreNew, KeptBut};
+ghost use Rattle.round_steps.specs.Joins.{keys_of, AreNew, FitTogether, KeptBut};
 
 use family_table::Table;
 use local_rules::Node;
@@ -30,7 +30,7 @@ fn join_one(
     node: Node,
 ) -> Result<(), AllocError>
     requires count { counted.old ≡ cells table.old }
-    requires node { IsNode node.key node.state }
+    requires node { IsOwnNode node.key node.state }
     ensures joined { OnOk result (table.new ≡ raised table.old node) }
     ensures count { OnOk result (counted.new ≡ cells table.new) }
 {
@@ -52,13 +52,12 @@ pub fn join_all(
     nodes: Vec<Node>,
 ) -> Result<Vec<NodeKey>, AllocError>
     requires count { counted.old ≡ cells table.old }
-    requires formed { AreFormed table.old }
-    requires nodes { AreNodes nodes.items }
+    requires fit { FitTogether table.old nodes.items }
     requires fresh { AreNew table.old nodes.items }
     requires apart { AreApart nodes.items }
     ensures joined { OnOk result (table.new ≡ raised_all table.old nodes.items) }
     ensures count { OnOk result (counted.new ≡ cells table.new) }
-    ensures formed { OnOk result (AreFormed table.new) }
+    ensures formed { (followed : Bool) → AreFormed followed table.old → AreNodesIn followed nodes.items → OnOk result (AreFormed followed table.new) }
     ensures keys { IfOk result (λ changed. changed.items ≡ keys_of nodes.items) }
     ensures kept { IfOk result (λ changed. KeptBut table.old table.new changed.items) }
     ensures more { IfOk result (λ changed. weight table.old + length changed.items ≤ weight table.new) }

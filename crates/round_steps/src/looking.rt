@@ -3,7 +3,8 @@
 ghost use Rattle.std.specs.Prelude.{◌≡◌, ◌≢◌, ◌++◌, ◌∷◌, [], List, Ok, Err, IfOk, IfErr, OnOk};
 ghost use Rattle.mask_states.specs.declared.keys.NodeKey as key_type;
 ghost use Rattle.local_rules.specs.declared.local.NodeFault.TheVariants.{Memory};
-ghost use Rattle.local_rules.specs.Cover.{IsNode};
+ghost use Rattle.avr_model.specs.Assumptions.{has_pairs};
+ghost use Rattle.local_rules.specs.Cover.{IsNodeIn};
 ghost use Rattle.local_rules.specs.Local as rows;
 ghost use Rattle.call_graph.specs.Ways.{ways_of};
 ghost use Rattle.round_rules.specs.Families.{AreFormed};
@@ -48,7 +49,7 @@ fn found_at(
     key: &NodeKey,
     state: &AbsState,
 ) -> Result<Look, NodeFault>
-    requires { IsNode key.now state.now }
+    requires { IsNodeIn (has_pairs assumptions.now) key.now state.now }
     ensures key { IfOk result (λ x. x.key ≡ key.now) }
     ensures part { IfOk result (λ x. rows.local flash.now assumptions.now key.now state.now ≡ Ok x.part) }
     ensures ways { IfOk result (λ x. x.ways.items ≡ ways_of flash.now assumptions.now key.now x.part.calls) }
@@ -101,7 +102,7 @@ fn look_at(
     table: &Table,
     key: &NodeKey,
 ) -> Result<(), AllocError>
-    requires { AreFormed table.now }
+    requires { AreFormed (has_pairs assumptions.now) table.now }
     ensures { (keys : List key_type.NodeKey) → AreSeen flash.now assumptions.now table.now keys seen.old → OnOk result (AreSeen flash.now assumptions.now table.now (keys ++ key.now ∷ []) seen.new) }
 {
     let Some(state) = table.get(key) else {
@@ -120,7 +121,7 @@ pub fn look_all(
     table: &Table,
     keys: &[NodeKey],
 ) -> Result<Seen, AllocError>
-    requires { AreFormed table.now }
+    requires { AreFormed (has_pairs assumptions.now) table.now }
     ensures { IfOk result (λ seen. AreSeen flash.now assumptions.now table.now keys.now seen) }
 {
     let mut seen = Seen {

@@ -1,14 +1,13 @@
 //! What the edges of nodes lead to.
 
-ghost use Rattle.std.specs.Prelude.{ℕ, ◌≡◌, ◌<◌, ◌++◌, List, map, OnOk, IfOk};
+ghost use Rattle.std.specs.Prelude.{ℕ, Bool, ◌≡◌, ◌<◌, ◌++◌, List, map, OnOk, IfOk};
 ghost use Rattle.abs_state.specs.Values.{value_at};
 ghost use Rattle.abs_state.specs.Formed.{NamesRegister};
 ghost use Rattle.local_rules.specs.declared.local.Node as node_type;
-ghost use Rattle.local_rules.specs.Cover.{IsNode};
-ghost use Rattle.local_laws.specs.Laws.{AreNodes};
-ghost use Rattle.round_rules.specs.Families.{AreFormed};
+ghost use Rattle.local_laws.specs.Laws.{AreNodesIn};
+ghost use Rattle.edge_rules.specs.Views.{IsOwnNode};
 ghost use Rattle.round_steps.specs.Targets.{entry_node, returned_to, back_at, backs_in, all_backs, onward_at, onwards_if, targets_of, all_targets};
-ghost use Rattle.round_steps.specs.Gathers.{IsGathered, AreGathered, AreBeyond};
+ghost use Rattle.round_steps.specs.Gathers.{AreOwn, AreOwnNodes, IsGathered, AreGathered, AreBeyond};
 
 use crate::looking::Look;
 use crate::noting::Notes;
@@ -66,7 +65,7 @@ fn add_back(
     caller: &Caller<'_>,
     leaver: &Crossing,
 ) -> Result<(), AllocError>
-    requires { AreFormed table.now }
+    requires { AreOwn table.now }
     ensures { OnOk result (targets.new.items ≡ targets.old.items ++ back_at table.now caller.now.key.now caller.now.state.now caller.now.way leaver.now) }
 {
     let Some(leaving) = table.get(&leaver.node) else {
@@ -82,7 +81,7 @@ fn add_backs(
     leavers: &Crossings,
     caller: &Caller<'_>,
 ) -> Result<(), AllocError>
-    requires { AreFormed table.now }
+    requires { AreOwn table.now }
     ensures { OnOk result (targets.new.items ≡ targets.old.items ++ backs_in table.now leavers.now caller.now.key.now caller.now.state.now caller.now.way) }
 {
     let Some(list) = leavers.at(&caller.way.inst) else {
@@ -103,7 +102,7 @@ fn add_all_backs(
     state: &AbsState,
     ways: &[Way],
 ) -> Result<(), AllocError>
-    requires { AreFormed table.now }
+    requires { AreOwn table.now }
     ensures { OnOk result (targets.new.items ≡ targets.old.items ++ all_backs table.now leavers.now key.now state.now ways.now) }
 {
     for at in 0..ways.len() {
@@ -173,7 +172,7 @@ fn add_targets(
     notes: &Notes,
     x: Look,
 ) -> Result<(), AllocError>
-    requires { AreFormed table.now }
+    requires { AreOwn table.now }
     ensures { OnOk result (targets.new.items ≡ targets.old.items ++ targets_of table.now notes.now x) }
 {
     let Some(state) = table.get(&x.key) else {
@@ -203,7 +202,7 @@ fn add_targets(
 
 // Joins a node into those of its key that are gathered, unless it lands in the family.
 fn gather_one(next: &mut Gathered, table: &Table, node: Node) -> Result<(), AllocError>
-    requires { IsNode node.key node.state }
+    requires { IsOwnNode node.key node.state }
     ensures { OnOk result (IsGathered table.now next.old node next.new) }
 {
     if table.covers(&node) {
@@ -214,8 +213,8 @@ fn gather_one(next: &mut Gathered, table: &Table, node: Node) -> Result<(), Allo
 }
 
 fn gather(next: &mut Gathered, table: &Table, nodes: Vec<Node>) -> Result<(), AllocError>
-    requires { AreNodes nodes.items }
-    ensures { (before : List node_type.Node) → AreGathered table.now before next.old → OnOk result (AreGathered table.now (before ++ nodes.items) next.new) }
+    requires { AreOwnNodes nodes.items }
+    ensures { (followed : Bool) (before : List node_type.Node) → AreNodesIn followed nodes.items → AreGathered followed table.now before next.old → OnOk result (AreGathered followed table.now (before ++ nodes.items) next.new) }
 {
     for node in nodes {
         gather_one(next, table, node)?;
@@ -232,9 +231,9 @@ pub fn targets(
     notes: &Notes,
     looks: Vec<Look>,
 ) -> Result<Vec<Node>, AllocError>
-    requires formed { AreFormed table.now }
-    requires nodes { AreNodes (all_targets table.now notes.now looks.items) }
-    ensures { IfOk result (λ all. AreBeyond table.now (all_targets table.now notes.now looks.items) all.items) }
+    requires formed { AreOwn table.now }
+    requires nodes { AreOwnNodes (all_targets table.now notes.now looks.items) }
+    ensures { (followed : Bool) → AreNodesIn followed (all_targets table.now notes.now looks.items) → IfOk result (λ all. AreBeyond followed table.now (all_targets table.now notes.now looks.items) all.items) }
 {
     let mut next = Gathered::new(alloc);
     for x in looks {

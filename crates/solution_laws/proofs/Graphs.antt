@@ -7,6 +7,7 @@ use Rattle.basics.specs.Lists.{one_at, get_inside}
 use Rattle.basics.specs.Items.{contained_at, get_contained}
 use Rattle.family_graph.proofs.Graphs.{keys_long}
 use Rattle.avr_model.specs.declared.assumption.Entry.{Entry}
+use Rattle.avr_model.specs.Assumptions.{has_pairs}
 use Rattle.abs_state.specs.Frames.{entered}
 use Rattle.mask_states.specs.declared.keys.EdgeKind.{EdgeKind}
 use Rattle.mask_states.specs.declared.keys.InstKey.{InstKey}
@@ -54,11 +55,11 @@ module _ (words : List ℕ) (A : List Entry) (n : ℕ) (f : Family) (solved : Is
   nodes = nodes_of f
 
   shown : AreShown nodes
-  shown = record { ascending = ascending f; all = formed_nodes f (formed words A n f solved) }
+  shown = record { followed = has_pairs A; ascending = ascending f; all = formed_nodes f (formed words A n f solved) }
 
   -- the root's node is among them
   root_has : (m : Node) × (Has f m × (m.key ≡ entry_key root_inst))
-  root_has = let l = comes_root words A n f solved.comes in (with_state reset_node l.at, (l.is, refl))
+  root_has = let l = comes_root words A n f solved.comes in (with_state (reset_node A) l.at, (l.is, refl))
 
   some : 0 < length nodes
   some = let i = member_has f root_has.0 root_has.1.0 in omega (arith, i.1)

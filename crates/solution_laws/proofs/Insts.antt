@@ -7,6 +7,7 @@ use Rattle.std.specs.declared.cmp.Ordering.TheVariants.{Equal}
 use Rattle.basics.specs.Numbers.{equals_itself}
 use Rattle.std.proofs.lemmas.Bool.{or_left, or_right}
 use Rattle.avr_model.specs.declared.assumption.Entry.{Entry}
+use Rattle.avr_model.specs.Assumptions.{has_pairs}
 use Rattle.avr_model.specs.Image.{WORDS}
 use Rattle.avr_model.specs.declared.device.Device.{Device}
 use Rattle.avr_model.specs.declared.device.Device.TheVariants.{M48, M88, M168, M328}
@@ -20,7 +21,7 @@ use Rattle.mask_states.specs.declared.keys.EdgeKind.{EdgeKind}
 use Rattle.mask_states.specs.declared.keys.NodeKey.{NodeKey}
 use Rattle.mask_states.specs.Order.{node_cmp}
 use Rattle.local_rules.specs.declared.local.Node.{Node}
-use Rattle.local_rules.specs.Cover.{IsNode}
+use Rattle.local_rules.specs.Cover.{IsNodeIn}
 use Rattle.local_laws.proofs.AllLaws.{joins_are_least, local_parts_are_nodes}
 use Rattle.edge_rules.specs.declared.edge.Edge.{Edge}
 use Rattle.edge_rules.specs.Edges.{raw_of, Enters, by_call, by_interrupt, IsEdge, moving, entering, returning, target}
@@ -56,7 +57,7 @@ vector_fits : (device : Device) (enables v masks : ℕ) → is_enabled enables v
 vector_fits device enables v masks e b = fits_if enables v masks (is_vector_word v (vector_word device v)) e b (vector_is device v)
 
 -- an entered instance fits
-entered_fits : (words : List ℕ) (A : List Entry) (n : Node) (way : EdgeKind) (inst : InstKey) (back : ℕ) → IsNode n.key n.state → Enters words A n way inst back → fits inst ≡ true
+entered_fits : {followed : Bool} (words : List ℕ) (A : List Entry) (n : Node) (way : EdgeKind) (inst : InstKey) (back : ℕ) → IsNodeIn followed n.key n.state → Enters words A n way inst back → fits inst ≡ true
 entered_fits words A n way inst back node enters = let to = edges_lead_to_nodes.entries words A n way inst back node enters in by way inst back enters to.word to.masks
   where
     by : (way : EdgeKind) (inst : InstKey) (back : ℕ) → Enters words A n way inst back → inst.entry < WORDS → inst.masks < 2 ^ 25 → fits inst ≡ true
@@ -64,7 +65,7 @@ entered_fits words A n way inst back node enters = let to = edges_lead_to_nodes.
     by _ _ _ (by_interrupt offset v clears clean form i delay enabled allowed clearable) word masks = vector_fits (device_of words) n.key.masks v _ enabled masks
 
 -- the instance of an edge's target fits where the node's own does
-target_fits : (words : List ℕ) (A : List Entry) (nodes : List Node) (n : Node) (e : Edge) → IsNode n.key n.state → fits n.key.inst ≡ true → IsEdge words A nodes n e → fits e.to.inst ≡ true
+target_fits : {followed : Bool} (words : List ℕ) (A : List Entry) (nodes : List Node) (n : Node) (e : Edge) → IsNodeIn followed n.key n.state → fits n.key.inst ≡ true → IsEdge words A nodes n e → fits e.to.inst ≡ true
 target_fits words A nodes n _ node own (moving to clean member) =
     let raw = joins_are_least.keys (raw_of words A n).moves to member in
     let same = (local_parts_are_nodes.nodes words A n.key n.state raw.0 node clean raw.1.0).0 in
@@ -96,7 +97,7 @@ module _ (words : List ℕ) (A : List Entry) (n : ℕ) (f : Family) (solved : Is
       by true t is = (t, is)
       by false t is = absurd (cc)
 
-  h_formed : AreFormed h
+  h_formed : AreFormed (has_pairs A) h
   h_formed m has = formed words A n f solved m (parts m.key m.state has).1
 
   h_below : Below h f
@@ -116,8 +117,8 @@ module _ (words : List ℕ) (A : List Entry) (n : ℕ) (f : Family) (solved : Is
       lands_h (target e) (target_fits words A (nodes_of h) m e (h_formed m has) (parts m.key m.state has).0 edge)
       (record { at = l.at; is = l.is; above = states_are_ordered.through e.state p.landed l.at p.above l.above })
 
-  h_root : Lands h reset_node
-  h_root = lands_h reset_node refl (comes_root words A n f solved.comes)
+  h_root : Lands h (reset_node A)
+  h_root = lands_h (reset_node A) refl (comes_root words A n f solved.comes)
 
   pub insts_fit : (inst : InstKey) → HasInst f inst → fits inst ≡ true
   insts_fit inst has =

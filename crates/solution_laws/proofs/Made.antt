@@ -12,6 +12,7 @@ use Rattle.basics.specs.Lists.{get_inside, one_at}
 use Rattle.local_laws.proofs.AllLaws.{node_key}
 use Rattle.family_graph.proofs.Graphs.{keys_long}
 use Rattle.avr_model.specs.declared.assumption.Entry.{Entry}
+use Rattle.avr_model.specs.Assumptions.{has_pairs}
 use Rattle.avr_model.specs.Devices.{device_of, size_of}
 use Rattle.avr_model.proofs.AllLaws.{devices_are_alike}
 use Rattle.abs_state.specs.declared.state.AbsState.{AbsState}
@@ -21,7 +22,7 @@ use Rattle.mask_states.specs.declared.keys.NodeKey.{NodeKey}
 use Rattle.mask_states.specs.Keys.{root_inst}
 use Rattle.mask_states.specs.Order.{inst_cmp, node_cmp, same_inst}
 use Rattle.local_rules.specs.declared.local.Node.{Node}
-use Rattle.local_rules.specs.Cover.{IsNode}
+use Rattle.local_rules.specs.Cover.{IsNodeIn}
 use Rattle.edge_rules.specs.declared.seeded.NodeForm.{NodeForm}
 use Rattle.edge_rules.specs.declared.seeded.NodeForm.TheVariants.{State, From}
 use Rattle.edge_rules.specs.Expansion.{Seeds, IsFilled}
@@ -33,6 +34,7 @@ use Rattle.round_laws.specs.Graphs.{IsGraphOver, valued}
 use Rattle.round_laws.proofs.GraphLaws.{graphs_tell, valued_at}
 use Rattle.certificate.specs.declared.instance.Inst.{Inst}
 use Rattle.certificate.specs.Insts.{fits_kind, IsInst, inst_keys, rank_in, need_in}
+use Rattle.certificate.specs.Versions.{written_by, is_third, AreOf}
 use Rattle.certificate.specs.Claims.{node_keys, cells_of, FitsAt, AreFrom, Belongs, IsClaim}
 use Rattle.round_rules.specs.Families.{Family, node_of, nodes_of, HasInst}
 use Rattle.round_rules.specs.Rounds.{AreRanks, AreNeeds, IsRootNeed}
@@ -97,12 +99,12 @@ no_more (x ∷ xs) = let first : x + 0 ≡ x = omega arith in ap₂ (λ (y : ℕ
 
 -- ---- nodes with their forms
 
-from_all : (seeds : Seeds) (start : ℕ) → ((i : ℕ) (e : NodeKey × NodeForm) → slice_get seeds i ≡ Some e → FitsAt (start + i) e.0 e.1) → AreFrom start seeds
-from_all [] start h = tt
-from_all (e ∷ es) start h =
+from_all : (followed : Bool) (seeds : Seeds) (start : ℕ) → ((i : ℕ) (e : NodeKey × NodeForm) → slice_get seeds i ≡ Some e → FitsAt followed (start + i) e.0 e.1) → AreFrom followed start seeds
+from_all followed [] start h = tt
+from_all followed (e ∷ es) start h =
     let first : start + 0 ≡ start = omega arith in (
-      subst (λ (i : ℕ). FitsAt i e.0 e.1) first (h zero e refl),
-      from_all es (start + 1) (λ i x is. let at : start + suc i ≡ start + 1 + i = omega arith in subst (λ (j : ℕ). FitsAt j x.0 x.1) at (h (suc i) x is)),
+      subst (λ (i : ℕ). FitsAt followed i e.0 e.1) first (h zero e refl),
+      from_all followed es (start + 1) (λ i x is. let at : start + suc i ≡ start + 1 + i = omega arith in subst (λ (j : ℕ). FitsAt followed j x.0 x.1) at (h (suc i) x is)),
     )
 
 keys_of_nodes : (es : List (NodeKey × AbsState)) → map key_of (map node_of es) ≡ map (λ (e : NodeKey × AbsState). e.0) es
@@ -112,6 +114,16 @@ keys_of_nodes (e ∷ es) = ap (λ (l : List NodeKey). e.0 ∷ l) (keys_of_nodes 
 fits_both : (a : Bool) (masks : ℕ) → (a && nat_lt masks (2 ^ 25)) ≡ true → (a ≡ true) × (masks < 2 ^ 25)
 fits_both true masks e = (refl, grind (arith, nat_tests))
 fits_both false masks e = absurd (cc)
+
+-- ---- the version
+
+written_third : (followed : Bool) → is_third (written_by followed) ≡ followed
+written_third false = refl
+written_third true = refl
+
+are_of : (followed : Bool) (seeds : Seeds) → AreOf (written_by followed) seeds
+are_of false seeds = tt
+are_of true seeds = tt
 
 -- ---- the certificate
 
@@ -215,16 +227,16 @@ module _ (words : List ℕ) (A : List Entry) (n : ℕ) (f : Family) (insts : Lis
   are_node_keys : node_keys seeds ≡ map key_of (nodes_of f)
   are_node_keys = sym (filled_or_missing.keys words A seeds (nodes_of f) filled_nodes)
 
-  form_fits : (at : ℕ) (m : Node) (form : NodeForm) → IsNode m.key m.state → IsForm words A (nodes_of f) at m form → FitsAt at m.key form
-  form_fits at m (State s) node h = subst (IsNode m.key) (sym h.0) node
+  form_fits : (at : ℕ) (m : Node) (form : NodeForm) → IsNodeIn (has_pairs A) m.key m.state → IsForm words A (nodes_of f) at m form → FitsAt (has_pairs A) at m.key form
+  form_fits at m (State s) node h = subst (IsNodeIn (has_pairs A) m.key) (sym h.0) node
   form_fits at m (From j) node h = (node_key m.key m.state node, h.0)
 
-  fits_at : (at : ℕ) (e : NodeKey × NodeForm) → slice_get seeds at ≡ Some e → FitsAt at e.0 e.1
+  fits_at : (at : ℕ) (e : NodeKey × NodeForm) → slice_get seeds at ≡ Some e → FitsAt (has_pairs A) at e.0 e.1
   fits_at at e is =
       let m = get_inside (nodes_of f) at (omega (arith, slice_get_within seeds at e is, parts.forms.count)) in
       let h = parts.forms.each at m.0 m.1 in
       let node = formed words A n f solved m.0 (has_member f m.0 (contained_at (nodes_of f) at m.0 m.1)) in
-      subst (λ (x : NodeKey × NodeForm). FitsAt at x.0 x.1) (one_at seeds at (m.0.key, h.0) e h.1.0 is) (form_fits at m.0 h.0 node h.1.1)
+      subst (λ (x : NodeKey × NodeForm). FitsAt (has_pairs A) at x.0 x.1) (one_at seeds at (m.0.key, h.0) e h.1.0 is) (form_fits at m.0 h.0 node h.1.1)
 
   belongs : (i : ℕ) (k : NodeKey) → slice_get (map key_of (nodes_of f)) i ≡ Some k → Belongs insts k
   belongs i k e =
@@ -239,12 +251,13 @@ module _ (words : List ℕ) (A : List Entry) (n : ℕ) (f : Family) (insts : Lis
     insts_fit = all_of IsInst insts is_inst;
     insts_ascend = subst (IsStrictlySortedBy inst_cmp) (sym are_keys) parts.of.ascending;
     few_insts = omega (arith, few_graph, parts.insts_are.count);
-    nodes_fit = from_all seeds 0 (λ i e is. let at : i ≡ 0 + i = omega arith in subst (λ (j : ℕ). FitsAt j e.0 e.1) at (fits_at i e is));
+    nodes_fit = from_all (has_pairs A) seeds 0 (λ i e is. let at : i ≡ 0 + i = omega arith in subst (λ (j : ℕ). FitsAt (has_pairs A) j e.0 e.1) at (fits_at i e is));
     nodes_belong = subst (AllByRecursion (Belongs insts)) (sym are_node_keys) (all_of (Belongs insts) (map key_of (nodes_of f)) belongs);
     nodes_ascend = subst (IsStrictlySortedBy node_cmp) (sym are_node_keys) (ascending f);
     few_nodes = omega (arith, parts.forms.count, few words A n f solved);
     few_cells = subst (λ (l : List NodeKey). cells_of l ≤ 8388608) (sym (are_node_keys ∙ keys_of_nodes (entries f))) solved.passes.fits.few_cells;
-    of_version = tt;
+    of_version = are_of (has_pairs A) seeds;
+    of_list = written_third (has_pairs A);
   }
 
   pub solution : IsSolution words A f (claim_of (slice_index parts.needs 0) A insts seeds)

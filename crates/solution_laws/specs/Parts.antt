@@ -9,7 +9,7 @@ use Rattle.nesting_bound.specs.declared.graph.GraphInst.{GraphInst}
 use Rattle.nesting_bound.specs.Graph.{IsGraph}
 use Rattle.nesting_bound.specs.Least.{IsLeast}
 use Rattle.family_graph.specs.Graphs.{IsGraphOf}
-use Rattle.certificate.specs.declared.version.Version.TheVariants.{Two}
+use Rattle.certificate.specs.Versions.{written_version}
 use Rattle.certificate.specs.declared.instance.Inst.{Inst}
 use Rattle.certificate.specs.Claims.{Claim}
 use Rattle.round_rules.specs.Families.{Family, nodes_of}
@@ -53,6 +53,6 @@ pub record AreParts (words : List ℕ) (A : List Entry) (f : Family) (insts : Li
   pub insts_are : AreInsts graph ranks needs insts
   pub forms : AreForms words A (nodes_of f) seeds
 
--- the certificate of the second version of these parts with this bound, without a schedule
+-- the certificate of these parts with this bound, without a schedule, in the version that the assumptions ask for
 abbrev pub claim_of : ℕ → List Entry → List Inst → Seeds → Claim
-claim_of bound A insts seeds = record { version = Two; bound = bound; assumptions = A; instances = insts; nodes = seeds; witness = None }
+claim_of bound A insts seeds = record { version = written_version A; bound = bound; assumptions = A; instances = insts; nodes = seeds; witness = None }

@@ -50,4 +50,4 @@ pub returns-clause-least : goal.returns-clause-least
 returns-clause-least c =
     least c.args.flash.now c.args.assumptions.now c.args.certificate.now c.args.nodes.now c.requires.filled c.in_ok-reached.reached c.in_ok-reached.ensures.reached c.in_ok-deepest.deepest.need
     c.in_ok-deepest.deepest.links c.in_ok-deepest.ensures.deepest c.in_ok-deepest.ensures.root c.as_slice-links.result.now c.as_slice-links.ensures c.in_ok-parts.parts c.in_ok-parts.ensures
-    c.filled_or_missing.ensures c.rounds_are_reached.ensures (reset_has c.args.nodes.now c.requires.meets.reset) c.in_ok-deepest.ensures.bounded
+    c.filled_or_missing.ensures c.rounds_are_reached.ensures (reset_has c.args.assumptions.now c.args.nodes.now c.requires.meets.reset) c.in_ok-deepest.ensures.bounded

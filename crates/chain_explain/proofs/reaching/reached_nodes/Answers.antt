@@ -13,7 +13,7 @@ use Rattle.chain_explain.proofs.Stepped.{reset_has}
 use Rattle.chain_explain.proofs.reaching.reached_nodes.Goals as goal
 
 pub number_of-root-requires : goal.number_of-root-requires
-number_of-root-requires c = subst (HasKey c.args.nodes.now) (sym (c.entry.ensures ∙ ap entry_key c.root.ensures)) (reset_has c.args.nodes.now c.requires.reset)
+number_of-root-requires c = subst (HasKey c.args.nodes.now) (sym (c.entry.ensures ∙ ap entry_key c.root.ensures)) (reset_has c.args.assumptions.now c.args.nodes.now c.requires.reset)
 
 pub overflow_cast-root : goal.overflow_cast-root
 overflow_cast-root c =

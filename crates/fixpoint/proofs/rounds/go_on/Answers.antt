@@ -1,4 +1,5 @@
 use Rattle.std.proofs.Common.{arith}
+use Rattle.avr_model.specs.Assumptions.{has_pairs}
 use Rattle.round_rules.specs.declared.refusal.Refusal.TheVariants.{Memory}
 use Rattle.round_rules.specs.Solutions.{IsWhyNot}
 use Rattle.fixpoint.proofs.Ready.{handed_on}
@@ -24,12 +25,12 @@ returns-in_err-nodes-clause-why_not c =
     (why_stopped c.args.flash.now c.args.assumptions.now c.args.steps c.rounds.left c.rounds.table c.rounds.counted c.rounds.work.items c.rounds.notes c.rounds.invariant
     c.in_err-nodes.field-0.0 c.in_err-nodes.ensures.stopped)
 
-pub join_all-requires-clause-formed : goal.join_all-requires-clause-formed
-join_all-requires-clause-formed c =
-    formed c.args.flash.now c.args.assumptions.now c.args.steps c.rounds.left c.rounds.table c.rounds.counted c.rounds.work.items c.rounds.notes c.rounds.invariant
-
-pub join_all-requires-clause-nodes : goal.join_all-requires-clause-nodes
-join_all-requires-clause-nodes c = c.in_ok-nodes.ensures.ready.round.formed
+pub join_all-requires-clause-fit : goal.join_all-requires-clause-fit
+join_all-requires-clause-fit c = record {
+  followed = has_pairs c.args.assumptions.now;
+  formed = formed c.args.flash.now c.args.assumptions.now c.args.steps c.rounds.left c.rounds.table c.rounds.counted c.rounds.work.items c.rounds.notes c.rounds.invariant;
+  nodes = c.in_ok-nodes.ensures.ready.round.formed;
+}
 
 pub join_all-requires-clause-count : goal.join_all-requires-clause-count
 join_all-requires-clause-count c = c.rounds.invariant.counted

@@ -1,0 +1,18 @@
+//! What is known at reset.
+
+ghost use Rattle.std.specs.Prelude.{◌≡◌, IfOk};
+ghost use Rattle.edge_rules.specs.Roots.{root_of};
+
+use abs_state::AbsState;
+use std::alloc::{AllocError, Global};
+use vector_table::Assumptions;
+
+/// What is known in the root's frame at reset. Pairs of registers are followed exactly where the assumptions have the line `pairs`.
+pub fn root_of(alloc: Global, assumptions: &Assumptions) -> Result<AbsState, AllocError>
+    ensures { IfOk result (λ s. s ≡ root_of assumptions.now) }
+{
+    if assumptions.has_pairs() {
+        return AbsState::following_root(alloc);
+    }
+    Ok(AbsState::root(alloc))
+}
