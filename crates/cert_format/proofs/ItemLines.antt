@@ -1,5 +1,5 @@
 -- The lines of instances and nodes: what is read is spelled so, and what is spelled is read.
-use Rattle.std.proofs.Common.{ℕ, ◌<◌, ◌≤◌, ◌≡◌, List, [], ◌∷◌, ◌++◌, codes, refl, ap, ◌∙◌, arith, Some, None, cond, subst, lit<, slice_get}
+use Rattle.std.proofs.Common.{Bool, ℕ, ◌<◌, ◌≤◌, ◌≡◌, List, [], ◌∷◌, ◌++◌, codes, refl, ap, ◌∙◌, arith, Some, None, cond, subst, lit<, slice_get}
 use Rattle.std.specs.List.{AllByRecursion}
 use Rattle.std.specs.Fmt.{decimal}
 use Rattle.std.proofs.lemmas.List.{append-nil}
@@ -18,7 +18,7 @@ use Rattle.certificate.specs.declared.instance.Inst.{Inst}
 use Rattle.certificate.specs.declared.version.Version.{Version}
 use Rattle.certificate.specs.Insts.{IsInst}
 use Rattle.certificate.specs.Claims.{FitsAt}
-use Rattle.certificate.specs.Versions.{NodeIsOf}
+use Rattle.certificate.specs.Versions.{NodeIsOf, is_third}
 use Rattle.cert_words.specs.KeySpelling.{inst_key_words, place_words, form_words}
 use Rattle.cert_words.specs.Text.{inst_words, node_words_at}
 use Rattle.cert_words.specs.KeyReading.{is_root, inst_key_at, form_at}
@@ -128,26 +128,26 @@ node_take k v version insts at ws n e =
       of_version = record { key = front.of_version; form = form.2 };
     })
 
-key_of : (at : ℕ) (key : NodeKey) (form : NodeForm) → FitsAt at key form → IsKey key
-key_of at key (State s) h = record { word = h.word; small = h.small; masks = h.masks; fits = h.fits; pick = h.pick }
-key_of at key (From m) h = h.0
+key_of : (followed : Bool) (at : ℕ) (key : NodeKey) (form : NodeForm) → FitsAt followed at key form → IsKey key
+key_of followed at key (State s) h = record { word = h.word; small = h.small; masks = h.masks; fits = h.fits; pick = h.pick }
+key_of followed at key (From m) h = h.0
 
-node_again : WordLaws → KeyWords → (version : Version) (insts : List Inst) (at place : ℕ) (n : NodeKey × NodeForm) → at ≤ 65536 → place < 65536 → IsInstanceOf insts place n.0 → FitsAt at n.0 n.1 → NodeIsOf version n
+node_again : WordLaws → KeyWords → (version : Version) (insts : List Inst) (at place : ℕ) (n : NodeKey × NodeForm) → at ≤ 65536 → place < 65536 → IsInstanceOf insts place n.0 → FitsAt (is_third version) at n.0 n.1 → NodeIsOf version n
     → node_in version insts at (node_words_at version place n) ≡ Some n
 unfolding node_in whole_key_at
 node_again k v version insts at place n few small i h o =
     let rest : List (List ℕ) = place_words version n.0 ++ form_words version n.1 in
     let first : place_at insts (node_words_at version place n) ≡ Some (n.0.inst, rest) = place_again k insts place i.inst rest small i.there ∙ ap (λ (x : InstKey). Some (x, rest)) i.same in
-    let key = v.places.read version n.0 (form_words version n.1) (key_of at n.0 n.1 h) o.key in
+    let key = v.places.read version n.0 (form_words version n.1) (key_of (is_third version) at n.0 n.1 h) o.key in
     let form = v.forms.read version at n.0 n.1 few h o.form in
     rw (first, key, form) refl
 
-node_plain : WordLaws → KeyWords → (version : Version) (at place : ℕ) (n : NodeKey × NodeForm) → at ≤ 65536 → place < 65536 → FitsAt at n.0 n.1 → NodeIsOf version n → AllByRecursion IsWord (node_words_at version place n)
+node_plain : WordLaws → KeyWords → (version : Version) (at place : ℕ) (n : NodeKey × NodeForm) → at ≤ 65536 → place < 65536 → FitsAt (is_third version) at n.0 n.1 → NodeIsOf version n → AllByRecursion IsWord (node_words_at version place n)
 node_plain k v version at place n few small h o = (
   ((refl, (refl, (refl, (refl, tt)))), (refl, (refl, (refl, (refl, tt))))),
   (
     k.dec_word place (omega (arith, small)),
-    joined_words (place_words version n.0) (form_words version n.1) (v.places.words version n.0 (key_of at n.0 n.1 h)) (v.forms.words version at n.0 n.1 few h o.form),
+    joined_words (place_words version n.0) (form_words version n.1) (v.places.words version n.0 (key_of (is_third version) at n.0 n.1 h)) (v.forms.words version at n.0 n.1 few h o.form),
   ),
 )
 

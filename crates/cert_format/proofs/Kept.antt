@@ -14,7 +14,7 @@ use Rattle.line_reading.specs.Words.{IsWord, WordLaws}
 use Rattle.vector_table.specs.Entries.{AreEntries, is_entry, is_above_last, most_entries}
 use Rattle.indirect_targets.specs.Spelling.{entry_words}
 use Rattle.indirect_targets.specs.Exact.{EntryWords}
-use Rattle.indirect_targets.proofs.AllLaws.{pushed, none_are_entries, follows, entry_is_words}
+use Rattle.indirect_targets.proofs.AllLaws.{pushed, follows, entry_is_words}
 use Rattle.mask_states.specs.declared.keys.InstKey.{InstKey}
 use Rattle.mask_states.specs.declared.keys.NodeKey.{NodeKey}
 use Rattle.mask_states.specs.Keys.{offset_of}
@@ -29,15 +29,18 @@ use Rattle.cert_format.specs.declared.fault.CertFault.TheVariants as fault
 use Rattle.certificate.specs.declared.limit.Limit.TheVariants as limit
 use Rattle.certificate.specs.Insts.{IsInst, inst_keys}
 use Rattle.certificate.specs.Claims.{cells_of, most_cells, most_instances, node_keys, FitsAt, AreFrom, Belongs}
-use Rattle.certificate.specs.Versions.{NodeIsOf}
+use Rattle.certificate.specs.Versions.{NodeIsOf, is_third}
 use Rattle.cert_words.specs.Text.{inst_words, place_of, node_words, node_words_at}
 use Rattle.cert_format.specs.LineLaws.{InstLines, NodeLines, IsInstanceOf}
-use Rattle.cert_format.specs.Reading.{entry_by, inst_by, node_by, last_in, is_inst_above, is_node_above, refused_entry, refused_inst, refused_node}
+use Rattle.cert_format.specs.Reading.{is_admitted, entry_by, inst_by, node_by, last_in, is_inst_above, is_node_above, refused_entry, refused_inst, refused_node}
 use Rattle.cert_format.proofs.Items.{cells_more}
 use Rattle.cert_format.proofs.Lists.{Admitted, Steady, Spells, Reads, AllFrom, any_of_all, kept_by, admitted_by, is_after, sorted_push, sorted_at}
 use Rattle.certificate.proofs.Instances.{key_at}
 use Rattle.cert_words.proofs.AllLaws.{place_unique, has_place}
-use Rattle.std.proofs.lemmas.Option.{slice_get_within}
+use Rattle.std.proofs.lemmas.Option.{slice_get_within, cond_some}
+use Rattle.line_reading.proofs.AllLaws.{bind_some}
+use Rattle.avr_model.specs.Assumptions.{has_pairs}
+use Rattle.cert_format.proofs.FirstEntries.{mode_kept}
 
 -- ---- a test before a fault
 
@@ -53,8 +56,9 @@ if_none b f e = rw e refl
 abbrev pub FitsEntry : Entry → Type 0
 FitsEntry e = is_entry e ≡ true
 
-abbrev pub AnyEntry : ℕ → Entry → Type 0
-AnyEntry at e = FitsEntry e
+-- one of the third version, or of another
+abbrev pub EntryOf : Bool → ℕ → Entry → Type 0
+EntryOf third at e = FitsEntry e × (is_admitted third e ≡ true)
 
 pub entry_steady : Steady refused_entry
 entry_steady es e a b h = if_none (is_above_last es e) (fault.Order b) (none_if (is_above_last es e) (fault.Order a) h)
@@ -62,22 +66,41 @@ entry_steady es e a b h = if_none (is_above_last es e) (fault.Order b) (none_if 
 abbrev AreFew : List Entry → Type 0
 AreFew es = length es ≤ most_entries → AreEntries es
 
-entry_pushed : (es : List Entry) (e : Entry) → AreFew es → FitsEntry e → ((at : ℕ) → refused_entry es e at ≡ None) → AreFew (es ++ e ∷ [])
-entry_pushed es e h f none = λ few.
-    let n = length-append es (e ∷ []) in
-    pushed es e (h (omega arith)) (record { room = omega arith; formed = f; above = none_if (is_above_last es e) (fault.Order 0) (none 0) })
+pub record EntriesKeep (third : Bool) (es : List Entry) : Type 0 where
+  pub are : AreFew es
+  pub mode : has_pairs es ≡ third
 
-pub entries_kept : (es : List Entry) → length es ≤ most_entries → Admitted AnyEntry refused_entry [] es → AreEntries es
-entries_kept es few h = kept_by AnyEntry refused_entry AreFew entry_pushed [] es (λ _. none_are_entries) h few
+entry_pushed : (third : Bool) (es : List Entry) (e : Entry) → EntriesKeep third es → EntryOf third (length es) e → ((at : ℕ) → refused_entry es e at ≡ None) → EntriesKeep third (es ++ e ∷ [])
+entry_pushed third es e h f none =
+    let P : Bool → Type 0 = λ b. is_admitted b e ≡ true in
+    record {
+      are = λ few.
+          let n = length-append es (e ∷ []) in
+          pushed es e (h.are (omega arith)) (record { room = omega arith; formed = f.0; above = none_if (is_above_last es e) (fault.Order 0) (none 0) });
+      mode = mode_kept es e (subst P (sym h.mode) f.1) ∙ h.mode;
+    }
+
+pub entries_kept : (third : Bool) (front es : List Entry) → EntriesKeep third front → Admitted (EntryOf third) refused_entry front es → EntriesKeep third (front ++ es)
+entries_kept third front es q h = kept_by (EntryOf third) refused_entry (EntriesKeep third) (entry_pushed third) front es q h
 
 entry_follows : (es : List Entry) (e : Entry) (more : List Entry) → AreEntries (es ++ e ∷ more) → (at : ℕ) → refused_entry es e at ≡ None
 entry_follows es e more h at = if_none (is_above_last es e) (fault.Order at) (follows es e more h).above
 
-pub entries_admitted : (es : List Entry) → AreEntries es → AllByRecursion FitsEntry es → Admitted AnyEntry refused_entry [] es
-entries_admitted es h all = admitted_by AnyEntry refused_entry AreEntries entry_follows [] es h (any_of_all FitsEntry 0 es all)
+both_of : (third : Bool) (at : ℕ) (es : List Entry) → AllByRecursion FitsEntry es → AllByRecursion (λ e. is_admitted third e ≡ true) es → AllFrom (EntryOf third) at es
+both_of third at [] h g = tt
+both_of third at (e ∷ es) h g = ((h.0, g.0), both_of third (at + 1) es h.1 g.1)
 
-pub entry_spells : WordLaws → EntryWords → Spells (λ at. entry_by) entry_words AnyEntry
-entry_spells k w at text e h = let t = w.spelled (words_of text) e h in (sym (k.line_words text) ∙ ap spaced t.0, t.1)
+pub entries_admitted : (third : Bool) (front es : List Entry) → AreEntries (front ++ es) → AllByRecursion FitsEntry es → AllByRecursion (λ e. is_admitted third e ≡ true) es
+    → Admitted (EntryOf third) refused_entry front es
+entries_admitted third front es h all placed = admitted_by (EntryOf third) refused_entry AreEntries entry_follows front es h (both_of third (length front) es all placed)
+
+pub entry_spells : WordLaws → EntryWords → (third : Bool) → Spells (λ at. entry_by third) entry_words (EntryOf third)
+entry_spells k w third at text e h =
+    let x = bind_some (entry_in (words_of text)) _ e h in
+    let last = cond_some {A = Entry} (is_admitted third x.0) x.0 e x.2 in
+    let t = w.spelled (words_of text) x.0 x.1 in
+    let P : Entry → Type 0 = λ y. (text ≡ spaced (entry_words y)) × EntryOf third at y in
+    subst P last.1 (sym (k.line_words text) ∙ ap spaced t.0, (t.1, last.0))
 
 stand_words : WordLaws → (ws : List (List ℕ)) → ws ≢ [] → AllByRecursion IsWord ws → words_of (spaced ws) ≡ ws
 stand_words k [] some h = absurd (some refl)
@@ -92,8 +115,10 @@ entry_some (Free site) h = cc
 entry_some (Never site) h = cc
 entry_some (Frame site) h = cc
 
-pub entry_reads : WordLaws → EntryWords → Reads (λ at. entry_by) entry_words AnyEntry
-entry_reads k w at e few h = ap entry_in (stand_words k (entry_words e) (entry_some e) (entry_is_words k e h)) ∙ w.read e h
+pub entry_reads : WordLaws → EntryWords → (third : Bool) → Reads (λ at. entry_by third) entry_words (EntryOf third)
+entry_reads k w third at e few h =
+    let read : entry_in (words_of (spaced (entry_words e))) ≡ Some e = ap entry_in (stand_words k (entry_words e) (entry_some e) (entry_is_words k e h.0)) ∙ w.read e h.0 in
+    rw (read, h.1) refl
 
 -- ---- instances
 
@@ -142,7 +167,7 @@ inst_reads k l at x few h = ap inst_in (k.words_stand (codes "inst") _ (l.words 
 -- ---- nodes
 
 abbrev pub FitsNode : Version → List Inst → ℕ → NodeKey × NodeForm → Type 0
-FitsNode version insts at n = FitsAt at n.0 n.1 × Belongs insts n.0 × NodeIsOf version n
+FitsNode version insts at n = FitsAt (is_third version) at n.0 n.1 × Belongs insts n.0 × NodeIsOf version n
 
 pub node_above_is : (ns : Seeds) (key : NodeKey) → is_node_above (last_in ns) key ≡ is_after node_cmp (node_keys ns) key
 node_above_is [] key = refl
@@ -236,7 +261,7 @@ node_is_plain l o version insts few at n most h =
     let within = slice_get_within insts (place_of n.0.inst insts) t.inst t.there in
     l.words version at (place_of n.0.inst insts) n most (omega (arith, within, few)) h.0 h.2
 
-pub all_from : (version : Version) (insts : List Inst) (at : ℕ) (ns : Seeds) → AllFrom (FitsNode version insts) at ns → AreFrom at ns
+pub all_from : (version : Version) (insts : List Inst) (at : ℕ) (ns : Seeds) → AllFrom (FitsNode version insts) at ns → AreFrom (is_third version) at ns
 all_from version insts at [] h = tt
 all_from version insts at (n ∷ ns) h = (h.0.0, all_from version insts (at + 1) ns h.1)
 
@@ -248,6 +273,6 @@ pub all_of_version : (version : Version) (insts : List Inst) (at : ℕ) (ns : Se
 all_of_version version insts at [] h = tt
 all_of_version version insts at (n ∷ ns) h = (h.0.2, all_of_version version insts (at + 1) ns h.1)
 
-pub all_fit : (version : Version) (insts : List Inst) (at : ℕ) (ns : Seeds) → AreFrom at ns → AllByRecursion (Belongs insts) (node_keys ns) → AllByRecursion (λ n. NodeIsOf version n) ns → AllFrom (FitsNode version insts) at ns
+pub all_fit : (version : Version) (insts : List Inst) (at : ℕ) (ns : Seeds) → AreFrom (is_third version) at ns → AllByRecursion (Belongs insts) (node_keys ns) → AllByRecursion (λ n. NodeIsOf version n) ns → AllFrom (FitsNode version insts) at ns
 all_fit version insts at [] h g o = tt
 all_fit version insts at (n ∷ ns) h g o = ((h.0, g.0, o.0), all_fit version insts (at + 1) ns h.1 g.1 o.1)

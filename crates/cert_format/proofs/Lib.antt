@@ -2,6 +2,7 @@ pub mod Items
 pub mod Versions
 pub mod ItemLines
 pub mod Lists
+pub mod FirstEntries
 pub mod Kept
 pub mod Parts
 pub mod Numbers

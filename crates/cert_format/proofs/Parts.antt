@@ -1,5 +1,5 @@
 -- The parts of a certificate: what is read is spelled so, and what is spelled is read.
-use Rattle.std.proofs.Common.{ℕ, ◌+◌, ◌<◌, ◌≤◌, ◌^◌, ◌≡◌, ◌==◌, ◌&&◌, inl, inr, List, [], ◌∷◌, ◌++◌, length, map, codes, Bool, true, false, not, refl, ap, sym, ◌∙◌, arith, Option, Some, None, Result, Ok, Err, subst, lit<, append_assoc}
+use Rattle.std.proofs.Common.{nat_le, ℕ, ◌+◌, ◌<◌, ◌≤◌, ◌^◌, ◌≡◌, ◌==◌, ◌&&◌, inl, inr, List, [], ◌∷◌, ◌++◌, length, map, codes, Bool, true, false, not, refl, ap, sym, ◌∙◌, arith, Option, Some, None, Result, Ok, Err, subst, lit<, append_assoc}
 use Rattle.std.specs.Prelude.{IfSome}
 use Rattle.std.specs.List.{AllByRecursion, flat_map}
 use Rattle.std.specs.Fmt.{decimal}
@@ -8,6 +8,7 @@ use Rattle.std.proofs.lemmas.List.{map-append}
 use Rattle.std.proofs.lemmas.Slice.Eq.{bytes_eq-Decides}
 use Rattle.std.proofs.lemmas.Bool.{not-true, and_parts}
 use Rattle.basics.specs.Lists.{chosen}
+use Rattle.basics.specs.Numbers.{at_most_from_test, test_from_at_most}
 use Rattle.std.proofs.lemmas.Option.{same_Some, none-some, cond_some}
 use Rattle.witness_replay.proofs.Exact.{as_words}
 use Rattle.avr_model.specs.State.{SIZE}
@@ -25,7 +26,7 @@ use Rattle.cert_format.specs.declared.fault.CertFault.{CertFault}
 use Rattle.cert_format.specs.declared.fault.CertFault.TheVariants as fault
 use Rattle.certificate.specs.Claims.{most_nodes}
 use Rattle.certificate.specs.declared.version.Version.{Version}
-use Rattle.certificate.specs.declared.version.Version.TheVariants.{One, Two}
+use Rattle.certificate.specs.declared.version.Version.TheVariants.{One, Two, Three}
 use Rattle.cert_words.specs.Text.{numbered, version_line, heading, open_line, attained_line, witness_lines, end_line}
 use Rattle.cert_format.specs.Reading.{formed, numbered_in, numbered_by, counted, count_at, count_in, count_by, limited, version_by, ending_by, items_from, heading_at, plan_if, witness_at, if_last, end_at}
 use Rattle.cert_words.proofs.AllLaws.{same_text, word_take, dec_take}
@@ -98,30 +99,36 @@ this_take ws p z e =
 pub this_line : (ws : List (List ℕ)) (p q : Place) → Stand p (ws ∷ []) q → formed (line_by (this_by (spaced ws)) p) ≡ Ok (tt, q)
 this_line ws p q h = ap formed (line_again (this_by (spaced ws)) p q (spaced ws) tt (this_again (spaced ws)) h)
 
-numbered_take : WordLaws → (name : List ℕ) (most n : ℕ) (ws : List (List ℕ)) → most < 2 ^ 64 → numbered_in name most ws ≡ Some n → (ws ≡ numbered name n) × (n ≤ most)
+numbered_take : WordLaws → (name : List ℕ) (least most n : ℕ) (ws : List (List ℕ)) → most < 2 ^ 64 → numbered_in name least most ws ≡ Some n → (ws ≡ numbered name n) × (least ≤ n) × (n ≤ most)
 unfolding numbered_in
-numbered_take k name most n ws room e =
+numbered_take k name least most n ws room e =
     let w = bind_some (word_at name ws) _ n e in
     let d = bind_some (dec_at most w.0.1) _ n w.2 in
-    let last = cond_some (is_over d.0.1) d.0.0 n d.2 in
+    let last = cond_some (nat_le least d.0.0 && is_over d.0.1) d.0.0 n d.2 in
+    let tests = and_parts (nat_le least d.0.0) (is_over d.0.1) last.0 in
     let t = dec_take k most w.0.1 d.0 room d.1 in
-    let P : ℕ → Type 0 = λ y. (ws ≡ numbered name y) × (y ≤ most) in
-    subst P last.1 (word_take name ws w.0 w.1 ∙ ap (λ (xs : List (List ℕ)). name ∷ xs) (t.0 ∙ ap (λ (xs : List (List ℕ)). decimal d.0.0 ∷ xs) (no_words d.0.1 last.0)), t.1)
+    let P : ℕ → Type 0 = λ y. (ws ≡ numbered name y) × (least ≤ y) × (y ≤ most) in
+    subst P last.1 (
+      word_take name ws w.0 w.1 ∙ ap (λ (xs : List (List ℕ)). name ∷ xs) (t.0 ∙ ap (λ (xs : List (List ℕ)). decimal d.0.0 ∷ xs) (no_words d.0.1 tests.1)),
+      at_most_from_test least d.0.0 tests.0,
+      t.1,
+    )
 
-pub numbered_again : WordLaws → (name : List ℕ) (most n : ℕ) → most < 2 ^ 64 → n ≤ most → numbered_in name most (numbered name n) ≡ Some n
+pub numbered_again : WordLaws → (name : List ℕ) (least most n : ℕ) → most < 2 ^ 64 → least ≤ n → n ≤ most → numbered_in name least most (numbered name n) ≡ Some n
 unfolding numbered_in
-numbered_again k name most n room h = let t = k.dec_taken most n [] room h in rw (same_text name, t) refl
+numbered_again k name least most n room large h = let t = k.dec_taken most n [] room h in rw (same_text name, t, test_from_at_most least n large) refl
 
-pub number_take : WordLaws → (name : List ℕ) (most : ℕ) (p : Place) (z : ℕ × Place) → most < 2 ^ 64 → formed (line_by (numbered_by name most) p) ≡ Ok z → Stand p (numbered name z.0 ∷ []) z.1 × (z.0 ≤ most)
-number_take k name most p z room e =
-    let l = line_takes (numbered_by name most) p z.0 z.1 (formed_ok (line_by (numbered_by name most) p) z e) in
-    let t = numbered_take k name most z.0 (words_of l.text) room l.read in
-    (as_words (numbered_by name most) p z.0 z.1 l (numbered name z.0) (sym (k.line_words l.text) ∙ ap spaced t.0), t.1)
+pub number_take : WordLaws → (name : List ℕ) (least most : ℕ) (p : Place) (z : ℕ × Place) → most < 2 ^ 64 → formed (line_by (numbered_by name least most) p) ≡ Ok z
+    → Stand p (numbered name z.0 ∷ []) z.1 × (least ≤ z.0) × (z.0 ≤ most)
+number_take k name least most p z room e =
+    let l = line_takes (numbered_by name least most) p z.0 z.1 (formed_ok (line_by (numbered_by name least most) p) z e) in
+    let t = numbered_take k name least most z.0 (words_of l.text) room l.read in
+    (as_words (numbered_by name least most) p z.0 z.1 l (numbered name z.0) (sym (k.line_words l.text) ∙ ap spaced t.0), t.1, t.2)
 
-pub number_line : WordLaws → (name : List ℕ) (most n : ℕ) (p q : Place) → IsWord name → most < 2 ^ 64 → n ≤ most → Stand p (numbered name n ∷ []) q → formed (line_by (numbered_by name most) p) ≡ Ok (n, q)
-number_line k name most n p q word room small h =
-    ap formed (line_again (numbered_by name most) p q (spaced (numbered name n)) n
-    (ap (numbered_in name most) (k.words_stand name (decimal n ∷ []) (numbered_plain k name n word (omega (arith, small, room)))) ∙ numbered_again k name most n room small) h)
+pub number_line : WordLaws → (name : List ℕ) (least most n : ℕ) (p q : Place) → IsWord name → most < 2 ^ 64 → least ≤ n → n ≤ most → Stand p (numbered name n ∷ []) q → formed (line_by (numbered_by name least most) p) ≡ Ok (n, q)
+number_line k name least most n p q word room large small h =
+    ap formed (line_again (numbered_by name least most) p q (spaced (numbered name n)) n
+    (ap (numbered_in name least most) (k.words_stand name (decimal n ∷ []) (numbered_plain k name n word (omega (arith, small, room)))) ∙ numbered_again k name least most n room large small) h)
 
 -- ---- how many nodes there are
 
@@ -197,13 +204,17 @@ version_is t version e =
     let P : Version → Type 0 = λ x. t ≡ spaced (version_line x) in
     elim (chosen (bytes_eq t (spaced (version_line One))) _ _ (Some version) e) [
       | inl h ↦ subst P (same_Some One version h.1) ((bytes_eq-Decides t (spaced (version_line One))).0 h.0)
-      | inr h ↦ let g = cond_some (bytes_eq t (spaced (version_line Two))) Two version h.1 in subst P g.1 ((bytes_eq-Decides t (spaced (version_line Two))).0 g.0)
+      | inr h ↦ elim (chosen (bytes_eq t (spaced (version_line Two))) _ _ (Some version) h.1) [
+        | inl f ↦ subst P (same_Some Two version f.1) ((bytes_eq-Decides t (spaced (version_line Two))).0 f.0)
+        | inr f ↦ let g = cond_some (bytes_eq t (spaced (version_line Three))) Three version f.1 in subst P g.1 ((bytes_eq-Decides t (spaced (version_line Three))).0 g.0)
+      ]
     ]
 
 pub version_again : (version : Version) → version_by (spaced (version_line version)) ≡ Some version
 unfolding version_by
 version_again One = refl
 version_again Two = refl
+version_again Three = refl
 
 pub version_take : (p : Place) (z : Version × Place) → formed (line_by version_by p) ≡ Ok z → Stand p (version_line z.0 ∷ []) z.1
 version_take p z e =
@@ -213,23 +224,24 @@ version_take p z e =
 pub version_plain : (version : Version) → AllByRecursion IsWord (version_line version)
 version_plain One = plain (version_line One) refl
 version_plain Two = plain (version_line Two) refl
+version_plain Three = plain (version_line Three) refl
 
 pub heading_take : WordLaws → (p : Place) (z : (Version × ℕ) × Place) → heading_at p ≡ Ok z → Stand p (heading z.0.0 z.0.1) z.1 × (z.0.1 ≤ SIZE)
 unfolding heading_at
 heading_take k p z e =
     let v = then_ok (formed (line_by version_by p)) _ z e in
-    let n = then_ok (formed (line_by (numbered_by (codes "bound") SIZE) v.0.1)) _ z v.2 in
-    let b = number_take k (codes "bound") SIZE v.0.1 n.0 (lit< tt) n.1 in
+    let n = then_ok (formed (line_by (numbered_by (codes "bound") 0 SIZE) v.0.1)) _ z v.2 in
+    let b = number_take k (codes "bound") 0 SIZE v.0.1 n.0 (lit< tt) n.1 in
     let P : (Version × ℕ) × Place → Type 0 = λ y. Stand p (heading y.0.0 y.0.1) y.1 × (y.0.1 ≤ SIZE) in
     subst P (ok_is {A = (Version × ℕ) × Place} ((v.0.0, n.0.0), n.0.1) z n.2)
-    (passes_more p v.0.1 n.0.1 (whole (version_line v.0.0) ∷ []) (whole (numbered (codes "bound") n.0.0) ∷ []) (version_take p v.0 v.1) b.0, b.1)
+    (passes_more p v.0.1 n.0.1 (whole (version_line v.0.0) ∷ []) (whole (numbered (codes "bound") n.0.0) ∷ []) (version_take p v.0 v.1) b.0, b.2)
 
 pub heading_again : WordLaws → (p : Place) (version : Version) (n : ℕ) (q : Place) → n ≤ SIZE → Stand p (heading version n) q → heading_at p ≡ Ok ((version, n), q)
 unfolding heading_at
 heading_again k p version n q small h =
     let s = passes_split p q (whole (version_line version)) (whole (numbered (codes "bound") n) ∷ []) h in
     let first : formed (line_by version_by p) ≡ Ok (version, s.0) = ap formed (line_again version_by p s.0 (spaced (version_line version)) version (version_again version) s.1) in
-    let second = number_line k (codes "bound") SIZE n s.0 q (plain (codes "bound" ∷ []) refl).0 (lit< tt) small s.2 in
+    let second = number_line k (codes "bound") 0 SIZE n s.0 q (plain (codes "bound" ∷ []) refl).0 (lit< tt) (omega arith) small s.2 in
     rw (first, second) refl
 
 -- ---- the schedule

@@ -1,5 +1,5 @@
 -- Each refusal is due: what stands before it are the first lines of a certificate, and the line there tells why.
-use Rattle.std.proofs.Common.{ℕ, ◌+◌, ◌<◌, ◌≤◌, ◌^◌, ◌≡◌, List, [], ◌∷◌, ◌++◌, length, map, codes, Bool, true, false, refl, ap, sym, ◌∙◌, arith, Option, Some, None, Result, Ok, Err, ◌⊎◌, inl, inr, cond, subst, lit<, nat_le}
+use Rattle.std.proofs.Common.{◌-◌, length-append, ℕ, ◌+◌, ◌<◌, ◌≤◌, ◌^◌, ◌≡◌, List, [], ◌∷◌, ◌++◌, length, map, codes, Bool, true, false, refl, ap, sym, ◌∙◌, arith, Option, Some, None, Result, Ok, Err, ◌⊎◌, inl, inr, cond, subst, lit<, nat_le}
 use Rattle.std.specs.Prelude.{◌≢◌, ⊤}
 use Rattle.std.specs.List.{AllByRecursion}
 use Rattle.std.specs.List.Sorted.{IsStrictlySortedBy}
@@ -10,6 +10,8 @@ use Rattle.std.proofs.lemmas.List.{map-append}
 use Rattle.std.proofs.lemmas.Option.{none-some, same_Some}
 use Rattle.witness_replay.proofs.Exact.{as_words}
 use Rattle.avr_model.specs.declared.assumption.Entry.{Entry}
+use Rattle.avr_model.specs.declared.assumption.Entry.TheVariants.{Pairs}
+use Rattle.avr_model.specs.Assumptions.{has_pairs}
 use Rattle.avr_model.specs.State.{SIZE}
 use Rattle.sb_base.specs.Answers.{Answers}
 use Rattle.sb_base.specs.Lines.{TextLine, Place, words_of, spaced}
@@ -18,7 +20,6 @@ use Rattle.line_reading.specs.Words.{IsWord, whole, Passes, WordLaws}
 use Rattle.line_reading.proofs.AllLaws.{passes_none, passes_more, line_takes}
 use Rattle.vector_table.specs.Entries.{AreEntries, is_above_last, most_entries}
 use Rattle.indirect_targets.specs.Spelling.{entry_words}
-use Rattle.indirect_targets.proofs.AllLaws.{none_are_entries}
 use Rattle.mask_states.specs.declared.keys.NodeKey.{NodeKey}
 use Rattle.mask_states.specs.declared.keys.InstKey.{InstKey}
 use Rattle.mask_states.specs.Keys.{offset_of}
@@ -30,7 +31,8 @@ use Rattle.witness_replay.specs.Reading.{schedule_at}
 use Rattle.witness_replay.specs.Exact.{RefusedIsStuck}
 use Rattle.certificate.specs.declared.instance.Inst.{Inst}
 use Rattle.certificate.specs.declared.version.Version.{Version}
-use Rattle.certificate.specs.declared.version.Version.TheVariants.{Two}
+use Rattle.certificate.specs.declared.version.Version.TheVariants.{One, Two, Three}
+use Rattle.certificate.specs.Versions.{is_third}
 use Rattle.certificate.specs.Insts.{IsInst, inst_keys}
 use Rattle.certificate.specs.Claims.{Claim, IsClaim, IsCertificate, most_instances, most_nodes, most_cells, cells_of, node_keys}
 use Rattle.cert_words.specs.Text.{numbered, version_line, heading, entry_lines, inst_lines, node_lines, inst_words, node_words, open_line, attained_line, witness_lines, end_line, front_lines}
@@ -38,15 +40,16 @@ use Rattle.cert_format.specs.declared.fault.CertFault.{CertFault}
 use Rattle.cert_format.specs.declared.fault.CertFault.TheVariants as fault
 use Rattle.certificate.specs.declared.limit.Limit.{Limit}
 use Rattle.certificate.specs.declared.limit.Limit.TheVariants as limit
-use Rattle.cert_format.specs.Reading.{entry_by, inst_by, node_by, numbered_in, numbered_by, count_in, count_by, version_by, ending_by, formed, limited, last_in, is_inst_above, is_node_above, refused_entry, refused_inst, refused_node, heading_at, entries_at, insts_at, nodes_at, plan_if, witness_at, if_last, end_at, claim_at, claim_alone, certificate_in}
-use Rattle.cert_format.specs.Refusals.{Part, Begin, Bound, Assume, AnEntry, Instances, AnInst, Nodes, ANode, Ending, End, Nothing, Stands, IsNext, IsNumbered, AreNodes, IsLow, IsTooMuch, IsStopped, IsRefused, IsDue, IsDueUnlessMemory, ReadIsDue, start}
+use Rattle.cert_format.specs.Reading.{entry_by, inst_by, node_by, numbered_in, numbered_by, count_in, count_by, version_by, ending_by, formed, limited, last_in, is_inst_above, is_node_above, refused_entry, refused_inst, refused_node, heading_at, least_entries, first_at, entries_at, insts_at, nodes_at, plan_if, witness_at, if_last, end_at, claim_at, claim_alone, certificate_in}
+use Rattle.cert_format.specs.Refusals.{Part, Begin, Bound, Assume, FirstEntry, AnEntry, Instances, AnInst, Nodes, ANode, Ending, End, Nothing, Stands, IsNext, IsNumbered, AreNodes, IsLow, IsTooMuch, IsStopped, IsRefused, IsDue, IsDueUnlessMemory, ReadIsDue, start}
 use Rattle.cert_format.proofs.Numbers.{decimal_word, nodes_count, too_many}
 use Rattle.cert_format.proofs.Lists.{err_ok, formed_ok, AllFrom, all_of_any, admitted_all, sorted_at, sorted_push, lines}
 use Rattle.cert_format.proofs.Items.{cells_more}
-use Rattle.cert_format.proofs.Kept.{AnyEntry, entry_steady, entries_kept, entry_spells, entry_reads, AnyInst, inst_steady, insts_kept, inst_spells, inst_reads, inst_above_is, FitsNode, node_steady, NodesKeep, nodes_kept, node_spells, node_reads, node_above_is, keys_append}
+use Rattle.cert_format.proofs.FirstEntries.{firsts, firsts_count, firsts_mode, firsts_are}
+use Rattle.cert_format.proofs.Kept.{EntryOf, entry_steady, entry_spells, entry_reads, AnyInst, inst_steady, insts_kept, inst_spells, inst_reads, inst_above_is, FitsNode, node_steady, NodesKeep, nodes_kept, node_spells, node_reads, node_above_is, keys_append}
 use Rattle.cert_format.proofs.Parts.{Stand, stand_more, plain, numbered_again, numbered_plain, number_take, nodes_take, this_again, this_take, version_again, version_take, heading_take, witness_part, ending_again, ending_words, ending_is}
-use Rattle.cert_format.proofs.Stops.{err_is, then_stop, formed_err, line_stop, not_next, is_next, Stop, ItemRefused, items_stop}
-use Rattle.cert_format.proofs.Whole.{Below, entries_take, insts_take, nodes_part, claim_of, fitting_nodes, read_is_spelled}
+use Rattle.cert_format.proofs.Stops.{err_is, then_stop, formed_err, line_stop, not_next, is_next, Stop, ItemRefused, ItemsStop, items_stop}
+use Rattle.cert_format.proofs.Whole.{Below, first_take, some_keep, some_stand, entries_take, insts_take, nodes_part, claim_of, fitting_nodes, read_is_spelled}
 
 -- ---- claims of the parts that are read
 
@@ -61,19 +64,20 @@ no_nodes = record { ascend = tt; few = omega arith }
 abbrev claim_to : Version → ℕ → List Entry → List Inst → Seeds → Option Plan → Claim
 claim_to version n es xs ns w = record { version = version; bound = n; assumptions = es; instances = xs; nodes = ns; witness = w }
 
-certificate_of : (version : Version) (n : ℕ) (es : List Entry) (xs : List Inst) (ns : Seeds) → n ≤ SIZE → AreEntries es → AllByRecursion IsInst xs → IsStrictlySortedBy inst_cmp (inst_keys xs) → length xs ≤ most_instances
+certificate_of : (version : Version) (n : ℕ) (es : List Entry) (xs : List Inst) (ns : Seeds) → n ≤ SIZE → AreEntries es → is_third version ≡ has_pairs es → AllByRecursion IsInst xs → IsStrictlySortedBy inst_cmp (inst_keys xs) → length xs ≤ most_instances
     → AllFrom (FitsNode version xs) 0 ns → NodesKeep ns → length ns ≤ most_nodes → IsCertificate (claim_to version n es xs ns None)
-certificate_of version n es xs ns small he hx ax few hn kn most = record { claim = claim_of version n es xs ns None small he hx ax few hn kn most; schedule = tt }
+certificate_of version n es xs ns small he mode hx ax few hn kn most = record { claim = claim_of version n es xs ns None small he mode hx ax few hn kn most; schedule = tt }
 
-bound_only : (version : Version) (n : ℕ) → n ≤ SIZE → IsCertificate (claim_to version n [] [] [] None)
-bound_only version n small = certificate_of version n [] [] [] small none_are_entries tt no_insts (omega arith) tt no_nodes (omega arith)
+with_entries : (version : Version) (n : ℕ) (es : List Entry) → n ≤ SIZE → AreEntries es → is_third version ≡ has_pairs es → IsCertificate (claim_to version n es [] [] None)
+with_entries version n es small h mode = certificate_of version n es [] [] small h mode tt no_insts (omega arith) tt no_nodes (omega arith)
 
-with_entries : (version : Version) (n : ℕ) (es : List Entry) → n ≤ SIZE → AreEntries es → IsCertificate (claim_to version n es [] [] None)
-with_entries version n es small h = certificate_of version n es [] [] small h tt no_insts (omega arith) tt no_nodes (omega arith)
+-- the bound, and the entries that the version begins with
+bound_only : (version : Version) (n : ℕ) → n ≤ SIZE → IsCertificate (claim_to version n (firsts version) [] [] None)
+bound_only version n small = with_entries version n (firsts version) small (firsts_are version) (firsts_mode version)
 
-with_insts : (version : Version) (n : ℕ) (es : List Entry) (xs : List Inst) → n ≤ SIZE → AreEntries es → AllByRecursion IsInst xs → IsStrictlySortedBy inst_cmp (inst_keys xs) → length xs ≤ most_instances
+with_insts : (version : Version) (n : ℕ) (es : List Entry) (xs : List Inst) → n ≤ SIZE → AreEntries es → is_third version ≡ has_pairs es → AllByRecursion IsInst xs → IsStrictlySortedBy inst_cmp (inst_keys xs) → length xs ≤ most_instances
     → IsCertificate (claim_to version n es xs [] None)
-with_insts version n es xs small h hx ax few = certificate_of version n es xs [] small h hx ax few tt no_nodes (omega arith)
+with_insts version n es xs small h mode hx ax few = certificate_of version n es xs [] small h mode hx ax few tt no_nodes (omega arith)
 
 -- ---- a line that isn't of its form
 
@@ -82,12 +86,15 @@ malformed p c part q g h stop e =
     let P : CertFault → Type 0 = λ f. IsRefused p f in
     subst P (sym e) (q, refl, inl (record { claim = c; part = part; stands = h; stop = stop }))
 
-numbered_reads : WordLaws → (name : List ℕ) (most : ℕ) (ws : List (List ℕ)) → IsWord name → most < 2 ^ 64 → IsNumbered name most ws → (n : ℕ) × (numbered_by name most (spaced ws) ≡ Some n)
-numbered_reads k name most ws word room h =
-    (h.0, ap (λ (xs : List (List ℕ)). numbered_in name most (words_of (spaced xs))) h.2 ∙ ap (numbered_in name most) (k.words_stand name (decimal h.0 ∷ []) (numbered_plain k name h.0 word (omega (arith, h.1, room)))) ∙ numbered_again k name most h.0 room h.1)
+numbered_reads : WordLaws → (name : List ℕ) (least most : ℕ) (ws : List (List ℕ)) → IsWord name → most < 2 ^ 64 → IsNumbered name least most ws → (n : ℕ) × (numbered_by name least most (spaced ws) ≡ Some n)
+numbered_reads k name least most ws word room h = (
+  h.0,
+  ap (λ (xs : List (List ℕ)). numbered_in name least most (words_of (spaced xs))) h.3 ∙ ap (numbered_in name least most) (k.words_stand name (decimal h.0 ∷ []) (numbered_plain k name h.0 word (omega (arith, h.2, room))))
+      ∙ numbered_again k name least most h.0 room h.1 h.2,
+)
 
-no_number : WordLaws → (name : List ℕ) (most : ℕ) (ls : List TextLine) → IsWord name → most < 2 ^ 64 → first_by (numbered_by name most) ls ≡ None → (ws : List (List ℕ)) → IsNext ls ws → IsNumbered name most ws → ⊥
-no_number k name most ls word room none ws next h = let t = numbered_reads k name most ws word room h in not_next (numbered_by name most) ls ws t.0 none next t.1
+no_number : WordLaws → (name : List ℕ) (least most : ℕ) (ls : List TextLine) → IsWord name → most < 2 ^ 64 → first_by (numbered_by name least most) ls ≡ None → (ws : List (List ℕ)) → IsNext ls ws → IsNumbered name least most ws → ⊥
+no_number k name least most ls word room none ws next h = let t = numbered_reads k name least most ws word room h in not_next (numbered_by name least most) ls ws t.0 none next t.1
 
 no_this : (line : List (List ℕ)) (ls : List TextLine) → first_by (this_by (spaced line)) ls ≡ None → (ws : List (List ℕ)) → IsNext ls ws → ws ≡ line → ⊥
 no_this line ls none ws next h = not_next (this_by (spaced line)) ls ws tt none next (ap (λ (xs : List (List ℕ)). this_by (spaced line) (spaced xs)) h ∙ this_again (spaced line))
@@ -103,11 +110,11 @@ heading_stops k p g e = elim (then_stop (formed (line_by version_by p)) _ g e) [
   | inl h ↦
       let t = line_stop version_by p g h in
       malformed p (claim_to Two 0 [] [] [] None) Begin p g (record { fits = bound_only Two 0 (omega arith); room = tt; lines = passes_none p }) (no_version p.rest t.0) t.1
-  | inr v ↦ elim (then_stop (formed (line_by (numbered_by (codes "bound") SIZE) v.0.1)) _ g v.2) [
+  | inr v ↦ elim (then_stop (formed (line_by (numbered_by (codes "bound") 0 SIZE) v.0.1)) _ g v.2) [
     | inl h ↦
-        let t = line_stop (numbered_by (codes "bound") SIZE) v.0.1 g h in
-        malformed p (claim_to v.0.0 0 [] [] [] None) Bound v.0.1 g (record { fits = bound_only v.0.0 0 (omega arith); room = tt; lines = version_take p v.0 v.1 })
-        (no_number k (codes "bound") SIZE v.0.1.rest (plain (codes "bound" ∷ []) refl).0 (lit< tt) t.0) t.1
+        let t = line_stop (numbered_by (codes "bound") 0 SIZE) v.0.1 g h in
+        malformed p (claim_to v.0.0 0 (firsts v.0.0) [] [] None) Bound v.0.1 g (record { fits = bound_only v.0.0 0 (omega arith); room = tt; lines = version_take p v.0 v.1 })
+        (no_number k (codes "bound") 0 SIZE v.0.1.rest (plain (codes "bound" ∷ []) refl).0 (lit< tt) t.0) t.1
     | inr b ↦ absurd (err_ok {A = (Version × ℕ) × Place} g ((v.0.0, b.0.0), b.0.1) (sym b.2))
   ]
 ]
@@ -138,26 +145,63 @@ out_of_order p c part q ws g h next low e =
 
 -- ---- assumptions
 
-entry_stops : Below → (p : Place) (c : Claim) (n : ℕ) (q : Place) (g : CertFault) → Stands p c (AnEntry n) q → Stop (λ at. entry_by) entry_words AnyEntry refused_entry c.assumptions q g → IsRefused p g
+entry_stops : Below → (p : Place) (c : Claim) (n : ℕ) (q : Place) (g : CertFault) → Stands p c (AnEntry n) q → Stop (λ at. entry_by (is_third c.version)) entry_words (EntryOf (is_third c.version)) refused_entry c.assumptions q g → IsRefused p g
 entry_stops b p c n q g h stop = elim stop [
   | inl f ↦ malformed p c (AnEntry n) q g h
-      (λ ws next form. not_next entry_by q.rest ws form.0 f.0 next (ap (λ (xs : List (List ℕ)). entry_by (spaced xs)) form.2 ∙ entry_reads b.words b.entries 0 form.0 (omega arith) form.1)) f.1
-  | inr r ↦ let low = entry_low c.assumptions r.item q.at g r.refuses in out_of_order p c (AnEntry n) q (entry_words r.item) g h r.next (r.item, r.fits, refl, low.0) low.1
+      (λ ws next form. not_next (entry_by (is_third c.version)) q.rest ws form.0 f.0 next
+      (ap (λ (xs : List (List ℕ)). entry_by (is_third c.version) (spaced xs)) form.3 ∙ entry_reads b.words b.entries (is_third c.version) 0 form.0 (omega arith) (form.1, form.2))) f.1
+  | inr r ↦ let low = entry_low c.assumptions r.item q.at g r.refuses in out_of_order p c (AnEntry n) q (entry_words r.item) g h r.next (r.item, r.fits.0, r.fits.1, refl, low.0) low.1
 ]
 
-entries_stops : Below → (version : Version) (p a : Place) (n : ℕ) (g : CertFault) → n ≤ SIZE → Stand p (heading version n) a → entries_at a ≡ Err g → IsRefused p g
-unfolding entries_at
-entries_stops b version p a n g small h e = elim (then_stop (formed (line_by (numbered_by (codes "assume") most_entries) a)) _ g e) [
+-- the first line of the third version
+first_stops : (version : Version) (p a m : Place) (n count : ℕ) (g : CertFault) → n ≤ SIZE → Stand p (heading version n) a → Stand a (numbered (codes "assume") count ∷ []) m → least_entries version ≤ count → count ≤ most_entries
+    → first_at version m ≡ Err g → IsRefused p g
+unfolding first_at
+first_stops One p a m n count g small h k least most e = absurd (err_ok {A = List Entry × Place} g ([], m) (sym e))
+first_stops Two p a m n count g small h k least most e = absurd (err_ok {A = List Entry × Place} g ([], m) (sym e))
+first_stops Three p a m n count g small h k least most e = elim (then_stop (formed (line_by (this_by (spaced (entry_words Pairs))) m)) _ g e) [
   | inl f ↦
-      let t = line_stop (numbered_by (codes "assume") most_entries) a g f in
-      malformed p (claim_to version n [] [] [] None) Assume a g (record { fits = bound_only version n small; room = tt; lines = h })
-      (no_number b.words (codes "assume") most_entries a.rest (plain (codes "assume" ∷ []) refl).0 (lit< tt) t.0) t.1
+      let t = line_stop (this_by (spaced (entry_words Pairs))) m g f in
+      malformed p (claim_to Three n (firsts Three) [] [] None) (FirstEntry count) m g
+      (record { fits = bound_only Three n small; room = (refl, least, most); lines = stand_more p a m (heading Three n) (numbered (codes "assume") count ∷ []) h k }) (no_this (entry_words Pairs) m.rest t.0) t.1
+  | inr u ↦ absurd (err_ok {A = List Entry × Place} g (Pairs ∷ [], u.0.1) (sym u.2))
+]
+
+abbrev EntriesStop : Version → List Entry → ℕ → Place → CertFault → Type 0
+EntriesStop version front n p g = ItemsStop (λ at. entry_by (is_third version)) entry_words (EntryOf (is_third version)) refused_entry front n p g
+
+-- a line behind the first ones
+further_stops : Below → (version : Version) (p a m f : Place) (n count : ℕ) (g : CertFault) → n ≤ SIZE → Stand p (heading version n) a → Stand a (numbered (codes "assume") count ∷ []) m → least_entries version ≤ count → count ≤ most_entries
+    → Stand m (map entry_words (firsts version)) f → EntriesStop version (firsts version) (count - least_entries version) f g → IsRefused p g
+further_stops b version p a m f n count g small h k least most first s =
+    let all : List Entry = firsts version ++ s.items in
+    let number : length all < count = omega (arith, length-append (firsts version) s.items, firsts_count version, s.fewer, least) in
+    let keep = some_keep version s.items s.fit in
+    let some = some_stand version m f s.place s.items first s.passes in
+    entry_stops b p (claim_to version n all [] [] None) count s.place g
+    (record {
+      fits = with_entries version n all small (keep.are (omega (arith, number, most))) (sym keep.mode);
+      room = (number, most);
+      lines = behind entry_words (codes "assume") (heading version n) p a m s.place count all h k some;
+    }) s.stop
+
+entries_stops : Below → (version : Version) (p a : Place) (n : ℕ) (g : CertFault) → n ≤ SIZE → Stand p (heading version n) a → entries_at version a ≡ Err g → IsRefused p g
+unfolding entries_at
+entries_stops b version p a n g small h e = elim (then_stop (formed (line_by (numbered_by (codes "assume") (least_entries version) most_entries) a)) _ g e) [
+  | inl f ↦
+      let t = line_stop (numbered_by (codes "assume") (least_entries version) most_entries) a g f in
+      malformed p (claim_to version n (firsts version) [] [] None) Assume a g (record { fits = bound_only version n small; room = tt; lines = h })
+      (no_number b.words (codes "assume") (least_entries version) most_entries a.rest (plain (codes "assume" ∷ []) refl).0 (lit< tt) t.0) t.1
   | inr m ↦
-      let count = number_take b.words (codes "assume") most_entries a m.0 (lit< tt) m.1 in
-      let s = items_stop (λ at. entry_by) entry_words AnyEntry refused_entry (entry_spells b.words b.entries) entry_steady [] m.0.0 m.0.1 g m.2 in
-      let entries = entries_kept s.items (omega (arith, s.fewer, count.1)) s.fit in
-      entry_stops b p (claim_to version n s.items [] [] None) m.0.0 s.place g
-      (record { fits = with_entries version n s.items small entries; room = (s.fewer, count.1); lines = behind entry_words (codes "assume") (heading version n) p a m.0.1 s.place m.0.0 s.items h count.0 s.passes }) s.stop
+      let count = number_take b.words (codes "assume") (least_entries version) most_entries a m.0 (lit< tt) m.1 in
+      elim (then_stop (first_at version m.0.1) _ g m.2) [
+        | inl f ↦ first_stops version p a m.0.1 n m.0.0 g small h count.0 count.1 count.2 f
+        | inr f ↦
+            let first = first_take version m.0.1 f.0 f.1 in
+            let s = items_stop (λ at. entry_by (is_third version)) entry_words (EntryOf (is_third version)) refused_entry (entry_spells b.words b.entries (is_third version)) entry_steady f.0.0 (m.0.0 - least_entries version) f.0.1 g f.2 in
+            let P : List Entry → Type 0 = λ front. EntriesStop version front (m.0.0 - least_entries version) f.0.1 g in
+            further_stops b version p a m.0.1 f.0.1 n m.0.0 g small h count.0 count.1 count.2 first.lines (subst P first.all s)
+      ]
 ]
 
 -- ---- instances
@@ -175,24 +219,24 @@ inst_stops b p c n q g h stop = elim stop [
   | inr r ↦ let low = inst_low c.instances r.item q.at g r.refuses in out_of_order p c (AnInst n) q (inst_words r.item) g h r.next (r.item, r.fits, refl, not_ascending c.instances r.item low.0) low.1
 ]
 
-insts_stops : Below → (version : Version) (p a d : Place) (n : ℕ) (es : List Entry) (g : CertFault) → n ≤ SIZE → AreEntries es → Stand p (heading version n) a → Stand a (entry_lines es) d → insts_at d ≡ Err g → IsRefused p g
+insts_stops : Below → (version : Version) (p a d : Place) (n : ℕ) (es : List Entry) (g : CertFault) → n ≤ SIZE → AreEntries es → is_third version ≡ has_pairs es → Stand p (heading version n) a → Stand a (entry_lines es) d → insts_at d ≡ Err g → IsRefused p g
 unfolding insts_at
-insts_stops b version p a d n es g small he h k e =
+insts_stops b version p a d n es g small he mode h k e =
     let front = stand_more p a d (heading version n) (entry_lines es) h k in
-    elim (then_stop (formed (line_by (numbered_by (codes "instances") most_instances) d)) _ g e) [
+    elim (then_stop (formed (line_by (numbered_by (codes "instances") 0 most_instances) d)) _ g e) [
       | inl f ↦
-          let t = line_stop (numbered_by (codes "instances") most_instances) d g f in
-          malformed p (claim_to version n es [] [] None) Instances d g (record { fits = with_entries version n es small he; room = tt; lines = front })
-          (no_number b.words (codes "instances") most_instances d.rest (plain (codes "instances" ∷ []) refl).0 (lit< tt) t.0) t.1
+          let t = line_stop (numbered_by (codes "instances") 0 most_instances) d g f in
+          malformed p (claim_to version n es [] [] None) Instances d g (record { fits = with_entries version n es small he mode; room = tt; lines = front })
+          (no_number b.words (codes "instances") 0 most_instances d.rest (plain (codes "instances" ∷ []) refl).0 (lit< tt) t.0) t.1
       | inr m ↦
-          let count = number_take b.words (codes "instances") most_instances d m.0 (lit< tt) m.1 in
+          let count = number_take b.words (codes "instances") 0 most_instances d m.0 (lit< tt) m.1 in
           let s = items_stop (λ at. inst_by) inst_words AnyInst refused_inst (inst_spells b.words b.insts) inst_steady [] m.0.0 m.0.1 g m.2 in
           let fit = all_of_any IsInst 0 s.items (admitted_all AnyInst refused_inst [] s.items s.fit) in
           let some = behind inst_words (codes "instances") (entry_lines es) a d m.0.1 s.place m.0.0 s.items k count.0 s.passes in
           inst_stops b p (claim_to version n es s.items [] None) m.0.0 s.place g
           (record {
-            fits = with_insts version n es s.items small he fit (insts_kept b.keys s.items s.fit) (omega (arith, s.fewer, count.1));
-            room = (s.fewer, count.1);
+            fits = with_insts version n es s.items small he mode fit (insts_kept b.keys s.items s.fit) (omega (arith, s.fewer, count.2));
+            room = (s.fewer, count.2);
             lines = stand_more p a s.place (heading version n) (entry_lines es ++ numbered (codes "instances") m.0.0 ∷ map inst_words s.items) h some;
           }) s.stop
     ]
@@ -274,20 +318,20 @@ count_stops b p c q g h e =
           })
     ]
 
-nodes_stops : Below → (version : Version) (p a d f : Place) (n : ℕ) (es : List Entry) (xs : List Inst) (g : CertFault) → n ≤ SIZE → AreEntries es → AllByRecursion IsInst xs → IsStrictlySortedBy inst_cmp (inst_keys xs) → length xs ≤ most_instances
+nodes_stops : Below → (version : Version) (p a d f : Place) (n : ℕ) (es : List Entry) (xs : List Inst) (g : CertFault) → n ≤ SIZE → AreEntries es → is_third version ≡ has_pairs es → AllByRecursion IsInst xs → IsStrictlySortedBy inst_cmp (inst_keys xs) → length xs ≤ most_instances
     → Stand p (heading version n) a → Stand a (entry_lines es) d → Stand d (inst_lines xs) f → nodes_at version xs f ≡ Err g → IsRefused p g
 unfolding nodes_at
-nodes_stops b version p a d f n es xs g small he hx ax few h k j e =
+nodes_stops b version p a d f n es xs g small he mode hx ax few h k j e =
     let front = stand_more p a f (heading version n) (entry_lines es ++ inst_lines xs) h (stand_more a d f (entry_lines es) (inst_lines xs) k j) in
     elim (then_stop (limited (formed (line_by count_by f))) _ g e) [
-      | inl l ↦ count_stops b p (claim_to version n es xs [] None) f g (record { fits = with_insts version n es xs small he hx ax few; room = tt; lines = front }) l
+      | inl l ↦ count_stops b p (claim_to version n es xs [] None) f g (record { fits = with_insts version n es xs small he mode hx ax few; room = tt; lines = front }) l
       | inr m ↦
           let count = nodes_take b.words f m.0 m.1 in
           let s = items_stop (node_by version xs) (node_words version xs) (FitsNode version xs) refused_node (node_spells b.words b.nodes b.keys version xs ax) node_steady [] m.0.0 m.0.1 g m.2 in
           let some = behind (node_words version xs) (codes "nodes") (inst_lines xs) d f m.0.1 s.place m.0.0 s.items j count.0 s.passes in
           node_stops b p (claim_to version n es xs s.items None) m.0.0 s.place g
           (record {
-            fits = certificate_of version n es xs s.items small he hx ax few (admitted_all (FitsNode version xs) refused_node [] s.items s.fit) (nodes_kept b.keys version xs s.items s.fit) (omega (arith, s.fewer, count.1));
+            fits = certificate_of version n es xs s.items small he mode hx ax few (admitted_all (FitsNode version xs) refused_node [] s.items s.fit) (nodes_kept b.keys version xs s.items s.fit) (omega (arith, s.fewer, count.1));
             room = (s.fewer, count.1);
             lines = stand_more p a s.place (heading version n) (entry_lines es ++ (inst_lines xs ++ numbered (codes "nodes") m.0.0 ∷ map (node_words version xs) s.items)) h
                 (stand_more a d s.place (entry_lines es) (inst_lines xs ++ numbered (codes "nodes") m.0.0 ∷ map (node_words version xs) s.items) k some);
@@ -348,7 +392,7 @@ behind_nodes b version p n es xs ns q g h front r e f =
     let w = witness_part b.schedule_spelled q (r.1, r.0) e in
     end_stops p (claim_to version n es xs ns r.1) q r.0 g
     (record {
-      claim = claim_of version n es xs ns r.1 h.claim.bound_fits h.claim.entries_fit h.claim.insts_fit h.claim.insts_ascend h.claim.few_insts (fitting_nodes (claim_to version n es xs ns None) h.claim)
+      claim = claim_of version n es xs ns r.1 h.claim.bound_fits h.claim.entries_fit h.claim.of_list h.claim.insts_fit h.claim.insts_ascend h.claim.few_insts (fitting_nodes (claim_to version n es xs ns None) h.claim)
           (record { ascend = h.claim.nodes_ascend; few = h.claim.few_cells }) h.claim.few_nodes;
       schedule = w.schedule;
     }) front w.lines f
@@ -359,24 +403,25 @@ claim_stops k stuck p g e = elim (then_stop (heading_at p) _ g e) [
   | inl h ↦ heading_stops k.words p g h
   | inr b ↦
       let top = heading_take k.words p b.0 b.1 in
-      elim (then_stop (entries_at b.0.1) _ g b.2) [
+      elim (then_stop (entries_at b.0.0.0 b.0.1) _ g b.2) [
         | inl h ↦ entries_stops k b.0.0.0 p b.0.1 b.0.0.1 g top.1 top.0 h
         | inr a ↦
-            let entries = entries_take k b.0.1 a.0 a.1 in
-            let are = entries_kept a.0.0 entries.few entries.fit in
+            let entries = entries_take k b.0.0.0 b.0.1 a.0 a.1 in
+            let are = entries.are in
+            let mode = entries.mode in
             elim (then_stop (insts_at a.0.1) _ g a.2) [
-              | inl h ↦ insts_stops k b.0.0.0 p b.0.1 a.0.1 b.0.0.1 a.0.0 g top.1 are top.0 entries.lines h
+              | inl h ↦ insts_stops k b.0.0.0 p b.0.1 a.0.1 b.0.0.1 a.0.0 g top.1 are mode top.0 entries.lines h
               | inr i ↦
                   let insts = insts_take k a.0.1 i.0 i.1 in
                   let ascend = insts_kept k.keys i.0.0 insts.fit in
                   let fit = all_of_any IsInst 0 i.0.0 (admitted_all AnyInst refused_inst [] i.0.0 insts.fit) in
                   elim (then_stop (nodes_at b.0.0.0 i.0.0 i.0.1) _ g i.2) [
-                    | inl h ↦ nodes_stops k b.0.0.0 p b.0.1 a.0.1 i.0.1 b.0.0.1 a.0.0 i.0.0 g top.1 are fit ascend insts.few top.0 entries.lines insts.lines h
+                    | inl h ↦ nodes_stops k b.0.0.0 p b.0.1 a.0.1 i.0.1 b.0.0.1 a.0.0 i.0.0 g top.1 are mode fit ascend insts.few top.0 entries.lines insts.lines h
                     | inr n ↦
                         let nodes = nodes_part k b.0.0.0 i.0.0 ascend i.0.1 n.0 n.1 in
                         let c = claim_to b.0.0.0 b.0.0.1 a.0.0 i.0.0 n.0.0 None in
                         let whole_claim =
-                        certificate_of b.0.0.0 b.0.0.1 a.0.0 i.0.0 n.0.0 top.1 are fit ascend insts.few (admitted_all (FitsNode b.0.0.0 i.0.0) refused_node [] n.0.0 nodes.fit) (nodes_kept k.keys b.0.0.0 i.0.0 n.0.0 nodes.fit) nodes.few in
+                        certificate_of b.0.0.0 b.0.0.1 a.0.0 i.0.0 n.0.0 top.1 are mode fit ascend insts.few (admitted_all (FitsNode b.0.0.0 i.0.0) refused_node [] n.0.0 nodes.fit) (nodes_kept k.keys b.0.0.0 i.0.0 n.0.0 nodes.fit) nodes.few in
                         let front = stand_more p b.0.1 n.0.1 (heading b.0.0.0 b.0.0.1) (entry_lines a.0.0 ++ (inst_lines i.0.0 ++ node_lines b.0.0.0 i.0.0 n.0.0)) top.0
                         (stand_more b.0.1 a.0.1 n.0.1 (entry_lines a.0.0) (inst_lines i.0.0 ++ node_lines b.0.0.0 i.0.0 n.0.0) entries.lines (stand_more a.0.1 i.0.1 n.0.1 (inst_lines i.0.0) (node_lines b.0.0.0 i.0.0 n.0.0) insts.lines nodes.lines)) in
                         elim (then_stop (witness_at n.0.1) _ g n.2) [

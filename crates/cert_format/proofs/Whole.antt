@@ -1,14 +1,17 @@
 -- A certificate: what is read is spelled so, and what is spelled is read.
-use Rattle.std.proofs.Common.{ℕ, ◌+◌, ◌≤◌, ◌≡◌, List, [], ◌∷◌, ◌++◌, length, map, codes, refl, ap, sym, ◌∙◌, arith, Option, None, Result, Ok, Err, subst, append-nil, lit<}
+use Rattle.std.proofs.Common.{true, ◌-◌, length-append, ℕ, ◌+◌, ◌≤◌, ◌≡◌, List, [], ◌∷◌, ◌++◌, length, map, codes, refl, ap, sym, ◌∙◌, arith, Option, None, Result, Ok, Err, subst, append-nil, lit<}
 use Rattle.std.specs.Prelude.{IfOk}
 use Rattle.std.specs.List.{AllByRecursion, flat_map}
 use Rattle.std.specs.List.Sorted.{IsStrictlySortedBy}
 use Rattle.std.proofs.lemmas.Grind.{flat_map-append}
 use Rattle.std.proofs.lemmas.List.Elements.{recursion_from_All}
+use Rattle.std.proofs.lemmas.List.{map-append}
 use Rattle.avr_model.specs.declared.assumption.Entry.{Entry}
+use Rattle.avr_model.specs.declared.assumption.Entry.TheVariants.{Pairs}
+use Rattle.avr_model.specs.Assumptions.{has_pairs}
 use Rattle.avr_model.specs.State.{SIZE}
 use Rattle.sb_base.specs.Answers.{Answers}
-use Rattle.sb_base.specs.Lines.{Place, line, joined}
+use Rattle.sb_base.specs.Lines.{Place, spaced, line, joined}
 use Rattle.line_reading.specs.Words.{IsWord, WordLaws}
 use Rattle.vector_table.specs.Entries.{AreEntries, most_entries}
 use Rattle.indirect_targets.specs.Spelling.{entry_words}
@@ -21,19 +24,23 @@ use Rattle.witness_replay.specs.Spelling.{Plan}
 use Rattle.witness_replay.specs.Exact.{TextIsReading, ReadIsSpelled as ScheduleIsSpelled, SpelledIsRead as ScheduleIsRead}
 use Rattle.certificate.specs.declared.instance.Inst.{Inst}
 use Rattle.certificate.specs.declared.version.Version.{Version}
+use Rattle.certificate.specs.declared.version.Version.TheVariants.{One, Two, Three}
+use Rattle.certificate.specs.Versions.{is_third}
 use Rattle.cert_format.specs.declared.fault.CertFault.{CertFault}
 use Rattle.cert_format.specs.declared.fault.CertFault.TheVariants as fault
 use Rattle.certificate.specs.Insts.{IsInst, inst_keys}
-use Rattle.certificate.specs.Claims.{Claim, IsClaim, IsCertificate, most_instances, most_nodes}
+use Rattle.certificate.specs.Claims.{Claim, AreFrom, IsClaim, IsCertificate, most_instances, most_nodes}
 use Rattle.cert_format.specs.LineLaws.{InstLines, NodeLines}
-use Rattle.cert_words.specs.Text.{inst_words, node_words, heading, entry_lines, inst_lines, node_lines, witness_lines, end_line, front_lines, certificate_lines, text_of}
-use Rattle.cert_format.specs.Reading.{entry_by, inst_by, node_by, refused_entry, refused_inst, refused_node, formed, numbered_by, count_by, limited, heading_at, entries_at, insts_at, nodes_at, witness_at, end_at, claim_at, claim_alone, certificate_in}
+use Rattle.cert_words.specs.Text.{numbered, inst_words, node_words, heading, entry_lines, inst_lines, node_lines, witness_lines, end_line, front_lines, certificate_lines, text_of}
+use Rattle.cert_format.specs.Reading.{entry_by, inst_by, node_by, refused_entry, refused_inst, refused_node, formed, numbered_by, count_by, limited, heading_at, is_admitted, least_entries, first_at, entries_at, insts_at, nodes_at, witness_at, end_at, claim_at, claim_alone, certificate_in}
 use Rattle.cert_format.specs.Exact.{ReadIsSpelled, SpelledIsRead, OneText, PartsMakeClaims}
-use Rattle.line_reading.specs.Reading.{line_by}
-use Rattle.cert_format.proofs.Lists.{ok_is, err_ok, then_ok, AllFrom, all_of_any, admitted_all}
-use Rattle.cert_format.proofs.Kept.{FitsEntry, AnyEntry, entry_steady, entries_kept, entries_admitted, entry_spells, entry_reads, AnyInst, inst_steady, insts_kept, insts_admitted, inst_spells, inst_reads, FitsNode, node_steady, NodesKeep, nodes_kept, nodes_admitted, node_spells, node_reads, node_is_plain, all_from, all_belong, all_of_version, all_fit}
+use Rattle.line_reading.specs.Reading.{this_by, line_by}
+use Rattle.line_reading.proofs.AllLaws.{passes_none, passes_end}
+use Rattle.cert_format.proofs.Lists.{ok_is, err_ok, then_ok, AllFrom, all_of_any, Admitted, admitted_all, ItemsRead, items_take, items_again}
+use Rattle.cert_format.proofs.FirstEntries.{firsts, firsts_count, firsts_mode, firsts_are, begins}
+use Rattle.cert_format.proofs.Kept.{FitsEntry, EntryOf, EntriesKeep, entry_steady, entries_kept, entries_admitted, entry_spells, entry_reads, AnyInst, inst_steady, insts_kept, insts_admitted, inst_spells, inst_reads, FitsNode, node_steady, NodesKeep, nodes_kept, nodes_admitted, node_spells, node_reads, node_is_plain, all_from, all_belong, all_of_version, all_fit}
 use Rattle.cert_format.proofs.Versions.{each_of, are_of}
-use Rattle.cert_format.proofs.Parts.{Stand, stand_more, stand_cut, before, stand, plain, numbered_plain, number_take, number_line, nodes_take, nodes_line, ListPart, list_take, list_again, version_plain, heading_take, heading_again, witness_part, witness_again, end_part, end_again}
+use Rattle.cert_format.proofs.Parts.{Stand, stand_more, stand_cut, before, stand, plain, numbered_plain, this_take, this_line, number_take, number_line, nodes_take, nodes_line, ListPart, list_take, list_again, version_plain, heading_take, heading_again, witness_part, witness_again, end_part, end_again}
 
 -- what the laws of the lower crates say
 pub record Below : Type 0 where
@@ -48,33 +55,106 @@ pub record Below : Type 0 where
 
 -- ---- the lists
 
-pub entries_take : Below → (p : Place) (z : List Entry × Place) → entries_at p ≡ Ok z → ListPart (codes "assume") most_entries entry_words AnyEntry refused_entry p z
-unfolding entries_at
-entries_take b p z e =
-    let n = then_ok (formed (line_by (numbered_by (codes "assume") most_entries) p)) _ z e in
-    let count = number_take b.words (codes "assume") most_entries p n.0 (lit< tt) n.1 in
-    list_take (λ at. entry_by) entry_words AnyEntry refused_entry (entry_spells b.words b.entries) entry_steady (codes "assume") most_entries n.0.0 p n.0.1 z count.0 count.1 n.2
+pub record FirstPart (version : Version) (p : Place) (z : List Entry × Place) : Type 0 where
+  pub all : z.0 ≡ firsts version
+  pub lines : Stand p (map entry_words (firsts version)) z.1
 
-entries_again : Below → (p : Place) (es : List Entry) (q : Place) → AreEntries es → Stand p (entry_lines es) q → entries_at p ≡ Ok (es, q)
+pub first_take : (version : Version) (p : Place) (z : List Entry × Place) → first_at version p ≡ Ok z → FirstPart version p z
+unfolding first_at
+first_take One p z e = let P : List Entry × Place → Type 0 = λ y. FirstPart One p y in subst P (ok_is {A = List Entry × Place} ([], p) z e) (record { all = refl; lines = passes_none p })
+first_take Two p z e = let P : List Entry × Place → Type 0 = λ y. FirstPart Two p y in subst P (ok_is {A = List Entry × Place} ([], p) z e) (record { all = refl; lines = passes_none p })
+first_take Three p z e =
+    let u = then_ok (formed (line_by (this_by (spaced (entry_words Pairs))) p)) _ z e in
+    let P : List Entry × Place → Type 0 = λ y. FirstPart Three p y in
+    subst P (ok_is {A = List Entry × Place} (Pairs ∷ [], u.0.1) z u.2) (record { all = refl; lines = this_take (entry_words Pairs) p u.0 u.1 })
+
+first_again : (version : Version) (p q : Place) → Stand p (map entry_words (firsts version)) q → first_at version p ≡ Ok (firsts version, q)
+unfolding first_at
+first_again One p q h = ap (λ (r : Place). Ok ([], r)) (passes_end p q h)
+first_again Two p q h = ap (λ (r : Place). Ok ([], r)) (passes_end p q h)
+first_again Three p q h = rw (this_line (entry_words Pairs) p q h) refl
+
+pub record EntriesPart (version : Version) (p : Place) (z : List Entry × Place) : Type 0 where
+  pub are : AreEntries z.0
+  pub mode : is_third version ≡ has_pairs z.0
+  pub lines : Stand p (entry_lines z.0) z.1
+
+-- the entries that a version begins with, and some behind them
+pub some_keep : (version : Version) (items : List Entry) → Admitted (EntryOf (is_third version)) refused_entry (firsts version) items → EntriesKeep (is_third version) (firsts version ++ items)
+some_keep version items h = entries_kept (is_third version) (firsts version) items (record { are = λ _. firsts_are version; mode = sym (firsts_mode version) }) h
+
+pub some_stand : (version : Version) (m s q : Place) (items : List Entry) → Stand m (map entry_words (firsts version)) s → Stand s (map entry_words items) q → Stand m (map entry_words (firsts version ++ items)) q
+some_stand version m s q items h g =
+    let P : List (List (List ℕ)) → Type 0 = λ wss. Stand m wss q in
+    subst P (sym (map-append entry_words (firsts version) items)) (stand_more m s q (map entry_words (firsts version)) (map entry_words items) h g)
+
+some_count : (version : Version) (items : List Entry) (n : ℕ) → least_entries version ≤ n → length items ≡ n - least_entries version → length (firsts version ++ items) ≡ n
+some_count version items n least e = omega (arith, length-append (firsts version) items, firsts_count version, least, e)
+
+entries_part : (version : Version) (p m s : Place) (n : ℕ) (z : List Entry × Place) → Stand p (numbered (codes "assume") n ∷ []) m → least_entries version ≤ n → n ≤ most_entries → Stand m (map entry_words (firsts version)) s
+    → ItemsRead entry_words (EntryOf (is_third version)) refused_entry (firsts version) (n - least_entries version) s z → EntriesPart version p z
+entries_part version p m s n z count least most first r =
+    let all : List Entry = firsts version ++ r.items in
+    let number : length all ≡ n = some_count version r.items n least r.number in
+    let keep = some_keep version r.items r.fit in
+    let P : ℕ → Type 0 = λ i. Stand p (numbered (codes "assume") i ∷ []) m in
+    let Q : List Entry → Type 0 = λ es. EntriesPart version p (es, z.1) in
+    subst Q r.all (record {
+      are = keep.are (omega (arith, number, most));
+      mode = sym keep.mode;
+      lines = stand_more p m z.1 (numbered (codes "assume") (length all) ∷ []) (map entry_words all) (subst P (sym number) count) (some_stand version m s z.1 r.items first r.passes);
+    })
+
+pub entries_take : Below → (version : Version) (p : Place) (z : List Entry × Place) → entries_at version p ≡ Ok z → EntriesPart version p z
 unfolding entries_at
-entries_again b p es q h s =
-    let all = recursion_from_All FitsEntry es h.each in
-    let r = list_again (λ at. entry_by) entry_words AnyEntry refused_entry (entry_reads b.words b.entries) (codes "assume") es p q (omega (arith, h.few)) (entries_admitted es h all) s in
-    let count = number_line b.words (codes "assume") most_entries (length es) p r.0 (plain (codes "assume" ∷ []) refl).0 (lit< tt) h.few r.1 in
-    rw count r.2
+entries_take b version p z e =
+    let n = then_ok (formed (line_by (numbered_by (codes "assume") (least_entries version) most_entries) p)) _ z e in
+    let count = number_take b.words (codes "assume") (least_entries version) most_entries p n.0 (lit< tt) n.1 in
+    let f = then_ok (first_at version n.0.1) _ z n.2 in
+    let first = first_take version n.0.1 f.0 f.1 in
+    let r = items_take (λ at. entry_by (is_third version)) entry_words (EntryOf (is_third version)) refused_entry (entry_spells b.words b.entries (is_third version)) entry_steady f.0.0 (n.0.0 - least_entries version) f.0.1 z f.2 in
+    let P : List Entry → Type 0 = λ front. ItemsRead entry_words (EntryOf (is_third version)) refused_entry front (n.0.0 - least_entries version) f.0.1 z in
+    entries_part version p n.0.1 f.0.1 n.0.0 z count.0 count.1 count.2 first.lines (subst P first.all r)
+
+all_behind : {A : Type 0} (P : A → Type 0) (front xs : List A) → AllByRecursion P (front ++ xs) → AllByRecursion P xs
+all_behind P [] xs h = h
+all_behind P (y ∷ ys) xs h = all_behind P ys xs h.1
+
+entries_of : Below → (version : Version) (p : Place) (rest : List Entry) (q : Place) → AreEntries (firsts version ++ rest) → AllByRecursion (λ e. is_admitted (is_third version) e ≡ true) rest
+    → Stand p (entry_lines (firsts version ++ rest)) q → entries_at version p ≡ Ok (firsts version ++ rest, q)
+unfolding entries_at
+entries_of b version p rest q h admitted s =
+    let all : List Entry = firsts version ++ rest in
+    let size : length all ≡ least_entries version + length rest = omega (arith, length-append (firsts version) rest, firsts_count version) in
+    let few = h.few in
+    let c = stand_cut p q (numbered (codes "assume") (length all) ∷ []) (map entry_words all) s in
+    let P : List (List (List ℕ)) → Type 0 = λ wss. Stand c.0 wss q in
+    let d = stand_cut c.0 q (map entry_words (firsts version)) (map entry_words rest) (subst P (map-append entry_words (firsts version) rest) c.2) in
+    let number = number_line b.words (codes "assume") (least_entries version) most_entries (length all) p c.0 (plain (codes "assume" ∷ []) refl).0 (lit< tt) (omega (arith, size)) few c.1 in
+    let fits = all_behind FitsEntry (firsts version) rest (recursion_from_All FitsEntry all h.each) in
+    let items = items_again (λ at. entry_by (is_third version)) entry_words (EntryOf (is_third version)) refused_entry (entry_reads b.words b.entries (is_third version)) (firsts version) rest (length all - least_entries version) d.0 q
+    (omega (arith, size, few, firsts_count version)) (entries_admitted (is_third version) (firsts version) rest h fits admitted) (omega (arith, size)) d.2 in
+    rw (number, first_again version c.0 d.0 d.1) items
+
+entries_again : Below → (version : Version) (p : Place) (es : List Entry) (q : Place) → AreEntries es → is_third version ≡ has_pairs es → Stand p (entry_lines es) q → entries_at version p ≡ Ok (es, q)
+entries_again b version p es q h mode s =
+    let t = begins version es h mode in
+    let P : List Entry → Type 0 = λ xs. Stand p (entry_lines xs) q in
+    let Q : List Entry → Type 0 = λ xs. entries_at version p ≡ Ok (xs, q) in
+    subst Q (sym t.all) (entries_of b version p t.rest q (subst AreEntries t.all h) t.admitted (subst P t.all s))
 
 pub insts_take : Below → (p : Place) (z : List Inst × Place) → insts_at p ≡ Ok z → ListPart (codes "instances") most_instances inst_words AnyInst refused_inst p z
 unfolding insts_at
 insts_take b p z e =
-    let n = then_ok (formed (line_by (numbered_by (codes "instances") most_instances) p)) _ z e in
-    let count = number_take b.words (codes "instances") most_instances p n.0 (lit< tt) n.1 in
-    list_take (λ at. inst_by) inst_words AnyInst refused_inst (inst_spells b.words b.insts) inst_steady (codes "instances") most_instances n.0.0 p n.0.1 z count.0 count.1 n.2
+    let n = then_ok (formed (line_by (numbered_by (codes "instances") 0 most_instances) p)) _ z e in
+    let count = number_take b.words (codes "instances") 0 most_instances p n.0 (lit< tt) n.1 in
+    list_take (λ at. inst_by) inst_words AnyInst refused_inst (inst_spells b.words b.insts) inst_steady (codes "instances") most_instances n.0.0 p n.0.1 z count.0 count.2 n.2
 
 insts_again : Below → (p : Place) (xs : List Inst) (q : Place) → IsStrictlySortedBy inst_cmp (inst_keys xs) → AllByRecursion IsInst xs → length xs ≤ most_instances → Stand p (inst_lines xs) q → insts_at p ≡ Ok (xs, q)
 unfolding insts_at
 insts_again b p xs q ascend all few s =
     let r = list_again (λ at. inst_by) inst_words AnyInst refused_inst (inst_reads b.words b.insts) (codes "instances") xs p q (omega (arith, few)) (insts_admitted xs ascend all) s in
-    let count = number_line b.words (codes "instances") most_instances (length xs) p r.0 (plain (codes "instances" ∷ []) refl).0 (lit< tt) few r.1 in
+    let count = number_line b.words (codes "instances") 0 most_instances (length xs) p r.0 (plain (codes "instances" ∷ []) refl).0 (lit< tt) (omega arith) few r.1 in
     rw count r.2
 
 pub nodes_part : Below → (version : Version) (insts : List Inst) → IsStrictlySortedBy inst_cmp (inst_keys insts) → (p : Place) (z : Seeds × Place) → nodes_at version insts p ≡ Ok z
@@ -95,30 +175,31 @@ nodes_again b version insts few p ns q keep all most s =
 
 -- ---- what is read is spelled so
 
-pub claim_of : (version : Version) (n : ℕ) (es : List Entry) (xs : List Inst) (ns : Seeds) (w : Option Plan) → n ≤ SIZE → AreEntries es → AllByRecursion IsInst xs → IsStrictlySortedBy inst_cmp (inst_keys xs) → length xs ≤ most_instances
+pub claim_of : (version : Version) (n : ℕ) (es : List Entry) (xs : List Inst) (ns : Seeds) (w : Option Plan) → n ≤ SIZE → AreEntries es → is_third version ≡ has_pairs es → AllByRecursion IsInst xs → IsStrictlySortedBy inst_cmp (inst_keys xs) → length xs ≤ most_instances
     → AllFrom (FitsNode version xs) 0 ns → NodesKeep ns → length ns ≤ most_nodes → IsClaim (record { version = version; bound = n; assumptions = es; instances = xs; nodes = ns; witness = w })
-claim_of version n es xs ns w small he hx ax few hn kn most = record {
+claim_of version n es xs ns w small he mode hx ax few hn kn most = record {
   bound_fits = small;
   entries_fit = he;
   insts_fit = hx;
   insts_ascend = ax;
   few_insts = few;
-  nodes_fit = all_from version xs 0 ns hn;
+  nodes_fit = subst (λ followed. AreFrom followed 0 ns) mode (all_from version xs 0 ns hn);
   nodes_belong = all_belong version xs 0 ns hn;
   nodes_ascend = kn.ascend;
   few_nodes = most;
   few_cells = kn.few;
   of_version = are_of version ns (all_of_version version xs 0 ns hn);
+  of_list = mode;
 }
 
-claim_by : Below → (version : Version) (n : ℕ) (a c d : Place) (es : List Entry × Place) (xs : List Inst × Place) (ns : Seeds × Place) (w : Option Plan) → n ≤ SIZE → entries_at a ≡ Ok es → insts_at c ≡ Ok xs → nodes_at version xs.0 d ≡ Ok ns
+claim_by : Below → (version : Version) (n : ℕ) (a c d : Place) (es : List Entry × Place) (xs : List Inst × Place) (ns : Seeds × Place) (w : Option Plan) → n ≤ SIZE → entries_at version a ≡ Ok es → insts_at c ≡ Ok xs → nodes_at version xs.0 d ≡ Ok ns
     → IsClaim (record { version = version; bound = n; assumptions = es.0; instances = xs.0; nodes = ns.0; witness = w })
 claim_by b version n a c d es xs ns w small e f g =
-    let entries = entries_take b a es e in
+    let entries = entries_take b version a es e in
     let insts = insts_take b c xs f in
     let ascend = insts_kept b.keys xs.0 insts.fit in
     let nodes = nodes_part b version xs.0 ascend d ns g in
-    claim_of version n es.0 xs.0 ns.0 w small (entries_kept es.0 entries.few entries.fit) (all_of_any IsInst 0 xs.0 (admitted_all AnyInst refused_inst [] xs.0 insts.fit)) ascend insts.few
+    claim_of version n es.0 xs.0 ns.0 w small entries.are entries.mode (all_of_any IsInst 0 xs.0 (admitted_all AnyInst refused_inst [] xs.0 insts.fit)) ascend insts.few
     (admitted_all (FitsNode version xs.0) refused_node [] ns.0 nodes.fit) (nodes_kept b.keys version xs.0 ns.0 nodes.fit) nodes.few
 
 record ClaimRead (p : Place) (z : Claim × Place) : Type 0 where
@@ -130,13 +211,13 @@ claim_take : Below → (p : Place) (z : Claim × Place) → claim_at p ≡ Ok z 
 unfolding claim_at
 claim_take k p z e =
     let b = then_ok (heading_at p) _ z e in
-    let a = then_ok (entries_at b.0.1) _ z b.2 in
+    let a = then_ok (entries_at b.0.0.0 b.0.1) _ z b.2 in
     let i = then_ok (insts_at a.0.1) _ z a.2 in
     let n = then_ok (nodes_at b.0.0.0 i.0.0 i.0.1) _ z i.2 in
     let w = then_ok (witness_at n.0.1) _ z n.2 in
     let d = then_ok (end_at w.0.1) _ z w.2 in
     let top = heading_take k.words p b.0 b.1 in
-    let entries = entries_take k b.0.1 a.0 a.1 in
+    let entries = entries_take k b.0.0.0 b.0.1 a.0 a.1 in
     let insts = insts_take k a.0.1 i.0 i.1 in
     let nodes = nodes_part k b.0.0.0 i.0.0 (insts_kept k.keys i.0.0 insts.fit) i.0.1 n.0 n.1 in
     let witness = witness_part k.schedule_spelled n.0.1 w.0 w.1 in
@@ -186,7 +267,7 @@ node_plain_all b version insts few at [] most h = tt
 node_plain_all b version insts few at (n ∷ ns) most h = (node_is_plain b.nodes b.keys version insts few at n (omega (arith, most)) h.0, node_plain_all b version insts few (at + 1) ns (omega (arith, most)) h.1)
 
 pub fitting_nodes : (c : Claim) → IsClaim c → AllFrom (FitsNode c.version c.instances) 0 c.nodes
-fitting_nodes c h = all_fit c.version c.instances 0 c.nodes h.nodes_fit h.nodes_belong (each_of c.version c.nodes h.of_version)
+fitting_nodes c h = all_fit c.version c.instances 0 c.nodes (subst (λ followed. AreFrom followed 0 c.nodes) (sym h.of_list) h.nodes_fit) h.nodes_belong (each_of c.version c.nodes h.of_version)
 
 front_plain : Below → (c : Claim) → IsClaim c → AllByRecursion (AllByRecursion IsWord) (front_lines c)
 front_plain b c h =
@@ -204,7 +285,7 @@ front_plain b c h =
     (version_plain c.version, (bound, joined_plain (entry_lines c.assumptions) (inst_lines c.instances ++ node_lines c.version c.instances c.nodes) entries (joined_plain (inst_lines c.instances) (node_lines c.version c.instances c.nodes) insts nodes)))
 
 again_at : Below → (c : Claim) → IsClaim c → (p q : Place) → Stand p (front_lines c) q
-    → (a : Place) × (d : Place) × (f : Place) × (heading_at p ≡ Ok ((c.version, c.bound), a)) × (entries_at a ≡ Ok (c.assumptions, d)) × (insts_at d ≡ Ok (c.instances, f)) × (nodes_at c.version c.instances f ≡ Ok (c.nodes, q))
+    → (a : Place) × (d : Place) × (f : Place) × (heading_at p ≡ Ok ((c.version, c.bound), a)) × (entries_at c.version a ≡ Ok (c.assumptions, d)) × (insts_at d ≡ Ok (c.instances, f)) × (nodes_at c.version c.instances f ≡ Ok (c.nodes, q))
 again_at b c h p q s =
     let x = stand_cut p q (heading c.version c.bound) (entry_lines c.assumptions ++ (inst_lines c.instances ++ node_lines c.version c.instances c.nodes)) s in
     let y = stand_cut x.0 q (entry_lines c.assumptions) (inst_lines c.instances ++ node_lines c.version c.instances c.nodes) x.2 in
@@ -213,7 +294,7 @@ again_at b c h p q s =
       y.0,
       z.0,
       heading_again b.words p c.version c.bound x.0 h.bound_fits x.1,
-      entries_again b x.0 c.assumptions y.0 h.entries_fit y.1,
+      entries_again b c.version x.0 c.assumptions y.0 h.entries_fit h.of_list y.1,
       insts_again b y.0 c.instances z.0 h.insts_ascend h.insts_fit h.few_insts z.1,
       nodes_again b c.version c.instances h.few_insts z.0 c.nodes q (record { ascend = h.nodes_ascend; few = h.few_cells }) (fitting_nodes c h) h.few_nodes z.2,
     )

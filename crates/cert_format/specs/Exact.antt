@@ -24,5 +24,5 @@ OneText = (a b : Claim) → IsCertificate a → IsCertificate b → text_of a �
 -- the parts that are read make up a claim
 abbrev pub PartsMakeClaims : Type 0
 PartsMakeClaims =
-    (version : Version) (a b c d : Place) (n : ℕ) (es : List Entry) (xs : List Inst) (ns : Seeds) → n ≤ SIZE → entries_at a ≡ Ok (es, b) → insts_at b ≡ Ok (xs, c) → nodes_at version xs c ≡ Ok (ns, d)
+    (version : Version) (a b c d : Place) (n : ℕ) (es : List Entry) (xs : List Inst) (ns : Seeds) → n ≤ SIZE → entries_at version a ≡ Ok (es, b) → insts_at b ≡ Ok (xs, c) → nodes_at version xs c ≡ Ok (ns, d)
     → IsClaim (record { version = version; bound = n; assumptions = es; instances = xs; nodes = ns; witness = None })

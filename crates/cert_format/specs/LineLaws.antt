@@ -8,7 +8,7 @@ use Rattle.certificate.specs.declared.instance.Inst.{Inst}
 use Rattle.certificate.specs.declared.version.Version.{Version}
 use Rattle.certificate.specs.Insts.{IsInst}
 use Rattle.certificate.specs.Claims.{FitsAt}
-use Rattle.certificate.specs.Versions.{NodeIsOf}
+use Rattle.certificate.specs.Versions.{NodeIsOf, is_third}
 use Rattle.cert_words.specs.Text.{inst_words, node_words_at}
 use Rattle.cert_format.specs.LineReading.{inst_in, node_in}
 
@@ -28,11 +28,11 @@ pub record IsNodeLine (version : Version) (insts : List Inst) (at : ℕ) (ws : L
   pub place : ℕ
   pub words : ws ≡ node_words_at version place n
   pub inst : IsInstanceOf insts place n.0
-  pub fits : FitsAt at n.0 n.1
+  pub fits : FitsAt (is_third version) at n.0 n.1
   pub of_version : NodeIsOf version n
 
 pub record NodeLines : Type 0 where
   pub spelled : (version : Version) (insts : List Inst) (at : ℕ) (ws : List (List ℕ)) (n : NodeKey × NodeForm) → node_in version insts at ws ≡ Some n → IsNodeLine version insts at ws n
-  pub read : (version : Version) (insts : List Inst) (at place : ℕ) (n : NodeKey × NodeForm) → at ≤ 65536 → place < 65536 → IsInstanceOf insts place n.0 → FitsAt at n.0 n.1 → NodeIsOf version n
+  pub read : (version : Version) (insts : List Inst) (at place : ℕ) (n : NodeKey × NodeForm) → at ≤ 65536 → place < 65536 → IsInstanceOf insts place n.0 → FitsAt (is_third version) at n.0 n.1 → NodeIsOf version n
       → node_in version insts at (node_words_at version place n) ≡ Some n
-  pub words : (version : Version) (at place : ℕ) (n : NodeKey × NodeForm) → at ≤ 65536 → place < 65536 → FitsAt at n.0 n.1 → NodeIsOf version n → AllByRecursion IsWord (node_words_at version place n)
+  pub words : (version : Version) (at place : ℕ) (n : NodeKey × NodeForm) → at ≤ 65536 → place < 65536 → FitsAt (is_third version) at n.0 n.1 → NodeIsOf version n → AllByRecursion IsWord (node_words_at version place n)

@@ -1,9 +1,10 @@
 -- Reading a certificate forward, line by line. A refusal tells why the first line that can't go on is refused, and where it stands:
 -- of one line, form comes before order and order before limit.
-use Rattle.std.specs.Prelude.{ℕ, zero, suc, ◌+◌, ◌-◌, nat_le, Bool, true, false, List, [], ◌∷◌, ◌++◌, length, codes, slice_get, Option, Some, None, Result, Ok, Err, if◌then◌else◌}
+use Rattle.std.specs.Prelude.{ℕ, zero, suc, ◌+◌, ◌-◌, ◌&&◌, nat_le, Bool, true, false, List, [], ◌∷◌, ◌++◌, length, codes, slice_get, Option, Some, None, Result, Ok, Err, if◌then◌else◌}
 use Rattle.std.specs.Ordering.{is_lt}
 use Rattle.std.specs.Str.{bytes_eq}
 use Rattle.avr_model.specs.declared.assumption.Entry.{Entry}
+use Rattle.avr_model.specs.declared.assumption.Entry.TheVariants.{Pairs, Jump, Store, Prove, Free, Never, Frame}
 use Rattle.avr_model.specs.State.{SIZE}
 use Rattle.sb_base.specs.Digits.{dec_answer}
 use Rattle.sb_base.specs.declared.digits.DigitFault.{DigitFault}
@@ -21,7 +22,8 @@ use Rattle.witness_replay.specs.Spelling.{Plan}
 use Rattle.witness_replay.specs.Reading.{schedule_at}
 use Rattle.certificate.specs.declared.instance.Inst.{Inst}
 use Rattle.certificate.specs.declared.version.Version.{Version}
-use Rattle.certificate.specs.declared.version.Version.TheVariants.{One, Two}
+use Rattle.certificate.specs.declared.version.Version.TheVariants.{One, Two, Three}
+use Rattle.certificate.specs.Versions.{is_third}
 use Rattle.certificate.specs.Claims.{Claim, most_instances, most_nodes, most_cells, cells_of, node_keys}
 use Rattle.certificate.specs.declared.limit.Limit.TheVariants as limit
 use Rattle.cert_format.specs.declared.fault.CertFault.{CertFault}
@@ -35,15 +37,15 @@ abbrev pub formed : {A : Type 0} → Result (A × Place) Place → Result (A × 
 formed (Ok x) = Ok x
 formed (Err q) = Err (fault.Malformed q.at)
 
--- a name and a number
-unfoldable pub numbered_in : List ℕ → ℕ → List (List ℕ) → Option ℕ
-numbered_in name most ws = do
+-- a name and a number, from a least to a greatest one
+unfoldable pub numbered_in : List ℕ → ℕ → ℕ → List (List ℕ) → Option ℕ
+numbered_in name least most ws = do
   w ← word_at name ws
   n ← dec_at most w.1
-  if is_over n.1 then Some n.0 else None
+  if nat_le least n.0 && is_over n.1 then Some n.0 else None
 
-abbrev pub numbered_by : List ℕ → ℕ → List ℕ → Option ℕ
-numbered_by name most text = numbered_in name most (words_of text)
+abbrev pub numbered_by : List ℕ → ℕ → ℕ → List ℕ → Option ℕ
+numbered_by name least most text = numbered_in name least most (words_of text)
 
 -- a decimal, whose number is left out where it is too great
 abbrev pub counted : Result ℕ DigitFault → Option (Option ℕ)
@@ -63,8 +65,19 @@ count_in ws = word_at (codes "nodes") ws >>= λ w. count_at w.1
 abbrev pub count_by : List ℕ → Option (Option ℕ)
 count_by text = count_in (words_of text)
 
-abbrev pub entry_by : List ℕ → Option Entry
-entry_by text = entry_in (words_of text)
+-- the line `pairs` is one of the third version alone
+abbrev pub is_admitted : Bool → Entry → Bool
+is_admitted third Pairs = third
+is_admitted third (Jump site words) = true
+is_admitted third (Store site addresses) = true
+is_admitted third (Prove site) = true
+is_admitted third (Free site) = true
+is_admitted third (Never site) = true
+is_admitted third (Frame site) = true
+
+-- an entry of the third version, or of another
+abbrev pub entry_by : Bool → List ℕ → Option Entry
+entry_by third text = entry_in (words_of text) >>= λ e. if is_admitted third e then Some e else None
 
 abbrev pub inst_by : List ℕ → Option Inst
 inst_by text = inst_in (words_of text)
@@ -75,7 +88,9 @@ node_by version insts at text = node_in version insts at (words_of text)
 
 -- the version of a text
 unfoldable pub version_by : List ℕ → Option Version
-version_by text = if bytes_eq text (codes "stackcert 1") then Some One else (if bytes_eq text (codes "stackcert 2") then Some Two else None)
+version_by text =
+    if bytes_eq text (codes "stackcert 1") then Some One
+    else (if bytes_eq text (codes "stackcert 2") then Some Two else (if bytes_eq text (codes "stackcert 3") then Some Three else None))
 
 -- whether a schedule follows
 unfoldable pub ending_by : List ℕ → Option Bool
@@ -144,13 +159,27 @@ items_from by refused xs (suc n) p = then_at (longer_at by refused xs p) (λ x. 
 -- the version and the bound
 unfoldable pub heading_at : Place → Result ((Version × ℕ) × Place) CertFault
 heading_at p =
-    then_at (formed (line_by version_by p)) (λ v. then_at (formed (line_by (numbered_by (codes "bound") SIZE) v.1)) (λ b. Ok ((v.0, b.0), b.1)))
+    then_at (formed (line_by version_by p)) (λ v. then_at (formed (line_by (numbered_by (codes "bound") 0 SIZE) v.1)) (λ b. Ok ((v.0, b.0), b.1)))
 
-unfoldable pub entries_at : Place → Result (List Entry × Place) CertFault
-entries_at p = then_at (formed (line_by (numbered_by (codes "assume") most_entries) p)) (λ n. items_from (λ at. entry_by) refused_entry [] n.0 n.1)
+-- how many entries a version has at least: `pairs` in the third
+abbrev pub least_entries : Version → ℕ
+least_entries One = 0
+least_entries Two = 0
+least_entries Three = 1
+
+-- the entries that a version begins with: in the third the line `pairs`
+unfoldable pub first_at : Version → Place → Result (List Entry × Place) CertFault
+first_at One p = Ok ([], p)
+first_at Two p = Ok ([], p)
+first_at Three p = then_at (formed (line_by (this_by (codes "pairs")) p)) (λ u. Ok (Pairs ∷ [], u.1))
+
+unfoldable pub entries_at : Version → Place → Result (List Entry × Place) CertFault
+entries_at version p =
+    then_at (formed (line_by (numbered_by (codes "assume") (least_entries version) most_entries) p)) (λ n.
+    then_at (first_at version n.1) (λ f. items_from (λ at. entry_by (is_third version)) refused_entry f.0 (n.0 - least_entries version) f.1))
 
 unfoldable pub insts_at : Place → Result (List Inst × Place) CertFault
-insts_at p = then_at (formed (line_by (numbered_by (codes "instances") most_instances) p)) (λ n. items_from (λ at. inst_by) refused_inst [] n.0 n.1)
+insts_at p = then_at (formed (line_by (numbered_by (codes "instances") 0 most_instances) p)) (λ n. items_from (λ at. inst_by) refused_inst [] n.0 n.1)
 
 abbrev pub limited : Result (Option ℕ × Place) CertFault → Result (ℕ × Place) CertFault
 limited (Ok (Some n, q)) = Ok (n, q)
@@ -180,7 +209,7 @@ end_at p = then_at (formed (line_by (this_by (codes "end")) p)) (λ e. if_last e
 unfoldable pub claim_at : Place → Result (Claim × Place) CertFault
 claim_at p =
     then_at (heading_at p) (λ b.
-    then_at (entries_at b.1) (λ a.
+    then_at (entries_at b.0.0 b.1) (λ a.
     then_at (insts_at a.1) (λ i.
     then_at (nodes_at b.0.0 i.0 i.1) (λ n.
     then_at (witness_at n.1) (λ w.

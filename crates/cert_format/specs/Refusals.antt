@@ -4,6 +4,7 @@ use Rattle.std.specs.Prelude.{◌≡◌, ◌≢◌, ◌<◌, ◌≤◌, ◌⊎�
 use Rattle.std.specs.List.{position}
 use Rattle.std.specs.List.Sorted.{IsStrictlySortedBy}
 use Rattle.avr_model.specs.declared.assumption.Entry.{Entry}
+use Rattle.avr_model.specs.declared.assumption.Entry.TheVariants.{Pairs}
 use Rattle.avr_model.specs.State.{SIZE}
 use Rattle.sb_base.specs.Digits.{is_dec, number_from, has_extra_zero}
 use Rattle.sb_base.specs.Lines.{TextLine, Place, lines_of}
@@ -18,21 +19,22 @@ use Rattle.certificate.specs.declared.instance.Inst.{Inst}
 use Rattle.certificate.specs.declared.version.Version.{Version}
 use Rattle.certificate.specs.Insts.{IsInst, inst_keys}
 use Rattle.certificate.specs.Claims.{Claim, IsClaim, IsCertificate, FitsAt, Belongs, most_instances, most_nodes, most_cells, cells_of, node_keys}
-use Rattle.certificate.specs.Versions.{NodeIsOf}
+use Rattle.certificate.specs.Versions.{NodeIsOf, is_third}
 use Rattle.cert_words.specs.Text.{numbered, version_line, heading, entry_lines, inst_lines, inst_words, node_words, open_line, attained_line, witness_lines, end_line, front_lines, certificate_lines, text_of}
 use Rattle.certificate.specs.declared.limit.Limit.{Limit}
 use Rattle.certificate.specs.declared.limit.Limit.TheVariants as limit
 use Rattle.cert_format.specs.declared.fault.CertFault.{CertFault}
 use Rattle.cert_format.specs.declared.fault.CertFault.TheVariants as fault
-use Rattle.cert_format.specs.Reading.{certificate_in}
+use Rattle.cert_format.specs.Reading.{is_admitted, least_entries, certificate_in}
 
 -- ---- how far the lines of a certificate go
 
--- the part that stands next; of a list, so many items were announced
+-- the part that stands next; of a list, so many items were announced. In the third version the first entry is `pairs`.
 pub data Part : Type 0 where
   Begin : Part
   Bound : Part
   Assume : Part
+  FirstEntry : ℕ → Part
   AnEntry : ℕ → Part
   Instances : Part
   AnInst : ℕ → Part
@@ -47,6 +49,7 @@ abbrev pub lines_to : Claim → Part → List (List (List ℕ))
 lines_to c Begin = []
 lines_to c Bound = version_line c.version ∷ []
 lines_to c Assume = heading c.version c.bound
+lines_to c (FirstEntry n) = heading c.version c.bound ++ numbered (codes "assume") n ∷ []
 lines_to c (AnEntry n) = heading c.version c.bound ++ numbered (codes "assume") n ∷ map entry_words c.assumptions
 lines_to c Instances = heading c.version c.bound ++ entry_lines c.assumptions
 lines_to c (AnInst n) = heading c.version c.bound ++ (entry_lines c.assumptions ++ numbered (codes "instances") n ∷ map inst_words c.instances)
@@ -58,6 +61,7 @@ lines_to c Nothing = certificate_lines c
 
 -- fewer items than announced, and no more announced than there may be
 abbrev pub HasRoom : Claim → Part → Type 0
+HasRoom c (FirstEntry n) = (is_third c.version ≡ true) × (1 ≤ n) × (n ≤ most_entries)
 HasRoom c (AnEntry n) = (length c.assumptions < n) × (n ≤ most_entries)
 HasRoom c (AnInst n) = (length c.instances < n) × (n ≤ most_instances)
 HasRoom c (ANode n) = (length c.nodes < n) × (n ≤ most_nodes)
@@ -82,20 +86,20 @@ pub record IsDecimal (w : List ℕ) : Type 0 where
   pub plain : has_extra_zero w ≡ false
   pub digits : position (λ b. not (is_dec b)) w ≡ None
 
--- a name and a decimal of at most this number
-abbrev pub IsNumbered : List ℕ → ℕ → List (List ℕ) → Type 0
-IsNumbered name most ws = (n : ℕ) × (n ≤ most) × (ws ≡ numbered name n)
+-- a name and a decimal, from this number to that one
+abbrev pub IsNumbered : List ℕ → ℕ → ℕ → List (List ℕ) → Type 0
+IsNumbered name least most ws = (n : ℕ) × (least ≤ n) × (n ≤ most) × (ws ≡ numbered name n)
 
--- the words of some entry, instance or node that can stand in a certificate, where this holds of it
+-- the words of some entry, instance or node that can stand in a certificate of this version, where this holds of it
 
-abbrev pub IsEntryWith : (Entry → Type 0) → List (List ℕ) → Type 0
-IsEntryWith P ws = (e : Entry) × (is_entry e ≡ true) × (ws ≡ entry_words e) × P e
+abbrev pub IsEntryWith : Version → (Entry → Type 0) → List (List ℕ) → Type 0
+IsEntryWith version P ws = (e : Entry) × (is_entry e ≡ true) × (is_admitted (is_third version) e ≡ true) × (ws ≡ entry_words e) × P e
 
 abbrev pub IsInstWith : (Inst → Type 0) → List (List ℕ) → Type 0
 IsInstWith P ws = (x : Inst) × IsInst x × (ws ≡ inst_words x) × P x
 
 abbrev pub IsNodeWith : Claim → (NodeKey × NodeForm → Type 0) → List (List ℕ) → Type 0
-IsNodeWith c P ws = (n : NodeKey × NodeForm) × FitsAt (length c.nodes) n.0 n.1 × Belongs c.instances n.0 × NodeIsOf c.version n × (ws ≡ node_words c.version c.instances n) × P n
+IsNodeWith c P ws = (n : NodeKey × NodeForm) × FitsAt (is_third c.version) (length c.nodes) n.0 n.1 × Belongs c.instances n.0 × NodeIsOf c.version n × (ws ≡ node_words c.version c.instances n) × P n
 
 abbrev pub AreNodes : (List ℕ → Type 0) → List (List ℕ) → Type 0
 AreNodes P ws = (w : List ℕ) × IsDecimal w × (ws ≡ codes "nodes" ∷ w ∷ []) × P w
@@ -103,10 +107,11 @@ AreNodes P ws = (w : List ℕ) × IsDecimal w × (ws ≡ codes "nodes" ∷ w ∷
 -- words of the form that stands at this part
 abbrev pub IsOfForm : Claim → Part → List (List ℕ) → Type 0
 IsOfForm c Begin ws = (version : Version) × (ws ≡ version_line version)
-IsOfForm c Bound ws = IsNumbered (codes "bound") SIZE ws
-IsOfForm c Assume ws = IsNumbered (codes "assume") most_entries ws
-IsOfForm c (AnEntry n) ws = IsEntryWith (λ e. ⊤) ws
-IsOfForm c Instances ws = IsNumbered (codes "instances") most_instances ws
+IsOfForm c Bound ws = IsNumbered (codes "bound") 0 SIZE ws
+IsOfForm c Assume ws = IsNumbered (codes "assume") (least_entries c.version) most_entries ws
+IsOfForm c (FirstEntry n) ws = ws ≡ entry_words Pairs
+IsOfForm c (AnEntry n) ws = IsEntryWith c.version (λ e. ⊤) ws
+IsOfForm c Instances ws = IsNumbered (codes "instances") 0 most_instances ws
 IsOfForm c (AnInst n) ws = IsInstWith (λ x. ⊤) ws
 IsOfForm c Nodes ws = AreNodes (λ w. ⊤) ws
 IsOfForm c (ANode n) ws = IsNodeWith c (λ e. ⊤) ws
@@ -119,7 +124,7 @@ Ascend keys = IsStrictlySortedBy node_cmp keys
 
 -- words of an item that isn't above the last
 abbrev pub IsLow : Claim → Part → List (List ℕ) → Type 0
-IsLow c (AnEntry n) ws = IsEntryWith (λ e. is_above_last c.assumptions e ≡ false) ws
+IsLow c (AnEntry n) ws = IsEntryWith c.version (λ e. is_above_last c.assumptions e ≡ false) ws
 IsLow c (AnInst n) ws = IsInstWith (λ x. IsStrictlySortedBy inst_cmp (inst_keys (c.instances ++ x ∷ [])) → ⊥) ws
 IsLow c (ANode n) ws = IsNodeWith c (λ e. Ascend (node_keys (c.nodes ++ e ∷ [])) → ⊥) ws
 IsLow c part ws = ⊥

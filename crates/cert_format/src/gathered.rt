@@ -2,11 +2,12 @@
 
 ghost use Rattle.std.specs.Prelude.{◌≡◌, ◌≤◌, ◌<◌, ◌+◌, ℕ, List, [], Option, length};
 ghost use Rattle.avr_model.specs.State as model;
+ghost use Rattle.avr_model.specs.Assumptions.{has_pairs};
 ghost use Rattle.sb_base.specs.Answers.{Answers};
 ghost use Rattle.mask_states.specs.Keys.{offset_of};
 ghost use Rattle.cert_format.specs.declared.fault.CertFault.{CertFault};
 ghost use Rattle.cert_format.specs.declared.fault.CertFault.TheVariants as fault;
-ghost use Rattle.cert_format.specs.Reading.{last_in, is_inst_above, is_node_above, refused_node, with_item, with_text, longer_at, items_from};
+ghost use Rattle.cert_format.specs.Reading.{is_admitted, last_in, is_inst_above, is_node_above, refused_node, with_item, with_text, longer_at, items_from};
 
 use crate::fault::CertFault;
 use crate::lines::{instance_of, node_of};
@@ -85,6 +86,17 @@ pub(crate) fn read_each<G: Gathered>(
     Ok(())
 }
 
+/// Whether an entry can stand behind these: `pairs` is no line behind entries without it.
+fn is_admitted(list: &Assumptions, entry: &Entry) -> bool
+    ensures { result ≡ is_admitted (has_pairs list.now) entry.now }
+{
+    match entry {
+        Entry::Pairs => list.has_pairs(),
+        Entry::Jump(_, _) | Entry::Store(_, _) => true,
+        Entry::Prove(_) | Entry::Free(_) | Entry::Never(_) | Entry::Frame(_) => true,
+    }
+}
+
 impl Gathered for Assumptions {
     type Item = Entry;
 
@@ -95,7 +107,7 @@ impl Gathered for Assumptions {
 
     ghost most = { most_entries };
 
-    ghost by = { λ list at. entry_by };
+    ghost by = { λ list at. entry_by (has_pairs list) };
 
     ghost refused = { refused_entry };
 
@@ -103,6 +115,9 @@ impl Gathered for Assumptions {
         let Some(entry) = entry_of(alloc, text)? else {
             return Err(CertFault::Malformed(at));
         };
+        if !is_admitted(self, &entry) {
+            return Err(CertFault::Malformed(at));
+        }
         match self.push(entry) {
             Ok(()) => Ok(()),
             Err(AssumeFault::Order) => Err(CertFault::Order(at)),

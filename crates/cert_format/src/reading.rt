@@ -3,6 +3,8 @@
 ghost use Rattle.std.specs.Prelude.{◌≡◌, ◌≤◌, ◌<◌, ◌+◌, [], ◌∷◌, codes, true, Some, None, Ok, IfSome, IfOk, length};
 ghost use Rattle.std.specs.Option.{option_copied};
 ghost use Rattle.avr_model.specs.State as model;
+ghost use Rattle.avr_model.specs.Assumptions.{has_pairs};
+ghost use Rattle.avr_model.specs.declared.assumption.Entry.TheVariants.{Pairs};
 ghost use Rattle.sb_base.specs.Lines.{words_of};
 ghost use Rattle.sb_base.specs.Digits.{dec_answer};
 ghost use Rattle.witness_replay.specs.Reading.{schedule_at};
@@ -12,8 +14,9 @@ ghost use Rattle.vector_table.specs.Entries as entries;
 ghost use Rattle.mask_states.specs.Keys.{offset_of};
 ghost use Rattle.cert_format.specs.declared.fault.CertFault.TheVariants as fault;
 ghost use Rattle.certificate.specs.Claims.{Claim, IsCertificate, most_instances, most_nodes, most_cells, cells_of, node_keys};
+ghost use Rattle.certificate.specs.Versions.{is_third};
 ghost use Rattle.cert_words.specs.Text.{text_of};
-ghost use Rattle.cert_format.specs.Reading.{formed, version_by, numbered_in, numbered_by, counted, count_at, count_in, count_by, entry_by, inst_by, node_by, ending_by, last_in, is_inst_above, is_node_above, refused_entry, refused_inst, refused_node, with_item, longer_at, items_from, heading_at, entries_at, insts_at, limited, nodes_at, plan_if, witness_at, if_last, end_at, claim_at, claim_alone, certificate_in};
+ghost use Rattle.cert_format.specs.Reading.{formed, version_by, numbered_in, numbered_by, counted, count_at, count_in, count_by, entry_by, inst_by, node_by, ending_by, last_in, is_inst_above, is_node_above, refused_entry, refused_inst, refused_node, with_item, longer_at, items_from, heading_at, least_entries, first_at, entries_at, insts_at, limited, nodes_at, plan_if, witness_at, if_last, end_at, claim_at, claim_alone, certificate_in};
 ghost use Rattle.cert_format.specs.Refusals.{IsDueUnlessMemory};
 
 use crate::fault::CertFault;
@@ -47,32 +50,39 @@ const MOST_NODES: u64 = 65_536;
 /// The most cells.
 const MOST_CELLS: u32 = 8_388_608;
 
-/// The number of a line that is a name and a number.
+/// The number of a line that is a name and a number, from a least to a greatest one.
 #[tactic(auto, unfolding(crate::specs::Reading::numbered_in))]
-fn numbered(text: &[u8], name: &[u8], most: u64) -> Option<u64>
-    ensures exact { result ≡ numbered_by name.now most text.now }
+fn numbered(text: &[u8], name: &[u8], least: u64, most: u64) -> Option<u64>
+    ensures exact { result ≡ numbered_by name.now least most text.now }
+    ensures large { IfSome result (λ n. least ≤ n) }
     ensures small { IfSome result (λ n. n ≤ most) }
 {
     let mut words = Words::new(text);
     expect_word(&mut words, name)?;
     let number = dec_word(&mut words, most)?;
-    if is_over(&mut words) {
+    if least <= number && is_over(&mut words) {
         Some(number)
     } else {
         None
     }
 }
 
-/// Reads a line that is a name and a number.
+/// Reads a line that is a name and a number, from a least to a greatest one.
 #[tactic(auto, unfolding(line_reading::specs::Reading::line_by))]
-fn read_numbered(reader: &mut LineReader<'_>, name: &[u8], most: u64) -> Result<u64, CertFault>
-    ensures exact { Answers (λ n. (n, reader.new)) fault.Memory result (formed (line_by (numbered_by name.now most) reader.old)) }
+fn read_numbered(
+    reader: &mut LineReader<'_>,
+    name: &[u8],
+    least: u64,
+    most: u64,
+) -> Result<u64, CertFault>
+    ensures exact { Answers (λ n. (n, reader.new)) fault.Memory result (formed (line_by (numbered_by name.now least most) reader.old)) }
+    ensures large { IfOk result (λ n. least ≤ n) }
     ensures small { IfOk result (λ n. n ≤ most) }
 {
     let Some(text) = peek_text(reader) else {
         return Err(CertFault::Malformed(reader.offset()));
     };
-    let number = take_line(reader, numbered(text, name, most))?;
+    let number = take_line(reader, numbered(text, name, least, most))?;
     Ok(number)
 }
 
@@ -120,14 +130,60 @@ fn read_count(reader: &mut LineReader<'_>) -> Result<u64, CertFault>
     }
 }
 
+/// How many assumptions a version has at least.
+fn least_entries(version: Version) -> u64
+    ensures { result ≡ least_entries version }
+{
+    match version {
+        Version::One | Version::Two => 0,
+        Version::Three => 1,
+    }
+}
+
+/// The list of `pairs` alone.
+fn only_pairs(alloc: Global) -> Result<Assumptions, CertFault>
+    ensures { Answers (λ a. a) fault.Memory result (Ok (Pairs ∷ [])) }
+{
+    let mut list = Assumptions::empty(alloc);
+    match list.push(Entry::Pairs) {
+        Ok(()) => Ok(list),
+        Err(_) => Err(CertFault::Memory),
+    }
+}
+
+/// Reads the assumptions that a version begins with: in the third the line `pairs`.
+#[tactic(auto, unfolding(crate::specs::Reading::first_at, avr_model::specs::Assumptions::has_pairs))]
+fn read_first(
+    alloc: Global,
+    reader: &mut LineReader<'_>,
+    version: Version,
+) -> Result<Assumptions, CertFault>
+    ensures exact { Answers (λ a. (a, reader.new)) fault.Memory result (first_at version reader.old) }
+    ensures count { IfOk result (λ a. length a ≡ least_entries version) }
+    ensures mode { IfOk result (λ a. has_pairs a ≡ is_third version) }
+{
+    match version {
+        Version::One | Version::Two => Ok(Assumptions::empty(alloc)),
+        Version::Three => {
+            read_text(reader, b"pairs")?;
+            only_pairs(alloc)
+        }
+    }
+}
+
 /// Reads the number of assumptions and their lines.
 #[tactic(auto, unfolding(crate::specs::Reading::entries_at))]
-fn read_entries(alloc: Global, reader: &mut LineReader<'_>) -> Result<Assumptions, CertFault>
-    ensures { Answers (λ a. (a, reader.new)) fault.Memory result (entries_at reader.old) }
+fn read_entries(
+    alloc: Global,
+    reader: &mut LineReader<'_>,
+    version: Version,
+) -> Result<Assumptions, CertFault>
+    ensures { Answers (λ a. (a, reader.new)) fault.Memory result (entries_at version reader.old) }
 {
-    let count = read_numbered(reader, b"assume", MOST_ENTRIES)?;
-    let mut list = Assumptions::empty(alloc);
-    read_each(alloc, reader, &mut list, count)?;
+    let least = least_entries(version);
+    let count = read_numbered(reader, b"assume", least, MOST_ENTRIES)?;
+    let mut list = read_first(alloc, reader, version)?;
+    read_each(alloc, reader, &mut list, count - least)?;
     Ok(list)
 }
 
@@ -136,7 +192,7 @@ fn read_entries(alloc: Global, reader: &mut LineReader<'_>) -> Result<Assumption
 fn read_instances(alloc: Global, reader: &mut LineReader<'_>) -> Result<Vec<Inst>, CertFault>
     ensures { Answers (λ v. (v.items, reader.new)) fault.Memory result (insts_at reader.old) }
 {
-    let count = read_numbered(reader, b"instances", MOST_INSTANCES)?;
+    let count = read_numbered(reader, b"instances", 0, MOST_INSTANCES)?;
     let mut list = Vec::new(alloc);
     read_each(alloc, reader, &mut list, count)?;
     Ok(list)
@@ -225,6 +281,8 @@ fn version_of(text: &[u8]) -> Option<Version>
         Some(Version::One)
     } else if text == b"stackcert 2".as_slice() {
         Some(Version::Two)
+    } else if text == b"stackcert 3".as_slice() {
+        Some(Version::Three)
     } else {
         None
     }
@@ -249,7 +307,7 @@ fn read_heading(reader: &mut LineReader<'_>) -> Result<(Version, u64), CertFault
     ensures small { IfOk result (λ h. h.1 ≤ model.SIZE) }
 {
     let version = read_version(reader)?;
-    let bound = read_numbered(reader, b"bound", SIZE)?;
+    let bound = read_numbered(reader, b"bound", 0, SIZE)?;
     Ok((version, bound))
 }
 
@@ -272,7 +330,7 @@ fn read_claim(alloc: Global, reader: &mut LineReader<'_>) -> Result<Certificate,
 {
     claims_keep();
     let (version, bound) = read_heading(reader)?;
-    let assumptions = read_entries(alloc, reader)?;
+    let assumptions = read_entries(alloc, reader, version)?;
     let instances = read_instances(alloc, reader)?;
     let nodes = read_nodes(alloc, reader, version, &instances)?;
     let witness = read_witness(alloc, reader)?;

@@ -1,4 +1,5 @@
 pub mod Pieces
+pub mod PairHulls
 pub mod Words
 pub mod Loops
 pub mod Fields

@@ -25,7 +25,7 @@ use Rattle.mask_states.specs.declared.keys.SpForm.TheVariants.{Closed, Open}
 use Rattle.mask_states.specs.Keys.{offset_of, PickFits}
 use Rattle.local_rules.specs.Cover.{FormFitsKind, IsKey}
 use Rattle.certificate.specs.declared.version.Version.{Version}
-use Rattle.certificate.specs.declared.version.Version.TheVariants.{One, Two}
+use Rattle.certificate.specs.declared.version.Version.TheVariants.{One, Two, Three}
 use Rattle.certificate.specs.Versions.{PickIsOf}
 use Rattle.cert_words.specs.Spelling.{form_word}
 use Rattle.cert_words.specs.KeySpelling.{pick_word, pick_words, place_words}
@@ -104,10 +104,15 @@ pick_at_take k Two ws z e =
     let w = word_by_take pick_in ws z e in
     let t = pick_take k w.0 z.0 w.2 in
     record { words = w.1 ∙ ap (λ (x : List ℕ). x ∷ z.1) t.0; fits = t.1; of_version = tt }
+pick_at_take k Three ws z e =
+    let w = word_by_take pick_in ws z e in
+    let t = pick_take k w.0 z.0 w.2 in
+    record { words = w.1 ∙ ap (λ (x : List ℕ). x ∷ z.1) t.0; fits = t.1; of_version = tt }
 
 pick_at_again : WordLaws → (version : Version) (pick : Option ℕ) (rest : List (List ℕ)) → PickFits pick → PickIsOf version pick → pick_at version (pick_words version pick ++ rest) ≡ Some (pick, rest)
 pick_at_again k One pick rest h g = ap (λ (p : Option ℕ). Some (p, rest)) (sym g)
 pick_at_again k Two pick rest h g = rw (pick_again k pick h) refl
+pick_at_again k Three pick rest h g = rw (pick_again k pick h) refl
 
 pick_is_word : WordLaws → (pick : Option ℕ) → PickFits pick → IsWord (pick_word pick)
 pick_is_word k None h = ((refl, tt), (refl, tt))
@@ -116,6 +121,7 @@ pick_is_word k (Some byte) h = k.hex_word byte 2 (omega (arith, h))
 pick_plain : WordLaws → (version : Version) (pick : Option ℕ) → PickFits pick → AllByRecursion IsWord (pick_words version pick)
 pick_plain k One pick h = tt
 pick_plain k Two pick h = (pick_is_word k pick h, tt)
+pick_plain k Three pick h = (pick_is_word k pick h, tt)
 
 -- ---- the key
 

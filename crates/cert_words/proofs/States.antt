@@ -18,33 +18,79 @@ use Rattle.sp_domain.specs.declared.slots.Slot.{Slot}
 use Rattle.sp_domain.specs.declared.slots.Slot.TheVariants.{Free, Guarded}
 use Rattle.sp_domain.specs.Slots.{slot_at}
 use Rattle.pair_domain.specs.declared.facts.PairFacts.{PairFacts}
-use Rattle.pair_domain.specs.Facts.{is_followed}
+use Rattle.pair_domain.specs.Intervals.{IsIntervalWithin}
+use Rattle.pair_domain.specs.Facts.{interval_at, is_followed}
 use Rattle.pair_domain.specs.Rank.{KnownFits}
 use Rattle.abs_state.specs.declared.values.AbsByte.{AbsByte}
 use Rattle.abs_state.specs.declared.values.AbsFlags.{AbsFlags}
 use Rattle.abs_state.specs.declared.state.AbsState.{AbsState}
-use Rattle.abs_state.specs.Values.{unknown}
+use Rattle.abs_state.specs.Values.{unknown, value_at}
 use Rattle.abs_state.specs.Hulls.{AreInHulls}
-use Rattle.abs_state.specs.Formed.{SlotNamesRegister, SlotByteFits, SlotIsUntagged, IsFormed, IsUntagged}
+use Rattle.abs_state.specs.Formed.{ByteFits, SlotNamesRegister, SlotByteFits, SlotIsUntagged, IsFormed, IsUntagged}
 use Rattle.mask_states.specs.declared.keys.Kind.{Kind}
 use Rattle.mask_states.specs.declared.keys.Kind.TheVariants.{Root, Call, Vector}
 use Rattle.mask_states.specs.declared.keys.NodeKey.{NodeKey}
 use Rattle.mask_states.specs.Keys.{offset_of}
-use Rattle.local_rules.specs.Cover.{SlotFits, TagsFit, IsNode, IsKey}
+use Rattle.local_rules.specs.Cover.{SlotFits, TagsFit, IsNodeIn, IsKey}
 use Rattle.edge_rules.specs.declared.seeded.NodeForm.{NodeForm}
 use Rattle.edge_rules.specs.declared.seeded.NodeForm.TheVariants.{State, From}
 use Rattle.certificate.specs.Claims.{FitsAt}
 use Rattle.certificate.specs.declared.version.Version.{Version}
-use Rattle.certificate.specs.Versions.{ValueIsOf, SlotIsOf, StateIsOf, FormIsOf}
+use Rattle.certificate.specs.declared.version.Version.TheVariants.{One, Two, Three}
+use Rattle.certificate.specs.Versions.{ValueIsOf, SlotIsOf, StateIsOf, FormIsOf, is_third}
+use Rattle.bit_domain.specs.Ranges.{RangesFit}
+use Rattle.pair_words.specs.Laws.{AreHulls, FitWithin, FactsWords}
+use Rattle.pair_words.specs.Spelling.{facts_words}
+use Rattle.pair_words.specs.Reading.{facts_at}
+use Rattle.certificate.specs.Hulls.{hulls_of}
 use Rattle.cert_words.specs.Spelling.{value_word, flags_word, carry_word, slot_word, tag_text, bits_text, range_text}
-use Rattle.cert_words.specs.KeySpelling.{state_words, form_words}
+use Rattle.cert_words.specs.KeySpelling.{pairs_words, state_words, form_words}
 use Rattle.cert_words.specs.Reading.{value_in, slot_in, flags_in, carry_in}
-use Rattle.cert_words.specs.KeyReading.{words_from, is_root, flags_at, state_behind, by_state, from_behind, form_at}
+use Rattle.cert_words.specs.KeyReading.{words_from, is_root, flags_at, pairs_at, state_behind, by_state, from_behind, form_at}
 use Rattle.cert_words.specs.Fits.{IsValue, AreFlags, IsCarry, IsSlot}
 use Rattle.cert_words.specs.Laws.{ValueWords}
 use Rattle.cert_words.specs.KeyLaws.{FormWords}
 use Rattle.cert_words.proofs.Fields.{dec_take, word_by_take, words_take, words_again, words_plain, joined_words}
 use Rattle.cert_words.proofs.InstKeys.{cons}
+use Rattle.cert_words.proofs.PairHulls.{hull_here, are_hulls}
+
+-- ---- what is known of pairs
+
+-- nothing in the first and the second version, and what fits the hulls of these registers in the third
+abbrev PairsFit : Version → List AbsByte → Option PairFacts → Type 0
+PairsFit One registers x = x ≡ None
+PairsFit Two registers x = x ≡ None
+PairsFit Three registers None = ⊥
+PairsFit Three registers (Some f) = FitWithin (hulls_of registers) f
+
+pairs_known : (version : Version) (registers : List AbsByte) (x : Option PairFacts) → PairsFit version registers x → KnownFits x
+pairs_known One registers x h = subst KnownFits (sym h) tt
+pairs_known Two registers x h = subst KnownFits (sym h) tt
+pairs_known Three registers None h = tt
+pairs_known Three registers (Some f) h = h.fit
+
+pairs_mode : (version : Version) (registers : List AbsByte) (x : Option PairFacts) → PairsFit version registers x → is_followed x ≡ is_third version
+pairs_mode One registers x h = ap is_followed h
+pairs_mode Two registers x h = ap is_followed h
+pairs_mode Three registers None h = absurd h
+pairs_mode Three registers (Some f) h = refl
+
+pairs_inside : (version : Version) (registers : List AbsByte) (x : Option PairFacts) → PairsFit version registers x → AreInHulls registers x
+pairs_inside One registers x h = subst (AreInHulls registers) (sym h) tt
+pairs_inside Two registers x h = subst (AreInHulls registers) (sym h) tt
+pairs_inside Three registers None h = tt
+pairs_inside Three registers (Some f) h = λ n lt. subst (IsIntervalWithin (interval_at f.intervals n)) (hull_here registers n lt) (h.within n lt)
+
+pairs_fit : (version : Version) (registers : List AbsByte) (x : Option PairFacts) → KnownFits x → is_followed x ≡ is_third version → AreInHulls registers x → PairsFit version registers x
+pairs_fit One registers None fits mode inside = refl
+pairs_fit One registers (Some f) fits mode inside = absurd (cc)
+pairs_fit Two registers None fits mode inside = refl
+pairs_fit Two registers (Some f) fits mode inside = absurd (cc)
+pairs_fit Three registers None fits mode inside = absurd (cc)
+pairs_fit Three registers (Some f) fits mode inside = record {
+  fit = fits;
+  within = λ n lt. subst (IsIntervalWithin (interval_at f.intervals n)) (sym (hull_here registers n lt)) (inside n lt);
+}
 
 -- ---- what a state has, by its lists
 
@@ -55,7 +101,7 @@ pub record HasParts (version : Version) (root : Bool) (offset : ℕ) (s : AbsSta
   pub carry_fits : IsCarry version root s.flags.carry
   pub count_slots : length s.slots ≡ offset
   pub slots : AllByRecursion (λ t. IsSlot version root t) s.slots
-  pub plain : s.facts ≡ None
+  pub pairs : PairsFit version s.registers s.facts
 
 slot_names : (version : Version) (root : Bool) (t : Slot AbsByte) → IsSlot version root t → SlotNamesRegister t
 slot_names version root Free h = tt
@@ -98,7 +144,7 @@ formed_by version root offset s h =
       carry = h.carry_fits.names;
       ranges = λ r l. (rs r unknown (omega (arith, h.count_registers, l))).range;
       slot_ranges = λ d l. slot_range version root (slot_at s.slots d) (ss d Free l);
-      facts = subst KnownFits (sym h.plain) tt;
+      facts = pairs_known version s.registers s.facts h.pairs;
     }
 
 tags_by : (version : Version) (root : Bool) (offset : ℕ) (s : AbsState) → HasParts version root offset s → TagsFit s
@@ -128,8 +174,8 @@ of_version_by version root offset s h = record {
   slots = all_say (λ t. IsSlot version root t) (λ t. SlotIsOf version t) (slot_of_version version root) s.slots h.slots;
 }
 
-parts_by : (version : Version) (root : Bool) (offset : ℕ) (s : AbsState) → IsFormed s offset → TagsFit s → IsCarry version root s.flags.carry → (root ≡ true → IsUntagged s) → s.facts ≡ None → StateIsOf version s → HasParts version root offset s
-parts_by version root offset s f t c u plain o =
+parts_by : (version : Version) (root : Bool) (offset : ℕ) (s : AbsState) → IsFormed s offset → TagsFit s → IsCarry version root s.flags.carry → (root ≡ true → IsUntagged s) → PairsFit version s.registers s.facts → StateIsOf version s → HasParts version root offset s
+parts_by version root offset s f t c u pairs o =
     let vs = All-from_recursion (λ (v : AbsByte). ValueIsOf version v) s.registers o.registers in
     let ts = All-from_recursion (λ (x : Slot AbsByte). SlotIsOf version x) s.slots o.slots in
     record {
@@ -145,7 +191,7 @@ parts_by version root offset s f t c u plain o =
       slots = recursion_from_All (λ (x : Slot AbsByte). IsSlot version root x) s.slots (λ i d l.
           let P : Slot AbsByte → Type 0 = λ x. IsSlot version root x in
           subst P (get_or_default s.slots i Free d l) (slot_is version root (slot_at s.slots i) (f.slots i l) (t.slots i l) (λ e. (u e).slots i l) (f.slot_ranges i l) (ts i Free l)));
-      plain = plain;
+      pairs = pairs;
     }
 
 -- ---- the state's words
@@ -169,52 +215,97 @@ flags_again : ValueWords → (version : Version) (root : Bool) (f : AbsFlags) (r
 unfolding flags_at
 flags_again v version root f rest h g = rw (v.read.flags root f.entry f.bits h, v.read.carry version root f.carry g) refl
 
+pairs_take : FactsWords → (version : Version) (registers : List AbsByte) (ws : List (List ℕ)) (z : Option PairFacts × List (List ℕ)) → AreHulls (hulls_of registers) → pairs_at version registers ws ≡ Some z
+    → (ws ≡ pairs_words version registers z.0 ++ z.1) × PairsFit version registers z.0
+pairs_take p One registers ws z h e =
+    let P : Option PairFacts × List (List ℕ) → Type 0 = λ y. (ws ≡ y.1) × (y.0 ≡ None) in
+    subst P (some_is {A = Option PairFacts × List (List ℕ)} (None, ws) z e) (refl, refl)
+pairs_take p Two registers ws z h e =
+    let P : Option PairFacts × List (List ℕ) → Type 0 = λ y. (ws ≡ y.1) × (y.0 ≡ None) in
+    subst P (some_is {A = Option PairFacts × List (List ℕ)} (None, ws) z e) (refl, refl)
+pairs_take p Three registers ws z h e =
+    let f = map_some (facts_at (hulls_of registers) ws) (λ f. (Some f.0, f.1)) z e in
+    let P : Option PairFacts × List (List ℕ) → Type 0 = λ y. (ws ≡ pairs_words Three registers y.0 ++ y.1) × PairsFit Three registers y.0 in
+    subst P f.2 (p.spelled (hulls_of registers) ws f.0.1 f.0.0 h f.1)
+
+pairs_again : FactsWords → (version : Version) (registers : List AbsByte) (x : Option PairFacts) (rest : List (List ℕ)) → AreHulls (hulls_of registers) → PairsFit version registers x
+    → pairs_at version registers (pairs_words version registers x ++ rest) ≡ Some (x, rest)
+pairs_again p One registers x rest h fits = ap (λ (y : Option PairFacts). Some (y, rest)) (sym fits)
+pairs_again p Two registers x rest h fits = ap (λ (y : Option PairFacts). Some (y, rest)) (sym fits)
+pairs_again p Three registers None rest h fits = absurd fits
+pairs_again p Three registers (Some f) rest h fits = rw (p.read (hulls_of registers) f rest h fits) refl
+
+pairs_plain : FactsWords → (version : Version) (registers : List AbsByte) (x : Option PairFacts) → AreHulls (hulls_of registers) → PairsFit version registers x → AllByRecursion IsWord (pairs_words version registers x)
+pairs_plain p One registers x h fits = tt
+pairs_plain p Two registers x h fits = tt
+pairs_plain p Three registers None h fits = tt
+pairs_plain p Three registers (Some f) h fits = p.words (hulls_of registers) f h fits
+
+-- values that fit have hulls
+hulls_by : RangesFit → (version : Version) (root : Bool) (registers : List AbsByte) → length registers ≡ 32 → AllByRecursion (λ v. IsValue version root v) registers → AreHulls (hulls_of registers)
+hulls_by g version root registers count h =
+    let all = All-from_recursion (λ (v : AbsByte). IsValue version root v) registers h in
+    are_hulls g registers (λ r l. (all r unknown (omega (arith, count, l))).range)
+
 record StateRead (version : Version) (root : Bool) (offset : ℕ) (first : AbsByte) (ws : List (List ℕ)) (z : AbsState × List (List ℕ)) : Type 0 where
   pub words : value_word version first ∷ ws ≡ state_words version z.0 ++ z.1
   pub parts : HasParts version root offset z.0
 
-state_take : ValueWords → (version : Version) (root : Bool) (offset : ℕ) (first : AbsByte) (ws : List (List ℕ)) (z : AbsState × List (List ℕ)) → IsValue version root first
+state_take : RangesFit → FactsWords → ValueWords → (version : Version) (root : Bool) (offset : ℕ) (first : AbsByte) (ws : List (List ℕ)) (z : AbsState × List (List ℕ)) → IsValue version root first
     → state_behind version root offset first ws ≡ Some z → StateRead version root offset first ws z
 unfolding state_behind
-state_take v version root offset first ws z h e =
+state_take g w v version root offset first ws z h e =
     let r = bind_some (words_from (value_in version root) (first ∷ []) 31 ws) _ z e in
     let f = bind_some (flags_at version root r.0.1) _ z r.2 in
-    let s = bind_some (words_from (slot_in version root) [] offset f.0.1) _ z f.2 in
+    let p = bind_some (pairs_at version r.0.0 f.0.1) _ z f.2 in
+    let s = bind_some (words_from (slot_in version root) [] offset p.0.1) _ z p.2 in
     let rs = words_take (value_in version root) (value_word version) (λ x. IsValue version root x) (v.spelled.value version root) (first ∷ []) 31 ws r.0 r.1 in
     let fs = flags_take v version root r.0.1 f.0 f.1 in
-    let ss = words_take (slot_in version root) (slot_word version) (λ x. IsSlot version root x) (v.spelled.slot version root) [] offset f.0.1 s.0 s.1 in
+    let ss = words_take (slot_in version root) (slot_word version) (λ x. IsSlot version root x) (v.spelled.slot version root) [] offset p.0.1 s.0 s.1 in
     let P : AbsState × List (List ℕ) → Type 0 = λ y. StateRead version root offset first ws y in
     let R : List AbsByte → Type 0 = λ xs. (length xs ≡ 32) × AllByRecursion (λ x. IsValue version root x) xs × (value_word version first ∷ ws ≡ map (value_word version) xs ++ r.0.1) in
-    let S : List (Slot AbsByte) → Type 0 = λ xs. (length xs ≡ offset) × AllByRecursion (λ x. IsSlot version root x) xs × (f.0.1 ≡ map (slot_word version) xs ++ s.0.1) in
+    let S : List (Slot AbsByte) → Type 0 = λ xs. (length xs ≡ offset) × AllByRecursion (λ x. IsSlot version root x) xs × (p.0.1 ≡ map (slot_word version) xs ++ s.0.1) in
     let count : length (first ∷ rs.items) ≡ 32 = omega (arith, rs.number) in
     let a = subst R (sym rs.all) (count, (h, rs.fit), ap (cons (value_word version first)) rs.words) in
     let b = subst S (sym ss.all) (ss.number, ss.fit, ss.words) in
-    subst P (some_is {A = AbsState × List (List ℕ)} (record { registers = r.0.0; flags = f.0.0; slots = s.0.0; facts = None }, s.0.1) z s.2) (record {
-      words = a.2 ∙ ap (λ (xs : List (List ℕ)). map (value_word version) r.0.0 ++ xs) (fs.0 ∙ ap (λ (xs : List (List ℕ)). flags_word f.0.0.entry f.0.0.bits ∷ carry_word f.0.0.carry ∷ xs) b.2)
-          ∙ sym (append_assoc (map (value_word version) r.0.0) (flags_word f.0.0.entry f.0.0.bits ∷ carry_word f.0.0.carry ∷ map (slot_word version) s.0.0) s.0.1);
-      parts = record { count_registers = a.0; registers = a.1; flags = fs.1; carry_fits = fs.2; count_slots = b.0; slots = b.1; plain = refl };
+    let ps = pairs_take w version r.0.0 f.0.1 p.0 (hulls_by g version root r.0.0 a.0 a.1) p.1 in
+    let known : List (List ℕ) = pairs_words version r.0.0 p.0.0 in
+    let behind : f.0.1 ≡ (known ++ map (slot_word version) s.0.0) ++ s.0.1 = ps.0 ∙ ap (λ (xs : List (List ℕ)). known ++ xs) b.2 ∙ sym (append_assoc known (map (slot_word version) s.0.0) s.0.1) in
+    subst P (some_is {A = AbsState × List (List ℕ)} (record { registers = r.0.0; flags = f.0.0; slots = s.0.0; facts = p.0.0 }, s.0.1) z s.2) (record {
+      words = a.2 ∙ ap (λ (xs : List (List ℕ)). map (value_word version) r.0.0 ++ xs) (fs.0 ∙ ap (λ (xs : List (List ℕ)). flags_word f.0.0.entry f.0.0.bits ∷ carry_word f.0.0.carry ∷ xs) behind)
+          ∙ sym (append_assoc (map (value_word version) r.0.0) (flags_word f.0.0.entry f.0.0.bits ∷ carry_word f.0.0.carry ∷ (known ++ map (slot_word version) s.0.0)) s.0.1);
+      parts = record { count_registers = a.0; registers = a.1; flags = fs.1; carry_fits = fs.2; count_slots = b.0; slots = b.1; pairs = ps.1 };
     })
 
-abbrev behind_registers : Version → AbsFlags → List (Slot AbsByte) → List (List ℕ)
-behind_registers version f slots = flags_word f.entry f.bits ∷ carry_word f.carry ∷ map (slot_word version) slots
+abbrev behind_registers : Version → List AbsByte → AbsFlags → Option PairFacts → List (Slot AbsByte) → List (List ℕ)
+behind_registers version registers f x slots = flags_word f.entry f.bits ∷ carry_word f.carry ∷ (pairs_words version registers x ++ map (slot_word version) slots)
 
-state_again : ValueWords → (version : Version) (root : Bool) (offset : ℕ) (first : AbsByte) (more : List AbsByte) (f : AbsFlags) (slots : List (Slot AbsByte)) → HasParts version root offset (record { registers = first ∷ more; flags = f; slots = slots; facts = None })
-    → state_behind version root offset first (map (value_word version) more ++ behind_registers version f slots) ≡ Some (record { registers = first ∷ more; flags = f; slots = slots; facts = None }, [])
+state_again : RangesFit → FactsWords → ValueWords → (version : Version) (root : Bool) (offset : ℕ) (first : AbsByte) (more : List AbsByte) (f : AbsFlags) (slots : List (Slot AbsByte)) (x : Option PairFacts)
+    → HasParts version root offset (record { registers = first ∷ more; flags = f; slots = slots; facts = x })
+    → state_behind version root offset first (map (value_word version) more ++ behind_registers version (first ∷ more) f x slots) ≡ Some (record { registers = first ∷ more; flags = f; slots = slots; facts = x }, [])
 unfolding state_behind
-state_again v version root offset first more f slots h =
+state_again g w v version root offset first more f slots x h =
     let rs =
-    words_again (value_in version root) (value_word version) (λ x. IsValue version root x) (v.read.value version root) (first ∷ []) more 31 (behind_registers version f slots) h.registers.1 (omega (arith, h.count_registers)) in
-    let fs = flags_again v version root f (map (slot_word version) slots) h.flags h.carry_fits in
+    words_again (value_in version root) (value_word version) (λ x. IsValue version root x) (v.read.value version root) (first ∷ []) more 31 (behind_registers version (first ∷ more) f x slots) h.registers.1 (omega (arith, h.count_registers)) in
+    let fs = flags_again v version root f (pairs_words version (first ∷ more) x ++ map (slot_word version) slots) h.flags h.carry_fits in
+    let ps = pairs_again w version (first ∷ more) x (map (slot_word version) slots) (hulls_by g version root (first ∷ more) h.count_registers h.registers) h.pairs in
     let ss : words_from (slot_in version root) [] offset (map (slot_word version) slots) ≡ Some (slots, []) =
     ap (words_from (slot_in version root) [] offset) (sym (append-nil (map (slot_word version) slots)))
     ∙ words_again (slot_in version root) (slot_word version) (λ x. IsSlot version root x) (v.read.slot version root) [] slots offset [] h.slots h.count_slots in
-    rw (rs, fs, ss) refl
+    rw (rs, fs, ps, ss) refl
 
-state_plain : ValueWords → (version : Version) (root : Bool) (offset : ℕ) (s : AbsState) → HasParts version root offset s → AllByRecursion IsWord (state_words version s)
-state_plain v version root offset s h =
-    joined_words (map (value_word version) s.registers) (flags_word s.flags.entry s.flags.bits ∷ carry_word s.flags.carry ∷ map (slot_word version) s.slots)
-    (words_plain (value_word version) (λ x. IsValue version root x) (v.words.value version root) s.registers h.registers)
-    (v.words.flags s.flags.entry s.flags.bits, (v.words.carry version root s.flags.carry h.carry_fits, words_plain (slot_word version) (λ x. IsSlot version root x) (v.words.slot version root) s.slots h.slots))
+state_plain : RangesFit → FactsWords → ValueWords → (version : Version) (root : Bool) (offset : ℕ) (s : AbsState) → HasParts version root offset s → AllByRecursion IsWord (state_words version s)
+state_plain g w v version root offset s h =
+    joined_words (map (value_word version) s.registers) (flags_word s.flags.entry s.flags.bits ∷ carry_word s.flags.carry ∷ (pairs_words version s.registers s.facts ++ map (slot_word version) s.slots))
+    (words_plain (value_word version) (λ x. IsValue version root x) (v.words.value version root) s.registers h.registers) (
+      v.words.flags s.flags.entry s.flags.bits,
+      (
+        v.words.carry version root s.flags.carry h.carry_fits,
+        joined_words (pairs_words version s.registers s.facts) (map (slot_word version) s.slots)
+            (pairs_plain w version s.registers s.facts (hulls_by g version root s.registers h.count_registers h.registers) h.pairs)
+            (words_plain (slot_word version) (λ x. IsSlot version root x) (v.words.slot version root) s.slots h.slots),
+      ),
+    )
 
 -- ---- states of nodes
 
@@ -228,7 +319,7 @@ kind_root Root e = refl
 kind_root Call e = cc
 kind_root (Vector v) e = cc
 
-node_kept : (version : Version) (key : NodeKey) (s : AbsState) → IsKey key → HasParts version (is_root key.inst.kind) (offset_of key.sp) s → IsNode key s
+node_kept : (version : Version) (key : NodeKey) (s : AbsState) → IsKey key → HasParts version (is_root key.inst.kind) (offset_of key.sp) s → IsNodeIn (is_third version) key s
 node_kept version key s h parts = record {
   word = h.word;
   small = h.small;
@@ -239,19 +330,15 @@ node_kept version key s h parts = record {
   tags = tags_by version (is_root key.inst.kind) (offset_of key.sp) s parts;
   carry_bytes = parts.carry_fits.bytes;
   untagged = λ e. let P : Bool → Type 0 = λ r. HasParts version r (offset_of key.sp) s in untagged_by version (offset_of key.sp) s (subst P (root_kind key.inst.kind e) parts);
-  mode = ap is_followed parts.plain;
-  hulls = subst (AreInHulls s.registers) (sym parts.plain) tt;
+  mode = pairs_mode version s.registers s.facts parts.pairs;
+  hulls = pairs_inside version s.registers s.facts parts.pairs;
 }
 
-not_followed : (x : Option PairFacts) → is_followed x ≡ false → x ≡ None
-not_followed None e = refl
-not_followed (Some f) e = absurd (cc)
-
-node_parts : (version : Version) (key : NodeKey) (s : AbsState) → IsNode key s → StateIsOf version s → HasParts version (is_root key.inst.kind) (offset_of key.sp) s
+node_parts : (version : Version) (key : NodeKey) (s : AbsState) → IsNodeIn (is_third version) key s → StateIsOf version s → HasParts version (is_root key.inst.kind) (offset_of key.sp) s
 node_parts version key s h o =
     let untagged : is_root key.inst.kind ≡ true → IsUntagged s = λ e. h.untagged (kind_root key.inst.kind e) in
     parts_by version (is_root key.inst.kind) (offset_of key.sp) s h.formed h.tags
-    (record { bytes = h.carry_bytes; names = h.formed.carry; untagged = λ e. (untagged e).carry; of_version = o.carry_tag }) untagged (not_followed s.facts h.mode) o
+    (record { bytes = h.carry_bytes; names = h.formed.carry; untagged = λ e. (untagged e).carry; of_version = o.carry_tag }) untagged (pairs_fit version s.registers s.facts h.formed.facts h.mode h.hulls) o
 
 -- ---- where a state comes from
 
@@ -281,7 +368,7 @@ no_from version v = no_from_by version v (bytes_eq (value_word version v) (codes
 
 record FormRead (version : Version) (at : ℕ) (key : NodeKey) (ws : List (List ℕ)) (z : NodeForm × List (List ℕ)) : Type 0 where
   pub words : ws ≡ form_words version z.0 ++ z.1
-  pub fits : FitsAt at key z.0
+  pub fits : FitsAt (is_third version) at key z.0
   pub of_version : FormIsOf version z.0
 
 from_take : WordLaws → (version : Version) (at : ℕ) (key : NodeKey) (w : List ℕ) (ws : List (List ℕ)) (z : NodeForm × List (List ℕ)) → IsKey key → w ≡ codes "from" → from_behind at ws ≡ Some z → FormRead version at key (w ∷ ws) z
@@ -294,13 +381,13 @@ from_take k version at key w ws z h is e =
     let P : NodeForm × List (List ℕ) → Type 0 = λ y. FormRead version at key (w ∷ ws) y in
     subst P last.1 (record { words = ap₂ cons is t.0; fits = (h, low); of_version = tt })
 
-form_state : ValueWords → (version : Version) (at : ℕ) (key : NodeKey) (w : List ℕ) (ws : List (List ℕ)) (z : NodeForm × List (List ℕ)) → IsKey key
+form_state : RangesFit → FactsWords → ValueWords → (version : Version) (at : ℕ) (key : NodeKey) (w : List ℕ) (ws : List (List ℕ)) (z : NodeForm × List (List ℕ)) → IsKey key
     → (value_in version (is_root key.inst.kind) w >>= λ v. by_state (state_behind version (is_root key.inst.kind) (offset_of key.sp) v ws)) ≡ Some z → FormRead version at key (w ∷ ws) z
-form_state v version at key w ws z h e =
+form_state g p v version at key w ws z h e =
     let first = bind_some (value_in version (is_root key.inst.kind) w) _ z e in
     let s = map_some (state_behind version (is_root key.inst.kind) (offset_of key.sp) first.0 ws) (λ s. (State s.0, s.1)) z first.2 in
     let word = v.spelled.value version (is_root key.inst.kind) w first.0 first.1 in
-    let t = state_take v version (is_root key.inst.kind) (offset_of key.sp) first.0 ws s.0 word.1 s.1 in
+    let t = state_take g p v version (is_root key.inst.kind) (offset_of key.sp) first.0 ws s.0 word.1 s.1 in
     let P : NodeForm × List (List ℕ) → Type 0 = λ y. FormRead version at key (w ∷ ws) y in
     subst P s.2 (record {
       words = ap (λ (x : List ℕ). x ∷ ws) word.0 ∙ t.words;
@@ -308,43 +395,41 @@ form_state v version at key w ws z h e =
       of_version = of_version_by version (is_root key.inst.kind) (offset_of key.sp) s.0.0 t.parts;
     })
 
-form_take : WordLaws → ValueWords → (version : Version) (at : ℕ) (key : NodeKey) (ws : List (List ℕ)) (z : NodeForm × List (List ℕ)) → IsKey key → form_at version (is_root key.inst.kind) (offset_of key.sp) at ws ≡ Some z → FormRead version at key ws z
+form_take : WordLaws → RangesFit → FactsWords → ValueWords → (version : Version) (at : ℕ) (key : NodeKey) (ws : List (List ℕ)) (z : NodeForm × List (List ℕ)) → IsKey key → form_at version (is_root key.inst.kind) (offset_of key.sp) at ws ≡ Some z → FormRead version at key ws z
 unfolding form_at
-form_take k v version at key [] z h e = absurd (none-some z e)
-form_take k v version at key (w ∷ ws) z h e = elim (chosen (bytes_eq w (codes "from")) _ _ (Some z) e) [
+form_take k r p v version at key [] z h e = absurd (none-some z e)
+form_take k r p v version at key (w ∷ ws) z h e = elim (chosen (bytes_eq w (codes "from")) _ _ (Some z) e) [
   | inl g ↦ from_take k version at key w ws z h ((bytes_eq-Decides w (codes "from")).0 g.0) g.1
-  | inr g ↦ form_state v version at key w ws z h g.1
+  | inr g ↦ form_state r p v version at key w ws z h g.1
 ]
 
-form_spelled : WordLaws → ValueWords → (version : Version) (at : ℕ) (key : NodeKey) (ws rest : List (List ℕ)) (form : NodeForm) → IsKey key
-    → form_at version (is_root key.inst.kind) (offset_of key.sp) at ws ≡ Some (form, rest) → (ws ≡ form_words version form ++ rest) × FitsAt at key form × FormIsOf version form
-form_spelled k v version at key ws rest form h e = let t = form_take k v version at key ws (form, rest) h e in (t.words, t.fits, t.of_version)
+form_spelled : WordLaws → RangesFit → FactsWords → ValueWords → (version : Version) (at : ℕ) (key : NodeKey) (ws rest : List (List ℕ)) (form : NodeForm) → IsKey key
+    → form_at version (is_root key.inst.kind) (offset_of key.sp) at ws ≡ Some (form, rest) → (ws ≡ form_words version form ++ rest) × FitsAt (is_third version) at key form × FormIsOf version form
+form_spelled k r p v version at key ws rest form h e = let t = form_take k r p v version at key ws (form, rest) h e in (t.words, t.fits, t.of_version)
 
-state_form : ValueWords → (version : Version) (root : Bool) (offset at : ℕ) (registers : List AbsByte) (f : AbsFlags) (slots : List (Slot AbsByte)) → HasParts version root offset (record { registers = registers; flags = f; slots = slots; facts = None })
-    → form_at version root offset at (map (value_word version) registers ++ behind_registers version f slots) ≡ Some (State (record { registers = registers; flags = f; slots = slots; facts = None }), [])
+state_form : RangesFit → FactsWords → ValueWords → (version : Version) (root : Bool) (offset at : ℕ) (registers : List AbsByte) (f : AbsFlags) (slots : List (Slot AbsByte)) (x : Option PairFacts)
+    → HasParts version root offset (record { registers = registers; flags = f; slots = slots; facts = x })
+    → form_at version root offset at (map (value_word version) registers ++ behind_registers version registers f x slots) ≡ Some (State (record { registers = registers; flags = f; slots = slots; facts = x }), [])
 unfolding form_at
-state_form v version root offset at [] f slots h = absurd (omega (arith, h.count_registers))
-state_form v version root offset at (first ∷ more) f slots h =
+state_form g p v version root offset at [] f slots x h = absurd (omega (arith, h.count_registers))
+state_form g p v version root offset at (first ∷ more) f slots x h =
     let word = v.read.value version root first h.registers.0 in
-    let s = state_again v version root offset first more f slots h in
+    let s = state_again g p v version root offset first more f slots x h in
     rw (no_from version first, word, s) refl
 
-form_again : WordLaws → ValueWords → (version : Version) (at : ℕ) (key : NodeKey) (form : NodeForm) → at ≤ 65536 → FitsAt at key form → FormIsOf version form
+form_again : WordLaws → RangesFit → FactsWords → ValueWords → (version : Version) (at : ℕ) (key : NodeKey) (form : NodeForm) → at ≤ 65536 → FitsAt (is_third version) at key form → FormIsOf version form
     → form_at version (is_root key.inst.kind) (offset_of key.sp) at (form_words version form) ≡ Some (form, [])
 unfolding form_at from_behind
-form_again k v version at key (State s) few h o =
-    let parts = node_parts version key s h o in
-    let P : Option PairFacts → Type 0 = λ x. HasParts version (is_root key.inst.kind) (offset_of key.sp) (record s { facts = x }) in
-    state_form v version (is_root key.inst.kind) (offset_of key.sp) at s.registers s.flags s.slots (subst P parts.plain parts)
-    ∙ ap (λ (x : Option PairFacts). Some (State (record s { facts = x }), [])) (sym parts.plain)
-form_again k v version at key (From m) few h o =
+form_again k r p v version at key (State s) few h o =
+    state_form r p v version (is_root key.inst.kind) (offset_of key.sp) at s.registers s.flags s.slots s.facts (node_parts version key s h o)
+form_again k r p v version at key (From m) few h o =
     let d = k.dec_taken 65535 m [] (lit< tt) (omega (arith, few, h.1)) in
     let low : nat_lt m at ≡ true = grind (arith, nat_tests, h.1) in
     rw (d, low) refl
 
-form_plain : WordLaws → ValueWords → (version : Version) (at : ℕ) (key : NodeKey) (form : NodeForm) → at ≤ 65536 → FitsAt at key form → FormIsOf version form → AllByRecursion IsWord (form_words version form)
-form_plain k v version at key (State s) few h o = state_plain v version (is_root key.inst.kind) (offset_of key.sp) s (node_parts version key s h o)
-form_plain k v version at key (From m) few h o = (((refl, (refl, (refl, (refl, tt)))), (refl, (refl, (refl, (refl, tt))))), (k.dec_word m (omega (arith, few, h.1)), tt))
+form_plain : WordLaws → RangesFit → FactsWords → ValueWords → (version : Version) (at : ℕ) (key : NodeKey) (form : NodeForm) → at ≤ 65536 → FitsAt (is_third version) at key form → FormIsOf version form → AllByRecursion IsWord (form_words version form)
+form_plain k r p v version at key (State s) few h o = state_plain r p v version (is_root key.inst.kind) (offset_of key.sp) s (node_parts version key s h o)
+form_plain k r p v version at key (From m) few h o = (((refl, (refl, (refl, (refl, tt)))), (refl, (refl, (refl, (refl, tt))))), (k.dec_word m (omega (arith, few, h.1)), tt))
 
-pub forms : WordLaws → ValueWords → FormWords
-forms k v = record { spelled = form_spelled k v; read = form_again k v; words = form_plain k v }
+pub forms : WordLaws → RangesFit → FactsWords → ValueWords → FormWords
+forms k r p v = record { spelled = form_spelled k r p v; read = form_again k r p v; words = form_plain k r p v }

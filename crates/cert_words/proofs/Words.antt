@@ -35,10 +35,10 @@ use Rattle.mask_states.specs.declared.keys.SpForm.{SpForm}
 use Rattle.mask_states.specs.declared.keys.SpForm.TheVariants.{Closed, Open}
 use Rattle.local_rules.specs.Cover.{TagFits}
 use Rattle.certificate.specs.declared.version.Version.{Version}
-use Rattle.certificate.specs.declared.version.Version.TheVariants.{One, Two}
-use Rattle.certificate.specs.Versions.{ValueIsOf}
+use Rattle.certificate.specs.declared.version.Version.TheVariants.{One, Two, Three}
+use Rattle.certificate.specs.Versions.{ValueIsOf, HasNewCarries}
 use Rattle.cert_words.specs.Spelling.{bits_text, tag_text, range_text, value_word, entry_text, flags_word, carry_word, slot_word, high_text, form_word}
-use Rattle.cert_words.specs.Reading.{bits_at, register_at, tag_by, tag_at, ends_at, range_at, value_in, slot_in, entry_by, flags_in, bytes_in, borrow_in, sum_in, less_in, carry_by, carry_in, offset_in, marked_in, high_in, high_size, open_in, form_in}
+use Rattle.cert_words.specs.Reading.{bits_at, register_at, tag_by, tag_at, ends_at, range_at, value_in, slot_in, entry_by, flags_in, bytes_in, borrow_in, sum_in, less_in, tagged_by, carry_by, carry_in, offset_in, marked_in, high_in, high_size, open_in, form_in}
 use Rattle.cert_words.specs.Fits.{IsTag, IsValue, AreFlags, IsCarry, IsSlot, IsHigh, IsForm}
 use Rattle.cert_words.specs.Laws.{ValueWords}
 use Rattle.cert_words.proofs.Pieces.{three, bits_take, bits_again, register_take, register_again, offset_take, offset_again, marked_take, marked_again}
@@ -163,10 +163,14 @@ range_take k r One t bits bs z e =
 range_take k r Two t bits bs z e =
     let d = ends_take k bits bs z e in
     record { text = d.text ∙ sym (append_assoc (hex_digits z.0.0 2) (hex_digits z.0.1 2) z.1); fits = record { low = d.low; ordered = d.ordered; high = d.high }; of_version = tt }
+range_take k r Three t bits bs z e =
+    let d = ends_take k bits bs z e in
+    record { text = d.text ∙ sym (append_assoc (hex_digits z.0.0 2) (hex_digits z.0.1 2) z.1); fits = record { low = d.low; ordered = d.ordered; high = d.high }; of_version = tt }
 
 range_again : WordLaws → RangesFit → (version : Version) (v : AbsByte) → ByteFits v → ValueIsOf version v → range_at version v.bits (range_text version v) ≡ Some ((v.low, v.high), [])
 range_again k r One v fits h = ap (λ (s : ByteSet). Some ((s.low, s.high), [])) (sym h)
 range_again k r Two v fits h = ends_again k r v.bits v.low v.high fits.low fits.ordered fits.high
+range_again k r Three v fits h = ends_again k r v.bits v.low v.high fits.low fits.ordered fits.high
 
 -- ---- values and slots
 
@@ -309,14 +313,14 @@ borrow_take k bs c e =
     let P : CarryTag → Type 0 = λ y. (98 ∷ bs ≡ carry_word y) × ((version : Version) (root : Bool) → root ≡ false → IsCarry version root y) in
     subst P n.2 (ap (front 98) t.0, λ version root r. record { bytes = t.1; names = tt; untagged = λ t. no_root root r t; of_version = tt })
 
-sum_take : WordLaws → (bs : List ℕ) (c : CarryTag) → sum_in bs ≡ Some c → (115 ∷ bs ≡ carry_word c) × ((root : Bool) → root ≡ false → IsCarry Two root c)
+sum_take : WordLaws → (bs : List ℕ) (c : CarryTag) → sum_in bs ≡ Some c → (115 ∷ bs ≡ carry_word c) × ((version : Version) (root : Bool) → HasNewCarries version → root ≡ false → IsCarry version root c)
 sum_take k bs c e =
     let n = map_some (bytes_in bs) (λ n. carry.Sum n.0 n.1) c e in
     let t = bytes_take k bs n.0 n.1 in
-    let P : CarryTag → Type 0 = λ y. (115 ∷ bs ≡ carry_word y) × ((root : Bool) → root ≡ false → IsCarry Two root y) in
-    subst P n.2 (ap (front 115) t.0, λ root r. record { bytes = t.1; names = tt; untagged = λ t. no_root root r t; of_version = tt })
+    let P : CarryTag → Type 0 = λ y. (115 ∷ bs ≡ carry_word y) × ((version : Version) (root : Bool) → HasNewCarries version → root ≡ false → IsCarry version root y) in
+    subst P n.2 (ap (front 115) t.0, λ version root new r. record { bytes = t.1; names = tt; untagged = λ t. no_root root r t; of_version = new })
 
-less_take : WordLaws → (bs : List ℕ) (c : CarryTag) → less_in bs ≡ Some c → (99 ∷ bs ≡ carry_word c) × ((root : Bool) → IsCarry Two root c)
+less_take : WordLaws → (bs : List ℕ) (c : CarryTag) → less_in bs ≡ Some c → (99 ∷ bs ≡ carry_word c) × ((version : Version) (root : Bool) → HasNewCarries version → IsCarry version root c)
 unfolding less_in
 less_take k bs c e =
     let r = bind_some (register_at bs) _ c e in
@@ -325,10 +329,10 @@ less_take k bs c e =
     let first = register_take k bs r.0 r.1 in
     let second = digits_take k 2 r.0.1 n.0 n.1 in
     let text = second.0 ∙ ap (λ (xs : List ℕ). hex_digits n.0.0 2 ++ xs) (end_is n.0.1 last.0) ∙ append-nil (hex_digits n.0.0 2) in
-    let P : CarryTag → Type 0 = λ y. (99 ∷ bs ≡ carry_word y) × ((root : Bool) → IsCarry Two root y) in
+    let P : CarryTag → Type 0 = λ y. (99 ∷ bs ≡ carry_word y) × ((version : Version) (root : Bool) → HasNewCarries version → IsCarry version root y) in
     subst P last.1 (
       ap (front 99) (first.0 ∙ ap (λ (xs : List ℕ). hex_digits r.0.0 2 ++ xs) text),
-      λ root. record { bytes = (omega (arith, first.1), omega (arith, second.1)); names = first.1; untagged = λ _. tt; of_version = tt },
+      λ version root new. record { bytes = (omega (arith, first.1), omega (arith, second.1)); names = first.1; untagged = λ _. tt; of_version = new },
     )
 
 borrow_by : WordLaws → (version : Version) (root : Bool) (letter : ℕ) (bs : List ℕ) (c : CarryTag) → letter == 98 && not root ≡ true → borrow_in bs ≡ Some c → (letter ∷ bs ≡ carry_word c) × IsCarry version root c
@@ -337,11 +341,23 @@ borrow_by k version root letter bs c t e =
     let b = borrow_take k bs c e in
     (ap (λ (x : ℕ). x ∷ bs) (eqb-true letter 98 h.0) ∙ b.0, b.1 version root (not-true root h.1))
 
-sum_by : WordLaws → (root : Bool) (letter : ℕ) (bs : List ℕ) (c : CarryTag) → letter == 115 && not root ≡ true → sum_in bs ≡ Some c → (letter ∷ bs ≡ carry_word c) × IsCarry Two root c
-sum_by k root letter bs c t e =
+sum_by : WordLaws → (version : Version) (root : Bool) (letter : ℕ) (bs : List ℕ) (c : CarryTag) → HasNewCarries version → letter == 115 && not root ≡ true → sum_in bs ≡ Some c → (letter ∷ bs ≡ carry_word c) × IsCarry version root c
+sum_by k version root letter bs c new t e =
     let h = and_parts (letter == 115) (not root) t in
     let s = sum_take k bs c e in
-    (ap (λ (x : ℕ). x ∷ bs) (eqb-true letter 115 h.0) ∙ s.0, s.1 root (not-true root h.1))
+    (ap (λ (x : ℕ). x ∷ bs) (eqb-true letter 115 h.0) ∙ s.0, s.1 version root new (not-true root h.1))
+
+tagged_take : WordLaws → (version : Version) (root : Bool) (letter : ℕ) (bs : List ℕ) (c : CarryTag) → HasNewCarries version → tagged_by root letter bs ≡ Some c → (letter ∷ bs ≡ carry_word c) × IsCarry version root c
+tagged_take k version root letter bs c new e = elim (chosen (letter == 98 && not root) _ _ (Some c) e) [
+  | inl h ↦ borrow_by k version root letter bs c h.0 h.1
+  | inr h ↦ elim (chosen (letter == 115 && not root) _ _ (Some c) h.1) [
+    | inl s ↦ sum_by k version root letter bs c new s.0 s.1
+    | inr s ↦ elim (chosen (letter == 99) _ _ (Some c) s.1) [
+      | inl g ↦ let l = less_take k bs c g.1 in (ap (λ (x : ℕ). x ∷ bs) (eqb-true letter 99 g.0) ∙ l.0, l.1 version root new)
+      | inr g ↦ absurd (none-some c g.1)
+    ]
+  ]
+]
 
 carry_by_take : WordLaws → (version : Version) (root : Bool) (letter : ℕ) (bs : List ℕ) (c : CarryTag) → carry_by version root letter bs ≡ Some c → (letter ∷ bs ≡ carry_word c) × IsCarry version root c
 unfolding carry_by
@@ -349,16 +365,8 @@ carry_by_take k One root letter bs c e = elim (chosen (letter == 98 && not root)
   | inl h ↦ borrow_by k One root letter bs c h.0 h.1
   | inr h ↦ absurd (none-some c h.1)
 ]
-carry_by_take k Two root letter bs c e = elim (chosen (letter == 98 && not root) _ _ (Some c) e) [
-  | inl h ↦ borrow_by k Two root letter bs c h.0 h.1
-  | inr h ↦ elim (chosen (letter == 115 && not root) _ _ (Some c) h.1) [
-    | inl s ↦ sum_by k root letter bs c s.0 s.1
-    | inr s ↦ elim (chosen (letter == 99) _ _ (Some c) s.1) [
-      | inl g ↦ let l = less_take k bs c g.1 in (ap (λ (x : ℕ). x ∷ bs) (eqb-true letter 99 g.0) ∙ l.0, l.1 root)
-      | inr g ↦ absurd (none-some c g.1)
-    ]
-  ]
-]
+carry_by_take k Two root letter bs c e = tagged_take k Two root letter bs c tt e
+carry_by_take k Three root letter bs c e = tagged_take k Three root letter bs c tt e
 
 carry_take : WordLaws → (version : Version) (root : Bool) (w : List ℕ) (c : CarryTag) → carry_in version root w ≡ Some c → (w ≡ carry_word c) × IsCarry version root c
 unfolding carry_in
@@ -392,16 +400,19 @@ borrow_by_again : WordLaws → (version : Version) (root : Bool) (j l : ℕ) →
 unfolding carry_by
 borrow_by_again k One root j l e h g = rw (e, bytes_again k j l h g) refl
 borrow_by_again k Two root j l e h g = rw (e, bytes_again k j l h g) refl
+borrow_by_again k Three root j l e h g = rw (e, bytes_again k j l h g) refl
 
 sum_by_again : WordLaws → (version : Version) (root : Bool) (j l : ℕ) → IsCarry version root (carry.Sum j l) → carry_by version root 115 (hex_digits j 2 ++ hex_digits l 2) ≡ Some (carry.Sum j l)
 unfolding carry_by
 sum_by_again k One root j l h = absurd h.of_version
 sum_by_again k Two root j l h = rw (not_summed Two root j l h, bytes_again k j l h.bytes.0 h.bytes.1) refl
+sum_by_again k Three root j l h = rw (not_summed Three root j l h, bytes_again k j l h.bytes.0 h.bytes.1) refl
 
 less_by_again : WordLaws → (version : Version) (root : Bool) (r n : ℕ) → IsCarry version root (carry.Less r n) → carry_by version root 99 (hex_digits r 2 ++ hex_digits n 2) ≡ Some (carry.Less r n)
 unfolding carry_by
 less_by_again k One root r n h = absurd h.of_version
 less_by_again k Two root r n h = less_again k r n h.names h.bytes.1
+less_by_again k Three root r n h = less_again k r n h.names h.bytes.1
 
 carry_again : WordLaws → (version : Version) (root : Bool) (c : CarryTag) → IsCarry version root c → carry_in version root (carry_word c) ≡ Some c
 unfolding carry_in
@@ -501,12 +512,16 @@ tag_is_word k root tag.EntryFlags h = ((refl, tt), (refl, tt))
 tag_is_word k root (tag.SpLo j) h = joined_word (codes "l") (hex_digits j 2) ((refl, tt), (refl, tt)) (k.hex_word j 2 (omega (arith, h.fits)))
 tag_is_word k root (tag.SpHi j) h = joined_word (codes "h") (hex_digits j 4) ((refl, tt), (refl, tt)) (k.hex_word j 4 (omega (arith, h.fits)))
 
-range_is_word : WordLaws → RangesFit → (version : Version) (v : AbsByte) → ByteFits v → IsWord (range_text version v)
-range_is_word k r One v h = (tt, tt)
-range_is_word k r Two v h =
+ends_are_word : WordLaws → RangesFit → (v : AbsByte) → ByteFits v → IsWord (hex_digits v.low 2 ++ hex_digits v.high 2)
+ends_are_word k r v h =
     let last = two_digits v.high (most_of v.bits) h.high (r.most v.bits) in
     let first : v.low < 16 ^ 2 = omega (arith, h.ordered, last) in
     joined_word (hex_digits v.low 2) (hex_digits v.high 2) (k.hex_word v.low 2 first) (k.hex_word v.high 2 last)
+
+range_is_word : WordLaws → RangesFit → (version : Version) (v : AbsByte) → ByteFits v → IsWord (range_text version v)
+range_is_word k r One v h = (tt, tt)
+range_is_word k r Two v h = ends_are_word k r v h
+range_is_word k r Three v h = ends_are_word k r v h
 
 value_is_word : WordLaws → BytesAreSets → RangesFit → (version : Version) (root : Bool) (v : AbsByte) → IsValue version root v → IsWord (value_word version v)
 value_is_word k s r version root v h =

@@ -10,7 +10,7 @@ use Rattle.edge_rules.specs.declared.seeded.NodeForm.{NodeForm}
 use Rattle.certificate.specs.Insts.{fits_kind}
 use Rattle.certificate.specs.Claims.{FitsAt}
 use Rattle.certificate.specs.declared.version.Version.{Version}
-use Rattle.certificate.specs.Versions.{PickIsOf, FormIsOf}
+use Rattle.certificate.specs.Versions.{PickIsOf, FormIsOf, is_third}
 use Rattle.cert_words.specs.KeySpelling.{inst_key_words, place_words, form_words}
 use Rattle.cert_words.specs.KeyReading.{is_root, inst_key_at, node_key_at, form_at}
 
@@ -36,13 +36,13 @@ pub record PlaceWords : Type 0 where
   pub read : (version : Version) (key : NodeKey) (rest : List (List ℕ)) → IsKey key → PickIsOf version key.pick → node_key_at version key.inst (place_words version key ++ rest) ≡ Some (key, rest)
   pub words : (version : Version) (key : NodeKey) → IsKey key → AllByRecursion IsWord (place_words version key)
 
--- the form of the node of this number and key
+-- the form of the node of this number and key, whose state follows pairs in the third version alone
 pub record FormWords : Type 0 where
   pub spelled : (version : Version) (at : ℕ) (key : NodeKey) (ws rest : List (List ℕ)) (form : NodeForm) → IsKey key
-      → form_at version (is_root key.inst.kind) (offset_of key.sp) at ws ≡ Some (form, rest) → (ws ≡ form_words version form ++ rest) × FitsAt at key form × FormIsOf version form
-  pub read : (version : Version) (at : ℕ) (key : NodeKey) (form : NodeForm) → at ≤ 65536 → FitsAt at key form → FormIsOf version form
+      → form_at version (is_root key.inst.kind) (offset_of key.sp) at ws ≡ Some (form, rest) → (ws ≡ form_words version form ++ rest) × FitsAt (is_third version) at key form × FormIsOf version form
+  pub read : (version : Version) (at : ℕ) (key : NodeKey) (form : NodeForm) → at ≤ 65536 → FitsAt (is_third version) at key form → FormIsOf version form
       → form_at version (is_root key.inst.kind) (offset_of key.sp) at (form_words version form) ≡ Some (form, [])
-  pub words : (version : Version) (at : ℕ) (key : NodeKey) (form : NodeForm) → at ≤ 65536 → FitsAt at key form → FormIsOf version form → AllByRecursion IsWord (form_words version form)
+  pub words : (version : Version) (at : ℕ) (key : NodeKey) (form : NodeForm) → at ≤ 65536 → FitsAt (is_third version) at key form → FormIsOf version form → AllByRecursion IsWord (form_words version form)
 
 pub record KeyWords : Type 0 where
   pub insts : InstKeyWords

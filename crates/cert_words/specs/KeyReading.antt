@@ -9,6 +9,7 @@ use Rattle.mask_states.specs.declared.keys.Kind.{Kind}
 use Rattle.mask_states.specs.declared.keys.Kind.TheVariants.{Root, Call, Vector}
 use Rattle.mask_states.specs.declared.keys.InstKey.{InstKey}
 use Rattle.mask_states.specs.declared.keys.NodeKey.{NodeKey}
+use Rattle.pair_domain.specs.declared.facts.PairFacts.{PairFacts}
 use Rattle.abs_state.specs.declared.values.AbsByte.{AbsByte}
 use Rattle.abs_state.specs.declared.values.AbsFlags.{AbsFlags}
 use Rattle.abs_state.specs.declared.state.AbsState.{AbsState}
@@ -16,7 +17,9 @@ use Rattle.edge_rules.specs.declared.seeded.NodeForm.{NodeForm}
 use Rattle.edge_rules.specs.declared.seeded.NodeForm.TheVariants.{State, From}
 use Rattle.certificate.specs.Insts.{fits_kind}
 use Rattle.certificate.specs.declared.version.Version.{Version}
-use Rattle.certificate.specs.declared.version.Version.TheVariants.{One, Two}
+use Rattle.certificate.specs.declared.version.Version.TheVariants.{One, Two, Three}
+use Rattle.pair_words.specs.Reading.{facts_at}
+use Rattle.certificate.specs.Hulls.{hulls_of}
 use Rattle.cert_words.specs.Reading.{value_in, slot_in, flags_in, carry_in, form_in}
 
 -- ---- words
@@ -66,6 +69,7 @@ pick_in w = if bytes_eq w (codes "-") then Some None else option_map (λ n. Some
 abbrev pub pick_at : Version → List (List ℕ) → Option (Option ℕ × List (List ℕ))
 pick_at One ws = Some (None, ws)
 pick_at Two ws = word_by pick_in ws
+pick_at Three ws = word_by pick_in ws
 
 unfoldable pub node_key_at : Version → InstKey → List (List ℕ) → Option (NodeKey × List (List ℕ))
 node_key_at version inst ws = do
@@ -83,13 +87,20 @@ flags_at version root ws = do
   c ← word_by (carry_in version root) f.1
   Some (record { entry = f.0.0; bits = f.0.1; carry = c.0 }, c.1)
 
+-- what is known of the pairs of these registers, for which the third version alone has words
+abbrev pub pairs_at : Version → List AbsByte → List (List ℕ) → Option (Option PairFacts × List (List ℕ))
+pairs_at One registers ws = Some (None, ws)
+pairs_at Two registers ws = Some (None, ws)
+pairs_at Three registers ws = option_map (λ f. (Some f.0, f.1)) (facts_at (hulls_of registers) ws)
+
 -- a state whose first register has this value
 unfoldable pub state_behind : Version → Bool → ℕ → AbsByte → List (List ℕ) → Option (AbsState × List (List ℕ))
 state_behind version root offset first ws = do
   r ← words_from (value_in version root) (first ∷ []) 31 ws
   f ← flags_at version root r.1
-  s ← words_from (slot_in version root) [] offset f.1
-  Some (record { registers = r.0; flags = f.0; slots = s.0; facts = None }, s.1)
+  p ← pairs_at version r.0 f.1
+  s ← words_from (slot_in version root) [] offset p.1
+  Some (record { registers = r.0; flags = f.0; slots = s.0; facts = p.0 }, s.1)
 
 abbrev pub by_state : Option (AbsState × List (List ℕ)) → Option (NodeForm × List (List ℕ))
 by_state found = option_map (λ s. (State s.0, s.1)) found

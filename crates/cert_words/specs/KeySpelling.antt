@@ -6,12 +6,16 @@ use Rattle.mask_states.specs.declared.keys.Kind.{Kind}
 use Rattle.mask_states.specs.declared.keys.Kind.TheVariants.{Root, Call, Vector}
 use Rattle.mask_states.specs.declared.keys.InstKey.{InstKey}
 use Rattle.mask_states.specs.declared.keys.NodeKey.{NodeKey}
+use Rattle.pair_domain.specs.declared.facts.PairFacts.{PairFacts}
+use Rattle.abs_state.specs.declared.values.AbsByte.{AbsByte}
 use Rattle.abs_state.specs.declared.state.AbsState.{AbsState}
 use Rattle.edge_rules.specs.declared.seeded.NodeForm.{NodeForm}
 use Rattle.edge_rules.specs.declared.seeded.NodeForm.TheVariants.{State, From}
 use Rattle.witness_replay.specs.Spelling.{bit}
 use Rattle.certificate.specs.declared.version.Version.{Version}
-use Rattle.certificate.specs.declared.version.Version.TheVariants.{One, Two}
+use Rattle.certificate.specs.declared.version.Version.TheVariants.{One, Two, Three}
+use Rattle.pair_words.specs.Spelling.{facts_words}
+use Rattle.certificate.specs.Hulls.{hulls_of}
 use Rattle.cert_words.specs.Spelling.{value_word, flags_word, carry_word, slot_word, form_word}
 
 -- ---- keys
@@ -34,6 +38,7 @@ pick_word (Some byte) = hex_digits byte 2
 abbrev pub pick_words : Version → Option ℕ → List (List ℕ)
 pick_words One pick = []
 pick_words Two pick = pick_word pick ∷ []
+pick_words Three pick = pick_word pick ∷ []
 
 -- a node within its instance: word, enable bits, I, delay, form of the stack pointer and pick
 abbrev pub place_words : Version → NodeKey → List (List ℕ)
@@ -46,10 +51,17 @@ node_key_words key = inst_key_words key.inst ++ place_words Two key
 
 -- ---- what is known at a node
 
--- registers, flags, carry tag and slots
+-- what is known of the pairs of these registers, which the third version alone has
+abbrev pub pairs_words : Version → List AbsByte → Option PairFacts → List (List ℕ)
+pairs_words One registers facts = []
+pairs_words Two registers facts = []
+pairs_words Three registers None = []
+pairs_words Three registers (Some f) = facts_words (hulls_of registers) f
+
+-- registers, flags, carry tag, pairs and slots
 abbrev pub state_words : Version → AbsState → List (List ℕ)
 state_words version s =
-    map (value_word version) s.registers ++ flags_word s.flags.entry s.flags.bits ∷ carry_word s.flags.carry ∷ map (slot_word version) s.slots
+    map (value_word version) s.registers ++ (flags_word s.flags.entry s.flags.bits ∷ carry_word s.flags.carry ∷ (pairs_words version s.registers s.facts ++ map (slot_word version) s.slots))
 
 -- a state, or the number of the node that it comes from
 abbrev pub form_words : Version → NodeForm → List (List ℕ)

@@ -23,7 +23,7 @@ use Rattle.mask_states.specs.declared.keys.High.TheVariants as high
 use Rattle.mask_states.specs.declared.keys.SpForm.{SpForm}
 use Rattle.mask_states.specs.declared.keys.SpForm.TheVariants.{Closed, Open}
 use Rattle.certificate.specs.declared.version.Version.{Version}
-use Rattle.certificate.specs.declared.version.Version.TheVariants.{One, Two}
+use Rattle.certificate.specs.declared.version.Version.TheVariants.{One, Two, Three}
 
 -- ---- values
 
@@ -64,6 +64,7 @@ ends_at bits bs = do
 abbrev pub range_at : Version → TriByte → List ℕ → Option ((ℕ × ℕ) × List ℕ)
 range_at One bits bs = Some ((least_of bits, most_of bits), bs)
 range_at Two bits bs = ends_at bits bs
+range_at Three bits bs = ends_at bits bs
 
 unfoldable pub value_in : Version → Bool → List ℕ → Option AbsByte
 value_in version root w = do
@@ -108,13 +109,18 @@ less_in bs = do
   k ← digits_at 2 r.1
   if is_end k.1 then Some (carry.Less r.0 k.0) else None
 
--- what a letter and what follows it say: the root's frame has no borrow and no sum, and the first version no sum and nothing of a register
-unfoldable pub carry_by : Version → Bool → ℕ → List ℕ → Option CarryTag
-carry_by One root letter bs = if letter == 98 && not root then borrow_in bs else None
-carry_by Two root letter bs =
+-- what a letter and what follows it say: the root's frame has no borrow and no sum
+abbrev pub tagged_by : Bool → ℕ → List ℕ → Option CarryTag
+tagged_by root letter bs =
     if letter == 98 && not root then borrow_in bs
     else (if letter == 115 && not root then sum_in bs
     else (if letter == 99 then less_in bs else None))
+
+-- the first version has no sum, and nothing of a register
+unfoldable pub carry_by : Version → Bool → ℕ → List ℕ → Option CarryTag
+carry_by One root letter bs = if letter == 98 && not root then borrow_in bs else None
+carry_by Two root letter bs = tagged_by root letter bs
+carry_by Three root letter bs = tagged_by root letter bs
 
 unfoldable pub carry_in : Version → Bool → List ℕ → Option CarryTag
 carry_in version root w = if bytes_eq w (codes "-") then Some carry.None else (letter_at w >>= λ l. carry_by version root l.0 l.1)

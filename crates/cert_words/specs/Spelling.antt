@@ -15,7 +15,7 @@ use Rattle.mask_states.specs.declared.keys.High.TheVariants as high
 use Rattle.mask_states.specs.declared.keys.SpForm.{SpForm}
 use Rattle.mask_states.specs.declared.keys.SpForm.TheVariants.{Closed, Open}
 use Rattle.certificate.specs.declared.version.Version.{Version}
-use Rattle.certificate.specs.declared.version.Version.TheVariants.{One, Two}
+use Rattle.certificate.specs.declared.version.Version.TheVariants.{One, Two, Three}
 
 -- which bits are known, and their values
 abbrev pub bits_text : TriByte → List ℕ
@@ -32,6 +32,7 @@ tag_text (tag.SpHi k) = codes "h" ++ hex_digits k 4
 abbrev pub range_text : Version → AbsByte → List ℕ
 range_text One v = []
 range_text Two v = hex_digits v.low 2 ++ hex_digits v.high 2
+range_text Three v = hex_digits v.low 2 ++ hex_digits v.high 2
 
 abbrev pub value_word : Version → AbsByte → List ℕ
 value_word version v = tag_text v.tag ++ (bits_text v.bits ++ range_text version v)

@@ -14,7 +14,7 @@ use Rattle.witness_replay.specs.Spelling.{Plan, schedule_lines}
 use Rattle.certificate.specs.declared.instance.Inst.{Inst}
 use Rattle.certificate.specs.Claims.{Claim}
 use Rattle.certificate.specs.declared.version.Version.{Version}
-use Rattle.certificate.specs.declared.version.Version.TheVariants.{One, Two}
+use Rattle.certificate.specs.declared.version.Version.TheVariants.{One, Two, Three}
 use Rattle.cert_words.specs.KeySpelling.{inst_key_words, place_words, form_words}
 
 -- ---- lines
@@ -44,6 +44,7 @@ node_words version insts n = node_words_at version (place_of n.0.inst insts) n
 abbrev pub version_line : Version → List (List ℕ)
 version_line One = codes "stackcert" ∷ codes "1" ∷ []
 version_line Two = codes "stackcert" ∷ codes "2" ∷ []
+version_line Three = codes "stackcert" ∷ codes "3" ∷ []
 
 abbrev pub heading : Version → ℕ → List (List (List ℕ))
 heading version bound = version_line version ∷ numbered (codes "bound") bound ∷ []

@@ -136,12 +136,12 @@ fn pick_of(words: &mut Words<'_>, version: Version) -> Option<Option<u8>>
 {
     match version {
         Version::One => Some(None),
-        Version::Two => pick_in(words.next()?),
+        Version::Two | Version::Three => pick_in(words.next()?),
     }
 }
 
 /// A node of this instance by its next words in a certificate of this version: word, enable bits, I, delay, form of the stack
-/// pointer and, in the second, pick. None exactly where they are those of no node that it can have.
+/// pointer and, but in the first, pick. None exactly where they are those of no node that it can have.
 #[tactic(auto, unfolding(crate::specs::KeyReading::node_key_at))]
 pub fn node_key_of(words: &mut Words<'_>, version: Version, inst: &InstKey) -> Option<NodeKey>
     ensures exact { option_map (λ k. (k, words.new)) result ≡ node_key_at version inst.now words.old }

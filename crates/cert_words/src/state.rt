@@ -4,15 +4,16 @@ ghost use Rattle.std.specs.Prelude.{◌≡◌, ◌∷◌, [], IfOk};
 ghost use Rattle.std.specs.Option.{option_map};
 ghost use Rattle.cert_words.specs.Reading.{value_in, slot_in, flags_in, carry_in};
 ghost use Rattle.line_reading.specs.Reading.{word_by};
-ghost use Rattle.cert_words.specs.KeyReading.{words_from, flags_at, state_behind, by_state, from_behind, form_at};
+ghost use Rattle.cert_words.specs.KeyReading.{words_from, flags_at, state_behind, pairs_at, by_state, from_behind, form_at};
 
 use crate::values::{carry_of, flags_of, slot_of, value_of};
 use abs_state::{AbsByte, AbsFlags, AbsState};
 use bit_domain::TriByte;
-use certificate::Version;
+use certificate::{Version, hulls_of};
 use edge_rules::NodeForm;
 use line_reading::dec_word;
 use pair_domain::Facts;
+use pair_words::facts_of;
 use sb_base::Words;
 use sp_domain::{CarryTag, Slot, Slots};
 use std::alloc::{AllocError, Global};
@@ -80,6 +81,24 @@ fn both_flags_of(words: &mut Words<'_>, version: Version, root: bool) -> Option<
     Some(AbsFlags { entry, bits, carry })
 }
 
+/// What is known of the pairs of these registers, for which the third version alone has words.
+fn pairs_of(
+    alloc: Global,
+    words: &mut Words<'_>,
+    version: Version,
+    registers: &[AbsByte; 32],
+) -> Result<Option<Facts>, AllocError>
+    ensures { IfOk result (λ o. option_map (λ f. (f, words.new)) o ≡ pairs_at version registers.now words.old) }
+{
+    match version {
+        Version::One | Version::Two => Ok(Some(Facts::none())),
+        Version::Three => match facts_of(words, &hulls_of(registers)) {
+            Some(facts) => Ok(Some(Facts::new(alloc, facts)?)),
+            None => Ok(None),
+        },
+    }
+}
+
 /// What is known at a node, where the first register has this value.
 #[tactic(auto, unfolding(crate::specs::KeyReading::state_behind))]
 fn state_of(
@@ -98,6 +117,9 @@ fn state_of(
     let Some(flags) = both_flags_of(words, version, root) else {
         return Ok(None);
     };
+    let Some(facts) = pairs_of(alloc, words, version, &registers)? else {
+        return Ok(None);
+    };
     let Some(slots) = slots_of(alloc, words, version, root, offset)? else {
         return Ok(None);
     };
@@ -105,7 +127,7 @@ fn state_of(
         registers,
         flags,
         slots,
-        facts: Facts::none(),
+        facts,
     }))
 }
 

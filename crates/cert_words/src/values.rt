@@ -6,7 +6,7 @@ ghost use Rattle.avr_model.specs.State.{SIZE};
 ghost use Rattle.sp_domain.specs.declared.tags.Tag.TheVariants as tag;
 ghost use Rattle.sp_domain.specs.declared.tags.CarryTag.TheVariants as carry;
 ghost use Rattle.mask_states.specs.Keys.{offset_of};
-ghost use Rattle.cert_words.specs.Reading.{bits_at, register_at, tag_by, tag_at, ends_at, range_at, value_in, slot_in, entry_by, flags_in, bytes_in, borrow_in, sum_in, less_in, carry_by, carry_in, offset_in, marked_in, high_in, high_size, open_in, form_in};
+ghost use Rattle.cert_words.specs.Reading.{bits_at, register_at, tag_by, tag_at, ends_at, range_at, value_in, slot_in, entry_by, flags_in, bytes_in, borrow_in, sum_in, less_in, tagged_by, carry_by, carry_in, offset_in, marked_in, high_in, high_size, open_in, form_in};
 
 use abs_state::AbsByte;
 use avr_model::device;
@@ -100,7 +100,7 @@ fn range_of(letters: &mut Letters<'_>, version: Version, bits: TriByte) -> Optio
             let all = Range::of_bits(bits);
             Some((all.low, all.high))
         }
-        Version::Two => ends_of(letters, bits),
+        Version::Two | Version::Three => ends_of(letters, bits),
     }
 }
 
@@ -213,6 +213,21 @@ fn less_of(letters: &mut Letters<'_>) -> Option<CarryTag>
 }
 
 /// The carry tag that a letter begins, which isn't that of none.
+fn tagged_by(letter: u8, letters: &mut Letters<'_>, root: bool) -> Option<CarryTag>
+    ensures { result ≡ tagged_by root letter letters.old }
+{
+    if letter == b'b' && !root {
+        borrow_of(letters)
+    } else if letter == b's' && !root {
+        sum_of(letters)
+    } else if letter == b'c' {
+        less_of(letters)
+    } else {
+        None
+    }
+}
+
+/// The carry tag that a letter begins in this version, which isn't that of none.
 #[tactic(auto, unfolding(crate::specs::Reading::carry_by))]
 fn carry_by(letter: u8, letters: &mut Letters<'_>, version: Version, root: bool) -> Option<CarryTag>
     ensures { result ≡ carry_by version root letter letters.old }
@@ -225,17 +240,7 @@ fn carry_by(letter: u8, letters: &mut Letters<'_>, version: Version, root: bool)
                 None
             }
         }
-        Version::Two => {
-            if letter == b'b' && !root {
-                borrow_of(letters)
-            } else if letter == b's' && !root {
-                sum_of(letters)
-            } else if letter == b'c' {
-                less_of(letters)
-            } else {
-                None
-            }
-        }
+        Version::Two | Version::Three => tagged_by(letter, letters, root),
     }
 }
 

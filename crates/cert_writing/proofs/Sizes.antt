@@ -14,6 +14,7 @@ use Rattle.sb_base.specs.Lines.{spaced, line}
 use Rattle.avr_model.specs.declared.assumption.Entry.{Entry}
 use Rattle.avr_model.specs.declared.assumption.Entry.TheVariants as entry
 use Rattle.vector_table.specs.Entries.{are_items, is_entry, ascends, is_word}
+use Rattle.avr_model.specs.Assumptions.{has_pairs}
 use Rattle.sp_domain.specs.declared.tags.Tag.{Tag}
 use Rattle.sp_domain.specs.declared.tags.Tag.TheVariants as tag
 use Rattle.sp_domain.specs.declared.tags.CarryTag.{CarryTag}
@@ -21,6 +22,9 @@ use Rattle.sp_domain.specs.declared.tags.CarryTag.TheVariants as carry
 use Rattle.sp_domain.specs.declared.slots.Slot.{Slot}
 use Rattle.sp_domain.specs.declared.slots.Slot.TheVariants.{Free, Guarded}
 use Rattle.bit_domain.specs.declared.bytes.TriByte.{TriByte}
+use Rattle.pair_domain.specs.declared.facts.PairFacts.{PairFacts}
+use Rattle.pair_domain.specs.Rank.{KnownFits}
+use Rattle.pair_words.proofs.AllLaws.{sum_short, compare_short, zero_short, intervals_short}
 use Rattle.abs_state.specs.declared.values.AbsByte.{AbsByte}
 use Rattle.abs_state.specs.declared.state.AbsState.{AbsState}
 use Rattle.mask_states.specs.declared.keys.Kind.{Kind}
@@ -44,11 +48,12 @@ use Rattle.witness_replay.specs.Spelling.{Plan, bit, weight, choices_of, choices
 use Rattle.indirect_targets.specs.Spelling.{number_words, entry_words}
 use Rattle.certificate.specs.declared.instance.Inst.{Inst}
 use Rattle.certificate.specs.declared.version.Version.{Version}
-use Rattle.certificate.specs.declared.version.Version.TheVariants.{One, Two}
+use Rattle.certificate.specs.declared.version.Version.TheVariants.{One, Two, Three}
 use Rattle.certificate.specs.Insts.{is_vector_word, fits_kind, IsInst}
 use Rattle.certificate.specs.Claims.{Claim, IsClaim, FitsAt, AreFrom, cells_of, node_keys}
 use Rattle.cert_words.specs.Spelling.{bits_text, tag_text, range_text, value_word, flags_word, carry_word, slot_word, high_text, form_word}
-use Rattle.cert_words.specs.KeySpelling.{kind_word, pick_word, pick_words, place_words, state_words, form_words}
+use Rattle.certificate.specs.Hulls.{hulls_of}
+use Rattle.cert_words.specs.KeySpelling.{kind_word, pick_word, pick_words, place_words, pairs_words, state_words, form_words}
 use Rattle.cert_words.specs.Text.{numbered, version_line, heading, entry_lines, inst_words, inst_lines, place_of, node_words, node_lines, attained_line, witness_lines, end_line, front_lines}
 use Rattle.line_reading.proofs.AllLaws.{length_hex}
 use Rattle.cert_writing.specs.Sizes.{HasFewChoices, TextsFit}
@@ -107,6 +112,7 @@ tag_short (tag.SpHi k) = omega (arith, length_hex k 4)
 range_short : (version : Version) (v : AbsByte) → length (range_text version v) ≤ 4
 range_short One v = omega arith
 range_short Two v = omega (arith, length-append (hex_digits v.low 2) (hex_digits v.high 2), length_hex v.low 2, length_hex v.high 2)
+range_short Three v = omega (arith, length-append (hex_digits v.low 2) (hex_digits v.high 2), length_hex v.low 2, length_hex v.high 2)
 
 value_short : (version : Version) (v : AbsByte) → length (value_word version v) ≤ 13
 value_short version v =
@@ -129,12 +135,21 @@ carry_short (carry.Borrow j l) = omega (arith, pair_long j l)
 carry_short (carry.Sum j l) = omega (arith, pair_long j l)
 carry_short (carry.Less r k) = omega (arith, pair_long r k)
 
-state_short : (version : Version) (s : AbsState) → taken (state_words version s) ≤ 14 * length s.registers + 12 + 14 * length s.slots
-state_short version s =
-    let behind : List (List ℕ) = flags_word s.flags.entry s.flags.bits ∷ carry_word s.flags.carry ∷ map (slot_word version) s.slots in
+-- four words: at most 13, 7, 3 and 160 bytes, each with what stands behind it
+pairs_short : (version : Version) (registers : List AbsByte) (x : Option PairFacts) → KnownFits x → taken (pairs_words version registers x) ≤ 187
+pairs_short One registers x h = omega arith
+pairs_short Two registers x h = omega arith
+pairs_short Three registers None h = omega arith
+pairs_short Three registers (Some f) h = omega (arith, sum_short f.sum, compare_short f.compare, zero_short f.zero, intervals_short (hulls_of registers) f.intervals h.count)
+
+state_short : (version : Version) (s : AbsState) → KnownFits s.facts → taken (state_words version s) ≤ 14 * length s.registers + 199 + 14 * length s.slots
+state_short version s fits =
+    let known : List (List ℕ) = pairs_words version s.registers s.facts in
+    let behind : List (List ℕ) = flags_word s.flags.entry s.flags.bits ∷ carry_word s.flags.carry ∷ (known ++ map (slot_word version) s.slots) in
     let values = taken_few (value_word version) (value_short version) s.registers in
     let slots = taken_few (slot_word version) (slot_short version) s.slots in
-    omega (arith, taken_both (map (value_word version) s.registers) behind, values, slots, flags_long s.flags.entry s.flags.bits, carry_short s.flags.carry)
+    let pairs = pairs_short version s.registers s.facts fits in
+    omega (arith, taken_both (map (value_word version) s.registers) behind, taken_both known (map (slot_word version) s.slots), values, slots, pairs, flags_long s.flags.entry s.flags.bits, carry_short s.flags.carry)
 
 -- ---- keys
 
@@ -153,6 +168,7 @@ pick_short (Some byte) = omega (arith, length_hex byte 2)
 picks_short : (version : Version) (pick : Option ℕ) → taken (pick_words version pick) ≤ 3
 picks_short One pick = omega arith
 picks_short Two pick = omega (arith, pick_short pick)
+picks_short Three pick = omega (arith, pick_short pick)
 
 place_short : (version : Version) (key : NodeKey) → offset_of key.sp ≤ 2048 → taken (place_words version key) ≤ 38
 place_short version key h =
@@ -160,13 +176,13 @@ place_short version key h =
 
 -- ---- nodes
 
-key_small : (at : ℕ) (key : NodeKey) (form : NodeForm) → FitsAt at key form → offset_of key.sp ≤ 2048
-key_small at key (State s) h = omega (arith, h.small)
-key_small at key (From m) h = omega (arith, h.0.small)
+key_small : (followed : Bool) (at : ℕ) (key : NodeKey) (form : NodeForm) → FitsAt followed at key form → offset_of key.sp ≤ 2048
+key_small followed at key (State s) h = omega (arith, h.small)
+key_small followed at key (From m) h = omega (arith, h.0.small)
 
-body_short : (version : Version) (at : ℕ) (key : NodeKey) (form : NodeForm) → at ≤ 65536 → FitsAt at key form → taken (form_words version form) ≤ 460 + 14 * offset_of key.sp
-body_short version at key (State s) few h = omega (arith, state_short version s, h.formed.count_registers, h.formed.count_slots)
-body_short version at key (From m) few h = omega (arith, number_short m (omega (arith, few, h.1)))
+body_short : (followed : Bool) (version : Version) (at : ℕ) (key : NodeKey) (form : NodeForm) → at ≤ 65536 → FitsAt followed at key form → taken (form_words version form) ≤ 647 + 14 * offset_of key.sp
+body_short followed version at key (State s) few h = omega (arith, state_short version s h.formed.facts, h.formed.count_registers, h.formed.count_slots)
+body_short followed version at key (From m) few h = omega (arith, number_short m (omega (arith, few, h.1)))
 
 place_by : (b : Bool) (p n : ℕ) → p ≤ n → cond b 0 (p + 1) ≤ n + 1
 place_by true p n h = omega arith
@@ -176,13 +192,14 @@ place_few : (key : InstKey) (insts : List Inst) → place_of key insts ≤ lengt
 place_few key [] = omega arith
 place_few key (x ∷ xs) = omega (arith, place_by (same_inst x.key key) (place_of key xs) (length xs) (place_few key xs))
 
-nodes_short : (version : Version) (insts : List Inst) (at : ℕ) (ns : Seeds) → length insts ≤ 65536 → at + length ns ≤ 65536 → AreFrom at ns → text (node_words version insts) ns ≤ 600 * length ns + 14 * cells_of (node_keys ns)
+nodes_short : (followed : Bool) (version : Version) (insts : List Inst) (at : ℕ) (ns : Seeds) → length insts ≤ 65536 → at + length ns ≤ 65536 → AreFrom followed at ns
+    → text (node_words version insts) ns ≤ 700 * length ns + 14 * cells_of (node_keys ns)
 unfolding cells_of
-nodes_short version insts at [] few most h = omega arith
-nodes_short version insts at (n ∷ ns) few most h =
-    let front = place_short version n.0 (key_small at n.0 n.1 h.0) in
-    let body = body_short version at n.0 n.1 (omega (arith, most)) h.0 in
-    let behind = nodes_short version insts (at + 1) ns few (omega (arith, most)) h.1 in
+nodes_short followed version insts at [] few most h = omega arith
+nodes_short followed version insts at (n ∷ ns) few most h =
+    let front = place_short version n.0 (key_small followed at n.0 n.1 h.0) in
+    let body = body_short followed version at n.0 n.1 (omega (arith, most)) h.0 in
+    let behind = nodes_short followed version insts (at + 1) ns few (omega (arith, most)) h.1 in
     let own = number_short (place_of n.0.inst insts) (omega (arith, place_few n.0.inst insts, few)) in
     omega (arith, text_more (node_words version insts) n ns, taken_both (place_words version n.0) (form_words version n.1), front, body, own, behind)
 
@@ -267,6 +284,7 @@ line_more l ls = omega (arith, length-append (line l) (flat_map line ls), line_s
 version_short : (version : Version) → taken (version_line version) ≤ 12
 version_short One = omega arith
 version_short Two = omega arith
+version_short Three = omega arith
 
 abbrev size : List (List (List ℕ)) → ℕ
 size ls = length (flat_map line ls)
@@ -291,14 +309,14 @@ witness_short (Some plan) h few =
     let behind = both_long (map run_words plan.runs) end in
     omega (arith, line_more attained_line (first ∷ fill ∷ lines), line_more first (fill ∷ lines), line_more fill lines, length_hex plan.fill 2, behind, runs, few)
 
-front_short : (c : Claim) → IsClaim c → size (front_lines c) ≤ 166000000
+front_short : (c : Claim) → IsClaim c → size (front_lines c) ≤ 172000000
 front_short c h =
     let entries = list_short (codes "assume") (length c.assumptions) (400 * length c.assumptions) (map entry_words c.assumptions) (omega arith) (omega (arith, h.entries_fit.few))
     (entries_short c.assumptions (recursion_from_All (λ e. is_entry e ≡ true) c.assumptions h.entries_fit.each)) in
     let insts = list_short (codes "instances") (length c.instances) (100 * length c.instances) (map inst_words c.instances) (omega arith) (omega (arith, h.few_insts)) (insts_short c.instances h.insts_fit) in
-    let most : ℕ = 600 * length c.nodes + 14 * cells_of (node_keys c.nodes) in
+    let most : ℕ = 700 * length c.nodes + 14 * cells_of (node_keys c.nodes) in
     let nodes = list_short (codes "nodes") (length c.nodes) most (map (node_words c.version c.instances) c.nodes) (omega arith) (omega (arith, h.few_nodes))
-    (nodes_short c.version c.instances 0 c.nodes h.few_insts (omega (arith, h.few_nodes)) h.nodes_fit) in
+    (nodes_short (has_pairs c.assumptions) c.version c.instances 0 c.nodes h.few_insts (omega (arith, h.few_nodes)) h.nodes_fit) in
     let third = both_long (inst_lines c.instances) (node_lines c.version c.instances c.nodes) in
     let second = both_long (entry_lines c.assumptions) (inst_lines c.instances ++ node_lines c.version c.instances c.nodes) in
     let first = both_long (heading c.version c.bound) (entry_lines c.assumptions ++ (inst_lines c.instances ++ node_lines c.version c.instances c.nodes)) in

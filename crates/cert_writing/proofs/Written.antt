@@ -20,23 +20,8 @@ use Rattle.certificate.specs.declared.version.Version.{Version}
 use Rattle.certificate.specs.declared.version.Version.TheVariants.{Two}
 use Rattle.certificate.specs.Claims.{Claim}
 use Rattle.cert_words.specs.Spelling.{tag_text, bits_text, range_text, value_word, flags_word, carry_word, slot_word}
-use Rattle.cert_words.specs.KeySpelling.{state_words}
+use Rattle.cert_words.specs.KeySpelling.{pairs_words, state_words}
 use Rattle.cert_words.specs.Text.{numbered, version_line, heading, entry_lines, inst_words, inst_lines, node_words, node_lines, front_lines, open_line, attained_line, witness_lines, end_line, text_of}
-
--- ---- digits
-
-pub two : (n : ℕ) → n < 256 → hex_digits n 2 ≡ hex_digit (n / 16) ∷ hex_digit (n % 16) ∷ []
-unfolding hex_digits
-two n h =
-    let e : n / 16 % 16 ≡ n / 16 = omega (arith, h) in
-    ap (λ (d : ℕ). hex_digit d ∷ hex_digit (n % 16) ∷ []) e
-
-pub four : (n : ℕ) → n < 65536 → hex_digits n 4 ≡ hex_digit (n / 4096) ∷ hex_digit (n / 256 % 16) ∷ hex_digit (n / 16 % 16) ∷ hex_digit (n % 16) ∷ []
-unfolding hex_digits
-four n h =
-    let a : n / 16 / 16 / 16 % 16 ≡ n / 4096 = omega (arith, h) in
-    let b : n / 16 / 16 % 16 ≡ n / 256 % 16 = omega (arith, h) in
-    ap₂ (λ (d e : ℕ). hex_digit d ∷ hex_digit e ∷ hex_digit (n / 16 % 16) ∷ hex_digit (n % 16) ∷ []) a b
 
 -- the word of a value by its three parts
 pub spelled : (v : AbsByte) (ts bs rs : List ℕ) → tag_text v.tag ≡ ts → bits_text v.bits ≡ bs → range_text Two v ≡ rs → ts ++ (bs ++ rs) ≡ value_word Two v
@@ -74,12 +59,16 @@ lines_next {A} words k w v u xs i x lt is e f =
 
 -- ---- states
 
-pub state_written : (version : Version) (w a b v : Written) (s : AbsState) → a ≡ with_words w (map (value_word version) s.registers) → b ≡ with_word (with_word a (flags_word s.flags.entry s.flags.bits)) (carry_word s.flags.carry) → v ≡ with_words b (map (slot_word version) s.slots)
+pub state_written : (version : Version) (w a b d v : Written) (s : AbsState) → a ≡ with_words w (map (value_word version) s.registers) → b ≡ with_word (with_word a (flags_word s.flags.entry s.flags.bits)) (carry_word s.flags.carry)
+    → d ≡ with_words b (pairs_words version s.registers s.facts) → v ≡ with_words d (map (slot_word version) s.slots)
     → v ≡ with_words w (state_words version s)
-state_written version w a b v s e f g =
-    g ∙ ap (λ (x : Written). with_words x (map (slot_word version) s.slots)) f
-    ∙ ap (λ (x : Written). with_words x (flags_word s.flags.entry s.flags.bits ∷ carry_word s.flags.carry ∷ map (slot_word version) s.slots)) e
-    ∙ sym (words_append w (map (value_word version) s.registers) (flags_word s.flags.entry s.flags.bits ∷ carry_word s.flags.carry ∷ map (slot_word version) s.slots))
+state_written version w a b d v s e f p g =
+    let known : List (List ℕ) = pairs_words version s.registers s.facts in
+    let slots : List (List ℕ) = map (slot_word version) s.slots in
+    let flags : Written → Written = λ x. with_word (with_word x (flags_word s.flags.entry s.flags.bits)) (carry_word s.flags.carry) in
+    g ∙ ap (λ (x : Written). with_words x slots) (p ∙ ap (λ (x : Written). with_words x known) (f ∙ ap flags e))
+    ∙ sym (words_append (flags (with_words w (map (value_word version) s.registers))) known slots)
+    ∙ sym (words_append w (map (value_word version) s.registers) (flags_word s.flags.entry s.flags.bits ∷ carry_word s.flags.carry ∷ (known ++ slots)))
 
 -- ---- parts
 

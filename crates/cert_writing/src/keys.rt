@@ -6,9 +6,9 @@ ghost use Rattle.witness_replay.specs.Spelling.{bit};
 ghost use Rattle.cert_words.specs.Spelling.{high_text, form_word};
 ghost use Rattle.cert_words.specs.KeySpelling.{kind_word, inst_key_words, pick_words, place_words, node_key_words};
 
-use crate::values::{pair, quad};
 use certificate::Version;
 use mask_states::{High, InstKey, Kind, NodeKey, SpForm};
+use pair_words::{four_digits, two_digits};
 use sb_base::LineWriter;
 use std::alloc::{AllocError, Global};
 
@@ -49,11 +49,11 @@ fn append_high(word: &mut Vec<u8>, high: High) -> Result<(), AllocError>
 {
     match high {
         High::Known(byte) => {
-            let b = pair(byte);
+            let b = two_digits(byte);
             word.extend_from_slice(&[b',', b'k', b.0, b.1])
         }
         High::Tag(below) => {
-            let n = quad(below);
+            let n = four_digits(below);
             word.extend_from_slice(&[b',', b't', n.0, n.1, n.2, n.3])
         }
     }
@@ -94,14 +94,14 @@ fn write_pick(out: &mut LineWriter, version: Version, pick: Option<u8>) -> Resul
 {
     match version {
         Version::One => Ok(()),
-        Version::Two => match pick {
+        Version::Two | Version::Three => match pick {
             None => out.word(b"-"),
             Some(byte) => out.hex(u32::from(byte), 2),
         },
     }
 }
 
-/// Writes a node within its instance: word, enable bits, I, delay, form of the stack pointer and, in the second version, pick.
+/// Writes a node within its instance: word, enable bits, I, delay, form of the stack pointer and, but in the first version, pick.
 pub(crate) fn write_place(
     out: &mut LineWriter,
     alloc: Global,

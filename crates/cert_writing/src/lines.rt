@@ -92,7 +92,7 @@ fn write_node(
     out.word(b"node")?;
     out.dec(place as u64)?;
     write_place(out, alloc, version, &node.0)?;
-    write_form(out, version, &node.1)?;
+    write_form(out, alloc, version, &node.1)?;
     out.end_line()
 }
 

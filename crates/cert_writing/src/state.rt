@@ -3,15 +3,16 @@
 ghost use Rattle.std.specs.Prelude.{◌≡◌, map, OnOk};
 ghost use Rattle.sb_base.specs.Writing.{with_words};
 ghost use Rattle.cert_words.specs.Spelling.{value_word, slot_word};
-ghost use Rattle.cert_words.specs.KeySpelling.{state_words, form_words};
+ghost use Rattle.cert_words.specs.KeySpelling.{pairs_words, state_words, form_words};
 
 use crate::values::{write_flags, write_slot, write_value};
 use abs_state::{AbsByte, AbsState};
-use certificate::Version;
+use certificate::{Version, hulls_of};
 use edge_rules::NodeForm;
+use pair_words::write_facts;
 use sb_base::LineWriter;
 use sp_domain::Slot;
-use std::alloc::AllocError;
+use std::alloc::{AllocError, Global};
 
 /// Writes values.
 fn write_values(
@@ -41,12 +42,36 @@ fn write_slots(
     Ok(())
 }
 
+/// Writes what is known of the pairs of a state's registers, for which the third version alone has words.
+fn write_pairs(
+    out: &mut LineWriter,
+    alloc: Global,
+    version: Version,
+    state: &AbsState,
+) -> Result<(), AllocError>
+    ensures { OnOk result (out.new ≡ with_words out.old (pairs_words version state.now.registers state.now.facts)) }
+{
+    match version {
+        Version::One | Version::Two => Ok(()),
+        Version::Three => match state.facts.get() {
+            Some(facts) => write_facts(out, alloc, &hulls_of(&state.registers), &facts),
+            None => Ok(()),
+        },
+    }
+}
+
 /// Writes a state.
-fn write_state(out: &mut LineWriter, version: Version, state: &AbsState) -> Result<(), AllocError>
+fn write_state(
+    out: &mut LineWriter,
+    alloc: Global,
+    version: Version,
+    state: &AbsState,
+) -> Result<(), AllocError>
     ensures { OnOk result (out.new ≡ with_words out.old (state_words version state.now)) }
 {
     write_values(out, version, &state.registers)?;
     write_flags(out, &state.flags)?;
+    write_pairs(out, alloc, version, state)?;
     write_slots(out, version, state.slots.as_slice())?;
     Ok(())
 }
@@ -54,13 +79,14 @@ fn write_state(out: &mut LineWriter, version: Version, state: &AbsState) -> Resu
 /// Writes a state, or `from` and the number of the node that it comes from.
 pub(crate) fn write_form(
     out: &mut LineWriter,
+    alloc: Global,
     version: Version,
     form: &NodeForm,
 ) -> Result<(), AllocError>
     ensures { OnOk result (out.new ≡ with_words out.old (form_words version form.now)) }
 {
     match form {
-        NodeForm::State(state) => write_state(out, version, state),
+        NodeForm::State(state) => write_state(out, alloc, version, state),
         NodeForm::From(from) => {
             out.word(b"from")?;
             out.dec(u64::from(*from))

@@ -1,7 +1,6 @@
 //! The words of values, flags, carry tags and slots.
 
-ghost use Rattle.std.specs.Prelude.{◌≡◌, ◌<◌, ◌∷◌, [], OnOk};
-ghost use Rattle.sb_base.specs.Digits.{hex_digit, hex_digits};
+ghost use Rattle.std.specs.Prelude.{◌≡◌, ◌∷◌, [], OnOk};
 ghost use Rattle.sb_base.specs.Writing.{with_word};
 ghost use Rattle.certificate.specs.declared.version.Version.TheVariants.{One, Two};
 ghost use Rattle.cert_words.specs.Spelling.{bits_text, range_text, value_word, flags_word, carry_word, slot_word};
@@ -9,47 +8,17 @@ ghost use Rattle.cert_words.specs.Spelling.{bits_text, range_text, value_word, f
 use abs_state::{AbsByte, AbsFlags};
 use bit_domain::TriByte;
 use certificate::Version;
+use pair_words::{four_digits, two_digits};
 use sb_base::LineWriter;
 use sp_domain::{CarryTag, Slot, Tag};
 use std::alloc::AllocError;
-
-/// An upper-case hexadecimal digit.
-fn glyph(value: u8) -> u8
-    requires { value < 16 }
-    ensures { result ≡ hex_digit value }
-{
-    if value < 10 {
-        b'0' + value
-    } else {
-        b'A' + (value - 10)
-    }
-}
-
-/// A byte in two digits.
-pub(crate) fn pair(byte: u8) -> (u8, u8)
-    ensures { hex_digits byte 2 ≡ result.0 ∷ result.1 ∷ [] }
-{
-    (glyph(byte / 16), glyph(byte % 16))
-}
-
-/// A number of 16 bits in four digits.
-pub(crate) fn quad(number: u16) -> (u8, u8, u8, u8)
-    ensures { hex_digits number 4 ≡ result.0 ∷ result.1 ∷ result.2 ∷ result.3 ∷ [] }
-{
-    (
-        glyph((number / 4096) as u8),
-        glyph((number / 256 % 16) as u8),
-        glyph((number / 16 % 16) as u8),
-        glyph((number % 16) as u8),
-    )
-}
 
 /// The digits of known bits and of their values.
 fn bit_digits(bits: TriByte) -> (u8, u8, u8, u8)
     ensures { bits_text bits ≡ result.0 ∷ result.1 ∷ result.2 ∷ result.3 ∷ [] }
 {
-    let k = pair(bits.known);
-    let v = pair(bits.value);
+    let k = two_digits(bits.known);
+    let v = two_digits(bits.value);
     (k.0, k.1, v.0, v.1)
 }
 
@@ -57,8 +26,8 @@ fn bit_digits(bits: TriByte) -> (u8, u8, u8, u8)
 fn range_digits(value: &AbsByte) -> (u8, u8, u8, u8)
     ensures { range_text Two value.now ≡ result.0 ∷ result.1 ∷ result.2 ∷ result.3 ∷ [] }
 {
-    let a = pair(value.low);
-    let b = pair(value.high);
+    let a = two_digits(value.low);
+    let b = two_digits(value.high);
     (a.0, a.1, b.0, b.1)
 }
 
@@ -70,16 +39,16 @@ fn write_bits(out: &mut LineWriter, value: &AbsByte) -> Result<(), AllocError>
     match value.tag {
         Tag::None => out.word(&[b'-', v.0, v.1, v.2, v.3]),
         Tag::Entry(register) => {
-            let r = pair(register);
+            let r = two_digits(register);
             out.word(&[b'e', r.0, r.1, v.0, v.1, v.2, v.3])
         }
         Tag::EntryFlags => out.word(&[b'f', v.0, v.1, v.2, v.3]),
         Tag::SpLo(below) => {
-            let j = pair(below);
+            let j = two_digits(below);
             out.word(&[b'l', j.0, j.1, v.0, v.1, v.2, v.3])
         }
         Tag::SpHi(below) => {
-            let n = quad(below);
+            let n = four_digits(below);
             out.word(&[b'h', n.0, n.1, n.2, n.3, v.0, v.1, v.2, v.3])
         }
     }
@@ -94,16 +63,16 @@ fn write_bits_and_range(out: &mut LineWriter, value: &AbsByte) -> Result<(), All
     match value.tag {
         Tag::None => out.word(&[b'-', v.0, v.1, v.2, v.3, a.0, a.1, a.2, a.3]),
         Tag::Entry(register) => {
-            let r = pair(register);
+            let r = two_digits(register);
             out.word(&[b'e', r.0, r.1, v.0, v.1, v.2, v.3, a.0, a.1, a.2, a.3])
         }
         Tag::EntryFlags => out.word(&[b'f', v.0, v.1, v.2, v.3, a.0, a.1, a.2, a.3]),
         Tag::SpLo(below) => {
-            let j = pair(below);
+            let j = two_digits(below);
             out.word(&[b'l', j.0, j.1, v.0, v.1, v.2, v.3, a.0, a.1, a.2, a.3])
         }
         Tag::SpHi(below) => {
-            let n = quad(below);
+            let n = four_digits(below);
             out.word(&[
                 b'h', n.0, n.1, n.2, n.3, v.0, v.1, v.2, v.3, a.0, a.1, a.2, a.3,
             ])
@@ -121,7 +90,7 @@ pub(crate) fn write_value(
 {
     match version {
         Version::One => write_bits(out, value),
-        Version::Two => write_bits_and_range(out, value),
+        Version::Two | Version::Three => write_bits_and_range(out, value),
     }
 }
 
@@ -158,18 +127,18 @@ fn write_carry(out: &mut LineWriter, carry: CarryTag) -> Result<(), AllocError>
     match carry {
         CarryTag::None => out.word(b"-"),
         CarryTag::Borrow(first, second) => {
-            let j = pair(first);
-            let l = pair(second);
+            let j = two_digits(first);
+            let l = two_digits(second);
             out.word(&[b'b', j.0, j.1, l.0, l.1])
         }
         CarryTag::Sum(first, second) => {
-            let j = pair(first);
-            let l = pair(second);
+            let j = two_digits(first);
+            let l = two_digits(second);
             out.word(&[b's', j.0, j.1, l.0, l.1])
         }
         CarryTag::Less(register, number) => {
-            let r = pair(register);
-            let n = pair(number);
+            let r = two_digits(register);
+            let n = two_digits(number);
             out.word(&[b'c', r.0, r.1, n.0, n.1])
         }
     }

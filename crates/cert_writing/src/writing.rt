@@ -44,6 +44,7 @@ fn write_version(out: &mut LineWriter, version: Version) -> Result<(), AllocErro
     match version {
         Version::One => write_pair(out, b"stackcert", b"1"),
         Version::Two => write_pair(out, b"stackcert", b"2"),
+        Version::Three => write_pair(out, b"stackcert", b"3"),
     }
 }
 

@@ -16,4 +16,5 @@ with_witness c w h = record {
   few_nodes = h.few_nodes;
   few_cells = h.few_cells;
   of_version = h.of_version;
+  of_list = h.of_list;
 }

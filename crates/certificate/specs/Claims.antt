@@ -1,14 +1,15 @@
 -- What a certificate claims, and what its type keeps. Source: own.
-use Rattle.std.specs.Prelude.{ℕ, ◌+◌, ◌≤◌, ◌<◌, ⊤, List, [], ◌∷◌, map, length, Option, Contains, IfSome}
+use Rattle.std.specs.Prelude.{ℕ, Bool, ◌+◌, ◌≡◌, ◌≤◌, ◌<◌, ⊤, List, [], ◌∷◌, map, length, Option, Contains, IfSome}
 use Rattle.std.specs.List.{AllByRecursion}
 use Rattle.std.specs.List.Sorted.{IsStrictlySortedBy}
 use Rattle.avr_model.specs.declared.assumption.Entry.{Entry}
+use Rattle.avr_model.specs.Assumptions.{has_pairs}
 use Rattle.avr_model.specs.State.{SIZE}
 use Rattle.vector_table.specs.Entries.{AreEntries}
 use Rattle.mask_states.specs.declared.keys.NodeKey.{NodeKey}
 use Rattle.mask_states.specs.Keys.{offset_of}
 use Rattle.mask_states.specs.Order.{inst_cmp, node_cmp}
-use Rattle.local_rules.specs.Cover.{IsNode, IsKey}
+use Rattle.local_rules.specs.Cover.{IsNodeIn, IsKey}
 use Rattle.edge_rules.specs.declared.seeded.NodeForm.{NodeForm}
 use Rattle.edge_rules.specs.declared.seeded.NodeForm.TheVariants.{State, From}
 use Rattle.edge_rules.specs.Expansion.{most_seeds, Seeds}
@@ -16,7 +17,7 @@ use Rattle.witness_replay.specs.Spelling.{Plan, IsSchedule}
 use Rattle.certificate.specs.declared.instance.Inst.{Inst}
 use Rattle.certificate.specs.declared.version.Version.{Version}
 use Rattle.certificate.specs.Insts.{IsInst, inst_keys}
-use Rattle.certificate.specs.Versions.{AreOf}
+use Rattle.certificate.specs.Versions.{AreOf, is_third}
 
 -- The version of its text, the bound, the assumptions that it rests on, the instances and nodes that every run stays in, and the schedule. A
 -- node has its state, or the number of an earlier node from which the state is worked out.
@@ -49,15 +50,16 @@ cells_of (k ∷ ks) = 1 + offset_of k.sp + cells_of ks
 
 -- ---- what the type keeps
 
--- the node of this number: its state is one that the analysis works with, or it comes from an earlier node
-abbrev pub FitsAt : ℕ → NodeKey → NodeForm → Type 0
-FitsAt at k (State s) = IsNode k s
-FitsAt at k (From m) = IsKey k × (m < at)
+-- the node of this number: its state is one that the analysis works with, where pairs are followed or where they aren't, or it comes from an
+-- earlier node
+abbrev pub FitsAt : Bool → ℕ → NodeKey → NodeForm → Type 0
+FitsAt followed at k (State s) = IsNodeIn followed k s
+FitsAt followed at k (From m) = IsKey k × (m < at)
 
 -- these nodes, of which the first has the number `at`
-abbrev pub AreFrom : ℕ → Seeds → Type 0
-AreFrom at [] = ⊤
-AreFrom at (e ∷ es) = FitsAt at e.0 e.1 × AreFrom (at + 1) es
+abbrev pub AreFrom : Bool → ℕ → Seeds → Type 0
+AreFrom followed at [] = ⊤
+AreFrom followed at (e ∷ es) = FitsAt followed at e.0 e.1 × AreFrom followed (at + 1) es
 
 -- its instance is there
 abbrev pub Belongs : List Inst → NodeKey → Type 0
@@ -69,12 +71,13 @@ pub record IsClaim (c : Claim) : Type 0 where
   pub insts_fit : AllByRecursion IsInst c.instances
   pub insts_ascend : IsStrictlySortedBy inst_cmp (inst_keys c.instances)
   pub few_insts : length c.instances ≤ most_instances
-  pub nodes_fit : AreFrom 0 c.nodes
+  pub nodes_fit : AreFrom (has_pairs c.assumptions) 0 c.nodes
   pub nodes_belong : AllByRecursion (Belongs c.instances) (node_keys c.nodes)
   pub nodes_ascend : IsStrictlySortedBy node_cmp (node_keys c.nodes)
   pub few_nodes : length c.nodes ≤ most_nodes
   pub few_cells : cells_of (node_keys c.nodes) ≤ most_cells
   pub of_version : AreOf c.version c.nodes
+  pub of_list : is_third c.version ≡ has_pairs c.assumptions
 
 -- a claim whose schedule is one
 pub record IsCertificate (c : Claim) : Type 0 where

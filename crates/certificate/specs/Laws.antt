@@ -1,6 +1,7 @@
 -- Laws of certificates.
 use Rattle.std.specs.Prelude.{ℕ, List}
 use Rattle.avr_model.specs.declared.assumption.Entry.{Entry}
+use Rattle.avr_model.specs.Assumptions.{has_pairs}
 use Rattle.local_rules.specs.declared.local.Node.{Node}
 use Rattle.edge_rules.specs.Expansion.{AreSeeds, IsFilled}
 use Rattle.edge_rules.specs.Families.{IsSound as IsSoundFamily}
@@ -9,7 +10,7 @@ use Rattle.certificate.specs.Valid.{MeetsConditions, family_of}
 
 -- what the type keeps is what an expansion asks for
 abbrev pub ClaimsAreSeeds : Type 0
-ClaimsAreSeeds = (c : Claim) → IsClaim c → AreSeeds c.nodes
+ClaimsAreSeeds = (c : Claim) → IsClaim c → AreSeeds (has_pairs c.assumptions) c.nodes
 
 -- where the conditions hold of the nodes with their states, these are a sound family with the certificate's ranks and needs
 abbrev pub ConditionsMakeFamiliesSound : Type 0

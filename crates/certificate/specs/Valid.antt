@@ -3,7 +3,6 @@ use Rattle.std.specs.Prelude.{ℕ, ◌+◌, ◌≡◌, ◌<◌, ◌≤◌, List,
 use Rattle.avr_model.specs.declared.assumption.Entry.{Entry}
 use Rattle.avr_model.specs.Devices.{device_of, size_of}
 use Rattle.avr_model.specs.declared.choice.Stop.TheVariants as stop
-use Rattle.abs_state.specs.Values.{root}
 use Rattle.mask_states.specs.declared.keys.EdgeKind.{EdgeKind}
 use Rattle.mask_states.specs.declared.keys.InstKey.{InstKey}
 use Rattle.mask_states.specs.declared.keys.SpForm.TheVariants.{Closed}
@@ -12,6 +11,7 @@ use Rattle.local_rules.specs.declared.local.Node.{Node}
 use Rattle.edge_rules.specs.declared.edge.Edge.{Edge}
 use Rattle.edge_rules.specs.Edges.{Enters, IsEdge, target}
 use Rattle.edge_rules.specs.Expansion.{IsFilled}
+use Rattle.edge_rules.specs.Roots.{root_of}
 use Rattle.edge_rules.specs.Families.{Family, IsCovered, AreFaultless}
 use Rattle.witness_replay.specs.Spelling.{Plan}
 use Rattle.witness_replay.specs.Replay.{replay_of}
@@ -19,8 +19,8 @@ use Rattle.certificate.specs.Insts.{rank_in, need_in}
 use Rattle.certificate.specs.Claims.{Claim}
 
 -- the node at reset, of which nothing is known but that the flags are clear
-abbrev pub reset_node : Node
-reset_node = record { key = entry_key root_inst; state = root }
+abbrev pub reset_node : List Entry → Node
+reset_node A = record { key = entry_key root_inst; state = root_of A }
 
 -- ---- the conditions on the nodes of a certificate with their states, by the numbers of the reasons that tell that one fails
 
@@ -53,7 +53,7 @@ pub record IsBounded (words : List ℕ) (c : Claim) : Type 0 where
 
 pub record MeetsConditions (words : List ℕ) (A : List Entry) (c : Claim) (nodes : List Node) : Type 0 where
   -- 1: the node at reset is there, with a state at least that one
-  pub reset : IsCovered nodes reset_node
+  pub reset : IsCovered nodes (reset_node A)
   pub faultless : AreFaultless words A nodes
   pub edges : AllLand words A nodes
   pub ranks : AreRanked words A c nodes

@@ -1,6 +1,9 @@
--- What each version of a certificate's text can say. The first knows no ranges, no carry tag of a register or a sum, and no picks. Source: own.
-use Rattle.std.specs.Prelude.{ℕ, ◌≡◌, ⊤, Option, None}
+-- What each version of a certificate's text can say. The first knows no ranges, no carry tag of a register or a sum, and no picks. The third is for
+-- certificates whose assumptions have the line `pairs`, and only for these: it says what is known of pairs. Source: own.
+use Rattle.std.specs.Prelude.{ℕ, Bool, true, false, ◌≡◌, ⊤, List, Option, None}
 use Rattle.std.specs.List.{AllByRecursion}
+use Rattle.avr_model.specs.declared.assumption.Entry.{Entry}
+use Rattle.avr_model.specs.Assumptions.{has_pairs}
 use Rattle.bit_domain.specs.Ranges.{set_of_bits}
 use Rattle.sp_domain.specs.declared.tags.CarryTag.{CarryTag}
 use Rattle.sp_domain.specs.declared.tags.CarryTag.TheVariants as carry
@@ -14,12 +17,13 @@ use Rattle.edge_rules.specs.declared.seeded.NodeForm.{NodeForm}
 use Rattle.edge_rules.specs.declared.seeded.NodeForm.TheVariants.{State, From}
 use Rattle.edge_rules.specs.Expansion.{Seeds}
 use Rattle.certificate.specs.declared.version.Version.{Version}
-use Rattle.certificate.specs.declared.version.Version.TheVariants.{One, Two}
+use Rattle.certificate.specs.declared.version.Version.TheVariants.{One, Two, Three}
 
 -- a value of the first version stands for all bytes that its bits permit
 abbrev pub ValueIsOf : Version → AbsByte → Type 0
 ValueIsOf One v = set_of v ≡ set_of_bits v.bits
 ValueIsOf Two v = ⊤
+ValueIsOf Three v = ⊤
 
 abbrev pub SlotIsOf : Version → Slot AbsByte → Type 0
 SlotIsOf version Free = ⊤
@@ -29,6 +33,7 @@ SlotIsOf version (Guarded v) = ValueIsOf version v
 abbrev pub HasNewCarries : Version → Type 0
 HasNewCarries One = ⊥
 HasNewCarries Two = ⊤
+HasNewCarries Three = ⊤
 
 abbrev pub CarryIsOf : Version → CarryTag → Type 0
 CarryIsOf version carry.None = ⊤
@@ -40,6 +45,7 @@ CarryIsOf version (carry.Less r k) = HasNewCarries version
 abbrev pub PickIsOf : Version → Option ℕ → Type 0
 PickIsOf One pick = pick ≡ None
 PickIsOf Two pick = ⊤
+PickIsOf Three pick = ⊤
 
 pub record StateIsOf (version : Version) (s : AbsState) : Type 0 where
   pub registers : AllByRecursion (ValueIsOf version) s.registers
@@ -55,7 +61,21 @@ pub record NodeIsOf (version : Version) (n : NodeKey × NodeForm) : Type 0 where
   pub key : PickIsOf version n.0.pick
   pub form : FormIsOf version n.1
 
--- nodes that a text of this version can have: in the second each
+-- nodes that a text of this version can have: in the second and third each
 abbrev pub AreOf : Version → Seeds → Type 0
 AreOf One nodes = AllByRecursion (NodeIsOf One) nodes
 AreOf Two nodes = ⊤
+AreOf Three nodes = ⊤
+
+abbrev pub is_third : Version → Bool
+is_third One = false
+is_third Two = false
+is_third Three = true
+
+-- the version in which a certificate with these assumptions is written
+abbrev pub written_by : Bool → Version
+written_by false = Two
+written_by true = Three
+
+abbrev pub written_version : List Entry → Version
+written_version A = written_by (has_pairs A)

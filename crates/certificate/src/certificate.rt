@@ -2,11 +2,11 @@
 
 ghost use Rattle.std.specs.Prelude.{◌≡◌, ◌<◌, length, slice_get, Some, None};
 ghost use Rattle.std.specs.Option.{option_copied};
-ghost use Rattle.certificate.specs.declared.version.Version.TheVariants.{Two};
+ghost use Rattle.certificate.specs.Versions.{written_version};
 ghost use Rattle.certificate.specs.Claims.{IsClaim};
 
 use crate::instance::Inst;
-use crate::version::Version;
+use crate::version::{Version, written_version};
 use edge_rules::{NodeForm, Seed, Seeded};
 use mask_states::NodeKey;
 use std::marker::Model;
@@ -37,18 +37,19 @@ impl Model for Certificate {
 }
 
 impl Certificate {
-    /// The certificate of these parts, which keep to the ranges, the order and the limits. It is of the second version, and has no
-    /// schedule.
+    /// The certificate of these parts, which keep to the ranges, the order and the limits. It is of the version in which one with these
+    /// assumptions is written, and has no schedule.
     pub fn build(
         bound: u16,
         assumptions: Assumptions,
         instances: Vec<Inst>,
         nodes: Vec<(NodeKey, NodeForm)>,
     ) -> Certificate
-        requires { IsClaim (record { version = Two; bound = bound; assumptions = assumptions; instances = instances.items; nodes = nodes.items; witness = None }) }
-        ensures { result ≡ record { version = Two; bound = bound; assumptions = assumptions; instances = instances.items; nodes = nodes.items; witness = None } }
+        requires { IsClaim (record { version = written_version assumptions; bound = bound; assumptions = assumptions; instances = instances.items; nodes = nodes.items; witness = None }) }
+        ensures { result ≡ record { version = written_version assumptions; bound = bound; assumptions = assumptions; instances = instances.items; nodes = nodes.items; witness = None } }
     {
-        Certificate::of_version(Version::Two, bound, assumptions, instances, nodes)
+        let version = written_version(&assumptions);
+        Certificate::of_version(version, bound, assumptions, instances, nodes)
     }
 
     /// The certificate of this version and these parts, which keep to the ranges, the order and the limits, and to what a text of the

@@ -2,6 +2,7 @@
 #![tactic(auto)]
 
 pub mod certificate;
+pub mod hulls;
 pub mod instance;
 pub mod laws;
 pub mod limit;
@@ -9,6 +10,7 @@ pub mod version;
 
 pub use certificate::Certificate;
 pub use edge_rules::{NodeForm, Seed, Seeded};
+pub use hulls::hulls_of;
 pub use instance::Inst;
 pub use limit::Limit;
-pub use version::Version;
+pub use version::{Version, written_version};

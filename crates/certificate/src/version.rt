@@ -1,5 +1,10 @@
 //! The versions of certificates. Source: own.
 
+ghost use Rattle.std.specs.Prelude.{◌≡◌};
+ghost use Rattle.certificate.specs.Versions.{written_version};
+
+use vector_table::Assumptions;
+
 /// The version of a certificate, which decides what its text can say.
 #[derive(Clone, Copy, PartialEq, Eq)]
 pub enum Version {
@@ -7,4 +12,19 @@ pub enum Version {
     One,
     /// The second: ranges, carry tags of registers and of sums, and picks are written.
     Two,
+    /// The third: also what is known of pairs of registers. It is for certificates whose assumptions have the line `pairs`, and only for
+    /// these.
+    Three,
+}
+
+/// The version in which a certificate with these assumptions is written: the third exactly where they have the line `pairs`, else the
+/// second.
+pub fn written_version(assumptions: &Assumptions) -> Version
+    ensures { result ≡ written_version assumptions.now }
+{
+    if assumptions.has_pairs() {
+        Version::Three
+    } else {
+        Version::Two
+    }
 }

@@ -1,0 +1,131 @@
+-- The line `pairs` in lists of entries: it is the first of a list of the third version, and in no other list.
+use Rattle.std.proofs.Common.{◌≡◌, ◌||◌, List, [], ◌∷◌, ◌++◌, length, Bool, true, false, refl, ap, sym, ◌∙◌, arith}
+use Rattle.std.specs.List.{AllByRecursion}
+use Rattle.std.proofs.lemmas.Bool.{false≢true, and_parts}
+use Rattle.std.proofs.lemmas.Bool.Decides.{nat_tests}
+use Rattle.avr_model.specs.declared.assumption.Entry.{Entry}
+use Rattle.avr_model.specs.declared.assumption.Entry.TheVariants.{Pairs, Jump, Store, Prove, Free, Never, Frame}
+use Rattle.avr_model.specs.Assumptions.{is_before, is_line, has_line, has_pairs}
+use Rattle.vector_table.specs.Entries.{AreEntries, is_before_first, are_in_order}
+use Rattle.indirect_targets.proofs.AllLaws.{pushed, none_are_entries}
+use Rattle.certificate.specs.declared.version.Version.{Version}
+use Rattle.certificate.specs.declared.version.Version.TheVariants.{One, Two, Three}
+use Rattle.certificate.specs.Versions.{is_third}
+use Rattle.cert_format.specs.Reading.{is_admitted, least_entries}
+
+-- ---- one entry more
+
+or_stays : (b rest more : Bool) → (b || rest) ≡ true → (rest ≡ true → more ≡ true) → (b || more) ≡ true
+or_stays true rest more e h = refl
+or_stays false rest more e h = h e
+
+-- behind a list with the line there is still the line
+line_stays : (es ys : List Entry) → has_line 0 es 0 ≡ true → has_line 0 (es ++ ys) 0 ≡ true
+line_stays [] ys e = absurd (false≢true e)
+line_stays (x ∷ xs) ys e = or_stays (is_line 0 0 x) (has_line 0 xs 0) (has_line 0 (xs ++ ys) 0) e (line_stays xs ys)
+
+-- another entry is no such line
+other_pushed : (es : List Entry) (e : Entry) → is_line 0 0 e ≡ false → has_line 0 (es ++ e ∷ []) 0 ≡ has_line 0 es 0
+other_pushed [] e other = ap (λ (b : Bool). b || false) other
+other_pushed (x ∷ xs) e other = ap (λ (b : Bool). is_line 0 0 x || b) (other_pushed xs e other)
+
+pub mode_kept : (es : List Entry) (e : Entry) → is_admitted (has_pairs es) e ≡ true → has_pairs (es ++ e ∷ []) ≡ has_pairs es
+unfolding has_pairs
+mode_kept es Pairs h = line_stays es (Pairs ∷ []) h ∙ sym h
+mode_kept es (Jump site words) h = other_pushed es (Jump site words) refl
+mode_kept es (Store site addresses) h = other_pushed es (Store site addresses) refl
+mode_kept es (Prove site) h = other_pushed es (Prove site) refl
+mode_kept es (Free site) h = other_pushed es (Free site) refl
+mode_kept es (Never site) h = other_pushed es (Never site) refl
+mode_kept es (Frame site) h = other_pushed es (Frame site) refl
+
+-- ---- the first line
+
+-- nothing is before it
+not_before : (x y : Entry) → is_before x y ≡ true → is_line 0 0 y ≡ false
+not_before x Pairs e = absurd (grind (arith, nat_tests, e))
+not_before x (Jump site words) e = refl
+not_before x (Store site addresses) e = refl
+not_before x (Prove site) e = refl
+not_before x (Free site) e = refl
+not_before x (Never site) e = refl
+not_before x (Frame site) e = refl
+
+none_behind : (x : Entry) (xs : List Entry) → are_in_order (x ∷ xs) ≡ true → has_line 0 xs 0 ≡ false
+none_behind x [] e = refl
+none_behind x (y ∷ ys) e =
+    let t = and_parts (is_before_first x (y ∷ ys)) (are_in_order (y ∷ ys)) e in
+    ap (λ (b : Bool). b || has_line 0 ys 0) (not_before x y t.0) ∙ none_behind y ys t.1
+
+-- entries of which none is the line
+pub all_other : (es : List Entry) → has_line 0 es 0 ≡ false → AllByRecursion (λ e. is_admitted false e ≡ true) es
+all_other [] h = tt
+all_other (Pairs ∷ xs) h = absurd (false≢true (sym h))
+all_other (Jump site words ∷ xs) h = (refl, all_other xs h)
+all_other (Store site addresses ∷ xs) h = (refl, all_other xs h)
+all_other (Prove site ∷ xs) h = (refl, all_other xs h)
+all_other (Free site ∷ xs) h = (refl, all_other xs h)
+all_other (Never site ∷ xs) h = (refl, all_other xs h)
+all_other (Frame site ∷ xs) h = (refl, all_other xs h)
+
+any_entry : (e : Entry) → is_admitted true e ≡ true
+any_entry Pairs = refl
+any_entry (Jump site words) = refl
+any_entry (Store site addresses) = refl
+any_entry (Prove site) = refl
+any_entry (Free site) = refl
+any_entry (Never site) = refl
+any_entry (Frame site) = refl
+
+all_entries : (es : List Entry) → AllByRecursion (λ e. is_admitted true e ≡ true) es
+all_entries [] = tt
+all_entries (e ∷ es) = (any_entry e, all_entries es)
+
+-- ---- by the version
+
+-- the entries that a version begins with
+abbrev pub firsts : Version → List Entry
+firsts One = []
+firsts Two = []
+firsts Three = Pairs ∷ []
+
+pub firsts_count : (version : Version) → length (firsts version) ≡ least_entries version
+firsts_count One = refl
+firsts_count Two = refl
+firsts_count Three = refl
+
+pub firsts_mode : (version : Version) → is_third version ≡ has_pairs (firsts version)
+unfolding has_pairs
+firsts_mode One = refl
+firsts_mode Two = refl
+firsts_mode Three = refl
+
+pub firsts_are : (version : Version) → AreEntries (firsts version)
+firsts_are One = none_are_entries
+firsts_are Two = none_are_entries
+firsts_are Three = pushed [] Pairs none_are_entries (record { room = omega arith; formed = refl; above = refl })
+
+pub record BeginsWith (version : Version) (es : List Entry) : Type 0 where
+  pub rest : List Entry
+  pub all : es ≡ firsts version ++ rest
+  pub admitted : AllByRecursion (λ e. is_admitted (is_third version) e ≡ true) rest
+
+behind_first : (x : Entry) (xs : List Entry) → are_in_order (x ∷ xs) ≡ true → has_line 0 (x ∷ xs) 0 ≡ true → BeginsWith Three (x ∷ xs)
+behind_first Pairs xs order e = record { rest = xs; all = refl; admitted = all_entries xs }
+behind_first (Jump site words) xs order e = absurd (false≢true (sym (none_behind (Jump site words) xs order) ∙ e))
+behind_first (Store site addresses) xs order e = absurd (false≢true (sym (none_behind (Store site addresses) xs order) ∙ e))
+behind_first (Prove site) xs order e = absurd (false≢true (sym (none_behind (Prove site) xs order) ∙ e))
+behind_first (Free site) xs order e = absurd (false≢true (sym (none_behind (Free site) xs order) ∙ e))
+behind_first (Never site) xs order e = absurd (false≢true (sym (none_behind (Never site) xs order) ∙ e))
+behind_first (Frame site) xs order e = absurd (false≢true (sym (none_behind (Frame site) xs order) ∙ e))
+
+third_begins : (es : List Entry) → are_in_order es ≡ true → has_line 0 es 0 ≡ true → BeginsWith Three es
+third_begins [] order e = absurd (false≢true e)
+third_begins (x ∷ xs) order e = behind_first x xs order e
+
+-- a list of a version begins with these entries
+pub begins : (version : Version) (es : List Entry) → AreEntries es → is_third version ≡ has_pairs es → BeginsWith version es
+unfolding has_pairs
+begins One es h mode = record { rest = es; all = refl; admitted = all_other es (sym mode) }
+begins Two es h mode = record { rest = es; all = refl; admitted = all_other es (sym mode) }
+begins Three es h mode = third_begins es h.in_order (sym mode)

@@ -1,6 +1,0 @@
-use Rattle.std.proofs.Common.{arith}
-use Rattle.cert_writing.proofs.Written.{four}
-use Rattle.cert_writing.proofs.values.quad.Goals as goal
-
-pub returns : goal.returns
-returns c = rw (c.glyph.ensures, c.glyph-2.ensures, c.glyph-3.ensures, c.glyph-4.ensures) (four c.args.number (omega arith))
