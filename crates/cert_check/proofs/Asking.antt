@@ -14,16 +14,16 @@ use Rattle.mask_states.specs.declared.keys.SpForm.TheVariants.{Closed}
 use Rattle.mask_states.specs.Keys.{offset_of}
 use Rattle.local_rules.specs.declared.local.Node.{Node}
 use Rattle.edge_rules.specs.Edges.{Enters}
-use Rattle.edge_rules.specs.Families.{IsCovered, AreFaultless}
+use Rattle.edge_rules.specs.Families.{AreFaultless}
 use Rattle.certificate.specs.declared.instance.Inst.{Inst}
 use Rattle.certificate.specs.Insts.{rank_in, need_in}
 use Rattle.certificate.specs.Claims.{Claim}
-use Rattle.certificate.specs.Valid.{reset_node, AllLand, AreRanked, Suffices, NeedsSuffice}
+use Rattle.certificate.specs.Valid.{AreRanked, Suffices, NeedsSuffice}
 use Rattle.cert_check.specs.declared.demand.Demand.{Demand}
 use Rattle.cert_check.specs.declared.verdict.Reason.TheVariants as reason
 use Rattle.cert_check.specs.declared.verdict.Verdict.{Verdict}
 use Rattle.cert_check.specs.declared.verdict.Verdict.TheVariants.{Accepted, Rejected}
-use Rattle.cert_check.specs.Verdict.{InstEnters, IsFirstRank, IsFirstNeed}
+use Rattle.cert_check.specs.Verdict.{AllLanded, InstEnters, IsFirstRank, IsFirstNeed, HasReset}
 use Rattle.cert_check.specs.Demands.{AreInstances, place_in, rank_of, rank_at, need_of, need_at, Asks, offset, entry, IsAsked, AreDemands, AllBelong, IsLeast, Pair, MeetsRank, LowRank, PairBelow, lesser_pair, MeetsNeed, LowNeed, NumberBelow, lesser_number, IsMost, more_asked, RanksFall, AllMet, IsWeighed, Decides}
 use Rattle.cert_check.proofs.Lists.{IsLesser}
 use Rattle.cert_check.proofs.Insts.{HasPlace, place_is, placed, rank_there, need_there}
@@ -150,7 +150,7 @@ no_demand = record { inst = 0; into = None; bytes = 0 }
 -- ---- what demands say
 
 module _ (words : List ℕ) (A : List Entry) (c : Claim) (nodes : List Node) (are : AreInstances c.instances) (belong : AllBelong c.instances nodes)
-    (land : AllLand words A nodes) (demands : List Demand) (asked : AreDemands words A c.instances nodes demands) where
+    (land : AllLanded words A c.nodes nodes) (demands : List Demand) (asked : AreDemands words A c.instances nodes demands) where
   offset_listed : (n : Node) (o : ℕ) → Contains nodes n → n.key.sp ≡ Closed o
       → Contains demands (record { inst = place_in c.instances n.key.inst; into = None; bytes = o })
   offset_listed n o h e = (asked _).1 (record { node = n; present = h; asks = offset o e })
@@ -253,7 +253,7 @@ module _ (words : List ℕ) (A : List Entry) (c : Claim) (nodes : List Node) (ar
   entered_place : (j l : ℕ) (w : IsWay j l) → HasPlace c.instances w.inst l
   entered_place j l w =
       subst (HasPlace c.instances w.inst) w.into
-      (placed c.instances w.inst are (entered_belongs words A c.instances nodes are belong land w.node w.way w.inst w.back w.present w.enters))
+      (placed c.instances w.inst are (entered_belongs words A c.instances nodes are belong (λ n e h i. (land n e h i).0) w.node w.way w.inst w.back w.present w.enters))
 
   pub first_rank : (j l : ℕ) → IsLeast (MeetsRank c.instances) (LowRank c.instances) PairBelow demands (Some (j, l)) → IsFirstRank words A c nodes j l
   first_rank j l h = by ((asked h.0.0).0 h.0.1.0)
@@ -327,12 +327,12 @@ module _ (words : List ℕ) (A : List Entry) (c : Claim) (nodes : List Node) (ar
           need_at_place j need h.0.0 a.node.key.inst h.0.1.0 h.0.1.1.0 h.0.1.1.1 most h.1
           (own_place a.node j a.present (sym (own_number a.node h.0.0 a.asks) ∙ h.0.1.1.0))
 
-  pub decided : IsCovered nodes reset_node → AreFaultless words A nodes → (v : Verdict) → IsWeighed words c A demands v → Decides words A c nodes v
+  pub decided : HasReset A c nodes → AreFaultless words A nodes → (v : Verdict) → IsWeighed words c A demands v → Decides words A c nodes v
   decided reset clean (Accepted bound) h = (
     record {
-      reset = reset;
+      reset = reset.0;
       faultless = clean;
-      edges = land;
+      edges = λ n e h i. (land n e h i).0;
       ranks = ranked h.0;
       needs = sufficient h.1;
       bounded = h.2;

@@ -14,7 +14,8 @@ use Rattle.mask_states.specs.declared.keys.NodeKey.{NodeKey}
 use Rattle.mask_states.specs.Order.{node_cmp}
 use Rattle.mask_states.proofs.AllLaws.{keys_are_ordered}
 use Rattle.local_rules.specs.declared.local.Node.{Node}
-use Rattle.local_rules.specs.Cover.{IsNode}
+use Rattle.local_rules.specs.Cover.{IsNodeIn}
+use Rattle.edge_rules.specs.Expansion.{Seeds}
 use Rattle.edge_rules.specs.Families.{IsCovered}
 use Rattle.edge_rules.specs.Views.{AreShown, state_of, place_of}
 use Rattle.cert_check.specs.Demands.{GapAt, LeadsToNode, KeyBelow, lesser_key}
@@ -40,7 +41,7 @@ module _ (nodes : List Node) (k : NodeKey) (s : AbsState) (at : ℕ) (t : AbsSta
         (ap state_of (one_in nodes shown.ascending (record { key = k; state = h.state }) (record { key = k; state = t }) h.present held refl)) h.above,
   )
 
-  pub same_slots : IsNode k s → length s.slots ≡ length t.slots
+  pub same_slots : {followed : Bool} → IsNodeIn followed k s → length s.slots ≡ length t.slots
   same_slots node = node.formed.count_slots ∙ sym (shown.all (record { key = k; state = t }) held).formed.count_slots
 
 pub inside_at : (nodes : List Node) (k : NodeKey) (at : ℕ) → place_of k nodes ≡ Some at → at < length nodes
@@ -88,8 +89,8 @@ right_by : (b k : NodeKey) (t : Bool) → is_le (node_cmp b k) ≡ t → KeyBelo
 right_by b k true e = not_greater (node_cmp b k) e
 right_by b k false e = itself k
 
-pub lesser_keys : (nodes : List Node) → IsLesser (LeadsToNode nodes) (GapAt nodes) KeyBelow lesser_key
-lesser_keys nodes = record {
+pub lesser_keys : (followed : Bool) (own : Seeds) (nodes : List Node) → IsLesser (LeadsToNode followed own nodes) (GapAt followed own nodes) KeyBelow lesser_key
+lesser_keys followed own nodes = record {
   apart = λ x k clear o. o.1 clear;
   first = λ k. refl;
   either = λ b k. either_by b k (is_le (node_cmp b k));

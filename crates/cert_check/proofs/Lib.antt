@@ -1,3 +1,4 @@
+pub mod ReadAs
 pub mod Lists
 pub mod Insts
 pub mod Demands

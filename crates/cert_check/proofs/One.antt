@@ -6,6 +6,7 @@ use Rattle.basics.specs.Items.{contained_at}
 use Rattle.basics.specs.Lists.{one_at}
 use Rattle.edge_rules.specs.Families.{AreFaultless}
 use Rattle.avr_model.specs.declared.assumption.Entry.{Entry}
+use Rattle.avr_model.specs.Assumptions.{has_pairs}
 use Rattle.avr_model.specs.Run.{Bounded}
 use Rattle.mask_states.specs.declared.keys.NodeKey.{NodeKey}
 use Rattle.mask_states.specs.Keys.{root_inst}
@@ -18,21 +19,23 @@ use Rattle.local_rules.specs.Raw.{Raw}
 use Rattle.local_rules.specs.Local.{local, settled}
 use Rattle.local_rules.specs.Machine.{AreWords}
 use Rattle.edge_rules.specs.Edges.{IsFaultless, IsEdge, raw_of}
-use Rattle.edge_rules.specs.Expansion.{IsFilled, IsMissing}
+use Rattle.edge_rules.specs.Expansion.{Seeds, IsFilled, IsMissing}
 use Rattle.edge_laws.proofs.ExpansionLaws.{filled_or_missing}
 use Rattle.frame_laws.proofs.AllLaws.{sound_families_bound_every_run}
 use Rattle.certificate.specs.declared.instance.Inst.{Inst}
 use Rattle.certificate.specs.Insts.{rank_in, need_in}
 use Rattle.certificate.specs.Claims.{Claim, IsClaim}
-use Rattle.certificate.specs.Valid.{AllLand, AreRanked, Suffices, NeedsSuffice, IsSound, family_of}
+use Rattle.certificate.specs.Valid.{AreRanked, Suffices, NeedsSuffice, MeetsConditions, IsSound, reset_node, family_of}
 use Rattle.certificate.proofs.AllLaws.{conditions_make_families_sound}
 use Rattle.cert_check.specs.declared.verdict.Reason.{Reason}
 use Rattle.cert_check.specs.declared.verdict.Reason.TheVariants as reason
 use Rattle.cert_check.specs.declared.verdict.Verdict.{Verdict}
 use Rattle.cert_check.specs.declared.verdict.Verdict.TheVariants.{Accepted, Rejected}
-use Rattle.cert_check.specs.Verdict.{InstEnters, IsFirstFault, IsFirstGap, IsFirstRank, IsFirstNeed, IsRejected, IsReason, IsVerdict}
+use Rattle.cert_check.specs.Reading.{read_seeds, IsOpen}
+use Rattle.cert_check.specs.Verdict.{AllLanded, InstEnters, IsFirstFault, IsFirstGap, IsFirstRank, IsFirstNeed, HasReset, IsRejected, IsReason, IsVerdict}
 use Rattle.cert_check.specs.Laws.{VerdictsAreOne, SoundCertificatesBoundEveryRun}
 use Rattle.cert_check.specs.Demands.{AreInstances, Decides, need_at, rank_at, rank_of, need_of}
+use Rattle.cert_check.proofs.ReadAs.{own_is_read, own_is_open}
 use Rattle.cert_check.proofs.Insts.{place_is, rank_there, need_there}
 use Rattle.cert_check.proofs.Covering.{key_antisymmetric}
 
@@ -70,7 +73,7 @@ module _ (words : List ℕ) (A : List Entry) (c : Claim) (claim : IsClaim c) (no
   not_clean : (j cause : ℕ) → IsFirstFault words A nodes j cause → AreFaultless words A nodes → ⊥
   not_clean j cause h clean = fault_counts words A h.node h.fault h.has (clean h.node (contained_at nodes j h.node h.is))
 
-  not_landed : (j : ℕ) (to : NodeKey) → IsFirstGap words A nodes j to → AllLand words A nodes → ⊥
+  not_landed : (j : ℕ) (to : NodeKey) → IsFirstGap words A c.nodes nodes j to → AllLanded words A c.nodes nodes → ⊥
   not_landed j to h land = h.gap (land h.node h.edge (contained_at nodes j h.node h.is) h.from)
 
   not_ranked : (j l : ℕ) → IsFirstRank words A c nodes j l → AreRanked words A c nodes → ⊥
@@ -83,6 +86,16 @@ module _ (words : List ℕ) (A : List Entry) (c : Claim) (claim : IsClaim c) (no
   not_enough j need h enough =
       let le = h.least (need_in c.instances h.inst.key) (enough h.inst.key) in
       omega (arith, le, need_is j h.inst h.is, h.low)
+
+  -- where all conditions hold, the list that is handed in is the certificate's own, so that each node is open
+  open_by : c.assumptions ≡ A → (k : NodeKey) → IsOpen (has_pairs A) c.nodes k
+  open_by same k = subst (λ B. IsOpen (has_pairs B) c.nodes k) same (own_is_open c claim k)
+
+  has_reset : MeetsConditions words A c nodes → HasReset A c nodes
+  has_reset m = (m.reset, open_by m.assumptions (reset_node A).key)
+
+  all_landed : MeetsConditions words A c nodes → AllLanded words A c.nodes nodes
+  all_landed m = λ n e h i. (m.edges n e h i, open_by m.assumptions e.to)
 
   -- ---- a reason's numbers are one
 
@@ -97,10 +110,10 @@ module _ (words : List ℕ) (A : List Entry) (c : Claim) (claim : IsClaim c) (no
       let cause : a ≡ b = sym g.which ∙ (ap cause_of fault ∙ h.which) in
       ap (λ k. Rejected (reason.Node k a)) same ∙ ap (λ k. Rejected (reason.Node j k)) cause
 
-  gap_before : (i j : ℕ) (k l : NodeKey) → IsFirstGap words A nodes i k → IsFirstGap words A nodes j l → i < j → ⊥
+  gap_before : (i j : ℕ) (k l : NodeKey) → IsFirstGap words A c.nodes nodes i k → IsFirstGap words A c.nodes nodes j l → i < j → ⊥
   gap_before i j k l g h lt = g.gap (h.earlier i g.node g.edge g.is lt g.from)
 
-  one_gap : (i j : ℕ) (k l : NodeKey) → IsFirstGap words A nodes i k → IsFirstGap words A nodes j l → Rejected (reason.Edge i k) ≡ Rejected (reason.Edge j l)
+  one_gap : (i j : ℕ) (k l : NodeKey) → IsFirstGap words A c.nodes nodes i k → IsFirstGap words A c.nodes nodes j l → Rejected (reason.Edge i k) ≡ Rejected (reason.Edge j l)
   one_gap i j k l g h =
       let same : i ≡ j = same_if_neither i j (gap_before i j k l g h) (gap_before j i l k h g) in
       let node : g.node ≡ h.node = one_at nodes j g.node h.node (subst (λ m. slice_get nodes m ≡ Some g.node) same g.is) h.is in
@@ -144,7 +157,7 @@ module _ (words : List ℕ) (A : List Entry) (c : Claim) (claim : IsClaim c) (no
   one_decided (Rejected reason.Root) (Rejected (reason.Need j' need')) a b = absurd (a b.0)
   one_decided (Rejected reason.Root) (Rejected (reason.Bound need')) a b = absurd (a b.0)
   one_decided (Rejected reason.Root) (Rejected reason.Assumptions) a b = absurd (a b.0)
-  one_decided (Rejected reason.Root) (Accepted bound') a b = absurd (a b.0.reset)
+  one_decided (Rejected reason.Root) (Accepted bound') a b = absurd (a (has_reset b.0))
   one_decided (Rejected reason.Root) (Rejected (reason.Expansion at')) a b = absurd b
   one_decided (Rejected (reason.Node j cause)) (Rejected reason.Root) a b = absurd (b a.0)
   one_decided (Rejected (reason.Node j cause)) (Rejected (reason.Node j' cause')) a b = one_fault j j' cause cause' a.1 b.1
@@ -162,7 +175,7 @@ module _ (words : List ℕ) (A : List Entry) (c : Claim) (claim : IsClaim c) (no
   one_decided (Rejected (reason.Edge j to)) (Rejected (reason.Need j' need')) a b = absurd (not_landed j to a.2 b.2)
   one_decided (Rejected (reason.Edge j to)) (Rejected (reason.Bound need')) a b = absurd (not_landed j to a.2 b.2)
   one_decided (Rejected (reason.Edge j to)) (Rejected reason.Assumptions) a b = absurd (not_landed j to a.2 b.2)
-  one_decided (Rejected (reason.Edge j to)) (Accepted bound') a b = absurd (not_landed j to a.2 b.0.edges)
+  one_decided (Rejected (reason.Edge j to)) (Accepted bound') a b = absurd (not_landed j to a.2 (all_landed b.0))
   one_decided (Rejected (reason.Edge j to)) (Rejected (reason.Expansion at')) a b = absurd b
   one_decided (Rejected (reason.Rank j l)) (Rejected reason.Root) a b = absurd (b a.0)
   one_decided (Rejected (reason.Rank j l)) (Rejected (reason.Node j' cause')) a b = absurd (not_clean j' cause' b.1 a.1)
@@ -200,9 +213,9 @@ module _ (words : List ℕ) (A : List Entry) (c : Claim) (claim : IsClaim c) (no
   one_decided (Rejected reason.Assumptions) (Rejected reason.Assumptions) a b = refl
   one_decided (Rejected reason.Assumptions) (Accepted bound') a b = absurd (a.6 b.0.assumptions)
   one_decided (Rejected reason.Assumptions) (Rejected (reason.Expansion at')) a b = absurd b
-  one_decided (Accepted bound) (Rejected reason.Root) a b = absurd (b a.0.reset)
+  one_decided (Accepted bound) (Rejected reason.Root) a b = absurd (b (has_reset a.0))
   one_decided (Accepted bound) (Rejected (reason.Node j' cause')) a b = absurd (not_clean j' cause' b.1 a.0.faultless)
-  one_decided (Accepted bound) (Rejected (reason.Edge j' to')) a b = absurd (not_landed j' to' b.2 a.0.edges)
+  one_decided (Accepted bound) (Rejected (reason.Edge j' to')) a b = absurd (not_landed j' to' b.2 (all_landed a.0))
   one_decided (Accepted bound) (Rejected (reason.Rank j' l')) a b = absurd (not_ranked j' l' b.3 a.0.ranks)
   one_decided (Accepted bound) (Rejected (reason.Need j' need')) a b = absurd (not_enough j' need' b.4 a.0.needs)
   one_decided (Accepted bound) (Rejected (reason.Bound need')) a b = absurd (b.6 a.0.bounded)
@@ -224,49 +237,57 @@ module _ (words : List ℕ) (A : List Entry) (c : Claim) (claim : IsClaim c) (no
 -- either a node has no expansion, or the verdict is on the nodes with their states
 pub record IsOnNodes (words : List ℕ) (A : List Entry) (c : Claim) (v : Verdict) : Type 0 where
   pub nodes : List Node
-  pub filled : IsFilled words A c.nodes nodes
+  pub filled : IsFilled words A (read_seeds (has_pairs A) c.nodes) nodes
   pub decides : Decides words A c nodes v
 
 abbrev pub IsOnMissing : List ℕ → List Entry → Claim → Verdict → Type 0
-IsOnMissing words A c v = (at : ℕ) × ((v ≡ Rejected (reason.Expansion at)) × IsMissing words A c.nodes at)
+IsOnMissing words A c v = (at : ℕ) × ((v ≡ Rejected (reason.Expansion at)) × IsMissing words A (read_seeds (has_pairs A) c.nodes) at)
 
 on_rejected : (words : List ℕ) (A : List Entry) (c : Claim) (r : Reason) → IsRejected words A c r → IsOnMissing words A c (Rejected r) ⊎ IsOnNodes words A c (Rejected r)
 on_rejected words A c r h = inr (record { nodes = h.nodes; filled = h.expanded; decides = h.why })
 
-pub split : (words : List ℕ) (A : List Entry) (c : Claim) (v : Verdict) → IsVerdict words A c v → IsOnMissing words A c v ⊎ IsOnNodes words A c v
-split words A c (Accepted bound) h = inr (record { nodes = h.0.nodes; filled = h.0.expanded; decides = (h.0.meets, h.1) })
-split words A c (Rejected (reason.Expansion at)) h = inl (at, (refl, h))
-split words A c (Rejected reason.Root) h = on_rejected words A c reason.Root h
-split words A c (Rejected (reason.Node j cause)) h = on_rejected words A c (reason.Node j cause) h
-split words A c (Rejected (reason.Edge j to)) h = on_rejected words A c (reason.Edge j to) h
-split words A c (Rejected (reason.Rank j l)) h = on_rejected words A c (reason.Rank j l) h
-split words A c (Rejected (reason.Need j need)) h = on_rejected words A c (reason.Need j need) h
-split words A c (Rejected (reason.Bound need)) h = on_rejected words A c (reason.Bound need) h
-split words A c (Rejected reason.Assumptions) h = on_rejected words A c reason.Assumptions h
+-- where the list that is handed in is the certificate's own, its nodes are read as they are
+as_own : (A : List Entry) (c : Claim) → IsClaim c → c.assumptions ≡ A → read_seeds (has_pairs A) c.nodes ≡ c.nodes
+as_own A c claim same = ap (λ B. read_seeds (has_pairs B) c.nodes) (sym same) ∙ own_is_read c claim
 
-pub joined : (words : List ℕ) (A : List Entry) (c : Claim) (nodes : List Node) (v : Verdict) → IsFilled words A c.nodes nodes → Decides words A c nodes v
-    → IsVerdict words A c v
-joined words A c nodes (Accepted bound) f h = (record { nodes = nodes; expanded = f; meets = h.0 }, h.1)
-joined words A c nodes (Rejected (reason.Expansion at)) f h = absurd h
-joined words A c nodes (Rejected reason.Root) f h = record { nodes = nodes; expanded = f; why = h }
-joined words A c nodes (Rejected (reason.Node j cause)) f h = record { nodes = nodes; expanded = f; why = h }
-joined words A c nodes (Rejected (reason.Edge j to)) f h = record { nodes = nodes; expanded = f; why = h }
-joined words A c nodes (Rejected (reason.Rank j l)) f h = record { nodes = nodes; expanded = f; why = h }
-joined words A c nodes (Rejected (reason.Need j need)) f h = record { nodes = nodes; expanded = f; why = h }
-joined words A c nodes (Rejected (reason.Bound need)) f h = record { nodes = nodes; expanded = f; why = h }
-joined words A c nodes (Rejected reason.Assumptions) f h = record { nodes = nodes; expanded = f; why = h }
+pub split : (words : List ℕ) (A : List Entry) (c : Claim) (v : Verdict) → IsClaim c → IsVerdict words A c v → IsOnMissing words A c v ⊎ IsOnNodes words A c v
+split words A c (Accepted bound) claim h = inr (record {
+  nodes = h.0.nodes;
+  filled = subst (λ (own : Seeds). IsFilled words A own h.0.nodes) (sym (as_own A c claim h.0.meets.assumptions)) h.0.expanded;
+  decides = (h.0.meets, h.1);
+})
+split words A c (Rejected (reason.Expansion at)) claim h = inl (at, (refl, h))
+split words A c (Rejected reason.Root) claim h = on_rejected words A c reason.Root h
+split words A c (Rejected (reason.Node j cause)) claim h = on_rejected words A c (reason.Node j cause) h
+split words A c (Rejected (reason.Edge j to)) claim h = on_rejected words A c (reason.Edge j to) h
+split words A c (Rejected (reason.Rank j l)) claim h = on_rejected words A c (reason.Rank j l) h
+split words A c (Rejected (reason.Need j need)) claim h = on_rejected words A c (reason.Need j need) h
+split words A c (Rejected (reason.Bound need)) claim h = on_rejected words A c (reason.Bound need) h
+split words A c (Rejected reason.Assumptions) claim h = on_rejected words A c reason.Assumptions h
+
+pub joined : (words : List ℕ) (A : List Entry) (c : Claim) (nodes : List Node) (v : Verdict) → IsClaim c → IsFilled words A (read_seeds (has_pairs A) c.nodes) nodes
+    → Decides words A c nodes v → IsVerdict words A c v
+joined words A c nodes (Accepted bound) claim f h = (record { nodes = nodes; expanded = subst (λ (own : Seeds). IsFilled words A own nodes) (as_own A c claim h.0.assumptions) f; meets = h.0 }, h.1)
+joined words A c nodes (Rejected (reason.Expansion at)) claim f h = absurd h
+joined words A c nodes (Rejected reason.Root) claim f h = record { nodes = nodes; expanded = f; why = h }
+joined words A c nodes (Rejected (reason.Node j cause)) claim f h = record { nodes = nodes; expanded = f; why = h }
+joined words A c nodes (Rejected (reason.Edge j to)) claim f h = record { nodes = nodes; expanded = f; why = h }
+joined words A c nodes (Rejected (reason.Rank j l)) claim f h = record { nodes = nodes; expanded = f; why = h }
+joined words A c nodes (Rejected (reason.Need j need)) claim f h = record { nodes = nodes; expanded = f; why = h }
+joined words A c nodes (Rejected (reason.Bound need)) claim f h = record { nodes = nodes; expanded = f; why = h }
+joined words A c nodes (Rejected reason.Assumptions) claim f h = record { nodes = nodes; expanded = f; why = h }
 
 pub verdicts_are_one : VerdictsAreOne
 verdicts_are_one words A c v w claim a b =
     ⊎_elim
     (λ m. ⊎_elim
-    (λ n. m.1.0 ∙ (ap (λ at. Rejected (reason.Expansion at)) (filled_or_missing.least words A c.nodes m.0 n.0 m.1.1 n.1.1) ∙ sym n.1.0))
-    (λ f. absurd (filled_or_missing.apart words A c.nodes f.nodes m.0 f.filled m.1.1)) (split words A c w b))
+    (λ n. m.1.0 ∙ (ap (λ at. Rejected (reason.Expansion at)) (filled_or_missing.least words A (read_seeds (has_pairs A) c.nodes) m.0 n.0 m.1.1 n.1.1) ∙ sym n.1.0))
+    (λ f. absurd (filled_or_missing.apart words A (read_seeds (has_pairs A) c.nodes) f.nodes m.0 f.filled m.1.1)) (split words A c w claim b))
     (λ f. ⊎_elim
-    (λ n. absurd (filled_or_missing.apart words A c.nodes f.nodes n.0 f.filled n.1.1))
+    (λ n. absurd (filled_or_missing.apart words A (read_seeds (has_pairs A) c.nodes) f.nodes n.0 f.filled n.1.1))
     (λ g. one_decided words A c claim f.nodes v w f.decides
-    (subst (λ nodes. Decides words A c nodes w) (filled_or_missing.one words A c.nodes g.nodes f.nodes g.filled f.filled) g.decides)) (split words A c w b))
-    (split words A c v a)
+    (subst (λ nodes. Decides words A c nodes w) (filled_or_missing.one words A (read_seeds (has_pairs A) c.nodes) g.nodes f.nodes g.filled f.filled) g.decides)) (split words A c w claim b))
+    (split words A c v claim a)
 
 pub sound_certificates_bound_every_run : SoundCertificatesBoundEveryRun
 sound_certificates_bound_every_run words A c have claim sound =

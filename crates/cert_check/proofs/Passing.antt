@@ -1,5 +1,5 @@
 -- One pass over all edges.
-use Rattle.std.proofs.Common.{◌≡◌, refl, sym, ap, ◌∙◌, subst, ℕ, ◌+◌, ◌<◌, ◌≤◌, ⊎_elim, List, [], ◌++◌, length, Option, Some, None, slice_get, Contains, arith}
+use Rattle.std.proofs.Common.{Bool, ◌≡◌, refl, sym, ap, ◌∙◌, subst, ℕ, ◌+◌, ◌<◌, ◌≤◌, ⊎_elim, List, [], ◌++◌, length, Option, Some, None, slice_get, Contains, arith}
 use Rattle.std.specs.Option.{option_map}
 use Rattle.std.proofs.lemmas.Bool.{cases_lt}
 use Rattle.std.proofs.lemmas.List.Elements.{Contains-append_left, Contains-append_right, Contains-append_cases}
@@ -7,38 +7,44 @@ use Rattle.std.proofs.lemmas.Option.{none-some, same_Some, slice_get_within}
 use Rattle.basics.specs.Items.{place_of_contained, contained_at, none_in}
 use Rattle.basics.specs.Lists.{one_at}
 use Rattle.avr_model.specs.declared.assumption.Entry.{Entry}
+use Rattle.avr_model.specs.Assumptions.{has_pairs}
+use Rattle.abs_state.specs.declared.state.AbsState.{AbsState}
 use Rattle.mask_states.specs.declared.keys.NodeKey.{NodeKey}
 use Rattle.local_rules.specs.declared.local.Node.{Node}
+use Rattle.local_rules.specs.Cover.{IsNodeIn}
 use Rattle.edge_rules.specs.declared.edge.Edge.{Edge}
 use Rattle.edge_rules.specs.Edges.{IsEdge, AreEdges, target}
-use Rattle.edge_rules.specs.Families.{IsCovered}
-use Rattle.edge_rules.specs.Views.{AreShown, key_of}
+use Rattle.edge_rules.specs.Expansion.{Seeds}
+use Rattle.edge_rules.specs.Views.{AreShown, IsOwnNode, key_of}
 use Rattle.edge_laws.proofs.AllLaws.{edges_lead_to_nodes}
 use Rattle.certificate.specs.declared.instance.Inst.{Inst}
 use Rattle.certificate.specs.Insts.{inst_keys}
-use Rattle.certificate.specs.Valid.{AllLand}
 use Rattle.cert_check.specs.declared.demand.Demand.{Demand}
-use Rattle.cert_check.specs.Verdict.{IsFirstGap}
+use Rattle.cert_check.specs.Reading.{Lands}
+use Rattle.cert_check.specs.Verdict.{AllLanded, IsFirstGap}
 use Rattle.cert_check.specs.Demands.{IsLeast, LeadsToNode, GapAt, KeyBelow, AreTargets, demands_of, Asks, AreDemands, AllBelong, IsMidway}
 use Rattle.cert_check.proofs.Demands.{listed_asks, asked_listed, landed_belongs}
 
 key_is : (nodes : List Node) (at : ℕ) (n : Node) (k : NodeKey) → slice_get nodes at ≡ Some n → option_map key_of (slice_get nodes at) ≡ Some k → n.key ≡ k
 key_is nodes at n k is e = same_Some n.key k (sym (ap (option_map key_of) is) ∙ e)
 
-module _ (words : List ℕ) (A : List Entry) (insts : List Inst) (nodes : List Node) where
-  pub begins : IsMidway words A insts nodes 0 []
+pub own_node : {followed : Bool} (k : NodeKey) (s : AbsState) → IsNodeIn followed k s → IsOwnNode k s
+own_node k s h = subst (λ b. IsNodeIn b k s) (sym h.mode) h
+
+module _ (words : List ℕ) (A : List Entry) (own : Seeds) (insts : List Inst) (nodes : List Node) where
+  pub begins : IsMidway words A own insts nodes 0 []
   begins = record {
     land = λ i n e is lt. absurd (omega (arith, lt));
     asked = λ d h. absurd (none_in d h);
     listed = λ i n d is lt. absurd (omega (arith, lt));
   }
 
-  module _ (at : ℕ) (demands : List Demand) (mid : IsMidway words A insts nodes at demands) (n : Node) (is : slice_get nodes at ≡ Some n) (edges : List Edge)
+  module _ (at : ℕ) (demands : List Demand) (mid : IsMidway words A own insts nodes at demands) (n : Node) (is : slice_get nodes at ≡ Some n) (edges : List Edge)
       (are : AreEdges words A nodes n edges) where
     pub targets : AreShown nodes → AreTargets edges
-    targets shown = λ e h. edges_lead_to_nodes.edges words A nodes n e shown.all (contained_at nodes at n is) ((are e).0 h)
+    targets shown = λ e h. own_node e.to e.state (edges_lead_to_nodes.edges words A nodes n e shown.all (contained_at nodes at n is) ((are e).0 h))
 
-    pub gap_first : (to : NodeKey) → IsLeast (LeadsToNode nodes) (GapAt nodes) KeyBelow edges (Some to) → IsFirstGap words A nodes at to
+    pub gap_first : (to : NodeKey) → IsLeast (LeadsToNode (has_pairs A) own nodes) (GapAt (has_pairs A) own nodes) KeyBelow edges (Some to) → IsFirstGap words A own nodes at to
     gap_first to h = record {
       node = n;
       is = is;
@@ -50,12 +56,12 @@ module _ (words : List ℕ) (A : List Entry) (insts : List Inst) (nodes : List N
       earlier = λ i m e im lt ie. mid.land i m e im lt ie;
     }
 
-    pub targets_belong : AllBelong insts nodes → IsLeast (LeadsToNode nodes) (GapAt nodes) KeyBelow edges None → (e : Edge) → Contains edges e
+    pub targets_belong : AllBelong insts nodes → IsLeast (LeadsToNode (has_pairs A) own nodes) (GapAt (has_pairs A) own nodes) KeyBelow edges None → (e : Edge) → Contains edges e
         → Contains (inst_keys insts) e.to.inst
-    targets_belong belong clear = λ e h. landed_belongs insts nodes (target e) belong (clear e h)
+    targets_belong belong clear = λ e h. landed_belongs insts nodes (target e) belong (clear e h).0
 
-    land_here : IsLeast (LeadsToNode nodes) (GapAt nodes) KeyBelow edges None → (i : ℕ) (m : Node) (e : Edge) → slice_get nodes i ≡ Some m → i < at + 1
-        → IsEdge words A nodes m e → IsCovered nodes (target e)
+    land_here : IsLeast (LeadsToNode (has_pairs A) own nodes) (GapAt (has_pairs A) own nodes) KeyBelow edges None → (i : ℕ) (m : Node) (e : Edge) → slice_get nodes i ≡ Some m → i < at + 1
+        → IsEdge words A nodes m e → Lands (has_pairs A) own nodes (target e)
     land_here clear i m e im lt ie =
         ⊎_elim (λ below. mid.land i m e im below ie)
         (λ above. let same : i ≡ at = omega (arith, lt, above) in
@@ -74,8 +80,8 @@ module _ (words : List ℕ) (A : List Entry) (insts : List Inst) (nodes : List N
         (asked_listed words A insts n nodes edges are d (subst (λ x. Asks words A insts x d) mn asks)))
         (cases_lt i at))
 
-    pub goes_on : (k : NodeKey) (new : List Demand) → option_map key_of (slice_get nodes at) ≡ Some k → IsLeast (LeadsToNode nodes) (GapAt nodes) KeyBelow edges None
-        → new ≡ demands ++ demands_of insts k edges → IsMidway words A insts nodes (at + 1) new
+    pub goes_on : (k : NodeKey) (new : List Demand) → option_map key_of (slice_get nodes at) ≡ Some k → IsLeast (LeadsToNode (has_pairs A) own nodes) (GapAt (has_pairs A) own nodes) KeyBelow edges None
+        → new ≡ demands ++ demands_of insts k edges → IsMidway words A own insts nodes (at + 1) new
     goes_on k new key clear e =
         let f : new ≡ demands ++ demands_of insts n.key edges = subst (λ x. new ≡ demands ++ demands_of insts x edges) (sym (key_is nodes at n k is key)) e in
         record {
@@ -86,8 +92,8 @@ module _ (words : List ℕ) (A : List Entry) (insts : List Inst) (nodes : List N
           listed = listed_here new f;
         }
 
-  module _ (at : ℕ) (demands : List Demand) (mid : IsMidway words A insts nodes at demands) (full : length nodes ≤ at) where
-    pub ends : AllLand words A nodes × AreDemands words A insts nodes demands
+  module _ (at : ℕ) (demands : List Demand) (mid : IsMidway words A own insts nodes at demands) (full : length nodes ≤ at) where
+    pub ends : AllLanded words A own nodes × AreDemands words A insts nodes demands
     ends = (
       λ n e h ie. let w = place_of_contained nodes n h in
           mid.land w.0 n e w.1 (let lt = slice_get_within nodes w.0 n w.1 in omega (arith, lt, full)) ie,

@@ -4,26 +4,29 @@ use Rattle.std.specs.List.{AllByRecursion}
 use Rattle.std.proofs.lemmas.Option.{none-some, same_Some, slice_get_within}
 use Rattle.basics.specs.Items.{place_of_contained}
 use Rattle.avr_model.specs.declared.assumption.Entry.{Entry}
+use Rattle.avr_model.specs.Assumptions.{has_pairs}
 use Rattle.abs_state.specs.declared.state.AbsState.{AbsState}
-use Rattle.abs_state.specs.Values.{root}
 use Rattle.mask_states.specs.declared.keys.InstKey.{InstKey}
 use Rattle.mask_states.specs.declared.keys.NodeKey.{NodeKey}
 use Rattle.mask_states.specs.Keys.{root_inst, entry_key}
 use Rattle.local_rules.specs.declared.local.Node.{Node}
 use Rattle.local_rules.specs.declared.local.NodeFault.{NodeFault}
-use Rattle.local_rules.specs.Cover.{IsNode}
 use Rattle.local_rules.specs.Faults.{cause_of}
 use Rattle.edge_rules.specs.declared.seeded.NodeForm.{NodeForm}
 use Rattle.edge_rules.specs.Expansion.{Seeds, IsFilled}
-use Rattle.edge_rules.specs.Families.{IsCovered}
+use Rattle.edge_rules.specs.Roots.{root_of}
+use Rattle.edge_rules.specs.Views.{IsOwnNode}
 use Rattle.edge_laws.proofs.AllLaws.{edges_lead_to_nodes}
 use Rattle.call_graph.specs.Exits.{IsFirstFault as HasFirstFault}
 use Rattle.certificate.specs.declared.instance.Inst.{Inst}
 use Rattle.certificate.specs.Claims.{Claim, IsClaim, Belongs, node_keys}
 use Rattle.certificate.specs.Valid.{reset_node}
 use Rattle.cert_check.specs.declared.demand.Demand.{Demand}
+use Rattle.cert_check.specs.Reading.{read_seeds}
 use Rattle.cert_check.specs.Verdict.{IsFirstFault}
-use Rattle.cert_check.specs.Demands.{AllBelong, AreInside, IsLeast, MeetsRank, LowRank, PairBelow, MeetsNeed, LowNeed, NumberBelow}
+use Rattle.cert_check.specs.Demands.{AreBeside, AllBelong, AreInside, IsLeast, MeetsRank, LowRank, PairBelow, MeetsNeed, LowNeed, NumberBelow}
+use Rattle.cert_check.proofs.Passing.{own_node}
+use Rattle.cert_check.proofs.ReadAs.{seeds_read, beside_read, key_beside}
 
 pub if_ok : {X E : Type 0} (P Q : X → Type 0) (r : Result X E) → ((x : X) → P x → Q x) → IfOk r P → IfOk r Q
 if_ok P Q (Ok x) f h = f x h
@@ -44,31 +47,33 @@ need_fits insts demands j few inside h =
     let in_list = inside h.0.0 h.0.1.0 in
     omega (arith, in_list.0, few, h.0.1.1.0)
 
-module _ (words : List ℕ) (A : List Entry) (c : Claim) (nodes : List Node) (claim : IsClaim c) (filled : IsFilled words A c.nodes nodes) where
+module _ (words : List ℕ) (A : List Entry) (c : Claim) (nodes : List Node) (claim : IsClaim c)
+    (filled : IsFilled words A (read_seeds (has_pairs A) c.nodes) nodes) where
   pub node_fits : (j : ℕ) (n : Node) → slice_get nodes j ≡ Some n → j < 65536
-  node_fits j n e = let lt = slice_get_within nodes j n e in omega (arith, lt, filled.count, claim.few_nodes)
+  node_fits j n e = let lt = slice_get_within nodes j n e in omega (arith, lt, filled.count, (seeds_read c claim (has_pairs A)).few)
 
   key_at : (P : NodeKey → Type 0) (es : Seeds) (j : ℕ) (k : NodeKey) (form : NodeForm) → AllByRecursion P (node_keys es) → slice_get es j ≡ Some (k, form) → P k
   key_at P [] j k form h e = absurd (none-some (k, form) e)
   key_at P (x ∷ xs) zero k form h e = subst (λ (y : NodeKey × NodeForm). P y.0) (same_Some x (k, form) e) h.0
   key_at P (x ∷ xs) (suc j) k form h e = key_at P xs j k form h.1 e
 
+  pub beside : AreBeside c.nodes nodes
+  beside = beside_read c claim (has_pairs A) words A nodes filled
+
   pub nodes_belong : AllBelong c.instances nodes
   nodes_belong n h =
       let w = place_of_contained nodes n h in
-      let e = filled.keys w.0 n w.1 in
+      let e = key_beside c.nodes nodes w.0 n beside w.1 in
       key_at (Belongs c.instances) c.nodes w.0 n.key e.0 claim.nodes_belong e.1
 
 -- ---- the node at reset
 
-pub reset_is_node : (i : InstKey) (k : NodeKey) (s : AbsState) → i ≡ root_inst → k ≡ entry_key i → s ≡ root → IsNode k s
-reset_is_node i k s ei ek es =
-    subst (IsNode k) (sym es) (subst (λ x. IsNode x root) (sym (ek ∙ ap entry_key ei)) edges_lead_to_nodes.reset)
+pub reset_is_node : (A : List Entry) (i : InstKey) (k : NodeKey) (s : AbsState) → i ≡ root_inst → k ≡ entry_key i → s ≡ root_of A → IsOwnNode k s
+reset_is_node A i k s ei ek es =
+    subst (IsOwnNode k) (sym es) (subst (λ x. IsOwnNode x (root_of A)) (sym (ek ∙ ap entry_key ei)) (own_node (entry_key root_inst) (root_of A) (edges_lead_to_nodes.reset (has_pairs A))))
 
-pub reset_is_covered : (nodes : List Node) (i : InstKey) (k : NodeKey) (s : AbsState) → i ≡ root_inst → k ≡ entry_key i → s ≡ root
-    → IsCovered nodes (record { key = k; state = s }) → IsCovered nodes reset_node
-reset_is_covered nodes i k s ei ek es h =
-    subst (λ x. IsCovered nodes (record { key = x; state = root })) (ek ∙ ap entry_key ei) (subst (λ t. IsCovered nodes (record { key = k; state = t })) es h)
+pub reset_is : (A : List Entry) (i : InstKey) (k : NodeKey) (s : AbsState) → i ≡ root_inst → k ≡ entry_key i → s ≡ root_of A → record { key = k; state = s } ≡ reset_node A
+reset_is A i k s ei ek es = λ j. record { key = (ek ∙ ap entry_key ei) j; state = es j }
 
 pub first_fault : (words : List ℕ) (A : List Entry) (nodes : List Node) (j cause : ℕ) (f : NodeFault) → HasFirstFault words A nodes j f → cause ≡ cause_of f
     → IsFirstFault words A nodes j cause

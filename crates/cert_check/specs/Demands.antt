@@ -1,10 +1,11 @@
 -- What is worked out on the way to a verdict.
-use Rattle.std.specs.Prelude.{ℕ, suc, ◌+◌, ◌≡◌, ◌≢◌, ◌<◌, ◌≤◌, ◌↔◌, ◌⊎◌, ◌==◌, ◌&&◌, ◌||◌, nat_lt, nat_le, if◌then◌else◌, List, [], ◌∷◌, ◌++◌, length, Option, Some, None, Contains}
+use Rattle.std.specs.Prelude.{ℕ, Bool, suc, ◌+◌, ◌≡◌, ◌≢◌, ◌<◌, ◌≤◌, ◌↔◌, ◌⊎◌, ◌==◌, ◌&&◌, ◌||◌, nat_lt, nat_le, if◌then◌else◌, List, [], ◌∷◌, ◌++◌, length, Option, Some, None, map, Contains}
 use Rattle.std.specs.List.{slice_get, flat_map, AllByRecursion}
 use Rattle.std.specs.List.Sorted.{IsStrictlySortedBy}
 use Rattle.std.specs.Ordering.{is_le}
 use Rattle.std.specs.declared.cmp.Ordering.TheVariants.{Greater}
 use Rattle.avr_model.specs.declared.assumption.Entry.{Entry}
+use Rattle.avr_model.specs.Assumptions.{has_pairs}
 use Rattle.mask_states.specs.declared.keys.EdgeKind.{EdgeKind}
 use Rattle.mask_states.specs.declared.keys.InstKey.{InstKey}
 use Rattle.mask_states.specs.declared.keys.NodeKey.{NodeKey}
@@ -13,21 +14,22 @@ use Rattle.mask_states.specs.declared.keys.SpForm.TheVariants.{Closed, Open}
 use Rattle.mask_states.specs.Keys.{root_inst, offset_of}
 use Rattle.mask_states.specs.Order.{inst_cmp, node_cmp, same_inst}
 use Rattle.local_rules.specs.declared.local.Node.{Node}
-use Rattle.local_rules.specs.Cover.{IsNode}
 use Rattle.edge_rules.specs.declared.edge.Edge.{Edge}
 use Rattle.edge_rules.specs.Edges.{is_entry, Enters, IsEdge, target}
-use Rattle.edge_rules.specs.Families.{IsCovered}
+use Rattle.edge_rules.specs.Expansion.{Seeds}
+use Rattle.edge_rules.specs.Views.{IsOwnNode, key_of}
 use Rattle.certificate.specs.declared.instance.Inst.{Inst}
 use Rattle.certificate.specs.Insts.{IsInst, inst_keys, need_in}
-use Rattle.certificate.specs.Claims.{Claim, most_instances}
-use Rattle.certificate.specs.Valid.{AllLand, IsBounded, MeetsConditions}
+use Rattle.certificate.specs.Claims.{Claim, most_instances, node_keys}
+use Rattle.certificate.specs.Valid.{IsBounded, MeetsConditions}
 use Rattle.cert_check.specs.declared.demand.Demand.{Demand}
 use Rattle.cert_check.specs.declared.gathering.Found.{Found}
 use Rattle.cert_check.specs.declared.gathering.Found.TheVariants.{Gap, All}
 use Rattle.cert_check.specs.declared.verdict.Reason.TheVariants as reason
 use Rattle.cert_check.specs.declared.verdict.Verdict.{Verdict}
 use Rattle.cert_check.specs.declared.verdict.Verdict.TheVariants.{Accepted, Rejected}
-use Rattle.cert_check.specs.Verdict.{IsGap, IsFirstGap, IsLeastReason}
+use Rattle.cert_check.specs.Reading.{Lands}
+use Rattle.cert_check.specs.Verdict.{IsGap, AllLanded, IsFirstGap, IsLeastReason}
 
 -- ---- the least of what the items of a list offer
 
@@ -43,12 +45,16 @@ IsNoted {X} {K} clear offers lesser old x new =
 
 -- ---- edges that don't land
 
-abbrev pub LeadsToNode : List Node → Edge → Type 0
-LeadsToNode nodes e = IsCovered nodes (target e)
+-- the nodes with their states have the keys of the certificate's own, in their order
+abbrev pub AreBeside : Seeds → List Node → Type 0
+AreBeside own nodes = map key_of nodes ≡ node_keys own
+
+abbrev pub LeadsToNode : Bool → Seeds → List Node → Edge → Type 0
+LeadsToNode followed own nodes e = Lands followed own nodes (target e)
 
 -- an edge that doesn't land offers its key
-abbrev pub GapAt : List Node → Edge → NodeKey → Type 0
-GapAt nodes e k = (e.to ≡ k) × IsGap nodes e
+abbrev pub GapAt : Bool → Seeds → List Node → Edge → NodeKey → Type 0
+GapAt followed own nodes e k = (e.to ≡ k) × IsGap followed own nodes e
 
 abbrev pub KeyBelow : NodeKey → NodeKey → Type 0
 KeyBelow a b = node_cmp a b ≢ Greater
@@ -59,7 +65,7 @@ lesser_key (Some b) k = if is_le (node_cmp b k) then b else k
 
 -- edges lead to nodes that the analysis works with
 abbrev pub AreTargets : List Edge → Type 0
-AreTargets edges = (e : Edge) → Contains edges e → IsNode e.to e.state
+AreTargets edges = (e : Edge) → Contains edges e → IsOwnNode e.to e.state
 
 -- ---- instances
 
@@ -125,9 +131,9 @@ abbrev pub AllBelong : List Inst → List Node → Type 0
 AllBelong insts nodes = (n : Node) → Contains nodes n → Contains (inst_keys insts) n.key.inst
 
 -- all edges land, and these are the demands; else the first gap
-abbrev pub IsFound : List ℕ → List Entry → List Inst → List Node → Found → Type 0
-IsFound words A insts nodes (Gap j to) = IsFirstGap words A nodes j to
-IsFound words A insts nodes (All demands) = AllLand words A nodes × AreDemands words A insts nodes demands.items
+abbrev pub IsFound : List ℕ → List Entry → Seeds → List Inst → List Node → Found → Type 0
+IsFound words A own insts nodes (Gap j to) = IsFirstGap words A own nodes j to
+IsFound words A own insts nodes (All demands) = AllLanded words A own nodes × AreDemands words A insts nodes demands.items
 
 -- ---- which demands aren't met
 
@@ -203,7 +209,7 @@ Decides words A c nodes (Accepted bound) = MeetsConditions words A c nodes × (b
 Decides words A c nodes (Rejected r) = IsLeastReason words A c nodes r
 
 -- all edges of the nodes below this number land, and what is listed is asked, and what those nodes ask is listed
-pub record IsMidway (words : List ℕ) (A : List Entry) (insts : List Inst) (nodes : List Node) (at : ℕ) (demands : List Demand) : Type 0 where
-  pub land : (i : ℕ) (n : Node) (e : Edge) → slice_get nodes i ≡ Some n → i < at → IsEdge words A nodes n e → IsCovered nodes (target e)
+pub record IsMidway (words : List ℕ) (A : List Entry) (own : Seeds) (insts : List Inst) (nodes : List Node) (at : ℕ) (demands : List Demand) : Type 0 where
+  pub land : (i : ℕ) (n : Node) (e : Edge) → slice_get nodes i ≡ Some n → i < at → IsEdge words A nodes n e → Lands (has_pairs A) own nodes (target e)
   pub asked : (d : Demand) → Contains demands d → IsAsked words A insts nodes d
   pub listed : (i : ℕ) (n : Node) (d : Demand) → slice_get nodes i ≡ Some n → i < at → Asks words A insts n d → Contains demands d

@@ -1,8 +1,9 @@
 -- What is said of a certificate but for its schedule: acceptance, or the least reason against it with its least numbers. Source: own.
-use Rattle.std.specs.Prelude.{ℕ, ◌≡◌, ◌≢◌, ◌<◌, ◌≤◌, List, Contains, Some, Err}
+use Rattle.std.specs.Prelude.{ℕ, Bool, ◌≡◌, ◌≢◌, ◌<◌, ◌≤◌, List, Contains, Some, Err}
 use Rattle.std.specs.List.{slice_get}
 use Rattle.std.specs.declared.cmp.Ordering.TheVariants.{Greater}
 use Rattle.avr_model.specs.declared.assumption.Entry.{Entry}
+use Rattle.avr_model.specs.Assumptions.{has_pairs}
 use Rattle.mask_states.specs.declared.keys.EdgeKind.{EdgeKind}
 use Rattle.mask_states.specs.declared.keys.NodeKey.{NodeKey}
 use Rattle.mask_states.specs.Keys.{root_inst}
@@ -13,16 +14,17 @@ use Rattle.local_rules.specs.Faults.{cause_of}
 use Rattle.local_rules.specs.Local.{local}
 use Rattle.edge_rules.specs.declared.edge.Edge.{Edge}
 use Rattle.edge_rules.specs.Edges.{IsFaultless, Enters, IsEdge, target}
-use Rattle.edge_rules.specs.Expansion.{IsFilled, IsMissing}
-use Rattle.edge_rules.specs.Families.{IsCovered, AreFaultless}
+use Rattle.edge_rules.specs.Expansion.{Seeds, IsFilled, IsMissing}
+use Rattle.edge_rules.specs.Families.{AreFaultless}
 use Rattle.certificate.specs.declared.instance.Inst.{Inst}
 use Rattle.certificate.specs.Insts.{need_in}
 use Rattle.certificate.specs.Claims.{Claim}
-use Rattle.certificate.specs.Valid.{reset_node, AllLand, AreRanked, Suffices, NeedsSuffice, IsBounded, IsSound}
+use Rattle.certificate.specs.Valid.{reset_node, AreRanked, Suffices, NeedsSuffice, IsBounded, IsSound}
 use Rattle.cert_check.specs.declared.verdict.Reason.{Reason}
 use Rattle.cert_check.specs.declared.verdict.Reason.TheVariants as reason
 use Rattle.cert_check.specs.declared.verdict.Verdict.{Verdict}
 use Rattle.cert_check.specs.declared.verdict.Verdict.TheVariants.{Accepted, Rejected}
+use Rattle.cert_check.specs.Reading.{read_seeds, Lands}
 
 -- node j has a fault of this cause, and no earlier node has one
 pub record IsFirstFault (words : List ℕ) (A : List Entry) (nodes : List Node) (j cause : ℕ) : Type 0 where
@@ -33,20 +35,24 @@ pub record IsFirstFault (words : List ℕ) (A : List Entry) (nodes : List Node) 
   pub which : cause_of fault ≡ cause
   pub earlier : (i : ℕ) (n : Node) → slice_get nodes i ≡ Some n → i < j → IsFaultless words A n
 
--- no node has the key with a state at least that of the edge
-abbrev pub IsGap : List Node → Edge → Type 0
-IsGap nodes e = IsCovered nodes (target e) → ⊥
+-- the edge doesn't land
+abbrev pub IsGap : Bool → Seeds → List Node → Edge → Type 0
+IsGap followed own nodes e = Lands followed own nodes (target e) → ⊥
+
+-- each edge lands
+abbrev pub AllLanded : List ℕ → List Entry → Seeds → List Node → Type 0
+AllLanded words A own nodes = (n : Node) (e : Edge) → Contains nodes n → IsEdge words A nodes n e → Lands (has_pairs A) own nodes (target e)
 
 -- Node j has an edge to this key that doesn't land, and none to a lesser key; all edges of earlier nodes land.
-pub record IsFirstGap (words : List ℕ) (A : List Entry) (nodes : List Node) (j : ℕ) (to : NodeKey) : Type 0 where
+pub record IsFirstGap (words : List ℕ) (A : List Entry) (own : Seeds) (nodes : List Node) (j : ℕ) (to : NodeKey) : Type 0 where
   pub node : Node
   pub is : slice_get nodes j ≡ Some node
   pub edge : Edge
   pub from : IsEdge words A nodes node edge
   pub leads : edge.to ≡ to
-  pub gap : IsGap nodes edge
-  pub least : (e : Edge) → IsEdge words A nodes node e → IsGap nodes e → node_cmp to e.to ≢ Greater
-  pub earlier : (i : ℕ) (n : Node) (e : Edge) → slice_get nodes i ≡ Some n → i < j → IsEdge words A nodes n e → IsCovered nodes (target e)
+  pub gap : IsGap (has_pairs A) own nodes edge
+  pub least : (e : Edge) → IsEdge words A nodes node e → IsGap (has_pairs A) own nodes e → node_cmp to e.to ≢ Greater
+  pub earlier : (i : ℕ) (n : Node) (e : Edge) → slice_get nodes i ≡ Some n → i < j → IsEdge words A nodes n e → Lands (has_pairs A) own nodes (target e)
 
 -- instance x has a node that enters instance y
 pub record InstEnters (words : List ℕ) (A : List Entry) (nodes : List Node) (x y : Inst) : Type 0 where
@@ -79,32 +85,36 @@ pub record IsFirstNeed (words : List ℕ) (A : List Entry) (c : Claim) (nodes : 
   pub low : inst.need < need
   pub earlier : (i : ℕ) (x : Inst) → slice_get c.instances i ≡ Some x → i < j → Suffices words A c nodes x.key x.need
 
+-- the node at reset is there, open, and with a state at least that one
+abbrev pub HasReset : List Entry → Claim → List Node → Type 0
+HasReset A c nodes = Lands (has_pairs A) c.nodes nodes (reset_node A)
+
 -- A reason holds of the nodes with their states, none before it does, and its numbers are the least.
 abbrev pub IsLeastReason : List ℕ → List Entry → Claim → List Node → Reason → Type 0
 IsLeastReason words A c nodes (reason.Expansion at) = ⊥
-IsLeastReason words A c nodes reason.Root = IsCovered nodes reset_node → ⊥
-IsLeastReason words A c nodes (reason.Node j cause) = IsCovered nodes reset_node × IsFirstFault words A nodes j cause
-IsLeastReason words A c nodes (reason.Edge j to) = IsCovered nodes reset_node × AreFaultless words A nodes × IsFirstGap words A nodes j to
+IsLeastReason words A c nodes reason.Root = HasReset A c nodes → ⊥
+IsLeastReason words A c nodes (reason.Node j cause) = HasReset A c nodes × IsFirstFault words A nodes j cause
+IsLeastReason words A c nodes (reason.Edge j to) = HasReset A c nodes × AreFaultless words A nodes × IsFirstGap words A c.nodes nodes j to
 IsLeastReason words A c nodes (reason.Rank j l) =
-    IsCovered nodes reset_node × AreFaultless words A nodes × AllLand words A nodes × IsFirstRank words A c nodes j l
+    HasReset A c nodes × AreFaultless words A nodes × AllLanded words A c.nodes nodes × IsFirstRank words A c nodes j l
 IsLeastReason words A c nodes (reason.Need j need) =
-    IsCovered nodes reset_node × AreFaultless words A nodes × AllLand words A nodes × AreRanked words A c nodes × IsFirstNeed words A c nodes j need
+    HasReset A c nodes × AreFaultless words A nodes × AllLanded words A c.nodes nodes × AreRanked words A c nodes × IsFirstNeed words A c nodes j need
 IsLeastReason words A c nodes (reason.Bound need) =
-    IsCovered nodes reset_node × AreFaultless words A nodes × AllLand words A nodes × AreRanked words A c nodes × NeedsSuffice words A c nodes
+    HasReset A c nodes × AreFaultless words A nodes × AllLanded words A c.nodes nodes × AreRanked words A c nodes × NeedsSuffice words A c nodes
     × (need ≡ need_in c.instances root_inst) × (IsBounded words c → ⊥)
 IsLeastReason words A c nodes reason.Assumptions =
-    IsCovered nodes reset_node × AreFaultless words A nodes × AllLand words A nodes × AreRanked words A c nodes × NeedsSuffice words A c nodes
+    HasReset A c nodes × AreFaultless words A nodes × AllLanded words A c.nodes nodes × AreRanked words A c nodes × NeedsSuffice words A c nodes
     × IsBounded words c × (c.assumptions ≢ A)
 
--- the reason holds of the nodes with their states
+-- the reason holds of the nodes with their states, which are read as the list that is handed in says
 pub record IsRejected (words : List ℕ) (A : List Entry) (c : Claim) (r : Reason) : Type 0 where
   pub nodes : List Node
-  pub expanded : IsFilled words A c.nodes nodes
+  pub expanded : IsFilled words A (read_seeds (has_pairs A) c.nodes) nodes
   pub why : IsLeastReason words A c nodes r
 
 -- why a certificate is refused: a node without an expansion comes before all other reasons
 abbrev pub IsReason : List ℕ → List Entry → Claim → Reason → Type 0
-IsReason words A c (reason.Expansion at) = IsMissing words A c.nodes at
+IsReason words A c (reason.Expansion at) = IsMissing words A (read_seeds (has_pairs A) c.nodes) at
 IsReason words A c r = IsRejected words A c r
 
 -- The verdict: acceptance with the bound where all conditions but that on the schedule hold, else the reason.

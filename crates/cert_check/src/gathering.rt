@@ -2,13 +2,13 @@
 
 ghost use Rattle.std.specs.Prelude.{IfOk};
 ghost use Rattle.call_graph.specs.Exits.{AreExits};
-ghost use Rattle.cert_check.specs.Demands.{AreInstances, AllBelong, IsFound};
+ghost use Rattle.cert_check.specs.Demands.{AreInstances, AreBeside, AllBelong, IsFound};
 
 use crate::demand::{Demand, add_demands};
 use crate::landing::gap_in;
 use avr_model::listed::Listed;
 use call_graph::{Filled, View, next_with};
-use certificate::Inst;
+use certificate::Certificate;
 use flash_image::Flash;
 use local_rules::Exit;
 use mask_states::NodeKey;
@@ -29,19 +29,22 @@ pub(crate) fn gather(
     alloc: Global,
     flash: &Flash,
     assumptions: &Assumptions,
-    instances: &[Inst],
+    certificate: &Certificate,
     nodes: &Filled,
     exits: &Listed<Option<Exit>>,
 ) -> Result<Found, AllocError>
-    requires instances { AreInstances instances.now }
-    requires belong { AllBelong instances.now nodes.now }
+    requires instances { AreInstances certificate.now.instances }
+    requires belong { AllBelong certificate.now.instances nodes.now }
+    requires beside { AreBeside certificate.now.nodes nodes.now }
     requires taken { AreExits flash.now assumptions.now nodes.now exits.now }
-    ensures { IfOk result (λ found. IsFound flash.now assumptions.now instances.now nodes.now found) }
+    ensures { IfOk result (λ found. IsFound flash.now assumptions.now certificate.now.nodes certificate.now.instances nodes.now found) }
 {
+    let followed = assumptions.has_pairs();
+    let instances = certificate.instances();
     let mut demands = Vec::new(alloc);
     for at in 0..nodes.count() {
         let edges = next_with(alloc, flash, assumptions, nodes, at, exits)?;
-        if let Some(to) = gap_in(nodes, edges.as_slice()) {
+        if let Some(to) = gap_in(followed, certificate, nodes, edges.as_slice()) {
             return Ok(Found::Gap(at, to));
         }
         add_demands(&mut demands, instances, nodes.key(at), edges.as_slice())?;

@@ -1,24 +1,26 @@
 //! The verdict on a certificate.
 
-ghost use Rattle.std.specs.Prelude.{ℕ, ◌≡◌, ◌↔◌, Ok, IfOk};
+ghost use Rattle.std.specs.Prelude.{ℕ, ◌≡◌, ◌↔◌, Ok, IfOk, IsTrue};
+ghost use Rattle.avr_model.specs.Assumptions.{has_pairs};
 ghost use Rattle.avr_model.specs.Run.{Bounded};
 ghost use Rattle.local_rules.specs.Machine.{AreWords};
 ghost use Rattle.edge_rules.specs.Expansion.{IsFilled};
-ghost use Rattle.edge_rules.specs.Families.{IsCovered};
 ghost use Rattle.call_graph.specs.Exits.{AreExits};
+ghost use Rattle.call_graph.specs.Expanding.{IsExpanded};
 ghost use Rattle.certificate.specs.Claims.{IsClaim};
-ghost use Rattle.certificate.specs.Valid.{reset_node, IsSound};
+ghost use Rattle.certificate.specs.Valid.{IsSound};
 ghost use Rattle.cert_check.specs.declared.verdict.Reason as reason_type;
-ghost use Rattle.cert_check.specs.Verdict.{IsVerdict, IsReason};
-ghost use Rattle.cert_check.specs.Demands.{Decides};
+ghost use Rattle.cert_check.specs.Reading.{read_seeds};
+ghost use Rattle.cert_check.specs.Verdict.{HasReset, IsVerdict, IsReason};
+ghost use Rattle.cert_check.specs.Demands.{AreBeside, Decides};
 
 use crate::gathering::{Found, gather};
-use crate::landing::is_covered;
+use crate::landing::lands;
+use crate::reading::read;
 use crate::verdict::{Reason, Verdict};
 use crate::weighing::weigh;
-use abs_state::AbsState;
 use avr_model::listed::Listed;
-use call_graph::{Expanded, Filled, Leaving, View, exits, expand};
+use call_graph::{Expanded, Filled, Leaving, exits, expand, root_of};
 use certificate::Certificate;
 use flash_image::Flash;
 use local_rules::Exit;
@@ -41,22 +43,30 @@ fn judge_edges(
     exits: &Listed<Option<Exit>>,
 ) -> Result<Verdict, AllocError>
     requires claim { IsClaim certificate.now }
-    requires filled { IsFilled flash.now assumptions.now certificate.now.nodes nodes.now }
-    requires reset { IsCovered nodes.now reset_node }
+    requires filled { IsFilled flash.now assumptions.now (read_seeds (has_pairs assumptions.now) certificate.now.nodes) nodes.now }
+    requires reset { HasReset assumptions.now certificate.now nodes.now }
     requires taken { AreExits flash.now assumptions.now nodes.now exits.now }
     ensures { IfOk result (λ verdict. Decides flash.now assumptions.now certificate.now nodes.now verdict) }
 {
-    match gather(
-        alloc,
-        flash,
-        assumptions,
-        certificate.instances(),
-        nodes,
-        exits,
-    )? {
+    match gather(alloc, flash, assumptions, certificate, nodes, exits)? {
         Found::Gap(at, to) => Ok(Verdict::Rejected(Reason::Edge(at as u32, to))),
         Found::All(demands) => Ok(weigh(flash, assumptions, certificate, &demands)),
     }
+}
+
+// Whether the node at reset is there, open, and with a state at least that one.
+fn has_reset(
+    alloc: Global,
+    assumptions: &Assumptions,
+    certificate: &Certificate,
+    nodes: &Filled,
+) -> Result<bool, AllocError>
+    requires { AreBeside certificate.now.nodes nodes.now }
+    ensures { IfOk result (λ there. IsTrue there ↔ HasReset assumptions.now certificate.now nodes.now) }
+{
+    let state = root_of(alloc, assumptions)?;
+    let key = NodeKey::entry(&InstKey::root());
+    Ok(lands(assumptions.has_pairs(), certificate, nodes, &key, &state))
 }
 
 // The verdict on nodes with their states.
@@ -68,17 +78,34 @@ fn judge_nodes(
     nodes: &Filled,
 ) -> Result<Verdict, AllocError>
     requires claim { IsClaim certificate.now }
-    requires filled { IsFilled flash.now assumptions.now certificate.now.nodes nodes.now }
+    requires filled { IsFilled flash.now assumptions.now (read_seeds (has_pairs assumptions.now) certificate.now.nodes) nodes.now }
     ensures { IfOk result (λ verdict. Decides flash.now assumptions.now certificate.now nodes.now verdict) }
 {
-    let reset = NodeKey::entry(&InstKey::root());
-    if !is_covered(nodes, &reset, &AbsState::root(alloc)) {
+    if !has_reset(alloc, assumptions, certificate, nodes)? {
         return Ok(Verdict::Rejected(Reason::Root));
     }
     match exits(alloc, flash, assumptions, nodes)? {
         Leaving::Fault(at, fault) => Ok(Verdict::Rejected(Reason::Node(at as u32, fault.cause()))),
         Leaving::All(exits) => judge_edges(alloc, flash, assumptions, certificate, nodes, &exits),
     }
+}
+
+// The states of all nodes, which are read as the list says, or the least node that has none.
+fn expanded(
+    alloc: Global,
+    flash: &Flash,
+    assumptions: &Assumptions,
+    certificate: &Certificate,
+) -> Result<Expanded, AllocError>
+    requires { IsClaim certificate.now }
+    ensures { IfOk result (λ answer. IsExpanded flash.now assumptions.now (read_seeds (has_pairs assumptions.now) certificate.now.nodes) answer) }
+{
+    let followed = assumptions.has_pairs();
+    if certificate.assumptions().has_pairs() == followed {
+        return expand(alloc, flash, assumptions, certificate);
+    }
+    let reading = read(alloc, followed, certificate)?;
+    expand(alloc, flash, assumptions, &reading)
 }
 
 // The verdict, by the conditions in their order.
@@ -91,7 +118,7 @@ fn verdict(
     requires { IsClaim certificate.now }
     ensures { IfOk result (λ verdict. IsVerdict flash.now assumptions.now certificate.now verdict) }
 {
-    match expand(alloc, flash, assumptions, certificate)? {
+    match expanded(alloc, flash, assumptions, certificate)? {
         Expanded::Missing(at) => Ok(Verdict::Rejected(Reason::Expansion(at))),
         Expanded::Whole(nodes) => judge_nodes(alloc, flash, assumptions, certificate, &nodes),
     }
@@ -100,7 +127,8 @@ fn verdict(
 /// The verdict on a certificate for a firmware under assumptions. It accepts exactly where each condition on all but the
 /// schedule holds, and then every run from reset keeps the certificate's bound and meets neither an undefined word nor a
 /// push outside SRAM. Else it gives the least reason with its least numbers. The error is want of memory. Each edge is looked
-/// at once, and each node's local part is worked out twice, and once more for each node that comes from it.
+/// at once, and each node's local part is worked out twice, and once more for each node that comes from it. The nodes are
+/// copied where the list handed in has the line `pairs` and the certificate's own doesn't, or the other way round.
 pub fn judge(
     alloc: Global,
     flash: &Flash,

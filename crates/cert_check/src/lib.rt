@@ -7,6 +7,7 @@ mod gathering;
 mod judging;
 mod landing;
 pub mod laws;
+mod reading;
 pub mod verdict;
 mod weighing;
 

@@ -1,24 +1,30 @@
-use Rattle.std.proofs.Common.{sym, subst, arith}
-use Rattle.certificate.specs.Valid.{AllLand, reset_node}
-use Rattle.cert_check.specs.declared.gathering.Found.TheVariants.{All}
-use Rattle.cert_check.specs.Verdict.{IsFirstGap}
-use Rattle.cert_check.specs.Demands.{AllBelong, AreDemands, AreInside, IsFound, IsWeighed}
+use Rattle.std.proofs.Common.{subst, sym, arith}
+use Rattle.certificate.specs.Valid.{reset_node}
+use Rattle.cert_check.specs.Verdict.{AllLanded, IsFirstGap}
+use Rattle.cert_check.specs.Demands.{AreDemands, AreInside, IsFound, IsWeighed}
 use Rattle.cert_check.proofs.Demands.{landed_belongs, all_inside}
 use Rattle.cert_check.proofs.Asking.{decided}
 use Rattle.cert_check.proofs.One.{are_instances}
-use Rattle.cert_check.proofs.Verdicts.{nodes_belong, node_fits}
+use Rattle.cert_check.proofs.Verdicts.{beside, nodes_belong, node_fits}
 use Rattle.cert_check.proofs.judging.judge_edges.Goals as goal
 
+pub gather-requires-clause-instances : goal.gather-requires-clause-instances
+gather-requires-clause-instances c = are_instances c.args.certificate.now c.requires.claim
+
 pub gather-requires-clause-belong : goal.gather-requires-clause-belong
-gather-requires-clause-belong c =
-    subst (λ i. AllBelong i c.args.nodes.now) (sym c.instances.ensures)
-    (nodes_belong c.args.flash.now c.args.assumptions.now c.args.certificate.now c.args.nodes.now c.requires.claim c.requires.filled)
+gather-requires-clause-belong c = nodes_belong c.args.flash.now c.args.assumptions.now c.args.certificate.now c.args.nodes.now c.requires.claim c.requires.filled
+
+pub gather-requires-clause-beside : goal.gather-requires-clause-beside
+gather-requires-clause-beside c = beside c.args.flash.now c.args.assumptions.now c.args.certificate.now c.args.nodes.now c.requires.claim c.requires.filled
 
 pub overflow_cast-result : goal.overflow_cast-result
 overflow_cast-result c =
-    let gap : IsFirstGap c.args.flash.now c.args.assumptions.now c.args.nodes.now c.in-Gap.at c.in-Gap.to =
-    subst (IsFound c.args.flash.now c.args.assumptions.now c.instances.result.now c.args.nodes.now) c.in-Gap.is c.in_ok-at.ensures in
-    let fits = node_fits c.args.flash.now c.args.assumptions.now c.args.certificate.now c.args.nodes.now c.requires.claim c.requires.filled c.in-Gap.at gap.node gap.is in
+    let words = c.args.flash.now in
+    let A = c.args.assumptions.now in
+    let claim = c.args.certificate.now in
+    let gap : IsFirstGap words A claim.nodes c.args.nodes.now c.in-Gap.at c.in-Gap.to =
+    subst (IsFound words A claim.nodes claim.instances c.args.nodes.now) c.in-Gap.is c.in_ok-at.ensures in
+    let fits = node_fits words A claim c.args.nodes.now c.requires.claim c.requires.filled c.in-Gap.at gap.node gap.is in
     omega (arith, fits)
 
 pub weigh-requires-clause-inside : goal.weigh-requires-clause-inside
@@ -28,16 +34,15 @@ weigh-requires-clause-inside c =
     let claim = c.args.certificate.now in
     let nodes = c.args.nodes.now in
     let belong = nodes_belong words A claim nodes c.requires.claim c.requires.filled in
-    let found : AllLand words A nodes × AreDemands words A claim.instances nodes c.in-All.demands.items =
-    subst (λ i. IsFound words A i nodes (All c.in-All.demands)) c.instances.ensures
-    (subst (IsFound words A c.instances.result.now nodes) c.in-All.is c.in_ok-at.ensures) in
+    let found : AllLanded words A claim.nodes nodes × AreDemands words A claim.instances nodes c.in-All.demands.items =
+    subst (IsFound words A claim.nodes claim.instances nodes) c.in-All.is c.in_ok-at.ensures in
     subst (AreInside claim.instances) (sym c.deref.ensures.value)
-    (all_inside words A claim.instances nodes (are_instances claim c.requires.claim) belong found.0 c.in-All.demands.items found.1)
+    (all_inside words A claim.instances nodes (are_instances claim c.requires.claim) belong (λ n e h i. (found.0 n e h i).0) c.in-All.demands.items found.1)
 
 pub weigh-requires-clause-root : goal.weigh-requires-clause-root
 weigh-requires-clause-root c =
-    landed_belongs c.args.certificate.now.instances c.args.nodes.now reset_node
-    (nodes_belong c.args.flash.now c.args.assumptions.now c.args.certificate.now c.args.nodes.now c.requires.claim c.requires.filled) c.requires.reset
+    landed_belongs c.args.certificate.now.instances c.args.nodes.now (reset_node c.args.assumptions.now)
+    (nodes_belong c.args.flash.now c.args.assumptions.now c.args.certificate.now c.args.nodes.now c.requires.claim c.requires.filled) c.requires.reset.0
 
 pub returns-in-All : goal.returns-in-All
 returns-in-All c =
@@ -46,8 +51,7 @@ returns-in-All c =
     let claim = c.args.certificate.now in
     let nodes = c.args.nodes.now in
     let belong = nodes_belong words A claim nodes c.requires.claim c.requires.filled in
-    let found : AllLand words A nodes × AreDemands words A claim.instances nodes c.in-All.demands.items =
-    subst (λ i. IsFound words A i nodes (All c.in-All.demands)) c.instances.ensures
-    (subst (IsFound words A c.instances.result.now nodes) c.in-All.is c.in_ok-at.ensures) in
+    let found : AllLanded words A claim.nodes nodes × AreDemands words A claim.instances nodes c.in-All.demands.items =
+    subst (IsFound words A claim.nodes claim.instances nodes) c.in-All.is c.in_ok-at.ensures in
     decided words A claim nodes (are_instances claim c.requires.claim) belong found.0 c.in-All.demands.items found.1 c.requires.reset c.requires.taken.faultless
     c.weigh.result (subst (λ ds. IsWeighed words claim A ds c.weigh.result) c.deref.ensures.value c.weigh.ensures)

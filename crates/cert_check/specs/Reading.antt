@@ -1,0 +1,57 @@
+-- Certificates that are judged under a list with the line `pairs` where their own has none, or the other way round: how their states are read,
+-- and where edges land. Source: own.
+use Rattle.std.specs.Prelude.{Bool, true, false, ⊤, List, map, Contains, Option, Some, None}
+use Rattle.pair_domain.specs.declared.facts.PairFacts.{PairFacts}
+use Rattle.pair_domain.specs.Facts.{nothing, IsKnownWithin}
+use Rattle.abs_state.specs.declared.values.AbsByte.{AbsByte}
+use Rattle.abs_state.specs.declared.state.AbsState.{AbsState}
+use Rattle.mask_states.specs.declared.keys.NodeKey.{NodeKey}
+use Rattle.local_rules.specs.declared.local.Node.{Node}
+use Rattle.edge_rules.specs.declared.seeded.NodeForm.{NodeForm}
+use Rattle.edge_rules.specs.declared.seeded.NodeForm.TheVariants.{State, From}
+use Rattle.edge_rules.specs.Expansion.{Seeds}
+use Rattle.edge_rules.specs.Families.{IsCovered}
+use Rattle.certificate.specs.Hulls.{hulls_of}
+
+-- ---- how states are read
+
+-- what the bytes of the registers say of pairs
+abbrev pub hulled : List AbsByte → PairFacts
+hulled registers = record nothing { intervals = hulls_of registers }
+
+-- Where pairs aren't followed, nothing is read of them. Where they are, what a state says of them is read, and of one that says nothing at all
+-- what its bytes say.
+abbrev pub facts_read : Bool → List AbsByte → Option PairFacts → Option PairFacts
+facts_read false registers x = None
+facts_read true registers None = Some (hulled registers)
+facts_read true registers (Some f) = Some f
+
+abbrev pub read_state : Bool → AbsState → AbsState
+read_state followed s = record s { facts = facts_read followed s.registers s.facts }
+
+abbrev pub read_form : Bool → NodeForm → NodeForm
+read_form followed (State s) = State (read_state followed s)
+read_form followed (From m) = From m
+
+abbrev pub read_seed : Bool → NodeKey × NodeForm → NodeKey × NodeForm
+read_seed followed e = (e.0, read_form followed e.1)
+
+-- the nodes of a certificate, where pairs are followed or where they aren't
+abbrev pub read_seeds : Bool → Seeds → Seeds
+read_seeds followed nodes = map (read_seed followed) nodes
+
+-- ---- where edges land
+
+-- the node's own state, if it has one, says nothing of pairs
+abbrev pub TellsNothing : NodeForm → Type 0
+TellsNothing (State s) = IsKnownWithin (Some nothing) s.facts
+TellsNothing (From m) = ⊤
+
+-- Where pairs aren't followed, no edge says anything of them, so none lands at a node whose own state does.
+abbrev pub IsOpen : Bool → Seeds → NodeKey → Type 0
+IsOpen true own k = ⊤
+IsOpen false own k = (form : NodeForm) → Contains own (k, form) → TellsNothing form
+
+-- a node with the key is there, open, and with a state at least this one; the certificate's own nodes are given beside those with their states
+abbrev pub Lands : Bool → Seeds → List Node → Node → Type 0
+Lands followed own nodes n = IsCovered nodes n × IsOpen followed own n.key

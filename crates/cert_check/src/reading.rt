@@ -1,0 +1,112 @@
+//! The nodes of a certificate, read where pairs are followed or where they aren't.
+
+ghost use Rattle.std.specs.Prelude.{◌≡◌, IsTrue, ◌↔◌, IfOk};
+ghost use Rattle.edge_rules.specs.Seeds.{form_of};
+ghost use Rattle.cert_check.specs.Reading.{hulled, facts_read, read_state, read_form, read_seeds, TellsNothing};
+
+use abs_state::{AbsByte, AbsState};
+use certificate::{Certificate, NodeForm, Seed, Seeded, hulls_of};
+use mask_states::NodeKey;
+use pair_domain::{Facts, PairFacts};
+use std::alloc::{AllocError, Global};
+
+// Nodes by their keys, each given by its state or by an earlier node.
+#[derive(Drop)]
+pub(crate) struct Reading {
+    nodes: Vec<(NodeKey, NodeForm)>,
+}
+
+impl Seeded for Reading {
+    ghost nodes = { λ reading. reading.nodes.items };
+
+    fn count(&self) -> usize {
+        self.nodes.len()
+    }
+
+    fn key(&self, at: usize) -> &NodeKey {
+        &self.nodes[at].0
+    }
+
+    fn seed(&self, at: usize) -> Seed<'_> {
+        match &self.nodes[at].1 {
+            NodeForm::State(state) => Seed::State(state),
+            NodeForm::From(from) => Seed::From(*from),
+        }
+    }
+}
+
+// What the bytes of the registers say of pairs.
+fn hulled(registers: &[AbsByte; 32]) -> PairFacts
+    ensures { result ≡ hulled registers.now }
+{
+    PairFacts {
+        intervals: hulls_of(registers),
+        ..PairFacts::nothing()
+    }
+}
+
+// What is known of pairs where they aren't followed, and what is known or their bytes say where they are.
+fn facts_read(alloc: Global, followed: bool, state: &AbsState) -> Result<Facts, AllocError>
+    ensures { IfOk result (λ facts. facts ≡ facts_read followed state.now.registers state.now.facts) }
+{
+    if !followed {
+        return Ok(Facts::none());
+    }
+    if state.facts.is_followed() {
+        return state.facts.copy(alloc);
+    }
+    Facts::new(alloc, hulled(&state.registers))
+}
+
+// The state with what is read of pairs.
+fn read_state(alloc: Global, followed: bool, state: &AbsState) -> Result<AbsState, AllocError>
+    ensures { IfOk result (λ read. read ≡ read_state followed state.now) }
+{
+    let facts = facts_read(alloc, followed, state)?;
+    let slots = state.slots.copy(alloc)?;
+    Ok(AbsState {
+        registers: state.registers,
+        flags: state.flags,
+        slots,
+        facts,
+    })
+}
+
+fn read_form(alloc: Global, followed: bool, form: &NodeForm) -> Result<NodeForm, AllocError>
+    ensures { IfOk result (λ read. read ≡ read_form followed form.now) }
+{
+    match form {
+        NodeForm::State(state) => Ok(NodeForm::State(read_state(alloc, followed, state)?)),
+        NodeForm::From(from) => Ok(NodeForm::From(*from)),
+    }
+}
+
+// The certificate's nodes, where pairs are followed or where they aren't.
+pub(crate) fn read(
+    alloc: Global,
+    followed: bool,
+    certificate: &Certificate,
+) -> Result<Reading, AllocError>
+    ensures { IfOk result (λ reading. reading.nodes.items ≡ read_seeds followed certificate.now.nodes) }
+{
+    let own = certificate.nodes();
+    let mut nodes = Vec::new(alloc);
+    for at in 0..own.len() {
+        let form = read_form(alloc, followed, &own[at].1)?;
+        nodes.push((own[at].0, form))?;
+    }
+    Ok(Reading { nodes })
+}
+
+// Whether the node's own state, if it has one, says nothing of pairs.
+pub(crate) fn tells_nothing(seed: Seed<'_>) -> bool
+    ensures { IsTrue result ↔ TellsNothing (form_of seed.entry) }
+{
+    match seed {
+        Seed::State(state) => match state.facts.get() {
+            Some(facts) => PairFacts::nothing().le(&facts),
+            None => true,
+        },
+        Seed::From(_) => true,
+    }
+}
