@@ -1,5 +1,5 @@
 -- Where a store's byte goes: to an address that its aim reaches, and at its slot.
-use Rattle.std.proofs.Common.{◌≡◌, ◌∙◌, refl, sym, ap, subst, ℕ, zero, suc, ◌+◌, ◌-◌, ◌*◌, ◌<◌, ◌≤◌, ◌&&◌, ⊎_elim, Bool, true, false, nat_lt, nat_le, if◌then◌else◌, Option, Some, None, arith}
+use Rattle.std.proofs.Common.{◌≡◌, ◌∙◌, refl, sym, ap, subst, ℕ, zero, suc, ◌+◌, ◌-◌, ◌*◌, ◌/◌, ◌<◌, ◌≤◌, ◌&&◌, ⊎_elim, Bool, true, false, nat_lt, nat_le, if◌then◌else◌, List, slice_index, Option, Some, None, arith}
 use Rattle.std.specs.Prelude.{⊤}
 use Rattle.std.proofs.lemmas.Bool.{cases_lt, and_from}
 use Rattle.std.proofs.lemmas.Bool.Decides.{nat_tests}
@@ -24,6 +24,12 @@ use Rattle.sp_domain.proofs.AllLaws.{pairs_are_true}
 use Rattle.abs_state.specs.declared.values.AbsByte.{AbsByte}
 use Rattle.abs_state.specs.declared.state.AbsState.{AbsState}
 use Rattle.abs_state.specs.Stands.{ByteStands}
+use Rattle.abs_state.specs.Laws.{HoldsAt}
+use Rattle.pair_domain.specs.declared.facts.PairFacts.{PairFacts}
+use Rattle.pair_domain.specs.Facts.{interval_at}
+use Rattle.pair_domain.specs.Intervals.{InInterval}
+use Rattle.pair_domain.specs.Tags.{pair_number}
+use Rattle.basics.specs.Numbers.{test_from_at_most}
 use Rattle.mask_states.specs.declared.keys.NodeKey.{NodeKey}
 use Rattle.mask_states.specs.declared.keys.Kind.{Kind}
 use Rattle.mask_states.specs.declared.keys.Kind.TheVariants.{Root, Call, Vector}
@@ -31,10 +37,9 @@ use Rattle.local_rules.specs.declared.pointers.Pointed.{Pointed}
 use Rattle.local_rules.specs.Registers.{value, bits}
 use Rattle.local_rules.specs.Reads.{pair_constant, pointed}
 use Rattle.local_rules.specs.Local.{step_before, may_be}
-use Rattle.local_rules.specs.Cover.{InFrame}
-use Rattle.clear_laws.specs.Aims.{Span, Reach, Aim, or_number, least_below, greatest_below, first_byte, last_byte, spanning, pair_span, raised, lowered, pointer_reach, slot_at_number, slot_aimed, at_number}
+use Rattle.local_rules.specs.Cover.{InFrameIn}
+use Rattle.clear_laws.specs.Aims.{Span, Reach, Aim, or_number, least_below, greatest_below, first_byte, last_byte, spanning, pair_span, raised, lowered, pointer_reach, is_in_interval, permits_bytes, permits_number, slot_at_number, slot_aimed, at_number}
 use Rattle.clear_laws.specs.Aims.reach as reach
-use Rattle.clear_laws.specs.Causes.{permits_number}
 
 -- ---- the least and the greatest number that passes a test
 
@@ -182,7 +187,24 @@ base_small : (b : Base) → base_register b + 1 < 32
 base_small base_of.Y = omega arith
 base_small base_of.Z = omega arith
 
-module _ (m : State) (o : Origin) (k : NodeKey) (s : AbsState) (at : InFrame m o k s) where
+-- the register of a low byte
+abbrev pub IsEven : ℕ → Type 0
+IsEven r = 2 * (r / 2) ≡ r
+
+base_even : (b : Base) → IsEven (base_register b)
+base_even base_of.Y = refl
+base_even base_of.Z = refl
+
+-- what is known of pairs holds of their numbers
+in_interval : (facts : Option PairFacts) (registers : List ℕ) (sreg r : ℕ) → IsEven r → r + 1 < 32 → HoldsAt facts registers sreg
+    → is_in_interval facts r (slice_index registers r + 256 * slice_index registers (r + 1)) ≡ true
+in_interval None registers sreg r even there holds = refl
+in_interval (Some f) registers sreg r even there holds =
+    let within : InInterval (interval_at f.intervals (r / 2)) (pair_number registers r) =
+    subst (λ x. InInterval (interval_at f.intervals (r / 2)) (pair_number registers x)) even (holds.intervals (r / 2) (omega (arith, there))) in
+    and_from _ _ (test_from_at_most _ _ within.low) (test_from_at_most _ _ within.high)
+
+module _ {followed : Bool} (m : State) (o : Origin) (k : NodeKey) (s : AbsState) (at : InFrameIn followed m o k s) where
   stands : (r : ℕ) → r < 32 → ByteStands o (value s r) (register m r)
   stands r lt = at.stands.registers r lt
 
@@ -210,13 +232,16 @@ module _ (m : State) (o : Origin) (k : NodeKey) (s : AbsState) (at : InFrame m o
     high_is : register m (r + 1) ≡ high (pair m r)
     high_is = omega (arith, (stands r first_there).small)
 
-    pair_permitted : permits_number s r (pair m r) ≡ true
-    pair_permitted =
+    bytes_permitted : permits_bytes s r (pair m r) ≡ true
+    bytes_permitted =
         and_from _ _ (ap (may_be (value s r)) (sym low_is) ∙ may_stand o (value s r) (register m r) (stands r first_there))
         (ap (may_be (value s (r + 1))) (sym high_is) ∙ may_stand o (value s (r + 1)) (register m (r + 1)) (stands (r + 1) there))
 
-    permitted_back : (p : ℕ) → p ≡ pair m r → permits_number s r p ≡ true
-    permitted_back p same = ap (permits_number s r) same ∙ pair_permitted
+    pub pair_permitted : IsEven r → permits_number s r (pair m r) ≡ true
+    pair_permitted even = and_from _ _ bytes_permitted (in_interval s.facts m.registers m.sreg r even there at.facts)
+
+    permitted_back : IsEven r → (p : ℕ) → p ≡ pair m r → permits_number s r p ≡ true
+    permitted_back even p same = ap (permits_number s r) same ∙ pair_permitted even
 
     pair_holds : PairHolds o (value s r).tag (value s (r + 1)).tag (pair m r)
     pair_holds =
@@ -296,19 +321,19 @@ module _ (m : State) (o : Origin) (k : NodeKey) (s : AbsState) (at : InFrame m o
   -- ---- and the pointer is permitted
 
   pub displaced_permitted : (b : Base) (q : ℕ) → permits_number s (base_register b) (minus16 (plus16 (pair m (base_register b)) q) q) ≡ true
-  displaced_permitted b q = permitted_back (base_register b) (base_small b) _ (back_by (pair m (base_register b)) q (pair_small (base_register b) (base_small b)))
+  displaced_permitted b q = permitted_back (base_register b) (base_small b) (base_even b) _ (back_by (pair m (base_register b)) q (pair_small (base_register b) (base_small b)))
 
-  plain_permitted : (r : ℕ) → r + 1 < 32 → permits_number s r (minus16 (pair m r) 0) ≡ true
-  plain_permitted r there = permitted_back r there _ (back_none (pair m r) (pair_small r there))
+  plain_permitted : (r : ℕ) → r + 1 < 32 → IsEven r → permits_number s r (minus16 (pair m r) 0) ≡ true
+  plain_permitted r there even = permitted_back r there even _ (back_none (pair m r) (pair_small r there))
 
-  before_permitted : (r : ℕ) → r + 1 < 32 → permits_number s r (minus16 (minus16 (pair m r) 1) 65535) ≡ true
-  before_permitted r there = permitted_back r there _ (back_one (pair m r) (pair_small r there))
+  before_permitted : (r : ℕ) → r + 1 < 32 → IsEven r → permits_number s r (minus16 (minus16 (pair m r) 1) 65535) ≡ true
+  before_permitted r there even = permitted_back r there even _ (back_one (pair m r) (pair_small r there))
 
   pub pointer_permitted : (p : Pointer) → permits_number s (pointer_register p) (minus16 (effects.pointed p (pair m (pointer_register p))) (step_before p)) ≡ true
-  pointer_permitted pointer.ZPlus = plain_permitted 30 (omega arith)
-  pointer_permitted pointer.MinusZ = before_permitted 30 (omega arith)
-  pointer_permitted pointer.YPlus = plain_permitted 28 (omega arith)
-  pointer_permitted pointer.MinusY = before_permitted 28 (omega arith)
-  pointer_permitted pointer.X = plain_permitted 26 (omega arith)
-  pointer_permitted pointer.XPlus = plain_permitted 26 (omega arith)
-  pointer_permitted pointer.MinusX = before_permitted 26 (omega arith)
+  pointer_permitted pointer.ZPlus = plain_permitted 30 (omega arith) refl
+  pointer_permitted pointer.MinusZ = before_permitted 30 (omega arith) refl
+  pointer_permitted pointer.YPlus = plain_permitted 28 (omega arith) refl
+  pointer_permitted pointer.MinusY = before_permitted 28 (omega arith) refl
+  pointer_permitted pointer.X = plain_permitted 26 (omega arith) refl
+  pointer_permitted pointer.XPlus = plain_permitted 26 (omega arith) refl
+  pointer_permitted pointer.MinusX = before_permitted 26 (omega arith) refl

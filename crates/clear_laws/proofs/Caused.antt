@@ -1,8 +1,9 @@
 -- What is flagged may happen at the node's word, and where a node may be flagged something may happen.
-use Rattle.std.proofs.Common.{◌≡◌, refl, sym, ap, ap₂, ◌∙◌, subst, ℕ, ◌+◌, ◌-◌, ◌<◌, ◌≤◌, Bool, true, false, not, ◌&&◌, ◌||◌, ◌⊎◌, inl, inr, ⊎_elim, if◌then◌else◌, List, [], ◌++◌, Option, Some, None, Contains, arith}
-use Rattle.std.specs.Prelude.{◌↔◌}
-use Rattle.std.proofs.lemmas.Bool.{and_from, or_left, or_right}
-use Rattle.basics.specs.Booleans.{not_from_never}
+use Rattle.std.proofs.Common.{◌≡◌, refl, sym, ap, ap₂, ◌∙◌, subst, ℕ, ◌+◌, ◌-◌, ◌<◌, ◌≤◌, nat_lt, nat_le, Bool, true, false, not, ◌&&◌, ◌||◌, ◌⊎◌, inl, inr, ⊎_elim, if◌then◌else◌, List, ◌++◌, Option, Some, None, arith}
+use Rattle.std.proofs.lemmas.Bool.{false_from_ne_true as never, and_from, or_left, or_right, cases_lt}
+use Rattle.std.proofs.lemmas.Option.{same_Some}
+use Rattle.basics.specs.Numbers.{test_from_less, test_from_at_most}
+use Rattle.basics.specs.Booleans.{not_from_never, never_both}
 use Rattle.avr_model.specs.declared.assumption.Entry.{Entry}
 use Rattle.avr_model.specs.declared.choice.Choice.{Choice}
 use Rattle.avr_model.specs.declared.choice.Choice.TheVariants.{Go, Take}
@@ -15,19 +16,19 @@ use Rattle.avr_model.specs.declared.instruction.Instr.TheVariants as i
 use Rattle.avr_model.specs.Assumptions.{store_line, is_never, is_fixed_site, lists}
 use Rattle.avr_model.specs.Devices.{ramend, device_of}
 use Rattle.avr_model.specs.Sites.{instruction_at, is_scratch}
-use Rattle.avr_model.specs.State.{State, is_live}
+use Rattle.avr_model.specs.State.{BELOW, State, is_live}
 use Rattle.avr_model.specs.Vectors.{is_protected, vector_word}
-use Rattle.avr_model.specs.Effects.{set, effect_of}
-use Rattle.avr_model.specs.Step.{Overflow, Flagged, after, all_inside, live_write, unlisted, protected_write, unless_listed, unlisted_transfer, is_pointer_store, is_indirect, is_unlisted, flag_by, flagged_or, may_take, go, step}
+use Rattle.avr_model.specs.Effects.{effect_of}
+use Rattle.avr_model.specs.Step.{Overflow, Flagged, after, all_inside, live_write, unlisted, protected_write, unlisted_transfer, is_pointer_store, is_indirect, is_unlisted, flag_by, flagged_or, may_take, go, step}
+use Rattle.pair_domain.specs.Facts.{is_followed}
 use Rattle.abs_state.specs.declared.state.AbsState.{AbsState}
 use Rattle.mask_states.specs.declared.keys.NodeKey.{NodeKey}
-use Rattle.mask_states.specs.Keys.{offset_of}
 use Rattle.local_rules.specs.declared.local.Node.{Node}
 use Rattle.edge_rules.specs.Families.{Family, IsSound}
 use Rattle.edge_rules.specs.Frames.{Frame, Runs}
-use Rattle.clear_laws.specs.Aims.{Aim, aim_of}
-use Rattle.clear_laws.specs.Clear.{IsClear, MayBeFlagged, word_of_flag, is_clear_by, is_flagged_address, is_transfer_listed, is_aim_harmless}
-use Rattle.clear_laws.specs.Causes.{may_write, may_write_protected, may_write_some_protected, may_write_stack, may_write_live, IsCause, MayWriteProtected, MayWriteLive, MayGoUnlisted, HasCause, MayFlag}
+use Rattle.clear_laws.specs.Aims.{may_write, aim_of}
+use Rattle.clear_laws.specs.Clear.{IsClear, MayBeFlagged, word_of_flag, IsHarmless, each_address, is_clear_by, is_flagged_address, is_address_harmless, is_transfer_listed, is_aim_harmless}
+use Rattle.clear_laws.specs.Causes.{may_write_protected, may_write_some_protected, may_write_stack, is_untold, may_write_live, IsCause, HasCause, MayFlag}
 use Rattle.clear_laws.specs.Laws.{PlacesHaveCauses}
 use Rattle.clear_laws.proofs.Below.{any_found, found_below}
 use Rattle.clear_laws.proofs.Kept.{Holding}
@@ -84,11 +85,49 @@ module _ (words : List ℕ) (A : List Entry) (f : Family) (n : Node) where
   clear_listed instr is indirect listed =
       clear_nodes_are_told.clear words A f n (λ d. true) (λ d lt none may. absurd (let no : true ≡ false = none in cc))
       (ap (is_clear_by words A f.bound n.key n.state (λ d. true)) is
-      ∙ and_from (is_aim_harmless words A f.bound n.key instr (λ d. true) (aim_of (device_of words) n.key n.state instr)) (is_transfer_listed words A n.key.pc n.state instr)
-      (ap (is_aim_harmless words A f.bound n.key instr (λ d. true)) (aim_none (device_of words) n.key n.state instr indirect)) listed)
+      ∙ and_from (is_aim_harmless words A f.bound n.key n.state instr (λ d. true) (aim_of (device_of words) n.key n.state instr)) (is_transfer_listed words A n.key.pc n.state instr)
+      (ap (is_aim_harmless words A f.bound n.key n.state instr (λ d. true)) (aim_none (device_of words) n.key n.state instr indirect)) listed)
 
   pub not_listed : (instr : Instr) → instruction_at words n.key.pc ≡ Some instr → is_indirect instr ≡ true → (IsClear words A f n → ⊥) → not (is_transfer_listed words A n.key.pc n.state instr) ≡ true
   not_listed instr is indirect unclear = not_from_never (is_transfer_listed words A n.key.pc n.state instr) (λ listed. unclear (clear_listed instr is indirect listed))
+
+  -- Where pairs are followed, a store that may go neither where the stack can reach nor to an address that is flagged as protected goes to
+  -- harmless addresses alone.
+  module _ (instr : Instr) (is : instruction_at words n.key.pc ≡ Some instr) (followed : is_followed n.state.facts ≡ true) (direct : is_indirect instr ≡ false)
+      (dead : may_write_stack (device_of words) f.bound n.state instr ≡ false) (free : may_write_some_protected words A n.key.pc n.state instr ≡ false) where
+    abbrev last : ℕ
+    last = ramend (device_of words)
+
+    unreached : (a : ℕ) → may_write n.state instr a ≡ true → a ≤ last → last < a + f.bound → ⊥
+    unreached a may le lt =
+        let same : last - (last - a) ≡ a = omega (arith, le) in
+        never_both _ (any_found (λ d. may_write n.state instr (last - d)) (last - a) f.bound (omega (arith, le, lt)) (ap (may_write n.state instr) same ∙ may)) dead
+
+    unflagged : (a : ℕ) → may_write n.state instr a ≡ true → a ≤ BELOW → is_flagged_address words A n.key.pc instr a ≡ false
+    unflagged a may low =
+        never (is_flagged_address words A n.key.pc instr a)
+        (λ flagged. never_both _ (any_found (may_write_protected words A n.key.pc n.state instr) a 256 (omega (arith, low)) (and_from _ _ flagged may)) free)
+
+    harmless_address : (a : ℕ) → a < 65536 → may_write n.state instr a ≡ true → is_address_harmless words A f.bound n.key.pc instr a ≡ true
+    harmless_address a small may =
+        ⊎_elim
+        (λ above.
+        ⊎_elim (λ over. or_left _ _ (or_right _ _ (test_from_less last a over)))
+        (λ inside.
+        or_left _ _ (or_left _ _ (and_from (nat_lt BELOW a) (nat_le (a + f.bound) last) (test_from_less BELOW a above)
+        (test_from_at_most (a + f.bound) last (⊎_elim (λ no. absurd (unreached a may inside no)) (λ within. within) (cases_lt last (a + f.bound))))))) (cases_lt last a))
+        (λ low. or_right _ _ (and_from (nat_le a BELOW) _ (test_from_at_most a BELOW low) (ap not (unflagged a may low)))) (cases_lt BELOW a)
+
+    pub clear_store : IsClear words A f n
+    clear_store =
+        record {
+          store = λ x aim at same.
+              let e : instr ≡ x = same_Some instr x (sym is ∙ at) in
+              subst (λ y. IsHarmless words A f n y aim) e (each_address followed harmless_address);
+          transfer = λ x at indirect.
+              let e : instr ≡ x = same_Some instr x (sym is ∙ at) in
+              absurd (never_both _ (ap is_indirect e ∙ indirect) direct);
+        }
 
   clear_without : instruction_at words n.key.pc ≡ None → IsClear words A f n
   clear_without is =
@@ -198,6 +237,16 @@ module _ (words : List ℕ) (A : List Entry) (f : Family) where
     caused test instr is passes =
         record { node = may.node; present = may.present; is = may.is; unclear = may.unclear; instr = instr; instruction = at_pc instr is; passes = passes }
 
+    -- nothing else is told of it where pairs aren't followed
+    untold : (followed l : Bool) (instr : Instr) → instruction_at words may.node.key.pc ≡ Some instr → is_followed may.node.state.facts ≡ followed
+        → may_write_stack (device_of words) f.bound may.node.state instr ≡ l → is_indirect instr ≡ false → may_write_some_protected words A pc may.node.state instr ≡ false
+        → may_write_live words A f.bound pc may.node.state instr ≡ true
+    untold followed true instr is mode live indirect some = or_left _ (is_untold words A pc may.node.state instr) live
+    untold false false instr is mode live indirect some =
+        or_right (may_write_stack (device_of words) f.bound may.node.state instr) _ (ap₂ (λ a b. not a && b) mode (ap₂ (λ a b. not (a || b)) indirect some))
+    untold true false instr is mode live indirect some =
+        absurd (may.unclear (clear_store words A f may.node instr is mode indirect live (subst (λ q. may_write_some_protected words A q may.node.state instr ≡ false) (sym may.is) some)))
+
     -- a transfer, a protected address, or neither
     by_tests : (instr : Instr) → instruction_at words may.node.key.pc ≡ Some instr → (t p : Bool) → is_indirect instr ≡ t → may_write_some_protected words A pc may.node.state instr ≡ p
         → HasCause words A f pc
@@ -209,7 +258,7 @@ module _ (words : List ℕ) (A : List Entry) (f : Family) where
         inl (found.0, caused (λ s y. may_write_protected words A pc s y found.0) instr is found.1.1)
     by_tests instr is false false indirect some =
         inr (inl (caused (may_write_live words A f.bound pc) instr is
-        (or_right (may_write_stack (device_of words) f.bound may.node.state instr) _ (ap₂ (λ a b. not (a || b)) indirect some))))
+        (untold (is_followed may.node.state.facts) (may_write_stack (device_of words) f.bound may.node.state instr) instr is refl refl indirect some)))
 
     by_instr : (x : Option Instr) → instruction_at words may.node.key.pc ≡ x → HasCause words A f pc
     by_instr None is = absurd (may.unclear (clear_without words A f may.node is))

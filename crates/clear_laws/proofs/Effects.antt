@@ -12,7 +12,6 @@ use Rattle.avr_model.specs.declared.instruction.UnaryOp.{UnaryOp}
 use Rattle.avr_model.specs.declared.instruction.UnaryOp.TheVariants as unary
 use Rattle.avr_model.specs.declared.effect.Effect.{Effect}
 use Rattle.avr_model.specs.Devices.{wrapped}
-use Rattle.avr_model.specs.Sites.{adds_low}
 use Rattle.avr_model.specs.Text.{far}
 use Rattle.avr_model.specs.State.{State, BELOW}
 use Rattle.avr_model.specs.Effects.{set, port, way_back, binary_effect, immediate_effect, unary_effect, effect_of}
@@ -27,12 +26,12 @@ use Rattle.local_rules.specs.declared.local.NodeFault.{NodeFault}
 use Rattle.local_rules.specs.Raw.{Raw, enters, fails, untracked_if}
 use Rattle.local_rules.specs.Flow.{is_half_written, at_closed, indirect_call, relative_call, targets_at}
 use Rattle.local_rules.specs.Local.{row_of}
-use Rattle.local_rules.specs.Cover.{InFrame}
+use Rattle.local_rules.specs.Cover.{InFrameIn}
 use Rattle.clear_laws.specs.Held.{is_push}
 use Rattle.basics.specs.Numbers.{equals_itself}
-use Rattle.clear_laws.specs.Aims.{Aim, aim_of}
-use Rattle.clear_laws.specs.Causes.{may_write}
+use Rattle.clear_laws.specs.Aims.{Aim, may_write, aim_of}
 use Rattle.clear_laws.proofs.Ports.{PortFits}
+use Rattle.clear_laws.proofs.Rows.{pushes}
 use Rattle.clear_laws.proofs.Aims.{IsAimed, displaced, by_pointer, direct, displaced_permitted, pointer_permitted}
 
 -- the stack pointer isn't half written
@@ -46,9 +45,9 @@ pub data Does (device : Device) (m : State) (base : ℕ) (k : NodeKey) (s : AbsS
   to_port : (a byte : ℕ) → a ≤ BELOW → is_pointer_store instr ≡ false → e.stores ≡ set a byte → e.pushes ≡ [] → Does device m base k s instr e row guarded_row
   by_aim : (a byte : ℕ) (aim : Aim) → aim_of device k s instr ≡ Some aim → IsAimed base aim a → may_write s instr a ≡ true → e.stores ≡ set a byte → e.pushes ≡ []
       → Does device m base k s instr e row guarded_row
-  pushing : (byte : ℕ) → is_push instr ≡ true → adds_low instr ≡ false → (row.faults ≡ [] → IsWhole k.sp) → e.is_open ≡ false → e.stores ≡ []
+  pushing : (byte : ℕ) → is_push instr ≡ true → pushes instr ≡ true → (row.faults ≡ [] → IsWhole k.sp) → e.is_open ≡ false → e.stores ≡ []
       → e.pushes ≡ set m.sp byte → Does device m base k s instr e row guarded_row
-  entering : (back : ℕ) → guarded_row.moves ≡ [] → adds_low instr ≡ false → (row.faults ≡ [] → IsWhole k.sp) → e.is_open ≡ false → e.stores ≡ []
+  entering : (back : ℕ) → guarded_row.moves ≡ [] → pushes instr ≡ true → (row.faults ≡ [] → IsWhole k.sp) → e.is_open ≡ false → e.stores ≡ []
       → e.pushes ≡ way_back m.sp back → Does device m base k s instr e row guarded_row
 
 -- ---- nodes with no fault
@@ -122,7 +121,7 @@ module _ (words : List ℕ) (m : State) where
 
 -- ---- the table, where the row is that of a state t of which the node may have forgotten something
 
-module _ (words : List ℕ) (A : List Entry) (m : State) (o : Origin) (k : NodeKey) (s t : AbsState) (at : InFrame m o k s) (scratch : Bool) (b1 b2 : ℕ) where
+module _ {followed : Bool} (words : List ℕ) (A : List Entry) (m : State) (o : Origin) (k : NodeKey) (s t : AbsState) (at : InFrameIn followed m o k s) (scratch : Bool) (b1 b2 : ℕ) where
   abbrev DoesBy : Device → Instr → Type 0
   DoesBy device instr =
       Does device m o.base k s instr (effect_of words m instr b1 b2) (row_of device words A scratch k t instr) (row_of device words A false k t instr)

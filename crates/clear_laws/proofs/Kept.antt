@@ -33,7 +33,6 @@ use Rattle.edge_rules.specs.Frames.{Frame, AreLeft, Runs, Change, moved, called,
 use Rattle.clear_laws.specs.Held.{MayHold, kept, pushed}
 use Rattle.clear_laws.proofs.Bases.{within}
 use Rattle.clear_laws.proofs.Opens.{open_moves_keep}
-use Rattle.clear_laws.proofs.Rows.{plain_node}
 use Rattle.clear_laws.proofs.Effects.{IsWhole}
 use Rattle.clear_laws.proofs.Steps.{Fresh, Comes, IsAbove, comes_by_go, comes_by_take, is_above}
 
@@ -115,7 +114,7 @@ module _ (words : List ℕ) (A : List Entry) (f : Family) (sound : IsSound words
       offset_kept : (offset : ℕ) (high : High) → to.key.sp ≡ Open offset high → offset ≡ offset_of g.node.key.sp
       offset_kept offset high e =
           let from = joins_are_least.keys (raw_of words A g.node).moves to member in
-          open_moves_keep words A g.node.key g.node.state (plain_node g.node.key g.node.state (sound.formed g.node runs.present)) from.0 from.1.0 offset high (ap (λ (k : NodeKey). k.sp) from.1.1 ∙ e)
+          open_moves_keep words A g.node.key g.node.state from.0 from.1.0 offset high (ap (λ (k : NodeKey). k.sp) from.1.1 ∙ e)
 
       -- a pushed byte is at the slot that this move adds
       new_slot : (d : ℕ) → Fresh words A g n (Go b1 b2) (g.origin.base - d) → is_live n.memory (g.origin.base - d) ≡ true → MayHold words A f.nodes to.key d

@@ -1,13 +1,17 @@
 -- A successor whose stack pointer is half written has the offset of the node that it comes from.
-use Rattle.std.proofs.Common.{◌≡◌, refl, sym, subst, ap, ◌∙◌, ⊎_elim, ℕ, zero, suc, ◌+◌, ◌==◌, Bool, true, false, List, [], ◌∷◌, map, length, filter, Option, Some, None, if◌then◌else◌, nat_lt, nat_le, Contains}
+use Rattle.std.proofs.Common.{◌≡◌, refl, sym, ap, ◌∙◌, ⊎_elim, ℕ, zero, suc, ◌+◌, ◌==◌, Bool, true, false, List, [], ◌∷◌, map, length, filter, Option, Some, None, if◌then◌else◌, nat_lt, nat_le, Contains}
 use Rattle.std.proofs.lemmas.List.Elements.{Contains-append_cases}
-use Rattle.basics.specs.Items.{none_in}
+use Rattle.basics.specs.Items.{none_in, each_of_join}
 use Rattle.avr_model.specs.declared.assumption.Entry.{Entry}
 use Rattle.avr_model.specs.declared.device.Device.{Device}
 use Rattle.avr_model.specs.declared.instruction.Instr.{Instr}
 use Rattle.avr_model.specs.declared.instruction.Instr.TheVariants as i
+use Rattle.avr_model.specs.declared.instruction.BinaryOp.{BinaryOp}
+use Rattle.avr_model.specs.declared.instruction.BinaryOp.TheVariants as binary
+use Rattle.avr_model.specs.declared.instruction.Pointer.{Pointer}
 use Rattle.avr_model.specs.Assumptions.{store_line, is_frame, is_fixed_site}
 use Rattle.avr_model.specs.Devices.{size_of, wrapped, device_of}
+use Rattle.avr_model.specs.Marks.{marks}
 use Rattle.avr_model.specs.Text.{far, near}
 use Rattle.avr_model.specs.Sites.{is_scratch, base_register, pointer_register}
 use Rattle.avr_model.specs.State.{SPL, SPH, SREG}
@@ -18,11 +22,10 @@ use Rattle.bit_domain.specs.TriByte.{tri_at}
 use Rattle.bit_domain.specs.Tri.{tri_not}
 use Rattle.bit_domain.specs.Logic.{byte_equal}
 use Rattle.pair_domain.specs.declared.facts.PairFacts.{PairFacts}
-use Rattle.pair_domain.specs.PairSets as pairs
 use Rattle.abs_state.specs.declared.values.AbsByte.{AbsByte}
 use Rattle.abs_state.specs.declared.state.AbsState.{AbsState}
-use Rattle.abs_state.specs.Cuts.{cut_known}
-use Rattle.pair_cuts.specs.Cuts.{with_index, pick_cut}
+use Rattle.pair_cuts.specs.Cuts.{flag_cut, bit_cut, equal_cut, pick_cut}
+use Rattle.pair_rules.specs.Refined.{refined}
 use Rattle.mask_states.specs.declared.keys.NodeKey.{NodeKey}
 use Rattle.mask_states.specs.declared.keys.Kind.{Kind}
 use Rattle.mask_states.specs.declared.keys.Kind.TheVariants.{Root, Call, Vector}
@@ -42,7 +45,7 @@ use Rattle.local_rules.specs.Reads.{read_at, pointed, read_pointed}
 use Rattle.local_rules.specs.Writes.{opening, closing, high_part, closing_offset, sreg_written, flags_written, put_flags, masks_written, written_at, fixed_write, reaches, pointer_write}
 use Rattle.local_rules.specs.Flow.{branch, skipping, flag_at, where_carry, going_where, carry_branch, flag_branch, targets_at, is_half_written, jumping, calling, indirect_call, relative_call, at_closed, if_room, returning, ret_exit, reti_exit, pushing, popping, making_room}
 use Rattle.local_rules.specs.FrameLines.{binary_at}
-use Rattle.local_rules.specs.Local.{step_before, pointer_moved, loading, row_of, row_at, row_by, row_in, is_hung, fetched, picks, picking, picked_row, split_site, splitting, raw}
+use Rattle.local_rules.specs.Local.{step_before, pointer_moved, loading, row_of, row_at, row_by, row_in, is_hung, fetched, picks, picking, picked_row, split_site, splitting, raw, node_where, refining, storing, paired_binary, paired_row, plain_row}
 use Rattle.local_laws.proofs.AllLaws.{each_of, each_in_map}
 
 module _ (device : Device) (k : NodeKey) where
@@ -280,30 +283,65 @@ module _ (device : Device) (k : NodeKey) where
     row_keeps scratch i.Break = still _ _ refl
     row_keeps scratch i.Wdr = still _ _ refl
 
-  row_at_keeps : (words : List ℕ) (A : List Entry) (scratch : Bool) (s : AbsState) → s.facts ≡ None → (x : Option Instr) → AllKeep (row_at device words A scratch k s x)
-  row_at_keeps words A scratch s plain None = none
-  row_at_keeps words A scratch s plain (Some instr) =
-      subst (λ (f : Option PairFacts). AllKeep (row_by f device words A scratch k s instr)) (sym plain) (row_keeps words A (before instr s) scratch instr)
+  -- ---- where pairs are followed: what is refined and cut leads to the same keys
 
-  row_in_keeps : (words : List ℕ) (A : List Entry) (s : AbsState) → s.facts ≡ None → AllKeep (row_in device words A k s)
-  row_in_keeps words A s plain = row_at_keeps words A (is_scratch words k.pc) s plain (fetched device words k.pc)
+  node_keeps : (key : NodeKey) (x : Option AbsState) → Keeps key.sp → (to : Node) → Contains (node_where key x) to → Keeps to.key.sp
+  node_keeps key None h = none
+  node_keeps key (Some s) h = lone key s h
 
--- where pairs aren't followed, a byte that is picked cuts nothing else
-pick_plain : (byte : ℕ) (s : AbsState) → s.facts ≡ None → pick_cut byte s ≡ Some (with_index byte s)
-pick_plain byte s plain = ap (λ (x : Option PairFacts). cut_known pairs.cut_pair (with_index byte s) 15 x) plain
+  refined_keeps : (words : List ℕ) (instr : Instr) (s : AbsState) (r : Raw) → AllKeep r → AllKeep (refining words instr s r)
+  refined_keeps words instr s r h =
+      each_of_join (λ (n : Node). node_where n.key (refined (marks words) words instr s n.state)) (λ (to : Node). Keeps to.key.sp) r.moves
+      (λ n to i j. node_keeps n.key (refined (marks words) words instr s n.state) (h n i) to j)
 
-module _ (words : List ℕ) (A : List Entry) (k : NodeKey) (s : AbsState) (plain : s.facts ≡ None) where
+  either_keeps : (s t : Option AbsState) (first second : ℕ) → AllKeep (all_of (going_where k s first ∷ going_where k t second ∷ []))
+  either_keeps s t first second =
+      both_keep (going_where k s first) (going_where k t second) (where_keeps s first) (lone_keep (going_where k t second) (where_keeps t second))
+
+  storing_keeps : (words : List ℕ) (A : List Entry) (s : AbsState) (p : Pointer) (r : ℕ) (moved : Option AbsState) → AllKeep (storing device words A k s p r moved)
+  storing_keeps words A s p r None = none
+  storing_keeps words A s p r (Some moved) =
+      pointer_keeps (next device k) refl words A s (pointer_register p) (step_before p) (pointed s (pointer_register p) (step_before p)) k.pc moved (value s r)
+
+  compared_keeps : (words : List ℕ) (s : AbsState) (op : BinaryOp) (d r : ℕ) (other : Raw) → AllKeep other → AllKeep (paired_binary device words op k s d r other)
+  compared_keeps words s binary.Cpse d r other h = either_keeps (equal_cut d r false s) (equal_cut d r true s) _ _
+  compared_keeps words s _ d r other h = h
+
+  module _ (words : List ℕ) (A : List Entry) (scratch : Bool) (s : AbsState) where
+    plain_keeps : (instr : Instr) → AllKeep (plain_row device words A scratch k s instr)
+    plain_keeps instr = row_keeps words A (before instr s) scratch instr
+
+    paired_keeps : (instr : Instr) → AllKeep (paired_row device words A scratch k s instr)
+    paired_keeps (i.Brbs n t) = by_test (nat_lt n 7) _ _ (either_keeps (flag_cut n false s) (flag_cut n true s) _ _) (plain_keeps (i.Brbs n t))
+    paired_keeps (i.Brbc n t) = by_test (nat_lt n 7) _ _ (either_keeps (flag_cut n false s) (flag_cut n true s) _ _) (plain_keeps (i.Brbc n t))
+    paired_keeps (i.Sbrc r b) = either_keeps (bit_cut r b true s) (bit_cut r b false s) _ _
+    paired_keeps (i.Sbrs r b) = either_keeps (bit_cut r b false s) (bit_cut r b true s) _ _
+    paired_keeps (i.Binary op d r) = compared_keeps words s op d r (refining words (i.Binary op d r) s (plain_row device words A scratch k s (i.Binary op d r))) (refined_keeps words (i.Binary op d r) s (plain_row device words A scratch k s (i.Binary op d r)) (plain_keeps (i.Binary op d r)))
+    paired_keeps (i.St p r) = storing_keeps words A s p r _
+    paired_keeps instr = refined_keeps words instr s (plain_row device words A scratch k s instr) (plain_keeps instr)
+
+    row_by_keeps : (facts : Option PairFacts) (instr : Instr) → AllKeep (row_by facts device words A scratch k s instr)
+    row_by_keeps None instr = plain_keeps instr
+    row_by_keeps (Some f) instr = paired_keeps instr
+
+    row_at_keeps : (x : Option Instr) → AllKeep (row_at device words A scratch k s x)
+    row_at_keeps None = none
+    row_at_keeps (Some instr) = row_by_keeps s.facts instr
+
+  row_in_keeps : (words : List ℕ) (A : List Entry) (s : AbsState) → AllKeep (row_in device words A k s)
+  row_in_keeps words A s = row_at_keeps words A (is_scratch words k.pc) s (fetched device words k.pc)
+
+module _ (words : List ℕ) (A : List Entry) (k : NodeKey) (s : AbsState) where
   -- where one entry of a table is picked, the stack pointer is the same
-  picked_keeps : (byte : ℕ) → AllKeep (device_of words) k (picked_row (row_in (device_of words) words A) (picking k byte) (pick_cut byte s))
-  picked_keeps byte =
-      subst (λ (x : Option AbsState). AllKeep (device_of words) k (picked_row (row_in (device_of words) words A) (picking k byte) x)) (sym (pick_plain byte s plain))
-      (row_in_keeps (device_of words) (picking k byte) words A (with_index byte s) plain)
+  picked_keeps : (byte : ℕ) (x : Option AbsState) → AllKeep (device_of words) k (picked_row (row_in (device_of words) words A) (picking k byte) x)
+  picked_keeps byte None = none (device_of words) k
+  picked_keeps byte (Some t) = row_in_keeps (device_of words) (picking k byte) words A t
 
   splitting_keeps : (site : Option ℕ) → AllKeep (device_of words) k (splitting site (row_in (device_of words) words A) k s)
-  splitting_keeps None = row_in_keeps (device_of words) k words A s plain
+  splitting_keeps None = row_in_keeps (device_of words) k words A s
   splitting_keeps (Some jump) =
       by_test (device_of words) k (nat_le (length (picks s)) 64) _ (fails (UnresolvedJump jump))
-      (all_keep (device_of words) k (λ byte. picked_row (row_in (device_of words) words A) (picking k byte) (pick_cut byte s)) picked_keeps (picks s))
+      (all_keep (device_of words) k (λ byte. picked_row (row_in (device_of words) words A) (picking k byte) (pick_cut byte s)) (λ byte. picked_keeps byte (pick_cut byte s)) (picks s))
       (none (device_of words) k)
 
   pub open_moves_keep : AllKeep (device_of words) k (raw words A k s)

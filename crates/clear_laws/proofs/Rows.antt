@@ -1,19 +1,20 @@
--- A node leads where its instruction's row says, but where it splits at a jump table, whose instruction adds to r30.
-use Rattle.std.proofs.Common.{◌≡◌, refl, sym, subst, ap, ◌∙◌, ℕ, Bool, true, false, if◌then◌else◌, nat_lt, List, [], Option, Some, None, ◌⊎◌, inl, inr, lt-ltb}
+-- A node leads where its instruction's row says, but where it splits at a jump table, whose instruction adds to r30. Where pairs are followed, the
+-- row of what pushes leads nowhere else than the plain one.
+use Rattle.std.proofs.Common.{◌≡◌, refl, sym, ap, ◌∙◌, ℕ, Bool, true, false, if◌then◌else◌, nat_lt, List, [], Option, Some, None, ◌⊎◌, inl, inr, lt-ltb}
 use Rattle.avr_model.specs.declared.assumption.Entry.{Entry}
 use Rattle.avr_model.specs.declared.device.Device.{Device}
 use Rattle.avr_model.specs.declared.instruction.Instr.{Instr}
+use Rattle.avr_model.specs.declared.instruction.Instr.TheVariants as i
 use Rattle.avr_model.specs.Devices.{words_of, size_of, device_of}
 use Rattle.avr_model.specs.Sites.{instruction_at, is_scratch, adds_low, is_some_that, table_site}
 use Rattle.pair_domain.specs.declared.facts.PairFacts.{PairFacts}
-use Rattle.pair_domain.specs.Facts.{is_followed}
 use Rattle.abs_state.specs.declared.state.AbsState.{AbsState}
 use Rattle.mask_states.specs.declared.keys.NodeKey.{NodeKey}
 use Rattle.mask_states.specs.Keys.{offset_of}
+use Rattle.local_rules.specs.declared.local.Node.{Node}
 use Rattle.local_rules.specs.Raw.{Raw, untracked_if, too_deep_if}
 use Rattle.local_rules.specs.Registers.{before}
-use Rattle.local_rules.specs.Local.{raw, row_of, row_at, row_by, row_in, is_hung, fetched, unlined, split_site, splitting}
-use Rattle.local_rules.specs.Cover.{IsNode}
+use Rattle.local_rules.specs.Local.{raw, row_of, row_at, row_by, row_in, is_hung, fetched, unlined, split_site, splitting, refined_nodes, refining}
 use Rattle.local_laws.proofs.AllLaws.{local_parts_fit}
 use Rattle.local_laws.proofs.Picks.{unlined_some, site_adds}
 
@@ -50,18 +51,46 @@ pub record HasRow (words : List ℕ) (A : List Entry) (k : NodeKey) (s : AbsStat
 abbrev pub IsRowBy : List ℕ → List Entry → NodeKey → AbsState → Instr → Option PairFacts → Type 0
 IsRowBy words A k s instr facts = HasRow words A k s (row_by facts (device_of words) words A (is_scratch words k.pc) k s instr)
 
--- its instruction's plain row
-abbrev pub IsRow : List ℕ → List Entry → NodeKey → AbsState → Instr → Type 0
-IsRow words A k s instr = HasRow words A k s (row_of (device_of words) words A (is_scratch words k.pc) k (before instr s) instr)
+-- its instruction's plain row has no fault, and the node leads nowhere if that row doesn't
+pub record IsRow (words : List ℕ) (A : List Entry) (k : NodeKey) (s : AbsState) (instr : Instr) : Type 0 where
+  pub faultless : (row_of (device_of words) words A (is_scratch words k.pc) k (before instr s) instr).faults ≡ []
+  pub none : (row_of (device_of words) words A (is_scratch words k.pc) k (before instr s) instr).moves ≡ [] → (raw words A k s).moves ≡ []
 
--- ---- a node that doesn't follow pairs
+-- ---- what pushes bytes
 
-not_followed : (facts : Option PairFacts) → is_followed facts ≡ false → facts ≡ None
-not_followed None e = refl
-not_followed (Some f) e = absurd (cc)
+abbrev pub pushes : Instr → Bool
+pushes (i.Push r) = true
+pushes i.Icall = true
+pushes (i.Call t) = true
+pushes (i.Rcall t) = true
+pushes _ = false
 
-pub plain_node : (k : NodeKey) (s : AbsState) → IsNode k s → s.facts ≡ None
-plain_node k s node = not_followed s.facts node.mode
+adds_none : (instr : Instr) → pushes instr ≡ true → adds_low instr ≡ false
+adds_none (i.Push r) h = refl
+adds_none i.Icall h = refl
+adds_none (i.Call t) h = refl
+adds_none (i.Rcall t) h = refl
+adds_none _ h = absurd (cc)
+
+-- its row is the plain one, of whose successors some may be left out
+record IsLike (r plain : Raw) : Type 0 where
+  faults : r.faults ≡ plain.faults
+  none : plain.moves ≡ [] → r.moves ≡ []
+
+refined_none : (words : List ℕ) (instr : Instr) (s : AbsState) (nodes : List Node) → nodes ≡ [] → refined_nodes words instr s nodes ≡ []
+refined_none words instr s nodes e = ap (refined_nodes words instr s) e
+
+refining_is : (words : List ℕ) (instr : Instr) (s : AbsState) (r : Raw) → IsLike (refining words instr s r) r
+refining_is words instr s r = record { faults = refl; none = refined_none words instr s r.moves }
+
+like_plain : (facts : Option PairFacts) (device : Device) (words : List ℕ) (A : List Entry) (scratch : Bool) (k : NodeKey) (s : AbsState) (instr : Instr) → pushes instr ≡ true
+    → IsLike (row_by facts device words A scratch k s instr) (row_of device words A scratch k (before instr s) instr)
+like_plain None device words A scratch k s instr h = record { faults = refl; none = λ e. e }
+like_plain (Some f) device words A scratch k s (i.Push r) h = refining_is words (i.Push r) s _
+like_plain (Some f) device words A scratch k s i.Icall h = refining_is words i.Icall s _
+like_plain (Some f) device words A scratch k s (i.Call t) h = refining_is words (i.Call t) s _
+like_plain (Some f) device words A scratch k s (i.Rcall t) h = refining_is words (i.Rcall t) s _
+like_plain (Some f) device words A scratch k s _ h = absurd (cc)
 
 module _ (words : List ℕ) (A : List Entry) (k : NodeKey) (s : AbsState) where
   abbrev device : Device
@@ -108,6 +137,8 @@ module _ (words : List ℕ) (A : List Entry) (k : NodeKey) (s : AbsState) where
         by (inl row) = row
         by (inr adds) = absurd (let no : true ≡ false = sym adds ∙ other in cc)
 
-    -- which is the plain one where pairs aren't followed
-    pub row_unless_added : IsNode k s → adds_low instr ≡ false → IsRow words A k s instr
-    row_unless_added node other = subst (IsRowBy words A k s instr) (plain_node k s node) (row_by_unless_added other)
+    pub row_of_pushing : pushes instr ≡ true → IsRow words A k s instr
+    row_of_pushing h =
+        let row = row_by_unless_added (adds_none instr h) in
+        let like = like_plain s.facts device words A (is_scratch words k.pc) k s instr h in
+        record { faultless = sym like.faults ∙ row.faultless; none = λ e. row.moves ∙ like.none e }

@@ -1,5 +1,5 @@
 -- A run from reset that ends flagged ends at a word of a node that may be flagged.
-use Rattle.std.proofs.Common.{◌≡◌, refl, ap, ◌∙◌, sym, ℕ, zero, suc, ◌+◌, ◌-◌, ◌&&◌, ◌⊎◌, ⊎_elim, inl, inr, Bool, true, false, List, [], ◌∷◌, replicate, nat_lt, slice_index_or, arith}
+use Rattle.std.proofs.Common.{◌≡◌, refl, ap, ◌∙◌, ℕ, zero, suc, ◌+◌, ◌-◌, ◌&&◌, ◌⊎◌, ⊎_elim, inl, inr, Bool, true, false, List, [], ◌∷◌, replicate, nat_lt, slice_index_or, arith}
 use Rattle.avr_model.specs.Devices.{size_of, device_of}
 use Rattle.avr_model.specs.declared.assumption.Entry.{Entry}
 use Rattle.avr_model.specs.declared.choice.Choice.{Choice}
@@ -12,7 +12,7 @@ use Rattle.local_rules.specs.Machine.{AreWords}
 use Rattle.edge_rules.specs.Families.{Family, IsSound}
 use Rattle.edge_rules.specs.Frames.{Frame, Runs, IsFine}
 use Rattle.frame_laws.proofs.AllLaws.{frames_start, frames_step}
-use Rattle.clear_laws.specs.Clear.{MayBeFlagged, EndsByTake, word_of_flag}
+use Rattle.clear_laws.specs.Clear.{EndsByTake}
 use Rattle.clear_laws.specs.Causes.{MayFlag}
 use Rattle.clear_laws.specs.Laws.{FlaggedRunsAreTold}
 use Rattle.clear_laws.proofs.Kept.{Holding, step_holds}

@@ -10,7 +10,7 @@ use Rattle.avr_model.specs.declared.choice.Choice.TheVariants.{Go, Take}
 use Rattle.avr_model.specs.declared.effect.Effect.{Effect}
 use Rattle.avr_model.specs.declared.effect.Write.{Write}
 use Rattle.avr_model.specs.Devices.{device_of}
-use Rattle.avr_model.specs.Sites.{instruction_at, is_scratch, adds_low}
+use Rattle.avr_model.specs.Sites.{instruction_at, is_scratch}
 use Rattle.avr_model.specs.State.{State, Memory, is_live}
 use Rattle.avr_model.specs.Effects.{effect_of, way_back}
 use Rattle.avr_model.specs.Step.{Illegal, Overflow, Done, after, all_inside, live_write, protected_write, unlisted_transfer, is_unlisted, flag_by, flagged_or, memory_after, open_after, sp_after, may_take, entering, never_target, take, go, step}
@@ -28,7 +28,7 @@ use Rattle.clear_laws.specs.Held.{is_push, pushes_register, is_guarded_push}
 use Rattle.clear_laws.proofs.Memory.{IsPushedAt, inside_if_live, live_comes, live_above}
 use Rattle.clear_laws.proofs.Ports.{ports_fit}
 use Rattle.clear_laws.proofs.Effects.{IsWhole, Does, nothing, to_port, by_aim, pushing, entering as enters, does}
-use Rattle.clear_laws.proofs.Rows.{IsRow, row_unless_added}
+use Rattle.clear_laws.proofs.Rows.{IsRow, pushes, row_of_pushing}
 
 -- ---- what a step that is done did
 
@@ -133,15 +133,15 @@ module _ (words : List ℕ) (A : List Entry) (f : Family) (sound : IsSound words
     here : instruction_at words k.pc ≡ Some w.instr
     here = subst (λ p. instruction_at words p ≡ Some w.instr) runs.running.place.pc w.is
 
-    row : adds_low w.instr ≡ false → IsRow words A k g.node.state w.instr
-    row = row_unless_added words A k g.node.state w.instr here (sound.faultless g.node runs.present) (sound.formed g.node runs.present)
+    row : pushes w.instr ≡ true → IsRow words A k g.node.state w.instr
+    row = row_of_pushing words A k g.node.state w.instr here (sound.faultless g.node runs.present)
 
     -- a guarded instruction's row is that of one that isn't scratch
-    still : adds_low w.instr ≡ false → not (is_scratch words m.pc) ≡ true → (row_of (device_of words) words A false k state w.instr).moves ≡ []
+    still : pushes w.instr ≡ true → not (is_scratch words m.pc) ≡ true → (row_of (device_of words) words A false k state w.instr).moves ≡ []
         → (raw_of words A g.node).moves ≡ []
     still plain guarded none =
-        (row plain).moves
-        ∙ ap (λ b. (row_of (device_of words) words A b k state w.instr).moves) (not-true scratch (subst (λ p. not (is_scratch words p) ≡ true) runs.running.place.pc guarded)) ∙ none
+        (row plain).none
+        (ap (λ b. (row_of (device_of words) words A b k state w.instr).moves) (not-true scratch (subst (λ p. not (is_scratch words p) ≡ true) runs.running.place.pc guarded)) ∙ none)
 
     open_is : (after m (not (is_scratch words m.pc)) effect).is_open ≡ n.is_open
     open_is = ap (λ (x : State). x.is_open) w.leads

@@ -1,6 +1,6 @@
 -- A test tells the clear nodes.
 use Rattle.std.proofs.Common.{◌≡◌, refl, sym, ap, ◌∙◌, subst, ℕ, zero, suc, ◌+◌, ◌<◌, ◌==◌, Bool, true, false, not, ◌&&◌, ◌||◌, nat_lt, nat_le, List, Option, Some, None, ⊎_elim, arith, eqb-true}
-use Rattle.std.proofs.lemmas.Bool.{cases_lt, and_from, or_cases, and_parts, or_left, or_right, not-true}
+use Rattle.std.proofs.lemmas.Bool.{cases_lt, and_from, or_cases, and_parts, or_right, not-true}
 use Rattle.basics.specs.Numbers.{less_from_test, equals_itself, at_most_from_test, test_from_less, test_from_at_most}
 use Rattle.basics.specs.Booleans.{not_from_never}
 use Rattle.std.proofs.lemmas.Option.{same_Some}
@@ -13,14 +13,15 @@ use Rattle.avr_model.specs.Devices.{ramend, wrapped, device_of}
 use Rattle.avr_model.specs.Sites.{instruction_at}
 use Rattle.avr_model.specs.State.{BELOW}
 use Rattle.avr_model.specs.Step.{is_indirect}
+use Rattle.pair_domain.specs.Facts.{is_followed}
 use Rattle.abs_state.specs.declared.state.AbsState.{AbsState}
 use Rattle.mask_states.specs.Keys.{offset_of}
 use Rattle.local_rules.specs.declared.local.Node.{Node}
 use Rattle.edge_rules.specs.Families.{Family}
 use Rattle.clear_laws.specs.Held.{MayHold}
-use Rattle.clear_laws.specs.Aims.{Span, Reach, Aim, aim_of}
+use Rattle.clear_laws.specs.Aims.{Span, Reach, Aim, may_write, aim_of}
 use Rattle.clear_laws.specs.Aims.reach as reach
-use Rattle.clear_laws.specs.Clear.{IsHarmless, no_address, under_stack, above_memory, one_register, free_slot, IsClear, is_flagged_address, permits_pair, AreTargetsListed, is_span_harmless, is_reach_harmless, is_slot_harmless, is_aim_harmless, is_target_listed, are_targets_listed, is_transfer_listed, is_clear_by}
+use Rattle.clear_laws.specs.Clear.{IsHarmless, no_address, under_stack, above_memory, one_register, each_address, free_slot, IsClear, is_flagged_address, is_address_harmless, are_addresses_harmless, permits_pair, AreTargetsListed, is_span_harmless, is_reach_harmless, is_slot_harmless, is_aim_harmless, is_target_listed, are_targets_listed, is_transfer_listed, is_clear_by}
 use Rattle.clear_laws.specs.Laws.{ClearNodesAreTold}
 
 all_three : (a b c : Bool) → a ≡ true → b ≡ true → c ≡ false → (a && b && not c) ≡ true
@@ -50,10 +51,10 @@ unfolding all_below
 each_below p zero h = refl
 each_below p (suc n) h = and_from (all_below n p) (p n) (each_below p n (λ k lt. h k (omega (arith, lt)))) (h n (omega arith))
 
-passes : (a b : Bool) → a ≡ true → (not a || b) ≡ true → b ≡ true
+pub passes : (a b : Bool) → a ≡ true → (not a || b) ≡ true → b ≡ true
 passes a b h g = grind arith
 
-may_pass : (a b : Bool) → (a ≡ true → b ≡ true) → (not a || b) ≡ true
+pub may_pass : (a b : Bool) → (a ≡ true → b ≡ true) → (not a || b) ≡ true
 may_pass true b h = or_right false b (h refl)
 may_pass false b h = refl
 
@@ -122,6 +123,25 @@ module _ (words : List ℕ) (A : List Entry) (f : Family) (n : Node) (held : ℕ
     by_reach (reach.Within span) is h = by_span span is h
     by_reach reach.Beyond is h = absurd (cc)
 
+    abbrev is_fine : ℕ → Bool
+    is_fine a = not (may_write n.state instr a) || is_address_harmless words A f.bound n.key.pc instr a
+
+    by_addresses : are_addresses_harmless words A f.bound n.key.pc n.state instr ≡ true → IsHarmless words A f n instr aim
+    by_addresses h =
+        let parts = and_parts (is_followed n.state.facts) (all_below 65536 is_fine) h in
+        each_address parts.0
+        (λ a small may. passes (may_write n.state instr a) (is_address_harmless words A f.bound n.key.pc instr a) may (below_each is_fine 65536 a parts.1 small))
+
+    -- the three tests
+    abbrev by_span_test : Bool
+    by_span_test = is_reach_harmless words A f.bound n.key.pc instr aim.reach
+
+    abbrev by_each_test : Bool
+    by_each_test = are_addresses_harmless words A f.bound n.key.pc n.state instr
+
+    abbrev by_slot_test : Bool
+    by_slot_test = is_slot_harmless (offset_of n.key.sp) held aim.slot
+
     by_slot : Frees → (s : Option ℕ) → aim.slot ≡ s → is_slot_harmless (offset_of n.key.sp) held s ≡ true → IsHarmless words A f n instr aim
     by_slot frees None is h = absurd (cc)
     by_slot frees (Some d) is h =
@@ -129,17 +149,15 @@ module _ (words : List ℕ) (A : List Entry) (f : Family) (n : Node) (held : ℕ
         let lt = less_from_test d (offset_of n.key.sp) parts.0 in
         free_slot d is lt (frees d lt (not-true (held d) parts.1))
 
-    harmless : Frees → is_aim_harmless words A f.bound n.key instr held (Some aim) ≡ true → IsHarmless words A f n instr aim
+    harmless : Frees → is_aim_harmless words A f.bound n.key n.state instr held (Some aim) ≡ true → IsHarmless words A f n instr aim
     harmless frees h =
-        ⊎_elim (by_reach aim.reach refl) (by_slot frees aim.slot refl)
-        (or_cases (is_reach_harmless words A f.bound n.key.pc instr aim.reach) (is_slot_harmless (offset_of n.key.sp) held aim.slot) h)
+        ⊎_elim (λ e. ⊎_elim (by_reach aim.reach refl) by_addresses (or_cases by_span_test by_each_test e)) (by_slot frees aim.slot refl)
+        (or_cases (by_span_test || by_each_test) by_slot_test h)
 
-    reach_told : (r : Reach) → aim.reach ≡ r → is_reach_harmless words A f.bound n.key.pc instr r ≡ true → is_aim_harmless words A f.bound n.key instr held (Some aim) ≡ true
-    reach_told r is h =
-        or_left (is_reach_harmless words A f.bound n.key.pc instr aim.reach) (is_slot_harmless (offset_of n.key.sp) held aim.slot)
-        (ap (is_reach_harmless words A f.bound n.key.pc instr) is ∙ h)
+    reach_told : (r : Reach) → aim.reach ≡ r → is_reach_harmless words A f.bound n.key.pc instr r ≡ true → is_aim_harmless words A f.bound n.key n.state instr held (Some aim) ≡ true
+    reach_told r is h = first_of by_span_test by_each_test by_slot_test (ap (is_reach_harmless words A f.bound n.key.pc instr) is ∙ h)
 
-    told : Holds → IsHarmless words A f n instr aim → is_aim_harmless words A f.bound n.key instr held (Some aim) ≡ true
+    told : Holds → IsHarmless words A f n instr aim → is_aim_harmless words A f.bound n.key n.state instr held (Some aim) ≡ true
     told holds (no_address is) = reach_told reach.Nothing is refl
     told holds (under_stack span is low high) =
         reach_told (reach.Within span) is
@@ -149,26 +167,30 @@ module _ (words : List ℕ) (A : List Entry) (f : Family) (n : Node) (held : ℕ
         let span : Span = record { first = a; last = a } in
         reach_told (reach.Within span) is
         (third_of (under span) (over span) (single span) (all_three (a == a) (nat_le a BELOW) (is_flagged_address words A n.key.pc instr a) (equals_itself a) (test_from_at_most a BELOW low) free))
+    told holds (each_address followed h) =
+        second_of by_span_test by_each_test by_slot_test
+        (and_from (is_followed n.state.facts) (all_below 65536 is_fine) followed
+        (each_below is_fine 65536 (λ a small. may_pass (may_write n.state instr a) (is_address_harmless words A f.bound n.key.pc instr a) (h a small))))
     told holds (free_slot d is lt none) =
-        or_right (is_reach_harmless words A f.bound n.key.pc instr aim.reach) (is_slot_harmless (offset_of n.key.sp) held aim.slot)
+        third_of by_span_test by_each_test by_slot_test
         (ap (is_slot_harmless (offset_of n.key.sp) held) is
         ∙ and_from (nat_lt d (offset_of n.key.sp)) (not (held d)) (test_from_less d (offset_of n.key.sp) lt) (not_from_never (held d) (λ h. none (holds d lt h))))
 
   -- ---- nodes
 
-  aim_clear : Frees → (instr : Instr) (x : Option Aim) → aim_of (device_of words) n.key n.state instr ≡ x → is_aim_harmless words A f.bound n.key instr held x ≡ true
+  aim_clear : Frees → (instr : Instr) (x : Option Aim) → aim_of (device_of words) n.key n.state instr ≡ x → is_aim_harmless words A f.bound n.key n.state instr held x ≡ true
       → (aim : Aim) → aim_of (device_of words) n.key n.state instr ≡ Some aim → IsHarmless words A f n instr aim
   aim_clear frees instr None is h aim same = absurd (let no : None ≡ Some aim = sym is ∙ same in cc)
   aim_clear frees instr (Some x) is h aim same = let e : x ≡ aim = same_Some x aim (sym is ∙ same) in subst (IsHarmless words A f n instr) e (harmless instr x frees h)
 
   aim_told : Holds → (instr : Instr) (x : Option Aim) → aim_of (device_of words) n.key n.state instr ≡ x
-      → ((aim : Aim) → aim_of (device_of words) n.key n.state instr ≡ Some aim → IsHarmless words A f n instr aim) → is_aim_harmless words A f.bound n.key instr held x ≡ true
+      → ((aim : Aim) → aim_of (device_of words) n.key n.state instr ≡ Some aim → IsHarmless words A f n instr aim) → is_aim_harmless words A f.bound n.key n.state instr held x ≡ true
   aim_told holds instr None is h = refl
   aim_told holds instr (Some aim) is h = told instr aim holds (h aim is)
 
   module _ (x : Instr) (is : instruction_at words n.key.pc ≡ Some x) where
     abbrev stores_harmless : Bool
-    stores_harmless = is_aim_harmless words A f.bound n.key x held (aim_of (device_of words) n.key n.state x)
+    stores_harmless = is_aim_harmless words A f.bound n.key n.state x held (aim_of (device_of words) n.key n.state x)
 
     abbrev transfers_listed : Bool
     transfers_listed = is_transfer_listed words A n.key.pc n.state x
@@ -180,7 +202,7 @@ module _ (words : List ℕ) (A : List Entry) (f : Family) (n : Node) (held : ℕ
           store = λ instr aim at same.
               let e : x ≡ instr = same_Some x instr (sym is ∙ at) in
               aim_clear frees instr (aim_of (device_of words) n.key n.state instr) refl
-              (subst (λ y. is_aim_harmless words A f.bound n.key y held (aim_of (device_of words) n.key n.state y) ≡ true) e parts.0) aim same;
+              (subst (λ y. is_aim_harmless words A f.bound n.key n.state y held (aim_of (device_of words) n.key n.state y) ≡ true) e parts.0) aim same;
           transfer = λ instr at indirect.
               let e : x ≡ instr = same_Some x instr (sym is ∙ at) in
               targets_listed (device_of words) n.state (jump_line A n.key.pc)

@@ -1,9 +1,10 @@
 -- No step of a machine whose node is clear is flagged; and what each step writes.
-use Rattle.std.proofs.Common.{◌≡◌, ◌≢◌, refl, sym, ap, ap₂, ◌∙◌, subst, ℕ, ◌+◌, ◌-◌, ◌*◌, ◌%◌, ◌<◌, ◌≤◌, ◌==◌, Bool, true, false, not, ◌&&◌, ◌||◌, nat_le, ◌⊎◌, inl, inr, ⊎_elim, if◌then◌else◌, List, [], ◌∷◌, ◌++◌, Option, Some, None, arith}
+use Rattle.std.proofs.Common.{◌≡◌, ◌≢◌, refl, sym, ap, ap₂, ◌∙◌, subst, ℕ, ◌+◌, ◌-◌, ◌%◌, ◌<◌, ◌≤◌, ◌==◌, Bool, true, false, not, ◌&&◌, ◌||◌, nat_le, nat_lt, ◌⊎◌, inl, inr, ⊎_elim, if◌then◌else◌, List, [], ◌∷◌, ◌++◌, Option, Some, None, arith}
 use Rattle.std.specs.List.{list_any}
 use Rattle.std.proofs.lemmas.Bool.Decides.{nat_tests}
-use Rattle.std.proofs.lemmas.Bool.{false_from_ne_true as never, and_from}
-use Rattle.basics.specs.Booleans.{never_both}
+use Rattle.std.proofs.lemmas.Bool.{false_from_ne_true as never, and_from, and_parts, or_cases, not-true, cases_lt}
+use Rattle.basics.specs.Booleans.{never_both, left_of_and}
+use Rattle.basics.specs.Numbers.{less_from_test, at_most_from_test}
 use Rattle.frame_laws.proofs.AllLaws.{vector_inside, vector_small}
 use Rattle.avr_model.proofs.AllLaws.{devices_are_alike}
 use Rattle.avr_model.specs.declared.assumption.Entry.{Entry}
@@ -11,7 +12,7 @@ use Rattle.avr_model.specs.declared.device.Device.{Device}
 use Rattle.avr_model.specs.declared.instruction.Instr.{Instr}
 use Rattle.avr_model.specs.declared.instruction.Instr.TheVariants as i
 use Rattle.avr_model.specs.declared.choice.Choice.{Choice}
-use Rattle.avr_model.specs.declared.choice.Choice.TheVariants.{Go, Take}
+use Rattle.avr_model.specs.declared.choice.Choice.TheVariants.{Take}
 use Rattle.avr_model.specs.declared.choice.Flag.{Flag}
 use Rattle.avr_model.specs.declared.effect.Effect.{Effect}
 use Rattle.avr_model.specs.declared.effect.Write.{Write}
@@ -19,32 +20,32 @@ use Rattle.avr_model.specs.Assumptions.{jump_line, store_line, is_never, is_fixe
 use Rattle.avr_model.specs.Devices.{ramend, wrapped, device_of}
 use Rattle.avr_model.specs.Image.{WORDS}
 use Rattle.avr_model.specs.Sites.{instruction_at, is_scratch}
-use Rattle.avr_model.specs.State.{State, Memory, is_live, i_flag, minus16, register, pair, low, high}
+use Rattle.avr_model.specs.State.{BELOW, State, Memory, is_live, i_flag, minus16, register, pair, low, high}
 use Rattle.avr_model.specs.Vectors.{Vector, vectors, has_enables, is_protected, is_enabled, vector_word, WATCHDOG}
 use Rattle.avr_model.specs.Effects.{set, effect_of, way_back}
 use Rattle.avr_model.specs.Step.{Illegal, Overflow, Flagged, after, all_inside, live_write, unlisted, protected_write, unless_listed, unlisted_transfer, is_pointer_store, is_indirect, is_unlisted, flag_by, flagged_or, may_take, entering, never_target, take, go}
-use Rattle.bit_domain.specs.TriByte.{Has, has}
-use Rattle.bit_domain.proofs.AllLaws.{tests_tell_members}
+use Rattle.bit_domain.specs.TriByte.{has}
 use Rattle.mask_states.specs.declared.keys.NodeKey.{NodeKey}
 use Rattle.mask_states.specs.declared.keys.SpForm.{SpForm}
 use Rattle.mask_states.specs.declared.keys.SpForm.TheVariants.{Closed, Open}
 use Rattle.mask_states.specs.Keys.{offset_of}
+use Rattle.pair_domain.specs.declared.facts.PairFacts.{PairFacts}
+use Rattle.abs_state.specs.declared.values.AbsByte.{AbsByte}
 use Rattle.abs_state.specs.declared.state.AbsState.{AbsState}
 use Rattle.abs_state.specs.Stands.{ByteStands}
-use Rattle.local_rules.specs.Registers.{value, bits, before}
-use Rattle.local_rules.specs.Local.{row_of, is_hung}
+use Rattle.local_rules.specs.Registers.{value, before}
+use Rattle.local_rules.specs.Local.{row_of, is_hung, may_be}
 use Rattle.local_laws.proofs.AllLaws.{open_pairs_hang, above_if_live}
 use Rattle.edge_rules.specs.Families.{Family, IsSound}
 use Rattle.edge_rules.specs.Frames.{Frame, Runs}
-use Rattle.clear_laws.specs.Aims.{Aim, aim_of}
-use Rattle.clear_laws.specs.Clear.{IsClear, IsHarmless, no_address, under_stack, above_memory, one_register, free_slot, is_flagged_address, AreTargetsListed}
-use Rattle.clear_laws.specs.Causes.{may_write}
+use Rattle.clear_laws.specs.Aims.{Aim, permits_number, may_write, aim_of}
+use Rattle.clear_laws.specs.Clear.{IsClear, IsHarmless, no_address, under_stack, above_memory, one_register, each_address, free_slot, is_flagged_address, is_address_harmless, permits_by, AreTargetsListed}
 use Rattle.clear_laws.proofs.Memory.{inside_if_live}
 use Rattle.clear_laws.proofs.Ports.{ports_fit}
-use Rattle.clear_laws.proofs.Aims.{IsReached, IsAimed}
+use Rattle.clear_laws.proofs.Aims.{IsReached, IsAimed, pair_permitted}
 use Rattle.clear_laws.proofs.Bases.{base_inside}
 use Rattle.clear_laws.proofs.Effects.{IsWhole, Does, nothing, to_port, by_aim, pushing, entering as enters, does}
-use Rattle.clear_laws.proofs.Rows.{row_unless_added, not_hung}
+use Rattle.clear_laws.proofs.Rows.{row_of_pushing, not_hung}
 use Rattle.clear_laws.proofs.Steps.{whole_sp}
 use Rattle.clear_laws.proofs.Kept.{Holding}
 
@@ -60,25 +61,23 @@ not_flagged true pc None None (Some c) x flag ha hb hc = absurd (cc)
 
 -- ---- transfers
 
-z_small : (x y : ℕ) → x < 256 → y < 256 → x + 256 * y < 65536
-z_small x y h g = omega arith
+-- what a byte may be its bits permit
+has_where_may : (v : AbsByte) (x : ℕ) → may_be v x ≡ true → has v.bits x ≡ true
+has_where_may v x h = left_of_and _ _ (left_of_and _ _ h)
 
-z_low : (x y : ℕ) → x < 256 → low (x + 256 * y) ≡ x
-z_low x y h = omega arith
-
-z_high : (x y : ℕ) → x < 256 → high (x + 256 * y) ≡ y
-z_high x y h = omega arith
+-- a number that bits, ranges and interval permit is one that a transfer counts
+counted : (facts : Option PairFacts) (s : AbsState) (r p : ℕ) → permits_number s r p ≡ true → permits_by facts s r p ≡ true
+counted None s r p h =
+    let bytes = and_parts (may_be (value s r) (low p)) (may_be (value s (r + 1)) (high p)) (left_of_and _ _ h) in
+    and_from _ _ (has_where_may (value s r) (low p) bytes.0) (has_where_may (value s (r + 1)) (high p) bytes.1)
+counted (Some f) s r p h = h
 
 -- a permitted Z goes to a listed word
-goes_listed : (device : Device) (s : AbsState) (line : Option (List ℕ)) (x y : ℕ) → AreTargetsListed device s line → x < 256 → y < 256 → Has (bits s 30) x → Has (bits s 31) y
-    → unless_listed line (wrapped device ((x + 256 * y) % WORDS)) ≡ None
-goes_listed device s None x y all small small' low_has high_has = refl
-goes_listed device s (Some listed) x y all small small' low_has high_has =
-    let low_bits : has (bits s 30) (low (x + 256 * y)) ≡ true = ap (has (bits s 30)) (z_low x y small) ∙ (tests_tell_members.bytes (bits s 30) x).1 low_has in
-    let high_bits : has (bits s 31) (high (x + 256 * y)) ≡ true = ap (has (bits s 31)) (z_high x y small) ∙ (tests_tell_members.bytes (bits s 31) y).1 high_has in
-    let listed_there = all (x + 256 * y) (z_small x y small small') (and_from _ _ low_bits high_bits) in
-    ap (λ b. if b then None else Some (wrapped device ((x + 256 * y) % WORDS)))
-    (ap (lists listed) (devices_are_alike.of_14 device (x + 256 * y)) ∙ listed_there)
+goes_listed : (device : Device) (s : AbsState) (line : Option (List ℕ)) (z : ℕ) → AreTargetsListed device s line → z < 65536 → permits_number s 30 z ≡ true
+    → unless_listed line (wrapped device (z % WORDS)) ≡ None
+goes_listed device s None z all small may = refl
+goes_listed device s (Some listed) z all small may =
+    ap (λ b. if b then None else Some (wrapped device (z % WORDS))) (ap (lists listed) (devices_are_alike.of_14 device z) ∙ all z small (counted s.facts s 30 z may))
 
 -- ---- protected writes
 
@@ -212,29 +211,56 @@ module _ (words : List ℕ) (A : List Entry) (f : Family) (sound : IsSound words
   high_free : (instr : Instr) (a : ℕ) → 255 < a → is_flagged_address words A k.pc instr a ≡ false
   high_free instr a lt = and_false (is_pointer_store instr) (not (is_fixed_site words A k.pc)) (is_protected a) (not (lists (store_line A k.pc) a)) (unprotected a lt)
 
+  -- a harmless address
+  abbrev under : ℕ → Bool
+  under a = nat_lt BELOW a && nat_le (a + f.bound) top
+
+  abbrev outside : Instr → ℕ → Bool
+  outside instr a = nat_le a BELOW && not (is_flagged_address words A k.pc instr a)
+
+  under_free : (instr : Instr) (a : ℕ) → BELOW < a → a + f.bound ≤ top → IsFree words A m.memory k.pc instr a
+  under_free instr a low high =
+      record { dead = never (is_live m.memory a) (λ live. omega (arith, high, holds.above a live, holds.depth)); free = high_free instr a (omega (arith, low)) }
+
+  over_free : (instr : Instr) (a : ℕ) → top < a → IsFree words A m.memory k.pc instr a
+  over_free instr a over = record { dead = never (is_live m.memory a) (λ live. omega (arith, over, inside a live)); free = high_free instr a (omega (arith, over)) }
+
+  below_free : (instr : Instr) (a : ℕ) → a ≤ BELOW → is_flagged_address words A k.pc instr a ≡ false → IsFree words A m.memory k.pc instr a
+  below_free instr a low free = record { dead = never (is_live m.memory a) (λ live. omega (arith, low, above_if_live m.memory.live a live)); free = free }
+
+  address_free : (instr : Instr) (a : ℕ) → is_address_harmless words A f.bound k.pc instr a ≡ true → IsFree words A m.memory k.pc instr a
+  address_free instr a h = ⊎_elim (λ first. ⊎_elim by_under by_over (or_cases (under a) (nat_lt top a) first)) by_outside (or_cases (under a || nat_lt top a) (outside instr a) h)
+    where
+      by_under : under a ≡ true → IsFree words A m.memory k.pc instr a
+      by_under t =
+          let parts = and_parts (nat_lt BELOW a) (nat_le (a + f.bound) top) t in
+          under_free instr a (less_from_test BELOW a parts.0) (at_most_from_test (a + f.bound) top parts.1)
+
+      by_over : nat_lt top a ≡ true → IsFree words A m.memory k.pc instr a
+      by_over t = over_free instr a (less_from_test top a t)
+
+      by_outside : outside instr a ≡ true → IsFree words A m.memory k.pc instr a
+      by_outside t =
+          let parts = and_parts (nat_le a BELOW) (not (is_flagged_address words A k.pc instr a)) t in
+          below_free instr a (at_most_from_test a BELOW parts.0) (not-true (is_flagged_address words A k.pc instr a) parts.1)
+
   -- a harmless store
-  harmless_free : (instr : Instr) (aim : Aim) (a : ℕ) → IsAimed g.origin.base aim a → IsHarmless words A f g.node instr aim → IsFree words A m.memory k.pc instr a
-  harmless_free instr aim a aimed (no_address is) = absurd (subst (λ r. IsReached r a) is aimed.reach)
-  harmless_free instr aim a aimed (under_stack span is low high) =
+  harmless_free : (instr : Instr) (aim : Aim) (a : ℕ) → IsAimed g.origin.base aim a → may_write g.node.state instr a ≡ true → IsHarmless words A f g.node instr aim
+      → IsFree words A m.memory k.pc instr a
+  harmless_free instr aim a aimed may (no_address is) = absurd (subst (λ r. IsReached r a) is aimed.reach)
+  harmless_free instr aim a aimed may (under_stack span is low high) =
       let within = subst (λ r. IsReached r a) is aimed.reach in
-      record {
-        dead = never (is_live m.memory a) (λ live. omega (arith, within.last, high, holds.above a live, holds.depth));
-        free = high_free instr a (omega (arith, within.first, low));
-      }
-  harmless_free instr aim a aimed (above_memory span is over) =
+      under_free instr a (omega (arith, within.first, low)) (omega (arith, within.last, high))
+  harmless_free instr aim a aimed may (above_memory span is over) =
       let within = subst (λ r. IsReached r a) is aimed.reach in
-      record {
-        dead = never (is_live m.memory a) (λ live. omega (arith, within.first, over, inside a live));
-        free = high_free instr a (omega (arith, within.first, over));
-      }
-  harmless_free instr aim a aimed (one_register b is low free) =
+      over_free instr a (omega (arith, within.first, over))
+  harmless_free instr aim a aimed may (one_register b is low free) =
       let within = subst (λ r. IsReached r a) is aimed.reach in
       let same = both_ends a b within.first within.last in
-      record {
-        dead = never (is_live m.memory a) (λ live. omega (arith, same, low, above_if_live m.memory.live a live));
-        free = subst (λ x. is_flagged_address words A k.pc instr x ≡ false) same free;
-      }
-  harmless_free instr aim a aimed (free_slot d is lt none) =
+      below_free instr a (omega (arith, same, low)) (subst (λ x. is_flagged_address words A k.pc instr x ≡ false) same free)
+  harmless_free instr aim a aimed may (each_address followed each) =
+      ⊎_elim (λ lt. address_free instr a (each a lt may)) (λ over. over_free instr a (omega (arith, over, top_small))) (cases_lt a 65536)
+  harmless_free instr aim a aimed may (free_slot d is lt none) =
       let at : a ≡ g.origin.base - d = omega (arith, aimed.slot d is, lt, holds.depth, sound.small, low_base, top_small) in
       record {
         dead = never (is_live m.memory a) (λ live. none (holds.running d lt (subst (λ x. is_live m.memory x ≡ true) at live)));
@@ -288,14 +314,14 @@ module _ (words : List ℕ) (A : List Entry) (f : Family) (sound : IsSound words
         (ap (λ b. b && not (is_fixed_site words A m.pc) && (is_protected a && not (lists (store_line A m.pc) a))) plain) stores pushes)
     sorted (by_aim a byte aim at aimed may stores pushes) = inr (record { address = a; byte = byte; aim = aim; at = at; aimed = aimed; may = may; stores = stores; pushes = pushes })
     sorted (pushing byte push plain closes closed stores pushes) =
-        let form = closes (row_unless_added words A k g.node.state instr here (sound.faultless g.node runs.present) (sound.formed g.node runs.present) plain).faultless in
+        let form = closes (row_of_pushing words A k g.node.state instr here (sound.faultless g.node runs.present) plain).faultless in
         inl
         (record {
           live = ap₂ (λ ss ps. live_write m.memory (ss ++ ps)) stores pushes ∙ one_write m.memory m.sp byte (sp_dead form);
           protected = nothing_protected words A instr m.pc effect stores;
         })
     sorted (enters back none plain closes closed stores pushes) =
-        let form = closes (row_unless_added words A k g.node.state instr here (sound.faultless g.node runs.present) (sound.formed g.node runs.present) plain).faultless in
+        let form = closes (row_of_pushing words A k g.node.state instr here (sound.faultless g.node runs.present) plain).faultless in
         inl
         (record {
           live = ap₂ (λ ss ps. live_write m.memory (ss ++ ps)) stores pushes ∙ two_writes m.memory m.sp back (sp_dead form) (below_dead form);
@@ -312,7 +338,7 @@ module _ (words : List ℕ) (A : List Entry) (f : Family) (sound : IsSound words
       where
         harmless : IsStore → IsSafe
         harmless w =
-            let free = harmless_free instr w.aim w.address w.aimed (clear.store instr w.aim here w.at) in
+            let free = harmless_free instr w.aim w.address w.aimed w.may (clear.store instr w.aim here w.at) in
             one_safe w.address w.byte free.dead (subst (λ p. is_flagged_address words A p instr w.address ≡ false) (sym runs.running.place.pc) free.free) w.stores w.pushes
 
     stands : (r : ℕ) → r < 32 → ByteStands g.origin (value g.node.state r) (register m r)
@@ -324,8 +350,9 @@ module _ (words : List ℕ) (A : List Entry) (f : Family) (sound : IsSound words
         let all = clear.transfer instr here indirect in
         subst (λ p. unless_listed (jump_line A p) (wrapped m.device (pair m 30 % WORDS)) ≡ None) (sym runs.running.place.pc)
         (subst (λ device. unless_listed (jump_line A k.pc) (wrapped device (pair m 30 % WORDS)) ≡ None) (sym runs.device)
-        (goes_listed (device_of words) g.node.state (jump_line A k.pc) (register m 30) (register m 31) all
-        (stands 30 (omega arith)).small (stands 31 (omega arith)).small (stands 30 (omega arith)).bits (stands 31 (omega arith)).bits))
+        (goes_listed (device_of words) g.node.state (jump_line A k.pc) (pair m 30) all
+        (omega (arith, (stands 30 (omega arith)).small, (stands 31 (omega arith)).small))
+        (pair_permitted m g.origin k g.node.state runs.running 30 (omega arith) refl)))
 
   module _ (clear : IsClear words A f g.node) (flag : Flag) where
     -- what goes to no indirect word isn't unlisted

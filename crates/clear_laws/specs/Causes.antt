@@ -1,37 +1,24 @@
 -- What may happen where a step may be flagged. Source: own.
-use Rattle.std.specs.Prelude.{ℕ, ◌+◌, ◌-◌, ◌≡◌, ◌⊎◌, ◌&&◌, ◌||◌, ◌==◌, Bool, true, false, not, List, Some, Contains}
+use Rattle.std.specs.Prelude.{ℕ, ◌-◌, ◌≡◌, ◌⊎◌, ◌&&◌, ◌||◌, Bool, true, not, List, Some, Contains}
 use Rattle.avr_model.specs.declared.assumption.Entry.{Entry}
 use Rattle.avr_model.specs.declared.choice.Flag.{Flag}
 use Rattle.avr_model.specs.declared.choice.Flag.TheVariants.{Live, Protected, Transfer}
 use Rattle.avr_model.specs.declared.device.Device.{Device}
 use Rattle.avr_model.specs.declared.instruction.Instr.{Instr}
-use Rattle.avr_model.specs.declared.instruction.Instr.TheVariants as i
 use Rattle.avr_model.specs.Bits.{any_below}
 use Rattle.avr_model.specs.Devices.{ramend, device_of}
-use Rattle.avr_model.specs.Sites.{instruction_at, base_register, pointer_register}
-use Rattle.avr_model.specs.State.{low, high, minus16}
+use Rattle.avr_model.specs.Sites.{instruction_at}
 use Rattle.avr_model.specs.Step.{is_indirect}
+use Rattle.pair_domain.specs.Facts.{is_followed}
 use Rattle.abs_state.specs.declared.state.AbsState.{AbsState}
 use Rattle.local_rules.specs.declared.local.Node.{Node}
-use Rattle.local_rules.specs.Registers.{value}
-use Rattle.local_rules.specs.Local.{step_before, may_be}
 use Rattle.edge_rules.specs.Families.{Family}
-use Rattle.clear_laws.specs.Clear.{IsClear, MayBeFlagged, is_flagged_address, is_transfer_listed}
+use Rattle.clear_laws.specs.Aims.{may_write}
+use Rattle.clear_laws.specs.Clear.{IsClear, is_flagged_address, is_transfer_listed}
 
 -- ---- the addresses of a store
 
--- bits and ranges permit that registers r and r + 1 hold this number
-abbrev pub permits_number : AbsState → ℕ → ℕ → Bool
-permits_number s r p = may_be (value s r) (low p) && may_be (value s (r + 1)) (high p)
-
--- the byte of a store may go to this address, below 65,536
-abbrev pub may_write : AbsState → Instr → ℕ → Bool
-may_write s (i.Std b q r) a = permits_number s (base_register b) (minus16 a q)
-may_write s (i.St p r) a = permits_number s (pointer_register p) (minus16 a (step_before p))
-may_write s (i.Sts x r) a = x == a
-may_write s _ a = false
-
--- and that is flagged: it is protected, the site isn't fixed, and no `store` line of the site lists it
+-- the byte of a store may go to this address, and that is flagged: it is protected, the site isn't fixed, and no `store` line of the site lists it
 abbrev pub may_write_protected : List ℕ → List Entry → ℕ → AbsState → Instr → ℕ → Bool
 may_write_protected words A pc s instr a = is_flagged_address words A pc instr a && may_write s instr a
 
@@ -43,11 +30,15 @@ may_write_some_protected words A pc s instr = any_below 256 (may_write_protected
 abbrev pub may_write_stack : Device → ℕ → AbsState → Instr → Bool
 may_write_stack device bound s instr = any_below bound (λ d. may_write s instr (ramend device - d))
 
--- A store that isn't harmless may write a pushed byte: it may go where the stack can reach. Where it may go neither there nor to an address that
--- is flagged as protected, its least and greatest address alone don't show that it is harmless, and nothing else is told of it.
+-- Where pairs aren't followed, the least and the greatest address alone may not show that a store is harmless, though it may go neither where
+-- the stack can reach nor to an address that is flagged as protected. Nothing else is told of such a store. Where pairs are followed there is
+-- none.
+abbrev pub is_untold : List ℕ → List Entry → ℕ → AbsState → Instr → Bool
+is_untold words A pc s instr = not (is_followed s.facts) && not (is_indirect instr || may_write_some_protected words A pc s instr)
+
+-- a store that isn't harmless may write a pushed byte: it may go where the stack can reach, or nothing else is told of it
 abbrev pub may_write_live : List ℕ → List Entry → ℕ → ℕ → AbsState → Instr → Bool
-may_write_live words A bound pc s instr =
-    may_write_stack (device_of words) bound s instr || not (is_indirect instr || may_write_some_protected words A pc s instr)
+may_write_live words A bound pc s instr = may_write_stack (device_of words) bound s instr || is_untold words A pc s instr
 
 -- ---- what may happen at a word
 

@@ -17,13 +17,15 @@ use Rattle.avr_model.specs.Step.{is_pointer_store, is_indirect}
 use Rattle.avr_model.specs.Run.{IsRun, stop_of}
 use Rattle.avr_model.specs.Vectors.{is_protected, is_enabled, vector_word}
 use Rattle.bit_domain.specs.TriByte.{has}
+use Rattle.pair_domain.specs.declared.facts.PairFacts.{PairFacts}
+use Rattle.pair_domain.specs.Facts.{is_followed}
 use Rattle.abs_state.specs.declared.state.AbsState.{AbsState}
 use Rattle.mask_states.specs.declared.keys.NodeKey.{NodeKey}
 use Rattle.mask_states.specs.Keys.{offset_of}
 use Rattle.local_rules.specs.declared.local.Node.{Node}
 use Rattle.local_rules.specs.Registers.{bits}
 use Rattle.edge_rules.specs.Families.{Family}
-use Rattle.clear_laws.specs.Aims.{Span, Reach, Aim, aim_of}
+use Rattle.clear_laws.specs.Aims.{Span, Reach, Aim, permits_number, may_write, aim_of}
 use Rattle.clear_laws.specs.Aims.reach as reach
 use Rattle.clear_laws.specs.Held.{MayHold}
 
@@ -34,8 +36,15 @@ abbrev pub is_flagged_address : List ℕ → List Entry → ℕ → Instr → �
 is_flagged_address words A pc instr a =
     is_pointer_store instr && not (is_fixed_site words A pc) && (is_protected a && not (lists (store_line A pc) a))
 
+-- The address is harmless: it lies in SRAM below what the stack can reach, or above SRAM, or below SRAM and isn't flagged.
+abbrev pub is_address_harmless : List ℕ → List Entry → ℕ → ℕ → Instr → ℕ → Bool
+is_address_harmless words A bound pc instr a =
+    (nat_lt BELOW a && nat_le (a + bound) (ramend (device_of words))) || nat_lt (ramend (device_of words)) a
+    || (nat_le a BELOW && not (is_flagged_address words A pc instr a))
+
 -- A store with this aim writes no live byte and no flagged address: there is no address; all lie in SRAM below what the stack can reach; all
--- lie above SRAM; there is one, below SRAM, that isn't flagged; or the address is a slot, below the offset, that may hold no live byte.
+-- lie above SRAM; there is one, below SRAM, that isn't flagged; or the address is a slot, below the offset, that may hold no live byte. Where
+-- pairs are followed it is also harmless where each address to which its byte may go is.
 pub data IsHarmless (words : List ℕ) (A : List Entry) (f : Family) (n : Node) (instr : Instr) (aim : Aim) : Type 0 where
   no_address : aim.reach ≡ reach.Nothing → IsHarmless words A f n instr aim
   under_stack : (span : Span) → aim.reach ≡ reach.Within span → BELOW < span.first → span.last + f.bound ≤ ramend (device_of words)
@@ -43,15 +52,21 @@ pub data IsHarmless (words : List ℕ) (A : List Entry) (f : Family) (n : Node) 
   above_memory : (span : Span) → aim.reach ≡ reach.Within span → ramend (device_of words) < span.first → IsHarmless words A f n instr aim
   one_register : (a : ℕ) → aim.reach ≡ reach.Within (record { first = a; last = a }) → a ≤ BELOW → is_flagged_address words A n.key.pc instr a ≡ false
       → IsHarmless words A f n instr aim
+  each_address : is_followed n.state.facts ≡ true
+      → ((a : ℕ) → a < 65536 → may_write n.state instr a ≡ true → is_address_harmless words A f.bound n.key.pc instr a ≡ true) → IsHarmless words A f n instr aim
   free_slot : (d : ℕ) → aim.slot ≡ Some d → d < offset_of n.key.sp → (MayHold words A f.nodes n.key d → ⊥) → IsHarmless words A f n instr aim
 
 -- ---- transfers
 
--- the bits of registers r and r + 1 permit this number
-abbrev pub permits_pair : AbsState → ℕ → ℕ → Bool
-permits_pair s r p = has (bits s r) (low p) && has (bits s (r + 1)) (high p)
+-- registers r and r + 1 may hold this number: by their bits alone, and where pairs are followed also by their ranges and their interval
+abbrev pub permits_by : Option PairFacts → AbsState → ℕ → ℕ → Bool
+permits_by None s r p = has (bits s r) (low p) && has (bits s (r + 1)) (high p)
+permits_by (Some f) s r p = permits_number s r p
 
--- each word that Z may give, by what its bits permit, is listed, where there is a line
+abbrev pub permits_pair : AbsState → ℕ → ℕ → Bool
+permits_pair s r p = permits_by s.facts s r p
+
+-- each word that Z may give is listed, where there is a line
 abbrev pub AreTargetsListed : Device → AbsState → Option (List ℕ) → Type 0
 AreTargetsListed device s None = ⊤
 AreTargetsListed device s (Some listed) = (z : ℕ) → z < 65536 → permits_pair s 30 z ≡ true → lists listed (wrapped device z) ≡ true
@@ -108,15 +123,20 @@ is_reach_harmless words A bound pc instr reach.Nothing = true
 is_reach_harmless words A bound pc instr (reach.Within span) = is_span_harmless words A bound pc instr span
 is_reach_harmless words A bound pc instr reach.Beyond = false
 
+-- pairs are followed, and each address to which the byte may go is harmless
+abbrev pub are_addresses_harmless : List ℕ → List Entry → ℕ → ℕ → AbsState → Instr → Bool
+are_addresses_harmless words A bound pc s instr =
+    is_followed s.facts && all_below 65536 (λ a. not (may_write s instr a) || is_address_harmless words A bound pc instr a)
+
 -- below an offset, where `held` tells the slots that may hold a live byte
 abbrev pub is_slot_harmless : ℕ → (ℕ → Bool) → Option ℕ → Bool
 is_slot_harmless offset held None = false
 is_slot_harmless offset held (Some d) = nat_lt d offset && not (held d)
 
-abbrev pub is_aim_harmless : List ℕ → List Entry → ℕ → NodeKey → Instr → (ℕ → Bool) → Option Aim → Bool
-is_aim_harmless words A bound k instr held None = true
-is_aim_harmless words A bound k instr held (Some aim) =
-    is_reach_harmless words A bound k.pc instr aim.reach || is_slot_harmless (offset_of k.sp) held aim.slot
+abbrev pub is_aim_harmless : List ℕ → List Entry → ℕ → NodeKey → AbsState → Instr → (ℕ → Bool) → Option Aim → Bool
+is_aim_harmless words A bound k s instr held None = true
+is_aim_harmless words A bound k s instr held (Some aim) =
+    (is_reach_harmless words A bound k.pc instr aim.reach || are_addresses_harmless words A bound k.pc s instr) || is_slot_harmless (offset_of k.sp) held aim.slot
 
 abbrev pub is_target_listed : Device → AbsState → List ℕ → ℕ → Bool
 is_target_listed device s listed z = not (permits_pair s 30 z) || lists listed (wrapped device z)
@@ -131,7 +151,7 @@ is_transfer_listed words A pc s instr = not (is_indirect instr) || are_targets_l
 abbrev pub is_clear_by : List ℕ → List Entry → ℕ → NodeKey → AbsState → (ℕ → Bool) → Option Instr → Bool
 is_clear_by words A bound k s held None = true
 is_clear_by words A bound k s held (Some instr) =
-    is_aim_harmless words A bound k instr held (aim_of (device_of words) k s instr) && is_transfer_listed words A k.pc s instr
+    is_aim_harmless words A bound k s instr held (aim_of (device_of words) k s instr) && is_transfer_listed words A k.pc s instr
 
 abbrev pub is_clear : List ℕ → List Entry → ℕ → Node → (ℕ → Bool) → Bool
 is_clear words A bound n held = is_clear_by words A bound n.key n.state held (instruction_at words n.key.pc)

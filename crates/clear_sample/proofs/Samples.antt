@@ -4,6 +4,7 @@ use Rattle.std.proofs.lemmas.Bool.{cases_eq}
 use Rattle.std.proofs.lemmas.List.{get_or-replicate, length-replicate}
 use Rattle.basics.specs.Items.{none_in, first_or_further, first_in}
 use Rattle.avr_model.specs.declared.instruction.Instr.TheVariants as i
+use Rattle.avr_model.specs.Assumptions.{has_pairs}
 use Rattle.avr_model.specs.Bits.{any_below, all_below}
 use Rattle.avr_model.specs.Devices.{size_of, device_of}
 use Rattle.avr_model.specs.Sites.{instruction_at, is_scratch, table_site, ijmp_from}
@@ -43,7 +44,7 @@ use Rattle.clear_laws.specs.Held.{MayHold, IsClosed, pushed, is_guarded_push}
 use Rattle.clear_laws.specs.declared.stores.Aim.{Aim}
 use Rattle.clear_laws.specs.declared.stores.Span.{Span}
 use Rattle.clear_laws.specs.declared.stores.Reach.TheVariants as reach
-use Rattle.clear_laws.specs.Clear.{is_clear, IsClear, IsHarmless, no_address, under_stack, above_memory, one_register, free_slot}
+use Rattle.clear_laws.specs.Clear.{is_clear, IsClear, IsHarmless, no_address, under_stack, above_memory, one_register, each_address, free_slot}
 use Rattle.clear_laws.proofs.AllLaws.{held_slots_are_least, clear_nodes_are_told}
 use Rattle.clear_sample.specs.Examples.{over_room, over_pushed, with_bytes, at_depth, room_family, pushed_family, clear_where_free, push_is_guarded}
 use Rattle.clear_sample.specs.Laws.{ClearnessIsMet}
@@ -184,6 +185,7 @@ enters_nothing n h way inst back =
     (no_entry (at_depth 4 2) refl (at_depth 4 2) loop_leads way inst back) n h
 
 room_is_sound : IsSound over_room [] room_family
+unfolding has_pairs
 room_is_sound =
     record {
       formed = four (λ n. IsNode n.key n.state) (node_at 0 0 (omega arith) (omega arith)) (node_at 2 1 (omega arith) (omega arith)) (node_at 2 2 (omega arith) (omega arith)) (node_at 2 4 (omega arith) (omega arith));
@@ -263,6 +265,7 @@ top_is (no_address is) = absurd (cc)
 top_is (under_stack span is low high) = omega (arith, high, ap (λ (s : Span). s.last) (last_of span is))
 top_is (above_memory span is over) = omega (arith, over, ap (λ (s : Span). s.first) (last_of span is))
 top_is (one_register a is low free) = omega (arith, low, ap (λ (s : Span). s.first) (last_of (record { first = a; last = a }) is))
+top_is (each_address followed each) = absurd (cc)
 top_is (free_slot d is lt none) = none (subst (MayHold over_pushed [] pushed_family.nodes (at_depth 2 2).key) (one_is d is) held_there)
   where
     one_is : (d : ℕ) → Some 1 ≡ Some d → 1 ≡ d

@@ -2,7 +2,7 @@
 
 ghost use Rattle.std.specs.Prelude.{◌≡◌};
 ghost use Rattle.local_rules.specs.Local as rows;
-ghost use Rattle.clear_laws.specs.Aims.{first_byte, last_byte, pair_span, raised, lowered, pointer_reach, slot_at_number, slot_aimed, aim_of, spanning};
+ghost use Rattle.clear_laws.specs.Aims.{first_byte, last_byte, pair_span, raised, lowered, pointer_reach, is_in_interval, permits_bytes, permits_number, slot_at_number, slot_aimed, aim_of, spanning};
 
 use abs_reads::pointers::{has, point, step_before};
 use abs_rows::registers::pair;
@@ -13,6 +13,8 @@ use avr_model::instruction::{Instr, LowRegister, Pointer};
 use clear_laws::stores::{Aim, Reach, Span};
 use local_rules::Pointed;
 use mask_states::{Kind, NodeKey};
+use pair_domain::Facts;
+use pair_told::told::interval_of;
 
 /// Whether the value may be this byte: its bits permit it, and it lies in the range.
 pub(crate) fn may_be(value: AbsByte, byte: u8) -> bool
@@ -114,6 +116,34 @@ fn pointer_reach(pointer: Pointer, state: &AbsState) -> Reach
         Pointer::MinusZ | Pointer::MinusY | Pointer::MinusX => lowered(span),
         Pointer::ZPlus | Pointer::YPlus | Pointer::X | Pointer::XPlus => raised(span, 0),
     }
+}
+
+/// Whether the bits and ranges of the registers permit this number.
+pub(crate) fn permits_bytes(state: &AbsState, r: LowRegister, number: u16) -> bool
+    ensures { result ≡ permits_bytes state.now r number }
+{
+    let (low, high) = pair(state, r);
+    may_be(low, (number % 256) as u8) && may_be(high, (number / 256) as u8)
+}
+
+// Whether the number lies in the interval of the registers, where pairs are followed.
+fn is_in_interval(facts: &Facts, r: LowRegister, number: u16) -> bool
+    ensures { result ≡ is_in_interval facts.now r number }
+{
+    match facts.get() {
+        None => true,
+        Some(facts) => {
+            let interval = interval_of(&facts, r.widened());
+            interval.low <= number && number <= interval.high
+        }
+    }
+}
+
+/// Whether the registers may hold this number, by bits and ranges, and where pairs are followed also by their interval.
+pub(crate) fn permits_number(state: &AbsState, r: LowRegister, number: u16) -> bool
+    ensures { result ≡ permits_number state.now r number }
+{
+    permits_bytes(state, r, number) && is_in_interval(&state.facts, r, number)
 }
 
 // The root's slot at an address, whose base is the last of SRAM.

@@ -2,26 +2,17 @@
 
 ghost use Rattle.std.specs.Prelude.{◌≡◌, ◌≤◌};
 ghost use Rattle.avr_model.specs.Devices.{device_of, size_of};
-ghost use Rattle.local_rules.specs.Local as rows;
-ghost use Rattle.clear_laws.specs.Causes.{permits_number, may_write, may_write_protected, may_write_some_protected, may_write_stack, may_write_live};
+ghost use Rattle.clear_laws.specs.Aims.{may_write};
+ghost use Rattle.clear_laws.specs.Causes.{may_write_protected, may_write_some_protected, may_write_stack, is_untold, may_write_live};
 
-use crate::aims::may_be;
+use crate::aims::permits_number;
 use crate::need::{is_flagged_address, is_indirect};
 use abs_reads::pointers::step_before;
-use abs_rows::registers::pair;
 use abs_rows::transfer::{base_register, pointer_register};
 use abs_state::AbsState;
-use avr_model::instruction::{Instr, LowRegister};
+use avr_model::instruction::Instr;
 use flash_image::Flash;
 use vector_table::Assumptions;
-
-// Whether bits and ranges permit that the registers hold this number.
-fn permits_number(state: &AbsState, r: LowRegister, number: u16) -> bool
-    ensures { result ≡ permits_number state.now r number }
-{
-    let (low, high) = pair(state, r);
-    may_be(low, (number % 256) as u8) && may_be(high, (number / 256) as u8)
-}
 
 // Whether a store's byte may go to this address.
 fn may_write(state: &AbsState, instr: &Instr, address: u16) -> bool
@@ -87,6 +78,20 @@ fn may_write_stack(flash: &Flash, bound: u16, state: &AbsState, instr: &Instr) -
     false
 }
 
+// Whether pairs aren't followed, and a store at this word may go neither where the stack can reach nor to a protected address.
+fn is_untold(
+    flash: &Flash,
+    assumptions: &Assumptions,
+    pc: u16,
+    state: &AbsState,
+    instr: &Instr,
+) -> bool
+    ensures { result ≡ is_untold flash.now assumptions.now pc state.now instr.now }
+{
+    !state.facts.is_followed()
+        && !(is_indirect(instr) || may_write_some_protected(flash, assumptions, pc, state, instr))
+}
+
 /// Whether a store at this word that isn't harmless may write a byte that was pushed, where the stack takes at most this many bytes.
 pub fn may_write_live(
     flash: &Flash,
@@ -99,6 +104,5 @@ pub fn may_write_live(
     requires { bound ≤ size_of (device_of flash.now) }
     ensures { result ≡ may_write_live flash.now assumptions.now bound pc state.now instr.now }
 {
-    may_write_stack(flash, bound, state, instr)
-        || !(is_indirect(instr) || may_write_some_protected(flash, assumptions, pc, state, instr))
+    may_write_stack(flash, bound, state, instr) || is_untold(flash, assumptions, pc, state, instr)
 }

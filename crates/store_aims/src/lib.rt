@@ -5,6 +5,7 @@
 pub mod aims;
 pub mod causes;
 pub mod need;
+mod numbers;
 
 pub use causes::{may_write_live, may_write_protected};
 pub use need::{Asks, asked_by, is_indirect};

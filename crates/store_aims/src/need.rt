@@ -5,16 +5,17 @@ ghost use Rattle.avr_model.specs.Assumptions as assumed;
 ghost use Rattle.avr_model.specs.Devices.{device_of, size_of};
 ghost use Rattle.avr_model.specs.Sites.{instruction_at};
 ghost use Rattle.avr_model.specs.Step as steps;
-ghost use Rattle.clear_laws.specs.Clear.{is_flagged_address, is_span_harmless, is_reach_harmless, is_slot_harmless, is_aim_harmless, is_target_listed, are_targets_listed, is_transfer_listed, is_clear_by};
+ghost use Rattle.clear_laws.specs.Clear.{is_flagged_address, is_address_harmless, is_span_harmless, is_reach_harmless, is_slot_harmless, is_aim_harmless, permits_pair, is_target_listed, are_targets_listed, is_transfer_listed, is_clear_by};
 ghost use Rattle.store_aims.specs.Needs.{meets};
 
-use crate::aims::aim;
+use crate::aims::{aim, permits_number};
+use crate::numbers::are_addresses_harmless;
 use abs_reads::pointers::has;
 use abs_rows::registers::pair;
 use abs_rows::transfer::base_register;
 use abs_state::AbsState;
 use avr_model::device::BELOW;
-use avr_model::instruction::{Base, Instr};
+use avr_model::instruction::{Base, Instr, LowRegister};
 use clear_laws::stores::{Aim, Reach, Span};
 use flash_image::Flash;
 use mask_states::NodeKey;
@@ -84,6 +85,24 @@ pub(crate) fn is_flagged_address(
     is_store && !fixed && (protected && !listed)
 }
 
+/// Whether a byte at this address isn't one that was pushed, and a write of it isn't flagged, where the stack takes at most this many bytes.
+pub(crate) fn is_address_harmless(
+    flash: &Flash,
+    assumptions: &Assumptions,
+    bound: u16,
+    pc: u16,
+    instr: &Instr,
+    address: u16,
+) -> bool
+    requires { bound ≤ size_of (device_of flash.now) }
+    ensures { result ≡ is_address_harmless flash.now assumptions.now bound pc instr.now address }
+{
+    let ramend = flash.device().ramend();
+    (BELOW < address && address <= ramend - bound)
+        || ramend < address
+        || (address <= BELOW && !is_flagged_address(flash, assumptions, pc, instr, address))
+}
+
 // Whether a store to one of these addresses writes neither a live byte nor a flagged address.
 fn is_span_harmless(
     flash: &Flash,
@@ -137,16 +156,19 @@ fn asks_of_aim(
     assumptions: &Assumptions,
     bound: u16,
     key: &NodeKey,
+    state: &AbsState,
     instr: &Instr,
     aim: Option<Aim>,
 ) -> Asks
     requires { bound ≤ size_of (device_of flash.now) }
-    ensures { (held : ℕ → Bool) → is_aim_harmless flash.now assumptions.now bound key.now instr.now held aim ≡ meets result held }
+    ensures { (held : ℕ → Bool) → is_aim_harmless flash.now assumptions.now bound key.now state.now instr.now held aim ≡ meets result held }
 {
     match aim {
         None => Asks::Nothing,
         Some(aim) => {
-            if is_reach_harmless(flash, assumptions, bound, key.pc, instr, aim.reach) {
+            if is_reach_harmless(flash, assumptions, bound, key.pc, instr, aim.reach)
+                || are_addresses_harmless(flash, assumptions, bound, key.pc, state, instr)
+            {
                 Asks::Nothing
             } else {
                 asks_of_slot(key.offset(), aim.slot)
@@ -155,12 +177,24 @@ fn asks_of_aim(
     }
 }
 
-// Whether a word is listed to which Z may lead with this number, if its bits permit that.
+// Whether the registers may hold this number: by their bits alone, and where pairs are followed also by their ranges and their interval.
+fn permits_pair(state: &AbsState, r: LowRegister, number: u16) -> bool
+    ensures { result ≡ permits_pair state.now r number }
+{
+    match state.facts.get() {
+        Some(_) => permits_number(state, r, number),
+        None => {
+            let (low, high) = pair(state, r);
+            has(low.bits, (number % 256) as u8) && has(high.bits, (number / 256) as u8)
+        }
+    }
+}
+
+// Whether a word is listed to which Z may lead with this number, if that is permitted.
 fn is_target_listed(flash: &Flash, state: &AbsState, listed: &[u16], z: u16) -> bool
     ensures { result ≡ is_target_listed (device_of flash.now) state.now listed.now z }
 {
-    let (low, high) = pair(state, base_register(Base::Z));
-    let permitted = has(low.bits, (z % 256) as u8) && has(high.bits, (z / 256) as u8);
+    let permitted = permits_pair(state, base_register(Base::Z), z);
     !permitted || lists(listed, flash.device().wrap(z))
 }
 
@@ -211,7 +245,7 @@ pub fn asked_by(
         Some(instr) => {
             let aim = aim(flash.device(), key, state, &instr);
             if is_transfer_listed(flash, assumptions, key.pc, state, &instr) {
-                asks_of_aim(flash, assumptions, bound, key, &instr, aim)
+                asks_of_aim(flash, assumptions, bound, key, state, &instr, aim)
             } else {
                 Asks::Never
             }

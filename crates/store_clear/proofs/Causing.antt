@@ -27,7 +27,7 @@ use Rattle.edge_laws.proofs.ExpansionLaws.{filled_or_missing}
 use Rattle.certificate.specs.Claims.{Claim}
 use Rattle.certificate.specs.Valid.{family_of}
 use Rattle.clear_laws.specs.Clear.{IsClear, MayBeFlagged, is_transfer_listed, is_flagged_address}
-use Rattle.clear_laws.specs.Causes.{may_write, may_write_protected, may_write_live, IsCause, MayWriteProtected, MayWriteLive, MayGoUnlisted}
+use Rattle.clear_laws.specs.Causes.{may_write_protected, may_write_live, IsCause, MayWriteProtected, MayWriteLive, MayGoUnlisted}
 use Rattle.clear_laws.proofs.AllLaws.{not_listed, unprotected}
 use Rattle.slot_reach.specs.Reach.{is_on}
 use Rattle.store_aims.specs.declared.need.Asks.{Asks}

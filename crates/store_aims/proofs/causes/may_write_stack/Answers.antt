@@ -1,6 +1,6 @@
 use Rattle.std.proofs.Common.{◌≡◌, ◌-◌, ap, sym, ◌∙◌}
 use Rattle.avr_model.specs.Devices.{ramend, device_of}
-use Rattle.clear_laws.specs.Causes.{may_write}
+use Rattle.clear_laws.specs.Aims.{may_write}
 use Rattle.clear_laws.proofs.AllLaws.{any_found}
 use Rattle.store_aims.proofs.Scans.{any_none, any_more}
 use Rattle.store_aims.proofs.causes.may_write_stack.Goals as goal

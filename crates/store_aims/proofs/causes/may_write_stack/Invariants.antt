@@ -1,7 +1,7 @@
 use Rattle.std.proofs.Common.{◌≡◌, ◌-◌, false}
 use Rattle.avr_model.specs.Bits.{any_below}
 use Rattle.avr_model.specs.Devices.{ramend, device_of}
-use Rattle.clear_laws.specs.Causes.{may_write}
+use Rattle.clear_laws.specs.Aims.{may_write}
 use Rattle.store_aims.proofs.causes.may_write_stack.Given as goal
 
 abbrev pub invariant-loop-depth : goal.invariant-loop-depth

@@ -1,11 +1,15 @@
-use Rattle.std.proofs.Common.{arith, subst}
-use Rattle.edge_rules.specs.Expansion.{IsFilled, IsMissing}
+use Rattle.std.proofs.Common.{List, arith, subst}
+use Rattle.avr_model.specs.declared.assumption.Entry.{Entry}
+use Rattle.avr_model.specs.Assumptions.{has_pairs}
+use Rattle.edge_rules.specs.Expansion.{AreSeeds, IsFilled, IsMissing}
 use Rattle.call_graph.specs.Expanding.{IsExpanded}
 use Rattle.store_clear.proofs.Told.{faultless_as}
 use Rattle.store_clear.proofs.telling.nodes_of.Goals as goal
 
 pub expand-requires-clause-seeds : goal.expand-requires-clause-seeds
-expand-requires-clause-seeds c = c.claims_are_seeds.ensures c.args.certificate.now c.nodes-nodes.ensures.kept
+expand-requires-clause-seeds c =
+    subst (λ (A : List Entry). AreSeeds (has_pairs A) c.args.certificate.now.nodes) c.requires.meets.assumptions
+    (c.claims_are_seeds.ensures c.args.certificate.now c.nodes-nodes.ensures.kept)
 
 pub expand-requires-clause-ascending : goal.expand-requires-clause-ascending
 expand-requires-clause-ascending c = c.nodes-nodes.ensures.kept.nodes_ascend
