@@ -1,9 +1,11 @@
 -- Lists of nodes that are given by their states or by earlier ones, as they grow.
-use Rattle.std.proofs.Common.{◌≡◌, refl, sym, ap, subst, ℕ, suc, ◌^◌, ◌<◌, ◌≤◌, ⊎_elim, [], ◌∷◌, ◌++◌, length, map, Some, None, slice_get, length-append, arith}
+use Rattle.std.proofs.Common.{◌≡◌, refl, sym, ap, subst, ℕ, suc, ◌^◌, ◌<◌, ◌≤◌, ⊎_elim, [], ◌∷◌, ◌++◌, false, List, length, map, Some, None, slice_get, length-append, arith}
 use Rattle.std.specs.List.{AllByRecursion}
 use Rattle.std.specs.List.Sorted.{IsStrictlySortedBy}
 use Rattle.std.specs.declared.cmp.Ordering.TheVariants.{Less}
 use Rattle.std.proofs.lemmas.Option.{none-some}
+use Rattle.avr_model.specs.declared.assumption.Entry.{Entry}
+use Rattle.avr_model.specs.Assumptions.{has_pairs}
 use Rattle.avr_model.specs.Image.{WORDS}
 use Rattle.avr_model.specs.State.{SIZE}
 use Rattle.abs_state.specs.declared.state.AbsState.{AbsState}
@@ -37,8 +39,8 @@ root_node k word masks closed unpicked = record {
 }
 
 module _ (xs : Seeds) (k : NodeKey) (f : NodeForm) where
-  pushed_seeds : AreSeeds xs → length xs < 65536 → ((s : AbsState) → f ≡ State s → IsNode k s) → ((m : ℕ) → f ≡ From m → m < length xs)
-      → AreSeeds (xs ++ (k, f) ∷ [])
+  pushed_seeds : AreSeeds false xs → length xs < 65536 → ((s : AbsState) → f ≡ State s → IsNode k s) → ((m : ℕ) → f ≡ From m → m < length xs)
+      → AreSeeds false (xs ++ (k, f) ∷ [])
   pushed_seeds seeds few own below = record {
     few = omega (arith, length-append xs ((k, f) ∷ []), few);
     own = λ at j s e. ⊎_elim (λ h. seeds.own at j s h)
@@ -67,18 +69,26 @@ state_is s t e = cc
 from_is : (m n : ℕ) → From m ≡ From n → m ≡ n
 from_is m n e = cc
 
-pub with_root : (xs : Seeds) (k : NodeKey) → AreSeeds xs → length xs < 65536 → k.pc < WORDS → k.masks < 2 ^ 25 → k.sp ≡ Closed 0 → k.pick ≡ None
-    → AreSeeds (xs ++ (k, State root) ∷ [])
+pub with_root : (xs : Seeds) (k : NodeKey) → AreSeeds false xs → length xs < 65536 → k.pc < WORDS → k.masks < 2 ^ 25 → k.sp ≡ Closed 0 → k.pick ≡ None
+    → AreSeeds false (xs ++ (k, State root) ∷ [])
 with_root xs k seeds few word masks closed unpicked =
     pushed_seeds xs k (State root) seeds few (λ s e. subst (IsNode k) (state_is root s e) (root_node k word masks closed unpicked)) (λ m e. absurd (cc))
 
-pub with_from : (xs : Seeds) (k : NodeKey) (m : ℕ) → AreSeeds xs → length xs < 65536 → m < length xs → AreSeeds (xs ++ (k, From m) ∷ [])
+pub with_from : (xs : Seeds) (k : NodeKey) (m : ℕ) → AreSeeds false xs → length xs < 65536 → m < length xs → AreSeeds false (xs ++ (k, From m) ∷ [])
 with_from xs k m seeds few lt =
     pushed_seeds xs k (From m) seeds few (λ s e. absurd (cc)) (λ n e. subst (λ x. x < length xs) (from_is m n e) lt)
 
-no_seeds : AreSeeds []
+no_seeds : AreSeeds false []
 no_seeds = record { few = omega arith; own = λ at k s e. absurd (none-some (k, State s) e); earlier = λ at m k e. absurd (none-some (k, From m) e) }
 
-pub none_given : AreSeeds [] × AreAscending []
+pub none_given : AreSeeds false [] × AreAscending []
 unfolding IsStrictlySortedBy
 none_given = (no_seeds, tt)
+
+-- without an assumption pairs aren't followed
+seeds_of_none : (xs : Seeds) → AreSeeds false xs → AreSeeds (has_pairs []) xs
+unfolding has_pairs
+seeds_of_none xs seeds = seeds
+
+pub seeds_under : (A : List Entry) (xs : Seeds) → A ≡ [] → AreSeeds false xs → AreSeeds (has_pairs A) xs
+seeds_under A xs is seeds = subst (λ (B : List Entry). AreSeeds (has_pairs B) xs) (sym is) (seeds_of_none xs seeds)

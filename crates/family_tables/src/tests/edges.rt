@@ -1,8 +1,11 @@
 //! Families of small firmwares, worked by hand: where their nodes lead, or why they don't.
 
-ghost use Rattle.std.specs.Prelude.{◌<◌, length};
+ghost use Rattle.std.specs.Prelude.{◌<◌, false, length};
+ghost use Rattle.edge_rules.specs.Expansion.{AreSeeds};
+ghost use Rattle.edge_laws.specs.Expansions.{AreAscending};
 
-use crate::tests::seeds::{Plan, seeds_of};
+use super::Wrong;
+use crate::tests::seeds::{Plan, SeedList, seeds_of};
 use avr_model::device::Device;
 use avr_model::listed::Listed;
 use call_graph::{Edge, EdgeKind, Expanded, Filled, Leaving, View, exits, expand, next, next_with};
@@ -10,7 +13,6 @@ use flash_image::Flash;
 use local_rules::NodeFault;
 use mask_states::Kind;
 use std::alloc::{AllocError, Global};
-use std::test::Fail;
 use vector_table::Assumptions;
 
 /// What is due: edges, by their kinds and the words where they land; the node's fault; or the least node without an expansion.
@@ -64,23 +66,44 @@ fn leads(
     }
 }
 
-fn is_row(alloc: Global, row: &Row) -> Result<bool, Fail> {
-    let whole = Flash::from_raw(alloc, row.1)?;
-    let flash = whole.narrow(row.0).map_err(|_| "words outside")?;
-    let Some(nodes) = seeds_of(alloc, row.2)? else {
-        return Ok(false);
-    };
-    let at = row.3;
+/// Whether the family of these nodes is so.
+fn is_family(
+    alloc: Global,
+    flash: &Flash,
+    nodes: &SeedList,
+    at: usize,
+    due: Due,
+) -> Result<bool, AllocError>
+    requires seeds { AreSeeds false nodes.now.items.items }
+    requires ascending { AreAscending nodes.now.items.items }
+{
     match (
-        row.4,
-        expand(alloc, &flash, &Assumptions::empty(alloc), &nodes)?,
+        due,
+        expand(alloc, flash, &Assumptions::empty(alloc), nodes)?,
     ) {
         (Due::Missing(due), Expanded::Missing(missing)) => Ok(missing == due),
         (due, Expanded::Whole(filled)) => {
             let is_there = at < filled.count() && filled.find(filled.key(at)) == Some(at);
-            Ok(is_there && leads(alloc, &flash, &filled, at, due)?)
+            Ok(is_there && leads(alloc, flash, &filled, at, due)?)
         }
         _ => Ok(false),
+    }
+}
+
+fn is_on(alloc: Global, flash: &Flash, row: &Row) -> Result<bool, AllocError> {
+    match seeds_of(alloc, row.2)? {
+        Some(nodes) => is_family(alloc, flash, &nodes, row.3, row.4),
+        None => Ok(false),
+    }
+}
+
+fn is_row(alloc: Global, row: &Row) -> Result<bool, AllocError> {
+    let Ok(whole) = Flash::from_raw(alloc, row.1) else {
+        return Ok(false);
+    };
+    match whole.narrow(row.0) {
+        Ok(flash) => is_on(alloc, &flash, row),
+        Err(_) => Ok(false),
     }
 }
 
@@ -172,10 +195,12 @@ static ROWS: [Row; 7] = [
     ),
 ];
 
-#[test]
-fn nodes_lead_where_it_is_worked_out(rt: HostRuntime) -> Result<(), Fail> {
+/// The first family whose node leads elsewhere. Want of memory is wrong too.
+pub fn wrong(alloc: Global) -> Wrong {
     for (at, row) in ROWS.iter().enumerate() {
-        assert!(rt; is_row(rt.alloc(), row)?, "row {at}");
+        if !matches!(is_row(alloc, row), Ok(true)) {
+            return Some(("edges", at));
+        }
     }
-    Ok(())
+    None
 }

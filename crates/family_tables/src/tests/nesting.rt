@@ -1,5 +1,6 @@
 //! Worked graphs: ranks, needs, chains and named instances as one finds them by hand.
 
+use super::Wrong;
 use avr_model::listed::Listed;
 use mask_states::{EdgeKind, InstKey, Kind};
 use nesting_bound::{ComposeFault, Entered, Graph, GraphInst, Link, Place, chain, compose};
@@ -297,10 +298,12 @@ static ROWS: [Row; 15] = [
     (&[(NONE, 0, &[], &[])], Wanted::Placeless),
 ];
 
-#[test]
-fn worked_graphs(rt: HostRuntime) -> Result<(), AllocError> {
+/// The first graph of which something else is made. Want of memory is wrong too.
+pub fn wrong(alloc: Global) -> Wrong {
     for (at, row) in ROWS.iter().enumerate() {
-        assert!(rt; is_row(rt.alloc(), row)?, "row {at}");
+        if !matches!(is_row(alloc, row), Ok(true)) {
+            return Some(("graph", at));
+        }
     }
-    Ok(())
+    None
 }

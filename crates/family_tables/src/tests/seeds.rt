@@ -1,6 +1,6 @@
 //! Families of small firmwares, node by node.
 
-ghost use Rattle.std.specs.Prelude.{ℕ, ◌≡◌, ◌<◌, length, slice_get, Some, None, IsTrue, IfOk, IfSome, OnOk};
+ghost use Rattle.std.specs.Prelude.{ℕ, ◌≡◌, ◌<◌, false, length, slice_get, Some, None, IsTrue, IfOk, IfSome, OnOk};
 ghost use Rattle.std.specs.declared.cmp.Ordering.TheVariants.{Less};
 ghost use Rattle.mask_states.specs.declared.keys.NodeKey as node_key;
 ghost use Rattle.mask_states.specs.declared.keys.SpForm.TheVariants.{Closed};
@@ -101,9 +101,9 @@ fn add_own(
 ) -> Result<bool, AllocError>
     requires closed { key.sp ≡ Closed 0 }
     requires unpicked { key.pick ≡ None }
-    requires seeds { AreSeeds items.old.items }
+    requires seeds { AreSeeds false items.old.items }
     requires ascending { AreAscending items.old.items }
-    ensures seeds { OnOk result (AreSeeds items.new.items) }
+    ensures seeds { OnOk result (AreSeeds false items.new.items) }
     ensures ascending { OnOk result (AreAscending items.new.items) }
 {
     let _ = key.masks.bits();
@@ -120,9 +120,9 @@ fn add_from(
     key: NodeKey,
     from: u32,
 ) -> Result<bool, AllocError>
-    requires seeds { AreSeeds items.old.items }
+    requires seeds { AreSeeds false items.old.items }
     requires ascending { AreAscending items.old.items }
-    ensures seeds { OnOk result (AreSeeds items.new.items) }
+    ensures seeds { OnOk result (AreSeeds false items.new.items) }
     ensures ascending { OnOk result (AreAscending items.new.items) }
 {
     if from as usize >= items.len() || !may_follow(items, &key) {
@@ -134,9 +134,9 @@ fn add_from(
 
 /// One node more, if it may follow.
 fn add(alloc: Global, items: &mut Vec<(NodeKey, NodeForm)>, plan: &Plan) -> Result<bool, AllocError>
-    requires seeds { AreSeeds items.old.items }
+    requires seeds { AreSeeds false items.old.items }
     requires ascending { AreAscending items.old.items }
-    ensures seeds { OnOk result (AreSeeds items.new.items) }
+    ensures seeds { OnOk result (AreSeeds false items.new.items) }
     ensures ascending { OnOk result (AreAscending items.new.items) }
 {
     match plan.4 {
@@ -147,7 +147,7 @@ fn add(alloc: Global, items: &mut Vec<(NodeKey, NodeForm)>, plan: &Plan) -> Resu
 
 /// The nodes, if they may stand in this order.
 pub(crate) fn seeds_of(alloc: Global, plans: &[Plan]) -> Result<Option<SeedList>, AllocError>
-    ensures { IfOk result (λ found. IfSome found (λ s. AreSeeds s.items.items × AreAscending s.items.items)) }
+    ensures { IfOk result (λ found. IfSome found (λ s. AreSeeds false s.items.items × AreAscending s.items.items)) }
 {
     let mut items = Vec::new(alloc);
     for at in 0..plans.len() {

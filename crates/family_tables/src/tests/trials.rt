@@ -1,10 +1,10 @@
 //! Trials of small firmwares.
 
+use super::Wrong;
 use avr_machine::{Masks, Stop};
 use avr_model::device::Device;
 use flash_image::Flash;
-use std::alloc::Global;
-use std::test::Fail;
+use std::alloc::{AllocError, Global};
 use vector_table::Assumptions;
 use witness_replay::{ReplayReport, replay};
 use witness_search::{Waypoint, first_trial};
@@ -34,18 +34,20 @@ static ROWS: [Row; 5] = [
     ([E, E, E, E, E, E, E], 0, 1, None),
 ];
 
-/// Flash that begins with these words, and is erased from there on.
-fn flash_of(alloc: Global, words: &[u16]) -> Result<Flash, Fail> {
+/// The bytes of these words.
+fn bytes_of(alloc: Global, words: &[u16]) -> Result<Vec<u8>, AllocError> {
     let mut bytes = Vec::new(alloc);
     for word in words {
         bytes.extend_from_slice(&word.to_le_bytes())?;
     }
-    Ok(Flash::from_raw(alloc, &bytes)?)
+    Ok(bytes)
 }
 
-fn is_row(alloc: Global, row: &Row) -> Result<bool, Fail> {
+fn is_row(alloc: Global, row: &Row) -> Result<bool, AllocError> {
     let (words, depth, bound, due) = row;
-    let flash = flash_of(alloc, words)?;
+    let Ok(flash) = Flash::from_raw(alloc, &bytes_of(alloc, words)?) else {
+        return Ok(false);
+    };
     let assumptions = Assumptions::empty(alloc);
     let points = [Waypoint {
         pc: 7,
@@ -55,26 +57,30 @@ fn is_row(alloc: Global, row: &Row) -> Result<bool, Fail> {
         vector: 2,
         clears: false,
     }];
-    let found = first_trial(alloc, &flash, &assumptions, &points, *bound)?;
-    let Some(schedule) = found else {
-        return Ok(due.is_none());
-    };
-    let report = ReplayReport {
-        steps: due.map_or(0, |(_, steps)| steps),
-        depth: *bound,
-        stop: Stop::End,
-    };
-    Ok(
-        due.map(|(fill, _)| fill) == Some(schedule.fill())
-            && replay(&flash, &assumptions, &schedule) == Ok(report),
-    )
+    match (
+        first_trial(alloc, &flash, &assumptions, &points, *bound)?,
+        due,
+    ) {
+        (Some(schedule), Some((fill, steps))) => {
+            let report = ReplayReport {
+                steps: *steps,
+                depth: *bound,
+                stop: Stop::End,
+            };
+            let replayed = replay(&flash, &assumptions, &schedule);
+            Ok(schedule.fill() == *fill && replayed == Ok(report))
+        }
+        (None, None) => Ok(true),
+        _ => Ok(false),
+    }
 }
 
-#[test]
-fn the_first_trial_that_reaches_the_bound_is_found(rt: HostRuntime) -> Result<(), Fail> {
-    let alloc = rt.alloc();
+/// The first firmware for which another trial, or none, is found. Want of memory is wrong too.
+pub fn wrong(alloc: Global) -> Wrong {
     for (at, row) in ROWS.iter().enumerate() {
-        assert!(rt; is_row(alloc, row)?, "row {at}");
+        if !matches!(is_row(alloc, row), Ok(true)) {
+            return Some(("trial", at));
+        }
     }
-    Ok(())
+    None
 }

@@ -1,5 +1,6 @@
 //! Texts of devices. Those that are refused, and the runs that devices choose, stand in tests/end_to_end.
 
+use super::Wrong;
 use device_hooks::{Devices, DevicesFault};
 use std::alloc::Global;
 
@@ -19,11 +20,12 @@ fn found(alloc: Global, text: &[u8]) -> Result<usize, DevicesFault> {
     Ok(devices.count())
 }
 
-#[test]
-fn sources_of_a_text_are_counted(rt: HostRuntime) -> Result<(), DevicesFault> {
-    let alloc = rt.alloc();
+/// The first text with another number of sources. Want of memory is wrong too.
+pub fn wrong(alloc: Global) -> Wrong {
     for (at, (text, due)) in TEXTS.iter().enumerate() {
-        assert!(rt; found(alloc, text)? == *due, "row {at}");
+        if found(alloc, text).ok() != Some(*due) {
+            return Some(("devices", at));
+        }
     }
-    Ok(())
+    None
 }

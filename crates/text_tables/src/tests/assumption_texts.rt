@@ -1,10 +1,10 @@
 //! Texts with the answers that the rules give, worked out by hand, written lists, and targets.
 
+use super::Wrong;
 use bit_domain::TriByte;
 use indirect_targets::{AssumeText, entry_of, read, targets, write};
 use sb_base::LineWriter;
-use std::alloc::Global;
-use std::test::Fail;
+use std::alloc::{AllocError, Global};
 
 /// Each text with its number of entries, or the line at which it is refused and why.
 const TEXTS: [(&[u8], Result<usize, AssumeText>); 54] = [
@@ -83,80 +83,81 @@ const TEXTS: [(&[u8], Result<usize, AssumeText>); 54] = [
 ];
 
 /// How many entries the text has, after they were written as they were read; or the answer that refuses it.
-fn read_and_write(alloc: Global, text: &[u8]) -> Result<Result<usize, AssumeText>, Fail> {
-    match read(alloc, text) {
-        Ok(list) => {
-            let mut out = LineWriter::new(alloc);
-            write(&list, &mut out)?;
-            let written = out.finish();
-            if written.as_slice() == text {
-                Ok(Ok(list.entries().len()))
-            } else {
-                Ok(Err(AssumeText::Memory))
-            }
-        }
-        Err(fault) => Ok(Err(fault)),
-    }
-}
-
-#[test]
-fn texts_are_read_and_written_or_refused_at_their_line(rt: HostRuntime) -> Result<(), Fail> {
-    for (at, (text, answer)) in TEXTS.iter().enumerate() {
-        assert!(rt; read_and_write(rt.alloc(), text)? == *answer, "row {at}");
-    }
-    Ok(())
-}
-
-#[test]
-fn an_entry_has_at_most_64_items(rt: HostRuntime) -> Result<(), Fail> {
-    let mut line = LineWriter::new(rt.alloc());
-    line.word(b"jump")?;
-    line.hex(0x0004, 4)?;
-    for item in 0..64 {
-        line.hex(item, 4)?;
-    }
-    line.end_line()?;
-    let mut text = line.finish();
-    let most = read_and_write(rt.alloc(), &text)?;
-    text.pop();
-    text.extend_from_slice(b" 0040\n")?;
-    let more = read_and_write(rt.alloc(), &text)?;
-    assert!(rt; [most, more] == [Ok(1), Err(AssumeText::Malformed(1))]);
-    Ok(())
-}
-
-/// The answer to the lines `prove 0000`, `prove 0001`, and on to the 4,096th, with more behind them.
-fn behind_proofs(alloc: Global, more: &[u8]) -> Result<Result<usize, AssumeText>, Fail> {
+fn read_and_write(alloc: Global, text: &[u8]) -> Result<usize, AssumeText> {
+    let list = read(alloc, text)?;
     let mut out = LineWriter::new(alloc);
+    let is_written = write(&list, &mut out).is_ok();
+    let again = out.finish();
+    if is_written && again.as_slice() == text {
+        Ok(list.entries().len())
+    } else {
+        Err(AssumeText::Memory)
+    }
+}
+
+/// Writes a line of 63 items with these behind them.
+fn write_jump(out: &mut LineWriter, more: &[u8]) -> Result<(), AllocError> {
+    out.word(b"jump")?;
+    out.hex(0x0004, 4)?;
+    for item in 0..63 {
+        out.hex(item, 4)?;
+    }
+    out.word(more)?;
+    out.end_line()
+}
+
+/// The answer to such a line.
+fn with_items(alloc: Global, more: &[u8]) -> Result<usize, AssumeText> {
+    let mut out = LineWriter::new(alloc);
+    match write_jump(&mut out, more) {
+        Ok(()) => read_and_write(alloc, &out.finish()),
+        Err(_) => Err(AssumeText::Memory),
+    }
+}
+
+/// Writes the lines `prove 0000`, `prove 0001`, and on to the 4,096th.
+fn write_proofs(out: &mut LineWriter) -> Result<(), AllocError> {
     for site in 0..4_096 {
         out.word(b"prove")?;
         out.hex(site, 4)?;
         out.end_line()?;
     }
+    Ok(())
+}
+
+/// The answer to these lines, with more behind them.
+fn behind_proofs(alloc: Global, more: &[u8]) -> Result<usize, AssumeText> {
+    let mut out = LineWriter::new(alloc);
+    let written = write_proofs(&mut out).is_ok();
     let mut text = out.finish();
-    text.extend_from_slice(more)?;
+    if !written || text.extend_from_slice(more).is_err() {
+        return Err(AssumeText::Memory);
+    }
     read_and_write(alloc, &text)
 }
 
-#[test]
-fn line_4097_is_malformed_whatever_it_is(rt: HostRuntime) -> Result<(), Fail> {
-    let due = Err(AssumeText::Malformed(4_097));
-    let answers = [
-        behind_proofs(rt.alloc(), b"")?,
-        behind_proofs(rt.alloc(), b"prove 1000\n")?,
-        behind_proofs(rt.alloc(), b"prove 0000\n")?,
-        behind_proofs(rt.alloc(), b"x")?,
-    ];
-    assert!(rt; answers == [Ok(4_096), due, due, due]);
-    Ok(())
-}
+/// What stands behind 4,096 lines, of which line 4,097 is malformed whatever it is.
+const BEHIND: [(&[u8], Result<usize, AssumeText>); 4] = [
+    (b"", Ok(4_096)),
+    (b"prove 1000\n", Err(AssumeText::Malformed(4_097))),
+    (b"prove 0000\n", Err(AssumeText::Malformed(4_097))),
+    (b"x", Err(AssumeText::Malformed(4_097))),
+];
 
-#[test]
-fn a_line_alone_is_read_without_its_line_feed(rt: HostRuntime) -> Result<(), Fail> {
-    let alone = entry_of(rt.alloc(), b"jump 0004 0005")?;
-    let ended = entry_of(rt.alloc(), b"jump 0004 0005\n")?;
-    assert!(rt; alone.is_some() && ended.is_none());
-    Ok(())
+/// What stands behind 63 items of an entry, which has at most 64.
+const ITEMS: [(&[u8], Result<usize, AssumeText>); 2] = [
+    (b"003F", Ok(1)),
+    (b"003F 0040", Err(AssumeText::Malformed(1))),
+];
+
+/// Lines alone, and whether each is one, which is so without its line feed.
+const ALONE: [(&[u8], bool); 2] = [(b"jump 0004 0005", true), (b"jump 0004 0005\n", false)];
+
+fn is_alone(alloc: Global, line: &[u8], due: bool) -> bool {
+    match entry_of(alloc, line) {
+        Ok(entry) => entry.is_some() == due,
+        Err(_) => false,
+    }
 }
 
 /// Known bits and values of the low and the high byte, and the words; none where they are too many.
@@ -198,19 +199,54 @@ fn are_due(low: TriByte, high: TriByte, due: Option<&[u16]>) -> bool {
     }
 }
 
-#[test]
-fn targets_are_the_words_of_all_members(rt: HostRuntime) {
-    for (low_known, low, high_known, high, due) in TARGETS {
-        let low = TriByte::new(low_known, low);
-        let high = TriByte::new(high_known, high);
-        assert!(rt; are_due(low, high, due), "{low_known} {high_known}");
+/// Whether six unknown bits give 64 targets.
+fn are_sixty_four() -> bool {
+    match targets(&TriByte::new(0xC0, 0x40), &TriByte::of(0x01)) {
+        Ok(targets) => {
+            let words = targets.as_slice();
+            words.len() == 64 && (words[0], words[63]) == (0x0140, 0x017F)
+        }
+        Err(_) => false,
     }
 }
 
-#[test]
-fn six_unknown_bits_give_64_targets(rt: HostRuntime) -> Result<(), Fail> {
-    let targets = targets(&TriByte::new(0xC0, 0x40), &TriByte::of(0x01))?;
-    let words = targets.as_slice();
-    assert!(rt; words.len() == 64 && (words[0], words[63]) == (0x0140, 0x017F));
-    Ok(())
+/// The first text that has another answer. Want of memory is wrong too.
+pub fn wrong(alloc: Global) -> Wrong {
+    for (at, (text, answer)) in TEXTS.iter().enumerate() {
+        if read_and_write(alloc, text) != *answer {
+            return Some(("assumptions", at));
+        }
+    }
+    for (at, (more, answer)) in ITEMS.iter().enumerate() {
+        if with_items(alloc, more) != *answer {
+            return Some(("items", at));
+        }
+    }
+    for (at, (more, answer)) in BEHIND.iter().enumerate() {
+        if behind_proofs(alloc, more) != *answer {
+            return Some(("line 4,097", at));
+        }
+    }
+    for (at, &(line, due)) in ALONE.iter().enumerate() {
+        if !is_alone(alloc, line, due) {
+            return Some(("line alone", at));
+        }
+    }
+    None
+}
+
+/// The first value whose targets are others.
+pub fn wrong_targets() -> Wrong {
+    for (at, &(low_known, low, high_known, high, due)) in TARGETS.iter().enumerate() {
+        let low = TriByte::new(low_known, low);
+        let high = TriByte::new(high_known, high);
+        if !are_due(low, high, due) {
+            return Some(("targets", at));
+        }
+    }
+    if are_sixty_four() {
+        None
+    } else {
+        Some(("64 targets", 0))
+    }
 }

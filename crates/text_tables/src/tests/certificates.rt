@@ -1,13 +1,13 @@
 //! A certificate of the first version with each kind of line, which is written as it was read. Small damages to it stand in
 //! tests/end_to_end, with the places at which they are refused.
 
+use super::Wrong;
 use cert_format::{CertFault, Certificate, Limit, read, write};
 use edge_rules::NodeForm;
 use mask_states::Kind;
 use sb_base::LineWriter;
 use sp_domain::{CarryTag, Slot, Tag};
 use std::alloc::{AllocError, Global};
-use std::test::Fail;
 
 /// A piece of a text: what stands before, between and behind so many equal words.
 pub(crate) type Piece = (&'static [u8], &'static [u8], usize, &'static [u8]);
@@ -55,23 +55,28 @@ fn append(text: &mut Vec<u8>, piece: &Piece) -> Result<(), AllocError> {
     Ok(())
 }
 
-/// All pieces, with another one in one place, and where one of them begins.
-pub(crate) fn joined(
+/// All pieces.
+fn joined(alloc: Global, pieces: &[Piece; 18]) -> Result<Vec<u8>, AllocError> {
+    let mut text = Vec::new(alloc);
+    for piece in pieces {
+        append(&mut text, piece)?;
+    }
+    Ok(text)
+}
+
+/// The certificate of these pieces, and whether it is written as it was read.
+pub(crate) fn written_again(
     alloc: Global,
     pieces: &[Piece; 18],
-    place: usize,
-    other: &Piece,
-    wanted: usize,
-) -> Result<(Vec<u8>, usize), AllocError> {
-    let mut text = Vec::new(alloc);
-    let mut begin = 0;
-    for (at, piece) in pieces.iter().enumerate() {
-        if at == wanted {
-            begin = text.len();
-        }
-        append(&mut text, if at == place { other } else { piece })?;
+) -> Result<(Certificate, bool), CertFault> {
+    let Ok(text) = joined(alloc, pieces) else {
+        return Err(CertFault::Memory);
+    };
+    let certificate = read(alloc, &text)?;
+    match write(alloc, &certificate) {
+        Ok(again) => Ok((certificate, again.as_slice() == text.as_slice())),
+        Err(_) => Err(CertFault::Memory),
     }
-    Ok((text, begin))
 }
 
 /// Whether some of its values are those that the words of the certificate with each kind of line stand for.
@@ -94,17 +99,6 @@ fn has_its_values(certificate: &Certificate) -> Option<bool> {
     Some(keys && value && behind)
 }
 
-#[test]
-fn what_is_read_is_written_again(rt: HostRuntime) -> Result<(), Fail> {
-    let alloc = rt.alloc();
-    let (text, _) = joined(alloc, &PIECES, 0, &PIECES[0], 0)?;
-    let certificate = read(alloc, &text)?;
-    let has_values = has_its_values(&certificate) == Some(true);
-    let again = write(alloc, &certificate)?;
-    assert!(rt; has_values && again.as_slice() == text.as_slice());
-    Ok(())
-}
-
 /// Appends the line of a node of the root at this word, with a stack pointer and `from 0`.
 fn append_node(out: &mut LineWriter, word: u16, sp: &[u8]) -> Result<(), AllocError> {
     out.word(b"node 0")?;
@@ -115,9 +109,8 @@ fn append_node(out: &mut LineWriter, word: u16, sp: &[u8]) -> Result<(), AllocEr
     out.end_line()
 }
 
-/// A certificate whose nodes have 8,388,607 cells and those of the nodes of one cell each.
-fn with_cells(alloc: Global, more: u16) -> Result<Vec<u8>, AllocError> {
-    let mut out = LineWriter::new(alloc);
+/// Writes a certificate whose nodes have 8,388,607 cells and those of the nodes of one cell each.
+fn write_cells(out: &mut LineWriter, more: u16) -> Result<(), AllocError> {
     out.word(
         b"stackcert 1\nbound 0\nassume 0\ninstances 1\ninst root 0000 0000000 0 rank 0 need 0\nnodes",
     )?;
@@ -130,24 +123,38 @@ fn with_cells(alloc: Global, more: u16) -> Result<Vec<u8>, AllocError> {
     out.word(b"-7F00 -")?;
     out.end_line()?;
     for word in 1..4095 {
-        append_node(&mut out, word, b"c2048")?;
+        append_node(out, word, b"c2048")?;
     }
     for word in 0..more {
-        append_node(&mut out, word.wrapping_add(4095), b"c0")?;
+        append_node(out, word.wrapping_add(4095), b"c0")?;
     }
     out.word(b"witness open\nend")?;
-    out.end_line()?;
-    Ok(out.finish())
+    out.end_line()
 }
 
-#[test]
-fn each_node_counts_its_cells(rt: HostRuntime) -> Result<(), Fail> {
-    let alloc = rt.alloc();
-    let most = read(alloc, &with_cells(alloc, 1)?).is_ok();
-    let over = read(alloc, &with_cells(alloc, 2)?).err();
-    assert!(rt;
-        most && over == Some(CertFault::Limit(Limit::Cells)),
-        "cells"
-    );
-    Ok(())
+/// Why such a certificate is refused, if it is.
+fn refusal(alloc: Global, more: u16) -> Option<CertFault> {
+    let mut out = LineWriter::new(alloc);
+    match write_cells(&mut out, more) {
+        Ok(()) => read(alloc, &out.finish()).err(),
+        Err(_) => Some(CertFault::Memory),
+    }
+}
+
+/// The first certificate that is read or written otherwise. Want of memory is wrong too.
+pub fn wrong(alloc: Global) -> Wrong {
+    let first = match written_again(alloc, &PIECES) {
+        Ok((certificate, same)) => same && has_its_values(&certificate) == Some(true),
+        Err(_) => false,
+    };
+    if !first {
+        return Some(("first version", 0));
+    }
+    let most = refusal(alloc, 1).is_none();
+    let over = refusal(alloc, 2) == Some(CertFault::Limit(Limit::Cells));
+    if most && over {
+        None
+    } else {
+        Some(("cells", 0))
+    }
 }

@@ -1,9 +1,9 @@
 //! Texts and the places at which they are refused. Offsets are counted by hand. Replays stand in tests/end_to_end.
 
+use super::Wrong;
 use avr_model::choice::Choice;
 use sb_base::{LineReader, LineWriter};
-use std::alloc::Global;
-use std::test::Fail;
+use std::alloc::{AllocError, Global};
 use witness_replay::{Schedule, ScheduleFault};
 
 /// Each text with the place behind its schedule, or the offset of the refused line.
@@ -87,32 +87,48 @@ fn is_due(alloc: Global, text: &[u8], answer: Result<usize, usize>) -> Result<bo
     Ok(found == answer && place == due && same)
 }
 
-#[test]
-fn texts_are_read_and_written_or_refused_at_their_line(rt: HostRuntime) -> Result<(), Fail> {
-    for (at, (text, answer)) in TEXTS.iter().enumerate() {
-        assert!(rt; is_due(rt.alloc(), text, *answer)?, "row {at}");
-    }
-    Ok(())
-}
-
-#[test]
-fn a_schedule_within_a_text_is_told_by_offsets_of_the_whole(rt: HostRuntime) {
+/// Whether a schedule within a text is told by offsets of the whole.
+fn is_within(alloc: Global) -> bool {
     let mut reader = LineReader::new(b"first\nschedule 1\nfill 7F\ngo 0 00 00\nend\n");
     reader.next();
-    let answer = Schedule::read(rt.alloc(), &mut reader);
-    assert!(rt; answer.err() == Some(ScheduleFault::Malformed(25)) && reader.offset() == 25);
+    let answer = Schedule::read(alloc, &mut reader);
+    answer.err() == Some(ScheduleFault::Malformed(25)) && reader.offset() == 25
 }
 
-#[test]
-fn equal_choices_in_a_row_are_one_run(rt: HostRuntime) -> Result<(), Fail> {
-    let low = Choice::Go(0, 0);
-    let high = Choice::Go(0, 1);
-    let taken = Choice::Take(26, true);
-    let choices = [low, low, high, taken, taken, high, high];
-    let mut out = LineWriter::new(rt.alloc());
-    Schedule::from_trace(rt.alloc(), 0x5A, &choices)?.write(&mut out)?;
-    let text =
-        b"schedule 1\nfill 5A\ngo 2 00 00\ngo 1 00 01\ntake 26 1\ntake 26 1\ngo 2 00 01\nend\n";
-    assert!(rt; out.finish().as_slice() == text.as_slice());
-    Ok(())
+/// Equal choices in a row, which are one run.
+const CHOICES: [Choice; 7] = [
+    Choice::Go(0, 0),
+    Choice::Go(0, 0),
+    Choice::Go(0, 1),
+    Choice::Take(26, true),
+    Choice::Take(26, true),
+    Choice::Go(0, 1),
+    Choice::Go(0, 1),
+];
+
+const RUNS: &[u8] =
+    b"schedule 1\nfill 5A\ngo 2 00 00\ngo 1 00 01\ntake 26 1\ntake 26 1\ngo 2 00 01\nend\n";
+
+fn are_runs(alloc: Global) -> Result<bool, AllocError> {
+    let schedule = Schedule::from_trace(alloc, 0x5A, &CHOICES)?;
+    let mut out = LineWriter::new(alloc);
+    let written = schedule.write(&mut out).is_ok();
+    Ok(written && out.finish().as_slice() == RUNS)
+}
+
+/// The first text that has another answer. Want of memory is wrong too.
+pub fn wrong(alloc: Global) -> Wrong {
+    for (at, (text, answer)) in TEXTS.iter().enumerate() {
+        if !matches!(is_due(alloc, text, *answer), Ok(true)) {
+            return Some(("schedule", at));
+        }
+    }
+    if !is_within(alloc) {
+        return Some(("schedule within a text", 0));
+    }
+    if matches!(are_runs(alloc), Ok(true)) {
+        None
+    } else {
+        Some(("runs", 0))
+    }
 }

@@ -1,10 +1,13 @@
-//! A certificate of the second version with each kind of word that the first hasn't. Small damages to it stand in tests/end_to_end.
+//! A certificate of the second version with each kind of word that the first hasn't, and one of the third with each kind that the second
+//! hasn't. Small damages to them stand in tests/end_to_end.
 
-use crate::tests::certificates::{Piece, joined};
-use cert_format::{Certificate, read, write};
+use super::Wrong;
+use crate::tests::certificates::{Piece, written_again};
+use cert_format::Certificate;
 use edge_rules::NodeForm;
+use pair_domain::{CompareTag, Side, SumTag, ZeroTag};
 use sp_domain::CarryTag;
-use std::test::Fail;
+use std::alloc::Global;
 
 /// A certificate with lines of each kind, ranges, carry tags of each kind, picks, and a vector of one word.
 static PIECES: [Piece; 18] = [
@@ -53,6 +56,43 @@ static PIECES: [Piece; 18] = [
     (b"", b"", 0, b""),
 ];
 
+/// A certificate with the line `pairs`, and what can be known of pairs in each kind.
+static PAIRS: [Piece; 18] = [
+    (b"stackcert 3\n", b"", 0, b""),
+    (b"bound 4\n", b"", 0, b""),
+    (b"assume 2\n", b"", 0, b""),
+    (b"pairs\n", b"", 0, b""),
+    (b"prove 0004\n", b"", 0, b""),
+    (b"instances 2\n", b"", 0, b""),
+    (b"inst root 0000 0000000 0 rank 2 need 4\n", b"", 0, b""),
+    (b"inst call 0010 0000001 1 rank 1 need 3\n", b"", 0, b""),
+    (b"nodes 4\n", b"", 0, b""),
+    (
+        b"node 0 0000 0000000 0 0 c0 -",
+        b" -000000FF",
+        32,
+        b" -7F00 - - - - -\n",
+    ),
+    (b"node 0 0000 0000000 0 0 c0 00 from 0\n", b"", 0, b""),
+    (
+        b"node 0 0002 0000000 0 1 o2,k08 3F",
+        b" -000000FF",
+        32,
+        b" -7F00 c1F80 u180010000120 18k0519 p1E 000001FFFE1E00050123 -0F050606 .\n",
+    ),
+    (
+        b"node 1 0010 0000001 1 0 c1 -",
+        b" e1F0F051545",
+        32,
+        b" f7F00 b0301 d00000010FFFF 1Fr00 b1F 1E15161545 .\n",
+    ),
+    (b"witness attained\nschedule 1\nfill 00\nend\n", b"", 0, b""),
+    (b"end\n", b"", 0, b""),
+    (b"", b"", 0, b""),
+    (b"", b"", 0, b""),
+    (b"", b"", 0, b""),
+];
+
 /// Whether some of its values are those that the words stand for which the first version hasn't.
 fn has_its_values(certificate: &Certificate) -> Option<bool> {
     let vector = certificate.instances().get(2)?;
@@ -67,13 +107,39 @@ fn has_its_values(certificate: &Certificate) -> Option<bool> {
     Some(vector.key.entry == 1 && picks && range && state.flags.carry == CarryTag::Less(31, 0x80))
 }
 
-#[test]
-fn the_second_version_is_written_again(rt: HostRuntime) -> Result<(), Fail> {
-    let alloc = rt.alloc();
-    let (text, _) = joined(alloc, &PIECES, 0, &PIECES[0], 0)?;
-    let certificate = read(alloc, &text)?;
-    let has_values = has_its_values(&certificate) == Some(true);
-    let again = write(alloc, &certificate)?;
-    assert!(rt; has_values && again.as_slice() == text.as_slice());
-    Ok(())
+/// Whether some of what is known of pairs is what the words stand for.
+fn has_its_facts(certificate: &Certificate) -> Option<bool> {
+    let third = certificate.nodes().get(2)?;
+    let NodeForm::State(state) = &third.1 else {
+        return None;
+    };
+    let facts = state.facts.get()?;
+    let first = facts.intervals.get(0)?;
+    let second = facts.intervals.get(1)?;
+    let last = facts.intervals.get(15)?;
+    let intervals = first.low == 1 && second.low == 0 && last.low == 5 && last.high == 0x123;
+    let tags = facts.sum == SumTag::Up(24, 0x100, 0x120)
+        && facts.compare == CompareTag::Pair(24, Side::Byte(5), 25)
+        && facts.zero == ZeroTag::Pair(30);
+    Some(intervals && tags)
+}
+
+/// The first later version of which a certificate is written otherwise. Want of memory is wrong too.
+pub fn wrong(alloc: Global) -> Wrong {
+    let second = match written_again(alloc, &PIECES) {
+        Ok((certificate, same)) => same && has_its_values(&certificate) == Some(true),
+        Err(_) => false,
+    };
+    if !second {
+        return Some(("second version", 0));
+    }
+    let third = match written_again(alloc, &PAIRS) {
+        Ok((certificate, same)) => same && has_its_facts(&certificate) == Some(true),
+        Err(_) => false,
+    };
+    if third {
+        None
+    } else {
+        Some(("third version", 0))
+    }
 }

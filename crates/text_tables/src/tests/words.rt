@@ -1,11 +1,11 @@
 //! Each call with ample memory, and faults that are chosen by call.
 
+use super::Wrong;
 use sb_base::{
     DigitFault, FileFault, Files, LineReader, LineWriter, MemFiles, MemSink, Sink, SinkFault,
     Words, put_all, read_dec, read_hex,
 };
 use std::alloc::{AllocError, Global};
-use std::test::Fail;
 
 /// The reads of one object in their order: the name, the most bytes that are wanted, and the answer.
 const READS: [(&str, usize, Result<&[u8], FileFault>); 5] = [
@@ -27,17 +27,24 @@ fn is_read(
     }
 }
 
-#[test]
-fn files_answer_by_name_and_call(rt: HostRuntime) -> Result<(), Fail> {
-    let alloc = rt.alloc();
-    let mut files = MemFiles::new(alloc);
-    files.add("a", b"older")?;
-    files.add("a", b"new")?;
-    files.fail(1)?;
+/// The first read of these files that has another answer.
+fn misread(files: &mut MemFiles, alloc: Global) -> Option<usize> {
     for (at, row) in READS.iter().enumerate() {
-        assert!(rt; is_read(&mut files, alloc, row), "row {at}");
+        if !is_read(files, alloc, row) {
+            return Some(at);
+        }
     }
-    Ok(())
+    None
+}
+
+/// The same of an older and a new object of one name, of which the second read fails.
+fn misread_of_two(alloc: Global) -> Option<usize> {
+    let mut files = MemFiles::new(alloc);
+    if files.add("a", b"older").is_ok() && files.add("a", b"new").is_ok() && files.fail(1).is_ok() {
+        misread(&mut files, alloc)
+    } else {
+        Some(0)
+    }
 }
 
 /// The texts that one sink is given in their order, the answers, and what is written then. The sink takes 1 byte, 2 and
@@ -53,19 +60,35 @@ fn is_put(sink: &mut MemSink, row: &(&[u8], Result<(), SinkFault>, &[u8])) -> bo
     put_all(sink, row.0) == row.1 && sink.written() == row.2
 }
 
-#[test]
-fn a_text_is_put_in_pieces_up_to_a_fault(rt: HostRuntime) -> Result<(), Fail> {
-    let mut sink = MemSink::new(rt.alloc());
+/// The first text that this sink answers otherwise; behind all, it takes no byte of none.
+fn misput(sink: &mut MemSink) -> Option<usize> {
+    for (at, row) in PUTS.iter().enumerate() {
+        if !is_put(sink, row) {
+            return Some(at);
+        }
+    }
+    if sink.put(b"") == Ok(0) {
+        None
+    } else {
+        Some(PUTS.len())
+    }
+}
+
+/// Takes the sink's pieces and faults.
+fn plan(sink: &mut MemSink) -> Result<(), AllocError> {
     sink.short(0, 1)?;
     sink.short(1, 2)?;
     sink.short(3, 2)?;
     sink.fail(4)?;
-    sink.short(6, 0)?;
-    for (at, row) in PUTS.iter().enumerate() {
-        assert!(rt; is_put(&mut sink, row), "row {at}");
+    sink.short(6, 0)
+}
+
+fn misput_in_pieces(alloc: Global) -> Option<usize> {
+    let mut sink = MemSink::new(alloc);
+    match plan(&mut sink) {
+        Ok(()) => misput(&mut sink),
+        Err(_) => Some(0),
     }
-    assert!(rt; sink.put(b"") == Ok(0));
-    Ok(())
 }
 
 const HEXADECIMAL: [(&[u8], usize, Result<u32, DigitFault>); 4] = [
@@ -88,17 +111,6 @@ fn is_hexadecimal(row: &(&[u8], usize, Result<u32, DigitFault>)) -> bool {
     row.1 >= 1 && row.1 <= 8 && read_hex(row.0, row.1) == row.2
 }
 
-#[test]
-fn digits_are_read(rt: HostRuntime) -> Result<(), Fail> {
-    for (at, row) in HEXADECIMAL.iter().enumerate() {
-        assert!(rt; is_hexadecimal(row), "hexadecimal row {at}");
-    }
-    for (at, row) in DECIMAL.iter().enumerate() {
-        assert!(rt; read_dec(row.0, row.1) == row.2, "decimal row {at}");
-    }
-    Ok(())
-}
-
 /// Each line: its text, where it begins, whether a line feed ends it, and the offset behind it.
 const LINES: [(&[u8], usize, bool, usize); 3] = [
     (b"node 001F 18446744073709551615", 0, true, 31),
@@ -108,16 +120,14 @@ const LINES: [(&[u8], usize, bool, usize); 3] = [
 
 const WORDS: [&[u8]; 3] = [b"node", b"001F", b"18446744073709551615"];
 
-fn written(alloc: Global) -> Result<Vec<u8>, AllocError> {
-    let mut writer = LineWriter::new(alloc);
+fn write_lines(writer: &mut LineWriter) -> Result<(), AllocError> {
     writer.word(b"node")?;
     writer.hex(0x1F, 4)?;
     writer.dec(18446744073709551615)?;
     writer.end_line()?;
     writer.hex(0, 2)?;
     writer.end_line()?;
-    writer.word(b"end")?;
-    Ok(writer.finish())
+    writer.word(b"end")
 }
 
 fn is_line(reader: &mut LineReader<'_>, row: &(&[u8], usize, bool, usize)) -> bool {
@@ -146,13 +156,54 @@ fn are_words(line: &[u8]) -> bool {
     words.next().is_none()
 }
 
-#[test]
-fn lines_are_written_and_read(rt: HostRuntime) -> Result<(), Fail> {
-    let text = written(rt.alloc())?;
-    let mut reader = LineReader::new(&text);
+/// The first line of a text that is another; there is none behind them.
+fn misread_line(text: &[u8]) -> Option<usize> {
+    let mut reader = LineReader::new(text);
     for (at, row) in LINES.iter().enumerate() {
-        assert!(rt; is_line(&mut reader, row), "line {at}");
+        if !is_line(&mut reader, row) {
+            return Some(at);
+        }
     }
-    assert!(rt; reader.next().is_none() && are_words(LINES[0].0));
-    Ok(())
+    if reader.next().is_none() {
+        None
+    } else {
+        Some(LINES.len())
+    }
+}
+
+fn miswritten_line(alloc: Global) -> Option<usize> {
+    let mut writer = LineWriter::new(alloc);
+    match write_lines(&mut writer) {
+        Ok(()) => misread_line(&writer.finish()),
+        Err(_) => Some(0),
+    }
+}
+
+/// The first object, line or number that is another. Want of memory is wrong too.
+pub fn wrong(alloc: Global) -> Wrong {
+    let tables = [
+        ("file", misread_of_two(alloc)),
+        ("sink", misput_in_pieces(alloc)),
+        ("line", miswritten_line(alloc)),
+    ];
+    for (name, wrong) in tables {
+        if let Some(at) = wrong {
+            return Some((name, at));
+        }
+    }
+    for (at, row) in HEXADECIMAL.iter().enumerate() {
+        if !is_hexadecimal(row) {
+            return Some(("hexadecimal", at));
+        }
+    }
+    for (at, row) in DECIMAL.iter().enumerate() {
+        if read_dec(row.0, row.1) != row.2 {
+            return Some(("decimal", at));
+        }
+    }
+    if are_words(LINES[0].0) {
+        None
+    } else {
+        Some(("words", 0))
+    }
 }

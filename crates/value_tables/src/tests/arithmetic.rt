@@ -2,6 +2,7 @@
 
 mod rows;
 
+use super::Wrong;
 use avr_alu::{Logic, Mul, Shift, Sreg, add, com, logic, mul, shift, step_one, sub, wide};
 
 const NONE: Sreg = Sreg(0x00);
@@ -31,67 +32,89 @@ fn is_word((found, s): (u16, Sreg), expected: u16, flags: u8) -> bool {
 // Each of these gives the first row that the call doesn't meet.
 
 fn wrong_sum(rows: &[CarryRow]) -> Option<usize> {
-    rows.iter().position(|&(a, b, carry, r, clear, full)| {
-        !(is(add(a, b, carry, NONE), r, clear) && is(add(a, b, carry, ALL), r, full))
-    })
+    for (at, &(a, b, carry, r, clear, full)) in rows.iter().enumerate() {
+        if !is(add(a, b, carry, NONE), r, clear) || !is(add(a, b, carry, ALL), r, full) {
+            return Some(at);
+        }
+    }
+    None
 }
 
 fn wrong_difference(keep: bool, rows: &[CarryRow]) -> Option<usize> {
-    rows.iter().position(|&(a, b, borrow, r, clear, full)| {
-        !(is(sub(a, b, borrow, keep, NONE), r, clear) && is(sub(a, b, borrow, keep, ALL), r, full))
-    })
+    for (at, &(a, b, borrow, r, clear, full)) in rows.iter().enumerate() {
+        if !is(sub(a, b, borrow, keep, NONE), r, clear)
+            || !is(sub(a, b, borrow, keep, ALL), r, full)
+        {
+            return Some(at);
+        }
+    }
+    None
 }
 
 fn wrong_logic(op: Logic, rows: &[PairRow]) -> Option<usize> {
-    rows.iter().position(|&(a, b, r, clear, full)| {
-        !(is(logic(op, a, b, NONE), r, clear) && is(logic(op, a, b, ALL), r, full))
-    })
+    for (at, &(a, b, r, clear, full)) in rows.iter().enumerate() {
+        if !is(logic(op, a, b, NONE), r, clear) || !is(logic(op, a, b, ALL), r, full) {
+            return Some(at);
+        }
+    }
+    None
 }
 
 fn wrong_complement(rows: &[ByteRow]) -> Option<usize> {
-    rows.iter().position(|&(a, r, clear, full)| {
-        !(is(com(a, NONE), r, clear) && is(com(a, ALL), r, full))
-    })
+    for (at, &(a, r, clear, full)) in rows.iter().enumerate() {
+        if !is(com(a, NONE), r, clear) || !is(com(a, ALL), r, full) {
+            return Some(at);
+        }
+    }
+    None
 }
 
 fn wrong_step(up: bool, rows: &[ByteRow]) -> Option<usize> {
-    rows.iter().position(|&(a, r, clear, full)| {
-        !(is(step_one(up, a, NONE), r, clear) && is(step_one(up, a, ALL), r, full))
-    })
+    for (at, &(a, r, clear, full)) in rows.iter().enumerate() {
+        if !is(step_one(up, a, NONE), r, clear) || !is(step_one(up, a, ALL), r, full) {
+            return Some(at);
+        }
+    }
+    None
+}
+
+fn is_shift(row: &ShiftRow) -> bool {
+    let &(a, s, right, after_right, rotated, after_rotated, halved, after_halved) = row;
+    is(shift(Shift::Lsr, a, Sreg(s)), right, after_right)
+        && is(shift(Shift::Ror, a, Sreg(s)), rotated, after_rotated)
+        && is(shift(Shift::Asr, a, Sreg(s)), halved, after_halved)
 }
 
 fn wrong_shift(rows: &[ShiftRow]) -> Option<usize> {
-    rows.iter().position(|&(
-        a,
-        s,
-        right,
-        after_right,
-        rotated,
-        after_rotated,
-        halved,
-        after_halved,
-    )| {
-        !(is(shift(Shift::Lsr, a, Sreg(s)), right, after_right)
-            && is(shift(Shift::Ror, a, Sreg(s)), rotated, after_rotated)
-            && is(shift(Shift::Asr, a, Sreg(s)), halved, after_halved))
-    })
+    for (at, row) in rows.iter().enumerate() {
+        if !is_shift(row) {
+            return Some(at);
+        }
+    }
+    None
 }
 
 fn wrong_product(op: Mul, rows: &[ProductRow]) -> Option<usize> {
-    rows.iter().position(|&(a, b, r, clear, full)| {
-        !(is_word(mul(op, a, b, NONE), r, clear) && is_word(mul(op, a, b, ALL), r, full))
-    })
+    for (at, &(a, b, r, clear, full)) in rows.iter().enumerate() {
+        if !is_word(mul(op, a, b, NONE), r, clear) || !is_word(mul(op, a, b, ALL), r, full) {
+            return Some(at);
+        }
+    }
+    None
 }
 
 fn wrong_word(up: bool, rows: &[WordRow]) -> Option<usize> {
-    rows.iter().position(|&(a, k, r, clear, full)| {
-        !(is_word(wide(up, a, k, NONE), r, clear) && is_word(wide(up, a, k, ALL), r, full))
-    })
+    for (at, &(a, k, r, clear, full)) in rows.iter().enumerate() {
+        if !is_word(wide(up, a, k, NONE), r, clear) || !is_word(wide(up, a, k, ALL), r, full) {
+            return Some(at);
+        }
+    }
+    None
 }
 
-#[test]
-fn results_and_flags_at_the_edges_of_the_operands(rt: HostRuntime) {
-    let wrong = [
+/// The first row whose result or flags are others.
+pub fn wrong() -> Wrong {
+    let tables = [
         ("add", wrong_sum(&rows::SUMS)),
         ("sub", wrong_difference(false, &rows::DIFFERENCES)),
         (
@@ -114,7 +137,10 @@ fn results_and_flags_at_the_edges_of_the_operands(rt: HostRuntime) {
         ("adiw", wrong_word(true, &rows::RAISED_WORDS)),
         ("sbiw", wrong_word(false, &rows::LOWERED_WORDS)),
     ];
-    for (name, at) in wrong {
-        assert!(rt; at.is_none(), "{name}, row {}", at.unwrap_or(0));
+    for (name, wrong) in tables {
+        if let Some(at) = wrong {
+            return Some((name, at));
+        }
     }
+    None
 }

@@ -1,5 +1,6 @@
 //! Splits against all bytes that are written, and the order on a table of keys.
 
+use super::Wrong;
 use bit_domain::TriByte;
 use mask_states::{EdgeKind, High, InstKey, Kind, NodeKey, SpForm, split};
 use std::cmp::Ordering;
@@ -42,48 +43,65 @@ fn masks(bits: u32) -> Masks {
     }
 }
 
-// Whether each byte that the value stands for is written to one of these, and each of these by some byte.
-fn are_writes(all: &[Masks], m: Masks, address: u16, value: TriByte) -> bool {
-    let mut written = [false; 16];
+// Whether some byte that the value stands for is written to these.
+fn is_written(masks: Masks, m: Masks, address: u16, value: TriByte) -> bool {
     for byte in 0..=255 {
-        if value.has(byte) {
-            let after = write(m, address, byte);
-            match all.iter().position(|&masks| masks == after) {
-                Some(place) if place < 16 => written[place] = true,
-                _ => return false,
-            }
+        if value.has(byte) && write(m, address, byte) == masks {
+            return true;
         }
     }
-    written.iter().filter(|&&one| one).count() == all.len()
+    false
 }
 
-#[test]
-fn splits_are_the_writes_of_all_bytes(rt: HostRuntime) {
-    for &(address, _) in &ADDRESSES {
-        for &(known, value) in &VALUES {
-            let value = TriByte::new(known, value);
-            for bits in [0, 0x1FFFFFF, 0x0A5A5A5] {
-                let splits = split(masks(bits), address, &value);
-                assert!(rt;
-                    are_writes(splits.as_slice(), masks(bits), address, value),
-                    "{address} {known} {bits}"
-                );
-            }
+// Whether each byte that the value stands for is written to one of these.
+fn have_writes(all: &[Masks], m: Masks, address: u16, value: TriByte) -> bool {
+    for byte in 0..=255 {
+        if value.has(byte) && !all.contains(&write(m, address, byte)) {
+            return false;
         }
     }
+    true
 }
 
-// Whether so many ascend.
-fn ascend(all: &[Masks], count: usize) -> bool {
-    all.len() == count && all.is_sorted_by(|one, next| one.bits() < next.bits())
-}
-
-#[test]
-fn all_bytes_split_each_enable_bit(rt: HostRuntime) {
-    for &(address, count) in &ADDRESSES {
-        let splits = split(Masks::none(), address, &TriByte::any());
-        assert!(rt; ascend(splits.as_slice(), count), "{address}");
+// Whether these ascend, each of them is written by some byte that the value stands for, and each such byte to one of them.
+fn are_writes(all: &[Masks], m: Masks, address: u16, value: TriByte) -> bool {
+    for &masks in all {
+        if !is_written(masks, m, address, value) {
+            return false;
+        }
     }
+    ascend(all) && have_writes(all, m, address, value)
+}
+
+// Whether the splits of a value are the writes of all bytes, from masks without a bit, with each and with some.
+fn are_split(address: u16, value: TriByte) -> bool {
+    for bits in [0, 0x1FFFFFF, 0x0A5A5A5] {
+        let splits = split(masks(bits), address, &value);
+        if !are_writes(splits.as_slice(), masks(bits), address, value) {
+            return false;
+        }
+    }
+    true
+}
+
+fn ascend(all: &[Masks]) -> bool {
+    for at in 1..all.len() {
+        if all[at - 1].bits() >= all[at].bits() {
+            return false;
+        }
+    }
+    true
+}
+
+// Whether each value is split so, and that which stands for all bytes into so many.
+fn is_address(address: u16, count: usize) -> bool {
+    for &(known, value) in &VALUES {
+        if !are_split(address, TriByte::new(known, value)) {
+            return false;
+        }
+    }
+    let splits = split(Masks::none(), address, &TriByte::any());
+    splits.as_slice().len() == count && ascend(splits.as_slice())
 }
 
 // Bits before, address, known bits and value; bits after, ascending. Worked by hand from the data sheet's places of the bits.
@@ -100,15 +118,21 @@ const ROWS: [(u32, u16, u8, u8, [u32; 4]); 4] = [
 
 // Whether these are the bits.
 fn are_bits(all: &[Masks], bits: &[u32; 4]) -> bool {
-    all.len() == 4 && all.iter().zip(bits).all(|(one, due)| one.bits() == *due)
+    if all.len() != 4 {
+        return false;
+    }
+    for at in 0..4 {
+        if all[at].bits() != bits[at] {
+            return false;
+        }
+    }
+    true
 }
 
-#[test]
-fn splits_of_worked_rows(rt: HostRuntime) {
-    for &(before, address, known, value, after) in &ROWS {
-        let splits = split(masks(before), address, &TriByte::new(known, value));
-        assert!(rt; are_bits(splits.as_slice(), &after), "{address}");
-    }
+fn is_worked(row: &(u32, u16, u8, u8, [u32; 4])) -> bool {
+    let &(before, address, known, value, after) = row;
+    let splits = split(masks(before), address, &TriByte::new(known, value));
+    are_bits(splits.as_slice(), &after)
 }
 
 fn inst(kind: Kind, entry: u16, bits: u32, i: bool) -> InstKey {
@@ -137,14 +161,9 @@ fn picked(key: NodeKey, byte: u8) -> NodeKey {
     NodeKey { pick, ..key }
 }
 
-// Whether two instances go in this order, and are equal by `==` where it is that of equal ones.
-fn is_inst_order(a: &InstKey, b: &InstKey, order: Ordering) -> bool {
-    a.cmp(b) == order && (a == b) == order.is_eq()
-}
-
-#[test]
-fn instances_ascend_by_kind_entry_masks_and_flag(rt: HostRuntime) {
-    let keys = [
+// Instances, which ascend by kind, entry, masks and flag.
+fn instances() -> [InstKey; 9] {
+    [
         InstKey::root(),
         inst(Kind::Root, 0, 0, true),
         inst(Kind::Root, 0, 1, false),
@@ -154,24 +173,14 @@ fn instances_ascend_by_kind_entry_masks_and_flag(rt: HostRuntime) {
         inst(Kind::Call, 9, 5, false),
         inst(Kind::Vector(2), 2, 0, false),
         inst(Kind::Vector(3), 0, 0, false),
-    ];
-    for (at, a) in keys.iter().enumerate() {
-        for (to, b) in keys.iter().enumerate() {
-            assert!(rt; is_inst_order(a, b, at.cmp(&to)), "{at} {to}");
-        }
-    }
+    ]
 }
 
-// The same of nodes, with the other order too.
-fn is_node_order(a: &NodeKey, b: &NodeKey, order: Ordering) -> bool {
-    a.cmp(b) == order && a.partial_cmp(b) == Some(order) && (a == b) == order.is_eq()
-}
-
-#[test]
-fn nodes_ascend_by_instance_and_then_by_their_fields(rt: HostRuntime) {
+// Nodes, which ascend by instance and then by their fields.
+fn nodes() -> [NodeKey; 14] {
     let root = InstKey::root();
     let call = inst(Kind::Call, 1, 0, false);
-    let keys = [
+    [
         NodeKey::entry(&root),
         picked(NodeKey::entry(&root), 0),
         picked(NodeKey::entry(&root), 255),
@@ -186,16 +195,28 @@ fn nodes_ascend_by_instance_and_then_by_their_fields(rt: HostRuntime) {
         node(&root, 7, 0, false, false, SpForm::Closed(0)),
         node(&call, 0, 0, false, false, SpForm::Closed(0)),
         NodeKey::entry(&call),
-    ];
-    for (at, a) in keys.iter().enumerate() {
-        for (to, b) in keys.iter().enumerate() {
-            assert!(rt; is_node_order(a, b, at.cmp(&to)), "{at} {to}");
-        }
-    }
+    ]
 }
 
-#[test]
-fn an_instance_begins_at_its_entry(rt: HostRuntime) {
+// Whether two keys go in this order, by both orders, and are equal by `==` where it is that of equal ones.
+fn is_order<K: Ord>(a: &K, b: &K, order: Ordering) -> bool {
+    a.cmp(b) == order && a.partial_cmp(b) == Some(order) && (a == b) == order.is_eq()
+}
+
+// The first key that isn't in its place among all.
+fn misplaced<K: Ord>(keys: &[K]) -> Option<usize> {
+    for (at, a) in keys.iter().enumerate() {
+        for (to, b) in keys.iter().enumerate() {
+            if !is_order(a, b, at.cmp(&to)) {
+                return Some(at);
+            }
+        }
+    }
+    None
+}
+
+// Whether an instance begins at its entry, and each form tells its place.
+fn is_begin() -> bool {
     let timer = inst(Kind::Vector(17), 32, 0x8001, false);
     let begin = NodeKey::entry(&timer);
     let form = SpForm::Open(2048, High::Known(1));
@@ -206,22 +227,41 @@ fn an_instance_begins_at_its_entry(rt: HostRuntime) {
         SpForm::Open(9, High::Tag(300)).offset(),
         open.offset(),
     ];
-    assert!(rt;
-        begin == node(&timer, 32, 0x8001, false, false, SpForm::Closed(0))
-            && begin.inst == timer
-            && offsets == [0, 7, 9, 2048]
-    );
+    begin == node(&timer, 32, 0x8001, false, false, SpForm::Closed(0))
+        && begin.inst == timer
+        && offsets == [0, 7, 9, 2048]
 }
 
-#[test]
-fn edges_go_by_kind_and_then_by_vector(rt: HostRuntime) {
-    let kinds = [
-        EdgeKind::Local,
-        EdgeKind::Call,
-        EdgeKind::Interrupt(7, false),
-        EdgeKind::Interrupt(7, true),
-        EdgeKind::Interrupt(8, false),
-        EdgeKind::Return,
-    ];
-    assert!(rt; kinds.is_sorted_by(|one, next| one < next));
+// Edges, which ascend by kind and then by vector.
+const EDGES: [EdgeKind; 6] = [
+    EdgeKind::Local,
+    EdgeKind::Call,
+    EdgeKind::Interrupt(7, false),
+    EdgeKind::Interrupt(7, true),
+    EdgeKind::Interrupt(8, false),
+    EdgeKind::Return,
+];
+
+/// The first split or key that is another.
+pub fn wrong() -> Wrong {
+    for (at, &(address, count)) in ADDRESSES.iter().enumerate() {
+        if !is_address(address, count) {
+            return Some(("address", at));
+        }
+    }
+    for (at, row) in ROWS.iter().enumerate() {
+        if !is_worked(row) {
+            return Some(("split", at));
+        }
+    }
+    if let Some(at) = misplaced(&instances()) {
+        return Some(("instance", at));
+    }
+    if let Some(at) = misplaced(&nodes()) {
+        return Some(("node", at));
+    }
+    if let Some(at) = misplaced(&EDGES) {
+        return Some(("edge", at));
+    }
+    if is_begin() { None } else { Some(("begin", 0)) }
 }

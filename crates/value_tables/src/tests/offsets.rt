@@ -2,12 +2,12 @@
 
 ghost use Rattle.std.specs.Prelude.{◌≡◌, []};
 
+use super::Wrong;
 use sp_domain::{
     CarryTag, Slot, Slots, Tag, add_byte, add_high, frame, move_high, move_pair, sub_byte,
     sub_high, sub_low,
 };
 use std::alloc::{AllocError, Global};
-use std::test::Fail;
 
 static TAGS: [Tag; 8] = [
     Tag::None,
@@ -45,13 +45,14 @@ fn is_nowhere(t: Tag) -> bool {
     frame(t, t).is_none() && frame(Tag::None, t).is_none() && frame(t, Tag::None).is_none()
 }
 
-#[test]
-fn a_tag_is_within_itself_and_none_alone(rt: HostRuntime) {
-    for (i, &t) in TAGS.iter().enumerate() {
-        for (j, &u) in TAGS.iter().enumerate() {
-            assert!(rt; is_pair(t, u, i == j) && is_nowhere(t), "{i} {j}");
+// Whether this tag is within itself and none alone.
+fn is_tag(at: usize, t: Tag) -> bool {
+    for (to, &u) in TAGS.iter().enumerate() {
+        if !is_pair(t, u, at == to) {
+            return false;
         }
     }
+    is_nowhere(t)
 }
 
 fn is_carry_pair(c: CarryTag, d: CarryTag, same: bool) -> bool {
@@ -60,13 +61,14 @@ fn is_carry_pair(c: CarryTag, d: CarryTag, same: bool) -> bool {
     c.le(d) == within && c.join(d) == both
 }
 
-#[test]
-fn a_carry_tag_is_within_itself_and_none_alone(rt: HostRuntime) {
-    for (i, &c) in CARRY_TAGS.iter().enumerate() {
-        for (j, &d) in CARRY_TAGS.iter().enumerate() {
-            assert!(rt; is_carry_pair(c, d, i == j), "{i} {j}");
+// The same of a carry's tag.
+fn is_carry_tag(at: usize, c: CarryTag) -> bool {
+    for (to, &d) in CARRY_TAGS.iter().enumerate() {
+        if !is_carry_pair(c, d, at == to) {
+            return false;
         }
     }
+    true
 }
 
 // A call and its answer.
@@ -197,13 +199,6 @@ fn is_row(row: &Row) -> bool {
     }
 }
 
-#[test]
-fn a_large_frame_is_set_up_byte_by_byte(rt: HostRuntime) {
-    for (at, row) in ROWS.iter().enumerate() {
-        assert!(rt; is_row(row), "row {at}");
-    }
-}
-
 // Bases, places and amounts whose differences borrow, carry and wrap.
 static WORDS: [u16; 7] = [0, 1, 0x00FF, 0x0100, 0x08FF, 0x7F80, 0xFFFF];
 
@@ -217,8 +212,7 @@ fn is_difference(base: u16, k: u16, less: u16) -> bool {
         .wrapping_sub(u8::from(borrow));
     let (lo, carry) = sub_low(Tag::SpLo(k.to_le_bytes()[0]), bytes[0]);
     let hi = sub_high(Tag::SpHi(k), bytes[1], carry);
-    let place = frame(lo, hi).map(|j| base.wrapping_sub(j));
-    place == Some(u16::from_le_bytes([low, high]))
+    frame(lo, hi) == Some(base.wrapping_sub(u16::from_le_bytes([low, high])))
 }
 
 // Whether the base less k, and a number byte by byte, is where the tags say.
@@ -231,20 +225,52 @@ fn is_sum(base: u16, k: u16, more: u16) -> bool {
         .wrapping_add(u8::from(carried));
     let (lo, carry) = add_byte(Tag::SpLo(k.to_le_bytes()[0]), bytes[0]);
     let hi = add_high(Tag::SpHi(k), bytes[1], carry);
-    let place = frame(lo, hi).map(|j| base.wrapping_sub(j));
-    place == Some(u16::from_le_bytes([low, high]))
+    frame(lo, hi) == Some(base.wrapping_sub(u16::from_le_bytes([low, high])))
 }
 
-#[test]
-fn tags_say_what_the_bytes_are(rt: HostRuntime) {
-    for &base in &WORDS {
-        for &k in &WORDS {
-            for &less in &WORDS {
-                let holds = is_difference(base, k, less) && is_sum(base, k, less);
-                assert!(rt; holds, "{base} {k} {less}");
-            }
+// Whether the tags of a base and a place say what the bytes are, at each amount.
+fn are_moved(base: u16, k: u16) -> bool {
+    for &amount in &WORDS {
+        if !is_difference(base, k, amount) || !is_sum(base, k, amount) {
+            return false;
         }
     }
+    true
+}
+
+// Whether this base is so at each place.
+fn is_base(base: u16) -> bool {
+    for &k in &WORDS {
+        if !are_moved(base, k) {
+            return false;
+        }
+    }
+    true
+}
+
+/// The first tag, call or base that is another.
+pub fn wrong() -> Wrong {
+    for (at, &t) in TAGS.iter().enumerate() {
+        if !is_tag(at, t) {
+            return Some(("tag", at));
+        }
+    }
+    for (at, &c) in CARRY_TAGS.iter().enumerate() {
+        if !is_carry_tag(at, c) {
+            return Some(("carry tag", at));
+        }
+    }
+    for (at, row) in ROWS.iter().enumerate() {
+        if !is_row(row) {
+            return Some(("frame", at));
+        }
+    }
+    for (at, &base) in WORDS.iter().enumerate() {
+        if !is_base(base) {
+            return Some(("base", at));
+        }
+    }
+    None
 }
 
 // Whether the slots are these.
@@ -263,9 +289,8 @@ fn is_pushed(slots: &mut Slots<u16>) -> Result<bool, AllocError>
     Ok(none && last && slots.pop() == Some(Slot::Guarded(9)))
 }
 
-// Whether slots are cut and grow with free ones, up to the most, and a copy keeps what it was made of.
-fn is_resized(alloc: Global, slots: &mut Slots<u16>) -> Result<bool, AllocError> {
-    let copy = slots.copy(alloc)?;
+// Whether slots are cut and grow with free ones, up to the most.
+fn is_resized(slots: &mut Slots<u16>) -> Result<bool, AllocError> {
     slots.resize(0)?;
     let cut = slots.len() == 0;
     slots.resize(2)?;
@@ -274,14 +299,18 @@ fn is_resized(alloc: Global, slots: &mut Slots<u16>) -> Result<bool, AllocError>
     let set = are(slots, &[Slot::Free, Slot::Guarded(5)]);
     slots.resize(65535)?;
     let most = slots.len() == 65535 && slots.at(65534) == Some(Slot::Free);
-    Ok(cut && grown && set && most && are(&copy, &[Slot::Guarded(7)]))
+    Ok(cut && grown && set && most)
 }
 
-#[test]
-fn slots_are_pushed_popped_cut_and_grown(rt: HostRuntime) -> Result<(), Fail> {
-    let mut slots: Slots<u16> = Slots::new(rt.alloc());
-    let pushed = is_pushed(&mut slots)?;
-    let resized = is_resized(rt.alloc(), &mut slots)?;
-    assert!(rt; pushed && resized);
-    Ok(())
+/// Whether slots are pushed, popped, cut and grown, and a copy keeps what it was made of. Want of memory is wrong too.
+pub fn are_slots(alloc: Global) -> bool {
+    let mut slots: Slots<u16> = Slots::new(alloc);
+    let pushed = matches!(is_pushed(&mut slots), Ok(true));
+    let copy = slots.copy(alloc);
+    let resized = matches!(is_resized(&mut slots), Ok(true));
+    let kept = match copy {
+        Ok(copy) => are(&copy, &[Slot::Guarded(7)]),
+        Err(_) => false,
+    };
+    pushed && resized && kept
 }

@@ -1,16 +1,16 @@
 //! States that a pool keeps once.
 
-ghost use Rattle.std.specs.Prelude.{◌<◌, IfOk};
-ghost use Rattle.std.specs.FinMap.{len};
+ghost use Rattle.std.specs.Prelude.{◌≡◌, ◌<◌, IfOk};
+ghost use Rattle.std.specs.FinMap.{empty, len};
 ghost use Rattle.state_pool.specs.Uses.{AreBelow, IsInterned};
 
+use super::Wrong;
 use super::states::{Known, flags, is_same, ranged, state_of, tagged};
 use abs_state::{AbsByte, AbsState};
 use sp_domain::{CarryTag, Tag};
 use state_pool::Pool;
 use state_pool::laws::{counts_follow, releases_undo};
 use std::alloc::{AllocError, Global};
-use std::test::Fail;
 
 // The number of one more use of a state.
 fn interned(pool: &mut Pool, alloc: Global, state: &AbsState) -> Result<u32, AllocError>
@@ -24,14 +24,20 @@ fn interned(pool: &mut Pool, alloc: Global, state: &AbsState) -> Result<u32, All
     }
 }
 
-// Whether two equal states have one number until both are released, beside another state, which has another number.
-fn is_kept_once(alloc: Global, state: &AbsState, other: &AbsState) -> Result<bool, AllocError> {
+// Whether in a pool without a state two equal states have one number until both are released, beside another state, which has another number.
+fn is_kept_once(
+    pool: &mut Pool,
+    alloc: Global,
+    state: &AbsState,
+    other: &AbsState,
+) -> Result<bool, AllocError>
+    requires { pool.old ≡ empty }
+{
     counts_follow();
     releases_undo();
-    let mut pool = Pool::new(alloc);
-    let one = interned(&mut pool, alloc, state)?;
-    let same = interned(&mut pool, alloc, state)?;
-    let next = interned(&mut pool, alloc, other)?;
+    let one = interned(pool, alloc, state)?;
+    let same = interned(pool, alloc, state)?;
+    let next = interned(pool, alloc, other)?;
     let all = pool.len();
     let seen = is_same(pool.get(one), state);
     let seen_other = is_same(pool.get(next), other);
@@ -66,18 +72,21 @@ fn differing() -> (Known, [Known; 4]) {
 }
 
 fn is_row(alloc: Global, known: &Known, other: &Known) -> Result<bool, AllocError> {
-    match (state_of(alloc, known)?, state_of(alloc, other)?) {
-        (Some(state), Some(other)) => is_kept_once(alloc, &state, &other),
+    match (state_of(alloc, known), state_of(alloc, other)) {
+        (Ok(Some(state)), Ok(Some(other))) => {
+            is_kept_once(&mut Pool::new(alloc), alloc, &state, &other)
+        }
         _ => Ok(false),
     }
 }
 
-#[test]
-fn equal_states_have_one_number_until_both_are_released(rt: HostRuntime) -> Result<(), Fail> {
+/// The first other state beside which equal states haven't one number until both are released. Want of memory is wrong too.
+pub fn wrong(alloc: Global) -> Wrong {
     let (known, others) = differing();
     for (at, other) in others.iter().enumerate() {
-        let holds = is_row(rt.alloc(), &known, other)?;
-        assert!(rt; holds, "row {at}");
+        if !matches!(is_row(alloc, &known, other), Ok(true)) {
+            return Some(("pool", at));
+        }
     }
-    Ok(())
+    None
 }

@@ -4,11 +4,11 @@ ghost use Rattle.std.specs.Prelude.{ℕ, ◌≡◌, ◌<◌, [], length, IfOk, I
 ghost use Rattle.abs_state.specs.Values.{value_at};
 ghost use Rattle.abs_state.specs.Formed.{NamesRegister};
 
+use super::Wrong;
 use abs_state::{AbsByte, AbsFlags, AbsState};
 use bit_domain::TriByte;
 use sp_domain::{CarryTag, Slot, Tag};
 use std::alloc::{AllocError, Global};
-use std::test::Fail;
 
 pub fn tagged(tag: Tag, known: u8, value: u8) -> AbsByte
     ensures { result.tag ≡ tag }
@@ -52,62 +52,60 @@ pub fn is_same(state: &AbsState, wanted: &AbsState) -> bool {
         && state.slots.as_slice() == wanted.slots.as_slice()
 }
 
-#[test]
-fn root_knows_the_flags_alone(rt: HostRuntime) {
-    let root = AbsState::root(rt.alloc());
-    assert!(rt;
-        root.registers == [tagged(Tag::None, 0, 0); 32]
-            && root.flags == flags(false, 0x7f, 0, CarryTag::None)
-            && root.slots.len() == 0
-    );
+// Whether the root knows the flags alone.
+fn is_root(alloc: Global) -> bool {
+    let root = AbsState::root(alloc);
+    root.registers == [tagged(Tag::None, 0, 0); 32]
+        && root.flags == flags(false, 0x7f, 0, CarryTag::None)
+        && root.slots.len() == 0
 }
 
-// Two values and their join, or two flags and theirs.
-#[derive(Drop)]
-enum Join {
-    Values(AbsByte, AbsByte, AbsByte),
-    Flags(AbsFlags, AbsFlags, AbsFlags),
-}
-
-fn joins() -> [Join; 9] {
+// Two values and their join.
+fn value_joins() -> [(AbsByte, AbsByte, AbsByte); 4] {
     let low = tagged(Tag::SpLo(3), 0xff, 0x45);
     let any = AbsByte::unknown();
+    [
+        // the least range that holds both, which the bits alone don't give
+        (
+            low,
+            tagged(Tag::SpLo(3), 0xff, 0x43),
+            ranged(tagged(Tag::SpLo(3), 0xf9, 0x41), 0x43, 0x45),
+        ),
+        (
+            ranged(any, 0x03, 0x10),
+            ranged(any, 0x20, 0x30),
+            ranged(any, 0x03, 0x30),
+        ),
+        (
+            ranged(any, 0x03, 0x10),
+            ranged(any, 0x04, 0x11),
+            ranged(any, 0x03, 0x11),
+        ),
+        (
+            low,
+            tagged(Tag::SpLo(4), 0xff, 0x45),
+            tagged(Tag::None, 0xff, 0x45),
+        ),
+    ]
+}
+
+// Two flags and their join.
+fn flag_joins() -> [(AbsFlags, AbsFlags, AbsFlags); 5] {
     let less = flags(false, 0x03, 0x01, CarryTag::Less(16, 4));
     let same = flags(false, 0x01, 0x01, CarryTag::Less(16, 4));
     let kept = flags(true, 0x03, 0x01, CarryTag::Borrow(3, 5));
     let changed = flags(false, 0x01, 0x01, CarryTag::Borrow(3, 5));
     let untied = flags(true, 0x03, 0x03, CarryTag::None);
     [
-        // the least range that holds both, which the bits alone don't give
-        Join::Values(
-            low,
-            tagged(Tag::SpLo(3), 0xff, 0x43),
-            ranged(tagged(Tag::SpLo(3), 0xf9, 0x41), 0x43, 0x45),
-        ),
-        Join::Values(
-            ranged(any, 0x03, 0x10),
-            ranged(any, 0x20, 0x30),
-            ranged(any, 0x03, 0x30),
-        ),
-        Join::Values(
-            ranged(any, 0x03, 0x10),
-            ranged(any, 0x04, 0x11),
-            ranged(any, 0x03, 0x11),
-        ),
-        Join::Values(
-            low,
-            tagged(Tag::SpLo(4), 0xff, 0x45),
-            tagged(Tag::None, 0xff, 0x45),
-        ),
-        Join::Flags(kept, changed, changed),
-        Join::Flags(kept, untied, flags(true, 0x01, 0x01, CarryTag::None)),
-        Join::Flags(less, same, same),
-        Join::Flags(
+        (kept, changed, changed),
+        (kept, untied, flags(true, 0x01, 0x01, CarryTag::None)),
+        (less, same, same),
+        (
             kept,
             flags(true, 0x03, 0x01, CarryTag::Sum(3, 5)),
             flags(true, 0x03, 0x01, CarryTag::None),
         ),
-        Join::Flags(
+        (
             less,
             flags(false, 0x03, 0x01, CarryTag::Less(16, 5)),
             flags(false, 0x03, 0x01, CarryTag::None),
@@ -116,26 +114,24 @@ fn joins() -> [Join; 9] {
 }
 
 // Whether the join is as wanted, says no more than either, and the first, which isn't the join, says more.
-fn is_join(row: &Join) -> bool {
-    match *row {
-        Join::Values(v, w, both) => { v.join(w) == both && v.le(both) && w.le(both) && !both.le(v) }
-        Join::Flags(f, g, both) => f.join(g) == both && f.le(both) && g.le(both) && !both.le(f),
-    }
+fn is_value_join(row: &(AbsByte, AbsByte, AbsByte)) -> bool {
+    let &(v, w, both) = row;
+    v.join(w) == both && v.le(both) && w.le(both) && !both.le(v)
 }
 
-#[test]
-fn values_and_flags_join_where_they_agree(rt: HostRuntime) {
-    for (at, row) in joins().iter().enumerate() {
-        assert!(rt; is_join(row), "row {at}");
-    }
+fn is_flag_join(row: &(AbsFlags, AbsFlags, AbsFlags)) -> bool {
+    let &(f, g, both) = row;
+    f.join(g) == both && f.le(both) && g.le(both) && !both.le(f)
+}
+
+// Whether what is made of a byte or of bits alone has no tag, and says no less than what has one.
+fn are_untagged() -> bool {
     let known = AbsByte::known(0x45);
     let bits = TriByte::new(0x0f, 0x05);
-    assert!(rt;
-        AbsByte::unknown() == tagged(Tag::None, 0, 0)
-            && known == tagged(Tag::None, 0xff, 0x45)
-            && AbsByte::untagged(bits) == tagged(Tag::None, 0x0f, 0x05)
-            && !known.le(tagged(Tag::SpLo(3), 0xff, 0x45))
-    );
+    AbsByte::unknown() == tagged(Tag::None, 0, 0)
+        && known == tagged(Tag::None, 0xff, 0x45)
+        && AbsByte::untagged(bits) == tagged(Tag::None, 0x0f, 0x05)
+        && !known.le(tagged(Tag::SpLo(3), 0xff, 0x45))
 }
 
 // Whether each register is tagged as what the caller's held, with its bits and its range.
@@ -154,9 +150,8 @@ fn are_entries(entered: &AbsState, caller: &AbsState) -> bool {
     true
 }
 
-#[test]
-fn an_entry_tags_each_register(rt: HostRuntime) -> Result<(), Fail> {
-    let alloc = rt.alloc();
+// Whether an entry tags each register, and keeps neither the slots nor what the carry says.
+fn is_entered(alloc: Global) -> Result<bool, AllocError> {
     let known = flags(false, 0x01, 0x01, CarryTag::Borrow(3, 5));
     let mut caller = state(
         alloc,
@@ -166,12 +161,11 @@ fn an_entry_tags_each_register(rt: HostRuntime) -> Result<(), Fail> {
     );
     caller.slots.push(Slot::Free)?;
     let entered = caller.entered(alloc)?;
-    assert!(rt;
+    Ok(
         are_entries(&entered, &caller)
             && entered.flags == flags(true, 0x01, 0x01, CarryTag::None)
-            && entered.slots.len() == 0
-    );
-    Ok(())
+            && entered.slots.len() == 0,
+    )
 }
 
 /// What is known of registers 0 and 31, and of the flags.
@@ -274,53 +268,111 @@ fn are_same(state: &Option<AbsState>, wanted: &Option<AbsState>) -> bool {
 
 fn is_return(alloc: Global, row: &(Known, Known, Option<Known>)) -> Result<bool, AllocError> {
     let wanted = match &row.2 {
-        Some(known) => state_of(alloc, known)?,
-        None => None,
+        Some(known) => state_of(alloc, known),
+        None => Ok(None),
     };
-    match (state_of(alloc, &row.0)?, state_of(alloc, &row.1)?) {
-        (Some(caller), Some(exit)) => Ok(are_same(&caller.returned(alloc, &exit)?, &wanted)),
+    match (state_of(alloc, &row.0), state_of(alloc, &row.1), wanted) {
+        (Ok(Some(caller)), Ok(Some(exit)), Ok(wanted)) => {
+            Ok(are_same(&caller.returned(alloc, &exit)?, &wanted))
+        }
         _ => Ok(false),
     }
 }
 
-#[test]
-fn a_return_brings_back_what_was_kept(rt: HostRuntime) -> Result<(), Fail> {
-    for (at, row) in returns().iter().enumerate() {
-        let holds = is_return(rt.alloc(), row)?;
-        assert!(rt; holds, "row {at}");
-    }
-    Ok(())
+// The state in which register 0 is so and all flags are clear, with two slots.
+fn with_slots(
+    alloc: Global,
+    first: AbsByte,
+    slots: [Slot<AbsByte>; 2],
+) -> Result<AbsState, AllocError>
+    requires { NamesRegister first.tag }
+    ensures { IfOk result (λ s. length s.slots ≡ 2) }
+{
+    let clear = flags(true, 0x7f, 0x00, CarryTag::None);
+    let mut state = state(alloc, first, AbsByte::unknown(), clear);
+    state.slots.push(slots[0])?;
+    state.slots.push(slots[1])?;
+    Ok(state)
 }
 
-#[test]
-fn a_join_tells_whether_it_grew(rt: HostRuntime) -> Result<(), Fail> {
-    let alloc = rt.alloc();
-    let any = AbsByte::unknown();
-    let clear = flags(true, 0x7f, 0x00, CarryTag::None);
-    let mut low = state(alloc, AbsByte::known(0x45), any, clear);
-    low.slots.push(Slot::Guarded(AbsByte::known(0x22)))?;
-    low.slots.push(Slot::Guarded(AbsByte::known(0x33)))?;
-    let mut other = state(alloc, AbsByte::known(0x43), any, clear);
-    other.slots.push(Slot::Free)?;
-    other.slots.push(Slot::Guarded(AbsByte::known(0x32)))?;
-    let both = ranged(tagged(Tag::None, 0xf9, 0x41), 0x43, 0x45);
-    let mut wanted = state(alloc, both, any, clear);
-    wanted.slots.push(Slot::Free)?;
-    wanted
-        .slots
-        .push(Slot::Guarded(tagged(Tag::None, 0xfe, 0x32)))?;
+// Whether a copy of the first becomes the join with the second, which grew, and doesn't grow again.
+fn is_grown(
+    alloc: Global,
+    low: &AbsState,
+    other: &AbsState,
+    wanted: &AbsState,
+) -> Result<bool, AllocError>
+    requires { length low.now.slots ≡ length other.now.slots }
+{
     let mut joined = low.copy(alloc)?;
-    let copied = is_same(&joined, &low);
-    let grew = joined.join_into(&other);
-    let risen = is_same(&joined, &wanted);
-    let grew_again = joined.join_into(&low);
-    let order = [low.le(&joined), joined.le(&low)];
-    assert!(rt;
+    let copied = is_same(&joined, low);
+    let grew = joined.join_into(other);
+    let risen = is_same(&joined, wanted);
+    let grew_again = joined.join_into(low);
+    let order = [low.le(&joined), joined.le(low)];
+    Ok(
         copied
             && risen
-            && is_same(&joined, &wanted)
+            && is_same(&joined, wanted)
             && [grew, grew_again] == [true, false]
-            && order == [true, false]
+            && order == [true, false],
+    )
+}
+
+// Whether a join of states tells that it grew.
+fn is_joined(alloc: Global) -> Result<bool, AllocError> {
+    let both = ranged(tagged(Tag::None, 0xf9, 0x41), 0x43, 0x45);
+    let low = with_slots(
+        alloc,
+        AbsByte::known(0x45),
+        [
+            Slot::Guarded(AbsByte::known(0x22)),
+            Slot::Guarded(AbsByte::known(0x33)),
+        ],
     );
-    Ok(())
+    let other = with_slots(
+        alloc,
+        AbsByte::known(0x43),
+        [Slot::Free, Slot::Guarded(AbsByte::known(0x32))],
+    );
+    let wanted = with_slots(
+        alloc,
+        both,
+        [Slot::Free, Slot::Guarded(tagged(Tag::None, 0xfe, 0x32))],
+    );
+    match (low, other, wanted) {
+        (Ok(low), Ok(other), Ok(wanted)) => is_grown(alloc, &low, &other, &wanted),
+        _ => Err(AllocError),
+    }
+}
+
+/// The first value, flags or states that are others. Want of memory is wrong too.
+pub fn wrong(alloc: Global) -> Wrong {
+    for (at, row) in value_joins().iter().enumerate() {
+        if !is_value_join(row) {
+            return Some(("join of values", at));
+        }
+    }
+    for (at, row) in flag_joins().iter().enumerate() {
+        if !is_flag_join(row) {
+            return Some(("join of flags", at));
+        }
+    }
+    for (at, row) in returns().iter().enumerate() {
+        if !matches!(is_return(alloc, row), Ok(true)) {
+            return Some(("return", at));
+        }
+    }
+    let states = [
+        is_root(alloc),
+        are_untagged(),
+        matches!(is_entered(alloc), Ok(true)),
+        matches!(is_joined(alloc), Ok(true)),
+    ];
+    for (at, holds) in states.iter().enumerate() {
+        if !holds {
+            return Some(("state", at));
+        }
+    }
+    None
 }

@@ -4,8 +4,8 @@
 //! stands for, applies the operation to each choice of them as a whole number, and takes a bit or a carry of the answer as
 //! known where all answers have the same. Operands are pairs of known bits and value, bits are 0, 1, or 2 for either.
 
+use super::Wrong;
 use bit_domain::{Sum, Tri, TriByte, add, and, eor, equal, not, or, sub};
-use std::test::Fail;
 
 // Operands, carry; sum, its carries out of bit 3, into bit 7 and out of bit 7; difference, its borrows there.
 const SUMS: [[u8; 15]; 35] = [
@@ -313,16 +313,22 @@ fn is_lattice_row(row: &[u8; 10]) -> bool {
     meet && is(a.join(b), row[4], row[5]) && a.le(b) == (row[9] == 1)
 }
 
-#[test]
-fn operations_are_those_of_all_members(rt: HostRuntime) -> Result<(), Fail> {
+/// The first row that isn't that of all members.
+pub fn wrong() -> Wrong {
     for (at, row) in SUMS.iter().enumerate() {
-        assert!(rt; is_sum_row(row), "sum row {at}");
+        if !is_sum_row(row) {
+            return Some(("sum of bits", at));
+        }
     }
     for (at, row) in LOGIC.iter().enumerate() {
-        assert!(rt; is_logic_row(row), "logic row {at}");
+        if !is_logic_row(row) {
+            return Some(("logic of bits", at));
+        }
     }
     for (at, row) in LATTICE.iter().enumerate() {
-        assert!(rt; is_lattice_row(row), "lattice row {at}");
+        if !is_lattice_row(row) {
+            return Some(("join of bits", at));
+        }
     }
-    Ok(())
+    None
 }

@@ -1,4 +1,4 @@
-use Rattle.std.proofs.Common.{sym, subst, ◌≡◌, ℕ, ◌<◌, Some, slice_get, length, arith}
+use Rattle.std.proofs.Common.{sym, subst, ◌≡◌, ℕ, false, ◌<◌, Some, slice_get, length, arith}
 use Rattle.std.specs.declared.cmp.Ordering.TheVariants.{Less}
 use Rattle.mask_states.specs.declared.keys.NodeKey.{NodeKey}
 use Rattle.mask_states.specs.Order.{node_cmp}
@@ -14,7 +14,7 @@ returns-clause-seeds c =
     let xs = c.args.items.now.items in
     let few = subst (λ (ys : Seeds). length ys < 65536) c.deref.ensures.value (c.may_follow.ensures.room c.if-not-may_follow.false) in
     let below : c.args.from < length xs = omega (arith, c.if-from-len.false, c.len.ensures) in
-    subst AreSeeds (sym c.in_ok-push.ensures.items) (with_from xs c.args.key c.args.from c.requires.seeds few below)
+    subst (AreSeeds false) (sym c.in_ok-push.ensures.items) (with_from xs c.args.key c.args.from c.requires.seeds few below)
 
 pub returns-clause-ascending : goal.returns-clause-ascending
 returns-clause-ascending c =

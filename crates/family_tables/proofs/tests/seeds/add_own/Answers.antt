@@ -1,4 +1,4 @@
-use Rattle.std.proofs.Common.{sym, subst, ◌≡◌, ℕ, ◌<◌, ◌^◌, [], ◌∷◌, ◌++◌, Some, slice_get, length}
+use Rattle.std.proofs.Common.{sym, subst, ◌≡◌, ℕ, false, ◌<◌, ◌^◌, [], ◌∷◌, ◌++◌, Some, slice_get, length}
 use Rattle.std.specs.declared.cmp.Ordering.TheVariants.{Less}
 use Rattle.abs_state.specs.declared.state.AbsState.{AbsState}
 use Rattle.mask_states.specs.declared.keys.NodeKey.{NodeKey}
@@ -15,8 +15,8 @@ returns-clause-seeds c =
     let xs = c.args.items.now.items in
     let few = subst (λ (ys : Seeds). length ys < 65536) c.deref.ensures.value (c.may_follow.ensures.room c.if-not-may_follow.false) in
     let masks = subst (λ (n : ℕ). n < 2 ^ 25) c.bits.ensures.value c.bits.ensures.small in
-    subst AreSeeds (sym c.in_ok-push.ensures.items)
-    (subst (λ (s : AbsState). AreSeeds (xs ++ (c.args.key, State s) ∷ [])) (sym c.root.ensures)
+    subst (AreSeeds false) (sym c.in_ok-push.ensures.items)
+    (subst (λ (s : AbsState). AreSeeds false (xs ++ (c.args.key, State s) ∷ [])) (sym c.root.ensures)
     (with_root xs c.args.key c.requires.seeds few c.if-key-ge-WORDS.false masks c.requires.closed c.requires.unpicked))
 
 pub returns-clause-ascending : goal.returns-clause-ascending
