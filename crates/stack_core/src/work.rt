@@ -54,18 +54,34 @@ fn on_flash(
     }
 }
 
+/// The same, with the marks of the program kept where the list has the line `pairs`, whose rules look for them again and again.
+fn with_marks(
+    alloc: Global,
+    command: &Command<'_>,
+    loaded: &mut Loaded,
+    assumptions: &Assumptions,
+    second: &[u8],
+) -> Result<Reply, AllocError>
+    ensures { IfOk result (λ r. LoadedReply (command_seen command.now) loaded.old second.now assumptions.now r.status r.text.items) }
+{
+    if assumptions.has_pairs() {
+        loaded.flash.keep_marks()?;
+    }
+    on_flash(alloc, command, loaded, assumptions, second)
+}
+
 /// What is answered for a firmware that was loaded.
 fn under_list(
     alloc: Global,
     command: &Command<'_>,
-    loaded: &Loaded,
+    loaded: &mut Loaded,
     second: &[u8],
     list: &Option<Vec<u8>>,
 ) -> Result<Reply, AllocError>
-    ensures { IfOk result (λ r. WithList (bytes_of list.now) (λ A. LoadedReply (command_seen command.now) loaded.now second.now A) r.status r.text.items) }
+    ensures { IfOk result (λ r. WithList (bytes_of list.now) (λ A. LoadedReply (command_seen command.now) loaded.old second.now A) r.status r.text.items) }
 {
     match listed(alloc, list)? {
-        Listing::Listed(assumptions) => on_flash(alloc, command, loaded, &assumptions, second),
+        Listing::Listed(assumptions) => with_marks(alloc, command, loaded, &assumptions, second),
         Listing::Unlisted(reply) => Ok(reply),
     }
 }
@@ -84,9 +100,9 @@ fn on_image(
     same_names_give_same_reports();
     same_names_give_same_places();
     match loaded(alloc, command.device(), firmware)? {
-        Image::Loaded(loaded) => {
+        Image::Loaded(mut loaded) => {
             have_16_bits(loaded.flash.words());
-            let reply = under_list(alloc, command, &loaded, second, list)?;
+            let reply = under_list(alloc, command, &mut loaded, second, list)?;
             Ok(reply)
         }
         Image::Refused(reply) => Ok(reply),
