@@ -49,9 +49,9 @@ CURES = {
         "`-mcall-prologues`, with which avr-libc's printf family, `strtol`, `qsort`, `dtostrf` and time functions are built too",
         "`frame @frames`; or build without it, and do without these functions (`utoa` and `itoa` need none of it)"),
     "division": (
-        "the same, with `frame @frames`",
-        "32-bit division (`__udivmodsi4`) or `sscanf` beside such a function: libgcc counts r1 down to 0, which isn't known as 0 behind the loop",
-        "`docs/examples/udivmodsi4.S` linked in, in place of libgcc's routine; or `sscanf` left out"),
+        "the same, with `frame @frames` and without `pairs`",
+        "32-bit division (`__udivmodsi4`) or `sscanf` beside such a function: libgcc counts r1 down to 0, which bits and ranges don't tell behind the loop",
+        "`pairs`; or `docs/examples/udivmodsi4.S` linked in, in place of libgcc's routine; or `sscanf` left out"),
     "two tables": (
         "`refused 2` or `4` behind `jump __tablejump2__ 1 @tables`",
         "tables of `switch` in two functions: the line lets the one jump into the other",
@@ -149,7 +149,9 @@ def of_stack_pointer(elf, lines, word, name):
     """A write of the stack pointer is told by its function, and by what was done to r29 before."""
     if name == "__epilogue_restores__":
         begin, end = elf.extent(elf.symbol_at(2 * word))
-        return "division" if any(begin <= 2 * it < end for it in lines.sites("frame")) else "prologues"
+        if not any(begin <= 2 * it < end for it in lines.sites("frame")):
+            return "prologues"
+        return "sized" if lines.has_pairs() else "division"
     if candidates.is_start_up(elf, word):
         return "unhandled"
     before = [elf.word(at) for at in range(max(word - 4, 0), word)]

@@ -2,8 +2,8 @@
 
 import os
 
+from lines import Lines
 from program import OK, Program
-from spec import KINDS
 
 
 class Cost:
@@ -15,9 +15,9 @@ class Cost:
 
 def with_never(assumed, word):
     """An assumption file with a `never` line more, in its place."""
-    keyed = {(int(line.split()[1], 16), KINDS.index(line.split()[0])): line for line in assumed.splitlines()}
-    keyed.setdefault((word, KINDS.index("never")), f"never {word:04X}")
-    return "".join(f"{line}\n" for _, line in sorted(keyed.items()))
+    lines = Lines(assumed)
+    lines.add(word, "never")
+    return lines.text()
 
 
 def bound_without(outcome, assumed, word, folder):

@@ -6,7 +6,7 @@ import opcodes
 from devices import NAME_OF, VECTORS
 from names import SpecFault, function, shown
 from sites import SITES, STORES
-from spec import KINDS, MOST_ITEMS, Spec
+from spec import KINDS, MOST_ITEMS, NOWHERE, PAIRS, Spec, assumption_line
 
 
 class Lines:
@@ -15,8 +15,9 @@ class Lines:
     def __init__(self, text=""):
         self.items, self.given = {}, set()
         for line in text.splitlines():
-            kind, site, *items = line.split()
-            self.items[int(site, 16), KINDS.index(kind)] = {int(it, 16) for it in items}
+            kind, *words = line.split()
+            site, *items = [int(it, 16) for it in words] or [NOWHERE]
+            self.items[site, KINDS.index(kind)] = set(items)
         self.given = set(self.items)
 
     def copy(self):
@@ -43,6 +44,13 @@ class Lines:
         self.items.setdefault(key, set()).update(items)
         return is_new
 
+    def has_pairs(self):
+        return self.has(NOWHERE, PAIRS)
+
+    def add_pairs(self):
+        """Adds the line `pairs`, at the head of all others."""
+        return self.add(NOWHERE, PAIRS)
+
     def put(self, site, kind, items):
         self.items[site, KINDS.index(kind)] = set(items)
 
@@ -58,7 +66,7 @@ class Lines:
         return [(site, KINDS[number]) for site, number in sorted(set(self.items) - self.given)]
 
     def line(self, site, kind):
-        return " ".join([kind, f"{site:04X}", *(f"{it:04X}" for it in sorted(self.of(site, kind)))])
+        return assumption_line(kind, site, self.of(site, kind))
 
     def text(self):
         return "".join(self.line(site, KINDS[kind]) + "\n" for site, kind in sorted(self.items))

@@ -1,7 +1,8 @@
 """Looks for the lines of an assumption file under which a firmware has a bound that no trial run shows to be empty.
 
-Each line is safe: `frame` assumes nothing; a run that leaves the targets of a `jump` line, writes a register that no `store` line lists, or takes
-the vector of a `never` line is flagged there, and `premises` lists these places; a line that lists too much costs bytes of the bound at most.
+Each line is safe: `pairs` and `frame` assume nothing; a run that leaves the targets of a `jump` line, writes a register that no `store` line
+lists, or takes the vector of a `never` line is flagged there, and `premises` lists these places; a line that lists too much costs bytes of the
+bound at most.
 `at_refusal` says which function writes lines for which refusal.
 """
 
@@ -78,8 +79,10 @@ class Mending(Analysis):
         return other
 
     def run(self, is_plain):
-        """Analyses and tries the firmware, with lines of its own unless it is asked for plain answers."""
+        """Analyses and tries the firmware, with lines of its own, of which `pairs` is the first, unless it is asked for plain answers."""
         begin = 0
+        if not is_plain:
+            self.lines.add_pairs()
         for left in range(ROUNDS, -1, -1):
             is_accepted, text = self.analyse()
             self.refusal, self.certificate, self.stop = (None, text, None) if is_accepted else (text.strip(), None, None)

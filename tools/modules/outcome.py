@@ -11,7 +11,7 @@ from devices import VECTORS, device_of
 from elf import Elf
 from mending import Mending
 from program import OK, USAGE, NoProgram
-from spec import assumptions
+from spec import UNASSUMED, assumptions
 from telling import flagged, lines_for, others, written
 
 
@@ -107,22 +107,27 @@ def assumed_here(outcome):
         yield from (f"assumed: {it}" for it in outcome.written)
 
 
+def holds_of(outcome):
+    """Of which runs the bound holds: of all where `premises` lists no place; and whether one is known that reaches it."""
+    told = "The bound holds of every run: no step can be flagged" if outcome.places == [] else "The bound holds of each run up to its first flagged step"
+    return told + ("." if outcome.witness == "attained" else "; no schedule shows that it is reached.")
+
+
 def tell_premises(outcome, program, certificate):
     """What the bound rests on: that no step is flagged before, the assumption file, and the places where one may be, where `premises` is."""
-    outcome.rests_on.append("The bound holds of each run up to its first flagged step." if outcome.witness == "attained" else
-                            "The bound holds of each run up to its first flagged step; no schedule shows that it is reached.")
-    for line in outcome.assumed.splitlines():
-        kind, word = line.split()[:2]
-        if kind != "frame":  # which is no assumption
-            outcome.rests_on.append(f"assumed: {line}, at {outcome.place_of_line(kind, int(word, 16))}")
-    outcome.rests_on += assumed_here(outcome)
     lines = program.lines("premises", certificate, "--why")
     if lines is None:
         lines = program.lines("premises", certificate)
+    if lines is not None:
+        outcome.places, outcome.causes = lines[1:], causes.by_word(lines[1:])
+    outcome.rests_on.append(holds_of(outcome))
+    for line in outcome.assumed.splitlines():
+        kind, *words = line.split()
+        if kind not in UNASSUMED:
+            outcome.rests_on.append(f"assumed: {line}, at {outcome.place_of_line(kind, int(words[0], 16))}")
+    outcome.rests_on += assumed_here(outcome)
     if lines is None:
         outcome.rests_on.append("This stackbound doesn't list the places where a step may be flagged; the tool `flagged` finds some.")
-        return
-    outcome.places, outcome.causes = lines[1:], causes.by_word(lines[1:])
 
 
 def accept(outcome, program, certificate, text):

@@ -8,11 +8,18 @@ from sites import AT_LINE
 from targets import targets
 
 MOST_ITEMS, MOST_LINES = 64, 4096
-KINDS = ("jump", "store", "prove", "free", "never", "frame")  # as they stand at one site
-FORMS = {"jump": "FUNCTION N ..", "store": "FUNCTION N ..", "prove": "FUNCTION N", "free": "FUNCTION N", "never": "VECTOR", "frame": "FUNCTION",
+PAIRS, NOWHERE = "pairs", -1  # the line that stands at no site and before all others
+KINDS = (PAIRS, "jump", "store", "prove", "free", "never", "frame")  # as they stand at one site
+FORMS = {PAIRS: "", "jump": "FUNCTION N ..", "store": "FUNCTION N ..", "prove": "FUNCTION N", "free": "FUNCTION N", "never": "VECTOR", "frame": "FUNCTION",
          "keeps": "FUNCTION:LINE"}
+UNASSUMED = (PAIRS, "frame")  # those that assume nothing
 AT_SITES = ("jump", "store", "prove", "free")  # those whose site may be told by a source line
 START_UP = "@startup"
+
+
+def assumption_line(kind, place, items):
+    """The line of an assumption file of this kind, at this word, with these items."""
+    return " ".join([kind, *([] if place == NOWHERE else [f"{place:04X}"]), *(f"{it:04X}" for it in sorted(items))])
 
 
 class Line:
@@ -85,7 +92,7 @@ def is_of_form(kind, rest):
     form = FORMS[kind].split()
     if kind in AT_SITES and rest and AT_LINE.match(rest[0]):
         form.pop(0)
-    return len(rest) >= len(form) if form[-1] == ".." else len(rest) == len(form)
+    return len(rest) >= len(form) if form[-1:] == [".."] else len(rest) == len(form)
 
 
 def words_of(line):
@@ -103,7 +110,9 @@ def read_line(elf, device, words):
     if kind not in FORMS:
         raise SpecFault(f"{kind} is none of {', '.join(KINDS)} and keeps")
     if not is_of_form(kind, rest):
-        raise SpecFault(f"`{kind} {FORMS[kind]}` is wanted")
+        raise SpecFault(f"`{kind} {FORMS[kind]}".rstrip() + "` is wanted")
+    if kind == PAIRS:
+        return kind, {NOWHERE}, set()
     if kind == "never":
         return kind, vectors(elf, device, rest[0]), set()
     if kind == "frame":
@@ -148,7 +157,7 @@ class Spec:
             above = comment if not words else ""
 
     def text(self):
-        """The text of the assumption file. Lines on one site are one line."""
+        """The text of the assumption file. Lines on one site are one line, and those of `pairs` too."""
         lines, number = {}, 0
         for line in self.lines:
             number = line.number
@@ -159,8 +168,7 @@ class Spec:
                     raise SpecFault(f"line {number}: a line of an assumption file has at most {MOST_ITEMS} words, and these are {len(held)}")
         if len(lines) > MOST_LINES:
             raise SpecFault(f"line {number}: an assumption file has at most {MOST_LINES} lines, and these are {len(lines)}")
-        return "".join(" ".join([KINDS[kind], f"{place:04X}", *(f"{it:04X}" for it in sorted(items))]) + "\n"
-                       for (place, kind), items in sorted(lines.items()))
+        return "".join(assumption_line(KINDS[kind], place, items) + "\n" for (place, kind), items in sorted(lines.items()))
 
 
 def assumptions(elf, text, device=None):

@@ -4,6 +4,7 @@ import candidates
 import opcodes
 from devices import NAME_OF
 from lines import Lines, spec_line
+from spec import NOWHERE, PAIRS, UNASSUMED
 from targets import constructors, tables
 
 MOST_OTHERS = 8  # vectors that are tried behind the first that lets itself in
@@ -34,12 +35,14 @@ def line_of_spec(outcome, lines, site, kind):
 
 
 def written(outcome, lines):
-    """The lines that weren't given: the `frame` lines as one."""
+    """The lines that weren't given: `pairs` first, and the `frame` lines as one."""
+    if lines.has_pairs() and not lines.is_given(NOWHERE, PAIRS):
+        yield Written(PAIRS, PAIRS, "on which no bound rests")
     frames = [site for site, kind in lines.written() if kind == "frame"]
     if frames:
         yield Written("frame @frames", ", ".join(lines.line(it, "frame") for it in frames), f"at {len(frames)} places; no bound rests on it")
     for site, kind in lines.written():
-        if kind != "frame":
+        if kind not in UNASSUMED:
             place = outcome.place_of_line(kind, site)
             yield Written(line_of_spec(outcome, lines, site, kind), lines.line(site, kind), f"at {site:04X} {place}")
 
@@ -80,9 +83,9 @@ def lines_for(outcome, work, name):
     """The lines of a spec that this tool would write for a refusal of this cause, with all candidates."""
     more = work.copy()
     more.lines.given = set(more.lines.items)
-    if name not in BY_LINES or not more.at_refusal(work.refusal):
-        return []
-    return [it.spec or it.words for it in written(outcome, more.lines)]
+    if name == "division" and more.lines.add_pairs() or name in BY_LINES and more.at_refusal(work.refusal):
+        return [it.spec or it.words for it in written(outcome, more.lines)]
+    return []
 
 
 def others(outcome, work, name, word):
