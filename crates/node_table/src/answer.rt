@@ -55,25 +55,27 @@ fn show_registers(rt: &HostRuntime, state: &AbsState, before: &AbsState) -> io::
 
 fn show_flags(rt: &HostRuntime, state: &AbsState, before: &AbsState) -> io::Result<()> {
     let (flags, was) = (state.flags, before.flags);
-    if was.entry && !flags.entry {
-        print!(rt; " -entry")?;
-    }
-    if flags.entry && !was.entry {
-        print!(rt; " entry")?;
+    match (was.entry, flags.entry) {
+        (true, false) => print!(rt; " -entry")?,
+        (false, true) => print!(rt; " entry")?,
+        _ => {}
     }
     if flags.bits != was.bits {
         print!(rt; " flags=-{:02X}{:02X}", flags.bits.known, flags.bits.value)?;
     }
-    match flags.carry {
-        CarryTag::Borrow(j, k) if flags.carry != was.carry => {
-            print!(rt; " carry=b{j:02X}{k:02X}")
-        }
-        CarryTag::Sum(j, k) if flags.carry != was.carry => { print!(rt; " carry=s{j:02X}{k:02X}") }
-        CarryTag::Less(r, number) if flags.carry != was.carry => {
-            print!(rt; " carry=c{r:02X}{number:02X}")
-        }
-        CarryTag::None if flags.carry != was.carry => print!(rt; " carry=-"),
-        _ => Ok(()),
+    if flags.carry != was.carry {
+        show_carry(rt, flags.carry)
+    } else {
+        Ok(())
+    }
+}
+
+fn show_carry(rt: &HostRuntime, carry: CarryTag) -> io::Result<()> {
+    match carry {
+        CarryTag::None => print!(rt; " carry=-"),
+        CarryTag::Borrow(j, k) => print!(rt; " carry=b{j:02X}{k:02X}"),
+        CarryTag::Sum(j, k) => print!(rt; " carry=s{j:02X}{k:02X}"),
+        CarryTag::Less(r, number) => print!(rt; " carry=c{r:02X}{number:02X}"),
     }
 }
 

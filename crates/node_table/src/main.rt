@@ -32,30 +32,39 @@ fn show(rt: &HostRuntime, row: &Row, lines: &Assumptions) -> io::Result<()> {
 }
 
 /// Prints a line: an assumption is kept for the row behind it, and a row gets its answer.
-fn show_line(rt: &HostRuntime, line: &str, mut lines: Assumptions) -> io::Result<Assumptions> {
+fn show_line(rt: &HostRuntime, line: &str, lines: &mut Assumptions) -> io::Result<()> {
     println!(rt; "{line}")?;
     if line.is_empty() || line.starts_with('#') {
-        return Ok(lines);
+        return Ok(());
     }
-    if let Some(entry) = entry_of(rt.alloc(), line.as_bytes())? {
-        if lines.entries().len() < MOST_ENTRIES && lines.push(entry).is_ok() {
-            return Ok(lines);
+    match entry_of(rt.alloc(), line.as_bytes())? {
+        Some(entry) => {
+            if lines.entries().len() < MOST_ENTRIES && lines.push(entry).is_ok() {
+                return Ok(());
+            }
+            println!(rt; "  not above the last")
         }
-        println!(rt; "  not above the last")?;
-        return Ok(lines);
+        None => {
+            let shown = show_row(rt, line, lines);
+            *lines = Assumptions::empty(rt.alloc());
+            shown
+        }
     }
+}
+
+/// Prints the answer to a row.
+fn show_row(rt: &HostRuntime, line: &str, lines: &Assumptions) -> io::Result<()> {
     match row::read(rt.alloc(), line)? {
-        Some(row) => show(rt, &row, &lines)?,
-        None => println!(rt; "  malformed")?,
+        Some(row) => show(rt, &row, lines),
+        None => println!(rt; "  malformed"),
     }
-    Ok(Assumptions::empty(rt.alloc()))
 }
 
 fn main(rt: HostRuntime) -> io::Result<()> {
     let text = fs::read_to_string(&rt, "nodes.txt")?;
     let mut lines = Assumptions::empty(rt.alloc());
     for line in text.lines() {
-        lines = show_line(&rt, line, lines)?;
+        show_line(&rt, line, &mut lines)?;
     }
     Ok(())
 }

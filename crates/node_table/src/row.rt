@@ -35,6 +35,11 @@ fn number(text: &str) -> Option<u16> {
     u16::from_str_radix(text, 16).ok()
 }
 
+// A hexadecimal number of at most two digits.
+fn byte(text: &str) -> Option<u8> {
+    u8::from_str_radix(text, 16).ok()
+}
+
 fn decimal(text: &str) -> Option<u16> {
     u16::from_str_radix(text, 10).ok()
 }
@@ -71,15 +76,22 @@ fn kind(text: &str) -> Option<Kind> {
 
 // `c` and the offset; or `o`, the offset of the low byte, a comma, and `k` with a known high byte or `t` with the number of its tag.
 fn form(text: &str) -> Option<SpForm> {
-    let Some((offset, high)) = text.split_once(',') else {
-        return Some(SpForm::Closed(decimal(text.strip_prefix('c')?)?));
-    };
-    let offset = decimal(offset.strip_prefix('o')?)?;
-    let high = match high.strip_prefix('k') {
-        Some(known) => High::Known(u8::from_str_radix(known, 16).ok()?),
-        None => High::Tag(number(high.strip_prefix('t')?)?),
-    };
-    Some(SpForm::Open(offset, high))
+    match text.split_once(',') {
+        Some((offset, high)) => Some(SpForm::Open(lettered(offset, 'o')?, high_byte(high)?)),
+        None => Some(SpForm::Closed(lettered(text, 'c')?)),
+    }
+}
+
+// A letter and a decimal number.
+fn lettered(text: &str, letter: char) -> Option<u16> {
+    decimal(text.strip_prefix(letter)?)
+}
+
+fn high_byte(text: &str) -> Option<High> {
+    match text.strip_prefix('k') {
+        Some(known) => Some(High::Known(byte(known)?)),
+        None => Some(High::Tag(number(text.strip_prefix('t')?)?)),
+    }
 }
 
 // One word, or two with a comma between them.
@@ -97,9 +109,9 @@ fn tag(text: &str) -> Option<Tag> {
     } else if text == "f" {
         Some(Tag::EntryFlags)
     } else if let Some(r) = text.strip_prefix('e') {
-        Some(Tag::Entry(u8::from_str_radix(r, 16).ok()?))
+        Some(Tag::Entry(byte(r)?))
     } else if let Some(j) = text.strip_prefix('l') {
-        Some(Tag::SpLo(u8::from_str_radix(j, 16).ok()?))
+        Some(Tag::SpLo(byte(j)?))
     } else {
         Some(Tag::SpHi(number(text.strip_prefix('h')?)?))
     }
@@ -148,6 +160,21 @@ fn carry(text: &str) -> Option<CarryTag> {
     } else {
         None
     }
+}
+
+// A hyphen and the bits of the status register.
+fn flags(text: &str) -> Option<TriByte> {
+    bits(text.strip_prefix('-')?)
+}
+
+fn masks(text: &str) -> Option<Masks> {
+    Masks::from_bits(u32::from_str_radix(text, 16).ok()?)
+}
+
+// Puts a value that was read into its place.
+fn put<T: Copy>(place: &mut T, read: Option<T>) -> Option<()> {
+    *place = read?;
+    Some(())
 }
 
 impl Row {
@@ -214,21 +241,31 @@ impl Row {
     // What a word says of the node.
     fn set(&mut self, name: &str, text: &str) -> Option<()> {
         if name == "pc" {
-            self.key.pc = number(text)?;
+            put(&mut self.key.pc, number(text))
         } else if name == "behind" {
-            self.behind = behind(text)?;
+            put(&mut self.behind, behind(text))
         } else if name == "masks" {
-            self.key.masks = Masks::from_bits(u32::from_str_radix(text, 16).ok()?)?;
+            put(&mut self.key.masks, masks(text))
         } else if name == "device" {
-            self.device = device(text)?;
+            put(&mut self.device, device(text))
         } else if name == "pick" {
-            self.key.pick = Some(u8::from_str_radix(text, 16).ok()?);
+            put(&mut self.key.pick, byte(text).map(Some))
         } else if name == "flags" {
-            self.state.flags.bits = bits(text.strip_prefix('-')?)?;
+            put(&mut self.state.flags.bits, flags(text))
         } else if name == "carry" {
-            self.state.flags.carry = carry(text)?;
+            put(&mut self.state.flags.carry, carry(text))
         } else {
-            self.set_byte(name, text)?;
+            self.set_byte(name, text)
+        }
+    }
+
+    // What the words behind the heading say of it.
+    fn set_all(&mut self, text: &str) -> Option<()> {
+        for word in text.split(' ').skip(4) {
+            match word.split_once('=') {
+                Some((name, text)) => self.set(name, text)?,
+                None => self.turn_on(word)?,
+            }
         }
         Some(())
     }
@@ -266,14 +303,8 @@ pub fn read(alloc: Global, text: &str) -> Result<Option<Row>, AllocError> {
         return Ok(None);
     };
     let mut row = Row::new(alloc, (first, second), kind, sp)?;
-    for word in text.split(' ').skip(4) {
-        let said = match word.split_once('=') {
-            Some((name, text)) => row.set(name, text),
-            None => row.turn_on(word),
-        };
-        if said.is_none() {
-            return Ok(None);
-        }
+    match row.set_all(text) {
+        Some(()) => Ok(Some(row)),
+        None => Ok(None),
     }
-    Ok(Some(row))
 }
