@@ -1,6 +1,6 @@
 //! The state of each node.
 
-ghost use Rattle.std.specs.Prelude.{◌≡◌, ◌≢◌, ◌<◌, ◌↔◌, length, Contains, Some, IsTrue, IfOk, OnErr};
+ghost use Rattle.std.specs.Prelude.{◌≡◌, ◌≢◌, ◌<◌, ◌↔◌, length, Contains, Some, IsTrue, IfOk, OnOk, OnErr, ◌++◌};
 ghost use Rattle.std.specs.Map.{keys_of};
 ghost use Rattle.mask_states.specs.declared.keys.NodeKey as node_key;
 ghost use Rattle.abs_state.specs.declared.state.AbsState as abs_state;
@@ -200,17 +200,32 @@ fn keys_in(map: &IndexMap<Place, u32>, alloc: Global) -> Result<Vec<NodeKey>, Al
     Ok(all)
 }
 
+// Puts the nodes of the numbers behind others.
+fn add_nodes(
+    all: &mut Vec<Node>,
+    map: IndexMap<Place, u32>,
+    pool: &mut Pool,
+    alloc: Global,
+) -> Result<(), AllocError>
+    requires { AreCounted pool.old map.entries }
+    ensures { OnOk result (all.new.items ≡ all.old.items ++ list_map node_of (stated pool.old map.entries)) }
+{
+    all.reserve(map.len())?;
+    for (place, number) in map {
+        let key = place.key;
+        let state = taken(pool, alloc, number)?;
+        all.push(Node { key, state })?;
+    }
+    Ok(())
+}
+
 // The nodes by their numbers.
 fn nodes_in(map: IndexMap<Place, u32>, pool: Pool, alloc: Global) -> Result<Vec<Node>, AllocError>
     requires { AreCounted pool map.entries }
     ensures { IfOk result (λ all. all.items ≡ list_map node_of (stated pool map.entries)) }
 {
-    let mut pool = pool;
-    let mut all = Vec::with_capacity(alloc, map.len())?;
-    for (place, number) in map {
-        let key = place.key;
-        let state = taken(&mut pool, alloc, number)?;
-        all.push(Node { key, state })?;
-    }
-    Ok(all)
+    let (mut pool, mut all) = (pool, Vec::new(alloc));
+    let told = add_nodes(&mut all, map, &mut pool, alloc);
+    drop(pool);
+    told.and(Ok(all))
 }

@@ -3,7 +3,7 @@ use Rattle.mask_states.specs.declared.keys.NodeKey.{NodeKey}
 use Rattle.family_table.specs.Families.{node_of}
 use Rattle.family_table.specs.Shared.{AreCounted}
 use Rattle.family_table.proofs.Shared.{one_taken, first_used}
-use Rattle.family_table.proofs.table.nodes_in.Goals as goal
+use Rattle.family_table.proofs.table.add_nodes.Goals as goal
 
 pub taken-requires : goal.taken-requires
 taken-requires c =
