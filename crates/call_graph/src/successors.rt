@@ -61,21 +61,18 @@ fn add_entries(
     Ok(())
 }
 
-// The edge back from a node of the entered instance, if it returns and its state fits.
+// The edge back from a node of the entered instance that returns so, if its state fits.
 fn add_return(
     alloc: Global,
     edges: &mut Listed<Edge>,
     caller: &Caller<'_>,
-    exit: Option<Exit>,
+    exit: &Exit,
     leaving: &AbsState,
 ) -> Result<(), AllocError>
     requires { (r : ℕ) → r < 32 → NamesRegister (value_at leaving.now.registers r).tag }
-    ensures { OnOk result (edges.new ≡ edges.old ++ returned_by caller.now.key.now caller.now.state.now caller.now.way exit leaving.now) }
+    ensures { OnOk result (edges.new ≡ edges.old ++ returned_by caller.now.key.now caller.now.state.now caller.now.way (Some exit.now) leaving.now) }
 {
-    let Some(exit) = exit else {
-        return Ok(());
-    };
-    let Some(node) = returned(alloc, caller, &exit, leaving)? else {
+    let Some(node) = returned(alloc, caller, exit, leaving)? else {
         return Ok(());
     };
     edges.push(Edge {
@@ -102,9 +99,13 @@ fn add_leaver<V: View>(
     requires given { AreKnown flash.now assumptions.now (V.nodes view.now) known.now }
     ensures { (n : Node) → slice_get (V.nodes view.now) at ≡ Some n → OnOk result (edges.new ≡ edges.old ++ return_edges flash.now assumptions.now caller.now.key.now caller.now.state.now caller.now.way n) }
 {
-    let exit = exit_of(alloc, flash, assumptions, view, at, known)?;
-    let leaving = view.state(at);
-    add_return(alloc, edges, caller, exit, leaving)
+    match exit_of(alloc, flash, assumptions, view, at, known)? {
+        Some(exit) => {
+            let leaving = view.state(at);
+            add_return(alloc, edges, caller, &exit, leaving)
+        }
+        None => Ok(()),
+    }
 }
 
 // The edges back from the instance that the caller entered.
