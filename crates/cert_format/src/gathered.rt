@@ -1,9 +1,11 @@
 //! The lists of a certificate: one reader of so many lines, and what each list does with a line.
 
 ghost use Rattle.std.specs.Prelude.{◌≡◌, ◌≤◌, ◌<◌, ◌+◌, ℕ, List, [], Option, length};
+ghost use Rattle.std.specs.Option.{option_map};
 ghost use Rattle.avr_model.specs.State as model;
 ghost use Rattle.avr_model.specs.Assumptions.{has_pairs};
 ghost use Rattle.sb_base.specs.Answers.{Answers};
+ghost use Rattle.line_reading.specs.Reading.{text_in, passed};
 ghost use Rattle.mask_states.specs.Keys.{offset_of};
 ghost use Rattle.cert_format.specs.declared.fault.CertFault.{CertFault};
 ghost use Rattle.cert_format.specs.declared.fault.CertFault.TheVariants as fault;
@@ -15,7 +17,6 @@ use avr_model::assumption::Entry;
 use certificate::{Inst, Limit, Version};
 use edge_rules::NodeForm;
 use indirect_targets::entry_of;
-use line_reading::{pass_line, peek_text};
 use mask_states::NodeKey;
 use sb_base::LineReader;
 use std::alloc::Global;
@@ -48,6 +49,15 @@ pub(crate) trait Gathered {
         ensures same { by self.new ≡ by self.old };
 }
 
+/// The text of the next line, which is passed over. None exactly where no line is left or the next isn't whole.
+fn next_text<'a>(reader: &mut LineReader<'a>) -> Option<&'a [u8]>
+    ensures text { option_map (λ t. t.now) result ≡ text_in reader.old.rest }
+    ensures passed { reader.new ≡ passed reader.old }
+{
+    let line = reader.next()?;
+    if line.whole { Some(line.text) } else { None }
+}
+
 /// Reads the item of the next line behind those before it.
 #[tactic(auto, unfolding(crate::specs::Reading::longer_at, line_reading::specs::Reading::line_by))]
 fn read_next<G: Gathered>(
@@ -60,11 +70,10 @@ fn read_next<G: Gathered>(
     ensures same { G.by list.new ≡ G.by list.old }
 {
     let at = reader.offset();
-    let Some(text) = peek_text(reader) else {
+    let Some(text) = next_text(reader) else {
         return Err(CertFault::Malformed(at));
     };
     list.add(alloc, text, at)?;
-    pass_line(reader);
     Ok(())
 }
 
