@@ -2,6 +2,7 @@ pub mod Steps
 pub mod Words
 pub mod Repeated
 pub mod Digits
+pub mod Table
 pub mod Pieces
 pub mod Appending
 pub mod AllLaws

@@ -22,18 +22,33 @@ impl<'a> Model for Letters<'a> {
     ghost view = { λ l. l.rest.now };
 }
 
+/// The number that each byte stands for as an upper-case hexadecimal digit: 16 where it is no such digit.
+static DIGITS: [u8; 256] = [
+    16, 16, 16, 16, 16, 16, 16, 16, 16, 16, 16, 16, 16, 16, 16, 16,
+    16, 16, 16, 16, 16, 16, 16, 16, 16, 16, 16, 16, 16, 16, 16, 16,
+    16, 16, 16, 16, 16, 16, 16, 16, 16, 16, 16, 16, 16, 16, 16, 16,
+    0, 1, 2, 3, 4, 5, 6, 7, 8, 9, 16, 16, 16, 16, 16, 16,
+    16, 10, 11, 12, 13, 14, 15, 16, 16, 16, 16, 16, 16, 16, 16, 16,
+    16, 16, 16, 16, 16, 16, 16, 16, 16, 16, 16, 16, 16, 16, 16, 16,
+    16, 16, 16, 16, 16, 16, 16, 16, 16, 16, 16, 16, 16, 16, 16, 16,
+    16, 16, 16, 16, 16, 16, 16, 16, 16, 16, 16, 16, 16, 16, 16, 16,
+    16, 16, 16, 16, 16, 16, 16, 16, 16, 16, 16, 16, 16, 16, 16, 16,
+    16, 16, 16, 16, 16, 16, 16, 16, 16, 16, 16, 16, 16, 16, 16, 16,
+    16, 16, 16, 16, 16, 16, 16, 16, 16, 16, 16, 16, 16, 16, 16, 16,
+    16, 16, 16, 16, 16, 16, 16, 16, 16, 16, 16, 16, 16, 16, 16, 16,
+    16, 16, 16, 16, 16, 16, 16, 16, 16, 16, 16, 16, 16, 16, 16, 16,
+    16, 16, 16, 16, 16, 16, 16, 16, 16, 16, 16, 16, 16, 16, 16, 16,
+    16, 16, 16, 16, 16, 16, 16, 16, 16, 16, 16, 16, 16, 16, 16, 16,
+    16, 16, 16, 16, 16, 16, 16, 16, 16, 16, 16, 16, 16, 16, 16, 16,
+];
+
 /// The number that an upper-case hexadecimal digit stands for; none where the byte is no such digit.
 fn digit_of(byte: u8) -> Option<u8>
     ensures value { result ≡ (if is_hex byte then Some (digit_of byte) else None) }
     ensures small { IfSome result (λ n. n < 16) }
 {
-    if byte >= b'0' && byte <= b'9' {
-        Some(byte - b'0')
-    } else if byte >= b'A' && byte <= b'F' {
-        Some(byte - b'A' + 10)
-    } else {
-        None
-    }
+    let digit = DIGITS[usize::from(byte)];
+    if digit < 16 { Some(digit) } else { None }
 }
 
 impl<'a> Letters<'a> {
