@@ -151,11 +151,10 @@ impl Ord for InstKey {
 
     /// The first field that differs decides, in the order in which they are declared.
     fn cmp(&self, other: &InstKey) -> Ordering {
-        self.kind
-            .cmp(&other.kind)
-            .then(self.entry.cmp(&other.entry))
-            .then(self.masks.cmp(&other.masks))
-            .then(self.i.cmp(&other.i))
+        let found = self.kind.cmp(&other.kind);
+        let found = Ordering::or_cmp(found, &self.entry, &other.entry);
+        let found = Ordering::or_cmp(found, &self.masks, &other.masks);
+        Ordering::or_cmp(found, &self.i, &other.i)
     }
 }
 
@@ -198,14 +197,13 @@ impl Ord for NodeKey {
 
     /// The first field that differs decides, in the order in which they are declared.
     fn cmp(&self, other: &NodeKey) -> Ordering {
-        self.inst
-            .cmp(&other.inst)
-            .then(self.pc.cmp(&other.pc))
-            .then(self.masks.cmp(&other.masks))
-            .then(self.i.cmp(&other.i))
-            .then(self.delay.cmp(&other.delay))
-            .then(self.sp.cmp(&other.sp))
-            .then(self.pick.cmp(&other.pick))
+        let found = self.inst.cmp(&other.inst);
+        let found = Ordering::or_cmp(found, &self.pc, &other.pc);
+        let found = Ordering::or_cmp(found, &self.masks, &other.masks);
+        let found = Ordering::or_cmp(found, &self.i, &other.i);
+        let found = Ordering::or_cmp(found, &self.delay, &other.delay);
+        let found = Ordering::or_cmp(found, &self.sp, &other.sp);
+        Ordering::or_cmp(found, &self.pick, &other.pick)
     }
 }
 

@@ -1,8 +1,11 @@
+use Rattle.std.proofs.Common.{refl}
+use Rattle.std.specs.Ordering.{nat_cmp, bool_cmp}
 use Rattle.mask_states.proofs.Chains.{inst_chained}
 use Rattle.mask_states.proofs.keys.InstKeyOrd.cmp.Goals as goal
 
 pub returns : goal.returns
 returns c =
-    let chained = inst_chained c.args.self.now c.args.other.now c.cmp.result c.cmp-2.result c.cmp-3.result c.cmp-4.result c.cmp.ensures
-    c.cmp-2.ensures c.cmp-3.ensures c.cmp-4.ensures in
+    let a = c.args.self.now in
+    let b = c.args.other.now in
+    let chained = inst_chained a b c.cmp-found.result (nat_cmp a.entry b.entry) (nat_cmp a.masks b.masks) (bool_cmp a.i b.i) c.cmp-found.ensures refl refl refl in
     cc

@@ -1,8 +1,14 @@
+use Rattle.std.proofs.Common.{refl}
+use Rattle.std.specs.Option.{option_cmp}
+use Rattle.std.specs.Ordering.{nat_cmp, bool_cmp}
+use Rattle.mask_states.specs.contracts.keys.SpFormOrd.TheImpl as forms
 use Rattle.mask_states.proofs.Chains.{node_chained}
 use Rattle.mask_states.proofs.keys.NodeKeyOrd.cmp.Goals as goal
 
 pub returns : goal.returns
 returns c =
-    let chained = node_chained c.args.self.now c.args.other.now c.cmp.result c.cmp-2.result c.cmp-3.result c.cmp-4.result
-    c.cmp-5.result c.cmp-6.result c.cmp-7.result c.cmp.ensures c.cmp-2.ensures c.cmp-3.ensures c.cmp-4.ensures c.cmp-5.ensures c.cmp-6.ensures c.cmp-7.ensures in
+    let a = c.args.self.now in
+    let b = c.args.other.now in
+    let chained = node_chained a b c.cmp-found.result (nat_cmp a.pc b.pc) (nat_cmp a.masks b.masks) (bool_cmp a.i b.i) (bool_cmp a.delay b.delay)
+    (forms.ghosts.cmp a.sp b.sp) (option_cmp nat_cmp a.pick b.pick) c.cmp-found.ensures refl refl refl refl refl refl in
     cc
