@@ -1,13 +1,14 @@
 //! Bytes that two instructions name of a pair of registers.
 
-ghost use Rattle.std.specs.Prelude.{◌≡◌};
+ghost use Rattle.std.specs.Prelude.{◌≡◌, ◌<◌, IfSome};
 ghost use Rattle.avr_model.specs.Marks.{immediate_of, is_pair, other_side};
 
 use avr_model::instruction::{BinaryOp, ImmediateInstr, ImmediateOp, Instr};
 
 /// The instruction, where it is one of a register and a byte.
 pub fn immediate(instr: &Instr) -> Option<ImmediateInstr>
-    ensures { result ≡ immediate_of instr.now }
+    ensures value { result ≡ immediate_of instr.now }
+    ensures register { IfSome result (λ found. found.register < 32) }
 {
     match *instr {
         Instr::Immediate(op, register, byte) => Some(ImmediateInstr {
@@ -29,7 +30,8 @@ pub fn is_pair(low: u16, high: u16) -> bool
 /// The register with which `cpc` compares the high register of a pair, behind a `cpi` of the low one; none where the two
 /// instructions aren't these.
 pub fn other_side(first: ImmediateInstr, next: &Instr) -> Option<u16>
-    ensures { result ≡ other_side first next.now }
+    ensures value { result ≡ other_side first next.now }
+    ensures register { IfSome result (λ side. side < 32) }
 {
     match *next {
         Instr::Binary(op, high, side) => {

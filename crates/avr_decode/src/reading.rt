@@ -2,6 +2,7 @@
 
 ghost use Rattle.std.specs.Prelude.{◌≡◌, ◌≤◌, IfOk, length};
 ghost use Rattle.avr_model.specs.Devices.{IsFlash};
+ghost use Rattle.avr_model.specs.Image.{AreErased};
 ghost use Rattle.avr_decode.specs.Reading.{AreReadings};
 
 use crate::fixed::is_fixed;
@@ -22,8 +23,9 @@ pub struct Reading {
 }
 
 /// How many words there are up to the last that isn't erased.
-fn written(words: &[u16]) -> usize
-    ensures { result ≤ length words.now }
+pub fn written(words: &[u16]) -> usize
+    ensures within { result ≤ length words.now }
+    ensures erased { AreErased words.now result (length words.now) }
 {
     let mut count = words.len();
     while count > 0 && words[count - 1] == 0xFFFF {

@@ -7,3 +7,4 @@ mod RawWords
 mod Behind
 pub mod Said
 pub mod Marked
+pub mod Loads

@@ -1,12 +1,12 @@
 -- Tables of marks, and what they tell of intervals.
-use Rattle.std.proofs.Common.{◌≡◌, ◌≢◌, ◌⊎◌, inl, inr, ⊎_elim, ℕ, zero, suc, ◌+◌, ◌*◌, ◌<◌, ◌≤◌, max, min, nat_le, Bool, true, false, eqb, List, [], ◌∷◌, ◌++◌, length, get_or, set, map, replicate, subst, arith, refl, sym, ap, ◌∙◌, append_assoc}
+use Rattle.std.proofs.Common.{◌≡◌, ◌≢◌, ◌⊎◌, inl, inr, ⊎_elim, ℕ, zero, suc, ◌+◌, ◌<◌, ◌≤◌, max, min, nat_le, Bool, true, false, eqb, List, [], ◌∷◌, ◌++◌, length, get_or, set, map, replicate, subst, arith, refl, sym, ap, ◌∙◌, append_assoc}
 use Rattle.std.specs.Prelude.{◌||◌, if◌then◌else◌}
 use Rattle.std.specs.List.{list_any}
 use Rattle.std.proofs.lemmas.Bool.{cases_eq, cases_lt, eq-eqb, ne_eqb, eqb-true, or_left, or_right}
 use Rattle.std.proofs.lemmas.List.{length-set, get_or-set_same, get_or-set_other, length-replicate, get_or-replicate, map-append}
 use Rattle.basics.specs.Booleans.{or_with_false, never_both}
 use Rattle.basics.specs.Numbers.{test_from_at_most}
-use Rattle.avr_model.specs.Marks.{joined_below, usual_marks, immediate_at, loaded_byte, loaded_bytes, marks_at, marks}
+use Rattle.avr_model.specs.Marks.{joined_below}
 use Rattle.pair_domain.specs.Marks.{mark_below, mark_above}
 use Rattle.pair_domain.proofs.AllLaws.{marks_widen}
 use Rattle.flash_image.specs.Marked.{marked, IsTable}
@@ -17,11 +17,11 @@ pub marked_append : (table : List Bool) (xs ys : List ℕ) → marked table (xs 
 marked_append table [] ys = refl
 marked_append table (x ∷ xs) ys = marked_append (set table x true) xs ys
 
-marked_length : (table : List Bool) (ms : List ℕ) → length (marked table ms) ≡ length table
+pub marked_length : (table : List Bool) (ms : List ℕ) → length (marked table ms) ≡ length table
 marked_length table [] = refl
 marked_length table (m ∷ ms) = marked_length (set table m true) ms ∙ length-set table m true
 
-set_tells : (table : List Bool) (m k : ℕ) → k < length table → get_or (set table m true) k false ≡ (eqb m k || get_or table k false)
+pub set_tells : (table : List Bool) (m k : ℕ) → k < length table → get_or (set table m true) k false ≡ (eqb m k || get_or table k false)
 set_tells table m k lt = ⊎_elim same other (cases_eq k m)
   where
     same : k ≡ m → get_or (set table m true) k false ≡ (eqb m k || get_or table k false)
@@ -38,7 +38,7 @@ turned true false c = refl
 turned false true c = refl
 turned false false c = refl
 
-marked_tells : (ms : List ℕ) (table : List Bool) (k : ℕ) → k < length table → get_or (marked table ms) k false ≡ (list_any (λ n. eqb n k) ms || get_or table k false)
+pub marked_tells : (ms : List ℕ) (table : List Bool) (k : ℕ) → k < length table → get_or (marked table ms) k false ≡ (list_any (λ n. eqb n k) ms || get_or table k false)
 marked_tells [] table k lt = refl
 marked_tells (m ∷ ms) table k lt =
     marked_tells ms (set table m true) k (omega (arith, lt, length-set table m true))
@@ -57,11 +57,11 @@ table_of ms table is =
 
 -- ---- marking in turn
 
-joined_none : (f : ℕ → List ℕ) → joined_below 0 f ≡ []
+pub joined_none : (f : ℕ → List ℕ) → joined_below 0 f ≡ []
 unfolding joined_below
 joined_none f = refl
 
-joined_more : (n : ℕ) (f : ℕ → List ℕ) → joined_below (n + 1) f ≡ joined_below n f ++ f n
+pub joined_more : (n : ℕ) (f : ℕ → List ℕ) → joined_below (n + 1) f ≡ joined_below n f ++ f n
 unfolding joined_below
 joined_more n f = ap (λ (m : ℕ). joined_below m f) (let e : n + 1 ≡ suc n = omega arith in e)
 
@@ -76,29 +76,10 @@ marked_more start now next front n f is more =
     more ∙ ap (λ (t : List Bool). marked t (f n)) is ∙ sym (marked_append start (front ++ joined_below n f) (f n))
     ∙ ap (marked start) (append_assoc front (joined_below n f) (f n) ∙ ap (λ (ms : List ℕ). front ++ ms) (sym (joined_more n f)))
 
--- all
-pub all_marked : (words : List ℕ) (start now : List Bool) (n : ℕ) → n ≡ length words → now ≡ marked start (usual_marks ++ joined_below n (marks_at words)) → now ≡ marked start (marks words)
-unfolding marks
-all_marked words start now n e is = is ∙ ap (λ (m : ℕ). marked start (usual_marks ++ joined_below m (marks_at words))) e
-
--- a low byte with what a word loads
-abbrev pub byte_marks : List ℕ → ℕ → ℕ → ℕ → List ℕ
-byte_marks words low p a = map (λ high. 256 * high + low) (loaded_byte p (immediate_at words a))
-
-map_joined : (g : ℕ → ℕ) (n : ℕ) (f : ℕ → List ℕ) → map g (joined_below n f) ≡ joined_below n (λ a. map g (f a))
+pub map_joined : (g : ℕ → ℕ) (n : ℕ) (f : ℕ → List ℕ) → map g (joined_below n f) ≡ joined_below n (λ a. map g (f a))
 unfolding joined_below
 map_joined g zero f = refl
 map_joined g (suc n) f = map-append g (joined_below n f) (f n) ∙ ap (λ (ms : List ℕ). ms ++ map g (f n)) (map_joined g n f)
-
-pub side_marked : (words : List ℕ) (low p : ℕ) (start now : List Bool) (n : ℕ) → n ≡ length words → now ≡ marked start ((low ∷ []) ++ joined_below n (byte_marks words low p))
-    → now ≡ marked start (map (λ high. 256 * high + low) (loaded_bytes words p))
-side_marked words low p start now n e is =
-    is ∙ ap (λ (m : ℕ). marked start (low ∷ joined_below m (byte_marks words low p))) e
-    ∙ ap (λ (ms : List ℕ). marked start (low ∷ ms)) (sym (map_joined (λ high. 256 * high + low) (length words) (λ a. loaded_byte p (immediate_at words a))))
-    ∙ ap (λ (m : ℕ). marked start (m ∷ map (λ high. 256 * high + low) (joined_below (length words) (λ a. loaded_byte p (immediate_at words a))))) first
-  where
-    first : low ≡ 256 * 0 + low
-    first = omega arith
 
 -- ---- nearest marks
 

@@ -1,7 +1,9 @@
 -- Tables of marks: a truth for each number of 16 bits.
-use Rattle.std.specs.Prelude.{ℕ, ◌≡◌, ◌<◌, ◌==◌, Bool, true, false, List, [], ◌∷◌, length, slice_set, slice_index_or}
+use Rattle.std.specs.Prelude.{ℕ, ◌+◌, ◌*◌, ◌≡◌, ◌<◌, ◌==◌, Bool, true, false, List, [], ◌∷◌, length, slice_set, slice_index_or, Option, Some, None, if◌then◌else◌}
 use Rattle.std.specs.List.{list_any}
-use Rattle.avr_model.specs.Marks.{marks}
+use Rattle.avr_model.specs.declared.instruction.ImmediateInstr.{ImmediateInstr}
+use Rattle.avr_model.specs.Marks.{joined_below, immediate_at, loaded_byte, marks}
+use Rattle.avr_model.specs.Sites.{loads}
 
 -- the table with these numbers marked, too
 abbrev pub marked : List Bool → List ℕ → List Bool
@@ -16,3 +18,20 @@ pub record IsTable (ms : List ℕ) (table : List Bool) : Type 0 where
 -- there is no table yet, or it is that of the program's marks
 abbrev pub AreMarksKept : List ℕ → List Bool → Type 0
 AreMarksKept words table = 0 < length table → IsTable (marks words) table
+
+-- the table with the byte noted that an instruction loads, at 256 times its register and the byte
+abbrev pub noted : List Bool → Option ImmediateInstr → List Bool
+noted table None = table
+noted table (Some x) = if loads x.op then slice_set table (256 * x.register + x.byte) true else table
+
+-- the bytes that `ldi` loads into register p
+abbrev pub loaded_below : List ℕ → ℕ → ℕ → List ℕ
+loaded_below words p n = joined_below n (λ a. loaded_byte p (immediate_at words a))
+
+-- the table tells of each byte and register whether one of the first n words loads it
+abbrev pub AreLoadsBelow : ℕ → List ℕ → List Bool → Type 0
+AreLoadsBelow n words table = (p b : ℕ) → p < 32 → b < 256 → slice_index_or table (256 * p + b) false ≡ list_any (λ m. m == b) (loaded_below words p n)
+
+-- the table tells of each byte and register whether the program loads it
+abbrev pub AreLoads : List ℕ → List Bool → Type 0
+AreLoads words table = AreLoadsBelow (length words) words table

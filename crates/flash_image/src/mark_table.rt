@@ -1,9 +1,9 @@
 //! Tables of marks: a truth for each number of 16 bits.
 
-ghost use Rattle.std.specs.Prelude.{◌≡◌, ◌+◌, ◌*◌, ◌<◌, ℕ, List, length};
-ghost use Rattle.avr_model.specs.Marks.{loaded_number, pair_number, added_number, usual_marks};
+ghost use Rattle.std.specs.Prelude.{◌≡◌, ◌+◌, ◌*◌, ◌<◌, ℕ, List, Some, length};
+ghost use Rattle.avr_model.specs.Marks.{loaded_number, pair_number, added_number, side_marks, usual_marks};
 ghost use Rattle.pair_domain.specs.Marks.{mark_below, mark_above, outward};
-ghost use Rattle.flash_image.specs.Marked.{marked, IsTable};
+ghost use Rattle.flash_image.specs.Marked.{marked, IsTable, noted, AreLoads};
 
 use avr_decode::is_pair;
 use avr_model::instruction::{ImmediateInstr, ImmediateOp};
@@ -12,8 +12,11 @@ use pair_domain::Interval;
 /// How many numbers have 16 bits.
 pub(crate) const NUMBERS: usize = 65536;
 
-/// The number of two bytes.
-pub(crate) fn number(low: u8, high: u8) -> u16
+/// How many pairs of a register and a byte there are: byte `b` of register `r` is number `256 * r + b`.
+pub(crate) const LOADS: usize = 8192;
+
+// The number of two bytes.
+fn number(low: u8, high: u8) -> u16
     ensures { result ≡ 256 * high + low }
 {
     256 * u16::from(high) + u16::from(low)
@@ -52,6 +55,29 @@ pub(crate) fn mark_added(table: &mut [bool; NUMBERS], first: ImmediateInstr, sec
         && is_pair(first.register, second.register)
     {
         table[usize::from(0u16.wrapping_sub(number(first.byte, second.byte)))] = true;
+    }
+}
+
+/// Notes the byte that an instruction loads into its register.
+pub(crate) fn note_load(loads: &mut [bool; LOADS], load: ImmediateInstr)
+    requires { load.register < 32 }
+    ensures { loads.new ≡ noted loads.old (Some load) }
+{
+    if matches!(load.op, ImmediateOp::Ldi) {
+        loads[256 * usize::from(load.register) + usize::from(load.byte)] = true;
+    }
+}
+
+/// Marks a low byte with each high byte that the program loads into a register, and with 0.
+pub(crate) fn mark_side(table: &mut [bool; NUMBERS], loads: &[bool; LOADS], side: u16, low: u8)
+    requires { side < 32 }
+    ensures { (words : List ℕ) → AreLoads words loads.now → table.new ≡ marked table.old (side_marks words low (Some side)) }
+{
+    table[usize::from(low)] = true;
+    for high in 0..256 {
+        if loads[256 * usize::from(side) + high] {
+            table[256 * high + usize::from(low)] = true;
+        }
     }
 }
 

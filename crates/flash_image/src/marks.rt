@@ -1,16 +1,19 @@
 //! The marks of a program, to which computed intervals of pairs of registers are widened.
 
-ghost use Rattle.std.specs.Prelude.{◌≡◌, ◌+◌, ◌*◌, ◌<◌, ℕ, Some, map};
-ghost use Rattle.avr_model.specs.Image.{WORDS};
-ghost use Rattle.avr_model.specs.Marks.{immediate_at, near_marks, loaded_byte, side_marks, compared_marks, marks_at, marks};
+ghost use Rattle.std.specs.Prelude.{◌≡◌, ◌≤◌, ◌<◌, IfSome, length};
+ghost use Rattle.avr_model.specs.Devices.{IsFlash};
+ghost use Rattle.avr_model.specs.Image.{WORDS, AreErased};
+ghost use Rattle.avr_model.specs.Marks.{immediate_at, near_marks, compared_marks, marks_at, marks};
 ghost use Rattle.avr_model.specs.Sites.{instruction_at};
 ghost use Rattle.pair_domain.specs.Marks.{outward};
-ghost use Rattle.flash_image.specs.Marked.{marked};
+ghost use Rattle.flash_image.specs.Marked.{marked, AreLoads};
 
 use crate::image::Flash;
-use crate::mark_table::{NUMBERS, mark_added, mark_loaded, mark_usual, number, widened};
-use avr_decode::{immediate, other_side};
-use avr_model::instruction::{ImmediateInstr, ImmediateOp};
+use crate::mark_table::{
+    LOADS, NUMBERS, mark_added, mark_loaded, mark_side, mark_usual, note_load, widened,
+};
+use avr_decode::{immediate, other_side, written};
+use avr_model::instruction::ImmediateInstr;
 use pair_domain::Interval;
 use std::alloc::AllocError;
 
@@ -22,7 +25,7 @@ impl Flash {
     {
         let mut table = [false; NUMBERS];
         self.mark_all(&mut table);
-        self.mark_table = Vec::from_slice(self.alloc, &table)?;
+        self.mark_table = Vec::from_array(self.alloc, table)?;
         Ok(())
     }
 
@@ -53,28 +56,53 @@ impl Flash {
         ensures { table.new ≡ marked table.old (marks self.now) }
     {
         mark_usual(table);
-        for a in 0..self.device.words() {
-            self.mark_at(table, a);
+        let loads = self.loads();
+        for a in 0..self.written() {
+            self.mark_at(table, &loads, a);
         }
+    }
+
+    // How many words there are up to the last that isn't erased: no marks come from those behind.
+    fn written(&self) -> u16
+        ensures within { result ≤ length self.now }
+        ensures erased { AreErased self.now result (length self.now) }
+        ensures flash { IsFlash self.now }
+    {
+        written(&self.words) as u16
+    }
+
+    // Which bytes the program loads into each register.
+    fn loads(&self) -> [bool; LOADS]
+        ensures { AreLoads self.now result }
+    {
+        let mut loads = [false; LOADS];
+        for a in 0..self.written() {
+            if let Some(load) = self.immediate(a) {
+                note_load(&mut loads, load);
+            }
+        }
+        loads
     }
 
     // Marks those of the instruction at a word address with the ones behind it.
     #[tactic(auto, using(crate::proofs::Marked::marked_append))]
-    fn mark_at(&self, table: &mut [bool; NUMBERS], a: u16)
-        requires { a < WORDS }
+    fn mark_at(&self, table: &mut [bool; NUMBERS], loads: &[bool; LOADS], a: u16)
+        requires word { a < WORDS }
+        requires loads { AreLoads self.now loads.now }
         ensures { table.new ≡ marked table.old (marks_at self.now a) }
     {
         if let Some(first) = self.immediate(a) {
             self.mark_near(table, first, a + 1);
             self.mark_near(table, first, a + 2);
             self.mark_near(table, first, a + 3);
-            self.mark_compared(table, first, a + 1);
+            self.mark_compared(table, loads, first, a + 1);
         }
     }
 
     // The instruction at a word address, where it is one of a register and a byte.
     fn immediate(&self, a: u16) -> Option<ImmediateInstr>
-        ensures { result ≡ immediate_at self.now a }
+        ensures value { result ≡ immediate_at self.now a }
+        ensures register { IfSome result (λ found. found.register < 32) }
     {
         match &self.instruction(a) {
             Some(instr) => immediate(instr),
@@ -94,33 +122,19 @@ impl Flash {
     }
 
     // Marks those of an instruction with the one in the next word, which is word `a`.
-    fn mark_compared(&self, table: &mut [bool; NUMBERS], first: ImmediateInstr, a: u16)
+    fn mark_compared(
+        &self,
+        table: &mut [bool; NUMBERS],
+        loads: &[bool; LOADS],
+        first: ImmediateInstr,
+        a: u16,
+    )
+        requires { AreLoads self.now loads.now }
         ensures { table.new ≡ marked table.old (compared_marks self.now first (instruction_at self.now a)) }
     {
         if let Some(next) = &self.instruction(a) {
             if let Some(side) = other_side(first, next) {
-                self.mark_side(table, side, first.byte);
-            }
-        }
-    }
-
-    // Marks a low byte with each high byte that the program loads into a register.
-    fn mark_side(&self, table: &mut [bool; NUMBERS], side: u16, low: u8)
-        ensures { table.new ≡ marked table.old (side_marks self.now low (Some side)) }
-    {
-        table[usize::from(low)] = true;
-        for a in 0..self.device.words() {
-            self.mark_byte(table, side, low, a);
-        }
-    }
-
-    // Marks a low byte with the high byte that word `a` loads into a register.
-    fn mark_byte(&self, table: &mut [bool; NUMBERS], side: u16, low: u8, a: u16)
-        ensures { table.new ≡ marked table.old (map (λ high. 256 * high + low) (loaded_byte side (immediate_at self.now a))) }
-    {
-        if let Some(load) = self.immediate(a) {
-            if matches!(load.op, ImmediateOp::Ldi) && load.register == side {
-                table[usize::from(number(low, load.byte))] = true;
+                mark_side(table, loads, side, first.byte);
             }
         }
     }
