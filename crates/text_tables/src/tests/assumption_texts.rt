@@ -7,7 +7,7 @@ use sb_base::LineWriter;
 use std::alloc::{AllocError, Global};
 
 /// Each text with its number of entries, or the line at which it is refused and why.
-const TEXTS: [(&[u8], Result<usize, AssumeText>); 54] = [
+static TEXTS: [(&[u8], Result<usize, AssumeText>); 54] = [
     (b"", Ok(0)),
     (b"jump 0004 0005\n", Ok(1)),
     (b"store 0004 005D\n", Ok(1)),
@@ -137,7 +137,7 @@ fn behind_proofs(alloc: Global, more: &[u8]) -> Result<usize, AssumeText> {
 }
 
 /// What stands behind 4,096 lines, of which line 4,097 is malformed whatever it is.
-const BEHIND: [(&[u8], Result<usize, AssumeText>); 4] = [
+static BEHIND: [(&[u8], Result<usize, AssumeText>); 4] = [
     (b"", Ok(4_096)),
     (b"prove 1000\n", Err(AssumeText::Malformed(4_097))),
     (b"prove 0000\n", Err(AssumeText::Malformed(4_097))),
@@ -145,13 +145,13 @@ const BEHIND: [(&[u8], Result<usize, AssumeText>); 4] = [
 ];
 
 /// What stands behind 63 items of an entry, which has at most 64.
-const ITEMS: [(&[u8], Result<usize, AssumeText>); 2] = [
+static ITEMS: [(&[u8], Result<usize, AssumeText>); 2] = [
     (b"003F", Ok(1)),
     (b"003F 0040", Err(AssumeText::Malformed(1))),
 ];
 
 /// Lines alone, and whether each is one, which is so without its line feed.
-const ALONE: [(&[u8], bool); 2] = [(b"jump 0004 0005", true), (b"jump 0004 0005\n", false)];
+static ALONE: [(&[u8], bool); 2] = [(b"jump 0004 0005", true), (b"jump 0004 0005\n", false)];
 
 fn is_alone(alloc: Global, line: &[u8], due: bool) -> bool {
     match entry_of(alloc, line) {
@@ -161,7 +161,7 @@ fn is_alone(alloc: Global, line: &[u8], due: bool) -> bool {
 }
 
 /// Known bits and values of the low and the high byte, and the words; none where they are too many.
-const TARGETS: [(u8, u8, u8, u8, Option<&[u16]>); 8] = [
+static TARGETS: [(u8, u8, u8, u8, Option<&[u16]>); 8] = [
     (0xFF, 0x34, 0xFF, 0x12, Some(&[0x1234])),
     (0xFF, 0x34, 0xFF, 0xD2, Some(&[0x1234])),
     (0xFF, 0x34, 0x3F, 0x12, Some(&[0x1234])),

@@ -2,119 +2,167 @@
 
 use super::Wrong;
 use avr_model::device::Device;
-use commands::{Command, Size, command_of};
+use commands::{Command, command_of};
+
+/// What is compared of a command: its name, the device, the second file, the assumption file, its number, and whether it
+/// answers as JSON.
+type Told = (
+    &'static str,
+    Device,
+    Option<&'static str>,
+    Option<&'static str>,
+    Option<u64>,
+    bool,
+);
 
 /// Words, and the command that they are.
-type Row<'a> = (&'a [&'a str], Option<Command<'a>>);
+type Row = (&'static [&'static str], Told);
 
-const CHECK: Option<Command<'static>> = Some(Command::Check {
-    device: Device::M328,
-    firmware: "a",
-    certificate: "b",
-    assume: Some("c"),
-});
+static ROWS: [Row; 14] = [
+    (
+        &["check", "--assume", "c", "a", "b"],
+        ("check", Device::M328, Some("b"), Some("c"), None, false),
+    ),
+    (
+        &["check", "a", "--assume", "c", "b"],
+        ("check", Device::M328, Some("b"), Some("c"), None, false),
+    ),
+    (
+        &["check", "a", "b", "--assume", "c"],
+        ("check", Device::M328, Some("b"), Some("c"), None, false),
+    ),
+    (
+        &["analyse", "a"],
+        ("analyse", Device::M328, None, None, None, false),
+    ),
+    (
+        &["analyse", "a", "--steps", "0"],
+        ("analyse", Device::M328, None, None, Some(0), false),
+    ),
+    (
+        &["analyse", "--steps", "18446744073709551615", "a"],
+        ("analyse", Device::M328, None, None, Some(u64::MAX), false),
+    ),
+    (
+        &["run", "a", "b"],
+        ("run", Device::M328, Some("b"), None, None, false),
+    ),
+    (
+        &["report", "a", "b"],
+        ("report", Device::M328, Some("b"), None, None, false),
+    ),
+    (
+        &["report", "--json", "a", "--assume", "c", "b"],
+        ("report", Device::M328, Some("b"), Some("c"), None, true),
+    ),
+    (
+        &["demo", "1"],
+        ("demo", Device::M328, None, None, Some(1), false),
+    ),
+    (
+        &["demo", "2000"],
+        ("demo", Device::M328, None, None, Some(2000), false),
+    ),
+    (
+        &["analyse", "a", "--device", "atmega328p"],
+        ("analyse", Device::M328, None, None, None, false),
+    ),
+    (
+        &["analyse", "--device", "atmega48pa", "a"],
+        ("analyse", Device::M48, None, None, None, false),
+    ),
+    (
+        &["analyse", "a", "--device", "atmega168pa", "--steps", "0"],
+        ("analyse", Device::M168, None, None, Some(0), false),
+    ),
+];
 
-fn analyse_on(device: Device, steps: Option<u64>) -> Option<Command<'static>> {
-    Some(Command::Analyse {
-        device,
-        firmware: "a",
-        assume: None,
-        steps,
-    })
+/// Words that are no command.
+static REFUSED: [&[&str]; 20] = [
+    &["analyse", "a", "--device", "atmega8"],
+    &["demo", "1", "--device", "atmega88pa"],
+    &[
+        "check",
+        "a",
+        "b",
+        "--device",
+        "atmega88pa",
+        "--device",
+        "atmega88pa",
+    ],
+    &[],
+    &["help"],
+    &["check", "a"],
+    &["check", "a", "b", "c"],
+    &["check", "a", "--assume", "c", "--assume", "c", "b"],
+    &["check", "a", "b", "--assume"],
+    &["check", "a", ""],
+    &["check", "--", "a", "b"],
+    &["analyse", "--steps", "01", "a"],
+    &["analyse", "--steps", "18446744073709551616", "a"],
+    &["analyse", "-x"],
+    &["analyse", "a", "b"],
+    &["analyse", "a", "--json"],
+    &["run", "a", "b", "--steps", "1"],
+    &["report", "a", "b", "--json", "--json"],
+    &["demo", "0"],
+    &["demo", "2001"],
+];
+
+/// A command's name and its number; those that no row is have none.
+fn named<'a>(command: &Command<'a>) -> (&'static str, Option<u64>) {
+    match command {
+        Command::Check { .. } => ("check", None),
+        Command::Analyse { steps, .. } => ("analyse", *steps),
+        Command::Run { .. } => ("run", None),
+        Command::Report { .. } => ("report", None),
+        Command::Demo { size } => ("demo", Some(u64::from(size.get()))),
+        _ => ("", None),
+    }
 }
 
-fn analyse(steps: Option<u64>) -> Option<Command<'static>> {
-    analyse_on(Device::M328, steps)
+fn is_json(command: &Command<'_>) -> bool {
+    matches!(command, Command::Report { json: true, .. })
 }
 
-fn run() -> Option<Command<'static>> {
-    Some(Command::Run {
-        device: Device::M328,
-        firmware: "a",
-        schedule: "b",
-        assume: None,
-    })
+/// Whether all but `demo` have the firmware `a`.
+fn has_firmware(command: &Command<'_>, name: &str) -> bool {
+    match command.firmware() {
+        Some(firmware) => firmware == "a",
+        None => name == "demo",
+    }
 }
 
-fn report(assume: Option<&'static str>, json: bool) -> Option<Command<'static>> {
-    Some(Command::Report {
-        device: Device::M328,
-        firmware: "a",
-        certificate: "b",
-        assume,
-        json,
-    })
+fn is_told(command: &Command<'_>, told: &Told) -> bool {
+    let (name, number) = named(command);
+    let found = (
+        name,
+        command.device(),
+        command.second(),
+        command.assume(),
+        number,
+        is_json(command),
+    );
+    has_firmware(command, name) && found == *told
 }
 
-fn demo(size: Size) -> Option<Command<'static>> {
-    Some(Command::Demo { size })
+fn is_row(row: &Row) -> bool {
+    match command_of(row.0) {
+        Some(command) => is_told(&command, &row.1),
+        None => false,
+    }
 }
 
-/// The first words that are another command.
+/// The first words that are another command, or one where they are none.
 pub fn wrong() -> Wrong {
-    let rows: [Row<'_>; 34] = [
-        (&["check", "--assume", "c", "a", "b"], CHECK),
-        (&["check", "a", "--assume", "c", "b"], CHECK),
-        (&["check", "a", "b", "--assume", "c"], CHECK),
-        (&["analyse", "a"], analyse(None)),
-        (&["analyse", "a", "--steps", "0"], analyse(Some(0))),
-        (
-            &["analyse", "--steps", "18446744073709551615", "a"],
-            analyse(Some(u64::MAX)),
-        ),
-        (&["run", "a", "b"], run()),
-        (&["report", "a", "b"], report(None, false)),
-        (
-            &["report", "--json", "a", "--assume", "c", "b"],
-            report(Some("c"), true),
-        ),
-        (&["demo", "1"], demo(Size::new(1))),
-        (&["demo", "2000"], demo(Size::new(2000))),
-        (&["analyse", "a", "--device", "atmega328p"], analyse(None)),
-        (
-            &["analyse", "--device", "atmega48pa", "a"],
-            analyse_on(Device::M48, None),
-        ),
-        (
-            &["analyse", "a", "--device", "atmega168pa", "--steps", "0"],
-            analyse_on(Device::M168, Some(0)),
-        ),
-        // no command
-        (&["analyse", "a", "--device", "atmega8"], None),
-        (&["demo", "1", "--device", "atmega88pa"], None),
-        (
-            &[
-                "check",
-                "a",
-                "b",
-                "--device",
-                "atmega88pa",
-                "--device",
-                "atmega88pa",
-            ],
-            None,
-        ),
-        (&[], None),
-        (&["help"], None),
-        (&["check", "a"], None),
-        (&["check", "a", "b", "c"], None),
-        (&["check", "a", "--assume", "c", "--assume", "c", "b"], None),
-        (&["check", "a", "b", "--assume"], None),
-        (&["check", "a", ""], None),
-        (&["check", "--", "a", "b"], None),
-        (&["analyse", "--steps", "01", "a"], None),
-        (&["analyse", "--steps", "18446744073709551616", "a"], None),
-        (&["analyse", "-x"], None),
-        (&["analyse", "a", "b"], None),
-        (&["analyse", "a", "--json"], None),
-        (&["run", "a", "b", "--steps", "1"], None),
-        (&["report", "a", "b", "--json", "--json"], None),
-        (&["demo", "0"], None),
-        (&["demo", "2001"], None),
-    ];
-    for (at, row) in rows.iter().enumerate() {
-        if command_of(row.0) != row.1 {
+    for (at, row) in ROWS.iter().enumerate() {
+        if !is_row(row) {
             return Some(("command", at));
+        }
+    }
+    for (at, words) in REFUSED.iter().enumerate() {
+        if command_of(words).is_some() {
+            return Some(("no command", at));
         }
     }
     None

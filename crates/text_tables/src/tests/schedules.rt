@@ -7,7 +7,7 @@ use std::alloc::{AllocError, Global};
 use witness_replay::{Schedule, ScheduleFault};
 
 /// Each text with the place behind its schedule, or the offset of the refused line.
-const TEXTS: [(&[u8], Result<usize, usize>); 30] = [
+static TEXTS: [(&[u8], Result<usize, usize>); 30] = [
     (b"schedule 1\nfill 00\ngo 4 00 00\ntake 2 0\nend\n", Ok(43)),
     (b"schedule 1\nfill FF\nend\n", Ok(23)),
     (
@@ -96,7 +96,7 @@ fn is_within(alloc: Global) -> bool {
 }
 
 /// Equal choices in a row, which are one run.
-const CHOICES: [Choice; 7] = [
+static CHOICES: [Choice; 7] = [
     Choice::Go(0, 0),
     Choice::Go(0, 0),
     Choice::Go(0, 1),

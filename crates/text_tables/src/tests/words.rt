@@ -8,7 +8,7 @@ use sb_base::{
 use std::alloc::{AllocError, Global};
 
 /// The reads of one object in their order: the name, the most bytes that are wanted, and the answer.
-const READS: [(&str, usize, Result<&[u8], FileFault>); 5] = [
+static READS: [(&str, usize, Result<&[u8], FileFault>); 5] = [
     ("a", 3, Ok(b"new")),
     ("a", 3, Err(FileFault::Failed)),
     ("a", 2, Err(FileFault::TooLong)),
@@ -49,7 +49,7 @@ fn misread_of_two(alloc: Global) -> Option<usize> {
 
 /// The texts that one sink is given in their order, the answers, and what is written then. The sink takes 1 byte, 2 and
 /// the rest of the first text, 2 bytes and then a fault of the second, and none of the last.
-const PUTS: [(&[u8], Result<(), SinkFault>, &[u8]); 4] = [
+static PUTS: [(&[u8], Result<(), SinkFault>, &[u8]); 4] = [
     (b"abcdef", Ok(()), b"abcdef"),
     (b"ghijkl", Err(SinkFault::Failed), b"abcdefgh"),
     (b"mn", Ok(()), b"abcdefghmn"),
@@ -91,14 +91,14 @@ fn misput_in_pieces(alloc: Global) -> Option<usize> {
     }
 }
 
-const HEXADECIMAL: [(&[u8], usize, Result<u32, DigitFault>); 4] = [
+static HEXADECIMAL: [(&[u8], usize, Result<u32, DigitFault>); 4] = [
     (b"940C", 4, Ok(37900)),
     (b"FFFFFFFF", 8, Ok(4294967295)),
     (b"940c", 4, Err(DigitFault::BadDigit(3))),
     (b"94", 4, Err(DigitFault::WrongLength(2))),
 ];
 
-const DECIMAL: [(&[u8], u64, Result<u64, DigitFault>); 6] = [
+static DECIMAL: [(&[u8], u64, Result<u64, DigitFault>); 6] = [
     (b"18446744073709551615", u64::MAX, Ok(u64::MAX)),
     (b"18446744073709551616", u64::MAX, Err(DigitFault::TooGreat)),
     (b"2049", 2048, Err(DigitFault::TooGreat)),
@@ -112,7 +112,7 @@ fn is_hexadecimal(row: &(&[u8], usize, Result<u32, DigitFault>)) -> bool {
 }
 
 /// Each line: its text, where it begins, whether a line feed ends it, and the offset behind it.
-const LINES: [(&[u8], usize, bool, usize); 3] = [
+static LINES: [(&[u8], usize, bool, usize); 3] = [
     (b"node 001F 18446744073709551615", 0, true, 31),
     (b"00", 31, true, 34),
     (b"end", 34, false, 37),
