@@ -2,7 +2,7 @@
 
 ghost use Rattle.std.specs.Prelude.{◌≡◌, map, None, Some};
 ghost use Rattle.std.specs.Option.{option_map};
-ghost use Rattle.commands.specs.Commands.{Firmware, Second, Assumptions, device_for, name_of, empty_line, then_words, steps_in, size_in, device_called, device_in, is_stepping, is_plain, is_bare, check_of, analyse_of, run_of, report_of, explain_of, clear_of, premises_of, attain_of, simulate_of, choices_of, choices_in, trials_in, demo_of, called, whole, command_of};
+ghost use Rattle.commands.specs.Commands.{Firmware, Second, Assumptions, device_for, name_of, empty_line, then_words, steps_in, size_in, device_called, device_in, is_stepping, is_plain, is_bare, check_of, analyse_of, run_of, report_of, explain_of, clear_of, premises_of, attain_of, simulate_of, choices_of, choices_in, trials_in, demo_of, called, called_later, whole, command_of};
 ghost use Rattle.commands.specs.Views.{text_of, line_of, command_seen};
 
 use crate::line::Line;
@@ -11,7 +11,7 @@ use avr_model::device::Device;
 use sb_base::read_dec;
 
 /// What the program is to do for a firmware of which device, with the names of the files.
-#[derive(Clone, Copy, PartialEq, Eq)]
+#[derive(Clone, Copy)]
 pub enum Command<'a> {
     /// Judges a certificate for a firmware.
     Check {
@@ -278,10 +278,17 @@ fn check_of<'a>(line: Line<'a>) -> Option<Command<'a>>
     if !is_plain(&line) {
         return None;
     }
+    let (Some(device), Some(firmware), Some(certificate)) = (
+        device_in(line.device),
+        line.first,
+        line.second,
+    ) else {
+        return None;
+    };
     Some(Command::Check {
-        device: device_in(line.device)?,
-        firmware: line.first?,
-        certificate: line.second?,
+        device,
+        firmware,
+        certificate,
         assume: line.assume,
     })
 }
@@ -292,11 +299,18 @@ fn analyse_of<'a>(line: Line<'a>) -> Option<Command<'a>>
     if !is_stepping(&line) || line.second.is_some() {
         return None;
     }
+    let (Some(device), Some(firmware), Some(steps)) = (
+        device_in(line.device),
+        line.first,
+        steps_in(line.steps),
+    ) else {
+        return None;
+    };
     Some(Command::Analyse {
-        device: device_in(line.device)?,
-        firmware: line.first?,
+        device,
+        firmware,
         assume: line.assume,
-        steps: steps_in(line.steps)?,
+        steps,
     })
 }
 
@@ -306,10 +320,17 @@ fn run_of<'a>(line: Line<'a>) -> Option<Command<'a>>
     if !is_plain(&line) {
         return None;
     }
+    let (Some(device), Some(firmware), Some(schedule)) = (
+        device_in(line.device),
+        line.first,
+        line.second,
+    ) else {
+        return None;
+    };
     Some(Command::Run {
-        device: device_in(line.device)?,
-        firmware: line.first?,
-        schedule: line.second?,
+        device,
+        firmware,
+        schedule,
         assume: line.assume,
     })
 }
@@ -320,10 +341,17 @@ fn report_of<'a>(line: Line<'a>) -> Option<Command<'a>>
     if line.steps.is_some() || line.trials.is_some() || line.why {
         return None;
     }
+    let (Some(device), Some(firmware), Some(certificate)) = (
+        device_in(line.device),
+        line.first,
+        line.second,
+    ) else {
+        return None;
+    };
     Some(Command::Report {
-        device: device_in(line.device)?,
-        firmware: line.first?,
-        certificate: line.second?,
+        device,
+        firmware,
+        certificate,
         assume: line.assume,
         json: line.json,
     })
@@ -335,10 +363,17 @@ fn explain_of<'a>(line: Line<'a>) -> Option<Command<'a>>
     if !is_plain(&line) {
         return None;
     }
+    let (Some(device), Some(firmware), Some(certificate)) = (
+        device_in(line.device),
+        line.first,
+        line.second,
+    ) else {
+        return None;
+    };
     Some(Command::Explain {
-        device: device_in(line.device)?,
-        firmware: line.first?,
-        certificate: line.second?,
+        device,
+        firmware,
+        certificate,
         assume: line.assume,
     })
 }
@@ -349,10 +384,17 @@ fn clear_of<'a>(line: Line<'a>) -> Option<Command<'a>>
     if line.assume.is_some() || !is_plain(&line) {
         return None;
     }
+    let (Some(device), Some(firmware), Some(certificate)) = (
+        device_in(line.device),
+        line.first,
+        line.second,
+    ) else {
+        return None;
+    };
     Some(Command::Clear {
-        device: device_in(line.device)?,
-        firmware: line.first?,
-        certificate: line.second?,
+        device,
+        firmware,
+        certificate,
     })
 }
 
@@ -362,10 +404,17 @@ fn premises_of<'a>(line: Line<'a>) -> Option<Command<'a>>
     if line.steps.is_some() || line.trials.is_some() || line.json {
         return None;
     }
+    let (Some(device), Some(firmware), Some(certificate)) = (
+        device_in(line.device),
+        line.first,
+        line.second,
+    ) else {
+        return None;
+    };
     Some(Command::Premises {
-        device: device_in(line.device)?,
-        firmware: line.first?,
-        certificate: line.second?,
+        device,
+        firmware,
+        certificate,
         assume: line.assume,
         why: line.why,
     })
@@ -377,12 +426,20 @@ fn attain_of<'a>(line: Line<'a>) -> Option<Command<'a>>
     if line.steps.is_some() || line.json || line.why {
         return None;
     }
+    let (Some(device), Some(firmware), Some(certificate), Some(trials)) = (
+        device_in(line.device),
+        line.first,
+        line.second,
+        trials_in(line.trials),
+    ) else {
+        return None;
+    };
     Some(Command::Attain {
-        device: device_in(line.device)?,
-        firmware: line.first?,
-        certificate: line.second?,
+        device,
+        firmware,
+        certificate,
         assume: line.assume,
-        trials: trials_in(line.trials)?,
+        trials,
     })
 }
 
@@ -392,12 +449,20 @@ fn simulate_of<'a>(line: Line<'a>) -> Option<Command<'a>>
     if !is_stepping(&line) {
         return None;
     }
+    let (Some(device), Some(firmware), Some(devices), Some(steps)) = (
+        device_in(line.device),
+        line.first,
+        line.second,
+        choices_in(line.steps),
+    ) else {
+        return None;
+    };
     Some(Command::Simulate {
-        device: device_in(line.device)?,
-        firmware: line.first?,
-        devices: line.second?,
+        device,
+        firmware,
+        devices,
         assume: line.assume,
-        steps: choices_in(line.steps)?,
+        steps,
     })
 }
 
@@ -410,6 +475,25 @@ fn demo_of<'a>(line: Line<'a>) -> Option<Command<'a>>
     Some(Command::Demo {
         size: size_in(line.first?)?,
     })
+}
+
+/// The command of this name, which is none of the first five.
+fn called_later<'a>(word: &str, line: Line<'a>) -> Option<Command<'a>>
+    ensures { option_map command_seen result ≡ called_later word.now (line_of line.entry) }
+{
+    if word == "clear" {
+        clear_of(line)
+    } else if word == "premises" {
+        premises_of(line)
+    } else if word == "attain" {
+        attain_of(line)
+    } else if word == "simulate" {
+        simulate_of(line)
+    } else if word == "demo" {
+        demo_of(line)
+    } else {
+        None
+    }
 }
 
 /// The command of this name.
@@ -426,18 +510,8 @@ fn called<'a>(word: &str, line: Line<'a>) -> Option<Command<'a>>
         report_of(line)
     } else if word == "explain" {
         explain_of(line)
-    } else if word == "clear" {
-        clear_of(line)
-    } else if word == "premises" {
-        premises_of(line)
-    } else if word == "attain" {
-        attain_of(line)
-    } else if word == "simulate" {
-        simulate_of(line)
-    } else if word == "demo" {
-        demo_of(line)
     } else {
-        None
+        called_later(word, line)
     }
 }
 

@@ -5,7 +5,7 @@ ghost use Rattle.std.specs.Prelude.{◌≡◌, ◌≤◌, ℕ};
 use std::marker::Model;
 
 /// How many functions the image of `demo` has: 1 to 2,000.
-#[derive(Clone, Copy, PartialEq, Eq)]
+#[derive(Clone, Copy)]
 pub struct Size {
     count: u32,
 }
@@ -41,7 +41,7 @@ impl Size {
 }
 
 /// How many choices a simulated run has unless a stop comes before: at most 16,777,216.
-#[derive(Clone, Copy, PartialEq, Eq)]
+#[derive(Clone, Copy)]
 pub struct Choices {
     count: u32,
 }
