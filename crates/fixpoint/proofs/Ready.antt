@@ -1,6 +1,6 @@
 -- What the tests of a round tell of the family.
-use Rattle.std.proofs.Common.{◌≡◌, ◌≢◌, refl, sym, subst, ℕ, ◌≤◌, List, Some, None, Result, Ok, Err, IfErr, Contains, length, arith}
-use Rattle.std.specs.Result.{IsErrAnd}
+use Rattle.std.proofs.Common.{◌≡◌, ◌≢◌, refl, sym, subst, ℕ, ◌≤◌, List, Some, None, Result, Ok, Err, IfOk, IfErr, OnOk, Contains, length, arith}
+use Rattle.std.specs.Result.{IsErrAnd, result_and}
 use Rattle.avr_model.specs.declared.assumption.Entry.{Entry}
 use Rattle.avr_model.specs.Assumptions.{has_pairs}
 use Rattle.avr_model.specs.Devices.{device_of, size_of}
@@ -36,6 +36,15 @@ use Rattle.fixpoint.proofs.Beyond.{round_beyond}
 pub handed_on : {X E : Type 0} (r : Result X E) (x : E) (P : E → Type 0) → IsErrAnd r (λ e. e ≡ x) → P x → IfErr r P
 handed_on (Ok y) x P h p = tt
 handed_on (Err e) x P h p = subst P (sym h) p
+
+-- what was made, handed on with what was told of it
+pub made_if : {A X E : Type 0} (told : Result A E) (x : X) (r : Result X E) (P : X → Type 0) → r ≡ result_and told (Ok x) → OnOk told (P x) → IfOk r P
+made_if (Ok a) x r P is h = subst (λ s. IfOk s P) (sym is) h
+made_if (Err e) x r P is h = subst (λ s. IfOk s P) (sym is) tt
+
+pub refused_if : {A X E : Type 0} (told : Result A E) (x : X) (r : Result X E) (P : E → Type 0) → r ≡ result_and told (Ok x) → IfErr told P → IfErr r P
+refused_if (Ok a) x r P is h = subst (λ s. IfErr s P) (sym is) tt
+refused_if (Err e) x r P is h = subst (λ s. IfErr s P) (sym is) h
 
 module _ (words : List ℕ) (A : List Entry) where
   pub too_large : (f : Family) (r : Refusal) → IsTooLarge f r → IsStopped words A f r

@@ -148,7 +148,7 @@ fn walk(
     }
 }
 
-// Whether the rounds end at the family, with notes of its own, so that no early end lets go of them.
+// Whether the rounds end at the family, with notes of its own. `drop` lets go of these: a call is one step of the proof, whatever they own.
 fn is_end(
     alloc: Global,
     flash: &Flash,
@@ -161,7 +161,9 @@ fn is_end(
     ensures { OnOk result (IsFound flash.now assumptions.now None table.now) }
 {
     let mut notes = Notes::new(alloc);
-    confirm(alloc, flash, assumptions, table, counted, &mut notes)
+    let told = confirm(alloc, flash, assumptions, table, counted, &mut notes);
+    drop(notes);
+    told
 }
 
 // The walk with notes of its own: the number of the family's cells.
@@ -177,10 +179,27 @@ fn walked(
 {
     let mut notes = Notes::new(alloc);
     let mut counted = 0;
-    match walk(alloc, flash, assumptions, table, &mut counted, &mut notes) {
+    let told = walk(alloc, flash, assumptions, table, &mut counted, &mut notes);
+    drop(notes);
+    match told {
         Ok(()) => Ok(counted),
         Err(refusal) => Err(refusal),
     }
+}
+
+// The walk from an empty family to one at which the rounds end.
+fn walk_to_end(
+    alloc: Global,
+    flash: &Flash,
+    assumptions: &Assumptions,
+    table: &mut Table,
+) -> Result<(), Refusal>
+    requires { table.old ≡ empty }
+    ensures { OnOk result (IsFound flash.now assumptions.now None table.new) }
+{
+    let counted = walked(alloc, flash, assumptions, table)?;
+    is_end(alloc, flash, assumptions, table, counted)?;
+    Ok(())
 }
 
 /// The family at which the rounds end, found in another order. An error says nothing of it.
@@ -192,9 +211,7 @@ pub fn ordered_family(
     ensures { IfOk result (λ f. IsFound flash.now assumptions.now None f) }
 {
     let mut table = Table::new(alloc);
-    let counted = walked(alloc, flash, assumptions, &mut table)?;
-    is_end(alloc, flash, assumptions, &table, counted)?;
-    Ok(table)
+    walk_to_end(alloc, flash, assumptions, &mut table).and(Ok(table))
 }
 
 // The same, or what the rounds tell where the other order gives nothing.

@@ -129,6 +129,25 @@ fn go_on(
     }
 }
 
+// The rounds with notes of their own.
+fn all_rounds(
+    alloc: Global,
+    flash: &Flash,
+    assumptions: &Assumptions,
+    steps: Option<u64>,
+    hurry: bool,
+    table: &mut Table,
+) -> Result<(), Refusal>
+    requires { table.old ≡ empty }
+    ensures found { OnOk result (IsFound flash.now assumptions.now steps table.new) }
+    ensures why_not { IfErr result (λ r. IsWhyNot flash.now assumptions.now steps r) }
+{
+    let mut notes = Notes::new(alloc);
+    let told = go_on(alloc, flash, assumptions, steps, hurry, table, &mut notes);
+    drop(notes);
+    told
+}
+
 /// The family at which the rounds end, or why they end at none within the budget. In a hurry the rounds are left, as for want of memory, once
 /// they look at nodes again and again.
 pub fn least_family(
@@ -142,15 +161,5 @@ pub fn least_family(
     ensures why_not { IfErr result (λ r. IsWhyNot flash.now assumptions.now steps r) }
 {
     let mut table = Table::new(alloc);
-    let mut notes = Notes::new(alloc);
-    go_on(
-        alloc,
-        flash,
-        assumptions,
-        steps,
-        hurry,
-        &mut table,
-        &mut notes,
-    )?;
-    Ok(table)
+    all_rounds(alloc, flash, assumptions, steps, hurry, &mut table).and(Ok(table))
 }
