@@ -3,6 +3,7 @@ pub mod HeldBits
 pub mod Writing
 pub mod Living
 pub mod Remembering
+pub mod Alike
 pub mod Moving
 pub mod Resetting
 pub mod Choosing

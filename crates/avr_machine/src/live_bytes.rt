@@ -1,6 +1,6 @@
 //! Which bytes of SRAM are live.
 
-ghost use Rattle.std.specs.Prelude.{◌≡◌, ◌≤◌, ◌++◌, drop, false, length, min, replicate, slice_index_or, slice_set, true};
+ghost use Rattle.std.specs.Prelude.{◌≡◌, ◌≤◌, ◌↔◌, ◌++◌, drop, false, length, min, IsTrue, replicate, slice_index_or, slice_set, true};
 
 use crate::memory::SIZE;
 use std::marker::Model;
@@ -32,6 +32,12 @@ fn clear_all(flags: &mut [bool])
     flags.fill(false);
 }
 
+fn are_same(flags: &[bool], others: &[bool]) -> bool
+    ensures { IsTrue result ↔ (flags.now ≡ others.now) }
+{
+    flags == others
+}
+
 impl LiveBytes {
     /// None of so many.
     #[tactic(auto, using(crate::proofs::Living::none_live))]
@@ -44,6 +50,24 @@ impl LiveBytes {
             flags: [false; SIZE],
             floor: 0,
         }
+    }
+
+    /// The same bytes again.
+    pub fn copy(&self) -> LiveBytes
+        ensures { result ≡ self.now }
+    {
+        LiveBytes {
+            size: self.size,
+            flags: self.flags,
+            floor: self.floor,
+        }
+    }
+
+    /// Whether the same bytes are live.
+    pub fn is_same(&self, other: &LiveBytes) -> bool
+        ensures { IsTrue result → self.now ≡ other.now }
+    {
+        self.size == other.size && are_same(&self.flags[..self.size], &other.flags[..other.size])
     }
 
     /// Whether the byte at a place is live; none behind the last is.

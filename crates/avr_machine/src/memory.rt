@@ -1,6 +1,6 @@
 //! SRAM: its bytes, and which of them are live.
 
-ghost use Rattle.std.specs.Prelude.{◌≡◌, ◌<◌, ◌≤◌, ◌+◌, ◌-◌, ◌&&◌, ◌∷◌, [], nat_lt, false, true, length, take, replicate};
+ghost use Rattle.std.specs.Prelude.{◌≡◌, ◌<◌, ◌≤◌, ◌+◌, ◌-◌, ◌&&◌, ◌∷◌, [], nat_lt, false, true, length, take, replicate, IsTrue};
 ghost use Rattle.avr_model.specs.Devices.{size_of};
 ghost use Rattle.avr_model.specs.State.{BELOW, is_sram, set_at, byte_in, is_live};
 ghost use Rattle.avr_model.specs.Step.{with_live, written, pruned, live_write};
@@ -18,6 +18,12 @@ pub fn is_sram(device: Device, address: u16) -> bool
     ensures { result ≡ is_sram device address }
 {
     BELOW < address && address <= device.ramend()
+}
+
+fn are_same(bytes: &[u8], others: &[u8]) -> bool
+    ensures { IsTrue result → bytes.now ≡ others.now }
+{
+    bytes == others
 }
 
 /// The bytes of SRAM, and which of them are live: pushed, guarded, and not popped yet. There is room for the bytes of the
@@ -51,6 +57,27 @@ impl Memory {
             bytes: *bytes,
             live: LiveBytes::none(size),
         }
+    }
+
+    /// The same memory again.
+    pub fn copy(&self) -> Memory
+        ensures { result ≡ self.now }
+    {
+        Memory {
+            size: self.size,
+            bytes: self.bytes,
+            live: self.live.copy(),
+        }
+    }
+
+    /// Whether another memory has the same bytes and live ones.
+    #[tactic(auto, using(crate::proofs::Alike::memory_is))]
+    pub fn is_same(&self, other: &Memory) -> bool
+        ensures { IsTrue result → self.now ≡ other.now }
+    {
+        self.size == other.size
+            && are_same(&self.bytes[..self.size], &other.bytes[..other.size])
+            && self.live.is_same(&other.live)
     }
 
     /// Whether an address is one of this SRAM.
