@@ -1,7 +1,7 @@
 -- What a trial finds, and the first of them.
 use Rattle.std.proofs.lemmas.List.Elements.{Contains-append_cases}
 use Rattle.std.proofs.lemmas.List.{take_more}
-use Rattle.std.proofs.Common.{arith, add-one, suc, zero, refl, sym, ap, subst, ◌∙◌, ◌≡◌, ◌≢◌, ◌≤◌, ◌<◌, ◌+◌, ℕ, slice_index_or, List, [], ◌∷◌, ◌++◌, length, Option, Some, IsOkAnd, inl, inr, take, drop}
+use Rattle.std.proofs.Common.{arith, add-one, suc, zero, refl, sym, ap, subst, ◌∙◌, ◌≡◌, ◌≤◌, ◌<◌, ◌+◌, ℕ, slice_index_or, List, [], ◌∷◌, ◌++◌, length, Option, Some, None, IsOkAnd, inl, inr, take, drop}
 use Rattle.basics.specs.Items.{only_one_in}
 use Rattle.basics.specs.Numbers.{most_from_start}
 use Rattle.avr_model.specs.declared.choice.Choice.{Choice}
@@ -17,6 +17,7 @@ use Rattle.certificate.specs.Valid.{Attains}
 use Rattle.witness_search.specs.declared.waypoint.Waypoint.{Waypoint}
 use Rattle.witness_search.specs.Waypoints.{pick_due, due_left}
 use Rattle.trial_runs.specs.Length.{most_choices}
+use Rattle.witness_search.specs.Attempts.{IsAttempt, IsAttempted}
 use Rattle.witness_search.specs.Trials.{fills, trial_by, trial_of, Succeeds, NoneSucceeds, IsTried, IsFound}
 use Rattle.witness_search.specs.Laws.{TrialsAreShort}
 use Rattle.trial_runs.proofs.AllLaws.{few, ends_well, run_legal}
@@ -66,15 +67,13 @@ module _ (law : DepthIsKept) (words : List ℕ) (A : List Entry) where
       (replays bound cs (filled (device_of words) fill) run deep (stop_is steps points bound fill cs is run deep)))
 
 module _ (words : List ℕ) (A : List Entry) (points : List Waypoint) (bound : ℕ) where
-  pub succeeds : (steps fill : ℕ) (cs : List Choice) (depth : ℕ) → steps ≡ most_choices → cs ≡ trial_by steps words A points bound fill
-      → depth ≡ depth_of words A cs (filled (device_of words) fill) → depth ≡ bound → Succeeds words A points bound fill
-  succeeds steps fill cs depth most is deep reached =
-      ap (λ (xs : List Choice). depth_of words A xs (filled (device_of words) fill)) (sym (is ∙ whole steps words A points bound fill most)) ∙ sym deep ∙ reached
+  pub succeeds : (steps fill : ℕ) (cs : List Choice) → steps ≡ most_choices → IsAttempt steps words A points bound fill cs → Succeeds words A points bound fill
+  succeeds steps fill cs most a =
+      ap (λ (xs : List Choice). depth_of words A xs (filled (device_of words) fill)) (sym (a.are ∙ whole steps words A points bound fill most)) ∙ a.depth
 
-  pub fails : (steps fill : ℕ) (cs : List Choice) (depth : ℕ) → steps ≡ most_choices → cs ≡ trial_by steps words A points bound fill
-      → depth ≡ depth_of words A cs (filled (device_of words) fill) → depth ≢ bound → Succeeds words A points bound fill → ⊥
-  fails steps fill cs depth most is deep short h =
-      short (deep ∙ ap (λ (xs : List Choice). depth_of words A xs (filled (device_of words) fill)) (is ∙ whole steps words A points bound fill most) ∙ h)
+  pub fails : (steps fill : ℕ) → steps ≡ most_choices → IsAttempted steps words A points bound fill None → Succeeds words A points bound fill → ⊥
+  fails steps fill most short h =
+      short (ap (λ (xs : List Choice). depth_of words A xs (filled (device_of words) fill)) (whole steps words A points bound fill most) ∙ h)
 
   pub tried : (steps fill : ℕ) (cs : List Choice) (plan : Plan) → steps ≡ most_choices → cs ≡ trial_by steps words A points bound fill → Succeeds words A points bound fill
       → plan.fill ≡ fill → choices_of plan.runs ≡ cs → IsSchedule plan → IsTried words A points bound fill (Some plan)

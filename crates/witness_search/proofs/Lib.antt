@@ -1,4 +1,6 @@
 mod Points
+mod Leading
+mod Attempts
 mod Found
 mod Conditions
 mod One

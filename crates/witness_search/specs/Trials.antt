@@ -1,14 +1,12 @@
 -- Trials along waypoints, and which of them succeeds first. Source: own.
-use Rattle.std.specs.Prelude.{ℕ, ◌≡◌, List, [], ◌∷◌, ◌++◌, Option, Some, None, Contains, IsOkAnd}
+use Rattle.std.specs.Prelude.{ℕ, ◌≡◌, List, [], ◌∷◌, ◌++◌, Option, Some, None, Contains}
 use Rattle.avr_model.specs.declared.choice.Choice.{Choice}
 use Rattle.avr_model.specs.declared.assumption.Entry.{Entry}
 use Rattle.avr_model.specs.Devices.{device_of}
-use Rattle.avr_model.specs.declared.choice.Stop.TheVariants as stop
 use Rattle.avr_model.specs.State.{filled}
 use Rattle.avr_model.specs.Run.{starting, depth_of}
 use Rattle.stimulus.specs.Driving.{choices_by}
 use Rattle.witness_replay.specs.Spelling.{Plan, IsSchedule, choices_of}
-use Rattle.witness_replay.specs.Replay.{replay_of}
 use Rattle.trial_runs.specs.Length.{most_choices}
 use Rattle.witness_search.specs.declared.waypoint.Waypoint.{Waypoint}
 use Rattle.witness_search.specs.Waypoints.{pick_due, due_left}

@@ -4,6 +4,7 @@
 
 pub mod chain;
 pub mod laws;
+mod mark;
 mod searching;
 pub mod trial;
 pub mod waypoint;

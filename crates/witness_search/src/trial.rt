@@ -1,25 +1,51 @@
 //! Trials: runs from reset that take the interrupts of a chain of entries where they are due.
 
-ghost use Rattle.std.specs.Prelude.{◌≡◌, IfOk, IfSome};
-ghost use Rattle.avr_model.specs.Devices.{device_of};
-ghost use Rattle.avr_model.specs.State.{filled};
-ghost use Rattle.avr_model.specs.Run.{IsRun, depth_of};
+ghost use Rattle.std.specs.Prelude.{◌≡◌, ◌≢◌, IfOk, IfSome, IfNone};
 ghost use Rattle.witness_search.specs.Waypoints.{taken, left_after};
 ghost use Rattle.certificate.specs.Valid.{Attains};
-ghost use Rattle.witness_search.specs.Trials.{trial_by, IsTried, IsFound};
+ghost use Rattle.witness_search.specs.Attempts.{IsAttempted};
+ghost use Rattle.witness_search.specs.Trials.{IsTried, IsFound};
 
+use crate::mark::Mark;
 use crate::waypoint::{Waypoint, is_due};
-use avr_machine::{Choice, Machine, Menu};
+use avr_machine::{Choice, Machine, Menu, StepResult};
+use avr_model::listed::Listed;
 use flash_image::Flash;
 use std::alloc::{AllocError, Global};
 use stimulus::laws::depth_is_kept;
-use stimulus::{Driver, Trace};
 use trial_runs::most_choices;
 use vector_table::Assumptions;
 use witness_replay::Schedule;
 
-/// The trial with this fill byte: the next waypoint's interrupt is taken where it is due, and every other choice is
-/// `Go(fill, fill)`, until the depth is the bound or more, or a stop, or so many steps.
+// The next choice of a trial, and the waypoints that are left then: the next waypoint's interrupt where it is due, and else an
+// instruction with the fill byte as its input.
+fn next<'a>(rest: &'a [Waypoint], menu: &Menu, fill: u8) -> (Choice, &'a [Waypoint])
+    ensures choice { result.0 ≡ taken fill rest.now menu.now }
+    ensures left { result.1.now ≡ left_after rest.now menu.now }
+{
+    if let Some((point, after)) = rest.split_first() {
+        if is_due(point, menu) {
+            return (Choice::Take(point.vector, point.clears), after);
+        }
+    }
+    (Choice::Go(fill, fill), rest)
+}
+
+// The choices of a trial that ended at this depth, where it is the bound.
+fn found(choices: Vec<Choice>, machine: &Machine, bound: u16) -> Option<Listed<Choice>>
+    ensures some { IfSome result (λ found. (found ≡ choices.items) × (machine.now.depth ≡ bound)) }
+    ensures none { IfNone result (machine.now.depth ≢ bound) }
+{
+    if machine.depth() == bound {
+        Some(Listed::new(choices))
+    } else {
+        None
+    }
+}
+
+/// The choices of the trial with this fill byte where its depth is the bound: the next waypoint's interrupt is taken where it is due,
+/// and every other choice is `Go(fill, fill)`, until the depth is the bound or more, or a stop, or so many steps. A trial that comes to
+/// a state again, with as many waypoints left, is at its end, since it repeats itself.
 fn attempt(
     alloc: Global,
     flash: &Flash,
@@ -28,29 +54,33 @@ fn attempt(
     bound: u16,
     fill: u8,
     steps: u32,
-) -> Result<Trace, AllocError>
-    ensures choices { IfOk result (λ trace. trace.choices ≡ trial_by steps flash.now assumptions.now points.now bound fill) }
-    ensures run { IfOk result (λ trace. IsRun flash.now assumptions.now trace.choices (filled (device_of flash.now) fill)) }
-    ensures depth { IfOk result (λ trace. trace.depth ≡ depth_of flash.now assumptions.now trace.choices (filled (device_of flash.now) fill)) }
+) -> Result<Option<Listed<Choice>>, AllocError>
+    ensures { IfOk result (IsAttempted steps flash.now assumptions.now points.now bound fill) }
 {
     depth_is_kept();
-    let mut rest = points;
     let mut machine = Machine::start(flash.device(), fill);
-    let mut driver = Driver::new(
-        move |menu: &Menu| -> Choice
-            ensures choice { result ≡ taken fill rest.entry.now menu.now }
-            ensures left { rest.exit.now ≡ left_after rest.entry.now menu.now }
-        {
-            if let Some((point, after)) = rest.split_first() {
-                if is_due(point, menu) {
-                    rest = after;
-                    return Choice::Take(point.vector, point.clears);
-                }
-            }
-            Choice::Go(fill, fill)
-        },
-    );
-    driver.drive(alloc, &mut machine, flash, assumptions, bound, steps)
+    let mut rest = points;
+    let mut choices = Vec::new(alloc);
+    let mut mark = Mark::new(0, &machine, rest);
+    for at in 0..steps {
+        if bound <= machine.depth() {
+            return Ok(found(choices, &machine, bound));
+        }
+        let (choice, left) = next(rest, &machine.menu(), fill);
+        rest = left;
+        choices.push(choice)?;
+        match machine.step(flash, assumptions, choice) {
+            StepResult::Done => {}
+            _ => return Ok(found(choices, &machine, bound)),
+        }
+        if mark.is_met(&machine, rest) {
+            return Ok(None);
+        }
+        if mark.is_old(at) {
+            mark = Mark::new(at, &machine, rest);
+        }
+    }
+    Ok(found(choices, &machine, bound))
 }
 
 /// The schedule of the trial with this fill byte. None exactly where its depth isn't the bound.
@@ -66,7 +96,7 @@ fn try_fill(
     ensures attained { IfOk result (λ found. IfSome found (Attains flash.now assumptions.now bound)) }
 {
     depth_is_kept();
-    let trace = attempt(
+    let Some(choices) = attempt(
         alloc,
         flash,
         assumptions,
@@ -74,11 +104,11 @@ fn try_fill(
         bound,
         fill,
         most_choices(),
-    )?;
-    if trace.depth != bound {
+    )?
+    else {
         return Ok(None);
-    }
-    let schedule = Schedule::from_trace(alloc, fill, trace.choices.as_slice())?;
+    };
+    let schedule = Schedule::from_trace(alloc, fill, choices.as_slice())?;
     Ok(Some(schedule))
 }
 

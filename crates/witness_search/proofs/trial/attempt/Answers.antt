@@ -1,53 +1,62 @@
-use Rattle.std.proofs.Common.{rules, refl, sym, ap, subst, ◌∙◌, ◌≡◌, IsTrue}
-use Rattle.std.proofs.lemmas.Result.{IfOk-weaker}
-use Rattle.avr_model.specs.State.{filled}
-use Rattle.avr_model.specs.Run.{Machine, IsRun, starting}
-use Rattle.avr_machine.specs.Menu.{has_choice}
-use Rattle.stimulus.proofs.AllLaws.{steady_by, determined}
-use Rattle.stimulus.specs.Driving.{choices_by}
-use Rattle.witness_search.specs.Waypoints.{taken, left_after, pick_due, due_left}
-use Rattle.witness_search.specs.contracts.trial.fn.attempt.new as closure
-use Rattle.witness_search.proofs.Points.{taken_stands, taken_is, left_is}
-use Rattle.trial_runs.proofs.AllLaws.{depth_from_reset}
+use Rattle.std.proofs.Common.{arith, refl, ap, sym, ◌∙◌, ◌≡◌, ◌+◌, ◌<◌, inl, inr, length}
+use Rattle.avr_model.specs.declared.choice.StepResult.TheVariants as answer
+use Rattle.avr_model.specs.Step.{step, result_of}
+use Rattle.stimulus.specs.Driving.{IsMenuOf}
+use Rattle.witness_search.specs.Waypoints.{pick_due, due_left}
+use Rattle.witness_search.proofs.Points.{taken_is, left_is}
+use Rattle.witness_search.proofs.Attempts.{goes_on, marked_on, marked_here, ended, stopped, repeated, longer}
 use Rattle.witness_search.proofs.trial.attempt.Goals as goal
+use Rattle.witness_search.proofs.trial.attempt.Goals.{then-is_old, else-is_old}
 
-pub new-driver-requires : goal.new-driver-requires
-new-driver-requires c =
-    steady_by _ (λ f. (closure.captures f).fill ≡ c.args.fill) (λ f a i. tt)
-    (λ f a r next called i.
-    let choice : r ≡ taken (closure.captures f).fill (closure.captures f).rest.now a.0.now = search rules in
-    let same : (closure.captures next).fill ≡ (closure.captures f).fill = search rules in
-    (subst (λ x. IsTrue (has_choice a.0.now x)) (sym choice) (taken_stands (closure.captures f).fill (closure.captures f).rest.now a.0.now), same ∙ i))
-    _ refl
+pub returns-then-bound-depth : goal.returns-then-bound-depth
+returns-then-bound-depth c =
+    let byte : c.args.fill < 256 = omega arith in
+    ended c.args.flash.now c.args.assumptions.now c.args.points.now c.args.bound c.args.fill c.depth_is_kept.ensures c.args.steps byte c.loop-at.choices.items c.loop-at.rest.now c.loop-at.machine c.found.result
+    c.loop-at.invariant.0 (omega arith) (inl (omega arith)) c.found.ensures.some c.found.ensures.none
 
-pub returns-clause-choices : goal.returns-clause-choices
-returns-clause-choices c =
-    IfOk-weaker c.drive.result _ _
-    (λ trace t.
-    determined _ (pick_due c.args.fill) due_left (λ f. (closure.captures f).rest.now) (λ f. (closure.captures f).fill ≡ c.args.fill)
-    (λ f m choice next i asked.
-    let menu = asked.0 in
-    let called = asked.2.called in
-    let chosen : choice ≡ taken (closure.captures f).fill (closure.captures f).rest.now asked.2.shown.now = search rules in
-    let left : (closure.captures next).rest.now ≡ left_after (closure.captures f).rest.now asked.2.shown.now = search rules in
-    let same : (closure.captures next).fill ≡ (closure.captures f).fill = search rules in (
-      chosen ∙ ap (λ x. taken x (closure.captures f).rest.now asked.2.shown.now) i ∙ ap (taken c.args.fill (closure.captures f).rest.now) asked.2.shows ∙ taken_is c.args.fill (closure.captures f).rest.now menu m asked.1,
-      left ∙ ap (left_after (closure.captures f).rest.now) asked.2.shows ∙ left_is (closure.captures f).rest.now menu m asked.1,
-      same ∙ i,
-    ))
-    _ _ _ _ _ _ _ _ (ap (λ f. (closure.captures f).fill) c.new-driver.ensures.closure) t.drives
-    ∙ ap (λ f. choices_by (pick_due c.args.fill) due_left c.args.flash.now c.args.assumptions.now c.args.bound c.args.steps (closure.captures f).rest.now c.start-machine.result) c.new-driver.ensures.closure
-    ∙ ap (λ m. choices_by (pick_due c.args.fill) due_left c.args.flash.now c.args.assumptions.now c.args.bound c.args.steps c.args.points.now m) (c.start-machine.ensures.start ∙ ap (λ d. starting (filled d c.args.fill)) c.device.ensures))
-    c.drive.ensures.ok
+pub returns : goal.returns
+returns c =
+    let byte : c.args.fill < 256 = omega arith in
+    ended c.args.flash.now c.args.assumptions.now c.args.points.now c.args.bound c.args.fill c.depth_is_kept.ensures c.args.steps byte c.loop-at.choices.items c.loop-at.rest.now c.loop-at.machine c.found-2.result
+    c.loop-at.invariant.0 (omega arith) (inr (omega arith)) c.found-2.ensures.some c.found-2.ensures.none
 
-pub returns-clause-run : goal.returns-clause-run
-returns-clause-run c =
-    IfOk-weaker c.drive.result _ _
-    (λ trace t. subst (λ (m : Machine). IsRun c.args.flash.now c.args.assumptions.now trace.choices m.state) (c.start-machine.ensures.start ∙ ap (λ d. starting (filled d c.args.fill)) c.device.ensures) t.run)
-    c.drive.ensures.ok
+pub returns-in_default : goal.returns-in_default
+returns-in_default c =
+    let byte : c.args.fill < 256 = omega arith in
+    let low : c.loop-at.machine.depth < c.args.bound = omega arith in
+    let room : length c.loop-at.choices.items < c.args.steps = omega arith in
+    let menu : IsMenuOf c.menu.result c.loop-at.machine.state = record { pc = c.menu.ensures.pc; sp = c.menu.ensures.sp; masks = c.menu.ensures.masks; takes = c.menu.ensures.takes } in
+    let picks : c.next-choice.result.0 ≡ pick_due c.args.fill c.loop-at.rest.now c.loop-at.machine.state = c.next-choice.ensures.choice ∙ taken_is c.args.fill c.loop-at.rest.now c.menu.result c.loop-at.machine.state menu in
+    stopped c.args.flash.now c.args.assumptions.now c.args.points.now c.args.bound c.args.fill c.depth_is_kept.ensures c.args.steps byte c.loop-at.choices.items c.loop-at.rest.now c.loop-at.machine c.step.new.self c.next-choice.result.0 c.push.new.self.items c.found-in_default.result
+    c.loop-at.invariant.0 room low picks (λ done. c.in_default.not-Done (c.step.ensures.answer ∙ done)) c.step.ensures.state c.in_ok-push.ensures.items c.found-in_default.ensures.some c.found-in_default.ensures.none
 
-pub returns-clause-depth : goal.returns-clause-depth
-returns-clause-depth c =
-    IfOk-weaker c.drive.result _ _
-    (λ trace t. depth_from_reset c.depth_is_kept.ensures c.args.flash.now c.args.assumptions.now c.args.fill c.start-machine.result trace.choices _ trace.depth (c.start-machine.ensures.start ∙ ap (λ d. starting (filled d c.args.fill)) c.device.ensures) t.run t.machine t.depth)
-    c.drive.ensures.ok
+pub returns-then-is_met : goal.returns-then-is_met
+returns-then-is_met c =
+    let byte : c.args.fill < 256 = omega arith in
+    let low : c.loop-at.machine.depth < c.args.bound = omega arith in
+    let menu : IsMenuOf c.menu.result c.loop-at.machine.state = record { pc = c.menu.ensures.pc; sp = c.menu.ensures.sp; masks = c.menu.ensures.masks; takes = c.menu.ensures.takes } in
+    let picks : c.next-choice.result.0 ≡ pick_due c.args.fill c.loop-at.rest.now c.loop-at.machine.state = c.next-choice.ensures.choice ∙ taken_is c.args.fill c.loop-at.rest.now c.menu.result c.loop-at.machine.state menu in
+    let leaves : c.next-choice.result.1.now ≡ due_left c.loop-at.rest.now c.loop-at.machine.state = c.next-choice.ensures.left ∙ left_is c.loop-at.rest.now c.menu.result c.loop-at.machine.state menu in
+    repeated c.args.flash.now c.args.assumptions.now c.args.points.now c.args.bound c.args.fill c.depth_is_kept.ensures c.args.steps byte c.loop-at.mark.machine c.loop-at.machine c.step.new.self c.loop-at.mark.left c.loop-at.rest.now c.next-choice.result.1.now c.next-choice.result.0
+    c.loop-at.invariant.1 low picks leaves (sym c.step.ensures.answer ∙ c.in-Done.is) c.step.ensures.state (c.if-is_met.ensures.state refl) (c.if-is_met.ensures.left refl)
+
+pub loop-at-preserved : goal.loop-at-preserved
+loop-at-preserved c =
+    let low : c.loop-at.machine.depth < c.args.bound = omega arith in
+    let menu : IsMenuOf c.menu.result c.loop-at.machine.state = record { pc = c.menu.ensures.pc; sp = c.menu.ensures.sp; masks = c.menu.ensures.masks; takes = c.menu.ensures.takes } in
+    let picks : c.next-choice.result.0 ≡ pick_due c.args.fill c.loop-at.rest.now c.loop-at.machine.state = c.next-choice.ensures.choice ∙ taken_is c.args.fill c.loop-at.rest.now c.menu.result c.loop-at.machine.state menu in
+    let leaves : c.next-choice.result.1.now ≡ due_left c.loop-at.rest.now c.loop-at.machine.state = c.next-choice.ensures.left ∙ left_is c.loop-at.rest.now c.menu.result c.loop-at.machine.state menu in
+    let done : result_of (step c.args.flash.now c.args.assumptions.now c.loop-at.machine.state c.next-choice.result.0) ≡ answer.Done = sym c.step.ensures.answer ∙ c.in-Done.is in
+    let goes = goes_on c.args.flash.now c.args.assumptions.now c.args.points.now c.args.bound c.args.fill c.args.points.now _ c.loop-at.choices.items c.loop-at.rest.now c.loop-at.machine c.step.new.self c.next-choice.result.0 c.next-choice.result.1.now c.push.new.self.items
+    c.loop-at.invariant.0 low picks leaves done c.step.ensures.state c.in_ok-push.ensures.items in (
+      goes,
+      elim c.if-is_old.branch [
+        | then-is_old w ↦
+            rw w.mark-is (marked_here c.args.flash.now c.args.assumptions.now c.args.points.now c.args.bound c.args.fill c.push.new.self.items c.next-choice.result.1.now w.new-mark-then-is_old.result.machine c.step.new.self w.new-mark-then-is_old.result.left goes
+            w.new-mark-then-is_old.ensures.machine w.new-mark-then-is_old.ensures.left)
+        | else-is_old w ↦
+            rw w.mark-is (marked_on c.args.flash.now c.args.assumptions.now c.args.points.now c.args.bound c.args.fill c.loop-at.mark.machine c.loop-at.machine c.step.new.self c.loop-at.mark.left c.loop-at.rest.now c.next-choice.result.1.now c.next-choice.result.0
+            c.loop-at.invariant.1 low picks leaves done c.step.ensures.state)
+      ],
+      ap length c.in_ok-push.ensures.items ∙ longer c.loop-at.choices.items c.next-choice.result.0 ∙ ap (λ n. n + 1) c.loop-at.invariant.2,
+    )

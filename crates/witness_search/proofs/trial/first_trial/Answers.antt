@@ -1,4 +1,4 @@
-use Rattle.std.proofs.Common.{◌≡◌, ◌+◌, [], arith, sym, subst, take, drop, ℕ, slice_index_or}
+use Rattle.std.proofs.Common.{◌≡◌, ◌+◌, arith, sym, subst, take, drop, ℕ, slice_index_or}
 use Rattle.witness_search.specs.Trials.{fills, NoneSucceeds, IsTried}
 use Rattle.witness_search.proofs.Found.{none_more, first, parted, taken_more, taken_all}
 use Rattle.witness_search.proofs.trial.first_trial.Goals as goal

@@ -1,0 +1,9 @@
+use Rattle.std.proofs.Common.{◌≡◌, length}
+use Rattle.witness_search.proofs.Attempts.{Goes, Start, IsMarked}
+use Rattle.witness_search.proofs.trial.attempt.Given as goal
+
+abbrev pub invariant-loop-at : goal.invariant-loop-at
+invariant-loop-at l =
+    Goes l.flash l.assumptions l.points l.bound l.fill l.points (Start l.flash l.assumptions l.points l.bound l.fill) l.choices.items l.rest l.machine
+    × IsMarked l.flash l.assumptions l.points l.bound l.fill l.mark.machine l.mark.left l.rest l.machine
+    × (length l.choices.items ≡ l.at)
