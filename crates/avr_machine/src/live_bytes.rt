@@ -65,9 +65,9 @@ impl LiveBytes {
 
     /// Whether the same bytes are live.
     pub fn is_same(&self, other: &LiveBytes) -> bool
-        ensures { IsTrue result → self.now ≡ other.now }
+        ensures { IsTrue result ↔ (self.now ≡ other.now) }
     {
-        self.size == other.size && are_same(&self.flags[..self.size], &other.flags[..other.size])
+        are_same(&self.flags[..self.size], &other.flags[..other.size])
     }
 
     /// Whether the byte at a place is live; none behind the last is.

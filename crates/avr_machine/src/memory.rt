@@ -1,6 +1,6 @@
 //! SRAM: its bytes, and which of them are live.
 
-ghost use Rattle.std.specs.Prelude.{◌≡◌, ◌<◌, ◌≤◌, ◌+◌, ◌-◌, ◌&&◌, ◌∷◌, [], nat_lt, false, true, length, take, replicate, IsTrue};
+ghost use Rattle.std.specs.Prelude.{◌≡◌, ◌↔◌, ◌<◌, ◌≤◌, ◌+◌, ◌-◌, ◌&&◌, ◌∷◌, [], nat_lt, false, true, length, take, replicate, IsTrue};
 ghost use Rattle.avr_model.specs.Devices.{size_of};
 ghost use Rattle.avr_model.specs.State.{BELOW, is_sram, set_at, byte_in, is_live};
 ghost use Rattle.avr_model.specs.Step.{with_live, written, pruned, live_write};
@@ -21,7 +21,7 @@ pub fn is_sram(device: Device, address: u16) -> bool
 }
 
 fn are_same(bytes: &[u8], others: &[u8]) -> bool
-    ensures { IsTrue result → bytes.now ≡ others.now }
+    ensures { IsTrue result ↔ (bytes.now ≡ others.now) }
 {
     bytes == others
 }
@@ -73,10 +73,9 @@ impl Memory {
     /// Whether another memory has the same bytes and live ones.
     #[tactic(auto, using(crate::proofs::Alike::memory_is))]
     pub fn is_same(&self, other: &Memory) -> bool
-        ensures { IsTrue result → self.now ≡ other.now }
+        ensures { IsTrue result ↔ (self.now ≡ other.now) }
     {
-        self.size == other.size
-            && are_same(&self.bytes[..self.size], &other.bytes[..other.size])
+        are_same(&self.bytes[..self.size], &other.bytes[..other.size])
             && self.live.is_same(&other.live)
     }
 
