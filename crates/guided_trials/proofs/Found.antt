@@ -70,6 +70,11 @@ module _ (words : List ℕ) (A : List Entry) (g : Guide) (t : ℕ) where
       → depth ≡ depth_of words A (trial_of words A g t) reset
   depth_is steps cs depth most is deep = deep ∙ ap (λ (xs : List Choice). depth_of words A xs reset) (is ∙ whole steps most)
 
+  -- what was seen of the trial holds of its choices
+  pub deep : (steps : ℕ) (cs : List Choice) (depth : ℕ) → cs ≡ trial_by steps words A g t → depth ≡ depth_of words A (trial_by steps words A g t) reset
+      → g.bound ≤ depth → g.bound ≤ depth_of words A cs reset
+  deep steps cs depth is seen high = omega (arith, seen, high, ap (λ (xs : List Choice). depth_of words A xs reset) is)
+
   pub fails : (depth : ℕ) → depth ≡ depth_of words A (trial_of words A g t) reset → depth < g.bound → Succeeds words A g t → ⊥
   fails depth is low h = omega (arith, is, low, h)
 

@@ -27,8 +27,39 @@ fn fill_of(guide: &Guide, t: u32) -> u8
     guide.bytes.member(t)
 }
 
-// Trial `t`, until the depth is the bound or more, or a stop, or so many choices. It stands apart so that its loop is optimised alone.
+// How deep trial `t` comes until the depth is the bound or more, or a stop, or so many choices. It stands apart so that its loop is
+// optimised alone, and keeps no choices, since most trials fail.
 #[inline(never)]
+fn depth_of_trial(
+    flash: &Flash,
+    assumptions: &Assumptions,
+    guide: &Guide,
+    t: u32,
+    steps: u32,
+) -> u16
+    ensures { result ≡ depth_of flash.now assumptions.now (trial_by steps flash.now assumptions.now guide.now t) (filled (device_of flash.now) (fill_of guide.now t)) }
+{
+    depth_is_kept();
+    let fill = fill_of(guide, t);
+    let mut moment = Moment {
+        number: first(t),
+        byte: fill,
+    };
+    let mut machine = Machine::start(flash.device(), fill);
+    let mut driver = Driver::new(
+        move |menu: &Menu| -> Choice
+            ensures choice { result ≡ choosing.picked flash.entry.now guide.entry.now t moment.entry menu.now }
+            ensures left { moment.exit ≡ choosing.left_by flash.entry.now guide.entry.now t moment.entry menu.now }
+        {
+            moment = after(flash, guide, t, moment, menu.pc);
+            chosen(flash, guide, t, moment, menu)
+        },
+    );
+    driver.run(&mut machine, flash, assumptions, guide.bound, steps);
+    machine.depth()
+}
+
+// The same trial with its choices.
 fn attempt(
     alloc: Global,
     flash: &Flash,
@@ -73,10 +104,12 @@ fn try_number(
     ensures attained { IfOk result (λ found. IfSome found (λ plan. Bounded flash.now assumptions.now guide.now.bound → Attains flash.now assumptions.now guide.now.bound plan)) }
 {
     depth_is_kept();
-    let trace = attempt(alloc, flash, assumptions, guide, t, most_choices())?;
-    if trace.depth < guide.bound {
+    let steps = most_choices();
+    let depth = depth_of_trial(flash, assumptions, guide, t, steps);
+    if depth < guide.bound {
         return Ok(None);
     }
+    let trace = attempt(alloc, flash, assumptions, guide, t, steps)?;
     let fill = fill_of(guide, t);
     let schedule = Schedule::from_trace(alloc, fill, trace.choices.as_slice())?;
     Ok(Some(schedule))
