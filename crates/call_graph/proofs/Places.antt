@@ -166,3 +166,15 @@ module _ (nodes : List Node) (inst : InstKey) (low high : ℕ) (low_bound : low 
           (between_is (inst_cmp n.key.inst inst) (from_on (is_below_inst inst) nodes low first at n e p.0) (before (is_through_inst inst) nodes high last at n e p.1)),
     );
   }
+
+-- a key that a node has is found there
+pub place_is : (nodes : List Node) (k : NodeKey) (at : ℕ) (n : Node) → AreShown nodes → slice_get nodes at ≡ Some n → n.key ≡ k → Some at ≡ place_of k nodes
+place_is nodes k at n shown e same =
+    let zero_more : at ≡ 0 + at = omega arith in
+    ap (λ m. Some m) zero_more ∙ sym (found_at (λ m. same_node k m.key) nodes 0 at n e ((keys_are_ordered.same_nodes k n.key).1 (sym same)) others)
+  where
+    others : (j : ℕ) (y : Node) → j < at → slice_get nodes j ≡ Some y → same_node k y.key ≡ false
+    others j y lt g =
+        not_same k y
+        (λ q. never_both (is_below_key y.key y)
+        (ap is_lt (subst (λ x. node_cmp y.key x ≡ Less) (same ∙ q) (pair nodes j at y n shown.ascending g e lt))) (itself y.key))

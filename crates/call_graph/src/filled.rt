@@ -49,6 +49,19 @@ impl Filled {
     {
         self.items
     }
+
+    /// The number of the node of this key. Four nodes from the number `first` on are looked at before all others.
+    pub fn find_from(&self, first: usize, key: &NodeKey) -> Option<usize>
+        ensures { result ≡ place_of key.now self.now }
+    {
+        let end = self.items.len().min(first.saturating_add(4));
+        for at in first..end {
+            if self.items[at].key == *key {
+                return Some(at);
+            }
+        }
+        place_of(&self.items, key)
+    }
 }
 
 /// What an expansion answers.
