@@ -44,7 +44,7 @@ pub(crate) fn gather(
     let mut demands = Vec::new(alloc);
     for at in 0..nodes.count() {
         let edges = next_with(alloc, flash, assumptions, nodes, at, exits)?;
-        if let Some(to) = gap_in(followed, certificate, nodes, edges.as_slice()) {
+        if let Some(to) = gap_in(followed, certificate, nodes, at + 1, edges.as_slice()) {
             return Ok(Found::Gap(at, to));
         }
         add_demands(&mut demands, instances, nodes.key(at), edges.as_slice())?;

@@ -66,7 +66,7 @@ fn has_reset(
 {
     let state = root_of(alloc, assumptions)?;
     let key = NodeKey::entry(&InstKey::root());
-    Ok(lands(assumptions.has_pairs(), certificate, nodes, &key, &state))
+    Ok(lands(assumptions.has_pairs(), certificate, nodes, 0, &key, &state))
 }
 
 // The verdict on nodes with their states.

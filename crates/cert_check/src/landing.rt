@@ -25,11 +25,13 @@ fn is_open(followed: bool, certificate: &Certificate, at: usize) -> bool
     followed || tells_nothing(certificate.seed(at))
 }
 
-// Whether an edge with this state lands at the node of this key: it is there, open, and with a state at least this one.
+// Whether an edge with this state lands at the node of this key: it is there, open, and with a state at least this one. It is
+// sought from the number `first` on.
 pub(crate) fn lands(
     followed: bool,
     certificate: &Certificate,
     nodes: &Filled,
+    first: usize,
     key: &NodeKey,
     state: &AbsState,
 ) -> bool
@@ -38,7 +40,7 @@ pub(crate) fn lands(
     ensures { IsTrue result ↔ Lands followed certificate.now.nodes nodes.now (record { key = key.now; state = state.now }) }
 {
     let count = nodes.count();
-    match nodes.find(key) {
+    match nodes.find_from(first, key) {
         Some(at) => {
             prove!(at < count);
             state.le(nodes.state(at)) && is_open(followed, certificate, at)
@@ -62,6 +64,7 @@ fn noted_gap(
     followed: bool,
     certificate: &Certificate,
     nodes: &Filled,
+    first: usize,
     least: Option<NodeKey>,
     edge: &Edge,
 ) -> Option<NodeKey>
@@ -69,18 +72,19 @@ fn noted_gap(
     requires beside { AreBeside certificate.now.nodes nodes.now }
     ensures { IsNoted (LeadsToNode followed certificate.now.nodes nodes.now) (GapAt followed certificate.now.nodes nodes.now) lesser_key least edge.now result }
 {
-    if lands(followed, certificate, nodes, &edge.to, &edge.state) {
+    if lands(followed, certificate, nodes, first, &edge.to, &edge.state) {
         least
     } else {
         Some(lesser(least, &edge.to))
     }
 }
 
-// The least key to which an edge leads that doesn't land.
+// The least key to which an edge leads that doesn't land. Keys are sought from the number `first` on.
 pub(crate) fn gap_in(
     followed: bool,
     certificate: &Certificate,
     nodes: &Filled,
+    first: usize,
     edges: &[Edge],
 ) -> Option<NodeKey>
     requires targets { AreTargets edges.now }
@@ -89,7 +93,7 @@ pub(crate) fn gap_in(
 {
     let mut least = None;
     for at in 0..edges.len() {
-        least = noted_gap(followed, certificate, nodes, least, &edges[at]);
+        least = noted_gap(followed, certificate, nodes, first, least, &edges[at]);
     }
     least
 }
