@@ -1,7 +1,6 @@
 -- The text of a report's JSON, part by part.
 use Rattle.std.proofs.Common.{ℕ, ◌+◌, ◌<◌, ◌≡◌, List, [], ◌∷◌, ◌++◌, length, take, map, get_or, refl, ap, sym, ◌∙◌, false, true, append_assoc, codes, decimal, Option}
 use Rattle.serde_json.proofs.OnLiterals.{serde_json_on_literals}
-use Rattle.serde_json.specs.Data.{Data}
 use Rattle.serde_json.specs.View.{items_of}
 use Rattle.serde_json.specs.Written.{compact_text, items_text}
 use Rattle.avr_model.specs.declared.device.Device.{Device}
@@ -117,11 +116,11 @@ is_line device c names e =
     ap (λ (items : List ℕ). object_0 b f items r s x ++ 10 ∷ []) (list_of_insts names c.instances) ∙ ends_0 b f (insts_text names c.instances) r s x
 
 -- what is written part by part is the line
-pub written : (device : Device) (c : Claim) (names : List Named) (e : Option ℕ) (start o p q t u v w all : List ℕ) → start ≡ [] → o ≡ start ++ (codes "{\"bound\":" ++ compact_text (count c.bound))
+pub written : (device : Device) (c : Claim) (names : List Named) (e : Option ℕ) (start o p q t u v w all : List ℕ) → o ≡ start ++ (codes "{\"bound\":" ++ compact_text (count c.bound))
     → p ≡ o ++ (codes ",\"fits\":" ++ compact_text (fits_data device c.bound e)) → q ≡ p ++ codes ",\"instances\":[" → t ≡ q ++ insts_text names c.instances
     → u ≡ t ++ (codes "],\"room\":" ++ compact_text (room_data device e)) → v ≡ u ++ (codes ",\"static\":" ++ compact_text (static_data e))
-    → w ≡ v ++ (codes ",\"witness\":" ++ compact_text (witness_data c.witness)) → all ≡ w ++ 125 ∷ 10 ∷ [] → all ≡ json_text device c names e
-written device c names e start o p q t u v w all none bound fits begins insts room static witness ends =
+    → w ≡ v ++ (codes ",\"witness\":" ++ compact_text (witness_data c.witness)) → all ≡ w ++ 125 ∷ 10 ∷ [] → all ≡ start ++ json_text device c names e
+written device c names e start o p q t u v w all bound fits begins insts room static witness ends =
     let b = codes "{\"bound\":" ++ decimal c.bound in
     let f = codes ",\"fits\":" ++ compact_text (fits_data device c.bound e) in
     let h = codes ",\"instances\":[" in
@@ -137,4 +136,4 @@ written device c names e start o p q t u v w all none bound fits begins insts ro
     let from_p = grow p q h (i ++ (r ++ (s ++ (x ++ z)))) all begins from_q in
     let from_o = grow o p f (h ++ (i ++ (r ++ (s ++ (x ++ z))))) all fits from_p in
     let from_start = grow start o b (f ++ (h ++ (i ++ (r ++ (s ++ (x ++ z)))))) all bound from_o in
-    from_start ∙ ap (λ (a : List ℕ). a ++ (b ++ (f ++ (h ++ (i ++ (r ++ (s ++ (x ++ z)))))))) none ∙ sym (is_line device c names e)
+    from_start ∙ ap (λ (a : List ℕ). start ++ a) (sym (is_line device c names e))

@@ -106,14 +106,24 @@ fn inst_value(alloc: Global, names: &Names, inst: &Inst) -> Result<Value, AllocE
     let enables = inst.key.masks.bits();
     let entry = inst.key.entry;
     let i = u8::from(inst.key.i);
-    let kind = kind_value(alloc, inst.key.kind)?;
-    let name = name_value(alloc, names, entry)?;
     let need = inst.need;
-    json!(in alloc; {"enables": enables, "entry": entry, "i": i, "kind": kind, "name": name, "need": need})
+    json!(in alloc; {
+        "enables": enables,
+        "entry": entry,
+        "i": i,
+        "kind": kind_value(alloc, inst.key.kind)?,
+        "name": name_value(alloc, names, entry)?,
+        "need": need
+    })
 }
 
 /// Writes what stands before a value, and the value.
-fn put(out: &mut Vec<u8>, alloc: Global, before: &[u8], value: &Value) -> Result<(), AllocError>
+fn put_text(
+    out: &mut Vec<u8>,
+    alloc: Global,
+    before: &[u8],
+    value: &Value,
+) -> Result<(), AllocError>
     requires { has_float (view value.now) ≡ false }
     ensures { OnOk result (out.new.items ≡ out.old.items ++ (before.now ++ compact_text (view value.now))) }
 {
@@ -123,7 +133,15 @@ fn put(out: &mut Vec<u8>, alloc: Global, before: &[u8], value: &Value) -> Result
     Ok(())
 }
 
-/// Writes an instance, whose value is dropped before the next is made.
+/// The same of a value that is dropped before the next is made.
+fn put(out: &mut Vec<u8>, alloc: Global, before: &[u8], value: Value) -> Result<(), AllocError>
+    requires { has_float (view value) ≡ false }
+    ensures { OnOk result (out.new.items ≡ out.old.items ++ (before.now ++ compact_text (view value))) }
+{
+    put_text(out, alloc, before, &value)
+}
+
+/// Writes an instance.
 fn put_inst(
     out: &mut Vec<u8>,
     alloc: Global,
@@ -134,7 +152,7 @@ fn put_inst(
     ensures { OnOk result (out.new.items ≡ out.old.items ++ (before.now ++ compact_text (inst_data names.now inst.now))) }
 {
     let value = inst_value(alloc, names, inst)?;
-    put(out, alloc, before, &value)
+    put(out, alloc, before, value)
 }
 
 /// Writes the instances, divided by commas.
@@ -156,6 +174,31 @@ fn put_insts(
     Ok(())
 }
 
+/// Writes the report, each part before the next is made.
+fn put_report(
+    out: &mut Vec<u8>,
+    alloc: Global,
+    device: Device,
+    certificate: &Certificate,
+    names: &Names,
+    static_end: Option<u16>,
+) -> Result<(), AllocError>
+    ensures { OnOk result (out.new.items ≡ out.old.items ++ json_text device certificate.now names.now static_end) }
+{
+    let bound = certificate.bound();
+    put(out, alloc, b"{\"bound\":", Value::from(bound))?;
+    let fits = fits_value(alloc, device, bound, static_end)?;
+    put(out, alloc, b",\"fits\":", fits)?;
+    out.extend_from_slice(b",\"instances\":[")?;
+    put_insts(out, alloc, names, certificate.instances())?;
+    put(out, alloc, b"],\"room\":", room_value(device, static_end))?;
+    put(out, alloc, b",\"static\":", static_value(static_end))?;
+    let witness = witness_value(alloc, certificate)?;
+    put(out, alloc, b",\"witness\":", witness)?;
+    out.extend_from_slice(b"}\n")?;
+    Ok(())
+}
+
 /// The report of a certificate as one JSON object without spaces, and a line feed. It tells what the lines tell; what isn't there
 /// is null. Each part is written before the next is made, so that it takes little more memory than its text.
 pub fn report_json(
@@ -167,22 +210,7 @@ pub fn report_json(
 ) -> Result<Vec<u8>, AllocError>
     ensures { IfOk result (λ v. v.items ≡ json_text device certificate.now names.now static_end) }
 {
-    let bound = certificate.bound();
-    let fits = fits_value(alloc, device, bound, static_end)?;
-    let witness = witness_value(alloc, certificate)?;
     let mut out = Vec::new(alloc);
-    put(&mut out, alloc, b"{\"bound\":", &Value::from(bound))?;
-    put(&mut out, alloc, b",\"fits\":", &fits)?;
-    out.extend_from_slice(b",\"instances\":[")?;
-    put_insts(&mut out, alloc, names, certificate.instances())?;
-    put(
-        &mut out,
-        alloc,
-        b"],\"room\":",
-        &room_value(device, static_end),
-    )?;
-    put(&mut out, alloc, b",\"static\":", &static_value(static_end))?;
-    put(&mut out, alloc, b",\"witness\":", &witness)?;
-    out.extend_from_slice(b"}\n")?;
+    put_report(&mut out, alloc, device, certificate, names, static_end)?;
     Ok(out)
 }

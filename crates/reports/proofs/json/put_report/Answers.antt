@@ -5,7 +5,7 @@ use Rattle.certificate.specs.declared.instance.Inst.{Inst}
 use Rattle.reports.specs.Json.{count, fits_data, insts_text}
 use Rattle.reports.proofs.Plain.{witness_plain}
 use Rattle.reports.proofs.Texts.{written}
-use Rattle.reports.proofs.json.report_json.Goals as goal
+use Rattle.reports.proofs.json.put_report.Goals as goal
 
 pub put-requires-5 : goal.put-requires-5
 put-requires-5 c = rw c.in_ok-witness.ensures (witness_plain c.args.certificate.now.witness)
@@ -14,9 +14,9 @@ pub returns : goal.returns
 returns c =
     let bound = c.from.ensures ∙ ap (λ (n : ℕ). count n) c.bound-bound.ensures in
     let fits = c.in_ok-fits.ensures ∙ ap (λ (n : ℕ). fits_data c.args.device n c.args.static_end) c.bound-bound.ensures in
-    written c.args.device c.args.certificate.now c.args.names.now c.args.static_end c.new-out.result.items c.put.new.out.items c.put-2.new.out.items c.extend_from_slice.new.self.items
-    c.put_insts.new.out.items c.put-3.new.out.items c.put-4.new.out.items c.put-5.new.out.items c.extend_from_slice-2.new.self.items c.new-out.ensures.items
-    (c.in_ok-put.ensures ∙ ap (λ (d : Data). c.new-out.result.items ++ (codes "{\"bound\":" ++ compact_text d)) bound)
+    written c.args.device c.args.certificate.now c.args.names.now c.args.static_end c.args.out.now.items c.put.new.out.items c.put-2.new.out.items c.extend_from_slice.new.self.items
+    c.put_insts.new.out.items c.put-3.new.out.items c.put-4.new.out.items c.put-5.new.out.items c.extend_from_slice-2.new.self.items
+    (c.in_ok-put.ensures ∙ ap (λ (d : Data). c.args.out.now.items ++ (codes "{\"bound\":" ++ compact_text d)) bound)
     (c.in_ok-put-2.ensures ∙ ap (λ (d : Data). c.put.new.out.items ++ (codes ",\"fits\":" ++ compact_text d)) fits)
     c.in_ok-extend_from_slice.ensures.items
     (c.in_ok-put_insts.ensures ∙ ap (λ (xs : List Inst). c.extend_from_slice.new.self.items ++ insts_text c.args.names.now xs) c.instances.ensures)
