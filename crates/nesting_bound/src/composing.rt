@@ -1,8 +1,8 @@
 //! The least ranks and needs, or the instance that is named where some reach themselves.
 
-ghost use Rattle.std.specs.Prelude.{ℕ, IfOk, IfErr, MatchOption, length};
+ghost use Rattle.std.specs.Prelude.{ℕ, ◌≡◌, ◌<◌, None, IfOk, IfErr, MatchOption, length};
 ghost use Rattle.nesting_bound.specs.Graph.{IsGraph, Reaches};
-ghost use Rattle.nesting_bound.specs.Table.{AreFound, IsMissing};
+ghost use Rattle.nesting_bound.specs.Table.{at, AreFound, IsMissing, IsSound, IsStuck};
 ghost use Rattle.nesting_bound.specs.Least.{IsLeast};
 ghost use Rattle.nesting_bound.specs.Cycle.{IsFaultOf};
 
@@ -10,7 +10,7 @@ use crate::cycle::first_named;
 use crate::depth_first::walk_all;
 use crate::fault::ComposeFault;
 use crate::found::Found;
-use crate::graph::Graph;
+use crate::graph::{Graph, GraphInst};
 use crate::peel::peel;
 use avr_model::listed::Listed;
 use std::alloc::{AllocError, Global};
@@ -60,6 +60,29 @@ fn settled(alloc: Global, table: &[Option<Found>]) -> Result<Option<Composed>, A
     }))
 }
 
+// What a table tells in which all is settled that can be: the least ranks and needs, or the instance that is named.
+fn told(
+    alloc: Global,
+    instances: &[GraphInst],
+    table: &[Option<Found>],
+    numbers: Vec<u32>,
+) -> Result<Composed, ComposeFault>
+    requires graph { IsGraph instances.now }
+    requires sound { IsSound instances.now table.now }
+    requires stuck { (i : ℕ) → i < length instances.now → at table.now i ≡ None → IsStuck instances.now table.now i }
+    ensures ok { IfOk result (λ c. IsLeast instances.now c.ranks c.needs) }
+    ensures acyclic { IfOk result (λ _. (i : ℕ) → Reaches instances.now i i → ⊥) }
+    ensures err { IfErr result (IsFaultOf instances.now) }
+{
+    match settled(alloc, table)? {
+        Some(composed) => Ok(composed),
+        None => match first_named(alloc, instances, table, numbers)? {
+            Some(at) => Err(ComposeFault::Cycle(at)),
+            None => unreachable!(),
+        },
+    }
+}
+
 /// The least ranks and needs: the rank of an instance is above that of each that it enters, and its need is at least the offset of
 /// each of its nodes, and offset + 2 + need of each instance that it enters. `Cycle` comes exactly where an instance reaches itself
 /// by one or more entries. It names one of the least vector of which an instance does, else one of the least entry, and of those
@@ -73,11 +96,5 @@ pub fn compose(alloc: Global, graph: &Graph) -> Result<Composed, ComposeFault>
     let instances = graph.instances.as_slice();
     let walked = walk_all(alloc, instances)?;
     let table = peel(alloc, instances, walked.order.as_slice())?;
-    match settled(alloc, table.as_slice())? {
-        Some(composed) => Ok(composed),
-        None => match first_named(alloc, instances, table.as_slice(), walked.component)? {
-            Some(at) => Err(ComposeFault::Cycle(at)),
-            None => unreachable!(),
-        },
-    }
+    told(alloc, instances, table.as_slice(), walked.component)
 }

@@ -135,8 +135,9 @@ impl Walk {
     fn leave(&mut self, inst: u32) -> Result<(), AllocError> {
         let lowest = read(&self.lowest, inst as usize);
         if lowest == read(&self.begun, inst as usize) {
-            self.close(inst)?;
-        } else if let Some(back) = self.visits.last().copied() {
+            return self.close(inst);
+        }
+        if let Some(back) = self.visits.last().copied() {
             self.lower(back.inst, lowest);
         }
         Ok(())
@@ -148,10 +149,22 @@ impl Walk {
             let Some(visit) = self.visits.pop() else {
                 break;
             };
-            match edge(graph, visit) {
-                Some(entered) => self.enter(visit, entered.into)?,
-                None => self.leave(visit.inst)?,
-            }
+            let gone = match edge(graph, visit) {
+                Some(entered) => self.enter(visit, entered.into),
+                None => self.leave(visit.inst),
+            };
+            gone?;
+        }
+        Ok(())
+    }
+
+    // Walks from each instance in turn.
+    fn go_over(&mut self, graph: &[GraphInst]) -> Result<(), AllocError>
+        requires { IsGraph graph.now }
+    {
+        for inst in 0..graph.len() {
+            self.begin(inst as u32)?;
+            self.go(graph)?;
         }
         Ok(())
     }
@@ -162,10 +175,7 @@ pub fn walk_all(alloc: Global, graph: &[GraphInst]) -> Result<Walked, AllocError
     requires { IsGraph graph.now }
 {
     let mut walk = Walk::new(alloc, graph.len())?;
-    for inst in 0..graph.len() {
-        walk.begin(inst as u32)?;
-        walk.go(graph)?;
-    }
+    walk.go_over(graph)?;
     Ok(Walked {
         order: walk.order,
         component: walk.component,
