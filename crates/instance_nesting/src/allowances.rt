@@ -115,17 +115,29 @@ impl Allowances {
         entrances: &IndexSet<NotedEntrance>,
         size: u16,
     ) -> Result<Allowances, AllocError> {
+        let mut granted = Allowances::none(alloc);
+        granted
+            .grant_all(composed, others, entrances, size)
+            .and(Ok(granted))
+    }
+
+    // Grants it to the root and these others, and leaves to instances without a node what these entrances leave.
+    fn grant_all(
+        &mut self,
+        composed: &Composed,
+        others: &IndexSet<NotedInst>,
+        entrances: &IndexSet<NotedEntrance>,
+        size: u16,
+    ) -> Result<(), AllocError> {
         let room = Room::of(composed, size);
-        let mut map = IndexMap::new(alloc);
         let key = InstKey::root();
-        map.insert(NotedInst { key }, room.grant(composed, 0))?;
+        self.map.insert(NotedInst { key }, room.grant(composed, 0))?;
         for (at, other) in others.as_slice().iter().enumerate() {
             let key = other.key;
-            map.insert(NotedInst { key }, room.grant(composed, at + 1))?;
+            self.map
+                .insert(NotedInst { key }, room.grant(composed, at + 1))?;
         }
-        let mut granted = Allowances { map };
-        granted.leave_all(others, entrances.as_slice())?;
-        Ok(granted)
+        self.leave_all(others, entrances.as_slice())
     }
 
     // Leaves to each instance that these enter, and that has no node, as much as the least of those that enter it leaves.

@@ -1,13 +1,19 @@
-//! What a graph of instances tells.
+//! What the graph of what is noted tells.
 
-ghost use Rattle.std.specs.Prelude.{◌≡◌, ℕ, IfOk};
+ghost use Rattle.std.specs.Prelude.{◌≡◌, ◌≤◌, ℕ, IfOk, true};
+ghost use Rattle.indexmap.specs.IndexSet.{index_set_len};
 ghost use Rattle.nesting_bound.specs.Graph.{IsGraph};
 ghost use Rattle.nesting_bound.specs.Cycle.{IsNamed};
-ghost use Rattle.instance_nesting.specs.Drawn.{GraphTells};
+ghost use Rattle.instance_nesting.specs.Drawn.{insts_of, AreApart, GraphTells};
+ghost use Rattle.instance_nesting.specs.Nestings.{TellsAll};
 
+use crate::allowances::Allowances;
+use crate::drawing::drawn;
+use crate::notes::{NotedEntrance, NotedInst, NotedSpot};
 use crate::verdict::NestingVerdict;
+use indexmap::IndexSet;
 use mask_states::{InstKey, Kind};
-use nesting_bound::{ComposeFault, Composed, Graph, GraphInst, compose};
+use nesting_bound::{ComposeFault, Graph, GraphInst, compose};
 use round_laws::graphs::graphs_tell;
 use std::alloc::{AllocError, Global};
 
@@ -24,15 +30,21 @@ fn named(graph: &[GraphInst], at: u32) -> NestingVerdict
     }
 }
 
-/// What the graph of a family tells, and where they nest, the ranks and needs of its instances.
+/// What a nesting tells of the family, and where instances nest, what each is allowed.
 #[derive(Drop)]
 pub(crate) struct Judged {
     pub verdict: NestingVerdict,
-    pub composed: Option<Composed>,
+    pub allowances: Allowances,
 }
 
-/// What the graph of a family tells on a device whose SRAM has so many bytes.
-pub(crate) fn judge_graph(alloc: Global, graph: &Graph, size: u16) -> Result<Judged, AllocError>
+// What the graph of a family tells on a device whose SRAM has so many bytes.
+fn judge_graph(
+    alloc: Global,
+    graph: &Graph,
+    others: &IndexSet<NotedInst>,
+    entrances: &IndexSet<NotedEntrance>,
+    size: u16,
+) -> Result<Judged, AllocError>
     requires { IsGraph graph.now.instances }
     ensures { IfOk result (λ w. GraphTells size graph.now.instances w.verdict) }
 {
@@ -42,7 +54,7 @@ pub(crate) fn judge_graph(alloc: Global, graph: &Graph, size: u16) -> Result<Jud
         Err(ComposeFault::Cycle(at)) => {
             return Ok(Judged {
                 verdict: named(graph.instances.as_slice(), at),
-                composed: None,
+                allowances: Allowances::none(alloc),
             });
         }
         Err(ComposeFault::Memory) => return Err(AllocError),
@@ -51,11 +63,30 @@ pub(crate) fn judge_graph(alloc: Global, graph: &Graph, size: u16) -> Result<Jud
     if need > u32::from(size) {
         return Ok(Judged {
             verdict: NestingVerdict::TooDeep(need),
-            composed: None,
+            allowances: Allowances::none(alloc),
         });
     }
+    let allowances = Allowances::over(alloc, &composed, others, entrances, size)?;
     Ok(Judged {
         verdict: NestingVerdict::Nests,
-        composed: Some(composed),
+        allowances,
     })
+}
+
+/// What is noted of a family whose root has a node tells on a device whose SRAM has so many bytes.
+pub(crate) fn judge_noted(
+    alloc: Global,
+    others: &IndexSet<NotedInst>,
+    spots: &IndexSet<NotedSpot>,
+    entrances: &IndexSet<NotedEntrance>,
+    size: u16,
+) -> Result<Judged, AllocError>
+    requires few { index_set_len others.now ≤ 65535 }
+    requires apart { AreApart others.now.keys }
+    ensures { IfOk result (λ w. TellsAll size (record { insts = insts_of true others.now.keys; spots = spots.now.keys; entrances = entrances.now.keys }) w.verdict) }
+{
+    let graph = drawn(alloc, others, spots.as_slice(), entrances.as_slice())?;
+    let judged = judge_graph(alloc, &graph, others, entrances, size);
+    drop(graph);
+    judged
 }

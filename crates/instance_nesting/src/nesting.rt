@@ -7,8 +7,7 @@ ghost use Rattle.instance_nesting.specs.Nestings.{Noted, nothing, AreOnce, HasNo
 ghost use Rattle.instance_nesting.specs.Drawn.{insts_of, AreApart, HasMore};
 
 use crate::allowances::Allowances;
-use crate::drawing::drawn;
-use crate::judging::{Judged, judge_graph};
+use crate::judging::judge_noted;
 use crate::notes::{NotedEntrance, NotedInst, NotedSpot};
 use crate::verdict::NestingVerdict;
 use indexmap::IndexSet;
@@ -153,27 +152,9 @@ impl Nesting {
         if !self.has_root {
             return Ok(NestingVerdict::Nests);
         }
-        let graph = drawn(
-            self.alloc,
-            &self.others,
-            self.spots.as_slice(),
-            self.entrances.as_slice(),
-        )?;
-        let Judged { verdict, composed } = judge_graph(self.alloc, &graph, size)?;
-        match composed {
-            Some(composed) => {
-                let allowances = Allowances::over(
-                    self.alloc,
-                    &composed,
-                    &self.others,
-                    &self.entrances,
-                    size,
-                )?;
-                self.covered = allowances.cover(&self.spots, &self.entrances);
-                self.allowances = allowances;
-                Ok(verdict)
-            }
-            None => Ok(verdict),
-        }
+        let judged = judge_noted(self.alloc, &self.others, &self.spots, &self.entrances, size)?;
+        self.covered = judged.allowances.cover(&self.spots, &self.entrances);
+        self.allowances = judged.allowances;
+        Ok(judged.verdict)
     }
 }
