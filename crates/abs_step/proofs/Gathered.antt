@@ -98,6 +98,19 @@ filter_more p (x ∷ xs) (suc at) (suc next) lt e = by (p x) (filter p (take nex
     by true ns ms os e = ap (λ ns. x ∷ ns) e
     by false ns ms os e = e
 
+-- one element more, which is kept or isn't
+pub kept_more : (p : ℕ → Bool) (xs ws new : List ℕ) (at : ℕ) (b : Bool) → at < length xs → ws ≡ filter p (take at xs) → b ≡ p (slice_index_or xs at 0) → b ≡ true
+    → new ≡ ws ++ slice_index_or xs at 0 ∷ [] → new ≡ filter p (take (at + 1) xs)
+kept_more p xs ws new at b lt is test e put =
+    put ∙ ap (λ ns. ns ++ slice_index_or xs at 0 ∷ []) is
+    ∙ sym (filter_more p xs at (at + 1) lt refl ∙ ap (λ (b : Bool). filter p (take at xs) ++ (if b then slice_index_or xs at 0 ∷ [] else [])) (sym test ∙ e))
+
+pub kept_less : (p : ℕ → Bool) (xs ws : List ℕ) (at : ℕ) (b : Bool) → at < length xs → ws ≡ filter p (take at xs) → b ≡ p (slice_index_or xs at 0) → b ≡ false
+    → ws ≡ filter p (take (at + 1) xs)
+kept_less p xs ws at b lt is test e =
+    is ∙ sym (append-nil (filter p (take at xs)))
+    ∙ sym (filter_more p xs at (at + 1) lt refl ∙ ap (λ (b : Bool). filter p (take at xs) ++ (if b then slice_index_or xs at 0 ∷ [] else [])) (sym test ∙ e))
+
 map_all : (f : ℕ → Raw) (xs ys : List ℕ) → map f (xs ++ ys) ≡ map f xs ++ map f ys
 map_all f [] ys = refl
 map_all f (x ∷ xs) ys = ap (λ rs. f x ∷ rs) (map_all f xs ys)
