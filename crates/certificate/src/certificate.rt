@@ -161,7 +161,7 @@ impl Seeded for Certificate {
 
     fn seed(&self, at: usize) -> Seed<'_> {
         match &self.nodes[at].1 {
-            NodeForm::State(state) => Seed::State(state),
+            NodeForm::State(state) => Seed::State(state.get()),
             NodeForm::From(from) => Seed::From(*from),
         }
     }

@@ -9,7 +9,7 @@ pub mod limit;
 pub mod version;
 
 pub use certificate::Certificate;
-pub use edge_rules::{NodeForm, Seed, Seeded};
+pub use edge_rules::{HeldState, NodeForm, Seed, Seeded};
 pub use hulls::hulls_of;
 pub use instance::Inst;
 pub use limit::Limit;

@@ -8,10 +8,10 @@ use Rattle.certificate.proofs.certificate.CertificateSeeded.seed.Goals as goal
 pub returns-in-State : goal.returns-in-State
 returns-in-State c =
     let inside : c.args.at < length c.self.inside.nodes.items = subst (λ (x : Claim). c.args.at < length x.nodes) (sym c.self.view_is) c.requires in
-    subst (λ (x : Claim). HasFormAt x.nodes c.args.at (State c.in-State.state)) c.self.view_is (
+    subst (λ (x : Claim). HasFormAt x.nodes c.args.at (State c.get.result.now)) c.self.view_is (
       c.index.result.now.0,
       slice_get_read c.self.inside.nodes.items (length c.self.inside.nodes.items) c.args.at c.index.result.now refl inside c.index.ensures
-          ∙ (λ i. Some (c.index.result.now.0, c.in-State.is i)),
+          ∙ (λ i. Some (c.index.result.now.0, c.in-State.is i)) ∙ (λ i. Some (c.index.result.now.0, State (sym c.get.ensures i))),
     )
 
 pub returns-in-From : goal.returns-in-From
