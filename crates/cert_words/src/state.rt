@@ -10,7 +10,7 @@ use crate::values::{carry_of, flags_of, slot_of, value_of};
 use abs_state::{AbsByte, AbsFlags, AbsState};
 use bit_domain::TriByte;
 use certificate::{Version, hulls_of};
-use edge_rules::NodeForm;
+use edge_rules::{HeldState, NodeForm};
 use line_reading::dec_word;
 use pair_domain::Facts;
 use pair_words::facts_of;
@@ -168,7 +168,7 @@ pub fn form_of(
         return Ok(None);
     };
     match state_of(alloc, words, version, root, offset, first)? {
-        Some(state) => Ok(Some(NodeForm::State(state))),
+        Some(state) => Ok(Some(NodeForm::State(HeldState::new(alloc, state)?))),
         None => Ok(None),
     }
 }
