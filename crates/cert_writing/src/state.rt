@@ -86,7 +86,7 @@ pub(crate) fn write_form(
     ensures { OnOk result (out.new ≡ with_words out.old (form_words version form.now)) }
 {
     match form {
-        NodeForm::State(state) => write_state(out, alloc, version, state),
+        NodeForm::State(state) => write_state(out, alloc, version, state.get()),
         NodeForm::From(from) => {
             out.word(b"from")?;
             out.dec(u64::from(*from))
