@@ -5,7 +5,7 @@ ghost use Rattle.edge_rules.specs.Seeds.{form_of};
 ghost use Rattle.cert_check.specs.Reading.{hulled, facts_read, read_state, read_form, read_seeds, TellsNothing};
 
 use abs_state::{AbsByte, AbsState};
-use certificate::{Certificate, NodeForm, Seed, Seeded, hulls_of};
+use certificate::{Certificate, HeldState, NodeForm, Seed, Seeded, hulls_of};
 use mask_states::NodeKey;
 use pair_domain::{Facts, PairFacts};
 use std::alloc::{AllocError, Global};
@@ -29,7 +29,7 @@ impl Seeded for Reading {
 
     fn seed(&self, at: usize) -> Seed<'_> {
         match &self.nodes[at].1 {
-            NodeForm::State(state) => Seed::State(state),
+            NodeForm::State(state) => Seed::State(state.get()),
             NodeForm::From(from) => Seed::From(*from),
         }
     }
@@ -76,7 +76,10 @@ fn read_form(alloc: Global, followed: bool, form: &NodeForm) -> Result<NodeForm,
     ensures { IfOk result (λ read. read ≡ read_form followed form.now) }
 {
     match form {
-        NodeForm::State(state) => Ok(NodeForm::State(read_state(alloc, followed, state)?)),
+        NodeForm::State(state) => {
+            let read = read_state(alloc, followed, state.get())?;
+            Ok(NodeForm::State(HeldState::new(alloc, read)?))
+        }
         NodeForm::From(from) => Ok(NodeForm::From(*from)),
     }
 }
