@@ -12,6 +12,7 @@ use abs_state::AbsState;
 use avr_model::listed::Listed;
 use call_graph::laws::exits_are_exact;
 use call_graph::{Filled, Leaving, NodeForm, exits};
+use edge_rules::HeldState;
 use flash_image::Flash;
 use local_rules::{Exit, Node};
 use mask_states::NodeKey;
@@ -19,20 +20,16 @@ use std::alloc::{AllocError, Global};
 use vector_table::Assumptions;
 
 // The form of the node of this number, where edges lead to the nodes so.
-fn form(leads: &[Lead], at: usize, state: AbsState) -> NodeForm
+fn form(alloc: Global, leads: &[Lead], at: usize, state: AbsState) -> Result<NodeForm, AllocError>
     requires { at < length leads.now }
-    ensures { result ≡ form_by at (lead_at leads.now at) state }
+    ensures { IfOk result (λ form. form ≡ form_by at (lead_at leads.now at) state) }
 {
-    match leads[at] {
-        Lead::Nothing | Lead::More => NodeForm::State(state),
-        Lead::Only(from) => {
-            if (from as usize) < at {
-                NodeForm::From(from)
-            } else {
-                NodeForm::State(state)
-            }
+    if let Lead::Only(from) = leads[at] {
+        if (from as usize) < at {
+            return Ok(NodeForm::From(from));
         }
     }
+    Ok(NodeForm::State(HeldState::new(alloc, state)?))
 }
 
 // The nodes with their forms, where edges lead to them so.
@@ -47,7 +44,8 @@ fn formed(
     let mut forms = Vec::with_capacity(alloc, nodes.len())?;
     for node in nodes {
         let at = forms.len();
-        forms.push((node.key, form(leads, at, node.state)))?;
+        let form = form(alloc, leads, at, node.state)?;
+        forms.push((node.key, form))?;
     }
     Ok(forms)
 }
