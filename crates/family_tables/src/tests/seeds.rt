@@ -12,6 +12,7 @@ ghost use Rattle.edge_laws.specs.Expansions.{AreAscending};
 use abs_state::AbsState;
 use avr_model::device::WORDS;
 use call_graph::{NodeForm, Seed, Seeded};
+use edge_rules::HeldState;
 use mask_states::{InstKey, Kind, NodeKey, SpForm};
 use std::alloc::{AllocError, Global};
 use vector_table::Masks;
@@ -35,7 +36,7 @@ impl Seeded for SeedList {
 
     fn seed(&self, at: usize) -> Seed<'_> {
         match &self.items[at].1 {
-            NodeForm::State(state) => Seed::State(state),
+            NodeForm::State(state) => Seed::State(state.get()),
             NodeForm::From(from) => Seed::From(*from),
         }
     }
@@ -110,7 +111,8 @@ fn add_own(
     if key.pc >= WORDS || !may_follow(items, &key) {
         return Ok(false);
     }
-    items.push((key, NodeForm::State(AbsState::root(alloc))))?;
+    let held = HeldState::new(alloc, AbsState::root(alloc))?;
+    items.push((key, NodeForm::State(held)))?;
     Ok(true)
 }
 

@@ -8,7 +8,7 @@ use super::Wrong;
 use abs_state::AbsState;
 use avr_model::device::Device;
 use cert_check::{Reason, Verdict, is_attained, judge};
-use certificate::{Certificate, Inst, NodeForm};
+use certificate::{Certificate, HeldState, Inst, NodeForm};
 use flash_image::Flash;
 use mask_states::{InstKey, Kind, NodeKey};
 use std::alloc::{AllocError, Global};
@@ -77,14 +77,14 @@ fn callee() -> InstKey
 }
 
 /// How the state behind the call is given.
-fn form(alloc: Global, from: bool) -> NodeForm
-    ensures { result ≡ form_by from }
+fn form(alloc: Global, from: bool) -> Result<NodeForm, AllocError>
+    ensures { IfOk result (λ form. form ≡ form_by from) }
 {
     if from {
-        NodeForm::From(0)
-    } else {
-        NodeForm::State(AbsState::root(alloc))
+        return Ok(NodeForm::From(0));
     }
+    let root = HeldState::new(alloc, AbsState::root(alloc))?;
+    Ok(NodeForm::State(root))
 }
 
 /// The nodes: the call, the word behind it, and the callee.
@@ -94,11 +94,12 @@ fn nodes(alloc: Global, from: bool) -> Result<Vec<(NodeKey, NodeForm)>, AllocErr
     let reset = NodeKey::entry(&InstKey::root());
     let mut behind = reset;
     behind.pc = 1;
-    let root = AbsState::root(alloc);
-    let inside = root.entered(alloc)?;
+    let root = form(alloc, false)?;
+    let next = form(alloc, from)?;
+    let inside = HeldState::new(alloc, AbsState::root(alloc).entered(alloc)?)?;
     let mut nodes = Vec::new(alloc);
-    nodes.push((reset, NodeForm::State(AbsState::root(alloc))))?;
-    nodes.push((behind, form(alloc, from)))?;
+    nodes.push((reset, root))?;
+    nodes.push((behind, next))?;
     nodes.push((NodeKey::entry(&callee()), NodeForm::State(inside)))?;
     Ok(nodes)
 }

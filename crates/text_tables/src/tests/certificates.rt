@@ -88,9 +88,10 @@ fn has_its_values(certificate: &Certificate) -> Option<bool> {
     let NodeForm::From(from) = &second.1 else {
         return None;
     };
-    let NodeForm::State(state) = &fourth.1 else {
+    let NodeForm::State(held) = &fourth.1 else {
         return None;
     };
+    let state = held.get();
     let last = state.registers.get(31)?;
     let keys = *from == 0 && vector.key.kind == Kind::Vector(2) && third.0.delay;
     let value = last.tag == Tag::Entry(31) && last.bits.value == 5;

@@ -98,9 +98,10 @@ fn has_its_values(certificate: &Certificate) -> Option<bool> {
     let vector = certificate.instances().get(2)?;
     let second = certificate.nodes().get(1)?;
     let third = certificate.nodes().get(2)?;
-    let NodeForm::State(state) = &third.1 else {
+    let NodeForm::State(held) = &third.1 else {
         return None;
     };
+    let state = held.get();
     let first = state.registers.get(0)?;
     let picks = second.0.pick == Some(0) && third.0.pick == Some(0x3F);
     let range = first.bits.value == 5 && first.low == 5 && first.high == 0xF5;
@@ -110,10 +111,10 @@ fn has_its_values(certificate: &Certificate) -> Option<bool> {
 /// Whether some of what is known of pairs is what the words stand for.
 fn has_its_facts(certificate: &Certificate) -> Option<bool> {
     let third = certificate.nodes().get(2)?;
-    let NodeForm::State(state) = &third.1 else {
+    let NodeForm::State(held) = &third.1 else {
         return None;
     };
-    let facts = state.facts.get()?;
+    let facts = held.get().facts.get()?;
     let first = facts.intervals.get(0)?;
     let second = facts.intervals.get(1)?;
     let last = facts.intervals.get(15)?;

@@ -1,4 +1,4 @@
-use Rattle.std.proofs.Common.{sym, subst, ◌≡◌, ℕ, false, ◌<◌, ◌^◌, [], ◌∷◌, ◌++◌, Some, slice_get, length}
+use Rattle.std.proofs.Common.{sym, subst, ◌∙◌, ◌≡◌, ℕ, false, ◌<◌, ◌^◌, [], ◌∷◌, ◌++◌, Some, slice_get, length}
 use Rattle.std.specs.declared.cmp.Ordering.TheVariants.{Less}
 use Rattle.abs_state.specs.declared.state.AbsState.{AbsState}
 use Rattle.mask_states.specs.declared.keys.NodeKey.{NodeKey}
@@ -16,11 +16,11 @@ returns-clause-seeds c =
     let few = subst (λ (ys : Seeds). length ys < 65536) c.deref.ensures.value (c.may_follow.ensures.room c.if-not-may_follow.false) in
     let masks = subst (λ (n : ℕ). n < 2 ^ 25) c.bits.ensures.value c.bits.ensures.small in
     subst (AreSeeds false) (sym c.in_ok-push.ensures.items)
-    (subst (λ (s : AbsState). AreSeeds false (xs ++ (c.args.key, State s) ∷ [])) (sym c.root.ensures)
+    (subst (λ (s : AbsState). AreSeeds false (xs ++ (c.args.key, State s) ∷ [])) (sym (c.in_ok-held.ensures ∙ c.root.ensures))
     (with_root xs c.args.key c.requires.seeds few c.if-key-ge-WORDS.false masks c.requires.closed c.requires.unpicked))
 
 pub returns-clause-ascending : goal.returns-clause-ascending
 returns-clause-ascending c =
     let above = subst (λ (ys : Seeds). (at : ℕ) (e : NodeKey × NodeForm) → slice_get ys at ≡ Some e → node_cmp e.0 c.args.key ≡ Less) c.deref.ensures.value
     (c.may_follow.ensures.below c.if-not-may_follow.false) in
-    subst AreAscending (sym c.in_ok-push.ensures.items) (pushed_ascending c.args.items.now.items c.args.key (State c.root.result) c.requires.ascending above)
+    subst AreAscending (sym c.in_ok-push.ensures.items) (pushed_ascending c.args.items.now.items c.args.key (State c.in_ok-held.held) c.requires.ascending above)
