@@ -65,6 +65,7 @@ fn reads(flash: &Flash, pc: u16) -> bool
 }
 
 /// The moment after this one, at a word address.
+#[inline(always)]
 pub fn after(flash: &Flash, guide: &Guide, t: u32, moment: Moment, pc: u16) -> Moment
     ensures { result ≡ choosing.after flash.now guide.now t moment pc }
 {
@@ -159,6 +160,7 @@ fn by_chance(guide: &Guide, menu: &Menu, t: u32, number: u64) -> Option<Candidat
 }
 
 // The interrupt that is taken.
+#[inline(always)]
 fn taken(flash: &Flash, guide: &Guide, t: u32, number: u64, menu: &Menu) -> Option<Candidate>
     ensures { result ≡ choosing.taken t number (filter (choosing.stands menu.now) guide.now.takes) (find (λ k. choosing.stands menu.now k && choosing.is_wanted guide.now (choosing.fallen flash.now menu.now.sp) k) guide.now.takes) }
 {
@@ -175,6 +177,7 @@ fn taken(flash: &Flash, guide: &Guide, t: u32, number: u64, menu: &Menu) -> Opti
 }
 
 /// The choice from a menu; `now` is the moment that follows.
+#[inline(always)]
 pub fn chosen(flash: &Flash, guide: &Guide, t: u32, now: Moment, menu: &Menu) -> Choice
     ensures { result ≡ choosing.choice_by flash.now guide.now t now.number now.byte menu.now.sp (choosing.stands menu.now) }
 {
