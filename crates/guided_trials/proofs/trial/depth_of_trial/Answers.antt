@@ -2,7 +2,7 @@ use Rattle.std.proofs.Common.{rules, sym, ap, subst, ◌∙◌, ◌≡◌, IsTru
 use Rattle.avr_model.specs.declared.choice.Choice.{Choice}
 use Rattle.avr_model.specs.Devices.{device_of}
 use Rattle.avr_model.specs.State.{filled}
-use Rattle.avr_model.specs.Run.{Machine, IsRun, depth_of}
+use Rattle.avr_model.specs.Run.{depth_of}
 use Rattle.avr_machine.specs.Menu.{has_choice}
 use Rattle.stimulus.proofs.AllLaws.{steady_by, determined}
 use Rattle.guided_trials.specs.Choosing.{picked, left_by, pick, left}
