@@ -69,9 +69,13 @@ pub fn certificate_of(
     let graph = graph_of(alloc, flash, assumptions, &nodes)?;
     let composed = composed(alloc, &graph)?;
     let insts = instances(alloc, &graph, &composed)?;
+    let need = composed.need(0);
+    drop(composed);
+    drop(graph);
+    let listed = assumptions.copy()?;
     let seeds = forms(alloc, flash, assumptions, nodes)?;
-    let bound = composed.need(0) as u16;
+    let bound = need as u16;
     // These are entries that a list of assumptions may have.
     let _entries = assumptions.entries();
-    Ok(Certificate::build(bound, assumptions.copy()?, insts, seeds))
+    Ok(Certificate::build(bound, listed, insts, seeds))
 }
