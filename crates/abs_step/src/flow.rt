@@ -18,7 +18,7 @@ use crate::moves::Moves;
 use crate::site::Site;
 use crate::stack::room_row;
 use crate::successors::{add_copy, branch, off_table};
-use abs_reads::flow::{further, is_target, width};
+use abs_reads::flow::{further, is_target};
 use abs_rows::arithmetic::carry_bit;
 use abs_rows::registers::pair;
 use abs_rows::status::flag_at;
@@ -115,7 +115,7 @@ fn unlisted_targets(
     ensures { Finds result (flow.targets_by device None (registers.bits state.now 30) (registers.bits state.now 31)) pc }
 {
     let (low, high) = pair(state, base_register(Base::Z));
-    match targets_on(&low.bits, &high.bits, width(device)) {
+    match targets_on(&low.bits, &high.bits, device.width()) {
         Ok(all) => match all.as_slice().to_vec(alloc) {
             Ok(words) => Ok(words),
             Err(_) => Err(NodeFault::Memory),

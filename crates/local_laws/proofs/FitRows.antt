@@ -5,7 +5,7 @@ use Rattle.std.proofs.lemmas.Map.Views.{Contains-from_any}
 use Rattle.std.proofs.lemmas.Option.{same_Some}
 use Rattle.basics.specs.Items.{none_in}
 use Rattle.avr_model.proofs.AllLaws.{devices_are_alike}
-use Rattle.avr_model.specs.Devices.{size_of, wrapped, device_of, words_of}
+use Rattle.avr_model.specs.Devices.{size_of, wrapped, width, device_of, words_of}
 use Rattle.avr_model.specs.declared.device.Device.{Device}
 use Rattle.avr_model.specs.declared.device.Device.TheVariants.{M48, M88, M168, M328}
 use Rattle.avr_model.specs.declared.assumption.Entry.{Entry}
@@ -40,7 +40,7 @@ use Rattle.local_rules.specs.declared.local.NodeFault.TheVariants.{UnresolvedJum
 use Rattle.local_rules.specs.Registers.{before, bits, value}
 use Rattle.local_rules.specs.FrameLines.{binary_at}
 use Rattle.local_rules.specs.Reads.{read_at, pointed, read_pointed}
-use Rattle.local_rules.specs.Flow.{flag_at, width, words_on, targets_by, targets_at, is_half_written, site, calling, indirect_call, relative_call, at_closed, returning, ret_exit, reti_exit, pushing, popping, making_room}
+use Rattle.local_rules.specs.Flow.{flag_at, words_on, targets_by, targets_at, is_half_written, site, calling, indirect_call, relative_call, at_closed, returning, ret_exit, reti_exit, pushing, popping, making_room}
 use Rattle.local_rules.specs.Local.{step_before, pointer_moved, row_of, row_at, row_by, paired_row, paired_binary, refining, storing, row_in, is_hung, fetched, picks, split_site, splitting, raw}
 use Rattle.local_laws.proofs.Members.{each_of, each_in_map, filter_passes}
 use Rattle.local_laws.specs.Laws.{LocalPartsFit}

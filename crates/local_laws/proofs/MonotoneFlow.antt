@@ -8,7 +8,7 @@ use Rattle.std.proofs.lemmas.Map.Views.{Contains-from_any}
 use Rattle.local_rules.specs.Cover.{IsKey}
 use Rattle.avr_model.specs.State.{SIZE}
 use Rattle.avr_model.proofs.AllLaws.{devices_are_alike}
-use Rattle.avr_model.specs.Devices.{size_of}
+use Rattle.avr_model.specs.Devices.{size_of, width}
 use Rattle.avr_model.specs.declared.device.Device.{Device}
 use Rattle.avr_model.specs.declared.device.Device.TheVariants.{M48, M88, M168, M328}
 use Rattle.avr_model.specs.declared.assumption.Entry.{Entry}
@@ -45,7 +45,7 @@ use Rattle.local_rules.specs.declared.local.NodeFault.TheVariants.{UnresolvedJum
 use Rattle.local_rules.specs.Raw.{Raw, moves_to, fails, enters, untracked_if, all_of, at_word, off_table, turning_to, further, next}
 use Rattle.local_rules.specs.Registers.{value, bits, set, carry_bit}
 use Rattle.local_rules.specs.Reads.{value_of}
-use Rattle.local_rules.specs.Flow.{branch, skipping, flag_at, part_of, with_value, where_carry, going_where, carry_branch, flag_branch, width, words_on, targets_by, targets_at, jumping, is_half_written, at_closed, pushed_slot, pushing, popping, making_room, site, calling, indirect_call, relative_call, returning}
+use Rattle.local_rules.specs.Flow.{branch, skipping, flag_at, part_of, with_value, where_carry, going_where, carry_branch, flag_branch, words_on, targets_by, targets_at, jumping, is_half_written, at_closed, pushed_slot, pushing, popping, making_room, site, calling, indirect_call, relative_call, returning}
 use Rattle.local_laws.proofs.Members.{in_map, each_in_map, filter_more, filter_passes, not_empty, any_more}
 use Rattle.local_laws.proofs.MonotoneValues.{IsLess, IsSlotLess, AreSlotsLess, IsStateLess, free_less, any_bit_within, registers_set}
 use Rattle.local_laws.proofs.MonotoneRaw.{LeadsLess, fails_less, untracked_less, if_leads, nowhere_less, above_first, above_rest, none_less, both_less, turning_less, several_less, one_less, choose, choose_more, choose_each, enters_less, leaves_less, further_small, off_table_key}

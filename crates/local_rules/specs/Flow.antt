@@ -1,9 +1,8 @@
 -- Jumps, branches, skips, calls, returns, and bytes that are pushed and popped. Source: own.
 use Rattle.std.specs.Prelude.{ℕ, zero, suc, ◌+◌, ◌-◌, ◌==◌, Bool, true, false, nat_lt, nat_le, min, max, if◌then◌else◌, List, [], ◌∷◌, ◌++◌, map, filter, take, length, Option, Some, None}
 use Rattle.avr_model.specs.declared.device.Device.{Device}
-use Rattle.avr_model.specs.declared.device.Device.TheVariants.{M48, M88, M168, M328}
 use Rattle.avr_model.specs.declared.assumption.Entry.{Entry}
-use Rattle.avr_model.specs.Devices.{size_of}
+use Rattle.avr_model.specs.Devices.{size_of, width}
 use Rattle.avr_model.specs.Image.{word_at}
 use Rattle.avr_model.specs.Table.{length_of}
 use Rattle.avr_model.specs.Assumptions.{jump_line, lists}
@@ -81,13 +80,6 @@ abbrev pub flag_branch : ℕ → NodeKey → AbsState → ℕ → ℕ → Raw �
 flag_branch n k s set clear other = if n == 0 then carry_branch (carry_bit s) k s set clear else other
 
 -- ---- where an indirect transfer leads
-
--- how many bits a word address has
-abbrev pub width : Device → ℕ
-width M48 = 11
-width M88 = 12
-width M168 = 13
-width M328 = 14
 
 -- the words that some permitted target is, modulo the number of words, in ascending order
 abbrev pub words_on : Device → TriByte → TriByte → List ℕ

@@ -1,5 +1,5 @@
 use Rattle.std.proofs.Common.{arith}
-use Rattle.local_rules.specs.Flow.{width}
+use Rattle.avr_model.specs.Devices.{width}
 use Rattle.abs_reads.proofs.Permitted.{open_none, open_more, open_all}
 use Rattle.abs_reads.proofs.flow.high_byte.Goals as goal
 

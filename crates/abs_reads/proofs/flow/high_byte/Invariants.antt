@@ -1,5 +1,5 @@
 use Rattle.std.proofs.Common.{◌≤◌, ◌+◌}
-use Rattle.local_rules.specs.Flow.{width}
+use Rattle.avr_model.specs.Devices.{width}
 use Rattle.abs_reads.proofs.Permitted.{IsOpenTo}
 use Rattle.abs_reads.proofs.flow.high_byte.Given as goal
 
