@@ -6,7 +6,8 @@ use Rattle.std.specs.Ordering.{ordering_reverse}
 use Rattle.std.specs.declared.cmp.Ordering.{Ordering}
 use Rattle.std.specs.declared.cmp.Ordering.TheVariants.{Less, Equal, Greater}
 use Rattle.basics.specs.Items.{none_in, first_in, further_in, first_or_further}
-use Rattle.local_rules.proofs.Placing.{joined}
+use Rattle.local_rules.specs.Placing.{AreAscending}
+use Rattle.local_rules.proofs.Placing.{joined, placed_ascend}
 use Rattle.pair_domain.proofs.AllLaws.{known_is_ordered}
 use Rattle.abs_state.specs.declared.state.AbsState.{AbsState}
 use Rattle.abs_state.specs.Order.{IsStateWithin, IsLeastAbove, state_join}
@@ -132,37 +133,7 @@ joined_below {followed = followed} done (n ∷ ns) h hs x =
 
 -- ---- they ascend
 
-abbrev pub IsBefore : NodeKey → List Node → Type 0
-IsBefore k ns = AllByRecursion (λ (y : NodeKey). node_cmp k y ≡ Less) (map (λ (n : Node). n.key) ns)
-
-abbrev pub Ascend : List Node → Type 0
-Ascend ns = IsStrictlySortedBy node_cmp (map (λ (n : Node). n.key) ns)
-
-before_through : (j k : NodeKey) (ns : List Node) → node_cmp j k ≡ Less → IsBefore k ns → IsBefore j ns
-before_through j k [] e h = tt
-before_through j k (n ∷ ns) e h = (keys_are_ordered.nodes.trans j k n.key e h.0, before_through j k ns e h.1)
-
-before_placed : (k : NodeKey) (n : Node) (ms : List Node) → node_cmp k n.key ≡ Less → IsBefore k ms → IsBefore k (placed n ms)
-unfolding placed
-before_placed k n [] e h = (e, tt)
-before_placed k n (m ∷ ms) e h = by (before_placed k n ms e h.1) (node_cmp n.key m.key)
-  where
-    by : IsBefore k (placed n ms) → (o : Ordering) → IsBefore k (place_by o n m ms (placed n ms))
-    by rest Less = (e, h)
-    by rest Equal = h
-    by rest Greater = (h.0, rest)
-
-placed_ascend : (n : Node) (ms : List Node) → Ascend ms → Ascend (placed n ms)
-unfolding placed IsStrictlySortedBy
-placed_ascend n [] h = (tt, tt)
-placed_ascend n (m ∷ ms) h = by (placed_ascend n ms h.1) (node_cmp n.key m.key) refl
-  where
-    by : Ascend (placed n ms) → (o : Ordering) → node_cmp n.key m.key ≡ o → Ascend (place_by o n m ms (placed n ms))
-    by rest Less e = ((e, before_through n.key m.key ms e h.0), h)
-    by rest Equal e = h
-    by rest Greater e = (before_placed m.key n ms (keys_are_ordered.nodes.antisymm m.key n.key ∙ ap ordering_reverse e) h.0, rest)
-
-joined_ascend : (done ns : List Node) → Ascend done → Ascend (joined_onto done ns)
+joined_ascend : (done ns : List Node) → AreAscending done → AreAscending (joined_onto done ns)
 unfolding joined_onto
 joined_ascend done [] h = h
 joined_ascend done (n ∷ ns) h = joined_ascend (placed n done) ns (placed_ascend n done h)
