@@ -15,7 +15,7 @@ loop-at-preserved c =
     record {
       inside = omega (arith, inside);
       most = at_most c.args.key.now c.args.nodes.now (c.loop-at.at - 1) c.index-nodes-at.result (omega (arith, inside, some))
-      (subst (λ (n : Node). is_gt (node_cmp c.args.key.now n.key) ≡ false) c.index-nodes-at.is (sym c.is_above.ensures ∙ c.if-not-is_above.true));
+          (subst (λ (n : Node). is_gt (node_cmp c.args.key.now n.key) ≡ false) c.index-nodes-at.is (sym c.is_above.ensures ∙ c.if-not-is_above.true));
     }
 
 pub returns-else-not-is_above-clause-place : goal.returns-else-not-is_above-clause-place

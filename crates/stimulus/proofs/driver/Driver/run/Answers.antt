@@ -1,8 +1,8 @@
 use Rattle.std.proofs.Common.{arith, inl, inr, refl, ap, sym, ◌∙◌, ◌≡◌, ◌+◌, ◌-◌, ◌<◌, ◌≤◌, ◌++◌, length, List, [], ◌∷◌}
 use Rattle.std.specs.Fn.{CalledAt}
 use Rattle.avr_model.specs.declared.choice.Choice.{Choice}
-use Rattle.stimulus.specs.Driving.{Advances}
-use Rattle.stimulus.proofs.Runs.{begins_on, trace_stops, trace_ends, longer, there, not_there}
+use Rattle.stimulus.specs.Driving.{Advances, stop_at}
+use Rattle.stimulus.proofs.Runs.{begins_on, trace_stops, trace_ends, longer, ended}
 use Rattle.stimulus.proofs.driver.Driver.run.Goals as goal
 
 pub loop-preserved : goal.loop-preserved
@@ -11,20 +11,20 @@ loop-preserved g c =
     let room : length before.0 < c.args.steps = omega (arith, before.2) in
     let low : c.loop.machine.depth < c.args.target = omega arith in
     let now : List Choice = before.0 ++ c.ask-choice.result ∷ [] in
-    let step : Advances (CalledAt g.F.FnMut) c.args.flash.now c.args.assumptions.now c.loop.self c.loop.machine before.0 c.step-answer.result c.ask-choice.new.self c.step-answer.new.self now =
+    let step : Advances (CalledAt g.F.FnMut) c.args.flash.now c.args.assumptions.now c.loop.self c.loop.machine before.0 c.step.result c.ask-choice.new.self c.step.new.self now =
     record {
       choice = c.ask-choice.result;
       bytes = c.ask-choice.ensures.bytes;
       asked = c.ask-choice.ensures.asked;
       pushed = refl;
-      answered = c.step-answer.ensures.answer;
+      answered = c.step.ensures.answer;
       legal = c.ask-choice.ensures.legal c.args.flash.now c.args.assumptions.now;
-      state = c.step-answer.ensures.state;
+      state = c.step.ensures.state;
     } in (
       c.ask-choice.ensures.steady,
       (
         now,
-        begins_on (CalledAt g.F.FnMut) c.args.flash.now c.args.assumptions.now c.args.target _ _ _ _ _ _ _ _ _ _ before.1 room low step (sym c.stop_at.ensures ∙ not_there c.stop_at.result (sym c.is_some.ensures ∙ c.if-is_some.false)),
+        begins_on (CalledAt g.F.FnMut) c.args.flash.now c.args.assumptions.now c.args.target _ _ _ _ _ _ _ _ _ _ before.1 room low step (ap stop_at c.in-Done.is),
         longer _ _ _ step.pushed ∙ ap (λ n. n + 1) before.2,
       ),
     )
@@ -34,24 +34,24 @@ returns-then-depth-target-clause-driven g c =
     let high : c.args.target ≤ c.loop.machine.depth = omega arith in
     (_, trace_ends (CalledAt g.F.FnMut) c.args.flash.now c.args.assumptions.now c.args.target _ _ _ _ _ _ c.loop.invariant.1.1 (inl high))
 
-pub returns-then-is_some-clause-driven : goal.returns-then-is_some-clause-driven
-returns-then-is_some-clause-driven g c =
+pub returns-in_default-clause-driven : goal.returns-in_default-clause-driven
+returns-in_default-clause-driven g c =
     let before = c.loop.invariant.1 in
     let room : length before.0 < c.args.steps = omega (arith, before.2) in
     let low : c.loop.machine.depth < c.args.target = omega arith in
     let now : List Choice = before.0 ++ c.ask-choice.result ∷ [] in
-    let step : Advances (CalledAt g.F.FnMut) c.args.flash.now c.args.assumptions.now c.loop.self c.loop.machine before.0 c.step-answer.result c.ask-choice.new.self c.step-answer.new.self now =
+    let step : Advances (CalledAt g.F.FnMut) c.args.flash.now c.args.assumptions.now c.loop.self c.loop.machine before.0 c.step.result c.ask-choice.new.self c.step.new.self now =
     record {
       choice = c.ask-choice.result;
       bytes = c.ask-choice.ensures.bytes;
       asked = c.ask-choice.ensures.asked;
       pushed = refl;
-      answered = c.step-answer.ensures.answer;
+      answered = c.step.ensures.answer;
       legal = c.ask-choice.ensures.legal c.args.flash.now c.args.assumptions.now;
-      state = c.step-answer.ensures.state;
+      state = c.step.ensures.state;
     } in
-    let stop = there c.stop_at.result (sym c.is_some.ensures ∙ c.if-is_some.true) in
-    (_, trace_stops (CalledAt g.F.FnMut) c.args.flash.now c.args.assumptions.now c.args.target _ _ _ _ _ _ _ _ _ _ stop.0 before.1 room low step (sym c.stop_at.ensures ∙ stop.1))
+    let stop = ended c.step.result c.in_default.not-Done (λ e. c.ask-choice.ensures.legal c.args.flash.now c.args.assumptions.now (sym c.step.ensures.answer ∙ e)) in
+    (_, trace_stops (CalledAt g.F.FnMut) c.args.flash.now c.args.assumptions.now c.args.target _ _ _ _ _ _ _ _ _ _ stop.0 before.1 room low step stop.1)
 
 pub returns-clause-driven : goal.returns-clause-driven
 returns-clause-driven g c =
