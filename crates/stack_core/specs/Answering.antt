@@ -1,5 +1,6 @@
 -- What is made of a firmware and of an assumption file, and what is told.
 use Rattle.std.specs.Prelude.{ℕ, ◌≡◌, List, [], Bool, length, Option, Some, None, Result, Ok, Err}
+use Rattle.std.specs.Global.{Vec}
 use Rattle.avr_model.specs.declared.assumption.Entry.{Entry}
 use Rattle.avr_model.specs.declared.device.Device.{Device}
 use Rattle.avr_model.specs.Image.{WORDS, IsNarrowed}
@@ -80,6 +81,11 @@ nothing c status text = ⊥
 abbrev pub IsJudgedAs : List ℕ → List Entry → Result Claim CertFault → Judged → Type 0
 IsJudgedAs words A x (Accepted c) = (x ≡ Ok c) × IsValid words A c
 IsJudgedAs words A x (judged.Refused r) = CertificateReply words A nothing x r.status r.text.items
+
+-- a certificate is accepted, unless a line says that it isn't
+abbrev pub judged_by : Claim → Option (Vec ℕ) → Judged
+judged_by c None = Accepted c
+judged_by c (Some text) = judged.Refused (record { status = 1; text = text })
 
 -- the certificate is the first one with the schedule that the trials find, which attains its bound
 pub record IsWitnessed (words : List ℕ) (A : List Entry) (least c : Claim) : Type 0 where

@@ -5,7 +5,7 @@ ghost use Rattle.std.specs.Option.{is_some};
 ghost use Rattle.cert_format.specs.Reading.{certificate_in};
 ghost use Rattle.replies.specs.Texts.{accepted};
 ghost use Rattle.replies.specs.Reply.{Says, report_by, CertificateReply};
-ghost use Rattle.stack_core.specs.Answering.{IsJudgedAs};
+ghost use Rattle.stack_core.specs.Answering.{IsJudgedAs, judged_by};
 
 use crate::reply::Reply;
 use cert_check::{Verdict, is_attained, judge};
@@ -24,13 +24,16 @@ pub enum Judged {
     Refused(Reply),
 }
 
-/// The line of a verdict.
+/// What is answered of an accepted certificate.
 #[tactic(auto, using(crate::proofs::Replies::copied_is_some))]
-fn verdict_text(alloc: Global, certificate: &Certificate) -> Result<Vec<u8>, AllocError>
-    ensures { IfOk result (λ v. v.items ≡ accepted certificate.now.bound (is_some certificate.now.witness)) }
+fn checked(alloc: Global, certificate: &Certificate) -> Result<Reply, AllocError>
+    ensures { IfOk result (λ r. Says 0 (accepted certificate.now.bound (is_some certificate.now.witness)) r.status r.text.items) }
 {
     let attained = certificate.witness().is_some();
-    texts::accepted(alloc, certificate.bound(), attained)
+    Ok(Reply {
+        status: 0,
+        text: texts::accepted(alloc, certificate.bound(), attained)?,
+    })
 }
 
 /// A report in lines or as JSON.
@@ -50,6 +53,43 @@ fn report_of(
     }
 }
 
+/// What is answered with a report.
+fn reported(
+    alloc: Global,
+    certificate: &Certificate,
+    device: Device,
+    loaded: &Loaded,
+    json: bool,
+) -> Result<Reply, AllocError>
+    ensures { IfOk result (λ r. Says 0 (report_by json device loaded.now.names loaded.now.static_end certificate.now) r.status r.text.items) }
+{
+    Ok(Reply {
+        status: 0,
+        text: report_of(alloc, certificate, device, loaded, json)?,
+    })
+}
+
+/// The line of a certificate that isn't accepted.
+fn objection(
+    alloc: Global,
+    flash: &Flash,
+    assumptions: &Assumptions,
+    certificate: &Certificate,
+) -> Result<Option<Vec<u8>>, AllocError>
+    ensures { IfOk result (λ o. IsJudgedAs flash.now assumptions.now (Ok certificate.now) (judged_by certificate.now o)) }
+{
+    match judge(alloc, flash, assumptions, certificate)? {
+        Verdict::Accepted(_) => {
+            if is_attained(flash, assumptions, certificate) {
+                Ok(None)
+            } else {
+                Ok(Some(texts::witness_rejected(alloc)?))
+            }
+        }
+        Verdict::Rejected(reason) => Ok(Some(texts::rejected(alloc, &reason)?)),
+    }
+}
+
 /// A certificate that was read, if it is accepted.
 fn judge_claim(
     alloc: Global,
@@ -59,21 +99,10 @@ fn judge_claim(
 ) -> Result<Judged, AllocError>
     ensures { IfOk result (λ j. IsJudgedAs flash.now assumptions.now (Ok certificate) j) }
 {
-    match judge(alloc, flash, assumptions, &certificate)? {
-        Verdict::Accepted(_) => {
-            if is_attained(flash, assumptions, &certificate) {
-                Ok(Judged::Accepted(certificate))
-            } else {
-                Ok(Judged::Refused(Reply {
-                    status: 1,
-                    text: texts::witness_rejected(alloc)?,
-                }))
-            }
-        }
-        Verdict::Rejected(reason) => Ok(Judged::Refused(Reply {
-            status: 1,
-            text: texts::rejected(alloc, &reason)?,
-        })),
+    match objection(alloc, flash, assumptions, &certificate) {
+        Ok(None) => Ok(Judged::Accepted(certificate)),
+        Ok(Some(text)) => Ok(Judged::Refused(Reply { status: 1, text })),
+        Err(fault) => Err(fault),
     }
 }
 
@@ -105,10 +134,7 @@ pub fn check(
     ensures { IfOk result (λ r. CertificateReply flash.now assumptions.now (λ c. Says 0 (accepted c.bound (is_some c.witness))) (certificate_in text.now) r.status r.text.items) }
 {
     match judge_text(alloc, flash, assumptions, text)? {
-        Judged::Accepted(certificate) => Ok(Reply {
-            status: 0,
-            text: verdict_text(alloc, &certificate)?,
-        }),
+        Judged::Accepted(certificate) => checked(alloc, &certificate),
         Judged::Refused(reply) => Ok(reply),
     }
 }
@@ -125,10 +151,7 @@ pub fn report(
     ensures { IfOk result (λ r. CertificateReply loaded.now.flash assumptions.now (λ c. Says 0 (report_by json device loaded.now.names loaded.now.static_end c)) (certificate_in text.now) r.status r.text.items) }
 {
     match judge_text(alloc, &loaded.flash, assumptions, text)? {
-        Judged::Accepted(certificate) => Ok(Reply {
-            status: 0,
-            text: report_of(alloc, &certificate, device, loaded, json)?,
-        }),
+        Judged::Accepted(certificate) => reported(alloc, &certificate, device, loaded, json),
         Judged::Refused(reply) => Ok(reply),
     }
 }

@@ -1,13 +1,13 @@
-use Rattle.std.proofs.Common.{refl, subst}
+use Rattle.std.proofs.Common.{subst}
 use Rattle.cert_format.specs.Reading.{certificate_in}
 use Rattle.replies.specs.Reply.{Says, report_by}
 use Rattle.stack_core.specs.Answering.{IsJudgedAs}
-use Rattle.stack_core.proofs.Replies.{accepted_reply}
+use Rattle.stack_core.proofs.Replies.{accepted_result}
 use Rattle.stack_core.proofs.judging.report.Goals as goal
 
-pub returns-in_ok-report_of-in-Accepted : goal.returns-in_ok-report_of-in-Accepted
-returns-in_ok-report_of-in-Accepted c =
-    accepted_reply c.args.loaded.now.flash c.args.assumptions.now (λ d. Says 0 (report_by c.args.json c.args.device c.args.loaded.now.names c.args.loaded.now.static_end d)) (certificate_in c.args.text.now)
-    c.in-Accepted.certificate 0 c.in_ok-report_of-in-Accepted.field-0.items
+pub returns-in-Accepted : goal.returns-in-Accepted
+returns-in-Accepted c =
+    accepted_result c.args.loaded.now.flash c.args.assumptions.now (λ d. Says 0 (report_by c.args.json c.args.device c.args.loaded.now.names c.args.loaded.now.static_end d)) (certificate_in c.args.text.now)
+    c.in-Accepted.certificate c.reported.result
     (subst (IsJudgedAs c.args.loaded.now.flash c.args.assumptions.now (certificate_in c.args.text.now)) c.in-Accepted.is c.in_ok-certificate.ensures)
-    (refl, c.in_ok-report_of-in-Accepted.ensures)
+    c.reported.ensures
