@@ -56,6 +56,13 @@ fn witnessed(
     Ok(certificate.with_witness(found))
 }
 
+// What every certificate keeps.
+fn claims(certificate: &Certificate)
+    ensures { IsClaim certificate.now }
+{
+    let _nodes = certificate.nodes();
+}
+
 /// The text of the certificate with its schedule.
 fn solved(
     alloc: Global,
@@ -67,7 +74,7 @@ fn solved(
     ensures text { IfOk result (λ v. IsWitnessedText flash.now assumptions.now certificate v.items) }
     ensures claim { IfOk result (λ v. IsClaim certificate) }
 {
-    let _nodes = certificate.nodes();
+    claims(&certificate);
     let whole = witnessed(alloc, flash, assumptions, certificate)?;
     write(alloc, &whole)
 }
