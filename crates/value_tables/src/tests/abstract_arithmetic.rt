@@ -360,19 +360,29 @@ fn is_sum_row(row: &[u8; 16]) -> bool {
         && is_byte(sub(a, b, carry, row[5] == 1, s), &row[12..])
 }
 
-fn is_bitwise_row(row: &[u8; 42]) -> bool {
-    let a = TriByte::new(row[0], row[1]);
+fn is_logic_row(row: &[u8; 42], a: TriByte, s: TriByte) -> bool {
     let b = TriByte::new(row[2], row[3]);
-    let s = TriByte::new(row[4], row[5]);
     is_byte(logic(Logic::And, a, b, s), &row[6..10])
         && is_byte(logic(Logic::Or, a, b, s), &row[10..14])
         && is_byte(logic(Logic::Eor, a, b, s), &row[14..18])
-        && is_byte(com(a, s), &row[18..22])
+}
+
+fn is_step_row(row: &[u8; 42], a: TriByte, s: TriByte) -> bool {
+    is_byte(com(a, s), &row[18..22])
         && is_byte(step_one(true, a, s), &row[22..26])
         && is_byte(step_one(false, a, s), &row[26..30])
-        && is_byte(shift(Shift::Lsr, a, s), &row[30..34])
+}
+
+fn is_shift_row(row: &[u8; 42], a: TriByte, s: TriByte) -> bool {
+    is_byte(shift(Shift::Lsr, a, s), &row[30..34])
         && is_byte(shift(Shift::Ror, a, s), &row[34..38])
         && is_byte(shift(Shift::Asr, a, s), &row[38..])
+}
+
+fn is_bitwise_row(row: &[u8; 42]) -> bool {
+    let a = TriByte::new(row[0], row[1]);
+    let s = TriByte::new(row[4], row[5]);
+    is_logic_row(row, a, s) && is_step_row(row, a, s) && is_shift_row(row, a, s)
 }
 
 fn is_word_row(row: &[u8; 19]) -> bool {

@@ -112,35 +112,41 @@ fn wrong_word(up: bool, rows: &[WordRow]) -> Option<usize> {
     None
 }
 
-/// The first row whose result or flags are others.
-pub fn wrong() -> Wrong {
-    let tables = [
-        ("add", wrong_sum(&rows::SUMS)),
-        ("sub", wrong_difference(false, &rows::DIFFERENCES)),
-        (
+fn named(table: &'static str, wrong: Option<usize>) -> Wrong {
+    Some((table, wrong?))
+}
+
+fn wrong_sums() -> Wrong {
+    named("add", wrong_sum(&rows::SUMS))
+        .or(named("sub", wrong_difference(false, &rows::DIFFERENCES)))
+        .or(named(
             "sbc",
             wrong_difference(true, &rows::DIFFERENCES_THAT_KEEP_ZERO),
-        ),
-        ("and", wrong_logic(Logic::And, &rows::ANDS)),
-        ("or", wrong_logic(Logic::Or, &rows::ORS)),
-        ("eor", wrong_logic(Logic::Eor, &rows::EORS)),
-        ("com", wrong_complement(&rows::COMPLEMENTS)),
-        ("inc", wrong_step(true, &rows::INCREMENTS)),
-        ("dec", wrong_step(false, &rows::DECREMENTS)),
-        ("shifts", wrong_shift(&rows::SHIFTS)),
-        ("mul", wrong_product(Mul::Mul, &rows::MUL_ROWS)),
-        ("muls", wrong_product(Mul::Muls, &rows::MULS_ROWS)),
-        ("mulsu", wrong_product(Mul::Mulsu, &rows::MULSU_ROWS)),
-        ("fmul", wrong_product(Mul::Fmul, &rows::FMUL_ROWS)),
-        ("fmuls", wrong_product(Mul::Fmuls, &rows::FMULS_ROWS)),
-        ("fmulsu", wrong_product(Mul::Fmulsu, &rows::FMULSU_ROWS)),
-        ("adiw", wrong_word(true, &rows::RAISED_WORDS)),
-        ("sbiw", wrong_word(false, &rows::LOWERED_WORDS)),
-    ];
-    for (name, wrong) in tables {
-        if let Some(at) = wrong {
-            return Some((name, at));
-        }
-    }
-    None
+        ))
+        .or(named("adiw", wrong_word(true, &rows::RAISED_WORDS)))
+        .or(named("sbiw", wrong_word(false, &rows::LOWERED_WORDS)))
+}
+
+fn wrong_bits() -> Wrong {
+    named("and", wrong_logic(Logic::And, &rows::ANDS))
+        .or(named("or", wrong_logic(Logic::Or, &rows::ORS)))
+        .or(named("eor", wrong_logic(Logic::Eor, &rows::EORS)))
+        .or(named("com", wrong_complement(&rows::COMPLEMENTS)))
+        .or(named("inc", wrong_step(true, &rows::INCREMENTS)))
+        .or(named("dec", wrong_step(false, &rows::DECREMENTS)))
+        .or(named("shifts", wrong_shift(&rows::SHIFTS)))
+}
+
+fn wrong_products() -> Wrong {
+    named("mul", wrong_product(Mul::Mul, &rows::MUL_ROWS))
+        .or(named("muls", wrong_product(Mul::Muls, &rows::MULS_ROWS)))
+        .or(named("mulsu", wrong_product(Mul::Mulsu, &rows::MULSU_ROWS)))
+        .or(named("fmul", wrong_product(Mul::Fmul, &rows::FMUL_ROWS)))
+        .or(named("fmuls", wrong_product(Mul::Fmuls, &rows::FMULS_ROWS)))
+        .or(named("fmulsu", wrong_product(Mul::Fmulsu, &rows::FMULSU_ROWS)))
+}
+
+/// The first row whose result or flags are others.
+pub fn wrong() -> Wrong {
+    wrong_sums().or(wrong_bits()).or(wrong_products())
 }
