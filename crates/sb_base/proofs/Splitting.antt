@@ -1,9 +1,36 @@
 -- Where lines and words end.
-use Rattle.std.proofs.Common.{ℕ, ◌<◌, ◌≡◌, ◌==◌, List, [], ◌∷◌, ◌++◌, length, Bool, true, false, refl, ap, ◌∙◌, arith, if◌then◌else◌}
+use Rattle.std.proofs.Common.{ℕ, zero, suc, ◌+◌, ◌-◌, ◌<◌, ◌≡◌, ◌==◌, List, [], ◌∷◌, ◌++◌, length, take, drop, Bool, true, false, refl, sym, ap, ◌∙◌, arith, if◌then◌else◌}
+use Rattle.std.proofs.lemmas.Bool.{false_from_ne_true}
 use Rattle.std.proofs.lemmas.Bool.Decides.{nat_tests}
+use Rattle.std.proofs.lemmas.List.{take_rest}
 use Rattle.std.proofs.lemmas.List.Elements.{All-from_recursion}
 use Rattle.std.proofs.lemmas.List.Splits.{slice_split_at, slice_split_none, join_with_byte-slice_split}
+use Rattle.memchr.specs.Find.{Nowhere, NoneBefore, Passes, is_byte}
 use Rattle.sb_base.specs.Lines.{TextLine, lines_of, onto_line, words_of, spaced, joined, AreLines, IsEnded, Lacks}
+
+-- what the search for a byte says: it stands nowhere, or its first place parts the text
+pub lacks_all : (c : ℕ) (text : List ℕ) → Nowhere (Passes (is_byte c) text) 0 (length text) → Lacks c text
+lacks_all c [] h = tt
+lacks_all c (b ∷ bs) h = (false_from_ne_true (b == c) (h 0 (omega arith) (omega arith)), lacks_all c bs (λ k low high. h (suc k) (omega arith) (omega arith)))
+
+pub lacks_before : (c : ℕ) (text : List ℕ) (end : ℕ) → NoneBefore (Passes (is_byte c) text) 0 (length text) end → Lacks c (take end text)
+lacks_before c text zero h = tt
+lacks_before c [] (suc end) h = tt
+lacks_before c (b ∷ bs) (suc end) h = (
+  false_from_ne_true (b == c) (h.before 0 (omega arith) (omega arith)),
+  lacks_before c bs end (record { low = omega arith; high = omega (arith, h.high); before = λ k low high. h.before (suc k) (omega arith) (omega arith) }),
+)
+
+parted_at : (c : ℕ) (text : List ℕ) (end : ℕ) → end < length text → Passes (is_byte c) text end → text ≡ take end text ++ c ∷ drop (suc end) text
+parted_at c [] end l is = absurd (omega arith)
+parted_at c (b ∷ bs) zero l is = let same : b ≡ c = grind (arith, nat_tests, is) in rw same refl
+parted_at c (b ∷ bs) (suc end) l is = ap (λ r. b ∷ r) (parted_at c bs end (omega arith) is)
+
+pub parted : (c : ℕ) (text : List ℕ) (end : ℕ) → NoneBefore (Passes (is_byte c) text) 0 (length text) end × Passes (is_byte c) text end → text ≡ take end text ++ c ∷ take (length text - (end + 1)) (drop (end + 1) text)
+parted c text end first =
+    let next : suc end ≡ end + 1 = omega arith in
+    let behind : drop (suc end) text ≡ take (length text - (end + 1)) (drop (end + 1) text) = ap (λ (n : ℕ). drop n text) next ∙ sym (take_rest text (end + 1)) in
+    parted_at c text end first.0.high first.1 ∙ ap (λ (bs : List ℕ). take end text ++ c ∷ bs) behind
 
 -- a line that ends
 pub lines_at : (xs ys : List ℕ) → Lacks 10 xs → lines_of (xs ++ 10 ∷ ys) ≡ record { text = xs; whole = true } ∷ lines_of ys

@@ -4,6 +4,7 @@ ghost use Rattle.std.specs.Prelude.{◌≡◌, ◌≤◌, ◌<◌, ◌+◌, leng
 ghost use Rattle.std.specs.Option.{option_map};
 ghost use Rattle.sb_base.specs.Lines.{lines_of, words_of, spaced, joined, AreLines, first_line, size_of, Lacks};
 
+use memchr::memchr;
 use std::marker::Model;
 
 /// A line of a text.
@@ -45,6 +46,17 @@ fn cut(text: &[u8], at: u8) -> Option<(&[u8], &[u8])>
     Some((&text[..end], &text[end + 1..]))
 }
 
+/// The same for a line feed. Lines are often long, so that it is sought in many bytes at once, which takes longer where it is near.
+#[tactic(auto, using(crate::proofs::Splitting::lacks_all, crate::proofs::Splitting::lacks_before, crate::proofs::Splitting::parted))]
+fn cut_line(text: &[u8]) -> Option<(&[u8], &[u8])>
+    ensures none { IfNone result (Lacks 10 text.now) }
+    ensures some { IfSome result (λ r. text.now ≡ r.0.now ++ 10 ∷ r.1.now) }
+    ensures first { IfSome result (λ r. Lacks 10 r.0.now) }
+{
+    let end = memchr(b'\n', text)?;
+    Some((&text[..end], &text[end + 1..]))
+}
+
 /// The first line of a text that isn't empty, and the text behind it.
 #[tactic(auto, using(crate::proofs::Splitting::lines_at, crate::proofs::Splitting::lines_none_of))]
 fn first_of(text: &[u8], at: usize) -> (Line<'_>, &[u8])
@@ -53,7 +65,7 @@ fn first_of(text: &[u8], at: usize) -> (Line<'_>, &[u8])
     ensures at { result.0.at ≡ at }
     ensures size { size_of (record { text = result.0.text.now; whole = result.0.whole }) + length result.1.now ≡ length text.now }
 {
-    match cut(text, b'\n') {
+    match cut_line(text) {
         Some((line, rest)) => (
             Line {
                 at,
