@@ -1,22 +1,20 @@
 -- The pieces of a word: what is read is spelled so, and what is spelled is read.
-use Rattle.std.proofs.Common.{ℕ, zero, suc, ◌/◌, ◌%◌, ◌<◌, ◌≤◌, ◌^◌, ◌≡◌, ◌==◌, ◌&&◌, inl, inr, List, [], ◌∷◌, ◌++◌, length, take, drop, Bool, true, false, refl, ap, ap₂, sym, ◌∙◌, arith, Some, Result, Ok, Err, nat_lt, subst, lit<, append_assoc, length-append}
+use Rattle.std.proofs.Common.{ℕ, ◌<◌, ◌≤◌, ◌^◌, ◌≡◌, ◌==◌, ◌&&◌, List, [], ◌∷◌, ◌++◌, Bool, true, false, refl, ap, ap₂, sym, ◌∙◌, arith, Some, nat_lt, subst, lit<, append_assoc}
 use Rattle.std.proofs.lemmas.Bool.{eqb-true, eq-eqb}
 use Rattle.std.proofs.lemmas.Bool.Decides.{nat_tests}
-use Rattle.std.proofs.lemmas.List.{take-append-drop, append-nil}
-use Rattle.std.proofs.Math.Seq.{take-append_seam, drop-append_seam}
+use Rattle.std.proofs.lemmas.List.{append-nil}
 use Rattle.std.specs.Int.{bit_at}
 use Rattle.std.specs.Int.RustNames.{bit_and}
 use Rattle.avr_model.specs.State.{SIZE}
-use Rattle.sb_base.specs.Digits.{hex_digits, hex_digit, hex_answer}
-use Rattle.sb_base.specs.declared.digits.DigitFault.{DigitFault}
+use Rattle.sb_base.specs.Digits.{hex_digits}
 use Rattle.line_reading.specs.Letters.{letter_at, digits_at, is_end}
-use Rattle.line_reading.specs.Reading.{number_and, dec_at}
+use Rattle.line_reading.specs.Reading.{dec_at}
 use Rattle.line_reading.specs.Words.{WordLaws}
 use Rattle.line_reading.proofs.AllLaws.{bind_some, map_some, end_is, letter_take, digits_take, digits_again}
 use Rattle.std.specs.Fmt.{decimal}
 use Rattle.basics.specs.Numbers.{equals_itself}
-use Rattle.std.proofs.lemmas.Option.{cond_some, same_Some, none-some}
-use Rattle.basics.specs.Lists.{chosen, same_head_and_tail}
+use Rattle.std.proofs.lemmas.Option.{cond_some}
+use Rattle.basics.specs.Lists.{same_head_and_tail}
 use Rattle.bit_domain.specs.declared.bytes.TriByte.{TriByte}
 use Rattle.bit_domain.specs.TriByte.{tri_of}
 use Rattle.bit_domain.specs.Laws.{BytesAreTheirBits, BytesAreSets}

@@ -1,7 +1,6 @@
 -- The number of an instance's line.
-use Rattle.std.proofs.Common.{ℕ, zero, suc, ◌+◌, ◌≡◌, List, [], ◌∷◌, Bool, true, false, refl, ap, sym, ◌∙◌, arith, Some, subst, slice_get}
+use Rattle.std.proofs.Common.{ℕ, zero, suc, ◌+◌, ◌≡◌, List, [], ◌∷◌, Bool, true, false, refl, ap, sym, ◌∙◌, arith, Some, slice_get}
 use Rattle.std.specs.Prelude.{Contains}
-use Rattle.std.specs.List.{AllByRecursion}
 use Rattle.std.specs.List.Sorted.{IsStrictlySortedBy}
 use Rattle.std.specs.Ordering.{is_eq}
 use Rattle.std.specs.declared.cmp.Ordering.{Ordering}
@@ -13,7 +12,7 @@ use Rattle.mask_states.specs.Order.{inst_cmp, same_inst}
 use Rattle.mask_states.specs.Laws.{KeysAreOrdered}
 use Rattle.certificate.specs.declared.instance.Inst.{Inst}
 use Rattle.certificate.specs.Insts.{inst_keys}
-use Rattle.certificate.proofs.Instances.{key_has, key_at}
+use Rattle.certificate.proofs.Instances.{key_has}
 use Rattle.cert_words.specs.Text.{place_of}
 
 equal_is : (o : Ordering) → is_eq o ≡ true → o ≡ Equal

@@ -24,9 +24,9 @@ use Rattle.pair_domain.specs.Rank.{KnownFits}
 use Rattle.abs_state.specs.declared.values.AbsByte.{AbsByte}
 use Rattle.abs_state.specs.declared.values.AbsFlags.{AbsFlags}
 use Rattle.abs_state.specs.declared.state.AbsState.{AbsState}
-use Rattle.abs_state.specs.Values.{unknown, value_at}
+use Rattle.abs_state.specs.Values.{unknown}
 use Rattle.abs_state.specs.Hulls.{AreInHulls}
-use Rattle.abs_state.specs.Formed.{ByteFits, SlotNamesRegister, SlotByteFits, SlotIsUntagged, IsFormed, IsUntagged}
+use Rattle.abs_state.specs.Formed.{SlotNamesRegister, SlotByteFits, SlotIsUntagged, IsFormed, IsUntagged}
 use Rattle.mask_states.specs.declared.keys.Kind.{Kind}
 use Rattle.mask_states.specs.declared.keys.Kind.TheVariants.{Root, Call, Vector}
 use Rattle.mask_states.specs.declared.keys.NodeKey.{NodeKey}
@@ -40,7 +40,6 @@ use Rattle.certificate.specs.declared.version.Version.TheVariants.{One, Two, Thr
 use Rattle.certificate.specs.Versions.{ValueIsOf, SlotIsOf, StateIsOf, FormIsOf, is_third}
 use Rattle.bit_domain.specs.Ranges.{RangesFit}
 use Rattle.pair_words.specs.Laws.{AreHulls, FitWithin, FactsWords}
-use Rattle.pair_words.specs.Spelling.{facts_words}
 use Rattle.pair_words.specs.Reading.{facts_at}
 use Rattle.certificate.specs.Hulls.{hulls_of}
 use Rattle.cert_words.specs.Spelling.{value_word, flags_word, carry_word, slot_word, tag_text, bits_text, range_text}
