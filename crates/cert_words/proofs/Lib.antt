@@ -1,5 +1,6 @@
 pub mod Pieces
 pub mod PairHulls
+pub mod Any
 pub mod Words
 pub mod Loops
 pub mod Fields

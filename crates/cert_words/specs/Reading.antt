@@ -1,6 +1,6 @@
 -- Reading words from their front: each reading gives a value and what stands behind it, or nothing. In the root's frame nothing is
 -- tagged.
-use Rattle.std.specs.Prelude.{ℕ, ◌-◌, ◌==◌, ◌&&◌, nat_lt, nat_le, not, Bool, true, false, List, [], ◌∷◌, length, take, drop, codes, Option, Some, None, Result, Ok, Err, if◌then◌else◌}
+use Rattle.std.specs.Prelude.{ℕ, ◌-◌, ◌==◌, ◌&&◌, nat_lt, nat_le, not, Bool, true, false, List, [], ◌∷◌, length, take, drop, codes, Option, Some, None, if◌then◌else◌}
 use Rattle.std.specs.Option.{option_map}
 use Rattle.std.specs.Int.{bit_at}
 use Rattle.std.specs.Int.RustNames.{bit_and}
@@ -66,12 +66,15 @@ range_at One bits bs = Some ((least_of bits, most_of bits), bs)
 range_at Two bits bs = ends_at bits bs
 range_at Three bits bs = ends_at bits bs
 
-unfoldable pub value_in : Version → Bool → List ℕ → Option AbsByte
-value_in version root w = do
-  t ← tag_at root w
-  b ← bits_at t.1
+-- the value with this tag that the letters behind it say
+abbrev pub value_behind : Version → Tag → List ℕ → Option AbsByte
+value_behind version tag bs = do
+  b ← bits_at bs
   r ← range_at version b.0 b.1
-  if is_end r.1 then Some (record { tag = t.0; bits = b.0; low = r.0.0; high = r.0.1 }) else None
+  if is_end r.1 then Some (record { tag = tag; bits = b.0; low = r.0.0; high = r.0.1 }) else None
+
+unfoldable pub value_in : Version → Bool → List ℕ → Option AbsByte
+value_in version root w = tag_at root w >>= λ t. value_behind version t.0 t.1
 
 unfoldable pub slot_in : Version → Bool → List ℕ → Option (Slot AbsByte)
 slot_in version root w = if bytes_eq w (codes ".") then Some Free else option_map (λ v. Guarded v) (value_in version root w)

@@ -1,12 +1,14 @@
 //! The words of values, flags, carry tags, slots and forms of the stack pointer.
 
-ghost use Rattle.std.specs.Prelude.{◌≡◌, ◌≤◌, ◌<◌, ◌^◌, IfSome};
+ghost use Rattle.std.specs.Prelude.{◌≡◌, ◌≤◌, ◌<◌, ◌^◌, Some, IfSome, IsTrue};
 ghost use Rattle.std.specs.Option.{option_map};
 ghost use Rattle.avr_model.specs.State.{SIZE};
+ghost use Rattle.abs_state.specs.Values.{with_bits};
+ghost use Rattle.sp_domain.specs.declared.tags.Tag.{Tag};
 ghost use Rattle.sp_domain.specs.declared.tags.Tag.TheVariants as tag;
 ghost use Rattle.sp_domain.specs.declared.tags.CarryTag.TheVariants as carry;
 ghost use Rattle.mask_states.specs.Keys.{offset_of};
-ghost use Rattle.cert_words.specs.Reading.{bits_at, register_at, tag_by, tag_at, ends_at, range_at, value_in, slot_in, entry_by, flags_in, bytes_in, borrow_in, sum_in, less_in, tagged_by, carry_by, carry_in, offset_in, marked_in, high_in, high_size, open_in, form_in};
+ghost use Rattle.cert_words.specs.Reading.{tri_byte, bits_at, register_at, tag_by, tag_at, ends_at, range_at, value_behind, value_in, slot_in, entry_by, flags_in, bytes_in, borrow_in, sum_in, less_in, tagged_by, carry_by, carry_in, offset_in, marked_in, high_in, high_size, open_in, form_in};
 
 use abs_state::AbsByte;
 use avr_model::device;
@@ -104,15 +106,28 @@ fn range_of(letters: &mut Letters<'_>, version: Version, bits: TriByte) -> Optio
     }
 }
 
-/// The value of a word.
-#[tactic(auto, unfolding(crate::specs::Reading::value_in))]
-pub(crate) fn value_of(word: &[u8], version: Version, root: bool) -> Option<AbsByte>
-    ensures { result ≡ value_in version root word.now }
+/// Whether these letters say that a byte may be any, as most do behind a value's tag: so they are known at sight.
+fn are_any(letters: &[u8], version: Version) -> bool
+    ensures { IsTrue result → (tag : Tag) → value_behind version tag letters.now ≡ Some (with_bits tag (tri_byte 0 0)) }
 {
-    let mut letters = Letters::new(word);
-    let tag = any_tag_of(&mut letters, root)?;
-    let bits = bits_of(&mut letters)?;
-    let (low, high) = range_of(&mut letters, version, bits)?;
+    match version {
+        Version::One => matches!(letters, [b'0', b'0', b'0', b'0']),
+        Version::Two | Version::Three => matches!(
+            letters,
+            [b'0', b'0', b'0', b'0', b'0', b'0', b'F', b'F']
+        ),
+    }
+}
+
+/// The value with this tag that the letters behind it say.
+fn value_behind(tag: Tag, letters: &mut Letters<'_>, version: Version) -> Option<AbsByte>
+    ensures { result ≡ value_behind version tag letters.old }
+{
+    if are_any(letters.rest(), version) {
+        return Some(AbsByte::of_bits(tag, TriByte::new(0, 0)));
+    }
+    let bits = bits_of(letters)?;
+    let (low, high) = range_of(letters, version, bits)?;
     if letters.is_end() {
         Some(AbsByte {
             tag,
@@ -125,15 +140,24 @@ pub(crate) fn value_of(word: &[u8], version: Version, root: bool) -> Option<AbsB
     }
 }
 
+/// The value of a word.
+#[tactic(auto, unfolding(crate::specs::Reading::value_in))]
+pub(crate) fn value_of(word: &[u8], version: Version, root: bool) -> Option<AbsByte>
+    ensures { result ≡ value_in version root word.now }
+{
+    let mut letters = Letters::new(word);
+    let tag = any_tag_of(&mut letters, root)?;
+    value_behind(tag, &mut letters, version)
+}
+
 /// The slot of a word.
 #[tactic(auto, unfolding(crate::specs::Reading::slot_in))]
 pub(crate) fn slot_of(word: &[u8], version: Version, root: bool) -> Option<Slot<AbsByte>>
     ensures { result ≡ slot_in version root word.now }
 {
-    if word == b".".as_slice() {
-        Some(Slot::Free)
-    } else {
-        Some(Slot::Guarded(value_of(word, version, root)?))
+    match word {
+        [b'.'] => Some(Slot::Free),
+        _ => Some(Slot::Guarded(value_of(word, version, root)?)),
     }
 }
 
