@@ -3,7 +3,8 @@ use Rattle.std.proofs.Common.{◌≡◌, ◌≢◌, ℕ, zero, suc, ◌+◌, ◌
 use Rattle.std.specs.List.{Contains}
 use Rattle.std.specs.Option.{is_some}
 use Rattle.std.proofs.lemmas.Bool.{cases_eq}
-use Rattle.std.proofs.lemmas.List.{take_more, length-set}
+use Rattle.std.proofs.lemmas.List.{take_more, length-set, length-replicate}
+use Rattle.std.proofs.lemmas.Option.{none-some}
 use Rattle.std.proofs.lemmas.List.Sums.{sum_by-set, sum_by-cons}
 use Rattle.std.proofs.lemmas.List.Elements.{Contains-push_cases, Contains-push, Contains-append_left}
 use Rattle.basics.specs.Items.{none_within}
@@ -196,6 +197,16 @@ pub none_found : (n i : ℕ) → at (replicate n None) i ≡ None
 none_found zero i = refl
 none_found (suc n) zero = refl
 none_found (suc n) (suc i) = none_found n i
+
+nothing_found : (n : ℕ) (table : List (Option Found)) → table ≡ replicate n None → (i : ℕ) (x : Found) → at table i ≡ Some x → ⊥
+nothing_found n table is i x e = none-some x (sym (ap (λ (t : List (Option Found)). at t i) is ∙ none_found n i) ∙ e)
+
+pub none_sound : (gs : List GraphInst) (table : List (Option Found)) → table ≡ replicate (length gs) None → IsSound gs table
+none_sound gs table is = record {
+  same = ap length is ∙ length-replicate (length gs) None;
+  settled = λ i x e. absurd (nothing_found (length gs) table is i x e);
+  small = λ i x e. absurd (nothing_found (length gs) table is i x e);
+}
 
 pub none_here : (o : Option Found) → is_some o ≡ false → o ≡ None
 none_here None e = refl
