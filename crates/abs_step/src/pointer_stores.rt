@@ -1,7 +1,6 @@
 //! Stores through a pointer.
 
 ghost use Rattle.std.specs.Prelude.{◌≡◌, Some, false, filter, length, IfOk, IfErr};
-ghost use Rattle.avr_model.specs.Assumptions.{is_fixed_site};
 ghost use Rattle.mask_states.specs.Keys.{offset_of};
 ghost use Rattle.local_rules.specs.declared.local.NodeFault.TheVariants.{Memory};
 ghost use Rattle.local_rules.specs.Raw.{Raw, next};
@@ -18,10 +17,8 @@ use abs_reads::pointers::{point, reaches};
 use abs_rows::registers::value;
 use abs_state::AbsState;
 use avr_model::instruction::{LowRegister, Register};
-use flash_image::Flash;
 use local_rules::local::NodeFault;
 use std::alloc::Global;
-use vector_table::Assumptions;
 
 /// The one that counts of a fault so far and another.
 pub fn first(fault: Option<NodeFault>, found: NodeFault) -> NodeFault
@@ -80,14 +77,6 @@ fn listed_writes(
     }
 }
 
-// Whether the address of the store at this word has to be known.
-#[tactic(auto, unfolding(avr_model::specs::Assumptions::is_fixed_site))]
-fn is_fixed_site(flash: &Flash, assumptions: &Assumptions, pc: u16) -> bool
-    ensures { result ≡ is_fixed_site flash.now assumptions.now pc }
-{
-    assumptions.proved(pc) || !assumptions.freed(pc) && flash.is_fixed(pc)
-}
-
 /// Register `source` is stored through registers `r` and `r + 1` plus a number, as they are before the instruction.
 pub fn pointer_write(
     nodes: &mut Moves<'_>,
@@ -107,7 +96,7 @@ pub fn pointer_write(
         state: after,
         value: value(site.state, source),
     };
-    if is_fixed_site(site.flash, site.assumptions, site.key.pc) {
+    if site.flash.is_fixed_site(site.assumptions, site.key.pc) {
         match point(site.state, r, up).constant {
             Some(address) => written_at(nodes, site.alloc, &write, false, address),
             None => Err(NodeFault::UnknownPointer(site.key.pc)),

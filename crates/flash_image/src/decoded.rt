@@ -1,11 +1,13 @@
 //! What the words of flash say, each of which is decoded once.
 
 ghost use Rattle.std.specs.Prelude.{◌≡◌};
+ghost use Rattle.avr_model.specs.Assumptions.{is_fixed_site};
 ghost use Rattle.avr_model.specs.Sites.{instruction_at, is_fixed, is_scratch, table_site};
 
 use crate::image::Flash;
 use avr_decode::{Reading, adds_low};
 use avr_model::instruction::Instr;
+use vector_table::Assumptions;
 
 impl Flash {
     /// Works out what the words say, so that none is decoded at each look. Without memory for that (12 bytes a word), each is
@@ -37,6 +39,14 @@ impl Flash {
             Some(reading) => reading.is_fixed,
             None => avr_decode::is_fixed(&self.words, a),
         }
+    }
+
+    /// Whether the site `pc` counts as fixed: it has a `prove` entry, or the words say so and it has no `free` entry.
+    #[tactic(auto, unfolding(avr_model::specs::Assumptions::is_fixed_site))]
+    pub fn is_fixed_site(&self, assumptions: &Assumptions, pc: u16) -> bool
+        ensures { result ≡ is_fixed_site self.now assumptions.now pc }
+    {
+        assumptions.proved(pc) || !assumptions.freed(pc) && self.is_fixed(pc)
     }
 
     /// Whether a push at word `a` makes room for a compiler's small frame.

@@ -60,14 +60,6 @@ fn lists(items: &[u16], item: u16) -> bool
     items.iter().any(|other| *other == item)
 }
 
-// Whether the site counts as fixed.
-#[tactic(auto, unfolding(avr_model::specs::Assumptions::is_fixed_site))]
-fn is_fixed_site(flash: &Flash, assumptions: &Assumptions, pc: u16) -> bool
-    ensures { result ≡ assumed.is_fixed_site flash.now assumptions.now pc }
-{
-    assumptions.proved(pc) || !assumptions.freed(pc) && flash.is_fixed(pc)
-}
-
 /// Whether a write of this address at this word is flagged for a protected one.
 pub(crate) fn is_flagged_address(
     flash: &Flash,
@@ -79,7 +71,7 @@ pub(crate) fn is_flagged_address(
     ensures { result ≡ is_flagged_address flash.now assumptions.now pc instr.now address }
 {
     let is_store = is_pointer_store(instr);
-    let fixed = is_fixed_site(flash, assumptions, pc);
+    let fixed = flash.is_fixed_site(assumptions, pc);
     let protected = is_protected(address);
     let listed = lists(assumptions.stores(pc), address);
     is_store && !fixed && (protected && !listed)
