@@ -9,7 +9,7 @@ use Rattle.local_rules.specs.Raw.{Raw, all_of}
 use Rattle.local_rules.specs.Flow.{part_of, with_value, where_carry}
 use Rattle.local_rules.specs.Registers.{value}
 use Rattle.abs_step.specs.Adding.{Moving, with_nodes, IsAdded}
-use Rattle.abs_step.specs.Cuts.{with_part, registers_where}
+use Rattle.abs_reads.specs.Cuts.{with_part, registers_where}
 use Rattle.abs_step.proofs.Added.{with_all}
 
 pub both_added : (old mid new : Moving) (r q : Raw) → IsAdded old mid r → IsAdded mid new q → IsAdded old new (all_of (r ∷ q ∷ []))

@@ -1,5 +1,4 @@
 pub mod Examples
 pub mod Leading
 pub mod Adding
-pub mod Cuts
 pub mod Tests

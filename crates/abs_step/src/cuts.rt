@@ -1,69 +1,16 @@
 //! Branches on C, which cut the range of the register that C speaks of.
 
-ghost use Rattle.std.specs.Prelude.{◌≡◌, ◌<◌, IfErr};
+ghost use Rattle.std.specs.Prelude.{◌≡◌, IfErr};
 ghost use Rattle.local_rules.specs.declared.local.NodeFault.TheVariants.{Memory};
 ghost use Rattle.local_rules.specs.Flow as flow;
 ghost use Rattle.abs_step.specs.Adding.{Adds};
-ghost use Rattle.abs_step.specs.Cuts.{registers_where};
 
 use crate::moves::Moves;
 use crate::site::Site;
 use crate::successors::{changed, off_table};
-use abs_state::{AbsByte, AbsState};
+use abs_reads::cuts::registers_where;
 use bit_domain::Tri;
 use local_rules::local::NodeFault;
-use sp_domain::CarryTag;
-
-// What is left of a value that is below a number where `below`, else of one that isn't.
-fn part_of(below: bool, value: AbsByte, number: u8) -> Option<AbsByte>
-    ensures { result ≡ flow.part_of below value number }
-{
-    if below {
-        if value.low < number {
-            return Some(AbsByte {
-                high: value.high.min(number - 1),
-                ..value
-            });
-        }
-        return None;
-    }
-    if number <= value.high {
-        return Some(AbsByte {
-            low: value.low.max(number),
-            ..value
-        });
-    }
-    None
-}
-
-// The registers where C has this value.
-fn registers_where(state: &AbsState, carry: bool) -> Option<[AbsByte; 32]>
-    ensures { result ≡ registers_where state.now.flags.carry state.now.registers carry }
-{
-    match state.flags.carry {
-        CarryTag::Less(r, number) => cut(&state.registers, usize::from(r), carry, number),
-        CarryTag::None | CarryTag::Borrow(_, _) | CarryTag::Sum(_, _) => Some(state.registers),
-    }
-}
-
-ghost use Rattle.abs_step.specs.Cuts.{register_cut};
-
-// The registers with one cut; there is no register from 32 on.
-fn cut(registers: &[AbsByte; 32], r: usize, below: bool, number: u8) -> Option<[AbsByte; 32]>
-    ensures { result ≡ register_cut registers.now r below number }
-{
-    let value = if r < 32 {
-        registers[r]
-    } else {
-        AbsByte::unknown()
-    };
-    let part = part_of(below, value, number)?;
-    let mut after = *registers;
-    if r < 32 {
-        after[r] = part;
-    }
-    Some(after)
-}
 
 // Going on at a word where C has this value, if it can.
 fn going_where(

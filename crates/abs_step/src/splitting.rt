@@ -14,14 +14,10 @@ use crate::instruction::at_instruction;
 use crate::pointer_stores::first;
 use crate::site::Site;
 use crate::successors::copied;
-use abs_reads::pointers::has;
-use abs_rows::registers::value;
-use abs_state::{AbsByte, AbsState};
-use avr_model::instruction::Register;
+use abs_reads::picks::picks;
 use local_rules::local::{NodeFault, Nodes};
 use mask_states::NodeKey;
 use pair_cuts::pick_cut;
-use std::alloc::Global;
 use vector_table::Assumptions;
 
 // The most bytes by which a node splits.
@@ -52,30 +48,6 @@ fn split_site(site: &Site<'_>) -> Option<u16>
             unlined(site.assumptions, jump)
         }
     }
-}
-
-// Whether the value may be this byte: its bits permit it, and it lies in the range.
-fn may_be(value: AbsByte, byte: u8) -> bool
-    ensures { result ≡ rows.may_be value byte }
-{
-    has(value.bits, byte) && value.low <= byte && byte <= value.high
-}
-
-// The bytes that r30 may hold, ascending.
-fn picks(alloc: Global, state: &AbsState) -> Result<Vec<u8>, NodeFault>
-    ensures ok { IfOk result (λ v. v.items ≡ rows.picks state.now) }
-    ensures err { IfErr result (λ e. e ≡ Memory) }
-{
-    let index = value(state, Register::new(30));
-    let mut picks = Vec::new(alloc);
-    for byte in 0..256u16 {
-        if may_be(index, byte as u8) {
-            if picks.push(byte as u8).is_err() {
-                return Err(NodeFault::Memory);
-            }
-        }
-    }
-    Ok(picks)
 }
 
 // What the node leads to with this byte picked, where something is left of its state.

@@ -1,9 +1,9 @@
 use Rattle.std.proofs.Common.{◌≡◌, ◌∙◌, sym, ap, rules, ℕ, Bool, List, [], ◌∷◌, ◌++◌}
 use Rattle.local_rules.specs.Registers.{value}
 use Rattle.local_rules.specs.Local.{below, may_be}
-use Rattle.abs_step.proofs.Picked.{passes_next, stops_next}
-use Rattle.abs_step.proofs.splitting.picks.Goals as goal
-use Rattle.abs_step.proofs.splitting.picks.Goals.{then-may_be+else-is_err, else-may_be}
+use Rattle.abs_reads.proofs.Picked.{passes_next, stops_next}
+use Rattle.abs_reads.proofs.picks.picks.Goals as goal
+use Rattle.abs_reads.proofs.picks.picks.Goals.{then-may_be+else-is_err, else-may_be}
 
 pub loop-byte-init : goal.loop-byte-init
 unfolding below
