@@ -1,14 +1,15 @@
 -- Nodes that are added to a list.
-use Rattle.std.proofs.Common.{◌≡◌, refl, sym, ap, ◌∙◌, ℕ, zero, suc, ◌+◌, ◌<◌, List, [], ◌∷◌, ◌++◌, length, map, take, slice_index_or, Option, Some, None, arith}
+use Rattle.std.proofs.Common.{◌≡◌, refl, sym, ap, ◌∙◌, ℕ, zero, suc, ◌+◌, ◌<◌, List, [], ◌∷◌, ◌++◌, length, map, take, slice_index_or, Option, Some, None, Result, Ok, Err, arith}
 use Rattle.std.proofs.lemmas.List.{append-nil, append_assoc}
 use Rattle.abs_state.specs.declared.state.AbsState.{AbsState}
 use Rattle.avr_model.specs.Marks.{marks}
 use Rattle.mask_states.specs.declared.keys.NodeKey.{NodeKey}
 use Rattle.pair_rules.specs.Refined.{refined}
 use Rattle.local_rules.specs.declared.local.Node.{Node}
+use Rattle.local_rules.specs.declared.local.NodeFault.{NodeFault}
 use Rattle.local_rules.specs.Raw.{one, moves_to}
 use Rattle.local_rules.specs.Local.{placed, joined_onto, node_where, refined_nodes}
-use Rattle.abs_step.specs.Adding.{Teller, Moving, plain, left_by, through, with_nodes, IsAdded}
+use Rattle.abs_step.specs.Adding.{Teller, Moving, plain, left_by, through, with_nodes, IsAdded, Adds}
 
 -- ---- what is left of nodes
 
@@ -71,6 +72,12 @@ two_added old mid new j k s t p q = record {
   nodes = q.nodes ∙ ap (λ (m : Moving). with_nodes m (record { key = k; state = t } ∷ [])) p.nodes
       ∙ sym (with_all old (record { key = j; state = s } ∷ []) (record { key = k; state = t } ∷ []));
 }
+
+-- the second may be refused
+pub two_add : {U : Type 0} (result : Result U NodeFault) (old mid new : Moving) (j k : NodeKey) (s t : AbsState) → IsAdded old mid (one j s)
+    → Adds mid new result (one k t) → Adds old new result (moves_to (record { key = j; state = s } ∷ record { key = k; state = t } ∷ []))
+two_add (Ok u) old mid new j k s t p q = two_added old mid new j k s t p q
+two_add (Err f) old mid new j k s t p q = q
 
 -- ---- one for each of a list
 

@@ -1,14 +1,15 @@
 -- Branches on C: two that are added, and the states of the registers that were cut.
-use Rattle.std.proofs.Common.{◌≡◌, refl, sym, ap, ◌∙◌, ℕ, Bool, List, [], ◌∷◌, ◌++◌, Option, Some, None, append-nil}
+use Rattle.std.proofs.Common.{◌≡◌, refl, sym, ap, ◌∙◌, ℕ, Bool, List, [], ◌∷◌, ◌++◌, Option, Some, None, Result, Ok, Err, append-nil}
 use Rattle.sp_domain.specs.declared.tags.CarryTag.{CarryTag}
 use Rattle.sp_domain.specs.declared.tags.CarryTag.TheVariants as carry
 use Rattle.abs_state.specs.declared.values.AbsByte.{AbsByte}
 use Rattle.abs_state.specs.declared.state.AbsState.{AbsState}
 use Rattle.local_rules.specs.declared.local.Node.{Node}
+use Rattle.local_rules.specs.declared.local.NodeFault.{NodeFault}
 use Rattle.local_rules.specs.Raw.{Raw, all_of}
 use Rattle.local_rules.specs.Flow.{part_of, with_value, where_carry}
 use Rattle.local_rules.specs.Registers.{value}
-use Rattle.abs_step.specs.Adding.{Moving, with_nodes, IsAdded}
+use Rattle.abs_step.specs.Adding.{Moving, with_nodes, first_fault, IsAdded, Adds}
 use Rattle.abs_reads.specs.Cuts.{with_part, registers_where}
 use Rattle.abs_step.proofs.Added.{with_all}
 
@@ -21,6 +22,14 @@ both_added old mid new r q p s =
       nodes = s.nodes ∙ ap (λ (m : Moving). with_nodes m q.moves) p.nodes ∙ sym (with_all old r.moves q.moves)
           ∙ ap (λ (ms : List Node). with_nodes old (r.moves ++ ms)) (sym (append-nil q.moves));
     }
+
+-- the second may be refused
+pub both_add : {U : Type 0} (result : Result U NodeFault) (old mid new : Moving) (r q : Raw) → IsAdded old mid r → Adds mid new result q
+    → Adds old new result (all_of (r ∷ q ∷ []))
+both_add (Ok u) old mid new r q p s = both_added old mid new r q p s
+both_add (Err f) old mid new r q p s = λ free.
+    let none : r.faults ≡ [] = ap (λ (x : Raw). x.faults) p.moves in
+    ap (λ (fs : List NodeFault). first_fault (fs ++ (q.faults ++ []))) none ∙ ap first_fault (append-nil q.faults) ∙ s free
 
 -- the state with these registers, if there are such
 abbrev pub state_where : AbsState → Option (List AbsByte) → Option AbsState

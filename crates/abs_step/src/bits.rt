@@ -37,8 +37,7 @@ pub fn bit_row(
         state: site.state,
         value: AbsByte::untagged(bits),
     };
-    let added = written_at(nodes, site.alloc, &write, false, address)?;
-    Ok(added)
+    written_at(nodes, site.alloc, &write, false, address)
 }
 
 /// `bset` of flag `n` where `on`, else `bclr`. I is in the key.
@@ -56,7 +55,7 @@ fn interrupts_row(nodes: &mut Moves<'_>, site: &Site<'_>, on: bool) -> Result<()
     ensures { Adds nodes.old nodes.new result (registers.interrupts_row site.now.device site.now.key.now site.now.state.now on) }
 {
     let delay = on && !site.key.i;
-    let added = add_copy(
+    add_copy(
         nodes,
         site.alloc,
         NodeKey {
@@ -65,6 +64,5 @@ fn interrupts_row(nodes: &mut Moves<'_>, site: &Site<'_>, on: bool) -> Result<()
             ..next(site.device, site.key)
         },
         site.state,
-    )?;
-    Ok(added)
+    )
 }

@@ -25,8 +25,7 @@ fn going_where(
     match registers_where(site.state, carry) {
         Some(registers) => {
             let after = changed(site.alloc, site.state, &registers, site.state.flags)?;
-            let added = nodes.add(off_table(site.key, pc), after)?;
-            Ok(added)
+            nodes.add(off_table(site.key, pc), after)
         }
         None => Ok(()),
     }
@@ -47,8 +46,7 @@ pub fn carry_branch(
         Tri::Zero => going_where(nodes, site, false, clear),
         Tri::Any => {
             going_where(nodes, site, false, clear)?;
-            let added = going_where(nodes, site, true, set)?;
-            Ok(added)
+            going_where(nodes, site, true, set)
         }
     }
 }

@@ -52,8 +52,7 @@ pub fn load_row(
     ensures { Adds nodes.old nodes.new result (rows.loading site.now.device site.now.key.now site.now.state.now registers.now d (reads.read_pointed site.now.device site.now.key.now site.now.state.now (reads.pointed site.now.state.now r up))) }
 {
     let read = read_pointed(site.device, site.key, site.state, point(site.state, r, up));
-    let added = loading(nodes, site, registers, d, read)?;
-    Ok(added)
+    loading(nodes, site, registers, d, read)
 }
 
 /// `in` and `lds`: register `d` gets what is known of an address, and the machine goes on at this word.
@@ -69,8 +68,7 @@ pub fn read_row(
     let read = read_at(site.device, site.key, site.state, address);
     let registers = set(&site.state.registers, d, read);
     let after = changed(site.alloc, site.state, &registers, site.state.flags)?;
-    let added = nodes.add(at_word(site.key, pc), after)?;
-    Ok(added)
+    nodes.add(at_word(site.key, pc), after)
 }
 
 /// `lpm`: register `d` of these gets a byte of flash.
@@ -84,8 +82,7 @@ pub fn lpm_row(
 {
     let z = pair_constant(site.state, base_register(Base::Z));
     let registers = set(registers, d, flash_value(site.flash, z));
-    let added = setting(nodes, site, &registers, site.state.flags)?;
-    Ok(added)
+    setting(nodes, site, &registers, site.state.flags)
 }
 
 /// `st`: through a pointer that may move.
@@ -100,8 +97,9 @@ pub fn store_row(
     let registers = pointer_moved(pointer, site.state);
     let after = changed(site.alloc, site.state, &registers, site.state.flags)?;
     let (base, up) = (pointer_register(pointer), step_before(pointer));
-    let added = pointer_write(nodes, site, base, up, r, &after)?;
-    Ok(added)
+    let added = pointer_write(nodes, site, base, up, r, &after);
+    drop(after);
+    added
 }
 
 /// `out` and `sts`: register `r` is written to a known address, and the machine goes on at this word.
@@ -122,6 +120,5 @@ pub fn known_write(
         state: site.state,
         value: value(site.state, r),
     };
-    let added = written_at(nodes, site.alloc, &write, is_out, address)?;
-    Ok(added)
+    written_at(nodes, site.alloc, &write, is_out, address)
 }

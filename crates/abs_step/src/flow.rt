@@ -80,8 +80,7 @@ pub(crate) fn skipping(
         further(site.device, site.key, 1 + length),
         further(site.device, site.key, 1),
     );
-    let added = branch(nodes, site, condition, past, next)?;
-    Ok(added)
+    branch(nodes, site, condition, past, next)
 }
 
 // The listed words that the bits permit.
@@ -154,8 +153,9 @@ pub(crate) fn jumping(nodes: &mut Moves<'_>, site: &Site<'_>) -> Result<(), Node
     ensures { Adds nodes.old nodes.new result (flow.jumping (flow.targets_at site.now.device site.now.assumptions.now site.now.key.now site.now.state.now) site.now.key.now site.now.state.now) }
 {
     let words = targets_at(site)?;
-    let added = add_words(nodes, site, &words)?;
-    Ok(added)
+    let added = add_words(nodes, site, &words);
+    drop(words);
+    added
 }
 
 /// What leaves the instance.
@@ -218,13 +218,10 @@ pub(crate) fn indirect_call(site: &Site<'_>) -> Result<Outside, NodeFault>
     ensures { (nodes : Moving) → Leads nodes nodes result (flow.indirect_call site.now.device (flow.targets_at site.now.device site.now.assumptions.now site.now.key.now site.now.state.now) site.now.key.now) }
 {
     let entries = targets_at(site)?;
-    let outside = calling(
-        site.alloc,
-        site.key,
-        further(site.device, site.key, 1),
-        &entries,
-    )?;
-    Ok(outside)
+    let back = further(site.device, site.key, 1);
+    let outside = calling(site.alloc, site.key, back, &entries);
+    drop(entries);
+    outside
 }
 
 // A return at this offset.

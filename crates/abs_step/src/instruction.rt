@@ -88,7 +88,10 @@ pub(crate) fn row_forgetting(
         key: site.key,
         state: &left,
     };
-    row(nodes, &forgetting, scratch, instr)
+    let led = row(nodes, &forgetting, scratch, instr);
+    drop(forgetting);
+    drop(left);
+    led
 }
 
 // The instruction at the node, whose word may lie behind the device's flash.

@@ -1,6 +1,6 @@
 //! Where pairs are followed: branches and skips cut the state by their outcome, and what other instructions leave is refined.
 
-ghost use Rattle.std.specs.Prelude.{◌≡◌, ◌<◌, ◌∷◌, [], true, not, Some, length};
+ghost use Rattle.std.specs.Prelude.{◌≡◌, ◌<◌, ◌∷◌, [], true, not, length};
 ghost use Rattle.mask_states.specs.Keys.{offset_of};
 ghost use Rattle.avr_model.specs.Image.{WORDS};
 ghost use Rattle.avr_model.specs.declared.instruction.Instr.TheVariants as i;
@@ -83,8 +83,7 @@ fn both_ways(
     ensures { Adds (plain nodes.old) (plain nodes.new) result (all_of (flow.going_where site.now.key.now (cut_by test on site.now.state.now) pc ∷ flow.going_where site.now.key.now (cut_by test (not on) site.now.state.now) other ∷ [])) }
 {
     going_where(nodes, site, test, on, pc)?;
-    let added = going_where(nodes, site, test, !on, other)?;
-    Ok(added)
+    going_where(nodes, site, test, !on, other)
 }
 
 // To the next instruction where the test comes out so, else past it.
@@ -98,8 +97,7 @@ fn skip_unless(nodes: &mut Nodes, site: &Site<'_>, test: Test, on: bool) -> Resu
         further(site.device, site.key, 1 + length),
         further(site.device, site.key, 1),
     );
-    let added = both_ways(nodes, site, test, on, next, past)?;
-    Ok(added)
+    both_ways(nodes, site, test, on, next, past)
 }
 
 // `st`: the pointer moves, and its pair is refined, before the byte is stored.
@@ -115,24 +113,28 @@ fn store_row(
     let instr = Instr::St(pointer, r);
     let mut moved = before(site.alloc, site.state, &instr)?;
     moved.registers = pointer_moved(pointer, site.state);
-    if !refine(site.flash, &instr, site.state, &mut moved) {
-        return Ok(());
-    }
-    stored(nodes, site, &instr, pointer, r, &moved)
+    let left = refine(site.flash, &instr, site.state, &mut moved);
+    let added = stored(nodes, site, &instr, pointer, r, left, &moved);
+    drop(moved);
+    added
 }
 
-// The byte is stored.
+// The byte is stored, where something is left of the state.
 fn stored(
     nodes: &mut Nodes,
     site: &Site<'_>,
     instr: &Instr,
     pointer: Pointer,
     r: Register,
+    left: bool,
     moved: &AbsState,
 ) -> Result<(), NodeFault>
-    requires { length moved.now.slots ≡ offset_of site.now.key.now.sp }
-    ensures { Adds (plain nodes.old) (plain nodes.new) result (rows.storing site.now.device site.now.flash.now site.now.assumptions.now site.now.key.now site.now.state.now pointer r (Some moved.now)) }
+    requires { left ≡ true → length moved.now.slots ≡ offset_of site.now.key.now.sp }
+    ensures { Adds (plain nodes.old) (plain nodes.new) result (rows.storing site.now.device site.now.flash.now site.now.assumptions.now site.now.key.now site.now.state.now pointer r (left_in left moved.now)) }
 {
+    if !left {
+        return Ok(());
+    }
     let (base, up) = (pointer_register(pointer), step_before(pointer));
     let so_far = mem::replace(nodes, Nodes::new(site.alloc));
     let mut moves = Moves::new(so_far, site, instr, false);

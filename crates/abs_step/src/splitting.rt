@@ -1,7 +1,9 @@
 //! Jump tables: a node at a table site splits by the bytes that r30 may hold, so that the ways to the entries stay apart.
 
-ghost use Rattle.std.specs.Prelude.{◌≡◌, ◌<◌, Some, map, IfOk, IfErr};
+ghost use Rattle.std.specs.Prelude.{◌≡◌, ◌<◌, true, length, Some, map, IfOk, IfErr};
 ghost use Rattle.avr_model.specs.Image.{WORDS};
+ghost use Rattle.mask_states.specs.Keys.{offset_of};
+ghost use Rattle.abs_state.specs.PairBytes.{left_in};
 ghost use Rattle.local_rules.specs.declared.local.NodeFault.TheVariants.{Memory};
 ghost use Rattle.local_rules.specs.Raw.{Raw, all_of};
 ghost use Rattle.local_rules.specs.Local as rows;
@@ -15,6 +17,7 @@ use crate::pointer_stores::first;
 use crate::site::Site;
 use crate::successors::copied;
 use abs_reads::picks::picks;
+use abs_state::AbsState;
 use local_rules::local::{NodeFault, Nodes};
 use mask_states::NodeKey;
 use pair_cuts::pick_cut;
@@ -50,14 +53,19 @@ fn split_site(site: &Site<'_>) -> Option<u16>
     }
 }
 
-// What the node leads to with this byte picked, where something is left of its state.
-#[tactic(auto, using(crate::proofs::Slots::pick_slots))]
-fn with_pick(nodes: &mut Nodes, site: &Site<'_>, byte: u8) -> Result<Outside, NodeFault>
+// What the node with this byte picked leads to from what is left of its state, if something is.
+fn picked_row(
+    nodes: &mut Nodes,
+    site: &Site<'_>,
+    byte: u8,
+    left: bool,
+    picked: &AbsState,
+) -> Result<Outside, NodeFault>
     requires word { site.now.key.now.pc < WORDS }
-    ensures { Leads (plain nodes.old) (plain nodes.new) result (rows.picked_row (rows.row_in site.now.device site.now.flash.now site.now.assumptions.now) (rows.picking site.now.key.now byte) (pick_cut byte site.now.state.now)) }
+    requires sized { left ≡ true → length picked.now.slots ≡ offset_of site.now.key.now.sp }
+    ensures { Leads (plain nodes.old) (plain nodes.new) result (rows.picked_row (rows.row_in site.now.device site.now.flash.now site.now.assumptions.now) (rows.picking site.now.key.now byte) (left_in left picked.now)) }
 {
-    let mut picked = copied(site.alloc, site.state)?;
-    if !pick_cut(&mut picked, byte) {
+    if !left {
         return staying(site.alloc, Ok(()));
     }
     let key = NodeKey {
@@ -70,9 +78,22 @@ fn with_pick(nodes: &mut Nodes, site: &Site<'_>, byte: u8) -> Result<Outside, No
         flash: site.flash,
         assumptions: site.assumptions,
         key: &key,
-        state: &picked,
+        state: picked,
     };
     at_instruction(nodes, &site)
+}
+
+// What the node leads to with this byte picked, where something is left of its state.
+#[tactic(auto, using(crate::proofs::Slots::pick_slots))]
+fn with_pick(nodes: &mut Nodes, site: &Site<'_>, byte: u8) -> Result<Outside, NodeFault>
+    requires word { site.now.key.now.pc < WORDS }
+    ensures { Leads (plain nodes.old) (plain nodes.new) result (rows.picked_row (rows.row_in site.now.device site.now.flash.now site.now.assumptions.now) (rows.picking site.now.key.now byte) (pick_cut byte site.now.state.now)) }
+{
+    let mut picked = copied(site.alloc, site.state)?;
+    let left = pick_cut(&mut picked, byte);
+    let led = picked_row(nodes, site, byte, left, &picked);
+    drop(picked);
+    led
 }
 
 // One more byte is picked, where a fault was found so far or not.
@@ -122,7 +143,9 @@ fn split(nodes: &mut Nodes, site: &Site<'_>, jump: u16) -> Result<(), NodeFault>
     if picks.len() > MOST_PICKS {
         return Err(NodeFault::UnresolvedJump(jump));
     }
-    all_picked(nodes, site, &picks)
+    let added = all_picked(nodes, site, &picks);
+    drop(picks);
+    added
 }
 
 /// What the node leads to: where it splits, all that it would with each byte that r30 may hold.

@@ -79,14 +79,13 @@ fn pop_from(nodes: &mut Moves<'_>, site: &Site<'_>, d: Register, n: u16) -> Resu
     let mut after = with_slots(site.alloc, site.state, n)?;
     after.registers = set(&site.state.registers, d, slot_value(site.state, n));
     let sp = SpForm::Closed(n);
-    let added = nodes.add(
+    nodes.add(
         NodeKey {
             sp,
             ..next(site.device, site.key)
         },
         after,
-    )?;
-    Ok(added)
+    )
 }
 
 /// `pop`: register `d` gets the byte in the last slot, which goes.
@@ -114,11 +113,15 @@ pub fn room_row(nodes: &mut Moves<'_>, site: &Site<'_>, target: u16) -> Result<(
             if deep > u32::from(site.device.size()) {
                 return Err(NodeFault::TooDeep(site.key.pc, deep));
             }
-            let one = with_slot(site.alloc, site.state, Slot::Free)?;
-            let two = with_slot(site.alloc, &one, Slot::Free)?;
+            let after = with_slots(site.alloc, site.state, offset + 2)?;
             let sp = SpForm::Closed(offset + 2);
-            let after = at_word(site.key, target);
-            nodes.add(NodeKey { sp, ..after }, two)
+            nodes.add(
+                NodeKey {
+                    sp,
+                    ..at_word(site.key, target)
+                },
+                after,
+            )
         }
         SpForm::Open(_, _) => Err(NodeFault::UntrackedSp(site.key.pc)),
     }

@@ -192,8 +192,7 @@ fn register_written(
     let mut after = changed(alloc, state, &registers, flags)?;
     end_facts(&mut after.facts, set_of(d), false, false);
     hull_written(&mut after.facts, &registers, usize::from(d.get()));
-    let added = nodes.add(write.key, after)?;
-    Ok(added)
+    nodes.add(write.key, after)
 }
 
 // The set of one register, as a bit.
@@ -215,8 +214,9 @@ fn flags_set(
     let (state, value) = (write.state, write.value);
     let mut after = changed(alloc, state, &state.registers, flags_written(value))?;
     end_facts(&mut after.facts, 0, true, true);
-    let added = sreg_written(nodes, alloc, value.bits.bit(I), &write.key, &after, is_out)?;
-    Ok(added)
+    let added = sreg_written(nodes, alloc, value.bits.bit(I), &write.key, &after, is_out);
+    drop(after);
+    added
 }
 
 /// A byte is written to a known address, by `out` or otherwise.

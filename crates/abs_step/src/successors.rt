@@ -91,8 +91,7 @@ pub fn add_copy(
     ensures { Adds nodes.old nodes.new result (one key state.now) }
 {
     let copy = copied(alloc, state)?;
-    let added = nodes.add(key, copy)?;
-    Ok(added)
+    nodes.add(key, copy)
 }
 
 /// Two nodes with this state.
@@ -108,8 +107,7 @@ pub fn add_two(
     ensures { Adds nodes.old nodes.new result (moves_to (record { key = first; state = state.now } ∷ record { key = second; state = state.now } ∷ [])) }
 {
     add_copy(nodes, alloc, first, state)?;
-    let added = add_copy(nodes, alloc, second, state)?;
-    Ok(added)
+    add_copy(nodes, alloc, second, state)
 }
 
 /// Going on at another word.
@@ -136,8 +134,7 @@ pub fn setting(
     ensures { Adds nodes.old nodes.new result (raw.setting site.now.device site.now.key.now site.now.state.now registers.now flags) }
 {
     let after = changed(site.alloc, site.state, registers, flags)?;
-    let added = nodes.add(next(site.device, site.key), after)?;
-    Ok(added)
+    nodes.add(next(site.device, site.key), after)
 }
 
 /// One successor where the condition is known, else two.

@@ -2,16 +2,16 @@ use Rattle.std.proofs.Common.{◌∙◌, ap, subst, ℕ}
 use Rattle.abs_state.specs.declared.state.AbsState.{AbsState}
 use Rattle.abs_state.specs.Ended.{written_hull}
 use Rattle.local_rules.specs.Raw.{one}
-use Rattle.abs_step.specs.Adding.{IsAdded}
+use Rattle.abs_step.specs.Adding.{Adds}
 use Rattle.abs_step.proofs.Forgetting.{is_register_written}
 use Rattle.abs_step.proofs.stores.register_written.Goals as goal
 
 pub returns : goal.returns
 returns c =
     let write = c.args.write.now in
-    subst (λ (t : AbsState). IsAdded c.args.nodes.now c.add.new.self (one write.key t))
+    subst (λ (t : AbsState). Adds c.args.nodes.now c.add.new.self c.add.result (one write.key t))
     (is_register_written write.state.now c.in_ok-after.after c.args.d write.value c.with_bits-value.result c.set-registers.result c.forgotten.result c.set_of.result
     c.end_facts.new.facts c.hull_written.new.facts
     c.with_bits-value.ensures c.set-registers.ensures c.forgotten.ensures c.in_ok-after.ensures.ok c.set_of.ensures c.set_of.type_inv c.end_facts.ensures
     (c.hull_written.ensures ∙ ap (λ (r : ℕ). written_hull c.set-registers.result r c.end_facts.new.facts) (c.from.ensures ∙ c.get.ensures.value)))
-    c.in_ok-added.ensures
+    c.add.ensures
