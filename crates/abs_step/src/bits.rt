@@ -1,6 +1,7 @@
 //! Bits of I/O, and the flags by their numbers.
 
 ghost use Rattle.std.specs.Prelude.{◌≡◌};
+ghost use Rattle.avr_model.specs.Effects as effects;
 ghost use Rattle.local_rules.specs.Registers as registers;
 ghost use Rattle.local_rules.specs.Local as rows;
 ghost use Rattle.abs_step.specs.Adding.{Adds};
@@ -9,10 +10,11 @@ use crate::moves::Moves;
 use crate::site::Site;
 use crate::stores::{Write, written_at};
 use crate::successors::{add_copy, next, setting};
+use abs_reads::flow::port;
 use abs_reads::reads::read_at;
 use abs_rows::bits::flag;
 use abs_state::AbsByte;
-use avr_model::instruction::Bit;
+use avr_model::instruction::{Bit, LowPort};
 use bit_domain::Tri;
 use local_rules::local::NodeFault;
 use mask_states::NodeKey;
@@ -21,12 +23,13 @@ use mask_states::NodeKey;
 pub fn bit_row(
     nodes: &mut Moves<'_>,
     site: &Site<'_>,
-    address: u16,
+    i: LowPort,
     bit: Bit,
     on: bool,
 ) -> Result<(), NodeFault>
-    ensures { Adds nodes.old nodes.new result (rows.bit_row site.now.device site.now.key.now site.now.state.now address bit on) }
+    ensures { Adds nodes.old nodes.new result (rows.bit_row site.now.device site.now.key.now site.now.state.now (effects.port i) bit on) }
 {
+    let address = port(i.widened());
     let bits = read_at(site.device, site.key, site.state, address)
         .bits
         .with(bit.get() as u8, if on { Tri::One } else { Tri::Zero });

@@ -13,6 +13,7 @@ use crate::pointer_stores::pointer_write;
 use crate::site::Site;
 use crate::stores::{Write, written_at};
 use crate::successors::{at_word, changed, setting};
+use abs_reads::flow::further;
 use abs_reads::pointers::{flash_value, pair_constant, point, read_pointed, step_before};
 use abs_reads::reads::read_at;
 use abs_rows::registers::{set, value};
@@ -55,19 +56,20 @@ pub fn load_row(
     loading(nodes, site, registers, d, read)
 }
 
-/// `in` and `lds`: register `d` gets what is known of an address, and the machine goes on at this word.
+/// `in` and `lds`, of so many words: register `d` gets what is known of an address.
 pub fn read_row(
     nodes: &mut Moves<'_>,
     site: &Site<'_>,
-    pc: u16,
+    words: u16,
     d: Register,
     address: u16,
 ) -> Result<(), NodeFault>
-    ensures { Adds nodes.old nodes.new result (raw.going_to site.now.key.now (record site.now.state.now { registers = registers.set site.now.state.now d (reads.read_at site.now.device site.now.key.now site.now.state.now address) }) pc) }
+    ensures { Adds nodes.old nodes.new result (raw.going_to site.now.key.now (record site.now.state.now { registers = registers.set site.now.state.now d (reads.read_at site.now.device site.now.key.now site.now.state.now address) }) (raw.further site.now.device site.now.key.now words)) }
 {
     let read = read_at(site.device, site.key, site.state, address);
     let registers = set(&site.state.registers, d, read);
     let after = changed(site.alloc, site.state, &registers, site.state.flags)?;
+    let pc = further(site.device, site.key, words);
     nodes.add(at_word(site.key, pc), after)
 }
 
@@ -102,21 +104,21 @@ pub fn store_row(
     added
 }
 
-/// `out` and `sts`: register `r` is written to a known address, and the machine goes on at this word.
+/// `out` and `sts`, of so many words: register `r` is written to a known address.
 pub fn known_write(
     nodes: &mut Moves<'_>,
     site: &Site<'_>,
-    pc: u16,
+    words: u16,
     is_out: bool,
     address: u16,
     r: Register,
 ) -> Result<(), NodeFault>
-    ensures { Adds nodes.old nodes.new result (written_at site.now.device site.now.key.now.pc (raw.at_word site.now.key.now pc) site.now.state.now is_out address (registers.value site.now.state.now r)) }
+    ensures { Adds nodes.old nodes.new result (written_at site.now.device site.now.key.now.pc (raw.at_word site.now.key.now (raw.further site.now.device site.now.key.now words)) site.now.state.now is_out address (registers.value site.now.state.now r)) }
 {
     let write = Write {
         device: site.device,
         pc: site.key.pc,
-        key: at_word(site.key, pc),
+        key: at_word(site.key, further(site.device, site.key, words)),
         state: site.state,
         value: value(site.state, r),
     };

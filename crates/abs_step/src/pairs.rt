@@ -23,7 +23,7 @@ use abs_reads::pointers::step_before;
 use abs_rows::transfer::{pointer_moved, pointer_register};
 use abs_state::AbsState;
 use avr_decode::near;
-use avr_model::instruction::{BinaryOp, Instr, Pointer, Register};
+use avr_model::instruction::{BinaryOp, Bit, Instr, Pointer, Register};
 use local_rules::local::{NodeFault, Nodes};
 use pair_cuts::{bit_cut, equal_cut, flag_cut};
 use pair_steps::refine;
@@ -161,6 +161,27 @@ pub(crate) fn row_through(
     led
 }
 
+// A branch on flag `n`: to one word where it is 0, and then to another where it is 1. I is in the key, so that it tells of no pair.
+fn flag_row(
+    nodes: &mut Nodes,
+    site: &Site<'_>,
+    scratch: bool,
+    instr: &Instr,
+    n: Bit,
+    clear: u16,
+    set: u16,
+) -> Result<Outside, NodeFault>
+    requires word { site.now.key.now.pc < WORDS }
+    ensures { Leads (plain nodes.old) (plain nodes.new) result (rows.paired_branch n site.now.key.now site.now.state.now set clear (rows.plain_row site.now.device site.now.flash.now site.now.assumptions.now scratch site.now.key.now site.now.state.now instr.now)) }
+{
+    if n.get() >= 7 {
+        return row_through(nodes, site, scratch, instr, false);
+    }
+    let test = Test::Flag(n.get() as u8);
+    let added = both_ways(nodes, site, test, false, clear, set);
+    staying(site.alloc, added)
+}
+
 /// What an instruction leads to where pairs are followed.
 pub(crate) fn paired_row(
     nodes: &mut Nodes,
@@ -174,20 +195,28 @@ pub(crate) fn paired_row(
     let (a, device, key) = (site.alloc, site.device, site.key);
     match instr {
         Instr::Brbs(n, t) => {
-            if n.get() >= 7 {
-                return row_through(nodes, site, scratch, instr, false);
-            }
-            let (taken, other) = (device.wrap(near(key.pc, t.get())), further(device, key, 1));
-            let test = Test::Flag(n.get() as u8);
-            staying(a, both_ways(nodes, site, test, false, other, taken))
+            let taken = device.wrap(near(key.pc, t.get()));
+            flag_row(
+                nodes,
+                site,
+                scratch,
+                instr,
+                *n,
+                further(device, key, 1),
+                taken,
+            )
         }
         Instr::Brbc(n, t) => {
-            if n.get() >= 7 {
-                return row_through(nodes, site, scratch, instr, false);
-            }
-            let (taken, other) = (device.wrap(near(key.pc, t.get())), further(device, key, 1));
-            let test = Test::Flag(n.get() as u8);
-            staying(a, both_ways(nodes, site, test, false, taken, other))
+            let taken = device.wrap(near(key.pc, t.get()));
+            flag_row(
+                nodes,
+                site,
+                scratch,
+                instr,
+                *n,
+                taken,
+                further(device, key, 1),
+            )
         }
         Instr::Sbrc(r, bit) => {
             let test = Test::Bit(r.get() as u8, bit.get() as u8);

@@ -91,8 +91,7 @@ fn memory_row(
     requires word { site.now.key.now.pc < WORDS }
     ensures { Leads nodes.old nodes.new result (rows.memory_row site.now.device site.now.flash.now site.now.assumptions.now scratch site.now.key.now site.now.state.now instr.now) }
 {
-    let (a, device) = (site.alloc, site.device);
-    let (key, state) = (site.key, site.state);
+    let (a, state) = (site.alloc, site.state);
     match instr {
         Instr::Ldd(d, b, q) => {
             let r = base_register(*b);
@@ -102,14 +101,8 @@ fn memory_row(
             let base = base_register(*b);
             staying(a, pointer_write(nodes, site, base, q.get(), *r, state))
         }
-        Instr::Lds(d, address) => staying(
-            a,
-            read_row(nodes, site, further(device, key, 2), *d, *address),
-        ),
-        Instr::Sts(address, r) => {
-            let pc = further(device, key, 2);
-            staying(a, known_write(nodes, site, pc, false, *address, *r))
-        }
+        Instr::Lds(d, address) => staying(a, read_row(nodes, site, 2, *d, *address)),
+        Instr::Sts(address, r) => staying(a, known_write(nodes, site, 2, false, *address, *r)),
         Instr::Ld(d, p) => {
             let (registers, r) = (pointer_moved(*p, state), pointer_register(*p));
             staying(a, load_row(nodes, site, &registers, *d, r, step_before(*p)))
@@ -123,16 +116,10 @@ fn memory_row(
         Instr::Lpm => staying(a, lpm_row(nodes, site, &state.registers, Register::new(0))),
         Instr::Pop(d) => staying(a, pop_row(nodes, site, *d)),
         Instr::Push(r) => staying(a, push_row(nodes, site, scratch, *r)),
-        Instr::In(d, i) => staying(
-            a,
-            read_row(nodes, site, further(device, key, 1), *d, port(*i)),
-        ),
-        Instr::Out(i, r) => {
-            let pc = further(device, key, 1);
-            staying(a, known_write(nodes, site, pc, true, port(*i), *r))
-        }
-        Instr::Cbi(i, b) => staying(a, bit_row(nodes, site, port(i.widened()), *b, false)),
-        Instr::Sbi(i, b) => staying(a, bit_row(nodes, site, port(i.widened()), *b, true)),
+        Instr::In(d, i) => staying(a, read_row(nodes, site, 1, *d, port(*i))),
+        Instr::Out(i, r) => staying(a, known_write(nodes, site, 1, true, port(*i), *r)),
+        Instr::Cbi(i, b) => staying(a, bit_row(nodes, site, *i, *b, false)),
+        Instr::Sbi(i, b) => staying(a, bit_row(nodes, site, *i, *b, true)),
         _ => flow_row(nodes, site, scratch, instr),
     }
 }
