@@ -14,7 +14,7 @@ use abs_rows::registers::{set, value};
 use abs_state::{AbsByte, AbsState};
 use avr_model::instruction::Register;
 use local_rules::local::NodeFault;
-use mask_states::{NodeKey, SpForm};
+use mask_states::SpForm;
 use sp_domain::Slot;
 use std::alloc::Global;
 
@@ -38,7 +38,10 @@ fn with_slot(alloc: Global, state: &AbsState, slot: Slot<AbsByte>) -> Result<Abs
     let mut after = copied(alloc, state)?;
     match after.slots.push(slot) {
         Ok(()) => Ok(after),
-        Err(_) => Err(NodeFault::Memory),
+        Err(_) => {
+            drop(after);
+            Err(NodeFault::Memory)
+        }
     }
 }
 
@@ -58,14 +61,9 @@ pub fn push_row(
             }
             let slot = pushed_slot(scratch, value(site.state, r));
             let after = with_slot(site.alloc, site.state, slot)?;
-            let sp = SpForm::Closed(offset + 1);
-            nodes.add(
-                NodeKey {
-                    sp,
-                    ..next(site.device, site.key)
-                },
-                after,
-            )
+            let mut key = next(site.device, site.key);
+            key.sp = SpForm::Closed(offset + 1);
+            nodes.add(key, after)
         }
         SpForm::Open(_, _) => Err(NodeFault::UntrackedSp(site.key.pc)),
     }
@@ -78,14 +76,9 @@ fn pop_from(nodes: &mut Moves<'_>, site: &Site<'_>, d: Register, n: u16) -> Resu
 {
     let mut after = with_slots(site.alloc, site.state, n)?;
     after.registers = set(&site.state.registers, d, slot_value(site.state, n));
-    let sp = SpForm::Closed(n);
-    nodes.add(
-        NodeKey {
-            sp,
-            ..next(site.device, site.key)
-        },
-        after,
-    )
+    let mut key = next(site.device, site.key);
+    key.sp = SpForm::Closed(n);
+    nodes.add(key, after)
 }
 
 /// `pop`: register `d` gets the byte in the last slot, which goes.
@@ -114,14 +107,9 @@ pub fn room_row(nodes: &mut Moves<'_>, site: &Site<'_>, target: u16) -> Result<(
                 return Err(NodeFault::TooDeep(site.key.pc, deep));
             }
             let after = with_slots(site.alloc, site.state, offset + 2)?;
-            let sp = SpForm::Closed(offset + 2);
-            nodes.add(
-                NodeKey {
-                    sp,
-                    ..at_word(site.key, target)
-                },
-                after,
-            )
+            let mut key = at_word(site.key, target);
+            key.sp = SpForm::Closed(offset + 2);
+            nodes.add(key, after)
         }
         SpForm::Open(_, _) => Err(NodeFault::UntrackedSp(site.key.pc)),
     }

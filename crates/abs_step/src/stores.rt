@@ -70,7 +70,10 @@ pub fn with_slots(alloc: Global, state: &AbsState, count: u16) -> Result<AbsStat
     let mut after = copied(alloc, state)?;
     match after.slots.resize(count) {
         Ok(()) => Ok(after),
-        Err(_) => Err(NodeFault::Memory),
+        Err(_) => {
+            drop(after);
+            Err(NodeFault::Memory)
+        }
     }
 }
 
