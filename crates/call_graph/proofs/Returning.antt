@@ -106,7 +106,7 @@ module _ (words : List ℕ) (A : List Entry) where
 
     -- ---- there is one answer
 
-    apart : (exits : AreFaultless words A nodes) (at : ℕ) (f : NodeFault) → IsFirstFault words A nodes at f → ⊥
+    pub apart : AreFaultless words A nodes → (at : ℕ) (f : NodeFault) → IsFirstFault words A nodes at f → ⊥
     apart clean at f m = clean_or_fault m.node f (clean m.node (contained_at nodes at m.node m.present)) m.fault
 
     not_before : (i j : ℕ) (f g : NodeFault) → IsFirstFault words A nodes i f → IsFirstFault words A nodes j g → i < j → ⊥

@@ -5,9 +5,10 @@ ghost use Rattle.sb_base.specs.Answers.{Answers};
 ghost use Rattle.local_rules.specs.Local as rows;
 ghost use Rattle.local_rules.specs.declared.local.NodeFault.TheVariants.{Memory};
 ghost use Rattle.local_rules.specs.declared.local.Node.{Node};
+ghost use Rattle.edge_rules.specs.Families.{AreFaultless};
 ghost use Rattle.edge_rules.specs.Views.{AreShown};
 ghost use Rattle.call_graph.specs.Next.{exit_in};
-ghost use Rattle.call_graph.specs.Exits.{exit_or, AreKnown, GivesExits};
+ghost use Rattle.call_graph.specs.Exits.{exit_or, AreExits, AreKnown, GivesExits};
 
 use crate::exit_list::Leaving;
 use abs_step::local;
@@ -78,4 +79,20 @@ pub fn exits<V: View>(
         }
     }
     Ok(Leaving::All(Listed::new(items)))
+}
+
+/// How all nodes return, none of which has a fault. The local part of each node is worked out once.
+pub fn all_exits<V: View>(
+    alloc: Global,
+    flash: &Flash,
+    assumptions: &Assumptions,
+    view: &V,
+) -> Result<Listed<Option<Exit>>, AllocError>
+    requires faultless { AreFaultless flash.now assumptions.now (V.nodes view.now) }
+    ensures { IfOk result (λ exits. AreExits flash.now assumptions.now (V.nodes view.now) exits) }
+{
+    match exits(alloc, flash, assumptions, view)? {
+        Leaving::All(exits) => Ok(exits),
+        Leaving::Fault(_, _) => unreachable!(),
+    }
 }

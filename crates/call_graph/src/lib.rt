@@ -16,6 +16,6 @@ pub use edge_rules::{Edge, EdgeKind, NodeForm, Seed, Seeded, View};
 pub use exit_list::Leaving;
 pub use expanding::expand;
 pub use filled::{Expanded, Filled};
-pub use leaving::exits;
+pub use leaving::{all_exits, exits};
 pub use reset::root_of;
 pub use successors::{next, next_with};

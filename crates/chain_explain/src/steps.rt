@@ -7,8 +7,7 @@ ghost use Rattle.call_graph.specs.Exits.{AreExits};
 ghost use Rattle.chain_explain.specs.Moves.{is_inside, to_of, move_of, all_of, moves_of, AreStepsOf, AreSteps};
 
 use avr_model::listed::Listed;
-use call_graph::laws::exits_are_exact;
-use call_graph::{Edge, EdgeKind, Filled, Leaving, View, exits, next_with};
+use call_graph::{Edge, EdgeKind, Filled, View, all_exits, next_with};
 use flash_image::Flash;
 use local_rules::Exit;
 use mask_states::InstKey;
@@ -116,9 +115,6 @@ pub(crate) fn steps_of(
     requires faultless { (n : Node) → Contains nodes.now n → IsFaultless flash.now assumptions.now n }
     ensures { IfOk result (λ s. AreSteps flash.now assumptions.now nodes.now (length nodes.now) s.all s.moves) }
 {
-    exits_are_exact();
-    match exits(alloc, flash, assumptions, nodes)? {
-        Leaving::All(exits) => steps_with(alloc, flash, assumptions, nodes, &exits),
-        Leaving::Fault(_, _) => unreachable!(),
-    }
+    let exits = all_exits(alloc, flash, assumptions, nodes)?;
+    steps_with(alloc, flash, assumptions, nodes, &exits)
 }

@@ -1,5 +1,5 @@
 -- The whole graph.
-use Rattle.std.proofs.Common.{arith, refl, sym, ap, subst, ◌∙◌, ◌≡◌, ℕ, suc, ◌+◌, ◌<◌, ◌≤◌, List, [], ◌∷◌, ◌++◌, length, length-append, Option, Some, slice_get, Contains, inl, inr, Result, Ok, Err, IfOk}
+use Rattle.std.proofs.Common.{arith, refl, sym, ap, subst, ◌∙◌, ◌≡◌, ℕ, suc, ◌+◌, ◌<◌, ◌≤◌, List, [], ◌∷◌, ◌++◌, length, length-append, Some, slice_get, Contains, inl, inr, Result, Ok, Err, IfOk}
 use Rattle.std.specs.Prelude.{◌↔◌}
 use Rattle.std.specs.Option.{option_map}
 use Rattle.std.specs.List.Sorted.{IsStrictlySortedBy}
@@ -12,10 +12,7 @@ use Rattle.mask_states.specs.declared.keys.InstKey.{InstKey}
 use Rattle.mask_states.specs.declared.keys.SpForm.TheVariants.{Closed}
 use Rattle.mask_states.specs.Keys.{offset_of}
 use Rattle.mask_states.specs.Order.{inst_cmp}
-use Rattle.local_rules.specs.declared.local.Exit.{Exit}
 use Rattle.local_rules.specs.declared.local.Node.{Node}
-use Rattle.local_rules.specs.declared.local.NodeFault.{NodeFault}
-use Rattle.call_graph.specs.declared.exit_list.Leaving.TheVariants.{All, Fault}
 use Rattle.edge_rules.specs.Views.{AreShown}
 use Rattle.nesting_bound.specs.declared.graph.Entered.{Entered}
 use Rattle.nesting_bound.specs.declared.graph.Graph.{Graph}
@@ -133,9 +130,6 @@ module _ (words : List ℕ) (A : List Entry) (nodes : List Node) (shown : AreSho
         places = λ i e h. let q = ((is.entered i e).0 h).entry in small q.node e.node e.offset q.at q.closed;
         within = λ i e h. let q = (is.entered i e).0 h in omega (arith, slice_get_within (insts_of gs) e.into q.into q.leads, keys_long gs);
       }
-
-pub all_or_fault : (exits : List (Option Exit)) (at : ℕ) (f : NodeFault) → All exits ≡ Fault at f → ⊥
-all_or_fault exits at f e = cc
 
 pub graph_as : {E : Type 0} (words : List ℕ) (A : List Entry) (nodes : List Node) → AreShown nodes → 0 < length nodes → (r : Result Graph E)
     → IfOk r (λ g. length g.instances ≤ 65536) → IfOk r (λ g. IsGraphOf words A nodes g.instances) → IfOk r (λ g. graph.IsGraph g.instances)

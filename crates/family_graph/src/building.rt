@@ -12,8 +12,7 @@ ghost use Rattle.family_graph.specs.Numbers.{AreNumbers, entry_if, entries_of, A
 
 use crate::numbering::{Numbering, number_of, numbered};
 use avr_model::listed::Listed;
-use call_graph::laws::exits_are_exact;
-use call_graph::{Edge, Leaving, exits, next_with};
+use call_graph::{Edge, all_exits, next_with};
 use edge_rules::View;
 use edge_rules::edge::is_entry;
 use flash_image::Flash;
@@ -185,10 +184,7 @@ pub fn graph_of<V: View>(
     ensures graph { IfOk result (λ graph. IsGraph graph.instances) }
     ensures family { IfOk result (λ graph. IsGraphOf flash.now assumptions.now (V.nodes view.now) graph.instances) }
 {
-    exits_are_exact();
     let _count = view.count();
-    match exits(alloc, flash, assumptions, view)? {
-        Leaving::All(exits) => built(alloc, flash, assumptions, view, &exits),
-        Leaving::Fault(_, _) => unreachable!(),
-    }
+    let exits = all_exits(alloc, flash, assumptions, view)?;
+    built(alloc, flash, assumptions, view, &exits)
 }

@@ -10,8 +10,7 @@ ghost use Rattle.solution.specs.Leads.{lead_at, form_by, forms_from};
 use crate::leading::{Lead, leads};
 use abs_state::AbsState;
 use avr_model::listed::Listed;
-use call_graph::laws::exits_are_exact;
-use call_graph::{Filled, Leaving, NodeForm, exits};
+use call_graph::{Filled, NodeForm, all_exits};
 use edge_rules::HeldState;
 use flash_image::Flash;
 use local_rules::{Exit, Node};
@@ -78,9 +77,6 @@ pub fn forms(
     requires faultless { (n : Node) → Contains nodes n → IsFaultless flash.now assumptions.now n }
     ensures { IfOk result (λ forms. AreForms flash.now assumptions.now nodes forms.items) }
 {
-    exits_are_exact();
-    match exits(alloc, flash, assumptions, &nodes)? {
-        Leaving::All(exits) => formed_by(alloc, flash, assumptions, nodes, &exits),
-        Leaving::Fault(_, _) => unreachable!(),
-    }
+    let exits = all_exits(alloc, flash, assumptions, &nodes)?;
+    formed_by(alloc, flash, assumptions, nodes, &exits)
 }

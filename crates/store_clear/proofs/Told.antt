@@ -1,16 +1,13 @@
 -- Which nodes are clear, by what is left of what they ask.
-use Rattle.std.proofs.Common.{◌≡◌, refl, ◌∙◌, subst, ℕ, ◌<◌, true, List, length, Option, Some, slice_get, Contains, arith}
+use Rattle.std.proofs.Common.{◌≡◌, refl, ◌∙◌, subst, ℕ, ◌<◌, true, List, length, Some, slice_get, Contains, arith}
 use Rattle.std.specs.Prelude.{◌↔◌}
 use Rattle.std.proofs.lemmas.Option.{slice_get_within}
 use Rattle.avr_model.specs.declared.assumption.Entry.{Entry}
-use Rattle.local_rules.specs.declared.local.Exit.{Exit}
 use Rattle.local_rules.specs.declared.local.Node.{Node}
-use Rattle.local_rules.specs.declared.local.NodeFault.{NodeFault}
 use Rattle.edge_rules.specs.Edges.{IsFaultless}
 use Rattle.edge_rules.specs.Expansion.{IsFilled}
 use Rattle.edge_rules.specs.Views.{AreShown}
 use Rattle.edge_laws.specs.Expansions.{FilledOrMissing}
-use Rattle.call_graph.specs.declared.exit_list.Leaving.TheVariants.{All, Fault}
 use Rattle.certificate.specs.Claims.{Claim}
 use Rattle.certificate.specs.Valid.{family_of, IsSound}
 use Rattle.clear_laws.specs.Clear.{IsClear}
@@ -78,11 +75,6 @@ pub told_as : (words : List ℕ) (A : List Entry) (c : Claim) (nodes : List Node
     → AreTold words A c nodes new
 told_as words A c nodes shown links offsets seeds along old old' new same asked left =
     are_told words A c nodes shown links offsets seeds along old new asked (subst (λ (xs : List Asks). AreSettled links offsets seeds (length xs) xs new) same left)
-
--- ---- exits
-
-pub all_or_fault : (exits : List (Option Exit)) (at : ℕ) (f : NodeFault) → All exits ≡ Fault at f → ⊥
-all_or_fault exits at f e = cc
 
 -- ---- conditions
 

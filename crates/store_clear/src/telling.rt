@@ -13,8 +13,7 @@ use crate::asking::asked;
 use crate::settling::settle;
 use crate::spreading::frames_of;
 use avr_model::listed::Listed;
-use call_graph::laws::exits_are_exact;
-use call_graph::{Expanded, Filled, Leaving, View, exits, expand};
+use call_graph::{Expanded, Filled, View, all_exits, expand};
 use certificate::Certificate;
 use certificate::laws::claims_are_seeds;
 use edge_laws::expansions::filled_or_missing;
@@ -77,11 +76,8 @@ fn told_of(
     requires faultless { (n : Node) → Contains nodes.now n → IsFaultless flash.now assumptions.now n }
     ensures { IfOk result (λ asks. AreTold flash.now assumptions.now certificate.now nodes.now asks.items) }
 {
-    exits_are_exact();
-    match exits(alloc, flash, assumptions, nodes)? {
-        Leaving::All(exits) => told_with(alloc, flash, assumptions, certificate, nodes, &exits),
-        Leaving::Fault(_, _) => unreachable!(),
-    }
+    let exits = all_exits(alloc, flash, assumptions, nodes)?;
+    told_with(alloc, flash, assumptions, certificate, nodes, &exits)
 }
 
 /// The nodes of a certificate with their states, where all conditions hold but that on its schedule.
