@@ -1,6 +1,5 @@
 -- What is put together is the explanation.
 use Rattle.std.proofs.Common.{◌≡◌, sym, ap, ◌∙◌, subst, ℕ, ◌≤◌, List}
-use Rattle.witness_search.proofs.Answered.{meets_as}
 use Rattle.avr_model.specs.declared.assumption.Entry.{Entry}
 use Rattle.mask_states.specs.Keys.{root_inst, entry_key}
 use Rattle.local_rules.specs.declared.local.Node.{Node}
@@ -9,6 +8,7 @@ use Rattle.edge_rules.specs.Expansion.{IsFilled}
 use Rattle.edge_laws.specs.Expansions.{FilledOrMissing}
 use Rattle.nesting_bound.specs.declared.graph.Link.{Link}
 use Rattle.certificate.specs.Claims.{Claim}
+use Rattle.certificate.specs.Valid.{MeetsConditions}
 use Rattle.round_laws.specs.Reached.{RoundsAreReached}
 use Rattle.witness_search.specs.Chains.{IsDeepest, BeginsAtRoot}
 use Rattle.witness_search.specs.Laws.{DeepestChainsAreBounded}
@@ -53,7 +53,7 @@ module _ (words : List ℕ) (A : List Entry) (c : Claim) (nodes : List Node) (fi
 
 pub tells : FilledOrMissing → RoundsAreReached → DeepestChainsAreBounded → ExplanationsTell
 tells filled rounds chains_bounded words A c x sound is =
-    let meets = meets_as filled words A c is.nodes sound is.filled in
+    let meets = subst (MeetsConditions words A c) (filled.one words A c.nodes sound.nodes is.nodes sound.expanded is.filled) sound.meets in
     let over = meets_reached words A is.nodes is.explains.reached is.explains.are_reached c meets in
     let root : BeginsAtRoot words A is.explains.reached = chains_bounded.root words A c is.explains.reached over in
     let under : x.least ≤ c.bound = chains_bounded.need words A c is.explains.reached x.least is.explains.links over is.explains.deepest in

@@ -11,10 +11,10 @@ use crate::explanation::Explanation;
 use crate::parts::parts;
 use crate::reaching::reached_nodes;
 use crate::steps::steps_of;
-use call_graph::{Expanded, Filled, View, expand};
+use call_graph::{Filled, View};
 use certificate::Certificate;
-use certificate::laws::claims_are_seeds;
 use edge_laws::expansions::filled_or_missing;
+use family_graph::expanded_nodes;
 use flash_image::Flash;
 use round_laws::reaching::rounds_are_reached;
 use std::alloc::{AllocError, Global};
@@ -72,11 +72,7 @@ pub fn explain(
     ensures least { IfOk result (λ x. IsOfRounds flash.now assumptions.now certificate.now → x.least ≡ certificate.now.bound) }
     ensures nests { IfOk result (λ x. Nest flash.now assumptions.now certificate.now x.parts) }
 {
-    claims_are_seeds();
-    filled_or_missing();
     let _nodes = certificate.nodes();
-    match expand(alloc, flash, assumptions, certificate)? {
-        Expanded::Whole(nodes) => explained(alloc, flash, assumptions, certificate, &nodes),
-        Expanded::Missing(_) => unreachable!(),
-    }
+    let nodes = expanded_nodes(alloc, flash, assumptions, certificate)?;
+    explained(alloc, flash, assumptions, certificate, &nodes)
 }

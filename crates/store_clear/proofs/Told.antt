@@ -1,15 +1,12 @@
 -- Which nodes are clear, by what is left of what they ask.
-use Rattle.std.proofs.Common.{◌≡◌, refl, ◌∙◌, subst, ℕ, ◌<◌, true, List, length, Some, slice_get, Contains, arith}
+use Rattle.std.proofs.Common.{◌≡◌, refl, ◌∙◌, subst, ℕ, ◌<◌, true, List, length, Some, slice_get, arith}
 use Rattle.std.specs.Prelude.{◌↔◌}
 use Rattle.std.proofs.lemmas.Option.{slice_get_within}
 use Rattle.avr_model.specs.declared.assumption.Entry.{Entry}
 use Rattle.local_rules.specs.declared.local.Node.{Node}
-use Rattle.edge_rules.specs.Edges.{IsFaultless}
-use Rattle.edge_rules.specs.Expansion.{IsFilled}
 use Rattle.edge_rules.specs.Views.{AreShown}
-use Rattle.edge_laws.specs.Expansions.{FilledOrMissing}
 use Rattle.certificate.specs.Claims.{Claim}
-use Rattle.certificate.specs.Valid.{family_of, IsSound}
+use Rattle.certificate.specs.Valid.{family_of}
 use Rattle.clear_laws.specs.Clear.{IsClear}
 use Rattle.clear_laws.specs.Held.{MayHold}
 use Rattle.slot_reach.specs.declared.reach.Seed.{Seed}
@@ -75,12 +72,3 @@ pub told_as : (words : List ℕ) (A : List Entry) (c : Claim) (nodes : List Node
     → AreTold words A c nodes new
 told_as words A c nodes shown links offsets seeds along old old' new same asked left =
     are_told words A c nodes shown links offsets seeds along old new asked (subst (λ (xs : List Asks). AreSettled links offsets seeds (length xs) xs new) same left)
-
--- ---- conditions
-
-module _ (law : FilledOrMissing) (words : List ℕ) (A : List Entry) (c : Claim) (nodes : List Node) (sound : IsSound words A c) (filled : IsFilled words A c.nodes nodes) where
-  same : sound.nodes ≡ nodes
-  same = law.one words A c.nodes sound.nodes nodes sound.expanded filled
-
-  pub faultless_as : (n : Node) → Contains nodes n → IsFaultless words A n
-  faultless_as = subst (λ (xs : List Node). (n : Node) → Contains xs n → IsFaultless words A n) same sound.meets.faultless

@@ -11,12 +11,13 @@ ghost use Rattle.store_laws.specs.Verdict.{AreAllClear, IsFirstUnclear, IsClearV
 
 use crate::causes::places_at;
 use crate::takes::mark_takes;
-use crate::telling::{nodes_of, tell};
+use crate::telling::tell;
 use crate::words::{first_unclear, places, sites_of};
 use avr_model::device::WORDS;
 use avr_model::listed::Listed;
 use call_graph::View;
 use certificate::Certificate;
+use family_graph::expanded_nodes;
 use flash_image::Flash;
 use std::alloc::{AllocError, Global};
 use store_laws::{ClearVerdict, FlaggedPlace};
@@ -115,7 +116,7 @@ pub fn never_takes(
     requires { IsSound flash.now assumptions.now certificate.now }
     ensures exact { IfOk result (λ nevers. AreNevers flash.now assumptions.now certificate.now nevers) }
 {
-    let nodes = nodes_of(alloc, flash, assumptions, certificate)?;
+    let nodes = expanded_nodes(alloc, flash, assumptions, certificate)?;
     let mut marks = vec![in alloc; false; usize::from(WORDS)]?;
     mark_takes(flash, assumptions, &nodes, marks.as_mut_slice());
     let nevers = places(alloc, &marks)?;

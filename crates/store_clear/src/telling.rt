@@ -4,7 +4,6 @@ ghost use Rattle.std.specs.Prelude.{◌≡◌, ◌≤◌, length, Contains, IfOk
 ghost use Rattle.avr_model.specs.Devices.{device_of, size_of};
 ghost use Rattle.local_rules.specs.declared.local.Node.{Node};
 ghost use Rattle.edge_rules.specs.Edges.{IsFaultless};
-ghost use Rattle.edge_rules.specs.Expansion.{IsFilled};
 ghost use Rattle.call_graph.specs.Exits.{AreExits};
 ghost use Rattle.certificate.specs.Valid.{IsSound};
 ghost use Rattle.store_clear.specs.Settling.{passes, AreTold, IsTold};
@@ -13,10 +12,9 @@ use crate::asking::asked;
 use crate::settling::settle;
 use crate::spreading::frames_of;
 use avr_model::listed::Listed;
-use call_graph::{Expanded, Filled, View, all_exits, expand};
+use call_graph::{Filled, View, all_exits};
 use certificate::Certificate;
-use certificate::laws::claims_are_seeds;
-use edge_laws::expansions::filled_or_missing;
+use family_graph::expanded_nodes;
 use flash_image::Flash;
 use local_rules::Exit;
 use std::alloc::{AllocError, Global};
@@ -80,27 +78,6 @@ fn told_of(
     told_with(alloc, flash, assumptions, certificate, nodes, &exits)
 }
 
-/// The nodes of a certificate with their states, where all conditions hold but that on its schedule.
-pub(crate) fn nodes_of(
-    alloc: Global,
-    flash: &Flash,
-    assumptions: &Assumptions,
-    certificate: &Certificate,
-) -> Result<Filled, AllocError>
-    requires { IsSound flash.now assumptions.now certificate.now }
-    ensures filled { IfOk result (λ nodes. IsFilled flash.now assumptions.now certificate.now.nodes nodes) }
-    ensures few { IfOk result (λ nodes. length nodes ≤ 65536) }
-    ensures faultless { IfOk result (λ nodes. (n : Node) → Contains nodes n → IsFaultless flash.now assumptions.now n) }
-{
-    claims_are_seeds();
-    filled_or_missing();
-    let _nodes = certificate.nodes();
-    match expand(alloc, flash, assumptions, certificate)? {
-        Expanded::Whole(nodes) => Ok(nodes),
-        Expanded::Missing(_) => unreachable!(),
-    }
-}
-
 /// Which nodes of a certificate are clear, where all conditions hold but that on its schedule.
 pub(crate) fn tell(
     alloc: Global,
@@ -111,7 +88,7 @@ pub(crate) fn tell(
     requires { IsSound flash.now assumptions.now certificate.now }
     ensures { IfOk result (λ told. IsTold flash.now assumptions.now certificate.now told.nodes told.asks.items) }
 {
-    let nodes = nodes_of(alloc, flash, assumptions, certificate)?;
+    let nodes = expanded_nodes(alloc, flash, assumptions, certificate)?;
     let asks = told_of(alloc, flash, assumptions, certificate, &nodes)?;
     Ok(Told { nodes, asks })
 }

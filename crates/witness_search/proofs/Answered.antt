@@ -7,11 +7,10 @@ use Rattle.avr_model.specs.declared.assumption.Entry.{Entry}
 use Rattle.mask_states.specs.declared.keys.EdgeKind.{EdgeKind}
 use Rattle.local_rules.specs.declared.local.Node.{Node}
 use Rattle.edge_rules.specs.Expansion.{IsFilled}
-use Rattle.edge_laws.specs.Expansions.{FilledOrMissing}
 use Rattle.nesting_bound.specs.declared.graph.Link.{Link}
 use Rattle.witness_replay.specs.Spelling.{Plan}
 use Rattle.certificate.specs.Claims.{Claim}
-use Rattle.certificate.specs.Valid.{IsSound, MeetsConditions, Attains, IsAttained}
+use Rattle.certificate.specs.Valid.{Attains, IsAttained}
 use Rattle.witness_search.specs.declared.waypoint.Waypoint.{Waypoint}
 use Rattle.witness_search.specs.Chains.{interrupt_at, interrupt_of, interrupts_of, IsDeepest, AreInterrupts, AreWaypoints}
 use Rattle.witness_search.specs.Trials.{IsFound}
@@ -19,10 +18,6 @@ use Rattle.witness_search.specs.Trials.{IsFound}
 pub attained_as : (words : List ℕ) (A : List Entry) (bound : ℕ) (found : Option Plan) → IfSome found (Attains words A bound) → IsAttained words A bound found
 attained_as words A bound None h = tt
 attained_as words A bound (Some plan) h = h
-
--- the expansion of a certificate whose conditions hold meets them
-pub meets_as : FilledOrMissing → (words : List ℕ) (A : List Entry) (c : Claim) (nodes : List Node) → IsSound words A c → IsFilled words A c.nodes nodes → MeetsConditions words A c nodes
-meets_as law words A c nodes sound filled = subst (MeetsConditions words A c) (law.one words A c.nodes sound.nodes nodes sound.expanded filled) sound.meets
 
 -- where there is no node there is no interrupt
 none_there : (words : List ℕ) (o : Option Node) (depth : ℕ) (kind : Option EdgeKind) → o ≡ None → interrupt_at words o depth kind ≡ []

@@ -4,4 +4,4 @@ mod Attempts
 mod Found
 mod Conditions
 mod One
-pub mod Answered
+mod Answered

@@ -9,10 +9,8 @@ ghost use Rattle.witness_search.specs.Trials.{IsFound};
 use crate::chain::waypoints;
 use crate::trial::first_trial;
 use crate::waypoint::Waypoint;
-use call_graph::{Expanded, expand};
 use certificate::Certificate;
-use certificate::laws::claims_are_seeds;
-use edge_laws::expansions::filled_or_missing;
+use family_graph::expanded_nodes;
 use flash_image::Flash;
 use std::alloc::{AllocError, Global};
 use vector_table::Assumptions;
@@ -28,13 +26,9 @@ fn waypoints_of(
     requires { IsSound flash.now assumptions.now certificate.now }
     ensures { IfOk result (λ points. AreWaypoints flash.now assumptions.now certificate.now points.items) }
 {
-    claims_are_seeds();
-    filled_or_missing();
     let _nodes = certificate.nodes();
-    match expand(alloc, flash, assumptions, certificate)? {
-        Expanded::Whole(nodes) => waypoints(alloc, flash, assumptions, certificate, &nodes),
-        Expanded::Missing(_) => unreachable!(),
-    }
+    let nodes = expanded_nodes(alloc, flash, assumptions, certificate)?;
+    waypoints(alloc, flash, assumptions, certificate, &nodes)
 }
 
 /// A schedule whose run is as deep as the certificate's bound, of the conditions on which all but that on its schedule hold. It is that

@@ -1,40 +1,9 @@
-use Rattle.std.proofs.Common.{arith, subst, List}
 use Rattle.std.proofs.lemmas.Result.{IfOk-weaker}
-use Rattle.avr_model.specs.declared.assumption.Entry.{Entry}
-use Rattle.avr_model.specs.Assumptions.{has_pairs}
-use Rattle.edge_rules.specs.Expansion.{AreSeeds, IsFilled, IsMissing}
-use Rattle.call_graph.specs.Expanding.{IsExpanded}
-use Rattle.witness_search.proofs.Answered.{meets_as, waypoints_as}
+use Rattle.witness_search.proofs.Answered.{waypoints_as}
 use Rattle.witness_search.proofs.searching.waypoints_of.Goals as goal
-
-pub expand-requires-clause-seeds : goal.expand-requires-clause-seeds
-expand-requires-clause-seeds c =
-    subst (λ (A : List Entry). AreSeeds (has_pairs A) c.args.certificate.now.nodes) c.requires.meets.assumptions
-    (c.claims_are_seeds.ensures c.args.certificate.now c.nodes-nodes.ensures.kept)
-
-pub expand-requires-clause-ascending : goal.expand-requires-clause-ascending
-expand-requires-clause-ascending c = c.nodes-nodes.ensures.kept.nodes_ascend
-
-pub waypoints-requires-clause-few : goal.waypoints-requires-clause-few
-waypoints-requires-clause-few c =
-    let filled : IsFilled c.args.flash.now c.args.assumptions.now c.args.certificate.now.nodes c.in-Whole.nodes =
-    subst (IsExpanded c.args.flash.now c.args.assumptions.now c.args.certificate.now.nodes) c.in-Whole.is c.in_ok-nodes.ensures in
-    omega (arith, filled.count, c.nodes-nodes.ensures.kept.few_nodes)
-
-pub waypoints-requires-clause-meets : goal.waypoints-requires-clause-meets
-waypoints-requires-clause-meets c =
-    meets_as c.filled_or_missing.ensures c.args.flash.now c.args.assumptions.now c.args.certificate.now c.in-Whole.nodes c.requires
-    (subst (IsExpanded c.args.flash.now c.args.assumptions.now c.args.certificate.now.nodes) c.in-Whole.is c.in_ok-nodes.ensures)
-
-pub unreachable-requires : goal.unreachable-requires
-unreachable-requires c =
-    let missing : IsMissing c.args.flash.now c.args.assumptions.now c.args.certificate.now.nodes c.in-Missing.field-0 =
-    subst (IsExpanded c.args.flash.now c.args.assumptions.now c.args.certificate.now.nodes) c.in-Missing.is c.in_ok-nodes.ensures in
-    c.filled_or_missing.ensures.apart c.args.flash.now c.args.assumptions.now c.args.certificate.now.nodes c.requires.nodes c.in-Missing.field-0 c.requires.expanded missing
 
 pub returns : goal.returns
 returns c =
     IfOk-weaker c.waypoints.result _ _
-    (λ points e. waypoints_as c.args.flash.now c.args.assumptions.now c.args.certificate.now c.in-Whole.nodes points.items
-    (subst (IsExpanded c.args.flash.now c.args.assumptions.now c.args.certificate.now.nodes) c.in-Whole.is c.in_ok-nodes.ensures) e)
+    (λ points e. waypoints_as c.args.flash.now c.args.assumptions.now c.args.certificate.now c.in_ok-nodes.nodes points.items c.in_ok-nodes.ensures.filled e)
     c.waypoints.ensures

@@ -3,8 +3,8 @@ use Rattle.avr_model.specs.declared.assumption.Entry.{Entry}
 use Rattle.avr_model.specs.Assumptions.{has_pairs}
 use Rattle.edge_rules.specs.Expansion.{AreSeeds, IsFilled, IsMissing}
 use Rattle.call_graph.specs.Expanding.{IsExpanded}
-use Rattle.store_clear.proofs.Told.{faultless_as}
-use Rattle.store_clear.proofs.telling.nodes_of.Goals as goal
+use Rattle.certificate.specs.Valid.{MeetsConditions}
+use Rattle.family_graph.proofs.expanded.expanded_nodes.Goals as goal
 
 pub expand-requires-clause-seeds : goal.expand-requires-clause-seeds
 expand-requires-clause-seeds c =
@@ -19,14 +19,15 @@ returns-clause-filled c = subst (IsExpanded c.args.flash.now c.args.assumptions.
 
 pub returns-clause-few : goal.returns-clause-few
 returns-clause-few c =
-    let filled : IsFilled c.args.flash.now c.args.assumptions.now c.args.certificate.now.nodes c.in-Whole.nodes =
-    subst (IsExpanded c.args.flash.now c.args.assumptions.now c.args.certificate.now.nodes) c.in-Whole.is c.in_ok-nodes.ensures in
+    let filled : IsFilled c.args.flash.now c.args.assumptions.now c.args.certificate.now.nodes c.in-Whole.nodes = returns-clause-filled c in
     omega (arith, filled.count, c.nodes-nodes.ensures.kept.few_nodes)
 
-pub returns-clause-faultless : goal.returns-clause-faultless
-returns-clause-faultless c =
-    faultless_as c.filled_or_missing.ensures c.args.flash.now c.args.assumptions.now c.args.certificate.now c.in-Whole.nodes c.requires
-    (subst (IsExpanded c.args.flash.now c.args.assumptions.now c.args.certificate.now.nodes) c.in-Whole.is c.in_ok-nodes.ensures)
+-- the nodes have one expansion, of which the conditions hold
+pub returns-clause-meets : goal.returns-clause-meets
+returns-clause-meets c =
+    subst (MeetsConditions c.args.flash.now c.args.assumptions.now c.args.certificate.now)
+    (c.filled_or_missing.ensures.one c.args.flash.now c.args.assumptions.now c.args.certificate.now.nodes c.requires.nodes c.in-Whole.nodes c.requires.expanded (returns-clause-filled c))
+    c.requires.meets
 
 pub unreachable-requires : goal.unreachable-requires
 unreachable-requires c =
