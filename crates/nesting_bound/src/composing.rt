@@ -4,7 +4,7 @@ ghost use Rattle.std.specs.Prelude.{ℕ, ◌≡◌, ◌<◌, None, IfOk, IfErr, 
 ghost use Rattle.nesting_bound.specs.Graph.{IsGraph, Reaches};
 ghost use Rattle.nesting_bound.specs.Table.{at, AreFound, IsMissing, IsSound, IsStuck};
 ghost use Rattle.nesting_bound.specs.Least.{IsLeast};
-ghost use Rattle.nesting_bound.specs.Cycle.{IsFaultOf};
+ghost use Rattle.nesting_bound.specs.Cycle.{IsNamed, IsFaultOf};
 
 use crate::cycle::first_named;
 use crate::depth_first::walk_all;
@@ -97,4 +97,17 @@ pub fn compose(alloc: Global, graph: &Graph) -> Result<Composed, ComposeFault>
     let walked = walk_all(alloc, instances)?;
     let table = peel(alloc, instances, walked.order.as_slice())?;
     told(alloc, instances, table.as_slice(), walked.component)
+}
+
+/// The least ranks and needs of a graph in which no instance reaches itself, so that none is named.
+pub fn compose_acyclic(alloc: Global, graph: &Graph) -> Result<Composed, AllocError>
+    requires graph { IsGraph graph.now.instances }
+    requires acyclic { (at : ℕ) → IsNamed graph.now.instances at → ⊥ }
+    ensures { IfOk result (λ c. IsLeast graph.now.instances c.ranks c.needs) }
+{
+    match compose(alloc, graph) {
+        Ok(composed) => Ok(composed),
+        Err(ComposeFault::Memory) => Err(AllocError),
+        Err(ComposeFault::Cycle(_)) => unreachable!(),
+    }
 }

@@ -14,7 +14,7 @@ mod reach;
 mod shape;
 
 pub use chaining::chain;
-pub use composing::{Composed, compose};
+pub use composing::{Composed, compose, compose_acyclic};
 pub use fault::ComposeFault;
 pub use graph::{Entered, Graph, GraphInst, Link, Place};
 pub use mask_states::{EdgeKind, InstKey};

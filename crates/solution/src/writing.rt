@@ -1,9 +1,6 @@
 //! The certificate, part by part.
 
 ghost use Rattle.std.specs.Prelude.{ℕ, ◌≡◌, length, IfOk};
-ghost use Rattle.nesting_bound.specs.Graph.{IsGraph};
-ghost use Rattle.nesting_bound.specs.Least.{IsLeast};
-ghost use Rattle.nesting_bound.specs.Cycle.{IsNamed};
 ghost use Rattle.round_rules.specs.Refusals.{IsSolved};
 ghost use Rattle.round_rules.specs.Solutions.{IsSolution};
 ghost use Rattle.solution_laws.specs.Parts.{AreInsts};
@@ -14,23 +11,10 @@ use certificate::{Certificate, Inst};
 use family_graph::graph_of;
 use family_table::Table;
 use flash_image::Flash;
-use nesting_bound::{ComposeFault, Composed, Graph, compose};
+use nesting_bound::{Composed, Graph, compose_acyclic};
 use solution_laws::laws::{graphs_are_acyclic, solutions_are_made, solved_families_are_shown};
 use std::alloc::{AllocError, Global};
 use vector_table::Assumptions;
-
-// The least ranks and needs of a graph of which no instance reaches itself.
-fn composed(alloc: Global, graph: &Graph) -> Result<Composed, AllocError>
-    requires graph { IsGraph graph.now.instances }
-    requires acyclic { (at : ℕ) → IsNamed graph.now.instances at → ⊥ }
-    ensures { IfOk result (λ c. IsLeast graph.now.instances c.ranks c.needs) }
-{
-    match compose(alloc, graph) {
-        Ok(composed) => Ok(composed),
-        Err(ComposeFault::Memory) => Err(AllocError),
-        Err(ComposeFault::Cycle(_)) => unreachable!(),
-    }
-}
 
 // The instances with their ranks and needs.
 fn instances(alloc: Global, graph: &Graph, composed: &Composed) -> Result<Vec<Inst>, AllocError>
@@ -67,7 +51,7 @@ pub fn certificate_of(
     solutions_are_made();
     let nodes = Filled::new(table.into_sorted(alloc)?);
     let graph = graph_of(alloc, flash, assumptions, &nodes)?;
-    let composed = composed(alloc, &graph)?;
+    let composed = compose_acyclic(alloc, &graph)?;
     let insts = instances(alloc, &graph, &composed)?;
     let need = composed.need(0);
     drop(composed);

@@ -3,8 +3,6 @@
 ghost use Rattle.std.specs.Prelude.{◌≡◌, ◌++◌, ◌≤◌, IfOk, OnOk, length};
 ghost use Rattle.certificate.specs.Claims.{IsClaim};
 ghost use Rattle.certificate.specs.Valid.{MeetsConditions};
-ghost use Rattle.nesting_bound.specs.Graph.{IsGraph, Reaches};
-ghost use Rattle.nesting_bound.specs.Least.{IsLeast};
 ghost use Rattle.witness_search.specs.Chains.{interrupt_of, interrupts_of, IsDeepest, BeginsAtRoot, AreInterrupts};
 
 use crate::waypoint::Waypoint;
@@ -15,7 +13,7 @@ use family_graph::graph_of;
 use flash_image::Flash;
 use mask_states::EdgeKind;
 use nesting_bound::laws::ranks_rule_out_cycles;
-use nesting_bound::{ComposeFault, Composed, Graph, Link, chain, compose};
+use nesting_bound::{Link, chain, compose_acyclic};
 use std::alloc::{AllocError, Global};
 use vector_table::Assumptions;
 
@@ -68,19 +66,6 @@ fn interrupts(
     Ok(points)
 }
 
-// The least ranks and needs of a graph in which no instance reaches itself.
-fn composed(alloc: Global, graph: &Graph) -> Result<Composed, AllocError>
-    requires graph { IsGraph graph.now.instances }
-    requires acyclic { (i : _) → Reaches graph.now.instances i i → ⊥ }
-    ensures { IfOk result (λ c. IsLeast graph.now.instances c.ranks c.needs) }
-{
-    match compose(alloc, graph) {
-        Ok(composed) => Ok(composed),
-        Err(ComposeFault::Memory) => Err(AllocError),
-        Err(ComposeFault::Cycle(_)) => unreachable!(),
-    }
-}
-
 /// The deepest chain of nodes that meet the conditions on a certificate, with the least needs, and the root's need, which is at most the
 /// bound. The local part of each node is worked out twice.
 pub fn deepest_chain(
@@ -99,7 +84,7 @@ pub fn deepest_chain(
 {
     ranks_rule_out_cycles();
     let graph = graph_of(alloc, flash, assumptions, nodes)?;
-    let composed = composed(alloc, &graph)?;
+    let composed = compose_acyclic(alloc, &graph)?;
     let links = chain(alloc, &graph, &composed)?;
     Ok(Deepest {
         need: composed.need(0),

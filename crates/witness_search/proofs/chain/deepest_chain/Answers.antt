@@ -11,10 +11,10 @@ graph_of-requires-clause-faultless c = c.requires.meets.faultless
 pub graph_of-requires-clause-peopled : goal.graph_of-requires-clause-peopled
 graph_of-requires-clause-peopled c = peopled c.args.flash.now c.args.assumptions.now c.args.certificate.now c.args.nodes.now c.requires.meets
 
-pub composed-requires-clause-acyclic : goal.composed-requires-clause-acyclic
-composed-requires-clause-acyclic c =
+pub compose_acyclic-requires-clause-acyclic : goal.compose_acyclic-requires-clause-acyclic
+compose_acyclic-requires-clause-acyclic c = λ at named.
     c.ranks_rule_out_cycles.ensures c.in_ok-graph.graph.instances _
-    (ranked c.args.flash.now c.args.assumptions.now c.args.certificate.now c.args.nodes.now c.requires.meets c.in_ok-graph.graph.instances c.in_ok-graph.ensures.family)
+    (ranked c.args.flash.now c.args.assumptions.now c.args.certificate.now c.args.nodes.now c.requires.meets c.in_ok-graph.graph.instances c.in_ok-graph.ensures.family) at named.reaches
 
 pub chain-requires-clause-bound : goal.chain-requires-clause-bound
 chain-requires-clause-bound c =
