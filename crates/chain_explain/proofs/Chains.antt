@@ -20,7 +20,7 @@ use Rattle.nesting_bound.specs.declared.graph.Place.{Place}
 use Rattle.nesting_bound.specs.Chain.{IsChainFrom, ends, goes}
 use Rattle.family_graph.specs.Graphs.{insts_of, IsGraphOf}
 use Rattle.certificate.specs.Claims.{Claim}
-use Rattle.witness_search.specs.Chains.{IsDeepest, BeginsAtRoot}
+use Rattle.family_graph.specs.Chains.{IsDeepest, BeginsAtRoot}
 use Rattle.chain_explain.specs.declared.explanation.Explanation.{Explanation}
 use Rattle.chain_explain.specs.declared.explanation.Part.{Part}
 use Rattle.chain_explain.specs.Walks.{IsWay}

@@ -10,8 +10,8 @@ use Rattle.nesting_bound.specs.declared.graph.Link.{Link}
 use Rattle.certificate.specs.Claims.{Claim}
 use Rattle.certificate.specs.Valid.{MeetsConditions}
 use Rattle.round_laws.specs.Reached.{RoundsAreReached}
-use Rattle.witness_search.specs.Chains.{IsDeepest, BeginsAtRoot}
-use Rattle.witness_search.specs.Laws.{DeepestChainsAreBounded}
+use Rattle.family_graph.specs.Chains.{IsDeepest, BeginsAtRoot}
+use Rattle.family_graph.specs.Laws.{DeepestChainsAreBounded}
 use Rattle.chain_explain.specs.declared.explanation.Explanation.{Explanation}
 use Rattle.chain_explain.specs.declared.explanation.Part.{Part}
 use Rattle.chain_explain.specs.Reached.{AreReached}

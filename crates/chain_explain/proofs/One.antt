@@ -21,8 +21,8 @@ use Rattle.certificate.specs.Claims.{Claim, IsClaim}
 use Rattle.shortest_walk.specs.Graph.{Leads}
 use Rattle.shortest_walk.specs.Walk.{GoesOn, IsWalk, IsShortest, IsFirstOfShortest}
 use Rattle.shortest_walk.proofs.AllLaws.{first_is_one}
-use Rattle.witness_search.specs.Chains.{IsDeepest}
-use Rattle.witness_search.specs.Laws.{DeepestChainsAreOne}
+use Rattle.family_graph.specs.Chains.{IsDeepest}
+use Rattle.family_graph.specs.Laws.{DeepestChainsAreOne}
 use Rattle.chain_explain.specs.declared.explanation.Explanation.{Explanation}
 use Rattle.chain_explain.specs.declared.explanation.Part.{Part}
 use Rattle.chain_explain.specs.Reached.{AreReached}

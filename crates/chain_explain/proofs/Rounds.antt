@@ -36,7 +36,7 @@ use Rattle.round_rules.specs.Rounds.{Entering, AreNeeds, Comes}
 use Rattle.round_rules.specs.Refusals.{IsSolved}
 use Rattle.round_laws.proofs.AllLaws.{has_member, member_has}
 use Rattle.round_laws.specs.Reached.{IsKept, RoundsAreReached}
-use Rattle.witness_search.specs.Chains.{BeginsAtRoot}
+use Rattle.family_graph.specs.Chains.{BeginsAtRoot}
 use Rattle.chain_explain.specs.declared.explanation.Explanation.{Explanation}
 use Rattle.chain_explain.specs.Reached.{IsReached, AreReached, at_reset, by_edge}
 use Rattle.chain_explain.specs.Explanation.{Explains}

@@ -14,12 +14,11 @@ use crate::steps::steps_of;
 use call_graph::{Filled, View};
 use certificate::Certificate;
 use edge_laws::expansions::filled_or_missing;
-use family_graph::expanded_nodes;
+use family_graph::{deepest_chain, expanded_nodes};
 use flash_image::Flash;
 use round_laws::reaching::rounds_are_reached;
 use std::alloc::{AllocError, Global};
 use vector_table::Assumptions;
-use witness_search::deepest_chain;
 
 // The explanation of a certificate by its nodes, which meet the conditions.
 fn explained(

@@ -3,8 +3,8 @@
 ghost use Rattle.chain_explain.specs.Laws.{ExplanationsAreOne, ExplanationsTell};
 
 use edge_laws::expansions::filled_or_missing;
+use family_graph::laws::{deepest_chains_are_bounded, deepest_chains_are_one};
 use round_laws::reaching::rounds_are_reached;
-use witness_search::laws::{deepest_chains_are_bounded, deepest_chains_are_one};
 
 /// A certificate has at most one explanation.
 pub fn explanations_are_one()

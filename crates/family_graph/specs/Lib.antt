@@ -1,3 +1,4 @@
 pub mod Graphs
 pub mod Numbers
+pub mod Chains
 pub mod Laws

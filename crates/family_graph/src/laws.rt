@@ -1,9 +1,25 @@
-//! Laws of the graphs of families, each as the contract of a function that does nothing.
+//! Laws of the graphs of families and of their deepest chains, each as the contract of a function that does nothing but call others.
 
-ghost use Rattle.family_graph.specs.Laws.{GraphsAreAlike};
+ghost use Rattle.family_graph.specs.Laws.{GraphsAreAlike, DeepestChainsAreOne, DeepestChainsAreBounded};
+
+use nesting_bound::laws::{answers_are_one, chains_are_one};
 
 /// Two graphs of a family have the same least ranks and needs, and the same deepest chain.
 #[tactic(auto, using(crate::proofs::Alike::graphs_are_alike))]
 pub fn graphs_are_alike()
     ensures { GraphsAreAlike }
+{}
+
+/// A family has one deepest chain, and the root one least need.
+pub fn deepest_chains_are_one()
+    ensures { DeepestChainsAreOne }
+{
+    graphs_are_alike();
+    answers_are_one();
+    chains_are_one();
+}
+
+/// A certificate whose conditions hold of a family has a bound that the root's least need over the family doesn't pass.
+pub fn deepest_chains_are_bounded()
+    ensures { DeepestChainsAreBounded }
 {}

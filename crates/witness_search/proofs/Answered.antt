@@ -8,11 +8,12 @@ use Rattle.mask_states.specs.declared.keys.EdgeKind.{EdgeKind}
 use Rattle.local_rules.specs.declared.local.Node.{Node}
 use Rattle.edge_rules.specs.Expansion.{IsFilled}
 use Rattle.nesting_bound.specs.declared.graph.Link.{Link}
+use Rattle.family_graph.specs.Chains.{IsDeepest}
 use Rattle.witness_replay.specs.Spelling.{Plan}
 use Rattle.certificate.specs.Claims.{Claim}
 use Rattle.certificate.specs.Valid.{Attains, IsAttained}
 use Rattle.witness_search.specs.declared.waypoint.Waypoint.{Waypoint}
-use Rattle.witness_search.specs.Chains.{interrupt_at, interrupt_of, interrupts_of, IsDeepest, AreInterrupts, AreWaypoints}
+use Rattle.witness_search.specs.Chains.{interrupt_at, interrupt_of, interrupts_of, AreInterrupts, AreWaypoints}
 use Rattle.witness_search.specs.Trials.{IsFound}
 
 pub attained_as : (words : List ℕ) (A : List Entry) (bound : ℕ) (found : Option Plan) → IfSome found (Attains words A bound) → IsAttained words A bound found

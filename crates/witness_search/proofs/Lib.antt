@@ -2,6 +2,5 @@ mod Points
 mod Leading
 mod Attempts
 mod Found
-mod Conditions
 mod One
 mod Answered

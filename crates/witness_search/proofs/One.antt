@@ -1,38 +1,12 @@
--- A family has one deepest chain, and a certificate one list of waypoints.
-use Rattle.std.proofs.Common.{sym, ap, subst, ◌∙◌, ◌≡◌, ℕ, List, slice_index}
+-- A certificate has one list of waypoints.
+use Rattle.std.proofs.Common.{sym, ap, subst, ◌∙◌, ◌≡◌, ℕ, List}
 use Rattle.avr_model.specs.declared.assumption.Entry.{Entry}
 use Rattle.local_rules.specs.declared.local.Node.{Node}
 use Rattle.edge_laws.specs.Expansions.{FilledOrMissing}
-use Rattle.nesting_bound.specs.declared.graph.Link.{Link}
-use Rattle.nesting_bound.specs.Chain.{IsChain}
-use Rattle.nesting_bound.specs.Least.{IsLeast}
-use Rattle.nesting_bound.specs.Laws.{AnswersAreOne, ChainsAreOne}
-use Rattle.family_graph.specs.Laws.{GraphsAreAlike}
+use Rattle.family_graph.specs.Laws.{DeepestChainsAreOne}
 use Rattle.witness_search.specs.declared.waypoint.Waypoint.{Waypoint}
-use Rattle.witness_search.specs.Chains.{interrupts_of, IsDeepest, AreInterrupts}
-use Rattle.witness_search.specs.Laws.{DeepestChainsAreOne, WaypointsAreOne}
-
-module _ (alike : GraphsAreAlike) (answers : AnswersAreOne) (chains : ChainsAreOne) (words : List ℕ) (A : List Entry) (nodes : List Node) (need need' : ℕ) (links links' : List Link)
-    (x : IsDeepest words A nodes need links) (y : IsDeepest words A nodes need' links') where
-  same_needs : y.needs ≡ x.needs
-  same_needs =
-      let least : IsLeast x.graph y.ranks y.needs = alike.least words A nodes x.graph y.graph y.ranks y.needs x.family y.family y.least in
-      answers.needs x.graph y.ranks y.needs x.ranks x.needs least x.least
-
-  same_need : need ≡ need'
-  same_need = x.root ∙ (ap (λ (ns : List ℕ). slice_index ns 0) (sym same_needs) ∙ sym y.root)
-
-  same_links : links ≡ links'
-  same_links =
-      chains x.graph x.needs links links' x.chain
-      (subst (λ (ns : List ℕ). IsChain x.graph ns links') same_needs (alike.chain words A nodes x.graph y.graph y.needs links' x.family y.family y.chain))
-
-pub deepest_chains_are_one : GraphsAreAlike → AnswersAreOne → ChainsAreOne → DeepestChainsAreOne
-deepest_chains_are_one alike answers chains =
-    record {
-      need = λ words A nodes need need' links links' x y. same_need alike answers chains words A nodes need need' links links' x y;
-      links = λ words A nodes need need' links links' x y. same_links alike answers chains words A nodes need need' links links' x y;
-    }
+use Rattle.witness_search.specs.Chains.{interrupts_of, AreInterrupts}
+use Rattle.witness_search.specs.Laws.{WaypointsAreOne}
 
 interrupts_are_one : DeepestChainsAreOne → (words : List ℕ) (A : List Entry) (nodes : List Node) (points points' : List Waypoint) → AreInterrupts words A nodes points
     → AreInterrupts words A nodes points' → points ≡ points'

@@ -1,18 +1,14 @@
 -- The waypoints of a certificate: the interrupts of the deepest chain of its family, with the least needs. Source: own.
-use Rattle.std.specs.Prelude.{ℕ, ◌≡◌, List, [], ◌∷◌, Option, Some, slice_get, slice_index}
+use Rattle.std.specs.Prelude.{ℕ, ◌≡◌, List, [], ◌∷◌, Option, Some, slice_get}
 use Rattle.std.specs.List.{flat_map}
 use Rattle.avr_model.specs.declared.assumption.Entry.{Entry}
 use Rattle.avr_model.specs.Devices.{device_of, ramend}
 use Rattle.mask_states.specs.declared.keys.EdgeKind.{EdgeKind}
 use Rattle.mask_states.specs.declared.keys.EdgeKind.TheVariants.{Interrupt}
-use Rattle.mask_states.specs.Keys.{root_inst}
 use Rattle.local_rules.specs.declared.local.Node.{Node}
 use Rattle.edge_rules.specs.Expansion.{IsFilled}
-use Rattle.nesting_bound.specs.declared.graph.GraphInst.{GraphInst}
 use Rattle.nesting_bound.specs.declared.graph.Link.{Link}
-use Rattle.nesting_bound.specs.Chain.{IsChain}
-use Rattle.nesting_bound.specs.Least.{IsLeast}
-use Rattle.family_graph.specs.Graphs.{insts_of, IsGraphOf}
+use Rattle.family_graph.specs.Chains.{IsDeepest}
 use Rattle.certificate.specs.Claims.{Claim}
 use Rattle.witness_search.specs.declared.waypoint.Waypoint.{Waypoint}
 
@@ -28,20 +24,6 @@ interrupt_of words nodes link = interrupt_at words (slice_get nodes link.node) l
 -- the interrupts of a chain, in their order
 abbrev pub interrupts_of : List ℕ → List Node → List Link → List Waypoint
 interrupts_of words nodes links = flat_map (interrupt_of words nodes) links
-
--- The deepest chain of a family with the least needs, and the root's need.
-pub record IsDeepest (words : List ℕ) (A : List Entry) (nodes : List Node) (need : ℕ) (links : List Link) : Type 0 where
-  pub graph : List GraphInst
-  pub family : IsGraphOf words A nodes graph
-  pub ranks : List ℕ
-  pub needs : List ℕ
-  pub least : IsLeast graph ranks needs
-  pub root : need ≡ slice_index needs 0
-  pub chain : IsChain graph needs links
-
--- the root is the first instance of each graph of the family, where chains begin
-abbrev pub BeginsAtRoot : List ℕ → List Entry → List Node → Type 0
-BeginsAtRoot words A nodes = (graph : List GraphInst) → IsGraphOf words A nodes graph → slice_get (insts_of graph) 0 ≡ Some root_inst
 
 -- the interrupts of the deepest chain of a family
 pub record AreInterrupts (words : List ℕ) (A : List Entry) (nodes : List Node) (points : List Waypoint) : Type 0 where

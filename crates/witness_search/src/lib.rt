@@ -9,7 +9,6 @@ mod searching;
 pub mod trial;
 pub mod waypoint;
 
-pub use chain::{Deepest, deepest_chain};
 pub use searching::search;
 pub use trial::first_trial;
 pub use waypoint::Waypoint;

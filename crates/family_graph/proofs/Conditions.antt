@@ -30,8 +30,8 @@ use Rattle.certificate.specs.Insts.{rank_in, need_in}
 use Rattle.certificate.specs.Claims.{Claim}
 use Rattle.certificate.specs.Valid.{MeetsConditions}
 use Rattle.nesting_bound.specs.declared.graph.Link.{Link}
-use Rattle.witness_search.specs.Chains.{IsDeepest}
-use Rattle.witness_search.specs.Laws.{DeepestChainsAreBounded}
+use Rattle.family_graph.specs.Chains.{IsDeepest}
+use Rattle.family_graph.specs.Laws.{DeepestChainsAreBounded}
 
 member_of : (nodes : List Node) (n : Node) (at : ℕ) → slice_get nodes at ≡ Some n → Contains nodes n
 member_of nodes n at e = (at, slice_get_within nodes at n e, get_or_from_slice_get nodes at n n e)

@@ -1,6 +1,6 @@
 use Rattle.std.proofs.Common.{arith, sym, ◌≤◌, slice_index}
-use Rattle.witness_search.proofs.Conditions.{peopled, some_node, ranked, places, root_bound, root_first}
-use Rattle.witness_search.proofs.chain.deepest_chain.Goals as goal
+use Rattle.family_graph.proofs.Conditions.{peopled, some_node, ranked, places, root_bound, root_first}
+use Rattle.family_graph.proofs.deepest.deepest_chain.Goals as goal
 
 pub graph_of-requires-clause-some : goal.graph_of-requires-clause-some
 graph_of-requires-clause-some c = some_node c.args.flash.now c.args.assumptions.now c.args.certificate.now c.args.nodes.now c.requires.meets

@@ -1,0 +1,24 @@
+-- The deepest chain of a family, with the least needs. Source: own.
+use Rattle.std.specs.Prelude.{ℕ, ◌≡◌, List, Some, slice_get, slice_index}
+use Rattle.avr_model.specs.declared.assumption.Entry.{Entry}
+use Rattle.mask_states.specs.Keys.{root_inst}
+use Rattle.local_rules.specs.declared.local.Node.{Node}
+use Rattle.nesting_bound.specs.declared.graph.GraphInst.{GraphInst}
+use Rattle.nesting_bound.specs.declared.graph.Link.{Link}
+use Rattle.nesting_bound.specs.Chain.{IsChain}
+use Rattle.nesting_bound.specs.Least.{IsLeast}
+use Rattle.family_graph.specs.Graphs.{insts_of, IsGraphOf}
+
+-- The deepest chain of a family with the least needs, and the root's need.
+pub record IsDeepest (words : List ℕ) (A : List Entry) (nodes : List Node) (need : ℕ) (links : List Link) : Type 0 where
+  pub graph : List GraphInst
+  pub family : IsGraphOf words A nodes graph
+  pub ranks : List ℕ
+  pub needs : List ℕ
+  pub least : IsLeast graph ranks needs
+  pub root : need ≡ slice_index needs 0
+  pub chain : IsChain graph needs links
+
+-- the root is the first instance of each graph of the family, where chains begin
+abbrev pub BeginsAtRoot : List ℕ → List Entry → List Node → Type 0
+BeginsAtRoot words A nodes = (graph : List GraphInst) → IsGraphOf words A nodes graph → slice_get (insts_of graph) 0 ≡ Some root_inst
