@@ -3,7 +3,6 @@
 ghost use Rattle.std.specs.Prelude.{ℕ, ◌≡◌, ◌↔◌, Ok, IfOk, IsTrue};
 ghost use Rattle.avr_model.specs.Assumptions.{has_pairs};
 ghost use Rattle.avr_model.specs.Run.{Bounded};
-ghost use Rattle.local_rules.specs.Machine.{AreWords};
 ghost use Rattle.edge_rules.specs.Expansion.{IsFilled};
 ghost use Rattle.call_graph.specs.Exits.{AreExits};
 ghost use Rattle.call_graph.specs.Expanding.{IsExpanded};
@@ -24,14 +23,10 @@ use call_graph::{Expanded, Filled, Leaving, exits, expand, root_of};
 use certificate::Certificate;
 use flash_image::Flash;
 use local_rules::Exit;
+use local_rules::laws::words_have_16_bits;
 use mask_states::{InstKey, NodeKey};
 use std::alloc::{AllocError, Global};
 use vector_table::Assumptions;
-
-// The words of a slice have 16 bits, as their type says.
-fn have_16_bits(words: &[u16])
-    ensures { AreWords words.now }
-{}
 
 // The verdict where no node has a fault.
 fn judge_edges(
@@ -140,7 +135,7 @@ pub fn judge(
     ensures bounded { (b : ℕ) → result ≡ Ok (Verdict.Accepted b) → Bounded flash.now assumptions.now b }
     ensures rejected { IfOk result (λ verdict. (r : reason_type.Reason) → (verdict ≡ Verdict.Rejected r) ↔ IsReason flash.now assumptions.now certificate.now r) }
 {
-    have_16_bits(flash.words());
+    words_have_16_bits(flash.words());
     let _nodes = certificate.nodes();
     verdict(alloc, flash, assumptions, certificate)
 }

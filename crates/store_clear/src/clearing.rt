@@ -1,7 +1,6 @@
 //! What is said of a certificate's nodes that may flag a step.
 
 ghost use Rattle.std.specs.Prelude.{ℕ, ◌≡◌, ◌↔◌, List, [], IfOk};
-ghost use Rattle.local_rules.specs.Machine.{AreWords};
 ghost use Rattle.certificate.specs.Valid.{IsSound};
 ghost use Rattle.clear_laws.specs.Clear.{NeverFlagged};
 ghost use Rattle.store_laws.specs.declared.verdict.ClearVerdict.TheVariants as verdicts;
@@ -19,14 +18,10 @@ use call_graph::View;
 use certificate::Certificate;
 use family_graph::expanded_nodes;
 use flash_image::Flash;
+use local_rules::laws::words_have_16_bits;
 use std::alloc::{AllocError, Global};
 use store_laws::{ClearVerdict, FlaggedPlace};
 use vector_table::Assumptions;
-
-// The words of a slice have 16 bits, as their type says.
-fn have_16_bits(words: &[u16])
-    ensures { AreWords words.now }
-{}
 
 /// Whether each node of a certificate without assumptions is clear, where all conditions hold but that on its schedule; if one isn't,
 /// the least such node, counted from 0, and its word address. Where each is clear, every run from reset keeps the bound, and no step
@@ -43,7 +38,7 @@ pub fn clear_sites(
     ensures unclear { IfOk result (λ verdict. (j pc : ℕ) → (verdict ≡ verdicts.Unclear j pc) ↔ IsFirstUnclear flash.now [] certificate.now j pc) }
     ensures never_flagged { IfOk result (λ verdict. verdict ≡ verdicts.Clear → IsBoundedAndClear flash.now certificate.now.bound) }
 {
-    have_16_bits(flash.words());
+    words_have_16_bits(flash.words());
     let _nodes = certificate.nodes();
     let told = tell(alloc, flash, certificate.assumptions(), certificate)?;
     match first_unclear(&told.asks) {
@@ -68,7 +63,7 @@ pub fn flagged_sites(
     ensures clear { IfOk result (λ sites. (sites ≡ []) ↔ AreAllClear flash.now assumptions.now certificate.now) }
     ensures never_flagged { IfOk result (λ sites. sites ≡ [] → AreNevers flash.now assumptions.now certificate.now [] → NeverFlagged flash.now assumptions.now) }
 {
-    have_16_bits(flash.words());
+    words_have_16_bits(flash.words());
     let _nodes = certificate.nodes();
     let told = tell(alloc, flash, assumptions, certificate)?;
     let sites = sites_of(alloc, &told)?;
@@ -90,7 +85,7 @@ pub fn flagged_places(
     ensures told { IfOk result (λ list. (nevers : List ℕ) → AreNevers flash.now assumptions.now certificate.now nevers → EndFlaggedAsTold flash.now assumptions.now list nevers) }
     ensures causes { IfOk result (λ list. AllTellCauses list) }
 {
-    have_16_bits(flash.words());
+    words_have_16_bits(flash.words());
     let _nodes = certificate.nodes();
     let told = tell(alloc, flash, assumptions, certificate)?;
     let sites = sites_of(alloc, &told)?;

@@ -20,7 +20,7 @@ returns-clause-accepted c =
 
 pub returns-clause-bounded : goal.returns-clause-bounded
 returns-clause-bounded c = λ b e.
-    bounds c.args.flash.now c.args.assumptions.now c.args.certificate.now (Accepted b) b (subst AreWords c.words.ensures.value c.have_16_bits.ensures)
+    bounds c.args.flash.now c.args.assumptions.now c.args.certificate.now (Accepted b) b (subst AreWords c.words.ensures.value c.words_have_16_bits.ensures)
     c.nodes-nodes.ensures.kept (subst (λ r. IfOk r (IsVerdict c.args.flash.now c.args.assumptions.now c.args.certificate.now)) e c.verdict.ensures) refl
 
 pub returns-clause-rejected : goal.returns-clause-rejected

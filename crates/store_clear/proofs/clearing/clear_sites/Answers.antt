@@ -24,7 +24,7 @@ returns-in-None-clause-unclear c =
 
 pub returns-in-None-clause-never_flagged : goal.returns-in-None-clause-never_flagged
 returns-in-None-clause-never_flagged c = λ e.
-    clear_firmwares_are_never_flagged c.args.flash.now c.args.certificate.now (subst AreWords c.words.ensures.value c.have_16_bits.ensures) c.nodes-nodes.ensures.kept c.requires
+    clear_firmwares_are_never_flagged c.args.flash.now c.args.certificate.now (subst AreWords c.words.ensures.value c.words_have_16_bits.ensures) c.nodes-nodes.ensures.kept c.requires
     (clear_told c.args.flash.now c.assumptions.result.now c.args.certificate.now c.in_ok-told.told.nodes c.in_ok-told.told.asks.items c.deref.result.now
     (c.assumptions.ensures ∙ c.requires.meets.assumptions) c.deref.ensures.value c.in_ok-told.ensures c.in-None.ensures)
 

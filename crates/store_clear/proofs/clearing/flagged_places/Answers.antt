@@ -22,7 +22,7 @@ returns-clause-exact c =
 
 pub returns-clause-told : goal.returns-clause-told
 returns-clause-told c = λ nevers all.
-    flagged_runs_end_at_places.ends c.args.flash.now c.args.assumptions.now c.args.certificate.now c.in_ok-list.list nevers (subst AreWords c.words.ensures.value c.have_16_bits.ensures)
+    flagged_runs_end_at_places.ends c.args.flash.now c.args.assumptions.now c.args.certificate.now c.in_ok-list.list nevers (subst AreWords c.words.ensures.value c.words_have_16_bits.ensures)
     c.nodes-nodes.ensures.kept c.requires
     (are_places c.args.flash.now c.args.assumptions.now c.args.certificate.now c.in_ok-told.told.nodes c.in_ok-told.told.asks.items c.in_ok-told.ensures c.in_ok-sites.sites
     (c.in_ok-sites.ensures c.args.flash.now c.args.assumptions.now c.args.certificate.now c.in_ok-told.ensures).0 c.in_ok-list.list

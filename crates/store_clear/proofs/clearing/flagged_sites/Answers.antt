@@ -12,7 +12,7 @@ returns-clause-exact c = (c.in_ok-sites.ensures c.args.flash.now c.args.assumpti
 
 pub returns-clause-told : goal.returns-clause-told
 returns-clause-told c = λ nevers all.
-    flagged_runs_end_at_sites c.args.flash.now c.args.assumptions.now c.args.certificate.now c.in_ok-sites.sites nevers (subst AreWords c.words.ensures.value c.have_16_bits.ensures)
+    flagged_runs_end_at_sites c.args.flash.now c.args.assumptions.now c.args.certificate.now c.in_ok-sites.sites nevers (subst AreWords c.words.ensures.value c.words_have_16_bits.ensures)
     c.nodes-nodes.ensures.kept c.requires (c.in_ok-sites.ensures c.args.flash.now c.args.assumptions.now c.args.certificate.now c.in_ok-told.ensures).0 all
 
 pub returns-clause-clear : goal.returns-clause-clear
@@ -21,5 +21,5 @@ returns-clause-clear c = (c.in_ok-sites.ensures c.args.flash.now c.args.assumpti
 pub returns-clause-never_flagged : goal.returns-clause-never_flagged
 returns-clause-never_flagged c = λ e all.
     never_flagged c.args.flash.now c.args.assumptions.now c.in_ok-sites.sites
-    (flagged_runs_end_at_sites c.args.flash.now c.args.assumptions.now c.args.certificate.now c.in_ok-sites.sites [] (subst AreWords c.words.ensures.value c.have_16_bits.ensures)
+    (flagged_runs_end_at_sites c.args.flash.now c.args.assumptions.now c.args.certificate.now c.in_ok-sites.sites [] (subst AreWords c.words.ensures.value c.words_have_16_bits.ensures)
     c.nodes-nodes.ensures.kept c.requires (c.in_ok-sites.ensures c.args.flash.now c.args.assumptions.now c.args.certificate.now c.in_ok-told.ensures).0 all) e
