@@ -4,15 +4,14 @@ ghost use Rattle.std.specs.Prelude.{◌≡◌, ◌≤◌, IfOk, OnOk, false, map
 ghost use Rattle.std.specs.List.{flat_map};
 ghost use Rattle.flash_image.specs.Naming.{least_name};
 ghost use Rattle.sb_base.specs.Lines.{line};
-ghost use Rattle.sb_base.specs.Writing.{with_word, with_words, with_end};
+ghost use Rattle.sb_base.specs.Writing.{with_words, with_end};
 ghost use Rattle.line_reading.specs.Appending.{with_text};
-ghost use Rattle.reports.specs.Report.{name_word};
 ghost use Rattle.replies.specs.Places.{clear_text, place_words, unclear_text, name_up_to, place_line, place_text, never_line, never_text, count_line, premises_text, protected_words, word_where, cause_words, why_line, why_text};
 
 use crate::causes::put_instruction;
 use flash_image::{Flash, Names};
 use line_reading::laws::appending_laws;
-use reports::write_words;
+use reports::{write_name, write_words};
 use sb_base::LineWriter;
 use std::alloc::{AllocError, Global};
 use store_laws::FlaggedPlace;
@@ -90,16 +89,6 @@ fn reach(names: &Names, last: Reached, pc: u16) -> Reached
     Reached {
         pc,
         named: from.named,
-    }
-}
-
-/// Writes the name of a word, or a hyphen where it has none.
-fn write_name(out: &mut LineWriter, names: &Names, word: u16) -> Result<(), AllocError>
-    ensures { OnOk result (out.new ≡ with_word out.old (name_word (least_name names.now word))) }
-{
-    match names.at(word) {
-        Some(name) => out.word(name),
-        None => out.word(b"-"),
     }
 }
 

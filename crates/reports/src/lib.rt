@@ -10,4 +10,4 @@ mod text;
 
 pub use explained::{explanation_text, write_words};
 pub use json::report_json;
-pub use text::report_text;
+pub use text::{report_text, write_name};

@@ -63,7 +63,7 @@ fn write_static(
 }
 
 /// Writes the name of a word, or a hyphen where it has none.
-pub(crate) fn write_name(out: &mut LineWriter, names: &Names, word: u16) -> Result<(), AllocError>
+pub fn write_name(out: &mut LineWriter, names: &Names, word: u16) -> Result<(), AllocError>
     ensures { OnOk result (out.new ≡ with_word out.old (name_word (least_name names.now word))) }
 {
     match names.at(word) {
