@@ -29,8 +29,6 @@ use Rattle.family_graph.specs.Graphs.{insts_of, IsPeopled, IsGraphOf}
 use Rattle.certificate.specs.Insts.{rank_in, need_in}
 use Rattle.certificate.specs.Claims.{Claim}
 use Rattle.certificate.specs.Valid.{MeetsConditions}
-use Rattle.nesting_bound.specs.declared.graph.Link.{Link}
-use Rattle.family_graph.specs.Chains.{IsDeepest}
 use Rattle.family_graph.specs.Laws.{DeepestChainsAreBounded}
 
 member_of : (nodes : List Node) (n : Node) (at : ℕ) → slice_get nodes at ≡ Some n → Contains nodes n

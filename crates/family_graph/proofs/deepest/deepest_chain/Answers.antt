@@ -1,4 +1,4 @@
-use Rattle.std.proofs.Common.{arith, sym, ◌≤◌, slice_index}
+use Rattle.std.proofs.Common.{arith, ◌≤◌, slice_index}
 use Rattle.family_graph.proofs.Conditions.{peopled, some_node, ranked, places, root_bound, root_first}
 use Rattle.family_graph.proofs.deepest.deepest_chain.Goals as goal
 
