@@ -161,8 +161,8 @@ pub(crate) fn row_through(
     led
 }
 
-// A branch on flag `n`: to one word where it is 0, and then to another where it is 1. I is in the key, so that it tells of no pair.
-fn flag_row(
+// A branch on flag `n`: to one word where it is 0, and then to another where it is 1. One on I, which is in the key, goes by the plain rules.
+fn paired_branch(
     nodes: &mut Nodes,
     site: &Site<'_>,
     scratch: bool,
@@ -196,7 +196,7 @@ pub(crate) fn paired_row(
     match instr {
         Instr::Brbs(n, t) => {
             let taken = device.wrap(near(key.pc, t.get()));
-            flag_row(
+            paired_branch(
                 nodes,
                 site,
                 scratch,
@@ -208,7 +208,7 @@ pub(crate) fn paired_row(
         }
         Instr::Brbc(n, t) => {
             let taken = device.wrap(near(key.pc, t.get()));
-            flag_row(
+            paired_branch(
                 nodes,
                 site,
                 scratch,
