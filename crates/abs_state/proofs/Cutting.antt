@@ -2,26 +2,24 @@
 use Rattle.std.proofs.lemmas.Grind.{elements}
 use Rattle.std.proofs.Common.{◌≡◌, ◌≢◌, refl, sym, ◌∙◌, ap, subst, subst₂, ℕ, ◌+◌, ◌*◌, ◌<◌, ◌⊎◌, inl, inr, List, length, Option, Some, None, slice_set, slice_index, length-set, arith}
 use Rattle.std.proofs.lemmas.Bool.{cases_eq}
-use Rattle.avr_model.specs.Sreg.{flag}
 use Rattle.sp_domain.specs.Tags.{Origin}
 use Rattle.pair_domain.specs.declared.intervals.Interval.{Interval}
 use Rattle.pair_domain.specs.declared.facts.PairFacts.{PairFacts}
 use Rattle.pair_domain.specs.Intervals.{InInterval, IsIntervalWithin}
 use Rattle.pair_domain.specs.Tags.{pair_number}
-use Rattle.pair_domain.specs.Facts.{interval_at, FactsHold, KnownHolds, AreFactsWithin, IsKnownWithin, HasSixteen}
-use Rattle.pair_domain.specs.PairSets.{PairSet, PairStands, IsPairWithin}
-use Rattle.pair_domain.specs.NarrowLaws.{PairFits, IsMonotone}
+use Rattle.pair_domain.specs.Facts.{interval_at, IsKnownWithin, HasSixteen}
+use Rattle.pair_domain.specs.PairSets.{PairSet}
+use Rattle.pair_domain.specs.NarrowLaws.{IsMonotone}
 use Rattle.pair_domain.specs.Rank.{IntervalFits, KnownFits}
 use Rattle.pair_domain.proofs.AllLaws.{intervals_are_ordered, sums_are_ordered, compares_are_ordered, zeros_are_ordered}
 use Rattle.abs_state.specs.declared.values.AbsByte.{AbsByte}
 use Rattle.abs_state.specs.declared.state.AbsState.{AbsState}
-use Rattle.abs_state.specs.Values.{value_at, valued, set_of}
+use Rattle.abs_state.specs.Values.{value_at, valued}
 use Rattle.abs_state.specs.Stands.{ByteStands, RegistersStand}
 use Rattle.abs_state.specs.Order.{IsByteWithin, IsStateWithin}
 use Rattle.abs_state.specs.Formed.{NamesRegister, ByteFits, IsWhole, IsFormed}
 use Rattle.abs_state.specs.Laws.{HoldsAt}
-use Rattle.abs_state.specs.Cuts.{pair_of, pair_set, with_pair, cut_known, cut_state, KeepsPair, SaysMore, LeavesFit, StatesAreCut}
-use Rattle.abs_state.proofs.Ordered.{values_are_ordered}
+use Rattle.abs_state.specs.Cuts.{pair_of, pair_set, with_pair, cut_known, KeepsPair, SaysMore, LeavesFit, StatesAreCut}
 use Rattle.abs_state.proofs.Whole.{states_are_ordered}
 
 -- ---- registers and intervals with one written

@@ -1,11 +1,10 @@
 -- What writes end of what is known of pairs.
-use Rattle.std.proofs.lemmas.Grind.{elements}
 use Rattle.std.proofs.Common.{◌≡◌, ◌≢◌, refl, sym, ◌∙◌, ap, ap₂, subst, subst₂, ⊎_elim, ℕ, zero, suc, ◌+◌, ◌*◌, ◌/◌, ◌<◌, ◌≤◌, Bool, true, false, List, [], ◌∷◌, length, Option, Some, None, slice_set, slice_index, length-set, arith}
 use Rattle.std.specs.Prelude.{◌==◌, ◌||◌, nat_lt, if◌then◌else◌}
 use Rattle.std.specs.Int.{from_bool}
 use Rattle.std.proofs.lemmas.Bool.{or_parts, cases_lt}
 use Rattle.avr_model.specs.Sreg.{flag}
-use Rattle.bit_domain.specs.Ranges.{Holds, IsSetWithin}
+use Rattle.bit_domain.specs.Ranges.{IsSetWithin}
 use Rattle.bit_domain.proofs.AllLaws.{ranges_fit}
 use Rattle.sp_domain.specs.Tags.{Origin}
 use Rattle.pair_domain.specs.declared.intervals.Interval.{Interval}
@@ -18,20 +17,20 @@ use Rattle.pair_domain.specs.declared.tags.CompareTag.{CompareTag}
 use Rattle.pair_domain.specs.declared.tags.CompareTag.TheVariants as compare
 use Rattle.pair_domain.specs.declared.tags.ZeroTag.{ZeroTag}
 use Rattle.pair_domain.specs.declared.tags.ZeroTag.TheVariants as zero_tag
-use Rattle.pair_domain.specs.Intervals.{InInterval, IsIntervalWithin, whole, hull}
+use Rattle.pair_domain.specs.Intervals.{InInterval, IsIntervalWithin, whole}
 use Rattle.pair_domain.specs.Tags.{pair_number, side_byte, signed_below, LiesUp, LiesDown, AreNear, IsNear, IsCompared, SumHolds, CompareHolds, ZeroHolds, IsSumWithin, IsCompareWithin, IsZeroWithin}
 use Rattle.pair_domain.specs.Facts.{interval_at, IsKnownWithin, HasSixteen, is_followed}
 use Rattle.pair_domain.specs.Rank.{IntervalFits, SumFits, CompareFits, ZeroFits, KnownFits}
 use Rattle.pair_domain.proofs.AllLaws.{intervals_are_ordered, sums_are_ordered, compares_are_ordered, zeros_are_ordered, hulls_hold}
 use Rattle.abs_state.specs.declared.values.AbsByte.{AbsByte}
 use Rattle.abs_state.specs.Values.{value_at, set_of}
-use Rattle.abs_state.specs.Stands.{ByteStands, RegistersStand}
+use Rattle.abs_state.specs.Stands.{RegistersStand}
 use Rattle.abs_state.specs.Order.{IsByteWithin}
 use Rattle.abs_state.specs.Formed.{ByteFits}
 use Rattle.abs_state.specs.Laws.{HoldsAt}
 use Rattle.abs_state.specs.Ended.{in_pair, in_side, sum_ended, compare_ended, zero_ended, intervals_ended, ended, hull_at, written_hull, AreWritten, AreFlagsWritten, WritesEndFacts}
 use Rattle.abs_state.proofs.Listed.{same_items}
-use Rattle.abs_state.proofs.Cutting.{interval_there, interval_other, each_interval, both_intervals}
+use Rattle.abs_state.proofs.Cutting.{interval_other, each_interval, both_intervals}
 
 -- ---- intervals by their numbers
 
@@ -67,18 +66,6 @@ pub all_ended : (written : ℕ → Bool) (is left : List Interval) (n : ℕ) →
 all_ended written is left n count over h =
     same_items whole left (intervals_ended written 0 is) (h.count ∙ sym (length-ended written 0 is ∙ count)) (λ k lt.
     h.done k (omega (arith, lt, over, h.count)) ∙ sym (ended_at written is k))
-
-pub ended_more : (written : ℕ → Bool) (is left : List Interval) (n : ℕ) (i : Interval) → n < 16 → i ≡ (if in_pair written (2 * n) then whole else interval_at is n)
-    → AreEnded written is left n → AreEnded written is (slice_set left n i) (n + 1)
-ended_more written is left n i lt e h = record {
-  count = length-set left n i ∙ h.count;
-  done = λ k below.
-      ⊎_elim (λ less. interval_other left n k i (λ same. omega (arith, less, same)) ∙ h.done k less)
-      (λ over.
-      let same : k ≡ n = omega (arith, below, over) in
-      let P : ℕ → Type 0 = λ m. interval_at (slice_set left n i) m ≡ (if in_pair written (2 * m) then whole else interval_at is m) in
-      subst P (sym same) (interval_there left n i (omega (arith, lt, h.count)) ∙ e)) (cases_lt k n);
-}
 
 -- ---- what is left says less
 

@@ -1,22 +1,21 @@
 -- Intervals that lie in the hulls of their registers.
-use Rattle.std.proofs.Common.{◌≡◌, refl, sym, ◌∙◌, ap, ap₂, subst, subst₂, ℕ, zero, suc, ◌+◌, ◌*◌, ◌<◌, Bool, true, false, List, length, replicate, Option, Some, None, arith}
+use Rattle.std.proofs.Common.{◌≡◌, refl, sym, ◌∙◌, ap, ap₂, subst, subst₂, ℕ, zero, ◌+◌, ◌*◌, ◌<◌, Bool, true, false, List, length, replicate, Option, Some, None, arith}
 use Rattle.std.proofs.lemmas.List.{get_or-replicate}
 use Rattle.bit_domain.specs.Packed.{packed}
-use Rattle.bit_domain.specs.Ranges.{ByteSet, IsSetWithin}
-use Rattle.sp_domain.specs.declared.tags.Tag.{Tag}
+use Rattle.bit_domain.specs.Ranges.{IsSetWithin}
 use Rattle.pair_domain.specs.declared.intervals.Interval.{Interval}
 use Rattle.pair_domain.specs.declared.facts.PairFacts.{PairFacts}
 use Rattle.pair_domain.specs.declared.tags.SumTag.TheVariants as sum
 use Rattle.pair_domain.specs.declared.tags.CompareTag.TheVariants as compare
 use Rattle.pair_domain.specs.declared.tags.ZeroTag.TheVariants as zero_tag
-use Rattle.pair_domain.specs.Intervals.{IsIntervalWithin, whole, hull, interval_join}
-use Rattle.pair_domain.specs.Facts.{interval_at, facts_join, known_join, HasSixteen}
+use Rattle.pair_domain.specs.Intervals.{IsIntervalWithin, whole, hull}
+use Rattle.pair_domain.specs.Facts.{interval_at, known_join, HasSixteen}
 use Rattle.pair_domain.proofs.AllLaws.{intervals_are_ordered, intervals_meet, hulls_hold}
 use Rattle.pair_domain.proofs.Listed.{interval_at-join}
 use Rattle.abs_state.specs.declared.values.AbsByte.{AbsByte}
 use Rattle.abs_state.specs.declared.state.AbsState.{AbsState}
 use Rattle.abs_state.specs.Values.{unknown, value_at, set_of, root}
-use Rattle.abs_state.specs.Order.{IsByteWithin, value_join, values_join, state_join}
+use Rattle.abs_state.specs.Order.{IsByteWithin, value_join, values_join}
 use Rattle.abs_state.specs.Formed.{IsWhole}
 use Rattle.abs_state.specs.Frames.{known_entered, entered}
 use Rattle.abs_state.specs.PairsBack.{interval_kept, kept_pair, interval_back, collected, sum_after, compare_after, zero_after, facts_with, known_back, returned}

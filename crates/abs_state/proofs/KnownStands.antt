@@ -1,9 +1,8 @@
 -- What is known of pairs after a return holds, and is more where more was known.
-use Rattle.std.proofs.Common.{◌≡◌, refl, sym, ◌∙◌, ap, ap₂, subst, ℕ, zero, suc, ◌+◌, ◌*◌, ◌/◌, ◌%◌, ◌<◌, ◌≤◌, ◌⊎◌, inl, inr, ⊎_elim, Bool, true, false, ◌&&◌, List, [], ◌∷◌, length, Option, Some, None, slice_index, arith}
+use Rattle.std.proofs.Common.{◌≡◌, refl, sym, ◌∙◌, ap, subst, ℕ, zero, ◌+◌, ◌*◌, ◌%◌, ◌<◌, Bool, true, false, ◌&&◌, List, Option, Some, None, slice_index, arith}
 use Rattle.std.specs.Prelude.{◌==◌, if◌then◌else◌}
 use Rattle.std.proofs.lemmas.Bool.{eqb-true, eq-eqb, false≢true}
-use Rattle.avr_model.specs.Sreg.{flag}
-use Rattle.bit_domain.specs.Ranges.{ByteSet, Holds, IsSetWithin}
+use Rattle.bit_domain.specs.Ranges.{Holds, IsSetWithin}
 use Rattle.sp_domain.specs.declared.tags.Tag.{Tag}
 use Rattle.sp_domain.specs.declared.tags.Tag.TheVariants as tag
 use Rattle.sp_domain.specs.Tags.{Origin, TagHolds, IsTagWithin, is_same_tag}
@@ -17,15 +16,15 @@ use Rattle.pair_domain.specs.declared.tags.CompareTag.{CompareTag}
 use Rattle.pair_domain.specs.declared.tags.CompareTag.TheVariants as compare
 use Rattle.pair_domain.specs.declared.tags.ZeroTag.{ZeroTag}
 use Rattle.pair_domain.specs.declared.tags.ZeroTag.TheVariants as zero
-use Rattle.pair_domain.specs.Intervals.{InInterval, IsIntervalWithin, interval_meet, hull}
+use Rattle.pair_domain.specs.Intervals.{InInterval, IsIntervalWithin, hull}
 use Rattle.pair_domain.specs.Tags.{pair_number, side_byte, LiesUp, LiesDown, IsCompared, SumHolds, CompareHolds, ZeroHolds, IsSumWithin, IsCompareWithin, IsZeroWithin}
 use Rattle.std.specs.Int.{from_bool}
-use Rattle.pair_domain.specs.Facts.{interval_at, FactsHold, KnownHolds, AreFactsWithin, IsKnownWithin}
+use Rattle.pair_domain.specs.Facts.{interval_at, KnownHolds, AreFactsWithin, IsKnownWithin}
 use Rattle.pair_domain.specs.Rank.{SideFits, SumFits, CompareFits, ZeroFits, FactsFit, KnownFits}
-use Rattle.pair_domain.proofs.AllLaws.{intervals_are_ordered, intervals_meet, hulls_hold}
+use Rattle.pair_domain.proofs.AllLaws.{intervals_meet, hulls_hold}
 use Rattle.abs_state.specs.declared.values.AbsByte.{AbsByte}
 use Rattle.abs_state.specs.Values.{value_at, set_of}
-use Rattle.abs_state.specs.Stands.{ByteStands, RegistersStand}
+use Rattle.abs_state.specs.Stands.{RegistersStand}
 use Rattle.abs_state.specs.Order.{IsByteWithin}
 use Rattle.abs_state.specs.Formed.{NamesRegister}
 use Rattle.abs_state.specs.PairsBack.{kept_pair, interval_kept, cut_to, interval_back, collected, keeps, keeps_side, sum_after, compare_after, zero_after, facts_with, following, known_back}

@@ -13,8 +13,8 @@ use Rattle.abs_state.specs.declared.cuts.PairBytes.{PairBytes}
 use Rattle.abs_state.specs.declared.state.AbsState.{AbsState}
 use Rattle.abs_state.specs.Values.{value_at, valued, set_of}
 use Rattle.abs_state.specs.Frames.{with_tag}
-use Rattle.abs_state.specs.Cuts.{pair_set, with_pair, cut_known, cut_state}
-use Rattle.abs_state.specs.PairBytes.{sets, left_by, pair_in, pair_at, with_interval, put}
+use Rattle.abs_state.specs.Cuts.{pair_set, with_pair, cut_known}
+use Rattle.abs_state.specs.PairBytes.{sets, left_by, pair_in, with_interval, put}
 use Rattle.abs_state.proofs.Back.{tag_met}
 
 pub narrow_left : (p : PairBytes) (i j : Interval) (low high : AbsByte) → interval_meet p.interval i ≡ Some j → with_tag p.low.tag (low_within (set_of p.low) j) ≡ Some low
@@ -48,13 +48,6 @@ cut_by cut s n (Some f) is p e left l =
     by (Some m) =
         ap (λ (y : Option PairFacts). Some (record s { registers = pair_set s.registers n m; facts = with_interval n (record { low = valued q.low.tag m.low; high = valued q.high.tag m.high; interval = m.interval }) y })) is
 
-pub pair_is_cut : (cut : PairSet → Option PairSet) (s : AbsState) (n : ℕ) (p : PairBytes) (left : Option PairBytes) → Some p ≡ pair_at s n → left ≡ left_by p (cut (sets p))
-    → put s n left ≡ cut_state cut s n
-pair_is_cut cut s n p left e l = cut_by cut s n s.facts refl p (sym e) left l
-
 none_cut : (cut : PairSet → Option PairSet) (s : AbsState) (n : ℕ) (x : Option PairFacts) → pair_in s n x ≡ None → Some s ≡ cut_known cut s n x
 none_cut cut s n None e = refl
 none_cut cut s n (Some f) e = absurd (cc)
-
-pub nothing_is_cut : (cut : PairSet → Option PairSet) (s : AbsState) (n : ℕ) → None ≡ pair_at s n → Some s ≡ cut_state cut s n
-nothing_is_cut cut s n e = none_cut cut s n s.facts (sym e)

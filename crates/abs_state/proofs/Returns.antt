@@ -1,20 +1,18 @@
 -- The state after a return.
-use Rattle.std.proofs.Common.{◌≡◌, refl, sym, ◌∙◌, ap, subst, ℕ, ◌%◌, ◌<◌, ◌==◌, Bool, true, false, List, length, Option, Some, None, slice_index, arith}
+use Rattle.std.proofs.Common.{◌≡◌, sym, ◌∙◌, ap, subst, ℕ, ◌%◌, ◌<◌, ◌==◌, Bool, true, false, List, length, Option, Some, None, arith}
 use Rattle.std.specs.Int.{bit_at}
 use Rattle.avr_model.specs.Sreg.{flag}
-use Rattle.avr_model.specs.State.{Memory}
-use Rattle.sp_domain.specs.Tags.{Origin, LessHolds}
+use Rattle.sp_domain.specs.Tags.{Origin}
 use Rattle.pair_domain.specs.declared.facts.PairFacts.{PairFacts}
 use Rattle.std.specs.Prelude.{◌&&◌}
 use Rattle.pair_domain.specs.Facts.{KnownHolds, is_followed}
 use Rattle.abs_state.specs.declared.values.AbsByte.{AbsByte}
 use Rattle.abs_state.specs.declared.state.AbsState.{AbsState}
-use Rattle.abs_state.specs.Stands.{RegistersStand, EntryHolds, FlagsStand, SlotsStand}
+use Rattle.abs_state.specs.Stands.{EntryHolds}
 use Rattle.abs_state.specs.Order.{IsStateWithin}
 use Rattle.abs_state.specs.Formed.{IsFormed, IsUntagged}
-use Rattle.abs_state.specs.Frames.{bytes_returned}
 use Rattle.abs_state.specs.PairsBack.{interval_back, collected, facts_with, known_back, returned, Conflict}
-use Rattle.abs_state.specs.Laws.{HoldsAt, IsEnteredFrom, ReturnsAreTrue}
+use Rattle.abs_state.specs.Laws.{ReturnsAreTrue}
 use Rattle.abs_state.proofs.Start.{low_bits}
 use Rattle.abs_state.proofs.Returned.{bytes_return}
 use Rattle.abs_state.proofs.PairsBack.{with_pairs_was, pairs_none, made}

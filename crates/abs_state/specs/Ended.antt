@@ -1,6 +1,6 @@
 -- What a write ends of what is known of pairs: tags that speak of a register that is written, or of its pair, and the interval of this pair;
 -- and tags that speak of flags that are written. Source: own.
-use Rattle.std.specs.Prelude.{ℕ, suc, ◌+◌, ◌*◌, ◌/◌, ◌^◌, ◌==◌, ◌&&◌, ◌||◌, ◌≡◌, ◌<◌, Bool, true, false, bit_and, nat_lt, if◌then◌else◌, List, [], ◌∷◌, length, Option, Some, None, slice_set, slice_index}
+use Rattle.std.specs.Prelude.{ℕ, suc, ◌+◌, ◌*◌, ◌/◌, ◌^◌, ◌==◌, ◌&&◌, ◌||◌, ◌≡◌, ◌<◌, Bool, false, bit_and, nat_lt, if◌then◌else◌, List, [], ◌∷◌, Option, Some, None, slice_set, slice_index}
 use Rattle.std.specs.List.{list_any}
 use Rattle.avr_model.specs.Sreg.{flag}
 use Rattle.sp_domain.specs.Tags.{Origin}

@@ -1,5 +1,5 @@
 -- Which instructions set flags. Source: Instruction Set Manual DS40002198.
-use Rattle.std.specs.Prelude.{ℕ, ◌==◌, not, Bool, true, false}
+use Rattle.std.specs.Prelude.{◌==◌, not, Bool, true, false}
 use Rattle.avr_model.specs.declared.instruction.Instr.{Instr}
 use Rattle.avr_model.specs.declared.instruction.Instr.TheVariants as i
 use Rattle.avr_model.specs.declared.instruction.BinaryOp.{BinaryOp}

@@ -1,7 +1,7 @@
 -- What a state tells once something that is known ends.
-use Rattle.std.proofs.Common.{◌≡◌, refl, sym, ◌∙◌, ap, ap₂, subst, ⊎_elim, ℕ, ◌/◌, ◌^◌, ◌<◌, Bool, true, false, if◌then◌else◌, List, [], ◌∷◌, Option, Some, None, bit_and, arith}
-use Rattle.std.specs.Prelude.{◌==◌, ◌&&◌, ◌||◌, nat_lt, slice_set}
-use Rattle.std.proofs.lemmas.Bool.{or_parts, cases_lt}
+use Rattle.std.proofs.Common.{◌≡◌, refl, sym, ◌∙◌, ap, ap₂, subst, ⊎_elim, ℕ, ◌/◌, ◌^◌, ◌<◌, Bool, true, false, List, [], ◌∷◌, Option, Some, None, bit_and, arith}
+use Rattle.std.specs.Prelude.{◌==◌, ◌&&◌, nat_lt, slice_set}
+use Rattle.std.proofs.lemmas.Bool.{cases_lt}
 use Rattle.std.proofs.lemmas.Bool.Decides.{nat_tests}
 use Rattle.avr_model.specs.declared.instruction.Instr.{Instr}
 use Rattle.avr_model.specs.Written.{written, bits_of}
@@ -24,14 +24,6 @@ use Rattle.local_rules.specs.Writes.{register_written, put_flags, flags_written}
 ended_none : (w : ℕ → Bool) (flags carry : Bool) (x : Option PairFacts) → is_followed x ≡ false → ended w flags carry x ≡ x
 ended_none w flags carry None e = refl
 ended_none w flags carry (Some f) e = absurd (cc)
-
-pub nothing_ends : (instr : Instr) (s : AbsState) (ends : Bool) (w : ℕ → Bool) (flags carry : Bool)
-    → forgotten (written instr) s.flags.carry ≡ (if ends then tag.None else s.flags.carry) → (ends || is_followed s.facts) ≡ false
-    → record s { flags = record s.flags { carry = forgotten (written instr) s.flags.carry }; facts = ended w flags carry s.facts } ≡ s
-nothing_ends instr s ends w flags carry e stays =
-    let parts = or_parts ends (is_followed s.facts) stays in
-    ap₂ (λ (c : CarryTag) (x : Option PairFacts). record s { flags = record s.flags { carry = c }; facts = x })
-    (e ∙ ap (λ (b : Bool). if b then tag.None else s.flags.carry) parts.0) (ended_none w flags carry s.facts parts.1)
 
 -- ---- a set by its bits
 

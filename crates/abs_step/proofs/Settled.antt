@@ -1,6 +1,5 @@
 -- The one answer for a node.
-use Rattle.std.proofs.Common.{◌≡◌, refl, List, [], ◌∷◌, Some, Ok, Err}
-use Rattle.local_rules.specs.declared.local.Local.{Local}
+use Rattle.std.proofs.Common.{◌≡◌, List, [], ◌∷◌, Some, Err}
 use Rattle.local_rules.specs.declared.local.NodeFault.{NodeFault}
 use Rattle.local_rules.specs.Raw.{Raw}
 use Rattle.local_rules.specs.Local.{settled}
@@ -13,10 +12,6 @@ fault_settled r (g ∷ gs) f e = cc
 
 pub first_settled : (r : Raw) (f : NodeFault) → first_fault r.faults ≡ Some f → settled r r.faults ≡ Err f
 first_settled r f e = fault_settled r r.faults f e
-
-none_settled : (r : Raw) (fs : List NodeFault) (l : Local) → settled r fs ≡ Ok l → fs ≡ []
-none_settled r [] l e = refl
-none_settled r (f ∷ fs) l e = cc
 
 settled_first : (r : Raw) (fs : List NodeFault) (f : NodeFault) → settled r fs ≡ Err f → first_fault fs ≡ Some f
 settled_first r [] f e = cc

@@ -1,11 +1,10 @@
 -- What is written, digit by digit, word by word and line by line.
-use Rattle.std.proofs.Common.{ℕ, ◌+◌, ◌/◌, ◌%◌, ◌<◌, ◌≡◌, List, [], ◌∷◌, ◌++◌, length, map, take, get_or, refl, ap, ap₂, sym, ◌∙◌, arith, append-nil, codes, Some, None}
+use Rattle.std.proofs.Common.{ℕ, ◌+◌, ◌<◌, ◌≡◌, List, [], ◌∷◌, ◌++◌, length, map, take, get_or, refl, ap, ap₂, sym, ◌∙◌, append-nil, codes, Some, None}
 use Rattle.std.proofs.lemmas.List.{map-append, take_more}
 use Rattle.std.proofs.lemmas.Grind.{flat_map-append}
 use Rattle.std.specs.List.{flat_map}
 use Rattle.indirect_targets.proofs.AllLaws.{none_begun, words_append}
 use Rattle.witness_replay.proofs.Parts.{more_text}
-use Rattle.sb_base.specs.Digits.{hex_digit, hex_digits}
 use Rattle.sb_base.specs.Lines.{line}
 use Rattle.sb_base.specs.Writing.{Written, with_word, with_words, with_end}
 use Rattle.line_reading.specs.Appending.{with_text, AppendingLaws}

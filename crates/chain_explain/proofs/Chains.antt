@@ -1,22 +1,17 @@
 -- What the parts of a chain tell.
-use Rattle.std.proofs.Common.{◌≡◌, refl, sym, ap, ◌∙◌, subst, ℕ, zero, suc, ◌+◌, ◌<◌, ◌≤◌, List, [], ◌∷◌, length, Option, Some, None, slice_get, slice_index, Contains, arith}
-use Rattle.std.specs.Prelude.{◌↔◌}
+use Rattle.std.proofs.Common.{◌≡◌, refl, sym, ap, ◌∙◌, subst, ℕ, ◌+◌, List, [], ◌∷◌, Some, slice_get, slice_index, arith}
 use Rattle.std.proofs.lemmas.List.Sums.{sum_by-cons}
-use Rattle.std.proofs.lemmas.Option.{same_Some, slice_get_within}
+use Rattle.std.proofs.lemmas.Option.{slice_get_within}
 use Rattle.basics.specs.Lists.{one_at}
 use Rattle.avr_model.specs.declared.assumption.Entry.{Entry}
 use Rattle.mask_states.specs.declared.keys.InstKey.{InstKey}
-use Rattle.mask_states.specs.declared.keys.EdgeKind.{EdgeKind}
-use Rattle.mask_states.specs.declared.keys.SpForm.{SpForm}
 use Rattle.mask_states.specs.declared.keys.SpForm.TheVariants.{Closed}
 use Rattle.mask_states.specs.Keys.{root_inst, offset_of}
 use Rattle.local_rules.specs.declared.local.Node.{Node}
 use Rattle.edge_rules.specs.Edges.{Enters}
 use Rattle.edge_rules.specs.Expansion.{IsFilled}
-use Rattle.nesting_bound.specs.declared.graph.Entered.{Entered}
 use Rattle.nesting_bound.specs.declared.graph.GraphInst.{GraphInst}
 use Rattle.nesting_bound.specs.declared.graph.Link.{Link}
-use Rattle.nesting_bound.specs.declared.graph.Place.{Place}
 use Rattle.nesting_bound.specs.Chain.{IsChainFrom, ends, goes}
 use Rattle.family_graph.specs.Graphs.{insts_of, IsGraphOf}
 use Rattle.certificate.specs.Claims.{Claim}
@@ -24,8 +19,8 @@ use Rattle.family_graph.specs.Chains.{IsDeepest, BeginsAtRoot}
 use Rattle.chain_explain.specs.declared.explanation.Explanation.{Explanation}
 use Rattle.chain_explain.specs.declared.explanation.Part.{Part}
 use Rattle.chain_explain.specs.Walks.{IsWay}
-use Rattle.chain_explain.specs.Explanation.{adds_by, IsPart, AreParts, Explains}
-use Rattle.chain_explain.specs.Told.{sum_of, IsPlace, Ends, EntersNext, GoOn, Nest}
+use Rattle.chain_explain.specs.Explanation.{IsPart, AreParts, Explains}
+use Rattle.chain_explain.specs.Told.{sum_of, IsPlace, GoOn, Nest}
 use Rattle.chain_explain.specs.Moves.{AreThere}
 
 module _ (words : List ℕ) (A : List Entry) (nodes reached : List Node) (gs : List GraphInst) (needs : List ℕ) (family : IsGraphOf words A reached gs) where

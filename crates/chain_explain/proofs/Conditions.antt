@@ -1,14 +1,11 @@
 -- The reached nodes of a family that meets the conditions meet them too.
-use Rattle.std.proofs.Common.{◌≡◌, refl, sym, ap, ◌∙◌, subst, ℕ, ◌≤◌, List, Contains, length, arith}
+use Rattle.std.proofs.Common.{ℕ, List, Contains}
 use Rattle.avr_model.specs.declared.assumption.Entry.{Entry}
-use Rattle.mask_states.specs.declared.keys.NodeKey.{NodeKey}
-use Rattle.mask_states.specs.Keys.{root_inst, entry_key}
 use Rattle.local_rules.specs.declared.local.Node.{Node}
 use Rattle.edge_rules.specs.declared.edge.Edge.{Edge}
-use Rattle.edge_rules.specs.Edges.{Enters, IsEdge, moving, entering, returning, target}
+use Rattle.edge_rules.specs.Edges.{IsEdge, moving, entering, returning, target}
 use Rattle.edge_rules.specs.Families.{IsCovered}
 use Rattle.certificate.specs.Claims.{Claim}
-use Rattle.certificate.specs.Insts.{need_in}
 use Rattle.certificate.specs.Valid.{reset_node, MeetsConditions}
 use Rattle.chain_explain.specs.Reached.{IsReached, AreReached, at_reset, by_edge}
 

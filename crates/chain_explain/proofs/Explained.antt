@@ -1,5 +1,5 @@
 -- What is put together is the explanation.
-use Rattle.std.proofs.Common.{◌≡◌, sym, ap, ◌∙◌, subst, ℕ, ◌≤◌, List}
+use Rattle.std.proofs.Common.{◌≡◌, subst, ℕ, ◌≤◌, List}
 use Rattle.avr_model.specs.declared.assumption.Entry.{Entry}
 use Rattle.mask_states.specs.Keys.{root_inst, entry_key}
 use Rattle.local_rules.specs.declared.local.Node.{Node}

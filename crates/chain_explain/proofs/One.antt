@@ -1,5 +1,5 @@
 -- A certificate has at most one explanation.
-use Rattle.std.proofs.Common.{◌≡◌, refl, sym, ap, ◌∙◌, subst, ℕ, zero, suc, ◌+◌, ◌<◌, ◌≤◌, ◌⊎◌, ⊎_elim, List, [], ◌∷◌, length, map, Some, slice_get, Contains, nat_cmp, arith}
+use Rattle.std.proofs.Common.{◌≡◌, refl, sym, ap, ◌∙◌, subst, ℕ, ◌⊎◌, ⊎_elim, List, [], ◌∷◌, map, Contains}
 use Rattle.std.specs.Prelude.{◌↔◌}
 use Rattle.std.specs.List.Sorted.{IsStrictlySortedBy}
 use Rattle.std.specs.declared.cmp.Ordering.TheVariants.{Less}
@@ -17,7 +17,6 @@ use Rattle.edge_rules.specs.Views.{key_of}
 use Rattle.edge_laws.specs.Expansions.{FilledOrMissing}
 use Rattle.edge_laws.proofs.ExpansionLaws.{filled_lists_are_shown}
 use Rattle.nesting_bound.specs.declared.graph.Link.{Link}
-use Rattle.certificate.specs.Claims.{Claim, IsClaim}
 use Rattle.shortest_walk.specs.Graph.{Leads}
 use Rattle.shortest_walk.specs.Walk.{GoesOn, IsWalk, IsShortest, IsFirstOfShortest}
 use Rattle.shortest_walk.proofs.AllLaws.{first_is_one}
@@ -25,9 +24,8 @@ use Rattle.family_graph.specs.Chains.{IsDeepest}
 use Rattle.family_graph.specs.Laws.{DeepestChainsAreOne}
 use Rattle.chain_explain.specs.declared.explanation.Explanation.{Explanation}
 use Rattle.chain_explain.specs.declared.explanation.Part.{Part}
-use Rattle.chain_explain.specs.Reached.{AreReached}
 use Rattle.chain_explain.specs.Walks.{IsWay, pc_at}
-use Rattle.chain_explain.specs.Explanation.{IsPart, AreParts, Explains, IsExplanation, adds_by}
+use Rattle.chain_explain.specs.Explanation.{IsPart, AreParts, Explains, adds_by}
 use Rattle.chain_explain.specs.Laws.{ExplanationsAreOne}
 use Rattle.chain_explain.proofs.Numbers.{same_number}
 

@@ -1,27 +1,25 @@
 -- Where the rounds end with a certificate, the least need of the root over the reached nodes is its bound.
-use Rattle.std.proofs.Common.{◌≡◌, refl, sym, ap, ◌∙◌, subst, ℕ, zero, suc, ◌+◌, ◌<◌, ◌≤◌, ◌⊎◌, ⊎_elim, Bool, true, false, cond, List, [], ◌∷◌, length, map, Some, slice_get, slice_index, Contains, arith}
-use Rattle.std.specs.Prelude.{◌↔◌}
+use Rattle.std.proofs.Common.{◌≡◌, refl, sym, ap, ◌∙◌, subst, ℕ, zero, suc, ◌≤◌, ◌⊎◌, ⊎_elim, Bool, true, false, cond, List, [], ◌∷◌, length, Some, slice_get, slice_index, Contains, arith}
 use Rattle.std.specs.List.{AllByRecursion}
 use Rattle.std.specs.List.Sorted.{IsStrictlySortedBy}
 use Rattle.std.proofs.lemmas.List.{length-map}
-use Rattle.std.specs.declared.cmp.Ordering.TheVariants.{Less, Equal}
-use Rattle.std.proofs.lemmas.Option.{none-some, same_Some, slice_get_within}
+use Rattle.std.specs.declared.cmp.Ordering.TheVariants.{Less}
+use Rattle.std.proofs.lemmas.Option.{none-some, same_Some}
 use Rattle.basics.specs.Items.{place_of_contained, none_in, first_in, further_in, first_or_further}
 use Rattle.avr_model.specs.declared.assumption.Entry.{Entry}
 use Rattle.abs_state.specs.Frames.{entered}
 use Rattle.mask_states.specs.declared.keys.InstKey.{InstKey}
 use Rattle.mask_states.specs.declared.keys.NodeKey.{NodeKey}
 use Rattle.mask_states.specs.declared.keys.EdgeKind.{EdgeKind}
-use Rattle.mask_states.specs.declared.keys.SpForm.{SpForm}
 use Rattle.mask_states.specs.declared.keys.SpForm.TheVariants.{Closed}
 use Rattle.mask_states.specs.Keys.{root_inst, entry_key, offset_of}
-use Rattle.mask_states.specs.Order.{inst_cmp, node_cmp, same_inst, same_node}
+use Rattle.mask_states.specs.Order.{inst_cmp, same_inst, same_node}
 use Rattle.mask_states.proofs.AllLaws.{keys_are_ordered}
 use Rattle.local_rules.specs.declared.local.Node.{Node}
 use Rattle.local_laws.specs.Laws.{HasKey}
 use Rattle.edge_rules.specs.declared.edge.Edge.{Edge}
-use Rattle.edge_rules.specs.Edges.{Enters, by_call, by_interrupt, IsEdge, entering, target}
-use Rattle.edge_rules.specs.Views.{AreShown, key_of}
+use Rattle.edge_rules.specs.Edges.{Enters, by_call, by_interrupt, IsEdge, entering}
+use Rattle.edge_rules.specs.Views.{key_of}
 use Rattle.edge_rules.specs.Expansion.{IsFilled}
 use Rattle.edge_laws.specs.Expansions.{FilledOrMissing}
 use Rattle.nesting_bound.specs.declared.graph.Entered.{Entered}
@@ -31,8 +29,8 @@ use Rattle.nesting_bound.specs.Graph as graph
 use Rattle.nesting_bound.specs.Least.{IsLeast}
 use Rattle.family_graph.specs.Graphs.{insts_of, IsGraphOf}
 use Rattle.certificate.specs.Claims.{Claim}
-use Rattle.round_rules.specs.Families.{Family, nodes_of, Has, HasInst, HasNoFault}
-use Rattle.round_rules.specs.Rounds.{Entering, AreNeeds, Comes}
+use Rattle.round_rules.specs.Families.{Family, nodes_of, Has}
+use Rattle.round_rules.specs.Rounds.{AreNeeds}
 use Rattle.round_rules.specs.Refusals.{IsSolved}
 use Rattle.round_laws.proofs.AllLaws.{has_member, member_has}
 use Rattle.round_laws.specs.Reached.{IsKept, RoundsAreReached}

@@ -1,29 +1,26 @@
 -- The way to a reached node within its instance.
-use Rattle.std.proofs.Common.{◌≡◌, refl, sym, ap, ◌∙◌, subst, ℕ, zero, suc, ◌+◌, ◌-◌, ◌<◌, ◌≤◌, ◌⊎◌, ⊎_elim, Bool, true, false, List, [], ◌∷◌, length, map, get_or, Option, Some, None, slice_get, Contains, arith}
-use Rattle.std.specs.Prelude.{◌↔◌}
-use Rattle.std.proofs.lemmas.Option.{slice_get_within}
+use Rattle.std.proofs.Common.{◌≡◌, refl, sym, ap, ◌∙◌, subst, ℕ, ◌+◌, ◌-◌, ◌<◌, ◌≤◌, true, List, [], ◌∷◌, map, Some, slice_get, Contains, arith}
 use Rattle.basics.specs.Items.{place_of_contained, only_one_in, first_in}
 use Rattle.edge_rules.specs.Places.{FoundAt, found_at}
 use Rattle.avr_model.specs.declared.assumption.Entry.{Entry}
 use Rattle.abs_state.specs.Frames.{entered}
 use Rattle.mask_states.specs.declared.keys.InstKey.{InstKey}
 use Rattle.mask_states.specs.declared.keys.NodeKey.{NodeKey}
-use Rattle.mask_states.specs.declared.keys.EdgeKind.{EdgeKind}
 use Rattle.mask_states.specs.declared.keys.EdgeKind.TheVariants as kind
 use Rattle.mask_states.specs.Keys.{root_inst, entry_key}
 use Rattle.local_rules.specs.declared.local.Node.{Node}
 use Rattle.local_laws.specs.Laws.{HasKey}
 use Rattle.edge_rules.specs.declared.edge.Edge.{Edge}
-use Rattle.edge_rules.specs.Edges.{Enters, IsEdge, moving, entering, returning}
+use Rattle.edge_rules.specs.Edges.{IsEdge, moving, entering, returning}
 use Rattle.edge_rules.specs.Views.{AreShown, IsSpan, place_of}
 use Rattle.shortest_walk.specs.Graph as walk
 use Rattle.shortest_walk.specs.Graph.{Leads, IsGraph}
 use Rattle.shortest_walk.specs.Walk.{IsFirstOfShortest}
 use Rattle.chain_explain.specs.Reached.{IsReached, at_reset, by_edge}
 use Rattle.chain_explain.specs.Walks as walks
-use Rattle.chain_explain.specs.Walks.{is_move, MovesTo, Begins, IsStart, pc_at, IsWay}
+use Rattle.chain_explain.specs.Walks.{is_move, Begins, IsStart, pc_at, IsWay}
 use Rattle.chain_explain.specs.Moves.{IsPortion, AreMoves}
-use Rattle.chain_explain.proofs.Numbers.{same_number, none_has}
+use Rattle.chain_explain.proofs.Numbers.{same_number}
 use Rattle.chain_explain.proofs.Edges.{stays}
 use Rattle.chain_explain.proofs.Shifted.{lifted, IsApart, first_up, reached_below, ReachedBelow}
 use Rattle.chain_explain.proofs.Shifted as shifted

@@ -8,7 +8,7 @@ use Rattle.std.proofs.lemmas.Option.{none-some}
 use Rattle.basics.specs.Booleans.{never_both}
 use Rattle.std.proofs.lemmas.Bool.{and_from}
 use Rattle.clap.specs.Words.{Shape, Text, Rule, new_rule, takes}
-use Rattle.clap.specs.Walk.{Row, nothing_held, arg_by_index, arg_by_long, reading_by, values_or_missing}
+use Rattle.clap.specs.Walk.{nothing_held, arg_by_index, arg_by_long, reading_by, values_or_missing}
 use Rattle.clap.specs.Takes.{values_pass, is_given}
 use Rattle.clap.proofs.OnLiterals.{clap_on_literals}
 use Rattle.avr_model.specs.declared.device.Device.{Device as Chip}

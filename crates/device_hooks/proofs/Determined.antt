@@ -1,5 +1,5 @@
 -- The run that devices choose by themselves is one list of choices.
-use Rattle.std.proofs.Common.{arith, suc, zero, ◌≡◌, refl, sym, ap, subst, ◌∙◌, ℕ, ◌<◌, ◌≤◌, ◌-◌, ◌&&◌, ◌||◌, ◌==◌, not, length, inl, inr, Bool, true, false, List, [], ◌∷◌, Option, Some, None, slice_get, slice_set}
+use Rattle.std.proofs.Common.{arith, suc, zero, ◌≡◌, refl, sym, ap, subst, ◌∙◌, ℕ, ◌-◌, ◌&&◌, ◌||◌, ◌==◌, not, length, inl, inr, Bool, true, false, List, [], ◌∷◌, Option, Some, None, slice_get}
 use Rattle.std.proofs.lemmas.List.{length-set}
 use Rattle.std.proofs.Math.ListN.{length-replicate}
 use Rattle.std.specs.Borrow.{Bor}
@@ -9,7 +9,6 @@ use Rattle.witness_replay.specs.Replay.{Report, steps_of}
 use Rattle.device_hooks.specs.declared.hook.Moment.{Moment}
 use Rattle.device_hooks.specs.declared.walk.Walked.{Walked}
 use Rattle.avr_model.specs.declared.choice.Choice.{Choice}
-use Rattle.avr_model.specs.declared.choice.Choice.TheVariants.{Take}
 use Rattle.avr_model.specs.declared.assumption.Entry.{Entry}
 use Rattle.avr_model.specs.Devices.{device_of, ramend}
 use Rattle.avr_model.specs.Vectors.{is_enabled, WATCHDOG}
@@ -17,12 +16,11 @@ use Rattle.avr_model.specs.State.{State, filled}
 use Rattle.avr_model.specs.Step.{Answer, Illegal, Undefined, Overflow, Flagged, Done, step, may_take}
 use Rattle.avr_model.specs.Run.{Machine, IsRun, starting, depth_of, stop_of}
 use Rattle.avr_machine.specs.declared.menu.Menu.{Menu}
-use Rattle.avr_machine.specs.Menu.{has_choice}
 use Rattle.stimulus.specs.Driving.{IsMenuOf, GoesOn, choices_on, machine_after}
 use Rattle.stimulus.specs.Laws.{DepthIsKept}
 use Rattle.device_hooks.specs.declared.devices.Source.{Source}
 use Rattle.device_hooks.specs.Spelling.{Setup}
-use Rattle.device_hooks.specs.Due.{Progress, begun, choice_on, next_on, passed_at, pick, first_ready, or_else, is_ready}
+use Rattle.device_hooks.specs.Due.{Progress, begun, choice_on, next_on, passed_at, first_ready, or_else, is_ready}
 use Rattle.device_hooks.specs.Hooks.{Answering, Either, stands_in, MayAnswer, IsHook}
 use Rattle.device_hooks.specs.Simulating.{Asked, Chooses, picked, chosen, initial, simulation_of}
 use Rattle.device_hooks.specs.Midway.{Walks}

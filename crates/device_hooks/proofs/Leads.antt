@@ -1,7 +1,6 @@
 -- Runs that go on step by step.
 use Rattle.std.proofs.Common.{arith, suc, ◌≡◌, ◌≢◌, refl, sym, ap, subst, ◌∙◌, ℕ, ◌<◌, ◌≤◌, ◌-◌, ◌+◌, ◌++◌, length, Bool, true, List, [], ◌∷◌, Some, None}
 use Rattle.std.proofs.lemmas.List.{append-nil, length-append}
-use Rattle.std.proofs.lemmas.Option.{none-some, same_Some}
 use Rattle.basics.specs.Numbers.{less_none, less_one_more}
 use Rattle.stimulus.proofs.AllLaws.{done_of}
 use Rattle.stimulus.proofs.Runs.{stopped}
@@ -11,14 +10,14 @@ use Rattle.avr_model.specs.declared.choice.Stop.TheVariants as stop
 use Rattle.avr_model.specs.declared.choice.StepResult.TheVariants as said
 use Rattle.avr_model.specs.declared.assumption.Entry.{Entry}
 use Rattle.avr_model.specs.State.{State}
-use Rattle.avr_model.specs.Step.{Answer, Illegal, Undefined, Overflow, Flagged, Done, step, result_of}
+use Rattle.avr_model.specs.Step.{Answer, Illegal, Done, step, result_of}
 use Rattle.avr_model.specs.Run.{Machine, IsRun, RunsOn, HasBytes, moved_on, states_of, states_on, stop_of, stop_on}
 use Rattle.stimulus.specs.Driving.{GoesOn, machine_after, stop_at}
 use Rattle.witness_replay.specs.Replay.{steps_of}
 use Rattle.device_hooks.specs.Spelling.{Setup}
-use Rattle.device_hooks.specs.Due.{Progress, begun, choice_on, next_on}
+use Rattle.device_hooks.specs.Due.{Progress, begun, next_on}
 use Rattle.device_hooks.specs.Hooks.{Answering}
-use Rattle.device_hooks.specs.Simulating.{Asked, Chooses}
+use Rattle.device_hooks.specs.Simulating.{Chooses}
 use Rattle.device_hooks.specs.Traces.{Leads}
 use Rattle.device_hooks.proofs.Determined.{next_step}
 use Rattle.device_hooks.specs.Midway.{IsChosen, kept_on, Walks}

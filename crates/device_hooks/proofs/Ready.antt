@@ -1,10 +1,8 @@
 -- The first source that is ready.
 use Rattle.std.proofs.Common.{arith, zero, suc, ◌≡◌, refl, sym, ap, ◌∙◌, ℕ, ◌+◌, ◌-◌, ◌<◌, Bool, true, false, ◌&&◌, inl, inr, Option, Some, None, slice_get}
-use Rattle.avr_model.specs.State.{State}
-use Rattle.avr_model.specs.Step.{may_take}
 use Rattle.device_hooks.specs.declared.devices.Source.{Source}
 use Rattle.device_hooks.specs.Spelling.{Setup}
-use Rattle.device_hooks.specs.Due.{is_of, is_due, is_ready_source, is_ready, first_from, first_ready}
+use Rattle.device_hooks.specs.Due.{is_of, is_due, is_ready_source, first_from}
 use Rattle.std.proofs.lemmas.Bool.{false≢true}
 use Rattle.basics.specs.Booleans.{last_of_three}
 use Rattle.basics.specs.Lists.{chosen}

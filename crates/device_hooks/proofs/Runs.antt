@@ -1,5 +1,5 @@
 -- Runs that devices choose are runs of the machine.
-use Rattle.std.proofs.Common.{arith, zero, suc, ◌≡◌, ◌≢◌, refl, sym, ap, subst, ◌∙◌, ℕ, ◌<◌, ◌≤◌, Bool, true, false, if◌then◌else◌, inl, inr, ◌⊎◌, List, [], ◌∷◌, Option, Some, None, slice_get, slice_index_or, lit<}
+use Rattle.std.proofs.Common.{zero, suc, ◌≡◌, ◌≢◌, refl, subst, ℕ, ◌<◌, Bool, true, false, if◌then◌else◌, inl, inr, ◌⊎◌, List, [], ◌∷◌, Option, Some, None, slice_get, slice_index_or, lit<}
 use Rattle.std.specs.List.{AllByRecursion}
 use Rattle.basics.specs.Booleans.{last_of_three}
 use Rattle.std.proofs.lemmas.Option.{none-some}
@@ -12,15 +12,15 @@ use Rattle.avr_model.specs.Devices.{device_of}
 use Rattle.avr_model.specs.Sites.{instruction_at}
 use Rattle.avr_model.specs.State.{State}
 use Rattle.avr_model.specs.Step.{Answer, Illegal, Undefined, Overflow, Flagged, Done, step, take, entering, may_take, result_of}
-use Rattle.avr_model.specs.Run.{HasBytes, IsRun, RunsOn, Bounded}
+use Rattle.avr_model.specs.Run.{HasBytes, IsRun, RunsOn}
 use Rattle.stimulus.specs.Driving.{choices_on}
 use Rattle.device_hooks.specs.declared.devices.Kind.{Kind}
 use Rattle.device_hooks.specs.declared.devices.Kind.TheVariants.{Timer, Bytes}
 use Rattle.device_hooks.specs.declared.devices.Source.{Source}
 use Rattle.device_hooks.specs.Spelling.{Setup, IsKind, IsSource, IsSetup}
-use Rattle.device_hooks.specs.Due.{Progress, begun, is_of, is_due, is_ready_source, is_ready, first_ready, or_else, pick, choice_at, choice_on, answered, next_on, passed_at, input_after, taken_of}
+use Rattle.device_hooks.specs.Due.{Progress, begun, is_of, is_due, is_ready_source, is_ready, first_ready, or_else, choice_at, choice_on, answered, next_on, passed_at, input_after, taken_of}
 use Rattle.device_hooks.specs.Simulating.{picked, chosen, initial, simulated}
-use Rattle.device_hooks.specs.Laws.{IsRunFromReset, SimulationsAreRuns, SimulationsAreBounded}
+use Rattle.device_hooks.specs.Laws.{SimulationsAreRuns, SimulationsAreBounded}
 use Rattle.device_hooks.proofs.Ready.{first_is}
 
 -- ---- which choices aren't illegal

@@ -1,5 +1,5 @@
 -- When a source asks, and what is chosen then.
-use Rattle.std.specs.Prelude.{ℕ, ◌+◌, ◌*◌, ◌&&◌, not, nat_le, nat_lt, zero, suc, Bool, true, false, if◌then◌else◌, List, [], ◌∷◌, length, replicate, Option, Some, None, slice_get, slice_index_or, slice_set}
+use Rattle.std.specs.Prelude.{ℕ, ◌+◌, ◌*◌, ◌&&◌, not, nat_le, nat_lt, zero, suc, Bool, true, false, if◌then◌else◌, List, length, replicate, Option, Some, None, slice_get, slice_index_or, slice_set}
 use Rattle.avr_model.specs.declared.choice.Choice.{Choice}
 use Rattle.avr_model.specs.declared.choice.Choice.TheVariants.{Go, Take}
 use Rattle.device_hooks.specs.declared.devices.Kind.{Kind}

@@ -4,7 +4,7 @@ use Rattle.avr_model.specs.declared.choice.Choice.{Choice}
 use Rattle.avr_model.specs.declared.assumption.Entry.{Entry}
 use Rattle.avr_model.specs.Devices.{device_of}
 use Rattle.avr_model.specs.State.{State, filled}
-use Rattle.avr_model.specs.Step.{Answer, Done, step, may_take}
+use Rattle.avr_model.specs.Step.{step, may_take}
 use Rattle.avr_model.specs.Run.{depth_of, stop_of}
 use Rattle.avr_machine.specs.declared.menu.Menu.{Menu}
 use Rattle.stimulus.specs.Driving.{IsMenuOf, GoesOn, choices_on}

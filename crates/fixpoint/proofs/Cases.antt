@@ -1,5 +1,5 @@
 -- Where the targets of a look come from.
-use Rattle.std.proofs.Common.{◌≡◌, refl, sym, ap, ◌∙◌, subst, ℕ, ⊎_elim, List, [], ◌++◌, map, Option, Some, None, Contains}
+use Rattle.std.proofs.Common.{◌≡◌, refl, sym, ap, ◌∙◌, subst, ℕ, ⊎_elim, List, ◌++◌, map, Option, Some, None, Contains}
 use Rattle.std.proofs.lemmas.List.Elements.{Contains-append_cases}
 use Rattle.std.specs.FinMap.{get}
 use Rattle.basics.specs.Items.{only_one_in, none_in}

@@ -16,7 +16,7 @@ use Rattle.edge_laws.proofs.AllLaws.{edges_lead_to_nodes}
 use Rattle.call_graph.proofs.AllLaws.{each_gathered, gathered_in}
 use Rattle.instance_nesting.specs.Nestings.{AreOnce, TellsAll}
 use Rattle.instance_nesting.specs.declared.verdict.NestingVerdict.TheVariants as verdicts
-use Rattle.round_rules.specs.Families.{Family, nodes_of, Has, HasInst, FitsLimits, Lands, AreFormed}
+use Rattle.round_rules.specs.Families.{Family, nodes_of, Has, HasInst, FitsLimits, AreFormed}
 use Rattle.round_laws.specs.Closed.{IsMade}
 use Rattle.round_laws.proofs.AllLaws.{never_both, formed_nodes, member_has}
 use Rattle.round_steps.specs.declared.looking.Look.{Look}
@@ -28,7 +28,7 @@ use Rattle.round_steps.specs.Targets.{targets_of, all_targets}
 use Rattle.round_steps.specs.Gathers.{AreBeyond}
 use Rattle.fixpoint.specs.Progress.{IsOwn, ComesBack, AreKnown, IsFound}
 use Rattle.fixpoint.specs.Confirm.{AreKnownAt, LandAt}
-use Rattle.fixpoint.proofs.Looked.{seen_node, look_clean, look_node}
+use Rattle.fixpoint.proofs.Looked.{look_clean, look_node}
 use Rattle.fixpoint.proofs.Known.{look_known, still_known, notes_so}
 use Rattle.fixpoint.proofs.Aims.{look_aims, own_met, entered_met, edge_cases}
 use Rattle.fixpoint.proofs.Ready.{nests_passes}

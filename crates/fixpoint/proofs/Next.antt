@@ -13,7 +13,6 @@ use Rattle.mask_states.specs.Total.{node_total}
 use Rattle.mask_states.proofs.AllLaws.{keys_are_ordered}
 use Rattle.local_rules.specs.declared.local.Node.{Node}
 use Rattle.local_laws.proofs.AllLaws.{local_parts_are_monotone}
-use Rattle.edge_rules.specs.Edges.{IsFaultless, raw_of}
 use Rattle.edge_laws.specs.Laws.{with_state}
 use Rattle.edge_laws.proofs.AllLaws.{edges_grow}
 use Rattle.family_table.specs.declared.crossings.Crossing.{Crossing}

@@ -1,5 +1,5 @@
 -- Nodes are looked at in whatever order: the family stays one that is made of the first by where its edges lead.
-use Rattle.std.proofs.Common.{◌≡◌, refl, sym, ap, ap₂, ◌∙◌, subst, ℕ, ◌^◌, ◌+◌, ◌-◌, ◌*◌, ◌<◌, ◌≤◌, inl, inr, ⊎_elim, Bool, true, false, ◌&&◌, ◌==◌, List, [], ◌∷◌, length, Option, Some, None, Contains, arith}
+use Rattle.std.proofs.Common.{◌≡◌, refl, sym, ap, ap₂, ◌∙◌, subst, ℕ, ◌^◌, ◌+◌, ◌-◌, ◌*◌, ◌<◌, ◌≤◌, ⊎_elim, Bool, true, false, ◌&&◌, ◌==◌, List, [], ◌∷◌, length, Option, Some, None, Contains, arith}
 use Rattle.std.specs.FinMap.{get, empty}
 use Rattle.std.proofs.lemmas.Option.{same_Some}
 use Rattle.basics.specs.Items.{none_in}
@@ -25,29 +25,26 @@ use Rattle.local_rules.specs.declared.local.Node.{Node}
 use Rattle.local_rules.specs.Cover.{IsNodeIn}
 use Rattle.local_laws.specs.Laws.{AreNodesIn}
 use Rattle.local_laws.proofs.AllLaws.{local_parts_fit, local_parts_are_monotone}
-use Rattle.edge_rules.specs.declared.edge.Edge.{Edge}
-use Rattle.edge_rules.specs.Edges.{IsFaultless, raw_of, Enters, by_call, by_interrupt, pick_back, returned_key, target}
+use Rattle.edge_rules.specs.Edges.{Enters, by_call, by_interrupt, pick_back, returned_key}
 use Rattle.edge_rules.specs.Roots.{root_of}
 use Rattle.edge_laws.specs.Laws.{with_state}
 use Rattle.edge_laws.proofs.AllLaws.{edges_lead_to_nodes, edges_grow}
-use Rattle.call_graph.specs.declared.ways.Way.{Way}
 use Rattle.family_table.specs.declared.crossings.Crossing.{Crossing}
-use Rattle.family_table.specs.Crossings.{IsCrossing}
 use Rattle.instance_nesting.specs.Nestings.{Noted, AreOnce}
-use Rattle.round_rules.specs.Families.{Family, nodes_of, Has, HasInst, FitsLimits, Lands, Below, AreFormed, HasNoFault, LandIn, IsClosed, cells}
+use Rattle.round_rules.specs.Families.{Family, nodes_of, Has, HasInst, FitsLimits, Lands, Below, AreFormed, HasNoFault, IsClosed, cells}
 use Rattle.round_rules.specs.Rounds.{first, Passes}
 use Rattle.round_laws.specs.Steps.{raised_all, weight}
 use Rattle.round_laws.proofs.AllLaws.{lands_up, formed_nodes, member_has, rounds_are_joins, get_same}
 use Rattle.round_steps.specs.declared.looking.Look.{Look}
 use Rattle.round_steps.specs.declared.noting.Notes.{Notes}
 use Rattle.round_steps.specs.Looks.{IsLook}
-use Rattle.round_steps.specs.Notings.{blank, AnyHas, caller, leaver, CallsAt, LeavesAt, AreNoted}
+use Rattle.round_steps.specs.Notings.{blank, AnyHas, CallsAt, LeavesAt, AreNoted}
 use Rattle.round_steps.specs.Targets.{targets_of, all_targets}
 use Rattle.round_steps.specs.Gathers.{AreBeyond}
 use Rattle.round_laws.specs.Closed.{LandWithEdges, IsMade}
 use Rattle.fixpoint.specs.Order.{HasEntered, HasLeft, WereTrue, IsUnderWay}
 use Rattle.fixpoint.specs.OrderLaws.{OrdersEnd}
-use Rattle.fixpoint.specs.Progress.{IsOwn, comes_back, IsFound}
+use Rattle.fixpoint.specs.Progress.{comes_back, IsFound}
 use Rattle.fixpoint.proofs.Looked.{seen_node, look_clean, look_exit, look_way}
 use Rattle.fixpoint.proofs.Aims.{IsAim, own_aim, back_aim}
 use Rattle.fixpoint.proofs.Cases.{look_cases}

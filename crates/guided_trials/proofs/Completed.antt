@@ -62,9 +62,6 @@ module _ (words : List ℕ) (A : List Entry) (n : ℕ) (c : Claim) where
   its_own None e = absurd (let wrong = e in cc)
   its_own (Some p) e = refl
 
-  pub as_it_is : is_some c.witness ≡ true → IsCompleted words A n c c
-  as_it_is e = record { same = refl; schedule = its_own c.witness e }
-
   pub with_found : (d : Claim) (found : Option Plan) → c.witness ≡ None → IsFound words A (guide_of words A c) n found → d ≡ record c { witness = found } → IsCompleted words A n c d
   with_found d found none h is =
       subst (IsCompleted words A n c) (sym is)

@@ -95,9 +95,6 @@ pub record InFrameIn (followed : Bool) (m : State) (o : Origin) (k : NodeKey) (s
   pub root : k.inst.kind ≡ Root → o.base ≡ ramend m.device
   pub base_word : o.base < 65536
 
-abbrev pub InFrame : State → Origin → NodeKey → AbsState → Type 0
-InFrame m o k s = InFrameIn false m o k s
-
 -- a closed offset is at most the base, and then also leaves the stack pointer in SRAM
 abbrev pub IsWithinBase : ℕ → SpForm → Type 0
 IsWithinBase base (Closed offset) = offset ≤ base

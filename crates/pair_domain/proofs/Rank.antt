@@ -53,9 +53,6 @@ interval_step : (i j : Interval) → IntervalFits i → IsIntervalWithin i j →
 interval_step i j fits le =
     step_of interval_of width interval_rank (λ p. refl) (i.low, i.high) (j.low, j.high) (ends_step i.low i.high j.low j.high fits.ordered le.low le.high)
 
-up_of : ℕ → ℕ × ℕ → SumTag
-up_of r p = sum.Up r p.0 p.1
-
 sum_step : (t u : SumTag) → SumFits t → SumFits u → IsSumWithin t u → Step sum_rank t u
 sum_step sum.None sum.None fits more le = inl refl
 sum_step (sum.Up r a b) sum.None fits more le = inr (omega (arith, fits.near))

@@ -72,10 +72,6 @@ facts_within f g m n near le =
     let join = facts_least f g m n in
     facts_both (facts_join f g) f (count_joined f g m n) m (sums_are_ordered.near f.sum g.sum) near (join.least f (facts_same f) le) join.first
 
--- facts that are joined with some that aren't within them grow
-pub facts_grow : (f g : PairFacts) → length f.intervals ≡ 16 → length g.intervals ≡ 16 → (AreFactsWithin g f → ⊥) → facts_join f g ≡ f → ⊥
-facts_grow f g m n not_within same = not_within (subst (AreFactsWithin g) same (facts_least f g m n).second)
-
 pub interval_at-nothing : (n : ℕ) → n < 16 → interval_at nothing.intervals n ≡ whole
 interval_at-nothing n h = grind (arith, get_or-replicate)
 

@@ -213,10 +213,6 @@ compare_take k w c e =
           (first.0 ∙ ap (λ (xs : List ℕ). hex_digits x.0.0 2 ++ xs) second.0 ∙ t.0, t.1)
     ]
 
-size_side : (y : Side) → length (side_text y) ≡ 3
-size_side (side.Byte b) = omega (arith, length_hex b 2)
-size_side (side.Register q) = omega (arith, length_hex q 2)
-
 -- digits and what stands behind them are no dash
 digits_first : (x : ℕ) (xs : List ℕ) → bytes_eq (hex_digits x 2 ++ xs) (codes "-") ≡ false
 digits_first x xs = not_dash (hex_digits x 2 ++ xs) (omega (arith, length-append (hex_digits x 2) xs, length_hex x 2))

@@ -1,35 +1,31 @@
 -- The rounds end once, and with no refusal where there is a valid certificate.
-use Rattle.std.proofs.Common.{◌≡◌, refl, sym, ap, ap₂, ◌∙◌, subst, ℕ, zero, suc, ◌<◌, ◌≤◌, inl, inr, ⊎_elim, List, Option, Some, Contains, arith}
+use Rattle.std.proofs.Common.{◌≡◌, refl, sym, ap, ap₂, ◌∙◌, subst, ℕ, zero, suc, ◌<◌, ◌≤◌, inl, inr, ⊎_elim, List, Option, arith}
 use Rattle.std.proofs.lemmas.Bool.{cases_lt, cases_order}
-use Rattle.std.specs.FinMap.{len}
 use Rattle.avr_model.specs.declared.assumption.Entry.{Entry}
 use Rattle.avr_model.specs.Devices.{device_of}
-use Rattle.avr_model.specs.State.{SIZE}
 use Rattle.avr_model.specs.Vectors.{vector_word}
 use Rattle.mask_states.specs.declared.keys.InstKey.{InstKey}
 use Rattle.mask_states.specs.Keys.{root_inst}
-use Rattle.mask_states.specs.declared.keys.Kind.{Kind}
-use Rattle.mask_states.specs.declared.keys.Kind.TheVariants.{Vector}
 use Rattle.local_rules.specs.declared.local.NodeFault.{NodeFault}
 use Rattle.certificate.specs.declared.limit.Limit.{Limit}
 use Rattle.certificate.specs.declared.limit.Limit.TheVariants.{Nodes, Cells}
 use Rattle.certificate.specs.Claims.{Claim, IsClaim}
-use Rattle.certificate.specs.Insts.{rank_in, need_in}
+use Rattle.certificate.specs.Insts.{need_in}
 use Rattle.witness_replay.specs.Spelling.{Plan}
-use Rattle.certificate.specs.Valid.{IsValid, IsAttained, MeetsConditions}
+use Rattle.certificate.specs.Valid.{IsValid, IsAttained}
 use Rattle.round_rules.specs.declared.refusal.Refusal.{Refusal}
 use Rattle.round_rules.specs.Families.{Family, nodes_of, Below, HasNoFault, IsClosed, FitsLimits}
-use Rattle.round_rules.specs.Rounds.{Reaches, IsAcyclic, AreRanks, AreNeeds, IsRootNeed, Passes, Comes}
-use Rattle.round_rules.specs.Refusals.{Test, over, faulty, re_entry, recursion, too_deep, FaultAt, IsLeastFault, FirstHolds, refusal_of, IsReEntry, IsRecursion, EndsBy, IsRefused, IsSolved, GoesBeyond}
+use Rattle.round_rules.specs.Rounds.{IsAcyclic, AreRanks, AreNeeds, IsRootNeed, Passes, Comes}
+use Rattle.round_rules.specs.Refusals.{Test, over, faulty, re_entry, recursion, too_deep, FaultAt, FirstHolds, refusal_of, IsReEntry, IsRecursion, IsRefused, IsSolved, GoesBeyond}
 use Rattle.round_rules.specs.Solutions.{IsShown, IsSolution}
 use Rattle.round_laws.specs.Laws.{IsValidFamily, RoundsAreLeast, RoundsEndOnce, SolutionsAreValid}
-use Rattle.round_laws.proofs.Nodes.{has_member, member_has}
+use Rattle.round_laws.proofs.Nodes.{has_member}
 use Rattle.round_laws.proofs.Parts.{never_both}
 use Rattle.round_laws.proofs.Faults.{later_once}
 use Rattle.round_laws.proofs.Stands.{stands}
 use Rattle.round_laws.proofs.Under.{under_root}
 use Rattle.round_laws.proofs.Sums.{below_few, below_cells}
-use Rattle.round_laws.proofs.Least.{lands_covered, formed_nodes, comes_formed, comes_same, comes_root, none_faulty, ranks_of, needs_of, comes_below, reached_lower, entered_word}
+use Rattle.round_laws.proofs.Least.{lands_covered, comes_formed, comes_same, comes_root, none_faulty, ranks_of, needs_of, comes_below, reached_lower, entered_word}
 
 module _ (words : List ℕ) (A : List Entry) where
   -- ---- no refusal where a family is valid

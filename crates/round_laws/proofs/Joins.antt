@@ -21,19 +21,17 @@ use Rattle.local_rules.specs.Cover.{IsNodeIn}
 use Rattle.local_laws.specs.Laws.{AreNodesIn}
 use Rattle.local_rules.specs.Local.{place_by, placed, joined_onto}
 use Rattle.local_laws.proofs.AllLaws.{joins_are_least, each_of}
-use Rattle.edge_rules.specs.declared.edge.Edge.{Edge}
-use Rattle.edge_rules.specs.Edges.{IsEdge, target}
+use Rattle.edge_rules.specs.Edges.{target}
 use Rattle.edge_rules.specs.Families.{IsCovered}
 use Rattle.abs_state.specs.Rank.{state_rank}
 use Rattle.edge_laws.specs.Laws.{with_state}
 use Rattle.abs_state.proofs.AllLaws.{states_rise}
-use Rattle.round_rules.specs.Families.{Family, node_of, nodes_of, Has, Lands, Below, AreFormed}
+use Rattle.round_rules.specs.Families.{Family, node_of, Lands, Below, AreFormed}
 use Rattle.certificate.specs.Claims.{cells_of}
 use Rattle.round_rules.specs.Rounds.{IsNext}
 use Rattle.round_laws.specs.Steps.{joined_with, raised, raised_all, IsRoundOf, AreJoined, weight_of, weight}
 use Rattle.round_laws.specs.Laws.{RoundsAreJoins}
 use Rattle.round_laws.proofs.Keys.{node_exact, at_keys, get_same, get_other}
-use Rattle.round_laws.proofs.Nodes.{has_member, member_has}
 use Rattle.round_laws.proofs.Least.{lands_up, formed_nodes}
 
 -- ---- one join

@@ -15,10 +15,9 @@ use Rattle.local_rules.specs.declared.local.Node.{Node}
 use Rattle.local_rules.specs.Cover.{IsNodeIn}
 use Rattle.local_laws.specs.Laws.{AreNodesIn}
 use Rattle.mask_states.specs.declared.keys.EdgeKind.{EdgeKind}
-use Rattle.edge_rules.specs.declared.edge.Edge.{Edge}
 use Rattle.mask_states.specs.declared.keys.Kind.TheVariants.{Vector}
 use Rattle.avr_model.specs.Vectors.{vector_word}
-use Rattle.edge_rules.specs.Edges.{Enters, by_call, by_interrupt, IsEdge, target}
+use Rattle.edge_rules.specs.Edges.{Enters, by_call, by_interrupt, target}
 use Rattle.edge_rules.specs.Families.{IsCovered}
 use Rattle.edge_rules.specs.Roots.{root_of}
 use Rattle.edge_laws.specs.Laws.{with_state}

@@ -1,12 +1,11 @@
 -- Nodes without faults, by their local parts.
-use Rattle.std.proofs.Common.{◌≡◌, refl, sym, ap, ◌∙◌, subst, ℕ, List, [], ◌∷◌, Result, Ok, Err}
+use Rattle.std.proofs.Common.{◌≡◌, refl, sym, ap, ◌∙◌, ℕ, List, [], ◌∷◌, Ok, Err}
 use Rattle.edge_laws.proofs.AllLaws.{part_of}
 use Rattle.avr_model.specs.declared.assumption.Entry.{Entry}
 use Rattle.abs_state.specs.declared.state.AbsState.{AbsState}
 use Rattle.mask_states.specs.declared.keys.NodeKey.{NodeKey}
 use Rattle.local_rules.specs.declared.local.Local.{Local}
 use Rattle.local_rules.specs.declared.local.NodeFault.{NodeFault}
-use Rattle.local_rules.specs.Faults.{least}
 use Rattle.local_rules.specs.Local.{raw, local, settled}
 
 pub ok_of : (words : List ℕ) (A : List Entry) (k : NodeKey) (s : AbsState) → (raw words A k s).faults ≡ [] → local words A k s ≡ Ok (part_of (raw words A k s))

@@ -1,5 +1,5 @@
 -- What holds of the node at reset and is kept along edges holds of each node to which the rounds come.
-use Rattle.std.proofs.Common.{◌≡◌, refl, sym, ap, ◌∙◌, subst, ℕ, zero, suc, Bool, true, false, cond, List, Some, None, Contains}
+use Rattle.std.proofs.Common.{◌≡◌, refl, sym, ap, ◌∙◌, subst, ℕ, zero, suc, Bool, true, false, cond, List, Some, None}
 use Rattle.std.specs.declared.cmp.Ordering.TheVariants.{Equal}
 use Rattle.std.specs.FinMap.{get, retain_keys, get-retain_keys}
 use Rattle.avr_model.specs.declared.assumption.Entry.{Entry}
@@ -8,8 +8,7 @@ use Rattle.mask_states.specs.declared.keys.NodeKey.{NodeKey}
 use Rattle.mask_states.specs.Keys.{root_inst, entry_key}
 use Rattle.mask_states.specs.Order.{node_cmp}
 use Rattle.local_rules.specs.declared.local.Node.{Node}
-use Rattle.edge_rules.specs.declared.edge.Edge.{Edge}
-use Rattle.edge_rules.specs.Edges.{IsEdge, target}
+use Rattle.edge_rules.specs.Edges.{target}
 use Rattle.edge_laws.specs.Laws.{with_state}
 use Rattle.edge_laws.proofs.AllLaws.{edges_grow}
 use Rattle.round_rules.specs.Families.{Family, nodes_of, Has, Lands, Below, AreFormed, HasNoFault, LandIn}

@@ -1,11 +1,11 @@
 -- The family that a certificate stands for.
-use Rattle.std.proofs.Common.{◌≡◌, refl, sym, ap, ap₂, ◌∙◌, subst, ℕ, zero, suc, ◌+◌, ◌<◌, ◌≤◌, List, [], ◌∷◌, map, length, Some, None, slice_get, Contains, arith}
+use Rattle.std.proofs.Common.{◌≡◌, refl, sym, ap, ap₂, ◌∙◌, subst, ℕ, zero, suc, ◌≤◌, List, [], ◌∷◌, map, length, Some, slice_get, arith}
 use Rattle.std.specs.Prelude.{T}
 use Rattle.std.specs.List.{AllByRecursion}
 use Rattle.std.specs.List.Sorted.{IsStrictlySortedBy}
 use Rattle.std.specs.declared.cmp.Ordering.TheVariants.{Less}
 use Rattle.std.specs.Ordering.{is_lt}
-use Rattle.std.specs.FinMap.{entries, from_sorted, entries-from_sorted, len, len-entries}
+use Rattle.std.specs.FinMap.{entries, from_sorted, entries-from_sorted, len-entries}
 use Rattle.std.specs.FinMap.Entries.{is_sorted, below_all}
 use Rattle.std.proofs.lemmas.Option.{same_Some}
 use Rattle.basics.specs.Booleans.{join_tests, so_if_less}
@@ -17,7 +17,7 @@ use Rattle.local_rules.specs.declared.local.Node.{Node}
 use Rattle.edge_rules.specs.declared.seeded.NodeForm.{NodeForm}
 use Rattle.edge_rules.specs.Expansion.{Seeds, HasKeyAt}
 use Rattle.edge_rules.specs.Families.{IsSound}
-use Rattle.certificate.specs.Claims.{Claim, node_keys, cells_of, most_nodes, most_cells}
+use Rattle.certificate.specs.Claims.{Claim, node_keys, cells_of, most_cells}
 use Rattle.certificate.specs.Insts.{rank_in, need_in}
 use Rattle.certificate.proofs.AllLaws.{conditions_make_families_sound}
 use Rattle.round_rules.specs.Families.{Family, node_of, nodes_of}

@@ -1,6 +1,5 @@
 -- The graph of a family tells of its cycles, ranks and needs.
-use Rattle.std.proofs.Common.{◌≡◌, ◌≢◌, refl, sym, ap, ◌∙◌, subst, ℕ, zero, suc, ◌+◌, ◌<◌, ◌≤◌, ◌⊎◌, inl, inr, ⊎_elim, Bool, true, false, if◌then◌else◌, List, [], ◌∷◌, map, length, Option, Some, None, slice_get, slice_index, arith}
-use Rattle.std.proofs.lemmas.Bool.{cases_lt}
+use Rattle.std.proofs.Common.{◌≡◌, refl, sym, ap, ◌∙◌, subst, ℕ, zero, suc, ◌+◌, ◌<◌, ◌≤◌, ◌⊎◌, inl, inr, ⊎_elim, Bool, true, false, if◌then◌else◌, List, [], ◌∷◌, map, length, Option, Some, None, slice_get, slice_index, arith}
 use Rattle.std.proofs.lemmas.Option.{none-some, same_Some, slice_get_within}
 use Rattle.basics.specs.Lists.{get_inside}
 use Rattle.avr_model.specs.declared.assumption.Entry.{Entry}
@@ -10,16 +9,15 @@ use Rattle.mask_states.specs.declared.keys.Kind.TheVariants.{Root, Call, Vector}
 use Rattle.mask_states.specs.Keys.{root_inst}
 use Rattle.mask_states.specs.Order.{same_inst}
 use Rattle.mask_states.proofs.AllLaws.{keys_are_ordered}
-use Rattle.local_rules.specs.declared.local.Node.{Node}
 use Rattle.nesting_bound.specs.declared.graph.GraphInst.{GraphInst}
 use Rattle.nesting_bound.specs.declared.graph.Entered.{Entered}
 use Rattle.nesting_bound.specs.Graph as graph
 use Rattle.nesting_bound.specs.Least.{IsLeast}
 use Rattle.nesting_bound.specs.Cycle.{IsNamed, IsNoLater, group_of, number_of}
 use Rattle.round_rules.specs.Refusals.{IsReEntry, IsRecursion}
-use Rattle.round_rules.specs.Families.{Family, Has, HasInst}
+use Rattle.round_rules.specs.Families.{Family}
 use Rattle.round_rules.specs.Rounds.{Entering, Reaches, once, more, IsAcyclic, AreRanks, AreNeeds, IsRootNeed}
-use Rattle.round_laws.specs.Graphs.{IsNumber, StandsFor, HasEntered, IsEntered, IsGraphOver, valued, GraphsTell}
+use Rattle.round_laws.specs.Graphs.{IsNumber, StandsFor, IsGraphOver, valued, GraphsTell}
 
 -- ---- values by numbers
 

@@ -1,5 +1,5 @@
 -- Each instance with a node is entered, over others, from the root: its need is no greater than the root's.
-use Rattle.std.proofs.Common.{◌≡◌, ◌≢◌, refl, sym, ap, ◌∙◌, subst, ℕ, zero, suc, ◌+◌, ◌<◌, ◌≤◌, Bool, true, false, cond, nat_le, List, Some, None, Option, Contains, arith}
+use Rattle.std.proofs.Common.{◌≡◌, refl, sym, ap, ◌∙◌, subst, ℕ, zero, suc, ◌≤◌, Bool, true, false, cond, nat_le, List, Some, None, arith}
 use Rattle.std.proofs.lemmas.Bool.Decides.{nat_tests}
 use Rattle.std.specs.declared.cmp.Ordering.TheVariants.{Equal}
 use Rattle.std.specs.FinMap.{get, retain_keys, get-retain_keys}
@@ -9,7 +9,7 @@ use Rattle.abs_state.specs.declared.state.AbsState.{AbsState}
 use Rattle.mask_states.specs.declared.keys.InstKey.{InstKey}
 use Rattle.mask_states.specs.declared.keys.EdgeKind.{EdgeKind}
 use Rattle.mask_states.specs.declared.keys.NodeKey.{NodeKey}
-use Rattle.mask_states.specs.Keys.{root_inst, entry_key}
+use Rattle.mask_states.specs.Keys.{root_inst}
 use Rattle.mask_states.specs.Order.{node_cmp}
 use Rattle.local_rules.specs.declared.local.Node.{Node}
 use Rattle.local_laws.proofs.AllLaws.{joins_are_least, local_parts_are_nodes}
@@ -18,7 +18,7 @@ use Rattle.edge_rules.specs.Edges.{raw_of, Enters, IsEdge, moving, entering, ret
 use Rattle.edge_laws.specs.Laws.{with_state}
 use Rattle.edge_laws.proofs.AllLaws.{edges_grow}
 use Rattle.round_rules.specs.Families.{Family, nodes_of, Has, Lands, Below, AreFormed, HasInst, HasNoFault, LandIn}
-use Rattle.round_rules.specs.Rounds.{AreNeeds, IsNext, first, Comes}
+use Rattle.round_rules.specs.Rounds.{AreNeeds, IsNext, Comes}
 use Rattle.round_laws.proofs.Keys.{node_exact}
 use Rattle.round_laws.proofs.Least.{comes_formed, first_has}
 

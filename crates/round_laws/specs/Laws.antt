@@ -1,17 +1,15 @@
 -- Laws of families and rounds.
-use Rattle.std.specs.Prelude.{ℕ, Bool, ◌*◌, ◌≡◌, ◌<◌, ◌≤◌, ◌↔◌, ◌⊎◌, List, Contains, Some}
-use Rattle.std.specs.FinMap.{get, len}
+use Rattle.std.specs.Prelude.{ℕ, Bool, ◌*◌, ◌≡◌, ◌<◌, ◌≤◌, ◌↔◌, ◌⊎◌, List, Contains}
+use Rattle.std.specs.FinMap.{len}
 use Rattle.avr_model.specs.declared.assumption.Entry.{Entry}
 use Rattle.avr_model.specs.Assumptions.{has_pairs}
-use Rattle.avr_model.specs.State.{SIZE}
 use Rattle.mask_states.specs.declared.keys.InstKey.{InstKey}
 use Rattle.mask_states.specs.Keys.{root_inst}
 use Rattle.local_rules.specs.declared.local.Node.{Node}
 use Rattle.local_rules.specs.Cover.{IsNodeIn}
 use Rattle.local_laws.specs.Laws.{AreNodesIn}
-use Rattle.edge_rules.specs.Families.{Family as Shown, IsSound as IsSoundFamily}
+use Rattle.edge_rules.specs.Families.{IsSound as IsSoundFamily}
 use Rattle.certificate.specs.Claims.{Claim, IsClaim}
-use Rattle.certificate.specs.Insts.{rank_in, need_in}
 use Rattle.certificate.specs.Valid.{IsValid}
 use Rattle.round_rules.specs.declared.refusal.Refusal.{Refusal}
 use Rattle.round_rules.specs.Families.{Family, nodes_of, Has, Below, AreFormed, HasInst, HasNoFault, cells, FitsLimits}

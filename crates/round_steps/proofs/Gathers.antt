@@ -1,5 +1,5 @@
 -- Targets as they are gathered.
-use Rattle.std.proofs.Common.{◌≡◌, ◌≢◌, refl, sym, ap, ◌∙◌, subst, ◌⊎◌, inl, inr, ⊎_elim, List, [], ◌∷◌, ◌++◌, Bool, Some, Contains, append_assoc}
+use Rattle.std.proofs.Common.{◌≡◌, refl, sym, ap, ◌∙◌, subst, ◌⊎◌, inl, inr, ⊎_elim, List, [], ◌∷◌, ◌++◌, Bool, Some, append_assoc}
 use Rattle.std.proofs.lemmas.List.{append-nil}
 use Rattle.std.proofs.lemmas.List.Elements.{Contains-append_left, Contains-push, Contains-push_cases}
 use Rattle.std.specs.FinMap.{get, empty, get-empty}
@@ -18,7 +18,7 @@ use Rattle.edge_rules.specs.Views.{IsOwnNode}
 use Rattle.call_graph.specs.Next.{gathered}
 use Rattle.round_rules.specs.Families.{Family, nodes_of, Has, Lands, AreFormed}
 use Rattle.round_laws.specs.Steps.{joined_with, raised, AreJoined}
-use Rattle.round_laws.proofs.AllLaws.{families_are_their_nodes, rounds_are_joins, lands_up, lands_covered, at_keys, get_same, get_other}
+use Rattle.round_laws.proofs.AllLaws.{families_are_their_nodes, rounds_are_joins, lands_up, lands_covered, at_keys, get_other}
 use Rattle.round_steps.specs.Gathers.{AreOwn, AreOwnNodes, IsGathered, AreGathered, AreBeyond}
 
 -- a node's own state says whether it follows pairs

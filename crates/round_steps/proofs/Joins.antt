@@ -1,5 +1,5 @@
 -- One node more is joined into a family.
-use Rattle.std.proofs.Common.{◌≡◌, ◌≢◌, ◌↔◌, refl, sym, ap, ◌∙◌, subst, ℕ, ◌+◌, ◌<◌, ◌≤◌, ⊎_elim, List, [], ◌∷◌, ◌++◌, length, map, cond, Option, Some, None, Result, Ok, Err, IfOk, Contains, arith, length-append, append_assoc}
+use Rattle.std.proofs.Common.{◌≡◌, ◌≢◌, refl, sym, ap, ◌∙◌, subst, ℕ, ◌+◌, ◌<◌, ◌≤◌, ⊎_elim, List, [], ◌∷◌, ◌++◌, map, cond, Option, Some, None, Contains, arith, length-append, append_assoc}
 use Rattle.std.specs.declared.cmp.Ordering.TheVariants.{Less, Equal, Greater}
 use Rattle.std.proofs.lemmas.List.Elements.{Contains-append_left, Contains-push}
 use Rattle.std.specs.FinMap.{get, insert, len, entries, get-entries, entries-insert, len-insert}
@@ -16,7 +16,7 @@ use Rattle.local_rules.specs.Cover.{IsNodeIn}
 use Rattle.local_laws.proofs.AllLaws.{each_of}
 use Rattle.certificate.specs.Claims.{cells_of}
 use Rattle.round_rules.specs.Families.{Family, Lands, cells}
-use Rattle.round_laws.specs.Steps.{joined_with, raised, raised_all, AreApart, weight}
+use Rattle.round_laws.specs.Steps.{joined_with, raised, AreApart, weight}
 use Rattle.round_laws.proofs.AllLaws.{rounds_are_joins, at_keys, get_same, get_other, same_cells, found_here, found_later}
 use Rattle.round_steps.specs.Joins.{keys_of, AreNew, FitTogether, SoFar}
 

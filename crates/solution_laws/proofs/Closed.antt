@@ -1,13 +1,11 @@
 -- The edges of a family without faults, listed.
-use Rattle.std.proofs.Common.{◌≡◌, refl, sym, ap, ◌∙◌, subst, ℕ, inr, List, [], map, Ok, Err, Result, Contains}
+use Rattle.std.proofs.Common.{◌≡◌, sym, ap, subst, ℕ, inr, List, [], map, Ok, Err, Result, Contains}
 use Rattle.avr_model.specs.declared.assumption.Entry.{Entry}
 use Rattle.avr_model.specs.Assumptions.{has_pairs}
 use Rattle.abs_state.proofs.AllLaws.{states_are_ordered}
 use Rattle.local_rules.specs.declared.local.Node.{Node}
-use Rattle.local_rules.specs.declared.local.Local.{Local}
 use Rattle.local_rules.specs.declared.local.NodeFault.{NodeFault}
 use Rattle.local_rules.specs.Cover.{IsNodeIn}
-use Rattle.local_rules.specs.Local.{local}
 use Rattle.local_laws.proofs.AllLaws.{in_map, each_in_map}
 use Rattle.edge_rules.specs.declared.edge.Edge.{Edge}
 use Rattle.edge_rules.specs.Edges.{IsFaultless, IsEdge, AreEdges, target}

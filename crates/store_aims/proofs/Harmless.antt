@@ -1,9 +1,8 @@
 -- Addresses by the numbers that give them, with a number added modulo 65,536.
-use Rattle.std.proofs.Common.{◌≡◌, refl, sym, ap, ap₂, ◌∙◌, subst, ℕ, zero, suc, ◌+◌, ◌-◌, ◌%◌, ◌<◌, ◌≤◌, ◌==◌, ◌&&◌, ◌||◌, ⊎_elim, not, nat_lt, nat_le, Bool, true, false, List, Some, arith, eqb-true}
+use Rattle.std.proofs.Common.{◌≡◌, refl, sym, ap, ap₂, ◌∙◌, subst, ℕ, ◌+◌, ◌-◌, ◌<◌, ◌≤◌, ◌==◌, ◌&&◌, ◌||◌, ⊎_elim, not, nat_lt, nat_le, Bool, true, false, List, Some, arith, eqb-true}
 use Rattle.std.proofs.lemmas.Bool.{cases_lt, and_from, and_parts, or_left, or_right, or_cases}
 use Rattle.basics.specs.Numbers.{less_from_test, at_most_from_test, test_from_less, test_from_at_most, equals_itself}
 use Rattle.avr_model.specs.declared.assumption.Entry.{Entry}
-use Rattle.avr_model.specs.declared.device.Device.{Device}
 use Rattle.avr_model.specs.declared.instruction.Instr.{Instr}
 use Rattle.avr_model.specs.declared.instruction.Instr.TheVariants as i
 use Rattle.avr_model.specs.declared.instruction.Base.{Base}
@@ -17,7 +16,7 @@ use Rattle.pair_domain.specs.declared.facts.PairFacts.{PairFacts}
 use Rattle.pair_domain.specs.Facts.{is_followed}
 use Rattle.abs_state.specs.declared.state.AbsState.{AbsState}
 use Rattle.clear_laws.specs.Aims.{is_between, is_in_interval, permits_bytes, permits_number}
-use Rattle.clear_laws.specs.Clear.{is_flagged_address, is_address_harmless, are_addresses_harmless}
+use Rattle.clear_laws.specs.Clear.{is_address_harmless, are_addresses_harmless}
 use Rattle.clear_laws.proofs.AllLaws.{each_below, may_pass, passes}
 use Rattle.store_aims.specs.Needs.{is_range_harmless, is_number_harmless, are_numbers_harmless}
 use Rattle.store_aims.proofs.Scans.{all_fails}
@@ -29,9 +28,6 @@ back a up small = omega arith
 
 forth : (p up : ℕ) → p < 65536 → minus16 (plus16 p up) up ≡ p
 forth p up small = omega arith
-
-small_number : (a up : ℕ) → minus16 a up < 65536
-small_number a up = omega arith
 
 pub small_address : (p up : ℕ) → plus16 p up < 65536
 small_address p up = omega arith

@@ -1,5 +1,5 @@
 -- The least and the greatest number that passes a test, and all below one, found one after the other.
-use Rattle.std.proofs.Common.{◌≡◌, refl, sym, ap, ap₂, ◌∙◌, subst, ℕ, zero, suc, ◌+◌, ◌-◌, ◌<◌, ◌≤◌, ◌&&◌, ◌||◌, ⊎_elim, Bool, true, false, if◌then◌else◌, Option, Some, None, arith}
+use Rattle.std.proofs.Common.{◌≡◌, refl, sym, ap, ap₂, ◌∙◌, subst, ℕ, zero, suc, ◌+◌, ◌<◌, ◌&&◌, ◌||◌, ⊎_elim, Bool, true, false, if◌then◌else◌, Some, None, arith}
 use Rattle.std.proofs.lemmas.Bool.{cases_lt, and_right}
 use Rattle.avr_model.specs.Bits.{any_below, all_below}
 use Rattle.clear_laws.specs.Aims.{or_number, least_below, greatest_below}

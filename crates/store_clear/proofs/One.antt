@@ -19,7 +19,7 @@ use Rattle.clear_laws.specs.Causes.{MayWriteLive, MayGoUnlisted}
 use Rattle.store_laws.specs.declared.verdict.ClearVerdict.TheVariants.{Clear, Unclear}
 use Rattle.store_laws.specs.declared.place.FlaggedPlace.{FlaggedPlace}
 use Rattle.store_laws.specs.Verdict.{IsFirstUnclear, AreSites, AreNevers}
-use Rattle.store_laws.specs.Places.{word_of, IsPlaceOf, ArePlaces}
+use Rattle.store_laws.specs.Places.{word_of, IsPlaceOf}
 use Rattle.store_clear.specs.Laws.{SitesAreOne, PlacesAreOne, NeversAreOne, ClearWhereNoSites}
 use Rattle.store_clear.proofs.Sites.{none_where_clear}
 

@@ -15,11 +15,6 @@ stands_if : (menu : Menu) (fill : ℕ) (w : Waypoint) (b : Bool) → is_due w me
 stands_if menu fill w true is = last_of_four (menu.pc == w.pc) (menu.masks == w.masks) (menu.sp + w.depth == w.end) (has_choice menu (interrupt_of w)) is
 stands_if menu fill w false is = refl
 
--- what is taken stands in the menu
-pub taken_stands : (fill : ℕ) (ws : List Waypoint) (menu : Menu) → IsTrue (has_choice menu (taken fill ws menu))
-taken_stands fill [] menu = refl
-taken_stands fill (w ∷ ws) menu = stands_if menu fill w (is_due w menu) refl
-
 regrouped : (enabled i delay clears watchdog : Bool) → ((enabled && i && not delay && (not false || watchdog)) && (not clears || watchdog)) ≡ (enabled && i && not delay && (not clears || watchdog))
 regrouped true true true clears watchdog = refl
 regrouped true true false clears watchdog = refl

@@ -1,5 +1,3 @@
-use Rattle.std.proofs.Common.{◌≡◌, refl, Bool, true, false}
-use Rattle.std.specs.Bool.{Decides, beq}
 use Rattle.std.proofs.lemmas.Slice.Eq.{slice_eq-Decides}
 use Rattle.avr_machine.proofs.Alike.{same_bool}
 use Rattle.avr_machine.proofs.live_bytes.are_same.Goals as goal

@@ -1,5 +1,4 @@
-use Rattle.std.proofs.Common.{◌≡◌, ◌≤◌, sym, subst, arith, length, List, ℕ}
-use Rattle.nesting_bound.specs.declared.graph.Link.{Link}
+use Rattle.std.proofs.Common.{sym, subst, arith, length, List, ℕ}
 use Rattle.chain_explain.specs.Moves.{AreSteps, AreThere}
 use Rattle.chain_explain.proofs.Edges.{are_moves}
 use Rattle.chain_explain.proofs.Conditions.{meets_reached}

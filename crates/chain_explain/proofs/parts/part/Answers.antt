@@ -1,4 +1,4 @@
-use Rattle.std.proofs.Common.{◌≡◌, sym, ap, ◌∙◌, subst, ℕ, ◌≤◌, arith, slice_get, Some}
+use Rattle.std.proofs.Common.{◌≡◌, sym, ap, ◌∙◌, subst, ◌≤◌}
 use Rattle.basics.specs.Items.{place_of_contained, contained_at}
 use Rattle.avr_model.specs.State.{SIZE}
 use Rattle.mask_states.specs.declared.keys.InstKey.{InstKey}

@@ -1,4 +1,4 @@
-use Rattle.std.proofs.Common.{◌≡◌, ◌+◌, ◌<◌, ◌++◌, ◌∷◌, [], ◌∙◌, ap, sym, arith, length, true, false, append-nil, Vec, Global}
+use Rattle.std.proofs.Common.{◌+◌, ◌<◌, ◌++◌, ◌∷◌, [], ◌∙◌, ap, sym, arith, length, true, false, append-nil, Vec, Global}
 use Rattle.basics.specs.Lists.{get_inside}
 use Rattle.local_rules.specs.declared.local.Node.{Node}
 use Rattle.chain_explain.proofs.Marks.{kept_next}

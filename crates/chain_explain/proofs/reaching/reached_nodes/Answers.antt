@@ -1,8 +1,7 @@
-use Rattle.std.proofs.Common.{◌≡◌, ◌<◌, ◌∙◌, ap, sym, subst, arith, length, List, ℕ, Bool}
+use Rattle.std.proofs.Common.{◌≡◌, ◌∙◌, ap, sym, subst, arith, length, List, Bool}
 use Rattle.basics.specs.Items.{only_one_in}
 use Rattle.edge_rules.specs.Places.{found_at}
-use Rattle.mask_states.specs.Keys.{root_inst, entry_key}
-use Rattle.local_rules.specs.declared.local.Node.{Node}
+use Rattle.mask_states.specs.Keys.{entry_key}
 use Rattle.local_laws.specs.Laws.{HasKey}
 use Rattle.chain_explain.specs.Reached.{AreReached}
 use Rattle.chain_explain.specs.Moves.{kept_by}

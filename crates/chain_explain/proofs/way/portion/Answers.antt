@@ -1,4 +1,4 @@
-use Rattle.std.proofs.Common.{◌≡◌, ◌+◌, ◌-◌, ◌<◌, ◌∷◌, ◌++◌, [], ◌∙◌, ap, sym, subst, arith, get_or, length, map, List, ℕ, Contains}
+use Rattle.std.proofs.Common.{◌≡◌, ◌+◌, ◌-◌, ◌<◌, [], ◌∙◌, ap, sym, subst, arith, get_or, length, map, List, ℕ, Contains}
 use Rattle.chain_explain.specs.Moves.{IsPortion}
 use Rattle.chain_explain.proofs.Built.{portion_none, portion_more}
 use Rattle.chain_explain.proofs.Stepped.{read_list}

@@ -1,7 +1,6 @@
 use Rattle.std.proofs.Common.{◌≡◌, ◌+◌, ◌-◌, ◌<◌, ◌∷◌, [], ◌∙◌, Option, Some, IfSome, sym, ap, subst, map, length, List, ℕ, Contains, arith, Vec, Global}
 use Rattle.std.proofs.lemmas.Result.{IfOk-weaker}
 use Rattle.mask_states.specs.declared.keys.NodeKey.{NodeKey}
-use Rattle.mask_states.specs.Keys.{entry_key}
 use Rattle.local_laws.specs.Laws.{HasKey}
 use Rattle.edge_rules.specs.Views.{place_of}
 use Rattle.shortest_walk.specs.Graph.{IsGraph, IsReached}

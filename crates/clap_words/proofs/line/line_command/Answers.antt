@@ -1,4 +1,3 @@
-use Rattle.clap_words.specs.Lines.{bare_app, check_app, analyse_app, run_app, report_app, explain_app, clear_app, premises_app, attain_app, simulate_app, demo_app}
 use Rattle.clap_words.proofs.line.line_command.Goals as goal
 
 pub returns : goal.returns

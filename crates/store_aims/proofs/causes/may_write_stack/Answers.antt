@@ -1,4 +1,4 @@
-use Rattle.std.proofs.Common.{◌≡◌, ◌-◌, ap, sym, ◌∙◌}
+use Rattle.std.proofs.Common.{◌-◌, ap, sym, ◌∙◌}
 use Rattle.avr_model.specs.Devices.{ramend, device_of}
 use Rattle.clear_laws.specs.Aims.{may_write}
 use Rattle.clear_laws.proofs.AllLaws.{any_found}

@@ -1,4 +1,4 @@
-use Rattle.std.proofs.Common.{◌≡◌, sym, ap, ◌∙◌, subst}
+use Rattle.std.proofs.Common.{sym, ap, ◌∙◌}
 use Rattle.clear_laws.specs.Clear.{are_addresses_harmless, is_address_harmless}
 use Rattle.avr_model.specs.declared.instruction.Instr.{Instr}
 use Rattle.store_aims.proofs.Harmless.{others, direct}

@@ -1,4 +1,4 @@
-use Rattle.std.proofs.Common.{◌+◌, [], List, get_or, take, subst, sym, ◌∙◌}
+use Rattle.std.proofs.Common.{◌+◌, [], List, get_or, take, subst, sym}
 use Rattle.std.proofs.lemmas.List.Elements.{Contains-get_or}
 use Rattle.certificate.specs.Valid.{family_of}
 use Rattle.store_laws.specs.declared.place.FlaggedPlace.{FlaggedPlace}

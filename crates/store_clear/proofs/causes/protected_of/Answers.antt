@@ -1,4 +1,4 @@
-use Rattle.std.proofs.Common.{◌≡◌, ◌∙◌, ap, subst, List, length, arith}
+use Rattle.std.proofs.Common.{◌∙◌, ap, subst, List, length, arith}
 use Rattle.store_aims.specs.declared.need.Asks.{Asks}
 use Rattle.store_clear.specs.Takes.{IsMarked}
 use Rattle.store_clear.specs.Causing.{IsProtectedAt}

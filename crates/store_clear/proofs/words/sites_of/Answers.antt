@@ -1,4 +1,4 @@
-use Rattle.std.proofs.Common.{◌∙◌, ap, length, refl, arith}
+use Rattle.std.proofs.Common.{◌∙◌, ap, length, arith}
 use Rattle.store_clear.proofs.Lists.{written_back}
 use Rattle.store_clear.proofs.Sites.{sites_given, clear_given}
 use Rattle.store_clear.proofs.words.sites_of.Goals as goal

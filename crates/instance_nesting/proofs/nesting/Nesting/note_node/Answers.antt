@@ -1,7 +1,7 @@
-use Rattle.std.proofs.Common.{◌≡◌, ◌∙◌, Bool, subst, sym, true}
+use Rattle.std.proofs.Common.{◌≡◌, ◌∙◌, subst, sym, true}
 use Rattle.instance_nesting.specs.Nestings.{Noted, Spot, HasNode}
 use Rattle.instance_nesting.specs.Drawn.{insts_of, HasMore}
-use Rattle.instance_nesting.specs.Covers.{AllowsSpot, IsKept}
+use Rattle.instance_nesting.specs.Covers.{AllowsSpot}
 use Rattle.instance_nesting.proofs.Keeping.{closed_node, open_node, insts_once}
 use Rattle.instance_nesting.proofs.Covering.{kept_inst, kept_spot}
 use Rattle.instance_nesting.proofs.nesting.Nesting.note_node.Goals as goal
