@@ -1,5 +1,5 @@
 -- Single steps of the code.
-use Rattle.std.proofs.Common.{◌≡◌, refl, sym, ap, ◌∙◌, ℕ, zero, suc, ◌-◌, ◌<◌, List, [], ◌∷◌, length, get_or, Option, Some, None, slice_get, arith}
+use Rattle.std.proofs.Common.{◌≡◌, refl, sym, ap, ◌∙◌, ℕ, zero, suc, ◌+◌, ◌-◌, ◌<◌, List, [], ◌∷◌, ◌++◌, length, get_or, Option, Some, None, slice_get, arith}
 use Rattle.std.specs.Option.{option_map}
 use Rattle.std.proofs.lemmas.Option.{none-some, same_Some, slice_get-get_or}
 use Rattle.avr_model.specs.declared.assumption.Entry.{Entry}
@@ -10,12 +10,15 @@ use Rattle.local_rules.specs.declared.local.Node.{Node}
 use Rattle.local_laws.specs.Laws.{HasKey}
 use Rattle.edge_rules.specs.declared.edge.Edge.{Edge}
 use Rattle.edge_rules.specs.Families.{IsCovered}
-use Rattle.edge_rules.specs.Views.{key_of, state_of}
+use Rattle.edge_rules.specs.Views.{key_of, state_of, place_of}
 use Rattle.certificate.specs.Valid.{reset_node}
+use Rattle.chain_explain.specs.Moves.{listed, to_of}
 
 -- ---- one edge
 
 module _ (nodes : List Node) (e : Edge) where
+  pub some_to : (xs ys : List ℕ) (to : ℕ) → place_of e.to nodes ≡ Some to → ys ≡ xs ++ to ∷ [] → ys ≡ xs ++ to_of nodes e
+  some_to xs ys to p is = is ∙ ap (λ (o : Option ℕ). xs ++ listed o) (sym p)
 
 -- ---- what is kept
 

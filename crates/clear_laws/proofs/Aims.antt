@@ -211,6 +211,9 @@ module _ {followed : Bool} (m : State) (o : Origin) (k : NodeKey) (s : AbsState)
   first_at : (r : ℕ) → r < 32 → IsLow (first_byte (value s r)) (register m r)
   first_at r lt = let here = stands r lt in least_at (may_be (value s r)) 256 (register m r) here.small (may_stand o (value s r) (register m r) here)
 
+  last_at : (r : ℕ) → r < 32 → IsHigh (last_byte (value s r)) (register m r)
+  last_at r lt = let here = stands r lt in greatest_at (may_be (value s r)) 256 (register m r) here.small (may_stand o (value s r) (register m r) here)
+
   module _ (r : ℕ) (there : r + 1 < 32) where
     first_there : r < 32
     first_there = omega (arith, there)

@@ -74,6 +74,8 @@ itself : (g n i : ℕ) → (g < g) ⊎ ((g ≡ g) × ((n < n) ⊎ ((n ≡ n) × 
 itself g n i = inr (refl, inr (refl, omega arith))
 
 module _ (gs : List GraphInst) (i : ℕ) (x : GraphInst) (here : slice_get gs i ≡ Some x) where
+  same_at : (j : ℕ) (c : GraphInst) → j ≡ i → slice_get gs j ≡ Some c → x ≡ c
+  same_at j c same is = let is' : slice_get gs i ≡ Some c = subst (λ k. slice_get gs k ≡ Some c) same is in cc
 
   module _ (at : ℕ) (b : GraphInst) (there : slice_get gs at ≡ Some b) where
     pub named_takes : i < length gs → Reaches gs i i → IsNoLater x.key i b.key at → IsNamedOf gs i at → IsNamedOf gs (i + 1) i

@@ -7,10 +7,10 @@ use Rattle.std.proofs.lemmas.Bool.{cases_lt, and_parts, and_from, not-true}
 use Rattle.std.proofs.lemmas.List.Elements.{Contains-push_cases}
 use Rattle.std.proofs.lemmas.List.{map-append, take_more}
 use Rattle.std.proofs.lemmas.Option.{same_Some, slice_get_within}
-use Rattle.basics.specs.Booleans.{never_both, left_of_and}
+use Rattle.basics.specs.Booleans.{never_both, not_from_never, left_of_and}
 use Rattle.basics.specs.Items.{none_in, place_of_contained, contained_at}
 use Rattle.basics.specs.Lists.{one_at}
-use Rattle.basics.specs.Numbers.{before_or_last}
+use Rattle.basics.specs.Numbers.{before_or_last, equals_itself}
 use Rattle.slot_reach.proofs.Marks.{none_on}
 use Rattle.avr_model.specs.declared.assumption.Entry.{Entry}
 use Rattle.avr_model.specs.declared.instruction.Instr.{Instr}
@@ -25,7 +25,7 @@ use Rattle.edge_rules.specs.Families.{Family}
 use Rattle.edge_laws.proofs.ExpansionLaws.{filled_or_missing}
 use Rattle.certificate.specs.Claims.{Claim}
 use Rattle.certificate.specs.Valid.{family_of}
-use Rattle.clear_laws.specs.Clear.{MayBeFlagged, is_transfer_listed, is_flagged_address}
+use Rattle.clear_laws.specs.Clear.{IsClear, MayBeFlagged, is_transfer_listed, is_flagged_address}
 use Rattle.clear_laws.specs.Causes.{may_write_protected, may_write_live, IsCause}
 use Rattle.clear_laws.proofs.AllLaws.{not_listed, unprotected}
 use Rattle.slot_reach.specs.Reach.{is_on}
@@ -168,6 +168,12 @@ listed_by false b h = absurd (cc)
 module _ (words : List ℕ) (A : List Entry) (c : Claim) (nodes : List Node) (asks : List Asks) (told : IsTold words A c nodes asks) (pc : ℕ) where
   abbrev f : Family
   f = family_of c nodes
+
+  -- a node that isn't clear still asks something
+  asks_there : (n : Node) (at : ℕ) → slice_get nodes at ≡ Some n → n.key.pc ≡ pc → (IsClear words A f n → ⊥) → is_unclear_at pc n.key (ask_at asks at) ≡ true
+  asks_there n at is word unclear =
+      and_from (not (passes (ask_at asks at))) (n.key.pc == pc) (not_from_never (passes (ask_at asks at)) (λ h. unclear ((told.told.each at n is).0 h)))
+      (ap (λ p. p == pc) word ∙ equals_itself pc)
 
   module _ (instr : Instr) (is : instruction_at words pc ≡ Some instr) (test : AbsState → Instr → Bool) where
     pub cause_from : PassesBelow nodes asks pc (λ s. test s instr) (length asks) → IsCause words A f pc test
