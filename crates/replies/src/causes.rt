@@ -1,10 +1,10 @@
 //! The lines in place of a certificate, and that of an image whose certificate is measured.
 
-ghost use Rattle.std.specs.Prelude.{◌≡◌, [], ◌∷◌, IfOk, OnOk, Some, codes, decimal};
+ghost use Rattle.std.specs.Prelude.{◌≡◌, [], ◌∷◌, IfOk, OnOk, Some, codes, decimal, length};
 ghost use Rattle.sb_base.specs.Digits.{hex_digits};
 ghost use Rattle.sb_base.specs.Writing.{with_words};
 ghost use Rattle.avr_model.specs.Image.{word_at};
-ghost use Rattle.replies.specs.Texts.{AreWritten, instruction_told, limit_word, why_not_words, why_not_text, demo_text};
+ghost use Rattle.replies.specs.Texts.{AreWritten, instruction_told, cause_at, limit_word, why_not_words, why_not_text, demo_text};
 
 use crate::texts::limit_word;
 use avr_decode::{instruction, text as instruction_text};
@@ -79,6 +79,28 @@ fn put_need(line: &mut LineWriter, at: u16, need: u32) -> Result<(), AllocError>
     line.dec(u64::from(need))
 }
 
+/// The same with the instruction at that word.
+fn put_cause_of(
+    alloc: Global,
+    line: &mut LineWriter,
+    flash: &Flash,
+    number: &[u8],
+    name: &[u8],
+    at: u16,
+) -> Result<(), AllocError>
+    ensures { OnOk result (AreWritten line.old line.new (cause_at number.now name.now at (instruction_told flash.now at))) }
+{
+    put_cause(line, number, name, at)?;
+    put_instruction(alloc, line, flash, at)
+}
+
+fn put_unsupported(line: &mut LineWriter, at: u16, word: u16) -> Result<(), AllocError>
+    ensures { OnOk result (AreWritten line.old line.new (cause_at (codes "5") (codes "unsupported") at (codes "opcode" ∷ hex_digits word 4 ∷ []))) }
+{
+    put_cause(line, b"5", b"unsupported", at)?;
+    put_opcode(line, word)
+}
+
 /// A word and a number.
 fn put_number(line: &mut LineWriter, name: &[u8], number: u64) -> Result<(), AllocError>
     ensures { OnOk result (line.new ≡ with_words line.old (name.now ∷ decimal number ∷ [])) }
@@ -98,24 +120,16 @@ fn put_why_not(
 {
     match *refusal {
         Refusal::UnresolvedJump(at) => {
-            put_cause(line, b"1", b"unresolved-jump", at)?;
-            put_instruction(alloc, line, flash, at)
+            put_cause_of(alloc, line, flash, b"1", b"unresolved-jump", at)
         }
         Refusal::Recursion(at) => put_cause(line, b"2", b"recursion", at),
         Refusal::ReEntry(vector, at) => put_re_entry(line, vector, at),
-        Refusal::UntrackedSp(at) => {
-            put_cause(line, b"4", b"untracked-sp", at)?;
-            put_instruction(alloc, line, flash, at)
-        }
-        Refusal::Unsupported(at) => {
-            put_cause(line, b"5", b"unsupported", at)?;
-            put_opcode(line, flash.word(at))
-        }
+        Refusal::UntrackedSp(at) => put_cause_of(alloc, line, flash, b"4", b"untracked-sp", at),
+        Refusal::Unsupported(at) => put_unsupported(line, at, flash.word(at)),
         Refusal::TooDeep(at, need) => put_need(line, at, need),
         Refusal::TooLarge(limit) => put_too_large(line, limit),
         Refusal::UnknownPointer(at) => {
-            put_cause(line, b"8", b"unknown-pointer", at)?;
-            put_instruction(alloc, line, flash, at)
+            put_cause_of(alloc, line, flash, b"8", b"unknown-pointer", at)
         }
         Refusal::Spent(steps) => put_number(line, b"spent", steps),
         Refusal::Memory => Err(AllocError),
@@ -133,19 +147,21 @@ pub fn why_not(alloc: Global, flash: &Flash, refusal: &Refusal) -> Result<Vec<u8
     Ok(line.finish())
 }
 
+fn put_demo(line: &mut LineWriter, size: u32, certificate: &Certificate) -> Result<(), AllocError>
+    ensures { OnOk result (line.new ≡ with_words line.old (codes "demo" ∷ decimal size ∷ codes "nodes" ∷ decimal (length certificate.now.nodes) ∷ codes "instances" ∷ decimal (length certificate.now.instances) ∷ codes "bound" ∷ decimal certificate.now.bound ∷ [])) }
+{
+    put_number(line, b"demo", u64::from(size))?;
+    put_number(line, b"nodes", certificate.nodes().len() as u64)?;
+    put_number(line, b"instances", certificate.count_instances() as u64)?;
+    put_number(line, b"bound", u64::from(certificate.bound()))
+}
+
 /// The size of an image, and how many nodes and instances its certificate has, with the bound.
 pub fn demo_text(alloc: Global, size: u32, certificate: &Certificate) -> Result<Vec<u8>, AllocError>
     ensures { IfOk result (λ v. v.items ≡ demo_text size certificate.now) }
 {
     let mut line = LineWriter::new(alloc);
-    put_number(&mut line, b"demo", u64::from(size))?;
-    put_number(&mut line, b"nodes", certificate.nodes().len() as u64)?;
-    put_number(
-        &mut line,
-        b"instances",
-        certificate.count_instances() as u64,
-    )?;
-    put_number(&mut line, b"bound", u64::from(certificate.bound()))?;
+    put_demo(&mut line, size, certificate)?;
     line.end_line()?;
     Ok(line.finish())
 }

@@ -3,6 +3,7 @@
 ghost use Rattle.std.specs.Prelude.{◌≡◌, ◌++◌, ◌<◌, [], ◌∷◌, IfOk, OnOk, Some, codes, decimal};
 ghost use Rattle.std.specs.Option.{option_map};
 ghost use Rattle.elf_load.specs.Refusing.{refusal_of};
+ghost use Rattle.cert_words.specs.KeySpelling.{node_key_words};
 ghost use Rattle.sb_base.specs.Digits.{hex_digits};
 ghost use Rattle.sb_base.specs.Writing.{with_words, with_end};
 ghost use Rattle.replies.specs.Texts.{told, usage, read_fault, too_long, raw_fault, elf_refused, firmware_outside, IsRefused, AreWritten, assumption_words, assumptions_refused, limit_word, certificate_words, certificate_refused, schedule_malformed, schedule_illegal, devices_refused, witness_word, accepted, reason_words, rejected, witness_rejected, stop_words, run_text};
@@ -14,6 +15,7 @@ use cert_writing::write_key;
 use device_hooks::DevicesFault;
 use elf_load::ElfFault;
 use indirect_targets::AssumeText;
+use mask_states::NodeKey;
 use sb_base::LineWriter;
 use std::alloc::{AllocError, Global};
 use witness_replay::ReplayReport;
@@ -115,6 +117,13 @@ pub fn firmware_outside(alloc: Global, word: u16) -> Result<Vec<u8>, AllocError>
     Ok(line.finish())
 }
 
+fn put_two(line: &mut LineWriter, first: &[u8], second: &[u8]) -> Result<(), AllocError>
+    ensures { OnOk result (line.new ≡ with_words line.old (first.now ∷ second.now ∷ [])) }
+{
+    line.word(first)?;
+    line.word(second)
+}
+
 /// A word, a word and a number.
 fn put_two_and_number(
     line: &mut LineWriter,
@@ -124,10 +133,8 @@ fn put_two_and_number(
 ) -> Result<(), AllocError>
     ensures { OnOk result (line.new ≡ with_words line.old (first.now ∷ second.now ∷ decimal number ∷ [])) }
 {
-    line.word(first)?;
-    line.word(second)?;
-    line.dec(number)?;
-    Ok(())
+    put_two(line, first, second)?;
+    line.dec(number)
 }
 
 /// The words that name the refused line; none for want of memory.
@@ -274,34 +281,37 @@ fn put_inst(
     Ok(())
 }
 
+/// A node's number, and the number of what is wrong with its own step.
+fn put_node(line: &mut LineWriter, at: u32, cause: u8) -> Result<(), AllocError>
+    ensures { OnOk result (line.new ≡ with_words line.old (codes "2" ∷ codes "node" ∷ decimal at ∷ codes "cause" ∷ decimal cause ∷ [])) }
+{
+    put_two_and_number(line, b"2", b"node", u64::from(at))?;
+    line.word(b"cause")?;
+    line.dec(u64::from(cause))
+}
+
+/// A node's number, and the key to which an edge leads.
+fn put_edge(alloc: Global, line: &mut LineWriter, at: u32, key: &NodeKey) -> Result<(), AllocError>
+    ensures { OnOk result (line.new ≡ with_words line.old (codes "3" ∷ codes "node" ∷ decimal at ∷ codes "to" ∷ node_key_words key.now)) }
+{
+    put_two_and_number(line, b"3", b"node", u64::from(at))?;
+    line.word(b"to")?;
+    write_key(line, alloc, key)
+}
+
 fn put_reason(alloc: Global, line: &mut LineWriter, reason: &Reason) -> Result<(), AllocError>
     ensures { OnOk result (line.new ≡ with_words line.old (reason_words reason.now)) }
 {
     match *reason {
-        Reason::Root => {
-            line.word(b"1")?;
-            line.word(b"root")?;
-        }
-        Reason::Node(at, cause) => {
-            put_two_and_number(line, b"2", b"node", u64::from(at))?;
-            line.word(b"cause")?;
-            line.dec(u64::from(cause))?;
-        }
-        Reason::Edge(at, key) => {
-            put_two_and_number(line, b"3", b"node", u64::from(at))?;
-            line.word(b"to")?;
-            write_key(line, alloc, &key)?;
-        }
-        Reason::Rank(at, entered) => put_inst(line, b"4", at, b"inst", entered)?,
-        Reason::Need(at, least) => put_inst(line, b"5", at, b"least", least)?,
-        Reason::Bound(least) => put_two_and_number(line, b"6", b"least", u64::from(least))?,
-        Reason::Assumptions => {
-            line.word(b"7")?;
-            line.word(b"assumptions")?;
-        }
-        Reason::Expansion(at) => put_two_and_number(line, b"9", b"node", u64::from(at))?,
+        Reason::Root => put_two(line, b"1", b"root"),
+        Reason::Node(at, cause) => put_node(line, at, cause),
+        Reason::Edge(at, key) => put_edge(alloc, line, at, &key),
+        Reason::Rank(at, entered) => put_inst(line, b"4", at, b"inst", entered),
+        Reason::Need(at, least) => put_inst(line, b"5", at, b"least", least),
+        Reason::Bound(least) => put_two_and_number(line, b"6", b"least", u64::from(least)),
+        Reason::Assumptions => put_two(line, b"7", b"assumptions"),
+        Reason::Expansion(at) => put_two_and_number(line, b"9", b"node", u64::from(at)),
     }
-    Ok(())
 }
 
 /// The reason for which a certificate is refused.

@@ -107,12 +107,14 @@ fn inst_value(alloc: Global, names: &Names, inst: &Inst) -> Result<Value, AllocE
     let entry = inst.key.entry;
     let i = u8::from(inst.key.i);
     let need = inst.need;
+    let kind = kind_value(alloc, inst.key.kind)?;
+    let name = name_value(alloc, names, entry)?;
     json!(in alloc; {
         "enables": enables,
         "entry": entry,
         "i": i,
-        "kind": kind_value(alloc, inst.key.kind)?,
-        "name": name_value(alloc, names, entry)?,
+        "kind": kind,
+        "name": name,
         "need": need
     })
 }

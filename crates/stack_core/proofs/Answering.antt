@@ -31,8 +31,8 @@ use Rattle.replies.specs.Reading.{Seen, Unread, Whole, Long}
 use Rattle.replies.specs.Reply.{Reply, Says, Refuses, WithFile, WithBytes, WithOptional, ImageBy, WithImage, ListBy, WithList, attains, AttainedBy, WitnessReply, VerdictReply, CertificateReply, told_of, ClearSays, ClearReply, AcceptedReply, RunReply, EndsBefore, ScheduleReply, WhyNotReply, AnalyseReply, SimulateReply, DemoReply, FlashReply, WorkReply, IsReply}
 use Rattle.replies.specs.Headline.{HasWords, ReadsWords, AcceptingRepliesHold, RepliesAreExact}
 use Rattle.stack_core.specs.declared.reply.Reply.{Reply as Answered}
-use Rattle.stack_core.specs.Reading.{seen_under, seen_whole, AreBytes}
-use Rattle.stack_core.proofs.Gathering.{whole_reply}
+use Rattle.command_files.specs.Reading.{seen_under, seen_whole, AreBytes}
+use Rattle.command_files.proofs.AllLaws.{whole_reply}
 use Rattle.stack_core.specs.Answer.{IsAnswered, IsWritten, IsReadFault, IsSettled, IsAnswer, IsCutOff}
 
 -- ---- no reply has a status that isn't the reply's

@@ -1,4 +1,3 @@
 pub mod Replies
-pub mod Gathering
 pub mod Answering
 pub mod Held

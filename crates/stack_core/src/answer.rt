@@ -7,10 +7,10 @@ ghost use Rattle.commands.specs.Views.{command_seen};
 ghost use Rattle.replies.specs.Texts as told;
 ghost use Rattle.stack_core.specs.Answer.{IsAnswer, IsCutOff};
 
-use crate::reading::{Unread, gather};
 use crate::reply::Reply;
 use crate::work::work;
 use clap_words::command_of;
+use command_files::{Unread, gather};
 use commands::Command;
 use replies::laws::replies_are_claims;
 use replies::texts;

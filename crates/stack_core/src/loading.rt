@@ -3,7 +3,7 @@
 ghost use Rattle.std.specs.Prelude.{◌≡◌, IfOk, true, false, length};
 ghost use Rattle.avr_model.specs.Image.{WORDS};
 ghost use Rattle.elf_load.specs.Elf.{is_elf};
-ghost use Rattle.stack_core.specs.Reading.{bytes_of};
+ghost use Rattle.command_files.specs.Reading.{bytes_of};
 ghost use Rattle.stack_core.specs.Answering.{LoadsBy, LoadsAs, NarrowedTo, LoadsOn, ReadsAs, ListsAs};
 
 use crate::reply::Reply;

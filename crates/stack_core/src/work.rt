@@ -7,7 +7,7 @@ ghost use Rattle.commands.specs.Views.{command_seen};
 ghost use Rattle.replies.specs.Firmware.{firmware_words};
 ghost use Rattle.replies.specs.Reply.{WithImage, WithList, FlashReply, WorkReply};
 ghost use Rattle.replies.specs.Headline.{HasWords};
-ghost use Rattle.stack_core.specs.Reading.{bytes_of};
+ghost use Rattle.command_files.specs.Reading.{bytes_of};
 ghost use Rattle.stack_core.specs.Answering.{LoadedReply, ImageReply};
 
 use crate::analysing::{analyse, demo};

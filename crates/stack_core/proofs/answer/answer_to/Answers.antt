@@ -3,7 +3,7 @@ use Rattle.std.specs.Prelude.{◌≡◌, IfOk}
 use Rattle.commands.specs.Views.{command_seen}
 use Rattle.replies.specs.Reply.{WorkReply}
 use Rattle.replies.specs.Headline.{HasWords}
-use Rattle.stack_core.specs.Reading.{bytes_of}
+use Rattle.command_files.specs.Reading.{bytes_of}
 use Rattle.stack_core.proofs.Answering.{worked_result}
 use Rattle.stack_core.proofs.answer.answer_to.Goals as goal
 

@@ -2,7 +2,7 @@ use Rattle.std.proofs.Common.{subst}
 use Rattle.avr_model.specs.declared.device.Device.{Device}
 use Rattle.commands.specs.Commands.{device_for}
 use Rattle.commands.specs.Views.{command_seen}
-use Rattle.stack_core.specs.Reading.{bytes_of}
+use Rattle.command_files.specs.Reading.{bytes_of}
 use Rattle.stack_core.specs.Answering.{LoadsOn}
 use Rattle.stack_core.proofs.Replies.{loaded_reply}
 use Rattle.stack_core.proofs.work.on_image.Goals as goal

@@ -1,14 +1,14 @@
 -- The files of a command, read in their order.
-use Rattle.std.proofs.Common.{◌≡◌, ℕ, true, List, [], Option, Some, None, refl, sym, ap, ◌∙◌, subst}
+use Rattle.std.proofs.Common.{◌≡◌, ℕ, true, List, Option, Some, None, refl, sym, ap, ◌∙◌, subst}
 use Rattle.sb_base.specs.Outside.{Held, Blamed, Rose, Blames}
 use Rattle.commands.specs.Commands.{Command, Role, Firmware, Second, Assumptions, name_of}
 use Rattle.replies.specs.Texts.{too_long}
 use Rattle.replies.specs.Reading as read
 use Rattle.replies.specs.Reading.{Seen, Unread, Whole, Long, firmware_cap, second_cap, assumption_cap, cap_of, Agrees, AgreesUnder, AllAgree, is_before, WasRead}
 use Rattle.replies.specs.Reply.{Reply, WithBytes, WithOptional, WorkReply, IsReply}
-use Rattle.stack_core.specs.declared.reading.Unread.{Unread as Unfetched}
-use Rattle.stack_core.specs.declared.reading.Unread.TheVariants as unread
-use Rattle.stack_core.specs.Reading.{IsFetched, IsUnfetched, AreFetched, IsFetchedUnder, IsUnfetchedUnder, GoTogether, whole_of, GoWith, seen_under, seen_whole, AreBytes, IsUngathered}
+use Rattle.command_files.specs.declared.reading.Unread.{Unread as Unfetched}
+use Rattle.command_files.specs.declared.reading.Unread.TheVariants as unread
+use Rattle.command_files.specs.Reading.{AreFetched, IsFetchedUnder, IsUnfetchedUnder, GoTogether, whole_of, GoWith, seen_under, seen_whole, AreBytes, IsUngathered}
 
 all_agree : (c : Command) (holds : List ℕ → Held) (seen : read.Contents) → AgreesUnder holds firmware_cap (name_of c Firmware) seen.firmware → AgreesUnder holds (second_cap c) (name_of c Second) seen.second
     → AgreesUnder holds assumption_cap (name_of c Assumptions) seen.assumptions → AllAgree c holds seen

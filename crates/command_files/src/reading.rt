@@ -3,7 +3,7 @@
 ghost use Rattle.std.specs.Prelude.{◌≡◌, ℕ, List, MatchResult};
 ghost use Rattle.commands.specs.Views.{text_of, command_seen};
 ghost use Rattle.replies.specs.Reading as caps;
-ghost use Rattle.stack_core.specs.Reading.{IsFetched, IsUnfetched, AreFetched, IsFetchedUnder, IsUnfetchedUnder, bytes_of, IsGathered, IsUngathered};
+ghost use Rattle.command_files.specs.Reading.{IsFetched, IsUnfetched, AreFetched, IsFetchedUnder, IsUnfetchedUnder, bytes_of, IsGathered, IsUngathered};
 
 use commands::Command;
 use sb_base::{FileFault, Files};

@@ -2,8 +2,8 @@ use Rattle.std.proofs.Common.{refl, ◌∙◌}
 use Rattle.commands.specs.Commands.{Firmware, Second, name_of}
 use Rattle.commands.specs.Views.{text_of, command_seen}
 use Rattle.replies.specs.Reading.{firmware_cap, second_cap}
-use Rattle.stack_core.proofs.Gathering.{first_stops, second_stops, read_as, two_read, third_stops, all_read}
-use Rattle.stack_core.proofs.reading.gather.Goals as goal
+use Rattle.command_files.proofs.Gathering.{first_stops, second_stops, read_as, two_read, third_stops}
+use Rattle.command_files.proofs.reading.gather.Goals as goal
 
 pub returns-in-Err : goal.returns-in-Err
 returns-in-Err g c =

@@ -8,9 +8,9 @@ use Rattle.replies.specs.Texts.{too_long}
 use Rattle.replies.specs.Reading as read
 use Rattle.replies.specs.Reading.{Seen, Unread, Whole, Long, Agrees, AllAgree, IsFirstFailed}
 use Rattle.replies.specs.Reply.{IsReply}
-use Rattle.stack_core.specs.declared.reading.Unread.{Unread as Unfetched}
-use Rattle.stack_core.specs.declared.reading.Unread.TheVariants as unread
-use Rattle.stack_core.specs.declared.reading.Contents.{Contents}
+use Rattle.command_files.specs.declared.reading.Unread.{Unread as Unfetched}
+use Rattle.command_files.specs.declared.reading.Unread.TheVariants as unread
+use Rattle.command_files.specs.declared.reading.Contents.{Contents}
 
 -- ---- one file
 

@@ -1,0 +1,2 @@
+-- What crates above may use.
+pub use Rattle.command_files.proofs.Gathering.{whole_reply}
