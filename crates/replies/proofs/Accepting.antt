@@ -9,7 +9,7 @@ use Rattle.avr_model.specs.declared.choice.Stop.{Stop}
 use Rattle.avr_model.specs.declared.choice.Stop.TheVariants as stop
 use Rattle.avr_model.specs.declared.device.Device.{Device}
 use Rattle.avr_model.specs.Devices.{words_of as count_of}
-use Rattle.avr_model.specs.Image.{WORDS, IsRawImage, raw_words, IsNarrowed}
+use Rattle.avr_model.specs.Image.{WORDS, IsRawImage, raw_words}
 use Rattle.avr_model.specs.Run.{Bounded}
 use Rattle.local_rules.specs.Machine.{AreWords}
 use Rattle.elf_load.specs.Elf.{is_elf}
@@ -19,9 +19,8 @@ use Rattle.indirect_targets.specs.Reading.{entries_in}
 use Rattle.indirect_targets.specs.Exact.{IsDue, ReadingIsExact}
 use Rattle.witness_replay.specs.Spelling.{Plan}
 use Rattle.witness_replay.specs.Replay.{Report as Replayed, replay_of}
-use Rattle.certificate.specs.Claims.{Claim, IsClaim, IsCertificate}
+use Rattle.certificate.specs.Claims.{Claim, IsClaim}
 use Rattle.certificate.specs.Valid.{IsSound, IsAttained, IsValid}
-use Rattle.cert_words.specs.Text.{text_of}
 use Rattle.cert_format.specs.declared.fault.CertFault.{CertFault}
 use Rattle.cert_format.specs.Reading.{certificate_in}
 use Rattle.cert_format.specs.Exact.{ReadIsSpelled, SpelledIsRead}

@@ -1,7 +1,7 @@
 -- What is printed: one line of words. `line_writing` of sb_base says that a writer's line of words is their text with one
 -- space between each two and a line feed behind them.
 use Rattle.std.specs.Option.{option_map}
-use Rattle.std.specs.Prelude.{ℕ, ◌+◌, List, [], ◌∷◌, length, codes, decimal, Bool, true, false, ◌≡◌, Option, Some, None}
+use Rattle.std.specs.Prelude.{ℕ, List, [], ◌∷◌, length, codes, decimal, Bool, true, false, ◌≡◌, Option, Some, None}
 use Rattle.sb_base.specs.Digits.{hex_digits}
 use Rattle.sb_base.specs.Writing.{Written, with_words, with_end}
 use Rattle.avr_model.specs.declared.instruction.Instr.{Instr}

@@ -1,5 +1,5 @@
 -- Replies by what is known of their parts.
-use Rattle.std.proofs.Common.{◌≡◌, ◌≢◌, inl, ℕ, Bool, true, false, List, [], take, Option, Some, None, Result, Ok, Err, refl, sym, ap, ◌∙◌, subst}
+use Rattle.std.proofs.Common.{◌≡◌, ◌≢◌, ℕ, Bool, true, false, List, [], take, Option, Some, None, Result, Ok, Err, refl, sym, ap, ◌∙◌, subst}
 use Rattle.std.specs.Option.{option_copied, option_map, is_some}
 use Rattle.std.specs.Prelude.{IfOk}
 use Rattle.std.proofs.lemmas.Bool.{false_from_ne_true}
@@ -17,12 +17,8 @@ use Rattle.flash_image.specs.Narrowing.{NarrowingIsExact}
 use Rattle.elf_load.specs.Elf.{is_elf}
 use Rattle.local_rules.specs.Machine.{AreWords}
 use Rattle.elf_load.specs.declared.Loaded.{Loaded}
-use Rattle.certificate.specs.Claims.{Claim, IsClaim}
-use Rattle.round_rules.specs.Solutions.{IsAnswer}
+use Rattle.certificate.specs.Claims.{Claim}
 use Rattle.reports.specs.Laws.{NamesThatSayTheSame, ExplanationsSayTheSame}
-use Rattle.demo_image.specs.Image.{demo_words}
-use Rattle.device_hooks.specs.declared.devices.DevicesFault.{DevicesFault}
-use Rattle.device_hooks.specs.Spelling.{Setup}
 use Rattle.commands.specs.Commands.{Command, Check, Analyse, Run, Report, Explain, Clear, Premises, Attain, Simulate, Demo, device_for}
 use Rattle.certificate.specs.Valid.{IsAttained, IsValid}
 use Rattle.cert_format.specs.declared.fault.CertFault.{CertFault}
@@ -31,8 +27,8 @@ use Rattle.cert_format.specs.Reading.{certificate_in}
 use Rattle.cert_check.specs.declared.verdict.Verdict.{Verdict}
 use Rattle.cert_check.specs.declared.verdict.Verdict.TheVariants.{Accepted, Rejected}
 use Rattle.replies.specs.Firmware.{words_by, outside_fault, fault_or, firmware_fault, firmware_words, firmware_names, firmware_end}
-use Rattle.replies.specs.Texts.{firmware_outside, demo_text, witness_rejected, devices_refused, assumptions_refused, certificate_refused}
-use Rattle.replies.specs.Reply.{Reply, Says, Refuses, ListBy, WithList, attains, AttainedBy, WitnessReply, VerdictReply, CertificateReply, report_by, ExplainReply, PremisesReply, WhyReply, PlacesReply, AttainReply, AcceptedReply, SimulateReply, DemoReply, FlashReply}
+use Rattle.replies.specs.Texts.{firmware_outside, witness_rejected, assumptions_refused, certificate_refused}
+use Rattle.replies.specs.Reply.{Reply, Says, Refuses, ListBy, WithList, attains, AttainedBy, WitnessReply, VerdictReply, CertificateReply, report_by, ExplainReply, PremisesReply, WhyReply, PlacesReply, AttainReply, AcceptedReply, FlashReply}
 use Rattle.replies.specs.Headline.{HasWords, PlacesSayTheSame, CausesSayTheSame}
 use Rattle.cert_words.specs.Text.{text_of}
 use Rattle.guided_trials.specs.Attaining.{IsCompleted}
@@ -45,9 +41,6 @@ use Rattle.stack_core.specs.declared.loading.Image.TheVariants.{Loaded as OnFlas
 use Rattle.stack_core.specs.declared.loading.Listing.TheVariants.{Unlisted}
 
 -- ---- simulate
-
-unsimulated : (words : List ℕ) (A : List Entry) (steps : ℕ) (x : Result Setup DevicesFault) (f : DevicesFault) (text : List ℕ) → x ≡ Err f → devices_refused f ≡ Some text → SimulateReply words A steps x 14 text
-unsimulated words A steps x f text e t = subst (λ y. SimulateReply words A steps y 14 text) (sym e) (subst (λ o. Refuses 14 o 14 text) (sym t) (refl, refl))
 
 -- ---- a certificate's schedule
 
@@ -126,10 +119,6 @@ attain_reply words A n c d text h valid told =
 
 pub refused_by : (n : ℕ) (o : Option (List ℕ)) (status : ℕ) (text : List ℕ) → status ≡ n → o ≡ Some text → Refuses n o status text
 refused_by n o status text s t = subst (λ x. Refuses n x status text) (sym t) (s, refl)
-
-pub measured_reply : (size : ℕ) (words : List ℕ) (A : List Entry) (c : Claim) (text : List ℕ) → words ≡ demo_words size → A ≡ [] → IsAnswer words A None c → IsClaim c → text ≡ demo_text size c → DemoReply size 0 text
-measured_reply size words A c text w a answer claim t =
-    inl (record { claim = c; fits = claim; answer = subst (λ x. IsAnswer x [] None c) w (subst (λ x. IsAnswer words x None c) a answer); says = (refl, t) })
 
 -- ---- the words of a firmware
 

@@ -1,6 +1,5 @@
-use Rattle.std.proofs.Common.{◌≡◌, sym, ap, ◌∙◌, get_or}
-use Rattle.sb_base.specs.Writing.{Written, with_words, with_end}
-use Rattle.flash_image.specs.Naming.{least_name}
+use Rattle.std.proofs.Common.{sym, ap, ◌∙◌}
+use Rattle.sb_base.specs.Writing.{with_words, with_end}
 use Rattle.replies.specs.Places.{name_up_to, place_line}
 use Rattle.reports.proofs.AllLaws.{numbers_next}
 use Rattle.replies.proofs.Sites.{up_first, nothing_behind}

@@ -1,4 +1,4 @@
-use Rattle.std.proofs.Common.{◌≡◌, sym, ap, ◌∙◌}
+use Rattle.std.proofs.Common.{sym, ap, ◌∙◌}
 use Rattle.cert_writing.proofs.Written.{lines_next}
 use Rattle.replies.specs.Places.{name_up_to, why_line}
 use Rattle.replies.proofs.Sites.{up_first, nothing_behind}
