@@ -10,14 +10,13 @@ ghost use Rattle.edge_laws.specs.Expansions.{AreAscending};
 ghost use Rattle.call_graph.specs.Expanding.{IsExpanded, AreNumbered, ComesFromBelow};
 
 use crate::filled::{Expanded, Filled};
+use crate::task::Task;
 use abs_state::AbsState;
 use abs_step::local;
 use edge_rules::{Seed, Seeded};
-use flash_image::Flash;
 use local_rules::{Node, NodeFault};
 use mask_states::NodeKey;
-use std::alloc::{AllocError, Global};
-use vector_table::Assumptions;
+use std::alloc::AllocError;
 
 // The state of the first node of this key.
 fn state_in(nodes: Vec<Node>, key: &NodeKey) -> Option<AbsState>
@@ -33,16 +32,14 @@ fn state_in(nodes: Vec<Node>, key: &NodeKey) -> Option<AbsState>
 
 // The state of a node of this key that comes from another.
 fn carry(
-    alloc: Global,
-    flash: &Flash,
-    assumptions: &Assumptions,
+    task: &Task<'_>,
     from: &Node,
     key: &NodeKey,
 ) -> Result<Option<AbsState>, AllocError>
-    requires { IsNodeIn (has_pairs assumptions.now) from.now.key from.now.state }
-    ensures { IfOk result (λ found. found ≡ carried flash.now assumptions.now key.now (Some from.now)) }
+    requires { IsNodeIn (has_pairs task.now.assumptions.now) from.now.key from.now.state }
+    ensures { IfOk result (λ found. found ≡ carried task.now.flash.now task.now.assumptions.now key.now (Some from.now)) }
 {
-    match local(alloc, flash, assumptions, &from.key, &from.state) {
+    match local(task.alloc, task.flash, task.assumptions, &from.key, &from.state) {
         Ok(leads) => Ok(state_in(leads.same.into_vec(), key)),
         Err(NodeFault::Memory) => Err(AllocError),
         Err(_) => Ok(None),
@@ -51,38 +48,34 @@ fn carry(
 
 // The state of one node, where those before it are done.
 fn work(
-    alloc: Global,
-    flash: &Flash,
-    assumptions: &Assumptions,
+    task: &Task<'_>,
     done: &[Node],
     key: &NodeKey,
     seed: Seed<'_>,
 ) -> Result<Option<AbsState>, AllocError>
-    requires nodes { AreNumbered (has_pairs assumptions.now) done.now }
+    requires nodes { AreNumbered (has_pairs task.now.assumptions.now) done.now }
     requires below { ComesFromBelow (form_of seed) (length done.now) }
-    ensures { IfOk result (λ found. found ≡ worked flash.now assumptions.now done.now key.now (form_of seed.entry)) }
+    ensures { IfOk result (λ found. found ≡ worked task.now.flash.now task.now.assumptions.now done.now key.now (form_of seed.entry)) }
 {
     match seed {
-        Seed::State(state) => Ok(Some(state.copy(alloc)?)),
-        Seed::From(from) => carry(alloc, flash, assumptions, &done[from as usize], key),
+        Seed::State(state) => Ok(Some(state.copy(task.alloc)?)),
+        Seed::From(from) => carry(task, &done[from as usize], key),
     }
 }
 
 /// The expansion of each node, or the least node that has none. The local part of a node is worked out once for each that comes from it.
 pub fn expand<S: Seeded>(
-    alloc: Global,
-    flash: &Flash,
-    assumptions: &Assumptions,
+    task: &Task<'_>,
     nodes: &S,
 ) -> Result<Expanded, AllocError>
-    requires seeds { AreSeeds (has_pairs assumptions.now) (S.nodes nodes.now) }
+    requires seeds { AreSeeds (has_pairs task.now.assumptions.now) (S.nodes nodes.now) }
     requires ascending { AreAscending (S.nodes nodes.now) }
-    ensures { IfOk result (λ answer. IsExpanded flash.now assumptions.now (S.nodes nodes.now) answer) }
+    ensures { IfOk result (λ answer. IsExpanded task.now.flash.now task.now.assumptions.now (S.nodes nodes.now) answer) }
 {
-    let mut done = Vec::new(alloc);
+    let mut done = Vec::new(task.alloc);
     for at in 0..nodes.count() {
         let key = *nodes.key(at);
-        match work(alloc, flash, assumptions, &done, &key, nodes.seed(at))? {
+        match work(task, &done, &key, nodes.seed(at))? {
             Some(state) => done.push(Node { key, state })?,
             None => return Ok(Expanded::Missing(at as u32)),
         }

@@ -1,10 +1,10 @@
-//! Nodes with their states, in the order of their keys.
+//! Nodes with their states, in the order of their keys, by their numbers from 0 on.
 
-ghost use Rattle.std.specs.Prelude.{◌≡◌};
-ghost use Rattle.edge_rules.specs.Views.{AreShown, IsSpan, place_of};
+ghost use Rattle.std.specs.Prelude.{◌≡◌, ◌<◌, length, Some, slice_get};
+ghost use Rattle.std.specs.Option.{option_map};
+ghost use Rattle.edge_rules.specs.Views.{AreShown, IsSpan, key_of, state_of, place_of};
 
 use abs_state::AbsState;
-use edge_rules::View;
 use local_rules::Node;
 use mask_states::{InstKey, NodeKey};
 use std::marker::Model;
@@ -34,6 +34,44 @@ impl Filled {
         ensures { result ≡ items.items }
     {
         Filled { items }
+    }
+
+    /// How many nodes there are.
+    pub fn count(&self) -> usize
+        ensures count { result ≡ length self.now }
+        ensures shown { AreShown self.now }
+    {
+        self.items.len()
+    }
+
+    /// The key of the node of this number.
+    pub fn key(&self, at: usize) -> &NodeKey
+        requires { at < length self.now }
+        ensures { option_map key_of (slice_get self.now at) ≡ Some result.now }
+    {
+        &self.items[at].key
+    }
+
+    /// What is known at the node of this number.
+    pub fn state(&self, at: usize) -> &AbsState
+        requires { at < length self.now }
+        ensures { option_map state_of (slice_get self.now at) ≡ Some result.now }
+    {
+        &self.items[at].state
+    }
+
+    /// The number of the node of this key.
+    pub fn find(&self, key: &NodeKey) -> Option<usize>
+        ensures { result ≡ place_of key.now self.now }
+    {
+        place_of(&self.items, key)
+    }
+
+    /// The first number of the instance's nodes and the one behind their last, or two equal ones.
+    pub fn span(&self, inst: &InstKey) -> (usize, usize)
+        ensures { IsSpan self.now inst.now result.0 result.1 }
+    {
+        span_of(&self.items, inst)
     }
 
     /// The nodes in their order.
@@ -93,28 +131,4 @@ fn span_of(nodes: &[Node], inst: &InstKey) -> (usize, usize)
     let low = nodes.partition_point(|node| node.key.inst.cmp(inst).is_lt());
     let high = nodes.partition_point(|node| node.key.inst.cmp(inst).is_le());
     (low, high)
-}
-
-impl View for Filled {
-    ghost nodes = { λ nodes. nodes };
-
-    fn count(&self) -> usize {
-        self.items.len()
-    }
-
-    fn key(&self, at: usize) -> &NodeKey {
-        &self.items[at].key
-    }
-
-    fn state(&self, at: usize) -> &AbsState {
-        &self.items[at].state
-    }
-
-    fn find(&self, key: &NodeKey) -> Option<usize> {
-        place_of(&self.items, key)
-    }
-
-    fn span(&self, inst: &InstKey) -> (usize, usize) {
-        span_of(&self.items, inst)
-    }
 }

@@ -11,50 +11,45 @@ ghost use Rattle.call_graph.specs.Next.{exit_in};
 ghost use Rattle.call_graph.specs.Exits.{exit_or, AreExits, AreKnown, GivesExits};
 
 use crate::exit_list::Leaving;
+use crate::filled::Filled;
+use crate::task::Task;
 use abs_step::local;
 use avr_model::listed::Listed;
-use edge_rules::View;
-use flash_image::Flash;
 use local_rules::{Exit, NodeFault};
-use std::alloc::{AllocError, Global};
-use vector_table::Assumptions;
+use std::alloc::AllocError;
 
 // How the node of this number returns, or its fault.
-fn exit_at<V: View>(
-    alloc: Global,
-    flash: &Flash,
-    assumptions: &Assumptions,
-    view: &V,
+fn exit_at(
+    task: &Task<'_>,
+    nodes: &Filled,
     at: usize,
 ) -> Result<Option<Exit>, NodeFault>
-    requires place { at < length (V.nodes view.now) }
-    requires shown { AreShown (V.nodes view.now) }
-    ensures { (n : Node) → slice_get (V.nodes view.now) at ≡ Some n → Answers (λ x. x) Memory result (exit_or (rows.local flash.now assumptions.now n.key n.state)) }
+    requires place { at < length nodes.now }
+    requires shown { AreShown nodes.now }
+    ensures { (n : Node) → slice_get nodes.now at ≡ Some n → Answers (λ x. x) Memory result (exit_or (rows.local task.now.flash.now task.now.assumptions.now n.key n.state)) }
 {
-    let key = view.key(at);
-    let state = view.state(at);
-    let found = local(alloc, flash, assumptions, key, state)?;
+    let key = nodes.key(at);
+    let state = nodes.state(at);
+    let found = local(task.alloc, task.flash, task.assumptions, key, state)?;
     Ok(found.exit)
 }
 
 // How the node of this number returns, if it has no fault. The exits of the first nodes may be known.
-pub(crate) fn exit_of<V: View>(
-    alloc: Global,
-    flash: &Flash,
-    assumptions: &Assumptions,
-    view: &V,
+pub(crate) fn exit_of(
+    task: &Task<'_>,
+    nodes: &Filled,
     at: usize,
     known: &[Option<Exit>],
 ) -> Result<Option<Exit>, AllocError>
-    requires place { at < length (V.nodes view.now) }
-    requires shown { AreShown (V.nodes view.now) }
-    requires given { AreKnown flash.now assumptions.now (V.nodes view.now) known.now }
-    ensures { (n : Node) → slice_get (V.nodes view.now) at ≡ Some n → IfOk result (λ x. x ≡ exit_in (rows.local flash.now assumptions.now n.key n.state)) }
+    requires place { at < length nodes.now }
+    requires shown { AreShown nodes.now }
+    requires given { AreKnown task.now.flash.now task.now.assumptions.now nodes.now known.now }
+    ensures { (n : Node) → slice_get nodes.now at ≡ Some n → IfOk result (λ x. x ≡ exit_in (rows.local task.now.flash.now task.now.assumptions.now n.key n.state)) }
 {
     if at < known.len() {
         return Ok(known[at]);
     }
-    match exit_at(alloc, flash, assumptions, view, at) {
+    match exit_at(task, nodes, at) {
         Ok(exit) => Ok(exit),
         Err(NodeFault::Memory) => Err(AllocError),
         Err(_) => Ok(None),
@@ -62,17 +57,15 @@ pub(crate) fn exit_of<V: View>(
 }
 
 /// How all nodes return, where none of them has a fault; else the first fault. The local part of each node is worked out once.
-pub fn exits<V: View>(
-    alloc: Global,
-    flash: &Flash,
-    assumptions: &Assumptions,
-    view: &V,
+pub fn exits(
+    task: &Task<'_>,
+    nodes: &Filled,
 ) -> Result<Leaving, AllocError>
-    ensures { IfOk result (λ answer. GivesExits flash.now assumptions.now (V.nodes view.now) answer) }
+    ensures { IfOk result (λ answer. GivesExits task.now.flash.now task.now.assumptions.now nodes.now answer) }
 {
-    let mut items = Vec::new(alloc);
-    for at in 0..view.count() {
-        match exit_at(alloc, flash, assumptions, view, at) {
+    let mut items = Vec::new(task.alloc);
+    for at in 0..nodes.count() {
+        match exit_at(task, nodes, at) {
             Ok(exit) => items.push(exit)?,
             Err(NodeFault::Memory) => return Err(AllocError),
             Err(fault) => return Ok(Leaving::Fault(at, fault)),
@@ -82,16 +75,14 @@ pub fn exits<V: View>(
 }
 
 /// How all nodes return, none of which has a fault. The local part of each node is worked out once.
-pub fn all_exits<V: View>(
-    alloc: Global,
-    flash: &Flash,
-    assumptions: &Assumptions,
-    view: &V,
+pub fn all_exits(
+    task: &Task<'_>,
+    nodes: &Filled,
 ) -> Result<Listed<Option<Exit>>, AllocError>
-    requires faultless { AreFaultless flash.now assumptions.now (V.nodes view.now) }
-    ensures { IfOk result (λ exits. AreExits flash.now assumptions.now (V.nodes view.now) exits) }
+    requires faultless { AreFaultless task.now.flash.now task.now.assumptions.now nodes.now }
+    ensures { IfOk result (λ exits. AreExits task.now.flash.now task.now.assumptions.now nodes.now exits) }
 {
-    match exits(alloc, flash, assumptions, view)? {
+    match exits(task, nodes)? {
         Leaving::All(exits) => Ok(exits),
         Leaving::Fault(_, _) => unreachable!(),
     }

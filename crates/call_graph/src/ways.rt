@@ -3,11 +3,10 @@
 ghost use Rattle.std.specs.Prelude.{◌≡◌, ◌≤◌, ◌++◌, map, true, IfOk, OnOk, OnErr};
 ghost use Rattle.call_graph.specs.Ways.{call_way, vector_way, may_enter, at_vector, vectors_below, ways_of};
 
-use flash_image::Flash;
+use crate::task::Task;
 use local_rules::CallSite;
 use mask_states::{EdgeKind, InstKey, Kind, NodeKey, SpForm};
-use std::alloc::{AllocError, Global};
-use vector_table::Assumptions;
+use std::alloc::AllocError;
 
 /// A way into an instance: how, into which, and the word at which the entering node goes on afterwards. Source: own.
 #[derive(Clone, Copy)]
@@ -37,10 +36,10 @@ fn call_way(key: &NodeKey, site: CallSite) -> Way
 }
 
 // The way of an interrupt.
-fn vector_way(flash: &Flash, key: &NodeKey, v: u8, clears: bool) -> Way
+fn vector_way(task: &Task<'_>, key: &NodeKey, v: u8, clears: bool) -> Way
     requires low { 2 ≤ v }
     requires high { v ≤ 26 }
-    ensures { result ≡ vector_way flash.now key.now v clears }
+    ensures { result ≡ vector_way task.now.flash.now key.now v clears }
 {
     let masks = if clears {
         key.masks.with(7, false)
@@ -51,7 +50,7 @@ fn vector_way(flash: &Flash, key: &NodeKey, v: u8, clears: bool) -> Way
         kind: EdgeKind::Interrupt(v, clears),
         inst: InstKey {
             kind: Kind::Vector(v),
-            entry: flash.device().vector_word(v),
+            entry: task.flash.device().vector_word(v),
             masks,
             i: false,
         },
@@ -70,30 +69,29 @@ fn add_calls(ways: &mut Vec<Way>, key: &NodeKey, calls: &[CallSite]) -> Result<(
 }
 
 // An interrupt is enabled, and its word has no `never` line.
-fn may_enter(flash: &Flash, assumptions: &Assumptions, key: &NodeKey, v: u8) -> bool
+fn may_enter(task: &Task<'_>, key: &NodeKey, v: u8) -> bool
     requires low { 2 ≤ v }
     requires high { v ≤ 26 }
-    ensures { result ≡ may_enter flash.now assumptions.now key.now v }
+    ensures { result ≡ may_enter task.now.flash.now task.now.assumptions.now key.now v }
 {
-    key.masks.has(v) && !assumptions.never(flash.device().vector_word(v))
+    key.masks.has(v) && !task.assumptions.never(task.flash.device().vector_word(v))
 }
 
 // The ways of a vector's interrupt, if it may come.
 fn add_vector(
     ways: &mut Vec<Way>,
-    flash: &Flash,
-    assumptions: &Assumptions,
+    task: &Task<'_>,
     key: &NodeKey,
     v: u8,
 ) -> Result<(), AllocError>
     requires low { 2 ≤ v }
     requires high { v ≤ 26 }
-    ensures { OnOk result (ways.new.items ≡ ways.old.items ++ at_vector flash.now assumptions.now key.now v) }
+    ensures { OnOk result (ways.new.items ≡ ways.old.items ++ at_vector task.now.flash.now task.now.assumptions.now key.now v) }
 {
-    if may_enter(flash, assumptions, key, v) {
-        ways.push(vector_way(flash, key, v, false))?;
+    if may_enter(task, key, v) {
+        ways.push(vector_way(task, key, v, false))?;
         if v == 7 {
-            ways.push(vector_way(flash, key, v, true))?;
+            ways.push(vector_way(task, key, v, true))?;
         }
     }
     Ok(())
@@ -102,33 +100,30 @@ fn add_vector(
 // The ways of all interrupts.
 fn add_vectors(
     ways: &mut Vec<Way>,
-    flash: &Flash,
-    assumptions: &Assumptions,
+    task: &Task<'_>,
     key: &NodeKey,
 ) -> Result<(), AllocError>
-    ensures { OnOk result (ways.new.items ≡ ways.old.items ++ vectors_below flash.now assumptions.now key.now 25) }
+    ensures { OnOk result (ways.new.items ≡ ways.old.items ++ vectors_below task.now.flash.now task.now.assumptions.now key.now 25) }
 {
     for n in 0..25u8 {
-        add_vector(ways, flash, assumptions, key, n + 2)?;
+        add_vector(ways, task, key, n + 2)?;
     }
     Ok(())
 }
 
 /// The ways of a node with these calls into other instances on the device: its calls, then the interrupts that may come, by vector.
 pub fn ways(
-    alloc: Global,
-    flash: &Flash,
-    assumptions: &Assumptions,
+    task: &Task<'_>,
     key: &NodeKey,
     calls: &[CallSite],
 ) -> Result<Vec<Way>, AllocError>
-    ensures { IfOk result (λ all. all.items ≡ ways_of flash.now assumptions.now key.now calls.now) }
+    ensures { IfOk result (λ all. all.items ≡ ways_of task.now.flash.now task.now.assumptions.now key.now calls.now) }
 {
-    let mut all = Vec::new(alloc);
+    let mut all = Vec::new(task.alloc);
     if let SpForm::Closed(_) = key.sp {
         add_calls(&mut all, key, calls)?;
         if key.i && !key.delay {
-            add_vectors(&mut all, flash, assumptions, key)?;
+            add_vectors(&mut all, task, key)?;
         }
     }
     Ok(all)

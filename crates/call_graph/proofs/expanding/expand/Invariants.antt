@@ -2,4 +2,4 @@ use Rattle.edge_laws.specs.Carrying.{SoFar}
 use Rattle.call_graph.proofs.expanding.expand.Given as goal
 
 abbrev pub invariant-loop-at : goal.invariant-loop-at
-invariant-loop-at g l = SoFar l.flash l.assumptions (g.S.Seeded.nodes l.nodes) l.at l.done.items
+invariant-loop-at g l = SoFar l.task.flash.now l.task.assumptions.now (g.S.Seeded.nodes l.nodes) l.at l.done.items

@@ -11,6 +11,6 @@ carry-requires c =
 pub returns-in-From : goal.returns-in-From
 returns-in-From c =
     subst (λ w. IfOk c.carry.result (λ found. found ≡ w))
-    (worked_from c.args.flash.now c.args.assumptions.now c.args.done.now c.args.key.now c.args.seed c.in-From.from c.index-done-from.result c.in-From.is
+    (worked_from c.args.task.now.flash.now c.args.task.now.assumptions.now c.args.done.now c.args.key.now c.args.seed c.in-From.from c.index-done-from.result c.in-From.is
     (from_at c.args.done.now c.args.seed c.in-From.from c.index-done-from.result c.in-From.is c.requires.below c.index-done-from.is))
     c.carry.ensures

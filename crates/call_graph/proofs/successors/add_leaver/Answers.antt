@@ -2,5 +2,5 @@ use Rattle.call_graph.proofs.Shown.{state_there}
 use Rattle.call_graph.proofs.successors.add_leaver.Goals as goal
 
 pub add_return-requires : goal.add_return-requires
-add_return-requires g c =
-    (state_there (g.V.View.nodes c.args.view.now) c.args.at c.state-leaving.result.now c.requires.shown c.state-leaving.ensures).1.formed.registers
+add_return-requires c =
+    (state_there c.args.nodes.now c.args.at c.state-leaving.result.now c.requires.shown c.state-leaving.ensures).1.formed.registers

@@ -2,9 +2,9 @@ use Rattle.call_graph.proofs.Shown.{node_there}
 use Rattle.call_graph.proofs.successors.listed.Goals as goal
 
 pub local-requires-clause-word : goal.local-requires-clause-word
-local-requires-clause-word g c =
-    (node_there (g.V.View.nodes c.args.view.now) c.args.at c.key-key.result.now c.state-state.result.now c.count-count.ensures.shown c.key-key.ensures c.state-state.ensures).word
+local-requires-clause-word c =
+    (node_there c.args.nodes.now c.args.at c.key-key.result.now c.state-state.result.now c.count-count.ensures.shown c.key-key.ensures c.state-state.ensures).word
 
 pub local-requires-clause-sized : goal.local-requires-clause-sized
-local-requires-clause-sized g c =
-    (node_there (g.V.View.nodes c.args.view.now) c.args.at c.key-key.result.now c.state-state.result.now c.count-count.ensures.shown c.key-key.ensures c.state-state.ensures).formed.count_slots
+local-requires-clause-sized c =
+    (node_there c.args.nodes.now c.args.at c.key-key.result.now c.state-state.result.now c.count-count.ensures.shown c.key-key.ensures c.state-state.ensures).formed.count_slots

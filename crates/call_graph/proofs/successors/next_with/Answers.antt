@@ -5,9 +5,9 @@ use Rattle.call_graph.proofs.Returning.{all_known}
 use Rattle.call_graph.proofs.successors.next_with.Goals as goal
 
 pub listed-requires-clause-given : goal.listed-requires-clause-given
-listed-requires-clause-given g c =
-    subst (AreKnown c.args.flash.now c.args.assumptions.now (g.V.View.nodes c.args.view.now)) (sym c.as_slice.ensures)
-    (all_known c.args.flash.now c.args.assumptions.now (g.V.View.nodes c.args.view.now) c.args.exits.now c.requires.taken)
+listed-requires-clause-given c =
+    subst (AreKnown c.args.task.now.flash.now c.args.task.now.assumptions.now c.args.nodes.now) (sym c.as_slice.ensures)
+    (all_known c.args.task.now.flash.now c.args.task.now.assumptions.now c.args.nodes.now c.args.exits.now c.requires.taken)
 
 pub returns-in-Ok : goal.returns-in-Ok
-returns-in-Ok g c = λ n e. answer_edges c.args.flash.now c.args.assumptions.now (g.V.View.nodes c.args.view.now) n (Ok c.in-Ok.edges) (c.in-Ok.ensures n e)
+returns-in-Ok c = λ n e. answer_edges c.args.task.now.flash.now c.args.task.now.assumptions.now c.args.nodes.now n (Ok c.in-Ok.edges) (c.in-Ok.ensures n e)

@@ -4,13 +4,13 @@ use Rattle.call_graph.proofs.Vectors.{no_vectors, one_vector_more}
 use Rattle.call_graph.proofs.ways.add_vectors.Goals as goal
 
 pub loop-n-init : goal.loop-n-init
-loop-n-init c = no_vectors c.args.flash.now c.args.assumptions.now c.args.key.now c.args.ways.now.items
+loop-n-init c = no_vectors c.args.task.now.flash.now c.args.task.now.assumptions.now c.args.key.now c.args.ways.now.items
 
 pub loop-n-preserved : goal.loop-n-preserved
 loop-n-preserved c =
-    one_vector_more c.args.flash.now c.args.assumptions.now c.args.key.now c.loop-n.n c.args.ways.now.items c.loop-n.ways.items c.add_vector.new.ways.items c.loop-n.invariant c.in_ok-add_vector.ensures
+    one_vector_more c.args.task.now.flash.now c.args.task.now.assumptions.now c.args.key.now c.loop-n.n c.args.ways.now.items c.loop-n.ways.items c.add_vector.new.ways.items c.loop-n.invariant c.in_ok-add_vector.ensures
 
 pub returns : goal.returns
 returns c =
     let done : c.loop-n.n ≡ 25 = omega arith in
-    c.loop-n.invariant ∙ ap (λ n. c.args.ways.now.items ++ vectors_below c.args.flash.now c.args.assumptions.now c.args.key.now n) done
+    c.loop-n.invariant ∙ ap (λ n. c.args.ways.now.items ++ vectors_below c.args.task.now.flash.now c.args.task.now.assumptions.now c.args.key.now n) done

@@ -3,4 +3,4 @@ use Rattle.call_graph.specs.Ways.{vectors_below}
 use Rattle.call_graph.proofs.ways.add_vectors.Given as goal
 
 abbrev pub invariant-loop-n : goal.invariant-loop-n
-invariant-loop-n l = l.ways.items ≡ l.fn.ways.items ++ vectors_below l.flash l.assumptions l.key l.n
+invariant-loop-n l = l.ways.items ≡ l.fn.ways.items ++ vectors_below l.task.flash.now l.task.assumptions.now l.key l.n

@@ -1,0 +1,71 @@
+//! Families that are worked out.
+
+ghost use Rattle.std.specs.Prelude.{◌≡◌, ◌≤◌, length, IfOk};
+ghost use Rattle.edge_rules.specs.Families.{AreFaultless};
+ghost use Rattle.call_graph.specs.Exits.{AreExits};
+ghost use Rattle.call_graph.specs.Landings.{AreLandings};
+
+use crate::filled::Filled;
+use crate::landing::{Landing, landings_of};
+use crate::leaving::all_exits;
+use crate::successors::next_with;
+use crate::task::Task;
+use avr_model::listed::Listed;
+use local_rules::Exit;
+use std::alloc::AllocError;
+
+/// A family of nodes, none of which has a fault, with where the edges of each land, worked out once.
+#[derive(Drop)]
+pub struct Worked {
+    /// The nodes with their states.
+    pub nodes: Filled,
+    /// Where the edges of each node land, by its number.
+    pub landings: Listed<Listed<Landing>>,
+}
+
+// Where edges land, where these are the exits of the nodes.
+fn landings_with(
+    task: &Task<'_>,
+    nodes: &Filled,
+    exits: &Listed<Option<Exit>>,
+) -> Result<Listed<Listed<Landing>>, AllocError>
+    requires few { length nodes.now ≤ 65536 }
+    requires taken { AreExits task.now.flash.now task.now.assumptions.now nodes.now exits.now }
+    ensures { IfOk result (λ all. AreLandings task.now.flash.now task.now.assumptions.now nodes.now all) }
+{
+    let mut all = Listed::empty(task.alloc);
+    for at in 0..nodes.count() {
+        let edges = next_with(task, nodes, at, exits)?;
+        let landings = landings_of(task.alloc, nodes, at + 1, edges.as_slice())?;
+        all.push(landings)?;
+    }
+    Ok(all)
+}
+
+// The same, where none has a fault.
+fn all_landings(task: &Task<'_>, nodes: &Filled) -> Result<Listed<Listed<Landing>>, AllocError>
+    requires few { length nodes.now ≤ 65536 }
+    requires faultless { AreFaultless task.now.flash.now task.now.assumptions.now nodes.now }
+    ensures { IfOk result (λ all. AreLandings task.now.flash.now task.now.assumptions.now nodes.now all) }
+{
+    let exits = all_exits(task, nodes)?;
+    landings_with(task, nodes, &exits)
+}
+
+impl Worked {
+    /// The family of these nodes, at most 65,536, none of which has a fault. The local part of each is worked out twice.
+    pub fn of(task: &Task<'_>, nodes: Filled) -> Result<Worked, AllocError>
+        requires few { length nodes ≤ 65536 }
+        requires faultless { AreFaultless task.now.flash.now task.now.assumptions.now nodes }
+        ensures nodes { IfOk result (λ worked. worked.nodes ≡ nodes) }
+        ensures landings { IfOk result (λ worked. AreLandings task.now.flash.now task.now.assumptions.now nodes worked.landings) }
+    {
+        match all_landings(task, &nodes) {
+            Ok(landings) => Ok(Worked { nodes, landings }),
+            Err(error) => {
+                drop(nodes);
+                Err(error)
+            }
+        }
+    }
+}
