@@ -1,29 +1,27 @@
 -- Places and edges of an instance, node by node.
-use Rattle.std.proofs.Common.{arith, refl, sym, ap, subst, ◌∙◌, ◌≡◌, ℕ, ◌+◌, ◌≤◌, ◌⊎◌, inl, inr, Bool, true, false, if◌then◌else◌, List, [], ◌∷◌, ◌++◌, length, Some, slice_get, Contains}
+use Rattle.std.proofs.Common.{arith, refl, sym, ap, subst, ◌∙◌, ◌≡◌, ℕ, ◌+◌, ◌≤◌, ◌⊎◌, inl, inr, List, [], ◌∷◌, ◌++◌, length, map, Some, slice_get, Contains}
 use Rattle.std.specs.Prelude.{◌↔◌}
-use Rattle.std.specs.List.{flat_map}
 use Rattle.std.proofs.lemmas.List.Elements.{Contains-append_left, Contains-append_right, Contains-append_cases}
-use Rattle.basics.specs.Items.{contained_in_join, contained_at, only_one_in as only, none_in}
+use Rattle.basics.specs.Items.{contained_at, only_one_in as only}
 use Rattle.basics.specs.Lists.{one_at}
 use Rattle.basics.specs.Numbers.{before_or_last}
 use Rattle.avr_model.specs.declared.assumption.Entry.{Entry}
-use Rattle.abs_state.specs.Frames.{entered}
-use Rattle.mask_states.specs.declared.keys.EdgeKind.{EdgeKind}
 use Rattle.mask_states.specs.declared.keys.InstKey.{InstKey}
 use Rattle.mask_states.specs.declared.keys.SpForm.{SpForm}
 use Rattle.mask_states.specs.declared.keys.SpForm.TheVariants.{Closed, Open}
-use Rattle.mask_states.specs.Keys.{entry_key}
 use Rattle.local_rules.specs.declared.local.Node.{Node}
-use Rattle.edge_rules.specs.declared.edge.Edge.{Edge}
-use Rattle.edge_rules.specs.Edges.{is_entry, Enters, by_call, by_interrupt, IsEdge, moving, entering, returning, AreEdges}
+use Rattle.local_laws.proofs.AllLaws.{in_map, each_in_map}
+use Rattle.edge_rules.specs.Edges.{Enters}
 use Rattle.edge_rules.specs.Views.{IsSpan}
 use Rattle.nesting_bound.specs.declared.graph.Entered.{Entered}
 use Rattle.nesting_bound.specs.declared.graph.GraphInst.{GraphInst}
 use Rattle.nesting_bound.specs.declared.graph.Place.{Place}
-use Rattle.family_graph.specs.Graphs.{HasInst, IsPeopled}
-use Rattle.family_graph.specs.Numbers.{number_in, AreNumbers, entry_if, entries_of, AddsAt, IsPlaceBetween, IsEntryBetween, IsInstOf}
+use Rattle.family_graph.specs.declared.entering.Entering.{Entering}
+use Rattle.family_graph.specs.Graphs.{AreWaysOf, IsPeopled}
+use Rattle.family_graph.specs.Numbers.{number_in, AreNumbers, entry_of, AddsAt, IsPlaceBetween, IsEntryBetween, IsInstOf}
 use Rattle.family_graph.proofs.Lists.{itself}
 use Rattle.family_graph.proofs.Insts.{number_is, number_there}
+use Rattle.family_graph.proofs.Ways.{entered_inst}
 
 open_closed : (o h : ℕ) (high : _) → Open o high ≡ Closed h → ⊥
 open_closed o h high e = cc
@@ -41,19 +39,7 @@ entry_is e at offset into a b c =
     let mk : ℕ → ℕ → ℕ → Entered = λ x y z. record { node = x; offset = y; kind = e.kind; into = z } in
     ap (λ (x : ℕ). mk x offset into) (sym a) ∙ ap (λ (y : ℕ). mk e.node y into) (sym b) ∙ ap (mk e.node e.offset) (sym c)
 
--- ---- members of a list that is gathered
-
-pub gathered : {X Y : Type 0} (f : X → List Y) (xs : List X) (y : Y) → Contains (flat_map f xs) y → (x : X) × Contains xs x × Contains (f x) y
-gathered f [] y has = absurd (none_in y has)
-gathered f (z ∷ zs) y has =
-    elim (Contains-append_cases (f z) (flat_map f zs) y has) [
-      | inl here ↦ (z, Contains-append_left (z ∷ []) zs z (itself z), here)
-      | inr more ↦ let g = gathered f zs y more in (g.0, Contains-append_right (z ∷ []) zs g.0 g.1, g.2)
-    ]
-
-kind_enters : (words : List ℕ) (A : List Entry) (n : Node) (way : EdgeKind) (inst : InstKey) (back : ℕ) → Enters words A n way inst back → is_entry way ≡ true
-kind_enters words A n way inst back (by_call offset site f sp has) = refl
-kind_enters words A n way inst back (by_interrupt offset v clears f sp i delay on allowed dog) = refl
+-- ---- the edges of one node
 
 module _ (words : List ℕ) (A : List Entry) (nodes : List Node) (insts : List InstKey) (numbers : List ℕ) (are : AreNumbers nodes (length nodes) insts numbers)
     (peopled : IsPeopled words A nodes) (n : Node) (member : Contains nodes n) (at offset : ℕ) where
@@ -66,39 +52,23 @@ module _ (words : List ℕ) (A : List Entry) (nodes : List Node) (insts : List I
     pub back : ℕ
     pub enters : Enters words A n e.kind into back
 
-  abbrev made : EdgeKind → InstKey → Entered
-  made way inst = record { node = at; offset = offset; kind = way; into = number_in insts inst }
+  abbrev made : Entering → Entered
+  made w = entry_of insts (record { node = at; offset = offset }) w
 
-  from_way : (way : EdgeKind) (inst : InstKey) (back : ℕ) (b : Bool) (e : Entered) → Enters words A n way inst back → Contains (if b then made way inst ∷ [] else []) e → IsEntryAt e
-  from_way way inst back true e enters has =
-      subst IsEntryAt (sym (only (made way inst) e has))
-      (record {
-        node = refl;
-        offset_is = refl;
-        into = inst;
-        leads = number_there nodes insts numbers inst are (peopled n way inst back member enters);
-        back = back;
-        enters = enters;
-      })
-  from_way way inst back false e enters has = absurd (none_in e has)
-
-  from_edge : (edge : Edge) (e : Entered) → IsEdge words A nodes n edge → Contains (entry_if insts at offset edge) e → IsEntryAt e
-  from_edge edge e (moving to f has) h = absurd (none_in e h)
-  from_edge edge e (entering way inst back enters) h = from_way way inst back (is_entry way) e enters h
-  from_edge edge e (returning way inst back leaver x state enters has same f exit after) h = absurd (none_in e h)
-
-  to_way : (way : EdgeKind) (inst : InstKey) (b : Bool) → b ≡ true → Contains (if b then made way inst ∷ [] else []) (made way inst)
-  to_way way inst true is = itself (made way inst)
-  to_way way inst false is = absurd cc
-
-  pub listed : (edges : List Edge) → AreEdges words A nodes n edges → (e : Entered) → Contains (entries_of insts at offset edges) e ↔ IsEntryAt e
-  listed edges all e = (
-    λ has. let g = gathered (entry_if insts at offset) edges e has in from_edge g.0 e ((all g.0).0 g.1) g.2,
+  pub listed : (ways : List Entering) → AreWaysOf words A n ways → (e : Entered) → Contains (map made ways) e ↔ IsEntryAt e
+  listed ways all e = (
+    λ has. each_in_map made IsEntryAt ways (λ w h. let k = (all w).0 h in record {
+      node = refl;
+      offset_is = refl;
+      into = w.inst;
+      leads = number_there nodes insts numbers w.inst are (entered_inst nodes w.inst (peopled n w.kind w.inst k.0 member k.1));
+      back = k.0;
+      enters = k.1;
+    }) e has,
     λ is.
-        let edge : Edge = record { kind = e.kind; to = entry_key is.into; state = entered n.state } in
-        let same : made e.kind is.into ≡ e = entry_is e at offset (number_in insts is.into) is.node is.offset_is (sym (number_is insts e.into is.into are.ascending is.leads)) in
-        contained_in_join (entry_if insts at offset) edges edge e ((all edge).1 (entering e.kind is.into is.back is.enters))
-        (subst (Contains (entry_if insts at offset edge)) same (to_way e.kind is.into (is_entry e.kind) (kind_enters words A n e.kind is.into is.back is.enters))),
+        let w : Entering = record { kind = e.kind; inst = is.into } in
+        let same : made w ≡ e = entry_is e at offset (number_in insts is.into) is.node is.offset_is (sym (number_is insts e.into is.into are.ascending is.leads)) in
+        subst (Contains (map made ways)) same (in_map made ways w ((all w).1 (is.back, is.enters))),
   )
 
 -- ---- one node more
@@ -116,16 +86,16 @@ module _ (words : List ℕ) (A : List Entry) (nodes : List Node) (insts : List I
             inr (same, subst (λ (m : Node). m.key.sp ≡ Closed p.offset) k h.closed)
       ]
 
-  pub places_more : (sp : SpForm) → n.key.sp ≡ sp → (ps ps' : List Place) (es es' : List Entered) → AddsAt words A nodes insts at n sp ps es ps' es'
+  pub places_more : (ways : List Entering) → (sp : SpForm) → n.key.sp ≡ sp → (ps ps' : List Place) (es es' : List Entered) → AddsAt insts at ways sp ps es ps' es'
       → ((p : Place) → Contains ps p ↔ IsPlaceBetween nodes low at p) → (p : Place) → Contains ps' p ↔ IsPlaceBetween nodes low (at + 1) p
-  places_more (Open o high) is ps ps' es es' adds inv p = (
+  places_more ways (Open o high) is ps ps' es es' adds inv p = (
     λ has. wider_place p ((inv p).0 (subst (λ (xs : List Place). Contains xs p) adds.0 has)),
     λ b. elim (newer_place p b) [
       | inl old ↦ subst (λ (xs : List Place). Contains xs p) (sym adds.0) ((inv p).1 old)
       | inr new ↦ absurd (open_closed o p.offset high (sym is ∙ new.1))
     ],
   )
-  places_more (Closed o) is ps ps' es es' adds inv p = (
+  places_more ways (Closed o) is ps ps' es es' adds inv p = (
     λ has. elim (Contains-append_cases ps (record { node = at; offset = o } ∷ []) p (subst (λ (xs : List Place). Contains xs p) adds.0 has)) [
       | inl old ↦ wider_place p ((inv p).0 old)
       | inr this ↦ subst (IsPlaceBetween nodes low (at + 1)) (sym (only (record { node = at; offset = o }) p this)) (record { above = above; below = omega arith; node = n; at = here; closed = is })
@@ -172,24 +142,25 @@ module _ (words : List ℕ) (A : List Entry) (nodes : List Node) (insts : List I
           enters = a.enters;
         }
 
-    pub entries_more : (sp : SpForm) → n.key.sp ≡ sp → (ps ps' : List Place) (es es' : List Entered) → AddsAt words A nodes insts at n sp ps es ps' es'
+    pub entries_more : (ways : List Entering) → AreWaysOf words A n ways → (sp : SpForm) → n.key.sp ≡ sp → (ps ps' : List Place) (es es' : List Entered) → AddsAt insts at ways sp ps es ps' es'
         → ((e : Entered) → Contains es e ↔ IsEntryBetween words A nodes insts low at e) → (e : Entered) → Contains es' e ↔ IsEntryBetween words A nodes insts low (at + 1) e
-    entries_more (Open o high) is ps ps' es es' adds inv e = (
+    entries_more ways all (Open o high) is ps ps' es es' adds inv e = (
       λ has. wider_entry e ((inv e).0 (subst (λ (xs : List Entered). Contains xs e) adds.1 has)),
       λ b. elim (newer_entry e b) [
         | inl old ↦ subst (λ (xs : List Entered). Contains xs e) (sym adds.1) ((inv e).1 old)
         | inr new ↦ absurd (open_closed o e.offset high (sym is ∙ new.0))
       ],
     )
-    entries_more (Closed o) is ps ps' es es' adds inv e =
-        let l = listed words A nodes insts numbers are peopled n (contained_at nodes at n here) at o adds.1.0 adds.1.1 e in (
-          λ has. elim (Contains-append_cases es (entries_of insts at o adds.1.0) e (subst (λ (xs : List Entered). Contains xs e) adds.1.2 has)) [
+    entries_more ways all (Closed o) is ps ps' es es' adds inv e =
+        let l = listed words A nodes insts numbers are peopled n (contained_at nodes at n here) at o ways all e in
+        let new : List Entered = map (entry_of insts (record { node = at; offset = o })) ways in (
+          λ has. elim (Contains-append_cases es new e (subst (λ (xs : List Entered). Contains xs e) adds.1 has)) [
             | inl old ↦ wider_entry e ((inv e).0 old)
             | inr this ↦ older_entry o is e (l.0 this)
           ],
-          λ b. subst (λ (xs : List Entered). Contains xs e) (sym adds.1.2) (elim (newer_entry e b) [
-            | inl old ↦ Contains-append_left es (entries_of insts at o adds.1.0) e ((inv e).1 old)
-            | inr new ↦ Contains-append_right es (entries_of insts at o adds.1.0) e (l.1 (subst (λ (x : ℕ). At x e) (closed_is e.offset o (sym new.0 ∙ is)) new.1))
+          λ b. subst (λ (xs : List Entered). Contains xs e) (sym adds.1) (elim (newer_entry e b) [
+            | inl old ↦ Contains-append_left es new e ((inv e).1 old)
+            | inr more ↦ Contains-append_right es new e (l.1 (subst (λ (x : ℕ). At x e) (closed_is e.offset o (sym more.0 ∙ is)) more.1))
           ]),
         )
 
@@ -231,18 +202,10 @@ instance_is words A nodes insts inst low high g is span places entries =
     }
 
 -- what a node with a whole stack pointer adds
-pub adds_closed : (words : List ℕ) (A : List Entry) (nodes : List Node) (insts : List InstKey) (at : ℕ) (n : Node) (sp : SpForm) (o : ℕ) (ps ps' : List Place) (es es' : List Entered)
-    → sp ≡ Closed o → ps' ≡ ps ++ record { node = at; offset = o } ∷ [] → (edges : List Edge) → AreEdges words A nodes n edges → es' ≡ es ++ entries_of insts at o edges
-    → AddsAt words A nodes insts at n sp ps es ps' es'
-adds_closed words A nodes insts at n sp o ps ps' es es' is places edges all entries =
-    subst (λ (f : SpForm). AddsAt words A nodes insts at n f ps es ps' es') (sym is) (places, (edges, all, entries))
-
--- the instance that an edge enters has a node
-pub has_by : (words : List ℕ) (A : List Entry) (nodes : List Node) → IsPeopled words A nodes → (n : Node) → Contains nodes n → (edge : Edge) → IsEdge words A nodes n edge
-    → is_entry edge.kind ≡ true → HasInst nodes edge.to.inst
-has_by words A nodes peopled n member edge (moving to f has) is = absurd cc
-has_by words A nodes peopled n member edge (entering way inst back enters) is = peopled n way inst back member enters
-has_by words A nodes peopled n member edge (returning way inst back leaver x state enters has same f exit after) is = absurd cc
+pub adds_closed : (insts : List InstKey) (at : ℕ) (ways : List Entering) (sp : SpForm) (o : ℕ) (ps ps' : List Place) (es es' : List Entered)
+    → sp ≡ Closed o → ps' ≡ ps ++ record { node = at; offset = o } ∷ [] → es' ≡ es ++ map (entry_of insts (record { node = at; offset = o })) ways
+    → AddsAt insts at ways sp ps es ps' es'
+adds_closed insts at ways sp o ps ps' es es' is places entries = subst (λ (f : SpForm). AddsAt insts at ways f ps es ps' es') (sym is) (places, entries)
 
 -- the instance that is made of these lists
 pub instance_made : (words : List ℕ) (A : List Entry) (nodes : List Node) (insts : List InstKey) (key inst : InstKey) (low high at : ℕ) (places ps : List Place) (entries es : List Entered)

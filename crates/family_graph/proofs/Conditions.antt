@@ -28,7 +28,9 @@ use Rattle.nesting_bound.specs.Least.{IsLeast}
 use Rattle.family_graph.specs.Graphs.{insts_of, IsPeopled, IsGraphOf}
 use Rattle.certificate.specs.Insts.{rank_in, need_in}
 use Rattle.certificate.specs.Claims.{Claim}
-use Rattle.certificate.specs.Valid.{MeetsConditions}
+use Rattle.certificate.specs.Valid.{IsSound, MeetsConditions}
+use Rattle.edge_rules.specs.Expansion.{IsFilled}
+use Rattle.edge_laws.specs.Expansions.{FilledOrMissing}
 use Rattle.family_graph.specs.Laws.{DeepestChainsAreBounded}
 
 member_of : (nodes : List Node) (n : Node) (at : ℕ) → slice_get nodes at ≡ Some n → Contains nodes n
@@ -64,6 +66,11 @@ root_at insts (suc k) within ascending is =
     let e : get_or insts (suc k) root_inst ≡ root_inst = get_or_from_slice_get insts (suc k) root_inst root_inst is in
     absurd (root_least (get_or insts 0 root_inst) (subst (λ (y : InstKey). inst_cmp (get_or insts 0 root_inst) y ≡ Less) e less))
 
+-- the nodes of a certificate have one expansion, of which the conditions hold
+pub meets_conditions : (words : List ℕ) (A : List Entry) (c : Claim) → FilledOrMissing → IsSound words A c → (nodes : List Node) → IsFilled words A c.nodes nodes
+    → MeetsConditions words A c nodes
+meets_conditions words A c law sound nodes filled = subst (MeetsConditions words A c) (law.one words A c.nodes sound.nodes nodes sound.expanded filled) sound.meets
+
 module _ (words : List ℕ) (A : List Entry) (c : Claim) (nodes : List Node) (meets : MeetsConditions words A c nodes) where
   member : (n : Node) (at : ℕ) → slice_get nodes at ≡ Some n → Contains nodes n
   member n at e = member_of nodes n at e
@@ -74,7 +81,7 @@ module _ (words : List ℕ) (A : List Entry) (c : Claim) (nodes : List Node) (me
   landed n way into back has enters = meets.edges n (record { kind = way; to = entry_key into; state = entered n.state }) has (entering way into back enters)
 
   pub peopled : IsPeopled words A nodes
-  peopled n way into back has enters = let l = landed n way into back has enters in (record { key = entry_key into; state = l.state }, l.present, refl)
+  peopled n way into back has enters = let l = landed n way into back has enters in (record { key = entry_key into; state = l.state }, (l.present, refl))
 
   pub some_node : 0 < length nodes
   some_node = omega (arith, meets.reset.present.1)

@@ -1,5 +1,6 @@
 mod Lists
 pub mod Insts
+pub mod Ways
 mod Adding
 pub mod Graphs
 pub mod Alike

@@ -1,13 +1,16 @@
 -- The graph of a family of nodes: which instance enters which. Source: own.
-use Rattle.std.specs.Prelude.{ℕ, ◌≡◌, ◌↔◌, List, map, Contains, Some, slice_get}
+use Rattle.std.specs.Prelude.{ℕ, ◌≡◌, ◌<◌, ◌↔◌, List, [], length, map, Contains, Some, slice_get, slice_index_or}
 use Rattle.std.specs.List.Sorted.{IsStrictlySortedBy}
 use Rattle.avr_model.specs.declared.assumption.Entry.{Entry}
 use Rattle.mask_states.specs.declared.keys.EdgeKind.{EdgeKind}
 use Rattle.mask_states.specs.declared.keys.InstKey.{InstKey}
 use Rattle.mask_states.specs.declared.keys.SpForm.TheVariants.{Closed}
+use Rattle.mask_states.specs.Keys.{entry_key}
 use Rattle.mask_states.specs.Order.{inst_cmp}
 use Rattle.local_rules.specs.declared.local.Node.{Node}
+use Rattle.local_laws.specs.Laws.{HasKey}
 use Rattle.edge_rules.specs.Edges.{Enters}
+use Rattle.family_graph.specs.declared.entering.Entering.{Entering}
 use Rattle.nesting_bound.specs.declared.graph.Entered.{Entered}
 use Rattle.nesting_bound.specs.declared.graph.GraphInst.{GraphInst}
 use Rattle.nesting_bound.specs.declared.graph.Place.{Place}
@@ -21,9 +24,22 @@ insts_of gs = map (λ g. g.key) gs
 abbrev pub HasInst : List Node → InstKey → Type 0
 HasInst nodes inst = (n : Node) × Contains nodes n × (n.key.inst ≡ inst)
 
--- each instance that a node of the family enters has a node
+-- each instance that a node of the family enters has its first node
 abbrev pub IsPeopled : List ℕ → List Entry → List Node → Type 0
-IsPeopled words A nodes = (n : Node) (way : EdgeKind) (into : InstKey) (back : ℕ) → Contains nodes n → Enters words A n way into back → HasInst nodes into
+IsPeopled words A nodes = (n : Node) (way : EdgeKind) (into : InstKey) (back : ℕ) → Contains nodes n → Enters words A n way into back → HasKey nodes (entry_key into)
+
+-- these are the ways in which the node enters instances
+abbrev pub AreWaysOf : List ℕ → List Entry → Node → List Entering → Type 0
+AreWaysOf words A n ways = (w : Entering) → Contains ways w ↔ ((back : ℕ) × Enters words A n w.kind w.inst back)
+
+-- those of the first nodes, by their numbers
+pub record AreWaysTo (words : List ℕ) (A : List Entry) (nodes : List Node) (count : ℕ) (all : List (List Entering)) : Type 0 where
+  pub count_is : length all ≡ count
+  pub each : (at : ℕ) (n : Node) → at < count → slice_get nodes at ≡ Some n → AreWaysOf words A n (slice_index_or all at [])
+
+-- those of all nodes
+abbrev pub AreWays : List ℕ → List Entry → List Node → List (List Entering) → Type 0
+AreWays words A nodes all = AreWaysTo words A nodes (length nodes) all
 
 -- the place's node is one of this instance, with a whole stack pointer
 pub record IsPlaceOf (nodes : List Node) (inst : InstKey) (p : Place) : Type 0 where

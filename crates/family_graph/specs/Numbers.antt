@@ -1,18 +1,20 @@
 -- Numbers of instances, and places and edges node by node.
-use Rattle.std.specs.Prelude.{ℕ, ◌+◌, ◌-◌, ◌≡◌, ◌<◌, ◌≤◌, ◌↔◌, if◌then◌else◌, List, [], ◌∷◌, ◌++◌, length, Some, Contains, slice_get, slice_index}
+use Rattle.std.specs.Prelude.{ℕ, ◌+◌, ◌-◌, ◌≡◌, ◌<◌, ◌≤◌, ◌↔◌, if◌then◌else◌, List, [], ◌∷◌, ◌++◌, length, map, Option, Some, None, Contains, slice_get, slice_index}
 use Rattle.std.specs.List.{flat_map}
 use Rattle.std.specs.List.Sorted.{IsStrictlySortedBy}
 use Rattle.avr_model.specs.declared.assumption.Entry.{Entry}
 use Rattle.mask_states.specs.declared.keys.InstKey.{InstKey}
 use Rattle.mask_states.specs.declared.keys.SpForm.{SpForm}
 use Rattle.mask_states.specs.declared.keys.SpForm.TheVariants.{Closed, Open}
+use Rattle.mask_states.specs.Keys.{root_inst}
 use Rattle.mask_states.specs.Order.{inst_cmp, same_inst}
 use Rattle.local_rules.specs.declared.local.Node.{Node}
-use Rattle.edge_rules.specs.declared.edge.Edge.{Edge}
-use Rattle.edge_rules.specs.Edges.{is_entry, Enters, AreEdges}
+use Rattle.edge_rules.specs.Edges.{is_entry, Enters}
+use Rattle.call_graph.specs.declared.landing.Landing.{Landing}
 use Rattle.nesting_bound.specs.declared.graph.Entered.{Entered}
 use Rattle.nesting_bound.specs.declared.graph.GraphInst.{GraphInst}
 use Rattle.nesting_bound.specs.declared.graph.Place.{Place}
+use Rattle.family_graph.specs.declared.entering.Entering.{Entering}
 use Rattle.family_graph.specs.Graphs.{HasInst, IsPlaceOf, IsEntryOf}
 
 -- ---- numbers
@@ -43,19 +45,26 @@ pub record AreNumbers (nodes : List Node) (count : ℕ) (insts : List InstKey) (
 
 -- ---- places and edges
 
--- an edge of the graph for one that enters an instance
-abbrev pub entry_if : List InstKey → ℕ → ℕ → Edge → List Entered
-entry_if insts at offset e = if is_entry e.kind then record { node = at; offset = offset; kind = e.kind; into = number_in insts e.to.inst } ∷ [] else []
+-- the way of an edge that lands so, if it enters an instance
+abbrev pub inst_of : Option Node → InstKey
+inst_of None = root_inst
+inst_of (Some n) = n.key.inst
 
-abbrev pub entries_of : List InstKey → ℕ → ℕ → List Edge → List Entered
-entries_of insts at offset edges = flat_map (entry_if insts at offset) edges
+abbrev pub way_of : List Node → Landing → List Entering
+way_of nodes l = if is_entry l.kind then record { kind = l.kind; inst = inst_of (slice_get nodes l.at) } ∷ [] else []
 
--- what the node of this number adds to the places and edges of its instance
-abbrev pub AddsAt : List ℕ → List Entry → List Node → List InstKey → ℕ → Node → SpForm → List Place → List Entered → List Place → List Entered → Type 0
-AddsAt words A nodes insts at n (Open offset high) ps es ps' es' = (ps' ≡ ps) × (es' ≡ es)
-AddsAt words A nodes insts at n (Closed offset) ps es ps' es' =
-    (ps' ≡ ps ++ record { node = at; offset = offset } ∷ [])
-    × ((edges : List Edge) × AreEdges words A nodes n edges × (es' ≡ es ++ entries_of insts at offset edges))
+abbrev pub ways_by : List Node → List Landing → List Entering
+ways_by nodes landings = flat_map (way_of nodes) landings
+
+-- the edge of the graph for a way of the node of this place
+abbrev pub entry_of : List InstKey → Place → Entering → Entered
+entry_of insts p w = record { node = p.node; offset = p.offset; kind = w.kind; into = number_in insts w.inst }
+
+-- what the node of this number adds to the places and edges of its instance, where it enters instances in these ways
+abbrev pub AddsAt : List InstKey → ℕ → List Entering → SpForm → List Place → List Entered → List Place → List Entered → Type 0
+AddsAt insts at ways (Open offset high) ps es ps' es' = (ps' ≡ ps) × (es' ≡ es)
+AddsAt insts at ways (Closed offset) ps es ps' es' =
+    (ps' ≡ ps ++ record { node = at; offset = offset } ∷ []) × (es' ≡ es ++ map (entry_of insts (record { node = at; offset = offset })) ways)
 
 -- a place of a node between these numbers
 pub record IsPlaceBetween (nodes : List Node) (low high : ℕ) (p : Place) : Type 0 where

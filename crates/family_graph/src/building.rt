@@ -1,190 +1,130 @@
 //! The graph, instance by instance.
 
-ghost use Rattle.std.specs.Prelude.{◌≡◌, ◌++◌, ◌<◌, ◌≤◌, ℕ, List, length, Some, IfOk, OnOk, IsTrue, Contains, slice_get};
+ghost use Rattle.std.specs.Prelude.{◌≡◌, ◌++◌, ◌<◌, ◌≤◌, ℕ, length, map, Some, IfOk, OnOk, Contains, slice_get};
 ghost use Rattle.local_rules.specs.declared.local.Node.{Node};
-ghost use Rattle.edge_rules.specs.declared.edge.Edge.{Edge};
-ghost use Rattle.edge_rules.specs.Edges.{is_entry, IsFaultless};
-ghost use Rattle.edge_rules.specs.Views.{AreShown};
-ghost use Rattle.call_graph.specs.Exits.{AreExits};
 ghost use Rattle.nesting_bound.specs.Graph.{IsGraph};
-ghost use Rattle.family_graph.specs.Graphs.{HasInst, IsPeopled, IsGraphOf};
-ghost use Rattle.family_graph.specs.Numbers.{AreNumbers, entry_if, entries_of, AddsAt, IsInstOf};
+ghost use Rattle.family_graph.specs.declared.entering.Entering as entering_type;
+ghost use Rattle.family_graph.specs.Graphs.{HasInst, AreWaysOf, AreWays, IsPeopled, IsGraphOf};
+ghost use Rattle.family_graph.specs.Numbers.{AreNumbers, entry_of, AddsAt, IsInstOf};
 
+use crate::entering::Entering;
 use crate::numbering::{Numbering, number_of, numbered};
 use avr_model::listed::Listed;
-use call_graph::{Edge, all_exits, next_with};
-use edge_rules::View;
-use edge_rules::edge::is_entry;
-use flash_image::Flash;
-use local_rules::Exit;
+use call_graph::{Filled, Task};
 use mask_states::SpForm;
 use nesting_bound::{Entered, Graph, GraphInst, Place};
-use std::alloc::{AllocError, Global};
-use vector_table::Assumptions;
+use std::alloc::AllocError;
 
-// The edge of the graph for an edge from the node of this number, where it enters an instance.
-fn add_entry<V: View>(
-    view: &V,
+/// The places and the edges of an instance, as far as they are listed.
+#[derive(Drop)]
+struct Parts {
+    offsets: Vec<Place>,
+    entered: Vec<Entered>,
+}
+
+// The edges of the graph for the ways in which the node of this place enters instances.
+fn add_entries(
+    nodes: &Filled,
     numbering: &Numbering,
-    at: u32,
-    offset: u16,
-    edge: &Edge,
+    place: Place,
+    ways: &[Entering],
     entered: &mut Vec<Entered>,
 ) -> Result<(), AllocError>
-    requires numbers { AreNumbers (V.nodes view.now) (length (V.nodes view.now)) numbering.now.insts.items numbering.now.numbers.items }
-    requires has { IsTrue (is_entry edge.now.kind) → HasInst (V.nodes view.now) edge.now.to.inst }
-    ensures { OnOk result (entered.new.items ≡ entered.old.items ++ entry_if numbering.now.insts.items at offset edge.now) }
+    requires numbers { AreNumbers nodes.now (length nodes.now) numbering.now.insts.items numbering.now.numbers.items }
+    requires has { (w : entering_type.Entering) → Contains ways.now w → HasInst nodes.now w.inst }
+    ensures { OnOk result (entered.new.items ≡ entered.old.items ++ map (entry_of numbering.now.insts.items place) ways.now) }
 {
-    if is_entry(edge.kind) {
-        let into = number_of(view, numbering, &edge.to.inst);
+    for way in ways {
+        let into = number_of(nodes, numbering, &way.inst);
         entered.push(Entered {
-            node: at,
-            offset,
-            kind: edge.kind,
+            node: place.node,
+            offset: place.offset,
+            kind: way.kind,
             into,
         })?;
     }
     Ok(())
 }
 
-// The edges of the graph for the edges from the node of this number.
-fn add_entries<V: View>(
-    view: &V,
-    numbering: &Numbering,
-    at: u32,
-    offset: u16,
-    edges: &[Edge],
-    entered: &mut Vec<Entered>,
-) -> Result<(), AllocError>
-    requires numbers { AreNumbers (V.nodes view.now) (length (V.nodes view.now)) numbering.now.insts.items numbering.now.numbers.items }
-    requires has { (e : Edge) → Contains edges.now e → IsTrue (is_entry e.kind) → HasInst (V.nodes view.now) e.to.inst }
-    ensures { OnOk result (entered.new.items ≡ entered.old.items ++ entries_of numbering.now.insts.items at offset edges.now) }
-{
-    for edge in edges {
-        add_entry(view, numbering, at, offset, edge, entered)?;
-    }
-    Ok(())
-}
-
-// The place of the node of this number, and the edges of the graph for its edges. A node with a half-written stack pointer has none.
-fn add_node<V: View>(
-    alloc: Global,
-    flash: &Flash,
-    assumptions: &Assumptions,
-    view: &V,
-    exits: &Listed<Option<Exit>>,
+// The place of the node of this number, which enters instances in these ways, and the edges of the graph for them. A node with a
+// half-written stack pointer has none.
+fn add_node(
+    nodes: &Filled,
     numbering: &Numbering,
     at: usize,
-    offsets: &mut Vec<Place>,
-    entered: &mut Vec<Entered>,
+    ways: &[Entering],
+    parts: &mut Parts,
 ) -> Result<(), AllocError>
-    requires place { at < length (V.nodes view.now) }
-    requires few { length (V.nodes view.now) ≤ 65536 }
-    requires known { AreExits flash.now assumptions.now (V.nodes view.now) exits.now }
-    requires numbers { AreNumbers (V.nodes view.now) (length (V.nodes view.now)) numbering.now.insts.items numbering.now.numbers.items }
-    requires peopled { IsPeopled flash.now assumptions.now (V.nodes view.now) }
-    ensures { (n : Node) → slice_get (V.nodes view.now) at ≡ Some n → OnOk result (AddsAt flash.now assumptions.now (V.nodes view.now) numbering.now.insts.items at n n.key.sp offsets.old.items entered.old.items offsets.new.items entered.new.items) }
+    requires place { at < length nodes.now }
+    requires few { length nodes.now ≤ 65536 }
+    requires numbers { AreNumbers nodes.now (length nodes.now) numbering.now.insts.items numbering.now.numbers.items }
+    requires has { (w : entering_type.Entering) → Contains ways.now w → HasInst nodes.now w.inst }
+    ensures { (n : Node) → slice_get nodes.now at ≡ Some n → OnOk result (AddsAt numbering.now.insts.items at ways.now n.key.sp parts.old.offsets.items parts.old.entered.items parts.new.offsets.items parts.new.entered.items) }
 {
-    if let SpForm::Closed(offset) = view.key(at).sp {
-        offsets.push(Place {
+    if let SpForm::Closed(offset) = nodes.key(at).sp {
+        let place = Place {
             node: at as u32,
             offset,
-        })?;
-        let edges = next_with(alloc, flash, assumptions, view, at, exits)?;
-        add_entries(
-            view,
-            numbering,
-            at as u32,
-            offset,
-            edges.as_slice(),
-            entered,
-        )?;
+        };
+        parts.offsets.push(place)?;
+        add_entries(nodes, numbering, place, ways, &mut parts.entered)?;
     }
     Ok(())
 }
 
-// The instance of this number, with its places and edges.
-fn instance<V: View>(
-    alloc: Global,
-    flash: &Flash,
-    assumptions: &Assumptions,
-    view: &V,
-    exits: &Listed<Option<Exit>>,
+// The instance of this number, with its places and edges, where nodes enter instances in these ways.
+fn instance(
+    task: &Task<'_>,
+    nodes: &Filled,
+    ways: &[Listed<Entering>],
     numbering: &Numbering,
     i: usize,
 ) -> Result<GraphInst, AllocError>
     requires place { i < length numbering.now.insts.items }
-    requires few { length (V.nodes view.now) ≤ 65536 }
-    requires known { AreExits flash.now assumptions.now (V.nodes view.now) exits.now }
-    requires numbers { AreNumbers (V.nodes view.now) (length (V.nodes view.now)) numbering.now.insts.items numbering.now.numbers.items }
-    requires peopled { IsPeopled flash.now assumptions.now (V.nodes view.now) }
-    ensures { (inst : _) → slice_get numbering.now.insts.items i ≡ Some inst → IfOk result (IsInstOf flash.now assumptions.now (V.nodes view.now) numbering.now.insts.items inst) }
+    requires few { length nodes.now ≤ 65536 }
+    requires ways { AreWays task.now.flash.now task.now.assumptions.now nodes.now ways.now }
+    requires numbers { AreNumbers nodes.now (length nodes.now) numbering.now.insts.items numbering.now.numbers.items }
+    requires peopled { IsPeopled task.now.flash.now task.now.assumptions.now nodes.now }
+    ensures { (inst : _) → slice_get numbering.now.insts.items i ≡ Some inst → IfOk result (IsInstOf task.now.flash.now task.now.assumptions.now nodes.now numbering.now.insts.items inst) }
 {
     let key = numbering.insts[i];
-    let (low, high) = view.span(&key);
-    let mut offsets = Vec::new(alloc);
-    let mut entered = Vec::new(alloc);
+    let (low, high) = nodes.span(&key);
+    let mut parts = Parts {
+        offsets: Vec::new(task.alloc),
+        entered: Vec::new(task.alloc),
+    };
     for at in low..high {
-        add_node(
-            alloc,
-            flash,
-            assumptions,
-            view,
-            exits,
-            numbering,
-            at,
-            &mut offsets,
-            &mut entered,
-        )?;
+        add_node(nodes, numbering, at, ways[at].as_slice(), &mut parts)?;
     }
     Ok(GraphInst {
         key,
-        offsets: Listed::new(offsets),
-        entered: Listed::new(entered),
+        offsets: Listed::new(parts.offsets),
+        entered: Listed::new(parts.entered),
     })
 }
 
-// The graph, where these are the exits of the nodes.
-fn built<V: View>(
-    alloc: Global,
-    flash: &Flash,
-    assumptions: &Assumptions,
-    view: &V,
-    exits: &Listed<Option<Exit>>,
+/// The graph of a family of 1 to 65,536 nodes, which enter instances in these ways, where each instance that one of them enters has its
+/// first node.
+pub fn graph_of(
+    task: &Task<'_>,
+    nodes: &Filled,
+    ways: &Listed<Listed<Entering>>,
 ) -> Result<Graph, AllocError>
-    requires few { length (V.nodes view.now) ≤ 65536 }
-    requires known { AreExits flash.now assumptions.now (V.nodes view.now) exits.now }
-    requires peopled { IsPeopled flash.now assumptions.now (V.nodes view.now) }
-    ensures few { IfOk result (λ graph. length graph.instances ≤ 65536) }
-    ensures family { IfOk result (λ graph. IsGraphOf flash.now assumptions.now (V.nodes view.now) graph.instances) }
+    requires some { 0 < length nodes.now }
+    requires few { length nodes.now ≤ 65536 }
+    requires ways { AreWays task.now.flash.now task.now.assumptions.now nodes.now ways.now }
+    requires peopled { IsPeopled task.now.flash.now task.now.assumptions.now nodes.now }
+    ensures graph { IfOk result (λ graph. IsGraph graph.instances) }
+    ensures family { IfOk result (λ graph. IsGraphOf task.now.flash.now task.now.assumptions.now nodes.now graph.instances) }
 {
-    let numbering = numbered(alloc, view)?;
-    let mut instances = Vec::new(alloc);
+    let _count = nodes.count();
+    let numbering = numbered(task.alloc, nodes)?;
+    let mut instances = Vec::new(task.alloc);
     for i in 0..numbering.insts.len() {
-        let inst = instance(alloc, flash, assumptions, view, exits, &numbering, i)?;
+        let inst = instance(task, nodes, ways.as_slice(), &numbering, i)?;
         instances.push(inst)?;
     }
     Ok(Graph {
         instances: Listed::new(instances),
     })
-}
-
-/// The graph of a family of 1 to 65,536 nodes without a fault, where each instance that one of them enters has a node. Each local part
-/// is worked out twice.
-pub fn graph_of<V: View>(
-    alloc: Global,
-    flash: &Flash,
-    assumptions: &Assumptions,
-    view: &V,
-) -> Result<Graph, AllocError>
-    requires some { 0 < length (V.nodes view.now) }
-    requires few { length (V.nodes view.now) ≤ 65536 }
-    requires faultless { (n : Node) → Contains (V.nodes view.now) n → IsFaultless flash.now assumptions.now n }
-    requires peopled { IsPeopled flash.now assumptions.now (V.nodes view.now) }
-    ensures graph { IfOk result (λ graph. IsGraph graph.instances) }
-    ensures family { IfOk result (λ graph. IsGraphOf flash.now assumptions.now (V.nodes view.now) graph.instances) }
-{
-    let _count = view.count();
-    let exits = all_exits(alloc, flash, assumptions, view)?;
-    built(alloc, flash, assumptions, view, &exits)
 }

@@ -3,17 +3,17 @@
 ghost use Rattle.std.specs.Prelude.{◌≤◌, IfOk, OnOk, length};
 ghost use Rattle.certificate.specs.Claims.{IsClaim};
 ghost use Rattle.certificate.specs.Valid.{MeetsConditions};
+ghost use Rattle.family_graph.specs.Graphs.{AreWays};
 ghost use Rattle.family_graph.specs.Chains.{IsDeepest, BeginsAtRoot};
 
 use crate::building::graph_of;
+use crate::entering::Entering;
 use avr_model::listed::Listed;
-use call_graph::Filled;
+use call_graph::{Filled, Task};
 use certificate::Certificate;
-use flash_image::Flash;
 use nesting_bound::laws::ranks_rule_out_cycles;
 use nesting_bound::{Link, chain, compose_acyclic};
-use std::alloc::{AllocError, Global};
-use vector_table::Assumptions;
+use std::alloc::AllocError;
 
 /// The deepest chain of a family.
 #[derive(Drop)]
@@ -24,26 +24,26 @@ pub struct Deepest {
     pub links: Listed<Link>,
 }
 
-/// The deepest chain of nodes that meet the conditions on a certificate, with the least needs, and the root's need, which is at most the
-/// bound. The local part of each node is worked out twice.
+/// The deepest chain of nodes that meet the conditions on a certificate and enter instances in these ways, with the least needs, and the
+/// root's need, which is at most the bound.
 pub fn deepest_chain(
-    alloc: Global,
-    flash: &Flash,
-    assumptions: &Assumptions,
+    task: &Task<'_>,
     certificate: &Certificate,
     nodes: &Filled,
+    ways: &Listed<Listed<Entering>>,
 ) -> Result<Deepest, AllocError>
     requires claim { IsClaim certificate.now }
     requires few { length nodes.now ≤ 65536 }
-    requires meets { MeetsConditions flash.now assumptions.now certificate.now nodes.now }
-    ensures deepest { IfOk result (λ d. IsDeepest flash.now assumptions.now nodes.now d.need d.links) }
+    requires meets { MeetsConditions task.now.flash.now task.now.assumptions.now certificate.now nodes.now }
+    requires ways { AreWays task.now.flash.now task.now.assumptions.now nodes.now ways.now }
+    ensures deepest { IfOk result (λ d. IsDeepest task.now.flash.now task.now.assumptions.now nodes.now d.need d.links) }
     ensures bounded { IfOk result (λ d. d.need ≤ certificate.now.bound) }
-    ensures root { OnOk result (BeginsAtRoot flash.now assumptions.now nodes.now) }
+    ensures root { OnOk result (BeginsAtRoot task.now.flash.now task.now.assumptions.now nodes.now) }
 {
     ranks_rule_out_cycles();
-    let graph = graph_of(alloc, flash, assumptions, nodes)?;
-    let composed = compose_acyclic(alloc, &graph)?;
-    let links = chain(alloc, &graph, &composed)?;
+    let graph = graph_of(task, nodes, ways)?;
+    let composed = compose_acyclic(task.alloc, &graph)?;
+    let links = chain(task.alloc, &graph, &composed)?;
     Ok(Deepest {
         need: composed.need(0),
         links: Listed::new(links),

@@ -4,12 +4,13 @@
 
 pub mod building;
 pub mod deepest;
-pub mod expanded;
+pub mod entering;
 pub mod laws;
 mod numbering;
+pub mod worked;
 
 pub use building::graph_of;
 pub use deepest::{Deepest, deepest_chain};
-pub use edge_rules::View;
-pub use expanded::expanded_nodes;
+pub use entering::{Entering, entered_by};
 pub use nesting_bound::{Entered, Graph, GraphInst, Place};
+pub use worked::worked_of;

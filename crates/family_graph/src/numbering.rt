@@ -5,7 +5,7 @@ ghost use Rattle.edge_rules.specs.Views.{AreShown};
 ghost use Rattle.family_graph.specs.Graphs.{HasInst};
 ghost use Rattle.family_graph.specs.Numbers.{EndsWith, Grows, AreNumbers, number_in};
 
-use edge_rules::View;
+use call_graph::Filled;
 use mask_states::InstKey;
 use std::alloc::{AllocError, Global};
 
@@ -41,25 +41,25 @@ fn put(insts: &mut Vec<InstKey>, inst: &InstKey) -> Result<u32, AllocError>
 }
 
 /// The numbers of the instances of all nodes.
-pub(crate) fn numbered<V: View>(alloc: Global, view: &V) -> Result<Numbering, AllocError>
-    requires { length (V.nodes view.now) ≤ 65536 }
-    ensures { IfOk result (λ n. AreNumbers (V.nodes view.now) (length (V.nodes view.now)) n.insts.items n.numbers.items) }
+pub(crate) fn numbered(alloc: Global, nodes: &Filled) -> Result<Numbering, AllocError>
+    requires { length nodes.now ≤ 65536 }
+    ensures { IfOk result (λ n. AreNumbers nodes.now (length nodes.now) n.insts.items n.numbers.items) }
 {
     let mut insts = Vec::new(alloc);
     let mut numbers = Vec::new(alloc);
-    for at in 0..view.count() {
-        let number = put(&mut insts, &view.key(at).inst)?;
+    for at in 0..nodes.count() {
+        let number = put(&mut insts, &nodes.key(at).inst)?;
         numbers.push(number)?;
     }
     Ok(Numbering { insts, numbers })
 }
 
 /// The number of an instance that has a node.
-pub(crate) fn number_of<V: View>(view: &V, numbering: &Numbering, inst: &InstKey) -> u32
-    requires numbers { AreNumbers (V.nodes view.now) (length (V.nodes view.now)) numbering.now.insts.items numbering.now.numbers.items }
-    requires has { HasInst (V.nodes view.now) inst.now }
+pub(crate) fn number_of(nodes: &Filled, numbering: &Numbering, inst: &InstKey) -> u32
+    requires numbers { AreNumbers nodes.now (length nodes.now) numbering.now.insts.items numbering.now.numbers.items }
+    requires has { HasInst nodes.now inst.now }
     ensures { result ≡ number_in numbering.now.insts.items inst.now }
 {
-    let (low, _) = view.span(inst);
+    let (low, _) = nodes.span(inst);
     numbering.numbers[low]
 }

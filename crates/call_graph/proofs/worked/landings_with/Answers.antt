@@ -1,4 +1,4 @@
-use Rattle.std.proofs.Common.{◌≡◌, ◌+◌, ◌<◌, ◌++◌, ◌∷◌, [], ◌∙◌, ap, sym, subst, arith, length, List}
+use Rattle.std.proofs.Common.{◌≡◌, ◌+◌, ◌<◌, ◌∙◌, ap, sym, subst, arith, length, List}
 use Rattle.basics.specs.Lists.{get_inside}
 use Rattle.call_graph.specs.declared.landing.Landing.{Landing}
 use Rattle.call_graph.specs.Landings.{landings_by, AreLandingsTo}

@@ -1,5 +1,5 @@
 use Rattle.std.proofs.Common.{sym}
 use Rattle.family_graph.proofs.building.add_entries.Goals as goal
 
-pub add_entry-requires-clause-has : goal.add_entry-requires-clause-has
-add_entry-requires-clause-has g c = λ t. c.requires.has c.edge-item.result (c.loop-edge.edge-index, c.loop-edge-test.true, sym c.edge-item.is) t
+pub number_of-into-requires-clause-has : goal.number_of-into-requires-clause-has
+number_of-into-requires-clause-has c = c.requires.has c.way-item.result (c.loop-way.way-index, c.loop-way-test.true, sym c.way-item.is)

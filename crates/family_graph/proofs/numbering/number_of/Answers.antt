@@ -4,8 +4,8 @@ use Rattle.family_graph.proofs.Insts.{number_at}
 use Rattle.family_graph.proofs.numbering.number_of.Goals as goal
 
 pub returns : goal.returns
-returns g c =
+returns c =
     let h =
-    number_at (g.V.View.nodes c.args.view.now) c.args.numbering.now.insts.items c.args.numbering.now.numbers.items c.args.inst.now c.span-low.result.0 c.span-low.result.1
+    number_at c.args.nodes.now c.args.numbering.now.insts.items c.args.numbering.now.numbers.items c.args.inst.now c.span-low.result.0 c.span-low.result.1
     c.requires.numbers c.span-low.ensures c.requires.has in
     get_or_read c.args.numbering.now.numbers.items _ _ h.0 c.index.ensures 0 ∙ h.1

@@ -2,4 +2,4 @@ use Rattle.family_graph.specs.Numbers.{AreNumbers}
 use Rattle.family_graph.proofs.numbering.numbered.Given as goal
 
 abbrev pub invariant-loop-at : goal.invariant-loop-at
-invariant-loop-at g l = AreNumbers (g.V.View.nodes l.view) l.at l.insts.items l.numbers.items
+invariant-loop-at l = AreNumbers l.nodes l.at l.insts.items l.numbers.items

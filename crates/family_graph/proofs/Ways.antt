@@ -1,0 +1,142 @@
+-- In which ways nodes enter instances, node by node.
+use Rattle.std.proofs.Common.{◌≡◌, refl, sym, ap, ◌∙◌, subst, ℕ, zero, suc, ◌+◌, ◌<◌, ⊎_elim, Bool, true, false, if◌then◌else◌, List, [], ◌∷◌, ◌++◌, length, get_or, Option, Some, None, slice_get, Contains, arith}
+use Rattle.std.proofs.lemmas.List.{length_push}
+use Rattle.std.proofs.lemmas.Option.{slice_get_within}
+use Rattle.basics.specs.Items.{only_one_in, none_in, first_in, contained_at, contained_in_join, each_of_join}
+use Rattle.basics.specs.Lists.{get_or_front, get_or_pushed, one_at}
+use Rattle.basics.specs.Numbers.{before_or_last}
+use Rattle.avr_model.specs.declared.assumption.Entry.{Entry}
+use Rattle.abs_state.specs.Frames.{entered}
+use Rattle.mask_states.specs.declared.keys.EdgeKind.{EdgeKind}
+use Rattle.mask_states.specs.declared.keys.InstKey.{InstKey}
+use Rattle.mask_states.specs.declared.keys.NodeKey.{NodeKey}
+use Rattle.mask_states.specs.Keys.{entry_key}
+use Rattle.local_rules.specs.declared.local.Node.{Node}
+use Rattle.local_laws.specs.Laws.{HasKey}
+use Rattle.edge_rules.specs.declared.edge.Edge.{Edge}
+use Rattle.edge_rules.specs.Edges.{is_entry, Enters, by_call, by_interrupt, IsEdge, moving, entering, returning}
+use Rattle.edge_rules.specs.Places.{found_at, none_from}
+use Rattle.edge_rules.specs.Views.{place_of}
+use Rattle.call_graph.specs.declared.landing.Landing.{Landing}
+use Rattle.call_graph.specs.Landings.{IsLanding, AreLandingsOf, AreLandings}
+use Rattle.call_graph.proofs.Landed.{inside_at}
+use Rattle.family_graph.specs.declared.entering.Entering.{Entering}
+use Rattle.family_graph.specs.Graphs.{HasInst, IsPeopled, AreWaysOf, AreWaysTo, AreWays}
+use Rattle.family_graph.specs.Numbers.{inst_of, way_of, ways_by}
+
+-- an instance with its first node has a node
+pub entered_inst : (nodes : List Node) (inst : InstKey) → HasKey nodes (entry_key inst) → HasInst nodes inst
+entered_inst nodes inst h = (h.0, h.1.0, ap (λ (k : NodeKey). k.inst) h.1.1)
+
+kind_enters : (words : List ℕ) (A : List Entry) (n : Node) (way : EdgeKind) (inst : InstKey) (back : ℕ) → Enters words A n way inst back → is_entry way ≡ true
+kind_enters words A n way inst back (by_call offset site f sp has) = refl
+kind_enters words A n way inst back (by_interrupt offset v clears f sp i delay on allowed dog) = refl
+
+-- the number of a key that is there
+place_there : (k : NodeKey) (nodes : List Node) → HasKey nodes k → (at : ℕ) × (place_of k nodes ≡ Some at)
+place_there k nodes h = by (place_of k nodes) refl
+  where
+    by : (o : Option ℕ) → place_of k nodes ≡ o → (at : ℕ) × (place_of k nodes ≡ Some at)
+    by None e = absurd (none_from k nodes 0 e h.0 h.1.0 h.1.1)
+    by (Some at) e = (at, e)
+
+-- ---- one landing
+
+way_only : (nodes : List Node) (l : Landing) (w : Entering) → Contains (way_of nodes l) w → (is_entry l.kind ≡ true) × (w ≡ record { kind = l.kind; inst = inst_of (slice_get nodes l.at) })
+way_only nodes l w h = by (is_entry l.kind) refl h
+  where
+    by : (b : Bool) → is_entry l.kind ≡ b → Contains (if b then record { kind = l.kind; inst = inst_of (slice_get nodes l.at) } ∷ [] else []) w
+        → (is_entry l.kind ≡ true) × (w ≡ record { kind = l.kind; inst = inst_of (slice_get nodes l.at) })
+    by true e has = (e, only_one_in (record { kind = l.kind; inst = inst_of (slice_get nodes l.at) }) w has)
+    by false e has = absurd (none_in w has)
+
+way_in : (nodes : List Node) (l : Landing) (w : Entering) → is_entry l.kind ≡ true → record { kind = l.kind; inst = inst_of (slice_get nodes l.at) } ≡ w → Contains (way_of nodes l) w
+way_in nodes l w e same =
+    subst (λ (b : Bool). Contains (if b then record { kind = l.kind; inst = inst_of (slice_get nodes l.at) } ∷ [] else []) w) (sym e)
+    (subst (λ (v : Entering). Contains (v ∷ []) w) (sym same) (first_in w []))
+
+-- the instance of a node that is found
+inst_at : (k : NodeKey) (nodes : List Node) (at : ℕ) → place_of k nodes ≡ Some at → inst_of (slice_get nodes at) ≡ k.inst
+inst_at k nodes at e = let w = found_at k nodes at e in ap inst_of w.is ∙ ap (λ (j : NodeKey). j.inst) w.same
+
+-- ---- one node
+
+module _ (words : List ℕ) (A : List Entry) (nodes : List Node) (peopled : IsPeopled words A nodes) where
+  entry_by : (n : Node) (edge : Edge) → IsEdge words A nodes n edge → is_entry edge.kind ≡ true → (back : ℕ) × Enters words A n edge.kind edge.to.inst back
+  entry_by n edge (moving to f has) is = absurd cc
+  entry_by n edge (entering way inst back enters) is = (back, enters)
+  entry_by n edge (returning way inst back leaver x state enters has same f exit after) is = absurd cc
+
+  way_from : (n : Node) (l : Landing) (w : Entering) → IsLanding words A nodes n l → Contains (way_of nodes l) w → (back : ℕ) × Enters words A n w.kind w.inst back
+  way_from n l w x h =
+      let o = way_only nodes l w h in
+      let b = entry_by n x.edge x.is (subst (λ (k : EdgeKind). is_entry k ≡ true) x.kind o.0) in
+      let kind : x.edge.kind ≡ w.kind = sym x.kind ∙ ap (λ (v : Entering). v.kind) (sym o.1) in
+      let inst : x.edge.to.inst ≡ w.inst = sym (inst_at x.edge.to nodes l.at x.at) ∙ ap (λ (v : Entering). v.inst) (sym o.1) in
+      (b.0, subst (λ (k : EdgeKind). Enters words A n k w.inst b.0) kind (subst (λ (i : InstKey). Enters words A n x.edge.kind i b.0) inst b.1))
+
+  ways_are : (n : Node) (landings : List Landing) → Contains nodes n → AreLandingsOf words A nodes n landings → AreWaysOf words A n (ways_by nodes landings)
+  ways_are n landings member are w = (
+    λ h. each_of_join (way_of nodes) (λ v. (back : ℕ) × Enters words A n v.kind v.inst back) landings (λ l v has on. way_from n l v ((are l).0 has) on) w h,
+    λ x.
+        let at = place_there (entry_key w.inst) nodes (peopled n w.kind w.inst x.0 member x.1) in
+        let l : Landing = record { kind = w.kind; at = at.0 } in
+        let e : Edge = record { kind = w.kind; to = entry_key w.inst; state = entered n.state } in
+        let landing : IsLanding words A nodes n l = record { edge = e; is = entering w.kind w.inst x.0 x.1; kind = refl; at = at.1 } in
+        let same : record { kind = w.kind; inst = inst_of (slice_get nodes at.0) } ≡ w = ap (λ (i : InstKey). record { kind = w.kind; inst = i }) (inst_at (entry_key w.inst) nodes at.0 at.1) in
+        contained_in_join (way_of nodes) landings l w ((are l).1 landing) (way_in nodes l w (kind_enters words A n w.kind w.inst x.0 x.1) same),
+  )
+
+  -- ---- all nodes
+
+  pub ways_more : (at : ℕ) (all : List (List Entering)) (n : Node) (landings : List Landing) (ways : List Entering) → AreWaysTo words A nodes at all → slice_get nodes at ≡ Some n
+      → AreLandingsOf words A nodes n landings → ways ≡ ways_by nodes landings → AreWaysTo words A nodes (at + 1) (all ++ ways ∷ [])
+  ways_more at all n landings ways s is are ways_is =
+      record {
+        count_is = length_push all ways ∙ ap (λ x. x + 1) s.count_is;
+        each = λ i m lt e. ⊎_elim (old i m e) (new i m e) (before_or_last i at lt);
+      }
+    where
+      old : (i : ℕ) (m : Node) → slice_get nodes i ≡ Some m → i < at → AreWaysOf words A m (get_or (all ++ ways ∷ []) i [])
+      old i m e lt =
+          subst (λ (xs : List Entering). AreWaysOf words A m xs) (sym (get_or_front all (ways ∷ []) i [] (subst (λ k. i < k) (sym s.count_is) lt))) (s.each i m lt e)
+
+      here_at : AreWaysOf words A n (get_or (all ++ ways ∷ []) at [])
+      here_at =
+          subst (λ (xs : List Entering). AreWaysOf words A n xs) (sym (ap (λ k. get_or (all ++ ways ∷ []) k []) (sym s.count_is) ∙ get_or_pushed all ways [] ∙ ways_is))
+          (ways_are n landings (contained_at nodes at n is) are)
+
+      new : (i : ℕ) (m : Node) → slice_get nodes i ≡ Some m → i ≡ at → AreWaysOf words A m (get_or (all ++ ways ∷ []) i [])
+      new i m e same =
+          let one : n ≡ m = one_at nodes at n m is (subst (λ k. slice_get nodes k ≡ Some m) same e) in
+          subst (λ k. AreWaysOf words A m (get_or (all ++ ways ∷ []) k [])) (sym same) (subst (λ (x : Node). AreWaysOf words A x (get_or (all ++ ways ∷ []) at [])) one here_at)
+
+pub ways_none : (words : List ℕ) (A : List Entry) (nodes : List Node) → AreWaysTo words A nodes 0 []
+ways_none words A nodes = record { count_is = refl; each = λ at n lt. absurd (omega (arith, lt)) }
+
+-- a list that is read by its number
+pub read_list : {X : Type 0} (lists : List (List X)) (i : ℕ) (x : List X) → i < length lists → x ≡ get_or lists i x → x ≡ get_or lists i []
+read_list [] i x lt is = absurd (omega (arith, lt))
+read_list (g ∷ lists) zero x lt is = is
+read_list (g ∷ lists) (suc i) x lt is = read_list lists i x (omega (arith, lt)) is
+
+-- the ways of the node of this number, as they are read
+pub ways_at : (words : List ℕ) (A : List Entry) (nodes : List Node) (all : List (List Entering)) → AreWays words A nodes all → (at : ℕ) (n : Node) → slice_get nodes at ≡ Some n
+    → (item ways : List Entering) → item ≡ get_or all at item → ways ≡ item → AreWaysOf words A n ways
+ways_at words A nodes all are at n e item ways read is =
+    let lt = slice_get_within nodes at n e in
+    subst (AreWaysOf words A n) (sym (is ∙ read_list all at item (omega (arith, lt, are.count_is)) read)) (are.each at n lt e)
+
+pub ways_have : (words : List ℕ) (A : List Entry) (nodes : List Node) → IsPeopled words A nodes → (n : Node) → Contains nodes n → (ways : List Entering) → AreWaysOf words A n ways
+    → (w : Entering) → Contains ways w → HasInst nodes w.inst
+ways_have words A nodes peopled n member ways are w has = let k = (are w).0 has in entered_inst nodes w.inst (peopled n w.kind w.inst k.0 member k.1)
+
+pub ways_of_at : (words : List ℕ) (A : List Entry) (nodes : List Node) (all : List (List Landing)) → AreLandings words A nodes all → (at : ℕ) (n : Node) → slice_get nodes at ≡ Some n
+    → (item landings : List Landing) → item ≡ get_or all at item → landings ≡ item → AreLandingsOf words A nodes n landings
+ways_of_at words A nodes all are at n e item landings read is =
+    let lt = slice_get_within nodes at n e in
+    subst (AreLandingsOf words A nodes n) (sym (is ∙ read_list all at item (omega (arith, lt, are.are.count_is)) read)) (are.are.each at n lt e)
+
+pub landing_inside : (words : List ℕ) (A : List Entry) (nodes : List Node) (n : Node) (landings : List Landing) → AreLandingsOf words A nodes n landings → (l : Landing)
+    → Contains landings l → l.at < length nodes
+landing_inside words A nodes n landings are l has = let x = (are l).0 has in inside_at x.edge.to nodes l.at x.at

@@ -1,0 +1,31 @@
+//! The family of a certificate.
+
+ghost use Rattle.std.specs.Prelude.{◌≤◌, IfOk, length};
+ghost use Rattle.edge_rules.specs.Expansion.{IsFilled};
+ghost use Rattle.call_graph.specs.Landings.{AreLandings};
+ghost use Rattle.certificate.specs.Valid.{IsSound, MeetsConditions};
+
+use call_graph::{Expanded, Task, Worked, expand};
+use certificate::Certificate;
+use certificate::laws::claims_are_seeds;
+use edge_laws::expansions::filled_or_missing;
+use std::alloc::AllocError;
+
+/// The family of a certificate, at most 65,536 nodes, where all conditions hold but that on its schedule: its nodes with their states,
+/// which meet these conditions, and where their edges land. The local part of a node is worked out twice, and once more for each node
+/// that comes from it.
+pub fn worked_of(task: &Task<'_>, certificate: &Certificate) -> Result<Worked, AllocError>
+    requires { IsSound task.now.flash.now task.now.assumptions.now certificate.now }
+    ensures filled { IfOk result (λ family. IsFilled task.now.flash.now task.now.assumptions.now certificate.now.nodes family.nodes) }
+    ensures few { IfOk result (λ family. length family.nodes ≤ 65536) }
+    ensures meets { IfOk result (λ family. MeetsConditions task.now.flash.now task.now.assumptions.now certificate.now family.nodes) }
+    ensures landings { IfOk result (λ family. AreLandings task.now.flash.now task.now.assumptions.now family.nodes family.landings) }
+{
+    claims_are_seeds();
+    filled_or_missing();
+    let _nodes = certificate.nodes();
+    match expand(task, certificate)? {
+        Expanded::Whole(nodes) => Worked::of(task, nodes),
+        Expanded::Missing(_) => unreachable!(),
+    }
+}
