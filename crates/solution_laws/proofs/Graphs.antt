@@ -13,6 +13,7 @@ use Rattle.mask_states.specs.declared.keys.EdgeKind.{EdgeKind}
 use Rattle.mask_states.specs.declared.keys.InstKey.{InstKey}
 use Rattle.mask_states.specs.declared.keys.Kind.{Kind}
 use Rattle.mask_states.specs.declared.keys.Kind.TheVariants.{Root, Call, Vector}
+use Rattle.mask_states.specs.declared.keys.NodeKey.{NodeKey}
 use Rattle.mask_states.specs.declared.keys.SpForm.TheVariants.{Closed}
 use Rattle.mask_states.specs.Keys.{root_inst, entry_key, offset_of}
 use Rattle.mask_states.specs.Order.{inst_cmp}
@@ -75,7 +76,7 @@ module _ (words : List ℕ) (A : List Entry) (n : ℕ) (f : Family) (solved : Is
       let e : Edge = record { kind = way; to = entry_key into; state = entered m.state } in
       let l = solved.closed m e (has_member f m i) (entering way into back enters) in
       let x : Node = record { key = entry_key into; state = l.at } in
-      (x, member_has f x l.is, refl)
+      (x, (member_has f x l.is, refl))
 
   module _ (gs : List GraphInst) (is_graph : graph.IsGraph gs) (of : IsGraphOf words A nodes gs) where
     abbrev keys : List InstKey
@@ -123,7 +124,8 @@ module _ (words : List ℕ) (A : List Entry) (n : ℕ) (f : Family) (solved : Is
     all_entered i j offset e =
         let member = member_has f e.node e.has in
         let from = numbered i (e.node, e.has, e.same) in
-        let to = number_in j ((of.insts j).1 (peopled e.node e.way j e.back member e.enters)) in
+        let first = peopled e.node e.way j e.back member e.enters in
+        let to = number_in j ((of.insts j).1 (first.0, first.1.0, ap (λ (k : NodeKey). k.inst) first.1.1)) in
         let c = closed_at words A e.node e.way j e.back e.enters in
         let same : c.0 ≡ offset = sym (ap offset_of c.1) ∙ e.at in
         let edge : Entered = record { node = member.0; offset = offset; kind = e.way; into = to.0 } in

@@ -26,7 +26,7 @@ use Rattle.round_rules.specs.Sparse.{IsOnlyFrom, AreSparse}
 use Rattle.solution_laws.specs.Parts.{AreForms, AreParts, claim_of}
 
 -- A solved family can be seen by numbers: it has 1 to 65,536 nodes, ascending by key, none with a fault, and each instance that one of
--- them enters has a node.
+-- them enters has its first node.
 pub record SolvedFamiliesAreShown : Type 0 where
   pub shown : (words : List ℕ) (A : List Entry) (n : ℕ) (f : Family) → IsSolved words A n f → AreShown (nodes_of f)
   pub some : (words : List ℕ) (A : List Entry) (n : ℕ) (f : Family) → IsSolved words A n f → 0 < length (nodes_of f)
