@@ -13,7 +13,6 @@ use Rattle.edge_rules.specs.declared.seeded.NodeForm.{NodeForm}
 use Rattle.edge_rules.specs.declared.seeded.NodeForm.TheVariants.{State, From}
 use Rattle.edge_rules.specs.Edges.{IsEdge}
 use Rattle.edge_rules.specs.Expansion.{Seeds}
-use Rattle.edge_rules.specs.Views.{AreShown}
 use Rattle.round_rules.specs.Sparse.{IsOnlyFrom}
 use Rattle.solution_laws.specs.Parts.{IsForm, AreForms}
 use Rattle.solution_laws.proofs.AllLaws.{lone_edges_tell}
@@ -21,7 +20,7 @@ use Rattle.solution.specs.declared.leading.Lead.{Lead}
 use Rattle.solution.specs.declared.leading.Lead.TheVariants.{Nothing, Only, More}
 use Rattle.solution.specs.Leads.{lead_at, LeadsTo, IsLead, AreLeads, form_by, forms_from}
 
-module _ (words : List ℕ) (A : List Entry) (nodes : List Node) (shown : AreShown nodes) (k : NodeKey) where
+module _ (words : List ℕ) (A : List Entry) (nodes : List Node) (k : NodeKey) where
   abbrev Last : Lead → Type 0
   Last lead = IsLead words A nodes (length nodes) k lead
 
@@ -51,14 +50,14 @@ module _ (words : List ℕ) (A : List Entry) (nodes : List Node) (shown : AreSho
   none_only (Only j) h ne m o = ne j refl
   none_only More h ne m o = h m o
 
-module _ (words : List ℕ) (A : List Entry) (nodes : List Node) (shown : AreShown nodes) where
+module _ (words : List ℕ) (A : List Entry) (nodes : List Node) where
   form_is : (at : ℕ) (n : Node) (lead : Lead) → IsLead words A nodes (length nodes) n.key lead → IsForm words A nodes at n (form_by at lead n.state)
-  form_is at n Nothing h = (refl, λ m lt o. none_only words A nodes shown n.key Nothing h (λ j e. absurd (cc)) m o)
+  form_is at n Nothing h = (refl, λ m lt o. none_only words A nodes n.key Nothing h (λ j e. absurd (cc)) m o)
   form_is at n (Only j) h = by (nat_lt j at) refl
     where
       by : (b : Bool) → nat_lt j at ≡ b → IsForm words A nodes at n (cond b (From j) (State n.state))
-      by true t = (grind (arith, nat_tests), only_one words A nodes shown n.key j h)
-      by false t = (refl, λ m lt o. let p = h.1 m o.edge (origin words A nodes shown n.key m o) in let same = p.0 in absurd (grind (arith, nat_tests)))
+      by true t = (grind (arith, nat_tests), only_one words A nodes n.key j h)
+      by false t = (refl, λ m lt o. let p = h.1 m o.edge (origin words A nodes n.key m o) in let same = p.0 in absurd (grind (arith, nat_tests)))
   form_is at n More h = (refl, λ m lt o. h m o)
 
 forms_long : (at : ℕ) (leads : List Lead) (ns : List Node) → length (forms_from at leads ns) ≡ length ns
@@ -76,16 +75,16 @@ forms_get at leads (x ∷ xs) (suc i) n e =
     let there : at + 1 + i ≡ at + suc i = omega arith in
     subst (λ (j : ℕ). slice_get (forms_from (at + 1) leads xs) i ≡ Some (n.key, form_by j (lead_at leads j) n.state)) there (forms_get (at + 1) leads xs i n e)
 
-pub forms_are : (words : List ℕ) (A : List Entry) (nodes : List Node) → AreShown nodes → (leads : List Lead) → AreLeads words A nodes (length nodes) leads
+pub forms_are : (words : List ℕ) (A : List Entry) (nodes : List Node) (leads : List Lead) → AreLeads words A nodes (length nodes) leads
     → AreForms words A nodes (forms_from 0 leads nodes)
-forms_are words A nodes shown leads are = record {
+forms_are words A nodes leads are = record {
   count = forms_long 0 leads nodes;
   each = λ at n e.
       let zero_more : 0 + at ≡ at = omega arith in (
         form_by at (lead_at leads at) n.state,
         (
           subst (λ (j : ℕ). slice_get (forms_from 0 leads nodes) at ≡ Some (n.key, form_by j (lead_at leads j) n.state)) zero_more (forms_get 0 leads nodes at n e),
-          form_is words A nodes shown at n (lead_at leads at) (are.each at n e),
+          form_is words A nodes at n (lead_at leads at) (are.each at n e),
         ),
       );
 }
@@ -120,9 +119,9 @@ forms_pushed leads done n forms pushed at form are long is form_is all =
       omega (arith, ap length all, length-append forms ((n.key, form) ∷ []), length-append done (n ∷ []), long),
     )
 
-pub forms_hold : {E : Type 0} (r : Result (Vec (NodeKey × NodeForm) Global) E) (words : List ℕ) (A : List Entry) (nodes listed : List Node) (leads slice : List Lead) → AreShown nodes
+pub forms_hold : {E : Type 0} (r : Result (Vec (NodeKey × NodeForm) Global) E) (words : List ℕ) (A : List Entry) (nodes listed : List Node) (leads slice : List Lead)
     → AreLeads words A nodes (length nodes) leads → slice ≡ leads → listed ≡ nodes → IfOk r (λ forms. forms.items ≡ forms_from 0 slice listed)
     → IfOk r (λ forms. AreForms words A nodes forms.items)
-forms_hold r words A nodes listed leads slice shown are same all h =
+forms_hold r words A nodes listed leads slice are same all h =
     IfOk-weaker r (λ forms. forms.items ≡ forms_from 0 slice listed) (λ forms. AreForms words A nodes forms.items)
-    (λ forms e. subst (AreForms words A nodes) (sym (e ∙ ap₂ (λ (l : List Lead) (ns : List Node). forms_from 0 l ns) same all)) (forms_are words A nodes shown leads are)) h
+    (λ forms e. subst (AreForms words A nodes) (sym (e ∙ ap₂ (λ (l : List Lead) (ns : List Node). forms_from 0 l ns) same all)) (forms_are words A nodes leads are)) h

@@ -1,8 +1,9 @@
--- How edges lead to nodes, edge by edge and node by node.
-use Rattle.std.proofs.Common.{◌≡◌, ◌≢◌, refl, sym, ap, ap₂, ◌∙◌, subst, ℕ, ◌+◌, ◌<◌, ◌==◌, ◌⊎◌, inl, inr, Bool, true, false, cond, List, [], ◌∷◌, length, Some, Contains, slice_get, fold, take, drop, ◌++◌, arith}
+-- How edges lead to nodes, landing by landing and node by node.
+use Rattle.std.proofs.Common.{◌≡◌, ◌≢◌, refl, sym, ap, ◌∙◌, subst, ℕ, ◌+◌, ◌<◌, ◌==◌, ◌⊎◌, inl, inr, Bool, true, false, cond, List, [], ◌∷◌, length, Some, Contains, slice_get, fold, take, drop, ◌++◌, arith}
 use Rattle.std.proofs.lemmas.Bool.{cases_lt}
 use Rattle.std.proofs.lemmas.Grind.{common_steps}
 use Rattle.std.proofs.lemmas.Bool.Decides.{nat_tests}
+use Rattle.std.proofs.lemmas.Option.{slice_get_within}
 use Rattle.basics.specs.Numbers.{equals_itself}
 use Rattle.basics.specs.Items.{none_in, first_in, further_in, first_or_further, contained_at}
 use Rattle.basics.specs.Lists.{one_at}
@@ -10,55 +11,56 @@ use Rattle.avr_model.specs.declared.assumption.Entry.{Entry}
 use Rattle.mask_states.specs.declared.keys.EdgeKind.{EdgeKind}
 use Rattle.mask_states.specs.declared.keys.EdgeKind.TheVariants.{Local, Call, Interrupt, Return}
 use Rattle.mask_states.specs.declared.keys.NodeKey.{NodeKey}
-use Rattle.mask_states.specs.Order.{same_node}
-use Rattle.mask_states.proofs.AllLaws.{keys_are_ordered}
 use Rattle.local_rules.specs.declared.local.Node.{Node}
 use Rattle.edge_rules.specs.declared.edge.Edge.{Edge}
-use Rattle.edge_rules.specs.Edges.{IsEdge, AreEdges}
-use Rattle.edge_rules.specs.Views.{AreShown}
+use Rattle.edge_rules.specs.Edges.{IsEdge}
+use Rattle.edge_rules.specs.Places.{found_at}
+use Rattle.edge_rules.specs.Views.{AreShown, place_of}
+use Rattle.call_graph.specs.declared.landing.Landing.{Landing}
+use Rattle.call_graph.specs.Landings.{AreLandingsOf}
 use Rattle.solution_laws.proofs.AllLaws.{node_once}
 use Rattle.solution.specs.declared.leading.Lead.{Lead}
 use Rattle.solution.specs.declared.leading.Lead.TheVariants.{Nothing, Only, More}
 use Rattle.solution.specs.Leads.{moved, led, lead_at, noted, LeadsTo, IsLead, AreLeads}
-use Rattle.solution.proofs.Places.{noted_long, noted_there}
+use Rattle.solution.proofs.Places.{place_is, noted_long, noted_there}
 
--- ---- the edges of a list that lead to a key, by their kinds
+-- ---- how edges land at the node of a number, by their kinds
 
-abbrev kinds_to : NodeKey → List Edge → List EdgeKind
-kinds_to k [] = []
-kinds_to k (e ∷ es) = cond (same_node e.to k) (e.kind ∷ kinds_to k es) (kinds_to k es)
+abbrev kinds_at : ℕ → List Landing → List EdgeKind
+kinds_at p [] = []
+kinds_at p (l ∷ ls) = cond (l.at == p) (l.kind ∷ kinds_at p ls) (kinds_at p ls)
 
-in_kinds : (k : NodeKey) (es : List Edge) (e : Edge) → e.to ≡ k → Contains es e → Contains (kinds_to k es) e.kind
-in_kinds k [] e to i = absurd (none_in e i)
-in_kinds k (x ∷ xs) e to i = by (in_kinds k xs e to) (same_node x.to k) refl (first_or_further x e xs i)
+in_kinds : (p : ℕ) (ls : List Landing) (l : Landing) → l.at ≡ p → Contains ls l → Contains (kinds_at p ls) l.kind
+in_kinds p [] l to i = absurd (none_in l i)
+in_kinds p (x ∷ xs) l to i = by (in_kinds p xs l to) (x.at == p) refl (first_or_further x l xs i)
   where
-    by : (Contains xs e → Contains (kinds_to k xs) e.kind) → (b : Bool) → same_node x.to k ≡ b → (e ≡ x) ⊎ Contains xs e
-        → Contains (cond b (x.kind ∷ kinds_to k xs) (kinds_to k xs)) e.kind
-    by rest true t (inl same) = subst (λ (y : Edge). Contains (x.kind ∷ kinds_to k xs) y.kind) (sym same) (first_in x.kind (kinds_to k xs))
-    by rest true t (inr j) = further_in x.kind e.kind (kinds_to k xs) (rest j)
-    by rest false t (inl same) = absurd (let h = (keys_are_ordered.same_nodes x.to k).1 (sym (ap (λ (y : Edge). y.to) same) ∙ to) in cc)
+    by : (Contains xs l → Contains (kinds_at p xs) l.kind) → (b : Bool) → (x.at == p) ≡ b → (l ≡ x) ⊎ Contains xs l
+        → Contains (cond b (x.kind ∷ kinds_at p xs) (kinds_at p xs)) l.kind
+    by rest true t (inl same) = subst (λ (y : Landing). Contains (x.kind ∷ kinds_at p xs) y.kind) (sym same) (first_in x.kind (kinds_at p xs))
+    by rest true t (inr j) = further_in x.kind l.kind (kinds_at p xs) (rest j)
+    by rest false t (inl same) = let here : x.at ≡ p = sym (ap (λ (y : Landing). y.at) same) ∙ to in absurd (grind (arith, nat_tests))
     by rest false t (inr j) = rest j
 
-record OfKind (k : NodeKey) (es : List Edge) (x : EdgeKind) : Type 0 where
-  edge : Edge
-  member : Contains es edge
-  to : edge.to ≡ k
-  kind : edge.kind ≡ x
+record OfKind (p : ℕ) (ls : List Landing) (x : EdgeKind) : Type 0 where
+  landing : Landing
+  member : Contains ls landing
+  at : landing.at ≡ p
+  kind : landing.kind ≡ x
 
-further : (k : NodeKey) (e : Edge) (es : List Edge) (x : EdgeKind) → OfKind k es x → OfKind k (e ∷ es) x
-further k e es x h = record { edge = h.edge; member = further_in e h.edge es h.member; to = h.to; kind = h.kind }
+further : (p : ℕ) (l : Landing) (ls : List Landing) (x : EdgeKind) → OfKind p ls x → OfKind p (l ∷ ls) x
+further p l ls x h = record { landing = h.landing; member = further_in l h.landing ls h.member; at = h.at; kind = h.kind }
 
-of_kind : (k : NodeKey) (es : List Edge) (x : EdgeKind) → Contains (kinds_to k es) x → OfKind k es x
-of_kind k [] x i = absurd (none_in x i)
-of_kind k (e ∷ es) x i = by (of_kind k es x) (same_node e.to k) refl i
+of_kind : (p : ℕ) (ls : List Landing) (x : EdgeKind) → Contains (kinds_at p ls) x → OfKind p ls x
+of_kind p [] x i = absurd (none_in x i)
+of_kind p (l ∷ ls) x i = by (of_kind p ls x) (l.at == p) refl i
   where
-    by : (Contains (kinds_to k es) x → OfKind k es x) → (b : Bool) → same_node e.to k ≡ b → Contains (cond b (e.kind ∷ kinds_to k es) (kinds_to k es)) x → OfKind k (e ∷ es) x
+    by : (Contains (kinds_at p ls) x → OfKind p ls x) → (b : Bool) → (l.at == p) ≡ b → Contains (cond b (l.kind ∷ kinds_at p ls) (kinds_at p ls)) x → OfKind p (l ∷ ls) x
     by rest true t i =
-        elim (first_or_further e.kind x (kinds_to k es) i) [
-          | inl same ↦ record { edge = e; member = first_in e es; to = (keys_are_ordered.same_nodes e.to k).0 t; kind = sym same }
-          | inr j ↦ further k e es x (rest j)
+        elim (first_or_further l.kind x (kinds_at p ls) i) [
+          | inl same ↦ record { landing = l; member = first_in l ls; at = grind (arith, nat_tests); kind = sym same }
+          | inr j ↦ further p l ls x (rest j)
         ]
-    by rest false t i = further k e es x (rest i)
+    by rest false t i = further p l ls x (rest i)
 
 -- ---- from kind to kind
 
@@ -135,16 +137,36 @@ second at m x xs lt all =
 
 -- ---- the edges of one node
 
-module _ (words : List ℕ) (A : List Entry) (nodes : List Node) (shown : AreShown nodes) (at : ℕ) (n : Node) (is_at : slice_get nodes at ≡ Some n) (edges : List Edge)
-    (exact : AreEdges words A nodes n edges) (k : NodeKey) where
-  -- an edge from the node
-  own : (x : EdgeKind) (h : OfKind k edges x) → LeadsTo words A nodes (at + 1) k at h.edge
-  own x h = record { node = n; below = omega arith; at = is_at; is = (exact h.edge).0 h.member; leads = h.to }
+-- an edge of this kind leads from the node to the key
+record HasEdge (words : List ℕ) (A : List Entry) (nodes : List Node) (n : Node) (k : NodeKey) (x : EdgeKind) : Type 0 where
+  edge : Edge
+  is : IsEdge words A nodes n edge
+  to : edge.to ≡ k
+  kind : edge.kind ≡ x
 
-  kind_of : (e : Edge) → LeadsTo words A nodes (at + 1) k at e → Contains (kinds_to k edges) e.kind
+module _ (words : List ℕ) (A : List Entry) (nodes : List Node) (shown : AreShown nodes) (at : ℕ) (n : Node) (is_at : slice_get nodes at ≡ Some n) (landings : List Landing)
+    (exact : AreLandingsOf words A nodes n landings) (p : ℕ) (there : Node) (is_there : slice_get nodes p ≡ Some there) where
+  abbrev k : NodeKey
+  k = there.key
+
+  edge_of : (x : EdgeKind) → Contains (kinds_at p landings) x → HasEdge words A nodes n k x
+  edge_of x i =
+      let h = of_kind p landings x i in
+      let l = (exact h.landing).0 h.member in
+      let f = found_at l.edge.to nodes h.landing.at l.at in
+      let same : f.node ≡ there = one_at nodes p f.node there (subst (λ (j : ℕ). slice_get nodes j ≡ Some f.node) h.at f.is) is_there in
+      record { edge = l.edge; is = l.is; to = sym f.same ∙ ap (λ (m : Node). m.key) same; kind = sym l.kind ∙ h.kind }
+
+  -- an edge from the node
+  own : (x : EdgeKind) (h : HasEdge words A nodes n k x) → LeadsTo words A nodes (at + 1) k at h.edge
+  own x h = record { node = n; below = omega arith; at = is_at; is = h.is; leads = h.to }
+
+  kind_of : (e : Edge) → LeadsTo words A nodes (at + 1) k at e → Contains (kinds_at p landings) e.kind
   kind_of e l =
       let same = one_at nodes at l.node n l.at is_at in
-      in_kinds k edges e l.leads ((exact e).1 (subst (λ (x : Node). IsEdge words A nodes x e) same l.is))
+      let place = subst (λ (q : NodeKey). place_of q nodes ≡ Some p) (sym l.leads) (place_is nodes shown p there is_there) in
+      let landing : Landing = record { kind = e.kind; at = p } in
+      in_kinds p landings landing refl ((exact landing).1 (record { edge = e; is = subst (λ (x : Node). IsEdge words A nodes x e) same l.is; kind = refl; at = place }))
 
   earlier : (i : ℕ) (e : Edge) → i < at → LeadsTo words A nodes (at + 1) k i e → LeadsTo words A nodes at k i e
   earlier i e lt l = record { node = l.node; below = lt; at = l.at; is = l.is; leads = l.leads }
@@ -169,7 +191,7 @@ module _ (words : List ℕ) (A : List Entry) (nodes : List Node) (shown : AreSho
   After lead = IsLead words A nodes (at + 1) k lead
 
   -- no edge from the node leads there
-  without : kinds_to k edges ≡ [] → (lead : Lead) → Before lead → After lead
+  without : kinds_at p landings ≡ [] → (lead : Lead) → Before lead → After lead
   without none Nothing h = split (λ i e. ⊥) h (λ e l. none_in e.kind (subst (λ (xs : List EdgeKind). Contains xs e.kind) none (kind_of e l)))
   without none (Only m) h = (
     (h.0.0, later m h.0.0 h.0.1),
@@ -178,33 +200,33 @@ module _ (words : List ℕ) (A : List Entry) (nodes : List Node) (shown : AreSho
   without none More h = h
 
   -- one that isn't local does
-  spoiled : (x : EdgeKind) → x ≢ Local → Contains (kinds_to k edges) x → After More
+  spoiled : (x : EdgeKind) → x ≢ Local → Contains (kinds_at p landings) x → After More
   spoiled x ne i m o =
-      let h = of_kind k edges x i in
-      let same = (o.only n h.edge (contained_at nodes at n is_at) ((exact h.edge).0 h.member) h.to).1 in
+      let h = edge_of x i in
+      let same = (o.only n h.edge (contained_at nodes at n is_at) h.is h.to).1 in
       ne (sym h.kind ∙ ap (λ (e : Edge). e.kind) same ∙ o.moves)
 
   -- local ones do
-  with_local : (x : EdgeKind) (xs : List EdgeKind) → kinds_to k edges ≡ x ∷ xs → AllLocal (x ∷ xs) → (lead : Lead) → Before lead → After (run at lead (x ∷ xs))
+  with_local : (x : EdgeKind) (xs : List EdgeKind) → kinds_at p landings ≡ x ∷ xs → AllLocal (x ∷ xs) → (lead : Lead) → Before lead → After (run at lead (x ∷ xs))
   with_local x xs are all Nothing h =
-      let f = of_kind k edges x (subst (λ (l : List EdgeKind). Contains l x) (sym are) (first_in x xs)) in
+      let f = edge_of x (subst (λ (l : List EdgeKind). Contains l x) (sym are) (first_in x xs)) in
       subst After (sym (fresh at x xs all)) (
         (f.edge, own x f),
         split (λ i e. (i ≡ at) × (e.kind ≡ Local)) (λ i e l. absurd (h i e l)) (λ e l. (refl, all e.kind (subst (λ (l : List EdgeKind). Contains l e.kind) are (kind_of e l)))),
       )
   with_local x xs are all (Only m) h =
-      let f = of_kind k edges x (subst (λ (l : List EdgeKind). Contains l x) (sym are) (first_in x xs)) in
+      let f = edge_of x (subst (λ (l : List EdgeKind). Contains l x) (sym are) (first_in x xs)) in
       let l = h.0.1 in
       subst After (sym (second at m x xs l.below all))
       (λ j o.
       let a = (o.only l.node h.0.0 (contained_at nodes m l.node l.at) l.is l.leads).0 in
-      let b = (o.only n f.edge (contained_at nodes at n is_at) ((exact f.edge).0 f.member) f.to).0 in
+      let b = (o.only n f.edge (contained_at nodes at n is_at) f.is f.to).0 in
       let same : m ≡ at = node_once nodes m at n shown.ascending (l.at ∙ ap Some (a ∙ sym b)) is_at in
       let lt = l.below in
       omega (arith, lt, same))
   with_local x xs are all More h = subst After (sym (stays at (x ∷ xs))) h
 
-  step_by : (xs : List EdgeKind) → kinds_to k edges ≡ xs → (lead : Lead) → Before lead → After (run at lead xs)
+  step_by : (xs : List EdgeKind) → kinds_at p landings ≡ xs → (lead : Lead) → Before lead → After (run at lead xs)
   step_by [] are lead h = without are lead h
   step_by (x ∷ xs) are lead h =
       elim (scan (x ∷ xs)) [
@@ -212,46 +234,45 @@ module _ (words : List ℕ) (A : List Entry) (nodes : List Node) (shown : AreSho
         | inr o ↦ subst After (sym (other at lead (x ∷ xs) o.kind o.is o.member)) (spoiled o.kind o.is (subst (λ (l : List EdgeKind). Contains l o.kind) (sym are) o.member))
       ]
 
-  step : (lead : Lead) → Before lead → After (run at lead (kinds_to k edges))
-  step lead h = step_by (kinds_to k edges) refl lead h
+  step : (lead : Lead) → Before lead → After (run at lead (kinds_at p landings))
+  step lead h = step_by (kinds_at p landings) refl lead h
 
 -- ---- all nodes
 
-module _ (nodes : List Node) (shown : AreShown nodes) (at : ℕ) where
-  pub folded_long : (es : List Edge) (leads : List Lead) → length leads ≡ length nodes → length (fold (noted nodes at) leads es) ≡ length nodes
-  folded_long [] leads all = all
-  folded_long (e ∷ es) leads all = folded_long es (noted nodes at leads e) (noted_long nodes shown at leads all e)
+folded_long : (at : ℕ) (ls : List Landing) (leads : List Lead) → length (fold (noted at) leads ls) ≡ length leads
+folded_long at [] leads = refl
+folded_long at (l ∷ ls) leads = folded_long at ls (noted at leads l) ∙ noted_long at leads l
 
-  folded_at : (es : List Edge) (leads : List Lead) → length leads ≡ length nodes → (p : ℕ) (n : Node) → slice_get nodes p ≡ Some n
-      → lead_at (fold (noted nodes at) leads es) p ≡ run at (lead_at leads p) (kinds_to n.key es)
-  folded_at [] leads all p n is = refl
-  folded_at (e ∷ es) leads all p n is =
-      folded_at es (noted nodes at leads e) (noted_long nodes shown at leads all e) p n is
-      ∙ ap (λ (l : Lead). run at l (kinds_to n.key es)) (noted_there nodes shown at leads all p n e is)
-      ∙ by (same_node e.to n.key)
-    where
-      by : (b : Bool) → run at (cond b (led (lead_at leads p) at e.kind) (lead_at leads p)) (kinds_to n.key es)
-          ≡ run at (lead_at leads p) (cond b (e.kind ∷ kinds_to n.key es) (kinds_to n.key es))
-      by true = refl
-      by false = refl
+folded_at : (at : ℕ) (ls : List Landing) (leads : List Lead) (p : ℕ) → p < length leads → lead_at (fold (noted at) leads ls) p ≡ run at (lead_at leads p) (kinds_at p ls)
+folded_at at [] leads p lt = refl
+folded_at at (l ∷ ls) leads p lt =
+    folded_at at ls (noted at leads l) p (omega (arith, lt, noted_long at leads l))
+    ∙ ap (λ (x : Lead). run at x (kinds_at p ls)) (noted_there at leads l p lt)
+    ∙ by (l.at == p)
+  where
+    by : (b : Bool) → run at (cond b (led (lead_at leads p) at l.kind) (lead_at leads p)) (kinds_at p ls)
+        ≡ run at (lead_at leads p) (cond b (l.kind ∷ kinds_at p ls) (kinds_at p ls))
+    by true = refl
+    by false = refl
 
-pub led_more : (words : List ℕ) (A : List Entry) (nodes : List Node) (shown : AreShown nodes) (at : ℕ) (n : Node) → slice_get nodes at ≡ Some n → (edges : List Edge)
-    → AreEdges words A nodes n edges → (leads : List Lead) → AreLeads words A nodes at leads → AreLeads words A nodes (at + 1) (fold (noted nodes at) leads edges)
-led_more words A nodes shown at n is edges exact leads are = record {
-  all = folded_long nodes shown at edges leads are.all;
+led_more : (words : List ℕ) (A : List Entry) (nodes : List Node) → AreShown nodes → (at : ℕ) (n : Node) → slice_get nodes at ≡ Some n → (landings : List Landing)
+    → AreLandingsOf words A nodes n landings → (leads : List Lead) → AreLeads words A nodes at leads → AreLeads words A nodes (at + 1) (fold (noted at) leads landings)
+led_more words A nodes shown at n is landings exact leads are = record {
+  all = folded_long at landings leads ∙ are.all;
   each = λ p m e.
-      subst (IsLead words A nodes (at + 1) m.key) (sym (folded_at nodes shown at edges leads are.all p m e))
-      (step words A nodes shown at n is edges exact m.key (lead_at leads p) (are.each p m e));
+      let lt = slice_get_within nodes p m e in
+      subst (IsLead words A nodes (at + 1) m.key) (sym (folded_at at landings leads p (omega (arith, lt, are.all))))
+      (step words A nodes shown at n is landings exact p m e (lead_at leads p) (are.each p m e));
 }
 
 all_written : (xs ys : List Lead) (n : ℕ) → n ≡ length xs → length ys ≡ length xs → take n (ys ++ drop (length ys) xs) ≡ ys
 all_written xs ys n size same = grind (arith, common_steps)
 
 -- the same of what is written back
-pub led_written : (words : List ℕ) (A : List Entry) (nodes : List Node) (shown : AreShown nodes) (at : ℕ) (n : Node) → slice_get nodes at ≡ Some n → (edges : List Edge)
-    → AreEdges words A nodes n edges → (leads ys zs : List Lead) (es : List Edge) (size : ℕ) → AreLeads words A nodes at leads → zs ≡ leads → es ≡ edges
-    → ys ≡ fold (noted nodes at) zs es → size ≡ length leads → AreLeads words A nodes (at + 1) (take size (ys ++ drop (length ys) leads))
-led_written words A nodes shown at n is edges exact leads ys zs es size are from of whole sized =
-    let folded : ys ≡ fold (noted nodes at) leads edges = whole ∙ ap₂ (λ (z : List Lead) (e : List Edge). fold (noted nodes at) z e) from of in
-    let long : length ys ≡ length leads = ap length folded ∙ folded_long nodes shown at edges leads are.all ∙ sym are.all in
-    subst (AreLeads words A nodes (at + 1)) (sym (all_written leads ys size sized long ∙ folded)) (led_more words A nodes shown at n is edges exact leads are)
+pub led_written : (words : List ℕ) (A : List Entry) (nodes : List Node) → AreShown nodes → (at : ℕ) (n : Node) → slice_get nodes at ≡ Some n → (landings : List Landing)
+    → AreLandingsOf words A nodes n landings → (leads ys zs : List Lead) (size : ℕ) → AreLeads words A nodes at leads → zs ≡ leads
+    → ys ≡ fold (noted at) zs landings → size ≡ length leads → AreLeads words A nodes (at + 1) (take size (ys ++ drop (length ys) leads))
+led_written words A nodes shown at n is landings exact leads ys zs size are from whole sized =
+    let folded : ys ≡ fold (noted at) leads landings = whole ∙ ap (λ (z : List Lead). fold (noted at) z landings) from in
+    let long : length ys ≡ length leads = ap length folded ∙ folded_long at landings leads in
+    subst (AreLeads words A nodes (at + 1)) (sym (all_written leads ys size sized long ∙ folded)) (led_more words A nodes shown at n is landings exact leads are)

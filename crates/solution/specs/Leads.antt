@@ -1,5 +1,5 @@
 -- How edges lead to nodes, and the forms of the nodes by that.
-use Rattle.std.specs.Prelude.{ℕ, ◌+◌, ◌≡◌, ◌<◌, ◌==◌, nat_lt, if◌then◌else◌, List, [], ◌∷◌, length, Option, Some, None, slice_get, slice_set, slice_index_or}
+use Rattle.std.specs.Prelude.{ℕ, ◌+◌, ◌≡◌, ◌<◌, ◌==◌, nat_lt, if◌then◌else◌, List, [], ◌∷◌, length, Some, slice_get, slice_set, slice_index_or}
 use Rattle.avr_model.specs.declared.assumption.Entry.{Entry}
 use Rattle.abs_state.specs.declared.state.AbsState.{AbsState}
 use Rattle.mask_states.specs.declared.keys.EdgeKind.{EdgeKind}
@@ -11,7 +11,7 @@ use Rattle.edge_rules.specs.declared.seeded.NodeForm.{NodeForm}
 use Rattle.edge_rules.specs.declared.seeded.NodeForm.TheVariants.{State, From}
 use Rattle.edge_rules.specs.Edges.{IsEdge}
 use Rattle.edge_rules.specs.Expansion.{Seeds}
-use Rattle.edge_rules.specs.Views.{place_of}
+use Rattle.call_graph.specs.declared.landing.Landing.{Landing}
 use Rattle.round_rules.specs.Sparse.{IsOnlyFrom}
 use Rattle.solution.specs.declared.leading.Lead.{Lead}
 use Rattle.solution.specs.declared.leading.Lead.TheVariants.{Nothing, Only, More}
@@ -33,13 +33,9 @@ led lead at Return = More
 abbrev pub lead_at : List Lead → ℕ → Lead
 lead_at leads p = slice_index_or leads p Nothing
 
-abbrev pub noted_at : Option ℕ → ℕ → List Lead → EdgeKind → List Lead
-noted_at None at leads kind = leads
-noted_at (Some p) at leads kind = slice_set leads p (led (lead_at leads p) at kind)
-
--- an edge from the node of this number is noted where it leads
-abbrev pub noted : List Node → ℕ → List Lead → Edge → List Lead
-noted nodes at leads e = noted_at (place_of e.to nodes) at leads e.kind
+-- where an edge from the node of this number lands is noted
+abbrev pub noted : ℕ → List Lead → Landing → List Lead
+noted at leads l = slice_set leads l.at (led (lead_at leads l.at) at l.kind)
 
 -- ---- all edges
 

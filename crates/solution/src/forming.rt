@@ -1,22 +1,17 @@
 //! Which states are written and which are left out.
 
-ghost use Rattle.std.specs.Prelude.{◌≡◌, ◌≤◌, ◌<◌, length, IfOk, Contains};
-ghost use Rattle.local_rules.specs.declared.local.Node.{Node};
-ghost use Rattle.edge_rules.specs.Edges.{IsFaultless};
-ghost use Rattle.call_graph.specs.Exits.{AreExits};
+ghost use Rattle.std.specs.Prelude.{◌≡◌, ◌≤◌, ◌<◌, length, IfOk};
+ghost use Rattle.call_graph.specs.Landings.{AreLandings};
 ghost use Rattle.solution_laws.specs.Parts.{AreForms};
 ghost use Rattle.solution.specs.Leads.{lead_at, form_by, forms_from};
 
 use crate::leading::{Lead, leads};
 use abs_state::AbsState;
-use avr_model::listed::Listed;
-use call_graph::{Filled, NodeForm, all_exits};
+use call_graph::{NodeForm, Task, Worked};
 use edge_rules::HeldState;
-use flash_image::Flash;
-use local_rules::{Exit, Node};
+use local_rules::Node;
 use mask_states::NodeKey;
 use std::alloc::{AllocError, Global};
-use vector_table::Assumptions;
 
 // The form of the node of this number, where edges lead to the nodes so.
 fn form(alloc: Global, leads: &[Lead], at: usize, state: AbsState) -> Result<NodeForm, AllocError>
@@ -49,34 +44,18 @@ fn formed(
     Ok(forms)
 }
 
-// The nodes with their forms, where these are their exits.
-fn formed_by(
-    alloc: Global,
-    flash: &Flash,
-    assumptions: &Assumptions,
-    nodes: Filled,
-    exits: &Listed<Option<Exit>>,
-) -> Result<Vec<(NodeKey, NodeForm)>, AllocError>
-    requires few { length nodes ≤ 65536 }
-    requires known { AreExits flash.now assumptions.now nodes exits.now }
-    ensures { IfOk result (λ forms. AreForms flash.now assumptions.now nodes forms.items) }
+/// The nodes of a family, at most 65,536, with their forms: the number of an earlier node where the one edge that leads to the node is
+/// local and comes from there, and else the state. No local part is worked out for that.
+pub fn forms(task: &Task<'_>, family: Worked) -> Result<Vec<(NodeKey, NodeForm)>, AllocError>
+    requires few { length family.nodes ≤ 65536 }
+    requires landings { AreLandings task.now.flash.now task.now.assumptions.now family.nodes family.landings }
+    ensures { IfOk result (λ forms. AreForms task.now.flash.now task.now.assumptions.now family.nodes forms.items) }
 {
-    let leads = leads(alloc, flash, assumptions, &nodes, exits)?;
-    formed(alloc, nodes.into_vec(), leads.as_slice())
-}
-
-/// The nodes of a family, at most 65,536 without a fault, with their forms: the number of an earlier node where the one edge that leads to
-/// the node is local and comes from there, and else the state. Each local part is worked out twice.
-pub fn forms(
-    alloc: Global,
-    flash: &Flash,
-    assumptions: &Assumptions,
-    nodes: Filled,
-) -> Result<Vec<(NodeKey, NodeForm)>, AllocError>
-    requires few { length nodes ≤ 65536 }
-    requires faultless { (n : Node) → Contains nodes n → IsFaultless flash.now assumptions.now n }
-    ensures { IfOk result (λ forms. AreForms flash.now assumptions.now nodes forms.items) }
-{
-    let exits = all_exits(alloc, flash, assumptions, &nodes)?;
-    formed_by(alloc, flash, assumptions, nodes, &exits)
+    match leads(task, &family) {
+        Ok(leads) => formed(task.alloc, family.nodes.into_vec(), leads.as_slice()),
+        Err(error) => {
+            drop(family);
+            Err(error)
+        }
+    }
 }

@@ -1,15 +1,13 @@
 //! How edges lead to nodes.
 
-ghost use Rattle.std.specs.Prelude.{◌≡◌, ◌≤◌, fold, length, IfOk};
-ghost use Rattle.call_graph.specs.Exits.{AreExits};
+ghost use Rattle.std.specs.Prelude.{◌≡◌, ◌<◌, ◌≤◌, fold, length, IfOk, Contains};
+ghost use Rattle.call_graph.specs.declared.landing.Landing as landing_type;
+ghost use Rattle.call_graph.specs.Landings.{AreLandings};
 ghost use Rattle.solution.specs.Leads.{led, noted, AreLeads};
 
-use avr_model::listed::Listed;
-use call_graph::{Edge, EdgeKind, View, next_with};
-use flash_image::Flash;
-use local_rules::Exit;
-use std::alloc::{AllocError, Global};
-use vector_table::Assumptions;
+use call_graph::{Landing, Task, Worked};
+use mask_states::EdgeKind;
+use std::alloc::AllocError;
 
 /// How edges lead to a node.
 #[derive(Clone, Copy)]
@@ -36,44 +34,27 @@ fn led(lead: Lead, at: u32, kind: EdgeKind) -> Lead
     }
 }
 
-// Notes an edge from the node of this number.
-#[tactic(auto, using(crate::proofs::Places::place_within))]
-fn note<V: View>(view: &V, at: u32, edge: &Edge, leads: &mut [Lead])
-    requires { length leads.old ≡ length (V.nodes view.now) }
-    ensures { leads.new ≡ noted (V.nodes view.now) at leads.old edge.now }
+// Notes where the edges from the node of this number land.
+fn note_all(at: u32, landings: &[Landing], leads: &mut [Lead])
+    requires { (l : landing_type.Landing) → Contains landings.now l → l.at < length leads.old }
+    ensures { leads.new ≡ fold (noted at) leads.old landings.now }
 {
-    if let Some(to) = view.find(&edge.to) {
-        leads[to] = led(leads[to], at, edge.kind);
+    for landing in landings {
+        let to = landing.at as usize;
+        leads[to] = led(leads[to], at, landing.kind);
     }
 }
 
-// Notes the edges from the node of this number.
-fn note_all<V: View>(view: &V, at: u32, edges: &[Edge], leads: &mut [Lead])
-    requires { length leads.old ≡ length (V.nodes view.now) }
-    ensures { leads.new ≡ fold (noted (V.nodes view.now) at) leads.old edges.now }
+/// How edges lead to each node of a family, by where its edges land.
+pub(crate) fn leads(task: &Task<'_>, family: &Worked) -> Result<Vec<Lead>, AllocError>
+    requires few { length family.now.nodes ≤ 65536 }
+    requires landings { AreLandings task.now.flash.now task.now.assumptions.now family.now.nodes family.now.landings }
+    ensures { IfOk result (λ leads. AreLeads task.now.flash.now task.now.assumptions.now family.now.nodes (length family.now.nodes) leads.items) }
 {
-    for edge in edges {
-        note(view, at, edge, leads);
-    }
-}
-
-/// How edges lead to each node of a family, where these are the exits of the nodes. The local part of each node is worked out once.
-#[tactic(auto, using(crate::proofs::Formed::none_led))]
-pub(crate) fn leads<V: View>(
-    alloc: Global,
-    flash: &Flash,
-    assumptions: &Assumptions,
-    view: &V,
-    exits: &Listed<Option<Exit>>,
-) -> Result<Vec<Lead>, AllocError>
-    requires few { length (V.nodes view.now) ≤ 65536 }
-    requires known { AreExits flash.now assumptions.now (V.nodes view.now) exits.now }
-    ensures { IfOk result (λ leads. AreLeads flash.now assumptions.now (V.nodes view.now) (length (V.nodes view.now)) leads.items) }
-{
-    let mut leads = vec![in alloc; Lead::Nothing; view.count()]?;
-    for at in 0..view.count() {
-        let edges = next_with(alloc, flash, assumptions, view, at, exits)?;
-        note_all(view, at as u32, edges.as_slice(), leads.as_mut_slice());
+    let landings = family.landings.as_slice();
+    let mut leads = vec![in task.alloc; Lead::Nothing; family.nodes.count()]?;
+    for at in 0..family.nodes.count() {
+        note_all(at as u32, landings[at].as_slice(), leads.as_mut_slice());
     }
     Ok(leads)
 }

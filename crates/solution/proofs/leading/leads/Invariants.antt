@@ -2,4 +2,4 @@ use Rattle.solution.specs.Leads.{AreLeads}
 use Rattle.solution.proofs.leading.leads.Given as goal
 
 abbrev pub invariant-loop-at : goal.invariant-loop-at
-invariant-loop-at g l = AreLeads l.flash l.assumptions (g.V.View.nodes l.view) l.at l.leads.items
+invariant-loop-at l = AreLeads l.task.flash.now l.task.assumptions.now l.family.nodes l.at l.leads.items
