@@ -5,13 +5,16 @@ use Rattle.std.proofs.lemmas.List.{append-nil}
 use Rattle.std.proofs.lemmas.Option.{slice_get_past}
 use Rattle.avr_model.specs.declared.assumption.Entry.{Entry}
 use Rattle.mask_states.specs.declared.keys.EdgeKind.{EdgeKind}
+use Rattle.mask_states.specs.Keys.{entry_key}
 use Rattle.local_rules.specs.declared.local.Node.{Node}
+use Rattle.edge_rules.specs.Edges.{entering}
 use Rattle.edge_rules.specs.Expansion.{IsFilled}
 use Rattle.nesting_bound.specs.declared.graph.Link.{Link}
+use Rattle.family_graph.specs.Graphs.{IsPeopled}
 use Rattle.family_graph.specs.Chains.{IsDeepest}
 use Rattle.witness_replay.specs.Spelling.{Plan}
 use Rattle.certificate.specs.Claims.{Claim}
-use Rattle.certificate.specs.Valid.{Attains, IsAttained}
+use Rattle.certificate.specs.Valid.{Attains, IsAttained, MeetsConditions}
 use Rattle.witness_search.specs.declared.waypoint.Waypoint.{Waypoint}
 use Rattle.witness_search.specs.Chains.{interrupt_at, interrupt_of, interrupts_of, AreInterrupts, AreWaypoints}
 use Rattle.witness_search.specs.Trials.{IsFound}
@@ -30,6 +33,12 @@ none_added words nodes xs link points r item none same =
     let past : IsItemAt xs link.node None = subst (λ (o : Option (Bor Node)). IsItemAt xs link.node o) none item in
     let away : slice_get nodes link.node ≡ None = subst (λ (ns : List Node). slice_get ns link.node ≡ None) same (slice_get_past xs link.node past.3) in
     sym (ap (λ (ws : List Waypoint). points ++ ws) (none_there words (slice_get nodes link.node) link.depth link.kind away) ∙ append-nil points)
+
+-- where the conditions hold, each instance that is entered has its first node
+pub peopled : (words : List ℕ) (A : List Entry) (c : Claim) (nodes : List Node) → MeetsConditions words A c nodes → IsPeopled words A nodes
+peopled words A c nodes meets n way into back has enters =
+    let l = meets.edges n _ has (entering way into back enters) in
+    (record { key = entry_key into; state = l.state }, (l.present, refl))
 
 -- the interrupts of the chain, whose links are given by another list
 pub interrupts_as : (words : List ℕ) (A : List Entry) (nodes : List Node) (need : ℕ) (links given : List Link) (points : List Waypoint)

@@ -1,19 +1,19 @@
 //! The interrupts of the deepest chain of a certificate's family.
 
 ghost use Rattle.std.specs.Prelude.{◌≡◌, ◌++◌, ◌≤◌, IfOk, OnOk, length};
+ghost use Rattle.call_graph.specs.Landings.{AreLandings};
 ghost use Rattle.certificate.specs.Claims.{IsClaim};
 ghost use Rattle.certificate.specs.Valid.{MeetsConditions};
 ghost use Rattle.witness_search.specs.Chains.{interrupt_of, interrupts_of, AreInterrupts};
 
 use crate::waypoint::Waypoint;
-use call_graph::Filled;
+use call_graph::{Filled, Task, Worked};
 use certificate::Certificate;
-use family_graph::deepest_chain;
+use family_graph::{deepest_chain, entered_by};
 use flash_image::Flash;
 use mask_states::EdgeKind;
 use nesting_bound::Link;
 use std::alloc::{AllocError, Global};
-use vector_table::Assumptions;
 
 // The interrupt by which the chain goes on from a place, if it goes on by one.
 fn add_interrupt(
@@ -55,19 +55,24 @@ fn interrupts(
     Ok(points)
 }
 
-/// The interrupts of the deepest chain of a certificate's nodes, which are the expansion of those that it holds and meet the conditions.
+/// The interrupts of the deepest chain of a certificate's family, whose nodes meet the conditions.
 pub(crate) fn waypoints(
-    alloc: Global,
-    flash: &Flash,
-    assumptions: &Assumptions,
+    task: &Task<'_>,
     certificate: &Certificate,
-    nodes: &Filled,
+    family: &Worked,
 ) -> Result<Vec<Waypoint>, AllocError>
     requires claim { IsClaim certificate.now }
-    requires few { length nodes.now ≤ 65536 }
-    requires meets { MeetsConditions flash.now assumptions.now certificate.now nodes.now }
-    ensures { IfOk result (λ points. AreInterrupts flash.now assumptions.now nodes.now points.items) }
+    requires few { length family.now.nodes ≤ 65536 }
+    requires meets { MeetsConditions task.now.flash.now task.now.assumptions.now certificate.now family.now.nodes }
+    requires landings { AreLandings task.now.flash.now task.now.assumptions.now family.now.nodes family.now.landings }
+    ensures { IfOk result (λ points. AreInterrupts task.now.flash.now task.now.assumptions.now family.now.nodes points.items) }
 {
-    let deepest = deepest_chain(alloc, flash, assumptions, certificate, nodes)?;
-    interrupts(alloc, flash, nodes, deepest.links.as_slice())
+    let ways = entered_by(task, family)?;
+    let deepest = deepest_chain(task, certificate, &family.nodes, &ways)?;
+    interrupts(
+        task.alloc,
+        task.flash,
+        &family.nodes,
+        deepest.links.as_slice(),
+    )
 }

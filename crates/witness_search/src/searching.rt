@@ -9,26 +9,22 @@ ghost use Rattle.witness_search.specs.Trials.{IsFound};
 use crate::chain::waypoints;
 use crate::trial::first_trial;
 use crate::waypoint::Waypoint;
+use call_graph::Task;
 use certificate::Certificate;
-use family_graph::expanded_nodes;
+use family_graph::worked_of;
 use flash_image::Flash;
 use std::alloc::{AllocError, Global};
 use vector_table::Assumptions;
 use witness_replay::Schedule;
 
 /// The waypoints of a certificate, whose conditions hold.
-fn waypoints_of(
-    alloc: Global,
-    flash: &Flash,
-    assumptions: &Assumptions,
-    certificate: &Certificate,
-) -> Result<Vec<Waypoint>, AllocError>
-    requires { IsSound flash.now assumptions.now certificate.now }
-    ensures { IfOk result (λ points. AreWaypoints flash.now assumptions.now certificate.now points.items) }
+fn waypoints_of(task: &Task<'_>, certificate: &Certificate) -> Result<Vec<Waypoint>, AllocError>
+    requires { IsSound task.now.flash.now task.now.assumptions.now certificate.now }
+    ensures { IfOk result (λ points. AreWaypoints task.now.flash.now task.now.assumptions.now certificate.now points.items) }
 {
     let _nodes = certificate.nodes();
-    let nodes = expanded_nodes(alloc, flash, assumptions, certificate)?;
-    waypoints(alloc, flash, assumptions, certificate, &nodes)
+    let family = worked_of(task, certificate)?;
+    waypoints(task, certificate, &family)
 }
 
 /// A schedule whose run is as deep as the certificate's bound, of the conditions on which all but that on its schedule hold. It is that
@@ -44,6 +40,11 @@ pub fn search(
     ensures first { IfOk result (λ found. (points : List Waypoint) × AreWaypoints flash.now assumptions.now certificate.now points × IsFound flash.now assumptions.now points certificate.now.bound found) }
     ensures attained { IfOk result (IsAttained flash.now assumptions.now certificate.now.bound) }
 {
-    let points = waypoints_of(alloc, flash, assumptions, certificate)?;
+    let task = Task {
+        alloc,
+        flash,
+        assumptions,
+    };
+    let points = waypoints_of(&task, certificate)?;
     first_trial(alloc, flash, assumptions, &points, certificate.bound())
 }

@@ -10,6 +10,7 @@ use crate::mark::Mark;
 use crate::waypoint::{Waypoint, is_due};
 use avr_machine::{Choice, Machine, Menu, StepResult};
 use avr_model::listed::Listed;
+use call_graph::Task;
 use flash_image::Flash;
 use std::alloc::{AllocError, Global};
 use stimulus::laws::depth_is_kept;
@@ -47,20 +48,18 @@ fn found(choices: Vec<Choice>, machine: &Machine, bound: u16) -> Option<Listed<C
 /// and every other choice is `Go(fill, fill)`, until the depth is the bound or more, or a stop, or so many steps. A trial that comes to
 /// a state again, with as many waypoints left, is at its end, since it repeats itself.
 fn attempt(
-    alloc: Global,
-    flash: &Flash,
-    assumptions: &Assumptions,
+    task: &Task<'_>,
     points: &[Waypoint],
     bound: u16,
     fill: u8,
     steps: u32,
 ) -> Result<Option<Listed<Choice>>, AllocError>
-    ensures { IfOk result (IsAttempted steps flash.now assumptions.now points.now bound fill) }
+    ensures { IfOk result (IsAttempted steps task.now.flash.now task.now.assumptions.now points.now bound fill) }
 {
     depth_is_kept();
-    let mut machine = Machine::start(flash.device(), fill);
+    let mut machine = Machine::start(task.flash.device(), fill);
     let mut rest = points;
-    let mut choices = Vec::new(alloc);
+    let mut choices = Vec::new(task.alloc);
     let mut mark = Mark::new(0, &machine, rest);
     for at in 0..steps {
         if bound <= machine.depth() {
@@ -69,7 +68,7 @@ fn attempt(
         let (choice, left) = next(rest, &machine.menu(), fill);
         rest = left;
         choices.push(choice)?;
-        match machine.step(flash, assumptions, choice) {
+        match machine.step(task.flash, task.assumptions, choice) {
             StepResult::Done => {}
             _ => return Ok(found(choices, &machine, bound)),
         }
@@ -85,30 +84,19 @@ fn attempt(
 
 /// The schedule of the trial with this fill byte. None exactly where its depth isn't the bound.
 fn try_fill(
-    alloc: Global,
-    flash: &Flash,
-    assumptions: &Assumptions,
+    task: &Task<'_>,
     points: &[Waypoint],
     bound: u16,
     fill: u8,
 ) -> Result<Option<Schedule>, AllocError>
-    ensures tried { IfOk result (IsTried flash.now assumptions.now points.now bound fill) }
-    ensures attained { IfOk result (λ found. IfSome found (Attains flash.now assumptions.now bound)) }
+    ensures tried { IfOk result (IsTried task.now.flash.now task.now.assumptions.now points.now bound fill) }
+    ensures attained { IfOk result (λ found. IfSome found (Attains task.now.flash.now task.now.assumptions.now bound)) }
 {
     depth_is_kept();
-    let Some(choices) = attempt(
-        alloc,
-        flash,
-        assumptions,
-        points,
-        bound,
-        fill,
-        most_choices(),
-    )?
-    else {
+    let Some(choices) = attempt(task, points, bound, fill, most_choices())? else {
         return Ok(None);
     };
-    let schedule = Schedule::from_trace(alloc, fill, choices.as_slice())?;
+    let schedule = Schedule::from_trace(task.alloc, fill, choices.as_slice())?;
     Ok(Some(schedule))
 }
 
@@ -127,9 +115,14 @@ pub fn first_trial(
     ensures first { IfOk result (IsFound flash.now assumptions.now points.now bound) }
     ensures attained { IfOk result (λ found. IfSome found (Attains flash.now assumptions.now bound)) }
 {
+    let task = Task {
+        alloc,
+        flash,
+        assumptions,
+    };
     for t in 0..8 {
         let fill = FILLS[t];
-        if let Some(schedule) = try_fill(alloc, flash, assumptions, points, bound, fill)? {
+        if let Some(schedule) = try_fill(&task, points, bound, fill)? {
             return Ok(Some(schedule));
         }
     }

@@ -5,5 +5,5 @@ use Rattle.witness_search.proofs.searching.waypoints_of.Goals as goal
 pub returns : goal.returns
 returns c =
     IfOk-weaker c.waypoints.result _ _
-    (λ points e. waypoints_as c.args.flash.now c.args.assumptions.now c.args.certificate.now c.in_ok-nodes.nodes points.items c.in_ok-nodes.ensures.filled e)
+    (λ points e. waypoints_as c.args.task.now.flash.now c.args.task.now.assumptions.now c.args.certificate.now c.in_ok-family.family.nodes points.items c.in_ok-family.ensures.filled e)
     c.waypoints.ensures

@@ -11,13 +11,13 @@ use Rattle.witness_search.proofs.trial.attempt.Goals.{then-is_old, else-is_old}
 pub returns-then-bound-depth : goal.returns-then-bound-depth
 returns-then-bound-depth c =
     let byte : c.args.fill < 256 = omega arith in
-    ended c.args.flash.now c.args.assumptions.now c.args.points.now c.args.bound c.args.fill c.depth_is_kept.ensures c.args.steps byte c.loop-at.choices.items c.loop-at.rest.now c.loop-at.machine c.found.result
+    ended c.args.task.now.flash.now c.args.task.now.assumptions.now c.args.points.now c.args.bound c.args.fill c.depth_is_kept.ensures c.args.steps byte c.loop-at.choices.items c.loop-at.rest.now c.loop-at.machine c.found.result
     c.loop-at.invariant.0 (omega arith) (inl (omega arith)) c.found.ensures.some c.found.ensures.none
 
 pub returns : goal.returns
 returns c =
     let byte : c.args.fill < 256 = omega arith in
-    ended c.args.flash.now c.args.assumptions.now c.args.points.now c.args.bound c.args.fill c.depth_is_kept.ensures c.args.steps byte c.loop-at.choices.items c.loop-at.rest.now c.loop-at.machine c.found-2.result
+    ended c.args.task.now.flash.now c.args.task.now.assumptions.now c.args.points.now c.args.bound c.args.fill c.depth_is_kept.ensures c.args.steps byte c.loop-at.choices.items c.loop-at.rest.now c.loop-at.machine c.found-2.result
     c.loop-at.invariant.0 (omega arith) (inr (omega arith)) c.found-2.ensures.some c.found-2.ensures.none
 
 pub returns-in_default : goal.returns-in_default
@@ -27,7 +27,7 @@ returns-in_default c =
     let room : length c.loop-at.choices.items < c.args.steps = omega arith in
     let menu : IsMenuOf c.menu.result c.loop-at.machine.state = record { pc = c.menu.ensures.pc; sp = c.menu.ensures.sp; masks = c.menu.ensures.masks; takes = c.menu.ensures.takes } in
     let picks : c.next-choice.result.0 ≡ pick_due c.args.fill c.loop-at.rest.now c.loop-at.machine.state = c.next-choice.ensures.choice ∙ taken_is c.args.fill c.loop-at.rest.now c.menu.result c.loop-at.machine.state menu in
-    stopped c.args.flash.now c.args.assumptions.now c.args.points.now c.args.bound c.args.fill c.depth_is_kept.ensures c.args.steps byte c.loop-at.choices.items c.loop-at.rest.now c.loop-at.machine c.step.new.self c.next-choice.result.0 c.push.new.self.items c.found-in_default.result
+    stopped c.args.task.now.flash.now c.args.task.now.assumptions.now c.args.points.now c.args.bound c.args.fill c.depth_is_kept.ensures c.args.steps byte c.loop-at.choices.items c.loop-at.rest.now c.loop-at.machine c.step.new.self c.next-choice.result.0 c.push.new.self.items c.found-in_default.result
     c.loop-at.invariant.0 room low picks (λ done. c.in_default.not-Done (c.step.ensures.answer ∙ done)) c.step.ensures.state c.in_ok-push.ensures.items c.found-in_default.ensures.some c.found-in_default.ensures.none
 
 pub returns-then-is_met : goal.returns-then-is_met
@@ -37,7 +37,7 @@ returns-then-is_met c =
     let menu : IsMenuOf c.menu.result c.loop-at.machine.state = record { pc = c.menu.ensures.pc; sp = c.menu.ensures.sp; masks = c.menu.ensures.masks; takes = c.menu.ensures.takes } in
     let picks : c.next-choice.result.0 ≡ pick_due c.args.fill c.loop-at.rest.now c.loop-at.machine.state = c.next-choice.ensures.choice ∙ taken_is c.args.fill c.loop-at.rest.now c.menu.result c.loop-at.machine.state menu in
     let leaves : c.next-choice.result.1.now ≡ due_left c.loop-at.rest.now c.loop-at.machine.state = c.next-choice.ensures.left ∙ left_is c.loop-at.rest.now c.menu.result c.loop-at.machine.state menu in
-    repeated c.args.flash.now c.args.assumptions.now c.args.points.now c.args.bound c.args.fill c.depth_is_kept.ensures c.args.steps byte c.loop-at.mark.machine c.loop-at.machine c.step.new.self c.loop-at.mark.left c.loop-at.rest.now c.next-choice.result.1.now c.next-choice.result.0
+    repeated c.args.task.now.flash.now c.args.task.now.assumptions.now c.args.points.now c.args.bound c.args.fill c.depth_is_kept.ensures c.args.steps byte c.loop-at.mark.machine c.loop-at.machine c.step.new.self c.loop-at.mark.left c.loop-at.rest.now c.next-choice.result.1.now c.next-choice.result.0
     c.loop-at.invariant.1 low picks leaves (sym c.step.ensures.answer ∙ c.in-Done.is) c.step.ensures.state (c.if-is_met.ensures.state refl) (c.if-is_met.ensures.left refl)
 
 pub loop-at-preserved : goal.loop-at-preserved
@@ -46,16 +46,16 @@ loop-at-preserved c =
     let menu : IsMenuOf c.menu.result c.loop-at.machine.state = record { pc = c.menu.ensures.pc; sp = c.menu.ensures.sp; masks = c.menu.ensures.masks; takes = c.menu.ensures.takes } in
     let picks : c.next-choice.result.0 ≡ pick_due c.args.fill c.loop-at.rest.now c.loop-at.machine.state = c.next-choice.ensures.choice ∙ taken_is c.args.fill c.loop-at.rest.now c.menu.result c.loop-at.machine.state menu in
     let leaves : c.next-choice.result.1.now ≡ due_left c.loop-at.rest.now c.loop-at.machine.state = c.next-choice.ensures.left ∙ left_is c.loop-at.rest.now c.menu.result c.loop-at.machine.state menu in
-    let done : result_of (step c.args.flash.now c.args.assumptions.now c.loop-at.machine.state c.next-choice.result.0) ≡ answer.Done = sym c.step.ensures.answer ∙ c.in-Done.is in
-    let goes = goes_on c.args.flash.now c.args.assumptions.now c.args.points.now c.args.bound c.args.fill c.args.points.now _ c.loop-at.choices.items c.loop-at.rest.now c.loop-at.machine c.step.new.self c.next-choice.result.0 c.next-choice.result.1.now c.push.new.self.items
+    let done : result_of (step c.args.task.now.flash.now c.args.task.now.assumptions.now c.loop-at.machine.state c.next-choice.result.0) ≡ answer.Done = sym c.step.ensures.answer ∙ c.in-Done.is in
+    let goes = goes_on c.args.task.now.flash.now c.args.task.now.assumptions.now c.args.points.now c.args.bound c.args.fill c.args.points.now _ c.loop-at.choices.items c.loop-at.rest.now c.loop-at.machine c.step.new.self c.next-choice.result.0 c.next-choice.result.1.now c.push.new.self.items
     c.loop-at.invariant.0 low picks leaves done c.step.ensures.state c.in_ok-push.ensures.items in (
       goes,
       elim c.if-is_old.branch [
         | then-is_old w ↦
-            rw w.mark-is (marked_here c.args.flash.now c.args.assumptions.now c.args.points.now c.args.bound c.args.fill c.push.new.self.items c.next-choice.result.1.now w.new-mark-then-is_old.result.machine c.step.new.self w.new-mark-then-is_old.result.left goes
+            rw w.mark-is (marked_here c.args.task.now.flash.now c.args.task.now.assumptions.now c.args.points.now c.args.bound c.args.fill c.push.new.self.items c.next-choice.result.1.now w.new-mark-then-is_old.result.machine c.step.new.self w.new-mark-then-is_old.result.left goes
             w.new-mark-then-is_old.ensures.machine w.new-mark-then-is_old.ensures.left)
         | else-is_old w ↦
-            rw w.mark-is (marked_on c.args.flash.now c.args.assumptions.now c.args.points.now c.args.bound c.args.fill c.loop-at.mark.machine c.loop-at.machine c.step.new.self c.loop-at.mark.left c.loop-at.rest.now c.next-choice.result.1.now c.next-choice.result.0
+            rw w.mark-is (marked_on c.args.task.now.flash.now c.args.task.now.assumptions.now c.args.points.now c.args.bound c.args.fill c.loop-at.mark.machine c.loop-at.machine c.step.new.self c.loop-at.mark.left c.loop-at.rest.now c.next-choice.result.1.now c.next-choice.result.0
             c.loop-at.invariant.1 low picks leaves done c.step.ensures.state)
       ],
       ap length c.in_ok-push.ensures.items ∙ longer c.loop-at.choices.items c.next-choice.result.0 ∙ ap (λ n. n + 1) c.loop-at.invariant.2,

@@ -8,33 +8,33 @@ use Rattle.witness_search.proofs.trial.try_fill.Goals as goal
 
 pub returns-in_default-clause-tried : goal.returns-in_default-clause-tried
 returns-in_default-clause-tried c =
-    fails c.args.flash.now c.args.assumptions.now c.args.points.now c.args.bound c.most_choices.result c.args.fill c.most_choices.ensures
-    (subst (IsAttempted c.most_choices.result c.args.flash.now c.args.assumptions.now c.args.points.now c.args.bound c.args.fill) c.in_default.is c.in_ok-choices.ensures)
+    fails c.args.task.now.flash.now c.args.task.now.assumptions.now c.args.points.now c.args.bound c.most_choices.result c.args.fill c.most_choices.ensures
+    (subst (IsAttempted c.most_choices.result c.args.task.now.flash.now c.args.task.now.assumptions.now c.args.points.now c.args.bound c.args.fill) c.in_default.is c.in_ok-choices.ensures)
 
 pub from_trace-requires-clause-few : goal.from_trace-requires-clause-few
 from_trace-requires-clause-few c =
-    let a : IsAttempt c.most_choices.result c.args.flash.now c.args.assumptions.now c.args.points.now c.args.bound c.args.fill c.in-Some.choices =
-    subst (IsAttempted c.most_choices.result c.args.flash.now c.args.assumptions.now c.args.points.now c.args.bound c.args.fill) c.in-Some.is c.in_ok-choices.ensures in
-    few_choices c.most_choices.result c.args.flash.now c.args.assumptions.now c.args.points.now c.args.bound c.args.fill c.as_slice.result.now c.most_choices.ensures
+    let a : IsAttempt c.most_choices.result c.args.task.now.flash.now c.args.task.now.assumptions.now c.args.points.now c.args.bound c.args.fill c.in-Some.choices =
+    subst (IsAttempted c.most_choices.result c.args.task.now.flash.now c.args.task.now.assumptions.now c.args.points.now c.args.bound c.args.fill) c.in-Some.is c.in_ok-choices.ensures in
+    few_choices c.most_choices.result c.args.task.now.flash.now c.args.task.now.assumptions.now c.args.points.now c.args.bound c.args.fill c.as_slice.result.now c.most_choices.ensures
     (c.as_slice.ensures ∙ a.are)
 
 pub from_trace-requires-clause-taken : goal.from_trace-requires-clause-taken
 from_trace-requires-clause-taken c =
-    let a : IsAttempt c.most_choices.result c.args.flash.now c.args.assumptions.now c.args.points.now c.args.bound c.args.fill c.in-Some.choices =
-    subst (IsAttempted c.most_choices.result c.args.flash.now c.args.assumptions.now c.args.points.now c.args.bound c.args.fill) c.in-Some.is c.in_ok-choices.ensures in
-    subst (All IsTaken) (sym c.as_slice.ensures) (run_taken c.args.flash.now c.args.assumptions.now c.in-Some.choices _ a.run)
+    let a : IsAttempt c.most_choices.result c.args.task.now.flash.now c.args.task.now.assumptions.now c.args.points.now c.args.bound c.args.fill c.in-Some.choices =
+    subst (IsAttempted c.most_choices.result c.args.task.now.flash.now c.args.task.now.assumptions.now c.args.points.now c.args.bound c.args.fill) c.in-Some.is c.in_ok-choices.ensures in
+    subst (All IsTaken) (sym c.as_slice.ensures) (run_taken c.args.task.now.flash.now c.args.task.now.assumptions.now c.in-Some.choices _ a.run)
 
 pub returns-clause-tried : goal.returns-clause-tried
 returns-clause-tried c =
-    let a : IsAttempt c.most_choices.result c.args.flash.now c.args.assumptions.now c.args.points.now c.args.bound c.args.fill c.in-Some.choices =
-    subst (IsAttempted c.most_choices.result c.args.flash.now c.args.assumptions.now c.args.points.now c.args.bound c.args.fill) c.in-Some.is c.in_ok-choices.ensures in
-    tried c.args.flash.now c.args.assumptions.now c.args.points.now c.args.bound c.most_choices.result c.args.fill c.in-Some.choices c.in_ok-schedule.schedule
-    c.most_choices.ensures a.are (succeeds c.args.flash.now c.args.assumptions.now c.args.points.now c.args.bound c.most_choices.result c.args.fill c.in-Some.choices c.most_choices.ensures a)
+    let a : IsAttempt c.most_choices.result c.args.task.now.flash.now c.args.task.now.assumptions.now c.args.points.now c.args.bound c.args.fill c.in-Some.choices =
+    subst (IsAttempted c.most_choices.result c.args.task.now.flash.now c.args.task.now.assumptions.now c.args.points.now c.args.bound c.args.fill) c.in-Some.is c.in_ok-choices.ensures in
+    tried c.args.task.now.flash.now c.args.task.now.assumptions.now c.args.points.now c.args.bound c.most_choices.result c.args.fill c.in-Some.choices c.in_ok-schedule.schedule
+    c.most_choices.ensures a.are (succeeds c.args.task.now.flash.now c.args.task.now.assumptions.now c.args.points.now c.args.bound c.most_choices.result c.args.fill c.in-Some.choices c.most_choices.ensures a)
     c.in_ok-schedule.ensures.fill (c.in_ok-schedule.ensures.choices ∙ c.as_slice.ensures) c.in_ok-schedule.ensures.fit
 
 pub returns-clause-attained : goal.returns-clause-attained
 returns-clause-attained c =
-    let a : IsAttempt c.most_choices.result c.args.flash.now c.args.assumptions.now c.args.points.now c.args.bound c.args.fill c.in-Some.choices =
-    subst (IsAttempted c.most_choices.result c.args.flash.now c.args.assumptions.now c.args.points.now c.args.bound c.args.fill) c.in-Some.is c.in_ok-choices.ensures in
-    attains c.depth_is_kept.ensures c.args.flash.now c.args.assumptions.now c.most_choices.result c.args.points.now c.args.bound c.args.fill c.in-Some.choices
+    let a : IsAttempt c.most_choices.result c.args.task.now.flash.now c.args.task.now.assumptions.now c.args.points.now c.args.bound c.args.fill c.in-Some.choices =
+    subst (IsAttempted c.most_choices.result c.args.task.now.flash.now c.args.task.now.assumptions.now c.args.points.now c.args.bound c.args.fill) c.in-Some.is c.in_ok-choices.ensures in
+    attains c.depth_is_kept.ensures c.args.task.now.flash.now c.args.task.now.assumptions.now c.most_choices.result c.args.points.now c.args.bound c.args.fill c.in-Some.choices
     c.in_ok-schedule.schedule a.are a.run a.depth c.in_ok-schedule.ensures.fill (c.in_ok-schedule.ensures.choices ∙ c.as_slice.ensures)
