@@ -1,49 +1,14 @@
 -- Lists that are built one after the other.
-use Rattle.std.proofs.Common.{◌≡◌, sym, ap, ◌∙◌, subst, ℕ, zero, suc, ◌+◌, ◌-◌, ◌<◌, ⊎_elim, List, [], ◌∷◌, ◌++◌, length, map, get_or, take, Some, slice_get, arith}
+use Rattle.std.proofs.Common.{◌≡◌, sym, ap, ◌∙◌, subst, ℕ, zero, suc, ◌+◌, ◌-◌, ◌<◌, ⊎_elim, List, [], ◌∷◌, ◌++◌, length, map, get_or, take, arith}
 use Rattle.std.proofs.lemmas.List.{take_more, length_push}
-use Rattle.basics.specs.Lists.{get_or_front, get_or_pushed, one_at}
+use Rattle.basics.specs.Lists.{get_or_front, get_or_pushed}
 use Rattle.basics.specs.Numbers.{before_or_last}
 use Rattle.avr_model.specs.declared.assumption.Entry.{Entry}
 use Rattle.local_rules.specs.declared.local.Node.{Node}
-use Rattle.edge_rules.specs.declared.edge.Edge.{Edge}
-use Rattle.edge_rules.specs.Edges.{AreEdges}
 use Rattle.nesting_bound.specs.declared.graph.Link.{Link}
 use Rattle.chain_explain.specs.declared.explanation.Part.{Part}
 use Rattle.chain_explain.specs.Explanation.{IsPart, AreParts}
-use Rattle.chain_explain.specs.Moves.{all_of, moves_of, AreStepsOf, AreSteps, IsPortion, AreThere}
-
--- ---- where edges lead
-
-module _ (words : List ℕ) (A : List Entry) (nodes : List Node) where
-  pub steps_more : (at : ℕ) (all moves : List (List ℕ)) (n : Node) (edges : List Edge) (to inside : List ℕ) → AreSteps words A nodes at all moves → slice_get nodes at ≡ Some n
-      → AreEdges words A nodes n edges → to ≡ all_of nodes edges → inside ≡ moves_of nodes n.key.inst edges → AreSteps words A nodes (at + 1) (all ++ to ∷ []) (moves ++ inside ∷ [])
-  steps_more at all moves n edges to inside s is are to_is inside_is =
-      record {
-        all_count = length_push all to ∙ ap (λ x. x + 1) s.all_count;
-        moves_count = length_push moves inside ∙ ap (λ x. x + 1) s.moves_count;
-        each = λ i m lt e. ⊎_elim (old i m e) (new i m e) (before_or_last i at lt);
-      }
-    where
-      old : (i : ℕ) (m : Node) → slice_get nodes i ≡ Some m → i < at → AreStepsOf words A nodes m (get_or (all ++ to ∷ []) i []) (get_or (moves ++ inside ∷ []) i [])
-      old i m e lt =
-          subst (λ (xs : List ℕ). AreStepsOf words A nodes m xs (get_or (moves ++ inside ∷ []) i [])) (sym (get_or_front all (to ∷ []) i [] (subst (λ k. i < k) (sym s.all_count) lt)))
-          (subst (λ (xs : List ℕ). AreStepsOf words A nodes m (get_or all i []) xs) (sym (get_or_front moves (inside ∷ []) i [] (subst (λ k. i < k) (sym s.moves_count) lt)))
-          (s.each i m lt e))
-
-      here_at : AreStepsOf words A nodes n (get_or (all ++ to ∷ []) at []) (get_or (moves ++ inside ∷ []) at [])
-      here_at =
-          record {
-            edges = edges;
-            are = are;
-            all_are = ap (λ k. get_or (all ++ to ∷ []) k []) (sym s.all_count) ∙ get_or_pushed all to [] ∙ to_is;
-            moves_are = ap (λ k. get_or (moves ++ inside ∷ []) k []) (sym s.moves_count) ∙ get_or_pushed moves inside [] ∙ inside_is;
-          }
-
-      new : (i : ℕ) (m : Node) → slice_get nodes i ≡ Some m → i ≡ at → AreStepsOf words A nodes m (get_or (all ++ to ∷ []) i []) (get_or (moves ++ inside ∷ []) i [])
-      new i m e same =
-          let one : n ≡ m = one_at nodes at n m is (subst (λ k. slice_get nodes k ≡ Some m) same e) in
-          subst (λ k. AreStepsOf words A nodes m (get_or (all ++ to ∷ []) k []) (get_or (moves ++ inside ∷ []) k [])) (sym same)
-          (subst (λ (x : Node). AreStepsOf words A nodes x (get_or (all ++ to ∷ []) at []) (get_or (moves ++ inside ∷ []) at [])) one here_at)
+use Rattle.chain_explain.specs.Moves.{IsPortion, AreThere}
 
 -- ---- portions
 

@@ -1,12 +1,15 @@
 -- The reached nodes of a family that meets the conditions meet them too.
-use Rattle.std.proofs.Common.{ℕ, List, Contains}
+use Rattle.std.proofs.Common.{refl, ℕ, List, Contains}
 use Rattle.avr_model.specs.declared.assumption.Entry.{Entry}
+use Rattle.abs_state.specs.Frames.{entered}
+use Rattle.mask_states.specs.Keys.{entry_key}
 use Rattle.local_rules.specs.declared.local.Node.{Node}
 use Rattle.edge_rules.specs.declared.edge.Edge.{Edge}
 use Rattle.edge_rules.specs.Edges.{IsEdge, moving, entering, returning, target}
 use Rattle.edge_rules.specs.Families.{IsCovered}
 use Rattle.certificate.specs.Claims.{Claim}
-use Rattle.certificate.specs.Valid.{reset_node, MeetsConditions}
+use Rattle.certificate.specs.Valid.{reset_node, AllLand, MeetsConditions}
+use Rattle.family_graph.specs.Graphs.{IsPeopled}
 use Rattle.chain_explain.specs.Reached.{IsReached, AreReached, at_reset, by_edge}
 
 module _ (words : List ℕ) (A : List Entry) (nodes reached : List Node) (are : AreReached words A nodes reached) where
@@ -45,3 +48,9 @@ module _ (words : List ℕ) (A : List Entry) (nodes reached : List Node) (are : 
         bounded = meets.bounded;
         assumptions = meets.assumptions;
       }
+
+-- where edges land, each instance that is entered has its first node
+pub peopled : (words : List ℕ) (A : List Entry) (nodes : List Node) → AllLand words A nodes → IsPeopled words A nodes
+peopled words A nodes lands n way into back has enters =
+    let l = lands n (record { kind = way; to = entry_key into; state = entered n.state }) has (entering way into back enters) in
+    (record { key = entry_key into; state = l.state }, (l.present, refl))

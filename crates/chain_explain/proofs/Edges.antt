@@ -1,8 +1,8 @@
--- What the lists of steps say of edges.
-use Rattle.std.proofs.Common.{◌≡◌, refl, sym, ap, ◌∙◌, subst, ℕ, ◌<◌, ◌≤◌, Bool, true, false, List, [], ◌∷◌, length, Option, Some, None, slice_get, Contains, arith}
-use Rattle.std.specs.Prelude.{◌&&◌, if◌then◌else◌}
+-- What the landings of a family say of its edges.
+use Rattle.std.proofs.Common.{◌≡◌, refl, sym, ap, ◌∙◌, subst, ℕ, zero, suc, ◌<◌, ◌≤◌, Bool, true, false, List, [], ◌∷◌, length, map, get_or, Some, slice_get, Contains, arith}
+use Rattle.std.specs.Prelude.{if◌then◌else◌}
+use Rattle.std.proofs.lemmas.List.{length-map}
 use Rattle.std.proofs.lemmas.Option.{slice_get_within}
-use Rattle.std.proofs.lemmas.Bool.{and_parts}
 use Rattle.basics.specs.Items.{place_of_contained, contained_at, only_one_in, contained_in_join, each_of_join, inside_if_contained, none_in, first_in}
 use Rattle.basics.specs.Lists.{one_at, get_inside}
 use Rattle.edge_rules.specs.Places.{found_at}
@@ -10,38 +10,54 @@ use Rattle.avr_model.specs.declared.assumption.Entry.{Entry}
 use Rattle.mask_states.specs.declared.keys.InstKey.{InstKey}
 use Rattle.mask_states.specs.declared.keys.NodeKey.{NodeKey}
 use Rattle.mask_states.specs.declared.keys.EdgeKind.{EdgeKind}
+use Rattle.mask_states.specs.declared.keys.EdgeKind.TheVariants as kind
 use Rattle.mask_states.specs.Keys.{root_inst, entry_key}
-use Rattle.mask_states.specs.Order.{same_inst}
-use Rattle.mask_states.proofs.AllLaws.{keys_are_ordered}
 use Rattle.local_rules.specs.declared.local.Node.{Node}
-use Rattle.local_laws.proofs.AllLaws.{joins_are_least, local_parts_are_nodes}
+use Rattle.local_laws.proofs.AllLaws.{joins_are_least, local_parts_are_nodes, in_map, each_in_map}
 use Rattle.edge_rules.specs.declared.edge.Edge.{Edge}
-use Rattle.edge_rules.specs.Edges.{raw_of, Enters, by_call, by_interrupt, IsEdge, moving, entering, returning}
+use Rattle.edge_rules.specs.Edges.{is_entry, raw_of, Enters, by_call, by_interrupt, IsEdge, moving, entering, returning}
 use Rattle.edge_rules.specs.Families.{IsCovered}
-use Rattle.edge_rules.specs.Views.{AreShown, place_of}
+use Rattle.edge_rules.specs.Views.{AreShown}
+use Rattle.call_graph.specs.declared.landing.Landing.{Landing}
+use Rattle.call_graph.specs.Landings.{AreLandings}
 use Rattle.certificate.specs.Valid.{reset_node, AllLand}
 use Rattle.shortest_walk.specs.Graph as walk
 use Rattle.shortest_walk.specs.Graph.{Leads, IsGraph}
 use Rattle.chain_explain.specs.Reached.{IsReached, at_reset, by_edge}
 use Rattle.chain_explain.specs.Walks.{is_move, MovesTo}
-use Rattle.chain_explain.specs.Moves.{listed, to_of, is_inside, move_of, AreSteps, AreMoves}
+use Rattle.chain_explain.specs.Moves.{at_of, move_of, moves_of, leads_by, moves_by, AreMoves}
 use Rattle.chain_explain.proofs.Numbers.{same_number, is_found}
 
--- ---- one edge
+-- ---- landings
 
-listed_is : (o : Option ℕ) (j : ℕ) → Contains (listed o) j → o ≡ Some j
-listed_is None j h = absurd (none_in j h)
-listed_is (Some i) j h = ap (λ (x : ℕ). Some x) (sym (only_one_in i j h))
+-- what is read of each list of a list of lists
+pub read_each : {X : Type 0} (f : List X → List ℕ) (xss : List (List X)) (i : ℕ) → f [] ≡ [] → get_or (map f xss) i [] ≡ f (get_or xss i [])
+read_each f [] i none = sym none
+read_each f (xs ∷ xss) zero none = refl
+read_each f (xs ∷ xss) (suc i) none = read_each f xss i none
 
-is_listed : (o : Option ℕ) (j : ℕ) → o ≡ Some j → Contains (listed o) j
-is_listed o j e = subst (λ (p : Option ℕ). Contains (listed p) j) (sym e) (first_in j [])
+moves_if : (kind : EdgeKind) → is_entry kind ≡ false → is_move kind ≡ true
+moves_if kind.Local e = refl
+moves_if kind.Call e = absurd cc
+moves_if (kind.Interrupt v clears) e = absurd cc
+moves_if kind.Return e = refl
 
-chosen : (b : Bool) (xs : List ℕ) (j : ℕ) → Contains (if b then xs else []) j → (b ≡ true) × Contains xs j
-chosen true xs j h = (refl, h)
-chosen false xs j h = absurd (none_in j h)
+no_entry : (kind : EdgeKind) → is_move kind ≡ true → is_entry kind ≡ false
+no_entry kind.Local e = refl
+no_entry kind.Call e = absurd cc
+no_entry (kind.Interrupt v clears) e = absurd cc
+no_entry kind.Return e = refl
 
-chosen_in : (b : Bool) (xs : List ℕ) (j : ℕ) → b ≡ true → Contains xs j → Contains (if b then xs else []) j
-chosen_in b xs j e h = subst (λ (c : Bool). Contains (if c then xs else []) j) (sym e) h
+chosen : (b : Bool) (i j : ℕ) → Contains (if b then [] else i ∷ []) j → (b ≡ false) × (j ≡ i)
+chosen true i j h = absurd (none_in j h)
+chosen false i j h = (refl, only_one_in i j h)
+
+chosen_in : (b : Bool) (i : ℕ) → b ≡ false → Contains (if b then [] else i ∷ []) i
+chosen_in b i e = subst (λ (c : Bool). Contains (if c then [] else i ∷ []) i) (sym e) (first_in i [])
+
+-- the number of a landing that stays in its instance is a move
+pub move_in : (landings : List Landing) (l : Landing) → Contains landings l → is_entry l.kind ≡ false → Contains (moves_of landings) l.at
+move_in landings l has e = contained_in_join move_of landings l l.at has (chosen_in (is_entry l.kind) l.at e)
 
 -- an edge leads from the node of the first number to that of the second
 pub record LeadsTo (words : List ℕ) (A : List Entry) (nodes : List Node) (i j : ℕ) : Type 0 where
@@ -67,80 +83,79 @@ module _ (words : List ℕ) (A : List Entry) (nodes : List Node) (shown : AreSho
       never _ _ _ (by_interrupt offset v clears clean closed i d enabled allowed may) m = cc
   stays n _ has (returning way inst back leaver x state enters present at clean exit is) moves = refl
 
-  module _ (all moves : List (List ℕ)) (steps : AreSteps words A nodes (length nodes) all moves) where
-    pub leads_on : (i j : ℕ) → Leads all i j → LeadsTo words A nodes i j
+  module _ (all : List (List Landing)) (are : AreLandings words A nodes all) where
+    pub count_is : {X : Type 0} (f : List Landing → X) → length (map f all) ≡ length nodes
+    count_is f = length-map all f ∙ are.are.count_is
+
+    pub leads_on : (i j : ℕ) → Leads (leads_by all) i j → LeadsTo words A nodes i j
     leads_on i j h =
-        let lt : i < length nodes = let w = inside_if_contained all i j h in let c = steps.all_count in omega (arith, w, c) in
+        let lt : i < length nodes = let w = inside_if_contained (leads_by all) i j h in let c = count_is (map at_of) in omega (arith, w, c) in
         let n = get_inside nodes i lt in
-        let of = steps.each i n.0 lt n.1 in
-        each_of_join (to_of nodes) (LeadsTo words A nodes i) of.edges
-        (λ e k has to.
-        let found = found_at e.to nodes k (listed_is (place_of e.to nodes) k to) in
-        record { from = n.0; at = n.1; edge = e; is_edge = (of.are e).0 has; to = found.node; lands = found.is; key = found.same })
-        j (subst (λ (xs : List ℕ). Contains xs j) of.all_are h)
+        each_in_map at_of (LeadsTo words A nodes i) (get_or all i [])
+        (λ l has.
+        let x = (are.are.each i n.0 lt n.1 l).0 has in
+        let found = found_at x.edge.to nodes l.at x.at in
+        record { from = n.0; at = n.1; edge = x.edge; is_edge = x.is; to = found.node; lands = found.is; key = found.same })
+        j (subst (λ (xs : List ℕ). Contains xs j) (read_each (map at_of) all i refl) h)
 
-    pub on_leads : (i j : ℕ) → LeadsTo words A nodes i j → Leads all i j
+    -- the landing of an edge that leads on
+    landing_in : (i j : ℕ) (l : LeadsTo words A nodes i j) → Contains (get_or all i []) (record { kind = l.edge.kind; at = j })
+    landing_in i j l =
+        (are.are.each i l.from (slice_get_within nodes i l.from l.at) l.at (record { kind = l.edge.kind; at = j })).1
+        (record { edge = l.edge; is = l.is_edge; kind = refl; at = is_found nodes shown.ascending l.edge.to j l.to l.lands l.key })
+
+    pub on_leads : (i j : ℕ) → LeadsTo words A nodes i j → Leads (leads_by all) i j
     on_leads i j l =
-        let of = steps.each i l.from (slice_get_within nodes i l.from l.at) l.at in
-        subst (λ (xs : List ℕ). Contains xs j) (sym of.all_are)
-        (contained_in_join (to_of nodes) of.edges l.edge j ((of.are l.edge).1 l.is_edge)
-        (is_listed (place_of l.edge.to nodes) j (is_found nodes shown.ascending l.edge.to j l.to l.lands l.key)))
+        subst (λ (xs : List ℕ). Contains xs j) (sym (read_each (map at_of) all i refl))
+        (in_map at_of (get_or all i []) (record { kind = l.edge.kind; at = j }) (landing_in i j l))
 
-    moves_on : (i j : ℕ) → Leads moves i j → MovesTo words A nodes i j
+    moves_on : (i j : ℕ) → Leads (moves_by all) i j → MovesTo words A nodes i j
     moves_on i j h =
-        let lt : i < length nodes = let w = inside_if_contained moves i j h in let c = steps.moves_count in omega (arith, w, c) in
+        let lt : i < length nodes = let w = inside_if_contained (moves_by all) i j h in let c = count_is moves_of in omega (arith, w, c) in
         let n = get_inside nodes i lt in
-        let of = steps.each i n.0 lt n.1 in
-        each_of_join (move_of nodes n.0.key.inst) (MovesTo words A nodes i) of.edges
-        (λ e k has to.
-        let c = chosen (is_inside n.0.key.inst e) (to_of nodes e) k to in
-        let two = and_parts (is_move e.kind) (same_inst e.to.inst n.0.key.inst) c.0 in
-        let found = found_at e.to nodes k (listed_is (place_of e.to nodes) k c.1) in
+        each_of_join move_of (MovesTo words A nodes i) (get_or all i [])
+        (λ l k has to.
+        let c = chosen (is_entry l.kind) l.at k to in
+        let x = (are.are.each i n.0 lt n.1 l).0 has in
+        let found = found_at x.edge.to nodes k (x.at ∙ ap (λ (y : ℕ). Some y) (sym c.1)) in
+        let moves : is_move x.edge.kind ≡ true = subst (λ (way : EdgeKind). is_move way ≡ true) x.kind (moves_if l.kind c.0) in
         record {
           from = n.0;
           at = n.1;
-          edge = e;
-          is_edge = (of.are e).0 has;
-          moves = two.0;
+          edge = x.edge;
+          is_edge = x.is;
+          moves = moves;
           to = found.node;
           lands = found.is;
           key = found.same;
-          stays = ap (λ (k : NodeKey). k.inst) found.same ∙ (keys_are_ordered.same_insts e.to.inst n.0.key.inst).0 two.1;
+          stays = ap (λ (y : NodeKey). y.inst) found.same ∙ stays n.0 x.edge (contained_at nodes i n.0 n.1) x.is moves;
         })
-        j (subst (λ (xs : List ℕ). Contains xs j) of.moves_are h)
+        j (subst (λ (xs : List ℕ). Contains xs j) (read_each moves_of all i refl) h)
 
-    on_moves : (i j : ℕ) → MovesTo words A nodes i j → Leads moves i j
-    on_moves i j l =
-        let of = steps.each i l.from (slice_get_within nodes i l.from l.at) l.at in
-        let inside : is_inside l.from.key.inst l.edge ≡ true =
-        join (is_move l.edge.kind) (same_inst l.edge.to.inst l.from.key.inst) l.moves
-        ((keys_are_ordered.same_insts l.edge.to.inst l.from.key.inst).1 (ap (λ (k : NodeKey). k.inst) (sym l.key) ∙ l.stays)) in
-        subst (λ (xs : List ℕ). Contains xs j) (sym of.moves_are)
-        (contained_in_join (move_of nodes l.from.key.inst) of.edges l.edge j ((of.are l.edge).1 l.is_edge)
-        (chosen_in (is_inside l.from.key.inst l.edge) (to_of nodes l.edge) j inside
-        (is_listed (place_of l.edge.to nodes) j (is_found nodes shown.ascending l.edge.to j l.to l.lands l.key))))
-      where
-        join : (a b : Bool) → a ≡ true → b ≡ true → (a && b) ≡ true
-        join a b e f = subst (λ (x : Bool). (x && b) ≡ true) (sym e) f
+    on_moves : (i j : ℕ) → MovesTo words A nodes i j → Leads (moves_by all) i j
+    on_moves i j m =
+        let l : LeadsTo words A nodes i j = record { from = m.from; at = m.at; edge = m.edge; is_edge = m.is_edge; to = m.to; lands = m.lands; key = m.key } in
+        subst (λ (xs : List ℕ). Contains xs j) (sym (read_each moves_of all i refl))
+        (move_in (get_or all i []) (record { kind = m.edge.kind; at = j }) (landing_in i j l) (no_entry m.edge.kind m.moves))
 
-    pub are_moves : length nodes ≤ 65536 → AllLand words A nodes → IsCovered nodes (reset_node A) → AreMoves words A nodes moves
+    pub are_moves : length nodes ≤ 65536 → AllLand words A nodes → IsCovered nodes (reset_node A) → AreMoves words A nodes (moves_by all)
     are_moves few lands reset =
         record {
           few = few;
-          count = steps.moves_count;
+          count = count_is moves_of;
           exact = λ i j. (moves_on i j, on_moves i j);
           lands = lands;
           reset = reset;
         }
 
-    pub is_graph : length nodes ≤ 65536 → IsGraph all
+    pub is_graph : length nodes ≤ 65536 → IsGraph (leads_by all)
     is_graph few =
         record {
-          few = let c = steps.all_count in omega (arith, c, few);
+          few = let c = count_is (map at_of) in omega (arith, c, few);
           within = λ i j h.
               let l = leads_on i j h in
               let w = slice_get_within nodes j l.to l.lands in
-              let c = steps.all_count in
+              let c = count_is (map at_of) in
               omega (arith, w, c);
         }
 
@@ -151,7 +166,7 @@ module _ (words : List ℕ) (A : List Entry) (nodes : List Node) (shown : AreSho
     IsReachedAt i = (n : Node) × ((slice_get nodes i ≡ Some n) × IsReached words A nodes n.key)
 
     module _ (root : ℕ) (reset : Node) (at : slice_get nodes root ≡ Some reset) (is : reset.key ≡ entry_key root_inst) where
-      pub reached_down : (i : ℕ) → walk.IsReached all (root ∷ []) i → IsReachedAt i
+      pub reached_down : (i : ℕ) → walk.IsReached (leads_by all) (root ∷ []) i → IsReachedAt i
       reached_down i (walk.at_start _ h) =
           (reset, (subst (λ (x : ℕ). slice_get nodes x ≡ Some reset) (sym (only_one_in root i h)) at, subst (IsReached words A nodes) (sym is) at_reset))
       reached_down j (walk.by_edge i _ r leads) =
@@ -161,7 +176,7 @@ module _ (words : List ℕ) (A : List Entry) (nodes : List Node) (shown : AreSho
           let from : IsReached words A nodes l.from.key = subst (λ (n : Node). IsReached words A nodes n.key) same before.1.1 in
           (l.to, (l.lands, subst (IsReached words A nodes) (sym l.key) (by_edge l.from l.edge (contained_at nodes i l.from l.at) from l.is_edge)))
 
-      pub reached_up : (k : NodeKey) → IsReached words A nodes k → (i : ℕ) (n : Node) → slice_get nodes i ≡ Some n → n.key ≡ k → walk.IsReached all (root ∷ []) i
+      pub reached_up : (k : NodeKey) → IsReached words A nodes k → (i : ℕ) (n : Node) → slice_get nodes i ≡ Some n → n.key ≡ k → walk.IsReached (leads_by all) (root ∷ []) i
       reached_up _ at_reset i n e same =
           walk.at_start i (subst (Contains (root ∷ [])) (same_number nodes shown.ascending root i reset n at e (is ∙ sym same)) (first_in root []))
       reached_up _ (by_edge m edge has r is_edge) i n e same =

@@ -1,11 +1,11 @@
 -- The marked nodes are those that are reached.
-use Rattle.std.proofs.Common.{◌≡◌, refl, sym, ap, ◌∙◌, subst, ℕ, zero, suc, ◌+◌, ◌≤◌, ◌⊎◌, ⊎_elim, Bool, true, false, List, [], ◌∷◌, ◌++◌, length, map, get_or, drop, Some, slice_get, Contains, arith}
+use Rattle.std.proofs.Common.{◌≡◌, refl, sym, ap, ◌∙◌, subst, ℕ, zero, suc, ◌+◌, ◌≤◌, ⊎_elim, Bool, true, false, List, [], ◌∷◌, ◌++◌, length, map, get_or, drop, Some, slice_get, Contains, append-nil, arith}
 use Rattle.std.specs.Prelude.{if◌then◌else◌}
 use Rattle.std.specs.List.{AllByRecursion}
 use Rattle.std.specs.List.Sorted.{IsStrictlySortedBy}
 use Rattle.std.specs.declared.cmp.Ordering.TheVariants.{Less}
 use Rattle.std.proofs.lemmas.List.{append_assoc}
-use Rattle.std.proofs.lemmas.Option.{none-some, same_Some}
+use Rattle.std.proofs.lemmas.Option.{none-some, same_Some, slice_get_within}
 use Rattle.basics.specs.Items.{place_of_contained, contained_at, none_in, first_in, further_in, first_or_further}
 use Rattle.basics.specs.Lists.{one_at}
 use Rattle.avr_model.specs.declared.assumption.Entry.{Entry}
@@ -14,10 +14,13 @@ use Rattle.mask_states.specs.Keys.{root_inst, entry_key}
 use Rattle.mask_states.specs.Order.{node_cmp}
 use Rattle.local_rules.specs.declared.local.Node.{Node}
 use Rattle.edge_rules.specs.Views.{AreShown, key_of}
-use Rattle.shortest_walk.specs.Graph as walk
+use Rattle.call_graph.specs.declared.landing.Landing.{Landing}
+use Rattle.call_graph.specs.Landings.{AreLandings}
+use Rattle.family_graph.specs.declared.entering.Entering.{Entering}
+use Rattle.family_graph.specs.Graphs.{AreWaysOf, AreWays}
 use Rattle.shortest_walk.specs.Graph.{AreMarks}
 use Rattle.chain_explain.specs.Reached.{IsReached, AreReached}
-use Rattle.chain_explain.specs.Moves.{kept_by, AreSteps}
+use Rattle.chain_explain.specs.Moves.{kept_by, leads_by}
 use Rattle.chain_explain.proofs.Edges.{reached_down, reached_up}
 
 -- the node has a number that is marked
@@ -83,40 +86,89 @@ next_drop : {X : Type 0} (xs : List X) (i : ℕ) (x : X) → slice_get xs i ≡ 
 next_drop xs i x e = let next : suc i ≡ i + 1 = omega arith in drop_at xs i x e ∙ ap (λ k. x ∷ drop k xs) next
 
 -- the kept ones so far, with those of the rest
-pub kept_next : (marks : List Bool) (nodes kept more : List Node) (i : ℕ) (mark : Bool) (n : Node) → slice_get marks i ≡ Some mark → slice_get nodes i ≡ Some n
+pub kept_next : {X : Type 0} (marks : List Bool) (nodes kept more : List X) (i : ℕ) (mark : Bool) (n : X) → slice_get marks i ≡ Some mark → slice_get nodes i ≡ Some n
     → kept_by marks nodes ≡ kept ++ kept_by (drop i marks) (drop i nodes) → more ≡ kept ++ (if mark then n ∷ [] else [])
     → kept_by marks nodes ≡ more ++ kept_by (drop (i + 1) marks) (drop (i + 1) nodes)
-kept_next marks nodes kept more i mark n e f so_far added =
+kept_next {X = X} marks nodes kept more i mark n e f so_far added =
     so_far
-    ∙ (ap (λ (xs : List Node). kept ++ xs)
+    ∙ (ap (λ (xs : List X). kept ++ xs)
     (ap (λ (ms : List Bool). kept_by ms (drop i nodes)) (next_drop marks i mark e)
     ∙ (ap (kept_by (mark ∷ drop (i + 1) marks)) (next_drop nodes i n f) ∙ one mark (kept_by (drop (i + 1) marks) (drop (i + 1) nodes)) refl))
     ∙ (sym (append_assoc kept (if mark then n ∷ [] else []) (kept_by (drop (i + 1) marks) (drop (i + 1) nodes)))
-    ∙ ap (λ (xs : List Node). xs ++ kept_by (drop (i + 1) marks) (drop (i + 1) nodes)) (sym added)))
+    ∙ ap (λ (xs : List X). xs ++ kept_by (drop (i + 1) marks) (drop (i + 1) nodes)) (sym added)))
   where
-    one : (b : Bool) (rest : List Node) → kept_by (drop (i + 1) marks) (drop (i + 1) nodes) ≡ rest → (if b then n ∷ kept_by (drop (i + 1) marks) (drop (i + 1) nodes) else kept_by (drop (i + 1) marks) (drop (i + 1) nodes)) ≡ (if b then n ∷ [] else []) ++ rest
+    one : (b : Bool) (rest : List X) → kept_by (drop (i + 1) marks) (drop (i + 1) nodes) ≡ rest → (if b then n ∷ kept_by (drop (i + 1) marks) (drop (i + 1) nodes) else kept_by (drop (i + 1) marks) (drop (i + 1) nodes)) ≡ (if b then n ∷ [] else []) ++ rest
     one true rest h = ap (λ xs. n ∷ xs) h
     one false rest h = h
 
+-- at the end none is left
+kept_nil : {X : Type 0} (marks : List Bool) → kept_by {X = X} marks [] ≡ []
+kept_nil [] = refl
+kept_nil (mark ∷ marks) = refl
+
+kept_end : {X : Type 0} (marks : List Bool) (xs : List X) (i : ℕ) → length xs ≤ i → kept_by (drop i marks) (drop i xs) ≡ []
+kept_end marks [] zero le = kept_nil marks
+kept_end [] [] (suc i) le = refl
+kept_end (mark ∷ marks) [] (suc i) le = kept_nil (drop i marks)
+kept_end marks (x ∷ xs) zero le = absurd (omega (arith, le))
+kept_end [] (x ∷ xs) (suc i) le = refl
+kept_end (mark ∷ marks) (x ∷ xs) (suc i) le = kept_end marks xs i (omega (arith, le))
+
+pub kept_whole : {X : Type 0} (marks : List Bool) (xs kept : List X) (i : ℕ) → length xs ≤ i → kept_by marks xs ≡ kept ++ kept_by (drop i marks) (drop i xs) → kept ≡ kept_by marks xs
+kept_whole marks xs kept i le so_far = sym (so_far ∙ (ap (λ ys. kept ++ ys) (kept_end marks xs i le) ∙ append-nil kept))
+
 -- ---- what is kept
 
-module _ (words : List ℕ) (A : List Entry) (nodes : List Node) (shown : AreShown nodes) (all moves : List (List ℕ)) (steps : AreSteps words A nodes (length nodes) all moves)
-    (root : ℕ) (reset : Node) (at : slice_get nodes root ≡ Some reset) (is : reset.key ≡ entry_key root_inst) (marks : List Bool) (marked : AreMarks all (root ∷ []) marks) where
+module _ (words : List ℕ) (A : List Entry) (nodes : List Node) (shown : AreShown nodes) (all : List (List Landing)) (landed : AreLandings words A nodes all) (root : ℕ)
+    (reset : Node) (at : slice_get nodes root ≡ Some reset) (is : reset.key ≡ entry_key root_inst) (marks : List Bool) (marked : AreMarks (leads_by all) (root ∷ []) marks) where
   kept_reached : (n : Node) → Contains (kept_by marks nodes) n → Contains nodes n × IsReached words A nodes n.key
   kept_reached n h =
       let m = kept_marked marks nodes n h in
-      let r = reached_down words A nodes shown all moves steps root reset at is m.number ((marked.exact m.number).0 m.mark) in
+      let r = reached_down words A nodes shown all landed root reset at is m.number ((marked.exact m.number).0 m.mark) in
       (contained_at nodes m.number n m.at, subst (λ (x : Node). IsReached words A nodes x.key) (one_at nodes m.number r.0 n r.1.0 m.at) r.1.1)
 
   reached_kept : (n : Node) → Contains nodes n × IsReached words A nodes n.key → Contains (kept_by marks nodes) n
   reached_kept n h =
       let p = place_of_contained nodes n h.0 in
-      kept_at marks nodes p.0 n p.1 ((marked.exact p.0).1 (reached_up words A nodes shown all moves steps root reset at is n.key h.1 p.0 n p.1 refl))
+      kept_at marks nodes p.0 n p.1 ((marked.exact p.0).1 (reached_up words A nodes shown all landed root reset at is n.key h.1 p.0 n p.1 refl))
 
-  pub are_reached : (kept : List Node) → kept ≡ kept_by marks nodes → AreReached words A nodes kept
-  are_reached kept e =
-      subst (AreReached words A nodes) (sym e)
+  pub are_reached : AreReached words A nodes (kept_by marks nodes)
+  are_reached =
       record {
         ascending = kept_ascend marks nodes shown.ascending;
         exact = λ n. (kept_reached n, reached_kept n);
       }
+
+-- the same, by marks and nodes that are given
+pub reached_given : (words : List ℕ) (A : List Entry) (nodes : List Node) (marks given : List Bool) (kept : List Node) → AreReached words A nodes (kept_by marks nodes) → given ≡ marks
+    → kept ≡ kept_by given nodes → AreReached words A nodes kept
+reached_given words A nodes marks given kept are same e = subst (AreReached words A nodes) (sym (e ∙ ap (λ (ms : List Bool). kept_by ms nodes) same)) are
+
+-- ---- the ways of what is kept
+
+same_count : {X Y : Type 0} (marks : List Bool) (xs : List X) (ys : List Y) → length ys ≡ length xs → length (kept_by marks ys) ≡ length (kept_by marks xs)
+same_count [] xs ys e = refl
+same_count (mark ∷ marks) [] [] e = refl
+same_count (mark ∷ marks) [] (y ∷ ys) e = absurd (omega (arith, e))
+same_count (mark ∷ marks) (x ∷ xs) [] e = absurd (omega (arith, e))
+same_count (true ∷ marks) (x ∷ xs) (y ∷ ys) e = let rest = same_count marks xs ys (omega (arith, e)) in omega (arith, rest)
+same_count (false ∷ marks) (x ∷ xs) (y ∷ ys) e = same_count marks xs ys (omega (arith, e))
+
+-- what holds of each node and its list holds of each one that is kept
+kept_each : {Y : Type 0} (P : Node → List Y → Type 0) (marks : List Bool) (nodes : List Node) (yss : List (List Y)) → length yss ≡ length nodes
+    → ((at : ℕ) (n : Node) → slice_get nodes at ≡ Some n → P n (get_or yss at []))
+    → (at : ℕ) (n : Node) → slice_get (kept_by marks nodes) at ≡ Some n → P n (get_or (kept_by marks yss) at [])
+kept_each P [] nodes yss count h at n e = absurd (none-some n e)
+kept_each P (mark ∷ marks) [] yss count h at n e = absurd (none-some n e)
+kept_each P (mark ∷ marks) (x ∷ nodes) [] count h at n e = absurd (omega (arith, count))
+kept_each P (true ∷ marks) (x ∷ nodes) (ys ∷ yss) count h zero n e = h 0 n e
+kept_each P (true ∷ marks) (x ∷ nodes) (ys ∷ yss) count h (suc at) n e = kept_each P marks nodes yss (omega (arith, count)) (λ i m f. h (suc i) m f) at n e
+kept_each P (false ∷ marks) (x ∷ nodes) (ys ∷ yss) count h at n e = kept_each P marks nodes yss (omega (arith, count)) (λ i m f. h (suc i) m f) at n e
+
+pub ways_kept : (words : List ℕ) (A : List Entry) (marks : List Bool) (nodes : List Node) (ways : List (List Entering)) → AreWays words A nodes ways
+    → AreWays words A (kept_by marks nodes) (kept_by marks ways)
+ways_kept words A marks nodes ways are =
+    record {
+      count_is = same_count marks nodes ways are.count_is;
+      each = λ at n lt e. kept_each (AreWaysOf words A) marks nodes ways are.count_is (λ i m f. are.each i m (slice_get_within nodes i m f) f) at n e;
+    }

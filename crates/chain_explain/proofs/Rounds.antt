@@ -1,5 +1,5 @@
 -- Where the rounds end with a certificate, the least need of the root over the reached nodes is its bound.
-use Rattle.std.proofs.Common.{◌≡◌, refl, sym, ap, ◌∙◌, subst, ℕ, zero, suc, ◌≤◌, ◌⊎◌, ⊎_elim, Bool, true, false, cond, List, [], ◌∷◌, length, Some, slice_get, slice_index, Contains, arith}
+use Rattle.std.proofs.Common.{◌≡◌, refl, sym, ap, ◌∙◌, subst, ℕ, zero, suc, ◌≤◌, ⊎_elim, Bool, true, false, cond, List, [], ◌∷◌, length, Some, slice_get, slice_index, Contains, arith}
 use Rattle.std.specs.List.{AllByRecursion}
 use Rattle.std.specs.List.Sorted.{IsStrictlySortedBy}
 use Rattle.std.proofs.lemmas.List.{length-map}
@@ -25,7 +25,6 @@ use Rattle.edge_laws.specs.Expansions.{FilledOrMissing}
 use Rattle.nesting_bound.specs.declared.graph.Entered.{Entered}
 use Rattle.nesting_bound.specs.declared.graph.GraphInst.{GraphInst}
 use Rattle.nesting_bound.specs.declared.graph.Place.{Place}
-use Rattle.nesting_bound.specs.Graph as graph
 use Rattle.nesting_bound.specs.Least.{IsLeast}
 use Rattle.family_graph.specs.Graphs.{insts_of, IsGraphOf}
 use Rattle.certificate.specs.Claims.{Claim}

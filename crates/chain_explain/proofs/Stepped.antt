@@ -1,5 +1,5 @@
 -- Single steps of the code.
-use Rattle.std.proofs.Common.{◌≡◌, refl, sym, ap, ◌∙◌, ℕ, zero, suc, ◌+◌, ◌-◌, ◌<◌, List, [], ◌∷◌, ◌++◌, length, get_or, Option, Some, None, slice_get, arith}
+use Rattle.std.proofs.Common.{◌≡◌, refl, sym, ap, ◌∙◌, ℕ, zero, suc, ◌<◌, List, [], ◌∷◌, length, get_or, Option, Some, None, slice_get, arith}
 use Rattle.std.specs.Option.{option_map}
 use Rattle.std.proofs.lemmas.Option.{none-some, same_Some, slice_get-get_or}
 use Rattle.avr_model.specs.declared.assumption.Entry.{Entry}
@@ -8,17 +8,9 @@ use Rattle.mask_states.specs.declared.keys.NodeKey.{NodeKey}
 use Rattle.mask_states.specs.Keys.{root_inst, entry_key}
 use Rattle.local_rules.specs.declared.local.Node.{Node}
 use Rattle.local_laws.specs.Laws.{HasKey}
-use Rattle.edge_rules.specs.declared.edge.Edge.{Edge}
 use Rattle.edge_rules.specs.Families.{IsCovered}
-use Rattle.edge_rules.specs.Views.{key_of, state_of, place_of}
+use Rattle.edge_rules.specs.Views.{key_of, state_of}
 use Rattle.certificate.specs.Valid.{reset_node}
-use Rattle.chain_explain.specs.Moves.{listed, to_of}
-
--- ---- one edge
-
-module _ (nodes : List Node) (e : Edge) where
-  pub some_to : (xs ys : List ℕ) (to : ℕ) → place_of e.to nodes ≡ Some to → ys ≡ xs ++ to ∷ [] → ys ≡ xs ++ to_of nodes e
-  some_to xs ys to p is = is ∙ ap (λ (o : Option ℕ). xs ++ listed o) (sym p)
 
 -- ---- what is kept
 
@@ -49,7 +41,7 @@ node_is nodes at n is k s t key state same =
 pub read_at : {X : Type 0} (xs : List X) (i : ℕ) (x d : X) → i < length xs → get_or xs i d ≡ x → slice_get xs i ≡ Some x
 read_at xs i x d lt e = slice_get-get_or xs i d lt ∙ ap (λ y. Some y) e
 
-pub read_list : (graph : List (List ℕ)) (i : ℕ) (x : List ℕ) → i < length graph → x ≡ get_or graph i x → x ≡ get_or graph i []
+pub read_list : {X : Type 0} (xss : List (List X)) (i : ℕ) (x : List X) → i < length xss → x ≡ get_or xss i x → x ≡ get_or xss i []
 read_list [] i x lt is = absurd (omega (arith, lt))
-read_list (g ∷ graph) zero x lt is = is
-read_list (g ∷ graph) (suc i) x lt is = read_list graph i x (omega (arith, lt)) is
+read_list (xs ∷ xss) zero x lt is = is
+read_list (xs ∷ xss) (suc i) x lt is = read_list xss i x (omega (arith, lt)) is

@@ -4,7 +4,7 @@ ghost use Rattle.std.specs.Prelude.{◌≡◌, Some};
 ghost use Rattle.local_laws.specs.Laws.{HasKey};
 ghost use Rattle.edge_rules.specs.Views.{place_of};
 
-use call_graph::{Filled, View};
+use call_graph::Filled;
 use mask_states::NodeKey;
 
 /// The number of the node of this key, which is there.

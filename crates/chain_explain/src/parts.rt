@@ -5,17 +5,15 @@ ghost use Rattle.avr_model.specs.State.{SIZE};
 ghost use Rattle.mask_states.specs.Keys.{offset_of};
 ghost use Rattle.chain_explain.specs.Explanation.{adds_by, IsPart, AreParts};
 ghost use Rattle.chain_explain.specs.Reached.{AreReached};
-ghost use Rattle.chain_explain.specs.Moves.{AreMoves, AreThere};
+ghost use Rattle.chain_explain.specs.Moves.{AreMoves, AreThere, moves_by};
 
 use crate::explanation::Part;
 use crate::way::way;
 use avr_model::listed::Listed;
-use call_graph::{EdgeKind, Filled, View};
-use flash_image::Flash;
+use call_graph::{EdgeKind, Filled, Task, Worked};
 use mask_states::NodeKey;
 use nesting_bound::Link;
-use std::alloc::{AllocError, Global};
-use vector_table::Assumptions;
+use std::alloc::AllocError;
 
 // How many bytes a link at this node adds.
 fn adds(key: &NodeKey, kind: Option<EdgeKind>) -> u16
@@ -29,23 +27,15 @@ fn adds(key: &NodeKey, kind: Option<EdgeKind>) -> u16
 }
 
 // The part for a link of the chain.
-fn part(
-    alloc: Global,
-    flash: &Flash,
-    assumptions: &Assumptions,
-    nodes: &Filled,
-    moves: &[Listed<u32>],
-    reached: &Filled,
-    link: &Link,
-) -> Result<Part, AllocError>
-    requires moves { AreMoves flash.now assumptions.now nodes.now moves.now }
-    requires reached { AreReached flash.now assumptions.now nodes.now reached.now }
+fn part(task: &Task<'_>, family: &Worked, reached: &Filled, link: &Link) -> Result<Part, AllocError>
+    requires moves { AreMoves task.now.flash.now task.now.assumptions.now family.now.nodes (moves_by family.now.landings) }
+    requires reached { AreReached task.now.flash.now task.now.assumptions.now family.now.nodes reached.now }
     requires there { link.now.node < length reached.now }
-    ensures { IfOk result (IsPart flash.now assumptions.now nodes.now reached.now link.now) }
+    ensures { IfOk result (IsPart task.now.flash.now task.now.assumptions.now family.now.nodes reached.now link.now) }
 {
-    let _count = nodes.count();
+    let _count = family.nodes.count();
     let key = reached.key(link.node as usize);
-    let walk = way(alloc, flash, assumptions, nodes, moves, key)?;
+    let walk = way(task, family, key)?;
     Ok(Part {
         inst: key.inst,
         pc: key.pc,
@@ -56,22 +46,19 @@ fn part(
 
 /// The parts for the links of a chain over the reached nodes.
 pub(crate) fn parts(
-    alloc: Global,
-    flash: &Flash,
-    assumptions: &Assumptions,
-    nodes: &Filled,
-    moves: &[Listed<u32>],
+    task: &Task<'_>,
+    family: &Worked,
     reached: &Filled,
     links: &[Link],
 ) -> Result<Listed<Part>, AllocError>
-    requires moves { AreMoves flash.now assumptions.now nodes.now moves.now }
-    requires reached { AreReached flash.now assumptions.now nodes.now reached.now }
+    requires moves { AreMoves task.now.flash.now task.now.assumptions.now family.now.nodes (moves_by family.now.landings) }
+    requires reached { AreReached task.now.flash.now task.now.assumptions.now family.now.nodes reached.now }
     requires there { AreThere reached.now links.now }
-    ensures { IfOk result (AreParts flash.now assumptions.now nodes.now reached.now links.now) }
+    ensures { IfOk result (AreParts task.now.flash.now task.now.assumptions.now family.now.nodes reached.now links.now) }
 {
-    let mut parts = Listed::empty(alloc);
+    let mut parts = Listed::empty(task.alloc);
     for link in links {
-        let part = part(alloc, flash, assumptions, nodes, moves, reached, link)?;
+        let part = part(task, family, reached, link)?;
         parts.push(part)?;
     }
     Ok(parts)

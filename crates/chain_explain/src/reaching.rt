@@ -1,25 +1,41 @@
 //! The nodes of a family that edges reach from the node at reset.
 
-ghost use Rattle.std.specs.Prelude.{◌≡◌, ◌≤◌, Contains, length, IfOk};
+ghost use Rattle.std.specs.Prelude.{◌≡◌, ◌≤◌, length, IfOk};
 ghost use Rattle.edge_rules.specs.Families.{IsCovered};
-ghost use Rattle.certificate.specs.Valid.{reset_node, AllLand};
+ghost use Rattle.call_graph.specs.Landings.{AreLandings};
+ghost use Rattle.certificate.specs.Valid.{reset_node};
+ghost use Rattle.family_graph.specs.Graphs.{AreWays, IsPeopled};
 ghost use Rattle.chain_explain.specs.Reached.{AreReached};
-ghost use Rattle.chain_explain.specs.Moves.{AreSteps, kept_by};
+ghost use Rattle.chain_explain.specs.Moves.{kept_by};
 
 use crate::numbering::number_of;
+use crate::steps::leads;
 use avr_model::listed::Listed;
-use call_graph::{Filled, View};
-use flash_image::Flash;
+use call_graph::{Filled, Task, Worked};
+use family_graph::{Entering, entered_by};
 use local_rules::Node;
 use mask_states::{InstKey, NodeKey};
 use shortest_walk::reached;
 use std::alloc::{AllocError, Global};
-use vector_table::Assumptions;
 
-// The marked nodes, in their order.
-fn kept(alloc: Global, nodes: &Filled, marks: &[bool]) -> Result<Vec<Node>, AllocError>
+/// One mark for each node, by its number: whether edges reach it. The node at reset is there.
+pub(crate) fn marks_of(task: &Task<'_>, family: &Worked) -> Result<Vec<bool>, AllocError>
+    requires few { length family.now.nodes ≤ 65536 }
+    requires landings { AreLandings task.now.flash.now task.now.assumptions.now family.now.nodes family.now.landings }
+    requires reset { IsCovered family.now.nodes (reset_node task.now.assumptions.now) }
+    ensures count { IfOk result (λ marks. length marks.items ≡ length family.now.nodes) }
+    ensures reached { IfOk result (λ marks. AreReached task.now.flash.now task.now.assumptions.now family.now.nodes (kept_by marks.items family.now.nodes)) }
+{
+    let _count = family.nodes.count();
+    let root = number_of(&family.nodes, &NodeKey::entry(&InstKey::root()));
+    let graph = leads(task.alloc, family.landings.as_slice())?;
+    reached(task.alloc, &graph, &[root as u32])
+}
+
+/// The marked nodes, in their order.
+pub(crate) fn kept(alloc: Global, nodes: &Filled, marks: &[bool]) -> Result<Filled, AllocError>
     requires { length marks.now ≡ length nodes.now }
-    ensures { IfOk result (λ kept. kept.items ≡ kept_by marks.now nodes.now) }
+    ensures { IfOk result (λ kept. kept ≡ kept_by marks.now nodes.now) }
 {
     let mut kept = Vec::new(alloc);
     for at in 0..nodes.count() {
@@ -30,28 +46,27 @@ fn kept(alloc: Global, nodes: &Filled, marks: &[bool]) -> Result<Vec<Node>, Allo
             })?;
         }
     }
-    Ok(kept)
+    Ok(Filled::new(kept))
 }
 
-/// The nodes that edges reach, where edges lead so. The node at reset is there.
-pub(crate) fn reached_nodes(
-    alloc: Global,
-    flash: &Flash,
-    assumptions: &Assumptions,
-    nodes: &Filled,
-    all: &[Listed<u32>],
-    moves: &[Listed<u32>],
-) -> Result<Filled, AllocError>
-    requires few { length nodes.now ≤ 65536 }
-    requires steps { AreSteps flash.now assumptions.now nodes.now (length nodes.now) all.now moves.now }
-    requires lands { AllLand flash.now assumptions.now nodes.now }
-    requires reset { IsCovered nodes.now (reset_node assumptions.now) }
-    ensures reached { IfOk result (λ reached. AreReached flash.now assumptions.now nodes.now reached) }
-    ensures few { IfOk result (λ reached. length reached ≤ length nodes.now) }
+/// In which ways each of the marked nodes enters instances, where each instance that a node enters has its first node.
+pub(crate) fn kept_ways(
+    task: &Task<'_>,
+    family: &Worked,
+    marks: &[bool],
+) -> Result<Listed<Listed<Entering>>, AllocError>
+    requires count { length marks.now ≡ length family.now.nodes }
+    requires landings { AreLandings task.now.flash.now task.now.assumptions.now family.now.nodes family.now.landings }
+    requires peopled { IsPeopled task.now.flash.now task.now.assumptions.now family.now.nodes }
+    ensures { IfOk result (AreWays task.now.flash.now task.now.assumptions.now (kept_by marks.now family.now.nodes)) }
 {
-    let _count = nodes.count();
-    let root = number_of(nodes, &NodeKey::entry(&InstKey::root()));
-    let marks = reached(alloc, all, &[root as u32])?;
-    let kept = kept(alloc, nodes, &marks)?;
-    Ok(Filled::new(kept))
+    let all = entered_by(task, family)?;
+    let ways = all.as_slice();
+    let mut kept = Listed::empty(task.alloc);
+    for at in 0..ways.len() {
+        if marks[at] {
+            kept.push(Listed::new(ways[at].as_slice().to_vec(task.alloc)?))?;
+        }
+    }
+    Ok(kept)
 }

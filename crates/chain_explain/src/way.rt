@@ -5,44 +5,46 @@ ghost use Rattle.local_rules.specs.declared.local.Node.{Node};
 ghost use Rattle.local_laws.specs.Laws.{HasKey};
 ghost use Rattle.chain_explain.specs.Reached.{IsReached};
 ghost use Rattle.chain_explain.specs.Walks.{pc_at, IsWay};
-ghost use Rattle.chain_explain.specs.Moves.{AreMoves, IsPortion};
+ghost use Rattle.chain_explain.specs.Moves.{AreMoves, IsPortion, moves_of, moves_by};
 
 use crate::numbering::number_of;
 use avr_model::listed::Listed;
-use call_graph::{Filled, View};
-use flash_image::Flash;
+use call_graph::{Filled, Landing, Task, Worked};
+use edge_rules::edge::is_entry;
 use mask_states::NodeKey;
 use shortest_walk::shortest_walk;
 use std::alloc::{AllocError, Global};
-use vector_table::Assumptions;
 
-// These numbers, counted from this one on.
-fn counted_from(alloc: Global, low: usize, numbers: &[u32]) -> Result<Listed<u32>, AllocError>
-    requires { (j : ℕ) → Contains numbers.now j → low ≤ j }
-    ensures { IfOk result (λ found. found ≡ map (λ j. j - low) numbers.now) }
+// To which nodes of its instance a node moves whose edges land so, counted from this number on.
+fn counted_from(alloc: Global, low: usize, landings: &[Landing]) -> Result<Listed<u32>, AllocError>
+    requires { (j : ℕ) → Contains (moves_of landings.now) j → low ≤ j }
+    ensures { IfOk result (λ found. found ≡ map (λ j. j - low) (moves_of landings.now)) }
 {
     let mut found = Listed::empty(alloc);
-    for number in numbers {
-        found.push((*number as usize - low) as u32)?;
+    for landing in landings {
+        if !is_entry(landing.kind) {
+            found.push((landing.at as usize - low) as u32)?;
+        }
     }
     Ok(found)
 }
 
-// The graph of the nodes of these numbers, which lead to one another alone.
+// The graph of the moves of the nodes of these numbers, which lead to one another alone, counted from the first.
 fn portion(
     alloc: Global,
-    graph: &[Listed<u32>],
+    family: &Worked,
     low: usize,
     high: usize,
 ) -> Result<Vec<Listed<u32>>, AllocError>
     requires order { low ≤ high }
-    requires inside { high ≤ length graph.now }
-    requires above { (i j : ℕ) → low ≤ i → i < high → Contains (slice_index_or graph.now i []) j → low ≤ j }
-    ensures { IfOk result (λ portion. IsPortion graph.now low (high - low) portion.items) }
+    requires inside { high ≤ length family.now.landings }
+    requires above { (i j : ℕ) → low ≤ i → i < high → Contains (slice_index_or (moves_by family.now.landings) i []) j → low ≤ j }
+    ensures { IfOk result (λ portion. IsPortion (moves_by family.now.landings) low (high - low) portion.items) }
 {
+    let landings = family.landings.as_slice();
     let mut portion = Vec::new(alloc);
     for at in low..high {
-        let nexts = counted_from(alloc, low, graph[at].as_slice())?;
+        let nexts = counted_from(alloc, low, landings[at].as_slice())?;
         portion.push(nexts)?;
     }
     Ok(portion)
@@ -66,29 +68,27 @@ fn words(
     Ok(words)
 }
 
-/// The words of the first of the shortest ways to the node of this number, which is reached, within its instance. Time is linear in the
+/// The words of the first of the shortest ways to the node of this key, which is reached, within its instance. Time is linear in the
 /// nodes and edges of the instance.
 pub(crate) fn way(
-    alloc: Global,
-    flash: &Flash,
-    assumptions: &Assumptions,
-    nodes: &Filled,
-    moves: &[Listed<u32>],
+    task: &Task<'_>,
+    family: &Worked,
     key: &NodeKey,
 ) -> Result<Listed<u16>, AllocError>
-    requires moves { AreMoves flash.now assumptions.now nodes.now moves.now }
-    requires there { HasKey nodes.now key.now }
-    requires reached { IsReached flash.now assumptions.now nodes.now key.now }
-    ensures { IfOk result (λ walk. (target : ℕ) (n : Node) → slice_get nodes.now target ≡ Some n → n.key ≡ key.now → IsWay flash.now assumptions.now nodes.now key.now.inst target walk) }
+    requires moves { AreMoves task.now.flash.now task.now.assumptions.now family.now.nodes (moves_by family.now.landings) }
+    requires there { HasKey family.now.nodes key.now }
+    requires reached { IsReached task.now.flash.now task.now.assumptions.now family.now.nodes key.now }
+    ensures { IfOk result (λ walk. (target : ℕ) (n : Node) → slice_get family.now.nodes target ≡ Some n → n.key ≡ key.now → IsWay task.now.flash.now task.now.assumptions.now family.now.nodes key.now.inst target walk) }
 {
+    let nodes = &family.nodes;
     let _count = nodes.count();
     let (low, high) = nodes.span(&key.inst);
     let start = number_of(nodes, &NodeKey::entry(&key.inst));
     let target = number_of(nodes, key);
-    let graph = portion(alloc, moves, low, high)?;
+    let graph = portion(task.alloc, family, low, high)?;
     let first = (start - low) as u32;
-    match shortest_walk(alloc, &graph, &[first], (target - low) as u32)? {
-        Some(numbers) => words(alloc, nodes, low, &numbers),
+    match shortest_walk(task.alloc, &graph, &[first], (target - low) as u32)? {
+        Some(numbers) => words(task.alloc, nodes, low, &numbers),
         None => unreachable!(),
     }
 }

@@ -20,7 +20,7 @@ pub way-requires-clause-reached : goal.way-requires-clause-reached
 way-requires-clause-reached c =
     let w = key_there c.args.reached.now c.args.link.now.node c.key-key.result.now c.key-key.ensures in
     let of = (c.requires.reached.exact w.0).0 (contained_at c.args.reached.now c.args.link.now.node w.0 w.1.0) in
-    subst (IsReached c.args.flash.now c.args.assumptions.now c.args.nodes.now) w.1.1 of.1
+    subst (IsReached c.args.task.now.flash.now c.args.task.now.assumptions.now c.args.family.now.nodes) w.1.1 of.1
 
 pub adds-requires : goal.adds-requires
 adds-requires c =
@@ -32,7 +32,7 @@ pub returns : goal.returns
 returns c =
     let w = key_there c.args.reached.now c.args.link.now.node c.key-key.result.now c.key-key.ensures in
     let of = (c.requires.reached.exact w.0).0 (contained_at c.args.reached.now c.args.link.now.node w.0 w.1.0) in
-    let at = place_of_contained c.args.nodes.now w.0 of.0 in
+    let at = place_of_contained c.args.family.now.nodes w.0 of.0 in
     let inst : c.key-key.result.now.inst ≡ w.0.key.inst = ap (λ (k : NodeKey). k.inst) (sym w.1.1) in
     record {
       node = w.0;
@@ -42,5 +42,5 @@ returns c =
       adds = c.adds.ensures ∙ ap (λ (k : NodeKey). adds_by (offset_of k.sp) c.args.link.now.kind) (sym w.1.1);
       target = at.0;
       is = at.1;
-      way = subst (λ (i : InstKey). IsWay c.args.flash.now c.args.assumptions.now c.args.nodes.now i at.0 c.in_ok-walk.walk) inst (c.in_ok-walk.ensures at.0 w.0 at.1 w.1.1);
+      way = subst (λ (i : InstKey). IsWay c.args.task.now.flash.now c.args.task.now.assumptions.now c.args.family.now.nodes i at.0 c.in_ok-walk.walk) inst (c.in_ok-walk.ensures at.0 w.0 at.1 w.1.1);
     }

@@ -8,6 +8,6 @@ part-requires-clause-there c = read_there c.args.reached.now c.args.links.now c.
 
 pub loop-link-preserved : goal.loop-link-preserved
 loop-link-preserved c =
-    subst (AreParts c.args.flash.now c.args.assumptions.now c.args.nodes.now c.args.reached.now (take (c.loop-link.link-index + 1) c.args.links.now)) (sym c.in_ok-push.ensures.ok)
-    (parts_take c.args.flash.now c.args.assumptions.now c.args.nodes.now c.args.reached.now c.args.links.now c.loop-link.link-index _ c.loop-link.parts c.in_ok-part.part c.loop-link-test.true
+    subst (AreParts c.args.task.now.flash.now c.args.task.now.assumptions.now c.args.family.now.nodes c.args.reached.now (take (c.loop-link.link-index + 1) c.args.links.now)) (sym c.in_ok-push.ensures.ok)
+    (parts_take c.args.task.now.flash.now c.args.task.now.assumptions.now c.args.family.now.nodes c.args.reached.now c.args.links.now c.loop-link.link-index _ c.loop-link.parts c.in_ok-part.part c.loop-link-test.true
     c.loop-link.invariant c.in_ok-part.ensures)

@@ -3,4 +3,4 @@ use Rattle.chain_explain.specs.Explanation.{AreParts}
 use Rattle.chain_explain.proofs.parts.parts.Given as goal
 
 abbrev pub invariant-loop-link : goal.invariant-loop-link
-invariant-loop-link l = AreParts l.flash l.assumptions l.nodes l.reached (take l.link-index l.links) l.parts
+invariant-loop-link l = AreParts l.task.flash.now l.task.assumptions.now l.family.nodes l.reached (take l.link-index l.links) l.parts

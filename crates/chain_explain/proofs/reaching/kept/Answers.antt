@@ -1,7 +1,7 @@
-use Rattle.std.proofs.Common.{◌+◌, ◌<◌, ◌++◌, ◌∷◌, [], ◌∙◌, ap, sym, arith, length, true, false, append-nil, Vec, Global}
+use Rattle.std.proofs.Common.{◌<◌, ◌++◌, ◌∷◌, [], ◌∙◌, ap, sym, arith, length, true, false, append-nil, Vec, Global}
 use Rattle.basics.specs.Lists.{get_inside}
 use Rattle.local_rules.specs.declared.local.Node.{Node}
-use Rattle.chain_explain.proofs.Marks.{kept_next}
+use Rattle.chain_explain.proofs.Marks.{kept_next, kept_whole, kept_shown}
 use Rattle.chain_explain.proofs.Stepped.{node_is, read_at}
 use Rattle.chain_explain.proofs.reaching.kept.Goals as goal
 use Rattle.chain_explain.proofs.reaching.kept.Goals.{then-marks-at+in_ok-copy+in_ok-push, else-marks-at}
@@ -23,3 +23,8 @@ loop-at-preserved c =
           kept_next c.args.marks.now nodes c.loop-at.kept.items c.if-marks-at.kept.items at false n.0 (read_at c.args.marks.now at false _ lt_marks w.if-marks-at.false) n.1 c.loop-at.invariant
           (ap (λ (v : Vec Node Global). v.items) w.kept-is ∙ sym (append-nil c.loop-at.kept.items))
     ]
+
+pub new-requires : goal.new-requires
+new-requires c =
+    let whole = kept_whole c.args.marks.now c.args.nodes.now c.loop-at.kept.items c.loop-at.at (omega (arith, c.loop-at-test.false, c.count-at-end.ensures.count)) c.loop-at.invariant in
+    kept_shown c.args.marks.now c.args.nodes.now c.loop-at.kept.items whole c.count-at-end.ensures.shown
