@@ -1,11 +1,11 @@
 -- What is found by its key, and the least key of an edge that doesn't land.
-use Rattle.std.proofs.Common.{◌≡◌, refl, sym, ap, ◌∙◌, subst, ℕ, ◌<◌, ◌⊎◌, inl, inr, Bool, true, false, cond, List, length, Some, None, slice_get, Contains}
+use Rattle.std.proofs.Common.{◌≡◌, refl, sym, ap, ◌∙◌, subst, ℕ, ◌⊎◌, inl, inr, Bool, true, false, cond, List, length, Some, None, slice_get, Contains}
 use Rattle.std.specs.Prelude.{◌↔◌}
 use Rattle.std.specs.Option.{option_map}
 use Rattle.std.specs.Ordering.{is_le, ordering_reverse}
 use Rattle.std.specs.declared.cmp.Ordering.{Ordering}
 use Rattle.std.specs.declared.cmp.Ordering.TheVariants.{Less, Equal, Greater}
-use Rattle.std.proofs.lemmas.Option.{same_Some, slice_get_within}
+use Rattle.std.proofs.lemmas.Option.{same_Some}
 use Rattle.basics.specs.Items.{contained_at}
 use Rattle.edge_rules.specs.Places.{found_at, none_from, one_in}
 use Rattle.abs_state.specs.declared.state.AbsState.{AbsState}
@@ -43,9 +43,6 @@ module _ (nodes : List Node) (k : NodeKey) (s : AbsState) (at : ℕ) (t : AbsSta
 
   pub same_slots : {followed : Bool} → IsNodeIn followed k s → length s.slots ≡ length t.slots
   same_slots node = node.formed.count_slots ∙ sym (shown.all (record { key = k; state = t }) held).formed.count_slots
-
-pub inside_at : (nodes : List Node) (k : NodeKey) (at : ℕ) → place_of k nodes ≡ Some at → at < length nodes
-inside_at nodes k at found = let w = found_at k nodes at found in slice_get_within nodes at w.node w.is
 
 pub not_covered : (nodes : List Node) (k : NodeKey) (s : AbsState) → place_of k nodes ≡ None → IsCovered nodes (record { key = k; state = s }) → ⊥
 not_covered nodes k s none h = none_from k nodes 0 none (record { key = k; state = h.state }) h.present refl

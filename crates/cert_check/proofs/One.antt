@@ -1,5 +1,5 @@
 -- A certificate has one verdict.
-use Rattle.std.proofs.Common.{◌≡◌, refl, sym, ap, ◌∙◌, subst, ℕ, ◌<◌, ◌≤◌, ◌⊎◌, inl, inr, ⊎_elim, List, [], ◌∷◌, Some, Result, Err, slice_get, arith}
+use Rattle.std.proofs.Common.{◌≡◌, refl, sym, ap, ◌∙◌, subst, ℕ, ◌<◌, ◌≤◌, ◌⊎◌, inl, inr, ⊎_elim, List, [], ◌∷◌, length, Some, Result, Err, slice_get, arith}
 use Rattle.std.specs.Prelude.{◌↔◌}
 use Rattle.basics.specs.Numbers.{same_if_neither}
 use Rattle.basics.specs.Items.{contained_at}
@@ -21,18 +21,22 @@ use Rattle.local_rules.specs.Machine.{AreWords}
 use Rattle.edge_rules.specs.Edges.{IsFaultless, IsEdge, raw_of}
 use Rattle.edge_rules.specs.Expansion.{Seeds, IsFilled, IsMissing}
 use Rattle.edge_laws.proofs.ExpansionLaws.{filled_or_missing}
+use Rattle.call_graph.specs.declared.worked.Worked.{Worked}
+use Rattle.call_graph.specs.Landings.{AreLandings}
 use Rattle.frame_laws.proofs.AllLaws.{sound_families_bound_every_run}
 use Rattle.certificate.specs.declared.instance.Inst.{Inst}
 use Rattle.certificate.specs.Insts.{rank_in, need_in}
 use Rattle.certificate.specs.Claims.{Claim, IsClaim}
 use Rattle.certificate.specs.Valid.{AreRanked, Suffices, NeedsSuffice, MeetsConditions, IsSound, reset_node, family_of}
-use Rattle.certificate.proofs.AllLaws.{conditions_make_families_sound}
+use Rattle.certificate.proofs.AllLaws.{conditions_make_families_sound, claims_are_seeds}
 use Rattle.cert_check.specs.declared.verdict.Reason.{Reason}
 use Rattle.cert_check.specs.declared.verdict.Reason.TheVariants as reason
 use Rattle.cert_check.specs.declared.verdict.Verdict.{Verdict}
 use Rattle.cert_check.specs.declared.verdict.Verdict.TheVariants.{Accepted, Rejected}
+use Rattle.cert_check.specs.declared.verdict.Judgement.{Judgement}
+use Rattle.cert_check.specs.declared.verdict.Judgement.TheVariants as judgement
 use Rattle.cert_check.specs.Reading.{read_seeds, IsOpen}
-use Rattle.cert_check.specs.Verdict.{AllLanded, InstEnters, IsFirstFault, IsFirstGap, IsFirstRank, IsFirstNeed, HasReset, IsRejected, IsReason, IsVerdict}
+use Rattle.cert_check.specs.Verdict.{AllLanded, InstEnters, IsFirstFault, IsFirstGap, IsFirstRank, IsFirstNeed, HasReset, IsLeastReason, IsRejected, IsReason, IsVerdict, IsFamilyOf, IsJudgement}
 use Rattle.cert_check.specs.Laws.{VerdictsAreOne, SoundCertificatesBoundEveryRun}
 use Rattle.cert_check.specs.Demands.{AreInstances, Decides, need_at, rank_at, rank_of, need_of}
 use Rattle.cert_check.proofs.ReadAs.{own_is_read, own_is_open}
@@ -265,17 +269,27 @@ split words A c (Rejected (reason.Need j need)) claim h = on_rejected words A c 
 split words A c (Rejected (reason.Bound need)) claim h = on_rejected words A c (reason.Bound need) h
 split words A c (Rejected reason.Assumptions) claim h = on_rejected words A c reason.Assumptions h
 
-pub joined : (words : List ℕ) (A : List Entry) (c : Claim) (nodes : List Node) (v : Verdict) → IsClaim c → IsFilled words A (read_seeds (has_pairs A) c.nodes) nodes
-    → Decides words A c nodes v → IsVerdict words A c v
-joined words A c nodes (Accepted bound) claim f h = (record { nodes = nodes; expanded = subst (λ (own : Seeds). IsFilled words A own nodes) (as_own A c claim h.0.assumptions) f; meets = h.0 }, h.1)
-joined words A c nodes (Rejected (reason.Expansion at)) claim f h = absurd h
-joined words A c nodes (Rejected reason.Root) claim f h = record { nodes = nodes; expanded = f; why = h }
-joined words A c nodes (Rejected (reason.Node j cause)) claim f h = record { nodes = nodes; expanded = f; why = h }
-joined words A c nodes (Rejected (reason.Edge j to)) claim f h = record { nodes = nodes; expanded = f; why = h }
-joined words A c nodes (Rejected (reason.Rank j l)) claim f h = record { nodes = nodes; expanded = f; why = h }
-joined words A c nodes (Rejected (reason.Need j need)) claim f h = record { nodes = nodes; expanded = f; why = h }
-joined words A c nodes (Rejected (reason.Bound need)) claim f h = record { nodes = nodes; expanded = f; why = h }
-joined words A c nodes (Rejected reason.Assumptions) claim f h = record { nodes = nodes; expanded = f; why = h }
+pub refused : (words : List ℕ) (A : List Entry) (c : Claim) (nodes : List Node) (r : Reason) → IsFilled words A (read_seeds (has_pairs A) c.nodes) nodes
+    → IsLeastReason words A c nodes r → IsReason words A c r
+refused words A c nodes (reason.Expansion at) f h = absurd h
+refused words A c nodes reason.Root f h = record { nodes = nodes; expanded = f; why = h }
+refused words A c nodes (reason.Node j cause) f h = record { nodes = nodes; expanded = f; why = h }
+refused words A c nodes (reason.Edge j to) f h = record { nodes = nodes; expanded = f; why = h }
+refused words A c nodes (reason.Rank j l) f h = record { nodes = nodes; expanded = f; why = h }
+refused words A c nodes (reason.Need j need) f h = record { nodes = nodes; expanded = f; why = h }
+refused words A c nodes (reason.Bound need) f h = record { nodes = nodes; expanded = f; why = h }
+refused words A c nodes reason.Assumptions f h = record { nodes = nodes; expanded = f; why = h }
+
+pub family_is : (words : List ℕ) (A : List Entry) (c : Claim) (family : Worked) → IsClaim c → IsFilled words A (read_seeds (has_pairs A) c.nodes) family.nodes
+    → MeetsConditions words A c family.nodes × AreLandings words A family.nodes family.landings → IsFamilyOf words A c family
+family_is words A c family claim f h =
+    record { filled = subst (λ (own : Seeds). IsFilled words A own family.nodes) (as_own A c claim h.0.assumptions) f; meets = h.0; landings = h.1 }
+
+pub few_in : (words : List ℕ) (A : List Entry) (c : Claim) (j : Judgement) → IsClaim c → IsJudgement words A c j → (family : Worked) → j ≡ judgement.Accepted family
+    → length family.nodes ≤ 65536
+few_in words A c j claim h family e =
+    let f : IsFamilyOf words A c family = subst (IsJudgement words A c) e h in
+    omega (arith, f.filled.count, (claims_are_seeds c claim).few)
 
 pub verdicts_are_one : VerdictsAreOne
 verdicts_are_one words A c v w claim a b =

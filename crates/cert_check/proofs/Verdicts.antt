@@ -49,8 +49,11 @@ need_fits insts demands j few inside h =
 
 module _ (words : List ℕ) (A : List Entry) (c : Claim) (nodes : List Node) (claim : IsClaim c)
     (filled : IsFilled words A (read_seeds (has_pairs A) c.nodes) nodes) where
+  pub few_nodes : length nodes ≤ 65536
+  few_nodes = omega (arith, filled.count, (seeds_read c claim (has_pairs A)).few)
+
   pub node_fits : (j : ℕ) (n : Node) → slice_get nodes j ≡ Some n → j < 65536
-  node_fits j n e = let lt = slice_get_within nodes j n e in omega (arith, lt, filled.count, (seeds_read c claim (has_pairs A)).few)
+  node_fits j n e = let lt = slice_get_within nodes j n e in omega (arith, lt, few_nodes)
 
   key_at : (P : NodeKey → Type 0) (es : Seeds) (j : ℕ) (k : NodeKey) (form : NodeForm) → AllByRecursion P (node_keys es) → slice_get es j ≡ Some (k, form) → P k
   key_at P [] j k form h e = absurd (none-some (k, form) e)

@@ -18,13 +18,17 @@ use Rattle.edge_rules.specs.declared.edge.Edge.{Edge}
 use Rattle.edge_rules.specs.Edges.{is_entry, Enters, IsEdge, target}
 use Rattle.edge_rules.specs.Expansion.{Seeds}
 use Rattle.edge_rules.specs.Views.{IsOwnNode, key_of}
+use Rattle.call_graph.specs.Landings.{AreLandings, AreLandingsTo}
 use Rattle.certificate.specs.declared.instance.Inst.{Inst}
 use Rattle.certificate.specs.Insts.{IsInst, inst_keys, need_in}
 use Rattle.certificate.specs.Claims.{Claim, most_instances, node_keys}
 use Rattle.certificate.specs.Valid.{IsBounded, MeetsConditions}
 use Rattle.cert_check.specs.declared.demand.Demand.{Demand}
+use Rattle.cert_check.specs.declared.gathering.Gathered.{Gathered}
 use Rattle.cert_check.specs.declared.gathering.Found.{Found}
 use Rattle.cert_check.specs.declared.gathering.Found.TheVariants.{Gap, All}
+use Rattle.cert_check.specs.declared.judging.Settled.{Settled}
+use Rattle.cert_check.specs.declared.judging.Settled.TheVariants.{Met, Refused}
 use Rattle.cert_check.specs.declared.verdict.Reason.TheVariants as reason
 use Rattle.cert_check.specs.declared.verdict.Verdict.{Verdict}
 use Rattle.cert_check.specs.declared.verdict.Verdict.TheVariants.{Accepted, Rejected}
@@ -130,10 +134,10 @@ AreDemands words A insts nodes demands = (d : Demand) → Contains demands d ↔
 abbrev pub AllBelong : List Inst → List Node → Type 0
 AllBelong insts nodes = (n : Node) → Contains nodes n → Contains (inst_keys insts) n.key.inst
 
--- all edges land, and these are the demands; else the first gap
+-- all edges land, these are the demands, and here the edges of each node land; else the first gap
 abbrev pub IsFound : List ℕ → List Entry → Seeds → List Inst → List Node → Found → Type 0
 IsFound words A own insts nodes (Gap j to) = IsFirstGap words A own nodes j to
-IsFound words A own insts nodes (All demands) = AllLanded words A own nodes × AreDemands words A insts nodes demands.items
+IsFound words A own insts nodes (All g) = AllLanded words A own nodes × AreDemands words A insts nodes g.demands.items × AreLandings words A nodes g.landings
 
 -- ---- which demands aren't met
 
@@ -208,8 +212,22 @@ abbrev pub Decides : List ℕ → List Entry → Claim → List Node → Verdict
 Decides words A c nodes (Accepted bound) = MeetsConditions words A c nodes × (bound ≡ c.bound)
 Decides words A c nodes (Rejected r) = IsLeastReason words A c nodes r
 
+-- the same with where the edges of each node land, in place of the bound
+abbrev pub Settles : List ℕ → List Entry → Claim → List Node → Settled → Type 0
+Settles words A c nodes (Met landings) = MeetsConditions words A c nodes × AreLandings words A nodes landings
+Settles words A c nodes (Refused r) = IsLeastReason words A c nodes r
+
 -- all edges of the nodes below this number land, and what is listed is asked, and what those nodes ask is listed
 pub record IsMidway (words : List ℕ) (A : List Entry) (own : Seeds) (insts : List Inst) (nodes : List Node) (at : ℕ) (demands : List Demand) : Type 0 where
   pub land : (i : ℕ) (n : Node) (e : Edge) → slice_get nodes i ≡ Some n → i < at → IsEdge words A nodes n e → Lands (has_pairs A) own nodes (target e)
   pub asked : (d : Demand) → Contains demands d → IsAsked words A insts nodes d
   pub listed : (i : ℕ) (n : Node) (d : Demand) → slice_get nodes i ≡ Some n → i < at → Asks words A insts n d → Contains demands d
+
+-- the nodes below this number are gathered
+abbrev pub AreGathered : List ℕ → List Entry → Claim → List Node → ℕ → Gathered → Type 0
+AreGathered words A c nodes at g = IsMidway words A c.nodes c.instances nodes at g.demands.items × AreLandingsTo words A nodes at g.landings
+
+-- and the node of this number, where all its edges land
+abbrev pub IsAdded : List ℕ → List Entry → Claim → List Node → ℕ → Option NodeKey → Gathered → Type 0
+IsAdded words A c nodes at None g = AreGathered words A c nodes (at + 1) g
+IsAdded words A c nodes at (Some to) g = IsFirstGap words A c.nodes nodes at to

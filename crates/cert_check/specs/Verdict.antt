@@ -16,14 +16,18 @@ use Rattle.edge_rules.specs.declared.edge.Edge.{Edge}
 use Rattle.edge_rules.specs.Edges.{IsFaultless, Enters, IsEdge, target}
 use Rattle.edge_rules.specs.Expansion.{Seeds, IsFilled, IsMissing}
 use Rattle.edge_rules.specs.Families.{AreFaultless}
+use Rattle.call_graph.specs.declared.worked.Worked.{Worked}
+use Rattle.call_graph.specs.Landings.{AreLandings}
 use Rattle.certificate.specs.declared.instance.Inst.{Inst}
 use Rattle.certificate.specs.Insts.{need_in}
 use Rattle.certificate.specs.Claims.{Claim}
-use Rattle.certificate.specs.Valid.{reset_node, AreRanked, Suffices, NeedsSuffice, IsBounded, IsSound}
+use Rattle.certificate.specs.Valid.{reset_node, AreRanked, Suffices, NeedsSuffice, IsBounded, MeetsConditions, IsSound}
 use Rattle.cert_check.specs.declared.verdict.Reason.{Reason}
 use Rattle.cert_check.specs.declared.verdict.Reason.TheVariants as reason
 use Rattle.cert_check.specs.declared.verdict.Verdict.{Verdict}
 use Rattle.cert_check.specs.declared.verdict.Verdict.TheVariants.{Accepted, Rejected}
+use Rattle.cert_check.specs.declared.verdict.Judgement.{Judgement}
+use Rattle.cert_check.specs.declared.verdict.Judgement.TheVariants as judgement
 use Rattle.cert_check.specs.Reading.{read_seeds, Lands}
 
 -- node j has a fault of this cause, and no earlier node has one
@@ -121,3 +125,16 @@ IsReason words A c r = IsRejected words A c r
 abbrev pub IsVerdict : List ℕ → List Entry → Claim → Verdict → Type 0
 IsVerdict words A c (Accepted bound) = IsSound words A c × (bound ≡ c.bound)
 IsVerdict words A c (Rejected r) = IsReason words A c r
+
+-- ---- with the family where all conditions hold
+
+-- the certificate's nodes with their states, which meet the conditions, and where their edges land
+pub record IsFamilyOf (words : List ℕ) (A : List Entry) (c : Claim) (family : Worked) : Type 0 where
+  pub filled : IsFilled words A c.nodes family.nodes
+  pub meets : MeetsConditions words A c family.nodes
+  pub landings : AreLandings words A family.nodes family.landings
+
+-- The judgement: the family where all conditions but that on the schedule hold, else the reason.
+abbrev pub IsJudgement : List ℕ → List Entry → Claim → Judgement → Type 0
+IsJudgement words A c (judgement.Accepted family) = IsFamilyOf words A c family
+IsJudgement words A c (judgement.Rejected r) = IsReason words A c r

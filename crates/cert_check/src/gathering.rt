@@ -1,53 +1,100 @@
 //! One pass over all edges.
 
-ghost use Rattle.std.specs.Prelude.{IfOk};
+ghost use Rattle.std.specs.Prelude.{◌≡◌, ◌<◌, ◌≤◌, IfOk, length};
+ghost use Rattle.avr_model.specs.Assumptions.{has_pairs};
+ghost use Rattle.edge_rules.specs.Views.{AreShown};
 ghost use Rattle.call_graph.specs.Exits.{AreExits};
-ghost use Rattle.cert_check.specs.Demands.{AreInstances, AreBeside, AllBelong, IsFound};
+ghost use Rattle.cert_check.specs.Demands.{AreInstances, AreBeside, AllBelong, IsFound, AreGathered, IsAdded};
 
 use crate::demand::{Demand, add_demands};
-use crate::landing::gap_in;
+use crate::landing::{Landed, Site, landed_from};
 use avr_model::listed::Listed;
-use call_graph::{Filled, View, next_with};
+use call_graph::{Filled, Landing, Task, next_with};
 use certificate::Certificate;
-use flash_image::Flash;
 use local_rules::Exit;
 use mask_states::NodeKey;
-use std::alloc::{AllocError, Global};
-use vector_table::Assumptions;
+use std::alloc::AllocError;
+
+// What is known of nodes whose edges all land.
+#[derive(Drop)]
+pub(crate) struct Gathered {
+    /// What they ask of their instances.
+    pub demands: Vec<Demand>,
+    /// Where the edges of each land.
+    pub landings: Listed<Listed<Landing>>,
+}
 
 // What a pass over all edges finds.
 #[derive(Drop)]
 pub(crate) enum Found {
     /// This node is the first with an edge that doesn't land, and the key is the least of such an edge.
     Gap(usize, NodeKey),
-    /// All edges land, and this is what the nodes ask of their instances.
-    All(Vec<Demand>),
+    /// All edges land.
+    All(Gathered),
 }
 
-// The first gap, or what all nodes ask of their instances.
+// The least key to which an edge of the node of this number leads that doesn't land. Where all of them land, the node is gathered.
+fn gather_node(
+    task: &Task<'_>,
+    site: &Site<'_, '_>,
+    exits: &Listed<Option<Exit>>,
+    at: usize,
+    gathered: &mut Gathered,
+) -> Result<Option<NodeKey>, AllocError>
+    requires inside { at < length site.now.nodes.now }
+    requires shown { AreShown site.now.nodes.now }
+    requires few { length site.now.nodes.now ≤ 65536 }
+    requires followed { site.now.followed ≡ has_pairs task.now.assumptions.now }
+    requires instances { AreInstances site.now.certificate.now.instances }
+    requires belong { AllBelong site.now.certificate.now.instances site.now.nodes.now }
+    requires beside { AreBeside site.now.certificate.now.nodes site.now.nodes.now }
+    requires taken { AreExits task.now.flash.now task.now.assumptions.now site.now.nodes.now exits.now }
+    requires before { AreGathered task.now.flash.now task.now.assumptions.now site.now.certificate.now site.now.nodes.now at gathered.now }
+    ensures { IfOk result (λ gap. IsAdded task.now.flash.now task.now.assumptions.now site.now.certificate.now site.now.nodes.now at gap gathered.new) }
+{
+    let edges = next_with(task, site.nodes, at, exits)?;
+    let Landed { gap, landings } = landed_from(task.alloc, site, at + 1, edges.as_slice())?;
+    if let Some(to) = gap {
+        return Ok(Some(to));
+    }
+    gathered.landings.push(landings)?;
+    let key = site.nodes.key(at);
+    add_demands(
+        &mut gathered.demands,
+        site.certificate.instances(),
+        key,
+        edges.as_slice(),
+    )?;
+    Ok(None)
+}
+
+// The first gap, or what all nodes ask of their instances and where their edges land.
 pub(crate) fn gather(
-    alloc: Global,
-    flash: &Flash,
-    assumptions: &Assumptions,
+    task: &Task<'_>,
     certificate: &Certificate,
     nodes: &Filled,
     exits: &Listed<Option<Exit>>,
 ) -> Result<Found, AllocError>
+    requires few { length nodes.now ≤ 65536 }
     requires instances { AreInstances certificate.now.instances }
     requires belong { AllBelong certificate.now.instances nodes.now }
     requires beside { AreBeside certificate.now.nodes nodes.now }
-    requires taken { AreExits flash.now assumptions.now nodes.now exits.now }
-    ensures { IfOk result (λ found. IsFound flash.now assumptions.now certificate.now.nodes certificate.now.instances nodes.now found) }
+    requires taken { AreExits task.now.flash.now task.now.assumptions.now nodes.now exits.now }
+    ensures { IfOk result (λ found. IsFound task.now.flash.now task.now.assumptions.now certificate.now.nodes certificate.now.instances nodes.now found) }
 {
-    let followed = assumptions.has_pairs();
-    let instances = certificate.instances();
-    let mut demands = Vec::new(alloc);
+    let site = Site {
+        followed: task.assumptions.has_pairs(),
+        certificate,
+        nodes,
+    };
+    let mut gathered = Gathered {
+        demands: Vec::new(task.alloc),
+        landings: Listed::empty(task.alloc),
+    };
     for at in 0..nodes.count() {
-        let edges = next_with(alloc, flash, assumptions, nodes, at, exits)?;
-        if let Some(to) = gap_in(followed, certificate, nodes, at + 1, edges.as_slice()) {
+        if let Some(to) = gather_node(task, &site, exits, at, &mut gathered)? {
             return Ok(Found::Gap(at, to));
         }
-        add_demands(&mut demands, instances, nodes.key(at), edges.as_slice())?;
     }
-    Ok(Found::All(demands))
+    Ok(Found::All(gathered))
 }

@@ -1,25 +1,27 @@
 //! The verdict on a certificate.
 
-ghost use Rattle.std.specs.Prelude.{ℕ, ◌≡◌, ◌↔◌, Ok, IfOk, IsTrue};
+ghost use Rattle.std.specs.Prelude.{ℕ, ◌≡◌, ◌≤◌, ◌↔◌, List, Ok, IfOk, IsTrue, length};
+ghost use Rattle.avr_model.specs.declared.assumption.Entry.{Entry};
 ghost use Rattle.avr_model.specs.Assumptions.{has_pairs};
 ghost use Rattle.avr_model.specs.Run.{Bounded};
 ghost use Rattle.edge_rules.specs.Expansion.{IsFilled};
+ghost use Rattle.call_graph.specs.declared.worked.Worked as worked_type;
 ghost use Rattle.call_graph.specs.Exits.{AreExits};
 ghost use Rattle.call_graph.specs.Expanding.{IsExpanded};
 ghost use Rattle.certificate.specs.Claims.{IsClaim};
 ghost use Rattle.certificate.specs.Valid.{IsSound};
 ghost use Rattle.cert_check.specs.declared.verdict.Reason as reason_type;
 ghost use Rattle.cert_check.specs.Reading.{read_seeds};
-ghost use Rattle.cert_check.specs.Verdict.{HasReset, IsVerdict, IsReason};
-ghost use Rattle.cert_check.specs.Demands.{AreBeside, Decides};
+ghost use Rattle.cert_check.specs.Verdict.{HasReset, IsVerdict, IsReason, IsJudgement};
+ghost use Rattle.cert_check.specs.Demands.{AreBeside, Settles};
 
-use crate::gathering::{Found, gather};
-use crate::landing::lands;
+use crate::gathering::{Found, Gathered, gather};
+use crate::landing::{Site, lands};
 use crate::reading::read;
-use crate::verdict::{Reason, Verdict};
+use crate::verdict::{Judgement, Reason, Verdict};
 use crate::weighing::weigh;
 use avr_model::listed::Listed;
-use call_graph::{Expanded, Filled, Leaving, exits, expand, root_of};
+use call_graph::{Expanded, Filled, Landing, Leaving, Task, Worked, exits, expand, root_of};
 use certificate::Certificate;
 use flash_image::Flash;
 use local_rules::Exit;
@@ -28,94 +30,132 @@ use mask_states::{InstKey, NodeKey};
 use std::alloc::{AllocError, Global};
 use vector_table::Assumptions;
 
-// The verdict where no node has a fault.
-fn judge_edges(
-    alloc: Global,
-    flash: &Flash,
-    assumptions: &Assumptions,
+// What is said of the nodes with their states.
+#[derive(Drop)]
+pub(crate) enum Settled {
+    /// All conditions hold, and here the edges of each node land.
+    Met(Listed<Listed<Landing>>),
+    /// The least reason against them.
+    Refused(Reason),
+}
+
+// What is said where no node has a fault.
+fn settle_edges(
+    task: &Task<'_>,
     certificate: &Certificate,
     nodes: &Filled,
     exits: &Listed<Option<Exit>>,
-) -> Result<Verdict, AllocError>
+) -> Result<Settled, AllocError>
     requires claim { IsClaim certificate.now }
-    requires filled { IsFilled flash.now assumptions.now (read_seeds (has_pairs assumptions.now) certificate.now.nodes) nodes.now }
-    requires reset { HasReset assumptions.now certificate.now nodes.now }
-    requires taken { AreExits flash.now assumptions.now nodes.now exits.now }
-    ensures { IfOk result (λ verdict. Decides flash.now assumptions.now certificate.now nodes.now verdict) }
+    requires filled { IsFilled task.now.flash.now task.now.assumptions.now (read_seeds (has_pairs task.now.assumptions.now) certificate.now.nodes) nodes.now }
+    requires reset { HasReset task.now.assumptions.now certificate.now nodes.now }
+    requires taken { AreExits task.now.flash.now task.now.assumptions.now nodes.now exits.now }
+    ensures { IfOk result (λ settled. Settles task.now.flash.now task.now.assumptions.now certificate.now nodes.now settled) }
 {
-    match gather(alloc, flash, assumptions, certificate, nodes, exits)? {
-        Found::Gap(at, to) => Ok(Verdict::Rejected(Reason::Edge(at as u32, to))),
-        Found::All(demands) => Ok(weigh(flash, assumptions, certificate, &demands)),
+    match gather(task, certificate, nodes, exits)? {
+        Found::Gap(at, to) => Ok(Settled::Refused(Reason::Edge(at as u32, to))),
+        Found::All(Gathered { demands, landings }) => match weigh(task, certificate, &demands) {
+            Verdict::Accepted(_) => Ok(Settled::Met(landings)),
+            Verdict::Rejected(reason) => {
+                drop(landings);
+                Ok(Settled::Refused(reason))
+            }
+        },
     }
 }
 
 // Whether the node at reset is there, open, and with a state at least that one.
-fn has_reset(
-    alloc: Global,
-    assumptions: &Assumptions,
-    certificate: &Certificate,
-    nodes: &Filled,
-) -> Result<bool, AllocError>
+fn has_reset(task: &Task<'_>, certificate: &Certificate, nodes: &Filled) -> Result<bool, AllocError>
     requires { AreBeside certificate.now.nodes nodes.now }
-    ensures { IfOk result (λ there. IsTrue there ↔ HasReset assumptions.now certificate.now nodes.now) }
+    ensures { IfOk result (λ there. IsTrue there ↔ HasReset task.now.assumptions.now certificate.now nodes.now) }
 {
-    let state = root_of(alloc, assumptions)?;
+    let state = root_of(task.alloc, task.assumptions)?;
     let key = NodeKey::entry(&InstKey::root());
-    Ok(lands(assumptions.has_pairs(), certificate, nodes, 0, &key, &state))
+    let site = Site {
+        followed: task.assumptions.has_pairs(),
+        certificate,
+        nodes,
+    };
+    Ok(lands(&site, nodes.find(&key), &key, &state))
 }
 
-// The verdict on nodes with their states.
-fn judge_nodes(
-    alloc: Global,
-    flash: &Flash,
-    assumptions: &Assumptions,
-    certificate: &Certificate,
-    nodes: &Filled,
-) -> Result<Verdict, AllocError>
+// What is said of the nodes with their states, by the conditions in their order.
+fn settle(task: &Task<'_>, certificate: &Certificate, nodes: &Filled) -> Result<Settled, AllocError>
     requires claim { IsClaim certificate.now }
-    requires filled { IsFilled flash.now assumptions.now (read_seeds (has_pairs assumptions.now) certificate.now.nodes) nodes.now }
-    ensures { IfOk result (λ verdict. Decides flash.now assumptions.now certificate.now nodes.now verdict) }
+    requires filled { IsFilled task.now.flash.now task.now.assumptions.now (read_seeds (has_pairs task.now.assumptions.now) certificate.now.nodes) nodes.now }
+    ensures { IfOk result (λ settled. Settles task.now.flash.now task.now.assumptions.now certificate.now nodes.now settled) }
 {
-    if !has_reset(alloc, assumptions, certificate, nodes)? {
-        return Ok(Verdict::Rejected(Reason::Root));
+    if !has_reset(task, certificate, nodes)? {
+        return Ok(Settled::Refused(Reason::Root));
     }
-    match exits(alloc, flash, assumptions, nodes)? {
-        Leaving::Fault(at, fault) => Ok(Verdict::Rejected(Reason::Node(at as u32, fault.cause()))),
-        Leaving::All(exits) => judge_edges(alloc, flash, assumptions, certificate, nodes, &exits),
+    match exits(task, nodes)? {
+        Leaving::Fault(at, fault) => Ok(Settled::Refused(Reason::Node(at as u32, fault.cause()))),
+        Leaving::All(exits) => settle_edges(task, certificate, nodes, &exits),
+    }
+}
+
+// The judgement on nodes with their states, which are the family where all conditions hold.
+fn judge_nodes(
+    task: &Task<'_>,
+    certificate: &Certificate,
+    nodes: Filled,
+) -> Result<Judgement, AllocError>
+    requires claim { IsClaim certificate.now }
+    requires filled { IsFilled task.now.flash.now task.now.assumptions.now (read_seeds (has_pairs task.now.assumptions.now) certificate.now.nodes) nodes }
+    ensures { IfOk result (λ judgement. IsJudgement task.now.flash.now task.now.assumptions.now certificate.now judgement) }
+{
+    match settle(task, certificate, &nodes) {
+        Ok(Settled::Met(landings)) => Ok(Judgement::Accepted(Worked { nodes, landings })),
+        Ok(Settled::Refused(reason)) => {
+            drop(nodes);
+            Ok(Judgement::Rejected(reason))
+        }
+        Err(error) => {
+            drop(nodes);
+            Err(error)
+        }
     }
 }
 
 // The states of all nodes, which are read as the list says, or the least node that has none.
-fn expanded(
-    alloc: Global,
-    flash: &Flash,
-    assumptions: &Assumptions,
-    certificate: &Certificate,
-) -> Result<Expanded, AllocError>
+fn expanded(task: &Task<'_>, certificate: &Certificate) -> Result<Expanded, AllocError>
     requires { IsClaim certificate.now }
-    ensures { IfOk result (λ answer. IsExpanded flash.now assumptions.now (read_seeds (has_pairs assumptions.now) certificate.now.nodes) answer) }
+    ensures { IfOk result (λ answer. IsExpanded task.now.flash.now task.now.assumptions.now (read_seeds (has_pairs task.now.assumptions.now) certificate.now.nodes) answer) }
 {
-    let followed = assumptions.has_pairs();
+    let followed = task.assumptions.has_pairs();
     if certificate.assumptions().has_pairs() == followed {
-        return expand(alloc, flash, assumptions, certificate);
+        return expand(task, certificate);
     }
-    let reading = read(alloc, followed, certificate)?;
-    expand(alloc, flash, assumptions, &reading)
+    let reading = read(task.alloc, followed, certificate)?;
+    expand(task, &reading)
 }
 
-// The verdict, by the conditions in their order.
-fn verdict(
-    alloc: Global,
-    flash: &Flash,
-    assumptions: &Assumptions,
-    certificate: &Certificate,
-) -> Result<Verdict, AllocError>
-    requires { IsClaim certificate.now }
-    ensures { IfOk result (λ verdict. IsVerdict flash.now assumptions.now certificate.now verdict) }
+/// What is said of a certificate for a firmware under assumptions, by the conditions in their order. Where each condition on all
+/// but the schedule holds, this is its family, at most 65,536 nodes: its nodes with their states, which meet the conditions, and
+/// where their edges land. Else it is the least reason with its least numbers. The error is want of memory. Each edge is looked
+/// at once, and each node's local part is worked out twice, and once more for each node that comes from it. The nodes are
+/// copied where the list handed in has the line `pairs` and the certificate's own doesn't, or the other way round.
+pub fn judge_family(task: &Task<'_>, certificate: &Certificate) -> Result<Judgement, AllocError>
+    ensures exact { IfOk result (λ judgement. IsJudgement task.now.flash.now task.now.assumptions.now certificate.now judgement) }
+    ensures few { IfOk result (λ judgement. (family : worked_type.Worked) → judgement ≡ Judgement.Accepted family → length family.nodes ≤ 65536) }
 {
-    match expanded(alloc, flash, assumptions, certificate)? {
-        Expanded::Missing(at) => Ok(Verdict::Rejected(Reason::Expansion(at))),
-        Expanded::Whole(nodes) => judge_nodes(alloc, flash, assumptions, certificate, &nodes),
+    let _nodes = certificate.nodes();
+    match expanded(task, certificate)? {
+        Expanded::Missing(at) => Ok(Judgement::Rejected(Reason::Expansion(at))),
+        Expanded::Whole(nodes) => judge_nodes(task, certificate, nodes),
+    }
+}
+
+// The verdict that a judgement gives.
+fn verdict_of(certificate: &Certificate, judgement: Judgement) -> Verdict
+    ensures { (words : List ℕ) (A : List Entry) → IsJudgement words A certificate.now judgement → IsVerdict words A certificate.now result }
+{
+    match judgement {
+        Judgement::Accepted(family) => {
+            drop(family);
+            Verdict::Accepted(certificate.bound())
+        }
+        Judgement::Rejected(reason) => Verdict::Rejected(reason),
     }
 }
 
@@ -137,5 +177,11 @@ pub fn judge(
 {
     words_have_16_bits(flash.words());
     let _nodes = certificate.nodes();
-    verdict(alloc, flash, assumptions, certificate)
+    let task = Task {
+        alloc,
+        flash,
+        assumptions,
+    };
+    let judgement = judge_family(&task, certificate)?;
+    Ok(verdict_of(certificate, judgement))
 }

@@ -1,20 +1,42 @@
 //! Where edges land.
 
-ghost use Rattle.std.specs.Prelude.{ℕ, ◌≡◌, ◌<◌, ◌↔◌, length, IsTrue, Some};
-ghost use Rattle.std.specs.List.{slice_get};
-ghost use Rattle.edge_rules.specs.Views.{IsOwnNode};
+ghost use Rattle.std.specs.Prelude.{◌≡◌, ◌≤◌, ◌<◌, ◌↔◌, ◌++◌, length, IsTrue, IfOk, OnOk};
+ghost use Rattle.edge_rules.specs.Views.{IsOwnNode, place_of};
 ghost use Rattle.edge_rules.specs.Expansion.{HasKeyAt};
 ghost use Rattle.mask_states.specs.declared.keys.NodeKey as key_type;
 ghost use Rattle.edge_laws.specs.Expansions.{AreAscending};
+ghost use Rattle.call_graph.specs.Landings.{landing_of, landings_by};
 ghost use Rattle.cert_check.specs.Reading.{IsOpen, Lands};
 ghost use Rattle.cert_check.specs.Demands.{IsLeast, IsNoted, AreBeside, LeadsToNode, GapAt, KeyBelow, lesser_key, AreTargets};
 
 use crate::reading::tells_nothing;
 use abs_state::AbsState;
-use call_graph::{Filled, View};
+use avr_model::listed::Listed;
+use call_graph::{Filled, Landing};
 use certificate::{Certificate, Seeded};
 use edge_rules::Edge;
 use mask_states::NodeKey;
+use std::alloc::{AllocError, Global};
+
+// The nodes at which edges may land.
+#[derive(Clone, Copy)]
+pub(crate) struct Site<'c, 'n> {
+    /// Whether pairs are followed.
+    pub followed: bool,
+    /// The certificate's own nodes.
+    pub certificate: &'c Certificate,
+    /// The same nodes with their states.
+    pub nodes: &'n Filled,
+}
+
+// Where edges of a node land.
+#[derive(Drop)]
+pub(crate) struct Landed {
+    /// The least key to which one of them leads that doesn't land.
+    pub gap: Option<NodeKey>,
+    /// The nodes to which they lead, as far as nodes of their keys are there.
+    pub landings: Listed<Landing>,
+}
 
 // Whether edges may land at the node of this number.
 fn is_open(followed: bool, certificate: &Certificate, at: usize) -> bool
@@ -25,25 +47,24 @@ fn is_open(followed: bool, certificate: &Certificate, at: usize) -> bool
     followed || tells_nothing(certificate.seed(at))
 }
 
-// Whether an edge with this state lands at the node of this key: it is there, open, and with a state at least this one. It is
-// sought from the number `first` on.
+// Whether an edge with this state lands at the node of this key, which is at this number if it is there: it is there, open, and
+// with a state at least this one.
 pub(crate) fn lands(
-    followed: bool,
-    certificate: &Certificate,
-    nodes: &Filled,
-    first: usize,
+    site: &Site<'_, '_>,
+    place: Option<usize>,
     key: &NodeKey,
     state: &AbsState,
 ) -> bool
+    requires place { place ≡ place_of key.now site.now.nodes.now }
     requires node { IsOwnNode key.now state.now }
-    requires beside { AreBeside certificate.now.nodes nodes.now }
-    ensures { IsTrue result ↔ Lands followed certificate.now.nodes nodes.now (record { key = key.now; state = state.now }) }
+    requires beside { AreBeside site.now.certificate.now.nodes site.now.nodes.now }
+    ensures { IsTrue result ↔ Lands site.now.followed site.now.certificate.now.nodes site.now.nodes.now (record { key = key.now; state = state.now }) }
 {
-    let count = nodes.count();
-    match nodes.find_from(first, key) {
+    let count = site.nodes.count();
+    match place {
         Some(at) => {
             prove!(at < count);
-            state.le(nodes.state(at)) && is_open(followed, certificate, at)
+            state.le(site.nodes.state(at)) && is_open(site.followed, site.certificate, at)
         }
         None => false,
     }
@@ -59,41 +80,51 @@ fn lesser(least: Option<NodeKey>, key: &NodeKey) -> NodeKey
     }
 }
 
-// The least key after one edge more.
-fn noted_gap(
-    followed: bool,
-    certificate: &Certificate,
-    nodes: &Filled,
+// Where edges of a node land, with one edge more, whose node is sought once, from the number `first` on.
+fn note(
+    site: &Site<'_, '_>,
     first: usize,
-    least: Option<NodeKey>,
+    landed: &mut Landed,
     edge: &Edge,
-) -> Option<NodeKey>
+) -> Result<(), AllocError>
+    requires few { length site.now.nodes.now ≤ 65536 }
     requires node { IsOwnNode edge.now.to edge.now.state }
-    requires beside { AreBeside certificate.now.nodes nodes.now }
-    ensures { IsNoted (LeadsToNode followed certificate.now.nodes nodes.now) (GapAt followed certificate.now.nodes nodes.now) lesser_key least edge.now result }
+    requires beside { AreBeside site.now.certificate.now.nodes site.now.nodes.now }
+    ensures gap { OnOk result (IsNoted (LeadsToNode site.now.followed site.now.certificate.now.nodes site.now.nodes.now) (GapAt site.now.followed site.now.certificate.now.nodes site.now.nodes.now) lesser_key landed.old.gap edge.now landed.new.gap) }
+    ensures landings { OnOk result (landed.new.landings ≡ landed.old.landings ++ landing_of site.now.nodes.now edge.now) }
 {
-    if lands(followed, certificate, nodes, first, &edge.to, &edge.state) {
-        least
-    } else {
-        Some(lesser(least, &edge.to))
+    let place = site.nodes.find_from(first, &edge.to);
+    if let Some(at) = place {
+        landed.landings.push(Landing {
+            kind: edge.kind,
+            at: at as u32,
+        })?;
     }
+    if !lands(site, place, &edge.to, &edge.state) {
+        landed.gap = Some(lesser(landed.gap, &edge.to));
+    }
+    Ok(())
 }
 
-// The least key to which an edge leads that doesn't land. Keys are sought from the number `first` on.
-pub(crate) fn gap_in(
-    followed: bool,
-    certificate: &Certificate,
-    nodes: &Filled,
+// Where these edges land. Their nodes are sought from the number `first` on.
+pub(crate) fn landed_from(
+    alloc: Global,
+    site: &Site<'_, '_>,
     first: usize,
     edges: &[Edge],
-) -> Option<NodeKey>
+) -> Result<Landed, AllocError>
+    requires few { length site.now.nodes.now ≤ 65536 }
     requires targets { AreTargets edges.now }
-    requires beside { AreBeside certificate.now.nodes nodes.now }
-    ensures { IsLeast (LeadsToNode followed certificate.now.nodes nodes.now) (GapAt followed certificate.now.nodes nodes.now) KeyBelow edges.now result }
+    requires beside { AreBeside site.now.certificate.now.nodes site.now.nodes.now }
+    ensures gap { IfOk result (λ landed. IsLeast (LeadsToNode site.now.followed site.now.certificate.now.nodes site.now.nodes.now) (GapAt site.now.followed site.now.certificate.now.nodes site.now.nodes.now) KeyBelow edges.now landed.gap) }
+    ensures landings { IfOk result (λ landed. landed.landings ≡ landings_by site.now.nodes.now edges.now) }
 {
-    let mut least = None;
+    let mut landed = Landed {
+        gap: None,
+        landings: Listed::empty(alloc),
+    };
     for at in 0..edges.len() {
-        least = noted_gap(followed, certificate, nodes, first, least, &edges[at]);
+        note(site, first, &mut landed, &edges[at])?;
     }
-    least
+    Ok(landed)
 }

@@ -12,5 +12,5 @@ pub mod verdict;
 mod weighing;
 
 pub use attaining::is_attained;
-pub use judging::judge;
-pub use verdict::{Reason, Verdict};
+pub use judging::{judge, judge_family};
+pub use verdict::{Judgement, Reason, Verdict};

@@ -1,5 +1,6 @@
 //! What is said of a certificate.
 
+use call_graph::Worked;
 use mask_states::NodeKey;
 
 /// Why a certificate is refused. Nodes and instances are numbered from 0 in their order.
@@ -28,6 +29,15 @@ pub enum Reason {
 pub enum Verdict {
     /// All conditions hold; the bound.
     Accepted(u16),
+    /// The least reason against it.
+    Rejected(Reason),
+}
+
+/// What is said of a certificate but for its schedule, with its family where all conditions hold.
+#[derive(Drop)]
+pub enum Judgement {
+    /// All conditions hold; the certificate's nodes with their states, and where their edges land.
+    Accepted(Worked),
     /// The least reason against it.
     Rejected(Reason),
 }

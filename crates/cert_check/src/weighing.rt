@@ -10,10 +10,10 @@ ghost use Rattle.cert_check.specs.Demands.{AreInstances, AreInside, IsInside, Is
 
 use crate::demand::{Demand, need_at, number_of, rank_at};
 use crate::verdict::{Reason, Verdict};
+use call_graph::Task;
 use certificate::{Certificate, Inst};
 use flash_image::Flash;
 use mask_states::InstKey;
-use vector_table::Assumptions;
 
 // The lesser of two pairs, by their first numbers, then by their second ones.
 fn lesser_pair(least: Option<(usize, usize)>, pair: (usize, usize)) -> (usize, usize)
@@ -120,16 +120,11 @@ fn is_bounded(flash: &Flash, bound: u16, need: u32) -> bool
 }
 
 // The verdict where all edges land, by what nodes ask of their instances.
-pub(crate) fn weigh(
-    flash: &Flash,
-    assumptions: &Assumptions,
-    certificate: &Certificate,
-    demands: &[Demand],
-) -> Verdict
+pub(crate) fn weigh(task: &Task<'_>, certificate: &Certificate, demands: &[Demand]) -> Verdict
     requires claim { IsClaim certificate.now }
     requires inside { AreInside certificate.now.instances demands.now }
     requires root { Contains (inst_keys certificate.now.instances) root_inst }
-    ensures { IsWeighed flash.now certificate.now assumptions.now demands.now result }
+    ensures { IsWeighed task.now.flash.now certificate.now task.now.assumptions.now demands.now result }
 {
     let instances = certificate.instances();
     if let Some((j, l)) = low_rank(instances, demands) {
@@ -140,10 +135,10 @@ pub(crate) fn weigh(
     }
     let need = need_at(instances, number_of(instances, &InstKey::root()));
     let bound = certificate.bound();
-    if !is_bounded(flash, bound, need) {
+    if !is_bounded(task.flash, bound, need) {
         return Verdict::Rejected(Reason::Bound(need));
     }
-    if !certificate.assumptions().same(assumptions) {
+    if !certificate.assumptions().same(task.assumptions) {
         return Verdict::Rejected(Reason::Assumptions);
     }
     Verdict::Accepted(bound)

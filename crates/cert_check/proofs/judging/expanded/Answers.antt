@@ -11,22 +11,22 @@ use Rattle.cert_check.proofs.judging.expanded.Goals as goal
 pub expand-requires-clause-seeds : goal.expand-requires-clause-seeds
 expand-requires-clause-seeds c =
     let claim = c.args.certificate.now in
-    let same : has_pairs claim.assumptions ≡ has_pairs c.args.assumptions.now =
+    let same : has_pairs claim.assumptions ≡ has_pairs c.args.task.now.assumptions.now =
     ap has_pairs (sym c.assumptions.ensures) ∙ sym c.has_pairs.ensures ∙ same_mode c.has_pairs.result c.has_pairs-followed.result c.if-has_pairs-followed.true ∙ c.has_pairs-followed.ensures in
     subst (λ b. AreSeeds b claim.nodes) same (claims_are_seeds claim c.requires)
 
 pub returns-then-has_pairs-followed : goal.returns-then-has_pairs-followed
 returns-then-has_pairs-followed c =
     let claim = c.args.certificate.now in
-    let same : has_pairs claim.assumptions ≡ has_pairs c.args.assumptions.now =
+    let same : has_pairs claim.assumptions ≡ has_pairs c.args.task.now.assumptions.now =
     ap has_pairs (sym c.assumptions.ensures) ∙ sym c.has_pairs.ensures ∙ same_mode c.has_pairs.result c.has_pairs-followed.result c.if-has_pairs-followed.true ∙ c.has_pairs-followed.ensures in
-    subst (λ own. IfOk c.expand.result (IsExpanded c.args.flash.now c.args.assumptions.now own))
+    subst (λ own. IfOk c.expand.result (IsExpanded c.args.task.now.flash.now c.args.task.now.assumptions.now own))
     (sym (ap (λ b. read_seeds b claim.nodes) (sym same) ∙ own_is_read claim c.requires)) c.expand.ensures
 
 pub expand-requires-2-clause-seeds : goal.expand-requires-2-clause-seeds
 expand-requires-2-clause-seeds c =
     let claim = c.args.certificate.now in
-    let A = c.args.assumptions.now in
+    let A = c.args.task.now.assumptions.now in
     let read : c.in_ok-reading.reading.nodes.items ≡ read_seeds (has_pairs A) claim.nodes =
     c.in_ok-reading.ensures ∙ ap (λ b. read_seeds b claim.nodes) c.has_pairs-followed.ensures in
     subst (AreSeeds (has_pairs A)) (sym read) (seeds_read claim c.requires (has_pairs A))
@@ -34,7 +34,7 @@ expand-requires-2-clause-seeds c =
 pub expand-requires-2-clause-ascending : goal.expand-requires-2-clause-ascending
 expand-requires-2-clause-ascending c =
     let claim = c.args.certificate.now in
-    let A = c.args.assumptions.now in
+    let A = c.args.task.now.assumptions.now in
     let read : c.in_ok-reading.reading.nodes.items ≡ read_seeds (has_pairs A) claim.nodes =
     c.in_ok-reading.ensures ∙ ap (λ b. read_seeds b claim.nodes) c.has_pairs-followed.ensures in
     subst AreAscending (sym read) (ascending_read claim c.requires (has_pairs A))
@@ -42,7 +42,7 @@ expand-requires-2-clause-ascending c =
 pub returns : goal.returns
 returns c =
     let claim = c.args.certificate.now in
-    let A = c.args.assumptions.now in
+    let A = c.args.task.now.assumptions.now in
     let read : c.in_ok-reading.reading.nodes.items ≡ read_seeds (has_pairs A) claim.nodes =
     c.in_ok-reading.ensures ∙ ap (λ b. read_seeds b claim.nodes) c.has_pairs-followed.ensures in
-    subst (λ own. IfOk c.expand-2.result (IsExpanded c.args.flash.now A own)) read c.expand-2.ensures
+    subst (λ own. IfOk c.expand-2.result (IsExpanded c.args.task.now.flash.now A own)) read c.expand-2.ensures

@@ -6,9 +6,9 @@ use Rattle.cert_check.proofs.judging.has_reset.Goals as goal
 
 pub lands-requires-clause-node : goal.lands-requires-clause-node
 lands-requires-clause-node c =
-    reset_is_node c.args.assumptions.now c.root.result c.entry-key.result c.in_ok-state.state c.root.ensures c.entry-key.ensures c.in_ok-state.ensures
+    reset_is_node c.args.task.now.assumptions.now c.root.result c.entry-key.result c.in_ok-state.state c.root.ensures c.entry-key.ensures c.in_ok-state.ensures
 
 pub returns : goal.returns
 returns c =
     subst₂ (λ followed n. IsTrue c.lands.result ↔ Lands followed c.args.certificate.now.nodes c.args.nodes.now n) c.has_pairs.ensures
-    (reset_is c.args.assumptions.now c.root.result c.entry-key.result c.in_ok-state.state c.root.ensures c.entry-key.ensures c.in_ok-state.ensures) c.lands.ensures
+    (reset_is c.args.task.now.assumptions.now c.root.result c.entry-key.result c.in_ok-state.state c.root.ensures c.entry-key.ensures c.in_ok-state.ensures) c.lands.ensures

@@ -1,22 +1,20 @@
-use Rattle.std.proofs.Common.{subst, arith}
-use Rattle.call_graph.specs.Exits.{GivesExits, IsFirstFault}
-use Rattle.cert_check.proofs.Verdicts.{beside, node_fits, first_fault}
+use Rattle.std.proofs.Common.{subst}
+use Rattle.cert_check.specs.Demands.{Settles}
+use Rattle.cert_check.proofs.One.{family_is, refused}
 use Rattle.cert_check.proofs.judging.judge_nodes.Goals as goal
 
-pub has_reset-requires : goal.has_reset-requires
-has_reset-requires c = beside c.args.flash.now c.args.assumptions.now c.args.certificate.now c.args.nodes.now c.requires.claim c.requires.filled
+pub returns-in-Ok-Met : goal.returns-in-Ok-Met
+returns-in-Ok-Met c =
+    let words = c.args.task.now.flash.now in
+    let A = c.args.task.now.assumptions.now in
+    let claim = c.args.certificate.now in
+    family_is words A claim (record { nodes = c.args.nodes; landings = c.in-Ok-Met.landings }) c.requires.claim c.requires.filled
+    (subst (Settles words A claim c.args.nodes) c.in-Ok-Met.field-0-is c.in-Ok-Met.ensures)
 
-pub overflow_cast-result : goal.overflow_cast-result
-overflow_cast-result c =
-    let fault : IsFirstFault c.args.flash.now c.args.assumptions.now c.args.nodes.now c.in-Fault.at c.in-Fault.fault =
-    subst (GivesExits c.args.flash.now c.args.assumptions.now c.args.nodes.now) c.in-Fault.is c.in_ok-at.ensures in
-    let fits = node_fits c.args.flash.now c.args.assumptions.now c.args.certificate.now c.args.nodes.now c.requires.claim c.requires.filled c.in-Fault.at fault.node fault.present in
-    omega (arith, fits)
-
-pub returns-in-Fault : goal.returns-in-Fault
-returns-in-Fault c =
-    let fault : IsFirstFault c.args.flash.now c.args.assumptions.now c.args.nodes.now c.in-Fault.at c.in-Fault.fault =
-    subst (GivesExits c.args.flash.now c.args.assumptions.now c.args.nodes.now) c.in-Fault.is c.in_ok-at.ensures in (
-      c.in_ok-has_reset.ensures.0 c.if-not-branch.false,
-      first_fault c.args.flash.now c.args.assumptions.now c.args.nodes.now c.in-Fault.at c.cause.result c.in-Fault.fault fault c.cause.ensures,
-    )
+pub returns-in-Ok-Refused : goal.returns-in-Ok-Refused
+returns-in-Ok-Refused c =
+    let words = c.args.task.now.flash.now in
+    let A = c.args.task.now.assumptions.now in
+    let claim = c.args.certificate.now in
+    refused words A claim c.args.nodes c.in-Ok-Refused.reason c.requires.filled
+    (subst (Settles words A claim c.args.nodes) c.in-Ok-Refused.field-0-is c.in-Ok-Refused.ensures)

@@ -1,0 +1,72 @@
+use Rattle.std.proofs.Common.{subst, sym, arith}
+use Rattle.certificate.specs.Valid.{reset_node}
+use Rattle.cert_check.specs.Verdict.{IsFirstGap}
+use Rattle.cert_check.specs.Demands.{AreInside, IsFound, IsWeighed, Decides}
+use Rattle.cert_check.proofs.Demands.{landed_belongs, all_inside}
+use Rattle.cert_check.proofs.Asking.{decided}
+use Rattle.cert_check.proofs.One.{are_instances}
+use Rattle.cert_check.proofs.Verdicts.{few_nodes, beside, nodes_belong, node_fits}
+use Rattle.cert_check.proofs.judging.settle_edges.Goals as goal
+
+pub gather-requires-clause-few : goal.gather-requires-clause-few
+gather-requires-clause-few c = few_nodes c.args.task.now.flash.now c.args.task.now.assumptions.now c.args.certificate.now c.args.nodes.now c.requires.claim c.requires.filled
+
+pub gather-requires-clause-instances : goal.gather-requires-clause-instances
+gather-requires-clause-instances c = are_instances c.args.certificate.now c.requires.claim
+
+pub gather-requires-clause-belong : goal.gather-requires-clause-belong
+gather-requires-clause-belong c = nodes_belong c.args.task.now.flash.now c.args.task.now.assumptions.now c.args.certificate.now c.args.nodes.now c.requires.claim c.requires.filled
+
+pub gather-requires-clause-beside : goal.gather-requires-clause-beside
+gather-requires-clause-beside c = beside c.args.task.now.flash.now c.args.task.now.assumptions.now c.args.certificate.now c.args.nodes.now c.requires.claim c.requires.filled
+
+pub overflow_cast-result : goal.overflow_cast-result
+overflow_cast-result c =
+    let words = c.args.task.now.flash.now in
+    let A = c.args.task.now.assumptions.now in
+    let claim = c.args.certificate.now in
+    let gap : IsFirstGap words A claim.nodes c.args.nodes.now c.in-Gap.at c.in-Gap.to =
+    subst (IsFound words A claim.nodes claim.instances c.args.nodes.now) c.in-Gap.is c.in_ok-at.ensures in
+    let fits = node_fits words A claim c.args.nodes.now c.requires.claim c.requires.filled c.in-Gap.at gap.node gap.is in
+    omega (arith, fits)
+
+pub weigh-requires-clause-inside : goal.weigh-requires-clause-inside
+weigh-requires-clause-inside c =
+    let words = c.args.task.now.flash.now in
+    let A = c.args.task.now.assumptions.now in
+    let claim = c.args.certificate.now in
+    let nodes = c.args.nodes.now in
+    let belong = nodes_belong words A claim nodes c.requires.claim c.requires.filled in
+    let found = subst (IsFound words A claim.nodes claim.instances nodes) c.in-All.is c.in_ok-at.ensures in
+    subst (AreInside claim.instances) (sym c.deref.ensures.value)
+    (all_inside words A claim.instances nodes (are_instances claim c.requires.claim) belong (λ n e h i. (found.0 n e h i).0) c.in-All.field-0.demands.items found.1)
+
+pub weigh-requires-clause-root : goal.weigh-requires-clause-root
+weigh-requires-clause-root c =
+    landed_belongs c.args.certificate.now.instances c.args.nodes.now (reset_node c.args.task.now.assumptions.now)
+    (nodes_belong c.args.task.now.flash.now c.args.task.now.assumptions.now c.args.certificate.now c.args.nodes.now c.requires.claim c.requires.filled) c.requires.reset.0
+
+pub returns-in-Accepted : goal.returns-in-Accepted
+returns-in-Accepted c =
+    let words = c.args.task.now.flash.now in
+    let A = c.args.task.now.assumptions.now in
+    let claim = c.args.certificate.now in
+    let nodes = c.args.nodes.now in
+    let belong = nodes_belong words A claim nodes c.requires.claim c.requires.filled in
+    let found = subst (IsFound words A claim.nodes claim.instances nodes) c.in-All.is c.in_ok-at.ensures in
+    let all = decided words A claim nodes (are_instances claim c.requires.claim) belong found.0 c.in-All.field-0.demands.items found.1 c.requires.reset c.requires.taken.faultless
+    c.weigh.result (subst (λ ds. IsWeighed words claim A ds c.weigh.result) c.deref.ensures.value c.weigh.ensures) in
+    let met = subst (Decides words A claim nodes) c.in-Accepted.is all in
+    (met.0, found.2)
+
+pub returns : goal.returns
+returns c =
+    let words = c.args.task.now.flash.now in
+    let A = c.args.task.now.assumptions.now in
+    let claim = c.args.certificate.now in
+    let nodes = c.args.nodes.now in
+    let belong = nodes_belong words A claim nodes c.requires.claim c.requires.filled in
+    let found = subst (IsFound words A claim.nodes claim.instances nodes) c.in-All.is c.in_ok-at.ensures in
+    let all = decided words A claim nodes (are_instances claim c.requires.claim) belong found.0 c.in-All.field-0.demands.items found.1 c.requires.reset c.requires.taken.faultless
+    c.weigh.result (subst (λ ds. IsWeighed words claim A ds c.weigh.result) c.deref.ensures.value c.weigh.ensures) in
+    subst (Decides words A claim nodes) c.in-Rejected.is all
