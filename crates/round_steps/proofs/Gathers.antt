@@ -1,5 +1,5 @@
 -- Targets as they are gathered.
-use Rattle.std.proofs.Common.{◌≡◌, refl, sym, ap, ◌∙◌, subst, ◌⊎◌, inl, inr, ⊎_elim, List, [], ◌∷◌, ◌++◌, Bool, Some, append_assoc}
+use Rattle.std.proofs.Common.{◌≡◌, refl, sym, ap, ◌∙◌, subst, inl, inr, ⊎_elim, List, [], ◌∷◌, ◌++◌, Bool, Some, Result, Ok, Err, IfOk, OnOk, append_assoc}
 use Rattle.std.proofs.lemmas.List.{append-nil}
 use Rattle.std.proofs.lemmas.List.Elements.{Contains-append_left, Contains-push, Contains-push_cases}
 use Rattle.std.specs.FinMap.{get, empty, get-empty}
@@ -20,6 +20,14 @@ use Rattle.round_rules.specs.Families.{Family, nodes_of, Has, Lands, AreFormed}
 use Rattle.round_laws.specs.Steps.{joined_with, raised, AreJoined}
 use Rattle.round_laws.proofs.AllLaws.{families_are_their_nodes, rounds_are_joins, lands_up, lands_covered, at_keys, get_other}
 use Rattle.round_steps.specs.Gathers.{AreOwn, AreOwnNodes, IsGathered, AreGathered, AreBeyond}
+
+pub on_ok : {V E P Q : Type 0} (r : Result V E) → OnOk r P → (P → Q) → OnOk r Q
+on_ok (Ok v) p f = f p
+on_ok (Err e) p f = p
+
+pub if_ok : {V E : Type 0} {P Q : V → Type 0} (r : Result V E) → IfOk r P → ((v : V) → P v → Q v) → IfOk r Q
+if_ok (Ok v) p f = f v p
+if_ok (Err e) p f = p
 
 -- a node's own state says whether it follows pairs
 pub own_node : {followed : Bool} (k : NodeKey) (s : AbsState) → IsNodeIn followed k s → IsOwnNode k s

@@ -64,6 +64,11 @@ abbrev pub onwards_if : Family → Groups → InstKey → AbsState → Option Ex
 onwards_if f callers inst leaving None = []
 onwards_if f callers inst leaving (Some x) = onwards_by f inst leaving x (crossings_at callers inst)
 
+-- those of one node that are not to nodes of its own instance alone
+abbrev pub crossings_of : Family → Notes → Look → AbsState → List Node
+crossings_of f notes x s =
+    map (entry_node s) x.ways.items ++ (all_backs f notes.leavers x.key s x.ways.items ++ onwards_if f notes.callers x.key.inst s x.part.exit)
+
 -- all of one node
 abbrev pub targets_with : Family → Notes → Look → Option AbsState → List Node
 targets_with f notes x None = []

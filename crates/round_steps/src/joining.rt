@@ -1,6 +1,6 @@
 //! Nodes joined into a family.
 
-ghost use Rattle.std.specs.Prelude.{ℕ, Bool, ◌≡◌, ◌+◌, ◌≤◌, length, IfOk, OnOk};
+ghost use Rattle.std.specs.Prelude.{ℕ, Bool, ◌≡◌, ◌+◌, ◌≤◌, ◌++◌, ◌∷◌, [], length, IfOk, OnOk};
 ghost use Rattle.local_laws.specs.Laws.{AreNodesIn};
 ghost use Rattle.edge_rules.specs.Views.{IsOwnNode};
 ghost use Rattle.round_rules.specs.Families.{AreFormed, cells};
@@ -22,18 +22,21 @@ fn with_node(counted: u64, offset: u16) -> Result<u64, AllocError>
     }
 }
 
-// Joins one node into the table, whose cells are counted.
+// Joins one node into the table, whose cells are counted, and notes its key.
 fn join_one(
     alloc: Global,
     table: &mut Table,
     counted: &mut u64,
+    changed: &mut Vec<NodeKey>,
     node: Node,
 ) -> Result<(), AllocError>
     requires count { counted.old ≡ cells table.old }
     requires node { IsOwnNode node.key node.state }
     ensures joined { OnOk result (table.new ≡ raised table.old node) }
     ensures count { OnOk result (counted.new ≡ cells table.new) }
+    ensures key { OnOk result (changed.new.items ≡ changed.old.items ++ node.key ∷ []) }
 {
+    changed.push(node.key)?;
     let offset = node.key.offset();
     let before = table.len();
     table.raise(alloc, node)?;
@@ -64,9 +67,7 @@ pub fn join_all(
 {
     let mut changed = Vec::new(alloc);
     for node in nodes {
-        let key = node.key;
-        join_one(alloc, table, counted, node)?;
-        changed.push(key)?;
+        join_one(alloc, table, counted, &mut changed, node)?;
     }
     Ok(changed)
 }

@@ -13,13 +13,12 @@ ghost use Rattle.round_steps.specs.Looks.{IsWorst, IsSeenBesides, AreSeen};
 use crate::faults::lesser;
 use abs_state::AbsState;
 use abs_step::local;
+use call_graph::Task;
 use call_graph::ways::{Way, ways};
 use family_table::Table;
-use flash_image::Flash;
 use local_rules::{Local, NodeFault};
 use mask_states::NodeKey;
-use std::alloc::{AllocError, Global};
-use vector_table::Assumptions;
+use std::alloc::AllocError;
 
 /// Where a node leads.
 #[derive(Drop)]
@@ -42,27 +41,24 @@ pub struct Seen {
 }
 
 // Where a node leads, or its fault.
-fn found_at(
-    alloc: Global,
-    flash: &Flash,
-    assumptions: &Assumptions,
-    key: &NodeKey,
-    state: &AbsState,
-) -> Result<Look, NodeFault>
-    requires { IsNodeIn (has_pairs assumptions.now) key.now state.now }
+fn found_at(task: &Task<'_>, key: &NodeKey, state: &AbsState) -> Result<Look, NodeFault>
+    requires { IsNodeIn (has_pairs task.now.assumptions.now) key.now state.now }
     ensures key { IfOk result (λ x. x.key ≡ key.now) }
-    ensures part { IfOk result (λ x. rows.local flash.now assumptions.now key.now state.now ≡ Ok x.part) }
-    ensures ways { IfOk result (λ x. x.ways.items ≡ ways_of flash.now assumptions.now key.now x.part.calls) }
-    ensures fault { IfErr result (λ e. e ≢ Memory → rows.local flash.now assumptions.now key.now state.now ≡ Err e) }
+    ensures part { IfOk result (λ x. rows.local task.now.flash.now task.now.assumptions.now key.now state.now ≡ Ok x.part) }
+    ensures ways { IfOk result (λ x. x.ways.items ≡ ways_of task.now.flash.now task.now.assumptions.now key.now x.part.calls) }
+    ensures fault { IfErr result (λ e. e ≢ Memory → rows.local task.now.flash.now task.now.assumptions.now key.now state.now ≡ Err e) }
 {
-    let part = local(alloc, flash, assumptions, key, state)?;
-    match ways(alloc, flash, assumptions, key, part.calls.as_slice()) {
+    let part = local(task.alloc, task.flash, task.assumptions, key, state)?;
+    match ways(task, key, part.calls.as_slice()) {
         Ok(ways) => Ok(Look {
             key: *key,
             part,
             ways,
         }),
-        Err(_) => Err(NodeFault::Memory),
+        Err(_) => {
+            drop(part);
+            Err(NodeFault::Memory)
+        }
     }
 }
 
@@ -94,42 +90,28 @@ fn see(seen: &mut Seen, found: Result<Look, NodeFault>) -> Result<(), AllocError
 }
 
 // One node more is looked at, if it is there.
-fn look_at(
-    seen: &mut Seen,
-    alloc: Global,
-    flash: &Flash,
-    assumptions: &Assumptions,
-    table: &Table,
-    key: &NodeKey,
-) -> Result<(), AllocError>
-    requires { AreFormed (has_pairs assumptions.now) table.now }
-    ensures { (keys : List key_type.NodeKey) → AreSeen flash.now assumptions.now table.now keys seen.old → OnOk result (AreSeen flash.now assumptions.now table.now (keys ++ key.now ∷ []) seen.new) }
+fn look_at(seen: &mut Seen, task: &Task<'_>, table: &Table, key: &NodeKey) -> Result<(), AllocError>
+    requires { AreFormed (has_pairs task.now.assumptions.now) table.now }
+    ensures { (keys : List key_type.NodeKey) → AreSeen task.now.flash.now task.now.assumptions.now table.now keys seen.old → OnOk result (AreSeen task.now.flash.now task.now.assumptions.now table.now (keys ++ key.now ∷ []) seen.new) }
 {
     let Some(state) = table.get(key) else {
         return Ok(());
     };
-    let found = found_at(alloc, flash, assumptions, key, state);
-    see(seen, found)?;
-    Ok(())
+    let found = found_at(task, key, state);
+    see(seen, found)
 }
 
 /// Where these nodes of a family lead, or the fault that counts of theirs.
-pub fn look_all(
-    alloc: Global,
-    flash: &Flash,
-    assumptions: &Assumptions,
-    table: &Table,
-    keys: &[NodeKey],
-) -> Result<Seen, AllocError>
-    requires { AreFormed (has_pairs assumptions.now) table.now }
-    ensures { IfOk result (λ seen. AreSeen flash.now assumptions.now table.now keys.now seen) }
+pub fn look_all(task: &Task<'_>, table: &Table, keys: &[NodeKey]) -> Result<Seen, AllocError>
+    requires { AreFormed (has_pairs task.now.assumptions.now) table.now }
+    ensures { IfOk result (λ seen. AreSeen task.now.flash.now task.now.assumptions.now table.now keys.now seen) }
 {
     let mut seen = Seen {
-        looks: Vec::new(alloc),
+        looks: Vec::new(task.alloc),
         worst: None,
     };
     for at in 0..keys.len() {
-        look_at(&mut seen, alloc, flash, assumptions, table, &keys[at])?;
+        look_at(&mut seen, task, table, &keys[at])?;
     }
     Ok(seen)
 }

@@ -6,7 +6,7 @@ ghost use Rattle.abs_state.specs.Formed.{NamesRegister};
 ghost use Rattle.local_rules.specs.declared.local.Node as node_type;
 ghost use Rattle.local_laws.specs.Laws.{AreNodesIn};
 ghost use Rattle.edge_rules.specs.Views.{IsOwnNode};
-ghost use Rattle.round_steps.specs.Targets.{entry_node, returned_to, back_at, backs_in, all_backs, onward_at, onwards_if, targets_of, all_targets};
+ghost use Rattle.round_steps.specs.Targets.{entry_node, returned_to, back_at, backs_in, all_backs, onward_at, onwards_if, crossings_of, targets_of, all_targets};
 ghost use Rattle.round_steps.specs.Gathers.{AreOwn, AreOwnNodes, IsGathered, AreGathered, AreBeyond};
 
 use crate::looking::Look;
@@ -18,6 +18,22 @@ use family_table::{Crossing, Crossings, Gathered, Table};
 use local_rules::{Exit, Node};
 use mask_states::{InstKey, NodeKey};
 use std::alloc::{AllocError, Global};
+
+// A family of nodes, and what is noted of them.
+#[derive(Clone, Copy)]
+struct Family<'a> {
+    alloc: Global,
+    table: &'a Table,
+    notes: &'a Notes,
+}
+
+// A node that leaves its instance.
+#[derive(Clone, Copy)]
+struct Leaver<'a> {
+    inst: &'a InstKey,
+    state: &'a AbsState,
+    exit: Exit,
+}
 
 // Into other instances.
 fn add_entries(
@@ -60,55 +76,49 @@ fn add_return(
 
 fn add_back(
     targets: &mut Vec<Node>,
-    alloc: Global,
-    table: &Table,
+    family: &Family<'_>,
     caller: &Caller<'_>,
     leaver: &Crossing,
 ) -> Result<(), AllocError>
-    requires { AreOwn table.now }
-    ensures { OnOk result (targets.new.items ≡ targets.old.items ++ back_at table.now caller.now.key.now caller.now.state.now caller.now.way leaver.now) }
+    requires { AreOwn family.now.table.now }
+    ensures { OnOk result (targets.new.items ≡ targets.old.items ++ back_at family.now.table.now caller.now.key.now caller.now.state.now caller.now.way leaver.now) }
 {
-    let Some(leaving) = table.get(&leaver.node) else {
+    let Some(leaving) = family.table.get(&leaver.node) else {
         return Ok(());
     };
-    add_return(targets, alloc, caller, &leaver.exit, leaving)
+    add_return(targets, family.alloc, caller, &leaver.exit, leaving)
 }
 
 fn add_backs(
     targets: &mut Vec<Node>,
-    alloc: Global,
-    table: &Table,
-    leavers: &Crossings,
+    family: &Family<'_>,
     caller: &Caller<'_>,
 ) -> Result<(), AllocError>
-    requires { AreOwn table.now }
-    ensures { OnOk result (targets.new.items ≡ targets.old.items ++ backs_in table.now leavers.now caller.now.key.now caller.now.state.now caller.now.way) }
+    requires { AreOwn family.now.table.now }
+    ensures { OnOk result (targets.new.items ≡ targets.old.items ++ backs_in family.now.table.now family.now.notes.now.leavers caller.now.key.now caller.now.state.now caller.now.way) }
 {
-    let Some(list) = leavers.at(&caller.way.inst) else {
+    let Some(list) = family.notes.leavers.at(&caller.way.inst) else {
         return Ok(());
     };
     for at in 0..list.len() {
-        add_back(targets, alloc, table, caller, &list[at])?;
+        add_back(targets, family, caller, &list[at])?;
     }
     Ok(())
 }
 
 fn add_all_backs(
     targets: &mut Vec<Node>,
-    alloc: Global,
-    table: &Table,
-    leavers: &Crossings,
+    family: &Family<'_>,
     key: &NodeKey,
     state: &AbsState,
     ways: &[Way],
 ) -> Result<(), AllocError>
-    requires { AreOwn table.now }
-    ensures { OnOk result (targets.new.items ≡ targets.old.items ++ all_backs table.now leavers.now key.now state.now ways.now) }
+    requires { AreOwn family.now.table.now }
+    ensures { OnOk result (targets.new.items ≡ targets.old.items ++ all_backs family.now.table.now family.now.notes.now.leavers key.now state.now ways.now) }
 {
     for at in 0..ways.len() {
         let way = ways[at];
-        let caller = Caller { key, state, way };
-        add_backs(targets, alloc, table, leavers, &caller)?;
+        add_backs(targets, family, &Caller { key, state, way })?;
     }
     Ok(())
 }
@@ -117,87 +127,83 @@ fn add_all_backs(
 
 fn add_onward(
     targets: &mut Vec<Node>,
-    alloc: Global,
-    table: &Table,
-    inst: &InstKey,
-    leaving: &AbsState,
-    exit: &Exit,
+    family: &Family<'_>,
+    leaver: &Leaver<'_>,
     entering: &Crossing,
 ) -> Result<(), AllocError>
-    requires { (r : ℕ) → r < 32 → NamesRegister (value_at leaving.now.registers r).tag }
-    ensures { OnOk result (targets.new.items ≡ targets.old.items ++ onward_at table.now inst.now leaving.now exit.now entering.now) }
+    requires { (r : ℕ) → r < 32 → NamesRegister (value_at leaver.now.state.now.registers r).tag }
+    ensures { OnOk result (targets.new.items ≡ targets.old.items ++ onward_at family.now.table.now leaver.now.inst.now leaver.now.state.now leaver.now.exit entering.now) }
 {
     let key = &entering.node;
-    let Some(state) = table.get(key) else {
+    let Some(state) = family.table.get(key) else {
         return Ok(());
     };
     let way = Way {
         kind: entering.kind,
-        inst: *inst,
+        inst: *leaver.inst,
         back: entering.back,
     };
-    add_return(targets, alloc, &Caller { key, state, way }, exit, leaving)
+    let caller = Caller { key, state, way };
+    add_return(targets, family.alloc, &caller, &leaver.exit, leaver.state)
 }
 
 fn add_onwards(
     targets: &mut Vec<Node>,
-    alloc: Global,
-    table: &Table,
-    callers: &Crossings,
+    family: &Family<'_>,
     inst: &InstKey,
-    leaving: &AbsState,
+    state: &AbsState,
     exit: Option<Exit>,
 ) -> Result<(), AllocError>
-    requires { (r : ℕ) → r < 32 → NamesRegister (value_at leaving.now.registers r).tag }
-    ensures { OnOk result (targets.new.items ≡ targets.old.items ++ onwards_if table.now callers.now inst.now leaving.now exit) }
+    requires { (r : ℕ) → r < 32 → NamesRegister (value_at state.now.registers r).tag }
+    ensures { OnOk result (targets.new.items ≡ targets.old.items ++ onwards_if family.now.table.now family.now.notes.now.callers inst.now state.now exit) }
 {
     let Some(exit) = exit else {
         return Ok(());
     };
-    let Some(list) = callers.at(inst) else {
+    let Some(list) = family.notes.callers.at(inst) else {
         return Ok(());
     };
+    let leaver = Leaver { inst, state, exit };
     for at in 0..list.len() {
-        add_onward(targets, alloc, table, inst, leaving, &exit, &list[at])?;
+        add_onward(targets, family, &leaver, &list[at])?;
     }
     Ok(())
 }
 
 // ---- of nodes
 
-fn add_targets(
+// Into other instances, back from these, and on from its own.
+fn add_crossings(
     targets: &mut Vec<Node>,
-    alloc: Global,
-    table: &Table,
-    notes: &Notes,
-    x: Look,
+    family: &Family<'_>,
+    x: &Look,
+    state: &AbsState,
 ) -> Result<(), AllocError>
-    requires { AreOwn table.now }
-    ensures { OnOk result (targets.new.items ≡ targets.old.items ++ targets_of table.now notes.now x) }
+    requires own { AreOwn family.now.table.now }
+    requires named { (r : ℕ) → r < 32 → NamesRegister (value_at state.now.registers r).tag }
+    ensures { OnOk result (targets.new.items ≡ targets.old.items ++ crossings_of family.now.table.now family.now.notes.now x.now state.now) }
 {
-    let Some(state) = table.get(&x.key) else {
+    add_entries(targets, family.alloc, state, &x.ways)?;
+    add_all_backs(targets, family, &x.key, state, &x.ways)?;
+    add_onwards(targets, family, &x.key.inst, state, x.part.exit)
+}
+
+// `drop` lets go of the look: a call is one step of the proof, whatever it owns.
+fn add_targets(targets: &mut Vec<Node>, family: &Family<'_>, x: Look) -> Result<(), AllocError>
+    requires { AreOwn family.now.table.now }
+    ensures { OnOk result (targets.new.items ≡ targets.old.items ++ targets_of family.now.table.now family.now.notes.now x) }
+{
+    let Some(state) = family.table.get(&x.key) else {
+        drop(x);
         return Ok(());
     };
-    add_entries(targets, alloc, state, &x.ways)?;
-    add_all_backs(
-        targets,
-        alloc,
-        table,
-        &notes.leavers,
-        &x.key,
-        state,
-        &x.ways,
-    )?;
-    add_onwards(
-        targets,
-        alloc,
-        table,
-        &notes.callers,
-        &x.key.inst,
-        state,
-        x.part.exit,
-    )?;
-    targets.append(&mut x.part.same.into_vec())
+    match add_crossings(targets, family, &x, state) {
+        Ok(()) => targets.append(&mut x.part.same.into_vec()),
+        Err(error) => {
+            drop(x);
+            Err(error)
+        }
+    }
 }
 
 // Joins a node into those of its key that are gathered, unless it lands in the family.
@@ -206,10 +212,10 @@ fn gather_one(next: &mut Gathered, table: &Table, node: Node) -> Result<(), Allo
     ensures { OnOk result (IsGathered table.now next.old node next.new) }
 {
     if table.covers(&node) {
+        drop(node);
         return Ok(());
     }
-    next.raise(node)?;
-    Ok(())
+    next.raise(node)
 }
 
 fn gather(next: &mut Gathered, table: &Table, nodes: Vec<Node>) -> Result<(), AllocError>
@@ -220,6 +226,22 @@ fn gather(next: &mut Gathered, table: &Table, nodes: Vec<Node>) -> Result<(), Al
         gather_one(next, table, node)?;
     }
     Ok(())
+}
+
+// The same of where one node leads.
+fn gather_targets(next: &mut Gathered, family: &Family<'_>, x: Look) -> Result<(), AllocError>
+    requires formed { AreOwn family.now.table.now }
+    requires nodes { AreOwnNodes (targets_of family.now.table.now family.now.notes.now x) }
+    ensures { (followed : Bool) (before : List node_type.Node) → AreNodesIn followed (targets_of family.now.table.now family.now.notes.now x) → AreGathered followed family.now.table.now before next.old → OnOk result (AreGathered followed family.now.table.now (before ++ targets_of family.now.table.now family.now.notes.now x) next.new) }
+{
+    let mut nodes = Vec::new(family.alloc);
+    match add_targets(&mut nodes, family, x) {
+        Ok(()) => gather(next, family.table, nodes),
+        Err(error) => {
+            drop(nodes);
+            Err(error)
+        }
+    }
 }
 
 /// What the edges lead to that these nodes have: their own, those back to them over nodes that are noted as leaving what they enter,
@@ -235,12 +257,14 @@ pub fn targets(
     requires nodes { AreOwnNodes (all_targets table.now notes.now looks.items) }
     ensures { (followed : Bool) → AreNodesIn followed (all_targets table.now notes.now looks.items) → IfOk result (λ all. AreBeyond followed table.now (all_targets table.now notes.now looks.items) all.items) }
 {
+    let family = Family {
+        alloc,
+        table,
+        notes,
+    };
     let mut next = Gathered::new(alloc);
     for x in looks {
-        let mut nodes = Vec::new(alloc);
-        add_targets(&mut nodes, alloc, table, notes, x)?;
-        gather(&mut next, table, nodes)?;
+        gather_targets(&mut next, &family, x)?;
     }
-    let all = next.into_sorted(alloc)?;
-    Ok(all)
+    next.into_sorted(alloc)
 }

@@ -31,8 +31,8 @@ loop-node-preserved c =
     let left = into_iter_items c.next.new.self in
     one_more c.args.table.now all c.loop-node.table c.in-Some.node left c.loop-node.changed.items c.loop-node.counted
     (subst (λ (l : List Node). SoFar c.args.table.now all c.loop-node.table c.loop-node.counted l c.loop-node.changed.items) c.in-Some.ensures.steps.0 c.loop-node.invariant)
-    c.join_one.new.table c.push.new.self.items c.join_one.new.counted
-    c.in_ok-join_one.ensures.joined c.in_ok-join_one.ensures.count c.in_ok-push.ensures.items
+    c.join_one.new.table c.join_one.new.changed.items c.join_one.new.counted
+    c.in_ok-join_one.ensures.joined c.in_ok-join_one.ensures.count c.in_ok-join_one.ensures.key
 
 pub returns-clause-formed : goal.returns-clause-formed
 returns-clause-formed c = λ followed formed nodes.

@@ -1,4 +1,4 @@
-use Rattle.std.proofs.Common.{List, ◌++◌, [], sym, subst, ap, ◌∙◌}
+use Rattle.std.proofs.Common.{List, [], sym, subst, ◌∙◌}
 use Rattle.std.specs.Vec.Iter.{into_iter_items}
 use Rattle.std.proofs.lemmas.List.{map-id}
 use Rattle.std.proofs.lemmas.Iterator.Adapters.{YieldsList-from_vec}
@@ -9,7 +9,7 @@ use Rattle.local_laws.specs.Laws.{AreNodesIn}
 use Rattle.round_steps.specs.declared.looking.Look.{Look}
 use Rattle.round_steps.specs.Targets.{targets_of, all_targets}
 use Rattle.round_steps.specs.Gathers.{AreOwnNodes, AreGathered, AreBeyond}
-use Rattle.round_steps.proofs.Gathers.{none_gathered, gathered_push, are_beyond}
+use Rattle.round_steps.proofs.Gathers.{if_ok, none_gathered, gathered_push, are_beyond}
 use Rattle.round_steps.proofs.targets.targets.Goals as goal
 
 pub loop-x-init : goal.loop-x-init
@@ -18,14 +18,13 @@ loop-x-init c = (
   subst (λ (xs : List Look). AreOwnNodes (all_targets c.args.table.now c.args.notes.now xs)) (sym c.into_iter-x-iterator.ensures.into_iter_gives.0) c.requires.nodes,
 )
 
-pub gather-requires : goal.gather-requires
-gather-requires c =
+pub gather_targets-requires-clause-nodes : goal.gather_targets-requires-clause-nodes
+gather_targets-requires-clause-nodes c =
     let f = c.args.table.now in
     let notes = c.args.notes.now in
     let left = into_iter_items c.next.new.self in
     let all = subst (λ (xs : List Look). AreOwnNodes (all_targets f notes xs)) c.in-Some.ensures.steps.0 c.loop-x.invariant.1 in
-    subst AreOwnNodes (sym (c.in_ok-add_targets.ensures ∙ ap (λ (ns : List Node). ns ++ targets_of f notes c.in-Some.x) c.new-nodes.ensures.items))
-    (λ n i. all n (Contains-append_left (targets_of f notes c.in-Some.x) (all_targets f notes left) n i))
+    λ n i. all n (Contains-append_left (targets_of f notes c.in-Some.x) (all_targets f notes left) n i)
 
 pub loop-x-preserved : goal.loop-x-preserved
 loop-x-preserved c =
@@ -35,12 +34,11 @@ loop-x-preserved c =
     let done = all_targets f notes c.loop-x.yielded in
     let more = targets_of f notes c.in-Some.x in
     let all = subst (λ (xs : List Look). AreOwnNodes (all_targets f notes xs)) c.in-Some.ensures.steps.0 c.loop-x.invariant.1 in
-    let found = c.in_ok-add_targets.ensures ∙ ap (λ (ns : List Node). ns ++ more) c.new-nodes.ensures.items in
     let grown = gathered_push (targets_of f notes) c.loop-x.yielded c.in-Some.x in (
       λ followed nodes.
           let each = subst (AreNodesIn followed) grown nodes in
-          subst (λ (l : List Node). AreGathered followed f l c.gather.new.next) (ap (λ (ns : List Node). done ++ ns) found ∙ sym grown)
-          (c.in_ok-gather.ensures followed done (subst (AreNodesIn followed) (sym found) (λ n i. each n (Contains-append_right done more n i)))
+          subst (λ (l : List Node). AreGathered followed f l c.gather_targets.new.next) (sym grown)
+          (c.in_ok-gather_targets.ensures followed done (λ n i. each n (Contains-append_right done more n i))
           (c.loop-x.invariant.0 followed (λ n i. each n (Contains-append_left done more n i)))),
       λ n i. all n (Contains-append_right more (all_targets f notes left) n i),
     )
@@ -52,7 +50,8 @@ returns c = λ followed nodes.
     let road = YieldsList-from_vec {s = c.into_iter-x-iterator.result} c.args.looks.items gives.0 (gives.1 ∙ c.args.looks.ok.0) in
     let end = YieldsList-end road c.loop-x.yielded c.loop-x.x-iterator c.loop-x.yielded_by c.next.result c.next.new.self c.in-None.is c.next.ensures.steps in
     let all = sym (map-id c.loop-x.yielded) ∙ end.0 in
-    subst (AreBeyond followed f (all_targets f c.args.notes.now c.args.looks.items)) (sym c.in_ok-all.ensures)
+    if_ok c.into_sorted.result c.into_sorted.ensures
+    (λ found is. subst (AreBeyond followed f (all_targets f c.args.notes.now c.args.looks.items)) (sym is)
     (are_beyond followed f (all_targets f c.args.notes.now c.args.looks.items) c.loop-x.next
     (subst (λ (xs : List Look). AreGathered followed f (all_targets f c.args.notes.now xs) c.loop-x.next) all
-    (c.loop-x.invariant.0 followed (subst (λ (xs : List Look). AreNodesIn followed (all_targets f c.args.notes.now xs)) (sym all) nodes))))
+    (c.loop-x.invariant.0 followed (subst (λ (xs : List Look). AreNodesIn followed (all_targets f c.args.notes.now xs)) (sym all) nodes)))))
