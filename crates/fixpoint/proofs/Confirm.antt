@@ -63,10 +63,9 @@ module _ (words : List ℕ) (A : List Entry) (f : Family) where
         };
       })
 
-  pub more_known : (keys : List NodeKey) (k : NodeKey) (old new : Notes) (seen : Seen) (xs : List Look) → AreKnownAt words A f keys old
-      → AreSeen words A f (k ∷ []) seen → seen.worst ≡ None → xs ≡ seen.looks.items → AreNoted old xs new → AreKnownAt words A f (keys ++ k ∷ []) new
-  more_known keys k old new seen xs known are none same noted =
-      let noting = subst (λ (l : List Look). AreNoted old l new) same noted in
+  pub more_known : (keys : List NodeKey) (k : NodeKey) (old new : Notes) (seen : Seen) → AreKnownAt words A f keys old → AreSeen words A f (k ∷ []) seen
+      → seen.worst ≡ None → AreNoted old seen.looks.items new → AreKnownAt words A f (keys ++ k ∷ []) new
+  more_known keys k old new seen known are none noting =
       let there : (n : Node) → Has f n → k ≡ n.key → HasLook seen.looks.items n.key = λ n has e. look_there (k ∷ []) seen are none n has (this_one k n.key e) in
       record {
         faultless = λ n has i. ⊎_elim (known.faultless n has)

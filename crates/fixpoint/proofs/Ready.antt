@@ -22,13 +22,12 @@ use Rattle.round_steps.specs.declared.looking.Look.{Look}
 use Rattle.round_steps.specs.declared.looking.Seen.{Seen}
 use Rattle.round_steps.specs.declared.noting.Notes.{Notes}
 use Rattle.round_steps.specs.Looks.{AreSeen}
-use Rattle.round_steps.specs.Notings.{AreNoted}
 use Rattle.round_steps.specs.Targets.{all_targets}
 use Rattle.round_steps.specs.Gathers.{AreBeyond}
 use Rattle.fixpoint.specs.Progress.{AreKnown, Turn}
 use Rattle.fixpoint.specs.Tests.{IsTooLarge, nesting_refusal, IsTold, IsStopped, IsReady}
 use Rattle.fixpoint.proofs.Looked.{seen_node, least_fault}
-use Rattle.fixpoint.proofs.Known.{all_known, nesting_is}
+use Rattle.fixpoint.proofs.Known.{nesting_is}
 use Rattle.fixpoint.proofs.Aims.{round_is}
 use Rattle.fixpoint.proofs.Beyond.{round_beyond}
 
@@ -36,6 +35,11 @@ use Rattle.fixpoint.proofs.Beyond.{round_beyond}
 pub handed_on : {X E : Type 0} (r : Result X E) (x : E) (P : E → Type 0) → IsErrAnd r (λ e. e ≡ x) → P x → IfErr r P
 handed_on (Ok y) x P h p = tt
 handed_on (Err e) x P h p = subst P (sym h) p
+
+-- two things that hold where there is no error
+pub both_ok : {V E P Q R : Type 0} (r : Result V E) → OnOk r P → OnOk r Q → (P → Q → R) → OnOk r R
+both_ok (Ok v) p q f = f p q
+both_ok (Err e) p q f = p
 
 -- what was made, handed on with what was told of it
 pub made_if : {A X E : Type 0} (told : Result A E) (x : X) (r : Result X E) (P : X → Type 0) → r ≡ result_and told (Ok x) → OnOk told (P x) → IfOk r P
@@ -55,10 +59,10 @@ module _ (words : List ℕ) (A : List Entry) where
   has_fault f work notes seen b r fits turn are worst is = record { test = faulty b; holds = (fits, least_fault words A f work notes seen turn are b worst); is = is }
 
   -- all looks are at offsets that nodes have
-  pub looks_fit : (f : Family) (work : List NodeKey) (seen : Seen) (looks : List Look) → AreFormed (has_pairs A) f → AreSeen words A f work seen → looks ≡ seen.looks.items
-      → (x : Look) → Contains looks x → offset_of x.key.sp ≤ 2048
-  looks_fit f work seen looks formed are same x i =
-      let is = are.looks x (subst (λ (l : List Look). Contains l x) same i) in
+  pub looks_fit : (f : Family) (work : List NodeKey) (seen : Seen) → AreFormed (has_pairs A) f → AreSeen words A f work seen → (x : Look) → Contains seen.looks.items x
+      → offset_of x.key.sp ≤ 2048
+  looks_fit f work seen formed are x i =
+      let is = are.looks x i in
       (formed (seen_node words A f x is) is.has).small
 
   module _ (f : Family) (notes : Notes) (fits : FitsLimits f) (known : AreKnown words A f notes) where
@@ -99,12 +103,11 @@ module _ (words : List ℕ) (A : List Entry) where
     }
 
   -- all targets are nodes
-  pub targets_fit : (f : Family) (work : List NodeKey) (old mid : Notes) (nesting : Noted) (seen : Seen) (looks : List Look) → AreFormed (has_pairs A) f → FitsLimits f → Turn words A f work old
-      → AreSeen words A f work seen → seen.worst ≡ None → AreKnown words A f mid → AreAlike mid.nesting nesting → looks ≡ seen.looks.items
-      → AreNodesIn (has_pairs A) (all_targets f (record { callers = mid.callers; leavers = mid.leavers; nesting = nesting }) looks)
-  targets_fit f work old mid nesting seen looks formed fits turn are none known alike same =
+  pub targets_fit : (f : Family) (work : List NodeKey) (old mid : Notes) (nesting : Noted) (seen : Seen) → AreFormed (has_pairs A) f → FitsLimits f → Turn words A f work old
+      → AreSeen words A f work seen → seen.worst ≡ None → AreKnown words A f mid → AreAlike mid.nesting nesting
+      → AreNodesIn (has_pairs A) (all_targets f (record { callers = mid.callers; leavers = mid.leavers; nesting = nesting }) seen.looks.items)
+  targets_fit f work old mid nesting seen formed fits turn are none known alike =
       let notes : Notes = record { callers = mid.callers; leavers = mid.leavers; nesting = nesting } in
-      subst (λ (xs : List Look). AreNodesIn (has_pairs A) (all_targets f notes xs)) (sym same)
       (round_is words A f formed work old notes seen turn are none (alike_known f mid fits known nesting alike)).formed
 
   -- the nodes that come next
@@ -124,9 +127,3 @@ module _ (words : List ℕ) (A : List Entry) where
         known = k;
         once = once;
       }
-
-  -- the notes of a round, by the lists that the code has on the way
-  pub noted_known : (f : Family) (work : List NodeKey) (old mid : Notes) (seen : Seen) (looks : List Look) → Turn words A f work old → AreSeen words A f work seen
-      → seen.worst ≡ None → looks ≡ seen.looks.items → AreNoted old looks mid → AreKnown words A f mid
-  noted_known f work old mid seen looks turn are none same noted =
-      all_known words A f work old mid seen turn are none (subst (λ (l : List Look). AreNoted old l mid) same noted)

@@ -1,8 +1,9 @@
 -- What the tests of a round tell.
-use Rattle.std.specs.Prelude.{ℕ, ◌≡◌, List}
+use Rattle.std.specs.Prelude.{ℕ, ◌≡◌, List, Option, Some}
 use Rattle.avr_model.specs.declared.assumption.Entry.{Entry}
 use Rattle.certificate.specs.declared.limit.Limit.{Limit}
 use Rattle.local_rules.specs.declared.local.Node.{Node}
+use Rattle.local_rules.specs.declared.local.NodeFault.{NodeFault}
 use Rattle.instance_nesting.specs.Nestings.{Noted, AreOnce, TellsAll}
 use Rattle.instance_nesting.specs.declared.verdict.NestingVerdict.{NestingVerdict}
 use Rattle.instance_nesting.specs.declared.verdict.NestingVerdict.TheVariants as verdicts
@@ -10,7 +11,7 @@ use Rattle.round_rules.specs.declared.refusal.Refusal.{Refusal}
 use Rattle.round_rules.specs.declared.refusal.Refusal.TheVariants.{TooLarge, ReEntry, Recursion, TooDeep, Memory}
 use Rattle.round_rules.specs.Families.{Family}
 use Rattle.round_rules.specs.Rounds.{Passes}
-use Rattle.round_rules.specs.Refusals.{Test, IsOver, FirstHolds, refusal_of}
+use Rattle.round_rules.specs.Refusals.{Test, IsOver, FirstHolds, refusal_of, fault_refusal}
 use Rattle.round_laws.specs.Steps.{IsRoundOf, AreApart}
 use Rattle.round_steps.specs.declared.noting.Notes.{Notes}
 use Rattle.round_steps.specs.Joins.{AreNew}
@@ -21,6 +22,12 @@ pub record IsTooLarge (f : Family) (r : Refusal) : Type 0 where
   pub limit : Limit
   pub over : IsOver f limit
   pub is : r ≡ TooLarge limit
+
+-- the refusal is of the fault that counts
+pub record IsFaulty (worst : Option NodeFault) (r : Refusal) : Type 0 where
+  pub fault : NodeFault
+  pub found : worst ≡ Some fault
+  pub is : r ≡ fault_refusal fault
 
 abbrev pub nesting_refusal : NestingVerdict → Refusal
 nesting_refusal verdicts.Nests = Memory

@@ -15,7 +15,8 @@ ghost use Rattle.fixpoint.specs.OrderLaws.{OrdersEnd};
 
 use crate::confirming::confirm;
 use crate::rounds::{least_family, start};
-use crate::testing::{check_nesting, check_size, refusal_of};
+use crate::testing::{check_nesting, check_size, note_seen};
+use call_graph::Task;
 use family_table::Table;
 use flash_image::Flash;
 use instance_nesting::Nesting;
@@ -23,10 +24,9 @@ use mask_states::NodeKey;
 use round_rules::Refusal;
 use round_steps::targets::targets;
 use round_steps::{Notes, join_all, look_all};
-use std::alloc::{AllocError, Global};
+use std::alloc::AllocError;
 use std::cmp::Reverse;
 use std::collections::BinaryHeap;
-use vector_table::Assumptions;
 
 /// Nodes may be looked at in whatever order.
 pub fn orders_end()
@@ -35,26 +35,24 @@ pub fn orders_end()
 
 // Looks at one node, notes what is found there, and joins into the family where it leads. Gives the keys of what changed.
 fn look_on(
-    alloc: Global,
-    flash: &Flash,
-    assumptions: &Assumptions,
+    task: &Task<'_>,
     table: &mut Table,
     counted: &mut u64,
     notes: &mut Notes,
     key: NodeKey,
 ) -> Result<Vec<NodeKey>, Refusal>
-    requires way { IsUnderWay flash.now assumptions.now table.old counted.old notes.old }
-    ensures way { OnOk result (IsUnderWay flash.now assumptions.now table.new counted.new notes.new) }
+    requires way { IsUnderWay task.now.flash.now task.now.assumptions.now table.old counted.old notes.old }
+    ensures way { OnOk result (IsUnderWay task.now.flash.now task.now.assumptions.now table.new counted.new notes.new) }
     ensures more { IfOk result (λ changed. weight table.old + length changed.items ≤ weight table.new) }
 {
     let one = [key];
-    let seen = look_all(alloc, flash, assumptions, table, &one)?;
-    if let Some(fault) = seen.worst {
-        return Err(refusal_of(fault));
+    let seen = look_all(task, table, &one)?;
+    if let Err(refusal) = note_seen(task.alloc, notes, &seen) {
+        drop(seen);
+        return Err(refusal);
     }
-    notes.note_all(alloc, &seen.looks)?;
-    let nodes = targets(alloc, table, notes, seen.looks)?;
-    let changed = join_all(alloc, table, counted, nodes)?;
+    let nodes = targets(task.alloc, table, notes, seen.looks)?;
+    let changed = join_all(task.alloc, table, counted, nodes)?;
     Ok(changed)
 }
 
@@ -122,64 +120,55 @@ fn ask_nesting(
 // Looks at nodes, the least offset and word first, until none waits. How instances nest is asked on the way, since the rounds are stopped
 // soon where they don't.
 fn walk(
-    alloc: Global,
-    flash: &Flash,
-    assumptions: &Assumptions,
+    task: &Task<'_>,
     table: &mut Table,
     counted: &mut u64,
     notes: &mut Notes,
+    waiting: &mut BinaryHeap<Due>,
 ) -> Result<(), Refusal>
     requires no_nodes { table.old ≡ empty }
     requires no_notes { notes.old ≡ blank }
-    ensures { OnOk result (IsUnderWay flash.now assumptions.now table.new counted.new notes.new) }
+    ensures { OnOk result (IsUnderWay task.now.flash.now task.now.assumptions.now table.new counted.new notes.new) }
 {
-    let mut waiting = BinaryHeap::new(alloc);
-    let first = start(alloc, assumptions, table, counted)?;
-    await_all(&mut waiting, first)?;
+    let first = start(task, table, counted)?;
+    await_all(waiting, first)?;
     let mut due = 64;
     'looks: loop {
-        let Some(key) = take_first(&mut waiting) else {
+        let Some(key) = take_first(waiting) else {
             return Ok(());
         };
-        let changed = look_on(alloc, flash, assumptions, table, counted, notes, key)?;
+        let changed = look_on(task, table, counted, notes, key)?;
+        await_all(waiting, changed)?;
         check_size(table, *counted)?;
-        await_all(&mut waiting, changed)?;
-        ask_nesting(flash, &mut notes.nesting, table.len(), &mut due)?;
+        ask_nesting(task.flash, &mut notes.nesting, table.len(), &mut due)?;
     }
 }
 
 // Whether the rounds end at the family, with notes of its own. `drop` lets go of these: a call is one step of the proof, whatever they own.
-fn is_end(
-    alloc: Global,
-    flash: &Flash,
-    assumptions: &Assumptions,
-    table: &Table,
-    counted: u64,
-) -> Result<(), Refusal>
-    requires made { IsMade flash.now assumptions.now table.now }
+fn is_end(task: &Task<'_>, table: &Table, counted: u64) -> Result<(), Refusal>
+    requires made { IsMade task.now.flash.now task.now.assumptions.now table.now }
     requires count { counted ≡ cells table.now }
-    ensures { OnOk result (IsFound flash.now assumptions.now None table.now) }
+    ensures { OnOk result (IsFound task.now.flash.now task.now.assumptions.now None table.now) }
 {
-    let mut notes = Notes::new(alloc);
-    let told = confirm(alloc, flash, assumptions, table, counted, &mut notes);
+    let keys = table.keys(task.alloc)?;
+    let mut notes = Notes::new(task.alloc);
+    let told = confirm(task, table, counted, &mut notes, &keys);
     drop(notes);
+    drop(keys);
     told
 }
 
-// The walk with notes of its own: the number of the family's cells.
-fn walked(
-    alloc: Global,
-    flash: &Flash,
-    assumptions: &Assumptions,
-    table: &mut Table,
-) -> Result<u64, Refusal>
+// The walk from no nodes, none of which waits, with notes of its own: the number of the family's cells.
+fn walked(task: &Task<'_>, table: &mut Table) -> Result<u64, Refusal>
     requires { table.old ≡ empty }
-    ensures made { OnOk result (IsMade flash.now assumptions.now table.new) }
+    ensures made { OnOk result (IsMade task.now.flash.now task.now.assumptions.now table.new) }
     ensures count { IfOk result (λ counted. counted ≡ cells table.new) }
 {
-    let mut notes = Notes::new(alloc);
+    let mut notes = Notes::new(task.alloc);
+    let mut waiting = BinaryHeap::new(task.alloc);
     let mut counted = 0;
-    let told = walk(alloc, flash, assumptions, table, &mut counted, &mut notes);
+    let told = walk(task, table, &mut counted, &mut notes, &mut waiting);
+    drop(waiting);
     drop(notes);
     match told {
         Ok(()) => Ok(counted),
@@ -188,79 +177,46 @@ fn walked(
 }
 
 // The walk from an empty family to one at which the rounds end.
-fn walk_to_end(
-    alloc: Global,
-    flash: &Flash,
-    assumptions: &Assumptions,
-    table: &mut Table,
-) -> Result<(), Refusal>
+fn walk_to_end(task: &Task<'_>, table: &mut Table) -> Result<(), Refusal>
     requires { table.old ≡ empty }
-    ensures { OnOk result (IsFound flash.now assumptions.now None table.new) }
+    ensures { OnOk result (IsFound task.now.flash.now task.now.assumptions.now None table.new) }
 {
-    let counted = walked(alloc, flash, assumptions, table)?;
-    is_end(alloc, flash, assumptions, table, counted)?;
+    let counted = walked(task, table)?;
+    is_end(task, table, counted)?;
     Ok(())
 }
 
 /// The family at which the rounds end, found in another order. An error says nothing of it.
-pub fn ordered_family(
-    alloc: Global,
-    flash: &Flash,
-    assumptions: &Assumptions,
-) -> Result<Table, Refusal>
-    ensures { IfOk result (λ f. IsFound flash.now assumptions.now None f) }
+pub fn ordered_family(task: &Task<'_>) -> Result<Table, Refusal>
+    ensures { IfOk result (λ f. IsFound task.now.flash.now task.now.assumptions.now None f) }
 {
-    let mut table = Table::new(alloc);
-    walk_to_end(alloc, flash, assumptions, &mut table).and(Ok(table))
+    let mut table = Table::new(task.alloc);
+    walk_to_end(task, &mut table).and(Ok(table))
 }
 
 // The same, or what the rounds tell where the other order gives nothing.
-fn in_another_order(
-    alloc: Global,
-    flash: &Flash,
-    assumptions: &Assumptions,
-    steps: Option<u64>,
-) -> Result<Table, Refusal>
+fn in_another_order(task: &Task<'_>, steps: Option<u64>) -> Result<Table, Refusal>
     requires { steps ≡ None }
-    ensures found { IfOk result (λ f. IsFound flash.now assumptions.now steps f) }
-    ensures why_not { IfErr result (λ r. IsWhyNot flash.now assumptions.now steps r) }
+    ensures found { IfOk result (λ f. IsFound task.now.flash.now task.now.assumptions.now steps f) }
+    ensures why_not { IfErr result (λ r. IsWhyNot task.now.flash.now task.now.assumptions.now steps r) }
 {
-    match ordered_family(alloc, flash, assumptions) {
+    match ordered_family(task) {
         Ok(table) => Ok(table),
-        Err(_) => least_family(alloc, flash, assumptions, steps, false),
-    }
-}
-
-// The same, by rounds where these don't look at nodes again and again.
-fn in_any_order(
-    alloc: Global,
-    flash: &Flash,
-    assumptions: &Assumptions,
-    steps: Option<u64>,
-) -> Result<Table, Refusal>
-    requires { steps ≡ None }
-    ensures found { IfOk result (λ f. IsFound flash.now assumptions.now steps f) }
-    ensures why_not { IfErr result (λ r. IsWhyNot flash.now assumptions.now steps r) }
-{
-    match least_family(alloc, flash, assumptions, steps, true) {
-        Err(Refusal::Memory) => in_another_order(alloc, flash, assumptions, steps),
-        told => told,
+        Err(_) => least_family(task, steps, false),
     }
 }
 
 /// The family at which the rounds end, or why they end at none within the budget. With a budget the rounds alone tell this. Without one they
 /// begin in a hurry; where they are left, the other order is tried, and where that gives nothing, they go to their end.
-pub fn found_family(
-    alloc: Global,
-    flash: &Flash,
-    assumptions: &Assumptions,
-    steps: Option<u64>,
-) -> Result<Table, Refusal>
-    ensures found { IfOk result (λ f. IsFound flash.now assumptions.now steps f) }
-    ensures why_not { IfErr result (λ r. IsWhyNot flash.now assumptions.now steps r) }
+pub fn found_family(task: &Task<'_>, steps: Option<u64>) -> Result<Table, Refusal>
+    ensures found { IfOk result (λ f. IsFound task.now.flash.now task.now.assumptions.now steps f) }
+    ensures why_not { IfErr result (λ r. IsWhyNot task.now.flash.now task.now.assumptions.now steps r) }
 {
-    if steps.is_none() {
-        return in_any_order(alloc, flash, assumptions, steps);
+    if steps.is_some() {
+        return least_family(task, steps, false);
     }
-    least_family(alloc, flash, assumptions, steps, false)
+    match least_family(task, steps, true) {
+        Err(Refusal::Memory) => in_another_order(task, steps),
+        told => told,
+    }
 }

@@ -13,66 +13,64 @@ ghost use Rattle.round_steps.specs.Notings.{blank};
 ghost use Rattle.fixpoint.specs.Progress.{Turn, IsLeft, IsSpent, IsFound};
 ghost use Rattle.fixpoint.specs.Tests.{IsStopped, IsReady};
 
-use crate::testing::{check_nesting, check_size, refusal_of};
-use call_graph::root_of;
+use crate::testing::{check_nesting, check_size, note_seen};
+use call_graph::{Task, root_of};
 use family_table::Table;
-use flash_image::Flash;
 use local_rules::Node;
 use mask_states::{InstKey, NodeKey};
 use round_rules::Refusal;
 use round_steps::targets::targets;
 use round_steps::{Notes, join_all, look_all};
-use std::alloc::{AllocError, Global};
-use vector_table::Assumptions;
+use std::alloc::AllocError;
 
 // The tests of a round, in their order, and the nodes to be joined into the family where none holds.
 fn next_nodes(
-    alloc: Global,
-    flash: &Flash,
-    assumptions: &Assumptions,
+    task: &Task<'_>,
     table: &Table,
     counted: u64,
     work: &[NodeKey],
     notes: &mut Notes,
 ) -> Result<Vec<Node>, Refusal>
     requires count { counted ≡ cells table.now }
-    requires formed { AreFormed (has_pairs assumptions.now) table.now }
+    requires formed { AreFormed (has_pairs task.now.assumptions.now) table.now }
     requires root { HasInst table.now root_inst }
-    requires turn { Turn flash.now assumptions.now table.now work.now notes.old }
-    ensures ready { IfOk result (λ nodes. IsReady flash.now assumptions.now table.now notes.new nodes.items) }
-    ensures stopped { IfErr result (λ r. r ≢ Memory → IsStopped flash.now assumptions.now table.now r) }
+    requires turn { Turn task.now.flash.now task.now.assumptions.now table.now work.now notes.old }
+    ensures ready { IfOk result (λ nodes. IsReady task.now.flash.now task.now.assumptions.now table.now notes.new nodes.items) }
+    ensures stopped { IfErr result (λ r. r ≢ Memory → IsStopped task.now.flash.now task.now.assumptions.now table.now r) }
 {
     check_size(table, counted)?;
-    let seen = look_all(alloc, flash, assumptions, table, work)?;
-    if let Some(fault) = seen.worst {
-        return Err(refusal_of(fault));
+    let seen = look_all(task, table, work)?;
+    if let Err(refusal) = note_seen(task.alloc, notes, &seen) {
+        drop(seen);
+        return Err(refusal);
     }
-    notes.note_all(alloc, &seen.looks)?;
-    check_nesting(flash, &mut notes.nesting)?;
-    let nodes = targets(alloc, table, notes, seen.looks)?;
+    if let Err(refusal) = check_nesting(task.flash, &mut notes.nesting) {
+        drop(seen);
+        return Err(refusal);
+    }
+    let nodes = targets(task.alloc, table, notes, seen.looks)?;
     Ok(nodes)
 }
 
 // The first family: the root's node after reset.
 pub(crate) fn start(
-    alloc: Global,
-    assumptions: &Assumptions,
+    task: &Task<'_>,
     table: &mut Table,
     counted: &mut u64,
 ) -> Result<Vec<NodeKey>, AllocError>
     requires { table.old ≡ empty }
-    ensures first { OnOk result (table.new ≡ first assumptions.now) }
+    ensures first { OnOk result (table.new ≡ first task.now.assumptions.now) }
     ensures count { OnOk result (counted.new ≡ cells table.new) }
     ensures kept { IfOk result (λ work. KeptBut empty table.new work.items) }
 {
     *counted = 0;
-    let state = root_of(alloc, assumptions)?;
-    let mut nodes = Vec::new(alloc);
+    let state = root_of(task.alloc, task.assumptions)?;
+    let mut nodes = Vec::new(task.alloc);
     nodes.push(Node {
         key: NodeKey::entry(&InstKey::root()),
         state,
     })?;
-    let work = join_all(alloc, table, counted, nodes)?;
+    let work = join_all(task.alloc, table, counted, nodes)?;
     Ok(work)
 }
 
@@ -95,11 +93,9 @@ fn is_late(hurry: bool, looks: usize, table: &Table) -> bool {
 
 // The rounds, on a table and notes that are empty: the family at which they end, or why they end at none within the budget. In a hurry they
 // are left as for want of memory once they look at nodes again and again. Their caller owns both, so that each early end here lets go of the
-// work alone.
+// work at most.
 fn go_on(
-    alloc: Global,
-    flash: &Flash,
-    assumptions: &Assumptions,
+    task: &Task<'_>,
     steps: Option<u64>,
     hurry: bool,
     table: &mut Table,
@@ -107,11 +103,11 @@ fn go_on(
 ) -> Result<(), Refusal>
     requires no_nodes { table.old ≡ empty }
     requires no_notes { notes.old ≡ blank }
-    ensures found { OnOk result (IsFound flash.now assumptions.now steps table.new) }
-    ensures why_not { IfErr result (λ r. IsWhyNot flash.now assumptions.now steps r) }
+    ensures found { OnOk result (IsFound task.now.flash.now task.now.assumptions.now steps table.new) }
+    ensures why_not { IfErr result (λ r. IsWhyNot task.now.flash.now task.now.assumptions.now steps r) }
 {
     let mut counted = 0;
-    let mut work = start(alloc, assumptions, table, &mut counted)?;
+    let mut work = start(task, table, &mut counted)?;
     let mut left = steps;
     let mut looks = 0;
     'rounds: loop {
@@ -119,47 +115,25 @@ fn go_on(
             return Err(Refusal::Memory);
         }
         looks = looks.saturating_add(work.len());
-        let nodes = next_nodes(alloc, flash, assumptions, table, counted, &work, notes)?;
-        let changed = join_all(alloc, table, &mut counted, nodes)?;
-        if changed.is_empty() {
+        let told = next_nodes(task, table, counted, &work, notes);
+        drop(work);
+        work = join_all(task.alloc, table, &mut counted, told?)?;
+        if work.is_empty() {
             return Ok(());
         }
         left = spend(steps, left)?;
-        work = changed;
     }
-}
-
-// The rounds with notes of their own.
-fn all_rounds(
-    alloc: Global,
-    flash: &Flash,
-    assumptions: &Assumptions,
-    steps: Option<u64>,
-    hurry: bool,
-    table: &mut Table,
-) -> Result<(), Refusal>
-    requires { table.old ≡ empty }
-    ensures found { OnOk result (IsFound flash.now assumptions.now steps table.new) }
-    ensures why_not { IfErr result (λ r. IsWhyNot flash.now assumptions.now steps r) }
-{
-    let mut notes = Notes::new(alloc);
-    let told = go_on(alloc, flash, assumptions, steps, hurry, table, &mut notes);
-    drop(notes);
-    told
 }
 
 /// The family at which the rounds end, or why they end at none within the budget. In a hurry the rounds are left, as for want of memory, once
 /// they look at nodes again and again.
-pub fn least_family(
-    alloc: Global,
-    flash: &Flash,
-    assumptions: &Assumptions,
-    steps: Option<u64>,
-    hurry: bool,
-) -> Result<Table, Refusal>
-    ensures found { IfOk result (λ f. IsFound flash.now assumptions.now steps f) }
-    ensures why_not { IfErr result (λ r. IsWhyNot flash.now assumptions.now steps r) }
+pub fn least_family(task: &Task<'_>, steps: Option<u64>, hurry: bool) -> Result<Table, Refusal>
+    ensures found { IfOk result (λ f. IsFound task.now.flash.now task.now.assumptions.now steps f) }
+    ensures why_not { IfErr result (λ r. IsWhyNot task.now.flash.now task.now.assumptions.now steps r) }
 {
-    let mut table = Table::new(alloc);
-    all_rounds(alloc, flash, assumptions, steps, hurry, &mut table).and(Ok(table))
+    let mut table = Table::new(task.alloc);
+    let mut notes = Notes::new(task.alloc);
+    let told = go_on(task, steps, hurry, &mut table, &mut notes);
+    drop(notes);
+    told.and(Ok(table))
 }

@@ -7,6 +7,7 @@ ghost use Rattle.round_rules.specs.declared.refusal.Refusal.TheVariants.{Memory}
 ghost use Rattle.round_rules.specs.Solutions.{IsAnswer, IsWhyNot, IsShown};
 
 use crate::ordering::found_family;
+use call_graph::Task;
 use certificate::Certificate;
 use flash_image::Flash;
 use round_rules::Refusal;
@@ -30,8 +31,13 @@ pub fn solve(
     ensures why_not { IfErr result (λ r. IsWhyNot flash.now assumptions.now steps r) }
     ensures none { steps ≡ None → IfErr result (λ r. r ≢ Memory → (other : Claim) → IsShown flash.now assumptions.now other → ⊥) }
 {
-    let table = found_family(alloc, flash, assumptions, steps)?;
-    let certificate = certificate_of(alloc, flash, assumptions, table)?;
+    let task = Task {
+        alloc,
+        flash,
+        assumptions,
+    };
+    let table = found_family(&task, steps)?;
+    let certificate = certificate_of(&task, table)?;
     // a look at its nodes tells the proof what every certificate keeps
     let _nodes = certificate.nodes();
     Ok(certificate)

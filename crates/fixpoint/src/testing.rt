@@ -1,15 +1,19 @@
 //! The tests of a round.
 
-ghost use Rattle.std.specs.Prelude.{◌≡◌, ◌≢◌, ◌≤◌, length, IfOk, IfErr, OnOk};
+ghost use Rattle.std.specs.Prelude.{◌≡◌, ◌≢◌, ◌≤◌, length, Contains, None, IfOk, IfErr, OnOk};
 ghost use Rattle.std.specs.FinMap.{len};
 ghost use Rattle.avr_model.specs.Devices.{device_of, size_of};
+ghost use Rattle.avr_model.specs.State.{SIZE};
+ghost use Rattle.mask_states.specs.Keys.{offset_of};
 ghost use Rattle.certificate.specs.Claims.{most_nodes};
 ghost use Rattle.instance_nesting.specs.Nestings.{AreAlike, AreOnce, TellsAll};
 ghost use Rattle.instance_nesting.specs.declared.verdict.NestingVerdict.TheVariants.{Nests};
 ghost use Rattle.round_rules.specs.declared.refusal.Refusal.TheVariants.{Memory};
 ghost use Rattle.round_rules.specs.Families.{cells, FitsLimits};
 ghost use Rattle.round_rules.specs.Refusals.{fault_refusal};
-ghost use Rattle.fixpoint.specs.Tests.{IsTooLarge, IsTold};
+ghost use Rattle.round_steps.specs.declared.looking.Look as look_type;
+ghost use Rattle.round_steps.specs.Notings.{AreNoted};
+ghost use Rattle.fixpoint.specs.Tests.{IsTooLarge, IsFaulty, IsTold};
 
 use certificate::Limit;
 use family_table::Table;
@@ -17,6 +21,8 @@ use flash_image::Flash;
 use instance_nesting::{Nesting, NestingVerdict};
 use local_rules::NodeFault;
 use round_rules::Refusal;
+use round_steps::{Notes, Seen};
+use std::alloc::Global;
 
 // How many nodes and how many cells a certificate may have.
 const MOST_NODES: usize = 65_536;
@@ -39,7 +45,7 @@ pub fn check_size(table: &Table, counted: u64) -> Result<(), Refusal>
 }
 
 // The refusal of a fault.
-pub fn refusal_of(fault: NodeFault) -> Refusal
+fn refusal_of(fault: NodeFault) -> Refusal
     ensures { result ≡ fault_refusal fault }
 {
     match fault {
@@ -50,6 +56,22 @@ pub fn refusal_of(fault: NodeFault) -> Refusal
         NodeFault::UnknownPointer(pc) => Refusal::UnknownPointer(pc),
         NodeFault::Memory => Refusal::Memory,
     }
+}
+
+// Notes what was found at nodes, unless one of them has a fault.
+pub fn note_seen(alloc: Global, notes: &mut Notes, seen: &Seen) -> Result<(), Refusal>
+    requires small { (x : look_type.Look) → Contains seen.now.looks.items x → offset_of x.key.sp ≤ SIZE }
+    requires once { AreOnce notes.old.nesting.insts }
+    ensures none { OnOk result (seen.now.worst ≡ None) }
+    ensures noted { OnOk result (AreNoted notes.old seen.now.looks.items notes.new) }
+    ensures once { OnOk result (AreOnce notes.new.nesting.insts) }
+    ensures fault { IfErr result (λ r. r ≢ Memory → IsFaulty seen.now.worst r) }
+{
+    if let Some(fault) = seen.worst {
+        return Err(refusal_of(fault));
+    }
+    notes.note_all(alloc, &seen.looks)?;
+    Ok(())
 }
 
 // No instance reaches itself, and the root needs no more bytes than the device's SRAM has.

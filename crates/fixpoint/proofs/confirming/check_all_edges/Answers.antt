@@ -7,15 +7,15 @@ use Rattle.fixpoint.proofs.Confirm.{none_land, more_land}
 use Rattle.fixpoint.proofs.confirming.check_all_edges.Goals as goal
 
 pub loop-at-init : goal.loop-at-init
-loop-at-init c = none_land c.args.flash.now c.args.assumptions.now c.args.table.now
+loop-at-init c = none_land c.args.task.now.flash.now c.args.task.now.assumptions.now c.args.table.now
 
 pub loop-at-preserved : goal.loop-at-preserved
 loop-at-preserved c =
-    subst (λ (l : List NodeKey). LandAt c.args.flash.now c.args.assumptions.now c.args.table.now l)
+    subst (λ (l : List NodeKey). LandAt c.args.task.now.flash.now c.args.task.now.assumptions.now c.args.table.now l)
     (sym (pushed c.args.keys.now c.loop-at.at c.index-keys-at.result c.loop-at-test.true c.index-keys-at.is))
-    (more_land c.args.flash.now c.args.assumptions.now c.args.table.now (take c.loop-at.at c.args.keys.now) c.index-keys-at.result c.loop-at.invariant c.in_ok-check_edges.ensures)
+    (more_land c.args.task.now.flash.now c.args.task.now.assumptions.now c.args.table.now (take c.loop-at.at c.args.keys.now) c.index-keys-at.result c.loop-at.invariant c.in_ok-check_edges.ensures)
 
 pub returns : goal.returns
 returns c =
-    subst (λ (l : List NodeKey). LandAt c.args.flash.now c.args.assumptions.now c.args.table.now l)
+    subst (λ (l : List NodeKey). LandAt c.args.task.now.flash.now c.args.task.now.assumptions.now c.args.table.now l)
     (take_all c.loop-at.at c.args.keys.now (omega (arith, c.loop-at-test.false, c.loop-at.auto.at-end))) c.loop-at.invariant

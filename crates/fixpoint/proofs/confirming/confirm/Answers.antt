@@ -1,5 +1,3 @@
-use Rattle.std.proofs.Common.{sym, subst, List, Contains}
-use Rattle.mask_states.specs.declared.keys.NodeKey.{NodeKey}
 use Rattle.fixpoint.proofs.Order.{made_root}
 use Rattle.fixpoint.proofs.Ready.{few_insts, alike_known}
 use Rattle.fixpoint.proofs.Confirm.{whole_known, confirmed}
@@ -7,23 +5,23 @@ use Rattle.fixpoint.proofs.confirming.confirm.Goals as goal
 
 pub check_nesting-requires : goal.check_nesting-requires
 check_nesting-requires c =
-    few_insts c.args.flash.now c.args.assumptions.now c.args.table.now c.note_each.new.notes c.in_ok-check_size.ensures.fits
-    (whole_known c.args.flash.now c.args.assumptions.now c.args.table.now c.deref.result.now c.note_each.new.notes
-    (λ n has. subst (λ (l : List NodeKey). Contains l n.key) (sym c.deref.ensures.value) (c.in_ok-keys.ensures n.key n.state has)) c.in_ok-note_each.ensures.known)
+    few_insts c.args.task.now.flash.now c.args.task.now.assumptions.now c.args.table.now c.note_each.new.notes c.in_ok-check_size.ensures.fits
+    (whole_known c.args.task.now.flash.now c.args.task.now.assumptions.now c.args.table.now c.args.keys.now c.note_each.new.notes
+    (λ n has. c.requires.all n.key n.state has) c.in_ok-note_each.ensures.known)
     c.in_ok-note_each.ensures.once
 
 pub check_all_edges-requires-clause-known : goal.check_all_edges-requires-clause-known
 check_all_edges-requires-clause-known c =
-    alike_known c.args.flash.now c.args.assumptions.now c.args.table.now c.note_each.new.notes c.in_ok-check_size.ensures.fits
-    (whole_known c.args.flash.now c.args.assumptions.now c.args.table.now c.deref.result.now c.note_each.new.notes
-    (λ n has. subst (λ (l : List NodeKey). Contains l n.key) (sym c.deref.ensures.value) (c.in_ok-keys.ensures n.key n.state has)) c.in_ok-note_each.ensures.known)
+    alike_known c.args.task.now.flash.now c.args.task.now.assumptions.now c.args.table.now c.note_each.new.notes c.in_ok-check_size.ensures.fits
+    (whole_known c.args.task.now.flash.now c.args.task.now.assumptions.now c.args.table.now c.args.keys.now c.note_each.new.notes
+    (λ n has. c.requires.all n.key n.state has) c.in_ok-note_each.ensures.known)
     c.check_nesting.new.nesting c.in_ok-check_nesting.ensures.same
 
 pub returns : goal.returns
 returns c =
-    confirmed c.args.flash.now c.args.assumptions.now c.args.table.now c.deref-2.result.now c.note_each.new.notes c.requires.made
-    (made_root c.args.flash.now c.args.assumptions.now c.args.table.now c.requires.made) c.in_ok-check_size.ensures.fits
-    (λ n has. subst (λ (l : List NodeKey). Contains l n.key) (sym c.deref-2.ensures.value) (c.in_ok-keys.ensures n.key n.state has))
-    (whole_known c.args.flash.now c.args.assumptions.now c.args.table.now c.deref.result.now c.note_each.new.notes
-    (λ n has. subst (λ (l : List NodeKey). Contains l n.key) (sym c.deref.ensures.value) (c.in_ok-keys.ensures n.key n.state has)) c.in_ok-note_each.ensures.known)
+    confirmed c.args.task.now.flash.now c.args.task.now.assumptions.now c.args.table.now c.args.keys.now c.note_each.new.notes c.requires.made
+    (made_root c.args.task.now.flash.now c.args.task.now.assumptions.now c.args.table.now c.requires.made) c.in_ok-check_size.ensures.fits
+    (λ n has. c.requires.all n.key n.state has)
+    (whole_known c.args.task.now.flash.now c.args.task.now.assumptions.now c.args.table.now c.args.keys.now c.note_each.new.notes
+    (λ n has. c.requires.all n.key n.state has) c.in_ok-note_each.ensures.known)
     c.in_ok-check_nesting.ensures.nests c.in_ok-check_all_edges.ensures

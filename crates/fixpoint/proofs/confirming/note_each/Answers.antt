@@ -7,11 +7,11 @@ use Rattle.fixpoint.proofs.confirming.note_each.Goals as goal
 
 pub loop-at-init : goal.loop-at-init
 loop-at-init c =
-    (none_known c.args.flash.now c.args.assumptions.now c.args.table.now c.args.notes.now c.requires.no_notes, none_once c.args.notes.now c.requires.no_notes)
+    (none_known c.args.task.now.flash.now c.args.task.now.assumptions.now c.args.table.now c.args.notes.now c.requires.no_notes, none_once c.args.notes.now c.requires.no_notes)
 
 pub loop-at-preserved : goal.loop-at-preserved
 loop-at-preserved c = (
-  subst (λ (l : List NodeKey). AreKnownAt c.args.flash.now c.args.assumptions.now c.args.table.now l c.note_one.new.notes)
+  subst (λ (l : List NodeKey). AreKnownAt c.args.task.now.flash.now c.args.task.now.assumptions.now c.args.table.now l c.note_one.new.notes)
       (sym (pushed c.args.keys.now c.loop-at.at c.index-keys-at.result c.loop-at-test.true c.index-keys-at.is))
       (c.in_ok-note_one.ensures.known (take c.loop-at.at c.args.keys.now) c.loop-at.invariant.0),
   c.in_ok-note_one.ensures.once,

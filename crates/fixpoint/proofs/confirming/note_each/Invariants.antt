@@ -4,4 +4,4 @@ use Rattle.fixpoint.specs.Confirm.{AreKnownAt}
 use Rattle.fixpoint.proofs.confirming.note_each.Given as goal
 
 abbrev pub invariant-loop-at : goal.invariant-loop-at
-invariant-loop-at l = AreKnownAt l.flash l.assumptions l.table (take l.at l.keys) l.notes × AreOnce l.notes.nesting.insts
+invariant-loop-at l = AreKnownAt l.task.flash.now l.task.assumptions.now l.table (take l.at l.keys) l.notes × AreOnce l.notes.nesting.insts
