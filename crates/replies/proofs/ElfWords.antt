@@ -1,6 +1,7 @@
 -- The words of an ELF file, by place and in order.
 use Rattle.std.proofs.Common.{◌≡◌, ℕ, zero, suc, ◌+◌, ◌<◌, List, length, slice_index, Option, Some, None, refl, sym, ap, ◌∙◌, arith}
 use Rattle.std.specs.Option.{option_map}
+use Rattle.std.proofs.lemmas.Option.{none-some}
 use Rattle.std.proofs.lemmas.Grind.{same_number_lists}
 use Rattle.basics.specs.Numbers.{one_step_on}
 use Rattle.avr_model.specs.Image.{WORDS}
@@ -36,7 +37,7 @@ some_elf bytes loads =
 
 no_text : (due : Option ElfRefusal) → option_map elf_refused due ≡ None → due ≡ None
 no_text None e = refl
-no_text (Some r) e = absurd (let wrong = e in cc)
+no_text (Some r) e = absurd (none-some (elf_refused r) (sym e))
 
 pub no_refusal : (bytes : List ℕ) → option_map elf_refused (elf_fault bytes) ≡ None → elf_fault bytes ≡ None
 no_refusal bytes e = no_text (elf_fault bytes) e

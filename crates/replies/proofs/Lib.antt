@@ -8,3 +8,4 @@ pub mod Least
 pub mod All
 pub mod AllLaws
 mod Attaining
+mod Told

@@ -6,7 +6,7 @@ ghost use Rattle.sb_base.specs.Writing.{with_words};
 ghost use Rattle.avr_model.specs.Image.{word_at};
 ghost use Rattle.replies.specs.Texts.{AreWritten, instruction_told, cause_at, limit_word, why_not_words, why_not_text, demo_text};
 
-use crate::texts::limit_word;
+use crate::texts::{ended, limit_word, put_address, put_number, put_two, put_two_and_number};
 use avr_decode::{instruction, text as instruction_text};
 use certificate::{Certificate, Limit};
 use flash_image::Flash;
@@ -28,55 +28,39 @@ pub(crate) fn put_instruction(
             let text = instruction_text(alloc, &instr, at)?;
             line.word(&text)
         }
-        None => put_opcode(line, flash.word(at)),
+        None => put_address(line, b"opcode", flash.word(at)),
     }
-}
-
-fn put_opcode(line: &mut LineWriter, word: u16) -> Result<(), AllocError>
-    ensures { OnOk result (line.new ≡ with_words line.old (codes "opcode" ∷ hex_digits word 4 ∷ [])) }
-{
-    line.word(b"opcode")?;
-    line.hex(u32::from(word), 4)
 }
 
 /// A cause, and the word at which it is.
 fn put_cause(line: &mut LineWriter, number: &[u8], name: &[u8], at: u16) -> Result<(), AllocError>
     ensures { OnOk result (line.new ≡ with_words line.old (codes "refused" ∷ number.now ∷ name.now ∷ codes "at" ∷ hex_digits at 4 ∷ [])) }
 {
-    line.word(b"refused")?;
-    line.word(number)?;
+    put_two(line, b"refused", number)?;
     line.word(name)?;
-    line.word(b"at")?;
-    line.hex(u32::from(at), 4)
+    put_address(line, b"at", at)
 }
 
 fn put_re_entry(line: &mut LineWriter, vector: u8, at: u16) -> Result<(), AllocError>
     ensures { OnOk result (line.new ≡ with_words line.old (codes "refused" ∷ codes "3" ∷ codes "re-entry" ∷ codes "of" ∷ decimal vector ∷ codes "at" ∷ hex_digits at 4 ∷ [])) }
 {
-    line.word(b"refused")?;
-    line.word(b"3")?;
-    line.word(b"re-entry")?;
-    line.word(b"of")?;
-    line.dec(u64::from(vector))?;
-    line.word(b"at")?;
-    line.hex(u32::from(at), 4)
+    put_two(line, b"refused", b"3")?;
+    put_two_and_number(line, b"re-entry", b"of", u64::from(vector))?;
+    put_address(line, b"at", at)
 }
 
 fn put_too_large(line: &mut LineWriter, limit: Limit) -> Result<(), AllocError>
     ensures { OnOk result (line.new ≡ with_words line.old (codes "refused" ∷ codes "7" ∷ codes "too-large" ∷ limit_word limit ∷ [])) }
 {
-    line.word(b"refused")?;
-    line.word(b"7")?;
-    line.word(b"too-large")?;
-    line.word(limit_word(limit))
+    put_two(line, b"refused", b"7")?;
+    put_two(line, b"too-large", limit_word(limit))
 }
 
 fn put_need(line: &mut LineWriter, at: u16, need: u32) -> Result<(), AllocError>
     ensures { OnOk result (line.new ≡ with_words line.old (codes "refused" ∷ codes "6" ∷ codes "too-deep" ∷ codes "at" ∷ hex_digits at 4 ∷ codes "need" ∷ decimal need ∷ [])) }
 {
     put_cause(line, b"6", b"too-deep", at)?;
-    line.word(b"need")?;
-    line.dec(u64::from(need))
+    put_number(line, b"need", u64::from(need))
 }
 
 /// The same with the instruction at that word.
@@ -98,15 +82,7 @@ fn put_unsupported(line: &mut LineWriter, at: u16, word: u16) -> Result<(), Allo
     ensures { OnOk result (AreWritten line.old line.new (cause_at (codes "5") (codes "unsupported") at (codes "opcode" ∷ hex_digits word 4 ∷ []))) }
 {
     put_cause(line, b"5", b"unsupported", at)?;
-    put_opcode(line, word)
-}
-
-/// A word and a number.
-fn put_number(line: &mut LineWriter, name: &[u8], number: u64) -> Result<(), AllocError>
-    ensures { OnOk result (line.new ≡ with_words line.old (name.now ∷ decimal number ∷ [])) }
-{
-    line.word(name)?;
-    line.dec(number)
+    put_address(line, b"opcode", word)
 }
 
 /// The words in place of a certificate; none for want of memory.
@@ -143,8 +119,7 @@ pub fn why_not(alloc: Global, flash: &Flash, refusal: &Refusal) -> Result<Vec<u8
 {
     let mut line = LineWriter::new(alloc);
     put_why_not(alloc, &mut line, flash, refusal)?;
-    line.end_line()?;
-    Ok(line.finish())
+    ended(line)
 }
 
 fn put_demo(line: &mut LineWriter, size: u32, certificate: &Certificate) -> Result<(), AllocError>
@@ -162,6 +137,5 @@ pub fn demo_text(alloc: Global, size: u32, certificate: &Certificate) -> Result<
 {
     let mut line = LineWriter::new(alloc);
     put_demo(&mut line, size, certificate)?;
-    line.end_line()?;
-    Ok(line.finish())
+    ended(line)
 }

@@ -9,6 +9,7 @@ ghost use Rattle.line_reading.specs.Appending.{with_text};
 ghost use Rattle.replies.specs.Places.{clear_text, place_words, unclear_text, name_up_to, place_line, place_text, never_line, never_text, count_line, premises_text, protected_words, word_where, cause_words, why_line, why_text};
 
 use crate::causes::put_instruction;
+use crate::texts::{ended, put_address, put_number, put_two_and_number};
 use flash_image::{Flash, Names};
 use line_reading::laws::appending_laws;
 use reports::{write_name, write_words};
@@ -21,19 +22,15 @@ pub fn clear_text(alloc: Global, bound: u16) -> Result<Vec<u8>, AllocError>
     ensures { IfOk result (λ v. v.items ≡ clear_text bound) }
 {
     let mut line = LineWriter::new(alloc);
-    line.word(b"clear")?;
-    line.word(b"bound")?;
-    line.dec(u64::from(bound))?;
-    line.end_line()?;
-    Ok(line.finish())
+    put_two_and_number(&mut line, b"clear", b"bound", u64::from(bound))?;
+    ended(line)
 }
 
 /// Writes a word, and the instruction there.
 fn put_place(alloc: Global, line: &mut LineWriter, flash: &Flash, pc: u16) -> Result<(), AllocError>
     ensures { OnOk result (line.new ≡ with_words line.old (place_words flash.now pc)) }
 {
-    line.word(b"at")?;
-    line.hex(u32::from(pc), 4)?;
+    put_address(line, b"at", pc)?;
     put_instruction(alloc, line, flash, pc)
 }
 
@@ -42,12 +39,9 @@ pub fn unclear_text(alloc: Global, flash: &Flash, node: u32, pc: u16) -> Result<
     ensures { IfOk result (λ v. v.items ≡ unclear_text flash.now node pc) }
 {
     let mut line = LineWriter::new(alloc);
-    line.word(b"unclear")?;
-    line.word(b"node")?;
-    line.dec(u64::from(node))?;
+    put_two_and_number(&mut line, b"unclear", b"node", u64::from(node))?;
     put_place(alloc, &mut line, flash, pc)?;
-    line.end_line()?;
-    Ok(line.finish())
+    ended(line)
 }
 
 /// A word, and the word whose name it stands under: the greatest that has one, of this word and those before it, or 0.
@@ -147,8 +141,7 @@ fn write_places(
 fn write_never(out: &mut LineWriter, word: u16) -> Result<(), AllocError>
     ensures { OnOk result (out.new ≡ with_end (with_words out.old (never_line word))) }
 {
-    out.word(b"never")?;
-    out.hex(u32::from(word), 4)?;
+    put_address(out, b"never", word)?;
     out.end_line()
 }
 
@@ -168,10 +161,8 @@ fn write_nevers(out: &mut LineWriter, nevers: &[u16]) -> Result<(), AllocError>
 fn write_count(out: &mut LineWriter, bound: u16, count: u64) -> Result<(), AllocError>
     ensures { OnOk result (out.new ≡ with_end (with_words out.old (count_line bound count))) }
 {
-    out.word(b"bound")?;
-    out.dec(u64::from(bound))?;
-    out.word(b"places")?;
-    out.dec(count)?;
+    put_number(out, b"bound", u64::from(bound))?;
+    put_number(out, b"places", count)?;
     out.end_line()
 }
 

@@ -20,6 +20,14 @@ use sb_base::LineWriter;
 use std::alloc::{AllocError, Global};
 use witness_replay::ReplayReport;
 
+/// The text of a line that ends here.
+pub(crate) fn ended(mut line: LineWriter) -> Result<Vec<u8>, AllocError>
+    ensures { IfOk result (λ v. v.items ≡ (with_end line).bytes) }
+{
+    line.end_line()?;
+    Ok(line.finish())
+}
+
 /// A line of two words and a third.
 fn three_words(
     alloc: Global,
@@ -30,11 +38,9 @@ fn three_words(
     ensures { IfOk result (λ v. v.items ≡ told (first.now ∷ second.now ∷ third.now ∷ [])) }
 {
     let mut line = LineWriter::new(alloc);
-    line.word(first)?;
-    line.word(second)?;
+    put_two(&mut line, first, second)?;
     line.word(third)?;
-    line.end_line()?;
-    Ok(line.finish())
+    ended(line)
 }
 
 /// Words that are no command.
@@ -43,8 +49,7 @@ pub fn usage(alloc: Global) -> Result<Vec<u8>, AllocError>
 {
     let mut line = LineWriter::new(alloc);
     line.word(b"usage")?;
-    line.end_line()?;
-    Ok(line.finish())
+    ended(line)
 }
 
 /// The file that can't be read.
@@ -66,11 +71,8 @@ pub fn raw_fault(alloc: Global, number: u64) -> Result<Vec<u8>, AllocError>
     ensures { IfOk result (λ v. v.items ≡ raw_fault number) }
 {
     let mut line = LineWriter::new(alloc);
-    line.word(b"firmware")?;
-    line.word(b"raw")?;
-    line.dec(number)?;
-    line.end_line()?;
-    Ok(line.finish())
+    put_two_and_number(&mut line, b"firmware", b"raw", number)?;
+    ended(line)
 }
 
 /// The words that name what a test of an ELF file refuses; none for want of memory.
@@ -97,11 +99,9 @@ pub fn elf_refused(alloc: Global, fault: &ElfFault) -> Result<Vec<u8>, AllocErro
     ensures { IfOk result (λ v. option_map elf_refused (refusal_of fault.now) ≡ Some v.items) }
 {
     let mut line = LineWriter::new(alloc);
-    line.word(b"firmware")?;
-    line.word(b"elf")?;
+    put_two(&mut line, b"firmware", b"elf")?;
     put_refusal(&mut line, fault)?;
-    line.end_line()?;
-    Ok(line.finish())
+    ended(line)
 }
 
 /// The least word behind the device's flash that a firmware fills.
@@ -109,15 +109,12 @@ pub fn firmware_outside(alloc: Global, word: u16) -> Result<Vec<u8>, AllocError>
     ensures { IfOk result (λ v. v.items ≡ firmware_outside word) }
 {
     let mut line = LineWriter::new(alloc);
-    line.word(b"firmware")?;
-    line.word(b"outside")?;
-    line.word(b"at")?;
-    line.hex(u32::from(word), 4)?;
-    line.end_line()?;
-    Ok(line.finish())
+    put_two(&mut line, b"firmware", b"outside")?;
+    put_address(&mut line, b"at", word)?;
+    ended(line)
 }
 
-fn put_two(line: &mut LineWriter, first: &[u8], second: &[u8]) -> Result<(), AllocError>
+pub(crate) fn put_two(line: &mut LineWriter, first: &[u8], second: &[u8]) -> Result<(), AllocError>
     ensures { OnOk result (line.new ≡ with_words line.old (first.now ∷ second.now ∷ [])) }
 {
     line.word(first)?;
@@ -125,7 +122,7 @@ fn put_two(line: &mut LineWriter, first: &[u8], second: &[u8]) -> Result<(), All
 }
 
 /// A word, a word and a number.
-fn put_two_and_number(
+pub(crate) fn put_two_and_number(
     line: &mut LineWriter,
     first: &[u8],
     second: &[u8],
@@ -135,6 +132,22 @@ fn put_two_and_number(
 {
     put_two(line, first, second)?;
     line.dec(number)
+}
+
+/// A word and a number.
+pub(crate) fn put_number(line: &mut LineWriter, name: &[u8], number: u64) -> Result<(), AllocError>
+    ensures { OnOk result (line.new ≡ with_words line.old (name.now ∷ decimal number ∷ [])) }
+{
+    line.word(name)?;
+    line.dec(number)
+}
+
+/// A word, and a word of flash in digits: an address, or what stands there.
+pub(crate) fn put_address(line: &mut LineWriter, name: &[u8], word: u16) -> Result<(), AllocError>
+    ensures { OnOk result (line.new ≡ with_words line.old (name.now ∷ hex_digits word 4 ∷ [])) }
+{
+    line.word(name)?;
+    line.hex(u32::from(word), 4)
 }
 
 /// The words that name the refused line; none for want of memory.
@@ -155,8 +168,7 @@ pub fn assumptions_refused(alloc: Global, fault: &AssumeText) -> Result<Vec<u8>,
     let mut line = LineWriter::new(alloc);
     line.word(b"assumptions")?;
     put_assumption_fault(&mut line, fault)?;
-    line.end_line()?;
-    Ok(line.finish())
+    ended(line)
 }
 
 /// The word of a limit that is passed.
@@ -169,15 +181,6 @@ pub(crate) fn limit_word(limit: Limit) -> &'static [u8]
     }
 }
 
-/// A word, and that of a limit.
-fn put_limit(line: &mut LineWriter, limit: Limit) -> Result<(), AllocError>
-    ensures { OnOk result (line.new ≡ with_words line.old (codes "limit" ∷ limit_word limit ∷ [])) }
-{
-    line.word(b"limit")?;
-    line.word(limit_word(limit))?;
-    Ok(())
-}
-
 /// The words that name the refused line, or the limit that is passed; none for want of memory.
 fn put_certificate_fault(line: &mut LineWriter, fault: &CertFault) -> Result<(), AllocError>
     ensures { OnOk result (AreWritten line.old line.new (certificate_words fault.now)) }
@@ -185,7 +188,7 @@ fn put_certificate_fault(line: &mut LineWriter, fault: &CertFault) -> Result<(),
     match *fault {
         CertFault::Malformed(at) => put_two_and_number(line, b"malformed", b"at", at as u64),
         CertFault::Order(at) => put_two_and_number(line, b"order", b"at", at as u64),
-        CertFault::Limit(limit) => put_limit(line, limit),
+        CertFault::Limit(limit) => put_two(line, b"limit", limit_word(limit)),
         CertFault::Memory => Err(AllocError),
     }
 }
@@ -197,8 +200,7 @@ pub fn certificate_refused(alloc: Global, fault: &CertFault) -> Result<Vec<u8>, 
     let mut line = LineWriter::new(alloc);
     line.word(b"certificate")?;
     put_certificate_fault(&mut line, fault)?;
-    line.end_line()?;
-    Ok(line.finish())
+    ended(line)
 }
 
 /// A line of three words and a number.
@@ -212,12 +214,9 @@ fn three_words_and_number(
     ensures { IfOk result (λ v. v.items ≡ told (first.now ∷ second.now ∷ third.now ∷ decimal number ∷ [])) }
 {
     let mut line = LineWriter::new(alloc);
-    line.word(first)?;
-    line.word(second)?;
-    line.word(third)?;
-    line.dec(number)?;
-    line.end_line()?;
-    Ok(line.finish())
+    put_two(&mut line, first, second)?;
+    put_number(&mut line, third, number)?;
+    ended(line)
 }
 
 /// The offset of the refused line of a schedule.
@@ -257,12 +256,9 @@ pub fn accepted(alloc: Global, bound: u16, attained: bool) -> Result<Vec<u8>, Al
     ensures { IfOk result (λ v. v.items ≡ accepted bound attained) }
 {
     let mut line = LineWriter::new(alloc);
-    line.word(b"accepted")?;
-    line.word(b"bound")?;
-    line.dec(u64::from(bound))?;
+    put_two_and_number(&mut line, b"accepted", b"bound", u64::from(bound))?;
     line.word(witness_word(attained))?;
-    line.end_line()?;
-    Ok(line.finish())
+    ended(line)
 }
 
 /// An instance's number, a word and a number.
@@ -276,9 +272,7 @@ fn put_inst(
     ensures { OnOk result (line.new ≡ with_words line.old (reason.now ∷ codes "inst" ∷ decimal at ∷ word.now ∷ decimal number ∷ [])) }
 {
     put_two_and_number(line, reason, b"inst", u64::from(at))?;
-    line.word(word)?;
-    line.dec(u64::from(number))?;
-    Ok(())
+    put_number(line, word, u64::from(number))
 }
 
 /// A node's number, and the number of what is wrong with its own step.
@@ -286,8 +280,7 @@ fn put_node(line: &mut LineWriter, at: u32, cause: u8) -> Result<(), AllocError>
     ensures { OnOk result (line.new ≡ with_words line.old (codes "2" ∷ codes "node" ∷ decimal at ∷ codes "cause" ∷ decimal cause ∷ [])) }
 {
     put_two_and_number(line, b"2", b"node", u64::from(at))?;
-    line.word(b"cause")?;
-    line.dec(u64::from(cause))
+    put_number(line, b"cause", u64::from(cause))
 }
 
 /// A node's number, and the key to which an edge leads.
@@ -321,8 +314,7 @@ pub fn rejected(alloc: Global, reason: &Reason) -> Result<Vec<u8>, AllocError>
     let mut line = LineWriter::new(alloc);
     line.word(b"rejected")?;
     put_reason(alloc, &mut line, reason)?;
-    line.end_line()?;
-    Ok(line.finish())
+    ended(line)
 }
 
 /// A certificate whose schedule doesn't attain its bound.
@@ -336,18 +328,8 @@ pub fn witness_rejected(alloc: Global) -> Result<Vec<u8>, AllocError>
 fn put_flag(line: &mut LineWriter, name: &[u8], pc: u16, other: u16) -> Result<(), AllocError>
     ensures { OnOk result (line.new ≡ with_words line.old (name.now ∷ hex_digits pc 4 ∷ hex_digits other 4 ∷ [])) }
 {
-    line.word(name)?;
-    line.hex(u32::from(pc), 4)?;
-    line.hex(u32::from(other), 4)?;
-    Ok(())
-}
-
-fn put_place(line: &mut LineWriter, name: &[u8], pc: u16) -> Result<(), AllocError>
-    ensures { OnOk result (line.new ≡ with_words line.old (name.now ∷ hex_digits pc 4 ∷ [])) }
-{
-    line.word(name)?;
-    line.hex(u32::from(pc), 4)?;
-    Ok(())
+    put_address(line, name, pc)?;
+    line.hex(u32::from(other), 4)
 }
 
 fn put_stop(line: &mut LineWriter, stop: Stop) -> Result<(), AllocError>
@@ -358,8 +340,8 @@ fn put_stop(line: &mut LineWriter, stop: Stop) -> Result<(), AllocError>
         Stop::Flag(Flag::Live(pc, address)) => put_flag(line, b"live", pc, address),
         Stop::Flag(Flag::Protected(pc, address)) => put_flag(line, b"protected", pc, address),
         Stop::Flag(Flag::Transfer(pc, target)) => put_flag(line, b"transfer", pc, target),
-        Stop::Undefined(pc) => put_place(line, b"undefined", pc),
-        Stop::Overflow(pc) => put_place(line, b"overflow", pc),
+        Stop::Undefined(pc) => put_address(line, b"undefined", pc),
+        Stop::Overflow(pc) => put_address(line, b"overflow", pc),
     }
 }
 
@@ -368,12 +350,9 @@ pub fn run_text(alloc: Global, report: &ReplayReport) -> Result<Vec<u8>, AllocEr
     ensures { IfOk result (λ v. v.items ≡ run_text (record { steps = report.now.steps; depth = report.now.depth; stop = report.now.stop })) }
 {
     let mut line = LineWriter::new(alloc);
-    line.word(b"steps")?;
-    line.dec(u64::from(report.steps))?;
-    line.word(b"depth")?;
-    line.dec(u64::from(report.depth))?;
+    put_number(&mut line, b"steps", u64::from(report.steps))?;
+    put_number(&mut line, b"depth", u64::from(report.depth))?;
     line.word(b"stop")?;
     put_stop(&mut line, report.stop)?;
-    line.end_line()?;
-    Ok(line.finish())
+    ended(line)
 }
