@@ -1,8 +1,8 @@
 //! The report as JSON.
 
-ghost use Rattle.std.specs.Prelude.{◌≡◌, ◌++◌, IfOk, OnOk, codes, decimal, false, string_bytes};
-ghost use Rattle.serde_json.specs.Data.{string};
-ghost use Rattle.serde_json.specs.View.{view};
+ghost use Rattle.std.specs.Prelude.{◌≡◌, ◌++◌, [], IfOk, OnOk, codes, decimal, false, string_bytes};
+ghost use Rattle.serde_json.specs.Data.{object, string};
+ghost use Rattle.serde_json.specs.View.{view, members_view};
 ghost use Rattle.serde_json.specs.Written.{compact_text, has_float};
 ghost use Rattle.flash_image.specs.Naming.{least_name};
 ghost use Rattle.cert_words.specs.KeySpelling.{kind_word};
@@ -13,7 +13,7 @@ use avr_model::device::Device;
 use certificate::{Certificate, Inst};
 use flash_image::Names;
 use mask_states::Kind;
-use serde_json::{Value, json};
+use serde_json::{Map, Value};
 use std::alloc::{AllocError, Global};
 
 /// A text as a value.
@@ -99,24 +99,46 @@ fn kind_value(alloc: Global, kind: Kind) -> Result<Value, AllocError>
     }
 }
 
+/// Puts what is told of an instance into an object that has nothing yet.
+fn put_members(
+    members: &mut Map<String, Value>,
+    alloc: Global,
+    names: &Names,
+    inst: &Inst,
+) -> Result<(), AllocError>
+    requires { members.old.entries ≡ [] }
+    ensures { OnOk result (object (members_view members.new.entries) ≡ inst_data names.now inst.now) }
+{
+    serde_json::put(
+        members,
+        alloc,
+        "enables",
+        Value::from(inst.key.masks.bits()),
+    )?;
+    serde_json::put(members, alloc, "entry", Value::from(inst.key.entry))?;
+    serde_json::put(members, alloc, "i", Value::from(u8::from(inst.key.i)))?;
+    serde_json::put(members, alloc, "kind", kind_value(alloc, inst.key.kind)?)?;
+    serde_json::put(
+        members,
+        alloc,
+        "name",
+        name_value(alloc, names, inst.key.entry)?,
+    )?;
+    serde_json::put(members, alloc, "need", Value::from(inst.need))
+}
+
 /// An instance.
 fn inst_value(alloc: Global, names: &Names, inst: &Inst) -> Result<Value, AllocError>
     ensures { IfOk result (λ v. view v ≡ inst_data names.now inst.now) }
 {
-    let enables = inst.key.masks.bits();
-    let entry = inst.key.entry;
-    let i = u8::from(inst.key.i);
-    let need = inst.need;
-    let kind = kind_value(alloc, inst.key.kind)?;
-    let name = name_value(alloc, names, entry)?;
-    json!(in alloc; {
-        "enables": enables,
-        "entry": entry,
-        "i": i,
-        "kind": kind,
-        "name": name,
-        "need": need
-    })
+    let mut members = Map::new(alloc);
+    match put_members(&mut members, alloc, names, inst) {
+        Ok(()) => Ok(Value::Object(members)),
+        Err(error) => {
+            drop(members);
+            Err(error)
+        }
+    }
 }
 
 /// Writes what stands before a value, and the value.
