@@ -124,11 +124,18 @@ pub fn gather<'a, F: Files>(
     };
     let second = match fetch_bytes(alloc, files, command.second(), second_cap(command)) {
         Ok(bytes) => bytes,
-        Err(fault) => return Err(fault),
+        Err(fault) => {
+            drop(firmware);
+            return Err(fault);
+        }
     };
     let assumptions = match fetch_optional(alloc, files, command.assume(), ASSUMPTION_CAP) {
         Ok(list) => list,
-        Err(fault) => return Err(fault),
+        Err(fault) => {
+            drop(firmware);
+            drop(second);
+            return Err(fault);
+        }
     };
     Ok(Contents {
         firmware,
