@@ -120,15 +120,22 @@ fn state_of(
     let Some(facts) = pairs_of(alloc, words, version, &registers)? else {
         return Ok(None);
     };
-    let Some(slots) = slots_of(alloc, words, version, root, offset)? else {
-        return Ok(None);
-    };
-    Ok(Some(AbsState {
-        registers,
-        flags,
-        slots,
-        facts,
-    }))
+    match slots_of(alloc, words, version, root, offset) {
+        Ok(Some(slots)) => Ok(Some(AbsState {
+            registers,
+            flags,
+            slots,
+            facts,
+        })),
+        Ok(None) => {
+            drop(facts);
+            Ok(None)
+        }
+        Err(error) => {
+            drop(facts);
+            Err(error)
+        }
+    }
 }
 
 /// The number of an earlier node than that of the number `at`.
