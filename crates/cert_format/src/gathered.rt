@@ -125,6 +125,7 @@ impl Gathered for Assumptions {
             return Err(CertFault::Malformed(at));
         };
         if !is_admitted(self, &entry) {
+            drop(entry);
             return Err(CertFault::Malformed(at));
         }
         match self.push(entry) {
@@ -234,10 +235,12 @@ impl<'a> NodeList<'a> {
         ensures same { self.new.instances ≡ self.old.instances }
     {
         if !is_node_above(&self.nodes, &node.0) {
+            drop(node);
             return Err(CertFault::Order(at));
         }
         let more = self.cells + (1 + u32::from(node.0.offset()));
         if more > MOST_CELLS {
+            drop(node);
             return Err(CertFault::Limit(Limit::Cells));
         }
         match self.nodes.push(node) {

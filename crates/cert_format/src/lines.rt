@@ -89,6 +89,7 @@ pub(crate) fn node_of(
     if is_over(&mut words) {
         Ok(Some((key, form)))
     } else {
+        drop(form);
         Ok(None)
     }
 }

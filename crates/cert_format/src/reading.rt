@@ -183,8 +183,8 @@ fn read_entries(
     let least = least_entries(version);
     let count = read_numbered(reader, b"assume", least, MOST_ENTRIES)?;
     let mut list = read_first(alloc, reader, version)?;
-    read_each(alloc, reader, &mut list, count - least)?;
-    Ok(list)
+    let told = read_each(alloc, reader, &mut list, count - least);
+    told.and(Ok(list))
 }
 
 /// Reads the number of instances and their lines.
@@ -194,8 +194,8 @@ fn read_instances(alloc: Global, reader: &mut LineReader<'_>) -> Result<Vec<Inst
 {
     let count = read_numbered(reader, b"instances", 0, MOST_INSTANCES)?;
     let mut list = Vec::new(alloc);
-    read_each(alloc, reader, &mut list, count)?;
-    Ok(list)
+    let told = read_each(alloc, reader, &mut list, count);
+    told.and(Ok(list))
 }
 
 /// Reads the number of nodes and their lines.
@@ -210,8 +210,8 @@ fn read_nodes(
 {
     let count = read_count(reader)?;
     let mut list = NodeList::empty(alloc, version, instances);
-    read_each(alloc, reader, &mut list, count)?;
-    Ok(list.into_nodes())
+    let told = read_each(alloc, reader, &mut list, count);
+    told.and(Ok(list.into_nodes()))
 }
 
 /// Whether a line says that a schedule follows.
@@ -331,12 +331,31 @@ fn read_claim(alloc: Global, reader: &mut LineReader<'_>) -> Result<Certificate,
     claims_keep();
     let (version, bound) = read_heading(reader)?;
     let assumptions = read_entries(alloc, reader, version)?;
-    let instances = read_instances(alloc, reader)?;
-    let nodes = read_nodes(alloc, reader, version, &instances)?;
-    let witness = read_witness(alloc, reader)?;
-    read_end(reader)?;
+    let instances = match read_instances(alloc, reader) {
+        Ok(instances) => instances,
+        Err(fault) => {
+            drop(assumptions);
+            return Err(fault);
+        }
+    };
+    let nodes = match read_nodes(alloc, reader, version, &instances) {
+        Ok(nodes) => nodes,
+        Err(fault) => {
+            drop(instances);
+            drop(assumptions);
+            return Err(fault);
+        }
+    };
     let claim = Certificate::of_version(version, bound as u16, assumptions, instances, nodes);
-    Ok(claim.with_witness(witness))
+    let witness = match read_witness(alloc, reader) {
+        Ok(witness) => witness,
+        Err(fault) => {
+            drop(claim);
+            return Err(fault);
+        }
+    };
+    let told = read_end(reader);
+    told.and(Ok(claim.with_witness(witness)))
 }
 
 /// Reads a text, all of it.
