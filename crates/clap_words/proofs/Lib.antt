@@ -4,3 +4,4 @@ mod Pieces
 mod Rows
 mod Steps
 mod Taken
+mod Table

@@ -1,10 +1,13 @@
 -- The program's command line as `clap` has it, and the words that are refused before. Source: own.
-use Rattle.std.specs.Prelude.{◌&&◌, ◌||◌, not, Bool, true, [], Some, codes}
+use Rattle.std.specs.Prelude.{◌&&◌, ◌||◌, not, Bool, true, List, [], ◌∷◌, Some, codes}
+use Rattle.std.specs.Borrow.{Bor}
 use Rattle.std.specs.Str.{bytes_eq}
 use Rattle.clap.specs.Words.{App, Rule, Text, new_app, new_rule, with_rule, with_subcommand}
 use Rattle.clap.specs.Simple.{new_shape}
 use Rattle.clap.specs.declared.builder.action.ArgAction.TheVariants.{SetTrue}
 use Rattle.commands.specs.Commands.{is_name}
+use Rattle.clap_words.specs.declared.line.Kind.{Kind}
+use Rattle.clap_words.specs.declared.line.Kind.TheVariants.{Name, Value, Flag}
 
 -- ---- what clap knows
 
@@ -83,6 +86,26 @@ bare_app = record {
   };
   subs = [];
 }
+
+-- ---- the same, made of a table
+
+-- an argument of a kind
+abbrev pub rule_by : Kind → Text → Rule
+rule_by Name id = name_rule id
+rule_by Value id = value_rule id
+rule_by Flag id = flag_rule id
+
+-- the command with these arguments
+abbrev pub with_rules : App → List (Bor Text × Kind) → App
+with_rules app [] = app
+with_rules app (a ∷ rest) = with_rules (with_rule app (rule_by a.1 a.0.now)) rest
+
+-- the program with these commands, each with its arguments
+abbrev pub with_commands : App → List (Bor Text × Bor (List (Bor Text × Kind))) → App
+with_commands app [] = app
+with_commands app (c ∷ rest) = with_commands (with_subcommand app (with_rules (new_app c.0.now) c.1.now).top) rest
+
+-- ---- the whole
 
 -- the program with its commands
 abbrev pub line_app : App
