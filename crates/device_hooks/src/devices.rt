@@ -106,7 +106,7 @@ impl Model for Devices {
 }
 
 /// Why a text is that of no devices, or isn't read.
-#[derive(Clone, Copy, Debug, PartialEq, Eq, Drop, Error)]
+#[derive(Debug, Drop, Error)]
 pub enum DevicesFault {
     /// No devices' text goes on with the line at this offset; or a line is missing, and this is the text's length.
     #[error("devices malformed at {0}")]

@@ -71,7 +71,12 @@ fn is_ready(devices: &Devices, timers: bool, moment: &Moment<'_>, menu: &Menu, n
 
 /// The first source in the text's order that is a timer, or else a receiver, is due and has its interrupt in the menu.
 #[tactic(auto, using(crate::proofs::Ready::first_here, crate::proofs::Ready::first_later, crate::proofs::Ready::first_none))]
-fn first_due(devices: &Devices, timers: bool, moment: &Moment<'_>, menu: &Menu) -> Option<usize>
+pub(crate) fn first_due(
+    devices: &Devices,
+    timers: bool,
+    moment: &Moment<'_>,
+    menu: &Menu,
+) -> Option<usize>
     requires { length moment.now.taken.now ≡ length devices.now.sources }
     ensures { result ≡ first_ready devices.now (stands_in menu.now) timers moment.now.taken.now moment.now.step }
 {
@@ -81,20 +86,4 @@ fn first_due(devices: &Devices, timers: bool, moment: &Moment<'_>, menu: &Menu) 
         }
     }
     None
-}
-
-/// The first due timer whose interrupt stands in the menu.
-pub fn due_timer(devices: &Devices, moment: &Moment<'_>, menu: &Menu) -> Option<usize>
-    requires { length moment.now.taken.now ≡ length devices.now.sources }
-    ensures { result ≡ first_ready devices.now (stands_in menu.now) true moment.now.taken.now moment.now.step }
-{
-    first_due(devices, true, moment, menu)
-}
-
-/// The first due receiver whose interrupt stands in the menu.
-pub fn due_receiver(devices: &Devices, moment: &Moment<'_>, menu: &Menu) -> Option<usize>
-    requires { length moment.now.taken.now ≡ length devices.now.sources }
-    ensures { result ≡ first_ready devices.now (stands_in menu.now) false moment.now.taken.now moment.now.step }
-{
-    first_due(devices, false, moment, menu)
 }

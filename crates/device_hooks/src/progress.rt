@@ -65,7 +65,11 @@ impl Progress {
     pub(crate) fn choice(&self, devices: &Devices, answer: Option<usize>) -> Choice
         ensures { result ≡ choice_on devices.now self.now answer }
     {
-        match answer.and_then(|n| devices.source(n)) {
+        let source = match answer {
+            Some(n) => devices.source(n),
+            None => None,
+        };
+        match source {
             Some(source) => Choice::Take(source.vector, false),
             None => Choice::Go(self.input, self.input),
         }

@@ -1,6 +1,6 @@
 //! The reader of devices' texts.
 
-ghost use Rattle.std.specs.Prelude.{◌≡◌, ◌≤◌, ◌<◌, length, IfOk, IfSome};
+ghost use Rattle.std.specs.Prelude.{◌≡◌, ◌≤◌, ◌<◌, [], length, IfOk, IfSome};
 ghost use Rattle.std.specs.Option.{option_map};
 ghost use Rattle.witness_replay.specs.Reading.{fill_by};
 ghost use Rattle.sb_base.specs.Answers.{Answers};
@@ -108,9 +108,10 @@ fn receiver_of(alloc: Global, words: &mut Words<'_>) -> Result<Option<Source>, A
     let Some(times) = times_of(words) else {
         return Ok(None);
     };
-    match bytes_of(alloc, words)? {
-        Some(bytes) => Ok(receiver_by(times, bytes)),
-        None => Ok(None),
+    match bytes_of(alloc, words) {
+        Ok(Some(bytes)) => Ok(receiver_by(times, bytes)),
+        Ok(None) => Ok(None),
+        Err(fault) => Err(fault),
     }
 }
 
@@ -144,9 +145,10 @@ fn part_of(alloc: Global, text: &[u8], left: u32) -> Result<Option<Option<Source
     if left == 0 {
         return Ok(None);
     }
-    match source_of(alloc, text)? {
-        Some(source) => Ok(Some(Some(source))),
-        None => Ok(None),
+    match source_of(alloc, text) {
+        Ok(Some(source)) => Ok(Some(Some(source))),
+        Ok(None) => Ok(None),
+        Err(fault) => Err(fault),
     }
 }
 
@@ -192,17 +194,26 @@ fn read_part(
     let Some(text) = peek_text(reader) else {
         return Err(DevicesFault::Malformed(reader.offset()));
     };
-    let found = part_of(alloc, text, left)?;
-    let part = take_line(reader, found)?;
-    Ok(part)
+    match part_of(alloc, text, left) {
+        Ok(found) => match take_line(reader, found) {
+            Ok(part) => Ok(part),
+            Err(fault) => Err(DevicesFault::Malformed(fault.0)),
+        },
+        Err(_) => Err(DevicesFault::Memory),
+    }
 }
 
-/// Reads the lines up to `end`.
+/// Reads the lines up to `end`, and puts their sources into an empty list. The list isn't owned here, so that no end of the
+/// function has to drop it.
 #[tactic(auto, using(crate::proofs::Loop::front_step, crate::proofs::Loop::front_end, crate::proofs::Loop::front_fault))]
-fn read_sources(alloc: Global, reader: &mut LineReader<'_>) -> Result<Vec<Source>, DevicesFault>
-    ensures { Answers (λ v. (v.items, reader.new)) fault.Memory result (malformed (sources_from most_sources reader.old.at reader.old.rest)) }
+fn read_sources(
+    alloc: Global,
+    reader: &mut LineReader<'_>,
+    sources: &mut Vec<Source>,
+) -> Result<(), DevicesFault>
+    requires { sources.old.items ≡ [] }
+    ensures { Answers (λ _. (sources.new.items, reader.new)) fault.Memory result (malformed (sources_from most_sources reader.old.at reader.old.rest)) }
 {
-    let mut sources = Vec::new(alloc);
     let mut left = MOST_SOURCES;
     while let Some(source) = read_part(alloc, reader, left)? {
         if sources.push(source).is_err() {
@@ -210,7 +221,7 @@ fn read_sources(alloc: Global, reader: &mut LineReader<'_>) -> Result<Vec<Source
         }
         left -= 1;
     }
-    Ok(sources)
+    Ok(())
 }
 
 /// Reads the lines of a setup, behind which there has to be nothing.
@@ -220,11 +231,15 @@ fn read_lines(alloc: Global, reader: &mut LineReader<'_>) -> Result<Devices, Dev
 {
     take_text(reader, b"devices 1")?;
     let fill = read_fill(reader)?;
-    let sources = read_sources(alloc, reader)?;
-    match reader.peek() {
-        None => Ok(Devices::new(fill, sources)),
-        Some(line) => Err(DevicesFault::Malformed(line.at)),
-    }
+    let mut sources = Vec::new(alloc);
+    let told = match read_sources(alloc, reader, &mut sources) {
+        Ok(()) => match reader.peek() {
+            None => Ok(()),
+            Some(line) => Err(DevicesFault::Malformed(line.at)),
+        },
+        Err(fault) => Err(fault),
+    };
+    told.and(Ok(Devices::new(fill, sources)))
 }
 
 /// Reads a text, all of it.

@@ -6,7 +6,7 @@ ghost use Rattle.device_hooks.specs.Spelling.{most_steps};
 ghost use Rattle.device_hooks.specs.Simulating.{simulation_of};
 
 use crate::devices::Devices;
-use crate::hook::{Hook, Moment, due_receiver, due_timer};
+use crate::hook::{Hook, Moment, first_due};
 use crate::walk::walk;
 use avr_machine::{Machine, Menu};
 use flash_image::Flash;
@@ -33,11 +33,11 @@ pub fn simulation(
     depth_is_kept();
     let timers = Hook::new(
         devices,
-        |moment: &Moment<'_>, menu: &Menu| due_timer(devices, moment, menu),
+        |moment: &Moment<'_>, menu: &Menu| first_due(devices, true, moment, menu),
     );
     let receivers = Hook::new(
         devices,
-        |moment: &Moment<'_>, menu: &Menu| due_receiver(devices, moment, menu),
+        |moment: &Moment<'_>, menu: &Menu| first_due(devices, false, moment, menu),
     );
     let mut machine = Machine::start(flash.device(), devices.fill());
     let walk = walk(
