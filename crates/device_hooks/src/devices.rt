@@ -15,7 +15,6 @@ use avr_model::listed::Listed;
 use line_reading::Malformed;
 use std::alloc::{AllocError, Global};
 use std::marker::Model;
-use thiserror::Error;
 
 /// What kind of source asks for interrupts.
 #[derive(Drop)]
@@ -106,13 +105,11 @@ impl Model for Devices {
 }
 
 /// Why a text is that of no devices, or isn't read.
-#[derive(Debug, Drop, Error)]
+#[derive(Drop)]
 pub enum DevicesFault {
     /// No devices' text goes on with the line at this offset; or a line is missing, and this is the text's length.
-    #[error("devices malformed at {0}")]
     Malformed(usize),
     /// Want of memory.
-    #[error("out of memory")]
     Memory,
 }
 

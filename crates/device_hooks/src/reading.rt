@@ -2,19 +2,19 @@
 
 ghost use Rattle.std.specs.Prelude.{◌≡◌, ◌≤◌, ◌<◌, [], length, IfOk, IfSome};
 ghost use Rattle.std.specs.Option.{option_map};
-ghost use Rattle.witness_replay.specs.Reading.{fill_by};
 ghost use Rattle.sb_base.specs.Answers.{Answers};
 ghost use Rattle.sb_base.specs.Lines.{words_of};
-ghost use Rattle.line_reading.specs.Reading.{line_by, ReadsAt};
+ghost use Rattle.line_reading.specs.Reading.{line_by};
 ghost use Rattle.device_hooks.specs.declared.devices.DevicesFault.TheVariants as fault;
 ghost use Rattle.device_hooks.specs.Spelling.{most_sources};
 ghost use Rattle.device_hooks.specs.Reading.{times_at, bytes_in, timer_in, receiver_by, receiver_in, source_in, part_by, sources_from, malformed, setup_at, setup_in};
 
 use crate::devices::{Devices, DevicesFault, Kind, Source};
 use avr_model::listed::Listed;
-use line_reading::{Malformed, dec_word, hex_word, is_over, peek_text, take_line, take_text};
+use line_reading::{dec_word, is_over, peek_text, take_line, take_text};
 use sb_base::{LineReader, Words, read_hex};
 use std::alloc::{AllocError, Global};
+use witness_replay::read_fill;
 
 /// The most lines of sources.
 const MOST_SOURCES: u32 = 32;
@@ -149,34 +149,6 @@ fn part_of(alloc: Global, text: &[u8], left: u32) -> Result<Option<Option<Source
         Ok(Some(source)) => Ok(Some(Some(source))),
         Ok(None) => Ok(None),
         Err(fault) => Err(fault),
-    }
-}
-
-/// The fill byte of a line.
-#[tactic(auto, unfolding(witness_replay::specs::Reading::fill_in))]
-fn fill_of(text: &[u8]) -> Option<u8>
-    ensures { result ≡ fill_by text.now }
-{
-    let mut words = Words::new(text);
-    if words.next()? != b"fill".as_slice() {
-        return None;
-    }
-    let fill = hex_word(&mut words, 2)?;
-    if is_over(&mut words) {
-        Some(fill as u8)
-    } else {
-        None
-    }
-}
-
-/// Reads the line of the fill byte.
-#[tactic(auto, unfolding(line_reading::specs::Reading::line_by))]
-fn read_fill(reader: &mut LineReader<'_>) -> Result<u8, Malformed>
-    ensures { ReadsAt (λ b. b) reader.new result (line_by fill_by reader.old) }
-{
-    match peek_text(reader) {
-        Some(text) => take_line(reader, fill_of(text)),
-        None => Err(Malformed(reader.offset())),
     }
 }
 
