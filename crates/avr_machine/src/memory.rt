@@ -20,7 +20,8 @@ pub fn is_sram(device: Device, address: u16) -> bool
     BELOW < address && address <= device.ramend()
 }
 
-fn are_same(bytes: &[u8], others: &[u8]) -> bool
+/// Whether both are the same bytes.
+pub fn are_same(bytes: &[u8], others: &[u8]) -> bool
     ensures { IsTrue result ↔ (bytes.now ≡ others.now) }
 {
     bytes == others

@@ -11,13 +11,13 @@ ghost use Rattle.avr_machine.specs.Quiet.{push_effect_to, push_answer, jump_answ
 
 use crate::flags::{flag_by, never_target, unlisted_target};
 use crate::memory::is_sram;
-use crate::pieces::{set, way_back};
+use crate::pieces::way_back;
 use crate::processor::Processor;
 use crate::transfers::Z;
 use avr_alu::Sreg;
 use avr_model::choice::StepResult;
 use avr_model::device::{Device, WORDS};
-use avr_model::effect::Write;
+use avr_model::effect::{Write, Writes};
 use flash_image::Flash;
 use vector_table::Assumptions;
 
@@ -84,7 +84,10 @@ impl Processor {
         ensures answer { result ≡ result_of (push_answer flash.now self.old None (set self.old.sp (register self.old r)) (minus16 self.old.sp 1) (further self.old 1)) }
         ensures state { self.new ≡ state_after self.old (push_answer flash.now self.old None (set self.old.sp (register self.old r)) (minus16 self.old.sp 1) (further self.old 1)) }
     {
-        let pushes = set(self.sp, self.register(r));
+        let pushes = Writes::one(Write {
+            address: self.sp,
+            byte: self.register(r),
+        });
         let sp = self.sp.wrapping_sub(1);
         let next = self.further(1);
         self.push_step(flash, None, pushes.as_slice(), sp, next)
