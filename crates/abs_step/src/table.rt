@@ -39,46 +39,50 @@ fn flow_row(
 {
     let (a, device) = (site.alloc, site.device);
     let (key, state) = (site.key, site.state);
-    match instr {
-        Instr::Ijmp => staying(a, jumping(nodes, site)),
-        Instr::Icall => indirect_call(site),
+    let added = match instr {
+        Instr::Ijmp => jumping(nodes, site),
+        Instr::Icall => return indirect_call(site),
         Instr::Ret => {
             let (masks, i, delay) = (key.masks, key.i, false);
-            returning(site, Exit { masks, i, delay })
+            return returning(site, Exit { masks, i, delay });
         }
         Instr::Reti => {
             let (masks, i, delay) = (key.masks, true, true);
-            returning(site, Exit { masks, i, delay })
+            return returning(site, Exit { masks, i, delay });
         }
-        Instr::Jmp(t) => staying(a, going_to(nodes, site, device.wrap(t.get()))),
-        Instr::Call(t) => calling(a, key, further(device, key, 2), &[device.wrap(t.get())]),
-        Instr::Rjmp(t) => staying(a, going_to(nodes, site, device.wrap(far(key.pc, t.get())))),
-        Instr::Rcall(t) => relative_call(nodes, site, scratch, device.wrap(far(key.pc, t.get()))),
+        Instr::Jmp(t) => going_to(nodes, site, device.wrap(t.get())),
+        Instr::Call(t) => {
+            let targets = [device.wrap(t.get())];
+            return calling(a, key, further(device, key, 2), &targets);
+        }
+        Instr::Rjmp(t) => going_to(nodes, site, device.wrap(far(key.pc, t.get()))),
+        Instr::Rcall(t) => {
+            let target = device.wrap(far(key.pc, t.get()));
+            return relative_call(nodes, site, scratch, target);
+        }
         Instr::Brbs(n, t) => {
             let (taken, other) = (device.wrap(near(key.pc, t.get())), further(device, key, 1));
-            staying(a, branch_where_set(nodes, site, *n, taken, other))
+            branch_where_set(nodes, site, *n, taken, other)
         }
         Instr::Brbc(n, t) => {
             let (taken, other) = (device.wrap(near(key.pc, t.get())), further(device, key, 1));
-            staying(a, branch_where_clear(nodes, site, *n, taken, other))
+            branch_where_clear(nodes, site, *n, taken, other)
         }
         Instr::Sbic(port, bit) => {
             let condition = port_bit(device, key, state, *port, *bit).complement();
-            staying(a, skipping(nodes, site, condition))
+            skipping(nodes, site, condition)
         }
         Instr::Sbis(port, bit) => {
-            staying(
-                a,
-                skipping(nodes, site, port_bit(device, key, state, *port, *bit)),
-            )
+            skipping(nodes, site, port_bit(device, key, state, *port, *bit))
         }
         Instr::Sbrc(r, bit) => {
             let condition = register_bit(state, *r, *bit).complement();
-            staying(a, skipping(nodes, site, condition))
+            skipping(nodes, site, condition)
         }
-        Instr::Sbrs(r, bit) => staying(a, skipping(nodes, site, register_bit(state, *r, *bit))),
-        _ => staying(a, going_to(nodes, site, further(device, key, 1))),
-    }
+        Instr::Sbrs(r, bit) => skipping(nodes, site, register_bit(state, *r, *bit)),
+        _ => going_to(nodes, site, further(device, key, 1)),
+    };
+    staying(a, added)
 }
 
 // Loads, stores and I/O.
@@ -91,37 +95,38 @@ fn memory_row(
     requires word { site.now.key.now.pc < WORDS }
     ensures { Leads nodes.old nodes.new result (rows.memory_row site.now.device site.now.flash.now site.now.assumptions.now scratch site.now.key.now site.now.state.now instr.now) }
 {
-    let (a, state) = (site.alloc, site.state);
-    match instr {
+    let state = site.state;
+    let added = match instr {
         Instr::Ldd(d, b, q) => {
             let r = base_register(*b);
-            staying(a, load_row(nodes, site, &state.registers, *d, r, q.get()))
+            load_row(nodes, site, &state.registers, *d, r, q.get())
         }
         Instr::Std(b, q, r) => {
             let base = base_register(*b);
-            staying(a, pointer_write(nodes, site, base, q.get(), *r, state))
+            pointer_write(nodes, site, base, q.get(), *r, state)
         }
-        Instr::Lds(d, address) => staying(a, read_row(nodes, site, 2, *d, *address)),
-        Instr::Sts(address, r) => staying(a, known_write(nodes, site, 2, false, *address, *r)),
+        Instr::Lds(d, address) => read_row(nodes, site, 2, *d, *address),
+        Instr::Sts(address, r) => known_write(nodes, site, 2, false, *address, *r),
         Instr::Ld(d, p) => {
             let (registers, r) = (pointer_moved(*p, state), pointer_register(*p));
-            staying(a, load_row(nodes, site, &registers, *d, r, step_before(*p)))
+            load_row(nodes, site, &registers, *d, r, step_before(*p))
         }
-        Instr::St(p, r) => staying(a, store_row(nodes, site, *p, *r)),
-        Instr::LpmZ(d) => staying(a, lpm_row(nodes, site, &state.registers, *d)),
+        Instr::St(p, r) => store_row(nodes, site, *p, *r),
+        Instr::LpmZ(d) => lpm_row(nodes, site, &state.registers, *d),
         Instr::LpmZPlus(d) => {
             let moved = pair_moved(state, base_register(Base::Z), true, 1);
-            staying(a, lpm_row(nodes, site, &moved, *d))
+            lpm_row(nodes, site, &moved, *d)
         }
-        Instr::Lpm => staying(a, lpm_row(nodes, site, &state.registers, Register::new(0))),
-        Instr::Pop(d) => staying(a, pop_row(nodes, site, *d)),
-        Instr::Push(r) => staying(a, push_row(nodes, site, scratch, *r)),
-        Instr::In(d, i) => staying(a, read_row(nodes, site, 1, *d, port(*i))),
-        Instr::Out(i, r) => staying(a, known_write(nodes, site, 1, true, port(*i), *r)),
-        Instr::Cbi(i, b) => staying(a, bit_row(nodes, site, *i, *b, false)),
-        Instr::Sbi(i, b) => staying(a, bit_row(nodes, site, *i, *b, true)),
-        _ => flow_row(nodes, site, scratch, instr),
-    }
+        Instr::Lpm => lpm_row(nodes, site, &state.registers, Register::new(0)),
+        Instr::Pop(d) => pop_row(nodes, site, *d),
+        Instr::Push(r) => push_row(nodes, site, scratch, *r),
+        Instr::In(d, i) => read_row(nodes, site, 1, *d, port(*i)),
+        Instr::Out(i, r) => known_write(nodes, site, 1, true, port(*i), *r),
+        Instr::Cbi(i, b) => bit_row(nodes, site, *i, *b, false),
+        Instr::Sbi(i, b) => bit_row(nodes, site, *i, *b, true),
+        _ => return flow_row(nodes, site, scratch, instr),
+    };
+    staying(site.alloc, added)
 }
 
 // What is done to two registers. `cpse` alone skips, where they are equal.
@@ -152,13 +157,13 @@ fn other_row(
     requires word { site.now.key.now.pc < WORDS }
     ensures { Leads nodes.old nodes.new result (sections.other_row site.now.device site.now.flash.now site.now.assumptions.now scratch site.now.key.now site.now.state.now instr.now) }
 {
-    let a = site.alloc;
-    match instr {
-        Instr::Binary(op, d, r) => staying(a, binary_row(nodes, site, *op, *d, *r)),
-        Instr::Bset(n) => staying(a, flag_row(nodes, site, *n, true)),
-        Instr::Bclr(n) => staying(a, flag_row(nodes, site, *n, false)),
-        _ => memory_row(nodes, site, scratch, instr),
-    }
+    let added = match instr {
+        Instr::Binary(op, d, r) => binary_row(nodes, site, *op, *d, *r),
+        Instr::Bset(n) => flag_row(nodes, site, *n, true),
+        Instr::Bclr(n) => flag_row(nodes, site, *n, false),
+        _ => return memory_row(nodes, site, scratch, instr),
+    };
+    staying(site.alloc, added)
 }
 
 /// Where an instruction leads: nodes are put into the list, and what leaves the instance is told.
