@@ -50,7 +50,7 @@ pub enum RawFault {
 }
 
 /// The least word behind a device's flash that isn't erased.
-#[derive(Clone, Copy, Debug, Drop, PartialEq, Eq)]
+#[derive(Drop)]
 pub struct Outside(pub u16);
 
 /// How many words the ATmega328P's flash has, as a length.
@@ -88,7 +88,9 @@ impl Flash {
         if bytes.len() > 2 * COUNT {
             return Err(RawFault::TooLong);
         }
-        let mut flash = Flash::erased(alloc).map_err(|_| RawFault::Memory)?;
+        let Ok(mut flash) = Flash::erased(alloc) else {
+            return Err(RawFault::Memory);
+        };
         flash.place(0, bytes);
         Ok(flash)
     }
