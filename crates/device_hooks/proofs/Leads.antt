@@ -10,7 +10,7 @@ use Rattle.avr_model.specs.declared.choice.Stop.TheVariants as stop
 use Rattle.avr_model.specs.declared.choice.StepResult.TheVariants as said
 use Rattle.avr_model.specs.declared.assumption.Entry.{Entry}
 use Rattle.avr_model.specs.State.{State}
-use Rattle.avr_model.specs.Step.{Answer, Illegal, Done, step, result_of}
+use Rattle.avr_model.specs.Step.{Answer, Done, step, result_of}
 use Rattle.avr_model.specs.Run.{Machine, IsRun, RunsOn, HasBytes, moved_on, states_of, states_on, stop_of, stop_on}
 use Rattle.stimulus.specs.Driving.{GoesOn, machine_after, stop_at}
 use Rattle.witness_replay.specs.Replay.{steps_of}
