@@ -7,7 +7,6 @@ use Rattle.avr_model.specs.declared.instruction.Instr.{Instr}
 use Rattle.avr_model.specs.Written.{written, bits_of}
 use Rattle.avr_decode.proofs.RegisterSets.{bit_of_set, none_beyond}
 use Rattle.sp_domain.specs.declared.tags.CarryTag.{CarryTag}
-use Rattle.sp_domain.specs.declared.tags.CarryTag.TheVariants as tag
 use Rattle.pair_domain.specs.declared.facts.PairFacts.{PairFacts}
 use Rattle.pair_domain.specs.Facts.{is_followed}
 use Rattle.abs_state.specs.declared.state.AbsState.{AbsState}
