@@ -33,7 +33,7 @@ narrow_left p i j low high e l h =
 
 -- ---- cuts of a state are those of a pair of it
 
-cut_by : (cut : PairSet → Option PairSet) (s : AbsState) (n : ℕ) (x : Option PairFacts) → s.facts ≡ x → (p : PairBytes) → pair_in s n x ≡ Some p → (left : Option PairBytes)
+pub cut_by : (cut : PairSet → Option PairSet) (s : AbsState) (n : ℕ) (x : Option PairFacts) → s.facts ≡ x → (p : PairBytes) → pair_in s n x ≡ Some p → (left : Option PairBytes)
     → left ≡ left_by p (cut (sets p)) → put s n left ≡ cut_known cut s n x
 cut_by cut s n None is p e left l = absurd (cc)
 cut_by cut s n (Some f) is p e left l =

@@ -9,7 +9,7 @@ use crate::values::AbsByte;
 use pair_domain::{Interval, PairFacts};
 
 /// What is known of one pair of registers: of its low and its high byte, and of its number.
-#[derive(Clone, Copy, PartialEq, Eq)]
+#[derive(Clone, Copy)]
 pub struct PairBytes {
     pub low: AbsByte,
     pub high: AbsByte,

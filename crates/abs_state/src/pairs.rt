@@ -55,10 +55,10 @@ pub fn facts_returned(
         return Ok(Some(Facts::none()));
     };
     match pairs_returned(&known, exit, entry, &found, registers) {
-        Some(facts) => {
-            let facts = Facts::new(alloc, facts)?;
-            Ok(Some(facts))
-        }
+        Some(facts) => match Facts::new(alloc, facts) {
+            Ok(facts) => Ok(Some(facts)),
+            Err(fault) => Err(fault),
+        },
         None => Ok(None),
     }
 }
