@@ -1,5 +1,5 @@
 -- Intervals that lie in the hulls of their registers.
-use Rattle.std.proofs.Common.{◌≡◌, refl, sym, ◌∙◌, ap, ap₂, subst, subst₂, ℕ, zero, ◌+◌, ◌*◌, ◌<◌, Bool, true, false, List, length, replicate, Option, Some, None, arith}
+use Rattle.std.proofs.Common.{◌≡◌, refl, sym, ◌∙◌, ap, ap₂, subst, subst₂, ℕ, ◌+◌, ◌*◌, ◌<◌, Bool, true, false, List, length, replicate, Option, Some, None, arith}
 use Rattle.std.proofs.lemmas.List.{get_or-replicate}
 use Rattle.bit_domain.specs.Packed.{packed}
 use Rattle.bit_domain.specs.Ranges.{IsSetWithin}
