@@ -105,7 +105,7 @@ impl Model for Devices {
 }
 
 /// Why a text is that of no devices, or isn't read.
-#[derive(Drop)]
+#[derive(Clone, Copy, Drop)]
 pub enum DevicesFault {
     /// No devices' text goes on with the line at this offset; or a line is missing, and this is the text's length.
     Malformed(usize),
