@@ -1,8 +1,9 @@
 -- Which instructions leave what the plain rules do, refined.
-use Rattle.std.proofs.Common.{◌≡◌, refl, ℕ, Bool, List}
+use Rattle.std.proofs.Common.{◌≡◌, refl, sym, subst, ℕ, Bool, List}
 use Rattle.avr_model.specs.declared.assumption.Entry.{Entry}
 use Rattle.avr_model.specs.declared.device.Device.{Device}
 use Rattle.avr_model.specs.declared.instruction.BinaryOp.{BinaryOp}
+use Rattle.avr_model.specs.declared.instruction.BinaryOp.TheVariants as binary
 use Rattle.avr_model.specs.declared.instruction.Instr.{Instr}
 use Rattle.avr_model.specs.declared.instruction.Instr.TheVariants as i
 use Rattle.avr_model.specs.declared.instruction.Pointer.{Pointer}
@@ -21,3 +22,14 @@ others_refined device words A scratch k s (i.Brbc n t) binary st brbs brbc sbrc 
 others_refined device words A scratch k s (i.Sbrc r b) binary st brbs brbc sbrc sbrs = absurd (sbrc r b refl)
 others_refined device words A scratch k s (i.Sbrs r b) binary st brbs brbc sbrc sbrs = absurd (sbrs r b refl)
 others_refined device words A scratch k s _ binary st brbs brbc sbrc sbrs = refl
+
+-- of what is done to two registers `cpse` alone is a test
+binary_same : (device : Device) (words : List ℕ) (A : List Entry) (scratch : Bool) (k : NodeKey) (s : AbsState) (op : BinaryOp) (d r : ℕ) → (op ≡ binary.Cpse → ⊥)
+    → paired_row device words A scratch k s (i.Binary op d r) ≡ refining words (i.Binary op d r) s (plain_row device words A scratch k s (i.Binary op d r))
+binary_same device words A scratch k s binary.Cpse d r ne = absurd (ne refl)
+binary_same device words A scratch k s _ d r ne = refl
+
+pub binary_refined : (device : Device) (words : List ℕ) (A : List Entry) (scratch : Bool) (k : NodeKey) (s : AbsState) (instr : Instr) (op : BinaryOp) (d r : ℕ) → instr ≡ i.Binary op d r
+    → (op ≡ binary.Cpse → ⊥) → paired_row device words A scratch k s instr ≡ refining words instr s (plain_row device words A scratch k s instr)
+binary_refined device words A scratch k s instr op d r is ne =
+    subst (λ (x : Instr). paired_row device words A scratch k s x ≡ refining words x s (plain_row device words A scratch k s x)) (sym is) (binary_same device words A scratch k s op d r ne)
