@@ -50,7 +50,7 @@ pub enum RawFault {
 }
 
 /// The least word behind a device's flash that isn't erased.
-#[derive(Drop)]
+#[derive(Clone, Copy, Drop)]
 pub struct Outside(pub u16);
 
 /// How many words the ATmega328P's flash has, as a length.
