@@ -480,14 +480,14 @@ def word(x):
     return "E" if x == 0xFFFF else "0x%04X" % x
 
 
-def table(name, kind, about, lines):
+def table(name, told, kind, about, lines):
     print()
     for line in about.split("\n"):
         print("/// %s" % line)
-    print("pub static %s: [%s; %d] = [" % (name, kind, len(lines)))
+    print("pub static %s: [(&str, &[%s]); 1] = [(\n    \"%s\",\n    &[" % (name, kind, told))
     for line in lines:
-        print("    (%s)," % line)
-    print("];")
+        print("        %s(%s)," % (kind, line))
+    print("    ],\n)];")
 
 
 HEAD = """//! Programs at word 0, and the machine after them. `tests/tables/machine_rows.py` computed these rows, and not
@@ -502,7 +502,10 @@ const E: u16 = 0xFFFF;
 const N: (u8, u8) = (32, 0);
 
 /// No byte of SRAM.
-const M: (u16, u8) = (0, 0);"""
+const M: (u16, u8) = (0, 0);
+
+/// `out 0x3F, r18`.
+const S: u16 = 0xBF2F;"""
 
 
 def main():
@@ -517,8 +520,8 @@ def main():
         m.step({0: op}, [])
         registers, memory = changes(start, m, 2)
         assert (m.pc, m.sp, memory) == (1, RAMEND, [])
-        lines.append("0x%04X, 0x%02X, 0x%02X, 0x%02X, 0x%02X, %s" % (assemble(*op)[0], a, b, before, m.sreg(), registers))
-    table("REGISTER_ROWS", "RegisterRow", "An instruction's word, a in r16 and r24, b in r17 and r25, SREG before and after it, and the registers that\nchanged.", lines)
+        lines.append("[S, 0x%04X], 0x%02X, 0x%02X, 0x%02X, 0x%02X, &[%s]" % (assemble(*op)[0], a, b, before, m.sreg(), registers))
+    table("REGISTERS", "registers and flags", "RegisterRow", "The words, a in r16 and r24, b in r17 and r25, SREG before and after, and the registers that changed.", lines)
     lines = []
     for pointer, op in memory_rows():
         words, program, flash = encode([op], None, 2)
@@ -527,8 +530,8 @@ def main():
         registers, memory = changes(initial_registers(pointer), m, 3)
         assert len(memory) <= 1 and (m.sp, m.sreg()) == (RAMEND, 0)
         byte = "(0x%04X, 0x%02X)" % memory[0] if memory else "M"
-        lines.append("0x%04X, %s, %s, %s" % (pointer, hexes(words), registers, byte))
-    table("MEMORY_ROWS", "MemoryRow", "The pointer in X, Y and Z, an instruction's words, the registers that changed, and the byte of SRAM that did.", lines)
+        lines.append("0x%04X, [%s], &[%s], %s" % (pointer, hexes(words), registers, byte))
+    table("MEMORY", "load or store", "MemoryRow", "The pointer in X, Y and Z, an instruction's words, the registers that changed, and the byte of SRAM that did.", lines)
     lines = []
     for pointer, ops, last in flow_rows():
         words, program, flash = encode(ops, last, 3)
@@ -538,9 +541,10 @@ def main():
             m.step(program, flash)
         assert m.sp in (RAMEND, RAMEND - 2, RAMEND + 2)
         back = m.ram[m.sp + 1] << 8 | m.ram[m.sp + 2] if m.sp < RAMEND else 0xFFFF
-        lines.append("0x%04X, %s, %s, %d, 0x%04X, 0x%04X, %s" % (
+        lines.append("0x%04X, [%s], %s, %d, [0x%04X, 0x%04X], %s" % (
             pointer, hexes(words), word(flash[0x3FFF]), steps, m.pc, m.sp, word(back)))
-    table("FLOW_ROWS", "FlowRow", "The pointer in X, Y and Z, the words, the last word of flash, how many instructions are executed, the program\ncounter, the stack pointer, and the word on the stack.", lines)
+    table("FLOW", "jump, call, return, branch or skip", "FlowRow",
+          "The pointer in X, Y and Z, the words, the last word of flash, how many instructions are executed, the program\ncounter and the stack pointer, and the word on the stack.", lines)
 
 
 if __name__ == "__main__":
