@@ -125,46 +125,46 @@ def show(v):
     return "0x%04X" % v if v > 0xFF else "0x%02X" % v
 
 
-def table(name, doc, kind, rows):
-    print("\n/// %s" % doc)
-    print("pub static %s: [%s; %d] = [" % (name, kind, len(rows)))
-    for row in rows:
-        print("    (%s)," % ", ".join(show(v) for v in row))
-    print("];")
+def side(answer):
+    return "[%s]" % ", ".join(show(v) for v in answer)
 
 
 def both(f, *args):
-    """The result, and the register after it from no flag and from every flag."""
-    (x, clear), (y, full) = f(*args, 0x00), f(*args, 0xFF)
-    assert x == y
-    return x, clear, full
+    """The result with the register after it, from no flag and from every flag."""
+    return f(*args, 0x00), f(*args, 0xFF)
 
 
 PAIRS = [(d, r) for d in EDGES for r in EDGES]
+WORDS = [(d, k) for d in WORD_EDGES for k in (0, 1, 63)]
+
+# An instruction, its operands, and the rows: two operands, a carry, and both answers.
+TABLES = [
+    ("ADC", "operands and carry", [(d, r, bool(c), *both(add, d, r, c)) for d, r in PAIRS for c in (0, 1)]),
+    ("SUB", "operands and borrow", [(d, r, bool(c), *both(sub, d, r, c, False)) for d, r in PAIRS for c in (0, 1)]),
+    ("SBC", "operands and borrow", [(d, r, bool(c), *both(sub, d, r, c, True)) for d, r in PAIRS for c in (0, 1)]),
+    ("ADIW", "word and what is added", [(d, k, False, *both(wide, True, d, k)) for d, k in WORDS]),
+    ("SBIW", "word and what is taken", [(d, k, False, *both(wide, False, d, k)) for d, k in WORDS]),
+]
+for n in ("And", "Or", "Eor"):
+    TABLES.append((n.upper(), "operands", [(d, r, False, *both(logic, n, d, r)) for d, r in PAIRS if r >= d]))
+for n, f in (("COM", com), ("INC", inc), ("DEC", dec)):
+    TABLES.append((n, "operand", [(d, 0, False, *both(f, d)) for d in EDGES]))
+for n in ("Lsr", "Ror", "Asr"):
+    TABLES.append((n.upper(), "operand", [(d, 0, False, *both(shift, n, d)) for d in EDGES]))
+for n in ("Mul", "Muls", "Mulsu", "Fmul", "Fmuls", "Fmulsu"):
+    TABLES.append((n.upper(), "operands", [(d, r, False, *both(mul, n, d, r)) for d, r in PAIRS if r >= d or "su" in n]))
 
 print("""//! Results and flags at the edges of each operand. These rows were computed by `tests/tables/alu_rows.py`, and not by
 //! this crate, from the manual's Boolean formulas (DS40002198) as remembered; they were not copied from it.
-//! Operands come first, then the result, SREG after the operation from 0x00, and SREG after it from 0xFF.""")
+//! Operands come first, and 0 or false in place of one that there isn't; then the result with SREG after the operation from
+//! 0x00, and the same from 0xFF.
 
-table("SUMS", "ADC: operands and carry.", "(u8, u8, bool, u8, u8, u8)",
-      [(d, r, bool(c), *both(add, d, r, c)) for d, r in PAIRS for c in (0, 1)])
-table("DIFFERENCES", "SUB with a borrow: operands and borrow.", "(u8, u8, bool, u8, u8, u8)",
-      [(d, r, bool(c), *both(sub, d, r, c, False)) for d, r in PAIRS for c in (0, 1)])
-table("DIFFERENCES_THAT_KEEP_ZERO", "SBC: operands and borrow.", "(u8, u8, bool, u8, u8, u8)",
-      [(d, r, bool(c), *both(sub, d, r, c, True)) for d, r in PAIRS for c in (0, 1)])
-for n, doc in (("And", "AND"), ("Or", "OR"), ("Eor", "EOR")):
-    table(doc + "S", doc + ": operands.", "(u8, u8, u8, u8, u8)",
-          [(d, r, *both(logic, n, d, r)) for d, r in PAIRS if r >= d])
-table("COMPLEMENTS", "COM: operand.", "(u8, u8, u8, u8)", [(d, *both(com, d)) for d in EDGES])
-table("INCREMENTS", "INC: operand.", "(u8, u8, u8, u8)", [(d, *both(inc, d)) for d in EDGES])
-table("DECREMENTS", "DEC: operand.", "(u8, u8, u8, u8)", [(d, *both(dec, d)) for d in EDGES])
-table("SHIFTS", "The operand and SREG before; then for LSR, ROR and ASR the result and SREG after.",
-      "(u8, u8, u8, u8, u8, u8, u8, u8)",
-      [(d, s, *shift("Lsr", d, s), *shift("Ror", d, s), *shift("Asr", d, s)) for d in EDGES for s in (0x00, 0xFF)])
-for n in ("Mul", "Muls", "Mulsu", "Fmul", "Fmuls", "Fmulsu"):
-    table(n.upper() + "_ROWS", n.upper() + ": operands.", "(u8, u8, u16, u8, u8)",
-          [(d, r, *both(mul, n, d, r)) for d, r in PAIRS if r >= d or "su" in n])
-table("RAISED_WORDS", "ADIW: word and what is added.", "(u16, u8, u16, u8, u8)",
-      [(d, k, *both(wide, True, d, k)) for d in WORD_EDGES for k in (0, 1, 63)])
-table("LOWERED_WORDS", "SBIW: word and what is taken.", "(u16, u8, u16, u8, u8)",
-      [(d, k, *both(wide, False, d, k)) for d in WORD_EDGES for k in (0, 1, 63)])
+use super::{Row, %s};""" % ", ".join(sorted(name for name, _, _ in TABLES)))
+print("\npub static TABLES: [(&str, &[Row]); %d] = [" % len(TABLES))
+for name, doc, rows in TABLES:
+    print("    // %s" % doc)
+    print("    (\n        \"%s\",\n        &[" % name.lower())
+    for a, b, carry, clear, full in rows:
+        print("            Row(%s, %s, %s, %s, %s, %s)," % (name, show(a), show(b), show(carry), side(clear), side(full)))
+    print("        ],\n    ),")
+print("];")

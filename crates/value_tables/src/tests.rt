@@ -5,22 +5,110 @@ mod arithmetic;
 mod keys;
 mod offsets;
 mod pools;
+mod state_rows;
 mod states;
 mod three_valued;
 
-/// A table and one of its rows.
-type Wrong = Option<(&'static str, usize)>;
+use std::alloc::Global;
+
+/// The first table and row that is wrong, once there is one.
+struct Told {
+    table: &'static str,
+    row: usize,
+    wrong: bool,
+}
+
+/// A row that was worked out apart from what it is about.
+trait Worked {
+    /// Whether what it is about is so. Want of memory is wrong too.
+    fn holds(&self, alloc: Global) -> bool;
+}
+
+/// The first row that doesn't hold.
+fn wrong_row<R: Worked>(alloc: Global, rows: &[R]) -> Option<usize> {
+    for at in 0..rows.len() {
+        if !rows[at].holds(alloc) {
+            return Some(at);
+        }
+    }
+    None
+}
+
+/// Tells the row of a table that is wrong, if one is.
+fn tell_row(told: &mut Told, table: &'static str, wrong: Option<usize>) {
+    if let Some(at) = wrong
+        && !told.wrong
+    {
+        told.table = table;
+        told.row = at;
+        told.wrong = true;
+    }
+}
+
+/// Tells the first row that doesn't hold of tables with their names.
+fn tell<R: Worked>(told: &mut Told, alloc: Global, tables: &[(&'static str, &[R])]) {
+    for (name, rows) in tables {
+        tell_row(told, *name, wrong_row(alloc, rows));
+    }
+}
+
+/// Tells whether a fact that stands in no table is wrong, by its number.
+fn tell_fact(told: &mut Told, number: usize, holds: bool) {
+    if !told.wrong && !holds {
+        told.table = "fact";
+        told.row = number;
+        told.wrong = true;
+    }
+}
+
+/// Bits, places in a frame, and arithmetic.
+fn tell_bits(told: &mut Told, alloc: Global) {
+    tell(told, alloc, &three_valued::SUMS);
+    tell(told, alloc, &three_valued::LOGIC);
+    tell(told, alloc, &three_valued::LATTICE);
+    tell(told, alloc, &offsets::TAGS);
+    tell(told, alloc, &offsets::CARRY_TAGS);
+    tell(told, alloc, &offsets::FRAMES);
+    tell(told, alloc, &offsets::CALLS);
+    tell(told, alloc, &offsets::BASES);
+    tell(told, alloc, &arithmetic::TABLES);
+    tell(told, alloc, &abstract_arithmetic::SUMS);
+    tell(told, alloc, &abstract_arithmetic::BITWISE);
+    tell(told, alloc, &abstract_arithmetic::WORDS);
+    tell(told, alloc, &abstract_arithmetic::PRODUCTS);
+}
+
+/// Keys and states.
+fn tell_keys(told: &mut Told, alloc: Global) {
+    tell(told, alloc, &keys::ADDRESSES);
+    tell(told, alloc, &keys::SPLITS);
+    tell(told, alloc, &keys::INSTANCES);
+    tell(told, alloc, &keys::NODES);
+    tell(told, alloc, &keys::EDGES);
+    tell(told, alloc, &states::VALUE_JOINS);
+    tell(told, alloc, &states::FLAG_JOINS);
+    tell(told, alloc, &state_rows::TABLES);
+}
+
+/// What stands in no table.
+fn tell_facts(told: &mut Told, alloc: Global) {
+    tell_fact(told, 0, offsets::are_slots(alloc));
+    tell_fact(told, 1, keys::is_begin());
+    tell_fact(told, 2, states::is_root(alloc));
+    tell_fact(told, 3, states::are_untagged());
+}
 
 #[test]
 fn each_row_holds(rt: HostRuntime) {
     let alloc = rt.alloc();
-    let slots = offsets::are_slots(alloc);
-    let wrong = three_valued::wrong()
-        .or(offsets::wrong())
-        .or(keys::wrong())
-        .or(arithmetic::wrong())
-        .or(abstract_arithmetic::wrong())
-        .or(states::wrong(alloc))
-        .or(pools::wrong(alloc));
-    assert!(rt; slots && wrong.is_none(), "{slots} {wrong:?}");
+    let mut told = Told {
+        table: "",
+        row: 0,
+        wrong: false,
+    };
+    tell_bits(&mut told, alloc);
+    tell_keys(&mut told, alloc);
+    tell_facts(&mut told, alloc);
+    let Told { table, row, wrong } = told;
+    assert!(rt; !wrong, "{table} {row}");
 }

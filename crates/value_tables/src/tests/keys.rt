@@ -1,32 +1,38 @@
 //! Splits against all bytes that are written, and the order on a table of keys.
 
-use super::Wrong;
+use super::Worked;
+use super::three_valued::{Bits, byte};
 use bit_domain::TriByte;
 use mask_states::{EdgeKind, High, InstKey, Kind, NodeKey, SpForm, split};
+use std::alloc::Global;
 use std::cmp::Ordering;
 use vector_table::{Masks, write};
 
-// The data addresses of enable bits, how many splits the bits there have, and one address with none. Source: the data sheet's registers EIMSK,
+// A data address of enable bits, and how many splits the bits there have; one address has none. Source: the data sheet's registers EIMSK,
 // EECR, SPCR, ACSR, SPMCSR, WDTCSR, PCICR, TIMSK0, TIMSK1, TIMSK2, ADCSRA, TWCR and UCSR0B.
-const ADDRESSES: [(u16, usize); 14] = [
-    (0x3D, 4),
-    (0x3F, 2),
-    (0x4C, 2),
-    (0x50, 2),
-    (0x57, 2),
-    (0x60, 2),
-    (0x68, 8),
-    (0x6E, 8),
-    (0x6F, 16),
-    (0x70, 8),
-    (0x7A, 2),
-    (0xBC, 2),
-    (0xC1, 8),
-    (0x100, 1),
-];
+pub struct Address(u16, usize);
 
-// Known bits and their values.
-const VALUES: [(u8, u8); 7] = [
+pub static ADDRESSES: [(&str, &[Address]); 1] = [(
+    "address",
+    &[
+        Address(0x3D, 4),
+        Address(0x3F, 2),
+        Address(0x4C, 2),
+        Address(0x50, 2),
+        Address(0x57, 2),
+        Address(0x60, 2),
+        Address(0x68, 8),
+        Address(0x6E, 8),
+        Address(0x6F, 16),
+        Address(0x70, 8),
+        Address(0x7A, 2),
+        Address(0xBC, 2),
+        Address(0xC1, 8),
+        Address(0x100, 1),
+    ],
+)];
+
+static VALUES: [Bits; 7] = [
     (0x00, 0x00),
     (0xFF, 0xA5),
     (0x0F, 0x05),
@@ -35,6 +41,9 @@ const VALUES: [(u8, u8); 7] = [
     (0xFE, 0xFE),
     (0x81, 0x80),
 ];
+
+// Masks without a bit, with each and with some.
+static MASKS: [u32; 3] = [0, 0x1FFFFFF, 0x0A5A5A5];
 
 fn masks(bits: u32) -> Masks {
     match Masks::from_bits(bits) {
@@ -65,203 +74,269 @@ fn have_writes(all: &[Masks], m: Masks, address: u16, value: TriByte) -> bool {
 
 // Whether these ascend, each of them is written by some byte that the value stands for, and each such byte to one of them.
 fn are_writes(all: &[Masks], m: Masks, address: u16, value: TriByte) -> bool {
-    for &masks in all {
-        if !is_written(masks, m, address, value) {
+    for at in 0..all.len() {
+        if at > 0 && all[at - 1].bits() >= all[at].bits() {
+            return false;
+        }
+        if !is_written(all[at], m, address, value) {
             return false;
         }
     }
-    ascend(all) && have_writes(all, m, address, value)
+    have_writes(all, m, address, value)
 }
 
-// Whether the splits of a value are the writes of all bytes, from masks without a bit, with each and with some.
-fn are_split(address: u16, value: TriByte) -> bool {
-    for bits in [0, 0x1FFFFFF, 0x0A5A5A5] {
-        let splits = split(masks(bits), address, &value);
-        if !are_writes(splits.as_slice(), masks(bits), address, value) {
-            return false;
+// Whether the splits of a value are the writes of all bytes, and so many if a number is due.
+fn are_split(address: u16, m: Masks, value: TriByte, due: Option<usize>) -> bool {
+    let splits = split(m, address, &value);
+    let all = splits.as_slice();
+    are_writes(all, m, address, value) && due.unwrap_or(all.len()) == all.len()
+}
+
+impl Worked for Address {
+    // Each value is split so, and that which stands for all bytes into so many.
+    fn holds(&self, _alloc: Global) -> bool {
+        for at in 0..21 {
+            if !are_split(self.0, masks(MASKS[at / 7]), byte(VALUES[at % 7]), None) {
+                return false;
+            }
         }
+        are_split(self.0, Masks::none(), TriByte::any(), Some(self.1))
     }
-    true
 }
 
-fn ascend(all: &[Masks]) -> bool {
-    for at in 1..all.len() {
-        if all[at - 1].bits() >= all[at].bits() {
-            return false;
-        }
+/// Bits before, address, known bits and value; bits after, ascending. Worked by hand from the data sheet's places of the bits.
+pub struct Split(u32, u16, Bits, [u32; 4]);
+
+pub static SPLITS: [(&str, &[Split]); 1] = [(
+    "split",
+    &[
+        // INT0 and INT1 in EIMSK, of which PCINT0's stays
+        Split(0x4, 0x3D, (0x00, 0x00), [0x4, 0x5, 0x6, 0x7]),
+        // RXCIE0 is turned on, UDRIE0 and TXCIE0 may be
+        Split(
+            0x0,
+            0xC1,
+            (0x80, 0x80),
+            [0x20000, 0x60000, 0xA0000, 0xE0000],
+        ),
+        // TOIE2 and OCIE2A are bits 0 and 1 of TIMSK2, but vectors 10 and 8; OCIE2B is turned off
+        Split(0x1C0, 0x70, (0x04, 0x00), [0x000, 0x040, 0x100, 0x140]),
+        // PCIE1 is turned on, the others may be
+        Split(0x0, 0x68, (0x02, 0x02), [0x8, 0xC, 0x18, 0x1C]),
+    ],
+)];
+
+impl Worked for Split {
+    fn holds(&self, _alloc: Global) -> bool {
+        let splits = split(masks(self.0), self.1, &byte(self.2));
+        let all = splits.as_slice();
+        all.len() == 4 && [all[0].bits(), all[1].bits(), all[2].bits(), all[3].bits()] == self.3
     }
-    true
 }
 
-// Whether each value is split so, and that which stands for all bytes into so many.
-fn is_address(address: u16, count: usize) -> bool {
-    for &(known, value) in &VALUES {
-        if !are_split(address, TriByte::new(known, value)) {
-            return false;
-        }
+/// An instance: its kind, entry, masks and flag.
+struct Inst(Kind, u16, u32, bool);
+
+const ROOT: Inst = Inst(Kind::Root, 0, 0, false);
+
+const CALL: Inst = Inst(Kind::Call, 1, 0, false);
+
+fn inst_of(inst: &Inst) -> InstKey {
+    InstKey {
+        kind: inst.0,
+        entry: inst.1,
+        masks: masks(inst.2),
+        i: inst.3,
     }
-    let splits = split(Masks::none(), address, &TriByte::any());
-    splits.as_slice().len() == count && ascend(splits.as_slice())
 }
 
-// Bits before, address, known bits and value; bits after, ascending. Worked by hand from the data sheet's places of the bits.
-const ROWS: [(u32, u16, u8, u8, [u32; 4]); 4] = [
-    // INT0 and INT1 in EIMSK, of which PCINT0's stays
-    (0x4, 0x3D, 0x00, 0x00, [0x4, 0x5, 0x6, 0x7]),
-    // RXCIE0 is turned on, UDRIE0 and TXCIE0 may be
-    (0x0, 0xC1, 0x80, 0x80, [0x20000, 0x60000, 0xA0000, 0xE0000]),
-    // TOIE2 and OCIE2A are bits 0 and 1 of TIMSK2, but vectors 10 and 8; OCIE2B is turned off
-    (0x1C0, 0x70, 0x04, 0x00, [0x000, 0x040, 0x100, 0x140]),
-    // PCIE1 is turned on, the others may be
-    (0x0, 0x68, 0x02, 0x02, [0x8, 0xC, 0x18, 0x1C]),
+/// An instance, and its place.
+pub struct InstPlace(u8, Inst);
+
+const ALL_INSTANCES: &[InstPlace] = &[
+    InstPlace(0, ROOT),
+    InstPlace(1, Inst(Kind::Root, 0, 0, true)),
+    InstPlace(2, Inst(Kind::Root, 0, 1, false)),
+    InstPlace(3, Inst(Kind::Root, 1, 0, false)),
+    InstPlace(4, Inst(Kind::Call, 0, 0, false)),
+    InstPlace(5, Inst(Kind::Call, 9, 4, true)),
+    InstPlace(6, Inst(Kind::Call, 9, 5, false)),
+    InstPlace(7, Inst(Kind::Vector(2), 2, 0, false)),
+    InstPlace(8, Inst(Kind::Vector(3), 0, 0, false)),
 ];
 
-// Whether these are the bits.
-fn are_bits(all: &[Masks], bits: &[u32; 4]) -> bool {
-    if all.len() != 4 {
-        return false;
-    }
-    for at in 0..4 {
-        if all[at].bits() != bits[at] {
-            return false;
-        }
-    }
-    true
-}
-
-fn is_worked(row: &(u32, u16, u8, u8, [u32; 4])) -> bool {
-    let &(before, address, known, value, after) = row;
-    let splits = split(masks(before), address, &TriByte::new(known, value));
-    are_bits(splits.as_slice(), &after)
-}
-
-fn inst(kind: Kind, entry: u16, bits: u32, i: bool) -> InstKey {
-    InstKey {
-        kind,
-        entry,
-        masks: masks(bits),
-        i,
-    }
-}
-
-fn node(inst: &InstKey, pc: u16, bits: u32, i: bool, delay: bool, sp: SpForm) -> NodeKey {
-    NodeKey {
-        inst: *inst,
-        pc,
-        masks: masks(bits),
-        i,
-        delay,
-        sp,
-        pick: None,
-    }
-}
-
-fn picked(key: NodeKey, byte: u8) -> NodeKey {
-    let pick = Some(byte);
-    NodeKey { pick, ..key }
-}
-
-// Instances, which ascend by kind, entry, masks and flag.
-fn instances() -> [InstKey; 9] {
-    [
-        InstKey::root(),
-        inst(Kind::Root, 0, 0, true),
-        inst(Kind::Root, 0, 1, false),
-        inst(Kind::Root, 1, 0, false),
-        inst(Kind::Call, 0, 0, false),
-        inst(Kind::Call, 9, 4, true),
-        inst(Kind::Call, 9, 5, false),
-        inst(Kind::Vector(2), 2, 0, false),
-        inst(Kind::Vector(3), 0, 0, false),
-    ]
-}
-
-// Nodes, which ascend by instance and then by their fields.
-fn nodes() -> [NodeKey; 14] {
-    let root = InstKey::root();
-    let call = inst(Kind::Call, 1, 0, false);
-    [
-        NodeKey::entry(&root),
-        picked(NodeKey::entry(&root), 0),
-        picked(NodeKey::entry(&root), 255),
-        node(&root, 0, 0, false, false, SpForm::Closed(2)),
-        node(&root, 0, 0, false, false, SpForm::Open(0, High::Known(8))),
-        node(&root, 0, 0, false, false, SpForm::Open(0, High::Known(9))),
-        node(&root, 0, 0, false, false, SpForm::Open(0, High::Tag(0))),
-        node(&root, 0, 0, false, false, SpForm::Open(1, High::Known(0))),
-        node(&root, 0, 0, false, true, SpForm::Closed(0)),
-        node(&root, 0, 0, true, false, SpForm::Closed(0)),
-        node(&root, 0, 1, false, false, SpForm::Closed(0)),
-        node(&root, 7, 0, false, false, SpForm::Closed(0)),
-        node(&call, 0, 0, false, false, SpForm::Closed(0)),
-        NodeKey::entry(&call),
-    ]
-}
+/// Instances, which ascend by kind, entry, masks and flag.
+pub static INSTANCES: [(&str, &[InstPlace]); 1] = [("instance", ALL_INSTANCES)];
 
 // Whether two keys go in this order, by both orders, and are equal by `==` where it is that of equal ones.
 fn is_order<K: Ord>(a: &K, b: &K, order: Ordering) -> bool {
     a.cmp(b) == order && a.partial_cmp(b) == Some(order) && (a == b) == order.is_eq()
 }
 
-// The first key that isn't in its place among all.
-fn misplaced<K: Ord>(keys: &[K]) -> Option<usize> {
-    for (at, a) in keys.iter().enumerate() {
-        for (to, b) in keys.iter().enumerate() {
-            if !is_order(a, b, at.cmp(&to)) {
-                return Some(at);
+impl Worked for InstPlace {
+    fn holds(&self, _alloc: Global) -> bool {
+        let key = inst_of(&self.1);
+        for other in ALL_INSTANCES {
+            if !is_order(&key, &inst_of(&other.1), self.0.cmp(&other.0)) {
+                return false;
             }
         }
+        true
     }
-    None
 }
 
-// Whether an instance begins at its entry, and each form tells its place.
-fn is_begin() -> bool {
-    let timer = inst(Kind::Vector(17), 32, 0x8001, false);
-    let begin = NodeKey::entry(&timer);
-    let form = SpForm::Open(2048, High::Known(1));
-    let open = node(&InstKey::root(), 4, 0, false, false, form);
-    let offsets = [
-        begin.offset(),
-        SpForm::Closed(7).offset(),
-        SpForm::Open(9, High::Tag(300)).offset(),
-        open.offset(),
-    ];
-    begin == node(&timer, 32, 0x8001, false, false, SpForm::Closed(0))
-        && begin.inst == timer
-        && offsets == [0, 7, 9, 2048]
+/// A node's place, its instance, word, masks, flag, delay, stack pointer and pick.
+pub struct NodePlace(u8, Inst, u16, u32, bool, bool, SpForm, Option<u8>);
+
+fn node_of(node: &NodePlace) -> NodeKey {
+    NodeKey {
+        inst: inst_of(&node.1),
+        pc: node.2,
+        masks: masks(node.3),
+        i: node.4,
+        delay: node.5,
+        sp: node.6,
+        pick: node.7,
+    }
 }
 
-// Edges, which ascend by kind and then by vector.
-const EDGES: [EdgeKind; 6] = [
-    EdgeKind::Local,
-    EdgeKind::Call,
-    EdgeKind::Interrupt(7, false),
-    EdgeKind::Interrupt(7, true),
-    EdgeKind::Interrupt(8, false),
-    EdgeKind::Return,
+const BASE: SpForm = SpForm::Closed(0);
+
+const ALL_NODES: &[NodePlace] = &[
+    NodePlace(0, ROOT, 0, 0, false, false, BASE, None),
+    NodePlace(1, ROOT, 0, 0, false, false, BASE, Some(0)),
+    NodePlace(2, ROOT, 0, 0, false, false, BASE, Some(255)),
+    NodePlace(3, ROOT, 0, 0, false, false, SpForm::Closed(2), None),
+    NodePlace(
+        4,
+        ROOT,
+        0,
+        0,
+        false,
+        false,
+        SpForm::Open(0, High::Known(8)),
+        None,
+    ),
+    NodePlace(
+        5,
+        ROOT,
+        0,
+        0,
+        false,
+        false,
+        SpForm::Open(0, High::Known(9)),
+        None,
+    ),
+    NodePlace(
+        6,
+        ROOT,
+        0,
+        0,
+        false,
+        false,
+        SpForm::Open(0, High::Tag(0)),
+        None,
+    ),
+    NodePlace(
+        7,
+        ROOT,
+        0,
+        0,
+        false,
+        false,
+        SpForm::Open(1, High::Known(0)),
+        None,
+    ),
+    NodePlace(8, ROOT, 0, 0, false, true, BASE, None),
+    NodePlace(9, ROOT, 0, 0, true, false, BASE, None),
+    NodePlace(10, ROOT, 0, 1, false, false, BASE, None),
+    NodePlace(11, ROOT, 7, 0, false, false, BASE, None),
+    NodePlace(12, CALL, 0, 0, false, false, BASE, None),
+    NodePlace(13, CALL, 1, 0, false, false, BASE, None),
 ];
 
-/// The first split or key that is another.
-pub fn wrong() -> Wrong {
-    for (at, &(address, count)) in ADDRESSES.iter().enumerate() {
-        if !is_address(address, count) {
-            return Some(("address", at));
+/// Nodes, which ascend by instance and then by their fields.
+pub static NODES: [(&str, &[NodePlace]); 1] = [("node", ALL_NODES)];
+
+impl Worked for NodePlace {
+    fn holds(&self, _alloc: Global) -> bool {
+        let key = node_of(self);
+        for other in ALL_NODES {
+            if !is_order(&key, &node_of(other), self.0.cmp(&other.0)) {
+                return false;
+            }
         }
+        true
     }
-    for (at, row) in ROWS.iter().enumerate() {
-        if !is_worked(row) {
-            return Some(("split", at));
+}
+
+/// An edge's kind, and its place.
+pub struct EdgePlace(u8, EdgeKind);
+
+const ALL_EDGES: &[EdgePlace] = &[
+    EdgePlace(0, EdgeKind::Local),
+    EdgePlace(1, EdgeKind::Call),
+    EdgePlace(2, EdgeKind::Interrupt(7, false)),
+    EdgePlace(3, EdgeKind::Interrupt(7, true)),
+    EdgePlace(4, EdgeKind::Interrupt(8, false)),
+    EdgePlace(5, EdgeKind::Return),
+];
+
+/// Edges, which ascend by kind and then by vector.
+pub static EDGES: [(&str, &[EdgePlace]); 1] = [("edge", ALL_EDGES)];
+
+impl Worked for EdgePlace {
+    fn holds(&self, _alloc: Global) -> bool {
+        for other in ALL_EDGES {
+            if !is_order(&self.1, &other.1, self.0.cmp(&other.0)) {
+                return false;
+            }
         }
+        true
     }
-    if let Some(at) = misplaced(&instances()) {
-        return Some(("instance", at));
-    }
-    if let Some(at) = misplaced(&nodes()) {
-        return Some(("node", at));
-    }
-    if let Some(at) = misplaced(&EDGES) {
-        return Some(("edge", at));
-    }
-    if is_begin() { None } else { Some(("begin", 0)) }
+}
+
+// An instance's beginning, and a node in its midst.
+static PLACES: [NodePlace; 2] = [
+    NodePlace(
+        0,
+        Inst(Kind::Vector(17), 32, 0x8001, false),
+        32,
+        0x8001,
+        false,
+        false,
+        BASE,
+        None,
+    ),
+    NodePlace(
+        0,
+        ROOT,
+        4,
+        0,
+        false,
+        false,
+        SpForm::Open(2048, High::Known(1)),
+        None,
+    ),
+];
+
+// Whether an instance begins at this node.
+fn begins(place: &NodePlace) -> bool {
+    let key = inst_of(&place.1);
+    let begin = NodeKey::entry(&key);
+    begin == node_of(place) && begin.inst == key && begin.offset() == 0
+}
+
+/// Whether an instance begins at its entry, and each form tells its place.
+pub fn is_begin() -> bool {
+    let offsets = [
+        SpForm::Closed(7).offset(),
+        SpForm::Open(9, High::Tag(300)).offset(),
+        node_of(&PLACES[1]).offset(),
+    ];
+    InstKey::root() == inst_of(&ALL_INSTANCES[0].1)
+        && begins(&ALL_NODES[0])
+        && begins(&ALL_NODES[13])
+        && begins(&PLACES[0])
+        && offsets == [7, 9, 2048]
 }

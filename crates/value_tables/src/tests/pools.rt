@@ -4,10 +4,8 @@ ghost use Rattle.std.specs.Prelude.{◌≡◌, ◌<◌, IfOk};
 ghost use Rattle.std.specs.FinMap.{empty, len};
 ghost use Rattle.state_pool.specs.Uses.{AreBelow, IsInterned};
 
-use super::Wrong;
-use super::states::{Known, flags, is_same, ranged, state_of, tagged};
-use abs_state::{AbsByte, AbsState};
-use sp_domain::{CarryTag, Tag};
+use super::states::is_same;
+use abs_state::AbsState;
 use state_pool::Pool;
 use state_pool::laws::{counts_follow, releases_undo};
 use std::alloc::{AllocError, Global};
@@ -55,38 +53,8 @@ fn is_kept_once(
     )
 }
 
-// A state, and others that differ from it in a tag, in a range, in what the carry says and in a flag.
-fn differing() -> (Known, [Known; 4]) {
-    let any = AbsByte::unknown();
-    let known = AbsByte::known(0x45);
-    let clear = flags(true, 0x7f, 0x00, CarryTag::None);
-    (
-        (known, any, clear),
-        [
-            (known, tagged(Tag::SpLo(3), 0, 0), clear),
-            (known, ranged(any, 0x03, 0x10), clear),
-            (known, any, flags(true, 0x7f, 0x00, CarryTag::Borrow(3, 5))),
-            (known, any, flags(true, 0x7f, 0x01, CarryTag::None)),
-        ],
-    )
-}
-
-fn is_row(alloc: Global, known: &Known, other: &Known) -> Result<bool, AllocError> {
-    match (state_of(alloc, known), state_of(alloc, other)) {
-        (Ok(Some(state)), Ok(Some(other))) => {
-            is_kept_once(&mut Pool::new(alloc), alloc, &state, &other)
-        }
-        _ => Ok(false),
-    }
-}
-
-/// The first other state beside which equal states haven't one number until both are released. Want of memory is wrong too.
-pub fn wrong(alloc: Global) -> Wrong {
-    let (known, others) = differing();
-    for (at, other) in others.iter().enumerate() {
-        if !matches!(is_row(alloc, &known, other), Ok(true)) {
-            return Some(("pool", at));
-        }
-    }
-    None
+/// Whether two equal states are kept once beside another.
+pub fn is_kept(alloc: Global, state: &AbsState, other: &AbsState) -> bool {
+    let mut pool = Pool::new(alloc);
+    matches!(is_kept_once(&mut pool, alloc, state, other), Ok(true))
 }

@@ -4,8 +4,8 @@ use Rattle.abs_state.proofs.AllLaws.{reset_stands}
 use Rattle.value_tables.proofs.Named.{AllName, set_names}
 use Rattle.value_tables.proofs.tests.states.state.Goals as goal
 
-pub returns-clause-names : goal.returns-clause-names
-returns-clause-names c =
+pub returns : goal.returns
+returns c =
     let root = c.root-state.result.registers in
     let count : length root ≡ 32 = ap (λ (s : AbsState). length s.registers) c.root-state.ensures ∙ reset_stands.formed.count_registers in
     let names : AllName root = subst (λ (s : AbsState). AllName s.registers) (sym c.root-state.ensures) reset_stands.formed.registers in
