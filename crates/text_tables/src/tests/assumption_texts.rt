@@ -1,118 +1,290 @@
 //! Texts with the answers that the rules give, worked out by hand, written lists, and targets.
 
-use super::Wrong;
+use super::Worked;
 use bit_domain::TriByte;
 use indirect_targets::{AssumeText, entry_of, read, targets, write};
 use sb_base::LineWriter;
 use std::alloc::{AllocError, Global};
+use vector_table::Assumptions;
 
-/// Each text with its number of entries, or the line at which it is refused and why.
-static TEXTS: [(&[u8], Result<usize, AssumeText>); 54] = [
-    (b"", Ok(0)),
-    (b"jump 0004 0005\n", Ok(1)),
-    (b"store 0004 005D\n", Ok(1)),
-    (b"prove 0000\n", Ok(1)),
-    (
-        b"jump 0004 0000 0005 3FFF\nstore 0004 0000 001F 005D\nprove 0004\n",
-        Ok(3),
-    ),
-    (b"prove 0003\njump 0004 0005\nstore 0009 00C1\n", Ok(3)),
-    (
-        b"jump 0004 0005\nstore 0004 005D\nprove 0004\nfree 0004\nnever 0004\nframe 0004\nfree 3FFF\n",
-        Ok(7),
-    ),
-    (b"free 0004\nprove 0004\n", Err(AssumeText::Order(2))),
-    (b"never 0004\nfree 0004\n", Err(AssumeText::Order(2))),
-    (b"frame 0004\nnever 0004\n", Err(AssumeText::Order(2))),
-    (b"never 0004\nnever 0004\n", Err(AssumeText::Order(2))),
-    (b"pairs\n", Ok(1)),
-    (b"pairs\njump 0000 0005\nframe 0000\n", Ok(3)),
-    (b"pairs\npairs\n", Err(AssumeText::Order(2))),
-    (b"jump 0000 0005\npairs\n", Err(AssumeText::Order(2))),
-    (b"pairs 0000\n", Err(AssumeText::Malformed(1))),
-    (b"pairs \n", Err(AssumeText::Malformed(1))),
-    (b"pair\n", Err(AssumeText::Malformed(1))),
-    (b"free 0004 005D\n", Err(AssumeText::Malformed(1))),
-    (b"never\n", Err(AssumeText::Malformed(1))),
-    (b"frame 4000\n", Err(AssumeText::Malformed(1))),
-    (b"frames 0004\n", Err(AssumeText::Malformed(1))),
-    (
-        b"jump 0004 0005\njump 0004 0005\n",
-        Err(AssumeText::Order(2)),
-    ),
-    (
-        b"store 0004 005D\njump 0004 0005\n",
-        Err(AssumeText::Order(2)),
-    ),
-    (b"prove 0004\nstore 0004 005D\n", Err(AssumeText::Order(2))),
-    (
-        b"prove 0004\nprove 0003\nprove 0005",
-        Err(AssumeText::Order(2)),
-    ),
-    (
-        b"jump 0004 0005\njump 0004 0006\nx\n",
-        Err(AssumeText::Order(2)),
-    ),
-    (b"prove 0004\nprove 003\n", Err(AssumeText::Malformed(2))),
-    (b"\n", Err(AssumeText::Malformed(1))),
-    (b"prove 0004\n\n", Err(AssumeText::Malformed(2))),
-    (b"prove 0004\nprove 0005", Err(AssumeText::Malformed(2))),
-    (b"jump 0004\n", Err(AssumeText::Malformed(1))),
-    (b"store 0004\n", Err(AssumeText::Malformed(1))),
-    (b"prove\n", Err(AssumeText::Malformed(1))),
-    (b"prove 0004 0005\n", Err(AssumeText::Malformed(1))),
-    (b"jump 000a 0005\n", Err(AssumeText::Malformed(1))),
-    (b"jump 00004 0005\n", Err(AssumeText::Malformed(1))),
-    (b"jump 0004 00005\n", Err(AssumeText::Malformed(1))),
-    (b"prove 4000\n", Err(AssumeText::Malformed(1))),
-    (b"jump 4000 0005\n", Err(AssumeText::Malformed(1))),
-    (b"store 4000 005D\n", Err(AssumeText::Malformed(1))),
-    (b"jump 0004 4000\n", Err(AssumeText::Malformed(1))),
-    (b"store 0004 0020\n", Err(AssumeText::Malformed(1))),
-    (b"store 0004 005D 0100\n", Err(AssumeText::Malformed(1))),
-    (b"jump 0004 0005 0005\n", Err(AssumeText::Malformed(1))),
-    (b"jump 0004 0006 0005\n", Err(AssumeText::Malformed(1))),
-    (b"store 0004 005E 005D\n", Err(AssumeText::Malformed(1))),
-    (b"jump 0004 0005 \n", Err(AssumeText::Malformed(1))),
-    (b"jump  0004 0005\n", Err(AssumeText::Malformed(1))),
-    (b" jump 0004 0005\n", Err(AssumeText::Malformed(1))),
-    (b"JUMP 0004 0005\n", Err(AssumeText::Malformed(1))),
-    (b"jump 0004 0005\r\n", Err(AssumeText::Malformed(1))),
-    (b"jump 0004,0005\n", Err(AssumeText::Malformed(1))),
-    (b"jump 0004 0005", Err(AssumeText::Malformed(1))),
-];
-
-/// How many entries the text has, after they were written as they were read; or the answer that refuses it.
-fn read_and_write(alloc: Global, text: &[u8]) -> Result<usize, AssumeText> {
-    let list = read(alloc, text)?;
-    let mut out = LineWriter::new(alloc);
-    let is_written = write(&list, &mut out).is_ok();
-    let again = out.finish();
-    if is_written && again.as_slice() == text {
-        Ok(list.entries().len())
-    } else {
-        Err(AssumeText::Memory)
-    }
+/// What a text begins with.
+enum Start {
+    Nothing,
+    /// A line with 63 items, which has at most 64.
+    Items,
+    /// 4,096 lines, behind which a line is malformed whatever it is.
+    Lines,
 }
 
-/// Writes a line of 63 items with these behind them.
-fn write_jump(out: &mut LineWriter, more: &[u8]) -> Result<(), AllocError> {
+/// What a text begins with, and what stands behind that; its number of entries, or the line at which it is refused and why.
+pub struct Text(Start, &'static [u8], Result<usize, AssumeText>);
+
+pub static TEXTS: [(&str, &[Text]); 3] = [
+    (
+        "assumptions",
+        &[
+            Text(Start::Nothing, b"", Ok(0)),
+            Text(Start::Nothing, b"jump 0004 0005\n", Ok(1)),
+            Text(Start::Nothing, b"store 0004 005D\n", Ok(1)),
+            Text(Start::Nothing, b"prove 0000\n", Ok(1)),
+            Text(
+                Start::Nothing,
+                b"jump 0004 0000 0005 3FFF\nstore 0004 0000 001F 005D\nprove 0004\n",
+                Ok(3),
+            ),
+            Text(
+                Start::Nothing,
+                b"prove 0003\njump 0004 0005\nstore 0009 00C1\n",
+                Ok(3),
+            ),
+            Text(
+                Start::Nothing,
+                b"jump 0004 0005\nstore 0004 005D\nprove 0004\nfree 0004\nnever 0004\nframe 0004\nfree 3FFF\n",
+                Ok(7),
+            ),
+            Text(
+                Start::Nothing,
+                b"free 0004\nprove 0004\n",
+                Err(AssumeText::Order(2)),
+            ),
+            Text(
+                Start::Nothing,
+                b"never 0004\nfree 0004\n",
+                Err(AssumeText::Order(2)),
+            ),
+            Text(
+                Start::Nothing,
+                b"frame 0004\nnever 0004\n",
+                Err(AssumeText::Order(2)),
+            ),
+            Text(
+                Start::Nothing,
+                b"never 0004\nnever 0004\n",
+                Err(AssumeText::Order(2)),
+            ),
+            Text(Start::Nothing, b"pairs\n", Ok(1)),
+            Text(
+                Start::Nothing,
+                b"pairs\njump 0000 0005\nframe 0000\n",
+                Ok(3),
+            ),
+            Text(Start::Nothing, b"pairs\npairs\n", Err(AssumeText::Order(2))),
+            Text(
+                Start::Nothing,
+                b"jump 0000 0005\npairs\n",
+                Err(AssumeText::Order(2)),
+            ),
+            Text(
+                Start::Nothing,
+                b"pairs 0000\n",
+                Err(AssumeText::Malformed(1)),
+            ),
+            Text(Start::Nothing, b"pairs \n", Err(AssumeText::Malformed(1))),
+            Text(Start::Nothing, b"pair\n", Err(AssumeText::Malformed(1))),
+            Text(
+                Start::Nothing,
+                b"free 0004 005D\n",
+                Err(AssumeText::Malformed(1)),
+            ),
+            Text(Start::Nothing, b"never\n", Err(AssumeText::Malformed(1))),
+            Text(
+                Start::Nothing,
+                b"frame 4000\n",
+                Err(AssumeText::Malformed(1)),
+            ),
+            Text(
+                Start::Nothing,
+                b"frames 0004\n",
+                Err(AssumeText::Malformed(1)),
+            ),
+            Text(
+                Start::Nothing,
+                b"jump 0004 0005\njump 0004 0005\n",
+                Err(AssumeText::Order(2)),
+            ),
+            Text(
+                Start::Nothing,
+                b"store 0004 005D\njump 0004 0005\n",
+                Err(AssumeText::Order(2)),
+            ),
+            Text(
+                Start::Nothing,
+                b"prove 0004\nstore 0004 005D\n",
+                Err(AssumeText::Order(2)),
+            ),
+            Text(
+                Start::Nothing,
+                b"prove 0004\nprove 0003\nprove 0005",
+                Err(AssumeText::Order(2)),
+            ),
+            Text(
+                Start::Nothing,
+                b"jump 0004 0005\njump 0004 0006\nx\n",
+                Err(AssumeText::Order(2)),
+            ),
+            Text(
+                Start::Nothing,
+                b"prove 0004\nprove 003\n",
+                Err(AssumeText::Malformed(2)),
+            ),
+            Text(Start::Nothing, b"\n", Err(AssumeText::Malformed(1))),
+            Text(
+                Start::Nothing,
+                b"prove 0004\n\n",
+                Err(AssumeText::Malformed(2)),
+            ),
+            Text(
+                Start::Nothing,
+                b"prove 0004\nprove 0005",
+                Err(AssumeText::Malformed(2)),
+            ),
+            Text(
+                Start::Nothing,
+                b"jump 0004\n",
+                Err(AssumeText::Malformed(1)),
+            ),
+            Text(
+                Start::Nothing,
+                b"store 0004\n",
+                Err(AssumeText::Malformed(1)),
+            ),
+            Text(Start::Nothing, b"prove\n", Err(AssumeText::Malformed(1))),
+            Text(
+                Start::Nothing,
+                b"prove 0004 0005\n",
+                Err(AssumeText::Malformed(1)),
+            ),
+            Text(
+                Start::Nothing,
+                b"jump 000a 0005\n",
+                Err(AssumeText::Malformed(1)),
+            ),
+            Text(
+                Start::Nothing,
+                b"jump 00004 0005\n",
+                Err(AssumeText::Malformed(1)),
+            ),
+            Text(
+                Start::Nothing,
+                b"jump 0004 00005\n",
+                Err(AssumeText::Malformed(1)),
+            ),
+            Text(
+                Start::Nothing,
+                b"prove 4000\n",
+                Err(AssumeText::Malformed(1)),
+            ),
+            Text(
+                Start::Nothing,
+                b"jump 4000 0005\n",
+                Err(AssumeText::Malformed(1)),
+            ),
+            Text(
+                Start::Nothing,
+                b"store 4000 005D\n",
+                Err(AssumeText::Malformed(1)),
+            ),
+            Text(
+                Start::Nothing,
+                b"jump 0004 4000\n",
+                Err(AssumeText::Malformed(1)),
+            ),
+            Text(
+                Start::Nothing,
+                b"store 0004 0020\n",
+                Err(AssumeText::Malformed(1)),
+            ),
+            Text(
+                Start::Nothing,
+                b"store 0004 005D 0100\n",
+                Err(AssumeText::Malformed(1)),
+            ),
+            Text(
+                Start::Nothing,
+                b"jump 0004 0005 0005\n",
+                Err(AssumeText::Malformed(1)),
+            ),
+            Text(
+                Start::Nothing,
+                b"jump 0004 0006 0005\n",
+                Err(AssumeText::Malformed(1)),
+            ),
+            Text(
+                Start::Nothing,
+                b"store 0004 005E 005D\n",
+                Err(AssumeText::Malformed(1)),
+            ),
+            Text(
+                Start::Nothing,
+                b"jump 0004 0005 \n",
+                Err(AssumeText::Malformed(1)),
+            ),
+            Text(
+                Start::Nothing,
+                b"jump  0004 0005\n",
+                Err(AssumeText::Malformed(1)),
+            ),
+            Text(
+                Start::Nothing,
+                b" jump 0004 0005\n",
+                Err(AssumeText::Malformed(1)),
+            ),
+            Text(
+                Start::Nothing,
+                b"JUMP 0004 0005\n",
+                Err(AssumeText::Malformed(1)),
+            ),
+            Text(
+                Start::Nothing,
+                b"jump 0004 0005\r\n",
+                Err(AssumeText::Malformed(1)),
+            ),
+            Text(
+                Start::Nothing,
+                b"jump 0004,0005\n",
+                Err(AssumeText::Malformed(1)),
+            ),
+            Text(
+                Start::Nothing,
+                b"jump 0004 0005",
+                Err(AssumeText::Malformed(1)),
+            ),
+        ],
+    ),
+    (
+        "items",
+        &[
+            Text(Start::Items, b" 003F\n", Ok(1)),
+            Text(Start::Items, b" 003F 0040\n", Err(AssumeText::Malformed(1))),
+        ],
+    ),
+    (
+        "line 4,097",
+        &[
+            Text(Start::Lines, b"", Ok(4_096)),
+            Text(
+                Start::Lines,
+                b"prove 1000\n",
+                Err(AssumeText::Malformed(4_097)),
+            ),
+            Text(
+                Start::Lines,
+                b"prove 0000\n",
+                Err(AssumeText::Malformed(4_097)),
+            ),
+            Text(Start::Lines, b"x", Err(AssumeText::Malformed(4_097))),
+        ],
+    ),
+];
+
+/// Writes a line of 63 items without its line feed.
+fn write_items(out: &mut LineWriter) -> Result<(), AllocError> {
     out.word(b"jump")?;
     out.hex(0x0004, 4)?;
     for item in 0..63 {
         out.hex(item, 4)?;
     }
-    out.word(more)?;
-    out.end_line()
-}
-
-/// The answer to such a line.
-fn with_items(alloc: Global, more: &[u8]) -> Result<usize, AssumeText> {
-    let mut out = LineWriter::new(alloc);
-    match write_jump(&mut out, more) {
-        Ok(()) => read_and_write(alloc, &out.finish()),
-        Err(_) => Err(AssumeText::Memory),
-    }
+    Ok(())
 }
 
 /// Writes the lines `prove 0000`, `prove 0001`, and on to the 4,096th.
@@ -125,128 +297,108 @@ fn write_proofs(out: &mut LineWriter) -> Result<(), AllocError> {
     Ok(())
 }
 
-/// The answer to these lines, with more behind them.
-fn behind_proofs(alloc: Global, more: &[u8]) -> Result<usize, AssumeText> {
-    let mut out = LineWriter::new(alloc);
-    let written = write_proofs(&mut out).is_ok();
-    let mut text = out.finish();
-    if !written || text.extend_from_slice(more).is_err() {
-        return Err(AssumeText::Memory);
+fn write_start(out: &mut LineWriter, start: &Start) -> Result<(), AllocError> {
+    match start {
+        Start::Nothing => Ok(()),
+        Start::Items => write_items(out),
+        Start::Lines => write_proofs(out),
     }
-    read_and_write(alloc, &text)
 }
 
-/// What stands behind 4,096 lines, of which line 4,097 is malformed whatever it is.
-static BEHIND: [(&[u8], Result<usize, AssumeText>); 4] = [
-    (b"", Ok(4_096)),
-    (b"prove 1000\n", Err(AssumeText::Malformed(4_097))),
-    (b"prove 0000\n", Err(AssumeText::Malformed(4_097))),
-    (b"x", Err(AssumeText::Malformed(4_097))),
-];
+/// Whether the list is written as it was read.
+fn is_written(alloc: Global, list: &Assumptions, text: &[u8]) -> bool {
+    let mut out = LineWriter::new(alloc);
+    let written = write(list, &mut out).is_ok();
+    written && out.finish().as_slice() == text
+}
 
-/// What stands behind 63 items of an entry, which has at most 64.
-static ITEMS: [(&[u8], Result<usize, AssumeText>); 2] = [
-    (b"003F", Ok(1)),
-    (b"003F 0040", Err(AssumeText::Malformed(1))),
-];
+fn is_answer(alloc: Global, text: &[u8], due: &Result<usize, AssumeText>) -> bool {
+    match read(alloc, text) {
+        Ok(list) => is_written(alloc, &list, text) && *due == Ok(list.entries().len()),
+        Err(fault) => *due == Err(fault),
+    }
+}
 
-/// Lines alone, and whether each is one, which is so without its line feed.
-static ALONE: [(&[u8], bool); 2] = [(b"jump 0004 0005", true), (b"jump 0004 0005\n", false)];
+// The same of a text with more behind it.
+fn is_answer_behind(alloc: Global, text: &mut Vec<u8>, row: &Text) -> bool {
+    let added = text.extend_from_slice(row.1).is_ok();
+    added && is_answer(alloc, text.as_slice(), &row.2)
+}
 
-fn is_alone(alloc: Global, line: &[u8], due: bool) -> bool {
-    match entry_of(alloc, line) {
-        Ok(entry) => entry.is_some() == due,
-        Err(_) => false,
+impl Worked for Text {
+    fn holds(&self, alloc: Global) -> bool {
+        let mut out = LineWriter::new(alloc);
+        let written = write_start(&mut out, &self.0).is_ok();
+        let mut text = out.finish();
+        written && is_answer_behind(alloc, &mut text, self)
+    }
+}
+
+/// A line alone, and whether it is one, which is so without its line feed.
+pub struct Alone(&'static [u8], bool);
+
+pub static ALONE: [(&str, &[Alone]); 1] = [(
+    "line alone",
+    &[
+        Alone(b"jump 0004 0005", true),
+        Alone(b"jump 0004 0005\n", false),
+    ],
+)];
+
+impl Worked for Alone {
+    fn holds(&self, alloc: Global) -> bool {
+        match entry_of(alloc, self.0) {
+            Ok(entry) => entry.is_some() == self.1,
+            Err(_) => false,
+        }
     }
 }
 
 /// Known bits and values of the low and the high byte, and the words; none where they are too many.
-static TARGETS: [(u8, u8, u8, u8, Option<&[u16]>); 8] = [
-    (0xFF, 0x34, 0xFF, 0x12, Some(&[0x1234])),
-    (0xFF, 0x34, 0xFF, 0xD2, Some(&[0x1234])),
-    (0xFF, 0x34, 0x3F, 0x12, Some(&[0x1234])),
-    (
-        0xFC,
-        0x00,
-        0xFF,
-        0x12,
-        Some(&[0x1200, 0x1201, 0x1202, 0x1203]),
-    ),
-    (
-        0xFE,
-        0x04,
-        0xDF,
-        0x01,
-        Some(&[0x0104, 0x0105, 0x2104, 0x2105]),
-    ),
-    (
-        0x7F,
-        0x04,
-        0xFE,
-        0x00,
-        Some(&[0x0004, 0x0084, 0x0104, 0x0184]),
-    ),
-    (0x80, 0x00, 0xFF, 0x00, None),
-    (0x00, 0x00, 0x00, 0x00, None),
-];
+pub struct Targets([u8; 4], Option<&'static [u16]>);
 
-/// Whether the words are those due, or too many where none are.
-fn are_due(low: TriByte, high: TriByte, due: Option<&[u16]>) -> bool {
-    match (targets(&low, &high), due) {
-        (Ok(words), Some(due)) => words.as_slice() == due,
-        (Err(_), None) => true,
-        _ => false,
+pub static TARGETS: [(&str, &[Targets]); 1] = [(
+    "targets",
+    &[
+        Targets([0xFF, 0x34, 0xFF, 0x12], Some(&[0x1234])),
+        Targets([0xFF, 0x34, 0xFF, 0xD2], Some(&[0x1234])),
+        Targets([0xFF, 0x34, 0x3F, 0x12], Some(&[0x1234])),
+        Targets(
+            [0xFC, 0x00, 0xFF, 0x12],
+            Some(&[0x1200, 0x1201, 0x1202, 0x1203]),
+        ),
+        Targets(
+            [0xFE, 0x04, 0xDF, 0x01],
+            Some(&[0x0104, 0x0105, 0x2104, 0x2105]),
+        ),
+        Targets(
+            [0x7F, 0x04, 0xFE, 0x00],
+            Some(&[0x0004, 0x0084, 0x0104, 0x0184]),
+        ),
+        Targets([0x80, 0x00, 0xFF, 0x00], None),
+        Targets([0x00, 0x00, 0x00, 0x00], None),
+    ],
+)];
+
+impl Worked for Targets {
+    // The words are those due, or too many where none are.
+    fn holds(&self, _alloc: Global) -> bool {
+        let low = TriByte::new(self.0[0], self.0[1]);
+        let high = TriByte::new(self.0[2], self.0[3]);
+        match targets(&low, &high) {
+            Ok(words) => self.1 == Some(words.as_slice()),
+            Err(_) => self.1.is_none(),
+        }
     }
 }
 
 /// Whether six unknown bits give 64 targets.
-fn are_sixty_four() -> bool {
+pub fn are_sixty_four() -> bool {
     match targets(&TriByte::new(0xC0, 0x40), &TriByte::of(0x01)) {
         Ok(targets) => {
             let words = targets.as_slice();
             words.len() == 64 && (words[0], words[63]) == (0x0140, 0x017F)
         }
         Err(_) => false,
-    }
-}
-
-/// The first text that has another answer. Want of memory is wrong too.
-pub fn wrong(alloc: Global) -> Wrong {
-    for (at, (text, answer)) in TEXTS.iter().enumerate() {
-        if read_and_write(alloc, text) != *answer {
-            return Some(("assumptions", at));
-        }
-    }
-    for (at, (more, answer)) in ITEMS.iter().enumerate() {
-        if with_items(alloc, more) != *answer {
-            return Some(("items", at));
-        }
-    }
-    for (at, (more, answer)) in BEHIND.iter().enumerate() {
-        if behind_proofs(alloc, more) != *answer {
-            return Some(("line 4,097", at));
-        }
-    }
-    for (at, &(line, due)) in ALONE.iter().enumerate() {
-        if !is_alone(alloc, line, due) {
-            return Some(("line alone", at));
-        }
-    }
-    None
-}
-
-/// The first value whose targets are others.
-pub fn wrong_targets() -> Wrong {
-    for (at, &(low_known, low, high_known, high, due)) in TARGETS.iter().enumerate() {
-        let low = TriByte::new(low_known, low);
-        let high = TriByte::new(high_known, high);
-        if !are_due(low, high, due) {
-            return Some(("targets", at));
-        }
-    }
-    if are_sixty_four() {
-        None
-    } else {
-        Some(("64 targets", 0))
     }
 }

@@ -1,7 +1,8 @@
 //! A certificate of the first version with each kind of line, which is written as it was read. Small damages to it stand in
 //! tests/end_to_end, with the places at which they are refused.
 
-use super::Wrong;
+use super::Worked;
+use super::second_version::{LATER, PAIRS, has_its_facts, has_later_values};
 use cert_format::{CertFault, Certificate, Limit, read, write};
 use edge_rules::NodeForm;
 use mask_states::Kind;
@@ -13,7 +14,7 @@ use std::alloc::{AllocError, Global};
 pub(crate) type Piece = (&'static [u8], &'static [u8], usize, &'static [u8]);
 
 /// A certificate with each kind of line.
-static PIECES: [Piece; 18] = [
+const PIECES: &[Piece] = &[
     (b"stackcert 1\n", b"", 0, b""),
     (b"bound 4\n", b"", 0, b""),
     (b"assume 2\n", b"", 0, b""),
@@ -41,7 +42,6 @@ static PIECES: [Piece; 18] = [
     (b"witness attained\n", b"", 0, b""),
     (b"schedule 1\nfill 00\nend\n", b"", 0, b""),
     (b"end\n", b"", 0, b""),
-    (b"", b"", 0, b""),
 ];
 
 /// Appends a piece.
@@ -56,27 +56,11 @@ fn append(text: &mut Vec<u8>, piece: &Piece) -> Result<(), AllocError> {
 }
 
 /// All pieces.
-fn joined(alloc: Global, pieces: &[Piece; 18]) -> Result<Vec<u8>, AllocError> {
-    let mut text = Vec::new(alloc);
+fn append_all(text: &mut Vec<u8>, pieces: &[Piece]) -> Result<(), AllocError> {
     for piece in pieces {
-        append(&mut text, piece)?;
+        append(text, piece)?;
     }
-    Ok(text)
-}
-
-/// The certificate of these pieces, and whether it is written as it was read.
-pub(crate) fn written_again(
-    alloc: Global,
-    pieces: &[Piece; 18],
-) -> Result<(Certificate, bool), CertFault> {
-    let Ok(text) = joined(alloc, pieces) else {
-        return Err(CertFault::Memory);
-    };
-    let certificate = read(alloc, &text)?;
-    match write(alloc, &certificate) {
-        Ok(again) => Ok((certificate, again.as_slice() == text.as_slice())),
-        Err(_) => Err(CertFault::Memory),
-    }
+    Ok(())
 }
 
 /// Whether some of its values are those that the words of the certificate with each kind of line stand for.
@@ -133,29 +117,80 @@ fn write_cells(out: &mut LineWriter, more: u16) -> Result<(), AllocError> {
     out.end_line()
 }
 
-/// Why such a certificate is refused, if it is.
-fn refusal(alloc: Global, more: u16) -> Option<CertFault> {
-    let mut out = LineWriter::new(alloc);
-    match write_cells(&mut out, more) {
-        Ok(()) => read(alloc, &out.finish()).err(),
-        Err(_) => Some(CertFault::Memory),
+/// Which version a certificate has.
+enum Version {
+    First,
+    Second,
+    Third,
+}
+
+/// The pieces of a certificate, and its version.
+pub struct Sample(&'static [Piece], Version);
+
+pub static VERSIONS: [(&str, &[Sample]); 1] = [(
+    "version",
+    &[
+        Sample(PIECES, Version::First),
+        Sample(LATER, Version::Second),
+        Sample(PAIRS, Version::Third),
+    ],
+)];
+
+fn has_values(certificate: &Certificate, version: &Version) -> Option<bool> {
+    match version {
+        Version::First => has_its_values(certificate),
+        Version::Second => has_later_values(certificate),
+        Version::Third => has_its_facts(certificate),
     }
 }
 
-/// The first certificate that is read or written otherwise. Want of memory is wrong too.
-pub fn wrong(alloc: Global) -> Wrong {
-    let first = match written_again(alloc, &PIECES) {
-        Ok((certificate, same)) => same && has_its_values(&certificate) == Some(true),
+/// Whether it is written as it was read.
+fn is_written(alloc: Global, certificate: &Certificate, text: &[u8]) -> bool {
+    match write(alloc, certificate) {
+        Ok(again) => again.as_slice() == text,
         Err(_) => false,
-    };
-    if !first {
-        return Some(("first version", 0));
     }
-    let most = refusal(alloc, 1).is_none();
-    let over = refusal(alloc, 2) == Some(CertFault::Limit(Limit::Cells));
-    if most && over {
-        None
-    } else {
-        Some(("cells", 0))
+}
+
+fn is_read(alloc: Global, text: &[u8], version: &Version) -> bool {
+    match read(alloc, text) {
+        Ok(certificate) => {
+            is_written(alloc, &certificate, text) && has_values(&certificate, version) == Some(true)
+        }
+        Err(_) => false,
+    }
+}
+
+impl Worked for Sample {
+    fn holds(&self, alloc: Global) -> bool {
+        let mut text = Vec::new(alloc);
+        let appended = append_all(&mut text, self.0).is_ok();
+        appended && is_read(alloc, text.as_slice(), &self.1)
+    }
+}
+
+/// How many nodes of one cell each stand behind those that have 8,388,607 cells, and why the certificate is refused, if it is.
+pub struct Cells(u16, Option<CertFault>);
+
+pub static CELLS: [(&str, &[Cells]); 1] = [(
+    "cells",
+    &[
+        Cells(1, None),
+        Cells(2, Some(CertFault::Limit(Limit::Cells))),
+    ],
+)];
+
+fn is_refused(alloc: Global, text: &[u8], due: &Option<CertFault>) -> bool {
+    match read(alloc, text) {
+        Ok(_) => due.is_none(),
+        Err(fault) => *due == Some(fault),
+    }
+}
+
+impl Worked for Cells {
+    fn holds(&self, alloc: Global) -> bool {
+        let mut out = LineWriter::new(alloc);
+        let written = write_cells(&mut out, self.0).is_ok();
+        written && is_refused(alloc, &out.finish(), &self.1)
     }
 }

@@ -1,8 +1,9 @@
 //! Words, and the commands that they are.
 
-use super::Wrong;
+use super::Worked;
 use avr_model::device::Device;
 use commands::{Command, command_of};
+use std::alloc::Global;
 
 /// What is compared of a command: its name, the device, the second file, the assumption file, its number, and whether it
 /// answers as JSON.
@@ -16,98 +17,106 @@ type Told = (
 );
 
 /// Words, and the command that they are.
-type Row = (&'static [&'static str], Told);
+pub struct Row(&'static [&'static str], Told);
 
-static ROWS: [Row; 14] = [
-    (
-        &["check", "--assume", "c", "a", "b"],
-        ("check", Device::M328, Some("b"), Some("c"), None, false),
-    ),
-    (
-        &["check", "a", "--assume", "c", "b"],
-        ("check", Device::M328, Some("b"), Some("c"), None, false),
-    ),
-    (
-        &["check", "a", "b", "--assume", "c"],
-        ("check", Device::M328, Some("b"), Some("c"), None, false),
-    ),
-    (
-        &["analyse", "a"],
-        ("analyse", Device::M328, None, None, None, false),
-    ),
-    (
-        &["analyse", "a", "--steps", "0"],
-        ("analyse", Device::M328, None, None, Some(0), false),
-    ),
-    (
-        &["analyse", "--steps", "18446744073709551615", "a"],
-        ("analyse", Device::M328, None, None, Some(u64::MAX), false),
-    ),
-    (
-        &["run", "a", "b"],
-        ("run", Device::M328, Some("b"), None, None, false),
-    ),
-    (
-        &["report", "a", "b"],
-        ("report", Device::M328, Some("b"), None, None, false),
-    ),
-    (
-        &["report", "--json", "a", "--assume", "c", "b"],
-        ("report", Device::M328, Some("b"), Some("c"), None, true),
-    ),
-    (
-        &["demo", "1"],
-        ("demo", Device::M328, None, None, Some(1), false),
-    ),
-    (
-        &["demo", "2000"],
-        ("demo", Device::M328, None, None, Some(2000), false),
-    ),
-    (
-        &["analyse", "a", "--device", "atmega328p"],
-        ("analyse", Device::M328, None, None, None, false),
-    ),
-    (
-        &["analyse", "--device", "atmega48pa", "a"],
-        ("analyse", Device::M48, None, None, None, false),
-    ),
-    (
-        &["analyse", "a", "--device", "atmega168pa", "--steps", "0"],
-        ("analyse", Device::M168, None, None, Some(0), false),
-    ),
-];
+pub static ROWS: [(&str, &[Row]); 1] = [(
+    "command",
+    &[
+        Row(
+            &["check", "--assume", "c", "a", "b"],
+            ("check", Device::M328, Some("b"), Some("c"), None, false),
+        ),
+        Row(
+            &["check", "a", "--assume", "c", "b"],
+            ("check", Device::M328, Some("b"), Some("c"), None, false),
+        ),
+        Row(
+            &["check", "a", "b", "--assume", "c"],
+            ("check", Device::M328, Some("b"), Some("c"), None, false),
+        ),
+        Row(
+            &["analyse", "a"],
+            ("analyse", Device::M328, None, None, None, false),
+        ),
+        Row(
+            &["analyse", "a", "--steps", "0"],
+            ("analyse", Device::M328, None, None, Some(0), false),
+        ),
+        Row(
+            &["analyse", "--steps", "18446744073709551615", "a"],
+            ("analyse", Device::M328, None, None, Some(u64::MAX), false),
+        ),
+        Row(
+            &["run", "a", "b"],
+            ("run", Device::M328, Some("b"), None, None, false),
+        ),
+        Row(
+            &["report", "a", "b"],
+            ("report", Device::M328, Some("b"), None, None, false),
+        ),
+        Row(
+            &["report", "--json", "a", "--assume", "c", "b"],
+            ("report", Device::M328, Some("b"), Some("c"), None, true),
+        ),
+        Row(
+            &["demo", "1"],
+            ("demo", Device::M328, None, None, Some(1), false),
+        ),
+        Row(
+            &["demo", "2000"],
+            ("demo", Device::M328, None, None, Some(2000), false),
+        ),
+        Row(
+            &["analyse", "a", "--device", "atmega328p"],
+            ("analyse", Device::M328, None, None, None, false),
+        ),
+        Row(
+            &["analyse", "--device", "atmega48pa", "a"],
+            ("analyse", Device::M48, None, None, None, false),
+        ),
+        Row(
+            &["analyse", "a", "--device", "atmega168pa", "--steps", "0"],
+            ("analyse", Device::M168, None, None, Some(0), false),
+        ),
+    ],
+)];
 
 /// Words that are no command.
-static REFUSED: [&[&str]; 20] = [
-    &["analyse", "a", "--device", "atmega8"],
-    &["demo", "1", "--device", "atmega88pa"],
+pub struct Refused(&'static [&'static str]);
+
+pub static REFUSED: [(&str, &[Refused]); 1] = [(
+    "no command",
     &[
-        "check",
-        "a",
-        "b",
-        "--device",
-        "atmega88pa",
-        "--device",
-        "atmega88pa",
+        Refused(&["analyse", "a", "--device", "atmega8"]),
+        Refused(&["demo", "1", "--device", "atmega88pa"]),
+        Refused(&[
+            "check",
+            "a",
+            "b",
+            "--device",
+            "atmega88pa",
+            "--device",
+            "atmega88pa",
+        ]),
+        Refused(&[]),
+        Refused(&["help"]),
+        Refused(&["check", "a"]),
+        Refused(&["check", "a", "b", "c"]),
+        Refused(&["check", "a", "--assume", "c", "--assume", "c", "b"]),
+        Refused(&["check", "a", "b", "--assume"]),
+        Refused(&["check", "a", ""]),
+        Refused(&["check", "--", "a", "b"]),
+        Refused(&["analyse", "--steps", "01", "a"]),
+        Refused(&["analyse", "--steps", "18446744073709551616", "a"]),
+        Refused(&["analyse", "-x"]),
+        Refused(&["analyse", "a", "b"]),
+        Refused(&["analyse", "a", "--json"]),
+        Refused(&["run", "a", "b", "--steps", "1"]),
+        Refused(&["report", "a", "b", "--json", "--json"]),
+        Refused(&["demo", "0"]),
+        Refused(&["demo", "2001"]),
     ],
-    &[],
-    &["help"],
-    &["check", "a"],
-    &["check", "a", "b", "c"],
-    &["check", "a", "--assume", "c", "--assume", "c", "b"],
-    &["check", "a", "b", "--assume"],
-    &["check", "a", ""],
-    &["check", "--", "a", "b"],
-    &["analyse", "--steps", "01", "a"],
-    &["analyse", "--steps", "18446744073709551616", "a"],
-    &["analyse", "-x"],
-    &["analyse", "a", "b"],
-    &["analyse", "a", "--json"],
-    &["run", "a", "b", "--steps", "1"],
-    &["report", "a", "b", "--json", "--json"],
-    &["demo", "0"],
-    &["demo", "2001"],
-];
+)];
 
 /// A command's name and its number; those that no row is have none.
 fn named<'a>(command: &Command<'a>) -> (&'static str, Option<u64>) {
@@ -146,24 +155,17 @@ fn is_told(command: &Command<'_>, told: &Told) -> bool {
     has_firmware(command, name) && found == *told
 }
 
-fn is_row(row: &Row) -> bool {
-    match command_of(row.0) {
-        Some(command) => is_told(&command, &row.1),
-        None => false,
+impl Worked for Row {
+    fn holds(&self, _alloc: Global) -> bool {
+        match command_of(self.0) {
+            Some(command) => is_told(&command, &self.1),
+            None => false,
+        }
     }
 }
 
-/// The first words that are another command, or one where they are none.
-pub fn wrong() -> Wrong {
-    for (at, row) in ROWS.iter().enumerate() {
-        if !is_row(row) {
-            return Some(("command", at));
-        }
+impl Worked for Refused {
+    fn holds(&self, _alloc: Global) -> bool {
+        command_of(self.0).is_none()
     }
-    for (at, words) in REFUSED.iter().enumerate() {
-        if command_of(words).is_some() {
-            return Some(("no command", at));
-        }
-    }
-    None
 }

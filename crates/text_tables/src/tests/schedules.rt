@@ -1,94 +1,93 @@
 //! Texts and the places at which they are refused. Offsets are counted by hand. Replays stand in tests/end_to_end.
 
-use super::Wrong;
+use super::Worked;
 use avr_model::choice::Choice;
 use sb_base::{LineReader, LineWriter};
-use std::alloc::{AllocError, Global};
+use std::alloc::Global;
 use witness_replay::{Schedule, ScheduleFault};
 
 /// Each text with the place behind its schedule, or the offset of the refused line.
-static TEXTS: [(&[u8], Result<usize, usize>); 30] = [
-    (b"schedule 1\nfill 00\ngo 4 00 00\ntake 2 0\nend\n", Ok(43)),
-    (b"schedule 1\nfill FF\nend\n", Ok(23)),
-    (
-        b"schedule 1\nfill 00\ngo 1 00 00\ngo 1 00 01\nend\n",
-        Ok(45),
-    ),
-    (
-        b"schedule 1\nfill 00\ngo 1 00 00\ntake 26 1\ngo 1 00 00\nend\n",
-        Ok(55),
-    ),
-    (
-        b"schedule 1\nfill 00\ngo 16777215 0A 00\ntake 7 1\nend\n",
-        Ok(50),
-    ),
-    (b"schedule 1\nfill 00\nend\nend\n", Ok(23)),
-    (b"schedule 1\nfill 00\nend\ngo 04 00 00", Ok(23)),
-    (b"", Err(0)),
-    (b"schedule 2\nfill 00\nend\n", Err(0)),
-    (b"schedule  1\nfill 00\nend\n", Err(0)),
-    (b"schedule 1\r\nfill 00\nend\n", Err(0)),
-    (b"schedule 1\n", Err(11)),
-    (b"schedule 1\nfill ff\nend\n", Err(11)),
-    (b"schedule 1\nfill 0\nend\n", Err(11)),
-    (b"schedule 1\nend\n", Err(11)),
-    (b"schedule 1\nfill 00\n", Err(19)),
-    (b"schedule 1\nfill 00\nend", Err(19)),
-    (b"schedule 1\nfill 00\nend \n", Err(19)),
-    (b"schedule 1\nfill 00\ngo 04 00 00\nend\n", Err(19)),
-    (b"schedule 1\nfill 00\ngo 0 00 00\nend\n", Err(19)),
-    (b"schedule 1\nfill 00\ngo 1 0a 00\nend\n", Err(19)),
-    (b"schedule 1\nfill 00\ngo  1 00 00\nend\n", Err(19)),
-    (b"schedule 1\nfill 00\ngo 1 00 00 \nend\n", Err(19)),
-    (b"schedule 1\nfill 00\ngo 16777217 00 00\nend\n", Err(19)),
-    (b"schedule 1\nfill 00\ntake 1 0\nend\n", Err(19)),
-    (b"schedule 1\nfill 00\ntake 27 0\nend\n", Err(19)),
-    (b"schedule 1\nfill 00\ntake 2 2\nend\n", Err(19)),
-    (
-        b"schedule 1\nfill 00\ngo 1 00 00\ngo 2 00 00\nend\n",
-        Err(30),
-    ),
-    (b"schedule 1\nfill 00\ngo 1 00 00\n", Err(30)),
-    (
-        b"schedule 1\nfill 00\ngo 16777216 00 00\ntake 2 0\nend\n",
-        Err(37),
-    ),
-];
+pub struct Text(&'static [u8], Result<usize, usize>);
 
-/// Where the reader stands behind the schedule that the text begins with, or at the refused line; the answer as an offset;
-/// and whether the schedule is written as it was read.
-fn read_and_write(
-    alloc: Global,
-    text: &[u8],
-) -> Result<(Result<usize, usize>, usize, bool), ScheduleFault> {
-    let mut reader = LineReader::new(text);
-    match Schedule::read(alloc, &mut reader) {
-        Ok(schedule) => {
-            let mut out = LineWriter::new(alloc);
-            if schedule.write(&mut out).is_err() {
-                return Err(ScheduleFault::Memory);
-            }
-            let written = out.finish();
-            let same = text.starts_with(&written);
-            Ok((Ok(written.len()), reader.offset(), same))
+pub static TEXTS: [(&str, &[Text]); 1] = [(
+    "schedule",
+    &[
+        Text(b"schedule 1\nfill 00\ngo 4 00 00\ntake 2 0\nend\n", Ok(43)),
+        Text(b"schedule 1\nfill FF\nend\n", Ok(23)),
+        Text(
+            b"schedule 1\nfill 00\ngo 1 00 00\ngo 1 00 01\nend\n",
+            Ok(45),
+        ),
+        Text(
+            b"schedule 1\nfill 00\ngo 1 00 00\ntake 26 1\ngo 1 00 00\nend\n",
+            Ok(55),
+        ),
+        Text(
+            b"schedule 1\nfill 00\ngo 16777215 0A 00\ntake 7 1\nend\n",
+            Ok(50),
+        ),
+        Text(b"schedule 1\nfill 00\nend\nend\n", Ok(23)),
+        Text(b"schedule 1\nfill 00\nend\ngo 04 00 00", Ok(23)),
+        Text(b"", Err(0)),
+        Text(b"schedule 2\nfill 00\nend\n", Err(0)),
+        Text(b"schedule  1\nfill 00\nend\n", Err(0)),
+        Text(b"schedule 1\r\nfill 00\nend\n", Err(0)),
+        Text(b"schedule 1\n", Err(11)),
+        Text(b"schedule 1\nfill ff\nend\n", Err(11)),
+        Text(b"schedule 1\nfill 0\nend\n", Err(11)),
+        Text(b"schedule 1\nend\n", Err(11)),
+        Text(b"schedule 1\nfill 00\n", Err(19)),
+        Text(b"schedule 1\nfill 00\nend", Err(19)),
+        Text(b"schedule 1\nfill 00\nend \n", Err(19)),
+        Text(b"schedule 1\nfill 00\ngo 04 00 00\nend\n", Err(19)),
+        Text(b"schedule 1\nfill 00\ngo 0 00 00\nend\n", Err(19)),
+        Text(b"schedule 1\nfill 00\ngo 1 0a 00\nend\n", Err(19)),
+        Text(b"schedule 1\nfill 00\ngo  1 00 00\nend\n", Err(19)),
+        Text(b"schedule 1\nfill 00\ngo 1 00 00 \nend\n", Err(19)),
+        Text(b"schedule 1\nfill 00\ngo 16777217 00 00\nend\n", Err(19)),
+        Text(b"schedule 1\nfill 00\ntake 1 0\nend\n", Err(19)),
+        Text(b"schedule 1\nfill 00\ntake 27 0\nend\n", Err(19)),
+        Text(b"schedule 1\nfill 00\ntake 2 2\nend\n", Err(19)),
+        Text(
+            b"schedule 1\nfill 00\ngo 1 00 00\ngo 2 00 00\nend\n",
+            Err(30),
+        ),
+        Text(b"schedule 1\nfill 00\ngo 1 00 00\n", Err(30)),
+        Text(
+            b"schedule 1\nfill 00\ngo 16777216 00 00\ntake 2 0\nend\n",
+            Err(37),
+        ),
+    ],
+)];
+
+/// Whether the schedule is written as so many bytes of the text.
+fn is_written(alloc: Global, schedule: &Schedule, text: &[u8], end: usize) -> bool {
+    let mut out = LineWriter::new(alloc);
+    let is_written = schedule.write(&mut out).is_ok();
+    let written = out.finish();
+    is_written && written.len() == end && text.starts_with(&written)
+}
+
+// Whether the reader stands behind the schedule, or at the refused line.
+fn is_read(alloc: Global, reader: &mut LineReader<'_>, row: &Text) -> bool {
+    match (Schedule::read(alloc, reader), row.1) {
+        (Ok(schedule), Ok(end)) => {
+            reader.offset() == end && is_written(alloc, &schedule, row.0, end)
         }
-        Err(ScheduleFault::Malformed(at)) => Ok((Err(at), reader.offset(), true)),
-        Err(fault) => Err(fault),
+        (Err(ScheduleFault::Malformed(at)), Err(due)) => at == due && reader.offset() == due,
+        _ => false,
     }
 }
 
-/// Whether the text is read and written, or refused, as is due.
-fn is_due(alloc: Global, text: &[u8], answer: Result<usize, usize>) -> Result<bool, ScheduleFault> {
-    let (found, place, same) = read_and_write(alloc, text)?;
-    let due = match answer {
-        Ok(end) => end,
-        Err(at) => at,
-    };
-    Ok(found == answer && place == due && same)
+impl Worked for Text {
+    fn holds(&self, alloc: Global) -> bool {
+        let mut reader = LineReader::new(self.0);
+        is_read(alloc, &mut reader, self)
+    }
 }
 
 /// Whether a schedule within a text is told by offsets of the whole.
-fn is_within(alloc: Global) -> bool {
+pub fn is_within(alloc: Global) -> bool {
     let mut reader = LineReader::new(b"first\nschedule 1\nfill 7F\ngo 0 00 00\nend\n");
     reader.next();
     let answer = Schedule::read(alloc, &mut reader);
@@ -109,26 +108,16 @@ static CHOICES: [Choice; 7] = [
 const RUNS: &[u8] =
     b"schedule 1\nfill 5A\ngo 2 00 00\ngo 1 00 01\ntake 26 1\ntake 26 1\ngo 2 00 01\nend\n";
 
-fn are_runs(alloc: Global) -> Result<bool, AllocError> {
-    let schedule = Schedule::from_trace(alloc, 0x5A, &CHOICES)?;
+fn is_run(alloc: Global, schedule: &Schedule) -> bool {
     let mut out = LineWriter::new(alloc);
     let written = schedule.write(&mut out).is_ok();
-    Ok(written && out.finish().as_slice() == RUNS)
+    written && out.finish().as_slice() == RUNS
 }
 
-/// The first text that has another answer. Want of memory is wrong too.
-pub fn wrong(alloc: Global) -> Wrong {
-    for (at, (text, answer)) in TEXTS.iter().enumerate() {
-        if !matches!(is_due(alloc, text, *answer), Ok(true)) {
-            return Some(("schedule", at));
-        }
-    }
-    if !is_within(alloc) {
-        return Some(("schedule within a text", 0));
-    }
-    if matches!(are_runs(alloc), Ok(true)) {
-        None
-    } else {
-        Some(("runs", 0))
+/// Whether equal choices in a row become runs.
+pub fn are_runs(alloc: Global) -> bool {
+    match Schedule::from_trace(alloc, 0x5A, &CHOICES) {
+        Ok(schedule) => is_run(alloc, &schedule),
+        Err(_) => false,
     }
 }

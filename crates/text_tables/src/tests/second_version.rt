@@ -1,16 +1,14 @@
 //! A certificate of the second version with each kind of word that the first hasn't, and one of the third with each kind that the second
 //! hasn't. Small damages to them stand in tests/end_to_end.
 
-use super::Wrong;
-use crate::tests::certificates::{Piece, written_again};
+use super::certificates::Piece;
 use cert_format::Certificate;
 use edge_rules::NodeForm;
 use pair_domain::{CompareTag, Side, SumTag, ZeroTag};
 use sp_domain::CarryTag;
-use std::alloc::Global;
 
 /// A certificate with lines of each kind, ranges, carry tags of each kind, picks, and a vector of one word.
-static PIECES: [Piece; 18] = [
+pub const LATER: &[Piece] = &[
     (b"stackcert 2\n", b"", 0, b""),
     (b"bound 4\n", b"", 0, b""),
     (b"assume 5\n", b"", 0, b""),
@@ -53,11 +51,10 @@ static PIECES: [Piece; 18] = [
     ),
     (b"witness attained\nschedule 1\nfill 00\nend\n", b"", 0, b""),
     (b"end\n", b"", 0, b""),
-    (b"", b"", 0, b""),
 ];
 
 /// A certificate with the line `pairs`, and what can be known of pairs in each kind.
-static PAIRS: [Piece; 18] = [
+pub const PAIRS: &[Piece] = &[
     (b"stackcert 3\n", b"", 0, b""),
     (b"bound 4\n", b"", 0, b""),
     (b"assume 2\n", b"", 0, b""),
@@ -88,13 +85,10 @@ static PAIRS: [Piece; 18] = [
     ),
     (b"witness attained\nschedule 1\nfill 00\nend\n", b"", 0, b""),
     (b"end\n", b"", 0, b""),
-    (b"", b"", 0, b""),
-    (b"", b"", 0, b""),
-    (b"", b"", 0, b""),
 ];
 
 /// Whether some of its values are those that the words stand for which the first version hasn't.
-fn has_its_values(certificate: &Certificate) -> Option<bool> {
+pub fn has_later_values(certificate: &Certificate) -> Option<bool> {
     let vector = certificate.instances().get(2)?;
     let second = certificate.nodes().get(1)?;
     let third = certificate.nodes().get(2)?;
@@ -109,7 +103,7 @@ fn has_its_values(certificate: &Certificate) -> Option<bool> {
 }
 
 /// Whether some of what is known of pairs is what the words stand for.
-fn has_its_facts(certificate: &Certificate) -> Option<bool> {
+pub fn has_its_facts(certificate: &Certificate) -> Option<bool> {
     let third = certificate.nodes().get(2)?;
     let NodeForm::State(held) = &third.1 else {
         return None;
@@ -123,24 +117,4 @@ fn has_its_facts(certificate: &Certificate) -> Option<bool> {
         && facts.compare == CompareTag::Pair(24, Side::Byte(5), 25)
         && facts.zero == ZeroTag::Pair(30);
     Some(intervals && tags)
-}
-
-/// The first later version of which a certificate is written otherwise. Want of memory is wrong too.
-pub fn wrong(alloc: Global) -> Wrong {
-    let second = match written_again(alloc, &PIECES) {
-        Ok((certificate, same)) => same && has_its_values(&certificate) == Some(true),
-        Err(_) => false,
-    };
-    if !second {
-        return Some(("second version", 0));
-    }
-    let third = match written_again(alloc, &PAIRS) {
-        Ok((certificate, same)) => same && has_its_facts(&certificate) == Some(true),
-        Err(_) => false,
-    };
-    if third {
-        None
-    } else {
-        Some(("third version", 0))
-    }
 }

@@ -1,6 +1,6 @@
 //! Each call with ample memory, and faults that are chosen by call.
 
-use super::Wrong;
+use super::Worked;
 use sb_base::{
     DigitFault, FileFault, Files, LineReader, LineWriter, MemFiles, MemSink, Sink, SinkFault,
     Words, put_all, read_dec, read_hex,
@@ -38,7 +38,7 @@ fn misread(files: &mut MemFiles, alloc: Global) -> Option<usize> {
 }
 
 /// The same of an older and a new object of one name, of which the second read fails.
-fn misread_of_two(alloc: Global) -> Option<usize> {
+pub fn misread_of_two(alloc: Global) -> Option<usize> {
     let mut files = MemFiles::new(alloc);
     if files.add("a", b"older").is_ok() && files.add("a", b"new").is_ok() && files.fail(1).is_ok() {
         misread(&mut files, alloc)
@@ -83,7 +83,7 @@ fn plan(sink: &mut MemSink) -> Result<(), AllocError> {
     sink.short(6, 0)
 }
 
-fn misput_in_pieces(alloc: Global) -> Option<usize> {
+pub fn misput_in_pieces(alloc: Global) -> Option<usize> {
     let mut sink = MemSink::new(alloc);
     match plan(&mut sink) {
         Ok(()) => misput(&mut sink),
@@ -91,24 +91,44 @@ fn misput_in_pieces(alloc: Global) -> Option<usize> {
     }
 }
 
-static HEXADECIMAL: [(&[u8], usize, Result<u32, DigitFault>); 4] = [
-    (b"940C", 4, Ok(37900)),
-    (b"FFFFFFFF", 8, Ok(4294967295)),
-    (b"940c", 4, Err(DigitFault::BadDigit(3))),
-    (b"94", 4, Err(DigitFault::WrongLength(2))),
-];
+/// Digits, how many are wanted, and the answer.
+pub struct Hexadecimal(&'static [u8], usize, Result<u32, DigitFault>);
 
-static DECIMAL: [(&[u8], u64, Result<u64, DigitFault>); 6] = [
-    (b"18446744073709551615", u64::MAX, Ok(u64::MAX)),
-    (b"18446744073709551616", u64::MAX, Err(DigitFault::TooGreat)),
-    (b"2049", 2048, Err(DigitFault::TooGreat)),
-    (b"007", 2048, Err(DigitFault::BadDigit(0))),
-    (b"7 ", 2048, Err(DigitFault::BadDigit(1))),
-    (b"", 2048, Err(DigitFault::WrongLength(0))),
-];
+pub static HEXADECIMAL: [(&str, &[Hexadecimal]); 1] = [(
+    "hexadecimal",
+    &[
+        Hexadecimal(b"940C", 4, Ok(37900)),
+        Hexadecimal(b"FFFFFFFF", 8, Ok(4294967295)),
+        Hexadecimal(b"940c", 4, Err(DigitFault::BadDigit(3))),
+        Hexadecimal(b"94", 4, Err(DigitFault::WrongLength(2))),
+    ],
+)];
 
-fn is_hexadecimal(row: &(&[u8], usize, Result<u32, DigitFault>)) -> bool {
-    row.1 >= 1 && row.1 <= 8 && read_hex(row.0, row.1) == row.2
+impl Worked for Hexadecimal {
+    fn holds(&self, _alloc: Global) -> bool {
+        self.1 >= 1 && self.1 <= 8 && read_hex(self.0, self.1) == self.2
+    }
+}
+
+/// Digits, the greatest number, and the answer.
+pub struct Decimal(&'static [u8], u64, Result<u64, DigitFault>);
+
+pub static DECIMAL: [(&str, &[Decimal]); 1] = [(
+    "decimal",
+    &[
+        Decimal(b"18446744073709551615", u64::MAX, Ok(u64::MAX)),
+        Decimal(b"18446744073709551616", u64::MAX, Err(DigitFault::TooGreat)),
+        Decimal(b"2049", 2048, Err(DigitFault::TooGreat)),
+        Decimal(b"007", 2048, Err(DigitFault::BadDigit(0))),
+        Decimal(b"7 ", 2048, Err(DigitFault::BadDigit(1))),
+        Decimal(b"", 2048, Err(DigitFault::WrongLength(0))),
+    ],
+)];
+
+impl Worked for Decimal {
+    fn holds(&self, _alloc: Global) -> bool {
+        read_dec(self.0, self.1) == self.2
+    }
 }
 
 /// Each line: its text, where it begins, whether a line feed ends it, and the offset behind it.
@@ -145,9 +165,9 @@ fn is_line(reader: &mut LineReader<'_>, row: &(&[u8], usize, bool, usize)) -> bo
     }
 }
 
-/// Whether the words of a line are those and no more.
-fn are_words(line: &[u8]) -> bool {
-    let mut words = Words::new(line);
+/// Whether the words of the first line are those and no more.
+pub fn are_words() -> bool {
+    let mut words = Words::new(LINES[0].0);
     for word in WORDS {
         if words.next() != Some(word) {
             return false;
@@ -171,39 +191,10 @@ fn misread_line(text: &[u8]) -> Option<usize> {
     }
 }
 
-fn miswritten_line(alloc: Global) -> Option<usize> {
+pub fn miswritten_line(alloc: Global) -> Option<usize> {
     let mut writer = LineWriter::new(alloc);
     match write_lines(&mut writer) {
         Ok(()) => misread_line(&writer.finish()),
         Err(_) => Some(0),
-    }
-}
-
-/// The first object, line or number that is another. Want of memory is wrong too.
-pub fn wrong(alloc: Global) -> Wrong {
-    let tables = [
-        ("file", misread_of_two(alloc)),
-        ("sink", misput_in_pieces(alloc)),
-        ("line", miswritten_line(alloc)),
-    ];
-    for (name, wrong) in tables {
-        if let Some(at) = wrong {
-            return Some((name, at));
-        }
-    }
-    for (at, row) in HEXADECIMAL.iter().enumerate() {
-        if !is_hexadecimal(row) {
-            return Some(("hexadecimal", at));
-        }
-    }
-    for (at, row) in DECIMAL.iter().enumerate() {
-        if read_dec(row.0, row.1) != row.2 {
-            return Some(("decimal", at));
-        }
-    }
-    if are_words(LINES[0].0) {
-        None
-    } else {
-        Some(("words", 0))
     }
 }
