@@ -8,17 +8,74 @@ mod seeds;
 mod trials;
 mod verdicts;
 
-/// A table and one of its rows.
-type Wrong = Option<(&'static str, usize)>;
+use std::alloc::Global;
+
+/// The first table and row that is wrong, once there is one.
+struct Told {
+    table: &'static str,
+    row: usize,
+    wrong: bool,
+}
+
+/// A row that was worked out apart from what it is about.
+trait Worked {
+    /// Whether what it is about is so. Want of memory is wrong too.
+    fn holds(&self, alloc: Global) -> bool;
+}
+
+/// The first row that doesn't hold.
+fn wrong_row<R: Worked>(alloc: Global, rows: &[R]) -> Option<usize> {
+    for at in 0..rows.len() {
+        if !rows[at].holds(alloc) {
+            return Some(at);
+        }
+    }
+    None
+}
+
+/// Tells the row of a table that is wrong, if one is.
+fn tell_row(told: &mut Told, table: &'static str, wrong: Option<usize>) {
+    if let Some(at) = wrong
+        && !told.wrong
+    {
+        told.table = table;
+        told.row = at;
+        told.wrong = true;
+    }
+}
+
+/// Tells the first row that doesn't hold of tables with their names.
+fn tell<R: Worked>(told: &mut Told, alloc: Global, tables: &[(&'static str, &[R])]) {
+    for (name, rows) in tables {
+        tell_row(told, *name, wrong_row(alloc, rows));
+    }
+}
+
+/// Nesting, families, verdicts and trials.
+fn tell_families(told: &mut Told, alloc: Global) {
+    tell(told, alloc, &nesting::ROWS);
+    tell(told, alloc, &notes::ROWS);
+    let chain = if notes::is_chain(alloc) {
+        None
+    } else {
+        Some(0)
+    };
+    tell_row(told, "chain", chain);
+    tell(told, alloc, &edges::ROWS);
+    tell(told, alloc, &forms::ROWS);
+    tell(told, alloc, &verdicts::ROWS);
+    tell(told, alloc, &trials::ROWS);
+}
 
 #[test]
 fn each_row_holds(rt: HostRuntime) {
     let alloc = rt.alloc();
-    let wrong = nesting::wrong(alloc)
-        .or(notes::wrong(alloc))
-        .or(edges::wrong(alloc))
-        .or(forms::wrong(alloc))
-        .or(verdicts::wrong(alloc))
-        .or(trials::wrong(alloc));
-    assert!(rt; wrong.is_none(), "{wrong:?}");
+    let mut told = Told {
+        table: "",
+        row: 0,
+        wrong: false,
+    };
+    tell_families(&mut told, alloc);
+    let Told { table, row, wrong } = told;
+    assert!(rt; !wrong, "{table} {row}");
 }

@@ -4,7 +4,7 @@ ghost use Rattle.std.specs.Prelude.{◌<◌, false, length};
 ghost use Rattle.edge_rules.specs.Expansion.{AreSeeds};
 ghost use Rattle.edge_laws.specs.Expansions.{AreAscending};
 
-use super::Wrong;
+use super::Worked;
 use crate::tests::seeds::{Plan, SeedList, seeds_of};
 use avr_model::device::Device;
 use avr_model::listed::Listed;
@@ -12,11 +12,10 @@ use call_graph::{Edge, EdgeKind, Expanded, Filled, Leaving, View, exits, expand,
 use flash_image::Flash;
 use local_rules::NodeFault;
 use mask_states::Kind;
-use std::alloc::{AllocError, Global};
+use std::alloc::Global;
 use vector_table::Assumptions;
 
 /// What is due: edges, by their kinds and the words where they land; the node's fault; or the least node without an expansion.
-#[derive(Clone, Copy)]
 enum Due {
     Edges(&'static [(EdgeKind, u16)]),
     Fault(NodeFault),
@@ -24,7 +23,7 @@ enum Due {
 }
 
 /// A device, a firmware's bytes, nodes, the number of one of them, and what is due.
-struct Row(Device, &'static [u8], &'static [Plan], usize, Due);
+pub struct Row(Device, &'static [u8], &'static [Plan], usize, Due);
 
 fn are_edges(edges: &Listed<Edge>, due: &[(EdgeKind, u16)]) -> bool {
     let found = edges.as_slice();
@@ -39,71 +38,92 @@ fn are_edges(edges: &Listed<Edge>, due: &[(EdgeKind, u16)]) -> bool {
     true
 }
 
-/// Whether the node leads where it is due, with exits worked out once and without.
-fn leads(
-    alloc: Global,
-    flash: &Flash,
-    filled: &Filled,
-    at: usize,
-    due: Due,
-) -> Result<bool, AllocError>
+fn has_edges(due: &Due, edges: &Listed<Edge>) -> bool {
+    match due {
+        Due::Edges(due) => are_edges(edges, due),
+        _ => false,
+    }
+}
+
+fn has_fault(due: &Due, fault: NodeFault) -> bool {
+    match due {
+        Due::Fault(due) => fault == *due,
+        _ => false,
+    }
+}
+
+/// Whether the node leads where it is due.
+fn leads(alloc: Global, flash: &Flash, filled: &Filled, at: usize, due: &Due) -> bool
+    requires { at < length filled.now }
+{
+    match next(alloc, flash, &Assumptions::empty(alloc), filled, at) {
+        Ok(edges) => has_edges(due, &edges),
+        Err(fault) => has_fault(due, fault),
+    }
+}
+
+/// The same with exits worked out once.
+fn leads_by_exits(alloc: Global, flash: &Flash, filled: &Filled, at: usize, due: &Due) -> bool
     requires { at < length filled.now }
 {
     let none = Assumptions::empty(alloc);
-    match (
-        due,
-        next(alloc, flash, &none, filled, at),
-        exits(alloc, flash, &none, filled)?,
-    ) {
-        (Due::Edges(due), Ok(edges), Leaving::All(exits)) => {
-            let again = next_with(alloc, flash, &none, filled, at, &exits)?;
-            Ok(are_edges(&edges, due) && are_edges(&again, due))
-        }
-        (Due::Fault(due), Err(fault), Leaving::Fault(first, other)) => {
-            Ok(fault == due && first == at && other == due)
-        }
-        _ => Ok(false),
+    match exits(alloc, flash, &none, filled) {
+        Ok(Leaving::All(exits)) => match next_with(alloc, flash, &none, filled, at, &exits) {
+            Ok(edges) => has_edges(due, &edges),
+            Err(_) => false,
+        },
+        Ok(Leaving::Fault(first, fault)) => first == at && has_fault(due, fault),
+        Err(_) => false,
+    }
+}
+
+fn is_whole(alloc: Global, flash: &Flash, filled: &Filled, at: usize, due: &Due) -> bool {
+    at < filled.count()
+        && filled.find(filled.key(at)) == Some(at)
+        && leads(alloc, flash, filled, at, due)
+        && leads_by_exits(alloc, flash, filled, at, due)
+}
+
+fn is_missing(due: &Due, missing: u32) -> bool {
+    match due {
+        Due::Missing(due) => missing == *due,
+        _ => false,
     }
 }
 
 /// Whether the family of these nodes is so.
-fn is_family(
-    alloc: Global,
-    flash: &Flash,
-    nodes: &SeedList,
-    at: usize,
-    due: Due,
-) -> Result<bool, AllocError>
+fn is_family(alloc: Global, flash: &Flash, nodes: &SeedList, at: usize, due: &Due) -> bool
     requires seeds { AreSeeds false nodes.now.items.items }
     requires ascending { AreAscending nodes.now.items.items }
 {
-    match (
-        due,
-        expand(alloc, flash, &Assumptions::empty(alloc), nodes)?,
-    ) {
-        (Due::Missing(due), Expanded::Missing(missing)) => Ok(missing == due),
-        (due, Expanded::Whole(filled)) => {
-            let is_there = at < filled.count() && filled.find(filled.key(at)) == Some(at);
-            Ok(is_there && leads(alloc, flash, &filled, at, due)?)
+    match expand(alloc, flash, &Assumptions::empty(alloc), nodes) {
+        Ok(Expanded::Whole(filled)) => is_whole(alloc, flash, &filled, at, due),
+        Ok(Expanded::Missing(missing)) => is_missing(due, missing),
+        Err(_) => false,
+    }
+}
+
+fn is_on(alloc: Global, flash: &Flash, row: &Row) -> bool {
+    match seeds_of(alloc, row.2) {
+        Ok(Some(nodes)) => is_family(alloc, flash, &nodes, row.3, &row.4),
+        _ => false,
+    }
+}
+
+/// The flash of a device that begins with these bytes.
+pub(crate) fn flash_on(alloc: Global, device: Device, bytes: &[u8]) -> Option<Flash> {
+    match Flash::from_raw(alloc, bytes) {
+        Ok(whole) => whole.narrow(device).ok(),
+        Err(_) => None,
+    }
+}
+
+impl Worked for Row {
+    fn holds(&self, alloc: Global) -> bool {
+        match flash_on(alloc, self.0, self.1) {
+            Some(flash) => is_on(alloc, &flash, self),
+            None => false,
         }
-        _ => Ok(false),
-    }
-}
-
-fn is_on(alloc: Global, flash: &Flash, row: &Row) -> Result<bool, AllocError> {
-    match seeds_of(alloc, row.2)? {
-        Some(nodes) => is_family(alloc, flash, &nodes, row.3, row.4),
-        None => Ok(false),
-    }
-}
-
-fn is_row(alloc: Global, row: &Row) -> Result<bool, AllocError> {
-    let Ok(whole) = Flash::from_raw(alloc, row.1) else {
-        return Ok(false);
-    };
-    match whole.narrow(row.0) {
-        Ok(flash) => is_on(alloc, &flash, row),
-        Err(_) => Ok(false),
     }
 }
 
@@ -127,80 +147,73 @@ const LOOP_NODES: &[Plan] = &[
 // nop; rjmp to itself
 const LINE: &[u8] = &[0, 0, 0xFF, 0xCF];
 
-static ROWS: [Row; 7] = [
-    Row(
-        Device::M328,
-        CALL,
-        CALL_NODES,
-        0,
-        Due::Edges(&[(EdgeKind::Call, 2), (EdgeKind::Return, 1)]),
-    ),
-    Row(Device::M328, CALL, CALL_NODES, 2, Due::Edges(&[])),
-    Row(
-        Device::M328,
-        LOOP,
-        LOOP_NODES,
-        0,
-        Due::Edges(&[
-            (EdgeKind::Local, 0),
-            (EdgeKind::Interrupt(2, false), 2),
-            (EdgeKind::Interrupt(7, false), 12),
-            (EdgeKind::Interrupt(7, true), 12),
-            (EdgeKind::Return, 0),
-        ]),
-    ),
-    // a vector has one word
-    Row(
-        Device::M48,
-        &[0xFF, 0xCF, 0x18, 0x95],
-        &[
-            Plan(Kind::Root, 0, true, 0, None),
-            Plan(Kind::Vector(2), 1, true, 1, None),
-        ],
-        0,
-        Due::Edges(&[
-            (EdgeKind::Local, 0),
-            (EdgeKind::Interrupt(2, false), 1),
-            (EdgeKind::Interrupt(7, false), 6),
-            (EdgeKind::Interrupt(7, true), 6),
-            (EdgeKind::Return, 0),
-        ]),
-    ),
-    Row(
-        Device::M328,
-        LINE,
-        &[
-            Plan(Kind::Root, 0, false, 0, None),
-            Plan(Kind::Root, 0, false, 1, Some((0, 0))),
-        ],
-        0,
-        Due::Edges(&[(EdgeKind::Local, 1)]),
-    ),
-    Row(
-        Device::M328,
-        LINE,
-        &[
-            Plan(Kind::Root, 0, false, 0, None),
-            Plan(Kind::Root, 0, false, 2, Some((0, 0))),
-        ],
-        0,
-        Due::Missing(1),
-    ),
-    Row(
-        Device::M328,
-        &[0xFF, 0xFF],
-        &[Plan(Kind::Root, 0, false, 0, None)],
-        0,
-        Due::Fault(NodeFault::Unsupported(0)),
-    ),
-];
-
-/// The first family whose node leads elsewhere. Want of memory is wrong too.
-pub fn wrong(alloc: Global) -> Wrong {
-    for (at, row) in ROWS.iter().enumerate() {
-        if !matches!(is_row(alloc, row), Ok(true)) {
-            return Some(("edges", at));
-        }
-    }
-    None
-}
+pub static ROWS: [(&str, &[Row]); 1] = [(
+    "edges",
+    &[
+        Row(
+            Device::M328,
+            CALL,
+            CALL_NODES,
+            0,
+            Due::Edges(&[(EdgeKind::Call, 2), (EdgeKind::Return, 1)]),
+        ),
+        Row(Device::M328, CALL, CALL_NODES, 2, Due::Edges(&[])),
+        Row(
+            Device::M328,
+            LOOP,
+            LOOP_NODES,
+            0,
+            Due::Edges(&[
+                (EdgeKind::Local, 0),
+                (EdgeKind::Interrupt(2, false), 2),
+                (EdgeKind::Interrupt(7, false), 12),
+                (EdgeKind::Interrupt(7, true), 12),
+                (EdgeKind::Return, 0),
+            ]),
+        ),
+        // a vector has one word
+        Row(
+            Device::M48,
+            &[0xFF, 0xCF, 0x18, 0x95],
+            &[
+                Plan(Kind::Root, 0, true, 0, None),
+                Plan(Kind::Vector(2), 1, true, 1, None),
+            ],
+            0,
+            Due::Edges(&[
+                (EdgeKind::Local, 0),
+                (EdgeKind::Interrupt(2, false), 1),
+                (EdgeKind::Interrupt(7, false), 6),
+                (EdgeKind::Interrupt(7, true), 6),
+                (EdgeKind::Return, 0),
+            ]),
+        ),
+        Row(
+            Device::M328,
+            LINE,
+            &[
+                Plan(Kind::Root, 0, false, 0, None),
+                Plan(Kind::Root, 0, false, 1, Some((0, 0))),
+            ],
+            0,
+            Due::Edges(&[(EdgeKind::Local, 1)]),
+        ),
+        Row(
+            Device::M328,
+            LINE,
+            &[
+                Plan(Kind::Root, 0, false, 0, None),
+                Plan(Kind::Root, 0, false, 2, Some((0, 0))),
+            ],
+            0,
+            Due::Missing(1),
+        ),
+        Row(
+            Device::M328,
+            &[0xFF, 0xFF],
+            &[Plan(Kind::Root, 0, false, 0, None)],
+            0,
+            Due::Fault(NodeFault::Unsupported(0)),
+        ),
+    ],
+)];

@@ -4,17 +4,17 @@ ghost use Rattle.std.specs.Prelude.{◌≤◌, false, length};
 ghost use Rattle.edge_rules.specs.Expansion.{AreSeeds};
 ghost use Rattle.edge_laws.specs.Expansions.{AreAscending};
 
-use super::Wrong;
+use super::Worked;
 use crate::tests::seeds::{Plan, SeedList, seeds_of};
 use call_graph::{Expanded, Filled, Leaving, NodeForm, exits, expand};
 use flash_image::Flash;
 use mask_states::{Kind, NodeKey};
 use solution::forming::forms;
-use std::alloc::{AllocError, Global};
+use std::alloc::Global;
 use vector_table::Assumptions;
 
 /// A firmware's bytes, its nodes, and for each the number of the node that it is written with.
-struct Row(&'static [u8], &'static [Plan], &'static [Option<u32>]);
+pub struct Row(&'static [u8], &'static [Plan], &'static [Option<u32>]);
 
 fn is_form(form: &NodeForm, due: Option<u32>) -> bool {
     match (form, due) {
@@ -36,99 +36,88 @@ fn are_forms(found: &[(NodeKey, NodeForm)], due: &[Option<u32>]) -> bool {
     true
 }
 
-fn is_formed(
-    alloc: Global,
-    flash: &Flash,
-    nodes: Filled,
-    due: &[Option<u32>],
-) -> Result<bool, AllocError>
+fn is_formed(alloc: Global, flash: &Flash, nodes: Filled, due: &[Option<u32>]) -> bool
     requires { length nodes ≤ 65536 }
 {
     let none = Assumptions::empty(alloc);
-    match exits(alloc, flash, &none, &nodes)? {
-        Leaving::All(_) => {
-            let found = forms(alloc, flash, &none, nodes)?;
-            Ok(are_forms(&found, due))
-        }
-        Leaving::Fault(_, _) => Ok(false),
+    match exits(alloc, flash, &none, &nodes) {
+        Ok(Leaving::All(_)) => match forms(alloc, flash, &none, nodes) {
+            Ok(found) => are_forms(&found, due),
+            Err(_) => false,
+        },
+        _ => false,
     }
 }
 
 /// Whether the family of these nodes is written so.
-fn is_family(
-    alloc: Global,
-    flash: &Flash,
-    nodes: &SeedList,
-    due: &[Option<u32>],
-) -> Result<bool, AllocError>
+fn is_family(alloc: Global, flash: &Flash, nodes: &SeedList, due: &[Option<u32>]) -> bool
     requires seeds { AreSeeds false nodes.now.items.items }
     requires ascending { AreAscending nodes.now.items.items }
 {
-    match expand(alloc, flash, &Assumptions::empty(alloc), nodes)? {
-        Expanded::Whole(filled) => is_formed(alloc, flash, filled, due),
-        Expanded::Missing(_) => Ok(false),
+    match expand(alloc, flash, &Assumptions::empty(alloc), nodes) {
+        Ok(Expanded::Whole(filled)) => is_formed(alloc, flash, filled, due),
+        _ => false,
     }
 }
 
-fn is_row(alloc: Global, row: &Row) -> Result<bool, AllocError> {
-    let Ok(flash) = Flash::from_raw(alloc, row.0) else {
-        return Ok(false);
-    };
-    match seeds_of(alloc, row.1)? {
-        Some(nodes) => is_family(alloc, &flash, &nodes, row.2),
-        None => Ok(false),
+fn is_on(alloc: Global, flash: &Flash, row: &Row) -> bool {
+    match seeds_of(alloc, row.1) {
+        Ok(Some(nodes)) => is_family(alloc, flash, &nodes, row.2),
+        _ => false,
     }
 }
 
-static ROWS: [Row; 4] = [
-    // push r0; pop r0; rjmp to word 0
-    Row(
-        &[0x0F, 0x92, 0x0F, 0x90, 0xFD, 0xCF],
-        &[
-            Plan(Kind::Root, 0, false, 0, None),
-            Plan(Kind::Root, 0, false, 1, Some((0, 1))),
-            Plan(Kind::Root, 0, false, 2, Some((1, 0))),
-        ],
-        &[None, Some(0), Some(1)],
-    ),
-    // rcall to word 2, which returns; rjmp to itself
-    Row(
-        &[0x01, 0xD0, 0xFF, 0xCF, 0x08, 0x95],
-        &[
-            Plan(Kind::Root, 0, false, 0, None),
-            Plan(Kind::Root, 0, false, 1, None),
-            Plan(Kind::Call, 2, false, 2, None),
-        ],
-        &[None, None, None],
-    ),
-    // sbrc r0, 0 over nop; rjmp to itself
-    Row(
-        &[0x00, 0xFC, 0, 0, 0xFF, 0xCF],
-        &[
-            Plan(Kind::Root, 0, false, 0, None),
-            Plan(Kind::Root, 0, false, 1, None),
-            Plan(Kind::Root, 0, false, 2, None),
-        ],
-        &[None, Some(0), None],
-    ),
-    // rjmp to word 2; rjmp to word 0; rjmp to word 1
-    Row(
-        &[0x01, 0xC0, 0xFE, 0xCF, 0xFE, 0xCF],
-        &[
-            Plan(Kind::Root, 0, false, 0, None),
-            Plan(Kind::Root, 0, false, 1, None),
-            Plan(Kind::Root, 0, false, 2, None),
-        ],
-        &[None, None, Some(0)],
-    ),
-];
-
-/// The first family of which other states are left out. Want of memory is wrong too.
-pub fn wrong(alloc: Global) -> Wrong {
-    for (at, row) in ROWS.iter().enumerate() {
-        if !matches!(is_row(alloc, row), Ok(true)) {
-            return Some(("states left out", at));
+impl Worked for Row {
+    fn holds(&self, alloc: Global) -> bool {
+        match Flash::from_raw(alloc, self.0) {
+            Ok(flash) => is_on(alloc, &flash, self),
+            Err(_) => false,
         }
     }
-    None
 }
+
+pub static ROWS: [(&str, &[Row]); 1] = [(
+    "states left out",
+    &[
+        // push r0; pop r0; rjmp to word 0
+        Row(
+            &[0x0F, 0x92, 0x0F, 0x90, 0xFD, 0xCF],
+            &[
+                Plan(Kind::Root, 0, false, 0, None),
+                Plan(Kind::Root, 0, false, 1, Some((0, 1))),
+                Plan(Kind::Root, 0, false, 2, Some((1, 0))),
+            ],
+            &[None, Some(0), Some(1)],
+        ),
+        // rcall to word 2, which returns; rjmp to itself
+        Row(
+            &[0x01, 0xD0, 0xFF, 0xCF, 0x08, 0x95],
+            &[
+                Plan(Kind::Root, 0, false, 0, None),
+                Plan(Kind::Root, 0, false, 1, None),
+                Plan(Kind::Call, 2, false, 2, None),
+            ],
+            &[None, None, None],
+        ),
+        // sbrc r0, 0 over nop; rjmp to itself
+        Row(
+            &[0x00, 0xFC, 0, 0, 0xFF, 0xCF],
+            &[
+                Plan(Kind::Root, 0, false, 0, None),
+                Plan(Kind::Root, 0, false, 1, None),
+                Plan(Kind::Root, 0, false, 2, None),
+            ],
+            &[None, Some(0), None],
+        ),
+        // rjmp to word 2; rjmp to word 0; rjmp to word 1
+        Row(
+            &[0x01, 0xC0, 0xFE, 0xCF, 0xFE, 0xCF],
+            &[
+                Plan(Kind::Root, 0, false, 0, None),
+                Plan(Kind::Root, 0, false, 1, None),
+                Plan(Kind::Root, 0, false, 2, None),
+            ],
+            &[None, None, Some(0)],
+        ),
+    ],
+)];

@@ -1,9 +1,15 @@
 //! Worked graphs: ranks, needs, chains and named instances as one finds them by hand.
 
-use super::Wrong;
+ghost use Rattle.nesting_bound.specs.Chain.{HavePlaces};
+ghost use Rattle.nesting_bound.specs.Graph.{IsGraph};
+ghost use Rattle.nesting_bound.specs.Least.{IsLeast};
+
+use super::Worked;
 use avr_model::listed::Listed;
 use mask_states::{EdgeKind, InstKey, Kind};
-use nesting_bound::{ComposeFault, Entered, Graph, GraphInst, Link, Place, chain, compose};
+use nesting_bound::{
+    ComposeFault, Composed, Entered, Graph, GraphInst, Link, Place, chain, compose,
+};
 use std::alloc::{AllocError, Global};
 use vector_table::Masks;
 
@@ -24,11 +30,12 @@ type Inst = (u8, u16, &'static [At], &'static [Edge]);
 /// An instance, a node, the depth there, and how the next one is entered.
 type Step = (u32, u32, u16, u8);
 
+/// Ranks, needs and a chain.
+struct Least(&'static [u32], &'static [u32], &'static [Step]);
+
 /// What `compose` and `chain` make of a graph.
-#[derive(Clone, Copy)]
 enum Wanted {
-    /// The ranks, the needs and the chain.
-    Least(&'static [u32], &'static [u32], &'static [Step]),
+    Least(Least),
     /// The instance that is named.
     Cycle(u32),
     /// It is not composable.
@@ -60,16 +67,14 @@ pub(crate) fn key(number: u8, entry: u16) -> InstKey {
     }
 }
 
-fn places(alloc: Global, rows: &[At]) -> Result<Listed<Place>, AllocError> {
-    let mut list = Vec::new(alloc);
+fn add_places(list: &mut Vec<Place>, rows: &[At]) -> Result<(), AllocError> {
     for &(node, offset) in rows {
         list.push(Place { node, offset })?;
     }
-    Ok(Listed::new(list))
+    Ok(())
 }
 
-fn edges(alloc: Global, rows: &[Edge]) -> Result<Listed<Entered>, AllocError> {
-    let mut list = Vec::new(alloc);
+fn add_edges(list: &mut Vec<Entered>, rows: &[Edge]) -> Result<(), AllocError> {
     for &(node, offset, by, into) in rows {
         let kind = kind(by);
         list.push(Entered {
@@ -79,20 +84,39 @@ fn edges(alloc: Global, rows: &[Edge]) -> Result<Listed<Entered>, AllocError> {
             into,
         })?;
     }
-    Ok(Listed::new(list))
+    Ok(())
+}
+
+fn add_inst(alloc: Global, list: &mut Vec<GraphInst>, row: &Inst) -> Result<(), AllocError> {
+    let mut places = Vec::new(alloc);
+    let mut edges = Vec::new(alloc);
+    let placed = add_places(&mut places, row.2);
+    let entered = add_edges(&mut edges, row.3);
+    let inst = GraphInst {
+        key: key(row.0, row.1),
+        offsets: Listed::new(places),
+        entered: Listed::new(edges),
+    };
+    let pushed = list.push(inst).is_ok();
+    if pushed && placed.is_ok() && entered.is_ok() {
+        Ok(())
+    } else {
+        Err(AllocError)
+    }
+}
+
+fn add_all(alloc: Global, list: &mut Vec<GraphInst>, rows: &[Inst]) -> Result<(), AllocError> {
+    for row in rows {
+        add_inst(alloc, list, row)?;
+    }
+    Ok(())
 }
 
 fn graph(alloc: Global, rows: &[Inst]) -> Result<Graph, AllocError> {
     let mut list = Vec::new(alloc);
-    for &(by, entry, at, entered) in rows {
-        list.push(GraphInst {
-            key: key(by, entry),
-            offsets: places(alloc, at)?,
-            entered: edges(alloc, entered)?,
-        })?;
-    }
+    let added = add_all(alloc, &mut list, rows);
     let instances = Listed::new(list);
-    Ok(Graph { instances })
+    added.and(Ok(Graph { instances }))
 }
 
 fn is_link(link: &Link, step: Step) -> bool {
@@ -110,29 +134,35 @@ fn are_links(links: &[Link], steps: &[Step]) -> bool {
     links.len() == steps.len()
 }
 
-/// Whether the graph has these ranks and needs, and this chain.
-fn has(
-    alloc: Global,
-    graph: &Graph,
-    ranks: &[u32],
-    needs: &[u32],
-    steps: &[Step],
-) -> Result<bool, AllocError> {
-    if !graph.is_composable() || !graph.has_places() {
-        return Ok(false);
-    }
-    let Ok(composed) = compose(alloc, graph) else {
-        return Ok(false);
-    };
+fn has_chain(alloc: Global, graph: &Graph, composed: &Composed, wanted: &Least) -> bool
+    requires graph { IsGraph graph.now.instances }
+    requires least { IsLeast graph.now.instances composed.now.ranks composed.now.needs }
+    requires places { HavePlaces graph.now.instances }
+{
     if composed.need(0) > 2_048 {
-        return Ok(false);
+        return false;
     }
-    let links = chain(alloc, graph, &composed)?;
-    Ok(
-        composed.ranks.as_slice() == ranks
-            && composed.needs.as_slice() == needs
-            && are_links(&links, steps),
-    )
+    match chain(alloc, graph, composed) {
+        Ok(links) => are_links(&links, wanted.2),
+        Err(_) => false,
+    }
+}
+
+fn are_least(composed: &Composed, wanted: &Least) -> bool {
+    composed.ranks.as_slice() == wanted.0 && composed.needs.as_slice() == wanted.1
+}
+
+/// Whether the graph has these ranks and needs, and this chain.
+fn has(alloc: Global, graph: &Graph, wanted: &Least) -> bool {
+    if !graph.is_composable() || !graph.has_places() {
+        return false;
+    }
+    match compose(alloc, graph) {
+        Ok(composed) => {
+            are_least(&composed, wanted) && has_chain(alloc, graph, &composed, wanted)
+        }
+        Err(_) => false,
+    }
 }
 
 /// Whether the graph is refused for a cycle that is named by this instance.
@@ -146,164 +176,165 @@ fn is_cyclic(alloc: Global, graph: &Graph, at: u32) -> bool {
     }
 }
 
-fn is_row(alloc: Global, row: &Row) -> Result<bool, AllocError> {
-    let graph = graph(alloc, row.0)?;
-    match row.1 {
-        Wanted::Least(ranks, needs, steps) => has(alloc, &graph, ranks, needs, steps),
-        Wanted::Cycle(at) => Ok(is_cyclic(alloc, &graph, at)),
-        Wanted::Shapeless => Ok(!graph.is_composable()),
-        Wanted::Placeless => Ok(graph.is_composable() && !graph.has_places()),
+fn is_made(alloc: Global, graph: &Graph, wanted: &Wanted) -> bool {
+    match wanted {
+        Wanted::Least(least) => has(alloc, graph, least),
+        Wanted::Cycle(at) => is_cyclic(alloc, graph, *at),
+        Wanted::Shapeless => !graph.is_composable(),
+        Wanted::Placeless => graph.is_composable() && !graph.has_places(),
+    }
+}
+
+impl Worked for Row {
+    fn holds(&self, alloc: Global) -> bool {
+        match graph(alloc, self.0) {
+            Ok(graph) => is_made(alloc, &graph, &self.1),
+            Err(_) => false,
+        }
     }
 }
 
 /// Instances, and what is made of their graph.
-type Row = (&'static [Inst], Wanted);
+pub struct Row(&'static [Inst], Wanted);
 
-static ROWS: [Row; 15] = [
-    // a root alone ends at its least deepest node
-    (
-        &[(NONE, 0, &[(0, 0), (4, 3), (2, 3), (1, 1)], &[])],
-        Wanted::Least(&[0], &[3], &[(0, 2, 3, NONE)]),
-    ),
-    // a call takes two bytes
-    (
-        &[
-            (NONE, 0, &[(0, 0)], &[(0, 1, CALL, 1)]),
-            (CALL, 9, &[(1, 0)], &[]),
-        ],
-        Wanted::Least(&[1, 0], &[3, 0], &[(0, 0, 1, CALL), (1, 1, 3, NONE)]),
-    ),
-    // vectors 2 and 3 at one place, each of whose handlers lets the other in: four bytes, and not two
-    (
-        &[
-            (NONE, 0, &[(0, 0)], &[(0, 0, 2, 1), (0, 0, 3, 2)]),
-            (2, 2, &[(1, 0)], &[(1, 0, 3, 4)]),
-            (3, 4, &[(2, 0)], &[(2, 0, 2, 3)]),
-            (2, 2, &[(3, 0)], &[]),
-            (3, 4, &[(4, 0)], &[]),
-        ],
-        Wanted::Least(
-            &[2, 1, 1, 0, 0],
-            &[4, 2, 2, 0, 0],
-            &[(0, 0, 0, 2), (1, 1, 2, 3), (4, 4, 4, NONE)],
+pub static ROWS: [(&str, &[Row]); 1] = [(
+    "graph",
+    &[
+        // a root alone ends at its least deepest node
+        Row(
+            &[(NONE, 0, &[(0, 0), (4, 3), (2, 3), (1, 1)], &[])],
+            Wanted::Least(Least(&[0], &[3], &[(0, 2, 3, NONE)])),
         ),
-    ),
-    // of two functions that call themselves, that of the lesser entry is named
-    (
-        &[
-            (NONE, 0, &[(0, 0)], &[(0, 0, CALL, 1), (0, 0, CALL, 2)]),
-            (CALL, 9, &[(1, 0)], &[(1, 0, CALL, 1)]),
-            (CALL, 7, &[(2, 0)], &[(2, 0, CALL, 2)]),
-        ],
-        Wanted::Cycle(2),
-    ),
-    // A handler that lets itself in is named, although a function of a lesser entry calls itself; and the least number of
-    // two that are of one vector. The root, which reaches both and no one reaches, is not named.
-    (
-        &[
-            (NONE, 0, &[(0, 0)], &[(0, 0, CALL, 1), (0, 0, 3, 2)]),
-            (CALL, 1, &[(1, 0)], &[(1, 0, CALL, 1)]),
-            (3, 4, &[(2, 0)], &[(2, 0, 3, 3)]),
-            (3, 4, &[(3, 0)], &[(3, 0, 3, 2)]),
-        ],
-        Wanted::Cycle(2),
-    ),
-    // a handler and a function between two cycles reach themselves by neither
-    (
-        &[
-            (NONE, 0, &[(0, 0)], &[(0, 0, CALL, 1)]),
-            (CALL, 8, &[(1, 0)], &[(1, 0, CALL, 1), (1, 0, 2, 2)]),
-            (2, 2, &[(2, 0)], &[(2, 0, CALL, 3)]),
-            (CALL, 3, &[(3, 0)], &[(3, 0, CALL, 4)]),
-            (CALL, 7, &[(4, 0)], &[(4, 0, CALL, 5)]),
-            (CALL, 6, &[(5, 0)], &[(5, 0, CALL, 4)]),
-        ],
-        Wanted::Cycle(5),
-    ),
-    // two cycles with an instance in common, of which the later part was come to first
-    (
-        &[
-            (NONE, 0, &[(0, 0)], &[(0, 0, CALL, 3)]),
-            (CALL, 5, &[(1, 0)], &[(1, 0, CALL, 2)]),
-            (CALL, 6, &[(2, 0)], &[(2, 0, CALL, 3), (2, 0, CALL, 2)]),
-            (CALL, 9, &[(3, 0)], &[(3, 0, CALL, 4), (3, 0, CALL, 1)]),
-            (CALL, 8, &[(4, 0)], &[(4, 0, CALL, 3)]),
-        ],
-        Wanted::Cycle(1),
-    ),
-    // a chain whose numbers ascend, and one that an interrupt enters in its midst
-    (
-        &[
-            (NONE, 0, &[(0, 0)], &[(0, 0, CALL, 1)]),
-            (CALL, 5, &[(1, 1)], &[(1, 1, CALL, 2), (1, 1, 2, 4)]),
-            (CALL, 6, &[(2, 2)], &[(2, 2, CALL, 3)]),
-            (CALL, 7, &[(3, 3)], &[]),
-            (2, 2, &[(4, 1)], &[(4, 1, CALL, 2)]),
-        ],
-        Wanted::Least(
-            &[4, 3, 1, 0, 2],
-            &[15, 13, 7, 3, 10],
+        // a call takes two bytes
+        Row(
             &[
-                (0, 0, 0, CALL),
-                (1, 1, 3, 2),
-                (4, 4, 6, CALL),
-                (2, 2, 10, CALL),
-                (3, 3, 15, NONE),
+                (NONE, 0, &[(0, 0)], &[(0, 1, CALL, 1)]),
+                (CALL, 9, &[(1, 0)], &[]),
             ],
+            Wanted::Least(Least(&[1, 0], &[3, 0], &[(0, 0, 1, CALL), (1, 1, 3, NONE)])),
         ),
-    ),
-    // two calls of one function: the deeper place counts, and the chain goes by it
-    (
-        &[
-            (
-                NONE,
-                0,
-                &[(0, 1), (5, 2)],
-                &[(0, 1, CALL, 1), (5, 2, CALL, 1)],
-            ),
-            (CALL, 9, &[(7, 4), (6, 4)], &[]),
-        ],
-        Wanted::Least(&[1, 0], &[8, 4], &[(0, 5, 2, CALL), (1, 6, 8, NONE)]),
-    ),
-    // at one node, and as deep: a call before an interrupt, and of two calls that of the lesser target
-    (
-        &[
-            (
-                NONE,
-                0,
-                &[(0, 0)],
-                &[(0, 0, 2, 1), (0, 0, CALL, 2), (0, 0, CALL, 3)],
-            ),
-            (2, 2, &[(1, 0)], &[]),
-            (CALL, 9, &[(2, 0)], &[]),
-            (CALL, 7, &[(3, 0)], &[]),
-        ],
-        Wanted::Least(
-            &[1, 0, 0, 0],
-            &[2, 0, 0, 0],
-            &[(0, 0, 0, CALL), (3, 3, 2, NONE)],
+        // vectors 2 and 3 at one place, each of whose handlers lets the other in: four bytes, and not two
+        Row(
+            &[
+                (NONE, 0, &[(0, 0)], &[(0, 0, 2, 1), (0, 0, 3, 2)]),
+                (2, 2, &[(1, 0)], &[(1, 0, 3, 4)]),
+                (3, 4, &[(2, 0)], &[(2, 0, 2, 3)]),
+                (2, 2, &[(3, 0)], &[]),
+                (3, 4, &[(4, 0)], &[]),
+            ],
+            Wanted::Least(Least(
+                &[2, 1, 1, 0, 0],
+                &[4, 2, 2, 0, 0],
+                &[(0, 0, 0, 2), (1, 1, 2, 3), (4, 4, 4, NONE)],
+            )),
         ),
-    ),
-    // no instance; one that isn't there is entered; an offset too great, at a place and at an edge; no place
-    (&[], Wanted::Shapeless),
-    (
-        &[(NONE, 0, &[(0, 0)], &[(0, 0, CALL, 1)])],
-        Wanted::Shapeless,
-    ),
-    (&[(NONE, 0, &[(0, 2_049)], &[])], Wanted::Shapeless),
-    (
-        &[(NONE, 0, &[(0, 0)], &[(0, 2_049, CALL, 0)])],
-        Wanted::Shapeless,
-    ),
-    (&[(NONE, 0, &[], &[])], Wanted::Placeless),
-];
-
-/// The first graph of which something else is made. Want of memory is wrong too.
-pub fn wrong(alloc: Global) -> Wrong {
-    for (at, row) in ROWS.iter().enumerate() {
-        if !matches!(is_row(alloc, row), Ok(true)) {
-            return Some(("graph", at));
-        }
-    }
-    None
-}
+        // of two functions that call themselves, that of the lesser entry is named
+        Row(
+            &[
+                (NONE, 0, &[(0, 0)], &[(0, 0, CALL, 1), (0, 0, CALL, 2)]),
+                (CALL, 9, &[(1, 0)], &[(1, 0, CALL, 1)]),
+                (CALL, 7, &[(2, 0)], &[(2, 0, CALL, 2)]),
+            ],
+            Wanted::Cycle(2),
+        ),
+        // A handler that lets itself in is named, although a function of a lesser entry calls itself; and the least number of
+        // two that are of one vector. The root, which reaches both and no one reaches, is not named.
+        Row(
+            &[
+                (NONE, 0, &[(0, 0)], &[(0, 0, CALL, 1), (0, 0, 3, 2)]),
+                (CALL, 1, &[(1, 0)], &[(1, 0, CALL, 1)]),
+                (3, 4, &[(2, 0)], &[(2, 0, 3, 3)]),
+                (3, 4, &[(3, 0)], &[(3, 0, 3, 2)]),
+            ],
+            Wanted::Cycle(2),
+        ),
+        // a handler and a function between two cycles reach themselves by neither
+        Row(
+            &[
+                (NONE, 0, &[(0, 0)], &[(0, 0, CALL, 1)]),
+                (CALL, 8, &[(1, 0)], &[(1, 0, CALL, 1), (1, 0, 2, 2)]),
+                (2, 2, &[(2, 0)], &[(2, 0, CALL, 3)]),
+                (CALL, 3, &[(3, 0)], &[(3, 0, CALL, 4)]),
+                (CALL, 7, &[(4, 0)], &[(4, 0, CALL, 5)]),
+                (CALL, 6, &[(5, 0)], &[(5, 0, CALL, 4)]),
+            ],
+            Wanted::Cycle(5),
+        ),
+        // two cycles with an instance in common, of which the later part was come to first
+        Row(
+            &[
+                (NONE, 0, &[(0, 0)], &[(0, 0, CALL, 3)]),
+                (CALL, 5, &[(1, 0)], &[(1, 0, CALL, 2)]),
+                (CALL, 6, &[(2, 0)], &[(2, 0, CALL, 3), (2, 0, CALL, 2)]),
+                (CALL, 9, &[(3, 0)], &[(3, 0, CALL, 4), (3, 0, CALL, 1)]),
+                (CALL, 8, &[(4, 0)], &[(4, 0, CALL, 3)]),
+            ],
+            Wanted::Cycle(1),
+        ),
+        // a chain whose numbers ascend, and one that an interrupt enters in its midst
+        Row(
+            &[
+                (NONE, 0, &[(0, 0)], &[(0, 0, CALL, 1)]),
+                (CALL, 5, &[(1, 1)], &[(1, 1, CALL, 2), (1, 1, 2, 4)]),
+                (CALL, 6, &[(2, 2)], &[(2, 2, CALL, 3)]),
+                (CALL, 7, &[(3, 3)], &[]),
+                (2, 2, &[(4, 1)], &[(4, 1, CALL, 2)]),
+            ],
+            Wanted::Least(Least(
+                &[4, 3, 1, 0, 2],
+                &[15, 13, 7, 3, 10],
+                &[
+                    (0, 0, 0, CALL),
+                    (1, 1, 3, 2),
+                    (4, 4, 6, CALL),
+                    (2, 2, 10, CALL),
+                    (3, 3, 15, NONE),
+                ],
+            )),
+        ),
+        // two calls of one function: the deeper place counts, and the chain goes by it
+        Row(
+            &[
+                (
+                    NONE,
+                    0,
+                    &[(0, 1), (5, 2)],
+                    &[(0, 1, CALL, 1), (5, 2, CALL, 1)],
+                ),
+                (CALL, 9, &[(7, 4), (6, 4)], &[]),
+            ],
+            Wanted::Least(Least(&[1, 0], &[8, 4], &[(0, 5, 2, CALL), (1, 6, 8, NONE)])),
+        ),
+        // at one node, and as deep: a call before an interrupt, and of two calls that of the lesser target
+        Row(
+            &[
+                (
+                    NONE,
+                    0,
+                    &[(0, 0)],
+                    &[(0, 0, 2, 1), (0, 0, CALL, 2), (0, 0, CALL, 3)],
+                ),
+                (2, 2, &[(1, 0)], &[]),
+                (CALL, 9, &[(2, 0)], &[]),
+                (CALL, 7, &[(3, 0)], &[]),
+            ],
+            Wanted::Least(Least(
+                &[1, 0, 0, 0],
+                &[2, 0, 0, 0],
+                &[(0, 0, 0, CALL), (3, 3, 2, NONE)],
+            )),
+        ),
+        // no instance; one that isn't there is entered; an offset too great, at a place and at an edge; no place
+        Row(&[], Wanted::Shapeless),
+        Row(
+            &[(NONE, 0, &[(0, 0)], &[(0, 0, CALL, 1)])],
+            Wanted::Shapeless,
+        ),
+        Row(&[(NONE, 0, &[(0, 2_049)], &[])], Wanted::Shapeless),
+        Row(
+            &[(NONE, 0, &[(0, 0)], &[(0, 2_049, CALL, 0)])],
+            Wanted::Shapeless,
+        ),
+        Row(&[(NONE, 0, &[], &[])], Wanted::Placeless),
+    ],
+)];

@@ -4,7 +4,7 @@ ghost use Rattle.std.specs.Prelude.{◌≤◌};
 ghost use Rattle.avr_model.specs.State.{SIZE};
 ghost use Rattle.mask_states.specs.Keys.{offset_of};
 
-use super::Wrong;
+use super::Worked;
 use crate::tests::nesting::key;
 use avr_model::device::SIZE;
 use instance_nesting::{Nesting, NestingVerdict};
@@ -85,10 +85,10 @@ fn verdict(
     }
 }
 
-fn is_row(alloc: Global, size: u16, notes: &[Note], wanted: NestingVerdict) -> bool {
+fn is_row(alloc: Global, size: u16, notes: &[Note], wanted: &NestingVerdict) -> bool {
     for often in [false, true] {
         match verdict(alloc, size, notes, often) {
-            Ok(Some(verdict)) if verdict == wanted => {}
+            Ok(Some(verdict)) if verdict == *wanted => {}
             _ => return false,
         }
     }
@@ -109,145 +109,145 @@ fn chain() -> [Note; 81] {
 }
 
 /// How many bytes SRAM has, the notes, and what they tell.
-type Row = (u16, &'static [Note], NestingVerdict);
+pub struct Row(u16, &'static [Note], NestingVerdict);
 
-static ROWS: [Row; 15] = [
-    (SIZE, &[Note::Node(ROOT, 0)], NestingVerdict::Nests),
-    // a need of exactly what the least SRAM has, and one more; then of the greatest
-    (512, &[Note::Node(ROOT, 512)], NestingVerdict::Nests),
-    (512, &[Note::Node(ROOT, 513)], NestingVerdict::TooDeep(513)),
-    (SIZE, &[Note::Node(ROOT, 2_048)], NestingVerdict::Nests),
-    (
-        SIZE,
-        &[
-            Note::Node(ROOT, 0),
-            Note::Entrance(ROOT, 46, FUNCTION),
-            Note::Node(FUNCTION, 2_000),
-        ],
-        NestingVerdict::Nests,
-    ),
-    (
-        SIZE,
-        &[
-            Note::Node(ROOT, 0),
-            Note::Entrance(ROOT, 46, FUNCTION),
-            Note::Node(FUNCTION, 2_001),
-        ],
-        NestingVerdict::TooDeep(2_049),
-    ),
-    // an instance that is entered and has no node needs nothing
-    (
-        SIZE,
-        &[Note::Node(ROOT, 0), Note::Entrance(ROOT, 2_046, FUNCTION)],
-        NestingVerdict::Nests,
-    ),
-    (
-        SIZE,
-        &[
-            Note::Node(ROOT, 0),
-            Note::Entrance(ROOT, 2_047, FUNCTION),
-            Note::Entrance(ROOT, 0, HANDLER),
-        ],
-        NestingVerdict::TooDeep(2_049),
-    ),
-    // a handler below a function below the root, with the way back to each
-    (
-        SIZE,
-        &[
-            Note::Node(ROOT, 10),
-            Note::Entrance(ROOT, 1_000, FUNCTION),
-            Note::Node(FUNCTION, 0),
-            Note::Entrance(FUNCTION, 1_000, HANDLER),
-            Note::Node(HANDLER, 45),
-        ],
-        NestingVerdict::TooDeep(2_049),
-    ),
-    // two instances enter a third, each of them at its own depth
-    (
-        SIZE,
-        &[
-            Note::Node(ROOT, 0),
-            Note::Entrance(ROOT, 2_000, LEAF),
-            Note::Entrance(ROOT, 0, FUNCTION),
-            Note::Node(FUNCTION, 100),
-            Note::Entrance(FUNCTION, 1_500, LEAF),
-            Note::Node(LEAF, 46),
-        ],
-        NestingVerdict::Nests,
-    ),
-    // a function that enters itself, and one that does by another
-    (
-        SIZE,
-        &[
-            Note::Node(ROOT, 0),
-            Note::Entrance(ROOT, 0, FUNCTION),
-            Note::Node(FUNCTION, 0),
-            Note::Entrance(FUNCTION, 0, FUNCTION),
-        ],
-        NestingVerdict::Recursion(40),
-    ),
-    (
-        SIZE,
-        &[
-            Note::Node(ROOT, 0),
-            Note::Entrance(ROOT, 0, FUNCTION),
-            Note::Node(FUNCTION, 0),
-            Note::Entrance(FUNCTION, 0, LEAF),
-            Note::Node(LEAF, 0),
-            Note::Entrance(LEAF, 0, FUNCTION),
-        ],
-        NestingVerdict::Recursion(30),
-    ),
-    // two handlers that enter each other: the lesser vector
-    (
-        SIZE,
-        &[
-            Note::Node(ROOT, 0),
-            Note::Entrance(ROOT, 0, LATER),
-            Note::Node(LATER, 0),
-            Note::Entrance(LATER, 0, HANDLER),
-            Note::Node(HANDLER, 0),
-            Note::Entrance(HANDLER, 0, LATER),
-        ],
-        NestingVerdict::ReEntry(5, 10),
-    ),
-    // a handler is named before a function
-    (
-        SIZE,
-        &[
-            Note::Node(ROOT, 0),
-            Note::Entrance(ROOT, 0, LEAF),
-            Note::Node(LEAF, 0),
-            Note::Entrance(LEAF, 0, LEAF),
-            Note::Entrance(LEAF, 0, LATER),
-            Note::Node(LATER, 0),
-            Note::Entrance(LATER, 0, LATER),
-        ],
-        NestingVerdict::ReEntry(9, 18),
-    ),
-    // a cycle is told before the depth, also where the root is noted last
-    (
-        SIZE,
-        &[
-            Note::Node(FUNCTION, 2_048),
-            Note::Entrance(FUNCTION, 0, FUNCTION),
-            Note::Entrance(ROOT, 2_048, FUNCTION),
-            Note::Node(ROOT, 0),
-        ],
-        NestingVerdict::Recursion(40),
-    ),
-];
+pub static ROWS: [(&str, &[Row]); 1] = [(
+    "nesting",
+    &[
+        Row(SIZE, &[Note::Node(ROOT, 0)], NestingVerdict::Nests),
+        // a need of exactly what the least SRAM has, and one more; then of the greatest
+        Row(512, &[Note::Node(ROOT, 512)], NestingVerdict::Nests),
+        Row(512, &[Note::Node(ROOT, 513)], NestingVerdict::TooDeep(513)),
+        Row(SIZE, &[Note::Node(ROOT, 2_048)], NestingVerdict::Nests),
+        Row(
+            SIZE,
+            &[
+                Note::Node(ROOT, 0),
+                Note::Entrance(ROOT, 46, FUNCTION),
+                Note::Node(FUNCTION, 2_000),
+            ],
+            NestingVerdict::Nests,
+        ),
+        Row(
+            SIZE,
+            &[
+                Note::Node(ROOT, 0),
+                Note::Entrance(ROOT, 46, FUNCTION),
+                Note::Node(FUNCTION, 2_001),
+            ],
+            NestingVerdict::TooDeep(2_049),
+        ),
+        // an instance that is entered and has no node needs nothing
+        Row(
+            SIZE,
+            &[Note::Node(ROOT, 0), Note::Entrance(ROOT, 2_046, FUNCTION)],
+            NestingVerdict::Nests,
+        ),
+        Row(
+            SIZE,
+            &[
+                Note::Node(ROOT, 0),
+                Note::Entrance(ROOT, 2_047, FUNCTION),
+                Note::Entrance(ROOT, 0, HANDLER),
+            ],
+            NestingVerdict::TooDeep(2_049),
+        ),
+        // a handler below a function below the root, with the way back to each
+        Row(
+            SIZE,
+            &[
+                Note::Node(ROOT, 10),
+                Note::Entrance(ROOT, 1_000, FUNCTION),
+                Note::Node(FUNCTION, 0),
+                Note::Entrance(FUNCTION, 1_000, HANDLER),
+                Note::Node(HANDLER, 45),
+            ],
+            NestingVerdict::TooDeep(2_049),
+        ),
+        // two instances enter a third, each of them at its own depth
+        Row(
+            SIZE,
+            &[
+                Note::Node(ROOT, 0),
+                Note::Entrance(ROOT, 2_000, LEAF),
+                Note::Entrance(ROOT, 0, FUNCTION),
+                Note::Node(FUNCTION, 100),
+                Note::Entrance(FUNCTION, 1_500, LEAF),
+                Note::Node(LEAF, 46),
+            ],
+            NestingVerdict::Nests,
+        ),
+        // a function that enters itself, and one that does by another
+        Row(
+            SIZE,
+            &[
+                Note::Node(ROOT, 0),
+                Note::Entrance(ROOT, 0, FUNCTION),
+                Note::Node(FUNCTION, 0),
+                Note::Entrance(FUNCTION, 0, FUNCTION),
+            ],
+            NestingVerdict::Recursion(40),
+        ),
+        Row(
+            SIZE,
+            &[
+                Note::Node(ROOT, 0),
+                Note::Entrance(ROOT, 0, FUNCTION),
+                Note::Node(FUNCTION, 0),
+                Note::Entrance(FUNCTION, 0, LEAF),
+                Note::Node(LEAF, 0),
+                Note::Entrance(LEAF, 0, FUNCTION),
+            ],
+            NestingVerdict::Recursion(30),
+        ),
+        // two handlers that enter each other: the lesser vector
+        Row(
+            SIZE,
+            &[
+                Note::Node(ROOT, 0),
+                Note::Entrance(ROOT, 0, LATER),
+                Note::Node(LATER, 0),
+                Note::Entrance(LATER, 0, HANDLER),
+                Note::Node(HANDLER, 0),
+                Note::Entrance(HANDLER, 0, LATER),
+            ],
+            NestingVerdict::ReEntry(5, 10),
+        ),
+        // a handler is named before a function
+        Row(
+            SIZE,
+            &[
+                Note::Node(ROOT, 0),
+                Note::Entrance(ROOT, 0, LEAF),
+                Note::Node(LEAF, 0),
+                Note::Entrance(LEAF, 0, LEAF),
+                Note::Entrance(LEAF, 0, LATER),
+                Note::Node(LATER, 0),
+                Note::Entrance(LATER, 0, LATER),
+            ],
+            NestingVerdict::ReEntry(9, 18),
+        ),
+        // a cycle is told before the depth, also where the root is noted last
+        Row(
+            SIZE,
+            &[
+                Note::Node(FUNCTION, 2_048),
+                Note::Entrance(FUNCTION, 0, FUNCTION),
+                Note::Entrance(ROOT, 2_048, FUNCTION),
+                Note::Node(ROOT, 0),
+            ],
+            NestingVerdict::Recursion(40),
+        ),
+    ],
+)];
 
-/// The first nesting that tells something else; behind them, forty functions below each other nest. Want of memory is wrong too.
-pub fn wrong(alloc: Global) -> Wrong {
-    for (at, (size, notes, wanted)) in ROWS.iter().enumerate() {
-        if !is_row(alloc, *size, notes, *wanted) {
-            return Some(("nesting", at));
-        }
+impl Worked for Row {
+    fn holds(&self, alloc: Global) -> bool {
+        is_row(alloc, self.0, self.1, &self.2)
     }
-    if is_row(alloc, SIZE, &chain(), NestingVerdict::Nests) {
-        None
-    } else {
-        Some(("chain", 0))
-    }
+}
+
+/// Whether forty functions below each other nest.
+pub fn is_chain(alloc: Global) -> bool {
+    is_row(alloc, SIZE, &chain(), &NestingVerdict::Nests)
 }

@@ -4,7 +4,8 @@ ghost use Rattle.std.specs.Prelude.{◌≡◌, IfOk};
 ghost use Rattle.edge_rules.specs.Examples.{callee};
 ghost use Rattle.family_tables.specs.Examples.{form_by, nodes_by, insts_by};
 
-use super::Wrong;
+use super::Worked;
+use super::edges::flash_on;
 use abs_state::AbsState;
 use avr_model::device::Device;
 use cert_check::{Reason, Verdict, is_attained, judge};
@@ -27,8 +28,7 @@ const UNDEFINED: [u8; 6] = [0x01, 0xD0, 0xFF, 0xCF, 0x01, 0x00];
 const NO_CALL: [u8; 6] = [0x00, 0x00, 0xFF, 0xCF, 0x08, 0x95];
 
 /// An image and a certificate for it, and the verdict.
-#[derive(Clone, Copy)]
-struct Row {
+pub struct Row {
     device: Device,
     image: [u8; 6],
     /// Whether an assumption is handed in, which the certificate lacks.
@@ -157,23 +157,28 @@ fn assumptions(alloc: Global, assumed: bool) -> Assumptions {
     list
 }
 
-/// Whether the verdict on this image is that of the row.
-fn is_on(alloc: Global, flash: &Flash, row: &Row) -> Result<bool, AllocError> {
-    let certificate = certificate(alloc, row)?;
+/// Whether the verdict on this certificate is that of the row.
+fn is_judged(alloc: Global, flash: &Flash, certificate: &Certificate, row: &Row) -> bool {
     let assumptions = assumptions(alloc, row.assumed);
-    match verdict_in_numbers(alloc, flash, &assumptions, &certificate) {
-        Ok(verdict) => Ok(verdict == row.verdict),
-        Err(fault) => Err(fault),
+    match verdict_in_numbers(alloc, flash, &assumptions, certificate) {
+        Ok(verdict) => verdict == row.verdict,
+        Err(_) => false,
     }
 }
 
-fn is_row(alloc: Global, row: &Row) -> Result<bool, AllocError> {
-    let Ok(whole) = Flash::from_raw(alloc, &row.image) else {
-        return Ok(false);
-    };
-    match whole.narrow(row.device) {
-        Ok(flash) => is_on(alloc, &flash, row),
-        Err(_) => Ok(false),
+fn is_on(alloc: Global, flash: &Flash, row: &Row) -> bool {
+    match certificate(alloc, row) {
+        Ok(certificate) => is_judged(alloc, flash, &certificate, row),
+        Err(_) => false,
+    }
+}
+
+impl Worked for Row {
+    fn holds(&self, alloc: Global) -> bool {
+        match flash_on(alloc, self.device, &self.image) {
+            Some(flash) => is_on(alloc, &flash, self),
+            None => false,
+        }
     }
 }
 
@@ -189,116 +194,109 @@ const PLAIN: Row = Row {
     verdict: (0, 0, 0),
 };
 
-static ROWS: [Row; 13] = [
-    Row {
-        bound: 2,
-        rank: 1,
-        need: 2,
-        verdict: (0, 2, 0),
-        ..PLAIN
-    },
-    Row {
-        bound: 7,
-        rank: 9,
-        need: 3,
-        verdict: (0, 7, 0),
-        ..PLAIN
-    },
-    Row {
-        image: RUN_ON,
-        bound: 2,
-        rank: 0,
-        need: 1,
-        verdict: (3, 1, 2),
-        ..PLAIN
-    },
-    Row {
-        image: UNDEFINED,
-        bound: 2,
-        rank: 0,
-        need: 1,
-        verdict: (2, 2, 5),
-        ..PLAIN
-    },
-    Row {
-        bound: 1,
-        rank: 0,
-        need: 1,
-        verdict: (4, 0, 1),
-        ..PLAIN
-    },
-    Row {
-        bound: 0,
-        rank: 1,
-        need: 1,
-        verdict: (5, 0, 2),
-        ..PLAIN
-    },
-    Row {
-        bound: 1,
-        rank: 1,
-        need: 2,
-        verdict: (6, 2, 0),
-        ..PLAIN
-    },
-    Row {
-        image: NO_CALL,
-        bound: 0,
-        rank: 0,
-        need: 0,
-        verdict: (0, 0, 0),
-        ..PLAIN
-    },
-    // a bound of as many bytes as the least SRAM has, and of one more
-    Row {
-        device: Device::M48,
-        bound: 512,
-        rank: 1,
-        need: 2,
-        verdict: (0, 512, 0),
-        ..PLAIN
-    },
-    Row {
-        device: Device::M48,
-        bound: 513,
-        rank: 1,
-        need: 2,
-        verdict: (6, 2, 0),
-        ..PLAIN
-    },
-    Row {
-        assumed: true,
-        bound: 2,
-        rank: 1,
-        need: 2,
-        verdict: (7, 0, 0),
-        ..PLAIN
-    },
-    Row {
-        from: true,
-        bound: 0,
-        rank: 0,
-        need: 0,
-        verdict: (9, 1, 0),
-        ..PLAIN
-    },
-    Row {
-        image: NO_CALL,
-        from: true,
-        bound: 0,
-        rank: 0,
-        need: 0,
-        verdict: (0, 0, 0),
-        ..PLAIN
-    },
-];
-
-/// The first certificate on which the verdict is another. Want of memory is wrong too.
-pub fn wrong(alloc: Global) -> Wrong {
-    for (at, row) in ROWS.iter().enumerate() {
-        if !matches!(is_row(alloc, row), Ok(true)) {
-            return Some(("verdict", at));
-        }
-    }
-    None
-}
+pub static ROWS: [(&str, &[Row]); 1] = [(
+    "verdict",
+    &[
+        Row {
+            bound: 2,
+            rank: 1,
+            need: 2,
+            verdict: (0, 2, 0),
+            ..PLAIN
+        },
+        Row {
+            bound: 7,
+            rank: 9,
+            need: 3,
+            verdict: (0, 7, 0),
+            ..PLAIN
+        },
+        Row {
+            image: RUN_ON,
+            bound: 2,
+            rank: 0,
+            need: 1,
+            verdict: (3, 1, 2),
+            ..PLAIN
+        },
+        Row {
+            image: UNDEFINED,
+            bound: 2,
+            rank: 0,
+            need: 1,
+            verdict: (2, 2, 5),
+            ..PLAIN
+        },
+        Row {
+            bound: 1,
+            rank: 0,
+            need: 1,
+            verdict: (4, 0, 1),
+            ..PLAIN
+        },
+        Row {
+            bound: 0,
+            rank: 1,
+            need: 1,
+            verdict: (5, 0, 2),
+            ..PLAIN
+        },
+        Row {
+            bound: 1,
+            rank: 1,
+            need: 2,
+            verdict: (6, 2, 0),
+            ..PLAIN
+        },
+        Row {
+            image: NO_CALL,
+            bound: 0,
+            rank: 0,
+            need: 0,
+            verdict: (0, 0, 0),
+            ..PLAIN
+        },
+        // a bound of as many bytes as the least SRAM has, and of one more
+        Row {
+            device: Device::M48,
+            bound: 512,
+            rank: 1,
+            need: 2,
+            verdict: (0, 512, 0),
+            ..PLAIN
+        },
+        Row {
+            device: Device::M48,
+            bound: 513,
+            rank: 1,
+            need: 2,
+            verdict: (6, 2, 0),
+            ..PLAIN
+        },
+        Row {
+            assumed: true,
+            bound: 2,
+            rank: 1,
+            need: 2,
+            verdict: (7, 0, 0),
+            ..PLAIN
+        },
+        Row {
+            from: true,
+            bound: 0,
+            rank: 0,
+            need: 0,
+            verdict: (9, 1, 0),
+            ..PLAIN
+        },
+        Row {
+            image: NO_CALL,
+            from: true,
+            bound: 0,
+            rank: 0,
+            need: 0,
+            verdict: (0, 0, 0),
+            ..PLAIN
+        },
+    ],
+)];
