@@ -51,8 +51,8 @@ fn tell<R: Worked>(told: &mut Told, alloc: Global, tables: &[(&'static str, &[R]
     }
 }
 
-/// Nesting, families, verdicts and trials.
-fn tell_families(told: &mut Told, alloc: Global) {
+/// Nesting.
+fn tell_nesting(told: &mut Told, alloc: Global) {
     tell(told, alloc, &nesting::ROWS);
     tell(told, alloc, &notes::ROWS);
     let chain = if notes::is_chain(alloc) {
@@ -61,6 +61,10 @@ fn tell_families(told: &mut Told, alloc: Global) {
         Some(0)
     };
     tell_row(told, "chain", chain);
+}
+
+/// Families, verdicts and trials.
+fn tell_families(told: &mut Told, alloc: Global) {
     tell(told, alloc, &edges::ROWS);
     tell(told, alloc, &forms::ROWS);
     tell(told, alloc, &verdicts::ROWS);
@@ -75,6 +79,7 @@ fn each_row_holds(rt: HostRuntime) {
         row: 0,
         wrong: false,
     };
+    tell_nesting(&mut told, alloc);
     tell_families(&mut told, alloc);
     let Told { table, row, wrong } = told;
     assert!(rt; !wrong, "{table} {row}");

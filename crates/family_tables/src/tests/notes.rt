@@ -67,32 +67,31 @@ fn take_all(
     Ok(())
 }
 
-/// What the notes tell where SRAM has so many bytes, where the nesting is judged besides after each note if `often`.
-fn verdict(
-    alloc: Global,
+/// Whether the notes tell this where SRAM has so many bytes, where the nesting is judged besides after each note if `often`.
+fn tells(
+    nesting: &mut Nesting,
     size: u16,
     notes: &[Note],
     often: bool,
-) -> Result<Option<NestingVerdict>, AllocError> {
-    let mut nesting = Nesting::new(alloc);
-    let taken = take_all(&mut nesting, size, notes, often);
-    if nesting.count() > 65_536 {
-        return Ok(None);
+    due: &NestingVerdict,
+) -> bool {
+    let taken = take_all(nesting, size, notes, often).is_ok();
+    if !taken || nesting.count() > 65_536 {
+        return false;
     }
-    match (taken, nesting.judge(size)) {
-        (Ok(()), Ok(verdict)) => Ok(Some(verdict)),
-        _ => Err(AllocError),
+    match nesting.judge(size) {
+        Ok(verdict) => verdict == *due,
+        Err(_) => false,
     }
 }
 
-fn is_row(alloc: Global, size: u16, notes: &[Note], wanted: &NestingVerdict) -> bool {
-    for often in [false, true] {
-        match verdict(alloc, size, notes, often) {
-            Ok(Some(verdict)) if verdict == *wanted => {}
-            _ => return false,
-        }
-    }
-    true
+fn is_told(alloc: Global, size: u16, notes: &[Note], often: bool, due: &NestingVerdict) -> bool {
+    let mut nesting = Nesting::new(alloc);
+    tells(&mut nesting, size, notes, often, due)
+}
+
+fn is_row(alloc: Global, size: u16, notes: &[Note], due: &NestingVerdict) -> bool {
+    is_told(alloc, size, notes, false, due) && is_told(alloc, size, notes, true, due)
 }
 
 // Functions one below the other, each of them new when it is entered.
