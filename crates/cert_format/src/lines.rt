@@ -25,14 +25,22 @@ pub(crate) fn instance_of(text: &[u8]) -> Option<Inst>
     ensures { result ≡ inst_in (words_of text.now) }
 {
     let mut words = Words::new(text);
-    expect_word(&mut words, b"inst")?;
-    let key = inst_key_of(&mut words)?;
-    expect_word(&mut words, b"rank")?;
-    let rank = dec_word(&mut words, 65_535)? as u32;
-    expect_word(&mut words, b"need")?;
-    let need = dec_word(&mut words, SIZE)? as u32;
+    let (Some(()), Some(key), Some(()), Some(rank), Some(()), Some(need)) = (
+        expect_word(&mut words, b"inst"),
+        inst_key_of(&mut words),
+        expect_word(&mut words, b"rank"),
+        dec_word(&mut words, 65_535),
+        expect_word(&mut words, b"need"),
+        dec_word(&mut words, SIZE),
+    ) else {
+        return None;
+    };
     if is_over(&mut words) {
-        Some(Inst { key, rank, need })
+        Some(Inst {
+            key,
+            rank: rank as u32,
+            need: need as u32,
+        })
     } else {
         None
     }
@@ -51,8 +59,9 @@ fn key_at(instances: &[Inst], place: u64) -> Option<InstKey>
 fn place_of(words: &mut Words<'_>, instances: &[Inst]) -> Option<InstKey>
     ensures { option_map (λ k. (k, words.new)) result ≡ place_at instances.now words.old }
 {
-    expect_word(words, b"node")?;
-    let place = dec_word(words, 65_535)?;
+    let (Some(()), Some(place)) = (expect_word(words, b"node"), dec_word(words, 65_535)) else {
+        return None;
+    };
     key_at(instances, place)
 }
 

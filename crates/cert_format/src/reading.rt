@@ -58,8 +58,10 @@ fn numbered(text: &[u8], name: &[u8], least: u64, most: u64) -> Option<u64>
     ensures small { IfSome result (λ n. n ≤ most) }
 {
     let mut words = Words::new(text);
-    expect_word(&mut words, name)?;
-    let number = dec_word(&mut words, most)?;
+    let (Some(()), Some(number)) = (expect_word(&mut words, name), dec_word(&mut words, most))
+    else {
+        return None;
+    };
     if least <= number && is_over(&mut words) {
         Some(number)
     } else {
@@ -106,8 +108,9 @@ fn count_of(text: &[u8]) -> Option<Option<u64>>
     ensures small { IfSome result (λ o. IfSome o (λ n. n ≤ most_nodes)) }
 {
     let mut words = Words::new(text);
-    expect_word(&mut words, b"nodes")?;
-    let digits = words.next()?;
+    let (Some(()), Some(digits)) = (expect_word(&mut words, b"nodes"), words.next()) else {
+        return None;
+    };
     if is_over(&mut words) {
         counted(digits)
     } else {
@@ -183,8 +186,8 @@ fn read_entries(
     let least = least_entries(version);
     let count = read_numbered(reader, b"assume", least, MOST_ENTRIES)?;
     let mut list = read_first(alloc, reader, version)?;
-    let told = read_each(alloc, reader, &mut list, count - least);
-    told.and(Ok(list))
+    read_each(alloc, reader, &mut list, count - least)?;
+    Ok(list)
 }
 
 /// Reads the number of instances and their lines.
@@ -331,31 +334,12 @@ fn read_claim(alloc: Global, reader: &mut LineReader<'_>) -> Result<Certificate,
     claims_keep();
     let (version, bound) = read_heading(reader)?;
     let assumptions = read_entries(alloc, reader, version)?;
-    let instances = match read_instances(alloc, reader) {
-        Ok(instances) => instances,
-        Err(fault) => {
-            drop(assumptions);
-            return Err(fault);
-        }
-    };
-    let nodes = match read_nodes(alloc, reader, version, &instances) {
-        Ok(nodes) => nodes,
-        Err(fault) => {
-            drop(instances);
-            drop(assumptions);
-            return Err(fault);
-        }
-    };
+    let instances = read_instances(alloc, reader)?;
+    let nodes = read_nodes(alloc, reader, version, &instances)?;
+    let witness = read_witness(alloc, reader)?;
+    read_end(reader)?;
     let claim = Certificate::of_version(version, bound as u16, assumptions, instances, nodes);
-    let witness = match read_witness(alloc, reader) {
-        Ok(witness) => witness,
-        Err(fault) => {
-            drop(claim);
-            return Err(fault);
-        }
-    };
-    let told = read_end(reader);
-    told.and(Ok(claim.with_witness(witness)))
+    Ok(claim.with_witness(witness))
 }
 
 /// Reads a text, all of it.

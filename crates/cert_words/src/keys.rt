@@ -90,9 +90,11 @@ pub fn inst_key_of(words: &mut Words<'_>) -> Option<InstKey>
     ensures { option_map (λ k. (k, words.new)) result ≡ inst_key_at words.old }
 {
     let kind = kind_of(words.next()?)?;
-    let entry = hex_word(words, 4)? as u16;
-    let masks = masks_of(words)?;
-    let i = flag_of(words)?;
+    let (Some(entry), Some(masks), Some(i)) = (hex_word(words, 4), masks_of(words), flag_of(words))
+    else {
+        return None;
+    };
+    let entry = entry as u16;
     if fits_kind(kind, entry, masks, i) {
         Some(InstKey {
             kind,
@@ -147,12 +149,19 @@ pub fn node_key_of(words: &mut Words<'_>, version: Version, inst: &InstKey) -> O
     ensures exact { option_map (λ k. (k, words.new)) result ≡ node_key_at version inst.now words.old }
     ensures small { IfSome result (λ k. offset_of k.sp ≤ model.SIZE) }
 {
-    let pc = hex_word(words, 4)? as u16;
-    let masks = masks_of(words)?;
-    let i = flag_of(words)?;
-    let delay = flag_of(words)?;
-    let sp = form_of(words.next()?, is_root(inst.kind))?;
-    let pick = pick_of(words, version)?;
+    let (Some(pc), Some(masks), Some(i), Some(delay), Some(form)) = (
+        hex_word(words, 4),
+        masks_of(words),
+        flag_of(words),
+        flag_of(words),
+        words.next(),
+    ) else {
+        return None;
+    };
+    let (Some(sp), Some(pick)) = (form_of(form, is_root(inst.kind)), pick_of(words, version)) else {
+        return None;
+    };
+    let pc = pc as u16;
     if pc < WORDS {
         Some(NodeKey {
             inst: *inst,

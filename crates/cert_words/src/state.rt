@@ -76,8 +76,13 @@ fn slots_of(
 fn both_flags_of(words: &mut Words<'_>, version: Version, root: bool) -> Option<AbsFlags>
     ensures { option_map (λ f. (f, words.new)) result ≡ flags_at version root words.old }
 {
-    let (entry, bits) = flags_of(words.next()?, root)?;
-    let carry = carry_of(words.next()?, version, root)?;
+    let (Some(flags), Some(carry)) = (words.next(), words.next()) else {
+        return None;
+    };
+    let (Some((entry, bits)), Some(carry)) = (flags_of(flags, root), carry_of(carry, version, root))
+    else {
+        return None;
+    };
     Some(AbsFlags { entry, bits, carry })
 }
 
@@ -120,22 +125,15 @@ fn state_of(
     let Some(facts) = pairs_of(alloc, words, version, &registers)? else {
         return Ok(None);
     };
-    match slots_of(alloc, words, version, root, offset) {
-        Ok(Some(slots)) => Ok(Some(AbsState {
-            registers,
-            flags,
-            slots,
-            facts,
-        })),
-        Ok(None) => {
-            drop(facts);
-            Ok(None)
-        }
-        Err(error) => {
-            drop(facts);
-            Err(error)
-        }
-    }
+    let Some(slots) = slots_of(alloc, words, version, root, offset)? else {
+        return Ok(None);
+    };
+    Ok(Some(AbsState {
+        registers,
+        flags,
+        slots,
+        facts,
+    }))
 }
 
 /// The number of an earlier node than that of the number `at`.

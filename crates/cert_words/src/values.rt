@@ -83,8 +83,9 @@ fn any_tag_of(letters: &mut Letters<'_>, root: bool) -> Option<Tag>
 fn ends_of(letters: &mut Letters<'_>, bits: TriByte) -> Option<(u8, u8)>
     ensures { option_map (λ r. (r, letters.new)) result ≡ ends_at bits letters.old }
 {
-    let low = letters.byte()?;
-    let high = letters.byte()?;
+    let (Some(low), Some(high)) = (letters.byte(), letters.byte()) else {
+        return None;
+    };
     let all = Range::of_bits(bits);
     if all.low <= low && low <= high && high <= all.high {
         Some((low, high))
@@ -301,9 +302,13 @@ fn marked_of(text: &[u8], mark: u8, digits: usize) -> Option<u32>
     ensures small { IfSome result (λ n. n < 16 ^ digits) }
 {
     let mut letters = Letters::new(text);
-    let comma = letters.next()?;
-    let letter = letters.next()?;
-    let number = letters.digits(digits)?;
+    let (Some(comma), Some(letter), Some(number)) = (
+        letters.next(),
+        letters.next(),
+        letters.digits(digits),
+    ) else {
+        return None;
+    };
     if comma == b',' && letter == mark && letters.is_end() {
         Some(number)
     } else {

@@ -124,18 +124,11 @@ pub fn gather<'a, F: Files>(
     };
     let second = match fetch_bytes(alloc, files, command.second(), second_cap(command)) {
         Ok(bytes) => bytes,
-        Err(fault) => {
-            drop(firmware);
-            return Err(fault);
-        }
+        Err(fault) => return Err(fault),
     };
     let assumptions = match fetch_optional(alloc, files, command.assume(), ASSUMPTION_CAP) {
         Ok(list) => list,
-        Err(fault) => {
-            drop(firmware);
-            drop(second);
-            return Err(fault);
-        }
+        Err(fault) => return Err(fault),
     };
     Ok(Contents {
         firmware,

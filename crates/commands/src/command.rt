@@ -91,15 +91,15 @@ impl<'a> Command<'a> {
         ensures { result ≡ device_for (command_seen self.now) }
     {
         match *self {
-            Command::Check { device, .. } => device,
-            Command::Analyse { device, .. } => device,
-            Command::Run { device, .. } => device,
-            Command::Report { device, .. } => device,
-            Command::Explain { device, .. } => device,
-            Command::Clear { device, .. } => device,
-            Command::Premises { device, .. } => device,
-            Command::Attain { device, .. } => device,
-            Command::Simulate { device, .. } => device,
+            Command::Check { device, .. }
+            | Command::Analyse { device, .. }
+            | Command::Run { device, .. }
+            | Command::Report { device, .. }
+            | Command::Explain { device, .. }
+            | Command::Clear { device, .. }
+            | Command::Premises { device, .. }
+            | Command::Attain { device, .. }
+            | Command::Simulate { device, .. } => device,
             Command::Demo { .. } => Device::M328,
         }
     }
@@ -109,15 +109,15 @@ impl<'a> Command<'a> {
         ensures { name_of (command_seen self.now) Firmware ≡ text_of result }
     {
         match *self {
-            Command::Check { firmware, .. } => Some(firmware),
-            Command::Analyse { firmware, .. } => Some(firmware),
-            Command::Run { firmware, .. } => Some(firmware),
-            Command::Report { firmware, .. } => Some(firmware),
-            Command::Explain { firmware, .. } => Some(firmware),
-            Command::Clear { firmware, .. } => Some(firmware),
-            Command::Premises { firmware, .. } => Some(firmware),
-            Command::Attain { firmware, .. } => Some(firmware),
-            Command::Simulate { firmware, .. } => Some(firmware),
+            Command::Check { firmware, .. }
+            | Command::Analyse { firmware, .. }
+            | Command::Run { firmware, .. }
+            | Command::Report { firmware, .. }
+            | Command::Explain { firmware, .. }
+            | Command::Clear { firmware, .. }
+            | Command::Premises { firmware, .. }
+            | Command::Attain { firmware, .. }
+            | Command::Simulate { firmware, .. } => Some(firmware),
             Command::Demo { .. } => None,
         }
     }
@@ -127,16 +127,15 @@ impl<'a> Command<'a> {
         ensures { name_of (command_seen self.now) Second ≡ text_of result }
     {
         match *self {
-            Command::Check { certificate, .. } => Some(certificate),
-            Command::Analyse { .. } => None,
+            Command::Check { certificate, .. }
+            | Command::Report { certificate, .. }
+            | Command::Explain { certificate, .. }
+            | Command::Clear { certificate, .. }
+            | Command::Premises { certificate, .. }
+            | Command::Attain { certificate, .. } => Some(certificate),
             Command::Run { schedule, .. } => Some(schedule),
-            Command::Report { certificate, .. } => Some(certificate),
-            Command::Explain { certificate, .. } => Some(certificate),
-            Command::Clear { certificate, .. } => Some(certificate),
-            Command::Premises { certificate, .. } => Some(certificate),
-            Command::Attain { certificate, .. } => Some(certificate),
             Command::Simulate { devices, .. } => Some(devices),
-            Command::Demo { .. } => None,
+            Command::Analyse { .. } | Command::Demo { .. } => None,
         }
     }
 
@@ -145,16 +144,15 @@ impl<'a> Command<'a> {
         ensures { name_of (command_seen self.now) Assumptions ≡ text_of result }
     {
         match *self {
-            Command::Check { assume, .. } => assume,
-            Command::Analyse { assume, .. } => assume,
-            Command::Run { assume, .. } => assume,
-            Command::Report { assume, .. } => assume,
-            Command::Explain { assume, .. } => assume,
-            Command::Clear { .. } => None,
-            Command::Premises { assume, .. } => assume,
-            Command::Attain { assume, .. } => assume,
-            Command::Simulate { assume, .. } => assume,
-            Command::Demo { .. } => None,
+            Command::Check { assume, .. }
+            | Command::Analyse { assume, .. }
+            | Command::Run { assume, .. }
+            | Command::Report { assume, .. }
+            | Command::Explain { assume, .. }
+            | Command::Premises { assume, .. }
+            | Command::Attain { assume, .. }
+            | Command::Simulate { assume, .. } => assume,
+            Command::Clear { .. } | Command::Demo { .. } => None,
         }
     }
 }

@@ -100,14 +100,15 @@ fn pairs_of(words: &mut Words<'_>) -> Option<Entry>
 fn alone_by(kind: &[u8], words: &mut Words<'_>) -> Option<Entry>
     ensures { result ≡ alone_by kind.now words.old }
 {
+    let site = alone_of(words)?;
     if kind == b"prove".as_slice() {
-        Some(Entry::Prove(alone_of(words)?))
+        Some(Entry::Prove(site))
     } else if kind == b"free".as_slice() {
-        Some(Entry::Free(alone_of(words)?))
+        Some(Entry::Free(site))
     } else if kind == b"never".as_slice() {
-        Some(Entry::Never(alone_of(words)?))
+        Some(Entry::Never(site))
     } else if kind == b"frame".as_slice() {
-        Some(Entry::Frame(alone_of(words)?))
+        Some(Entry::Frame(site))
     } else {
         None
     }

@@ -61,32 +61,31 @@ pub fn hull_by(facts: &mut Facts, registers: &[AbsByte; 32], instr: &Instr)
 {
     match instr {
         Instr::Movw(d, _) => hull_pair(facts, registers, *d),
-        Instr::Muls(_, _) => hull_pair(facts, registers, Pair::new(0)),
-        Instr::Mulsu(_, _) => hull_pair(facts, registers, Pair::new(0)),
-        Instr::Fmul(_, _) => hull_pair(facts, registers, Pair::new(0)),
-        Instr::Fmuls(_, _) => hull_pair(facts, registers, Pair::new(0)),
-        Instr::Fmulsu(_, _) => hull_pair(facts, registers, Pair::new(0)),
+        Instr::Muls(_, _)
+        | Instr::Mulsu(_, _)
+        | Instr::Fmul(_, _)
+        | Instr::Fmuls(_, _)
+        | Instr::Fmulsu(_, _) => hull_pair(facts, registers, Pair::new(0)),
         Instr::Binary(op, d, _) => hull_binary(facts, registers, *op, *d),
         Instr::Immediate(op, d, _) => hull_immediate(facts, registers, *op, d.widened()),
-        Instr::Ldd(d, _, _) => hull(facts, registers, *d),
-        Instr::Lds(d, _) => hull(facts, registers, *d),
+        Instr::Ldd(d, _, _)
+        | Instr::Lds(d, _)
+        | Instr::LpmZ(d)
+        | Instr::Pop(d)
+        | Instr::Unary(_, d)
+        | Instr::In(d, _)
+        | Instr::Bld(d, _) => hull(facts, registers, *d),
         Instr::Ld(d, pointer) => {
             hull(facts, registers, *d);
             hull_pointer(facts, registers, *pointer);
         }
-        Instr::LpmZ(d) => hull(facts, registers, *d),
         Instr::LpmZPlus(d) => {
             hull(facts, registers, *d);
             hull_pair(facts, registers, Pair::new(15));
         }
-        Instr::Pop(d) => hull(facts, registers, *d),
         Instr::St(pointer, _) => hull_pointer(facts, registers, *pointer),
-        Instr::Unary(_, d) => hull(facts, registers, *d),
         Instr::Lpm => hull(facts, registers, Register::new(0)),
-        Instr::Adiw(d, _) => hull_pair(facts, registers, d.widened()),
-        Instr::Sbiw(d, _) => hull_pair(facts, registers, d.widened()),
-        Instr::In(d, _) => hull(facts, registers, *d),
-        Instr::Bld(d, _) => hull(facts, registers, *d),
+        Instr::Adiw(d, _) | Instr::Sbiw(d, _) => hull_pair(facts, registers, d.widened()),
         _ => {}
     }
 }

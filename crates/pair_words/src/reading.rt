@@ -259,10 +259,22 @@ pub fn facts_of(words: &mut Words<'_>, hulls: &[Interval; 16]) -> Option<PairFac
     ensures exact { option_map (λ f. (f, words.new)) result ≡ facts_at hulls.now words.old }
     ensures near { IfSome result (λ f. IsNear f.sum) }
 {
-    let sum = sum_of(words.next()?)?;
-    let compare = compare_of(words.next()?)?;
-    let zero = zero_of(words.next()?)?;
-    let intervals = intervals_of(words.next()?, hulls)?;
+    let (Some(sum), Some(compare), Some(zero), Some(intervals)) = (
+        words.next(),
+        words.next(),
+        words.next(),
+        words.next(),
+    ) else {
+        return None;
+    };
+    let (Some(sum), Some(compare), Some(zero), Some(intervals)) = (
+        sum_of(sum),
+        compare_of(compare),
+        zero_of(zero),
+        intervals_of(intervals, hulls),
+    ) else {
+        return None;
+    };
     Some(PairFacts {
         intervals,
         sum,
