@@ -1,6 +1,6 @@
 -- What may happen at a word, node by node.
 use Rattle.std.proofs.Common.{◌≡◌, refl, sym, ap, ◌∙◌, subst, ℕ, ◌+◌, ◌<◌, ◌⊎◌, inl, inr, ⊎_elim, ◌==◌, ◌&&◌, ◌||◌, Bool, true, false, not, List, [], ◌∷◌, ◌++◌, length, take, get_or, set, replicate, Some, None, slice_get, Contains, eqb-true, arith}
-use Rattle.std.specs.Prelude.{◌↔◌, if◌then◌else◌}
+use Rattle.std.specs.Prelude.{◌↔◌}
 use Rattle.std.specs.List.Sorted.{IsStrictlySortedBy}
 use Rattle.std.specs.Ordering.{nat_cmp}
 use Rattle.std.proofs.lemmas.Bool.{cases_lt, and_parts, and_from, not-true}
@@ -35,7 +35,7 @@ use Rattle.store_laws.specs.Places.{word_of, IsPlaceOf, ArePlaces}
 use Rattle.store_laws.specs.Verdict.{AreSites}
 use Rattle.store_clear.specs.Settling.{ask_at, passes, IsTold, places_of}
 use Rattle.store_clear.specs.Takes.{IsMarked}
-use Rattle.store_clear.specs.Causing.{protected_by, IsProtectedBelow, is_unclear_at, IsProtectedFrom, is_live_from, PassesBelow, IsProtectedAt, IsLiveAt, ArePlacesOf}
+use Rattle.store_clear.specs.Causing.{IsProtectedBelow, is_unclear_at, PassesBelow, IsProtectedAt, IsLiveAt, ArePlacesOf}
 use Rattle.store_clear.proofs.Marked.{placed, placing, ascending}
 use Rattle.store_clear.proofs.Taken.{marks_none, marks_one, marks_both, marks_as}
 
@@ -48,22 +48,21 @@ module _ (words : List ℕ) (A : List Entry) (pc : ℕ) (s : AbsState) (instr : 
   abbrev This : ℕ → ℕ → Type 0
   This a x = (x ≡ a) × (may x ≡ true)
 
-  address_marked : (a : ℕ) (old new : List Bool) → a < length old → new ≡ protected_by words A pc s instr a old → IsMarked (This a) old new
-  address_marked a old new lt is = subst (IsMarked (This a) old) (sym is) (by (may a) refl)
-    where
-      by : (b : Bool) → may a ≡ b → IsMarked (This a) old (if b then set old a true else old)
-      by true e = marks_as (λ x. x ≡ a) (This a) old _ (λ x same. (same, ap may same ∙ e)) (λ x t. t.0) (marks_one a old lt)
-      by false e = marks_none (This a) old (λ x t. never_both (may a) (ap may (sym t.0) ∙ t.1) e)
-
   pub addresses_none : (marks : List Bool) → IsMarked (IsProtectedBelow words A pc s instr 0) marks marks
   addresses_none marks = marks_none (IsProtectedBelow words A pc s instr 0) marks (λ x t. let lt = t.0 in omega (arith, lt))
 
-  pub addresses_more : (n : ℕ) (old mid new : List Bool) → n < length mid → IsMarked (IsProtectedBelow words A pc s instr n) old mid → new ≡ protected_by words A pc s instr n mid
-      → IsMarked (IsProtectedBelow words A pc s instr (n + 1)) old new
-  addresses_more n old mid new lt so is =
-      marks_both (IsProtectedBelow words A pc s instr n) (This n) (IsProtectedBelow words A pc s instr (n + 1)) old mid new
-      (λ x t. (let below = t.0 in omega (arith, below), t.1)) (λ x t. (let same = t.0 in omega (arith, same), t.1))
-      (λ x t. ⊎_elim (λ below. inl (below, t.1)) (λ e. inr (e, t.1)) (before_or_last x n t.0)) so (address_marked n mid new lt is)
+  module _ (n : ℕ) (old mid : List Bool) (so : IsMarked (IsProtectedBelow words A pc s instr n) old mid) where
+    with_it : (new : List Bool) → IsMarked (This n) mid new → IsMarked (IsProtectedBelow words A pc s instr (n + 1)) old new
+    with_it new one =
+        marks_both (IsProtectedBelow words A pc s instr n) (This n) (IsProtectedBelow words A pc s instr (n + 1)) old mid new
+        (λ x t. (let below = t.0 in omega (arith, below), t.1)) (λ x t. (let same = t.0 in omega (arith, same), t.1))
+        (λ x t. ⊎_elim (λ below. inl (below, t.1)) (λ e. inr (e, t.1)) (before_or_last x n t.0)) so one
+
+    pub addresses_more : n < length mid → may n ≡ true → IsMarked (IsProtectedBelow words A pc s instr (n + 1)) old (set mid n true)
+    addresses_more lt e = with_it (set mid n true) (marks_as (λ x. x ≡ n) (This n) mid _ (λ x same. (same, ap may same ∙ e)) (λ x t. t.0) (marks_one n mid lt))
+
+    pub addresses_same : may n ≡ false → IsMarked (IsProtectedBelow words A pc s instr (n + 1)) old mid
+    addresses_same e = with_it mid (marks_none (This n) mid (λ x t. never_both (may n) (ap may (sym t.0) ∙ t.1) e))
 
 -- ---- all nodes
 
@@ -71,13 +70,17 @@ module _ (words : List ℕ) (A : List Entry) (nodes : List Node) (asks : List As
   abbrev At : ℕ → ℕ → Type 0
   At count a = IsProtectedAt words A nodes asks pc instr count a
 
+  -- a node with this key still asks this and lies at the word, and a store there may write this address
+  abbrev From : NodeKey → AbsState → Asks → ℕ → Type 0
+  From k s ask a = (is_unclear_at pc k ask ≡ true) × IsProtectedBelow words A pc s instr 256 a
+
   pub nodes_none : (marks : List Bool) → IsMarked (At 0) marks marks
   nodes_none marks = marks_none (At 0) marks (λ a t. let lt = t.1.below in omega (arith, lt))
 
-  pub nodes_more : (at : ℕ) (n : Node) (k : NodeKey) (s : AbsState) (ask : Asks) (old mid new : List Bool) → slice_get nodes at ≡ Some n → n.key ≡ k → n.state ≡ s → ask_at asks at ≡ ask
-      → IsMarked (At at) old mid → IsMarked (IsProtectedFrom words A pc k s ask instr) mid new → IsMarked (At (at + 1)) old new
+  nodes_more : (at : ℕ) (n : Node) (k : NodeKey) (s : AbsState) (ask : Asks) (old mid new : List Bool) → slice_get nodes at ≡ Some n → n.key ≡ k → n.state ≡ s → ask_at asks at ≡ ask
+      → IsMarked (At at) old mid → IsMarked (From k s ask) mid new → IsMarked (At (at + 1)) old new
   nodes_more at n k s ask old mid new is key state same so one =
-      marks_both (At at) (IsProtectedFrom words A pc k s ask instr) (At (at + 1)) old mid new
+      marks_both (At at) (From k s ask) (At (at + 1)) old mid new
       (λ a t. (t.0, record { at = t.1.at; node = t.1.node; below = let lt = t.1.below in omega (arith, lt); is = t.1.is; unclear = t.1.unclear; passes = t.1.passes }))
       (λ a t. (t.1.0, record { at = at; node = n; below = omega arith; is = is; unclear = unclear_back t.0; passes = ap (λ (x : AbsState). may_write_protected words A pc x instr a) state ∙ t.1.1 }))
       split so one
@@ -88,7 +91,7 @@ module _ (words : List ℕ) (A : List Entry) (nodes : List Node) (asks : List As
       here : (t : ℕ) (m : Node) → t ≡ at → slice_get nodes t ≡ Some m → m ≡ n
       here t m e read = one_at nodes at m n (subst (λ i. slice_get nodes i ≡ Some m) e read) is
 
-      split : (a : ℕ) → At (at + 1) a → At at a ⊎ IsProtectedFrom words A pc k s ask instr a
+      split : (a : ℕ) → At (at + 1) a → At at a ⊎ From k s ask a
       split a t =
           ⊎_elim (λ lt. inl (t.0, record { at = t.1.at; node = t.1.node; below = lt; is = t.1.is; unclear = t.1.unclear; passes = t.1.passes }))
           (λ e.
@@ -99,6 +102,18 @@ module _ (words : List ℕ) (A : List Entry) (nodes : List Node) (asks : List As
             (t.0, ap (λ (x : AbsState). may_write_protected words A pc x instr a) (sym state) ∙ ap (λ (x : Node). may_write_protected words A pc x.state instr a) (sym m) ∙ t.1.passes),
           ))
           (before_or_last t.1.at at t.1.below)
+
+  module _ (at : ℕ) (n : Node) (k : NodeKey) (s : AbsState) (ask : Asks) (old mid : List Bool) (is : slice_get nodes at ≡ Some n) (key : n.key ≡ k) (state : n.state ≡ s)
+      (same : ask_at asks at ≡ ask) (so : IsMarked (At at) old mid) where
+    pub nodes_marked : (new : List Bool) → is_unclear_at pc k ask ≡ true → IsMarked (IsProtectedBelow words A pc s instr 256) mid new → IsMarked (At (at + 1)) old new
+    nodes_marked new e one =
+        nodes_more at n k s ask old mid new is key state same so
+        (marks_as (IsProtectedBelow words A pc s instr 256) (From k s ask) mid new (λ a t. (e, t)) (λ a t. t.1) one)
+
+    pub nodes_same : is_unclear_at pc k ask ≡ false → IsMarked (At (at + 1)) old mid
+    nodes_same e =
+        nodes_more at n k s ask old mid mid is key state same so
+        (marks_none (From k s ask) mid (λ a t. never_both (is_unclear_at pc k ask) t.0 e))
 
 -- ---- the list
 
@@ -131,29 +146,26 @@ module _ (words : List ℕ) (A : List Entry) (bound : ℕ) (nodes : List Node) (
   LiveAt count = IsLiveAt words A bound nodes asks pc instr count
 
   module _ (at : ℕ) (n : Node) (k : NodeKey) (s : AbsState) (is : slice_get nodes at ≡ Some n) (key : n.key ≡ k) (state : n.state ≡ s) where
-    abbrev from : Bool
-    from = is_live_from words A bound pc k s (ask_at asks at) instr
+    pub live_found : (count : ℕ) → at < count → is_unclear_at pc k (ask_at asks at) ≡ true → may_write_live words A bound pc s instr ≡ true → LiveAt count
+    live_found count lt unclear live =
+        record {
+          at = at;
+          node = n;
+          below = lt;
+          is = is;
+          unclear = ap (λ (x : NodeKey). is_unclear_at pc x (ask_at asks at)) key ∙ unclear;
+          passes = ap (λ (x : AbsState). may_write_live words A bound pc x instr) state ∙ live;
+        }
 
-    from_is : (is_unclear_at pc n.key (ask_at asks at) && may_write_live words A bound pc n.state instr) ≡ from
-    from_is =
-        ap (λ (x : NodeKey). is_unclear_at pc x (ask_at asks at) && may_write_live words A bound pc n.state instr) key
-        ∙ ap (λ (x : AbsState). is_unclear_at pc k (ask_at asks at) && may_write_live words A bound pc x instr) state
-
-    pub live_found : (count : ℕ) → at < count → from ≡ true → LiveAt count
-    live_found count lt h =
-        let parts = and_parts (is_unclear_at pc n.key (ask_at asks at)) (may_write_live words A bound pc n.state instr) (from_is ∙ h) in
-        record { at = at; node = n; below = lt; is = is; unclear = parts.0; passes = parts.1 }
-
-    pub live_not : (LiveAt at → ⊥) → from ≡ false → LiveAt (at + 1) → ⊥
-    live_not none h t =
+    pub live_not : (LiveAt at → ⊥) → (is_unclear_at pc k (ask_at asks at) ≡ true → may_write_live words A bound pc s instr ≡ true → ⊥) → LiveAt (at + 1) → ⊥
+    live_not none here t =
         ⊎_elim (λ lt. none (record { at = t.at; node = t.node; below = lt; is = t.is; unclear = t.unclear; passes = t.passes }))
         (λ e.
         let m : t.node ≡ n = one_at nodes at t.node n (subst (λ i. slice_get nodes i ≡ Some t.node) e t.is) is in
-        never_both from
-        (sym from_is
-        ∙ and_from (is_unclear_at pc n.key (ask_at asks at)) (may_write_live words A bound pc n.state instr)
-        (ap (λ (x : Node). is_unclear_at pc x.key (ask_at asks at)) (sym m) ∙ ap (λ i. is_unclear_at pc t.node.key (ask_at asks i)) (sym e) ∙ t.unclear)
-        (ap (λ (x : Node). may_write_live words A bound pc x.state instr) (sym m) ∙ t.passes)) h)
+        here
+        (sym (ap (λ (x : Node). is_unclear_at pc x.key (ask_at asks at)) m ∙ ap (λ (x : NodeKey). is_unclear_at pc x (ask_at asks at)) key)
+        ∙ ap (λ i. is_unclear_at pc t.node.key (ask_at asks i)) (sym e) ∙ t.unclear)
+        (sym (ap (λ (x : Node). may_write_live words A bound pc x.state instr) m ∙ ap (λ (x : AbsState). may_write_live words A bound pc x instr) state) ∙ t.passes))
         (before_or_last t.at at t.below)
 
   pub live_none : LiveAt 0 → ⊥

@@ -1,6 +1,5 @@
 -- Words that are marked, and the numbers of what is marked.
 use Rattle.std.proofs.Common.{◌≡◌, refl, sym, ap, ◌∙◌, subst, ℕ, zero, suc, ◌+◌, ◌<◌, ◌⊎◌, inl, inr, ⊎_elim, Bool, true, false, List, [], ◌∷◌, length, set, get_or-set_other, get_or-set_same, Option, Some, None, slice_get, Contains, arith}
-use Rattle.std.specs.Prelude.{if◌then◌else◌}
 use Rattle.std.specs.Option.{option_map}
 use Rattle.std.specs.List.{AllByRecursion}
 use Rattle.std.specs.List.Sorted.{IsStrictlySortedBy}
@@ -19,7 +18,7 @@ use Rattle.local_rules.specs.declared.local.Node.{Node}
 use Rattle.edge_rules.specs.Views.{AreShown, key_of}
 use Rattle.slot_reach.specs.Reach.{is_on}
 use Rattle.store_aims.specs.declared.need.Asks.{Asks}
-use Rattle.store_clear.specs.Settling.{ask_at, passes, IsWordOf, marked_by, AreWordsMarked, places_from}
+use Rattle.store_clear.specs.Settling.{ask_at, passes, IsWordOf, AreWordsMarked, places_from}
 
 -- ---- words
 
@@ -34,7 +33,7 @@ module _ (nodes : List Node) (asks : List Asks) where
         exact = λ pc. (λ h. inl h, λ h. ⊎_elim (λ o. o) (λ w. absurd (let lt = w.below in omega (arith, lt))) h);
       }
 
-  words_marked : (at : ℕ) (n : Node) (old mid : List Bool) → slice_get nodes at ≡ Some n → passes (ask_at asks at) ≡ false → n.key.pc < length mid
+  pub words_marked : (at : ℕ) (n : Node) (old mid : List Bool) → slice_get nodes at ≡ Some n → passes (ask_at asks at) ≡ false → n.key.pc < length mid
       → AreWordsMarked nodes asks at old mid → AreWordsMarked nodes asks (at + 1) old (set mid n.key.pc true)
   words_marked at n old mid is fails lt m = record { same = length-set mid n.key.pc true ∙ m.same; exact = λ pc. (down pc, up pc) }
     where
@@ -59,7 +58,7 @@ module _ (nodes : List Node) (asks : List Asks) where
               let one : w.node ≡ n = one_at nodes at w.node n (subst (λ k. slice_get nodes k ≡ Some w.node) e w.is) is in
               on_here pc (sym w.word ∙ ap (λ (x : Node). x.key.pc) one)
 
-  words_passed : (at : ℕ) (old mid : List Bool) → passes (ask_at asks at) ≡ true → AreWordsMarked nodes asks at old mid → AreWordsMarked nodes asks (at + 1) old mid
+  pub words_passed : (at : ℕ) (old mid : List Bool) → passes (ask_at asks at) ≡ true → AreWordsMarked nodes asks at old mid → AreWordsMarked nodes asks (at + 1) old mid
   words_passed at old mid is m = record { same = m.same; exact = λ pc. (λ h. ⊎_elim (λ o. inl o) (λ w. inr (weaker at pc w)) ((m.exact pc).0 h), up pc) }
     where
       up : (pc : ℕ) → (is_on old pc ≡ true) ⊎ IsWordOf nodes asks (at + 1) pc → is_on mid pc ≡ true
@@ -68,15 +67,6 @@ module _ (nodes : List Node) (asks : List Asks) where
           by : (w : IsWordOf nodes asks (at + 1) pc) → (w.at < at) ⊎ (w.at ≡ at) → is_on mid pc ≡ true
           by w (inl l) = (m.exact pc).1 (inr (record { at = w.at; node = w.node; below = l; is = w.is; fails = w.fails; word = w.word }))
           by w (inr e) = absurd (let no : true ≡ false = sym is ∙ (ap (λ k. passes (ask_at asks k)) (sym e) ∙ w.fails) in cc)
-
-  pub words_more : (at : ℕ) (n : Node) (k : NodeKey) (old mid new : List Bool) (a : Asks) → slice_get nodes at ≡ Some n → n.key ≡ k → a ≡ ask_at asks at → k.pc < length mid
-      → new ≡ marked_by k.pc a mid → AreWordsMarked nodes asks at old mid → AreWordsMarked nodes asks (at + 1) old new
-  words_more at n k old mid new a is key same lt new_is m =
-      subst (AreWordsMarked nodes asks (at + 1) old) (sym (new_is ∙ ap (λ (x : NodeKey). marked_by x.pc a mid) (sym key))) (by (passes a) refl)
-    where
-      by : (b : Bool) → passes a ≡ b → AreWordsMarked nodes asks (at + 1) old (if b then mid else set mid n.key.pc true)
-      by true e = words_passed at old mid (ap passes (sym same) ∙ e) m
-      by false e = words_marked at n old mid is (ap passes (sym same) ∙ e) (subst (λ (x : NodeKey). x.pc < length mid) (sym key) lt) m
 
 -- ---- the numbers of what is marked
 

@@ -1,5 +1,5 @@
 -- What is left of what nodes ask.
-use Rattle.std.proofs.Common.{◌≡◌, ◌≢◌, refl, sym, ap, ◌∙◌, subst, ℕ, ◌+◌, ◌<◌, ◌≤◌, ⊎_elim, ◌==◌, Bool, true, false, List, length, set, Result, Ok, Err, OnOk, get_or-set_other, get_or-set_same, eqb-true, arith}
+use Rattle.std.proofs.Common.{◌≡◌, ◌≢◌, refl, sym, ap, ◌∙◌, subst, ℕ, ◌+◌, ◌<◌, ◌≤◌, ⊎_elim, ◌==◌, Bool, true, false, List, length, set, get_or-set_other, get_or-set_same, eqb-true, arith}
 use Rattle.std.specs.Prelude.{◌↔◌, if◌then◌else◌}
 use Rattle.std.proofs.lemmas.Bool.{cases_lt}
 use Rattle.std.proofs.lemmas.List.{get_or_past, length-set}
@@ -8,7 +8,7 @@ use Rattle.slot_reach.specs.declared.reach.Seed.{Seed}
 use Rattle.slot_reach.specs.Reach.{is_on, Reaches, AreInside, AreReached}
 use Rattle.store_aims.specs.declared.need.Asks.{Asks}
 use Rattle.store_aims.specs.declared.need.Asks.TheVariants.{Nothing, Free, Never}
-use Rattle.store_clear.specs.Settling.{ask_at, settled, AreMarkedOff, IsDone, IsMet, IsSettled, IsSettledAt, AreSettled}
+use Rattle.store_clear.specs.Settling.{ask_at, settled, AreMarkedOff, IsDone, IsMet, IsSettled, AreSettled}
 
 -- ---- one after the other
 
@@ -96,20 +96,28 @@ module _ (links : List (List ℕ)) (offsets : List ℕ) (seeds : List Seed) wher
   pub settled_none : (old : List Asks) → AreSettled links offsets seeds 0 old old
   settled_none old = record { same = refl; met = λ i. (λ h. h, λ h. h); done = λ i lt. absurd (omega (arith, lt)) }
 
-  pub settled_at : (at slot : ℕ) (old new : List Asks) → ask_at old at ≡ Free slot → IsSettled links offsets seeds slot old new → IsSettledAt links offsets seeds at old new
-  settled_at at slot old new is s = record { same = s.same; met = s.met; kept = s.kept; done = s.done at is }
-
-  pub settled_as : (at : ℕ) (old : List Asks) → IsDone (ask_at old at) → IsSettledAt links offsets seeds at old old
-  settled_as at old is = record { same = refl; met = λ i. (λ h. h, λ h. h); kept = λ i h. h; done = is }
-
-  pub settled_more : (at : ℕ) (old mid new : List Asks) → AreSettled links offsets seeds at old mid → IsSettledAt links offsets seeds at mid new
+  pub settled_more : (at slot : ℕ) (old mid new : List Asks) → AreSettled links offsets seeds at old mid → ask_at mid at ≡ Free slot → IsSettled links offsets seeds slot mid new
       → AreSettled links offsets seeds (at + 1) old new
-  settled_more at old mid new so one =
+  settled_more at slot old mid new so is one =
       record {
         same = one.same ∙ so.same;
         met = λ i. (λ h. (so.met i).0 ((one.met i).0 h), λ h. (one.met i).1 ((so.met i).1 h));
-        done = λ i lt. ⊎_elim (λ l. one.kept i (so.done i l)) (λ e. subst (λ k. IsDone (ask_at new k)) (sym e) one.done) (before_or_last i at lt);
+        done = λ i lt. ⊎_elim (λ l. one.kept i (so.done i l)) (λ e. subst (λ k. IsDone (ask_at new k)) (sym e) (one.done at is)) (before_or_last i at lt);
       }
+
+  -- the node asks for no slot
+  pub settled_same : (at : ℕ) (old mid : List Asks) → AreSettled links offsets seeds at old mid → ((d : ℕ) → ask_at mid at ≢ Free d) → AreSettled links offsets seeds (at + 1) old mid
+  settled_same at old mid so none =
+      record {
+        same = so.same;
+        met = so.met;
+        done = λ i lt. ⊎_elim (λ l. so.done i l) (λ e. subst (λ k. IsDone (ask_at mid k)) (sym e) (done_unless (ask_at mid at) none)) (before_or_last i at lt);
+      }
+    where
+      done_unless : (a : Asks) → ((d : ℕ) → a ≢ Free d) → IsDone a
+      done_unless Nothing h = tt
+      done_unless (Free d) h = absurd (h d refl)
+      done_unless Never h = tt
 
 -- ---- the same lists behind references
 
@@ -124,12 +132,3 @@ reached_as links links' offsets offsets' seeds seeds' slot marks marks' l o s m 
     subst (λ (xs : List (List ℕ)). AreReached xs offsets seeds slot marks') l
     (subst (λ (xs : List ℕ). AreReached links' xs seeds slot marks') o
     (subst (λ (xs : List Seed). AreReached links' offsets' xs slot marks') s (subst (AreReached links' offsets' seeds' slot) (sym m) h)))
-
-pub on_ok : {X E : Type 0} (r : Result X E) (P Q : Type 0) → (P → Q) → OnOk r P → OnOk r Q
-on_ok (Ok x) P Q f h = f h
-on_ok (Err e) P Q f h = h
-
-pub done_unless : (a : Asks) → ((d : ℕ) → a ≢ Free d) → IsDone a
-done_unless Nothing h = tt
-done_unless (Free d) h = absurd (h d refl)
-done_unless Never h = tt

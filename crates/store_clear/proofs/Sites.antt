@@ -26,6 +26,7 @@ use Rattle.store_laws.specs.Laws.{EndFlaggedAt, EndsByTakeAt}
 use Rattle.store_laws.specs.Verdict.{AreAllClear, IsFirstUnclear, IsClearVerdict, AreSites}
 use Rattle.store_laws.proofs.AllLaws.{clear_verdicts_are_one}
 use Rattle.store_clear.specs.Settling.{ask_at, passes, ArePassing, IsFirstAt, IsTold, IsWordOf, AreWordsMarked, places_of}
+use Rattle.store_clear.specs.Causing.{AreSitesTold}
 use Rattle.store_clear.proofs.Askings.{key_is}
 use Rattle.store_clear.proofs.Marked.{placed, placing, ascending}
 
@@ -146,23 +147,18 @@ none_where_clear words A c (pc ∷ sites) are all =
     absurd (m.unclear (subst (λ (nodes : List Node). (n : Node) → Contains nodes n → IsClear words A (family_of c nodes) n) same all.clear m.node m.present))
 
 -- where all are read behind references
-module _ (words : List ℕ) (A : List Entry) (c : Claim) (nodes : List Node) (asks given : List Asks) (old first new last : List Bool) (many : ℕ) (sites : List ℕ) (same : given ≡ asks)
-    (is : IsTold words A c nodes asks) (none : old ≡ replicate many false) (begins : first ≡ old) (marked : AreWordsMarked nodes given (length given) first new) (ends : last ≡ new)
-    (are : sites ≡ places_of last) where
-  told_given : IsTold words A c nodes given
-  told_given = subst (IsTold words A c nodes) (sym same) is
+pub sites_told : (nodes : List Node) (asks : List Asks) (old first new last : List Bool) (many : ℕ) (sites : List ℕ) → old ≡ replicate many false → first ≡ old
+    → AreWordsMarked nodes asks (length asks) first new → last ≡ new → sites ≡ places_of last → AreSitesTold nodes asks sites
+sites_told nodes asks old first new last many sites none begins marked ends are words A c told = (
+  sites_given,
+  (λ e. clear_where_none words A c nodes asks told first new many (begins ∙ none) marked (sym places_are ∙ e), λ all. none_where_clear words A c sites sites_given all),
+)
+  where
+    places_are : sites ≡ places_of new
+    places_are = are ∙ ap places_of ends
 
-  places_are : sites ≡ places_of new
-  places_are = are ∙ ap places_of ends
-
-  pub sites_given : AreSites words A c sites
-  sites_given = subst (AreSites words A c) (sym places_are) (are_sites words A c nodes given told_given first new many (begins ∙ none) marked)
-
-  pub clear_given : (sites ≡ []) ↔ AreAllClear words A c
-  clear_given = (
-    λ e. clear_where_none words A c nodes given told_given first new many (begins ∙ none) marked (sym places_are ∙ e),
-    λ all. none_where_clear words A c sites sites_given all,
-  )
+    sites_given : AreSites words A c sites
+    sites_given = subst (AreSites words A c) (sym places_are) (are_sites words A c nodes asks told first new many (begins ∙ none) marked)
 
 pub never_flagged : (words : List ℕ) (A : List Entry) (sites : List ℕ) → EndFlaggedAt words A sites [] → sites ≡ [] → NeverFlagged words A
 never_flagged words A sites law e m choices flag reset run ends =

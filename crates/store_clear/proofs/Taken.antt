@@ -1,10 +1,10 @@
 -- Words of vectors, as they are marked.
 use Rattle.std.proofs.Common.{◌≡◌, refl, sym, ap, ◌∙◌, subst, ℕ, ◌+◌, ◌<◌, ◌≤◌, ◌⊎◌, inl, inr, ⊎_elim, ◌&&◌, Bool, true, false, not, List, length, set, replicate, get_or-set_other, get_or-set_same, Some, slice_get, Contains, arith}
-use Rattle.std.specs.Prelude.{if◌then◌else◌}
 use Rattle.std.proofs.lemmas.Bool.{cases_eq, and_parts, and_from, not-true}
 use Rattle.std.proofs.lemmas.Bool.Decides.{nat_tests}
 use Rattle.std.proofs.lemmas.List.{length-set}
 use Rattle.std.proofs.lemmas.Option.{slice_get_within}
+use Rattle.basics.specs.Booleans.{never_both}
 use Rattle.basics.specs.Items.{place_of_contained, contained_at}
 use Rattle.basics.specs.Lists.{one_at}
 use Rattle.basics.specs.Numbers.{before_or_last}
@@ -23,7 +23,7 @@ use Rattle.clear_laws.specs.Clear.{MayBeTaken}
 use Rattle.slot_reach.specs.Reach.{is_on}
 use Rattle.store_laws.specs.Verdict.{AreNevers}
 use Rattle.store_clear.specs.Settling.{places_of}
-use Rattle.store_clear.specs.Takes.{IsMarked, is_take, taken_by, IsTakenBelow, IsTakenFrom, IsTakenAt}
+use Rattle.store_clear.specs.Takes.{IsMarked, is_take, IsTakenBelow, may_take, IsTakenFrom, IsTakenAt}
 use Rattle.store_clear.proofs.Marked.{placed, placing, ascending}
 
 -- ---- marks
@@ -67,16 +67,6 @@ module _ (words : List ℕ) (A : List Entry) (k : NodeKey) where
   abbrev This : ℕ → ℕ → Type 0
   This v w = (is_take words A k v ≡ true) × (vector_word (device_of words) v ≡ w)
 
-  vector_marked : (v : ℕ) (old new : List Bool) → v ≤ 26 → length old ≡ WORDS → new ≡ taken_by words A k v old → IsMarked (This v) old new
-  vector_marked v old new le all is = subst (IsMarked (This v) old) (sym is) (by (is_take words A k v) refl)
-    where
-      lt : vector_word (device_of words) v < length old
-      lt = let inside = vector_small (device_of words) v le in omega (arith, inside, all)
-
-      by : (b : Bool) → is_take words A k v ≡ b → IsMarked (This v) old (if b then set old (vector_word (device_of words) v) true else old)
-      by true e = marks_as (λ w. w ≡ vector_word (device_of words) v) (This v) old _ (λ w same. (e, sym same)) (λ w t. sym t.1) (marks_one (vector_word (device_of words) v) old lt)
-      by false e = marks_none (This v) old (λ w t. let no : false ≡ true = sym e ∙ t.0 in cc)
-
   pub vectors_none : (marks : List Bool) → IsMarked (IsTakenBelow words A k 0) marks marks
   vectors_none marks = marks_none (IsTakenBelow words A k 0) marks (λ w t. two_or_more t.vector (let lt = t.below in omega (arith, lt)) t.take)
     where
@@ -89,16 +79,27 @@ module _ (words : List ℕ) (A : List Entry) (k : NodeKey) where
           low : is_enabled k.masks v ≡ false → is_take words A k v ≡ true → ⊥
           low off on = let both : (false && is_never A (vector_word (device_of words) v)) ≡ true = subst (λ (b : Bool). (b && is_never A (vector_word (device_of words) v)) ≡ true) off on in cc
 
-  pub vectors_more : (n : ℕ) (old mid new : List Bool) → n + 2 ≤ 26 → length mid ≡ WORDS → IsMarked (IsTakenBelow words A k n) old mid → new ≡ taken_by words A k (n + 2) mid
-      → IsMarked (IsTakenBelow words A k (n + 1)) old new
-  vectors_more n old mid new le all so is =
-      marks_both (IsTakenBelow words A k n) (This (n + 2)) (IsTakenBelow words A k (n + 1)) old mid new
-      (λ w t. record { vector = t.vector; below = let lt = t.below in omega (arith, lt); take = t.take; is = t.is })
-      (λ w t. record { vector = n + 2; below = omega arith; take = t.0; is = t.1 })
-      (λ w t. ⊎_elim (λ lt. inl (record { vector = t.vector; below = lt; take = t.take; is = t.is }))
-      (λ e. inr (subst (λ v. is_take words A k v ≡ true) e t.take, subst (λ v. vector_word (device_of words) v ≡ w) e t.is))
-      (before_or_last t.vector (n + 2) (let lt = t.below in omega (arith, lt))))
-      so (vector_marked (n + 2) mid new le all is)
+  module _ (n : ℕ) (old mid : List Bool) (le : n + 2 ≤ 26) (so : IsMarked (IsTakenBelow words A k n) old mid) where
+    with_it : (new : List Bool) → IsMarked (This (n + 2)) mid new → IsMarked (IsTakenBelow words A k (n + 1)) old new
+    with_it new one =
+        marks_both (IsTakenBelow words A k n) (This (n + 2)) (IsTakenBelow words A k (n + 1)) old mid new
+        (λ w t. record { vector = t.vector; below = let lt = t.below in omega (arith, lt); take = t.take; is = t.is })
+        (λ w t. record { vector = n + 2; below = omega arith; take = t.0; is = t.1 })
+        (λ w t. ⊎_elim (λ lt. inl (record { vector = t.vector; below = lt; take = t.take; is = t.is }))
+        (λ e. inr (subst (λ v. is_take words A k v ≡ true) e t.take, subst (λ v. vector_word (device_of words) v ≡ w) e t.is))
+        (before_or_last t.vector (n + 2) (let lt = t.below in omega (arith, lt))))
+        so one
+
+    abbrev word : ℕ
+    word = vector_word (device_of words) (n + 2)
+
+    pub vectors_more : length mid ≡ WORDS → is_take words A k (n + 2) ≡ true → IsMarked (IsTakenBelow words A k (n + 1)) old (set mid word true)
+    vectors_more all e =
+        let lt : word < length mid = let inside = vector_small (device_of words) (n + 2) le in omega (arith, inside, all) in
+        with_it (set mid word true) (marks_as (λ w. w ≡ word) (This (n + 2)) mid _ (λ w same. (e, sym same)) (λ w t. sym t.1) (marks_one word mid lt))
+
+    pub vectors_same : is_take words A k (n + 2) ≡ false → IsMarked (IsTakenBelow words A k (n + 1)) old mid
+    vectors_same e = with_it mid (marks_none (This (n + 2)) mid (λ w t. never_both (is_take words A k (n + 2)) t.0 e))
 
 -- ---- all nodes
 
@@ -106,7 +107,7 @@ module _ (words : List ℕ) (A : List Entry) (nodes : List Node) where
   pub takes_none : (marks : List Bool) → IsMarked (IsTakenAt words A nodes 0) marks marks
   takes_none marks = marks_none (IsTakenAt words A nodes 0) marks (λ w t. let lt = t.below in omega (arith, lt))
 
-  pub takes_more : (at : ℕ) (n : Node) (k : NodeKey) (old mid new : List Bool) → slice_get nodes at ≡ Some n → n.key ≡ k → IsMarked (IsTakenAt words A nodes at) old mid
+  takes_more : (at : ℕ) (n : Node) (k : NodeKey) (old mid new : List Bool) → slice_get nodes at ≡ Some n → n.key ≡ k → IsMarked (IsTakenAt words A nodes at) old mid
       → IsMarked (IsTakenFrom words A k) mid new → IsMarked (IsTakenAt words A nodes (at + 1)) old new
   takes_more at n k old mid new is key so one =
       marks_both (IsTakenAt words A nodes at) (IsTakenFrom words A k) (IsTakenAt words A nodes (at + 1)) old mid new
@@ -121,6 +122,14 @@ module _ (words : List ℕ) (A : List Entry) (nodes : List Node) where
           let same : t.node ≡ n = one_at nodes at t.node n (subst (λ i. slice_get nodes i ≡ Some t.node) e t.is) is in
           inr (subst (λ (x : NodeKey). IsTakenFrom words A x w) (ap (λ (x : Node). x.key) same ∙ key) t.taken))
           (before_or_last t.at at t.below)
+
+  module _ (at : ℕ) (n : Node) (k : NodeKey) (old mid : List Bool) (is : slice_get nodes at ≡ Some n) (key : n.key ≡ k) (so : IsMarked (IsTakenAt words A nodes at) old mid) where
+    pub takes_marked : (new : List Bool) → may_take k ≡ true → IsMarked (IsTakenBelow words A k 25) mid new → IsMarked (IsTakenAt words A nodes (at + 1)) old new
+    takes_marked new e one =
+        takes_more at n k old mid new is key so (marks_as (IsTakenBelow words A k 25) (IsTakenFrom words A k) mid new (λ w t. (e, t)) (λ w t. t.1) one)
+
+    pub takes_same : may_take k ≡ false → IsMarked (IsTakenAt words A nodes (at + 1)) old mid
+    takes_same e = takes_more at n k old mid mid is key so (marks_none (IsTakenFrom words A k) mid (λ w t. never_both (may_take k) t.0 e))
 
 -- ---- the list
 

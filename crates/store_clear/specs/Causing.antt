@@ -1,5 +1,5 @@
 -- What may happen at a word, node by node. Words of the inner contracts.
-use Rattle.std.specs.Prelude.{ℕ, ◌≡◌, ◌<◌, ◌==◌, ◌&&◌, ◌↔◌, Bool, true, not, if◌then◌else◌, List, [], map, Some, Contains, slice_get, slice_set}
+use Rattle.std.specs.Prelude.{ℕ, ◌≡◌, ◌<◌, ◌==◌, ◌&&◌, ◌↔◌, Bool, true, not, List, [], map, Some, Contains, slice_get}
 use Rattle.avr_model.specs.declared.assumption.Entry.{Entry}
 use Rattle.avr_model.specs.declared.instruction.Instr.{Instr}
 use Rattle.abs_state.specs.declared.state.AbsState.{AbsState}
@@ -16,11 +16,7 @@ use Rattle.store_clear.specs.Settling.{ask_at, passes, IsTold}
 
 -- ---- addresses
 
--- the address is marked, if it is one that a store may write and that is flagged as protected
-abbrev pub protected_by : List ℕ → List Entry → ℕ → AbsState → Instr → ℕ → List Bool → List Bool
-protected_by words A pc s instr a marks = if may_write_protected words A pc s instr a then slice_set marks a true else marks
-
--- it is such an address, below this one
+-- a store may write this address, which is flagged as protected, and it is below the other
 abbrev pub IsProtectedBelow : List ℕ → List Entry → ℕ → AbsState → Instr → ℕ → ℕ → Type 0
 IsProtectedBelow words A pc s instr count a = (a < count) × (may_write_protected words A pc s instr a ≡ true)
 
@@ -29,13 +25,6 @@ IsProtectedBelow words A pc s instr count a = (a < count) × (may_write_protecte
 -- a node with this key still asks this, and lies at the word
 abbrev pub is_unclear_at : ℕ → NodeKey → Asks → Bool
 is_unclear_at pc k asks = not (passes asks) && (k.pc == pc)
-
--- and its state is such that a store may write this address
-abbrev pub IsProtectedFrom : List ℕ → List Entry → ℕ → NodeKey → AbsState → Asks → Instr → ℕ → Type 0
-IsProtectedFrom words A pc k s asks instr a = (is_unclear_at pc k asks ≡ true) × IsProtectedBelow words A pc s instr 256 a
-
-abbrev pub is_live_from : List ℕ → List Entry → ℕ → ℕ → NodeKey → AbsState → Asks → Instr → Bool
-is_live_from words A bound pc k s asks instr = is_unclear_at pc k asks && may_write_live words A bound pc s instr
 
 -- one of the first nodes still asks something, lies at the word, and passes a test
 pub record PassesBelow (nodes : List Node) (asks : List Asks) (pc : ℕ) (test : AbsState → Bool) (count : ℕ) : Type 0 where

@@ -1,35 +1,25 @@
 -- What nodes still ask, slot by slot, and the words of those that ask something. Words of the inner contracts.
-use Rattle.std.specs.Prelude.{ℕ, ◌+◌, ◌≡◌, ◌<◌, ◌≤◌, ◌↔◌, ◌⊎◌, ⊤, ◌==◌, Bool, true, false, if◌then◌else◌, List, [], ◌∷◌, length, Option, Some, None, Contains, slice_get, slice_set, slice_index_or}
+use Rattle.std.specs.Prelude.{ℕ, ◌+◌, ◌≡◌, ◌<◌, ◌≤◌, ◌↔◌, ◌⊎◌, ⊤, ◌==◌, Bool, true, false, not, if◌then◌else◌, List, [], ◌∷◌, length, Option, Some, None, Contains, slice_get, slice_index_or}
 use Rattle.std.specs.List.{flat_map}
 use Rattle.avr_model.specs.declared.assumption.Entry.{Entry}
 use Rattle.mask_states.specs.declared.keys.EdgeKind.{EdgeKind}
 use Rattle.mask_states.specs.declared.keys.EdgeKind.TheVariants as kind
-use Rattle.mask_states.specs.declared.keys.NodeKey.{NodeKey}
-use Rattle.mask_states.specs.Keys.{offset_of}
 use Rattle.local_rules.specs.declared.local.Node.{Node}
-use Rattle.edge_rules.specs.declared.edge.Edge.{Edge}
-use Rattle.edge_rules.specs.Edges.{IsEdge}
+use Rattle.edge_rules.specs.Edges.{is_entry}
 use Rattle.edge_rules.specs.Expansion.{IsFilled}
-use Rattle.edge_rules.specs.Views.{place_of}
+use Rattle.call_graph.specs.declared.landing.Landing.{Landing}
 use Rattle.certificate.specs.Claims.{Claim}
 use Rattle.certificate.specs.Valid.{family_of}
 use Rattle.clear_laws.specs.Clear.{IsClear, is_clear}
-use Rattle.clear_laws.specs.Held.{is_guarded_push}
 use Rattle.slot_reach.specs.declared.reach.Seed.{Seed}
-use Rattle.slot_reach.specs.Reach.{links_of, is_on, Reaches, AreInside}
+use Rattle.slot_reach.specs.Reach.{is_on, Reaches, AreInside}
 use Rattle.store_aims.specs.declared.need.Asks.{Asks}
 use Rattle.store_aims.specs.declared.need.Asks.TheVariants.{Nothing, Free, Never}
 use Rattle.store_aims.specs.Needs.{meets}
-use Rattle.store_laws.specs.Links.{AreLinks, IsTarget, SeedComes}
+use Rattle.store_laws.specs.Links.{AreLinks, SeedComes}
 use Rattle.store_laws.specs.Meets.{Meets}
 
 -- ---- along which edges slots spread
-
-abbrev pub stays : EdgeKind → Bool
-stays kind.Local = true
-stays kind.Call = false
-stays (kind.Interrupt v clears) = false
-stays kind.Return = true
 
 abbrev pub is_local : EdgeKind → Bool
 is_local kind.Local = true
@@ -37,45 +27,34 @@ is_local kind.Call = false
 is_local (kind.Interrupt v clears) = false
 is_local kind.Return = false
 
-abbrev pub listed : Option ℕ → List ℕ
-listed None = []
-listed (Some n) = n ∷ []
-
-abbrev pub seeded : ℕ → Option ℕ → List Seed
-seeded slot None = []
-seeded slot (Some n) = record { node = n; slot = slot } ∷ []
-
--- the node to which an edge leads, if it stays in its frame
-abbrev pub link_of : List Node → Edge → List ℕ
-link_of nodes e = if stays e.kind then listed (place_of e.to nodes) else []
+-- the node where an edge lands so, if it stays in its frame
+abbrev pub link_of : Landing → List ℕ
+link_of l = if not (is_entry l.kind) then l.at ∷ [] else []
 
 -- that node with this slot, if the edge is local
-abbrev pub seed_of : List Node → ℕ → Edge → List Seed
-seed_of nodes slot e = if is_local e.kind then seeded slot (place_of e.to nodes) else []
+abbrev pub seed_of : ℕ → Landing → List Seed
+seed_of slot l = if is_local l.kind then record { node = l.at; slot = slot } ∷ [] else []
 
--- by these edges
-abbrev pub links_by : List Node → List Edge → List ℕ
-links_by nodes edges = flat_map (link_of nodes) edges
+-- of edges that land so
+abbrev pub links_by : List Landing → List ℕ
+links_by landings = flat_map link_of landings
 
-abbrev pub seeds_by : List Node → ℕ → List Edge → List Seed
-seeds_by nodes slot edges = flat_map (seed_of nodes slot) edges
-
--- by these edges of a node with this key, where a guarded byte is pushed
-abbrev pub pushed_by : List ℕ → List Node → NodeKey → List Edge → List Seed
-pushed_by words nodes k edges = if is_guarded_push words k.pc then seeds_by nodes (offset_of k.sp) edges else []
+abbrev pub seeds_by : ℕ → List Landing → List Seed
+seeds_by slot landings = flat_map (seed_of slot) landings
 
 -- one of the first nodes adds a slot by a guarded push
 abbrev pub SeedComesBelow : List ℕ → List Entry → List Node → ℕ → Seed → Type 0
 SeedComesBelow words A nodes count s = (c : SeedComes words A nodes s) × (c.at < count)
 
--- the links and the seeds of the first nodes
-pub record AreLinksTo (words : List ℕ) (A : List Entry) (nodes : List Node) (count : ℕ) (links : List (List ℕ)) (seeds : List Seed) : Type 0 where
-  pub count_is : length links ≡ count
-  pub link : (at : ℕ) (n : Node) (t : ℕ) → at < count → slice_get nodes at ≡ Some n
-      → Contains (links_of links at) t ↔ ((e : Edge) × (IsEdge words A nodes n e × IsTarget nodes e t))
-  pub seed : (s : Seed) → Contains seeds s ↔ SeedComesBelow words A nodes count s
+-- the seeds of the first nodes
+abbrev pub AreSeedsTo : List ℕ → List Entry → List Node → ℕ → List Seed → Type 0
+AreSeedsTo words A nodes count seeds = (s : Seed) → Contains seeds s ↔ SeedComesBelow words A nodes count s
 
--- those of all nodes, which lead to nodes
+-- the seeds of all nodes
+abbrev pub AreSeeds : List ℕ → List Entry → List Node → List Seed → Type 0
+AreSeeds words A nodes seeds = AreSeedsTo words A nodes (length nodes) seeds
+
+-- links and seeds of all nodes, which lead to nodes
 pub record SpreadsAlong (words : List ℕ) (A : List Entry) (nodes : List Node) (links : List (List ℕ)) (offsets : List ℕ) (seeds : List Seed) : Type 0 where
   pub are : AreLinks words A nodes links offsets seeds
   pub inside : AreInside links offsets seeds
@@ -122,13 +101,6 @@ pub record IsSettled (links : List (List ℕ)) (offsets : List ℕ) (seeds : Lis
   pub met : (i : ℕ) → IsMet links offsets seeds i (ask_at new i) ↔ IsMet links offsets seeds i (ask_at old i)
   pub kept : (i : ℕ) → IsDone (ask_at old i) → IsDone (ask_at new i)
   pub done : (i : ℕ) → ask_at old i ≡ Free slot → IsDone (ask_at new i)
-
--- the same for the slot for which the node of this number asks, if it asks for one
-pub record IsSettledAt (links : List (List ℕ)) (offsets : List ℕ) (seeds : List Seed) (at : ℕ) (old new : List Asks) : Type 0 where
-  pub same : length new ≡ length old
-  pub met : (i : ℕ) → IsMet links offsets seeds i (ask_at new i) ↔ IsMet links offsets seeds i (ask_at old i)
-  pub kept : (i : ℕ) → IsDone (ask_at old i) → IsDone (ask_at new i)
-  pub done : IsDone (ask_at new at)
 
 -- the same for all slots for which one of the first nodes asks
 pub record AreSettled (links : List (List ℕ)) (offsets : List ℕ) (seeds : List Seed) (count : ℕ) (old new : List Asks) : Type 0 where
@@ -177,10 +149,6 @@ pub record IsWordOf (nodes : List Node) (asks : List Asks) (count pc : ℕ) : Ty
   pub is : slice_get nodes at ≡ Some node
   pub fails : passes (ask_at asks at) ≡ false
   pub word : node.key.pc ≡ pc
-
--- the word is marked, where this is still asked
-abbrev pub marked_by : ℕ → Asks → List Bool → List Bool
-marked_by word asks marks = if passes asks then marks else slice_set marks word true
 
 -- beside what was marked these are
 pub record AreWordsMarked (nodes : List Node) (asks : List Asks) (count : ℕ) (old new : List Bool) : Type 0 where

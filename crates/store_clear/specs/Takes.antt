@@ -1,5 +1,5 @@
 -- The words of vectors that are assumed never to be taken, as they are marked. Words of the inner contracts.
-use Rattle.std.specs.Prelude.{ℕ, ◌+◌, ◌≡◌, ◌<◌, ◌↔◌, ◌⊎◌, ◌&&◌, Bool, true, not, if◌then◌else◌, List, length, Some, slice_get, slice_set}
+use Rattle.std.specs.Prelude.{ℕ, ◌+◌, ◌≡◌, ◌<◌, ◌↔◌, ◌⊎◌, ◌&&◌, Bool, true, not, List, length, Some, slice_get}
 use Rattle.avr_model.specs.declared.assumption.Entry.{Entry}
 use Rattle.avr_model.specs.Assumptions.{is_never}
 use Rattle.avr_model.specs.Devices.{device_of}
@@ -16,9 +16,6 @@ pub record IsMarked (P : ℕ → Type 0) (old new : List Bool) : Type 0 where
 -- the vector is enabled, and its word has a `never` line
 abbrev pub is_take : List ℕ → List Entry → NodeKey → ℕ → Bool
 is_take words A k v = is_enabled k.masks v && is_never A (vector_word (device_of words) v)
-
-abbrev pub taken_by : List ℕ → List Entry → NodeKey → ℕ → List Bool → List Bool
-taken_by words A k v marks = if is_take words A k v then slice_set marks (vector_word (device_of words) v) true else marks
 
 -- one of so many vectors, from 2 on, is such a one, and this is its word
 pub record IsTakenBelow (words : List ℕ) (A : List Entry) (k : NodeKey) (count word : ℕ) : Type 0 where

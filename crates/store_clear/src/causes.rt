@@ -1,63 +1,51 @@
 //! What may happen at each word at which a step may be flagged.
 
-ghost use Rattle.std.specs.Prelude.{ℕ, ◌≡◌, ◌<◌, ◌≤◌, ◌↔◌, true, length, Contains, IfOk};
+ghost use Rattle.std.specs.Prelude.{ℕ, ◌≡◌, ◌≤◌, ◌↔◌, true, length, Contains, IfOk};
 ghost use Rattle.std.specs.List.Sorted.{IsStrictlySortedBy};
 ghost use Rattle.std.specs.Ordering.{nat_cmp};
 ghost use Rattle.avr_model.specs.Devices.{device_of, size_of};
-ghost use Rattle.avr_model.specs.declared.instruction.Instr.{Instr};
 ghost use Rattle.certificate.specs.Valid.{family_of};
 ghost use Rattle.clear_laws.specs.Clear.{MayBeFlagged};
 ghost use Rattle.store_laws.specs.Places.{IsPlaceOf};
 ghost use Rattle.store_clear.specs.Settling.{IsTold};
 ghost use Rattle.store_clear.specs.Takes.{IsMarked};
-ghost use Rattle.store_clear.specs.Causing.{protected_by, IsProtectedBelow, is_unclear_at, IsProtectedFrom, is_live_from, IsProtectedAt, IsLiveAt, ArePlacesOf};
+ghost use Rattle.store_clear.specs.Causing.{IsProtectedBelow, is_unclear_at, IsProtectedAt, IsLiveAt, ArePlacesOf};
 
 use crate::telling::{Told, passes};
 use crate::words::places;
 use abs_state::AbsState;
 use avr_model::instruction::Instr;
 use avr_model::listed::Listed;
-use call_graph::{Filled, View};
+use call_graph::Task;
 use certificate::Certificate;
-use flash_image::Flash;
 use mask_states::NodeKey;
-use std::alloc::{AllocError, Global};
+use std::alloc::AllocError;
 use store_aims::{Asks, is_indirect, may_write_live, may_write_protected};
 use store_laws::FlaggedPlace;
-use vector_table::Assumptions;
 
-// Marks an address, if a store at this word may write it and it is flagged as protected.
-fn mark_address(
-    flash: &Flash,
-    assumptions: &Assumptions,
+/// A word with its instruction.
+#[derive(Clone, Copy)]
+struct Site<'a> {
     pc: u16,
-    state: &AbsState,
-    instr: &Instr,
-    address: u16,
-    marks: &mut [bool],
-)
-    requires { address < length marks.old }
-    ensures { marks.new ≡ protected_by flash.now assumptions.now pc state.now instr.now address marks.old }
-{
-    if may_write_protected(flash, assumptions, pc, state, instr, address) {
-        marks[usize::from(address)] = true;
-    }
+    instr: &'a Instr,
 }
 
-// Marks all such addresses.
-fn mark_addresses(
-    flash: &Flash,
-    assumptions: &Assumptions,
-    pc: u16,
-    state: &AbsState,
-    instr: &Instr,
-    marks: &mut [bool],
-)
+// Marks the addresses that a store there may write and that are flagged as protected.
+fn mark_addresses(task: &Task<'_>, site: &Site<'_>, state: &AbsState, marks: &mut [bool])
     requires { length marks.old ≡ 256 }
-    ensures { IsMarked (IsProtectedBelow flash.now assumptions.now pc state.now instr.now 256) marks.old marks.new }
+    ensures { IsMarked (IsProtectedBelow task.now.flash.now task.now.assumptions.now site.now.pc state.now site.now.instr.now 256) marks.old marks.new }
 {
     for address in 0..256u16 {
-        mark_address(flash, assumptions, pc, state, instr, address, marks);
+        if may_write_protected(
+            task.flash,
+            task.assumptions,
+            site.pc,
+            state,
+            site.instr,
+            address,
+        ) {
+            marks[usize::from(address)] = true;
+        }
     }
 }
 
@@ -68,109 +56,54 @@ fn is_unclear_at(pc: u16, key: &NodeKey, asks: Asks) -> bool
     !passes(asks) && key.pc == pc
 }
 
-// Marks such addresses of a node, if it is such a one.
-fn mark_node(
-    flash: &Flash,
-    assumptions: &Assumptions,
-    pc: u16,
-    key: &NodeKey,
-    state: &AbsState,
-    asks: Asks,
-    instr: &Instr,
-    marks: &mut [bool],
-)
-    requires { length marks.old ≡ 256 }
-    ensures { IsMarked (IsProtectedFrom flash.now assumptions.now pc key.now state.now asks instr.now) marks.old marks.new }
-{
-    if !is_unclear_at(pc, key, asks) {
-        return;
-    }
-    mark_addresses(flash, assumptions, pc, state, instr, marks);
-}
-
-// Marks those of all nodes.
-fn mark_nodes(
-    flash: &Flash,
-    assumptions: &Assumptions,
-    pc: u16,
-    nodes: &Filled,
-    asks: &[Asks],
-    instr: &Instr,
-    marks: &mut [bool],
-)
-    requires same { length asks.now ≡ length nodes.now }
+// Marks such addresses of all nodes there that aren't clear.
+fn mark_nodes(task: &Task<'_>, told: &Told<'_>, site: &Site<'_>, marks: &mut [bool])
+    requires same { length told.now.asks.now ≡ length told.now.nodes.now }
     requires all { length marks.old ≡ 256 }
-    ensures { IsMarked (IsProtectedAt flash.now assumptions.now nodes.now asks.now pc instr.now (length asks.now)) marks.old marks.new }
+    ensures { IsMarked (IsProtectedAt task.now.flash.now task.now.assumptions.now told.now.nodes.now told.now.asks.now site.now.pc site.now.instr.now (length told.now.asks.now)) marks.old marks.new }
 {
-    let _count = nodes.count();
-    for at in 0..asks.len() {
-        let (key, state) = (nodes.key(at), nodes.state(at));
-        mark_node(flash, assumptions, pc, key, state, asks[at], instr, marks);
+    let _count = told.nodes.count();
+    for at in 0..told.asks.len() {
+        if is_unclear_at(site.pc, told.nodes.key(at), told.asks[at]) {
+            mark_addresses(task, site, told.nodes.state(at), marks);
+        }
     }
 }
 
-// The protected addresses that a store at this word may write at some node that isn't clear, ascending.
+// The protected addresses that a store there may write at some node that isn't clear, ascending.
 fn protected_of(
-    alloc: Global,
-    flash: &Flash,
-    assumptions: &Assumptions,
-    pc: u16,
-    told: &Told,
-    instr: &Instr,
+    task: &Task<'_>,
+    told: &Told<'_>,
+    site: &Site<'_>,
 ) -> Result<Listed<u16>, AllocError>
-    requires { length told.now.asks.items ≡ length told.now.nodes }
-    ensures exact { IfOk result (λ list. (a : ℕ) → Contains list a ↔ IsProtectedAt flash.now assumptions.now told.now.nodes told.now.asks.items pc instr.now (length told.now.asks.items) a) }
+    requires { length told.now.asks.now ≡ length told.now.nodes.now }
+    ensures exact { IfOk result (λ list. (a : ℕ) → Contains list a ↔ IsProtectedAt task.now.flash.now task.now.assumptions.now told.now.nodes.now told.now.asks.now site.now.pc site.now.instr.now (length told.now.asks.now) a) }
     ensures ascending { IfOk result (λ list. IsStrictlySortedBy nat_cmp list) }
 {
-    let mut marks = vec![in alloc; false; 256]?;
-    mark_nodes(
-        flash,
-        assumptions,
-        pc,
-        &told.nodes,
-        &told.asks,
-        instr,
-        marks.as_mut_slice(),
-    );
-    let list = places(alloc, &marks)?;
-    Ok(list)
+    let mut marks = vec![in task.alloc; false; 256]?;
+    mark_nodes(task, told, site, marks.as_mut_slice());
+    places(task.alloc, &marks)
 }
 
-// Whether a node that still asks this isn't clear, lies at this word, and its store may write a byte that was pushed.
-fn is_live_from(
-    flash: &Flash,
-    assumptions: &Assumptions,
-    bound: u16,
-    pc: u16,
-    key: &NodeKey,
-    state: &AbsState,
-    asks: Asks,
-    instr: &Instr,
-) -> bool
-    requires { bound ≤ size_of (device_of flash.now) }
-    ensures { result ≡ is_live_from flash.now assumptions.now bound pc key.now state.now asks instr.now }
+// Whether a store there may write a byte that was pushed at some node that isn't clear.
+fn is_live_at(task: &Task<'_>, bound: u16, told: &Told<'_>, site: &Site<'_>) -> bool
+    requires same { length told.now.asks.now ≡ length told.now.nodes.now }
+    requires small { bound ≤ size_of (device_of task.now.flash.now) }
+    ensures { (result ≡ true) ↔ IsLiveAt task.now.flash.now task.now.assumptions.now bound told.now.nodes.now told.now.asks.now site.now.pc site.now.instr.now (length told.now.asks.now) }
 {
-    is_unclear_at(pc, key, asks) && may_write_live(flash, assumptions, bound, pc, state, instr)
-}
-
-// Whether that holds of some node.
-fn is_live_at(
-    flash: &Flash,
-    assumptions: &Assumptions,
-    bound: u16,
-    pc: u16,
-    nodes: &Filled,
-    asks: &[Asks],
-    instr: &Instr,
-) -> bool
-    requires same { length asks.now ≡ length nodes.now }
-    requires small { bound ≤ size_of (device_of flash.now) }
-    ensures { (result ≡ true) ↔ IsLiveAt flash.now assumptions.now bound nodes.now asks.now pc instr.now (length asks.now) }
-{
-    let _count = nodes.count();
-    for at in 0..asks.len() {
-        let (key, state) = (nodes.key(at), nodes.state(at));
-        if is_live_from(flash, assumptions, bound, pc, key, state, asks[at], instr) {
+    let _count = told.nodes.count();
+    for at in 0..told.asks.len() {
+        let (key, state) = (told.nodes.key(at), told.nodes.state(at));
+        if is_unclear_at(site.pc, key, told.asks[at])
+            && may_write_live(
+                task.flash,
+                task.assumptions,
+                bound,
+                site.pc,
+                state,
+                site.instr,
+            )
+        {
             return true;
         }
     }
@@ -179,44 +112,32 @@ fn is_live_at(
 
 // What may happen at a word at which some node isn't clear.
 fn place_of(
-    alloc: Global,
-    flash: &Flash,
-    assumptions: &Assumptions,
+    task: &Task<'_>,
     certificate: &Certificate,
-    told: &Told,
+    told: &Told<'_>,
     pc: u16,
 ) -> Result<FlaggedPlace, AllocError>
-    requires small { certificate.now.bound ≤ size_of (device_of flash.now) }
-    requires told { IsTold flash.now assumptions.now certificate.now told.now.nodes told.now.asks.items }
-    requires site { MayBeFlagged flash.now assumptions.now (family_of certificate.now told.now.nodes) pc }
+    requires small { certificate.now.bound ≤ size_of (device_of task.now.flash.now) }
+    requires told { IsTold task.now.flash.now task.now.assumptions.now certificate.now told.now.nodes.now told.now.asks.now }
+    requires site { MayBeFlagged task.now.flash.now task.now.assumptions.now (family_of certificate.now told.now.nodes.now) pc }
     ensures word { IfOk result (λ place. place.word ≡ pc) }
-    ensures exact { IfOk result (λ place. IsPlaceOf flash.now assumptions.now (family_of certificate.now told.now.nodes) place) }
+    ensures exact { IfOk result (λ place. IsPlaceOf task.now.flash.now task.now.assumptions.now (family_of certificate.now told.now.nodes.now) place) }
 {
-    let bound = certificate.bound();
-    match flash.instruction(pc) {
+    match task.flash.instruction(pc) {
         None => Ok(FlaggedPlace {
             word: pc,
-            protected: Listed::empty(alloc),
+            protected: Listed::empty(task.alloc),
             live: false,
             transfer: false,
         }),
         Some(instr) => {
-            let protected = protected_of(alloc, flash, assumptions, pc, told, &instr)?;
-            let live = is_live_at(
-                flash,
-                assumptions,
-                bound,
-                pc,
-                &told.nodes,
-                &told.asks,
-                &instr,
-            );
-            let transfer = is_indirect(&instr);
+            let site = Site { pc, instr: &instr };
+            let protected = protected_of(task, told, &site)?;
             Ok(FlaggedPlace {
                 word: pc,
                 protected,
-                live,
-                transfer,
+                live: is_live_at(task, certificate.bound(), told, &site),
+                transfer: is_indirect(&instr),
             })
         }
     }
@@ -224,21 +145,19 @@ fn place_of(
 
 /// What may happen at each of these words, at each of which some node isn't clear.
 pub(crate) fn places_at(
-    alloc: Global,
-    flash: &Flash,
-    assumptions: &Assumptions,
+    task: &Task<'_>,
     certificate: &Certificate,
-    told: &Told,
+    told: &Told<'_>,
     sites: &[u16],
 ) -> Result<Listed<FlaggedPlace>, AllocError>
-    requires small { certificate.now.bound ≤ size_of (device_of flash.now) }
-    requires told { IsTold flash.now assumptions.now certificate.now told.now.nodes told.now.asks.items }
-    requires sites { (pc : ℕ) → Contains sites.now pc → MayBeFlagged flash.now assumptions.now (family_of certificate.now told.now.nodes) pc }
-    ensures { IfOk result (λ list. ArePlacesOf flash.now assumptions.now (family_of certificate.now told.now.nodes) sites.now list) }
+    requires small { certificate.now.bound ≤ size_of (device_of task.now.flash.now) }
+    requires told { IsTold task.now.flash.now task.now.assumptions.now certificate.now told.now.nodes.now told.now.asks.now }
+    requires sites { (pc : ℕ) → Contains sites.now pc → MayBeFlagged task.now.flash.now task.now.assumptions.now (family_of certificate.now told.now.nodes.now) pc }
+    ensures { IfOk result (λ list. ArePlacesOf task.now.flash.now task.now.assumptions.now (family_of certificate.now told.now.nodes.now) sites.now list) }
 {
-    let mut list = Listed::empty(alloc);
+    let mut list = Listed::empty(task.alloc);
     for site in sites {
-        let place = place_of(alloc, flash, assumptions, certificate, told, *site)?;
+        let place = place_of(task, certificate, told, *site)?;
         list.push(place)?;
     }
     Ok(list)

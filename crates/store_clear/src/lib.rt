@@ -11,5 +11,8 @@ mod takes;
 mod telling;
 mod words;
 
-pub use clearing::{clear_sites, flagged_places, flagged_sites, never_takes};
+pub use clearing::{
+    clear_family, clear_sites, flagged_places, flagged_places_in, flagged_sites, flagged_sites_in,
+    never_takes, never_takes_in,
+};
 pub use store_laws::{ClearVerdict, FlaggedPlace};

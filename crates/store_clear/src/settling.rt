@@ -1,8 +1,8 @@
 //! Whether nodes get what they ask of their slots.
 
-ghost use Rattle.std.specs.Prelude.{◌≡◌, ◌<◌, length, OnOk};
+ghost use Rattle.std.specs.Prelude.{◌≡◌, length, OnOk};
 ghost use Rattle.slot_reach.specs.Reach.{AreInside};
-ghost use Rattle.store_clear.specs.Settling.{settled, AreMarkedOff, IsSettled, IsSettledAt, AreSettled};
+ghost use Rattle.store_clear.specs.Settling.{settled, AreMarkedOff, IsSettled, AreSettled};
 
 use crate::spreading::Frames;
 use slot_reach::reached;
@@ -47,19 +47,6 @@ fn settle_slot(
     Ok(())
 }
 
-// The same for the slot for which the node of this number asks, if it asks for one.
-fn settle_at(alloc: Global, frames: &Frames, asks: &mut [Asks], at: usize) -> Result<(), AllocError>
-    requires inside { AreInside frames.now.links frames.now.offsets frames.now.seeds }
-    requires same { length asks.old ≡ length frames.now.offsets }
-    requires place { at < length asks.old }
-    ensures { OnOk result (IsSettledAt frames.now.links frames.now.offsets frames.now.seeds at asks.old asks.new) }
-{
-    match asks[at] {
-        Asks::Free(slot) => settle_slot(alloc, frames, asks, slot),
-        _ => Ok(()),
-    }
-}
-
 /// Settles what all nodes ask: none asks for a slot any more. The marks of a slot are worked out once for all nodes that ask for it.
 pub(crate) fn settle(alloc: Global, frames: &Frames, asks: &mut [Asks]) -> Result<(), AllocError>
     requires inside { AreInside frames.now.links frames.now.offsets frames.now.seeds }
@@ -67,7 +54,9 @@ pub(crate) fn settle(alloc: Global, frames: &Frames, asks: &mut [Asks]) -> Resul
     ensures { OnOk result (AreSettled frames.now.links frames.now.offsets frames.now.seeds (length asks.old) asks.old asks.new) }
 {
     for at in 0..asks.len() {
-        settle_at(alloc, frames, asks, at)?;
+        if let Asks::Free(slot) = asks[at] {
+            settle_slot(alloc, frames, asks, slot)?;
+        }
     }
     Ok(())
 }

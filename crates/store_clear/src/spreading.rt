@@ -1,20 +1,19 @@
 //! Along which edges slots spread, by the numbers of nodes.
 
-ghost use Rattle.std.specs.Prelude.{◌≡◌, ◌++◌, ◌≤◌, length, IfOk, OnOk};
-ghost use Rattle.call_graph.specs.Exits.{AreExits};
+ghost use Rattle.std.specs.Prelude.{◌≡◌, ◌++◌, map, IfOk, OnOk};
+ghost use Rattle.call_graph.specs.Landings.{AreLandings};
 ghost use Rattle.clear_laws.specs.Held as held;
 ghost use Rattle.store_laws.specs.Links.{offsets_of};
-ghost use Rattle.store_clear.specs.Settling.{stays, is_local, link_of, seed_of, links_by, seeds_by, pushed_by, SpreadsAlong};
+ghost use Rattle.store_clear.specs.Settling.{is_local, links_by, seeds_by, AreSeeds, SpreadsAlong};
 
 use avr_model::instruction::Instr;
 use avr_model::listed::Listed;
-use call_graph::{Edge, EdgeKind, Filled, View, next_with};
+use call_graph::{Filled, Landing, Task, Worked};
+use edge_rules::edge::is_entry;
 use flash_image::Flash;
-use local_rules::Exit;
-use mask_states::NodeKey;
+use mask_states::EdgeKind;
 use slot_reach::Seed;
 use std::alloc::{AllocError, Global};
-use vector_table::Assumptions;
 
 /// Along which edges slots spread, by the numbers of nodes.
 #[derive(Drop)]
@@ -27,14 +26,39 @@ pub(crate) struct Frames {
     pub seeds: Listed<Seed>,
 }
 
-// Whether an edge of this kind stays in its frame.
-fn stays(kind: EdgeKind) -> bool
-    ensures { result ≡ stays kind }
+// Where edges land that stay in their frame, of those that land so.
+fn links_of(alloc: Global, landings: &[Landing]) -> Result<Listed<u32>, AllocError>
+    ensures { IfOk result (λ to. to ≡ links_by landings.now) }
 {
-    match kind {
-        EdgeKind::Local | EdgeKind::Return => true,
-        EdgeKind::Call | EdgeKind::Interrupt(_, _) => false,
+    let mut to = Listed::empty(alloc);
+    for landing in landings {
+        if !is_entry(landing.kind) {
+            to.push(landing.at)?;
+        }
     }
+    Ok(to)
+}
+
+// The same of each node.
+fn all_links(alloc: Global, landings: &[Listed<Landing>]) -> Result<Listed<Listed<u32>>, AllocError>
+    ensures { IfOk result (λ links. links ≡ map links_by landings.now) }
+{
+    let mut links = Listed::empty(alloc);
+    for at in 0..landings.len() {
+        links.push(links_of(alloc, landings[at].as_slice())?)?;
+    }
+    Ok(links)
+}
+
+// How many slots each node has.
+fn offsets_of(alloc: Global, nodes: &Filled) -> Result<Listed<u16>, AllocError>
+    ensures { IfOk result (λ offsets. offsets ≡ offsets_of nodes.now) }
+{
+    let mut offsets = Listed::empty(alloc);
+    for at in 0..nodes.count() {
+        offsets.push(nodes.key(at).offset())?;
+    }
+    Ok(offsets)
 }
 
 fn is_local(kind: EdgeKind) -> bool
@@ -65,119 +89,45 @@ fn is_guarded_push(flash: &Flash, pc: u16) -> bool
     }
 }
 
-// Where an edge leads, if it stays in its frame.
-fn add_link(nodes: &Filled, edge: &Edge, to: &mut Listed<u32>) -> Result<(), AllocError>
-    requires { length nodes.now ≤ 65536 }
-    ensures { OnOk result (to.new ≡ to.old ++ link_of nodes.now edge.now) }
+// Where local edges land, of those that land so, with the slot that is pushed there.
+fn add_seeds(landings: &[Landing], slot: u16, seeds: &mut Listed<Seed>) -> Result<(), AllocError>
+    ensures { OnOk result (seeds.new ≡ seeds.old ++ seeds_by slot landings.now) }
 {
-    if !stays(edge.kind) {
-        return Ok(());
-    }
-    if let Some(at) = nodes.find(&edge.to) {
-        to.push(at as u32)?;
+    for landing in landings {
+        if is_local(landing.kind) {
+            seeds.push(Seed {
+                node: landing.at,
+                slot,
+            })?;
+        }
     }
     Ok(())
 }
 
-// Where a local edge leads, with the slot that is pushed there.
-fn add_seed(
-    nodes: &Filled,
-    edge: &Edge,
-    slot: u16,
-    seeds: &mut Listed<Seed>,
-) -> Result<(), AllocError>
-    requires { length nodes.now ≤ 65536 }
-    ensures { OnOk result (seeds.new ≡ seeds.old ++ seed_of nodes.now slot edge.now) }
+// The slots that guarded pushes add.
+fn all_seeds(task: &Task<'_>, family: &Worked) -> Result<Listed<Seed>, AllocError>
+    requires { AreLandings task.now.flash.now task.now.assumptions.now family.now.nodes family.now.landings }
+    ensures { IfOk result (AreSeeds task.now.flash.now task.now.assumptions.now family.now.nodes) }
 {
-    if !is_local(edge.kind) {
-        return Ok(());
+    let mut seeds = Listed::empty(task.alloc);
+    let landings = family.landings.as_slice();
+    for at in 0..family.nodes.count() {
+        let key = family.nodes.key(at);
+        if is_guarded_push(task.flash, key.pc) {
+            add_seeds(landings[at].as_slice(), key.offset(), &mut seeds)?;
+        }
     }
-    if let Some(at) = nodes.find(&edge.to) {
-        seeds.push(Seed {
-            node: at as u32,
-            slot,
-        })?;
-    }
-    Ok(())
+    Ok(seeds)
 }
 
-// Where these edges lead that stay in their frame.
-fn add_links(nodes: &Filled, edges: &[Edge], to: &mut Listed<u32>) -> Result<(), AllocError>
-    requires { length nodes.now ≤ 65536 }
-    ensures { OnOk result (to.new ≡ to.old ++ links_by nodes.now edges.now) }
+/// Along which edges slots spread. No local part is worked out for it.
+pub(crate) fn frames_of(task: &Task<'_>, family: &Worked) -> Result<Frames, AllocError>
+    requires { AreLandings task.now.flash.now task.now.assumptions.now family.now.nodes family.now.landings }
+    ensures { IfOk result (λ f. SpreadsAlong task.now.flash.now task.now.assumptions.now family.now.nodes f.links f.offsets f.seeds) }
 {
-    for edge in edges {
-        add_link(nodes, edge, to)?;
-    }
-    Ok(())
-}
-
-// Where these edges lead that are local, with the slot.
-fn add_seeds(
-    nodes: &Filled,
-    edges: &[Edge],
-    slot: u16,
-    seeds: &mut Listed<Seed>,
-) -> Result<(), AllocError>
-    requires { length nodes.now ≤ 65536 }
-    ensures { OnOk result (seeds.new ≡ seeds.old ++ seeds_by nodes.now slot edges.now) }
-{
-    for edge in edges {
-        add_seed(nodes, edge, slot, seeds)?;
-    }
-    Ok(())
-}
-
-// The slots that a node adds with these edges, if a guarded byte is pushed there.
-fn add_pushed(
-    flash: &Flash,
-    nodes: &Filled,
-    key: &NodeKey,
-    edges: &[Edge],
-    seeds: &mut Listed<Seed>,
-) -> Result<(), AllocError>
-    requires { length nodes.now ≤ 65536 }
-    ensures { OnOk result (seeds.new ≡ seeds.old ++ pushed_by flash.now nodes.now key.now edges.now) }
-{
-    if is_guarded_push(flash, key.pc) {
-        add_seeds(nodes, edges, key.offset(), seeds)?;
-    }
-    Ok(())
-}
-
-// How many slots each node has.
-fn offsets_of(alloc: Global, nodes: &Filled) -> Result<Listed<u16>, AllocError>
-    ensures { IfOk result (λ offsets. offsets ≡ offsets_of nodes.now) }
-{
-    let mut offsets = Listed::empty(alloc);
-    for at in 0..nodes.count() {
-        offsets.push(nodes.key(at).offset())?;
-    }
-    Ok(offsets)
-}
-
-/// Along which edges slots spread, where these are the exits of the nodes. The local part of each node is worked out once.
-pub(crate) fn frames_of(
-    alloc: Global,
-    flash: &Flash,
-    assumptions: &Assumptions,
-    nodes: &Filled,
-    exits: &Listed<Option<Exit>>,
-) -> Result<Frames, AllocError>
-    requires few { length nodes.now ≤ 65536 }
-    requires taken { AreExits flash.now assumptions.now nodes.now exits.now }
-    ensures { IfOk result (λ f. SpreadsAlong flash.now assumptions.now nodes.now f.links f.offsets f.seeds) }
-{
-    let mut links = Listed::empty(alloc);
-    let mut seeds = Listed::empty(alloc);
-    for at in 0..nodes.count() {
-        let edges = next_with(alloc, flash, assumptions, nodes, at, exits)?;
-        let mut to = Listed::empty(alloc);
-        add_links(nodes, edges.as_slice(), &mut to)?;
-        add_pushed(flash, nodes, nodes.key(at), edges.as_slice(), &mut seeds)?;
-        links.push(to)?;
-    }
-    let offsets = offsets_of(alloc, nodes)?;
+    let seeds = all_seeds(task, family)?;
+    let offsets = offsets_of(task.alloc, &family.nodes)?;
+    let links = all_links(task.alloc, family.landings.as_slice())?;
     Ok(Frames {
         links,
         offsets,

@@ -1,11 +1,27 @@
-use Rattle.std.proofs.Common.{arith}
-use Rattle.store_clear.proofs.Causing.{addresses_none, addresses_more}
+use Rattle.std.proofs.Common.{◌∙◌, ◌+◌, ◌<◌, ℕ, List, Bool, true, set, ap, subst, sym, length, arith}
+use Rattle.store_clear.specs.Takes.{IsMarked}
+use Rattle.store_clear.specs.Causing.{IsProtectedBelow}
+use Rattle.store_clear.proofs.Causing.{addresses_none, addresses_more, addresses_same}
+use Rattle.store_clear.proofs.causes.mark_addresses.Goals.{then-may_write_protected, else-may_write_protected}
 use Rattle.store_clear.proofs.causes.mark_addresses.Goals as goal
 
 pub loop-address-init : goal.loop-address-init
-loop-address-init c = addresses_none c.args.flash.now c.args.assumptions.now c.args.pc c.args.state.now c.args.instr.now c.args.marks.now
+loop-address-init c = addresses_none c.args.task.now.flash.now c.args.task.now.assumptions.now c.args.site.now.pc c.args.state.now c.args.site.now.instr.now c.args.marks.now
 
 pub loop-address-preserved : goal.loop-address-preserved
 loop-address-preserved c =
-    addresses_more c.args.flash.now c.args.assumptions.now c.args.pc c.args.state.now c.args.instr.now c.loop-address.address c.args.marks.now c.loop-address.marks c.mark_address.new.marks
-    (omega (arith, c.loop-address-test.true, c.loop-address.invariant.same, c.requires)) c.loop-address.invariant c.mark_address.ensures
+    let words = c.args.task.now.flash.now in
+    let A = c.args.task.now.assumptions.now in
+    let n = c.loop-address.address in
+    let lt : n < length c.loop-address.marks = omega (arith, c.loop-address-test.true, c.loop-address.invariant.same, c.requires) in
+    elim c.if-may_write_protected.branch [
+      | then-may_write_protected w ↦
+          subst (λ (xs : List Bool). IsMarked (IsProtectedBelow words A c.args.site.now.pc c.args.state.now c.args.site.now.instr.now (n + 1)) c.args.marks.now xs)
+          (sym (w.marks-is ∙ ap (λ (i : ℕ). set c.loop-address.marks i true) w.from.ensures))
+          (addresses_more words A c.args.site.now.pc c.args.state.now c.args.site.now.instr.now n c.args.marks.now c.loop-address.marks c.loop-address.invariant lt
+          (sym c.may_write_protected.ensures ∙ w.if-may_write_protected.true))
+      | else-may_write_protected w ↦
+          subst (λ (xs : List Bool). IsMarked (IsProtectedBelow words A c.args.site.now.pc c.args.state.now c.args.site.now.instr.now (n + 1)) c.args.marks.now xs) (sym w.marks-is)
+          (addresses_same words A c.args.site.now.pc c.args.state.now c.args.site.now.instr.now n c.args.marks.now c.loop-address.marks c.loop-address.invariant
+          (sym c.may_write_protected.ensures ∙ w.if-may_write_protected.false))
+    ]

@@ -4,4 +4,4 @@ use Rattle.store_clear.specs.Causing.{ArePlacesOf}
 use Rattle.store_clear.proofs.causes.places_at.Given as goal
 
 abbrev pub invariant-loop-site : goal.invariant-loop-site
-invariant-loop-site l = ArePlacesOf l.flash l.assumptions (family_of l.certificate l.told.nodes) (take l.site-index l.sites) l.list
+invariant-loop-site l = ArePlacesOf l.task.flash.now l.task.assumptions.now (family_of l.certificate l.told.nodes.now) (take l.site-index l.sites) l.list
