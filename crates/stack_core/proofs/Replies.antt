@@ -1,7 +1,7 @@
 -- Replies by what is known of their parts.
 use Rattle.std.proofs.Common.{◌≡◌, ◌≢◌, ℕ, Bool, true, false, List, [], take, Option, Some, None, Result, Ok, Err, refl, sym, ap, ◌∙◌, subst}
 use Rattle.std.specs.Option.{option_copied, option_map, is_some}
-use Rattle.std.specs.Prelude.{IfOk}
+use Rattle.std.specs.Prelude.{◌↔◌, IfOk, IsTrue}
 use Rattle.std.proofs.lemmas.Bool.{false_from_ne_true}
 use denote.Ref.{Bor}
 use Rattle.avr_model.specs.declared.assumption.Entry.{Entry}
@@ -24,11 +24,15 @@ use Rattle.certificate.specs.Valid.{IsAttained, IsValid}
 use Rattle.cert_format.specs.declared.fault.CertFault.{CertFault}
 use Rattle.cert_format.specs.declared.fault.CertFault.TheVariants as fault
 use Rattle.cert_format.specs.Reading.{certificate_in}
+use Rattle.call_graph.specs.declared.worked.Worked.{Worked}
+use Rattle.cert_check.specs.declared.verdict.Reason.{Reason}
 use Rattle.cert_check.specs.declared.verdict.Verdict.{Verdict}
+use Rattle.cert_check.specs.Verdict.{IsFamilyOf, IsReason}
+use Rattle.basics.specs.Booleans.{never_both}
 use Rattle.cert_check.specs.declared.verdict.Verdict.TheVariants.{Accepted, Rejected}
 use Rattle.replies.specs.Firmware.{words_by, outside_fault, fault_or, firmware_fault, firmware_words, firmware_names, firmware_end}
-use Rattle.replies.specs.Texts.{firmware_outside, witness_rejected, assumptions_refused, certificate_refused}
-use Rattle.replies.specs.Reply.{Reply, Says, Refuses, ListBy, WithList, attains, AttainedBy, WitnessReply, VerdictReply, CertificateReply, report_by, ExplainReply, PremisesReply, WhyReply, PlacesReply, AttainReply, AcceptedReply, FlashReply}
+use Rattle.replies.specs.Texts.{firmware_outside, witness_rejected, rejected, assumptions_refused, certificate_refused}
+use Rattle.replies.specs.Reply.{Reply, Says, Refuses, ListBy, WithList, attains, AttainedBy, WitnessReply, VerdictReply, JudgedReply, CertificateReply, report_by, ExplainReply, PremisesReply, WhyReply, PlacesReply, AttainReply, AcceptedReply, FlashReply}
 use Rattle.replies.specs.Headline.{HasWords, PlacesSayTheSame, CausesSayTheSame}
 use Rattle.cert_words.specs.Text.{text_of}
 use Rattle.guided_trials.specs.Attaining.{IsCompleted}
@@ -52,6 +56,21 @@ missed_reply : (words : List ℕ) (A : List Entry) (next : Reply) (bound : ℕ) 
 missed_reply words A next bound None text a t = absurd (a tt)
 missed_reply words A next bound (Some plan) text a t =
     by_missing next (attains bound (replay_of words A plan)) text (false_from_ne_true (attains bound (replay_of words A plan)) (λ h. a (attained_by bound (replay_of words A plan) h))) t
+
+-- one whose schedule misses its bound
+pub missed_judged : (words : List ℕ) (A : List Entry) (next : Claim → Reply) (c : Claim) (family : Worked) (text : List ℕ) → IsFamilyOf words A c family
+    → (b : Bool) → (IsTrue b ↔ IsAttained words A c.bound c.witness) → b ≡ false → text ≡ witness_rejected → JudgedReply words A next c 1 text
+missed_judged words A next c family text f b told missed t =
+    record {
+      verdict = Accepted c.bound;
+      is = (record { nodes = family.nodes; expanded = f.filled; meets = f.meets }, refl);
+      reply = missed_reply words A (next c) c.bound c.witness text (λ h. never_both b (told.1 h) missed) t;
+    }
+
+-- one of which a condition doesn't hold
+pub rejected_judged : (words : List ℕ) (A : List Entry) (next : Claim → Reply) (c : Claim) (r : Reason) (text : List ℕ) → IsReason words A c r → text ≡ rejected r
+    → JudgedReply words A next c 1 text
+rejected_judged words A next c r text h t = record { verdict = Rejected r; is = h; reply = (refl, t) }
 
 pub copied_is_some : (o : Option (Bor Plan)) (w : Option Plan) → option_copied o ≡ w → is_some o ≡ is_some w
 copied_is_some None None e = refl

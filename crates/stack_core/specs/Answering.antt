@@ -12,6 +12,8 @@ use Rattle.indirect_targets.specs.Reading.{entries_in}
 use Rattle.witness_replay.specs.Spelling.{Plan}
 use Rattle.certificate.specs.Claims.{Claim}
 use Rattle.certificate.specs.Valid.{IsAttained, IsValid}
+use Rattle.call_graph.specs.declared.worked.Worked.{Worked}
+use Rattle.cert_check.specs.Verdict.{IsFamilyOf}
 use Rattle.cert_words.specs.Text.{text_of}
 use Rattle.cert_format.specs.declared.fault.CertFault.{CertFault}
 use Rattle.cert_format.specs.Reading.{certificate_in}
@@ -77,15 +79,15 @@ ListsAs (Some bytes) listing = ReadsAs bytes listing
 abbrev pub nothing : Claim → Reply
 nothing c status text = ⊥
 
--- a certificate that is valid, or what is answered of one that isn't, or that isn't read
+-- a certificate that is valid, with its family, or what is answered of one that isn't, or that isn't read
 abbrev pub IsJudgedAs : List ℕ → List Entry → Result Claim CertFault → Judged → Type 0
-IsJudgedAs words A x (Accepted c) = (x ≡ Ok c) × IsValid words A c
+IsJudgedAs words A x (Accepted c family) = ((x ≡ Ok c) × IsValid words A c) × IsFamilyOf words A c family
 IsJudgedAs words A x (judged.Refused r) = CertificateReply words A nothing x r.status r.text.items
 
--- a certificate is accepted, unless a line says that it isn't
-abbrev pub judged_by : Claim → Option (Vec ℕ) → Judged
-judged_by c None = Accepted c
-judged_by c (Some text) = judged.Refused (record { status = 1; text = text })
+-- a certificate is accepted with its family, unless a line says that it isn't
+abbrev pub judged_by : Claim → Result Worked (Vec ℕ) → Judged
+judged_by c (Ok family) = Accepted c family
+judged_by c (Err text) = judged.Refused (record { status = 1; text = text })
 
 -- the certificate is the first one with the schedule that the trials find, which attains its bound
 pub record IsWitnessed (words : List ℕ) (A : List Entry) (least c : Claim) : Type 0 where

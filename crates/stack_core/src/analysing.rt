@@ -10,6 +10,7 @@ ghost use Rattle.replies.specs.Reply.{Refuses, AnalyseReply, DemoReply};
 ghost use Rattle.stack_core.specs.Answering.{IsWitnessed, IsWitnessedText};
 
 use crate::reply::Reply;
+use call_graph::Task;
 use cert_check::{Verdict, judge};
 use cert_writing::write;
 use certificate::Certificate;
@@ -43,16 +44,11 @@ fn why_not(alloc: Global, flash: &Flash, refusal: &Refusal) -> Result<Reply, All
 }
 
 /// The certificate with the schedule that the trials find, if they find one.
-fn witnessed(
-    alloc: Global,
-    flash: &Flash,
-    assumptions: &Assumptions,
-    certificate: Certificate,
-) -> Result<Certificate, AllocError>
-    requires { IsSound flash.now assumptions.now certificate }
-    ensures { IfOk result (λ c. IsWitnessed flash.now assumptions.now certificate c) }
+fn witnessed(task: &Task<'_>, certificate: Certificate) -> Result<Certificate, AllocError>
+    requires { IsSound task.now.flash.now task.now.assumptions.now certificate }
+    ensures { IfOk result (λ c. IsWitnessed task.now.flash.now task.now.assumptions.now certificate c) }
 {
-    let found = search(alloc, flash, assumptions, &certificate)?;
+    let found = search(task.alloc, task.flash, task.assumptions, &certificate)?;
     Ok(certificate.with_witness(found))
 }
 
@@ -64,60 +60,44 @@ fn claims(certificate: &Certificate)
 }
 
 /// The text of the certificate with its schedule.
-fn solved(
-    alloc: Global,
-    flash: &Flash,
-    assumptions: &Assumptions,
-    certificate: Certificate,
-) -> Result<Vec<u8>, AllocError>
-    requires { IsSound flash.now assumptions.now certificate }
-    ensures text { IfOk result (λ v. IsWitnessedText flash.now assumptions.now certificate v.items) }
+fn solved(task: &Task<'_>, certificate: Certificate) -> Result<Vec<u8>, AllocError>
+    requires { IsSound task.now.flash.now task.now.assumptions.now certificate }
+    ensures text { IfOk result (λ v. IsWitnessedText task.now.flash.now task.now.assumptions.now certificate v.items) }
     ensures claim { IfOk result (λ v. IsClaim certificate) }
 {
     claims(&certificate);
-    let whole = witnessed(alloc, flash, assumptions, certificate)?;
-    write(alloc, &whole)
+    let whole = witnessed(task, certificate)?;
+    write(task.alloc, &whole)
 }
 
 /// What is answered to an analysis.
-pub fn analyse(
-    alloc: Global,
-    flash: &Flash,
-    assumptions: &Assumptions,
-    steps: Option<u64>,
-) -> Result<Reply, AllocError>
-    ensures { IfOk result (λ r. AnalyseReply flash.now assumptions.now steps r.status r.text.items) }
+pub fn analyse(task: &Task<'_>, steps: Option<u64>) -> Result<Reply, AllocError>
+    ensures { IfOk result (λ r. AnalyseReply task.now.flash.now task.now.assumptions.now steps r.status r.text.items) }
 {
-    match solve(alloc, flash, assumptions, steps) {
+    match solve(task.alloc, task.flash, task.assumptions, steps) {
         Ok(certificate) => Ok(Reply {
             status: 0,
-            text: solved(alloc, flash, assumptions, certificate)?,
+            text: solved(task, certificate)?,
         }),
-        Err(refusal) => why_not(alloc, flash, &refusal),
+        Err(refusal) => why_not(task.alloc, task.flash, &refusal),
     }
 }
 
 /// What is answered of an image whose certificate this is: it is judged, and accepted.
-fn measured(
-    alloc: Global,
-    size: u32,
-    flash: &Flash,
-    assumptions: &Assumptions,
-    certificate: &Certificate,
-) -> Result<Reply, AllocError>
-    requires { IsSound flash.now assumptions.now certificate.now }
+fn measured(task: &Task<'_>, size: u32, certificate: &Certificate) -> Result<Reply, AllocError>
+    requires { IsSound task.now.flash.now task.now.assumptions.now certificate.now }
     ensures reply { IfOk result (λ r. (r.status ≡ 0) × (r.text.items ≡ demo_text size certificate.now)) }
     ensures claim { IfOk result (λ r. IsClaim certificate.now) }
 {
     let _nodes = certificate.nodes();
-    match judge(alloc, flash, assumptions, certificate)? {
+    match judge(task.alloc, task.flash, task.assumptions, certificate)? {
         Verdict::Accepted(_) => Ok(Reply {
             status: 0,
-            text: causes::demo_text(alloc, size, certificate)?,
+            text: causes::demo_text(task.alloc, size, certificate)?,
         }),
         Verdict::Rejected(reason) => Ok(Reply {
             status: 1,
-            text: texts::rejected(alloc, &reason)?,
+            text: texts::rejected(task.alloc, &reason)?,
         }),
     }
 }
@@ -128,8 +108,13 @@ pub fn demo(alloc: Global, size: &Size) -> Result<Reply, AllocError>
 {
     let flash = demo_image(alloc, size.get())?;
     let assumptions = Assumptions::empty(alloc);
+    let task = Task {
+        alloc,
+        flash: &flash,
+        assumptions: &assumptions,
+    };
     match solve(alloc, &flash, &assumptions, None) {
-        Ok(certificate) => measured(alloc, size.get(), &flash, &assumptions, &certificate),
+        Ok(certificate) => measured(&task, size.get(), &certificate),
         Err(refusal) => why_not(alloc, &flash, &refusal),
     }
 }

@@ -8,46 +8,42 @@ ghost use Rattle.replies.specs.Reply.{AttainReply, CertificateReply};
 use crate::judging::{Judged, judge_text};
 use crate::laws::have_16_bits;
 use crate::reply::Reply;
+use call_graph::Task;
 use cert_check::laws::sound_certificates_bound_every_run;
 use cert_format::Certificate;
 use cert_writing::write;
-use flash_image::Flash;
-use std::alloc::{AllocError, Global};
-use vector_table::Assumptions;
+use std::alloc::AllocError;
 
 /// The text of an accepted certificate, with the schedule that so many guided trials find where it has none.
-fn completed(
-    alloc: Global,
-    flash: &Flash,
-    assumptions: &Assumptions,
-    certificate: Certificate,
-    trials: u32,
-) -> Result<Vec<u8>, AllocError>
-    requires { IsValid flash.now assumptions.now certificate }
-    ensures { IfOk result (λ v. AttainReply flash.now assumptions.now trials certificate 0 v.items) }
+fn completed(task: &Task<'_>, certificate: Certificate, trials: u32) -> Result<Vec<u8>, AllocError>
+    requires { IsValid task.now.flash.now task.now.assumptions.now certificate }
+    ensures { IfOk result (λ v. AttainReply task.now.flash.now task.now.assumptions.now trials certificate 0 v.items) }
 {
     sound_certificates_bound_every_run();
-    have_16_bits(flash.words());
+    have_16_bits(task.flash.words());
     let _nodes = certificate.nodes();
-    let whole = guided_trials::attain(alloc, flash, assumptions, certificate, trials)?;
-    write(alloc, &whole)
+    let whole = guided_trials::attain(
+        task.alloc,
+        task.flash,
+        task.assumptions,
+        certificate,
+        trials,
+    )?;
+    write(task.alloc, &whole)
 }
 
 /// What `attain` answers of the text of a certificate.
-pub fn attain(
-    alloc: Global,
-    flash: &Flash,
-    assumptions: &Assumptions,
-    text: &[u8],
-    trials: u32,
-) -> Result<Reply, AllocError>
-    ensures { IfOk result (λ r. CertificateReply flash.now assumptions.now (AttainReply flash.now assumptions.now trials) (certificate_in text.now) r.status r.text.items) }
+pub fn attain(task: &Task<'_>, text: &[u8], trials: u32) -> Result<Reply, AllocError>
+    ensures { IfOk result (λ r. CertificateReply task.now.flash.now task.now.assumptions.now (AttainReply task.now.flash.now task.now.assumptions.now trials) (certificate_in text.now) r.status r.text.items) }
 {
-    match judge_text(alloc, flash, assumptions, text)? {
-        Judged::Accepted(certificate) => Ok(Reply {
-            status: 0,
-            text: completed(alloc, flash, assumptions, certificate, trials)?,
-        }),
+    match judge_text(task, text)? {
+        Judged::Accepted(certificate, family) => {
+            drop(family);
+            Ok(Reply {
+                status: 0,
+                text: completed(task, certificate, trials)?,
+            })
+        }
         Judged::Refused(reply) => Ok(reply),
     }
 }

@@ -1,33 +1,36 @@
 //! Where steps may be flagged, for `clear` and `premises`.
 
-ghost use Rattle.std.specs.Prelude.{[], IfOk};
-ghost use Rattle.certificate.specs.Valid.{IsSound};
+ghost use Rattle.std.specs.Prelude.{◌≡◌, [], IfOk};
+ghost use Rattle.cert_check.specs.Verdict.{IsFamilyOf};
 ghost use Rattle.cert_format.specs.Reading.{certificate_in};
 ghost use Rattle.replies.specs.Reply.{ClearReply, PremisesReply, WhyReply, PlacesReply, CertificateReply};
 
 use crate::judging::{Judged, judge_text};
 use crate::reply::Reply;
+use call_graph::{Task, Worked};
 use cert_format::Certificate;
-use elf_load::Loaded;
-use flash_image::Flash;
+use flash_image::{Flash, Names};
 use replies::places;
 use std::alloc::{AllocError, Global};
-use store_clear::{ClearVerdict, clear_sites, flagged_places, flagged_sites, never_takes};
+use store_clear::{
+    ClearVerdict, clear_family, flagged_places_in, flagged_sites_in, never_takes_in,
+};
 use vector_table::Assumptions;
 
-/// Whether all nodes of an accepted certificate are clear.
-fn cleared(alloc: Global, flash: &Flash, certificate: &Certificate) -> Result<Reply, AllocError>
-    requires { IsSound flash.now [] certificate.now }
-    ensures { IfOk result (λ r. ClearReply flash.now certificate.now r.status r.text.items) }
+/// Whether all nodes of an accepted certificate with this family are clear.
+fn cleared(task: &Task<'_>, certificate: &Certificate, family: &Worked) -> Result<Reply, AllocError>
+    requires none { task.now.assumptions.now ≡ [] }
+    requires family { IsFamilyOf task.now.flash.now task.now.assumptions.now certificate.now family.now }
+    ensures { IfOk result (λ r. ClearReply task.now.flash.now certificate.now r.status r.text.items) }
 {
-    match clear_sites(alloc, flash, certificate)? {
+    match clear_family(task, certificate, family)? {
         ClearVerdict::Clear => Ok(Reply {
             status: 0,
-            text: places::clear_text(alloc, certificate.bound())?,
+            text: places::clear_text(task.alloc, certificate.bound())?,
         }),
         ClearVerdict::Unclear(node, pc) => Ok(Reply {
             status: 13,
-            text: places::unclear_text(alloc, flash, node, pc)?,
+            text: places::unclear_text(task.alloc, task.flash, node, pc)?,
         }),
     }
 }
@@ -37,29 +40,33 @@ pub fn clear(alloc: Global, flash: &Flash, text: &[u8]) -> Result<Reply, AllocEr
     ensures { IfOk result (λ r. CertificateReply flash.now [] (ClearReply flash.now) (certificate_in text.now) r.status r.text.items) }
 {
     let assumptions = Assumptions::empty(alloc);
-    match judge_text(alloc, flash, &assumptions, text)? {
-        Judged::Accepted(certificate) => cleared(alloc, flash, &certificate),
+    let task = Task {
+        alloc,
+        flash,
+        assumptions: &assumptions,
+    };
+    match judge_text(&task, text)? {
+        Judged::Accepted(certificate, family) => cleared(&task, &certificate, &family),
         Judged::Refused(reply) => Ok(reply),
     }
 }
 
-/// The words at which a step may be flagged under an accepted certificate, for a firmware that was loaded.
+/// The words at which a step may be flagged under an accepted certificate with this family, with these names.
 fn listed(
-    alloc: Global,
-    assumptions: &Assumptions,
-    loaded: &Loaded,
+    task: &Task<'_>,
+    names: &Names,
     certificate: &Certificate,
+    family: &Worked,
 ) -> Result<Reply, AllocError>
-    requires { IsSound loaded.now.flash assumptions.now certificate.now }
-    ensures { IfOk result (λ r. PremisesReply loaded.now.names loaded.now.flash assumptions.now certificate.now r.status r.text.items) }
+    requires { IsFamilyOf task.now.flash.now task.now.assumptions.now certificate.now family.now }
+    ensures { IfOk result (λ r. PremisesReply names.now task.now.flash.now task.now.assumptions.now certificate.now r.status r.text.items) }
 {
-    let flash = &loaded.flash;
-    let sites = flagged_sites(alloc, flash, assumptions, certificate)?;
-    let nevers = never_takes(alloc, flash, assumptions, certificate)?;
+    let sites = flagged_sites_in(task, certificate, family)?;
+    let nevers = never_takes_in(task, &family.nodes)?;
     let text = places::premises_text(
-        alloc,
-        flash,
-        &loaded.names,
+        task.alloc,
+        task.flash,
+        names,
         certificate.bound(),
         sites.as_slice(),
         nevers.as_slice(),
@@ -69,21 +76,20 @@ fn listed(
 
 /// The same with what may happen there.
 fn caused(
-    alloc: Global,
-    assumptions: &Assumptions,
-    loaded: &Loaded,
+    task: &Task<'_>,
+    names: &Names,
     certificate: &Certificate,
+    family: &Worked,
 ) -> Result<Reply, AllocError>
-    requires { IsSound loaded.now.flash assumptions.now certificate.now }
-    ensures { IfOk result (λ r. WhyReply loaded.now.names loaded.now.flash assumptions.now certificate.now r.status r.text.items) }
+    requires { IsFamilyOf task.now.flash.now task.now.assumptions.now certificate.now family.now }
+    ensures { IfOk result (λ r. WhyReply names.now task.now.flash.now task.now.assumptions.now certificate.now r.status r.text.items) }
 {
-    let flash = &loaded.flash;
-    let marked = flagged_places(alloc, flash, assumptions, certificate)?;
-    let nevers = never_takes(alloc, flash, assumptions, certificate)?;
+    let marked = flagged_places_in(task, certificate, family)?;
+    let nevers = never_takes_in(task, &family.nodes)?;
     let text = places::why_text(
-        alloc,
-        flash,
-        &loaded.names,
+        task.alloc,
+        task.flash,
+        names,
         certificate.bound(),
         marked.as_slice(),
         nevers.as_slice(),
@@ -93,34 +99,28 @@ fn caused(
 
 /// Those words, with what may happen there where that is asked.
 fn told(
-    alloc: Global,
-    assumptions: &Assumptions,
-    loaded: &Loaded,
+    task: &Task<'_>,
+    names: &Names,
     certificate: &Certificate,
+    family: &Worked,
     why: bool,
 ) -> Result<Reply, AllocError>
-    requires { IsSound loaded.now.flash assumptions.now certificate.now }
-    ensures { IfOk result (λ r. PlacesReply why loaded.now.names loaded.now.flash assumptions.now certificate.now r.status r.text.items) }
+    requires { IsFamilyOf task.now.flash.now task.now.assumptions.now certificate.now family.now }
+    ensures { IfOk result (λ r. PlacesReply why names.now task.now.flash.now task.now.assumptions.now certificate.now r.status r.text.items) }
 {
     if why {
-        caused(alloc, assumptions, loaded, certificate)
+        caused(task, names, certificate, family)
     } else {
-        listed(alloc, assumptions, loaded, certificate)
+        listed(task, names, certificate, family)
     }
 }
 
-/// What `premises` answers of the text of a certificate, for a firmware that was loaded, also with what may happen at each place.
-pub fn premises(
-    alloc: Global,
-    assumptions: &Assumptions,
-    text: &[u8],
-    loaded: &Loaded,
-    why: bool,
-) -> Result<Reply, AllocError>
-    ensures { IfOk result (λ r. CertificateReply loaded.now.flash assumptions.now (PlacesReply why loaded.now.names loaded.now.flash assumptions.now) (certificate_in text.now) r.status r.text.items) }
+/// What `premises` answers of the text of a certificate, for a firmware with these names, also with what may happen at each place.
+pub fn premises(task: &Task<'_>, text: &[u8], names: &Names, why: bool) -> Result<Reply, AllocError>
+    ensures { IfOk result (λ r. CertificateReply task.now.flash.now task.now.assumptions.now (PlacesReply why names.now task.now.flash.now task.now.assumptions.now) (certificate_in text.now) r.status r.text.items) }
 {
-    match judge_text(alloc, &loaded.flash, assumptions, text)? {
-        Judged::Accepted(certificate) => told(alloc, assumptions, loaded, &certificate, why),
+    match judge_text(task, text)? {
+        Judged::Accepted(certificate, family) => told(task, names, &certificate, &family, why),
         Judged::Refused(reply) => Ok(reply),
     }
 }

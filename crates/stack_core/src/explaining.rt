@@ -1,46 +1,43 @@
 //! Where the bytes of a bound go, for `explain`.
 
 ghost use Rattle.std.specs.Prelude.{IfOk};
-ghost use Rattle.certificate.specs.Valid.{IsSound};
+ghost use Rattle.cert_check.specs.Verdict.{IsFamilyOf};
 ghost use Rattle.cert_format.specs.Reading.{certificate_in};
 ghost use Rattle.replies.specs.Reply.{ExplainReply, CertificateReply};
 
 use crate::judging::{Judged, judge_text};
 use crate::reply::Reply;
+use call_graph::{Task, Worked};
 use cert_format::Certificate;
-use elf_load::Loaded;
+use chain_explain::explain_family;
+use flash_image::Names;
 use reports::explanation_text;
-use std::alloc::{AllocError, Global};
-use vector_table::Assumptions;
+use std::alloc::AllocError;
 
-/// The explanation of an accepted certificate, for a firmware that was loaded.
+/// The explanation of an accepted certificate with this family, with these names.
 fn explained(
-    alloc: Global,
-    assumptions: &Assumptions,
-    loaded: &Loaded,
+    task: &Task<'_>,
+    names: &Names,
     certificate: &Certificate,
+    family: &Worked,
 ) -> Result<Reply, AllocError>
-    requires { IsSound loaded.now.flash assumptions.now certificate.now }
-    ensures { IfOk result (λ r. ExplainReply loaded.now.names loaded.now.flash assumptions.now certificate.now r.status r.text.items) }
+    requires { IsFamilyOf task.now.flash.now task.now.assumptions.now certificate.now family.now }
+    ensures { IfOk result (λ r. ExplainReply names.now task.now.flash.now task.now.assumptions.now certificate.now r.status r.text.items) }
 {
-    let explanation = chain_explain::explain(alloc, &loaded.flash, assumptions, certificate)?;
+    let _nodes = certificate.nodes();
+    let explanation = explain_family(task, certificate, family)?;
     Ok(Reply {
         status: 0,
-        text: explanation_text(alloc, certificate.bound(), &loaded.names, &explanation)?,
+        text: explanation_text(task.alloc, certificate.bound(), names, &explanation)?,
     })
 }
 
-/// What `explain` answers of the text of a certificate, for a firmware that was loaded.
-pub fn explain(
-    alloc: Global,
-    assumptions: &Assumptions,
-    text: &[u8],
-    loaded: &Loaded,
-) -> Result<Reply, AllocError>
-    ensures { IfOk result (λ r. CertificateReply loaded.now.flash assumptions.now (ExplainReply loaded.now.names loaded.now.flash assumptions.now) (certificate_in text.now) r.status r.text.items) }
+/// What `explain` answers of the text of a certificate, for a firmware with these names.
+pub fn explain(task: &Task<'_>, text: &[u8], names: &Names) -> Result<Reply, AllocError>
+    ensures { IfOk result (λ r. CertificateReply task.now.flash.now task.now.assumptions.now (ExplainReply names.now task.now.flash.now task.now.assumptions.now) (certificate_in text.now) r.status r.text.items) }
 {
-    match judge_text(alloc, &loaded.flash, assumptions, text)? {
-        Judged::Accepted(certificate) => explained(alloc, assumptions, loaded, &certificate),
+    match judge_text(task, text)? {
+        Judged::Accepted(certificate, family) => explained(task, names, &certificate, &family),
         Judged::Refused(reply) => Ok(reply),
     }
 }

@@ -8,19 +8,19 @@ ghost use Rattle.replies.specs.Reply.{Says, report_by, CertificateReply};
 ghost use Rattle.stack_core.specs.Answering.{IsJudgedAs, judged_by};
 
 use crate::reply::Reply;
-use cert_check::{Verdict, is_attained, judge};
+use call_graph::{Task, Worked};
+use cert_check::{Judgement, is_attained, judge_family};
 use cert_format::{Certificate, read as read_certificate};
 use elf_load::Loaded;
-use flash_image::{Device, Flash};
+use flash_image::Device;
 use replies::texts;
 use reports::{report_json, report_text};
 use std::alloc::{AllocError, Global};
-use vector_table::Assumptions;
 
-/// A certificate that is accepted, or what is answered of one that isn't.
+/// A certificate that is accepted, with its family, or what is answered of one that isn't.
 #[derive(Drop)]
 pub enum Judged {
-    Accepted(Certificate),
+    Accepted(Certificate, Worked),
     Refused(Reply),
 }
 
@@ -69,89 +69,77 @@ fn reported(
     })
 }
 
-/// The line of a certificate that isn't accepted.
-fn objection(
-    alloc: Global,
-    flash: &Flash,
-    assumptions: &Assumptions,
+/// The family of a certificate that is accepted, or the line of one that isn't.
+fn weighed(
+    task: &Task<'_>,
     certificate: &Certificate,
-) -> Result<Option<Vec<u8>>, AllocError>
-    ensures { IfOk result (λ o. IsJudgedAs flash.now assumptions.now (Ok certificate.now) (judged_by certificate.now o)) }
+) -> Result<Result<Worked, Vec<u8>>, AllocError>
+    ensures { IfOk result (λ w. IsJudgedAs task.now.flash.now task.now.assumptions.now (Ok certificate.now) (judged_by certificate.now w)) }
 {
-    match judge(alloc, flash, assumptions, certificate)? {
-        Verdict::Accepted(_) => {
-            if is_attained(flash, assumptions, certificate) {
-                Ok(None)
-            } else {
-                Ok(Some(texts::witness_rejected(alloc)?))
+    match judge_family(task, certificate)? {
+        Judgement::Accepted(family) => {
+            if is_attained(task.flash, task.assumptions, certificate) {
+                return Ok(Ok(family));
             }
+            drop(family);
+            Ok(Err(texts::witness_rejected(task.alloc)?))
         }
-        Verdict::Rejected(reason) => Ok(Some(texts::rejected(alloc, &reason)?)),
+        Judgement::Rejected(reason) => Ok(Err(texts::rejected(task.alloc, &reason)?)),
     }
 }
 
 /// A certificate that was read, if it is accepted.
-fn judge_claim(
-    alloc: Global,
-    flash: &Flash,
-    assumptions: &Assumptions,
-    certificate: Certificate,
-) -> Result<Judged, AllocError>
-    ensures { IfOk result (λ j. IsJudgedAs flash.now assumptions.now (Ok certificate) j) }
+fn judge_claim(task: &Task<'_>, certificate: Certificate) -> Result<Judged, AllocError>
+    ensures { IfOk result (λ j. IsJudgedAs task.now.flash.now task.now.assumptions.now (Ok certificate) j) }
 {
-    match objection(alloc, flash, assumptions, &certificate) {
-        Ok(None) => Ok(Judged::Accepted(certificate)),
-        Ok(Some(text)) => Ok(Judged::Refused(Reply { status: 1, text })),
+    match weighed(task, &certificate) {
+        Ok(Ok(family)) => Ok(Judged::Accepted(certificate, family)),
+        Ok(Err(text)) => Ok(Judged::Refused(Reply { status: 1, text })),
         Err(fault) => Err(fault),
     }
 }
 
 /// The certificate of a text, if it is one that is accepted.
-pub fn judge_text(
-    alloc: Global,
-    flash: &Flash,
-    assumptions: &Assumptions,
-    text: &[u8],
-) -> Result<Judged, AllocError>
-    ensures { IfOk result (λ j. IsJudgedAs flash.now assumptions.now (certificate_in text.now) j) }
+pub fn judge_text(task: &Task<'_>, text: &[u8]) -> Result<Judged, AllocError>
+    ensures { IfOk result (λ j. IsJudgedAs task.now.flash.now task.now.assumptions.now (certificate_in text.now) j) }
 {
-    match read_certificate(alloc, text) {
-        Ok(certificate) => judge_claim(alloc, flash, assumptions, certificate),
+    match read_certificate(task.alloc, text) {
+        Ok(certificate) => judge_claim(task, certificate),
         Err(fault) => Ok(Judged::Refused(Reply {
             status: 8,
-            text: texts::certificate_refused(alloc, &fault)?,
+            text: texts::certificate_refused(task.alloc, &fault)?,
         })),
     }
 }
 
 /// What `check` answers of the text of a certificate.
-pub fn check(
-    alloc: Global,
-    flash: &Flash,
-    assumptions: &Assumptions,
-    text: &[u8],
-) -> Result<Reply, AllocError>
-    ensures { IfOk result (λ r. CertificateReply flash.now assumptions.now (λ c. Says 0 (accepted c.bound (is_some c.witness))) (certificate_in text.now) r.status r.text.items) }
+pub fn check(task: &Task<'_>, text: &[u8]) -> Result<Reply, AllocError>
+    ensures { IfOk result (λ r. CertificateReply task.now.flash.now task.now.assumptions.now (λ c. Says 0 (accepted c.bound (is_some c.witness))) (certificate_in text.now) r.status r.text.items) }
 {
-    match judge_text(alloc, flash, assumptions, text)? {
-        Judged::Accepted(certificate) => checked(alloc, &certificate),
+    match judge_text(task, text)? {
+        Judged::Accepted(certificate, family) => {
+            drop(family);
+            checked(task.alloc, &certificate)
+        }
         Judged::Refused(reply) => Ok(reply),
     }
 }
 
 /// What `report` answers of the text of a certificate, for a firmware that was loaded for this device.
 pub fn report(
-    alloc: Global,
-    assumptions: &Assumptions,
+    task: &Task<'_>,
     text: &[u8],
     device: Device,
     loaded: &Loaded,
     json: bool,
 ) -> Result<Reply, AllocError>
-    ensures { IfOk result (λ r. CertificateReply loaded.now.flash assumptions.now (λ c. Says 0 (report_by json device loaded.now.names loaded.now.static_end c)) (certificate_in text.now) r.status r.text.items) }
+    ensures { IfOk result (λ r. CertificateReply task.now.flash.now task.now.assumptions.now (λ c. Says 0 (report_by json device loaded.now.names loaded.now.static_end c)) (certificate_in text.now) r.status r.text.items) }
 {
-    match judge_text(alloc, &loaded.flash, assumptions, text)? {
-        Judged::Accepted(certificate) => reported(alloc, &certificate, device, loaded, json),
+    match judge_text(task, text)? {
+        Judged::Accepted(certificate, family) => {
+            drop(family);
+            reported(task.alloc, &certificate, device, loaded, json)
+        }
         Judged::Refused(reply) => Ok(reply),
     }
 }

@@ -8,30 +8,24 @@ ghost use Rattle.replies.specs.Texts as told;
 ghost use Rattle.replies.specs.Reply.{RunReply, ScheduleReply};
 
 use crate::reply::Reply;
-use flash_image::Flash;
+use call_graph::Task;
 use replies::texts;
 use sb_base::LineReader;
 use std::alloc::{AllocError, Global};
-use vector_table::Assumptions;
 use witness_replay::{IllegalChoice, Schedule, ScheduleFault, replay};
 
 /// What is answered of a schedule that was read.
-fn replayed(
-    alloc: Global,
-    flash: &Flash,
-    assumptions: &Assumptions,
-    schedule: &Schedule,
-) -> Result<Reply, AllocError>
-    ensures { IfOk result (λ r. RunReply (replay_of flash.now assumptions.now schedule.now) r.status r.text.items) }
+fn replayed(task: &Task<'_>, schedule: &Schedule) -> Result<Reply, AllocError>
+    ensures { IfOk result (λ r. RunReply (replay_of task.now.flash.now task.now.assumptions.now schedule.now) r.status r.text.items) }
 {
-    match replay(flash, assumptions, schedule) {
+    match replay(task.flash, task.assumptions, schedule) {
         Ok(report) => Ok(Reply {
             status: 0,
-            text: texts::run_text(alloc, &report)?,
+            text: texts::run_text(task.alloc, &report)?,
         }),
         Err(IllegalChoice(step)) => Ok(Reply {
             status: 9,
-            text: texts::schedule_illegal(alloc, step)?,
+            text: texts::schedule_illegal(task.alloc, step)?,
         }),
     }
 }
@@ -46,24 +40,19 @@ fn schedule_malformed(alloc: Global, at: usize) -> Result<Reply, AllocError>
 }
 
 /// What is answered of the text of a schedule.
-pub fn run(
-    alloc: Global,
-    flash: &Flash,
-    assumptions: &Assumptions,
-    text: &[u8],
-) -> Result<Reply, AllocError>
-    ensures { IfOk result (λ r. ScheduleReply flash.now assumptions.now (schedule_in (record { at = 0; rest = lines_of text.now })) r.status r.text.items) }
+pub fn run(task: &Task<'_>, text: &[u8]) -> Result<Reply, AllocError>
+    ensures { IfOk result (λ r. ScheduleReply task.now.flash.now task.now.assumptions.now (schedule_in (record { at = 0; rest = lines_of text.now })) r.status r.text.items) }
 {
     let mut reader = LineReader::new(text);
-    match Schedule::read(alloc, &mut reader) {
+    match Schedule::read(task.alloc, &mut reader) {
         Ok(schedule) => {
             if reader.peek().is_some() {
-                schedule_malformed(alloc, reader.offset())
+                schedule_malformed(task.alloc, reader.offset())
             } else {
-                replayed(alloc, flash, assumptions, &schedule)
+                replayed(task, &schedule)
             }
         }
-        Err(ScheduleFault::Malformed(at)) => schedule_malformed(alloc, at),
+        Err(ScheduleFault::Malformed(at)) => schedule_malformed(task.alloc, at),
         Err(ScheduleFault::Memory) => Err(AllocError),
     }
 }

@@ -7,45 +7,38 @@ ghost use Rattle.replies.specs.Texts.{run_text};
 ghost use Rattle.replies.specs.Reply.{SimulateReply};
 
 use crate::reply::Reply;
+use call_graph::Task;
 use commands::Choices;
 use device_hooks::{Devices, simulation};
-use flash_image::Flash;
 use replies::texts;
-use std::alloc::{AllocError, Global};
-use vector_table::Assumptions;
+use std::alloc::AllocError;
 
 /// What is told of the run that devices choose.
-fn simulated(
-    alloc: Global,
-    flash: &Flash,
-    assumptions: &Assumptions,
-    steps: Choices,
-    devices: &Devices,
-) -> Result<Vec<u8>, AllocError>
-    ensures { IfOk result (λ v. v.items ≡ run_text (simulation_of flash.now assumptions.now devices.now steps)) }
+fn simulated(task: &Task<'_>, steps: Choices, devices: &Devices) -> Result<Vec<u8>, AllocError>
+    ensures { IfOk result (λ v. v.items ≡ run_text (simulation_of task.now.flash.now task.now.assumptions.now devices.now steps)) }
 {
-    let report = simulation(alloc, devices, flash, assumptions, steps.get())?;
-    texts::run_text(alloc, &report)
+    let report = simulation(
+        task.alloc,
+        devices,
+        task.flash,
+        task.assumptions,
+        steps.get(),
+    )?;
+    texts::run_text(task.alloc, &report)
 }
 
 /// What is answered of the text of devices.
-pub fn simulate(
-    alloc: Global,
-    flash: &Flash,
-    assumptions: &Assumptions,
-    steps: Choices,
-    text: &[u8],
-) -> Result<Reply, AllocError>
-    ensures { IfOk result (λ r. SimulateReply flash.now assumptions.now steps (setup_in text.now) r.status r.text.items) }
+pub fn simulate(task: &Task<'_>, steps: Choices, text: &[u8]) -> Result<Reply, AllocError>
+    ensures { IfOk result (λ r. SimulateReply task.now.flash.now task.now.assumptions.now steps (setup_in text.now) r.status r.text.items) }
 {
-    match Devices::read(alloc, text) {
+    match Devices::read(task.alloc, text) {
         Ok(devices) => Ok(Reply {
             status: 0,
-            text: simulated(alloc, flash, assumptions, steps, &devices)?,
+            text: simulated(task, steps, &devices)?,
         }),
         Err(fault) => Ok(Reply {
             status: 14,
-            text: texts::devices_refused(alloc, &fault)?,
+            text: texts::devices_refused(task.alloc, &fault)?,
         }),
     }
 }

@@ -20,6 +20,7 @@ use crate::loading::{Image, Listing, listed, loaded};
 use crate::reply::Reply;
 use crate::running::run;
 use crate::simulating::simulate;
+use call_graph::Task;
 use commands::Command;
 use elf_load::Loaded;
 use replies::laws::same_names_give_same_places;
@@ -38,18 +39,21 @@ fn on_flash(
     ensures { IfOk result (λ r. LoadedReply (command_seen command.now) loaded.now second.now assumptions.now r.status r.text.items) }
 {
     let flash = &loaded.flash;
+    let task = Task {
+        alloc,
+        flash,
+        assumptions,
+    };
     match command {
-        Command::Check { .. } => check(alloc, flash, assumptions, second),
-        Command::Analyse { steps, .. } => analyse(alloc, flash, assumptions, *steps),
-        Command::Run { .. } => run(alloc, flash, assumptions, second),
-        Command::Report { device, json, .. } => {
-            report(alloc, assumptions, second, *device, loaded, *json)
-        }
-        Command::Explain { .. } => explain(alloc, assumptions, second, loaded),
+        Command::Check { .. } => check(&task, second),
+        Command::Analyse { steps, .. } => analyse(&task, *steps),
+        Command::Run { .. } => run(&task, second),
+        Command::Report { device, json, .. } => report(&task, second, *device, loaded, *json),
+        Command::Explain { .. } => explain(&task, second, &loaded.names),
         Command::Clear { .. } => clear(alloc, flash, second),
-        Command::Premises { why, .. } => premises(alloc, assumptions, second, loaded, *why),
-        Command::Attain { trials, .. } => attain(alloc, flash, assumptions, second, *trials),
-        Command::Simulate { steps, .. } => simulate(alloc, flash, assumptions, *steps, second),
+        Command::Premises { why, .. } => premises(&task, second, &loaded.names, *why),
+        Command::Attain { trials, .. } => attain(&task, second, *trials),
+        Command::Simulate { steps, .. } => simulate(&task, *steps, second),
         Command::Demo { size } => demo(alloc, size),
     }
 }
