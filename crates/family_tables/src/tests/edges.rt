@@ -8,7 +8,7 @@ use super::Worked;
 use crate::tests::seeds::{Plan, SeedList, seeds_of};
 use avr_model::device::Device;
 use avr_model::listed::Listed;
-use call_graph::{Edge, EdgeKind, Expanded, Filled, Leaving, View, exits, expand, next, next_with};
+use call_graph::{Edge, EdgeKind, Expanded, Filled, Leaving, Task, exits, expand, next, next_with};
 use flash_image::Flash;
 use local_rules::NodeFault;
 use mask_states::Kind;
@@ -53,22 +53,21 @@ fn has_fault(due: &Due, fault: NodeFault) -> bool {
 }
 
 /// Whether the node leads where it is due.
-fn leads(alloc: Global, flash: &Flash, filled: &Filled, at: usize, due: &Due) -> bool
+fn leads(task: &Task<'_>, filled: &Filled, at: usize, due: &Due) -> bool
     requires { at < length filled.now }
 {
-    match next(alloc, flash, &Assumptions::empty(alloc), filled, at) {
+    match next(task, filled, at) {
         Ok(edges) => has_edges(due, &edges),
         Err(fault) => has_fault(due, fault),
     }
 }
 
 /// The same with exits worked out once.
-fn leads_by_exits(alloc: Global, flash: &Flash, filled: &Filled, at: usize, due: &Due) -> bool
+fn leads_by_exits(task: &Task<'_>, filled: &Filled, at: usize, due: &Due) -> bool
     requires { at < length filled.now }
 {
-    let none = Assumptions::empty(alloc);
-    match exits(alloc, flash, &none, filled) {
-        Ok(Leaving::All(exits)) => match next_with(alloc, flash, &none, filled, at, &exits) {
+    match exits(task, filled) {
+        Ok(Leaving::All(exits)) => match next_with(task, filled, at, &exits) {
             Ok(edges) => has_edges(due, &edges),
             Err(_) => false,
         },
@@ -77,11 +76,11 @@ fn leads_by_exits(alloc: Global, flash: &Flash, filled: &Filled, at: usize, due:
     }
 }
 
-fn is_whole(alloc: Global, flash: &Flash, filled: &Filled, at: usize, due: &Due) -> bool {
+fn is_whole(task: &Task<'_>, filled: &Filled, at: usize, due: &Due) -> bool {
     at < filled.count()
         && filled.find(filled.key(at)) == Some(at)
-        && leads(alloc, flash, filled, at, due)
-        && leads_by_exits(alloc, flash, filled, at, due)
+        && leads(task, filled, at, due)
+        && leads_by_exits(task, filled, at, due)
 }
 
 fn is_missing(due: &Due, missing: u32) -> bool {
@@ -96,8 +95,14 @@ fn is_family(alloc: Global, flash: &Flash, nodes: &SeedList, at: usize, due: &Du
     requires seeds { AreSeeds false nodes.now.items.items }
     requires ascending { AreAscending nodes.now.items.items }
 {
-    match expand(alloc, flash, &Assumptions::empty(alloc), nodes) {
-        Ok(Expanded::Whole(filled)) => is_whole(alloc, flash, &filled, at, due),
+    let none = Assumptions::empty(alloc);
+    let task = Task {
+        alloc,
+        flash,
+        assumptions: &none,
+    };
+    match expand(&task, nodes) {
+        Ok(Expanded::Whole(filled)) => is_whole(&task, &filled, at, due),
         Ok(Expanded::Missing(missing)) => is_missing(due, missing),
         Err(_) => false,
     }

@@ -3,10 +3,11 @@
 ghost use Rattle.std.specs.Prelude.{◌≤◌, false, length};
 ghost use Rattle.edge_rules.specs.Expansion.{AreSeeds};
 ghost use Rattle.edge_laws.specs.Expansions.{AreAscending};
+ghost use Rattle.call_graph.specs.Landings.{AreLandings};
 
 use super::Worked;
 use crate::tests::seeds::{Plan, SeedList, seeds_of};
-use call_graph::{Expanded, Filled, Leaving, NodeForm, exits, expand};
+use call_graph::{Expanded, Filled, Leaving, NodeForm, Task, Worked as Family, exits, expand};
 use flash_image::Flash;
 use mask_states::{Kind, NodeKey};
 use solution::forming::forms;
@@ -36,13 +37,22 @@ fn are_forms(found: &[(NodeKey, NodeForm)], due: &[Option<u32>]) -> bool {
     true
 }
 
-fn is_formed(alloc: Global, flash: &Flash, nodes: Filled, due: &[Option<u32>]) -> bool
+fn is_written(task: &Task<'_>, family: Family, due: &[Option<u32>]) -> bool
+    requires few { length family.nodes ≤ 65536 }
+    requires landings { AreLandings task.now.flash.now task.now.assumptions.now family.nodes family.landings }
+{
+    match forms(task, family) {
+        Ok(found) => are_forms(&found, due),
+        Err(_) => false,
+    }
+}
+
+fn is_formed(task: &Task<'_>, nodes: Filled, due: &[Option<u32>]) -> bool
     requires { length nodes ≤ 65536 }
 {
-    let none = Assumptions::empty(alloc);
-    match exits(alloc, flash, &none, &nodes) {
-        Ok(Leaving::All(_)) => match forms(alloc, flash, &none, nodes) {
-            Ok(found) => are_forms(&found, due),
+    match exits(task, &nodes) {
+        Ok(Leaving::All(_)) => match Family::of(task, nodes) {
+            Ok(family) => is_written(task, family, due),
             Err(_) => false,
         },
         _ => false,
@@ -54,8 +64,14 @@ fn is_family(alloc: Global, flash: &Flash, nodes: &SeedList, due: &[Option<u32>]
     requires seeds { AreSeeds false nodes.now.items.items }
     requires ascending { AreAscending nodes.now.items.items }
 {
-    match expand(alloc, flash, &Assumptions::empty(alloc), nodes) {
-        Ok(Expanded::Whole(filled)) => is_formed(alloc, flash, filled, due),
+    let none = Assumptions::empty(alloc);
+    let task = Task {
+        alloc,
+        flash,
+        assumptions: &none,
+    };
+    match expand(&task, nodes) {
+        Ok(Expanded::Whole(filled)) => is_formed(&task, filled, due),
         _ => false,
     }
 }
