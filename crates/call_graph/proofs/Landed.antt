@@ -38,7 +38,7 @@ module _ (words : List ℕ) (A : List Entry) (nodes : List Node) where
   landings_are : (n : Node) (edges : List Edge) → AreEdges words A nodes n edges → AreLandingsOf words A nodes n (landings_by nodes edges)
   landings_are n edges are l = (
     λ h. each_of_join (landing_of nodes) (IsLanding words A nodes n) edges
-    (λ e m has on. let o = landing_only e.kind (place_of e.to nodes) m on in record { edge = e; is = (are e).0 has; kind = o.1; at = o.0 }) l h,
+        (λ e m has on. let o = landing_only e.kind (place_of e.to nodes) m on in record { edge = e; is = (are e).0 has; kind = o.1; at = o.0 }) l h,
     λ x. contained_in_join (landing_of nodes) edges x.edge l ((are x.edge).1 x.is) (landing_in x.edge.kind (place_of x.edge.to nodes) l x.at x.kind),
   )
 

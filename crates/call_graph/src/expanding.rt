@@ -31,15 +31,17 @@ fn state_in(nodes: Vec<Node>, key: &NodeKey) -> Option<AbsState>
 }
 
 // The state of a node of this key that comes from another.
-fn carry(
-    task: &Task<'_>,
-    from: &Node,
-    key: &NodeKey,
-) -> Result<Option<AbsState>, AllocError>
+fn carry(task: &Task<'_>, from: &Node, key: &NodeKey) -> Result<Option<AbsState>, AllocError>
     requires { IsNodeIn (has_pairs task.now.assumptions.now) from.now.key from.now.state }
     ensures { IfOk result (λ found. found ≡ carried task.now.flash.now task.now.assumptions.now key.now (Some from.now)) }
 {
-    match local(task.alloc, task.flash, task.assumptions, &from.key, &from.state) {
+    match local(
+        task.alloc,
+        task.flash,
+        task.assumptions,
+        &from.key,
+        &from.state,
+    ) {
         Ok(leads) => Ok(state_in(leads.same.into_vec(), key)),
         Err(NodeFault::Memory) => Err(AllocError),
         Err(_) => Ok(None),
@@ -64,10 +66,7 @@ fn work(
 }
 
 /// The expansion of each node, or the least node that has none. The local part of a node is worked out once for each that comes from it.
-pub fn expand<S: Seeded>(
-    task: &Task<'_>,
-    nodes: &S,
-) -> Result<Expanded, AllocError>
+pub fn expand<S: Seeded>(task: &Task<'_>, nodes: &S) -> Result<Expanded, AllocError>
     requires seeds { AreSeeds (has_pairs task.now.assumptions.now) (S.nodes nodes.now) }
     requires ascending { AreAscending (S.nodes nodes.now) }
     ensures { IfOk result (λ answer. IsExpanded task.now.flash.now task.now.assumptions.now (S.nodes nodes.now) answer) }

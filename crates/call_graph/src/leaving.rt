@@ -19,11 +19,7 @@ use local_rules::{Exit, NodeFault};
 use std::alloc::AllocError;
 
 // How the node of this number returns, or its fault.
-fn exit_at(
-    task: &Task<'_>,
-    nodes: &Filled,
-    at: usize,
-) -> Result<Option<Exit>, NodeFault>
+fn exit_at(task: &Task<'_>, nodes: &Filled, at: usize) -> Result<Option<Exit>, NodeFault>
     requires place { at < length nodes.now }
     requires shown { AreShown nodes.now }
     ensures { (n : Node) → slice_get nodes.now at ≡ Some n → Answers (λ x. x) Memory result (exit_or (rows.local task.now.flash.now task.now.assumptions.now n.key n.state)) }
@@ -57,10 +53,7 @@ pub(crate) fn exit_of(
 }
 
 /// How all nodes return, where none of them has a fault; else the first fault. The local part of each node is worked out once.
-pub fn exits(
-    task: &Task<'_>,
-    nodes: &Filled,
-) -> Result<Leaving, AllocError>
+pub fn exits(task: &Task<'_>, nodes: &Filled) -> Result<Leaving, AllocError>
     ensures { IfOk result (λ answer. GivesExits task.now.flash.now task.now.assumptions.now nodes.now answer) }
 {
     let mut items = Vec::new(task.alloc);
@@ -75,10 +68,7 @@ pub fn exits(
 }
 
 /// How all nodes return, none of which has a fault. The local part of each node is worked out once.
-pub fn all_exits(
-    task: &Task<'_>,
-    nodes: &Filled,
-) -> Result<Listed<Option<Exit>>, AllocError>
+pub fn all_exits(task: &Task<'_>, nodes: &Filled) -> Result<Listed<Option<Exit>>, AllocError>
     requires faultless { AreFaultless task.now.flash.now task.now.assumptions.now nodes.now }
     ensures { IfOk result (λ exits. AreExits task.now.flash.now task.now.assumptions.now nodes.now exits) }
 {

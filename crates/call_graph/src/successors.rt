@@ -192,11 +192,7 @@ fn listed(
 
 /// The edges from the node of this number, in no order that is promised, or the fault of the node that counts. `Memory` is no fault
 /// of the node. The local part of each node that may return to it is worked out anew.
-pub fn next(
-    task: &Task<'_>,
-    nodes: &Filled,
-    at: usize,
-) -> Result<Listed<Edge>, NodeFault>
+pub fn next(task: &Task<'_>, nodes: &Filled, at: usize) -> Result<Listed<Edge>, NodeFault>
     requires { at < length nodes.now }
     ensures edges { (n : Node) → slice_get nodes.now at ≡ Some n → IfOk result (λ edges. AreEdges task.now.flash.now task.now.assumptions.now nodes.now n edges) }
     ensures fault { (n : Node) (f : fault_type.NodeFault) → slice_get nodes.now at ≡ Some n → result ≢ Err Memory → (result ≡ Err f) ↔ (rows.local task.now.flash.now task.now.assumptions.now n.key n.state ≡ Err f) }

@@ -78,12 +78,7 @@ fn may_enter(task: &Task<'_>, key: &NodeKey, v: u8) -> bool
 }
 
 // The ways of a vector's interrupt, if it may come.
-fn add_vector(
-    ways: &mut Vec<Way>,
-    task: &Task<'_>,
-    key: &NodeKey,
-    v: u8,
-) -> Result<(), AllocError>
+fn add_vector(ways: &mut Vec<Way>, task: &Task<'_>, key: &NodeKey, v: u8) -> Result<(), AllocError>
     requires low { 2 ≤ v }
     requires high { v ≤ 26 }
     ensures { OnOk result (ways.new.items ≡ ways.old.items ++ at_vector task.now.flash.now task.now.assumptions.now key.now v) }
@@ -98,11 +93,7 @@ fn add_vector(
 }
 
 // The ways of all interrupts.
-fn add_vectors(
-    ways: &mut Vec<Way>,
-    task: &Task<'_>,
-    key: &NodeKey,
-) -> Result<(), AllocError>
+fn add_vectors(ways: &mut Vec<Way>, task: &Task<'_>, key: &NodeKey) -> Result<(), AllocError>
     ensures { OnOk result (ways.new.items ≡ ways.old.items ++ vectors_below task.now.flash.now task.now.assumptions.now key.now 25) }
 {
     for n in 0..25u8 {
@@ -112,11 +103,7 @@ fn add_vectors(
 }
 
 /// The ways of a node with these calls into other instances on the device: its calls, then the interrupts that may come, by vector.
-pub fn ways(
-    task: &Task<'_>,
-    key: &NodeKey,
-    calls: &[CallSite],
-) -> Result<Vec<Way>, AllocError>
+pub fn ways(task: &Task<'_>, key: &NodeKey, calls: &[CallSite]) -> Result<Vec<Way>, AllocError>
     ensures { IfOk result (λ all. all.items ≡ ways_of task.now.flash.now task.now.assumptions.now key.now calls.now) }
 {
     let mut all = Vec::new(task.alloc);

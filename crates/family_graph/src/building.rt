@@ -1,10 +1,10 @@
 //! The graph, instance by instance.
 
-ghost use Rattle.std.specs.Prelude.{◌≡◌, ◌++◌, ◌<◌, ◌≤◌, ℕ, length, map, Some, IfOk, OnOk, Contains, slice_get};
+ghost use Rattle.std.specs.Prelude.{◌≡◌, ◌++◌, ◌<◌, ◌≤◌, length, map, Some, IfOk, OnOk, Contains, slice_get};
 ghost use Rattle.local_rules.specs.declared.local.Node.{Node};
 ghost use Rattle.nesting_bound.specs.Graph.{IsGraph};
 ghost use Rattle.family_graph.specs.declared.entering.Entering as entering_type;
-ghost use Rattle.family_graph.specs.Graphs.{HasInst, AreWaysOf, AreWays, IsPeopled, IsGraphOf};
+ghost use Rattle.family_graph.specs.Graphs.{HasInst, AreWays, IsPeopled, IsGraphOf};
 ghost use Rattle.family_graph.specs.Numbers.{AreNumbers, entry_of, AddsAt, IsInstOf};
 
 use crate::entering::Entering;

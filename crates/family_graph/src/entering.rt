@@ -1,6 +1,6 @@
 //! In which ways nodes enter instances.
 
-ghost use Rattle.std.specs.Prelude.{ℕ, ◌≡◌, ◌++◌, ◌<◌, Contains, length, IfOk, OnOk};
+ghost use Rattle.std.specs.Prelude.{◌≡◌, ◌++◌, ◌<◌, Contains, length, IfOk, OnOk};
 ghost use Rattle.call_graph.specs.declared.landing.Landing as landing_type;
 ghost use Rattle.call_graph.specs.Landings.{AreLandings};
 ghost use Rattle.family_graph.specs.Graphs.{AreWays, IsPeopled};
@@ -22,11 +22,7 @@ pub struct Entering {
 }
 
 // The way of an edge that lands so, if it enters an instance.
-fn add_way(
-    ways: &mut Listed<Entering>,
-    nodes: &Filled,
-    landing: &Landing,
-) -> Result<(), AllocError>
+fn add_way(ways: &mut Listed<Entering>, nodes: &Filled, landing: &Landing) -> Result<(), AllocError>
     requires { landing.now.at < length nodes.now }
     ensures { OnOk result (ways.new ≡ ways.old ++ way_of nodes.now landing.now) }
 {

@@ -14,7 +14,7 @@ use crate::noting::Notes;
 use abs_state::AbsState;
 use call_graph::ways::Way;
 use call_graph::{Caller, returned};
-use family_table::{Crossing, Crossings, Gathered, Table};
+use family_table::{Crossing, Gathered, Table};
 use local_rules::{Exit, Node};
 use mask_states::{InstKey, NodeKey};
 use std::alloc::{AllocError, Global};
