@@ -1,5 +1,5 @@
 -- The whole graph.
-use Rattle.std.proofs.Common.{arith, refl, sym, ap, subst, ◌∙◌, ◌≡◌, ℕ, suc, ◌+◌, ◌<◌, ◌≤◌, List, [], ◌∷◌, ◌++◌, length, length-append, Some, slice_get, Contains, inl, inr, Result, Ok, Err, IfOk}
+use Rattle.std.proofs.Common.{arith, refl, sym, ap, subst, ◌∙◌, ◌≡◌, ℕ, suc, ◌+◌, ◌<◌, ◌≤◌, List, [], ◌∷◌, ◌++◌, length, length-append, Some, slice_get, Contains, inl, inr}
 use Rattle.std.specs.Prelude.{◌↔◌}
 use Rattle.std.specs.Option.{option_map}
 use Rattle.std.specs.List.Sorted.{IsStrictlySortedBy}
@@ -15,7 +15,6 @@ use Rattle.mask_states.specs.Order.{inst_cmp}
 use Rattle.local_rules.specs.declared.local.Node.{Node}
 use Rattle.edge_rules.specs.Views.{AreShown}
 use Rattle.nesting_bound.specs.declared.graph.Entered.{Entered}
-use Rattle.nesting_bound.specs.declared.graph.Graph.{Graph}
 use Rattle.nesting_bound.specs.declared.graph.GraphInst.{GraphInst}
 use Rattle.nesting_bound.specs.declared.graph.Place.{Place}
 use Rattle.nesting_bound.specs.Graph as graph
@@ -130,8 +129,3 @@ module _ (words : List ℕ) (A : List Entry) (nodes : List Node) (shown : AreSho
         places = λ i e h. let q = ((is.entered i e).0 h).entry in small q.node e.node e.offset q.at q.closed;
         within = λ i e h. let q = (is.entered i e).0 h in omega (arith, slice_get_within (insts_of gs) e.into q.into q.leads, keys_long gs);
       }
-
-pub graph_as : {E : Type 0} (words : List ℕ) (A : List Entry) (nodes : List Node) → AreShown nodes → 0 < length nodes → (r : Result Graph E)
-    → IfOk r (λ g. length g.instances ≤ 65536) → IfOk r (λ g. IsGraphOf words A nodes g.instances) → IfOk r (λ g. graph.IsGraph g.instances)
-graph_as words A nodes shown some (Ok g) few is = composable words A nodes shown g.instances is some (omega (arith, few))
-graph_as words A nodes shown some (Err e) few is = tt
