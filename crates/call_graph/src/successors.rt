@@ -27,6 +27,20 @@ use local_rules::{Exit, Local, Node, NodeFault};
 use mask_states::{EdgeKind, NodeKey};
 use std::alloc::{AllocError, Global};
 
+/// The nodes of a family, and the exits of the first of them, as far as they are known.
+#[derive(Clone, Copy)]
+struct Known<'a> {
+    nodes: &'a Filled,
+    exits: &'a [Option<Exit>],
+}
+
+/// A node that edges leave.
+#[derive(Clone, Copy)]
+struct Start<'a> {
+    key: &'a NodeKey,
+    state: &'a AbsState,
+}
+
 // The edges in the node's own frame.
 fn add_moves(edges: &mut Listed<Edge>, nodes: Vec<Node>) -> Result<(), AllocError>
     ensures { OnOk result (edges.new ≡ edges.old ++ map local_edge nodes.items) }
@@ -88,18 +102,17 @@ fn add_leaver(
     task: &Task<'_>,
     edges: &mut Listed<Edge>,
     caller: &Caller<'_>,
-    nodes: &Filled,
+    known: &Known<'_>,
     at: usize,
-    known: &[Option<Exit>],
 ) -> Result<(), AllocError>
-    requires place { at < length nodes.now }
-    requires shown { AreShown nodes.now }
-    requires given { AreKnown task.now.flash.now task.now.assumptions.now nodes.now known.now }
-    ensures { (n : Node) → slice_get nodes.now at ≡ Some n → OnOk result (edges.new ≡ edges.old ++ return_edges task.now.flash.now task.now.assumptions.now caller.now.key.now caller.now.state.now caller.now.way n) }
+    requires place { at < length known.now.nodes.now }
+    requires shown { AreShown known.now.nodes.now }
+    requires given { AreKnown task.now.flash.now task.now.assumptions.now known.now.nodes.now known.now.exits.now }
+    ensures { (n : Node) → slice_get known.now.nodes.now at ≡ Some n → OnOk result (edges.new ≡ edges.old ++ return_edges task.now.flash.now task.now.assumptions.now caller.now.key.now caller.now.state.now caller.now.way n) }
 {
-    match exit_of(task, nodes, at, known)? {
+    match exit_of(task, known.nodes, at, known.exits)? {
         Some(exit) => {
-            let leaving = nodes.state(at);
+            let leaving = known.nodes.state(at);
             add_return(task.alloc, edges, caller, &exit, leaving)
         }
         None => Ok(()),
@@ -111,16 +124,15 @@ fn add_returns(
     task: &Task<'_>,
     edges: &mut Listed<Edge>,
     caller: &Caller<'_>,
-    nodes: &Filled,
-    known: &[Option<Exit>],
+    known: &Known<'_>,
 ) -> Result<(), AllocError>
-    requires shown { AreShown nodes.now }
-    requires given { AreKnown task.now.flash.now task.now.assumptions.now nodes.now known.now }
-    ensures { OnOk result (edges.new ≡ edges.old ++ returns_in task.now.flash.now task.now.assumptions.now caller.now.key.now caller.now.state.now nodes.now caller.now.way) }
+    requires shown { AreShown known.now.nodes.now }
+    requires given { AreKnown task.now.flash.now task.now.assumptions.now known.now.nodes.now known.now.exits.now }
+    ensures { OnOk result (edges.new ≡ edges.old ++ returns_in task.now.flash.now task.now.assumptions.now caller.now.key.now caller.now.state.now known.now.nodes.now caller.now.way) }
 {
-    let (low, high) = nodes.span(&caller.way.inst);
+    let (low, high) = known.nodes.span(&caller.way.inst);
     for at in low..high {
-        add_leaver(task, edges, caller, nodes, at, known)?;
+        add_leaver(task, edges, caller, known, at)?;
     }
     Ok(())
 }
@@ -129,20 +141,21 @@ fn add_returns(
 fn add_all_returns(
     task: &Task<'_>,
     edges: &mut Listed<Edge>,
-    key: &NodeKey,
-    state: &AbsState,
+    start: &Start<'_>,
     ways: &[Way],
-    nodes: &Filled,
-    known: &[Option<Exit>],
+    known: &Known<'_>,
 ) -> Result<(), AllocError>
-    requires shown { AreShown nodes.now }
-    requires given { AreKnown task.now.flash.now task.now.assumptions.now nodes.now known.now }
-    ensures { OnOk result (edges.new ≡ edges.old ++ all_returns task.now.flash.now task.now.assumptions.now key.now state.now nodes.now ways.now) }
+    requires shown { AreShown known.now.nodes.now }
+    requires given { AreKnown task.now.flash.now task.now.assumptions.now known.now.nodes.now known.now.exits.now }
+    ensures { OnOk result (edges.new ≡ edges.old ++ all_returns task.now.flash.now task.now.assumptions.now start.now.key.now start.now.state.now known.now.nodes.now ways.now) }
 {
     for at in 0..ways.len() {
-        let way = ways[at];
-        let caller = Caller { key, state, way };
-        add_returns(task, edges, &caller, nodes, known)?;
+        let caller = Caller {
+            key: start.key,
+            state: start.state,
+            way: ways[at],
+        };
+        add_returns(task, edges, &caller, known)?;
     }
     Ok(())
 }
@@ -150,21 +163,19 @@ fn add_all_returns(
 // All edges of a node with this local part.
 fn edges_of(
     task: &Task<'_>,
-    key: &NodeKey,
-    state: &AbsState,
+    start: &Start<'_>,
     found: Local,
-    nodes: &Filled,
-    known: &[Option<Exit>],
+    known: &Known<'_>,
 ) -> Result<Listed<Edge>, AllocError>
-    requires shown { AreShown nodes.now }
-    requires given { AreKnown task.now.flash.now task.now.assumptions.now nodes.now known.now }
-    ensures { IfOk result (λ edges. edges ≡ edges_with task.now.flash.now task.now.assumptions.now nodes.now key.now state.now (ways_of task.now.flash.now task.now.assumptions.now key.now found.calls) found) }
+    requires shown { AreShown known.now.nodes.now }
+    requires given { AreKnown task.now.flash.now task.now.assumptions.now known.now.nodes.now known.now.exits.now }
+    ensures { IfOk result (λ edges. edges ≡ edges_with task.now.flash.now task.now.assumptions.now known.now.nodes.now start.now.key.now start.now.state.now (ways_of task.now.flash.now task.now.assumptions.now start.now.key.now found.calls) found) }
 {
-    let all = ways(task, key, found.calls.as_slice())?;
+    let all = ways(task, start.key, found.calls.as_slice())?;
     let mut edges = Listed::empty(task.alloc);
     add_moves(&mut edges, found.same.into_vec())?;
-    add_entries(task.alloc, &mut edges, state, &all)?;
-    add_all_returns(task, &mut edges, key, state, &all, nodes, known)?;
+    add_entries(task.alloc, &mut edges, start.state, &all)?;
+    add_all_returns(task, &mut edges, start, &all, known)?;
     Ok(edges)
 }
 
@@ -184,7 +195,12 @@ fn listed(
     let key = nodes.key(at);
     let state = nodes.state(at);
     let found = local(task.alloc, task.flash, task.assumptions, key, state)?;
-    match edges_of(task, key, state, found, nodes, known) {
+    let start = Start { key, state };
+    let known = Known {
+        nodes,
+        exits: known,
+    };
+    match edges_of(task, &start, found, &known) {
         Ok(edges) => Ok(edges),
         Err(_) => Err(NodeFault::Memory),
     }
