@@ -1,5 +1,5 @@
 -- Addresses by the numbers that give them, with a number added modulo 65,536.
-use Rattle.std.proofs.Common.{◌≡◌, refl, sym, ap, ap₂, ◌∙◌, subst, ℕ, ◌+◌, ◌-◌, ◌<◌, ◌≤◌, ◌==◌, ◌&&◌, ◌||◌, ⊎_elim, not, nat_lt, nat_le, Bool, true, false, List, Some, arith, eqb-true}
+use Rattle.std.proofs.Common.{◌≡◌, refl, sym, ap, ap₂, ◌∙◌, subst, ℕ, ◌+◌, ◌<◌, ◌≤◌, ◌==◌, ◌&&◌, ◌||◌, ⊎_elim, not, nat_lt, nat_le, Bool, true, false, List, Some, arith, eqb-true}
 use Rattle.std.proofs.lemmas.Bool.{cases_lt, and_from, and_parts, or_left, or_right, or_cases}
 use Rattle.basics.specs.Numbers.{less_from_test, at_most_from_test, test_from_less, test_from_at_most, equals_itself}
 use Rattle.avr_model.specs.declared.assumption.Entry.{Entry}

@@ -7,12 +7,12 @@ ghost use Rattle.clear_laws.specs.Causes.{may_write_protected, may_write_some_pr
 
 use crate::aims::permits_number;
 use crate::need::{is_flagged_address, is_indirect};
+use crate::store::Store;
 use abs_reads::pointers::step_before;
 use abs_rows::transfer::{base_register, pointer_register};
 use abs_state::AbsState;
 use avr_model::instruction::Instr;
 use flash_image::Flash;
-use vector_table::Assumptions;
 
 // Whether a store's byte may go to this address.
 fn may_write(state: &AbsState, instr: &Instr, address: u16) -> bool
@@ -33,31 +33,18 @@ fn may_write(state: &AbsState, instr: &Instr, address: u16) -> bool
 }
 
 /// Whether the byte of a store at this word may go to this data address, and a write of it is flagged as that of a protected one.
-pub fn may_write_protected(
-    flash: &Flash,
-    assumptions: &Assumptions,
-    pc: u16,
-    state: &AbsState,
-    instr: &Instr,
-    address: u16,
-) -> bool
-    ensures { result ≡ may_write_protected flash.now assumptions.now pc state.now instr.now address }
+pub fn may_write_protected(store: &Store<'_>, address: u16) -> bool
+    ensures { result ≡ may_write_protected store.now.flash.now store.now.assumptions.now store.now.pc store.now.state.now store.now.instr.now address }
 {
-    is_flagged_address(flash, assumptions, pc, instr, address) && may_write(state, instr, address)
+    is_flagged_address(store, address) && may_write(store.state, store.instr, address)
 }
 
 // The same of some address.
-fn may_write_some_protected(
-    flash: &Flash,
-    assumptions: &Assumptions,
-    pc: u16,
-    state: &AbsState,
-    instr: &Instr,
-) -> bool
-    ensures { result ≡ may_write_some_protected flash.now assumptions.now pc state.now instr.now }
+fn may_write_some_protected(store: &Store<'_>) -> bool
+    ensures { result ≡ may_write_some_protected store.now.flash.now store.now.assumptions.now store.now.pc store.now.state.now store.now.instr.now }
 {
     for address in 0..256u16 {
-        if may_write_protected(flash, assumptions, pc, state, instr, address) {
+        if may_write_protected(store, address) {
             return true;
         }
     }
@@ -79,30 +66,17 @@ fn may_write_stack(flash: &Flash, bound: u16, state: &AbsState, instr: &Instr) -
 }
 
 // Whether pairs aren't followed, and a store at this word may go neither where the stack can reach nor to a protected address.
-fn is_untold(
-    flash: &Flash,
-    assumptions: &Assumptions,
-    pc: u16,
-    state: &AbsState,
-    instr: &Instr,
-) -> bool
-    ensures { result ≡ is_untold flash.now assumptions.now pc state.now instr.now }
+fn is_untold(store: &Store<'_>) -> bool
+    ensures { result ≡ is_untold store.now.flash.now store.now.assumptions.now store.now.pc store.now.state.now store.now.instr.now }
 {
-    !state.facts.is_followed()
-        && !(is_indirect(instr) || may_write_some_protected(flash, assumptions, pc, state, instr))
+    !store.state.facts.is_followed()
+        && !(is_indirect(store.instr) || may_write_some_protected(store))
 }
 
 /// Whether a store at this word that isn't harmless may write a byte that was pushed, where the stack takes at most this many bytes.
-pub fn may_write_live(
-    flash: &Flash,
-    assumptions: &Assumptions,
-    bound: u16,
-    pc: u16,
-    state: &AbsState,
-    instr: &Instr,
-) -> bool
-    requires { bound ≤ size_of (device_of flash.now) }
-    ensures { result ≡ may_write_live flash.now assumptions.now bound pc state.now instr.now }
+pub fn may_write_live(store: &Store<'_>, bound: u16) -> bool
+    requires { bound ≤ size_of (device_of store.now.flash.now) }
+    ensures { result ≡ may_write_live store.now.flash.now store.now.assumptions.now bound store.now.pc store.now.state.now store.now.instr.now }
 {
-    may_write_stack(flash, bound, state, instr) || is_untold(flash, assumptions, pc, state, instr)
+    may_write_stack(store.flash, bound, store.state, store.instr) || is_untold(store)
 }

@@ -6,6 +6,8 @@ pub mod aims;
 pub mod causes;
 pub mod need;
 mod numbers;
+pub mod store;
 
 pub use causes::{may_write_live, may_write_protected};
 pub use need::{Asks, asked_by, is_indirect};
+pub use store::Store;

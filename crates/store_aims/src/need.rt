@@ -10,6 +10,7 @@ ghost use Rattle.store_aims.specs.Needs.{meets};
 
 use crate::aims::{aim, permits_number};
 use crate::numbers::are_addresses_harmless;
+use crate::store::Store;
 use abs_reads::pointers::has;
 use abs_rows::registers::pair;
 use abs_rows::transfer::base_register;
@@ -61,73 +62,46 @@ fn lists(items: &[u16], item: u16) -> bool
 }
 
 /// Whether a write of this address at this word is flagged for a protected one.
-pub(crate) fn is_flagged_address(
-    flash: &Flash,
-    assumptions: &Assumptions,
-    pc: u16,
-    instr: &Instr,
-    address: u16,
-) -> bool
-    ensures { result ≡ is_flagged_address flash.now assumptions.now pc instr.now address }
+pub(crate) fn is_flagged_address(store: &Store<'_>, address: u16) -> bool
+    ensures { result ≡ is_flagged_address store.now.flash.now store.now.assumptions.now store.now.pc store.now.instr.now address }
 {
-    let is_store = is_pointer_store(instr);
-    let fixed = flash.is_fixed_site(assumptions, pc);
+    let is_store = is_pointer_store(store.instr);
+    let fixed = store.flash.is_fixed_site(store.assumptions, store.pc);
     let protected = is_protected(address);
-    let listed = lists(assumptions.stores(pc), address);
+    let listed = lists(store.assumptions.stores(store.pc), address);
     is_store && !fixed && (protected && !listed)
 }
 
 /// Whether a byte at this address isn't one that was pushed, and a write of it isn't flagged, where the stack takes at most this many bytes.
-pub(crate) fn is_address_harmless(
-    flash: &Flash,
-    assumptions: &Assumptions,
-    bound: u16,
-    pc: u16,
-    instr: &Instr,
-    address: u16,
-) -> bool
-    requires { bound ≤ size_of (device_of flash.now) }
-    ensures { result ≡ is_address_harmless flash.now assumptions.now bound pc instr.now address }
+pub(crate) fn is_address_harmless(store: &Store<'_>, bound: u16, address: u16) -> bool
+    requires { bound ≤ size_of (device_of store.now.flash.now) }
+    ensures { result ≡ is_address_harmless store.now.flash.now store.now.assumptions.now bound store.now.pc store.now.instr.now address }
 {
-    let ramend = flash.device().ramend();
+    let ramend = store.flash.device().ramend();
     (BELOW < address && address <= ramend - bound)
         || ramend < address
-        || (address <= BELOW && !is_flagged_address(flash, assumptions, pc, instr, address))
+        || (address <= BELOW && !is_flagged_address(store, address))
 }
 
 // Whether a store to one of these addresses writes neither a live byte nor a flagged address.
-fn is_span_harmless(
-    flash: &Flash,
-    assumptions: &Assumptions,
-    bound: u16,
-    pc: u16,
-    instr: &Instr,
-    span: Span,
-) -> bool
-    requires { bound ≤ size_of (device_of flash.now) }
-    ensures { result ≡ is_span_harmless flash.now assumptions.now bound pc instr.now span }
+fn is_span_harmless(store: &Store<'_>, bound: u16, span: Span) -> bool
+    requires { bound ≤ size_of (device_of store.now.flash.now) }
+    ensures { result ≡ is_span_harmless store.now.flash.now store.now.assumptions.now bound store.now.pc store.now.instr.now span }
 {
-    let ramend = flash.device().ramend();
-    let flagged = is_flagged_address(flash, assumptions, pc, instr, span.first);
+    let ramend = store.flash.device().ramend();
+    let flagged = is_flagged_address(store, span.first);
     (BELOW < span.first && span.last <= ramend - bound)
         || ramend < span.first
         || (span.first == span.last && span.first <= BELOW && !flagged)
 }
 
-fn is_reach_harmless(
-    flash: &Flash,
-    assumptions: &Assumptions,
-    bound: u16,
-    pc: u16,
-    instr: &Instr,
-    reach: Reach,
-) -> bool
-    requires { bound ≤ size_of (device_of flash.now) }
-    ensures { result ≡ is_reach_harmless flash.now assumptions.now bound pc instr.now reach }
+fn is_reach_harmless(store: &Store<'_>, bound: u16, reach: Reach) -> bool
+    requires { bound ≤ size_of (device_of store.now.flash.now) }
+    ensures { result ≡ is_reach_harmless store.now.flash.now store.now.assumptions.now bound store.now.pc store.now.instr.now reach }
 {
     match reach {
         Reach::Nothing => true,
-        Reach::Within(span) => is_span_harmless(flash, assumptions, bound, pc, instr, span),
+        Reach::Within(span) => is_span_harmless(store, bound, span),
         Reach::Beyond => false,
     }
 }
@@ -143,24 +117,15 @@ fn asks_of_slot(offset: u16, slot: Option<u16>) -> Asks
 }
 
 // What a store asks.
-fn asks_of_aim(
-    flash: &Flash,
-    assumptions: &Assumptions,
-    bound: u16,
-    key: &NodeKey,
-    state: &AbsState,
-    instr: &Instr,
-    aim: Option<Aim>,
-) -> Asks
-    requires { bound ≤ size_of (device_of flash.now) }
-    ensures { (held : ℕ → Bool) → is_aim_harmless flash.now assumptions.now bound key.now state.now instr.now held aim ≡ meets result held }
+fn asks_of_aim(store: &Store<'_>, bound: u16, key: &NodeKey, aim: Option<Aim>) -> Asks
+    requires at { store.now.pc ≡ key.now.pc }
+    requires small { bound ≤ size_of (device_of store.now.flash.now) }
+    ensures { (held : ℕ → Bool) → is_aim_harmless store.now.flash.now store.now.assumptions.now bound key.now store.now.state.now store.now.instr.now held aim ≡ meets result held }
 {
     match aim {
         None => Asks::Nothing,
         Some(aim) => {
-            if is_reach_harmless(flash, assumptions, bound, key.pc, instr, aim.reach)
-                || are_addresses_harmless(flash, assumptions, bound, key.pc, state, instr)
-            {
+            if is_reach_harmless(store, bound, aim.reach) || are_addresses_harmless(store, bound) {
                 Asks::Nothing
             } else {
                 asks_of_slot(key.offset(), aim.slot)
@@ -237,7 +202,14 @@ pub fn asked_by(
         Some(instr) => {
             let aim = aim(flash.device(), key, state, &instr);
             if is_transfer_listed(flash, assumptions, key.pc, state, &instr) {
-                asks_of_aim(flash, assumptions, bound, key, state, &instr, aim)
+                let store = Store {
+                    flash,
+                    assumptions,
+                    pc: key.pc,
+                    state,
+                    instr: &instr,
+                };
+                asks_of_aim(&store, bound, key, aim)
             } else {
                 Asks::Never
             }

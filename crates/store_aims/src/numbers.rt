@@ -8,15 +8,14 @@ ghost use Rattle.store_aims.specs.Needs.{is_range_harmless, is_number_harmless, 
 
 use crate::aims::permits_bytes;
 use crate::need::is_address_harmless;
+use crate::store::Store;
 use abs_reads::pointers::step_before;
 use abs_rows::transfer::{base_register, pointer_register};
-use abs_state::AbsState;
 use avr_model::device::BELOW;
 use avr_model::instruction::{Instr, LowRegister};
 use flash_image::Flash;
-use pair_domain::PairFacts;
+use pair_domain::{Interval, PairFacts};
 use pair_told::told::interval_of;
-use vector_table::Assumptions;
 
 // Whether the addresses from the first to the last lie in SRAM below what the stack can reach, or above SRAM. Where the last is less than the
 // first they go round the end of data space.
@@ -29,51 +28,35 @@ fn is_range_harmless(flash: &Flash, bound: u16, first: u16, last: u16) -> bool
 }
 
 // Whether the bytes of registers `r` and `r + 1` don't permit a number, or it leads to a harmless address, with `up` added.
-fn is_number_harmless(
-    flash: &Flash,
-    assumptions: &Assumptions,
-    bound: u16,
-    pc: u16,
-    state: &AbsState,
-    instr: &Instr,
-    r: LowRegister,
-    up: u16,
-    number: u16,
-) -> bool
-    requires { bound ≤ size_of (device_of flash.now) }
-    ensures { result ≡ is_number_harmless flash.now assumptions.now bound pc state.now instr.now r up number }
+fn is_number_harmless(store: &Store<'_>, bound: u16, r: LowRegister, up: u16, number: u16) -> bool
+    requires { bound ≤ size_of (device_of store.now.flash.now) }
+    ensures { result ≡ is_number_harmless store.now.flash.now store.now.assumptions.now bound store.now.pc store.now.state.now store.now.instr.now r up number }
 {
     let address = number.wrapping_add(up);
-    !permits_bytes(state, r, number)
-        || is_address_harmless(flash, assumptions, bound, pc, instr, address)
+    !permits_bytes(store.state, r, number) || is_address_harmless(store, bound, address)
 }
 
-// Whether each number from the low to the high one that registers `r` and `r + 1` may hold leads to a harmless address, with `up` added. They may hold no
+// Whether each number of an interval that registers `r` and `r + 1` may hold leads to a harmless address, with `up` added. They may hold no
 // others.
 fn is_interval_harmless(
-    flash: &Flash,
-    assumptions: &Assumptions,
+    store: &Store<'_>,
     bound: u16,
-    pc: u16,
-    state: &AbsState,
-    instr: &Instr,
     r: LowRegister,
     up: u16,
-    low: u16,
-    high: u16,
+    interval: Interval,
 ) -> bool
-    requires small { bound ≤ size_of (device_of flash.now) }
-    requires follows { (p : ℕ) → is_in_interval state.now.facts r p ≡ is_between low high p }
-    ensures { result ≡ are_numbers_harmless flash.now assumptions.now bound pc state.now instr.now r up }
+    requires small { bound ≤ size_of (device_of store.now.flash.now) }
+    requires follows { (p : ℕ) → is_in_interval store.now.state.now.facts r p ≡ is_between interval.low interval.high p }
+    ensures { result ≡ are_numbers_harmless store.now.flash.now store.now.assumptions.now bound store.now.pc store.now.state.now store.now.instr.now r up }
 {
-    let first = low.wrapping_add(up);
-    let last = high.wrapping_add(up);
-    if is_range_harmless(flash, bound, first, last) {
+    let first = interval.low.wrapping_add(up);
+    let last = interval.high.wrapping_add(up);
+    if is_range_harmless(store.flash, bound, first, last) {
         return true;
     }
-    for number in u32::from(low)..u32::from(high) + 1 {
+    for number in u32::from(interval.low)..u32::from(interval.high) + 1 {
         let number = number as u16;
-        if !is_number_harmless(flash, assumptions, bound, pc, state, instr, r, up, number) {
+        if !is_number_harmless(store, bound, r, up, number) {
             return false;
         }
     }
@@ -82,64 +65,39 @@ fn is_interval_harmless(
 
 // Whether each number that registers `r` and `r + 1` may hold leads to a harmless address, with `up` added.
 fn are_numbers_harmless(
-    flash: &Flash,
-    assumptions: &Assumptions,
+    store: &Store<'_>,
     bound: u16,
-    pc: u16,
-    state: &AbsState,
     facts: &PairFacts,
-    instr: &Instr,
     r: LowRegister,
     up: u16,
 ) -> bool
-    requires small { bound ≤ size_of (device_of flash.now) }
-    requires follows { state.now.facts ≡ Some facts.now }
-    ensures { result ≡ are_numbers_harmless flash.now assumptions.now bound pc state.now instr.now r up }
+    requires small { bound ≤ size_of (device_of store.now.flash.now) }
+    requires follows { store.now.state.now.facts ≡ Some facts.now }
+    ensures { result ≡ are_numbers_harmless store.now.flash.now store.now.assumptions.now bound store.now.pc store.now.state.now store.now.instr.now r up }
 {
     let interval = interval_of(facts, r.widened());
-    let (low, high) = (interval.low, interval.high);
-    is_interval_harmless(
-        flash,
-        assumptions,
-        bound,
-        pc,
-        state,
-        instr,
-        r,
-        up,
-        low,
-        high,
-    )
+    is_interval_harmless(store, bound, r, up, interval)
 }
 
 /// Whether pairs are followed, and each address to which the byte of an instruction may go is harmless, where the stack takes at most this
 /// many bytes.
-pub(crate) fn are_addresses_harmless(
-    flash: &Flash,
-    assumptions: &Assumptions,
-    bound: u16,
-    pc: u16,
-    state: &AbsState,
-    instr: &Instr,
-) -> bool
-    requires { bound ≤ size_of (device_of flash.now) }
-    ensures { result ≡ are_addresses_harmless flash.now assumptions.now bound pc state.now instr.now }
+pub(crate) fn are_addresses_harmless(store: &Store<'_>, bound: u16) -> bool
+    requires { bound ≤ size_of (device_of store.now.flash.now) }
+    ensures { result ≡ are_addresses_harmless store.now.flash.now store.now.assumptions.now bound store.now.pc store.now.state.now store.now.instr.now }
 {
-    let Some(facts) = state.facts.get() else {
+    let Some(facts) = store.state.facts.get() else {
         return false;
     };
-    match instr {
+    match store.instr {
         Instr::Std(base, q, _) => {
             let (r, up) = (base_register(*base), q.get());
-            are_numbers_harmless(flash, assumptions, bound, pc, state, &facts, instr, r, up)
+            are_numbers_harmless(store, bound, &facts, r, up)
         }
         Instr::St(pointer, _) => {
             let (r, up) = (pointer_register(*pointer), step_before(*pointer));
-            are_numbers_harmless(flash, assumptions, bound, pc, state, &facts, instr, r, up)
+            are_numbers_harmless(store, bound, &facts, r, up)
         }
-        Instr::Sts(address, _) => {
-            is_address_harmless(flash, assumptions, bound, pc, instr, *address)
-        }
+        Instr::Sts(address, _) => is_address_harmless(store, bound, *address),
         _ => true,
     }
 }

@@ -13,14 +13,13 @@ ghost use Rattle.store_clear.specs.Causing.{IsProtectedBelow, is_unclear_at, IsP
 
 use crate::telling::{Told, passes};
 use crate::words::places;
-use abs_state::AbsState;
 use avr_model::instruction::Instr;
 use avr_model::listed::Listed;
 use call_graph::Task;
 use certificate::Certificate;
 use mask_states::NodeKey;
 use std::alloc::AllocError;
-use store_aims::{Asks, is_indirect, may_write_live, may_write_protected};
+use store_aims::{Asks, Store, is_indirect, may_write_live, may_write_protected};
 use store_laws::FlaggedPlace;
 
 /// A word with its instruction.
@@ -30,20 +29,13 @@ struct Site<'a> {
     instr: &'a Instr,
 }
 
-// Marks the addresses that a store there may write and that are flagged as protected.
-fn mark_addresses(task: &Task<'_>, site: &Site<'_>, state: &AbsState, marks: &mut [bool])
+// Marks the addresses that a store may write and that are flagged as protected.
+fn mark_addresses(store: &Store<'_>, marks: &mut [bool])
     requires { length marks.old ≡ 256 }
-    ensures { IsMarked (IsProtectedBelow task.now.flash.now task.now.assumptions.now site.now.pc state.now site.now.instr.now 256) marks.old marks.new }
+    ensures { IsMarked (IsProtectedBelow store.now.flash.now store.now.assumptions.now store.now.pc store.now.state.now store.now.instr.now 256) marks.old marks.new }
 {
     for address in 0..256u16 {
-        if may_write_protected(
-            task.flash,
-            task.assumptions,
-            site.pc,
-            state,
-            site.instr,
-            address,
-        ) {
+        if may_write_protected(store, address) {
             marks[usize::from(address)] = true;
         }
     }
@@ -65,7 +57,14 @@ fn mark_nodes(task: &Task<'_>, told: &Told<'_>, site: &Site<'_>, marks: &mut [bo
     let _count = told.nodes.count();
     for at in 0..told.asks.len() {
         if is_unclear_at(site.pc, told.nodes.key(at), told.asks[at]) {
-            mark_addresses(task, site, told.nodes.state(at), marks);
+            let store = Store {
+                flash: task.flash,
+                assumptions: task.assumptions,
+                pc: site.pc,
+                state: told.nodes.state(at),
+                instr: site.instr,
+            };
+            mark_addresses(&store, marks);
         }
     }
 }
@@ -94,16 +93,14 @@ fn is_live_at(task: &Task<'_>, bound: u16, told: &Told<'_>, site: &Site<'_>) -> 
     let _count = told.nodes.count();
     for at in 0..told.asks.len() {
         let (key, state) = (told.nodes.key(at), told.nodes.state(at));
-        if is_unclear_at(site.pc, key, told.asks[at])
-            && may_write_live(
-                task.flash,
-                task.assumptions,
-                bound,
-                site.pc,
-                state,
-                site.instr,
-            )
-        {
+        let store = Store {
+            flash: task.flash,
+            assumptions: task.assumptions,
+            pc: site.pc,
+            state,
+            instr: site.instr,
+        };
+        if is_unclear_at(site.pc, key, told.asks[at]) && may_write_live(&store, bound) {
             return true;
         }
     }

@@ -1,0 +1,21 @@
+//! A store, or another instruction, at a node.
+
+use abs_state::AbsState;
+use avr_model::instruction::Instr;
+use flash_image::Flash;
+use vector_table::Assumptions;
+
+/// An instruction at a word, with the firmware, what is assumed of it, and what is known there.
+#[derive(Clone, Copy)]
+pub struct Store<'a> {
+    /// The words of flash.
+    pub flash: &'a Flash,
+    /// What is assumed.
+    pub assumptions: &'a Assumptions,
+    /// The word.
+    pub pc: u16,
+    /// What is known of a node there.
+    pub state: &'a AbsState,
+    /// The instruction.
+    pub instr: &'a Instr,
+}
