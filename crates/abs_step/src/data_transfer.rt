@@ -1,6 +1,6 @@
 //! Data transfer: loads, stores, bytes of flash, and I/O.
 
-ghost use Rattle.std.specs.Prelude.{◌≡◌, slice_set};
+ghost use Rattle.std.specs.Prelude.{◌≡◌, slice_set, if◌then◌else◌};
 ghost use Rattle.local_rules.specs.Writes.{written_at};
 ghost use Rattle.local_rules.specs.Registers as registers;
 ghost use Rattle.local_rules.specs.Raw as raw;
@@ -9,7 +9,7 @@ ghost use Rattle.local_rules.specs.Local as rows;
 ghost use Rattle.abs_step.specs.Adding.{Adds};
 
 use crate::moves::Moves;
-use crate::pointer_stores::pointer_write;
+use crate::pointer_stores::{Indirect, pointer_write};
 use crate::site::Site;
 use crate::stores::{Write, written_at};
 use crate::successors::{at_word, changed, setting};
@@ -19,7 +19,7 @@ use abs_reads::reads::read_at;
 use abs_rows::registers::{set, value};
 use abs_rows::transfer::{base_register, pointer_moved, pointer_register};
 use abs_state::AbsByte;
-use avr_model::instruction::{Base, LowRegister, Pointer, Register};
+use avr_model::instruction::{Base, Pointer, Register};
 use local_rules::local::NodeFault;
 
 // Register `d` of these gets what was read. There is no successor where nothing can be read.
@@ -41,18 +41,18 @@ fn loading(
     }
 }
 
-/// `ld` and `ldd`: register `d` of these gets what registers `r` and `r + 1` plus a number point to.
+/// `ld` and `ldd`: register `d` of these gets what is at an address that registers give.
 pub fn load_row(
     nodes: &mut Moves<'_>,
     site: &Site<'_>,
     registers: &[AbsByte; 32],
     d: Register,
-    r: LowRegister,
-    up: u16,
+    from: Indirect,
 ) -> Result<(), NodeFault>
-    ensures { Adds nodes.old nodes.new result (rows.loading site.now.device site.now.key.now site.now.state.now registers.now d (reads.read_pointed site.now.device site.now.key.now site.now.state.now (reads.pointed site.now.state.now r up))) }
+    ensures { Adds nodes.old nodes.new result (rows.loading site.now.device site.now.key.now site.now.state.now registers.now d (reads.read_pointed site.now.device site.now.key.now site.now.state.now (reads.pointed site.now.state.now from.r from.up))) }
 {
-    let read = read_pointed(site.device, site.key, site.state, point(site.state, r, up));
+    let pointed = point(site.state, from.r, from.up);
+    let read = read_pointed(site.device, site.key, site.state, pointed);
     loading(nodes, site, registers, d, read)
 }
 
@@ -98,23 +98,26 @@ pub fn store_row(
 {
     let registers = pointer_moved(pointer, site.state);
     let after = changed(site.alloc, site.state, &registers, site.state.flags)?;
-    let (base, up) = (pointer_register(pointer), step_before(pointer));
-    let added = pointer_write(nodes, site, base, up, r, &after);
+    let to = Indirect {
+        r: pointer_register(pointer),
+        up: step_before(pointer),
+    };
+    let added = pointer_write(nodes, site, to, r, &after);
     drop(after);
     added
 }
 
-/// `out` and `sts`, of so many words: register `r` is written to a known address.
+/// `out`, of one word, and `sts`, of two: register `r` is written to a known address.
 pub fn known_write(
     nodes: &mut Moves<'_>,
     site: &Site<'_>,
-    words: u16,
     is_out: bool,
     address: u16,
     r: Register,
 ) -> Result<(), NodeFault>
-    ensures { Adds nodes.old nodes.new result (written_at site.now.device site.now.key.now.pc (raw.at_word site.now.key.now (raw.further site.now.device site.now.key.now words)) site.now.state.now is_out address (registers.value site.now.state.now r)) }
+    ensures { Adds nodes.old nodes.new result (written_at site.now.device site.now.key.now.pc (raw.at_word site.now.key.now (raw.further site.now.device site.now.key.now (if is_out then 1 else 2))) site.now.state.now is_out address (registers.value site.now.state.now r)) }
 {
+    let words = if is_out { 1 } else { 2 };
     let write = Write {
         device: site.device,
         pc: site.key.pc,

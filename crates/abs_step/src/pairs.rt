@@ -15,7 +15,7 @@ ghost use Rattle.abs_step.specs.Tests.{IsTest, cut_by};
 use crate::flow::{Outside, staying};
 use crate::instruction::{before, row_forgetting};
 use crate::moves::{Moves, put};
-use crate::pointer_stores::pointer_write;
+use crate::pointer_stores::{Indirect, pointer_write};
 use crate::site::Site;
 use crate::successors::{copied, off_table};
 use abs_reads::flow::further;
@@ -38,6 +38,37 @@ pub(crate) enum Test {
     Bit(u8, u8),
     /// Whether two registers are equal.
     Equal(u8, u8),
+}
+
+/// Two words that a test leads to.
+#[derive(Clone, Copy)]
+pub(crate) struct Ways {
+    /// Where it comes out so.
+    pub pc: u16,
+    /// Where it doesn't.
+    pub other: u16,
+}
+
+/// A branch on a flag.
+#[derive(Clone, Copy)]
+pub(crate) struct FlagBranch {
+    /// The flag.
+    pub n: Bit,
+    /// The word where it is 0.
+    pub clear: u16,
+    /// The word where it is 1.
+    pub set: u16,
+}
+
+/// An `st`, and what it names.
+#[derive(Drop)]
+pub(crate) struct Store<'a> {
+    /// The instruction.
+    pub instr: &'a Instr,
+    /// The pointer.
+    pub pointer: Pointer,
+    /// The register that is stored.
+    pub r: Register,
 }
 
 // Cuts the state to where the test comes out so. Gives whether something is left.
@@ -76,14 +107,13 @@ fn both_ways(
     site: &Site<'_>,
     test: Test,
     on: bool,
-    pc: u16,
-    other: u16,
+    ways: Ways,
 ) -> Result<(), NodeFault>
     requires { IsTest test }
-    ensures { Adds (plain nodes.old) (plain nodes.new) result (all_of (flow.going_where site.now.key.now (cut_by test on site.now.state.now) pc ∷ flow.going_where site.now.key.now (cut_by test (not on) site.now.state.now) other ∷ [])) }
+    ensures { Adds (plain nodes.old) (plain nodes.new) result (all_of (flow.going_where site.now.key.now (cut_by test on site.now.state.now) ways.pc ∷ flow.going_where site.now.key.now (cut_by test (not on) site.now.state.now) ways.other ∷ [])) }
 {
-    going_where(nodes, site, test, on, pc)?;
-    going_where(nodes, site, test, !on, other)
+    going_where(nodes, site, test, on, ways.pc)?;
+    going_where(nodes, site, test, !on, ways.other)
 }
 
 // To the next instruction where the test comes out so, else past it.
@@ -93,11 +123,11 @@ fn skip_unless(nodes: &mut Nodes, site: &Site<'_>, test: Test, on: bool) -> Resu
     ensures { Adds (plain nodes.old) (plain nodes.new) result (rows.cut_skip site.now.device site.now.flash.now site.now.key.now (cut_by test (not on) site.now.state.now) (cut_by test on site.now.state.now)) }
 {
     let length = avr_decode::length(site.flash.word(site.key.pc + 1));
-    let (past, next) = (
-        further(site.device, site.key, 1 + length),
-        further(site.device, site.key, 1),
-    );
-    both_ways(nodes, site, test, on, next, past)
+    let ways = Ways {
+        pc: further(site.device, site.key, 1),
+        other: further(site.device, site.key, 1 + length),
+    };
+    both_ways(nodes, site, test, on, ways)
 }
 
 // `st`: the pointer moves, and its pair is refined, before the byte is stored.
@@ -114,7 +144,12 @@ fn store_row(
     let mut moved = before(site.alloc, site.state, &instr)?;
     moved.registers = pointer_moved(pointer, site.state);
     let left = refine(site.flash, &instr, site.state, &mut moved);
-    let added = stored(nodes, site, &instr, pointer, r, left, &moved);
+    let store = Store {
+        instr: &instr,
+        pointer,
+        r,
+    };
+    let added = stored(nodes, site, &store, left, &moved);
     drop(moved);
     added
 }
@@ -123,22 +158,23 @@ fn store_row(
 fn stored(
     nodes: &mut Nodes,
     site: &Site<'_>,
-    instr: &Instr,
-    pointer: Pointer,
-    r: Register,
+    store: &Store<'_>,
     left: bool,
     moved: &AbsState,
 ) -> Result<(), NodeFault>
     requires { left ≡ true → length moved.now.slots ≡ offset_of site.now.key.now.sp }
-    ensures { Adds (plain nodes.old) (plain nodes.new) result (rows.storing site.now.device site.now.flash.now site.now.assumptions.now site.now.key.now site.now.state.now pointer r (left_in left moved.now)) }
+    ensures { Adds (plain nodes.old) (plain nodes.new) result (rows.storing site.now.device site.now.flash.now site.now.assumptions.now site.now.key.now site.now.state.now store.now.pointer store.now.r (left_in left moved.now)) }
 {
     if !left {
         return Ok(());
     }
-    let (base, up) = (pointer_register(pointer), step_before(pointer));
+    let to = Indirect {
+        r: pointer_register(store.pointer),
+        up: step_before(store.pointer),
+    };
     let so_far = mem::replace(nodes, Nodes::new(site.alloc));
-    let mut moves = Moves::new(so_far, site, instr, false);
-    let added = pointer_write(&mut moves, site, base, up, r, moved);
+    let mut moves = Moves::new(so_far, site, store.instr, false);
+    let added = pointer_write(&mut moves, site, to, store.r, moved);
     *nodes = moves.into_nodes();
     added
 }
@@ -161,24 +197,26 @@ pub(crate) fn row_through(
     led
 }
 
-// A branch on flag `n`: to one word where it is 0, and then to another where it is 1. One on I, which is in the key, goes by the plain rules.
+// A branch on a flag: to one word where it is 0, and then to another where it is 1. One on I, which is in the key, goes by the plain rules.
 fn paired_branch(
     nodes: &mut Nodes,
     site: &Site<'_>,
     scratch: bool,
     instr: &Instr,
-    n: Bit,
-    clear: u16,
-    set: u16,
+    branch: FlagBranch,
 ) -> Result<Outside, NodeFault>
     requires word { site.now.key.now.pc < WORDS }
-    ensures { Leads (plain nodes.old) (plain nodes.new) result (rows.paired_branch n site.now.key.now site.now.state.now set clear (rows.plain_row site.now.device site.now.flash.now site.now.assumptions.now scratch site.now.key.now site.now.state.now instr.now)) }
+    ensures { Leads (plain nodes.old) (plain nodes.new) result (rows.paired_branch branch.n site.now.key.now site.now.state.now branch.set branch.clear (rows.plain_row site.now.device site.now.flash.now site.now.assumptions.now scratch site.now.key.now site.now.state.now instr.now)) }
 {
-    if n.get() >= 7 {
+    if branch.n.get() >= 7 {
         return row_through(nodes, site, scratch, instr, false);
     }
-    let test = Test::Flag(n.get() as u8);
-    let added = both_ways(nodes, site, test, false, clear, set);
+    let test = Test::Flag(branch.n.get() as u8);
+    let ways = Ways {
+        pc: branch.clear,
+        other: branch.set,
+    };
+    let added = both_ways(nodes, site, test, false, ways);
     staying(site.alloc, added)
 }
 
@@ -195,28 +233,20 @@ pub(crate) fn paired_row(
     let (a, device, key) = (site.alloc, site.device, site.key);
     match instr {
         Instr::Brbs(n, t) => {
-            let taken = device.wrap(near(key.pc, t.get()));
-            paired_branch(
-                nodes,
-                site,
-                scratch,
-                instr,
-                *n,
-                further(device, key, 1),
-                taken,
-            )
+            let branch = FlagBranch {
+                n: *n,
+                clear: further(device, key, 1),
+                set: device.wrap(near(key.pc, t.get())),
+            };
+            paired_branch(nodes, site, scratch, instr, branch)
         }
         Instr::Brbc(n, t) => {
-            let taken = device.wrap(near(key.pc, t.get()));
-            paired_branch(
-                nodes,
-                site,
-                scratch,
-                instr,
-                *n,
-                taken,
-                further(device, key, 1),
-            )
+            let branch = FlagBranch {
+                n: *n,
+                clear: device.wrap(near(key.pc, t.get())),
+                set: further(device, key, 1),
+            };
+            paired_branch(nodes, site, scratch, instr, branch)
         }
         Instr::Sbrc(r, bit) => {
             let test = Test::Bit(r.get() as u8, bit.get() as u8);

@@ -20,6 +20,15 @@ use avr_model::instruction::{LowRegister, Register};
 use local_rules::local::NodeFault;
 use std::alloc::Global;
 
+/// An address as registers give it: that in registers `r` and `r + 1`, plus a number.
+#[derive(Clone, Copy)]
+pub struct Indirect {
+    /// The first register.
+    pub r: LowRegister,
+    /// The number.
+    pub up: u16,
+}
+
 /// The one that counts of a fault so far and another.
 pub fn first(fault: Option<NodeFault>, found: NodeFault) -> NodeFault
     ensures { result ≡ first_of fault found }
@@ -58,16 +67,15 @@ fn listed_writes(
     nodes: &mut Moves<'_>,
     site: &Site<'_>,
     write: &Write<'_>,
-    r: LowRegister,
-    up: u16,
+    to: &Indirect,
     addresses: &[u16],
 ) -> Result<(), NodeFault>
-    ensures { Adds nodes.old nodes.new result (writes.listed_writes write.now.device write.now.pc write.now.key write.now.state.now (filter (λ a. writes.reaches site.now.state.now r up a) addresses.now) write.now.value) }
+    ensures { Adds nodes.old nodes.new result (writes.listed_writes write.now.device write.now.pc write.now.key write.now.state.now (filter (λ a. writes.reaches site.now.state.now to.now.r to.now.up a) addresses.now) write.now.value) }
 {
     add_copy(nodes, site.alloc, write.key, write.state)?;
     let mut fault: Option<NodeFault> = None;
     for at in 0..addresses.len() {
-        if reaches(site.state, r, up, addresses[at]) {
+        if reaches(site.state, to.r, to.up, addresses[at]) {
             fault = stored_too(nodes, site.alloc, write, addresses[at], fault)?;
         }
     }
@@ -77,17 +85,16 @@ fn listed_writes(
     }
 }
 
-/// Register `source` is stored through registers `r` and `r + 1` plus a number, as they are before the instruction.
+/// Register `source` is stored at an address that registers give as they are before the instruction.
 pub fn pointer_write(
     nodes: &mut Moves<'_>,
     site: &Site<'_>,
-    r: LowRegister,
-    up: u16,
+    to: Indirect,
     source: Register,
     after: &AbsState,
 ) -> Result<(), NodeFault>
     requires { length after.now.slots ≡ offset_of site.now.key.now.sp }
-    ensures { Adds nodes.old nodes.new result (writes.pointer_write site.now.device site.now.flash.now site.now.assumptions.now site.now.state.now r up (pointed site.now.state.now r up) site.now.key.now.pc (next site.now.device site.now.key.now) after.now (value site.now.state.now source)) }
+    ensures { Adds nodes.old nodes.new result (writes.pointer_write site.now.device site.now.flash.now site.now.assumptions.now site.now.state.now to.r to.up (pointed site.now.state.now to.r to.up) site.now.key.now.pc (next site.now.device site.now.key.now) after.now (value site.now.state.now source)) }
 {
     let write = Write {
         device: site.device,
@@ -97,12 +104,12 @@ pub fn pointer_write(
         value: value(site.state, source),
     };
     if site.flash.is_fixed_site(site.assumptions, site.key.pc) {
-        match point(site.state, r, up).constant {
+        match point(site.state, to.r, to.up).constant {
             Some(address) => written_at(nodes, site.alloc, &write, false, address),
             None => Err(NodeFault::UnknownPointer(site.key.pc)),
         }
     } else {
         let addresses = site.assumptions.stores(site.key.pc);
-        listed_writes(nodes, site, &write, r, up, addresses)
+        listed_writes(nodes, site, &write, &to, addresses)
     }
 }

@@ -114,20 +114,17 @@ fn with_i(key: &NodeKey, is_out: bool, on: bool) -> NodeKey
 fn sreg_written(
     nodes: &mut Moves<'_>,
     alloc: Global,
-    i: Tri,
-    key: &NodeKey,
-    state: &AbsState,
+    write: &Write<'_>,
     is_out: bool,
 ) -> Result<(), NodeFault>
-    requires { length state.now.slots ≡ offset_of key.now.sp }
-    ensures { Adds nodes.old nodes.new result (writes.sreg_written i key.now state.now is_out) }
+    ensures { Adds nodes.old nodes.new result (writes.sreg_written (tri_at write.now.value.bits 7) write.now.key write.now.state.now is_out) }
 {
-    let off = with_i(key, is_out, false);
-    let on = with_i(key, is_out, true);
-    match i {
-        Tri::Zero => add_copy(nodes, alloc, off, state),
-        Tri::One => add_copy(nodes, alloc, on, state),
-        Tri::Any => add_two(nodes, alloc, off, on, state),
+    let off = with_i(&write.key, is_out, false);
+    let on = with_i(&write.key, is_out, true);
+    match write.value.bits.bit(I) {
+        Tri::Zero => add_copy(nodes, alloc, off, write.state),
+        Tri::One => add_copy(nodes, alloc, on, write.state),
+        Tri::Any => add_two(nodes, alloc, off, on, write.state),
     }
 }
 
@@ -217,7 +214,14 @@ fn flags_set(
     let (state, value) = (write.state, write.value);
     let mut after = changed(alloc, state, &state.registers, flags_written(value))?;
     end_facts(&mut after.facts, 0, true, true);
-    let added = sreg_written(nodes, alloc, value.bits.bit(I), &write.key, &after, is_out);
+    let set = Write {
+        device: write.device,
+        pc: write.pc,
+        key: write.key,
+        state: &after,
+        value,
+    };
+    let added = sreg_written(nodes, alloc, &set, is_out);
     drop(after);
     added
 }

@@ -15,7 +15,7 @@ use crate::flow::{
     returning, skipping, staying,
 };
 use crate::moves::Moves;
-use crate::pointer_stores::pointer_write;
+use crate::pointer_stores::{Indirect, pointer_write};
 use crate::site::Site;
 use crate::stack::{pop_row, push_row};
 use crate::successors::{going_to, setting};
@@ -98,18 +98,28 @@ fn memory_row(
     let state = site.state;
     let added = match instr {
         Instr::Ldd(d, b, q) => {
-            let r = base_register(*b);
-            load_row(nodes, site, &state.registers, *d, r, q.get())
+            let from = Indirect {
+                r: base_register(*b),
+                up: q.get(),
+            };
+            load_row(nodes, site, &state.registers, *d, from)
         }
         Instr::Std(b, q, r) => {
-            let base = base_register(*b);
-            pointer_write(nodes, site, base, q.get(), *r, state)
+            let to = Indirect {
+                r: base_register(*b),
+                up: q.get(),
+            };
+            pointer_write(nodes, site, to, *r, state)
         }
         Instr::Lds(d, address) => read_row(nodes, site, 2, *d, *address),
-        Instr::Sts(address, r) => known_write(nodes, site, 2, false, *address, *r),
+        Instr::Sts(address, r) => known_write(nodes, site, false, *address, *r),
         Instr::Ld(d, p) => {
-            let (registers, r) = (pointer_moved(*p, state), pointer_register(*p));
-            load_row(nodes, site, &registers, *d, r, step_before(*p))
+            let registers = pointer_moved(*p, state);
+            let from = Indirect {
+                r: pointer_register(*p),
+                up: step_before(*p),
+            };
+            load_row(nodes, site, &registers, *d, from)
         }
         Instr::St(p, r) => store_row(nodes, site, *p, *r),
         Instr::LpmZ(d) => lpm_row(nodes, site, &state.registers, *d),
@@ -121,7 +131,7 @@ fn memory_row(
         Instr::Pop(d) => pop_row(nodes, site, *d),
         Instr::Push(r) => push_row(nodes, site, scratch, *r),
         Instr::In(d, i) => read_row(nodes, site, 1, *d, port(*i)),
-        Instr::Out(i, r) => known_write(nodes, site, 1, true, port(*i), *r),
+        Instr::Out(i, r) => known_write(nodes, site, true, port(*i), *r),
         Instr::Cbi(i, b) => bit_row(nodes, site, *i, *b, false),
         Instr::Sbi(i, b) => bit_row(nodes, site, *i, *b, true),
         _ => return flow_row(nodes, site, scratch, instr),

@@ -10,5 +10,5 @@ returns-then-not-left c =
     let site = c.args.site.now in
     let nodes = plain c.args.nodes.now in
     subst
-    (λ (b : Bool). IsAdded nodes nodes (storing site.device site.flash.now site.assumptions.now site.key.now site.state.now c.args.pointer c.args.r (left_in b c.args.moved.now)))
+    (λ (b : Bool). IsAdded nodes nodes (storing site.device site.flash.now site.assumptions.now site.key.now site.state.now c.args.store.now.pointer c.args.store.now.r (left_in b c.args.moved.now)))
     (sym c.if-not-left.true) (none_added nodes)

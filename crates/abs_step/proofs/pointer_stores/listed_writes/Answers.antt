@@ -7,7 +7,7 @@ use Rattle.abs_step.proofs.pointer_stores.listed_writes.Goals.{then-reaches+in_o
 
 pub loop-at-preserved : goal.loop-at-preserved
 loop-at-preserved c =
-    let p : ℕ → Bool = (λ a. reaches c.args.site.now.state.now c.args.r c.args.up a) in
+    let p : ℕ → Bool = (λ a. reaches c.args.site.now.state.now c.args.to.now.r c.args.to.now.up a) in
     let f : ℕ → Raw = (λ a. written_at c.args.write.now.device c.args.write.now.pc c.args.write.now.key c.args.write.now.state.now false a c.args.write.now.value) in
     let base = one c.args.write.now.key c.args.write.now.state.now in
     elim c.if-reaches.branch [

@@ -1,5 +1,4 @@
 use Rattle.std.proofs.Common.{subst}
-use Rattle.bit_domain.specs.declared.bits.Tri.{Tri}
 use Rattle.bit_domain.specs.TriByte.{tri_at}
 use Rattle.abs_state.specs.declared.state.AbsState.{AbsState}
 use Rattle.local_rules.specs.Writes.{sreg_written}
@@ -10,7 +9,7 @@ use Rattle.abs_step.proofs.stores.flags_set.Goals as goal
 pub returns : goal.returns
 returns c =
     let write = c.args.write.now in
-    let adds = λ (i : Tri) (t : AbsState). Adds c.args.nodes.now c.sreg_written-added.new.nodes c.sreg_written-added.result (sreg_written i write.key t c.args.is_out) in
-    subst (adds (tri_at write.value.bits 7))
+    subst
+    (λ (t : AbsState). Adds c.args.nodes.now c.sreg_written-added.new.nodes c.sreg_written-added.result (sreg_written (tri_at write.value.bits 7) write.key t c.args.is_out))
     (is_flags_set write.state.now c.in_ok-after.after write.value c.flags_written.result c.end_facts.new.facts c.flags_written.ensures c.in_ok-after.ensures.ok c.end_facts.ensures)
-    (subst (λ (i : Tri). adds i (record c.in_ok-after.after { facts = c.end_facts.new.facts })) c.bit.ensures c.sreg_written-added.ensures)
+    c.sreg_written-added.ensures
