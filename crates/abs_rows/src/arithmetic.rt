@@ -45,18 +45,26 @@ pub(crate) fn sum(state: &AbsState, d: Register, other: TriByte, carry: Tri) -> 
     sum_tagged(state, d, other, carry, (Tag::None, CarryTag::None))
 }
 
-/// A comparison: a difference that sets the flags alone, with what C says afterwards. With `keep_zero` Z is set only where it was.
+/// What a difference takes over from that of the byte below. Without one, the borrow is 0, and Z doesn't depend on what it was.
+#[derive(Clone, Copy)]
+pub(crate) struct BorrowIn {
+    /// The borrow.
+    pub bit: Tri,
+    /// Whether Z is set only where it was.
+    pub keep_zero: bool,
+}
+
+/// A comparison: a difference that sets the flags alone, with what C says afterwards.
 pub(crate) fn compare(
     state: &AbsState,
-    a: TriByte,
-    b: TriByte,
-    borrow: Tri,
-    keep_zero: bool,
+    operands: (TriByte, TriByte),
+    borrow: BorrowIn,
     says: CarryTag,
 ) -> Computed
-    ensures { result ≡ compare_after state.now a b borrow keep_zero says }
+    ensures { result ≡ compare_after state.now operands.0 operands.1 borrow.bit borrow.keep_zero says }
 {
-    let (_, flags) = abs_alu::sub(a, b, borrow, keep_zero, state.flags.bits);
+    let (a, b) = operands;
+    let (_, flags) = abs_alu::sub(a, b, borrow.bit, borrow.keep_zero, state.flags.bits);
     Computed {
         registers: state.registers,
         flags: with_carry(flags, says),
@@ -98,15 +106,14 @@ pub(crate) fn difference(
     state: &AbsState,
     d: Register,
     operands: (TriByte, TriByte),
-    borrow: Tri,
-    keep_zero: bool,
+    borrow: BorrowIn,
     tags: (Tag, CarryTag),
 ) -> Computed
-    ensures { result ≡ difference_after state.now d operands.0 operands.1 borrow keep_zero tags.0 tags.1 }
+    ensures { result ≡ difference_after state.now d operands.0 operands.1 borrow.bit borrow.keep_zero tags.0 tags.1 }
 {
     let (a, b) = operands;
     let (tag, carry) = tags;
-    let (difference, flags) = abs_alu::sub(a, b, borrow, keep_zero, state.flags.bits);
+    let (difference, flags) = abs_alu::sub(a, b, borrow.bit, borrow.keep_zero, state.flags.bits);
     Computed {
         registers: set(&state.registers, d, with_bits(tag, difference)),
         flags: with_carry(flags, carry),
@@ -145,7 +152,11 @@ pub(crate) fn sub(
     ensures { result ≡ sub_after state.now d a b number }
 {
     let tags = low_tags(value(state, d).tag, number);
-    difference(state, d, (a, b), Tri::Zero, false, tags)
+    let borrow = BorrowIn {
+        bit: Tri::Zero,
+        keep_zero: false,
+    };
+    difference(state, d, (a, b), borrow, tags)
 }
 
 /// Register `d` less a byte, which may be a known number, and the carry.
@@ -155,7 +166,11 @@ pub(crate) fn sbc(state: &AbsState, d: Register, b: TriByte, number: Option<u8>)
     let value = value(state, d);
     let tag = high_tag(value.tag, number, state.flags.carry);
     let tags = (tag, CarryTag::None);
-    difference(state, d, (value.bits, b), carry_bit(state), true, tags)
+    let borrow = BorrowIn {
+        bit: carry_bit(state),
+        keep_zero: true,
+    };
+    difference(state, d, (value.bits, b), borrow, tags)
 }
 
 /// 0 less register `d`.
@@ -164,7 +179,11 @@ pub(crate) fn neg(state: &AbsState, d: Register) -> Computed
 {
     let operands = (TriByte::of(0), bits(state, d));
     let tags = (Tag::None, CarryTag::None);
-    difference(state, d, operands, Tri::Zero, false, tags)
+    let borrow = BorrowIn {
+        bit: Tri::Zero,
+        keep_zero: false,
+    };
+    difference(state, d, operands, borrow, tags)
 }
 
 /// A register's bits where another one is subtracted from it, or is its exclusive or: 0 where both are the same register.
@@ -186,12 +205,12 @@ pub(crate) fn logic(
     state: &AbsState,
     op: Logic,
     d: Register,
-    a: TriByte,
-    b: TriByte,
+    operands: (TriByte, TriByte),
     same: bool,
 ) -> Computed
-    ensures { result ≡ logic_after state.now op d a b same }
+    ensures { result ≡ logic_after state.now op d operands.0 operands.1 same }
 {
+    let (a, b) = operands;
     let (result, flags) = abs_alu::logic(op, a, b, state.flags.bits);
     let kept = if same {
         value(state, d)

@@ -4,7 +4,7 @@
 ghost use Rattle.std.specs.Prelude.{◌≡◌};
 ghost use Rattle.local_rules.specs.FrameLines.{is_frame_pointer, is_second, followed, added, more_tag, sum_tag, high_more_tag, less_tag, tag_followed, number_added, framed_add, framed_adc, framed_sub, framed_step};
 
-use crate::arithmetic::{carry_bit, difference, low_tags, step_tagged, sum_tagged};
+use crate::arithmetic::{BorrowIn, carry_bit, difference, low_tags, step_tagged, sum_tagged};
 use crate::registers::{bits, value};
 use abs_state::AbsState;
 use avr_model::instruction::Register;
@@ -100,7 +100,11 @@ pub(crate) fn framed_sub(state: &AbsState, d: Register, b: TriByte, number: Opti
     let value = value(state, d);
     let (_, borrow) = low_tags(value.tag, number);
     let tags = (less_tag(value.tag, number), borrow);
-    difference(state, d, (value.bits, b), Tri::Zero, false, tags)
+    let borrow = BorrowIn {
+        bit: Tri::Zero,
+        keep_zero: false,
+    };
+    difference(state, d, (value.bits, b), borrow, tags)
 }
 
 /// Register `d` plus 1 where `up`, else less 1.

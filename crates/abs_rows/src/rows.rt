@@ -12,8 +12,8 @@ ghost use Rattle.abs_rows.specs.Sections.{other_row};
 ghost use Rattle.abs_rows.specs.Sections as sections;
 
 use crate::arithmetic::{
-    carry_bit, com, compare, is_same, less_kept, less_than, logic, neg, or_nothing, product, sbc,
-    step_one, sub, sum, wide,
+    BorrowIn, carry_bit, com, compare, is_same, less_kept, less_than, logic, neg, or_nothing,
+    product, sbc, step_one, sub, sum, wide,
 };
 use crate::bits::{bit_loaded, bit_stored, shift, swapped};
 use crate::frames::{framed_adc, framed_add, framed_step, framed_sub};
@@ -32,11 +32,17 @@ fn immediate(state: &AbsState, op: ImmediateOp, d: Register, number: u8) -> Comp
     let a = bits(state, d);
     let b = TriByte::of(number);
     match op {
-        ImmediateOp::Cpi => compare(state, a, b, Tri::Zero, false, less_than(d, Some(number))),
+        ImmediateOp::Cpi => {
+            let borrow = BorrowIn {
+                bit: Tri::Zero,
+                keep_zero: false,
+            };
+            compare(state, (a, b), borrow, less_than(d, Some(number)))
+        }
         ImmediateOp::Sbci => sbc(state, d, b, Some(number)),
         ImmediateOp::Subi => sub(state, d, a, b, Some(number)),
-        ImmediateOp::Ori => logic(state, Logic::Or, d, a, b, false),
-        ImmediateOp::Andi => logic(state, Logic::And, d, a, b, false),
+        ImmediateOp::Ori => logic(state, Logic::Or, d, (a, b), false),
+        ImmediateOp::Andi => logic(state, Logic::And, d, (a, b), false),
         ImmediateOp::Ldi => register_set(state, d, AbsByte::known(number)),
     }
 }
@@ -68,20 +74,28 @@ fn binary(state: &AbsState, op: BinaryOp, d: Register, r: Register) -> Option<Co
     match op {
         BinaryOp::Cpc => {
             let says = less_kept(a.constant(), b.constant(), state.flags.carry);
-            Some(compare(state, a, b, carry, true, says))
+            let borrow = BorrowIn {
+                bit: carry,
+                keep_zero: true,
+            };
+            Some(compare(state, (a, b), borrow, says))
         },
         BinaryOp::Sbc => Some(sbc(state, d, b, b.constant())),
         BinaryOp::Add => Some(sum(state, d, b, Tri::Zero)),
         BinaryOp::Cpse => None,
         BinaryOp::Cp => {
             let says = less_than(d, b.constant());
-            Some(compare(state, a, b, Tri::Zero, false, says))
+            let borrow = BorrowIn {
+                bit: Tri::Zero,
+                keep_zero: false,
+            };
+            Some(compare(state, (a, b), borrow, says))
         },
         BinaryOp::Sub => Some(sub(state, d, from, other, b.constant())),
         BinaryOp::Adc => Some(sum(state, d, b, carry)),
-        BinaryOp::And => Some(logic(state, Logic::And, d, a, b, is_same(d, r))),
-        BinaryOp::Eor => Some(logic(state, Logic::Eor, d, from, other, false)),
-        BinaryOp::Or => Some(logic(state, Logic::Or, d, a, b, is_same(d, r))),
+        BinaryOp::And => Some(logic(state, Logic::And, d, (a, b), is_same(d, r))),
+        BinaryOp::Eor => Some(logic(state, Logic::Eor, d, (from, other), false)),
+        BinaryOp::Or => Some(logic(state, Logic::Or, d, (a, b), is_same(d, r))),
         BinaryOp::Mov => Some(register_set(state, d, value(state, r))),
         BinaryOp::Mul => Some(product(state, Mul::Mul, d, r)),
     }
