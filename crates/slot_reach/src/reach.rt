@@ -96,28 +96,29 @@ fn mark_all(
     Ok(())
 }
 
+// The links and offsets of all nodes, and the nodes that have slots from the start.
+#[derive(Clone, Copy)]
+struct Nodes<'a> {
+    links: &'a [Listed<u32>],
+    offsets: &'a [u16],
+    seeds: &'a [Seed],
+}
+
 // Marks all that is reached.
-fn spread(
-    alloc: Global,
-    links: &[Listed<u32>],
-    offsets: &[u16],
-    seeds: &[Seed],
-    slot: u16,
-    seen: &mut [bool],
-) -> Result<(), AllocError>
-    requires inside { AreInside links.now offsets.now seeds.now }
-    requires same { length seen.old ≡ length offsets.now }
+fn spread(alloc: Global, nodes: &Nodes<'_>, slot: u16, seen: &mut [bool]) -> Result<(), AllocError>
+    requires inside { AreInside nodes.now.links.now nodes.now.offsets.now nodes.now.seeds.now }
+    requires same { length seen.old ≡ length nodes.now.offsets.now }
     requires none { (k : ℕ) → slice_index_or seen.old k false ≡ false }
-    ensures { OnOk result (IsSpreading links.now offsets.now seeds.now slot seen.new []) }
+    ensures { OnOk result (IsSpreading nodes.now.links.now nodes.now.offsets.now nodes.now.seeds.now slot seen.new []) }
 {
     let mut stack = Vec::new(alloc);
-    mark_seeds(seeds, slot, seen, &mut stack)?;
+    mark_seeds(nodes.seeds, slot, seen, &mut stack)?;
     'marks: loop {
         match stack.pop() {
             None => return Ok(()),
             Some(node) => mark_all(
-                links[node as usize].as_slice(),
-                offsets,
+                nodes.links[node as usize].as_slice(),
+                nodes.offsets,
                 slot,
                 seen,
                 &mut stack,
@@ -140,6 +141,11 @@ pub fn reached(
     ensures { IfOk result (λ marks. AreReached links.now offsets.now seeds.now slot marks.items) }
 {
     let mut seen = vec![in alloc; false; offsets.len()]?;
-    spread(alloc, links, offsets, seeds, slot, seen.as_mut_slice())?;
+    let nodes = Nodes {
+        links,
+        offsets,
+        seeds,
+    };
+    spread(alloc, &nodes, slot, seen.as_mut_slice())?;
     Ok(seen)
 }
