@@ -118,23 +118,29 @@ fn is_behind(graph: &[GraphInst], best: Option<u32>, i: usize) -> bool
     }
 }
 
+// What is known of the instances: what was settled, and their numbers.
+#[derive(Clone, Copy)]
+struct Known<'a> {
+    table: &'a [Option<Found>],
+    numbers: &'a [u32],
+}
+
 // The one that is named, of those before instance i and of i.
 fn look(
     alloc: Global,
     graph: &[GraphInst],
-    table: &[Option<Found>],
-    numbers: &[u32],
+    known: &Known<'_>,
     best: Option<u32>,
     i: usize,
 ) -> Result<Option<u32>, AllocError>
     requires graph { IsGraph graph.now }
-    requires sound { IsSound graph.now table.now }
-    requires layers { AreLayers graph.now numbers.now }
+    requires sound { IsSound graph.now known.now.table.now }
+    requires layers { AreLayers graph.now known.now.numbers.now }
     requires within { i < length graph.now }
     requires best { IsNamedBelow graph.now i best }
     ensures { IfOk result (IsNamedBelow graph.now (i + 1)) }
 {
-    if !is_candidate(graph, table, numbers, i) {
+    if !is_candidate(graph, known.table, known.numbers, i) {
         return Ok(best);
     }
     if is_behind(graph, best, i) {
@@ -230,8 +236,9 @@ pub fn first_named(
     let layers = layers(alloc, graph, numbers)?;
     let numbers = layers.as_slice();
     let mut best = guess(alloc, graph, table, numbers)?;
+    let known = Known { table, numbers };
     for i in 0..graph.len() {
-        best = look(alloc, graph, table, numbers, best, i)?;
+        best = look(alloc, graph, &known, best, i)?;
     }
     Ok(best)
 }
