@@ -5,6 +5,7 @@ ghost use Rattle.avr_model.specs.Devices.{device_of};
 ghost use Rattle.avr_model.specs.State.{IsReset, filled};
 ghost use Rattle.avr_model.specs.Run.{IsRun, Bounded, depth_of};
 ghost use Rattle.certificate.specs.Valid.{Attains};
+ghost use Rattle.trial_runs.specs.Length.{most_choices};
 ghost use Rattle.guided_trials.specs.Choosing as choosing;
 ghost use Rattle.guided_trials.specs.Trials.{fill_of, trial_by, IsTried, IsFound};
 
@@ -59,17 +60,16 @@ fn depth_of_trial(
     machine.depth()
 }
 
-// The same trial with its choices.
+// The same trial with its choices, of which it makes as many as a trial may.
 fn attempt(
     alloc: Global,
     flash: &Flash,
     assumptions: &Assumptions,
     guide: &Guide,
     t: u32,
-    steps: u32,
 ) -> Result<Trace, AllocError>
     ensures reset { IsReset (device_of flash.now) (filled (device_of flash.now) (fill_of guide.now t)) }
-    ensures choices { IfOk result (λ trace. trace.choices ≡ trial_by steps flash.now assumptions.now guide.now t) }
+    ensures choices { IfOk result (λ trace. trace.choices ≡ trial_by most_choices flash.now assumptions.now guide.now t) }
     ensures run { IfOk result (λ trace. IsRun flash.now assumptions.now trace.choices (filled (device_of flash.now) (fill_of guide.now t))) }
     ensures depth { IfOk result (λ trace. trace.depth ≡ depth_of flash.now assumptions.now trace.choices (filled (device_of flash.now) (fill_of guide.now t))) }
 {
@@ -89,6 +89,7 @@ fn attempt(
             chosen(flash, guide, t, moment, menu)
         },
     );
+    let steps = most_choices();
     driver.drive(alloc, &mut machine, flash, assumptions, guide.bound, steps)
 }
 
@@ -109,7 +110,7 @@ fn try_number(
     if depth < guide.bound {
         return Ok(None);
     }
-    let trace = attempt(alloc, flash, assumptions, guide, t, steps)?;
+    let trace = attempt(alloc, flash, assumptions, guide, t)?;
     let fill = fill_of(guide, t);
     let schedule = Schedule::from_trace(alloc, fill, trace.choices.as_slice())?;
     Ok(Some(schedule))
