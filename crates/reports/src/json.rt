@@ -198,26 +198,33 @@ fn put_insts(
     Ok(())
 }
 
-/// Writes the report, each part before the next is made.
-fn put_report(
-    out: &mut Vec<u8>,
-    alloc: Global,
+/// What is reported: a certificate of firmware on a device, with the names of its words and the end of its static data.
+#[derive(Clone, Copy)]
+struct Reported<'a> {
     device: Device,
-    certificate: &Certificate,
-    names: &Names,
+    certificate: &'a Certificate,
+    names: &'a Names,
     static_end: Option<u16>,
-) -> Result<(), AllocError>
-    ensures { OnOk result (out.new.items ≡ out.old.items ++ json_text device certificate.now names.now static_end) }
+}
+
+/// Writes the report, each part before the next is made.
+fn put_report(out: &mut Vec<u8>, alloc: Global, told: &Reported<'_>) -> Result<(), AllocError>
+    ensures { OnOk result (out.new.items ≡ out.old.items ++ json_text told.now.device told.now.certificate.now told.now.names.now told.now.static_end) }
 {
-    let bound = certificate.bound();
+    let bound = told.certificate.bound();
     put(out, alloc, b"{\"bound\":", Value::from(bound))?;
-    let fits = fits_value(alloc, device, bound, static_end)?;
+    let fits = fits_value(alloc, told.device, bound, told.static_end)?;
     put(out, alloc, b",\"fits\":", fits)?;
     out.extend_from_slice(b",\"instances\":[")?;
-    put_insts(out, alloc, names, certificate.instances())?;
-    put(out, alloc, b"],\"room\":", room_value(device, static_end))?;
-    put(out, alloc, b",\"static\":", static_value(static_end))?;
-    let witness = witness_value(alloc, certificate)?;
+    put_insts(out, alloc, told.names, told.certificate.instances())?;
+    put(
+        out,
+        alloc,
+        b"],\"room\":",
+        room_value(told.device, told.static_end),
+    )?;
+    put(out, alloc, b",\"static\":", static_value(told.static_end))?;
+    let witness = witness_value(alloc, told.certificate)?;
     put(out, alloc, b",\"witness\":", witness)?;
     out.extend_from_slice(b"}\n")?;
     Ok(())
@@ -235,6 +242,12 @@ pub fn report_json(
     ensures { IfOk result (λ v. v.items ≡ json_text device certificate.now names.now static_end) }
 {
     let mut out = Vec::new(alloc);
-    put_report(&mut out, alloc, device, certificate, names, static_end)?;
+    let told = Reported {
+        device,
+        certificate,
+        names,
+        static_end,
+    };
+    put_report(&mut out, alloc, &told)?;
     Ok(out)
 }
