@@ -32,6 +32,13 @@ pub(crate) fn put_instruction(
     }
 }
 
+/// The number of a cause, and its name.
+#[derive(Clone, Copy)]
+struct Cause<'a> {
+    number: &'a [u8],
+    name: &'a [u8],
+}
+
 /// A cause, and the word at which it is.
 fn put_cause(line: &mut LineWriter, number: &[u8], name: &[u8], at: u16) -> Result<(), AllocError>
     ensures { OnOk result (line.new ≡ with_words line.old (codes "refused" ∷ number.now ∷ name.now ∷ codes "at" ∷ hex_digits at 4 ∷ [])) }
@@ -68,13 +75,12 @@ fn put_cause_of(
     alloc: Global,
     line: &mut LineWriter,
     flash: &Flash,
-    number: &[u8],
-    name: &[u8],
+    cause: &Cause<'_>,
     at: u16,
 ) -> Result<(), AllocError>
-    ensures { OnOk result (AreWritten line.old line.new (cause_at number.now name.now at (instruction_told flash.now at))) }
+    ensures { OnOk result (AreWritten line.old line.new (cause_at cause.now.number.now cause.now.name.now at (instruction_told flash.now at))) }
 {
-    put_cause(line, number, name, at)?;
+    put_cause(line, cause.number, cause.name, at)?;
     put_instruction(alloc, line, flash, at)
 }
 
@@ -96,16 +102,30 @@ fn put_why_not(
 {
     match *refusal {
         Refusal::UnresolvedJump(at) => {
-            put_cause_of(alloc, line, flash, b"1", b"unresolved-jump", at)
+            let cause = Cause {
+                number: b"1",
+                name: b"unresolved-jump",
+            };
+            put_cause_of(alloc, line, flash, &cause, at)
         }
         Refusal::Recursion(at) => put_cause(line, b"2", b"recursion", at),
         Refusal::ReEntry(vector, at) => put_re_entry(line, vector, at),
-        Refusal::UntrackedSp(at) => put_cause_of(alloc, line, flash, b"4", b"untracked-sp", at),
+        Refusal::UntrackedSp(at) => {
+            let cause = Cause {
+                number: b"4",
+                name: b"untracked-sp",
+            };
+            put_cause_of(alloc, line, flash, &cause, at)
+        }
         Refusal::Unsupported(at) => put_unsupported(line, at, flash.word(at)),
         Refusal::TooDeep(at, need) => put_need(line, at, need),
         Refusal::TooLarge(limit) => put_too_large(line, limit),
         Refusal::UnknownPointer(at) => {
-            put_cause_of(alloc, line, flash, b"8", b"unknown-pointer", at)
+            let cause = Cause {
+                number: b"8",
+                name: b"unknown-pointer",
+            };
+            put_cause_of(alloc, line, flash, &cause, at)
         }
         Refusal::Spent(steps) => put_number(line, b"spent", steps),
         Refusal::Memory => Err(AllocError),

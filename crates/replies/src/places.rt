@@ -17,6 +17,15 @@ use sb_base::LineWriter;
 use std::alloc::{AllocError, Global};
 use store_laws::FlaggedPlace;
 
+/// A firmware, and the names of its words.
+#[derive(Clone, Copy)]
+pub struct Program<'a> {
+    /// The firmware.
+    pub flash: &'a Flash,
+    /// The names.
+    pub names: &'a Names,
+}
+
 /// A firmware of which no step can be flagged, and the bound of its certificate.
 pub fn clear_text(alloc: Global, bound: u16) -> Result<Vec<u8>, AllocError>
     ensures { IfOk result (λ v. v.items ≡ clear_text bound) }
@@ -90,30 +99,28 @@ fn reach(names: &Names, last: Reached, pc: u16) -> Reached
 fn put_named(
     out: &mut LineWriter,
     alloc: Global,
-    flash: &Flash,
-    names: &Names,
+    program: &Program<'_>,
     place: Reached,
 ) -> Result<(), AllocError>
-    requires { least_name names.now place.named ≡ name_up_to names.now place.pc }
-    ensures { OnOk result (out.new ≡ with_words out.old (place_line flash.now names.now place.pc)) }
+    requires { least_name program.now.names.now place.named ≡ name_up_to program.now.names.now place.pc }
+    ensures { OnOk result (out.new ≡ with_words out.old (place_line program.now.flash.now program.now.names.now place.pc)) }
 {
-    put_place(alloc, out, flash, place.pc)?;
+    put_place(alloc, out, program.flash, place.pc)?;
     out.word(b"in")?;
-    write_name(out, names, place.named)
+    write_name(out, program.names, place.named)
 }
 
 /// Writes the line of such a word.
 fn write_place(
     out: &mut LineWriter,
     alloc: Global,
-    flash: &Flash,
-    names: &Names,
+    program: &Program<'_>,
     place: Reached,
 ) -> Result<(), AllocError>
-    requires { least_name names.now place.named ≡ name_up_to names.now place.pc }
-    ensures { OnOk result (out.new ≡ with_end (with_words out.old (place_line flash.now names.now place.pc))) }
+    requires { least_name program.now.names.now place.named ≡ name_up_to program.now.names.now place.pc }
+    ensures { OnOk result (out.new ≡ with_end (with_words out.old (place_line program.now.flash.now program.now.names.now place.pc))) }
 {
-    put_named(out, alloc, flash, names, place)?;
+    put_named(out, alloc, program, place)?;
     out.end_line()
 }
 
@@ -121,18 +128,17 @@ fn write_place(
 fn write_places(
     out: &mut LineWriter,
     alloc: Global,
-    flash: &Flash,
-    names: &Names,
+    program: &Program<'_>,
     sites: &[u16],
 ) -> Result<(), AllocError>
     requires { out.old.begun ≡ false }
-    ensures { OnOk result (out.new ≡ with_text out.old (flat_map (place_text flash.now names.now) sites.now)) }
+    ensures { OnOk result (out.new ≡ with_text out.old (flat_map (place_text program.now.flash.now program.now.names.now) sites.now)) }
 {
     appending_laws();
     let mut place = Reached { pc: 0, named: 0 };
     for site in sites {
-        place = reach(names, place, *site);
-        write_place(out, alloc, flash, names, place)?;
+        place = reach(program.names, place, *site);
+        write_place(out, alloc, program, place)?;
     }
     Ok(())
 }
@@ -170,18 +176,17 @@ fn write_count(out: &mut LineWriter, bound: u16, count: u64) -> Result<(), Alloc
 /// words of vectors that may be taken, though it is said that they never are.
 pub fn premises_text(
     alloc: Global,
-    flash: &Flash,
-    names: &Names,
+    program: &Program<'_>,
     bound: u16,
     sites: &[u16],
     nevers: &[u16],
 ) -> Result<Vec<u8>, AllocError>
-    ensures { IfOk result (λ v. v.items ≡ premises_text flash.now names.now bound sites.now nevers.now) }
+    ensures { IfOk result (λ v. v.items ≡ premises_text program.now.flash.now program.now.names.now bound sites.now nevers.now) }
 {
     appending_laws();
     let mut out = LineWriter::new(alloc);
     write_count(&mut out, bound, sites.len() as u64 + nevers.len() as u64)?;
-    write_places(&mut out, alloc, flash, names, sites)?;
+    write_places(&mut out, alloc, program, sites)?;
     write_nevers(&mut out, nevers)?;
     Ok(out.finish())
 }
@@ -234,16 +239,15 @@ fn write_causes(out: &mut LineWriter, place: &FlaggedPlace) -> Result<(), AllocE
 fn write_why(
     out: &mut LineWriter,
     alloc: Global,
-    flash: &Flash,
-    names: &Names,
+    program: &Program<'_>,
     place: &FlaggedPlace,
     reached: Reached,
 ) -> Result<(), AllocError>
     requires word { reached.pc ≡ place.now.word }
-    requires named { least_name names.now reached.named ≡ name_up_to names.now reached.pc }
-    ensures { OnOk result (out.new ≡ with_end (with_words out.old (why_line flash.now names.now place.now))) }
+    requires named { least_name program.now.names.now reached.named ≡ name_up_to program.now.names.now reached.pc }
+    ensures { OnOk result (out.new ≡ with_end (with_words out.old (why_line program.now.flash.now program.now.names.now place.now))) }
 {
-    put_named(out, alloc, flash, names, reached)?;
+    put_named(out, alloc, program, reached)?;
     write_causes(out, place)?;
     out.end_line()
 }
@@ -252,18 +256,17 @@ fn write_why(
 fn write_whys(
     out: &mut LineWriter,
     alloc: Global,
-    flash: &Flash,
-    names: &Names,
+    program: &Program<'_>,
     places: &[FlaggedPlace],
 ) -> Result<(), AllocError>
     requires { out.old.begun ≡ false }
-    ensures { OnOk result (out.new ≡ with_text out.old (flat_map line (map (why_line flash.now names.now) places.now))) }
+    ensures { OnOk result (out.new ≡ with_text out.old (flat_map line (map (why_line program.now.flash.now program.now.names.now) places.now))) }
 {
     appending_laws();
     let mut reached = Reached { pc: 0, named: 0 };
     for place in places {
-        reached = reach(names, reached, place.word);
-        write_why(out, alloc, flash, names, place, reached)?;
+        reached = reach(program.names, reached, place.word);
+        write_why(out, alloc, program, place, reached)?;
     }
     Ok(())
 }
@@ -271,18 +274,17 @@ fn write_whys(
 /// The same text as that of the words alone, with what may happen at each of them behind its name.
 pub fn why_text(
     alloc: Global,
-    flash: &Flash,
-    names: &Names,
+    program: &Program<'_>,
     bound: u16,
     places: &[FlaggedPlace],
     nevers: &[u16],
 ) -> Result<Vec<u8>, AllocError>
-    ensures { IfOk result (λ v. v.items ≡ why_text flash.now names.now bound places.now nevers.now) }
+    ensures { IfOk result (λ v. v.items ≡ why_text program.now.flash.now program.now.names.now bound places.now nevers.now) }
 {
     appending_laws();
     let mut out = LineWriter::new(alloc);
     write_count(&mut out, bound, places.len() as u64 + nevers.len() as u64)?;
-    write_whys(&mut out, alloc, flash, names, places)?;
+    write_whys(&mut out, alloc, program, places)?;
     write_nevers(&mut out, nevers)?;
     Ok(out.finish())
 }

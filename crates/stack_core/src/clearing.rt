@@ -10,7 +10,7 @@ use crate::reply::Reply;
 use call_graph::{Task, Worked};
 use cert_format::Certificate;
 use flash_image::{Flash, Names};
-use replies::places;
+use replies::places::{self, Program};
 use std::alloc::{AllocError, Global};
 use store_clear::{
     ClearVerdict, clear_family, flagged_places_in, flagged_sites_in, never_takes_in,
@@ -63,10 +63,13 @@ fn listed(
 {
     let sites = flagged_sites_in(task, certificate, family)?;
     let nevers = never_takes_in(task, &family.nodes)?;
+    let program = Program {
+        flash: task.flash,
+        names,
+    };
     let text = places::premises_text(
         task.alloc,
-        task.flash,
-        names,
+        &program,
         certificate.bound(),
         sites.as_slice(),
         nevers.as_slice(),
@@ -86,10 +89,13 @@ fn caused(
 {
     let marked = flagged_places_in(task, certificate, family)?;
     let nevers = never_takes_in(task, &family.nodes)?;
+    let program = Program {
+        flash: task.flash,
+        names,
+    };
     let text = places::why_text(
         task.alloc,
-        task.flash,
-        names,
+        &program,
         certificate.bound(),
         marked.as_slice(),
         nevers.as_slice(),

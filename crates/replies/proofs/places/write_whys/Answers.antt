@@ -5,11 +5,11 @@ use Rattle.replies.proofs.Sites.{up_first, nothing_behind}
 use Rattle.replies.proofs.places.write_whys.Goals as goal
 
 pub loop-place-init : goal.loop-place-init
-loop-place-init c = (nothing_behind c.args.out.now c.requires, up_first c.args.names.now)
+loop-place-init c = (nothing_behind c.args.out.now c.requires, up_first c.args.program.now.names.now)
 
 pub loop-place-preserved : goal.loop-place-preserved
 loop-place-preserved c = (
-  lines_next (why_line c.args.flash.now c.args.names.now) c.appending_laws.ensures c.args.out.now c.loop-place.out c.write_why.new.out c.args.places.now c.loop-place.place-index c.place-item.result
+  lines_next (why_line c.args.program.now.flash.now c.args.program.now.names.now) c.appending_laws.ensures c.args.out.now c.loop-place.out c.write_why.new.out c.args.places.now c.loop-place.place-index c.place-item.result
       c.loop-place-test.true c.place-item.is c.loop-place.invariant.0 c.in_ok-write_why.ensures,
-  c.reach-reached.ensures.named ∙ ap (name_up_to c.args.names.now) (sym c.reach-reached.ensures.pc),
+  c.reach-reached.ensures.named ∙ ap (name_up_to c.args.program.now.names.now) (sym c.reach-reached.ensures.pc),
 )
