@@ -1,10 +1,12 @@
 #!/usr/bin/env python3
-"""The rows of crates/value_tables/src/tests/arithmetic/rows.rt: results and flags at the edges of each operand.
+"""The rows of crates/value_tables/src/tests/arithmetic/: results and flags at the edges of each operand.
 
 Each flag is the Boolean formula of the instruction, over the bits of the operands and the result, as the Instruction Set
 Manual (DS40002198) has it. The formulas were written from memory, with no copy of the manual at hand, and are still to be
-compared with it. Nothing here is taken from the crate. Run: python3 alu_rows.py > rows.rt
+compared with it. Nothing here is taken from the crate. Run: python3 alu_rows.py sums > sums.rt, and the same with bits.
 """
+
+import sys
 
 EDGES = [0x00, 0x01, 0x7F, 0x80, 0x81, 0xFE, 0xFF]
 WORD_EDGES = [0x0000, 0x0001, 0x00FF, 0x0100, 0x7FC1, 0x7FFF, 0x8000, 0x803E, 0xFFC0, 0xFFC1, 0xFFFF]
@@ -138,28 +140,34 @@ PAIRS = [(d, r) for d in EDGES for r in EDGES]
 WORDS = [(d, k) for d in WORD_EDGES for k in (0, 1, 63)]
 
 # An instruction, its operands, and the rows: two operands, a carry, and both answers.
-TABLES = [
+SUMS = [
     ("ADC", "operands and carry", [(d, r, bool(c), *both(add, d, r, c)) for d, r in PAIRS for c in (0, 1)]),
     ("SUB", "operands and borrow", [(d, r, bool(c), *both(sub, d, r, c, False)) for d, r in PAIRS for c in (0, 1)]),
     ("SBC", "operands and borrow", [(d, r, bool(c), *both(sub, d, r, c, True)) for d, r in PAIRS for c in (0, 1)]),
     ("ADIW", "word and what is added", [(d, k, False, *both(wide, True, d, k)) for d, k in WORDS]),
     ("SBIW", "word and what is taken", [(d, k, False, *both(wide, False, d, k)) for d, k in WORDS]),
 ]
+BITS = []
 for n in ("And", "Or", "Eor"):
-    TABLES.append((n.upper(), "operands", [(d, r, False, *both(logic, n, d, r)) for d, r in PAIRS if r >= d]))
+    BITS.append((n.upper(), "operands", [(d, r, False, *both(logic, n, d, r)) for d, r in PAIRS if r >= d]))
 for n, f in (("COM", com), ("INC", inc), ("DEC", dec)):
-    TABLES.append((n, "operand", [(d, 0, False, *both(f, d)) for d in EDGES]))
+    BITS.append((n, "operand", [(d, 0, False, *both(f, d)) for d in EDGES]))
 for n in ("Lsr", "Ror", "Asr"):
-    TABLES.append((n.upper(), "operand", [(d, 0, False, *both(shift, n, d)) for d in EDGES]))
+    BITS.append((n.upper(), "operand", [(d, 0, False, *both(shift, n, d)) for d in EDGES]))
 for n in ("Mul", "Muls", "Mulsu", "Fmul", "Fmuls", "Fmulsu"):
-    TABLES.append((n.upper(), "operands", [(d, r, False, *both(mul, n, d, r)) for d, r in PAIRS if r >= d or "su" in n]))
+    BITS.append((n.upper(), "operands", [(d, r, False, *both(mul, n, d, r)) for d, r in PAIRS if r >= d or "su" in n]))
+TABLES, what = {
+    "sums": (SUMS, "sums and differences, of bytes and of words"),
+    "bits": (BITS, "logic, single bits, shifts and products"),
+}[sys.argv[1]]
 
-print("""//! Results and flags at the edges of each operand. These rows were computed by `tests/tables/alu_rows.py`, and not by
-//! this crate, from the manual's Boolean formulas (DS40002198) as remembered; they were not copied from it.
+print("""//! Results and flags at the edges of each operand, of %s.
+//! These rows were computed by `tests/tables/alu_rows.py`, and not by this crate, from the manual's Boolean formulas
+//! (DS40002198) as remembered; they were not copied from it.
 //! Operands come first, and 0 or false in place of one that there isn't; then the result with SREG after the operation from
 //! 0x00, and the same from 0xFF.
 
-use super::{Row, %s};""" % ", ".join(sorted(name for name, _, _ in TABLES)))
+use super::{Row, %s};""" % (what, ", ".join(sorted(name for name, _, _ in TABLES))))
 print("\npub static TABLES: [(&str, &[Row]); %d] = [" % len(TABLES))
 for name, doc, rows in TABLES:
     print("    // %s" % doc)

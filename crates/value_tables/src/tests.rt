@@ -71,7 +71,8 @@ fn tell_bits(told: &mut Told, alloc: Global) {
     tell(told, alloc, &offsets::FRAMES);
     tell(told, alloc, &offsets::CALLS);
     tell(told, alloc, &offsets::BASES);
-    tell(told, alloc, &arithmetic::TABLES);
+    tell(told, alloc, &arithmetic::SUMS);
+    tell(told, alloc, &arithmetic::BITS);
     tell(told, alloc, &abstract_arithmetic::SUMS);
     tell(told, alloc, &abstract_arithmetic::BITWISE);
     tell(told, alloc, &abstract_arithmetic::WORDS);

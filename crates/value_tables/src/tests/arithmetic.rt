@@ -1,11 +1,13 @@
-//! The rows of `rows`, each against its call, from a register with no flag set and from one with all set.
+//! The rows of `sums` and `bits`, each against its call, from a register with no flag set and from one with all set.
 
-mod rows;
+mod bits;
+mod sums;
 
 use super::Worked;
 use avr_alu::{Logic, Mul, Shift, Sreg, add, com, logic, mul, shift, step_one, sub, wide};
-pub use rows::TABLES;
+pub use bits::TABLES as BITS;
 use std::alloc::Global;
+pub use sums::TABLES as SUMS;
 
 /// A call of the arithmetic: a difference that keeps Z, a step up, and a word that is raised, where true.
 pub enum Operation {
