@@ -1,5 +1,5 @@
 -- Marking what is reached.
-use Rattle.std.proofs.Common.{◌≡◌, ℕ, zero, suc, ◌+◌, ◌<◌, Bool, true, false, Some, List, [], ◌∷◌, ◌++◌, length, get_or, set, take, slice_get, refl, sym, ap, ◌∙◌, subst, arith, inl, inr, ⊎_elim, get_or-set_other, get_or-set_same, length-append}
+use Rattle.std.proofs.Common.{◌≡◌, ℕ, zero, suc, ◌+◌, ◌<◌, Bool, true, false, Some, List, [], ◌∷◌, ◌++◌, length, get_or, set, take, replicate, slice_get, refl, sym, ap, ◌∙◌, subst, arith, inl, inr, ⊎_elim, get_or-set_other, get_or-set_same, length-append}
 use Rattle.std.specs.List.{Contains}
 use Rattle.std.proofs.lemmas.Bool.{cases_eq}
 use Rattle.std.proofs.lemmas.List.{take_more, length-set}
@@ -134,6 +134,11 @@ pub marked_inside : (seen : List Bool) (j : ℕ) → marked seen j ≡ true → 
 marked_inside [] j e = absurd (let e' = e in cc)
 marked_inside (b ∷ seen) zero e = omega arith
 marked_inside (b ∷ seen) (suc j) e = omega (arith, marked_inside seen j e)
+
+pub none_marked : (n j : ℕ) → marked (replicate n false) j ≡ false
+none_marked zero j = refl
+none_marked (suc n) zero = refl
+none_marked (suc n) (suc j) = none_marked n j
 
 pub into_seen : (gs : List GraphInst) (seen : List Bool) → IsGraph gs → length seen ≡ length gs → (i : ℕ) (inst : GraphInst) → slice_get gs i ≡ Some inst → (e : Entered) → Contains inst.entered e → e.into < length seen
 into_seen gs seen graph same i inst is e h = omega (arith, same, graph.within i e (it_enters gs i inst e is h))

@@ -90,6 +90,14 @@ module _ (gs : List GraphInst) (i : ℕ) (x : GraphInst) (here : slice_get gs i 
           (before_or_last j i lt));
     }
 
+pub named_skip : (gs : List GraphInst) (i : ℕ) (best : Option ℕ) → (Reaches gs i i → ⊥) → IsNamedBelow gs i best → IsNamedBelow gs (i + 1) best
+named_skip gs i None never named = λ j lt r. ⊎_elim (λ less. named j less r) (λ same. never (subst (λ k. Reaches gs k k) same r)) (before_or_last j i lt)
+named_skip gs i (Some at) never named = record {
+  inside = named.inside;
+  reaches = named.reaches;
+  first = λ j a b lt r is_a is_b. ⊎_elim (λ less. named.first j a b less r is_a is_b) (λ same. absurd (never (subst (λ k. Reaches gs k k) same r))) (before_or_last j i lt);
+}
+
 pub named_at : (gs : List GraphInst) (n at : ℕ) (best : Option ℕ) → best ≡ Some at → IsNamedBelow gs n best → IsNamedOf gs n at
 named_at gs n at best is named = subst (IsNamedBelow gs n) is named
 

@@ -11,6 +11,7 @@ ghost use Rattle.nesting_bound.specs.Least.{IsLeast};
 ghost use Rattle.nesting_bound.specs.Turn.{IsBestPlace, IsBestEdge, IsTurn, AreLeastNeeds};
 
 use crate::composing::Composed;
+use crate::depth_first::read;
 use crate::graph::{Entered, Graph, GraphInst, Link, Place};
 use std::alloc::{AllocError, Global};
 
@@ -23,32 +24,19 @@ pub enum Turn {
     Enters(Entered),
 }
 
-// The first place of this offset, of the best so far and one more.
-fn better_place(best: Option<Place>, place: Place, need: u32) -> Option<Place>
-    ensures { (ps : List Place) → IsBestPlace need ps best → IsBestPlace need (ps ++ place ∷ []) result }
-{
-    if u32::from(place.offset) != need {
-        return best;
-    }
-    match best {
-        None => Some(place),
-        Some(old) => {
-            if place.node < old.node {
-                Some(place)
-            } else {
-                best
-            }
-        }
-    }
-}
-
 // The place of this offset with the least node.
 fn best_place(places: &[Place], need: u32) -> Option<Place>
     ensures { IsBestPlace need places.now result }
 {
-    let mut best = None;
+    let mut best: Option<Place> = None;
     for place in places {
-        best = better_place(best, *place, need);
+        let first = match best {
+            None => true,
+            Some(old) => place.node < old.node,
+        };
+        if first && u32::from(place.offset) == need {
+            best = Some(*place);
+        }
     }
     best
 }
@@ -77,40 +65,7 @@ fn is_before(instances: &[GraphInst], a: &Entered, b: &Entered) -> bool
         .is_lt()
 }
 
-// Whether the stack becomes so deep below this edge. In 64 bits no sum is too great.
-fn is_deep(needs: &[u32], entered: &Entered, need: u32) -> bool
-    ensures { IsTrue result ↔ (entered.now.offset + 2 + slice_index needs.now entered.now.into ≡ need) }
-{
-    let below = needs.get(entered.into as usize).copied().unwrap_or(0);
-    u64::from(entered.offset) + 2 + u64::from(below) == u64::from(need)
-}
-
-// The first edge below which the stack becomes so deep, of the best so far and one more.
-fn better_edge(
-    instances: &[GraphInst],
-    needs: &[u32],
-    best: Option<Entered>,
-    entered: Entered,
-    need: u32,
-) -> Option<Entered>
-    ensures { (es : List Entered) → IsBestEdge instances.now needs.now need es best → IsBestEdge instances.now needs.now need (es ++ entered ∷ []) result }
-{
-    if !is_deep(needs, &entered, need) {
-        return best;
-    }
-    match best {
-        None => Some(entered),
-        Some(old) => {
-            if is_before(instances, &entered, &old) {
-                Some(entered)
-            } else {
-                best
-            }
-        }
-    }
-}
-
-// The first of the edges below which the stack becomes so deep.
+// The first of the edges below which the stack becomes so deep. In 64 bits no sum is too great.
 fn best_edge(
     instances: &[GraphInst],
     needs: &[u32],
@@ -119,9 +74,16 @@ fn best_edge(
 ) -> Option<Entered>
     ensures { IsBestEdge instances.now needs.now need edges.now result }
 {
-    let mut best = None;
+    let mut best: Option<Entered> = None;
     for entered in edges {
-        best = better_edge(instances, needs, best, *entered, need);
+        let first = match best {
+            None => true,
+            Some(old) => is_before(instances, entered, &old),
+        };
+        let below = read(needs, entered.into as usize);
+        if first && u64::from(entered.offset) + 2 + u64::from(below) == u64::from(need) {
+            best = Some(*entered);
+        }
     }
     best
 }

@@ -38,56 +38,18 @@ fn is_earlier(a: &InstKey, b: &InstKey) -> bool
     }
 }
 
-// Whether the first is named before the second, or is the same.
-fn is_no_later(a: &InstKey, i: usize, b: &InstKey, j: usize) -> bool
-    ensures yes { result ≡ true → IsNoLater a.now i b.now j }
-    ensures no { result ≡ false → IsNoLater b.now j a.now i }
+// The greatest number of those to which these edges lead, 0 where there are none.
+fn highest(edges: &[Entered], numbers: &[u32]) -> u32
+    ensures { (e : Entered) → Contains edges.now e → slice_index numbers.now e.into ≤ result }
 {
-    if i <= j {
-        !is_earlier(b, a)
-    } else {
-        is_earlier(a, b)
-    }
-}
-
-// Whether an instance of this number may be on a cycle by one of these edges: it leads to an instance of the same number.
-fn stays(edges: &[Entered], numbers: &[u32], number: u32) -> bool
-    ensures { result ≡ false → (e : Entered) → Contains edges.now e → slice_index numbers.now e.into ≢ number }
-{
+    let mut most: u32 = 0;
     for entered in edges {
-        if read(numbers, entered.into as usize) == number {
-            return true;
-        }
+        most = most.max(read(numbers, entered.into as usize));
     }
-    false
+    most
 }
 
-// Whether these edges lead to numbers up to this one alone.
-fn lead_down(edges: &[Entered], numbers: &[u32], number: u32) -> bool
-    ensures { result ≡ true → (e : Entered) → Contains edges.now e → slice_index numbers.now e.into ≤ number }
-{
-    for entered in edges {
-        if read(numbers, entered.into as usize) > number {
-            return false;
-        }
-    }
-    true
-}
-
-// Whether no instance enters one of a greater number.
-fn are_layers(graph: &[GraphInst], numbers: &[u32]) -> bool
-    ensures { result ≡ true → AreLayers graph.now numbers.now }
-{
-    for i in 0..graph.len() {
-        let number = read(numbers, i);
-        if !lead_down(graph[i].entered.as_slice(), numbers, number) {
-            return false;
-        }
-    }
-    true
-}
-
-// Whether instance i may reach itself: it wasn't settled, and it enters one of its own number.
+// Whether instance i may reach itself: it wasn't settled, and it enters one whose number is not below its own.
 fn is_candidate(graph: &[GraphInst], table: &[Option<Found>], numbers: &[u32], i: usize) -> bool
     requires sound { IsSound graph.now table.now }
     requires layers { AreLayers graph.now numbers.now }
@@ -97,8 +59,7 @@ fn is_candidate(graph: &[GraphInst], table: &[Option<Found>], numbers: &[u32], i
     if table[i].is_some() {
         return false;
     }
-    let number = read(numbers, i);
-    stays(graph[i].entered.as_slice(), numbers, number)
+    highest(graph[i].entered.as_slice(), numbers) >= read(numbers, i)
 }
 
 // Whether instance i is named after the best so far, or is not.
@@ -113,60 +74,11 @@ fn is_behind(graph: &[GraphInst], best: Option<u32>, i: usize) -> bool
         None => false,
         Some(at) => {
             let at = at as usize;
-            is_no_later(&graph[at].key, at, &graph[i].key, i)
-        }
-    }
-}
-
-// What is known of the instances: what was settled, and their numbers.
-#[derive(Clone, Copy)]
-struct Known<'a> {
-    table: &'a [Option<Found>],
-    numbers: &'a [u32],
-}
-
-// The one that is named, of those before instance i and of i.
-fn look(
-    alloc: Global,
-    graph: &[GraphInst],
-    known: &Known<'_>,
-    best: Option<u32>,
-    i: usize,
-) -> Result<Option<u32>, AllocError>
-    requires graph { IsGraph graph.now }
-    requires sound { IsSound graph.now known.now.table.now }
-    requires layers { AreLayers graph.now known.now.numbers.now }
-    requires within { i < length graph.now }
-    requires best { IsNamedBelow graph.now i best }
-    ensures { IfOk result (IsNamedBelow graph.now (i + 1)) }
-{
-    if !is_candidate(graph, known.table, known.numbers, i) {
-        return Ok(best);
-    }
-    if is_behind(graph, best, i) {
-        return Ok(best);
-    }
-    let reaches = reaches_itself(alloc, graph, i)?;
-    if reaches {
-        Ok(Some(i as u32))
-    } else {
-        Ok(best)
-    }
-}
-
-// The one that is named, of the best so far and instance i.
-fn first_of(graph: &[GraphInst], best: Option<usize>, i: usize) -> usize
-    requires within { i < length graph.now }
-    requires best { IfSome best (λ at. at < length graph.now) }
-    ensures { result < length graph.now }
-{
-    match best {
-        None => i,
-        Some(at) => {
-            if is_earlier(&graph[i].key, &graph[at].key) {
-                i
+            let (held, here) = (&graph[at].key, &graph[i].key);
+            if at <= i {
+                !is_earlier(here, held)
             } else {
-                at
+                is_earlier(held, here)
             }
         }
     }
@@ -178,10 +90,14 @@ fn first_candidate(graph: &[GraphInst], table: &[Option<Found>], numbers: &[u32]
     requires layers { AreLayers graph.now numbers.now }
     ensures { IfSome result (λ at. at < length graph.now) }
 {
-    let mut best = None;
+    let mut best: Option<usize> = None;
     for i in 0..graph.len() {
-        if is_candidate(graph, table, numbers, i) {
-            best = Some(first_of(graph, best, i));
+        let first = match best {
+            None => true,
+            Some(at) => is_earlier(&graph[i].key, &graph[at].key),
+        };
+        if first && is_candidate(graph, table, numbers, i) {
+            best = Some(i);
         }
     }
     best
@@ -214,15 +130,16 @@ fn guess(
 fn layers(alloc: Global, graph: &[GraphInst], numbers: Vec<u32>) -> Result<Vec<u32>, AllocError>
     ensures { IfOk result (λ layers. AreLayers graph.now layers.items) }
 {
-    if are_layers(graph, &numbers) {
-        Ok(numbers)
-    } else {
-        vec![in alloc; 0; graph.len()]
+    for i in 0..graph.len() {
+        if highest(graph[i].entered.as_slice(), &numbers) > read(&numbers, i) {
+            return vec![in alloc; 0; graph.len()];
+        }
     }
+    Ok(numbers)
 }
 
-/// The instance that is named, if one reaches itself. The table holds what was settled. Any numbers serve; where they are the
-/// instances' components, one instance alone is asked what it reaches.
+// The instance that is named, if one reaches itself. The table holds what was settled. Any numbers serve; where they are the
+// instances' components, one instance alone is asked what it reaches.
 pub fn first_named(
     alloc: Global,
     graph: &[GraphInst],
@@ -236,9 +153,13 @@ pub fn first_named(
     let layers = layers(alloc, graph, numbers)?;
     let numbers = layers.as_slice();
     let mut best = guess(alloc, graph, table, numbers)?;
-    let known = Known { table, numbers };
     for i in 0..graph.len() {
-        best = look(alloc, graph, &known, best, i)?;
+        if is_candidate(graph, table, numbers, i) && !is_behind(graph, best, i) {
+            let reaches = reaches_itself(alloc, graph, i)?;
+            if reaches {
+                best = Some(i as u32);
+            }
+        }
     }
     Ok(best)
 }

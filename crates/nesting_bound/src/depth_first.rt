@@ -37,16 +37,16 @@ struct Walk {
     count: u32,
 }
 
-/// The instances as a walk leaves them.
+// The instances as a walk leaves them.
 #[derive(Drop)]
 pub struct Walked {
-    /// Each instance behind those that it enters, but for cycles.
+    // Each instance behind those that it enters, but for cycles.
     pub order: Vec<u32>,
-    /// By instance, a number that instances on one cycle have in common, not below that of any that it enters.
+    // By instance, a number that instances on one cycle have in common, not below that of any that it enters.
     pub component: Vec<u32>,
 }
 
-/// The number at a place, 0 where there is none.
+// The number at a place, 0 where there is none.
 pub fn read(list: &[u32], i: usize) -> u32
     ensures { result ≡ slice_index list.now i }
 {
@@ -59,30 +59,12 @@ fn write(list: &mut [u32], i: usize, number: u32) {
     }
 }
 
-// The same number for each of so many instances.
-fn numbers(alloc: Global, count: usize, number: u32) -> Result<Vec<u32>, AllocError> {
-    vec![in alloc; number; count]
-}
-
 fn edge(graph: &[GraphInst], visit: Visit) -> Option<Entered> {
     let inst = graph.get(visit.inst as usize)?;
     inst.entered.as_slice().get(visit.edge).copied()
 }
 
 impl Walk {
-    fn new(alloc: Global, count: usize) -> Result<Walk, AllocError> {
-        Ok(Walk {
-            begun: numbers(alloc, count, 0)?,
-            lowest: numbers(alloc, count, 0)?,
-            component: numbers(alloc, count, OPEN)?,
-            open: Vec::new(alloc),
-            visits: Vec::new(alloc),
-            order: Vec::new(alloc),
-            time: 0,
-            count: 0,
-        })
-    }
-
     // Comes to an instance, unless it came there before.
     fn begin(&mut self, inst: u32) -> Result<(), AllocError> {
         if read(&self.begun, inst as usize) != 0 {
@@ -170,11 +152,20 @@ impl Walk {
     }
 }
 
-/// Walks over all instances.
+// Walks over all instances.
 pub fn walk_all(alloc: Global, graph: &[GraphInst]) -> Result<Walked, AllocError>
     requires { IsGraph graph.now }
 {
-    let mut walk = Walk::new(alloc, graph.len())?;
+    let mut walk = Walk {
+        begun: vec![in alloc; 0; graph.len()]?,
+        lowest: vec![in alloc; 0; graph.len()]?,
+        component: vec![in alloc; OPEN; graph.len()]?,
+        open: Vec::new(alloc),
+        visits: Vec::new(alloc),
+        order: Vec::new(alloc),
+        time: 0,
+        count: 0,
+    };
     walk.go_over(graph)?;
     Ok(Walked {
         order: walk.order,

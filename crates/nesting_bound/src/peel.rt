@@ -16,29 +16,11 @@ fn greatest(places: &[Place]) -> u32
     ensures above { (p : Place) → Contains places.now p → p.offset ≤ result }
     ensures least { (m : ℕ) → ((p : Place) → Contains places.now p → p.offset ≤ m) → result ≤ m }
 {
-    let mut most = 0;
+    let mut most: u32 = 0;
     for place in places {
-        let offset = u32::from(place.offset);
-        most = larger(most, offset);
+        most = most.max(u32::from(place.offset));
     }
     most
-}
-
-fn larger(a: u32, b: u32) -> u32
-    ensures { result ≡ max a b }
-{
-    if a < b { b } else { a }
-}
-
-// `found`, raised above what an instance needs to enter x.
-fn above(found: Found, entered: Entered, x: Found) -> Found
-    requires rank { x.rank < 65537 }
-    requires need { x.need ≤ 2050 * (x.rank + 1) }
-    ensures { result ≡ raised found entered x }
-{
-    let rank = larger(found.rank, x.rank + 1);
-    let need = larger(found.need, u32::from(entered.offset) + 2 + x.need);
-    Found { rank, need }
 }
 
 // The least above what the instance has and enters, if all that it enters is found.
@@ -56,7 +38,12 @@ fn settle(inst: &GraphInst, table: &[Option<Found>]) -> Option<Found>
         let into = entered.into as usize;
         match table[into] {
             None => return None,
-            Some(x) => found = above(found, *entered, x),
+            Some(x) => {
+                found = Found {
+                    rank: found.rank.max(x.rank + 1),
+                    need: found.need.max(u32::from(entered.offset) + 2 + x.need),
+                };
+            }
         }
     }
     Some(found)
@@ -109,8 +96,8 @@ fn settle_in(graph: &[GraphInst], table: &mut [Option<Found>], order: &[u32])
     }
 }
 
-/// Settles instances until none is left that enters settled ones alone. Any order serves; where each instance stands behind those
-/// that it enters, one look at each is enough, and one more shows that nothing is left.
+// Settles instances until none is left that enters settled ones alone. Any order serves; where each instance stands behind those
+// that it enters, one look at each is enough, and one more shows that nothing is left.
 pub fn peel(
     alloc: Global,
     graph: &[GraphInst],

@@ -1,4 +1,5 @@
-use Rattle.std.proofs.Common.{◌≡◌, ◌∙◌, Some, get_or, slice_get, subst, sym, refl, length}
+use Rattle.std.proofs.Common.{◌≡◌, ◌<◌, ◌∙◌, arith, Some, get_or, slice_get, subst, sym, refl, length}
+use Rattle.std.proofs.lemmas.Bool.Decides.{nat_tests}
 use Rattle.std.proofs.lemmas.Option.{slice_get_read}
 use Rattle.nesting_bound.specs.Table.{at}
 use Rattle.nesting_bound.proofs.Naming.{settled_apart, settled_there, no_candidate}
@@ -13,4 +14,6 @@ pub returns : goal.returns
 returns c = λ no.
     let gs = c.args.graph.now in
     let is = slice_get_read gs (length gs) c.args.i c.index-graph-i.result refl c.requires.within c.index-graph-i.is in
-    no_candidate gs c.args.numbers.now c.args.i c.read-number.result (get_or gs c.args.i c.index-graph-i.result) c.as_slice.result.now c.requires.layers (subst (λ x. slice_get gs c.args.i ≡ Some x) c.index-graph-i.is is) c.as_slice.ensures c.read-number.ensures (c.stays.ensures no)
+    let low : c.highest.result < c.read.result = grind (arith, nat_tests) in
+    no_candidate gs c.args.numbers.now c.args.i c.read.result (get_or gs c.args.i c.index-graph-i.result) c.as_slice.result.now c.requires.layers (subst (λ x. slice_get gs c.args.i ≡ Some x) c.index-graph-i.is is) c.as_slice.ensures c.read.ensures
+    (λ e h same. absurd (omega (arith, c.highest.ensures e h, low, same)))

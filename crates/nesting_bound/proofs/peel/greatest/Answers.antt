@@ -5,7 +5,7 @@ use Rattle.nesting_bound.proofs.Table.{no_place, greatest_more}
 use Rattle.nesting_bound.proofs.peel.greatest.Goals as goal
 
 pub loop-place-preserved : goal.loop-place-preserved
-loop-place-preserved c = greatest_more c.args.places.now c.loop-place.place-index no_place c.loop-place.most c.larger-most.result c.loop-place-test.true (c.larger-most.ensures ∙ ap (max c.loop-place.most) c.from-offset.ensures) c.loop-place.invariant.above c.loop-place.invariant.least
+loop-place-preserved c = greatest_more c.args.places.now c.loop-place.place-index no_place c.loop-place.most c.max-most.result c.loop-place-test.true (c.max-most.ensures ∙ ap (max c.loop-place.most) c.from.ensures) c.loop-place.invariant.above c.loop-place.invariant.least
 
 pub returns-clause-above : goal.returns-clause-above
 returns-clause-above c = λ o h. c.loop-place.invariant.above o (subst (λ xs. Contains xs o) (sym (take_all c.loop-place.place-index c.args.places.now c.loop-place-test.false)) h)

@@ -1,4 +1,4 @@
-use Rattle.std.proofs.Common.{subst, get_or}
+use Rattle.std.proofs.Common.{◌+◌, ◌∙◌, ap, max, subst, get_or}
 use Rattle.std.specs.List.{Contains}
 use Rattle.std.proofs.lemmas.List.Elements.{Contains-get_or}
 use Rattle.nesting_bound.specs.declared.graph.Entered.{Entered}
@@ -15,4 +15,5 @@ bounds c =
 
 pub loop-entered-preserved : goal.loop-entered-preserved
 loop-entered-preserved c =
-    over_more_at c.args.inst.now.entered c.as_slice-entered-items.result.now c.args.inst.now.offsets c.args.table.now c.loop-entered.entered-index no_entry c.loop-entered.found c.in-Some.x c.above-found.result c.as_slice-entered-items.ensures c.loop-entered-test.true c.in-Some.is c.above-found.ensures c.loop-entered.invariant
+    over_more_at c.args.inst.now.entered c.as_slice-entered-items.result.now c.args.inst.now.offsets c.args.table.now c.loop-entered.entered-index no_entry c.loop-entered.found c.in-Some.x (record { rank = c.max.result; need = c.max-in-Some.result }) c.as_slice-entered-items.ensures c.loop-entered-test.true c.in-Some.is
+    (λ j. record { rank = c.max.ensures j; need = (c.max-in-Some.ensures ∙ ap (λ offset. max c.loop-entered.found.need (offset + 2 + c.in-Some.x.need)) c.from.ensures) j }) c.loop-entered.invariant
