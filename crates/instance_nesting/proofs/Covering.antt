@@ -5,7 +5,6 @@ use Rattle.mask_states.specs.declared.keys.InstKey.{InstKey}
 use Rattle.mask_states.specs.Order.{same_inst}
 use Rattle.mask_states.proofs.AllLaws.{keys_are_ordered}
 use Rattle.round_rules.specs.Rounds.{Entering, AreRanks}
-use Rattle.round_rules.specs.Rounds as rounds
 use Rattle.instance_nesting.specs.declared.allowances.Allowance.{Allowance}
 use Rattle.instance_nesting.specs.declared.verdict.NestingVerdict.TheVariants.{Nests}
 use Rattle.instance_nesting.specs.Nestings.{Spot, Entrance, Noted, TellsAll}

@@ -9,14 +9,14 @@ use mask_states::InstKey;
 use nesting_bound::Composed;
 use std::alloc::{AllocError, Global};
 
-/// What an instance is allowed: a rank above those of all that it enters, and a need that covers its offsets and what it enters.
+// What an instance is allowed: a rank above those of all that it enters, and a need that covers its offsets and what it enters.
 #[derive(Clone, Copy)]
 pub(crate) struct Allowance {
     pub rank: u64,
     pub need: u64,
 }
 
-/// What instances are allowed, each for itself.
+// What instances are allowed, each for itself.
 #[derive(Drop)]
 pub(crate) struct Allowances {
     pub map: IndexMap<NotedInst, Allowance>,
@@ -45,14 +45,6 @@ struct Room {
 }
 
 impl Room {
-    // Of the bytes that the root has left, half is for all alike, and half is shared out among the steps of ranks.
-    fn of(composed: &Composed, size: u16) -> Room {
-        let left = u64::from(size).saturating_sub(number_at(composed.needs.as_slice(), 0));
-        let base = left / 2;
-        let share = base / (number_at(composed.ranks.as_slice(), 0) + 1);
-        Room { base, share }
-    }
-
     // What the instance of this number is allowed.
     fn grant(self, composed: &Composed, i: usize) -> Allowance {
         let steps = number_at(composed.ranks.as_slice(), i) + 1;
@@ -65,32 +57,12 @@ impl Room {
 }
 
 impl Allowance {
-    ghost use Rattle.std.specs.Prelude.{IsTrue};
-    ghost use Rattle.instance_nesting.specs.Covers.{Allows};
-
     // What it leaves to an instance that is entered at this offset.
     fn left(self, offset: u16) -> Allowance {
         Allowance {
             rank: self.rank.saturating_sub(1),
             need: self.need.saturating_sub(u64::from(offset) + STEP),
         }
-    }
-
-    // The least of both.
-    fn least(self, other: Allowance) -> Allowance {
-        Allowance {
-            rank: self.rank.min(other.rank),
-            need: self.need.min(other.need),
-        }
-    }
-
-    // Whether it covers that an instance that is allowed `into` is entered at this offset.
-    fn allows(self, into: Allowance, offset: u16) -> bool
-        ensures { IsTrue result → Allows self into offset }
-    {
-        into.rank < self.rank
-            && into.need <= self.need
-            && u64::from(offset) + 2 <= self.need - into.need
     }
 }
 
@@ -99,15 +71,15 @@ impl Allowances {
     ghost use Rattle.instance_nesting.specs.Nestings as nestings;
     ghost use Rattle.instance_nesting.specs.Covers.{allowed, AreKept, AllowsRoot, AllowsSpot, AllowsEntrance, Covers};
 
-    /// None.
+    // None.
     pub fn none(alloc: Global) -> Allowances {
         Allowances {
             map: IndexMap::new(alloc),
         }
     }
 
-    /// What the root and these others are granted over their ranks and needs, on a device whose SRAM has so many bytes, and what these
-    /// entrances leave to instances without a node.
+    // What the root and these others are granted over their ranks and needs, on a device whose SRAM has so many bytes, and what these
+    // entrances leave to instances without a node.
     pub fn over(
         alloc: Global,
         composed: &Composed,
@@ -129,7 +101,11 @@ impl Allowances {
         entrances: &IndexSet<NotedEntrance>,
         size: u16,
     ) -> Result<(), AllocError> {
-        let room = Room::of(composed, size);
+        // of the bytes that the root has left, half is for all alike, and half is shared out among the steps of ranks
+        let left = u64::from(size).saturating_sub(number_at(composed.needs.as_slice(), 0));
+        let base = left / 2;
+        let share = base / (number_at(composed.ranks.as_slice(), 0) + 1);
+        let room = Room { base, share };
         let key = InstKey::root();
         self.map.insert(NotedInst { key }, room.grant(composed, 0))?;
         for (at, other) in others.as_slice().iter().enumerate() {
@@ -162,14 +138,17 @@ impl Allowances {
         let left = from.left(entrance.offset());
         let key = *entrance.into();
         let most = match self.of(&key) {
-            Some(most) => most.least(left),
+            Some(most) => Allowance {
+                rank: most.rank.min(left.rank),
+                need: most.need.min(left.need),
+            },
             None => left,
         };
         self.map.insert(NotedInst { key }, most)?;
         Ok(())
     }
 
-    /// Where an instance is entered that has no allowance, it gets what is left to it.
+    // Where an instance is entered that has no allowance, it gets what is left to it.
     pub fn leave(&mut self, entrance: &NotedEntrance) -> Result<(), AllocError>
         ensures { OnOk result (AreKept self.old.map.entries self.new.map.entries) }
     {
@@ -191,7 +170,7 @@ impl Allowances {
         self.map.get(&NotedInst { key: *inst }).copied()
     }
 
-    /// Whether the root is allowed no more than so many bytes.
+    // Whether the root is allowed no more than so many bytes.
     pub fn allow_root(&self, size: u16) -> bool
         ensures { IsTrue result → AllowsRoot self.now.map.entries size }
     {
@@ -201,7 +180,7 @@ impl Allowances {
         }
     }
 
-    /// Whether the spot is covered.
+    // Whether the spot is covered.
     pub fn allow_spot(&self, spot: &NotedSpot) -> bool
         ensures { IsTrue result → AllowsSpot self.now.map.entries spot.now }
     {
@@ -211,12 +190,16 @@ impl Allowances {
         }
     }
 
-    /// Whether the entrance is covered.
+    // Whether the entrance is covered.
     pub fn allow_entrance(&self, entrance: &NotedEntrance) -> bool
         ensures { IsTrue result → AllowsEntrance self.now.map.entries entrance.now }
     {
         match (self.of(entrance.from()), self.of(entrance.into())) {
-            (Some(from), Some(into)) => from.allows(into, entrance.offset()),
+            (Some(from), Some(into)) => {
+                into.rank < from.rank
+                    && into.need <= from.need
+                    && u64::from(entrance.offset()) + 2 <= from.need - into.need
+            }
             _ => false,
         }
     }
@@ -245,7 +228,7 @@ impl Allowances {
         true
     }
 
-    /// Whether all spots and entrances are covered.
+    // Whether all spots and entrances are covered.
     pub fn cover(&self, spots: &IndexSet<NotedSpot>, entrances: &IndexSet<NotedEntrance>) -> bool
         ensures { IsTrue result → Covers self.now.map.entries spots.now.keys entrances.now.keys }
     {

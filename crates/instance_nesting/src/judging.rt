@@ -30,7 +30,7 @@ fn named(graph: &[GraphInst], at: u32) -> NestingVerdict
     }
 }
 
-/// What a nesting tells of the family, and where instances nest, what each is allowed.
+// What a nesting tells of the family, and where instances nest, what each is allowed.
 #[derive(Drop)]
 pub(crate) struct Judged {
     pub verdict: NestingVerdict,
@@ -73,7 +73,7 @@ fn judge_graph(
     })
 }
 
-/// What is noted of a family whose root has a node tells on a device whose SRAM has so many bytes.
+// What is noted of a family whose root has a node tells on a device whose SRAM has so many bytes.
 pub(crate) fn judge_noted(
     alloc: Global,
     others: &IndexSet<NotedInst>,

@@ -57,23 +57,6 @@ fn keep_inst(
     Ok(())
 }
 
-fn keep_spot(spots: &mut IndexSet<NotedSpot>, spot: NotedSpot) -> Result<(), AllocError>
-    ensures { OnOk result (HasMore spots.old.keys spot spots.new.keys) }
-{
-    spots.insert(spot)?;
-    Ok(())
-}
-
-fn keep_entrance(
-    entrances: &mut IndexSet<NotedEntrance>,
-    entrance: NotedEntrance,
-) -> Result<(), AllocError>
-    ensures { OnOk result (HasMore entrances.old.keys entrance entrances.new.keys) }
-{
-    entrances.insert(entrance)?;
-    Ok(())
-}
-
 impl Nesting {
     /// Nothing noted.
     pub fn new(alloc: Global) -> Nesting
@@ -111,7 +94,7 @@ impl Nesting {
             SpForm::Closed(offset) => {
                 let spot = NotedSpot::new(key.inst, offset);
                 let covered = covered && self.allowances.allow_spot(&spot);
-                keep_spot(&mut self.spots, spot)?;
+                self.spots.insert(spot)?;
                 self.covered = covered;
                 Ok(())
             }
@@ -133,7 +116,7 @@ impl Nesting {
         self.covered = false;
         self.allowances.leave(&entrance)?;
         let covered = covered && self.allowances.allow_entrance(&entrance);
-        keep_entrance(&mut self.entrances, entrance)?;
+        self.entrances.insert(entrance)?;
         self.covered = covered;
         Ok(())
     }

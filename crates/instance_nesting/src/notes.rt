@@ -12,7 +12,7 @@ use mask_states::InstKey;
 use std::hash::{Hash, Hasher};
 use std::marker::Model;
 
-/// An instance with a node. Seen as its key.
+// An instance with a node. Seen as its key.
 #[derive(Drop)]
 pub(crate) struct NotedInst {
     pub key: InstKey,
@@ -51,7 +51,7 @@ impl Hash for NotedInst {
     }
 }
 
-/// An instance has a node with a whole stack pointer at this offset, at most 2,048.
+// An instance has a node with a whole stack pointer at this offset, at most 2,048.
 #[derive(Drop)]
 pub(crate) struct NotedSpot {
     inst: InstKey,
@@ -118,7 +118,7 @@ impl Hash for NotedSpot {
     }
 }
 
-/// A node of one instance, at this offset, at most 2,048, enters another.
+// A node of one instance, at this offset, at most 2,048, enters another.
 #[derive(Drop)]
 pub(crate) struct NotedEntrance {
     from: InstKey,
