@@ -21,13 +21,6 @@ fn show_value(rt: &HostRuntime, value: AbsByte) -> io::Result<()> {
     )
 }
 
-fn show_slot(rt: &HostRuntime, slot: Slot<AbsByte>) -> io::Result<()> {
-    match slot {
-        Slot::Free => print!(rt; "."),
-        Slot::Guarded(value) => show_value(rt, value),
-    }
-}
-
 fn show_key(rt: &HostRuntime, key: &NodeKey) -> io::Result<()> {
     let (i, delay) = (u8::from(key.i), u8::from(key.delay));
     print!(rt; "  to {:04X} {:07X} {i} {delay} ", key.pc, key.masks.bits())?;
@@ -63,15 +56,10 @@ fn show_flags(rt: &HostRuntime, state: &AbsState, before: &AbsState) -> io::Resu
     if flags.bits != was.bits {
         print!(rt; " flags=-{:02X}{:02X}", flags.bits.known, flags.bits.value)?;
     }
-    if flags.carry != was.carry {
-        show_carry(rt, flags.carry)
-    } else {
-        Ok(())
+    if flags.carry == was.carry {
+        return Ok(());
     }
-}
-
-fn show_carry(rt: &HostRuntime, carry: CarryTag) -> io::Result<()> {
-    match carry {
+    match flags.carry {
         CarryTag::None => print!(rt; " carry=-"),
         CarryTag::Borrow(j, k) => print!(rt; " carry=b{j:02X}{k:02X}"),
         CarryTag::Sum(j, k) => print!(rt; " carry=s{j:02X}{k:02X}"),
@@ -85,7 +73,10 @@ fn show_slots(rt: &HostRuntime, state: &AbsState, before: &AbsState) -> io::Resu
         let was = before.slots.as_slice().get(d).copied();
         if *slot != was.unwrap_or(Slot::Free) {
             print!(rt; " s{d}=")?;
-            show_slot(rt, *slot)?;
+            match slot {
+                Slot::Free => print!(rt; ".")?,
+                Slot::Guarded(value) => show_value(rt, *value)?,
+            }
         }
     }
     Ok(())
@@ -99,27 +90,18 @@ fn show_node(rt: &HostRuntime, node: &Node, before: &AbsState) -> io::Result<()>
     println!(rt; "")
 }
 
-// No successor, no call and no return.
-fn leads_nowhere(found: &Local) -> bool {
-    found.same.as_slice().is_empty() && found.calls.as_slice().is_empty() && found.exit.is_none()
-}
-
-fn show_calls(rt: &HostRuntime, found: &Local) -> io::Result<()> {
-    for site in found.calls.as_slice() {
-        println!(rt; "  call {:04X} back {:04X}", site.entry, site.back)?;
-    }
-    Ok(())
-}
-
 /// Prints what a node leads to, from this state.
 pub fn show(rt: &HostRuntime, found: &Local, before: &AbsState) -> io::Result<()> {
-    if leads_nowhere(found) {
+    let (same, calls) = (found.same.as_slice(), found.calls.as_slice());
+    if same.is_empty() && calls.is_empty() && found.exit.is_none() {
         return println!(rt; "  nowhere");
     }
-    for node in found.same.as_slice() {
+    for node in same {
         show_node(rt, node, before)?;
     }
-    show_calls(rt, found)?;
+    for site in calls {
+        println!(rt; "  call {:04X} back {:04X}", site.entry, site.back)?;
+    }
     if let Some(exit) = found.exit {
         let (i, delay) = (u8::from(exit.i), u8::from(exit.delay));
         println!(rt; "  exit {:07X} {i} {delay}", exit.masks.bits())?;

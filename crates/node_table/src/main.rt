@@ -12,10 +12,10 @@ use row::Row;
 use std::{fs, io};
 use vector_table::Assumptions;
 
-/// The most entries of an assumption list.
+// The most entries of an assumption list.
 const MOST_ENTRIES: usize = 4_096;
 
-/// Where the node of a row leads.
+// Where the node of a row leads.
 fn show(rt: &HostRuntime, row: &Row, lines: &Assumptions) -> io::Result<()> {
     let (key, state) = (&row.key, &row.state);
     if key.pc >= WORDS || state.slots.len() != key.offset() {
@@ -31,7 +31,7 @@ fn show(rt: &HostRuntime, row: &Row, lines: &Assumptions) -> io::Result<()> {
     }
 }
 
-/// Prints a line: an assumption is kept for the row behind it, and a row gets its answer.
+// Prints a line: an assumption is kept for the row behind it, and a row gets its answer.
 fn show_line(rt: &HostRuntime, line: &str, lines: &mut Assumptions) -> io::Result<()> {
     println!(rt; "{line}")?;
     if line.is_empty() || line.starts_with('#') {
@@ -45,18 +45,13 @@ fn show_line(rt: &HostRuntime, line: &str, lines: &mut Assumptions) -> io::Resul
             println!(rt; "  not above the last")
         }
         None => {
-            let shown = show_row(rt, line, lines);
+            let shown = match row::read(rt.alloc(), line)? {
+                Some(row) => show(rt, &row, lines),
+                None => println!(rt; "  malformed"),
+            };
             *lines = Assumptions::empty(rt.alloc());
             shown
         }
-    }
-}
-
-/// Prints the answer to a row.
-fn show_row(rt: &HostRuntime, line: &str, lines: &Assumptions) -> io::Result<()> {
-    match row::read(rt.alloc(), line)? {
-        Some(row) => show(rt, &row, lines),
-        None => println!(rt; "  malformed"),
     }
 }
 

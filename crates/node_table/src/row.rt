@@ -12,17 +12,11 @@ use sp_domain::{CarryTag, Slot, Slots, Tag};
 use std::alloc::{AllocError, Global};
 use vector_table::Masks;
 
-/// A word of flash that nothing was written to.
-const ERASED: u16 = 0xFFFF;
-
 /// A node of the table.
 #[derive(Drop)]
 pub struct Row {
-    /// The word at the node and the word behind it.
-    words: (u16, u16),
-    /// The two words behind these.
-    behind: (u16, u16),
-    /// The device.
+    // The word at the node and the three behind it.
+    words: [u16; 4],
     device: Device,
     /// Its key.
     pub key: NodeKey,
@@ -76,30 +70,15 @@ fn kind(text: &str) -> Option<Kind> {
 
 // `c` and the offset; or `o`, the offset of the low byte, a comma, and `k` with a known high byte or `t` with the number of its tag.
 fn form(text: &str) -> Option<SpForm> {
-    match text.split_once(',') {
-        Some((offset, high)) => Some(SpForm::Open(lettered(offset, 'o')?, high_byte(high)?)),
-        None => Some(SpForm::Closed(lettered(text, 'c')?)),
-    }
-}
-
-// A letter and a decimal number.
-fn lettered(text: &str, letter: char) -> Option<u16> {
-    decimal(text.strip_prefix(letter)?)
-}
-
-fn high_byte(text: &str) -> Option<High> {
-    match text.strip_prefix('k') {
-        Some(known) => Some(High::Known(byte(known)?)),
-        None => Some(High::Tag(number(text.strip_prefix('t')?)?)),
-    }
-}
-
-// One word, or two with a comma between them.
-fn behind(text: &str) -> Option<(u16, u16)> {
-    match text.split_once(',') {
-        Some((first, second)) => Some((number(first)?, number(second)?)),
-        None => Some((number(text)?, ERASED)),
-    }
+    let Some((offset, high)) = text.split_once(',') else {
+        return Some(SpForm::Closed(decimal(text.strip_prefix('c')?)?));
+    };
+    let offset = decimal(offset.strip_prefix('o')?)?;
+    let high = match high.strip_prefix('k') {
+        Some(known) => High::Known(byte(known)?),
+        None => High::Tag(number(high.strip_prefix('t')?)?),
+    };
+    Some(SpForm::Open(offset, high))
 }
 
 // A tag as certificates spell it: `-`, `f`, `e` and a register, `l` and a byte, `h` and a number.
@@ -117,40 +96,23 @@ fn tag(text: &str) -> Option<Tag> {
     }
 }
 
-// Two digits each for the known bits and their values.
-fn bits(text: &str) -> Option<TriByte> {
-    let bits = number(text)?;
-    Some(TriByte::new((bits / 256) as u8, (bits % 256) as u8))
-}
-
-// A tag, the bits, and two digits each for the least and the greatest byte.
+// A tag, and two digits each for the known bits, their values, and the least and the greatest byte.
 fn value(text: &str) -> Option<AbsByte> {
-    let (front, range) = text.split_at_checked(text.len().checked_sub(4)?)?;
-    let (front, known) = front.split_at_checked(front.len().checked_sub(4)?)?;
-    let range = number(range)?;
+    let (front, digits) = text.split_at_checked(text.len().checked_sub(8)?)?;
+    let [known, value, low, high] = u32::from_str_radix(digits, 16).ok()?.to_be_bytes();
     Some(AbsByte {
         tag: tag(front)?,
-        bits: bits(known)?,
-        low: (range / 256) as u8,
-        high: (range % 256) as u8,
+        bits: TriByte::new(known, value),
+        low,
+        high,
     })
-}
-
-// `.` where anything may be written there, else a value.
-fn slot(text: &str) -> Option<Slot<AbsByte>> {
-    if text == "." {
-        Some(Slot::Free)
-    } else {
-        Some(Slot::Guarded(value(text)?))
-    }
 }
 
 // `b` or `s`, and two digits each for the low byte of the base less which the number is, and what is subtracted or added; or `c`, and two
 // digits each for a register and the number that it is compared with.
 fn carry(text: &str) -> Option<CarryTag> {
-    let (kind, both) = text.split_at_checked(1)?;
-    let both = number(both)?;
-    let (first, second) = ((both / 256) as u8, (both % 256) as u8);
+    let (kind, digits) = text.split_at_checked(1)?;
+    let [first, second] = number(digits)?.to_be_bytes();
     if kind == "b" {
         Some(CarryTag::Borrow(first, second))
     } else if kind == "s" {
@@ -162,24 +124,9 @@ fn carry(text: &str) -> Option<CarryTag> {
     }
 }
 
-// A hyphen and the bits of the status register.
-fn flags(text: &str) -> Option<TriByte> {
-    bits(text.strip_prefix('-')?)
-}
-
-fn masks(text: &str) -> Option<Masks> {
-    Masks::from_bits(u32::from_str_radix(text, 16).ok()?)
-}
-
-// Puts a value that was read into its place.
-fn put<T: Copy>(place: &mut T, read: Option<T>) -> Option<()> {
-    *place = read?;
-    Some(())
-}
-
 impl Row {
     // A node at word 0 of the ATmega328P of which nothing else is known, with so many free slots.
-    fn new(alloc: Global, words: (u16, u16), kind: Kind, sp: SpForm) -> Result<Row, AllocError> {
+    fn new(alloc: Global, words: [u16; 4], kind: Kind, sp: SpForm) -> Result<Row, AllocError> {
         let mut slots = Slots::new(alloc);
         slots.resize(sp.offset())?;
         let inst = InstKey {
@@ -190,7 +137,6 @@ impl Row {
         };
         Ok(Row {
             words,
-            behind: (ERASED, ERASED),
             device: Device::M328,
             key: NodeKey {
                 sp,
@@ -209,63 +155,62 @@ impl Row {
         })
     }
 
-    // A word alone says that a flag is on.
-    fn turn_on(&mut self, name: &str) -> Option<()> {
+    // The value of a register, or a slot, of which `.` says that anything may be written there.
+    fn set_byte(&mut self, name: &str, text: &str) -> Option<()> {
+        if let Some(r) = name.strip_prefix('r') {
+            let value = value(text)?;
+            *self.state.registers.get_mut(usize::from(decimal(r)?))? = value;
+            return Some(());
+        }
+        let d = decimal(name.strip_prefix('s')?)?;
+        if d >= self.state.slots.len() {
+            return None;
+        }
+        let slot = if text == "." {
+            Slot::Free
+        } else {
+            Slot::Guarded(value(text)?)
+        };
+        self.state.slots.set(d, slot);
+        Some(())
+    }
+
+    // What a word says of the node. One that is a name alone has no text, and says that a flag is on.
+    fn set(&mut self, name: &str, text: &str) -> Option<()> {
         if name == "i" {
             self.key.i = true;
         } else if name == "delay" {
             self.key.delay = true;
         } else if name == "entry" {
             self.state.flags.entry = true;
-        } else {
-            return None;
-        }
-        Some(())
-    }
-
-    // The value of a register or of a slot.
-    fn set_byte(&mut self, name: &str, text: &str) -> Option<()> {
-        if let Some(r) = name.strip_prefix('r') {
-            let value = value(text)?;
-            *self.state.registers.get_mut(usize::from(decimal(r)?))? = value;
-        } else {
-            let d = decimal(name.strip_prefix('s')?)?;
-            if d >= self.state.slots.len() {
-                return None;
-            }
-            self.state.slots.set(d, slot(text)?);
-        }
-        Some(())
-    }
-
-    // What a word says of the node.
-    fn set(&mut self, name: &str, text: &str) -> Option<()> {
-        if name == "pc" {
-            put(&mut self.key.pc, number(text))
+        } else if name == "pc" {
+            self.key.pc = number(text)?;
         } else if name == "behind" {
-            put(&mut self.behind, behind(text))
+            let (third, fourth) = text.split_once(',').unwrap_or((text, "FFFF"));
+            self.words[2] = number(third)?;
+            self.words[3] = number(fourth)?;
         } else if name == "masks" {
-            put(&mut self.key.masks, masks(text))
+            self.key.masks = Masks::from_bits(u32::from_str_radix(text, 16).ok()?)?;
         } else if name == "device" {
-            put(&mut self.device, device(text))
+            self.device = device(text)?;
         } else if name == "pick" {
-            put(&mut self.key.pick, byte(text).map(Some))
+            self.key.pick = Some(byte(text)?);
         } else if name == "flags" {
-            put(&mut self.state.flags.bits, flags(text))
+            let [known, value] = number(text.strip_prefix('-')?)?.to_be_bytes();
+            self.state.flags.bits = TriByte::new(known, value);
         } else if name == "carry" {
-            put(&mut self.state.flags.carry, carry(text))
+            self.state.flags.carry = carry(text)?;
         } else {
-            self.set_byte(name, text)
+            return self.set_byte(name, text);
         }
+        Some(())
     }
 
     // What the words behind the heading say of it.
     fn set_all(&mut self, text: &str) -> Option<()> {
         for word in text.split(' ').skip(4) {
-            match word.split_once('=') {
-                Some((name, text)) => self.set(name, text)?,
-                None => self.turn_on(word)?,
-            }
+            let (name, text) = word.split_once('=').unwrap_or((word, ""));
+            self.set(name, text)?;
         }
         Some(())
     }
@@ -279,8 +224,7 @@ impl Row {
 
     /// The device's flash with the four words at the node, modulo the number of its words, and erased words elsewhere.
     pub fn flash(&self, alloc: Global) -> Result<Option<Flash>, AllocError> {
-        let (first, second) = self.words;
-        let (third, fourth) = self.behind;
+        let [first, second, third, fourth] = self.words;
         let mut flash = Flash::erased(alloc)?;
         flash.place(self.address(0), &first.to_le_bytes());
         flash.place(self.address(1), &second.to_le_bytes());
@@ -302,7 +246,9 @@ pub fn read(alloc: Global, text: &str) -> Result<Option<Row>, AllocError> {
     let Some((first, second, kind, sp)) = heading(text) else {
         return Ok(None);
     };
-    let mut row = Row::new(alloc, (first, second), kind, sp)?;
+    // The words behind these are erased, but for those that are told.
+    let words = [first, second, 0xFFFF, 0xFFFF];
+    let mut row = Row::new(alloc, words, kind, sp)?;
     match row.set_all(text) {
         Some(()) => Ok(Some(row)),
         None => Ok(None),
