@@ -2,19 +2,16 @@
 
 ghost use Rattle.mask_states.specs.Laws.{KeysAreTheirNumbers, KeysAreOrdered, NodesGoByInstance, SplitsAreWrites};
 
-/// Keys with the same numbers are the same.
-pub fn keys_are_their_numbers()
-    ensures { KeysAreTheirNumbers }
-{}
-
 /// The order of keys is total, and a key is equal to itself alone, by the order and by `==`.
 pub fn keys_are_ordered()
     ensures { KeysAreOrdered }
 {}
 
-/// Nodes go by their instances first, so those of one instance are neighbours in an ascending list.
-pub fn nodes_go_by_instance()
-    ensures { NodesGoByInstance }
+/// Keys with the same numbers are the same; and nodes go by their instances first, so those of one instance are neighbours in an
+/// ascending list.
+pub fn keys_are_their_numbers()
+    ensures numbers { KeysAreTheirNumbers }
+    ensures instances { NodesGoByInstance }
 {}
 
 /// The splits of a write are what the members of the byte leave, at most 16, ascending.

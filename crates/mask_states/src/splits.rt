@@ -28,16 +28,6 @@ impl Model for Splits {
 }
 
 impl Splits {
-    // These alone.
-    fn of(masks: Masks) -> Splits
-        ensures { result ≡ masks ∷ [] }
-    {
-        Splits {
-            masks: [masks; 16],
-            count: 1,
-        }
-    }
-
     /// The enable bits, ascending.
     pub fn as_slice(&self) -> &[Masks]
         ensures value { result.now ≡ self.now }
@@ -86,7 +76,10 @@ pub fn split(m: Masks, address: u16, value: &TriByte) -> Splits
     ensures { result ≡ splits m address value.now }
 {
     // An unknown bit is 0 in the byte's value, and is turned on from the least vector up, so the list ascends.
-    let mut splits = Splits::of(write(m, address, value.value));
+    let mut splits = Splits {
+        masks: [write(m, address, value.value); 16],
+        count: 1,
+    };
     for v in 2..27 {
         if is_unknown(address, value, v) {
             splits.double(v);

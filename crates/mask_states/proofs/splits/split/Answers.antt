@@ -10,7 +10,7 @@ loop-v-init c =
     record {
       low = omega arith;
       so_far =
-          c.of-splits.ensures ∙ ap (λ (n : ℕ). n ∷ []) c.write.ensures
+          ap (λ (n : ℕ). n ∷ []) c.write.ensures
           ∙ sym (left_first (written_enables c.args.m c.args.address c.args.value.now.value) (enable_tri c.args.m c.args.address c.args.value.now));
     }
 
