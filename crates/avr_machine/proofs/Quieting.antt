@@ -254,7 +254,7 @@ pointer_protected words entries pc instr e w pointer one = simp (pointer, one)
 
 pub pushed_answer : (words : List ℕ) (entries : List Entry) (m : State) (instr : Instr) (pushes : List Write) (sp target : ℕ) (transfer : Option ℕ) → is_pointer_store instr ≡ false
     → unlisted_transfer entries m.pc instr (push_effect_to m pushes sp target) ≡ transfer
-    → push_answer words m transfer pushes sp target ≡ answer_to words entries m instr (push_effect_to m pushes sp target)
+    → push_answer (not (is_scratch words m.pc)) m transfer pushes sp target ≡ answer_to words entries m instr (push_effect_to m pushes sp target)
 pushed_answer words entries m instr pushes sp target transfer plain is =
     ap₂ (λ (protected other : Option ℕ). if all_inside m.device pushes || is_unlisted other
     then flagged_or (flag_by m.pc (live_write m.memory pushes) protected other) (after m (not (is_scratch words m.pc)) (push_effect_to m pushes sp target))

@@ -50,30 +50,3 @@ seen n bytes live = record { bytes = take n bytes; live = live }
 pub new_parts : (device : Device) (size : ℕ) (bytes : List ℕ) (live : List Bool) → size ≡ size_of device → live ≡ replicate size false
     → seen size bytes live ≡ record { bytes = take (size_of device) bytes; live = replicate (size_of device) false }
 new_parts device size bytes live e f = ap (seen size bytes) f ∙ ap (λ (n : ℕ). seen n bytes (replicate n false)) e
-
--- what is set within the first places, by address
-set_by_address : {A : Type 0} (n a place : ℕ) (xs : List A) (x : A) (k : ℕ) → k ≤ n → (nat_lt 255 a && nat_lt (a - 256) k) ≡ true → place ≡ a - 256
-    → take n (slice_set xs place x) ≡ set_at (take n xs) a x
-unfolding set_at
-set_by_address n a place xs x k le test is =
-    ap (λ p. take n (slice_set xs p x)) is
-    ∙ set_taken n (a - 256) xs x (let lt = ltb-true (a - 256) k (right_of_and (nat_lt 255 a) (nat_lt (a - 256) k) test) in omega (arith, lt, le))
-    ∙ sym (ap (λ (t : Bool). if t then slice_set (take n xs) (a - 256) x else take n xs) (left_of_and (nat_lt 255 a) (nat_lt (a - 256) k) test))
-
-pub byte_is_set : (n a place x : ℕ) (bytes : List ℕ) (live : List Bool) (m : Memory) → m ≡ seen n bytes live → (nat_lt 255 a && nat_lt (a - 256) (length m.bytes)) ≡ true → place ≡ a - 256
-    → seen n (slice_set bytes place x) live ≡ record { bytes = set_at m.bytes a x; live = m.live }
-byte_is_set n a place x bytes live m view test is =
-    ap (λ (b : List ℕ). record { bytes = b; live = live }) (set_by_address n a place bytes x (length m.bytes) few test is)
-    ∙ sym (ap (λ (k : Memory). record { bytes = set_at k.bytes a x; live = k.live }) view)
-  where
-    few : length m.bytes ≤ n
-    few = let e = ap (λ (k : Memory). length k.bytes) view in let f = length-take n bytes in omega (arith, e, f)
-
--- an address whose place is one of the first is one of SRAM
-pub inside_is : (n a place : ℕ) (bytes : List ℕ) (live : List Bool) (m : Memory) → seen n bytes live ≡ m → length bytes ≡ 2048 → n ≤ 2048 → 255 < a → place ≡ a - 1 - 255
-    → nat_lt place n ≡ (nat_lt 255 a && nat_lt (a - 256) (length m.bytes))
-inside_is n a place bytes live m view size few above is =
-    let count : length m.bytes ≡ n = ap (λ (k : Memory). length k.bytes) (sym view) ∙ length-take-le n bytes (omega (arith, size, few)) in
-    let at : place ≡ a - 256 = omega (arith, is) in
-    let here : nat_lt 255 a ≡ true = grind (arith, nat_tests) in
-    ap (λ (p : ℕ). nat_lt p n) at ∙ ap (nat_lt (a - 256)) (sym count) ∙ ap (λ (t : Bool). t && nat_lt (a - 256) (length m.bytes)) (sym here)

@@ -4,7 +4,6 @@ use Rattle.avr_model.specs.declared.instruction.Instr.{Instr}
 use Rattle.avr_model.specs.declared.instruction.Instr.TheVariants as i
 use Rattle.avr_model.specs.declared.effect.Effect.{Effect}
 use Rattle.avr_model.specs.State.{State}
-use Rattle.avr_model.specs.Sites.{is_scratch}
 use Rattle.avr_model.specs.declared.assumption.Entry.{Entry}
 use Rattle.avr_model.specs.declared.effect.Write.{Write}
 use Rattle.avr_model.specs.Assumptions.{store_line, is_fixed_site}
@@ -41,10 +40,10 @@ store_answer m protected e = flagged_or (flag_by m.pc (live_write m.memory (e.st
 abbrev pub push_effect_to : State → List Write → ℕ → ℕ → Effect
 push_effect_to m pushes sp target = record (going_to m target) { sp = sp; is_open = false; pushes = pushes }
 
-abbrev pub push_answer : List ℕ → State → Option ℕ → List Write → ℕ → ℕ → Answer
-push_answer words m transfer pushes sp target =
+abbrev pub push_answer : Bool → State → Option ℕ → List Write → ℕ → ℕ → Answer
+push_answer guarded m transfer pushes sp target =
     if all_inside m.device pushes || is_unlisted transfer
-    then flagged_or (flag_by m.pc (live_write m.memory pushes) None transfer) (after m (not (is_scratch words m.pc)) (push_effect_to m pushes sp target))
+    then flagged_or (flag_by m.pc (live_write m.memory pushes) None transfer) (after m guarded (push_effect_to m pushes sp target))
     else Overflow m.pc
 
 -- the answer to a jump to a computed word

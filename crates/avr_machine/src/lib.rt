@@ -7,8 +7,6 @@ mod bits;
 mod effects;
 mod enables;
 mod flags;
-mod flow;
-mod live_bytes;
 mod machine;
 mod memory;
 mod menu;

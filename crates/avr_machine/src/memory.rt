@@ -1,11 +1,10 @@
 //! SRAM: its bytes, and which of them are live.
 
-ghost use Rattle.std.specs.Prelude.{◌≡◌, ◌↔◌, ◌<◌, ◌≤◌, ◌+◌, ◌-◌, ◌&&◌, ◌∷◌, [], nat_lt, false, true, length, take, replicate, IsTrue};
+ghost use Rattle.std.specs.Prelude.{◌≡◌, ◌↔◌, ◌<◌, ◌≤◌, ◌+◌, ◌-◌, false, true, length, take, replicate, IsTrue, if◌then◌else◌};
 ghost use Rattle.avr_model.specs.Devices.{size_of};
 ghost use Rattle.avr_model.specs.State.{BELOW, is_sram, set_at, byte_in, is_live};
 ghost use Rattle.avr_model.specs.Step.{with_live, written, pruned, live_write};
 
-use crate::live_bytes::LiveBytes;
 use avr_model::device::{self, BELOW, Device};
 use avr_model::effect::Write;
 use std::marker::Model;
@@ -20,11 +19,11 @@ pub fn is_sram(device: Device, address: u16) -> bool
     BELOW < address && address <= device.ramend()
 }
 
-/// Whether both are the same bytes.
-pub fn are_same(bytes: &[u8], others: &[u8]) -> bool
-    ensures { IsTrue result ↔ (bytes.now ≡ others.now) }
+// No place is live any more.
+fn clear_all(live: &mut [bool])
+    ensures { live.new ≡ replicate (length live.old) false }
 {
-    bytes == others
+    live.fill(false);
 }
 
 /// The bytes of SRAM, and which of them are live: pushed, guarded, and not popped yet. There is room for the bytes of the
@@ -33,18 +32,20 @@ pub fn are_same(bytes: &[u8], others: &[u8]) -> bool
 pub struct Memory {
     size: usize,
     bytes: [u8; SIZE],
-    live: LiveBytes,
+    live: [bool; SIZE],
+    // No place before this one is live, so that a step of the stack pointer clears a few places alone.
+    floor: usize,
 }
 
 impl Model for Memory {
-    ghost use Rattle.std.specs.Prelude.{◌≡◌, ◌≤◌, length, take};
+    ghost use Rattle.std.specs.Prelude.{◌≡◌, ◌≤◌, false, replicate, take};
     ghost use Rattle.avr_model.specs.State.{Memory};
 
     ghost Value = { Memory };
 
-    ghost view = { λ m. record { bytes = take m.size m.bytes; live = m.live } };
+    ghost view = { λ m. record { bytes = take m.size m.bytes; live = take m.size m.live } };
 
-    ghost invariant = { λ m. (m.size ≤ 2048) × (length m.bytes ≡ 2048) };
+    ghost invariant = { λ m. (m.size ≤ 2048) × (take m.floor m.live ≡ replicate m.floor false) };
 }
 
 impl Memory {
@@ -52,11 +53,11 @@ impl Memory {
     pub fn new(device: Device, bytes: &[u8; SIZE]) -> Memory
         ensures { result ≡ record { bytes = take (size_of device) bytes.now; live = replicate (size_of device) false } }
     {
-        let size = usize::from(device.size());
         Memory {
-            size,
+            size: usize::from(device.size()),
             bytes: *bytes,
-            live: LiveBytes::none(size),
+            live: [false; SIZE],
+            floor: 0,
         }
     }
 
@@ -67,7 +68,8 @@ impl Memory {
         Memory {
             size: self.size,
             bytes: self.bytes,
-            live: self.live.copy(),
+            live: self.live,
+            floor: self.floor,
         }
     }
 
@@ -76,15 +78,8 @@ impl Memory {
     pub fn is_same(&self, other: &Memory) -> bool
         ensures { IsTrue result ↔ (self.now ≡ other.now) }
     {
-        are_same(&self.bytes[..self.size], &other.bytes[..other.size])
-            && self.live.is_same(&other.live)
-    }
-
-    /// Whether an address is one of this SRAM.
-    fn has(&self, address: u16) -> bool
-        ensures { result ≡ (nat_lt BELOW address && nat_lt (address - (BELOW + 1)) (length self.now.bytes)) }
-    {
-        BELOW < address && usize::from(address - 1 - BELOW) < self.size
+        &self.bytes[..self.size] == &other.bytes[..other.size]
+            && &self.live[..self.size] == &other.live[..other.size]
     }
 
     /// The byte at an address of SRAM.
@@ -98,12 +93,14 @@ impl Memory {
     }
 
     /// Whether the byte at an address is live; none outside SRAM is.
-    #[tactic(auto, unfolding(avr_model::specs::State::live_in))]
+    #[tactic(auto, using(crate::proofs::Living::has_taken), unfolding(avr_model::specs::State::live_in))]
     #[inline(always)]
     pub fn is_live(&self, address: u16) -> bool
         ensures { result ≡ is_live self.now address }
     {
-        BELOW < address && self.live.has(usize::from(address - 1 - BELOW))
+        BELOW < address
+            && usize::from(address - 1 - BELOW) < self.size
+            && self.live[usize::from(address - 1 - BELOW)]
     }
 
     /// Writes a byte; outside SRAM nothing changes.
@@ -112,37 +109,33 @@ impl Memory {
         ensures value { self.new ≡ record self.old { bytes = set_at self.old.bytes address byte } }
         ensures size { length self.new.bytes ≡ length self.old.bytes }
     {
-        if self.has(address) {
+        if BELOW < address && usize::from(address - 1 - BELOW) < self.size {
             self.bytes[usize::from(address - 1 - BELOW)] = byte;
         }
     }
 
-    /// Makes a byte live; outside SRAM nothing changes.
-    #[tactic(auto, unfolding(avr_model::specs::State::set_at))]
+    // Makes a byte live; outside SRAM nothing changes.
+    #[tactic(auto, using(crate::proofs::Living::clear_set, crate::proofs::Living::set_part, crate::proofs::Remembering::set_missed), unfolding(avr_model::specs::State::set_at))]
     fn set_live(&mut self, address: u16)
         ensures { self.new ≡ record self.old { live = set_at self.old.live address true } }
     {
-        if BELOW < address {
-            self.live.set(usize::from(address - 1 - BELOW));
+        if BELOW < address && usize::from(address - 1 - BELOW) < self.size {
+            let place = usize::from(address - 1 - BELOW);
+            self.live[place] = true;
+            self.floor = self.floor.min(place);
         }
     }
 
-    /// Writes the bytes in order.
-    pub fn set_bytes(&mut self, writes: &[Write])
-        ensures value { self.new ≡ record self.old { bytes = written self.old.bytes writes.now } }
+    /// Writes the bytes in order. Where they are guarded they become live.
+    pub fn push(&mut self, writes: &[Write], guarded: bool)
+        ensures value { self.new ≡ record { bytes = written self.old.bytes writes.now; live = if guarded then with_live self.old.live writes.now else self.old.live } }
         ensures size { length self.new.bytes ≡ length self.old.bytes }
     {
         for write in writes {
             self.set_byte(write.address, write.byte);
-        }
-    }
-
-    /// Makes the addresses of the writes live.
-    pub fn guard(&mut self, writes: &[Write])
-        ensures { self.new ≡ record self.old { live = with_live self.old.live writes.now } }
-    {
-        for write in writes {
-            self.set_live(write.address);
+            if guarded {
+                self.set_live(write.address);
+            }
         }
     }
 
@@ -151,19 +144,10 @@ impl Memory {
     pub fn prune(&mut self, sp: u16)
         ensures { self.new ≡ record self.old { live = pruned sp self.old.live } }
     {
-        self.live.clear(usize::from(sp.saturating_sub(BELOW)));
-    }
-
-    /// The address of a write that goes onto a live byte.
-    #[tactic(auto, unfolding(avr_model::specs::Step::live_write))]
-    #[inline(always)]
-    pub fn live_at(&self, write: Write) -> Option<u16>
-        ensures { result ≡ live_write self.now (write ∷ []) }
-    {
-        if self.is_live(write.address) {
-            Some(write.address)
-        } else {
-            None
+        let end = usize::from(sp.saturating_sub(BELOW)).min(self.size);
+        if self.floor < end {
+            clear_all(&mut self.live[self.floor..end]);
+            self.floor = end;
         }
     }
 

@@ -1,18 +1,20 @@
 //! The rows that push or go to a computed word, and the entry of an interrupt.
 
-ghost use Rattle.std.specs.Prelude.{◌≡◌, ◌<◌, ◌≤◌, ◌%◌, None};
+ghost use Rattle.std.specs.Prelude.{◌≡◌, ◌<◌, ◌≤◌, ◌%◌, None, not};
 ghost use Rattle.avr_model.specs.Devices.{wrapped};
 ghost use Rattle.avr_model.specs.Image.{WORDS};
 ghost use Rattle.avr_model.specs.Assumptions.{jump_line};
+ghost use Rattle.avr_model.specs.Sites.{is_scratch};
 ghost use Rattle.avr_model.specs.State.{pair, register, minus16};
 ghost use Rattle.avr_model.specs.Effects.{set, way_back, further};
-ghost use Rattle.avr_model.specs.Step.{all_inside, unless_listed, after, entering, take, result_of, state_after};
-ghost use Rattle.avr_machine.specs.Quiet.{push_effect_to, push_answer, jump_answer};
+ghost use Rattle.avr_model.specs.Step.{all_inside, unless_listed, entering, take, result_of, state_after};
+ghost use Rattle.avr_machine.specs.Quiet.{push_answer, jump_answer};
 
-use crate::flags::{flag_by, never_target, unlisted_target};
+use crate::flags::{flag_by, lists};
 use crate::memory::is_sram;
 use crate::pieces::way_back;
 use crate::processor::Processor;
+use crate::stepping::WATCHDOG;
 use crate::transfers::Z;
 use avr_alu::Sreg;
 use avr_model::choice::StepResult;
@@ -21,7 +23,7 @@ use avr_model::effect::{Write, Writes};
 use flash_image::Flash;
 use vector_table::Assumptions;
 
-/// Whether all writes go to a device's SRAM.
+// Whether all writes go to a device's SRAM.
 #[inline(always)]
 fn all_inside(device: Device, writes: &[Write]) -> bool
     ensures { result ≡ all_inside device writes.now }
@@ -35,34 +37,20 @@ fn all_inside(device: Device, writes: &[Write]) -> bool
 }
 
 impl Processor {
-    /// Pushes bytes and goes on at a word. Where they are guarded the bytes become live.
+    // The answer to a push, after which the machine goes on at a word: overflow, but not at an unlisted indirect call; then
+    // the flags; then it is done. Where it is guarded its bytes become live.
     #[tactic(auto, unfolding(avr_model::specs::Step::memory_after))]
-    #[inline(always)]
-    fn push_bytes(&mut self, pushes: &[Write], guarded: bool, sp: u16, target: u16)
-        ensures { self.new ≡ after self.old guarded (push_effect_to self.old pushes.now sp target) }
-    {
-        self.memory.set_bytes(pushes);
-        if guarded {
-            self.memory.guard(pushes);
-        }
-        self.sp = sp;
-        self.is_open = false;
-        self.go_to(target);
-    }
-
-    /// The answer to a push, after which the machine goes on at a word: overflow, but not at an unlisted indirect call; then
-    /// the flags; then it is done. A push is guarded unless it makes room for a compiler's small frame.
     #[inline(always)]
     fn push_step(
         &mut self,
-        flash: &Flash,
+        guarded: bool,
         transfer: Option<u16>,
         pushes: &[Write],
         sp: u16,
         target: u16,
     ) -> StepResult
-        ensures answer { result ≡ result_of (push_answer flash.now self.old transfer pushes.now sp target) }
-        ensures state { self.new ≡ state_after self.old (push_answer flash.now self.old transfer pushes.now sp target) }
+        ensures answer { result ≡ result_of (push_answer guarded self.old transfer pushes.now sp target) }
+        ensures state { self.new ≡ state_after self.old (push_answer guarded self.old transfer pushes.now sp target) }
     {
         if !all_inside(self.device, pushes) && transfer.is_none() {
             return StepResult::Overflow(self.pc);
@@ -71,26 +59,29 @@ impl Processor {
         match flag_by(self.pc, live, None, transfer) {
             Some(flag) => StepResult::Flagged(flag),
             None => {
-                let guarded = !flash.is_scratch(self.pc);
-                self.push_bytes(pushes, guarded, sp, target);
+                self.memory.push(pushes, guarded);
+                self.sp = sp;
+                self.is_open = false;
+                self.go_to(target);
                 StepResult::Done
             }
         }
     }
 
-    /// `push`.
+    /// `push`, which is guarded unless it makes room for a compiler's small frame.
     pub fn push(&mut self, flash: &Flash, r: u16) -> StepResult
         requires { r < 32 }
-        ensures answer { result ≡ result_of (push_answer flash.now self.old None (set self.old.sp (register self.old r)) (minus16 self.old.sp 1) (further self.old 1)) }
-        ensures state { self.new ≡ state_after self.old (push_answer flash.now self.old None (set self.old.sp (register self.old r)) (minus16 self.old.sp 1) (further self.old 1)) }
+        ensures answer { result ≡ result_of (push_answer (not (is_scratch flash.now self.old.pc)) self.old None (set self.old.sp (register self.old r)) (minus16 self.old.sp 1) (further self.old 1)) }
+        ensures state { self.new ≡ state_after self.old (push_answer (not (is_scratch flash.now self.old.pc)) self.old None (set self.old.sp (register self.old r)) (minus16 self.old.sp 1) (further self.old 1)) }
     {
         let pushes = Writes::one(Write {
             address: self.sp,
             byte: self.register(r),
         });
+        let guarded = !flash.is_scratch(self.pc);
         let sp = self.sp.wrapping_sub(1);
         let next = self.further(1);
-        self.push_step(flash, None, pushes.as_slice(), sp, next)
+        self.push_step(guarded, None, pushes.as_slice(), sp, next)
     }
 
     /// A call of a word: the word `back` at which the caller goes on is pushed.
@@ -101,34 +92,26 @@ impl Processor {
         target: u16,
         back: u16,
     ) -> StepResult
-        ensures answer { result ≡ result_of (push_answer flash.now self.old transfer (way_back self.old.sp back) (minus16 self.old.sp 2) target) }
-        ensures state { self.new ≡ state_after self.old (push_answer flash.now self.old transfer (way_back self.old.sp back) (minus16 self.old.sp 2) target) }
+        ensures answer { result ≡ result_of (push_answer (not (is_scratch flash.now self.old.pc)) self.old transfer (way_back self.old.sp back) (minus16 self.old.sp 2) target) }
+        ensures state { self.new ≡ state_after self.old (push_answer (not (is_scratch flash.now self.old.pc)) self.old transfer (way_back self.old.sp back) (minus16 self.old.sp 2) target) }
     {
         let pushes = way_back(self.sp, back);
         let sp = self.sp.wrapping_sub(2);
-        self.push_step(flash, transfer, pushes.as_slice(), sp, target)
+        let is_scratch = flash.is_scratch(self.pc);
+        self.push_step(!is_scratch, transfer, pushes.as_slice(), sp, target)
     }
 
     /// The word in Z, modulo the words of the greatest flash, and the word that it is here where the site doesn't list it.
-    fn computed(&self, assumptions: &Assumptions) -> (u16, Option<u16>)
+    pub fn computed(&self, assumptions: &Assumptions) -> (u16, Option<u16>)
         ensures target { result.0 ≡ pair self.now 30 % WORDS }
         ensures unlisted { result.1 ≡ unless_listed (jump_line assumptions.now self.now.pc) (wrapped self.now.device (pair self.now 30 % WORDS)) }
     {
         let target = self.pair(Z) % WORDS;
-        (
-            target,
-            unlisted_target(assumptions, self.pc, self.device.wrap(target)),
-        )
-    }
-
-    /// `icall`.
-    pub fn call_computed(&mut self, flash: &Flash, assumptions: &Assumptions) -> StepResult
-        ensures answer { result ≡ result_of (push_answer flash.now self.old (unless_listed (jump_line assumptions.now self.old.pc) (wrapped self.old.device (pair self.old 30 % WORDS))) (way_back self.old.sp (further self.old 1)) (minus16 self.old.sp 2) (pair self.old 30 % WORDS)) }
-        ensures state { self.new ≡ state_after self.old (push_answer flash.now self.old (unless_listed (jump_line assumptions.now self.old.pc) (wrapped self.old.device (pair self.old 30 % WORDS))) (way_back self.old.sp (further self.old 1)) (minus16 self.old.sp 2) (pair self.old 30 % WORDS)) }
-    {
-        let (target, unlisted) = self.computed(assumptions);
-        let back = self.further(1);
-        self.call(flash, unlisted, target, back)
+        let word = self.device.wrap(target);
+        match assumptions.jumps(self.pc) {
+            Some(words) if !lists(words, word) => (target, Some(word)),
+            _ => (target, None),
+        }
     }
 
     /// `ijmp`.
@@ -155,22 +138,21 @@ impl Processor {
         ensures state { self.new ≡ state_after self.old (take assumptions.now self.old (entering self.old vector clears)) }
     {
         let target = self.device.vector_word(vector);
+        let word = self.device.wrap(target);
+        let never = if assumptions.never(word) {
+            Some(word)
+        } else {
+            None
+        };
         let pushes = way_back(self.sp, self.pc);
-        let never = never_target(assumptions, self.device.wrap(target));
-        if !all_inside(self.device, pushes.as_slice()) && never.is_none() {
-            return StepResult::Overflow(self.pc);
-        }
-        let live = self.memory.live_write(pushes.as_slice());
-        match flag_by(self.pc, live, None, never) {
-            Some(flag) => StepResult::Flagged(flag),
-            None => {
-                let sp = self.sp.wrapping_sub(2);
-                let enables = self.enables_taken(clears);
-                self.push_bytes(pushes.as_slice(), true, sp, target);
-                self.sreg = Sreg::from_bits_retain(self.sreg.bits() % 128);
-                self.enables = enables;
-                StepResult::Done
+        let sp = self.sp.wrapping_sub(2);
+        let answer = self.push_step(true, never, pushes.as_slice(), sp, target);
+        if let StepResult::Done = answer {
+            self.sreg = Sreg::from_bits_retain(self.sreg.bits() % 128);
+            if clears {
+                self.enables = self.enables.with(WATCHDOG, false);
             }
         }
+        answer
     }
 }

@@ -1,10 +1,10 @@
 //! The rows that store.
 
 ghost use Rattle.std.specs.Prelude.{◌≡◌, ◌<◌, false, None};
-ghost use Rattle.avr_model.specs.Devices.{words_of, wrapped};
-ghost use Rattle.avr_model.specs.Sites.{base_register, pointer_register};
-ghost use Rattle.avr_model.specs.State.{pair, register, plus16};
-ghost use Rattle.avr_model.specs.Effects.{further, storing, store_effect, port, out_effect, delay_of_out, bit_effect, pointed};
+ghost use Rattle.avr_model.specs.Devices.{words_of};
+ghost use Rattle.avr_model.specs.Sites.{pointer_register};
+ghost use Rattle.avr_model.specs.State.{pair, register};
+ghost use Rattle.avr_model.specs.Effects.{storing, store_effect, port, out_effect, bit_effect, pointed};
 ghost use Rattle.avr_model.specs.Step.{result_of, state_after};
 ghost use Rattle.avr_machine.specs.Quiet.{protected_at, store_answer};
 
@@ -12,28 +12,20 @@ use crate::arithmetic::I;
 use crate::bits::{has_bit, with_bit};
 use crate::flags::{flag_by, protected_at};
 use crate::processor::Processor;
-use crate::transfers::{pointed, port};
+use crate::transfers::{IO, pointed};
 use avr_decode::pointer_register;
 use avr_model::choice::StepResult;
 use avr_model::device::SREG;
 use avr_model::effect::Write;
-use avr_model::instruction::{Base, Pointer};
+use avr_model::instruction::Pointer;
 use flash_image::Flash;
 use vector_table::Assumptions;
 
 impl Processor {
-    /// The next word.
-    fn next(&self) -> u16
-        ensures value { result ≡ wrapped self.now.device (further self.now 1) }
-        ensures inside { result < words_of self.now.device }
-    {
-        self.device.wrap(self.further(1))
-    }
-
     /// Stores a byte at a data address, and goes on at a word, unless it goes onto a live byte or a protected address is told.
     #[tactic(auto, unfolding(avr_model::specs::Step::memory_after))]
     #[inline(always)]
-    fn store_step(
+    pub fn store_step(
         &mut self,
         protected: Option<u16>,
         write: Write,
@@ -44,7 +36,7 @@ impl Processor {
         ensures answer { result ≡ result_of (store_answer self.old protected (record (storing self.old write.address write.byte) { pc = next; delay = delay })) }
         ensures state { self.new ≡ state_after self.old (store_answer self.old protected (record (storing self.old write.address write.byte) { pc = next; delay = delay })) }
     {
-        let live = self.memory.live_at(write);
+        let live = self.memory.live_write(&[write]);
         match flag_by(self.pc, live, protected, None) {
             Some(flag) => StepResult::Flagged(flag),
             None => {
@@ -55,37 +47,6 @@ impl Processor {
                 StepResult::Done
             }
         }
-    }
-
-    /// `std`.
-    pub fn store_displaced(
-        &mut self,
-        flash: &Flash,
-        assumptions: &Assumptions,
-        base: Base,
-        displacement: u16,
-        r: u16,
-    ) -> StepResult
-        requires { r < 32 }
-        ensures answer { result ≡ result_of (store_answer self.old (protected_at flash.now assumptions.now self.old.pc (record { address = plus16 (pair self.old (base_register base)) displacement; byte = register self.old r })) (storing self.old (plus16 (pair self.old (base_register base)) displacement) (register self.old r))) }
-        ensures state { self.new ≡ state_after self.old (store_answer self.old (protected_at flash.now assumptions.now self.old.pc (record { address = plus16 (pair self.old (base_register base)) displacement; byte = register self.old r })) (storing self.old (plus16 (pair self.old (base_register base)) displacement) (register self.old r))) }
-    {
-        let address = self.displaced(base, displacement);
-        let byte = self.register(r);
-        let protected = protected_at(flash, assumptions, self.pc, Write { address, byte });
-        let next = self.next();
-        self.store_step(protected, Write { address, byte }, next, false)
-    }
-
-    /// `sts`, an instruction of two words.
-    pub fn store_direct(&mut self, address: u16, r: u16) -> StepResult
-        requires { r < 32 }
-        ensures answer { result ≡ result_of (store_answer self.old None (record (storing self.old address (register self.old r)) { pc = further self.old 2 })) }
-        ensures state { self.new ≡ state_after self.old (store_answer self.old None (record (storing self.old address (register self.old r)) { pc = further self.old 2 })) }
-    {
-        let byte = self.register(r);
-        let next = self.further(2);
-        self.store_step(None, Write { address, byte }, next, false)
     }
 
     /// `st` through a pointer: the byte is read, then the pointer changes, then the byte is stored.
@@ -105,7 +66,7 @@ impl Processor {
         let address = pointed(pointer, at);
         let byte = self.register(r);
         let protected = protected_at(flash, assumptions, self.pc, Write { address, byte });
-        let live = self.memory.live_at(Write { address, byte });
+        let live = self.memory.live_write(&[Write { address, byte }]);
         match flag_by(self.pc, live, protected, None) {
             Some(flag) => StepResult::Flagged(flag),
             None => {
@@ -124,18 +85,11 @@ impl Processor {
         ensures answer { result ≡ result_of (store_answer self.old None (out_effect self.old (port address) (register self.old r))) }
         ensures state { self.new ≡ state_after self.old (store_answer self.old None (out_effect self.old (port address) (register self.old r))) }
     {
-        let address = port(address);
+        let address = IO + address;
         let byte = self.register(r);
-        let next = self.next();
-        let delay = self.is_turned_on(address, byte);
+        let next = self.further(1);
+        let delay = address == SREG && has_bit(byte, I) && !self.flag(I);
         self.store_step(None, Write { address, byte }, next, delay)
-    }
-
-    /// Whether `out` of this byte turns I on.
-    fn is_turned_on(&self, address: u16, byte: u8) -> bool
-        ensures { result ≡ delay_of_out self.now address byte }
-    {
-        address == SREG && has_bit(byte, I) && !self.flag(I)
     }
 
     /// `sbi` where `on` holds, and else `cbi`: that bit alone changes, where it is held.
@@ -145,9 +99,9 @@ impl Processor {
         ensures answer { result ≡ result_of (store_answer self.old None (bit_effect self.old (port address) index on)) }
         ensures state { self.new ≡ state_after self.old (store_answer self.old None (bit_effect self.old (port address) index on)) }
     {
-        let address = port(address);
+        let address = IO + address;
         let byte = with_bit(self.read(address, 0), index, on);
-        let next = self.next();
+        let next = self.further(1);
         self.store_step(None, Write { address, byte }, next, false)
     }
 }

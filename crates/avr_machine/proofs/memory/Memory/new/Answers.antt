@@ -1,6 +1,10 @@
 use Rattle.std.proofs.Common.{arith}
+use Rattle.avr_model.proofs.AllLaws.{devices_are_alike}
+use Rattle.avr_machine.proofs.Living.{none_live}
 use Rattle.avr_machine.proofs.Remembering.{new_parts}
 use Rattle.avr_machine.proofs.memory.Memory.new.Goals as goal
 
 pub returns : goal.returns
-returns c = new_parts c.args.device _ _ _ (omega (arith, c.size.ensures, c.from-size.ensures)) c.none.ensures
+returns c =
+    new_parts c.args.device c.from.result c.args.bytes.now _ (omega (arith, c.size.ensures, c.from.ensures))
+    (none_live c.from.result (let most = devices_are_alike.most_bytes c.args.device in omega (arith, most, c.size.ensures, c.from.ensures)))

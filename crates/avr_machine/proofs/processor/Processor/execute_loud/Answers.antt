@@ -3,20 +3,21 @@ use Rattle.avr_model.specs.declared.instruction.Instr.TheVariants as i
 use Rattle.avr_model.specs.State.{State}
 use Rattle.avr_model.specs.Text.{far}
 use Rattle.avr_model.specs.Step.{result_of, state_after}
-use Rattle.avr_machine.proofs.Loud.{std_answer, sts_answer, st_answer, out_answer, cbi_answer, sbi_answer, push_row, call_answer, rcall_answer, icall_row, ijmp_row, none_left}
+use Rattle.avr_machine.specs.Quiet.{protected_at}
+use Rattle.avr_machine.proofs.Loud.{std_row, sts_row, st_answer, out_answer, cbi_answer, sbi_answer, push_row, call_answer, rcall_answer, icall_answer, ijmp_row, none_left}
 use Rattle.avr_machine.proofs.processor.Processor.execute_loud.Goals as goal
 
 pub returns-in-Std-clause-answer : goal.returns-in-Std-clause-answer
-returns-in-Std-clause-answer c first second loud = c.store_displaced.ensures.answer ∙ ap result_of (std_answer c.args.flash.now c.args.assumptions.now c.args.self.now c.args.instr.now first second _ _ _ (c.in-Std.is ∙ ap₂ (λ n r. i.Std c.in-Std.base n r) (sym c.get.ensures.value) (sym c.get-in-Std.ensures.value)))
+returns-in-Std-clause-answer c first second loud = c.store_step.ensures.answer ∙ ap result_of (std_row c.args.flash.now c.args.assumptions.now c.args.self.now c.args.instr.now first second _ _ _ _ _ _ _ (c.in-Std.is ∙ ap₂ (λ n r. i.Std c.in-Std.base n r) (sym c.get.ensures.value) (sym c.get-in-Std.ensures.value)) c.displaced.ensures c.register.ensures c.further.ensures.value (c.protected_at-protected.ensures ∙ ap (λ (m : State). protected_at c.args.flash.now c.args.assumptions.now m.pc (record { address = c.displaced.result; byte = c.register.result })) c.self.view_is))
 
 pub returns-in-Std-clause-state : goal.returns-in-Std-clause-state
-returns-in-Std-clause-state c first second loud = c.store_displaced.ensures.state ∙ ap (state_after c.args.self.now) (std_answer c.args.flash.now c.args.assumptions.now c.args.self.now c.args.instr.now first second _ _ _ (c.in-Std.is ∙ ap₂ (λ n r. i.Std c.in-Std.base n r) (sym c.get.ensures.value) (sym c.get-in-Std.ensures.value)))
+returns-in-Std-clause-state c first second loud = c.store_step.ensures.state ∙ ap (state_after c.args.self.now) (std_row c.args.flash.now c.args.assumptions.now c.args.self.now c.args.instr.now first second _ _ _ _ _ _ _ (c.in-Std.is ∙ ap₂ (λ n r. i.Std c.in-Std.base n r) (sym c.get.ensures.value) (sym c.get-in-Std.ensures.value)) c.displaced.ensures c.register.ensures c.further.ensures.value (c.protected_at-protected.ensures ∙ ap (λ (m : State). protected_at c.args.flash.now c.args.assumptions.now m.pc (record { address = c.displaced.result; byte = c.register.result })) c.self.view_is))
 
 pub returns-in-Sts-clause-answer : goal.returns-in-Sts-clause-answer
-returns-in-Sts-clause-answer c first second loud = c.store_direct.ensures.answer ∙ ap result_of (sts_answer c.args.flash.now c.args.assumptions.now c.args.self.now c.args.instr.now first second _ _ (c.in-Sts.is ∙ ap (λ r. i.Sts c.in-Sts.k r) (sym c.get-in-Sts.ensures.value)))
+returns-in-Sts-clause-answer c first second loud = c.store_step-in-Sts.ensures.answer ∙ ap result_of (sts_row c.args.flash.now c.args.assumptions.now c.args.self.now c.args.instr.now first second _ _ _ _ (c.in-Sts.is ∙ ap (λ r. i.Sts c.in-Sts.k r) (sym c.get-in-Sts.ensures.value)) c.register-in-Sts.ensures c.further-in-Sts.ensures.value)
 
 pub returns-in-Sts-clause-state : goal.returns-in-Sts-clause-state
-returns-in-Sts-clause-state c first second loud = c.store_direct.ensures.state ∙ ap (state_after c.args.self.now) (sts_answer c.args.flash.now c.args.assumptions.now c.args.self.now c.args.instr.now first second _ _ (c.in-Sts.is ∙ ap (λ r. i.Sts c.in-Sts.k r) (sym c.get-in-Sts.ensures.value)))
+returns-in-Sts-clause-state c first second loud = c.store_step-in-Sts.ensures.state ∙ ap (state_after c.args.self.now) (sts_row c.args.flash.now c.args.assumptions.now c.args.self.now c.args.instr.now first second _ _ _ _ (c.in-Sts.is ∙ ap (λ r. i.Sts c.in-Sts.k r) (sym c.get-in-Sts.ensures.value)) c.register-in-Sts.ensures c.further-in-Sts.ensures.value)
 
 pub returns-in-St-clause-answer : goal.returns-in-St-clause-answer
 returns-in-St-clause-answer c first second loud = c.store_through.ensures.answer ∙ ap result_of (st_answer c.args.flash.now c.args.assumptions.now c.args.self.now c.args.instr.now first second _ _ (c.in-St.is ∙ ap (λ r. i.St c.in-St.pointer r) (sym c.get-in-St.ensures.value)))
@@ -49,24 +50,24 @@ pub returns-in-Push-clause-state : goal.returns-in-Push-clause-state
 returns-in-Push-clause-state c first second loud = c.push.ensures.state ∙ ap (state_after c.args.self.now) (push_row c.args.flash.now c.args.assumptions.now c.args.self.now c.args.instr.now first second _ (c.in-Push.is ∙ ap (λ r. i.Push r) (sym c.get-in-Push.ensures.value)))
 
 pub returns-in-Call-clause-answer : goal.returns-in-Call-clause-answer
-returns-in-Call-clause-answer c first second loud = c.call.ensures.answer ∙ ap result_of (call_answer c.args.flash.now c.args.assumptions.now c.args.self.now c.args.instr.now first second _ _ _ c.in-Call.is c.further.ensures c.get-in-Call.ensures.value)
+returns-in-Call-clause-answer c first second loud = c.call.ensures.answer ∙ ap result_of (call_answer c.args.flash.now c.args.assumptions.now c.args.self.now c.args.instr.now first second _ _ _ c.in-Call.is c.further-in-Call.ensures.value c.get-in-Call.ensures.value)
 
 pub returns-in-Call-clause-state : goal.returns-in-Call-clause-state
-returns-in-Call-clause-state c first second loud = c.call.ensures.state ∙ ap (state_after c.args.self.now) (call_answer c.args.flash.now c.args.assumptions.now c.args.self.now c.args.instr.now first second _ _ _ c.in-Call.is c.further.ensures c.get-in-Call.ensures.value)
+returns-in-Call-clause-state c first second loud = c.call.ensures.state ∙ ap (state_after c.args.self.now) (call_answer c.args.flash.now c.args.assumptions.now c.args.self.now c.args.instr.now first second _ _ _ c.in-Call.is c.further-in-Call.ensures.value c.get-in-Call.ensures.value)
 
 pub returns-in-Rcall-clause-answer : goal.returns-in-Rcall-clause-answer
 returns-in-Rcall-clause-answer c first second loud =
-    c.call-in-Rcall.ensures.answer ∙ ap result_of (rcall_answer c.args.flash.now c.args.assumptions.now c.args.self.now c.args.instr.now first second _ _ _ (c.in-Rcall.is ∙ ap (λ k. i.Rcall k) (sym c.get-in-Rcall.ensures.value)) c.further-in-Rcall-2.ensures (c.far.ensures ∙ ap (λ (m : State). far m.pc c.get-in-Rcall.result) c.further-in-Rcall.view_is))
+    c.call-in-Rcall.ensures.answer ∙ ap result_of (rcall_answer c.args.flash.now c.args.assumptions.now c.args.self.now c.args.instr.now first second _ _ _ (c.in-Rcall.is ∙ ap (λ k. i.Rcall k) (sym c.get-in-Rcall.ensures.value)) c.further-in-Rcall-2.ensures.value (c.far.ensures ∙ ap (λ (m : State). far m.pc c.get-in-Rcall.result) c.further-in-Rcall.view_is))
 
 pub returns-in-Rcall-clause-state : goal.returns-in-Rcall-clause-state
 returns-in-Rcall-clause-state c first second loud =
-    c.call-in-Rcall.ensures.state ∙ ap (state_after c.args.self.now) (rcall_answer c.args.flash.now c.args.assumptions.now c.args.self.now c.args.instr.now first second _ _ _ (c.in-Rcall.is ∙ ap (λ k. i.Rcall k) (sym c.get-in-Rcall.ensures.value)) c.further-in-Rcall-2.ensures (c.far.ensures ∙ ap (λ (m : State). far m.pc c.get-in-Rcall.result) c.further-in-Rcall.view_is))
+    c.call-in-Rcall.ensures.state ∙ ap (state_after c.args.self.now) (rcall_answer c.args.flash.now c.args.assumptions.now c.args.self.now c.args.instr.now first second _ _ _ (c.in-Rcall.is ∙ ap (λ k. i.Rcall k) (sym c.get-in-Rcall.ensures.value)) c.further-in-Rcall-2.ensures.value (c.far.ensures ∙ ap (λ (m : State). far m.pc c.get-in-Rcall.result) c.further-in-Rcall.view_is))
 
 pub returns-in-Icall-clause-answer : goal.returns-in-Icall-clause-answer
-returns-in-Icall-clause-answer c first second loud = c.call_computed.ensures.answer ∙ ap result_of (icall_row c.args.flash.now c.args.assumptions.now c.args.self.now c.args.instr.now first second c.in-Icall.is)
+returns-in-Icall-clause-answer c first second loud = c.call-in-Icall.ensures.answer ∙ ap result_of (icall_answer c.args.flash.now c.args.assumptions.now c.args.self.now c.args.instr.now first second _ _ _ c.in-Icall.is c.computed-target.ensures.unlisted c.further-in-Icall.ensures.value c.computed-target.ensures.target)
 
 pub returns-in-Icall-clause-state : goal.returns-in-Icall-clause-state
-returns-in-Icall-clause-state c first second loud = c.call_computed.ensures.state ∙ ap (state_after c.args.self.now) (icall_row c.args.flash.now c.args.assumptions.now c.args.self.now c.args.instr.now first second c.in-Icall.is)
+returns-in-Icall-clause-state c first second loud = c.call-in-Icall.ensures.state ∙ ap (state_after c.args.self.now) (icall_answer c.args.flash.now c.args.assumptions.now c.args.self.now c.args.instr.now first second _ _ _ c.in-Icall.is c.computed-target.ensures.unlisted c.further-in-Icall.ensures.value c.computed-target.ensures.target)
 
 pub returns-in-Ijmp-clause-answer : goal.returns-in-Ijmp-clause-answer
 returns-in-Ijmp-clause-answer c first second loud = c.jump_computed.ensures.answer ∙ ap result_of (ijmp_row c.args.flash.now c.args.assumptions.now c.args.self.now c.args.instr.now first second c.in-Ijmp.is)
