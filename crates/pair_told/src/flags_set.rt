@@ -35,38 +35,16 @@ pub fn sets_carry(instr: &Instr) -> bool
         | Instr::Fmul(_, _)
         | Instr::Fmuls(_, _)
         | Instr::Fmulsu(_, _) => true,
-        Instr::Binary(op, _, _) => carries_by_binary(op),
-        Instr::Immediate(op, _, _) => carries_by_immediate(op),
-        Instr::Unary(op, _) => carries_by_unary(op),
+        Instr::Binary(op, _, _) => !matches!(
+            &op,
+            BinaryOp::Cpse | BinaryOp::And | BinaryOp::Eor | BinaryOp::Or | BinaryOp::Mov
+        ),
+        Instr::Immediate(op, _, _) => {
+            !matches!(&op, ImmediateOp::Ori | ImmediateOp::Andi | ImmediateOp::Ldi)
+        }
+        Instr::Unary(op, _) => !matches!(&op, UnaryOp::Swap | UnaryOp::Inc | UnaryOp::Dec),
         Instr::Adiw(_, _) | Instr::Sbiw(_, _) => true,
         Instr::Bset(flag) | Instr::Bclr(flag) => flag.get() == 0,
         _ => false,
-    }
-}
-
-fn carries_by_binary(op: BinaryOp) -> bool
-    ensures { result ≡ set.carries_by_binary op }
-{
-    match op {
-        BinaryOp::Cpse | BinaryOp::And | BinaryOp::Eor | BinaryOp::Or | BinaryOp::Mov => false,
-        _ => true,
-    }
-}
-
-fn carries_by_immediate(op: ImmediateOp) -> bool
-    ensures { result ≡ set.carries_by_immediate op }
-{
-    match op {
-        ImmediateOp::Ori | ImmediateOp::Andi | ImmediateOp::Ldi => false,
-        _ => true,
-    }
-}
-
-fn carries_by_unary(op: UnaryOp) -> bool
-    ensures { result ≡ set.carries_by_unary op }
-{
-    match op {
-        UnaryOp::Swap | UnaryOp::Inc | UnaryOp::Dec => false,
-        _ => true,
     }
 }

@@ -1,9 +1,11 @@
 //! What sums, differences and products tell of a pair. Where the numbers would wrap in part nothing is told.
 
-ghost use Rattle.std.specs.Prelude.{◌≡◌};
+ghost use Rattle.std.specs.Prelude.{◌≡◌, if◌then◌else◌};
 ghost use Rattle.pair_domain.specs.Rows as rows;
+ghost use Rattle.pair_rules.specs.Told.{carried, borrowed};
 
-use pair_domain::Interval;
+use avr_model::instruction::Register;
+use pair_domain::{Interval, SumTag};
 
 // The numbers from one to another, modulo 65,536.
 fn modulo(low: u64, high: u64) -> Option<Interval>
@@ -19,66 +21,51 @@ fn modulo(low: u64, high: u64) -> Option<Interval>
     }
 }
 
-/// The numbers of an interval, and a byte.
-pub fn moved_up(interval: Interval, number: u8) -> Option<Interval>
-    ensures { result ≡ rows.moved_up interval number }
+/// The numbers of an interval, and a byte where `up`, else less it.
+pub fn moved(interval: Interval, up: bool, number: u8) -> Option<Interval>
+    ensures { result ≡ (if up then rows.moved_up interval number else rows.moved_down interval number) }
 {
-    let number = u64::from(number);
+    let number = if up {
+        u64::from(number)
+    } else {
+        65_536 - u64::from(number)
+    };
     modulo(
         u64::from(interval.low) + number,
         u64::from(interval.high) + number,
     )
 }
 
-/// The numbers of an interval, less a byte.
-pub fn moved_down(interval: Interval, number: u8) -> Option<Interval>
-    ensures { result ≡ rows.moved_down interval number }
+/// The numbers of an interval, and a byte from `low` to `high` on the high byte where `up`, else off it.
+pub fn paged(interval: Interval, up: bool, low: u8, high: u8) -> Option<Interval>
+    ensures { result ≡ (if up then rows.pages_up interval low high else rows.pages_down interval low high) }
 {
-    let number = 65_536 - u64::from(number);
-    modulo(
-        u64::from(interval.low) + number,
-        u64::from(interval.high) + number,
-    )
+    let (first, last) = (u64::from(interval.low), u64::from(interval.high));
+    let (low, high) = (256 * u64::from(low), 256 * u64::from(high));
+    if up {
+        modulo(first + low, last + high)
+    } else {
+        modulo(first + (65_536 - high), last + (65_536 - low))
+    }
 }
 
-/// The numbers of an interval, and a byte from `low` to `high` on the high byte.
-pub fn pages_up(interval: Interval, low: u8, high: u8) -> Option<Interval>
-    ensures { result ≡ rows.pages_up interval low high }
+/// The numbers of the pair whose high byte is `d`, and a byte from `low` to `high` on it with the carry that the sum left, where `up`;
+/// else less the byte and the borrow that the difference left. None under another tag.
+pub fn carried(tag: SumTag, up: bool, d: Register, low: u8, high: u8) -> Option<Interval>
+    ensures { result ≡ (if up then carried tag d low high else borrowed tag d low high) }
 {
-    modulo(
-        u64::from(interval.low) + 256 * u64::from(low),
-        u64::from(interval.high) + 256 * u64::from(high),
-    )
-}
-
-/// The numbers of an interval, less a byte from `low` to `high` off the high byte.
-pub fn pages_down(interval: Interval, low: u8, high: u8) -> Option<Interval>
-    ensures { result ≡ rows.pages_down interval low high }
-{
-    modulo(
-        u64::from(interval.low) + (65_536 - 256 * u64::from(high)),
-        u64::from(interval.high) + (65_536 - 256 * u64::from(low)),
-    )
-}
-
-/// The numbers of a sum's tag from `first` to `last`, and a byte from `low` to `high` on the high byte.
-pub fn carried_up(first: u32, last: u32, low: u8, high: u8) -> Option<Interval>
-    ensures { result ≡ rows.carried_up first last low high }
-{
-    modulo(
-        u64::from(first) + (65_280 + 256 * u64::from(low)),
-        u64::from(last) + (65_280 + 256 * u64::from(high)),
-    )
-}
-
-/// The numbers of a difference's tag from `first` to `last`, less a byte from `low` to `high` off the high byte.
-pub fn carried_down(first: u32, last: u32, low: u8, high: u8) -> Option<Interval>
-    ensures { result ≡ rows.carried_down first last low high }
-{
-    modulo(
-        u64::from(first) + (65_280 - 256 * u64::from(high)),
-        u64::from(last) + (65_280 - 256 * u64::from(low)),
-    )
+    let (low, high) = (256 * u64::from(low), 256 * u64::from(high));
+    match tag {
+        SumTag::Up(r, first, last) if up && u16::from(r) + 1 == d.get() => modulo(
+            u64::from(first) + (65_280 + low),
+            u64::from(last) + (65_280 + high),
+        ),
+        SumTag::Down(r, first, last) if !up && u16::from(r) + 1 == d.get() => modulo(
+            u64::from(first) + (65_280 - high),
+            u64::from(last) + (65_280 - low),
+        ),
+        _ => None,
+    }
 }
 
 /// The products of a byte from `low` to `high` and one from `least` to `greatest`.
