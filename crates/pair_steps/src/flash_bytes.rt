@@ -1,7 +1,6 @@
 //! Bytes of flash at the numbers that a pair of registers may hold.
 
-ghost use Rattle.std.specs.Prelude.{◌≡◌, ◌*◌, ◌<◌, if◌then◌else◌, Some, None};
-ghost use Rattle.avr_model.specs.Devices.{words_of, device_of};
+ghost use Rattle.std.specs.Prelude.{◌≡◌, ◌<◌, if◌then◌else◌, Some, None};
 ghost use Rattle.abs_state.specs.Values.{set_of};
 ghost use Rattle.abs_state.specs.PairBytes.{sets};
 ghost use Rattle.bit_domain.specs.TriByte as tri;
@@ -25,8 +24,8 @@ fn permits_byte(value: AbsByte, byte: u8) -> bool
     value.low <= byte && byte <= value.high && has(value.bits, byte)
 }
 
-/// Whether the number lies in the interval of the pair, and both bytes permit it.
-pub fn permits(pair: PairBytes, number: u16) -> bool
+// Whether the number lies in the interval of the pair, and both bytes permit it.
+fn permits(pair: PairBytes, number: u16) -> bool
     ensures { result ≡ bytes.pair_permits (sets pair) number }
 {
     pair.interval.low <= number
@@ -45,20 +44,13 @@ fn joined_with(joined: Option<AbsByte>, value: AbsByte) -> AbsByte
     }
 }
 
-// How many bytes the flash has.
-#[tactic(auto, using(avr_model::proofs::AllLaws::devices_are_alike))]
-fn flash_bytes(flash: &Flash) -> u16
-    ensures { result ≡ 2 * words_of (device_of flash.now) }
-{
-    2 * flash.device().words()
-}
-
 /// The join of the bytes of flash at the numbers that the pair permits, none where it permits none; and none at all where these are more
 /// than 64, or not all in flash.
+#[tactic(auto, using(avr_model::proofs::AllLaws::devices_are_alike))]
 pub fn joined(flash: &Flash, pair: PairBytes) -> Option<Option<AbsByte>>
     ensures { result ≡ (if bytes.few_in_flash flash.now (bytes.pair_permits (sets pair)) then Some (bytes.flash_joined flash.now (bytes.pair_permits (sets pair))) else None) }
 {
-    let end = flash_bytes(flash);
+    let end = 2 * flash.device().words();
     let mut count: u32 = 0;
     let mut value: Option<AbsByte> = None;
     for z in u32::from(pair.interval.low)..u32::from(pair.interval.high) + 1 {

@@ -6,5 +6,4 @@ mod refining;
 mod tags;
 mod values;
 
-pub use flash_bytes::permits;
 pub use refining::refine;

@@ -40,29 +40,17 @@ fn set(state: &mut AbsState, d: Register, value: AbsByte)
     state.registers[usize::from(d.get())] = value;
 }
 
-// What register `d` and itself, and a carry, are.
-fn doubled_value(before: &AbsState, d: Register, low: Tri) -> AbsByte
-    ensures { result ≡ values.doubled_value before.now d low }
-{
-    AbsByte::untagged(doubled(value_at(&before.registers, d).bits, low))
-}
-
-// Whether the two are the same register.
-fn is_same(d: Register, r: Register) -> bool
-    ensures { result ≡ (d == r) }
-{
-    d == r
-}
-
 // What the two operations leave where a register is both operands.
 fn double(before: &AbsState, op: BinaryOp, d: Register, after: &mut AbsState)
     ensures { after.new ≡ values.doubled_by before.now op d after.old }
 {
-    match op {
-        BinaryOp::Add => set(after, d, doubled_value(before, d, Tri::Zero)),
-        BinaryOp::Adc => set(after, d, doubled_value(before, d, before.flags.bits.bit(0))),
-        _ => {}
-    }
+    let low = match op {
+        BinaryOp::Add => Tri::Zero,
+        BinaryOp::Adc => before.flags.bits.bit(0),
+        _ => return,
+    };
+    let bits = doubled(value_at(&before.registers, d).bits, low);
+    set(after, d, AbsByte::untagged(bits));
 }
 
 // What is known of Z.
@@ -108,7 +96,7 @@ pub fn retell(
 {
     match instr {
         Instr::Binary(op, d, r) => {
-            if is_same(*d, *r) {
+            if *d == *r {
                 double(before, *op, *d, after);
             }
             true

@@ -1,5 +1,6 @@
 use Rattle.std.proofs.Common.{◌≡◌, sym, ◌∙◌, ap, subst, subst₂, ⊎_elim, ℕ, ◌+◌, true, false, None, arith}
 use Rattle.std.proofs.lemmas.Bool.Decides.{nat_tests}
+use Rattle.avr_model.specs.Devices.{words_of}
 use Rattle.abs_state.specs.Values.{known}
 use Rattle.abs_state.specs.PairBytes.{sets}
 use Rattle.pair_rules.specs.Flash.{pair_permits, joined_with, is_flash}
@@ -21,7 +22,7 @@ returns-then-count-eq64 c =
     too_many c.args.flash.now (pair_permits (sets c.args.pair)) c.loop-z.z c.loop-z.value (omega arith) may
     (subst (λ (n : ℕ). IsSoFar c.args.flash.now (pair_permits (sets c.args.pair)) c.loop-z.z n c.loop-z.value) full c.loop-z.invariant.so_far))
     (λ off.
-    let end_is = c.flash_bytes-end.ensures in
+    let end_is = c.words-end.ensures ∙ ap words_of c.device.ensures in
     let far : is_flash c.args.flash.now c.loop-z.z ≡ false = grind (arith, nat_tests, off.1, end_is) in
     outside c.args.flash.now (pair_permits (sets c.args.pair)) c.loop-z.z (omega arith) may far) c.then-count-eq64.either)
 
@@ -29,7 +30,7 @@ pub loop-z-preserved : goal.loop-z-preserved
 loop-z-preserved c = elim c.if-permits.branch [
   | then-permits+else-count-eq64+else-z-end w ↦
       let may = sym c.permits.ensures ∙ w.if-permits.true in
-      let end_is = c.flash_bytes-end.ensures in
+      let end_is = c.words-end.ensures ∙ ap words_of c.device.ensures in
       let within = w.if-z-end.false in
       let inside : is_flash c.args.flash.now c.loop-z.z ≡ true = grind (arith, nat_tests, within, end_is) in
       record {
