@@ -1,9 +1,8 @@
 //! Reads and writes through pairs of registers.
 
-ghost use Rattle.std.specs.Prelude.{◌≡◌, ◌*◌};
-ghost use Rattle.avr_model.specs.Devices.{words_of, device_of};
+ghost use Rattle.std.specs.Prelude.{◌≡◌};
 ghost use Rattle.bit_domain.specs.TriByte as bytes;
-ghost use Rattle.local_rules.specs.Reads.{raised, lowered, read_number, read_constant, read_both, flash_value};
+ghost use Rattle.local_rules.specs.Reads.{read_number, flash_value};
 ghost use Rattle.local_rules.specs.Reads as reads;
 ghost use Rattle.local_rules.specs.Writes as writes;
 ghost use Rattle.local_rules.specs.Local as rows;
@@ -40,33 +39,20 @@ pub fn pair_constant(state: &AbsState, r: LowRegister) -> Option<u16>
     }
 }
 
-fn raised(up: u16, address: Option<u16>) -> Option<u16>
-    ensures { result ≡ raised up address }
-{
-    match address {
-        Some(address) => Some(address.wrapping_add(up)),
-        None => None,
-    }
-}
-
-fn lowered(up: u16, below: Option<u16>) -> Option<u16>
-    ensures { result ≡ lowered up below }
-{
-    match below {
-        Some(below) => Some(below.wrapping_sub(up)),
-        None => None,
-    }
-}
-
 /// The address that registers `r` and `r + 1` plus a number give, modulo 65,536.
 pub fn point(state: &AbsState, r: LowRegister, up: u16) -> Pointed
     ensures { result ≡ reads.pointed state.now r up }
 {
     let (low, high) = pair(state, r);
-    Pointed {
-        constant: raised(up, pair_constant(state, r)),
-        frame: lowered(up, frame(low.tag, high.tag)),
-    }
+    let constant = match pair_constant(state, r) {
+        Some(number) => Some(number.wrapping_add(up)),
+        None => None,
+    };
+    let frame = match frame(low.tag, high.tag) {
+        Some(below) => Some(below.wrapping_sub(up)),
+        None => None,
+    };
+    Pointed { constant, frame }
 }
 
 // What is read at a number: of a register or I/O the bits alone, and of a slot its range too, without a tag.
@@ -84,38 +70,6 @@ fn read_number(device: Device, key: &NodeKey, state: &AbsState, address: u16) ->
     }
 }
 
-// A read by the number alone, without a tag.
-fn read_constant(device: Device, key: &NodeKey, state: &AbsState, constant: Option<u16>) -> AbsByte
-    ensures { result ≡ read_constant device key.now state.now constant }
-{
-    match constant {
-        Some(address) => read_number(device, key, state, address),
-        None => AbsByte::unknown(),
-    }
-}
-
-// A slot's value, with what is known by the number: None where these bits conflict.
-fn read_both(
-    device: Device,
-    key: &NodeKey,
-    state: &AbsState,
-    constant: Option<u16>,
-    value: AbsByte,
-) -> Option<AbsByte>
-    ensures { result ≡ read_both device key.now state.now constant value }
-{
-    match constant {
-        Some(address) => {
-            let number = AbsByte {
-                tag: value.tag,
-                ..read_number(device, key, state, address)
-            };
-            number.meet(value)
-        }
-        None => Some(value),
-    }
-}
-
 /// What a read through a pointer gives: None where it can't be. A slot that isn't there is read by the number alone.
 pub fn read_pointed(
     device: Device,
@@ -125,27 +79,34 @@ pub fn read_pointed(
 ) -> Option<AbsByte>
     ensures { result ≡ reads.read_pointed device key.now state.now pointed }
 {
+    let number = match pointed.constant {
+        Some(address) => Some(read_number(device, key, state, address)),
+        None => None,
+    };
     match pointed.frame {
         Some(d) if d < state.slots.len() => {
-            read_both(device, key, state, pointed.constant, slot_value(state, d))
+            let value = slot_value(state, d);
+            match number {
+                Some(number) => {
+                    let tag = value.tag;
+                    AbsByte { tag, ..number }.meet(value)
+                }
+                None => Some(value),
+            }
         }
-        _ => Some(read_constant(device, key, state, pointed.constant)),
+        _ => match number {
+            Some(number) => Some(number),
+            None => Some(AbsByte::unknown()),
+        },
     }
 }
 
-// How many bytes the flash has.
-#[tactic(auto, using(avr_model::proofs::AllLaws::devices_are_alike))]
-fn flash_bytes(flash: &Flash) -> u16
-    ensures { result ≡ 2 * words_of (device_of flash.now) }
-{
-    2 * flash.device().words()
-}
-
 /// The byte of flash at a known address.
+#[tactic(auto, using(avr_model::proofs::AllLaws::devices_are_alike))]
 pub fn flash_value(flash: &Flash, z: Option<u16>) -> AbsByte
     ensures { result ≡ flash_value flash.now z }
 {
-    let end = flash_bytes(flash);
+    let end = 2 * flash.device().words();
     match z {
         Some(z) if z < end => AbsByte::known(flash.byte(z)),
         _ => AbsByte::unknown(),

@@ -5,7 +5,7 @@ ghost use Rattle.avr_model.specs.Vectors.{enable_of};
 ghost use Rattle.sp_domain.specs.Slots.{slot_at};
 ghost use Rattle.local_rules.specs.Reads.{io_tri, io_bits, value_of, slot_read, read_at};
 
-use crate::stack_pointer::{sp_high, sp_low};
+use crate::stack_pointer::sp_bytes;
 use abs_rows::bits::tri_of;
 use abs_rows::registers::value;
 use abs_rows::status::sreg_value;
@@ -27,7 +27,7 @@ fn io_tri(masks: Masks, address: u16, bit: u8) -> Tri
     }
 }
 
-/// The bits of an I/O address.
+// The bits of an I/O address.
 pub(crate) fn io_bits(masks: Masks, address: u16) -> TriByte
     ensures { result ≡ io_bits masks address }
 {
@@ -38,22 +38,13 @@ pub(crate) fn io_bits(masks: Masks, address: u16) -> TriByte
     bits
 }
 
-/// What is known of a slot's byte.
-pub(crate) fn value_of(slot: Slot<AbsByte>) -> AbsByte
-    ensures { result ≡ value_of slot }
-{
-    match slot {
-        Slot::Free => AbsByte::unknown(),
-        Slot::Guarded(value) => value,
-    }
-}
-
 /// What is known of the byte in slot `d`: nothing where there is no such slot.
 pub fn slot_value(state: &AbsState, d: u16) -> AbsByte
     ensures { result ≡ value_of (slot_at state.now.slots d) }
 {
     match state.slots.at(d) {
-        Some(slot) => value_of(slot),
+        Some(Slot::Guarded(value)) => value,
+        Some(Slot::Free) => AbsByte::unknown(),
         None => AbsByte::unknown(),
     }
 }
@@ -76,8 +67,8 @@ pub fn read_at(device: Device, key: &NodeKey, state: &AbsState, address: u16) ->
 {
     match address {
         0..REGISTERS_END => value(state, Register::new(address)),
-        SPL => sp_low(device, key.inst.kind, key.sp),
-        SPH => sp_high(device, key.inst.kind, key.sp),
+        SPL => sp_bytes(device, key.inst.kind, key.sp).0,
+        SPH => sp_bytes(device, key.inst.kind, key.sp).1,
         SREG => sreg_value(key, state),
         0..=BELOW => AbsByte::untagged(io_bits(key.masks, address)),
         _ => slot_read(device, key.inst.kind, state, address),

@@ -1,17 +1,22 @@
 //! Arithmetic and logic: sums, differences, products and operations on the bits of two bytes. Where a result has a tag, a rule
 //! here says so; all others have none. Source: own; bits and flags are those of `abs_alu`.
 
-ghost use Rattle.std.specs.Prelude.{◌≡◌, ◌==◌, ◌+◌, ◌<◌};
-ghost use Rattle.local_rules.specs.Registers.{sum_tagged, step_tagged, sum_after, compare_after, difference_after, sub_after, sbc_after, logic_after, step_after, com_after, low_tag, borrow_tag, high_tag, or_nothing, less_than, less_alone, less_kept, carry_bit, unary_after, product_after, wide_after, down_by, pair_tags};
+ghost use Rattle.std.specs.Prelude.{◌≡◌, slice_set};
+ghost use Rattle.sp_domain.specs.declared.tags.CarryTag.TheVariants.{None};
+ghost use Rattle.abs_state.specs.Values.{untagged};
+ghost use Rattle.local_rules.specs.Registers.{both_set, with_carry, sum_tagged, step_tagged, compare_after, difference_after, sub_after, sbc_after, logic_after, low_tag, borrow_tag, or_nothing, less_than, less_kept, carry_bit, product_after, wide_after};
 
 use crate::bits::CARRY;
-use crate::registers::{bits, pair, set, set_pair, value, with_bits, with_carry};
+use crate::registers::{bits, pair, set, set_pair, value, with_carry};
 use abs_state::{AbsByte, AbsState};
-use avr_model::instruction::{LowRegister, Register, UnaryOp};
+use avr_model::instruction::{LowRegister, Register};
 use avr_model::operation::{Logic, Mul};
 use bit_domain::{Tri, TriByte};
 use local_rules::Computed;
 use sp_domain::{CarryTag, Tag, move_pair, sub_high, sub_low};
+
+// No tag of a result, and none of the carry.
+pub(crate) const UNTAGGED: (Tag, CarryTag) = (Tag::None, CarryTag::None);
 
 /// What is known of the carry flag.
 pub fn carry_bit(state: &AbsState) -> Tri
@@ -20,7 +25,7 @@ pub fn carry_bit(state: &AbsState) -> Tri
     state.flags.bits.bit(CARRY)
 }
 
-/// Register `d` plus a byte and a carry, with the tag of the result and that of the carry.
+// Register `d` plus a byte and a carry, with the tag of the result and that of the carry.
 pub(crate) fn sum_tagged(
     state: &AbsState,
     d: Register,
@@ -33,19 +38,12 @@ pub(crate) fn sum_tagged(
     let (tag, says) = tags;
     let (sum, flags) = abs_alu::add(bits(state, d), other, carry, state.flags.bits);
     Computed {
-        registers: set(&state.registers, d, with_bits(tag, sum)),
+        registers: set(&state.registers, d, AbsByte::of_bits(tag, sum)),
         flags: with_carry(flags, says),
     }
 }
 
-/// Register `d` plus a byte and a carry.
-pub(crate) fn sum(state: &AbsState, d: Register, other: TriByte, carry: Tri) -> Computed
-    ensures { result ≡ sum_after state.now d other carry }
-{
-    sum_tagged(state, d, other, carry, (Tag::None, CarryTag::None))
-}
-
-/// What a difference takes over from that of the byte below. Without one, the borrow is 0, and Z doesn't depend on what it was.
+// What a difference takes over from that of the byte below.
 #[derive(Clone, Copy)]
 pub(crate) struct BorrowIn {
     /// The borrow.
@@ -54,7 +52,13 @@ pub(crate) struct BorrowIn {
     pub keep_zero: bool,
 }
 
-/// A comparison: a difference that sets the flags alone, with what C says afterwards.
+// Without one, the borrow is 0, and Z doesn't depend on what it was.
+pub(crate) const NO_BORROW: BorrowIn = BorrowIn {
+    bit: Tri::Zero,
+    keep_zero: false,
+};
+
+// A comparison: a difference that sets the flags alone, with what C says afterwards.
 pub(crate) fn compare(
     state: &AbsState,
     operands: (TriByte, TriByte),
@@ -71,7 +75,7 @@ pub(crate) fn compare(
     }
 }
 
-/// What C says after register `d` was compared with a number: whether it is below.
+// What C says after register `d` was compared with a number: whether it is below.
 pub(crate) fn less_than(d: Register, number: Option<u8>) -> CarryTag
     ensures { result ≡ less_than d number }
 {
@@ -81,27 +85,17 @@ pub(crate) fn less_than(d: Register, number: Option<u8>) -> CarryTag
     }
 }
 
-/// What C says of a register, alone.
-fn less_alone(carry: CarryTag) -> CarryTag
-    ensures { result ≡ less_alone carry }
-{
-    match carry {
-        CarryTag::Less(_, _) => carry,
-        CarryTag::None | CarryTag::Borrow(_, _) | CarryTag::Sum(_, _) => CarryTag::None,
-    }
-}
-
 /// What C says of a register is kept where two equal numbers and the borrow are compared.
 pub(crate) fn less_kept(a: Option<u8>, b: Option<u8>, carry: CarryTag) -> CarryTag
     ensures { result ≡ less_kept a b carry }
 {
-    match (a, b) {
-        (Some(a), Some(b)) if a == b => less_alone(carry),
+    match (a, b, carry) {
+        (Some(a), Some(b), CarryTag::Less(_, _)) if a == b => carry,
         _ => CarryTag::None,
     }
 }
 
-/// A difference that goes to register `d`, with the tag of the result and that of the borrow.
+// A difference that goes to register `d`, with the tag of the result and that of the borrow.
 pub(crate) fn difference(
     state: &AbsState,
     d: Register,
@@ -115,12 +109,12 @@ pub(crate) fn difference(
     let (tag, carry) = tags;
     let (difference, flags) = abs_alu::sub(a, b, borrow.bit, borrow.keep_zero, state.flags.bits);
     Computed {
-        registers: set(&state.registers, d, with_bits(tag, difference)),
+        registers: set(&state.registers, d, AbsByte::of_bits(tag, difference)),
         flags: with_carry(flags, carry),
     }
 }
 
-/// The tags of a low byte less a number, where it is known, and of the borrow.
+// The tags of a low byte less a number, where it is known, and of the borrow.
 pub(crate) fn low_tags(tag: Tag, number: Option<u8>) -> (Tag, CarryTag)
     ensures tag { result.0 ≡ low_tag tag number }
     ensures borrow { result.1 ≡ borrow_tag tag number }
@@ -131,17 +125,7 @@ pub(crate) fn low_tags(tag: Tag, number: Option<u8>) -> (Tag, CarryTag)
     }
 }
 
-// The tag of a high byte less a number, where it is known, and the borrow.
-fn high_tag(tag: Tag, number: Option<u8>, borrow: CarryTag) -> Tag
-    ensures { result ≡ high_tag tag number borrow }
-{
-    match number {
-        Some(number) => sub_high(tag, number, borrow),
-        None => Tag::None,
-    }
-}
-
-/// Register `d`, of which `a` is known, less a byte, which may be a known number.
+// Register `d`, of which `a` is known, less a byte, which may be a known number.
 pub(crate) fn sub(
     state: &AbsState,
     d: Register,
@@ -152,55 +136,33 @@ pub(crate) fn sub(
     ensures { result ≡ sub_after state.now d a b number }
 {
     let tags = low_tags(value(state, d).tag, number);
-    let borrow = BorrowIn {
-        bit: Tri::Zero,
-        keep_zero: false,
-    };
-    difference(state, d, (a, b), borrow, tags)
+    difference(state, d, (a, b), NO_BORROW, tags)
 }
 
-/// Register `d` less a byte, which may be a known number, and the carry.
+// Register `d` less a byte, which may be a known number, and the carry.
 pub(crate) fn sbc(state: &AbsState, d: Register, b: TriByte, number: Option<u8>) -> Computed
     ensures { result ≡ sbc_after state.now d b number }
 {
     let value = value(state, d);
-    let tag = high_tag(value.tag, number, state.flags.carry);
-    let tags = (tag, CarryTag::None);
+    let tag = match number {
+        Some(number) => sub_high(value.tag, number, state.flags.carry),
+        None => Tag::None,
+    };
     let borrow = BorrowIn {
         bit: carry_bit(state),
         keep_zero: true,
     };
-    difference(state, d, (value.bits, b), borrow, tags)
+    difference(state, d, (value.bits, b), borrow, (tag, CarryTag::None))
 }
 
-/// 0 less register `d`.
-pub(crate) fn neg(state: &AbsState, d: Register) -> Computed
-    ensures { result ≡ unary_after state.now UnaryOp.Neg d }
-{
-    let operands = (TriByte::of(0), bits(state, d));
-    let tags = (Tag::None, CarryTag::None);
-    let borrow = BorrowIn {
-        bit: Tri::Zero,
-        keep_zero: false,
-    };
-    difference(state, d, operands, borrow, tags)
-}
-
-/// A register's bits where another one is subtracted from it, or is its exclusive or: 0 where both are the same register.
+// A register's bits where another one is subtracted from it, or is its exclusive or: 0 where both are the same register.
 pub(crate) fn or_nothing(d: Register, r: Register, bits: TriByte) -> TriByte
     ensures { result ≡ or_nothing d r bits }
 {
     if d == r { TriByte::of(0) } else { bits }
 }
 
-/// Whether the two are the same register.
-pub(crate) fn is_same(d: Register, r: Register) -> bool
-    ensures { result ≡ (d == r) }
-{
-    d == r
-}
-
-/// AND, OR or EOR of two bytes, which goes to register `d`; of a register with itself, which changes no bit, the value stays.
+// AND, OR or EOR of two bytes, which goes to register `d`; of a register with itself, which changes no bit, the value stays.
 pub(crate) fn logic(
     state: &AbsState,
     op: Logic,
@@ -223,36 +185,29 @@ pub(crate) fn logic(
     }
 }
 
-/// Register `d` plus 1 where `up`, else less 1, with the tag of the result.
+// Register `d` plus 1 where `up`, else less 1, with the tag of the result.
 pub(crate) fn step_tagged(state: &AbsState, up: bool, d: Register, tag: Tag) -> Computed
     ensures { result ≡ step_tagged state.now up d tag }
 {
     let (result, flags) = abs_alu::step_one(up, bits(state, d), state.flags.bits);
     Computed {
-        registers: set(&state.registers, d, with_bits(tag, result)),
+        registers: set(&state.registers, d, AbsByte::of_bits(tag, result)),
         flags: with_carry(flags, state.flags.carry),
     }
 }
 
-/// Register `d` plus 1 where `up`, else less 1.
-pub(crate) fn step_one(state: &AbsState, up: bool, d: Register) -> Computed
-    ensures { result ≡ step_after state.now up d }
+// Register `d` gets a byte without a tag, and C of these flags says nothing.
+pub(crate) fn byte_set(state: &AbsState, d: Register, after: (TriByte, TriByte)) -> Computed
+    ensures { result ≡ both_set (slice_set state.now.registers d (untagged after.0)) (with_carry after.1 None) }
 {
-    step_tagged(state, up, d, Tag::None)
-}
-
-/// Each bit of register `d` turned.
-pub(crate) fn com(state: &AbsState, d: Register) -> Computed
-    ensures { result ≡ com_after state.now d }
-{
-    let (result, flags) = abs_alu::com(bits(state, d), state.flags.bits);
+    let (byte, flags) = after;
     Computed {
-        registers: set(&state.registers, d, AbsByte::untagged(result)),
+        registers: set(&state.registers, d, AbsByte::untagged(byte)),
         flags: with_carry(flags, CarryTag::None),
     }
 }
 
-/// The product of registers `d` and `r` goes to registers 0 and 1.
+// The product of registers `d` and `r` goes to registers 0 and 1.
 pub(crate) fn product(state: &AbsState, op: Mul, d: Register, r: Register) -> Computed
     ensures { result ≡ product_after state.now op d r }
 {
@@ -264,34 +219,23 @@ pub(crate) fn product(state: &AbsState, op: Mul, d: Register, r: Register) -> Co
     }
 }
 
-// How far a pair moves down, modulo 65,536.
-fn down_by(up: bool, number: u8) -> u16
-    ensures { result ≡ down_by up number }
-{
-    let number = u16::from(number);
-    if up {
-        0u16.wrapping_sub(number)
-    } else {
-        number
-    }
-}
-
-// The tags of registers d and d + 1 plus or less a number.
-fn pair_tags(state: &AbsState, d: LowRegister, up: bool, number: u8) -> (Tag, Tag)
-    ensures { result ≡ pair_tags state.now d up number }
-{
-    let (low, high) = pair(state, d);
-    move_pair(low.tag, high.tag, down_by(up, number))
-}
-
-/// `adiw` of registers `d` and `d + 1` where `up`, else `sbiw`.
+// `adiw` of registers `d` and `d + 1` where `up`, else `sbiw`.
 pub(crate) fn wide(state: &AbsState, up: bool, d: LowRegister, number: u8) -> Computed
     ensures { result ≡ wide_after state.now up d number }
 {
     let (low, high) = pair(state, d);
     let (bits, flags) = abs_alu::wide(up, (low.bits, high.bits), number, state.flags.bits);
-    let (low_tag, high_tag) = pair_tags(state, d, up, number);
-    let (low, high) = (with_bits(low_tag, bits.0), with_bits(high_tag, bits.1));
+    let number = u16::from(number);
+    let down = if up {
+        0u16.wrapping_sub(number)
+    } else {
+        number
+    };
+    let (low_tag, high_tag) = move_pair(low.tag, high.tag, down);
+    let (low, high) = (
+        AbsByte::of_bits(low_tag, bits.0),
+        AbsByte::of_bits(high_tag, bits.1),
+    );
     Computed {
         registers: set_pair(&state.registers, d, low, high),
         flags: with_carry(flags, CarryTag::None),

@@ -1,45 +1,41 @@
 //! The rows that set registers and flags alone.
 
-ghost use Rattle.std.specs.Prelude.{◌≡◌, ◌<◌, ◌*◌, ℕ, List, Bool};
+ghost use Rattle.std.specs.Prelude.{◌≡◌, ℕ, List, Bool};
 ghost use Rattle.avr_model.specs.declared.device.Device.{Device};
 ghost use Rattle.avr_model.specs.declared.assumption.Entry.{Entry};
 ghost use Rattle.mask_states.specs.declared.keys.NodeKey.{NodeKey};
 ghost use Rattle.avr_model.specs.Assumptions.{is_frame};
-ghost use Rattle.local_rules.specs.FrameLines.{framed_binary, binary_at, immediate_at, unary_at};
-ghost use Rattle.local_rules.specs.Registers.{immediate_after, unary_after, binary_after, wide_after, going_by};
+ghost use Rattle.local_rules.specs.FrameLines.{binary_at, immediate_at, unary_at};
+ghost use Rattle.local_rules.specs.Registers.{binary_after, going_by};
 ghost use Rattle.local_rules.specs.Local.{row_of};
 ghost use Rattle.abs_rows.specs.Sections.{other_row};
 ghost use Rattle.abs_rows.specs.Sections as sections;
 
 use crate::arithmetic::{
-    BorrowIn, carry_bit, com, compare, is_same, less_kept, less_than, logic, neg, or_nothing,
-    product, sbc, step_one, sub, sum, wide,
+    BorrowIn, NO_BORROW, UNTAGGED, byte_set, carry_bit, compare, difference, less_kept, less_than,
+    logic, or_nothing, product, sbc, step_tagged, sub, sum_tagged, wide,
 };
-use crate::bits::{bit_loaded, bit_stored, shift, swapped};
+use crate::bits::{bit_loaded, bit_stored, swapped};
 use crate::frames::{framed_adc, framed_add, framed_step, framed_sub};
 use crate::registers::{bits, register_set, value};
 use crate::transfer::pair_copied;
 use abs_state::{AbsByte, AbsState};
-use avr_model::instruction::{BinaryOp, HighPair, ImmediateOp, Instr, Register, Six, UnaryOp};
+use avr_model::instruction::{BinaryOp, ImmediateOp, Instr, Register, UnaryOp};
 use avr_model::operation::{Logic, Mul, Shift};
 use bit_domain::{Tri, TriByte};
 use local_rules::Computed;
+use sp_domain::Tag;
 
-// What is done to a register and a byte.
-fn immediate(state: &AbsState, op: ImmediateOp, d: Register, number: u8) -> Computed
-    ensures { result ≡ immediate_after state.now op d number }
+// What is done to a register and a byte, where `line` says whether the site has a `frame` line.
+fn immediate(state: &AbsState, line: bool, op: ImmediateOp, d: Register, number: u8) -> Computed
+    ensures { result ≡ immediate_at line state.now op d number }
 {
     let a = bits(state, d);
     let b = TriByte::of(number);
     match op {
-        ImmediateOp::Cpi => {
-            let borrow = BorrowIn {
-                bit: Tri::Zero,
-                keep_zero: false,
-            };
-            compare(state, (a, b), borrow, less_than(d, Some(number)))
-        }
+        ImmediateOp::Cpi => compare(state, (a, b), NO_BORROW, less_than(d, Some(number))),
         ImmediateOp::Sbci => sbc(state, d, b, Some(number)),
+        ImmediateOp::Subi if line => framed_sub(state, d, b, Some(number)),
         ImmediateOp::Subi => sub(state, d, a, b, Some(number)),
         ImmediateOp::Ori => logic(state, Logic::Or, d, (a, b), false),
         ImmediateOp::Andi => logic(state, Logic::And, d, (a, b), false),
@@ -47,19 +43,22 @@ fn immediate(state: &AbsState, op: ImmediateOp, d: Register, number: u8) -> Comp
     }
 }
 
-// What is done to one register.
-fn unary(state: &AbsState, op: UnaryOp, d: Register) -> Computed
-    ensures { result ≡ unary_after state.now op d }
+// What is done to one register, where `line` says whether the site has a `frame` line.
+fn unary(state: &AbsState, line: bool, op: UnaryOp, d: Register) -> Computed
+    ensures { result ≡ unary_at line state.now op d }
 {
+    let (a, flags) = (bits(state, d), state.flags.bits);
     match op {
-        UnaryOp::Com => com(state, d),
-        UnaryOp::Neg => neg(state, d),
-        UnaryOp::Swap => register_set(state, d, AbsByte::untagged(swapped(bits(state, d)))),
-        UnaryOp::Inc => step_one(state, true, d),
-        UnaryOp::Asr => shift(state, Shift::Asr, d),
-        UnaryOp::Lsr => shift(state, Shift::Lsr, d),
-        UnaryOp::Ror => shift(state, Shift::Ror, d),
-        UnaryOp::Dec => step_one(state, false, d),
+        UnaryOp::Com => byte_set(state, d, abs_alu::com(a, flags)),
+        UnaryOp::Neg => difference(state, d, (TriByte::of(0), a), NO_BORROW, UNTAGGED),
+        UnaryOp::Swap => register_set(state, d, AbsByte::untagged(swapped(a))),
+        UnaryOp::Inc if line => framed_step(state, true, d),
+        UnaryOp::Inc => step_tagged(state, true, d, Tag::None),
+        UnaryOp::Asr => byte_set(state, d, abs_alu::shift(Shift::Asr, a, flags)),
+        UnaryOp::Lsr => byte_set(state, d, abs_alu::shift(Shift::Lsr, a, flags)),
+        UnaryOp::Ror => byte_set(state, d, abs_alu::shift(Shift::Ror, a, flags)),
+        UnaryOp::Dec if line => framed_step(state, false, d),
+        UnaryOp::Dec => step_tagged(state, false, d, Tag::None),
     }
 }
 
@@ -81,38 +80,19 @@ fn binary(state: &AbsState, op: BinaryOp, d: Register, r: Register) -> Option<Co
             Some(compare(state, (a, b), borrow, says))
         },
         BinaryOp::Sbc => Some(sbc(state, d, b, b.constant())),
-        BinaryOp::Add => Some(sum(state, d, b, Tri::Zero)),
+        BinaryOp::Add => Some(sum_tagged(state, d, b, Tri::Zero, UNTAGGED)),
         BinaryOp::Cpse => None,
         BinaryOp::Cp => {
             let says = less_than(d, b.constant());
-            let borrow = BorrowIn {
-                bit: Tri::Zero,
-                keep_zero: false,
-            };
-            Some(compare(state, (a, b), borrow, says))
+            Some(compare(state, (a, b), NO_BORROW, says))
         },
         BinaryOp::Sub => Some(sub(state, d, from, other, b.constant())),
-        BinaryOp::Adc => Some(sum(state, d, b, carry)),
-        BinaryOp::And => Some(logic(state, Logic::And, d, (a, b), is_same(d, r))),
+        BinaryOp::Adc => Some(sum_tagged(state, d, b, carry, UNTAGGED)),
+        BinaryOp::And => Some(logic(state, Logic::And, d, (a, b), d == r)),
         BinaryOp::Eor => Some(logic(state, Logic::Eor, d, (from, other), false)),
-        BinaryOp::Or => Some(logic(state, Logic::Or, d, (a, b), is_same(d, r))),
+        BinaryOp::Or => Some(logic(state, Logic::Or, d, (a, b), d == r)),
         BinaryOp::Mov => Some(register_set(state, d, value(state, r))),
         BinaryOp::Mul => Some(product(state, Mul::Mul, d, r)),
-    }
-}
-
-// What is done to two registers that are followed.
-fn framed_binary(state: &AbsState, op: BinaryOp, d: Register, r: Register) -> Option<Computed>
-    ensures { result ≡ framed_binary state.now op d r }
-{
-    match op {
-        BinaryOp::Add => Some(framed_add(state, d, r)),
-        BinaryOp::Adc => Some(framed_adc(state, d, r)),
-        BinaryOp::Sub => {
-            let b = bits(state, r);
-            Some(framed_sub(state, d, b, b.constant()))
-        }
-        _ => binary(state, op, d, r),
     }
 }
 
@@ -126,39 +106,18 @@ pub fn binary_at(
 ) -> Option<Computed>
     ensures { result ≡ binary_at line state.now op d r }
 {
-    if line && d != r {
-        framed_binary(state, op, d, r)
-    } else {
-        binary(state, op, d, r)
+    if !line || d == r {
+        return binary(state, op, d, r);
     }
-}
-
-// What is done to a register and a byte, where `line` says whether the site has a `frame` line.
-fn immediate_at(state: &AbsState, line: bool, op: ImmediateOp, d: Register, number: u8) -> Computed
-    ensures { result ≡ immediate_at line state.now op d number }
-{
     match op {
-        ImmediateOp::Subi if line => framed_sub(state, d, TriByte::of(number), Some(number)),
-        _ => immediate(state, op, d, number),
+        BinaryOp::Add => Some(framed_add(state, d, r)),
+        BinaryOp::Adc => Some(framed_adc(state, d, r)),
+        BinaryOp::Sub => {
+            let b = bits(state, r);
+            Some(framed_sub(state, d, b, b.constant()))
+        }
+        _ => binary(state, op, d, r),
     }
-}
-
-// What is done to one register, where `line` says whether the site has a `frame` line.
-fn unary_at(state: &AbsState, line: bool, op: UnaryOp, d: Register) -> Computed
-    ensures { result ≡ unary_at line state.now op d }
-{
-    match op {
-        UnaryOp::Inc if line => framed_step(state, true, d),
-        UnaryOp::Dec if line => framed_step(state, false, d),
-        _ => unary(state, op, d),
-    }
-}
-
-/// `adiw` where `up`, else `sbiw`.
-fn pair_and_number(state: &AbsState, up: bool, d: &HighPair, number: &Six) -> Computed
-    ensures { result ≡ wide_after state.now up (2 * d.now) number.now }
-{
-    wide(state, up, d.doubled(), number.get() as u8)
 }
 
 /// What an instruction computes that sets registers and flags alone, where `line` says whether the site has a `frame` line: None of
@@ -174,16 +133,10 @@ pub fn computed_by(state: &AbsState, line: bool, instr: &Instr) -> Option<Comput
         Instr::Fmul(d, r) => Some(product(state, Mul::Fmul, d.widened(), r.widened())),
         Instr::Fmuls(d, r) => Some(product(state, Mul::Fmuls, d.widened(), r.widened())),
         Instr::Fmulsu(d, r) => Some(product(state, Mul::Fmulsu, d.widened(), r.widened())),
-        Instr::Immediate(op, d, number) => Some(immediate_at(
-            state,
-            line,
-            *op,
-            d.widened(),
-            *number,
-        )),
-        Instr::Unary(op, d) => Some(unary_at(state, line, *op, *d)),
-        Instr::Adiw(d, number) => Some(pair_and_number(state, true, d, number)),
-        Instr::Sbiw(d, number) => Some(pair_and_number(state, false, d, number)),
+        Instr::Immediate(op, d, number) => Some(immediate(state, line, *op, d.widened(), *number)),
+        Instr::Unary(op, d) => Some(unary(state, line, *op, *d)),
+        Instr::Adiw(d, number) => Some(wide(state, true, d.doubled(), number.get() as u8)),
+        Instr::Sbiw(d, number) => Some(wide(state, false, d.doubled(), number.get() as u8)),
         Instr::Bld(d, bit) => Some(bit_loaded(state, *d, *bit)),
         Instr::Bst(d, bit) => Some(bit_stored(state, *d, *bit)),
         _ => None,

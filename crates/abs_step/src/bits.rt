@@ -43,29 +43,19 @@ pub fn bit_row(
     written_at(nodes, site.alloc, &write, false, address)
 }
 
-/// `bset` of flag `n` where `on`, else `bclr`. I is in the key.
+/// `bset` of flag `n` where `on`, else `bclr`. I is in the key: after `sei` one more instruction executes before any interrupt.
 pub fn flag_row(nodes: &mut Moves<'_>, site: &Site<'_>, n: Bit, on: bool) -> Result<(), NodeFault>
     ensures { Adds nodes.old nodes.new result (registers.flag_row site.now.device site.now.key.now site.now.state.now n on) }
 {
     match flag(site.state, n, on) {
         Some(set) => setting(nodes, site, &set.registers, set.flags),
-        None => interrupts_row(nodes, site, on),
+        None => {
+            let key = NodeKey {
+                i: on,
+                delay: on && !site.key.i,
+                ..next(site.device, site.key)
+            };
+            add_copy(nodes, site.alloc, key, site.state)
+        }
     }
-}
-
-// `sei` where `on`, after which one more instruction executes before any interrupt, else `cli`.
-fn interrupts_row(nodes: &mut Moves<'_>, site: &Site<'_>, on: bool) -> Result<(), NodeFault>
-    ensures { Adds nodes.old nodes.new result (registers.interrupts_row site.now.device site.now.key.now site.now.state.now on) }
-{
-    let delay = on && !site.key.i;
-    add_copy(
-        nodes,
-        site.alloc,
-        NodeKey {
-            i: on,
-            delay,
-            ..next(site.device, site.key)
-        },
-        site.state,
-    )
 }

@@ -22,26 +22,7 @@ use abs_state::AbsByte;
 use avr_model::instruction::{Base, Pointer, Register};
 use local_rules::local::NodeFault;
 
-// Register `d` of these gets what was read. There is no successor where nothing can be read.
-fn loading(
-    nodes: &mut Moves<'_>,
-    site: &Site<'_>,
-    registers: &[AbsByte; 32],
-    d: Register,
-    read: Option<AbsByte>,
-) -> Result<(), NodeFault>
-    ensures { Adds nodes.old nodes.new result (rows.loading site.now.device site.now.key.now site.now.state.now registers.now d read) }
-{
-    match read {
-        Some(value) => {
-            let registers = set(registers, d, value);
-            setting(nodes, site, &registers, site.state.flags)
-        }
-        None => Ok(()),
-    }
-}
-
-/// `ld` and `ldd`: register `d` of these gets what is at an address that registers give.
+/// `ld` and `ldd`: register `d` of these gets what is at an address that registers give. There is no successor where nothing can be read.
 pub fn load_row(
     nodes: &mut Moves<'_>,
     site: &Site<'_>,
@@ -52,8 +33,13 @@ pub fn load_row(
     ensures { Adds nodes.old nodes.new result (rows.loading site.now.device site.now.key.now site.now.state.now registers.now d (reads.read_pointed site.now.device site.now.key.now site.now.state.now (reads.pointed site.now.state.now from.r from.up))) }
 {
     let pointed = point(site.state, from.r, from.up);
-    let read = read_pointed(site.device, site.key, site.state, pointed);
-    loading(nodes, site, registers, d, read)
+    match read_pointed(site.device, site.key, site.state, pointed) {
+        Some(value) => {
+            let registers = set(registers, d, value);
+            setting(nodes, site, &registers, site.state.flags)
+        }
+        None => Ok(()),
+    }
 }
 
 /// `in` and `lds`, of so many words: register `d` gets what is known of an address.

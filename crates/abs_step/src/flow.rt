@@ -1,6 +1,6 @@
 //! Change of flow: jumps, skips, calls and returns.
 
-ghost use Rattle.std.specs.Prelude.{◌≡◌, ◌<◌, map, filter, None, IfOk, IfErr};
+ghost use Rattle.std.specs.Prelude.{◌≡◌, ◌<◌, map, filter, None, IfOk, IfErr, if◌then◌else◌};
 ghost use Rattle.avr_model.specs.Image.{WORDS};
 ghost use Rattle.avr_model.specs.Assumptions.{lists};
 ghost use Rattle.bit_domain.specs.Tri.{tri_not};
@@ -33,40 +33,28 @@ use local_rules::local::{CallSite, Exit, NodeFault};
 use mask_states::{Kind, NodeKey, SpForm};
 use std::alloc::Global;
 
-/// `brbs` of flag `n`. A branch on C cuts what C speaks of.
-pub(crate) fn branch_where_set(
+// `brbs` of flag `n` where `on`, else `brbc`: to the first word where it is taken, else to the other one. A branch on C cuts what C
+// speaks of.
+pub(crate) fn flag_branch(
     nodes: &mut Moves<'_>,
     site: &Site<'_>,
     n: Bit,
-    taken: u16,
-    other: u16,
+    on: bool,
+    words: (u16, u16),
 ) -> Result<(), NodeFault>
-    ensures { Adds nodes.old nodes.new result (flow.flag_branch n site.now.key.now site.now.state.now taken other (flow.branch (flow.flag_at site.now.key.now site.now.state.now n) site.now.key.now site.now.state.now taken other)) }
+    ensures { Adds nodes.old nodes.new result (if on then flow.flag_branch n site.now.key.now site.now.state.now words.0 words.1 (flow.branch (flow.flag_at site.now.key.now site.now.state.now n) site.now.key.now site.now.state.now words.0 words.1) else flow.flag_branch n site.now.key.now site.now.state.now words.1 words.0 (flow.branch (tri_not (flow.flag_at site.now.key.now site.now.state.now n)) site.now.key.now site.now.state.now words.0 words.1)) }
 {
+    let (taken, other) = words;
     if n.get() == 0 {
-        return carry_branch(nodes, site, carry_bit(site.state), taken, other);
+        let (set, clear) = if on { (taken, other) } else { (other, taken) };
+        return carry_branch(nodes, site, carry_bit(site.state), set, clear);
     }
-    branch(nodes, site, flag_at(site.key, site.state, n), taken, other)
-}
-
-/// `brbc` of flag `n`, which goes the other way.
-pub(crate) fn branch_where_clear(
-    nodes: &mut Moves<'_>,
-    site: &Site<'_>,
-    n: Bit,
-    taken: u16,
-    other: u16,
-) -> Result<(), NodeFault>
-    ensures { Adds nodes.old nodes.new result (flow.flag_branch n site.now.key.now site.now.state.now other taken (flow.branch (tri_not (flow.flag_at site.now.key.now site.now.state.now n)) site.now.key.now site.now.state.now taken other)) }
-{
-    if n.get() == 0 {
-        return carry_branch(nodes, site, carry_bit(site.state), other, taken);
-    }
-    let condition = flag_at(site.key, site.state, n).complement();
+    let flag = flag_at(site.key, site.state, n);
+    let condition = if on { flag } else { flag.complement() };
     branch(nodes, site, condition, taken, other)
 }
 
-/// Past the next instruction where the condition holds.
+// Past the next instruction where the condition holds.
 pub(crate) fn skipping(
     nodes: &mut Moves<'_>,
     site: &Site<'_>,
@@ -123,7 +111,7 @@ fn unlisted_targets(
     }
 }
 
-/// The words to which an indirect transfer may lead.
+// The words to which an indirect transfer may lead.
 pub(crate) fn targets_at(site: &Site<'_>) -> Result<Vec<u16>, NodeFault>
     ensures { Finds result (flow.targets_at site.now.device site.now.assumptions.now site.now.key.now site.now.state.now) site.now.key.now.pc }
 {
@@ -148,7 +136,7 @@ fn add_words(nodes: &mut Moves<'_>, site: &Site<'_>, words: &[u16]) -> Result<()
     Ok(())
 }
 
-/// An indirect jump.
+// An indirect jump.
 pub(crate) fn jumping(nodes: &mut Moves<'_>, site: &Site<'_>) -> Result<(), NodeFault>
     ensures { Adds nodes.old nodes.new result (flow.jumping (flow.targets_at site.now.device site.now.assumptions.now site.now.key.now site.now.state.now) site.now.key.now site.now.state.now) }
 {
@@ -167,7 +155,7 @@ pub struct Outside {
     pub exit: Option<Exit>,
 }
 
-/// Nothing leaves it where nodes were added.
+// Nothing leaves it where nodes were added.
 pub(crate) fn staying(alloc: Global, added: Result<(), NodeFault>) -> Result<Outside, NodeFault>
     ensures { (old new : Moving) (r : Raw) → Adds old new added r → Leads old new result r }
 {
@@ -195,7 +183,7 @@ fn sites(alloc: Global, entries: &[u16], back: u16) -> Result<Listed<CallSite>, 
     Ok(sites)
 }
 
-/// A call of these words, which goes on at the word `back`.
+// A call of these words, which goes on at the word `back`.
 pub(crate) fn calling(
     alloc: Global,
     key: &NodeKey,
@@ -213,7 +201,7 @@ pub(crate) fn calling(
     }
 }
 
-/// An indirect call.
+// An indirect call.
 pub(crate) fn indirect_call(site: &Site<'_>) -> Result<Outside, NodeFault>
     ensures { (nodes : Moving) → Leads nodes nodes result (flow.indirect_call site.now.device (flow.targets_at site.now.device site.now.assumptions.now site.now.key.now site.now.state.now) site.now.key.now) }
 {
@@ -224,37 +212,24 @@ pub(crate) fn indirect_call(site: &Site<'_>) -> Result<Outside, NodeFault>
     outside
 }
 
-// A return at this offset.
-fn returning_at(
-    alloc: Global,
-    exit: Exit,
-    pc: u16,
-    kind: Kind,
-    offset: u16,
-) -> Result<Outside, NodeFault>
-    ensures { (nodes : Moving) → Leads nodes nodes result (flow.returning exit pc kind offset) }
-{
-    match kind {
-        Kind::Call | Kind::Vector(_) if offset == 0 => Ok(Outside {
-            calls: Listed::empty(alloc),
-            exit: Some(exit),
-        }),
-        _ => Err(NodeFault::UntrackedSp(pc)),
-    }
-}
-
-/// A return, where the stack pointer isn't half written.
+// A return, where the stack pointer isn't half written.
 pub(crate) fn returning(site: &Site<'_>, exit: Exit) -> Result<Outside, NodeFault>
     ensures { (nodes : Moving) → Leads nodes nodes result (flow.at_closed site.now.key.now.sp site.now.key.now.pc (flow.returning exit site.now.key.now.pc site.now.key.now.inst.kind)) }
 {
     let (pc, kind) = (site.key.pc, site.key.inst.kind);
     match site.key.sp {
-        SpForm::Closed(offset) => returning_at(site.alloc, exit, pc, kind, offset),
+        SpForm::Closed(offset) => match kind {
+            Kind::Call | Kind::Vector(_) if offset == 0 => Ok(Outside {
+                calls: Listed::empty(site.alloc),
+                exit: Some(exit),
+            }),
+            _ => Err(NodeFault::UntrackedSp(pc)),
+        },
         SpForm::Open(_, _) => Err(NodeFault::UntrackedSp(pc)),
     }
 }
 
-/// `rcall`, which makes room in a compiler's small frame.
+// `rcall`, which makes room in a compiler's small frame.
 pub(crate) fn relative_call(
     nodes: &mut Moves<'_>,
     site: &Site<'_>,

@@ -31,7 +31,7 @@ fn is_ended(state: &AbsState, instr: &Instr) -> bool
     ends(state.flags.carry, instr) || state.facts.is_followed()
 }
 
-/// The state with what still holds after the instruction.
+// The state with what still holds after the instruction.
 pub(crate) fn before(alloc: Global, state: &AbsState, instr: &Instr) -> Result<AbsState, NodeFault>
     ensures ok { IfOk result (λ s. s ≡ registers.before instr.now state.now) }
     ensures err { IfErr result (λ e. e ≡ Memory) }
@@ -65,7 +65,7 @@ fn ends(carry: CarryTag, instr: &Instr) -> bool
     }
 }
 
-/// What the instruction leads to by the plain rules. A state is copied only where something that is known may end.
+// What the instruction leads to by the plain rules. A state is copied only where something that is known may end.
 pub(crate) fn row_forgetting(
     nodes: &mut Moves<'_>,
     site: &Site<'_>,
@@ -94,41 +94,23 @@ pub(crate) fn row_forgetting(
     led
 }
 
-// The instruction at the node, whose word may lie behind the device's flash.
-fn fetched(site: &Site<'_>) -> Option<Instr>
-    ensures { result ≡ rows.fetched site.now.device site.now.flash.now site.now.key.now.pc }
-{
-    let pc = site.key.pc;
-    if pc >= site.device.words() {
-        return None;
-    }
-    site.flash.instruction(pc)
-}
-
-// What the instruction leads to, by whether pairs are followed.
-fn row_by(
-    nodes: &mut Nodes,
-    site: &Site<'_>,
-    scratch: bool,
-    instr: &Instr,
-) -> Result<Outside, NodeFault>
-    requires word { site.now.key.now.pc < WORDS }
-    ensures { Leads (plain nodes.old) (plain nodes.new) result (rows.row_by site.now.state.now.facts site.now.device site.now.flash.now site.now.assumptions.now scratch site.now.key.now site.now.state.now instr.now) }
-{
-    if site.state.facts.is_followed() {
-        return paired_row(nodes, site, scratch, instr);
-    }
-    row_through(nodes, site, scratch, instr, false)
-}
-
-/// What the instruction at the node leads to.
+// What the instruction at the node leads to; its word may lie behind the device's flash.
 pub(crate) fn at_instruction(nodes: &mut Nodes, site: &Site<'_>) -> Result<Outside, NodeFault>
     requires word { site.now.key.now.pc < WORDS }
     ensures { Leads (plain nodes.old) (plain nodes.new) result (rows.row_in site.now.device site.now.flash.now site.now.assumptions.now site.now.key.now site.now.state.now) }
 {
-    let scratch = site.flash.is_scratch(site.key.pc);
-    match fetched(site) {
-        Some(instr) => row_by(nodes, site, scratch, &instr),
-        None => Err(NodeFault::Unsupported(site.key.pc)),
+    let pc = site.key.pc;
+    if pc >= site.device.words() {
+        return Err(NodeFault::Unsupported(pc));
+    }
+    let scratch = site.flash.is_scratch(pc);
+    match site.flash.instruction(pc) {
+        Some(instr) => {
+            if site.state.facts.is_followed() {
+                return paired_row(nodes, site, scratch, &instr);
+            }
+            row_through(nodes, site, scratch, &instr, false)
+        }
+        None => Err(NodeFault::Unsupported(pc)),
     }
 }

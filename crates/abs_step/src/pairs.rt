@@ -29,7 +29,7 @@ use pair_cuts::{bit_cut, equal_cut, flag_cut};
 use pair_steps::refine;
 use std::mem;
 
-/// A test whose outcome tells of the state.
+// A test whose outcome tells of the state.
 #[derive(Clone, Copy)]
 pub(crate) enum Test {
     /// Whether this flag is 1.
@@ -40,7 +40,7 @@ pub(crate) enum Test {
     Equal(u8, u8),
 }
 
-/// Two words that a test leads to.
+// Two words that a test leads to.
 #[derive(Clone, Copy)]
 pub(crate) struct Ways {
     /// Where it comes out so.
@@ -49,7 +49,7 @@ pub(crate) struct Ways {
     pub other: u16,
 }
 
-/// A branch on a flag.
+// A branch on a flag.
 #[derive(Clone, Copy)]
 pub(crate) struct FlagBranch {
     /// The flag.
@@ -60,7 +60,7 @@ pub(crate) struct FlagBranch {
     pub set: u16,
 }
 
-/// An `st`, and what it names.
+// An `st`, and what it names.
 #[derive(Drop)]
 pub(crate) struct Store<'a> {
     /// The instruction.
@@ -179,7 +179,7 @@ fn stored(
     added
 }
 
-/// What the instruction leads to by the plain rules, refined by what it tells, where `refines`.
+// What the instruction leads to by the plain rules, refined by what it tells, where `refines`.
 pub(crate) fn row_through(
     nodes: &mut Nodes,
     site: &Site<'_>,
@@ -220,7 +220,7 @@ fn paired_branch(
     staying(site.alloc, added)
 }
 
-/// What an instruction leads to where pairs are followed.
+// What an instruction leads to where pairs are followed.
 pub(crate) fn paired_row(
     nodes: &mut Nodes,
     site: &Site<'_>,

@@ -21,35 +21,21 @@ use abs_state::AbsState;
 use local_rules::local::{NodeFault, Nodes};
 use mask_states::NodeKey;
 use pair_cuts::pick_cut;
-use vector_table::Assumptions;
 
 // The most bytes by which a node splits.
 const MOST_PICKS: usize = 64;
 
-// The word of the `ijmp` of a table site, where it has no `jump` line.
-fn unlined(assumptions: &Assumptions, jump: Option<u16>) -> Option<u16>
-    ensures { result ≡ rows.unlined assumptions.now jump }
-{
-    let jump = jump?;
-    match assumptions.jumps(jump) {
-        Some(_) => None,
-        None => Some(jump),
-    }
-}
-
-// Where the node splits: the word of the `ijmp` of its table.
+// Where the node splits: the word of the `ijmp` of its table, where that has no `jump` line.
 fn split_site(site: &Site<'_>) -> Option<u16>
     ensures { result ≡ rows.split_site site.now.flash.now site.now.assumptions.now site.now.key.now.pc site.now.key.now.pick }
 {
-    match site.key.pick {
+    if site.key.pick.is_some() || site.key.pc >= site.flash.device().words() {
+        return None;
+    }
+    let jump = site.flash.table_site(site.key.pc)?;
+    match site.assumptions.jumps(jump) {
         Some(_) => None,
-        None => {
-            if site.key.pc >= site.flash.device().words() {
-                return None;
-            }
-            let jump = site.flash.table_site(site.key.pc);
-            unlined(site.assumptions, jump)
-        }
+        None => Some(jump),
     }
 }
 
@@ -148,7 +134,7 @@ fn split(nodes: &mut Nodes, site: &Site<'_>, jump: u16) -> Result<(), NodeFault>
     added
 }
 
-/// What the node leads to: where it splits, all that it would with each byte that r30 may hold.
+// What the node leads to: where it splits, all that it would with each byte that r30 may hold.
 pub(crate) fn splitting(nodes: &mut Nodes, site: &Site<'_>) -> Result<Outside, NodeFault>
     requires word { site.now.key.now.pc < WORDS }
     ensures { Leads (plain nodes.old) (plain nodes.new) result (rows.splitting (rows.split_site site.now.flash.now site.now.assumptions.now site.now.key.now.pc site.now.key.now.pick) (rows.row_in site.now.device site.now.flash.now site.now.assumptions.now) site.now.key.now site.now.state.now) }

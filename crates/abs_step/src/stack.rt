@@ -1,6 +1,6 @@
 //! Bytes that are pushed and popped, and calls that make room.
 
-ghost use Rattle.std.specs.Prelude.{◌≡◌, ◌<◌, ◌++◌, ◌∷◌, [], suc, length, IfOk, IfErr};
+ghost use Rattle.std.specs.Prelude.{◌≡◌, ◌<◌, ◌++◌, ◌∷◌, [], length, IfOk, IfErr};
 ghost use Rattle.local_rules.specs.declared.local.NodeFault.TheVariants.{Memory};
 ghost use Rattle.local_rules.specs.Flow as flow;
 ghost use Rattle.abs_step.specs.Adding.{Adds};
@@ -18,17 +18,6 @@ use mask_states::SpForm;
 use sp_domain::Slot;
 use std::alloc::Global;
 
-// A scratch push makes a free slot, and any other a guarded one.
-fn pushed_slot(scratch: bool, value: AbsByte) -> Slot<AbsByte>
-    ensures { result ≡ flow.pushed_slot scratch value }
-{
-    if scratch {
-        Slot::Free
-    } else {
-        Slot::Guarded(value)
-    }
-}
-
 // The state with another slot.
 fn with_slot(alloc: Global, state: &AbsState, slot: Slot<AbsByte>) -> Result<AbsState, NodeFault>
     requires { length state.now.slots < 65535 }
@@ -45,7 +34,7 @@ fn with_slot(alloc: Global, state: &AbsState, slot: Slot<AbsByte>) -> Result<Abs
     }
 }
 
-/// `push`: register `r` goes to another slot.
+/// `push`: register `r` goes to another slot. A scratch push makes a free slot, and any other a guarded one.
 pub fn push_row(
     nodes: &mut Moves<'_>,
     site: &Site<'_>,
@@ -59,7 +48,11 @@ pub fn push_row(
             if offset >= site.device.size() {
                 return Err(NodeFault::TooDeep(site.key.pc, u32::from(offset) + 1));
             }
-            let slot = pushed_slot(scratch, value(site.state, r));
+            let slot = if scratch {
+                Slot::Free
+            } else {
+                Slot::Guarded(value(site.state, r))
+            };
             let after = with_slot(site.alloc, site.state, slot)?;
             let mut key = next(site.device, site.key);
             key.sp = SpForm::Closed(offset + 1);
@@ -67,18 +60,6 @@ pub fn push_row(
         }
         SpForm::Open(_, _) => Err(NodeFault::UntrackedSp(site.key.pc)),
     }
-}
-
-// The byte in slot n, which is the last, is popped into register `d`.
-fn pop_from(nodes: &mut Moves<'_>, site: &Site<'_>, d: Register, n: u16) -> Result<(), NodeFault>
-    requires { length site.now.state.now.slots ≡ suc n }
-    ensures { Adds nodes.old nodes.new result (flow.popping site.now.device site.now.key.now site.now.state.now d (suc n)) }
-{
-    let mut after = with_slots(site.alloc, site.state, n)?;
-    after.registers = set(&site.state.registers, d, slot_value(site.state, n));
-    let mut key = next(site.device, site.key);
-    key.sp = SpForm::Closed(n);
-    nodes.add(key, after)
 }
 
 /// `pop`: register `d` gets the byte in the last slot, which goes.
@@ -90,7 +71,12 @@ pub fn pop_row(nodes: &mut Moves<'_>, site: &Site<'_>, d: Register) -> Result<()
             if offset == 0 {
                 return Err(NodeFault::UntrackedSp(site.key.pc));
             }
-            pop_from(nodes, site, d, offset - 1)
+            let last = offset - 1;
+            let mut after = with_slots(site.alloc, site.state, last)?;
+            after.registers = set(&site.state.registers, d, slot_value(site.state, last));
+            let mut key = next(site.device, site.key);
+            key.sp = SpForm::Closed(last);
+            nodes.add(key, after)
         }
         SpForm::Open(_, _) => Err(NodeFault::UntrackedSp(site.key.pc)),
     }

@@ -15,7 +15,7 @@ use crate::moves::Moves;
 use crate::successors::{add_copy, add_two, changed, copied};
 use abs_reads::stack_pointer::{closing_offset, high_part};
 use abs_rows::bits::I;
-use abs_rows::registers::{set, with_bits};
+use abs_rows::registers::set;
 use abs_rows::status::flags_written;
 use abs_state::{AbsByte, AbsFlags, AbsState, end_facts, hull_written};
 use avr_model::device::{Device, REGISTERS_END, SPH, SPL, SREG};
@@ -144,19 +144,6 @@ fn add_masks(
     Ok(())
 }
 
-// One successor for each value of the enable bits that is permitted.
-fn masks_written(
-    nodes: &mut Moves<'_>,
-    alloc: Global,
-    write: &Write<'_>,
-    address: u16,
-) -> Result<(), NodeFault>
-    ensures { Adds nodes.old nodes.new result (writes.masks_written write.now.key write.now.state.now address write.now.value) }
-{
-    let splits = split(write.key.masks, address, &write.value.bits);
-    add_masks(nodes, alloc, write, splits.as_slice())
-}
-
 // What C says of a register ends where that register is written.
 fn forgotten(carry: CarryTag, d: Register) -> CarryTag
     ensures { result ≡ forgotten (d ∷ []) carry }
@@ -183,7 +170,7 @@ fn register_written(
     ensures { Adds nodes.old nodes.new result (one write.now.key (writes.register_written write.now.state.now d write.now.value)) }
 {
     let state = write.state;
-    let value = with_bits(write.value.tag, write.value.bits);
+    let value = AbsByte::of_bits(write.value.tag, write.value.bits);
     let registers = set(&state.registers, d, value);
     let flags = AbsFlags {
         carry: forgotten(state.flags.carry, d),
@@ -246,6 +233,9 @@ pub fn written_at(
         }
         SPH => opening(nodes, alloc, high_part(inst.kind, write.value), write),
         SREG => flags_set(nodes, alloc, write, is_out),
-        _ => masks_written(nodes, alloc, write, address),
+        _ => {
+            let splits = split(write.key.masks, address, &write.value.bits);
+            add_masks(nodes, alloc, write, splits.as_slice())
+        }
     }
 }

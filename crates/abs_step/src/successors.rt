@@ -117,13 +117,6 @@ pub fn going_to(nodes: &mut Moves<'_>, site: &Site<'_>, pc: u16) -> Result<(), N
     add_copy(nodes, site.alloc, at_word(site.key, pc), site.state)
 }
 
-// Going on at another word, off a jump table.
-fn turning_to(nodes: &mut Moves<'_>, site: &Site<'_>, pc: u16) -> Result<(), NodeFault>
-    ensures { Adds nodes.old nodes.new result (raw.turning_to site.now.key.now site.now.state.now pc) }
-{
-    add_copy(nodes, site.alloc, off_table(site.key, pc), site.state)
-}
-
 /// Going on at the next word with these registers and flags.
 pub fn setting(
     nodes: &mut Moves<'_>,
@@ -147,15 +140,10 @@ pub fn branch(
 ) -> Result<(), NodeFault>
     ensures { Adds nodes.old nodes.new result (flow.branch condition site.now.key.now site.now.state.now taken other) }
 {
+    let (taken, other) = (off_table(site.key, taken), off_table(site.key, other));
     match condition {
-        Tri::One => turning_to(nodes, site, taken),
-        Tri::Zero => turning_to(nodes, site, other),
-        Tri::Any => add_two(
-            nodes,
-            site.alloc,
-            off_table(site.key, other),
-            off_table(site.key, taken),
-            site.state,
-        ),
+        Tri::One => add_copy(nodes, site.alloc, taken, site.state),
+        Tri::Zero => add_copy(nodes, site.alloc, other, site.state),
+        Tri::Any => add_two(nodes, site.alloc, other, taken, site.state),
     }
 }

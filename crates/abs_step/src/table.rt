@@ -3,7 +3,6 @@
 ghost use Rattle.std.specs.Prelude.{◌≡◌, ◌<◌};
 ghost use Rattle.avr_model.specs.Assumptions.{is_frame};
 ghost use Rattle.avr_model.specs.Image.{WORDS};
-ghost use Rattle.abs_rows.specs.Sections as sections;
 ghost use Rattle.local_rules.specs.Local as rows;
 ghost use Rattle.abs_step.specs.Adding.{Adds};
 ghost use Rattle.abs_step.specs.Leading.{Leads};
@@ -11,20 +10,21 @@ ghost use Rattle.abs_step.specs.Leading.{Leads};
 use crate::bits::{bit_row, flag_row};
 use crate::data_transfer::{known_write, load_row, lpm_row, read_row, store_row};
 use crate::flow::{
-    Outside, branch_where_clear, branch_where_set, calling, indirect_call, jumping, relative_call,
-    returning, skipping, staying,
+    Outside, calling, flag_branch, indirect_call, jumping, relative_call, returning, skipping,
+    staying,
 };
 use crate::moves::Moves;
 use crate::pointer_stores::{Indirect, pointer_write};
 use crate::site::Site;
 use crate::stack::{pop_row, push_row};
 use crate::successors::{going_to, setting};
-use abs_reads::flow::{are_equal, further, port, port_bit, register_bit};
+use abs_reads::flow::{further, port, port_bit, register_bit};
 use abs_reads::pointers::step_before;
+use abs_rows::registers::bits;
 use abs_rows::rows::{binary_at, computed_by};
-use abs_rows::transfer::{base_register, pair_moved, pointer_moved, pointer_register};
+use abs_rows::transfer::{base_register, pointer_moved, pointer_register};
 use avr_decode::{far, near};
-use avr_model::instruction::{Base, BinaryOp, Instr, Register};
+use avr_model::instruction::{BinaryOp, Instr, Pointer, Register};
 use local_rules::local::{Exit, NodeFault};
 
 // Flow, and what has no operand.
@@ -61,12 +61,12 @@ fn flow_row(
             return relative_call(nodes, site, scratch, target);
         }
         Instr::Brbs(n, t) => {
-            let (taken, other) = (device.wrap(near(key.pc, t.get())), further(device, key, 1));
-            branch_where_set(nodes, site, *n, taken, other)
+            let words = (device.wrap(near(key.pc, t.get())), further(device, key, 1));
+            flag_branch(nodes, site, *n, true, words)
         }
         Instr::Brbc(n, t) => {
-            let (taken, other) = (device.wrap(near(key.pc, t.get())), further(device, key, 1));
-            branch_where_clear(nodes, site, *n, taken, other)
+            let words = (device.wrap(near(key.pc, t.get())), further(device, key, 1));
+            flag_branch(nodes, site, *n, false, words)
         }
         Instr::Sbic(port, bit) => {
             let condition = port_bit(device, key, state, *port, *bit).complement();
@@ -124,7 +124,7 @@ fn memory_row(
         Instr::St(p, r) => store_row(nodes, site, *p, *r),
         Instr::LpmZ(d) => lpm_row(nodes, site, &state.registers, *d),
         Instr::LpmZPlus(d) => {
-            let moved = pair_moved(state, base_register(Base::Z), true, 1);
+            let moved = pointer_moved(Pointer::ZPlus, state);
             lpm_row(nodes, site, &moved, *d)
         }
         Instr::Lpm => lpm_row(nodes, site, &state.registers, Register::new(0)),
@@ -153,30 +153,14 @@ fn binary_row(
     let line = site.assumptions.frame(site.key.pc);
     match binary_at(site.state, line, op, d, r) {
         Some(set) => setting(nodes, site, &set.registers, set.flags),
-        None => skipping(nodes, site, are_equal(site.state, d, r)),
+        None => {
+            let same = bit_domain::equal(bits(site.state, d), bits(site.state, r));
+            skipping(nodes, site, same)
+        }
     }
 }
 
-// The rows that may do more than set registers and flags.
-fn other_row(
-    nodes: &mut Moves<'_>,
-    site: &Site<'_>,
-    scratch: bool,
-    instr: &Instr,
-) -> Result<Outside, NodeFault>
-    requires word { site.now.key.now.pc < WORDS }
-    ensures { Leads nodes.old nodes.new result (sections.other_row site.now.device site.now.flash.now site.now.assumptions.now scratch site.now.key.now site.now.state.now instr.now) }
-{
-    let added = match instr {
-        Instr::Binary(op, d, r) => binary_row(nodes, site, *op, *d, *r),
-        Instr::Bset(n) => flag_row(nodes, site, *n, true),
-        Instr::Bclr(n) => flag_row(nodes, site, *n, false),
-        _ => return memory_row(nodes, site, scratch, instr),
-    };
-    staying(site.alloc, added)
-}
-
-/// Where an instruction leads: nodes are put into the list, and what leaves the instance is told.
+// Where an instruction leads: nodes are put into the list, and what leaves the instance is told.
 pub(crate) fn row(
     nodes: &mut Moves<'_>,
     site: &Site<'_>,
@@ -187,11 +171,14 @@ pub(crate) fn row(
     ensures { Leads nodes.old nodes.new result (rows.row_of site.now.device site.now.flash.now site.now.assumptions.now scratch site.now.key.now site.now.state.now instr.now) }
 {
     let line = site.assumptions.frame(site.key.pc);
-    match computed_by(site.state, line, instr) {
-        Some(set) => {
-            let added = setting(nodes, site, &set.registers, set.flags);
-            staying(site.alloc, added)
-        }
-        None => other_row(nodes, site, scratch, instr),
-    }
+    let added = match computed_by(site.state, line, instr) {
+        Some(set) => setting(nodes, site, &set.registers, set.flags),
+        None => match instr {
+            Instr::Binary(op, d, r) => binary_row(nodes, site, *op, *d, *r),
+            Instr::Bset(n) => flag_row(nodes, site, *n, true),
+            Instr::Bclr(n) => flag_row(nodes, site, *n, false),
+            _ => return memory_row(nodes, site, scratch, instr),
+        },
+    };
+    staying(site.alloc, added)
 }
