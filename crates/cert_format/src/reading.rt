@@ -27,7 +27,7 @@ use certificate::{Certificate, Inst, Limit, Version};
 use edge_rules::NodeForm;
 use indirect_targets::entry_of;
 use line_reading::{
-    Malformed, dec_word, expect_word, is_over, next_is, peek_text, take_line, take_text,
+    Malformed, dec_word, expect_word, is_over, peek_text, take_line, take_text,
 };
 use mask_states::NodeKey;
 use sb_base::{DigitFault, LineReader, Words, read_dec};

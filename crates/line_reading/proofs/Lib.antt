@@ -1,6 +1,5 @@
 pub mod Steps
 pub mod Words
-pub mod Repeated
 pub mod Digits
 pub mod Table
 pub mod Pieces

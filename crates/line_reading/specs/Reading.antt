@@ -1,5 +1,5 @@
 -- Reading the words of a line, and lines. A reading gives a value and what is left, or nothing.
-use Rattle.std.specs.Prelude.{◌≡◌, ℕ, ◌+◌, List, [], ◌∷◌, Bool, true, false, Option, Some, None, Result, Ok, Err, take, drop, if◌then◌else◌}
+use Rattle.std.specs.Prelude.{◌≡◌, ℕ, ◌+◌, List, [], ◌∷◌, Bool, true, false, Option, Some, None, Result, Ok, Err, if◌then◌else◌}
 use Rattle.std.specs.Option.{option_map}
 use Rattle.std.specs.Str.{bytes_eq}
 use Rattle.sb_base.specs.Lines.{TextLine, Place, size_of}
@@ -32,16 +32,6 @@ dec_at most (w ∷ ws) = number_and (dec_answer w most) ws
 abbrev pub word_at : List ℕ → List (List ℕ) → Option (Unit {0} × List (List ℕ))
 word_at text [] = None
 word_at text (w ∷ ws) = if bytes_eq w text then Some (tt, ws) else None
-
--- these words, one after the other
-abbrev pub these_at : List (List ℕ) → List (List ℕ) → Option (Unit {0} × List (List ℕ))
-these_at [] ws = Some (tt, ws)
-these_at (t ∷ ts) ws = word_at t ws >>= λ r. these_at ts r.1
-
--- this byte, and behind it in the same word a decimal of at most `most`
-abbrev pub marked_at : ℕ → ℕ → List (List ℕ) → Option (ℕ × List (List ℕ))
-marked_at mark most [] = None
-marked_at mark most (w ∷ ws) = if bytes_eq (take 1 w) (mark ∷ []) then dec_at most (drop 1 w ∷ ws) else None
 
 -- the next word, read by itself
 abbrev pub word_by : {A : Type 0} → (List ℕ → Option A) → List (List ℕ) → Option (A × List (List ℕ))

@@ -3,16 +3,14 @@
 ghost use Rattle.line_reading.specs.Words.{WordLaws};
 ghost use Rattle.line_reading.specs.Appending.{AppendingLaws};
 
-use sb_base::laws::{decimal_spelling, hex_spelling, line_spelling, line_writing};
+use sb_base::laws::spelling;
 
 /// Numbers, words and lines that are written are read, and what is read was written so. The function does nothing; its
 /// contract is these laws.
 pub fn word_laws()
     ensures { WordLaws }
 {
-    hex_spelling();
-    decimal_spelling();
-    line_spelling();
+    spelling();
 }
 
 /// Lines that are written are appended, and what is cut short is a part. The function does nothing; its contract is these
@@ -20,5 +18,5 @@ pub fn word_laws()
 pub fn appending_laws()
     ensures { AppendingLaws }
 {
-    line_writing();
+    spelling();
 }

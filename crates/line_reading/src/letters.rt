@@ -22,7 +22,7 @@ impl<'a> Model for Letters<'a> {
     ghost view = { λ l. l.rest.now };
 }
 
-/// The number that each byte stands for as an upper-case hexadecimal digit: 16 where it is no such digit.
+// The number that each byte stands for as an upper-case hexadecimal digit: 16 where it is no such digit.
 static DIGITS: [u8; 256] = [
     16, 16, 16, 16, 16, 16, 16, 16, 16, 16, 16, 16, 16, 16, 16, 16, 16, 16, 16, 16, 16, 16, 16, 16,
     16, 16, 16, 16, 16, 16, 16, 16, 16, 16, 16, 16, 16, 16, 16, 16, 16, 16, 16, 16, 16, 16, 16, 16,
@@ -37,7 +37,7 @@ static DIGITS: [u8; 256] = [
     16, 16, 16, 16, 16, 16, 16, 16, 16, 16, 16, 16, 16, 16,
 ];
 
-/// The number that an upper-case hexadecimal digit stands for; none where the byte is no such digit.
+// The number that an upper-case hexadecimal digit stands for; none where the byte is no such digit.
 fn digit_of(byte: u8) -> Option<u8>
     ensures value { result ≡ (if is_hex byte then Some (digit_of byte) else None) }
     ensures small { IfSome result (λ n. n < 16) }

@@ -5,9 +5,9 @@
 pub mod laws;
 pub mod letters;
 
-ghost use Rattle.std.specs.Prelude.{◌≡◌, ◌≤◌, ◌<◌, ◌^◌, IfSome, None, replicate};
+ghost use Rattle.std.specs.Prelude.{◌≡◌, ◌≤◌, ◌<◌, ◌^◌, IfSome};
 ghost use Rattle.std.specs.Option.{option_map};
-ghost use Rattle.line_reading.specs.Reading.{hex_at, dec_at, word_at, these_at, marked_at, is_over, text_in, first_by, this_by, taken, passed, line_by, ReadsAt};
+ghost use Rattle.line_reading.specs.Reading.{hex_at, dec_at, word_at, is_over, text_in, this_by, taken, passed, line_by, ReadsAt};
 
 pub use letters::Letters;
 use sb_base::{LineReader, Words, read_dec, read_hex};
@@ -51,32 +51,6 @@ pub fn expect_word(words: &mut Words<'_>, text: &[u8]) -> Option<()>
     }
 }
 
-/// The next words, each of which has to be this one, so many times.
-#[tactic(auto, using(crate::proofs::Repeated::one_more, crate::proofs::Repeated::one_else, crate::proofs::Repeated::all_were))]
-pub fn expect_words(words: &mut Words<'_>, text: &[u8], count: usize) -> Option<()>
-    ensures { option_map (λ u. (u, words.new)) result ≡ these_at (replicate count text.now) words.old }
-{
-    for _ in 0..count {
-        expect_word(words, text)?;
-    }
-    Some(())
-}
-
-/// The next word, as this byte and behind it a canonical decimal of at most `most`.
-pub fn marked_word(words: &mut Words<'_>, mark: u8, most: u64) -> Option<u64>
-    ensures exact { option_map (λ n. (n, words.new)) result ≡ marked_at mark most words.old }
-    ensures small { IfSome result (λ n. n ≤ most) }
-{
-    let word = words.next()?;
-    if !word.starts_with(&[mark]) {
-        return None;
-    }
-    match read_dec(&word[1..], most) {
-        Ok(number) => Some(number),
-        Err(_) => None,
-    }
-}
-
 /// Whether no word is left.
 pub fn is_over(words: &mut Words<'_>) -> bool
     ensures { result ≡ is_over words.old }
@@ -92,24 +66,6 @@ pub fn peek_text<'a>(reader: &LineReader<'a>) -> Option<&'a [u8]>
     if line.whole { Some(line.text) } else { None }
 }
 
-/// Passes over the next line, if one is left.
-pub fn pass_line(reader: &mut LineReader<'_>)
-    ensures { reader.new ≡ passed reader.old }
-{
-    let _ = reader.next();
-}
-
-/// Whether the next line is whole and this text.
-pub fn next_is(reader: &LineReader<'_>, text: &[u8]) -> Option<()>
-    ensures { result ≡ first_by (this_by text.now) reader.now.rest }
-{
-    if peek_text(reader)? == text {
-        Some(())
-    } else {
-        None
-    }
-}
-
 /// What was found in the next line, which is then passed over. Where nothing was found the line is refused, and the reader
 /// stays before it.
 pub fn take_line<T>(reader: &mut LineReader<'_>, found: Option<T>) -> Result<T, Malformed>
@@ -117,7 +73,7 @@ pub fn take_line<T>(reader: &mut LineReader<'_>, found: Option<T>) -> Result<T, 
 {
     match found {
         Some(value) => {
-            pass_line(reader);
+            let _ = reader.next();
             Ok(value)
         }
         None => Err(Malformed(reader.offset())),
@@ -129,6 +85,9 @@ pub fn take_line<T>(reader: &mut LineReader<'_>, found: Option<T>) -> Result<T, 
 pub fn take_text(reader: &mut LineReader<'_>, text: &[u8]) -> Result<(), Malformed>
     ensures exact { ReadsAt (λ u. u) reader.new result (line_by (this_by text.now) reader.old) }
 {
-    let found = next_is(reader, text);
+    let found = match peek_text(reader) {
+        Some(line) if line == text => Some(()),
+        _ => None,
+    };
     take_line(reader, found)
 }

@@ -9,11 +9,11 @@ use Rattle.memchr.specs.Find.{Nowhere, NoneBefore, Passes, is_byte}
 use Rattle.sb_base.specs.Lines.{TextLine, lines_of, onto_line, words_of, spaced, joined, AreLines, IsEnded, Lacks}
 
 -- what the search for a byte says: it stands nowhere, or its first place parts the text
-pub lacks_all : (c : ℕ) (text : List ℕ) → Nowhere (Passes (is_byte c) text) 0 (length text) → Lacks c text
+lacks_all : (c : ℕ) (text : List ℕ) → Nowhere (Passes (is_byte c) text) 0 (length text) → Lacks c text
 lacks_all c [] h = tt
 lacks_all c (b ∷ bs) h = (false_from_ne_true (b == c) (h 0 (omega arith) (omega arith)), lacks_all c bs (λ k low high. h (suc k) (omega arith) (omega arith)))
 
-pub lacks_before : (c : ℕ) (text : List ℕ) (end : ℕ) → NoneBefore (Passes (is_byte c) text) 0 (length text) end → Lacks c (take end text)
+lacks_before : (c : ℕ) (text : List ℕ) (end : ℕ) → NoneBefore (Passes (is_byte c) text) 0 (length text) end → Lacks c (take end text)
 lacks_before c text zero h = tt
 lacks_before c [] (suc end) h = tt
 lacks_before c (b ∷ bs) (suc end) h = (
@@ -26,7 +26,7 @@ parted_at c [] end l is = absurd (omega arith)
 parted_at c (b ∷ bs) zero l is = let same : b ≡ c = grind (arith, nat_tests, is) in rw same refl
 parted_at c (b ∷ bs) (suc end) l is = ap (λ r. b ∷ r) (parted_at c bs end (omega arith) is)
 
-pub parted : (c : ℕ) (text : List ℕ) (end : ℕ) → NoneBefore (Passes (is_byte c) text) 0 (length text) end × Passes (is_byte c) text end → text ≡ take end text ++ c ∷ take (length text - (end + 1)) (drop (end + 1) text)
+parted : (c : ℕ) (text : List ℕ) (end : ℕ) → NoneBefore (Passes (is_byte c) text) 0 (length text) end × Passes (is_byte c) text end → text ≡ take end text ++ c ∷ take (length text - (end + 1)) (drop (end + 1) text)
 parted c text end first =
     let next : suc end ≡ end + 1 = omega arith in
     let behind : drop (suc end) text ≡ take (length text - (end + 1)) (drop (end + 1) text) = ap (λ (n : ℕ). drop n text) next ∙ sym (take_rest text (end + 1)) in
@@ -45,6 +45,14 @@ lines_none x (y ∷ ys) h = rw (h.0, lines_none y ys h.1) refl
 pub lines_none_of : (xs : List ℕ) → Lacks 10 xs → 0 < length xs → lines_of xs ≡ record { text = xs; whole = false } ∷ []
 lines_none_of [] h l = absurd (omega arith)
 lines_none_of (x ∷ xs) h l = lines_none x xs h
+
+-- a text that is cut at its first line feed, and one without any
+pub lines_cut : (text : List ℕ) (end : ℕ) → NoneBefore (Passes (is_byte 10) text) 0 (length text) end × Passes (is_byte 10) text end
+    → lines_of text ≡ record { text = take end text; whole = true } ∷ lines_of (take (length text - (end + 1)) (drop (end + 1) text))
+lines_cut text end first = ap lines_of (parted 10 text end first) ∙ lines_at (take end text) _ (lacks_before 10 text end first.0)
+
+pub lines_uncut : (text : List ℕ) → Nowhere (Passes (is_byte 10) text) 0 (length text) → 0 < length text → lines_of text ≡ record { text = text; whole = false } ∷ []
+lines_uncut text h l = lines_none_of text (lacks_all 10 text h) l
 
 pub words_at : (xs ys : List ℕ) → Lacks 32 xs → words_of (xs ++ 32 ∷ ys) ≡ xs ∷ words_of ys
 words_at xs ys h = slice_split_at _ xs 32 ys (All-from_recursion _ xs h) refl

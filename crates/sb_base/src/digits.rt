@@ -2,7 +2,7 @@
 
 ghost use Rattle.std.specs.Prelude.{◌≡◌, ◌≤◌, ◌<◌, ◌+◌, ◌*◌, ◌-◌, ◌==◌, ◌^◌, IfSome, IfNone, IfOk, not, nat_le, length, true};
 ghost use Rattle.std.specs.List.{position, AllByRecursion};
-ghost use Rattle.sb_base.specs.Digits.{is_dec, is_hex, digit_of, number_from, hex_answer, dec_answer, capped};
+ghost use Rattle.sb_base.specs.Digits.{is_dec, is_hex, digit_of, hex_digit, number_from, hex_answer, dec_answer, capped};
 
 /// Why digits are no number of the wanted form.
 #[derive(Clone, Copy, PartialEq, Eq)]
@@ -27,7 +27,7 @@ fn is_hexadecimal(byte: u8) -> bool
     is_decimal(byte) || (byte >= b'A' && byte <= b'F')
 }
 
-/// The number that a hexadecimal digit stands for.
+// The number that a hexadecimal digit stands for.
 fn value_of(digit: u8) -> u8
     requires { is_hex digit ≡ true }
     ensures value { result ≡ digit_of digit }
@@ -40,7 +40,7 @@ fn value_of(digit: u8) -> u8
     }
 }
 
-/// The number that at most eight hexadecimal digits stand for.
+// The number that at most eight hexadecimal digits stand for.
 fn hex_number(digits: &[u8]) -> u32
     requires short { length digits.now ≤ 8 }
     requires digits { AllByRecursion (λ b. is_hex b ≡ true) digits.now }
@@ -54,7 +54,7 @@ fn hex_number(digits: &[u8]) -> u32
     number
 }
 
-/// Where the first byte stands that is no hexadecimal digit.
+// Where the first byte stands that is no hexadecimal digit.
 fn bad_hex(text: &[u8]) -> Option<usize>
     ensures at { result ≡ position (λ b. not (is_hex b)) text.now }
     ensures all { IfNone result (AllByRecursion (λ b. is_hex b ≡ true) text.now) }
@@ -62,7 +62,7 @@ fn bad_hex(text: &[u8]) -> Option<usize>
     text.iter().position(|byte| !is_hexadecimal(*byte))
 }
 
-/// Where the first byte stands that is no decimal digit.
+// Where the first byte stands that is no decimal digit.
 fn bad_dec(text: &[u8]) -> Option<usize>
     ensures at { result ≡ position (λ b. not (is_dec b)) text.now }
     ensures all { IfNone result (AllByRecursion (λ b. is_dec b ≡ true) text.now) }
@@ -88,7 +88,7 @@ pub fn read_hex(text: &[u8], digits: usize) -> Result<u32, DigitFault>
     }
 }
 
-/// A number with one more decimal digit, if it is at most `most`.
+// A number with one more decimal digit, if it is at most `most`.
 fn with_digit(number: u64, digit: u64, most: u64) -> Option<u64>
     ensures some { IfSome result (λ n. (n ≡ 10 * number + digit) × (n ≤ most)) }
     ensures none { IfNone result (most < 10 * number + digit) }
@@ -101,7 +101,7 @@ fn with_digit(number: u64, digit: u64, most: u64) -> Option<u64>
     }
 }
 
-/// The number that decimal digits stand for, if it is at most `most`.
+// The number that decimal digits stand for, if it is at most `most`.
 fn dec_number(digits: &[u8], most: u64) -> Result<u64, DigitFault>
     requires { AllByRecursion (λ b. is_dec b ≡ true) digits.now }
     ensures { result ≡ capped (number_from 10 0 digits.now) most }
@@ -134,5 +134,17 @@ pub fn read_dec(text: &[u8], most: u64) -> Result<u64, DigitFault>
     match bad_dec(text) {
         Some(at) => Err(DigitFault::BadDigit(at)),
         None => dec_number(text, most),
+    }
+}
+
+/// The upper-case hexadecimal digit that stands for a number.
+pub fn hex_glyph(value: u8) -> u8
+    requires { value < 16 }
+    ensures { result ≡ hex_digit value }
+{
+    if value < 10 {
+        b'0' + value
+    } else {
+        b'A' + (value - 10)
     }
 }

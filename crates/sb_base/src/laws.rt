@@ -1,30 +1,19 @@
-//! Laws of the definitions that readers and writers share. Each function does nothing; its contract is the law.
+//! Laws of the definitions that readers and writers share. The function does nothing; its contract is the laws.
 
 ghost use Rattle.sb_base.specs.Spelling.{HexIsRead, HexIsSpelled, DecimalIsRead, DecimalIsSpelled, LinesAreRead, LinesMakeText, LinesOfTextAreLines, SizesAreLengths, WordsAreRead};
 ghost use Rattle.sb_base.specs.Writing.{WritesLines};
 
-/// Hexadecimal digits: each number has one text of a length, and it is read as that number.
-pub fn hex_spelling()
-    ensures read { HexIsRead }
-    ensures spelled { HexIsSpelled }
-{}
-
-/// Decimals: each number has one text, and it is read as that number.
-pub fn decimal_spelling()
-    ensures read { DecimalIsRead }
-    ensures spelled { DecimalIsSpelled }
-{}
-
-/// Lines and words are read from the text that they make up, and each text is made up of its lines.
-pub fn line_spelling()
+/// Each number has one text of hexadecimal digits of a length, and one in decimal, and each is read as that number. Lines and words
+/// are read from the text that they make up, and each text is made up of its lines. A writer appends the text of each line.
+pub fn spelling()
+    ensures hex_read { HexIsRead }
+    ensures hex_spelled { HexIsSpelled }
+    ensures decimal_read { DecimalIsRead }
+    ensures decimal_spelled { DecimalIsSpelled }
     ensures lines { LinesAreRead }
     ensures text { LinesMakeText }
     ensures are_lines { LinesOfTextAreLines }
     ensures sizes { SizesAreLengths }
     ensures words { WordsAreRead }
-{}
-
-/// A writer appends the text of each line.
-pub fn line_writing()
-    ensures { WritesLines }
+    ensures writing { WritesLines }
 {}

@@ -8,7 +8,7 @@ pub mod memory;
 pub mod outside;
 pub mod writer;
 
-pub use digits::{DigitFault, read_dec, read_hex};
+pub use digits::{DigitFault, hex_glyph, read_dec, read_hex};
 pub use lines::{Line, LineReader, Words};
 pub use memory::{MemFiles, MemSink};
 pub use outside::{FileFault, Files, Sink, SinkFault, put_all};

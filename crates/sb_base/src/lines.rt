@@ -36,7 +36,7 @@ impl<'a> Model for LineReader<'a> {
     ghost invariant = { λ r. r.at + length r.rest.now < 2 ^ 64 };
 }
 
-/// What stands before the first such byte, and what stands behind it.
+// What stands before the first such byte, and what stands behind it.
 fn cut(text: &[u8], at: u8) -> Option<(&[u8], &[u8])>
     ensures none { IfNone result (Lacks at text.now) }
     ensures some { IfSome result (λ r. text.now ≡ r.0.now ++ at ∷ r.1.now) }
@@ -46,33 +46,23 @@ fn cut(text: &[u8], at: u8) -> Option<(&[u8], &[u8])>
     Some((&text[..end], &text[end + 1..]))
 }
 
-/// The same for a line feed. Lines are often long, so that it is sought in many bytes at once, which takes longer where it is near.
-#[tactic(auto, using(crate::proofs::Splitting::lacks_all, crate::proofs::Splitting::lacks_before, crate::proofs::Splitting::parted))]
-fn cut_line(text: &[u8]) -> Option<(&[u8], &[u8])>
-    ensures none { IfNone result (Lacks 10 text.now) }
-    ensures some { IfSome result (λ r. text.now ≡ r.0.now ++ 10 ∷ r.1.now) }
-    ensures first { IfSome result (λ r. Lacks 10 r.0.now) }
-{
-    let end = memchr(b'\n', text)?;
-    Some((&text[..end], &text[end + 1..]))
-}
-
-/// The first line of a text that isn't empty, and the text behind it.
-#[tactic(auto, using(crate::proofs::Splitting::lines_at, crate::proofs::Splitting::lines_none_of))]
+// The first line of a text that isn't empty, and the text behind it. Lines are often long, so that their end is sought in many
+// bytes at once, which takes longer where it is near.
+#[tactic(auto, using(crate::proofs::Splitting::lines_cut, crate::proofs::Splitting::lines_uncut))]
 fn first_of(text: &[u8], at: usize) -> (Line<'_>, &[u8])
     requires { 0 < length text.now }
     ensures lines { lines_of text.now ≡ record { text = result.0.text.now; whole = result.0.whole } ∷ lines_of result.1.now }
     ensures at { result.0.at ≡ at }
     ensures size { size_of (record { text = result.0.text.now; whole = result.0.whole }) + length result.1.now ≡ length text.now }
 {
-    match cut_line(text) {
-        Some((line, rest)) => (
+    match memchr(b'\n', text) {
+        Some(end) => (
             Line {
                 at,
-                text: line,
+                text: &text[..end],
                 whole: true,
             },
-            rest,
+            &text[end + 1..],
         ),
         None => (
             Line {

@@ -14,7 +14,7 @@ use crate::outside::{FileFault, Files, Sink, SinkFault};
 use std::alloc::{AllocError, Global};
 use std::marker::Model;
 
-/// A file in memory.
+// A file in memory.
 #[derive(Drop)]
 struct File {
     name: String,
@@ -89,7 +89,7 @@ impl MemFiles {
     }
 }
 
-/// The file that was added last under a name.
+// The file that was added last under a name.
 fn find_file<'a>(files: &'a [File], name: &str) -> Option<&'a File>
     ensures { option_copied result ≡ find (λ f. bytes_eq f.name name.now) files.now }
 {
@@ -101,7 +101,7 @@ fn find_file<'a>(files: &'a [File], name: &str) -> Option<&'a File>
     None
 }
 
-/// The bytes that are held under a name.
+// The bytes that are held under a name.
 fn bytes_under<'a>(files: &'a [File], name: &str) -> Option<&'a [u8]>
     ensures held { IfSome result (λ b. held_in files.now name.now ≡ Bytes b.now) }
     ensures missing { IfNone result (held_in files.now name.now ≡ Missing) }
@@ -112,7 +112,7 @@ fn bytes_under<'a>(files: &'a [File], name: &str) -> Option<&'a [u8]>
     }
 }
 
-/// Whether a call is among those listed.
+// Whether a call is among those listed.
 fn has_call(calls: &[u32], call: u64) -> bool
     ensures { result ≡ is_listed call calls.now }
 {
@@ -124,7 +124,7 @@ fn has_call(calls: &[u32], call: u64) -> bool
     false
 }
 
-/// A copy of bytes that are at most `cap`.
+// A copy of bytes that are at most `cap`.
 fn copy_within(alloc: Global, bytes: &[u8], cap: usize) -> Result<Vec<u8>, FileFault>
     ensures exact { Answers (λ v. v.items) NoMemory result (within (Bytes bytes.now) cap) }
     ensures bytes { IfOk result (λ v. v.items ≡ bytes.now) }
@@ -200,26 +200,16 @@ impl Model for MemSink {
     ghost view = { λ m. record { bytes = m.taken.items; calls = m.calls; failing = m.failing.items; shorts = m.shorts.items; faults = m.faults } };
 }
 
-/// The limit that is listed for a call.
-fn find_short(shorts: &[(u32, usize)], call: u64) -> Option<&(u32, usize)>
-    ensures { option_copied result ≡ limit_of call shorts.now }
-{
-    for short in shorts {
-        if u64::from(short.0) == call {
-            return Some(short);
-        }
-    }
-    None
-}
-
-/// How many of the bytes offered a call takes.
+// How many of the bytes offered a call takes: no more than the limit that is listed for it.
 fn allowed(shorts: &[(u32, usize)], call: u64, offered: usize) -> usize
     ensures { result ≡ limited (limit_of call shorts.now) offered }
 {
-    match find_short(shorts, call) {
-        Some(short) => short.1.min(offered),
-        None => offered,
+    for short in shorts {
+        if u64::from(short.0) == call {
+            return short.1.min(offered);
+        }
     }
+    offered
 }
 
 impl MemSink {

@@ -1,9 +1,10 @@
 //! Lines of words, written one after the other.
 
 ghost use Rattle.std.specs.Prelude.{◌≡◌, ◌≤◌, ◌<◌, ◌^◌, [], ◌∷◌, ◌++◌, take, OnOk, OnErr, false, decimal};
-ghost use Rattle.sb_base.specs.Digits.{hex_digit, hex_digits};
+ghost use Rattle.sb_base.specs.Digits.{hex_digits};
 ghost use Rattle.sb_base.specs.Writing.{with_word, with_end};
 
+use crate::digits::hex_glyph;
 use std::alloc::{AllocError, Global};
 use std::marker::Model;
 
@@ -24,7 +25,7 @@ impl Model for LineWriter {
     ghost view = { λ w. record { bytes = w.bytes.items; begun = w.begun } };
 }
 
-/// Appends a space and a text, or nothing.
+// Appends a space and a text, or nothing.
 fn append_divided(bytes: &mut Vec<u8>, text: &[u8]) -> Result<(), AllocError>
     ensures appended { OnOk result (bytes.new.items ≡ bytes.old.items ++ 32 ∷ text.now) }
     ensures refused { OnErr result (bytes.new.items ≡ bytes.old.items) }
@@ -40,19 +41,7 @@ fn append_divided(bytes: &mut Vec<u8>, text: &[u8]) -> Result<(), AllocError>
     }
 }
 
-/// An upper-case hexadecimal digit.
-fn hex_glyph(value: u8) -> u8
-    requires { value < 16 }
-    ensures { result ≡ hex_digit value }
-{
-    if value < 10 {
-        b'0' + value
-    } else {
-        b'A' + (value - 10)
-    }
-}
-
-/// So many hexadecimal digits of a number, at the front of what is given.
+// So many hexadecimal digits of a number, at the front of what is given.
 fn hex_glyphs(number: u32, digits: usize) -> [u8; 8]
     requires { digits ≤ 8 }
     ensures { take digits result ≡ hex_digits number digits }

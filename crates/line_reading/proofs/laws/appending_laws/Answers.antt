@@ -2,4 +2,4 @@ use Rattle.line_reading.proofs.Appending.{line_is_appended, line_is_part, part_o
 use Rattle.line_reading.proofs.laws.appending_laws.Goals as goal
 
 pub returns : goal.returns
-returns c = record { line = line_is_appended c.line_writing.ensures; part = line_is_part c.line_writing.ensures; longer = part_of_more; behind = part_behind }
+returns c = record { line = line_is_appended c.spelling.ensures.writing; part = line_is_part c.spelling.ensures.writing; longer = part_of_more; behind = part_behind }
