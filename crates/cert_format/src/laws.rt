@@ -5,7 +5,7 @@ ghost use Rattle.cert_format.specs.Exact.{ReadIsSpelled, SpelledIsRead, OneText,
 ghost use Rattle.cert_format.specs.Refusals.{ReadIsDue};
 
 use cert_words::laws::key_words;
-use indirect_targets::laws::entry_words;
+use indirect_targets::laws::list_texts;
 use line_reading::laws::word_laws;
 use mask_states::laws::keys_are_ordered;
 use witness_replay::laws::{reading_is_exact, reading_is_text};
@@ -37,7 +37,7 @@ pub fn certificate_texts()
     word_laws();
     instance_lines();
     node_lines();
-    entry_words();
+    list_texts();
     keys_are_ordered();
     reading_is_exact();
     reading_is_text();
@@ -50,7 +50,7 @@ pub fn claims_keep()
     word_laws();
     instance_lines();
     node_lines();
-    entry_words();
+    list_texts();
     keys_are_ordered();
     reading_is_exact();
     reading_is_text();

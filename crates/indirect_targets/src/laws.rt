@@ -1,13 +1,16 @@
-//! Laws of the texts of assumption lists, and of targets. Each function does nothing; its contract is the law.
+//! Laws of the texts of assumption lists, and of targets. Each function does nothing; its contract is the laws.
 
 ghost use Rattle.indirect_targets.specs.Exact.{ReadingIsExact, RefusedIsStuck, OneText, EntryWords};
 ghost use Rattle.indirect_targets.specs.Targets.{TargetsAreThoseOfMembers};
 
 use line_reading::laws::word_laws;
 
-/// The words of an entry are read as it, and words that are read are those of the entry.
-pub fn entry_words()
-    ensures { EntryWords }
+/// The words of an entry are read as it, and words that are read are those of the entry. No text is that of two lists, and a line
+/// that is told is the first one at which no list can go on.
+pub fn list_texts()
+    ensures words { EntryWords }
+    ensures one { OneText }
+    ensures stuck { RefusedIsStuck }
 {
     word_laws();
 }
@@ -15,20 +18,6 @@ pub fn entry_words()
 /// What is read of a text is what is due by the spelling of lists, and nothing else is due.
 pub fn reading_is_exact()
     ensures { ReadingIsExact }
-{
-    word_laws();
-}
-
-/// A line that is told is the first one at which no list can go on.
-pub fn refused_is_stuck()
-    ensures { RefusedIsStuck }
-{
-    word_laws();
-}
-
-/// No text is that of two lists.
-pub fn one_text()
-    ensures { OneText }
 {
     word_laws();
 }

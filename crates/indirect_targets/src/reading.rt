@@ -1,6 +1,6 @@
 //! The reader of assumption lists.
 
-ghost use Rattle.std.specs.Prelude.{◌≡◌, ◌<◌, ℕ, List, Result, true, Some, None, IfSome, IfOk, length, ◌+◌, ◌&&◌, nat_le};
+ghost use Rattle.std.specs.Prelude.{◌≡◌, List, Result, true, Some, None, IfSome, IfOk, length, ◌&&◌, nat_le, if◌then◌else◌};
 ghost use Rattle.std.specs.List.{list_all};
 ghost use Rattle.std.specs.Option.{option_map};
 ghost use Rattle.avr_model.specs.declared.assumption.Entry.{Entry};
@@ -9,11 +9,11 @@ ghost use Rattle.avr_model.specs.Vectors as vectors;
 ghost use Rattle.sb_base.specs.Answers.{Answers};
 ghost use Rattle.sb_base.specs.Lines.{words_of};
 ghost use Rattle.vector_table.specs.Entries as entries;
-ghost use Rattle.vector_table.specs.Entries.{ascends, is_word, most_entries};
+ghost use Rattle.vector_table.specs.Entries.{ascends, is_word};
 ghost use Rattle.indirect_targets.specs.declared.fault.AssumeText.{AssumeText};
 ghost use Rattle.indirect_targets.specs.declared.fault.AssumeText.TheVariants as fault;
 ghost use Rattle.indirect_targets.specs.Exact.{IsDue, IsDueUnlessMemory};
-ghost use Rattle.indirect_targets.specs.Reading.{numbers_in, listed_in, alone_in, pairs_in, alone_by, numbered_in, entry_in, next_by, placed, with_line, entries_in};
+ghost use Rattle.indirect_targets.specs.Reading.{numbers_in, listed_in, alone_by, numbered_in, entry_in, with_line, entries_in};
 
 use crate::fault::AssumeText;
 use crate::laws::reading_is_exact;
@@ -25,13 +25,13 @@ use sb_base::{LineReader, Words, read_hex};
 use std::alloc::{AllocError, Global};
 use vector_table::{AssumeFault, Assumptions, is_protected};
 
-/// The most entries of a list.
+// The most entries of a list.
 const MOST_ENTRIES: usize = 4_096;
 
-/// The most items of an entry.
+// The most items of an entry.
 const MOST_ITEMS: usize = 64;
 
-/// The numbers of all words that are left, in four digits each. None where a word is no such number.
+// The numbers of all words that are left, in four digits each. None where a word is no such number.
 #[tactic(auto, using(crate::proofs::Numbers::numbers_more, crate::proofs::Numbers::no_number, crate::proofs::Numbers::numbers_end))]
 fn numbers_of(alloc: Global, words: &mut Words<'_>) -> Result<Option<Vec<u16>>, AllocError>
     ensures { IfOk result (λ o. option_map (λ v. v.items) o ≡ numbers_in words.old) }
@@ -46,61 +46,29 @@ fn numbers_of(alloc: Global, words: &mut Words<'_>) -> Result<Option<Vec<u16>>, 
     Ok(Some(numbers))
 }
 
-/// The words behind `jump`.
-fn jump_of(alloc: Global, words: &mut Words<'_>) -> Result<Option<Entry>, AllocError>
-    ensures { IfOk result (λ o. o ≡ option_map (λ l. entry.Jump l.0 l.1) (listed_in words.old)) }
+// The words behind `jump`, or behind `store`.
+fn listed_of(alloc: Global, words: &mut Words<'_>, jump: bool) -> Result<Option<Entry>, AllocError>
+    ensures { IfOk result (λ o. o ≡ option_map (λ l. if jump then entry.Jump l.0 l.1 else entry.Store l.0 l.1) (listed_in words.old)) }
 {
     let Some(site) = hex_word(words, 4) else {
         return Ok(None);
     };
     match numbers_of(alloc, words)? {
-        Some(numbers) => Ok(Some(Entry::Jump(site as u16, Listed::new(numbers)))),
+        Some(words) if jump => Ok(Some(Entry::Jump(site as u16, Listed::new(words)))),
+        Some(addresses) => Ok(Some(Entry::Store(site as u16, Listed::new(addresses)))),
         None => Ok(None),
     }
 }
 
-/// The words behind `store`.
-fn store_of(alloc: Global, words: &mut Words<'_>) -> Result<Option<Entry>, AllocError>
-    ensures { IfOk result (λ o. o ≡ option_map (λ l. entry.Store l.0 l.1) (listed_in words.old)) }
-{
-    let Some(site) = hex_word(words, 4) else {
-        return Ok(None);
-    };
-    match numbers_of(alloc, words)? {
-        Some(numbers) => Ok(Some(Entry::Store(site as u16, Listed::new(numbers)))),
-        None => Ok(None),
-    }
-}
-
-/// A site behind which nothing stands.
-fn alone_of(words: &mut Words<'_>) -> Option<u16>
-    ensures { result ≡ alone_in words.old }
-{
-    let site = hex_word(words, 4)?;
-    if is_over(words) {
-        Some(site as u16)
-    } else {
-        None
-    }
-}
-
-/// The entry `pairs`, behind which nothing stands.
-fn pairs_of(words: &mut Words<'_>) -> Option<Entry>
-    ensures { result ≡ pairs_in words.old }
-{
-    if is_over(words) {
-        Some(Entry::Pairs)
-    } else {
-        None
-    }
-}
-
-/// The entry of a kind that names a site alone.
+// The entry of a kind that names a site alone.
 #[tactic(auto, unfolding(crate::specs::Reading::alone_by))]
 fn alone_by(kind: &[u8], words: &mut Words<'_>) -> Option<Entry>
     ensures { result ≡ alone_by kind.now words.old }
 {
-    let site = alone_of(words)?;
+    let site = hex_word(words, 4)? as u16;
+    if !is_over(words) {
+        return None;
+    }
     if kind == b"prove".as_slice() {
         Some(Entry::Prove(site))
     } else if kind == b"free".as_slice() {
@@ -114,7 +82,7 @@ fn alone_by(kind: &[u8], words: &mut Words<'_>) -> Option<Entry>
     }
 }
 
-/// The entry of a line's text, whatever its numbers are.
+// The entry of a line's text, whatever its numbers are.
 #[tactic(auto, unfolding(crate::specs::Reading::numbered_in))]
 fn numbered_of(alloc: Global, text: &[u8]) -> Result<Option<Entry>, AllocError>
     ensures { IfOk result (λ o. o ≡ numbered_in (words_of text.now)) }
@@ -124,24 +92,28 @@ fn numbered_of(alloc: Global, text: &[u8]) -> Result<Option<Entry>, AllocError>
         return Ok(None);
     };
     if kind == b"pairs".as_slice() {
-        Ok(pairs_of(&mut words))
+        if is_over(&mut words) {
+            Ok(Some(Entry::Pairs))
+        } else {
+            Ok(None)
+        }
     } else if kind == b"jump".as_slice() {
-        jump_of(alloc, &mut words)
+        listed_of(alloc, &mut words, true)
     } else if kind == b"store".as_slice() {
-        store_of(alloc, &mut words)
+        listed_of(alloc, &mut words, false)
     } else {
         Ok(alone_by(kind, &mut words))
     }
 }
 
-/// Whether each number is below the next.
+// Whether each number is below the next.
 fn ascends(items: &[u16]) -> bool
     ensures { result ≡ ascends items.now }
 {
     items.is_sorted_by(|item, next| item < next)
 }
 
-/// Whether these are 1 to 64 strictly ascending numbers.
+// Whether these are 1 to 64 strictly ascending numbers.
 fn is_listable(items: &[u16]) -> bool
     ensures { result ≡ (nat_le 1 (length items.now) && nat_le (length items.now) 64 && ascends items.now) }
 {
@@ -170,7 +142,7 @@ fn are_all_protected(items: &[u16]) -> bool
     true
 }
 
-/// Whether an assumption list can hold the entry.
+// Whether an assumption list can hold the entry.
 fn is_entry(entry: &Entry) -> bool
     ensures { result ≡ entries.is_entry entry.now }
 {
@@ -206,48 +178,8 @@ pub fn entry_of(alloc: Global, text: &[u8]) -> Result<Option<Entry>, AllocError>
     }
 }
 
-/// The entry of a line behind so many others.
-#[tactic(auto, unfolding(crate::specs::Reading::next_by))]
-fn next_of(
-    alloc: Global,
-    count: usize,
-    text: &[u8],
-    whole: bool,
-) -> Result<Option<Entry>, AllocError>
-    ensures exact { IfOk result (λ o. o ≡ next_by count (record { text = text.now; whole = whole })) }
-    ensures formed { IfOk result (λ o. IfSome o (λ e. entries.is_entry e ≡ true)) }
-    ensures room { IfOk result (λ o. IfSome o (λ e. count < most_entries)) }
-{
-    if count < MOST_ENTRIES && whole {
-        entry_of(alloc, text)
-    } else {
-        Ok(None)
-    }
-}
-
-/// The number of the line behind those of this list.
-fn next_number(list: &Assumptions) -> u32
-    ensures { result ≡ length list.now + 1 }
-{
-    list.entries().len() as u32 + 1
-}
-
-/// Appends the entry of the next line.
-fn append(list: &mut Assumptions, entry: Entry) -> Result<(), AssumeText>
-    requires room { length list.old < most_entries }
-    requires formed { entries.is_entry entry ≡ true }
-    ensures { Answers (λ u. list.new) fault.Memory result (placed list.old (Some entry)) }
-{
-    let number = next_number(list);
-    match list.push(entry) {
-        Ok(()) => Ok(()),
-        Err(AssumeFault::Order) => Err(AssumeText::Order(number)),
-        Err(AssumeFault::Memory) => Err(AssumeText::Memory),
-    }
-}
-
-/// Reads the next line.
-#[tactic(auto, unfolding(crate::specs::Reading::with_line))]
+// Reads the line behind those of this list.
+#[tactic(auto, unfolding(crate::specs::Reading::with_line, crate::specs::Reading::next_by))]
 fn read_line(
     alloc: Global,
     list: &mut Assumptions,
@@ -256,13 +188,22 @@ fn read_line(
 ) -> Result<(), AssumeText>
     ensures { Answers (λ u. list.new) fault.Memory result (with_line list.old (record { text = text.now; whole = whole })) }
 {
-    match next_of(alloc, list.entries().len(), text, whole)? {
-        Some(entry) => append(list, entry),
-        None => Err(AssumeText::Malformed(next_number(list))),
+    let before = list.entries().len();
+    let number = before as u32 + 1;
+    if before >= MOST_ENTRIES || !whole {
+        return Err(AssumeText::Malformed(number));
+    }
+    let Some(entry) = entry_of(alloc, text)? else {
+        return Err(AssumeText::Malformed(number));
+    };
+    match list.push(entry) {
+        Ok(()) => Ok(()),
+        Err(AssumeFault::Order) => Err(AssumeText::Order(number)),
+        Err(AssumeFault::Memory) => Err(AssumeText::Memory),
     }
 }
 
-/// Reads all lines.
+// Reads all lines.
 fn read_lines(alloc: Global, text: &[u8]) -> Result<Assumptions, AssumeText>
     ensures { Answers (λ a. a) fault.Memory result (entries_in text.now) }
 {
@@ -277,8 +218,8 @@ fn read_lines(alloc: Global, text: &[u8]) -> Result<Assumptions, AssumeText>
 /// Reads the assumption list whose text this is.
 ///
 /// The text has a line for each entry: `pairs`, `jump SITE WORD ...`, `store SITE ADDRESS ...`, `prove SITE`, `free SITE`,
-/// `never SITE` or `frame SITE`, with word addresses and protected addresses in four upper-case hexadecimal digits, single spaces, and a line feed
-/// behind each line. Where it is the text of no list, the first line at which none can go on is told: `Malformed` where that line
+/// `never SITE` or `frame SITE`, with word addresses and protected addresses in four upper-case hexadecimal digits, single
+/// spaces, and a line feed behind each line. Where it is the text of no list, the first line at which none can go on is told: `Malformed` where that line
 /// isn't of its form or is line 4,097, else `Order`. Source: own.
 pub fn read(alloc: Global, text: &[u8]) -> Result<Assumptions, AssumeText>
     ensures exact { Answers (λ a. a) fault.Memory result (entries_in text.now) }

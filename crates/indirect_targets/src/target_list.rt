@@ -9,7 +9,7 @@ use bit_domain::Tri;
 use std::marker::Model;
 use thiserror::Error;
 
-/// The most words of a list.
+// The most words of a list.
 const MOST_TARGETS: usize = 64;
 
 /// There are more than 64 words.
@@ -35,7 +35,7 @@ impl Model for Targets {
 }
 
 impl Targets {
-    /// The word 0 alone.
+    // The word 0 alone.
     pub(crate) fn zero() -> Targets
         ensures { result ≡ 0 ∷ [] }
     {
@@ -70,7 +70,7 @@ impl Targets {
         self.count += 1;
     }
 
-    /// Each raised by a weight.
+    // Each raised by a weight.
     fn raised(&self, weight: u16) -> Targets
         requires { All (λ n. weight + n < 2 ^ 16) self.now }
         ensures { result ≡ map (λ n. weight + n) self.now }
@@ -83,7 +83,7 @@ impl Targets {
         raised
     }
 
-    /// Each once more after them, raised by a weight.
+    // Each once more after them, raised by a weight.
     fn double(&mut self, weight: u16)
         requires room { length self.old ≤ 32 }
         requires fits { All (λ n. weight + n < 2 ^ 16) self.old }
@@ -96,7 +96,7 @@ impl Targets {
         }
     }
 
-    /// These words without a further bit of this weight, with it, or both.
+    // These words without a further bit of this weight, with it, or both.
     pub(crate) fn with_bit(mut self, bit: Tri, weight: u16) -> Result<Targets, TooMany>
         requires { All (λ n. weight + n < 2 ^ 16) self }
         ensures { Keeps result (with_top bit weight self) }

@@ -9,7 +9,7 @@ use crate::target_list::{Targets, TooMany};
 use bit_domain::laws::numbers_are_permitted;
 use bit_domain::{Tri, TriByte};
 
-/// Bit `i`, from 0 to 13, of the pointer with these bytes.
+// Bit `i`, from 0 to 13, of the pointer with these bytes.
 fn pointer_bit(lo: &TriByte, hi: &TriByte, i: u8) -> Tri
     requires { i < 14 }
     ensures { result ≡ numbers.pointer_bit lo.now hi.now i }
@@ -17,7 +17,7 @@ fn pointer_bit(lo: &TriByte, hi: &TriByte, i: u8) -> Tri
     if i < 8 { lo.bit(i) } else { hi.bit(i - 8) }
 }
 
-/// The words of so many bits, or that they are too many.
+// The words of so many bits, or that they are too many.
 fn words_of(lo: &TriByte, hi: &TriByte, width: u8) -> Result<Targets, TooMany>
     requires { width ≤ 14 }
     ensures { Keeps result (numbers_of (numbers.pointer_bit lo.now hi.now) width) }

@@ -1,7 +1,6 @@
 //! The writer of assumption lists.
 
 ghost use Rattle.std.specs.Prelude.{◌≡◌, ◌∷◌, OnOk, OnErr, false};
-ghost use Rattle.sb_base.specs.Digits.{hex_digits};
 ghost use Rattle.sb_base.specs.Writing.{with_words, with_end};
 ghost use Rattle.line_reading.specs.Appending.{with_text, AppendedPart, WroteWords};
 ghost use Rattle.indirect_targets.specs.Spelling.{number_words, entry_words, text_of};
@@ -12,7 +11,7 @@ use sb_base::LineWriter;
 use std::alloc::AllocError;
 use vector_table::Assumptions;
 
-/// Writes numbers as words.
+// Writes numbers as words.
 fn write_numbers(out: &mut LineWriter, numbers: &[u16]) -> Result<(), AllocError>
     ensures written { OnOk result (out.new ≡ with_words out.old (number_words numbers.now)) }
     ensures refused { OnErr result (WroteWords out.old (number_words numbers.now) out.new) }
@@ -23,7 +22,7 @@ fn write_numbers(out: &mut LineWriter, numbers: &[u16]) -> Result<(), AllocError
     Ok(())
 }
 
-/// Writes the words of an entry: its kind, its site and its items.
+// Writes the words of an entry: its kind, its site and its items.
 fn write_words(
     out: &mut LineWriter,
     kind: &[u8],
@@ -38,7 +37,7 @@ fn write_words(
     write_numbers(out, items)
 }
 
-/// Writes the words of an entry.
+// Writes the words of an entry.
 fn write_entry_words(out: &mut LineWriter, entry: &Entry) -> Result<(), AllocError>
     ensures written { OnOk result (out.new ≡ with_words out.old (entry_words entry.now)) }
     ensures refused { OnErr result (WroteWords out.old (entry_words entry.now) out.new) }
@@ -54,7 +53,7 @@ fn write_entry_words(out: &mut LineWriter, entry: &Entry) -> Result<(), AllocErr
     }
 }
 
-/// Writes the line of an entry.
+// Writes the line of an entry.
 fn write_entry(out: &mut LineWriter, entry: &Entry) -> Result<(), AllocError>
     ensures written { OnOk result (out.new ≡ with_end (with_words out.old (entry_words entry.now))) }
     ensures refused { OnErr result (WroteWords out.old (entry_words entry.now) out.new) }
@@ -63,7 +62,7 @@ fn write_entry(out: &mut LineWriter, entry: &Entry) -> Result<(), AllocError>
     out.end_line()
 }
 
-/// Writes the lines of entries.
+// Writes the lines of entries.
 fn write_entries(out: &mut LineWriter, entries: &[Entry]) -> Result<(), AllocError>
     requires { out.old.begun ≡ false }
     ensures written { OnOk result (out.new ≡ with_text out.old (text_of entries.now)) }
