@@ -2,10 +2,8 @@
 
 ghost use Rattle.std.specs.Prelude.{◌≡◌, ◌<◌, ◌+◌, IfSome};
 ghost use Rattle.std.specs.Option.{option_map};
-ghost use Rattle.line_reading.specs.Letters.{digits_at};
 ghost use Rattle.pair_domain.specs.Tags.{IsNear};
-ghost use Rattle.line_reading.specs.Reading.{word_by};
-ghost use Rattle.pair_words.specs.Reading.{register_at, pair_at, are_near, ends_in, sum_by, sum_in, side_at, compare_behind, compare_by, compare_in, alone, zero_by, zero_in, is_inside, inside_at, interval_at, intervals_at, intervals_in, facts_at};
+ghost use Rattle.pair_words.specs.Reading.{register_at, pair_at, ends_in, sum_in, side_at, compare_behind, compare_in, alone, zero_in, is_inside, inside_at, interval_at, intervals_at, intervals_in, facts_at};
 
 use line_reading::Letters;
 use pair_domain::{CompareTag, Interval, PairFacts, Side, SumTag, ZeroTag};
@@ -20,7 +18,7 @@ pub fn register_of(letters: &mut Letters<'_>) -> Option<u8>
     if register < 32 { Some(register) } else { None }
 }
 
-/// The number of a pair, which is even.
+// The number of a pair, which is even.
 #[tactic(auto, unfolding(crate::specs::Reading::pair_at))]
 fn pair_of(letters: &mut Letters<'_>) -> Option<u8>
     ensures { option_map (λ r. (r, letters.new)) result ≡ pair_at letters.old }
@@ -33,14 +31,7 @@ fn pair_of(letters: &mut Letters<'_>) -> Option<u8>
     }
 }
 
-/// Whether ends are in order and less than 65,535 apart.
-fn are_near(low: u32, high: u32) -> bool
-    ensures { result ≡ are_near low high }
-{
-    low <= high && u64::from(high) < u64::from(low) + 65_535
-}
-
-/// A pair and two ends, behind which nothing stands.
+// A pair and two ends, behind which nothing stands.
 #[tactic(auto, unfolding(crate::specs::Reading::ends_in))]
 fn ends_of(letters: &mut Letters<'_>) -> Option<(u8, u32, u32)>
     ensures exact { result ≡ ends_in letters.old }
@@ -49,30 +40,14 @@ fn ends_of(letters: &mut Letters<'_>) -> Option<(u8, u32, u32)>
     let pair = pair_of(letters)?;
     let low = letters.digits(5)?;
     let high = letters.digits(5)?;
-    if are_near(low, high) && letters.is_end() {
+    if low <= high && high - low < 65_535 && letters.is_end() {
         Some((pair, low, high))
     } else {
         None
     }
 }
 
-/// The sum tag that a letter begins, which isn't that of none.
-fn sum_by(letter: u8, letters: &mut Letters<'_>) -> Option<SumTag>
-    ensures exact { result ≡ sum_by letter letters.old }
-    ensures near { IfSome result IsNear }
-{
-    if letter == b'u' {
-        let (pair, low, high) = ends_of(letters)?;
-        Some(SumTag::Up(pair, low, high))
-    } else if letter == b'd' {
-        let (pair, low, high) = ends_of(letters)?;
-        Some(SumTag::Down(pair, low, high))
-    } else {
-        None
-    }
-}
-
-/// The sum tag of a word.
+// The sum tag of a word.
 #[tactic(auto, unfolding(crate::specs::Reading::sum_in))]
 fn sum_of(word: &[u8]) -> Option<SumTag>
     ensures exact { result ≡ sum_in word.now }
@@ -83,10 +58,18 @@ fn sum_of(word: &[u8]) -> Option<SumTag>
     }
     let mut letters = Letters::new(word);
     let letter = letters.next()?;
-    sum_by(letter, &mut letters)
+    if letter == b'u' {
+        let (pair, low, high) = ends_of(&mut letters)?;
+        Some(SumTag::Up(pair, low, high))
+    } else if letter == b'd' {
+        let (pair, low, high) = ends_of(&mut letters)?;
+        Some(SumTag::Down(pair, low, high))
+    } else {
+        None
+    }
 }
 
-/// The right side of a comparison.
+// The right side of a comparison.
 #[tactic(auto, unfolding(crate::specs::Reading::side_at))]
 fn side_of(letters: &mut Letters<'_>) -> Option<Side>
     ensures { option_map (λ s. (s, letters.new)) result ≡ side_at letters.old }
@@ -101,7 +84,7 @@ fn side_of(letters: &mut Letters<'_>) -> Option<Side>
     }
 }
 
-/// The compare tag of this register and side, behind which nothing stands, or the register beside the side.
+// The compare tag of this register and side, behind which nothing stands, or the register beside the side.
 #[tactic(auto, unfolding(crate::specs::Reading::compare_behind))]
 fn compare_behind(register: u8, side: Side, letters: &mut Letters<'_>) -> Option<CompareTag>
     ensures { result ≡ compare_behind register side letters.old }
@@ -117,18 +100,8 @@ fn compare_behind(register: u8, side: Side, letters: &mut Letters<'_>) -> Option
     }
 }
 
-/// The compare tag, which isn't that of none.
-#[tactic(auto, unfolding(crate::specs::Reading::compare_by))]
-fn compare_by(letters: &mut Letters<'_>) -> Option<CompareTag>
-    ensures { result ≡ compare_by letters.old }
-{
-    let register = register_of(letters)?;
-    let side = side_of(letters)?;
-    compare_behind(register, side, letters)
-}
-
-/// The compare tag of a word.
-#[tactic(auto, unfolding(crate::specs::Reading::compare_in))]
+// The compare tag of a word.
+#[tactic(auto, unfolding(crate::specs::Reading::compare_in, crate::specs::Reading::compare_by))]
 fn compare_of(word: &[u8]) -> Option<CompareTag>
     ensures { result ≡ compare_in word.now }
 {
@@ -136,10 +109,12 @@ fn compare_of(word: &[u8]) -> Option<CompareTag>
         return Some(CompareTag::None);
     }
     let mut letters = Letters::new(word);
-    compare_by(&mut letters)
+    let register = register_of(&mut letters)?;
+    let side = side_of(&mut letters)?;
+    compare_behind(register, side, &mut letters)
 }
 
-/// The number, where nothing stands behind it.
+// The number, where nothing stands behind it.
 fn alone(number: Option<u8>, letters: &Letters<'_>) -> Option<u8>
     ensures { result ≡ alone (option_map (λ r. (r, letters.now)) number) }
 {
@@ -147,22 +122,7 @@ fn alone(number: Option<u8>, letters: &Letters<'_>) -> Option<u8>
     if letters.is_end() { Some(number) } else { None }
 }
 
-/// The zero tag that a letter begins, which isn't that of none.
-fn zero_by(letter: u8, letters: &mut Letters<'_>) -> Option<ZeroTag>
-    ensures { result ≡ zero_by letter letters.old }
-{
-    if letter == b'b' {
-        let register = register_of(letters);
-        Some(ZeroTag::Byte(alone(register, letters)?))
-    } else if letter == b'p' {
-        let pair = pair_of(letters);
-        Some(ZeroTag::Pair(alone(pair, letters)?))
-    } else {
-        None
-    }
-}
-
-/// The zero tag of a word.
+// The zero tag of a word.
 #[tactic(auto, unfolding(crate::specs::Reading::zero_in))]
 fn zero_of(word: &[u8]) -> Option<ZeroTag>
     ensures { result ≡ zero_in word.now }
@@ -172,17 +132,25 @@ fn zero_of(word: &[u8]) -> Option<ZeroTag>
     }
     let mut letters = Letters::new(word);
     let letter = letters.next()?;
-    zero_by(letter, &mut letters)
+    if letter == b'b' {
+        let register = register_of(&mut letters);
+        Some(ZeroTag::Byte(alone(register, &letters)?))
+    } else if letter == b'p' {
+        let pair = pair_of(&mut letters);
+        Some(ZeroTag::Pair(alone(pair, &letters)?))
+    } else {
+        None
+    }
 }
 
-/// Whether ends are in order and lie within the hull, and aren't its ends.
+// Whether ends are in order and lie within the hull, and aren't its ends.
 fn is_inside(hull: Interval, low: u16, high: u16) -> bool
     ensures { result ≡ is_inside hull low high }
 {
     hull.low <= low && low <= high && high <= hull.high && !(low == hull.low && high == hull.high)
 }
 
-/// An interval that lies within the hull and isn't it.
+// An interval that lies within the hull and isn't it.
 #[tactic(auto, unfolding(crate::specs::Reading::inside_at))]
 fn inside_of(letters: &mut Letters<'_>, hull: Interval) -> Option<Interval>
     ensures { option_map (λ i. (i, letters.new)) result ≡ inside_at hull letters.old }
@@ -196,20 +164,13 @@ fn inside_of(letters: &mut Letters<'_>, hull: Interval) -> Option<Interval>
     }
 }
 
-/// The number that stands next in two digits, which stay.
-fn next_pair(letters: &Letters<'_>) -> Option<u8>
-    ensures { result ≡ option_map (λ n. n.0) (digits_at 2 letters.now) }
-{
-    let mut ahead = Letters::new(letters.rest());
-    ahead.byte()
-}
-
-/// The interval of a pair with this hull: that behind its number where this stands next, else the hull.
+// The interval of a pair with this hull: that behind its number where this stands next, else the hull.
 #[tactic(auto, unfolding(crate::specs::Reading::interval_at))]
 fn interval_of(letters: &mut Letters<'_>, pair: u8, hull: Interval) -> Option<Interval>
     ensures { option_map (λ i. (i, letters.new)) result ≡ interval_at pair hull letters.old }
 {
-    match next_pair(letters) {
+    let mut ahead = Letters::new(letters.rest());
+    match ahead.byte() {
         Some(next) if next == pair => {
             letters.byte()?;
             inside_of(letters, hull)
@@ -218,7 +179,7 @@ fn interval_of(letters: &mut Letters<'_>, pair: u8, hull: Interval) -> Option<In
     }
 }
 
-/// The intervals of all pairs with these hulls.
+// The intervals of all pairs with these hulls.
 fn intervals_behind(letters: &mut Letters<'_>, hulls: &[Interval; 16]) -> Option<[Interval; 16]>
     ensures { option_map (λ is. (is, letters.new)) result ≡ intervals_at 0 hulls.now letters.old }
 {
@@ -232,7 +193,7 @@ fn intervals_behind(letters: &mut Letters<'_>, hulls: &[Interval; 16]) -> Option
     Some(intervals)
 }
 
-/// The intervals of a word.
+// The intervals of a word.
 #[tactic(auto, unfolding(crate::specs::Reading::intervals_in))]
 fn intervals_of(word: &[u8], hulls: &[Interval; 16]) -> Option<[Interval; 16]>
     ensures { result ≡ intervals_in hulls.now word.now }

@@ -3,14 +3,14 @@
 ghost use Rattle.std.specs.Prelude.{◌≡◌, ◌∷◌, [], ◌++◌, OnOk};
 ghost use Rattle.sb_base.specs.Digits.{hex_digits};
 ghost use Rattle.sb_base.specs.Writing.{with_word, with_words};
-ghost use Rattle.pair_words.specs.Spelling.{ends_text, sum_word, side_text, compare_word, zero_word, interval_text, intervals_text, or_dash, intervals_word, facts_words};
+ghost use Rattle.pair_words.specs.Spelling.{ends_text, sum_word, side_text, compare_word, zero_word, interval_text, intervals_text, intervals_word, facts_words};
 
 use crate::digits::{five_digits, four_digits, two_digits};
 use pair_domain::{CompareTag, Interval, PairFacts, Side, SumTag, ZeroTag};
 use sb_base::LineWriter;
 use std::alloc::{AllocError, Global};
 
-/// A letter, a pair and two ends.
+// A letter, a pair and two ends.
 fn ends_word(letter: u8, pair: u8, low: u32, high: u32) -> [u8; 13]
     ensures { result ≡ letter ∷ ends_text pair low high }
 {
@@ -22,7 +22,7 @@ fn ends_word(letter: u8, pair: u8, low: u32, high: u32) -> [u8; 13]
     ]
 }
 
-/// Writes a sum tag.
+// Writes a sum tag.
 fn write_sum(out: &mut LineWriter, sum: SumTag) -> Result<(), AllocError>
     ensures { OnOk result (out.new ≡ with_word out.old (sum_word sum)) }
 {
@@ -33,7 +33,7 @@ fn write_sum(out: &mut LineWriter, sum: SumTag) -> Result<(), AllocError>
     }
 }
 
-/// The letter and the digits of a side.
+// The letter and the digits of a side.
 fn side_digits(side: Side) -> (u8, u8, u8)
     ensures { side_text side ≡ result.0 ∷ result.1 ∷ result.2 ∷ [] }
 {
@@ -49,7 +49,7 @@ fn side_digits(side: Side) -> (u8, u8, u8)
     }
 }
 
-/// Writes a compare tag.
+// Writes a compare tag.
 fn write_compare(out: &mut LineWriter, compare: CompareTag) -> Result<(), AllocError>
     ensures { OnOk result (out.new ≡ with_word out.old (compare_word compare)) }
 {
@@ -69,7 +69,7 @@ fn write_compare(out: &mut LineWriter, compare: CompareTag) -> Result<(), AllocE
     }
 }
 
-/// Writes a zero tag.
+// Writes a zero tag.
 fn write_zero(out: &mut LineWriter, zero: ZeroTag) -> Result<(), AllocError>
     ensures { OnOk result (out.new ≡ with_word out.old (zero_word zero)) }
 {
@@ -86,7 +86,7 @@ fn write_zero(out: &mut LineWriter, zero: ZeroTag) -> Result<(), AllocError>
     }
 }
 
-/// A pair and its interval.
+// A pair and its interval.
 fn interval_digits(pair: u8, interval: Interval) -> [u8; 10]
     ensures { result ≡ hex_digits pair 2 ++ (hex_digits interval.low 4 ++ hex_digits interval.high 4) }
 {
@@ -96,7 +96,7 @@ fn interval_digits(pair: u8, interval: Interval) -> [u8; 10]
     [r.0, r.1, l.0, l.1, l.2, l.3, h.0, h.1, h.2, h.3]
 }
 
-/// Appends a pair with its interval where this isn't the hull.
+// Appends a pair with its interval where this isn't the hull.
 fn append_interval(
     text: &mut Vec<u8>,
     pair: u8,
@@ -111,7 +111,7 @@ fn append_interval(
     text.extend_from_slice(&interval_digits(pair, interval))
 }
 
-/// Appends all pairs whose intervals aren't the hulls.
+// Appends all pairs whose intervals aren't the hulls.
 fn append_intervals(
     text: &mut Vec<u8>,
     hulls: &[Interval; 16],
@@ -125,18 +125,7 @@ fn append_intervals(
     Ok(())
 }
 
-/// Writes a text, or a dash for none.
-fn write_or_dash(out: &mut LineWriter, text: &[u8]) -> Result<(), AllocError>
-    ensures { OnOk result (out.new ≡ with_word out.old (or_dash text.now)) }
-{
-    if text.is_empty() {
-        out.word(b"-")
-    } else {
-        out.word(text)
-    }
-}
-
-/// Writes the intervals that aren't the hulls.
+// Writes the intervals that aren't the hulls.
 fn write_intervals(
     out: &mut LineWriter,
     alloc: Global,
@@ -147,7 +136,8 @@ fn write_intervals(
 {
     let mut text = Vec::new(alloc);
     match append_intervals(&mut text, hulls, intervals) {
-        Ok(()) => write_or_dash(out, &text),
+        Ok(()) if text.is_empty() => out.word(b"-"),
+        Ok(()) => out.word(&text),
         Err(fault) => Err(fault),
     }
 }

@@ -3,4 +3,4 @@ use Rattle.pair_words.proofs.Numerals.{two}
 use Rattle.pair_words.proofs.digits.two_digits.Goals as goal
 
 pub returns : goal.returns
-returns c = rw (c.glyph.ensures, c.glyph-2.ensures) (two c.args.byte (omega arith))
+returns c = rw (c.hex_glyph.ensures, c.hex_glyph-2.ensures) (two c.args.byte (omega arith))
