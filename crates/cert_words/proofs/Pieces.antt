@@ -1,7 +1,6 @@
 -- The pieces of a word: what is read is spelled so, and what is spelled is read.
-use Rattle.std.proofs.Common.{ℕ, ◌<◌, ◌≤◌, ◌^◌, ◌≡◌, ◌==◌, ◌&&◌, List, [], ◌∷◌, ◌++◌, Bool, true, false, refl, ap, ap₂, sym, ◌∙◌, arith, Some, nat_lt, subst, lit<, append_assoc}
+use Rattle.std.proofs.Common.{ℕ, ◌<◌, ◌≤◌, ◌^◌, ◌≡◌, ◌==◌, ◌&&◌, List, [], ◌∷◌, ◌++◌, Bool, true, false, refl, ap, ap₂, sym, ◌∙◌, arith, Some, subst, lit<, append_assoc}
 use Rattle.std.proofs.lemmas.Bool.{eqb-true, eq-eqb}
-use Rattle.std.proofs.lemmas.Bool.Decides.{nat_tests}
 use Rattle.std.proofs.lemmas.List.{append-nil}
 use Rattle.std.specs.Int.{bit_at}
 use Rattle.std.specs.Int.RustNames.{bit_and}
@@ -19,7 +18,7 @@ use Rattle.bit_domain.specs.declared.bytes.TriByte.{TriByte}
 use Rattle.bit_domain.specs.TriByte.{tri_of}
 use Rattle.bit_domain.specs.Laws.{BytesAreTheirBits, BytesAreSets}
 use Rattle.cert_words.specs.Spelling.{bits_text}
-use Rattle.cert_words.specs.Reading.{tri_byte, bits_at, register_at, offset_in, marked_in}
+use Rattle.cert_words.specs.Reading.{tri_byte, bits_at, offset_in, marked_in}
 
 pub three : (a b c : Bool) → (a && b && c) ≡ true → (a ≡ true) × (b ≡ true) × (c ≡ true)
 three true true c e = (refl, refl, e)
@@ -63,23 +62,6 @@ bits_again k b s t rest =
     let second = digits_again k 2 t.value rest low in
     let inside = eq-eqb (bit_and t.value t.known) t.value t.inside in
     rw (text, first, second, inside) (ap (λ (u : TriByte). Some (u, rest)) (b.is_built t))
-
--- ---- a register's number
-
-pub register_take : WordLaws → (bs : List ℕ) (z : ℕ × List ℕ) → register_at bs ≡ Some z → (bs ≡ hex_digits z.0 2 ++ z.1) × (z.0 < 32)
-unfolding register_at
-register_take k bs z e =
-    let r = bind_some (digits_at 2 bs) _ z e in
-    let last = cond_some (nat_lt r.0.0 32) r.0 z r.2 in
-    let low : r.0.0 < 32 = grind (arith, nat_tests, last.0) in
-    let P : ℕ × List ℕ → Type 0 = λ y. (bs ≡ hex_digits y.0 2 ++ y.1) × (y.0 < 32) in
-    subst P last.1 ((digits_take k 2 bs r.0 r.1).0, low)
-
-pub register_again : WordLaws → (r : ℕ) (rest : List ℕ) → r < 32 → register_at (hex_digits r 2 ++ rest) ≡ Some (r, rest)
-unfolding register_at
-register_again k r rest h =
-    let low : nat_lt r 32 ≡ true = grind (arith, nat_tests, h) in
-    rw (digits_again k 2 r rest (omega (arith, h)), low) refl
 
 -- ---- a decimal, and a number behind a comma and a mark
 

@@ -22,6 +22,7 @@ use Rattle.mask_states.specs.declared.keys.High.{High}
 use Rattle.mask_states.specs.declared.keys.High.TheVariants as high
 use Rattle.mask_states.specs.declared.keys.SpForm.{SpForm}
 use Rattle.mask_states.specs.declared.keys.SpForm.TheVariants.{Closed, Open}
+use Rattle.pair_words.specs.Reading.{register_at}
 use Rattle.certificate.specs.declared.version.Version.{Version}
 use Rattle.certificate.specs.declared.version.Version.TheVariants.{One, Two, Three}
 
@@ -37,10 +38,6 @@ bits_at bs = do
   k ← digits_at 2 bs
   v ← digits_at 2 k.1
   if bit_and v.0 k.0 == v.0 then Some (tri_byte k.0 v.0, v.1) else None
-
--- the number of a register
-unfoldable pub register_at : List ℕ → Option (ℕ × List ℕ)
-register_at bs = digits_at 2 bs >>= λ r. if nat_lt r.0 32 then Some r else None
 
 -- what a letter and what follows it say
 unfoldable pub tag_by : ℕ → List ℕ → Option (Tag × List ℕ)

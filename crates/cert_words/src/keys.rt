@@ -5,19 +5,17 @@ ghost use Rattle.std.specs.Option.{option_map};
 ghost use Rattle.avr_model.specs.State as model;
 ghost use Rattle.mask_states.specs.Keys.{offset_of};
 ghost use Rattle.certificate.specs.Insts.{is_vector_word, fits_kind};
-ghost use Rattle.cert_words.specs.Reading.{form_in};
-ghost use Rattle.line_reading.specs.Reading.{word_by};
-ghost use Rattle.cert_words.specs.KeyReading.{masks_at, flag_at, vector_in, kind_in, inst_key_at, is_root, pick_in, pick_at, node_key_at};
+ghost use Rattle.cert_words.specs.KeyReading.{masks_at, flag_at, kind_in, inst_key_at, is_root, pick_at, node_key_at};
 
-use crate::values::form_of;
+use crate::values::sp_form_of;
 use avr_model::device::WORDS;
 use certificate::Version;
 use line_reading::{Letters, dec_word, hex_word};
-use mask_states::{InstKey, Kind, NodeKey, SpForm};
+use mask_states::{InstKey, Kind, NodeKey};
 use sb_base::{Words, read_dec, read_hex};
 use vector_table::Masks;
 
-/// Enable bits.
+// Enable bits.
 #[tactic(auto, unfolding(crate::specs::KeyReading::masks_at))]
 fn masks_of(words: &mut Words<'_>) -> Option<Masks>
     ensures { option_map (λ m. (m, words.new)) result ≡ masks_at words.old }
@@ -26,7 +24,7 @@ fn masks_of(words: &mut Words<'_>) -> Option<Masks>
     Masks::from_bits(bits)
 }
 
-/// 0 or 1.
+// 0 or 1.
 fn flag_of(words: &mut Words<'_>) -> Option<bool>
     ensures { option_map (λ b. (b, words.new)) result ≡ flag_at words.old }
 {
@@ -34,11 +32,17 @@ fn flag_of(words: &mut Words<'_>) -> Option<bool>
     Some(number == 1)
 }
 
-/// The vector of a word.
-#[tactic(auto, unfolding(crate::specs::KeyReading::vector_in))]
-fn vector_of(word: &[u8]) -> Option<Kind>
-    ensures { result ≡ vector_in word.now }
+// The kind of a word.
+#[tactic(auto, unfolding(crate::specs::KeyReading::kind_in, crate::specs::KeyReading::vector_in))]
+fn kind_of(word: &[u8]) -> Option<Kind>
+    ensures { result ≡ kind_in word.now }
 {
+    if word == b"root".as_slice() {
+        return Some(Kind::Root);
+    }
+    if word == b"call".as_slice() {
+        return Some(Kind::Call);
+    }
     let mut letters = Letters::new(word);
     if letters.next()? != b'v' {
         return None;
@@ -49,21 +53,7 @@ fn vector_of(word: &[u8]) -> Option<Kind>
     }
 }
 
-/// The kind of a word.
-#[tactic(auto, unfolding(crate::specs::KeyReading::kind_in))]
-fn kind_of(word: &[u8]) -> Option<Kind>
-    ensures { result ≡ kind_in word.now }
-{
-    if word == b"root".as_slice() {
-        Some(Kind::Root)
-    } else if word == b"call".as_slice() {
-        Some(Kind::Call)
-    } else {
-        vector_of(word)
-    }
-}
-
-/// Whether the vector begins at this word, where vectors are two words long or one.
+// Whether the vector begins at this word, where vectors are two words long or one.
 fn is_vector_word(vector: u8, entry: u16) -> bool
     requires { 2 ≤ vector }
     ensures { result ≡ is_vector_word vector entry }
@@ -72,7 +62,7 @@ fn is_vector_word(vector: u8, entry: u16) -> bool
     entry == 2 * before || entry == before
 }
 
-/// Whether an instance of this kind can have this entry, these enable bits and this I.
+// Whether an instance of this kind can have this entry, these enable bits and this I.
 fn fits_kind(kind: Kind, entry: u16, masks: Masks, i: bool) -> bool
     ensures { result ≡ fits_kind kind entry masks i }
 {
@@ -118,27 +108,23 @@ pub fn is_root(kind: Kind) -> bool
     }
 }
 
-/// The pick of a word.
+// The pick, for which the first version has no word.
 #[tactic(auto, unfolding(crate::specs::KeyReading::pick_in))]
-fn pick_in(word: &[u8]) -> Option<Option<u8>>
-    ensures { result ≡ pick_in word.now }
-{
-    if word == b"-".as_slice() {
-        return Some(None);
-    }
-    match read_hex(word, 2) {
-        Ok(byte) => Some(Some(byte as u8)),
-        Err(_) => None,
-    }
-}
-
-/// The pick, for which the first version has no word.
 fn pick_of(words: &mut Words<'_>, version: Version) -> Option<Option<u8>>
     ensures { option_map (λ p. (p, words.new)) result ≡ pick_at version words.old }
 {
     match version {
         Version::One => Some(None),
-        Version::Two | Version::Three => pick_in(words.next()?),
+        Version::Two | Version::Three => {
+            let word = words.next()?;
+            if word == b"-".as_slice() {
+                return Some(None);
+            }
+            match read_hex(word, 2) {
+                Ok(byte) => Some(Some(byte as u8)),
+                Err(_) => None,
+            }
+        }
     }
 }
 
@@ -158,7 +144,8 @@ pub fn node_key_of(words: &mut Words<'_>, version: Version, inst: &InstKey) -> O
     ) else {
         return None;
     };
-    let (Some(sp), Some(pick)) = (form_of(form, is_root(inst.kind)), pick_of(words, version)) else {
+    let root = is_root(inst.kind);
+    let (Some(sp), Some(pick)) = (sp_form_of(form, root), pick_of(words, version)) else {
         return None;
     };
     let pc = pc as u16;

@@ -2,37 +2,29 @@
 
 ghost use Rattle.std.specs.Prelude.{◌≡◌, ◌∷◌, [], IfOk};
 ghost use Rattle.std.specs.Option.{option_map};
-ghost use Rattle.cert_words.specs.Reading.{value_in, slot_in, flags_in, carry_in};
+ghost use Rattle.cert_words.specs.Reading.{value_in, slot_in};
 ghost use Rattle.line_reading.specs.Reading.{word_by};
-ghost use Rattle.cert_words.specs.KeyReading.{words_from, flags_at, state_behind, pairs_at, by_state, from_behind, form_at};
+ghost use Rattle.cert_words.specs.KeyReading.{words_from, flags_at, state_behind, pairs_at, form_at};
 
 use crate::values::{carry_of, flags_of, slot_of, value_of};
 use abs_state::{AbsByte, AbsFlags, AbsState};
-use bit_domain::TriByte;
 use certificate::{Version, hulls_of};
 use edge_rules::{HeldState, NodeForm};
 use line_reading::dec_word;
 use pair_domain::Facts;
 use pair_words::facts_of;
 use sb_base::Words;
-use sp_domain::{CarryTag, Slot, Slots};
+use sp_domain::Slots;
 use std::alloc::{AllocError, Global};
 
-/// The value of the next word.
+// The value of the next word.
 fn next_value(words: &mut Words<'_>, version: Version, root: bool) -> Option<AbsByte>
     ensures { option_map (λ v. (v, words.new)) result ≡ word_by (value_in version root) words.old }
 {
     value_of(words.next()?, version, root)
 }
 
-/// The slot of the next word.
-fn next_slot(words: &mut Words<'_>, version: Version, root: bool) -> Option<Slot<AbsByte>>
-    ensures { option_map (λ s. (s, words.new)) result ≡ word_by (slot_in version root) words.old }
-{
-    slot_of(words.next()?, version, root)
-}
-
-/// All registers, of which the first has this value.
+// All registers, of which the first has this value.
 fn registers_of(
     words: &mut Words<'_>,
     version: Version,
@@ -51,7 +43,7 @@ fn registers_of(
     Some(registers)
 }
 
-/// So many slots.
+// So many slots.
 fn slots_of(
     alloc: Global,
     words: &mut Words<'_>,
@@ -63,7 +55,7 @@ fn slots_of(
 {
     let mut slots = Slots::new(alloc);
     for _ in 0..count {
-        let Some(slot) = next_slot(words, version, root) else {
+        let Some(slot) = slot_of(words, version, root) else {
             return Ok(None);
         };
         slots.push(slot)?;
@@ -71,7 +63,7 @@ fn slots_of(
     Ok(Some(slots))
 }
 
-/// The flags and the carry tag.
+// The flags and the carry tag.
 #[tactic(auto, unfolding(crate::specs::KeyReading::flags_at))]
 fn both_flags_of(words: &mut Words<'_>, version: Version, root: bool) -> Option<AbsFlags>
     ensures { option_map (λ f. (f, words.new)) result ≡ flags_at version root words.old }
@@ -86,7 +78,7 @@ fn both_flags_of(words: &mut Words<'_>, version: Version, root: bool) -> Option<
     Some(AbsFlags { entry, bits, carry })
 }
 
-/// What is known of the pairs of these registers, for which the third version alone has words.
+// What is known of the pairs of these registers, for which the third version alone has words.
 fn pairs_of(
     alloc: Global,
     words: &mut Words<'_>,
@@ -104,7 +96,7 @@ fn pairs_of(
     }
 }
 
-/// What is known at a node, where the first register has this value.
+// What is known at a node, where the first register has this value.
 #[tactic(auto, unfolding(crate::specs::KeyReading::state_behind))]
 fn state_of(
     alloc: Global,
@@ -136,23 +128,10 @@ fn state_of(
     }))
 }
 
-/// The number of an earlier node than that of the number `at`.
-#[tactic(auto, unfolding(crate::specs::KeyReading::from_behind))]
-fn from_of(words: &mut Words<'_>, at: usize) -> Option<NodeForm>
-    ensures { option_map (λ f. (f, words.new)) result ≡ from_behind at words.old }
-{
-    let from = dec_word(words, 65_535)? as u32;
-    if (from as usize) < at {
-        Some(NodeForm::From(from))
-    } else {
-        None
-    }
-}
-
 /// The form of the node of the number `at` by its next words in a certificate of this version, whose frame is the root's or another
 /// and whose stack pointer has this offset: a state, or `from` and the number of an earlier node. None exactly where they are those
 /// of no such node.
-#[tactic(auto, unfolding(crate::specs::KeyReading::form_at))]
+#[tactic(auto, unfolding(crate::specs::KeyReading::form_at, crate::specs::KeyReading::from_behind))]
 pub fn form_of(
     alloc: Global,
     words: &mut Words<'_>,
@@ -167,7 +146,10 @@ pub fn form_of(
         return Ok(None);
     };
     if word == b"from".as_slice() {
-        return Ok(from_of(words, at));
+        return match dec_word(words, 65_535) {
+            Some(from) if (from as usize) < at => Ok(Some(NodeForm::From(from as u32))),
+            _ => Ok(None),
+        };
     }
     let Some(first) = value_of(word, version, root) else {
         return Ok(None);

@@ -6,9 +6,9 @@ ghost use Rattle.avr_model.specs.State.{SIZE};
 ghost use Rattle.abs_state.specs.Values.{with_bits};
 ghost use Rattle.sp_domain.specs.declared.tags.Tag.{Tag};
 ghost use Rattle.sp_domain.specs.declared.tags.Tag.TheVariants as tag;
-ghost use Rattle.sp_domain.specs.declared.tags.CarryTag.TheVariants as carry;
 ghost use Rattle.mask_states.specs.Keys.{offset_of};
-ghost use Rattle.cert_words.specs.Reading.{tri_byte, bits_at, register_at, tag_by, tag_at, ends_at, range_at, value_behind, value_in, slot_in, entry_by, flags_in, bytes_in, borrow_in, sum_in, less_in, tagged_by, carry_by, carry_in, offset_in, marked_in, high_in, high_size, open_in, form_in};
+ghost use Rattle.line_reading.specs.Reading.{word_by};
+ghost use Rattle.cert_words.specs.Reading.{tri_byte, bits_at, tag_at, range_at, value_behind, value_in, slot_in, flags_in, bytes_in, tagged_by, carry_by, carry_in, offset_in, marked_in, open_in, form_in};
 
 use abs_state::AbsByte;
 use avr_model::device;
@@ -16,13 +16,14 @@ use bit_domain::{Range, TriByte};
 use certificate::Version;
 use line_reading::Letters;
 use mask_states::{High, SpForm};
-use sb_base::read_dec;
+use pair_words::register_of;
+use sb_base::{Words, read_dec};
 use sp_domain::{CarryTag, Slot, Tag};
 
-/// The most that an offset can be.
+// The most that an offset can be.
 const SIZE: u64 = device::SIZE as u64;
 
-/// Known bits and their values.
+// Known bits and their values.
 #[tactic(auto, unfolding(crate::specs::Reading::bits_at))]
 fn bits_of(letters: &mut Letters<'_>) -> Option<TriByte>
     ensures { option_map (λ t. (t, letters.new)) result ≡ bits_at letters.old }
@@ -36,21 +37,17 @@ fn bits_of(letters: &mut Letters<'_>) -> Option<TriByte>
     }
 }
 
-/// The number of a register.
-#[tactic(auto, unfolding(crate::specs::Reading::register_at))]
-fn register_of(letters: &mut Letters<'_>) -> Option<u8>
-    ensures { option_map (λ r. (r, letters.new)) result ≡ register_at letters.old }
+// The tag of a value, which the root's frame hasn't.
+#[tactic(auto, unfolding(crate::specs::Reading::tag_at, crate::specs::Reading::tag_by))]
+fn tag_of(letters: &mut Letters<'_>, root: bool) -> Option<Tag>
+    ensures { option_map (λ t. (t, letters.new)) result ≡ tag_at root letters.old }
 {
-    let register = letters.byte()?;
-    if register < 32 { Some(register) } else { None }
-}
-
-/// The tag that a letter begins, which isn't that of none.
-#[tactic(auto, unfolding(crate::specs::Reading::tag_by))]
-fn tag_of(letter: u8, letters: &mut Letters<'_>) -> Option<Tag>
-    ensures { option_map (λ t. (t, letters.new)) result ≡ tag_by letter letters.old }
-{
-    if letter == b'e' {
+    let letter = letters.next()?;
+    if letter == b'-' {
+        Some(Tag::None)
+    } else if root {
+        None
+    } else if letter == b'e' {
         Some(Tag::Entry(register_of(letters)?))
     } else if letter == b'f' {
         Some(Tag::EntryFlags)
@@ -63,51 +60,28 @@ fn tag_of(letter: u8, letters: &mut Letters<'_>) -> Option<Tag>
     }
 }
 
-/// The tag of a value, which the root's frame hasn't.
-#[tactic(auto, unfolding(crate::specs::Reading::tag_at))]
-fn any_tag_of(letters: &mut Letters<'_>, root: bool) -> Option<Tag>
-    ensures { option_map (λ t. (t, letters.new)) result ≡ tag_at root letters.old }
-{
-    let letter = letters.next()?;
-    if letter == b'-' {
-        Some(Tag::None)
-    } else if root {
-        None
-    } else {
-        tag_of(letter, letters)
-    }
-}
-
-/// The ends of a range that lies between the least and the greatest byte of the bits.
+// The ends of the range of a value with these bits: it lies between the least and the greatest byte of the bits.
 #[tactic(auto, unfolding(crate::specs::Reading::ends_at))]
-fn ends_of(letters: &mut Letters<'_>, bits: TriByte) -> Option<(u8, u8)>
-    ensures { option_map (λ r. (r, letters.new)) result ≡ ends_at bits letters.old }
-{
-    let (Some(low), Some(high)) = (letters.byte(), letters.byte()) else {
-        return None;
-    };
-    let all = Range::of_bits(bits);
-    if all.low <= low && low <= high && high <= all.high {
-        Some((low, high))
-    } else {
-        None
-    }
-}
-
-/// The ends of the range of a value with these bits.
 fn range_of(letters: &mut Letters<'_>, version: Version, bits: TriByte) -> Option<(u8, u8)>
     ensures { option_map (λ r. (r, letters.new)) result ≡ range_at version bits letters.old }
 {
+    let all = Range::of_bits(bits);
     match version {
-        Version::One => {
-            let all = Range::of_bits(bits);
-            Some((all.low, all.high))
+        Version::One => Some((all.low, all.high)),
+        Version::Two | Version::Three => {
+            let (Some(low), Some(high)) = (letters.byte(), letters.byte()) else {
+                return None;
+            };
+            if all.low <= low && low <= high && high <= all.high {
+                Some((low, high))
+            } else {
+                None
+            }
         }
-        Version::Two | Version::Three => ends_of(letters, bits),
     }
 }
 
-/// Whether these letters say that a byte may be any, as most do behind a value's tag: so they are known at sight.
+// Whether these letters say that a byte may be any, as most do behind a value's tag: so they are known at sight.
 fn are_any(letters: &[u8], version: Version) -> bool
     ensures { IsTrue result → (tag : Tag) → value_behind version tag letters.now ≡ Some (with_bits tag (tri_byte 0 0)) }
 {
@@ -120,7 +94,7 @@ fn are_any(letters: &[u8], version: Version) -> bool
     }
 }
 
-/// The value with this tag that the letters behind it say.
+// The value with this tag that the letters behind it say.
 fn value_behind(tag: Tag, letters: &mut Letters<'_>, version: Version) -> Option<AbsByte>
     ensures { result ≡ value_behind version tag letters.old }
 {
@@ -141,50 +115,38 @@ fn value_behind(tag: Tag, letters: &mut Letters<'_>, version: Version) -> Option
     }
 }
 
-/// The value of a word.
+// The value of a word.
 #[tactic(auto, unfolding(crate::specs::Reading::value_in))]
 pub(crate) fn value_of(word: &[u8], version: Version, root: bool) -> Option<AbsByte>
     ensures { result ≡ value_in version root word.now }
 {
     let mut letters = Letters::new(word);
-    let tag = any_tag_of(&mut letters, root)?;
+    let tag = tag_of(&mut letters, root)?;
     value_behind(tag, &mut letters, version)
 }
 
-/// The slot of a word.
+// The slot of the next word.
 #[tactic(auto, unfolding(crate::specs::Reading::slot_in))]
-pub(crate) fn slot_of(word: &[u8], version: Version, root: bool) -> Option<Slot<AbsByte>>
-    ensures { result ≡ slot_in version root word.now }
+pub(crate) fn slot_of(words: &mut Words<'_>, version: Version, root: bool) -> Option<Slot<AbsByte>>
+    ensures { option_map (λ s. (s, words.new)) result ≡ word_by (slot_in version root) words.old }
 {
-    match word {
+    match words.next()? {
         [b'.'] => Some(Slot::Free),
-        _ => Some(Slot::Guarded(value_of(word, version, root)?)),
+        word => Some(Slot::Guarded(value_of(word, version, root)?)),
     }
 }
 
-/// Whether a letter says that the flags are those at the frame's entry.
-fn entry_of(letter: u8, root: bool) -> Option<bool>
-    ensures { result ≡ entry_by root letter }
-{
-    if letter == b'-' {
-        Some(false)
-    } else if root {
-        None
-    } else if letter == b'f' {
-        Some(true)
-    } else {
-        None
-    }
-}
-
-/// The flags of a word: whether they are those at the frame's entry, and their bits.
+// The flags of a word: whether they are those at the frame's entry, and their bits.
 #[tactic(auto, unfolding(crate::specs::Reading::flags_in))]
 pub(crate) fn flags_of(word: &[u8], root: bool) -> Option<(bool, TriByte)>
     ensures { result ≡ flags_in root word.now }
 {
     let mut letters = Letters::new(word);
     let letter = letters.next()?;
-    let entry = entry_of(letter, root)?;
+    let entry = letter == b'f';
+    if letter != b'-' && (root || !entry) {
+        return None;
+    }
     let bits = bits_of(&mut letters)?;
     if bits.known < 128 && letters.is_end() {
         Some((entry, bits))
@@ -193,7 +155,7 @@ pub(crate) fn flags_of(word: &[u8], root: bool) -> Option<(bool, TriByte)>
     }
 }
 
-/// Two bytes, behind which nothing stands.
+// Two bytes, behind which nothing stands.
 #[tactic(auto, unfolding(crate::specs::Reading::bytes_in))]
 fn bytes_of(letters: &mut Letters<'_>) -> Option<(u8, u8)>
     ensures { result ≡ bytes_in letters.old }
@@ -207,60 +169,39 @@ fn bytes_of(letters: &mut Letters<'_>) -> Option<(u8, u8)>
     }
 }
 
-/// The two numbers of a borrow.
-fn borrow_of(letters: &mut Letters<'_>) -> Option<CarryTag>
-    ensures { result ≡ borrow_in letters.old }
-{
-    let (first, second) = bytes_of(letters)?;
-    Some(CarryTag::Borrow(first, second))
-}
-
-/// The two numbers of a sum.
-fn sum_of(letters: &mut Letters<'_>) -> Option<CarryTag>
-    ensures { result ≡ sum_in letters.old }
-{
-    let (first, second) = bytes_of(letters)?;
-    Some(CarryTag::Sum(first, second))
-}
-
-/// The register and the number that it is compared with.
+// The carry tag that a letter begins, which isn't that of none.
 #[tactic(auto, unfolding(crate::specs::Reading::less_in))]
-fn less_of(letters: &mut Letters<'_>) -> Option<CarryTag>
-    ensures { result ≡ less_in letters.old }
-{
-    let register = register_of(letters)?;
-    let number = letters.byte()?;
-    if letters.is_end() {
-        Some(CarryTag::Less(register, number))
-    } else {
-        None
-    }
-}
-
-/// The carry tag that a letter begins, which isn't that of none.
 fn tagged_by(letter: u8, letters: &mut Letters<'_>, root: bool) -> Option<CarryTag>
     ensures { result ≡ tagged_by root letter letters.old }
 {
     if letter == b'b' && !root {
-        borrow_of(letters)
+        let (first, second) = bytes_of(letters)?;
+        Some(CarryTag::Borrow(first, second))
     } else if letter == b's' && !root {
-        sum_of(letters)
+        let (first, second) = bytes_of(letters)?;
+        Some(CarryTag::Sum(first, second))
     } else if letter == b'c' {
-        less_of(letters)
+        let register = register_of(letters)?;
+        let number = letters.byte()?;
+        if letters.is_end() {
+            Some(CarryTag::Less(register, number))
+        } else {
+            None
+        }
     } else {
         None
     }
 }
 
-/// The carry tag that a letter begins in this version, which isn't that of none.
+// The carry tag that a letter begins in this version, which isn't that of none.
 #[tactic(auto, unfolding(crate::specs::Reading::carry_by))]
 fn carry_by(letter: u8, letters: &mut Letters<'_>, version: Version, root: bool) -> Option<CarryTag>
     ensures { result ≡ carry_by version root letter letters.old }
 {
     match version {
         Version::One => {
-            if letter == b'b' && !root {
-                borrow_of(letters)
+            if letter == b'b' {
+                tagged_by(letter, letters, root)
             } else {
                 None
             }
@@ -269,7 +210,7 @@ fn carry_by(letter: u8, letters: &mut Letters<'_>, version: Version, root: bool)
     }
 }
 
-/// The carry tag of a word.
+// The carry tag of a word.
 #[tactic(auto, unfolding(crate::specs::Reading::carry_in))]
 pub(crate) fn carry_of(word: &[u8], version: Version, root: bool) -> Option<CarryTag>
     ensures { result ≡ carry_in version root word.now }
@@ -282,7 +223,7 @@ pub(crate) fn carry_of(word: &[u8], version: Version, root: bool) -> Option<Carr
     carry_by(letter, &mut letters, version, root)
 }
 
-/// The offset that decimal digits stand for.
+// The offset that decimal digits stand for.
 fn offset_of(digits: &[u8]) -> Option<u16>
     ensures exact { result ≡ offset_in digits.now }
     ensures small { IfSome result (λ n. n ≤ SIZE) }
@@ -293,7 +234,7 @@ fn offset_of(digits: &[u8]) -> Option<u16>
     }
 }
 
-/// A number behind a comma and a mark.
+// A number behind a comma and a mark.
 #[tactic(auto, unfolding(crate::specs::Reading::marked_in))]
 fn marked_of(text: &[u8], mark: u8, digits: usize) -> Option<u32>
     requires some { 1 ≤ digits }
@@ -316,42 +257,29 @@ fn marked_of(text: &[u8], mark: u8, digits: usize) -> Option<u32>
     }
 }
 
-/// The high byte of a half-written stack pointer.
-fn high_of(text: &[u8], root: bool) -> Option<High>
-    ensures { result ≡ high_in root text.now }
-{
-    if root {
-        Some(High::Known(marked_of(text, b'k', 2)? as u8))
-    } else {
-        Some(High::Tag(marked_of(text, b't', 4)? as u16))
-    }
-}
-
-/// How many bytes the high byte takes.
-fn high_size(root: bool) -> usize
-    ensures { result ≡ high_size root }
-{
-    if root { 4 } else { 6 }
-}
-
-/// The form of a half-written stack pointer.
+// The form of a half-written stack pointer.
 #[tactic(auto, unfolding(crate::specs::Reading::open_in))]
 fn open_of(text: &[u8], root: bool) -> Option<SpForm>
     ensures exact { result ≡ open_in root text.now }
     ensures small { IfSome result (λ f. offset_of f ≤ SIZE) }
 {
-    let size = high_size(root);
+    let size = if root { 4 } else { 6 };
     if text.len() < size {
         return None;
     }
     let (digits, high) = text.split_at(text.len() - size);
     let offset = offset_of(digits)?;
-    Some(SpForm::Open(offset, high_of(high, root)?))
+    let high = if root {
+        High::Known(marked_of(high, b'k', 2)? as u8)
+    } else {
+        High::Tag(marked_of(high, b't', 4)? as u16)
+    };
+    Some(SpForm::Open(offset, high))
 }
 
-/// The form of the stack pointer of a word.
+// The form of the stack pointer of a word.
 #[tactic(auto, unfolding(crate::specs::Reading::form_in))]
-pub(crate) fn form_of(word: &[u8], root: bool) -> Option<SpForm>
+pub(crate) fn sp_form_of(word: &[u8], root: bool) -> Option<SpForm>
     ensures exact { result ≡ form_in root word.now }
     ensures small { IfSome result (λ f. offset_of f ≤ SIZE) }
 {

@@ -1,7 +1,16 @@
 use Rattle.cert_words.proofs.InstKeys.{inst_keys}
 use Rattle.cert_words.proofs.NodeKeys.{places}
 use Rattle.cert_words.proofs.States.{forms}
+use Rattle.cert_words.proofs.Words.{value_words}
 use Rattle.cert_words.proofs.laws.key_words.Goals as goal
 
-pub returns : goal.returns
-returns c = record { insts = inst_keys c.word_laws.ensures; places = places c.word_laws.ensures c.value_words.ensures; forms = forms c.word_laws.ensures c.ranges_fit.ensures c.facts_words.ensures c.value_words.ensures }
+pub returns-clause-values : goal.returns-clause-values
+returns-clause-values c = value_words c.word_laws.ensures c.bytes_are_their_bits.ensures c.bytes_are_sets.ensures c.ranges_fit.ensures
+
+pub returns-clause-keys : goal.returns-clause-keys
+returns-clause-keys c =
+    let values = value_words c.word_laws.ensures c.bytes_are_their_bits.ensures c.bytes_are_sets.ensures c.ranges_fit.ensures in record {
+      insts = inst_keys c.word_laws.ensures;
+      places = places c.word_laws.ensures values;
+      forms = forms c.word_laws.ensures c.ranges_fit.ensures c.facts_words.ensures values;
+    }

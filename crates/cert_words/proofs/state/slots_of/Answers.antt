@@ -8,7 +8,7 @@ returns-in_default c = no_word (slot_in c.args.version c.args.root) c.loop.slots
 
 pub loop-preserved : goal.loop-preserved
 loop-preserved c = record {
-  same = word_more (slot_in c.args.version c.args.root) c.loop.slots c.push.new.self c.args.count c.loop.counter c.loop.words c.next_slot.new.words c.in-Some.slot _ c.loop-test.true c.in-Some.ensures c.in_ok-push.ensures.ok c.loop.invariant.same;
+  same = word_more (slot_in c.args.version c.args.root) c.loop.slots c.push.new.self c.args.count c.loop.counter c.loop.words c.slot_of.new.words c.in-Some.slot _ c.loop-test.true c.in-Some.ensures c.in_ok-push.ensures.ok c.loop.invariant.same;
   count = one_longer c.loop.slots c.push.new.self c.in-Some.slot c.loop.counter c.in_ok-push.ensures.ok c.loop.invariant.count;
 }
 
