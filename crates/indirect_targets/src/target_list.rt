@@ -45,15 +45,6 @@ impl Targets {
         }
     }
 
-    fn none() -> Targets
-        ensures { result ≡ [] }
-    {
-        Targets {
-            words: [0; 64],
-            count: 0,
-        }
-    }
-
     /// The words, ascending.
     pub fn as_slice(&self) -> &[u16]
         ensures value { result.now ≡ self.now }
@@ -75,7 +66,10 @@ impl Targets {
         requires { All (λ n. weight + n < 2 ^ 16) self.now }
         ensures { result ≡ map (λ n. weight + n) self.now }
     {
-        let mut raised = Targets::none();
+        let mut raised = Targets {
+            words: [0; 64],
+            count: 0,
+        };
         let words = self.as_slice();
         for word in words {
             raised.push(weight + *word);

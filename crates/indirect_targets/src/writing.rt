@@ -62,19 +62,6 @@ fn write_entry(out: &mut LineWriter, entry: &Entry) -> Result<(), AllocError>
     out.end_line()
 }
 
-// Writes the lines of entries.
-fn write_entries(out: &mut LineWriter, entries: &[Entry]) -> Result<(), AllocError>
-    requires { out.old.begun ≡ false }
-    ensures written { OnOk result (out.new ≡ with_text out.old (text_of entries.now)) }
-    ensures refused { OnErr result (AppendedPart out.old.bytes (text_of entries.now) out.new.bytes) }
-{
-    appending_laws();
-    for entry in entries {
-        write_entry(out, entry)?;
-    }
-    Ok(())
-}
-
 /// Writes the lines of the list behind what was written, where no line is begun. After want of memory the writer holds a
 /// first part of them.
 pub fn write(list: &Assumptions, out: &mut LineWriter) -> Result<(), AllocError>
@@ -82,5 +69,10 @@ pub fn write(list: &Assumptions, out: &mut LineWriter) -> Result<(), AllocError>
     ensures written { OnOk result (out.new ≡ with_text out.old (text_of list.now)) }
     ensures refused { OnErr result (AppendedPart out.old.bytes (text_of list.now) out.new.bytes) }
 {
-    write_entries(out, list.entries())
+    appending_laws();
+    let entries = list.entries();
+    for entry in entries {
+        write_entry(out, entry)?;
+    }
+    Ok(())
 }

@@ -3,7 +3,7 @@
 ghost use Rattle.std.specs.Prelude.{◌≡◌, ◌<◌, ◌+◌, IfSome};
 ghost use Rattle.std.specs.Option.{option_map};
 ghost use Rattle.pair_domain.specs.Tags.{IsNear};
-ghost use Rattle.pair_words.specs.Reading.{register_at, pair_at, ends_in, sum_in, side_at, compare_behind, compare_in, alone, zero_in, is_inside, inside_at, interval_at, intervals_at, intervals_in, facts_at};
+ghost use Rattle.pair_words.specs.Reading.{register_at, pair_at, ends_in, sum_in, side_at, compare_behind, compare_in, alone, zero_in, inside_at, interval_at, intervals_at, intervals_in, facts_at};
 
 use line_reading::Letters;
 use pair_domain::{CompareTag, Interval, PairFacts, Side, SumTag, ZeroTag};
@@ -143,13 +143,6 @@ fn zero_of(word: &[u8]) -> Option<ZeroTag>
     }
 }
 
-// Whether ends are in order and lie within the hull, and aren't its ends.
-fn is_inside(hull: Interval, low: u16, high: u16) -> bool
-    ensures { result ≡ is_inside hull low high }
-{
-    hull.low <= low && low <= high && high <= hull.high && !(low == hull.low && high == hull.high)
-}
-
 // An interval that lies within the hull and isn't it.
 #[tactic(auto, unfolding(crate::specs::Reading::inside_at))]
 fn inside_of(letters: &mut Letters<'_>, hull: Interval) -> Option<Interval>
@@ -157,7 +150,8 @@ fn inside_of(letters: &mut Letters<'_>, hull: Interval) -> Option<Interval>
 {
     let low = letters.digits(4)? as u16;
     let high = letters.digits(4)? as u16;
-    if is_inside(hull, low, high) {
+    let whole = low == hull.low && high == hull.high;
+    if hull.low <= low && low <= high && high <= hull.high && !whole {
         Some(Interval { low, high })
     } else {
         None

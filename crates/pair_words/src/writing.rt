@@ -1,7 +1,6 @@
 //! The writer of the words on pairs.
 
 ghost use Rattle.std.specs.Prelude.{◌≡◌, ◌∷◌, [], ◌++◌, OnOk};
-ghost use Rattle.sb_base.specs.Digits.{hex_digits};
 ghost use Rattle.sb_base.specs.Writing.{with_word, with_words};
 ghost use Rattle.pair_words.specs.Spelling.{ends_text, sum_word, side_text, compare_word, zero_word, interval_text, intervals_text, intervals_word, facts_words};
 
@@ -86,17 +85,8 @@ fn write_zero(out: &mut LineWriter, zero: ZeroTag) -> Result<(), AllocError>
     }
 }
 
-// A pair and its interval.
-fn interval_digits(pair: u8, interval: Interval) -> [u8; 10]
-    ensures { result ≡ hex_digits pair 2 ++ (hex_digits interval.low 4 ++ hex_digits interval.high 4) }
-{
-    let r = two_digits(pair);
-    let l = four_digits(interval.low);
-    let h = four_digits(interval.high);
-    [r.0, r.1, l.0, l.1, l.2, l.3, h.0, h.1, h.2, h.3]
-}
-
 // Appends a pair with its interval where this isn't the hull.
+#[tactic(auto, using(crate::proofs::Numerals::joined_three))]
 fn append_interval(
     text: &mut Vec<u8>,
     pair: u8,
@@ -108,7 +98,10 @@ fn append_interval(
     if interval.low == hull.low && interval.high == hull.high {
         return Ok(());
     }
-    text.extend_from_slice(&interval_digits(pair, interval))
+    let r = two_digits(pair);
+    let l = four_digits(interval.low);
+    let h = four_digits(interval.high);
+    text.extend_from_slice(&[r.0, r.1, l.0, l.1, l.2, l.3, h.0, h.1, h.2, h.3])
 }
 
 // Appends all pairs whose intervals aren't the hulls.

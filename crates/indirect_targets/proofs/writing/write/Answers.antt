@@ -1,0 +1,16 @@
+use Rattle.indirect_targets.proofs.Parts.{on_err, no_lines, lines_next, lines_part}
+use Rattle.indirect_targets.proofs.writing.write.Goals as goal
+
+pub loop-entry-init : goal.loop-entry-init
+loop-entry-init c = no_lines c.args.out.now c.requires
+
+pub loop-entry-preserved : goal.loop-entry-preserved
+loop-entry-preserved c =
+    lines_next c.appending_laws.ensures c.args.out.now c.loop-entry.out c.write_entry.new.out c.entries-entries.result.now c.loop-entry.entry-index c.entry-item.result
+    c.loop-entry-test.true c.entry-item.is c.loop-entry.invariant c.in_ok-write_entry.ensures.written
+
+pub returns-in_err-write_entry-clause-refused : goal.returns-in_err-write_entry-clause-refused
+returns-in_err-write_entry-clause-refused c =
+    rw c.entries-entries.ensures.value at (on_err c.from_residual.result _
+    (lines_part c.appending_laws.ensures c.args.out.now c.loop-entry.out c.write_entry.new.out c.entries-entries.result.now c.loop-entry.entry-index c.entry-item.result
+    c.loop-entry-test.true c.entry-item.is c.loop-entry.invariant c.in_err-write_entry.ensures.refused))
