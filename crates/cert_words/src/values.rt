@@ -8,7 +8,7 @@ ghost use Rattle.sp_domain.specs.declared.tags.Tag.{Tag};
 ghost use Rattle.sp_domain.specs.declared.tags.Tag.TheVariants as tag;
 ghost use Rattle.mask_states.specs.Keys.{offset_of};
 ghost use Rattle.line_reading.specs.Reading.{word_by};
-ghost use Rattle.cert_words.specs.Reading.{tri_byte, bits_at, tag_at, range_at, value_behind, value_in, slot_in, flags_in, bytes_in, tagged_by, carry_by, carry_in, offset_in, marked_in, open_in, form_in};
+ghost use Rattle.cert_words.specs.Reading.{tri_byte, bits_at, tag_at, range_at, value_behind, value_in, slot_in, flags_in, bytes_in, tagged_by, carry_in, offset_in, marked_in, open_in, form_in};
 
 use abs_state::AbsByte;
 use avr_model::device;
@@ -94,15 +94,18 @@ fn are_any(letters: &[u8], version: Version) -> bool
     }
 }
 
-// The value with this tag that the letters behind it say.
-fn value_behind(tag: Tag, letters: &mut Letters<'_>, version: Version) -> Option<AbsByte>
-    ensures { result ≡ value_behind version tag letters.old }
+// The value of a word.
+#[tactic(auto, unfolding(crate::specs::Reading::value_in))]
+pub(crate) fn value_of(word: &[u8], version: Version, root: bool) -> Option<AbsByte>
+    ensures { result ≡ value_in version root word.now }
 {
+    let mut letters = Letters::new(word);
+    let tag = tag_of(&mut letters, root)?;
     if are_any(letters.rest(), version) {
         return Some(AbsByte::of_bits(tag, TriByte::new(0, 0)));
     }
-    let bits = bits_of(letters)?;
-    let (low, high) = range_of(letters, version, bits)?;
+    let bits = bits_of(&mut letters)?;
+    let (low, high) = range_of(&mut letters, version, bits)?;
     if letters.is_end() {
         Some(AbsByte {
             tag,
@@ -113,16 +116,6 @@ fn value_behind(tag: Tag, letters: &mut Letters<'_>, version: Version) -> Option
     } else {
         None
     }
-}
-
-// The value of a word.
-#[tactic(auto, unfolding(crate::specs::Reading::value_in))]
-pub(crate) fn value_of(word: &[u8], version: Version, root: bool) -> Option<AbsByte>
-    ensures { result ≡ value_in version root word.now }
-{
-    let mut letters = Letters::new(word);
-    let tag = tag_of(&mut letters, root)?;
-    value_behind(tag, &mut letters, version)
 }
 
 // The slot of the next word.
@@ -193,25 +186,8 @@ fn tagged_by(letter: u8, letters: &mut Letters<'_>, root: bool) -> Option<CarryT
     }
 }
 
-// The carry tag that a letter begins in this version, which isn't that of none.
-#[tactic(auto, unfolding(crate::specs::Reading::carry_by))]
-fn carry_by(letter: u8, letters: &mut Letters<'_>, version: Version, root: bool) -> Option<CarryTag>
-    ensures { result ≡ carry_by version root letter letters.old }
-{
-    match version {
-        Version::One => {
-            if letter == b'b' {
-                tagged_by(letter, letters, root)
-            } else {
-                None
-            }
-        }
-        Version::Two | Version::Three => tagged_by(letter, letters, root),
-    }
-}
-
 // The carry tag of a word.
-#[tactic(auto, unfolding(crate::specs::Reading::carry_in))]
+#[tactic(auto, unfolding(crate::specs::Reading::carry_in, crate::specs::Reading::carry_by))]
 pub(crate) fn carry_of(word: &[u8], version: Version, root: bool) -> Option<CarryTag>
     ensures { result ≡ carry_in version root word.now }
 {
@@ -220,7 +196,16 @@ pub(crate) fn carry_of(word: &[u8], version: Version, root: bool) -> Option<Carr
     }
     let mut letters = Letters::new(word);
     let letter = letters.next()?;
-    carry_by(letter, &mut letters, version, root)
+    match version {
+        Version::One => {
+            if letter == b'b' {
+                tagged_by(letter, &mut letters, root)
+            } else {
+                None
+            }
+        }
+        Version::Two | Version::Three => tagged_by(letter, &mut letters, root),
+    }
 }
 
 // The offset that decimal digits stand for.
