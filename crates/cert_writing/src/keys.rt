@@ -12,14 +12,14 @@ use pair_words::{four_digits, two_digits};
 use sb_base::LineWriter;
 use std::alloc::{AllocError, Global};
 
-/// Writes 0 or 1.
+// Writes 0 or 1.
 fn write_bit(out: &mut LineWriter, set: bool) -> Result<(), AllocError>
     ensures { OnOk result (out.new ≡ with_word out.old (bit set)) }
 {
     out.word(if set { b"1" } else { b"0" })
 }
 
-/// Appends a number in decimal.
+// Appends a number in decimal.
 fn append_decimal(word: &mut Vec<u8>, alloc: Global, number: u64) -> Result<(), AllocError>
     ensures { OnOk result (word.new.items ≡ word.old.items ++ decimal number) }
 {
@@ -27,7 +27,7 @@ fn append_decimal(word: &mut Vec<u8>, alloc: Global, number: u64) -> Result<(), 
     word.extend_from_slice(digits.as_bytes())
 }
 
-/// Writes a kind.
+// Writes a kind.
 fn write_kind(out: &mut LineWriter, alloc: Global, kind: Kind) -> Result<(), AllocError>
     ensures { OnOk result (out.new ≡ with_word out.old (kind_word kind)) }
 {
@@ -43,7 +43,7 @@ fn write_kind(out: &mut LineWriter, alloc: Global, kind: Kind) -> Result<(), All
     }
 }
 
-/// Appends the high byte of a half-written stack pointer.
+// Appends the high byte of a half-written stack pointer.
 fn append_high(word: &mut Vec<u8>, high: High) -> Result<(), AllocError>
     ensures { OnOk result (word.new.items ≡ word.old.items ++ high_text high) }
 {
@@ -59,7 +59,7 @@ fn append_high(word: &mut Vec<u8>, high: High) -> Result<(), AllocError>
     }
 }
 
-/// Writes a form of the stack pointer.
+// Writes a form of the stack pointer.
 fn write_form(out: &mut LineWriter, alloc: Global, form: &SpForm) -> Result<(), AllocError>
     ensures { OnOk result (out.new ≡ with_word out.old (form_word form.now)) }
 {
@@ -88,7 +88,7 @@ pub fn write_inst_key(out: &mut LineWriter, alloc: Global, key: &InstKey) -> Res
     write_bit(out, key.i)
 }
 
-/// Writes a pick, for which the first version has no word.
+// Writes a pick, for which the first version has no word.
 fn write_pick(out: &mut LineWriter, version: Version, pick: Option<u8>) -> Result<(), AllocError>
     ensures { OnOk result (out.new ≡ with_words out.old (pick_words version pick)) }
 {
@@ -101,7 +101,7 @@ fn write_pick(out: &mut LineWriter, version: Version, pick: Option<u8>) -> Resul
     }
 }
 
-/// Writes a node within its instance: word, enable bits, I, delay, form of the stack pointer and, but in the first version, pick.
+// Writes a node within its instance: word, enable bits, I, delay, form of the stack pointer and, but in the first version, pick.
 pub(crate) fn write_place(
     out: &mut LineWriter,
     alloc: Global,

@@ -1,6 +1,6 @@
 //! The lines of instances and nodes.
 
-ghost use Rattle.std.specs.Prelude.{◌≡◌, ◌≤◌, ℕ, List, map, length, slice_get, Some, OnOk, IfSome, IfNone, Contains, false};
+ghost use Rattle.std.specs.Prelude.{◌≡◌, map, Some, OnOk, IfSome, IfNone, Contains, false};
 ghost use Rattle.std.specs.List.{flat_map};
 ghost use Rattle.std.specs.List.Sorted.{IsStrictlySortedBy};
 ghost use Rattle.sb_base.specs.Lines.{line};
@@ -24,7 +24,7 @@ use mask_states::{InstKey, NodeKey};
 use sb_base::LineWriter;
 use std::alloc::{AllocError, Global};
 
-/// Writes the line of an instance.
+// Writes the line of an instance.
 fn write_inst(out: &mut LineWriter, alloc: Global, inst: &Inst) -> Result<(), AllocError>
     ensures { OnOk result (out.new ≡ with_end (with_words out.old (inst_words inst.now))) }
 {
@@ -37,7 +37,7 @@ fn write_inst(out: &mut LineWriter, alloc: Global, inst: &Inst) -> Result<(), Al
     out.end_line()
 }
 
-/// Writes the lines of instances.
+// Writes the lines of instances.
 pub(crate) fn write_insts(
     out: &mut LineWriter,
     alloc: Global,
@@ -53,7 +53,7 @@ pub(crate) fn write_insts(
     Ok(())
 }
 
-/// The number of the instance, from a number on.
+// The number of the instance, from a number on.
 fn place_from(insts: &[Inst], from: usize, key: &InstKey) -> Option<usize>
     ensures found { IfSome result (λ j. IsAt insts.now key.now j) }
     ensures none { IfNone result (IsNowhereFrom insts.now key.now from) }
@@ -66,7 +66,7 @@ fn place_from(insts: &[Inst], from: usize, key: &InstKey) -> Option<usize>
     None
 }
 
-/// The number of the instance, which is there. It is looked for from the guess on first.
+// The number of the instance, which is there. It is looked for from the guess on first.
 fn place(insts: &[Inst], guess: usize, key: &InstKey) -> usize
     requires sorted { IsStrictlySortedBy inst_cmp (inst_keys insts.now) }
     requires there { Contains (inst_keys insts.now) key.now }
@@ -79,7 +79,7 @@ fn place(insts: &[Inst], guess: usize, key: &InstKey) -> usize
     }
 }
 
-/// Writes the line of a node whose instance has this number.
+// Writes the line of a node whose instance has this number.
 fn write_node(
     out: &mut LineWriter,
     alloc: Global,
@@ -96,7 +96,7 @@ fn write_node(
     out.end_line()
 }
 
-/// Writes the lines of nodes.
+// Writes the lines of nodes.
 pub(crate) fn write_nodes(
     out: &mut LineWriter,
     alloc: Global,

@@ -14,7 +14,7 @@ use sb_base::LineWriter;
 use sp_domain::Slot;
 use std::alloc::{AllocError, Global};
 
-/// Writes values.
+// Writes values.
 fn write_values(
     out: &mut LineWriter,
     version: Version,
@@ -28,7 +28,7 @@ fn write_values(
     Ok(())
 }
 
-/// Writes slots.
+// Writes slots.
 fn write_slots(
     out: &mut LineWriter,
     version: Version,
@@ -42,7 +42,7 @@ fn write_slots(
     Ok(())
 }
 
-/// Writes what is known of the pairs of a state's registers, for which the third version alone has words.
+// Writes what is known of the pairs of a state's registers, for which the third version alone has words.
 fn write_pairs(
     out: &mut LineWriter,
     alloc: Global,
@@ -60,7 +60,7 @@ fn write_pairs(
     }
 }
 
-/// Writes a state.
+// Writes a state.
 fn write_state(
     out: &mut LineWriter,
     alloc: Global,
@@ -76,7 +76,7 @@ fn write_state(
     Ok(())
 }
 
-/// Writes a state, or `from` and the number of the node that it comes from.
+// Writes a state, or `from` and the number of the node that it comes from.
 pub(crate) fn write_form(
     out: &mut LineWriter,
     alloc: Global,

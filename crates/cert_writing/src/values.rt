@@ -1,41 +1,32 @@
 //! The words of values, flags, carry tags and slots.
 
-ghost use Rattle.std.specs.Prelude.{◌≡◌, ◌∷◌, [], OnOk};
+ghost use Rattle.std.specs.Prelude.{◌≡◌, ◌∷◌, ◌++◌, [], OnOk};
+ghost use Rattle.sb_base.specs.Digits.{hex_digits};
 ghost use Rattle.sb_base.specs.Writing.{with_word};
 ghost use Rattle.certificate.specs.declared.version.Version.TheVariants.{One, Two};
-ghost use Rattle.cert_words.specs.Spelling.{bits_text, range_text, value_word, flags_word, carry_word, slot_word};
+ghost use Rattle.cert_words.specs.Spelling.{value_word, flags_word, carry_word, slot_word};
 
 use abs_state::{AbsByte, AbsFlags};
-use bit_domain::TriByte;
 use certificate::Version;
 use pair_words::{four_digits, two_digits};
 use sb_base::LineWriter;
 use sp_domain::{CarryTag, Slot, Tag};
 use std::alloc::AllocError;
 
-/// The digits of known bits and of their values.
-fn bit_digits(bits: TriByte) -> (u8, u8, u8, u8)
-    ensures { bits_text bits ≡ result.0 ∷ result.1 ∷ result.2 ∷ result.3 ∷ [] }
+// Two bytes in two digits each.
+fn both_digits(first: u8, second: u8) -> (u8, u8, u8, u8)
+    ensures { hex_digits first 2 ++ hex_digits second 2 ≡ result.0 ∷ result.1 ∷ result.2 ∷ result.3 ∷ [] }
 {
-    let k = two_digits(bits.known);
-    let v = two_digits(bits.value);
-    (k.0, k.1, v.0, v.1)
-}
-
-/// The digits of the ends of a value's range.
-fn range_digits(value: &AbsByte) -> (u8, u8, u8, u8)
-    ensures { range_text Two value.now ≡ result.0 ∷ result.1 ∷ result.2 ∷ result.3 ∷ [] }
-{
-    let a = two_digits(value.low);
-    let b = two_digits(value.high);
+    let a = two_digits(first);
+    let b = two_digits(second);
     (a.0, a.1, b.0, b.1)
 }
 
-/// Writes a value without its range.
+// Writes a value without its range.
 fn write_bits(out: &mut LineWriter, value: &AbsByte) -> Result<(), AllocError>
     ensures { OnOk result (out.new ≡ with_word out.old (value_word One value.now)) }
 {
-    let v = bit_digits(value.bits);
+    let v = both_digits(value.bits.known, value.bits.value);
     match value.tag {
         Tag::None => out.word(&[b'-', v.0, v.1, v.2, v.3]),
         Tag::Entry(register) => {
@@ -54,12 +45,12 @@ fn write_bits(out: &mut LineWriter, value: &AbsByte) -> Result<(), AllocError>
     }
 }
 
-/// Writes a value with its range.
+// Writes a value with its range.
 fn write_bits_and_range(out: &mut LineWriter, value: &AbsByte) -> Result<(), AllocError>
     ensures { OnOk result (out.new ≡ with_word out.old (value_word Two value.now)) }
 {
-    let v = bit_digits(value.bits);
-    let a = range_digits(value);
+    let v = both_digits(value.bits.known, value.bits.value);
+    let a = both_digits(value.low, value.high);
     match value.tag {
         Tag::None => out.word(&[b'-', v.0, v.1, v.2, v.3, a.0, a.1, a.2, a.3]),
         Tag::Entry(register) => {
@@ -80,7 +71,7 @@ fn write_bits_and_range(out: &mut LineWriter, value: &AbsByte) -> Result<(), All
     }
 }
 
-/// Writes a value.
+// Writes a value.
 pub(crate) fn write_value(
     out: &mut LineWriter,
     version: Version,
@@ -94,7 +85,7 @@ pub(crate) fn write_value(
     }
 }
 
-/// Writes a slot.
+// Writes a slot.
 pub(crate) fn write_slot(
     out: &mut LineWriter,
     version: Version,
@@ -108,46 +99,33 @@ pub(crate) fn write_slot(
     }
 }
 
-/// Writes flags without their carry tag.
-fn write_flag_bits(out: &mut LineWriter, flags: &AbsFlags) -> Result<(), AllocError>
-    ensures { OnOk result (out.new ≡ with_word out.old (flags_word flags.now.entry flags.now.bits)) }
-{
-    let v = bit_digits(flags.bits);
-    if flags.entry {
-        out.word(&[b'f', v.0, v.1, v.2, v.3])
-    } else {
-        out.word(&[b'-', v.0, v.1, v.2, v.3])
-    }
-}
-
-/// Writes a carry tag.
+// Writes a carry tag.
 fn write_carry(out: &mut LineWriter, carry: CarryTag) -> Result<(), AllocError>
     ensures { OnOk result (out.new ≡ with_word out.old (carry_word carry)) }
 {
     match carry {
         CarryTag::None => out.word(b"-"),
         CarryTag::Borrow(first, second) => {
-            let j = two_digits(first);
-            let l = two_digits(second);
-            out.word(&[b'b', j.0, j.1, l.0, l.1])
+            let n = both_digits(first, second);
+            out.word(&[b'b', n.0, n.1, n.2, n.3])
         }
         CarryTag::Sum(first, second) => {
-            let j = two_digits(first);
-            let l = two_digits(second);
-            out.word(&[b's', j.0, j.1, l.0, l.1])
+            let n = both_digits(first, second);
+            out.word(&[b's', n.0, n.1, n.2, n.3])
         }
         CarryTag::Less(register, number) => {
-            let r = two_digits(register);
-            let n = two_digits(number);
-            out.word(&[b'c', r.0, r.1, n.0, n.1])
+            let n = both_digits(register, number);
+            out.word(&[b'c', n.0, n.1, n.2, n.3])
         }
     }
 }
 
-/// Writes flags and their carry tag.
+// Writes flags and their carry tag.
 pub(crate) fn write_flags(out: &mut LineWriter, flags: &AbsFlags) -> Result<(), AllocError>
     ensures { OnOk result (out.new ≡ with_word (with_word out.old (flags_word flags.now.entry flags.now.bits)) (carry_word flags.now.carry)) }
 {
-    write_flag_bits(out, flags)?;
+    let entry = if flags.entry { b'f' } else { b'-' };
+    let v = both_digits(flags.bits.known, flags.bits.value);
+    out.word(&[entry, v.0, v.1, v.2, v.3])?;
     write_carry(out, flags.carry)
 }

@@ -1,20 +1,19 @@
 //! The writer of certificates.
 
-ghost use Rattle.std.specs.Prelude.{◌≡◌, ◌∷◌, [], codes, OnOk, IfOk, false, length};
+ghost use Rattle.std.specs.Prelude.{◌≡◌, ◌∷◌, [], OnOk, IfOk, false};
 ghost use Rattle.std.specs.List.{flat_map};
 ghost use Rattle.sb_base.specs.Lines.{line};
 ghost use Rattle.line_reading.specs.Appending.{with_text};
 ghost use Rattle.certificate.specs.Claims.{IsCertificate};
-ghost use Rattle.cert_words.specs.Text.{numbered, version_line, heading, entry_lines, inst_lines, node_lines, front_lines, witness_lines, end_line, text_of};
+ghost use Rattle.cert_words.specs.Text.{numbered, version_line, heading, witness_lines, end_line, text_of};
 
 use crate::lines::{write_insts, write_nodes};
-use certificate::{Certificate, Inst, Version};
+use certificate::{Certificate, Version};
 use line_reading::laws::appending_laws;
 use sb_base::LineWriter;
 use std::alloc::{AllocError, Global};
-use vector_table::Assumptions;
 
-/// Writes the line of a name and a number.
+// Writes the line of a name and a number.
 fn write_numbered(out: &mut LineWriter, name: &[u8], number: u64) -> Result<(), AllocError>
     requires { out.old.begun ≡ false }
     ensures { OnOk result (out.new ≡ with_text out.old (line (numbered name.now number))) }
@@ -25,7 +24,7 @@ fn write_numbered(out: &mut LineWriter, name: &[u8], number: u64) -> Result<(), 
     out.end_line()
 }
 
-/// Writes the line of two words.
+// Writes the line of two words.
 fn write_pair(out: &mut LineWriter, first: &[u8], second: &[u8]) -> Result<(), AllocError>
     requires { out.old.begun ≡ false }
     ensures { OnOk result (out.new ≡ with_text out.old (line (first.now ∷ second.now ∷ []))) }
@@ -36,7 +35,7 @@ fn write_pair(out: &mut LineWriter, first: &[u8], second: &[u8]) -> Result<(), A
     out.end_line()
 }
 
-/// Writes the version.
+// Writes the version.
 fn write_version(out: &mut LineWriter, version: Version) -> Result<(), AllocError>
     requires { out.old.begun ≡ false }
     ensures { OnOk result (out.new ≡ with_text out.old (line (version_line version))) }
@@ -48,7 +47,7 @@ fn write_version(out: &mut LineWriter, version: Version) -> Result<(), AllocErro
     }
 }
 
-/// Writes the version and the bound.
+// Writes the version and the bound.
 fn write_heading(out: &mut LineWriter, version: Version, bound: u16) -> Result<(), AllocError>
     requires { out.old.begun ≡ false }
     ensures { OnOk result (out.new ≡ with_text out.old (flat_map line (heading version bound))) }
@@ -58,63 +57,7 @@ fn write_heading(out: &mut LineWriter, version: Version, bound: u16) -> Result<(
     Ok(())
 }
 
-/// Writes the assumptions and their number.
-#[tactic(auto, using(crate::proofs::Written::entries_written))]
-fn write_assumptions(out: &mut LineWriter, list: &Assumptions) -> Result<(), AllocError>
-    requires { out.old.begun ≡ false }
-    ensures { OnOk result (out.new ≡ with_text out.old (flat_map line (entry_lines list.now))) }
-{
-    write_numbered(out, b"assume", list.entries().len() as u64)?;
-    indirect_targets::write(list, out)?;
-    Ok(())
-}
-
-/// Writes the instances and their number.
-#[tactic(auto, using(crate::proofs::Written::insts_written))]
-fn write_instances(out: &mut LineWriter, alloc: Global, insts: &[Inst]) -> Result<(), AllocError>
-    requires { out.old.begun ≡ false }
-    ensures { OnOk result (out.new ≡ with_text out.old (flat_map line (inst_lines insts.now))) }
-{
-    write_numbered(out, b"instances", insts.len() as u64)?;
-    write_insts(out, alloc, insts)?;
-    Ok(())
-}
-
-/// Writes the nodes of a certificate and their number.
-#[tactic(auto, using(crate::proofs::Written::nodes_written))]
-fn write_node_part(
-    out: &mut LineWriter,
-    alloc: Global,
-    certificate: &Certificate,
-) -> Result<(), AllocError>
-    requires { out.old.begun ≡ false }
-    ensures { OnOk result (out.new ≡ with_text out.old (flat_map line (node_lines certificate.now.version certificate.now.instances certificate.now.nodes))) }
-{
-    let nodes = certificate.nodes();
-    write_numbered(out, b"nodes", nodes.len() as u64)?;
-    let version = certificate.version();
-    write_nodes(out, alloc, version, certificate.instances(), nodes)?;
-    Ok(())
-}
-
-/// Writes the lines before the schedule.
-#[tactic(auto, using(crate::proofs::Written::front_written))]
-fn write_front(
-    out: &mut LineWriter,
-    alloc: Global,
-    certificate: &Certificate,
-) -> Result<(), AllocError>
-    requires { out.old.begun ≡ false }
-    ensures { OnOk result (out.new ≡ with_text out.old (flat_map line (front_lines certificate.now))) }
-{
-    write_heading(out, certificate.version(), certificate.bound())?;
-    write_assumptions(out, certificate.assumptions())?;
-    write_instances(out, alloc, certificate.instances())?;
-    write_node_part(out, alloc, certificate)?;
-    Ok(())
-}
-
-/// Writes the schedule, or that there is none.
+// Writes the schedule, or that there is none.
 #[tactic(auto, using(crate::proofs::Written::open_written))]
 fn write_witness(out: &mut LineWriter, certificate: &Certificate) -> Result<(), AllocError>
     requires { out.old.begun ≡ false }
@@ -130,18 +73,7 @@ fn write_witness(out: &mut LineWriter, certificate: &Certificate) -> Result<(), 
     Ok(())
 }
 
-/// Writes the last line.
-fn write_end(out: &mut LineWriter) -> Result<(), AllocError>
-    requires { out.old.begun ≡ false }
-    ensures { OnOk result (out.new ≡ with_text out.old (line end_line)) }
-{
-    appending_laws();
-    out.word(b"end")?;
-    out.end_line()
-}
-
-/// Writes the certificate's text.
-#[tactic(auto, using(crate::proofs::Written::all_written))]
+// Writes the certificate's text.
 fn write_all(
     out: &mut LineWriter,
     alloc: Global,
@@ -150,13 +82,25 @@ fn write_all(
     requires { out.old.begun ≡ false }
     ensures { OnOk result (out.new ≡ with_text out.old (text_of certificate.now)) }
 {
-    write_front(out, alloc, certificate)?;
+    appending_laws();
+    let version = certificate.version();
+    write_heading(out, version, certificate.bound())?;
+    let assumptions = certificate.assumptions();
+    write_numbered(out, b"assume", assumptions.entries().len() as u64)?;
+    indirect_targets::write(assumptions, out)?;
+    let instances = certificate.instances();
+    write_numbered(out, b"instances", instances.len() as u64)?;
+    write_insts(out, alloc, instances)?;
+    let nodes = certificate.nodes();
+    write_numbered(out, b"nodes", nodes.len() as u64)?;
+    write_nodes(out, alloc, version, instances, nodes)?;
     write_witness(out, certificate)?;
-    write_end(out)?;
+    out.word(b"end")?;
+    out.end_line()?;
     Ok(())
 }
 
-/// What is seen of a certificate is one.
+// What is seen of a certificate is one.
 fn keeps(certificate: &Certificate)
     ensures { IsCertificate certificate.now }
 {
