@@ -11,7 +11,7 @@ use Rattle.avr_model.specs.declared.assumption.Entry.TheVariants.{Pairs}
 use Rattle.avr_model.specs.Assumptions.{has_pairs}
 use Rattle.avr_model.specs.State.{SIZE}
 use Rattle.sb_base.specs.Answers.{Answers}
-use Rattle.sb_base.specs.Lines.{Place, spaced, line, joined}
+use Rattle.sb_base.specs.Lines.{Place, lines_of, spaced, line, joined}
 use Rattle.line_reading.specs.Words.{IsWord, WordLaws}
 use Rattle.vector_table.specs.Entries.{AreEntries, most_entries}
 use Rattle.indirect_targets.specs.Spelling.{entry_words}
@@ -326,6 +326,12 @@ pub one_text : Below → OneText
 one_text k a b h g e = ok_is a b (sym (spelled_is_read k a h) ∙ ap certificate_in e ∙ spelled_is_read k b g)
 
 -- ---- what is answered
+
+-- the claim at a text's begin is that of the text
+pub answered : (text : List ℕ) (p q : Place) (r : Result Claim CertFault) → p ≡ record { at = 0; rest = lines_of text } → Answers (λ c. (c, q)) fault.Memory r (claim_at p) → Answers (λ c. c) fault.Memory r (certificate_in text)
+unfolding certificate_in
+answered text p q (Ok c) e h = ap claim_alone (rw e at h)
+answered text p q (Err f) e h = λ other. ap claim_alone (rw e at (h other))
 
 pub claims_keep : Below → PartsMakeClaims
 claims_keep k version a d f q n es xs ns small e g h = claim_by k version n a d f (es, d) (xs, f) (ns, q) None small e g h

@@ -1,15 +1,13 @@
 //! The lists of a certificate: one reader of so many lines, and what each list does with a line.
 
 ghost use Rattle.std.specs.Prelude.{◌≡◌, ◌≤◌, ◌<◌, ◌+◌, ℕ, List, [], Option, length};
-ghost use Rattle.std.specs.Option.{option_map};
 ghost use Rattle.avr_model.specs.State as model;
 ghost use Rattle.avr_model.specs.Assumptions.{has_pairs};
 ghost use Rattle.sb_base.specs.Answers.{Answers};
-ghost use Rattle.line_reading.specs.Reading.{text_in, passed};
 ghost use Rattle.mask_states.specs.Keys.{offset_of};
 ghost use Rattle.cert_format.specs.declared.fault.CertFault.{CertFault};
 ghost use Rattle.cert_format.specs.declared.fault.CertFault.TheVariants as fault;
-ghost use Rattle.cert_format.specs.Reading.{is_admitted, last_in, is_inst_above, is_node_above, refused_node, with_item, with_text, longer_at, items_from};
+ghost use Rattle.cert_format.specs.Reading.{is_admitted, last_in, is_node_above, refused_node, with_item, with_text, longer_at, items_from};
 
 use crate::fault::CertFault;
 use crate::lines::{instance_of, node_of};
@@ -23,10 +21,10 @@ use std::alloc::Global;
 use std::marker::Model;
 use vector_table::{AssumeFault, Assumptions};
 
-/// The most cells.
+// The most cells.
 const MOST_CELLS: u32 = 8_388_608;
 
-/// A list that is read line by line.
+// A list that is read line by line.
 pub(crate) trait Gathered {
     type Item;
 
@@ -42,23 +40,14 @@ pub(crate) trait Gathered {
     /// Why an item of a line at an offset is refused behind those before it, if it is.
     ghost refused: { List Self.Item → Self.Item → ℕ → Option CertFault };
 
-    /// Appends the item of a line's text at this offset.
+    // Appends the item of a line's text at this offset.
     fn add(&mut self, alloc: Global, text: &[u8], at: usize) -> Result<(), CertFault>
         requires { length (items self.old) < most }
         ensures exact { Answers (λ u. items self.new) fault.Memory result (with_text (by self.old) refused (items self.old) text.now at) }
         ensures same { by self.new ≡ by self.old };
 }
 
-/// The text of the next line, which is passed over. None exactly where no line is left or the next isn't whole.
-fn next_text<'a>(reader: &mut LineReader<'a>) -> Option<&'a [u8]>
-    ensures text { option_map (λ t. t.now) result ≡ text_in reader.old.rest }
-    ensures passed { reader.new ≡ passed reader.old }
-{
-    let line = reader.next()?;
-    if line.whole { Some(line.text) } else { None }
-}
-
-/// Reads the item of the next line behind those before it.
+// Reads the item of the next line behind those before it.
 #[tactic(auto, unfolding(crate::specs::Reading::longer_at, line_reading::specs::Reading::line_by))]
 fn read_next<G: Gathered>(
     alloc: Global,
@@ -70,14 +59,13 @@ fn read_next<G: Gathered>(
     ensures same { G.by list.new ≡ G.by list.old }
 {
     let at = reader.offset();
-    let Some(text) = next_text(reader) else {
-        return Err(CertFault::Malformed(at));
-    };
-    list.add(alloc, text, at)?;
-    Ok(())
+    match reader.next() {
+        Some(line) if line.whole => list.add(alloc, line.text, at),
+        _ => Err(CertFault::Malformed(at)),
+    }
 }
 
-/// Reads so many items behind those before them.
+// Reads so many items behind those before them.
 pub(crate) fn read_each<G: Gathered>(
     alloc: Global,
     reader: &mut LineReader<'_>,
@@ -95,7 +83,7 @@ pub(crate) fn read_each<G: Gathered>(
     Ok(())
 }
 
-/// Whether an entry can stand behind these: `pairs` is no line behind entries without it.
+// Whether an entry can stand behind these: `pairs` is no line behind entries without it.
 fn is_admitted(list: &Assumptions, entry: &Entry) -> bool
     ensures { result ≡ is_admitted (has_pairs list.now) entry.now }
 {
@@ -136,16 +124,6 @@ impl Gathered for Assumptions {
     }
 }
 
-/// Whether an instance is above the last one.
-fn is_inst_above(instances: &[Inst], instance: &Inst) -> bool
-    ensures { result ≡ is_inst_above (last_in instances.now) instance.now }
-{
-    match instances.last() {
-        Some(last) => last.key.cmp(&instance.key).is_lt(),
-        None => true,
-    }
-}
-
 impl Gathered for Vec<Inst> {
     type Item = Inst;
 
@@ -164,8 +142,10 @@ impl Gathered for Vec<Inst> {
         let Some(instance) = instance_of(text) else {
             return Err(CertFault::Malformed(at));
         };
-        if !is_inst_above(self, &instance) {
-            return Err(CertFault::Order(at));
+        if let Some(last) = self.last() {
+            if !last.key.cmp(&instance.key).is_lt() {
+                return Err(CertFault::Order(at));
+            }
         }
         match self.push(instance) {
             Ok(()) => Ok(()),
@@ -174,7 +154,7 @@ impl Gathered for Vec<Inst> {
     }
 }
 
-/// Nodes with the version of their lines and the instances that these name by number. It is seen as all three.
+// Nodes with the version of their lines and the instances that these name by number. It is seen as all three.
 #[derive(Drop)]
 pub(crate) struct NodeList<'a> {
     version: Version,
@@ -195,7 +175,7 @@ impl<'a> Model for NodeList<'a> {
     ghost invariant = { λ l. (l.cells ≡ cells_of (node_keys l.nodes.items)) × (l.cells ≤ most_cells) };
 }
 
-/// Whether a node is above the last one.
+// Whether a node is above the last one.
 fn is_node_above(nodes: &[(NodeKey, NodeForm)], key: &NodeKey) -> bool
     ensures { result ≡ is_node_above (last_in nodes.now) key.now }
 {
@@ -206,7 +186,7 @@ fn is_node_above(nodes: &[(NodeKey, NodeForm)], key: &NodeKey) -> bool
 }
 
 impl<'a> NodeList<'a> {
-    /// No nodes.
+    // No nodes.
     #[tactic(auto, using(crate::proofs::Items::no_cells))]
     pub(crate) fn empty(alloc: Global, version: Version, instances: &'a [Inst]) -> NodeList<'a>
         ensures { result ≡ record { version = version; instances = instances.now; nodes = [] } }
@@ -219,14 +199,14 @@ impl<'a> NodeList<'a> {
         }
     }
 
-    /// The nodes.
+    // The nodes.
     pub(crate) fn into_nodes(self) -> Vec<(NodeKey, NodeForm)>
         ensures { result.items ≡ self.entry.nodes }
     {
         self.nodes
     }
 
-    /// Appends a node of a line at this offset.
+    // Appends a node of a line at this offset.
     #[tactic(auto, using(crate::proofs::Items::cells_more))]
     fn append(&mut self, node: (NodeKey, NodeForm), at: usize) -> Result<(), CertFault>
         requires { offset_of node.0.sp ≤ model.SIZE }

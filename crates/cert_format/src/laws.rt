@@ -10,46 +10,27 @@ use line_reading::laws::word_laws;
 use mask_states::laws::keys_are_ordered;
 use witness_replay::laws::{reading_is_exact, reading_is_text};
 
-/// The words of an instance's line are read as it, and words that are read are those of the instance.
-pub fn instance_lines()
-    ensures { InstLines }
-{
-    word_laws();
-    key_words();
-}
-
-/// The words of a node's line are read as it, and words that are read are those of the node.
-pub fn node_lines()
-    ensures { NodeLines }
+/// The words of an instance's line are read as it, and words that are read are those of the instance; the same holds of a node's
+/// line.
+pub fn item_lines()
+    ensures instances { InstLines }
+    ensures nodes { NodeLines }
 {
     word_laws();
     key_words();
 }
 
 /// What is read is a certificate's text, each certificate's text is read as it, and no text is that of two certificates; where a
-/// text is refused, the line there tells why.
+/// text is refused, the line there tells why. What the parts of a text are read as makes up a claim.
 pub fn certificate_texts()
     ensures read { ReadIsSpelled }
     ensures spelled { SpelledIsRead }
     ensures one { OneText }
     ensures due { ReadIsDue }
+    ensures parts { PartsMakeClaims }
 {
     word_laws();
-    instance_lines();
-    node_lines();
-    list_texts();
-    keys_are_ordered();
-    reading_is_exact();
-    reading_is_text();
-}
-
-/// What the parts of a text are read as makes up a claim.
-pub fn claims_keep()
-    ensures { PartsMakeClaims }
-{
-    word_laws();
-    instance_lines();
-    node_lines();
+    item_lines();
     list_texts();
     keys_are_ordered();
     reading_is_exact();

@@ -1,25 +1,25 @@
 //! The lines of instances and nodes.
 
-ghost use Rattle.std.specs.Prelude.{◌≡◌, ◌≤◌, ◌<◌, slice_get, IfSome, IfOk};
+ghost use Rattle.std.specs.Prelude.{◌≡◌, ◌≤◌, IfSome, IfOk};
 ghost use Rattle.std.specs.Option.{option_map};
 ghost use Rattle.avr_model.specs.State as model;
 ghost use Rattle.sb_base.specs.Lines.{words_of};
 ghost use Rattle.mask_states.specs.Keys.{offset_of};
-ghost use Rattle.cert_format.specs.LineReading.{inst_in, place_at, whole_key_at, node_in};
+ghost use Rattle.cert_format.specs.LineReading.{inst_in, whole_key_at, node_in};
 
 use avr_model::device;
 use cert_words::{form_of, inst_key_of, is_root, node_key_of};
 use certificate::{Inst, Version};
 use edge_rules::NodeForm;
 use line_reading::{dec_word, expect_word, is_over};
-use mask_states::{InstKey, NodeKey};
+use mask_states::NodeKey;
 use sb_base::Words;
 use std::alloc::{AllocError, Global};
 
-/// The most that a need can be.
+// The most that a need can be.
 const SIZE: u64 = device::SIZE as u64;
 
-/// The instance of a line.
+// The instance of a line.
 #[tactic(auto, unfolding(crate::specs::LineReading::inst_in))]
 pub(crate) fn instance_of(text: &[u8]) -> Option<Inst>
     ensures { result ≡ inst_in (words_of text.now) }
@@ -46,36 +46,20 @@ pub(crate) fn instance_of(text: &[u8]) -> Option<Inst>
     }
 }
 
-/// What the instance is whose line has this number.
-fn key_at(instances: &[Inst], place: u64) -> Option<InstKey>
-    ensures { result ≡ option_map (λ x. x.key) (slice_get instances.now place) }
-{
-    let instance = instances.get(place as usize)?;
-    Some(instance.key)
-}
-
-/// The instance of a node's line.
-#[tactic(auto, unfolding(crate::specs::LineReading::place_at))]
-fn place_of(words: &mut Words<'_>, instances: &[Inst]) -> Option<InstKey>
-    ensures { option_map (λ k. (k, words.new)) result ≡ place_at instances.now words.old }
-{
-    let (Some(()), Some(place)) = (expect_word(words, b"node"), dec_word(words, 65_535)) else {
-        return None;
-    };
-    key_at(instances, place)
-}
-
-/// What a node is, with its instance.
-#[tactic(auto, unfolding(crate::specs::LineReading::whole_key_at))]
+// What a node is, with its instance, which the line names by its number.
+#[tactic(auto, unfolding(crate::specs::LineReading::whole_key_at, crate::specs::LineReading::place_at))]
 fn whole_key_of(words: &mut Words<'_>, version: Version, instances: &[Inst]) -> Option<NodeKey>
     ensures exact { option_map (λ k. (k, words.new)) result ≡ whole_key_at version instances.now words.old }
     ensures small { IfSome result (λ k. offset_of k.sp ≤ model.SIZE) }
 {
-    let inst = place_of(words, instances)?;
-    node_key_of(words, version, &inst)
+    let (Some(()), Some(place)) = (expect_word(words, b"node"), dec_word(words, 65_535)) else {
+        return None;
+    };
+    let instance = instances.get(place as usize)?;
+    node_key_of(words, version, &instance.key)
 }
 
-/// The node of the line of the number `at` in a certificate of this version.
+// The node of the line of the number `at` in a certificate of this version.
 #[tactic(auto, unfolding(crate::specs::LineReading::node_in))]
 pub(crate) fn node_of(
     alloc: Global,

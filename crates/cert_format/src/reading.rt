@@ -1,63 +1,51 @@
 //! The reader of certificates.
 
-ghost use Rattle.std.specs.Prelude.{◌≡◌, ◌≤◌, ◌<◌, ◌+◌, [], ◌∷◌, codes, true, Some, None, Ok, IfSome, IfOk, length};
-ghost use Rattle.std.specs.Option.{option_copied};
+ghost use Rattle.std.specs.Prelude.{◌≡◌, ◌≤◌, ◌<◌, true, Some, None, Ok, IfSome, IfOk, length};
 ghost use Rattle.avr_model.specs.State as model;
 ghost use Rattle.avr_model.specs.Assumptions.{has_pairs};
 ghost use Rattle.avr_model.specs.declared.assumption.Entry.TheVariants.{Pairs};
-ghost use Rattle.sb_base.specs.Lines.{words_of};
-ghost use Rattle.sb_base.specs.Digits.{dec_answer};
-ghost use Rattle.witness_replay.specs.Reading.{schedule_at};
 ghost use Rattle.sb_base.specs.Answers.{Answers};
-ghost use Rattle.line_reading.specs.Reading.{this_by, first_by, line_by, text_in, ReadsAt};
-ghost use Rattle.vector_table.specs.Entries as entries;
-ghost use Rattle.mask_states.specs.Keys.{offset_of};
+ghost use Rattle.line_reading.specs.Reading.{first_by, line_by};
 ghost use Rattle.cert_format.specs.declared.fault.CertFault.TheVariants as fault;
-ghost use Rattle.certificate.specs.Claims.{Claim, IsCertificate, most_instances, most_nodes, most_cells, cells_of, node_keys};
+ghost use Rattle.certificate.specs.Claims.{Claim, IsCertificate, most_nodes};
 ghost use Rattle.certificate.specs.Versions.{is_third};
 ghost use Rattle.cert_words.specs.Text.{text_of};
-ghost use Rattle.cert_format.specs.Reading.{formed, version_by, numbered_in, numbered_by, counted, count_at, count_in, count_by, entry_by, inst_by, node_by, ending_by, last_in, is_inst_above, is_node_above, refused_entry, refused_inst, refused_node, with_item, longer_at, items_from, heading_at, least_entries, first_at, entries_at, insts_at, limited, nodes_at, plan_if, witness_at, if_last, end_at, claim_at, claim_alone, certificate_in};
+ghost use Rattle.cert_format.specs.Reading.{formed, version_by, numbered_in, numbered_by, count_in, count_by, ending_by, heading_at, least_entries, first_at, entries_at, insts_at, limited, nodes_at, witness_at, end_at, claim_at, certificate_in};
 ghost use Rattle.cert_format.specs.Refusals.{IsDueUnlessMemory};
 
 use crate::fault::CertFault;
 use crate::gathered::{NodeList, read_each};
-use crate::laws::{certificate_texts, claims_keep};
+use crate::laws::certificate_texts;
 use avr_model::device;
 use certificate::{Certificate, Inst, Limit, Version};
 use edge_rules::NodeForm;
-use indirect_targets::entry_of;
-use line_reading::{
-    Malformed, dec_word, expect_word, is_over, peek_text, take_line, take_text,
-};
+use line_reading::{dec_word, expect_word, is_over, peek_text, take_line, take_text};
 use mask_states::NodeKey;
 use sb_base::{DigitFault, LineReader, Words, read_dec};
-use std::alloc::{AllocError, Global};
-use vector_table::{AssumeFault, Assumptions, Entry};
+use std::alloc::Global;
+use vector_table::{Assumptions, Entry};
 use witness_replay::{Schedule, ScheduleFault};
 
-/// The bytes of SRAM, which are the most that a bound can be.
+// The bytes of SRAM, which are the most that a bound can be.
 const SIZE: u64 = device::SIZE as u64;
 
-/// The most assumptions.
+// The most assumptions.
 const MOST_ENTRIES: u64 = 4_096;
 
-/// The most instances.
+// The most instances.
 const MOST_INSTANCES: u64 = 65_536;
 
-/// The most nodes.
+// The most nodes.
 const MOST_NODES: u64 = 65_536;
 
-/// The most cells.
-const MOST_CELLS: u32 = 8_388_608;
-
-/// The number of a line that is a name and a number, from a least to a greatest one.
+// The number of the next line, where it is a name and a number from a least to a greatest one.
 #[tactic(auto, unfolding(crate::specs::Reading::numbered_in))]
-fn numbered(text: &[u8], name: &[u8], least: u64, most: u64) -> Option<u64>
-    ensures exact { result ≡ numbered_by name.now least most text.now }
+fn numbered(reader: &LineReader<'_>, name: &[u8], least: u64, most: u64) -> Option<u64>
+    ensures exact { result ≡ first_by (numbered_by name.now least most) reader.now.rest }
     ensures large { IfSome result (λ n. least ≤ n) }
     ensures small { IfSome result (λ n. n ≤ most) }
 {
-    let mut words = Words::new(text);
+    let mut words = Words::new(peek_text(reader)?);
     let (Some(()), Some(number)) = (expect_word(&mut words, name), dec_word(&mut words, most))
     else {
         return None;
@@ -69,7 +57,7 @@ fn numbered(text: &[u8], name: &[u8], least: u64, most: u64) -> Option<u64>
     }
 }
 
-/// Reads a line that is a name and a number, from a least to a greatest one.
+// Reads a line that is a name and a number, from a least to a greatest one.
 #[tactic(auto, unfolding(line_reading::specs::Reading::line_by))]
 fn read_numbered(
     reader: &mut LineReader<'_>,
@@ -81,18 +69,24 @@ fn read_numbered(
     ensures large { IfOk result (λ n. least ≤ n) }
     ensures small { IfOk result (λ n. n ≤ most) }
 {
-    let Some(text) = peek_text(reader) else {
-        return Err(CertFault::Malformed(reader.offset()));
-    };
-    let number = take_line(reader, numbered(text, name, least, most))?;
+    let found = numbered(reader, name, least, most);
+    let number = take_line(reader, found)?;
     Ok(number)
 }
 
-/// The number that a decimal stands for, where it is not too great.
-fn counted(digits: &[u8]) -> Option<Option<u64>>
-    ensures exact { result ≡ counted (dec_answer digits.now most_nodes) }
+// How many nodes the next line says that there are, if not too many.
+#[tactic(auto, unfolding(crate::specs::Reading::count_in))]
+fn count_of(reader: &LineReader<'_>) -> Option<Option<u64>>
+    ensures exact { result ≡ first_by count_by reader.now.rest }
     ensures small { IfSome result (λ o. IfSome o (λ n. n ≤ most_nodes)) }
 {
+    let mut words = Words::new(peek_text(reader)?);
+    let (Some(()), Some(digits)) = (expect_word(&mut words, b"nodes"), words.next()) else {
+        return None;
+    };
+    if !is_over(&mut words) {
+        return None;
+    }
     match read_dec(digits, MOST_NODES) {
         Ok(number) => Some(Some(number)),
         Err(DigitFault::TooGreat) => Some(None),
@@ -101,39 +95,20 @@ fn counted(digits: &[u8]) -> Option<Option<u64>>
     }
 }
 
-/// How many nodes a line says that there are, if not too many.
-#[tactic(auto, unfolding(crate::specs::Reading::count_in))]
-fn count_of(text: &[u8]) -> Option<Option<u64>>
-    ensures exact { result ≡ count_by text.now }
-    ensures small { IfSome result (λ o. IfSome o (λ n. n ≤ most_nodes)) }
-{
-    let mut words = Words::new(text);
-    let (Some(()), Some(digits)) = (expect_word(&mut words, b"nodes"), words.next()) else {
-        return None;
-    };
-    if is_over(&mut words) {
-        counted(digits)
-    } else {
-        None
-    }
-}
-
-/// Reads how many nodes there are.
+// Reads how many nodes there are.
 #[tactic(auto, unfolding(line_reading::specs::Reading::line_by))]
 fn read_count(reader: &mut LineReader<'_>) -> Result<u64, CertFault>
     ensures exact { Answers (λ n. (n, reader.new)) fault.Memory result (limited (formed (line_by count_by reader.old))) }
     ensures small { IfOk result (λ n. n ≤ most_nodes) }
 {
-    let Some(text) = peek_text(reader) else {
-        return Err(CertFault::Malformed(reader.offset()));
-    };
-    match take_line(reader, count_of(text))? {
+    let found = count_of(reader);
+    match take_line(reader, found)? {
         Some(count) => Ok(count),
         None => Err(CertFault::Limit(Limit::Nodes)),
     }
 }
 
-/// How many assumptions a version has at least.
+// How many assumptions a version has at least.
 fn least_entries(version: Version) -> u64
     ensures { result ≡ least_entries version }
 {
@@ -143,18 +118,7 @@ fn least_entries(version: Version) -> u64
     }
 }
 
-/// The list of `pairs` alone.
-fn only_pairs(alloc: Global) -> Result<Assumptions, CertFault>
-    ensures { Answers (λ a. a) fault.Memory result (Ok (Pairs ∷ [])) }
-{
-    let mut list = Assumptions::empty(alloc);
-    match list.push(Entry::Pairs) {
-        Ok(()) => Ok(list),
-        Err(_) => Err(CertFault::Memory),
-    }
-}
-
-/// Reads the assumptions that a version begins with: in the third the line `pairs`.
+// Reads the assumptions that a version begins with: in the third the line `pairs`.
 #[tactic(auto, unfolding(crate::specs::Reading::first_at, avr_model::specs::Assumptions::has_pairs))]
 fn read_first(
     alloc: Global,
@@ -168,13 +132,17 @@ fn read_first(
     match version {
         Version::One | Version::Two => Ok(Assumptions::empty(alloc)),
         Version::Three => {
-            read_text(reader, b"pairs")?;
-            only_pairs(alloc)
+            take_text(reader, b"pairs")?;
+            let mut list = Assumptions::empty(alloc);
+            match list.push(Entry::Pairs) {
+                Ok(()) => Ok(list),
+                Err(_) => Err(CertFault::Memory),
+            }
         }
     }
 }
 
-/// Reads the number of assumptions and their lines.
+// Reads the number of assumptions and their lines.
 #[tactic(auto, unfolding(crate::specs::Reading::entries_at))]
 fn read_entries(
     alloc: Global,
@@ -190,7 +158,7 @@ fn read_entries(
     Ok(list)
 }
 
-/// Reads the number of instances and their lines.
+// Reads the number of instances and their lines.
 #[tactic(auto, unfolding(crate::specs::Reading::insts_at))]
 fn read_instances(alloc: Global, reader: &mut LineReader<'_>) -> Result<Vec<Inst>, CertFault>
     ensures { Answers (λ v. (v.items, reader.new)) fault.Memory result (insts_at reader.old) }
@@ -201,7 +169,7 @@ fn read_instances(alloc: Global, reader: &mut LineReader<'_>) -> Result<Vec<Inst
     told.and(Ok(list))
 }
 
-/// Reads the number of nodes and their lines.
+// Reads the number of nodes and their lines.
 #[tactic(auto, unfolding(crate::specs::Reading::nodes_at))]
 fn read_nodes(
     alloc: Global,
@@ -217,11 +185,12 @@ fn read_nodes(
     told.and(Ok(list.into_nodes()))
 }
 
-/// Whether a line says that a schedule follows.
+// Whether the next line says that a schedule follows.
 #[tactic(auto, unfolding(crate::specs::Reading::ending_by))]
-fn ending_of(text: &[u8]) -> Option<bool>
-    ensures { result ≡ ending_by text.now }
+fn ending_of(reader: &LineReader<'_>) -> Option<bool>
+    ensures { result ≡ first_by ending_by reader.now.rest }
 {
+    let text = peek_text(reader)?;
     if text == b"witness open".as_slice() {
         Some(false)
     } else if text == b"witness attained".as_slice() {
@@ -231,55 +200,28 @@ fn ending_of(text: &[u8]) -> Option<bool>
     }
 }
 
-/// Reads the line that says whether a schedule follows.
-#[tactic(auto, unfolding(line_reading::specs::Reading::line_by))]
-fn read_ending(reader: &mut LineReader<'_>) -> Result<bool, CertFault>
-    ensures { Answers (λ b. (b, reader.new)) fault.Memory result (formed (line_by ending_by reader.old)) }
+// Reads whether there is a schedule, and the schedule.
+#[tactic(auto, unfolding(crate::specs::Reading::witness_at, line_reading::specs::Reading::line_by))]
+fn read_witness(alloc: Global, reader: &mut LineReader<'_>) -> Result<Option<Schedule>, CertFault>
+    ensures { Answers (λ w. (w, reader.new)) fault.Memory result (witness_at reader.old) }
 {
-    let Some(text) = peek_text(reader) else {
-        return Err(CertFault::Malformed(reader.offset()));
-    };
-    let ending = take_line(reader, ending_of(text))?;
-    Ok(ending)
-}
-
-/// Reads a schedule.
-fn read_schedule(alloc: Global, reader: &mut LineReader<'_>) -> Result<Schedule, CertFault>
-    ensures { Answers (λ s. (s, reader.new)) fault.Memory result (formed (schedule_at reader.old)) }
-{
+    let found = ending_of(reader);
+    if !take_line(reader, found)? {
+        return Ok(None);
+    }
     match Schedule::read(alloc, reader) {
-        Ok(schedule) => Ok(schedule),
+        Ok(schedule) => Ok(Some(schedule)),
         Err(ScheduleFault::Malformed(at)) => Err(CertFault::Malformed(at)),
         Err(ScheduleFault::Memory) => Err(CertFault::Memory),
     }
 }
 
-/// Reads whether there is a schedule, and the schedule.
-#[tactic(auto, unfolding(crate::specs::Reading::witness_at))]
-fn read_witness(alloc: Global, reader: &mut LineReader<'_>) -> Result<Option<Schedule>, CertFault>
-    ensures { Answers (λ w. (w, reader.new)) fault.Memory result (witness_at reader.old) }
-{
-    if read_ending(reader)? {
-        let schedule = read_schedule(alloc, reader)?;
-        Ok(Some(schedule))
-    } else {
-        Ok(None)
-    }
-}
-
-/// Reads a line that has to be this text.
-fn read_text(reader: &mut LineReader<'_>, text: &[u8]) -> Result<(), CertFault>
-    ensures { Answers (λ u. (u, reader.new)) fault.Memory result (formed (line_by (this_by text.now) reader.old)) }
-{
-    take_text(reader, text)?;
-    Ok(())
-}
-
-/// The version of a line.
+// The version that the next line tells.
 #[tactic(auto, unfolding(crate::specs::Reading::version_by))]
-fn version_of(text: &[u8]) -> Option<Version>
-    ensures { result ≡ version_by text.now }
+fn version_of(reader: &LineReader<'_>) -> Option<Version>
+    ensures { result ≡ first_by version_by reader.now.rest }
 {
+    let text = peek_text(reader)?;
     if text == b"stackcert 1".as_slice() {
         Some(Version::One)
     } else if text == b"stackcert 2".as_slice() {
@@ -291,47 +233,36 @@ fn version_of(text: &[u8]) -> Option<Version>
     }
 }
 
-/// Reads the version.
-#[tactic(auto, unfolding(line_reading::specs::Reading::line_by))]
-fn read_version(reader: &mut LineReader<'_>) -> Result<Version, CertFault>
-    ensures { Answers (λ v. (v, reader.new)) fault.Memory result (formed (line_by version_by reader.old)) }
-{
-    let Some(text) = peek_text(reader) else {
-        return Err(CertFault::Malformed(reader.offset()));
-    };
-    let version = take_line(reader, version_of(text))?;
-    Ok(version)
-}
-
-/// Reads the version and the bound.
-#[tactic(auto, unfolding(crate::specs::Reading::heading_at))]
+// Reads the version and the bound.
+#[tactic(auto, unfolding(crate::specs::Reading::heading_at, line_reading::specs::Reading::line_by))]
 fn read_heading(reader: &mut LineReader<'_>) -> Result<(Version, u64), CertFault>
     ensures exact { Answers (λ h. (h, reader.new)) fault.Memory result (heading_at reader.old) }
     ensures small { IfOk result (λ h. h.1 ≤ model.SIZE) }
 {
-    let version = read_version(reader)?;
+    let found = version_of(reader);
+    let version = take_line(reader, found)?;
     let bound = read_numbered(reader, b"bound", 0, SIZE)?;
     Ok((version, bound))
 }
 
-/// Reads the last line, behind which there has to be nothing.
+// Reads the last line, behind which there has to be nothing.
 #[tactic(auto, unfolding(crate::specs::Reading::end_at))]
 fn read_end(reader: &mut LineReader<'_>) -> Result<(), CertFault>
     ensures { Answers (λ u. (u, reader.new)) fault.Memory result (end_at reader.old) }
 {
-    read_text(reader, b"end")?;
+    take_text(reader, b"end")?;
     match reader.peek() {
         None => Ok(()),
         Some(line) => Err(CertFault::Malformed(line.at)),
     }
 }
 
-/// Reads all parts.
+// Reads all parts.
 #[tactic(auto, unfolding(crate::specs::Reading::claim_at))]
 fn read_claim(alloc: Global, reader: &mut LineReader<'_>) -> Result<Certificate, CertFault>
     ensures { Answers (λ c. (c, reader.new)) fault.Memory result (claim_at reader.old) }
 {
-    claims_keep();
+    certificate_texts();
     let (version, bound) = read_heading(reader)?;
     let assumptions = read_entries(alloc, reader, version)?;
     let instances = read_instances(alloc, reader)?;
@@ -340,15 +271,6 @@ fn read_claim(alloc: Global, reader: &mut LineReader<'_>) -> Result<Certificate,
     read_end(reader)?;
     let claim = Certificate::of_version(version, bound as u16, assumptions, instances, nodes);
     Ok(claim.with_witness(witness))
-}
-
-/// Reads a text, all of it.
-#[tactic(auto, unfolding(crate::specs::Reading::certificate_in))]
-fn read_all(alloc: Global, text: &[u8]) -> Result<Certificate, CertFault>
-    ensures { Answers (λ c. c) fault.Memory result (certificate_in text.now) }
-{
-    let mut reader = LineReader::new(text);
-    read_claim(alloc, &mut reader)
 }
 
 /// Reads the certificate whose text this is.
@@ -363,5 +285,6 @@ pub fn read(alloc: Global, text: &[u8]) -> Result<Certificate, CertFault>
     ensures spelled { (c : Claim) → IsCertificate c → text.now ≡ text_of c → Answers (λ x. x) fault.Memory result (Ok c) }
 {
     certificate_texts();
-    read_all(alloc, text)
+    let mut reader = LineReader::new(text);
+    read_claim(alloc, &mut reader)
 }
